@@ -1,0 +1,17 @@
+pub mod WellFormed
+pub mod Among
+pub mod Named
+pub mod Indexed
+pub mod Steps
+pub mod Finding
+pub mod Slots
+pub mod Standing
+pub mod Filling
+pub mod Answering
+pub mod Decimals
+pub mod NumberText
+pub mod NumberValue
+pub mod DecimalRange
+pub mod Lookups
+pub mod Numbers
+pub mod Lines

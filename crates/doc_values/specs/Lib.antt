@@ -1,0 +1,17 @@
+pub mod Decimal
+pub mod DecimalCode
+pub mod Number
+pub mod Reading
+pub mod Tree
+pub mod Unfinished
+pub mod Places
+pub mod Position
+pub mod WellFormed
+pub mod Rows
+pub mod Laws
+pub mod Codes
+pub mod Texts
+pub mod Stored
+pub mod Keys
+pub mod Index
+pub mod Kept

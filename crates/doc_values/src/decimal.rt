@@ -1,0 +1,155 @@
+//! Numbers: whole numbers, decimals, and ranges of them.
+ghost use Rattle.std.specs.Prelude.{◌≡◌, ℕ, ◌^◌, ◌<◌, ◌≤◌, Option, SomeIff, unsigned_abs};
+ghost use Rattle.doc_values.specs.Decimal.{order, IsNormal};
+
+use std::cmp::Ordering;
+use std::marker::Model;
+
+/// The number units / 10^scale, in its one form: the units have no zero at their end but where the scale is 0. They are
+/// below 10^18 in size, and the scale is at most 18.
+#[derive(Clone, Copy, Debug, PartialEq, Eq)]
+pub struct Decimal {
+    units: i64,
+    scale: u8,
+}
+
+impl Model for Decimal {
+    ghost use Rattle.doc_values.specs.Decimal.{Decimal, IsNormal};
+    ghost use Rattle.doc_values.specs.DecimalCode.{decimal_code};
+
+    ghost Value = { Decimal };
+
+    ghost coded = { decimal_code };
+
+    ghost view = { λ d. record { units = d.units; scale = d.scale } };
+
+    ghost invariant = { λ d. IsNormal (record { units = d.units; scale = d.scale }) };
+
+    ghost inverse = { λ d. record { units = d.units; scale = d.scale } };
+}
+
+/// A whole number or a decimal.
+#[derive(Clone, Copy, Debug, PartialEq, Eq)]
+pub enum Num {
+    Whole(i64),
+    Fraction(Decimal),
+}
+
+/// The numbers between two, each of which may be in it or not.
+#[derive(Clone, Copy, Debug, PartialEq, Eq)]
+pub struct Range {
+    pub low: Num,
+    pub high: Num,
+    pub low_in: bool,
+    pub high_in: bool,
+}
+
+/// The units of a decimal are below this in size.
+pub(crate) const LIMIT: u64 = 1000000000000000000;
+
+impl Decimal {
+    /// The decimal of units and a scale.
+    pub(crate) fn of(units: i64, scale: u8) -> Decimal
+        requires { IsNormal (record { units = units; scale = scale }) }
+        ensures { result ≡ record { units = units; scale = scale } }
+    {
+        Decimal { units, scale }
+    }
+
+    /// The decimal that is a whole number; 10^18 and more are out of its range.
+    pub fn whole(n: i64) -> Option<Decimal>
+        ensures { SomeIff result (unsigned_abs n < 10 ^ 18) (record { units = n; scale = 0 }) }
+    {
+        if n.unsigned_abs() < LIMIT {
+            Some(Decimal { units: n, scale: 0 })
+        } else {
+            None
+        }
+    }
+
+    /// The units, with the sign.
+    pub fn units(&self) -> i64
+        ensures { result ≡ self.now.units }
+    {
+        self.units
+    }
+
+    /// How many of the units' digits stand behind the point.
+    pub fn scale(&self) -> u8
+        ensures { result ≡ self.now.scale }
+    {
+        self.scale
+    }
+
+    /// The order of the two numbers. Both products are below 10^36 in size.
+    pub fn compare(&self, other: &Decimal) -> Ordering
+        ensures { result ≡ order self.now other.now }
+    {
+        let left = self.units as i128 * 10i128.pow(other.scale as u32);
+        let right = other.units as i128 * 10i128.pow(self.scale as u32);
+        left.cmp(&right)
+    }
+}
+
+#[cfg(test)]
+mod tests {
+    use super::*;
+    use crate::number::read_number;
+    use std::test::Fail;
+
+    fn decimal(text: &str) -> Option<Decimal> {
+        match read_number(text) {
+            None => None,
+            Some(number) => match number {
+                Num::Whole(_) => None,
+                Num::Fraction(d) => Some(d),
+            },
+        }
+    }
+
+    #[test]
+    fn wholes(rt: HostRuntime) -> Result<(), Fail> {
+        for (n, within) in [
+            (0, true),
+            (-7, true),
+            (999999999999999999, true),
+            (1000000000000000000, false),
+            (-999999999999999999, true),
+            (-1000000000000000000, false),
+            (i64::MIN, false),
+        ] {
+            match Decimal::whole(n) {
+                None => assert!(rt; !within, "at {n}"),
+                Some(d) => {
+                    assert!(rt; within, "at {n}");
+                    assert_eq!(rt; (d.units(), d.scale()), (n, 0), "at {n}");
+                }
+            }
+        }
+        Ok(())
+    }
+
+    #[test]
+    fn orders(rt: HostRuntime) -> Result<(), Fail> {
+        for (left, right, want) in [
+            ("1.0", "1.0", Ordering::Equal),
+            ("1e1", "10.0", Ordering::Equal),
+            ("0.5", "0.25", Ordering::Greater),
+            ("2.5", "25e0", Ordering::Less),
+            ("-0.5", "-0.25", Ordering::Less),
+            ("-1.0", "1.0", Ordering::Less),
+            ("0.0", "-1e-18", Ordering::Greater),
+            ("999999999999999999e0", "1e-18", Ordering::Greater),
+            (
+                "123456789012345678.0",
+                "0.123456789012345678",
+                Ordering::Greater,
+            ),
+        ] {
+            let a = decimal(left).ok_or("no decimal")?;
+            let b = decimal(right).ok_or("no decimal")?;
+            assert!(rt; a.compare(&b) == want, "at {left} {right}");
+        }
+        Ok(())
+    }
+}

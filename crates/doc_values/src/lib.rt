@@ -1,0 +1,25 @@
+//! Located values: trees of nulls, truth values, numbers, texts, lists and maps, each with the byte offset where it
+//! begins, and numbers themselves. A `DocBuilder` makes exactly the tree of its events, a `Cursor` answers exactly
+//! what stands at a node of that tree. The crate stands on nothing but the library of the language, and knows no
+//! format that trees are read from.
+#![tactic(auto)]
+
+mod arena;
+pub mod builder;
+pub mod cursor;
+pub mod decimal;
+pub mod doc;
+mod keys;
+pub mod kind;
+mod node;
+mod number;
+pub mod position;
+mod stored;
+
+pub use builder::{BuildRefusal, DocBuilder};
+pub use cursor::Cursor;
+pub use decimal::{Decimal, Num, Range};
+pub use doc::Doc;
+pub use kind::Kind;
+pub use number::read_number;
+pub use position::place_of;
