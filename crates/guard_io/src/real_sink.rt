@@ -1,0 +1,130 @@
+ghost use Rattle.std.specs.Prelude.{◌≡◌, ◌≤◌, ℕ, List, None, [], true, false, IsErrOf, IsOk, OnOk, OnErr};
+ghost use Rattle.std.specs.Io.KnownBytes.{Appends};
+ghost use Rattle.guard_io.specs.Outside.{IsPrefix, one_more};
+
+use crate::sink::{Sink, SinkFault};
+use std::io::Write;
+
+/// A writer of the system. It tells no bytes; a write or flush that fails is a fault, and so is a
+/// write that takes nothing.
+#[derive(Drop)]
+pub struct RealSink<W: Write> {
+    pub writer: W,
+    /// How many pieces failed; it stays at its last value.
+    pub faults: u64,
+}
+
+impl<W: Write> Sink for RealSink<W> {
+    ghost told = { λ sink. None };
+
+    ghost faults = { λ sink. sink.faults };
+
+    fn put(&mut self, bytes: &[u8]) -> Result<(), SinkFault>
+        // Where the writer knows its bytes, they grow by the piece, or by a front of it.
+        ensures ok { OnOk result
+            (Appends (W.contents self.old.writer) (W.contents self.new.writer) bytes.now) }
+        ensures err { OnErr result ((front : List ℕ) × IsPrefix front bytes.now
+            × Appends (W.contents self.old.writer) (W.contents self.new.writer) front) }
+        ensures fault { OnErr result (IsErrOf result SinkFault.Failed) }
+        ensures failed { OnErr result (self.new.faults ≡ one_more self.old.faults) }
+        ensures no_fault { OnOk result (self.new.faults ≡ self.old.faults) }
+        ensures kept { self.old.faults ≤ self.new.faults }
+        ensures empty { bytes.now ≡ [] → IsOk result }
+        ensures nothing { bytes.now ≡ [] → self.new ≡ self.old }
+    {
+        if bytes.is_empty() {
+            return Ok(());
+        }
+        if write_whole(&mut self.writer, bytes) {
+            return Ok(());
+        }
+        self.faults = self.faults.saturating_add(1);
+        Err(SinkFault::Failed)
+    }
+}
+
+/// Writes and flushes, and says whether both went well. Each turn but the last takes a byte.
+fn write_whole<W: Write>(writer: &mut W, bytes: &[u8]) -> bool
+    ensures whole { result ≡ true
+        → Appends (W.contents writer.old) (W.contents writer.new) bytes.now }
+    ensures part { result ≡ false → (front : List ℕ) × IsPrefix front bytes.now
+        × Appends (W.contents writer.old) (W.contents writer.new) front }
+{
+    let mut rest = bytes;
+    while !rest.is_empty() {
+        match writer.write(rest) {
+            Ok(taken) if taken > 0 => rest = &rest[taken..],
+            _ => return false,
+        }
+    }
+    writer.flush().is_ok()
+}
+
+#[cfg(test)]
+mod tests {
+    use super::*;
+    use std::io;
+    use std::test::Fail;
+
+    // Takes `step` bytes a write until it holds `room`, and then none, or fails where it `breaks`;
+    // its flush fails where it holds `stuck`.
+    #[derive(Drop)]
+    struct Choppy {
+        got: Vec<u8>,
+        step: usize,
+        room: usize,
+        breaks: bool,
+        stuck: usize,
+    }
+
+    impl Write for Choppy {
+        fn write(&mut self, buf: &[u8]) -> io::Result<usize> {
+            let left = self.room.saturating_sub(self.got.len());
+            if self.breaks && left == 0 {
+                return Err(io::Error::from(io::ErrorKind::BrokenPipe));
+            }
+            let taken = left.min(self.step).min(buf.len());
+            self.got.extend_from_slice(&buf[..taken])?;
+            Ok(taken)
+        }
+
+        fn flush(&mut self) -> io::Result<()> {
+            if self.got.len() == self.stuck {
+                return Err(io::Error::from(io::ErrorKind::BrokenPipe));
+            }
+            Ok(())
+        }
+    }
+
+    #[test]
+    fn writes_until_the_writer_fails(rt: HostRuntime) -> Result<(), Fail> {
+        let failed = Err(SinkFault::Failed);
+        // One byte a write; two; a writer that takes nothing more; one that fails; a flush that
+        // fails after the whole piece.
+        let rows = [
+            (1, 9, false, 9, Ok(()), b"abcd".as_slice(), 0),
+            (3, 9, false, 9, Ok(()), b"abcd", 0),
+            (3, 0, false, 9, failed, b"", 1),
+            (1, 2, false, 9, failed, b"ab", 1),
+            (3, 0, true, 9, failed, b"", 1),
+            (1, 2, true, 9, failed, b"ab", 1),
+            (3, 9, false, 4, failed, b"abcd", 1),
+        ];
+        for (step, room, breaks, stuck, wanted, text, faults) in rows {
+            let writer = Choppy {
+                got: Vec::new(rt.alloc()),
+                step,
+                room,
+                breaks,
+                stuck,
+            };
+            let mut sink = RealSink { writer, faults: 0 };
+            assert_eq!(rt; sink.put(b""), Ok(()), "{step}, {room}");
+            assert_eq!(rt; sink.put(b"abcd"), wanted, "{step}, {room}");
+            assert_eq!(rt; sink.put(b""), Ok(()), "{step}, {room}");
+            assert_eq!(rt; sink.writer.got.as_slice(), text, "{step}, {room}");
+            assert_eq!(rt; sink.faults, faults, "{step}, {room}");
+        }
+        Ok(())
+    }
+}
