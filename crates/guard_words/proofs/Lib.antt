@@ -1,0 +1,5 @@
+pub mod CountLemmas
+pub mod SpellingLemmas
+pub mod WalkSteps
+pub mod TakenWords
+pub mod RequestLemmas
