@@ -1,0 +1,14 @@
+pub mod Lists
+pub mod Numerals
+pub mod NumeralForms
+pub mod Reaches
+pub mod Gaps
+pub mod Ends
+pub mod NameSteps
+pub mod Firsts
+pub mod Signs
+pub mod NumberFirsts
+pub mod Steps
+pub mod Values
+pub mod Shapes
+pub mod Unique

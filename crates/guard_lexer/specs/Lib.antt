@@ -1,0 +1,5 @@
+pub mod Bytes
+pub mod Forms
+pub mod Lexes
+pub mod Reach
+pub mod Firsts
