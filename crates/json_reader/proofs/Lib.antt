@@ -1,0 +1,15 @@
+pub mod Spellings
+pub mod Front
+pub mod Strings
+pub mod Units
+pub mod NumberKinds
+pub mod Parts
+pub mod NumberBytes
+pub mod Complete
+pub mod Sound
+pub mod Limits
+pub mod Walk
+pub mod Fitting
+pub mod Verdicts
+pub mod Places
+pub mod Live

@@ -1,0 +1,30 @@
+use Rattle.std.proofs.Common.{◌≡◌, ◌≤◌, length, arith, sym, ◌∙◌, subst, ap, refl, Some}
+use Rattle.doc_values.specs.Tree.{Forest}
+use Rattle.json_reader.specs.Json.{Json}
+use Rattle.json_reader.specs.Reading.{mark_stop}
+use Rattle.json_reader.specs.Steps.{phase_of}
+use Rattle.json_reader.proofs.Verdicts.{mark_refused, refused, ends_well, ends_open, ends_early}
+use Rattle.json_reader.proofs.read.read_whole.Goals as goal
+
+pub returns-then-depth-eq0 : goal.returns-then-depth-eq0
+returns-then-depth-eq0 c =
+    let l : length c.args.text.now ≤ c.loop-position.position.at = omega arith in
+    subst (λ (t : Forest). Json c.args.text.now t) (sym c.finish.ensures.done) (ends_well c.args.text.now c.loop-position.position.at c.loop-position.position.stage c.loop-position.builder c.in-After.is l c.loop-position.invariant.0 (sym c.depth.ensures ∙ c.if-depth-eq0.true))
+
+pub returns-in-After : goal.returns-in-After
+returns-in-After c =
+    let l : length c.args.text.now ≤ c.loop-position.position.at = omega arith in
+    let same : length c.args.text.now ≡ c.loop-position.position.at = omega (arith, l, c.loop-position.invariant.2) in
+    λ q. ends_open c.args.text.now c.loop-position.position.at (length c.args.text.now) c.loop-position.position.stage c.loop-position.builder same c.in-After.is l c.loop-position.invariant.0 (λ h. c.if-depth-eq0.false (c.depth.ensures ∙ h))
+
+pub returns : goal.returns
+returns c =
+    let l : length c.args.text.now ≤ c.loop-position.position.at = omega arith in
+    let same : length c.args.text.now ≡ c.loop-position.position.at = omega (arith, l, c.loop-position.invariant.2) in
+    λ q. ends_early c.args.text.now c.loop-position.position.at (length c.args.text.now) c.loop-position.position.stage c.loop-position.builder same c.in_default.not-After l c.loop-position.invariant.0
+
+pub returns-in-Err : goal.returns-in-Err
+returns-in-Err c = refused c.args.text.now c.loop-position.position.at (phase_of c.loop-position.position.stage) c.loop-position.builder c.step.new.builder c.in-Err.refusal c.loop-position.invariant.0 c.in-Err.ensures
+
+pub returns-in-Some : goal.returns-in-Some
+returns-in-Some c = λ q. mark_refused c.args.text.now (Some c.in-Some.stop) c.in-Some.stop (c.in-Some.ensures ∙ ap mark_stop c.as_bytes.ensures.value) refl

@@ -1,0 +1,10 @@
+use Rattle.std.proofs.Common.{◌≡◌, ◌-◌, ◌≤◌, length}
+use Rattle.json_reader.specs.Reading.{verdict, from}
+use Rattle.json_reader.specs.Steps.{phase_of, Fits}
+use Rattle.json_reader.proofs.read.read_whole.Given as goal
+
+abbrev pub invariant-loop-position : goal.invariant-loop-position
+invariant-loop-position l = (from l.text l.position.at (phase_of l.position.stage) l.builder ≡ verdict l.text) × Fits l.position.stage l.builder × (l.position.at ≤ length l.text)
+
+abbrev pub decreases-loop-position : goal.decreases-loop-position
+decreases-loop-position l = length l.text - l.position.at

@@ -1,0 +1,34 @@
+use Rattle.std.proofs.Common.{◌≡◌, ℕ, List, ◌+◌, ◌-◌, ◌<◌, ◌≤◌, length, get_or, take, drop, arith, subst, sym, ◌∙◌, ap, ◌++◌}
+use Rattle.std.specs.Prelude.{encode_utf8}
+use Rattle.std.specs.Str.{IsCharBoundary}
+use Rattle.std.proofs.lemmas.Str.{IsCharBoundary-after_ascii}
+use Rattle.json_reader.specs.Steps.{Reaches}
+use Rattle.json_reader.proofs.Walk.{reaches_self, reaches_on}
+use Rattle.json_reader.proofs.text.decoded_at.Goals as goal
+
+pub loop-at-init : goal.loop-at-init
+loop-at-init c =
+    let n : c.args.start - 1 + 1 ≡ c.args.start = omega arith in
+    let l : c.args.start - 1 < length c.args.text.now = omega arith in
+    let q : get_or c.args.text.now (c.args.start - 1) 0 ≡ 34 = c.requires.quote in
+    (subst (λ (s : List ℕ). Reaches c.args.text.now c.args.start s c.args.start) (sym c.new-decoded.ensures.bytes) (reaches_self c.args.text.now c.args.start), omega arith, c.requires.within, subst (λ k. IsCharBoundary c.args.text.now k) n (IsCharBoundary-after_ascii c.args.text.now (c.args.start - 1) c.utf8.text l (omega arith)))
+
+pub loop-at-preserved : goal.loop-at-preserved
+loop-at-preserved c =
+    let text = c.args.text.now in
+    let v = c.as_bytes-bytes.ensures.value in
+    let i = c.loop-at.at in
+    let end = c.in-Ok.end in
+    let behind = c.in-Ok-escape_at.behind in
+    let run : Reaches text i (take (end - i) (drop i text)) end = subst (λ (t : List ℕ). Reaches t i (take (end - i) (drop i t)) end) v c.in-Ok.ensures.2 in
+    let e = c.in-Ok-escape_at.ensures in
+    let one : Reaches text end (encode_utf8 c.in-Ok-escape_at.c) behind = subst (λ (t : List ℕ). Reaches t end (encode_utf8 c.in-Ok-escape_at.c) behind) v e.3 in
+    let size : length c.as_bytes-bytes.result.now ≡ length text = ap (λ (t : List ℕ). length t) v in
+    let within : behind ≤ length text = omega (arith, e.1, size) in
+    let later : i < behind = omega (arith, e.0, c.in-Ok.ensures.0) in
+    let ascii : get_or text (behind - 1) 0 < 128 = subst (λ (t : List ℕ). get_or t (behind - 1) 0 < 128) v e.2 in
+    let n : behind - 1 + 1 ≡ behind = omega arith in
+    let l : behind - 1 < length text = omega arith in
+    let whole = reaches_on text c.args.start end behind (c.loop-at.decoded.bytes.items ++ take (end - i) (drop i text)) (encode_utf8 c.in-Ok-escape_at.c) (reaches_on text c.args.start i end c.loop-at.decoded.bytes.items (take (end - i) (drop i text)) c.loop-at.invariant.0 run) one in
+    let made = c.in_ok-push-in-Ok-escape_at.ensures.bytes ∙ ap (λ (s : List ℕ). s ++ encode_utf8 c.in-Ok-escape_at.c) (c.in_ok-push_str-in-Ok.ensures.bytes ∙ ap (λ (s : List ℕ). c.loop-at.decoded.bytes.items ++ s) c.range.ensures.value) in
+    (subst (λ (s : List ℕ). Reaches text c.args.start s behind) (sym made) whole, omega (arith, later, c.loop-at.invariant.1), within, subst (λ k. IsCharBoundary text k) n (IsCharBoundary-after_ascii text (behind - 1) c.utf8.text l ascii))
