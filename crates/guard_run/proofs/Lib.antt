@@ -1,0 +1,13 @@
+mod Closing
+mod Judging
+mod KeyRows
+mod Loads
+mod OneEnd
+mod RequestWords
+mod RuleBytes
+mod RuleLongest
+mod RuleScan
+mod RuleComplete
+mod RuleSound
+mod RuleWalk
+mod RuleClose

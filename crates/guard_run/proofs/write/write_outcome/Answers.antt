@@ -1,0 +1,57 @@
+use Rattle.std.proofs.Common.{inl, inr, refl, [], subst}
+use Rattle.guard_run.specs.End.{Ended, EndOf, Faults, Loads, Unread, Took, usage_line, refusal_line, read_fault_line, refused}
+use Rattle.guard_run.specs.Request.{Request}
+use Rattle.guard_run.specs.Outcome.{IsOutcome}
+use Rattle.guard_run.specs.Writing.{Said}
+use Rattle.guard_run.specs.declared.ends.End.TheVariants as end_is
+use Rattle.guard_run.proofs.Closing.{Took-nothing, Closed-said, Closed-memory}
+use Rattle.guard_run.proofs.write.write_outcome.Goals as goal
+
+pub returns-in-Judged-clause-closed : goal.returns-in-Judged-clause-closed
+returns-in-Judged-clause-closed g c = λ words told old new end.
+    c.write_report.ensures.closed words told old new (subst (λ o. IsOutcome words told old new o) c.in-Judged.is end)
+
+pub returns-in-Refused-clause-closed : goal.returns-in-Refused-clause-closed
+returns-in-Refused-clause-closed g c = λ words told old new end.
+    let ends : EndOf words told (refused c.in-Refused.refusal) = subst (λ o. IsOutcome words told old new o) c.in-Refused.is end in
+    let none : Took (g.O.Sink.told c.args.out.now) (g.O.Sink.told c.args.out.now) [] = Took-nothing (g.O.Sink.told c.args.out.now) in
+    let said : Said (refusal_line c.in-Refused.refusal) (end_is.Refused c.in-Refused.refusal) c.say.result
+    (g.E.Sink.told c.args.err.now) (g.E.Sink.told c.say.new.err) = rw c.refusal_text.ensures at c.say.ensures.said in
+    let before : Faults = record { files = old; out = g.O.Sink.faults c.args.out.now } in
+    let after : Faults = record { files = new; out = g.O.Sink.faults c.args.out.now } in
+    Closed-said words told before after (refusal_line c.in-Refused.refusal) (end_is.Refused c.in-Refused.refusal) c.say.result
+    (g.O.Sink.told c.args.out.now) (g.O.Sink.told c.args.out.now) (g.E.Sink.told c.args.err.now) (g.E.Sink.told c.say.new.err) []
+    (inl (refused c.in-Refused.refusal, ends, refl, refl, refl)) none
+    (λ whole. (refused c.in-Refused.refusal, ends, refl, none, whole)) said
+
+pub returns-in-Usage-clause-closed : goal.returns-in-Usage-clause-closed
+returns-in-Usage-clause-closed g c = λ words told old new end.
+    let usage : Ended = record { how = end_is.Usage; out = []; err = usage_line } in
+    let ends : EndOf words told usage = subst (λ o. IsOutcome words told old new o) c.in-Usage.is end in
+    let none : Took (g.O.Sink.told c.args.out.now) (g.O.Sink.told c.args.out.now) [] = Took-nothing (g.O.Sink.told c.args.out.now) in
+    let before : Faults = record { files = old; out = g.O.Sink.faults c.args.out.now } in
+    let after : Faults = record { files = new; out = g.O.Sink.faults c.args.out.now } in
+    Closed-said words told before after usage_line end_is.Usage c.say-in-Usage.result
+    (g.O.Sink.told c.args.out.now) (g.O.Sink.told c.args.out.now) (g.E.Sink.told c.args.err.now) (g.E.Sink.told c.say-in-Usage.new.err) []
+    (inl (usage, ends, refl, refl, refl)) none (λ whole. (usage, ends, refl, none, whole)) c.say-in-Usage.ensures.said
+
+pub returns-in-ReadFault-clause-closed : goal.returns-in-ReadFault-clause-closed
+returns-in-ReadFault-clause-closed g c = λ words told old new end.
+    let before : Faults = record { files = old; out = g.O.Sink.faults c.args.out.now } in
+    let after : Faults = record { files = new; out = g.O.Sink.faults c.args.out.now } in
+    let loads : (q : Request) × Loads c.in-ReadFault.which words told q × Unread before after c.in-ReadFault.which q =
+    subst (λ o. IsOutcome words told old new o) c.in-ReadFault.is end in
+    let none : Took (g.O.Sink.told c.args.out.now) (g.O.Sink.told c.args.out.now) [] = Took-nothing (g.O.Sink.told c.args.out.now) in
+    let said : Said (read_fault_line c.in-ReadFault.which) (end_is.ReadFault c.in-ReadFault.which) c.say-in-ReadFault.result
+    (g.E.Sink.told c.args.err.now) (g.E.Sink.told c.say-in-ReadFault.new.err) = rw c.read_fault_text.ensures at c.say-in-ReadFault.ensures.said in
+    Closed-said words told before after (read_fault_line c.in-ReadFault.which) (end_is.ReadFault c.in-ReadFault.which) c.say-in-ReadFault.result
+    (g.O.Sink.told c.args.out.now) (g.O.Sink.told c.args.out.now) (g.E.Sink.told c.args.err.now) (g.E.Sink.told c.say-in-ReadFault.new.err) []
+    (inr (inl (c.in-ReadFault.which, loads, refl, refl))) none (λ whole. (loads, (none, whole))) said
+
+pub returns-in-Memory-clause-closed : goal.returns-in-Memory-clause-closed
+returns-in-Memory-clause-closed g c = λ words told old new end.
+    let before : Faults = record { files = old; out = g.O.Sink.faults c.args.out.now } in
+    let after : Faults = record { files = new; out = g.O.Sink.faults c.args.out.now } in
+    Closed-memory words told before after c.say_memory.result
+    (g.O.Sink.told c.args.out.now) (g.O.Sink.told c.args.out.now) (g.E.Sink.told c.args.err.now) (g.E.Sink.told c.say_memory.new.err) []
+    (inl (refl, refl)) (Took-nothing (g.O.Sink.told c.args.out.now)) c.say_memory.ensures.said

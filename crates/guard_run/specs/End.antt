@@ -1,0 +1,219 @@
+-- How a call ends: the words and the contents of the files decide the end, what out takes and what err takes.
+use Rattle.std.specs.Prelude.{ℕ, ◌≡◌, ◌≤◌, ◌++◌, ◌⊎◌, List, [], Option, Some, None, Bool, true, false, map, codes, IsUtf8, length, if◌then◌else◌}
+use Rattle.std.specs.List.{list_any}
+use Rattle.std.specs.Option.{ForSome}
+use Rattle.doc_values.specs.Tree.{Forest}
+use Rattle.json_reader.specs.PlainJson.{IsPlainJson}
+use Rattle.guard_io.specs.Outside.{IsPrefix, Rose}
+use Rattle.guard_run.specs.Request.{Request, request, ends_in_json}
+use Rattle.guard_run.specs.RuleText.{RuleText}
+use Rattle.guard_run.specs.RuleGrammar.{Rules}
+use Rattle.guard_run.specs.Verdicts.{rule_verdict, is_fail}
+use Rattle.guard_run.specs.Report.{report}
+use Rattle.guard_run.specs.declared.ends.End.{End}
+use Rattle.guard_run.specs.declared.ends.End.TheVariants as end_is
+use Rattle.guard_run.specs.declared.ends.Refusal.{Refusal}
+use Rattle.guard_run.specs.declared.ends.Refusal.TheVariants.{RulesUnread, DataUnread}
+use Rattle.guard_run.specs.declared.ends.Which.{Which}
+use Rattle.guard_run.specs.declared.ends.Which.TheVariants as file
+
+-- the exit status of each end
+abbrev pub status_of : End → ℕ
+status_of end_is.Passed = 0
+status_of end_is.Failed = 19
+status_of end_is.Usage = 2
+status_of (end_is.Refused refusal) = 5
+status_of (end_is.ReadFault which) = 6
+status_of (end_is.WriteFault pipe) = 6
+status_of end_is.Memory = 7
+
+-- The lines on err.
+
+abbrev pub usage_line : List ℕ
+usage_line = codes "usage: guard validate --rules FILE --data FILE\n"
+
+abbrev pub refusal_line : Refusal → List ℕ
+refusal_line RulesUnread = codes "guard: rules: RulesUnread\n"
+refusal_line DataUnread = codes "guard: data: DataUnread\n"
+
+abbrev pub read_fault_line : Which → List ℕ
+read_fault_line file.Rules = codes "guard: cannot read rules\n"
+read_fault_line file.Template = codes "guard: cannot read data\n"
+
+abbrev pub write_fault_line : List ℕ
+write_fault_line = codes "guard: cannot write out\n"
+
+abbrev pub memory_line : List ℕ
+memory_line = codes "guard: memory\n"
+
+-- The end by the order of work: the words, the rules, the name of the template, the template, the verdicts.
+
+-- how a call ends, and what out and err take
+pub record Ended : Type 0 where
+  pub how : End
+  pub out : List ℕ
+  pub err : List ℕ
+
+-- a refusal has its line on err
+abbrev pub refused : Refusal → Ended
+refused refusal = record { how = end_is.Refused refusal; out = []; err = refusal_line refusal }
+
+-- a template that was judged by the rules: Failed if a verdict is FAIL, else Passed; out takes the report
+abbrev pub judged : List RuleText → Forest → Ended
+judged rules tree = record {
+  how = if list_any is_fail (map (rule_verdict tree) rules) then end_is.Failed else end_is.Passed;
+  out = report tree rules;
+  err = [];
+}
+
+-- what is told of the files before the call: by the name of each its content, if that is told
+abbrev pub Contents : Type 0
+Contents = List ℕ → Option (List ℕ)
+
+-- bytes that a file can have by what is told of it
+abbrev pub IsContent : Option (List ℕ) → List ℕ → Type 0
+IsContent told bytes = ForSome told (λ content. bytes ≡ content)
+
+-- bytes that are a rule file, of these rules: at most 1 MiB, in UTF-8, in the grammar
+pub record IsRuleFile (bytes : List ℕ) (rules : List RuleText) : Type 0 where
+  pub within : length bytes ≤ 1048576
+  pub utf8 : IsUtf8 bytes
+  pub grammar : Rules bytes rules
+
+-- bytes that are a template, of this tree: at most 8 MiB, in UTF-8, in the part of JSON that templates may use so far
+pub record IsTemplate (bytes : List ℕ) (tree : Forest) : Type 0 where
+  pub within : length bytes ≤ 8388608
+  pub utf8 : IsUtf8 bytes
+  pub grammar : IsPlainJson bytes tree
+
+-- with the rules read and the template's bytes: they are no template and are refused, or they are judged
+abbrev pub EndOfTemplate : List RuleText → List ℕ → Ended → Type 0
+EndOfTemplate rules bytes e =
+    (((tree : Forest) → IsTemplate bytes tree → ⊥) × (e ≡ refused DataUnread))
+    ⊎ ((tree : Forest) × IsTemplate bytes tree × (e ≡ judged rules tree))
+
+-- with the rules read: the template is refused unless its name ends in `.json`, before it is loaded
+abbrev pub EndOfName : Bool → Option (List ℕ) → List RuleText → Ended → Type 0
+EndOfName false told rules e = e ≡ refused DataUnread
+EndOfName true told rules e = (bytes : List ℕ) × IsContent told bytes × EndOfTemplate rules bytes e
+
+-- with the bytes of the rules: they are no rule file and are refused, or the work goes on
+abbrev pub EndOfRules : Request → Contents → List ℕ → Ended → Type 0
+EndOfRules q told bytes e =
+    (((rules : List RuleText) → IsRuleFile bytes rules → ⊥) × (e ≡ refused RulesUnread))
+    ⊎ ((rules : List RuleText) × IsRuleFile bytes rules × EndOfName (ends_in_json q.template) (told q.template) rules e)
+
+-- with what the words ask for
+abbrev pub EndOfRequest : Option Request → Contents → Ended → Type 0
+EndOfRequest None told e = e ≡ record { how = end_is.Usage; out = []; err = usage_line }
+EndOfRequest (Some q) told e = (bytes : List ℕ) × IsContent (told q.rules) bytes × EndOfRules q told bytes e
+
+-- a call with these words over these files can end so
+abbrev pub EndOf : List (List ℕ) → Contents → Ended → Type 0
+EndOf words told e = EndOfRequest (request words) told e
+
+-- Faults and want of memory, which may come in place of that end.
+
+-- ends that are no fault and no want of memory
+abbrev pub is_defined : End → Bool
+is_defined end_is.Passed = true
+is_defined end_is.Failed = true
+is_defined end_is.Usage = true
+is_defined (end_is.Refused refusal) = true
+is_defined (end_is.ReadFault which) = false
+is_defined (end_is.WriteFault pipe) = false
+is_defined end_is.Memory = false
+
+-- ends of a template that was judged
+abbrev pub is_judged : End → Bool
+is_judged end_is.Passed = true
+is_judged end_is.Failed = true
+is_judged end_is.Usage = false
+is_judged (end_is.Refused refusal) = false
+is_judged (end_is.ReadFault which) = false
+is_judged (end_is.WriteFault pipe) = false
+is_judged end_is.Memory = false
+
+-- the name of a file that is asked for
+abbrev pub name_of : Which → Request → List ℕ
+name_of file.Rules q = q.rules
+name_of file.Template q = q.template
+
+-- the order of work comes to the load of a file: to the rules at once, to a template named `.json` once the rules are read
+abbrev pub ComesTo : Which → Request → Contents → Type 0
+ComesTo file.Rules q told = Unit {0}
+ComesTo file.Template q told = (bytes : List ℕ) × IsContent (told q.rules) bytes
+    × ((rules : List RuleText) × IsRuleFile bytes rules) × (ends_in_json q.template ≡ true)
+
+-- the words ask for a file whose load the order of work comes to
+abbrev pub Loads : Which → List (List ℕ) → Contents → Request → Type 0
+Loads which words told q = (request words ≡ Some q) × ComesTo which q told
+
+-- the counts of faults: of each file by its name, and of out
+pub record Faults : Type 0 where
+  pub files : List ℕ → ℕ
+  pub out : ℕ
+
+-- the count of a file that is asked for rose
+abbrev pub Unread : (before after : Faults) → Which → Request → Type 0
+Unread before after which q = Rose (before.files (name_of which q)) (after.files (name_of which q))
+
+-- the count of out rose
+abbrev pub Unwritten : (before after : Faults) → Type 0
+Unwritten before after = Rose before.out after.out
+
+-- a text is the report of such a call
+abbrev pub IsReport : List (List ℕ) → Contents → List ℕ → Type 0
+IsReport words told text = (e : Ended) × EndOf words told e × (is_judged e.how ≡ true) × (text ≡ e.out)
+
+-- a line that may be written on err when out has taken a text: that of usage or a refusal, and that of a file that
+-- is asked for and whose count rose, when out has taken nothing, and that of out, whose count rose, when it has taken
+-- a front of the report
+abbrev pub MaySay : List (List ℕ) → Contents → (before after : Faults) → (out line : List ℕ) → Type 0
+MaySay words told before after out line =
+    ((e : Ended) × EndOf words told e × (is_judged e.how ≡ false) × (line ≡ e.err) × (out ≡ []))
+    ⊎ ((which : Which) × ((q : Request) × Loads which words told q × Unread before after which q)
+    × (line ≡ read_fault_line which) × (out ≡ []))
+    ⊎ ((text : List ℕ) × IsReport words told text × IsPrefix out text × Unwritten before after × (line ≡ write_fault_line))
+
+-- what out and err may have taken when memory is wanting: nothing yet, a front of the report, or a front of a line
+abbrev pub MayWant : List (List ℕ) → Contents → (before after : Faults) → (out err : List ℕ) → Type 0
+MayWant words told before after out err =
+    ((out ≡ []) × (err ≡ []))
+    ⊎ ((text : List ℕ) × IsReport words told text × IsPrefix out text × (err ≡ []))
+    ⊎ ((line : List ℕ) × MaySay words told before after out line × IsPrefix err line)
+
+-- What out and err took, by what each told before and what it tells after.
+
+-- a sink that told its bytes tells these behind them
+abbrev pub Took : Option (List ℕ) → Option (List ℕ) → List ℕ → Type 0
+Took before after bytes = ForSome before (λ held. after ≡ Some (held ++ bytes))
+
+-- at an end that is defined: just what it says
+abbrev pub TookAsDefined : List (List ℕ) → Contents → End → (out out' err err' : Option (List ℕ)) → Type 0
+TookAsDefined words told how out out' err err' =
+    (e : Ended) × EndOf words told e × (e.how ≡ how) × Took out out' e.out × Took err err' e.err
+
+-- where a file was not read: nothing, and its line
+abbrev pub TookOfUnread : Which → (out out' err err' : Option (List ℕ)) → Type 0
+TookOfUnread which out out' err err' = Took out out' [] × Took err err' (read_fault_line which)
+
+-- where out was not written: a front of the report, and the line of that
+abbrev pub TookOfUnwritten : List (List ℕ) → Contents → (out out' err err' : Option (List ℕ)) → Type 0
+TookOfUnwritten words told out out' err err' =
+    (text front : List ℕ) × IsReport words told text × IsPrefix front text × Took out out' front × Took err err' write_fault_line
+
+-- where err was not written: what stood on out then, and a front of the line, or of the line of memory behind what had been begun
+abbrev pub TookOfUnsaid : List (List ℕ) → Contents → (before after : Faults) → (out out' err err' : Option (List ℕ)) → Type 0
+TookOfUnsaid words told before after out out' err err' =
+    (taken front line last : List ℕ)
+    × ((MaySay words told before after taken line × (front ≡ []))
+    ⊎ (MayWant words told before after taken front × (line ≡ memory_line)))
+    × IsPrefix last line × Took out out' taken × Took err err' (front ++ last)
+
+-- Where memory is wanting: what stood on out and on err then, and the line of memory, or a front of it. A front may be
+-- none of it: a sink that answers want of memory may have taken nothing, and its clauses cannot tell.
+abbrev pub TookOfMemory : List (List ℕ) → Contents → (before after : Faults) → (out out' err err' : Option (List ℕ)) → Type 0
+TookOfMemory words told before after out out' err err' =
+    (taken front last : List ℕ) × MayWant words told before after taken front
+    × IsPrefix last memory_line × Took out out' taken × Took err err' (front ++ last)

@@ -1,0 +1,13 @@
+pub mod End
+pub mod Outcome
+pub mod Report
+pub mod Request
+pub mod Rows
+pub mod RuleGrammar
+pub mod RuleNames
+pub mod RuleReading
+pub mod RuleSteps
+pub mod RuleText
+pub mod RuleTokens
+pub mod Verdicts
+pub mod Writing

@@ -1,0 +1,33 @@
+-- The writing of an outcome, end by end, by the types of the code.
+use Rattle.std.specs.Prelude.{ℕ, ◌≡◌, ◌++◌, ◌⊎◌, List, Option}
+use Rattle.guard_io.specs.Outside.{IsPrefix}
+use Rattle.guard_run.specs.Request.{Request}
+use Rattle.guard_run.specs.End.{Contents, Faults, Loads, Unread, Took, TookAsDefined, TookOfUnread, TookOfUnwritten, TookOfUnsaid, TookOfMemory, memory_line}
+use Rattle.guard_run.specs.declared.ends.End.{End}
+use Rattle.guard_run.specs.declared.ends.End.TheVariants as end_is
+use Rattle.guard_run.specs.declared.ends.Pipe.TheVariants.{Out, Err}
+
+-- what out and err took at each end
+abbrev pub Closed : List (List ℕ) → Contents → (before after : Faults) → End → (out out' err err' : Option (List ℕ)) → Type 0
+Closed words told before after end_is.Passed out out' err err' = TookAsDefined words told end_is.Passed out out' err err'
+Closed words told before after end_is.Failed out out' err err' = TookAsDefined words told end_is.Failed out out' err err'
+Closed words told before after end_is.Usage out out' err err' = TookAsDefined words told end_is.Usage out out' err err'
+Closed words told before after (end_is.Refused refusal) out out' err err' = TookAsDefined words told (end_is.Refused refusal) out out' err err'
+Closed words told before after (end_is.ReadFault which) out out' err err' =
+    ((q : Request) × Loads which words told q × Unread before after which q) × TookOfUnread which out out' err err'
+Closed words told before after (end_is.WriteFault Out) out out' err err' = TookOfUnwritten words told out out' err err'
+Closed words told before after (end_is.WriteFault Err) out out' err err' = TookOfUnsaid words told before after out out' err err'
+Closed words told before after end_is.Memory out out' err err' = TookOfMemory words told before after out out' err err'
+
+-- an end where the line of memory was tried on err
+abbrev pub SaidMemory : End → Option (List ℕ) → Option (List ℕ) → Type 0
+SaidMemory result before after =
+    ((result ≡ end_is.Memory) ⊎ (result ≡ end_is.WriteFault Err)) × ((last : List ℕ) × IsPrefix last memory_line × Took before after last)
+
+-- an end where a line was tried on err, which is the given one if err took it whole
+abbrev pub Said : List ℕ → End → End → Option (List ℕ) → Option (List ℕ) → Type 0
+Said line how result before after =
+    ((result ≡ how) × Took before after line)
+    ⊎ (((result ≡ end_is.WriteFault Err) × ((last : List ℕ) × IsPrefix last line × Took before after last))
+    ⊎ (((result ≡ end_is.Memory) ⊎ (result ≡ end_is.WriteFault Err))
+    × ((front last : List ℕ) × IsPrefix front line × IsPrefix last memory_line × Took before after (front ++ last))))

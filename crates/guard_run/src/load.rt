@@ -1,0 +1,86 @@
+ghost use Rattle.std.specs.Prelude.{◌≡◌, ◌≤◌, ◌<◌, ◌+◌, ◌^◌, ℕ, List, MatchResult, IsUtf8, length};
+ghost use Rattle.guard_io.specs.Outside.{Rose};
+ghost use Rattle.guard_run.specs.RuleText.{RuleText};
+ghost use Rattle.guard_run.specs.RuleGrammar.{Rules};
+ghost use Rattle.guard_run.specs.Outcome.{IsLoaded, AreLoaded};
+
+use crate::rules::{Rule, RulesRefusal, read_rules};
+use guard_io::{Files, LoadFault};
+use std::alloc::Global;
+use std::str;
+
+/// How many bytes a rule file may have.
+const RULES_LIMIT: u64 = 1_048_576;
+
+/// What came of loading a file.
+#[derive(Drop)]
+pub(crate) enum Loaded {
+    Whole(Vec<u8>),
+    /// It has more bytes than it may have.
+    TooLong,
+    Fault,
+    Memory,
+}
+
+/// Loads a file of at most so many bytes. It asks for one byte more, to see whether there are more.
+pub(crate) fn load_within<F: Files>(alloc: Global, name: &str, limit: u64, files: &mut F) -> Loaded
+    requires { limit < 2 ^ 32 }
+    ensures loaded { IsLoaded (F.content files.old name.now) limit result }
+    ensures fault { result ≡ Loaded.Fault
+        → Rose (F.faults files.old name.now) (F.faults files.new name.now) }
+    ensures contents { (other : List ℕ) → F.content files.new other ≡ F.content files.old other }
+    ensures kept { (other : List ℕ) → F.faults files.old other ≤ F.faults files.new other }
+{
+    let mut bytes = Vec::new(alloc);
+    match files.load(name, limit + 1, &mut bytes) {
+        Ok(()) => {}
+        Err(LoadFault::Failed) => return Loaded::Fault,
+        Err(LoadFault::Memory) => return Loaded::Memory,
+    }
+    if bytes.len() as u64 > limit {
+        return Loaded::TooLong;
+    }
+    Loaded::Whole(bytes)
+}
+
+/// What came of loading a rule file.
+#[derive(Drop)]
+pub(crate) enum LoadedRules {
+    Read(Vec<Rule>),
+    /// It is no rule file.
+    Unread,
+    Fault,
+    Memory,
+}
+
+/// Loads and reads a rule file.
+pub(crate) fn load_rules<F: Files>(alloc: Global, name: &str, files: &mut F) -> LoadedRules
+    ensures loaded { AreLoaded (F.content files.old name.now) result }
+    ensures fault { result ≡ LoadedRules.Fault
+        → Rose (F.faults files.old name.now) (F.faults files.new name.now) }
+    ensures contents { (other : List ℕ) → F.content files.new other ≡ F.content files.old other }
+    ensures kept { (other : List ℕ) → F.faults files.old other ≤ F.faults files.new other }
+{
+    match load_within(alloc, name, RULES_LIMIT, files) {
+        Loaded::Whole(bytes) => match rules_of(alloc, &bytes) {
+            Ok(rules) => LoadedRules::Read(rules),
+            Err(RulesRefusal::Unread) => LoadedRules::Unread,
+            Err(RulesRefusal::NoMemory) => LoadedRules::Memory,
+        },
+        Loaded::TooLong => LoadedRules::Unread,
+        Loaded::Fault => LoadedRules::Fault,
+        Loaded::Memory => LoadedRules::Memory,
+    }
+}
+
+/// The rules of a file.
+fn rules_of(alloc: Global, bytes: &[u8]) -> Result<Vec<Rule>, RulesRefusal>
+    ensures { MatchResult result (λ rules. IsUtf8 bytes.now × Rules bytes.now rules.items)
+        (λ e. e ≡ RulesRefusal.Unread
+        → (rules : List RuleText) → IsUtf8 bytes.now → Rules bytes.now rules → ⊥) }
+{
+    match str::from_utf8(bytes) {
+        Ok(text) => read_rules(alloc, text),
+        Err(_) => Err(RulesRefusal::Unread),
+    }
+}

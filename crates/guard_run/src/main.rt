@@ -1,0 +1,64 @@
+//! The program `guard`: it judges a template by rules, and prints the verdicts.
+//!
+//! The top call `guard` does the program's work over any files and any sinks. Its contract is the
+//! program's promise: the words and the contents of the files decide the end, what the standard
+//! output takes and what the standard error takes, and in place of that end come only counted
+//! faults of the files and sinks, and want of memory. It stands on the reader of JSON, on located
+//! trees and on the traits of files and sinks; the reader of rules is a module here. Only `main`
+//! knows the system: it hands the words and the real files and streams to `guard`.
+#![tactic(auto)]
+
+mod ends;
+mod guard;
+mod laws;
+mod load;
+mod outcome;
+mod report;
+mod rules;
+#[cfg(test)]
+mod tests;
+mod verdicts;
+mod words;
+mod write;
+
+use ends::End;
+use guard_io::{RealFiles, RealSink};
+use std::alloc::AllocError;
+use std::env;
+use std::io::ErrorKind;
+use std::process::ExitCode;
+
+fn main(rt: HostRuntime) -> ExitCode {
+    let mut files = RealFiles { rt: &rt, faults: 0 };
+    let mut out = RealSink {
+        writer: rt.stdout(),
+        faults: 0,
+    };
+    let mut err = RealSink {
+        writer: rt.stderr(),
+        faults: 0,
+    };
+    let end = match words_of(&rt) {
+        Ok(words) => guard::guard(rt.alloc(), &words, &mut files, &mut out, &mut err),
+        Err(AllocError) => End::Memory,
+    };
+    ExitCode::from(end.status())
+}
+
+/// The words of the command line, without the program's name. Where one is not UTF-8 there are
+/// none.
+fn words_of(rt: &HostRuntime) -> Result<Vec<String>, AllocError> {
+    let mut words = Vec::new(rt.alloc());
+    match env::args(rt) {
+        Ok(args) => {
+            for word in args.skip(1) {
+                words.push(word)?;
+            }
+            Ok(words)
+        }
+        Err(error) => match error.kind() {
+            ErrorKind::OutOfMemory => Err(AllocError),
+            _ => Ok(words),
+        },
+    }
+}
