@@ -31,6 +31,13 @@ impl Text {
     {
         &self.bytes
     }
+
+    /// The string that it was made from. It takes no memory.
+    pub fn into_string(self) -> String
+        ensures { string_bytes result ≡ self }
+    {
+        self.bytes
+    }
 }
 
 /// A name with the byte offset where it stands in the rule file.
@@ -65,11 +72,18 @@ impl Name {
         self.text.as_str()
     }
 
-    /// The byte offset of its first byte.
+    /// The byte offset where it stands: that of its first byte, of a variable that of its `%`.
     pub fn at(&self) -> u32
         ensures { result ≡ self.now.at }
     {
         self.at
+    }
+
+    /// The text without its place. It takes no memory.
+    pub fn into_text(self) -> Text
+        ensures { result ≡ self.text }
+    {
+        self.text
     }
 }
 
@@ -105,6 +119,13 @@ impl Names {
     {
         &self.items
     }
+
+    /// The vector that they were made from. It takes no memory.
+    pub fn into_vec(self) -> Vec<Name>
+        ensures { result.items ≡ self }
+    {
+        self.items
+    }
 }
 
 /// The byte offset of each site of a rule file, by its number. Contracts see a list.
@@ -134,6 +155,13 @@ impl Places {
         ensures { result.now ≡ self.now }
     {
         &self.items
+    }
+
+    /// The vector that they were made from. It takes no memory.
+    pub fn into_vec(self) -> Vec<u32>
+        ensures { result.items ≡ self }
+    {
+        self.items
     }
 }
 
