@@ -19,31 +19,31 @@ use Rattle.json_reader.proofs.NumberKinds.{number_sound}
 use Rattle.json_reader.proofs.Sound.{goes, number_goes, shape_read}
 use Rattle.json_reader.proofs.Complete.{complete}
 
-AreDistinct-snoc : (f before : Forest) (l : Label) (kids : Forest) → AreDistinct f before → IsNew (joined before f) l.key → AreDistinct kids Nil → AreDistinct (snoc f l kids) before
+pub AreDistinct-snoc : (f before : Forest) (l : Label) (kids : Forest) → AreDistinct f before → IsNew (joined before f) l.key → AreDistinct kids Nil → AreDistinct (snoc f l kids) before
 AreDistinct-snoc Nil before l kids d n k = (subst (λ (g : Forest). IsNew g l.key) (joined-Nil before) n, k, tt)
 AreDistinct-snoc (Node m ks rest) before l kids d n k = (d.0, d.1, AreDistinct-snoc rest (snoc before m ks) l kids d.2 (subst (λ (g : Forest). IsNew g l.key) (sym (joined-snoc before m ks rest)) n) k)
 
-AreInRange-snoc : (f : Forest) (l : Label) (kids : Forest) → AreInRange f → IsInRange l.kind → AreInRange kids → AreInRange (snoc f l kids)
+pub AreInRange-snoc : (f : Forest) (l : Label) (kids : Forest) → AreInRange f → IsInRange l.kind → AreInRange kids → AreInRange (snoc f l kids)
 AreInRange-snoc Nil l kids s n k = (n, k, tt)
 AreInRange-snoc (Node m ks rest) l kids s n k = (s.0, s.1, AreInRange-snoc rest l kids s.2 n k)
 
-AreShallow-snoc : (f : Forest) (l : Label) (kids : Forest) (d : ℕ) → AreShallow f d → (holds_values l.kind ≡ true → d < 128) → AreShallow kids (suc d) → AreShallow (snoc f l kids) d
+pub AreShallow-snoc : (f : Forest) (l : Label) (kids : Forest) (d : ℕ) → AreShallow f d → (holds_values l.kind ≡ true → d < 128) → AreShallow kids (suc d) → AreShallow (snoc f l kids) d
 AreShallow-snoc Nil l kids d s n k = (n, k, tt)
 AreShallow-snoc (Node m ks rest) l kids d s n k = (s.0, s.1, AreShallow-snoc rest l kids d s.2 n k)
 
 -- the open collections
-abbrev LevelsKeep : List Level → Type 0
+abbrev pub LevelsKeep : List Level → Type 0
 LevelsKeep [] = Unit {0}
 LevelsKeep (x ∷ xs) = AreDistinct x.before Nil × IsNew x.before x.label.key × AreInRange x.before × IsInRange x.label.kind × AreShallow x.before (length xs) × (length xs < 128) × LevelsKeep xs
 
-record KeepsLimits (u : Unfinished) : Type 0 where
-  outer : LevelsKeep u.outer
-  distinct : AreDistinct u.done Nil
-  range : AreInRange u.done
-  shallow : AreShallow u.done (length u.outer)
+pub record KeepsLimits (u : Unfinished) : Type 0 where
+  pub outer : LevelsKeep u.outer
+  pub distinct : AreDistinct u.done Nil
+  pub range : AreInRange u.done
+  pub shallow : AreShallow u.done (length u.outer)
 
 -- where a value comes, its key is new
-abbrev HasRoom : Phase → Unfinished → Type 0
+abbrev pub HasRoom : Phase → Unfinished → Type 0
 HasRoom AtValue u = IsNew u.done u.key
 HasRoom AtKeyOrEnd u = Unit {0}
 HasRoom AtItemOrEnd u = Unit {0}
@@ -55,11 +55,11 @@ HasRoom (InString false t part a) u = IsNew u.done u.key
 HasRoom (InWord rest k a) u = IsNew u.done u.key × (holds_values k ≡ false) × IsInRange k
 HasRoom (InNumber q t a) u = IsNew u.done u.key
 
-record KeepsLimitsAt (p : Phase) (u : Unfinished) : Type 0 where
-  good : KeepsLimits u
-  room : HasRoom p u
+pub record KeepsLimitsAt (p : Phase) (u : Unfinished) : Type 0 where
+  pub good : KeepsLimits u
+  pub room : HasRoom p u
 
-kept_moved : (p q : Phase) (u w : Unfinished) → Go p u ≡ Go q w → KeepsLimitsAt p u → KeepsLimitsAt q w
+pub kept_moved : (p q : Phase) (u w : Unfinished) → Go p u ≡ Go q w → KeepsLimitsAt p u → KeepsLimitsAt q w
 kept_moved p q u w e f =
     let same_phase : p ≡ q = cc in
     let same_tree : u ≡ w = cc in
@@ -81,7 +81,7 @@ kept_value k t a u plain range g n = record {
 kept_open : (k : Kind) (a : ℕ) (u : Unfinished) → IsInRange k → KeepsLimits u → IsNew u.done u.key → length u.outer < 128 → KeepsLimits (with_open k a u)
 kept_open k a u range g n s = record { outer = (g.distinct, n, g.range, range, g.shallow, s, g.outer); distinct = tt; range = tt; shallow = tt }
 
-kept_keyless : (u : Unfinished) → KeepsLimits u → KeepsLimits (keyless u)
+pub kept_keyless : (u : Unfinished) → KeepsLimits u → KeepsLimits (keyless u)
 kept_keyless u g = record { outer = g.outer; distinct = g.distinct; range = g.range; shallow = g.shallow }
 
 kept_end : (x : Level) (xs : List Level) (done : Forest) (key : Option (List ℕ)) → KeepsLimits (record { outer = x ∷ xs; done = done; key = key }) → KeepsLimits (with_end (record { outer = x ∷ xs; done = done; key = key }))
@@ -171,7 +171,7 @@ colon_kept Space u q w e g n = kept_moved AtColon q u w e (record { good = g; ro
 colon_kept Colon u q w e g n = kept_moved AtValue q u w e (record { good = g; room = n })
 colon_kept _ u q w e g n = absurd (cc)
 
-stands_plain : (p : Parts) (k : Kind) → StandsFor p k → holds_values k ≡ false
+pub stands_plain : (p : Parts) (k : Kind) → StandsFor p k → holds_values k ≡ false
 stands_plain p (kind.Whole z) m = refl
 stands_plain p (kind.Fraction d) m = refl
 stands_plain p _ m = elim m [ ]
@@ -210,7 +210,7 @@ string_kept Closed key t part a u q w e g n = string_end_kept key t part a u q w
 string_kept (Part s) key t part a u q w e g n = kept_moved (InString key t s a) q u w e (record { good = g; room = part_room key t s part a u n })
 string_kept (Whole m) key t part a u q w e g n = kept_moved (InString key (t ++ m) [] a) q u w e (record { good = g; room = string_room key t m part a u n })
 
-kept_next : (p q : Phase) (b at : ℕ) (u w : Unfinished) → next at p u b ≡ Go q w → KeepsLimitsAt p u → KeepsLimitsAt q w
+pub kept_next : (p q : Phase) (b at : ℕ) (u w : Unfinished) → next at p u b ≡ Go q w → KeepsLimitsAt p u → KeepsLimitsAt q w
 kept_next AtValue q b at u w e f = value_kept (class_of b) at b u q w e f.good f.room
 kept_next AtKeyOrEnd q b at u w e f = key_or_end_kept (class_of b) at u q w e f.good
 kept_next AtItemOrEnd q b at u w e f = item_or_end_kept (class_of b) at b u q w e f.good
@@ -259,7 +259,3 @@ sound bytes tree e =
 -- a text has one tree
 pub unique : (bytes : List ℕ) (a b : Forest) → Json bytes a → Json bytes b → a ≡ b
 unique bytes a b ja jb = let x = complete bytes a ja in let y = complete bytes b jb in cc
-
--- where nothing is read, no tree is related
-pub none : (bytes : List ℕ) → tree_read bytes ≡ None → (tree : Forest) → Json bytes tree → ⊥
-none bytes e tree j = let x = complete bytes tree j in cc

@@ -179,3 +179,36 @@ none_known t (Some k) e h = let x = number_sound t k e in absurd (not_known t k 
 
 pub known_none : (t : List ℕ) → ((n : Num) → IsNumber t n → ⊥) → number_kind t ≡ None
 known_none t h = none_known t (number_kind t) refl h
+
+-- a number text stands for one number
+whole_only : (p : Parts) (z : ℤ) (k : Kind) → StandsFor p (kind.Whole z) → StandsFor p k → kind.Whole z ≡ k
+whole_only p z (kind.Whole y) a b = ap kind.Whole (a.2 ∙ sym b.2)
+whole_only p z (kind.Fraction d) a b = absurd (b.0 a.0 a.1)
+whole_only p z _ a b = elim b [ ]
+
+fraction_only : (p : Parts) (d : Decimal) (k : Kind) → StandsFor p (kind.Fraction d) → StandsFor p k → kind.Fraction d ≡ k
+fraction_only p d (kind.Fraction f) a b = ap kind.Fraction (decimal_only (nat_eq (number (p.whole ++ p.fraction)) 0) p d refl a.1 ∙ sym (decimal_only (nat_eq (number (p.whole ++ p.fraction)) 0) p f refl b.1))
+fraction_only p d (kind.Whole z) a b = absurd (a.0 b.0 b.1)
+fraction_only p d _ a b = elim b [ ]
+
+stands_only : (p : Parts) (j k : Kind) → StandsFor p j → StandsFor p k → j ≡ k
+stands_only p (kind.Whole z) k a b = whole_only p z k a b
+stands_only p (kind.Fraction d) k a b = fraction_only p d k a b
+stands_only p _ k a b = elim a [ ]
+
+pub worth_only : (t : List ℕ) (p : Parts) (k j : Kind) → IsSpelled t p → StandsFor p k → number_kind t ≡ Some j → j ≡ k
+worth_only t p k j s m h =
+    let n = number_sound t j h in
+    let same : n.0 ≡ p = sym (read-IsSpelled t n.0 n.1).1 ∙ (read-IsSpelled t p s).1 in
+    stands_only p j k (subst (λ (x : Parts). StandsFor x j) same n.2) m
+
+kind_none : (t : List ℕ) (p : Parts) (o : Option Kind) → number_kind t ≡ o → IsSpelled t p → ((k : Kind) → StandsFor p k → IsInRange k → ⊥) → o ≡ None
+kind_none t p None e s out = refl
+kind_none t p (Some k) e s out =
+    let n = number_sound t k e in
+    let same : n.0 ≡ p = sym (read-IsSpelled t n.0 n.1).1 ∙ (read-IsSpelled t p s).1 in
+    absurd (out k (subst (λ (x : Parts). StandsFor x k) same n.2) n.3)
+
+-- one that stands for no number in range has none
+pub out_of_range : (t : List ℕ) (p : Parts) → IsSpelled t p → ((k : Kind) → StandsFor p k → IsInRange k → ⊥) → number_kind t ≡ None
+out_of_range t p s out = kind_none t p (number_kind t) refl s out

@@ -5,18 +5,18 @@ use Rattle.std.proofs.lemmas.Bool.Decides.{nat_tests}
 use Rattle.doc_values.specs.Number.{is_digit, AreDigits, Parts, minus_text, IsWholePart, fraction_text, IsPowerText, IsSpelled}
 use Rattle.json_reader.specs.declared.number.NumberPart.{NumberPart}
 use Rattle.json_reader.specs.declared.number.NumberPart.TheVariants as part
-use Rattle.json_reader.specs.Numbers.{first_part, by_digit, by_point, by_exponent, part_next, part_then, run_parts}
+use Rattle.json_reader.specs.Numbers.{first_part, by_digit, by_point, by_exponent, part_next, part_then, completes, run_parts}
 use Rattle.json_reader.specs.Json.{Each}
 use Rattle.json_reader.specs.Reading.{is_number_byte}
 use Rattle.json_reader.proofs.Front.{either}
 use Rattle.json_reader.proofs.Spellings.{chosen}
 
--- bytes whose first begins a part behind which the others go on
+-- bytes whose first begins a part behind which the others go on, to a part behind which a number text may end
 abbrev pub Runs : List ℕ → Type 0
 Runs [] = Unit {0}
-Runs (b ∷ bs) = (r : NumberPart) × (run_parts (Some (first_part b)) bs ≡ Some r)
+Runs (b ∷ bs) = (r : NumberPart) × (run_parts (Some (first_part b)) bs ≡ Some r) × (completes r ≡ true)
 
-run_none : (bs : List ℕ) → run_parts None bs ≡ None
+pub run_none : (bs : List ℕ) → run_parts None bs ≡ None
 run_none [] = refl
 run_none (b ∷ bs) = run_none bs
 
@@ -73,7 +73,7 @@ pub runs_bytes : (bs : List ℕ) (q r : NumberPart) → run_parts (Some q) bs �
 runs_bytes [] q r e = tt
 runs_bytes (b ∷ bs) q r e = let f = runs_first (part_next q b) bs r e in (part_byte q b f.0 f.1, runs_bytes bs f.0 r (sym (ap (λ o. run_parts o bs) f.1) ∙ e))
 
-run_append : (o : Option NumberPart) (a b : List ℕ) → run_parts o (a ++ b) ≡ run_parts (run_parts o a) b
+pub run_append : (o : Option NumberPart) (a b : List ℕ) → run_parts o (a ++ b) ≡ run_parts (run_parts o a) b
 run_append o [] b = refl
 run_append o (x ∷ a) b = run_append (part_then o x) a b
 
@@ -104,7 +104,7 @@ IsEnd part.Whole = Unit {0}
 IsEnd part.Fraction = Unit {0}
 IsEnd _ = ⊥
 
-zero_is : (b : ℕ) → nat_eq b 48 ≡ true → b ≡ 48
+pub zero_is : (b : ℕ) → nat_eq b 48 ≡ true → b ≡ 48
 zero_is b h = grind (arith, nat_tests)
 
 int_run : (ds : List ℕ) → IsWholePart ds → (r : NumberPart) × IsInt r × (run_parts (Some part.Minus) ds ≡ Some r)
@@ -146,18 +146,24 @@ sign_run b ds h = ap (λ q. run_parts (cond q (Some part.Power) None) ds) h.0 �
 bare_run : (b : ℕ) (ds : List ℕ) → AreDigits (b ∷ ds) → run_parts (Some part.Exponent) (b ∷ ds) ≡ Some part.Power
 bare_run b ds h = ap (λ q. run_parts (cond q (Some part.Sign) (by_digit b part.Power None)) ds) (no_sign b h.0) ∙ sign_run b ds h
 
-power_run : (r : NumberPart) (down : Bool) (ds text : List ℕ) → IsEnd r → AreDigits ds → IsPowerText down ds text → (s : NumberPart) × (run_parts (Some r) text ≡ Some s)
-power_run r down [] text i h p = (r, ap (λ x. run_parts (Some r) x) p.1)
-power_run r true (b ∷ ds) text i h (e, m, t) = (part.Power, ap (λ x. run_parts (Some r) x) t ∙ ap (λ o. run_parts o (45 ∷ (b ∷ ds))) (mark_next r e i m) ∙ sign_run b ds h)
-power_run r false (b ∷ ds) text i h (e, m, inl t) = (part.Power, ap (λ x. run_parts (Some r) x) t ∙ ap (λ o. run_parts o (b ∷ ds)) (mark_next r e i m) ∙ bare_run b ds h)
-power_run r false (b ∷ ds) text i h (e, m, inr t) = (part.Power, ap (λ x. run_parts (Some r) x) t ∙ ap (λ o. run_parts o (43 ∷ (b ∷ ds))) (mark_next r e i m) ∙ sign_run b ds h)
+end_completes : (r : NumberPart) → IsEnd r → completes r ≡ true
+end_completes part.Zero i = refl
+end_completes part.Whole i = refl
+end_completes part.Fraction i = refl
+end_completes _ i = elim i [ ]
 
-tail_run : (whole fraction : List ℕ) (down : Bool) (power ex : List ℕ) → IsWholePart whole → AreDigits fraction → AreDigits power → IsPowerText down power ex → (r : NumberPart) × (run_parts (Some part.Minus) (whole ++ (fraction_text fraction ++ ex)) ≡ Some r)
+power_run : (r : NumberPart) (down : Bool) (ds text : List ℕ) → IsEnd r → AreDigits ds → IsPowerText down ds text → (s : NumberPart) × (run_parts (Some r) text ≡ Some s) × (completes s ≡ true)
+power_run r down [] text i h p = (r, ap (λ x. run_parts (Some r) x) p.1, end_completes r i)
+power_run r true (b ∷ ds) text i h (e, m, t) = (part.Power, ap (λ x. run_parts (Some r) x) t ∙ ap (λ o. run_parts o (45 ∷ (b ∷ ds))) (mark_next r e i m) ∙ sign_run b ds h, refl)
+power_run r false (b ∷ ds) text i h (e, m, inl t) = (part.Power, ap (λ x. run_parts (Some r) x) t ∙ ap (λ o. run_parts o (b ∷ ds)) (mark_next r e i m) ∙ bare_run b ds h, refl)
+power_run r false (b ∷ ds) text i h (e, m, inr t) = (part.Power, ap (λ x. run_parts (Some r) x) t ∙ ap (λ o. run_parts o (43 ∷ (b ∷ ds))) (mark_next r e i m) ∙ sign_run b ds h, refl)
+
+tail_run : (whole fraction : List ℕ) (down : Bool) (power ex : List ℕ) → IsWholePart whole → AreDigits fraction → AreDigits power → IsPowerText down power ex → (r : NumberPart) × (run_parts (Some part.Minus) (whole ++ (fraction_text fraction ++ ex)) ≡ Some r) × (completes r ≡ true)
 tail_run whole fraction down power ex w f p t =
     let i = int_run whole w in
     let g = fraction_run i.0 fraction i.1 f in
     let h = power_run g.0 down power ex g.1 p t in
-    (h.0, run_append (Some part.Minus) whole (fraction_text fraction ++ ex) ∙ ap (λ o. run_parts o (fraction_text fraction ++ ex)) i.2 ∙ run_append (Some i.0) (fraction_text fraction) ex ∙ ap (λ o. run_parts o ex) g.2 ∙ h.1)
+    (h.0, run_append (Some part.Minus) whole (fraction_text fraction ++ ex) ∙ ap (λ o. run_parts o (fraction_text fraction ++ ex)) i.2 ∙ run_append (Some i.0) (fraction_text fraction) ex ∙ ap (λ o. run_parts o ex) g.2 ∙ h.1, h.2)
 
 no_minus : (b : ℕ) → is_digit b ≡ true → nat_eq b 45 ≡ false
 no_minus b h = grind (arith, nat_tests)
@@ -168,10 +174,10 @@ first_when false true d e f = refl
 first_when false false true e f = refl
 first_when false false false e f = absurd (cc)
 
-runs_so : (m : Bool) (ds r : List ℕ) → IsWholePart ds → (x : NumberPart) × (run_parts (Some part.Minus) (ds ++ r) ≡ Some x) → Runs (minus_text m ++ (ds ++ r))
+runs_so : (m : Bool) (ds r : List ℕ) → IsWholePart ds → (x : NumberPart) × (run_parts (Some part.Minus) (ds ++ r) ≡ Some x) × (completes x ≡ true) → Runs (minus_text m ++ (ds ++ r))
 runs_so true ds r w x = x
 runs_so false [] r w x = elim w [ ]
-runs_so false (b ∷ ds) r w x = (x.0, ap (λ o. run_parts o (ds ++ r)) (first_when (nat_eq b 45) (nat_eq b 48) (is_digit b) (no_minus b w.0) w.0) ∙ x.1)
+runs_so false (b ∷ ds) r w x = (x.0, ap (λ o. run_parts o (ds ++ r)) (first_when (nat_eq b 45) (nat_eq b 48) (is_digit b) (no_minus b w.0) w.0) ∙ x.1, x.2)
 
 pub spelled_runs : (bytes : List ℕ) (p : Parts) → IsSpelled bytes p → Runs bytes
 spelled_runs bytes p s = subst Runs (sym s.joined) (runs_so p.minus p.whole (fraction_text p.fraction ++ s.exponent) s.whole (tail_run p.whole p.fraction p.down p.power s.exponent s.whole s.fraction s.power s.exponent_is))

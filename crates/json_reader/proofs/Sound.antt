@@ -6,10 +6,11 @@ use Rattle.doc_values.specs.declared.kind.Kind.{Kind}
 use Rattle.doc_values.specs.declared.kind.Kind.TheVariants as kind
 use Rattle.doc_values.specs.Tree.{Label, Forest, Nil, Node, snoc, joined, has_key, is_map}
 use Rattle.doc_values.specs.Laws.{joined-Nil, joined-snoc}
+use Rattle.doc_values.specs.Number.{Parts, IsSpelled}
 use Rattle.doc_values.specs.Unfinished.{Level, Unfinished, start, with_value, with_open, with_key, with_end}
 use Rattle.json_reader.specs.declared.bytes.Class.{Class}
 use Rattle.json_reader.specs.declared.bytes.Class.TheVariants.{Space, Quote, Open, Close, OpenList, CloseList, Colon, Comma, Minus, Zero, Digit, LetterN, LetterT, LetterF}
-use Rattle.json_reader.specs.Json.{is_space, Each, Chars, past, IsSeparator, IsLead, IsNumber, Collection, Object, Array, opening, closing, kind_of, IsNamed, IsEntry, IsValue, Entries, IsFront, Shape}
+use Rattle.json_reader.specs.Json.{is_space, Each, Chars, past, IsSeparator, IsLead, StandsFor, Collection, Object, Array, opening, closing, kind_of, IsNamed, IsEntry, IsValue, Entries, IsFront, Shape}
 use Rattle.json_reader.specs.Reading.{class_of, Phase, AtValue, AtKeyOrEnd, AtItemOrEnd, AtKey, AtColon, After, InString, InWord, InNumber, Next, Stop, Go, keyless, value_next, by_form, after_next, key_or_end_next, item_or_end_next, word_on, word_next, key_next, colon_next, number_done, number_next, next, whole_tree, Heard, Bad, Closed, Part, Whole, heard, string_end, string_next, number_end, final, goes_on, read, mark_len, tree_read}
 use Rattle.json_reader.proofs.Spellings.{space_byte, quote_byte, open_byte, close_byte, open_list_byte, close_list_byte, n_byte, t_byte, f_byte, colon_byte, comma_byte, chosen, past-append}
 use Rattle.json_reader.specs.declared.number.NumberPart.{NumberPart}
@@ -44,9 +45,9 @@ Completes After u at bytes v = Ends u.outer u.done at bytes v
 Completes (InString true t part a) u at bytes v = (k text c m r : List ℕ) × (l : Label) × (kids : Forest) × (bytes ≡ k ++ (34 ∷ (c ++ (m ++ r)))) × Chars (part ++ k) text × IsSeparator 58 c × IsValue (Entries kids true) (past (suc (past at k)) c) (Some (t ++ text)) l kids m × Ends u.outer (snoc u.done l kids) (past (past (suc (past at k)) c) m) r v
 Completes (InString false t part a) u at bytes v = (k text r : List ℕ) × (bytes ≡ k ++ (34 ∷ r)) × Chars (part ++ k) text × Ends u.outer (snoc u.done (record { kind = kind.Text; text = t ++ text; key = u.key; at = a }) Nil) (suc (past at k)) r v
 Completes (InWord rest k a) u at bytes v = (r : List ℕ) × (bytes ≡ rest ++ r) × Ends u.outer (snoc u.done (record { kind = k; text = []; key = u.key; at = a }) Nil) (past at rest) r v
-Completes (InNumber q t a) u at bytes v = (ds r : List ℕ) × (k : Kind) × (bytes ≡ ds ++ r) × (number_kind (t ++ ds) ≡ Some k) × Ends u.outer (snoc u.done (record { kind = k; text = []; key = u.key; at = a }) Nil) (past at ds) r v
+Completes (InNumber q t a) u at bytes v = (ds r : List ℕ) × (p : Parts) × (k : Kind) × (bytes ≡ ds ++ r) × IsSpelled (t ++ ds) p × StandsFor p k × Ends u.outer (snoc u.done (record { kind = k; text = []; key = u.key; at = a }) Nil) (past at ds) r v
 
-moved : (p q : Phase) (u w : Unfinished) (at : ℕ) (bytes : List ℕ) (v : Forest) → Go p u ≡ Go q w → Completes q w at bytes v → Completes p u at bytes v
+pub moved : (p q : Phase) (u w : Unfinished) (at : ℕ) (bytes : List ℕ) (v : Forest) → Go p u ≡ Go q w → Completes q w at bytes v → Completes p u at bytes v
 moved p q u w at bytes v e c =
     let same_phase : q ≡ p = cc in
     let same_tree : w ≡ u = cc in
@@ -58,14 +59,14 @@ more_space Nil o first b at a s h = (s, h)
 more_space (Node l kids rest) o true b at a s (lead, m, r, e, il, en, sp) = (b ∷ lead, m, r, ap (λ t. b ∷ t) e, (s, il), en, sp)
 more_space (Node l kids rest) o false b at a s (lead, m, r, e, (w, y, ew, sw, sy), en, sp) = (b ∷ lead, m, r, ap (λ t. b ∷ t) e, (b ∷ w, y, ap (λ t. b ∷ t) ew, (s, sw), sy), en, sp)
 
-ends_space : (outer : List Level) (done : Forest) (b at : ℕ) (bytes : List ℕ) (v : Forest) → is_space b ≡ true → Ends outer done (suc at) bytes v → Ends outer done at (b ∷ bytes) v
+pub ends_space : (outer : List Level) (done : Forest) (b at : ℕ) (bytes : List ℕ) (v : Forest) → is_space b ≡ true → Ends outer done (suc at) bytes v → Ends outer done at (b ∷ bytes) v
 ends_space [] done b at bytes v s (w, e) = ((s, w), e)
 ends_space (x ∷ xs) done b at bytes v s (f, a, r, e, sp, en) = (f, b ∷ a, r, ap (λ t. b ∷ t) e, more_space f (form (is_map x.label.kind)) false b at a s sp, en)
 
 begun_space : (map : Bool) (x : Level) (xs : List Level) (done : Forest) (b at : ℕ) (bytes : List ℕ) (v : Forest) → is_space b ≡ true → (f : Forest) × (a r : List ℕ) × (bytes ≡ a ++ (closing (form map) ∷ r)) × Entries f true (form map) (suc at) a × Ends xs (snoc x.before x.label (joined done f)) (suc (past (suc at) a)) r v → (f : Forest) × (a r : List ℕ) × (b ∷ bytes ≡ a ++ (closing (form map) ∷ r)) × Entries f true (form map) at a × Ends xs (snoc x.before x.label (joined done f)) (suc (past at a)) r v
 begun_space map x xs done b at bytes v s (f, a, r, e, sp, en) = (f, b ∷ a, r, ap (λ t. b ∷ t) e, more_space f (form map) true b at a s sp, en)
 
-begins_space : (map : Bool) (outer : List Level) (done : Forest) (b at : ℕ) (bytes : List ℕ) (v : Forest) → is_space b ≡ true → Begins map outer done (suc at) bytes v → Begins map outer done at (b ∷ bytes) v
+pub begins_space : (map : Bool) (outer : List Level) (done : Forest) (b at : ℕ) (bytes : List ℕ) (v : Forest) → is_space b ≡ true → Begins map outer done (suc at) bytes v → Begins map outer done at (b ∷ bytes) v
 begins_space map [] done b at bytes v s h = tt
 begins_space map (x ∷ xs) done b at bytes v s h = λ k. begun_space map x xs done b at bytes v s (h k)
 
@@ -122,7 +123,7 @@ text_value b at u bytes v q (k, text, r, e, ch, en) =
     let l : Label = record { kind = kind.Text; text = text; key = u.key; at = at } in
     ([], 34 ∷ (k ++ (34 ∷ [])), r, l, Nil, ap (λ n. n ∷ bytes) q ∙ ap (λ t. 34 ∷ t) (e ∙ sym (append_assoc k (34 ∷ []) r)), tt, inl (k, text, refl, ch, refl, refl), subst (λ n. Ends u.outer (snoc u.done l Nil) n r v) (sym (past-append (suc at) k (34 ∷ []))) en)
 
-collection_value : (map : Bool) (o : Collection) (b at : ℕ) (u : Unfinished) (bytes : List ℕ) (v : Forest) → form map ≡ o → b ≡ opening o → ((f : Forest) × (a r : List ℕ) × (bytes ≡ a ++ (closing (form map) ∷ r)) × Entries f true (form map) (suc at) a × Ends u.outer (snoc u.done (record { kind = kind_of o; text = []; key = u.key; at = at }) (joined Nil f)) (suc (past (suc at) a)) r v) → Completes AtValue u at (b ∷ bytes) v
+pub collection_value : (map : Bool) (o : Collection) (b at : ℕ) (u : Unfinished) (bytes : List ℕ) (v : Forest) → form map ≡ o → b ≡ opening o → ((f : Forest) × (a r : List ℕ) × (bytes ≡ a ++ (closing (form map) ∷ r)) × Entries f true (form map) (suc at) a × Ends u.outer (snoc u.done (record { kind = kind_of o; text = []; key = u.key; at = at }) (joined Nil f)) (suc (past (suc at) a)) r v) → Completes AtValue u at (b ∷ bytes) v
 collection_value map o b at u bytes v same q (f, a, r, e, sp, en) =
     let l : Label = record { kind = kind_of o; text = []; key = u.key; at = at } in
     let end = closing o in
@@ -131,11 +132,8 @@ collection_value map o b at u bytes v same q (f, a, r, e, sp, en) =
 word_value : (k : Kind) (c : ℕ) (rest : List ℕ) (b at : ℕ) (u : Unfinished) (bytes : List ℕ) (v : Forest) → IsNamed k (c ∷ rest) → b ≡ c → Completes (InWord rest k at) u (suc at) bytes v → Completes AtValue u at (b ∷ bytes) v
 word_value k c rest b at u bytes v nm q (r, e, en) = ([], c ∷ rest, r, record { kind = k; text = []; key = u.key; at = at }, Nil, ap (λ n. n ∷ bytes) q ∙ ap (λ t. c ∷ t) e, tt, inr (inr (inl (k, nm, refl, refl))), en)
 
-is_number : (bytes : List ℕ) (k : Kind) (at : ℕ) (key : Option (List ℕ)) → number_kind bytes ≡ Some k → IsNumber at key (record { kind = k; text = []; key = key; at = at }) Nil bytes
-is_number bytes k at key e = let n = number_sound bytes k e in (n.0, k, n.1, n.2, refl, refl)
-
 number_value : (b at : ℕ) (u : Unfinished) (bytes : List ℕ) (v : Forest) → Completes (InNumber (first_part b) (b ∷ []) at) u (suc at) bytes v → Completes AtValue u at (b ∷ bytes) v
-number_value b at u bytes v (ds, r, k, e, n, en) = ([], b ∷ ds, r, record { kind = k; text = []; key = u.key; at = at }, Nil, ap (λ t. b ∷ t) e, tt, inr (inl (is_number (b ∷ ds) k at u.key n)), en)
+number_value b at u bytes v (ds, r, p, k, e, sp, st, en) = ([], b ∷ ds, r, record { kind = k; text = []; key = u.key; at = at }, Nil, ap (λ t. b ∷ t) e, tt, inr (inl (p, k, sp, st, refl, refl)), en)
 
 -- at a value
 value_before : (c : Class) (b at : ℕ) (u w : Unfinished) (q : Phase) (bytes : List ℕ) (v : Forest) → class_of b ≡ c → value_next at u b c ≡ Go q w → Completes q w (suc at) bytes v → Completes AtValue u at (b ∷ bytes) v
@@ -240,7 +238,7 @@ key_or_end_before Quote b at u w q bytes v cb e h = begins_key u.outer u.done u.
 key_or_end_before Close b at u w q bytes v cb e h = begins_end u.outer u.done u.key b at w q bytes v (close_byte b cb) e h
 key_or_end_before _ b at u w q bytes v cb e h = absurd (cc)
 
-begins_item : (outer : List Level) (done : Forest) (at : ℕ) (bytes : List ℕ) (v : Forest) → Completes AtValue (record { outer = outer; done = done; key = None }) at bytes v → Begins false outer done at bytes v
+pub begins_item : (outer : List Level) (done : Forest) (at : ℕ) (bytes : List ℕ) (v : Forest) → Completes AtValue (record { outer = outer; done = done; key = None }) at bytes v → Begins false outer done at bytes v
 begins_item [] done at bytes v h = tt
 begins_item (x ∷ xs) done at bytes v (w, m, r, l, kids, e, ew, iv, en) =
     λ km. (entry_ends Array true w m r bytes x xs l kids done v at e ew iv (ends_form false x xs (snoc done l kids) (past (past at w) m) r v km en)).rest
@@ -312,19 +310,20 @@ number_goes None a u f q w e = absurd (cc)
 number_goes (Some k) a u f q w e = (k, refl, e)
 
 number_more : (p r : NumberPart) (t : List ℕ) (b at a : ℕ) (u : Unfinished) (bytes : List ℕ) (v : Forest) → Completes (InNumber r (t ++ (b ∷ [])) a) u (suc at) bytes v → Completes (InNumber p t a) u at (b ∷ bytes) v
-number_more p x t b at a u bytes v (ds, r, k, e, n, en) = (b ∷ ds, r, k, ap (λ s. b ∷ s) e, ap number_kind (sym (append_assoc t (b ∷ []) ds)) ∙ n, en)
+number_more p x t b at a u bytes v (ds, r, parts, k, e, sp, st, en) = (b ∷ ds, r, parts, k, ap (λ s. b ∷ s) e, subst (λ (s : List ℕ). IsSpelled s parts) (append_assoc t (b ∷ []) ds) sp, st, en)
 
 number_stops : (p : NumberPart) (t : List ℕ) (b at a : ℕ) (u w : Unfinished) (q : Phase) (bytes : List ℕ) (v : Forest) → number_done (number_kind t) a u (λ x. after_next x (class_of b)) ≡ Go q w → Completes q w (suc at) bytes v → Completes (InNumber p t a) u at (b ∷ bytes) v
 number_stops p t b at a u w q bytes v e h =
     let g = number_goes (number_kind t) a u (λ x. after_next x (class_of b)) q w e in
-    ([], b ∷ bytes, g.0, refl, ap number_kind (append-nil t) ∙ g.1, after_before (class_of b) b at (with_value g.0 [] a u) w q bytes v refl g.2 h)
+    let n = number_sound t g.0 g.1 in
+    ([], b ∷ bytes, n.0, g.0, refl, subst (λ (s : List ℕ). IsSpelled s n.0) (sym (append-nil t)) n.1, n.2, after_before (class_of b) b at (with_value g.0 [] a u) w q bytes v refl g.2 h)
 
 in_number_before : (o : Option NumberPart) (p : NumberPart) (t : List ℕ) (b at a : ℕ) (u w : Unfinished) (q : Phase) (bytes : List ℕ) (v : Forest) → number_next o t a u b ≡ Go q w → Completes q w (suc at) bytes v → Completes (InNumber p t a) u at (b ∷ bytes) v
 in_number_before (Some x) p t b at a u w q bytes v e h = number_more p x t b at a u bytes v (moved (InNumber x (t ++ (b ∷ [])) a) q u w (suc at) bytes v e h)
 in_number_before None p t b at a u w q bytes v e h = number_stops p t b at a u w q bytes v e h
 
 -- one byte, in any phase
-before : (p q : Phase) (b at : ℕ) (u w : Unfinished) (bytes : List ℕ) (v : Forest) → next at p u b ≡ Go q w → Completes q w (suc at) bytes v → Completes p u at (b ∷ bytes) v
+pub before : (p q : Phase) (b at : ℕ) (u w : Unfinished) (bytes : List ℕ) (v : Forest) → next at p u b ≡ Go q w → Completes q w (suc at) bytes v → Completes p u at (b ∷ bytes) v
 before AtValue q b at u w bytes v e h = value_before (class_of b) b at u w q bytes v refl e h
 before AtKeyOrEnd q b at u w bytes v e h = key_or_end_before (class_of b) b at u w q bytes v refl e h
 before AtItemOrEnd q b at u w bytes v e h = item_or_end_before (class_of b) b at u w q bytes v refl e h
@@ -356,9 +355,9 @@ ended AtColon u at v e = absurd (cc)
 ended After u at v e = tree_ends u.outer u.done at v e
 ended (InString key t part a) u at v e = absurd (cc)
 ended (InWord rest k a) u at v e = absurd (cc)
-ended (InNumber q t a) u at v e = let g = number_ends (number_kind t) a at u v e in ([], [], g.0, refl, ap number_kind (append-nil t) ∙ g.1, g.2)
+ended (InNumber q t a) u at v e = let g = number_ends (number_kind t) a at u v e in let n = number_sound t g.0 g.1 in ([], [], n.0, g.0, refl, subst (λ (s : List ℕ). IsSpelled s n.0) (sym (append-nil t)) n.1, n.2, g.2)
 
-completes : (bytes : List ℕ) (at : ℕ) (p : Phase) (u : Unfinished) (v : Forest) → read bytes at p u ≡ Some v → Completes p u at bytes v
+pub completes : (bytes : List ℕ) (at : ℕ) (p : Phase) (u : Unfinished) (v : Forest) → read bytes at p u ≡ Some v → Completes p u at bytes v
 completes [] at p u v e = ended p u at v e
 completes (b ∷ bytes) at p u v e = let g = goes (next at p u b) (read bytes (suc at)) v e in before p g.0 b at u g.1 bytes v g.2 (completes bytes (suc at) g.0 g.1 v g.3)
 

@@ -1,5 +1,5 @@
 -- What single bytes are, and what digits and characters make.
-use Rattle.std.proofs.Common.{◌≡◌, ℕ, zero, suc, ◌+◌, ◌-◌, ◌*◌, ◌≤◌, ◌⊎◌, Bool, true, false, List, [], ◌∷◌, ◌++◌, refl, sym, ap, inl, inr, ◌∙◌, subst, arith, Option, Some, None, cond, lit<}
+use Rattle.std.proofs.Common.{◌≡◌, ℕ, zero, suc, ◌+◌, ◌-◌, ◌*◌, ◌≤◌, ◌⊎◌, Bool, true, false, List, [], ◌∷◌, ◌++◌, length, refl, sym, ap, inl, inr, ◌∙◌, subst, arith, Option, Some, None, cond, lit<}
 use Rattle.std.specs.Prelude.{nat_eq, nat_lt, ℤ, pos, negsuc}
 use Rattle.std.proofs.lemmas.Bool.{lt-ltb, ltb-true}
 use Rattle.std.proofs.lemmas.Bool.Decides.{nat_tests}
@@ -22,6 +22,10 @@ unescaped_not_quote b h = grind (arith, nat_tests)
 pub past-append : (at : ℕ) (a b : List ℕ) → past at (a ++ b) ≡ past (past at a) b
 past-append at [] b = refl
 past-append at (x ∷ a) b = past-append (suc at) a b
+
+pub past-length : (at : ℕ) (k : List ℕ) → past at k ≡ at + length k
+past-length at [] = omega arith
+past-length at (b ∷ k) = let h = past-length (suc at) k in omega arith
 
 pub number_grows : (n : ℕ) (ds : List ℕ) → n ≤ number_behind n ds
 number_grows n [] = omega arith

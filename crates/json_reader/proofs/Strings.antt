@@ -1,18 +1,19 @@
 -- Strings: characters are read one by one, and what was read as one is one.
-use Rattle.std.proofs.Common.{◌≡◌, ℕ, suc, ◌+◌, ◌-◌, ◌*◌, ◌<◌, Bool, true, false, List, [], ◌∷◌, ◌++◌, refl, sym, ap, inl, inr, ◌∙◌, arith, append_assoc, append-nil, Option, Some, None, cond}
+use Rattle.std.proofs.Common.{◌≡◌, ℕ, suc, ◌+◌, ◌-◌, ◌*◌, ◌<◌, Bool, true, false, List, [], ◌∷◌, ◌++◌, refl, sym, ap, inl, inr, ◌∙◌, subst, arith, append_assoc, append-nil, Option, Some, None, cond}
 use Rattle.std.specs.Prelude.{nat_eq, nat_le, ◌&&◌, ◌||◌, not, encode_utf8}
 use Rattle.std.proofs.lemmas.Bool.Decides.{nat_tests}
 use Rattle.doc_values.specs.Unfinished.{Unfinished}
 use Rattle.json_reader.specs.Json.{is_unescaped, Each, past, short_escape, is_hex, hex, is_unit, unit, is_high, is_low, opens_unit, escape, Character, IsCharacter, AreCharacters, spellings, meanings, Chars}
-use Rattle.json_reader.specs.Reading.{InString, Heard, Bad, Closed, Part, Whole, may_escape, escape_heard, heard, string_next, goes_on, read}
+use Rattle.json_reader.specs.Reading.{InString, Heard, Bad, Closed, Part, Whole, may_escape, escape_heard, heard, string_next, string_cause, judged, judge, read}
+use Rattle.json_reader.proofs.Judged.{given, read_judge}
 use Rattle.json_reader.proofs.Spellings.{unescaped_not_quote, past-append}
 
-both : (p q : Bool) → (p && q) ≡ true → (p ≡ true) × (q ≡ true)
+pub both : (p q : Bool) → (p && q) ≡ true → (p ≡ true) × (q ≡ true)
 both true true h = (refl, refl)
 both true false h = absurd (cc)
 both false q h = absurd (cc)
 
-both_true : (p q : Bool) → p ≡ true → q ≡ true → (p && q) ≡ true
+pub both_true : (p q : Bool) → p ≡ true → q ≡ true → (p && q) ≡ true
 both_true true true e f = refl
 both_true true false e f = absurd (cc)
 both_true false q e f = absurd (cc)
@@ -39,11 +40,11 @@ high_not_low a b h = grind (arith, nat_tests)
 backslash_not_unescaped : (b : ℕ) → is_unescaped b ≡ true → nat_eq b 92 ≡ false
 backslash_not_unescaped b h = grind (arith, nat_tests)
 
-part_step : (b : ℕ) (t pre s : List ℕ) (at : ℕ) (key : Bool) (acc : List ℕ) (a : ℕ) (u : Unfinished) → heard pre b ≡ Part s → read (b ∷ t) at (InString key acc pre a) u ≡ read t (suc at) (InString key acc s a) u
-part_step b t pre s at key acc a u e = ap (λ h. goes_on (string_next h key acc a u) (read t (suc at))) e
+part_step : (b : ℕ) (t pre s : List ℕ) (at : ℕ) (key : Bool) (acc : List ℕ) (a : ℕ) (u : Unfinished) → heard pre b ≡ Part s → judge (b ∷ t) at (InString key acc pre a) u ≡ judge t (suc at) (InString key acc s a) u
+part_step b t pre s at key acc a u e = ap (λ h. judged (string_next h key acc a u) (string_cause at h a) (judge t (suc at))) e
 
-whole_step : (b : ℕ) (t pre m : List ℕ) (at : ℕ) (key : Bool) (acc : List ℕ) (a : ℕ) (u : Unfinished) → heard pre b ≡ Whole m → read (b ∷ t) at (InString key acc pre a) u ≡ read t (suc at) (InString key (acc ++ m) [] a) u
-whole_step b t pre m at key acc a u e = ap (λ h. goes_on (string_next h key acc a u) (read t (suc at))) e
+whole_step : (b : ℕ) (t pre m : List ℕ) (at : ℕ) (key : Bool) (acc : List ℕ) (a : ℕ) (u : Unfinished) → heard pre b ≡ Whole m → judge (b ∷ t) at (InString key acc pre a) u ≡ judge t (suc at) (InString key (acc ++ m) [] a) u
+whole_step b t pre m at key acc a u e = ap (λ h. judged (string_next h key acc a u) (string_cause at h a) (judge t (suc at))) e
 
 may_part : (o : Option ℕ) (q : Bool) (s : List ℕ) → o ≡ None → q ≡ true → escape_heard o q s ≡ Part s
 may_part o q s e f = ap (λ o. escape_heard o q s) e ∙ ap (λ q. cond q (Part s) Bad) f
@@ -54,7 +55,7 @@ plain_heard b e =
     ∙ ap (λ q. cond q (Part (92 ∷ [])) (cond (is_unescaped b) (Whole (b ∷ [])) Bad)) (backslash_not_unescaped b e)
     ∙ ap (λ q. cond q (Whole (b ∷ [])) Bad) e
 
-five_run : (a b c : ℕ) (t : List ℕ) (at : ℕ) (key : Bool) (acc : List ℕ) (q : ℕ) (u : Unfinished) → is_hex a ≡ true → is_hex b ≡ true → not (is_low a b) ≡ true → is_hex c ≡ true → read (92 ∷ (117 ∷ (a ∷ (b ∷ (c ∷ t))))) at (InString key acc [] q) u ≡ read t (suc (suc (suc (suc (suc at))))) (InString key acc (92 ∷ 117 ∷ a ∷ b ∷ c ∷ []) q) u
+five_run : (a b c : ℕ) (t : List ℕ) (at : ℕ) (key : Bool) (acc : List ℕ) (q : ℕ) (u : Unfinished) → is_hex a ≡ true → is_hex b ≡ true → not (is_low a b) ≡ true → is_hex c ≡ true → judge (92 ∷ (117 ∷ (a ∷ (b ∷ (c ∷ t))))) at (InString key acc [] q) u ≡ judge t (suc (suc (suc (suc (suc at))))) (InString key acc (92 ∷ 117 ∷ a ∷ b ∷ c ∷ []) q) u
 five_run a b c t at key acc q u ha hb l hc =
     part_step 92 (117 ∷ (a ∷ (b ∷ (c ∷ t)))) [] (92 ∷ []) at key acc q u refl
     ∙ part_step 117 (a ∷ (b ∷ (c ∷ t))) (92 ∷ []) (92 ∷ 117 ∷ []) (suc at) key acc q u refl
@@ -69,7 +70,7 @@ hexes a b c d h =
     let z = both (is_hex a) (is_hex b) y.0 in
     (z.0, z.1, y.1, x.1)
 
-unit_run : (a b c d : ℕ) (t : List ℕ) (at : ℕ) (key : Bool) (acc : List ℕ) (q : ℕ) (u : Unfinished) (n : ℕ) → escape (92 ∷ 117 ∷ a ∷ b ∷ c ∷ d ∷ []) ≡ Some n → read (92 ∷ (117 ∷ (a ∷ (b ∷ (c ∷ (d ∷ t)))))) at (InString key acc [] q) u ≡ read t (suc (suc (suc (suc (suc (suc at)))))) (InString key (acc ++ encode_utf8 n) [] q) u
+unit_run : (a b c d : ℕ) (t : List ℕ) (at : ℕ) (key : Bool) (acc : List ℕ) (q : ℕ) (u : Unfinished) (n : ℕ) → escape (92 ∷ 117 ∷ a ∷ b ∷ c ∷ d ∷ []) ≡ Some n → judge (92 ∷ (117 ∷ (a ∷ (b ∷ (c ∷ (d ∷ t)))))) at (InString key acc [] q) u ≡ judge t (suc (suc (suc (suc (suc (suc at)))))) (InString key (acc ++ encode_utf8 n) [] q) u
 unit_run a b c d t at key acc q u n e =
     let x = if_some (is_unit a b c d) (cond (is_high a b || is_low a b) None (Some (unit a b c d))) n e in
     let y = if_none (is_high a b || is_low a b) (Some (unit a b c d)) n x.1 in
@@ -79,7 +80,7 @@ unit_run a b c d t at key acc q u n e =
     five_run a b c (d ∷ t) at key acc q u h.0 h.1 l.1 h.2
     ∙ whole_step d t (92 ∷ 117 ∷ a ∷ b ∷ c ∷ []) (encode_utf8 n) (suc (suc (suc (suc (suc at))))) key acc q u (ap (λ o. escape_heard o (may_escape s) s) e)
 
-pair_run : (a b c d e f g h : ℕ) (t : List ℕ) (at : ℕ) (key : Bool) (acc : List ℕ) (q : ℕ) (u : Unfinished) (n : ℕ) → escape (92 ∷ 117 ∷ a ∷ b ∷ c ∷ d ∷ 92 ∷ 117 ∷ e ∷ f ∷ g ∷ h ∷ []) ≡ Some n → read (92 ∷ (117 ∷ (a ∷ (b ∷ (c ∷ (d ∷ (92 ∷ (117 ∷ (e ∷ (f ∷ (g ∷ (h ∷ t)))))))))))) at (InString key acc [] q) u ≡ read t (suc (suc (suc (suc (suc (suc (suc (suc (suc (suc (suc (suc at)))))))))))) (InString key (acc ++ encode_utf8 n) [] q) u
+pair_run : (a b c d e f g h : ℕ) (t : List ℕ) (at : ℕ) (key : Bool) (acc : List ℕ) (q : ℕ) (u : Unfinished) (n : ℕ) → escape (92 ∷ 117 ∷ a ∷ b ∷ c ∷ d ∷ 92 ∷ 117 ∷ e ∷ f ∷ g ∷ h ∷ []) ≡ Some n → judge (92 ∷ (117 ∷ (a ∷ (b ∷ (c ∷ (d ∷ (92 ∷ (117 ∷ (e ∷ (f ∷ (g ∷ (h ∷ t)))))))))))) at (InString key acc [] q) u ≡ judge t (suc (suc (suc (suc (suc (suc (suc (suc (suc (suc (suc (suc at)))))))))))) (InString key (acc ++ encode_utf8 n) [] q) u
 pair_run a b c d e f g h t at key acc q u n eq =
     let m : Option ℕ = Some (65536 + (unit a b c d - 55296) * 1024 + (unit e f g h - 56320)) in
     let x = if_some (is_unit a b c d) (cond (is_high a b) (cond (is_unit e f g h) (cond (is_low e f) m None) None) None) n eq in
@@ -108,16 +109,16 @@ pair_run a b c d e f g h t at key acc q u n eq =
     ∙ whole_step h t s11 (encode_utf8 n) (suc (suc (suc (suc (suc at6))))) key acc q u (ap (λ o. escape_heard o (may_escape s12) s12) eq)
 
 -- an escape is read as its character
-pub escape_run : (s t : List ℕ) (at : ℕ) (key : Bool) (acc : List ℕ) (q : ℕ) (u : Unfinished) (n : ℕ) → escape s ≡ Some n → read (s ++ t) at (InString key acc [] q) u ≡ read t (past at s) (InString key (acc ++ encode_utf8 n) [] q) u
+pub escape_run : (s t : List ℕ) (at : ℕ) (key : Bool) (acc : List ℕ) (q : ℕ) (u : Unfinished) (n : ℕ) → escape s ≡ Some n → judge (s ++ t) at (InString key acc [] q) u ≡ judge t (past at s) (InString key (acc ++ encode_utf8 n) [] q) u
 escape_run (x ∷ b ∷ []) t at key acc q u n e =
     let k = if_some (nat_eq x 92) (short_escape b) n e in
     let ex : x ≡ 92 = let h = k.0 in grind (arith, nat_tests) in
     let s : List ℕ = 92 ∷ b ∷ [] in
-    ap (λ y. read (y ∷ (b ∷ t)) at (InString key acc [] q) u) ex ∙ part_step 92 (b ∷ t) [] (92 ∷ []) at key acc q u refl ∙ whole_step b t (92 ∷ []) (encode_utf8 n) (suc at) key acc q u (ap (λ o. escape_heard o (may_escape s) s) k.1)
+    ap (λ y. judge (y ∷ (b ∷ t)) at (InString key acc [] q) u) ex ∙ part_step 92 (b ∷ t) [] (92 ∷ []) at key acc q u refl ∙ whole_step b t (92 ∷ []) (encode_utf8 n) (suc at) key acc q u (ap (λ o. escape_heard o (may_escape s) s) k.1)
 escape_run (x ∷ y ∷ a ∷ b ∷ c ∷ d ∷ []) t at key acc q u n e =
     let k = if_some (opens_unit x y) (cond (is_unit a b c d) (cond (is_high a b || is_low a b) None (Some (unit a b c d))) None) n e in
     let o = opens_is x y k.0 in
-    ap (λ z. read (z ∷ (y ∷ (a ∷ (b ∷ (c ∷ (d ∷ t)))))) at (InString key acc [] q) u) o.0 ∙ ap (λ z. read (92 ∷ (z ∷ (a ∷ (b ∷ (c ∷ (d ∷ t)))))) at (InString key acc [] q) u) o.1 ∙ unit_run a b c d t at key acc q u n k.1
+    ap (λ z. judge (z ∷ (y ∷ (a ∷ (b ∷ (c ∷ (d ∷ t)))))) at (InString key acc [] q) u) o.0 ∙ ap (λ z. judge (92 ∷ (z ∷ (a ∷ (b ∷ (c ∷ (d ∷ t)))))) at (InString key acc [] q) u) o.1 ∙ unit_run a b c d t at key acc q u n k.1
 escape_run (x ∷ y ∷ a ∷ b ∷ c ∷ d ∷ v ∷ w ∷ e ∷ f ∷ g ∷ h ∷ []) t at key acc q u n eq =
     let m : Option ℕ = Some (65536 + (unit a b c d - 55296) * 1024 + (unit e f g h - 56320)) in
     let k1 = if_some (opens_unit x y) (cond (is_unit a b c d) (cond (is_high a b) (cond (opens_unit v w) (cond (is_unit e f g h) (cond (is_low e f) m None) None) None) None) None) n eq in
@@ -128,31 +129,34 @@ escape_run (x ∷ y ∷ a ∷ b ∷ c ∷ d ∷ v ∷ w ∷ e ∷ f ∷ g ∷ h 
     let p = opens_is v w k4.0 in
     let rest = cond (is_unit e f g h) (cond (is_low e f) m None) None in
     let made : escape (92 ∷ 117 ∷ a ∷ b ∷ c ∷ d ∷ 92 ∷ 117 ∷ e ∷ f ∷ g ∷ h ∷ []) ≡ Some n = ap (λ p. cond p (cond (is_high a b) rest None) None) k2.0 ∙ ap (λ p. cond p rest None) k3.0 ∙ k4.1 in
-    ap (λ z. read (z ∷ (y ∷ (a ∷ (b ∷ (c ∷ (d ∷ (v ∷ (w ∷ (e ∷ (f ∷ (g ∷ (h ∷ t)))))))))))) at (InString key acc [] q) u) o.0
-    ∙ ap (λ z. read (92 ∷ (z ∷ (a ∷ (b ∷ (c ∷ (d ∷ (v ∷ (w ∷ (e ∷ (f ∷ (g ∷ (h ∷ t)))))))))))) at (InString key acc [] q) u) o.1
-    ∙ ap (λ z. read (92 ∷ (117 ∷ (a ∷ (b ∷ (c ∷ (d ∷ (z ∷ (w ∷ (e ∷ (f ∷ (g ∷ (h ∷ t)))))))))))) at (InString key acc [] q) u) p.0
-    ∙ ap (λ z. read (92 ∷ (117 ∷ (a ∷ (b ∷ (c ∷ (d ∷ (92 ∷ (z ∷ (e ∷ (f ∷ (g ∷ (h ∷ t)))))))))))) at (InString key acc [] q) u) p.1
+    ap (λ z. judge (z ∷ (y ∷ (a ∷ (b ∷ (c ∷ (d ∷ (v ∷ (w ∷ (e ∷ (f ∷ (g ∷ (h ∷ t)))))))))))) at (InString key acc [] q) u) o.0
+    ∙ ap (λ z. judge (92 ∷ (z ∷ (a ∷ (b ∷ (c ∷ (d ∷ (v ∷ (w ∷ (e ∷ (f ∷ (g ∷ (h ∷ t)))))))))))) at (InString key acc [] q) u) o.1
+    ∙ ap (λ z. judge (92 ∷ (117 ∷ (a ∷ (b ∷ (c ∷ (d ∷ (z ∷ (w ∷ (e ∷ (f ∷ (g ∷ (h ∷ t)))))))))))) at (InString key acc [] q) u) p.0
+    ∙ ap (λ z. judge (92 ∷ (117 ∷ (a ∷ (b ∷ (c ∷ (d ∷ (92 ∷ (z ∷ (e ∷ (f ∷ (g ∷ (h ∷ t)))))))))))) at (InString key acc [] q) u) p.1
     ∙ pair_run a b c d e f g h t at key acc q u n made
 escape_run _ t at key acc q u n e = absurd (cc)
 
-character_run : (c : Character) (t : List ℕ) (at : ℕ) (key : Bool) (acc : List ℕ) (q : ℕ) (u : Unfinished) → IsCharacter c → read (c.spelling ++ t) at (InString key acc [] q) u ≡ read t (past at c.spelling) (InString key (acc ++ c.meaning) [] q) u
+character_run : (c : Character) (t : List ℕ) (at : ℕ) (key : Bool) (acc : List ℕ) (q : ℕ) (u : Unfinished) → IsCharacter c → judge (c.spelling ++ t) at (InString key acc [] q) u ≡ judge t (past at c.spelling) (InString key (acc ++ c.meaning) [] q) u
 character_run c t at key acc q u (inl (b, h, s, m)) =
-    ap (λ x. read (x ++ t) at (InString key acc [] q) u) s ∙ whole_step b t [] (b ∷ []) at key acc q u (plain_heard b h) ∙ ap (λ x. read t (past at x) (InString key (acc ++ (b ∷ [])) [] q) u) (sym s) ∙ ap (λ x. read t (past at c.spelling) (InString key (acc ++ x) [] q) u) (sym m)
+    ap (λ x. judge (x ++ t) at (InString key acc [] q) u) s ∙ whole_step b t [] (b ∷ []) at key acc q u (plain_heard b h) ∙ ap (λ x. judge t (past at x) (InString key (acc ++ (b ∷ [])) [] q) u) (sym s) ∙ ap (λ x. judge t (past at c.spelling) (InString key (acc ++ x) [] q) u) (sym m)
 character_run c t at key acc q u (inr (n, e, m)) =
-    escape_run c.spelling t at key acc q u n e ∙ ap (λ x. read t (past at c.spelling) (InString key (acc ++ x) [] q) u) (sym m)
+    escape_run c.spelling t at key acc q u n e ∙ ap (λ x. judge t (past at c.spelling) (InString key (acc ++ x) [] q) u) (sym m)
 
-characters_run : (cs : List Character) (t : List ℕ) (at : ℕ) (key : Bool) (acc : List ℕ) (q : ℕ) (u : Unfinished) → AreCharacters cs → read (spellings cs ++ t) at (InString key acc [] q) u ≡ read t (past at (spellings cs)) (InString key (acc ++ meanings cs) [] q) u
-characters_run [] t at key acc q u e = ap (λ s. read t at (InString key s [] q) u) (sym (append-nil acc))
+characters_run : (cs : List Character) (t : List ℕ) (at : ℕ) (key : Bool) (acc : List ℕ) (q : ℕ) (u : Unfinished) → AreCharacters cs → judge (spellings cs ++ t) at (InString key acc [] q) u ≡ judge t (past at (spellings cs)) (InString key (acc ++ meanings cs) [] q) u
+characters_run [] t at key acc q u e = ap (λ s. judge t at (InString key s [] q) u) (sym (append-nil acc))
 characters_run (c ∷ cs) t at key acc q u e =
-    ap (λ x. read x at (InString key acc [] q) u) (append_assoc c.spelling (spellings cs) t) ∙ character_run c (spellings cs ++ t) at key acc q u e.0
+    ap (λ x. judge x at (InString key acc [] q) u) (append_assoc c.spelling (spellings cs) t) ∙ character_run c (spellings cs ++ t) at key acc q u e.0
     ∙ characters_run cs t (past at c.spelling) key (acc ++ c.meaning) q u e.1
-    ∙ ap (λ n. read t n (InString key ((acc ++ c.meaning) ++ meanings cs) [] q) u) (sym (past-append at c.spelling (spellings cs)))
-    ∙ ap (λ x. read t (past at (c.spelling ++ spellings cs)) (InString key x [] q) u) (append_assoc acc c.meaning (meanings cs))
+    ∙ ap (λ n. judge t n (InString key ((acc ++ c.meaning) ++ meanings cs) [] q) u) (sym (past-append at c.spelling (spellings cs)))
+    ∙ ap (λ x. judge t (past at (c.spelling ++ spellings cs)) (InString key x [] q) u) (append_assoc acc c.meaning (meanings cs))
 
 -- characters are read as what they stand for
-pub chars_run : (k text t : List ℕ) (at : ℕ) (key : Bool) (acc : List ℕ) (q : ℕ) (u : Unfinished) → Chars k text → read (k ++ t) at (InString key acc [] q) u ≡ read t (past at k) (InString key (acc ++ text) [] q) u
+pub chars_run : (k text t : List ℕ) (at : ℕ) (key : Bool) (acc : List ℕ) (q : ℕ) (u : Unfinished) → Chars k text → judge (k ++ t) at (InString key acc [] q) u ≡ judge t (past at k) (InString key (acc ++ text) [] q) u
 chars_run k text t at key acc q u (cs, e, b, m) =
-    ap (λ x. read (x ++ t) at (InString key acc [] q) u) b ∙ characters_run cs t at key acc q u e ∙ ap (λ x. read t (past at x) (InString key (acc ++ meanings cs) [] q) u) (sym b) ∙ ap (λ x. read t (past at k) (InString key (acc ++ x) [] q) u) (sym m)
+    ap (λ x. judge (x ++ t) at (InString key acc [] q) u) b ∙ characters_run cs t at key acc q u e ∙ ap (λ x. judge t (past at x) (InString key (acc ++ meanings cs) [] q) u) (sym b) ∙ ap (λ x. judge t (past at k) (InString key (acc ++ x) [] q) u) (sym m)
+
+pub chars_read : (k text t : List ℕ) (at : ℕ) (key : Bool) (acc : List ℕ) (q : ℕ) (u : Unfinished) → Chars k text → read (k ++ t) at (InString key acc [] q) u ≡ read t (past at k) (InString key (acc ++ text) [] q) u
+chars_read k text t at key acc q u c = read_judge (k ++ t) at (InString key acc [] q) u ∙ ap given (chars_run k text t at key acc q u c) ∙ sym (read_judge t (past at k) (InString key (acc ++ text) [] q) u)
 
 pub no_chars : Chars [] []
 no_chars = ([], tt, refl, refl)
@@ -160,6 +164,16 @@ no_chars = ([], tt, refl, refl)
 -- a character in front
 pub chars_cons : (s m k text : List ℕ) → IsCharacter (record { spelling = s; meaning = m }) → Chars k text → Chars (s ++ k) (m ++ text)
 chars_cons s m k text c (cs, e, b, t) = (record { spelling = s; meaning = m } ∷ cs, (c, e), ap (λ x. s ++ x) b, ap (λ x. m ++ x) t)
+
+characters_join : (cs : List Character) (b y : List ℕ) → AreCharacters cs → Chars b y → Chars (spellings cs ++ b) (meanings cs ++ y)
+characters_join [] b y e h = h
+characters_join (c ∷ cs) b y e h =
+    let r = chars_cons c.spelling c.meaning (spellings cs ++ b) (meanings cs ++ y) e.0 (characters_join cs b y e.1 h) in
+    subst (λ s. Chars s ((c.meaning ++ meanings cs) ++ y)) (sym (append_assoc c.spelling (spellings cs) b)) (subst (λ s. Chars (c.spelling ++ (spellings cs ++ b)) s) (sym (append_assoc c.meaning (meanings cs) y)) r)
+
+-- characters in a row
+pub chars_join : (a x b y : List ℕ) → Chars a x → Chars b y → Chars (a ++ b) (x ++ y)
+chars_join a x b y (cs, e, s, m) h = subst (λ t. Chars (t ++ b) (x ++ y)) (sym s) (subst (λ t. Chars (spellings cs ++ b) (t ++ y)) (sym m) (characters_join cs b y e h))
 
 pub plain_chars : (bytes : List ℕ) → Each is_unescaped bytes → Chars bytes bytes
 plain_chars [] e = no_chars
@@ -175,7 +189,7 @@ Hears part b (Whole m) = IsCharacter (record { spelling = part ++ (b ∷ []); me
 quote_is : (b : ℕ) → nat_eq b 34 ≡ true → b ≡ 34
 quote_is b h = grind (arith, nat_tests)
 
-backslash_is : (b : ℕ) → nat_eq b 92 ≡ true → b ≡ 92
+pub backslash_is : (b : ℕ) → nat_eq b 92 ≡ true → b ≡ 92
 backslash_is b h = grind (arith, nat_tests)
 
 first_heard : (b : ℕ) (p q r : Bool) → nat_eq b 34 ≡ p → nat_eq b 92 ≡ q → is_unescaped b ≡ r → Hears [] b (cond p Closed (cond q (Part (92 ∷ [])) (cond r (Whole (b ∷ [])) Bad)))
@@ -193,20 +207,20 @@ pub hears : (part : List ℕ) (b : ℕ) → Hears part b (heard part b)
 hears [] b = first_heard b (nat_eq b 34) (nat_eq b 92) (is_unescaped b) refl refl refl
 hears (x ∷ part) b = later_heard (x ∷ part) b (escape (x ∷ (part ++ (b ∷ [])))) (may_escape (x ∷ (part ++ (b ∷ [])))) refl
 
--- an escape ends in a byte of ASCII
-hex_ascii : (b : ℕ) → is_hex b ≡ true → b < 128
-hex_ascii b h = grind (arith, nat_tests)
+-- an escape ends in a byte of ASCII that is no control
+hex_ascii : (b : ℕ) → is_hex b ≡ true → (31 < b) × (b < 128)
+hex_ascii b h = (grind (arith, nat_tests), grind (arith, nat_tests))
 
-short_ascii : (b n : ℕ) → short_escape b ≡ Some n → b < 128
-short_ascii b n h = grind (arith, nat_tests)
+short_ascii : (b n : ℕ) → short_escape b ≡ Some n → (31 < b) × (b < 128)
+short_ascii b n h = (grind (arith, nat_tests), grind (arith, nat_tests))
 
-unit_ascii : (a b c d : ℕ) (o : Option ℕ) (n : ℕ) → cond (is_unit a b c d) o None ≡ Some n → d < 128
+unit_ascii : (a b c d : ℕ) (o : Option ℕ) (n : ℕ) → cond (is_unit a b c d) o None ≡ Some n → (31 < d) × (d < 128)
 unit_ascii a b c d o n e = let x = if_some (is_unit a b c d) o n e in let h = hexes a b c d x.0 in hex_ascii d h.3
 
 none_some : (n : ℕ) → ◌≡◌ {A = Option ℕ} None (Some n) → ⊥
 none_some n e = cc
 
-pub last_ascii : (before : List ℕ) (b n : ℕ) → escape (before ++ (b ∷ [])) ≡ Some n → b < 128
+pub last_ascii : (before : List ℕ) (b n : ℕ) → escape (before ++ (b ∷ [])) ≡ Some n → (31 < b) × (b < 128)
 last_ascii (x ∷ []) b n e = let k = if_some (nat_eq x 92) (short_escape b) n e in short_ascii b n k.1
 last_ascii (x ∷ y ∷ a ∷ b ∷ c ∷ []) d n e =
     let k = if_some (opens_unit x y) (cond (is_unit a b c d) (cond (is_high a b || is_low a b) None (Some (unit a b c d))) None) n e in

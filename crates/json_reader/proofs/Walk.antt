@@ -14,20 +14,21 @@ use Rattle.doc_values.specs.Unfinished.{Unfinished, with_value, with_key}
 use Rattle.json_reader.specs.declared.bytes.Class.{Class}
 use Rattle.json_reader.specs.declared.bytes.Class.TheVariants.{Space, CloseList}
 use Rattle.json_reader.specs.declared.stage.Position.{Position}
-use Rattle.json_reader.specs.declared.refusal.JsonFault.{JsonFault}
-use Rattle.json_reader.specs.declared.refusal.JsonFault.TheVariants.{Syntax, DuplicateKey, NumberRange, TooDeep, NoMemory}
+use Rattle.json_reader.specs.declared.refusal.JsonRefusal.{JsonRefusal}
+use Rattle.json_reader.specs.declared.refusal.JsonRefusal.TheVariants.{Syntax, DuplicateKey, NumberRange, TooDeep, NoMemory}
 use Rattle.json_reader.specs.Json.{is_unescaped, escape, Each, past}
+use Rattle.json_reader.proofs.Spellings.{past-length}
 use Rattle.json_reader.proofs.Strings.{plain_heard, last_ascii}
 use Rattle.json_reader.specs.declared.number.NumberPart.{NumberPart}
-use Rattle.json_reader.proofs.Parts.{runs_first, runs_bytes, run_one}
+use Rattle.json_reader.proofs.Parts.{runs_bytes, run_one}
 use Rattle.doc_values.specs.Tree.{Forest}
-use Rattle.json_reader.specs.Reading.{class_of, is_number_byte, begins_number, Phase, AtValue, AtItemOrEnd, AtColon, After, InString, InWord, InNumber, Next, Stop, Go, Bad, Closed, Part, Whole, may_escape, escape_heard, heard, string_next, keyless, value_next, item_or_end_next, number_done, number_next, word_on, after_next, number_end, next, value_cause, string_cause, number_cause, cause, judged, ended, judge, from}
+use Rattle.json_reader.specs.Reading.{class_of, is_number_byte, begins_number, Phase, AtValue, AtItemOrEnd, AtColon, After, InString, InWord, InNumber, Next, Stop, Go, Bad, Closed, Part, Whole, may_escape, escape_heard, heard, string_next, keyless, value_next, item_or_end_next, word_on, next, value_cause, string_cause, number_cause, cause, judged, judge, from}
 use Rattle.json_reader.specs.Steps.{Reaches, Fails, is_mark, IsTextAt, Unclosed, Number, NoNumber, phase_of, Gives, Leads, IsPlain, kind_of}
 use Rattle.json_reader.specs.Refused.{refusal_of}
-use Rattle.json_reader.specs.Numbers.{number_kind, first_part, part_next, part_then, completes, run_parts}
+use Rattle.json_reader.specs.Numbers.{first_part, part_next, part_then, completes, run_parts}
 use Rattle.json_reader.proofs.NumberKinds.{known_whole, known_fraction, known_none}
 use Rattle.json_reader.proofs.NumberBytes.{number_ascii, begins_ascii}
-use Rattle.json_reader.proofs.Complete.{number_first}
+use Rattle.json_reader.proofs.NumberRuns.{number_first, number_same, NoMore, number_ends, number_fails}
 use Rattle.doc_values.specs.Number.{IsNumber}
 use Rattle.doc_values.specs.Decimal.{Decimal}
 use Rattle.doc_values.specs.declared.decimal.Num.{Num}
@@ -37,18 +38,6 @@ use Rattle.std.proofs.lemmas.List.{get_or-take}
 -- one byte
 pub from_one : (bytes : List ℕ) (i : ℕ) (p : Phase) (u : Unfinished) → i < length bytes → from bytes i p u ≡ judged (next i p u (get_or bytes i 0)) (cause i p (get_or bytes i 0)) (λ q w. from bytes (i + 1) q w)
 from_one bytes i p u h = ap (λ t. judge t i p u) (drop-cons bytes i 0 h) ∙ ap (λ n. judged (next i p u (get_or bytes i 0)) (cause i p (get_or bytes i 0)) (λ q w. judge (drop n bytes) n q w)) (sym (add-one i))
-
-Each-take-suc : (p : ℕ → Bool) (xs : List ℕ) (i : ℕ) → i < length xs → p (get_or xs i 0) ≡ true → Each p (take i xs) → Each p (take (suc i) xs)
-Each-take-suc p [] i h here e = tt
-Each-take-suc p (x ∷ xs) zero h here e = (here, tt)
-Each-take-suc p (x ∷ xs) (suc i) h here e = (e.0, Each-take-suc p xs i (omega arith) here e.1)
-
-pub Each-take : (p : ℕ → Bool) (xs : List ℕ) (i : ℕ) → i < length xs → p (get_or xs i 0) ≡ true → Each p (take i xs) → Each p (take (i + 1) xs)
-Each-take p xs i h here e = subst (λ n. Each p (take n xs)) (sym (add-one i)) (Each-take-suc p xs i h here e)
-
-pub past-length : (at : ℕ) (k : List ℕ) → past at k ≡ at + length k
-past-length at [] = omega arith
-past-length at (b ∷ k) = let h = past-length (suc at) k in omega arith
 
 drop_more : (i j : ℕ) (bytes : List ℕ) → drop j (drop i bytes) ≡ drop (i + j) bytes
 drop_more zero j bytes = let e : j ≡ 0 + j = omega arith in ap (λ n. drop n bytes) e
@@ -101,18 +90,21 @@ run_stops bytes i j text r l p q = (omega arith, λ key acc a u. r key acc a u �
 pub run_open : (bytes : List ℕ) (i j : ℕ) (text : List ℕ) → Reaches bytes i text j → length bytes ≤ j → j ≤ length bytes → Fails bytes i j
 run_open bytes i j text r l m = (m, λ key acc a u. r key acc a u ∙ ap (λ t. judge t j (InString key (acc ++ text) [] a) u) (drop_all j bytes l))
 
--- the run that `plain_len` found
-pub run_found : (bytes : List ℕ) (at len : ℕ) → at ≤ length bytes → len ≤ length (take (length bytes - at) (drop at bytes)) → Each is_unescaped (take len (take (length bytes - at) (drop at bytes))) → (at + len ≤ length bytes) × Reaches bytes at (take len (drop at bytes)) (at + len)
-run_found bytes at len w l e =
-    let r = ap (λ (t : List ℕ). length t) (rest_is bytes at) in
-    let place : at + len ≤ length bytes = omega (arith, length-drop at bytes) in
-    (place, run_reaches bytes at len place (subst (λ (t : List ℕ). Each is_unescaped (take len t)) (rest_is bytes at) e))
+-- bytes that pass a test one by one
+pub Each-below : (p : ℕ → Bool) (xs : List ℕ) (n : ℕ) → ((k : ℕ) → k < n → k < length xs → p (get_or xs k 0) ≡ true) → Each p (take n xs)
+Each-below p [] zero h = tt
+Each-below p [] (suc n) h = tt
+Each-below p (x ∷ xs) zero h = tt
+Each-below p (x ∷ xs) (suc n) h = (h 0 (omega arith) (omega arith), Each-below p xs n (λ k l m. h (suc k) (omega arith) (omega arith)))
 
-pub run_most : (bytes : List ℕ) (at len : ℕ) → at + len < length bytes → (len < length (take (length bytes - at) (drop at bytes)) → is_unescaped (get_or (take (length bytes - at) (drop at bytes)) len 0) ≡ false) → is_unescaped (get_or bytes (at + len) 0) ≡ false
-run_most bytes at len l h =
-    let r = ap (λ (t : List ℕ). length t) (rest_is bytes at) in
-    let here : get_or (take (length bytes - at) (drop at bytes)) len 0 ≡ get_or bytes (at + len) 0 = ap (λ (t : List ℕ). get_or t len 0) (rest_is bytes at) ∙ get_or-drop at bytes len 0 in
-    sym (ap is_unescaped here) ∙ h (omega (arith, length-drop at bytes))
+pub Each-between : (p : ℕ → Bool) (bytes : List ℕ) (at end : ℕ) → at ≤ end → end ≤ length bytes → ((k : ℕ) → at ≤ k → k < end → p (get_or bytes k 0) ≡ true) → Each p (take (end - at) (drop at bytes))
+Each-between p bytes at end l m h = Each-below p (drop at bytes) (end - at) (λ k i j. ap p (get_or-drop at bytes k 0) ∙ h (at + k) (omega arith) (omega arith))
+
+-- a run up to a place
+pub run_between : (bytes : List ℕ) (at end : ℕ) → at ≤ end → end ≤ length bytes → Each is_unescaped (take (end - at) (drop at bytes)) → Reaches bytes at (take (end - at) (drop at bytes)) end
+run_between bytes at end l m e =
+    let n : at + (end - at) ≡ end = omega arith in
+    subst (λ k. Reaches bytes at (take (end - at) (drop at bytes)) k) n (run_reaches bytes at (end - at) (omega arith) e)
 
 pub mark_is : (b : ℕ) → is_mark b ≡ true → (b ≡ 34 → ⊥) → b ≡ 92
 mark_is b h q = grind (arith, nat_tests)
@@ -177,53 +169,22 @@ escape_ascii bytes i end l m part pe n some =
     let before = take (end - i) (drop i bytes) in
     let e : end + 1 - 1 ≡ end = omega arith in
     let last : escape (before ++ (get_or bytes end 0 ∷ [])) ≡ Some n = ap escape (sym (pe ∙ part_grows bytes i end l m)) ∙ some in
-    subst (λ k. get_or bytes k 0 < 128) (sym e) (last_ascii before (get_or bytes end 0) n last)
+    subst (λ k. get_or bytes k 0 < 128) (sym e) (last_ascii before (get_or bytes end 0) n last).1
 
 -- a byte in a phase
 pub from_class : (bytes : List ℕ) (i : ℕ) (p q : Phase) (u w : Unfinished) → i < length bytes → next i p u (get_or bytes i 0) ≡ Go q w → from bytes i p u ≡ from bytes (i + 1) q w
 from_class bytes i p q u w l e = from_one bytes i p u l ∙ ap (λ n. judged n (cause i p (get_or bytes i 0)) (λ q w. from bytes (i + 1) q w)) e
 
 -- numbers
-number_same : (k t acc : List ℕ) (at a : ℕ) (q r : NumberPart) (u : Unfinished) → run_parts (Some q) k ≡ Some r → judge (k ++ t) at (InNumber q acc a) u ≡ judge t (past at k) (InNumber r (acc ++ k) a) u
-number_same [] t acc at a q r u e =
-    let same : q ≡ r = cc in
-    ap (λ q. judge t at (InNumber q acc a) u) same ∙ ap (λ s. judge t at (InNumber r s a) u) (sym (append-nil acc))
-number_same (b ∷ k) t acc at a q r u e =
-    let f = runs_first (part_next q b) k r e in
-    ap (λ o. judged (number_next o acc a u b) (number_cause at (completes q) (number_kind acc) a) (judge (k ++ t) (suc at))) f.1
-    ∙ number_same k t (acc ++ (b ∷ [])) (suc at) a f.0 r u (sym (ap (λ o. run_parts o k) f.1) ∙ e)
-    ∙ ap (λ s. judge t (past (suc at) k) (InNumber r s a) u) (append_assoc acc (b ∷ []) k)
-
 pub runs_more : (xs : List ℕ) (i : ℕ) (first p r : NumberPart) → i < length xs → run_parts (Some first) (take i xs) ≡ Some p → part_next p (get_or xs i 0) ≡ Some r → run_parts (Some first) (take (i + 1) xs) ≡ Some r
 runs_more xs i first p r l e n =
     ap (λ n. run_parts (Some first) (take n xs)) (add-one i) ∙ ap (λ t. run_parts (Some first) t) (take-suc xs i 0 l) ∙ run_one (Some first) (take i xs) (get_or xs i 0) ∙ ap (λ o. part_then o (get_or xs i 0)) e ∙ n
-
-abbrev NoMore : NumberPart → List ℕ → Type 0
-NoMore r [] = Unit {0}
-NoMore r (b ∷ t) = part_next r b ≡ None
 
 first_after : (r : NumberPart) (bytes : List ℕ) (i : ℕ) → (i < length bytes → part_next r (get_or bytes i 0) ≡ None) → NoMore r (drop i bytes)
 first_after r [] zero h = tt
 first_after r [] (suc i) h = tt
 first_after r (b ∷ bytes) zero h = h (omega arith)
 first_after r (b ∷ bytes) (suc i) h = first_after r bytes i (λ l. h (omega arith))
-
-number_known : (at : ℕ) (q : Bool) (k : Kind) (a : ℕ) → number_cause at q (Some k) a ≡ Syntax at
-number_known at true k a = refl
-number_known at false k a = refl
-
-number_ends : (t : List ℕ) (at : ℕ) (r : NumberPart) (text : List ℕ) (a : ℕ) (k : Kind) (u : Unfinished) → NoMore r t → number_kind text ≡ Some k → judge t at (InNumber r text a) u ≡ judge t at After (with_value k [] a u)
-number_ends [] at r text a k u d e = ap (λ o. ended (number_end o a u) (number_cause at (completes r) o a)) e ∙ ap (λ c. ended (number_end (Some k) a u) c) (number_known at (completes r) k a)
-number_ends (b ∷ t) at r text a k u d e =
-    ap (λ o. judged (number_next o text a u b) (number_cause at (completes r) (number_kind text) a) (judge t (suc at))) d
-    ∙ ap (λ o. judged (number_done o a u (λ w. after_next w (class_of b))) (number_cause at (completes r) o a) (judge t (suc at))) e
-    ∙ ap (λ c. judged (after_next (with_value k [] a u) (class_of b)) c (judge t (suc at))) (number_known at (completes r) k a)
-
-number_fails : (t : List ℕ) (at : ℕ) (r : NumberPart) (text : List ℕ) (a : ℕ) (u : Unfinished) → NoMore r t → number_kind text ≡ None → judge t at (InNumber r text a) u ≡ Err (number_cause at (completes r) None a)
-number_fails [] at r text a u d e = ap (λ o. ended (number_end o a u) (number_cause at (completes r) o a)) e
-number_fails (b ∷ t) at r text a u d e =
-    ap (λ o. judged (number_next o text a u b) (number_cause at (completes r) (number_kind text) a) (judge t (suc at))) d
-    ∙ ap (λ o. judged (number_done o a u (λ w. after_next w (class_of b))) (number_cause at (completes r) o a) (judge t (suc at))) e
 
 -- the bytes of a number text behind its first one
 pub record NumberRun (bytes : List ℕ) (at end : ℕ) (part : NumberPart) : Type 0 where
@@ -292,11 +253,11 @@ number_none bytes at end p q r c i u = r.same u ∙ number_fails (drop end bytes
 pub from_stop : (bytes : List ℕ) (i : ℕ) (p : Phase) (u : Unfinished) → i < length bytes → next i p u (get_or bytes i 0) ≡ Stop → from bytes i p u ≡ Err (cause i p (get_or bytes i 0))
 from_stop bytes i p u l e = from_one bytes i p u l ∙ ap (λ n. judged n (cause i p (get_or bytes i 0)) (λ q w. from bytes (i + 1) q w)) e
 
-pub from_cause : (bytes : List ℕ) (i : ℕ) (p : Phase) (u : Unfinished) (e : JsonFault) → i < length bytes → next i p u (get_or bytes i 0) ≡ Stop → cause i p (get_or bytes i 0) ≡ e → from bytes i p u ≡ Err e
+pub from_cause : (bytes : List ℕ) (i : ℕ) (p : Phase) (u : Unfinished) (e : JsonRefusal) → i < length bytes → next i p u (get_or bytes i 0) ≡ Stop → cause i p (get_or bytes i 0) ≡ e → from bytes i p u ≡ Err e
 from_cause bytes i p u e l s c = from_stop bytes i p u l s ∙ ap Err c
 
 -- one byte, taken as the next state says
-pub Gives-one : (bytes : List ℕ) (i : ℕ) (p : Phase) (u w : Unfinished) (n : Next) (why : JsonFault) (r : Result Position JsonFault) → i < length bytes → next i p u (get_or bytes i 0) ≡ n → cause i p (get_or bytes i 0) ≡ why → Leads i n why w r → Gives bytes i p u w r
+pub Gives-one : (bytes : List ℕ) (i : ℕ) (p : Phase) (u w : Unfinished) (n : Next) (why : JsonRefusal) (r : Result Position JsonRefusal) → i < length bytes → next i p u (get_or bytes i 0) ≡ n → cause i p (get_or bytes i 0) ≡ why → Leads i n why w r → Gives bytes i p u w r
 Gives-one bytes i p u w n why (Ok r) l e c (place, leads, fits) = (omega arith, omega arith, from_class bytes i p (phase_of r.stage) u w l (e ∙ leads) ∙ ap (λ k. from bytes k (phase_of r.stage) w) (sym place), fits)
 Gives-one bytes i p u w n why (Err NoMemory) l e c h = tt
 Gives-one bytes i p u w n why (Err (Syntax a)) l e c h = from_cause bytes i p u (Syntax a) l (e ∙ h.0) (c ∙ h.1)
@@ -305,14 +266,14 @@ Gives-one bytes i p u w n why (Err (NumberRange a)) l e c h = from_cause bytes i
 Gives-one bytes i p u w n why (Err (TooDeep a)) l e c h = from_cause bytes i p u (TooDeep a) l (e ∙ h.0) (c ∙ h.1)
 
 -- a refusal that reading gives
-pub gives_err : (bytes : List ℕ) (i : ℕ) (p : Phase) (u w : Unfinished) (e : JsonFault) → from bytes i p u ≡ Err e → Gives bytes i p u w (Err e)
+pub gives_err : (bytes : List ℕ) (i : ℕ) (p : Phase) (u w : Unfinished) (e : JsonRefusal) → from bytes i p u ≡ Err e → Gives bytes i p u w (Err e)
 gives_err bytes i p u w NoMemory h = tt
 gives_err bytes i p u w (Syntax a) h = h
 gives_err bytes i p u w (DuplicateKey a) h = h
 gives_err bytes i p u w (NumberRange a) h = h
 gives_err bytes i p u w (TooDeep a) h = h
 
-pub err_gives : (bytes : List ℕ) (i : ℕ) (p : Phase) (u w : Unfinished) (e : JsonFault) → Gives bytes i p u w (Err e) → (e ≡ NoMemory → ⊥) → from bytes i p u ≡ Err e
+pub err_gives : (bytes : List ℕ) (i : ℕ) (p : Phase) (u w : Unfinished) (e : JsonRefusal) → Gives bytes i p u w (Err e) → (e ≡ NoMemory → ⊥) → from bytes i p u ≡ Err e
 err_gives bytes i p u w NoMemory h n = absurd (n refl)
 err_gives bytes i p u w (Syntax a) h n = h
 err_gives bytes i p u w (DuplicateKey a) h n = h
@@ -338,11 +299,11 @@ keyless_same : (u : Unfinished) → u.key ≡ None → keyless u ≡ u
 keyless_same u e = ap (λ (k : Option (List ℕ)). record { outer = u.outer; done = u.done; key = k }) (sym e)
 
 -- what is read behind a part of a literal name
-abbrev pub word_rest : List ℕ → List ℕ → ℕ → Kind → ℕ → Unfinished → Result Forest JsonFault
+abbrev pub word_rest : List ℕ → List ℕ → ℕ → Kind → ℕ → Unfinished → Result Forest JsonRefusal
 word_rest bytes [] j word a u = from bytes j After (with_value word [] a u)
 word_rest bytes (c ∷ rest) j word a u = from bytes j (InWord (c ∷ rest) word a) u
 
-word_on_reads : (bytes rest : List ℕ) (j : ℕ) (word : Kind) (a : ℕ) (u : Unfinished) (e : JsonFault) → judged (word_on rest word a u) e (λ q w. from bytes j q w) ≡ word_rest bytes rest j word a u
+word_on_reads : (bytes rest : List ℕ) (j : ℕ) (word : Kind) (a : ℕ) (u : Unfinished) (e : JsonRefusal) → judged (word_on rest word a u) e (λ q w. from bytes j q w) ≡ word_rest bytes rest j word a u
 word_on_reads bytes [] j word a u e = refl
 word_on_reads bytes (c ∷ rest) j word a u e = refl
 
@@ -386,7 +347,7 @@ item_class Space at u b k s e = absurd (s refl)
 item_class CloseList at u b k s e = absurd (e refl)
 item_class c at u b k s e = ap (λ w. value_next at w b c) (keyless_same u k)
 
-Gives_from : (bytes : List ℕ) (i : ℕ) (p q : Phase) (u w : Unfinished) (r : Result Position JsonFault) → from bytes i p u ≡ from bytes i q u → Gives bytes i q u w r → Gives bytes i p u w r
+Gives_from : (bytes : List ℕ) (i : ℕ) (p q : Phase) (u w : Unfinished) (r : Result Position JsonRefusal) → from bytes i p u ≡ from bytes i q u → Gives bytes i q u w r → Gives bytes i p u w r
 Gives_from bytes i p q u w (Ok r) e (a, b, f, g) = (a, b, e ∙ f, g)
 Gives_from bytes i p q u w (Err NoMemory) e h = tt
 Gives_from bytes i p q u w (Err (Syntax a)) e h = e ∙ h
@@ -394,5 +355,5 @@ Gives_from bytes i p q u w (Err (DuplicateKey a)) e h = e ∙ h
 Gives_from bytes i p q u w (Err (NumberRange a)) e h = e ∙ h
 Gives_from bytes i p q u w (Err (TooDeep a)) e h = e ∙ h
 
-pub item_gives : (bytes : List ℕ) (i : ℕ) (u w : Unfinished) (r : Result Position JsonFault) → i < length bytes → u.key ≡ None → (class_of (get_or bytes i 0) ≡ Space → ⊥) → (class_of (get_or bytes i 0) ≡ CloseList → ⊥) → Gives bytes i AtValue u w r → Gives bytes i AtItemOrEnd u w r
+pub item_gives : (bytes : List ℕ) (i : ℕ) (u w : Unfinished) (r : Result Position JsonRefusal) → i < length bytes → u.key ≡ None → (class_of (get_or bytes i 0) ≡ Space → ⊥) → (class_of (get_or bytes i 0) ≡ CloseList → ⊥) → Gives bytes i AtValue u w r → Gives bytes i AtItemOrEnd u w r
 item_gives bytes i u w r l k s e h = Gives_from bytes i AtItemOrEnd AtValue u w r (from_one bytes i AtItemOrEnd u l ∙ ap (λ n. judged n (value_cause i (class_of (get_or bytes i 0))) (λ q w. from bytes (i + 1) q w)) (item_class (class_of (get_or bytes i 0)) i u (get_or bytes i 0) k s e) ∙ sym (from_one bytes i AtValue u l)) h

@@ -4,4 +4,3 @@ pub mod Steps
 pub mod Refused
 pub mod Numbers
 pub mod Refusals
-pub mod PlainJson

@@ -1,5 +1,5 @@
--- Number texts as a function on lists: the value of a number text in range, or none, and the
--- parts that its bytes go through, by which a refusal is named. That it gives exactly the values of `Json` is proved.
+-- Number texts as a function on lists: the value of a number text in range, or none, and the parts that its bytes go through.
+-- No public clause names this file: that it gives exactly the values of `Json` is proved.
 use Rattle.std.specs.Prelude.{ℕ, zero, suc, ◌/◌, ◌%◌, ℤ, pos, negsuc, ◌+ℤ◌, ◌-ℤ◌, unsigned_abs, Bool, true, false, ◌&&◌, ◌||◌, not, List, [], ◌∷◌, ◌++◌, length, Option, Some, None, nat_lt, nat_le, nat_eq, if◌then◌else◌}
 use Rattle.doc_values.specs.declared.kind.Kind.{Kind}
 use Rattle.doc_values.specs.declared.kind.Kind.TheVariants as kind

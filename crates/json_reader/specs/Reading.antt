@@ -1,5 +1,5 @@
--- Reading as a function on lists: a byte, a phase and an unfinished tree give the next, or the reading stops. Public clauses
--- name `verdict` alone, for the names and places of refusals: that reading gives exactly the trees of `Json` is proved.
+-- Reading as a function on lists: a byte, a phase and an unfinished tree give the next, or the reading stops. No public
+-- clause names this file: that it gives exactly the trees of `Json` and the refusals of `Refusals` is proved.
 use Rattle.std.specs.Prelude.{ℕ, suc, Bool, true, false, ◌&&◌, ◌||◌, not, List, [], ◌∷◌, ◌++◌, length, drop, encode_utf8, Option, Some, None, Result, Ok, Err, nat_lt, nat_eq, if◌then◌else◌}
 use Rattle.std.specs.List.{starts_with}
 use Rattle.doc_values.specs.declared.kind.Kind.{Kind}
@@ -10,8 +10,8 @@ use Rattle.doc_values.specs.Number.{is_digit}
 use Rattle.json_reader.specs.declared.bytes.Class.{Class}
 use Rattle.json_reader.specs.declared.bytes.Class.TheVariants.{Space, Quote, Open, Close, OpenList, CloseList, Colon, Comma, Minus, Zero, Digit, LetterN, LetterT, LetterF, Other}
 use Rattle.json_reader.specs.declared.number.NumberPart.{NumberPart}
-use Rattle.json_reader.specs.declared.refusal.JsonFault.{JsonFault}
-use Rattle.json_reader.specs.declared.refusal.JsonFault.TheVariants.{Syntax, DuplicateKey, NumberRange, TooDeep}
+use Rattle.json_reader.specs.declared.refusal.JsonRefusal.{JsonRefusal}
+use Rattle.json_reader.specs.declared.refusal.JsonRefusal.TheVariants.{Syntax, DuplicateKey, NumberRange, TooDeep}
 use Rattle.json_reader.specs.Numbers.{number_kind, first_part, part_next, completes}
 use Rattle.json_reader.specs.Json.{is_space, is_unescaped, is_hex, hex, is_high, is_low, escape, byte_order_mark}
 
@@ -224,21 +224,21 @@ abbrev pub mark_len : List ℕ → ℕ
 mark_len bytes = if starts_with nat_eq bytes byte_order_mark then 3 else 0
 
 -- why a byte stops reading, where it does: where a value is awaited, in a string, and in or behind a number text
-abbrev pub value_cause : ℕ → Class → JsonFault
+abbrev pub value_cause : ℕ → Class → JsonRefusal
 value_cause at Open = TooDeep at
 value_cause at OpenList = TooDeep at
 value_cause at _ = Syntax at
 
-abbrev pub string_cause : ℕ → Heard → ℕ → JsonFault
+abbrev pub string_cause : ℕ → Heard → ℕ → JsonRefusal
 string_cause at Closed a = DuplicateKey a
 string_cause at _ a = Syntax at
 
-abbrev pub number_cause : ℕ → Bool → Option Kind → ℕ → JsonFault
+abbrev pub number_cause : ℕ → Bool → Option Kind → ℕ → JsonRefusal
 number_cause at true None a = NumberRange a
 number_cause at _ _ a = Syntax at
 
 -- why a byte at a place stops reading, in any phase
-abbrev pub cause : ℕ → Phase → ℕ → JsonFault
+abbrev pub cause : ℕ → Phase → ℕ → JsonRefusal
 cause at AtValue b = value_cause at (class_of b)
 cause at AtItemOrEnd b = value_cause at (class_of b)
 cause at (InString key t part a) b = string_cause at (heard part b) a
@@ -246,26 +246,26 @@ cause at (InNumber q t a) b = number_cause at (completes q) (number_kind t) a
 cause at _ b = Syntax at
 
 -- why the end of the text does
-abbrev pub final_cause : ℕ → Phase → JsonFault
+abbrev pub final_cause : ℕ → Phase → JsonRefusal
 final_cause at (InNumber q t a) = number_cause at (completes q) (number_kind t) a
 final_cause at _ = Syntax at
 
 -- the rest, or the cause of the stop
-abbrev pub judged : Next → JsonFault → (Phase → Unfinished → Result Forest JsonFault) → Result Forest JsonFault
+abbrev pub judged : Next → JsonRefusal → (Phase → Unfinished → Result Forest JsonRefusal) → Result Forest JsonRefusal
 judged Stop e f = Err e
 judged (Go p u) e f = f p u
 
-abbrev pub ended : Option Forest → JsonFault → Result Forest JsonFault
+abbrev pub ended : Option Forest → JsonRefusal → Result Forest JsonRefusal
 ended (Some v) e = Ok v
 ended None e = Err e
 
 -- the tree that bytes from a place on complete, or why reading stops, and where
-abbrev pub judge : List ℕ → ℕ → Phase → Unfinished → Result Forest JsonFault
+abbrev pub judge : List ℕ → ℕ → Phase → Unfinished → Result Forest JsonRefusal
 judge [] at p u = ended (final p u) (final_cause at p)
 judge (b ∷ bs) at p u = judged (next at p u b) (cause at p b) (judge bs (suc at))
 
 -- what reading gives from a place on
-abbrev pub from : List ℕ → ℕ → Phase → Unfinished → Result Forest JsonFault
+abbrev pub from : List ℕ → ℕ → Phase → Unfinished → Result Forest JsonRefusal
 from bytes i p u = judge (drop i bytes) i p u
 
 -- the tree of a text, or none
@@ -279,10 +279,10 @@ mark_stop bytes =
     (if starts_with nat_eq bytes (239 ∷ 187 ∷ []) then Some 2 else
     (if starts_with nat_eq bytes (239 ∷ []) then Some 1 else None))
 
-abbrev pub behind_mark : List ℕ → Option ℕ → Result Forest JsonFault
+abbrev pub behind_mark : List ℕ → Option ℕ → Result Forest JsonRefusal
 behind_mark bytes None = from bytes (mark_len bytes) AtValue start
 behind_mark bytes (Some n) = Err (Syntax n)
 
 -- the tree of a text, or why it has none
-abbrev pub verdict : List ℕ → Result Forest JsonFault
+abbrev pub verdict : List ℕ → Result Forest JsonRefusal
 verdict bytes = behind_mark bytes (mark_stop bytes)

@@ -10,8 +10,8 @@ use Rattle.doc_values.specs.Unfinished.{Level, Unfinished, with_value, with_end,
 use Rattle.json_reader.specs.declared.stage.Stage.{Stage}
 use Rattle.json_reader.specs.declared.stage.Stage.TheVariants as stage
 use Rattle.json_reader.specs.declared.stage.Position.{Position}
-use Rattle.json_reader.specs.declared.refusal.JsonFault.{JsonFault}
-use Rattle.json_reader.specs.declared.refusal.JsonFault.TheVariants.{Syntax, DuplicateKey, NoMemory}
+use Rattle.json_reader.specs.declared.refusal.JsonRefusal.{JsonRefusal}
+use Rattle.json_reader.specs.declared.refusal.JsonRefusal.TheVariants.{Syntax, DuplicateKey, NoMemory}
 use Rattle.json_reader.specs.Json.{short_escape, is_unit, unit, is_high, is_low, opens_unit}
 use Rattle.json_reader.specs.Reading.{Phase, AtValue, AtKeyOrEnd, AtItemOrEnd, AtKey, AtColon, After, InString, Next, Stop, Go, string_end, judged, value_next, by_form, from}
 
@@ -53,13 +53,13 @@ phase_of stage.Colon = AtColon
 phase_of stage.After = After
 
 -- A part went on to a later place: what reading gives from the one is what it gives from the other.
-abbrev pub Gives : List ℕ → ℕ → Phase → Unfinished → Unfinished → Result Position JsonFault → Type 0
+abbrev pub Gives : List ℕ → ℕ → Phase → Unfinished → Unfinished → Result Position JsonRefusal → Type 0
 Gives bytes i p u w (Ok r) = (i < r.at) × (r.at ≤ length bytes) × (from bytes i p u ≡ from bytes r.at (phase_of r.stage) w) × Fits r.stage w
 Gives bytes i p u w (Err NoMemory) = Unit {0}
 Gives bytes i p u w (Err e) = from bytes i p u ≡ Err e
 
 -- a part took the byte at a place, as the next state says
-abbrev pub Leads : ℕ → Next → JsonFault → Unfinished → Result Position JsonFault → Type 0
+abbrev pub Leads : ℕ → Next → JsonRefusal → Unfinished → Result Position JsonRefusal → Type 0
 Leads i n why w (Ok r) = (r.at ≡ i + 1) × (n ≡ Go (phase_of r.stage) w) × Fits r.stage w
 Leads i n why w (Err NoMemory) = Unit {0}
 Leads i n why w (Err e) = (n ≡ Stop) × (why ≡ e)
@@ -125,5 +125,5 @@ abbrev pub Number : List ℕ → ℕ → Kind → ℕ → Type 0
 Number bytes i k end = (u : Unfinished) → from bytes i AtValue u ≡ from bytes end After (with_value k [] i u)
 
 -- none does, and why
-abbrev pub NoNumber : List ℕ → ℕ → JsonFault → Type 0
+abbrev pub NoNumber : List ℕ → ℕ → JsonRefusal → Type 0
 NoNumber bytes i e = (u : Unfinished) → from bytes i AtValue u ≡ Err e

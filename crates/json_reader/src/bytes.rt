@@ -1,6 +1,5 @@
 //! Classes of bytes.
 ghost use Rattle.std.specs.Prelude.{◌≡◌};
-ghost use Rattle.json_reader.specs.Json.{is_unescaped};
 ghost use Rattle.json_reader.specs.Reading.{class_of, mark_len, mark_stop};
 
 /// What a byte is, outside texts.
@@ -44,13 +43,6 @@ pub(crate) fn byte_class(byte: u8) -> Class
         b'1'..=b'9' => Class::Digit,
         _ => Class::Other,
     }
-}
-
-/// Whether a byte of a text stands for itself.
-pub(crate) fn is_plain(byte: u8) -> bool
-    ensures { result ≡ is_unescaped byte }
-{
-    byte >= 0x20 && byte != b'"' && byte != b'\\'
 }
 
 /// How many bytes of a byte order mark stand in front.

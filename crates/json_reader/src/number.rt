@@ -5,7 +5,7 @@ ghost use Rattle.json_reader.specs.Numbers.{first_part, part_next, by_exponent, 
 ghost use Rattle.json_reader.specs.Reading.{begins_number};
 ghost use Rattle.json_reader.specs.Steps.{Number, NoNumber, IsPlain, kind_of};
 
-use crate::refusal::JsonFault;
+use crate::refusal::JsonRefusal;
 use doc_values::{Kind, Num, read_number};
 
 /// What the last byte of a number text that may go on is.
@@ -118,7 +118,7 @@ fn kind_of(number: Num) -> Kind
 }
 
 /// The number at a place, and the place behind it; a refusal where its bytes are no number text, or it is out of range.
-pub(crate) fn number_at(text: &str, at: usize) -> Result<(Kind, usize), JsonFault>
+pub(crate) fn number_at(text: &str, at: usize) -> Result<(Kind, usize), JsonRefusal>
     requires within { at < length text.now }
     requires small { length text.now ≤ 8388608 }
     requires begins { begins_number (slice_index text.now at) ≡ true }
@@ -131,9 +131,9 @@ pub(crate) fn number_at(text: &str, at: usize) -> Result<(Kind, usize), JsonFaul
         Some(number) => Ok((kind_of(number), end)),
         None => {
             if completes(part) {
-                Err(JsonFault::NumberRange(at as u32))
+                Err(JsonRefusal::NumberRange(at as u32))
             } else {
-                Err(JsonFault::Syntax(end as u32))
+                Err(JsonRefusal::Syntax(end as u32))
             }
         }
     }

@@ -5,14 +5,16 @@ use thiserror::Error;
 
 /// Why a text is refused.
 #[derive(Clone, Copy, Debug, PartialEq, Eq, Error)]
-pub enum JsonFault {
-    /// No JSON text begins with the bytes up to and with this place, or the text ends too early, where it is the length.
+pub enum JsonRefusal {
+    /// No text of JSON's grammar, whatever its keys, numbers and depth, begins with the bytes up to and with this place,
+    /// the least such one; where there is none the text ends too early, and it is its length. It comes where none of the
+    /// refusals below counts.
     #[error("no JSON text goes on like this at byte {0}")]
     Syntax(u32),
-    /// A key that an entry of the same map has already; the place of its opening quotation mark.
+    /// A complete key that an entry of the same map has already, after decoding; the place of its opening quotation mark.
     #[error("a key comes again at byte {0}")]
     DuplicateKey(u32),
-    /// A number beyond the range; the place of its first byte.
+    /// A complete number text beyond the range, whatever stands behind it; the place of its first byte.
     #[error("the number at byte {0} is out of range")]
     NumberRange(u32),
     /// A collection in 128 others; the place of its opening bracket.
@@ -23,28 +25,28 @@ pub enum JsonFault {
     NoMemory,
 }
 
-impl From<BuildRefusal> for JsonFault {
+impl From<BuildRefusal> for JsonRefusal {
     ghost use Rattle.std.specs.Prelude.{◌≡◌};
     ghost use Rattle.json_reader.specs.Refused.{refusal_of};
 
     ghost from_gives = { λ r e. e ≡ refusal_of r };
 
-    fn from(refusal: BuildRefusal) -> JsonFault {
+    fn from(refusal: BuildRefusal) -> JsonRefusal {
         match refusal {
-            BuildRefusal::NoMemory => JsonFault::NoMemory,
-            BuildRefusal::TooDeep(at) => JsonFault::TooDeep(at),
-            BuildRefusal::DuplicateKey(at) => JsonFault::DuplicateKey(at),
+            BuildRefusal::NoMemory => JsonRefusal::NoMemory,
+            BuildRefusal::TooDeep(at) => JsonRefusal::TooDeep(at),
+            BuildRefusal::DuplicateKey(at) => JsonRefusal::DuplicateKey(at),
         }
     }
 }
 
-impl From<AllocError> for JsonFault {
+impl From<AllocError> for JsonRefusal {
     ghost use Rattle.std.specs.Prelude.{◌≡◌};
-    ghost use Rattle.json_reader.specs.declared.refusal.JsonFault.TheVariants.{NoMemory};
+    ghost use Rattle.json_reader.specs.declared.refusal.JsonRefusal.TheVariants.{NoMemory};
 
     ghost from_gives = { λ _ e. e ≡ NoMemory };
 
-    fn from(_: AllocError) -> JsonFault {
-        JsonFault::NoMemory
+    fn from(_: AllocError) -> JsonRefusal {
+        JsonRefusal::NoMemory
     }
 }

@@ -6,11 +6,10 @@ ghost use Rattle.json_reader.specs.Steps.{Gives, Leads, Fits, IsRooted, IsPlain,
 
 use crate::bytes::{Class, byte_class};
 use crate::number::number_at;
-use crate::refusal::JsonFault;
+use crate::refusal::JsonRefusal;
 use crate::stage::{Position, Stage};
-use crate::text::text_at;
+use crate::text::{Texts, text_at};
 use doc_values::{DocBuilder, Kind};
-use std::alloc::Global;
 use std::borrow::CowStr;
 
 /// An offset in a text of at most 8 MiB.
@@ -23,11 +22,11 @@ fn offset(i: usize) -> u32
 
 /// The next token, whatever is awaited.
 pub(crate) fn step<'s>(
-    alloc: Global,
+    texts: &Texts,
     text: &'s str,
     position: Position,
     builder: &mut DocBuilder<'s>,
-) -> Result<Position, JsonFault>
+) -> Result<Position, JsonRefusal>
     requires within { position.at < length text.now }
     requires small { length text.now ≤ 8388608 }
     requires fits { Fits position.stage builder.old }
@@ -35,10 +34,10 @@ pub(crate) fn step<'s>(
 {
     let at = position.at;
     match position.stage {
-        Stage::Value => value_step(alloc, text, at, builder),
-        Stage::KeyOrEnd => key_or_end_step(alloc, text, at, builder),
-        Stage::ItemOrEnd => item_or_end_step(alloc, text, at, builder),
-        Stage::Key => next_key_step(alloc, text, at, builder),
+        Stage::Value => value_step(texts, text, at, builder),
+        Stage::KeyOrEnd => key_or_end_step(texts, text, at, builder),
+        Stage::ItemOrEnd => item_or_end_step(texts, text, at, builder),
+        Stage::Key => next_key_step(texts, text, at, builder),
         Stage::Colon => colon_step(text, at, builder),
         Stage::After => after_step(text, at, builder),
     }
@@ -46,11 +45,11 @@ pub(crate) fn step<'s>(
 
 /// Where a value is awaited.
 fn value_step<'s>(
-    alloc: Global,
+    texts: &Texts,
     text: &'s str,
     at: usize,
     builder: &mut DocBuilder<'s>,
-) -> Result<Position, JsonFault>
+) -> Result<Position, JsonRefusal>
     requires within { at < length text.now }
     requires small { length text.now ≤ 8388608 }
     requires fits { Fits Stage.Value builder.old }
@@ -62,24 +61,24 @@ fn value_step<'s>(
             at: at + 1,
             stage: Stage::Value,
         }),
-        Class::Quote => text_step(alloc, text, at, builder),
+        Class::Quote => text_step(texts, text, at, builder),
         Class::Open => open_step(at, true, builder),
         Class::OpenList => open_step(at, false, builder),
         Class::LetterN => word_step(bytes, at, b"ull", Kind::Null, builder),
         Class::LetterT => word_step(bytes, at, b"rue", Kind::Truth(true), builder),
         Class::LetterF => word_step(bytes, at, b"alse", Kind::Truth(false), builder),
         Class::Minus | Class::Zero | Class::Digit => number_step(text, at, builder),
-        _ => Err(JsonFault::Syntax(offset(at))),
+        _ => Err(JsonRefusal::Syntax(offset(at))),
     }
 }
 
 /// Behind the opening bracket of a map.
 fn key_or_end_step<'s>(
-    alloc: Global,
+    texts: &Texts,
     text: &'s str,
     at: usize,
     builder: &mut DocBuilder<'s>,
-) -> Result<Position, JsonFault>
+) -> Result<Position, JsonRefusal>
     requires within { at < length text.now }
     requires small { length text.now ≤ 8388608 }
     requires fits { Fits Stage.KeyOrEnd builder.old }
@@ -90,19 +89,19 @@ fn key_or_end_step<'s>(
             at: at + 1,
             stage: Stage::KeyOrEnd,
         }),
-        Class::Quote => key_step(alloc, text, at, builder),
+        Class::Quote => key_step(texts, text, at, builder),
         Class::Close => end_step(at, true, builder),
-        _ => Err(JsonFault::Syntax(offset(at))),
+        _ => Err(JsonRefusal::Syntax(offset(at))),
     }
 }
 
 /// Behind the opening bracket of a list.
 fn item_or_end_step<'s>(
-    alloc: Global,
+    texts: &Texts,
     text: &'s str,
     at: usize,
     builder: &mut DocBuilder<'s>,
-) -> Result<Position, JsonFault>
+) -> Result<Position, JsonRefusal>
     requires within { at < length text.now }
     requires small { length text.now ≤ 8388608 }
     requires fits { Fits Stage.ItemOrEnd builder.old }
@@ -114,17 +113,17 @@ fn item_or_end_step<'s>(
             stage: Stage::ItemOrEnd,
         }),
         Class::CloseList => end_step(at, false, builder),
-        _ => value_step(alloc, text, at, builder),
+        _ => value_step(texts, text, at, builder),
     }
 }
 
 /// Behind a comma in a map.
 fn next_key_step<'s>(
-    alloc: Global,
+    texts: &Texts,
     text: &'s str,
     at: usize,
     builder: &mut DocBuilder<'s>,
-) -> Result<Position, JsonFault>
+) -> Result<Position, JsonRefusal>
     requires within { at < length text.now }
     requires small { length text.now ≤ 8388608 }
     requires fits { Fits Stage.Key builder.old }
@@ -135,13 +134,13 @@ fn next_key_step<'s>(
             at: at + 1,
             stage: Stage::Key,
         }),
-        Class::Quote => key_step(alloc, text, at, builder),
-        _ => Err(JsonFault::Syntax(offset(at))),
+        Class::Quote => key_step(texts, text, at, builder),
+        _ => Err(JsonRefusal::Syntax(offset(at))),
     }
 }
 
 /// Behind a key.
-fn colon_step(text: &str, at: usize, builder: &DocBuilder) -> Result<Position, JsonFault>
+fn colon_step(text: &str, at: usize, builder: &DocBuilder) -> Result<Position, JsonRefusal>
     requires within { at < length text.now }
     requires small { length text.now ≤ 8388608 }
     requires fits { Fits Stage.Colon builder.now }
@@ -156,12 +155,12 @@ fn colon_step(text: &str, at: usize, builder: &DocBuilder) -> Result<Position, J
             at: at + 1,
             stage: Stage::Value,
         }),
-        _ => Err(JsonFault::Syntax(offset(at))),
+        _ => Err(JsonRefusal::Syntax(offset(at))),
     }
 }
 
 /// Behind a value.
-fn after_step(text: &str, at: usize, builder: &mut DocBuilder) -> Result<Position, JsonFault>
+fn after_step(text: &str, at: usize, builder: &mut DocBuilder) -> Result<Position, JsonRefusal>
     requires within { at < length text.now }
     requires small { length text.now ≤ 8388608 }
     requires fits { Fits Stage.After builder.old }
@@ -175,24 +174,24 @@ fn after_step(text: &str, at: usize, builder: &mut DocBuilder) -> Result<Positio
         Class::Comma => comma_step(at, builder),
         Class::Close => end_step(at, true, builder),
         Class::CloseList => end_step(at, false, builder),
-        _ => Err(JsonFault::Syntax(offset(at))),
+        _ => Err(JsonRefusal::Syntax(offset(at))),
     }
 }
 
 /// A text is a value.
 fn text_step<'s>(
-    alloc: Global,
+    texts: &Texts,
     text: &'s str,
     at: usize,
     builder: &mut DocBuilder<'s>,
-) -> Result<Position, JsonFault>
+) -> Result<Position, JsonRefusal>
     requires within { at < length text.now }
     requires small { length text.now ≤ 8388608 }
     requires quote { slice_index text.now at ≡ 34 }
     requires fits { Fits Stage.Value builder.old }
     ensures { Gives text.now (at + 1) (InString false [] [] at) builder.old builder.new result }
 {
-    match text_at(alloc, text, at + 1) {
+    match text_at(texts, text, at + 1) {
         Err(refusal) => Err(refusal),
         Ok((content, end)) => {
             builder.scalar(Kind::Text, content, offset(at))?;
@@ -206,31 +205,31 @@ fn text_step<'s>(
 
 /// A text is a key.
 fn key_step<'s>(
-    alloc: Global,
+    texts: &Texts,
     text: &'s str,
     at: usize,
     builder: &mut DocBuilder<'s>,
-) -> Result<Position, JsonFault>
+) -> Result<Position, JsonRefusal>
     requires within { at < length text.now }
     requires small { length text.now ≤ 8388608 }
     requires quote { slice_index text.now at ≡ 34 }
     requires fits { Fits Stage.Key builder.old }
     ensures { Gives text.now (at + 1) (InString true [] [] at) builder.old builder.new result }
 {
-    match text_at(alloc, text, at + 1) {
+    match text_at(texts, text, at + 1) {
         Err(refusal) => Err(refusal),
         Ok((content, end)) => match builder.key(content, offset(at)) {
             Ok(()) => Ok(Position {
                 at: end,
                 stage: Stage::Colon,
             }),
-            Err(refusal) => Err(JsonFault::from(refusal)),
+            Err(refusal) => Err(JsonRefusal::from(refusal)),
         },
     }
 }
 
 /// The number at a place is a value.
-fn number_step(text: &str, at: usize, builder: &mut DocBuilder) -> Result<Position, JsonFault>
+fn number_step(text: &str, at: usize, builder: &mut DocBuilder) -> Result<Position, JsonRefusal>
     requires within { at < length text.now }
     requires small { length text.now ≤ 8388608 }
     requires begins { begins_number (slice_index text.now at) ≡ true }
@@ -256,7 +255,7 @@ fn word_step(
     rest: &[u8],
     kind: Kind,
     builder: &mut DocBuilder,
-) -> Result<Position, JsonFault>
+) -> Result<Position, JsonRefusal>
     requires within { at < length bytes.now }
     requires small { length bytes.now ≤ 8388608 }
     requires some { 0 < length rest.now }
@@ -267,10 +266,10 @@ fn word_step(
     for (i, byte) in rest.iter().enumerate() {
         let place = at + 1 + i;
         if place == bytes.len() {
-            return Err(JsonFault::Syntax(offset(place)));
+            return Err(JsonRefusal::Syntax(offset(place)));
         }
         if bytes[place] != *byte {
-            return Err(JsonFault::Syntax(offset(place)));
+            return Err(JsonRefusal::Syntax(offset(place)));
         }
     }
     builder.scalar(kind, CowStr::Borrowed(""), offset(at))?;
@@ -281,10 +280,10 @@ fn word_step(
 }
 
 /// A map or a list begins.
-fn open_step(at: usize, map: bool, builder: &mut DocBuilder) -> Result<Position, JsonFault>
+fn open_step(at: usize, map: bool, builder: &mut DocBuilder) -> Result<Position, JsonRefusal>
     requires small { at < 8388608 }
     requires fits { Fits Stage.Value builder.old }
-    ensures { Leads at (open_next map at builder.old) (JsonFault.TooDeep at) builder.new result }
+    ensures { Leads at (open_next map at builder.old) (JsonRefusal.TooDeep at) builder.new result }
 {
     builder.begin(map, offset(at))?;
     Ok(Position {
@@ -309,17 +308,17 @@ fn innermost_is_map(builder: &DocBuilder) -> Option<bool>
 }
 
 /// The innermost collection ends, if it is of this form.
-fn end_step(at: usize, map: bool, builder: &mut DocBuilder) -> Result<Position, JsonFault>
+fn end_step(at: usize, map: bool, builder: &mut DocBuilder) -> Result<Position, JsonRefusal>
     requires small { at < 8388608 }
     requires rooted { IsRooted builder.old.outer }
     requires key { builder.old.key ≡ None }
-    ensures { Leads at (end_next map builder.old) (JsonFault.Syntax at) builder.new result }
+    ensures { Leads at (end_next map builder.old) (JsonRefusal.Syntax at) builder.new result }
 {
     match innermost_is_map(builder) {
-        None => Err(JsonFault::Syntax(offset(at))),
+        None => Err(JsonRefusal::Syntax(offset(at))),
         Some(form) => {
             if form != map {
-                return Err(JsonFault::Syntax(offset(at)));
+                return Err(JsonRefusal::Syntax(offset(at)));
             }
             builder.end()?;
             Ok(Position {
@@ -331,13 +330,13 @@ fn end_step(at: usize, map: bool, builder: &mut DocBuilder) -> Result<Position, 
 }
 
 /// Another entry comes, if a collection is open.
-fn comma_step(at: usize, builder: &DocBuilder) -> Result<Position, JsonFault>
+fn comma_step(at: usize, builder: &DocBuilder) -> Result<Position, JsonRefusal>
     requires small { at < 8388608 }
     requires fits { Fits Stage.After builder.now }
-    ensures { Leads at (after_next builder.now Comma) (JsonFault.Syntax at) builder.now result }
+    ensures { Leads at (after_next builder.now Comma) (JsonRefusal.Syntax at) builder.now result }
 {
     match innermost_is_map(builder) {
-        None => Err(JsonFault::Syntax(offset(at))),
+        None => Err(JsonRefusal::Syntax(offset(at))),
         Some(true) => Ok(Position {
             at: at + 1,
             stage: Stage::Key,

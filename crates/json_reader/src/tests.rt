@@ -1,68 +1,22 @@
 //! Texts, and what they are read as.
-use crate::{JsonFault, JsonRefusal, one_tree, read_json, read_whole, sign_place, syntax_place};
+use crate::{JsonRefusal, one_refusal, one_tree, place_within, read_json, refused_apart};
 use doc_values::{BuildRefusal, Doc, Kind};
 use std::alloc::Global;
 use std::test::Fail;
 
 /// The tree of a text that is surely short enough.
-fn read(alloc: Global, text: &str) -> Result<Doc<'_>, JsonFault> {
-    if 8388608 < text.len() {
-        return Err(JsonFault::NoMemory);
-    }
-    read_whole(alloc, text)
-}
-
-/// The same for the part that templates may use.
-fn read_plain(alloc: Global, text: &str) -> Result<Doc<'_>, JsonRefusal> {
+fn read(alloc: Global, text: &str) -> Result<Doc<'_>, JsonRefusal> {
     if 8388608 < text.len() {
         return Err(JsonRefusal::NoMemory);
     }
     read_json(alloc, text)
 }
 
-#[test]
-fn plain(rt: HostRuntime) -> Result<(), Fail> {
-    for (text, nodes) in [
-        ("{}", 1),
-        ("\"\"", 1),
-        ("\"a/b\"", 1),
-        ("-7", 1),
-        ("\u{feff} {\"a\":0}", 2),
-        ("{\"a\":{\"b\":\"x\"},\"c\":-1}", 4),
-        ("{\"null\":\"[1.5]\"}", 2),
-    ] {
-        let doc = read_plain(rt.alloc(), text)?;
-        assert_eq!(rt; doc.len(), nodes, "{text}");
-    }
-    Ok(())
-}
-
-#[test]
-fn not_plain(rt: HostRuntime) {
-    for text in [
-        "[]",
-        "[1]",
-        "{\"a\":[]}",
-        "null",
-        "{\"a\":{\"b\":null}}",
-        "true",
-        "{\"a\":1,\"b\":false}",
-        "1.5",
-        "1e2",
-        "{\"a\":1.0}",
-        "\"\\n\"",
-        "{\"\\u0061\":1}",
-        "{\"a\":\"x\\\\y\"}",
-        "\\",
-        "{} \\",
-        "",
-        "{",
-        "{\"a\":1,\"a\":2}",
-    ] {
-        assert!(rt;
-            matches!(read_plain(rt.alloc(), text), Err(JsonRefusal::Unread)),
-            "{text}"
-        );
+/// Whether a text is refused so.
+fn is_refused(alloc: Global, text: &str, refusal: JsonRefusal) -> bool {
+    match read(alloc, text) {
+        Err(given) => given == refusal,
+        Ok(_) => false,
     }
 }
 
@@ -99,8 +53,9 @@ fn trees(rt: HostRuntime) -> Result<(), Fail> {
         let doc = read(rt.alloc(), text)?;
         assert_eq!(rt; doc.len(), nodes, "{text}");
         one_tree(text);
-        sign_place(text);
-        syntax_place(text);
+        one_refusal(text);
+        refused_apart(text);
+        place_within(text);
     }
     Ok(())
 }
@@ -155,143 +110,233 @@ fn decimals(rt: HostRuntime) -> Result<(), Fail> {
 }
 
 #[test]
-fn refusals(rt: HostRuntime) {
+fn numbers_out_of_range_first(rt: HostRuntime) {
     for (text, refusal) in [
-        ("1e400x", JsonFault::NumberRange(0)),
-        ("[1e400x", JsonFault::NumberRange(1)),
-        ("1e400.", JsonFault::NumberRange(0)),
-        ("1e400e", JsonFault::NumberRange(0)),
-        ("9223372036854775808.", JsonFault::Syntax(20)),
-        ("9223372036854775808e", JsonFault::Syntax(20)),
-        ("9223372036854775808.x", JsonFault::Syntax(20)),
-        ("9223372036854775808", JsonFault::NumberRange(0)),
-        ("{\"a\":1,\"a\"x", JsonFault::DuplicateKey(7)),
-        ("{\"a\":1,\"a", JsonFault::Syntax(9)),
-        ("{\"a\":1,\"\\u0061\"", JsonFault::DuplicateKey(7)),
-        ("", JsonFault::Syntax(0)),
-        (" ", JsonFault::Syntax(1)),
-        ("01", JsonFault::Syntax(1)),
-        ("1e", JsonFault::Syntax(2)),
-        ("-", JsonFault::Syntax(1)),
-        ("-x", JsonFault::Syntax(1)),
-        ("nul", JsonFault::Syntax(3)),
-        ("nulx", JsonFault::Syntax(3)),
-        ("\"\\ud83dx\"", JsonFault::Syntax(7)),
-        ("\"\\ud83", JsonFault::Syntax(6)),
-        ("\"a", JsonFault::Syntax(2)),
-        ("\"\\x\"", JsonFault::Syntax(2)),
-        ("{\"a\" 1}", JsonFault::Syntax(5)),
-        ("[1}", JsonFault::Syntax(2)),
-        ("[1,]", JsonFault::Syntax(3)),
-        ("1.5.5", JsonFault::Syntax(3)),
-        ("[1", JsonFault::Syntax(2)),
-        ("{}x", JsonFault::Syntax(2)),
-        ("\u{feff}\u{feff}{}", JsonFault::Syntax(3)),
-        ("\u{feff}", JsonFault::Syntax(3)),
-        ("{\"a\":1e400,\"a\":2}", JsonFault::NumberRange(5)),
-        ("[-1e+9999]", JsonFault::NumberRange(1)),
-        ("[1E22]", JsonFault::NumberRange(1)),
-        ("[123123e100000]", JsonFault::NumberRange(1)),
-        ("[1e400, .0e999]", JsonFault::NumberRange(1)),
-        ("[1e400,] 0.0e999]", JsonFault::NumberRange(1)),
-        ("[1e400, 0.e999]", JsonFault::NumberRange(1)),
-        ("[1e400, 0.0e9:99]", JsonFault::NumberRange(1)),
-        ("[1e400, 0.0e999", JsonFault::NumberRange(1)),
-        ("[1e400, 0.0e999-]", JsonFault::NumberRange(1)),
-        ("[1e400, 0.", JsonFault::NumberRange(1)),
-        ("[1e40.0, .0e99]", JsonFault::NumberRange(1)),
-        ("[1e400, 0.0\"a\"999]", JsonFault::NumberRange(1)),
-        ("{\"a\":\"b\",\"a\":\"c\"}", JsonFault::DuplicateKey(9)),
-        ("{\"a\":\"b\",\"a\":\"b\"}", JsonFault::DuplicateKey(9)),
+        ("1e400x", JsonRefusal::NumberRange(0)),
+        ("1e400.", JsonRefusal::NumberRange(0)),
+        ("9223372036854775808", JsonRefusal::NumberRange(0)),
+        ("[-1e+9999]", JsonRefusal::NumberRange(1)),
+        ("[123123e100000]", JsonRefusal::NumberRange(1)),
+        ("[1e400,] 0.0e999]", JsonRefusal::NumberRange(1)),
+        ("[1e400, 0.0e9:99]", JsonRefusal::NumberRange(1)),
+        ("[1e400, 0.0e999-]", JsonRefusal::NumberRange(1)),
+        ("[1e40.0, .0e99]", JsonRefusal::NumberRange(1)),
+        ("{\"a\":1234567890123456789.5}", JsonRefusal::NumberRange(5)),
+        ("11e400", JsonRefusal::NumberRange(0)),
+        ("[1e30", JsonRefusal::NumberRange(1)),
+        ("0.0000000000000000001", JsonRefusal::NumberRange(0)),
+    ] {
+        assert!(rt; is_refused(rt.alloc(), text, refusal), "{text}");
+    }
+}
+
+#[test]
+fn numbers_out_of_range_second(rt: HostRuntime) {
+    for (text, refusal) in [
+        ("[1e400x", JsonRefusal::NumberRange(1)),
+        ("1e400e", JsonRefusal::NumberRange(0)),
+        ("{\"a\":1e400,\"a\":2}", JsonRefusal::NumberRange(5)),
+        ("[1E22]", JsonRefusal::NumberRange(1)),
+        ("[1e400, .0e999]", JsonRefusal::NumberRange(1)),
+        ("[1e400, 0.e999]", JsonRefusal::NumberRange(1)),
+        ("[1e400, 0.0e999", JsonRefusal::NumberRange(1)),
+        ("[1e400, 0.", JsonRefusal::NumberRange(1)),
+        ("[1e400, 0.0\"a\"999]", JsonRefusal::NumberRange(1)),
+        ("1e400 x", JsonRefusal::NumberRange(0)),
+        ("1e4001e400", JsonRefusal::NumberRange(0)),
+        ("-9223372036854775809", JsonRefusal::NumberRange(0)),
+        ("-1000000000000000000.0", JsonRefusal::NumberRange(0)),
+    ] {
+        assert!(rt; is_refused(rt.alloc(), text, refusal), "{text}");
+    }
+}
+
+#[test]
+fn keys_again(rt: HostRuntime) {
+    for (text, refusal) in [
+        ("{\"a\":1,\"a\"x", JsonRefusal::DuplicateKey(7)),
+        ("{\"a\":1,\"\\u0061\"", JsonRefusal::DuplicateKey(7)),
+        ("{\"a\":\"b\",\"a\":\"c\"}", JsonRefusal::DuplicateKey(9)),
+        ("{\"a\":\"b\",\"a\":\"b\"}", JsonRefusal::DuplicateKey(9)),
         (
             "{\"a\":1,\"\\u0061b\":2,\"ab\"3}",
-            JsonFault::DuplicateKey(19),
+            JsonRefusal::DuplicateKey(19),
         ),
         (
             "{\"\":1,\"\\u0061b\":2,\"ab\":3}",
-            JsonFault::DuplicateKey(18),
+            JsonRefusal::DuplicateKey(18),
         ),
         (
             "{\"a\":1,\"\\u0061b\":2,\"ab\":3",
-            JsonFault::DuplicateKey(19),
+            JsonRefusal::DuplicateKey(19),
         ),
         (
             "{\"a\":1,\"\\u0061b\":2,\"a\":3}",
-            JsonFault::DuplicateKey(19),
+            JsonRefusal::DuplicateKey(19),
         ),
         (
             "{\"a\":1,\"\\u0061b\":2,\"ab\":3\u{e9}",
-            JsonFault::DuplicateKey(19),
+            JsonRefusal::DuplicateKey(19),
         ),
         (
             "{\"a\":1,\"\\u0061\":2,\"ab\":3}",
-            JsonFault::DuplicateKey(7),
+            JsonRefusal::DuplicateKey(7),
         ),
         (
             "{\"a\":1,\"\\u0061b\":2,\"ab\"3}]",
-            JsonFault::DuplicateKey(19),
+            JsonRefusal::DuplicateKey(19),
         ),
         (
             "{\"}\":1,\"\\u0061b\":2,\"ab\":3\\",
-            JsonFault::DuplicateKey(19),
+            JsonRefusal::DuplicateKey(19),
         ),
-        ("{\"\\uDFAA\":0}", JsonFault::Syntax(5)),
-        ("[\"\\ud800abc\"]", JsonFault::Syntax(8)),
-        ("[\"\\uDd1e\\uD834\"]", JsonFault::Syntax(5)),
-        ("[\"\"],", JsonFault::Syntax(4)),
-        ("[\"x\"]]", JsonFault::Syntax(5)),
-        ("[3[4]]", JsonFault::Syntax(2)),
-        ("[   , \"\"]", JsonFault::Syntax(4)),
-        ("[1,", JsonFault::Syntax(3)),
-        ("[tru]", JsonFault::Syntax(4)),
-        ("[-01]", JsonFault::Syntax(3)),
-        ("[.-1]", JsonFault::Syntax(1)),
-        ("[0.3e]", JsonFault::Syntax(5)),
-        ("[0e+]", JsonFault::Syntax(4)),
-        ("[1.0e]", JsonFault::Syntax(5)),
-        ("[2.e-3]", JsonFault::Syntax(3)),
-        ("[NaN]", JsonFault::Syntax(1)),
-        ("[0x42]", JsonFault::Syntax(2)),
-        ("[-Infinity]", JsonFault::Syntax(2)),
-        ("[-.123]", JsonFault::Syntax(2)),
-        ("[.123]", JsonFault::Syntax(1)),
-        ("[\"x\", truth]", JsonFault::Syntax(9)),
-        ("{\"a\":\"a\" 123}", JsonFault::Syntax(9)),
-        ("{\"a\" \"b\"}", JsonFault::Syntax(5)),
-        ("{9999E9999:1}", JsonFault::Syntax(1)),
-        ("{\"id\":0,}", JsonFault::Syntax(8)),
-        ("{\"a\":\"b\"}/", JsonFault::Syntax(9)),
-        ("{ \"foo\" : \"bar\", \"a\" }", JsonFault::Syntax(21)),
-        ("[\"\\uD800\\u1\"]", JsonFault::Syntax(10)),
-        ("[\"\\x00\"]", JsonFault::Syntax(3)),
-        ("[\"\\u00A\"]", JsonFault::Syntax(7)),
-        ("[\\u0020\"asd\"]", JsonFault::Syntax(1)),
-        ("abc", JsonFault::Syntax(0)),
-        ("[1]x", JsonFault::Syntax(3)),
-        ("[True]", JsonFault::Syntax(1)),
-        ("]", JsonFault::Syntax(0)),
-        ("2@", JsonFault::Syntax(1)),
-        ("{\"a\": true} \"x\"", JsonFault::Syntax(12)),
-        ("[\"a", JsonFault::Syntax(3)),
-        ("{,", JsonFault::Syntax(1)),
-        ("[\"\\{[\"\\{[\"\\{[\"\\{", JsonFault::Syntax(3)),
-        ("[ false, nul", JsonFault::Syntax(12)),
-        ("\u{e5}", JsonFault::Syntax(0)),
-        ("{\"Resources\":{\",", JsonFault::Syntax(16)),
-        ("{\"a\":[1,2.50-0,1e2,true,", JsonFault::Syntax(12)),
-        ("[1e00 0.\"a\"0e999]", JsonFault::Syntax(6)),
-        ("[[],{},[[[]]", JsonFault::Syntax(12)),
-        ("{\"\\\":1,\"\\u0061b\":2,\"ab\":3}", JsonFault::Syntax(8)),
-        ("{\"Reources\"", JsonFault::Syntax(11)),
-        ("[\u{e9}1e400, 0.0e999]", JsonFault::Syntax(1)),
-        ("\"[1e400, 0.0e999]", JsonFault::Syntax(17)),
-        ("\u{ff01}{}", JsonFault::Syntax(1)),
-        ("\u{fec1}", JsonFault::Syntax(2)),
+        ("{\"a\":1,\"\\u0061\":2}", JsonRefusal::DuplicateKey(7)),
+        ("{\"a\":1,\"a\":", JsonRefusal::DuplicateKey(7)),
+        ("{\"y\":1,\"y\" : \"z", JsonRefusal::DuplicateKey(7)),
+        ("{\"a\":{\"a\":1,\"a\"", JsonRefusal::DuplicateKey(12)),
     ] {
-        match read(rt.alloc(), text) {
-            Err(given) => assert_eq!(rt; given, refusal, "{text}"),
-            Ok(_) => assert!(rt; false, "{text}"),
-        }
+        assert!(rt; is_refused(rt.alloc(), text, refusal), "{text}");
+    }
+}
+
+#[test]
+fn wrong_numbers_first(rt: HostRuntime) {
+    for (text, refusal) in [
+        ("9223372036854775808.", JsonRefusal::Syntax(20)),
+        ("9223372036854775808.x", JsonRefusal::Syntax(20)),
+        ("1e", JsonRefusal::Syntax(2)),
+        ("[-01]", JsonRefusal::Syntax(3)),
+        ("[0.3e]", JsonRefusal::Syntax(5)),
+        ("[1.0e]", JsonRefusal::Syntax(5)),
+        ("[0x42]", JsonRefusal::Syntax(2)),
+        ("[.123]", JsonRefusal::Syntax(1)),
+        ("[1e00 0.\"a\"0e999]", JsonRefusal::Syntax(6)),
+        ("[1e]", JsonRefusal::Syntax(3)),
+        ("{1e400:1}", JsonRefusal::Syntax(1)),
+        ("[1 1e400", JsonRefusal::Syntax(3)),
+    ] {
+        assert!(rt; is_refused(rt.alloc(), text, refusal), "{text}");
+    }
+}
+
+#[test]
+fn wrong_numbers_second(rt: HostRuntime) {
+    for (text, refusal) in [
+        ("9223372036854775808e", JsonRefusal::Syntax(20)),
+        ("01", JsonRefusal::Syntax(1)),
+        ("1.5.5", JsonRefusal::Syntax(3)),
+        ("[.-1]", JsonRefusal::Syntax(1)),
+        ("[0e+]", JsonRefusal::Syntax(4)),
+        ("[2.e-3]", JsonRefusal::Syntax(3)),
+        ("[-.123]", JsonRefusal::Syntax(2)),
+        ("{9999E9999:1}", JsonRefusal::Syntax(1)),
+        ("{\"a\":01}", JsonRefusal::Syntax(6)),
+        ("[9223372036854775808.", JsonRefusal::Syntax(21)),
+        ("{\"a\"1e400", JsonRefusal::Syntax(4)),
+    ] {
+        assert!(rt; is_refused(rt.alloc(), text, refusal), "{text}");
+    }
+}
+
+#[test]
+fn wrong_structure_first(rt: HostRuntime) {
+    for (text, refusal) in [
+        ("{\"a\":1,\"a", JsonRefusal::Syntax(9)),
+        (" ", JsonRefusal::Syntax(1)),
+        ("-x", JsonRefusal::Syntax(1)),
+        ("[1}", JsonRefusal::Syntax(2)),
+        ("[1", JsonRefusal::Syntax(2)),
+        ("[\"\"],", JsonRefusal::Syntax(4)),
+        ("[3[4]]", JsonRefusal::Syntax(2)),
+        ("[1,", JsonRefusal::Syntax(3)),
+        ("[-Infinity]", JsonRefusal::Syntax(2)),
+        ("{\"a\" \"b\"}", JsonRefusal::Syntax(5)),
+        ("{\"a\":\"b\"}/", JsonRefusal::Syntax(9)),
+        ("[1]x", JsonRefusal::Syntax(3)),
+        ("2@", JsonRefusal::Syntax(1)),
+        ("{,", JsonRefusal::Syntax(1)),
+        ("[[],{},[[[]]", JsonRefusal::Syntax(12)),
+        ("[[\"a\":1", JsonRefusal::Syntax(5)),
+    ] {
+        assert!(rt; is_refused(rt.alloc(), text, refusal), "{text}");
+    }
+}
+
+#[test]
+fn wrong_structure_second(rt: HostRuntime) {
+    for (text, refusal) in [
+        ("", JsonRefusal::Syntax(0)),
+        ("-", JsonRefusal::Syntax(1)),
+        ("{\"a\" 1}", JsonRefusal::Syntax(5)),
+        ("[1,]", JsonRefusal::Syntax(3)),
+        ("{}x", JsonRefusal::Syntax(2)),
+        ("[\"x\"]]", JsonRefusal::Syntax(5)),
+        ("[   , \"\"]", JsonRefusal::Syntax(4)),
+        ("[NaN]", JsonRefusal::Syntax(1)),
+        ("{\"a\":\"a\" 123}", JsonRefusal::Syntax(9)),
+        ("{\"id\":0,}", JsonRefusal::Syntax(8)),
+        ("{ \"foo\" : \"bar\", \"a\" }", JsonRefusal::Syntax(21)),
+        ("]", JsonRefusal::Syntax(0)),
+        ("[\"a", JsonRefusal::Syntax(3)),
+        ("{\"Resources\":{\",", JsonRefusal::Syntax(16)),
+        ("{\"Reources\"", JsonRefusal::Syntax(11)),
+    ] {
+        assert!(rt; is_refused(rt.alloc(), text, refusal), "{text}");
+    }
+}
+
+#[test]
+fn wrong_words(rt: HostRuntime) {
+    for (text, refusal) in [
+        ("nul", JsonRefusal::Syntax(3)),
+        ("nulx", JsonRefusal::Syntax(3)),
+        ("[tru]", JsonRefusal::Syntax(4)),
+        ("[\"x\", truth]", JsonRefusal::Syntax(9)),
+        ("abc", JsonRefusal::Syntax(0)),
+        ("[True]", JsonRefusal::Syntax(1)),
+        ("{\"a\": true} \"x\"", JsonRefusal::Syntax(12)),
+        ("[ false, nul", JsonRefusal::Syntax(12)),
+        ("{\"a\":[1,2.50-0,1e2,true,", JsonRefusal::Syntax(12)),
+    ] {
+        assert!(rt; is_refused(rt.alloc(), text, refusal), "{text}");
+    }
+}
+
+#[test]
+fn wrong_strings(rt: HostRuntime) {
+    for (text, refusal) in [
+        ("\"\\ud83dx\"", JsonRefusal::Syntax(7)),
+        ("\"\\ud83", JsonRefusal::Syntax(6)),
+        ("\"a", JsonRefusal::Syntax(2)),
+        ("\"\\x\"", JsonRefusal::Syntax(2)),
+        ("{\"\\uDFAA\":0}", JsonRefusal::Syntax(5)),
+        ("[\"\\ud800abc\"]", JsonRefusal::Syntax(8)),
+        ("[\"\\uDd1e\\uD834\"]", JsonRefusal::Syntax(5)),
+        ("[\"\\uD800\\u1\"]", JsonRefusal::Syntax(10)),
+        ("[\"\\x00\"]", JsonRefusal::Syntax(3)),
+        ("[\"\\u00A\"]", JsonRefusal::Syntax(7)),
+        ("[\\u0020\"asd\"]", JsonRefusal::Syntax(1)),
+        ("[\"\\{[\"\\{[\"\\{[\"\\{", JsonRefusal::Syntax(3)),
+        ("{\"\\\":1,\"\\u0061b\":2,\"ab\":3}", JsonRefusal::Syntax(8)),
+        ("\"[1e400, 0.0e999]", JsonRefusal::Syntax(17)),
+        ("\"\\ud800x\"", JsonRefusal::Syntax(7)),
+        ("\"\\udc00\"", JsonRefusal::Syntax(4)),
+    ] {
+        assert!(rt; is_refused(rt.alloc(), text, refusal), "{text}");
+    }
+}
+
+#[test]
+fn wrong_marks(rt: HostRuntime) {
+    for (text, refusal) in [
+        ("\u{feff}\u{feff}{}", JsonRefusal::Syntax(3)),
+        ("\u{feff}", JsonRefusal::Syntax(3)),
+        ("\u{e5}", JsonRefusal::Syntax(0)),
+        ("[\u{e9}1e400, 0.0e999]", JsonRefusal::Syntax(1)),
+        ("\u{ff01}{}", JsonRefusal::Syntax(1)),
+        ("\u{fec1}", JsonRefusal::Syntax(2)),
+    ] {
+        assert!(rt; is_refused(rt.alloc(), text, refusal), "{text}");
     }
 }
 
@@ -402,7 +447,7 @@ fn depth(rt: HostRuntime) -> Result<(), Fail> {
     let doc = read(rt.alloc(), &text)?;
     assert_eq!(rt; doc.len(), 128);
     let deeper = nested(rt.alloc(), 129)?;
-    assert!(rt; matches!(read(rt.alloc(), &deeper), Err(JsonFault::TooDeep(640))));
+    assert!(rt; is_refused(rt.alloc(), &deeper, JsonRefusal::TooDeep(640)));
     for (lists, accepted) in [(1, true), (128, true), (129, false)] {
         let text = nested_lists(rt.alloc(), lists)?;
         assert_eq!(rt; read(rt.alloc(), &text).is_ok(), accepted);
@@ -413,15 +458,52 @@ fn depth(rt: HostRuntime) -> Result<(), Fail> {
 #[test]
 fn refusals_of_the_builder(rt: HostRuntime) {
     assert_eq!(rt;
-        JsonFault::from(BuildRefusal::DuplicateKey(1)),
-        JsonFault::DuplicateKey(1)
+        JsonRefusal::from(BuildRefusal::DuplicateKey(1)),
+        JsonRefusal::DuplicateKey(1)
     );
     assert_eq!(rt;
-        JsonFault::from(BuildRefusal::TooDeep(1)),
-        JsonFault::TooDeep(1)
+        JsonRefusal::from(BuildRefusal::TooDeep(1)),
+        JsonRefusal::TooDeep(1)
     );
     assert_eq!(rt;
-        JsonFault::from(BuildRefusal::NoMemory),
-        JsonFault::NoMemory
+        JsonRefusal::from(BuildRefusal::NoMemory),
+        JsonRefusal::NoMemory
     );
+}
+
+/// A text of as many opening brackets.
+fn brackets(alloc: Global, count: usize) -> Result<String, Fail> {
+    let mut text = String::new(alloc);
+    for _ in 0..count {
+        text.push('[')?;
+    }
+    Ok(text)
+}
+
+#[test]
+fn brackets_without_end(rt: HostRuntime) -> Result<(), Fail> {
+    for count in [129, 130, 1048576, 8388608] {
+        let text = brackets(rt.alloc(), count)?;
+        assert!(rt; is_refused(rt.alloc(), &text, JsonRefusal::TooDeep(128)));
+    }
+    let text = brackets(rt.alloc(), 128)?;
+    assert!(rt; is_refused(rt.alloc(), &text, JsonRefusal::Syntax(128)));
+    Ok(())
+}
+
+#[test]
+fn cut_off(rt: HostRuntime) -> Result<(), Fail> {
+    let text = "{\"Resources\":{\"B\":{\"Type\":\"AWS::S3::Bucket\",\"Properties\":{}}}}";
+    let mut front = String::new(rt.alloc());
+    for c in text.chars() {
+        match read(rt.alloc(), &front) {
+            Err(JsonRefusal::Syntax(place)) => {
+                assert_eq!(rt; place as usize, front.len());
+            }
+            _ => assert!(rt; false, "{front}"),
+        }
+        front.push(c)?;
+    }
+    assert!(rt; read(rt.alloc(), &front).is_ok());
+    Ok(())
 }

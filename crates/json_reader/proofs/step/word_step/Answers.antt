@@ -1,6 +1,6 @@
 use Rattle.std.proofs.Common.{◌≤◌, ◌+◌, length, arith, sym, ◌∙◌, ap}
 use Rattle.std.specs.Prelude.{Err}
-use Rattle.json_reader.specs.declared.refusal.JsonFault.TheVariants.{Syntax}
+use Rattle.json_reader.specs.declared.refusal.JsonRefusal.TheVariants.{Syntax}
 use Rattle.json_reader.proofs.Walk.{word_open}
 use Rattle.json_reader.proofs.step.word_step.Goals as goal
 
