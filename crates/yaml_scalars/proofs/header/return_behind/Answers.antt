@@ -1,0 +1,6 @@
+use Rattle.std.proofs.Common.{arith, ◌∙◌}
+use Rattle.yaml_scalars.proofs.BlockLines.{return_on}
+use Rattle.yaml_scalars.proofs.header.return_behind.Goals as goal
+
+pub loop-i-preserved : goal.loop-i-preserved
+loop-i-preserved c = (omega (arith, c.loop-i.invariant.0), c.loop-i.invariant.1 ∙ return_on c.loop-i.i _ _ _ (c.ends_line.ensures.more c.if-ends_line.false).1 c.if-bytes-i-eq13.false)

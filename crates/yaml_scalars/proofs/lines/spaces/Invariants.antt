@@ -1,0 +1,7 @@
+use Rattle.std.proofs.Common.{◌≡◌, ◌+◌, ◌≤◌, drop}
+use Rattle.yaml_scalars.specs.Lines.{is_space, lead}
+use Rattle.yaml_scalars.specs.Walk.{line_at}
+use Rattle.yaml_scalars.proofs.lines.spaces.Given as goal
+
+abbrev pub invariant-loop-i : goal.invariant-loop-i
+invariant-loop-i l = (l.start ≤ l.i) × (l.start + lead is_space (line_at (drop l.start l.bytes)) ≡ l.i + lead is_space (line_at (drop l.i l.bytes)))

@@ -1,0 +1,59 @@
+use Rattle.std.proofs.Common.{◌≡◌, ℕ, List, ◌+◌, drop, false, subst, sym, ◌∙◌}
+use Rattle.std.specs.Prelude.{string_bytes}
+use Rattle.yaml_scalars.specs.declared.plain_line.Why.TheVariants.{Break, Return, Colon, Comment, Mark}
+use Rattle.yaml_scalars.specs.Walk.{line_at}
+use Rattle.yaml_scalars.specs.Plain.{plain_len, why}
+use Rattle.yaml_scalars.specs.PlainSteps.{from, rest}
+use Rattle.yaml_scalars.proofs.FurtherLines.{not_true, not_false, line_return, line_key, line_break, line_comment, line_colon, line_mark, ends_same}
+use Rattle.yaml_scalars.proofs.plain.add_line.Goals as goal
+
+pub returns-in-Return-clause-err : goal.returns-in-Return-clause-err
+returns-in-Return-clause-err c =
+    let v = c.as_bytes-bytes.ensures.value in
+    let stop = c.plain_end-stop.result in
+    let e = subst (λ (t : List ℕ). stop ≡ c.args.line.begin + plain_len c.args.setting.flow false (line_at (drop c.args.line.begin t))) v c.plain_end-stop.ensures.end in
+    let w = subst (λ (t : List ℕ). Return ≡ why (line_at (drop stop t))) v (sym c.in-Return.is ∙ c.why_at.ensures) in
+    line_return c.args.setting c.args.text.now c.args.line stop (string_bytes c.args.reading.now.text) c.args.reading.now.end e w
+
+pub returns-in-Colon-clause-err : goal.returns-in-Colon-clause-err
+returns-in-Colon-clause-err c =
+    let v = c.as_bytes-bytes.ensures.value in
+    let stop = c.plain_end-stop.result in
+    let e = subst (λ (t : List ℕ). stop ≡ c.args.line.begin + plain_len c.args.setting.flow false (line_at (drop c.args.line.begin t))) v c.plain_end-stop.ensures.end in
+    let w = subst (λ (t : List ℕ). Colon ≡ why (line_at (drop stop t))) v (sym c.in-Colon.is ∙ c.why_at.ensures) in
+    line_key c.args.setting c.args.text.now c.args.line stop (string_bytes c.args.reading.now.text) c.args.reading.now.end e w (not_true c.args.setting.flow c.if-not-setting.true)
+
+pub returns-in_ok-push_content-in-Break-clause-ok : goal.returns-in_ok-push_content-in-Break-clause-ok
+returns-in_ok-push_content-in-Break-clause-ok c =
+    let v = c.as_bytes-bytes.ensures.value in
+    let stop = c.plain_end-stop.result in
+    let text = string_bytes c.push_content.new.reading.text in
+    let end = c.push_content.new.reading.end in
+    let e = subst (λ (t : List ℕ). stop ≡ c.args.line.begin + plain_len c.args.setting.flow false (line_at (drop c.args.line.begin t))) v c.plain_end-stop.ensures.end in
+    let w = subst (λ (t : List ℕ). Break ≡ why (line_at (drop stop t))) v (sym c.in-Break.is ∙ c.why_at.ensures) in
+    line_break c.args.setting c.args.text.now c.args.line stop (string_bytes c.args.reading.now.text) c.args.reading.now.end text end e w c.in_ok-push_content-in-Break.ensures.text c.in_ok-push_content-in-Break.ensures.end
+    ∙ subst (λ (t : List ℕ). from c.args.setting t stop text end 0 ≡ rest c.args.setting t c.next_content-reading.result text end) v (c.next_content-reading.ensures.rest text end)
+
+pub returns-in_ok-push_content-in-Comment-clause-ok : goal.returns-in_ok-push_content-in-Comment-clause-ok
+returns-in_ok-push_content-in-Comment-clause-ok c =
+    let v = c.as_bytes-bytes.ensures.value in
+    let stop = c.plain_end-stop.result in
+    let e = subst (λ (t : List ℕ). stop ≡ c.args.line.begin + plain_len c.args.setting.flow false (line_at (drop c.args.line.begin t))) v c.plain_end-stop.ensures.end in
+    let w = subst (λ (t : List ℕ). Comment ≡ why (line_at (drop stop t))) v (sym c.in-Comment.is ∙ c.why_at.ensures) in
+    line_comment c.args.setting c.args.text.now c.args.line stop (string_bytes c.args.reading.now.text) c.args.reading.now.end _ _ e w c.in_ok-push_content-in-Comment.ensures.text c.in_ok-push_content-in-Comment.ensures.end
+
+pub returns-in_ok-end_on-in-Colon-2-clause-ok : goal.returns-in_ok-end_on-in-Colon-2-clause-ok
+returns-in_ok-end_on-in-Colon-2-clause-ok c =
+    let v = c.as_bytes-bytes.ensures.value in
+    let stop = c.plain_end-stop.result in
+    let e = subst (λ (t : List ℕ). stop ≡ c.args.line.begin + plain_len c.args.setting.flow false (line_at (drop c.args.line.begin t))) v c.plain_end-stop.ensures.end in
+    let w = subst (λ (t : List ℕ). Colon ≡ why (line_at (drop stop t))) v (sym c.in-Colon.is ∙ c.why_at.ensures) in
+    ends_same c.args.setting c.args.text.now c.args.line _ _ _ _ _ (line_colon c.args.setting c.args.text.now c.args.line stop (string_bytes c.args.reading.now.text) c.args.reading.now.end e w (not_false c.args.setting.flow c.if-not-setting.false)) c.in_ok-end_on-in-Colon-2.ensures.ok c.in_ok-end_on-in-Colon-2.ensures.next
+
+pub returns-in_ok-end_on-in-Mark-clause-ok : goal.returns-in_ok-end_on-in-Mark-clause-ok
+returns-in_ok-end_on-in-Mark-clause-ok c =
+    let v = c.as_bytes-bytes.ensures.value in
+    let stop = c.plain_end-stop.result in
+    let e = subst (λ (t : List ℕ). stop ≡ c.args.line.begin + plain_len c.args.setting.flow false (line_at (drop c.args.line.begin t))) v c.plain_end-stop.ensures.end in
+    let w = subst (λ (t : List ℕ). Mark ≡ why (line_at (drop stop t))) v (sym c.in-Mark.is ∙ c.why_at.ensures) in
+    ends_same c.args.setting c.args.text.now c.args.line _ _ _ _ _ (line_mark c.args.setting c.args.text.now c.args.line stop (string_bytes c.args.reading.now.text) c.args.reading.now.end e w) c.in_ok-end_on-in-Mark.ensures.ok c.in_ok-end_on-in-Mark.ensures.next

@@ -1,0 +1,27 @@
+//! Scalars of YAML 1.2.2 in a profile: plain, quoted and block scalars with their folding, and the kinds of plain ones.
+//! `read_scalar` reads the scalar that begins at a place in a setting: `specs/Scalar` says which one stands there, over
+//! the text's lines, and nothing of how it is read. Reading goes over the bytes once; a text that stands on one line
+//! without escapes is borrowed. The crate stands on `doc_values` for numbers and kinds, and knows no collections.
+#![tactic(auto)]
+
+mod block;
+#[cfg(test)]
+mod block_tests;
+mod escape;
+mod header;
+mod kind;
+pub mod lines;
+mod plain;
+mod plain_line;
+mod quoted;
+#[cfg(test)]
+mod quoted_tests;
+mod read;
+mod scalar;
+#[cfg(test)]
+mod tests;
+mod trim;
+
+pub use kind::{one_kind, plain_kind};
+pub use read::{read_scalar, syntax_place};
+pub use scalar::{Scalar, ScalarRefusal, Setting};
