@@ -1,0 +1,11 @@
+use Rattle.std.proofs.Common.{sym, ap, ◌∙◌, drop, ◌+◌, true}
+use Rattle.yaml_scalars.specs.Walk.{line_at}
+use Rattle.yaml_blocks.specs.declared.ahead.Token.{Token}
+use Rattle.yaml_blocks.specs.Ahead.{token_at}
+use Rattle.yaml_blocks.proofs.Looks.{untabbed, white_token}
+use Rattle.yaml_blocks.proofs.ahead.content_ahead.Goals as goal
+
+pub returns : goal.returns
+returns c = c.token_at-2.ensures ∙ ap (λ (t : Token). token_at t true (c.args.start + c.whites.result)) c.token_of.ensures
+    ∙ white_token c.args.bytes.now c.args.flow true c.args.start c.whites.result c.whites.ensures.count
+    ∙ sym (untabbed c.args.flow c.args.start (line_at (drop c.args.start c.args.bytes.now)) (sym c.is_tabbed.ensures ∙ c.if-is_tabbed.false))

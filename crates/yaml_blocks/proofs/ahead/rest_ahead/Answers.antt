@@ -1,0 +1,19 @@
+use Rattle.std.proofs.Common.{sym, ap, ◌∙◌, length, ◌+◌, false}
+use Rattle.yaml_blocks.specs.declared.ahead.Token.{Token}
+use Rattle.yaml_blocks.specs.Ahead.{token_at, line_ahead}
+use Rattle.yaml_blocks.proofs.Looks.{rest_filled, rest_passed, white_token}
+use Rattle.yaml_blocks.proofs.ahead.rest_ahead.Goals as goal
+
+pub returns-then-not-is_passed : goal.returns-then-not-is_passed
+returns-then-not-is_passed c = c.token_at.ensures ∙ ap (λ (t : Token). token_at t false (c.args.start + c.whites.result)) c.token_of.ensures
+    ∙ white_token c.args.bytes.now c.args.flow false c.args.start c.whites.result c.whites.ensures.count
+    ∙ sym (rest_filled c.args.bytes.now c.args.flow c.args.start (sym c.is_passed.ensures ∙ c.if-not-is_passed.true))
+
+pub returns-in-Some : goal.returns-in-Some
+returns-in-Some c =
+    let h = c.in-Some.ensures in
+    c.line_ahead.ensures ∙ ap (line_ahead c.args.flow (length c.args.bytes.now)) (sym h.4) ∙ sym (rest_passed c.args.bytes.now c.args.flow c.args.start (sym c.is_passed.ensures ∙ c.if-not-is_passed.false))
+
+pub returns-in-None : goal.returns-in-None
+returns-in-None c = c.token_at-in-None.ensures ∙ sym (ap (line_ahead c.args.flow (length c.args.bytes.now)) c.in-None.ensures.0)
+    ∙ sym (rest_passed c.args.bytes.now c.args.flow c.args.start (sym c.is_passed.ensures ∙ c.if-not-is_passed.false))

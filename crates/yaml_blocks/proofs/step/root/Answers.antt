@@ -1,0 +1,9 @@
+use Rattle.std.proofs.Common.{inl, inr}
+use Rattle.yaml_blocks.proofs.Roots.{null_root_gives}
+use Rattle.yaml_blocks.proofs.step.root.Goals as goal
+
+pub returns-in-End : goal.returns-in-End
+returns-in-End c = null_root_gives c.args.text.now c.args.builder.now c.take_null.new.builder c.args.at c.look-next.result c.take_null.result c.requires.fits c.look-next.ensures.0 c.requires.boundary (inl c.in-End.is) c.take_null.ensures
+
+pub returns-in-Dots : goal.returns-in-Dots
+returns-in-Dots c = null_root_gives c.args.text.now c.args.builder.now c.take_null-in-Dots.new.builder c.args.at c.look-next.result c.take_null-in-Dots.result c.requires.fits c.look-next.ensures.0 c.requires.boundary (inr c.in-Dots.is) c.take_null-in-Dots.ensures

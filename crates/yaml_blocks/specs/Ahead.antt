@@ -1,0 +1,73 @@
+-- What a place has ahead, behind white space, comments and breaks. Sections and productions are those of YAML 1.2.2. Places are byte offsets.
+use Rattle.std.specs.Prelude.{ℕ, ◌+◌, Bool, true, false, ◌||◌, ◌&&◌, not, List, [], ◌∷◌, length, drop, nat_eq, nat_lt, if◌then◌else◌}
+use Rattle.yaml_scalars.specs.Lines.{Line, lines, begins_with, is_white, lead, is_blank, indent, past_white, is_mark}
+use Rattle.yaml_scalars.specs.Plain.{is_unsafe}
+use Rattle.yaml_scalars.specs.Scalar.{is_first_column}
+use Rattle.yaml_blocks.specs.declared.ahead.Ahead.{Ahead}
+use Rattle.yaml_blocks.specs.declared.ahead.Token.{Token}
+use Rattle.yaml_blocks.specs.declared.ahead.Token.TheVariants.{End, Dashes, Dots, Opens, Closes, Comma, Point, Other}
+
+-- a carriage return that is in no break stands on the line
+abbrev pub has_return : List ℕ → Bool
+has_return [] = false
+has_return (b ∷ bs) = nat_eq b 13 || has_return bs
+
+-- section 7.4: [ ] { } , and : are tokens of flow collections, which their brackets open outside of flow too
+abbrev pub token_of : Bool → List ℕ → Token
+token_of flow [] = Other
+token_of flow (b ∷ bs) =
+    if nat_eq b 91 then Opens false else
+    (if nat_eq b 123 then Opens true else
+    (if not flow then Other else
+    (if nat_eq b 93 then Closes false else
+    (if nat_eq b 125 then Closes true else
+    (if nat_eq b 44 then Comma else
+    (if nat_eq b 58 then Point (is_unsafe true bs) else Other))))))
+
+-- how many bytes a token takes; those of a scalar are not told here
+abbrev pub token_len : Token → ℕ
+token_len End = 0
+token_len Dashes = 3
+token_len Dots = 3
+token_len (Opens map) = 1
+token_len (Closes map) = 1
+token_len Comma = 1
+token_len (Point loose) = 1
+token_len Other = 0
+
+abbrev pub token_at : Token → Bool → ℕ → Ahead
+token_at token fresh at = record { token = token; fresh = fresh; at = at; behind = at + token_len token }
+
+-- `c-directives-end` (203) or `c-document-end` (204), told by its first byte
+abbrev pub mark_of : List ℕ → Token
+mark_of bytes = if begins_with 45 bytes then Dashes else Dots
+
+-- `s-l-comments` (79): a blank line, or a comment; at the line's start or behind white space. A carriage return stands in neither.
+abbrev pub is_passed : Bool → List ℕ → Bool
+is_passed fresh bytes = is_blank bytes || ((fresh || nat_lt 0 (lead is_white bytes)) && (begins_with 35 (past_white bytes) && not (has_return bytes)))
+
+-- section 6.1: outside of flow, a tab stands in the white space before the content
+abbrev pub is_tabbed : Bool → List ℕ → Bool
+is_tabbed flow bytes = not flow && nat_lt (indent bytes) (lead is_white bytes)
+
+-- what a line has behind the white space in front; there is no content behind a tab
+abbrev pub content_ahead : Bool → ℕ → List ℕ → Ahead
+content_ahead flow at bytes =
+    if is_tabbed flow bytes then token_at Other true (at + indent bytes) else token_at (token_of flow (past_white bytes)) true (at + lead is_white bytes)
+
+-- the first of the lines that is neither blank nor a comment
+abbrev pub line_ahead : Bool → ℕ → List Line → Ahead
+line_ahead flow size [] = token_at End true size
+line_ahead flow size (l ∷ ls) =
+    if is_mark l.bytes then token_at (mark_of l.bytes) true l.at else
+    (if is_passed true l.bytes then line_ahead flow size ls else content_ahead flow l.at l.bytes)
+
+-- from a place inside a line
+abbrev pub rest_ahead : Bool → ℕ → List Line → Ahead
+rest_ahead flow size [] = token_at End true size
+rest_ahead flow size (l ∷ ls) =
+    if is_passed false l.bytes then line_ahead flow size ls else token_at (token_of flow (past_white l.bytes)) false (l.at + lead is_white l.bytes)
+
+-- what a place of a text has ahead, in flow or outside of it
+abbrev pub ahead : List ℕ → Bool → ℕ → Ahead
+ahead text flow i = if is_first_column text i then line_ahead flow (length text) (lines i (drop i text)) else rest_ahead flow (length text) (lines i (drop i text))

@@ -1,0 +1,5 @@
+pub mod Ahead
+pub mod Flow
+pub mod Refused
+pub mod Rest
+pub mod Steps

@@ -1,0 +1,246 @@
+//! What a place has ahead, behind white space, comments and breaks.
+ghost use Rattle.std.specs.Prelude.{◌≡◌, ◌≤◌, ◌<◌, ◌+◌, ◌||◌, nat_lt, true, false, length, drop};
+ghost use Rattle.std.specs.Str.{IsCharBoundary};
+ghost use Rattle.yaml_scalars.specs.Lines.{lines, begins_with, is_mark};
+ghost use Rattle.yaml_scalars.specs.Plain.{is_flow_mark, is_unsafe};
+ghost use Rattle.yaml_scalars.specs.Walk.{line_at};
+ghost use Rattle.yaml_blocks.specs.Ahead.{token_of, token_at, mark_of, has_return, is_passed, is_tabbed, content_ahead, line_ahead, rest_ahead, ahead};
+ghost use Rattle.yaml_blocks.specs.Steps.{IsSeen};
+
+use yaml_scalars::lines::{
+    ends_line, is_blank, is_first_column, is_mark, is_white, next_line, spaces, whites,
+};
+
+/// A token of a document, but for scalars.
+#[derive(Clone, Copy, Debug, PartialEq, Eq)]
+pub(crate) enum Token {
+    /// The text's end.
+    End,
+    /// A line that begins with `---`.
+    Dashes,
+    /// A line that begins with `...`.
+    Dots,
+    /// An opening bracket, of a map or of a list.
+    Opens { map: bool },
+    /// A closing bracket, of a map or of a list.
+    Closes { map: bool },
+    Comma,
+    /// A colon. It is loose where what follows it may follow that of a plain key.
+    Point { loose: bool },
+    /// Anything else: a scalar may begin there, or nothing may.
+    Other,
+}
+
+/// What is ahead of a place.
+#[derive(Clone, Copy, Debug, PartialEq, Eq)]
+pub(crate) struct Ahead {
+    pub(crate) token: Token,
+    /// Whether it begins a line.
+    pub(crate) fresh: bool,
+    /// The byte offset of its first byte.
+    pub(crate) at: usize,
+    /// The byte offset behind it.
+    pub(crate) behind: usize,
+}
+
+/// Whether a byte is one of the marks of flow: `, [ ] { }`.
+fn is_flow_mark(byte: u8) -> bool
+    ensures { result ≡ is_flow_mark byte }
+{
+    matches!(byte, b',' | b'[' | b']' | b'{' | b'}')
+}
+
+/// Whether what stands at a place may follow the colon of a plain key.
+fn is_loose(bytes: &[u8], at: usize) -> bool
+    requires { at ≤ length bytes.now }
+    ensures { result ≡ is_unsafe true (line_at (drop at bytes.now)) }
+{
+    if ends_line(bytes, at) {
+        return true;
+    }
+    let byte = bytes[at];
+    is_white(byte) || is_flow_mark(byte)
+}
+
+/// The token of a byte.
+fn token_of(bytes: &[u8], at: usize, flow: bool) -> Token
+    requires { at ≤ length bytes.now }
+    ensures { result ≡ token_of flow (line_at (drop at bytes.now)) }
+{
+    if ends_line(bytes, at) {
+        return Token::Other;
+    }
+    match bytes[at] {
+        b'[' => Token::Opens { map: false },
+        b'{' => Token::Opens { map: true },
+        b']' if flow => Token::Closes { map: false },
+        b'}' if flow => Token::Closes { map: true },
+        b',' if flow => Token::Comma,
+        b':' if flow => Token::Point {
+            loose: is_loose(bytes, at + 1),
+        },
+        _ => Token::Other,
+    }
+}
+
+/// Whether the line of a place has a carriage return that is in no break.
+fn has_return(bytes: &[u8], start: usize) -> bool
+    requires { start ≤ length bytes.now }
+    ensures { result ≡ has_return (line_at (drop start bytes.now)) }
+{
+    for i in start..bytes.len() {
+        if ends_line(bytes, i) {
+            return false;
+        }
+        if bytes[i] == b'\r' {
+            return true;
+        }
+    }
+    false
+}
+
+/// Whether a comment may begin behind so much white space: at a line's start, or behind some.
+fn may_comment(fresh: bool, white: usize) -> bool
+    ensures { result ≡ (fresh || nat_lt 0 white) }
+{
+    fresh || white > 0
+}
+
+/// Whether the rest of a line is passed over: white space, or a comment.
+fn is_passed(bytes: &[u8], start: usize, fresh: bool) -> bool
+    requires { start ≤ length bytes.now }
+    ensures { result ≡ is_passed fresh (line_at (drop start bytes.now)) }
+{
+    if is_blank(bytes, start) {
+        return true;
+    }
+    let white = whites(bytes, start);
+    if !may_comment(fresh, white) {
+        return false;
+    }
+    if !begins_comment(bytes, start + white) {
+        return false;
+    }
+    !has_return(bytes, start)
+}
+
+/// Whether a `#` stands at a place.
+fn begins_comment(bytes: &[u8], at: usize) -> bool
+    requires { at ≤ length bytes.now }
+    ensures { result ≡ begins_with 35 (line_at (drop at bytes.now)) }
+{
+    !ends_line(bytes, at) && bytes[at] == b'#'
+}
+
+fn token_at(token: Token, fresh: bool, at: usize) -> Ahead
+    requires { at ≤ 8388608 }
+    ensures { result ≡ token_at token fresh at }
+{
+    let len = match token {
+        Token::End | Token::Other => 0,
+        Token::Dashes | Token::Dots => 3,
+        Token::Opens { .. } | Token::Closes { .. } | Token::Comma | Token::Point { .. } => 1,
+    };
+    Ahead {
+        token,
+        fresh,
+        at,
+        behind: at + len,
+    }
+}
+
+/// The mark that begins a line.
+fn mark_ahead(bytes: &[u8], start: usize) -> Ahead
+    requires small { length bytes.now ≤ 8388608 }
+    requires mark { is_mark (line_at (drop start bytes.now)) ≡ true }
+    requires within { start < length bytes.now }
+    ensures { result ≡ token_at (mark_of (line_at (drop start bytes.now))) true start }
+{
+    if bytes[start] == b'-' {
+        return token_at(Token::Dashes, true, start);
+    }
+    token_at(Token::Dots, true, start)
+}
+
+/// Whether a tab stands in the white space in front of a line outside of flow.
+fn is_tabbed(bytes: &[u8], flow: bool, start: usize) -> bool
+    requires { start ≤ length bytes.now }
+    ensures { result ≡ is_tabbed flow (line_at (drop start bytes.now)) }
+{
+    if flow {
+        return false;
+    }
+    spaces(bytes, start) < whites(bytes, start)
+}
+
+/// What a line has behind the white space in front.
+fn content_ahead(bytes: &[u8], flow: bool, start: usize) -> Ahead
+    requires small { length bytes.now ≤ 8388608 }
+    requires within { start ≤ length bytes.now }
+    ensures { result ≡ content_ahead flow start (line_at (drop start bytes.now)) }
+{
+    if is_tabbed(bytes, flow, start) {
+        return token_at(Token::Other, true, start + spaces(bytes, start));
+    }
+    let at = start + whites(bytes, start);
+    token_at(token_of(bytes, at, flow), true, at)
+}
+
+/// What is ahead of a line's start.
+fn line_ahead(bytes: &[u8], flow: bool, start: usize) -> Ahead
+    requires small { length bytes.now ≤ 8388608 }
+    requires within { start ≤ length bytes.now }
+    ensures { result ≡ line_ahead flow (length bytes.now) (lines start (drop start bytes.now)) }
+{
+    let mut at = start;
+    while at <= bytes.len() {
+        if is_mark(bytes, at) {
+            return mark_ahead(bytes, at);
+        }
+        if !is_passed(bytes, at, true) {
+            return content_ahead(bytes, flow, at);
+        }
+        match next_line(bytes, at) {
+            Some(next) => at = next,
+            None => return token_at(Token::End, true, bytes.len()),
+        }
+    }
+    unreachable!()
+}
+
+/// What is ahead of a place inside a line.
+fn rest_ahead(bytes: &[u8], flow: bool, start: usize) -> Ahead
+    requires small { length bytes.now ≤ 8388608 }
+    requires within { start ≤ length bytes.now }
+    ensures { result ≡ rest_ahead flow (length bytes.now) (lines start (drop start bytes.now)) }
+{
+    if !is_passed(bytes, start, false) {
+        let at = start + whites(bytes, start);
+        return token_at(token_of(bytes, at, flow), false, at);
+    }
+    match next_line(bytes, start) {
+        Some(next) => line_ahead(bytes, flow, next),
+        None => token_at(Token::End, true, bytes.len()),
+    }
+}
+
+/// What a place of bytes has ahead, in flow or outside of it.
+fn bytes_ahead(bytes: &[u8], flow: bool, at: usize) -> Ahead
+    requires small { length bytes.now ≤ 8388608 }
+    requires within { at ≤ length bytes.now }
+    ensures { result ≡ ahead bytes.now flow at }
+{
+    if is_first_column(bytes, at) {
+        return line_ahead(bytes, flow, at);
+    }
+    rest_ahead(bytes, flow, at)
+}
+
+/// What a place of a text has ahead.
+pub(crate) fn look(text: &str, flow: bool, at: usize) -> Ahead
+    requires small { length text.now ≤ 8388608 }
+    requires boundary { IsCharBoundary text.now at }
+    ensures { IsSeen text.now flow at result }
+{
+    bytes_ahead(text.as_bytes(), flow, at)
+}

@@ -1,0 +1,96 @@
+//! A whole text.
+ghost use Rattle.std.specs.Prelude.{◌≡◌, ◌≤◌, length, true, false, MatchResult};
+ghost use Rattle.std.specs.Str.{IsCharBoundary};
+ghost use Rattle.doc_values.specs.Tree.{Forest};
+ghost use Rattle.yaml_scalars.specs.Scalar.{begins_order_mark};
+ghost use Rattle.yaml_blocks.specs.Ahead.{ahead};
+ghost use Rattle.yaml_blocks.specs.Flow.{IsFlowYaml, IsStart, IsEnd, text_start};
+
+use crate::ahead::{Token, look};
+use crate::refusal::YamlRefusal;
+use crate::step::{root, step};
+use doc_values::{Doc, DocBuilder};
+use std::alloc::Global;
+
+/// The tree of a YAML text of at most 8 MiB that is one document of flow forms, the only one. `NoMemory` says nothing of the text.
+pub fn read_yaml<'s>(alloc: Global, text: &'s str) -> Result<Doc<'s>, YamlRefusal>
+    requires { length text.now ≤ 8388608 }
+    ensures { MatchResult result (λ d. IsFlowYaml text.now d × ((tree : Forest) → IsFlowYaml text.now tree → tree ≡ d)) (λ e. e ≡ YamlRefusal.Unread → (tree : Forest) → IsFlowYaml text.now tree → ⊥) }
+{
+    let start = document_start(text);
+    let mut builder = DocBuilder::new(alloc);
+    let mut position = match root(alloc, text, start, &mut builder) {
+        Ok(next) => next,
+        Err(refusal) => return Err(refusal),
+    };
+    while builder.depth() > 0 {
+        match step(alloc, text, position, &mut builder) {
+            Err(refusal) => return Err(refusal),
+            Ok(next) => position = next,
+        }
+    }
+    if !is_document_end(text, position.at) {
+        return Err(YamlRefusal::Unread);
+    }
+    Ok(builder.finish())
+}
+
+fn begins_order_mark(bytes: &[u8]) -> bool
+    ensures { result ≡ begins_order_mark bytes.now }
+{
+    bytes.len() >= 3 && bytes[0] == 239 && bytes[1] == 187 && bytes[2] == 191
+}
+
+/// The place behind a byte order mark in front, if there is one.
+fn text_start(text: &str) -> usize
+    ensures is { result ≡ text_start text.now }
+    ensures boundary { IsCharBoundary text.now result }
+{
+    if begins_order_mark(text.as_bytes()) {
+        3
+    } else {
+        0
+    }
+}
+
+/// The place behind a line `---`, if there is one.
+fn document_start(text: &str) -> usize
+    requires { length text.now ≤ 8388608 }
+    ensures is { IsStart text.now result }
+    ensures boundary { IsCharBoundary text.now result }
+{
+    let at = text_start(text);
+    let next = look(text, false, at);
+    match next.token {
+        Token::Dashes => next.behind,
+        _ => at,
+    }
+}
+
+/// Whether nothing stands behind a place.
+fn is_text_end(text: &str, at: usize) -> bool
+    requires small { length text.now ≤ 8388608 }
+    requires boundary { IsCharBoundary text.now at }
+    ensures yes { result ≡ true → (ahead text.now false at).token ≡ Token.End }
+    ensures no { result ≡ false → (ahead text.now false at).token ≡ Token.End → ⊥ }
+{
+    match look(text, false, at).token {
+        Token::End => true,
+        _ => false,
+    }
+}
+
+/// Whether the document ends at a place.
+fn is_document_end(text: &str, at: usize) -> bool
+    requires small { length text.now ≤ 8388608 }
+    requires boundary { IsCharBoundary text.now at }
+    ensures yes { result ≡ true → IsEnd text.now at }
+    ensures no { result ≡ false → IsEnd text.now at → ⊥ }
+{
+    let next = look(text, false, at);
+    match next.token {
+        Token::End => true,
+        Token::Dots => is_text_end(text, next.behind),
+        _ => false,
+    }
+}
