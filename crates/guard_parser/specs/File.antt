@@ -1,0 +1,61 @@
+-- What the tokens of a text spell, and why they spell nothing.
+use Rattle.std.specs.Prelude.{◌≡◌, ℕ, zero, suc, pred, true, ◌<◌, ◌≤◌, List, length, Option, Some, None, if◌then◌else◌}
+use Rattle.guard_lexer.specs.declared.token.Token.{Token}
+use Rattle.guard_syntax.specs.Syntax.{File}
+use Rattle.guard_parser.specs.declared.refusal.ParseRefusal.{ParseRefusal}
+use Rattle.guard_parser.specs.declared.refusal.ParseRefusal.TheVariants as r
+use Rattle.guard_parser.specs.Lexemes.{Lexeme, lexemes}
+use Rattle.guard_parser.specs.Forms.{form, is_opening, is_closing}
+use Rattle.guard_parser.specs.States.{State, start}
+use Rattle.guard_parser.specs.Grammar.{IsContents}
+
+-- the tokens, all of them, spell a file, whose sites begin at its places; the first range with a whole and a decimal bound, if there is one
+abbrev pub IsSpelled : List ℕ → List Token → File → Option ℕ → Type 0
+IsSpelled text tokens f mixed = (b : State) × IsContents (lexemes text tokens) f.lets f.rules f.loose start b
+    × (b.at ≡ length tokens) × (f.places ≡ b.places) × (mixed ≡ b.mixed)
+
+-- ---- brackets
+
+-- how many brackets are open behind a lexeme, whatever their kinds
+abbrev pub open_behind : ℕ → ℕ → ℕ
+open_behind n open_count = if is_opening n then suc open_count else (if is_closing n then pred open_count else open_count)
+
+-- how many are open before a place
+abbrev pub open_before : (ℕ → Lexeme) → ℕ → ℕ
+open_before s zero = 0
+open_before s (suc i) = open_behind (form (s i)) (open_before s i)
+
+-- no bracket before a place opens while 128 are open
+abbrev pub IsShallowTo : (ℕ → Lexeme) → ℕ → Type 0
+IsShallowTo s n = (i : ℕ) → i < n → is_opening (form (s i)) ≡ true → open_before s i < 128
+
+-- a bracket opens while 128 are open: the first such one, at a byte offset
+abbrev pub IsTooDeep : List ℕ → List Token → ℕ → Type 0
+IsTooDeep text tokens at = (i : ℕ) × (is_opening (form (lexemes text tokens i)) ≡ true) × (128 ≤ open_before (lexemes text tokens) i)
+    × IsShallowTo (lexemes text tokens) i × (at ≡ (lexemes text tokens i).from)
+
+abbrev pub IsShallow : List ℕ → List Token → Type 0
+IsShallow text tokens = IsShallowTo (lexemes text tokens) (length tokens)
+
+-- ---- the contract of the reader
+
+-- the grammar of rule files
+abbrev pub Rules : List ℕ → List Token → File → Type 0
+Rules text tokens f = IsShallow text tokens × IsSpelled text tokens f None
+
+-- a rule file but for a range with a whole and a decimal bound: the first such one, at a byte offset
+abbrev pub IsBadRange : List ℕ → List Token → ℕ → Type 0
+IsBadRange text tokens at = IsShallow text tokens × ((f : File) × IsSpelled text tokens f (Some at))
+
+-- a lexeme, or the end of the text, at this byte offset: whatever tokens, of whatever text, begin with the lexemes up to it and with it, they spell no file
+abbrev pub IsDeadEnd : List ℕ → List Token → ℕ → Type 0
+IsDeadEnd text tokens at = IsShallow text tokens × ((k : ℕ) × (at ≡ (lexemes text tokens k).from)
+    × ((other : List ℕ) (more : List Token) (f : File) (mixed : Option ℕ) → length more ≤ 1048576 → ((i : ℕ) → i ≤ k → lexemes other more i ≡ lexemes text tokens i)
+    → IsShallow other more → IsSpelled other more f mixed → ⊥))
+
+-- why tokens spell no rule file
+abbrev pub IsRefused : List ℕ → List Token → ParseRefusal → Type 0
+IsRefused text tokens (r.NestTooDeep at) = IsTooDeep text tokens at
+IsRefused text tokens (r.Syntax at) = IsDeadEnd text tokens at
+IsRefused text tokens (r.BadRange at) = IsBadRange text tokens at
+IsRefused text tokens r.NoMemory = Unit {0}

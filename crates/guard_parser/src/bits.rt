@@ -1,0 +1,286 @@
+//! The rules of the grammar that hold no other parts.
+ghost use Rattle.std.specs.Prelude.{◌≡◌, ◌≤◌, ℕ, Option, Some, None, map};
+ghost use Rattle.guard_syntax.specs.declared.syntax.Op.{Op};
+ghost use Rattle.guard_syntax.specs.Seen.{see_step, see_expr};
+ghost use Rattle.guard_parser.specs.Forms.{leads, is_binary};
+ghost use Rattle.guard_parser.specs.Shapes.{wants};
+ghost use Rattle.guard_parser.specs.Reads.{Reads, itself, state_of, source, tree_expr_at, every_at, index_at, splice_at, key_at, name_at, behind_dot_at, dotted_at, items_at, closed_index_at, start_at, tree_at};
+ghost use Rattle.guard_parser.specs.Reading as spec;
+
+use crate::cursor::Halt;
+use crate::literal::literal;
+use crate::shape::Want;
+use crate::state::{Cursor, Tokens};
+use doc_values::Doc;
+use guard_syntax::{Expr, Name, Op, Step, StepForm, Text};
+use std::alloc::Global;
+
+#[tactic(auto, unfolding(crate::specs::Reading::named_bar))]
+fn named_bar(alloc: Global, tokens: Tokens<'_>, cursor: &mut Cursor) -> Result<Option<Name>, Halt>
+    ensures { Reads itself (spec.named_bar (source tokens.entry) (state_of cursor.old) cursor.old.seen) result cursor.new }
+{
+    let name = cursor.has_name(alloc, tokens, Want::Name)?;
+    cursor.takes(tokens, Want::Bar)?;
+    Ok(Some(name))
+}
+
+/// A name and a bar, or nothing.
+#[tactic(auto, unfolding(crate::specs::Reading::capture, crate::specs::Parser::choose, crate::specs::Parser::choose_next))]
+pub(crate) fn capture(
+    alloc: Global,
+    tokens: Tokens<'_>,
+    cursor: &mut Cursor,
+) -> Result<Option<Name>, Halt>
+    ensures { Reads itself (spec.capture (source tokens.entry) (state_of cursor.old) cursor.old.seen) result cursor.new }
+{
+    if !cursor.sees(tokens, Want::Name) {
+        return Ok(None);
+    }
+    if !cursor.sees_next(tokens, Want::Bar) {
+        return Ok(None);
+    }
+    named_bar(alloc, tokens, cursor)
+}
+
+/// A note, or nothing.
+#[tactic(auto, unfolding(crate::specs::Reading::note, crate::specs::Parser::choose))]
+pub(crate) fn note(
+    alloc: Global,
+    tokens: Tokens<'_>,
+    cursor: &mut Cursor,
+) -> Result<Option<Text>, Halt>
+    ensures { Reads itself (spec.note (source tokens.entry) (state_of cursor.old) cursor.old.seen) result cursor.new }
+{
+    if !cursor.sees(tokens, Want::Note) {
+        return Ok(None);
+    }
+    let text = cursor.has_text(alloc, tokens, Want::Note)?;
+    Ok(Some(text))
+}
+
+/// `!` or `not`, or nothing.
+#[tactic(auto, unfolding(crate::specs::Reading::neg, crate::specs::Parser::choose))]
+fn neg(tokens: Tokens<'_>, cursor: &mut Cursor) -> Result<bool, Halt>
+    ensures { Reads itself (spec.neg (source tokens.entry) (state_of cursor.old) cursor.old.seen) result cursor.new }
+{
+    if !cursor.sees(tokens, Want::Neg) {
+        return Ok(false);
+    }
+    cursor.takes(tokens, Want::Neg)?;
+    Ok(true)
+}
+
+/// The word of an operator, negated or not.
+#[tactic(auto, unfolding(crate::specs::Reading::worded))]
+fn worded(tokens: Tokens<'_>, cursor: &mut Cursor, want: Want) -> Result<(Op, bool), Halt>
+    ensures { Reads itself (spec.worded (source tokens.entry) (wants want) (state_of cursor.old) cursor.old.seen) result cursor.new }
+{
+    let not = neg(tokens, cursor)?;
+    let op = cursor.has_operator(tokens, want)?;
+    Ok((op, not))
+}
+
+/// The operator of a test.
+#[tactic(auto, unfolding(crate::specs::Reading::operator, crate::specs::Parser::choose))]
+pub(crate) fn operator(tokens: Tokens<'_>, cursor: &mut Cursor) -> Result<(Op, bool), Halt>
+    ensures { Reads itself (spec.operator (source tokens.entry) (state_of cursor.old) cursor.old.seen) result cursor.new }
+{
+    if cursor.sees(tokens, Want::Comparison) {
+        return cursor.has_sign(tokens, Want::Comparison);
+    }
+    worded(tokens, cursor, Want::Operator)
+}
+
+/// The operator of a filter on keys.
+#[tactic(auto, unfolding(crate::specs::Reading::keys_operator, crate::specs::Parser::choose))]
+pub(crate) fn keys_operator(tokens: Tokens<'_>, cursor: &mut Cursor) -> Result<(Op, bool), Halt>
+    ensures { Reads itself (spec.keys_operator (source tokens.entry) (state_of cursor.old) cursor.old.seen) result cursor.new }
+{
+    if cursor.sees(tokens, Want::Equality) {
+        return cursor.has_sign(tokens, Want::Equality);
+    }
+    worded(tokens, cursor, Want::In)
+}
+
+/// Whether an operator has a right side.
+pub(crate) fn is_binary(op: Op) -> bool
+    ensures { result ≡ is_binary op }
+{
+    matches!(op, Op::Eq | Op::Lt | Op::Le | Op::Gt | Op::Ge | Op::Within)
+}
+
+/// What stands behind a name that begins a query, where blocks may stand or not.
+pub(crate) fn lead_of(full: bool) -> Want
+    ensures { (n : ℕ) → wants result n ≡ leads full n }
+{
+    if full { Want::PartLead } else { Want::CondLead }
+}
+
+/// `.*`
+fn every(tokens: Tokens<'_>, cursor: &mut Cursor, site: u32) -> Result<Step, Halt>
+    ensures { Reads see_step (every_at tokens.entry site (state_of cursor.old) cursor.old.seen) result cursor.new }
+{
+    cursor.takes(tokens, Want::Star)?;
+    Ok(Step {
+        site,
+        form: StepForm::Every,
+    })
+}
+
+fn numbered(tokens: Tokens<'_>, cursor: &mut Cursor, site: u32) -> Result<Step, Halt>
+    ensures { Reads see_step (index_at tokens.entry site (state_of cursor.old) cursor.old.seen) result cursor.new }
+{
+    let index = cursor.has_index(tokens)?;
+    Ok(Step {
+        site,
+        form: StepForm::Index(index),
+    })
+}
+
+fn spliced(alloc: Global, tokens: Tokens<'_>, cursor: &mut Cursor, site: u32) -> Result<Step, Halt>
+    ensures { Reads see_step (splice_at tokens.entry site (state_of cursor.old) cursor.old.seen) result cursor.new }
+{
+    let name = cursor.has_name(alloc, tokens, Want::Var)?;
+    Ok(Step {
+        site,
+        form: StepForm::Splice(name),
+    })
+}
+
+fn keyed_by(alloc: Global, tokens: Tokens<'_>, cursor: &mut Cursor, site: u32) -> Result<Step, Halt>
+    ensures { Reads see_step (key_at tokens.entry site (state_of cursor.old) cursor.old.seen) result cursor.new }
+{
+    let name = cursor.has_text(alloc, tokens, Want::Key)?;
+    Ok(Step {
+        site,
+        form: StepForm::Key(name),
+    })
+}
+
+#[tactic(auto, unfolding(crate::specs::Parser::choose))]
+fn named(alloc: Global, tokens: Tokens<'_>, cursor: &mut Cursor, site: u32) -> Result<Step, Halt>
+    ensures { Reads see_step (name_at tokens.entry site (state_of cursor.old) cursor.old.seen) result cursor.new }
+{
+    if cursor.sees(tokens, Want::Var) {
+        return spliced(alloc, tokens, cursor, site);
+    }
+    keyed_by(alloc, tokens, cursor, site)
+}
+
+#[tactic(auto, unfolding(crate::specs::Parser::choose))]
+fn behind_dot(
+    alloc: Global,
+    tokens: Tokens<'_>,
+    cursor: &mut Cursor,
+    site: u32,
+) -> Result<Step, Halt>
+    ensures { Reads see_step (behind_dot_at tokens.entry site (state_of cursor.old) cursor.old.seen) result cursor.new }
+{
+    if cursor.sees(tokens, Want::Star) {
+        return every(tokens, cursor, site);
+    }
+    if cursor.sees(tokens, Want::Index) {
+        return numbered(tokens, cursor, site);
+    }
+    named(alloc, tokens, cursor, site)
+}
+
+/// A step behind a dot.
+pub(crate) fn dotted(
+    alloc: Global,
+    tokens: Tokens<'_>,
+    cursor: &mut Cursor,
+    site: u32,
+) -> Result<Step, Halt>
+    ensures { Reads see_step (dotted_at tokens.entry site (state_of cursor.old) cursor.old.seen) result cursor.new }
+{
+    cursor.takes(tokens, Want::Dot)?;
+    behind_dot(alloc, tokens, cursor, site)
+}
+
+/// `[*]`, behind its bracket.
+pub(crate) fn all_items(tokens: Tokens<'_>, cursor: &mut Cursor, site: u32) -> Result<Step, Halt>
+    ensures { Reads see_step (items_at tokens.entry site (state_of cursor.old) cursor.old.seen) result cursor.new }
+{
+    cursor.takes(tokens, Want::Star)?;
+    cursor.takes(tokens, Want::RBracket)?;
+    Ok(Step {
+        site,
+        form: StepForm::Items,
+    })
+}
+
+/// An index in brackets, behind the first.
+pub(crate) fn numbered_item(
+    tokens: Tokens<'_>,
+    cursor: &mut Cursor,
+    site: u32,
+) -> Result<Step, Halt>
+    ensures { Reads see_step (closed_index_at tokens.entry site (state_of cursor.old) cursor.old.seen) result cursor.new }
+{
+    let index = cursor.has_index(tokens)?;
+    cursor.takes(tokens, Want::RBracket)?;
+    Ok(Step {
+        site,
+        form: StepForm::Index(index),
+    })
+}
+
+/// The start of a query.
+#[tactic(auto, unfolding(crate::specs::Parser::choose))]
+pub(crate) fn start_step(
+    alloc: Global,
+    tokens: Tokens<'_>,
+    cursor: &mut Cursor,
+) -> Result<Step, Halt>
+    ensures { Reads see_step (start_at tokens.entry (state_of cursor.old) cursor.old.seen) result cursor.new }
+{
+    let site = cursor.opens(tokens)?;
+    if cursor.sees(tokens, Want::This) {
+        cursor.takes(tokens, Want::This)?;
+        return Ok(Step {
+            site,
+            form: StepForm::This,
+        });
+    }
+    if cursor.sees(tokens, Want::Var) {
+        let name = cursor.has_text(alloc, tokens, Want::Var)?;
+        return Ok(Step {
+            site,
+            form: StepForm::Var(name),
+        });
+    }
+    let name = cursor.has_text(alloc, tokens, Want::FirstKey)?;
+    Ok(Step {
+        site,
+        form: StepForm::Key(name),
+    })
+}
+
+fn tree_inside(
+    alloc: Global,
+    tokens: Tokens<'_>,
+    cursor: &mut Cursor,
+    depth: usize,
+) -> Result<Doc<'static>, Halt>
+    requires room { depth ≤ 128 }
+    ensures { Reads itself (tree_at tokens.entry depth (state_of cursor.old) cursor.old.seen) result cursor.new }
+{
+    literal(alloc, tokens, cursor, depth)
+}
+
+/// A literal.
+#[tactic(auto, unfolding(crate::specs::Reading::tree_expr))]
+pub(crate) fn tree_expr(
+    alloc: Global,
+    tokens: Tokens<'_>,
+    cursor: &mut Cursor,
+    depth: usize,
+) -> Result<Expr, Halt>
+    requires room { depth ≤ 128 }
+    ensures { Reads see_expr (tree_expr_at tokens.entry depth (state_of cursor.old) cursor.old.seen) result cursor.new }
+{
+    let site = cursor.opens(tokens)?;
+    let tree = tree_inside(alloc, tokens, cursor, depth)?;
+    Ok(Expr::Literal { site, tree })
+}

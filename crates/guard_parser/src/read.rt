@@ -1,0 +1,907 @@
+//! The rules of the grammar. They recur through brackets alone, each time one level of depth less.
+ghost use Rattle.std.specs.Prelude.{◌≡◌, ◌≤◌, ℕ, true, false, map};
+ghost use Rattle.guard_syntax.specs.Seen.{see_body, see_conds, see_disj, see_let, see_part, see_query, see_step, see_expr, see_opt_conds, see_opt_expr};
+ghost use Rattle.guard_parser.specs.Reads.{Reads, state_of, see_disjs, see_exprs, see_items, see_parts, see_steps, applied_at, asked_at, behind_bracket_at, body_at, body_end_at, body_items_at, bracketed_at, called_at, captured_at, cond_at, cond_part_at, conds_at, disj_at, disjs_front_at, expr_at, exprs_at, filtered_at, found_expr_at, full_part_at, guarded_at, headed_at, inner_body_at, inner_conds_at, inner_expr_at, inner_exprs_at, judged_at, keyed_at, kinds_at, led_at, led_by_name_at, let_at, more_exprs_front_at, named_expr_at, opt_conds_at, ors_front_at, query_at, right_at, ruled_at, step_at, steps_front_at, tested_at, value_at};
+
+use crate::bits::{
+    all_items, capture, dotted, is_binary, keys_operator, lead_of, note, numbered_item, operator,
+    start_step, tree_expr,
+};
+use crate::cursor::Halt;
+use crate::shape::Want;
+use crate::state::{Cursor, Tokens};
+use guard_syntax::{Body, Conds, Disj, Expr, Let, Name, Op, Part, Query, Step, StepForm, Text};
+use std::alloc::Global;
+
+/// A body, one bracket deeper.
+#[cycle(grammar)]
+#[tactic(auto, unfolding(crate::specs::Reading::body_of))]
+pub(crate) fn body(
+    alloc: Global,
+    tokens: Tokens<'_>,
+    cursor: &mut Cursor,
+    depth: usize,
+) -> Result<Body, Halt>
+    requires room { depth ≤ 128 }
+    ensures { Reads see_body (inner_body_at tokens.entry depth (state_of cursor.old) cursor.old.seen) result cursor.new }
+{
+    if depth == 0 {
+        return Err(Halt::Dead(cursor.seen));
+    }
+    body_of(alloc, tokens, cursor, depth - 1)
+}
+
+#[cycle(grammar)]
+#[tactic(auto, unfolding(crate::specs::Reading::body_of, crate::specs::Reading::body_end))]
+fn body_of(
+    alloc: Global,
+    tokens: Tokens<'_>,
+    cursor: &mut Cursor,
+    depth: usize,
+) -> Result<Body, Halt>
+    requires room { depth ≤ 128 }
+    ensures { Reads see_body (body_at tokens.entry depth (state_of cursor.old) cursor.old.seen) result cursor.new }
+{
+    let site = cursor.opens(tokens)?;
+    cursor.takes(tokens, Want::LBrace)?;
+    let (lets, parts) = body_items(alloc, tokens, cursor, depth)?;
+    if parts.is_empty() {
+        return Err(Halt::Dead(cursor.seen));
+    }
+    body_end(tokens, cursor, site, lets, parts)
+}
+
+fn body_end(
+    tokens: Tokens<'_>,
+    cursor: &mut Cursor,
+    site: u32,
+    lets: Vec<Let>,
+    parts: Vec<Disj>,
+) -> Result<Body, Halt>
+    ensures { Reads see_body (body_end_at tokens.entry site (see_items (lets, parts)) (state_of cursor.old) cursor.old.seen) result cursor.new }
+{
+    cursor.takes(tokens, Want::RBrace)?;
+    Ok(Body { site, lets, parts })
+}
+
+#[cycle(grammar)]
+#[tactic(auto, unfolding(crate::specs::Reading::body_items, crate::specs::Parser::choose))]
+fn body_items(
+    alloc: Global,
+    tokens: Tokens<'_>,
+    cursor: &mut Cursor,
+    depth: usize,
+) -> Result<(Vec<Let>, Vec<Disj>), Halt>
+    requires room { depth ≤ 128 }
+    ensures { Reads see_items (body_items_at tokens.entry depth tokens.entry.turns (state_of cursor.old) cursor.old.seen) result cursor.new }
+{
+    let mut lets = Vec::new(alloc);
+    let mut parts = Vec::new(alloc);
+    for _turn in 0..tokens.turns {
+        if cursor.sees(tokens, Want::Let) {
+            match let_of(alloc, tokens, cursor, depth) {
+                Ok(found) => lets.push(found)?,
+                Err(e) => return Err(e),
+            }
+            continue;
+        }
+        if !cursor.sees(tokens, Want::Part) {
+            return Ok((lets, parts));
+        }
+        match disj(alloc, tokens, cursor, depth) {
+            Ok(found) => parts.push(found)?,
+            Err(e) => return Err(e),
+        }
+    }
+    Err(Halt::Dead(cursor.seen))
+}
+
+/// `let name = value`
+#[cycle(grammar)]
+#[tactic(auto, unfolding(crate::specs::Reading::let_of))]
+pub(crate) fn let_of(
+    alloc: Global,
+    tokens: Tokens<'_>,
+    cursor: &mut Cursor,
+    depth: usize,
+) -> Result<Let, Halt>
+    requires room { depth ≤ 128 }
+    ensures { Reads see_let (let_at tokens.entry depth (state_of cursor.old) cursor.old.seen) result cursor.new }
+{
+    let site = cursor.opens(tokens)?;
+    cursor.takes(tokens, Want::Let)?;
+    let name = cursor.has_name(alloc, tokens, Want::Name)?;
+    cursor.takes(tokens, Want::Assign)?;
+    let value = value(alloc, tokens, cursor, depth)?;
+    Ok(Let { site, name, value })
+}
+
+/// Parts of a body joined by `or`.
+#[cycle(grammar)]
+#[tactic(auto, unfolding(crate::specs::Reading::disj_of))]
+pub(crate) fn disj(
+    alloc: Global,
+    tokens: Tokens<'_>,
+    cursor: &mut Cursor,
+    depth: usize,
+) -> Result<Disj, Halt>
+    requires room { depth ≤ 128 }
+    ensures { Reads see_disj (disj_at tokens.entry depth true (state_of cursor.old) cursor.old.seen) result cursor.new }
+{
+    let site = cursor.opens(tokens)?;
+    let mut parts = Vec::new(alloc);
+    parts.push(full_part(alloc, tokens, cursor, depth)?)?;
+    let parts = ors(alloc, tokens, cursor, depth, parts)?;
+    Ok(Disj { site, parts })
+}
+
+#[cycle(grammar)]
+#[tactic(auto, unfolding(crate::specs::Reading::ors, crate::specs::Parser::choose))]
+fn ors(
+    alloc: Global,
+    tokens: Tokens<'_>,
+    cursor: &mut Cursor,
+    depth: usize,
+    found: Vec<Part>,
+) -> Result<Vec<Part>, Halt>
+    requires room { depth ≤ 128 }
+    ensures { Reads see_parts (ors_front_at tokens.entry depth true (map see_part found.items) tokens.entry.turns (state_of cursor.old) cursor.old.seen) result cursor.new }
+{
+    let mut found = found;
+    for _turn in 0..tokens.turns {
+        if !cursor.sees(tokens, Want::Or) {
+            return Ok(found);
+        }
+        cursor.takes(tokens, Want::Or)?;
+        found.push(full_part(alloc, tokens, cursor, depth)?)?;
+    }
+    Err(Halt::Dead(cursor.seen))
+}
+
+/// Conditions joined by `or`.
+#[cycle(grammar)]
+#[tactic(auto, unfolding(crate::specs::Reading::disj_of))]
+fn cond_disj(
+    alloc: Global,
+    tokens: Tokens<'_>,
+    cursor: &mut Cursor,
+    depth: usize,
+) -> Result<Disj, Halt>
+    requires room { depth ≤ 128 }
+    ensures { Reads see_disj (disj_at tokens.entry depth false (state_of cursor.old) cursor.old.seen) result cursor.new }
+{
+    let site = cursor.opens(tokens)?;
+    let mut parts = Vec::new(alloc);
+    parts.push(cond_part(alloc, tokens, cursor, depth)?)?;
+    let parts = cond_ors(alloc, tokens, cursor, depth, parts)?;
+    Ok(Disj { site, parts })
+}
+
+#[cycle(grammar)]
+#[tactic(auto, unfolding(crate::specs::Reading::ors, crate::specs::Parser::choose))]
+fn cond_ors(
+    alloc: Global,
+    tokens: Tokens<'_>,
+    cursor: &mut Cursor,
+    depth: usize,
+    found: Vec<Part>,
+) -> Result<Vec<Part>, Halt>
+    requires room { depth ≤ 128 }
+    ensures { Reads see_parts (ors_front_at tokens.entry depth false (map see_part found.items) tokens.entry.turns (state_of cursor.old) cursor.old.seen) result cursor.new }
+{
+    let mut found = found;
+    for _turn in 0..tokens.turns {
+        if !cursor.sees(tokens, Want::Or) {
+            return Ok(found);
+        }
+        cursor.takes(tokens, Want::Or)?;
+        found.push(cond_part(alloc, tokens, cursor, depth)?)?;
+    }
+    Err(Halt::Dead(cursor.seen))
+}
+
+#[cycle(grammar)]
+#[tactic(auto, unfolding(crate::specs::Reading::cond_part))]
+fn cond_part(
+    alloc: Global,
+    tokens: Tokens<'_>,
+    cursor: &mut Cursor,
+    depth: usize,
+) -> Result<Part, Halt>
+    requires room { depth ≤ 128 }
+    ensures { Reads see_part (cond_part_at tokens.entry depth (state_of cursor.old) cursor.old.seen) result cursor.new }
+{
+    let site = cursor.opens(tokens)?;
+    cond(alloc, tokens, cursor, depth, false, site)
+}
+
+#[cycle(grammar)]
+#[tactic(auto, unfolding(crate::specs::Reading::full_part, crate::specs::Parser::choose))]
+fn full_part(
+    alloc: Global,
+    tokens: Tokens<'_>,
+    cursor: &mut Cursor,
+    depth: usize,
+) -> Result<Part, Halt>
+    requires room { depth ≤ 128 }
+    ensures { Reads see_part (full_part_at tokens.entry depth (state_of cursor.old) cursor.old.seen) result cursor.new }
+{
+    let site = cursor.opens(tokens)?;
+    if cursor.sees(tokens, Want::When) {
+        return guarded(alloc, tokens, cursor, depth, site);
+    }
+    if cursor.sees(tokens, Want::TypeName) {
+        return kinds(alloc, tokens, cursor, depth, site);
+    }
+    cond(alloc, tokens, cursor, depth, true, site)
+}
+
+#[cycle(grammar)]
+#[tactic(auto, unfolding(crate::specs::Reading::guarded_part))]
+fn guarded(
+    alloc: Global,
+    tokens: Tokens<'_>,
+    cursor: &mut Cursor,
+    depth: usize,
+    site: u32,
+) -> Result<Part, Halt>
+    requires room { depth ≤ 128 }
+    ensures { Reads see_part (guarded_at tokens.entry depth site (state_of cursor.old) cursor.old.seen) result cursor.new }
+{
+    cursor.takes(tokens, Want::When)?;
+    let cond = conds(alloc, tokens, cursor, depth)?;
+    let body = body(alloc, tokens, cursor, depth)?;
+    Ok(Part::When { site, cond, body })
+}
+
+#[cycle(grammar)]
+#[tactic(auto, unfolding(crate::specs::Reading::kinds_part))]
+fn kinds(
+    alloc: Global,
+    tokens: Tokens<'_>,
+    cursor: &mut Cursor,
+    depth: usize,
+    site: u32,
+) -> Result<Part, Halt>
+    requires room { depth ≤ 128 }
+    ensures { Reads see_part (kinds_at tokens.entry depth site (state_of cursor.old) cursor.old.seen) result cursor.new }
+{
+    let name = cursor.has_text(alloc, tokens, Want::TypeName)?;
+    let cond = opt_conds(alloc, tokens, cursor, depth)?;
+    let body = body(alloc, tokens, cursor, depth)?;
+    Ok(Part::Kinds {
+        site,
+        name,
+        cond,
+        body,
+    })
+}
+
+/// `when` and conditions, or nothing.
+#[cycle(grammar)]
+#[tactic(auto, unfolding(crate::specs::Reading::opt_conds, crate::specs::Parser::choose))]
+pub(crate) fn opt_conds(
+    alloc: Global,
+    tokens: Tokens<'_>,
+    cursor: &mut Cursor,
+    depth: usize,
+) -> Result<Option<Conds>, Halt>
+    requires room { depth ≤ 128 }
+    ensures { Reads see_opt_conds (opt_conds_at tokens.entry depth (state_of cursor.old) cursor.old.seen) result cursor.new }
+{
+    if !cursor.sees(tokens, Want::When) {
+        return Ok(None);
+    }
+    cursor.takes(tokens, Want::When)?;
+    let found = conds(alloc, tokens, cursor, depth)?;
+    Ok(Some(found))
+}
+
+#[cycle(grammar)]
+#[tactic(auto, unfolding(crate::specs::Reading::conds_of))]
+fn conds(
+    alloc: Global,
+    tokens: Tokens<'_>,
+    cursor: &mut Cursor,
+    depth: usize,
+) -> Result<Conds, Halt>
+    requires room { depth ≤ 128 }
+    ensures { Reads see_conds (conds_at tokens.entry depth (state_of cursor.old) cursor.old.seen) result cursor.new }
+{
+    let site = cursor.opens(tokens)?;
+    let mut parts = Vec::new(alloc);
+    parts.push(cond_disj(alloc, tokens, cursor, depth)?)?;
+    let parts = disjs(alloc, tokens, cursor, depth, parts)?;
+    Ok(Conds { site, parts })
+}
+
+#[cycle(grammar)]
+#[tactic(auto, unfolding(crate::specs::Reading::disjs, crate::specs::Parser::choose))]
+fn disjs(
+    alloc: Global,
+    tokens: Tokens<'_>,
+    cursor: &mut Cursor,
+    depth: usize,
+    found: Vec<Disj>,
+) -> Result<Vec<Disj>, Halt>
+    requires room { depth ≤ 128 }
+    ensures { Reads see_disjs (disjs_front_at tokens.entry depth (map see_disj found.items) tokens.entry.turns (state_of cursor.old) cursor.old.seen) result cursor.new }
+{
+    let mut found = found;
+    for _turn in 0..tokens.turns {
+        if !cursor.sees(tokens, Want::Cond) {
+            return Ok(found);
+        }
+        found.push(cond_disj(alloc, tokens, cursor, depth)?)?;
+    }
+    Err(Halt::Dead(cursor.seen))
+}
+
+#[cycle(grammar)]
+#[tactic(auto, unfolding(crate::specs::Reading::cond_of, crate::specs::Parser::choose))]
+fn cond(
+    alloc: Global,
+    tokens: Tokens<'_>,
+    cursor: &mut Cursor,
+    depth: usize,
+    full: bool,
+    site: u32,
+) -> Result<Part, Halt>
+    requires room { depth ≤ 128 }
+    ensures { Reads see_part (cond_at tokens.entry depth full site (state_of cursor.old) cursor.old.seen) result cursor.new }
+{
+    if cursor.sees(tokens, Want::Some) {
+        cursor.takes(tokens, Want::Some)?;
+        return headed(alloc, tokens, cursor, depth, full, site, true);
+    }
+    if cursor.sees(tokens, Want::Neg) {
+        cursor.takes(tokens, Want::Neg)?;
+        return ruled(alloc, tokens, cursor, depth, site, true);
+    }
+    led(alloc, tokens, cursor, depth, full, site)
+}
+
+#[cycle(grammar)]
+#[tactic(auto, unfolding(crate::specs::Parser::choose))]
+fn led(
+    alloc: Global,
+    tokens: Tokens<'_>,
+    cursor: &mut Cursor,
+    depth: usize,
+    full: bool,
+    site: u32,
+) -> Result<Part, Halt>
+    requires room { depth ≤ 128 }
+    ensures { Reads see_part (led_at tokens.entry depth full site (state_of cursor.old) cursor.old.seen) result cursor.new }
+{
+    if cursor.sees(tokens, Want::Name) {
+        return led_by_name(alloc, tokens, cursor, depth, full, site);
+    }
+    if cursor.sees(tokens, Want::Start) {
+        return headed(alloc, tokens, cursor, depth, full, site, false);
+    }
+    Err(Halt::Dead(cursor.seen))
+}
+
+/// A name begins a query or is a rule's.
+#[cycle(grammar)]
+#[tactic(auto, unfolding(crate::specs::Reading::led_by_name, crate::specs::Parser::choose_next, crate::specs::Parser::choose_third))]
+fn led_by_name(
+    alloc: Global,
+    tokens: Tokens<'_>,
+    cursor: &mut Cursor,
+    depth: usize,
+    full: bool,
+    site: u32,
+) -> Result<Part, Halt>
+    requires room { depth ≤ 128 }
+    ensures { Reads see_part (led_by_name_at tokens.entry depth full site (state_of cursor.old) cursor.old.seen) result cursor.new }
+{
+    if cursor.sees_next(tokens, lead_of(full)) {
+        return headed(alloc, tokens, cursor, depth, full, site, false);
+    }
+    if !cursor.sees_next(tokens, Want::Neg) {
+        return ruled(alloc, tokens, cursor, depth, site, false);
+    }
+    if cursor.sees_third(tokens, Want::Operator) {
+        return headed(alloc, tokens, cursor, depth, full, site, false);
+    }
+    ruled(alloc, tokens, cursor, depth, site, false)
+}
+
+#[cycle(grammar)]
+#[tactic(auto, unfolding(crate::specs::Reading::headed))]
+fn headed(
+    alloc: Global,
+    tokens: Tokens<'_>,
+    cursor: &mut Cursor,
+    depth: usize,
+    full: bool,
+    site: u32,
+    any: bool,
+) -> Result<Part, Halt>
+    requires room { depth ≤ 128 }
+    ensures { Reads see_part (headed_at tokens.entry depth full site any (state_of cursor.old) cursor.old.seen) result cursor.new }
+{
+    let left = query(alloc, tokens, cursor, depth)?;
+    judged(alloc, tokens, cursor, depth, full, site, any, left)
+}
+
+#[cycle(grammar)]
+#[tactic(auto, unfolding(crate::specs::Reading::judged, crate::specs::Parser::choose))]
+fn judged(
+    alloc: Global,
+    tokens: Tokens<'_>,
+    cursor: &mut Cursor,
+    depth: usize,
+    full: bool,
+    site: u32,
+    any: bool,
+    left: Query,
+) -> Result<Part, Halt>
+    requires room { depth ≤ 128 }
+    ensures { Reads see_part (judged_at tokens.entry depth full site any (see_query left) (state_of cursor.old) cursor.old.seen) result cursor.new }
+{
+    if !full {
+        return tested(alloc, tokens, cursor, depth, site, any, left);
+    }
+    if !cursor.sees(tokens, Want::LBrace) {
+        return tested(alloc, tokens, cursor, depth, site, any, left);
+    }
+    let body = body(alloc, tokens, cursor, depth)?;
+    Ok(Part::Block {
+        site,
+        any,
+        head: left,
+        body,
+    })
+}
+
+#[cycle(grammar)]
+#[tactic(auto, unfolding(crate::specs::Reading::tested))]
+fn tested(
+    alloc: Global,
+    tokens: Tokens<'_>,
+    cursor: &mut Cursor,
+    depth: usize,
+    site: u32,
+    any: bool,
+    left: Query,
+) -> Result<Part, Halt>
+    requires room { depth ≤ 128 }
+    ensures { Reads see_part (tested_at tokens.entry depth site any (see_query left) (state_of cursor.old) cursor.old.seen) result cursor.new }
+{
+    let (op, not) = operator(tokens, cursor)?;
+    let right = right(alloc, tokens, cursor, depth, op)?;
+    let note = note(alloc, tokens, cursor)?;
+    Ok(Part::Test {
+        site,
+        any,
+        left,
+        op,
+        not,
+        right,
+        note,
+    })
+}
+
+#[cycle(grammar)]
+#[tactic(auto, unfolding(crate::specs::Reading::right))]
+fn right(
+    alloc: Global,
+    tokens: Tokens<'_>,
+    cursor: &mut Cursor,
+    depth: usize,
+    op: Op,
+) -> Result<Option<Expr>, Halt>
+    requires room { depth ≤ 128 }
+    ensures { Reads see_opt_expr (right_at tokens.entry depth op (state_of cursor.old) cursor.old.seen) result cursor.new }
+{
+    if !is_binary(op) {
+        return Ok(None);
+    }
+    let found = expr(alloc, tokens, cursor, depth)?;
+    Ok(Some(found))
+}
+
+#[cycle(grammar)]
+#[tactic(auto, unfolding(crate::specs::Reading::ruled, crate::specs::Reading::referred, crate::specs::Parser::choose))]
+fn ruled(
+    alloc: Global,
+    tokens: Tokens<'_>,
+    cursor: &mut Cursor,
+    depth: usize,
+    site: u32,
+    not: bool,
+) -> Result<Part, Halt>
+    requires room { depth ≤ 128 }
+    ensures { Reads see_part (ruled_at tokens.entry depth site not (state_of cursor.old) cursor.old.seen) result cursor.new }
+{
+    let name = cursor.has_text(alloc, tokens, Want::Name)?;
+    if cursor.sees(tokens, Want::LParen) {
+        return called(alloc, tokens, cursor, depth, site, not, name);
+    }
+    let note = note(alloc, tokens, cursor)?;
+    Ok(Part::Refer {
+        site,
+        not,
+        name,
+        note,
+    })
+}
+
+#[cycle(grammar)]
+#[tactic(auto, unfolding(crate::specs::Reading::called))]
+fn called(
+    alloc: Global,
+    tokens: Tokens<'_>,
+    cursor: &mut Cursor,
+    depth: usize,
+    site: u32,
+    not: bool,
+    name: Text,
+) -> Result<Part, Halt>
+    requires room { depth ≤ 128 }
+    ensures { Reads see_part (called_at tokens.entry depth site not name (state_of cursor.old) cursor.old.seen) result cursor.new }
+{
+    cursor.takes(tokens, Want::LParen)?;
+    let args = exprs(alloc, tokens, cursor, depth)?;
+    cursor.takes(tokens, Want::RParen)?;
+    let note = note(alloc, tokens, cursor)?;
+    Ok(Part::Call {
+        site,
+        not,
+        name,
+        args,
+        note,
+    })
+}
+
+#[cycle(grammar)]
+#[tactic(auto, unfolding(crate::specs::Reading::query_of, crate::specs::Reading::start_step))]
+fn query(
+    alloc: Global,
+    tokens: Tokens<'_>,
+    cursor: &mut Cursor,
+    depth: usize,
+) -> Result<Query, Halt>
+    requires room { depth ≤ 128 }
+    ensures { Reads see_query (query_at tokens.entry depth (state_of cursor.old) cursor.old.seen) result cursor.new }
+{
+    let site = cursor.opens(tokens)?;
+    let mut found = Vec::new(alloc);
+    found.push(start_step(alloc, tokens, cursor)?)?;
+    let steps = steps(alloc, tokens, cursor, depth, found)?;
+    Ok(Query { site, steps })
+}
+
+#[cycle(grammar)]
+#[tactic(auto, unfolding(crate::specs::Reading::steps, crate::specs::Parser::choose))]
+fn steps(
+    alloc: Global,
+    tokens: Tokens<'_>,
+    cursor: &mut Cursor,
+    depth: usize,
+    found: Vec<Step>,
+) -> Result<Vec<Step>, Halt>
+    requires room { depth ≤ 128 }
+    ensures { Reads see_steps (steps_front_at tokens.entry depth (map see_step found.items) tokens.entry.turns (state_of cursor.old) cursor.old.seen) result cursor.new }
+{
+    let mut found = found;
+    for _turn in 0..tokens.turns {
+        if !cursor.sees(tokens, Want::Step) {
+            return Ok(found);
+        }
+        found.push(step(alloc, tokens, cursor, depth)?)?;
+    }
+    Err(Halt::Dead(cursor.seen))
+}
+
+#[cycle(grammar)]
+#[tactic(auto, unfolding(crate::specs::Reading::step, crate::specs::Reading::dotted, crate::specs::Parser::choose))]
+fn step(alloc: Global, tokens: Tokens<'_>, cursor: &mut Cursor, depth: usize) -> Result<Step, Halt>
+    requires room { depth ≤ 128 }
+    ensures { Reads see_step (step_at tokens.entry depth (state_of cursor.old) cursor.old.seen) result cursor.new }
+{
+    let site = cursor.opens(tokens)?;
+    if cursor.sees(tokens, Want::Dot) {
+        return dotted(alloc, tokens, cursor, site);
+    }
+    bracketed(alloc, tokens, cursor, depth, site)
+}
+
+#[cycle(grammar)]
+#[tactic(auto, unfolding(crate::specs::Reading::bracketed))]
+fn bracketed(
+    alloc: Global,
+    tokens: Tokens<'_>,
+    cursor: &mut Cursor,
+    depth: usize,
+    site: u32,
+) -> Result<Step, Halt>
+    requires room { depth ≤ 128 }
+    ensures { Reads see_step (bracketed_at tokens.entry depth site (state_of cursor.old) cursor.old.seen) result cursor.new }
+{
+    cursor.takes(tokens, Want::LBracket)?;
+    behind_bracket(alloc, tokens, cursor, depth, site)
+}
+
+#[cycle(grammar)]
+#[tactic(auto, unfolding(crate::specs::Parser::choose))]
+fn behind_bracket(
+    alloc: Global,
+    tokens: Tokens<'_>,
+    cursor: &mut Cursor,
+    depth: usize,
+    site: u32,
+) -> Result<Step, Halt>
+    requires room { depth ≤ 128 }
+    ensures { Reads see_step (behind_bracket_at tokens.entry depth site (state_of cursor.old) cursor.old.seen) result cursor.new }
+{
+    if cursor.sees(tokens, Want::Star) {
+        return all_items(tokens, cursor, site);
+    }
+    if cursor.sees(tokens, Want::Index) {
+        return numbered_item(tokens, cursor, site);
+    }
+    captured(alloc, tokens, cursor, depth, site)
+}
+
+#[cycle(grammar)]
+#[tactic(auto, unfolding(crate::specs::Parser::choose))]
+fn captured(
+    alloc: Global,
+    tokens: Tokens<'_>,
+    cursor: &mut Cursor,
+    depth: usize,
+    site: u32,
+) -> Result<Step, Halt>
+    requires room { depth ≤ 128 }
+    ensures { Reads see_step (captured_at tokens.entry depth site (state_of cursor.old) cursor.old.seen) result cursor.new }
+{
+    let name = capture(alloc, tokens, cursor)?;
+    if cursor.sees(tokens, Want::Keys) {
+        return keyed(alloc, tokens, cursor, depth, site, name);
+    }
+    filtered(alloc, tokens, cursor, depth, site, name)
+}
+
+#[cycle(grammar)]
+#[tactic(auto, unfolding(crate::specs::Reading::keyed))]
+fn keyed(
+    alloc: Global,
+    tokens: Tokens<'_>,
+    cursor: &mut Cursor,
+    depth: usize,
+    site: u32,
+    capture: Option<Name>,
+) -> Result<Step, Halt>
+    requires room { depth ≤ 128 }
+    ensures { Reads see_step (keyed_at tokens.entry depth site capture (state_of cursor.old) cursor.old.seen) result cursor.new }
+{
+    cursor.takes(tokens, Want::Keys)?;
+    let (op, not) = keys_operator(tokens, cursor)?;
+    let right = expr_inside(alloc, tokens, cursor, depth)?;
+    cursor.takes(tokens, Want::RBracket)?;
+    Ok(Step {
+        site,
+        form: StepForm::Keys {
+            capture,
+            op,
+            not,
+            right,
+        },
+    })
+}
+
+#[cycle(grammar)]
+#[tactic(auto, unfolding(crate::specs::Reading::filtered))]
+fn filtered(
+    alloc: Global,
+    tokens: Tokens<'_>,
+    cursor: &mut Cursor,
+    depth: usize,
+    site: u32,
+    capture: Option<Name>,
+) -> Result<Step, Halt>
+    requires room { depth ≤ 128 }
+    ensures { Reads see_step (filtered_at tokens.entry depth site capture (state_of cursor.old) cursor.old.seen) result cursor.new }
+{
+    let conds = conds_inside(alloc, tokens, cursor, depth)?;
+    cursor.takes(tokens, Want::RBracket)?;
+    Ok(Step {
+        site,
+        form: StepForm::Filter(capture, conds),
+    })
+}
+
+/// Conditions, one bracket deeper.
+#[cycle(grammar)]
+fn conds_inside(
+    alloc: Global,
+    tokens: Tokens<'_>,
+    cursor: &mut Cursor,
+    depth: usize,
+) -> Result<Conds, Halt>
+    requires room { depth ≤ 128 }
+    ensures { Reads see_conds (inner_conds_at tokens.entry depth (state_of cursor.old) cursor.old.seen) result cursor.new }
+{
+    if depth == 0 {
+        return Err(Halt::Dead(cursor.seen));
+    }
+    conds(alloc, tokens, cursor, depth - 1)
+}
+
+/// An expression, one bracket deeper.
+#[cycle(grammar)]
+fn expr_inside(
+    alloc: Global,
+    tokens: Tokens<'_>,
+    cursor: &mut Cursor,
+    depth: usize,
+) -> Result<Expr, Halt>
+    requires room { depth ≤ 128 }
+    ensures { Reads see_expr (inner_expr_at tokens.entry depth (state_of cursor.old) cursor.old.seen) result cursor.new }
+{
+    if depth == 0 {
+        return Err(Halt::Dead(cursor.seen));
+    }
+    expr(alloc, tokens, cursor, depth - 1)
+}
+
+#[cycle(grammar)]
+#[tactic(auto, unfolding(crate::specs::Reading::expr_of, crate::specs::Parser::choose))]
+fn expr(alloc: Global, tokens: Tokens<'_>, cursor: &mut Cursor, depth: usize) -> Result<Expr, Halt>
+    requires room { depth ≤ 128 }
+    ensures { Reads see_expr (expr_at tokens.entry depth (state_of cursor.old) cursor.old.seen) result cursor.new }
+{
+    if cursor.sees(tokens, Want::AnyName) {
+        return named_expr(alloc, tokens, cursor, depth);
+    }
+    if cursor.sees(tokens, Want::Plain) {
+        return tree_expr(alloc, tokens, cursor, depth);
+    }
+    asked(alloc, tokens, cursor, depth)
+}
+
+/// An expression that begins with a name or a keyword.
+#[cycle(grammar)]
+#[tactic(auto, unfolding(crate::specs::Parser::choose, crate::specs::Parser::choose_pair, crate::specs::Parser::choose_next))]
+fn named_expr(
+    alloc: Global,
+    tokens: Tokens<'_>,
+    cursor: &mut Cursor,
+    depth: usize,
+) -> Result<Expr, Halt>
+    requires room { depth ≤ 128 }
+    ensures { Reads see_expr (named_expr_at tokens.entry depth (state_of cursor.old) cursor.old.seen) result cursor.new }
+{
+    if cursor.sees_range(tokens) {
+        return tree_expr(alloc, tokens, cursor, depth);
+    }
+    if cursor.sees_next(tokens, Want::LParen) {
+        return applied(alloc, tokens, cursor, depth);
+    }
+    if cursor.sees(tokens, Want::Constant) {
+        return tree_expr(alloc, tokens, cursor, depth);
+    }
+    asked(alloc, tokens, cursor, depth)
+}
+
+#[cycle(grammar)]
+#[tactic(auto, unfolding(crate::specs::Reading::asked_expr))]
+fn asked(alloc: Global, tokens: Tokens<'_>, cursor: &mut Cursor, depth: usize) -> Result<Expr, Halt>
+    requires room { depth ≤ 128 }
+    ensures { Reads see_expr (asked_at tokens.entry depth (state_of cursor.old) cursor.old.seen) result cursor.new }
+{
+    let found = query(alloc, tokens, cursor, depth)?;
+    Ok(Expr::Query(found))
+}
+
+#[cycle(grammar)]
+#[tactic(auto, unfolding(crate::specs::Reading::applied))]
+fn applied(
+    alloc: Global,
+    tokens: Tokens<'_>,
+    cursor: &mut Cursor,
+    depth: usize,
+) -> Result<Expr, Halt>
+    requires room { depth ≤ 128 }
+    ensures { Reads see_expr (applied_at tokens.entry depth (state_of cursor.old) cursor.old.seen) result cursor.new }
+{
+    let site = cursor.opens(tokens)?;
+    let name = cursor.has_text(alloc, tokens, Want::AnyName)?;
+    cursor.takes(tokens, Want::LParen)?;
+    let args = exprs(alloc, tokens, cursor, depth)?;
+    cursor.takes(tokens, Want::RParen)?;
+    Ok(Expr::Function { site, name, args })
+}
+
+/// Arguments, one bracket deeper.
+#[cycle(grammar)]
+fn exprs(
+    alloc: Global,
+    tokens: Tokens<'_>,
+    cursor: &mut Cursor,
+    depth: usize,
+) -> Result<Vec<Expr>, Halt>
+    requires room { depth ≤ 128 }
+    ensures { Reads see_exprs (inner_exprs_at tokens.entry depth (state_of cursor.old) cursor.old.seen) result cursor.new }
+{
+    if depth == 0 {
+        return Err(Halt::Dead(cursor.seen));
+    }
+    exprs_of(alloc, tokens, cursor, depth - 1)
+}
+
+#[cycle(grammar)]
+#[tactic(auto, unfolding(crate::specs::Reading::exprs_of))]
+fn exprs_of(
+    alloc: Global,
+    tokens: Tokens<'_>,
+    cursor: &mut Cursor,
+    depth: usize,
+) -> Result<Vec<Expr>, Halt>
+    requires room { depth ≤ 128 }
+    ensures { Reads see_exprs (exprs_at tokens.entry depth (state_of cursor.old) cursor.old.seen) result cursor.new }
+{
+    let mut found = Vec::new(alloc);
+    found.push(expr(alloc, tokens, cursor, depth)?)?;
+    more_exprs(alloc, tokens, cursor, depth, found)
+}
+
+#[cycle(grammar)]
+#[tactic(auto, unfolding(crate::specs::Reading::more_exprs_of, crate::specs::Parser::choose))]
+fn more_exprs(
+    alloc: Global,
+    tokens: Tokens<'_>,
+    cursor: &mut Cursor,
+    depth: usize,
+    found: Vec<Expr>,
+) -> Result<Vec<Expr>, Halt>
+    requires room { depth ≤ 128 }
+    ensures { Reads see_exprs (more_exprs_front_at tokens.entry depth (map see_expr found.items) tokens.entry.turns (state_of cursor.old) cursor.old.seen) result cursor.new }
+{
+    let mut found = found;
+    for _turn in 0..tokens.turns {
+        if !cursor.sees(tokens, Want::Comma) {
+            return Ok(found);
+        }
+        cursor.takes(tokens, Want::Comma)?;
+        found.push(expr(alloc, tokens, cursor, depth)?)?;
+    }
+    Err(Halt::Dead(cursor.seen))
+}
+
+/// The right side of a let.
+#[cycle(grammar)]
+#[tactic(auto, unfolding(crate::specs::Reading::value_of, crate::specs::Parser::choose, crate::specs::Parser::choose_next))]
+fn value(alloc: Global, tokens: Tokens<'_>, cursor: &mut Cursor, depth: usize) -> Result<Expr, Halt>
+    requires room { depth ≤ 128 }
+    ensures { Reads see_expr (value_at tokens.entry depth (state_of cursor.old) cursor.old.seen) result cursor.new }
+{
+    if !cursor.sees(tokens, Want::Some) {
+        return expr(alloc, tokens, cursor, depth);
+    }
+    if cursor.sees_next(tokens, Want::LParen) {
+        return expr(alloc, tokens, cursor, depth);
+    }
+    found_expr(alloc, tokens, cursor, depth)
+}
+
+#[cycle(grammar)]
+#[tactic(auto, unfolding(crate::specs::Reading::found_expr))]
+fn found_expr(
+    alloc: Global,
+    tokens: Tokens<'_>,
+    cursor: &mut Cursor,
+    depth: usize,
+) -> Result<Expr, Halt>
+    requires room { depth ≤ 128 }
+    ensures { Reads see_expr (found_expr_at tokens.entry depth (state_of cursor.old) cursor.old.seen) result cursor.new }
+{
+    let site = cursor.opens(tokens)?;
+    cursor.takes(tokens, Want::Some)?;
+    let query = query(alloc, tokens, cursor, depth)?;
+    Ok(Expr::Found { site, query })
+}
