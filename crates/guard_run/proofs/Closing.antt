@@ -3,7 +3,8 @@ use Rattle.std.proofs.Common.{◌≡◌, ℕ, ◌++◌, inl, inr, List, [], Opti
 use Rattle.std.proofs.lemmas.List.{append-nil}
 use Rattle.std.specs.Option.{ForSome}
 use Rattle.guard_io.specs.Outside.{IsPrefix}
-use Rattle.guard_run.specs.End.{EndOf, Contents, Faults, IsReport, MaySay, MayWant, Took, TookAsDefined, memory_line, is_defined, is_judged}
+use Rattle.guard_run.specs.End.{EndOf, Contents, Faults, IsReport, MaySay, MayWant, Took, TookAsDefined, is_defined, is_judged}
+use Rattle.guard_run.specs.Lines.{memory_line}
 use Rattle.guard_run.specs.Outcome.{ended}
 use Rattle.guard_run.specs.declared.report.Judgement.{Judgement}
 use Rattle.guard_run.specs.Writing.{Closed, Said, SaidMemory}

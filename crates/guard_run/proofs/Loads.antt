@@ -1,11 +1,7 @@
 -- What was loaded, against what is told of the file.
-use Rattle.std.proofs.Common.{◌≡◌, ℕ, ◌+◌, ◌++◌, ◌<◌, ◌≤◌, List, [], length, take, Option, Some, None, Result, Ok, Err, MatchResult, arith, refl, ◌∙◌, IsUtf8}
+use Rattle.std.proofs.Common.{◌≡◌, ℕ, ◌+◌, ◌++◌, ◌<◌, ◌≤◌, List, [], length, take, Option, Some, None, arith, refl, ◌∙◌}
 use Rattle.std.proofs.lemmas.List.{length-take, take_all}
 use Rattle.std.specs.Option.{ForSome}
-use Rattle.guard_run.specs.RuleText.{RuleText}
-use Rattle.guard_run.specs.RuleGrammar.{Rules}
-use Rattle.guard_run.specs.declared.rules.RulesRefusal.{RulesRefusal}
-use Rattle.guard_run.specs.declared.rules.RulesRefusal.TheVariants.{Unread}
 use Rattle.guard_run.specs.End.{IsContent}
 
 -- no more than the limit came, though one byte more was asked for: that is all of it
@@ -25,11 +21,3 @@ loaded-long (Some content) held bytes limit none ok long =
     let e : bytes ≡ take (limit + 1) content = rw none at (ok content refl) in
     let h : limit < length (take (limit + 1) content) = rw (← e) long in
     (content, (λ other is. cc), omega (arith, length-take (limit + 1) content, h))
-
--- what was read from a text is what the bytes of that text say
-pub read-as_bytes : {T : Type 0} (items : T → List RuleText) (text bytes : List ℕ) (r : Result T RulesRefusal) → text ≡ bytes → IsUtf8 bytes
-    → MatchResult r (λ rules. Rules text (items rules)) (λ e. e ≡ Unread → (rules : List RuleText) → Rules text rules → ⊥)
-    → MatchResult r (λ rules. IsUtf8 bytes × Rules bytes (items rules))
-    (λ e. e ≡ Unread → (rules : List RuleText) → IsUtf8 bytes → Rules bytes rules → ⊥)
-read-as_bytes items text bytes (Ok rules) same utf8 found = (utf8, rw (← same) found)
-read-as_bytes items text bytes (Err e) same utf8 none = λ unread rules _ grammar. none unread rules (rw same grammar)

@@ -1,19 +1,20 @@
 -- How a call ends: the words and the contents of the files decide the end, what out takes and what err takes.
-use Rattle.std.specs.Prelude.{ℕ, ◌≡◌, ◌≤◌, ◌++◌, ◌⊎◌, List, [], Option, Some, None, Bool, true, false, map, codes, IsUtf8, length, if◌then◌else◌}
+use Rattle.std.specs.Prelude.{ℕ, ◌≡◌, ◌++◌, ◌⊎◌, List, [], Option, Some, None, Bool, true, false, map, if◌then◌else◌}
 use Rattle.std.specs.List.{list_any}
 use Rattle.std.specs.Option.{ForSome}
 use Rattle.doc_values.specs.Tree.{Forest}
-use Rattle.json_reader.specs.PlainJson.{IsPlainJson}
 use Rattle.guard_io.specs.Outside.{IsPrefix, Rose}
 use Rattle.guard_run.specs.Request.{Request, request, ends_in_json}
 use Rattle.guard_run.specs.RuleText.{RuleText}
-use Rattle.guard_run.specs.RuleGrammar.{Rules}
+use Rattle.guard_run.specs.Inputs.{IsRuleFile, RefusesRules, IsTemplate, RefusesTemplate}
 use Rattle.guard_run.specs.Verdicts.{rule_verdict, is_fail}
 use Rattle.guard_run.specs.Report.{report}
+use Rattle.guard_run.specs.Lines.{usage_line, refusal_line, read_fault_line, write_fault_line, memory_line}
 use Rattle.guard_run.specs.declared.ends.End.{End}
 use Rattle.guard_run.specs.declared.ends.End.TheVariants as end_is
 use Rattle.guard_run.specs.declared.ends.Refusal.{Refusal}
-use Rattle.guard_run.specs.declared.ends.Refusal.TheVariants.{RulesUnread, DataUnread}
+use Rattle.guard_run.specs.declared.ends.Refusal.TheVariants.{DataUnread, At}
+use Rattle.guard_run.specs.declared.ends.RefusalKind.TheVariants.{Syntax}
 use Rattle.guard_run.specs.declared.ends.Which.{Which}
 use Rattle.guard_run.specs.declared.ends.Which.TheVariants as file
 
@@ -27,25 +28,6 @@ status_of (end_is.ReadFault which) = 6
 status_of (end_is.WriteFault pipe) = 6
 status_of end_is.Memory = 7
 
--- The lines on err.
-
-abbrev pub usage_line : List ℕ
-usage_line = codes "usage: guard validate --rules FILE --data FILE\n"
-
-abbrev pub refusal_line : Refusal → List ℕ
-refusal_line RulesUnread = codes "guard: rules: RulesUnread\n"
-refusal_line DataUnread = codes "guard: data: DataUnread\n"
-
-abbrev pub read_fault_line : Which → List ℕ
-read_fault_line file.Rules = codes "guard: cannot read rules\n"
-read_fault_line file.Template = codes "guard: cannot read data\n"
-
-abbrev pub write_fault_line : List ℕ
-write_fault_line = codes "guard: cannot write out\n"
-
-abbrev pub memory_line : List ℕ
-memory_line = codes "guard: memory\n"
-
 -- The end by the order of work: the words, the rules, the name of the template, the template, the verdicts.
 
 -- how a call ends, and what out and err take
@@ -54,9 +36,9 @@ pub record Ended : Type 0 where
   pub out : List ℕ
   pub err : List ℕ
 
--- a refusal has its line on err
-abbrev pub refused : Refusal → Ended
-refused refusal = record { how = end_is.Refused refusal; out = []; err = refusal_line refusal }
+-- a file with these bytes that is refused: the refusal has its line on err
+abbrev pub refused : List ℕ → Refusal → Ended
+refused bytes refusal = record { how = end_is.Refused refusal; out = []; err = refusal_line bytes refusal }
 
 -- a template that was judged by the rules: Failed if a verdict is FAIL, else Passed; out takes the report
 abbrev pub judged : List RuleText → Forest → Ended
@@ -74,33 +56,21 @@ Contents = List ℕ → Option (List ℕ)
 abbrev pub IsContent : Option (List ℕ) → List ℕ → Type 0
 IsContent told bytes = ForSome told (λ content. bytes ≡ content)
 
--- bytes that are a rule file, of these rules: at most 1 MiB, in UTF-8, in the grammar
-pub record IsRuleFile (bytes : List ℕ) (rules : List RuleText) : Type 0 where
-  pub within : length bytes ≤ 1048576
-  pub utf8 : IsUtf8 bytes
-  pub grammar : Rules bytes rules
-
--- bytes that are a template, of this tree: at most 8 MiB, in UTF-8, in the part of JSON that templates may use so far
-pub record IsTemplate (bytes : List ℕ) (tree : Forest) : Type 0 where
-  pub within : length bytes ≤ 8388608
-  pub utf8 : IsUtf8 bytes
-  pub grammar : IsPlainJson bytes tree
-
--- with the rules read and the template's bytes: they are no template and are refused, or they are judged
+-- with the rules read and the template's bytes: they are refused, or they are a template and are judged
 abbrev pub EndOfTemplate : List RuleText → List ℕ → Ended → Type 0
 EndOfTemplate rules bytes e =
-    (((tree : Forest) → IsTemplate bytes tree → ⊥) × (e ≡ refused DataUnread))
+    ((refusal : Refusal) × RefusesTemplate bytes refusal × (e ≡ refused bytes refusal))
     ⊎ ((tree : Forest) × IsTemplate bytes tree × (e ≡ judged rules tree))
 
--- with the rules read: the template is refused unless its name ends in `.json`, before it is loaded
+-- with the rules read: the template is refused unless its name ends in `.json`, before any bytes of it are loaded
 abbrev pub EndOfName : Bool → Option (List ℕ) → List RuleText → Ended → Type 0
-EndOfName false told rules e = e ≡ refused DataUnread
+EndOfName false told rules e = e ≡ refused [] DataUnread
 EndOfName true told rules e = (bytes : List ℕ) × IsContent told bytes × EndOfTemplate rules bytes e
 
--- with the bytes of the rules: they are no rule file and are refused, or the work goes on
+-- with the bytes of the rules: they are refused, or they are a rule file and the work goes on
 abbrev pub EndOfRules : Request → Contents → List ℕ → Ended → Type 0
 EndOfRules q told bytes e =
-    (((rules : List RuleText) → IsRuleFile bytes rules → ⊥) × (e ≡ refused RulesUnread))
+    ((refusal : Refusal) × RefusesRules bytes refusal × (e ≡ refused bytes refusal))
     ⊎ ((rules : List RuleText) × IsRuleFile bytes rules × EndOfName (ends_in_json q.template) (told q.template) rules e)
 
 -- with what the words ask for
@@ -217,3 +187,11 @@ abbrev pub TookOfMemory : List (List ℕ) → Contents → (before after : Fault
 TookOfMemory words told before after out out' err err' =
     (taken front last : List ℕ) × MayWant words told before after taken front
     × IsPrefix last memory_line × Took out out' taken × Took err err' (front ++ last)
+
+-- Two ends of one call.
+
+-- they are equal, or both refuse rules with these bytes as Syntax, each at a place of its own
+abbrev pub AreSame : List ℕ → Ended → Ended → Type 0
+AreSame rules e other =
+    (e ≡ other)
+    ⊎ ((at : ℕ) × (place : ℕ) × (e ≡ refused rules (At file.Rules Syntax at None)) × (other ≡ refused rules (At file.Rules Syntax place None)))

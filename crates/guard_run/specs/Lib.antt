@@ -1,13 +1,12 @@
 pub mod End
+pub mod Inputs
+pub mod Lines
 pub mod Outcome
+pub mod Plain
 pub mod Report
 pub mod Request
 pub mod Rows
-pub mod RuleGrammar
 pub mod RuleNames
-pub mod RuleReading
-pub mod RuleSteps
 pub mod RuleText
-pub mod RuleTokens
 pub mod Verdicts
 pub mod Writing

@@ -1,16 +1,31 @@
 -- What comes of the words and the files before anything is written: steps of the order of work, by the types of the code.
-use Rattle.std.specs.Prelude.{ℕ, ◌≤◌, ◌<◌, List, [], Option, string_bytes, length, if◌then◌else◌}
+use Rattle.std.specs.Prelude.{ℕ, ◌≡◌, ◌≤◌, ◌<◌, List, [], Option, Some, None, string_bytes, length, if◌then◌else◌}
 use Rattle.guard_io.specs.Outside.{Rose}
 use Rattle.guard_run.specs.Request.{Request}
-use Rattle.guard_run.specs.RuleText.{RuleText}
-use Rattle.guard_run.specs.End.{Ended, EndOf, Contents, IsContent, IsRuleFile, Loads, name_of, refused, usage_line}
+use Rattle.guard_lexer.specs.declared.token.LexRefusal.{LexRefusal}
+use Rattle.guard_lexer.specs.declared.token.LexRefusal.TheVariants as lex
+use Rattle.guard_parser.specs.declared.refusal.ParseRefusal.{ParseRefusal}
+use Rattle.guard_parser.specs.declared.refusal.ParseRefusal.TheVariants as parse
+use Rattle.json_reader.specs.declared.refusal.JsonRefusal.{JsonRefusal}
+use Rattle.json_reader.specs.declared.refusal.JsonRefusal.TheVariants as json
+use Rattle.guard_run.specs.Inputs.{IsRuleFile, RefusesRules}
+use Rattle.guard_run.specs.Lines.{usage_line}
+use Rattle.guard_run.specs.End.{Ended, EndOf, Contents, IsContent, Loads, name_of, refused}
 use Rattle.guard_run.specs.declared.ends.End.TheVariants as end_is
+use Rattle.guard_run.specs.declared.ends.Refusal.{Refusal}
+use Rattle.guard_run.specs.declared.ends.Refusal.TheVariants.{At}
+use Rattle.guard_run.specs.declared.ends.RefusalKind.{RefusalKind}
+use Rattle.guard_run.specs.declared.ends.RefusalKind.TheVariants.{Unclosed, BadByte, NumberRange, NestTooDeep, Syntax, BadRange, TooDeep, DuplicateKey}
+use Rattle.guard_run.specs.declared.ends.Which.{Which}
 use Rattle.guard_run.specs.declared.load.Loaded.{Loaded}
 use Rattle.guard_run.specs.declared.load.Loaded.TheVariants as load
 use Rattle.guard_run.specs.declared.load.LoadedRules.{LoadedRules}
 use Rattle.guard_run.specs.declared.load.LoadedRules.TheVariants as rules_load
 use Rattle.guard_run.specs.declared.outcome.Outcome.{Outcome}
 use Rattle.guard_run.specs.declared.outcome.Outcome.TheVariants as outcome
+use Rattle.guard_run.specs.declared.refused.Refused.{Refused}
+use Rattle.guard_run.specs.declared.read.NotRead.{NotRead}
+use Rattle.guard_run.specs.declared.read.NotRead.TheVariants as not_read
 use Rattle.guard_run.specs.declared.report.Judgement.{Judgement}
 
 -- a file of which all bytes were loaded, or more than a limit
@@ -20,10 +35,45 @@ IsLoaded told limit load.TooLong = (bytes : List ℕ) × IsContent told bytes ×
 IsLoaded told limit load.Fault = Unit {0}
 IsLoaded told limit load.Memory = Unit {0}
 
--- a rule file that was loaded and read, or is none
+-- the kind and the place of a refusal; want of memory has none
+abbrev pub lex_kind : LexRefusal → Option (RefusalKind × ℕ)
+lex_kind (lex.Unclosed at) = Some (Unclosed, at)
+lex_kind (lex.BadByte at) = Some (BadByte, at)
+lex_kind (lex.NumberRange at) = Some (NumberRange, at)
+lex_kind lex.NoMemory = None
+
+abbrev pub parse_kind : ParseRefusal → Option (RefusalKind × ℕ)
+parse_kind (parse.NestTooDeep at) = Some (NestTooDeep, at)
+parse_kind (parse.Syntax at) = Some (Syntax, at)
+parse_kind (parse.BadRange at) = Some (BadRange, at)
+parse_kind parse.NoMemory = None
+
+abbrev pub json_kind : JsonRefusal → Option (RefusalKind × ℕ)
+json_kind (json.Syntax at) = Some (Syntax, at)
+json_kind (json.DuplicateKey at) = Some (DuplicateKey, at)
+json_kind (json.NumberRange at) = Some (NumberRange, at)
+json_kind (json.TooDeep at) = Some (TooDeep, at)
+json_kind json.NoMemory = None
+
+-- the end of a file that is refused
+abbrev pub said : Refused → Ended
+said r = record { how = end_is.Refused r.refusal; out = []; err = r.line.bytes }
+
+-- why bytes are not read: they are refused so; want of memory says nothing of them
+abbrev pub IsNotRead : (List ℕ → Refusal → Type 0) → List ℕ → NotRead → Type 0
+IsNotRead Refuses bytes (not_read.Refused r) = (refusal : Refusal) × Refuses bytes refusal × (said r ≡ refused bytes refusal)
+IsNotRead Refuses bytes not_read.Memory = Unit {0}
+
+-- what comes of the kind and the place of a refusal, if it has them, in a file with this text
+abbrev pub IsPlaced : Which → Option (RefusalKind × ℕ) → List ℕ → NotRead → Type 0
+IsPlaced which (Some p) text (not_read.Refused r) = said r ≡ refused text (At which p.0 p.1 None)
+IsPlaced which None text not_read.Memory = Unit {0}
+IsPlaced _ _ _ _ = ⊥
+
+-- a rule file that was loaded and read, or is refused
 abbrev pub AreLoaded : Option (List ℕ) → LoadedRules → Type 0
 AreLoaded told (rules_load.Read rules) = (bytes : List ℕ) × IsContent told bytes × IsRuleFile bytes rules.items
-AreLoaded told rules_load.Unread = (bytes : List ℕ) × IsContent told bytes × ((rules : List RuleText) → IsRuleFile bytes rules → ⊥)
+AreLoaded told (rules_load.Refused r) = (bytes : List ℕ) × IsContent told bytes × IsNotRead RefusesRules bytes (not_read.Refused r)
 AreLoaded told rules_load.Fault = Unit {0}
 AreLoaded told rules_load.Memory = Unit {0}
 
@@ -38,7 +88,7 @@ ended judgement = record {
 -- an outcome with a template's bytes or with its name: what is written where it is no fault and no want of memory
 abbrev pub IsOutcomeAs : (Ended → Type 0) → Outcome → Type 0
 IsOutcomeAs Ends (outcome.Judged judgement) = Ends (ended judgement)
-IsOutcomeAs Ends (outcome.Refused refusal) = Ends (refused refusal)
+IsOutcomeAs Ends (outcome.Refused r) = Ends (said r)
 IsOutcomeAs Ends outcome.Usage = Ends (record { how = end_is.Usage; out = []; err = usage_line })
 IsOutcomeAs Ends (outcome.ReadFault which) = Unit {0}
 IsOutcomeAs Ends outcome.Memory = Unit {0}

@@ -5,7 +5,7 @@ use Rattle.std.specs.Ordering.{nat_cmp}
 use Rattle.std.specs.Cmp.Lexicographic.{slice_cmp}
 use Rattle.std.specs.BTreeSet.{BTreeSet, contains_by}
 use Rattle.guard_run.specs.RuleText.{RuleText}
-use Rattle.guard_run.specs.RuleGrammar.{has_name}
+use Rattle.guard_run.specs.Plain.{has_name}
 
 -- the set has the names of the rules, and no others
 abbrev pub IsNamed : BTreeSet (Bor (List ℕ)) → List RuleText → Type 0

@@ -2,7 +2,8 @@
 use Rattle.std.specs.Prelude.{ℕ, ◌≡◌, ◌++◌, ◌⊎◌, List, Option}
 use Rattle.guard_io.specs.Outside.{IsPrefix}
 use Rattle.guard_run.specs.Request.{Request}
-use Rattle.guard_run.specs.End.{Contents, Faults, Loads, Unread, Took, TookAsDefined, TookOfUnread, TookOfUnwritten, TookOfUnsaid, TookOfMemory, memory_line}
+use Rattle.guard_run.specs.End.{Contents, Faults, Loads, Unread, Took, TookAsDefined, TookOfUnread, TookOfUnwritten, TookOfUnsaid, TookOfMemory}
+use Rattle.guard_run.specs.Lines.{memory_line}
 use Rattle.guard_run.specs.declared.ends.End.{End}
 use Rattle.guard_run.specs.declared.ends.End.TheVariants as end_is
 use Rattle.guard_run.specs.declared.ends.Pipe.TheVariants.{Out, Err}

@@ -1,14 +1,51 @@
 ghost use Rattle.std.specs.Prelude.{◌≡◌};
 ghost use Rattle.guard_run.specs.End.{status_of};
 
-/// A text that is not in the forms that are read.
+use guard_syntax::Text;
+
+/// What is the matter at a place of a file.
 #[derive(Clone, Copy, Debug, PartialEq, Eq)]
+pub enum RefusalKind {
+    /// In rules, a text, pattern or note without its end, at its opening quote, slash or `<<`.
+    Unclosed,
+    /// In rules, a byte that begins no token, or that stands directly behind a number.
+    BadByte,
+    /// A number that is out of range, at its first byte.
+    NumberRange,
+    /// In rules, a bracket that opens while 128 are open.
+    NestTooDeep,
+    /// No file begins with what stands up to this place and at it; or the file ends too early.
+    Syntax,
+    /// In rules, a range with a whole and a decimal bound, at its first byte.
+    BadRange,
+    /// In a template, a collection inside 128 others, at its opening bracket.
+    TooDeep,
+    /// In a template, a key that the map has already, at its opening quotation mark.
+    DuplicateKey,
+}
+
+/// Why a file is refused.
+#[derive(Debug, Drop)]
 pub enum Refusal {
-    /// The rules have more than 1 MiB, are not UTF-8 or are not in the grammar of rules.
+    /// The rules are a rule file, but hold what is not evaluated so far: anything but rules with distinct names,
+    /// without conditions, parameters and lets, whose parts are single tests `exists`, not negated and without
+    /// `some`, on queries of key steps.
     RulesUnread,
-    /// The template's name does not end in `.json`, or it has more than 8 MiB, is not UTF-8 or is
-    /// not in the grammar of templates.
+    /// The template's name does not end in `.json`.
     DataUnread,
+    /// The file has more bytes than it may have: rules 1 MiB, a template 8 MiB.
+    TooLong(Which),
+    /// The file is not UTF-8.
+    NotText(Which),
+    /// A place of the file.
+    At {
+        which: Which,
+        kind: RefusalKind,
+        /// The byte offset, from 0.
+        at: u32,
+        /// The name that stands there, where the kind is about names.
+        name: Option<Text>,
+    },
 }
 
 /// One of the files that are asked for.
@@ -26,7 +63,7 @@ pub enum Pipe {
 }
 
 /// How a call ended.
-#[derive(Clone, Copy, Debug, PartialEq, Eq)]
+#[derive(Debug, Drop)]
 pub enum End {
     /// No rule is FAIL.
     Passed,

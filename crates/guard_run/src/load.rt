@@ -1,13 +1,13 @@
-ghost use Rattle.std.specs.Prelude.{◌≡◌, ◌≤◌, ◌<◌, ◌+◌, ◌^◌, ℕ, List, MatchResult, IsUtf8, length};
+ghost use Rattle.std.specs.Prelude.{◌≡◌, ◌≤◌, ◌<◌, ◌+◌, ◌^◌, ℕ, List, length};
 ghost use Rattle.guard_io.specs.Outside.{Rose};
-ghost use Rattle.guard_run.specs.RuleText.{RuleText};
-ghost use Rattle.guard_run.specs.RuleGrammar.{Rules};
 ghost use Rattle.guard_run.specs.Outcome.{IsLoaded, AreLoaded};
 
-use crate::rules::{Rule, RulesRefusal, read_rules};
+use crate::ends::Which;
+use crate::read::{NotRead, rules_of};
+use crate::refused::{Refused, too_long};
+use crate::rules::Rule;
 use guard_io::{Files, LoadFault};
 use std::alloc::Global;
-use std::str;
 
 /// How many bytes a rule file may have.
 const RULES_LIMIT: u64 = 1_048_576;
@@ -47,8 +47,7 @@ pub(crate) fn load_within<F: Files>(alloc: Global, name: &str, limit: u64, files
 #[derive(Drop)]
 pub(crate) enum LoadedRules {
     Read(Vec<Rule>),
-    /// It is no rule file.
-    Unread,
+    Refused(Refused),
     Fault,
     Memory,
 }
@@ -64,23 +63,11 @@ pub(crate) fn load_rules<F: Files>(alloc: Global, name: &str, files: &mut F) -> 
     match load_within(alloc, name, RULES_LIMIT, files) {
         Loaded::Whole(bytes) => match rules_of(alloc, &bytes) {
             Ok(rules) => LoadedRules::Read(rules),
-            Err(RulesRefusal::Unread) => LoadedRules::Unread,
-            Err(RulesRefusal::NoMemory) => LoadedRules::Memory,
+            Err(NotRead::Refused(refused)) => LoadedRules::Refused(refused),
+            Err(NotRead::Memory) => LoadedRules::Memory,
         },
-        Loaded::TooLong => LoadedRules::Unread,
+        Loaded::TooLong => LoadedRules::Refused(too_long(Which::Rules)),
         Loaded::Fault => LoadedRules::Fault,
         Loaded::Memory => LoadedRules::Memory,
-    }
-}
-
-/// The rules of a file.
-fn rules_of(alloc: Global, bytes: &[u8]) -> Result<Vec<Rule>, RulesRefusal>
-    ensures { MatchResult result (λ rules. IsUtf8 bytes.now × Rules bytes.now rules.items)
-        (λ e. e ≡ RulesRefusal.Unread
-        → (rules : List RuleText) → IsUtf8 bytes.now → Rules bytes.now rules → ⊥) }
-{
-    match str::from_utf8(bytes) {
-        Ok(text) => read_rules(alloc, text),
-        Err(_) => Err(RulesRefusal::Unread),
     }
 }

@@ -1,18 +1,20 @@
 //! The program `guard`: it judges a template by rules, and prints the verdicts.
 //!
-//! The top call `guard` does the program's work over any files and any sinks. Its contract is the
-//! program's promise: the words and the contents of the files decide the end, what the standard
-//! output takes and what the standard error takes, and in place of that end come only counted
-//! faults of the files and sinks, and want of memory. It stands on the reader of JSON, on located
-//! trees and on the traits of files and sinks; the reader of rules is a module here. Only `main`
+//! The top call `guard` does the program's work over any files and any sinks. Its contract is the program's promise: the
+//! words and the contents of the files decide the end, what the standard output takes and what the standard error takes,
+//! and in place of that end come only counted faults of the files and sinks, and want of memory. It stands on the lexer
+//! and the parser of rules, on the reader of JSON, on located trees and on the traits of files and sinks. Only `main`
 //! knows the system: it hands the words and the real files and streams to `guard`.
 #![tactic(auto)]
 
 mod ends;
 mod guard;
 mod laws;
+mod line;
 mod load;
 mod outcome;
+mod read;
+mod refused;
 mod report;
 mod rules;
 #[cfg(test)]

@@ -4,15 +4,15 @@ ghost use Rattle.guard_run.specs.Request.{Request, request, ends_in_json};
 ghost use Rattle.guard_run.specs.End.{EndOf, EndOfName, EndOfRequest, EndOfTemplate, ComesTo, Loads, name_of};
 ghost use Rattle.guard_run.specs.Outcome.{IsOutcome, IsOutcomeAs};
 
-use crate::ends::{Refusal, Which};
+use crate::ends::Which;
 use crate::load::{Loaded, LoadedRules, load_rules, load_within};
+use crate::read::{NotRead, tree_of};
+use crate::refused::{Refused, data_unread, too_long};
 use crate::report::{Judgement, judge};
 use crate::rules::Rule;
 use crate::words::request_of;
 use guard_io::Files;
-use json_reader::{JsonRefusal, read_json};
 use std::alloc::Global;
-use std::str;
 
 /// How many bytes a template may have.
 const TEMPLATE_LIMIT: u64 = 8_388_608;
@@ -21,7 +21,7 @@ const TEMPLATE_LIMIT: u64 = 8_388_608;
 #[derive(Drop)]
 pub(crate) enum Outcome {
     Judged(Judgement),
-    Refused(Refusal),
+    Refused(Refused),
     Usage,
     ReadFault(Which),
     Memory,
@@ -54,7 +54,7 @@ fn files_outcome<F: Files>(alloc: Global, rules: &str, template: &str, files: &m
 {
     match load_rules(alloc, rules, files) {
         LoadedRules::Read(read) => template_outcome(alloc, &read, template, files),
-        LoadedRules::Unread => Outcome::Refused(Refusal::RulesUnread),
+        LoadedRules::Refused(refused) => Outcome::Refused(refused),
         LoadedRules::Fault => Outcome::ReadFault(Which::Rules),
         LoadedRules::Memory => Outcome::Memory,
     }
@@ -71,11 +71,11 @@ fn template_outcome<F: Files>(alloc: Global, rules: &[Rule], name: &str, files: 
     ensures kept { (other : List ℕ) → F.faults files.old other ≤ F.faults files.new other }
 {
     if !is_json(name) {
-        return Outcome::Refused(Refusal::DataUnread);
+        return Outcome::Refused(data_unread());
     }
     match load_within(alloc, name, TEMPLATE_LIMIT, files) {
-        Loaded::Whole(bytes) => judged_outcome(alloc, rules, &bytes),
-        Loaded::TooLong => Outcome::Refused(Refusal::DataUnread),
+        Loaded::Whole(bytes) => bytes_outcome(alloc, rules, &bytes),
+        Loaded::TooLong => Outcome::Refused(too_long(Which::Template)),
         Loaded::Fault => Outcome::ReadFault(Which::Template),
         Loaded::Memory => Outcome::Memory,
     }
@@ -88,21 +88,18 @@ fn is_json(name: &str) -> bool
     name.as_bytes().ends_with(b".json")
 }
 
-/// What comes of a template's bytes.
-fn judged_outcome(alloc: Global, rules: &[Rule], bytes: &[u8]) -> Outcome
+/// What comes of a template's bytes, which are no more than it may have.
+fn bytes_outcome(alloc: Global, rules: &[Rule], bytes: &[u8]) -> Outcome
     requires { length bytes.now ≤ 8388608 }
     ensures outcome { IsOutcomeAs (EndOfTemplate rules.now bytes.now) result }
     ensures no_fault { (which : Which) → result ≡ Outcome.ReadFault which → ⊥ }
 {
-    let Ok(text) = str::from_utf8(bytes) else {
-        return Outcome::Refused(Refusal::DataUnread);
-    };
-    match read_json(alloc, text) {
+    match tree_of(alloc, bytes) {
         Ok(tree) => match judge(alloc, rules, &tree) {
             Ok(judgement) => Outcome::Judged(judgement),
             Err(_) => Outcome::Memory,
         },
-        Err(JsonRefusal::Unread) => Outcome::Refused(Refusal::DataUnread),
-        Err(JsonRefusal::NoMemory) => Outcome::Memory,
+        Err(NotRead::Refused(refused)) => Outcome::Refused(refused),
+        Err(NotRead::Memory) => Outcome::Memory,
     }
 }

@@ -1,18 +1,15 @@
-//! Reads a file of rules: a text is read where the grammar has rules for it, and then these, and is unread where it has none.
-
-ghost use Rattle.std.specs.Prelude.{◌≡◌, ◌≤◌, ℕ, List, map, string_bytes, MatchResult, length, drop};
+//! The rules that are evaluated: those of a rule file that holds nothing but rules that test that keys exist.
+ghost use Rattle.std.specs.Prelude.{◌≡◌, ◌∷◌, ◌++◌, ℕ, List, [], Option, Some, None, MatchOption, OnOk, IfOk, map, string_bytes};
+ghost use Rattle.guard_syntax.specs.Seen.{see_file, see_rule, see_body, see_disj, see_part, see_query, see_step, see_opt_expr, disj_list, step_list};
 ghost use Rattle.guard_run.specs.RuleText.{RuleText};
-ghost use Rattle.guard_run.specs.RuleGrammar.{Rules, unmarked};
+ghost use Rattle.guard_run.specs.Plain as plain;
 
-mod grammar;
-mod tokens;
-
-use grammar::{Finished, Stage, finish, step};
-use std::alloc::Global;
+use guard_syntax::{Body, Disj, Expr, Op, Part, Query, RawFile, Step, StepForm};
+use std::alloc::{AllocError, Global};
+use std::collections::BTreeSet;
 use std::marker::Model;
-use tokens::{Ahead, token_at};
 
-/// A clause `A.B exists`, seen as the list of its keys, at least one.
+/// A clause `A.B exists`, seen as the list of its keys.
 #[derive(Drop)]
 pub struct Clause {
     keys: Vec<String>,
@@ -30,6 +27,14 @@ impl Clause {
         ensures { map string_bytes result.now ≡ self.now }
     {
         self.keys.as_slice()
+    }
+
+    /// Adds a key behind those that are there.
+    fn push(&mut self, alloc: Global, key: &str) -> Result<(), AllocError>
+        ensures { OnOk result (self.new ≡ self.old ++ key.now ∷ []) }
+    {
+        self.keys.push(String::from_str(alloc, key)?)?;
+        Ok(())
     }
 }
 
@@ -60,206 +65,182 @@ impl Rule {
     }
 }
 
-/// Why there are no rules: the text is no file of rules, or memory was wanting.
-#[derive(Debug, Drop)]
-pub enum RulesRefusal {
-    Unread,
-    NoMemory,
+/// Rules with distinct names, seen as their list.
+#[derive(Drop)]
+struct Distinct<'f> {
+    rules: Vec<Rule>,
+    names: BTreeSet<&'f str>,
 }
 
-/// The place behind a byte order mark, if the text begins with one.
-fn mark_end(bytes: &[u8]) -> usize
-    ensures within { result ≤ length bytes.now }
-    ensures rest { drop result bytes.now ≡ unmarked bytes.now }
+impl<'f> Model for Distinct<'f> {
+    ghost use Rattle.std.specs.Prelude.{List};
+    ghost use Rattle.guard_run.specs.RuleText.{RuleText};
+    ghost use Rattle.guard_run.specs.RuleNames.{IsNamed};
+
+    ghost Value = { List RuleText };
+
+    ghost view = { λ d. d.rules.items };
+
+    ghost invariant = { λ d. IsNamed d.names d.rules.items };
+}
+
+impl<'f> Distinct<'f> {
+    fn new(alloc: Global) -> Distinct<'f>
+        ensures { result ≡ [] }
+    {
+        Distinct {
+            rules: Vec::new(alloc),
+            names: BTreeSet::new(alloc),
+        }
+    }
+
+    /// Whether one of the rules has this name.
+    fn has(&self, name: &str) -> bool
+        ensures { result ≡ plain.has_name name.now self.now }
+    {
+        self.names.contains(name)
+    }
+
+    /// Adds a rule.
+    fn push(&mut self, alloc: Global, name: &'f str, clauses: Vec<Clause>) -> Result<(), AllocError>
+        ensures { OnOk result (self.new ≡ self.old ++ record { name = name.entry.now; clauses = clauses.items } ∷ []) }
+    {
+        let own = String::from_str(alloc, name)?;
+        self.rules.reserve(1)?;
+        self.names.insert(name)?;
+        self.rules.push_reserved(Rule { name: own, clauses });
+        Ok(())
+    }
+
+    fn into_rules(self) -> Vec<Rule>
+        ensures { result.items ≡ self.entry }
+    {
+        self.rules
+    }
+}
+
+/// The key of a key step.
+fn key_of(step: &Step) -> Option<&str>
+    ensures { MatchOption result (plain.key_of (see_step step.now) ≡ None)
+        (λ key. plain.key_of (see_step step.now) ≡ Some key.now) }
 {
-    if bytes.starts_with(b"\xef\xbb\xbf") {
-        3
-    } else {
-        0
+    match &step.form {
+        StepForm::Key(key) => Some(key.as_str()),
+        _ => None,
     }
 }
 
-/// The rules of a text.
-pub fn read_rules(alloc: Global, text: &str) -> Result<Vec<Rule>, RulesRefusal>
-    ensures { MatchResult result (λ rules. Rules text.now rules.items) (λ e. e ≡ RulesRefusal.Unread → (rules : List RuleText) → Rules text.now rules → ⊥) }
+/// The keys of a query that consists of key steps alone.
+fn query_keys(alloc: Global, query: &Query) -> Result<Option<Clause>, AllocError>
+    ensures { IfOk result (λ found. found ≡ plain.query_keys (see_query query.now)) }
 {
-    let mut done = Finished::new(alloc);
-    let mut stage = Stage::Rule;
-    let mut at = mark_end(text.as_bytes());
-    loop {
-        match token_at(text, at) {
-            Ahead::Token(token, end) => match step(alloc, stage, token, &mut done) {
-                Ok(next) => {
-                    stage = next;
-                    at = end;
-                }
-                Err(refusal) => return Err(refusal),
-            },
-            Ahead::End => return finish(stage, done),
-            Ahead::Stray => return Err(RulesRefusal::Unread),
+    let mut clause = Clause {
+        keys: Vec::new(alloc),
+    };
+    for step in &query.steps {
+        match key_of(step) {
+            Some(key) => clause.push(alloc, key)?,
+            None => return Ok(None),
         }
+    }
+    Ok(Some(clause))
+}
+
+/// Whether a test is `exists`, not negated and without `some`.
+fn is_plain_test(any: bool, op: Op, not: bool, right: &Option<Expr>) -> bool
+    ensures { result ≡ plain.is_plain_test any op not (see_opt_expr right.now) }
+{
+    match right {
+        Some(_) => false,
+        None => !any && !not && matches!(op, Op::Exists),
     }
 }
 
-/// The law that a text is the file of one list of rules at most.
-pub fn only_rules(text: &str)
-    ensures { (rules others : List RuleText) → Rules text.now rules → Rules text.now others → rules ≡ others }
-{}
-
-#[cfg(test)]
-mod tests {
-    use super::*;
-    use std::test::Fail;
-
-    /// The rules as `name(key.key, key)`, each ended by `;`, or `unread`.
-    fn shown(alloc: Global, text: &str) -> Result<String, Fail> {
-        let mut out = String::new(alloc);
-        let rules = match read_rules(alloc, text) {
-            Ok(rules) => rules,
-            Err(RulesRefusal::Unread) => {
-                out.push_str("unread")?;
-                return Ok(out);
+/// The keys of such a test on a query that consists of key steps alone.
+fn part_keys(alloc: Global, part: &Part) -> Result<Option<Clause>, AllocError>
+    ensures { IfOk result (λ found. found ≡ plain.part_keys (see_part part.now)) }
+{
+    match part {
+        Part::Test {
+            any,
+            left,
+            op,
+            not,
+            right,
+            ..
+        } => {
+            if is_plain_test(*any, *op, *not, right) {
+                query_keys(alloc, left)
+            } else {
+                Ok(None)
             }
-            Err(RulesRefusal::NoMemory) => return Err(Fail::from("no memory")),
-        };
-        for rule in &rules {
-            out.push_str(rule.name())?;
-            out.push_str("(")?;
-            for (i, clause) in rule.clauses().iter().enumerate() {
-                if 0 < i {
-                    out.push_str(", ")?;
+        }
+        _ => Ok(None),
+    }
+}
+
+/// The keys of a disjunction of one part, which is such a test.
+fn disj_keys(alloc: Global, disj: &Disj) -> Result<Option<Clause>, AllocError>
+    ensures { IfOk result (λ found. found ≡ plain.disj_keys (see_disj disj.now)) }
+{
+    match disj.parts.as_slice() {
+        [part] => part_keys(alloc, part),
+        [] => Ok(None),
+        [_, _, ..] => Ok(None),
+    }
+}
+
+/// The clauses of a body that has no lets and consists of such tests.
+fn body_clauses(alloc: Global, body: &Body) -> Result<Option<Vec<Clause>>, AllocError>
+    ensures { IfOk result (λ found. MatchOption found (plain.body_clauses (see_body body.now) ≡ None)
+        (λ clauses. plain.body_clauses (see_body body.now) ≡ Some clauses.items)) }
+{
+    if !body.lets.is_empty() {
+        return Ok(None);
+    }
+    let mut clauses = Vec::new(alloc);
+    for disj in &body.parts {
+        match disj_keys(alloc, disj)? {
+            Some(clause) => clauses.push(clause)?,
+            None => return Ok(None),
+        }
+    }
+    Ok(Some(clauses))
+}
+
+/// The clauses of a rule that has no parameters and no conditions, and such a body.
+fn rule_clauses(alloc: Global, rule: &guard_syntax::Rule) -> Result<Option<Vec<Clause>>, AllocError>
+    ensures { IfOk result (λ found. MatchOption found (plain.plain_rule (see_rule rule.now) ≡ None)
+        (λ clauses. plain.plain_rule (see_rule rule.now) ≡ Some (record { name = rule.now.name.text; clauses = clauses.items }))) }
+{
+    if rule.cond.is_some() || !rule.params.as_slice().is_empty() {
+        return Ok(None);
+    }
+    body_clauses(alloc, &rule.body)
+}
+
+/// The rules of a file that holds nothing but rules with distinct names that are evaluated; none of another file.
+pub(crate) fn plain_rules(alloc: Global, file: &RawFile) -> Result<Option<Vec<Rule>>, AllocError>
+    ensures { IfOk result (λ found. MatchOption found ((rules : List RuleText) → plain.IsPlain (see_file file.now) rules → ⊥)
+        (λ rules. plain.IsPlain (see_file file.now) rules.items)) }
+{
+    if !file.lets.is_empty() {
+        return Ok(None);
+    }
+    if !file.loose.is_empty() {
+        return Ok(None);
+    }
+    let mut distinct = Distinct::new(alloc);
+    for rule in &file.rules {
+        match rule_clauses(alloc, rule)? {
+            Some(clauses) => {
+                if distinct.has(rule.name.as_str()) {
+                    return Ok(None);
                 }
-                for (k, key) in clause.keys().iter().enumerate() {
-                    if 0 < k {
-                        out.push_str(".")?;
-                    }
-                    out.push_str(key.as_str())?;
-                }
+                distinct.push(alloc, rule.name.as_str(), clauses)?;
             }
-            out.push_str(");")?;
+            None => return Ok(None),
         }
-        Ok(out)
     }
-
-    #[test]
-    fn files(rt: HostRuntime) -> Result<(), Fail> {
-        let rows = [
-            ("", ""),
-            (" \t\r\n", ""),
-            ("\u{feff}", ""),
-            ("\u{feff} rule r { A exists }", "r(A);"),
-            ("\u{feff}\u{feff}rule r { A exists }", "unread"),
-            (" \u{feff}rule r { A exists }", "unread"),
-            ("rule r { A exists }", "r(A);"),
-            ("rule r{A exists}", "r(A);"),
-            ("rule\tr\r\n{\nA\texists\r}", "r(A);"),
-            ("rule r { A exists } rule s { B exists }", "r(A);s(B);"),
-            ("rule r{A exists}rule s{B exists}", "r(A);s(B);"),
-            ("rule r { A exists } rule r { B exists }", "unread"),
-            ("rule r { A exists } rule R { A exists }", "r(A);R(A);"),
-            ("rule r { A exists } x", "unread"),
-            ("rule r { A exists } }", "unread"),
-            ("rule r { A exists", "unread"),
-            ("rule r {", "unread"),
-            ("rule r", "unread"),
-            ("rule", "unread"),
-            ("rule { A exists }", "unread"),
-            ("ruler { A exists }", "unread"),
-            ("ruler r { A exists }", "unread"),
-            ("RULE r { A exists }", "unread"),
-            ("Rule r { A exists }", "unread"),
-            ("A exists", "unread"),
-            ("rule r # note\n{ A exists }", "unread"),
-            ("rule \u{e9} { A exists }", "unread"),
-            ("rule r\u{b}{ A exists }", "unread"),
-        ];
-        for (text, want) in rows {
-            assert_eq!(rt; shown(rt.alloc(), text)?.as_str(), want);
-        }
-        Ok(())
-    }
-
-    #[test]
-    fn names(rt: HostRuntime) -> Result<(), Fail> {
-        let rows = [
-            ("rule _ { A exists }", "_(A);"),
-            ("rule r_1 { A exists }", "r_1(A);"),
-            ("rule 1r { A exists }", "unread"),
-            ("rule r-s { A exists }", "unread"),
-            ("rule r.s { A exists }", "unread"),
-            ("rule rule { A exists }", "unread"),
-            ("rule RULE { A exists }", "RULE(A);"),
-            ("rule default { A exists }", "unread"),
-            ("rule Default { A exists }", "Default(A);"),
-            ("rule defaults { A exists }", "defaults(A);"),
-            ("rule when { A exists }", "unread"),
-            ("rule WHEN { A exists }", "unread"),
-            ("rule When { A exists }", "When(A);"),
-            ("rule this { A exists }", "unread"),
-            ("rule IS_NULL { A exists }", "unread"),
-            ("rule is_null_ { A exists }", "is_null_(A);"),
-            ("rule let { A exists }", "unread"),
-            ("rule LET { A exists }", "LET(A);"),
-            ("rule True { A exists }", "unread"),
-            ("rule TRUE { A exists }", "TRUE(A);"),
-            ("rule null { A exists }", "unread"),
-            ("rule NULL { A exists }", "unread"),
-            ("rule Null { A exists }", "Null(A);"),
-        ];
-        for (text, want) in rows {
-            assert_eq!(rt; shown(rt.alloc(), text)?.as_str(), want);
-        }
-        Ok(())
-    }
-
-    #[test]
-    fn clauses(rt: HostRuntime) -> Result<(), Fail> {
-        let rows = [
-            ("rule r {}", "unread"),
-            ("rule r { exists }", "unread"),
-            ("rule r { A }", "unread"),
-            ("rule r { A EXISTS }", "r(A);"),
-            ("rule r { A Exists }", "unread"),
-            ("rule r { Aexists }", "unread"),
-            ("rule r { A exists B exists }", "r(A, B);"),
-            ("rule r { A exists, B exists }", "unread"),
-            (
-                "rule r { A.b exists A.c exists A.b exists }",
-                "r(A.b, A.c, A.b);",
-            ),
-            ("rule r { A . b\n.c exists }", "r(A.b.c);"),
-            ("rule r { A..b exists }", "unread"),
-            ("rule r { A. exists }", "unread"),
-            ("rule r { .A exists }", "unread"),
-            ("rule r { A b exists }", "unread"),
-            ("rule r { A.exists exists }", "r(A.exists);"),
-            ("rule r { A.exists.b exists }", "r(A.exists.b);"),
-            (
-                "rule r { A.rule.default.this exists }",
-                "r(A.rule.default.this);",
-            ),
-            ("rule r { default exists }", "r(default);"),
-            ("rule r { exists exists }", "unread"),
-            ("rule r { EXISTS exists }", "unread"),
-            ("rule r { Exists exists }", "r(Exists);"),
-            ("rule r { this exists }", "unread"),
-            ("rule r { rule exists }", "unread"),
-            ("rule r { not A exists }", "unread"),
-            ("rule r { A !exists }", "unread"),
-            ("rule r { A == 1 }", "unread"),
-            ("rule r { A.1 exists }", "unread"),
-            ("rule r { 1A exists }", "unread"),
-            ("rule r { A1._2 exists }", "r(A1._2);"),
-            ("rule r { A::B exists }", "unread"),
-            ("rule r { %A exists }", "unread"),
-            ("rule r { 'A' exists }", "unread"),
-            ("rule r { A.* exists }", "unread"),
-            ("rule r { A[0] exists }", "unread"),
-            ("rule r { { A exists } }", "unread"),
-        ];
-        for (text, want) in rows {
-            assert_eq!(rt; shown(rt.alloc(), text)?.as_str(), want);
-        }
-        Ok(())
-    }
+    Ok(Some(distinct.into_rules()))
 }

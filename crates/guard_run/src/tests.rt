@@ -1,8 +1,9 @@
-use crate::ends::{End, Pipe, Refusal, Which};
+use crate::ends::{End, Pipe, Which};
 use crate::guard::guard;
 use crate::laws::only_end;
 use guard_io::{MemFiles, MemSink};
 use std::alloc::{AllocError, Global};
+use std::process::Abort;
 use std::test::Fail;
 
 const AMPLE: u64 = 1 << 20;
@@ -88,71 +89,264 @@ fn call(alloc: Global, given: &Given) -> Result<Ran, AllocError> {
     })
 }
 
-/// The end, its status, and what out and err are to take.
-type Wanted = (End, u8, &'static str, &'static str);
+/// The word for an end.
+fn word(end: &End) -> &'static str {
+    match end {
+        End::Passed => "passed",
+        End::Failed => "failed",
+        End::Usage => "usage",
+        End::Refused(_) => "refused",
+        End::ReadFault(Which::Rules) => "rules not read",
+        End::ReadFault(Which::Template) => "template not read",
+        End::WriteFault(Pipe::Out) => "out not written",
+        End::WriteFault(Pipe::Err) => "err not written",
+        End::Memory => "memory",
+    }
+}
 
-const REFUSED_RULES: Wanted = (
-    End::Refused(Refusal::RulesUnread),
-    5,
-    "",
-    "guard: rules: RulesUnread\n",
-);
+/// The end by its word, its status, and what out and err are to take.
+type Wanted = (&'static str, u8, &'static str, &'static str);
 
-const REFUSED_DATA: Wanted = (
-    End::Refused(Refusal::DataUnread),
-    5,
-    "",
-    "guard: data: DataUnread\n",
-);
+const JUDGED_PASS: Wanted = ("passed", 0, PASSED, "");
+
+const JUDGED_FAIL: Wanted = ("failed", 19, FAILED, "");
+
+/// A refusal with this line.
+const fn refused(line: &'static str) -> Wanted {
+    ("refused", 5, "", line)
+}
+
+fn expect(rt: &impl Abort, ran: &Ran, (end, status, out, err): Wanted) {
+    assert_eq!(rt; word(&ran.end), end);
+    assert_eq!(rt; ran.end.status(), status);
+    assert_eq!(rt; ran.out.as_slice(), out.as_bytes());
+    assert_eq!(rt; ran.err.as_slice(), err.as_bytes());
+}
 
 #[test]
-fn judges_and_refuses_texts(rt: HostRuntime) -> Result<(), Fail> {
-    let rows: [(&[u8], &[u8], Wanted); 14] = [
-        (RULES, NAMED, (End::Passed, 0, PASSED, "")),
-        (RULES, UNNAMED, (End::Failed, 19, FAILED, "")),
-        (b"", b"{}", (End::Passed, 0, NONE, "")),
+fn judges_templates_by_rules(rt: HostRuntime) -> Result<(), Fail> {
+    let rows: [(&[u8], &[u8], Wanted); 6] = [
+        (RULES, NAMED, JUDGED_PASS),
+        (RULES, UNNAMED, JUDGED_FAIL),
+        (b"", b"{}", ("passed", 0, NONE, "")),
         (
             b"rule r { A.b exists A.c exists }",
             br#"{"A":{"b":1}}"#,
-            (End::Failed, 19, FAILED, ""),
+            JUDGED_FAIL,
         ),
         (
             b"rule r { A.b.c exists }",
             br#"{"A":{"b":"c"}}"#,
-            (End::Failed, 19, FAILED, ""),
+            JUDGED_FAIL,
         ),
         (
             b"rule a { A exists } rule b { B exists } rule c { A EXISTS }",
             br#"{"A":1}"#,
             (
-                End::Failed,
+                "failed",
                 19,
                 "rule a PASS\nrule b FAIL\nrule c PASS\ntotal 2 PASS 1 FAIL 0 SKIP\n",
                 "",
             ),
         ),
-        (b"rule r { A == 1 }", b"{}", REFUSED_RULES),
-        (b"\xff", b"{}", REFUSED_RULES),
-        (RULES, b"{", REFUSED_DATA),
-        (RULES, b"\xff", REFUSED_DATA),
-        (RULES, br#"{"A":"\n"}"#, REFUSED_DATA),
-        (RULES, br#"{"A":[]}"#, REFUSED_DATA),
-        (RULES, br#"{"A":null}"#, REFUSED_DATA),
-        (RULES, br#"{"A":1.5}"#, REFUSED_DATA),
     ];
-    for (rules, data, (end, status, out, err)) in rows {
-        let ran = call(
-            rt.alloc(),
-            &Given {
-                rules,
-                data,
-                ..FIRST
-            },
-        )?;
-        assert_eq!(rt; ran.end, end);
-        assert_eq!(rt; ran.end.status(), status);
-        assert_eq!(rt; ran.out.as_slice(), out.as_bytes());
-        assert_eq!(rt; ran.err.as_slice(), err.as_bytes());
+    for (rules, data, wanted) in rows {
+        let given = Given {
+            rules,
+            data,
+            ..FIRST
+        };
+        expect(&rt, &call(rt.alloc(), &given)?, wanted);
+    }
+    Ok(())
+}
+
+#[test]
+fn judges_all_of_json(rt: HostRuntime) -> Result<(), Fail> {
+    let rows: [(&[u8], Wanted); 14] = [
+        (br#"{"A":"\n\u00e9\ud834\udd1e"}"#, JUDGED_PASS),
+        (br#"{"\u0041":1}"#, JUDGED_PASS),
+        (br#"{"A":[]}"#, JUDGED_PASS),
+        (br#"{"A":[1,[true,{"B":null}]]}"#, JUDGED_PASS),
+        (br#"{"A":null}"#, JUDGED_PASS),
+        (br#"{"A":false}"#, JUDGED_PASS),
+        (br#"{"A":-0}"#, JUDGED_PASS),
+        (br#"{"A":123456789012345678.0}"#, JUDGED_PASS),
+        (br#"{"A":25e-1}"#, JUDGED_PASS),
+        (b"\xef\xbb\xbf{\"A\":1}", JUDGED_PASS),
+        (br#"[{"A":1}]"#, JUDGED_FAIL),
+        (br#""A""#, JUDGED_FAIL),
+        (b"null", JUDGED_FAIL),
+        (br#"{"a":1}"#, JUDGED_FAIL),
+    ];
+    for (data, wanted) in rows {
+        let given = Given {
+            rules: b"rule r { A exists }",
+            data,
+            ..FIRST
+        };
+        expect(&rt, &call(rt.alloc(), &given)?, wanted);
+    }
+    Ok(())
+}
+
+/// Rules that are refused so, beside a template that is refused too: the rules come first.
+fn expect_refused_rules(
+    rt: &impl Abort,
+    alloc: Global,
+    rules: &[u8],
+    line: &'static str,
+) -> Result<(), AllocError> {
+    let given = Given {
+        rules,
+        data: b"{",
+        ..FIRST
+    };
+    expect(rt, &call(alloc, &given)?, refused(line));
+    Ok(())
+}
+
+#[test]
+fn refuses_rules_by_name_and_place(rt: HostRuntime) -> Result<(), Fail> {
+    let rows: [(&[u8], &str); 15] = [
+        (b"rule r { a exists", "guard: rules 1:18: Syntax\n"),
+        (b"rule r { a == 1x }", "guard: rules 1:16: BadByte\n"),
+        (b"rule r { A in r(1,2.0) }", "guard: rules 1:15: BadRange\n"),
+        (b"\xff", "guard: rules: NotText\n"),
+        (b"rule r {\n  a == 'b }", "guard: rules 2:8: Unclosed\n"),
+        (b"rule r { a == /b }", "guard: rules 1:15: Unclosed\n"),
+        (b"rule r { a exists <<b }", "guard: rules 1:19: Unclosed\n"),
+        (b"rule r { a == 1e400 }", "guard: rules 1:15: NumberRange\n"),
+        (b"rule r { a ; }", "guard: rules 1:12: BadByte\n"),
+        (b"rule r\n{\n}", "guard: rules 3:1: Syntax\n"),
+        (b"rule rule { a exists }", "guard: rules 1:6: Syntax\n"),
+        (b"rule default { a exists }", "guard: rules 1:6: Syntax\n"),
+        (b"a exists }", "guard: rules 1:10: Syntax\n"),
+        // What is no token comes before what is no syntax.
+        (b"rule rule { a ; }", "guard: rules 1:15: BadByte\n"),
+        // What is no syntax comes before a range with bounds of two kinds.
+        (b"rule r { A in r(1,2.0)", "guard: rules 1:23: Syntax\n"),
+    ];
+    for (rules, line) in rows {
+        expect_refused_rules(&rt, rt.alloc(), rules, line)?;
+    }
+    Ok(())
+}
+
+#[test]
+fn refuses_rules_that_are_not_evaluated(rt: HostRuntime) -> Result<(), Fail> {
+    let rows: [&[u8]; 18] = [
+        b"rule r { A == 1 }",
+        b"rule r { A exists } rule r { B exists }",
+        b"A exists",
+        b"let x = 1",
+        b"rule r when A exists { A exists }",
+        b"rule r(x) { A exists }",
+        b"rule r { let x = 1 A exists }",
+        b"rule r { A exists or B exists }",
+        b"rule r { A !exists }",
+        b"rule r { some A exists }",
+        b"rule r { A empty }",
+        b"rule r { A.* exists }",
+        b"rule r { A[*] exists }",
+        b"rule r { A[0] exists }",
+        b"rule r { this exists }",
+        b"rule r { A[ B exists ] exists }",
+        b"rule r { A { B exists } }",
+        b"rule r { A exists } rule s { r }",
+    ];
+    for rules in rows {
+        expect_refused_rules(&rt, rt.alloc(), rules, "guard: rules: RulesUnread\n")?;
+    }
+    Ok(())
+}
+
+#[test]
+fn judges_rules_in_each_spelling(rt: HostRuntime) -> Result<(), Fail> {
+    let rows: [(&[u8], Wanted); 12] = [
+        (b"\xef\xbb\xbf rule r { A exists }", JUDGED_PASS),
+        (b"rule r{A exists}# note\n", JUDGED_PASS),
+        (b"rule\tr\r\n{\nA\texists\r}", JUDGED_PASS),
+        (b"rule r { A exists <<A is there>> }", JUDGED_PASS),
+        (b"rule r { B exists <<B is there>> }", JUDGED_FAIL),
+        (b"rule r { 'A' exists }", JUDGED_PASS),
+        (b"rule r { \"A\".'b c' exists }", JUDGED_PASS),
+        (b"rule r { A.'b'.c exists }", JUDGED_FAIL),
+        (b"rule r { A . 'it\\'s' EXISTS }", JUDGED_PASS),
+        (b"rule r { A.exists exists }", JUDGED_PASS),
+        (b"rule r { A.rule.default.this exists }", JUDGED_FAIL),
+        (b"rule r { default exists }", JUDGED_FAIL),
+    ];
+    for (rules, wanted) in rows {
+        let given = Given {
+            rules,
+            data: br#"{"A":{"b c":1,"it's":2,"exists":3}}"#,
+            ..FIRST
+        };
+        expect(&rt, &call(rt.alloc(), &given)?, wanted);
+    }
+    Ok(())
+}
+
+#[test]
+fn refuses_the_129th_open_bracket(rt: HostRuntime) -> Result<(), Fail> {
+    let rules = vec![in rt.alloc(); b'{'; 129]?;
+    expect_refused_rules(&rt, rt.alloc(), &rules, "guard: rules 1:129: NestTooDeep\n")?;
+    Ok(())
+}
+
+#[test]
+fn refuses_templates_by_name_and_place(rt: HostRuntime) -> Result<(), Fail> {
+    let rows: [(&[u8], &str); 16] = [
+        (br#"{"a":1,"a":2}"#, "guard: data 1:8: DuplicateKey\n"),
+        (br#"{"a":1,"\u0061":2}"#, "guard: data 1:8: DuplicateKey\n"),
+        (br#"{"a":1,"a"x"#, "guard: data 1:8: DuplicateKey\n"),
+        (
+            b"{\n\"a\":1,\n  \"a\":2}",
+            "guard: data 3:3: DuplicateKey\n",
+        ),
+        (
+            br#"{"a":1234567890123456789.5}"#,
+            "guard: data 1:6: NumberRange\n",
+        ),
+        (b"1e400 x", "guard: data 1:1: NumberRange\n"),
+        (b"\r\n1e400", "guard: data 2:1: NumberRange\n"),
+        (b"", "guard: data 1:1: Syntax\n"),
+        (b"{", "guard: data 1:2: Syntax\n"),
+        (b"{}x", "guard: data 1:3: Syntax\n"),
+        (b"[01]", "guard: data 1:3: Syntax\n"),
+        (b"[1\n", "guard: data 2:1: Syntax\n"),
+        (b"[\"\xc3\xa9\"x]", "guard: data 1:6: Syntax\n"),
+        (b"\xef\xbb\xbf\xef\xbb\xbf{}", "guard: data 1:4: Syntax\n"),
+        (b"\xef\x80\x80", "guard: data 1:2: Syntax\n"),
+        (b"\xff", "guard: data: NotText\n"),
+    ];
+    for (data, line) in rows {
+        let given = Given { data, ..FIRST };
+        expect(&rt, &call(rt.alloc(), &given)?, refused(line));
+    }
+    Ok(())
+}
+
+/// So many lists in each other.
+fn nested(alloc: Global, depth: usize) -> Result<Vec<u8>, AllocError> {
+    let mut bytes = vec![in alloc; b'['; depth]?;
+    bytes.extend_from_slice(&vec![in alloc; b']'; depth]?)?;
+    Ok(bytes)
+}
+
+#[test]
+fn reads_lists_up_to_the_depth(rt: HostRuntime) -> Result<(), Fail> {
+    for (depth, wanted) in [
+        (128, JUDGED_FAIL),
+        (129, refused("guard: data 1:129: TooDeep\n")),
+    ] {
+        let data = nested(rt.alloc(), depth)?;
+        let given = Given {
+            data: &data,
+            ..FIRST
+        };
+        expect(&rt, &call(rt.alloc(), &given)?, wanted);
     }
     Ok(())
 }
@@ -160,42 +354,42 @@ fn judges_and_refuses_texts(rt: HostRuntime) -> Result<(), Fail> {
 #[test]
 fn reads_words(rt: HostRuntime) -> Result<(), Fail> {
     let usage = (
-        End::Usage,
+        "usage",
+        2,
+        "",
         "usage: guard validate --rules FILE --data FILE\n",
-        0,
     );
-    let rows: [(&[&str], (End, &str, u64)); 9] = [
-        (FIRST.words, (End::Passed, "", 2)),
-        (&[], usage),
-        (&["validate", "--rules", "a"], usage),
+    let rows: [(&[&str], Wanted, u64); 9] = [
+        (FIRST.words, JUDGED_PASS, 2),
+        (&[], usage, 0),
+        (&["validate", "--rules", "a"], usage, 0),
         (
             &["validate", "--data", "d.json", "--rules", "r.guard"],
             usage,
+            0,
         ),
-        (&["validate", "--rules", "", "--data", "d.json"], usage),
-        (&["validate", "--rules", "r.guard", "--data", ""], usage),
+        (&["validate", "--rules", "", "--data", "d.json"], usage, 0),
+        (&["validate", "--rules", "r.guard", "--data", ""], usage, 0),
         (
             &["validate", "--rules", "r.guard", "--data", "d.json", "x"],
             usage,
+            0,
         ),
         (
             &["Validate", "--rules", "r.guard", "--data", "d.json"],
             usage,
+            0,
         ),
         // The name is tested before the load: only the rules were loaded.
         (
             &["validate", "--rules", "r.guard", "--data", "d.yaml"],
-            (
-                End::Refused(Refusal::DataUnread),
-                "guard: data: DataUnread\n",
-                1,
-            ),
+            refused("guard: data: DataUnread\n"),
+            1,
         ),
     ];
-    for (words, (end, err, calls)) in rows {
+    for (words, wanted, calls) in rows {
         let ran = call(rt.alloc(), &Given { words, ..FIRST })?;
-        assert_eq!(rt; ran.end, end);
-        assert_eq!(rt; ran.err.as_slice(), err.as_bytes());
+        expect(&rt, &ran, wanted);
         assert_eq!(rt; ran.calls, calls);
     }
     Ok(())
@@ -204,55 +398,44 @@ fn reads_words(rt: HostRuntime) -> Result<(), Fail> {
 #[test]
 fn tells_each_fault(rt: HostRuntime) -> Result<(), Fail> {
     let whole = AMPLE;
-    let rows: [(&[u64], u64, u64, End, &str, &str); 8] = [
+    let rows: [(&[u64], u64, u64, Wanted); 8] = [
         (
             &[0],
             whole,
             whole,
-            End::ReadFault(Which::Rules),
-            "",
-            "guard: cannot read rules\n",
+            ("rules not read", 6, "", "guard: cannot read rules\n"),
         ),
         (
             &[1],
             whole,
             whole,
-            End::ReadFault(Which::Template),
-            "",
-            "guard: cannot read data\n",
+            ("template not read", 6, "", "guard: cannot read data\n"),
         ),
-        (&[2], whole, whole, End::Passed, PASSED, ""),
-        (&[0], whole, 0, End::WriteFault(Pipe::Err), "", ""),
-        (&[1], whole, 7, End::WriteFault(Pipe::Err), "", "guard: "),
+        (&[2], whole, whole, JUDGED_PASS),
+        (&[0], whole, 0, ("err not written", 6, "", "")),
+        (&[1], whole, 7, ("err not written", 6, "", "guard: ")),
         (
             &[],
             4,
             whole,
-            End::WriteFault(Pipe::Out),
-            "rule",
-            "guard: cannot write out\n",
+            ("out not written", 6, "rule", "guard: cannot write out\n"),
         ),
         (
             &[],
             4,
             23,
-            End::WriteFault(Pipe::Err),
-            "rule",
-            "guard: cannot write out",
+            ("err not written", 6, "rule", "guard: cannot write out"),
         ),
-        (&[], 39, 0, End::Passed, PASSED, ""),
+        (&[], 39, 0, JUDGED_PASS),
     ];
-    for (failing, out_room, err_room, end, out, err) in rows {
+    for (failing, out_room, err_room, wanted) in rows {
         let given = Given {
             failing,
             out_room,
             err_room,
             ..FIRST
         };
-        let ran = call(rt.alloc(), &given)?;
-        assert_eq!(rt; ran.end, end);
-        assert_eq!(rt; ran.out.as_slice(), out.as_bytes());
-        assert_eq!(rt; ran.err.as_slice(), err.as_bytes());
+        expect(&rt, &call(rt.alloc(), &given)?, wanted);
     }
     Ok(())
 }
@@ -265,30 +448,68 @@ fn tells_out_with_too_little_room(rt: HostRuntime) -> Result<(), Fail> {
             ..FIRST
         };
         let ran = call(rt.alloc(), &given)?;
-        assert_eq!(rt; ran.end, End::WriteFault(Pipe::Out));
+        assert_eq!(rt; word(&ran.end), "out not written");
         assert_eq!(rt; ran.out.as_slice(), &PASSED.as_bytes()[..room]);
         assert_eq!(rt; ran.err.as_slice(), b"guard: cannot write out\n".as_slice());
     }
     Ok(())
 }
 
-fn spaces(alloc: Global, count: usize) -> Result<Vec<u8>, AllocError> {
-    vec![in alloc; b' '; count]
+#[test]
+fn tells_err_with_too_little_room_for_a_refusal(rt: HostRuntime) -> Result<(), Fail> {
+    let line = b"guard: data 1:8: DuplicateKey\n";
+    for room in 0..line.len() {
+        let given = Given {
+            data: br#"{"a":1,"a":2}"#,
+            err_room: room as u64,
+            ..FIRST
+        };
+        let ran = call(rt.alloc(), &given)?;
+        assert_eq!(rt; word(&ran.end), "err not written");
+        assert!(rt; ran.out.is_empty());
+        assert_eq!(rt; ran.err.as_slice(), &line.as_slice()[..room]);
+    }
+    Ok(())
+}
+
+/// A text with spaces behind it up to a length.
+fn padded(alloc: Global, text: &[u8], length: usize) -> Result<Vec<u8>, AllocError> {
+    let mut bytes = vec![in alloc; b' '; length]?;
+    for (place, byte) in bytes.iter_mut().zip(text) {
+        *place = *byte;
+    }
+    Ok(bytes)
 }
 
 #[test]
-fn reads_up_to_the_limit(rt: HostRuntime) -> Result<(), Fail> {
-    for (length, end) in [
-        (1_048_576, End::Passed),
-        (1_048_577, End::Refused(Refusal::RulesUnread)),
+fn reads_rules_up_to_the_limit(rt: HostRuntime) -> Result<(), Fail> {
+    for (length, wanted) in [
+        (1_048_576, ("passed", 0, NONE, "")),
+        (1_048_577, refused("guard: rules: TooLong\n")),
     ] {
-        let rules = spaces(rt.alloc(), length)?;
+        let rules = padded(rt.alloc(), b"", length)?;
         let given = Given {
             rules: &rules,
             ..FIRST
         };
-        assert_eq!(rt; call(rt.alloc(), &given)?.end, end);
+        expect(&rt, &call(rt.alloc(), &given)?, wanted);
     }
     only_end(RULES, NAMED);
+    Ok(())
+}
+
+#[test]
+fn reads_templates_up_to_the_limit(rt: HostRuntime) -> Result<(), Fail> {
+    for (length, wanted) in [
+        (8_388_608, JUDGED_PASS),
+        (8_388_609, refused("guard: data: TooLong\n")),
+    ] {
+        let data = padded(rt.alloc(), NAMED, length)?;
+        let given = Given {
+            data: &data,
+            ..FIRST
+        };
+        expect(&rt, &call(rt.alloc(), &given)?, wanted);
+    }
     Ok(())
 }

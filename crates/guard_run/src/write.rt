@@ -1,11 +1,13 @@
 ghost use Rattle.std.specs.Prelude.{◌≡◌, ◌≢◌, ◌≤◌, ◌++◌, ℕ, List, []};
 ghost use Rattle.guard_io.specs.Outside.{Rose, IsPrefix};
-ghost use Rattle.guard_run.specs.End.{Contents, EndOf, Took, memory_line, refusal_line, read_fault_line};
+ghost use Rattle.guard_run.specs.Lines.{memory_line, read_fault_line};
+ghost use Rattle.guard_run.specs.End.{Contents, EndOf, Took};
 ghost use Rattle.guard_run.specs.Outcome.{IsOutcome, ended};
 ghost use Rattle.guard_run.specs.Writing.{Closed, Said, SaidMemory};
 
-use crate::ends::{End, Pipe, Refusal, Which};
+use crate::ends::{End, Pipe, Which};
 use crate::outcome::Outcome;
+use crate::refused::Refused;
 use crate::report::Judgement;
 use guard_io::{Sink, SinkFault};
 
@@ -23,7 +25,9 @@ pub(crate) fn write_outcome<O: Sink, E: Sink>(outcome: Outcome, out: &mut O, err
 {
     match outcome {
         Outcome::Judged(judgement) => write_report(&judgement, out, err),
-        Outcome::Refused(refusal) => say(refusal_text(refusal), End::Refused(refusal), err),
+        Outcome::Refused(Refused { refusal, line }) => {
+            say(line.as_str(), End::Refused(refusal), err)
+        }
         Outcome::Usage => say(
             "usage: guard validate --rules FILE --data FILE\n",
             End::Usage,
@@ -90,16 +94,6 @@ fn say_memory<E: Sink>(err: &mut E) -> End
         Ok(()) => End::Memory,
         Err(SinkFault::Failed) => End::WriteFault(Pipe::Err),
         Err(SinkFault::Memory) => End::Memory,
-    }
-}
-
-/// The line of a refusal.
-fn refusal_text(refusal: Refusal) -> &'static str
-    ensures { result.now ≡ refusal_line refusal }
-{
-    match refusal {
-        Refusal::RulesUnread => "guard: rules: RulesUnread\n",
-        Refusal::DataUnread => "guard: data: DataUnread\n",
     }
 }
 

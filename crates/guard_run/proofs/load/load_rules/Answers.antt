@@ -1,9 +1,7 @@
+use Rattle.guard_run.specs.declared.ends.Refusal.TheVariants.{TooLong}
+use Rattle.guard_run.specs.declared.ends.Which.TheVariants as file
 use Rattle.guard_run.proofs.load.load_rules.Goals as goal
 
-pub returns-in-Err-Unread-clause-loaded : goal.returns-in-Err-Unread-clause-loaded
-returns-in-Err-Unread-clause-loaded g c = (
-  c.in-Whole.bytes.items,
-  c.in-Whole.ensures.loaded.0,
-  λ rules file.
-      c.in-Err-Unread.ensures c.in-Err-Unread.field-0-is rules (rw c.deref.ensures.value file.utf8) (rw c.deref.ensures.value file.grammar),
-)
+pub returns-in-TooLong-clause-loaded : goal.returns-in-TooLong-clause-loaded
+returns-in-TooLong-clause-loaded g c =
+    let long = c.in-TooLong.ensures.loaded in (long.0, long.1, (TooLong file.Rules, long.2, c.too_long.ensures long.0))

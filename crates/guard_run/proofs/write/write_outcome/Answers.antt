@@ -1,7 +1,9 @@
 use Rattle.std.proofs.Common.{inl, inr, refl, [], subst}
-use Rattle.guard_run.specs.End.{Ended, EndOf, Faults, Loads, Unread, Took, usage_line, refusal_line, read_fault_line, refused}
+use Rattle.guard_run.specs.End.{Ended, EndOf, Faults, Loads, Unread, Took}
+use Rattle.guard_run.specs.Lines.{usage_line, read_fault_line}
 use Rattle.guard_run.specs.Request.{Request}
-use Rattle.guard_run.specs.Outcome.{IsOutcome}
+use Rattle.guard_run.specs.Outcome.{IsOutcome, said}
+use Rattle.guard_run.specs.declared.refused.Refused.{Refused}
 use Rattle.guard_run.specs.Writing.{Said}
 use Rattle.guard_run.specs.declared.ends.End.TheVariants as end_is
 use Rattle.guard_run.proofs.Closing.{Took-nothing, Closed-said, Closed-memory}
@@ -13,16 +15,17 @@ returns-in-Judged-clause-closed g c = λ words told old new end.
 
 pub returns-in-Refused-clause-closed : goal.returns-in-Refused-clause-closed
 returns-in-Refused-clause-closed g c = λ words told old new end.
-    let ends : EndOf words told (refused c.in-Refused.refusal) = subst (λ o. IsOutcome words told old new o) c.in-Refused.is end in
+    let r : Refused = c.in-Refused.field-0 in
+    let ends : EndOf words told (said r) = subst (λ o. IsOutcome words told old new o) c.in-Refused.is end in
     let none : Took (g.O.Sink.told c.args.out.now) (g.O.Sink.told c.args.out.now) [] = Took-nothing (g.O.Sink.told c.args.out.now) in
-    let said : Said (refusal_line c.in-Refused.refusal) (end_is.Refused c.in-Refused.refusal) c.say.result
-    (g.E.Sink.told c.args.err.now) (g.E.Sink.told c.say.new.err) = rw c.refusal_text.ensures at c.say.ensures.said in
+    let tried : Said r.line.bytes (end_is.Refused r.refusal) c.say.result
+    (g.E.Sink.told c.args.err.now) (g.E.Sink.told c.say.new.err) = rw c.as_str.ensures.value at c.say.ensures.said in
     let before : Faults = record { files = old; out = g.O.Sink.faults c.args.out.now } in
     let after : Faults = record { files = new; out = g.O.Sink.faults c.args.out.now } in
-    Closed-said words told before after (refusal_line c.in-Refused.refusal) (end_is.Refused c.in-Refused.refusal) c.say.result
+    Closed-said words told before after r.line.bytes (end_is.Refused r.refusal) c.say.result
     (g.O.Sink.told c.args.out.now) (g.O.Sink.told c.args.out.now) (g.E.Sink.told c.args.err.now) (g.E.Sink.told c.say.new.err) []
-    (inl (refused c.in-Refused.refusal, ends, refl, refl, refl)) none
-    (λ whole. (refused c.in-Refused.refusal, ends, refl, none, whole)) said
+    (inl (said r, ends, refl, refl, refl)) none
+    (λ whole. (said r, ends, refl, none, whole)) tried
 
 pub returns-in-Usage-clause-closed : goal.returns-in-Usage-clause-closed
 returns-in-Usage-clause-closed g c = λ words told old new end.

@@ -1,6 +1,7 @@
 use Rattle.std.proofs.Common.{ℕ, List, Err, ap, inl, inr, refl, sym, subst, string_bytes}
 use Rattle.guard_io.specs.Outside.{IsPrefix}
-use Rattle.guard_run.specs.End.{Faults, Took, write_fault_line}
+use Rattle.guard_run.specs.End.{Faults, Took}
+use Rattle.guard_run.specs.Lines.{write_fault_line}
 use Rattle.guard_run.specs.Writing.{Closed}
 use Rattle.guard_run.specs.Outcome.{ended}
 use Rattle.guard_run.specs.declared.ends.End.TheVariants.{WriteFault}
