@@ -23,7 +23,7 @@ pub struct Arena<'s> {
     pub nodes: Vec<Node<'s>>,
     pub starts: Vec<u32>,
     pub slots: Vec<u32>,
-    pub keys: KeyIndex<'s>,
+    pub keys: KeyIndex,
 }
 
 impl<'s> Model for Arena<'s> {

@@ -399,7 +399,7 @@ mod tests {
 
     #[test]
     fn refuses_a_key_twice(rt: HostRuntime) -> Result<(), Fail> {
-        let mut builder = DocBuilder::new(rt.alloc());
+        let mut builder: DocBuilder<'static> = DocBuilder::new(rt.alloc());
         match twice(&mut builder) {
             Ok(()) => Err(Fail::from("taken")),
             Err(BuildRefusal::DuplicateKey(at)) => {

@@ -14,22 +14,26 @@ use std::collections::BTreeMap;
 const NAMES: usize = 4294967295;
 
 /// For each key of a map, by the number behind the map's own, the number of its value.
-/// Each name is kept once and has a number, since maps in a document mostly have the same few keys.
+/// Each name is kept once and has a number, since maps in a document mostly have the same few keys. Names are owned: a tree
+/// that borrows nothing can then stand where one that borrows is wanted, since the borrow checker shortens no lifetime inside
+/// an ordered map.
 #[derive(Drop)]
-pub struct KeyIndex<'s> {
-    pub names: BTreeMap<CowStr<'s>, u32>,
+pub struct KeyIndex {
+    pub names: BTreeMap<CowStr<'static>, u32>,
     pub places: BTreeMap<(u32, u32), u32>,
+    alloc: Global,
 }
 
-impl<'s> KeyIndex<'s> {
+impl KeyIndex {
     /// The index with no key.
-    pub fn new(alloc: Global) -> KeyIndex<'s>
+    pub fn new(alloc: Global) -> KeyIndex
         ensures empty { (w : ℕ) (k : List ℕ) → number_of result w k ≡ None }
         ensures apart { IsApart result }
     {
         KeyIndex {
             names: BTreeMap::new(alloc),
             places: BTreeMap::new(alloc),
+            alloc,
         }
     }
 
@@ -43,7 +47,7 @@ impl<'s> KeyIndex<'s> {
     }
 
     /// The number of a name, which it gets here if it is new.
-    fn name(&mut self, key: &CowStr<'s>) -> Result<u32, AllocError>
+    fn name(&mut self, key: &CowStr<'_>) -> Result<u32, AllocError>
         requires { IsApart self.old }
         ensures apart { IsApart self.new }
         ensures ok { IfOk result (λ n. Names self.old self.new (cow_str_bytes key.now) n) }
@@ -57,8 +61,8 @@ impl<'s> KeyIndex<'s> {
             return Err(AllocError);
         }
         let number = count as u32;
-        let copy = key.clone()?;
-        match self.names.insert(copy, number) {
+        let copy = String::from_str(self.alloc, key.as_str())?;
+        match self.names.insert(CowStr::Owned(copy), number) {
             Ok(_) => {}
             Err(_) => return Err(AllocError),
         }
@@ -66,7 +70,7 @@ impl<'s> KeyIndex<'s> {
     }
 
     /// A key more, with the number of its value.
-    fn add(&mut self, under: u32, key: &CowStr<'s>, number: u32) -> Result<(), AllocError>
+    fn add(&mut self, under: u32, key: &CowStr<'_>, number: u32) -> Result<(), AllocError>
         requires { IsApart self.old }
         ensures apart { IsApart self.new }
         ensures ok { OnOk result (Adds self.old self.new under (cow_str_bytes key.now) number) }
@@ -83,7 +87,7 @@ impl<'s> KeyIndex<'s> {
     pub fn add_if(
         &mut self,
         under: u32,
-        key: &Option<CowStr<'s>>,
+        key: &Option<CowStr<'_>>,
         number: u32,
     ) -> Result<(), AllocError>
         requires { IsApart self.old }

@@ -7,7 +7,7 @@ use Rattle.doc_values.proofs.keys.KeyIndex.add.Goals as goal
 pub returns-in-Ok-clause-apart : goal.returns-in-Ok-clause-apart
 returns-in-Ok-clause-apart c =
     let mid : KeyIndex = c.name.new.self in
-    let new : KeyIndex = record { names = mid.names; places = c.insert.new.self } in
+    let new : KeyIndex = record { names = mid.names; places = c.insert.new.self; alloc = mid.alloc } in
     let k = cow_str_bytes c.args.key.now in
     let is_new : IsNewPair mid new c.args.under c.in_ok-name.name c.args.number = record {
       names = λ i. refl;
@@ -19,7 +19,7 @@ returns-in-Ok-clause-apart c =
 pub returns-in-Ok-clause-ok : goal.returns-in-Ok-clause-ok
 returns-in-Ok-clause-ok c =
     let mid : KeyIndex = c.name.new.self in
-    let new : KeyIndex = record { names = mid.names; places = c.insert.new.self } in
+    let new : KeyIndex = record { names = mid.names; places = c.insert.new.self; alloc = mid.alloc } in
     let k = cow_str_bytes c.args.key.now in
     let is_new : IsNewPair mid new c.args.under c.in_ok-name.name c.args.number = record {
       names = λ i. refl;
