@@ -24,13 +24,13 @@ Later p (l ∷ ls) = (p < l.at) × Later p ls
 abbrev pub SplitAt : ℕ → ℕ → List ℕ → List ℕ → Type 0
 SplitAt p at l m = (front x y : List ℕ) × (l ≡ front ++ x) × (m ≡ front ++ y) × (at + length front ≡ p) × SameAhead x y
 
--- the lines are the same up to a place and with the byte there: whole lines, and then two that it splits, or one at whose line feed it is
+-- the lines are the same up to a place and with the byte there: whole lines, and then two that it splits, of which the second has a break if it ends there, or one at whose line feed it is
 abbrev pub Shares : ℕ → List Line → List Line → Type 0
 Shares p [] ms = ⊥
 Shares p (l ∷ ls) [] = ⊥
 Shares p (l ∷ ls) (m ∷ ms) =
     ((l ≡ m) × Shares p ls ms)
-    ⊎ (((l.at ≡ m.at) × SplitAt p l.at l.bytes m.bytes × Later p ls) ⊎ ((l ≡ m) × (p ≡ l.at + length l.bytes + 1) × Later p ls))
+    ⊎ (((l.at ≡ m.at) × SplitAt p l.at l.bytes m.bytes × Later p ls × (l.at + length m.bytes ≡ p → m.broken ≡ true)) ⊎ ((l ≡ m) × (p ≡ l.at + length l.bytes + 1) × Later p ls))
 
 later_put : (q at b : ℕ) (ls : List Line) → q < at → Later q ls → Later q (put at b ls)
 later_put q at b [] l h = tt
@@ -59,7 +59,7 @@ behind_later q at (b ∷ bs) l = by_break (nat_eq b 10) (behind_later q (suc at)
 -- a byte more in front of both
 shares_put : (p at c : ℕ) (l m : List ℕ) (q r : Bool) (ls ms : List Line) → Shares p (record { at = suc at; bytes = l; broken = q } ∷ ls) (record { at = suc at; bytes = m; broken = r } ∷ ms) → Shares p (record { at = at; bytes = c ∷ l; broken = q } ∷ ls) (record { at = at; bytes = c ∷ m; broken = r } ∷ ms)
 shares_put p at c l m q r ls ms (inl h) = inl (ap (λ (x : Line). record { at = at; bytes = c ∷ x.bytes; broken = x.broken }) h.0, h.1)
-shares_put p at c l m q r ls ms (inr (inl h)) = let s = h.1 in inr (inl (refl, (c ∷ s.0, s.1, s.2, ap (λ t. c ∷ t) s.3, ap (λ t. c ∷ t) s.4, omega (arith, s.5), s.6), h.2))
+shares_put p at c l m q r ls ms (inr (inl h)) = let s = h.1 in inr (inl (refl, (c ∷ s.0, s.1, s.2, ap (λ t. c ∷ t) s.3, ap (λ t. c ∷ t) s.4, omega (arith, s.5), s.6), h.2, (λ e. h.3 (omega (arith, e)))))
 shares_put p at c l m q r ls ms (inr (inr h)) = inr (inr (ap (λ (x : Line). record { at = at; bytes = c ∷ x.bytes; broken = x.broken }) h.0, omega (arith, h.1), h.2))
 
 pub put_shares : (p at c : ℕ) (x y : List ℕ) → Shares p (lines (suc at) x) (lines (suc at) y) → Shares p (put at c (lines (suc at) x)) (put at c (lines (suc at) y))
@@ -85,10 +85,10 @@ returned_is at b true (c ∷ w) e = by_feed (nat_eq c 10) e where
 returned_is at b false w e = ap (put at b) (lines_are (suc at) w)
 
 split : (at b : ℕ) (u v : List ℕ) (q r : Bool) → b ≡ 13 → Shares (at + 0) (returned at b q u ∷ behind (suc at) u) (returned at b r v ∷ behind (suc at) v)
-split at b u v true true e = inr (inl (refl, ([], [], [], refl, refl, refl, inr (tt, tt)), behind_later (at + 0) (suc at) u (omega arith)))
-split at b u v true false e = inr (inl (refl, ([], [], b ∷ line_at v, refl, refl, refl, inr (tt, e)), behind_later (at + 0) (suc at) u (omega arith)))
-split at b u v false true e = inr (inl (refl, ([], b ∷ line_at u, [], refl, refl, refl, inr (e, tt)), behind_later (at + 0) (suc at) u (omega arith)))
-split at b u v false false e = inr (inl (refl, ([], b ∷ line_at u, b ∷ line_at v, refl, refl, refl, inr (e, e)), behind_later (at + 0) (suc at) u (omega arith)))
+split at b u v true true e = inr (inl (refl, ([], [], [], refl, refl, refl, inr (tt, tt)), behind_later (at + 0) (suc at) u (omega arith), (λ e. refl)))
+split at b u v true false e = inr (inl (refl, ([], [], b ∷ line_at v, refl, refl, refl, inr (tt, e)), behind_later (at + 0) (suc at) u (omega arith), (λ e. absurd (omega (arith, e)))))
+split at b u v false true e = inr (inl (refl, ([], b ∷ line_at u, [], refl, refl, refl, inr (e, tt)), behind_later (at + 0) (suc at) u (omega arith), (λ e. refl)))
+split at b u v false false e = inr (inl (refl, ([], b ∷ line_at u, b ∷ line_at v, refl, refl, refl, inr (e, e)), behind_later (at + 0) (suc at) u (omega arith), (λ e. absurd (omega (arith, e)))))
 
 -- one byte in common
 first_shares : (at b : ℕ) (u v : List ℕ) → Shares (at + 0) (lines at (b ∷ u)) (lines at (b ∷ v))
@@ -96,7 +96,7 @@ first_shares at b u v = by_break (nat_eq b 10) (nat_eq b 13) refl where
   by_break : (x y : Bool) → nat_eq b 13 ≡ y
       → Shares (at + 0) (cond x (record { at = at; bytes = []; broken = true } ∷ lines (suc at) u) (cond (y && begins_with 10 u) (begun at (lines (suc at) u)) (put at b (lines (suc at) u))))
       (cond x (record { at = at; bytes = []; broken = true } ∷ lines (suc at) v) (cond (y && begins_with 10 v) (begun at (lines (suc at) v)) (put at b (lines (suc at) v))))
-  by_break true y f = inr (inl (refl, ([], [], [], refl, refl, refl, inr (tt, tt)), lines_later (at + 0) (suc at) u (omega arith)))
+  by_break true y f = inr (inl (refl, ([], [], [], refl, refl, refl, inr (tt, tt)), lines_later (at + 0) (suc at) u (omega arith), (λ e. refl)))
   by_break false true f =
       let n : b ≡ 13 = grind (arith, nat_tests, f) in
       let s = split at b u v (begins_with 10 u) (begins_with 10 v) n in
@@ -104,7 +104,7 @@ first_shares at b u v = by_break (nat_eq b 10) (nat_eq b 13) refl where
       subst (λ ms. Shares (at + 0) (cond (begins_with 10 u) (begun at (lines (suc at) u)) (put at b (lines (suc at) u))) ms) (sym (returned_is at b (begins_with 10 v) v refl)) s2
   by_break false false f =
       let s : Shares (at + 0) (record { at = at; bytes = b ∷ line_at u; broken = has_break u } ∷ behind (suc at) u) (record { at = at; bytes = b ∷ line_at v; broken = has_break v } ∷ behind (suc at) v)
-      = inr (inl (refl, ([], b ∷ line_at u, b ∷ line_at v, refl, refl, refl, inl (b, line_at u, line_at v, refl, refl)), behind_later (at + 0) (suc at) u (omega arith))) in
+      = inr (inl (refl, ([], b ∷ line_at u, b ∷ line_at v, refl, refl, refl, inl (b, line_at u, line_at v, refl, refl)), behind_later (at + 0) (suc at) u (omega arith), (λ e. absurd (omega (arith, e))))) in
       let s2 = subst (λ ls. Shares (at + 0) (put at b ls) (record { at = at; bytes = b ∷ line_at v; broken = has_break v } ∷ behind (suc at) v)) (sym (lines_are (suc at) u)) s in
       subst (λ ms. Shares (at + 0) (put at b (lines (suc at) u)) (put at b ms)) (sym (lines_are (suc at) v)) s2
 

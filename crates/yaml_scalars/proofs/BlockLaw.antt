@@ -6,7 +6,7 @@ use Rattle.std.proofs.lemmas.List.{length-append}
 use Rattle.yaml_scalars.specs.declared.scalar.Setting.{Setting}
 use Rattle.yaml_scalars.specs.Lines.{Line, Stands, Fails, begins_with, is_white, is_blank, is_mark, lead, indent}
 use Rattle.yaml_scalars.specs.Plain.{above_of}
-use Rattle.yaml_scalars.specs.Block.{Chomp, Header, Last, Inner, Nothing, Wide, Indented, header, header_fault, return_behind, is_content, taken_off, ending, content_more, blank_more, count_break, mark_len, shown, widest, inner_of, base_of, by_inner, by_digit, block_on}
+use Rattle.yaml_scalars.specs.Block.{Chomp, Header, Last, Inner, Nothing, Wide, Indented, header, header_fault, return_behind, is_content, taken_off, ending, content_more, blank_more, count_break, mark_len, may_end, shown, widest, inner_of, base_of, by_inner, by_digit, block_on}
 use Rattle.yaml_scalars.specs.Walk.{line_at, has_break, behind}
 use Rattle.yaml_scalars.specs.Scalar.{block_scalar}
 use Rattle.yaml_scalars.proofs.Places.{lines_are}
@@ -88,11 +88,11 @@ shown_fits xs = by_byte (drop n xs) refl where
   n : ℕ
   n = lead is_white xs + mark_len xs
 
-  by_byte : (t : List ℕ) → drop n xs ≡ t → cond (begins_with 13 (drop n xs)) (suc n) n ≤ length xs
-  by_byte [] e = let f = shown_le xs in let z : cond (begins_with 13 (drop n xs)) (suc n) n ≡ n = ap (λ t. cond (begins_with 13 t) (suc n) n) e in omega (arith, f, z)
+  by_byte : (t : List ℕ) → drop n xs ≡ t → cond (begins_with 13 (drop n xs) && may_end (mark_len xs)) (suc n) n ≤ length xs
+  by_byte [] e = let f = shown_le xs in let z : cond (begins_with 13 (drop n xs) && may_end (mark_len xs)) (suc n) n ≡ n = ap (λ t. cond (begins_with 13 t && may_end (mark_len xs)) (suc n) n) e in omega (arith, f, z)
   by_byte (b ∷ t) e =
       let f : suc (length t) ≡ length xs - n = sym (ap (λ (t : List ℕ). length t) e) ∙ length-drop n xs in
-      by_test (begins_with 13 (drop n xs)) f where
+      by_test (begins_with 13 (drop n xs) && may_end (mark_len xs)) f where
         by_test : (q : Bool) → suc (length t) ≡ length xs - n → cond q (suc n) n ≤ length xs
         by_test true f = omega (arith, f)
         by_test false f = omega (arith, f)

@@ -8,7 +8,7 @@ use Rattle.std.specs.Str.{IsCharBoundary, IsUtf8}
 use Rattle.std.proofs.lemmas.Str.{IsCharBoundary-end, IsCharBoundary-before_ascii, IsCharBoundary-after_ascii}
 use Rattle.yaml_scalars.specs.Lines.{begins_with, begins_break, is_white, is_space, is_blank, is_mark, lead, indent, lines}
 use Rattle.yaml_scalars.specs.Walk.{line_at, behind}
-use Rattle.yaml_scalars.specs.Block.{return_behind, header_fault, is_content, taken_off, same, mark_len, shown, Nothing, Wide, Indented, inner_of, widest, Last, joint}
+use Rattle.yaml_scalars.specs.Block.{return_behind, header_fault, is_content, taken_off, same, mark_len, may_end, shown, Nothing, Wide, Indented, inner_of, widest, Last, joint}
 use Rattle.yaml_scalars.specs.BlockSteps.{text_more}
 use Rattle.yaml_scalars.proofs.Places.{lines_are, line_front, line_fits, lead_le}
 use Rattle.yaml_scalars.proofs.LineParts.{part_is, line_get, lead_byte}
@@ -192,13 +192,18 @@ inner_in above wide start bytes h m l k =
     let t = line_at (drop start bytes) in
     inner_above above wide start bytes h m l ∙ ap (λ q. cond q (Wide (start + shown t)) (Indented (indent t))) (le-ltb (indent t) wide k)
 
-pub shown_is : (bytes : List ℕ) (start place : ℕ) → place ≡ start + lead is_white (line_at (drop start bytes)) + mark_len (line_at (drop start bytes)) → start + shown (line_at (drop start bytes)) ≡ cond (begins_with 13 (line_at (drop place bytes))) (place + 1) place
-shown_is bytes start place e =
+pub no_second : (p q : Bool) → q ≡ false → (p && q) ≡ false
+no_second true q h = h
+no_second false q h = refl
+
+pub shown_is : (bytes : List ℕ) (start place mark : ℕ) → mark ≡ mark_len (line_at (drop start bytes)) → place ≡ start + lead is_white (line_at (drop start bytes)) + mark → start + shown (line_at (drop start bytes)) ≡ cond (begins_with 13 (line_at (drop place bytes)) && may_end mark) (place + 1) place
+shown_is bytes start place mark m e =
     let t = line_at (drop start bytes) in
     let n = lead is_white t + mark_len t in
-    let at : start + n ≡ place = omega (arith, e) in
+    let at : start + n ≡ place = omega (arith, e, m) in
     let rest : drop n t ≡ line_at (drop place bytes) = part_is bytes start n (shown_le t) ∙ ap (λ k. line_at (drop k bytes)) at in
-    ap (λ (r : List ℕ). start + cond (begins_with 13 r) (suc n) n) rest ∙ by_byte (begins_with 13 (line_at (drop place bytes))) n at where
+    ap (λ (r : List ℕ). start + cond (begins_with 13 r && may_end (mark_len t)) (suc n) n) rest ∙ ap (λ k. start + cond (begins_with 13 (line_at (drop place bytes)) && may_end k) (suc n) n) (sym m)
+    ∙ by_byte (begins_with 13 (line_at (drop place bytes)) && may_end mark) n at where
       by_byte : (q : Bool) (n : ℕ) → start + n ≡ place → start + cond q (suc n) n ≡ cond q (place + 1) place
       by_byte true n at = omega arith
       by_byte false n at = at

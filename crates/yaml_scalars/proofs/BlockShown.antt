@@ -4,7 +4,7 @@ use Rattle.std.specs.Prelude.{nat_eq, ◌||◌, ◌&&◌}
 use Rattle.std.proofs.lemmas.Bool.Decides.{nat_tests}
 use Rattle.std.proofs.lemmas.List.{length-append}
 use Rattle.yaml_scalars.specs.Lines.{begins_with, is_white, is_space, is_blank, is_mark, is_end, lead, indent}
-use Rattle.yaml_scalars.specs.Block.{same, mark_len, shown, return_behind}
+use Rattle.yaml_scalars.specs.Block.{same, mark_len, may_end, shown, return_behind}
 use Rattle.yaml_scalars.proofs.Agree.{SameAhead, drop_before}
 use Rattle.yaml_scalars.proofs.BlockHeads.{cases, return_ranges}
 
@@ -226,36 +226,54 @@ return_last (c ∷ []) x zero l e = ([], (let q : c ≡ 13 = grind (arith, nat_t
 return_last (c ∷ d ∷ f) x zero l e = absurd (omega (arith, l))
 return_last (c ∷ f) x (suc n) l e = let h = return_last f x n (omega (arith, l)) e in (c ∷ h.0, ap (λ t. c ∷ t) h.1, ap (λ k. suc k) h.2)
 
+ends_not : (k : ℕ) → may_end k ≡ false → (0 < k) × (nat_eq k 3 ≡ false)
+ends_not k h = (grind (arith, nat_tests, h), grind (arith, nat_tests, h))
+
 -- lines that agree up to the byte that shows that the one is neither blank nor a mark
 pub shown_alike : (f x y : List ℕ) → SameAhead x y → is_blank (f ++ x) ≡ false → is_mark (f ++ x) ≡ false → shown (f ++ x) ≡ length f → Alike (f ++ x) (f ++ y)
-shown_alike f x y s h m e = cases (begins_with 13 (drop n (f ++ x))) returned plain where
+shown_alike f x y s h m e = cases (begins_with 13 (drop n (f ++ x)) && may_end (mark_len (f ++ x))) returned (λ q. plain x y s h m (sym (ap (λ q. cond q (suc n) n) q) ∙ e) q) where
   n : ℕ
   n = lead is_white (f ++ x) + mark_len (f ++ x)
 
-  returned : begins_with 13 (drop n (f ++ x)) ≡ true → Alike (f ++ x) (f ++ y)
+  first : (p q : Bool) → (p && q) ≡ true → p ≡ true
+  first true q h = refl
+  first false q h = absurd (cc)
+
+  returned : (begins_with 13 (drop n (f ++ x)) && may_end (mark_len (f ++ x))) ≡ true → Alike (f ++ x) (f ++ y)
   returned q =
       let l : suc n ≡ length f = sym (ap (λ q. cond q (suc n) n) q) ∙ e in
-      let a = return_last f x n l q in
+      let a = return_last f x n l (first (begins_with 13 (drop n (f ++ x))) (may_end (mark_len (f ++ x))) q) in
       let p : f ++ x ≡ a.0 ++ (13 ∷ x) = ap (λ t. t ++ x) a.1 ∙ append_assoc a.0 (13 ∷ []) x in
       let r : f ++ y ≡ a.0 ++ (13 ∷ y) = ap (λ t. t ++ y) a.1 ∙ append_assoc a.0 (13 ∷ []) y in
       subst (λ s. Alike s (f ++ y)) (sym p) (subst (λ t. Alike (a.0 ++ (13 ∷ x)) t) (sym r) (alike_return a.0 x y))
 
-  plain : begins_with 13 (drop n (f ++ x)) ≡ false → Alike (f ++ x) (f ++ y)
-  plain q = by_ahead x y s h m (sym (ap (λ q. cond q (suc n) n) q) ∙ e) q where
-    by_ahead : (x y : List ℕ) → SameAhead x y → is_blank (f ++ x) ≡ false → is_mark (f ++ x) ≡ false → lead is_white (f ++ x) + mark_len (f ++ x) ≡ length f → begins_with 13 (drop (lead is_white (f ++ x) + mark_len (f ++ x)) (f ++ x)) ≡ false → Alike (f ++ x) (f ++ y)
-    by_ahead x y (inl s) h m l q =
-        let p : f ++ x ≡ f ++ (s.0 ∷ s.1) = ap (λ t. f ++ t) s.3 in
-        let r : f ++ y ≡ f ++ (s.0 ∷ s.2) = ap (λ t. f ++ t) s.4 in
-        let w : lead is_white (f ++ (s.0 ∷ s.1)) ≤ length f = subst (λ t. lead is_white t ≤ length f) p (omega (arith, l)) in
-        let k : mark_len (f ++ (s.0 ∷ s.1)) ≤ length f = subst (λ t. mark_len t ≤ length f) p (omega (arith, l)) in
-        subst (λ t. Alike t (f ++ y)) (sym p) (subst (λ t. Alike (f ++ (s.0 ∷ s.1)) t) (sym r) (alike f s.0 s.1 s.2 w k))
-    by_ahead [] [] (inr s) h m l q = record { full = h; other_full = h; mark = refl; indented = refl }
-    by_ahead [] (d ∷ v) (inr s) h m l q =
-        let p : f ++ [] ≡ f = append-nil f in
-        let r : f ++ (d ∷ v) ≡ f ++ (13 ∷ v) = ap (λ (b : ℕ). f ++ (b ∷ v)) s.1 in
-        let h2 = subst (λ t. is_blank t ≡ false) p h in
-        let m2 = subst (λ t. is_mark t ≡ false) p m in
-        subst (λ t. Alike t (f ++ (d ∷ v))) (sym p) (subst (λ t. Alike f t) (sym r) (alike_end f v h2 m2))
-    by_ahead (b ∷ u) y (inr s) h m l q =
-        let z : begins_with 13 (drop (length f) (f ++ (b ∷ u))) ≡ true = ap (begins_with 13) (drop_past f (b ∷ u)) ∙ ap (λ (c : ℕ). nat_eq c 13) s.0 in
-        absurd (let g : true ≡ false = sym z ∙ sym (ap (λ k. begins_with 13 (drop k (f ++ (b ∷ u)))) l) ∙ q in cc)
+  plain : (x y : List ℕ) → SameAhead x y → is_blank (f ++ x) ≡ false → is_mark (f ++ x) ≡ false → lead is_white (f ++ x) + mark_len (f ++ x) ≡ length f → (begins_with 13 (drop (lead is_white (f ++ x) + mark_len (f ++ x)) (f ++ x)) && may_end (mark_len (f ++ x))) ≡ false → Alike (f ++ x) (f ++ y)
+  plain x y (inl s) h m l q =
+      let p : f ++ x ≡ f ++ (s.0 ∷ s.1) = ap (λ t. f ++ t) s.3 in
+      let r : f ++ y ≡ f ++ (s.0 ∷ s.2) = ap (λ t. f ++ t) s.4 in
+      let w : lead is_white (f ++ (s.0 ∷ s.1)) ≤ length f = subst (λ t. lead is_white t ≤ length f) p (omega (arith, l)) in
+      let k : mark_len (f ++ (s.0 ∷ s.1)) ≤ length f = subst (λ t. mark_len t ≤ length f) p (omega (arith, l)) in
+      subst (λ t. Alike t (f ++ y)) (sym p) (subst (λ t. Alike (f ++ (s.0 ∷ s.1)) t) (sym r) (alike f s.0 s.1 s.2 w k))
+  plain [] [] (inr s) h m l q = record { full = h; other_full = h; mark = refl; indented = refl }
+  plain [] (d ∷ v) (inr s) h m l q =
+      let p : f ++ [] ≡ f = append-nil f in
+      let r : f ++ (d ∷ v) ≡ f ++ (13 ∷ v) = ap (λ (b : ℕ). f ++ (b ∷ v)) s.1 in
+      let h2 = subst (λ t. is_blank t ≡ false) p h in
+      let m2 = subst (λ t. is_mark t ≡ false) p m in
+      subst (λ t. Alike t (f ++ (d ∷ v))) (sym p) (subst (λ t. Alike f t) (sym r) (alike_end f v h2 m2))
+  plain (b ∷ u) [] (inr s) h m l q =
+      let z : begins_with 13 (drop (lead is_white (f ++ (b ∷ u)) + mark_len (f ++ (b ∷ u))) (f ++ (b ∷ u))) ≡ true = ap (λ k. begins_with 13 (drop k (f ++ (b ∷ u)))) l ∙ ap (begins_with 13) (drop_past f (b ∷ u)) ∙ ap (λ (c : ℕ). nat_eq c 13) s.0 in
+      let p : f ++ (b ∷ u) ≡ f ++ (13 ∷ u) = ap (λ (b : ℕ). f ++ (b ∷ u)) s.0 in
+      let mark : mark_len (f ++ (b ∷ u)) ≡ mark_len f = ap mark_len p ∙ mark_ended f u in
+      let white : lead is_white (f ++ (b ∷ u)) ≡ lead is_white f = ap (lead is_white) p ∙ lead_ended is_white f u refl in
+      let ends : may_end (mark_len f) ≡ false = ap may_end (sym mark) ∙ sym (ap (λ q. q && may_end (mark_len (f ++ (b ∷ u)))) z) ∙ q in
+      let bytes = ends_not (mark_len f) ends in
+      let full : is_blank f ≡ false = blank_not f (omega (arith, l, mark, white, bytes.0)) in
+      let none : is_mark f ≡ false = mark_is f ∙ ap (λ q. q && is_end (drop 3 f)) bytes.1 in
+      let a = alike_end f u full none in
+      let back : Alike (f ++ (13 ∷ u)) f = record { full = a.other_full; other_full = a.full; mark = sym a.mark; indented = sym a.indented } in
+      subst (λ s. Alike s (f ++ [])) (sym p) (subst (λ t. Alike (f ++ (13 ∷ u)) t) (sym (append-nil f)) back)
+  plain (b ∷ u) (d ∷ v) (inr s) h m l q =
+      let p : f ++ (b ∷ u) ≡ f ++ (13 ∷ u) = ap (λ (b : ℕ). f ++ (b ∷ u)) s.0 in
+      let r : f ++ (d ∷ v) ≡ f ++ (13 ∷ v) = ap (λ (b : ℕ). f ++ (b ∷ v)) s.1 in
+      subst (λ s. Alike s (f ++ (d ∷ v))) (sym p) (subst (λ t. Alike (f ++ (13 ∷ u)) t) (sym r) (alike_return f u v))

@@ -1,8 +1,10 @@
 -- The bytes that a piece takes stand on its line, and the one that shows a fault stands there or ends the line.
-use Rattle.std.proofs.Common.{◌≡◌, ℕ, zero, suc, ◌+◌, ◌-◌, ◌*◌, ◌<◌, ◌≤◌, Bool, true, false, List, [], ◌∷◌, length, drop, refl, subst, arith, cond, length-drop}
-use Rattle.std.specs.Prelude.{nat_eq, nat_lt, ◌||◌, Option, Some, None, encode_utf8}
+use Rattle.std.proofs.Common.{◌≡◌, ℕ, zero, suc, ◌+◌, ◌*◌, ◌<◌, ◌≤◌, Bool, true, false, List, [], ◌∷◌, length, drop, refl, subst, arith, cond, length-drop}
+use Rattle.std.specs.Prelude.{nat_eq, ◌&&◌, Option, Some, None, encode_utf8}
+use Rattle.yaml_scalars.specs.declared.escape.Wanted.{Wanted}
+use Rattle.yaml_scalars.specs.declared.escape.Wanted.TheVariants.{Character, FirstUnit, SecondUnit}
 use Rattle.yaml_scalars.specs.Lines.{begins_with}
-use Rattle.yaml_scalars.specs.Quoted.{Piece, Itself, Closes, Means, Joins, Returns, Wrong, Digits, Number, Short, is_hex, hex, is_high, is_low, digits, character, of_digits, of_low, of_pair, of_unit, letter, of_letter, escape, double, single, piece}
+use Rattle.yaml_scalars.specs.Quoted.{Piece, Itself, Closes, Means, Joins, Returns, Wrong, Digits, Number, Short, is_hex, hex, is_high, may_go_on, digits, of_digits, of_low, of_pair, of_unit, letter, of_letter, escape, double, single, piece}
 use Rattle.yaml_scalars.proofs.EscapeLines.{digits_long}
 
 abbrev pub IsWithin : ℕ → Piece → Type 0
@@ -18,37 +20,35 @@ either size true p r h g = h
 either size false p r h g = g
 
 -- how many digits are found
-pub digits_short : (k n c j : ℕ) (xs : List ℕ) → digits k n c xs ≡ Short j → (c ≤ j) × (j ≤ c + length xs)
-digits_short zero n c j xs h = absurd (cc)
-digits_short (suc k) n c j [] h = let e : c ≡ j = cc in (omega (arith, e), omega (arith, e))
-digits_short (suc k) n c j (x ∷ xs) h = by_digit (is_hex x) h (λ e. digits_short k (n * 16 + hex x) (suc c) j xs e) where
-  by_digit : (q : Bool) → cond q (digits k (n * 16 + hex x) (suc c) xs) (Short c) ≡ Short j → (digits k (n * 16 + hex x) (suc c) xs ≡ Short j → (suc c ≤ j) × (j ≤ suc c + length xs)) → (c ≤ j) × (j ≤ c + suc (length xs))
+pub digits_short : (w : Wanted) (k n c j : ℕ) (xs : List ℕ) → digits w k n c xs ≡ Short j → (c ≤ j) × (j ≤ c + length xs)
+digits_short w zero n c j xs h = absurd (cc)
+digits_short w (suc k) n c j [] h = let e : c ≡ j = cc in (omega (arith, e), omega (arith, e))
+digits_short w (suc k) n c j (x ∷ xs) h = by_digit (is_hex x && may_go_on w k (n * 16 + hex x)) h (λ e. digits_short w k (n * 16 + hex x) (suc c) j xs e) where
+  by_digit : (q : Bool) → cond q (digits w k (n * 16 + hex x) (suc c) xs) (Short c) ≡ Short j → (digits w k (n * 16 + hex x) (suc c) xs ≡ Short j → (suc c ≤ j) × (j ≤ suc c + length xs)) → (c ≤ j) × (j ≤ c + suc (length xs))
   by_digit true e f = let l = f e in (omega (arith, l.0), omega (arith, l.1))
   by_digit false e f = let l : c ≡ j = cc in (omega (arith, l), omega (arith, l))
 
-character_within : (size taken n : ℕ) → 0 < taken → taken ≤ size → IsWithin size (character taken n)
-character_within size taken n p l = either size (is_high n || is_low n || nat_lt 1114111 n) (Wrong taken) (Means taken (encode_utf8 n)) (p, omega arith) l
-
 digits_within : (size taken : ℕ) (d : Digits) → 0 < taken → ((n : ℕ) → d ≡ Number n → taken ≤ size) → ((j : ℕ) → d ≡ Short j → j ≤ size) → IsWithin size (of_digits taken d)
-digits_within size taken (Number n) p l s = character_within size taken n p (l n refl)
+digits_within size taken (Number n) p l s = l n refl
 digits_within size taken (Short j) p l s = let m = s j refl in (omega arith, omega (arith, m))
 
 low_within : (size high : ℕ) (d : Digits) → ((n : ℕ) → d ≡ Number n → 11 ≤ size) → ((j : ℕ) → d ≡ Short j → j ≤ size) → IsWithin size (of_low high d)
-low_within size high (Number n) l s = let m = l n refl in either size (is_low n) (Means 11 (encode_utf8 (65536 + (high - 55296) * 1024 + (n - 56320)))) (Wrong 11) m (omega arith, omega (arith, m))
+low_within size high (Number n) l s = l n refl
 low_within size high (Short j) l s = let m = s j refl in (omega arith, omega (arith, m))
 
 pair_within : (size high : ℕ) (xs : List ℕ) → 5 + length xs ≤ size → IsWithin size (of_pair high xs)
 pair_within size high [] l = (omega arith, omega arith)
 pair_within size high (v ∷ []) l = either size (nat_eq v 92) (Wrong 7) (Wrong 6) (omega arith, omega arith) (omega arith, omega arith)
 pair_within size high (v ∷ w ∷ xs) l =
-    either size (nat_eq v 92) (cond (nat_eq w 117) (of_low high (digits 4 0 7 xs)) (Wrong 7)) (Wrong 6)
-    (either size (nat_eq w 117) (of_low high (digits 4 0 7 xs)) (Wrong 7) (low_within size high (digits 4 0 7 xs) (λ n e. let m = digits_long 4 0 7 n xs e in omega arith) (λ j e. let m = digits_short 4 0 7 j xs e in omega (arith, m.1))) (omega arith, omega arith)) (omega arith, omega arith)
+    let d = digits SecondUnit 4 0 7 xs in
+    either size (nat_eq v 92) (cond (nat_eq w 117) (of_low high d) (Wrong 7)) (Wrong 6)
+    (either size (nat_eq w 117) (of_low high d) (Wrong 7) (low_within size high d (λ n e. let m = digits_long SecondUnit 4 0 7 n xs e in omega arith) (λ j e. let m = digits_short SecondUnit 4 0 7 j xs e in omega (arith, m.1))) (omega arith, omega arith)) (omega arith, omega arith)
 
-unit_within : (xs : List ℕ) (d : Digits) → digits 4 0 1 xs ≡ d → IsWithin (suc (length xs)) (of_unit d (drop 4 xs))
+unit_within : (xs : List ℕ) (d : Digits) → digits FirstUnit 4 0 1 xs ≡ d → IsWithin (suc (length xs)) (of_unit d (drop 4 xs))
 unit_within xs (Number n) e =
-    let m = digits_long 4 0 1 n xs e in
-    either (suc (length xs)) (is_high n) (of_pair n (drop 4 xs)) (character 5 n) (pair_within (suc (length xs)) n (drop 4 xs) (omega (arith, length-drop 4 xs))) (character_within (suc (length xs)) 5 n (omega arith) (omega arith))
-unit_within xs (Short j) e = let m = digits_short 4 0 1 j xs e in (omega arith, omega (arith, m.1))
+    let m = digits_long FirstUnit 4 0 1 n xs e in
+    either (suc (length xs)) (is_high n) (of_pair n (drop 4 xs)) (Means 5 (encode_utf8 n)) (pair_within (suc (length xs)) n (drop 4 xs) (omega (arith, length-drop 4 xs))) (omega arith)
+unit_within xs (Short j) e = let m = digits_short FirstUnit 4 0 1 j xs e in (omega arith, omega (arith, m.1))
 
 letter_within : (size : ℕ) (o : Option ℕ) → IsWithin (suc size) (of_letter o)
 letter_within size (Some n) = omega arith
@@ -59,13 +59,13 @@ escape_within [] = tt
 escape_within (b ∷ xs) =
     let size = suc (length xs) in
     let others = of_letter (letter b) in
-    let eight = of_digits 9 (digits 8 0 1 xs) in
-    let unit = of_unit (digits 4 0 1 xs) (drop 4 xs) in
-    let two = of_digits 3 (digits 2 0 1 xs) in
+    let eight = of_digits 9 (digits Character 8 0 1 xs) in
+    let unit = of_unit (digits FirstUnit 4 0 1 xs) (drop 4 xs) in
+    let two = of_digits 3 (digits Character 2 0 1 xs) in
     either size (nat_eq b 13) (Returns 1) (cond (nat_eq b 120) two (cond (nat_eq b 117) unit (cond (nat_eq b 85) eight others))) (omega arith)
-    (either size (nat_eq b 120) two (cond (nat_eq b 117) unit (cond (nat_eq b 85) eight others)) (digits_within size 3 (digits 2 0 1 xs) (omega arith) (λ n e. let m = digits_long 2 0 1 n xs e in omega arith) (λ j e. let m = digits_short 2 0 1 j xs e in omega (arith, m.1)))
-    (either size (nat_eq b 117) unit (cond (nat_eq b 85) eight others) (unit_within xs (digits 4 0 1 xs) refl)
-    (either size (nat_eq b 85) eight others (digits_within size 9 (digits 8 0 1 xs) (omega arith) (λ n e. let m = digits_long 8 0 1 n xs e in omega arith) (λ j e. let m = digits_short 8 0 1 j xs e in omega (arith, m.1))) (letter_within (length xs) (letter b)))))
+    (either size (nat_eq b 120) two (cond (nat_eq b 117) unit (cond (nat_eq b 85) eight others)) (digits_within size 3 (digits Character 2 0 1 xs) (omega arith) (λ n e. let m = digits_long Character 2 0 1 n xs e in omega arith) (λ j e. let m = digits_short Character 2 0 1 j xs e in omega (arith, m.1)))
+    (either size (nat_eq b 117) unit (cond (nat_eq b 85) eight others) (unit_within xs (digits FirstUnit 4 0 1 xs) refl)
+    (either size (nat_eq b 85) eight others (digits_within size 9 (digits Character 8 0 1 xs) (omega arith) (λ n e. let m = digits_long Character 8 0 1 n xs e in omega arith) (λ j e. let m = digits_short Character 8 0 1 j xs e in omega (arith, m.1))) (letter_within (length xs) (letter b)))))
 
 quotes_within : (xs : List ℕ) → IsWithin (length xs) (cond (begins_with 39 xs) (Means 1 (39 ∷ [])) Closes)
 quotes_within [] = tt

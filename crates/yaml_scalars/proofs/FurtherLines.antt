@@ -1,6 +1,6 @@
 -- The further lines of a plain scalar.
 use Rattle.std.proofs.Common.{◌≡◌, ℕ, zero, suc, ◌+◌, ◌-◌, ◌<◌, ◌≤◌, ◌⊎◌, Bool, true, false, List, [], ◌∷◌, ◌++◌, Option, Some, None, length, take, drop, get_or, refl, sym, ap, inl, inr, ◌∙◌, arith, cond, get_or-drop, append_assoc}
-use Rattle.std.specs.Prelude.{nat_eq, nat_lt, ◌||◌, not}
+use Rattle.std.specs.Prelude.{nat_eq, nat_lt, ◌||◌, ◌&&◌, not}
 use Rattle.std.proofs.lemmas.Bool.Decides.{nat_tests}
 use Rattle.std.proofs.lemmas.Bool.{le-ltb}
 use Rattle.std.proofs.lemmas.List.{drop-drop}
@@ -10,9 +10,9 @@ use Rattle.yaml_scalars.specs.declared.plain_line.Why.{Why}
 use Rattle.yaml_scalars.specs.declared.plain_line.Why.TheVariants.{Break, Return, Colon, Comment, Mark}
 use Rattle.yaml_scalars.specs.declared.plain_line.Below.{Below}
 use Rattle.yaml_scalars.specs.declared.plain_line.Below.TheVariants.{Blank, Outside, Further}
-use Rattle.yaml_scalars.specs.Lines.{Stands, Fails, begins_with, is_white, is_space, is_blank, is_mark, lead, indent, past_white, lines, trimmed}
+use Rattle.yaml_scalars.specs.Lines.{Stands, Fails, begins_with, is_white, is_space, is_blank, is_mark, ends_with, lead, indent, past_white, lines, trimmed}
 use Rattle.yaml_scalars.specs.Walk.{line_at, behind}
-use Rattle.yaml_scalars.specs.Plain.{above_of, stops, plain_len, content, why, reason, content_at, inside, below, joined, content_end, ends_on, stop_behind, joins, further, more}
+use Rattle.yaml_scalars.specs.Plain.{above_of, stops, plain_len, content, why, reason, content_at, inside, below, joined, content_end, ends_on, stop_behind, return_shown, joins, further, more}
 use Rattle.yaml_scalars.specs.PlainSteps.{from, rest, EndsAtOnce, LiesBehind}
 use Rattle.yaml_scalars.proofs.Places.{lines_are, line_front, behind_drop, lead_le}
 use Rattle.yaml_scalars.proofs.LineParts.{part_is, line_get, lead_byte}
@@ -150,8 +150,36 @@ added new middle old folded slice part a b c = a ∙ ap (λ t. t ++ slice) b ∙
 line_reason : (s : Setting) (bytes : List ℕ) (l : FurtherLine) (stop : ℕ) (t : List ℕ) (e : ℕ) (w : Why) → stop ≡ l.begin + plain_len s.flow false (line_at (drop l.begin bytes)) → w ≡ why (line_at (drop stop bytes)) → rest s bytes (Some l) t e ≡ joins s.flow w (line_at (drop l.begin bytes)) l.begin t e l.blanks (from s bytes l.begin)
 line_reason s bytes l stop t e w h v = ap (λ w. joins s.flow w (line_at (drop l.begin bytes)) l.begin t e l.blanks (from s bytes l.begin)) (reason_is s.flow bytes l.begin stop h ∙ sym v)
 
-pub line_return : (s : Setting) (bytes : List ℕ) (l : FurtherLine) (stop : ℕ) (t : List ℕ) (e : ℕ) → stop ≡ l.begin + plain_len s.flow false (line_at (drop l.begin bytes)) → Return ≡ why (line_at (drop stop bytes)) → rest s bytes (Some l) t e ≡ Fails (stop + 1)
-line_return s bytes l stop t e h v = line_reason s bytes l stop t e Return h v ∙ ap (λ n. Fails (n + 1)) (sym h)
+pub line_return : (s : Setting) (bytes : List ℕ) (l : FurtherLine) (stop : ℕ) (t : List ℕ) (e : ℕ) → stop ≡ l.begin + plain_len s.flow false (line_at (drop l.begin bytes)) → Return ≡ why (line_at (drop stop bytes)) → rest s bytes (Some l) t e ≡ Fails (return_shown s.flow (line_at (drop l.begin bytes)) l.begin)
+line_return s bytes l stop t e h v = line_reason s bytes l stop t e Return h v
+
+pub shown_before : (flow : Bool) (part : List ℕ) (begin stop : ℕ) → stop ≡ begin + plain_len flow false part → flow ≡ false → ends_with 58 (take (plain_len flow false part) part) ≡ true → stop ≡ return_shown flow part begin
+shown_before flow part begin stop e f h =
+    let n = plain_len flow false part in
+    e ∙ sym (ap (λ q. cond (not q && ends_with 58 (take n part)) (begin + n) (begin + n + 1)) f ∙ ap (λ q. cond q (begin + n) (begin + n + 1)) h)
+
+pub shown_behind : (flow : Bool) (part : List ℕ) (begin stop : ℕ) → stop ≡ begin + plain_len flow false part → (flow ≡ true) ⊎ (ends_with 58 (take (plain_len flow false part) part) ≡ false) → stop + 1 ≡ return_shown flow part begin
+shown_behind flow part begin stop e (inl f) = let n = plain_len flow false part in ap (λ k. k + 1) e ∙ sym (ap (λ q. cond (not q && ends_with 58 (take n part)) (begin + n) (begin + n + 1)) f)
+shown_behind flow part begin stop e (inr h) =
+    let n = plain_len flow false part in
+    ap (λ k. k + 1) e ∙ sym (ap (λ q. cond (not flow && q) (begin + n) (begin + n + 1)) h ∙ none (not flow)) where
+      none : (q : Bool) → cond (q && false) (begin + plain_len flow false part) (begin + plain_len flow false part + 1) ≡ begin + plain_len flow false part + 1
+      none true = refl
+      none false = refl
+
+-- the byte before a place, as the last one of a line's part
+last_is : (c : ℕ) (xs : List ℕ) (m : ℕ) → m < length xs → ends_with c (take (suc m) xs) ≡ nat_eq (get_or xs m 0) c
+last_is c [] m l = absurd (omega arith)
+last_is c (x ∷ []) zero l = refl
+last_is c (x ∷ y ∷ xs) zero l = refl
+last_is c (x ∷ []) (suc m) l = absurd (omega arith)
+last_is c (x ∷ y ∷ xs) (suc m) l = last_is c (y ∷ xs) m (omega arith)
+
+pub last_byte : (c : ℕ) (bytes : List ℕ) (begin stop n : ℕ) → stop ≡ begin + n → n ≤ length (line_at (drop begin bytes)) → begin < stop → ends_with c (take n (line_at (drop begin bytes))) ≡ nat_eq (get_or bytes (stop - 1) 0) c
+last_byte c bytes begin stop zero e l m = absurd (omega (arith, e, m))
+last_byte c bytes begin stop (suc n) e l m =
+    let p : begin + n ≡ stop - 1 = omega (arith, e) in
+    last_is c (line_at (drop begin bytes)) n (omega (arith, l)) ∙ ap (λ b. nat_eq b c) (line_get n (drop begin bytes) (omega (arith, l)) ∙ get_or-drop begin bytes n 0 ∙ ap (λ i. get_or bytes i 0) p)
 
 pub line_key : (s : Setting) (bytes : List ℕ) (l : FurtherLine) (stop : ℕ) (t : List ℕ) (e : ℕ) → stop ≡ l.begin + plain_len s.flow false (line_at (drop l.begin bytes)) → Colon ≡ why (line_at (drop stop bytes)) → s.flow ≡ false → rest s bytes (Some l) t e ≡ Fails (stop + 1)
 line_key s bytes l stop t e h v f =

@@ -1,7 +1,7 @@
 -- A text's lines, by places.
 use Rattle.std.proofs.Common.{◌≡◌, ℕ, zero, suc, ◌+◌, ◌-◌, ◌<◌, ◌≤◌, Bool, true, false, List, [], ◌∷◌, length, take, drop, refl, sym, ap, ◌∙◌, arith, cond, length-drop}
 use Rattle.std.specs.Prelude.{nat_eq, ◌||◌, ◌&&◌}
-use Rattle.yaml_scalars.specs.Lines.{begins_with, begins_break, put, begun, lines, is_mark, lead}
+use Rattle.yaml_scalars.specs.Lines.{begins_with, begins_break, put, begun, lines, is_mark, is_cut_mark, lead}
 use Rattle.yaml_scalars.specs.Walk.{line_at, has_break, behind}
 
 both : (p q : Bool) → (p && q) ≡ true → (p ≡ true) × (q ≡ true)
@@ -79,6 +79,23 @@ short_mark xs l = too_short (line_at xs) (let f = line_fits xs in omega arith) w
   too_short (a ∷ []) m = refl
   too_short (a ∷ b ∷ []) m = refl
   too_short (a ∷ b ∷ c ∷ ys) m = absurd (omega arith)
+
+short_cut : (xs : List ℕ) → length xs < 4 → is_cut_mark (line_at xs) ≡ false
+short_cut xs l = too_short (line_at xs) (let f = line_fits xs in omega arith) where
+  too_short : (ys : List ℕ) → length ys < 4 → is_cut_mark ys ≡ false
+  too_short [] m = refl
+  too_short (a ∷ []) m = refl
+  too_short (a ∷ b ∷ []) m = refl
+  too_short (a ∷ b ∷ c ∷ []) m = none (nat_eq a 45 || nat_eq a 46) (nat_eq a b) (nat_eq a c) where
+    none : (p q r : Bool) → (p && (q && (r && false))) ≡ false
+    none true true true = refl
+    none true true false = refl
+    none true false r = refl
+    none false q r = refl
+  too_short (a ∷ b ∷ c ∷ d ∷ ys) m = absurd (omega arith)
+
+pub cut_short : (bytes : List ℕ) (i : ℕ) → length bytes - i < 4 → is_cut_mark (line_at (drop i bytes)) ≡ false
+cut_short bytes i l = short_cut (drop i bytes) (omega (arith, length-drop i bytes))
 
 pub mark_short : (bytes : List ℕ) (i : ℕ) → length bytes - i < 3 → is_mark (line_at (drop i bytes)) ≡ false
 mark_short bytes i l = short_mark (drop i bytes) (omega (arith, length-drop i bytes))

@@ -1,5 +1,5 @@
 -- Where a plain scalar fails, no text that agrees up to the place and with the byte there has one.
-use Rattle.std.proofs.Common.{◌≡◌, ℕ, zero, suc, ◌+◌, ◌≤◌, ◌⊎◌, Bool, true, false, List, [], ◌∷◌, ◌++◌, length, drop, refl, sym, ap, inl, inr, ◌∙◌, arith, cond, subst}
+use Rattle.std.proofs.Common.{◌≡◌, ℕ, zero, suc, ◌+◌, ◌≤◌, ◌⊎◌, Bool, true, false, List, [], ◌∷◌, ◌++◌, length, take, drop, refl, sym, ap, inl, inr, ◌∙◌, arith, cond, subst}
 use Rattle.std.specs.Prelude.{nat_eq, ◌||◌, ◌&&◌}
 use Rattle.std.proofs.lemmas.Bool.Decides.{nat_tests}
 use Rattle.yaml_scalars.specs.declared.scalar.Setting.{Setting}
@@ -7,8 +7,8 @@ use Rattle.yaml_scalars.specs.declared.plain_line.Why.{Why}
 use Rattle.yaml_scalars.specs.declared.plain_line.Why.TheVariants.{Break, Return, Colon, Comment, Mark}
 use Rattle.yaml_scalars.specs.declared.plain_line.Below.{Below}
 use Rattle.yaml_scalars.specs.declared.plain_line.Below.TheVariants.{Blank, Outside, Further}
-use Rattle.yaml_scalars.specs.Lines.{Line, Outcome, Stands, Fails, Documents, is_white}
-use Rattle.yaml_scalars.specs.Plain.{is_flow_mark, is_unsafe, stops, plain_len, why, reason, below, joined, content_end, ends_on, stop_behind, joins, further, more}
+use Rattle.yaml_scalars.specs.Lines.{Line, Outcome, Stands, Fails, Documents, ends_with, is_white}
+use Rattle.yaml_scalars.specs.Plain.{is_flow_mark, is_unsafe, stops, plain_len, why, reason, below, joined, content_end, ends_on, stop_behind, return_shown, joins, further, more}
 use Rattle.yaml_scalars.proofs.Agree.{SameAhead, Later}
 
 place : Outcome → ℕ
@@ -30,12 +30,26 @@ ends_fails flow part t at e k p h = by_length (nat_eq (plain_len flow false part
 abbrev pub FailsAt : Bool → Why → Type 0
 FailsAt flow w = (w ≡ Return) ⊎ ((w ≡ Colon) × (flow ≡ false))
 
+-- at the place behind the byte that ends its content, or at a carriage return behind a `:`
+abbrev pub FailsBehind : Bool → List ℕ → ℕ → ℕ → Why → Type 0
+FailsBehind flow part at p w = (p ≡ at + plain_len flow false part + 1) × FailsAt flow w
+
+abbrev pub FailsBefore : Bool → List ℕ → ℕ → ℕ → Why → Type 0
+FailsBefore flow part at p w = (p ≡ at + plain_len flow false part) × (w ≡ Return) × (flow ≡ false) × (ends_with 58 (take (plain_len flow false part) part) ≡ true)
+
+return_fails : (flow : Bool) (part : List ℕ) (at p : ℕ) → return_shown flow part at ≡ p → FailsBehind flow part at p Return ⊎ FailsBefore flow part at p Return
+return_fails true part at p h = inl (sym h, inl refl)
+return_fails false part at p h = by_colon (ends_with 58 (take (plain_len false false part) part)) refl h where
+  by_colon : (q : Bool) → ends_with 58 (take (plain_len false false part) part) ≡ q → cond q (at + plain_len false false part) (at + plain_len false false part + 1) ≡ p → FailsBehind false part at p Return ⊎ FailsBefore false part at p Return
+  by_colon true e h = inr (sym h, refl, refl, e)
+  by_colon false e h = inl (sym h, inl refl)
+
 pub joins_fails : (flow : Bool) (w : Why) (part : List ℕ) (at : ℕ) (t : List ℕ) (e k p : ℕ) (next : List ℕ → ℕ → ℕ → Outcome) → joins flow w part at t e k next ≡ Fails p
-    → (next (joined flow part t k) (content_end flow part at) 0 ≡ Fails p) ⊎ ((p ≡ at + plain_len flow false part + 1) × FailsAt flow w)
+    → (next (joined flow part t k) (content_end flow part at) 0 ≡ Fails p) ⊎ (FailsBehind flow part at p w ⊎ FailsBefore flow part at p w)
 joins_fails flow Break part at t e k p next h = inl h
-joins_fails flow Return part at t e k p next h = inr (sym (fails_same _ p h), inl refl)
+joins_fails flow Return part at t e k p next h = inr (return_fails flow part at p (fails_same _ p h))
 joins_fails true Colon part at t e k p next h = absurd (ends_fails true part t at e k p h)
-joins_fails false Colon part at t e k p next h = inr (sym (fails_same _ p h), inr (refl, refl))
+joins_fails false Colon part at t e k p next h = inr (inl (sym (fails_same _ p h), inr (refl, refl)))
 joins_fails flow Comment part at t e k p next h = absurd (cc)
 joins_fails flow Mark part at t e k p next h = absurd (ends_fails flow part t at e k p h)
 
@@ -55,7 +69,10 @@ more_later s p (m ∷ ms) t e k l h = by_below (below s m.bytes) h (λ x y z g. 
   by_below : (w : Below) → further s w m.at m.bytes t e k (more s ms) ≡ Fails p → ((x : List ℕ) (y z : ℕ) → more s ms x y z ≡ Fails p → ⊥) → ⊥
   by_below Blank h r = r t e (suc k) h
   by_below Outside h r = absurd (cc)
-  by_below (Further n) h r = elim (joins_fails s.flow (reason s.flow (drop n m.bytes)) (drop n m.bytes) (m.at + n) t e k p (more s ms) h) [ inl g ↦ r _ _ _ g | inr g ↦ (let b = l.0 in let q = g.0 in absurd (omega (arith, b, q))) ]
+  by_below (Further n) h r = elim (joins_fails s.flow (reason s.flow (drop n m.bytes)) (drop n m.bytes) (m.at + n) t e k p (more s ms) h) [
+    | inl g ↦ r _ _ _ g
+    | inr g ↦ elim g [ inl f ↦ (let b = l.0 in let q = f.0 in absurd (omega (arith, b, q))) | inr f ↦ (let b = l.0 in let q = f.0 in absurd (omega (arith, b, q))) ]
+  ]
 
 -- bytes behind which a line goes on: nothing of what follows is asked
 byte_ends : (flow white : Bool) (b : ℕ) (r : List ℕ) (c : ℕ) (x y : List ℕ) → stops flow white b (r ++ (c ∷ x)) ≡ stops flow white b (r ++ (c ∷ y))
@@ -69,6 +86,15 @@ len_front flow white (d ∷ r) c x y q b h = by_stop (stops flow white d (r ++ (
   by_stop true o e h g = absurd (omega (arith, h))
   by_stop false true e h g = absurd (cc)
   by_stop false false e h g = let k = g (omega (arith, h)) in omega (arith, k)
+
+-- the same where the byte behind them need not end it
+pub len_past : (flow white : Bool) (r : List ℕ) (c : ℕ) (x y : List ℕ) → length r ≤ plain_len flow white (r ++ (c ∷ x)) → ((w : Bool) → stops flow w c y ≡ true) → plain_len flow white (r ++ (c ∷ y)) ≡ length r
+len_past flow white [] c x y h b = ap (λ s. cond s 0 (suc (plain_len flow (is_white c) y))) (b white)
+len_past flow white (d ∷ r) c x y h b = by_stop (stops flow white d (r ++ (c ∷ x))) (stops flow white d (r ++ (c ∷ y))) (byte_ends flow white d r c x y) h (λ g. len_past flow (is_white d) r c x y g b) where
+  by_stop : (s o : Bool) → s ≡ o → suc (length r) ≤ cond s 0 (suc (plain_len flow (is_white d) (r ++ (c ∷ x)))) → (length r ≤ plain_len flow (is_white d) (r ++ (c ∷ x)) → plain_len flow (is_white d) (r ++ (c ∷ y)) ≡ length r) → cond o 0 (suc (plain_len flow (is_white d) (r ++ (c ∷ y)))) ≡ suc (length r)
+  by_stop true o e h g = absurd (omega (arith, h))
+  by_stop false true e h g = absurd (cc)
+  by_stop false false e h g = ap suc (g (omega (arith, h)))
 
 -- the byte behind which it stops does stop it
 stop_here : (flow white : Bool) (r : List ℕ) (c : ℕ) (x : List ℕ) → plain_len flow white (r ++ (c ∷ x)) ≡ length r → (w : Bool) × (stops flow w c x ≡ true)
@@ -85,7 +111,7 @@ pub return_stops : (flow w : Bool) (x : List ℕ) → stops flow w 13 x ≡ true
 return_stops true w x = refl
 return_stops false w x = refl
 
-colon_stops : (w : Bool) (x : List ℕ) → stops false w 58 x ≡ is_unsafe false x
+pub colon_stops : (w : Bool) (x : List ℕ) → stops false w 58 x ≡ is_unsafe false x
 colon_stops w x = or_false (is_unsafe false x) where
   or_false : (u : Bool) → (((u || (false && w)) || (false && is_flow_mark 58)) || false) ≡ u
   or_false true = refl
@@ -142,6 +168,10 @@ other_colon r x y h u =
     let n = len_front false false r 58 x y true (λ w. colon_stops w y ∙ u) h in
     let e : length r + 0 ≡ length r = omega arith in
     ap (λ k. why (drop k (r ++ (58 ∷ y)))) (n ∙ e) ∙ ap why (drop_whole r (58 ∷ y))
+
+-- a line that ends in a colon
+pub colon_last : (r x : List ℕ) → length r ≤ plain_len false false (r ++ (58 ∷ x)) → reason false (r ++ (58 ∷ [])) ≡ Colon
+colon_last r x h = ap (λ k. why (drop k (r ++ (58 ∷ [])))) (len_past false false r 58 x [] h (λ w. colon_stops w [])) ∙ ap why (drop_whole r (58 ∷ []))
 
 other_behind : (r x y : List ℕ) → plain_len false false (r ++ (58 ∷ x)) ≡ length r → reason false (r ++ (58 ∷ (13 ∷ y))) ≡ Return
 other_behind r x y h =

@@ -5,7 +5,7 @@ use Rattle.std.proofs.lemmas.Bool.Decides.{nat_tests}
 use Rattle.yaml_scalars.specs.declared.scalar.Setting.{Setting}
 use Rattle.yaml_scalars.specs.declared.plain_line.Why.{Why}
 use Rattle.yaml_scalars.specs.declared.plain_line.Why.TheVariants.{Break, Return, Colon, Comment, Mark}
-use Rattle.yaml_scalars.specs.Lines.{Outcome, Stands, Fails, is_white, is_mark, keep, trimmed}
+use Rattle.yaml_scalars.specs.Lines.{Outcome, Stands, Fails, is_white, is_mark, is_cut_mark, keep, trimmed}
 use Rattle.yaml_scalars.specs.Walk.{line_at, behind}
 use Rattle.yaml_scalars.specs.Plain.{begins_plain, wrong_begin, stops, plain_len, content, content_end, why, reason, first, plain_on}
 use Rattle.yaml_scalars.specs.PlainSteps.{from}
@@ -17,16 +17,16 @@ use Rattle.yaml_scalars.proofs.FurtherLines.{reason_is, stands_same}
 abbrev opened : Setting → List ℕ → ℕ → Bool → Bool → Outcome
 opened s text at mark begins = cond mark (Fails (at + 3)) (cond begins (first s (reason s.flow (line_at (drop at text))) at (line_at (drop at text)) (behind at (drop at text))) (Fails (wrong_begin at (line_at (drop at text)))))
 
-opened_is : (s : Setting) (text : List ℕ) (at : ℕ) (mark begins : Bool) → mark ≡ (is_first_column text at && is_mark (line_at (drop at text))) → begins ≡ begins_plain s.flow (line_at (drop at text)) → plain_scalar s text at ≡ opened s text at mark begins
+opened_is : (s : Setting) (text : List ℕ) (at : ℕ) (mark begins : Bool) → mark ≡ (is_first_column text at && (is_mark (line_at (drop at text)) || is_cut_mark (line_at (drop at text)))) → begins ≡ begins_plain s.flow (line_at (drop at text)) → plain_scalar s text at ≡ opened s text at mark begins
 opened_is s text at mark begins m b = ap (plain_on s (is_first_column text at)) (lines_are at (drop at text)) ∙ ap (λ q. opened s text at q (begins_plain s.flow (line_at (drop at text)))) (sym m) ∙ ap (opened s text at mark) (sym b)
 
-pub plain_mark : (s : Setting) (text : List ℕ) (at : ℕ) → true ≡ (is_first_column text at && is_mark (line_at (drop at text))) → plain_scalar s text at ≡ Fails (at + 3)
+pub plain_mark : (s : Setting) (text : List ℕ) (at : ℕ) → true ≡ (is_first_column text at && (is_mark (line_at (drop at text)) || is_cut_mark (line_at (drop at text)))) → plain_scalar s text at ≡ Fails (at + 3)
 plain_mark s text at m = opened_is s text at true (begins_plain s.flow (line_at (drop at text))) m refl
 
-pub plain_wrong : (s : Setting) (text : List ℕ) (at : ℕ) → false ≡ (is_first_column text at && is_mark (line_at (drop at text))) → false ≡ begins_plain s.flow (line_at (drop at text)) → plain_scalar s text at ≡ Fails (wrong_begin at (line_at (drop at text)))
+pub plain_wrong : (s : Setting) (text : List ℕ) (at : ℕ) → false ≡ (is_first_column text at && (is_mark (line_at (drop at text)) || is_cut_mark (line_at (drop at text)))) → false ≡ begins_plain s.flow (line_at (drop at text)) → plain_scalar s text at ≡ Fails (wrong_begin at (line_at (drop at text)))
 plain_wrong s text at m b = opened_is s text at false false m b
 
-pub plain_first : (s : Setting) (text : List ℕ) (at stop : ℕ) (w : Why) → false ≡ (is_first_column text at && is_mark (line_at (drop at text))) → true ≡ begins_plain s.flow (line_at (drop at text)) → stop ≡ at + plain_len s.flow false (line_at (drop at text)) → w ≡ why (line_at (drop stop text)) → plain_scalar s text at ≡ first s w at (line_at (drop at text)) (behind at (drop at text))
+pub plain_first : (s : Setting) (text : List ℕ) (at stop : ℕ) (w : Why) → false ≡ (is_first_column text at && (is_mark (line_at (drop at text)) || is_cut_mark (line_at (drop at text)))) → true ≡ begins_plain s.flow (line_at (drop at text)) → stop ≡ at + plain_len s.flow false (line_at (drop at text)) → w ≡ why (line_at (drop stop text)) → plain_scalar s text at ≡ first s w at (line_at (drop at text)) (behind at (drop at text))
 plain_first s text at stop w m b e v = opened_is s text at false true m b ∙ ap (λ w. first s w at (line_at (drop at text)) (behind at (drop at text))) (reason_is s.flow text at stop e ∙ sym v)
 
 -- by why the scalar ends on the line

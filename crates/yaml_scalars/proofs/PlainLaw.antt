@@ -5,14 +5,18 @@ use Rattle.std.proofs.lemmas.Bool.Decides.{nat_tests}
 use Rattle.yaml_scalars.specs.declared.scalar.Setting.{Setting}
 use Rattle.yaml_scalars.specs.declared.plain_line.Why.{Why}
 use Rattle.yaml_scalars.specs.declared.plain_line.Why.TheVariants.{Break, Return, Colon, Comment, Mark}
-use Rattle.yaml_scalars.specs.Lines.{Line, Outcome, Stands, Fails, is_white, is_mark, is_end}
-use Rattle.yaml_scalars.specs.Plain.{is_indicator, is_doubtful, is_unsafe, begins_plain, wrong_begin, stops, plain_len, content, content_end, why, reason, first, more, plain_on, below, further}
+use Rattle.yaml_scalars.specs.Lines.{Line, Outcome, Stands, Fails, begins_with, is_white, is_mark, is_cut_mark, is_end}
+use Rattle.yaml_scalars.specs.Plain.{is_indicator, is_doubtful, is_unsafe, begins_plain, wrong_begin, plain_len, content, content_end, reason, first, more, plain_on, below, further}
 use Rattle.yaml_scalars.proofs.Agree.{IsReturn, SameAhead, Later, Within, SplitAt, Shares}
 use Rattle.yaml_scalars.specs.declared.plain_line.Below.{Below}
 use Rattle.yaml_scalars.specs.declared.plain_line.Below.TheVariants.{Blank, Outside, Further}
-use Rattle.yaml_scalars.proofs.PlainDead.{fails_same, more_later, why_return, other_return, return_stops, joins_fails}
+use Rattle.yaml_scalars.proofs.PlainDead.{fails_same, more_later, why_return, other_return, joins_fails}
 use Rattle.yaml_scalars.proofs.PlainShown.{fail_parts, fail_within, split_same, more_dead}
 use Rattle.yaml_scalars.proofs.FurtherLines.{skip_le}
+
+-- a mark, or one cut by a carriage return
+abbrev pub marked : List ℕ → Bool
+marked xs = is_mark xs || is_cut_mark xs
 
 -- how a first line comes to fail
 first_fails : (s : Setting) (w : Why) (at : ℕ) (xs : List ℕ) (ls : List Line) (p : ℕ) → first s w at xs ls ≡ Fails p → ((w ≡ Return) × (p ≡ at + plain_len s.flow false xs + 1)) ⊎ (more s ls (content s.flow xs) (content_end s.flow xs at) 0 ≡ Fails p)
@@ -31,33 +35,33 @@ opens s at xs ls mark begins = cond mark (Fails (at + 3)) (cond begins (first s 
 -- in the ways that a first line fails: as a mark, at what begins no scalar, or as above
 abbrev FirstFails : Setting → Bool → ℕ → List ℕ → List Line → ℕ → Type 0
 FirstFails s fresh at xs ls p =
-    (((fresh && is_mark xs) ≡ true) × (p ≡ at + 3))
+    (((fresh && marked xs) ≡ true) × (p ≡ at + 3))
     ⊎ (((begins_plain s.flow xs ≡ false) × (p ≡ wrong_begin at xs))
     ⊎ ((begins_plain s.flow xs ≡ true) × (((reason s.flow xs ≡ Return) × (p ≡ at + plain_len s.flow false xs + 1)) ⊎ (more s ls (content s.flow xs) (content_end s.flow xs at) 0 ≡ Fails p))))
 
-opens_fails : (s : Setting) (fresh : Bool) (at : ℕ) (xs : List ℕ) (ls : List Line) (p : ℕ) → opens s at xs ls (fresh && is_mark xs) (begins_plain s.flow xs) ≡ Fails p → FirstFails s fresh at xs ls p
-opens_fails s fresh at xs ls p h = by_tests (fresh && is_mark xs) (begins_plain s.flow xs) refl refl h where
-  by_tests : (m b : Bool) → (fresh && is_mark xs) ≡ m → begins_plain s.flow xs ≡ b → opens s at xs ls m b ≡ Fails p → FirstFails s fresh at xs ls p
+opens_fails : (s : Setting) (fresh : Bool) (at : ℕ) (xs : List ℕ) (ls : List Line) (p : ℕ) → opens s at xs ls (fresh && marked xs) (begins_plain s.flow xs) ≡ Fails p → FirstFails s fresh at xs ls p
+opens_fails s fresh at xs ls p h = by_tests (fresh && marked xs) (begins_plain s.flow xs) refl refl h where
+  by_tests : (m b : Bool) → (fresh && marked xs) ≡ m → begins_plain s.flow xs ≡ b → opens s at xs ls m b ≡ Fails p → FirstFails s fresh at xs ls p
   by_tests true b e f h = inl (e, sym (fails_same _ p h))
   by_tests false false e f h = inr (inl (f, sym (fails_same _ p h)))
   by_tests false true e f h = inr (inr (f, first_fails s (reason s.flow xs) at xs ls p h))
 
 -- what a line that begins no scalar, or stops at a carriage return, cannot be
 not_begun : (s : Setting) (fresh : Bool) (m : Line) (ms : List Line) (u : List ℕ) (f : ℕ) → begins_plain s.flow m.bytes ≡ false → plain_on s fresh (m ∷ ms) ≡ Stands u f → ⊥
-not_begun s fresh m ms u f b h = by_tests (fresh && is_mark m.bytes) (begins_plain s.flow m.bytes) b h where
+not_begun s fresh m ms u f b h = by_tests (fresh && marked m.bytes) (begins_plain s.flow m.bytes) b h where
   by_tests : (q r : Bool) → r ≡ false → opens s m.at m.bytes ms q r ≡ Stands u f → ⊥
   by_tests true r e h = absurd (cc)
   by_tests false false e h = absurd (cc)
   by_tests false true e h = absurd (cc)
 
-not_marked : (s : Setting) (fresh : Bool) (m : Line) (ms : List Line) (u : List ℕ) (f : ℕ) → (fresh && is_mark m.bytes) ≡ true → plain_on s fresh (m ∷ ms) ≡ Stands u f → ⊥
-not_marked s fresh m ms u f b h = by_tests (fresh && is_mark m.bytes) (begins_plain s.flow m.bytes) b h where
+not_marked : (s : Setting) (fresh : Bool) (m : Line) (ms : List Line) (u : List ℕ) (f : ℕ) → (fresh && marked m.bytes) ≡ true → plain_on s fresh (m ∷ ms) ≡ Stands u f → ⊥
+not_marked s fresh m ms u f b h = by_tests (fresh && marked m.bytes) (begins_plain s.flow m.bytes) b h where
   by_tests : (q r : Bool) → q ≡ true → opens s m.at m.bytes ms q r ≡ Stands u f → ⊥
   by_tests true r e h = absurd (cc)
   by_tests false r e h = absurd (cc)
 
 not_returned : (s : Setting) (fresh : Bool) (m : Line) (ms : List Line) (u : List ℕ) (f : ℕ) → reason s.flow m.bytes ≡ Return → plain_on s fresh (m ∷ ms) ≡ Stands u f → ⊥
-not_returned s fresh m ms u f b h = by_tests (fresh && is_mark m.bytes) (begins_plain s.flow m.bytes) (reason s.flow m.bytes) b h where
+not_returned s fresh m ms u f b h = by_tests (fresh && marked m.bytes) (begins_plain s.flow m.bytes) (reason s.flow m.bytes) b h where
   by_tests : (q r : Bool) (w : Why) → w ≡ Return → cond q (Fails (m.at + 3)) (cond r (first s w m.at m.bytes ms) (Fails (wrong_begin m.at m.bytes))) ≡ Stands u f → ⊥
   by_tests true r w e h = absurd (cc)
   by_tests false false w e h = absurd (cc)
@@ -69,7 +73,7 @@ not_returned s fresh m ms u f b h = by_tests (fresh && is_mark m.bytes) (begins_
 
 -- the same first line, before other lines
 same_first : (s : Setting) (fresh : Bool) (p : ℕ) (l : Line) (ls ms : List Line) (u : List ℕ) (f : ℕ) → Shares p ls ms → plain_on s fresh (l ∷ ls) ≡ Fails p → plain_on s fresh (l ∷ ms) ≡ Stands u f → ⊥
-same_first s fresh p l ls ms u f sh h g = by_tests (fresh && is_mark l.bytes) (begins_plain s.flow l.bytes) (reason s.flow l.bytes) h g where
+same_first s fresh p l ls ms u f sh h g = by_tests (fresh && marked l.bytes) (begins_plain s.flow l.bytes) (reason s.flow l.bytes) h g where
   by_line : (o : Bool) → cond o (Stands (content s.flow l.bytes) (content_end s.flow l.bytes l.at)) (more s ls (content s.flow l.bytes) (content_end s.flow l.bytes l.at) 0) ≡ Fails p → cond o (Stands (content s.flow l.bytes) (content_end s.flow l.bytes l.at)) (more s ms (content s.flow l.bytes) (content_end s.flow l.bytes l.at) 0) ≡ Stands u f → ⊥
   by_line true h g = absurd (cc)
   by_line false h g = more_dead s p ls ms (content s.flow l.bytes) (content_end s.flow l.bytes l.at) 0 u f sh h g
@@ -92,38 +96,33 @@ both false q h = absurd (cc)
 abbrev dash : ℕ → Bool
 dash b = nat_eq b 45 || nat_eq b 46
 
-mark_of : (xs : List ℕ) → is_mark xs ≡ true → (a b c : ℕ) × (r : List ℕ) × (xs ≡ a ∷ b ∷ c ∷ r) × (dash a ≡ true) × (nat_eq a b ≡ true) × (nat_eq a c ≡ true) × (is_end r ≡ true)
+abbrev marks_end : List ℕ → Bool
+marks_end r = is_end r || begins_with 13 r
+
+mark_tests : (d e f g h : Bool) → ((d && (e && (f && g))) || (d && (e && (f && h)))) ≡ true → (d ≡ true) × (e ≡ true) × (f ≡ true) × ((g || h) ≡ true)
+mark_tests true true true g h k = (refl, refl, refl, k)
+mark_tests true true false g h k = absurd (cc)
+mark_tests true false f g h k = absurd (cc)
+mark_tests false e f g h k = absurd (cc)
+
+mark_of : (xs : List ℕ) → marked xs ≡ true → (a b c : ℕ) × (r : List ℕ) × (xs ≡ a ∷ b ∷ c ∷ r) × (dash a ≡ true) × (nat_eq a b ≡ true) × (nat_eq a c ≡ true) × (marks_end r ≡ true)
 mark_of [] h = absurd (cc)
 mark_of (a ∷ []) h = absurd (cc)
 mark_of (a ∷ b ∷ []) h = absurd (cc)
-mark_of (a ∷ b ∷ c ∷ r) h =
-    let x = both (dash a) (nat_eq a b && (nat_eq a c && is_end r)) h in
-    let y = both (nat_eq a b) (nat_eq a c && is_end r) x.1 in
-    let z = both (nat_eq a c) (is_end r) y.1 in
-    (a, b, c, r, refl, x.0, y.0, z.0, z.1)
+mark_of (a ∷ b ∷ c ∷ r) h = let t = mark_tests (dash a) (nat_eq a b) (nat_eq a c) (is_end r) (begins_with 13 r) h in (a, b, c, r, refl, t.0, t.1, t.2, t.3)
 
-pub mark_length : (xs : List ℕ) → is_mark xs ≡ true → 3 ≤ length xs
+pub mark_length : (xs : List ℕ) → marked xs ≡ true → 3 ≤ length xs
 mark_length xs h = let m = mark_of xs h in let e = ap (λ (t : List ℕ). length t) m.4 in omega (arith, e)
 
-mark_made : (a b c : ℕ) (r : List ℕ) → dash a ≡ true → nat_eq a b ≡ true → nat_eq a c ≡ true → is_end r ≡ true → is_mark (a ∷ b ∷ c ∷ r) ≡ true
-mark_made a b c r x y z w = ap (λ q. q && (nat_eq a b && (nat_eq a c && is_end r))) x ∙ ap (λ q. q && (nat_eq a c && is_end r)) y ∙ ap (λ q. q && is_end r) z ∙ w
+mark_made : (a b c : ℕ) (r : List ℕ) → dash a ≡ true → nat_eq a b ≡ true → nat_eq a c ≡ true → marks_end r ≡ true → marked (a ∷ b ∷ c ∷ r) ≡ true
+mark_made a b c r x y z w = by_tests (dash a) (nat_eq a b) (nat_eq a c) x y z where
+  by_tests : (d e f : Bool) → d ≡ true → e ≡ true → f ≡ true → ((d && (e && (f && is_end r))) || (d && (e && (f && begins_with 13 r)))) ≡ true
+  by_tests true true true x y z = w
+  by_tests false e f x y z = absurd (cc)
+  by_tests true false f x y z = absurd (cc)
+  by_tests true true false x y z = absurd (cc)
 
-dash_goes : (flow white : Bool) (a : ℕ) (r : List ℕ) → dash a ≡ true → stops flow white a r ≡ false
-dash_goes flow white a r h = grind (arith, nat_tests, h)
-
-dash_same : (a b : ℕ) → dash a ≡ true → nat_eq a b ≡ true → dash b ≡ true
-dash_same a b h e = grind (arith, nat_tests, h, e)
-
-dash_return : (flow : Bool) (a b c : ℕ) (v : List ℕ) → dash a ≡ true → dash b ≡ true → dash c ≡ true → reason flow (a ∷ b ∷ c ∷ 13 ∷ v) ≡ Return
-dash_return flow a b c v x y z =
-    let n : plain_len flow false (a ∷ b ∷ c ∷ 13 ∷ v) ≡ 3 =
-    ap (λ q. cond q 0 (suc (plain_len flow (is_white a) (b ∷ c ∷ 13 ∷ v)))) (dash_goes flow false a (b ∷ c ∷ 13 ∷ v) x)
-    ∙ ap suc (ap (λ q. cond q 0 (suc (plain_len flow (is_white b) (c ∷ 13 ∷ v)))) (dash_goes flow (is_white a) b (c ∷ 13 ∷ v) y)
-    ∙ ap suc (ap (λ q. cond q 0 (suc (plain_len flow (is_white c) (13 ∷ v)))) (dash_goes flow (is_white b) c (13 ∷ v) z)
-    ∙ ap suc (ap (λ q. cond q 0 (suc (plain_len flow (is_white 13) v))) (return_stops flow (is_white c) v)))) in
-    ap (λ k. why (drop k (a ∷ b ∷ c ∷ 13 ∷ v))) n
-
-three : (front x r : List ℕ) (a b c at : ℕ) → a ∷ b ∷ c ∷ r ≡ front ++ x → at + length front ≡ at + 3 → (front ≡ a ∷ b ∷ c ∷ []) × (r ≡ x)
+pub three : (front x r : List ℕ) (a b c at : ℕ) → a ∷ b ∷ c ∷ r ≡ front ++ x → at + length front ≡ at + 3 → (front ≡ a ∷ b ∷ c ∷ []) × (r ≡ x)
 three [] x r a b c at e l = absurd (omega (arith, l))
 three (d ∷ []) x r a b c at e l = absurd (omega (arith, l))
 three (d ∷ f ∷ []) x r a b c at e l = absurd (omega (arith, l))
@@ -134,23 +133,20 @@ three (d ∷ f ∷ g ∷ []) x r a b c at e l =
     (ap (λ k. k ∷ f ∷ g ∷ []) (sym h) ∙ ap (λ k. a ∷ k ∷ g ∷ []) (sym i) ∙ ap (λ k. a ∷ b ∷ k ∷ []) (sym j), cc)
 three (d ∷ f ∷ g ∷ i ∷ front) x r a b c at e l = absurd (omega (arith, l))
 
-end_same : (r y : List ℕ) → SameAhead r y → is_end r ≡ true → (is_end y ≡ true) ⊎ ((v : List ℕ) × (y ≡ 13 ∷ v))
-end_same r y (inl h) e = inl (ap is_end h.4 ∙ sym (ap is_end h.3) ∙ e)
-end_same r [] (inr h) e = inl refl
-end_same r (d ∷ y) (inr h) e = inr (y, ap (λ c. c ∷ y) h.1)
+end_same : (r y : List ℕ) → SameAhead r y → marks_end r ≡ true → marks_end y ≡ true
+end_same r y (inl h) e = ap marks_end h.4 ∙ sym (ap marks_end h.3) ∙ e
+end_same r [] (inr h) e = refl
+end_same r (d ∷ y) (inr h) e = ap (λ (c : ℕ). marks_end (c ∷ y)) h.1
 
--- a text that goes on otherwise behind a mark has none there, or a carriage return
-mark_dead : (s : Setting) (fresh : Bool) (p at : ℕ) (l : List ℕ) (m : Line) (ms : List Line) (u : List ℕ) (f : ℕ) → (fresh && is_mark l) ≡ true → p ≡ at + 3 → SplitAt p at l m.bytes → plain_on s fresh (m ∷ ms) ≡ Stands u f → ⊥
+-- a text that goes on otherwise behind a mark has one there, too
+mark_dead : (s : Setting) (fresh : Bool) (p at : ℕ) (l : List ℕ) (m : Line) (ms : List Line) (u : List ℕ) (f : ℕ) → (fresh && marked l) ≡ true → p ≡ at + 3 → SplitAt p at l m.bytes → plain_on s fresh (m ∷ ms) ≡ Stands u f → ⊥
 mark_dead s fresh p at l m ms u f h q sp g =
-    let b = both fresh (is_mark l) h in
+    let b = both fresh (marked l) h in
     let k = mark_of l b.1 in
     let t = three sp.0 sp.1 k.3 k.0 k.1 k.2 at (sym k.4 ∙ sp.3) (sp.5 ∙ q) in
     let other : m.bytes ≡ k.0 ∷ k.1 ∷ k.2 ∷ sp.2 = sp.4 ∙ ap (λ z. z ++ sp.2) t.0 in
     let same : SameAhead k.3 sp.2 = subst (λ z. SameAhead z sp.2) (sym t.1) sp.6 in
-    elim (end_same k.3 sp.2 same k.8) [
-      | inl e ↦ not_marked s fresh m ms u f (ap (λ q. q && is_mark m.bytes) b.0 ∙ ap is_mark other ∙ mark_made k.0 k.1 k.2 sp.2 k.5 k.6 k.7 e) g
-      | inr e ↦ not_returned s fresh m ms u f (ap (reason s.flow) other ∙ ap (λ z. reason s.flow (k.0 ∷ k.1 ∷ k.2 ∷ z)) e.1 ∙ dash_return s.flow k.0 k.1 k.2 e.0 k.5 (dash_same k.0 k.1 k.5 k.6) (dash_same k.0 k.2 k.5 k.7)) g
-    ]
+    not_marked s fresh m ms u f (ap (λ q. q && marked m.bytes) b.0 ∙ ap marked other ∙ mark_made k.0 k.1 k.2 sp.2 k.5 k.6 k.7 (end_same k.3 sp.2 same k.8)) g
 
 -- a carriage return on the first line
 return_dead : (s : Setting) (fresh : Bool) (p at : ℕ) (l : List ℕ) (m : Line) (ms : List Line) (u : List ℕ) (f : ℕ) → reason s.flow l ≡ Return → p ≡ at + plain_len s.flow false l + 1 → SplitAt p at l m.bytes → plain_on s fresh (m ∷ ms) ≡ Stands u f → ⊥
@@ -175,6 +171,10 @@ firm_begin x true u v e h = absurd (cc)
 abbrev may_begin : ℕ → Bool
 may_begin b = not (is_white b || is_indicator b || nat_eq b 13)
 
+-- not safe, or a carriage return
+abbrev bare : Bool → List ℕ → Bool
+bare flow bs = is_unsafe flow bs || begins_with 13 bs
+
 doubtful_begins : (b : ℕ) → is_doubtful b ≡ true → may_begin b ≡ true
 doubtful_begins b h = grind (arith, nat_tests, h)
 
@@ -190,23 +190,14 @@ none_then false true true e f = refl
 none_then x false u e f = absurd (cc)
 none_then x true false e f = absurd (cc)
 
-doubtful_goes : (flow : Bool) (b : ℕ) (v : List ℕ) → is_doubtful b ≡ true → stops flow false b (13 ∷ v) ≡ false
-doubtful_goes flow b v h = let z : is_unsafe flow (13 ∷ v) ≡ false = by_flow flow in grind (arith, nat_tests, h, z) where
-  by_flow : (flow : Bool) → is_unsafe flow (13 ∷ v) ≡ false
-  by_flow true = refl
-  by_flow false = refl
+bare_return : (flow : Bool) (d : ℕ) (y : List ℕ) → d ≡ 13 → bare flow (d ∷ y) ≡ true
+bare_return true d y e = ap (λ (c : ℕ). bare true (c ∷ y)) e
+bare_return false d y e = ap (λ (c : ℕ). bare false (c ∷ y)) e
 
-doubtful_return : (flow : Bool) (b : ℕ) (v : List ℕ) → is_doubtful b ≡ true → reason flow (b ∷ 13 ∷ v) ≡ Return
-doubtful_return flow b v h =
-    let n : plain_len flow false (b ∷ 13 ∷ v) ≡ 1 =
-    ap (λ q. cond q 0 (suc (plain_len flow (is_white b) (13 ∷ v)))) (doubtful_goes flow b v h)
-    ∙ ap suc (ap (λ q. cond q 0 (suc (plain_len flow (is_white 13) v))) (return_stops flow (is_white b) v)) in
-    ap (λ k. why (drop k (b ∷ 13 ∷ v))) n
-
-unsafe_or : (flow : Bool) (x y : List ℕ) → SameAhead x y → is_unsafe flow x ≡ true → (is_unsafe flow y ≡ true) ⊎ ((v : List ℕ) × (y ≡ 13 ∷ v))
-unsafe_or flow x y (inl h) u = inl (ap (is_unsafe flow) h.4 ∙ sym (ap (is_unsafe flow) h.3) ∙ u)
-unsafe_or flow x [] (inr h) u = inl refl
-unsafe_or flow x (d ∷ y) (inr h) u = inr (y, ap (λ c. c ∷ y) h.1)
+bare_same : (flow : Bool) (x y : List ℕ) → SameAhead x y → bare flow x ≡ true → bare flow y ≡ true
+bare_same flow x y (inl h) u = ap (bare flow) h.4 ∙ sym (ap (bare flow) h.3) ∙ u
+bare_same flow x [] (inr h) u = refl
+bare_same flow x (d ∷ y) (inr h) u = bare_return flow d y h.1
 
 begins_none : (flow : Bool) (y : List ℕ) → IsReturn y → begins_plain flow y ≡ false
 begins_none flow [] h = refl
@@ -216,7 +207,7 @@ begins_none flow (d ∷ y) h = ap (λ c. begins_plain flow (c ∷ y)) h
 firm_dead : (flow : Bool) (b : ℕ) (bs y : List ℕ) → is_doubtful b ≡ false → begins_plain flow (b ∷ bs) ≡ false → SameAhead (b ∷ bs) y → begins_plain flow y ≡ false
 firm_dead flow b bs y d h (inl a) =
     let e : b ≡ a.0 = (let q = a.3 in cc) in
-    ap (begins_plain flow) a.4 ∙ ap (λ c. begins_plain flow (c ∷ a.2)) (sym e) ∙ firm_begin (may_begin b) (is_doubtful b) (is_unsafe flow bs) (is_unsafe flow a.2) d h
+    ap (begins_plain flow) a.4 ∙ ap (λ c. begins_plain flow (c ∷ a.2)) (sym e) ∙ firm_begin (may_begin b) (is_doubtful b) (bare flow bs) (bare flow a.2) d h
 firm_dead flow b bs y d h (inr a) = begins_none flow y a.1
 
 one : (front x bs : List ℕ) (b at : ℕ) → b ∷ bs ≡ front ++ x → at + length front ≡ suc at → (front ≡ b ∷ []) × (bs ≡ x)
@@ -246,11 +237,8 @@ wrong_dead s fresh p at (b ∷ bs) m ms u f h q sp g = by_doubt (is_doubtful b) 
       let t = one sp.0 sp.1 bs b at sp.3 (sp.5 ∙ q) in
       let other : m.bytes ≡ b ∷ sp.2 = sp.4 ∙ ap (λ z. z ++ sp.2) t.0 in
       let same : SameAhead bs sp.2 = subst (λ z. SameAhead z sp.2) (sym t.1) sp.6 in
-      let unsafe = unsafe_then (may_begin b) (is_doubtful b) (is_unsafe s.flow bs) (doubtful_begins b d) d h in
-      elim (unsafe_or s.flow bs sp.2 same unsafe) [
-        | inl v ↦ not_begun s fresh m ms u f (ap (begins_plain s.flow) other ∙ none_then (may_begin b) (is_doubtful b) (is_unsafe s.flow sp.2) d v) g
-        | inr v ↦ not_returned s fresh m ms u f (ap (reason s.flow) other ∙ ap (λ z. reason s.flow (b ∷ z)) v.1 ∙ doubtful_return s.flow b v.0 d) g
-      ]
+      let unsafe = unsafe_then (may_begin b) (is_doubtful b) (bare s.flow bs) (doubtful_begins b d) d h in
+      not_begun s fresh m ms u f (ap (begins_plain s.flow) other ∙ none_then (may_begin b) (is_doubtful b) (bare s.flow sp.2) d (bare_same s.flow bs sp.2 same unsafe)) g
 
 wrong_from : (at : ℕ) (xs : List ℕ) → at ≤ wrong_begin at xs
 wrong_from at [] = omega arith
@@ -282,7 +270,7 @@ plain_dead s fresh p (l ∷ ls) (m ∷ ms) u f (inr (inl q)) h g =
 plain_dead s fresh p (l ∷ ls) (m ∷ ms) u f (inr (inr q)) h g =
     let e = q.1 in
     elim (opens_fails s fresh l.at l.bytes ls p h) [
-      | inl x ↦ (let b = both fresh (is_mark l.bytes) x.0 in let k = mark_length l.bytes b.1 in let i = x.1 in absurd (omega (arith, e, k, i)))
+      | inl x ↦ (let b = both fresh (marked l.bytes) x.0 in let k = mark_length l.bytes b.1 in let i = x.1 in absurd (omega (arith, e, k, i)))
       | inr x ↦ elim x [
         | inl y ↦ (let k = wrong_to l.at l.bytes in let i = y.1 in absurd (omega (arith, e, k, i)))
         | inr y ↦ elim y.1 [ inl z ↦ (let k = fail_within s.flow l.bytes 0 (omega arith) (inl z.0) in let i = z.1 in absurd (omega (arith, e, k, i))) | inr z ↦ more_later s p ls _ _ _ q.2 z ]
@@ -309,14 +297,17 @@ more_to s size p (l ∷ ls) t e k w h = by_below (below s l.bytes) refl h (λ x 
   by_below Outside b h r = absurd (cc)
   by_below (Further n) b h r = elim (joins_fails s.flow (reason s.flow (drop n l.bytes)) (drop n l.bytes) (l.at + n) t e k p (more s ls) h) [
     | inl i ↦ r _ _ _ i
-    | inr i ↦ (let v = fail_within s.flow l.bytes n (skip_le s l.bytes n b) i.1 in let y = i.0 in let z = w.0 in omega (arith, v, y, z))
+    | inr i ↦ elim i [
+      | inl j ↦ (let v = fail_within s.flow l.bytes n (skip_le s l.bytes n b) j.1 in let y = j.0 in let z = w.0 in omega (arith, v, y, z))
+      | inr j ↦ (let v = fail_within s.flow l.bytes n (skip_le s l.bytes n b) (inl j.1) in let y = j.0 in let z = w.0 in omega (arith, v, y, z))
+    ]
   ]
 
 pub plain_to : (s : Setting) (fresh : Bool) (size p : ℕ) (l : Line) (ls : List Line) → Within size (l ∷ ls) → plain_on s fresh (l ∷ ls) ≡ Fails p → p ≤ size
 plain_to s fresh size p l ls w h =
     let e = w.0 in
     elim (opens_fails s fresh l.at l.bytes ls p h) [
-      | inl x ↦ (let b = both fresh (is_mark l.bytes) x.0 in let k = mark_length l.bytes b.1 in let i = x.1 in omega (arith, e, k, i))
+      | inl x ↦ (let b = both fresh (marked l.bytes) x.0 in let k = mark_length l.bytes b.1 in let i = x.1 in omega (arith, e, k, i))
       | inr x ↦ elim x [
         | inl y ↦ (let k = wrong_to l.at l.bytes in let i = y.1 in omega (arith, e, k, i))
         | inr y ↦ elim y.1 [ inl z ↦ (let k = fail_within s.flow l.bytes 0 (omega arith) (inl z.0) in let i = z.1 in omega (arith, e, k, i)) | inr z ↦ more_to s size p ls _ _ _ w.1 z ]

@@ -1,16 +1,17 @@
 -- A further line on which a plain scalar fails is one in each text that agrees so far.
-use Rattle.std.proofs.Common.{◌≡◌, ℕ, suc, ◌+◌, ◌<◌, ◌≤◌, Bool, true, false, List, [], ◌∷◌, ◌++◌, length, take, drop, refl, sym, ap, inl, inr, ◌∙◌, arith, cond, subst, append_assoc, length-take, length-drop}
+use Rattle.std.proofs.Common.{◌≡◌, ℕ, suc, ◌+◌, ◌<◌, ◌≤◌, Bool, true, false, List, [], ◌∷◌, ◌++◌, length, take, drop, refl, sym, ap, inl, inr, ◌∙◌, arith, cond, subst, append_assoc, append-nil, length-take, length-drop}
 use Rattle.std.specs.Prelude.{nat_eq, nat_lt, ◌||◌, ◌&&◌}
 use Rattle.std.proofs.lemmas.Bool.Decides.{nat_tests}
 use Rattle.std.proofs.lemmas.List.{take-append-drop, drop-drop, length-append}
 use Rattle.yaml_scalars.specs.declared.scalar.Setting.{Setting}
+use Rattle.yaml_scalars.specs.declared.plain_line.Why.TheVariants.{Colon}
 use Rattle.yaml_scalars.specs.declared.plain_line.Below.{Below}
 use Rattle.yaml_scalars.specs.declared.plain_line.Below.TheVariants.{Blank, Outside, Further}
-use Rattle.yaml_scalars.specs.Lines.{Line, Outcome, Stands, Fails, begins_with, is_white, is_space, is_blank, is_mark, is_end, lead, indent, past_white}
+use Rattle.yaml_scalars.specs.Lines.{Line, Outcome, Stands, Fails, begins_with, ends_with, is_white, is_space, is_blank, is_mark, is_end, lead, indent, past_white}
 use Rattle.yaml_scalars.specs.Plain.{above_of, plain_len, why, reason, content_at, inside, below, further, more}
 use Rattle.yaml_scalars.proofs.Agree.{SameAhead, SplitAt, Shares}
 use Rattle.yaml_scalars.proofs.FurtherLines.{plain_le, skip_le}
-use Rattle.yaml_scalars.proofs.PlainDead.{FailsAt, joins_fails, joins_both, more_later, fails_of, other_fails, why_return, why_colon, drop_front, drop_length}
+use Rattle.yaml_scalars.proofs.PlainDead.{FailsAt, FailsBefore, colon_last, other_return, joins_fails, joins_both, more_later, fails_of, other_fails, why_return, why_colon, drop_front, drop_length}
 
 -- a byte that shows that a line is neither blank nor a mark
 abbrev pub IsShown : ℕ → Type 0
@@ -152,6 +153,66 @@ line_dead s p at l m n u f t e k next b w q sp g =
     let fails = subst (λ t. FailsAt s.flow (reason s.flow t)) (sym part) (other_fails s.flow (drop n a) c z y d.7 d.8 same) in
     fails_of s.flow (reason s.flow (drop n m)) (drop n m) (at + n) t e k next u f fails (sym (ap (λ w. further s w at m t e k next) below_is) ∙ g)
 
+-- bytes that end with one
+pub last_apart : (c : ℕ) (a : List ℕ) → ends_with c a ≡ true → (r : List ℕ) × (a ≡ r ++ (c ∷ []))
+last_apart c [] h = absurd (cc)
+last_apart c (b ∷ []) h = let e : b ≡ c = grind (arith, nat_tests, h) in ([], ap (λ k. k ∷ []) e)
+last_apart c (b ∷ d ∷ a) h = let r = last_apart c (d ∷ a) h in (b ∷ r.0, ap (λ t. b ∷ t) r.1)
+
+-- a line that fails at a carriage return behind a `:`
+pub line_cut : (s : Setting) (p at : ℕ) (l m : List ℕ) (n : ℕ) (u : List ℕ) (f : ℕ) (t : List ℕ) (e k : ℕ) (next : List ℕ → ℕ → ℕ → Outcome) → below s l ≡ Further n → FailsBefore s.flow (drop n l) (at + n) p (reason s.flow (drop n l)) → SplitAt p at l m → further s (below s m) at m t e k next ≡ Stands u f → ⊥
+line_cut s p at l m n u f t e k next b (q, w, flow, colon) sp g =
+    let d = fail_parts s.flow l n (skip_le s l n b) (inl w) in
+    let a = d.0 in
+    let z = d.1 in
+    let c = d.2 in
+    let size : length sp.0 ≡ length a = omega (arith, sp.5, q, d.4) in
+    let j = split_there sp.0 sp.1 a (c ∷ z) (sym sp.3 ∙ d.3) size in
+    let other : m ≡ a ++ sp.2 = sp.4 ∙ ap (λ f. f ++ sp.2) j.0 in
+    let within : n ≤ length a = omega (arith, d.4) in
+    let is : c ≡ 13 = why_return c z (sym d.9 ∙ w) in
+    let short : plain_len s.flow false (drop n a ++ (13 ∷ z)) ≡ length (drop n a) = subst (λ c. plain_len s.flow false (drop n a ++ (c ∷ z)) ≡ length (drop n a)) is d.7 in
+    let before : take (plain_len s.flow false (drop n l)) (drop n l) ≡ drop n a = ap (λ y. take (plain_len s.flow false y) y) d.6 ∙ ap (λ k. take k (drop n a ++ (c ∷ z))) d.7 ∙ take_front (drop n a) (c ∷ z) in
+    let last = last_apart 58 (drop n a) (sym (ap (ends_with 58) before) ∙ colon) in
+    let whole : a ≡ (take n a ++ last.0) ++ (58 ∷ []) = sym (take-append-drop n a) ∙ ap (λ y. take n a ++ y) last.1 ∙ sym (append_assoc (take n a) last.0 (58 ∷ [])) in
+    let below_of : (y : List ℕ) → below s (a ++ y) ≡ Further n = λ y.
+    ap (λ a. below s (a ++ y)) whole ∙ ap (below s) (append_assoc (take n a ++ last.0) (58 ∷ []) y) ∙ below_front s (take n a ++ last.0) 58 y (c ∷ z) (shown_colon 58 refl)
+    ∙ sym (ap (below s) (append_assoc (take n a ++ last.0) (58 ∷ []) (c ∷ z))) ∙ sym (ap (λ a. below s (a ++ (c ∷ z))) whole) ∙ ap (below s) (sym d.3) ∙ b in
+    let fails : (y : List ℕ) → SameAhead (13 ∷ z) y → FailsAt s.flow (reason s.flow (drop n a ++ y)) = λ y h. by_ahead (drop n a) last.0 y z last.1 flow short h in
+    fails_of s.flow (reason s.flow (drop n m)) (drop n m) (at + n) t e k next u f
+    (subst (λ y. FailsAt s.flow (reason s.flow y)) (sym (ap (drop n) other ∙ drop_front n a sp.2 within)) (fails sp.2 (subst (λ c. SameAhead (c ∷ z) sp.2) is (subst (λ x. SameAhead x sp.2) j.1 sp.6))))
+    (sym (ap (λ w. further s w at m t e k next) (ap (below s) other ∙ below_of sp.2)) ∙ g) where
+      split_there : (front x a z : List ℕ) → front ++ x ≡ a ++ z → length front ≡ length a → (front ≡ a) × (x ≡ z)
+      split_there [] x [] z e l = (refl, e)
+      split_there [] x (d ∷ a) z e l = absurd (omega (arith, l))
+      split_there (d ∷ front) x [] z e l = absurd (omega (arith, l))
+      split_there (d ∷ front) x (h ∷ a) z e l =
+          let i : d ≡ h = cc in
+          let t : front ++ x ≡ a ++ z = cc in
+          let r = split_there front x a z t (omega (arith, l)) in
+          (ap (λ k. k ∷ front) i ∙ ap (λ k. h ∷ k) r.0, r.1)
+
+      take_front : (r x : List ℕ) → take (length r) (r ++ x) ≡ r
+      take_front [] x = refl
+      take_front (d ∷ r) x = ap (λ t. d ∷ t) (take_front r x)
+
+      returned : (w r v z : List ℕ) → plain_len s.flow false (w ++ (13 ∷ z)) ≡ length w → FailsAt s.flow (reason s.flow (w ++ (13 ∷ v)))
+      returned w r v z h = inl (other_return s.flow w z v h)
+
+      ended : (w r z : List ℕ) → w ≡ r ++ (58 ∷ []) → s.flow ≡ false → plain_len s.flow false (w ++ (13 ∷ z)) ≡ length w → FailsAt s.flow (reason s.flow (w ++ []))
+      ended w r z e o h =
+          let h2 : plain_len false false (r ++ (58 ∷ (13 ∷ z))) ≡ length (r ++ (58 ∷ [])) = ap (plain_len false false) (sym (append_assoc r (58 ∷ []) (13 ∷ z))) ∙ subst (λ o. plain_len o false ((r ++ (58 ∷ [])) ++ (13 ∷ z)) ≡ length (r ++ (58 ∷ []))) o (subst (λ w. plain_len s.flow false (w ++ (13 ∷ z)) ≡ length w) e h) in
+          let m : length r ≤ plain_len false false (r ++ (58 ∷ (13 ∷ z))) = omega (arith, h2, length-append r (58 ∷ [])) in
+          let c : reason s.flow (w ++ []) ≡ Colon = ap (reason s.flow) (append-nil w ∙ e) ∙ ap (λ o. reason o (r ++ (58 ∷ []))) o ∙ colon_last r (13 ∷ z) m in
+          inr (c, o)
+
+      by_ahead : (w r y z : List ℕ) → w ≡ r ++ (58 ∷ []) → s.flow ≡ false → plain_len s.flow false (w ++ (13 ∷ z)) ≡ length w → SameAhead (13 ∷ z) y → FailsAt s.flow (reason s.flow (w ++ y))
+      by_ahead w r y z e o h (inl i) =
+          let c : i.0 ≡ 13 = (let k = i.3 in cc) in
+          subst (λ y. FailsAt s.flow (reason s.flow (w ++ y))) (sym (i.4 ∙ ap (λ k. k ∷ i.2) c)) (returned w r i.2 z h)
+      by_ahead w r [] z e o h (inr i) = ended w r z e o h
+      by_ahead w r (d ∷ y) z e o h (inr i) = subst (λ d. FailsAt s.flow (reason s.flow (w ++ (d ∷ y)))) (sym i.1) (returned w r y z h)
+
 -- lines that agree up to a place at which the first ones fail: the others fail too
 pub more_dead : (s : Setting) (p : ℕ) (ls ms : List Line) (t : List ℕ) (e k : ℕ) (u : List ℕ) (f : ℕ) → Shares p ls ms → more s ls t e k ≡ Fails p → more s ms t e k ≡ Stands u f → ⊥
 more_dead s p [] ms t e k u f sh h g = sh
@@ -169,7 +230,8 @@ more_dead s p (l ∷ ls) (m ∷ ms) t e k u f sh h g = by_shares sh (λ x y z a 
     split Outside b a = absurd (cc)
     split (Further n) b a = elim (joins_fails s.flow (reason s.flow (drop n l.bytes)) (drop n l.bytes) (l.at + n) t e k p (more s ls) a) [
       | inl i ↦ more_later s p ls _ _ _ q.2 i
-      | inr i ↦ line_dead s p l.at l.bytes m.bytes n u f t e k (more s ms) b i.1 i.0 q.1 (subst (λ a. further s (below s m.bytes) a m.bytes t e k (more s ms) ≡ Stands u f) (sym q.0) g)
+      | inr i ↦ (let g2 = subst (λ a. further s (below s m.bytes) a m.bytes t e k (more s ms) ≡ Stands u f) (sym q.0) g in
+          elim i [ inl j ↦ line_dead s p l.at l.bytes m.bytes n u f t e k (more s ms) b j.1 j.0 q.1 g2 | inr j ↦ line_cut s p l.at l.bytes m.bytes n u f t e k (more s ms) b j q.1 g2 ])
     ]
   by_shares (inr (inr q)) r = feed (below s l.bytes) refl h where
     feed : (w : Below) → below s l.bytes ≡ w → further s w l.at l.bytes t e k (more s ls) ≡ Fails p → ⊥
@@ -177,5 +239,8 @@ more_dead s p (l ∷ ls) (m ∷ ms) t e k u f sh h g = by_shares sh (λ x y z a 
     feed Outside b a = absurd (cc)
     feed (Further n) b a = elim (joins_fails s.flow (reason s.flow (drop n l.bytes)) (drop n l.bytes) (l.at + n) t e k p (more s ls) a) [
       | inl i ↦ more_later s p ls _ _ _ q.2 i
-      | inr i ↦ (let w = fail_within s.flow l.bytes n (skip_le s l.bytes n b) i.1 in let x = q.1 in let y = i.0 in absurd (omega (arith, x, y, w)))
+      | inr i ↦ elim i [
+        | inl j ↦ (let w = fail_within s.flow l.bytes n (skip_le s l.bytes n b) j.1 in let x = q.1 in let y = j.0 in absurd (omega (arith, x, y, w)))
+        | inr j ↦ (let w = fail_within s.flow l.bytes n (skip_le s l.bytes n b) (inl j.1) in let x = q.1 in let y = j.0 in absurd (omega (arith, x, y, w)))
+      ]
     ]

@@ -1,8 +1,8 @@
 -- Where quoted scalars fail: not before their places, and within their text.
-use Rattle.std.proofs.Common.{◌≡◌, ℕ, zero, suc, ◌+◌, ◌-◌, ◌<◌, ◌≤◌, Bool, true, false, List, [], ◌∷◌, ◌++◌, length, drop, sym, ap, subst, ◌∙◌, arith, cond, length-drop}
-use Rattle.std.specs.Prelude.{nat_lt, ◌||◌, ◌&&◌}
+use Rattle.std.proofs.Common.{◌≡◌, ℕ, zero, suc, ◌+◌, ◌-◌, ◌<◌, ◌≤◌, Bool, true, false, List, [], ◌∷◌, ◌++◌, length, drop, refl, sym, ap, subst, ◌∙◌, arith, cond, length-drop}
+use Rattle.std.specs.Prelude.{nat_eq, nat_lt, ◌||◌, ◌&&◌}
 use Rattle.yaml_scalars.specs.declared.scalar.Setting.{Setting}
-use Rattle.yaml_scalars.specs.Lines.{Line, Fails, Documents, begins_with, is_white, is_blank, is_mark, lead, past_white}
+use Rattle.yaml_scalars.specs.Lines.{Line, Fails, Documents, begins_with, is_white, is_blank, is_mark, is_cut_mark, lead, past_white}
 use Rattle.yaml_scalars.specs.Quoted.{Piece, Itself, Closes, Means, Joins, Returns, Wrong, Part, Closed, Open, Joined, Returned, Refused, piece, add_piece, line_part, gap, behind_part, key_part, quoted_more, quoted_on}
 use Rattle.yaml_scalars.specs.Scalar.{quoted_scalar}
 use Rattle.yaml_scalars.specs.Walk.{line_at, has_break, behind}
@@ -48,11 +48,24 @@ part_between quote at zero text kept (b ∷ bs) = by_piece (piece quote b bs) (p
   by_piece (Returns n) w r = (omega arith, omega arith)
   by_piece (Wrong n) w r = let x = w.0 in let y = w.1 in (omega arith, omega arith)
 
+-- a mark cut by a carriage return
+pub cut_length : (xs : List ℕ) → is_cut_mark xs ≡ true → 4 ≤ length xs
+cut_length [] h = absurd (cc)
+cut_length (a ∷ []) h = absurd (cc)
+cut_length (a ∷ b ∷ []) h = absurd (cc)
+cut_length (a ∷ b ∷ c ∷ []) h = none (nat_eq a 45 || nat_eq a 46) (nat_eq a b) (nat_eq a c) h where
+  none : (p q r : Bool) → (p && (q && (r && false))) ≡ true → 4 ≤ 3
+  none true true true h = absurd (cc)
+  none true true false h = absurd (cc)
+  none true false r h = absurd (cc)
+  none false q r h = absurd (cc)
+cut_length (a ∷ b ∷ c ∷ d ∷ xs) h = omega arith
+
 -- a scalar that goes on over lines behind a place fails behind it
 pub more_later : (quote size q : ℕ) (ls : List Line) (text : List ℕ) (j : Bool) (k p : ℕ) → q < size → Later q ls → quoted_more quote size ls text j k ≡ Fails p → q < p
 more_later quote size q [] text j k p s h e = let f : size ≡ p = cc in omega arith
 more_later quote size q (l ∷ ls) text j k p s h e =
-    by_line (is_mark l.bytes && (l.broken || nat_lt 3 (length l.bytes))) (is_blank l.bytes) (λ u i n f. more_later quote size q ls u i n p s h.1 f) e where
+    by_line (is_mark l.bytes && (l.broken || nat_lt 3 (length l.bytes))) (is_cut_mark l.bytes) (is_blank l.bytes) (λ u i n f. more_later quote size q ls u i n p s h.1 f) e where
       by_part : (r : Part) → IsBetween (l.at + lead is_white l.bytes + 0) (l.at + lead is_white l.bytes + length (past_white l.bytes)) r → ((i : Bool) (u : List ℕ) → quoted_more quote size ls u i 0 ≡ Fails p → q < p) → behind_part r (λ i u. quoted_more quote size ls u i 0) ≡ Fails p → q < p
       by_part (Closed u end) w f g = absurd (cc)
       by_part (Open u) w f g = f false u g
@@ -60,16 +73,17 @@ more_later quote size q (l ∷ ls) text j k p s h e =
       by_part (Returned at) w f g = let n : suc at ≡ p = cc in let a = w.0 in let b = h.0 in omega arith
       by_part (Refused at) w f g = let n : at ≡ p = cc in let a = w.0 in let b = h.0 in omega arith
 
-      by_line : (m w : Bool) → ((u : List ℕ) (i : Bool) (n : ℕ) → quoted_more quote size ls u i n ≡ Fails p → q < p) → cond m (Documents l.at) (cond w (quoted_more quote size ls text j (suc k)) (behind_part (line_part quote (l.at + lead is_white l.bytes) 0 (text ++ gap j k) (length (text ++ gap j k)) (past_white l.bytes)) (λ i u. quoted_more quote size ls u i 0))) ≡ Fails p → q < p
-      by_line true w r g = absurd (cc)
-      by_line false true r g = r text j (suc k) g
-      by_line false false r g = by_part (line_part quote (l.at + lead is_white l.bytes) 0 (text ++ gap j k) (length (text ++ gap j k)) (past_white l.bytes)) (part_between quote (l.at + lead is_white l.bytes) 0 (text ++ gap j k) (length (text ++ gap j k)) (past_white l.bytes)) (λ i u f. r u i 0 f) g
+      by_line : (m c w : Bool) → ((u : List ℕ) (i : Bool) (n : ℕ) → quoted_more quote size ls u i n ≡ Fails p → q < p) → cond m (Documents l.at) (cond c (Fails (l.at + 3)) (cond w (quoted_more quote size ls text j (suc k)) (behind_part (line_part quote (l.at + lead is_white l.bytes) 0 (text ++ gap j k) (length (text ++ gap j k)) (past_white l.bytes)) (λ i u. quoted_more quote size ls u i 0)))) ≡ Fails p → q < p
+      by_line true c w r g = absurd (cc)
+      by_line false true w r g = let n : l.at + 3 ≡ p = cc in let b = h.0 in omega arith
+      by_line false false true r g = r text j (suc k) g
+      by_line false false false r g = by_part (line_part quote (l.at + lead is_white l.bytes) 0 (text ++ gap j k) (length (text ++ gap j k)) (past_white l.bytes)) (part_between quote (l.at + lead is_white l.bytes) 0 (text ++ gap j k) (length (text ++ gap j k)) (past_white l.bytes)) (λ i u f. r u i 0 f) g
 
 -- and within the text, if the lines are
 pub more_within : (quote size : ℕ) (ls : List Line) (text : List ℕ) (j : Bool) (k p : ℕ) → Within size ls → quoted_more quote size ls text j k ≡ Fails p → p ≤ size
 more_within quote size [] text j k p h e = let f : size ≡ p = cc in omega arith
 more_within quote size (l ∷ ls) text j k p h e =
-    by_line (is_mark l.bytes && (l.broken || nat_lt 3 (length l.bytes))) (is_blank l.bytes) (λ u i n f. more_within quote size ls u i n p h.1 f) e where
+    by_line (is_mark l.bytes && (l.broken || nat_lt 3 (length l.bytes))) (is_cut_mark l.bytes) (λ c. cut_length l.bytes c) (is_blank l.bytes) (λ u i n f. more_within quote size ls u i n p h.1 f) e where
       fits : l.at + lead is_white l.bytes + length (past_white l.bytes) ≤ size
       fits = let a = h.0 in let b = lead_le is_white l.bytes in omega (arith, a, b, length-drop (lead is_white l.bytes) l.bytes)
 
@@ -80,10 +94,11 @@ more_within quote size (l ∷ ls) text j k p h e =
       by_part (Returned at) w f g = let n : suc at ≡ p = cc in let a = w.1 in let b = fits in omega arith
       by_part (Refused at) w f g = let n : at ≡ p = cc in let a = w.1 in let b = fits in omega arith
 
-      by_line : (m w : Bool) → ((u : List ℕ) (i : Bool) (n : ℕ) → quoted_more quote size ls u i n ≡ Fails p → p ≤ size) → cond m (Documents l.at) (cond w (quoted_more quote size ls text j (suc k)) (behind_part (line_part quote (l.at + lead is_white l.bytes) 0 (text ++ gap j k) (length (text ++ gap j k)) (past_white l.bytes)) (λ i u. quoted_more quote size ls u i 0))) ≡ Fails p → p ≤ size
-      by_line true w r g = absurd (cc)
-      by_line false true r g = r text j (suc k) g
-      by_line false false r g = by_part (line_part quote (l.at + lead is_white l.bytes) 0 (text ++ gap j k) (length (text ++ gap j k)) (past_white l.bytes)) (part_between quote (l.at + lead is_white l.bytes) 0 (text ++ gap j k) (length (text ++ gap j k)) (past_white l.bytes)) (λ i u f. r u i 0 f) g
+      by_line : (m c : Bool) → (c ≡ true → 4 ≤ length l.bytes) → (w : Bool) → ((u : List ℕ) (i : Bool) (n : ℕ) → quoted_more quote size ls u i n ≡ Fails p → p ≤ size) → cond m (Documents l.at) (cond c (Fails (l.at + 3)) (cond w (quoted_more quote size ls text j (suc k)) (behind_part (line_part quote (l.at + lead is_white l.bytes) 0 (text ++ gap j k) (length (text ++ gap j k)) (past_white l.bytes)) (λ i u. quoted_more quote size ls u i 0)))) ≡ Fails p → p ≤ size
+      by_line true c v w r g = absurd (cc)
+      by_line false true v w r g = let n : l.at + 3 ≡ p = cc in let a = h.0 in let b = v refl in omega arith
+      by_line false false v true r g = r text j (suc k) g
+      by_line false false v false r g = by_part (line_part quote (l.at + lead is_white l.bytes) 0 (text ++ gap j k) (length (text ++ gap j k)) (past_white l.bytes)) (part_between quote (l.at + lead is_white l.bytes) 0 (text ++ gap j k) (length (text ++ gap j k)) (past_white l.bytes)) (λ i u f. r u i 0 f) g
 
 -- a line's first byte or none of it stands before the fault
 pub on_lower : (one_line : Bool) (size : ℕ) (l : Line) (ls : List Line) (n p : ℕ) → l.at < size → Later l.at ls → n ≤ length l.bytes → n ≤ 1 → quoted_on one_line size (l ∷ ls) ≡ Fails p → l.at + n ≤ p

@@ -3,12 +3,14 @@ use Rattle.std.proofs.Common.{◌≡◌, ℕ, suc, ◌+◌, ◌<◌, ◌≤◌, 
 use Rattle.std.specs.Prelude.{nat_eq, nat_lt, ◌||◌, ◌&&◌}
 use Rattle.std.proofs.lemmas.List.{nil_from_length}
 use Rattle.yaml_scalars.specs.declared.scalar.Setting.{Setting}
-use Rattle.yaml_scalars.specs.Lines.{Line, Outcome, Stands, Fails, Documents, begins_with, is_white, is_blank, is_mark, lead, past_white, lines}
+use Rattle.yaml_scalars.specs.Lines.{Line, Outcome, Stands, Fails, Documents, begins_with, is_white, is_blank, is_mark, is_cut_mark, lead, past_white, lines}
 use Rattle.yaml_scalars.specs.Quoted.{Part, Closed, Open, Joined, Returned, Refused, line_part, gap, behind_part, key_part, quoted_more, quoted_on}
 use Rattle.yaml_scalars.specs.Scalar.{begins_quoted, quoted_scalar}
 use Rattle.yaml_scalars.specs.Walk.{line_at, has_break, behind}
 use Rattle.yaml_scalars.proofs.Places.{lines_are}
 use Rattle.yaml_scalars.proofs.Agree.{SameAhead, Later, SplitAt, Shares, behind_later, texts_share, drop_before, drop_size}
+use Rattle.yaml_scalars.proofs.BlockHeads.{cases}
+use Rattle.yaml_scalars.proofs.PlainLaw.{three}
 use Rattle.yaml_scalars.proofs.QuotedBounds.{IsBetween, part_between, more_later, on_lower}
 use Rattle.yaml_scalars.proofs.QuotedDead.{IsAt, IsFailing, part_dead}
 use Rattle.yaml_scalars.proofs.QuotedRuns.{quote_is, quote_ahead}
@@ -86,6 +88,37 @@ split_dead quote p at l m text (f, x, y, el, em, e, s) between h = by_front (is_
 abbrev starts : Line → Bool
 starts l = is_mark l.bytes && (l.broken || nat_lt 3 (length l.bytes))
 
+-- lines that agree up to the carriage return that cuts a mark: the other is cut, too, or a mark of three bytes
+cut_tests : (d e f g : Bool) → (d && (e && (f && g))) ≡ true → (d ≡ true) × (e ≡ true) × (f ≡ true) × (g ≡ true)
+cut_tests true true true g k = (refl, refl, refl, k)
+cut_tests true true false g k = absurd (cc)
+cut_tests true false f g k = absurd (cc)
+cut_tests false e f g k = absurd (cc)
+
+all_tests : (d e f : Bool) → d ≡ true → e ≡ true → f ≡ true → (d && (e && (f && true))) ≡ true
+all_tests true true true x y z = refl
+all_tests false e f x y z = absurd (cc)
+all_tests true false f x y z = absurd (cc)
+all_tests true true false x y z = absurd (cc)
+
+cut_split : (l m : List ℕ) (at p : ℕ) → is_cut_mark l ≡ true → at + 3 ≡ p → SplitAt p at l m → (is_cut_mark m ≡ true) ⊎ ((is_mark m ≡ true) × (length m ≡ 3))
+cut_split [] m at p c e sp = absurd (cc)
+cut_split (a ∷ []) m at p c e sp = absurd (cc)
+cut_split (a ∷ b ∷ []) m at p c e sp = absurd (cc)
+cut_split (a ∷ b ∷ d ∷ r) m at p c e sp =
+    let k = cut_tests (nat_eq a 45 || nat_eq a 46) (nat_eq a b) (nat_eq a d) (begins_with 13 r) c in
+    let t = three sp.0 sp.1 r a b d at sp.3 (omega (arith, sp.5, e)) in
+    let other : m ≡ a ∷ b ∷ d ∷ sp.2 = sp.4 ∙ ap (λ z. z ++ sp.2) t.0 in
+    by_ahead sp.2 other (subst (λ z. SameAhead z sp.2) (sym t.1) sp.6) k.0 k.1 k.2 k.3 where
+      by_ahead : (y : List ℕ) → m ≡ a ∷ b ∷ d ∷ y → SameAhead r y → (nat_eq a 45 || nat_eq a 46) ≡ true → nat_eq a b ≡ true → nat_eq a d ≡ true → begins_with 13 r ≡ true → (is_cut_mark m ≡ true) ⊎ ((is_mark m ≡ true) × (length m ≡ 3))
+      by_ahead y o (inl s) f g h i =
+          let z : begins_with 13 y ≡ true = ap (begins_with 13) s.4 ∙ sym (ap (begins_with 13) s.3) ∙ i in
+          inl (ap is_cut_mark o ∙ ap (λ q. (nat_eq a 45 || nat_eq a 46) && (nat_eq a b && (nat_eq a d && q))) z ∙ all_tests (nat_eq a 45 || nat_eq a 46) (nat_eq a b) (nat_eq a d) f g h)
+      by_ahead [] o (inr s) f g h i = inr (ap is_mark o ∙ all_tests (nat_eq a 45 || nat_eq a 46) (nat_eq a b) (nat_eq a d) f g h, ap (λ (t : List ℕ). length t) o)
+      by_ahead (c ∷ y) o (inr s) f g h i =
+          let z : begins_with 13 (c ∷ y) ≡ true = ap (λ (c : ℕ). nat_eq c 13) s.1 in
+          inl (ap is_cut_mark o ∙ ap (λ q. (nat_eq a 45 || nat_eq a 46) && (nat_eq a b && (nat_eq a d && q))) z ∙ all_tests (nat_eq a 45 || nat_eq a 46) (nat_eq a b) (nat_eq a d) f g h)
+
 more_dead : (quote p size other : ℕ) (ls ms : List Line) (text : List ℕ) (j : Bool) (k : ℕ) (u : List ℕ) (e : ℕ) → p < size → Shares p ls ms → quoted_more quote size ls text j k ≡ Fails p → quoted_more quote other ms text j k ≡ Stands u e → ⊥
 more_dead quote p size other [] ms text j k u e s sh h g = sh
 more_dead quote p size other (l ∷ ls) [] text j k u e s sh h g = sh
@@ -94,41 +127,64 @@ more_dead quote p size other (l ∷ ls) (m ∷ ms) text j k u e s sh h g = by_sh
   later x i n a b = let c = more_later quote size p ls x i n p s a b in omega arith
 
   -- the same line
-  same : (q w : Bool) (r : Part) (n : Line) → ((x : List ℕ) (i : Bool) (n : ℕ) → quoted_more quote size ls x i n ≡ Fails p → quoted_more quote other ms x i n ≡ Stands u e → ⊥)
-      → cond q (Documents n.at) (cond w (quoted_more quote size ls text j (suc k)) (behind_part r (λ i t. quoted_more quote size ls t i 0))) ≡ Fails p
-      → cond q (Documents n.at) (cond w (quoted_more quote other ms text j (suc k)) (behind_part r (λ i t. quoted_more quote other ms t i 0))) ≡ Stands u e → ⊥
-  same true w r n f a b = cc
-  same false true r n f a b = f text j (suc k) a b
-  same false false (Closed t end) n f a b = cc
-  same false false (Open t) n f a b = f t false 0 a b
-  same false false (Joined t) n f a b = f t true 0 a b
-  same false false (Returned at) n f a b = cc
-  same false false (Refused at) n f a b = cc
+  same : (q c w : Bool) (r : Part) (n : Line) → ((x : List ℕ) (i : Bool) (n : ℕ) → quoted_more quote size ls x i n ≡ Fails p → quoted_more quote other ms x i n ≡ Stands u e → ⊥)
+      → cond q (Documents n.at) (cond c (Fails (n.at + 3)) (cond w (quoted_more quote size ls text j (suc k)) (behind_part r (λ i t. quoted_more quote size ls t i 0)))) ≡ Fails p
+      → cond q (Documents n.at) (cond c (Fails (n.at + 3)) (cond w (quoted_more quote other ms text j (suc k)) (behind_part r (λ i t. quoted_more quote other ms t i 0)))) ≡ Stands u e → ⊥
+  same true c w r n f a b = cc
+  same false true w r n f a b = cc
+  same false false true r n f a b = f text j (suc k) a b
+  same false false false (Closed t end) n f a b = cc
+  same false false false (Open t) n f a b = f t false 0 a b
+  same false false false (Joined t) n f a b = f t true 0 a b
+  same false false false (Returned at) n f a b = cc
+  same false false false (Refused at) n f a b = cc
 
   -- a line that the place splits
-  shown : (q w : Bool) → Later p ls → cond q (Documents l.at) (cond w (quoted_more quote size ls text j (suc k)) (behind_part (part_of quote l.at l.bytes (text ++ gap j k)) (λ i t. quoted_more quote size ls t i 0))) ≡ Fails p
+  shown : (q d w : Bool) → d ≡ false → Later p ls → cond q (Documents l.at) (cond d (Fails (l.at + 3)) (cond w (quoted_more quote size ls text j (suc k)) (behind_part (part_of quote l.at l.bytes (text ++ gap j k)) (λ i t. quoted_more quote size ls t i 0)))) ≡ Fails p
       → (x : List ℕ) → IsAt false p x (part_of quote l.at l.bytes (text ++ gap j k))
-  shown true w a b x = absurd (cc)
-  shown false true a b x = absurd (later text j (suc k) a b)
-  shown false false a b x = elim (part_fails (part_of quote l.at l.bytes (text ++ gap j k)) (λ i t. quoted_more quote size ls t i 0) p x b) [
+  shown true d w c a b x = absurd (cc)
+  shown false true w c a b x = absurd (cc)
+  shown false false true c a b x = absurd (later text j (suc k) a b)
+  shown false false false c a b x = elim (part_fails (part_of quote l.at l.bytes (text ++ gap j k)) (λ i t. quoted_more quote size ls t i 0) p x b) [
     | inl c ↦ c
     | inr c ↦ absurd (later c.1 c.0 0 a c.2)
   ]
 
-  other_line : (q w : Bool) (at : ℕ) (r : Part) → w ≡ false → IsFailing false r → cond q (Documents at) (cond w (quoted_more quote other ms text j (suc k)) (behind_part r (λ i t. quoted_more quote other ms t i 0))) ≡ Stands u e → ⊥
-  other_line true w at r c f b = cc
-  other_line false true at r c f b = cc
-  other_line false false at r c f b = failing r (λ i t. quoted_more quote other ms t i 0) u e f b
+  other_line : (q d w : Bool) (at : ℕ) (r : Part) → w ≡ false → IsFailing false r → cond q (Documents at) (cond d (Fails (at + 3)) (cond w (quoted_more quote other ms text j (suc k)) (behind_part r (λ i t. quoted_more quote other ms t i 0)))) ≡ Stands u e → ⊥
+  other_line true d w at r c f b = cc
+  other_line false true w at r c f b = cc
+  other_line false false true at r c f b = cc
+  other_line false false false at r c f b = failing r (λ i t. quoted_more quote other ms t i 0) u e f b
+
+  -- behind the bytes of a mark: the other line is one, or has a carriage return there
+  starts_or_cut : (q d w : Bool) (r : Part) → (q ≡ true) ⊎ (d ≡ true) → cond q (Documents m.at) (cond d (Fails (m.at + 3)) (cond w (quoted_more quote other ms text j (suc k)) (behind_part r (λ i t. quoted_more quote other ms t i 0)))) ≡ Stands u e → ⊥
+  starts_or_cut true d w r h b = cc
+  starts_or_cut false true w r h b = cc
+  starts_or_cut false false w r (inl h) b = cc
+  starts_or_cut false false w r (inr h) b = cc
+
+  first_cut : (q d w : Bool) (r : Part) → d ≡ true → cond q (Documents l.at) (cond d (Fails (l.at + 3)) (cond w (quoted_more quote size ls text j (suc k)) (behind_part r (λ i t. quoted_more quote size ls t i 0)))) ≡ Fails p → l.at + 3 ≡ p
+  first_cut true d w r c a = absurd (cc)
+  first_cut false true w r c a = cc
+  first_cut false false w r c a = absurd (cc)
+
+  cut_line : is_cut_mark l.bytes ≡ true → SplitAt p l.at l.bytes m.bytes → (l.at + length m.bytes ≡ p → m.broken ≡ true) → (starts m ≡ true) ⊎ (is_cut_mark m.bytes ≡ true)
+  cut_line c sp whole =
+      let at3 = first_cut (starts l) (is_cut_mark l.bytes) (is_blank l.bytes) (part_of quote l.at l.bytes (text ++ gap j k)) c h in
+      elim (cut_split l.bytes m.bytes l.at p c at3 sp) [
+        | inl i ↦ inr i
+        | inr i ↦ inl (ap (λ q. q && (m.broken || nat_lt 3 (length m.bytes))) i.0 ∙ ap (λ q. q || nat_lt 3 (length m.bytes)) (whole (omega (arith, i.1, at3))))
+      ]
 
   by_shares : Shares p (l ∷ ls) (m ∷ ms) → ((x : List ℕ) (y : Bool) (z : ℕ) → Shares p ls ms → quoted_more quote size ls x y z ≡ Fails p → quoted_more quote other ms x y z ≡ Stands u e → ⊥) → ⊥
   by_shares (inl q) r =
-      same (starts l) (is_blank l.bytes) (part_of quote l.at l.bytes (text ++ gap j k)) l (λ x i n a b. r x i n q.1 a b) h
+      same (starts l) (is_cut_mark l.bytes) (is_blank l.bytes) (part_of quote l.at l.bytes (text ++ gap j k)) l (λ x i n a b. r x i n q.1 a b) h
       (subst (λ (m : Line). quoted_more quote other (m ∷ ms) text j k ≡ Stands u e) (sym q.0) g)
-  by_shares (inr (inl q)) r =
-      let d = split_dead quote p l.at l.bytes m.bytes (text ++ gap j k) q.1 (part_between quote (l.at + lead is_white l.bytes) 0 (text ++ gap j k) (length (text ++ gap j k)) (past_white l.bytes)) (shown (starts l) (is_blank l.bytes) q.2 h) in
-      other_line (starts m) (is_blank m.bytes) m.at (part_of quote m.at m.bytes (text ++ gap j k)) d.0 (subst (λ a. IsFailing false (part_of quote a m.bytes (text ++ gap j k))) q.0 d.1) g
+  by_shares (inr (inl q)) r = cases (is_cut_mark l.bytes) (λ c. starts_or_cut (starts m) (is_cut_mark m.bytes) (is_blank m.bytes) (part_of quote m.at m.bytes (text ++ gap j k)) (cut_line c q.1 q.3) g) (λ c.
+      let d = split_dead quote p l.at l.bytes m.bytes (text ++ gap j k) q.1 (part_between quote (l.at + lead is_white l.bytes) 0 (text ++ gap j k) (length (text ++ gap j k)) (past_white l.bytes)) (shown (starts l) (is_cut_mark l.bytes) (is_blank l.bytes) c q.2 h) in
+      other_line (starts m) (is_cut_mark m.bytes) (is_blank m.bytes) m.at (part_of quote m.at m.bytes (text ++ gap j k)) d.0 (subst (λ a. IsFailing false (part_of quote a m.bytes (text ++ gap j k))) q.0 d.1) g)
   by_shares (inr (inr q)) r =
-      same (starts l) (is_blank l.bytes) (part_of quote l.at l.bytes (text ++ gap j k)) l (λ x i n a b. later x i n q.2 a) h
+      same (starts l) (is_cut_mark l.bytes) (is_blank l.bytes) (part_of quote l.at l.bytes (text ++ gap j k)) l (λ x i n a b. later x i n q.2 a) h
       (subst (λ (m : Line). quoted_more quote other (m ∷ ms) text j k ≡ Stands u e) (sym q.0) g)
 
 -- where the scalar begins
@@ -174,7 +230,7 @@ on_dead one p size other l m ls ms u e s first (inl q) h g =
 on_dead one p size other l m ls ms u e s first (inr (inr q)) h g =
     same_part one (line_part (quote_of l.bytes) (suc l.at) 0 [] 0 (drop 1 l.bytes)) (l.at + length l.bytes) p u e (λ j t. quoted_more (quote_of l.bytes) size ls t j 0) (λ j t. quoted_more (quote_of l.bytes) other ms t j 0)
     (λ j t a b. let z = more_later (quote_of l.bytes) size p ls t j 0 p s q.2 a in omega arith) h (subst (λ (m : Line). quoted_on one other (m ∷ ms) ≡ Stands u e) (sym q.0) g)
-on_dead one p size other l m ls ms u e s first (inr (inl (at, (f, x, y, el, em, place, same), later))) h g =
+on_dead one p size other l m ls ms u e s first (inr (inl (at, (f, x, y, el, em, place, same), later, whole))) h g =
     by_front f el em place (subst (λ (b : List ℕ). quoted_on one size (record { at = l.at; bytes = b; broken = l.broken } ∷ ls) ≡ Fails p) el h) (subst (λ (b : List ℕ). quoted_on one other (record { at = m.at; bytes = b; broken = m.broken } ∷ ms) ≡ Stands u e) em g) where
       by_front : (f : List ℕ) → l.bytes ≡ f ++ x → m.bytes ≡ f ++ y → l.at + length f ≡ p → quoted_on one size (record { at = l.at; bytes = f ++ x; broken = l.broken } ∷ ls) ≡ Fails p → quoted_on one other (record { at = m.at; bytes = f ++ y; broken = m.broken } ∷ ms) ≡ Stands u e → ⊥
       by_front [] a b c d k = omega arith

@@ -3,7 +3,7 @@ use Rattle.std.proofs.Common.{◌≡◌, ℕ, zero, suc, ◌+◌, ◌-◌, ◌<�
 use Rattle.std.specs.Prelude.{nat_eq, nat_lt, ◌||◌, ◌&&◌}
 use Rattle.std.proofs.lemmas.Bool.Decides.{nat_tests}
 use Rattle.std.proofs.lemmas.List.{drop-drop, get_or-drop}
-use Rattle.yaml_scalars.specs.Lines.{Outcome, Fails, Documents, begins_with, is_white, is_blank, is_mark, is_end, lead, past_white, each, lines}
+use Rattle.yaml_scalars.specs.Lines.{Outcome, Fails, Documents, begins_with, is_white, is_blank, is_mark, is_cut_mark, is_end, lead, past_white, each, lines}
 use Rattle.yaml_scalars.specs.Quoted.{line_part, behind_part, quoted_more, gap}
 use Rattle.yaml_scalars.specs.QuotedSteps.{from, past, below, lines_below}
 use Rattle.yaml_scalars.specs.Walk.{line_at, has_break, behind}
@@ -59,6 +59,15 @@ blank_no_mark (a ∷ b ∷ c ∷ xs) h = by_white (is_white a) h (λ e. white_no
   by_white true e f = ap (λ q. q && (nat_eq a b && (nat_eq a c && is_end xs))) (f refl)
   by_white false e f = absurd (cc)
 
+blank_no_cut : (xs : List ℕ) → is_blank xs ≡ true → is_cut_mark xs ≡ false
+blank_no_cut [] h = refl
+blank_no_cut (a ∷ []) h = refl
+blank_no_cut (a ∷ b ∷ []) h = refl
+blank_no_cut (a ∷ b ∷ c ∷ xs) h = by_white (is_white a) h (λ e. white_no_mark a e) where
+  by_white : (q : Bool) → cond q (each is_white (b ∷ c ∷ xs)) false ≡ true → (q ≡ true → (nat_eq a 45 || nat_eq a 46) ≡ false) → ((nat_eq a 45 || nat_eq a 46) && (nat_eq a b && (nat_eq a c && begins_with 13 xs))) ≡ false
+  by_white true e f = ap (λ q. q && (nat_eq a b && (nat_eq a c && begins_with 13 xs))) (f refl)
+  by_white false e f = absurd (cc)
+
 module _ (quote : ℕ) (bytes : List ℕ) (line : ℕ) (text : List ℕ) (joined : Bool) (k : ℕ) where
   starts : Bool
   starts = is_mark (line_at (drop line bytes)) && (has_break (drop line bytes) || nat_lt 3 (length (line_at (drop line bytes))))
@@ -69,7 +78,7 @@ module _ (quote : ℕ) (bytes : List ℕ) (line : ℕ) (text : List ℕ) (joined
   added : Outcome
   added = behind_part (line_part quote (line + lead is_white (line_at (drop line bytes))) 0 (text ++ gap joined k) (length (text ++ gap joined k)) (past_white (line_at (drop line bytes)))) (λ j t. quoted_more quote (length bytes) (behind line (drop line bytes)) t j 0)
 
-  below_is : below quote bytes line text joined k ≡ cond starts (Documents line) (cond (is_blank (line_at (drop line bytes))) passed added)
+  below_is : below quote bytes line text joined k ≡ cond starts (Documents line) (cond (is_cut_mark (line_at (drop line bytes))) (Fails (line + 3)) (cond (is_blank (line_at (drop line bytes))) passed added))
   unfolding below starts passed added
   below_is = ap (λ ls. quoted_more quote (length bytes) ls text joined k) (lines_are line (drop line bytes))
 
@@ -79,7 +88,8 @@ module _ (quote : ℕ) (bytes : List ℕ) (line : ℕ) (text : List ℕ) (joined
 
   blank_is : is_blank (line_at (drop line bytes)) ≡ true → below quote bytes line text joined k ≡ passed
   blank_is h =
-      below_is ∙ ap (λ q. cond q (Documents line) (cond (is_blank (line_at (drop line bytes))) passed added)) (no_start (blank_no_mark (line_at (drop line bytes)) h)) ∙ ap (λ q. cond q passed added) h
+      below_is ∙ ap (λ q. cond q (Documents line) (cond (is_cut_mark (line_at (drop line bytes))) (Fails (line + 3)) (cond (is_blank (line_at (drop line bytes))) passed added))) (no_start (blank_no_mark (line_at (drop line bytes)) h))
+      ∙ ap (λ q. cond q (Fails (line + 3)) (cond (is_blank (line_at (drop line bytes))) passed added)) (blank_no_cut (line_at (drop line bytes)) h) ∙ ap (λ q. cond q passed added) h
 
   -- a blank line is passed over
   pub below_blank : (next : ℕ) → is_blank (line_at (drop line bytes)) ≡ true → behind line (drop line bytes) ≡ lines next (drop next bytes) → below quote bytes line text joined k ≡ below quote bytes next text joined (k + 1)
@@ -96,17 +106,22 @@ module _ (quote : ℕ) (bytes : List ℕ) (line : ℕ) (text : List ℕ) (joined
   -- a mark begins a document
   pub below_mark : (is_mark (line_at (drop line bytes)) && (has_break (drop line bytes) || nat_lt 3 (length (line_at (drop line bytes))))) ≡ true → below quote bytes line text joined k ≡ Documents line
   unfolding starts
-  below_mark h = below_is ∙ ap (λ q. cond q (Documents line) (cond (is_blank (line_at (drop line bytes))) passed added)) h
+  below_mark h = below_is ∙ ap (λ q. cond q (Documents line) (cond (is_cut_mark (line_at (drop line bytes))) (Fails (line + 3)) (cond (is_blank (line_at (drop line bytes))) passed added))) h
+
+  -- a carriage return behind the bytes of one shows its fault
+  pub below_cut : (is_mark (line_at (drop line bytes)) && (has_break (drop line bytes) || nat_lt 3 (length (line_at (drop line bytes))))) ≡ false → is_cut_mark (line_at (drop line bytes)) ≡ true → below quote bytes line text joined k ≡ Fails (line + 3)
+  unfolding starts
+  below_cut h c = below_is ∙ ap (λ q. cond q (Documents line) (cond (is_cut_mark (line_at (drop line bytes))) (Fails (line + 3)) (cond (is_blank (line_at (drop line bytes))) passed added))) h ∙ ap (λ q. cond q (Fails (line + 3)) (cond (is_blank (line_at (drop line bytes))) passed added)) c
 
   -- any other line goes on behind its white space
-  pub below_text : (is_mark (line_at (drop line bytes)) && (has_break (drop line bytes) || nat_lt 3 (length (line_at (drop line bytes))))) ≡ false → is_blank (line_at (drop line bytes)) ≡ false → below quote bytes line text joined k ≡ from quote false bytes (line + lead is_white (line_at (drop line bytes))) (text ++ gap joined k)
+  pub below_text : (is_mark (line_at (drop line bytes)) && (has_break (drop line bytes) || nat_lt 3 (length (line_at (drop line bytes))))) ≡ false → is_cut_mark (line_at (drop line bytes)) ≡ false → is_blank (line_at (drop line bytes)) ≡ false → below quote bytes line text joined k ≡ from quote false bytes (line + lead is_white (line_at (drop line bytes))) (text ++ gap joined k)
   unfolding starts added from
-  below_text h g =
+  below_text h c g =
       let xs = drop line bytes in
       let n = lead is_white (line_at xs) in
       let t = text ++ gap joined k in
       let l = lead_le is_white (line_at xs) in
-      below_is ∙ ap (λ q. cond q (Documents line) (cond (is_blank (line_at xs)) passed added)) h ∙ ap (λ q. cond q passed added) g
+      below_is ∙ ap (λ q. cond q (Documents line) (cond (is_cut_mark (line_at xs)) (Fails (line + 3)) (cond (is_blank (line_at xs)) passed added))) h ∙ ap (λ q. cond q (Fails (line + 3)) (cond (is_blank (line_at xs)) passed added)) c ∙ ap (λ q. cond q passed added) g
       ∙ ap₂ (λ part ls. behind_part (line_part quote (line + n) 0 t (length t) part) (λ j s. quoted_more quote (length bytes) ls s j 0))
       (line_drop n xs l ∙ ap line_at (drop-drop n line bytes))
       (behind_drop n line xs l ∙ ap (behind (line + n)) (drop-drop n line bytes))

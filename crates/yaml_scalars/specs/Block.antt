@@ -120,9 +120,13 @@ abbrev pub mark_len : List ℕ → ℕ
 mark_len [] = 0
 mark_len (b ∷ bs) = if nat_eq b 45 || nat_eq b 46 then suc (same b 2 bs) else 0
 
--- the number of bytes before the one that shows that a line is neither blank nor a mark; in a carriage return it is the byte behind it
+-- a line's end may stand behind no byte of a mark and behind all three, where it makes a blank line or a mark
+abbrev pub may_end : ℕ → Bool
+may_end k = nat_eq k 0 || nat_eq k 3
+
+-- the number of bytes before the one that shows that a line is neither blank nor a mark; in a carriage return where the line may end it is the byte behind it
 abbrev pub shown : List ℕ → ℕ
-shown bytes = let n : ℕ = lead is_white bytes + mark_len bytes in if begins_with 13 (drop n bytes) then suc n else n
+shown bytes = let n : ℕ = lead is_white bytes + mark_len bytes in if begins_with 13 (drop n bytes) && may_end (mark_len bytes) then suc n else n
 
 -- the indentation of the content, where no digit gives it: that of the first line that isn't blank, if it is above the parent's. A blank line before it, the widest with so many spaces, may not have more.
 pub data Inner : Type 0 where

@@ -46,6 +46,12 @@ abbrev pub lead : (ℕ → Bool) → List ℕ → ℕ
 lead p [] = 0
 lead p (b ∷ bs) = if p b then suc (lead p bs) else 0
 
+-- whether bytes end with this one
+abbrev pub ends_with : ℕ → List ℕ → Bool
+ends_with c [] = false
+ends_with c (b ∷ []) = nat_eq b c
+ends_with c (b ∷ d ∷ bs) = ends_with c (d ∷ bs)
+
 -- each of the bytes passes
 abbrev pub each : (ℕ → Bool) → List ℕ → Bool
 each p [] = true
@@ -84,6 +90,13 @@ is_mark (a ∷ b ∷ c ∷ rest) = (nat_eq a 45 || nat_eq a 46) && (nat_eq a b &
 is_mark (a ∷ b ∷ []) = false
 is_mark (a ∷ []) = false
 is_mark [] = false
+
+-- the same three bytes and then a carriage return, which a line feed would make a mark
+abbrev pub is_cut_mark : List ℕ → Bool
+is_cut_mark (a ∷ b ∷ c ∷ rest) = (nat_eq a 45 || nat_eq a 46) && (nat_eq a b && (nat_eq a c && begins_with 13 rest))
+is_cut_mark (a ∷ b ∷ []) = false
+is_cut_mark (a ∷ []) = false
+is_cut_mark [] = false
 
 -- so many newlines
 abbrev pub newlines : ℕ → List ℕ

@@ -5,7 +5,7 @@ use Rattle.yaml_scalars.specs.declared.plain_line.Why.{Why}
 use Rattle.yaml_scalars.specs.declared.plain_line.Why.TheVariants.{Break, Return, Colon, Comment, Mark}
 use Rattle.yaml_scalars.specs.declared.plain_line.Below.{Below}
 use Rattle.yaml_scalars.specs.declared.plain_line.Below.TheVariants.{Blank, Outside, Further}
-use Rattle.yaml_scalars.specs.Lines.{Line, Outcome, Stands, Fails, begins_with, is_white, lead, is_blank, indent, past_white, trimmed, is_mark, fold}
+use Rattle.yaml_scalars.specs.Lines.{Line, Outcome, Stands, Fails, begins_with, ends_with, is_white, lead, is_blank, indent, past_white, trimmed, is_mark, is_cut_mark, fold}
 
 -- the least indentation above the parent's, which is -1 at the top
 abbrev pub above_of : ℤ → ℕ
@@ -29,10 +29,10 @@ abbrev pub is_unsafe : Bool → List ℕ → Bool
 is_unsafe flow [] = true
 is_unsafe flow (b ∷ bs) = is_white b || (flow && is_flow_mark b)
 
--- `ns-plain-first` (126): a plain scalar begins with no white space and no indicator, and with - ? : only before a byte that is safe
+-- `ns-plain-first` (126): a plain scalar begins with no white space and no indicator, and with - ? : only before a byte that is safe. A carriage return is none: in a break it would end the line, and else no scalar has it.
 abbrev pub begins_plain : Bool → List ℕ → Bool
 begins_plain flow [] = false
-begins_plain flow (b ∷ bs) = not (is_white b || is_indicator b || nat_eq b 13) && (not (is_doubtful b) || not (is_unsafe flow bs))
+begins_plain flow (b ∷ bs) = not (is_white b || is_indicator b || nat_eq b 13) && (not (is_doubtful b) || not (is_unsafe flow bs || begins_with 13 bs))
 
 -- the place that shows that no plain scalar begins: the first byte, or behind - ? : the next one
 abbrev pub wrong_begin : ℕ → List ℕ → ℕ
@@ -89,11 +89,15 @@ ends_on flow part at text end k = if nat_eq (plain_len flow false part) 0 then S
 abbrev pub stop_behind : Bool → List ℕ → ℕ → ℕ
 stop_behind flow part at = at + plain_len flow false part + 1
 
+-- the place at which a carriage return shows that a further line fails: behind it, where a line feed could stand; but in block behind a `:`, where a break would make the line a key, at it
+abbrev pub return_shown : Bool → List ℕ → ℕ → ℕ
+return_shown flow part at = if not flow && ends_with 58 (take (plain_len flow false part) part) then at + plain_len flow false part else stop_behind flow part at
+
 -- a further line: the scalar goes on behind it or ends on it. In block a `:` makes the line a key, which no plain scalar of several lines is.
 abbrev pub joins : Bool → Why → List ℕ → ℕ → List ℕ → ℕ → ℕ → (List ℕ → ℕ → ℕ → Outcome) → Outcome
 joins flow Break part at text end k next = next (joined flow part text k) (content_end flow part at) 0
 joins flow Comment part at text end k next = Stands (joined flow part text k) (content_end flow part at)
-joins flow Return part at text end k next = Fails (stop_behind flow part at)
+joins flow Return part at text end k next = Fails (return_shown flow part at)
 joins flow Colon part at text end k next = if flow then ends_on flow part at text end k else Fails (stop_behind flow part at)
 joins flow Mark part at text end k next = ends_on flow part at text end k
 
@@ -115,9 +119,9 @@ first s Colon at bytes ls = Stands (content s.flow bytes) (content_end s.flow by
 first s Comment at bytes ls = Stands (content s.flow bytes) (content_end s.flow bytes at)
 first s Mark at bytes ls = Stands (content s.flow bytes) (content_end s.flow bytes at)
 
--- the plain scalar where these lines begin; `fresh` where that is a first column, at which no mark is a scalar
+-- the plain scalar where these lines begin; `fresh` where that is a first column, at which no mark is a scalar, and a carriage return behind one makes none of it
 abbrev pub plain_on : Setting → Bool → List Line → Outcome
 plain_on s fresh [] = Fails 0
 plain_on s fresh (l ∷ ls) =
-    if fresh && is_mark l.bytes then Fails (l.at + 3) else
+    if fresh && (is_mark l.bytes || is_cut_mark l.bytes) then Fails (l.at + 3) else
     (if begins_plain s.flow l.bytes then first s (reason s.flow l.bytes) l.at l.bytes ls else Fails (wrong_begin l.at l.bytes))

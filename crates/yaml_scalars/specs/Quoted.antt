@@ -1,6 +1,8 @@
 -- Quoted scalars, YAML 1.2.2, sections 7.3.1 and 7.3.2, over lines.
-use Rattle.std.specs.Prelude.{ℕ, zero, suc, ◌+◌, ◌-◌, ◌*◌, Bool, true, false, ◌||◌, ◌&&◌, List, [], ◌∷◌, ◌++◌, Option, Some, None, length, take, drop, nat_eq, nat_lt, nat_le, encode_utf8, if◌then◌else◌}
-use Rattle.yaml_scalars.specs.Lines.{Line, Outcome, Stands, Fails, Documents, begins_with, is_white, is_blank, lead, past_white, is_mark, newlines, fold}
+use Rattle.std.specs.Prelude.{ℕ, zero, suc, ◌+◌, ◌-◌, ◌*◌, Bool, true, false, ◌||◌, ◌&&◌, not, List, [], ◌∷◌, ◌++◌, Option, Some, None, length, take, drop, nat_eq, nat_lt, nat_le, encode_utf8, if◌then◌else◌}
+use Rattle.yaml_scalars.specs.declared.escape.Wanted.{Wanted}
+use Rattle.yaml_scalars.specs.declared.escape.Wanted.TheVariants.{Character, FirstUnit, SecondUnit}
+use Rattle.yaml_scalars.specs.Lines.{Line, Outcome, Stands, Fails, Documents, begins_with, is_white, is_blank, lead, past_white, is_mark, is_cut_mark, newlines, fold}
 
 -- what a byte of a quoted scalar is, by the bytes behind it on its line: itself; the closing quote; with so many bytes behind it another text; a backslash at the line's end; a carriage return, so many bytes behind it; or no part of a scalar, as shows so many bytes behind it
 pub data Piece : Type 0 where
@@ -19,15 +21,10 @@ is_hex b = (nat_le 48 b && nat_le b 57) || (nat_le 65 b && nat_le b 70) || (nat_
 abbrev pub hex : ℕ → ℕ
 hex b = if nat_le b 57 then b - 48 else (if nat_le b 70 then b - 55 else b - 87)
 
--- the number that so many hexadecimal digits spell, or how many bytes come before the one that is none
+-- the number that so many hexadecimal digits spell, or how many bytes come before the one that shows that they spell none
 pub data Digits : Type 0 where
   Number : (n : ℕ) → Digits
   Short : (count : ℕ) → Digits
-
-abbrev pub digits : ℕ → ℕ → ℕ → List ℕ → Digits
-digits zero n count bs = Number n
-digits (suc k) n count [] = Short count
-digits (suc k) n count (b ∷ bs) = if is_hex b then digits k (n * 16 + hex b) (suc count) bs else Short count
 
 -- Unicode, section 3.8: high surrogates are D800 to DBFF, low ones DC00 to DFFF
 abbrev pub is_high : ℕ → Bool
@@ -36,29 +33,49 @@ is_high n = nat_le 55296 n && nat_lt n 56320
 abbrev pub is_low : ℕ → Bool
 is_low n = nat_le 56320 n && nat_lt n 57344
 
--- a character in UTF-8, of so many bytes behind the backslash; a surrogate or a number above 10FFFF is none
-abbrev pub character : ℕ → ℕ → Piece
-character taken n = if is_high n || is_low n || nat_lt 1114111 n then Wrong taken else Means taken (encode_utf8 n)
+-- a surrogate or a number above 10FFFF is no character
+abbrev pub is_character : ℕ → Bool
+is_character n = not (is_high n || is_low n || nat_lt 1114111 n)
+
+-- the least and the greatest number that so many more digits make of one
+abbrev pub least : ℕ → ℕ → ℕ
+least zero n = n
+least (suc k) n = least k (n * 16)
+
+abbrev pub greatest : ℕ → ℕ → ℕ
+greatest zero n = n
+greatest (suc k) n = greatest k (n * 16 + 15)
+
+-- whether so many more digits make of a number one that is wanted: a character, a unit that is no low surrogate, or a low surrogate. If any of these numbers is wanted, so is the least of them, and of low surrogates the greatest.
+abbrev pub may_go_on : Wanted → ℕ → ℕ → Bool
+may_go_on Character k n = is_character (least k n)
+may_go_on FirstUnit k n = not (is_low (least k n))
+may_go_on SecondUnit k n = is_low (greatest k n)
+
+abbrev pub digits : Wanted → ℕ → ℕ → ℕ → List ℕ → Digits
+digits w zero n count bs = Number n
+digits w (suc k) n count [] = Short count
+digits w (suc k) n count (b ∷ bs) = if is_hex b && may_go_on w k (n * 16 + hex b) then digits w k (n * 16 + hex b) (suc count) bs else Short count
 
 -- `ns-esc-8-bit` (59) and `ns-esc-32-bit` (61): x with two digits, U with eight
 abbrev pub of_digits : ℕ → Digits → Piece
-of_digits taken (Number n) = character taken n
+of_digits taken (Number n) = Means taken (encode_utf8 n)
 of_digits taken (Short count) = Wrong (suc count)
 
 -- the second of two surrogates, which together spell one character (Unicode, section 3.8)
 abbrev pub of_low : ℕ → Digits → Piece
-of_low high (Number n) = if is_low n then Means 11 (encode_utf8 (65536 + (high - 55296) * 1024 + (n - 56320))) else Wrong 11
+of_low high (Number n) = Means 11 (encode_utf8 (65536 + (high - 55296) * 1024 + (n - 56320)))
 of_low high (Short count) = Wrong (suc count)
 
 -- behind a high surrogate stands the escape of a low one at once
 abbrev pub of_pair : ℕ → List ℕ → Piece
-of_pair high (v ∷ w ∷ bs) = if nat_eq v 92 then (if nat_eq w 117 then of_low high (digits 4 0 7 bs) else Wrong 7) else Wrong 6
+of_pair high (v ∷ w ∷ bs) = if nat_eq v 92 then (if nat_eq w 117 then of_low high (digits SecondUnit 4 0 7 bs) else Wrong 7) else Wrong 6
 of_pair high (v ∷ []) = if nat_eq v 92 then Wrong 7 else Wrong 6
 of_pair high [] = Wrong 6
 
 -- `ns-esc-16-bit` (60): u with four digits
 abbrev pub of_unit : Digits → List ℕ → Piece
-of_unit (Number n) behind = if is_high n then of_pair n behind else character 5 n
+of_unit (Number n) behind = if is_high n then of_pair n behind else Means 5 (encode_utf8 n)
 of_unit (Short count) behind = Wrong (suc count)
 
 -- `c-ns-esc-char` (62): the letters behind a backslash, and the character that each stands for
@@ -91,9 +108,9 @@ abbrev pub escape : List ℕ → Piece
 escape [] = Joins
 escape (b ∷ bs) =
     if nat_eq b 13 then Returns 1 else
-    (if nat_eq b 120 then of_digits 3 (digits 2 0 1 bs) else
-    (if nat_eq b 117 then of_unit (digits 4 0 1 bs) (drop 4 bs) else
-    (if nat_eq b 85 then of_digits 9 (digits 8 0 1 bs) else of_letter (letter b))))
+    (if nat_eq b 120 then of_digits 3 (digits Character 2 0 1 bs) else
+    (if nat_eq b 117 then of_unit (digits FirstUnit 4 0 1 bs) (drop 4 bs) else
+    (if nat_eq b 85 then of_digits 9 (digits Character 8 0 1 bs) else of_letter (letter b))))
 
 -- `nb-double-char` (107): all but the quote and the backslash stands for itself
 abbrev pub double : ℕ → List ℕ → Piece
@@ -142,13 +159,14 @@ behind_part (Joined text) next = next true text
 behind_part (Returned at) next = Fails (suc at)
 behind_part (Refused at) next = Fails at
 
--- the lines below the first; a text that ends here is too short
+-- the lines below the first; a text that ends here is too short. Behind the bytes of a mark no break could stand, so a carriage return there shows its fault itself.
 abbrev pub quoted_more : ℕ → ℕ → List Line → List ℕ → Bool → ℕ → Outcome
 quoted_more quote size [] text joined k = Fails size
 quoted_more quote size (l ∷ ls) text joined k =
     if is_mark l.bytes && (l.broken || nat_lt 3 (length l.bytes)) then Documents l.at else
+    (if is_cut_mark l.bytes then Fails (l.at + 3) else
     (if is_blank l.bytes then quoted_more quote size ls text joined (suc k) else
-    behind_part (line_part quote (l.at + lead is_white l.bytes) 0 (text ++ gap joined k) (length (text ++ gap joined k)) (past_white l.bytes)) (λ j t. quoted_more quote size ls t j 0))
+    behind_part (line_part quote (l.at + lead is_white l.bytes) 0 (text ++ gap joined k) (length (text ++ gap joined k)) (past_white l.bytes)) (λ j t. quoted_more quote size ls t j 0)))
 
 -- a key ends on its line: no break may stand in it
 abbrev pub key_part : Part → ℕ → Outcome

@@ -3,7 +3,7 @@ ghost use Rattle.std.specs.Prelude.{ℕ, ◌≡◌, ◌⊎◌, ◌+◌, ◌-◌,
 ghost use Rattle.std.specs.Str.{IsCharBoundary};
 ghost use Rattle.std.specs.Cow.{cow_str_bytes};
 ghost use Rattle.yaml_scalars.specs.Lines.{is_blank, lines};
-ghost use Rattle.yaml_scalars.specs.Block.{is_content, taken_off, joint, ending, inner_of, widest, mark_len, shown, base_of, by_digit};
+ghost use Rattle.yaml_scalars.specs.Block.{is_content, taken_off, joint, ending, inner_of, widest, mark_len, may_end, shown, base_of, by_digit};
 ghost use Rattle.yaml_scalars.specs.Plain.{above_of};
 ghost use Rattle.yaml_scalars.specs.Walk.{line_at, has_break, behind};
 ghost use Rattle.yaml_scalars.specs.BlockSteps.{chomp_seen, last_seen, inner_seen, wide_at, content_from, blank_from, text_more, last_more, count_more};
@@ -294,17 +294,25 @@ fn mark_len(bytes: &[u8], start: usize) -> usize
     3
 }
 
+/// Whether a line may end behind so many bytes of a mark.
+fn may_end(mark: usize) -> bool
+    ensures { result ≡ may_end mark }
+{
+    mark == 0 || mark == 3
+}
+
 /// The place of the byte that shows that a line is neither blank nor a mark.
 fn shown(bytes: &[u8], start: usize) -> usize
     requires { start ≤ length bytes.now }
     ensures place { result ≡ start + shown (line_at (drop start bytes.now)) }
     ensures within { result ≤ length bytes.now }
 {
-    let place = start + whites(bytes, start) + mark_len(bytes, start);
+    let mark = mark_len(bytes, start);
+    let place = start + whites(bytes, start) + mark;
     if ends_line(bytes, place) {
         return place;
     }
-    if bytes[place] == b'\r' {
+    if bytes[place] == b'\r' && may_end(mark) {
         return place + 1;
     }
     place

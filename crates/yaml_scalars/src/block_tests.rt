@@ -439,6 +439,13 @@ fn wide_blank_lines_at_the_top(rt: HostRuntime) {
             ("|\n \n--\r\n", 6),
             ("|\n \n---\rx", 8),
             ("|\n \n.-\n", 5),
+            ("|\n  \n-\r", 6),
+            ("|\n  \n--\r", 7),
+            ("|\n  \n--\rx", 7),
+            ("|\n  \n---\r", 9),
+            ("|\n  \n-", 6),
+            ("|\n  \n\r", 6),
+            ("|\n  \n \r", 7),
         ],
     );
     assert_eq!(rt; wrong.unwrap_or(""), "");

@@ -1,7 +1,7 @@
 //! Lines of a text, by places in it, for this reader and those above it. A line runs up to its break or to the text's
 //! end; a break is a line feed, or a carriage return and a line feed (YAML 1.2.2, section 5.4). Places are byte offsets.
 ghost use Rattle.std.specs.Prelude.{ℕ, ◌≡◌, ◌+◌, ◌<◌, ◌≤◌, ◌∷◌, [], ◌++◌, ◌-◌, length, drop, slice_index, true, false, IfOk, MatchOption, string_bytes};
-ghost use Rattle.yaml_scalars.specs.Lines.{is_space, is_white, lead, is_blank, is_end, is_mark, newlines, fold, lines};
+ghost use Rattle.yaml_scalars.specs.Lines.{is_space, is_white, lead, is_blank, is_end, is_mark, is_cut_mark, newlines, fold, lines};
 ghost use Rattle.yaml_scalars.specs.Scalar.{begins_order_mark, is_first_column};
 ghost use Rattle.yaml_scalars.specs.Walk.{ends_line, line_at, has_break, behind};
 
@@ -128,6 +128,28 @@ pub fn is_mark(bytes: &[u8], start: usize) -> bool
         return false;
     }
     is_end(bytes, start + 3)
+}
+
+/// Whether the line that begins at a place has the bytes of a mark and then a carriage return, which a line feed would
+/// make a mark.
+pub(crate) fn is_cut_mark(bytes: &[u8], start: usize) -> bool
+    requires { start ≤ length bytes.now }
+    ensures { result ≡ is_cut_mark (line_at (drop start bytes.now)) }
+{
+    if bytes.len() - start < 4 {
+        return false;
+    }
+    let first = bytes[start];
+    if first != b'-' && first != b'.' {
+        return false;
+    }
+    if bytes[start + 1] != first {
+        return false;
+    }
+    if bytes[start + 2] != first {
+        return false;
+    }
+    !ends_line(bytes, start + 3) && bytes[start + 3] == b'\r'
 }
 
 fn begins_order_mark(bytes: &[u8]) -> bool

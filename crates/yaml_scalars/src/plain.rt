@@ -1,17 +1,17 @@
 //! Plain scalars.
-ghost use Rattle.std.specs.Prelude.{ℕ, List, ◌≡◌, ◌+◌, ◌-◌, ◌<◌, ◌≤◌, ◌≤ℤ◌, length, drop, take, pos, negsuc, slice_index, IfOk, IfErr, true, false, not, ◌&&◌, string_bytes, Option, Some, None};
+ghost use Rattle.std.specs.Prelude.{ℕ, List, ◌≡◌, ◌+◌, ◌-◌, ◌<◌, ◌≤◌, ◌≤ℤ◌, length, drop, take, pos, negsuc, slice_index, IfOk, IfErr, true, false, not, ◌&&◌, ◌||◌, string_bytes, Option, Some, None};
 ghost use Rattle.std.specs.Str.{IsCharBoundary};
 ghost use Rattle.std.specs.Cow.{cow_str_bytes};
-ghost use Rattle.yaml_scalars.specs.Lines.{Stands, is_mark};
+ghost use Rattle.yaml_scalars.specs.Lines.{Stands, is_mark, is_cut_mark};
 ghost use Rattle.yaml_scalars.specs.Walk.{line_at};
 ghost use Rattle.yaml_scalars.specs.Plain.{plain_len, joined, content_end, ends_on};
 ghost use Rattle.yaml_scalars.specs.PlainSteps.{from, rest, LiesBehind, IsRefusal};
 ghost use Rattle.yaml_scalars.specs.Scalar.{IsEndOf, Answers, HasKind, is_first_column, plain_scalar};
 
 use crate::kind::plain_kind;
-use crate::lines::{is_first_column, is_mark, next_line, push_fold};
+use crate::lines::{is_cut_mark, is_first_column, is_mark, next_line, push_fold};
 use crate::plain_line::{
-    Below, Why, begins_plain, below_at, ends_at_once, plain_end, why_at, wrong_begin,
+    Below, Why, begins_plain, below_at, ends_at_once, plain_end, return_shown, why_at, wrong_begin,
 };
 use crate::scalar::{Scalar, ScalarRefusal, Setting};
 use crate::trim::trim_end;
@@ -142,7 +142,10 @@ fn add_line(
     let bytes = text.as_bytes();
     let stop = plain_end(bytes, line.begin, setting.flow);
     match why_at(bytes, stop) {
-        Why::Return => return Err(ScalarRefusal::Syntax(stop as u32 + 1)),
+        Why::Return => {
+            let shown = return_shown(bytes, line.begin, stop, setting.flow);
+            return Err(ScalarRefusal::Syntax(shown as u32));
+        }
         Why::Break => {
             push_content(text, line, stop, setting.flow, reading)?;
             reading.next = next_content(bytes, stop, setting);
@@ -211,12 +214,12 @@ fn goes_on<'s>(
     }
 }
 
-/// Whether a mark between documents begins at a place, at the first column of a line.
+/// Whether a mark between documents begins at a place, at the first column of a line, or its bytes and a carriage return.
 fn is_mark_at(bytes: &[u8], at: usize) -> bool
     requires { at ≤ length bytes.now }
-    ensures { result ≡ (is_first_column bytes.now at && is_mark (line_at (drop at bytes.now))) }
+    ensures { result ≡ (is_first_column bytes.now at && (is_mark (line_at (drop at bytes.now)) || is_cut_mark (line_at (drop at bytes.now)))) }
 {
-    is_first_column(bytes, at) && is_mark(bytes, at)
+    is_first_column(bytes, at) && (is_mark(bytes, at) || is_cut_mark(bytes, at))
 }
 
 /// The plain scalar that begins at a place.

@@ -1,9 +1,9 @@
 //! What a line has of a plain scalar.
-ghost use Rattle.std.specs.Prelude.{ℕ, ◌≡◌, ◌+◌, ◌-◌, ◌<◌, ◌≤◌, length, take, drop, slice_index, true, false};
+ghost use Rattle.std.specs.Prelude.{ℕ, ◌≡◌, ◌+◌, ◌-◌, ◌<◌, ◌≤◌, ◌||◌, length, take, drop, slice_index, true, false, not};
 ghost use Rattle.std.specs.Str.{IsCharBoundary};
 ghost use Rattle.yaml_scalars.specs.Lines.{begins_with, indent, lead, is_white, trimmed};
 ghost use Rattle.yaml_scalars.specs.Walk.{line_at};
-ghost use Rattle.yaml_scalars.specs.Plain.{is_flow_mark, is_indicator, is_doubtful, is_unsafe, begins_plain, wrong_begin, plain_len, why, content_at, below, above_of};
+ghost use Rattle.yaml_scalars.specs.Plain.{is_flow_mark, is_indicator, is_doubtful, is_unsafe, begins_plain, wrong_begin, plain_len, why, return_shown, content_at, below, above_of};
 ghost use Rattle.yaml_scalars.specs.PlainSteps.{stops_at, EndsAtOnce};
 
 use crate::lines::{ends_line, is_blank, is_mark, is_white, spaces, whites};
@@ -57,6 +57,14 @@ fn is_unsafe(bytes: &[u8], at: usize, flow: bool) -> bool
     ends_line(bytes, at) || is_white(bytes[at]) || (flow && is_flow_mark(bytes[at]))
 }
 
+/// Whether a byte stands at a place that makes content of - ? : before it.
+fn is_safe(bytes: &[u8], at: usize, flow: bool) -> bool
+    requires { at ≤ length bytes.now }
+    ensures { result ≡ not (is_unsafe flow (line_at (drop at bytes.now)) || begins_with 13 (line_at (drop at bytes.now))) }
+{
+    !is_unsafe(bytes, at, flow) && bytes[at] != b'\r'
+}
+
 /// Whether a plain scalar begins at a place.
 pub(crate) fn begins_plain(bytes: &[u8], at: usize, flow: bool) -> bool
     requires { at < length bytes.now }
@@ -69,7 +77,7 @@ pub(crate) fn begins_plain(bytes: &[u8], at: usize, flow: bool) -> bool
     if is_white(first) || is_indicator(first) || first == b'\r' {
         return false;
     }
-    !is_doubtful(first) || !is_unsafe(bytes, at + 1, flow)
+    !is_doubtful(first) || is_safe(bytes, at + 1, flow)
 }
 
 /// The place that shows that no plain scalar begins.
@@ -145,6 +153,20 @@ pub(crate) fn why_at(bytes: &[u8], stop: usize) -> Why
     }
 }
 
+/// The place at which a carriage return shows that a further line fails, whose content begins at a place: behind it,
+/// where a line feed could stand, or at it, where a line feed would make the line a key.
+pub(crate) fn return_shown(bytes: &[u8], begin: usize, stop: usize, flow: bool) -> usize
+    requires order { stop ≡ begin + plain_len flow false (line_at (drop begin bytes.now)) }
+    requires within { stop ≤ length bytes.now }
+    ensures place { result ≡ return_shown flow (line_at (drop begin bytes.now)) begin }
+    ensures end { result ≤ stop + 1 }
+{
+    if !flow && begin < stop && bytes[stop - 1] == b':' {
+        return stop;
+    }
+    stop + 1
+}
+
 /// The least indentation of a further line in block.
 fn above_of(setting: Setting) -> usize
     ensures { result ≡ above_of setting.parent }
@@ -157,10 +179,11 @@ fn above_of(setting: Setting) -> usize
 }
 
 /// Whether a line has a byte at a place, which begins no break.
-fn begins_with(bytes: &[u8], at: usize, byte: u8) -> bool
+pub(crate) fn begins_with(bytes: &[u8], at: usize, byte: u8) -> bool
     requires within { at ≤ length bytes.now }
     requires inside { (byte ≡ 10 → ⊥) × (byte ≡ 13 → ⊥) }
-    ensures { result ≡ begins_with byte (line_at (drop at bytes.now)) }
+    ensures is { result ≡ begins_with byte (line_at (drop at bytes.now)) }
+    ensures here { result ≡ true → (at < length bytes.now) × (slice_index bytes.now at ≡ byte) }
 {
     at < bytes.len() && bytes[at] == byte
 }

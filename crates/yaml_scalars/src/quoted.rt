@@ -8,7 +8,10 @@ ghost use Rattle.yaml_scalars.specs.Scalar.{IsEndOf, Answers, begins_quoted, quo
 ghost use Rattle.yaml_scalars.specs.Walk.{line_at, has_break};
 
 use crate::escape::{Meaning, escape_at};
-use crate::lines::{ends_line, is_blank, is_mark, next_line, push_fold, push_newlines, whites};
+use crate::lines::{
+    ends_line, is_blank, is_cut_mark, is_mark, next_line, push_fold, push_newlines, whites,
+};
+use crate::plain_line::begins_with;
 use crate::scalar::{Scalar, ScalarRefusal, Setting};
 use crate::trim::trim_end;
 use byte_lanes::{ByteSet, first_special};
@@ -82,6 +85,9 @@ fn read_below(
     if opens_document(bytes, line) {
         return Err(ScalarRefusal::ManyDocuments(line as u32));
     }
+    if is_cut_mark(bytes, line) {
+        return Err(ScalarRefusal::Syntax(line as u32 + 3));
+    }
     push_gap(decoded, joined, blanks)?;
     Ok(line + whites(bytes, line))
 }
@@ -120,13 +126,8 @@ fn meaning_at(bytes: &[u8], at: usize, quote: u8) -> Meaning
     match bytes[at] {
         b'\\' => escape_at(bytes, at + 1),
         b'"' => Meaning::Closes,
-        b'\'' => {
-            if at + 1 < bytes.len() && bytes[at + 1] == b'\'' {
-                Meaning::Is(1, '\'')
-            } else {
-                Meaning::Closes
-            }
-        }
+        b'\'' if begins_with(bytes, at + 1, b'\'') => Meaning::Is(1, '\''),
+        b'\'' => Meaning::Closes,
         _ => Meaning::Returns(0),
     }
 }
@@ -148,7 +149,7 @@ fn closes(bytes: &[u8], stop: usize, quote: u8) -> bool
     if stop == bytes.len() || bytes[stop] != quote {
         return false;
     }
-    quote == b'"' || stop + 1 == bytes.len() || bytes[stop + 1] != quote
+    quote == b'"' || !begins_with(bytes, stop + 1, quote)
 }
 
 /// A step to a place.

@@ -246,6 +246,16 @@ fn not_plain(rt: HostRuntime) {
         ("---", 0, 3),
         ("a\n--- ", 2, 5),
         ("\u{feff}...\n", 3, 6),
+        ("-\r", 0, 1),
+        (":\r", 0, 1),
+        ("?\r", 0, 1),
+        ("-\rx", 0, 1),
+        ("---\r", 0, 3),
+        ("...\r", 0, 3),
+        ("---\rx", 0, 3),
+        ("a\n---\r", 2, 5),
+        (" ---\r", 1, 5),
+        ("----\r", 0, 5),
     ] {
         let refusal = read(rt.alloc(), text, at, under(-1));
         assert!(rt;
@@ -266,8 +276,35 @@ fn not_plain_further_on(rt: HostRuntime) {
         (0, "a\n b\rc", 5),
         (0, "a\n \r", 4),
         (0, "a\n\n b:\r\n", 6),
+        (-1, "a\n:\r", 3),
+        (-1, "a\nb:\r", 4),
+        (-1, "a\n:\rx", 3),
+        (-1, "a:\r", 3),
+        (-1, "a\n-\r", 4),
+        (-1, "a\n---\r", 6),
+        (-1, "a\nb: \r", 4),
     ] {
         let refusal = read(rt.alloc(), text, 0, under(parent));
+        assert!(rt;
+            matches!(refusal, Err(ScalarRefusal::Syntax(p)) if p == place),
+            "{text}"
+        );
+    }
+}
+
+/// In flow a break may stand behind a `:`, which ends the scalar there.
+#[test]
+fn not_plain_in_flow(rt: HostRuntime) {
+    for (text, place) in [
+        ("-\r", 1),
+        (":\r", 1),
+        ("?\r]", 1),
+        ("-", 1),
+        ("a\n:\r", 4),
+        ("a\nb:\r", 5),
+        ("a:\r", 3),
+    ] {
+        let refusal = read(rt.alloc(), text, 0, flow());
         assert!(rt;
             matches!(refusal, Err(ScalarRefusal::Syntax(p)) if p == place),
             "{text}"

@@ -1,5 +1,7 @@
-use Rattle.std.proofs.Common.{◌≡◌, suc, ◌+◌, drop, arith, sym, ap, ◌∙◌}
-use Rattle.yaml_scalars.specs.Quoted.{Wrong, of_unit}
+use Rattle.std.proofs.Common.{◌≡◌, suc, ◌+◌, drop, arith, refl, subst, sym, ap, ◌∙◌}
+use Rattle.std.specs.Prelude.{encode_utf8}
+use Rattle.yaml_scalars.specs.Quoted.{Means, Wrong, of_unit}
+use Rattle.yaml_scalars.specs.QuotedSteps.{IsMeaning}
 use Rattle.yaml_scalars.proofs.EscapeValues.{meaning_so, unit_high, unit_single}
 use Rattle.yaml_scalars.proofs.escape.unit_at.Goals as goal
 
@@ -11,7 +13,7 @@ returns-then-is_high-clause-is c =
 pub returns-else-is_high-clause-is : goal.returns-else-is_high-clause-is
 returns-else-is_high-clause-is c =
     let more = drop (c.args.at + 5) c.args.bytes.now in
-    meaning_so _ _ c.character.result (ap (λ d. of_unit d more) (c.in-Ok.ensures.number 1) ∙ unit_single c.in-Ok.unit more (sym c.is_high.ensures ∙ c.if-is_high.false)) c.character.ensures.is
+    meaning_so _ _ c.character.result (ap (λ d. of_unit d more) (c.in-Ok.ensures.number 1) ∙ unit_single c.in-Ok.unit more (sym c.is_high.ensures ∙ c.if-is_high.false)) (subst (λ m. IsMeaning (Means 5 (encode_utf8 c.in-Ok.unit)) m) (sym c.character.ensures) refl)
 
 pub returns-in-Err-clause-is : goal.returns-in-Err-clause-is
 returns-in-Err-clause-is c =

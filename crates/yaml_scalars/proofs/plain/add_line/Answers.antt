@@ -1,8 +1,9 @@
-use Rattle.std.proofs.Common.{◌≡◌, ℕ, List, ◌+◌, drop, false, subst, sym, ◌∙◌}
+use Rattle.std.proofs.Common.{◌≡◌, ℕ, List, ◌+◌, drop, false, subst, sym, ap, ◌∙◌}
 use Rattle.std.specs.Prelude.{string_bytes}
 use Rattle.yaml_scalars.specs.declared.plain_line.Why.TheVariants.{Break, Return, Colon, Comment, Mark}
+use Rattle.yaml_scalars.specs.Lines.{Fails}
 use Rattle.yaml_scalars.specs.Walk.{line_at}
-use Rattle.yaml_scalars.specs.Plain.{plain_len, why}
+use Rattle.yaml_scalars.specs.Plain.{plain_len, why, return_shown}
 use Rattle.yaml_scalars.specs.PlainSteps.{from, rest}
 use Rattle.yaml_scalars.proofs.FurtherLines.{not_true, not_false, line_return, line_key, line_break, line_comment, line_colon, line_mark, ends_same}
 use Rattle.yaml_scalars.proofs.plain.add_line.Goals as goal
@@ -13,7 +14,8 @@ returns-in-Return-clause-err c =
     let stop = c.plain_end-stop.result in
     let e = subst (λ (t : List ℕ). stop ≡ c.args.line.begin + plain_len c.args.setting.flow false (line_at (drop c.args.line.begin t))) v c.plain_end-stop.ensures.end in
     let w = subst (λ (t : List ℕ). Return ≡ why (line_at (drop stop t))) v (sym c.in-Return.is ∙ c.why_at.ensures) in
-    line_return c.args.setting c.args.text.now c.args.line stop (string_bytes c.args.reading.now.text) c.args.reading.now.end e w
+    let shown = subst (λ (t : List ℕ). c.return_shown-shown.result ≡ return_shown c.args.setting.flow (line_at (drop c.args.line.begin t)) c.args.line.begin) v c.return_shown-shown.ensures.place in
+    line_return c.args.setting c.args.text.now c.args.line stop (string_bytes c.args.reading.now.text) c.args.reading.now.end e w ∙ ap Fails (sym shown)
 
 pub returns-in-Colon-clause-err : goal.returns-in-Colon-clause-err
 returns-in-Colon-clause-err c =

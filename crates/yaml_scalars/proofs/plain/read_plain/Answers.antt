@@ -1,8 +1,8 @@
 use Rattle.std.proofs.Common.{◌≡◌, ℕ, List, ◌+◌, ◌-◌, ◌<◌, ◌≤◌, true, false, length, take, drop, arith, refl, subst, sym, ◌∙◌, ap}
-use Rattle.std.specs.Prelude.{◌&&◌, not, slice_index}
+use Rattle.std.specs.Prelude.{◌||◌, ◌&&◌, not, slice_index}
 use Rattle.std.specs.Cow.{cow_str_bytes}
 use Rattle.yaml_scalars.specs.declared.plain_line.Why.TheVariants.{Break, Return}
-use Rattle.yaml_scalars.specs.Lines.{Fails, is_mark, trimmed}
+use Rattle.yaml_scalars.specs.Lines.{Fails, is_mark, is_cut_mark, trimmed}
 use Rattle.yaml_scalars.specs.Walk.{line_at}
 use Rattle.yaml_scalars.specs.Plain.{begins_plain, wrong_begin, plain_len, why}
 use Rattle.yaml_scalars.specs.Scalar.{is_first_column, IsEndOf, Answers, HasKind}
@@ -18,7 +18,7 @@ returns-then-is_mark_at-clause-answer c =
     let at = c.args.at in
     let flow = c.args.setting.flow in
     let v = c.as_bytes-bytes.ensures.value in
-    plain_mark c.args.setting text at (subst (λ (t : List ℕ). true ≡ (is_first_column t at && is_mark (line_at (drop at t)))) v (sym c.if-is_mark_at.true ∙ c.is_mark_at.ensures))
+    plain_mark c.args.setting text at (subst (λ (t : List ℕ). true ≡ (is_first_column t at && (is_mark (line_at (drop at t)) || is_cut_mark (line_at (drop at t))))) v (sym c.if-is_mark_at.true ∙ c.is_mark_at.ensures))
 
 pub returns-then-not-begins_plain-clause-answer : goal.returns-then-not-begins_plain-clause-answer
 returns-then-not-begins_plain-clause-answer c =
@@ -26,7 +26,7 @@ returns-then-not-begins_plain-clause-answer c =
     let at = c.args.at in
     let flow = c.args.setting.flow in
     let v = c.as_bytes-bytes.ensures.value in
-    let m = subst (λ (t : List ℕ). false ≡ (is_first_column t at && is_mark (line_at (drop at t)))) v (sym c.if-is_mark_at.false ∙ c.is_mark_at.ensures) in
+    let m = subst (λ (t : List ℕ). false ≡ (is_first_column t at && (is_mark (line_at (drop at t)) || is_cut_mark (line_at (drop at t))))) v (sym c.if-is_mark_at.false ∙ c.is_mark_at.ensures) in
     let b = subst (λ (t : List ℕ). false ≡ begins_plain flow (line_at (drop at t))) v (sym c.if-not-begins_plain.true ∙ c.begins_plain.ensures) in
     let w = subst (λ (t : List ℕ). c.wrong_begin.result ≡ wrong_begin at (line_at (drop at t))) v c.wrong_begin.ensures.place in
     plain_wrong c.args.setting text at m b ∙ ap Fails (sym w)
@@ -57,7 +57,7 @@ returns-in-Return-clause-answer c =
     let at = c.args.at in
     let flow = c.args.setting.flow in
     let v = c.as_bytes-bytes.ensures.value in
-    let m = subst (λ (t : List ℕ). false ≡ (is_first_column t at && is_mark (line_at (drop at t)))) v (sym c.if-is_mark_at.false ∙ c.is_mark_at.ensures) in
+    let m = subst (λ (t : List ℕ). false ≡ (is_first_column t at && (is_mark (line_at (drop at t)) || is_cut_mark (line_at (drop at t))))) v (sym c.if-is_mark_at.false ∙ c.is_mark_at.ensures) in
     let b = subst (λ (t : List ℕ). true ≡ begins_plain flow (line_at (drop at t))) v (sym c.if-not-begins_plain.false ∙ c.begins_plain.ensures) in
     let stop = c.plain_end-stop.result in
     let e = subst (λ (t : List ℕ). stop ≡ at + plain_len flow false (line_at (drop at t))) v c.plain_end-stop.ensures.end in
@@ -70,7 +70,7 @@ returns-in-Break-clause-answer c =
     let at = c.args.at in
     let flow = c.args.setting.flow in
     let v = c.as_bytes-bytes.ensures.value in
-    let m = subst (λ (t : List ℕ). false ≡ (is_first_column t at && is_mark (line_at (drop at t)))) v (sym c.if-is_mark_at.false ∙ c.is_mark_at.ensures) in
+    let m = subst (λ (t : List ℕ). false ≡ (is_first_column t at && (is_mark (line_at (drop at t)) || is_cut_mark (line_at (drop at t))))) v (sym c.if-is_mark_at.false ∙ c.is_mark_at.ensures) in
     let b = subst (λ (t : List ℕ). true ≡ begins_plain flow (line_at (drop at t))) v (sym c.if-not-begins_plain.false ∙ c.begins_plain.ensures) in
     let stop = c.plain_end-stop.result in
     let e = subst (λ (t : List ℕ). stop ≡ at + plain_len flow false (line_at (drop at t))) v c.plain_end-stop.ensures.end in
@@ -90,7 +90,7 @@ returns-in_default-clause-answer c =
     let at = c.args.at in
     let flow = c.args.setting.flow in
     let v = c.as_bytes-bytes.ensures.value in
-    let m = subst (λ (t : List ℕ). false ≡ (is_first_column t at && is_mark (line_at (drop at t)))) v (sym c.if-is_mark_at.false ∙ c.is_mark_at.ensures) in
+    let m = subst (λ (t : List ℕ). false ≡ (is_first_column t at && (is_mark (line_at (drop at t)) || is_cut_mark (line_at (drop at t))))) v (sym c.if-is_mark_at.false ∙ c.is_mark_at.ensures) in
     let b = subst (λ (t : List ℕ). true ≡ begins_plain flow (line_at (drop at t))) v (sym c.if-not-begins_plain.false ∙ c.begins_plain.ensures) in
     let stop = c.plain_end-stop.result in
     let e = subst (λ (t : List ℕ). stop ≡ at + plain_len flow false (line_at (drop at t))) v c.plain_end-stop.ensures.end in

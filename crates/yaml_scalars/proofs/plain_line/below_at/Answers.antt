@@ -13,13 +13,13 @@ returns-then-setting c =
 
 pub returns-then-begins_with : goal.returns-then-begins_with
 returns-then-begins_with c =
-    let t : begins_with 9 (line_at (drop (c.args.start + c.spaces-skip.result) c.args.bytes.now)) ≡ true = sym c.begins_with.ensures ∙ c.if-begins_with.true in
+    let t : begins_with 9 (line_at (drop (c.args.start + c.spaces-skip.result) c.args.bytes.now)) ≡ true = sym c.begins_with.ensures.is ∙ c.if-begins_with.true in
     sym (below_inside c.args.setting (line_at (drop c.args.start c.args.bytes.now)) (sym c.is_blank.ensures ∙ c.if-is_blank.false) (sym c.is_mark.ensures ∙ c.if-is_mark.false)
     ∙ inside_tab c.args.setting c.args.bytes.now c.args.start c.spaces-skip.result c.if-setting.false c.spaces-skip.ensures.count t)
 
 pub returns : goal.returns
 returns c =
-    let t : begins_with 9 (line_at (drop (c.args.start + c.spaces-skip.result) c.args.bytes.now)) ≡ false = sym c.begins_with.ensures ∙ c.if-begins_with.false in
+    let t : begins_with 9 (line_at (drop (c.args.start + c.spaces-skip.result) c.args.bytes.now)) ≡ false = sym c.begins_with.ensures.is ∙ c.if-begins_with.false in
     let a : above_of c.args.setting.parent ≤ c.spaces-skip.result = omega (arith, c.above_of.ensures, c.if-skip-above_of.false) in
     c.content_at-2.ensures
     ∙ sym (below_inside c.args.setting (line_at (drop c.args.start c.args.bytes.now)) (sym c.is_blank.ensures ∙ c.if-is_blank.false) (sym c.is_mark.ensures ∙ c.if-is_mark.false)
