@@ -1,7 +1,7 @@
 -- Where the header of a block scalar fails, it fails in each text that agrees so far.
-use Rattle.std.proofs.Common.{◌≡◌, ℕ, suc, ◌+◌, ◌-◌, ◌<◌, ◌≤◌, Bool, true, false, List, [], ◌∷◌, ◌++◌, length, refl, sym, ap, inl, inr, ◌∙◌, arith, cond, Option, Some, None}
+use Rattle.std.proofs.Common.{◌≡◌, ℕ, suc, ◌+◌, ◌-◌, ◌<◌, ◌≤◌, Bool, true, false, List, [], ◌∷◌, ◌++◌, length, refl, sym, ap, inl, inr, ◌∙◌, arith, cond, Option, Some, None, subst}
 use Rattle.std.specs.Prelude.{nat_eq, ◌||◌, ◌&&◌}
-use Rattle.yaml_scalars.specs.Lines.{is_white}
+use Rattle.yaml_scalars.specs.Lines.{is_white, ends_with}
 use Rattle.yaml_scalars.specs.Block.{is_digit, header, header_fault, return_behind}
 use Rattle.yaml_scalars.proofs.Agree.{SameAhead}
 
@@ -9,11 +9,18 @@ pub cases : {A : Type 0} (q : Bool) → (q ≡ true → A) → (q ≡ false → 
 cases true f g = f refl
 cases false f g = g refl
 
--- a search for a fault that finds it, if it lies in bytes in common, in all of them; within the bytes
+-- no fault shows before a place
+abbrev pub IsLate : ℕ → Option ℕ → Type 0
+IsLate n None = Unit {0}
+IsLate n (Some m) = n ≤ m
+
+-- a search for a fault that finds it, if it lies in bytes in common, in all of them; within the bytes; and behind all of them only if they end in a carriage return, without which they have none
 pub record Faults (F : ℕ → List ℕ → Option ℕ) : Type 0 where
   pub dead : (k : ℕ) (f x y : List ℕ) → SameAhead x y → F k (f ++ x) ≡ Some (k + length f) → (j : ℕ) × (F k (f ++ y) ≡ Some j)
   pub ranges : (k n : ℕ) (bs : List ℕ) → F k bs ≡ Some n → (k ≤ n) × (n ≤ k + length bs)
   pub ends : (k : ℕ) → F k [] ≡ None
+  pub last : (k : ℕ) (f : List ℕ) → IsLate (k + length f + 1) (F k (f ++ (13 ∷ []))) → F k f ≡ None
+  pub edge : (k : ℕ) (bs : List ℕ) → F k bs ≡ Some (k + length bs) → ends_with 13 bs ≡ true
 
 -- carriage returns
 pub return_ranges : (k n : ℕ) (bs : List ℕ) → return_behind k bs ≡ Some n → (k < n) × (n ≤ k + length bs)
@@ -29,6 +36,31 @@ return_dead k (c ∷ f) x y e = by_byte (nat_eq c 13) e (λ h. return_dead (suc 
   by_byte : (q : Bool) → cond q (Some (suc k)) (return_behind (suc k) (f ++ x)) ≡ Some (k + suc (length f)) → (return_behind (suc k) (f ++ x) ≡ Some (suc k + length f) → (j : ℕ) × (return_behind (suc k) (f ++ y) ≡ Some j)) → (j : ℕ) × (cond q (Some (suc k)) (return_behind (suc k) (f ++ y)) ≡ Some j)
   by_byte true e r = (suc k, refl)
   by_byte false e r = let n : k + suc (length f) ≡ suc k + length f = omega arith in r (e ∙ ap (λ (m : ℕ). Some m) n)
+
+pub return_alone : (k : ℕ) (f : List ℕ) → IsLate (k + length f + 1) (return_behind k (f ++ (13 ∷ []))) → return_behind k f ≡ None
+return_alone k [] e = refl
+return_alone k (c ∷ f) e = by_byte (nat_eq c 13) e (λ h. return_alone (suc k) f h) where
+  n : k + suc (length f) + 1 ≡ suc k + length f + 1
+  n = omega arith
+
+  by_byte : (q : Bool) → IsLate (k + suc (length f) + 1) (cond q (Some (suc k)) (return_behind (suc k) (f ++ (13 ∷ [])))) → (IsLate (suc k + length f + 1) (return_behind (suc k) (f ++ (13 ∷ []))) → return_behind (suc k) f ≡ None) → cond q (Some (suc k)) (return_behind (suc k) f) ≡ None
+  by_byte true e r = absurd (omega (arith, e))
+  by_byte false e r = r (subst (λ m. IsLate m (return_behind (suc k) (f ++ (13 ∷ [])))) n e)
+
+ends_more : (b : ℕ) (xs : List ℕ) → ends_with 13 xs ≡ true → ends_with 13 (b ∷ xs) ≡ true
+ends_more b [] h = absurd (cc)
+ends_more b (x ∷ xs) h = h
+
+ends_alone : (c : ℕ) (bs : List ℕ) → nat_eq c 13 ≡ true → length bs ≡ 0 → ends_with 13 (c ∷ bs) ≡ true
+ends_alone c [] h l = h
+ends_alone c (d ∷ bs) h l = absurd (omega (arith, l))
+
+pub return_edge : (k : ℕ) (bs : List ℕ) → return_behind k bs ≡ Some (k + length bs) → ends_with 13 bs ≡ true
+return_edge k [] e = absurd (cc)
+return_edge k (c ∷ bs) e = by_byte (nat_eq c 13) refl e (λ h. return_edge (suc k) bs h) where
+  by_byte : (q : Bool) → nat_eq c 13 ≡ q → cond q (Some (suc k)) (return_behind (suc k) bs) ≡ Some (k + suc (length bs)) → (return_behind (suc k) bs ≡ Some (suc k + length bs) → ends_with 13 bs ≡ true) → ends_with 13 (c ∷ bs) ≡ true
+  by_byte true h e r = let n : suc k ≡ k + suc (length bs) = cc in ends_alone c bs h (omega (arith, n))
+  by_byte false h e r = let n : k + suc (length bs) ≡ suc k + length bs = omega arith in ends_more c bs (r (e ∙ ap (λ (m : ℕ). Some m) n))
 
 -- white space and a comment
 fault_ranges : (white : Bool) (k n : ℕ) (bs : List ℕ) → header_fault white k bs ≡ Some n → (k ≤ n) × (n ≤ k + length bs)
@@ -68,11 +100,35 @@ fault_dead white k (c ∷ f) x y s e = by_byte (is_white c) (nat_eq c 13) (white
   by_byte false false true e h = return_dead (suc k) f x y (e ∙ ap (λ (m : ℕ). Some m) n)
   by_byte false false false e h = (k, refl)
 
+fault_last : (white : Bool) (k : ℕ) (f : List ℕ) → IsLate (k + length f + 1) (header_fault white k (f ++ (13 ∷ []))) → header_fault white k f ≡ None
+fault_last white k [] e = refl
+fault_last white k (c ∷ f) e = by_byte (is_white c) (nat_eq c 13) (white && nat_eq c 35) e (λ h. fault_last true (suc k) f h) where
+  n : k + suc (length f) + 1 ≡ suc k + length f + 1
+  n = omega arith
+
+  by_byte : (p q r : Bool) → IsLate (k + suc (length f) + 1) (cond p (header_fault true (suc k) (f ++ (13 ∷ []))) (cond q (Some (suc k)) (cond r (return_behind (suc k) (f ++ (13 ∷ []))) (Some k))))
+      → (IsLate (suc k + length f + 1) (header_fault true (suc k) (f ++ (13 ∷ []))) → header_fault true (suc k) f ≡ None)
+      → cond p (header_fault true (suc k) f) (cond q (Some (suc k)) (cond r (return_behind (suc k) f) (Some k))) ≡ None
+  by_byte true q r e h = h (subst (λ m. IsLate m (header_fault true (suc k) (f ++ (13 ∷ [])))) n e)
+  by_byte false true r e h = absurd (omega (arith, e))
+  by_byte false false true e h = return_alone (suc k) f (subst (λ m. IsLate m (return_behind (suc k) (f ++ (13 ∷ [])))) n e)
+  by_byte false false false e h = absurd (omega (arith, e))
+
+fault_edge : (white : Bool) (k : ℕ) (bs : List ℕ) → header_fault white k bs ≡ Some (k + length bs) → ends_with 13 bs ≡ true
+fault_edge white k [] e = absurd (cc)
+fault_edge white k (c ∷ bs) e = by_byte (is_white c) (nat_eq c 13) refl (white && nat_eq c 35) e (λ h. fault_edge true (suc k) bs h) where
+  by_byte : (p q : Bool) → nat_eq c 13 ≡ q → (r : Bool) → cond p (header_fault true (suc k) bs) (cond q (Some (suc k)) (cond r (return_behind (suc k) bs) (Some k))) ≡ Some (k + suc (length bs))
+      → (header_fault true (suc k) bs ≡ Some (suc k + length bs) → ends_with 13 bs ≡ true) → ends_with 13 (c ∷ bs) ≡ true
+  by_byte true q h r e f = let n : k + suc (length bs) ≡ suc k + length bs = omega arith in ends_more c bs (f (e ∙ ap (λ (m : ℕ). Some m) n))
+  by_byte false true h r e f = let n : suc k ≡ k + suc (length bs) = cc in ends_alone c bs h (omega (arith, n))
+  by_byte false false h true e f = let n : k + suc (length bs) ≡ suc k + length bs = omega arith in ends_more c bs (return_edge (suc k) bs (e ∙ ap (λ (m : ℕ). Some m) n))
+  by_byte false false h false e f = absurd (let n : k ≡ k + suc (length bs) = cc in omega (arith, n))
+
 abbrev comment : ℕ → List ℕ → Option ℕ
 comment k bs = header_fault false k bs
 
 comment_faults : Faults comment
-comment_faults = record { dead = λ k f x y s e. fault_dead false k f x y s e; ranges = λ k n bs e. fault_ranges false k n bs e; ends = λ k. refl }
+comment_faults = record { dead = λ k f x y s e. fault_dead false k f x y s e; ranges = λ k n bs e. fault_ranges false k n bs e; ends = λ k. refl; last = λ k f e. fault_last false k f e; edge = λ k bs e. fault_edge false k bs e }
 
 -- one search behind a byte that passes, another from a byte that does not
 abbrev pub either : (ℕ → Bool) → (ℕ → List ℕ → Option ℕ) → (ℕ → List ℕ → Option ℕ) → ℕ → List ℕ → Option ℕ
@@ -108,8 +164,25 @@ either_ranges t F G a b k n (c ∷ bs) e = by_test (t c) e where
   by_test true e = let h = a.ranges (suc k) n bs e in (omega (arith, h.0), omega (arith, h.1))
   by_test false e = b.ranges k n (c ∷ bs) e
 
+either_last : (t : ℕ → Bool) (F G : ℕ → List ℕ → Option ℕ) → Faults F → Faults G → (k : ℕ) (f : List ℕ) → IsLate (k + length f + 1) (either t F G k (f ++ (13 ∷ []))) → either t F G k f ≡ None
+either_last t F G a b k [] e = refl
+either_last t F G a b k (c ∷ f) e = by_test (t c) e where
+  n : k + suc (length f) + 1 ≡ suc k + length f + 1
+  n = omega arith
+
+  by_test : (q : Bool) → IsLate (k + suc (length f) + 1) (cond q (F (suc k) (f ++ (13 ∷ []))) (G k (c ∷ (f ++ (13 ∷ []))))) → cond q (F (suc k) f) (G k (c ∷ f)) ≡ None
+  by_test true e = a.last (suc k) f (subst (λ m. IsLate m (F (suc k) (f ++ (13 ∷ [])))) n e)
+  by_test false e = b.last k (c ∷ f) e
+
+either_edge : (t : ℕ → Bool) (F G : ℕ → List ℕ → Option ℕ) → Faults F → Faults G → (k : ℕ) (bs : List ℕ) → either t F G k bs ≡ Some (k + length bs) → ends_with 13 bs ≡ true
+either_edge t F G a b k [] e = absurd (cc)
+either_edge t F G a b k (c ∷ bs) e = by_test (t c) e where
+  by_test : (q : Bool) → cond q (F (suc k) bs) (G k (c ∷ bs)) ≡ Some (k + suc (length bs)) → ends_with 13 (c ∷ bs) ≡ true
+  by_test true e = let n : k + suc (length bs) ≡ suc k + length bs = omega arith in ends_more c bs (a.edge (suc k) bs (e ∙ ap (λ (m : ℕ). Some m) n))
+  by_test false e = b.edge k (c ∷ bs) e
+
 either_faults : (t : ℕ → Bool) (F G : ℕ → List ℕ → Option ℕ) → t 13 ≡ false → Faults F → Faults G → Faults (either t F G)
-either_faults t F G n a b = record { dead = either_dead t F G n a b; ranges = either_ranges t F G a b; ends = λ k. refl }
+either_faults t F G n a b = record { dead = either_dead t F G n a b; ranges = either_ranges t F G a b; ends = λ k. refl; last = either_last t F G a b; edge = either_edge t F G a b }
 
 abbrev is_sign : ℕ → Bool
 is_sign b = nat_eq b 45 || nat_eq b 43

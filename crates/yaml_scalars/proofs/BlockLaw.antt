@@ -17,21 +17,21 @@ use Rattle.yaml_scalars.proofs.BlockScalars.{on_fault, on_none, on_lines, fault_
 use Rattle.yaml_scalars.proofs.BlockHeads.{cases, return_ranges, return_dead, head, head_faults, head_is}
 use Rattle.yaml_scalars.proofs.BlockShown.{Alike, shown_alike, returned_alike}
 
-option_cases : {A : Type 0} (o : Option ℕ) → (o ≡ None → A) → ((n : ℕ) → o ≡ Some n → A) → A
+pub option_cases : {A : Type 0} (o : Option ℕ) → (o ≡ None → A) → ((n : ℕ) → o ≡ Some n → A) → A
 option_cases None f g = f refl
 option_cases (Some n) f g = g n refl
 
-fails_not : (n : ℕ) (t : List ℕ) (f : ℕ) → Fails n ≡ Stands t f → ⊥
+pub fails_not : (n : ℕ) (t : List ℕ) (f : ℕ) → Fails n ≡ Stands t f → ⊥
 fails_not n t f e = absurd (cc)
 
-stands_not : (t : List ℕ) (f n : ℕ) → Stands t f ≡ Fails n → ⊥
+pub stands_not : (t : List ℕ) (f n : ℕ) → Stands t f ≡ Fails n → ⊥
 stands_not t f n e = absurd (cc)
 
-fails_at : (m n : ℕ) → Fails m ≡ Fails n → m ≡ n
+pub fails_at : (m n : ℕ) → Fails m ≡ Fails n → m ≡ n
 fails_at m n e = cc
 
 -- the content of one more line: the scalar ends before it, it fails, or the lines go on
-content_cases : {A : Type 0} (folded : Bool) (chomp : Chomp) (inner : ℕ) (l : Line) (text : List ℕ) (last : Option Last) (e : ℕ)
+pub content_cases : {A : Type 0} (folded : Bool) (chomp : Chomp) (inner : ℕ) (l : Line) (text : List ℕ) (last : Option Last) (e : ℕ)
     → (is_content inner l.bytes ≡ false → A)
     → ((n : ℕ) → is_content inner l.bytes ≡ true → return_behind 0 l.bytes ≡ Some n → A)
     → ((text1 : List ℕ) (last1 : Option Last) (e1 : ℕ) → is_content inner l.bytes ≡ true → return_behind 0 l.bytes ≡ None → ((size : ℕ) (ls : List Line) → content_more folded chomp inner size (l ∷ ls) text last e ≡ content_more folded chomp inner size ls text1 last1 e1) → A)
@@ -54,7 +54,7 @@ content_to folded chomp inner size most q (l ∷ ls) text last e w h =
     (λ n c r. (let i = fails_at (l.at + n) q (sym (more_return folded chomp inner size l ls text last e n c r) ∙ h) in let k = w.0 in let j = (return_ranges 0 n l.bytes r).1 in omega (arith, i, k, j)))
     (λ x y z c r g. content_to folded chomp inner size most q ls x y z w.1 (sym (g size ls) ∙ h))
 
-blank_stands : (chomp : Chomp) (size q : ℕ) (ls : List Line) (e : ℕ) → blank_more chomp size ls e ≡ Fails q → ⊥
+pub blank_stands : (chomp : Chomp) (size q : ℕ) (ls : List Line) (e : ℕ) → blank_more chomp size ls e ≡ Fails q → ⊥
 blank_stands chomp size q [] e h = absurd (cc)
 blank_stands chomp size q (l ∷ ls) e h = by_blank (is_blank l.bytes) h (λ g. blank_stands chomp size q ls (count_break l.broken e) g) where
   by_blank : (b : Bool) → cond b (blank_more chomp size ls (count_break l.broken e)) (Stands (ending chomp None e) l.at) ≡ Fails q → (blank_more chomp size ls (count_break l.broken e) ≡ Fails q → ⊥) → ⊥
@@ -62,16 +62,16 @@ blank_stands chomp size q (l ∷ ls) e h = by_blank (is_blank l.bytes) h (λ g. 
   by_blank false h r = absurd (cc)
 
 -- the indentation that the first line that is not blank gives
-abbrev first : ℕ → ℕ → Line → Inner
+abbrev pub first : ℕ → ℕ → Line → Inner
 first above w l = cond (is_mark l.bytes || nat_lt (indent l.bytes) above) Nothing (cond (nat_lt (indent l.bytes) w) (Wide (l.at + shown l.bytes)) (Indented (indent l.bytes)))
 
-over_blank : (above w : ℕ) (l : Line) (ls : List Line) → is_blank l.bytes ≡ true → inner_of above w (l ∷ ls) ≡ inner_of above (widest w (indent l.bytes)) ls
+pub over_blank : (above w : ℕ) (l : Line) (ls : List Line) → is_blank l.bytes ≡ true → inner_of above w (l ∷ ls) ≡ inner_of above (widest w (indent l.bytes)) ls
 over_blank above w l ls h = ap (λ q. cond q (inner_of above (widest w (indent l.bytes)) ls) (first above w l)) h
 
-over_first : (above w : ℕ) (l : Line) (ls : List Line) → is_blank l.bytes ≡ false → inner_of above w (l ∷ ls) ≡ first above w l
+pub over_first : (above w : ℕ) (l : Line) (ls : List Line) → is_blank l.bytes ≡ false → inner_of above w (l ∷ ls) ≡ first above w l
 over_first above w l ls h = ap (λ q. cond q (inner_of above (widest w (indent l.bytes)) ls) (first above w l)) h
 
-first_wide : (above w q : ℕ) (l : Line) → first above w l ≡ Wide q → (is_mark l.bytes ≡ false) × (nat_lt (indent l.bytes) above ≡ false) × (nat_lt (indent l.bytes) w ≡ true) × (l.at + shown l.bytes ≡ q)
+pub first_wide : (above w q : ℕ) (l : Line) → first above w l ≡ Wide q → (is_mark l.bytes ≡ false) × (nat_lt (indent l.bytes) above ≡ false) × (nat_lt (indent l.bytes) w ≡ true) × (l.at + shown l.bytes ≡ q)
 first_wide above w q l h = by_tests (is_mark l.bytes) (nat_lt (indent l.bytes) above) (nat_lt (indent l.bytes) w) h where
   by_tests : (m b v : Bool) → cond (m || b) Nothing (cond v (Wide (l.at + shown l.bytes)) (Indented (indent l.bytes))) ≡ Wide q → (m ≡ false) × (b ≡ false) × (v ≡ true) × (l.at + shown l.bytes ≡ q)
   by_tests true b v h = absurd (cc)
@@ -79,11 +79,11 @@ first_wide above w q l h = by_tests (is_mark l.bytes) (nat_lt (indent l.bytes) a
   by_tests false false true h = (refl, refl, refl, cc)
   by_tests false false false h = absurd (cc)
 
-inner_later : (above w p q : ℕ) (ls : List Line) → Later p ls → inner_of above w ls ≡ Wide q → p < q
+pub inner_later : (above w p q : ℕ) (ls : List Line) → Later p ls → inner_of above w ls ≡ Wide q → p < q
 inner_later above w p q [] k h = absurd (cc)
 inner_later above w p q (l ∷ ls) k h = cases (is_blank l.bytes) (λ b. inner_later above (widest w (indent l.bytes)) p q ls k.1 (sym (over_blank above w l ls b) ∙ h)) (λ b. (let f = (first_wide above w q l (sym (over_first above w l ls b) ∙ h)).3 in let i = k.0 in omega (arith, f, i)))
 
-shown_fits : (xs : List ℕ) → shown xs ≤ length xs
+pub shown_fits : (xs : List ℕ) → shown xs ≤ length xs
 shown_fits xs = by_byte (drop n xs) refl where
   n : ℕ
   n = lead is_white xs + mark_len xs
@@ -158,7 +158,7 @@ blank_return k (x ∷ xs) h = cases (is_white x) (λ w. white w (λ g. blank_ret
       let n : nat_eq x 13 ≡ false = grind (arith, nat_tests, w) in
       ap (λ q. cond q (Some (suc k)) (return_behind (suc k) xs)) n ∙ r (sym (ap (λ q. cond q (is_blank xs) false) w) ∙ h)
 
-first_in : (above w i : ℕ) (l : Line) → first above w l ≡ Indented i → (is_mark l.bytes ≡ false) × (nat_lt (indent l.bytes) above ≡ false) × (nat_lt (indent l.bytes) w ≡ false) × (indent l.bytes ≡ i)
+pub first_in : (above w i : ℕ) (l : Line) → first above w l ≡ Indented i → (is_mark l.bytes ≡ false) × (nat_lt (indent l.bytes) above ≡ false) × (nat_lt (indent l.bytes) w ≡ false) × (indent l.bytes ≡ i)
 first_in above w i l h = by_tests (is_mark l.bytes) (nat_lt (indent l.bytes) above) (nat_lt (indent l.bytes) w) h where
   by_tests : (m b v : Bool) → cond (m || b) Nothing (cond v (Wide (l.at + shown l.bytes)) (Indented (indent l.bytes))) ≡ Indented i → (m ≡ false) × (b ≡ false) × (v ≡ false) × (indent l.bytes ≡ i)
   by_tests true b v h = absurd (cc)
@@ -231,10 +231,10 @@ digit_dead folded parent chomp size size2 p None ls ms t f sh h g = by_in (inner
       content_dead folded chomp i size size2 p ls ms [] None 0 t f sh h (sym (ap (λ o. by_inner folded chomp size2 o ms) k) ∙ g)
 
 -- a header, found from the byte behind the indicator on
-abbrev head_of : List ℕ → Header
+abbrev pub head_of : List ℕ → Header
 head_of xs = header (drop 1 xs)
 
-head_fault : (at n : ℕ) (xs : List ℕ) → header_fault false 0 (head_of xs).rest ≡ Some n → (head (suc at) (drop 1 xs) ≡ Some (at + (length xs - length (head_of xs).rest) + n)) × (0 < length xs)
+pub head_fault : (at n : ℕ) (xs : List ℕ) → header_fault false 0 (head_of xs).rest ≡ Some n → (head (suc at) (drop 1 xs) ≡ Some (at + (length xs - length (head_of xs).rest) + n)) × (0 < length xs)
 head_fault at n [] e = absurd (cc)
 head_fault at n (c ∷ xs) e =
     let i = head_is (suc at) xs in
@@ -261,7 +261,7 @@ head_dead p n at xs ys sp e k =
           head_back at d.0 ys (ap (λ (t : List ℕ). head (suc at) (drop 1 t)) z ∙ d.1)
 
 -- a header's fault, no break, or the lines below
-block_cases : {A : Type 0} (l : Line) → ((n : ℕ) → header_fault false 0 (head_of l.bytes).rest ≡ Some n → A) → (header_fault false 0 (head_of l.bytes).rest ≡ None → l.broken ≡ false → A) → (header_fault false 0 (head_of l.bytes).rest ≡ None → l.broken ≡ true → A) → A
+pub block_cases : {A : Type 0} (l : Line) → ((n : ℕ) → header_fault false 0 (head_of l.bytes).rest ≡ Some n → A) → (header_fault false 0 (head_of l.bytes).rest ≡ None → l.broken ≡ false → A) → (header_fault false 0 (head_of l.bytes).rest ≡ None → l.broken ≡ true → A) → A
 block_cases l fails short goes = option_cases (header_fault false 0 (head_of l.bytes).rest) (λ e. cases l.broken (goes e) (short e)) fails
 
 lines_dead : (parent : ℤ) (size size2 p : ℕ) (ls ms : List Line) (t : List ℕ) (f : ℕ) → p < size → Shares p ls ms → block_on parent size ls ≡ Fails p → block_on parent size2 ms ≡ Stands t f → ⊥

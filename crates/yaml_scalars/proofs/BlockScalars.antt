@@ -52,7 +52,7 @@ block_fault parent text at h n l i e w k f = ap (block_on parent (length text)) 
       let q : at + (length (line_at (drop at text)) - length (line_at (drop h.end text))) + j ≡ n = omega (arith, first, k, p, w) in
       on_fault parent (length text) (line_of text at) (behind at (drop at text)) (header_seen text h) j (header_is text at h l i e) g ∙ ap Fails q
 
-none_of : (end : ℕ) (xs : List ℕ) → header_fault false end xs ≡ None → header_fault false 0 xs ≡ None
+pub none_of : (end : ℕ) (xs : List ℕ) → header_fault false end xs ≡ None → header_fault false 0 xs ≡ None
 none_of end xs f = by_fault (header_fault false 0 xs) (sym (fault_of end xs) ∙ f) where
   by_fault : (o : Option ℕ) → moved end o ≡ None → o ≡ None
   by_fault None m = refl

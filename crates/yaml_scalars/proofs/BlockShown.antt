@@ -41,7 +41,7 @@ mark_same (d ∷ g) b u v l = by_byte (nat_eq d 45 || nat_eq d 46) l where
   by_byte false l = refl
 
 -- blank lines are white space only
-blank_not : (xs : List ℕ) → lead is_white xs < length xs → is_blank xs ≡ false
+pub blank_not : (xs : List ℕ) → lead is_white xs < length xs → is_blank xs ≡ false
 blank_not [] l = absurd (omega arith)
 blank_not (x ∷ xs) l = by_byte (is_white x) l (λ m. blank_not xs m) where
   by_byte : (q : Bool) → cond q (suc (lead is_white xs)) 0 < suc (length xs) → (lead is_white xs < length xs → is_blank xs ≡ false) → cond q (is_blank xs) false ≡ false
@@ -55,7 +55,7 @@ blank_less (x ∷ xs) h = by_byte (is_white x) h (λ m. blank_less xs m) where
   by_byte true h r = let m = r h in omega (arith, m)
   by_byte false h r = omega arith
 
-spaces_less : (xs : List ℕ) → lead is_space xs ≤ lead is_white xs
+pub spaces_less : (xs : List ℕ) → lead is_space xs ≤ lead is_white xs
 spaces_less [] = omega arith
 spaces_less (x ∷ xs) = by_byte (nat_eq x 32) (nat_eq x 9) (spaces_less xs) where
   by_byte : (q r : Bool) → lead is_space xs ≤ lead is_white xs → cond q (suc (lead is_space xs)) 0 ≤ cond (q || r) (suc (lead is_white xs)) 0
@@ -63,7 +63,7 @@ spaces_less (x ∷ xs) = by_byte (nat_eq x 32) (nat_eq x 9) (spaces_less xs) whe
   by_byte false r h = omega arith
 
 -- a mark by its length
-mark_is : (xs : List ℕ) → is_mark xs ≡ (nat_eq (mark_len xs) 3 && is_end (drop 3 xs))
+pub mark_is : (xs : List ℕ) → is_mark xs ≡ (nat_eq (mark_len xs) 3 && is_end (drop 3 xs))
 mark_is [] = refl
 mark_is (a ∷ []) = by_first (nat_eq a 45 || nat_eq a 46) where
   by_first : (q : Bool) → false ≡ (nat_eq (cond q 1 0) 3 && true)
@@ -177,7 +177,7 @@ returned_alike f x y e =
     subst (λ s. Alike s (f ++ y)) (sym p) (subst (λ t. Alike (a.0 ++ (13 ∷ x)) t) (sym q) (alike_return a.0 x y))
 
 -- a line that ends where the other has a carriage return
-lead_ended : (p : ℕ → Bool) (g v : List ℕ) → p 13 ≡ false → lead p (g ++ (13 ∷ v)) ≡ lead p g
+pub lead_ended : (p : ℕ → Bool) (g v : List ℕ) → p 13 ≡ false → lead p (g ++ (13 ∷ v)) ≡ lead p g
 lead_ended p [] v e = ap (λ q. cond q (suc (lead p v)) 0) e
 lead_ended p (d ∷ g) v e = by_byte (p d) (lead_ended p g v e) where
   by_byte : (q : Bool) → lead p (g ++ (13 ∷ v)) ≡ lead p g → cond q (suc (lead p (g ++ (13 ∷ v)))) 0 ≡ cond q (suc (lead p g)) 0
@@ -192,11 +192,11 @@ same_ended a (suc k) (d ∷ g) v e = by_byte (nat_eq d a) (same_ended a k g v e)
   by_byte true h = ap (λ k. suc k) h
   by_byte false h = refl
 
-mark_ended : (g v : List ℕ) → mark_len (g ++ (13 ∷ v)) ≡ mark_len g
+pub mark_ended : (g v : List ℕ) → mark_len (g ++ (13 ∷ v)) ≡ mark_len g
 mark_ended [] v = refl
 mark_ended (d ∷ g) v = cases (nat_eq d 45 || nat_eq d 46) (λ e. (let n : nat_eq 13 d ≡ false = grind (arith, nat_tests, e) in ap (λ k. cond (nat_eq d 45 || nat_eq d 46) (suc k) 0) (same_ended d 2 g v n))) (λ e. ap (λ q. cond q (suc (same d 2 (g ++ (13 ∷ v)))) 0) e ∙ sym (ap (λ q. cond q (suc (same d 2 g)) 0) e))
 
-mark_fits : (xs : List ℕ) → mark_len xs ≤ length xs
+pub mark_fits : (xs : List ℕ) → mark_len xs ≤ length xs
 mark_fits xs = let h = mark_stop xs [] in let e = mark_ended xs [] in omega (arith, h, e)
 
 end_ended : (r v : List ℕ) → is_end r ≡ false → is_end (r ++ (13 ∷ v)) ≡ false
@@ -220,7 +220,7 @@ drop_past : (g w : List ℕ) → drop (length g) (g ++ w) ≡ w
 drop_past [] w = refl
 drop_past (d ∷ g) w = drop_past g w
 
-return_last : (f x : List ℕ) (n : ℕ) → suc n ≡ length f → begins_with 13 (drop n (f ++ x)) ≡ true → (a : List ℕ) × (f ≡ a ++ (13 ∷ [])) × (length a ≡ n)
+pub return_last : (f x : List ℕ) (n : ℕ) → suc n ≡ length f → begins_with 13 (drop n (f ++ x)) ≡ true → (a : List ℕ) × (f ≡ a ++ (13 ∷ [])) × (length a ≡ n)
 return_last [] x n l e = absurd (omega (arith, l))
 return_last (c ∷ []) x zero l e = ([], (let q : c ≡ 13 = grind (arith, nat_tests, e) in ap (λ (b : ℕ). b ∷ []) q), refl)
 return_last (c ∷ d ∷ f) x zero l e = absurd (omega (arith, l))

@@ -29,3 +29,12 @@ pub mod QuotedAlike
 pub mod QuotedDead
 pub mod QuotedLaw
 pub mod OneKind
+pub mod Longer
+pub mod BlockLonger
+pub mod PlainLonger
+pub mod EscapeLonger
+pub mod EscapeWanted
+pub mod QuotedLonger
+pub mod QuotedEnds
+pub mod ScalarLonger
+pub mod SyntaxLaw

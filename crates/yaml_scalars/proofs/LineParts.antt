@@ -1,13 +1,21 @@
 -- Parts of a line, by places.
-use Rattle.std.proofs.Common.{◌≡◌, ℕ, zero, suc, ◌+◌, ◌-◌, ◌<◌, ◌≤◌, Bool, true, false, List, [], ◌∷◌, length, take, drop, get_or, refl, ap, ◌∙◌, arith, cond, length-drop, length-take}
+use Rattle.std.proofs.Common.{◌≡◌, ℕ, zero, suc, ◌+◌, ◌-◌, ◌<◌, ◌≤◌, Bool, true, false, List, [], ◌∷◌, length, take, drop, get_or, refl, sym, ap, ◌∙◌, arith, cond, length-drop, length-take}
+use Rattle.std.specs.Prelude.{◌&&◌}
 use Rattle.std.proofs.lemmas.List.{drop-drop}
-use Rattle.yaml_scalars.specs.Lines.{begins_break, lead}
-use Rattle.yaml_scalars.specs.Walk.{line_at}
-use Rattle.yaml_scalars.proofs.Places.{line_drop, line_fits}
+use Rattle.yaml_scalars.specs.Lines.{begins_break, begins_with, is_mark, is_cut_mark, is_end, lead}
+use Rattle.yaml_scalars.specs.Walk.{begins_mark, line_at}
+use Rattle.yaml_scalars.proofs.Places.{line_drop, line_fits, mark_three, mark_parts, cut_parts}
 
 -- the rest of a line is the line of the place
 pub part_is : (bytes : List ℕ) (start n : ℕ) → n ≤ length (line_at (drop start bytes)) → drop n (line_at (drop start bytes)) ≡ line_at (drop (start + n) bytes)
 part_is bytes start n l = line_drop n (drop start bytes) l ∙ ap line_at (drop-drop n start bytes)
+
+-- behind the bytes of a mark the line's end makes one, and a carriage return cuts one
+pub mark_at : (bytes : List ℕ) (start : ℕ) → begins_mark (line_at (drop start bytes)) ≡ true → is_end (line_at (drop (start + 3) bytes)) ≡ is_mark (line_at (drop start bytes))
+mark_at bytes start h = let xs = line_at (drop start bytes) in ap is_end (sym (part_is bytes start 3 (mark_three xs h))) ∙ sym (mark_parts xs ∙ ap (λ q. q && is_end (drop 3 xs)) h)
+
+pub cut_at : (bytes : List ℕ) (start : ℕ) → begins_mark (line_at (drop start bytes)) ≡ true → begins_with 13 (line_at (drop (start + 3) bytes)) ≡ is_cut_mark (line_at (drop start bytes))
+cut_at bytes start h = let xs = line_at (drop start bytes) in ap (begins_with 13) (sym (part_is bytes start 3 (mark_three xs h))) ∙ sym (cut_parts xs ∙ ap (λ q. q && begins_with 13 (drop 3 xs)) h)
 
 pub line_within : (bytes : List ℕ) (start n : ℕ) → start ≤ length bytes → n ≤ length (line_at (drop start bytes)) → start + n ≤ length bytes
 line_within bytes start n l m = let h = line_fits (drop start bytes) in omega (arith, length-drop start bytes)

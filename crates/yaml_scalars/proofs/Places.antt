@@ -1,8 +1,8 @@
 -- A text's lines, by places.
 use Rattle.std.proofs.Common.{◌≡◌, ℕ, zero, suc, ◌+◌, ◌-◌, ◌<◌, ◌≤◌, Bool, true, false, List, [], ◌∷◌, length, take, drop, refl, sym, ap, ◌∙◌, arith, cond, length-drop}
 use Rattle.std.specs.Prelude.{nat_eq, ◌||◌, ◌&&◌}
-use Rattle.yaml_scalars.specs.Lines.{begins_with, begins_break, put, begun, lines, is_mark, is_cut_mark, lead}
-use Rattle.yaml_scalars.specs.Walk.{line_at, has_break, behind}
+use Rattle.yaml_scalars.specs.Lines.{begins_with, begins_break, put, begun, lines, is_mark, is_cut_mark, is_end, lead}
+use Rattle.yaml_scalars.specs.Walk.{begins_mark, line_at, has_break, behind}
 
 both : (p q : Bool) → (p && q) ≡ true → (p ≡ true) × (q ≡ true)
 both true true h = (refl, refl)
@@ -72,30 +72,37 @@ lead_le p (x ∷ xs) = by_byte (p x) (lead_le p xs) where
   by_byte false h = omega arith
 
 -- too few bytes for a mark
-short_mark : (xs : List ℕ) → length xs < 3 → is_mark (line_at xs) ≡ false
+short_mark : (xs : List ℕ) → length xs < 3 → begins_mark (line_at xs) ≡ false
 short_mark xs l = too_short (line_at xs) (let f = line_fits xs in omega arith) where
-  too_short : (ys : List ℕ) → length ys < 3 → is_mark ys ≡ false
+  too_short : (ys : List ℕ) → length ys < 3 → begins_mark ys ≡ false
   too_short [] m = refl
   too_short (a ∷ []) m = refl
   too_short (a ∷ b ∷ []) m = refl
   too_short (a ∷ b ∷ c ∷ ys) m = absurd (omega arith)
 
-short_cut : (xs : List ℕ) → length xs < 4 → is_cut_mark (line_at xs) ≡ false
-short_cut xs l = too_short (line_at xs) (let f = line_fits xs in omega arith) where
-  too_short : (ys : List ℕ) → length ys < 4 → is_cut_mark ys ≡ false
-  too_short [] m = refl
-  too_short (a ∷ []) m = refl
-  too_short (a ∷ b ∷ []) m = refl
-  too_short (a ∷ b ∷ c ∷ []) m = none (nat_eq a 45 || nat_eq a 46) (nat_eq a b) (nat_eq a c) where
-    none : (p q r : Bool) → (p && (q && (r && false))) ≡ false
-    none true true true = refl
-    none true true false = refl
-    none true false r = refl
-    none false q r = refl
-  too_short (a ∷ b ∷ c ∷ d ∷ ys) m = absurd (omega arith)
-
-pub cut_short : (bytes : List ℕ) (i : ℕ) → length bytes - i < 4 → is_cut_mark (line_at (drop i bytes)) ≡ false
-cut_short bytes i l = short_cut (drop i bytes) (omega (arith, length-drop i bytes))
-
-pub mark_short : (bytes : List ℕ) (i : ℕ) → length bytes - i < 3 → is_mark (line_at (drop i bytes)) ≡ false
+pub mark_short : (bytes : List ℕ) (i : ℕ) → length bytes - i < 3 → begins_mark (line_at (drop i bytes)) ≡ false
 mark_short bytes i l = short_mark (drop i bytes) (omega (arith, length-drop i bytes))
+
+-- a mark by its bytes and what is behind them
+pub mark_three : (xs : List ℕ) → begins_mark xs ≡ true → 3 ≤ length xs
+mark_three [] h = absurd (cc)
+mark_three (a ∷ []) h = absurd (cc)
+mark_three (a ∷ b ∷ []) h = absurd (cc)
+mark_three (a ∷ b ∷ c ∷ xs) h = omega arith
+
+parts : (p q r s : Bool) → (p && (q && (r && s))) ≡ ((p && (q && r)) && s)
+parts true true r s = refl
+parts true false r s = refl
+parts false q r s = refl
+
+pub mark_parts : (xs : List ℕ) → is_mark xs ≡ (begins_mark xs && is_end (drop 3 xs))
+mark_parts [] = refl
+mark_parts (a ∷ []) = refl
+mark_parts (a ∷ b ∷ []) = refl
+mark_parts (a ∷ b ∷ c ∷ xs) = parts (nat_eq a 45 || nat_eq a 46) (nat_eq a b) (nat_eq a c) (is_end xs)
+
+pub cut_parts : (xs : List ℕ) → is_cut_mark xs ≡ (begins_mark xs && begins_with 13 (drop 3 xs))
+cut_parts [] = refl
+cut_parts (a ∷ []) = refl
+cut_parts (a ∷ b ∷ []) = refl
+cut_parts (a ∷ b ∷ c ∷ xs) = parts (nat_eq a 45 || nat_eq a 46) (nat_eq a b) (nat_eq a c) (begins_with 13 xs)

@@ -21,7 +21,7 @@ unfolding place
 fails_same p q e = ap place e
 
 -- how a further line comes to fail, or to stand
-ends_fails : (flow : Bool) (part t : List ℕ) (at e k p : ℕ) → ends_on flow part at t e k ≡ Fails p → ⊥
+pub ends_fails : (flow : Bool) (part t : List ℕ) (at e k p : ℕ) → ends_on flow part at t e k ≡ Fails p → ⊥
 ends_fails flow part t at e k p h = by_length (nat_eq (plain_len flow false part) 0) h where
   by_length : (q : Bool) → cond q (Stands t e) (Stands (joined flow part t k) (content_end flow part at)) ≡ Fails p → ⊥
   by_length true h = absurd (cc)
@@ -37,7 +37,7 @@ FailsBehind flow part at p w = (p ≡ at + plain_len flow false part + 1) × Fai
 abbrev pub FailsBefore : Bool → List ℕ → ℕ → ℕ → Why → Type 0
 FailsBefore flow part at p w = (p ≡ at + plain_len flow false part) × (w ≡ Return) × (flow ≡ false) × (ends_with 58 (take (plain_len flow false part) part) ≡ true)
 
-return_fails : (flow : Bool) (part : List ℕ) (at p : ℕ) → return_shown flow part at ≡ p → FailsBehind flow part at p Return ⊎ FailsBefore flow part at p Return
+pub return_fails : (flow : Bool) (part : List ℕ) (at p : ℕ) → return_shown flow part at ≡ p → FailsBehind flow part at p Return ⊎ FailsBefore flow part at p Return
 return_fails true part at p h = inl (sym h, inl refl)
 return_fails false part at p h = by_colon (ends_with 58 (take (plain_len false false part) part)) refl h where
   by_colon : (q : Bool) → ends_with 58 (take (plain_len false false part) part) ≡ q → cond q (at + plain_len false false part) (at + plain_len false false part + 1) ≡ p → FailsBehind false part at p Return ⊎ FailsBefore false part at p Return

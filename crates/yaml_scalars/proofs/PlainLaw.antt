@@ -29,7 +29,7 @@ first_fails s Colon at xs ls p h = absurd (cc)
 first_fails s Comment at xs ls p h = absurd (cc)
 first_fails s Mark at xs ls p h = absurd (cc)
 
-abbrev opens : Setting → ℕ → List ℕ → List Line → Bool → Bool → Outcome
+abbrev pub opens : Setting → ℕ → List ℕ → List Line → Bool → Bool → Outcome
 opens s at xs ls mark begins = cond mark (Fails (at + 3)) (cond begins (first s (reason s.flow xs) at xs ls) (Fails (wrong_begin at xs)))
 
 -- in the ways that a first line fails: as a mark, at what begins no scalar, or as above
@@ -93,10 +93,10 @@ both true true h = (refl, refl)
 both true false h = absurd (cc)
 both false q h = absurd (cc)
 
-abbrev dash : ℕ → Bool
+abbrev pub dash : ℕ → Bool
 dash b = nat_eq b 45 || nat_eq b 46
 
-abbrev marks_end : List ℕ → Bool
+abbrev pub marks_end : List ℕ → Bool
 marks_end r = is_end r || begins_with 13 r
 
 mark_tests : (d e f g h : Bool) → ((d && (e && (f && g))) || (d && (e && (f && h)))) ≡ true → (d ≡ true) × (e ≡ true) × (f ≡ true) × ((g || h) ≡ true)
@@ -105,7 +105,7 @@ mark_tests true true false g h k = absurd (cc)
 mark_tests true false f g h k = absurd (cc)
 mark_tests false e f g h k = absurd (cc)
 
-mark_of : (xs : List ℕ) → marked xs ≡ true → (a b c : ℕ) × (r : List ℕ) × (xs ≡ a ∷ b ∷ c ∷ r) × (dash a ≡ true) × (nat_eq a b ≡ true) × (nat_eq a c ≡ true) × (marks_end r ≡ true)
+pub mark_of : (xs : List ℕ) → marked xs ≡ true → (a b c : ℕ) × (r : List ℕ) × (xs ≡ a ∷ b ∷ c ∷ r) × (dash a ≡ true) × (nat_eq a b ≡ true) × (nat_eq a c ≡ true) × (marks_end r ≡ true)
 mark_of [] h = absurd (cc)
 mark_of (a ∷ []) h = absurd (cc)
 mark_of (a ∷ b ∷ []) h = absurd (cc)
@@ -114,7 +114,7 @@ mark_of (a ∷ b ∷ c ∷ r) h = let t = mark_tests (dash a) (nat_eq a b) (nat_
 pub mark_length : (xs : List ℕ) → marked xs ≡ true → 3 ≤ length xs
 mark_length xs h = let m = mark_of xs h in let e = ap (λ (t : List ℕ). length t) m.4 in omega (arith, e)
 
-mark_made : (a b c : ℕ) (r : List ℕ) → dash a ≡ true → nat_eq a b ≡ true → nat_eq a c ≡ true → marks_end r ≡ true → marked (a ∷ b ∷ c ∷ r) ≡ true
+pub mark_made : (a b c : ℕ) (r : List ℕ) → dash a ≡ true → nat_eq a b ≡ true → nat_eq a c ≡ true → marks_end r ≡ true → marked (a ∷ b ∷ c ∷ r) ≡ true
 mark_made a b c r x y z w = by_tests (dash a) (nat_eq a b) (nat_eq a c) x y z where
   by_tests : (d e f : Bool) → d ≡ true → e ≡ true → f ≡ true → ((d && (e && (f && is_end r))) || (d && (e && (f && begins_with 13 r)))) ≡ true
   by_tests true true true x y z = w
@@ -168,11 +168,11 @@ firm_begin true false u v e h = absurd (cc)
 firm_begin false false u v e h = refl
 firm_begin x true u v e h = absurd (cc)
 
-abbrev may_begin : ℕ → Bool
+abbrev pub may_begin : ℕ → Bool
 may_begin b = not (is_white b || is_indicator b || nat_eq b 13)
 
 -- not safe, or a carriage return
-abbrev bare : Bool → List ℕ → Bool
+abbrev pub bare : Bool → List ℕ → Bool
 bare flow bs = is_unsafe flow bs || begins_with 13 bs
 
 doubtful_begins : (b : ℕ) → is_doubtful b ≡ true → may_begin b ≡ true
@@ -190,7 +190,7 @@ none_then false true true e f = refl
 none_then x false u e f = absurd (cc)
 none_then x true false e f = absurd (cc)
 
-bare_return : (flow : Bool) (d : ℕ) (y : List ℕ) → d ≡ 13 → bare flow (d ∷ y) ≡ true
+pub bare_return : (flow : Bool) (d : ℕ) (y : List ℕ) → d ≡ 13 → bare flow (d ∷ y) ≡ true
 bare_return true d y e = ap (λ (c : ℕ). bare true (c ∷ y)) e
 bare_return false d y e = ap (λ (c : ℕ). bare false (c ∷ y)) e
 
@@ -247,7 +247,7 @@ wrong_from at (b ∷ bs) = by_doubt (is_doubtful b) where
   by_doubt true = omega arith
   by_doubt false = omega arith
 
-wrong_to : (at : ℕ) (xs : List ℕ) → wrong_begin at xs ≤ at + length xs
+pub wrong_to : (at : ℕ) (xs : List ℕ) → wrong_begin at xs ≤ at + length xs
 wrong_to at [] = omega arith
 wrong_to at (b ∷ bs) = by_doubt (is_doubtful b) where
   by_doubt : (d : Bool) → cond d (suc at) at ≤ at + suc (length bs)

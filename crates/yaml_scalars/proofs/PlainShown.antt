@@ -17,7 +17,7 @@ use Rattle.yaml_scalars.proofs.PlainDead.{FailsAt, FailsBefore, colon_last, othe
 abbrev pub IsShown : ℕ → Type 0
 IsShown c = (is_white c ≡ false) × (is_space c ≡ false) × (nat_eq c 45 ≡ false) × (nat_eq c 46 ≡ false)
 
-blank_front : (a : List ℕ) (c : ℕ) (x : List ℕ) → is_white c ≡ false → is_blank (a ++ (c ∷ x)) ≡ false
+pub blank_front : (a : List ℕ) (c : ℕ) (x : List ℕ) → is_white c ≡ false → is_blank (a ++ (c ∷ x)) ≡ false
 blank_front [] c x w = ap (λ q. cond q (is_blank x) false) w
 blank_front (d ∷ a) c x w = by_white (is_white d) (blank_front a c x w) where
   by_white : (q : Bool) → is_blank (a ++ (c ∷ x)) ≡ false → cond q (is_blank (a ++ (c ∷ x))) false ≡ false
@@ -78,7 +78,7 @@ inside_front s a c x y h = by_flow s.flow where
       ∙ ap (λ k. cond (nat_lt k (above_of s.parent) || begins_with 9 (drop (indent (a ++ (c ∷ y))) (a ++ (c ∷ y)))) Outside (content_at (indent (a ++ (c ∷ x))) (drop (indent (a ++ (c ∷ x))) (a ++ (c ∷ x))))) i.0
       ∙ ap (λ o. cond (nat_lt (indent (a ++ (c ∷ y))) (above_of s.parent) || begins_with 9 (drop (indent (a ++ (c ∷ y))) (a ++ (c ∷ y)))) Outside o) (content_part (indent (a ++ (c ∷ x))) (indent (a ++ (c ∷ y))) a c x y i.0 i.1)
 
-below_front : (s : Setting) (a : List ℕ) (c : ℕ) (x y : List ℕ) → IsShown c → below s (a ++ (c ∷ x)) ≡ below s (a ++ (c ∷ y))
+pub below_front : (s : Setting) (a : List ℕ) (c : ℕ) (x y : List ℕ) → IsShown c → below s (a ++ (c ∷ x)) ≡ below s (a ++ (c ∷ y))
 below_front s a c x y h =
     ap (λ q. cond q Blank (cond (is_mark (a ++ (c ∷ x))) Outside (inside s (a ++ (c ∷ x))))) (blank_front a c x h.0 ∙ sym (blank_front a c y h.0))
     ∙ ap (λ q. cond (is_blank (a ++ (c ∷ y))) Blank (cond q Outside (inside s (a ++ (c ∷ x))))) (mark_front a c x y h)
@@ -88,7 +88,7 @@ below_front s a c x y h =
 shown_return : (c : ℕ) → c ≡ 13 → IsShown c
 shown_return c e = (grind (arith, nat_tests, e), grind (arith, nat_tests, e), grind (arith, nat_tests, e), grind (arith, nat_tests, e))
 
-shown_colon : (c : ℕ) → c ≡ 58 → IsShown c
+pub shown_colon : (c : ℕ) → c ≡ 58 → IsShown c
 shown_colon c e = (grind (arith, nat_tests, e), grind (arith, nat_tests, e), grind (arith, nat_tests, e), grind (arith, nat_tests, e))
 
 -- the bytes of a failing line: those before the byte that shows it, that byte, and others
@@ -159,6 +159,10 @@ last_apart c [] h = absurd (cc)
 last_apart c (b ∷ []) h = let e : b ≡ c = grind (arith, nat_tests, h) in ([], ap (λ k. k ∷ []) e)
 last_apart c (b ∷ d ∷ a) h = let r = last_apart c (d ∷ a) h in (b ∷ r.0, ap (λ t. b ∷ t) r.1)
 
+pub take_front : (r x : List ℕ) → take (length r) (r ++ x) ≡ r
+take_front [] x = refl
+take_front (d ∷ r) x = ap (λ t. d ∷ t) (take_front r x)
+
 -- a line that fails at a carriage return behind a `:`
 pub line_cut : (s : Setting) (p at : ℕ) (l m : List ℕ) (n : ℕ) (u : List ℕ) (f : ℕ) (t : List ℕ) (e k : ℕ) (next : List ℕ → ℕ → ℕ → Outcome) → below s l ≡ Further n → FailsBefore s.flow (drop n l) (at + n) p (reason s.flow (drop n l)) → SplitAt p at l m → further s (below s m) at m t e k next ≡ Stands u f → ⊥
 line_cut s p at l m n u f t e k next b (q, w, flow, colon) sp g =
@@ -191,10 +195,6 @@ line_cut s p at l m n u f t e k next b (q, w, flow, colon) sp g =
           let t : front ++ x ≡ a ++ z = cc in
           let r = split_there front x a z t (omega (arith, l)) in
           (ap (λ k. k ∷ front) i ∙ ap (λ k. h ∷ k) r.0, r.1)
-
-      take_front : (r x : List ℕ) → take (length r) (r ++ x) ≡ r
-      take_front [] x = refl
-      take_front (d ∷ r) x = ap (λ t. d ∷ t) (take_front r x)
 
       returned : (w r v z : List ℕ) → plain_len s.flow false (w ++ (13 ∷ z)) ≡ length w → FailsAt s.flow (reason s.flow (w ++ (13 ∷ v)))
       returned w r v z h = inl (other_return s.flow w z v h)

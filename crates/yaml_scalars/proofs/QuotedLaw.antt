@@ -23,7 +23,7 @@ lead_all (b ∷ f) x h = by_white (is_white b) h (λ e. lead_all f x e) where
   by_white true e r = let l = r e in omega arith
   by_white false e r = absurd (cc)
 
-lead_some : (f x : List ℕ) → is_blank f ≡ false → (lead is_white (f ++ x) ≡ lead is_white f) × (lead is_white f ≤ length f) × (is_blank (f ++ x) ≡ false)
+pub lead_some : (f x : List ℕ) → is_blank f ≡ false → (lead is_white (f ++ x) ≡ lead is_white f) × (lead is_white f ≤ length f) × (is_blank (f ++ x) ≡ false)
 lead_some [] x h = absurd (cc)
 lead_some (b ∷ f) x h = by_white (is_white b) h (λ e. lead_some f x e) where
   by_white : (q : Bool) → cond q (is_blank f) false ≡ false → (is_blank f ≡ false → (lead is_white (f ++ x) ≡ lead is_white f) × (lead is_white f ≤ length f) × (is_blank (f ++ x) ≡ false))
@@ -32,7 +32,7 @@ lead_some (b ∷ f) x h = by_white (is_white b) h (λ e. lead_some f x e) where
   by_white false e r = (refl, omega arith, refl)
 
 -- the part of a line below the first
-abbrev part_of : ℕ → ℕ → List ℕ → List ℕ → Part
+abbrev pub part_of : ℕ → ℕ → List ℕ → List ℕ → Part
 part_of quote at bytes text = line_part quote (at + lead is_white bytes) 0 text (length text) (past_white bytes)
 
 -- behind a failing part no scalar stands
@@ -85,7 +85,7 @@ split_dead quote p at l m text (f, x, y, el, em, e, s) between h = by_front (is_
       (ap is_blank em ∙ b.2, subst (λ r. IsFailing false r) (sym in_m) (part_dead false quote (drop n f) x y (at + n) 0 text (length text) p s (omega arith) size (subst (λ r. IsAt false p x r) in_l (h x))))
 
 -- a mark begins a document
-abbrev starts : Line → Bool
+abbrev pub starts : Line → Bool
 starts l = is_mark l.bytes && (l.broken || nat_lt 3 (length l.bytes))
 
 -- lines that agree up to the carriage return that cuts a mark: the other is cut, too, or a mark of three bytes
@@ -195,7 +195,7 @@ key_at (Joined t) over p x f h = f (let e : over ≡ p = cc in e)
 key_at (Returned r) over p x f h = let e : r ≡ p = cc in e
 key_at (Refused r) over p x f h = let e : r ≡ p = cc in e
 
-abbrev comes : Bool → Part → ℕ → (Bool → List ℕ → Outcome) → Outcome
+abbrev pub comes : Bool → Part → ℕ → (Bool → List ℕ → Outcome) → Outcome
 comes one r over next = cond one (key_part r over) (behind_part r next)
 
 same_part : (one : Bool) (r : Part) (over p : ℕ) (u : List ℕ) (e : ℕ) (next other : Bool → List ℕ → Outcome) → ((j : Bool) (t : List ℕ) → next j t ≡ Fails p → other j t ≡ Stands u e → ⊥) → comes one r over next ≡ Fails p → comes one r over other ≡ Stands u e → ⊥
@@ -210,7 +210,7 @@ same_part false (Joined t) over p u e next other f a b = f true t a b
 same_part false (Returned r) over p u e next other f a b = cc
 same_part false (Refused r) over p u e next other f a b = cc
 
-abbrev quote_of : List ℕ → ℕ
+abbrev pub quote_of : List ℕ → ℕ
 quote_of bytes = cond (begins_with 34 bytes) 34 39
 
 split_part : (one : Bool) (quote p at over over2 : ℕ) (f x y : List ℕ) (u : List ℕ) (e : ℕ) (next other : Bool → List ℕ → Outcome) → SameAhead x y → at + length f ≡ p → over ≡ at + length (f ++ x) → ((j : Bool) (t : List ℕ) → next j t ≡ Fails p → ⊥)

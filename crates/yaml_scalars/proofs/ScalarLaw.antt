@@ -1,14 +1,12 @@
 -- Where a scalar fails, no text that agrees up to the place and with the byte there has one.
-use Rattle.std.proofs.Common.{◌≡◌, ℕ, zero, suc, ◌+◌, ◌-◌, ◌<◌, ◌≤◌, ◌⊎◌, Bool, true, false, List, [], ◌∷◌, ◌++◌, length, take, drop, get_or, length-drop, refl, sym, ap, inl, inr, ◌∙◌, arith, cond, subst, drop-cons, length-take}
+use Rattle.std.proofs.Common.{◌≡◌, ℕ, zero, suc, ◌+◌, ◌-◌, ◌<◌, ◌≤◌, Bool, true, false, List, [], ◌∷◌, ◌++◌, length, drop, get_or, length-drop, refl, sym, ap, ◌∙◌, arith, cond, subst}
 use Rattle.std.specs.Prelude.{nat_eq, nat_lt, ◌||◌, ◌&&◌, not, slice_index}
 use Rattle.std.proofs.lemmas.Bool.Decides.{nat_tests}
-use Rattle.std.proofs.lemmas.List.{take-append-drop}
 use Rattle.yaml_scalars.specs.declared.scalar.Setting.{Setting}
 use Rattle.yaml_scalars.specs.Lines.{Line, Stands, Fails, begins_with, lines}
 use Rattle.yaml_scalars.specs.Walk.{line_at, has_break, behind}
 use Rattle.yaml_scalars.specs.Plain.{plain_on}
 use Rattle.yaml_scalars.specs.Scalar.{begins_order_mark, is_first_column, begins_quoted, begins_block, plain_scalar, quoted_scalar, block_scalar, scalar_at}
-use Rattle.yaml_scalars.specs.Refusals.{IsSyntax}
 use Rattle.yaml_scalars.proofs.Places.{lines_are}
 use Rattle.yaml_scalars.proofs.Agree.{Later, Within, texts_share, drop_before, lines_later, lines_within}
 use Rattle.yaml_scalars.proofs.PlainLaw.{plain_dead, plain_from, plain_to}
@@ -32,7 +30,7 @@ mark_same (x ∷ []) b rest more at l = no_three at (begins_order_mark (x ∷ b 
 mark_same (x ∷ y ∷ []) b rest more at l = no_three at (begins_order_mark (x ∷ y ∷ b ∷ rest)) (begins_order_mark (x ∷ y ∷ b ∷ more)) (omega arith)
 mark_same (x ∷ y ∷ z ∷ before) b rest more at l = refl
 
-column_same : (before : List ℕ) (b : ℕ) (rest more : List ℕ) (at : ℕ) → at ≤ length before → is_first_column (before ++ (b ∷ rest)) at ≡ is_first_column (before ++ (b ∷ more)) at
+pub column_same : (before : List ℕ) (b : ℕ) (rest more : List ℕ) (at : ℕ) → at ≤ length before → is_first_column (before ++ (b ∷ rest)) at ≡ is_first_column (before ++ (b ∷ more)) at
 column_same before b rest more at l =
     ap (λ q. (nat_eq at 0 || q) || nat_eq (slice_index (before ++ (b ∷ rest)) (at - 1)) 10) (mark_same before b rest more at l)
     ∙ ap (λ n. (nat_eq at 0 || (nat_eq at 3 && begins_order_mark (before ++ (b ∷ more)))) || nat_eq n 10) (get_same before b rest more (at - 1) (omega (arith, l)))
@@ -75,21 +73,21 @@ begins_same k before b rest more at l = ap (begins_with k) (drop_before at befor
   by_front [] = refl
   by_front (d ∷ r) = refl
 
-quoted_same : (before : List ℕ) (b : ℕ) (rest more : List ℕ) (at : ℕ) → at ≤ length before → begins_quoted (drop at (before ++ (b ∷ rest))) ≡ begins_quoted (drop at (before ++ (b ∷ more)))
+pub quoted_same : (before : List ℕ) (b : ℕ) (rest more : List ℕ) (at : ℕ) → at ≤ length before → begins_quoted (drop at (before ++ (b ∷ rest))) ≡ begins_quoted (drop at (before ++ (b ∷ more)))
 quoted_same before b rest more at l = ap (λ q. q || begins_with 39 (drop at (before ++ (b ∷ rest)))) (begins_same 34 before b rest more at l) ∙ ap (λ q. begins_with 34 (drop at (before ++ (b ∷ more))) || q) (begins_same 39 before b rest more at l)
 
-block_same : (s : Setting) (before : List ℕ) (b : ℕ) (rest more : List ℕ) (at : ℕ) → at ≤ length before → begins_block s (drop at (before ++ (b ∷ rest))) ≡ begins_block s (drop at (before ++ (b ∷ more)))
+pub block_same : (s : Setting) (before : List ℕ) (b : ℕ) (rest more : List ℕ) (at : ℕ) → at ≤ length before → begins_block s (drop at (before ++ (b ∷ rest))) ≡ begins_block s (drop at (before ++ (b ∷ more)))
 block_same s before b rest more at l = ap (λ q. not (s.flow || s.one_line) && (q || begins_with 62 (drop at (before ++ (b ∷ rest))))) (begins_same 124 before b rest more at l) ∙ ap (λ q. not (s.flow || s.one_line) && (begins_with 124 (drop at (before ++ (b ∷ more))) || q)) (begins_same 62 before b rest more at l)
 
 -- a scalar of any kind fails at or behind the place where it would begin, and within the text
-scalar_lower : (s : Setting) (text : List ℕ) (at p : ℕ) → at < length text → scalar_at s text at ≡ Fails p → at ≤ p
+pub scalar_lower : (s : Setting) (text : List ℕ) (at p : ℕ) → at < length text → scalar_at s text at ≡ Fails p → at ≤ p
 scalar_lower s text at p l h = by_kind (begins_quoted (drop at text)) (begins_block s (drop at text)) h where
   by_kind : (q r : Bool) → cond q (quoted_scalar s text at) (cond r (block_scalar s text at) (plain_scalar s text at)) ≡ Fails p → at ≤ p
   by_kind true r h = quoted_lower s text at p l h
   by_kind false true h = from_not_before at p (block_lower s text at p (omega (arith, l)) h)
   by_kind false false h = plain_lower s text at p (omega (arith, l)) h
 
-scalar_upper : (s : Setting) (text : List ℕ) (at p : ℕ) → at < length text → scalar_at s text at ≡ Fails p → p ≤ length text
+pub scalar_upper : (s : Setting) (text : List ℕ) (at p : ℕ) → at < length text → scalar_at s text at ≡ Fails p → p ≤ length text
 scalar_upper s text at p l h = by_kind (begins_quoted (drop at text)) (begins_block s (drop at text)) h where
   by_kind : (q r : Bool) → cond q (quoted_scalar s text at) (cond r (block_scalar s text at) (plain_scalar s text at)) ≡ Fails p → p ≤ length text
   by_kind true r h = quoted_upper s text at p l h
@@ -97,7 +95,7 @@ scalar_upper s text at p l h = by_kind (begins_quoted (drop at text)) (begins_bl
   by_kind false false h = plain_upper s text at p (omega (arith, l)) h
 
 -- texts that agree up to the place and with the byte there have a scalar of the same kind there, if any
-scalar_dead : (s : Setting) (before : List ℕ) (b : ℕ) (rest more : List ℕ) (at : ℕ) (t : List ℕ) (e : ℕ) → at ≤ length before → scalar_at s (before ++ (b ∷ rest)) at ≡ Fails (length before) → scalar_at s (before ++ (b ∷ more)) at ≡ Stands t e → ⊥
+pub scalar_dead : (s : Setting) (before : List ℕ) (b : ℕ) (rest more : List ℕ) (at : ℕ) (t : List ℕ) (e : ℕ) → at ≤ length before → scalar_at s (before ++ (b ∷ rest)) at ≡ Fails (length before) → scalar_at s (before ++ (b ∷ more)) at ≡ Stands t e → ⊥
 scalar_dead s before b rest more at t e l h k =
     by_kind (begins_quoted (drop at (before ++ (b ∷ rest)))) (begins_block s (drop at (before ++ (b ∷ rest)))) refl h
     (ap (λ q. cond q (quoted_scalar s (before ++ (b ∷ more)) at) (cond (begins_block s (drop at (before ++ (b ∷ rest)))) (block_scalar s (before ++ (b ∷ more)) at) (plain_scalar s (before ++ (b ∷ more)) at))) (quoted_same before b rest more at l)
@@ -106,24 +104,3 @@ scalar_dead s before b rest more at t e l h k =
       by_kind true r d h k = quoted_dead s before rest more b at t e l d h k
       by_kind false true d h k = block_dies s before b rest more at t e l h k
       by_kind false false d h k = plain_text_dead s before b rest more at t e l h k
-
--- a place within the text is dead, or it is the text's length
-pub syntax_of : (s : Setting) (text : List ℕ) (at p : ℕ) → at < length text → scalar_at s text at ≡ Fails p → IsSyntax s text at p
-syntax_of s text at p l h = by_place (split_places p (length text) (scalar_upper s text at p l h)) where
-  split_places : (p n : ℕ) → p ≤ n → (p < n) ⊎ (p ≡ n)
-  split_places p n m = by_test (nat_eq p n) refl where
-    by_test : (q : Bool) → nat_eq p n ≡ q → (p < n) ⊎ (p ≡ n)
-    by_test true e = inr (grind (arith, nat_tests, e))
-    by_test false e = inl (grind (arith, nat_tests, e, m))
-
-  by_place : (p < length text) ⊎ (p ≡ length text) → IsSyntax s text at p
-  by_place (inr e) = inr e
-  by_place (inl m) =
-      let before = take p text in
-      let b = get_or text p 0 in
-      let rest = drop (suc p) text in
-      let whole : text ≡ before ++ (b ∷ rest) = sym (take-append-drop p text) ∙ ap (λ t. take p text ++ t) (drop-cons text p 0 m) in
-      let size : length before ≡ p = omega (arith, length-take p text, m) in
-      let from = scalar_lower s text at p l h in
-      let here : scalar_at s (before ++ (b ∷ rest)) at ≡ Fails (length before) = ap (λ t. scalar_at s t at) (sym whole) ∙ h ∙ ap Fails (sym size) in
-      inl (before, rest, b, whole, size, λ more t e k. scalar_dead s before b rest more at t e (omega (arith, size, from)) here k)

@@ -1,7 +1,7 @@
 -- Where it shows that no scalar stands at a place, said by what texts agree with a text.
-use Rattle.std.specs.Prelude.{ℕ, ◌≡◌, ◌⊎◌, List, ◌∷◌, ◌++◌, length}
+use Rattle.std.specs.Prelude.{ℕ, ◌≡◌, ◌⊎◌, Bool, true, List, ◌∷◌, ◌++◌, length, nat_lt}
 use Rattle.yaml_scalars.specs.declared.scalar.Setting.{Setting}
-use Rattle.yaml_scalars.specs.Lines.{Stands}
+use Rattle.yaml_scalars.specs.Lines.{Stands, each}
 use Rattle.yaml_scalars.specs.Scalar.{scalar_at}
 
 -- no text that agrees with this one up to a place and with the byte there has a scalar of the setting at `at`
@@ -10,6 +10,13 @@ IsDead s text at place =
     (before behind : List ℕ) × (b : ℕ) × (text ≡ before ++ (b ∷ behind)) × (length before ≡ place)
     × ((more scalar : List ℕ) (end : ℕ) → scalar_at s (before ++ (b ∷ more)) at ≡ Stands scalar end → ⊥)
 
+abbrev pub is_ascii : ℕ → Bool
+is_ascii b = nat_lt b 128
+
+-- the text ends too early: with some more bytes of ASCII behind it, it has a scalar of the setting at `at`
+abbrev pub IsShort : Setting → List ℕ → ℕ → Type 0
+IsShort s text at = (more scalar : List ℕ) × (end : ℕ) × (each is_ascii more ≡ true) × (scalar_at s (text ++ more) at ≡ Stands scalar end)
+
 -- a place of a refusal: such a one, or the length of a text that ends too early
 abbrev pub IsSyntax : Setting → List ℕ → ℕ → ℕ → Type 0
-IsSyntax s text at place = IsDead s text at place ⊎ (place ≡ length text)
+IsSyntax s text at place = IsDead s text at place ⊎ ((place ≡ length text) × IsShort s text at)

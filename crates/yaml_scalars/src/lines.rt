@@ -1,9 +1,9 @@
 //! Lines of a text, by places in it, for this reader and those above it. A line runs up to its break or to the text's
 //! end; a break is a line feed, or a carriage return and a line feed (YAML 1.2.2, section 5.4). Places are byte offsets.
 ghost use Rattle.std.specs.Prelude.{ℕ, ◌≡◌, ◌+◌, ◌<◌, ◌≤◌, ◌∷◌, [], ◌++◌, ◌-◌, length, drop, slice_index, true, false, IfOk, MatchOption, string_bytes};
-ghost use Rattle.yaml_scalars.specs.Lines.{is_space, is_white, lead, is_blank, is_end, is_mark, is_cut_mark, newlines, fold, lines};
+ghost use Rattle.yaml_scalars.specs.Lines.{begins_with, is_space, is_white, lead, is_blank, is_end, is_mark, is_cut_mark, newlines, fold, lines};
 ghost use Rattle.yaml_scalars.specs.Scalar.{begins_order_mark, is_first_column};
-ghost use Rattle.yaml_scalars.specs.Walk.{ends_line, line_at, has_break, behind};
+ghost use Rattle.yaml_scalars.specs.Walk.{ends_line, begins_mark, line_at, has_break, behind};
 
 use std::alloc::AllocError;
 
@@ -109,10 +109,11 @@ pub fn is_end(bytes: &[u8], at: usize) -> bool
     ends_line(bytes, at) || is_white(bytes[at])
 }
 
-/// Whether the line that begins at a place is a mark between documents.
-pub fn is_mark(bytes: &[u8], start: usize) -> bool
+/// Whether the line that begins at a place has the three bytes of a mark in front.
+fn begins_mark(bytes: &[u8], start: usize) -> bool
     requires { start ≤ length bytes.now }
-    ensures { result ≡ is_mark (line_at (drop start bytes.now)) }
+    ensures is { result ≡ begins_mark (line_at (drop start bytes.now)) }
+    ensures within { result ≡ true → start + 3 ≤ length bytes.now }
 {
     if bytes.len() - start < 3 {
         return false;
@@ -124,10 +125,23 @@ pub fn is_mark(bytes: &[u8], start: usize) -> bool
     if bytes[start + 1] != first {
         return false;
     }
-    if bytes[start + 2] != first {
-        return false;
-    }
-    is_end(bytes, start + 3)
+    bytes[start + 2] == first
+}
+
+/// Whether the line that begins at a place is a mark between documents.
+pub fn is_mark(bytes: &[u8], start: usize) -> bool
+    requires { start ≤ length bytes.now }
+    ensures { result ≡ is_mark (line_at (drop start bytes.now)) }
+{
+    begins_mark(bytes, start) && is_end(bytes, start + 3)
+}
+
+/// Whether a carriage return stands at a place that is in no break.
+fn is_return(bytes: &[u8], at: usize) -> bool
+    requires { at ≤ length bytes.now }
+    ensures { result ≡ begins_with 13 (line_at (drop at bytes.now)) }
+{
+    !ends_line(bytes, at) && bytes[at] == b'\r'
 }
 
 /// Whether the line that begins at a place has the bytes of a mark and then a carriage return, which a line feed would
@@ -136,20 +150,7 @@ pub(crate) fn is_cut_mark(bytes: &[u8], start: usize) -> bool
     requires { start ≤ length bytes.now }
     ensures { result ≡ is_cut_mark (line_at (drop start bytes.now)) }
 {
-    if bytes.len() - start < 4 {
-        return false;
-    }
-    let first = bytes[start];
-    if first != b'-' && first != b'.' {
-        return false;
-    }
-    if bytes[start + 1] != first {
-        return false;
-    }
-    if bytes[start + 2] != first {
-        return false;
-    }
-    !ends_line(bytes, start + 3) && bytes[start + 3] == b'\r'
+    begins_mark(bytes, start) && is_return(bytes, start + 3)
 }
 
 fn begins_order_mark(bytes: &[u8]) -> bool

@@ -35,7 +35,7 @@ pub fn read_scalar<'s>(
 }
 
 /// Where `read_scalar` answers `Syntax`, no text that agrees with this one up to that place and with the byte there has a
-/// scalar of the setting there, or the text ends too early. The call itself does nothing.
+/// scalar of the setting there; or the place is the text's length, and a longer text has one. The call itself does nothing.
 pub fn syntax_place(text: &str, at: usize, setting: Setting)
     requires { at < length text.now }
     ensures { (place : ℕ) → scalar_at setting text.now at ≡ Fails place → IsSyntax setting text.now at place }

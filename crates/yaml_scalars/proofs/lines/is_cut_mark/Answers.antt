@@ -1,6 +1,6 @@
-use Rattle.std.proofs.Common.{sym}
-use Rattle.yaml_scalars.proofs.Places.{cut_short}
+use Rattle.std.proofs.Common.{sym, ◌∙◌}
+use Rattle.yaml_scalars.proofs.LineParts.{cut_at}
 use Rattle.yaml_scalars.proofs.lines.is_cut_mark.Goals as goal
 
-pub returns-then-bytes-start-lt4 : goal.returns-then-bytes-start-lt4
-returns-then-bytes-start-lt4 c = sym (cut_short c.args.bytes.now c.args.start c.if-bytes-start-lt4.true)
+pub returns-then-begins_mark : goal.returns-then-begins_mark
+returns-then-begins_mark c = c.is_return.ensures ∙ cut_at c.args.bytes.now c.args.start (sym c.begins_mark.ensures.is ∙ c.if-begins_mark.true)

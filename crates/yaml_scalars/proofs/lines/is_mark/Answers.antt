@@ -1,6 +1,6 @@
-use Rattle.std.proofs.Common.{sym}
-use Rattle.yaml_scalars.proofs.Places.{mark_short}
+use Rattle.std.proofs.Common.{sym, ◌∙◌}
+use Rattle.yaml_scalars.proofs.LineParts.{mark_at}
 use Rattle.yaml_scalars.proofs.lines.is_mark.Goals as goal
 
-pub returns-then-bytes-start-lt3 : goal.returns-then-bytes-start-lt3
-returns-then-bytes-start-lt3 c = sym (mark_short c.args.bytes.now c.args.start c.if-bytes-start-lt3.true)
+pub returns-then-begins_mark : goal.returns-then-begins_mark
+returns-then-begins_mark c = c.is_end.ensures ∙ mark_at c.args.bytes.now c.args.start (sym c.begins_mark.ensures.is ∙ c.if-begins_mark.true)

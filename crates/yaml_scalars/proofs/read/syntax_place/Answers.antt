@@ -1,4 +1,4 @@
-use Rattle.yaml_scalars.proofs.ScalarLaw.{syntax_of}
+use Rattle.yaml_scalars.proofs.SyntaxLaw.{syntax_of}
 use Rattle.yaml_scalars.proofs.read.syntax_place.Goals as goal
 
 pub returns : goal.returns
