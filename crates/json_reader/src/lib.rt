@@ -13,6 +13,8 @@ mod refusal;
 mod stage;
 mod step;
 #[cfg(test)]
+mod suite;
+#[cfg(test)]
 mod tests;
 mod text;
 

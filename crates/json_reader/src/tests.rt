@@ -5,7 +5,7 @@ use std::alloc::Global;
 use std::test::Fail;
 
 /// The tree of a text that is surely short enough.
-fn read(alloc: Global, text: &str) -> Result<Doc<'_>, JsonRefusal> {
+pub(crate) fn read(alloc: Global, text: &str) -> Result<Doc<'_>, JsonRefusal> {
     if 8388608 < text.len() {
         return Err(JsonRefusal::NoMemory);
     }
@@ -13,7 +13,7 @@ fn read(alloc: Global, text: &str) -> Result<Doc<'_>, JsonRefusal> {
 }
 
 /// Whether a text is refused so.
-fn is_refused(alloc: Global, text: &str, refusal: JsonRefusal) -> bool {
+pub(crate) fn is_refused(alloc: Global, text: &str, refusal: JsonRefusal) -> bool {
     match read(alloc, text) {
         Err(given) => given == refusal,
         Ok(_) => false,
