@@ -5,6 +5,8 @@
 #![tactic(auto)]
 
 mod ahead;
+#[cfg(test)]
+mod cases;
 mod read;
 mod refusal;
 mod stage;

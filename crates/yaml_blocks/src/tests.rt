@@ -5,7 +5,7 @@ use std::alloc::Global;
 use std::test::Fail;
 
 /// The tree of a text that is surely short enough.
-fn read(alloc: Global, text: &str) -> Result<Doc<'_>, YamlRefusal> {
+pub(crate) fn read(alloc: Global, text: &str) -> Result<Doc<'_>, YamlRefusal> {
     if 8388608 < text.len() {
         return Err(YamlRefusal::NoMemory);
     }
@@ -13,7 +13,7 @@ fn read(alloc: Global, text: &str) -> Result<Doc<'_>, YamlRefusal> {
 }
 
 /// Whether a text stands for no tree.
-fn is_unread(alloc: Global, text: &str) -> bool {
+pub(crate) fn is_unread(alloc: Global, text: &str) -> bool {
     match read(alloc, text) {
         Err(refusal) => refusal == YamlRefusal::Unread,
         Ok(_) => false,
