@@ -472,6 +472,28 @@ fn tells_err_with_too_little_room_for_a_refusal(rt: HostRuntime) -> Result<(), F
     Ok(())
 }
 
+/// With memory at hand the call ends as defined. Where an allocation is refused, as `rt try --test --fail-alloc N` does,
+/// it ends so, or by want of memory with fronts of the defined texts on out and err.
+#[test]
+fn ends_as_defined_or_by_want_of_memory(rt: HostRuntime) {
+    let ran = match call(rt.alloc(), &FIRST) {
+        Ok(ran) => ran,
+        // The words, the files and their contents were not made.
+        Err(AllocError) => return,
+    };
+    match &ran.end {
+        End::Memory => {
+            assert!(rt; PASSED.as_bytes().starts_with(ran.out.as_slice()));
+            assert!(rt;
+                b"guard: memory\n"
+                    .as_slice()
+                    .starts_with(ran.err.as_slice())
+            );
+        }
+        _ => expect(&rt, &ran, JUDGED_PASS),
+    }
+}
+
 /// A text with spaces behind it up to a length.
 fn padded(alloc: Global, text: &[u8], length: usize) -> Result<Vec<u8>, AllocError> {
     let mut bytes = vec![in alloc; b' '; length]?;
