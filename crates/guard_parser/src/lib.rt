@@ -11,6 +11,7 @@ mod literal;
 mod nest;
 mod read;
 mod read_file;
+mod read_query;
 mod refusal;
 mod shape;
 mod state;

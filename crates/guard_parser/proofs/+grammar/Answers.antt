@@ -8,40 +8,40 @@ use Rattle.guard_syntax.specs.Seen.{see_disj, see_let, see_body, see_part, see_e
 use Rattle.guard_syntax.specs.Syntax as sx
 use Rattle.std.proofs.Common.{◌≡◌, ℕ, ◌-◌, ◌+◌, true, map, refl, ap, sym, ◌∙◌, subst, Bool, cond, length, ◌≢◌, arith, false}
 use Rattle.std.proofs.lemmas.List.{map-append}
-use Rattle.guard_parser.proofs.read.+grammar.Goals as goal
+use Rattle.guard_parser.proofs.+grammar.Goals as goal
 
-pub body-returns : goal.body-returns
-body-returns t c =
+pub read::body-returns : goal.read::body-returns
+read::body-returns t c =
     subst (λ (n : ℕ). Reads see_body ((inners (source c.args.tokens) c.args.tokens.turns n).body (state_of c.args.cursor.now) c.args.cursor.now.seen) c.body_of.result c.body_of.new.cursor)
     (sym (deeper c.args.depth c.if-depth-eq0.false)) c.body_of.ensures
 
-pub conds_inside-returns : goal.conds_inside-returns
-conds_inside-returns t c =
+pub read_query::conds_inside-returns : goal.read_query::conds_inside-returns
+read_query::conds_inside-returns t c =
     subst (λ (n : ℕ). Reads see_conds ((inners (source c.args.tokens) c.args.tokens.turns n).conds (state_of c.args.cursor.now) c.args.cursor.now.seen) c.conds.result c.conds.new.cursor)
     (sym (deeper c.args.depth c.if-depth-eq0.false)) c.conds.ensures
 
-pub expr_inside-returns : goal.expr_inside-returns
-expr_inside-returns t c =
+pub read_query::expr_inside-returns : goal.read_query::expr_inside-returns
+read_query::expr_inside-returns t c =
     subst (λ (n : ℕ). Reads see_expr ((inners (source c.args.tokens) c.args.tokens.turns n).expr (state_of c.args.cursor.now) c.args.cursor.now.seen) c.expr.result c.expr.new.cursor)
     (sym (deeper c.args.depth c.if-depth-eq0.false)) c.expr.ensures
 
-pub exprs-returns : goal.exprs-returns
-exprs-returns t c =
+pub read_query::exprs-returns : goal.read_query::exprs-returns
+read_query::exprs-returns t c =
     subst (λ (n : ℕ). Reads see_exprs ((inners (source c.args.tokens) c.args.tokens.turns n).exprs (state_of c.args.cursor.now) c.args.cursor.now.seen) c.exprs_of.result c.exprs_of.new.cursor)
     (sym (deeper c.args.depth c.if-depth-eq0.false)) c.exprs_of.ensures
 
-pub body_items-returns-then-not-sees : goal.body_items-returns-then-not-sees
+pub read::body_items-returns-then-not-sees : goal.read::body_items-returns-then-not-sees
 unfolding body_items
-body_items-returns-then-not-sees t c =
+read::body_items-returns-then-not-sees t c =
     let ls = map see_let c.loop-turn.lets.items in
     let ds = map see_disj c.loop-turn.parts.items in
     let s = source c.args.tokens in
     sym c.loop-turn.invariant ∙ ap (λ (k : ℕ). with_items ls ds (body_items_at c.args.tokens c.args.depth k (state_of c.loop-turn.cursor) c.loop-turn.cursor.seen)) (one_more c.args.tokens.turns c.loop-turn._turn c.loop-turn-test.true)
     ∙ ap (with_items ls ds) (saw s is_let _ _ (state_of c.loop-turn.cursor) c.loop-turn.cursor.seen c.sees.ensures.token c.if-sees.false c.sees.ensures.state c.sees.ensures.seen (saw s begins_part _ _ (state_of c.sees.new.self) c.sees.new.self.seen c.sees-in-loop-turn.ensures.token c.if-not-sees.true c.sees-in-loop-turn.ensures.state c.sees-in-loop-turn.ensures.seen refl))
 
-pub body_items-loop-turn-preserved-then-sees : goal.body_items-loop-turn-preserved-then-sees
+pub read::body_items-loop-turn-preserved-then-sees : goal.read::body_items-loop-turn-preserved-then-sees
 unfolding body_items
-body_items-loop-turn-preserved-then-sees t c =
+read::body_items-loop-turn-preserved-then-sees t c =
     let ls = map see_let c.loop-turn.lets.items in
     let ds = map see_disj c.loop-turn.parts.items in
     let more : ℕ = c.args.tokens.turns - (c.loop-turn._turn + 1) in
@@ -52,9 +52,9 @@ body_items-loop-turn-preserved-then-sees t c =
     ∙ sym (ap (with_items ls ds) (saw s is_let _ _ (state_of c.loop-turn.cursor) c.loop-turn.cursor.seen c.sees.ensures.token c.if-sees.true c.sees.ensures.state c.sees.ensures.seen (then_read _ c.in-Ok.ensures refl)))
     ∙ sym (ap (λ (k : ℕ). with_items ls ds (body_items_at c.args.tokens c.args.depth k (state_of c.loop-turn.cursor) c.loop-turn.cursor.seen)) (one_more c.args.tokens.turns c.loop-turn._turn c.loop-turn-test.true)) ∙ c.loop-turn.invariant
 
-pub body_items-loop-turn-preserved : goal.body_items-loop-turn-preserved
+pub read::body_items-loop-turn-preserved : goal.read::body_items-loop-turn-preserved
 unfolding body_items
-body_items-loop-turn-preserved t c =
+read::body_items-loop-turn-preserved t c =
     let ls = map see_let c.loop-turn.lets.items in
     let ds = map see_disj c.loop-turn.parts.items in
     let more : ℕ = c.args.tokens.turns - (c.loop-turn._turn + 1) in
@@ -65,9 +65,9 @@ body_items-loop-turn-preserved t c =
     ∙ sym (ap (with_items ls ds) (saw s is_let _ _ (state_of c.loop-turn.cursor) c.loop-turn.cursor.seen c.sees.ensures.token c.if-sees.false c.sees.ensures.state c.sees.ensures.seen (saw s begins_part _ _ (state_of c.sees.new.self) c.sees.new.self.seen c.sees-in-loop-turn.ensures.token c.if-not-sees.false c.sees-in-loop-turn.ensures.state c.sees-in-loop-turn.ensures.seen (then_read _ c.in-Ok-disj.ensures refl))))
     ∙ sym (ap (λ (k : ℕ). with_items ls ds (body_items_at c.args.tokens c.args.depth k (state_of c.loop-turn.cursor) c.loop-turn.cursor.seen)) (one_more c.args.tokens.turns c.loop-turn._turn c.loop-turn-test.true)) ∙ c.loop-turn.invariant
 
-pub body_items-returns-in-Err : goal.body_items-returns-in-Err
+pub read::body_items-returns-in-Err : goal.read::body_items-returns-in-Err
 unfolding body_items
-body_items-returns-in-Err t c =
+read::body_items-returns-in-Err t c =
     let ls = map see_let c.loop-turn.lets.items in
     let ds = map see_disj c.loop-turn.parts.items in
     let s = source c.args.tokens in
@@ -75,9 +75,9 @@ body_items-returns-in-Err t c =
     (λ (k : ℕ) (e : let_at c.args.tokens c.args.depth (state_of c.sees.new.self) c.sees.new.self.seen ≡ Fail k). sym c.loop-turn.invariant ∙ ap (λ (k : ℕ). with_items ls ds (body_items_at c.args.tokens c.args.depth k (state_of c.loop-turn.cursor) c.loop-turn.cursor.seen)) (one_more c.args.tokens.turns c.loop-turn._turn c.loop-turn-test.true)
     ∙ ap (with_items ls ds) (saw s is_let _ _ (state_of c.loop-turn.cursor) c.loop-turn.cursor.seen c.sees.ensures.token c.if-sees.true c.sees.ensures.state c.sees.ensures.seen (then_fail _ e))) c.in-Err.ensures
 
-pub body_items-returns-in-Err-disj : goal.body_items-returns-in-Err-disj
+pub read::body_items-returns-in-Err-disj : goal.read::body_items-returns-in-Err-disj
 unfolding body_items
-body_items-returns-in-Err-disj t c =
+read::body_items-returns-in-Err-disj t c =
     let ls = map see_let c.loop-turn.lets.items in
     let ds = map see_disj c.loop-turn.parts.items in
     let s = source c.args.tokens in
@@ -85,9 +85,9 @@ body_items-returns-in-Err-disj t c =
     (λ (k : ℕ) (e : disj_at c.args.tokens c.args.depth true (state_of c.sees-in-loop-turn.new.self) c.sees-in-loop-turn.new.self.seen ≡ Fail k). sym c.loop-turn.invariant ∙ ap (λ (k : ℕ). with_items ls ds (body_items_at c.args.tokens c.args.depth k (state_of c.loop-turn.cursor) c.loop-turn.cursor.seen)) (one_more c.args.tokens.turns c.loop-turn._turn c.loop-turn-test.true)
     ∙ ap (with_items ls ds) (saw s is_let _ _ (state_of c.loop-turn.cursor) c.loop-turn.cursor.seen c.sees.ensures.token c.if-sees.false c.sees.ensures.state c.sees.ensures.seen (saw s begins_part _ _ (state_of c.sees.new.self) c.sees.new.self.seen c.sees-in-loop-turn.ensures.token c.if-not-sees.false c.sees-in-loop-turn.ensures.state c.sees-in-loop-turn.ensures.seen (then_fail _ e)))) c.in-Err-disj.ensures
 
-pub body_of-returns : goal.body_of-returns
+pub read::body_of-returns : goal.read::body_of-returns
 unfolding body_of body_end
-body_of-returns t c =
+read::body_of-returns t c =
     let found = see_items (c.in_ok-lets.lets, c.in_ok-lets.parts) in
     let st = state_of c.body_items.new.cursor in
     let seen : ℕ = c.body_items.new.cursor.seen in
@@ -98,9 +98,9 @@ body_of-returns t c =
     (ap (λ (b : Bool). (cond b end stop) st seen) (filled c.in_ok-lets.parts.items some)))) in
     subst (λ (o : Outcome sx.Body). Reads see_body o c.body_end.result c.body_end.new.cursor) (sym same) c.body_end.ensures
 
-pub cond-returns : goal.cond-returns
+pub read::cond-returns : goal.read::cond-returns
 unfolding cond_of
-cond-returns t c =
+read::cond-returns t c =
     let s = source c.args.tokens in
     let same : cond_at c.args.tokens c.args.depth c.args.full c.args.site (state_of c.args.cursor.now) c.args.cursor.now.seen
     ≡ led_at c.args.tokens c.args.depth c.args.full c.args.site (state_of c.sees-2.new.self) c.sees-2.new.self.seen =
@@ -108,17 +108,17 @@ cond-returns t c =
     (saw s is_neg _ _ (state_of c.sees.new.self) c.sees.new.self.seen c.sees-2.ensures.token c.if-sees-2.false c.sees-2.ensures.state c.sees-2.ensures.seen refl) in
     subst (λ (o : Outcome sx.Part). Reads see_part o c.led.result c.led.new.cursor) (sym same) c.led.ensures
 
-pub cond_ors-returns-then-not-sees : goal.cond_ors-returns-then-not-sees
+pub read::cond_ors-returns-then-not-sees : goal.read::cond_ors-returns-then-not-sees
 unfolding ors
-cond_ors-returns-then-not-sees t c =
+read::cond_ors-returns-then-not-sees t c =
     let front = map see_part c.loop-turn.found.items in
     sym c.loop-turn.invariant
     ∙ ap (λ (k : ℕ). with_front sx.more_parts front (ors_at c.args.tokens c.args.depth false k (state_of c.loop-turn.cursor) c.loop-turn.cursor.seen)) (one_more c.args.tokens.turns c.loop-turn._turn c.loop-turn-test.true)
     ∙ ap (with_front sx.more_parts front) (saw (source c.args.tokens) is_or _ _ (state_of c.loop-turn.cursor) c.loop-turn.cursor.seen c.sees.ensures.token c.if-not-sees.true c.sees.ensures.state c.sees.ensures.seen refl)
 
-pub cond_ors-loop-turn-preserved : goal.cond_ors-loop-turn-preserved
+pub read::cond_ors-loop-turn-preserved : goal.read::cond_ors-loop-turn-preserved
 unfolding ors
-cond_ors-loop-turn-preserved t c =
+read::cond_ors-loop-turn-preserved t c =
     let front = map see_part c.loop-turn.found.items in
     let longer = ap (map see_part) c.in_ok-push.ensures.items ∙ map-append see_part c.loop-turn.found.items _ in
     let left : ℕ = c.args.tokens.turns - (c.loop-turn._turn + 1) in
@@ -128,17 +128,17 @@ cond_ors-loop-turn-preserved t c =
     ∙ sym (ap (λ (k : ℕ). with_front sx.more_parts front (ors_at c.args.tokens c.args.depth false k (state_of c.loop-turn.cursor) c.loop-turn.cursor.seen)) (one_more c.args.tokens.turns c.loop-turn._turn c.loop-turn-test.true))
     ∙ c.loop-turn.invariant
 
-pub disjs-returns-then-not-sees : goal.disjs-returns-then-not-sees
+pub read::disjs-returns-then-not-sees : goal.read::disjs-returns-then-not-sees
 unfolding disjs
-disjs-returns-then-not-sees t c =
+read::disjs-returns-then-not-sees t c =
     let front = map see_disj c.loop-turn.found.items in
     sym c.loop-turn.invariant
     ∙ ap (λ (k : ℕ). with_front sx.more_disjs front (disjs_at c.args.tokens c.args.depth k (state_of c.loop-turn.cursor) c.loop-turn.cursor.seen)) (one_more c.args.tokens.turns c.loop-turn._turn c.loop-turn-test.true)
     ∙ ap (with_front sx.more_disjs front) (saw (source c.args.tokens) begins_cond _ _ (state_of c.loop-turn.cursor) c.loop-turn.cursor.seen c.sees.ensures.token c.if-not-sees.true c.sees.ensures.state c.sees.ensures.seen refl)
 
-pub disjs-loop-turn-preserved : goal.disjs-loop-turn-preserved
+pub read::disjs-loop-turn-preserved : goal.read::disjs-loop-turn-preserved
 unfolding disjs
-disjs-loop-turn-preserved t c =
+read::disjs-loop-turn-preserved t c =
     let front = map see_disj c.loop-turn.found.items in
     let longer = ap (map see_disj) c.in_ok-push.ensures.items ∙ map-append see_disj c.loop-turn.found.items _ in
     let left : ℕ = c.args.tokens.turns - (c.loop-turn._turn + 1) in
@@ -148,17 +148,17 @@ disjs-loop-turn-preserved t c =
     ∙ sym (ap (λ (k : ℕ). with_front sx.more_disjs front (disjs_at c.args.tokens c.args.depth k (state_of c.loop-turn.cursor) c.loop-turn.cursor.seen)) (one_more c.args.tokens.turns c.loop-turn._turn c.loop-turn-test.true))
     ∙ c.loop-turn.invariant
 
-pub more_exprs-returns-then-not-sees : goal.more_exprs-returns-then-not-sees
+pub read_query::more_exprs-returns-then-not-sees : goal.read_query::more_exprs-returns-then-not-sees
 unfolding more_exprs_of
-more_exprs-returns-then-not-sees t c =
+read_query::more_exprs-returns-then-not-sees t c =
     let front = map see_expr c.loop-turn.found.items in
     sym c.loop-turn.invariant
     ∙ ap (λ (k : ℕ). with_front sx.more_exprs front (more_exprs_at c.args.tokens c.args.depth k (state_of c.loop-turn.cursor) c.loop-turn.cursor.seen)) (one_more c.args.tokens.turns c.loop-turn._turn c.loop-turn-test.true)
     ∙ ap (with_front sx.more_exprs front) (saw (source c.args.tokens) is_comma _ _ (state_of c.loop-turn.cursor) c.loop-turn.cursor.seen c.sees.ensures.token c.if-not-sees.true c.sees.ensures.state c.sees.ensures.seen refl)
 
-pub more_exprs-loop-turn-preserved : goal.more_exprs-loop-turn-preserved
+pub read_query::more_exprs-loop-turn-preserved : goal.read_query::more_exprs-loop-turn-preserved
 unfolding more_exprs_of
-more_exprs-loop-turn-preserved t c =
+read_query::more_exprs-loop-turn-preserved t c =
     let front = map see_expr c.loop-turn.found.items in
     let longer = ap (map see_expr) c.in_ok-push.ensures.items ∙ map-append see_expr c.loop-turn.found.items _ in
     let left : ℕ = c.args.tokens.turns - (c.loop-turn._turn + 1) in
@@ -168,17 +168,17 @@ more_exprs-loop-turn-preserved t c =
     ∙ sym (ap (λ (k : ℕ). with_front sx.more_exprs front (more_exprs_at c.args.tokens c.args.depth k (state_of c.loop-turn.cursor) c.loop-turn.cursor.seen)) (one_more c.args.tokens.turns c.loop-turn._turn c.loop-turn-test.true))
     ∙ c.loop-turn.invariant
 
-pub ors-returns-then-not-sees : goal.ors-returns-then-not-sees
+pub read::ors-returns-then-not-sees : goal.read::ors-returns-then-not-sees
 unfolding ors
-ors-returns-then-not-sees t c =
+read::ors-returns-then-not-sees t c =
     let front = map see_part c.loop-turn.found.items in
     sym c.loop-turn.invariant
     ∙ ap (λ (k : ℕ). with_front sx.more_parts front (ors_at c.args.tokens c.args.depth true k (state_of c.loop-turn.cursor) c.loop-turn.cursor.seen)) (one_more c.args.tokens.turns c.loop-turn._turn c.loop-turn-test.true)
     ∙ ap (with_front sx.more_parts front) (saw (source c.args.tokens) is_or _ _ (state_of c.loop-turn.cursor) c.loop-turn.cursor.seen c.sees.ensures.token c.if-not-sees.true c.sees.ensures.state c.sees.ensures.seen refl)
 
-pub ors-loop-turn-preserved : goal.ors-loop-turn-preserved
+pub read::ors-loop-turn-preserved : goal.read::ors-loop-turn-preserved
 unfolding ors
-ors-loop-turn-preserved t c =
+read::ors-loop-turn-preserved t c =
     let front = map see_part c.loop-turn.found.items in
     let longer = ap (map see_part) c.in_ok-push.ensures.items ∙ map-append see_part c.loop-turn.found.items _ in
     let left : ℕ = c.args.tokens.turns - (c.loop-turn._turn + 1) in
@@ -188,17 +188,17 @@ ors-loop-turn-preserved t c =
     ∙ sym (ap (λ (k : ℕ). with_front sx.more_parts front (ors_at c.args.tokens c.args.depth true k (state_of c.loop-turn.cursor) c.loop-turn.cursor.seen)) (one_more c.args.tokens.turns c.loop-turn._turn c.loop-turn-test.true))
     ∙ c.loop-turn.invariant
 
-pub steps-returns-then-not-sees : goal.steps-returns-then-not-sees
+pub read_query::steps-returns-then-not-sees : goal.read_query::steps-returns-then-not-sees
 unfolding steps
-steps-returns-then-not-sees t c =
+read_query::steps-returns-then-not-sees t c =
     let front = map see_step c.loop-turn.found.items in
     sym c.loop-turn.invariant
     ∙ ap (λ (k : ℕ). with_front sx.more_steps front (steps_at c.args.tokens c.args.depth k (state_of c.loop-turn.cursor) c.loop-turn.cursor.seen)) (one_more c.args.tokens.turns c.loop-turn._turn c.loop-turn-test.true)
     ∙ ap (with_front sx.more_steps front) (saw (source c.args.tokens) begins_step _ _ (state_of c.loop-turn.cursor) c.loop-turn.cursor.seen c.sees.ensures.token c.if-not-sees.true c.sees.ensures.state c.sees.ensures.seen refl)
 
-pub steps-loop-turn-preserved : goal.steps-loop-turn-preserved
+pub read_query::steps-loop-turn-preserved : goal.read_query::steps-loop-turn-preserved
 unfolding steps
-steps-loop-turn-preserved t c =
+read_query::steps-loop-turn-preserved t c =
     let front = map see_step c.loop-turn.found.items in
     let longer = ap (map see_step) c.in_ok-push.ensures.items ∙ map-append see_step c.loop-turn.found.items _ in
     let left : ℕ = c.args.tokens.turns - (c.loop-turn._turn + 1) in
