@@ -1,16 +1,23 @@
 -- What is read of a file is its one syntax, and where nothing is read no file goes on.
-use Rattle.std.proofs.Common.{◌≡◌, ℕ, zero, suc, ◌≤◌, ◌<◌, max, true, refl, sym, ap, ◌∙◌, subst, arith, List, length, Option}
+use Rattle.std.proofs.Common.{◌≡◌, ℕ, zero, suc, ◌≤◌, ◌<◌, max, true, refl, sym, ap, ◌∙◌, subst, arith, List, [], ◌∷◌, ◌++◌, ◌+◌, length, map, take, slice_index_or, append_assoc, nat_lt, Bool, false, Option}
 use Rattle.guard_lexer.specs.declared.token.Token.{Token}
 use Rattle.guard_syntax.specs.Syntax.{Lets, Disjs, Rule, File}
 use Rattle.guard_syntax.specs.Sites.{upto, sites_file}
-use Rattle.guard_parser.specs.Lexemes.{Lexeme, lexemes}
+use Rattle.guard_parser.specs.Lexemes.{Lexeme, End, lexeme_of, ending, lexemes}
 use Rattle.guard_parser.specs.Forms.{form, is_end}
 use Rattle.guard_parser.specs.States.{State, start}
 use Rattle.guard_parser.specs.Grammar.{IsContents}
 use Rattle.guard_parser.specs.Parser.{Outcome, Read, Fail}
 use Rattle.guard_parser.specs.Reading.{FileItems, whole_file, inners}
 use Rattle.guard_parser.specs.Depth.{deep_file}
-use Rattle.guard_parser.specs.File.{IsSpelled, IsShallowTo, IsShallow, IsDeadEnd}
+use Rattle.guard_parser.specs.File.{IsSpelledBy, IsSpelled, IsShallowTo, IsShallow, IsDeadEnd, MayGoOn, going_on}
+use Rattle.std.proofs.lemmas.Bool.{ltb-true, ltb-false}
+use Rattle.std.proofs.lemmas.List.{append-nil, get_or-take, length-append, length-map, length-take, take-map}
+use Rattle.std.proofs.Math.ListN.{get_or-append, get_or-eq_default}
+use Rattle.std.proofs.Math.Seq.{get_or-append_seam}
+use Rattle.guard_parser.proofs.Places.{at_end}
+use Rattle.guard_parser.proofs.GoOn.{Spells, only}
+use Rattle.guard_parser.proofs.GoOnFile.{goes_on}
 use Rattle.guard_parser.proofs.Combine.{Holds, holds_then, done, failed, Gives, gives, gives_then, horizon}
 use Rattle.guard_parser.proofs.Steps.{Alike, Local, alike_then, choose_local, pure_local, stop_local, choose_sound, by}
 use Rattle.guard_parser.proofs.LiteralSound.{literal_sound}
@@ -80,9 +87,77 @@ none_given {x = x} {m = m} k e h = (subst (λ r. Gives r x m) e h).given
 is_there : (s : ℕ → Lexeme) (n : ℕ) (m : State) → m.at ≡ n → is_end (form (s n)) ≡ true → is_end (form (s m.at)) ≡ true
 is_there s n m e h = subst (λ i. is_end (form (s i)) ≡ true) (sym e) h
 
-dead_end : (text : List ℕ) (tokens : List Token) (turns depth k : ℕ) → 1048576 < turns → 128 ≤ suc depth
+-- ---- where nothing is read up to the end, some lexemes more are read
+
+spells_behind : (s : ℕ → Lexeme) (n : ℕ) (front more : List Lexeme) (d : Lexeme) → Spells s n (λ i. slice_index_or (front ++ more) i d) (length front) more
+spells_behind s n front [] d = tt
+spells_behind s n front (x ∷ xs) d = (
+  get_or-append_seam front x xs d,
+  subst (λ l. Spells s n (λ i. slice_index_or l i d) (suc (length front)) xs) (append_assoc front (x ∷ []) xs)
+      (subst (λ i. Spells s n (λ j. slice_index_or ((front ++ x ∷ []) ++ xs) j d) i xs) (let e : length (front ++ x ∷ []) ≡ suc (length front) = omega (arith, length-append front (x ∷ [])) in e)
+      (spells_behind s n (front ++ x ∷ []) xs d)),
+)
+
+given_held : {A : Type 0} {r : Outcome A} {x : A} {m : State} (R : A → State → Type 0) → Gives r x m → Holds r R → R x m
+given_held {r = Read a st seen} {m = m} R g h = subst (λ y. R y m) g.given.0 (subst (λ z. R a z) g.given.1 h.held)
+given_held {r = Fail k} R g h = absurd g.given
+
+ends_early : (text : List ℕ) (tokens : List Token) (turns depth k : ℕ) → length tokens < turns → 1 < turns → reading (lexemes text tokens) turns depth ≡ Fail k → length tokens ≤ k → MayGoOn text tokens
+ends_early text tokens turns depth k room many e far =
+    let s = lexemes text tokens in let n = length tokens in
+    let front = map (lexeme_of text) tokens in
+    let long : length front ≡ n = length-map tokens (lexeme_of text) in
+    let stop : s n ≡ ending text = at_end text tokens n (omega arith) in
+    let g = goes_on s n (ap form stop) turns room many depth k e far in
+    let w = going_on text tokens g.more in
+    let agree : (i : ℕ) → i < n → w i ≡ s i = λ i less. get_or-append front g.more (ending text) i (omega arith) in
+    let spells : Spells s n w n g.more = subst (λ i. Spells s n w i g.more) long (spells_behind s n front g.more (ending text)) in
+    let last : w g.last.at ≡ ending text = get_or-eq_default (front ++ g.more) (ending text) (let l = g.stops in omega (arith, length-append front g.more)) in
+    let given = g.goes w agree spells (ap (λ x. only End (form x)) last, ap (λ (x : Lexeme). x.from) (last ∙ sym stop)) 0 in
+    let held = given_held (λ x m. IsContents w x.0 x.1 x.2 start m) given (file_sound w turns (λ d. literal_sound w turns d) (suc depth) 0) in
+    (g.more, file_of g.value g.last.places, g.last.mixed, (g.last, held, g.stops, refl, refl))
+
+-- ---- what stands before the last place that was looked at may go on
+
+short_take : (k : ℕ) (tokens : List Token) → length (take k tokens) ≤ k
+short_take k tokens = omega (arith, length-take k tokens)
+
+shorter_take : (k : ℕ) (tokens : List Token) → length (take k tokens) ≤ length tokens
+shorter_take k tokens = omega (arith, length-take k tokens)
+
+before_is : (text : List ℕ) (tokens : List Token) (k i : ℕ) → i < length (take k tokens) → lexemes text (take k tokens) i ≡ lexemes text tokens i
+before_is text tokens k i less = ap (λ (xs : List Lexeme). slice_index_or xs i (ending text)) (sym (take-map (lexeme_of text) k tokens))
+    ∙ get_or-take k (map (lexeme_of text) tokens) i (ending text) (omega (arith, short_take k tokens))
+
+whole_goes : (text : List ℕ) (tokens : List Token) (f : File) (mixed : Option ℕ) → IsSpelled text tokens f mixed → MayGoOn text tokens
+whole_goes text tokens f mixed h = (
+  [],
+  f,
+  mixed,
+  subst (λ (xs : List Lexeme). IsSpelledBy (λ i. slice_index_or xs i (ending text)) (length tokens + 0) f mixed) (sym (append-nil (map (lexeme_of text) tokens)))
+      (subst (λ i. IsSpelledBy (lexemes text tokens) i f mixed) (let e : length tokens ≡ length tokens + 0 = omega arith in e) h),
+)
+
+before_goes : (text : List ℕ) (tokens : List Token) (turns depth k : ℕ) → length tokens < turns → 1 < turns → reading (lexemes text tokens) turns depth ≡ Fail k → MayGoOn text (take k tokens)
+before_goes text tokens turns depth k room many e = by_outcome (reading (lexemes text (take k tokens)) turns depth) refl where
+  by_place : (i : ℕ) → reading (lexemes text (take k tokens)) turns depth ≡ Fail i → (v : Bool) → nat_lt i (length (take k tokens)) ≡ v → MayGoOn text (take k tokens)
+  by_place i f true is =
+      let less : i < length (take k tokens) = ltb-true i (length (take k tokens)) is in
+      let local = whole_local (lexemes text (take k tokens)) (lexemes text tokens) turns depth in
+      let end : horizon (reading (lexemes text (take k tokens)) turns depth) ≡ i = ap (λ r. horizon r) f in
+      let same : reading (lexemes text tokens) turns depth ≡ Fail i = local.same (λ j low. sym (before_is text tokens k j (omega arith))) ∙ f in
+      let place : i ≡ k = sym (ap (λ r. horizon r) same) ∙ ap (λ r. horizon r) e in
+      absurd (omega (arith, short_take k tokens))
+  by_place i f false is =
+      let far : length (take k tokens) ≤ i = ltb-false i (length (take k tokens)) is in ends_early text (take k tokens) turns depth i (omega (arith, shorter_take k tokens)) many f far
+
+  by_outcome : (o : Outcome FileItems) → reading (lexemes text (take k tokens)) turns depth ≡ o → MayGoOn text (take k tokens)
+  by_outcome (Read x m seen) f = whole_goes text (take k tokens) (file_of x m.places) m.mixed (read_is text (take k tokens) turns depth x m seen f)
+  by_outcome (Fail i) f = by_place i f (nat_lt i (length (take k tokens))) refl
+
+dead_end : (text : List ℕ) (tokens : List Token) (turns depth k : ℕ) → 1048576 < turns → length tokens ≤ 1048576 → 128 ≤ suc depth
     → reading (lexemes text tokens) turns (suc depth) ≡ Fail k → IsShallow text tokens → IsDeadEnd text tokens (lexemes text tokens k).from
-dead_end text tokens turns depth k room deep e shallow = (shallow, (k, refl, λ other more f mixed small agree flat spelled. helper other more f mixed small agree flat spelled)) where
+dead_end text tokens turns depth k room few deep e shallow = (shallow, (k, (refl, before_goes text tokens turns (suc depth) k (omega arith) (omega arith) e), λ other more f mixed small agree flat spelled. helper other more f mixed small agree flat spelled)) where
   helper : (other : List ℕ) (more : List Token) (f : File) (mixed : Option ℕ) → length more ≤ 1048576 → ((i : ℕ) → i ≤ k → lexemes other more i ≡ lexemes text tokens i)
       → IsShallow other more → IsSpelled other more f mixed → ⊥
   helper other more f mixed small agree flat (b, h, at, places, first) =
@@ -92,10 +167,10 @@ dead_end text tokens turns depth k room deep e shallow = (shallow, (k, refl, λ 
       let room_left = contents_shallow (lexemes other more) f.lets f.rules f.loose start b h (subst (λ n. IsShallowTo (lexemes other more) n) (sym at) flat) in
       none_given k same (whole_gives (lexemes other more) turns depth f.lets f.rules f.loose b (omega arith) (omega arith) h (is_there (lexemes other more) (length more) b at (ends_there other more)))
 
-pub dead_end_at : (text : List ℕ) (tokens : List Token) (turns depth k : ℕ) → 1048576 < turns → 128 ≤ depth
+pub dead_end_at : (text : List ℕ) (tokens : List Token) (turns depth k : ℕ) → 1048576 < turns → length tokens ≤ 1048576 → 128 ≤ depth
     → reading (lexemes text tokens) turns depth ≡ Fail k → IsShallow text tokens → IsDeadEnd text tokens (lexemes text tokens k).from
-dead_end_at text tokens turns zero k room deep e shallow = absurd (omega arith)
-dead_end_at text tokens turns (suc depth) k room deep e shallow = dead_end text tokens turns depth k room deep e shallow
+dead_end_at text tokens turns zero k room few deep e shallow = absurd (omega arith)
+dead_end_at text tokens turns (suc depth) k room few deep e shallow = dead_end text tokens turns depth k room few deep e shallow
 
 -- ---- one syntax
 

@@ -27,3 +27,9 @@ pub mod Turns
 pub mod Count
 pub mod CodeSteps
 pub mod Filled
+pub mod GoOn
+pub mod GoOnSteps
+pub mod GoOnSides
+pub mod LiteralGoOn
+pub mod GoOnGrammar
+pub mod GoOnFile

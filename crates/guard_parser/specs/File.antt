@@ -1,18 +1,21 @@
 -- What the tokens of a text spell, and why they spell nothing.
-use Rattle.std.specs.Prelude.{◌≡◌, ℕ, zero, suc, pred, true, ◌<◌, ◌≤◌, List, length, Option, Some, None, if◌then◌else◌}
+use Rattle.std.specs.Prelude.{◌≡◌, ℕ, zero, suc, pred, true, ◌<◌, ◌≤◌, ◌+◌, List, ◌++◌, length, map, take, slice_index_or, Option, Some, None, if◌then◌else◌}
 use Rattle.guard_lexer.specs.declared.token.Token.{Token}
 use Rattle.guard_syntax.specs.Syntax.{File}
 use Rattle.guard_parser.specs.declared.refusal.ParseRefusal.{ParseRefusal}
 use Rattle.guard_parser.specs.declared.refusal.ParseRefusal.TheVariants as r
-use Rattle.guard_parser.specs.Lexemes.{Lexeme, lexemes}
+use Rattle.guard_parser.specs.Lexemes.{Lexeme, lexeme_of, ending, lexemes}
 use Rattle.guard_parser.specs.Forms.{form, is_opening, is_closing}
 use Rattle.guard_parser.specs.States.{State, start}
 use Rattle.guard_parser.specs.Grammar.{IsContents}
 
--- the tokens, all of them, spell a file, whose sites begin at its places; the first range with a whole and a decimal bound, if there is one
+-- the first lexemes, so many, spell a file, whose sites begin at its places; the first range with a whole and a decimal bound, if there is one
+abbrev pub IsSpelledBy : (ℕ → Lexeme) → ℕ → File → Option ℕ → Type 0
+IsSpelledBy s n f mixed = (b : State) × IsContents s f.lets f.rules f.loose start b × (b.at ≡ n) × (f.places ≡ b.places) × (mixed ≡ b.mixed)
+
+-- the tokens of a text, all of them, spell a file
 abbrev pub IsSpelled : List ℕ → List Token → File → Option ℕ → Type 0
-IsSpelled text tokens f mixed = (b : State) × IsContents (lexemes text tokens) f.lets f.rules f.loose start b
-    × (b.at ≡ length tokens) × (f.places ≡ b.places) × (mixed ≡ b.mixed)
+IsSpelled text tokens f mixed = IsSpelledBy (lexemes text tokens) (length tokens) f mixed
 
 -- ---- brackets
 
@@ -47,9 +50,18 @@ Rules text tokens f = IsShallow text tokens × IsSpelled text tokens f None
 abbrev pub IsBadRange : List ℕ → List Token → ℕ → Type 0
 IsBadRange text tokens at = IsShallow text tokens × ((f : File) × IsSpelled text tokens f (Some at))
 
--- a lexeme, or the end of the text, at this byte offset: whatever tokens, of whatever text, begin with the lexemes up to it and with it, they spell no file
+-- the lexemes of a text's tokens, and some more in place of its end
+abbrev pub going_on : List ℕ → List Token → List Lexeme → ℕ → Lexeme
+going_on text tokens more i = slice_index_or (map (lexeme_of text) tokens ++ more) i (ending text)
+
+-- the tokens and some lexemes more spell a file, however deep the brackets nest in it
+abbrev pub MayGoOn : List ℕ → List Token → Type 0
+MayGoOn text tokens = (more : List Lexeme) × (f : File) × (mixed : Option ℕ) × IsSpelledBy (going_on text tokens more) (length tokens + length more) f mixed
+
+-- the first lexeme, or the end of the text, with which no file goes on, at this byte offset: the tokens before it and some lexemes more spell a file;
+-- whatever tokens, of whatever text, begin with the lexemes up to it and with it, they spell none
 abbrev pub IsDeadEnd : List ℕ → List Token → ℕ → Type 0
-IsDeadEnd text tokens at = IsShallow text tokens × ((k : ℕ) × (at ≡ (lexemes text tokens k).from)
+IsDeadEnd text tokens at = IsShallow text tokens × ((k : ℕ) × ((at ≡ (lexemes text tokens k).from) × MayGoOn text (take k tokens))
     × ((other : List ℕ) (more : List Token) (f : File) (mixed : Option ℕ) → length more ≤ 1048576 → ((i : ℕ) → i ≤ k → lexemes other more i ≡ lexemes text tokens i)
     → IsShallow other more → IsSpelled other more f mixed → ⊥))
 
