@@ -1,0 +1,57 @@
+//! Rule files whose names are as they must be.
+ghost use Rattle.std.specs.Prelude.{◌≡◌, ◌<◌, ℕ, List, length, Some, slice_get};
+ghost use Rattle.guard_syntax.specs.Seen.{see_file};
+ghost use Rattle.name_table.specs.Names.{WellNamed};
+ghost use Rattle.name_table.specs.Order.{order_of};
+ghost use Rattle.name_table.specs.Pieces.{piece_at, AreInOrder};
+ghost use Rattle.name_table.specs.Seen.{see_piece};
+
+use crate::find::in_file;
+use crate::piece::Piece;
+use guard_syntax::RawFile;
+
+/// A rule file whose names are as they must be, with its parts by their sites and the order of its rules.
+#[derive(Drop)]
+pub struct RuleFile {
+    pub raw: RawFile,
+    pub judged: Vec<u32>,
+    pub ghost sites: { AreInOrder (see_file raw) },
+    pub ghost named: { WellNamed (see_file raw) },
+    pub ghost ordered: { judged.items ≡ order_of (see_file raw) },
+}
+
+impl RuleFile {
+    /// The syntax of the file.
+    pub fn raw(&self) -> &RawFile
+        ensures { result.now ≡ self.now.raw }
+    {
+        &self.raw
+    }
+
+    /// The byte offset of the first byte of a site's part.
+    pub fn place(&self, site: u32) -> u32
+        requires { site < length (see_file self.now.raw).places }
+        ensures { slice_get (see_file self.now.raw).places site ≡ Some result }
+    {
+        self.raw.places.as_slice()[site as usize]
+    }
+
+    /// The part of a site.
+    pub fn piece(&self, site: u32) -> Piece<'_>
+        requires { site < length (see_file self.now.raw).places }
+        ensures { piece_at (see_file self.entry.now.raw) site ≡ Some (see_piece result) }
+    {
+        let Some(piece) = in_file(&self.raw, site) else {
+            unreachable!()
+        };
+        piece
+    }
+
+    /// The sites of the rules without parameters, in the order in which they are judged, and then 0 if parts stand
+    /// outside rules.
+    pub fn order(&self) -> &[u32]
+        ensures { result.now ≡ order_of (see_file self.now.raw) }
+    {
+        self.judged.as_slice()
+    }
+}
