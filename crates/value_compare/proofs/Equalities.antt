@@ -1,0 +1,205 @@
+-- Equality of lists and maps by their items and entries in turn, and of values by their kinds.
+use Rattle.std.proofs.Common.{◌≡◌, ◌≢◌, ℕ, zero, suc, ◌+◌, ◌<◌, Bool, true, false, List, Option, Some, None, refl, sym, ap, ap₂, subst, ◌∙◌, arith}
+use Rattle.std.specs.Prelude.{◌&&◌, ◌||◌}
+use Rattle.doc_values.specs.Tree.{Label, Forest, Nil, Node, count, key_is}
+use Rattle.doc_values.specs.Places.{first_label}
+use Rattle.doc_values.specs.declared.kind.Kind.{Kind}
+use Rattle.doc_values.specs.declared.kind.Kind.TheVariants as kind
+use Rattle.value_compare.specs.declared.answer.PairAnswer.{PairAnswer}
+use Rattle.value_compare.specs.Entries.{has_equal}
+use Rattle.value_compare.specs.Held.{holds_if, holds_in, holds_of, may_find, may_find_by}
+use Rattle.value_compare.specs.Pairs.{equal, equal_by, same_items, same_entries, same_maps, entry_of, is_yes}
+use Rattle.value_compare.specs.Values.{Value, value_of, value_of_key, is_pattern, has_pattern}
+use Rattle.value_compare.proofs.Forests.{from_index, first_value, index_step, index_end}
+
+-- Lists.
+
+pub items_step : (f g : Forest) (i : ℕ) → i < count f → i < count g →
+    same_items (from_index f i) (from_index g i) ≡ (is_yes (equal (first_value (from_index f i)) (first_value (from_index g i))) && same_items (from_index f (i + 1)) (from_index g (i + 1)))
+items_step f g i h k = ap₂ same_items (index_step f i h) (index_step g i k)
+
+-- one pair of items in a walk over both
+pub items_turn : (f g : Forest) (i : ℕ) (whole : Bool) (l r : Value) (a : PairAnswer) (said : Bool) → i < count f → i < count g → whole ≡ same_items (from_index f i) (from_index g i)
+    → l ≡ first_value (from_index f i) → r ≡ first_value (from_index g i) → a ≡ equal l r → said ≡ is_yes a → whole ≡ (said && same_items (from_index f (i + 1)) (from_index g (i + 1)))
+items_turn f g i whole l r a said h k before is_left is_right is tells =
+    before ∙ items_step f g i h k
+    ∙ ap (λ b. b && same_items (from_index f (i + 1)) (from_index g (i + 1))) (sym (tells ∙ ap is_yes (is ∙ ap₂ equal is_left is_right)))
+
+pub items_end : (f g : Forest) (i : ℕ) → (i < count f → ⊥) → count f ≡ count g → same_items (from_index f i) (from_index g i) ≡ true
+items_end f g i h e = ap₂ same_items (index_end f i (omega arith)) (index_end g i (omega arith))
+
+and_false : (b : Bool) → (b && false) ≡ false
+and_false true = refl
+and_false false = refl
+
+pub items_differ : (f g : Forest) → count f ≢ count g → same_items f g ≡ false
+items_differ Nil Nil apart = absurd (apart refl)
+items_differ Nil (Node r rkids rrest) apart = refl
+items_differ (Node l lkids lrest) Nil apart = refl
+items_differ (Node l lkids lrest) (Node r rkids rrest) apart =
+    let here = is_yes (equal (value_of l lkids) (value_of r rkids)) in
+    ap (λ b. here && b) (items_differ lrest rrest (λ e. apart (ap suc e))) ∙ and_false here
+
+-- Maps.
+
+pub entries_step : (f g : Forest) (i : ℕ) → i < count f → same_entries (from_index f i) g ≡ (has_equal (first_label (from_index f i)).key (first_value (from_index f i)) g && same_entries (from_index f (i + 1)) g)
+entries_step f g i h = ap (λ x. same_entries x g) (index_step f i h)
+
+-- one entry in a walk
+pub entries_turn : (f g : Forest) (i : ℕ) (whole : Bool) (label : Label) (value : Value) (said : Bool) → i < count f → whole ≡ same_entries (from_index f i) g
+    → label ≡ first_label (from_index f i) → value ≡ first_value (from_index f i) → said ≡ has_equal label.key value g → whole ≡ (said && same_entries (from_index f (i + 1)) g)
+entries_turn f g i whole label value said h before is_label is_value tells =
+    before ∙ entries_step f g i h ∙ ap (λ b. b && same_entries (from_index f (i + 1)) g) (sym (tells ∙ ap₂ (λ (l : Label) v. has_equal l.key v g) is_label is_value))
+
+pub entries_end : (f g : Forest) (i : ℕ) → (i < count f → ⊥) → same_entries (from_index f i) g ≡ true
+entries_end f g i h = ap (λ x. same_entries x g) (index_end f i (omega arith))
+
+-- Kinds.
+
+pub by_kind : (l r : Value) (left right : Kind) (a : PairAnswer) → left ≡ l.kind → right ≡ r.kind → ((lists maps : Bool) (lt rt : List ℕ) → equal_by lists maps left lt right rt ≡ a) → a ≡ equal l r
+by_kind l r left right a is_left is_right tells =
+    sym (tells (same_items l.contents r.contents) (same_maps l.contents r.contents) l.text r.text)
+    ∙ ap₂ (λ m n. equal_by (same_items l.contents r.contents) (same_maps l.contents r.contents) m l.text n r.text) is_left is_right
+
+texts_alone : (lists maps others other_maps : Bool) (right : Kind) (lt rt : List ℕ) → equal_by lists maps kind.Text lt right rt ≡ equal_by others other_maps kind.Text lt right rt
+texts_alone lists maps others other_maps kind.Null lt rt = refl
+texts_alone lists maps others other_maps (kind.Truth b) lt rt = refl
+texts_alone lists maps others other_maps (kind.Whole n) lt rt = refl
+texts_alone lists maps others other_maps (kind.Fraction d) lt rt = refl
+texts_alone lists maps others other_maps kind.Text lt rt = refl
+texts_alone lists maps others other_maps kind.List lt rt = refl
+texts_alone lists maps others other_maps kind.Map lt rt = refl
+texts_alone lists maps others other_maps kind.Pattern lt rt = refl
+texts_alone lists maps others other_maps (kind.Limits r) lt rt = refl
+
+-- a text is compared as the key of its bytes
+pub as_key : (l r : Value) (text : List ℕ) → l.kind ≡ kind.Text → text ≡ l.text → equal (value_of_key text) r ≡ equal l r
+as_key l r text is_text is =
+    texts_alone (same_items Nil r.contents) (same_maps Nil r.contents) (same_items l.contents r.contents) (same_maps l.contents r.contents) r.kind text r.text
+    ∙ ap₂ (λ k t. equal_by (same_items l.contents r.contents) (same_maps l.contents r.contents) k t r.kind r.text) (sym is_text) is
+
+-- Patterns.
+
+pub both_true : (a b : Bool) → a ≡ true → b ≡ true → (a && b) ≡ true
+both_true true b e f = f
+both_true false b e f = absurd cc
+
+first_true : (a b : Bool) → (a && b) ≡ true → a ≡ true
+first_true true b e = refl
+first_true false b e = absurd cc
+
+second_true : (a b : Bool) → (a && b) ≡ true → b ≡ true
+second_true true b e = e
+second_true false b e = absurd cc
+
+head_held : (book : List (List ℕ)) (l : Label) (kids rest : Forest) → holds_in book (Node l kids rest) ≡ true → holds_of book (value_of l kids) ≡ true
+head_held book l kids rest e =
+    let mine = holds_if (is_pattern l.kind) book l.text in
+    let both = second_true mine (holds_in book kids && holds_in book rest) e in
+    both_true mine (holds_in book kids) (first_true mine (holds_in book kids && holds_in book rest) e) (first_true (holds_in book kids) (holds_in book rest) both)
+
+rest_held : (book : List (List ℕ)) (l : Label) (kids rest : Forest) → holds_in book (Node l kids rest) ≡ true → holds_in book rest ≡ true
+rest_held book l kids rest e =
+    let mine = holds_if (is_pattern l.kind) book l.text in
+    second_true (holds_in book kids) (holds_in book rest) (second_true mine (holds_in book kids && holds_in book rest) e)
+
+-- a book that holds the patterns of values holds those of each
+pub item_held : (book : List (List ℕ)) (f : Forest) (i : ℕ) → i < count f → holds_in book f ≡ true → holds_of book (first_value (from_index f i)) ≡ true
+item_held book Nil i h e = absurd (omega arith)
+item_held book (Node l kids rest) zero h e = head_held book l kids rest e
+item_held book (Node l kids rest) (suc i) h e = item_held book rest i (omega arith) (rest_held book l kids rest e)
+
+-- a value is no pattern and has none in it
+abbrev pub is_plain : Value → Bool
+is_plain v = is_pattern v.kind || has_pattern v.contents
+
+or_false_left : (a b : Bool) → (a || b) ≡ false → a ≡ false
+or_false_left true b e = absurd cc
+or_false_left false b e = refl
+
+or_false_right : (a b : Bool) → (a || b) ≡ false → b ≡ false
+or_false_right true b e = absurd cc
+or_false_right false b e = e
+
+none_found : (left right : Kind) (contents : Forest) → is_pattern right ≡ false → has_pattern contents ≡ false → may_find_by left right contents ≡ false
+none_found kind.Null right contents p h = refl
+none_found (kind.Truth b) right contents p h = refl
+none_found (kind.Whole n) right contents p h = refl
+none_found (kind.Fraction d) right contents p h = refl
+none_found kind.Pattern right contents p h = refl
+none_found (kind.Limits r) right contents p h = refl
+none_found kind.Text kind.Pattern contents p h = absurd cc
+none_found kind.Text kind.Null contents p h = refl
+none_found kind.Text (kind.Truth b) contents p h = refl
+none_found kind.Text (kind.Whole n) contents p h = refl
+none_found kind.Text (kind.Fraction d) contents p h = refl
+none_found kind.Text kind.Text contents p h = refl
+none_found kind.Text kind.List contents p h = refl
+none_found kind.Text kind.Map contents p h = refl
+none_found kind.Text (kind.Limits r) contents p h = refl
+none_found kind.List kind.List contents p h = h
+none_found kind.List kind.Pattern contents p h = refl
+none_found kind.List kind.Null contents p h = refl
+none_found kind.List (kind.Truth b) contents p h = refl
+none_found kind.List (kind.Whole n) contents p h = refl
+none_found kind.List (kind.Fraction d) contents p h = refl
+none_found kind.List kind.Text contents p h = refl
+none_found kind.List kind.Map contents p h = refl
+none_found kind.List (kind.Limits r) contents p h = refl
+none_found kind.Map kind.Map contents p h = h
+none_found kind.Map kind.Pattern contents p h = refl
+none_found kind.Map kind.Null contents p h = refl
+none_found kind.Map (kind.Truth b) contents p h = refl
+none_found kind.Map (kind.Whole n) contents p h = refl
+none_found kind.Map (kind.Fraction d) contents p h = refl
+none_found kind.Map kind.Text contents p h = refl
+none_found kind.Map kind.List contents p h = refl
+none_found kind.Map (kind.Limits r) contents p h = refl
+
+head_plain : (l : Label) (kids rest : Forest) (v : Value) → has_pattern (Node l kids rest) ≡ false → may_find v (value_of l kids) ≡ false
+head_plain l kids rest v e =
+    let mine = or_false_left (is_pattern l.kind) (has_pattern kids || has_pattern rest) e in
+    let both = or_false_right (is_pattern l.kind) (has_pattern kids || has_pattern rest) e in
+    none_found v.kind l.kind kids mine (or_false_left (has_pattern kids) (has_pattern rest) both)
+
+rest_plain : (l : Label) (kids rest : Forest) → has_pattern (Node l kids rest) ≡ false → has_pattern rest ≡ false
+rest_plain l kids rest e = or_false_right (has_pattern kids) (has_pattern rest) (or_false_right (is_pattern l.kind) (has_pattern kids || has_pattern rest) e)
+
+-- among values without a pattern no text meets one
+pub item_plain : (f : Forest) (i : ℕ) (v : Value) → i < count f → has_pattern f ≡ false → may_find v (first_value (from_index f i)) ≡ false
+item_plain Nil i v h e = absurd (omega arith)
+item_plain (Node l kids rest) zero v h e = head_plain l kids rest v e
+item_plain (Node l kids rest) (suc i) v h e = item_plain rest i v (omega arith) (rest_plain l kids rest e)
+
+some_same : (v w : Value) → Some v ≡ Some w → v ≡ w
+some_same v w e = cc
+
+-- the entry of a key likewise
+pub entry_held : (book : List (List ℕ)) (f : Forest) (key : Option (List ℕ)) (v : Value) → holds_in book f ≡ true → entry_of f key ≡ Some v → holds_of book v ≡ true
+entry_held book Nil key v h e = absurd cc
+entry_held book (Node l kids rest) None v h e = absurd cc
+entry_held book (Node l kids rest) (Some k) v h e = by_test (entry_held book rest (Some k) v (rest_held book l kids rest h)) (key_is l.key k) refl
+  where
+    by_test : (entry_of rest (Some k) ≡ Some v → holds_of book v ≡ true) → (b : Bool) → key_is l.key k ≡ b → holds_of book v ≡ true
+    by_test later true is = let q : value_of l kids ≡ v = some_same (value_of l kids) v (rw is at e) in subst (λ w. holds_of book w ≡ true) q (head_held book l kids rest h)
+    by_test later false is = later (rw is at e)
+
+pub entry_plain : (f : Forest) (key : Option (List ℕ)) (left v : Value) → has_pattern f ≡ false → entry_of f key ≡ Some v → may_find left v ≡ false
+entry_plain Nil key left v h e = absurd cc
+entry_plain (Node l kids rest) None left v h e = absurd cc
+entry_plain (Node l kids rest) (Some k) left v h e = by_test (entry_plain rest (Some k) left v (rest_plain l kids rest h)) (key_is l.key k) refl
+  where
+    by_test : (entry_of rest (Some k) ≡ Some v → may_find left v ≡ false) → (b : Bool) → key_is l.key k ≡ b → may_find left v ≡ false
+    by_test later true is = let q : value_of l kids ≡ v = some_same (value_of l kids) v (rw is at e) in subst (λ w. may_find left w ≡ false) q (head_plain l kids rest left h)
+    by_test later false is = later (rw is at e)
+
+-- what an entry of a key says
+pub has_equal_at : (key : Option (List ℕ)) (k : List ℕ) (v other : Value) (g : Forest) (a : PairAnswer) (said : Bool) → key ≡ Some k → entry_of g (Some k) ≡ Some other → a ≡ equal v other → said ≡ is_yes a → said ≡ has_equal key v g
+has_equal_at key k v other g a said is found tells is_yes_of = is_yes_of ∙ ap is_yes tells ∙ sym (rw (is, found) refl)
+
+pub no_entry_of : (key : Option (List ℕ)) (v : Value) (g : Forest) → entry_of g key ≡ None → false ≡ has_equal key v g
+no_entry_of key v g none = rw none refl
+
+pub no_entry_none : (g : Forest) → entry_of g None ≡ None
+no_entry_none Nil = refl
+no_entry_none (Node l kids rest) = refl

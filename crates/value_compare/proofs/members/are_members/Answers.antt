@@ -1,0 +1,34 @@
+use Rattle.std.proofs.Common.{◌<◌, sym, ◌∙◌, arith, map}
+use Rattle.doc_values.specs.Places.{kids_at}
+use Rattle.doc_values.specs.Tree.{count, Forest}
+use Rattle.value_compare.specs.RowTests.{is_member_of_some}
+use Rattle.value_compare.specs.Values.{value_at, values_in}
+use Rattle.value_compare.specs.Views.{see_view}
+use Rattle.value_compare.proofs.Items.{item-is, item_within}
+use Rattle.value_compare.proofs.Nodes.{length-values_in}
+use Rattle.value_compare.proofs.Walks.{all_hit, all_more, all_end}
+use Rattle.value_compare.proofs.members.are_members.Goals as goal
+
+pub returns-then-not-branch : goal.returns-then-not-branch
+returns-then-not-branch c =
+    let kids : Forest = kids_at c.args.list.doc.now c.args.list.id in
+    let within : c.loop-i.i < count kids = omega arith in
+    sym (all_hit (is_member_of_some (map see_view c.args.rights.now)) (values_in kids) c.loop-i.i (value_at c.child.result.doc.now c.child.result.id) (item_within kids c.loop-i.i within)
+    (item-is c.args.list.doc.now c.args.list.id c.loop-i.i c.child.result.doc.now c.child.result.id c.args.list.within within c.child.ensures.doc c.child.ensures.id) (sym c.in_ok-is_member.ensures.answer ∙ c.if-not-branch.true))
+
+pub loop-i-preserved : goal.loop-i-preserved
+loop-i-preserved c =
+    let kids : Forest = kids_at c.args.list.doc.now c.args.list.id in
+    let within : c.loop-i.i < count kids = omega arith in
+    record {
+      kept = c.is_member.ensures.kept ∙ c.loop-i.invariant.kept;
+      before = all_more (is_member_of_some (map see_view c.args.rights.now)) (values_in kids) c.loop-i.i (value_at c.child.result.doc.now c.child.result.id) (item_within kids c.loop-i.i within)
+          (item-is c.args.list.doc.now c.args.list.id c.loop-i.i c.child.result.doc.now c.child.result.id c.args.list.within within c.child.ensures.doc c.child.ensures.id)
+          c.loop-i.invariant.before (sym c.in_ok-is_member.ensures.answer ∙ c.if-not-branch.false);
+    }
+
+pub returns : goal.returns
+returns c =
+    let kids : Forest = kids_at c.args.list.doc.now c.args.list.id in
+    let same = length-values_in kids in
+    sym (all_end (is_member_of_some (map see_view c.args.rights.now)) (values_in kids) c.loop-i.i (omega arith) c.loop-i.invariant.before)

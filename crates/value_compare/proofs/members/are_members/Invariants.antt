@@ -1,0 +1,13 @@
+use Rattle.std.proofs.Common.{◌≡◌, true, map, take}
+use Rattle.std.specs.List.{list_all}
+use Rattle.doc_values.specs.Places.{kids_at}
+use Rattle.value_compare.specs.RowTests.{is_member_of_some}
+use Rattle.value_compare.specs.Values.{values_in}
+use Rattle.value_compare.specs.Views.{see_view}
+use Rattle.value_compare.proofs.members.are_members.Given as goal
+
+abbrev pub invariant-loop-i : goal.invariant-loop-i
+invariant-loop-i l = record {
+  kept : l.matchers.book.now ≡ l.initial.matchers.book.now;
+  before : list_all (is_member_of_some (map see_view l.rights)) (take l.i (values_in (kids_at l.list.doc.now l.list.id))) ≡ true;
+}

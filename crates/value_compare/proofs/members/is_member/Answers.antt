@@ -1,0 +1,23 @@
+use Rattle.std.proofs.Common.{map, sym, ap, ◌∙◌}
+use Rattle.value_compare.specs.Pairs.{is_yes}
+use Rattle.value_compare.specs.RowTests.{member}
+use Rattle.value_compare.specs.Values.{Value}
+use Rattle.value_compare.specs.Views.{see_view}
+use Rattle.value_compare.proofs.AnswerKinds.{not_yes}
+use Rattle.value_compare.proofs.Walks.{any_hit, any_more, seen_at, seen_within}
+use Rattle.value_compare.proofs.members.is_member.Goals as goal
+
+pub returns-in-Yes-clause-answer : goal.returns-in-Yes-clause-answer
+returns-in-Yes-clause-answer c =
+    sym (any_hit (λ (r : Value). is_yes (member (see_view c.args.left) r)) (map see_view c.args.rights.now) c.loop-right.right-index (see_view c.right-item.result)
+    (seen_within see_view c.args.rights.now c.loop-right.right-index c.loop-right-test.true) (seen_at see_view c.args.rights.now c.loop-right.right-index c.right-item.result c.loop-right-test.true c.right-item.is)
+    (ap is_yes (sym c.in_ok-member.ensures.answer ∙ c.in-Yes.is)))
+
+pub loop-right-preserved : goal.loop-right-preserved
+loop-right-preserved c =
+    record {
+      kept = c.member.ensures.kept ∙ c.loop-right.invariant.kept;
+      before = any_more (λ (r : Value). is_yes (member (see_view c.args.left) r)) (map see_view c.args.rights.now) c.loop-right.right-index (see_view c.right-item.result)
+          (seen_within see_view c.args.rights.now c.loop-right.right-index c.loop-right-test.true) (seen_at see_view c.args.rights.now c.loop-right.right-index c.right-item.result c.loop-right-test.true c.right-item.is)
+          c.loop-right.invariant.before (not_yes c.in_ok-member.field-0 (member (see_view c.args.left) (see_view c.right-item.result)) c.in_ok-member.ensures.answer c.in-No.is);
+    }

@@ -1,0 +1,13 @@
+use Rattle.std.proofs.Common.{◌≡◌, true, map, take}
+use Rattle.std.specs.List.{list_all}
+use Rattle.value_compare.specs.Pairs.{is_no}
+use Rattle.value_compare.specs.RowTests.{member}
+use Rattle.value_compare.specs.Values.{Value}
+use Rattle.value_compare.specs.Views.{see_view}
+use Rattle.value_compare.proofs.members.is_outside_each.Given as goal
+
+abbrev pub invariant-loop-right : goal.invariant-loop-right
+invariant-loop-right l = record {
+  kept : l.matchers.book.now ≡ l.initial.matchers.book.now;
+  before : list_all (λ (r : Value). is_no (member (see_view l.left) r)) (take l.right-index (map see_view l.rights)) ≡ true;
+}

@@ -1,0 +1,70 @@
+//! The patterns of a rule file by their texts.
+ghost use Rattle.std.specs.Prelude.{◌≡◌, ◌++◌, ◌∷◌, [], true, false, OnOk, Some, slice_get};
+ghost use Rattle.value_compare.specs.Books.{has_text};
+
+use crate::pattern::Pattern;
+use indexmap::IndexMap;
+use std::alloc::{AllocError, Global};
+use std::marker::Model;
+
+/// The patterns of a rule file by their texts, which contracts see as the list of the texts.
+#[derive(Drop)]
+pub struct PatternBook {
+    patterns: IndexMap<String, Pattern>,
+}
+
+impl Model for PatternBook {
+    ghost use Rattle.std.specs.Prelude.{◌≡◌, ℕ, List, map, string_bytes, All};
+
+    ghost Value = { List (List ℕ) };
+
+    ghost view = { λ b. map (λ p. string_bytes p.0) b.patterns.entries };
+
+    ghost invariant = { λ b. All (λ p. p.1 ≡ string_bytes p.0) b.patterns.entries };
+}
+
+impl PatternBook {
+    /// No patterns.
+    pub(crate) fn new(alloc: Global) -> PatternBook
+        ensures { result ≡ [] }
+    {
+        PatternBook {
+            patterns: IndexMap::new(alloc),
+        }
+    }
+
+    /// Whether it has the pattern of a text.
+    pub(crate) fn has(&self, text: &str) -> bool
+        ensures { result ≡ has_text self.now text.now }
+    {
+        self.patterns.contains_key(text)
+    }
+
+    /// Adds the pattern of a text that it does not have. The pattern is dropped on a refusal.
+    pub(crate) fn insert(
+        &mut self,
+        alloc: Global,
+        text: &str,
+        pattern: Pattern,
+    ) -> Result<(), AllocError>
+        requires pattern { pattern ≡ text.now }
+        requires absent { has_text self.old text.now ≡ false }
+        ensures { OnOk result (self.new ≡ self.old ++ text.now ∷ []) }
+    {
+        let key = String::from_str(alloc, text)?;
+        self.patterns.insert(key, pattern)?;
+        Ok(())
+    }
+
+    /// The pattern of a text that it has, with its place among the others.
+    pub(crate) fn find_full(&self, text: &str) -> (usize, &Pattern)
+        requires { has_text self.now text.now ≡ true }
+        ensures place { slice_get self.now result.0 ≡ Some text.now }
+        ensures pattern { result.1.now ≡ text.now }
+    {
+        match self.patterns.get_full(text) {
+            Some((place, _, pattern)) => (place, pattern),
+            None => unreachable!(),
+        }
+    }
+}

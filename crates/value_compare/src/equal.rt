@@ -1,0 +1,207 @@
+//! Equality of values.
+ghost use Rattle.std.specs.Prelude.{◌≡◌, ℕ, Bool, true, false, List, IfOk, IsOk};
+ghost use Rattle.doc_values.specs.Places.{label_at, kids_at};
+ghost use Rattle.doc_values.specs.Tree.{Nil};
+ghost use Rattle.value_compare.specs.Held.{holds_if, holds_in, holds_of, may_find};
+ghost use Rattle.value_compare.specs.Pairs.{equal, equal_by, same_items, same_maps};
+ghost use Rattle.value_compare.specs.Entries.{has_equal};
+ghost use Rattle.value_compare.specs.Values.{has_pattern, is_pattern, value_at, value_of_key};
+ghost use Rattle.value_compare.specs.Views.{see_view};
+
+use crate::answer::PairAnswer;
+use crate::matchers::Matchers;
+use crate::range;
+use crate::view::View;
+use doc_values::{Cursor, Decimal, Kind};
+use std::alloc::AllocError;
+
+/// Null and a value.
+fn pair_null(right: Kind) -> PairAnswer
+    ensures { (lists maps : Bool) (lt rt : List ℕ) → equal_by lists maps Kind.Null lt right rt ≡ result }
+{
+    match right {
+        Kind::Null => PairAnswer::Yes,
+        _ => PairAnswer::Apart,
+    }
+}
+
+/// A truth value and a value.
+fn pair_truth(left: bool, right: Kind) -> PairAnswer
+    ensures { (lists maps : Bool) (lt rt : List ℕ) → equal_by lists maps (Kind.Truth left) lt right rt ≡ result }
+{
+    match right {
+        Kind::Truth(truth) => PairAnswer::told(left == truth),
+        _ => PairAnswer::Apart,
+    }
+}
+
+/// A whole number and a value.
+fn pair_whole(left: i64, right: Kind) -> PairAnswer
+    ensures { (lists maps : Bool) (lt rt : List ℕ) → equal_by lists maps (Kind.Whole left) lt right rt ≡ result }
+{
+    match right {
+        Kind::Whole(number) => PairAnswer::told(left == number),
+        Kind::Limits(limits) => range::pair_whole(limits, left),
+        _ => PairAnswer::Apart,
+    }
+}
+
+/// A decimal and a value.
+fn pair_decimal(left: Decimal, right: Kind) -> PairAnswer
+    ensures { (lists maps : Bool) (lt rt : List ℕ) → equal_by lists maps (Kind.Fraction left) lt right rt ≡ result }
+{
+    match right {
+        Kind::Fraction(number) => PairAnswer::told(left.compare(&number).is_eq()),
+        Kind::Limits(limits) => range::pair_decimal(limits, left),
+        _ => PairAnswer::Apart,
+    }
+}
+
+/// A text and a value.
+fn pair_text(
+    matchers: &mut Matchers<'_>,
+    left: &str,
+    right: View<'_, '_>,
+) -> Result<PairAnswer, AllocError>
+    requires held { holds_of matchers.old.book.now (see_view right) ≡ true }
+    ensures answer { IfOk result (λ a. a ≡ equal (value_of_key left.now) (see_view right.entry)) }
+    ensures kept { matchers.new.book.now ≡ matchers.old.book.now }
+    ensures no_memory { is_pattern (see_view right.entry).kind ≡ false → IsOk result }
+{
+    match right.kind() {
+        Kind::Text => Ok(PairAnswer::told(left == right.text())),
+        Kind::Pattern => Ok(PairAnswer::told(matchers.finds(right.text(), left)?)),
+        _ => Ok(PairAnswer::Apart),
+    }
+}
+
+/// Two values of trees.
+#[cycle(equal)]
+fn pair_values(
+    matchers: &mut Matchers<'_>,
+    left: Cursor<'_, '_>,
+    right: Cursor<'_, '_>,
+) -> Result<PairAnswer, AllocError>
+    requires held { holds_of matchers.old.book.now (value_at right.doc.now right.id) ≡ true }
+    ensures answer { IfOk result (λ a. a ≡ equal (value_at left.entry.doc.now left.entry.id) (value_at right.entry.doc.now right.entry.id)) }
+    ensures kept { matchers.new.book.now ≡ matchers.old.book.now }
+    ensures no_memory { may_find (value_at left.entry.doc.now left.entry.id) (value_at right.entry.doc.now right.entry.id) ≡ false → IsOk result }
+{
+    match left.kind() {
+        Kind::Null => Ok(pair_null(right.kind())),
+        Kind::Truth(truth) => Ok(pair_truth(truth, right.kind())),
+        Kind::Whole(number) => Ok(pair_whole(number, right.kind())),
+        Kind::Fraction(number) => Ok(pair_decimal(number, right.kind())),
+        Kind::Text => pair_text(matchers, left.text(), View::At(right)),
+        Kind::List => match right.kind() {
+            Kind::List => Ok(PairAnswer::told(are_items_equal(matchers, left, right)?)),
+            _ => Ok(PairAnswer::Apart),
+        },
+        Kind::Map => match right.kind() {
+            Kind::Map => Ok(PairAnswer::told(are_entries_equal(matchers, left, right)?)),
+            _ => Ok(PairAnswer::Apart),
+        },
+        Kind::Pattern | Kind::Limits(_) => Ok(PairAnswer::Apart),
+    }
+}
+
+/// Whether two lists have as many items, each equal to the one at its index.
+#[cycle(equal)]
+fn are_items_equal(
+    matchers: &mut Matchers<'_>,
+    left: Cursor<'_, '_>,
+    right: Cursor<'_, '_>,
+) -> Result<bool, AllocError>
+    requires held { holds_in matchers.old.book.now (kids_at right.doc.now right.id) ≡ true }
+    ensures answer { IfOk result (λ same. same ≡ same_items (kids_at left.entry.doc.now left.entry.id) (kids_at right.entry.doc.now right.entry.id)) }
+    ensures kept { matchers.new.book.now ≡ matchers.old.book.now }
+    ensures no_memory { has_pattern (kids_at right.entry.doc.now right.entry.id) ≡ false → IsOk result }
+{
+    if left.len() != right.len() {
+        return Ok(false);
+    }
+    for i in 0..left.len() {
+        if !pair_values(matchers, left.child(i), right.child(i))?.is_yes() {
+            return Ok(false);
+        }
+    }
+    Ok(true)
+}
+
+/// Whether two maps have the same keys, and equal values at each.
+#[cycle(equal)]
+fn are_entries_equal(
+    matchers: &mut Matchers<'_>,
+    left: Cursor<'_, '_>,
+    right: Cursor<'_, '_>,
+) -> Result<bool, AllocError>
+    requires left { (label_at left.doc.now left.id).kind ≡ Kind.Map }
+    requires right { (label_at right.doc.now right.id).kind ≡ Kind.Map }
+    requires held { holds_in matchers.old.book.now (kids_at right.doc.now right.id) ≡ true }
+    ensures answer { IfOk result (λ same. same ≡ same_maps (kids_at left.entry.doc.now left.entry.id) (kids_at right.entry.doc.now right.entry.id)) }
+    ensures kept { matchers.new.book.now ≡ matchers.old.book.now }
+    ensures no_memory { has_pattern (kids_at right.entry.doc.now right.entry.id) ≡ false → IsOk result }
+{
+    // Keys of a map are distinct, as `len` says of each tree: so where there are as many entries, one direction is enough.
+    let _nodes = (left.doc.len(), right.doc.len());
+    if left.len() != right.len() {
+        return Ok(false);
+    }
+    for i in 0..left.len() {
+        if !is_entry_equal(matchers, left.child(i), right)? {
+            return Ok(false);
+        }
+    }
+    Ok(true)
+}
+
+/// Whether a map has an entry of the key of another map's entry, equal to it.
+#[cycle(equal)]
+fn is_entry_equal(
+    matchers: &mut Matchers<'_>,
+    entry: Cursor<'_, '_>,
+    right: Cursor<'_, '_>,
+) -> Result<bool, AllocError>
+    requires held { holds_in matchers.old.book.now (kids_at right.doc.now right.id) ≡ true }
+    ensures answer { IfOk result (λ same. same ≡ has_equal (label_at entry.entry.doc.now entry.entry.id).key (value_at entry.entry.doc.now entry.entry.id) (kids_at right.entry.doc.now right.entry.id)) }
+    ensures kept { matchers.new.book.now ≡ matchers.old.book.now }
+    ensures no_memory { has_pattern (kids_at right.entry.doc.now right.entry.id) ≡ false → IsOk result }
+{
+    let Some(key) = entry.key() else {
+        return Ok(false);
+    };
+    match right.get(key) {
+        Some(other) => Ok(pair_values(matchers, entry, other)?.is_yes()),
+        None => Ok(false),
+    }
+}
+
+/// A value of a tree and a key.
+fn pair_key(left: Cursor<'_, '_>, key: &str) -> PairAnswer
+    ensures { result ≡ equal (value_at left.entry.doc.now left.entry.id) (value_of_key key.now) }
+{
+    match left.kind() {
+        Kind::Text => PairAnswer::told(left.text() == key),
+        _ => PairAnswer::Apart,
+    }
+}
+
+/// Whether two values are equal.
+pub(crate) fn pair_equal(
+    matchers: &mut Matchers<'_>,
+    left: View<'_, '_>,
+    right: View<'_, '_>,
+) -> Result<PairAnswer, AllocError>
+    requires held { holds_of matchers.old.book.now (see_view right) ≡ true }
+    ensures answer { IfOk result (λ a. a ≡ equal (see_view left.entry) (see_view right.entry)) }
+    ensures kept { matchers.new.book.now ≡ matchers.old.book.now }
+    ensures no_memory { may_find (see_view left.entry) (see_view right.entry) ≡ false → IsOk result }
+{
+    match left {
+        View::Key(text) => pair_text(matchers, text, right),
+        View::At(left) => match right {
+            View::Key(key) => Ok(pair_key(left, key)),
+            View::At(right) => pair_values(matchers, left, right),
+        },
+    }
+}

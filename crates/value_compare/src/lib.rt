@@ -1,0 +1,35 @@
+//! Tests on one row: whether values are equal, ordered or members of others, and the patterns of a rule file, made once.
+//! The tables speak of located trees; the crate knows neither queries nor verdicts.
+#![tactic(auto)]
+
+pub mod answer;
+pub mod book;
+mod equal;
+mod finder;
+mod literals;
+pub mod made;
+pub mod make_book;
+pub mod maker;
+mod matchers;
+mod members;
+mod order;
+#[cfg(test)]
+mod pair_tests;
+pub mod pairs;
+pub mod pattern;
+mod range;
+pub mod row_tests;
+pub mod store;
+mod unary;
+pub mod view;
+
+pub use answer::PairAnswer;
+pub use book::PatternBook;
+pub use made::MadeTrees;
+pub use make_book::{BookRefusal, pattern_book};
+pub use maker::{PatternFault, PatternMaker, RegexMaker, ScriptMaker};
+pub use pairs::pair;
+pub use pattern::Pattern;
+pub use row_tests::row_test;
+pub use store::Store;
+pub use view::View;

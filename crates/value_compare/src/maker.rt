@@ -1,0 +1,90 @@
+//! What makes patterns of texts.
+ghost use Rattle.std.specs.Prelude.{◌≡◌, ◌≤◌, ℕ, List, IfOk, IsErrOf, IsNone, IsSome, OnOk};
+ghost use Rattle.value_compare.specs.Finds.{pattern_in};
+ghost use Rattle.value_compare.specs.Rose.{Rose};
+
+use crate::pattern::Pattern;
+use regex::{Error, Regex};
+use std::alloc::Global;
+
+/// Why a pattern was not made.
+#[derive(Clone, Copy, Debug, PartialEq, Eq)]
+pub enum PatternFault {
+    /// The text is no pattern, or nests deeper than 250 levels.
+    Syntax,
+    /// The pattern takes too much room.
+    TooLarge,
+    Memory,
+}
+
+/// A maker of patterns, with a count of faults for each text. One counter may serve as the count of every text.
+pub trait PatternMaker {
+    ghost faults: { Self → List ℕ → ℕ };
+
+    /// The pattern of a text.
+    fn make(&mut self, alloc: Global, text: &str) -> Result<Pattern, PatternFault>
+        ensures made { IfOk result (λ pattern. pattern ≡ text.now) }
+        ensures read { OnOk result (IsSome (pattern_in text.now)) }
+        ensures syntax { IsErrOf result PatternFault.Syntax → IsNone (pattern_in text.now) }
+        ensures too_large { IsErrOf result PatternFault.TooLarge
+            → Rose (faults self.old text.now) (faults self.new text.now) }
+        ensures kept { (other : List ℕ) → faults self.old other ≤ faults self.new other };
+}
+
+/// The pattern that the crate of regular expressions reads from a text.
+fn read_pattern(alloc: Global, text: &str) -> Result<Pattern, PatternFault>
+    ensures made { IfOk result (λ pattern. pattern ≡ text.now) }
+    ensures read { OnOk result (IsSome (pattern_in text.now)) }
+    ensures syntax { IsErrOf result PatternFault.Syntax → IsNone (pattern_in text.now) }
+{
+    match Regex::new(alloc, text) {
+        Ok(regex) => Ok(Pattern::of(regex)),
+        Err(Error::Syntax(_)) => Err(PatternFault::Syntax),
+        Err(Error::CompiledTooBig | Error::Internal) => Err(PatternFault::TooLarge),
+        Err(Error::OutOfMemory) => Err(PatternFault::Memory),
+    }
+}
+
+/// Makes patterns by the crate of regular expressions; it counts the patterns that were too large.
+#[derive(Debug, Drop)]
+pub struct RegexMaker {
+    pub faults: u64,
+}
+
+impl PatternMaker for RegexMaker {
+    ghost faults = { λ maker text. maker.faults };
+
+    fn make(&mut self, alloc: Global, text: &str) -> Result<Pattern, PatternFault> {
+        let made = read_pattern(alloc, text);
+        if let Err(PatternFault::TooLarge) = made {
+            self.faults = self.faults.saturating_add(1);
+        }
+        made
+    }
+}
+
+/// Answers that a pattern is too large at the calls of these numbers, from 0, and else makes patterns as `RegexMaker` does.
+#[derive(Debug, Drop)]
+pub struct ScriptMaker {
+    pub failing: Vec<u64>,
+    pub calls: u64,
+    pub faults: u64,
+}
+
+impl PatternMaker for ScriptMaker {
+    ghost faults = { λ maker text. maker.faults };
+
+    fn make(&mut self, alloc: Global, text: &str) -> Result<Pattern, PatternFault> {
+        let call = self.calls;
+        self.calls = self.calls.saturating_add(1);
+        let made = if self.failing.contains(&call) {
+            Err(PatternFault::TooLarge)
+        } else {
+            read_pattern(alloc, text)
+        };
+        if let Err(PatternFault::TooLarge) = made {
+            self.faults = self.faults.saturating_add(1);
+        }
+        made
+    }
+}

@@ -1,0 +1,51 @@
+//! Pairs of values.
+ghost use Rattle.std.specs.Prelude.{◌≡◌, true, false, IfOk, IsOk};
+ghost use Rattle.value_compare.specs.Held.{holds_of, may_find};
+ghost use Rattle.value_compare.specs.Pairs.{is_pair_operator, is_order, pair_of};
+ghost use Rattle.value_compare.specs.Views.{see_view};
+
+use crate::answer::PairAnswer;
+use crate::book::PatternBook;
+use crate::equal::pair_equal;
+use crate::matchers::Matchers;
+use crate::order::pair_order;
+use crate::view::View;
+use guard_syntax::Op;
+use std::alloc::{AllocError, Global};
+
+/// What `Eq` or an order operator says of two values. It takes no memory where no pattern is compared.
+pub fn pair(
+    alloc: Global,
+    op: Op,
+    left: View<'_, '_>,
+    right: View<'_, '_>,
+    book: &PatternBook,
+) -> Result<PairAnswer, AllocError>
+    requires op { is_pair_operator op ≡ true }
+    requires held { holds_of book.now (see_view right) ≡ true }
+    ensures answer { IfOk result (λ a. a ≡ pair_of op (see_view left.entry) (see_view right.entry)) }
+    ensures no_memory { may_find (see_view left.entry) (see_view right.entry) ≡ false → IsOk result }
+    ensures no_memory_of_order { is_order op ≡ true → IsOk result }
+{
+    pair_by(&mut Matchers::new(alloc, book), op, left, right)
+}
+
+/// The same, with what finds the patterns of a book.
+pub(crate) fn pair_by(
+    matchers: &mut Matchers<'_>,
+    op: Op,
+    left: View<'_, '_>,
+    right: View<'_, '_>,
+) -> Result<PairAnswer, AllocError>
+    requires op { is_pair_operator op ≡ true }
+    requires held { holds_of matchers.old.book.now (see_view right) ≡ true }
+    ensures answer { IfOk result (λ a. a ≡ pair_of op (see_view left.entry) (see_view right.entry)) }
+    ensures kept { matchers.new.book.now ≡ matchers.old.book.now }
+    ensures no_memory { may_find (see_view left.entry) (see_view right.entry) ≡ false → IsOk result }
+    ensures no_memory_of_order { is_order op ≡ true → IsOk result }
+{
+    match op {
+        Op::Eq => pair_equal(matchers, left, right),
+        _ => Ok(pair_order(op, left, right)),
+    }
+}

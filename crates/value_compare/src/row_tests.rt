@@ -1,0 +1,182 @@
+//! Tests on one row.
+ghost use Rattle.std.specs.Prelude.{◌≡◌, ℕ, List, IfSome, None, Some, true, false, map, IfOk, MatchOption};
+ghost use Rattle.std.specs.List.{list_all, list_any};
+ghost use Rattle.guard_syntax.specs.Seen.{see_file};
+ghost use Rattle.value_compare.specs.Books.{IsBookOf};
+ghost use Rattle.value_compare.specs.Held.{holds_of};
+ghost use Rattle.value_compare.specs.Known.{meant, is_known};
+ghost use Rattle.value_compare.specs.Pairs.{equal, is_no, is_order, is_yes, ordered};
+ghost use Rattle.value_compare.specs.RowTests.{binary, found_of, is_binary, is_some_right, row_test_of};
+ghost use Rattle.value_compare.specs.Stores.{see_store};
+ghost use Rattle.value_compare.specs.Views.{see_view};
+
+use crate::answer::PairAnswer;
+use crate::book::PatternBook;
+use crate::matchers::Matchers;
+use crate::members::{outside, within};
+use crate::pairs::pair_by;
+use crate::store::Store;
+use crate::unary::unary_test;
+use crate::view::View;
+use guard_syntax::{Op, Row};
+use std::alloc::{AllocError, Global};
+
+/// Whether a left row passes a test against the right rows; a unary test has none. The store knows each row, and the book
+/// was made of the store's rule file.
+pub fn row_test(
+    alloc: Global,
+    op: Op,
+    not: bool,
+    left: &Row,
+    right: &[Row],
+    store: &Store<'_, '_>,
+    book: &PatternBook,
+) -> Result<bool, AllocError>
+    requires order { is_order op ≡ true → not ≡ false }
+    requires left { is_known (see_store store.now) left.now ≡ true }
+    requires right { list_all (is_known (see_store store.now)) right.now ≡ true }
+    requires book { IsBookOf (see_file store.now.file.now.raw) book.now }
+    ensures { IfOk result (λ passes. passes ≡ row_test_of op not (meant (see_store store.now) left.now) (map (meant (see_store store.now)) right.now)) }
+{
+    let left = found(left, store);
+    if !has_right(op) {
+        return Ok(unary_test(op, not, left));
+    }
+    let Some(left) = left else {
+        return Ok(false);
+    };
+    let rights = found_rows(alloc, right, store)?;
+    if rights.is_empty() {
+        return Ok(false);
+    }
+    let mut matchers = Matchers::new(alloc, book);
+    binary_test(&mut matchers, op, not, left, &rights)
+}
+
+/// Whether a test has a right side.
+fn has_right(op: Op) -> bool
+    ensures { result ≡ is_binary op }
+{
+    match op {
+        Op::Eq | Op::Lt | Op::Le | Op::Gt | Op::Ge | Op::Within => true,
+        _ => false,
+    }
+}
+
+/// The value that a row has found.
+fn found<'v, 's>(row: &Row, store: &'v Store<'_, 's>) -> Option<View<'v, 's>>
+    ensures value { MatchOption result (meant (see_store store.entry.now) row.now ≡ None) (λ seen. meant (see_store store.entry.now) row.now ≡ Some (see_view seen)) }
+    ensures held { (book : List (List ℕ)) → IsBookOf (see_file store.entry.now.file.now.raw) book → IfSome result (λ seen. holds_of book (see_view seen) ≡ true) }
+{
+    match row {
+        Row::Found(value) => store.view(*value),
+        Row::Missing { .. } | Row::Unmade { .. } => None,
+    }
+}
+
+/// The values that rows have found; missing ones are passed over.
+fn found_rows<'v, 's>(
+    alloc: Global,
+    rows: &[Row],
+    store: &'v Store<'_, 's>,
+) -> Result<Vec<View<'v, 's>>, AllocError>
+    ensures values { IfOk result (λ views. map see_view views.items ≡ found_of (map (meant (see_store store.entry.now)) rows.now)) }
+    ensures held { (book : List (List ℕ)) → IsBookOf (see_file store.entry.now.file.now.raw) book → IfOk result (λ views. list_all (λ r. holds_of book (see_view r)) views.items ≡ true) }
+{
+    let mut views = Vec::new(alloc);
+    for row in rows {
+        if let Some(view) = found(row, store) {
+            views.push(view)?;
+        }
+    }
+    Ok(views)
+}
+
+/// Whether a value passes a test against right ones.
+fn binary_test(
+    matchers: &mut Matchers<'_>,
+    op: Op,
+    not: bool,
+    left: View<'_, '_>,
+    rights: &[View<'_, '_>],
+) -> Result<bool, AllocError>
+    requires op { is_binary op ≡ true }
+    requires order { is_order op ≡ true → not ≡ false }
+    requires some { is_some_right (map see_view rights.now) ≡ true }
+    requires held { list_all (λ r. holds_of matchers.old.book.now (see_view r)) rights.now ≡ true }
+    ensures { IfOk result (λ passes. passes ≡ binary op not (see_view left.entry) (map see_view rights.entry.now)) }
+{
+    match op {
+        Op::Eq => {
+            if not {
+                differs_from_each(matchers, left, rights)
+            } else {
+                equals_some(matchers, left, rights)
+            }
+        }
+        Op::Within => {
+            if not {
+                outside(matchers, left, rights)
+            } else {
+                within(matchers, left, rights)
+            }
+        }
+        _ => stands_to_each(matchers, op, left, rights),
+    }
+}
+
+/// `==`: a right value is equal.
+fn equals_some(
+    matchers: &mut Matchers<'_>,
+    left: View<'_, '_>,
+    rights: &[View<'_, '_>],
+) -> Result<bool, AllocError>
+    requires { list_all (λ r. holds_of matchers.old.book.now (see_view r)) rights.now ≡ true }
+    ensures { IfOk result (λ b. b ≡ list_any (λ r. is_yes (equal (see_view left.entry) r)) (map see_view rights.entry.now)) }
+{
+    for right in rights {
+        match pair_by(matchers, Op::Eq, left, *right)? {
+            PairAnswer::Yes => return Ok(true),
+            PairAnswer::No | PairAnswer::Apart => {}
+        }
+    }
+    Ok(false)
+}
+
+/// `!=`: each right value is known to be another.
+fn differs_from_each(
+    matchers: &mut Matchers<'_>,
+    left: View<'_, '_>,
+    rights: &[View<'_, '_>],
+) -> Result<bool, AllocError>
+    requires { list_all (λ r. holds_of matchers.old.book.now (see_view r)) rights.now ≡ true }
+    ensures { IfOk result (λ b. b ≡ list_all (λ r. is_no (equal (see_view left.entry) r)) (map see_view rights.entry.now)) }
+{
+    for right in rights {
+        match pair_by(matchers, Op::Eq, left, *right)? {
+            PairAnswer::No => {}
+            PairAnswer::Yes | PairAnswer::Apart => return Ok(false),
+        }
+    }
+    Ok(true)
+}
+
+/// `<`, `<=`, `>`, `>=`: the order holds with each right value.
+fn stands_to_each(
+    matchers: &mut Matchers<'_>,
+    op: Op,
+    left: View<'_, '_>,
+    rights: &[View<'_, '_>],
+) -> Result<bool, AllocError>
+    requires op { is_order op ≡ true }
+    requires held { list_all (λ r. holds_of matchers.old.book.now (see_view r)) rights.now ≡ true }
+    ensures { IfOk result (λ b. b ≡ list_all (λ r. is_yes (ordered op (see_view left.entry) r)) (map see_view rights.entry.now)) }
+{
+    for right in rights {
+        match pair_by(matchers, op, left, *right)? {
+            PairAnswer::Yes => {}
+            PairAnswer::No | PairAnswer::Apart => return Ok(false),
+        }
+    }
+    Ok(true)
+}
