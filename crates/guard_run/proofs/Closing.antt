@@ -75,6 +75,7 @@ Closed-defined words told before after end_is.Usage out out' err err' defined to
 Closed-defined words told before after (end_is.Refused refusal) out out' err err' defined took = took
 Closed-defined words told before after (end_is.ReadFault which) out out' err err' defined took = absurd cc
 Closed-defined words told before after (end_is.WriteFault pipe) out out' err err' defined took = absurd cc
+Closed-defined words told before after end_is.PatternRefused out out' err err' defined took = absurd cc
 Closed-defined words told before after end_is.Memory out out' err err' defined took = absurd cc
 
 pub defined-Closed : (words : List (List ℕ)) (told : Contents) (before after : Faults) (how : End) (out out' err err' : Option (List ℕ)) → is_defined how ≡ true
@@ -85,4 +86,5 @@ defined-Closed words told before after end_is.Usage out out' err err' defined cl
 defined-Closed words told before after (end_is.Refused refusal) out out' err err' defined closed = closed
 defined-Closed words told before after (end_is.ReadFault which) out out' err err' defined closed = absurd cc
 defined-Closed words told before after (end_is.WriteFault pipe) out out' err err' defined closed = absurd cc
+defined-Closed words told before after end_is.PatternRefused out out' err err' defined closed = absurd cc
 defined-Closed words told before after end_is.Memory out out' err err' defined closed = absurd cc

@@ -1,9 +1,9 @@
 -- Rules have one reading or one refusal, but for the place of Syntax. By the cases of the refusals.
-use Rattle.std.proofs.Common.{◌≡◌, ◌⊎◌, ◌≤◌, ℕ, List, length, Some, None, arith, inl, inr, refl, sym, ap, ◌∙◌, subst}
+use Rattle.std.proofs.Common.{◌≡◌, ◌⊎◌, ◌≤◌, ℕ, List, length, Option, Some, None, IsNone, true, false, arith, inl, inr, refl, sym, ap, ◌∙◌, subst}
 use Rattle.guard_syntax.specs.Syntax.{File}
-use Rattle.guard_run.specs.RuleText.{RuleText}
-use Rattle.guard_run.specs.Plain.{IsPlain, plain_rules}
-use Rattle.guard_run.specs.Inputs.{IsText, IsTooLong, IsNoText, IsSyntax, IsRuleFile, RefusesText, RefusesRules, rules_limit}
+use Rattle.name_table.specs.Names.{Fault, WellNamed, name_fault}
+use Rattle.guard_run.specs.Plain.{is_plain}
+use Rattle.guard_run.specs.Inputs.{IsText, IsTooLong, IsNoText, IsSyntax, IsRuleFile, RefusesText, RefusesNames, RefusesRules, name_kind, rules_limit}
 use Rattle.guard_run.specs.declared.ends.Refusal.{Refusal}
 use Rattle.guard_run.specs.declared.ends.Refusal.TheVariants.{RulesUnread, DataUnread, TooLong, NotText, At}
 use Rattle.guard_run.specs.declared.ends.RefusalKind.{RefusalKind}
@@ -11,27 +11,41 @@ use Rattle.guard_run.specs.declared.ends.RefusalKind.TheVariants.{Syntax}
 use Rattle.guard_run.specs.declared.ends.Which.TheVariants as file
 use Rattle.guard_run.proofs.OneSyntax.{OneSyntax, AreAlike, syntax-one, text-alike, text-apart}
 
--- the refusals of rules, but RulesUnread, with their conditions
+-- the refusals of a text without syntax, with their conditions
 abbrev pub IsPlaced : List ℕ → Refusal → Type 0
 IsPlaced bytes r = (kind : RefusalKind) × (at : ℕ) × (r ≡ At file.Rules kind at None) × IsText rules_limit bytes × RefusesText bytes kind at
 
-abbrev pub IsBeyond : List ℕ → Type 0
-IsBeyond bytes = IsText rules_limit bytes × ((f : File) × IsSyntax bytes f × ((rules : List RuleText) → IsPlain f rules → ⊥))
+-- why a syntax is refused: it is not evaluated, or it is and its names have a fault
+abbrev pub IsFaulty : File → Refusal → Type 0
+IsFaulty f r =
+    ((r ≡ RulesUnread) × (is_plain f ≡ false))
+    ⊎ ((fault : Fault) × (r ≡ At file.Rules (name_kind fault.kind) fault.named.at (Some fault.named.text)) × (is_plain f ≡ true) × (name_fault f ≡ Some fault))
+
+abbrev pub IsBeyond : List ℕ → Refusal → Type 0
+IsBeyond bytes r = IsText rules_limit bytes × ((f : File) × IsSyntax bytes f × IsFaulty f r)
 
 abbrev pub RulesWhy : List ℕ → Refusal → Type 0
 RulesWhy bytes r =
     ((r ≡ TooLong file.Rules) × IsTooLong rules_limit bytes) ⊎ ((r ≡ NotText file.Rules) × IsNoText rules_limit bytes)
-    ⊎ IsPlaced bytes r ⊎ ((r ≡ RulesUnread) × IsBeyond bytes)
+    ⊎ IsPlaced bytes r ⊎ IsBeyond bytes r
+
+names-why : (bytes : List ℕ) (kind : RefusalKind) (at : ℕ) (name : List ℕ) → RefusesNames bytes kind at name
+    → (f : File) × IsSyntax bytes f × IsFaulty f (At file.Rules kind at (Some name))
+names-why bytes kind at name (f, spelled, plain, (fault, is, first)) = (
+  f,
+  spelled,
+  inr (record { kind = fault; named = record { text = name; at = at } }, ap (λ k. At file.Rules k at (Some name)) is, plain, first),
+)
 
 rules-why : (bytes : List ℕ) (r : Refusal) → RefusesRules bytes r → RulesWhy bytes r
-rules-why bytes RulesUnread h = inr (inr (inr (refl, h)))
+rules-why bytes RulesUnread (text, (f, spelled, unread)) = inr (inr (inr (text, (f, spelled, inl (refl, unread)))))
 rules-why bytes DataUnread h = absurd h
 rules-why bytes (TooLong file.Rules) h = inl (refl, h)
 rules-why bytes (TooLong file.Template) h = absurd h
 rules-why bytes (NotText file.Rules) h = inr (inl (refl, h))
 rules-why bytes (NotText file.Template) h = absurd h
 rules-why bytes (At file.Rules kind at None) h = inr (inr (inl (kind, at, refl, h.0, h.1)))
-rules-why bytes (At file.Rules kind at (Some name)) h = absurd h
+rules-why bytes (At file.Rules kind at (Some name)) h = inr (inr (inr (h.0, names-why bytes kind at name h.1)))
 rules-why bytes (At file.Template kind at name) h = absurd h
 
 -- the same refusal, or Syntax twice
@@ -46,6 +60,20 @@ placed-alike kind at other place r q is is' (inl (k, a)) =
 placed-alike kind at other place r q is is' (inr (k, k')) =
     inr (at, place, is ∙ ap (λ x. At file.Rules x at None) k, is' ∙ ap (λ x. At file.Rules x place None) k')
 
+-- a syntax has one refusal, and none if it is a rule file
+faulty-one : (f : File) (r q : Refusal) → IsFaulty f r → IsFaulty f q → r ≡ q
+faulty-one f r q (inl (is, unread)) (inl (is', unread')) = is ∙ sym is'
+faulty-one f r q (inl (is, unread)) (inr (fault, is', plain, first)) = absurd (let both : false ≡ true = sym unread ∙ plain in cc)
+faulty-one f r q (inr (fault, is, plain, first)) (inl (is', unread)) = absurd (let both : false ≡ true = sym unread ∙ plain in cc)
+faulty-one f r q (inr (fault, is, plain, first)) (inr (fault', is', plain', first')) =
+    let both : Some fault ≡ Some fault' = sym first ∙ first' in
+    let same : fault ≡ fault' = cc in
+    is ∙ (ap (λ (o : Fault). At file.Rules (name_kind o.kind) o.named.at (Some o.named.text)) same ∙ sym is')
+
+faulty-apart : (f : File) (r : Refusal) → IsFaulty f r → is_plain f ≡ true → WellNamed f → ⊥
+faulty-apart f r (inl (is, unread)) plain named = let both : false ≡ true = sym unread ∙ plain in cc
+faulty-apart f r (inr (fault, is, plain', first)) plain named = let both : true ≡ false = subst (λ (o : Option Fault). IsNone o) first named in cc
+
 -- the conditions exclude each other
 long-apart : (bytes : List ℕ) → IsTooLong rules_limit bytes → length bytes ≤ rules_limit → ⊥
 long-apart bytes long within = omega arith
@@ -54,38 +82,37 @@ why-alike : OneSyntax → (bytes : List ℕ) (r q : Refusal) → RulesWhy bytes 
 why-alike law bytes r q (inl (is, long)) (inl (is', long')) = inl (is ∙ sym is')
 why-alike law bytes r q (inl (is, long)) (inr (inl (is', bad))) = absurd (long-apart bytes long bad.0)
 why-alike law bytes r q (inl (is, long)) (inr (inr (inl (kind, at, is', text, h)))) = absurd (long-apart bytes long text.within)
-why-alike law bytes r q (inl (is, long)) (inr (inr (inr (is', (text, f))))) = absurd (long-apart bytes long text.within)
+why-alike law bytes r q (inl (is, long)) (inr (inr (inr (text, f)))) = absurd (long-apart bytes long text.within)
 why-alike law bytes r q (inr (inl (is, bad))) (inl (is', long)) = absurd (long-apart bytes long bad.0)
 why-alike law bytes r q (inr (inl (is, bad))) (inr (inl (is', bad'))) = inl (is ∙ sym is')
 why-alike law bytes r q (inr (inl (is, bad))) (inr (inr (inl (kind, at, is', text, h)))) = absurd (bad.1 text.utf8)
-why-alike law bytes r q (inr (inl (is, bad))) (inr (inr (inr (is', (text, f))))) = absurd (bad.1 text.utf8)
+why-alike law bytes r q (inr (inl (is, bad))) (inr (inr (inr (text, f)))) = absurd (bad.1 text.utf8)
 why-alike law bytes r q (inr (inr (inl (kind, at, is, text, h)))) (inl (is', long)) = absurd (long-apart bytes long text.within)
 why-alike law bytes r q (inr (inr (inl (kind, at, is, text, h)))) (inr (inl (is', bad))) = absurd (bad.1 text.utf8)
 why-alike law bytes r q (inr (inr (inl (kind, at, is, text, h)))) (inr (inr (inl (other, place, is', text', h')))) =
     placed-alike kind at other place r q is is' (text-alike law bytes kind at other place text.within h h')
-why-alike law bytes r q (inr (inr (inl (kind, at, is, text, h)))) (inr (inr (inr (is', (text', (f, spelled, none)))))) =
+why-alike law bytes r q (inr (inr (inl (kind, at, is, text, h)))) (inr (inr (inr (text', (f, spelled, why))))) =
     absurd (text-apart law bytes kind at f text.within h spelled)
-why-alike law bytes r q (inr (inr (inr (is, (text, f))))) (inl (is', long)) = absurd (long-apart bytes long text.within)
-why-alike law bytes r q (inr (inr (inr (is, (text, f))))) (inr (inl (is', bad))) = absurd (bad.1 text.utf8)
-why-alike law bytes r q (inr (inr (inr (is, (text, (f, spelled, none)))))) (inr (inr (inl (kind, at, is', text', h)))) =
+why-alike law bytes r q (inr (inr (inr (text, f)))) (inl (is', long)) = absurd (long-apart bytes long text.within)
+why-alike law bytes r q (inr (inr (inr (text, f)))) (inr (inl (is', bad))) = absurd (bad.1 text.utf8)
+why-alike law bytes r q (inr (inr (inr (text, (f, spelled, why))))) (inr (inr (inl (kind, at, is', text', h)))) =
     absurd (text-apart law bytes kind at f text.within h spelled)
-why-alike law bytes r q (inr (inr (inr (is, (text, f))))) (inr (inr (inr (is', (text', g))))) = inl (is ∙ sym is')
+why-alike law bytes r q (inr (inr (inr (text, (f, spelled, why))))) (inr (inr (inr (text', (g, spelled', why'))))) =
+    inl (faulty-one f r q why (subst (λ (h : File). IsFaulty h q) (syntax-one law bytes g f spelled' spelled) why'))
 
 pub refusals-alike : OneSyntax → (bytes : List ℕ) (r q : Refusal) → RefusesRules bytes r → RefusesRules bytes q → AreAlikeRefusals r q
 refusals-alike law bytes r q h h' = why-alike law bytes r q (rules-why bytes r h) (rules-why bytes q h')
 
 -- what is refused is no rule file
-why-apart : OneSyntax → (bytes : List ℕ) (r : Refusal) (rules : List RuleText) → RulesWhy bytes r → IsRuleFile bytes rules → ⊥
+why-apart : OneSyntax → (bytes : List ℕ) (r : Refusal) (rules : File) → RulesWhy bytes r → IsRuleFile bytes rules → ⊥
 why-apart law bytes r rules (inl (is, long)) whole = long-apart bytes long whole.text.within
 why-apart law bytes r rules (inr (inl (is, bad))) whole = bad.1 whole.text.utf8
-why-apart law bytes r rules (inr (inr (inl (kind, at, is, text, h)))) whole = text-apart law bytes kind at whole.read.0 text.within h whole.read.1
-why-apart law bytes r rules (inr (inr (inr (is, (text, (f, spelled, none)))))) whole =
-    none rules (subst (λ (g : File). IsPlain g rules) (syntax-one law bytes whole.read.0 f whole.read.1 spelled) whole.read.2)
+why-apart law bytes r rules (inr (inr (inl (kind, at, is, text, h)))) whole = text-apart law bytes kind at rules text.within h whole.read
+why-apart law bytes r rules (inr (inr (inr (text, (f, spelled, why))))) whole =
+    faulty-apart rules r (subst (λ (g : File). IsFaulty g r) (syntax-one law bytes f rules spelled whole.read) why) whole.plain whole.named
 
-pub refusal-apart : OneSyntax → (bytes : List ℕ) (r : Refusal) (rules : List RuleText) → RefusesRules bytes r → IsRuleFile bytes rules → ⊥
+pub refusal-apart : OneSyntax → (bytes : List ℕ) (r : Refusal) (rules : File) → RefusesRules bytes r → IsRuleFile bytes rules → ⊥
 refusal-apart law bytes r rules h whole = why-apart law bytes r rules (rules-why bytes r h) whole
 
-pub rules-one : OneSyntax → (bytes : List ℕ) (rules others : List RuleText) → IsRuleFile bytes rules → IsRuleFile bytes others → rules ≡ others
-rules-one law bytes rules others whole whole' =
-    let same : whole.read.0 ≡ whole'.read.0 = syntax-one law bytes whole.read.0 whole'.read.0 whole.read.1 whole'.read.1 in
-    let both : Some rules ≡ Some others = sym whole.read.2.each ∙ (ap (λ (f : File). plain_rules f.rules) same ∙ whole'.read.2.each) in cc
+pub rules-one : OneSyntax → (bytes : List ℕ) (rules others : File) → IsRuleFile bytes rules → IsRuleFile bytes others → rules ≡ others
+rules-one law bytes rules others whole whole' = syntax-one law bytes rules others whole.read whole'.read

@@ -14,7 +14,7 @@ use Rattle.guard_parser.specs.Lexemes.{lexemes, lexeme_of, ending}
 use Rattle.guard_parser.specs.File.{Rules, IsSpelled, IsShallow, IsTooDeep, IsDeadEnd, IsBadRange, open_before}
 use Rattle.guard_parser.proofs.Count.{few_tokens}
 use Rattle.guard_run.specs.declared.ends.RefusalKind.{RefusalKind}
-use Rattle.guard_run.specs.declared.ends.RefusalKind.TheVariants.{Unclosed, BadByte, NumberRange, NestTooDeep, Syntax, BadRange, TooDeep, DuplicateKey}
+use Rattle.guard_run.specs.declared.ends.RefusalKind.TheVariants.{Unclosed, BadByte, NumberRange, NestTooDeep, Syntax, BadRange, DuplicateRule, TooDeep, DuplicateKey, BadPattern}
 use Rattle.guard_run.specs.Inputs.{IsSyntax, RefusesTokens, RefusesSyntax, RefusesText}
 use Rattle.guard_run.specs.Outcome.{lex_kind}
 use Rattle.guard_run.proofs.Refusing.{pair-one}
@@ -49,6 +49,8 @@ lex-of text NumberRange at h = (lex_refusal.NumberRange at, h, refl)
 lex-of text NestTooDeep at h = absurd h
 lex-of text Syntax at h = absurd h
 lex-of text BadRange at h = absurd h
+lex-of text DuplicateRule at h = absurd h
+lex-of text BadPattern at h = absurd h
 lex-of text TooDeep at h = absurd h
 lex-of text DuplicateKey at h = absurd h
 
@@ -108,6 +110,8 @@ syntax-why text tokens BadRange at h = inr (inr (refl, h))
 syntax-why text tokens Unclosed at h = absurd h
 syntax-why text tokens BadByte at h = absurd h
 syntax-why text tokens NumberRange at h = absurd h
+syntax-why text tokens DuplicateRule at h = absurd h
+syntax-why text tokens BadPattern at h = absurd h
 syntax-why text tokens TooDeep at h = absurd h
 syntax-why text tokens DuplicateKey at h = absurd h
 

@@ -1,19 +1,20 @@
 -- A template has one tree or one refusal, where its text has. By the cases of the refusals.
-use Rattle.std.proofs.Common.{◌≡◌, ◌⊎◌, ◌≤◌, ℕ, List, length, Some, None, arith, inl, inr, refl, sym, ap, ◌∙◌, IsUtf8}
+use Rattle.std.proofs.Common.{◌≡◌, ◌⊎◌, ◌≤◌, ℕ, List, length, Some, None, arith, inl, inr, refl, sym, ap, ◌∙◌, subst, IsUtf8}
 use Rattle.doc_values.specs.Tree.{Forest}
 use Rattle.json_reader.specs.Json.{Json}
 use Rattle.json_reader.specs.Refusals.{IsRefused}
 use Rattle.json_reader.specs.declared.refusal.JsonRefusal.{JsonRefusal}
 use Rattle.json_reader.specs.declared.refusal.JsonRefusal.TheVariants as json
-use Rattle.guard_run.specs.RuleText.{RuleText}
+use Rattle.guard_syntax.specs.Syntax.{File}
 use Rattle.guard_run.specs.Inputs.{IsText, IsTooLong, IsNoText, IsTemplate, RefusesJson, RefusesTemplate, template_limit}
 use Rattle.guard_run.specs.Outcome.{json_kind}
-use Rattle.guard_run.specs.End.{Ended, EndOfTemplate, judged, refused}
+use Rattle.guard_run.specs.End.{Ended, EndOfPatterns, EndOfTemplate, refused}
 use Rattle.guard_run.specs.declared.ends.Refusal.{Refusal}
 use Rattle.guard_run.specs.declared.ends.Refusal.TheVariants.{RulesUnread, DataUnread, TooLong, NotText, At}
 use Rattle.guard_run.specs.declared.ends.RefusalKind.{RefusalKind}
-use Rattle.guard_run.specs.declared.ends.RefusalKind.TheVariants.{Unclosed, BadByte, NumberRange, NestTooDeep, Syntax, BadRange, TooDeep, DuplicateKey}
+use Rattle.guard_run.specs.declared.ends.RefusalKind.TheVariants.{Unclosed, BadByte, NumberRange, NestTooDeep, Syntax, BadRange, DuplicateRule, TooDeep, DuplicateKey, BadPattern}
 use Rattle.guard_run.specs.declared.ends.Which.TheVariants as file
+use Rattle.guard_run.proofs.OnePattern.{next-one, next-apart}
 use Rattle.guard_run.proofs.Refusing.{pair-one}
 
 -- what the laws of the reader say of a text
@@ -32,6 +33,8 @@ json-of text Unclosed at h = absurd h
 json-of text BadByte at h = absurd h
 json-of text NestTooDeep at h = absurd h
 json-of text BadRange at h = absurd h
+json-of text DuplicateRule at h = absurd h
+json-of text BadPattern at h = absurd h
 
 json-one : (text : List ℕ) → OneText text → (kind : RefusalKind) (at : ℕ) (other : RefusalKind) (place : ℕ) → RefusesJson text kind at
     → RefusesJson text other place → (kind ≡ other) × (at ≡ place)
@@ -82,12 +85,22 @@ why-apart bytes one r tree (inr (inl (is, bad))) whole = bad.1 whole.text.utf8
 why-apart bytes one r tree (inr (inr (kind, at, is, text, h))) whole =
     let a = json-of bytes kind at h in (one text.utf8).apart a.0 tree a.1 whole.json
 
+-- and behind it the patterns of the rules have one end
+patterns-one : (source : List ℕ) (rules : File) (tree : Forest) (e other : Ended) → EndOfPatterns source rules tree e → EndOfPatterns source rules tree other
+    → e ≡ other
+patterns-one source rules tree e other (inl (text, at, next, bad, is)) (inl (text', at', next', bad', is')) =
+    is ∙ (ap (λ a. refused source (At file.Rules BadPattern a None)) (next-one rules text at text' at' next next' bad bad') ∙ sym is')
+patterns-one source rules tree e other (inl (text, at, next, bad, is)) (inr (all, is')) = absurd (next-apart rules text at next bad all)
+patterns-one source rules tree e other (inr (all, is)) (inl (text, at, next, bad, is')) = absurd (next-apart rules text at next bad all)
+patterns-one source rules tree e other (inr (all, is)) (inr (all', is')) = is ∙ sym is'
+
 -- so a template has one end, whatever the rules
-pub template-one : (bytes : List ℕ) → (IsUtf8 bytes → OneText bytes) → (rules : List RuleText) (e other : Ended) → EndOfTemplate rules bytes e
-    → EndOfTemplate rules bytes other → e ≡ other
-template-one bytes one rules e other (inl (r, h, is)) (inl (q, h', is')) =
+pub template-one : (bytes : List ℕ) → (IsUtf8 bytes → OneText bytes) → (source : List ℕ) (rules : File) (e other : Ended)
+    → EndOfTemplate source rules bytes e → EndOfTemplate source rules bytes other → e ≡ other
+template-one bytes one source rules e other (inl (r, h, is)) (inl (q, h', is')) =
     is ∙ (ap (refused bytes) (why-one bytes one r q (template-why bytes r h) (template-why bytes q h')) ∙ sym is')
-template-one bytes one rules e other (inl (r, h, is)) (inr (tree, whole, is')) = absurd (why-apart bytes one r tree (template-why bytes r h) whole)
-template-one bytes one rules e other (inr (tree, whole, is)) (inl (r, h, is')) = absurd (why-apart bytes one r tree (template-why bytes r h) whole)
-template-one bytes one rules e other (inr (tree, whole, is)) (inr (tree', whole', is')) =
-    is ∙ (ap (judged rules) ((one whole.text.utf8).tree tree tree' whole.json whole'.json) ∙ sym is')
+template-one bytes one source rules e other (inl (r, h, is)) (inr (tree, whole, end)) = absurd (why-apart bytes one r tree (template-why bytes r h) whole)
+template-one bytes one source rules e other (inr (tree, whole, end)) (inl (r, h, is')) = absurd (why-apart bytes one r tree (template-why bytes r h) whole)
+template-one bytes one source rules e other (inr (tree, whole, end)) (inr (tree', whole', end')) =
+    let same : tree' ≡ tree = (one whole.text.utf8).tree tree' tree whole'.json whole.json in
+    patterns-one source rules tree e other end (subst (λ (t : Forest). EndOfPatterns source rules t other) same end')

@@ -9,4 +9,5 @@ IsOutcomeAs-more Ends More more (outcome.Judged judgement) is = more _ is
 IsOutcomeAs-more Ends More more (outcome.Refused r) is = more _ is
 IsOutcomeAs-more Ends More more outcome.Usage is = more _ is
 IsOutcomeAs-more Ends More more (outcome.ReadFault which) is = tt
+IsOutcomeAs-more Ends More more outcome.PatternRefused is = tt
 IsOutcomeAs-more Ends More more outcome.Memory is = tt

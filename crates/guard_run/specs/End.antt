@@ -1,20 +1,23 @@
 -- How a call ends: the words and the contents of the files decide the end, what out takes and what err takes.
-use Rattle.std.specs.Prelude.{ℕ, ◌≡◌, ◌++◌, ◌⊎◌, List, [], Option, Some, None, Bool, true, false, map, if◌then◌else◌}
+use Rattle.std.specs.Prelude.{ℕ, ◌≡◌, ◌++◌, ◌⊎◌, List, [], Option, Some, None, IsSome, IsNone, All, Bool, true, false, map, if◌then◌else◌}
 use Rattle.std.specs.List.{list_any}
 use Rattle.std.specs.Option.{ForSome}
 use Rattle.doc_values.specs.Tree.{Forest}
 use Rattle.guard_io.specs.Outside.{IsPrefix, Rose}
+use Rattle.guard_syntax.specs.Syntax.{File}
+use Rattle.value_compare.specs.Books.{IsNext}
+use Rattle.value_compare.specs.Finds.{pattern_in}
+use Rattle.value_compare.specs.Patterns.{Written, patterns_of}
 use Rattle.guard_run.specs.Request.{Request, request, ends_in_json}
-use Rattle.guard_run.specs.RuleText.{RuleText}
 use Rattle.guard_run.specs.Inputs.{IsRuleFile, RefusesRules, IsTemplate, RefusesTemplate}
-use Rattle.guard_run.specs.Verdicts.{rule_verdict, is_fail}
+use Rattle.guard_run.specs.Verdicts.{known_of, rule_verdict, is_fail}
 use Rattle.guard_run.specs.Report.{report}
-use Rattle.guard_run.specs.Lines.{usage_line, refusal_line, read_fault_line, write_fault_line, memory_line}
+use Rattle.guard_run.specs.Lines.{usage_line, refusal_line, read_fault_line, pattern_line, write_fault_line, memory_line}
 use Rattle.guard_run.specs.declared.ends.End.{End}
 use Rattle.guard_run.specs.declared.ends.End.TheVariants as end_is
 use Rattle.guard_run.specs.declared.ends.Refusal.{Refusal}
 use Rattle.guard_run.specs.declared.ends.Refusal.TheVariants.{DataUnread, At}
-use Rattle.guard_run.specs.declared.ends.RefusalKind.TheVariants.{Syntax}
+use Rattle.guard_run.specs.declared.ends.RefusalKind.TheVariants.{Syntax, BadPattern}
 use Rattle.guard_run.specs.declared.ends.Which.{Which}
 use Rattle.guard_run.specs.declared.ends.Which.TheVariants as file
 
@@ -26,9 +29,10 @@ status_of end_is.Usage = 2
 status_of (end_is.Refused refusal) = 5
 status_of (end_is.ReadFault which) = 6
 status_of (end_is.WriteFault pipe) = 6
+status_of end_is.PatternRefused = 6
 status_of end_is.Memory = 7
 
--- The end by the order of work: the words, the rules, the name of the template, the template, the verdicts.
+-- The end by the order of work: the words, the rules, the name of the template, the template, the patterns, the verdicts.
 
 -- how a call ends, and what out and err take
 pub record Ended : Type 0 where
@@ -40,11 +44,11 @@ pub record Ended : Type 0 where
 abbrev pub refused : List ℕ → Refusal → Ended
 refused bytes refusal = record { how = end_is.Refused refusal; out = []; err = refusal_line bytes refusal }
 
--- a template that was judged by the rules: Failed if a verdict is FAIL, else Passed; out takes the report
-abbrev pub judged : List RuleText → Forest → Ended
+-- a template that was judged by a rule file: Failed if a rule's verdict is FAIL, else Passed; out takes the report
+abbrev pub judged : File → Forest → Ended
 judged rules tree = record {
-  how = if list_any is_fail (map (rule_verdict tree) rules) then end_is.Failed else end_is.Passed;
-  out = report tree rules;
+  how = if list_any is_fail (map (rule_verdict (known_of rules tree)) rules.rules) then end_is.Failed else end_is.Passed;
+  out = report (known_of rules tree) rules.rules;
   err = [];
 }
 
@@ -56,22 +60,29 @@ Contents = List ℕ → Option (List ℕ)
 abbrev pub IsContent : Option (List ℕ) → List ℕ → Type 0
 IsContent told bytes = ForSome told (λ content. bytes ≡ content)
 
--- with the rules read and the template's bytes: they are refused, or they are a template and are judged
-abbrev pub EndOfTemplate : List RuleText → List ℕ → Ended → Type 0
-EndOfTemplate rules bytes e =
+-- with the rules, their bytes and the template read: the first pattern that cannot be read is refused at its place, or each
+-- is read and the template is judged
+abbrev pub EndOfPatterns : List ℕ → File → Forest → Ended → Type 0
+EndOfPatterns source rules tree e =
+    ((text : List ℕ) × (at : ℕ) × IsNext rules text at × IsNone (pattern_in text) × (e ≡ refused source (At file.Rules BadPattern at None)))
+    ⊎ (All (λ (w : Written). IsSome (pattern_in w.text)) (patterns_of rules) × (e ≡ judged rules tree))
+
+-- with the rules read and the template's bytes: they are refused, or they are a template and the patterns are read
+abbrev pub EndOfTemplate : List ℕ → File → List ℕ → Ended → Type 0
+EndOfTemplate source rules bytes e =
     ((refusal : Refusal) × RefusesTemplate bytes refusal × (e ≡ refused bytes refusal))
-    ⊎ ((tree : Forest) × IsTemplate bytes tree × (e ≡ judged rules tree))
+    ⊎ ((tree : Forest) × IsTemplate bytes tree × EndOfPatterns source rules tree e)
 
 -- with the rules read: the template is refused unless its name ends in `.json`, before any bytes of it are loaded
-abbrev pub EndOfName : Bool → Option (List ℕ) → List RuleText → Ended → Type 0
-EndOfName false told rules e = e ≡ refused [] DataUnread
-EndOfName true told rules e = (bytes : List ℕ) × IsContent told bytes × EndOfTemplate rules bytes e
+abbrev pub EndOfName : Bool → Option (List ℕ) → List ℕ → File → Ended → Type 0
+EndOfName false told source rules e = e ≡ refused [] DataUnread
+EndOfName true told source rules e = (bytes : List ℕ) × IsContent told bytes × EndOfTemplate source rules bytes e
 
 -- with the bytes of the rules: they are refused, or they are a rule file and the work goes on
 abbrev pub EndOfRules : Request → Contents → List ℕ → Ended → Type 0
 EndOfRules q told bytes e =
     ((refusal : Refusal) × RefusesRules bytes refusal × (e ≡ refused bytes refusal))
-    ⊎ ((rules : List RuleText) × IsRuleFile bytes rules × EndOfName (ends_in_json q.template) (told q.template) rules e)
+    ⊎ ((rules : File) × IsRuleFile bytes rules × EndOfName (ends_in_json q.template) (told q.template) bytes rules e)
 
 -- with what the words ask for
 abbrev pub EndOfRequest : Option Request → Contents → Ended → Type 0
@@ -92,6 +103,7 @@ is_defined end_is.Usage = true
 is_defined (end_is.Refused refusal) = true
 is_defined (end_is.ReadFault which) = false
 is_defined (end_is.WriteFault pipe) = false
+is_defined end_is.PatternRefused = false
 is_defined end_is.Memory = false
 
 -- ends of a template that was judged
@@ -102,6 +114,7 @@ is_judged end_is.Usage = false
 is_judged (end_is.Refused refusal) = false
 is_judged (end_is.ReadFault which) = false
 is_judged (end_is.WriteFault pipe) = false
+is_judged end_is.PatternRefused = false
 is_judged end_is.Memory = false
 
 -- the name of a file that is asked for
@@ -113,20 +126,39 @@ name_of file.Template q = q.template
 abbrev pub ComesTo : Which → Request → Contents → Type 0
 ComesTo file.Rules q told = Unit {0}
 ComesTo file.Template q told = (bytes : List ℕ) × IsContent (told q.rules) bytes
-    × ((rules : List RuleText) × IsRuleFile bytes rules) × (ends_in_json q.template ≡ true)
+    × ((rules : File) × IsRuleFile bytes rules) × (ends_in_json q.template ≡ true)
 
 -- the words ask for a file whose load the order of work comes to
 abbrev pub Loads : Which → List (List ℕ) → Contents → Request → Type 0
 Loads which words told q = (request words ≡ Some q) × ComesTo which q told
 
--- the counts of faults: of each file by its name, and of out
-pub record Faults : Type 0 where
+-- with the rules read, the order of work comes to a pattern: the template is named `.json` and read, and so is each pattern of the rules before this one
+abbrev pub ComesToPattern : Bool → Option (List ℕ) → File → List ℕ → Type 0
+ComesToPattern named told rules text = (named ≡ true) × ((bytes : List ℕ) × IsContent told bytes × ((tree : Forest) × IsTemplate bytes tree))
+    × ((at : ℕ) × IsNext rules text at)
+
+-- the words ask for rules with a pattern of this text, which the order of work comes to
+abbrev pub Makes : List (List ℕ) → Contents → List ℕ → Type 0
+Makes words told text = (q : Request) × (request words ≡ Some q) × ((bytes : List ℕ) × IsContent (told q.rules) bytes
+    × ((rules : File) × IsRuleFile bytes rules × ComesToPattern (ends_in_json q.template) (told q.template) rules text))
+
+-- the counts of faults of what is read: of each file by its name, and of each pattern by its text
+pub record Counts : Type 0 where
   pub files : List ℕ → ℕ
+  pub patterns : List ℕ → ℕ
+
+-- these, and the count of out
+pub record Faults : Type 0 where
+  pub read : Counts
   pub out : ℕ
 
 -- the count of a file that is asked for rose
-abbrev pub Unread : (before after : Faults) → Which → Request → Type 0
+abbrev pub Unread : (before after : Counts) → Which → Request → Type 0
 Unread before after which q = Rose (before.files (name_of which q)) (after.files (name_of which q))
+
+-- a pattern that the order of work comes to, and whose count rose
+abbrev pub Unmade : List (List ℕ) → Contents → (before after : List ℕ → ℕ) → List ℕ → Type 0
+Unmade words told before after text = Makes words told text × Rose (before text) (after text)
 
 -- the count of out rose
 abbrev pub Unwritten : (before after : Faults) → Type 0
@@ -136,14 +168,15 @@ Unwritten before after = Rose before.out after.out
 abbrev pub IsReport : List (List ℕ) → Contents → List ℕ → Type 0
 IsReport words told text = (e : Ended) × EndOf words told e × (is_judged e.how ≡ true) × (text ≡ e.out)
 
--- a line that may be written on err when out has taken a text: that of usage or a refusal, and that of a file that
--- is asked for and whose count rose, when out has taken nothing, and that of out, whose count rose, when it has taken
--- a front of the report
+-- a line that may be written on err when out has taken a text: that of usage or a refusal, that of a file that is asked
+-- for and whose count rose, and that of a pattern whose count rose, when out has taken nothing, and that of out, whose
+-- count rose, when it has taken a front of the report
 abbrev pub MaySay : List (List ℕ) → Contents → (before after : Faults) → (out line : List ℕ) → Type 0
 MaySay words told before after out line =
     ((e : Ended) × EndOf words told e × (is_judged e.how ≡ false) × (line ≡ e.err) × (out ≡ []))
-    ⊎ ((which : Which) × ((q : Request) × Loads which words told q × Unread before after which q)
+    ⊎ ((which : Which) × ((q : Request) × Loads which words told q × Unread before.read after.read which q)
     × (line ≡ read_fault_line which) × (out ≡ []))
+    ⊎ (((text : List ℕ) × Unmade words told before.read.patterns after.read.patterns text) × (line ≡ pattern_line) × (out ≡ []))
     ⊎ ((text : List ℕ) × IsReport words told text × IsPrefix out text × Unwritten before after × (line ≡ write_fault_line))
 
 -- what out and err may have taken when memory is wanting: nothing yet, a front of the report, or a front of a line
@@ -167,6 +200,10 @@ TookAsDefined words told how out out' err err' =
 -- where a file was not read: nothing, and its line
 abbrev pub TookOfUnread : Which → (out out' err err' : Option (List ℕ)) → Type 0
 TookOfUnread which out out' err err' = Took out out' [] × Took err err' (read_fault_line which)
+
+-- where a pattern was not made: nothing, and the line of that
+abbrev pub TookOfUnmade : (out out' err err' : Option (List ℕ)) → Type 0
+TookOfUnmade out out' err err' = Took out out' [] × Took err err' pattern_line
 
 -- where out was not written: a front of the report, and the line of that
 abbrev pub TookOfUnwritten : List (List ℕ) → Contents → (out out' err err' : Option (List ℕ)) → Type 0

@@ -1,7 +1,7 @@
 -- Which bytes are read as rules and as a template, and why others are refused: beside each refusal the condition under
 -- which it comes. Of the refusals of one file no two conditions hold together, but that the place of Syntax in rules may be
 -- one of several.
-use Rattle.std.specs.Prelude.{ℕ, ◌<◌, ◌≤◌, ◌⊎◌, List, None, IsUtf8, length}
+use Rattle.std.specs.Prelude.{ℕ, ◌<◌, ◌≤◌, ◌≡◌, ◌⊎◌, true, false, List, Some, None, IsUtf8, length}
 use Rattle.doc_values.specs.Tree.{Forest}
 use Rattle.json_reader.specs.Json.{Json}
 use Rattle.json_reader.specs.Refusals as json
@@ -11,12 +11,14 @@ use Rattle.guard_lexer.specs.declared.token.Token.{Token}
 use Rattle.guard_lexer.specs.declared.token.LexRefusal.TheVariants as lex_refusal
 use Rattle.guard_syntax.specs.Syntax.{File}
 use Rattle.guard_parser.specs.File.{Rules, IsTooDeep, IsDeadEnd, IsBadRange}
-use Rattle.guard_run.specs.RuleText.{RuleText}
-use Rattle.guard_run.specs.Plain.{IsPlain}
+use Rattle.name_table.specs.Names.{WellNamed, name_fault}
+use Rattle.name_table.specs.declared.refusal.NameKind.{NameKind}
+use Rattle.name_table.specs.declared.refusal.NameKind.TheVariants as naming
+use Rattle.guard_run.specs.Plain.{is_plain}
 use Rattle.guard_run.specs.declared.ends.Refusal.{Refusal}
 use Rattle.guard_run.specs.declared.ends.Refusal.TheVariants.{RulesUnread, TooLong, NotText, At}
 use Rattle.guard_run.specs.declared.ends.RefusalKind.{RefusalKind}
-use Rattle.guard_run.specs.declared.ends.RefusalKind.TheVariants.{Unclosed, BadByte, NumberRange, NestTooDeep, Syntax, BadRange, TooDeep, DuplicateKey}
+use Rattle.guard_run.specs.declared.ends.RefusalKind.TheVariants.{Unclosed, BadByte, NumberRange, NestTooDeep, Syntax, BadRange, DuplicateRule, TooDeep, DuplicateKey}
 use Rattle.guard_run.specs.declared.ends.Which.TheVariants as file
 
 -- a text of at most so many bytes
@@ -67,10 +69,12 @@ RefusesTemplate bytes _ = ⊥
 abbrev pub IsSyntax : List ℕ → File → Type 0
 IsSyntax text syntax_tree = (tokens : List Token) × lex.IsTokenList text tokens × Rules text tokens syntax_tree
 
--- bytes that are a rule file of these rules
-pub record IsRuleFile (bytes : List ℕ) (rules : List RuleText) : Type 0 where
+-- bytes that are a rule file of this syntax, which is evaluated and whose names are as they must be
+pub record IsRuleFile (bytes : List ℕ) (syntax_tree : File) : Type 0 where
   pub text : IsText rules_limit bytes
-  pub read : (syntax_tree : File) × IsSyntax bytes syntax_tree × IsPlain syntax_tree rules
+  pub read : IsSyntax bytes syntax_tree
+  pub plain : is_plain syntax_tree ≡ true
+  pub named : WellNamed syntax_tree
 
 -- what is the matter with a text that has no tokens, and at which byte offset
 abbrev pub RefusesTokens : List ℕ → RefusalKind → ℕ → Type 0
@@ -91,11 +95,21 @@ abbrev pub RefusesText : List ℕ → RefusalKind → ℕ → Type 0
 RefusesText text kind at =
     RefusesTokens text kind at ⊎ ((tokens : List Token) × lex.IsTokenList text tokens × RefusesSyntax text tokens kind at)
 
+-- what is the matter with names
+abbrev pub name_kind : NameKind → RefusalKind
+name_kind naming.DuplicateRule = DuplicateRule
+
+-- and with the names of a text that has a syntax which is evaluated: with which name, at which byte offset
+abbrev pub RefusesNames : List ℕ → RefusalKind → ℕ → List ℕ → Type 0
+RefusesNames text kind at name = (syntax_tree : File) × IsSyntax text syntax_tree × (is_plain syntax_tree ≡ true)
+    × ((fault : NameKind) × (kind ≡ name_kind fault)
+    × (name_fault syntax_tree ≡ Some (record { kind = fault; named = record { text = name; at = at } })))
+
 -- why rules with these bytes are refused
 abbrev pub RefusesRules : List ℕ → Refusal → Type 0
 RefusesRules bytes (TooLong file.Rules) = IsTooLong rules_limit bytes
 RefusesRules bytes (NotText file.Rules) = IsNoText rules_limit bytes
 RefusesRules bytes (At file.Rules kind at None) = IsText rules_limit bytes × RefusesText bytes kind at
-RefusesRules bytes RulesUnread =
-    IsText rules_limit bytes × ((syntax_tree : File) × IsSyntax bytes syntax_tree × ((rules : List RuleText) → IsPlain syntax_tree rules → ⊥))
+RefusesRules bytes (At file.Rules kind at (Some name)) = IsText rules_limit bytes × RefusesNames bytes kind at name
+RefusesRules bytes RulesUnread = IsText rules_limit bytes × ((syntax_tree : File) × IsSyntax bytes syntax_tree × (is_plain syntax_tree ≡ false))
 RefusesRules bytes _ = ⊥

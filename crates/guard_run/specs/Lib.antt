@@ -6,7 +6,6 @@ pub mod Plain
 pub mod Report
 pub mod Request
 pub mod Rows
-pub mod RuleNames
-pub mod RuleText
 pub mod Verdicts
+pub mod Within
 pub mod Writing

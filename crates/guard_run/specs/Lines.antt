@@ -4,7 +4,7 @@ use Rattle.doc_values.specs.Position.{line_at, column_at}
 use Rattle.guard_run.specs.declared.ends.Refusal.{Refusal}
 use Rattle.guard_run.specs.declared.ends.Refusal.TheVariants.{RulesUnread, DataUnread, TooLong, NotText, At}
 use Rattle.guard_run.specs.declared.ends.RefusalKind.{RefusalKind}
-use Rattle.guard_run.specs.declared.ends.RefusalKind.TheVariants.{Unclosed, BadByte, NumberRange, NestTooDeep, Syntax, BadRange, TooDeep, DuplicateKey}
+use Rattle.guard_run.specs.declared.ends.RefusalKind.TheVariants.{Unclosed, BadByte, NumberRange, NestTooDeep, Syntax, BadRange, DuplicateRule, TooDeep, DuplicateKey, BadPattern}
 use Rattle.guard_run.specs.declared.ends.Which.{Which}
 use Rattle.guard_run.specs.declared.ends.Which.TheVariants as file
 
@@ -14,6 +14,9 @@ usage_line = codes "usage: guard validate --rules FILE --data FILE\n"
 abbrev pub read_fault_line : Which → List ℕ
 read_fault_line file.Rules = codes "guard: cannot read rules\n"
 read_fault_line file.Template = codes "guard: cannot read data\n"
+
+abbrev pub pattern_line : List ℕ
+pattern_line = codes "guard: pattern refused\n"
 
 abbrev pub write_fault_line : List ℕ
 write_fault_line = codes "guard: cannot write out\n"
@@ -34,8 +37,10 @@ kind_word NumberRange = codes "NumberRange"
 kind_word NestTooDeep = codes "NestTooDeep"
 kind_word Syntax = codes "Syntax"
 kind_word BadRange = codes "BadRange"
+kind_word DuplicateRule = codes "DuplicateRule"
 kind_word TooDeep = codes "TooDeep"
 kind_word DuplicateKey = codes "DuplicateKey"
+kind_word BadPattern = codes "BadPattern"
 
 -- the name that a refusal is about, behind its kind
 abbrev pub name_part : Option (List ℕ) → List ℕ

@@ -1,6 +1,6 @@
 -- What comes of the words and the files before anything is written: steps of the order of work, by the types of the code.
 use Rattle.std.specs.Prelude.{ℕ, ◌≡◌, ◌≤◌, ◌<◌, List, [], Option, Some, None, string_bytes, length, if◌then◌else◌}
-use Rattle.guard_io.specs.Outside.{Rose}
+use Rattle.name_table.specs.Files.{file_of}
 use Rattle.guard_run.specs.Request.{Request}
 use Rattle.guard_lexer.specs.declared.token.LexRefusal.{LexRefusal}
 use Rattle.guard_lexer.specs.declared.token.LexRefusal.TheVariants as lex
@@ -10,7 +10,7 @@ use Rattle.json_reader.specs.declared.refusal.JsonRefusal.{JsonRefusal}
 use Rattle.json_reader.specs.declared.refusal.JsonRefusal.TheVariants as json
 use Rattle.guard_run.specs.Inputs.{IsRuleFile, RefusesRules}
 use Rattle.guard_run.specs.Lines.{usage_line}
-use Rattle.guard_run.specs.End.{Ended, EndOf, Contents, IsContent, Loads, name_of, refused}
+use Rattle.guard_run.specs.End.{Ended, EndOf, Contents, Counts, IsContent, Loads, Unread, Unmade, refused}
 use Rattle.guard_run.specs.declared.ends.End.TheVariants as end_is
 use Rattle.guard_run.specs.declared.ends.Refusal.{Refusal}
 use Rattle.guard_run.specs.declared.ends.Refusal.TheVariants.{At}
@@ -23,6 +23,8 @@ use Rattle.guard_run.specs.declared.load.LoadedRules.{LoadedRules}
 use Rattle.guard_run.specs.declared.load.LoadedRules.TheVariants as rules_load
 use Rattle.guard_run.specs.declared.outcome.Outcome.{Outcome}
 use Rattle.guard_run.specs.declared.outcome.Outcome.TheVariants as outcome
+use Rattle.guard_run.specs.declared.line.Line.{Line}
+use Rattle.guard_run.specs.declared.line.Line.TheVariants as line
 use Rattle.guard_run.specs.declared.refused.Refused.{Refused}
 use Rattle.guard_run.specs.declared.read.NotRead.{NotRead}
 use Rattle.guard_run.specs.declared.read.NotRead.TheVariants as not_read
@@ -55,9 +57,14 @@ json_kind (json.NumberRange at) = Some (NumberRange, at)
 json_kind (json.TooDeep at) = Some (TooDeep, at)
 json_kind json.NoMemory = None
 
+-- a line, wherever it is kept
+abbrev pub line_bytes : Line → List ℕ
+line_bytes (line.Short text) = text.bytes
+line_bytes (line.Long text) = string_bytes text
+
 -- the end of a file that is refused
 abbrev pub said : Refused → Ended
-said r = record { how = end_is.Refused r.refusal; out = []; err = r.line.bytes }
+said r = record { how = end_is.Refused r.refusal; out = []; err = line_bytes r.line }
 
 -- why bytes are not read: they are refused so; want of memory says nothing of them
 abbrev pub IsNotRead : (List ℕ → Refusal → Type 0) → List ℕ → NotRead → Type 0
@@ -72,7 +79,7 @@ IsPlaced _ _ _ _ = ⊥
 
 -- a rule file that was loaded and read, or is refused
 abbrev pub AreLoaded : Option (List ℕ) → LoadedRules → Type 0
-AreLoaded told (rules_load.Read rules) = (bytes : List ℕ) × IsContent told bytes × IsRuleFile bytes rules.items
+AreLoaded told (rules_load.Read rules) = IsContent told rules.bytes.items × IsRuleFile rules.bytes.items (file_of rules.file)
 AreLoaded told (rules_load.Refused r) = (bytes : List ℕ) × IsContent told bytes × IsNotRead RefusesRules bytes (not_read.Refused r)
 AreLoaded told rules_load.Fault = Unit {0}
 AreLoaded told rules_load.Memory = Unit {0}
@@ -91,10 +98,11 @@ IsOutcomeAs Ends (outcome.Judged judgement) = Ends (ended judgement)
 IsOutcomeAs Ends (outcome.Refused r) = Ends (said r)
 IsOutcomeAs Ends outcome.Usage = Ends (record { how = end_is.Usage; out = []; err = usage_line })
 IsOutcomeAs Ends (outcome.ReadFault which) = Unit {0}
+IsOutcomeAs Ends outcome.PatternRefused = Unit {0}
 IsOutcomeAs Ends outcome.Memory = Unit {0}
 
--- the outcome of words; where a file was not read, by the counts of the files before and after
-abbrev pub IsOutcome : List (List ℕ) → Contents → (before after : List ℕ → ℕ) → Outcome → Type 0
-IsOutcome words told before after (outcome.ReadFault which) =
-    (q : Request) × Loads which words told q × Rose (before (name_of which q)) (after (name_of which q))
+-- the outcome of words; where a file was not read, or a pattern not made, by the counts before and after
+abbrev pub IsOutcome : List (List ℕ) → Contents → (before after : Counts) → Outcome → Type 0
+IsOutcome words told before after (outcome.ReadFault which) = (q : Request) × Loads which words told q × Unread before after which q
+IsOutcome words told before after outcome.PatternRefused = (text : List ℕ) × Unmade words told before.patterns after.patterns text
 IsOutcome words told before after other = IsOutcomeAs (EndOf words told) other

@@ -2,7 +2,7 @@
 use Rattle.std.specs.Prelude.{ℕ, ◌≡◌, ◌++◌, ◌⊎◌, List, Option}
 use Rattle.guard_io.specs.Outside.{IsPrefix}
 use Rattle.guard_run.specs.Request.{Request}
-use Rattle.guard_run.specs.End.{Contents, Faults, Loads, Unread, Took, TookAsDefined, TookOfUnread, TookOfUnwritten, TookOfUnsaid, TookOfMemory}
+use Rattle.guard_run.specs.End.{Contents, Faults, Loads, Unread, Unmade, Took, TookAsDefined, TookOfUnread, TookOfUnmade, TookOfUnwritten, TookOfUnsaid, TookOfMemory}
 use Rattle.guard_run.specs.Lines.{memory_line}
 use Rattle.guard_run.specs.declared.ends.End.{End}
 use Rattle.guard_run.specs.declared.ends.End.TheVariants as end_is
@@ -15,7 +15,9 @@ Closed words told before after end_is.Failed out out' err err' = TookAsDefined w
 Closed words told before after end_is.Usage out out' err err' = TookAsDefined words told end_is.Usage out out' err err'
 Closed words told before after (end_is.Refused refusal) out out' err err' = TookAsDefined words told (end_is.Refused refusal) out out' err err'
 Closed words told before after (end_is.ReadFault which) out out' err err' =
-    ((q : Request) × Loads which words told q × Unread before after which q) × TookOfUnread which out out' err err'
+    ((q : Request) × Loads which words told q × Unread before.read after.read which q) × TookOfUnread which out out' err err'
+Closed words told before after end_is.PatternRefused out out' err err' =
+    ((text : List ℕ) × Unmade words told before.read.patterns after.read.patterns text) × TookOfUnmade out out' err err'
 Closed words told before after (end_is.WriteFault Out) out out' err err' = TookOfUnwritten words told out out' err err'
 Closed words told before after (end_is.WriteFault Err) out out' err err' = TookOfUnsaid words told before after out out' err err'
 Closed words told before after end_is.Memory out out' err err' = TookOfMemory words told before after out out' err err'

@@ -18,18 +18,22 @@ pub enum RefusalKind {
     Syntax,
     /// In rules, a range with a whole and a decimal bound, at its first byte.
     BadRange,
+    /// In rules, a rule with the name of an earlier one, at this name.
+    DuplicateRule,
     /// In a template, a collection inside 128 others, at its opening bracket.
     TooDeep,
     /// In a template, a key that the map has already, at its opening quotation mark.
     DuplicateKey,
+    /// In rules, a pattern whose text is none, or nests deeper than 250 levels, at the slash or quote that opens it.
+    BadPattern,
 }
 
 /// Why a file is refused.
 #[derive(Debug, Drop)]
 pub enum Refusal {
-    /// The rules are a rule file, but hold what is not evaluated so far: anything but rules with distinct names,
-    /// without conditions, parameters and lets, whose parts are single tests `exists`, not negated and without
-    /// `some`, on queries of key steps.
+    /// The rules are a rule file, but hold what is not evaluated so far: anything but rules without conditions,
+    /// parameters and lets, whose parts are single tests without `some`, with a query of key steps on the left side,
+    /// and a literal or such a query on the right side, if there is one.
     RulesUnread,
     /// The template's name does not end in `.json`.
     DataUnread,
@@ -76,6 +80,8 @@ pub enum End {
     ReadFault(Which),
     /// A sink could not be written.
     WriteFault(Pipe),
+    /// A pattern of the rules was not made.
+    PatternRefused,
     /// Memory was wanting.
     Memory,
 }
@@ -90,7 +96,7 @@ impl End {
             End::Failed => 19,
             End::Usage => 2,
             End::Refused(_) => 5,
-            End::ReadFault(_) | End::WriteFault(_) => 6,
+            End::ReadFault(_) | End::WriteFault(_) | End::PatternRefused => 6,
             End::Memory => 7,
         }
     }

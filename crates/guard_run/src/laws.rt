@@ -1,6 +1,6 @@
 ghost use Rattle.std.specs.Prelude.{◌≡◌, ℕ, List, Some};
 ghost use Rattle.guard_run.specs.Request.{Request, request};
-ghost use Rattle.guard_run.specs.RuleText.{RuleText};
+ghost use Rattle.guard_syntax.specs.Syntax.{File};
 ghost use Rattle.guard_run.specs.End.{Ended, EndOf, EndOfTemplate, Contents, AreSame};
 
 use guard_parser::one_syntax;
@@ -22,8 +22,8 @@ pub fn only_end(rules: &[u8], template: &[u8])
 
 /// The law that a template has one end, whatever the rules.
 fn only_template(bytes: &[u8])
-    ensures { (rules : List RuleText) (e other : Ended) → EndOfTemplate rules bytes.now e
-        → EndOfTemplate rules bytes.now other → e ≡ other }
+    ensures { (source : List ℕ) (rules : File) (e other : Ended) → EndOfTemplate source rules bytes.now e
+        → EndOfTemplate source rules bytes.now other → e ≡ other }
 {
     match str::from_utf8(bytes) {
         Ok(text) => {

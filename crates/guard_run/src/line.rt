@@ -1,19 +1,40 @@
-//! The lines of refusals. They stand on the stack, so that no refusal wants memory.
-ghost use Rattle.std.specs.Prelude.{◌≡◌, ◌+◌, ◌≤◌, ◌++◌, length, decimal};
+//! The lines of refusals. They stand on the stack, so that no refusal wants memory, but for those that end with a name
+//! of the rules, which may be as long as the rules are.
+ghost use Rattle.std.specs.Prelude.{◌≡◌, ◌+◌, ◌≤◌, ◌++◌, Some, length, decimal, string_bytes, IfOk};
 ghost use Rattle.arrayvec.specs.ArrayString.{array_string_len};
 ghost use Rattle.doc_values.specs.Position.{line_at, column_at};
-ghost use Rattle.guard_run.specs.Lines.{file_word, kind_word, whole_line, placed_line};
+ghost use Rattle.guard_run.specs.Lines.{file_word, kind_word, name_part, whole_line, placed_line};
+ghost use Rattle.guard_run.specs.Outcome.{line_bytes};
 
 use crate::ends::{RefusalKind, Which};
 use arrayvec::ArrayString;
 use doc_values::place_of;
 use itoa::Buffer;
+use std::alloc::{AllocError, Global};
 
-/// A line on err. The longest, `guard: rules 4294967295:4294967295: DuplicateKey`, has 49 bytes with its newline.
-pub(crate) type Line = ArrayString<64>;
+/// A line without a name. The longest, `guard: rules 4294967295:4294967295: DuplicateRule`, has 50 bytes with its newline.
+type Short = ArrayString<64>;
+
+/// A line on err.
+#[derive(Drop)]
+pub(crate) enum Line {
+    Short(ArrayString<64>),
+    Long(String),
+}
+
+impl Line {
+    pub(crate) fn as_str(&self) -> &str
+        ensures { result.now ≡ line_bytes self.now }
+    {
+        match self {
+            Line::Short(text) => text.as_str(),
+            Line::Long(text) => text.as_str(),
+        }
+    }
+}
 
 /// The line of a file that is refused as a whole.
-pub(crate) fn whole_line(which: Which, name: &str) -> Line
+pub(crate) fn whole_line(which: Which, name: &str) -> Short
     requires { length name.now ≤ 12 }
     ensures { result.bytes ≡ whole_line which name.now }
 {
@@ -26,12 +47,12 @@ pub(crate) fn whole_line(which: Which, name: &str) -> Line
     line
 }
 
-/// The line of a refusal at a byte offset of a text. An offset past the text stands for its end.
-pub(crate) fn placed_line(which: Which, kind: RefusalKind, at: u32, text: &str) -> Line
-    requires { length text.now ≤ 8388608 }
-    ensures { result.bytes ≡ placed_line which text.now at (kind_word kind) }
+/// The line of a refusal at a byte offset of a file. An offset past its bytes stands for their end.
+pub(crate) fn placed_line(which: Which, kind: RefusalKind, at: u32, bytes: &[u8]) -> Short
+    requires { length bytes.now ≤ 8388608 }
+    ensures { result.bytes ≡ placed_line which bytes.now at (kind_word kind) }
 {
-    let (row, column) = place_in(text.as_bytes(), at);
+    let (row, column) = place_in(bytes, at);
     let mut line = ArrayString::new();
     line.push_str("guard: ");
     line.push_str(file_word(which));
@@ -45,6 +66,27 @@ pub(crate) fn placed_line(which: Which, kind: RefusalKind, at: u32, text: &str) 
     line
 }
 
+/// The line of a refusal that is about a name, at a byte offset of a file.
+pub(crate) fn named_line(
+    alloc: Global,
+    which: Which,
+    kind: RefusalKind,
+    name: &str,
+    at: u32,
+    bytes: &[u8],
+) -> Result<String, AllocError>
+    requires { length bytes.now ≤ 8388608 }
+    ensures { IfOk result (λ line. string_bytes line
+        ≡ placed_line which bytes.now at (kind_word kind ++ name_part (Some name.now))) }
+{
+    let (row, column) = place_in(bytes, at);
+    let file = file_word(which);
+    let word = kind_word(kind);
+    let mut line = String::new(alloc);
+    write!(line, "guard: {file} {row}:{column}: {word} {name}\n")?;
+    Ok(line)
+}
+
 /// The line and the column of a byte offset, those of the end where it is past the bytes.
 fn place_in(bytes: &[u8], at: u32) -> (u32, u32)
     requires { length bytes.now ≤ 8388608 }
@@ -55,7 +97,7 @@ fn place_in(bytes: &[u8], at: u32) -> (u32, u32)
 }
 
 /// Appends a number.
-fn push_number(line: &mut Line, number: u32)
+fn push_number(line: &mut Short, number: u32)
     requires { array_string_len line.old + 10 ≤ 64 }
     ensures bytes { line.new.bytes ≡ line.old.bytes ++ decimal number }
     ensures short { array_string_len line.new ≤ array_string_len line.old + 10 }
@@ -78,7 +120,7 @@ fn file_word(which: Which) -> &'static str
 /// The name of a kind.
 fn kind_word(kind: RefusalKind) -> &'static str
     ensures word { result.now ≡ kind_word kind }
-    ensures short { length result.now ≤ 12 }
+    ensures short { length result.now ≤ 13 }
 {
     match kind {
         RefusalKind::Unclosed => "Unclosed",
@@ -87,7 +129,9 @@ fn kind_word(kind: RefusalKind) -> &'static str
         RefusalKind::NestTooDeep => "NestTooDeep",
         RefusalKind::Syntax => "Syntax",
         RefusalKind::BadRange => "BadRange",
+        RefusalKind::DuplicateRule => "DuplicateRule",
         RefusalKind::TooDeep => "TooDeep",
         RefusalKind::DuplicateKey => "DuplicateKey",
+        RefusalKind::BadPattern => "BadPattern",
     }
 }

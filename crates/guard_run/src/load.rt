@@ -5,8 +5,8 @@ ghost use Rattle.guard_run.specs.Outcome.{IsLoaded, AreLoaded};
 use crate::ends::Which;
 use crate::read::{NotRead, rules_of};
 use crate::refused::{Refused, too_long};
-use crate::rules::Rule;
 use guard_io::{Files, LoadFault};
+use name_table::RuleFile;
 use std::alloc::Global;
 
 /// How many bytes a rule file may have.
@@ -43,10 +43,17 @@ pub(crate) fn load_within<F: Files>(alloc: Global, name: &str, limit: u64, files
     Loaded::Whole(bytes)
 }
 
+/// A rule file that was read, with its bytes, from which the line of a pattern that is refused is made.
+#[derive(Drop)]
+pub(crate) struct Rules {
+    pub bytes: Vec<u8>,
+    pub file: RuleFile,
+}
+
 /// What came of loading a rule file.
 #[derive(Drop)]
 pub(crate) enum LoadedRules {
-    Read(Vec<Rule>),
+    Read(Rules),
     Refused(Refused),
     Fault,
     Memory,
@@ -62,7 +69,7 @@ pub(crate) fn load_rules<F: Files>(alloc: Global, name: &str, files: &mut F) -> 
 {
     match load_within(alloc, name, RULES_LIMIT, files) {
         Loaded::Whole(bytes) => match rules_of(alloc, &bytes) {
-            Ok(rules) => LoadedRules::Read(rules),
+            Ok(file) => LoadedRules::Read(Rules { bytes, file }),
             Err(NotRead::Refused(refused)) => LoadedRules::Refused(refused),
             Err(NotRead::Memory) => LoadedRules::Memory,
         },

@@ -2,9 +2,10 @@
 //!
 //! The top call `guard` does the program's work over any files and any sinks. Its contract is the program's promise: the
 //! words and the contents of the files decide the end, what the standard output takes and what the standard error takes,
-//! and in place of that end come only counted faults of the files and sinks, and want of memory. It stands on the lexer
-//! and the parser of rules, on the reader of JSON, on located trees and on the traits of files and sinks. Only `main`
-//! knows the system: it hands the words and the real files and streams to `guard`.
+//! and in place of that end come only counted faults of the files, of the maker of patterns and of the sinks, and want of
+//! memory. It stands on the lexer and the parser of rules, on the test of their names, on the tests on rows, on the reader
+//! of JSON, on located trees and on the traits of files, sinks and makers of patterns. Only `main` knows the system: it
+//! hands the words, the real files and streams and the crate of regular expressions to `guard`.
 #![tactic(auto)]
 
 mod ends;
@@ -19,6 +20,8 @@ mod report;
 mod rules;
 #[cfg(test)]
 mod tests;
+#[cfg(test)]
+mod verdict_tests;
 mod verdicts;
 mod words;
 mod write;
@@ -29,6 +32,7 @@ use std::alloc::AllocError;
 use std::env;
 use std::io::ErrorKind;
 use std::process::ExitCode;
+use value_compare::RegexMaker;
 
 fn main(rt: HostRuntime) -> ExitCode {
     let mut files = RealFiles { rt: &rt, faults: 0 };
@@ -40,8 +44,16 @@ fn main(rt: HostRuntime) -> ExitCode {
         writer: rt.stderr(),
         faults: 0,
     };
+    let mut maker = RegexMaker { faults: 0 };
     let end = match words_of(&rt) {
-        Ok(words) => guard::guard(rt.alloc(), &words, &mut files, &mut out, &mut err),
+        Ok(words) => guard::guard(
+            rt.alloc(),
+            &words,
+            &mut files,
+            &mut maker,
+            &mut out,
+            &mut err,
+        ),
         Err(AllocError) => End::Memory,
     };
     ExitCode::from(end.status())

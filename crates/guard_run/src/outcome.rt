@@ -1,18 +1,25 @@
-ghost use Rattle.std.specs.Prelude.{◌≡◌, ◌≤◌, ◌<◌, ◌+◌, ℕ, List, true, map, string_bytes, length, Some};
+ghost use Rattle.std.specs.Prelude.{◌≡◌, ◌≤◌, ◌<◌, ◌+◌, ℕ, List, true, false, map, string_bytes, length, Some};
+ghost use Rattle.doc_values.specs.Tree.{Forest};
 ghost use Rattle.guard_io.specs.Outside.{Rose};
+ghost use Rattle.guard_syntax.specs.Syntax.{File};
+ghost use Rattle.name_table.specs.Files.{file_of};
+ghost use Rattle.value_compare.specs.Books.{IsNext};
+ghost use Rattle.value_compare.specs.Values.{has_pattern};
 ghost use Rattle.guard_run.specs.Request.{Request, request, ends_in_json};
-ghost use Rattle.guard_run.specs.End.{EndOf, EndOfName, EndOfRequest, EndOfTemplate, ComesTo, Loads, name_of};
+ghost use Rattle.guard_run.specs.Inputs.{IsRuleFile, IsTemplate};
+ghost use Rattle.guard_run.specs.End.{IsContent, EndOf, EndOfName, EndOfRequest, EndOfTemplate, EndOfPatterns, ComesTo, ComesToPattern, Loads, name_of};
 ghost use Rattle.guard_run.specs.Outcome.{IsOutcome, IsOutcomeAs};
 
-use crate::ends::Which;
-use crate::load::{Loaded, LoadedRules, load_rules, load_within};
+use crate::ends::{RefusalKind, Which};
+use crate::load::{Loaded, LoadedRules, Rules, load_rules, load_within};
 use crate::read::{NotRead, tree_of};
-use crate::refused::{Refused, data_unread, too_long};
+use crate::refused::{Refused, data_unread, refused_at, too_long};
 use crate::report::{Judgement, judge};
-use crate::rules::Rule;
 use crate::words::request_of;
+use doc_values::Doc;
 use guard_io::Files;
 use std::alloc::Global;
+use value_compare::{BookRefusal, PatternMaker, pattern_book};
 
 /// How many bytes a template may have.
 const TEMPLATE_LIMIT: u64 = 8_388_608;
@@ -24,24 +31,38 @@ pub(crate) enum Outcome {
     Refused(Refused),
     Usage,
     ReadFault(Which),
+    PatternRefused,
     Memory,
 }
 
 /// What comes of the words and of the files that they ask for.
-pub(crate) fn outcome_of<F: Files>(alloc: Global, words: &[String], files: &mut F) -> Outcome
+pub(crate) fn outcome_of<F: Files, M: PatternMaker>(
+    alloc: Global,
+    words: &[String],
+    files: &mut F,
+    maker: &mut M,
+) -> Outcome
     ensures outcome { IsOutcome (map string_bytes words.now) (F.content files.old)
-        (F.faults files.old) (F.faults files.new) result }
+        (record { files = F.faults files.old; patterns = M.faults maker.old })
+        (record { files = F.faults files.new; patterns = M.faults maker.new }) result }
     ensures contents { (other : List ℕ) → F.content files.new other ≡ F.content files.old other }
     ensures kept { (other : List ℕ) → F.faults files.old other ≤ F.faults files.new other }
+    ensures maker_kept { (text : List ℕ) → M.faults maker.old text ≤ M.faults maker.new text }
 {
     match request_of(words) {
         None => Outcome::Usage,
-        Some(asked) => files_outcome(alloc, asked.rules, asked.template, files),
+        Some(asked) => files_outcome(alloc, asked.rules, asked.template, files, maker),
     }
 }
 
 /// What comes of a rule file and a template.
-fn files_outcome<F: Files>(alloc: Global, rules: &str, template: &str, files: &mut F) -> Outcome
+fn files_outcome<F: Files, M: PatternMaker>(
+    alloc: Global,
+    rules: &str,
+    template: &str,
+    files: &mut F,
+    maker: &mut M,
+) -> Outcome
     ensures outcome { let q : Request = record { rules = rules.now; template = template.now } in
         IsOutcomeAs (EndOfRequest (Some q) (F.content files.old)) result }
     ensures comes { let q : Request = record { rules = rules.now; template = template.now } in
@@ -49,11 +70,16 @@ fn files_outcome<F: Files>(alloc: Global, rules: &str, template: &str, files: &m
     ensures fault { let q : Request = record { rules = rules.now; template = template.now } in
         (which : Which) → result ≡ Outcome.ReadFault which
         → Rose (F.faults files.old (name_of which q)) (F.faults files.new (name_of which q)) }
+    ensures pattern_fault { result ≡ Outcome.PatternRefused → (text bytes : List ℕ)
+        × IsContent (F.content files.old rules.now) bytes × ((file : File) × IsRuleFile bytes file
+        × ComesToPattern (ends_in_json template.now) (F.content files.old template.now) file text)
+        × Rose (M.faults maker.old text) (M.faults maker.new text) }
     ensures contents { (other : List ℕ) → F.content files.new other ≡ F.content files.old other }
     ensures kept { (other : List ℕ) → F.faults files.old other ≤ F.faults files.new other }
+    ensures maker_kept { (text : List ℕ) → M.faults maker.old text ≤ M.faults maker.new text }
 {
     match load_rules(alloc, rules, files) {
-        LoadedRules::Read(read) => template_outcome(alloc, &read, template, files),
+        LoadedRules::Read(read) => template_outcome(alloc, &read, template, files, maker),
         LoadedRules::Refused(refused) => Outcome::Refused(refused),
         LoadedRules::Fault => Outcome::ReadFault(Which::Rules),
         LoadedRules::Memory => Outcome::Memory,
@@ -61,20 +87,31 @@ fn files_outcome<F: Files>(alloc: Global, rules: &str, template: &str, files: &m
 }
 
 /// What comes of a template, once the rules are read. Its name is tested before it is loaded.
-fn template_outcome<F: Files>(alloc: Global, rules: &[Rule], name: &str, files: &mut F) -> Outcome
+fn template_outcome<F: Files, M: PatternMaker>(
+    alloc: Global,
+    rules: &Rules,
+    name: &str,
+    files: &mut F,
+    maker: &mut M,
+) -> Outcome
+    requires { length rules.now.bytes.items ≤ 1048576 }
     ensures outcome { IsOutcomeAs (EndOfName (ends_in_json name.now) (F.content files.old name.now)
-        rules.now) result }
+        rules.now.bytes.items (file_of rules.now.file)) result }
     ensures fault { (which : Which) → result ≡ Outcome.ReadFault which → (which ≡ Which.Template)
         × (ends_in_json name.now ≡ true)
         × Rose (F.faults files.old name.now) (F.faults files.new name.now) }
+    ensures pattern_fault { result ≡ Outcome.PatternRefused → (text : List ℕ)
+        × ComesToPattern (ends_in_json name.now) (F.content files.old name.now) (file_of rules.now.file) text
+        × Rose (M.faults maker.old text) (M.faults maker.new text) }
     ensures contents { (other : List ℕ) → F.content files.new other ≡ F.content files.old other }
     ensures kept { (other : List ℕ) → F.faults files.old other ≤ F.faults files.new other }
+    ensures maker_kept { (text : List ℕ) → M.faults maker.old text ≤ M.faults maker.new text }
 {
     if !is_json(name) {
         return Outcome::Refused(data_unread());
     }
     match load_within(alloc, name, TEMPLATE_LIMIT, files) {
-        Loaded::Whole(bytes) => bytes_outcome(alloc, rules, &bytes),
+        Loaded::Whole(bytes) => bytes_outcome(alloc, rules, &bytes, maker),
         Loaded::TooLong => Outcome::Refused(too_long(Which::Template)),
         Loaded::Fault => Outcome::ReadFault(Which::Template),
         Loaded::Memory => Outcome::Memory,
@@ -89,17 +126,52 @@ fn is_json(name: &str) -> bool
 }
 
 /// What comes of a template's bytes, which are no more than it may have.
-fn bytes_outcome(alloc: Global, rules: &[Rule], bytes: &[u8]) -> Outcome
-    requires { length bytes.now ≤ 8388608 }
-    ensures outcome { IsOutcomeAs (EndOfTemplate rules.now bytes.now) result }
+fn bytes_outcome<M: PatternMaker>(
+    alloc: Global,
+    rules: &Rules,
+    bytes: &[u8],
+    maker: &mut M,
+) -> Outcome
+    requires rules { length rules.now.bytes.items ≤ 1048576 }
+    requires template { length bytes.now ≤ 8388608 }
+    ensures outcome { IsOutcomeAs (EndOfTemplate rules.now.bytes.items (file_of rules.now.file) bytes.now) result }
     ensures no_fault { (which : Which) → result ≡ Outcome.ReadFault which → ⊥ }
+    ensures pattern_fault { result ≡ Outcome.PatternRefused → (text : List ℕ)
+        × ((tree : Forest) × IsTemplate bytes.now tree)
+        × ((at : ℕ) × IsNext (file_of rules.now.file) text at)
+        × Rose (M.faults maker.old text) (M.faults maker.new text) }
+    ensures maker_kept { (text : List ℕ) → M.faults maker.old text ≤ M.faults maker.new text }
 {
     match tree_of(alloc, bytes) {
-        Ok(tree) => match judge(alloc, rules, &tree) {
+        Ok(tree) => tree_outcome(alloc, rules, &tree, maker),
+        Err(NotRead::Refused(refused)) => Outcome::Refused(refused),
+        Err(NotRead::Memory) => Outcome::Memory,
+    }
+}
+
+/// What comes of a template that was read: the patterns of the rules are made, and it is judged.
+fn tree_outcome<M: PatternMaker>(alloc: Global, rules: &Rules, tree: &Doc, maker: &mut M) -> Outcome
+    requires rules { length rules.now.bytes.items ≤ 1048576 }
+    requires plain { has_pattern tree.now ≡ false }
+    ensures outcome { IsOutcomeAs (EndOfPatterns rules.now.bytes.items (file_of rules.now.file) tree.now) result }
+    ensures no_fault { (which : Which) → result ≡ Outcome.ReadFault which → ⊥ }
+    ensures pattern_fault { result ≡ Outcome.PatternRefused → (text : List ℕ)
+        × ((at : ℕ) × IsNext (file_of rules.now.file) text at)
+        × Rose (M.faults maker.old text) (M.faults maker.new text) }
+    ensures maker_kept { (text : List ℕ) → M.faults maker.old text ≤ M.faults maker.new text }
+{
+    match pattern_book(alloc, &rules.file, maker) {
+        Ok(book) => match judge(alloc, &rules.file, tree, &book) {
             Ok(judgement) => Outcome::Judged(judgement),
             Err(_) => Outcome::Memory,
         },
-        Err(NotRead::Refused(refused)) => Outcome::Refused(refused),
-        Err(NotRead::Memory) => Outcome::Memory,
+        Err(BookRefusal::BadPattern(at)) => Outcome::Refused(refused_at(
+            Which::Rules,
+            RefusalKind::BadPattern,
+            at,
+            &rules.bytes,
+        )),
+        Err(BookRefusal::PatternRefused(_)) => Outcome::PatternRefused,
+        Err(BookRefusal::NoMemory) => Outcome::Memory,
     }
 }

@@ -1,18 +1,22 @@
 //! The bytes of files, read as rules and as a template.
 ghost use Rattle.std.specs.Prelude.{◌≤◌, length, MatchResult};
 ghost use Rattle.guard_lexer.specs.Lexes as lex;
-ghost use Rattle.guard_run.specs.Inputs.{IsRuleFile, RefusesRules, IsTemplate, RefusesTemplate};
+ghost use Rattle.guard_syntax.specs.Seen.{see_file};
+ghost use Rattle.name_table.specs.Files.{file_of};
+ghost use Rattle.guard_run.specs.Inputs.{IsSyntax, IsRuleFile, RefusesRules, IsTemplate, RefusesTemplate};
 ghost use Rattle.guard_run.specs.Outcome.{IsNotRead, IsPlaced};
 
 use crate::ends::{RefusalKind, Which};
 use crate::refused::{
-    Refused, json_kind, lex_kind, not_text, parse_kind, refused_at, rules_unread,
+    Refused, json_kind, lex_kind, not_text, parse_kind, refused_at, refused_name, rules_unread,
 };
-use crate::rules::{Rule, plain_rules};
+use crate::rules::is_plain;
 use doc_values::Doc;
 use guard_lexer::{Token, tokens};
-use guard_parser::parse;
+use guard_parser::{parse, sites_in_order};
+use guard_syntax::RawFile;
 use json_reader::read_json;
+use name_table::{NameRefusal, RuleFile, resolve};
 use std::alloc::Global;
 use std::str;
 
@@ -29,15 +33,15 @@ fn unread_at(which: Which, placed: Option<(RefusalKind, u32)>, text: &str) -> No
     ensures { IsPlaced which placed text.now result }
 {
     match placed {
-        Some((kind, at)) => NotRead::Refused(refused_at(which, kind, at, text)),
+        Some((kind, at)) => NotRead::Refused(refused_at(which, kind, at, text.as_bytes())),
         None => NotRead::Memory,
     }
 }
 
 /// The rules of bytes, which are no more than rules may be.
-pub(crate) fn rules_of(alloc: Global, bytes: &[u8]) -> Result<Vec<Rule>, NotRead>
+pub(crate) fn rules_of(alloc: Global, bytes: &[u8]) -> Result<RuleFile, NotRead>
     requires { length bytes.now ≤ 1048576 }
-    ensures { MatchResult result (λ rules. IsRuleFile bytes.now rules.items) (IsNotRead RefusesRules bytes.now) }
+    ensures { MatchResult result (λ rules. IsRuleFile bytes.now (file_of rules)) (IsNotRead RefusesRules bytes.now) }
 {
     match str::from_utf8(bytes) {
         Ok(text) => rules_of_text(alloc, text),
@@ -46,9 +50,9 @@ pub(crate) fn rules_of(alloc: Global, bytes: &[u8]) -> Result<Vec<Rule>, NotRead
 }
 
 /// The rules of a text.
-fn rules_of_text(alloc: Global, text: &str) -> Result<Vec<Rule>, NotRead>
+fn rules_of_text(alloc: Global, text: &str) -> Result<RuleFile, NotRead>
     requires { length text.now ≤ 1048576 }
-    ensures { MatchResult result (λ rules. IsRuleFile text.now rules.items) (IsNotRead RefusesRules text.now) }
+    ensures { MatchResult result (λ rules. IsRuleFile text.now (file_of rules)) (IsNotRead RefusesRules text.now) }
 {
     match tokens(alloc, text) {
         Ok(found) => rules_of_tokens(alloc, text, &found),
@@ -57,18 +61,36 @@ fn rules_of_text(alloc: Global, text: &str) -> Result<Vec<Rule>, NotRead>
 }
 
 /// The rules of the tokens of a text.
-fn rules_of_tokens(alloc: Global, text: &str, tokens: &[Token]) -> Result<Vec<Rule>, NotRead>
+fn rules_of_tokens(alloc: Global, text: &str, tokens: &[Token]) -> Result<RuleFile, NotRead>
     requires short { length text.now ≤ 1048576 }
     requires tokens { lex.IsTokenList text.now tokens.now }
-    ensures { MatchResult result (λ rules. IsRuleFile text.now rules.items) (IsNotRead RefusesRules text.now) }
+    ensures { MatchResult result (λ rules. IsRuleFile text.now (file_of rules)) (IsNotRead RefusesRules text.now) }
 {
     match parse(alloc, text, tokens) {
-        Ok(file) => match plain_rules(alloc, &file) {
-            Ok(Some(rules)) => Ok(rules),
-            Ok(None) => Err(NotRead::Refused(rules_unread())),
-            Err(_) => Err(NotRead::Memory),
-        },
+        Ok(raw) => rules_of_syntax(alloc, text, raw),
         Err(refusal) => Err(unread_at(Which::Rules, parse_kind(refusal), text)),
+    }
+}
+
+/// The rules of the syntax of a text: what is not evaluated comes before what is the matter with names.
+fn rules_of_syntax(alloc: Global, text: &str, raw: RawFile) -> Result<RuleFile, NotRead>
+    requires short { length text.now ≤ 1048576 }
+    requires syntax { IsSyntax text.now (see_file raw) }
+    ensures { MatchResult result (λ rules. IsRuleFile text.now (file_of rules)) (IsNotRead RefusesRules text.now) }
+{
+    if !is_plain(&raw) {
+        return Err(NotRead::Refused(rules_unread()));
+    }
+    sites_in_order();
+    match resolve(alloc, raw) {
+        Ok(rules) => Ok(rules),
+        Err(NameRefusal::Bad { kind, name, at }) => {
+            match refused_name(alloc, kind, name, at, text.as_bytes()) {
+                Ok(refused) => Err(NotRead::Refused(refused)),
+                Err(_) => Err(NotRead::Memory),
+            }
+        }
+        Err(NameRefusal::NoMemory) => Err(NotRead::Memory),
     }
 }
 

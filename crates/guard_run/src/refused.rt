@@ -1,13 +1,17 @@
 //! Refusals with their lines.
-ghost use Rattle.std.specs.Prelude.{◌≡◌, ◌≤◌, ℕ, List, None, length};
+ghost use Rattle.std.specs.Prelude.{◌≡◌, ◌≤◌, ℕ, List, Some, None, length, IfOk};
 ghost use Rattle.guard_run.specs.End.{refused};
+ghost use Rattle.guard_run.specs.Inputs.{name_kind};
 ghost use Rattle.guard_run.specs.Outcome.{said, lex_kind, parse_kind, json_kind};
 
 use crate::ends::{Refusal, RefusalKind, Which};
-use crate::line::{Line, placed_line, whole_line};
+use crate::line::{Line, named_line, placed_line, whole_line};
 use guard_lexer::LexRefusal;
 use guard_parser::ParseRefusal;
+use guard_syntax::Text;
 use json_reader::JsonRefusal;
+use name_table::NameKind;
+use std::alloc::{AllocError, Global};
 
 /// A refusal and its line on err.
 #[derive(Drop)]
@@ -22,7 +26,7 @@ pub(crate) fn rules_unread() -> Refused
 {
     Refused {
         refusal: Refusal::RulesUnread,
-        line: whole_line(Which::Rules, "RulesUnread"),
+        line: Line::Short(whole_line(Which::Rules, "RulesUnread")),
     }
 }
 
@@ -32,7 +36,7 @@ pub(crate) fn data_unread() -> Refused
 {
     Refused {
         refusal: Refusal::DataUnread,
-        line: whole_line(Which::Template, "DataUnread"),
+        line: Line::Short(whole_line(Which::Template, "DataUnread")),
     }
 }
 
@@ -42,7 +46,7 @@ pub(crate) fn too_long(which: Which) -> Refused
 {
     Refused {
         refusal: Refusal::TooLong(which),
-        line: whole_line(which, "TooLong"),
+        line: Line::Short(whole_line(which, "TooLong")),
     }
 }
 
@@ -52,14 +56,14 @@ pub(crate) fn not_text(which: Which) -> Refused
 {
     Refused {
         refusal: Refusal::NotText(which),
-        line: whole_line(which, "NotText"),
+        line: Line::Short(whole_line(which, "NotText")),
     }
 }
 
-/// A file of this text, refused at a byte offset.
-pub(crate) fn refused_at(which: Which, kind: RefusalKind, at: u32, text: &str) -> Refused
-    requires { length text.now ≤ 8388608 }
-    ensures { said result ≡ refused text.now (Refusal.At which kind at None) }
+/// A file with these bytes, refused at a byte offset.
+pub(crate) fn refused_at(which: Which, kind: RefusalKind, at: u32, bytes: &[u8]) -> Refused
+    requires { length bytes.now ≤ 8388608 }
+    ensures { said result ≡ refused bytes.now (Refusal.At which kind at None) }
 {
     Refused {
         refusal: Refusal::At {
@@ -68,7 +72,40 @@ pub(crate) fn refused_at(which: Which, kind: RefusalKind, at: u32, text: &str) -
             at,
             name: None,
         },
-        line: placed_line(which, kind, at, text),
+        line: Line::Short(placed_line(which, kind, at, bytes)),
+    }
+}
+
+/// Rules with these bytes, refused for a name at a byte offset. The line is as long as the name, so it is made in memory.
+pub(crate) fn refused_name(
+    alloc: Global,
+    kind: NameKind,
+    name: Text,
+    at: u32,
+    bytes: &[u8],
+) -> Result<Refused, AllocError>
+    requires { length bytes.now ≤ 8388608 }
+    ensures { IfOk result (λ r. said r ≡ refused bytes.now (Refusal.At Which.Rules (name_kind kind) at (Some name))) }
+{
+    let kind = name_kind(kind);
+    let line = named_line(alloc, Which::Rules, kind, name.as_str(), at, bytes)?;
+    Ok(Refused {
+        refusal: Refusal::At {
+            which: Which::Rules,
+            kind,
+            at,
+            name: Some(name),
+        },
+        line: Line::Long(line),
+    })
+}
+
+/// The kind of a refusal of names.
+fn name_kind(kind: NameKind) -> RefusalKind
+    ensures { result ≡ name_kind kind }
+{
+    match kind {
+        NameKind::DuplicateRule => RefusalKind::DuplicateRule,
     }
 }
 

@@ -1,12 +1,17 @@
-ghost use Rattle.std.specs.Prelude.{◌≡◌, ◌+◌, ◌-◌, ◌++◌, ◌<◌, ◌^◌, List, [], ◌∷◌, map, string_bytes, codes, decimal, count_by, OnOk, IfOk, if◌then◌else◌};
+ghost use Rattle.std.specs.Prelude.{◌≡◌, ◌+◌, ◌-◌, ◌++◌, ◌<◌, ◌^◌, false, List, [], ◌∷◌, map, string_bytes, codes, decimal, count_by, OnOk, IfOk, if◌then◌else◌};
 ghost use Rattle.std.specs.List.{list_any};
-ghost use Rattle.guard_run.specs.Verdicts.{rule_verdict, is_pass, is_fail, is_skip};
+ghost use Rattle.name_table.specs.Files.{file_of};
+ghost use Rattle.value_compare.specs.Books.{IsBookOf};
+ghost use Rattle.value_compare.specs.Values.{has_pattern};
+ghost use Rattle.guard_run.specs.Verdicts.{known_of, rule_verdict, is_pass, is_fail, is_skip};
 ghost use Rattle.guard_run.specs.Report.{verdict_word, report};
 
-use crate::rules::Rule;
-use crate::verdicts::{Verdict, verdict_of_rule};
+use crate::verdicts::verdict_of_rule;
 use doc_values::Doc;
+use guard_syntax::Verdict;
+use name_table::RuleFile;
 use std::alloc::{AllocError, Global};
+use value_compare::{PatternBook, Store};
 
 /// How many rules have each verdict.
 #[derive(Clone, Copy, Debug)]
@@ -43,21 +48,29 @@ pub(crate) struct Judgement {
     pub report: String,
 }
 
-/// Judges a template by each rule.
-pub(crate) fn judge(alloc: Global, rules: &[Rule], doc: &Doc) -> Result<Judgement, AllocError>
-    ensures report { IfOk result (λ j. string_bytes j.report ≡ report doc.now rules.now) }
+/// Judges a template by each rule of a file, whose patterns are in the book.
+pub(crate) fn judge(
+    alloc: Global,
+    file: &RuleFile,
+    doc: &Doc,
+    book: &PatternBook,
+) -> Result<Judgement, AllocError>
+    requires plain { has_pattern doc.now ≡ false }
+    requires book { IsBookOf (file_of file.now) book.now }
+    ensures report { IfOk result (λ j. string_bytes j.report ≡ report (known_of (file_of file.now) doc.now) (file_of file.now).rules) }
     ensures failed { IfOk result (λ j.
-        j.failed ≡ list_any is_fail (map (rule_verdict doc.now) rules.now)) }
+        j.failed ≡ list_any is_fail (map (rule_verdict (known_of (file_of file.now) doc.now)) (file_of file.now).rules)) }
 {
+    let store = Store::new(alloc, doc, file);
     let mut report = String::new(alloc);
     let mut tally = Tally {
         pass: 0,
         fail: 0,
         skip: 0,
     };
-    for rule in rules {
-        let verdict = verdict_of_rule(rule, doc);
-        push_rule_line(&mut report, rule.name(), verdict)?;
+    for rule in &file.raw().rules {
+        let verdict = verdict_of_rule(alloc, rule, &store, book)?;
+        push_rule_line(&mut report, rule.name.as_str(), verdict)?;
         tally.add(verdict);
     }
     push_total_line(&mut report, &tally)?;

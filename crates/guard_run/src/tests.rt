@@ -5,6 +5,7 @@ use guard_io::{MemFiles, MemSink};
 use std::alloc::{AllocError, Global};
 use std::process::Abort;
 use std::test::Fail;
+use value_compare::ScriptMaker;
 
 const AMPLE: u64 = 1 << 20;
 
@@ -23,29 +24,32 @@ const NONE: &str = "total 0 PASS 0 FAIL 0 SKIP\n";
 
 /// What is given to a call: the words, the contents of the files, and where it is to fail.
 #[derive(Clone, Copy)]
-struct Given<'a> {
-    words: &'a [&'a str],
-    rules: &'a [u8],
-    data: &'a [u8],
-    failing: &'a [u64],
-    out_room: u64,
-    err_room: u64,
+pub(crate) struct Given<'a> {
+    pub words: &'a [&'a str],
+    pub rules: &'a [u8],
+    pub data: &'a [u8],
+    pub failing: &'a [u64],
+    pub refusing: &'a [u64],
+    pub out_room: u64,
+    pub err_room: u64,
 }
 
 /// How it ended.
 #[derive(Drop)]
-struct Ran {
-    end: End,
-    out: Vec<u8>,
-    err: Vec<u8>,
-    calls: u64,
+pub(crate) struct Ran {
+    pub end: End,
+    pub out: Vec<u8>,
+    pub err: Vec<u8>,
+    pub calls: u64,
+    pub made: u64,
 }
 
-const FIRST: Given<'static> = Given {
+pub(crate) const FIRST: Given<'static> = Given {
     words: &["validate", "--rules", "r.guard", "--data", "d.json"],
     rules: RULES,
     data: NAMED,
     failing: &[],
+    refusing: &[],
     out_room: AMPLE,
     err_room: AMPLE,
 };
@@ -58,7 +62,7 @@ fn sink(alloc: Global, room: u64) -> MemSink {
     }
 }
 
-fn call(alloc: Global, given: &Given) -> Result<Ran, AllocError> {
+pub(crate) fn call(alloc: Global, given: &Given) -> Result<Ran, AllocError> {
     let mut words = Vec::new(alloc);
     for word in given.words {
         words.push(String::from_str(alloc, word)?)?;
@@ -78,14 +82,20 @@ fn call(alloc: Global, given: &Given) -> Result<Ran, AllocError> {
         calls: 0,
         faults: 0,
     };
+    let mut maker = ScriptMaker {
+        failing: Vec::from_slice(alloc, given.refusing)?,
+        calls: 0,
+        faults: 0,
+    };
     let mut out = sink(alloc, given.out_room);
     let mut err = sink(alloc, given.err_room);
-    let end = guard(alloc, &words, &mut files, &mut out, &mut err);
+    let end = guard(alloc, &words, &mut files, &mut maker, &mut out, &mut err);
     Ok(Ran {
         end,
         out: out.bytes,
         err: err.bytes,
         calls: files.calls,
+        made: maker.calls,
     })
 }
 
@@ -100,23 +110,24 @@ fn word(end: &End) -> &'static str {
         End::ReadFault(Which::Template) => "template not read",
         End::WriteFault(Pipe::Out) => "out not written",
         End::WriteFault(Pipe::Err) => "err not written",
+        End::PatternRefused => "pattern not made",
         End::Memory => "memory",
     }
 }
 
 /// The end by its word, its status, and what out and err are to take.
-type Wanted = (&'static str, u8, &'static str, &'static str);
+pub(crate) type Wanted = (&'static str, u8, &'static str, &'static str);
 
-const JUDGED_PASS: Wanted = ("passed", 0, PASSED, "");
+pub(crate) const JUDGED_PASS: Wanted = ("passed", 0, PASSED, "");
 
-const JUDGED_FAIL: Wanted = ("failed", 19, FAILED, "");
+pub(crate) const JUDGED_FAIL: Wanted = ("failed", 19, FAILED, "");
 
 /// A refusal with this line.
 const fn refused(line: &'static str) -> Wanted {
     ("refused", 5, "", line)
 }
 
-fn expect(rt: &impl Abort, ran: &Ran, (end, status, out, err): Wanted) {
+pub(crate) fn expect(rt: &impl Abort, ran: &Ran, (end, status, out, err): Wanted) {
     assert_eq!(rt; word(&ran.end), end);
     assert_eq!(rt; ran.end.status(), status);
     assert_eq!(rt; ran.out.as_slice(), out.as_bytes());
@@ -234,29 +245,134 @@ fn refuses_rules_by_name_and_place(rt: HostRuntime) -> Result<(), Fail> {
 }
 
 #[test]
-fn refuses_rules_that_are_not_evaluated(rt: HostRuntime) -> Result<(), Fail> {
-    let rows: [&[u8]; 18] = [
-        b"rule r { A == 1 }",
-        b"rule r { A exists } rule r { B exists }",
+fn refuses_files_that_are_not_evaluated(rt: HostRuntime) -> Result<(), Fail> {
+    let rows: [&[u8]; 11] = [
         b"A exists",
         b"let x = 1",
         b"rule r when A exists { A exists }",
         b"rule r(x) { A exists }",
         b"rule r { let x = 1 A exists }",
         b"rule r { A exists or B exists }",
-        b"rule r { A !exists }",
+        b"rule r { A { B exists } }",
+        b"rule r { A exists } rule s { r }",
         b"rule r { some A exists }",
-        b"rule r { A empty }",
+        // What is not evaluated comes before a name that was given before, and before a pattern.
+        b"rule r { A exists } rule r { A.* exists }",
+        b"rule r { A == /(/ some A exists }",
+    ];
+    for rules in rows {
+        expect_refused_rules(&rt, rt.alloc(), rules, "guard: rules: RulesUnread\n")?;
+    }
+    Ok(())
+}
+
+#[test]
+fn refuses_sides_that_are_not_evaluated(rt: HostRuntime) -> Result<(), Fail> {
+    let rows: [&[u8]; 10] = [
         b"rule r { A.* exists }",
         b"rule r { A[*] exists }",
         b"rule r { A[0] exists }",
         b"rule r { this exists }",
+        b"rule r { %x exists }",
         b"rule r { A[ B exists ] exists }",
-        b"rule r { A { B exists } }",
-        b"rule r { A exists } rule s { r }",
+        b"rule r { A[ keys == 'a' ] exists }",
+        b"rule r { A == B.* }",
+        b"rule r { A == this }",
+        b"rule r { A == count(B) }",
     ];
     for rules in rows {
         expect_refused_rules(&rt, rt.alloc(), rules, "guard: rules: RulesUnread\n")?;
+    }
+    Ok(())
+}
+
+#[test]
+fn refuses_a_rule_with_an_earlier_name(rt: HostRuntime) -> Result<(), Fail> {
+    let rows: [(&[u8], &str); 4] = [
+        (
+            b"rule r { A exists }\nrule r { B exists }",
+            "guard: rules 2:6: DuplicateRule r\n",
+        ),
+        (
+            b"rule a { A exists } rule b { A exists } rule c { A exists } rule b { A exists } rule a { A exists }",
+            "guard: rules 1:66: DuplicateRule b\n",
+        ),
+        // A name comes before a pattern.
+        (
+            b"rule r { A == /(/ } rule r { A exists }",
+            "guard: rules 1:26: DuplicateRule r\n",
+        ),
+        // A line that is longer than the others can be.
+        (
+            b"rule aaaaaaaaaaaaaaaaaaaaaaaaaaaaaaaaaaaaaaaa { A exists }\nrule aaaaaaaaaaaaaaaaaaaaaaaaaaaaaaaaaaaaaaaa { A exists }",
+            "guard: rules 2:6: DuplicateRule aaaaaaaaaaaaaaaaaaaaaaaaaaaaaaaaaaaaaaaa\n",
+        ),
+    ];
+    for (rules, line) in rows {
+        expect_refused_rules(&rt, rt.alloc(), rules, line)?;
+    }
+    Ok(())
+}
+
+#[test]
+fn makes_patterns_once_the_template_is_read(rt: HostRuntime) -> Result<(), Fail> {
+    let not_made: Wanted = ("pattern not made", 6, "", "guard: pattern refused\n");
+    let bad = refused("guard: rules 1:15: BadPattern\n");
+    // The rules, the template, the calls that fail, what comes of it, and how many patterns were asked for.
+    let rows: [(&[u8], &[u8], &[u64], Wanted, u64); 11] = [
+        (b"rule r { A == /(/ }", b"{}", &[], bad, 1),
+        (
+            b"rule r { A == /(/ }",
+            b"{",
+            &[],
+            refused("guard: data 1:2: Syntax\n"),
+            0,
+        ),
+        (
+            b"rule r { A == /a/ A == /(/ }",
+            b"{}",
+            &[],
+            refused("guard: rules 1:24: BadPattern\n"),
+            2,
+        ),
+        (b"rule r { A == /(/ A == /)/ }", b"{}", &[], bad, 1),
+        (
+            b"rule r { A IN ['x', /(/] }",
+            b"{}",
+            &[],
+            refused("guard: rules 1:21: BadPattern\n"),
+            1,
+        ),
+        (b"rule r { A == /a/ }", br#"{"A":"a"}"#, &[], JUDGED_PASS, 1),
+        (b"rule r { A == /a/ }", br#"{"A":"a"}"#, &[0], not_made, 1),
+        (b"rule r { A == /a/ A == /b/ }", b"{}", &[1], not_made, 2),
+        (b"rule r { A == /a/ A == /(/ }", b"{}", &[0], not_made, 1),
+        // A text that stands there twice is made once.
+        (
+            b"rule r { A == /a/ A == /a/ }",
+            br#"{"A":"a"}"#,
+            &[1],
+            JUDGED_PASS,
+            1,
+        ),
+        (
+            b"rule r { A exists }",
+            br#"{"A":"a"}"#,
+            &[0],
+            JUDGED_PASS,
+            0,
+        ),
+    ];
+    for (rules, data, refusing, wanted, made) in rows {
+        let given = Given {
+            rules,
+            data,
+            refusing,
+            ..FIRST
+        };
+        let ran = call(rt.alloc(), &given)?;
+        expect(&rt, &ran, wanted);
+        assert_eq!(rt; ran.made, made);
     }
     Ok(())
 }

@@ -1,7 +1,7 @@
 ghost use Rattle.std.specs.Prelude.{◌≡◌, ◌≢◌, ◌≤◌, ◌++◌, ℕ, List, []};
 ghost use Rattle.guard_io.specs.Outside.{Rose, IsPrefix};
 ghost use Rattle.guard_run.specs.Lines.{memory_line, read_fault_line};
-ghost use Rattle.guard_run.specs.End.{Contents, EndOf, Took};
+ghost use Rattle.guard_run.specs.End.{Contents, Counts, EndOf};
 ghost use Rattle.guard_run.specs.Outcome.{IsOutcome, ended};
 ghost use Rattle.guard_run.specs.Writing.{Closed, Said, SaidMemory};
 
@@ -13,10 +13,10 @@ use guard_io::{Sink, SinkFault};
 
 /// Writes what came of a call, on out or on err.
 pub(crate) fn write_outcome<O: Sink, E: Sink>(outcome: Outcome, out: &mut O, err: &mut E) -> End
-    ensures closed { (words : List (List ℕ)) (told : Contents) (before after : List ℕ → ℕ)
+    ensures closed { (words : List (List ℕ)) (told : Contents) (before after : Counts)
         → IsOutcome words told before after outcome
-        → Closed words told (record { files = before; out = O.faults out.old })
-        (record { files = after; out = O.faults out.new }) result
+        → Closed words told (record { read = before; out = O.faults out.old })
+        (record { read = after; out = O.faults out.new }) result
         (O.told out.old) (O.told out.new) (E.told err.old) (E.told err.new) }
     ensures out_fault { result ≡ End.WriteFault Pipe.Out → Rose (O.faults out.old) (O.faults out.new) }
     ensures err_fault { result ≡ End.WriteFault Pipe.Err → Rose (E.faults err.old) (E.faults err.new) }
@@ -34,16 +34,17 @@ pub(crate) fn write_outcome<O: Sink, E: Sink>(outcome: Outcome, out: &mut O, err
             err,
         ),
         Outcome::ReadFault(which) => say(read_fault_text(which), End::ReadFault(which), err),
+        Outcome::PatternRefused => say("guard: pattern refused\n", End::PatternRefused, err),
         Outcome::Memory => say_memory(err),
     }
 }
 
 /// Writes a report on out.
 fn write_report<O: Sink, E: Sink>(judgement: &Judgement, out: &mut O, err: &mut E) -> End
-    ensures closed { (words : List (List ℕ)) (told : Contents) (before after : List ℕ → ℕ)
+    ensures closed { (words : List (List ℕ)) (told : Contents) (before after : Counts)
         → EndOf words told (ended judgement.now)
-        → Closed words told (record { files = before; out = O.faults out.old })
-        (record { files = after; out = O.faults out.new }) result
+        → Closed words told (record { read = before; out = O.faults out.old })
+        (record { read = after; out = O.faults out.new }) result
         (O.told out.old) (O.told out.new) (E.told err.old) (E.told err.new) }
     ensures out_fault { result ≡ End.WriteFault Pipe.Out → Rose (O.faults out.old) (O.faults out.new) }
     ensures err_fault { result ≡ End.WriteFault Pipe.Err → Rose (E.faults err.old) (E.faults err.new) }

@@ -9,10 +9,10 @@ use Rattle.guard_run.proofs.guard.guard.Goals as goal
 
 -- the counts before and after
 abbrev before : (g : Over) → After-write_outcome g → Faults
-before g c = record { files = g.F.Files.faults c.args.files.now; out = g.O.Sink.faults c.args.out.now }
+before g c = record { read = record { files = g.F.Files.faults c.args.files.now; patterns = g.M.PatternMaker.faults c.args.maker.now }; out = g.O.Sink.faults c.args.out.now }
 
 abbrev after : (g : Over) → After-write_outcome g → Faults
-after g c = record { files = g.F.Files.faults c.outcome_of.new.files; out = g.O.Sink.faults c.write_outcome.new.out }
+after g c = record { read = record { files = g.F.Files.faults c.outcome_of.new.files; patterns = g.M.PatternMaker.faults c.outcome_of.new.maker }; out = g.O.Sink.faults c.write_outcome.new.out }
 
 -- what is so at an end, of this call
 abbrev At : (g : Over) → After-write_outcome g → End → Type 0
@@ -21,7 +21,7 @@ At g c how = Closed (map string_bytes c.args.words.now) (g.F.Files.content c.arg
 
 closed : (g : Over) (c : After-write_outcome g) → At g c c.write_outcome.result
 closed g c = c.write_outcome.ensures.closed (map string_bytes c.args.words.now) (g.F.Files.content c.args.files.now)
-    (g.F.Files.faults c.args.files.now) (g.F.Files.faults c.outcome_of.new.files) c.outcome_of.ensures.outcome
+    (before g c).read (after g c).read c.outcome_of.ensures.outcome
 
 pub returns-clause-ends : goal.returns-clause-ends
 returns-clause-ends g c = λ defined.
@@ -31,6 +31,9 @@ returns-clause-ends g c = λ defined.
 
 pub returns-clause-read_fault : goal.returns-clause-read_fault
 returns-clause-read_fault g c = λ which is. subst (At g c) is (closed g c)
+
+pub returns-clause-pattern_fault : goal.returns-clause-pattern_fault
+returns-clause-pattern_fault g c = λ is. subst (At g c) is (closed g c)
 
 pub returns-clause-out_fault : goal.returns-clause-out_fault
 returns-clause-out_fault g c = λ is. (c.write_outcome.ensures.out_fault is, subst (At g c) is (closed g c))

@@ -1,24 +1,11 @@
-use Rattle.std.proofs.Common.{List, inr, sym, ◌∙◌}
-use Rattle.guard_syntax.specs.Seen.{see_file}
-use Rattle.guard_run.specs.RuleText.{RuleText}
-use Rattle.guard_run.specs.Plain.{IsPlain}
+use Rattle.std.proofs.Common.{inr, sym, ◌∙◌}
 use Rattle.guard_run.specs.Inputs.{IsText, RefusesRules, rules_limit}
-use Rattle.guard_run.specs.declared.ends.Refusal.TheVariants.{RulesUnread}
 use Rattle.guard_run.specs.declared.ends.Which.TheVariants as file
 use Rattle.guard_run.proofs.Refusing.{parse-refuses, placed-not_read}
 use Rattle.guard_run.proofs.read.rules_of_tokens.Goals as goal
 
-pub returns-in-Ok-None : goal.returns-in-Ok-None
-returns-in-Ok-None c =
-    let text : IsText rules_limit c.args.text.now = record { within = c.requires.short; utf8 = c.utf8.text } in
-    let none : (rules : List RuleText) → IsPlain (see_file c.in-Ok.file) rules → ⊥ = rw c.in-Ok-None.field-0-is at c.in-Ok-None.ensures in (
-      RulesUnread,
-      (text, (see_file c.in-Ok.file, (c.args.tokens.now, c.requires.tokens, c.in-Ok.ensures.ok), none)),
-      c.rules_unread.ensures c.args.text.now,
-    )
-
-pub returns : goal.returns
-returns c =
+pub returns-in-Err : goal.returns-in-Err
+returns-in-Err c =
     let text : IsText rules_limit c.args.text.now = record { within = c.requires.short; utf8 = c.utf8.text } in
     placed-not_read RefusesRules file.Rules c.args.text.now c.parse_kind.result c.unread_at.result
     (λ kind at named. (

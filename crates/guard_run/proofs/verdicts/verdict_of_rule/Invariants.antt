@@ -1,6 +1,8 @@
 use Rattle.std.proofs.Common.{◌≡◌, map, take}
-use Rattle.guard_run.specs.Verdicts.{conjunction, clause_verdict}
+use Rattle.value_compare.specs.Stores.{see_store}
+use Rattle.guard_run.specs.Verdicts.{conjunction}
+use Rattle.guard_run.proofs.Walks.{of_disj}
 use Rattle.guard_run.proofs.verdicts.verdict_of_rule.Given as goal
 
-abbrev pub invariant-loop-clause : goal.invariant-loop-clause
-invariant-loop-clause l = l.verdict ≡ conjunction (map (clause_verdict l.doc) (take l.clause-index l.clause-items))
+abbrev pub invariant-loop-disj : goal.invariant-loop-disj
+invariant-loop-disj l = l.verdict ≡ conjunction (map (of_disj (see_store l.store)) (take l.disj-index l.disj-items))

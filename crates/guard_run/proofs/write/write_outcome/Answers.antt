@@ -1,8 +1,8 @@
-use Rattle.std.proofs.Common.{inl, inr, refl, [], subst}
-use Rattle.guard_run.specs.End.{Ended, EndOf, Faults, Loads, Unread, Took}
-use Rattle.guard_run.specs.Lines.{usage_line, read_fault_line}
+use Rattle.std.proofs.Common.{ℕ, List, inl, inr, refl, [], subst}
+use Rattle.guard_run.specs.End.{Ended, EndOf, Faults, Loads, Unread, Unmade, Took}
+use Rattle.guard_run.specs.Lines.{usage_line, read_fault_line, pattern_line}
 use Rattle.guard_run.specs.Request.{Request}
-use Rattle.guard_run.specs.Outcome.{IsOutcome, said}
+use Rattle.guard_run.specs.Outcome.{IsOutcome, line_bytes, said}
 use Rattle.guard_run.specs.declared.refused.Refused.{Refused}
 use Rattle.guard_run.specs.Writing.{Said}
 use Rattle.guard_run.specs.declared.ends.End.TheVariants as end_is
@@ -18,11 +18,11 @@ returns-in-Refused-clause-closed g c = λ words told old new end.
     let r : Refused = c.in-Refused.field-0 in
     let ends : EndOf words told (said r) = subst (λ o. IsOutcome words told old new o) c.in-Refused.is end in
     let none : Took (g.O.Sink.told c.args.out.now) (g.O.Sink.told c.args.out.now) [] = Took-nothing (g.O.Sink.told c.args.out.now) in
-    let tried : Said r.line.bytes (end_is.Refused r.refusal) c.say.result
-    (g.E.Sink.told c.args.err.now) (g.E.Sink.told c.say.new.err) = rw c.as_str.ensures.value at c.say.ensures.said in
-    let before : Faults = record { files = old; out = g.O.Sink.faults c.args.out.now } in
-    let after : Faults = record { files = new; out = g.O.Sink.faults c.args.out.now } in
-    Closed-said words told before after r.line.bytes (end_is.Refused r.refusal) c.say.result
+    let tried : Said (line_bytes r.line) (end_is.Refused r.refusal) c.say.result
+    (g.E.Sink.told c.args.err.now) (g.E.Sink.told c.say.new.err) = rw c.as_str.ensures at c.say.ensures.said in
+    let before : Faults = record { read = old; out = g.O.Sink.faults c.args.out.now } in
+    let after : Faults = record { read = new; out = g.O.Sink.faults c.args.out.now } in
+    Closed-said words told before after (line_bytes r.line) (end_is.Refused r.refusal) c.say.result
     (g.O.Sink.told c.args.out.now) (g.O.Sink.told c.args.out.now) (g.E.Sink.told c.args.err.now) (g.E.Sink.told c.say.new.err) []
     (inl (said r, ends, refl, refl, refl)) none
     (λ whole. (said r, ends, refl, none, whole)) tried
@@ -32,17 +32,17 @@ returns-in-Usage-clause-closed g c = λ words told old new end.
     let usage : Ended = record { how = end_is.Usage; out = []; err = usage_line } in
     let ends : EndOf words told usage = subst (λ o. IsOutcome words told old new o) c.in-Usage.is end in
     let none : Took (g.O.Sink.told c.args.out.now) (g.O.Sink.told c.args.out.now) [] = Took-nothing (g.O.Sink.told c.args.out.now) in
-    let before : Faults = record { files = old; out = g.O.Sink.faults c.args.out.now } in
-    let after : Faults = record { files = new; out = g.O.Sink.faults c.args.out.now } in
+    let before : Faults = record { read = old; out = g.O.Sink.faults c.args.out.now } in
+    let after : Faults = record { read = new; out = g.O.Sink.faults c.args.out.now } in
     Closed-said words told before after usage_line end_is.Usage c.say-in-Usage.result
     (g.O.Sink.told c.args.out.now) (g.O.Sink.told c.args.out.now) (g.E.Sink.told c.args.err.now) (g.E.Sink.told c.say-in-Usage.new.err) []
     (inl (usage, ends, refl, refl, refl)) none (λ whole. (usage, ends, refl, none, whole)) c.say-in-Usage.ensures.said
 
 pub returns-in-ReadFault-clause-closed : goal.returns-in-ReadFault-clause-closed
 returns-in-ReadFault-clause-closed g c = λ words told old new end.
-    let before : Faults = record { files = old; out = g.O.Sink.faults c.args.out.now } in
-    let after : Faults = record { files = new; out = g.O.Sink.faults c.args.out.now } in
-    let loads : (q : Request) × Loads c.in-ReadFault.which words told q × Unread before after c.in-ReadFault.which q =
+    let before : Faults = record { read = old; out = g.O.Sink.faults c.args.out.now } in
+    let after : Faults = record { read = new; out = g.O.Sink.faults c.args.out.now } in
+    let loads : (q : Request) × Loads c.in-ReadFault.which words told q × Unread old new c.in-ReadFault.which q =
     subst (λ o. IsOutcome words told old new o) c.in-ReadFault.is end in
     let none : Took (g.O.Sink.told c.args.out.now) (g.O.Sink.told c.args.out.now) [] = Took-nothing (g.O.Sink.told c.args.out.now) in
     let said : Said (read_fault_line c.in-ReadFault.which) (end_is.ReadFault c.in-ReadFault.which) c.say-in-ReadFault.result
@@ -51,10 +51,20 @@ returns-in-ReadFault-clause-closed g c = λ words told old new end.
     (g.O.Sink.told c.args.out.now) (g.O.Sink.told c.args.out.now) (g.E.Sink.told c.args.err.now) (g.E.Sink.told c.say-in-ReadFault.new.err) []
     (inr (inl (c.in-ReadFault.which, loads, refl, refl))) none (λ whole. (loads, (none, whole))) said
 
+pub returns-in-PatternRefused-clause-closed : goal.returns-in-PatternRefused-clause-closed
+returns-in-PatternRefused-clause-closed g c = λ words told old new end.
+    let before : Faults = record { read = old; out = g.O.Sink.faults c.args.out.now } in
+    let after : Faults = record { read = new; out = g.O.Sink.faults c.args.out.now } in
+    let unmade : (text : List ℕ) × Unmade words told old.patterns new.patterns text = subst (λ o. IsOutcome words told old new o) c.in-PatternRefused.is end in
+    let none : Took (g.O.Sink.told c.args.out.now) (g.O.Sink.told c.args.out.now) [] = Took-nothing (g.O.Sink.told c.args.out.now) in
+    Closed-said words told before after pattern_line end_is.PatternRefused c.say-in-PatternRefused.result
+    (g.O.Sink.told c.args.out.now) (g.O.Sink.told c.args.out.now) (g.E.Sink.told c.args.err.now) (g.E.Sink.told c.say-in-PatternRefused.new.err) []
+    (inr (inr (inl (unmade, refl, refl)))) none (λ whole. (unmade, (none, whole))) c.say-in-PatternRefused.ensures.said
+
 pub returns-in-Memory-clause-closed : goal.returns-in-Memory-clause-closed
 returns-in-Memory-clause-closed g c = λ words told old new end.
-    let before : Faults = record { files = old; out = g.O.Sink.faults c.args.out.now } in
-    let after : Faults = record { files = new; out = g.O.Sink.faults c.args.out.now } in
+    let before : Faults = record { read = old; out = g.O.Sink.faults c.args.out.now } in
+    let after : Faults = record { read = new; out = g.O.Sink.faults c.args.out.now } in
     Closed-memory words told before after c.say_memory.result
     (g.O.Sink.told c.args.out.now) (g.O.Sink.told c.args.out.now) (g.E.Sink.told c.args.err.now) (g.E.Sink.told c.say_memory.new.err) []
     (inl (refl, refl)) (Took-nothing (g.O.Sink.told c.args.out.now)) c.say_memory.ensures.said

@@ -11,8 +11,8 @@ use Rattle.guard_run.proofs.write.write_report.Goals as goal
 
 pub returns-in-Ok-clause-closed : goal.returns-in-Ok-clause-closed
 returns-in-Ok-clause-closed g c = λ words told old new end.
-    let before : Faults = record { files = old; out = g.O.Sink.faults c.args.out.now } in
-    let after : Faults = record { files = new; out = g.O.Sink.faults c.put.new.self } in
+    let before : Faults = record { read = old; out = g.O.Sink.faults c.args.out.now } in
+    let after : Faults = record { read = new; out = g.O.Sink.faults c.put.new.self } in
     let taken : Took (g.O.Sink.told c.args.out.now) (g.O.Sink.told c.put.new.self) (string_bytes c.args.judgement.now.report) =
     rw c.as_bytes.ensures.value at c.in-Ok.ensures.ok in
     subst (λ how. Closed words told before after how (g.O.Sink.told c.args.out.now) (g.O.Sink.told c.put.new.self)
@@ -23,21 +23,21 @@ returns-in-Ok-clause-closed g c = λ words told old new end.
 
 pub returns-in-Err-Failed-clause-closed : goal.returns-in-Err-Failed-clause-closed
 returns-in-Err-Failed-clause-closed g c = λ words told old new end.
-    let before : Faults = record { files = old; out = g.O.Sink.faults c.args.out.now } in
-    let after : Faults = record { files = new; out = g.O.Sink.faults c.put.new.self } in
+    let before : Faults = record { read = old; out = g.O.Sink.faults c.args.out.now } in
+    let after : Faults = record { read = new; out = g.O.Sink.faults c.put.new.self } in
     let report = string_bytes c.args.judgement.now.report in
     let cut : (front : List ℕ) × IsPrefix front report × Took (g.O.Sink.told c.args.out.now) (g.O.Sink.told c.put.new.self) front =
     Took-front (g.O.Sink.told c.args.out.now) (g.O.Sink.told c.put.new.self) report (rw c.as_bytes.ensures.value at c.in-Err-Failed.ensures.err) in
     let whole = IsReport-ended words told c.args.judgement.now end in
     Closed-said words told before after write_fault_line (WriteFault Out) c.say.result (g.O.Sink.told c.args.out.now) (g.O.Sink.told c.put.new.self)
     (g.E.Sink.told c.args.err.now) (g.E.Sink.told c.say.new.err) cut.0
-    (inr (inr (report, whole, cut.1, c.in-Err-Failed.ensures.failed (ap Err c.in-Err-Failed.field-0-is), refl))) cut.2
+    (inr (inr (inr (report, whole, cut.1, c.in-Err-Failed.ensures.failed (ap Err c.in-Err-Failed.field-0-is), refl)))) cut.2
     (λ said. (report, cut.0, whole, cut.1, cut.2, said)) c.say.ensures.said
 
 pub returns-in-Err-Memory-clause-closed : goal.returns-in-Err-Memory-clause-closed
 returns-in-Err-Memory-clause-closed g c = λ words told old new end.
-    let before : Faults = record { files = old; out = g.O.Sink.faults c.args.out.now } in
-    let after : Faults = record { files = new; out = g.O.Sink.faults c.put.new.self } in
+    let before : Faults = record { read = old; out = g.O.Sink.faults c.args.out.now } in
+    let after : Faults = record { read = new; out = g.O.Sink.faults c.put.new.self } in
     let report = string_bytes c.args.judgement.now.report in
     let cut : (front : List ℕ) × IsPrefix front report × Took (g.O.Sink.told c.args.out.now) (g.O.Sink.told c.put.new.self) front =
     Took-front (g.O.Sink.told c.args.out.now) (g.O.Sink.told c.put.new.self) report (rw c.as_bytes.ensures.value at c.in-Err-Memory.ensures.err) in
