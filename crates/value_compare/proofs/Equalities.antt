@@ -1,15 +1,17 @@
 -- Equality of lists and maps by their items and entries in turn, and of values by their kinds.
 use Rattle.std.proofs.Common.{◌≡◌, ◌≢◌, ℕ, zero, suc, ◌+◌, ◌<◌, Bool, true, false, List, Option, Some, None, refl, sym, ap, ap₂, subst, ◌∙◌, arith}
-use Rattle.std.specs.Prelude.{◌&&◌, ◌||◌}
+use Rattle.std.specs.Prelude.{◌&&◌}
+use Rattle.std.specs.Option.{option_map_or}
+use Rattle.std.proofs.lemmas.Bool.{or_parts}
 use Rattle.doc_values.specs.Tree.{Label, Forest, Nil, Node, count, key_is}
 use Rattle.doc_values.specs.Places.{first_label}
 use Rattle.doc_values.specs.declared.kind.Kind.{Kind}
 use Rattle.doc_values.specs.declared.kind.Kind.TheVariants as kind
 use Rattle.value_compare.specs.declared.answer.PairAnswer.{PairAnswer}
-use Rattle.value_compare.specs.Entries.{has_equal}
-use Rattle.value_compare.specs.Held.{holds_if, holds_in, holds_of, may_find, may_find_by}
+use Rattle.value_compare.specs.Entries.{has_equal, may_find_entry}
+use Rattle.value_compare.specs.Held.{holds_if, holds_in, holds_of, may_find, may_find_items, may_find_entries}
 use Rattle.value_compare.specs.Pairs.{equal, equal_by, same_items, same_entries, same_maps, entry_of, is_yes}
-use Rattle.value_compare.specs.Values.{Value, value_of, value_of_key, is_pattern, has_pattern}
+use Rattle.value_compare.specs.Values.{Value, value_of, value_of_key, is_pattern}
 use Rattle.value_compare.proofs.Forests.{from_index, first_value, index_step, index_end}
 
 -- Lists.
@@ -109,67 +111,23 @@ item_held book Nil i h e = absurd (omega arith)
 item_held book (Node l kids rest) zero h e = head_held book l kids rest e
 item_held book (Node l kids rest) (suc i) h e = item_held book rest i (omega arith) (rest_held book l kids rest e)
 
--- a value is no pattern and has none in it
-abbrev pub is_plain : Value → Bool
-is_plain v = is_pattern v.kind || has_pattern v.contents
+-- of two lists, no text of the one meets a pattern of the other at an index
+pub item_apart : (f g : Forest) (i : ℕ) → i < count f → i < count g → may_find_items f g ≡ false → may_find (first_value (from_index f i)) (first_value (from_index g i)) ≡ false
+item_apart Nil g i h k e = absurd (omega arith)
+item_apart (Node l lkids lrest) Nil i h k e = absurd (omega arith)
+item_apart (Node l lkids lrest) (Node r rkids rrest) zero h k e = (or_parts (may_find (value_of l lkids) (value_of r rkids)) (may_find_items lrest rrest) e).0
+item_apart (Node l lkids lrest) (Node r rkids rrest) (suc i) h k e =
+    item_apart lrest rrest i (omega arith) (omega arith) (or_parts (may_find (value_of l lkids) (value_of r rkids)) (may_find_items lrest rrest) e).1
 
-or_false_left : (a b : Bool) → (a || b) ≡ false → a ≡ false
-or_false_left true b e = absurd cc
-or_false_left false b e = refl
+-- nor of two maps at an entry of the one
+pub entry_apart : (f g : Forest) (i : ℕ) → i < count f → may_find_entries f g ≡ false → may_find_entry (first_label (from_index f i)).key (first_value (from_index f i)) g ≡ false
+entry_apart Nil g i h e = absurd (omega arith)
+entry_apart (Node l kids rest) g zero h e = (or_parts (may_find_entry l.key (value_of l kids) g) (may_find_entries rest g) e).0
+entry_apart (Node l kids rest) g (suc i) h e = entry_apart rest g i (omega arith) (or_parts (may_find_entry l.key (value_of l kids) g) (may_find_entries rest g) e).1
 
-or_false_right : (a b : Bool) → (a || b) ≡ false → b ≡ false
-or_false_right true b e = absurd cc
-or_false_right false b e = e
-
-none_found : (left right : Kind) (contents : Forest) → is_pattern right ≡ false → has_pattern contents ≡ false → may_find_by left right contents ≡ false
-none_found kind.Null right contents p h = refl
-none_found (kind.Truth b) right contents p h = refl
-none_found (kind.Whole n) right contents p h = refl
-none_found (kind.Fraction d) right contents p h = refl
-none_found kind.Pattern right contents p h = refl
-none_found (kind.Limits r) right contents p h = refl
-none_found kind.Text kind.Pattern contents p h = absurd cc
-none_found kind.Text kind.Null contents p h = refl
-none_found kind.Text (kind.Truth b) contents p h = refl
-none_found kind.Text (kind.Whole n) contents p h = refl
-none_found kind.Text (kind.Fraction d) contents p h = refl
-none_found kind.Text kind.Text contents p h = refl
-none_found kind.Text kind.List contents p h = refl
-none_found kind.Text kind.Map contents p h = refl
-none_found kind.Text (kind.Limits r) contents p h = refl
-none_found kind.List kind.List contents p h = h
-none_found kind.List kind.Pattern contents p h = refl
-none_found kind.List kind.Null contents p h = refl
-none_found kind.List (kind.Truth b) contents p h = refl
-none_found kind.List (kind.Whole n) contents p h = refl
-none_found kind.List (kind.Fraction d) contents p h = refl
-none_found kind.List kind.Text contents p h = refl
-none_found kind.List kind.Map contents p h = refl
-none_found kind.List (kind.Limits r) contents p h = refl
-none_found kind.Map kind.Map contents p h = h
-none_found kind.Map kind.Pattern contents p h = refl
-none_found kind.Map kind.Null contents p h = refl
-none_found kind.Map (kind.Truth b) contents p h = refl
-none_found kind.Map (kind.Whole n) contents p h = refl
-none_found kind.Map (kind.Fraction d) contents p h = refl
-none_found kind.Map kind.Text contents p h = refl
-none_found kind.Map kind.List contents p h = refl
-none_found kind.Map (kind.Limits r) contents p h = refl
-
-head_plain : (l : Label) (kids rest : Forest) (v : Value) → has_pattern (Node l kids rest) ≡ false → may_find v (value_of l kids) ≡ false
-head_plain l kids rest v e =
-    let mine = or_false_left (is_pattern l.kind) (has_pattern kids || has_pattern rest) e in
-    let both = or_false_right (is_pattern l.kind) (has_pattern kids || has_pattern rest) e in
-    none_found v.kind l.kind kids mine (or_false_left (has_pattern kids) (has_pattern rest) both)
-
-rest_plain : (l : Label) (kids rest : Forest) → has_pattern (Node l kids rest) ≡ false → has_pattern rest ≡ false
-rest_plain l kids rest e = or_false_right (has_pattern kids) (has_pattern rest) (or_false_right (is_pattern l.kind) (has_pattern kids || has_pattern rest) e)
-
--- among values without a pattern no text meets one
-pub item_plain : (f : Forest) (i : ℕ) (v : Value) → i < count f → has_pattern f ≡ false → may_find v (first_value (from_index f i)) ≡ false
-item_plain Nil i v h e = absurd (omega arith)
-item_plain (Node l kids rest) zero v h e = head_plain l kids rest v e
-item_plain (Node l kids rest) (suc i) v h e = item_plain rest i v (omega arith) (rest_plain l kids rest e)
+-- and the value that stands there
+pub entry_value_apart : (key : Option (List ℕ)) (k : List ℕ) (v other : Value) (g : Forest) → key ≡ Some k → entry_of g (Some k) ≡ Some other → may_find_entry key v g ≡ false → may_find v other ≡ false
+entry_value_apart key k v other g is found e = sym (ap (λ o. option_map_or (may_find v) o false) (ap (entry_of g) is ∙ found)) ∙ e
 
 some_same : (v w : Value) → Some v ≡ Some w → v ≡ w
 some_same v w e = cc
@@ -182,15 +140,6 @@ entry_held book (Node l kids rest) (Some k) v h e = by_test (entry_held book res
   where
     by_test : (entry_of rest (Some k) ≡ Some v → holds_of book v ≡ true) → (b : Bool) → key_is l.key k ≡ b → holds_of book v ≡ true
     by_test later true is = let q : value_of l kids ≡ v = some_same (value_of l kids) v (rw is at e) in subst (λ w. holds_of book w ≡ true) q (head_held book l kids rest h)
-    by_test later false is = later (rw is at e)
-
-pub entry_plain : (f : Forest) (key : Option (List ℕ)) (left v : Value) → has_pattern f ≡ false → entry_of f key ≡ Some v → may_find left v ≡ false
-entry_plain Nil key left v h e = absurd cc
-entry_plain (Node l kids rest) None left v h e = absurd cc
-entry_plain (Node l kids rest) (Some k) left v h e = by_test (entry_plain rest (Some k) left v (rest_plain l kids rest h)) (key_is l.key k) refl
-  where
-    by_test : (entry_of rest (Some k) ≡ Some v → may_find left v ≡ false) → (b : Bool) → key_is l.key k ≡ b → may_find left v ≡ false
-    by_test later true is = let q : value_of l kids ≡ v = some_same (value_of l kids) v (rw is at e) in subst (λ w. may_find left w ≡ false) q (head_plain l kids rest left h)
     by_test later false is = later (rw is at e)
 
 -- what an entry of a key says

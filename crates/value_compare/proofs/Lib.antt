@@ -6,7 +6,7 @@ mod Forests
 mod MapKeys
 mod Equalities
 mod Walks
-mod Nodes
+pub mod Nodes
 mod HeldPatterns
 mod RowExamples
 mod Beyond

@@ -13,6 +13,7 @@ use Rattle.std.proofs.lemmas.List.{take-append-drop, take_all, append-nil}
 use Rattle.std.proofs.lemmas.List.Elements.{All-append}
 use Rattle.doc_values.specs.Tree.{Label, Forest, size}
 use Rattle.doc_values.specs.Places.{label_at}
+use Rattle.guard_io.specs.Outside.{Rose}
 use Rattle.guard_syntax.specs.Sites.{upto}
 use Rattle.guard_syntax.specs.Syntax.{File, literal}
 use Rattle.name_table.specs.Pieces.{Piece, OfExpr, piece_at}
@@ -21,7 +22,6 @@ use Rattle.value_compare.specs.Finds.{pattern_in}
 use Rattle.value_compare.specs.Known.{tree_of_piece, literal_at}
 use Rattle.value_compare.specs.Making.{AreRead, IsReadBook, Gains, IsNextOf, written}
 use Rattle.value_compare.specs.Patterns.{Written, patterns_in, patterns_at, patterns_of, patterns_of_piece}
-use Rattle.value_compare.specs.Rose.{Rose}
 use Rattle.value_compare.proofs.Nodes.{labels, length-labels, label-labels, patterns_in-labels}
 
 -- ---- gains

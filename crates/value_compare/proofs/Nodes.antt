@@ -15,12 +15,12 @@ use Rattle.value_compare.specs.Values.{Value, value_of, value_at, values_in, is_
 
 -- ---- items
 
-child_least : (n : ℕ) (g : Forest) (i : ℕ) → n ≤ child_place n g i
+pub child_least : (n : ℕ) (g : Forest) (i : ℕ) → n ≤ child_place n g i
 child_least n Nil i = omega arith
 child_least n (Node l kids rest) zero = omega arith
 child_least n (Node l kids rest) (suc i) = let r = child_least (n + 1 + size kids) rest i in omega arith
 
-child_most : (n : ℕ) (g : Forest) (i : ℕ) → i < count g → child_place n g i < n + size g
+pub child_most : (n : ℕ) (g : Forest) (i : ℕ) → i < count g → child_place n g i < n + size g
 child_most n Nil i h = absurd (omega arith)
 child_most n (Node l kids rest) zero h = omega arith
 child_most n (Node l kids rest) (suc i) h = let r = child_most (n + 1 + size kids) rest i (omega arith) in omega arith
@@ -36,7 +36,7 @@ sibling (Node l kids rest) (suc i) n (suc m) d h e =
     ap (λ (g : Forest). value_of (first_label g) (first_kids g)) (find_past l kids rest m low)
     ∙ sibling rest i (n + 1 + size kids) (m - size kids) d (omega arith) (omega arith)
 
-size_in : (f : Forest) (n : ℕ) → n < size f → n + 1 + size (kids_at f n) ≤ size f
+pub size_in : (f : Forest) (n : ℕ) → n < size f → n + 1 + size (kids_at f n) ≤ size f
 size_in Nil n h = absurd (omega arith)
 size_in (Node l kids rest) zero h = omega arith
 size_in (Node l kids rest) (suc n) h = elim (cases_lt n (size kids)) [
@@ -45,7 +45,7 @@ size_in (Node l kids rest) (suc n) h = elim (cases_lt n (size kids)) [
 ]
 
 -- what stands in a node is numbered behind it
-below : (f : Forest) (id m : ℕ) → id < size f → m < size (kids_at f id) → find f (suc (id + m)) ≡ find (kids_at f id) m
+pub below : (f : Forest) (id m : ℕ) → id < size f → m < size (kids_at f id) → find f (suc (id + m)) ≡ find (kids_at f id) m
 below Nil id m h k = absurd (omega arith)
 below (Node l kids rest) zero m h k = let e : suc (0 + m) ≡ suc m = omega arith in ap (find (Node l kids rest)) e ∙ find_in l kids rest m k
 below (Node l kids rest) (suc n) m h k =

@@ -1,10 +1,15 @@
--- Whether a value stands among the entries of a map.
+-- A value and the entry of a key among the entries of a map.
 use Rattle.std.specs.Prelude.{ℕ, Bool, false, List, Option}
 use Rattle.std.specs.Option.{option_map_or}
 use Rattle.doc_values.specs.Tree.{Forest}
+use Rattle.value_compare.specs.Held.{may_find}
 use Rattle.value_compare.specs.Pairs.{entry_of, equal, is_yes}
 use Rattle.value_compare.specs.Values.{Value}
 
 -- the entry of a key is there, and equal to a value
 abbrev pub has_equal : Option (List ℕ) → Value → Forest → Bool
 has_equal key v entries = option_map_or (λ other. is_yes (equal v other)) (entry_of entries key) false
+
+-- the entry of a key is there, and a text of a value stands over against a pattern of it
+abbrev pub may_find_entry : Option (List ℕ) → Value → Forest → Bool
+may_find_entry key v entries = option_map_or (may_find v) (entry_of entries key) false

@@ -1,10 +1,12 @@
 -- When a book serves a comparison, and when one needs no book.
-use Rattle.std.specs.Prelude.{ℕ, Bool, true, false, ◌&&◌, List}
+use Rattle.std.specs.Prelude.{ℕ, Bool, true, false, ◌&&◌, ◌||◌, List}
+use Rattle.std.specs.Option.{option_map_or}
 use Rattle.doc_values.specs.Tree.{Forest, Nil, Node}
 use Rattle.doc_values.specs.declared.kind.Kind.{Kind}
 use Rattle.doc_values.specs.declared.kind.Kind.TheVariants as kind
 use Rattle.value_compare.specs.Books.{has_text}
-use Rattle.value_compare.specs.Values.{Value, is_pattern, has_pattern}
+use Rattle.value_compare.specs.Pairs.{entry_of}
+use Rattle.value_compare.specs.Values.{Value, is_pattern}
 
 -- a book holds the text where it is a pattern's
 abbrev pub holds_if : Bool → List (List ℕ) → List ℕ → Bool
@@ -20,12 +22,26 @@ holds_in book (Node l kids rest) = holds_if (is_pattern l.kind) book l.text && (
 abbrev pub holds_of : List (List ℕ) → Value → Bool
 holds_of book v = holds_if (is_pattern v.kind) book v.text && holds_in book v.contents
 
--- a text may meet a pattern: the one is the left and the other the right value, or both are lists, or both maps, and a pattern stands in the right one
-abbrev pub may_find_by : Kind → Kind → Forest → Bool
-may_find_by kind.Text kind.Pattern contents = true
-may_find_by kind.List kind.List contents = has_pattern contents
-may_find_by kind.Map kind.Map contents = has_pattern contents
-may_find_by _ _ contents = false
+-- a text stands over against a pattern, by the kinds of both; of two lists, and of two maps, what stands in them tells
+abbrev pub may_find_by : (items entries : Bool) → Kind → Kind → Bool
+may_find_by items entries kind.Text kind.Pattern = true
+may_find_by items entries kind.List kind.List = items
+may_find_by items entries kind.Map kind.Map = entries
+may_find_by items entries _ _ = false
+
+abbrev mutual
+  -- items of two lists at one index
+  pub may_find_items : Forest → Forest → Bool
+  may_find_items Nil g = false
+  may_find_items (Node l lkids lrest) Nil = false
+  may_find_items (Node l lkids lrest) (Node r rkids rrest) = may_find_by (may_find_items lkids rkids) (may_find_entries lkids rkids) l.kind r.kind || may_find_items lrest rrest
+
+  -- values of two maps at one key
+  pub may_find_entries : Forest → Forest → Bool
+  may_find_entries Nil g = false
+  may_find_entries (Node l lkids lrest) g =
+      option_map_or (λ (r : Value). may_find_by (may_find_items lkids r.contents) (may_find_entries lkids r.contents) l.kind r.kind) (entry_of g l.key) false
+      || may_find_entries lrest g
 
 abbrev pub may_find : Value → Value → Bool
-may_find l r = may_find_by l.kind r.kind r.contents
+may_find l r = may_find_by (may_find_items l.contents r.contents) (may_find_entries l.contents r.contents) l.kind r.kind

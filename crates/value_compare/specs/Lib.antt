@@ -1,14 +1,13 @@
 pub mod Books
+pub mod Entries
 pub mod Finds
 pub mod Held
 pub mod Known
 pub mod Making
+pub mod Matching
 pub mod Pairs
 pub mod Patterns
-pub mod Rose
 pub mod RowTests
 pub mod Stores
 pub mod Values
 pub mod Views
-pub mod Entries
-pub mod Matching

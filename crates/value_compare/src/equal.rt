@@ -2,10 +2,10 @@
 ghost use Rattle.std.specs.Prelude.{◌≡◌, ℕ, Bool, true, false, List, IfOk, IsOk};
 ghost use Rattle.doc_values.specs.Places.{label_at, kids_at};
 ghost use Rattle.doc_values.specs.Tree.{Nil};
-ghost use Rattle.value_compare.specs.Held.{holds_if, holds_in, holds_of, may_find};
+ghost use Rattle.value_compare.specs.Held.{holds_if, holds_in, holds_of, may_find, may_find_entries, may_find_items};
 ghost use Rattle.value_compare.specs.Pairs.{equal, equal_by, same_items, same_maps};
-ghost use Rattle.value_compare.specs.Entries.{has_equal};
-ghost use Rattle.value_compare.specs.Values.{has_pattern, is_pattern, value_at, value_of_key};
+ghost use Rattle.value_compare.specs.Entries.{has_equal, may_find_entry};
+ghost use Rattle.value_compare.specs.Values.{is_pattern, value_at, value_of_key};
 ghost use Rattle.value_compare.specs.Views.{see_view};
 
 use crate::answer::PairAnswer;
@@ -115,7 +115,7 @@ fn are_items_equal(
     requires held { holds_in matchers.old.book.now (kids_at right.doc.now right.id) ≡ true }
     ensures answer { IfOk result (λ same. same ≡ same_items (kids_at left.entry.doc.now left.entry.id) (kids_at right.entry.doc.now right.entry.id)) }
     ensures kept { matchers.new.book.now ≡ matchers.old.book.now }
-    ensures no_memory { has_pattern (kids_at right.entry.doc.now right.entry.id) ≡ false → IsOk result }
+    ensures no_memory { may_find_items (kids_at left.entry.doc.now left.entry.id) (kids_at right.entry.doc.now right.entry.id) ≡ false → IsOk result }
 {
     if left.len() != right.len() {
         return Ok(false);
@@ -140,7 +140,7 @@ fn are_entries_equal(
     requires held { holds_in matchers.old.book.now (kids_at right.doc.now right.id) ≡ true }
     ensures answer { IfOk result (λ same. same ≡ same_maps (kids_at left.entry.doc.now left.entry.id) (kids_at right.entry.doc.now right.entry.id)) }
     ensures kept { matchers.new.book.now ≡ matchers.old.book.now }
-    ensures no_memory { has_pattern (kids_at right.entry.doc.now right.entry.id) ≡ false → IsOk result }
+    ensures no_memory { may_find_entries (kids_at left.entry.doc.now left.entry.id) (kids_at right.entry.doc.now right.entry.id) ≡ false → IsOk result }
 {
     // Keys of a map are distinct, as `len` says of each tree: so where there are as many entries, one direction is enough.
     let _nodes = (left.doc.len(), right.doc.len());
@@ -165,7 +165,7 @@ fn is_entry_equal(
     requires held { holds_in matchers.old.book.now (kids_at right.doc.now right.id) ≡ true }
     ensures answer { IfOk result (λ same. same ≡ has_equal (label_at entry.entry.doc.now entry.entry.id).key (value_at entry.entry.doc.now entry.entry.id) (kids_at right.entry.doc.now right.entry.id)) }
     ensures kept { matchers.new.book.now ≡ matchers.old.book.now }
-    ensures no_memory { has_pattern (kids_at right.entry.doc.now right.entry.id) ≡ false → IsOk result }
+    ensures no_memory { may_find_entry (label_at entry.entry.doc.now entry.entry.id).key (value_at entry.entry.doc.now entry.entry.id) (kids_at right.entry.doc.now right.entry.id) ≡ false → IsOk result }
 {
     let Some(key) = entry.key() else {
         return Ok(false);

@@ -1,12 +1,12 @@
 //! The patterns of a rule file are made, each text once.
 ghost use Rattle.std.specs.Prelude.{◌≡◌, ◌∷◌, ◌≤◌, ℕ, List, [], All, length, IfOk, IfSome, OnOk, IsErrOf, IsNone, IsSome};
 ghost use Rattle.doc_values.specs.Places.{label_at};
+ghost use Rattle.guard_io.specs.Outside.{Rose};
 ghost use Rattle.guard_syntax.specs.Seen.{see_file};
 ghost use Rattle.value_compare.specs.Books.{IsBookOf, IsNext};
 ghost use Rattle.value_compare.specs.Finds.{pattern_in};
 ghost use Rattle.value_compare.specs.Making.{AreRead, IsReadBook, Gains, IsNextOf, written};
 ghost use Rattle.value_compare.specs.Patterns.{patterns_at, patterns_in, patterns_of};
-ghost use Rattle.value_compare.specs.Rose.{Rose};
 
 use crate::book::PatternBook;
 use crate::literals::literal;

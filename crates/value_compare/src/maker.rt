@@ -1,7 +1,8 @@
 //! What makes patterns of texts.
-ghost use Rattle.std.specs.Prelude.{◌≡◌, ◌≤◌, ℕ, List, IfOk, IsErrOf, IsNone, IsSome, OnOk};
+ghost use Rattle.std.specs.Prelude.{◌≡◌, ◌≤◌, ℕ, nat_eq, true, List, IfOk, IsErrOf, IsNone, IsSome, OnOk};
+ghost use Rattle.std.specs.List.{list_any};
+ghost use Rattle.guard_io.specs.Outside.{Rose, one_more};
 ghost use Rattle.value_compare.specs.Finds.{pattern_in};
-ghost use Rattle.value_compare.specs.Rose.{Rose};
 
 use crate::pattern::Pattern;
 use regex::{Error, Regex};
@@ -74,14 +75,24 @@ pub struct ScriptMaker {
 impl PatternMaker for ScriptMaker {
     ghost faults = { λ maker text. maker.faults };
 
-    fn make(&mut self, alloc: Global, text: &str) -> Result<Pattern, PatternFault> {
+    fn make(&mut self, alloc: Global, text: &str) -> Result<Pattern, PatternFault>
+        ensures made { IfOk result (λ pattern. pattern ≡ text.now) }
+        ensures read { OnOk result (IsSome (pattern_in text.now)) }
+        ensures syntax { IsErrOf result PatternFault.Syntax → IsNone (pattern_in text.now) }
+        ensures too_large { IsErrOf result PatternFault.TooLarge → self.new.faults ≡ one_more self.old.faults }
+        ensures kept { (other : List ℕ) → self.old.faults ≤ self.new.faults }
+        ensures planned { list_any (λ n. nat_eq n self.old.calls) self.old.failing.items ≡ true
+            → IsErrOf result PatternFault.TooLarge }
+        ensures calls { self.new.calls ≡ one_more self.old.calls }
+        ensures failing { self.new.failing.items ≡ self.old.failing.items }
+    {
         let call = self.calls;
         self.calls = self.calls.saturating_add(1);
-        let made = if self.failing.contains(&call) {
-            Err(PatternFault::TooLarge)
-        } else {
-            read_pattern(alloc, text)
-        };
+        if self.failing.contains(&call) {
+            self.faults = self.faults.saturating_add(1);
+            return Err(PatternFault::TooLarge);
+        }
+        let made = read_pattern(alloc, text);
         if let Err(PatternFault::TooLarge) = made {
             self.faults = self.faults.saturating_add(1);
         }

@@ -5,7 +5,7 @@ ghost use Rattle.value_compare.specs.Books.{IsBookOf};
 ghost use Rattle.value_compare.specs.Held.{holds_in, holds_of};
 ghost use Rattle.value_compare.specs.Known.{made_at, stands_for, tree_of, value_in};
 ghost use Rattle.value_compare.specs.Values.{has_pattern};
-ghost use Rattle.value_compare.specs.Views.{see_view};
+ghost use Rattle.value_compare.specs.Views.{IsSeenAt, IsSeenIn, see_view};
 
 use crate::literals::literal;
 use crate::made::MadeTrees;
@@ -57,6 +57,7 @@ impl<'t, 's> Store<'t, 's> {
         ensures value { MatchOption result
             (stands_for (record { template = self.entry.now.doc.now; file = see_file self.entry.now.file.now.raw; made = self.entry.now.made }) value ≡ None)
             (λ seen. stands_for (record { template = self.entry.now.doc.now; file = see_file self.entry.now.file.now.raw; made = self.entry.now.made }) value ≡ Some (see_view seen)) }
+        ensures placed { IfSome result (IsSeenAt (tree_of (record { template = self.entry.now.doc.now; file = see_file self.entry.now.file.now.raw; made = self.entry.now.made }) value.origin) value) }
         ensures held { (book : List (List ℕ)) → IsBookOf (see_file self.entry.now.file.now.raw) book → IfSome result (λ seen. holds_of book (see_view seen) ≡ true) }
     {
         let doc = self.tree(value.origin)?;
@@ -81,6 +82,7 @@ impl<'t, 's> Store<'t, 's> {
 /// The value of a node of a tree, or its key.
 fn view_in<'t, 's>(doc: &'t Doc<'s>, node: u32, key: bool) -> Option<View<'t, 's>>
     ensures value { MatchOption result (value_in node key doc.entry.now ≡ None) (λ seen. value_in node key doc.entry.now ≡ Some (see_view seen)) }
+    ensures placed { IfSome result (IsSeenIn node key doc.entry.now) }
     ensures held { (book : List (List ℕ)) → holds_in book doc.entry.now ≡ true → IfSome result (λ seen. holds_of book (see_view seen) ≡ true) }
 {
     if node >= doc.len() {

@@ -1,15 +1,16 @@
 use Rattle.std.proofs.Common.{◌≡◌, ◌<◌, ◌+◌, false, true, IfOk, sym, ap, ap₂, subst, ◌∙◌, arith, rules, to_z, of_z, w64, Some, true≢false}
 use Rattle.std.specs.Prelude.{◌&&◌}
-use Rattle.doc_values.specs.Tree.{count, AreValues, Nil, is_map}
+use Rattle.doc_values.specs.Tree.{Label, count, AreValues, Nil, is_map}
 use Rattle.doc_values.specs.Places.{label_at, kids_at}
 use Rattle.doc_values.specs.declared.kind.Kind.TheVariants as kind
 use Rattle.doc_values.proofs.Lookups.{kids-formed}
+use Rattle.value_compare.specs.Entries.{may_find_entry}
 use Rattle.value_compare.specs.Held.{holds_of, holds_in, may_find}
 use Rattle.value_compare.specs.Pairs.{same_items, same_entries, entry_of}
 use Rattle.value_compare.specs.Values.{value_at}
 use Rattle.value_compare.proofs.Forests.{from_index, is_at, key_value, no_key}
 use Rattle.value_compare.proofs.MapKeys.{maps_differ, maps_by_entries}
-use Rattle.value_compare.proofs.Equalities.{items_turn, items_end, items_differ, entries_turn, entries_end, by_kind, as_key, item_held, item_plain, entry_held, entry_plain, has_equal_at, no_entry_of, no_entry_none}
+use Rattle.value_compare.proofs.Equalities.{items_turn, items_end, items_differ, entries_turn, entries_end, by_kind, as_key, item_held, item_apart, entry_held, entry_apart, entry_value_apart, has_equal_at, no_entry_of, no_entry_none}
 use Rattle.value_compare.proofs.equal.+equal.Goals as goal
 
 pub pair_values-returns-in-Null-clause-answer : goal.pair_values-returns-in-Null-clause-answer
@@ -65,9 +66,9 @@ are_items_equal-returns-in_err-pair_values-clause-no_memory t c h =
     let i = c.loop-i.i in
     let in_left : i < count f = omega (arith, c.loop-i-test.true, c.len-i-end.ensures) in
     let in_right : i < count g = omega (arith, in_left, c.if-len.false, c.len.ensures, c.len-2.ensures) in
+    let mine = is_at l.doc.now l.id i c.child.result.doc.now c.child.result.id l.within in_left c.child.ensures.doc c.child.ensures.id in
     let other = is_at r.doc.now r.id i c.child-in-loop-i.result.doc.now c.child-in-loop-i.result.id r.within in_right c.child-in-loop-i.ensures.doc c.child-in-loop-i.ensures.id in
-    let v = value_at c.child.result.doc.now c.child.result.id in
-    absurd (true≢false (sym (c.in_err-pair_values.ensures.no_memory (ap (may_find v) other.value ∙ item_plain g i v in_right h))))
+    absurd (true≢false (sym (c.in_err-pair_values.ensures.no_memory (ap₂ may_find mine.value other.value ∙ item_apart f g i in_left in_right h))))
 
 pub are_items_equal-returns-then-not-is_yes-clause-answer : goal.are_items_equal-returns-then-not-is_yes-clause-answer
 are_items_equal-returns-then-not-is_yes-clause-answer t c =
@@ -116,6 +117,15 @@ are_entries_equal-is_entry_equal-requires t c =
     let mine = is_at l.doc.now l.id i c.child.result.doc.now c.child.result.id l.within in_left c.child.ensures.doc c.child.ensures.id in
     let less = mine.less in
     (omega (arith, less, c.decreases), ap (λ book. holds_in book (kids_at r.doc.now r.id)) c.loop-i.invariant.0 ∙ c.requires.held)
+
+pub are_entries_equal-returns-in_err-is_entry_equal-clause-no_memory : goal.are_entries_equal-returns-in_err-is_entry_equal-clause-no_memory
+are_entries_equal-returns-in_err-is_entry_equal-clause-no_memory t c h =
+    let l = c.args.left in let r = c.args.right in
+    let f = kids_at l.doc.now l.id in let g = kids_at r.doc.now r.id in
+    let i = c.loop-i.i in
+    let in_left : i < count f = omega (arith, c.loop-i-test.true, c.len-i-end.ensures) in
+    let mine = is_at l.doc.now l.id i c.child.result.doc.now c.child.result.id l.within in_left c.child.ensures.doc c.child.ensures.id in
+    absurd (true≢false (sym (c.in_err-is_entry_equal.ensures.no_memory (ap₂ (λ (m : Label) v. may_find_entry m.key v g) mine.label mine.value ∙ entry_apart f g i in_left h))))
 
 pub are_entries_equal-returns-then-not-branch-clause-answer : goal.are_entries_equal-returns-then-not-branch-clause-answer
 are_entries_equal-returns-then-not-branch-clause-answer t c =
@@ -178,7 +188,7 @@ is_entry_equal-returns-in_err-pair_values-in-Some-get-clause-no_memory t c h =
     let g = kids_at r.doc.now r.id in
     let other = c.in-Some-get.other in
     let found = key_value r.doc.now r.id other.id c.in-Some.key.now other.doc.now r.within c.in-Some-get.ensures.0 c.in-Some-get.ensures.1 in
-    absurd (true≢false (sym (c.in_err-pair_values-in-Some-get.ensures.no_memory (entry_plain g (Some c.in-Some.key.now) (value_at e.doc.now e.id) (value_at other.doc.now other.id) h found))))
+    absurd (true≢false (sym (c.in_err-pair_values-in-Some-get.ensures.no_memory (entry_value_apart (label_at e.doc.now e.id).key c.in-Some.key.now (value_at e.doc.now e.id) (value_at other.doc.now other.id) g c.in-Some.ensures found h))))
 
 pub is_entry_equal-returns-in_ok-pair_values-in-Some-get-clause-answer : goal.is_entry_equal-returns-in_ok-pair_values-in-Some-get-clause-answer
 is_entry_equal-returns-in_ok-pair_values-in-Some-get-clause-answer t c =
