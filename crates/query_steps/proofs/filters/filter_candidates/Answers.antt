@@ -1,0 +1,28 @@
+use Rattle.std.proofs.Common.{◌≡◌, ◌++◌, true, List, ap, ◌∙◌, Vec, Global}
+use Rattle.query_steps.proofs.FilterWalks.{tried-found, tried-other, lost-row, known-refs}
+use Rattle.std.specs.List.{list_all}
+use Rattle.guard_syntax.specs.declared.row.Ref.{Ref}
+use Rattle.value_compare.specs.Known.{is_known_ref}
+use Rattle.value_compare.specs.Stores.{see_store}
+use Rattle.query_steps.proofs.filters.filter_candidates.Goals as goal
+use Rattle.query_steps.proofs.filters.filter_candidates.Goals.{in-Found+in_ok-tried+in_ok-extend_from_slice, in_default}
+
+pub loop-row-preserved : goal.loop-row-preserved
+loop-row-preserved c = elim c.match-row.branch [
+  | in-Found+in_ok-tried+in_ok-extend_from_slice w ↦
+      let mine = w.in_ok-tried.tried.items in
+      let put : c.match-row.refs.items ≡ c.loop-row.refs.items ++ mine =
+      ap (λ (v : Vec Ref Global). v.items) w.refs-is ∙ w.in_ok-extend_from_slice.ensures.items ∙ ap (λ (rs : List Ref). c.loop-row.refs.items ++ rs) w.deref.ensures.value
+      in
+      record {
+        tried = tried-found (see_store c.args.store.now) c.args.after_key c.args.before.now c.loop-row.row-index _ c.loop-row-test.true w.in-Found.value c.loop-row.refs.items c.match-row.refs.items mine
+            w.in-Found.is w.in_ok-tried.ensures.candidates put c.loop-row.invariant.tried;
+        known = known-refs (see_store c.args.store.now) c.loop-row.refs.items c.match-row.refs.items mine put c.loop-row.invariant.known w.in_ok-tried.ensures.known;
+      }
+  | in_default w ↦
+      let same = ap (λ (v : Vec Ref Global). v.items) w.refs-is in
+      record {
+        tried = same ∙ tried-other (see_store c.args.store.now) c.args.after_key c.args.before.now c.loop-row.row-index _ c.loop-row-test.true c.loop-row.refs.items (lost-row _ w.in_default.not-Found) c.loop-row.invariant.tried;
+        known = ap (list_all (is_known_ref (see_store c.args.store.now))) same ∙ c.loop-row.invariant.known;
+      }
+]

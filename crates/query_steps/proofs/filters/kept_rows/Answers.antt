@@ -1,0 +1,42 @@
+use Rattle.std.proofs.Common.{◌≡◌, ◌++◌, ◌+◌, ◌-◌, List, length, take, drop, ap, sym, ◌∙◌, Bor, Vec, Global}
+use Rattle.guard_syntax.specs.declared.row.Row.{Row}
+use Rattle.guard_syntax.specs.declared.row.Verdict.{Verdict}
+use Rattle.value_compare.specs.Stores.{see_store}
+use Rattle.query_steps.specs.Filters.{candidates_in, filtered}
+use Rattle.query_steps.proofs.FilterWalks.{kept_pairs, kept-found, left-found, known-pairs, kept-other, left-other, known-row, other-row, rest-is}
+use Rattle.query_steps.proofs.filters.kept_rows.Goals as goal
+use Rattle.query_steps.proofs.filters.kept_rows.Goals.{in-Found+in_ok-tried-in-Found+in_ok-kept-in-Found+in_ok-extend_from_slice-in-Found, in-Missing+in_ok-push-in-Missing}
+
+pub loop-row-preserved : goal.loop-row-preserved
+loop-row-preserved c = elim c.match-row.branch [
+  | in-Found+in_ok-tried-in-Found+in_ok-kept-in-Found+in_ok-extend_from_slice-in-Found w ↦
+      let tried = w.in_ok-tried-in-Found.tried.items in
+      let put : c.match-row.rows.items ≡ c.loop-row.rows.items ++ kept_pairs tried c.loop-row.left.now =
+      ap (λ (v : Vec Row Global). v.items) w.rows-is ∙ w.in_ok-extend_from_slice-in-Found.ensures.items
+      ∙ ap (λ (rows : List Row). c.loop-row.rows.items ++ rows) (w.deref-in-Found.ensures.value ∙ w.in_ok-kept-in-Found.ensures ∙ ap (λ rs. kept_pairs rs c.loop-row.left.now) w.deref.ensures.value)
+      in
+      let cut : c.match-row.left.now ≡ take (length c.loop-row.left.now - w.len.result) (drop w.len.result c.loop-row.left.now) = ap (λ (s : Bor (List Verdict)). s.now) w.left-is in
+      let rest = rest-is w.len.result (length tried) c.loop-row.left.now c.match-row.left.now (w.len.ensures ∙ sym w.deref.ensures.len ∙ ap length w.deref.ensures.value) cut in
+      let k = see_store c.args.store.now in
+      let behind = drop (c.loop-row.row-index + 1) c.args.before.now in
+      record {
+        kept = kept-found k c.args.after_key c.args.before.now c.loop-row.row-index _ c.loop-row-test.true w.in-Found.value tried c.args.verdicts.now c.loop-row.left.now c.loop-row.rows.items c.match-row.rows.items
+            w.in-Found.is w.in_ok-tried-in-Found.ensures.candidates put c.loop-row.invariant.kept
+            ∙ ap (λ (vs : List Verdict). c.match-row.rows.items ++ filtered k c.args.after_key behind vs) (sym rest);
+        left = ap length rest ∙ left-found k c.args.after_key c.args.before.now c.loop-row.row-index _ c.loop-row-test.true w.in-Found.value tried c.loop-row.left.now
+            w.in-Found.is w.in_ok-tried-in-Found.ensures.candidates c.loop-row.invariant.left;
+        known = known-pairs k c.loop-row.rows.items c.match-row.rows.items tried c.loop-row.left.now put c.loop-row.invariant.known w.in_ok-tried-in-Found.ensures.known;
+      }
+  | in-Missing+in_ok-push-in-Missing w ↦
+      let put = ap (λ (v : Vec Row Global). v.items) w.rows-is ∙ w.in_ok-push-in-Missing.ensures.items in
+      let same = ap (λ (s : Bor (List Verdict)). s.now) w.left-is in
+      let k = see_store c.args.store.now in
+      let behind = drop (c.loop-row.row-index + 1) c.args.before.now in
+      record {
+        kept = kept-other k c.args.after_key c.args.before.now c.loop-row.row-index _ c.loop-row-test.true c.args.verdicts.now c.loop-row.left.now c.loop-row.rows.items c.match-row.rows.items
+            (other-row _ w.in-Missing.is) put c.loop-row.invariant.kept
+            ∙ ap (λ (vs : List Verdict). c.match-row.rows.items ++ filtered k c.args.after_key behind vs) (sym same);
+        left = ap length same ∙ left-other k c.args.after_key c.args.before.now c.loop-row.row-index _ c.loop-row-test.true c.loop-row.left.now (other-row _ w.in-Missing.is) c.loop-row.invariant.left;
+        known = known-row k c.args.before.now c.loop-row.row-index _ c.loop-row.rows.items c.match-row.rows.items c.loop-row-test.true put c.loop-row.invariant.known c.requires.known;
+      }
+]

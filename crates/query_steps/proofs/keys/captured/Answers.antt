@@ -1,0 +1,14 @@
+use Rattle.std.proofs.Common.{ap, ◌∙◌}
+use Rattle.std.specs.List.{flat_map, list_all}
+use Rattle.std.proofs.lemmas.List.{take_all}
+use Rattle.value_compare.specs.Known.{is_known}
+use Rattle.value_compare.specs.Stores.{see_store}
+use Rattle.query_steps.specs.Keys.{captured_row}
+use Rattle.query_steps.proofs.KnownRows.{keys-captured}
+use Rattle.query_steps.proofs.keys.captured.Goals as goal
+
+pub returns-clause-known : goal.returns-clause-known
+returns-clause-known c =
+    let k = see_store c.args.store.now in
+    ap (list_all (is_known k)) (c.loop-row.invariant ∙ ap (flat_map (captured_row k)) (take_all c.loop-row.row-index c.args.rows.now c.loop-row-test.false))
+    ∙ keys-captured k c.args.rows.now c.requires.known

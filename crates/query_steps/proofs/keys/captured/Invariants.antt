@@ -1,0 +1,8 @@
+use Rattle.std.proofs.Common.{◌≡◌, take}
+use Rattle.std.specs.List.{flat_map}
+use Rattle.value_compare.specs.Stores.{see_store}
+use Rattle.query_steps.specs.Keys.{captured_row}
+use Rattle.query_steps.proofs.keys.captured.Given as goal
+
+abbrev pub invariant-loop-row : goal.invariant-loop-row
+invariant-loop-row l = l.keys.items ≡ flat_map (captured_row (see_store l.store)) (take l.row-index l.rows)

@@ -1,0 +1,7 @@
+use Rattle.name_table.specs.Files.{file_of}
+use Rattle.query_steps.proofs.StepPlaces.{steps-within}
+use Rattle.query_steps.proofs.sites.step_of.Goals as goal
+
+pub returns-clause-within : goal.returns-clause-within
+returns-clause-within c =
+    steps-within (file_of c.args.file.now) c.args.site c.in-Step.query.now c.in-Step.index c.as_slice.result.now c.as_slice.ensures.value c.in-Step.ensures c.requires.step

@@ -1,0 +1,10 @@
+use Rattle.std.proofs.Common.{◌≡◌, ◌++◌, map, filter, take}
+use Rattle.guard_syntax.specs.declared.row.Ref.{Ref}
+use Rattle.guard_syntax.specs.declared.row.Row.TheVariants.{Found}
+use Rattle.value_compare.specs.Stores.{see_store}
+use Rattle.query_steps.specs.Keys.{passes}
+use Rattle.query_steps.specs.Reached.{key_of}
+use Rattle.query_steps.proofs.steps.push_passing.Given as goal
+
+abbrev pub invariant-loop-entry : goal.invariant-loop-entry
+invariant-loop-entry l = l.into.items ≡ l.initial.into.items ++ map Found (filter (λ (r : Ref). passes (see_store l.store) l.op l.not l.rights (Found (key_of r))) (take l.entry-index l.entries))

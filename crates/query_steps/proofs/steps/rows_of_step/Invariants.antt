@@ -1,0 +1,9 @@
+use Rattle.std.proofs.Common.{◌≡◌, take}
+use Rattle.std.specs.List.{flat_map}
+use Rattle.guard_syntax.specs.Seen.{see_step}
+use Rattle.value_compare.specs.Stores.{see_store}
+use Rattle.query_steps.specs.Steps.{found_step, on_found}
+use Rattle.query_steps.proofs.steps.rows_of_step.Given as goal
+
+abbrev pub invariant-loop-row : goal.invariant-loop-row
+invariant-loop-row l = l.given.items ≡ flat_map (on_found (found_step (see_store l.store) l.last l.rows (see_step l.step))) (take l.row-index l.before)

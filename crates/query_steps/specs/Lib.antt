@@ -1,0 +1,9 @@
+pub mod Filters
+pub mod Keys
+pub mod Kinds
+pub mod Meaning
+pub mod Nodes
+pub mod Places
+pub mod Reached
+pub mod Steps
+pub mod Verdicts

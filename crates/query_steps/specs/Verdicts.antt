@@ -1,0 +1,65 @@
+-- Verdicts: of a test on rows, of a disjunction, of a conjunction and of a block.
+use Rattle.std.specs.Prelude.{Bool, true, false, not, List, [], ◌∷◌, if◌then◌else◌}
+use Rattle.std.specs.List.{list_all, list_any}
+use Rattle.guard_syntax.specs.declared.row.Ref.{Ref}
+use Rattle.guard_syntax.specs.declared.row.Row.{Row}
+use Rattle.guard_syntax.specs.declared.row.Row.TheVariants.{Found, Missing, Unmade}
+use Rattle.guard_syntax.specs.declared.row.Verdict.{Verdict}
+use Rattle.guard_syntax.specs.declared.row.Verdict.TheVariants.{Pass, Fail, Skip}
+
+abbrev pub is_pass : Verdict → Bool
+is_pass Pass = true
+is_pass Fail = false
+is_pass Skip = false
+
+abbrev pub is_fail : Verdict → Bool
+is_fail Pass = false
+is_fail Fail = true
+is_fail Skip = false
+
+abbrev pub is_skip : Verdict → Bool
+is_skip Pass = false
+is_skip Fail = false
+is_skip Skip = true
+
+abbrev pub told : Bool → Verdict
+told holds = if holds then Pass else Fail
+
+-- a conjunction is FAIL if a part is FAIL, else PASS if a part is PASS, else SKIP
+abbrev pub conjunction : List Verdict → Verdict
+conjunction parts = if list_any is_fail parts then Fail else (if list_any is_pass parts then Pass else Skip)
+
+-- a disjunction is PASS if a part is PASS, else FAIL if a part is FAIL, else SKIP
+abbrev pub disjunction : List Verdict → Verdict
+disjunction parts = if list_any is_pass parts then Pass else (if list_any is_fail parts then Fail else Skip)
+
+-- a test with no left row is SKIP; else it is PASS if each row passes, with `some` if one does, and else FAIL
+abbrev pub test_verdict : (any : Bool) → (Row → Bool) → List Row → Verdict
+test_verdict any holds [] = Skip
+test_verdict true holds (row ∷ rows) = told (list_any holds (row ∷ rows))
+test_verdict false holds (row ∷ rows) = told (list_all holds (row ∷ rows))
+
+abbrev pub is_found : Row → Bool
+is_found (Found v) = true
+is_found (Missing v site) = false
+is_found (Unmade call) = false
+
+-- a set test `empty` is PASS if no row was found and else FAIL, `!empty` the opposite; it is never SKIP, and `some` changes nothing
+abbrev pub set_verdict : (negated : Bool) → List Row → Verdict
+set_verdict true rows = told (list_any is_found rows)
+set_verdict false rows = told (not (list_any is_found rows))
+
+-- a block on one row: the verdict of its body with the value as the current one; FAIL where nothing was found
+abbrev pub block_row : (Ref → Verdict) → Row → Verdict
+block_row body (Found v) = body v
+block_row body (Missing v site) = Fail
+block_row body (Unmade call) = Fail
+
+-- a block is the conjunction over its rows, with `some` the disjunction
+abbrev pub block_verdict : (any : Bool) → List Verdict → Verdict
+block_verdict true rows = disjunction rows
+block_verdict false rows = conjunction rows
+
+-- what stands under conditions is SKIP unless they are PASS
+abbrev pub guarded_by : (conditions inner : Verdict) → Verdict
+guarded_by conditions inner = if is_pass conditions then inner else Skip

@@ -1,0 +1,78 @@
+//! Tests of rows, the keys that a key filter tests and those that a capture binds.
+ghost use Rattle.std.specs.Prelude.{◌≡◌, ◌++◌, List, Option, true, false, IfOk, OnOk};
+ghost use Rattle.std.specs.List.{flat_map, list_all};
+ghost use Rattle.value_compare.specs.Books.{IsBookOf};
+ghost use Rattle.value_compare.specs.Known.{is_known};
+ghost use Rattle.value_compare.specs.Pairs.{is_order};
+ghost use Rattle.value_compare.specs.RowTests.{row_test_of};
+ghost use Rattle.value_compare.specs.Stores.{see_store};
+ghost use Rattle.value_compare.specs.Values.{Value};
+ghost use Rattle.query_steps.specs.Keys.{captured_row, passes};
+
+use crate::reached::key_of;
+use guard_syntax::{Op, Row};
+use std::alloc::{AllocError, Global};
+use value_compare::{PatternBook, Store, row_test};
+
+/// Whether a left row passes a test against right rows. An order operator has one meaning, negated or not: no rule file
+/// spells its negation.
+pub fn row_passes(
+    alloc: Global,
+    op: Op,
+    not: bool,
+    left: &Row,
+    rights: &[Row],
+    store: &Store<'_, '_>,
+    book: &PatternBook,
+) -> Result<bool, AllocError>
+    requires left { is_known (see_store store.now) left.now ≡ true }
+    requires rights { list_all (is_known (see_store store.now)) rights.now ≡ true }
+    requires book { IsBookOf (see_store store.now).file book.now }
+    ensures { IfOk result (λ p. p ≡ passes (see_store store.now) op not rights.now left.now) }
+{
+    row_test(alloc, op, is_negated(op, not), left, rights, store, book)
+}
+
+/// Whether a test is negated. An order operator never is: the tables of tests have one answer for both.
+fn is_negated(op: Op, not: bool) -> bool
+    ensures order { is_order op ≡ true → result ≡ false }
+    ensures same { (left : Option Value) (right : List (Option Value))
+        → row_test_of op result left right ≡ row_test_of op not left right }
+{
+    match op {
+        Op::Lt | Op::Le | Op::Gt | Op::Ge => false,
+        _ => not,
+    }
+}
+
+/// The keys that a capture binds: those of the found rows that are entries of a map, in order. A row that is itself a key
+/// gives none.
+pub fn captured(alloc: Global, rows: &[Row], store: &Store<'_, '_>) -> Result<Vec<Row>, AllocError>
+    requires known { list_all (is_known (see_store store.now)) rows.now ≡ true }
+    ensures rows { IfOk result (λ keys. keys.items ≡ flat_map (captured_row (see_store store.now)) rows.now) }
+    ensures known { IfOk result (λ keys. list_all (is_known (see_store store.now)) keys.items ≡ true) }
+{
+    let mut keys = Vec::new(alloc);
+    for row in rows {
+        push_captured(row, store, &mut keys)?;
+    }
+    Ok(keys)
+}
+
+/// Adds the key of a row, where a capture binds one.
+fn push_captured(row: &Row, store: &Store<'_, '_>, keys: &mut Vec<Row>) -> Result<(), AllocError>
+    ensures { OnOk result (keys.new.items ≡ keys.old.items ++ captured_row (see_store store.now) row.now) }
+{
+    let value = match row {
+        Row::Found(value) if !value.key => *value,
+        _ => return Ok(()),
+    };
+    let key = key_of(value);
+    match store.view(key) {
+        None => Ok(()),
+        Some(_) => {
+            keys.push(Row::Found(key))?;
+            Ok(())
+        }
+    }
+}

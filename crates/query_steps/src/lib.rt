@@ -1,0 +1,16 @@
+//! Steps of queries: what each gives for the rows before it, which values a filter tries, the keys that a capture binds,
+//! and the rows of a type block. The meaning of whole queries and parts is defined here too; the crate gives one step.
+#![tactic(auto)]
+
+pub mod filters;
+pub mod keys;
+mod reached;
+pub mod resources;
+pub mod sites;
+pub mod steps;
+
+pub use filters::{filter_candidates, kept_rows};
+pub use keys::{captured, row_passes};
+pub use resources::type_rows;
+pub use sites::{candidates, kinds, step};
+pub use steps::rows_of_step;
