@@ -1,6 +1,7 @@
 mod Closing
+mod Conjoined
+mod Judged
 mod Judging
-mod KeyRows
 mod Loads
 mod OneEnd
 mod OnePattern
@@ -9,8 +10,10 @@ mod OneSyntax
 mod OneTemplate
 mod Outcomes
 mod Patternless
+mod Placed
 mod Plainness
 mod Refusing
 mod RequestWords
+mod RowsInTurn
 mod Standing
 mod Walks

@@ -1,5 +1,5 @@
 -- How a call ends: the words and the contents of the files decide the end, what out takes and what err takes.
-use Rattle.std.specs.Prelude.{ℕ, ◌≡◌, ◌++◌, ◌⊎◌, List, [], Option, Some, None, IsSome, IsNone, All, Bool, true, false, map, if◌then◌else◌}
+use Rattle.std.specs.Prelude.{ℕ, ◌≡◌, ◌++◌, ◌⊎◌, List, [], Option, Some, None, IsSome, IsNone, All, Bool, true, false, if◌then◌else◌}
 use Rattle.std.specs.List.{list_any}
 use Rattle.std.specs.Option.{ForSome}
 use Rattle.doc_values.specs.Tree.{Forest}
@@ -10,8 +10,9 @@ use Rattle.value_compare.specs.Finds.{pattern_in}
 use Rattle.value_compare.specs.Patterns.{Written, patterns_of}
 use Rattle.guard_run.specs.Request.{Request, request, ends_in_json}
 use Rattle.guard_run.specs.Inputs.{IsRuleFile, RefusesRules, IsTemplate, RefusesTemplate}
-use Rattle.guard_run.specs.Verdicts.{known_of, rule_verdict, is_fail}
+use Rattle.query_steps.specs.Verdicts.{is_fail}
 use Rattle.guard_run.specs.Report.{report}
+use Rattle.guard_run.specs.Reported.{known_of, verdicts_of}
 use Rattle.guard_run.specs.Lines.{usage_line, refusal_line, read_fault_line, pattern_line, write_fault_line, memory_line}
 use Rattle.guard_run.specs.declared.ends.End.{End}
 use Rattle.guard_run.specs.declared.ends.End.TheVariants as end_is
@@ -44,11 +45,11 @@ pub record Ended : Type 0 where
 abbrev pub refused : List ℕ → Refusal → Ended
 refused bytes refusal = record { how = end_is.Refused refusal; out = []; err = refusal_line bytes refusal }
 
--- a template that was judged by a rule file: Failed if a rule's verdict is FAIL, else Passed; out takes the report
+-- a template that was judged by a rule file: Failed if a reported verdict is FAIL, else Passed; out takes the report
 abbrev pub judged : File → Forest → Ended
 judged rules tree = record {
-  how = if list_any is_fail (map (rule_verdict (known_of rules tree)) rules.rules) then end_is.Failed else end_is.Passed;
-  out = report (known_of rules tree) rules.rules;
+  how = if list_any is_fail (verdicts_of (known_of rules tree) rules) then end_is.Failed else end_is.Passed;
+  out = report (known_of rules tree) rules;
   err = [];
 }
 

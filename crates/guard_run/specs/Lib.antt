@@ -1,11 +1,11 @@
 pub mod End
 pub mod Inputs
 pub mod Lines
+pub mod Listed
 pub mod Outcome
 pub mod Plain
 pub mod Report
+pub mod Reported
 pub mod Request
-pub mod Rows
-pub mod Verdicts
 pub mod Within
 pub mod Writing

@@ -31,9 +31,8 @@ pub enum RefusalKind {
 /// Why a file is refused.
 #[derive(Debug, Drop)]
 pub enum Refusal {
-    /// The rules are a rule file, but hold what is not evaluated so far: anything but rules without conditions,
-    /// parameters and lets, whose parts are single tests without `some`, with a query of key steps on the left side,
-    /// and a literal or such a query on the right side, if there is one.
+    /// The rules are a rule file, but hold what is not evaluated so far: a let, a variable, a capture, parameters, or a
+    /// reference or call of a rule or a function.
     RulesUnread,
     /// The template's name does not end in `.json`.
     DataUnread,

@@ -3,11 +3,15 @@
 //! The top call `guard` does the program's work over any files and any sinks. Its contract is the program's promise: the
 //! words and the contents of the files decide the end, what the standard output takes and what the standard error takes,
 //! and in place of that end come only counted faults of the files, of the maker of patterns and of the sinks, and want of
-//! memory. It stands on the lexer and the parser of rules, on the test of their names, on the tests on rows, on the reader
-//! of JSON, on located trees and on the traits of files, sinks and makers of patterns. Only `main` knows the system: it
-//! hands the words, the real files and streams and the crate of regular expressions to `guard`.
+//! memory. It stands on the lexer and the parser of rules, on the test of their names, on the steps of queries, on the tests
+//! on rows, on the reader of JSON, on located trees and on the traits of files, sinks and makers of patterns. Only `main`
+//! knows the system: it hands the words, the real files and streams and the crate of regular expressions to `guard`.
+//!
+//! The whole language is read. What is evaluated of it so far is said in `rules`.
 #![tactic(auto)]
 
+#[cfg(test)]
+mod block_tests;
 mod ends;
 mod guard;
 mod laws;
@@ -17,6 +21,7 @@ mod outcome;
 mod read;
 mod refused;
 mod report;
+mod rows;
 mod rules;
 #[cfg(test)]
 mod tests;

@@ -1,19 +1,25 @@
-ghost use Rattle.std.specs.Prelude.{◌≡◌, ◌+◌, ◌-◌, ◌++◌, ◌<◌, ◌^◌, false, List, [], ◌∷◌, map, string_bytes, codes, decimal, count_by, OnOk, IfOk, if◌then◌else◌};
+ghost use Rattle.std.specs.Prelude.{◌≡◌, ◌+◌, ◌++◌, ◌<◌, ◌^◌, ◌-◌, false, List, [], ◌∷◌, map, string_bytes, codes, decimal, count_by, OnOk, IfOk};
 ghost use Rattle.std.specs.List.{list_any};
+ghost use Rattle.guard_syntax.specs.Seen.{see_rule, see_disj, disj_list};
 ghost use Rattle.name_table.specs.Files.{file_of};
+ghost use Rattle.name_table.specs.Pieces.{pieces_disjs};
 ghost use Rattle.value_compare.specs.Books.{IsBookOf};
+ghost use Rattle.value_compare.specs.Stores.{see_store};
 ghost use Rattle.value_compare.specs.Values.{has_pattern};
-ghost use Rattle.guard_run.specs.Verdicts.{known_of, rule_verdict, is_pass, is_fail, is_skip};
+ghost use Rattle.query_steps.specs.Verdicts.{is_pass, is_fail, is_skip};
+ghost use Rattle.guard_run.specs.Listed.{AreLinesOf};
 ghost use Rattle.guard_run.specs.Report.{verdict_word, report};
+ghost use Rattle.guard_run.specs.Reported.{Reported, known_of, of_rule, of_loose, verdicts_of};
+ghost use Rattle.guard_run.specs.Within.{StandsIn};
 
-use crate::verdicts::verdict_of_rule;
+use crate::verdicts::{verdict_of_loose, verdict_of_rule};
 use doc_values::Doc;
-use guard_syntax::Verdict;
+use guard_syntax::{Disj, Rule, Verdict};
 use name_table::RuleFile;
 use std::alloc::{AllocError, Global};
 use value_compare::{PatternBook, Store};
 
-/// How many rules have each verdict.
+/// How many of the verdicts are each.
 #[derive(Clone, Copy, Debug)]
 struct Tally {
     pass: usize,
@@ -22,7 +28,7 @@ struct Tally {
 }
 
 impl Tally {
-    /// Counts one rule more.
+    /// Counts one verdict more.
     fn add(&mut self, verdict: Verdict)
         requires { self.old.pass + self.old.fail + self.old.skip < 2 ^ 64 - 1 }
         ensures pass { self.new.pass ≡ self.old.pass + count_by is_pass (verdict ∷ []) }
@@ -39,16 +45,36 @@ impl Tally {
     }
 }
 
+/// The lines of verdicts, and how many of these are each.
+#[derive(Drop)]
+struct Lines {
+    text: String,
+    tally: Tally,
+}
+
+impl Lines {
+    /// Appends the line of a verdict under its name, and counts it.
+    fn add(&mut self, name: &str, verdict: Verdict) -> Result<(), AllocError>
+        requires { self.old.tally.pass + self.old.tally.fail + self.old.tally.skip < 2 ^ 64 - 1 }
+        ensures { (before : List Reported) → AreLinesOf self.old before
+            → OnOk result (AreLinesOf self.new (before ++ (record { name = name.now; verdict = verdict } ∷ []))) }
+    {
+        push_line(&mut self.text, name, verdict)?;
+        self.tally.add(verdict);
+        Ok(())
+    }
+}
+
 /// A template that was judged by rules.
 #[derive(Debug, Drop)]
 pub(crate) struct Judgement {
-    /// Whether a rule is FAIL.
+    /// Whether a reported verdict is FAIL.
     pub failed: bool,
-    /// A line for each rule, and the total line.
+    /// A line for each verdict, and the total line.
     pub report: String,
 }
 
-/// Judges a template by each rule of a file, whose patterns are in the book.
+/// Judges a template by a file, whose patterns are in the book.
 pub(crate) fn judge(
     alloc: Global,
     file: &RuleFile,
@@ -57,31 +83,70 @@ pub(crate) fn judge(
 ) -> Result<Judgement, AllocError>
     requires plain { has_pattern doc.now ≡ false }
     requires book { IsBookOf (file_of file.now) book.now }
-    ensures report { IfOk result (λ j. string_bytes j.report ≡ report (known_of (file_of file.now) doc.now) (file_of file.now).rules) }
+    ensures report { IfOk result (λ j. string_bytes j.report ≡ report (known_of (file_of file.now) doc.now) (file_of file.now)) }
     ensures failed { IfOk result (λ j.
-        j.failed ≡ list_any is_fail (map (rule_verdict (known_of (file_of file.now) doc.now)) (file_of file.now).rules)) }
+        j.failed ≡ list_any is_fail (verdicts_of (known_of (file_of file.now) doc.now) (file_of file.now))) }
 {
     let store = Store::new(alloc, doc, file);
-    let mut report = String::new(alloc);
-    let mut tally = Tally {
-        pass: 0,
-        fail: 0,
-        skip: 0,
-    };
-    for rule in &file.raw().rules {
-        let verdict = verdict_of_rule(alloc, rule, &store, book)?;
-        push_rule_line(&mut report, rule.name.as_str(), verdict)?;
-        tally.add(verdict);
-    }
-    push_total_line(&mut report, &tally)?;
+    let mut lines = rule_lines(alloc, &file.raw().rules, &store, book)?;
+    add_loose(alloc, &mut lines, &file.raw().loose, &store, book)?;
+    let Lines { mut text, tally } = lines;
+    push_total_line(&mut text, &tally)?;
     Ok(Judgement {
         failed: tally.fail > 0,
-        report,
+        report: text,
     })
 }
 
-/// Appends the line of a rule.
-fn push_rule_line(report: &mut String, name: &str, verdict: Verdict) -> Result<(), AllocError>
+/// The lines of the rules of the store's file.
+fn rule_lines(
+    alloc: Global,
+    rules: &[Rule],
+    store: &Store<'_, '_>,
+    book: &PatternBook,
+) -> Result<Lines, AllocError>
+    requires rules { (see_store store.now).file.rules ≡ map see_rule rules.now }
+    requires book { IsBookOf (see_store store.now).file book.now }
+    ensures { IfOk result (λ lines. AreLinesOf lines (map (of_rule (see_store store.now)) (see_store store.now).file.rules)) }
+{
+    let mut lines = Lines {
+        text: String::new(alloc),
+        tally: Tally {
+            pass: 0,
+            fail: 0,
+            skip: 0,
+        },
+    };
+    for rule in rules {
+        let verdict = verdict_of_rule(alloc, rule, store, book)?;
+        lines.add(rule.name.as_str(), verdict)?;
+    }
+    Ok(lines)
+}
+
+/// Appends the line `default`, where there are parts outside the rules of the store's file.
+fn add_loose(
+    alloc: Global,
+    lines: &mut Lines,
+    parts: &[Disj],
+    store: &Store<'_, '_>,
+    book: &PatternBook,
+) -> Result<(), AllocError>
+    requires placed { StandsIn (see_store store.now).file (pieces_disjs (disj_list (map see_disj parts.now))) }
+    requires book { IsBookOf (see_store store.now).file book.now }
+    requires room { lines.old.tally.pass + lines.old.tally.fail + lines.old.tally.skip < 2 ^ 64 - 1 }
+    ensures { (before : List Reported) → AreLinesOf lines.old before
+        → OnOk result (AreLinesOf lines.new (before ++ of_loose (see_store store.now) (disj_list (map see_disj parts.now)))) }
+{
+    if parts.is_empty() {
+        return Ok(());
+    }
+    let verdict = verdict_of_loose(alloc, parts, store, book)?;
+    lines.add("default", verdict)
+}
+
+/// Appends the line of a verdict under its name.
+fn push_line(report: &mut String, name: &str, verdict: Verdict) -> Result<(), AllocError>
     ensures { OnOk result (string_bytes report.new ≡ string_bytes report.old ++ (codes "rule "
         ++ name.now ++ codes " " ++ verdict_word verdict ++ codes "\n")) }
 {
