@@ -1,7 +1,13 @@
-pub mod Colons
-pub mod Gains
-pub mod Looks
-pub mod Placed
-pub mod Rests
-pub mod Roots
-pub mod Scalars
+mod BlockGains
+mod BlockRests
+mod Colons
+mod Forms
+mod Gains
+mod KeyEnds
+mod Looks
+mod Placed
+mod Quiet
+mod Rests
+mod Roots
+mod Scalars
+mod Stacks

@@ -1,11 +1,11 @@
 -- What a place has ahead, by the line there and the lines below.
 use Rattle.std.proofs.Common.{◌≡◌, ℕ, ◌+◌, Bool, true, false, ◌||◌, ◌&&◌, not, cond, nat_lt, List, drop, length, refl, sym, ap, ◌∙◌, subst}
 use Rattle.std.proofs.lemmas.List.{drop-drop}
-use Rattle.yaml_scalars.specs.Lines.{lines, begins_with, is_white, is_blank, lead, indent, past_white, is_mark}
+use Rattle.yaml_scalars.specs.Lines.{lines, begins_with, is_white, is_blank, lead, indent, past_white, is_end, is_mark}
 use Rattle.yaml_scalars.specs.Walk.{line_at, behind}
 use Rattle.yaml_scalars.proofs.Places.{lines_are, line_drop, lead_le}
-use Rattle.yaml_blocks.specs.declared.ahead.Token.TheVariants.{Other}
-use Rattle.yaml_blocks.specs.Ahead.{token_of, token_at, mark_of, has_return, is_passed, is_tabbed, content_ahead, line_ahead, rest_ahead}
+use Rattle.yaml_blocks.specs.declared.ahead.Token.TheVariants.{Tag, Other}
+use Rattle.yaml_blocks.specs.Ahead.{is_name, begins_letter, tag_token, token_of, token_at, mark_of, has_return, is_passed, is_tabbed, content_ahead, line_ahead, rest_ahead}
 
 -- behind the white space in front of a line
 pub white_rest : (bytes : List ℕ) (start n : ℕ) → n ≡ lead is_white (line_at (drop start bytes)) → past_white (line_at (drop start bytes)) ≡ line_at (drop (start + n) bytes)
@@ -29,23 +29,23 @@ passed_comment fresh bytes n blank e may mark =
 
 -- the first of the lines from a place on
 pub first_line : (bytes : List ℕ) (flow : Bool) (at : ℕ) → line_ahead flow (length bytes) (lines at (drop at bytes))
-    ≡ (cond (is_mark (line_at (drop at bytes))) (token_at (mark_of (line_at (drop at bytes))) true at)
+    ≡ (cond (is_mark (line_at (drop at bytes))) (token_at (mark_of (line_at (drop at bytes))) true 0 at)
     (cond (is_passed true (line_at (drop at bytes))) (line_ahead flow (length bytes) (behind at (drop at bytes))) (content_ahead flow at (line_at (drop at bytes)))))
 first_line bytes flow at = ap (line_ahead flow (length bytes)) (lines_are at (drop at bytes))
 
 pub first_rest : (bytes : List ℕ) (flow : Bool) (at : ℕ) → rest_ahead flow (length bytes) (lines at (drop at bytes))
     ≡ (cond (is_passed false (line_at (drop at bytes))) (line_ahead flow (length bytes) (behind at (drop at bytes)))
-    (token_at (token_of flow (past_white (line_at (drop at bytes)))) false (at + lead is_white (line_at (drop at bytes)))))
+    (token_at (token_of flow (past_white (line_at (drop at bytes)))) false (lead is_white (line_at (drop at bytes))) (at + lead is_white (line_at (drop at bytes)))))
 first_rest bytes flow at = ap (rest_ahead flow (length bytes)) (lines_are at (drop at bytes))
 
-pub marked : (bytes : List ℕ) (flow : Bool) (at : ℕ) → is_mark (line_at (drop at bytes)) ≡ true → line_ahead flow (length bytes) (lines at (drop at bytes)) ≡ token_at (mark_of (line_at (drop at bytes))) true at
+pub marked : (bytes : List ℕ) (flow : Bool) (at : ℕ) → is_mark (line_at (drop at bytes)) ≡ true → line_ahead flow (length bytes) (lines at (drop at bytes)) ≡ token_at (mark_of (line_at (drop at bytes))) true 0 at
 marked bytes flow at e = first_line bytes flow at
-    ∙ ap (λ b. cond b (token_at (mark_of (line_at (drop at bytes))) true at) (cond (is_passed true (line_at (drop at bytes))) (line_ahead flow (length bytes) (behind at (drop at bytes))) (content_ahead flow at (line_at (drop at bytes))))) e
+    ∙ ap (λ b. cond b (token_at (mark_of (line_at (drop at bytes))) true 0 at) (cond (is_passed true (line_at (drop at bytes))) (line_ahead flow (length bytes) (behind at (drop at bytes))) (content_ahead flow at (line_at (drop at bytes))))) e
 
 unmarked : (bytes : List ℕ) (flow : Bool) (at : ℕ) → is_mark (line_at (drop at bytes)) ≡ false → line_ahead flow (length bytes) (lines at (drop at bytes))
     ≡ (cond (is_passed true (line_at (drop at bytes))) (line_ahead flow (length bytes) (behind at (drop at bytes))) (content_ahead flow at (line_at (drop at bytes))))
 unmarked bytes flow at e = first_line bytes flow at
-    ∙ ap (λ b. cond b (token_at (mark_of (line_at (drop at bytes))) true at) (cond (is_passed true (line_at (drop at bytes))) (line_ahead flow (length bytes) (behind at (drop at bytes))) (content_ahead flow at (line_at (drop at bytes))))) e
+    ∙ ap (λ b. cond b (token_at (mark_of (line_at (drop at bytes))) true 0 at) (cond (is_passed true (line_at (drop at bytes))) (line_ahead flow (length bytes) (behind at (drop at bytes))) (content_ahead flow at (line_at (drop at bytes))))) e
 
 pub filled : (bytes : List ℕ) (flow : Bool) (at : ℕ) → is_mark (line_at (drop at bytes)) ≡ false → is_passed true (line_at (drop at bytes)) ≡ false
     → line_ahead flow (length bytes) (lines at (drop at bytes)) ≡ content_ahead flow at (line_at (drop at bytes))
@@ -56,20 +56,38 @@ pub below_passed : (bytes : List ℕ) (flow : Bool) (at : ℕ) → is_mark (line
 below_passed bytes flow at e f = unmarked bytes flow at e ∙ ap (λ b. cond b (line_ahead flow (length bytes) (behind at (drop at bytes))) (content_ahead flow at (line_at (drop at bytes)))) f
 
 pub rest_filled : (bytes : List ℕ) (flow : Bool) (at : ℕ) → is_passed false (line_at (drop at bytes)) ≡ false
-    → rest_ahead flow (length bytes) (lines at (drop at bytes)) ≡ token_at (token_of flow (past_white (line_at (drop at bytes)))) false (at + lead is_white (line_at (drop at bytes)))
+    → rest_ahead flow (length bytes) (lines at (drop at bytes)) ≡ token_at (token_of flow (past_white (line_at (drop at bytes)))) false (lead is_white (line_at (drop at bytes))) (at + lead is_white (line_at (drop at bytes)))
 rest_filled bytes flow at f = first_rest bytes flow at
-    ∙ ap (λ b. cond b (line_ahead flow (length bytes) (behind at (drop at bytes))) (token_at (token_of flow (past_white (line_at (drop at bytes)))) false (at + lead is_white (line_at (drop at bytes))))) f
+    ∙ ap (λ b. cond b (line_ahead flow (length bytes) (behind at (drop at bytes))) (token_at (token_of flow (past_white (line_at (drop at bytes)))) false (lead is_white (line_at (drop at bytes))) (at + lead is_white (line_at (drop at bytes))))) f
 
 pub rest_passed : (bytes : List ℕ) (flow : Bool) (at : ℕ) → is_passed false (line_at (drop at bytes)) ≡ true
     → rest_ahead flow (length bytes) (lines at (drop at bytes)) ≡ line_ahead flow (length bytes) (behind at (drop at bytes))
 rest_passed bytes flow at f = first_rest bytes flow at
-    ∙ ap (λ b. cond b (line_ahead flow (length bytes) (behind at (drop at bytes))) (token_at (token_of flow (past_white (line_at (drop at bytes)))) false (at + lead is_white (line_at (drop at bytes))))) f
+    ∙ ap (λ b. cond b (line_ahead flow (length bytes) (behind at (drop at bytes))) (token_at (token_of flow (past_white (line_at (drop at bytes)))) false (lead is_white (line_at (drop at bytes))) (at + lead is_white (line_at (drop at bytes))))) f
 
-pub untabbed : (flow : Bool) (at : ℕ) (bytes : List ℕ) → is_tabbed flow bytes ≡ false → content_ahead flow at bytes ≡ token_at (token_of flow (past_white bytes)) true (at + lead is_white bytes)
-untabbed flow at bytes e = ap (λ b. cond b (token_at Other true (at + indent bytes)) (token_at (token_of flow (past_white bytes)) true (at + lead is_white bytes))) e
+pub untabbed : (flow : Bool) (at : ℕ) (bytes : List ℕ) → is_tabbed flow bytes ≡ false → content_ahead flow at bytes ≡ token_at (token_of flow (past_white bytes)) true (lead is_white bytes) (at + lead is_white bytes)
+untabbed flow at bytes e = ap (λ b. cond b (token_at Other true (indent bytes) (at + indent bytes)) (token_at (token_of flow (past_white bytes)) true (lead is_white bytes) (at + lead is_white bytes))) e
 
 -- the token behind the white space in front of a line
 pub white_token : (bytes : List ℕ) (flow fresh : Bool) (start n : ℕ) → n ≡ lead is_white (line_at (drop start bytes))
-    → token_at (token_of flow (line_at (drop (start + n) bytes))) fresh (start + n) ≡ token_at (token_of flow (past_white (line_at (drop start bytes)))) fresh (start + lead is_white (line_at (drop start bytes)))
+    → token_at (token_of flow (line_at (drop (start + n) bytes))) fresh n (start + n) ≡ token_at (token_of flow (past_white (line_at (drop start bytes)))) fresh (lead is_white (line_at (drop start bytes))) (start + lead is_white (line_at (drop start bytes)))
 white_token bytes flow fresh start n e =
-    ap (λ t. token_at (token_of flow t) fresh (start + n)) (sym (white_rest bytes start n e)) ∙ ap (λ k. token_at (token_of flow (past_white (line_at (drop start bytes)))) fresh (start + k)) e
+    ap (λ t. token_at (token_of flow t) fresh n (start + n)) (sym (white_rest bytes start n e)) ∙ ap (λ k. token_at (token_of flow (past_white (line_at (drop start bytes)))) fresh k (start + k)) e
+
+-- a tag's name is told by how many letters and digits stand there, and what stands behind it
+name_rest : (bytes : List ℕ) (start n : ℕ) → n ≡ lead is_name (line_at (drop start bytes)) → drop (lead is_name (line_at (drop start bytes))) (line_at (drop start bytes)) ≡ line_at (drop (start + n) bytes)
+name_rest bytes start n e =
+    line_drop (lead is_name (line_at (drop start bytes))) (drop start bytes) (lead_le is_name (line_at (drop start bytes)))
+    ∙ ap line_at (drop-drop (lead is_name (line_at (drop start bytes))) start bytes ∙ ap (λ k. drop (start + k) bytes) (sym e))
+
+pub tag_ends : (bytes : List ℕ) (start n : ℕ) → n ≡ lead is_name (line_at (drop start bytes)) → is_end (line_at (drop (start + n) bytes)) ≡ false → tag_token (line_at (drop start bytes)) ≡ Other
+tag_ends bytes start n e h = by_letter (begins_letter (line_at (drop start bytes))) (ap is_end (name_rest bytes start n e) ∙ h) where
+  by_letter : (q : Bool) → is_end (drop (lead is_name (line_at (drop start bytes))) (line_at (drop start bytes))) ≡ false
+      → cond (q && is_end (drop (lead is_name (line_at (drop start bytes))) (line_at (drop start bytes)))) (Tag (lead is_name (line_at (drop start bytes)))) Other ≡ Other
+  by_letter true k = ap (λ b. cond b (Tag (lead is_name (line_at (drop start bytes)))) Other) k
+  by_letter false k = refl
+
+pub tag_stands : (bytes : List ℕ) (start n : ℕ) → n ≡ lead is_name (line_at (drop start bytes)) → begins_letter (line_at (drop start bytes)) ≡ true → is_end (line_at (drop (start + n) bytes)) ≡ true → tag_token (line_at (drop start bytes)) ≡ Tag n
+tag_stands bytes start n e l h =
+    ap (λ b. cond (b && is_end (drop (lead is_name (line_at (drop start bytes))) (line_at (drop start bytes)))) (Tag (lead is_name (line_at (drop start bytes)))) Other) l
+    ∙ ap (λ b. cond b (Tag (lead is_name (line_at (drop start bytes)))) Other) (ap is_end (name_rest bytes start n e) ∙ h) ∙ ap Tag (sym e)

@@ -1,98 +1,76 @@
 -- The root, and the document's beginning and end.
-use Rattle.std.proofs.Common.{◌≡◌, ℕ, ◌<◌, ◌≤◌, ◌+◌, ◌-◌, ◌*◌, ◌⊎◌, inl, inr, Bool, true, false, List, [], ◌∷◌, Option, length, refl, sym, ap, ◌∙◌, subst, true≢false, not, arith}
+use Rattle.std.proofs.Common.{◌≡◌, ℕ, ◌<◌, ◌≤◌, ◌+◌, ◌-◌, ◌*◌, ◌⊎◌, inl, inr, Bool, true, false, List, [], ◌∷◌, None, length, refl, sym, ap, ◌∙◌, subst, not, arith}
 use Rattle.std.proofs.lemmas.Bool.Decides.{nat_tests}
 use Rattle.std.specs.Prelude.{Result, Ok, Err}
 use Rattle.std.specs.Str.{IsCharBoundary, IsUtf8}
 use Rattle.std.proofs.lemmas.Str.{IsCharBoundary-past_char}
 use Rattle.doc_values.specs.declared.kind.Kind.TheVariants as kind
-use Rattle.doc_values.specs.Tree.{Forest, count}
-use Rattle.doc_values.specs.Unfinished.{Level, Unfinished, start, with_value, with_open, open_kind, IsComplete}
-use Rattle.yaml_scalars.specs.Scalar.{is_typed, begins_order_mark}
-use Rattle.yaml_scalars.proofs.OneKind.{same_kind}
+use Rattle.doc_values.specs.Tree.{Forest, Nil, Node, count}
+use Rattle.doc_values.specs.Unfinished.{Unfinished, start, with_value, IsComplete}
+use Rattle.yaml_scalars.specs.Scalar.{begins_order_mark}
 use Rattle.yaml_blocks.specs.declared.ahead.Ahead.{Ahead}
 use Rattle.yaml_blocks.specs.declared.ahead.Token.{Token}
-use Rattle.yaml_blocks.specs.declared.ahead.Token.TheVariants.{End, Dots, Opens}
+use Rattle.yaml_blocks.specs.declared.ahead.Token.TheVariants.{End, Dots, Dash, Tag, Opens}
+use Rattle.yaml_blocks.specs.declared.form.Form.{Form}
+use Rattle.yaml_blocks.specs.declared.form.Form.TheVariants.{Root}
 use Rattle.yaml_blocks.specs.declared.stage.Stage.{Stage}
 use Rattle.yaml_blocks.specs.declared.stage.Stage.TheVariants as stage
 use Rattle.yaml_blocks.specs.declared.stage.Position.{Position}
 use Rattle.yaml_blocks.specs.declared.refusal.YamlRefusal.{YamlRefusal}
 use Rattle.yaml_blocks.specs.declared.refusal.YamlRefusal.TheVariants.{Unread, NoMemory}
 use Rattle.yaml_blocks.specs.Ahead.{ahead}
-use Rattle.yaml_blocks.specs.Flow.{at_root, starts_scalar, IsRoot, IsEnd, IsStart, IsFlowYaml}
-use Rattle.yaml_blocks.specs.Rest.{Ends, Begins}
-use Rattle.yaml_blocks.specs.Steps.{IsPlaced, IsSeen, Rest, Fits, reached, Gives, leaf_text, Holds, Opened, Completes}
+use Rattle.yaml_blocks.specs.Nodes.{leaf, starts_scalar}
+use Rattle.yaml_blocks.specs.Yaml.{IsRoot, IsEnd, IsStart, IsYaml}
+use Rattle.yaml_blocks.specs.Rest.{Ends, Awaits, Begins}
+use Rattle.yaml_blocks.specs.Steps.{Rest, Fits, reached, Gives, Goes, NoNode, Completes}
 use Rattle.yaml_blocks.proofs.Gains.{goes}
-use Rattle.yaml_blocks.proofs.Rests.{no_scalar, begins_scalar, scalar_begins, begins_opens, opens_begins, begins_missing, missing_begins, begins_none}
+use Rattle.yaml_blocks.proofs.BlockRests.{root_missing}
 
-abbrev NoOpening : Token → Type 0
-NoOpening t = (m : Bool) → t ≡ Opens m → ⊥
-
-abbrev NoDocumentEnd : Token → Type 0
-NoDocumentEnd t = (t ≡ End → ⊥) × (t ≡ Dots → ⊥)
-
+-- a document ends where there is no root
 abbrev Ending : Token → Type 0
 Ending t = (t ≡ End) ⊎ (t ≡ Dots)
 
-ending_shut : (t : Token) → Ending t → NoOpening t
-ending_shut t (inl e) m h = absurd (let no : Opens m ≡ End = sym h ∙ e in cc)
-ending_shut t (inr e) m h = absurd (let no : Opens m ≡ Dots = sym h ∙ e in cc)
+ending_none : (a : Ahead) → Ending a.token → NoNode Root a
+ending_none a (inl e) = ((λ h. (ap starts_scalar e, (λ m o. absurd (let no : End ≡ Opens m = sym e ∙ o in cc)))), (λ h d. absurd (let no : End ≡ Dash = sym e ∙ d in cc)), (λ h len t. absurd (let no : End ≡ Tag len = sym e ∙ t in cc)))
+ending_none a (inr e) = ((λ h. (ap starts_scalar e, (λ m o. absurd (let no : Dots ≡ Opens m = sym e ∙ o in cc)))), (λ h d. absurd (let no : Dots ≡ Dash = sym e ∙ d in cc)), (λ h len t. absurd (let no : Dots ≡ Tag len = sym e ∙ t in cc)))
 
-ending_start : (t : Token) → Ending t → starts_scalar t ≡ false
-ending_start t (inl e) = ap starts_scalar e
-ending_start t (inr e) = ap starts_scalar e
+begins_missing : (text : List ℕ) (i : ℕ) (v : Forest) → Ending (ahead text false i).token → Begins text i v → Ends text [] [] (Node (leaf kind.Null [] None (length text)) Nil Nil) i v
+begins_missing text i v e (l, kids, j, inl (el, ek, ej), en, d) = (subst (IsEnd text) ej en, d ∙ ap (λ g. Node g kids Nil) el ∙ ap (λ g. Node (leaf kind.Null [] None (length text)) g Nil) ek)
+begins_missing text i v e (l, kids, j, inr n, en, d) = absurd (root_missing text [] [] Nil None i v refl (ending_none (ahead text false i) e) (l, kids, j, n, (en, d)))
 
--- the root is missing
-null_root : (text : List ℕ) (w : Unfinished) (at : ℕ) (r : Result Position YamlRefusal) → IsCharBoundary text at → Ending (ahead text false at).token
-    → Completes at (with_value kind.Null [] (length text) start) w r → Gives text (Begins text at) 0 w r
-null_root text w at (Ok p) b c (es, ej, ew) =
-    goes text (Begins text at) 0 w (with_value kind.Null [] (length text) start) p stage.After at es ej ew
-    (λ v. ((λ h. begins_missing text at v (ending_shut (ahead text false at).token c) (no_scalar text (ahead text false at) (ending_start (ahead text false at).token c)) h), (λ h. missing_begins text at v h)))
-    refl b (omega arith)
-null_root text w at (Err Unread) b c h = absurd h
-null_root text w at (Err NoMemory) b c h = tt
+missing_begins : (text : List ℕ) (i : ℕ) (v : Forest) → Ends text [] [] (Node (leaf kind.Null [] None (length text)) Nil Nil) i v → Begins text i v
+missing_begins text i v (en, d) = (leaf kind.Null [] None (length text), Nil, i, inl (refl, refl, refl), en, d)
+
+null_root : (text : List ℕ) (w : Unfinished) (at : ℕ) (r : Result Position YamlRefusal) → Ending (ahead text false at).token → IsCharBoundary text at → Completes at (with_value kind.Null [] (length text) start) w r → Gives text (Begins text at) 0 [] w r
+null_root text w at (Ok p) c b (es, ej, ew) =
+    goes text (Begins text at) 0 [] [] w (with_value kind.Null [] (length text) start) p stage.After at es ej refl ew (λ v. ((λ h. begins_missing text at v c h), (λ h. missing_begins text at v h))) ((tt, tt), refl) b (omega arith)
+null_root text w at (Err Unread) c b h = absurd h
+null_root text w at (Err NoMemory) c b h = tt
 
 pub null_root_gives : (text : List ℕ) (u w : Unfinished) (at : ℕ) (next : Ahead) (r : Result Position YamlRefusal) → u ≡ start → next ≡ ahead text false at → IsCharBoundary text at → Ending next.token
-    → Completes at (with_value kind.Null [] (length text) u) w r → Gives text (Begins text at) 0 w r
+    → Completes at (with_value kind.Null [] (length text) u) w r → Gives text (Begins text at) 0 [] w r
 null_root_gives text u w at next r s e b c h =
-    null_root text w at r b (subst (λ a. Ending a.token) e c) (subst (λ z. Completes at (with_value kind.Null [] (length text) z) w r) s h)
+    null_root text w at r (subst (λ a. Ending a.token) e c) b (subst (λ z. Completes at (with_value kind.Null [] (length text) z) w r) s h)
 
--- it begins with a bracket
-open_root : (text : List ℕ) (w : Unfinished) (at : ℕ) (map : Bool) (r : Result Position YamlRefusal) → IsPlaced text at (ahead text false at) → (ahead text false at).token ≡ Opens map → (ahead text false at).fresh ≡ true
-    → Opened map (ahead text false at) start w r → Gives text (Begins text at) 0 w r
-open_root text w at map (Ok p) pl c f (es, ej, ew, d) =
-    goes text (Begins text at) 0 w (with_open (open_kind map) (ahead text false at).at start) p stage.Entry (ahead text false at).behind es ej ew
-    (λ v. ((λ h. begins_opens text at v map c (no_scalar text (ahead text false at) (ap starts_scalar c)) h), (λ h. opens_begins text at v map c f h)))
-    (omega arith, refl) pl.2 (omega arith)
-open_root text w at map (Err Unread) pl c f e = absurd (omega (arith, e))
-open_root text w at map (Err NoMemory) pl c f h = tt
+-- or there is one
+begins_node : (text : List ℕ) (i : ℕ) (v : Forest) → (Ending (ahead text false i).token → ⊥) → Begins text i v → Awaits text [] [] Nil None i v
+begins_node text i v n (l, kids, j, inl (el, ek, ej), inl e, d) = absurd (n (inl (ap (λ k. (ahead text false k).token) (sym ej) ∙ e)))
+begins_node text i v n (l, kids, j, inl (el, ek, ej), inr (e, g), d) = absurd (n (inr (ap (λ k. (ahead text false k).token) (sym ej) ∙ e)))
+begins_node text i v n (l, kids, j, inr h, en, d) = (l, kids, j, h, (en, d))
 
-pub open_root_gives : (text : List ℕ) (u w : Unfinished) (at : ℕ) (next : Ahead) (map : Bool) (r : Result Position YamlRefusal) → u ≡ start → IsSeen text false at next → next.token ≡ Opens map → next.fresh ≡ true
-    → Opened map next u w r → Gives text (Begins text at) 0 w r
-open_root_gives text u w at next map r s (e, pl) c f h =
-    subst (λ a. IsPlaced text at a → a.token ≡ Opens map → a.fresh ≡ true → Opened map a start w r → Gives text (Begins text at) 0 w r) (sym e)
-    (λ q d n g. open_root text w at map r q d n g) pl c f (subst (λ z. Opened map next z w r) s h)
+node_begins : (text : List ℕ) (i : ℕ) (v : Forest) → Awaits text [] [] Nil None i v → Begins text i v
+node_begins text i v (l, kids, j, h, (en, d)) = (l, kids, j, inr h, en, d)
 
--- it is a scalar
-scalar_root : (text : List ℕ) (w : Unfinished) (at : ℕ) (r : Result Position YamlRefusal) → NoDocumentEnd (ahead text false at).token → NoOpening (ahead text false at).token → (ahead text false at).fresh ≡ true
-    → Holds text at_root (ahead text false at) start w r → Gives text (Begins text at) 0 w r
-scalar_root text w at (Ok p) c shut f (t, k, (st, hk, lt, b), es, ew) =
-    goes text (Begins text at) 0 w (with_value k (leaf_text k t) (ahead text false at).at start) p stage.After p.at es refl ew
-    (λ v. ((λ h. begins_scalar text at p.at v t k st (λ l hl. same_kind (is_typed at_root text (ahead text false at).at) t l k hl hk) c.0 c.1 shut h), (λ h. scalar_begins text at p.at v t k f st hk h)))
-    refl b (omega arith)
-scalar_root text w at (Err Unread) c shut f m = λ v h. begins_none text at v c.0 c.1 (λ g. (shut, m)) h
-scalar_root text w at (Err NoMemory) c shut f h = tt
+root_node : (text : List ℕ) (w : Unfinished) (at : ℕ) (p : Position) → (Ending (ahead text false at).token → ⊥) → IsCharBoundary text at → w ≡ start → p.stage ≡ stage.Value → p.at ≡ at → Goes text (Begins text at) 0 [] w p
+root_node text w at p n b ew es ej =
+    goes text (Begins text at) 0 [] [] w start p stage.Value at es ej refl ew (λ v. ((λ h. begins_node text at v n h), (λ h. node_begins text at v h))) ((tt, tt), (λ e. absurd (cc)), (refl, refl), tt) b (omega arith)
 
-pub scalar_root_gives : (text : List ℕ) (u w : Unfinished) (at : ℕ) (next : Ahead) (r : Result Position YamlRefusal) → u ≡ start → next ≡ ahead text false at → NoDocumentEnd next.token → NoOpening next.token → next.fresh ≡ true
-    → Holds text at_root next u w r → Gives text (Begins text at) 0 w r
-scalar_root_gives text u w at next r s e c shut f h =
-    subst (λ a. NoDocumentEnd a.token → NoOpening a.token → a.fresh ≡ true → Holds text at_root a start w r → Gives text (Begins text at) 0 w r) (sym e)
-    (λ d n q g. scalar_root text w at r d n q g) c shut f (subst (λ z. Holds text at_root next z w r) s h)
-
--- nothing stands behind something else on its line
-pub stale_root : (text : List ℕ) (at : ℕ) (next : Ahead) → next ≡ ahead text false at → NoDocumentEnd next.token → next.fresh ≡ false → (v : Forest) → Begins text at v → ⊥
-stale_root text at next e c f v h =
-    let d : NoDocumentEnd (ahead text false at).token = subst (λ a. NoDocumentEnd a.token) e c in
-    begins_none text at v d.0 d.1 (λ g. absurd (true≢false (sym g ∙ sym (ap (λ a. a.fresh) e) ∙ f))) h
+pub root_goes : (text : List ℕ) (w : Unfinished) (at : ℕ) (next : Ahead) (p : Position) → next ≡ ahead text false at → (next.token ≡ End → ⊥) → (next.token ≡ Dots → ⊥) → IsCharBoundary text at → w ≡ start → p.stage ≡ stage.Value → p.at ≡ at
+    → Goes text (Begins text at) 0 [] w p
+root_goes text w at next p e m n b ew es ej = root_node text w at p (λ h. by_token h) b ew es ej where
+  by_token : Ending (ahead text false at).token → ⊥
+  by_token (inl h) = m (ap (λ a. a.token) e ∙ h)
+  by_token (inr h) = n (ap (λ a. a.token) e ∙ h)
 
 -- ---- the beginning
 
@@ -102,11 +80,11 @@ one_start text i j (inl (a, b)) (inr (c, d)) = absurd (c a)
 one_start text i j (inr (a, b)) (inl (c, d)) = absurd (a c)
 one_start text i j (inr (a, b)) (inr (c, d)) = b ∙ sym d
 
-pub flow_begins : (text : List ℕ) (i : ℕ) (v : Forest) → IsStart text i → IsFlowYaml text v → Begins text i v
-flow_begins text i v s (l, kids, i', j, s', r, e, h) = (l, kids, j, subst (λ n. IsRoot text l kids n j) (one_start text i' i s' s) r, e, h)
+pub yaml_begins : (text : List ℕ) (i : ℕ) (v : Forest) → IsStart text i → IsYaml text v → Begins text i v
+yaml_begins text i v s (l, kids, i', j, s', r, e, h) = (l, kids, j, subst (λ n. IsRoot text l kids n j) (one_start text i' i s' s) r, e, h)
 
-pub begins_flow : (text : List ℕ) (i : ℕ) (v : Forest) → IsStart text i → Begins text i v → IsFlowYaml text v
-begins_flow text i v s (l, kids, j, r, e, h) = (l, kids, i, j, s, r, e, h)
+pub begins_yaml : (text : List ℕ) (i : ℕ) (v : Forest) → IsStart text i → Begins text i v → IsYaml text v
+begins_yaml text i v s (l, kids, j, r, e, h) = (l, kids, i, j, s, r, e, h)
 
 -- a text may be cut behind a byte order mark
 pub order_mark_cut : (bytes : List ℕ) → IsUtf8 bytes → begins_order_mark bytes ≡ true → IsCharBoundary bytes 3
@@ -123,56 +101,30 @@ order_mark_cut (a ∷ b ∷ c ∷ bs) u h =
 
 -- ---- the end
 
-abbrev pub Same : List ℕ → Position → Unfinished → Type 0
-Same text p u = (v : Forest) → (IsFlowYaml text v → Rest text p.stage u p.at v) × (Rest text p.stage u p.at v → IsFlowYaml text v)
+abbrev pub Same : List ℕ → Position → List Form → Unfinished → Type 0
+Same text p fs u = (v : Forest) → (IsYaml text v → Rest text p.stage fs u p.at v) × (Rest text p.stage fs u p.at v → IsYaml text v)
 
-at_end : (s : Stage) (outer : List Level) (done : Forest) (key : Option (List ℕ)) → length outer ≡ 0 → Fits s (record { outer = outer; done = done; key = key }) → (s ≡ stage.After) × (outer ≡ [])
-at_end s (x ∷ xs) done key e f = absurd (omega (arith, e))
-at_end stage.After [] done key e f = (refl, refl)
-at_end stage.Entry [] done key e f = absurd (let l = f.0 in omega (arith, l))
-at_end stage.Value [] done key e f = absurd (let l = f.0 in true≢false (sym l))
-
-one_tree_count : (text : List ℕ) (v : Forest) → IsFlowYaml text v → count v ≡ 1
+one_tree_count : (text : List ℕ) (v : Forest) → IsYaml text v → count v ≡ 1
 one_tree_count text v (l, kids, i, j, s, r, e, h) = ap count h
 
-whole_end : (text : List ℕ) (p : Position) (outer : List Level) (done : Forest) (key : Option (List ℕ)) → p.stage ≡ stage.After → outer ≡ [] → Same text p (record { outer = outer; done = done; key = key }) → IsEnd text p.at → IsFlowYaml text done
-whole_end text p outer done key s e h d =
-    (h done).1 (subst (λ st. Rest text st (record { outer = outer; done = done; key = key }) p.at done) (sym s) (subst (λ o. Ends text o done p.at done) (sym e) (d, refl)))
+whole_is : (text : List ℕ) (p : Position) (fs : List Form) (u : Unfinished) → p.stage ≡ stage.Whole → Same text p fs u → (v : Forest) → (IsYaml text v → v ≡ u.done) × (v ≡ u.done → IsYaml text v)
+whole_is text p fs u e h v = subst (λ s. (IsYaml text v → Rest text s fs u p.at v) × (Rest text s fs u p.at v → IsYaml text v)) e (h v)
 
-open_end : (text : List ℕ) (p : Position) (outer : List Level) (done : Forest) (key : Option (List ℕ)) → p.stage ≡ stage.After → outer ≡ [] → Same text p (record { outer = outer; done = done; key = key }) → (IsEnd text p.at → ⊥)
-    → (v : Forest) → IsFlowYaml text v → ⊥
-open_end text p outer done key s e h d v y =
-    let g : Ends text outer done p.at v = subst (λ st. Rest text st (record { outer = outer; done = done; key = key }) p.at v) s ((h v).0 y) in
-    let f : Ends text [] done p.at v = subst (λ o. Ends text o done p.at v) e g in
-    d f.0
+pub whole_tree : (text : List ℕ) (p : Position) (fs : List Form) (u : Unfinished) → p.stage ≡ stage.Whole → Same text p fs u → IsYaml text u.done × ((v : Forest) → IsYaml text v → v ≡ u.done)
+whole_tree text p fs u e h = ((whole_is text p fs u e h u.done).1 refl, (λ v y. (whole_is text p fs u e h v).0 y))
 
-pub ends_whole : (text : List ℕ) (p : Position) (u : Unfinished) → length u.outer ≡ 0 → Fits p.stage u → Same text p u → IsEnd text p.at → IsFlowYaml text u.done × IsComplete u
-ends_whole text p u e f h d =
-    let a = at_end p.stage u.outer u.done u.key e f in
-    let y : IsFlowYaml text u.done = whole_end text p u.outer u.done u.key a.0 a.1 h d in
-    (y, (a.1, one_tree_count text u.done y))
-
-pub ends_open : (text : List ℕ) (p : Position) (u : Unfinished) → length u.outer ≡ 0 → Fits p.stage u → Same text p u → (IsEnd text p.at → ⊥) → (v : Forest) → IsFlowYaml text v → ⊥
-ends_open text p u e f h d v y = let a = at_end p.stage u.outer u.done u.key e f in open_end text p u.outer u.done u.key a.0 a.1 h d v y
+pub whole_complete : (text : List ℕ) (p : Position) (fs : List Form) (u : Unfinished) → p.stage ≡ stage.Whole → Same text p fs u → Fits p.stage fs u p.at → IsComplete u
+whole_complete text p fs u e h f = (subst (λ s. Fits s fs u p.at) e f, one_tree_count text u.done (whole_tree text p fs u e h).0)
 
 -- how far reading can come
-reached_most : (s : Stage) (at n : ℕ) → at ≤ n → reached s at ≤ 2 * n + 1
+reached_most : (s : Stage) (at n : ℕ) → at ≤ n → reached s at ≤ 2 * n + 3
 reached_most stage.Entry at n l = omega (arith, l)
 reached_most stage.Value at n l = omega (arith, l)
 reached_most stage.After at n l = omega (arith, l)
+reached_most stage.Whole at n l = omega (arith, l)
 
-pub nearer : (s t : Stage) (i j n : ℕ) → j ≤ n → reached s i < reached t j → 2 * n + 2 - reached t j < 2 * n + 2 - reached s i
+pub nearer : (s t : Stage) (i j n : ℕ) → j ≤ n → reached s i < reached t j → 2 * n + 4 - reached t j < 2 * n + 4 - reached s i
 nearer s t i j n l h = let m = reached_most t j n l in omega (arith, m, h)
-
-one_end : (text : List ℕ) (p : Position) (outer : List Level) (done : Forest) (key : Option (List ℕ)) → p.stage ≡ stage.After → outer ≡ [] → Same text p (record { outer = outer; done = done; key = key })
-    → (v : Forest) → IsFlowYaml text v → v ≡ done
-one_end text p outer done key s e h v y =
-    let g : Ends text outer done p.at v = subst (λ st. Rest text st (record { outer = outer; done = done; key = key }) p.at v) s ((h v).0 y) in
-    let f : Ends text [] done p.at v = subst (λ o. Ends text o done p.at v) e g in
-    f.1
-
-pub ends_only : (text : List ℕ) (p : Position) (u : Unfinished) → length u.outer ≡ 0 → Fits p.stage u → Same text p u → (v : Forest) → IsFlowYaml text v → v ≡ u.done
-ends_only text p u e f h v y = let a = at_end p.stage u.outer u.done u.key e f in one_end text p u.outer u.done u.key a.0 a.1 h v y
 
 -- ---- the whole text
 
@@ -180,14 +132,14 @@ pub not_true : (b : Bool) → not b ≡ true → b ≡ false
 not_true true e = sym e
 not_true false e = refl
 
-pub not_false : (b : Bool) → not b ≡ false → b ≡ true
-not_false true e = refl
-not_false false e = sym e
+pub root_refused : (text : List ℕ) (i n : ℕ) (fs : List Form) (w : Unfinished) (r : YamlRefusal) → IsStart text i → Gives text (Begins text i) n fs w (Err r) → r ≡ Unread → (tree : Forest) → IsYaml text tree → ⊥
+root_refused text i n fs w Unread s g e = λ tree y. g tree (yaml_begins text i tree s y)
+root_refused text i n fs w NoMemory s g e = absurd (cc)
 
-pub root_refused : (text : List ℕ) (i n : ℕ) (w : Unfinished) (r : YamlRefusal) → IsStart text i → Gives text (Begins text i) n w (Err r) → r ≡ Unread → (tree : Forest) → IsFlowYaml text tree → ⊥
-root_refused text i n w Unread s g e = λ tree y. g tree (flow_begins text i tree s y)
-root_refused text i n w NoMemory s g e = absurd (cc)
+pub step_refused : (text : List ℕ) (p : Position) (fs gs : List Form) (u w : Unfinished) (n : ℕ) (r : YamlRefusal) → Same text p fs u → Gives text (Rest text p.stage fs u p.at) n gs w (Err r) → r ≡ Unread → (tree : Forest) → IsYaml text tree → ⊥
+step_refused text p fs gs u w n Unread h g e = λ tree y. g tree ((h tree).0 y)
+step_refused text p fs gs u w n NoMemory h g e = absurd (cc)
 
-pub step_refused : (text : List ℕ) (p : Position) (u w : Unfinished) (n : ℕ) (r : YamlRefusal) → Same text p u → Gives text (Rest text p.stage u p.at) n w (Err r) → r ≡ Unread → (tree : Forest) → IsFlowYaml text tree → ⊥
-step_refused text p u w n Unread h g e = λ tree y. g tree ((h tree).0 y)
-step_refused text p u w n NoMemory h g e = absurd (cc)
+pub root_same : (text : List ℕ) (i : ℕ) (fs : List Form) (w : Unfinished) (p : Position) → IsStart text i → fs ≡ [] → Goes text (Begins text i) 0 [] w p → Same text p fs w × Fits p.stage fs w p.at × IsCharBoundary text p.at
+root_same text i fs w p s e g =
+    subst (λ z. Same text p z w × Fits p.stage z w p.at × IsCharBoundary text p.at) (sym e) ((λ v. ((λ h. (g.0 v).0 (yaml_begins text i v s h)), (λ h. begins_yaml text i v s ((g.0 v).1 h)))), g.1, g.2)

@@ -19,14 +19,13 @@ use Rattle.yaml_scalars.specs.Scalar.{scalar_at, is_typed, HasKind, Answers, IsE
 use Rattle.yaml_blocks.specs.declared.ahead.Ahead.{Ahead}
 use Rattle.yaml_blocks.specs.declared.refusal.YamlRefusal.{YamlRefusal}
 use Rattle.yaml_blocks.specs.declared.refusal.YamlRefusal.TheVariants.{Unread, NoMemory}
-use Rattle.yaml_blocks.specs.Flow.{starts_scalar, scalar_ahead}
+use Rattle.yaml_blocks.specs.Nodes.{starts_scalar, scalar_ahead}
 use Rattle.yaml_blocks.specs.Refused.{of_scalar}
 use Rattle.yaml_blocks.specs.Steps.{Found, Missed, Finds, Holds, leaf_text}
-use Rattle.yaml_blocks.proofs.Rests.{no_scalar}
 
 -- none at another token
 pub missed_other : (text : List ℕ) (s : Setting) (a : Ahead) → starts_scalar a.token ≡ false → Missed text s a
-missed_other text s a e = λ t j st. no_scalar text a e s t j st
+missed_other text s a e = λ t j st. absurd (let no : Fails a.at ≡ Stands t j = sym (ap (λ b. cond b (scalar_at s text a.at) (Fails a.at)) e) ∙ st in cc)
 
 -- none at the text's end
 end_fails : (s : Setting) (size at : ℕ) (fresh : Bool) (d : List ℕ) (t : List ℕ) (j : ℕ) → d ≡ []

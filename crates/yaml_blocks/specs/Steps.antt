@@ -1,59 +1,184 @@
 -- What each part of the reader gives, said by what may still follow. No public clause names this file.
-use Rattle.std.specs.Prelude.{ℕ, ◌+◌, ◌*◌, ◌<◌, ◌≤◌, ◌≡◌, Bool, true, List, [], ◌∷◌, length, Option, None, Some, Result, Ok, Err, if◌then◌else◌}
+use Rattle.std.specs.Prelude.{ℕ, suc, ◌+◌, ◌*◌, ◌<◌, ◌≤◌, ◌≡◌, Bool, true, false, List, [], ◌∷◌, length, Option, None, Some, Result, Ok, Err, if◌then◌else◌, nat_lt, nat_eq, not, ◌||◌, ◌&&◌}
 use Rattle.std.specs.Str.{IsCharBoundary}
 use Rattle.std.specs.Cow.{cow_str_bytes}
 use Rattle.doc_values.specs.declared.kind.Kind.{Kind}
 use Rattle.doc_values.specs.Tree.{Forest, is_map, has_text}
-use Rattle.doc_values.specs.Unfinished.{Level, Unfinished, with_value, with_open, open_kind, in_map, AwaitsValue, MayEnd}
+use Rattle.doc_values.specs.Unfinished.{Level, Unfinished, with_value, with_open, with_end, open_kind, AwaitsValue}
 use Rattle.yaml_scalars.specs.declared.scalar.Scalar.{Scalar}
 use Rattle.yaml_scalars.specs.declared.scalar.Setting.{Setting}
 use Rattle.yaml_scalars.specs.Lines.{Stands}
 use Rattle.yaml_scalars.specs.Scalar.{is_typed, HasKind}
 use Rattle.yaml_blocks.specs.declared.ahead.Ahead.{Ahead}
+use Rattle.yaml_blocks.specs.declared.ahead.Token.{Token}
+use Rattle.yaml_blocks.specs.declared.ahead.Token.TheVariants.{Dash, Tag, Opens}
+use Rattle.yaml_blocks.specs.declared.form.Form.{Form}
+use Rattle.yaml_blocks.specs.declared.form.Form.TheVariants.{Root, Flow, Items, Entries, Tagged}
 use Rattle.yaml_blocks.specs.declared.stage.Stage.{Stage}
 use Rattle.yaml_blocks.specs.declared.stage.Stage.TheVariants as stage
 use Rattle.yaml_blocks.specs.declared.stage.Position.{Position}
+use Rattle.yaml_blocks.specs.declared.node.Key.{Key}
 use Rattle.yaml_blocks.specs.declared.refusal.YamlRefusal.{YamlRefusal}
 use Rattle.yaml_blocks.specs.declared.refusal.YamlRefusal.TheVariants.{Unread, NoMemory}
 use Rattle.yaml_blocks.specs.Ahead.{token_len, ahead}
-use Rattle.yaml_blocks.specs.Flow.{scalar_ahead}
-use Rattle.yaml_blocks.specs.Rest.{Ends, Enters, Awaits}
+use Rattle.yaml_blocks.specs.Nodes.{starts_scalar, scalar_ahead}
+use Rattle.yaml_blocks.specs.Blocks.{takes_scalar, takes_sequence, takes_tag, IsKey}
+use Rattle.yaml_blocks.specs.Rest.{top, Ends, Enters, Awaits}
 
--- what is ahead of a place stands between it and the text's end, and the text may be cut in front of it and behind
+-- the forms of the open collections, the innermost last, as a list of which it is the first
+abbrev pub stack_on : List Form → List Form → List Form
+stack_on fs [] = fs
+stack_on fs (g ∷ gs) = stack_on (g ∷ fs) gs
+
+abbrev pub stack : List Form → List Form
+stack gs = stack_on [] gs
+
+-- ---- what is ahead
+
+-- a token's column lies in its line, or else it tells the place
+abbrev pub IsColumn : ℕ → Ahead → Type 0
+IsColumn i a = (a.fresh ≡ true → a.column ≤ a.at) × (a.fresh ≡ false → a.at ≡ i + a.column)
+
+-- what is ahead of a place stands between it and the text's end, and the text may be cut in front of it and behind, and
+-- behind its first byte
 abbrev pub IsPlaced : List ℕ → ℕ → Ahead → Type 0
-IsPlaced bytes i a = (i ≤ a.at) × IsCharBoundary bytes a.at × IsCharBoundary bytes a.behind × (a.behind ≡ a.at + token_len a.token)
+IsPlaced bytes i a =
+    (i ≤ a.at) × IsCharBoundary bytes a.at × IsCharBoundary bytes a.behind × (a.behind ≡ a.at + token_len a.token) × IsColumn i a
+    × (0 < token_len a.token → IsCharBoundary bytes (a.at + 1))
 
 -- that is what is ahead
 abbrev pub IsSeen : List ℕ → Bool → ℕ → Ahead → Type 0
 IsSeen text flow i a = (a ≡ ahead text flow i) × IsPlaced text i a
 
--- what may still follow
-abbrev pub Rest : List ℕ → Stage → Unfinished → ℕ → Forest → Type 0
-Rest text stage.Entry u i v = Enters text u.outer u.done i v
-Rest text stage.Value u i v = Awaits text u.outer u.done u.key i v
-Rest text stage.After u i v = Ends text u.outer u.done i v
+-- ---- the open collections
 
--- the unfinished tree is one that the stage can stand in
-abbrev pub Fits : Stage → Unfinished → Type 0
-Fits stage.Entry u = MayEnd u
-Fits stage.Value u = (in_map u.outer ≡ true) × AwaitsValue u
-Fits stage.After u = u.key ≡ None
+-- whether the entries of a form have keys
+abbrev pub has_keys : Form → Bool
+has_keys Root = false
+has_keys (Flow map) = map
+has_keys (Items m) = false
+has_keys (Entries m) = true
+has_keys (Tagged at above shares) = true
+
+-- the forms are those of the unfinished tree's open collections
+abbrev pub Agrees : List Form → List Level → Type 0
+Agrees [] [] = Unit {0}
+Agrees [] (x ∷ xs) = ⊥
+Agrees (f ∷ fs) [] = ⊥
+Agrees (f ∷ fs) (x ∷ xs) = (is_map x.label.kind ≡ has_keys f) × Agrees fs xs
+
+-- a collection may stand in another: a block one is indented more, and stands in no brackets; a sequence in a mapping may have
+-- the mapping's column
+abbrev pub LiesIn : Form → Form → Type 0
+LiesIn Root g = ⊥
+LiesIn (Flow map) g = Unit {0}
+LiesIn (Items c) Root = Unit {0}
+LiesIn (Items c) (Flow map) = ⊥
+LiesIn (Items c) (Items m) = m < c
+LiesIn (Items c) (Entries m) = m ≤ c
+LiesIn (Entries c) Root = Unit {0}
+LiesIn (Entries c) (Flow map) = ⊥
+LiesIn (Entries c) (Items m) = m < c
+LiesIn (Entries c) (Entries m) = m < c
+LiesIn (Items c) (Tagged at above shares) = (above ≤ suc c) × (shares ≡ false → above ≤ c)
+LiesIn (Entries c) (Tagged at above shares) = above ≤ c
+LiesIn (Tagged at above shares) Root = (above ≡ 0) × (shares ≡ false)
+LiesIn (Tagged at above shares) (Flow map) = ⊥
+LiesIn (Tagged at above shares) (Items m) = (above ≡ suc m) × (shares ≡ false)
+LiesIn (Tagged at above shares) (Entries m) = above ≡ suc m
+LiesIn (Tagged at above shares) (Tagged b n s) = ⊥
+
+-- its column is that of a text of at most 8 MiB
+abbrev pub IsSmall : Form → Type 0
+IsSmall Root = Unit {0}
+IsSmall (Flow map) = Unit {0}
+IsSmall (Items m) = m ≤ 8388608
+IsSmall (Entries m) = m ≤ 8388608
+IsSmall (Tagged at above shares) = above ≤ 8388609
+
+abbrev pub Nests : List Form → Type 0
+Nests [] = Unit {0}
+Nests (f ∷ fs) = LiesIn f (top fs) × IsSmall f × Nests fs
+
+-- a node outside of flow
+abbrev pub IsBlock : Form → Type 0
+IsBlock Root = Unit {0}
+IsBlock (Flow map) = ⊥
+IsBlock (Items m) = Unit {0}
+IsBlock (Entries m) = Unit {0}
+IsBlock (Tagged at above shares) = Unit {0}
+
+-- an item's place lies behind its `-`
+abbrev pub IsBehind : Form → ℕ → Type 0
+IsBehind Root i = Unit {0}
+IsBehind (Flow map) i = Unit {0}
+IsBehind (Items m) i = m < i
+IsBehind (Entries m) i = Unit {0}
+IsBehind (Tagged at above shares) i = Unit {0}
+
+abbrev pub is_dash : Token → Bool
+is_dash Dash = true
+is_dash _ = false
+
+-- whether a block ends before the line of a token: the line is indented less, or a sequence's other entry would stand there
+abbrev pub ends_before : Form → Ahead → Bool
+ends_before Root a = false
+ends_before (Flow map) a = false
+ends_before (Items m) a = nat_lt a.column m || (nat_eq a.column m && not (is_dash a.token))
+ends_before (Entries m) a = nat_lt a.column m
+ends_before (Tagged at above shares) a = true
+
+-- ---- what may follow
+
+abbrev pub Rest : List ℕ → Stage → List Form → Unfinished → ℕ → Forest → Type 0
+Rest text stage.Entry fs u i v = Enters text fs u.outer u.done i v
+Rest text stage.Value fs u i v = Awaits text fs u.outer u.done u.key i v
+Rest text stage.After fs u i v = Ends text fs u.outer u.done i v
+Rest text stage.Whole fs u i v = v ≡ u.done
+
+-- the forms and the unfinished tree belong together
+abbrev pub Open : List Form → Unfinished → Type 0
+Open fs u = Agrees fs u.outer × Nests fs
+
+-- they are ones that the stage can stand in
+abbrev pub Fits : Stage → List Form → Unfinished → ℕ → Type 0
+Fits stage.Entry fs u i = Open fs u × ((map : Bool) × (top fs ≡ Flow map)) × (u.key ≡ None)
+Fits stage.Value fs u i = Open fs u × (top fs ≡ Flow false → ⊥) × AwaitsValue u × IsBehind (top fs) i
+Fits stage.After fs u i = Open fs u × (u.key ≡ None)
+Fits stage.Whole fs u i = u.outer ≡ []
 
 -- how far reading has come
 abbrev pub reached : Stage → ℕ → ℕ
-reached stage.Entry at = 2 * at + 1
-reached stage.Value at = 2 * at
-reached stage.After at = 2 * at + 1
+reached stage.Entry at = 2 * at + 2
+reached stage.Value at = 2 * at + 1
+reached stage.After at = 2 * at + 2
+reached stage.Whole at = 2 * at + 3
 
 -- reading went on, and what may follow is the same as before
-abbrev pub Goes : List ℕ → (Forest → Type 0) → ℕ → Unfinished → Position → Type 0
-Goes text P n w p = ((v : Forest) → (P v → Rest text p.stage w p.at v) × (Rest text p.stage w p.at v → P v)) × Fits p.stage w × IsCharBoundary text p.at × (n < reached p.stage p.at)
+abbrev pub Goes : List ℕ → (Forest → Type 0) → ℕ → List Form → Unfinished → Position → Type 0
+Goes text P n fs w p =
+    ((v : Forest) → (P v → Rest text p.stage fs w p.at v) × (Rest text p.stage fs w p.at v → P v)) × Fits p.stage fs w p.at × IsCharBoundary text p.at × (n < reached p.stage p.at)
 
 -- or it ended, where nothing may follow
-abbrev pub Gives : List ℕ → (Forest → Type 0) → ℕ → Unfinished → Result Position YamlRefusal → Type 0
-Gives text P n w (Ok p) = Goes text P n w p
-Gives text P n w (Err Unread) = (v : Forest) → P v → ⊥
-Gives text P n w (Err NoMemory) = Unit {0}
+abbrev pub Gives : List ℕ → (Forest → Type 0) → ℕ → List Form → Unfinished → Result Position YamlRefusal → Type 0
+Gives text P n fs w (Ok p) = Goes text P n fs w p
+Gives text P n fs w (Err Unread) = (v : Forest) → P v → ⊥
+Gives text P n fs w (Err NoMemory) = Unit {0}
+
+-- no node of a form stands at a token, as its place tells, or as the token does
+abbrev pub NoNode : Form → Ahead → Type 0
+NoNode f a =
+    (takes_scalar f a ≡ true → (starts_scalar a.token ≡ false) × ((map : Bool) → a.token ≡ Opens map → ⊥)) × (takes_sequence f a ≡ true → a.token ≡ Dash → ⊥) × (takes_tag f a ≡ true → (len : ℕ) → a.token ≡ Tag len → ⊥)
+
+-- blocks ended before a line, and what may follow is the same as before
+abbrev pub Ended : List ℕ → List Form → Unfinished → Ahead → ℕ → List Form → Unfinished → Result (Unit {0}) YamlRefusal → Type 0
+Ended text fs u a i gs w (Ok _) =
+    ((v : Forest) → (Ends text fs u.outer u.done i v → Ends text gs w.outer w.done i v) × (Ends text gs w.outer w.done i v → Ends text fs u.outer u.done i v))
+    × Open gs w × (w.key ≡ None) × IsBlock (top gs) × (ends_before (top gs) a ≡ false)
+Ended text fs u a i gs w (Err Unread) = ⊥
+Ended text fs u a i gs w (Err NoMemory) = Unit {0}
+
+-- ---- parts
 
 -- a scalar stands at a token, with its text, its kind and the place behind it
 abbrev pub Found : List ℕ → Setting → Ahead → List ℕ → Kind → ℕ → Type 0
@@ -68,6 +193,19 @@ Finds text s a (Ok c) = Found text s a (cow_str_bytes c.text) c.kind c.end
 Finds text s a (Err Unread) = Missed text s a
 Finds text s a (Err NoMemory) = Unit {0}
 
+-- a key with its colon stands at a token outside of flow, or none does
+abbrev pub NoKey : List ℕ → Ahead → Type 0
+NoKey text a = (t : List ℕ) (p : ℕ) → IsKey text a t p → ⊥
+
+abbrev pub HasKey : List ℕ → Ahead → Key → Type 0
+HasKey text a k = IsKey text a (cow_str_bytes k.text) k.behind × IsCharBoundary text k.behind × (a.at < k.behind)
+
+abbrev pub FindsKey : List ℕ → Ahead → Result (Option Key) YamlRefusal → Type 0
+FindsKey text a (Ok None) = NoKey text a
+FindsKey text a (Ok (Some k)) = HasKey text a k
+FindsKey text a (Err Unread) = ⊥
+FindsKey text a (Err NoMemory) = Unit {0}
+
 -- the text that a value keeps
 abbrev pub leaf_text : Kind → List ℕ → List ℕ
 leaf_text k t = if has_text k then t else []
@@ -78,19 +216,25 @@ Holds text s a u w (Ok p) = (t : List ℕ) × (k : Kind) × Found text s a t k p
 Holds text s a u w (Err Unread) = Missed text s a
 Holds text s a u w (Err NoMemory) = Unit {0}
 
--- a collection began
-abbrev pub Opened : Bool → Ahead → Unfinished → Unfinished → Result Position YamlRefusal → Type 0
-Opened map a u w (Ok p) = (p.stage ≡ stage.Entry) × (p.at ≡ a.behind) × (w ≡ with_open (open_kind map) a.at u) × (length u.outer < 128)
-Opened map a u w (Err Unread) = length u.outer ≡ 128
-Opened map a u w (Err NoMemory) = Unit {0}
+-- a collection of a form began
+abbrev pub Begun : Form → Ahead → List Form → Unfinished → List Form → Unfinished → Result (Unit {0}) YamlRefusal → Type 0
+Begun f a fs u gs w (Ok _) = (gs ≡ f ∷ fs) × (w ≡ with_open (open_kind (has_keys f)) a.at u) × (length u.outer < 128)
+Begun f a fs u gs w (Err Unread) = length u.outer ≡ 128
+Begun f a fs u gs w (Err NoMemory) = Unit {0}
+
+abbrev pub Opened : Bool → Ahead → List Form → Unfinished → List Form → Unfinished → Result Position YamlRefusal → Type 0
+Opened map a fs u gs w (Ok p) = (p.stage ≡ stage.Entry) × (p.at ≡ a.behind) × (gs ≡ Flow map ∷ fs) × (w ≡ with_open (open_kind map) a.at u) × (length u.outer < 128)
+Opened map a fs u gs w (Err Unread) = length u.outer ≡ 128
+Opened map a fs u gs w (Err NoMemory) = Unit {0}
+
+-- brackets ended
+abbrev pub Closed : ℕ → List Form → Unfinished → List Form → Unfinished → Result Position YamlRefusal → Type 0
+Closed at fs u gs w (Ok p) = (p.stage ≡ stage.After) × (p.at ≡ at) × ((f : Form) × (fs ≡ f ∷ gs)) × (w ≡ with_end u)
+Closed at fs u gs w (Err Unread) = ⊥
+Closed at fs u gs w (Err NoMemory) = Unit {0}
 
 -- a node is complete, and this is the unfinished tree
 abbrev pub Completes : ℕ → Unfinished → Unfinished → Result Position YamlRefusal → Type 0
 Completes at u w (Ok p) = (p.stage ≡ stage.After) × (p.at ≡ at) × (w ≡ u)
 Completes at u w (Err Unread) = ⊥
 Completes at u w (Err NoMemory) = Unit {0}
-
--- the form of the innermost open collection, if one is open: whether it is a map
-abbrev pub form_of : List Level → Option Bool
-form_of [] = None
-form_of (x ∷ xs) = Some (is_map x.label.kind)

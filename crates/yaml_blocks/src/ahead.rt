@@ -1,14 +1,14 @@
 //! What a place has ahead, behind white space, comments and breaks.
-ghost use Rattle.std.specs.Prelude.{◌≡◌, ◌≤◌, ◌<◌, ◌+◌, ◌||◌, nat_lt, true, false, length, drop};
+ghost use Rattle.std.specs.Prelude.{◌≡◌, ◌≤◌, ◌<◌, ◌+◌, ◌||◌, ℕ, slice_index, nat_lt, true, false, length, drop};
 ghost use Rattle.std.specs.Str.{IsCharBoundary};
-ghost use Rattle.yaml_scalars.specs.Lines.{lines, begins_with, is_mark};
+ghost use Rattle.yaml_scalars.specs.Lines.{lines, begins_with, is_end, is_mark, lead};
 ghost use Rattle.yaml_scalars.specs.Plain.{is_flow_mark, is_unsafe};
 ghost use Rattle.yaml_scalars.specs.Walk.{line_at};
-ghost use Rattle.yaml_blocks.specs.Ahead.{token_of, token_at, mark_of, has_return, is_passed, is_tabbed, content_ahead, line_ahead, rest_ahead, ahead};
+ghost use Rattle.yaml_blocks.specs.Ahead.{is_letter, is_name, begins_letter, tag_token, block_token, token_of, token_at, mark_of, has_return, is_passed, is_tabbed, content_ahead, line_ahead, rest_ahead, ahead};
 ghost use Rattle.yaml_blocks.specs.Steps.{IsSeen};
 
 use yaml_scalars::lines::{
-    ends_line, is_blank, is_first_column, is_mark, is_white, next_line, spaces, whites,
+    ends_line, is_blank, is_end, is_first_column, is_mark, is_white, next_line, spaces, whites,
 };
 
 /// A token of a document, but for scalars.
@@ -20,6 +20,10 @@ pub(crate) enum Token {
     Dashes,
     /// A line that begins with `...`.
     Dots,
+    /// A `-` outside of flow, before white space or the line's end.
+    Dash,
+    /// A short tag outside of flow, with so many bytes in its name.
+    Tag { len: usize },
     /// An opening bracket, of a map or of a list.
     Opens { map: bool },
     /// A closing bracket, of a map or of a list.
@@ -37,6 +41,8 @@ pub(crate) struct Ahead {
     pub(crate) token: Token,
     /// Whether it begins a line.
     pub(crate) fresh: bool,
+    /// Its column where it begins a line; else how much white space stands between the place and it.
+    pub(crate) column: usize,
     /// The byte offset of its first byte.
     pub(crate) at: usize,
     /// The byte offset behind it.
@@ -62,10 +68,76 @@ fn is_loose(bytes: &[u8], at: usize) -> bool
     is_white(byte) || is_flow_mark(byte)
 }
 
+fn is_letter(byte: u8) -> bool
+    ensures { result ≡ is_letter byte }
+{
+    (65 <= byte && byte < 91) || (97 <= byte && byte < 123)
+}
+
+/// Whether a byte may stand in a tag's name.
+fn is_name(byte: u8) -> bool
+    ensures { result ≡ is_name byte }
+{
+    is_letter(byte) || (48 <= byte && byte < 58)
+}
+
+/// How many letters and digits stand at a place.
+fn name_len(bytes: &[u8], start: usize) -> usize
+    requires { start ≤ length bytes.now }
+    ensures count { result ≡ lead is_name (line_at (drop start bytes.now)) }
+    ensures within { start + result ≤ length bytes.now }
+{
+    for i in start..bytes.len() {
+        if !is_name(bytes[i]) {
+            return i - start;
+        }
+    }
+    bytes.len() - start
+}
+
+/// Whether a letter stands at a place.
+fn begins_letter(bytes: &[u8], at: usize) -> bool
+    requires { at ≤ length bytes.now }
+    ensures { result ≡ begins_letter (line_at (drop at bytes.now)) }
+{
+    !ends_line(bytes, at) && is_letter(bytes[at])
+}
+
+/// The token of a `!` outside of flow, by what stands behind it.
+fn tag_token(bytes: &[u8], start: usize) -> Token
+    requires { start ≤ length bytes.now }
+    ensures is { result ≡ tag_token (line_at (drop start bytes.now)) }
+    ensures within { (len : ℕ) → result ≡ Token.Tag len → start + len ≤ length bytes.now }
+{
+    if !begins_letter(bytes, start) {
+        return Token::Other;
+    }
+    let len = name_len(bytes, start);
+    if !is_end(bytes, start + len) {
+        return Token::Other;
+    }
+    Token::Tag { len }
+}
+
+/// The token of a byte outside of flow that is no bracket.
+fn block_token(bytes: &[u8], at: usize) -> Token
+    requires { at < length bytes.now }
+    ensures within { (len : ℕ) → result ≡ Token.Tag len → at + len < length bytes.now }
+    ensures is { result ≡ block_token (slice_index bytes.now at) (line_at (drop (at + 1) bytes.now)) }
+{
+    match bytes[at] {
+        b'-' if is_end(bytes, at + 1) => Token::Dash,
+        b':' if is_end(bytes, at + 1) => Token::Point { loose: true },
+        b'!' => tag_token(bytes, at + 1),
+        _ => Token::Other,
+    }
+}
+
 /// The token of a byte.
 fn token_of(bytes: &[u8], at: usize, flow: bool) -> Token
     requires { at ≤ length bytes.now }
-    ensures { result ≡ token_of flow (line_at (drop at bytes.now)) }
+    ensures is { result ≡ token_of flow (line_at (drop at bytes.now)) }
+    ensures within { (len : ℕ) → result ≡ Token.Tag len → at + len < length bytes.now }
 {
     if ends_line(bytes, at) {
         return Token::Other;
@@ -79,7 +151,8 @@ fn token_of(bytes: &[u8], at: usize, flow: bool) -> Token
         b':' if flow => Token::Point {
             loose: is_loose(bytes, at + 1),
         },
-        _ => Token::Other,
+        _ if flow => Token::Other,
+        _ => block_token(bytes, at),
     }
 }
 
@@ -132,18 +205,25 @@ fn begins_comment(bytes: &[u8], at: usize) -> bool
     !ends_line(bytes, at) && bytes[at] == b'#'
 }
 
-fn token_at(token: Token, fresh: bool, at: usize) -> Ahead
-    requires { at ≤ 8388608 }
-    ensures { result ≡ token_at token fresh at }
+fn token_at(token: Token, fresh: bool, column: usize, at: usize) -> Ahead
+    requires small { at ≤ 8388608 }
+    requires within { (len : ℕ) → token ≡ Token.Tag len → len ≤ 8388608 }
+    ensures { result ≡ token_at token fresh column at }
 {
     let len = match token {
         Token::End | Token::Other => 0,
         Token::Dashes | Token::Dots => 3,
-        Token::Opens { .. } | Token::Closes { .. } | Token::Comma | Token::Point { .. } => 1,
+        Token::Tag { len } => len + 1,
+        Token::Dash
+        | Token::Opens { .. }
+        | Token::Closes { .. }
+        | Token::Comma
+        | Token::Point { .. } => 1,
     };
     Ahead {
         token,
         fresh,
+        column,
         at,
         behind: at + len,
     }
@@ -154,12 +234,12 @@ fn mark_ahead(bytes: &[u8], start: usize) -> Ahead
     requires small { length bytes.now ≤ 8388608 }
     requires mark { is_mark (line_at (drop start bytes.now)) ≡ true }
     requires within { start < length bytes.now }
-    ensures { result ≡ token_at (mark_of (line_at (drop start bytes.now))) true start }
+    ensures { result ≡ token_at (mark_of (line_at (drop start bytes.now))) true 0 start }
 {
     if bytes[start] == b'-' {
-        return token_at(Token::Dashes, true, start);
+        return token_at(Token::Dashes, true, 0, start);
     }
-    token_at(Token::Dots, true, start)
+    token_at(Token::Dots, true, 0, start)
 }
 
 /// Whether a tab stands in the white space in front of a line outside of flow.
@@ -180,10 +260,12 @@ fn content_ahead(bytes: &[u8], flow: bool, start: usize) -> Ahead
     ensures { result ≡ content_ahead flow start (line_at (drop start bytes.now)) }
 {
     if is_tabbed(bytes, flow, start) {
-        return token_at(Token::Other, true, start + spaces(bytes, start));
+        let column = spaces(bytes, start);
+        return token_at(Token::Other, true, column, start + column);
     }
-    let at = start + whites(bytes, start);
-    token_at(token_of(bytes, at, flow), true, at)
+    let column = whites(bytes, start);
+    let at = start + column;
+    token_at(token_of(bytes, at, flow), true, column, at)
 }
 
 /// What is ahead of a line's start.
@@ -202,7 +284,7 @@ fn line_ahead(bytes: &[u8], flow: bool, start: usize) -> Ahead
         }
         match next_line(bytes, at) {
             Some(next) => at = next,
-            None => return token_at(Token::End, true, bytes.len()),
+            None => return token_at(Token::End, true, 0, bytes.len()),
         }
     }
     unreachable!()
@@ -215,12 +297,13 @@ fn rest_ahead(bytes: &[u8], flow: bool, start: usize) -> Ahead
     ensures { result ≡ rest_ahead flow (length bytes.now) (lines start (drop start bytes.now)) }
 {
     if !is_passed(bytes, start, false) {
-        let at = start + whites(bytes, start);
-        return token_at(token_of(bytes, at, flow), false, at);
+        let white = whites(bytes, start);
+        let at = start + white;
+        return token_at(token_of(bytes, at, flow), false, white, at);
     }
     match next_line(bytes, start) {
         Some(next) => line_ahead(bytes, flow, next),
-        None => token_at(Token::End, true, bytes.len()),
+        None => token_at(Token::End, true, 0, bytes.len()),
     }
 }
 

@@ -1,12 +1,18 @@
-//! YAML 1.2.2 in a profile. `read_yaml` reads a document of flow forms: a scalar or a flow collection at the root, with
-//! comments, a byte order mark, and the lines `---` and `...` round it. It answers just the trees that the relation of
-//! `specs/Flow` gives, and a refusal where that gives none. The crate stands on `yaml_scalars` for scalars, and builds
-//! trees of `doc_values`.
+//! YAML 1.2.2 in a profile. `read_yaml` reads a document: scalars, block sequences and block mappings, short tags outside
+//! of flow but for `!GetAtt`, and flow collections, with comments, a byte order mark, and the lines `---` and `...` round
+//! it. It answers just the trees that the relation of `specs/Yaml` gives, and a refusal where that gives none. The crate
+//! stands on `yaml_scalars` for scalars, and builds trees of `doc_values`.
 #![tactic(auto)]
 
 mod ahead;
+mod block;
+#[cfg(test)]
+mod block_tests;
 #[cfg(test)]
 mod cases;
+mod flow;
+mod form;
+mod node;
 mod read;
 mod refusal;
 mod stage;

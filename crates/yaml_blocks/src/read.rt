@@ -3,36 +3,46 @@ ghost use Rattle.std.specs.Prelude.{◌≡◌, ◌≤◌, length, true, false, M
 ghost use Rattle.std.specs.Str.{IsCharBoundary};
 ghost use Rattle.doc_values.specs.Tree.{Forest};
 ghost use Rattle.yaml_scalars.specs.Scalar.{begins_order_mark};
-ghost use Rattle.yaml_blocks.specs.Ahead.{ahead};
-ghost use Rattle.yaml_blocks.specs.Flow.{IsFlowYaml, IsStart, IsEnd, text_start};
+ghost use Rattle.yaml_blocks.specs.Yaml.{IsYaml, IsStart, text_start};
 
 use crate::ahead::{Token, look};
 use crate::refusal::YamlRefusal;
+use crate::stage::Stage;
 use crate::step::{root, step};
 use doc_values::{Doc, DocBuilder};
 use std::alloc::Global;
 
-/// The tree of a YAML text of at most 8 MiB that is one document of flow forms, the only one. `NoMemory` says nothing of the text.
+/// The tree of a YAML text of at most 8 MiB that is one document, the only one. `NoMemory` says nothing of the
+/// text.
 pub fn read_yaml<'s>(alloc: Global, text: &'s str) -> Result<Doc<'s>, YamlRefusal>
     requires { length text.now ≤ 8388608 }
-    ensures { MatchResult result (λ d. IsFlowYaml text.now d × ((tree : Forest) → IsFlowYaml text.now tree → tree ≡ d)) (λ e. e ≡ YamlRefusal.Unread → (tree : Forest) → IsFlowYaml text.now tree → ⊥) }
+    ensures { MatchResult result (λ d. IsYaml text.now d × ((tree : Forest) → IsYaml text.now tree → tree ≡ d)) (λ e. e ≡ YamlRefusal.Unread → (tree : Forest) → IsYaml text.now tree → ⊥) }
 {
     let start = document_start(text);
+    let mut forms = Vec::new(alloc);
     let mut builder = DocBuilder::new(alloc);
-    let mut position = match root(alloc, text, start, &mut builder) {
+    let mut position = match root(text, start, &mut builder) {
         Ok(next) => next,
         Err(refusal) => return Err(refusal),
     };
-    while builder.depth() > 0 {
-        match step(alloc, text, position, &mut builder) {
+    while goes_on(position.stage) {
+        match step(alloc, text, position, &mut forms, &mut builder) {
             Err(refusal) => return Err(refusal),
             Ok(next) => position = next,
         }
     }
-    if !is_document_end(text, position.at) {
-        return Err(YamlRefusal::Unread);
-    }
     Ok(builder.finish())
+}
+
+/// Whether something may follow.
+fn goes_on(stage: Stage) -> bool
+    ensures yes { result ≡ true → stage ≡ Stage.Whole → ⊥ }
+    ensures no { result ≡ false → stage ≡ Stage.Whole }
+{
+    match stage {
+        Stage::Whole => false,
+        _ => true,
+    }
 }
 
 fn begins_order_mark(bytes: &[u8]) -> bool
@@ -64,33 +74,5 @@ fn document_start(text: &str) -> usize
     match next.token {
         Token::Dashes => next.behind,
         _ => at,
-    }
-}
-
-/// Whether nothing stands behind a place.
-fn is_text_end(text: &str, at: usize) -> bool
-    requires small { length text.now ≤ 8388608 }
-    requires boundary { IsCharBoundary text.now at }
-    ensures yes { result ≡ true → (ahead text.now false at).token ≡ Token.End }
-    ensures no { result ≡ false → (ahead text.now false at).token ≡ Token.End → ⊥ }
-{
-    match look(text, false, at).token {
-        Token::End => true,
-        _ => false,
-    }
-}
-
-/// Whether the document ends at a place.
-fn is_document_end(text: &str, at: usize) -> bool
-    requires small { length text.now ≤ 8388608 }
-    requires boundary { IsCharBoundary text.now at }
-    ensures yes { result ≡ true → IsEnd text.now at }
-    ensures no { result ≡ false → IsEnd text.now at → ⊥ }
-{
-    let next = look(text, false, at);
-    match next.token {
-        Token::End => true,
-        Token::Dots => is_text_end(text, next.behind),
-        _ => false,
     }
 }

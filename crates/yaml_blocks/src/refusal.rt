@@ -7,7 +7,7 @@ use yaml_scalars::ScalarRefusal;
 /// Why a text is refused as a document.
 #[derive(Clone, Copy, Debug, PartialEq, Eq, Error)]
 pub enum YamlRefusal {
-    /// The text is no document of flow forms.
+    /// The text is no document in the part of YAML that is read.
     #[error("the text is not YAML in the part that is read")]
     Unread,
     /// The allocator gave no memory.

@@ -1,14 +1,16 @@
 //! Where reading stands.
 
-/// What may stand at a place between brackets, or behind the root.
+/// What may stand at a place.
 #[derive(Clone, Copy, Debug, PartialEq, Eq)]
 pub(crate) enum Stage {
-    /// An entry or the closing bracket: behind the opening one, or behind a comma.
+    /// An entry in brackets or the closing one: behind the opening one, or behind a comma.
     Entry,
-    /// The value of a key.
+    /// A node: the root, or the value behind `-` or a key.
     Value,
     /// What follows a complete node.
     After,
+    /// Nothing: the document has ended.
+    Whole,
 }
 
 /// A stage and a byte offset.

@@ -397,7 +397,6 @@ fn no_trees_of_properties(rt: HostRuntime) -> Result<(), Fail> {
         "[!a b]",
         "&a b",
         "*a",
-        "!a b",
         "@a",
         "`a",
         "{a: 1 b: 2}",
@@ -407,30 +406,6 @@ fn no_trees_of_properties(rt: HostRuntime) -> Result<(), Fail> {
         "'a",
         "[\"a]",
         "{a: b: c}",
-    ] {
-        assert!(rt; is_unread(rt.alloc(), text), "{text}");
-    }
-    Ok(())
-}
-
-#[test]
-fn no_trees_of_blocks(rt: HostRuntime) -> Result<(), Fail> {
-    for text in [
-        "single: 'text'\ndouble: \"text\"",
-        "- foo:\t bar\n- - baz\n  -\tbaz",
-        "key:    # Comment\n  value",
-        "- [ one, two, ]\n- [three ,four]",
-        "block mapping:\n key: value\n",
-        "strip: >-\n\nclip: >\n\nkeep: |+\n\n",
-        "string: abcd\n",
-        "emptyArray:  []\nemptyObject: {}\n",
-        "- \"foo 'bar'\"\n- \"foo\\n'bar'\"\n",
-        "k: |+1\n   x\n\n\nl: >\n a%\n  b\n c\n",
-        "A: >-\n  one\n  two\n\n  t",
-        "a: 'it''s\n  two'\n",
-        "Resouces- :\n  B:",
-        "k: |+1\n  x\n\n\nl: >\n a\n  b\n c\n",
-        "k: |+1\n   x\n\n\nl: ?>\n a\n  b\n c\n",
     ] {
         assert!(rt; is_unread(rt.alloc(), text), "{text}");
     }

@@ -6,6 +6,6 @@ use Rattle.yaml_blocks.proofs.Looks.{untabbed, white_token}
 use Rattle.yaml_blocks.proofs.ahead.content_ahead.Goals as goal
 
 pub returns : goal.returns
-returns c = c.token_at-2.ensures ∙ ap (λ (t : Token). token_at t true (c.args.start + c.whites.result)) c.token_of.ensures
-    ∙ white_token c.args.bytes.now c.args.flow true c.args.start c.whites.result c.whites.ensures.count
+returns c = c.token_at-2.ensures ∙ ap (λ (t : Token). token_at t true c.whites-column.result (c.args.start + c.whites-column.result)) c.token_of.ensures.is
+    ∙ white_token c.args.bytes.now c.args.flow true c.args.start c.whites-column.result c.whites-column.ensures.count
     ∙ sym (untabbed c.args.flow c.args.start (line_at (drop c.args.start c.args.bytes.now)) (sym c.is_tabbed.ensures ∙ c.if-is_tabbed.false))

@@ -5,8 +5,8 @@ use Rattle.yaml_blocks.proofs.Looks.{rest_filled, rest_passed, white_token}
 use Rattle.yaml_blocks.proofs.ahead.rest_ahead.Goals as goal
 
 pub returns-then-not-is_passed : goal.returns-then-not-is_passed
-returns-then-not-is_passed c = c.token_at.ensures ∙ ap (λ (t : Token). token_at t false (c.args.start + c.whites.result)) c.token_of.ensures
-    ∙ white_token c.args.bytes.now c.args.flow false c.args.start c.whites.result c.whites.ensures.count
+returns-then-not-is_passed c = c.token_at.ensures ∙ ap (λ (t : Token). token_at t false c.whites-white.result (c.args.start + c.whites-white.result)) c.token_of.ensures.is
+    ∙ white_token c.args.bytes.now c.args.flow false c.args.start c.whites-white.result c.whites-white.ensures.count
     ∙ sym (rest_filled c.args.bytes.now c.args.flow c.args.start (sym c.is_passed.ensures ∙ c.if-not-is_passed.true))
 
 pub returns-in-Some : goal.returns-in-Some

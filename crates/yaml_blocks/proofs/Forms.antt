@@ -1,0 +1,45 @@
+-- The innermost of the open collections: its form and its level.
+use Rattle.std.proofs.Common.{◌≡◌, ℕ, ◌<◌, Bool, true, false, List, [], ◌∷◌, Option, Some, None, length, refl, sym, ◌∙◌, subst, arith}
+use Rattle.doc_values.specs.Tree.{Forest, is_map}
+use Rattle.doc_values.specs.Unfinished.{Level, Unfinished, in_map, open_kind, IsKeyThere, AwaitsValue, AwaitsKey, MayEnd, MayHold}
+use Rattle.yaml_blocks.specs.declared.form.Form.{Form}
+use Rattle.yaml_blocks.specs.declared.form.Form.TheVariants.{Root, Flow}
+use Rattle.yaml_blocks.specs.Rest.{top}
+use Rattle.yaml_blocks.specs.Steps.{Agrees, has_keys}
+
+pub map_kind : (m : Bool) → is_map (open_kind m) ≡ m
+map_kind true = refl
+map_kind false = refl
+
+-- what holds of all levels under such a form holds where that is the innermost
+pub inside : (P : List Form → List Level → Type 0) (f : Form) (fs : List Form) (outer : List Level) → top fs ≡ f → (f ≡ Root → ⊥) → Agrees fs outer
+    → ((gs : List Form) (x : Level) (xs : List Level) → P (f ∷ gs) (x ∷ xs)) → P fs outer
+inside P f [] outer e n a h = absurd (n (sym e))
+inside P f (g ∷ gs) [] e n a h = absurd a
+inside P f (g ∷ gs) (x ∷ xs) e n a h = subst (λ z. P (z ∷ gs) (x ∷ xs)) (sym e) (h gs x xs)
+
+pub flow_inside : (P : List Form → List Level → Type 0) (mp : Bool) (fs : List Form) (outer : List Level) → top fs ≡ Flow mp → Agrees fs outer
+    → ((gs : List Form) (x : Level) (xs : List Level) → P (Flow mp ∷ gs) (x ∷ xs)) → P fs outer
+flow_inside P mp fs outer e a h = inside P (Flow mp) fs outer e (λ r. absurd (cc)) a h
+
+-- a key awaits in a map, and none in a list
+pub in_map_of : (f : Form) (fs : List Form) (outer : List Level) → top fs ≡ f → (f ≡ Root → ⊥) → Agrees fs outer → in_map outer ≡ has_keys f
+in_map_of f fs outer e n a = inside (λ gs xs. Agrees gs xs → in_map xs ≡ has_keys f) f fs outer e n a (λ gs x xs b. b.0) a
+
+pub open_any : (f : Form) (fs : List Form) (outer : List Level) → top fs ≡ f → (f ≡ Root → ⊥) → Agrees fs outer → 0 < length outer
+open_any f fs outer e n a = inside (λ gs xs. 0 < length xs) f fs outer e n a (λ gs x xs. omega arith)
+
+held : (done : Forest) (key : Option (List ℕ)) (f : Form) (fs : List Form) (outer : List Level) → top fs ≡ f → (f ≡ Root → ⊥) → Agrees fs outer → IsKeyThere (has_keys f) key → MayHold outer done key
+held done key f fs outer e n a k = inside (λ gs xs. Agrees gs xs → MayHold xs done key) f fs outer e n a (λ gs x xs b. subst (λ q. IsKeyThere q key) (sym b.0) k) a
+
+pub awaits_item : (f : Form) (fs : List Form) (u : Unfinished) → top fs ≡ f → (f ≡ Root → ⊥) → has_keys f ≡ false → Agrees fs u.outer → u.key ≡ None → AwaitsValue u
+awaits_item f fs u e n m a k = held u.done u.key f fs u.outer e n a (subst (λ q. IsKeyThere q u.key) (sym m) k)
+
+pub awaits_value : (f : Form) (fs : List Form) (outer : List Level) (done : Forest) (t : List ℕ) → top fs ≡ f → (f ≡ Root → ⊥) → has_keys f ≡ true → Agrees fs outer → MayHold outer done (Some t)
+awaits_value f fs outer done t e n m a = held done (Some t) f fs outer e n a (subst (λ q. IsKeyThere q (Some t)) (sym m) (t, refl))
+
+pub awaits_key : (f : Form) (fs : List Form) (u : Unfinished) → top fs ≡ f → (f ≡ Root → ⊥) → has_keys f ≡ true → Agrees fs u.outer → u.key ≡ None → AwaitsKey u
+awaits_key f fs u e n m a k = (in_map_of f fs u.outer e n a ∙ m, k)
+
+pub may_end : (f : Form) (fs : List Form) (u : Unfinished) → top fs ≡ f → (f ≡ Root → ⊥) → Agrees fs u.outer → u.key ≡ None → MayEnd u
+may_end f fs u e n a k = (open_any f fs u.outer e n a, k)

@@ -1,0 +1,11 @@
+use Rattle.yaml_blocks.specs.Steps.{stack}
+use Rattle.yaml_blocks.proofs.BlockGains.{brackets_gives, spot}
+use Rattle.yaml_blocks.proofs.block.brackets.Goals as goal
+
+pub returns : goal.returns
+returns c =
+    let text = c.args.text.now in
+    let fs = stack c.args.forms.now.items in
+    let u = c.args.builder.now in
+    brackets_gives text fs (stack c.open.new.forms.items) u c.open.new.builder c.args.form c.args.at c.args.map c.args.next c.open.result c.requires.seen.0
+    (spot text fs u c.args.form c.args.at c.args.next c.requires.small c.requires.seen c.requires.form c.requires.block c.requires.fits) c.requires.opens c.requires.takes c.open.ensures

@@ -1,0 +1,20 @@
+use Rattle.std.proofs.Common.{refl}
+use Rattle.yaml_blocks.specs.declared.stage.Stage.TheVariants as stage
+use Rattle.yaml_blocks.specs.Steps.{stack}
+use Rattle.yaml_blocks.proofs.Gains.{closed_after_gives, comma_gives, none_follows}
+use Rattle.yaml_blocks.proofs.flow.after.Goals as goal
+
+pub returns-then-closes : goal.returns-then-closes
+returns-then-closes c =
+    closed_after_gives c.args.text.now c.args.map (stack c.args.forms.now.items) (stack c.close.new.forms.items) c.args.builder.now c.close.new.builder c.args.at c.look-next.result c.close.result c.look-next.ensures (c.closes.ensures.yes c.if-closes.true) c.requires.form
+    c.requires.open c.close.ensures
+
+pub returns-in-Comma : goal.returns-in-Comma
+returns-in-Comma c =
+    comma_gives c.args.text.now c.args.map (stack c.args.forms.now.items) c.args.builder.now c.args.at c.look-next.result (record { stage = stage.Entry; at = c.look-next.result.behind }) c.look-next.ensures c.in-Comma.is c.requires.form c.requires.open
+    c.requires.awaited refl refl
+
+pub returns-in_default : goal.returns-in_default
+returns-in_default c =
+    none_follows c.args.text.now c.args.map (stack c.args.forms.now.items) c.args.builder.now.outer c.args.builder.now.done c.args.at c.look-next.result c.look-next.ensures.0 c.in_default.not-Comma (c.closes.ensures.no c.if-closes.false) c.requires.form
+    c.requires.open.0

@@ -1,0 +1,16 @@
+use Rattle.std.proofs.Common.{sym, ap, ◌∙◌}
+use Rattle.yaml_blocks.specs.declared.ahead.Token.TheVariants.{Closes}
+use Rattle.yaml_blocks.specs.declared.form.Form.TheVariants.{Flow}
+use Rattle.yaml_blocks.specs.Steps.{stack}
+use Rattle.yaml_blocks.proofs.Gains.{closed_entry_gives, item_gives}
+use Rattle.yaml_blocks.proofs.flow.entry.Goals as goal
+
+pub returns-then-closes : goal.returns-then-closes
+returns-then-closes c =
+    closed_entry_gives c.args.text.now c.args.map (stack c.args.forms.now.items) (stack c.close.new.forms.items) c.args.builder.now c.close.new.builder c.args.at c.look-next.result c.close.result c.look-next.ensures (c.closes.ensures.yes c.if-closes.true) c.requires.form
+    c.requires.open c.close.ensures
+
+pub returns-else-map : goal.returns-else-map
+returns-else-map c =
+    item_gives c.args.text.now (stack c.args.forms.now.items) (stack c.node.new.forms.items) c.args.builder.now c.node.new.builder c.args.at c.look-next.result c.node.result c.look-next.ensures.0 (c.requires.form ∙ ap Flow c.if-map.false) c.requires.open
+    (λ h. c.closes.ensures.no c.if-closes.false (h ∙ ap Closes (sym c.if-map.false))) c.requires.awaited c.node.ensures

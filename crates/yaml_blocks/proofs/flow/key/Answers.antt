@@ -1,0 +1,50 @@
+use Rattle.std.proofs.Common.{◌≡◌, List, ℕ, drop, sym, ap, ◌∙◌, refl, subst, Bool, true, ◌+◌, ◌*◌}
+use Rattle.std.specs.Prelude.{Err}
+use Rattle.std.specs.Cow.{cow_str_bytes}
+use Rattle.yaml_scalars.specs.Scalar.{begins_quoted}
+use Rattle.yaml_blocks.specs.declared.stage.Stage.TheVariants as stage
+use Rattle.yaml_blocks.specs.Flow.{IsColon}
+use Rattle.yaml_blocks.specs.Rest.{Enters}
+use Rattle.yaml_blocks.specs.Nodes.{as_key}
+use Rattle.yaml_blocks.specs.Steps.{stack, Gives}
+use Rattle.yaml_blocks.specs.declared.form.Form.TheVariants.{Flow}
+use Rattle.yaml_blocks.proofs.Forms.{awaits_key}
+use Rattle.yaml_blocks.proofs.Gains.{key_gives, find_refused, found_key, no_colon, key_refused}
+use Rattle.yaml_blocks.proofs.flow.key.Goals as goal
+
+pub returns-in-Err : goal.returns-in-Err
+returns-in-Err c = find_refused c.args.text.now (stack c.args.forms.now) c.args.builder.now c.args.builder.now c.args.at c.args.next c.as_key.result c.in-Err.refusal c.as_key.ensures c.requires.seen.0 c.requires.there c.requires.form c.requires.open c.in-Err.ensures
+
+pub returns-in_default : goal.returns-in_default
+returns-in_default c =
+    let text = c.args.text.now in
+    let words = cow_str_bytes c.in-Ok.scalar.text in
+    let quoted : c.is_quoted.result ≡ begins_quoted (drop c.args.next.at text) = c.is_quoted.ensures ∙ ap (λ (t : List ℕ). begins_quoted (drop c.args.next.at t)) c.as_bytes.ensures.value in
+    let f = found_key text c.as_key.result (as_key true) c.args.next words c.in-Ok.scalar.kind c.in-Ok.scalar.end c.as_key.ensures c.in-Ok.ensures in
+    no_colon text (stack c.args.forms.now) c.args.builder.now.outer c.args.builder.now.done c.args.at c.in-Ok.scalar.end c.args.next words c.requires.seen.0 c.requires.there c.requires.form c.requires.open.0 f.0
+    (λ p h. c.in_default.ensures p (subst (λ (q : Bool). IsColon text q c.in-Ok.scalar.end p) (sym quoted) h))
+
+pub returns-in-Ok-key : goal.returns-in-Ok-key
+returns-in-Ok-key c =
+    let text = c.args.text.now in
+    let words = cow_str_bytes c.in-Ok.scalar.text in
+    let place = c.in-Some.place in
+    let quoted : c.is_quoted.result ≡ begins_quoted (drop c.args.next.at text) = c.is_quoted.ensures ∙ ap (λ (t : List ℕ). begins_quoted (drop c.args.next.at t)) c.as_bytes.ensures.value in
+    let f = found_key text c.as_key.result (as_key true) c.args.next words c.in-Ok.scalar.kind c.in-Ok.scalar.end c.as_key.ensures c.in-Ok.ensures in
+    let h = c.in-Some.ensures in
+    let k = c.in-Ok-key.ensures in
+    key_gives text (stack c.args.forms.now) c.args.builder.now c.key.new.self c.args.at place c.in-Ok.scalar.end c.args.next words c.in-Ok.scalar.kind (record { stage = stage.Value; at = place }) c.requires.seen c.requires.there c.requires.form c.requires.open
+    f h.2 h.1 (subst (λ (q : Bool). IsColon text q c.in-Ok.scalar.end place) quoted h.0) k.ok.1 refl refl k.ok.0
+
+pub returns-in-Err-key : goal.returns-in-Err-key
+returns-in-Err-key c =
+    let text = c.args.text.now in
+    let words = cow_str_bytes c.in-Ok.scalar.text in
+    let u = c.args.builder.now in
+    let f = found_key text c.as_key.result (as_key true) c.args.next words c.in-Ok.scalar.kind c.in-Ok.scalar.end c.as_key.ensures c.in-Ok.ensures in
+    let k = c.in-Err-key.ensures in
+    subst (λ e. Gives text (Enters text (stack c.args.forms.now) u.outer u.done c.args.at) (2 * c.args.at + 2) (stack c.args.forms.now) c.key.new.self (Err e)) (sym c.from.ensures)
+    (key_refused text (stack c.args.forms.now) u c.key.new.self c.args.at c.in-Ok.scalar.end c.offset.result c.args.next words c.in-Err-key.refusal c.requires.seen.0 c.requires.there c.requires.form c.requires.open f.0 k.refused)
+
+pub key-requires : goal.key-requires
+key-requires c = record { awaited = awaits_key (Flow true) (stack c.args.forms.now) c.args.builder.now c.requires.form (λ e. absurd (cc)) refl c.requires.open.0 c.requires.awaited }

@@ -1,0 +1,12 @@
+use Rattle.std.proofs.Common.{ap, ◌∙◌}
+use Rattle.doc_values.specs.Unfinished.{with_open, open_kind}
+use Rattle.yaml_blocks.specs.Steps.{has_keys}
+use Rattle.yaml_blocks.proofs.Stacks.{stack_grown}
+use Rattle.yaml_blocks.proofs.node.begin.Goals as goal
+
+pub returns-in-Ok-push : goal.returns-in-Ok-push
+returns-in-Ok-push c = (
+  stack_grown c.push.new.self.items c.args.forms.now.items c.args.form c.in-Ok-push.ensures.items,
+  c.in-Ok.ensures.ok.0 ∙ ap (λ b. with_open (open_kind b) c.offset.result c.args.builder.now) c.has_keys.ensures ∙ ap (λ n. with_open (open_kind (has_keys c.args.form)) n c.args.builder.now) c.offset.ensures,
+  c.in-Ok.ensures.ok.1,
+)

@@ -1,0 +1,6 @@
+use Rattle.std.proofs.Common.{sym}
+use Rattle.yaml_blocks.proofs.Stacks.{top_last}
+use Rattle.yaml_blocks.proofs.node.innermost.Goals as goal
+
+pub returns-in-Some : goal.returns-in-Some
+returns-in-Some c = sym (top_last c.args.forms.now c.in-Some.form.now (sym c.in-Some.ensures.value))

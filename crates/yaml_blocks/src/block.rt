@@ -1,0 +1,635 @@
+//! Block sequences and block mappings: one entry or node at a time, what it adds to the tree, and what may follow it.
+ghost use Rattle.std.specs.Prelude.{◌≡◌, ℕ, List, ◌+◌, ◌*◌, ◌≤◌, length, true, false, None};
+ghost use Rattle.std.specs.Cow.{cow_str_bytes};
+ghost use Rattle.std.specs.Str.{IsCharBoundary};
+ghost use Rattle.doc_values.specs.Unfinished.{AwaitsValue};
+ghost use Rattle.yaml_blocks.specs.Ahead.{ahead};
+ghost use Rattle.yaml_blocks.specs.Nodes.{starts_scalar};
+ghost use Rattle.yaml_blocks.specs.Blocks.{takes_scalar, takes_mapping, takes_sequence, takes_tag, tagged, column_in};
+ghost use Rattle.yaml_blocks.specs.Rest.{top, Ends, Awaits};
+ghost use Rattle.yaml_blocks.specs.Yaml.{IsEnd};
+ghost use Rattle.yaml_blocks.specs.Steps.{stack, IsSeen, IsBlock, IsBehind, IsSmall, HasKey, NoKey, Open, Fits, NoNode, Gives, Ended, is_dash, ends_before};
+
+use crate::ahead::{Ahead, Token, look};
+use crate::flow::open;
+use crate::form::Form;
+use crate::node::{
+    Key, begin, find_key, innermost, is_get_att, offset, setting_of, tag_key, take_null,
+    take_scalar,
+};
+use crate::refusal::YamlRefusal;
+use crate::stage::{Position, Stage};
+use doc_values::DocBuilder;
+use std::alloc::Global;
+
+/// Whether a token is a dash.
+fn is_dash(token: Token) -> bool
+    ensures { result ≡ is_dash token }
+{
+    match token {
+        Token::Dash => true,
+        _ => false,
+    }
+}
+
+/// Whether a scalar or a flow collection may begin at a token.
+fn takes_scalar(form: Form, next: Ahead) -> bool
+    ensures { result ≡ takes_scalar form next }
+{
+    match form {
+        Form::Root => next.fresh,
+        Form::Flow { map: _ } => false,
+        Form::Items { column } => !next.fresh || column < next.column,
+        Form::Entries { column } => !next.fresh || column < next.column,
+        Form::Tagged {
+            at: _,
+            above,
+            shares: _,
+        } => !next.fresh || above <= next.column,
+    }
+}
+
+/// Whether a tag may begin at a token.
+fn takes_tag(form: Form, next: Ahead) -> bool
+    ensures { result ≡ takes_tag form next }
+{
+    match form {
+        Form::Root => next.fresh,
+        Form::Flow { map: _ } => false,
+        Form::Items { column } | Form::Entries { column } => { !next.fresh || column < next.column }
+        Form::Tagged { .. } => false,
+    }
+}
+
+/// What stands behind a tag at a token.
+fn tagged(form: Form, next: Ahead) -> Form
+    requires { IsSmall form }
+    ensures { result ≡ tagged form next }
+{
+    let at = next.at;
+    match form {
+        Form::Root => Form::Tagged {
+            at,
+            above: 0,
+            shares: false,
+        },
+        Form::Flow { map: _ } => Form::Tagged {
+            at,
+            above: 0,
+            shares: false,
+        },
+        Form::Items { column } => Form::Tagged {
+            at,
+            above: column + 1,
+            shares: false,
+        },
+        Form::Entries { column } => Form::Tagged {
+            at,
+            above: column + 1,
+            shares: !next.fresh,
+        },
+        Form::Tagged {
+            at: _,
+            above,
+            shares: _,
+        } => Form::Tagged {
+            at,
+            above,
+            shares: false,
+        },
+    }
+}
+
+/// Whether a mapping may begin at a token.
+fn takes_mapping(form: Form, next: Ahead) -> bool
+    ensures { result ≡ takes_mapping form next }
+{
+    match form {
+        Form::Root => next.fresh,
+        Form::Flow { map: _ } => false,
+        Form::Items { column } => !next.fresh || column < next.column,
+        Form::Entries { column } => next.fresh && column < next.column,
+        Form::Tagged {
+            at: _,
+            above,
+            shares: _,
+        } => next.fresh && above <= next.column,
+    }
+}
+
+/// Whether a sequence may begin at a token.
+fn takes_sequence(form: Form, next: Ahead) -> bool
+    requires { next.column ≤ 8388608 }
+    ensures { result ≡ takes_sequence form next }
+{
+    match form {
+        Form::Root => next.fresh,
+        Form::Flow { map: _ } => false,
+        Form::Items { column } => !next.fresh || column < next.column,
+        Form::Entries { column } => next.fresh && column <= next.column,
+        Form::Tagged {
+            at: _,
+            above,
+            shares,
+        } => next.fresh && (above <= next.column || (shares && above == next.column + 1)),
+    }
+}
+
+/// The column of a collection that begins at a token.
+fn column_in(form: Form, next: Ahead) -> usize
+    requires small { next.at ≤ 8388608 }
+    requires form { IsSmall form }
+    requires column { next.column ≤ next.at }
+    ensures { result ≡ column_in form next }
+{
+    match form {
+        Form::Items { column } if !next.fresh => column + 1 + next.column,
+        _ => next.column,
+    }
+}
+
+/// Whether a block ends before the line of a token.
+fn ends_before(form: Form, next: Ahead) -> bool
+    ensures { result ≡ ends_before form next }
+{
+    match form {
+        Form::Items { column } => {
+            next.column < column || (next.column == column && !is_dash(next.token))
+        }
+        Form::Entries { column } => next.column < column,
+        Form::Tagged { .. } => true,
+        Form::Root => false,
+        Form::Flow { map: _ } => false,
+    }
+}
+
+/// A sequence begins at a `-`.
+fn sequence(
+    text: &str,
+    at: usize,
+    form: Form,
+    next: Ahead,
+    forms: &mut Vec<Form>,
+    builder: &mut DocBuilder,
+) -> Result<Position, YamlRefusal>
+    requires small { length text.now ≤ 8388608 }
+    requires seen { IsSeen text.now false at next }
+    requires form { top (stack forms.old.items) ≡ form }
+    requires block { IsBlock form }
+    requires fits { Fits Stage.Value (stack forms.old.items) builder.old at }
+    requires dash { next.token ≡ Token.Dash }
+    requires takes { takes_sequence form next ≡ true }
+    ensures { Gives text.now (Awaits text.now (stack forms.old.items) builder.old.outer builder.old.done builder.old.key at) (2 * at + 1) (stack forms.new.items) builder.new result }
+{
+    let column = column_in(form, next);
+    match begin(Form::Items { column }, next, forms, builder) {
+        Ok(()) => Ok(Position {
+            stage: Stage::Value,
+            at: next.behind,
+        }),
+        Err(refusal) => Err(refusal),
+    }
+}
+
+/// A mapping begins at its first key.
+fn mapping<'s>(
+    text: &'s str,
+    at: usize,
+    form: Form,
+    next: Ahead,
+    key: Key<'s>,
+    forms: &mut Vec<Form>,
+    builder: &mut DocBuilder<'s>,
+) -> Result<Position, YamlRefusal>
+    requires small { length text.now ≤ 8388608 }
+    requires seen { IsSeen text.now false at next }
+    requires form { top (stack forms.old.items) ≡ form }
+    requires block { IsBlock form }
+    requires fits { Fits Stage.Value (stack forms.old.items) builder.old at }
+    requires key { HasKey text.now next key }
+    requires takes { takes_mapping form next ≡ true }
+    ensures { Gives text.now (Awaits text.now (stack forms.old.items) builder.old.outer builder.old.done builder.old.key at) (2 * at + 1) (stack forms.new.items) builder.new result }
+{
+    let Key { text: name, behind } = key;
+    let column = column_in(form, next);
+    match begin(Form::Entries { column }, next, forms, builder) {
+        Err(refusal) => Err(refusal),
+        Ok(()) => match builder.key(name, offset(next.at)) {
+            Ok(()) => Ok(Position {
+                stage: Stage::Value,
+                at: behind,
+            }),
+            Err(_) => Err(YamlRefusal::NoMemory),
+        },
+    }
+}
+
+/// The map of a tag begins.
+fn tag<'s>(
+    alloc: Global,
+    text: &'s str,
+    at: usize,
+    form: Form,
+    len: usize,
+    next: Ahead,
+    forms: &mut Vec<Form>,
+    builder: &mut DocBuilder<'s>,
+) -> Result<Position, YamlRefusal>
+    requires small { length text.now ≤ 8388608 }
+    requires seen { IsSeen text.now false at next }
+    requires form { top (stack forms.old.items) ≡ form }
+    requires block { IsBlock form }
+    requires fits { Fits Stage.Value (stack forms.old.items) builder.old at }
+    requires tag { next.token ≡ Token.Tag len }
+    requires takes { takes_tag form next ≡ true }
+    ensures { Gives text.now (Awaits text.now (stack forms.old.items) builder.old.outer builder.old.done builder.old.key at) (2 * at + 1) (stack forms.new.items) builder.new result }
+{
+    if is_get_att(text, next.at, next.behind) {
+        return Err(YamlRefusal::Unread);
+    }
+    let key = match tag_key(alloc, text, next.at, next.behind) {
+        Ok(key) => key,
+        Err(_) => return Err(YamlRefusal::NoMemory),
+    };
+    match begin(tagged(form, next), next, forms, builder) {
+        Err(refusal) => Err(refusal),
+        Ok(()) => match builder.key(key, offset(next.at)) {
+            Ok(()) => Ok(Position {
+                stage: Stage::Value,
+                at: next.behind,
+            }),
+            Err(_) => Err(YamlRefusal::NoMemory),
+        },
+    }
+}
+
+/// A scalar where no key stands.
+fn scalar<'s>(
+    alloc: Global,
+    text: &'s str,
+    at: usize,
+    form: Form,
+    next: Ahead,
+    forms: &[Form],
+    builder: &mut DocBuilder<'s>,
+) -> Result<Position, YamlRefusal>
+    requires small { length text.now ≤ 8388608 }
+    requires seen { IsSeen text.now false at next }
+    requires form { top (stack forms.now) ≡ form }
+    requires block { IsBlock form }
+    requires fits { Fits Stage.Value (stack forms.now) builder.old at }
+    requires starts { starts_scalar next.token ≡ true }
+    requires takes { takes_scalar form next ≡ true }
+    requires no_key { takes_mapping form next ≡ true → NoKey text.now next }
+    ensures { Gives text.now (Awaits text.now (stack forms.now) builder.old.outer builder.old.done builder.old.key at) (2 * at + 1) (stack forms.now) builder.new result }
+{
+    take_scalar(alloc, text, next, setting_of(form), builder)
+}
+
+/// A mapping or a scalar.
+fn content<'s>(
+    alloc: Global,
+    text: &'s str,
+    at: usize,
+    form: Form,
+    next: Ahead,
+    forms: &mut Vec<Form>,
+    builder: &mut DocBuilder<'s>,
+) -> Result<Position, YamlRefusal>
+    requires small { length text.now ≤ 8388608 }
+    requires seen { IsSeen text.now false at next }
+    requires form { top (stack forms.old.items) ≡ form }
+    requires block { IsBlock form }
+    requires fits { Fits Stage.Value (stack forms.old.items) builder.old at }
+    requires starts { starts_scalar next.token ≡ true }
+    requires takes { takes_scalar form next ≡ true }
+    ensures { Gives text.now (Awaits text.now (stack forms.old.items) builder.old.outer builder.old.done builder.old.key at) (2 * at + 1) (stack forms.new.items) builder.new result }
+{
+    if !takes_mapping(form, next) {
+        return scalar(alloc, text, at, form, next, forms, builder);
+    }
+    match find_key(alloc, text, next) {
+        Err(refusal) => Err(refusal),
+        Ok(None) => scalar(alloc, text, at, form, next, forms, builder),
+        Ok(Some(key)) => mapping(text, at, form, next, key, forms, builder),
+    }
+}
+
+/// No node stands there: it is null, but for the root.
+fn missing(
+    text: &str,
+    at: usize,
+    form: Form,
+    next: Ahead,
+    forms: &[Form],
+    builder: &mut DocBuilder,
+) -> Result<Position, YamlRefusal>
+    requires small { length text.now ≤ 8388608 }
+    requires seen { IsSeen text.now false at next }
+    requires boundary { IsCharBoundary text.now at }
+    requires form { top (stack forms.now) ≡ form }
+    requires block { IsBlock form }
+    requires fits { Fits Stage.Value (stack forms.now) builder.old at }
+    requires none { NoNode form next }
+    ensures { Gives text.now (Awaits text.now (stack forms.now) builder.old.outer builder.old.done builder.old.key at) (2 * at + 1) (stack forms.now) builder.new result }
+{
+    match form {
+        Form::Root => Err(YamlRefusal::Unread),
+        _ => take_null(at, at, builder),
+    }
+}
+
+/// A flow collection begins.
+fn brackets(
+    text: &str,
+    at: usize,
+    form: Form,
+    map: bool,
+    next: Ahead,
+    forms: &mut Vec<Form>,
+    builder: &mut DocBuilder,
+) -> Result<Position, YamlRefusal>
+    requires small { length text.now ≤ 8388608 }
+    requires seen { IsSeen text.now false at next }
+    requires form { top (stack forms.old.items) ≡ form }
+    requires block { IsBlock form }
+    requires fits { Fits Stage.Value (stack forms.old.items) builder.old at }
+    requires opens { next.token ≡ Token.Opens map }
+    requires takes { takes_scalar form next ≡ true }
+    ensures { Gives text.now (Awaits text.now (stack forms.old.items) builder.old.outer builder.old.done builder.old.key at) (2 * at + 1) (stack forms.new.items) builder.new result }
+{
+    open(map, next, forms, builder)
+}
+
+/// The root, or the value behind `-` or a key.
+pub(crate) fn node<'s>(
+    alloc: Global,
+    text: &'s str,
+    at: usize,
+    form: Form,
+    forms: &mut Vec<Form>,
+    builder: &mut DocBuilder<'s>,
+) -> Result<Position, YamlRefusal>
+    requires small { length text.now ≤ 8388608 }
+    requires boundary { IsCharBoundary text.now at }
+    requires form { top (stack forms.old.items) ≡ form }
+    requires block { IsBlock form }
+    requires fits { Fits Stage.Value (stack forms.old.items) builder.old at }
+    ensures { Gives text.now (Awaits text.now (stack forms.old.items) builder.old.outer builder.old.done builder.old.key at) (2 * at + 1) (stack forms.new.items) builder.new result }
+{
+    let next = look(text, false, at);
+    match next.token {
+        Token::Dash => {
+            if takes_sequence(form, next) {
+                sequence(text, at, form, next, forms, builder)
+            } else {
+                missing(text, at, form, next, forms, builder)
+            }
+        }
+        Token::Tag { len } => {
+            if takes_tag(form, next) {
+                tag(alloc, text, at, form, len, next, forms, builder)
+            } else {
+                missing(text, at, form, next, forms, builder)
+            }
+        }
+        Token::Opens { map } => {
+            if takes_scalar(form, next) {
+                brackets(text, at, form, map, next, forms, builder)
+            } else {
+                missing(text, at, form, next, forms, builder)
+            }
+        }
+        Token::Other | Token::Point { .. } => {
+            if takes_scalar(form, next) {
+                content(alloc, text, at, form, next, forms, builder)
+            } else {
+                missing(text, at, form, next, forms, builder)
+            }
+        }
+        _ => missing(text, at, form, next, forms, builder),
+    }
+}
+
+/// The collections end that end before the line of a token.
+fn end_before(
+    next: Ahead,
+    forms: &mut Vec<Form>,
+    builder: &mut DocBuilder,
+) -> Result<(), YamlRefusal>
+    requires open { Open (stack forms.old.items) builder.old }
+    requires block { IsBlock (top (stack forms.old.items)) }
+    requires awaited { builder.old.key ≡ None }
+    ensures { (text : List ℕ) (i : ℕ) → next ≡ ahead text false i → Ended text (stack forms.old.items) builder.old next i (stack forms.new.items) builder.new result }
+{
+    while ends_before(innermost(forms), next) {
+        let Some(_) = forms.pop() else { unreachable!() };
+        match builder.end() {
+            Ok(()) => {}
+            Err(_) => return Err(YamlRefusal::NoMemory),
+        }
+    }
+    Ok(())
+}
+
+/// Another item of a sequence.
+fn item(
+    text: &str,
+    at: usize,
+    column: usize,
+    next: Ahead,
+    forms: &[Form],
+    builder: &DocBuilder,
+) -> Result<Position, YamlRefusal>
+    requires seen { IsSeen text.now false at next }
+    requires fresh { next.fresh ≡ true }
+    requires inside { IsEnd text.now at → ⊥ }
+    requires form { top (stack forms.now) ≡ Form.Items column }
+    requires stays { ends_before (Form.Items column) next ≡ false }
+    requires open { Open (stack forms.now) builder.now }
+    requires awaited { builder.now.key ≡ None }
+    ensures { Gives text.now (Ends text.now (stack forms.now) builder.now.outer builder.now.done at) (2 * at + 2) (stack forms.now) builder.now result }
+{
+    if next.column != column {
+        return Err(YamlRefusal::Unread);
+    }
+    match next.token {
+        Token::Dash => Ok(Position {
+            stage: Stage::Value,
+            at: next.behind,
+        }),
+        _ => Err(YamlRefusal::Unread),
+    }
+}
+
+/// Another entry of a mapping.
+fn entry<'s>(
+    alloc: Global,
+    text: &'s str,
+    at: usize,
+    column: usize,
+    next: Ahead,
+    forms: &[Form],
+    builder: &mut DocBuilder<'s>,
+) -> Result<Position, YamlRefusal>
+    requires small { length text.now ≤ 8388608 }
+    requires seen { IsSeen text.now false at next }
+    requires fresh { next.fresh ≡ true }
+    requires inside { IsEnd text.now at → ⊥ }
+    requires form { top (stack forms.now) ≡ Form.Entries column }
+    requires stays { ends_before (Form.Entries column) next ≡ false }
+    requires open { Open (stack forms.now) builder.old }
+    requires awaited { builder.old.key ≡ None }
+    ensures { Gives text.now (Ends text.now (stack forms.now) builder.old.outer builder.old.done at) (2 * at + 2) (stack forms.now) builder.new result }
+{
+    if next.column != column {
+        return Err(YamlRefusal::Unread);
+    }
+    let key = match find_key(alloc, text, next) {
+        Ok(Some(key)) => key,
+        Ok(None) => return Err(YamlRefusal::Unread),
+        Err(refusal) => return Err(refusal),
+    };
+    let Key {
+        text: words,
+        behind,
+    } = key;
+    match builder.key(words, offset(next.at)) {
+        Ok(()) => Ok(Position {
+            stage: Stage::Value,
+            at: behind,
+        }),
+        Err(refusal) => Err(YamlRefusal::from(refusal)),
+    }
+}
+
+/// Another entry of the innermost block.
+fn head<'s>(
+    alloc: Global,
+    text: &'s str,
+    at: usize,
+    form: Form,
+    next: Ahead,
+    forms: &[Form],
+    builder: &mut DocBuilder<'s>,
+) -> Result<Position, YamlRefusal>
+    requires small { length text.now ≤ 8388608 }
+    requires seen { IsSeen text.now false at next }
+    requires fresh { next.fresh ≡ true }
+    requires inside { IsEnd text.now at → ⊥ }
+    requires form { top (stack forms.now) ≡ form }
+    requires block { IsBlock form }
+    requires stays { ends_before form next ≡ false }
+    requires open { Open (stack forms.now) builder.old }
+    requires awaited { builder.old.key ≡ None }
+    ensures { Gives text.now (Ends text.now (stack forms.now) builder.old.outer builder.old.done at) (2 * at + 2) (stack forms.now) builder.new result }
+{
+    match form {
+        Form::Items { column } => item(text, at, column, next, forms, builder),
+        Form::Entries { column } => entry(alloc, text, at, column, next, forms, builder),
+        Form::Root => Err(YamlRefusal::Unread),
+        Form::Flow { map: _ } => unreachable!(),
+        Form::Tagged { .. } => unreachable!(),
+    }
+}
+
+/// A line behind a complete node.
+fn line<'s>(
+    alloc: Global,
+    text: &'s str,
+    at: usize,
+    next: Ahead,
+    forms: &mut Vec<Form>,
+    builder: &mut DocBuilder<'s>,
+) -> Result<Position, YamlRefusal>
+    requires small { length text.now ≤ 8388608 }
+    requires seen { IsSeen text.now false at next }
+    requires inside { IsEnd text.now at → ⊥ }
+    requires block { IsBlock (top (stack forms.old.items)) }
+    requires open { Open (stack forms.old.items) builder.old }
+    requires awaited { builder.old.key ≡ None }
+    ensures { Gives text.now (Ends text.now (stack forms.old.items) builder.old.outer builder.old.done at) (2 * at + 2) (stack forms.new.items) builder.new result }
+{
+    if !next.fresh {
+        return Err(YamlRefusal::Unread);
+    }
+    match end_before(next, forms, builder) {
+        Err(refusal) => Err(refusal),
+        Ok(()) => head(alloc, text, at, innermost(forms), next, forms, builder),
+    }
+}
+
+/// All collections end with the document.
+fn end_all(
+    text: &str,
+    at: usize,
+    forms: &mut Vec<Form>,
+    builder: &mut DocBuilder,
+) -> Result<Position, YamlRefusal>
+    requires boundary { IsCharBoundary text.now at }
+    requires end { IsEnd text.now at }
+    requires block { IsBlock (top (stack forms.old.items)) }
+    requires open { Open (stack forms.old.items) builder.old }
+    requires awaited { builder.old.key ≡ None }
+    ensures { Gives text.now (Ends text.now (stack forms.old.items) builder.old.outer builder.old.done at) (2 * at + 2) (stack forms.new.items) builder.new result }
+{
+    while let Some(_) = forms.pop() {
+        match builder.end() {
+            Ok(()) => {}
+            Err(_) => return Err(YamlRefusal::NoMemory),
+        }
+    }
+    Ok(Position {
+        stage: Stage::Whole,
+        at,
+    })
+}
+
+/// Whether nothing stands behind a place.
+fn is_text_end(text: &str, at: usize) -> bool
+    requires small { length text.now ≤ 8388608 }
+    requires boundary { IsCharBoundary text.now at }
+    ensures yes { result ≡ true → (ahead text.now false at).token ≡ Token.End }
+    ensures no { result ≡ false → (ahead text.now false at).token ≡ Token.End → ⊥ }
+{
+    match look(text, false, at).token {
+        Token::End => true,
+        _ => false,
+    }
+}
+
+/// Whether the document ends at a token.
+fn is_document_end(text: &str, at: usize, next: Ahead) -> bool
+    requires small { length text.now ≤ 8388608 }
+    requires seen { IsSeen text.now false at next }
+    ensures yes { result ≡ true → IsEnd text.now at }
+    ensures no { result ≡ false → IsEnd text.now at → ⊥ }
+{
+    match next.token {
+        Token::End => true,
+        Token::Dots => is_text_end(text, next.behind),
+        _ => false,
+    }
+}
+
+/// What follows a complete node outside of flow.
+pub(crate) fn after<'s>(
+    alloc: Global,
+    text: &'s str,
+    at: usize,
+    forms: &mut Vec<Form>,
+    builder: &mut DocBuilder<'s>,
+) -> Result<Position, YamlRefusal>
+    requires small { length text.now ≤ 8388608 }
+    requires boundary { IsCharBoundary text.now at }
+    requires block { IsBlock (top (stack forms.old.items)) }
+    requires open { Open (stack forms.old.items) builder.old }
+    requires awaited { builder.old.key ≡ None }
+    ensures { Gives text.now (Ends text.now (stack forms.old.items) builder.old.outer builder.old.done at) (2 * at + 2) (stack forms.new.items) builder.new result }
+{
+    let next = look(text, false, at);
+    if is_document_end(text, at, next) {
+        return end_all(text, at, forms, builder);
+    }
+    line(alloc, text, at, next, forms, builder)
+}

@@ -1,0 +1,334 @@
+//! What nodes are made of: scalars, missing nodes, keys outside of flow, and collections that begin.
+ghost use Rattle.std.specs.Prelude.{◌≡◌, ℕ, ◌+◌, ◌<◌, ◌≤◌, ◌≤ℤ◌, length, [], true, false, Some, None, MatchOption, IfOk, ◌||◌, pos, negsuc};
+ghost use Rattle.std.specs.Cow.{cow_str_bytes};
+ghost use Rattle.std.specs.Str.{IsCharBoundary, bytes_eq};
+ghost use Rattle.doc_values.specs.Tree.{has_text};
+ghost use Rattle.doc_values.specs.Unfinished.{with_value, AwaitsValue};
+ghost use Rattle.yaml_blocks.specs.Ahead.{ahead};
+ghost use Rattle.yaml_blocks.specs.Nodes.{below, tag_name, tag_key, get_att, ref_text, condition_text, setting_of, as_key, starts_scalar};
+ghost use Rattle.yaml_blocks.specs.Steps.{stack, has_keys, IsSmall, Finds, FindsKey, leaf_text, Holds, Begun, Completes};
+ghost use Rattle.yaml_blocks.specs.Rest.{top};
+
+use crate::ahead::{Ahead, Token, look};
+use crate::form::Form;
+use crate::refusal::YamlRefusal;
+use crate::stage::{Position, Stage};
+use doc_values::{DocBuilder, Kind};
+use std::alloc::{AllocError, Global};
+use std::borrow::CowStr;
+use yaml_scalars::{Scalar, Setting, read_scalar};
+
+/// A key outside of flow.
+#[derive(Debug, Drop)]
+pub(crate) struct Key<'s> {
+    pub(crate) text: CowStr<'s>,
+    /// The place behind its colon.
+    pub(crate) behind: usize,
+}
+
+/// The indentation of the parent of a block's nodes.
+fn parent(column: usize) -> i32
+    requires { column ≤ 8388608 }
+    ensures { result ≡ pos column }
+{
+    column as i32
+}
+
+/// The indentation above which this is the least.
+fn below(above: usize) -> i32
+    requires { above ≤ 8388609 }
+    ensures is { result ≡ below above }
+    ensures low { negsuc 0 ≤ℤ result }
+    ensures high { result ≤ℤ pos 8388608 }
+{
+    if above == 0 {
+        return -1;
+    }
+    parent(above - 1)
+}
+
+/// How a node stands.
+pub(crate) fn setting_of(form: Form) -> Setting
+    requires { IsSmall form }
+    ensures is { result ≡ setting_of form }
+    ensures low { negsuc 0 ≤ℤ result.parent }
+    ensures high { result.parent ≤ℤ pos 8388608 }
+{
+    match form {
+        Form::Root => Setting {
+            parent: -1,
+            flow: false,
+            one_line: false,
+        },
+        Form::Flow { map: _ } => Setting {
+            parent: -1,
+            flow: true,
+            one_line: false,
+        },
+        Form::Items { column } => Setting {
+            parent: parent(column),
+            flow: false,
+            one_line: false,
+        },
+        Form::Entries { column } => Setting {
+            parent: parent(column),
+            flow: false,
+            one_line: false,
+        },
+        Form::Tagged {
+            at: _,
+            above,
+            shares: _,
+        } => Setting {
+            parent: below(above),
+            flow: false,
+            one_line: false,
+        },
+    }
+}
+
+/// How a key stands, in flow or outside of it.
+pub(crate) fn as_key(flow: bool) -> Setting
+    ensures { result ≡ as_key flow }
+{
+    Setting {
+        parent: -1,
+        flow,
+        one_line: true,
+    }
+}
+
+/// Whether the entries of a form have keys.
+fn has_keys(form: Form) -> bool
+    ensures { result ≡ has_keys form }
+{
+    match form {
+        Form::Flow { map } => map,
+        Form::Entries { column: _ } => true,
+        Form::Tagged { .. } => true,
+        Form::Root => false,
+        Form::Items { column: _ } => false,
+    }
+}
+
+/// A collection of a form begins at a token.
+pub(crate) fn begin(
+    form: Form,
+    next: Ahead,
+    forms: &mut Vec<Form>,
+    builder: &mut DocBuilder,
+) -> Result<(), YamlRefusal>
+    requires small { next.at ≤ 8388608 }
+    requires awaited { AwaitsValue builder.old }
+    ensures { Begun form next (stack forms.old.items) builder.old (stack forms.new.items) builder.new result }
+{
+    match builder.begin(has_keys(form), offset(next.at)) {
+        Err(refused) => Err(YamlRefusal::from(refused)),
+        Ok(()) => match forms.push(form) {
+            Err(_) => Err(YamlRefusal::NoMemory),
+            Ok(()) => Ok(()),
+        },
+    }
+}
+
+/// What the innermost of the open collections is.
+pub(crate) fn innermost(forms: &[Form]) -> Form
+    ensures { result ≡ top (stack forms.now) }
+{
+    match forms.last() {
+        None => Form::Root,
+        Some(form) => *form,
+    }
+}
+
+/// An offset in a text of at most 8 MiB.
+pub(crate) fn offset(i: usize) -> u32
+    requires { i ≤ 8388608 }
+    ensures { result ≡ i }
+{
+    i as u32
+}
+
+/// Whether a scalar may begin where this token is seen.
+fn starts_scalar(token: Token) -> bool
+    ensures { result ≡ starts_scalar token }
+{
+    match token {
+        Token::Other => true,
+        Token::Point { .. } => true,
+        _ => false,
+    }
+}
+
+/// The scalar at a token.
+pub(crate) fn find_scalar<'s>(
+    alloc: Global,
+    text: &'s str,
+    next: Ahead,
+    setting: Setting,
+) -> Result<Scalar<'s>, YamlRefusal>
+    requires small { length text.now ≤ 8388608 }
+    requires boundary { IsCharBoundary text.now next.at }
+    requires low { negsuc 0 ≤ℤ setting.parent }
+    requires high { setting.parent ≤ℤ pos 8388608 }
+    ensures { Finds text.now setting next result }
+{
+    if !starts_scalar(next.token) {
+        return Err(YamlRefusal::Unread);
+    }
+    if next.at == text.len() {
+        return Err(YamlRefusal::Unread);
+    }
+    match read_scalar(alloc, text, next.at, setting) {
+        Ok(scalar) => Ok(scalar),
+        Err(refusal) => Err(YamlRefusal::from(refusal)),
+    }
+}
+
+/// The text that a value of a kind keeps.
+fn kept_text<'s>(kind: &Kind, text: CowStr<'s>) -> CowStr<'s>
+    requires { has_text kind.now ≡ true → kind.now ≡ Kind.Text }
+    ensures { cow_str_bytes result ≡ leaf_text kind.now (cow_str_bytes text.entry) }
+{
+    match kind {
+        Kind::Text => text,
+        _ => CowStr::Borrowed(""),
+    }
+}
+
+/// The scalar at a token becomes a value.
+pub(crate) fn take_scalar<'s>(
+    alloc: Global,
+    text: &'s str,
+    next: Ahead,
+    setting: Setting,
+    builder: &mut DocBuilder<'s>,
+) -> Result<Position, YamlRefusal>
+    requires small { length text.now ≤ 8388608 }
+    requires boundary { IsCharBoundary text.now next.at }
+    requires low { negsuc 0 ≤ℤ setting.parent }
+    requires high { setting.parent ≤ℤ pos 8388608 }
+    requires awaited { AwaitsValue builder.old }
+    ensures { Holds text.now setting next builder.old builder.new result }
+{
+    let scalar = match find_scalar(alloc, text, next, setting) {
+        Ok(scalar) => scalar,
+        Err(refusal) => return Err(refusal),
+    };
+    let Scalar {
+        kind,
+        text: words,
+        end,
+    } = scalar;
+    let content = kept_text(&kind, words);
+    match builder.scalar(kind, content, offset(next.at)) {
+        Ok(()) => Ok(Position {
+            stage: Stage::After,
+            at: end,
+        }),
+        Err(_) => Err(YamlRefusal::NoMemory),
+    }
+}
+
+/// Null becomes a value, where a node is missing.
+pub(crate) fn take_null(
+    place: usize,
+    at: usize,
+    builder: &mut DocBuilder,
+) -> Result<Position, YamlRefusal>
+    requires small { place ≤ 8388608 }
+    requires awaited { AwaitsValue builder.old }
+    ensures { Completes at (with_value Kind.Null [] place builder.old) builder.new result }
+{
+    match builder.scalar(Kind::Null, CowStr::Borrowed(""), offset(place)) {
+        Ok(()) => Ok(Position {
+            stage: Stage::After,
+            at,
+        }),
+        Err(_) => Err(YamlRefusal::NoMemory),
+    }
+}
+
+/// The place behind the colon of a key outside of flow whose end is at a place, if there is one.
+fn colon_behind(text: &str, end: usize) -> Option<usize>
+    requires small { length text.now ≤ 8388608 }
+    requires boundary { IsCharBoundary text.now end }
+    ensures { MatchOption result (((ahead text.now false end).fresh ≡ false) → ((ahead text.now false end).token ≡ Token.Point true) → ⊥) (λ p. ((ahead text.now false end).fresh ≡ false) × ((ahead text.now false end).token ≡ Token.Point true) × (p ≡ (ahead text.now false end).behind) × IsCharBoundary text.now p × (end ≤ p)) }
+{
+    let next = look(text, false, end);
+    if next.fresh {
+        return None;
+    }
+    match next.token {
+        Token::Point { loose: true } => Some(next.behind),
+        _ => None,
+    }
+}
+
+/// The key that stands at a token outside of flow with its colon, if one does.
+pub(crate) fn find_key<'s>(
+    alloc: Global,
+    text: &'s str,
+    next: Ahead,
+) -> Result<Option<Key<'s>>, YamlRefusal>
+    requires small { length text.now ≤ 8388608 }
+    requires boundary { IsCharBoundary text.now next.at }
+    ensures { FindsKey text.now next result }
+{
+    let scalar = match find_scalar(alloc, text, next, as_key(false)) {
+        Ok(scalar) => scalar,
+        Err(YamlRefusal::Unread) => return Ok(None),
+        Err(YamlRefusal::NoMemory) => return Err(YamlRefusal::NoMemory),
+    };
+    let Scalar {
+        kind: _,
+        text: words,
+        end,
+    } = scalar;
+    let Some(behind) = colon_behind(text, end) else {
+        return Ok(None);
+    };
+    Ok(Some(Key {
+        text: words,
+        behind,
+    }))
+}
+
+/// Whether a name is the key of its own tag.
+fn is_key_itself(name: &str) -> bool
+    ensures { result ≡ (bytes_eq name.now ref_text || bytes_eq name.now condition_text) }
+{
+    name == "Ref" || name == "Condition"
+}
+
+/// Whether the tag from one place to another is one that is not read.
+pub(crate) fn is_get_att(text: &str, at: usize, behind: usize) -> bool
+    requires order { at < behind }
+    requires first { IsCharBoundary text.now (at + 1) }
+    requires last { IsCharBoundary text.now behind }
+    ensures { result ≡ bytes_eq (tag_name text.now at behind) get_att }
+{
+    &text[at + 1..behind] == "GetAtt"
+}
+
+/// The key that the tag from one place to another stands for.
+pub(crate) fn tag_key<'s>(
+    alloc: Global,
+    text: &'s str,
+    at: usize,
+    behind: usize,
+) -> Result<CowStr<'s>, AllocError>
+    requires order { at < behind }
+    requires first { IsCharBoundary text.now (at + 1) }
+    requires last { IsCharBoundary text.now behind }
+    ensures { IfOk result (λ key. cow_str_bytes key ≡ tag_key (tag_name text.now at behind)) }
+{
+    let name = &text[at + 1..behind];
+    if is_key_itself(name) {
+        return Ok(CowStr::Borrowed(name));
+    }
+    let mut key = String::new(alloc);
+    key.push_str("Fn::")?;
+    key.push_str(name)?;
+    Ok(CowStr::Owned(key))
+}
