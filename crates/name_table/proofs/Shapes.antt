@@ -26,31 +26,31 @@ use Rattle.name_table.proofs.Parts.{here, elsewhere, in-first, in-second, not-fi
 use Rattle.name_table.proofs.Tied.{tied-body, tied-lets, tied-disjs, tied-query, tied-conds, tied-opt_conds, tied-expr}
 use Rattle.name_table.proofs.Lists.{begins-body, begins-expr}
 
-let-seen : (l : Let) → see_let l ≡ sx.assign l.site l.name (see_expr l.value)
+pub let-seen : (l : Let) → see_let l ≡ sx.assign l.site l.name (see_expr l.value)
 let-seen l = search (rules, the_lemmas)
 
-disj-seen : (d : Disj) → see_disj d ≡ sx.disj d.site (part_list (map see_part d.parts.items))
+pub disj-seen : (d : Disj) → see_disj d ≡ sx.disj d.site (part_list (map see_part d.parts.items))
 disj-seen d = search (rules, the_lemmas)
 
-body-seen : (b : Body) → see_body b ≡ sx.body (out-Body b).site (let_list (map see_let (out-Body b).lets.items)) (disj_list (map see_disj (out-Body b).parts.items))
+pub body-seen : (b : Body) → see_body b ≡ sx.body (out-Body b).site (let_list (map see_let (out-Body b).lets.items)) (disj_list (map see_disj (out-Body b).parts.items))
 body-seen b = search (rules, the_lemmas)
 
-conds-seen : (c : Conds) → see_conds c ≡ sx.conds (out-Conds c).site (disj_list (map see_disj (out-Conds c).parts.items))
+pub conds-seen : (c : Conds) → see_conds c ≡ sx.conds (out-Conds c).site (disj_list (map see_disj (out-Conds c).parts.items))
 conds-seen c = search (rules, the_lemmas)
 
-query-seen : (q : Query) → see_query q ≡ sx.query (out-Query q).site (step_list (map see_step (out-Query q).steps.items))
+pub query-seen : (q : Query) → see_query q ≡ sx.query (out-Query q).site (step_list (map see_step (out-Query q).steps.items))
 query-seen q = search (rules, the_lemmas)
 
-step-seen : (s : Step) → see_step s ≡ see_form s.form s.site
+pub step-seen : (s : Step) → see_step s ≡ see_form s.form s.site
 step-seen s = search (rules, the_lemmas)
 
-block-seen : (site : ℕ) (any : Bool) (head : Query) (inner : Body) → see_part (part.Block site any head inner) ≡ sx.block site any (see_query head) (see_body inner)
+pub block-seen : (site : ℕ) (any : Bool) (head : Query) (inner : Body) → see_part (part.Block site any head inner) ≡ sx.block site any (see_query head) (see_body inner)
 block-seen site any head inner = search (rules, the_lemmas)
 
-when-seen : (site : ℕ) (cond : Conds) (inner : Body) → see_part (part.When site cond inner) ≡ sx.guarded site (see_conds cond) (see_body inner)
+pub when-seen : (site : ℕ) (cond : Conds) (inner : Body) → see_part (part.When site cond inner) ≡ sx.guarded site (see_conds cond) (see_body inner)
 when-seen site cond inner = search (rules, the_lemmas)
 
-kinds-seen : (site : ℕ) (name : List ℕ) (cond : Option Conds) (inner : Body) → see_part (part.Kinds site name cond inner) ≡ sx.kinds site name (see_opt_conds cond) (see_body inner)
+pub kinds-seen : (site : ℕ) (name : List ℕ) (cond : Option Conds) (inner : Body) → see_part (part.Kinds site name cond inner) ≡ sx.kinds site name (see_opt_conds cond) (see_body inner)
 kinds-seen site name cond inner = search (rules, the_lemmas)
 
 -- ---- a let
@@ -273,7 +273,7 @@ call-rise x site negated name args message es is are h =
     subst (λ (xs : List Expr). Rise (sites_exprs (expr_list (map see_expr xs)))) (sym are)
     (rise-behind site _ (subst (λ (y : sx.Part). Rise (sites_part y)) (ap see_part is ∙ call-seen site negated name args message) h))
 
-function-seen : (site : ℕ) (name : List ℕ) (args : Vec Expr Global) → see_expr (expr.Function site name args) ≡ sx.function site name (expr_list (map see_expr args.items))
+pub function-seen : (site : ℕ) (name : List ℕ) (args : Vec Expr Global) → see_expr (expr.Function site name args) ≡ sx.function site name (expr_list (map see_expr args.items))
 function-seen site name args = search (rules, the_lemmas)
 
 pub function-rise : (x : Expr) (site : ℕ) (name : List ℕ) (args : Vec Expr Global) (es : List Expr)

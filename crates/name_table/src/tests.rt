@@ -121,7 +121,7 @@ fn empty(alloc: Global, site: u32) -> Body
     }
 }
 
-/// `let x = count(k, null)`, from 1 to 5.
+/// `let x = join(k, null)`, from 1 to 5.
 fn first_let(alloc: Global) -> Result<Let, Fail>
     ensures { IfOk result (λ l. sites_let (see_let l) ≡ upto 1 5) }
 {
@@ -132,7 +132,7 @@ fn first_let(alloc: Global) -> Result<Let, Fail>
         name: name(alloc, "x", 4)?,
         value: Expr::Function {
             site: 2,
-            name: text(alloc, "count")?,
+            name: text(alloc, "join")?,
             args,
         },
     })
@@ -150,7 +150,7 @@ fn inner_let(alloc: Global) -> Result<Let, Fail>
     })
 }
 
-/// `k[ k exists ] { q or s(null) }`, from 17 to 31.
+/// `k[ k exists ] { r or p(null) }`, from 17 to 31.
 fn filtered(alloc: Global) -> Result<Disj, Fail>
     ensures { IfOk result (λ d. sites_disj (see_disj d) ≡ upto 17 15) }
 {
@@ -175,7 +175,7 @@ fn filtered(alloc: Global) -> Result<Disj, Fail>
     let call = Part::Call {
         site: 30,
         not: false,
-        name: text(alloc, "s")?,
+        name: text(alloc, "p")?,
         args: vec![in alloc; literal(alloc, 31)?]?,
         note: None,
     };
@@ -290,16 +290,21 @@ fn last_rule(alloc: Global) -> Result<Rule, Fail>
     })
 }
 
-/// A file with parts of each kind: a let, a rule, a part outside rules, and a rule with a parameter. The place of each
-/// site is four times its number.
+/// A file with parts of each kind: a let, a rule, a part outside rules, a rule with a parameter, and an empty rule. The
+/// place of each site is four times its number.
 fn whole(alloc: Global) -> Result<RawFile, Fail>
     ensures { IfOk result (λ f. AreInOrder (see_file f)) }
 {
-    let rules = vec![in alloc; first_rule(alloc)?, last_rule(alloc)?]?;
+    let rules = vec![in alloc;
+        first_rule(alloc)?,
+        last_rule(alloc)?,
+        bare(alloc, 58, "q", 232)?,
+    ]?;
     let places = vec![in alloc;
         0, 4, 8, 12, 16, 20, 24, 28, 32, 36, 40, 44, 48, 52, 56, 60, 64, 68, 72, 76, 80, 84, 88,
         92, 96, 100, 104, 108, 112, 116, 120, 124, 128, 132, 136, 140, 144, 148, 152, 156, 160,
-        164, 168, 172, 176, 180, 184, 188, 192, 196, 200, 204, 208, 212, 216, 220, 224, 228,
+        164, 168, 172, 176, 180, 184, 188, 192, 196, 200, 204, 208, 212, 216, 220, 224, 228, 232,
+        236,
     ]?;
     Ok(RawFile {
         lets: vec![in alloc; first_let(alloc)?]?,
@@ -386,7 +391,7 @@ fn expr_site(expr: &Expr) -> u32 {
 }
 
 /// The kinds of the parts of that file, in the order of their sites.
-const KINDS: &[u8; 58] = b"fleqsercdpqsbleqsdpqsscdpqsbdppedpcdpqsbdpqssqserbdpcdpqsb";
+const KINDS: &[u8; 60] = b"fleqsercdpqsbleqsdpqsscdpqsbdppedpcdpqsbdpqssqserbdpcdpqsbrb";
 
 #[test]
 fn each_site_has_its_part(rt: HostRuntime) -> Result<(), Fail> {
@@ -395,13 +400,13 @@ fn each_site_has_its_part(rt: HostRuntime) -> Result<(), Fail> {
     let Ok(file) = resolve(alloc, raw) else {
         return Err(Fail::from("refused"));
     };
-    for site in 0..58 {
+    for site in 0..60 {
         assert!(rt;
             shown(&file, site) == Some((KINDS[site as usize], site)),
             "{site}"
         );
     }
-    assert!(rt; matches!(file.order(), [6, 0]));
+    assert!(rt; matches!(file.order(), [6, 58, 0]));
     Ok(())
 }
 

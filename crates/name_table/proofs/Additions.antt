@@ -1,0 +1,62 @@
+-- A node is added to those that a node names: what is named then, in the graph and in its rows.
+use Rattle.std.proofs.Common.{◌≡◌, ℕ, ◌<◌, ◌⊎◌, inl, inr, ap, sym, ◌∙◌, subst, List, [], ◌∷◌, ◌++◌, length, get_or, set, map, arith, Vec, Global}
+use Rattle.std.specs.List.{Contains}
+use Rattle.std.proofs.lemmas.Bool.{cases_eq}
+use Rattle.std.proofs.lemmas.List.{length-set, get_or-set_same, get_or-set_other, map-set, set-get_or, get_or-map}
+use Rattle.std.proofs.lemmas.List.Elements.{Contains-push, Contains-push_cases, Contains-append_left}
+use Rattle.name_table.specs.Graphs.{Graph, IsGraph, Names}
+
+module _ (g : Graph) (a b : ℕ) (within : a < length g) where
+  pub named-after : (x y : ℕ) → Names (set g a (get_or g a [] ++ b ∷ [])) x y → Names g x y ⊎ ((a ≡ x) × (b ≡ y))
+  named-after x y h = elim (cases_eq x a) [
+    | inl e ↦
+        let at_a : Contains (get_or (set g a (get_or g a [] ++ b ∷ [])) a []) y = subst (λ (z : ℕ). Contains (get_or (set g a (get_or g a [] ++ b ∷ [])) z []) y) e h in
+        let pushed : Contains (get_or g a [] ++ b ∷ []) y = subst (λ (row : List ℕ). Contains row y) (get_or-set_same g a (get_or g a [] ++ b ∷ []) [] within) at_a in
+        elim (Contains-push_cases (get_or g a []) b y pushed) [
+          | inl k ↦ inl (subst (λ (z : ℕ). Names g z y) (sym e) k)
+          | inr k ↦ inr (sym e, k)
+        ]
+    | inr n ↦ inl (subst (λ (row : List ℕ). Contains row y) (get_or-set_other g a x (get_or g a [] ++ b ∷ []) [] n) h)
+  ]
+
+  pub names-kept : (x y : ℕ) → Names g x y → Names (set g a (get_or g a [] ++ b ∷ [])) x y
+  names-kept x y h = elim (cases_eq x a) [
+    | inl e ↦
+        let there : Contains (get_or g a []) y = subst (λ (z : ℕ). Names g z y) e h in
+        let pushed = Contains-append_left (get_or g a []) (b ∷ []) y there in
+        let at_a : Names (set g a (get_or g a [] ++ b ∷ [])) a y = subst (λ (row : List ℕ). Contains row y) (sym (get_or-set_same g a (get_or g a [] ++ b ∷ []) [] within)) pushed in
+        subst (λ (z : ℕ). Names (set g a (get_or g a [] ++ b ∷ [])) z y) (sym e) at_a
+    | inr n ↦ subst (λ (row : List ℕ). Contains row y) (sym (get_or-set_other g a x (get_or g a [] ++ b ∷ []) [] n)) h
+  ]
+
+  pub names-added : Names (set g a (get_or g a [] ++ b ∷ [])) a b
+  names-added = subst (λ (row : List ℕ). Contains row b) (sym (get_or-set_same g a (get_or g a [] ++ b ∷ []) [] within)) (Contains-push (get_or g a []) b)
+
+  pub graph-added : IsGraph g → b < length g → IsGraph (set g a (get_or g a [] ++ b ∷ []))
+  graph-added is fits =
+      let same = length-set g a (get_or g a [] ++ b ∷ []) in
+      record {
+        named = λ x y h. elim (named-after x y h) [
+          | inl k ↦ subst (λ (n : ℕ). y < n) (sym same) (is.named x y k)
+          | inr e ↦ subst (λ (n : ℕ). y < n) (sym same) (subst (λ (z : ℕ). z < length g) e.1 fits)
+        ];
+        few = let few = is.few in omega arith;
+      }
+
+-- the rows as lists
+abbrev pub lists : List (Vec ℕ Global) → Graph
+lists rows = map (λ (row : Vec ℕ Global). row.items) rows
+
+pub row-is : (rows : List (Vec ℕ Global)) (i : ℕ) (row : Vec ℕ Global) → i < length rows → row ≡ get_or rows i row → get_or (lists rows) i [] ≡ row.items
+row-is rows i row l is = get_or-map (λ (r : Vec ℕ Global). r.items) rows i row [] l ∙ ap (λ (r : Vec ℕ Global). r.items) (sym is)
+
+pub row-kept : (rows : List (Vec ℕ Global)) (i : ℕ) (row new : Vec ℕ Global) → i < length rows → row ≡ get_or rows i row → new.items ≡ row.items → lists (set rows i new) ≡ lists rows
+row-kept rows i row new l is same =
+    map-set (λ (r : Vec ℕ Global). r.items) rows i new
+    ∙ ap (λ (r : List ℕ). set (lists rows) i r) (same ∙ sym (row-is rows i row l is))
+    ∙ set-get_or (lists rows) i []
+
+pub row-pushed : (rows : List (Vec ℕ Global)) (i b : ℕ) (row new : Vec ℕ Global) → i < length rows → row ≡ get_or rows i row → new.items ≡ row.items ++ b ∷ [] → lists (set rows i new) ≡ set (lists rows) i (get_or (lists rows) i [] ++ b ∷ [])
+row-pushed rows i b row new l is pushed =
+    map-set (λ (r : Vec ℕ Global). r.items) rows i new
+    ∙ ap (λ (r : List ℕ). set (lists rows) i r) (pushed ∙ ap (λ (r : List ℕ). r ++ b ∷ []) (sym (row-is rows i row l is)))

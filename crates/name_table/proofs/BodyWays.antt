@@ -1,0 +1,41 @@
+-- The ways of a body, part of it by part of it.
+use Rattle.std.proofs.Common.{◌≡◌, ℕ, List, ◌++◌, map, ap, sym, ◌∙◌}
+use Rattle.std.proofs.lemmas.List.{append_assoc}
+use Rattle.guard_syntax.specs.Named.{Named}
+use Rattle.guard_syntax.specs.Syntax as sx
+use Rattle.guard_syntax.specs.declared.syntax.Body.{Body, out-Body}
+use Rattle.guard_syntax.specs.declared.syntax.Let.{Let}
+use Rattle.guard_syntax.specs.declared.syntax.Disj.{Disj}
+use Rattle.guard_syntax.specs.Seen.{see_let, see_disj, see_body, let_list, disj_list}
+use Rattle.name_table.specs.Scopes.{Given, given_body}
+use Rattle.name_table.specs.Ways.{Way, to_each, value_sites, disj_sites, ways_body, ways_lets, ways_disjs}
+use Rattle.name_table.proofs.Shapes.{body-seen}
+
+-- four lists behind one, one by one
+in_turn : {X : Type 0} (ws as_ bs cs ds : List X) → (((ws ++ as_) ++ bs) ++ cs) ++ ds ≡ ws ++ (as_ ++ (bs ++ (cs ++ ds)))
+in_turn ws as_ bs cs ds = append_assoc ((ws ++ as_) ++ bs) cs ds ∙ append_assoc (ws ++ as_) bs (cs ++ ds) ∙ append_assoc ws as_ (bs ++ (cs ++ ds))
+
+module _ (rules : List sx.Rule) (count : ℕ) (outer : List Given) (params : List Named) where
+  pub body-ways : (b : Body) (ls lets : List Let) (ds parts : List Disj) (own inner : List Given) (start first second third : List Way)
+      → ls ≡ (out-Body b).lets.items → ds ≡ (out-Body b).parts.items → lets ≡ (out-Body b).lets.items → parts ≡ (out-Body b).parts.items
+      → own ≡ given_body params (see_body b) → inner ≡ own ++ outer
+      → first ≡ start ++ to_each (out-Body b).site (value_sites (let_list (map see_let ls)))
+      → second ≡ first ++ to_each (out-Body b).site (disj_sites (disj_list (map see_disj ds)))
+      → third ≡ second ++ ways_lets rules count inner (let_list (map see_let lets))
+      → third ++ ways_disjs rules count inner (disj_list (map see_disj parts)) ≡ start ++ ways_body rules count outer params (see_body b)
+  body-ways b ls lets ds parts own inner start first second third are be are_too be_too named seen one two three =
+      let n = (out-Body b).site in
+      let l = let_list (map see_let (out-Body b).lets.items) in
+      let d = disj_list (map see_disj (out-Body b).parts.items) in
+      let visible : inner ≡ given_body params (see_body b) ++ outer = seen ∙ ap (λ (g : List Given). g ++ outer) named in
+      let first_is : first ≡ start ++ to_each n (value_sites l) = one ∙ ap (λ (xs : List Let). start ++ to_each n (value_sites (let_list (map see_let xs)))) are in
+      let second_is : second ≡ (start ++ to_each n (value_sites l)) ++ to_each n (disj_sites d) =
+      two ∙ ap (λ (xs : List Disj). first ++ to_each n (disj_sites (disj_list (map see_disj xs)))) be ∙ ap (λ (w : List Way). w ++ to_each n (disj_sites d)) first_is in
+      let third_is : third ≡ ((start ++ to_each n (value_sites l)) ++ to_each n (disj_sites d)) ++ ways_lets rules count inner l =
+      three ∙ ap (λ (xs : List Let). second ++ ways_lets rules count inner (let_list (map see_let xs))) are_too ∙ ap (λ (w : List Way). w ++ ways_lets rules count inner l) second_is in
+      ap (λ (xs : List Disj). third ++ ways_disjs rules count inner (disj_list (map see_disj xs))) be_too
+      ∙ ap (λ (w : List Way). w ++ ways_disjs rules count inner d) third_is
+      ∙ in_turn start (to_each n (value_sites l)) (to_each n (disj_sites d)) (ways_lets rules count inner l) (ways_disjs rules count inner d)
+      ∙ ap (λ (v : List Given). start ++ (to_each n (value_sites l) ++ (to_each n (disj_sites d) ++ (ways_lets rules count v l ++ ways_disjs rules count v d)))) visible
+      ∙ ap (λ (x : sx.Body). start ++ (to_each n (value_sites l) ++ (to_each n (disj_sites d) ++ (ways_lets rules count (given_body params x ++ outer) l ++ ways_disjs rules count (given_body params x ++ outer) d)))) (body-seen b)
+      ∙ ap (λ (x : sx.Body). start ++ ways_body rules count outer params x) (sym (body-seen b))

@@ -1,0 +1,24 @@
+use Rattle.std.proofs.Common.{◌≡◌, List, [], None, Option, map, ap, sym, ◌∙◌}
+use Rattle.std.specs.Borrow.{Bor}
+use Rattle.std.proofs.lemmas.Result.{IfOk-weaker}
+use Rattle.guard_syntax.specs.Named.{Named}
+use Rattle.guard_syntax.specs.Seen.{see_file, see_rule}
+use Rattle.guard_syntax.specs.declared.syntax.Rule.{Rule}
+use Rattle.name_table.specs.declared.refusal.NameKind.TheVariants.{DuplicateRule}
+use Rattle.name_table.specs.Doubles.{doubles, double_rules, double_names, given_again, fault_of, rule_names}
+use Rattle.name_table.specs.Faults.{Fault, first_from, first_of}
+use Rattle.name_table.specs.Seen.{see_best, see_names}
+use Rattle.name_table.proofs.FirstFaults.{first-append}
+use Rattle.name_table.proofs.doubles.first_double.Goals as goal
+
+pub returns : goal.returns
+returns c =
+    let file = see_file c.args.file.now in
+    let best = see_best c.in_ok-best.best in
+    let names : see_names c.deref-2.result.now ≡ rule_names file.rules =
+    ap (λ (l : List (Bor Named)). see_names l) c.deref-2.ensures.value ∙ c.in_ok-names.ensures ∙ ap (λ (l : List Rule). rule_names (map see_rule l)) c.deref.ensures.value in
+    let rules : best ≡ first_from None (double_rules file) =
+    c.in_ok-best.ensures ∙ ap (λ (l : List Named). first_from None (map (fault_of DuplicateRule) (given_again [] l))) names in
+    IfOk-weaker c.in_scopes.result (λ found. see_best found ≡ first_from best (double_names file)) (λ found. see_best found ≡ first_of (doubles file))
+    (λ found is. is ∙ ap (λ (b : Option Fault). first_from b (double_names file)) rules ∙ sym (first-append None (double_rules file) (double_names file)))
+    c.in_scopes.ensures

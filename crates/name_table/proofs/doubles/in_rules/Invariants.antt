@@ -1,0 +1,11 @@
+use Rattle.std.proofs.Common.{◌≡◌, drop, map}
+use Rattle.guard_syntax.specs.Seen.{see_rule}
+use Rattle.name_table.specs.Doubles.{doubled}
+use Rattle.name_table.specs.Faults.{first_from}
+use Rattle.name_table.specs.Scopes.{scopes_rules}
+use Rattle.name_table.specs.Seen.{see_best}
+use Rattle.name_table.proofs.doubles.in_rules.Given as goal
+
+abbrev pub invariant-loop-rule : goal.invariant-loop-rule
+invariant-loop-rule l =
+    first_from (see_best l.best) (doubled (scopes_rules (map see_rule (drop l.rule-index l.rules)))) ≡ first_from (see_best l.initial.best) (doubled (scopes_rules (map see_rule l.rules)))

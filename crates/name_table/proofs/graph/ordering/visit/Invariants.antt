@@ -1,0 +1,13 @@
+use Rattle.std.proofs.Common.{◌+◌, ◌*◌, vec_len}
+use Rattle.name_table.specs.Marks.{unmarked}
+use Rattle.name_table.specs.Ordering.{IsWalked, Begins}
+use Rattle.name_table.proofs.graph.ordering.visit.Given as goal
+
+abbrev pub invariant-loop-node : goal.invariant-loop-node
+invariant-loop-node l = record {
+  walked : IsWalked l.graph l.walk l.path.items;
+  begins : Begins l.root l.fn.walk l.walk;
+}
+
+abbrev pub decreases-loop-node : goal.decreases-loop-node
+decreases-loop-node l = 2 * unmarked l.walk.begun.items + vec_len l.path

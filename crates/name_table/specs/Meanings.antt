@@ -1,0 +1,18 @@
+-- The names that are visible in a scope.
+use Rattle.std.specs.Prelude.{List, [], ◌++◌, Option, Some, None}
+use Rattle.std.specs.Borrow.{Bor}
+use Rattle.name_table.specs.declared.meanings.Meanings.{Meanings, fold-Meanings}
+use Rattle.name_table.specs.declared.meanings.Meanings.TheOpen.{Meanings-F}
+use Rattle.name_table.specs.Scopes.{Given}
+use Rattle.name_table.specs.Seen.{see_given}
+
+-- its own, and those of the scopes around it
+abbrev pub visible_around : Option (Bor (List Given)) → List Given
+visible_around None = []
+visible_around (Some outer) = outer.now
+
+abbrev pub visible_step : Meanings-F (List Given) → List Given
+visible_step m = see_given m.own.now.names.items ++ visible_around m.outer
+
+abbrev pub visible_in : Meanings → List Given
+visible_in = fold-Meanings (List Given) visible_step

@@ -1,0 +1,67 @@
+//! What is the matter with a name, and which of several faults is answered.
+ghost use Rattle.std.specs.Prelude.{◌≡◌, ℕ, Bool, Some};
+ghost use Rattle.name_table.specs.Faults.{rank, precedes, earlier};
+ghost use Rattle.name_table.specs.Refused.{IsRefusalOf};
+ghost use Rattle.name_table.specs.Seen.{see_wrong, see_best};
+
+use crate::refusal::{NameKind, NameRefusal};
+use guard_syntax::Text;
+use std::alloc::Global;
+
+/// What is the matter with a name of a rule file, and where.
+#[derive(Clone, Copy)]
+pub(crate) struct Wrong<'f> {
+    pub kind: NameKind,
+    pub name: &'f str,
+    pub at: u32,
+}
+
+/// Of faults at one place, the one of the lower rank is answered.
+fn rank(kind: NameKind) -> u32
+    ensures { result ≡ rank kind }
+{
+    match kind {
+        NameKind::DuplicateRule => 0,
+        NameKind::DuplicateName => 0,
+        NameKind::UnknownRule => 1,
+        NameKind::UnknownVariable => 2,
+        NameKind::UnknownFunction => 3,
+        NameKind::NeedsArguments => 4,
+        NameKind::TakesNone => 4,
+        NameKind::ArgCount => 5,
+        NameKind::LiteralWanted => 6,
+        NameKind::RecursiveRule => 7,
+        NameKind::RecursiveVariable => 8,
+    }
+}
+
+/// Whether a fault comes before another.
+fn precedes(a: &Wrong, b: &Wrong) -> bool
+    ensures { result ≡ precedes (see_wrong a.now) (see_wrong b.now) }
+{
+    a.at < b.at || (a.at == b.at && rank(a.kind) < rank(b.kind))
+}
+
+/// The one of two faults that comes first.
+pub(crate) fn earlier<'f>(best: Option<Wrong<'f>>, other: Wrong<'f>) -> Wrong<'f>
+    ensures { see_wrong result ≡ earlier (see_best best.entry) (see_wrong other.entry) }
+{
+    match best {
+        Some(best) => { if precedes(&other, &best) { other } else { best } }
+        None => other,
+    }
+}
+
+/// The refusal of a fault.
+pub(crate) fn refuse(alloc: Global, wrong: Wrong) -> NameRefusal
+    ensures { IsRefusalOf (see_wrong wrong.entry) result }
+{
+    match String::from_str(alloc, wrong.name) {
+        Ok(text) => NameRefusal::Bad {
+            kind: wrong.kind,
+            name: Text::new(text),
+            at: wrong.at,
+        },
+        Err(_) => NameRefusal::NoMemory,
+    }
+}
