@@ -13,6 +13,7 @@ use Rattle.guard_syntax.specs.declared.row.Verdict.{Verdict}
 use Rattle.value_compare.specs.Known.{Known, is_known, is_known_ref}
 use Rattle.query_steps.specs.Filters.{candidates_of, row_candidates, candidates_in, kept, filtered}
 use Rattle.query_steps.specs.Verdicts.{is_found, is_pass}
+use Rattle.query_steps.proofs.KnownRows.{filter-all}
 
 -- what is kept, as the candidates beside their verdicts are told apart
 abbrev pub kept_pairs : List Ref → List Verdict → List Row
@@ -64,19 +65,8 @@ known-row known rows i d made new within put before all =
     ∙ and_from _ _ before (and_from _ _ (known-at known rows i d within all) refl)
 
 -- known values that pass a test, as rows
-known-some : (known : Known) (passes : Bool) (r : Ref) (rs : List Ref) → is_known_ref known r ≡ true → list_all (is_known_ref known) rs ≡ true
-    → list_all (is_known_ref known) (if passes then r ∷ rs else rs) ≡ true
-known-some known true r rs here others = and_from _ _ here others
-known-some known false r rs here others = others
-
-known-filter : (known : Known) (test : Ref → Bool) (rs : List Ref) → list_all (is_known_ref known) rs ≡ true → list_all (is_known_ref known) (filter test rs) ≡ true
-known-filter known test [] all = refl
-known-filter known test (r ∷ rs) all =
-    let parts = and_parts (is_known_ref known r) (list_all (is_known_ref known) rs) all in
-    known-some known (test r) r (filter test rs) parts.0 (known-filter known test rs parts.1)
-
 pub known-found : (known : Known) (test : Ref → Bool) (rs : List Ref) → list_all (is_known_ref known) rs ≡ true → list_all (is_known known) (map Found (filter test rs)) ≡ true
-known-found known test rs all = list_all-map (is_known known) Found (filter test rs) ∙ known-filter known test rs all
+known-found known test rs all = list_all-map (is_known known) Found (filter test rs) ∙ filter-all test (is_known_ref known) rs all
 
 -- a row that was not found stays
 stays : (known : Known) (after_key : Bool) (row : Row) (rows : List Row) (vs : List Verdict) → is_found row ≡ false → filtered known after_key (row ∷ rows) vs ≡ row ∷ filtered known after_key rows vs

@@ -10,7 +10,7 @@ use Rattle.guard_syntax.specs.declared.row.Ref.{Ref}
 use Rattle.value_compare.specs.Known.{Known, is_known_ref, tree_of}
 use Rattle.value_compare.specs.Values.{Value, value_at}
 use Rattle.value_compare.proofs.Nodes.{below, size_in}
-use Rattle.query_steps.specs.Reached.{key_of, node_beside, places, value_for}
+use Rattle.query_steps.specs.Reached.{key_of, node_beside, numbers, value_for}
 
 -- each of the values side by side has a key
 all_keyed : Forest → Bool
@@ -46,7 +46,7 @@ is_entry f n = nat_lt n (size f) && is_some (label_at f n).key
 
 -- values side by side where they stand in a tree, the first at the number n
 side-entries : (f : Forest) (n : ℕ) (g : Forest) → n + size g ≤ size f → ((m : ℕ) → m < size g → find f (n + m) ≡ find g m) → all_keyed g ≡ true
-    → list_all (is_entry f) (places n g) ≡ true
+    → list_all (is_entry f) (numbers n g) ≡ true
 unfolding all_keyed
 side-entries f n Nil fits at keyed = refl
 side-entries f n (Node l kids rest) fits at keyed =
@@ -64,7 +64,7 @@ side-entries f n (Node l kids rest) fits at keyed =
         ap (find f) a ∙ at (suc (size kids + m)) (omega arith) ∙ find_past l kids rest (size kids + m) (omega arith) ∙ ap (find rest) b
 
 -- those of a map in a tree
-entries : (f : Forest) (n : ℕ) → IsTree f → n < size f → is_map (label_at f n).kind ≡ true → list_all (is_entry f) (places (n + 1) (kids_at f n)) ≡ true
+entries : (f : Forest) (n : ℕ) → IsTree f → n < size f → is_map (label_at f n).kind ≡ true → list_all (is_entry f) (numbers (n + 1) (kids_at f n)) ≡ true
 entries f n tree h m = side-entries f (n + 1) (kids_at f n) (size_in f n h) at (kids-keyed false Nil f n tree.values h m)
   where
     at : (m : ℕ) → m < size (kids_at f n) → find f (n + 1 + m) ≡ find (kids_at f n) m
@@ -83,6 +83,6 @@ keys-known k r f (n ∷ ns) there h =
 
 -- the keys of a map are known
 pub entries-known : (k : Known) (r : Ref) (f : Forest) (n : ℕ) → tree_of k r.origin ≡ Some f → value_for k r ≡ value_at f n → IsTree f → n < size f → is_map (value_for k r).kind ≡ true
-    → list_all (λ q. is_known_ref k (key_of q)) (map (node_beside r) (places (n + 1) (kids_at f n))) ≡ true
+    → list_all (λ q. is_known_ref k (key_of q)) (map (node_beside r) (numbers (n + 1) (kids_at f n))) ≡ true
 entries-known k r f n there is tree h m =
-    keys-known k r f (places (n + 1) (kids_at f n)) there (entries f n tree h (ap (λ (v : Value). is_map v.kind) (sym is) ∙ m))
+    keys-known k r f (numbers (n + 1) (kids_at f n)) there (entries f n tree h (ap (λ (v : Value). is_map v.kind) (sym is) ∙ m))

@@ -10,24 +10,24 @@ use Rattle.guard_syntax.specs.declared.row.Ref.{Ref}
 use Rattle.value_compare.specs.Known.{Known, is_known_ref, tree_of, value_in, value_or_key}
 use Rattle.value_compare.specs.Values.{Value, value_at, value_of_key}
 use Rattle.value_compare.proofs.Nodes.{size_in}
-use Rattle.query_steps.specs.Reached.{inside, no_value, node_beside, places, value_for}
+use Rattle.query_steps.specs.Reached.{inside, no_value, node_beside, numbers, value_for}
 
 -- ---- the numbers of values side by side
 
-pub length-places : (n : ℕ) (g : Forest) → length (places n g) ≡ count g
-length-places n Nil = refl
-length-places n (Node l kids rest) = ap suc (length-places (n + 1 + size kids) rest)
+pub length-numbers : (n : ℕ) (g : Forest) → length (numbers n g) ≡ count g
+length-numbers n Nil = refl
+length-numbers n (Node l kids rest) = ap suc (length-numbers (n + 1 + size kids) rest)
 
-pub place-at : (n : ℕ) (g : Forest) (i d : ℕ) → i < count g → get_or (places n g) i d ≡ child_place n g i
+pub place-at : (n : ℕ) (g : Forest) (i d : ℕ) → i < count g → get_or (numbers n g) i d ≡ child_place n g i
 place-at n Nil i d h = absurd (omega arith)
 place-at n (Node l kids rest) zero d h = refl
 place-at n (Node l kids rest) (suc i) d h = place-at (n + 1 + size kids) rest i d (omega arith)
 
 -- one place more
-pub places-more : (n : ℕ) (g : Forest) (i : ℕ) → i < count g → take (i + 1) (places n g) ≡ take i (places n g) ++ child_place n g i ∷ []
-places-more n g i h =
-    let within : i < length (places n g) = let e = length-places n g in omega arith in
-    ap (λ k. take k (places n g)) (add-one i) ∙ take-suc (places n g) i 0 within ∙ ap (λ k. take i (places n g) ++ k ∷ []) (place-at n g i 0 h)
+pub numbers-more : (n : ℕ) (g : Forest) (i : ℕ) → i < count g → take (i + 1) (numbers n g) ≡ take i (numbers n g) ++ child_place n g i ∷ []
+numbers-more n g i h =
+    let within : i < length (numbers n g) = let e = length-numbers n g in omega arith in
+    ap (λ k. take k (numbers n g)) (add-one i) ∙ take-suc (numbers n g) i 0 within ∙ ap (λ k. take i (numbers n g) ++ k ∷ []) (place-at n g i 0 h)
 
 -- ---- what stands in a value
 
@@ -60,16 +60,16 @@ module _ (k : Known) (r : Ref) where
   end : ℕ
   end = r.node + 1 + size (value_for k r).contents
 
-  places-known : (n : ℕ) (g : Forest) → r.node + 1 ≤ n → n + size g ≤ end → list_all (is_known_ref k) (map (node_beside r) (places n g)) ≡ true
+  numbers-known : (n : ℕ) (g : Forest) → r.node + 1 ≤ n → n + size g ≤ end → list_all (is_known_ref k) (map (node_beside r) (numbers n g)) ≡ true
   unfolding end
-  places-known n Nil low high = refl
-  places-known n (Node l kids rest) low high = and_from _ _ (beside-known k r n low (omega arith)) (places-known (n + 1 + size kids) rest (omega arith) (omega arith))
+  numbers-known n Nil low high = refl
+  numbers-known n (Node l kids rest) low high = and_from _ _ (beside-known k r n low (omega arith)) (numbers-known (n + 1 + size kids) rest (omega arith) (omega arith))
 
   pub inside-known : list_all (is_known_ref k) (inside k r) ≡ true
   unfolding end
-  inside-known = places-known (r.node + 1) (value_for k r).contents (omega arith) (omega arith)
+  inside-known = numbers-known (r.node + 1) (value_for k r).contents (omega arith) (omega arith)
 
 -- what stands in the node of a value
-pub inside-node : (k : Known) (r : Ref) (f : Forest) (n : ℕ) → n ≡ r.node → value_for k r ≡ value_at f n → map (node_beside r) (places (n + 1) (kids_at f n)) ≡ inside k r
+pub inside-node : (k : Known) (r : Ref) (f : Forest) (n : ℕ) → n ≡ r.node → value_for k r ≡ value_at f n → map (node_beside r) (numbers (n + 1) (kids_at f n)) ≡ inside k r
 inside-node k r f n same is =
-    ap (λ m. map (node_beside r) (places (m + 1) (kids_at f n))) same ∙ ap (λ (v : Value). map (node_beside r) (places (r.node + 1) v.contents)) (sym is)
+    ap (λ m. map (node_beside r) (numbers (m + 1) (kids_at f n))) same ∙ ap (λ (v : Value). map (node_beside r) (numbers (r.node + 1) v.contents)) (sym is)

@@ -29,7 +29,7 @@ flat_map-all p q f each (x ∷ xs) h =
     let both : (q x ≡ true) × (list_all q xs ≡ true) = and_parts _ _ h in
     list_all-append p (f x) (flat_map f xs) ∙ and_from _ _ (each x both.0) (flat_map-all p q f each xs both.1)
 
-filter-all : {X : Type 0} (p q : X → Bool) (xs : List X) → list_all q xs ≡ true → list_all q (filter p xs) ≡ true
+pub filter-all : {X : Type 0} (p q : X → Bool) (xs : List X) → list_all q xs ≡ true → list_all q (filter p xs) ≡ true
 filter-all p q [] h = refl
 filter-all p q (x ∷ xs) h = let both : (q x ≡ true) × (list_all q xs ≡ true) = and_parts _ _ h in here (p x) both.0 (filter-all p q xs both.1)
   where

@@ -2,7 +2,7 @@
 -- have no rows, a reference and a call of a rule are SKIP, and lets, captures and parameters bind nothing; no file that is evaluated holds one.
 use Rattle.std.specs.Prelude.{ℕ, Bool, true, false, ◌||◌, ◌&&◌, List, [], ◌∷◌, map, filter as kept_of, if◌then◌else◌}
 use Rattle.std.specs.List.{flat_map}
-use Rattle.guard_syntax.specs.Syntax.{File, Rule, Body, Conds, OptConds, Disjs, Disj, Parts, Part, Query, Steps, Step, Expr, OptExpr, body, conds, no_conds, with_conds, no_disjs, more_disjs, disj, no_parts, more_parts, block, guarded, kinds, test, refer, call, query, no_steps, more_steps, var, filter, keys, literal, function, asked, found, no_expr, with_expr}
+use Rattle.guard_syntax.specs.Syntax.{Rule, Body, Conds, OptConds, Disjs, Disj, Parts, Part, Query, Steps, Step, Expr, OptExpr, body, conds, no_conds, with_conds, no_disjs, more_disjs, disj, no_parts, more_parts, block, guarded, kinds, test, refer, call, query, no_steps, more_steps, var, filter, keys, literal, function, asked, found, no_expr, with_expr}
 use Rattle.guard_syntax.specs.declared.syntax.Op.{Op}
 use Rattle.guard_syntax.specs.declared.syntax.Op.TheVariants as op
 use Rattle.guard_syntax.specs.declared.row.Origin.TheVariants.{Template, Literal}
@@ -129,5 +129,5 @@ abbrev pub rule_verdict : Known → Rule → Verdict
 rule_verdict known rule = guarded_by (opt_conds_verdict known root_ref rule.cond) (body_verdict known root_ref rule.body)
 
 -- the parts outside rules: their conjunction, at the root
-abbrev pub loose_verdict : Known → File → Verdict
-loose_verdict known file = conjunction (disj_verdicts known root_ref file.loose)
+abbrev pub loose_verdict : Known → Disjs → Verdict
+loose_verdict known loose = conjunction (disj_verdicts known root_ref loose)

@@ -24,13 +24,13 @@ abbrev pub key_of : Ref → Ref
 key_of r = record { origin = r.origin; node = r.node; key = true }
 
 -- the numbers of values side by side, the first of which has the number `at`
-abbrev pub places : ℕ → Forest → List ℕ
-places at Nil = []
-places at (Node l kids rest) = at ∷ places (at + 1 + size kids) rest
+abbrev pub numbers : ℕ → Forest → List ℕ
+numbers at Nil = []
+numbers at (Node l kids rest) = at ∷ numbers (at + 1 + size kids) rest
 
 -- what stands in a value: the items of a list or the values of a map, in order
 abbrev pub inside : Known → Ref → List Ref
-inside known r = map (node_beside r) (places (r.node + 1) (value_for known r).contents)
+inside known r = map (node_beside r) (numbers (r.node + 1) (value_for known r).contents)
 
 -- the entry of a map with a key; any other value has none
 abbrev pub entry : Known → Ref → List ℕ → Option Ref

@@ -22,8 +22,8 @@ is_skip Pass = false
 is_skip Fail = false
 is_skip Skip = true
 
-abbrev pub told : Bool → Verdict
-told holds = if holds then Pass else Fail
+abbrev pub pass_if : Bool → Verdict
+pass_if holds = if holds then Pass else Fail
 
 -- a conjunction is FAIL if a part is FAIL, else PASS if a part is PASS, else SKIP
 abbrev pub conjunction : List Verdict → Verdict
@@ -36,8 +36,8 @@ disjunction parts = if list_any is_pass parts then Pass else (if list_any is_fai
 -- a test with no left row is SKIP; else it is PASS if each row passes, with `some` if one does, and else FAIL
 abbrev pub test_verdict : (any : Bool) → (Row → Bool) → List Row → Verdict
 test_verdict any holds [] = Skip
-test_verdict true holds (row ∷ rows) = told (list_any holds (row ∷ rows))
-test_verdict false holds (row ∷ rows) = told (list_all holds (row ∷ rows))
+test_verdict true holds (row ∷ rows) = pass_if (list_any holds (row ∷ rows))
+test_verdict false holds (row ∷ rows) = pass_if (list_all holds (row ∷ rows))
 
 abbrev pub is_found : Row → Bool
 is_found (Found v) = true
@@ -46,8 +46,8 @@ is_found (Unmade call) = false
 
 -- a set test `empty` is PASS if no row was found and else FAIL, `!empty` the opposite; it is never SKIP, and `some` changes nothing
 abbrev pub set_verdict : (negated : Bool) → List Row → Verdict
-set_verdict true rows = told (list_any is_found rows)
-set_verdict false rows = told (not (list_any is_found rows))
+set_verdict true rows = pass_if (list_any is_found rows)
+set_verdict false rows = pass_if (not (list_any is_found rows))
 
 -- a block on one row: the verdict of its body with the value as the current one; FAIL where nothing was found
 abbrev pub block_row : (Ref → Verdict) → Row → Verdict

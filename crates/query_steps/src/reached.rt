@@ -6,7 +6,7 @@ ghost use Rattle.doc_values.specs.Tree.{Nil, holds_values, is_map};
 ghost use Rattle.value_compare.specs.Known.{is_known_ref};
 ghost use Rattle.value_compare.specs.Stores.{see_store};
 ghost use Rattle.query_steps.specs.Nodes.{IsNodeOf};
-ghost use Rattle.query_steps.specs.Reached.{entry, inside, item, key_of, node_beside, places, value_for};
+ghost use Rattle.query_steps.specs.Reached.{entry, inside, item, key_of, node_beside, numbers, value_for};
 
 use doc_values::{Cursor, Kind};
 use guard_syntax::Ref;
@@ -95,7 +95,7 @@ pub(crate) fn entries_of(
 
 /// What stands in the node of a value, in order.
 fn inside_node(alloc: Global, value: Ref, node: Cursor<'_, '_>) -> Result<Vec<Ref>, AllocError>
-    ensures { IfOk result (λ refs. refs.items ≡ map (node_beside value) (places (node.entry.id + 1) (kids_at node.entry.doc.now node.entry.id))) }
+    ensures { IfOk result (λ refs. refs.items ≡ map (node_beside value) (numbers (node.entry.id + 1) (kids_at node.entry.doc.now node.entry.id))) }
 {
     let mut refs = Vec::new(alloc);
     for i in 0..node.len() {

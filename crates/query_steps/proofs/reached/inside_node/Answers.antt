@@ -2,8 +2,8 @@ use Rattle.std.proofs.Common.{◌≡◌, ◌+◌, ◌<◌, ◌≤◌, ◌∷◌,
 use Rattle.std.proofs.lemmas.List.{take_all, map-append}
 use Rattle.doc_values.specs.Places.{kids_at, child_place}
 use Rattle.doc_values.specs.Tree.{Forest, count}
-use Rattle.query_steps.specs.Reached.{node_beside, places}
-use Rattle.query_steps.proofs.Known.{length-places, places-more}
+use Rattle.query_steps.specs.Reached.{node_beside, numbers}
+use Rattle.query_steps.proofs.Known.{length-numbers, numbers-more}
 use Rattle.query_steps.proofs.reached.inside_node.Goals as goal
 
 pub loop-i-preserved : goal.loop-i-preserved
@@ -13,14 +13,14 @@ loop-i-preserved c =
     let within : c.loop-i.i < count kids = omega arith in
     let child : c.beside.result ≡ node_beside c.args.value (child_place n kids c.loop-i.i) = c.beside.ensures ∙ ap (node_beside c.args.value) c.child.ensures.id in
     c.in_ok-push.ensures.items ∙ ap (λ rs. rs ++ c.beside.result ∷ []) c.loop-i.invariant
-    ∙ ap (λ r. map (node_beside c.args.value) (take c.loop-i.i (places n kids)) ++ r ∷ []) child
-    ∙ sym (map-append (node_beside c.args.value) (take c.loop-i.i (places n kids)) (child_place n kids c.loop-i.i ∷ []))
-    ∙ sym (ap (map (node_beside c.args.value)) (places-more n kids c.loop-i.i within))
+    ∙ ap (λ r. map (node_beside c.args.value) (take c.loop-i.i (numbers n kids)) ++ r ∷ []) child
+    ∙ sym (map-append (node_beside c.args.value) (take c.loop-i.i (numbers n kids)) (child_place n kids c.loop-i.i ∷ []))
+    ∙ sym (ap (map (node_beside c.args.value)) (numbers-more n kids c.loop-i.i within))
 
 pub returns : goal.returns
 returns c =
     let kids : Forest = kids_at c.args.node.doc.now c.args.node.id in
     let n = c.args.node.id + 1 in
-    let same = length-places n kids in
-    let past : length (places n kids) ≤ c.loop-i.i = omega arith in
-    c.loop-i.invariant ∙ ap (map (node_beside c.args.value)) (take_all c.loop-i.i (places n kids) past)
+    let same = length-numbers n kids in
+    let past : length (numbers n kids) ≤ c.loop-i.i = omega arith in
+    c.loop-i.invariant ∙ ap (map (node_beside c.args.value)) (take_all c.loop-i.i (numbers n kids) past)
