@@ -1,7 +1,9 @@
 -- Rules have one reading or one refusal, but for the place of Syntax. By the cases of the refusals.
 use Rattle.std.proofs.Common.{◌≡◌, ◌⊎◌, ◌≤◌, ℕ, List, length, Option, Some, None, IsNone, true, false, arith, inl, inr, refl, sym, ap, ◌∙◌, subst}
 use Rattle.guard_syntax.specs.Syntax.{File}
-use Rattle.name_table.specs.Names.{Fault, WellNamed, name_fault}
+use Rattle.name_table.specs.Faults.{Fault}
+use Rattle.name_table.specs.Names.{WellNamed, IsNameFault}
+use Rattle.name_table.proofs.OneFault.{one-fault, fault-apart}
 use Rattle.guard_run.specs.Plain.{is_plain}
 use Rattle.guard_run.specs.Inputs.{IsText, IsTooLong, IsNoText, IsSyntax, IsRuleFile, RefusesText, RefusesNames, RefusesRules, name_kind, rules_limit}
 use Rattle.guard_run.specs.declared.ends.Refusal.{Refusal}
@@ -19,7 +21,7 @@ IsPlaced bytes r = (kind : RefusalKind) × (at : ℕ) × (r ≡ At file.Rules ki
 abbrev pub IsFaulty : File → Refusal → Type 0
 IsFaulty f r =
     ((r ≡ RulesUnread) × (is_plain f ≡ false))
-    ⊎ ((fault : Fault) × (r ≡ At file.Rules (name_kind fault.kind) fault.named.at (Some fault.named.text)) × (is_plain f ≡ true) × (name_fault f ≡ Some fault))
+    ⊎ ((fault : Fault) × (r ≡ At file.Rules (name_kind fault.kind) fault.named.at (Some fault.named.text)) × (is_plain f ≡ true) × IsNameFault f fault)
 
 abbrev pub IsBeyond : List ℕ → Refusal → Type 0
 IsBeyond bytes r = IsText rules_limit bytes × ((f : File) × IsSyntax bytes f × IsFaulty f r)
@@ -66,13 +68,11 @@ faulty-one f r q (inl (is, unread)) (inl (is', unread')) = is ∙ sym is'
 faulty-one f r q (inl (is, unread)) (inr (fault, is', plain, first)) = absurd (let both : false ≡ true = sym unread ∙ plain in cc)
 faulty-one f r q (inr (fault, is, plain, first)) (inl (is', unread)) = absurd (let both : false ≡ true = sym unread ∙ plain in cc)
 faulty-one f r q (inr (fault, is, plain, first)) (inr (fault', is', plain', first')) =
-    let both : Some fault ≡ Some fault' = sym first ∙ first' in
-    let same : fault ≡ fault' = cc in
-    is ∙ (ap (λ (o : Fault). At file.Rules (name_kind o.kind) o.named.at (Some o.named.text)) same ∙ sym is')
+    is ∙ (ap (λ (o : Fault). At file.Rules (name_kind o.kind) o.named.at (Some o.named.text)) (one-fault f fault fault' first first') ∙ sym is')
 
 faulty-apart : (f : File) (r : Refusal) → IsFaulty f r → is_plain f ≡ true → WellNamed f → ⊥
 faulty-apart f r (inl (is, unread)) plain named = let both : false ≡ true = sym unread ∙ plain in cc
-faulty-apart f r (inr (fault, is, plain', first)) plain named = let both : true ≡ false = subst (λ (o : Option Fault). IsNone o) first named in cc
+faulty-apart f r (inr (fault, is, plain', first)) plain named = fault-apart f fault first named
 
 -- the conditions exclude each other
 long-apart : (bytes : List ℕ) → IsTooLong rules_limit bytes → length bytes ≤ rules_limit → ⊥

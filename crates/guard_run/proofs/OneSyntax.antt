@@ -14,7 +14,7 @@ use Rattle.guard_parser.specs.Lexemes.{lexemes, lexeme_of, ending}
 use Rattle.guard_parser.specs.File.{Rules, IsSpelled, IsShallow, IsTooDeep, IsDeadEnd, IsBadRange, open_before}
 use Rattle.guard_parser.proofs.Count.{few_tokens}
 use Rattle.guard_run.specs.declared.ends.RefusalKind.{RefusalKind}
-use Rattle.guard_run.specs.declared.ends.RefusalKind.TheVariants.{Unclosed, BadByte, NumberRange, NestTooDeep, Syntax, BadRange, DuplicateRule, TooDeep, DuplicateKey, BadPattern}
+use Rattle.guard_run.specs.declared.ends.RefusalKind.TheVariants.{Unclosed, BadByte, NumberRange, NestTooDeep, Syntax, BadRange, DuplicateRule, DuplicateName, UnknownRule, UnknownVariable, UnknownFunction, NeedsArguments, TakesNone, ArgCount, LiteralWanted, RecursiveRule, RecursiveVariable, TooDeep, DuplicateKey, BadPattern}
 use Rattle.guard_run.specs.Inputs.{IsSyntax, RefusesTokens, RefusesSyntax, RefusesText}
 use Rattle.guard_run.specs.Outcome.{lex_kind}
 use Rattle.guard_run.proofs.Refusing.{pair-one}
@@ -50,6 +50,16 @@ lex-of text NestTooDeep at h = absurd h
 lex-of text Syntax at h = absurd h
 lex-of text BadRange at h = absurd h
 lex-of text DuplicateRule at h = absurd h
+lex-of text DuplicateName at h = absurd h
+lex-of text UnknownRule at h = absurd h
+lex-of text UnknownVariable at h = absurd h
+lex-of text UnknownFunction at h = absurd h
+lex-of text NeedsArguments at h = absurd h
+lex-of text TakesNone at h = absurd h
+lex-of text ArgCount at h = absurd h
+lex-of text LiteralWanted at h = absurd h
+lex-of text RecursiveRule at h = absurd h
+lex-of text RecursiveVariable at h = absurd h
 lex-of text BadPattern at h = absurd h
 lex-of text TooDeep at h = absurd h
 lex-of text DuplicateKey at h = absurd h
@@ -111,6 +121,16 @@ syntax-why text tokens Unclosed at h = absurd h
 syntax-why text tokens BadByte at h = absurd h
 syntax-why text tokens NumberRange at h = absurd h
 syntax-why text tokens DuplicateRule at h = absurd h
+syntax-why text tokens DuplicateName at h = absurd h
+syntax-why text tokens UnknownRule at h = absurd h
+syntax-why text tokens UnknownVariable at h = absurd h
+syntax-why text tokens UnknownFunction at h = absurd h
+syntax-why text tokens NeedsArguments at h = absurd h
+syntax-why text tokens TakesNone at h = absurd h
+syntax-why text tokens ArgCount at h = absurd h
+syntax-why text tokens LiteralWanted at h = absurd h
+syntax-why text tokens RecursiveRule at h = absurd h
+syntax-why text tokens RecursiveVariable at h = absurd h
 syntax-why text tokens BadPattern at h = absurd h
 syntax-why text tokens TooDeep at h = absurd h
 syntax-why text tokens DuplicateKey at h = absurd h

@@ -12,7 +12,7 @@ use Rattle.guard_run.specs.End.{Ended, EndOfPatterns, EndOfTemplate, refused}
 use Rattle.guard_run.specs.declared.ends.Refusal.{Refusal}
 use Rattle.guard_run.specs.declared.ends.Refusal.TheVariants.{RulesUnread, DataUnread, TooLong, NotText, At}
 use Rattle.guard_run.specs.declared.ends.RefusalKind.{RefusalKind}
-use Rattle.guard_run.specs.declared.ends.RefusalKind.TheVariants.{Unclosed, BadByte, NumberRange, NestTooDeep, Syntax, BadRange, DuplicateRule, TooDeep, DuplicateKey, BadPattern}
+use Rattle.guard_run.specs.declared.ends.RefusalKind.TheVariants.{Unclosed, BadByte, NumberRange, NestTooDeep, Syntax, BadRange, DuplicateRule, DuplicateName, UnknownRule, UnknownVariable, UnknownFunction, NeedsArguments, TakesNone, ArgCount, LiteralWanted, RecursiveRule, RecursiveVariable, TooDeep, DuplicateKey, BadPattern}
 use Rattle.guard_run.specs.declared.ends.Which.TheVariants as file
 use Rattle.guard_run.proofs.OnePattern.{next-one, next-apart}
 use Rattle.guard_run.proofs.Refusing.{pair-one}
@@ -34,6 +34,16 @@ json-of text BadByte at h = absurd h
 json-of text NestTooDeep at h = absurd h
 json-of text BadRange at h = absurd h
 json-of text DuplicateRule at h = absurd h
+json-of text DuplicateName at h = absurd h
+json-of text UnknownRule at h = absurd h
+json-of text UnknownVariable at h = absurd h
+json-of text UnknownFunction at h = absurd h
+json-of text NeedsArguments at h = absurd h
+json-of text TakesNone at h = absurd h
+json-of text ArgCount at h = absurd h
+json-of text LiteralWanted at h = absurd h
+json-of text RecursiveRule at h = absurd h
+json-of text RecursiveVariable at h = absurd h
 json-of text BadPattern at h = absurd h
 
 json-one : (text : List ℕ) → OneText text → (kind : RefusalKind) (at : ℕ) (other : RefusalKind) (place : ℕ) → RefusesJson text kind at

@@ -11,14 +11,14 @@ use Rattle.guard_lexer.specs.declared.token.Token.{Token}
 use Rattle.guard_lexer.specs.declared.token.LexRefusal.TheVariants as lex_refusal
 use Rattle.guard_syntax.specs.Syntax.{File}
 use Rattle.guard_parser.specs.File.{Rules, IsTooDeep, IsDeadEnd, IsBadRange}
-use Rattle.name_table.specs.Names.{WellNamed, name_fault}
+use Rattle.name_table.specs.Names.{WellNamed, IsNameFault}
 use Rattle.name_table.specs.declared.refusal.NameKind.{NameKind}
 use Rattle.name_table.specs.declared.refusal.NameKind.TheVariants as naming
 use Rattle.guard_run.specs.Plain.{is_plain}
 use Rattle.guard_run.specs.declared.ends.Refusal.{Refusal}
 use Rattle.guard_run.specs.declared.ends.Refusal.TheVariants.{RulesUnread, TooLong, NotText, At}
 use Rattle.guard_run.specs.declared.ends.RefusalKind.{RefusalKind}
-use Rattle.guard_run.specs.declared.ends.RefusalKind.TheVariants.{Unclosed, BadByte, NumberRange, NestTooDeep, Syntax, BadRange, DuplicateRule, TooDeep, DuplicateKey}
+use Rattle.guard_run.specs.declared.ends.RefusalKind.TheVariants.{Unclosed, BadByte, NumberRange, NestTooDeep, Syntax, BadRange, DuplicateRule, DuplicateName, UnknownRule, UnknownVariable, UnknownFunction, NeedsArguments, TakesNone, ArgCount, LiteralWanted, RecursiveRule, RecursiveVariable, TooDeep, DuplicateKey}
 use Rattle.guard_run.specs.declared.ends.Which.TheVariants as file
 
 -- a text of at most so many bytes
@@ -98,12 +98,22 @@ RefusesText text kind at =
 -- what is the matter with names
 abbrev pub name_kind : NameKind → RefusalKind
 name_kind naming.DuplicateRule = DuplicateRule
+name_kind naming.DuplicateName = DuplicateName
+name_kind naming.UnknownRule = UnknownRule
+name_kind naming.UnknownVariable = UnknownVariable
+name_kind naming.UnknownFunction = UnknownFunction
+name_kind naming.NeedsArguments = NeedsArguments
+name_kind naming.TakesNone = TakesNone
+name_kind naming.ArgCount = ArgCount
+name_kind naming.LiteralWanted = LiteralWanted
+name_kind naming.RecursiveRule = RecursiveRule
+name_kind naming.RecursiveVariable = RecursiveVariable
 
 -- and with the names of a text that has a syntax which is evaluated: with which name, at which byte offset
 abbrev pub RefusesNames : List ℕ → RefusalKind → ℕ → List ℕ → Type 0
 RefusesNames text kind at name = (syntax_tree : File) × IsSyntax text syntax_tree × (is_plain syntax_tree ≡ true)
     × ((fault : NameKind) × (kind ≡ name_kind fault)
-    × (name_fault syntax_tree ≡ Some (record { kind = fault; named = record { text = name; at = at } })))
+    × IsNameFault syntax_tree (record { kind = fault; named = record { text = name; at = at } }))
 
 -- why rules with these bytes are refused
 abbrev pub RefusesRules : List ℕ → Refusal → Type 0

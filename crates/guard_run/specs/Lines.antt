@@ -4,7 +4,7 @@ use Rattle.doc_values.specs.Position.{line_at, column_at}
 use Rattle.guard_run.specs.declared.ends.Refusal.{Refusal}
 use Rattle.guard_run.specs.declared.ends.Refusal.TheVariants.{RulesUnread, DataUnread, TooLong, NotText, At}
 use Rattle.guard_run.specs.declared.ends.RefusalKind.{RefusalKind}
-use Rattle.guard_run.specs.declared.ends.RefusalKind.TheVariants.{Unclosed, BadByte, NumberRange, NestTooDeep, Syntax, BadRange, DuplicateRule, TooDeep, DuplicateKey, BadPattern}
+use Rattle.guard_run.specs.declared.ends.RefusalKind.TheVariants.{Unclosed, BadByte, NumberRange, NestTooDeep, Syntax, BadRange, DuplicateRule, DuplicateName, UnknownRule, UnknownVariable, UnknownFunction, NeedsArguments, TakesNone, ArgCount, LiteralWanted, RecursiveRule, RecursiveVariable, TooDeep, DuplicateKey, BadPattern}
 use Rattle.guard_run.specs.declared.ends.Which.{Which}
 use Rattle.guard_run.specs.declared.ends.Which.TheVariants as file
 
@@ -38,6 +38,16 @@ kind_word NestTooDeep = codes "NestTooDeep"
 kind_word Syntax = codes "Syntax"
 kind_word BadRange = codes "BadRange"
 kind_word DuplicateRule = codes "DuplicateRule"
+kind_word DuplicateName = codes "DuplicateName"
+kind_word UnknownRule = codes "UnknownRule"
+kind_word UnknownVariable = codes "UnknownVariable"
+kind_word UnknownFunction = codes "UnknownFunction"
+kind_word NeedsArguments = codes "NeedsArguments"
+kind_word TakesNone = codes "TakesNone"
+kind_word ArgCount = codes "ArgCount"
+kind_word LiteralWanted = codes "LiteralWanted"
+kind_word RecursiveRule = codes "RecursiveRule"
+kind_word RecursiveVariable = codes "RecursiveVariable"
 kind_word TooDeep = codes "TooDeep"
 kind_word DuplicateKey = codes "DuplicateKey"
 kind_word BadPattern = codes "BadPattern"

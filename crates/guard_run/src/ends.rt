@@ -20,6 +20,27 @@ pub enum RefusalKind {
     BadRange,
     /// In rules, a rule with the name of an earlier one, at this name.
     DuplicateRule,
+    /// In rules, a let, a capture or a parameter with a name that its scope has already, at this name.
+    DuplicateName,
+    /// In rules, a reference or a call that names no rule, at its first byte.
+    UnknownRule,
+    /// In rules, a variable that no scope around it has, at its `%`.
+    UnknownVariable,
+    /// In rules, a function call that names no function, at the name.
+    UnknownFunction,
+    /// In rules, a reference to a rule with parameters, at its first byte.
+    NeedsArguments,
+    /// In rules, a call of a rule without parameters, at its first byte.
+    TakesNone,
+    /// In rules, a call with another number of arguments than its rule or function takes: of a rule at its first byte, of a
+    /// function at the name.
+    ArgCount,
+    /// In rules, a second or third argument of `regex_replace` that is no literal text, at the argument.
+    LiteralWanted,
+    /// In rules, a rule that reaches itself, at its first reference, call or variable by which it does.
+    RecursiveRule,
+    /// In rules, a let or a capture that reaches itself, at its first use of a name by which it does.
+    RecursiveVariable,
     /// In a template, a collection inside 128 others, at its opening bracket.
     TooDeep,
     /// In a template, a key that the map has already, at its opening quotation mark.

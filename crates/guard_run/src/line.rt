@@ -12,7 +12,7 @@ use doc_values::place_of;
 use itoa::Buffer;
 use std::alloc::{AllocError, Global};
 
-/// A line without a name. The longest, `guard: rules 4294967295:4294967295: DuplicateRule`, has 50 bytes with its newline.
+/// A line without a name. The longest, `guard: rules 4294967295:4294967295: RecursiveVariable`, has 54 bytes with its newline.
 type Short = ArrayString<64>;
 
 /// A line on err.
@@ -120,7 +120,7 @@ fn file_word(which: Which) -> &'static str
 /// The name of a kind.
 fn kind_word(kind: RefusalKind) -> &'static str
     ensures word { result.now ≡ kind_word kind }
-    ensures short { length result.now ≤ 13 }
+    ensures short { length result.now ≤ 17 }
 {
     match kind {
         RefusalKind::Unclosed => "Unclosed",
@@ -130,6 +130,16 @@ fn kind_word(kind: RefusalKind) -> &'static str
         RefusalKind::Syntax => "Syntax",
         RefusalKind::BadRange => "BadRange",
         RefusalKind::DuplicateRule => "DuplicateRule",
+        RefusalKind::DuplicateName => "DuplicateName",
+        RefusalKind::UnknownRule => "UnknownRule",
+        RefusalKind::UnknownVariable => "UnknownVariable",
+        RefusalKind::UnknownFunction => "UnknownFunction",
+        RefusalKind::NeedsArguments => "NeedsArguments",
+        RefusalKind::TakesNone => "TakesNone",
+        RefusalKind::ArgCount => "ArgCount",
+        RefusalKind::LiteralWanted => "LiteralWanted",
+        RefusalKind::RecursiveRule => "RecursiveRule",
+        RefusalKind::RecursiveVariable => "RecursiveVariable",
         RefusalKind::TooDeep => "TooDeep",
         RefusalKind::DuplicateKey => "DuplicateKey",
         RefusalKind::BadPattern => "BadPattern",

@@ -106,6 +106,16 @@ fn name_kind(kind: NameKind) -> RefusalKind
 {
     match kind {
         NameKind::DuplicateRule => RefusalKind::DuplicateRule,
+        NameKind::DuplicateName => RefusalKind::DuplicateName,
+        NameKind::UnknownRule => RefusalKind::UnknownRule,
+        NameKind::UnknownVariable => RefusalKind::UnknownVariable,
+        NameKind::UnknownFunction => RefusalKind::UnknownFunction,
+        NameKind::NeedsArguments => RefusalKind::NeedsArguments,
+        NameKind::TakesNone => RefusalKind::TakesNone,
+        NameKind::ArgCount => RefusalKind::ArgCount,
+        NameKind::LiteralWanted => RefusalKind::LiteralWanted,
+        NameKind::RecursiveRule => RefusalKind::RecursiveRule,
+        NameKind::RecursiveVariable => RefusalKind::RecursiveVariable,
     }
 }
 

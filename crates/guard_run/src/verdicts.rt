@@ -44,7 +44,7 @@ pub(crate) fn verdict_of_loose(
 ) -> Result<Verdict, AllocError>
     requires placed { StandsIn (see_store store.now).file (pieces_disjs (disj_list (map see_disj parts.now))) }
     requires book { IsBookOf (see_store store.now).file book.now }
-    ensures { IfOk result (λ v. v ≡ conjunction (meaning.disj_verdicts (see_store store.now) meaning.root_ref (disj_list (map see_disj parts.now)))) }
+    ensures { IfOk result (λ v. v ≡ meaning.loose_verdict (see_store store.now) (disj_list (map see_disj parts.now))) }
 {
     let root = root_of(store);
     verdict_of_disjs(alloc, parts, root, store, book)
@@ -369,9 +369,9 @@ fn verdict_of_set(not: bool, rows: &[Row]) -> Verdict
     ensures { result ≡ set_verdict not rows.now }
 {
     if not {
-        told(one_is_found(rows))
+        pass_if(one_is_found(rows))
     } else {
-        told(!one_is_found(rows))
+        pass_if(!one_is_found(rows))
     }
 }
 
@@ -402,9 +402,9 @@ fn verdict_of_test(
         return Ok(Verdict::Skip);
     }
     if any {
-        Ok(told(one_passes(alloc, op, not, lefts, rights, store, book)?))
+        Ok(pass_if(one_passes(alloc, op, not, lefts, rights, store, book)?))
     } else {
-        Ok(told(all_pass(alloc, op, not, lefts, rights, store, book)?))
+        Ok(pass_if(all_pass(alloc, op, not, lefts, rights, store, book)?))
     }
 }
 
@@ -455,8 +455,8 @@ fn all_pass(
 }
 
 /// PASS where something holds.
-fn told(holds: bool) -> Verdict
-    ensures { result ≡ judged.told holds }
+fn pass_if(holds: bool) -> Verdict
+    ensures { result ≡ judged.pass_if holds }
 {
     if holds { Verdict::Pass } else { Verdict::Fail }
 }
