@@ -2,37 +2,40 @@
 use Rattle.std.proofs.Common.{◌≡◌, ℕ, suc, ◌<◌, ◌≤◌, ◌+◌, ◌*◌, ◌⊎◌, inl, inr, Bool, true, false, ◌||◌, ◌&&◌, not, List, [], ◌∷◌, Option, Some, None, length, refl, sym, ap, ◌∙◌, subst, true≢false, cond, nat_eq, nat_lt, nat_le, arith}
 use Rattle.std.proofs.lemmas.Bool.{ltb-true, lt-ltb, cases_lt}
 use Rattle.std.proofs.lemmas.Bool.Decides.{nat_tests}
-use Rattle.std.specs.Prelude.{Result, Ok, Err}
-use Rattle.std.specs.Str.{IsCharBoundary, bytes_eq}
+use Rattle.std.specs.Prelude.{Result, Ok, Err, option_map, MatchOption}
+use Rattle.std.specs.Str.{IsCharBoundary}
 use Rattle.doc_values.specs.declared.builder.BuildRefusal.{BuildRefusal}
 use Rattle.doc_values.specs.declared.builder.BuildRefusal.TheVariants as build
 use Rattle.doc_values.specs.declared.kind.Kind.TheVariants as kind
-use Rattle.doc_values.specs.Tree.{Forest, has_key}
+use Rattle.doc_values.specs.Tree.{Forest, Nil, has_key}
 use Rattle.doc_values.specs.Unfinished.{Level, Unfinished, with_value, with_open, with_key, with_end, open_kind, MayEnd}
 use Rattle.yaml_scalars.specs.declared.scalar.Setting.{Setting}
+use Rattle.yaml_scalars.specs.Lines.{Stands as Spans, Documents as Divided}
 use Rattle.yaml_scalars.specs.Scalar.{is_typed}
 use Rattle.yaml_scalars.proofs.OneKind.{same_kind}
 use Rattle.yaml_blocks.specs.declared.ahead.Ahead.{Ahead}
 use Rattle.yaml_blocks.specs.declared.ahead.Token.{Token}
-use Rattle.yaml_blocks.specs.declared.ahead.Token.TheVariants.{End, Dashes, Dots, Dash, Tag, Opens, Closes, Comma, Point, Other}
+use Rattle.yaml_blocks.specs.declared.ahead.Token.TheVariants.{End, Dashes, Dots, Dash, Tag, NoTag, Opens, Closes, Comma, Point, Anchor, Percent, Tabbed, Stray, Other}
 use Rattle.yaml_blocks.specs.declared.form.Form.{Form}
 use Rattle.yaml_blocks.specs.declared.node.Key.{Key}
-use Rattle.yaml_blocks.specs.declared.form.Form.TheVariants.{Root, Flow, Items, Entries, Tagged}
+use Rattle.yaml_blocks.specs.declared.form.Form.TheVariants.{Root, Flow, FlowTagged, Items, Entries, Tagged}
 use Rattle.yaml_blocks.specs.declared.stage.Stage.TheVariants as stage
 use Rattle.yaml_blocks.specs.declared.stage.Position.{Position}
 use Rattle.yaml_blocks.specs.declared.refusal.YamlRefusal.{YamlRefusal}
-use Rattle.yaml_blocks.specs.declared.refusal.YamlRefusal.TheVariants.{Unread, NoMemory}
 use Rattle.yaml_blocks.specs.Ahead.{ahead, token_len}
-use Rattle.yaml_blocks.specs.Nodes.{tag_name, tag_key, get_att, setting_of, starts_scalar}
-use Rattle.yaml_blocks.specs.Blocks.{takes_scalar, takes_mapping, takes_sequence, takes_tag, tagged, column_in, IsKey}
-use Rattle.yaml_blocks.specs.Refused.{of_build}
-use Rattle.yaml_blocks.specs.Yaml.{IsEnd}
-use Rattle.yaml_blocks.specs.Rest.{top, Ends, Awaits}
-use Rattle.yaml_blocks.specs.Steps.{IsPlaced, IsSeen, Agrees, Nests, LiesIn, IsSmall, IsBlock, IsBehind, Open, Fits, Goes, Gives, NoKey, NoNode, HasKey, FindsKey, leaf_text, Holds, Begun, Opened, Completes, ends_before, is_dash}
+use Rattle.yaml_blocks.specs.Nodes.{as_key, tag_name, tag_key, follows_get_att, is_cut, setting_of, starts_scalar, scalar_ahead, node_sign, is_tagged}
+use Rattle.yaml_blocks.specs.Blocks.{block_sign, takes_scalar, takes_mapping, takes_sequence, takes_tag, tagged, column_in, IsKey}
+use Rattle.yaml_blocks.specs.Signs.{Sign, ManyDocuments, DuplicateKey, TooDeep, Reading, Tree, Refused}
+use Rattle.yaml_blocks.specs.Refused.{of_build, of_sign}
+use Rattle.yaml_blocks.specs.Yaml.{IsEnd, end_sign}
+use Rattle.yaml_blocks.specs.Rest.{top, Over, Inside, Ends, Enters, Awaits}
+use Rattle.yaml_blocks.specs.Steps.{IsPlaced, IsSeen, Agrees, Nests, LiesIn, IsSmall, IsBlock, IsBehind, Open, Fits, Goes, Broke, Gives, Deep, NoKey, NoNode, HasKey, Missed, Finds, FindsKey, with_scalar, Holds, TagBegun, Opened, Completes, ends_before, is_dash, is_ending}
 use Rattle.yaml_blocks.proofs.Forms.{map_kind, inside, awaits_item, awaits_value}
-use Rattle.yaml_blocks.proofs.Gains.{parts, goes}
-use Rattle.yaml_blocks.proofs.Quiet.{AreQuiet, no_key_at, line_quiet, IsQuiet, quiet_none, node_quiet, sequence_quiet, mapping_takes, tag_takes, shared, deep_quiet, entry_quiet, item_quiet, ended_quiet, ends_pop, pop_ends}
-use Rattle.yaml_blocks.proofs.BlockRests.{awaits_sequence, sequence_awaits, awaits_mapping, mapping_awaits, awaits_tag, tag_awaits, awaits_brackets, brackets_awaits, awaits_scalar, scalar_awaits, awaits_no_scalar, awaits_missing, missing_awaits, root_missing, ends_item, item_ends, ends_entry, entry_ends}
+use Rattle.yaml_blocks.proofs.Gains.{parts, goes, memory_gives, told, untold, sign_gives, IsRoomFor, roomy, deep_gives, value_ends, ends_value, value_deep, deep_value, value_fits}
+use Rattle.yaml_blocks.proofs.Scalars.{key_single}
+use Rattle.yaml_blocks.proofs.Rests.{opened}
+use Rattle.yaml_blocks.proofs.Quiet.{AreQuiet, ending_word, ending_unsigned, signed_inside, word_inside, end_ending, inside_at, sign_ending, end_only, ends_over, over_ends, no_word_at, no_key_at, line_quiet, IsQuiet, quiet_none, node_quiet, sequence_quiet, mapping_takes, tag_takes, shared, deep_quiet, entry_quiet, item_quiet, ended_quiet, ends_pop, pop_ends}
+use Rattle.yaml_blocks.proofs.BlockRests.{awaits_sequence, sequence_awaits, deep_sequence, awaits_mapping, mapping_awaits, deep_mapping, awaits_tag, tag_awaits, deep_tag, awaits_brackets, brackets_awaits, deep_brackets, awaits_scalar, scalar_awaits, awaits_no_scalar, awaits_missing, missing_awaits, root_missing, ends_item, item_ends, ends_entry, key_ends, ends_again, again_ends, ends_no_colon, block_signed, awaits_documents, documents_awaits, awaits_signed, signed_awaits, ends_signed, signed_ends}
 
 -- ---- columns
 
@@ -62,6 +65,7 @@ stood_tag at ab sh i a p text h = let w = shared text a.fresh ab a.column sh h i
 pub sequence_stood : (f : Form) (i : ℕ) (a : Ahead) → IsBlock f → IsBehind f i → (a.fresh ≡ true → a.column ≤ a.at) × (a.fresh ≡ false → a.at ≡ i + a.column) → takes_sequence f a ≡ true → Stood f (column_in f a) a.at (Items (column_in f a))
 sequence_stood Root i a b l p h = (tt, p.0 h)
 sequence_stood (Flow m) i a b l p h = absurd b
+sequence_stood (FlowTagged m) i a b l p h = absurd b
 sequence_stood (Items m) i a b l p h = columns a.fresh m i a.column a.at l (λ e. ltb-true m a.column (either_true a.fresh (nat_lt m a.column) h e)) p.0 p.1
 sequence_stood (Tagged at ab sh) i a b l p h = stood_tag at ab sh i a p [] h
 sequence_stood (Entries m) i a b l p h = let w = both_true a.fresh (nat_le m a.column) h in (le_of m a.column w.1, p.0 w.0)
@@ -69,6 +73,7 @@ sequence_stood (Entries m) i a b l p h = let w = both_true a.fresh (nat_le m a.c
 pub mapping_stood : (f : Form) (i : ℕ) (a : Ahead) → IsBlock f → IsBehind f i → (a.fresh ≡ true → a.column ≤ a.at) × (a.fresh ≡ false → a.at ≡ i + a.column) → takes_mapping f a ≡ true → Stood f (column_in f a) a.at (Entries (column_in f a))
 mapping_stood Root i a b l p h = (tt, p.0 h)
 mapping_stood (Flow m) i a b l p h = absurd b
+mapping_stood (FlowTagged m) i a b l p h = absurd b
 mapping_stood (Items m) i a b l p h = columns a.fresh m i a.column a.at l (λ e. ltb-true m a.column (either_true a.fresh (nat_lt m a.column) h e)) p.0 p.1
 mapping_stood (Tagged at ab sh) i a b l p h = let w = both_true a.fresh (nat_le ab a.column) h in (le_of ab a.column w.1, p.0 w.0)
 mapping_stood (Entries m) i a b l p h = let w = both_true a.fresh (nat_lt m a.column) h in (ltb-true m a.column w.1, p.0 w.0)
@@ -82,18 +87,14 @@ column_within i a p = by_line a.fresh refl where
 -- ---- where a node is awaited
 
 -- the document does not end at such a token
-pub no_end : (text : List ℕ) (i : ℕ) → ((ahead text false i).token ≡ End → ⊥) → ((ahead text false i).token ≡ Dots → ⊥) → IsEnd text i → ⊥
-no_end text i e d (inl h) = e h
-no_end text i e d (inr (h, g)) = d h
+end_token : (text : List ℕ) (i : ℕ) (t : Token) → (ahead text false i).token ≡ t → is_ending t ≡ false → Inside text i
+end_token text i t e n = inside_at text i (ap is_ending e ∙ n)
 
-end_token : (text : List ℕ) (i : ℕ) (t : Token) → (ahead text false i).token ≡ t → (t ≡ End → ⊥) → (t ≡ Dots → ⊥) → IsEnd text i → ⊥
-end_token text i t e a b = no_end text i (λ h. a (sym e ∙ h)) (λ h. b (sym e ∙ h))
-
-start_token : (text : List ℕ) (i : ℕ) → starts_scalar (ahead text false i).token ≡ true → IsEnd text i → ⊥
-start_token text i s = no_end text i (λ h. true≢false (sym s ∙ ap starts_scalar h)) (λ h. true≢false (sym s ∙ ap starts_scalar h))
+start_token : (text : List ℕ) (i : ℕ) → starts_scalar (ahead text false i).token ≡ true → Inside text i
+start_token text i s = inside_at text i (word_inside (ahead text false i).token s)
 
 -- a node begins at a token, and is awaited at its place
-abbrev pub Awaiting : List ℕ → List Form → Unfinished → ℕ → Forest → Type 0
+abbrev pub Awaiting : List ℕ → List Form → Unfinished → ℕ → Reading → Type 0
 Awaiting text fs u at v = Awaits text fs u.outer u.done u.key at v
 
 abbrev pub Spot : List ℕ → List Form → Unfinished → Form → ℕ → Ahead → Type 0
@@ -102,19 +103,26 @@ Spot text fs u f at a = (length text ≤ 8388608) × IsPlaced text at a × (top 
 pub spot : (text : List ℕ) (fs : List Form) (u : Unfinished) (f : Form) (at : ℕ) (a : Ahead) → length text ≤ 8388608 → IsSeen text false at a → top fs ≡ f → IsBlock f → Fits stage.Value fs u at → Spot text fs u f at a
 spot text fs u f at a s (e, p) t b (o, n, w, l) = (s, p, t, b, o, subst (λ g. IsBehind g at) t l)
 
--- a refused beginning
-pub begun_refused : (text : List ℕ) (P : Forest → Type 0) (n : ℕ) (g : Form) (a : Ahead) (fs gs : List Form) (u w : Unfinished) (r : YamlRefusal) → ((v : Forest) → P v → length u.outer < 128) → Begun g a fs u gs w (Err r) → Gives text P n gs w (Err r)
-begun_refused text P n g a fs gs u w Unread h e = λ v x. absurd (let d = h v x in omega (arith, d, e))
-begun_refused text P n g a fs gs u w NoMemory h e = tt
+-- where another collection begins, and its first node is awaited
+abbrev pub First : List ℕ → List Form → Unfinished → ℕ → Form → Bool → Option (List ℕ) → ℕ → Reading → Type 0
+First text fs u at g map k p v = Awaits text (g ∷ fs) (opened text map u.key (ahead text false at).at u.done ∷ u.outer) Nil k p v
 
 -- ---- a sequence
 
 module _ (text : List ℕ) (fs : List Form) (u : Unfinished) (f : Form) (at : ℕ) (sp : Spot text fs u f at (ahead text false at)) (t : (ahead text false at).token ≡ Dash) (tk : takes_sequence f (ahead text false at) ≡ true) where
-  barred_dash : AreQuiet text (ahead text false at) fs × (IsEnd text at → ⊥)
-  barred_dash = (sequence_quiet text (ahead text false at) f fs sp.2 sp.4.1 t tk, end_token text at Dash t (λ h. absurd (cc)) (λ h. absurd (cc)))
+  barred_dash : AreQuiet text (ahead text false at) fs × Inside text at
+  barred_dash = (sequence_quiet text (ahead text false at) f fs sp.2 sp.4.1 t tk, end_token text at Dash t refl)
 
-  deep_sequence : (v : Forest) → Awaiting text fs u at v → length u.outer < 128
-  deep_sequence v h = (awaits_sequence text fs u.outer f sp.2 sp.3 u.done u.key at v barred_dash t h).0
+  abbrev FirstItem : Reading → Type 0
+  FirstItem v = First text fs u at (Items (column_in f (ahead text false at))) false None (ahead text false at).behind v
+
+  room_sequence : (v : Reading) → Awaiting text fs u at v → IsRoomFor (length u.outer) (FirstItem v) (v ≡ Refused (TooDeep (ahead text false at).at))
+  room_sequence v h = awaits_sequence text fs u.outer f sp.2 sp.3 u.done u.key at v barred_dash t h
+
+  refused_sequence : (gs : List Form) (w : Unfinished) (e : YamlRefusal) → Deep u (ahead text false at).at e → Gives text (Awaiting text fs u at) (2 * at + 1) gs w (Err e)
+  refused_sequence gs w e h =
+      deep_gives text (Awaiting text fs u at) (2 * at + 1) gs u w (ahead text false at).at e FirstItem room_sequence
+      (λ d. deep_sequence text fs u.outer f sp.2 sp.3 u.done u.key at (Refused (TooDeep (ahead text false at).at)) t tk d refl) h
 
   goes_sequence : (gs : List Form) (w : Unfinished) (p : Position) → gs ≡ Items (column_in f (ahead text false at)) ∷ fs → w ≡ with_open kind.List (ahead text false at).at u → length u.outer < 128
       → p.stage ≡ stage.Value → p.at ≡ (ahead text false at).behind → Goes text (Awaiting text fs u at) (2 * at + 1) gs w p
@@ -122,7 +130,7 @@ module _ (text : List ℕ) (fs : List Form) (u : Unfinished) (f : Form) (at : �
       let st = sequence_stood f at (ahead text false at) sp.3 sp.5 sp.1.4 tk in
       let one : token_len (ahead text false at).token ≡ 1 = ap token_len t in
       goes text (Awaiting text fs u at) (2 * at + 1) gs (Items (column_in f (ahead text false at)) ∷ fs) w (with_open kind.List (ahead text false at).at u) p stage.Value (ahead text false at).behind es ej eg ew
-      (λ v. ((λ h. (awaits_sequence text fs u.outer f sp.2 sp.3 u.done u.key at v barred_dash t h).1), (λ h. sequence_awaits text fs u.outer f sp.2 sp.3 u.done u.key at v t tk d h)))
+      (λ v. ((λ h. roomy (length u.outer) (FirstItem v) (v ≡ Refused (TooDeep (ahead text false at).at)) d (room_sequence v h)), (λ h. sequence_awaits text fs u.outer f sp.2 sp.3 u.done u.key at v t tk d h)))
       (((refl, sp.4.0), (subst (λ g. LiesIn (Items (column_in f (ahead text false at))) g) (sym sp.2) st.0, omega (arith, st.1, sp.1.1.0, sp.0), sp.4.1)), (λ e. absurd (cc)), refl, omega (arith, st.1, sp.1.3, one))
       sp.1.2 (omega (arith, sp.1.0, sp.1.3, one))
 
@@ -132,10 +140,10 @@ sequence_goes text fs gs u w f at next p e sp t tk eg ew d es ej =
     subst (λ a. Spot text fs u f at a → a.token ≡ Dash → takes_sequence f a ≡ true → gs ≡ Items (column_in f a) ∷ fs → w ≡ with_open kind.List a.at u → p.at ≡ a.behind → Goes text (Awaiting text fs u at) (2 * at + 1) gs w p) (sym e)
     (λ s x k g h j. goes_sequence text fs u f at s x k gs w p g h d es j) sp t tk eg ew ej
 
-pub sequence_deep : (text : List ℕ) (fs : List Form) (u : Unfinished) (f : Form) (at : ℕ) (next : Ahead) → next ≡ ahead text false at → Spot text fs u f at next → next.token ≡ Dash → takes_sequence f next ≡ true
-    → (v : Forest) → Awaiting text fs u at v → length u.outer < 128
-sequence_deep text fs u f at next e sp t tk =
-    subst (λ a. Spot text fs u f at a → a.token ≡ Dash → takes_sequence f a ≡ true → (v : Forest) → Awaiting text fs u at v → length u.outer < 128) (sym e) (λ s x k. deep_sequence text fs u f at s x k) sp t tk
+pub sequence_refused : (text : List ℕ) (fs gs : List Form) (u w : Unfinished) (f : Form) (at : ℕ) (next : Ahead) (e : YamlRefusal) → next ≡ ahead text false at → Spot text fs u f at next → next.token ≡ Dash → takes_sequence f next ≡ true
+    → Deep u next.at e → Gives text (Awaiting text fs u at) (2 * at + 1) gs w (Err e)
+sequence_refused text fs gs u w f at next e h sp t tk b =
+    subst (λ a. Spot text fs u f at a → a.token ≡ Dash → takes_sequence f a ≡ true → Deep u a.at e → Gives text (Awaiting text fs u at) (2 * at + 1) gs w (Err e)) (sym h) (λ s x k d. refused_sequence text fs u f at s x k gs w e d) sp t tk b
 
 -- ---- a mapping
 
@@ -146,21 +154,29 @@ module _ (text : List ℕ) (fs : List Form) (u : Unfinished) (f : Form) (at : �
     by_start true e = e
     by_start false e = absurd (no_key_at text (ahead text false at) e t q k)
 
-  barred_key : AreQuiet text (ahead text false at) fs × (IsEnd text at → ⊥)
+  barred_key : AreQuiet text (ahead text false at) fs × Inside text at
   barred_key = (node_quiet text (ahead text false at) f fs sp.2 sp.4.1 (mapping_takes text f (ahead text false at) tk), start_token text at starts_key)
 
   stale_key : (e : ℕ) → (ahead text false e).fresh ≡ false → AreQuiet text (ahead text false e) fs
   stale_key e h = line_quiet text (ahead text false e) fs sp.4.1 (subst IsBlock (sym sp.2) sp.3) h
 
-  deep_mapping : (v : Forest) → Awaiting text fs u at v → length u.outer < 128
-  deep_mapping v h = (awaits_mapping text fs u.outer f sp.2 sp.3 u.done u.key at v t q barred_key k stale_key h).0
+  abbrev FirstEntry : Reading → Type 0
+  FirstEntry v = First text fs u at (Entries (column_in f (ahead text false at))) true (Some t) q v
+
+  room_mapping : (v : Reading) → Awaiting text fs u at v → IsRoomFor (length u.outer) (FirstEntry v) (v ≡ Refused (TooDeep (ahead text false at).at))
+  room_mapping v h = awaits_mapping text fs u.outer f sp.2 sp.3 u.done u.key at v t q barred_key k stale_key h
+
+  refused_mapping : (gs : List Form) (w : Unfinished) (e : YamlRefusal) → Deep u (ahead text false at).at e → Gives text (Awaiting text fs u at) (2 * at + 1) gs w (Err e)
+  refused_mapping gs w e h =
+      deep_gives text (Awaiting text fs u at) (2 * at + 1) gs u w (ahead text false at).at e FirstEntry room_mapping
+      (λ d. deep_mapping text fs u.outer f sp.2 sp.3 u.done u.key at (Refused (TooDeep (ahead text false at).at)) t q k tk d refl) h
 
   goes_mapping : (gs : List Form) (w : Unfinished) (p : Position) → at < q → IsCharBoundary text q → gs ≡ Entries (column_in f (ahead text false at)) ∷ fs → w ≡ with_key t (with_open kind.Map (ahead text false at).at u) → length u.outer < 128
       → p.stage ≡ stage.Value → p.at ≡ q → Goes text (Awaiting text fs u at) (2 * at + 1) gs w p
   goes_mapping gs w p far b eg ew d es ej =
       let st = mapping_stood f at (ahead text false at) sp.3 sp.5 sp.1.4 tk in
       goes text (Awaiting text fs u at) (2 * at + 1) gs (Entries (column_in f (ahead text false at)) ∷ fs) w (with_key t (with_open kind.Map (ahead text false at).at u)) p stage.Value q es ej eg ew
-      (λ v. ((λ h. (awaits_mapping text fs u.outer f sp.2 sp.3 u.done u.key at v t q barred_key k stale_key h).1), (λ h. mapping_awaits text fs u.outer f sp.2 sp.3 u.done u.key at v t q k tk d h)))
+      (λ v. ((λ h. roomy (length u.outer) (FirstEntry v) (v ≡ Refused (TooDeep (ahead text false at).at)) d (room_mapping v h)), (λ h. mapping_awaits text fs u.outer f sp.2 sp.3 u.done u.key at v t q k tk d h)))
       (((refl, sp.4.0), (subst (λ g. LiesIn (Entries (column_in f (ahead text false at))) g) (sym sp.2) st.0, omega (arith, st.1, sp.1.1.0, sp.0), sp.4.1)), (λ e. absurd (cc)), (t, refl), tt)
       b (omega (arith, far))
 
@@ -170,10 +186,10 @@ mapping_goes text fs gs u w f at q next t p e sp k tk far b eg ew d es ej =
     subst (λ a. Spot text fs u f at a → IsKey text a t q → takes_mapping f a ≡ true → a.at < q → gs ≡ Entries (column_in f a) ∷ fs → w ≡ with_key t (with_open kind.Map a.at u) → Goes text (Awaiting text fs u at) (2 * at + 1) gs w p) (sym e)
     (λ s x y l g h. goes_mapping text fs u f at s t q x y gs w p (omega (arith, s.1.0, l)) b g h d es ej) sp k tk far eg ew
 
-pub mapping_deep : (text : List ℕ) (fs : List Form) (u : Unfinished) (f : Form) (at q : ℕ) (next : Ahead) (t : List ℕ) → next ≡ ahead text false at → Spot text fs u f at next → IsKey text next t q → takes_mapping f next ≡ true
-    → (v : Forest) → Awaiting text fs u at v → length u.outer < 128
-mapping_deep text fs u f at q next t e sp k tk =
-    subst (λ a. Spot text fs u f at a → IsKey text a t q → takes_mapping f a ≡ true → (v : Forest) → Awaiting text fs u at v → length u.outer < 128) (sym e) (λ s x y. deep_mapping text fs u f at s t q x y) sp k tk
+pub mapping_refused : (text : List ℕ) (fs gs : List Form) (u w : Unfinished) (f : Form) (at q : ℕ) (next : Ahead) (t : List ℕ) (e : YamlRefusal) → next ≡ ahead text false at → Spot text fs u f at next → IsKey text next t q → takes_mapping f next ≡ true
+    → Deep u next.at e → Gives text (Awaiting text fs u at) (2 * at + 1) gs w (Err e)
+mapping_refused text fs gs u w f at q next t e h sp k tk b =
+    subst (λ a. Spot text fs u f at a → IsKey text a t q → takes_mapping f a ≡ true → Deep u a.at e → Gives text (Awaiting text fs u at) (2 * at + 1) gs w (Err e)) (sym h) (λ s x y d. refused_mapping text fs u f at s t q x y gs w e d) sp k tk b
 
 -- ---- a tag
 
@@ -181,6 +197,7 @@ mapping_deep text fs u f at q next t e sp k tk =
 tag_lies : (f : Form) (a : Ahead) → IsBlock f → IsSmall f → takes_tag f a ≡ true → LiesIn (tagged f a) f × IsSmall (tagged f a)
 tag_lies Root a b s h = ((refl, refl), omega arith)
 tag_lies (Flow m) a b s h = absurd b
+tag_lies (FlowTagged m) a b s h = absurd b
 tag_lies (Items m) a b s h = ((refl, refl), omega (arith, s))
 tag_lies (Entries m) a b s h = (refl, omega (arith, s))
 tag_lies (Tagged at ab sh) a b s h = absurd (cc)
@@ -190,114 +207,158 @@ top_small f [] e ns = subst IsSmall e tt
 top_small f (g ∷ fs) e ns = subst IsSmall e ns.1
 
 module _ (text : List ℕ) (fs : List Form) (u : Unfinished) (f : Form) (at len : ℕ) (sp : Spot text fs u f at (ahead text false at)) (t : (ahead text false at).token ≡ Tag len) (tk : takes_tag f (ahead text false at) ≡ true) where
-  barred_tag : AreQuiet text (ahead text false at) fs × (IsEnd text at → ⊥)
-  barred_tag = (node_quiet text (ahead text false at) f fs sp.2 sp.4.1 (tag_takes text f (ahead text false at) tk), end_token text at (Tag len) t (λ h. absurd (cc)) (λ h. absurd (cc)))
+  barred_tag : AreQuiet text (ahead text false at) fs × Inside text at
+  barred_tag = (node_quiet text (ahead text false at) f fs sp.2 sp.4.1 (tag_takes text f (ahead text false at) tk), end_token text at (Tag len) t refl)
 
-  told_tag : (v : Forest) → Awaiting text fs u at v → (bytes_eq (tag_name text (ahead text false at).at (ahead text false at).behind) get_att ≡ false) × (length u.outer < 128)
-  told_tag v h = let w = awaits_tag text fs u.outer f sp.2 sp.3 u.done u.key at v len barred_tag t h in (w.0, w.1)
+  abbrev FirstBehind : Reading → Type 0
+  FirstBehind v = First text fs u at (tagged f (ahead text false at)) true (Some (tag_key (tag_name text (ahead text false at).at (ahead text false at).behind))) (ahead text false at).behind v
 
-  goes_tag : (gs : List Form) (w : Unfinished) (p : Position) → bytes_eq (tag_name text (ahead text false at).at (ahead text false at).behind) get_att ≡ false → gs ≡ tagged f (ahead text false at) ∷ fs
+  room_tag : (v : Reading) → Awaiting text fs u at v → IsRoomFor (length u.outer) (FirstBehind v) (v ≡ Refused (TooDeep (ahead text false at).at))
+  room_tag v h = awaits_tag text fs u.outer f sp.2 sp.3 u.done u.key at v len barred_tag t tk h
+
+  goes_tag : (gs : List Form) (w : Unfinished) (p : Position) → gs ≡ tagged f (ahead text false at) ∷ fs
       → w ≡ with_key (tag_key (tag_name text (ahead text false at).at (ahead text false at).behind)) (with_open kind.Map (ahead text false at).at u) → length u.outer < 128
       → p.stage ≡ stage.Value → p.at ≡ (ahead text false at).behind → Goes text (Awaiting text fs u at) (2 * at + 1) gs w p
-  goes_tag gs w p ga eg ew d es ej =
+  goes_tag gs w p eg ew d es ej =
       let l = tag_lies f (ahead text false at) sp.3 (top_small f fs sp.2 sp.4.1) tk in
       let some : token_len (ahead text false at).token ≡ suc len = ap token_len t in
       let name : List ℕ = tag_key (tag_name text (ahead text false at).at (ahead text false at).behind) in
       goes text (Awaiting text fs u at) (2 * at + 1) gs (tagged f (ahead text false at) ∷ fs) w (with_key name (with_open kind.Map (ahead text false at).at u)) p stage.Value (ahead text false at).behind es ej eg ew
-      (λ v. ((λ h. (awaits_tag text fs u.outer f sp.2 sp.3 u.done u.key at v len barred_tag t h).2), (λ h. tag_awaits text fs u.outer f sp.2 sp.3 u.done u.key at v len t tk ga d h)))
-      (((refl, sp.4.0), (subst (λ g. LiesIn (tagged f (ahead text false at)) g) (sym sp.2) l.0, l.1, sp.4.1)), (λ e. absurd (cc)), (name, refl), tt)
+      (λ v. ((λ h. roomy (length u.outer) (FirstBehind v) (v ≡ Refused (TooDeep (ahead text false at).at)) d (room_tag v h)), (λ h. tag_awaits text fs u.outer f sp.2 sp.3 u.done u.key at v len t tk d h)))
+      (((refl, sp.4.0), (subst (λ g. LiesIn (tagged f (ahead text false at)) g) (sym sp.2) l.0, l.1, sp.4.1)), (λ e. absurd (cc)), (name, refl), omega (arith, sp.1.3, some))
       sp.1.2 (omega (arith, sp.1.0, sp.1.3, some))
 
-pub tag_goes : (text : List ℕ) (fs gs : List Form) (u w : Unfinished) (f : Form) (at len : ℕ) (next : Ahead) (p : Position) → next ≡ ahead text false at → Spot text fs u f at next → next.token ≡ Tag len → takes_tag f next ≡ true
-    → bytes_eq (tag_name text next.at next.behind) get_att ≡ false → gs ≡ tagged f next ∷ fs → w ≡ with_key (tag_key (tag_name text next.at next.behind)) (with_open kind.Map next.at u) → length u.outer < 128
-    → p.stage ≡ stage.Value → p.at ≡ next.behind → Goes text (Awaiting text fs u at) (2 * at + 1) gs w p
-tag_goes text fs gs u w f at len next p e sp t tk ga eg ew d es ej =
-    subst (λ a. Spot text fs u f at a → a.token ≡ Tag len → takes_tag f a ≡ true → bytes_eq (tag_name text a.at a.behind) get_att ≡ false → gs ≡ tagged f a ∷ fs → w ≡ with_key (tag_key (tag_name text a.at a.behind)) (with_open kind.Map a.at u) → p.at ≡ a.behind
-    → Goes text (Awaiting text fs u at) (2 * at + 1) gs w p) (sym e)
-    (λ s x k y g h j. goes_tag text fs u f at len s x k gs w p y g h d es j) sp t tk ga eg ew ej
+  tag_node : (gs : List Form) (w : Unfinished) (r : Result Position YamlRefusal) → TagBegun text (tagged f (ahead text false at)) (ahead text false at) fs u gs w r → Gives text (Awaiting text fs u at) (2 * at + 1) gs w r
+  tag_node gs w (Ok p) (es, ej, eg, ew, d) = goes_tag gs w p eg ew d es ej
+  tag_node gs w (Err e) h =
+      deep_gives text (Awaiting text fs u at) (2 * at + 1) gs u w (ahead text false at).at e FirstBehind room_tag
+      (λ d. deep_tag text fs u.outer f sp.2 sp.3 u.done u.key at (Refused (TooDeep (ahead text false at).at)) len t tk d refl) h
 
-pub tag_told : (text : List ℕ) (fs : List Form) (u : Unfinished) (f : Form) (at len : ℕ) (next : Ahead) → next ≡ ahead text false at → Spot text fs u f at next → next.token ≡ Tag len → takes_tag f next ≡ true
-    → (v : Forest) → Awaiting text fs u at v → (bytes_eq (tag_name text next.at next.behind) get_att ≡ false) × (length u.outer < 128)
-tag_told text fs u f at len next e sp t tk =
-    subst (λ a. Spot text fs u f at a → a.token ≡ Tag len → takes_tag f a ≡ true → (v : Forest) → Awaiting text fs u at v → (bytes_eq (tag_name text a.at a.behind) get_att ≡ false) × (length u.outer < 128)) (sym e) (λ s x k. told_tag text fs u f at len s x k) sp t tk
-
--- behind the `!` of a tag a text may be cut
-pub tag_split : (text : List ℕ) (at len : ℕ) (next : Ahead) → IsSeen text false at next → next.token ≡ Tag len → IsCharBoundary text (next.at + 1)
-tag_split text at len next (e, pl) t = pl.5 (let some : token_len next.token ≡ suc len = ap token_len t in omega (arith, some))
+pub tag_gives : (text : List ℕ) (fs gs : List Form) (u w : Unfinished) (f g : Form) (at len : ℕ) (next : Ahead) (r : Result Position YamlRefusal) → next ≡ ahead text false at → Spot text fs u f at next → next.token ≡ Tag len → takes_tag f next ≡ true
+    → g ≡ tagged f next → TagBegun text g next fs u gs w r → Gives text (Awaiting text fs u at) (2 * at + 1) gs w r
+tag_gives text fs gs u w f g at len next r e sp t tk eg h =
+    subst (λ a. Spot text fs u f at a → a.token ≡ Tag len → takes_tag f a ≡ true → TagBegun text (tagged f a) a fs u gs w r → Gives text (Awaiting text fs u at) (2 * at + 1) gs w r) (sym e)
+    (λ s x k b. tag_node text fs u f at len s x k gs w r b) sp t tk (subst (λ z. TagBegun text z next fs u gs w r) eg h)
 
 -- ---- brackets and scalars
 
-node_barred : (text : List ℕ) (fs : List Form) (u : Unfinished) (f : Form) (at : ℕ) → Spot text fs u f at (ahead text false at) → takes_scalar f (ahead text false at) ≡ true → (IsEnd text at → ⊥) → AreQuiet text (ahead text false at) fs × (IsEnd text at → ⊥)
+node_barred : (text : List ℕ) (fs : List Form) (u : Unfinished) (f : Form) (at : ℕ) → Spot text fs u f at (ahead text false at) → takes_scalar f (ahead text false at) ≡ true → Inside text at → AreQuiet text (ahead text false at) fs × Inside text at
 node_barred text fs u f at sp tk e = (node_quiet text (ahead text false at) f fs sp.2 sp.4.1 tk, e)
 
-brackets_node : (text : List ℕ) (fs gs : List Form) (u w : Unfinished) (f : Form) (at : ℕ) (m : Bool) (r : Result Position YamlRefusal) → Spot text fs u f at (ahead text false at) → (ahead text false at).token ≡ Opens m → takes_scalar f (ahead text false at) ≡ true
-    → Opened m (ahead text false at) fs u gs w r → Gives text (Awaiting text fs u at) (2 * at + 1) gs w r
-brackets_node text fs gs u w f at m (Ok p) sp o tk (es, ej, eg, ew, d) =
-    let b = node_barred text fs u f at sp tk (end_token text at (Opens m) o (λ h. absurd (cc)) (λ h. absurd (cc))) in
-    let one : token_len (ahead text false at).token ≡ 1 = ap token_len o in
-    goes text (Awaiting text fs u at) (2 * at + 1) gs (Flow m ∷ fs) w (with_open (open_kind m) (ahead text false at).at u) p stage.Entry (ahead text false at).behind es ej eg ew
-    (λ v. ((λ h. (awaits_brackets text fs u.outer f sp.2 sp.3 u.done u.key at v m b o h).1), (λ h. brackets_awaits text fs u.outer f sp.2 sp.3 u.done u.key at v m o tk d h)))
-    (((map_kind m, sp.4.0), (tt, tt, sp.4.1)), (m, refl), refl) sp.1.2 (omega (arith, sp.1.0, sp.1.3, one))
-brackets_node text fs gs u w f at m (Err Unread) sp o tk e =
-    let b = node_barred text fs u f at sp tk (end_token text at (Opens m) o (λ h. absurd (cc)) (λ h. absurd (cc))) in
-    λ v h. absurd (let d = (awaits_brackets text fs u.outer f sp.2 sp.3 u.done u.key at v m b o h).0 in omega (arith, d, e))
-brackets_node text fs gs u w f at m (Err NoMemory) sp o tk h = tt
+module _ (text : List ℕ) (fs : List Form) (u : Unfinished) (f : Form) (at : ℕ) (m : Bool) (sp : Spot text fs u f at (ahead text false at)) (o : (ahead text false at).token ≡ Opens m) (tk : takes_scalar f (ahead text false at) ≡ true) where
+  abbrev Within : Reading → Type 0
+  Within v = Enters text (Flow m ∷ fs) (opened text m u.key (ahead text false at).at u.done ∷ u.outer) Nil (ahead text false at).behind v
+
+  room_brackets : (v : Reading) → Awaiting text fs u at v → IsRoomFor (length u.outer) (Within v) (v ≡ Refused (TooDeep (ahead text false at).at))
+  room_brackets v h = awaits_brackets text fs u.outer f sp.2 sp.3 u.done u.key at v m (node_barred text fs u f at sp tk (end_token text at (Opens m) o refl)) o h
+
+  brackets_node : (gs : List Form) (w : Unfinished) (r : Result Position YamlRefusal) → Opened m (ahead text false at) fs u gs w r → Gives text (Awaiting text fs u at) (2 * at + 1) gs w r
+  brackets_node gs w (Ok p) (es, ej, eg, ew, d) =
+      let one : token_len (ahead text false at).token ≡ 1 = ap token_len o in
+      goes text (Awaiting text fs u at) (2 * at + 1) gs (Flow m ∷ fs) w (with_open (open_kind m) (ahead text false at).at u) p stage.Entry (ahead text false at).behind es ej eg ew
+      (λ v. (
+        (λ h. roomy (length u.outer) (Within v) (v ≡ Refused (TooDeep (ahead text false at).at)) d (room_brackets v h)),
+        (λ h. brackets_awaits text fs u.outer f sp.2 sp.3 u.done u.key at v m o tk d h),
+      ))
+      (((map_kind m, sp.4.0), (tt, tt, sp.4.1)), (m, refl), refl) sp.1.2 (omega (arith, sp.1.0, sp.1.3, one))
+  brackets_node gs w (Err e) h =
+      deep_gives text (Awaiting text fs u at) (2 * at + 1) gs u w (ahead text false at).at e Within room_brackets
+      (λ d. deep_brackets text fs u.outer f sp.2 sp.3 u.done u.key at (Refused (TooDeep (ahead text false at).at)) m o tk d refl) h
 
 pub brackets_gives : (text : List ℕ) (fs gs : List Form) (u w : Unfinished) (f : Form) (at : ℕ) (m : Bool) (next : Ahead) (r : Result Position YamlRefusal) → next ≡ ahead text false at → Spot text fs u f at next → next.token ≡ Opens m → takes_scalar f next ≡ true
     → Opened m next fs u gs w r → Gives text (Awaiting text fs u at) (2 * at + 1) gs w r
 brackets_gives text fs gs u w f at m next r e sp o tk h =
     subst (λ a. Spot text fs u f at a → a.token ≡ Opens m → takes_scalar f a ≡ true → Opened m a fs u gs w r → Gives text (Awaiting text fs u at) (2 * at + 1) gs w r) (sym e)
-    (λ s x y z. brackets_node text fs gs u w f at m r s x y z) sp o tk h
+    (λ s x y z. brackets_node text fs u f at m s x y gs w r z) sp o tk h
 
 scalar_node : (text : List ℕ) (fs : List Form) (u w : Unfinished) (f : Form) (at : ℕ) (r : Result Position YamlRefusal) → Spot text fs u f at (ahead text false at) → starts_scalar (ahead text false at).token ≡ true → takes_scalar f (ahead text false at) ≡ true
-    → (takes_mapping f (ahead text false at) ≡ true → NoKey text (ahead text false at)) → Holds text (setting_of f) (ahead text false at) u w r → Gives text (Awaiting text fs u at) (2 * at + 1) fs w r
-scalar_node text fs u w f at (Ok p) sp s tk nm (t, k, (st, hk, lt, b), es, ew) =
+    → (takes_mapping f (ahead text false at) ≡ true → NoKey text (ahead text false at)) → Holds text (setting_of f) (follows_get_att text f at) (ahead text false at) u w r → Gives text (Awaiting text fs u at) (2 * at + 1) fs w r
+scalar_node text fs u w f at (Ok p) sp s tk nm (t, k, (st, hk, lt, b), es, ew, room) =
     let q = node_barred text fs u f at sp tk (start_token text at s) in
-    goes text (Awaiting text fs u at) (2 * at + 1) fs fs w (with_value k (leaf_text k t) (ahead text false at).at u) p stage.After p.at es refl refl ew
+    let cut : Bool = is_cut (follows_get_att text f at) k t in
+    goes text (Awaiting text fs u at) (2 * at + 1) fs fs w (with_scalar cut k t (ahead text false at).at u) p stage.After p.at es refl refl ew
     (λ v. (
-      (λ h. awaits_scalar text fs u.outer f sp.2 sp.3 u.done u.key at v t k p.at q s nm st (λ l hl. same_kind (is_typed (setting_of f) text (ahead text false at).at) t l k hl hk) h),
-      (λ h. scalar_awaits text fs u.outer f sp.2 sp.3 u.done u.key at v t k p.at tk st hk h),
+      (λ h. value_ends text fs u cut k t (ahead text false at).at p.at v room (awaits_scalar text fs u.outer f sp.2 sp.3 u.done u.key at v t k p.at q s nm st (λ l hl. same_kind (is_typed (setting_of f) text (ahead text false at).at) t l k hl hk) h)),
+      (λ h. scalar_awaits text fs u.outer f sp.2 sp.3 u.done u.key at v t k p.at tk st hk (ends_value text fs u cut k t (ahead text false at).at p.at v room h)),
     ))
-    (sp.4, refl) b (omega (arith, lt, sp.1.0))
-scalar_node text fs u w f at (Err Unread) sp s tk nm m =
+    (value_fits fs u cut k t (ahead text false at).at p.at sp.4) b (omega (arith, lt, sp.1.0))
+scalar_node text fs u w f at (Err r) sp s tk nm (inl h) = memory_gives text (Awaiting text fs u at) (2 * at + 1) fs w r h
+scalar_node text fs u w f at (Err r) sp s tk nm (inr (inl (h, m))) =
     let q = node_barred text fs u f at sp tk (start_token text at s) in
-    λ v h. awaits_no_scalar text fs u.outer f sp.2 sp.3 u.done u.key at v q s nm m h
-scalar_node text fs u w f at (Err NoMemory) sp s tk nm h = tt
+    subst (λ z. Gives text (Awaiting text fs u at) (2 * at + 1) fs w (Err z)) (sym h) (λ v x. awaits_no_scalar text fs u.outer f sp.2 sp.3 u.done u.key at v q s nm m x)
+scalar_node text fs u w f at (Err r) sp s tk nm (inr (inr (inl (p, e, d)))) =
+    let q = node_barred text fs u f at sp tk (start_token text at s) in
+    subst (λ z. Gives text (Awaiting text fs u at) (2 * at + 1) fs w (Err z)) (sym e)
+    (documents_awaits text fs u.outer f sp.2 sp.3 u.done u.key at (Refused (ManyDocuments p)) p tk d refl, (λ v h. awaits_documents text fs u.outer f sp.2 sp.3 u.done u.key at v p q s nm d h))
+scalar_node text fs u w f at (Err r) sp s tk nm (inr (inr (inr (t, k, j, (st, hk, lt, b), c, e, deep)))) =
+    let q = node_barred text fs u f at sp tk (start_token text at s) in
+    let cut : Bool = is_cut (follows_get_att text f at) k t in
+    subst (λ z. Gives text (Awaiting text fs u at) (2 * at + 1) fs w (Err z)) (sym e) (
+      scalar_awaits text fs u.outer f sp.2 sp.3 u.done u.key at (Refused (TooDeep (ahead text false at).at)) t k j tk st hk (deep_value text fs u cut k t (ahead text false at).at j c deep),
+      (λ v h. value_deep text fs u cut k t (ahead text false at).at j v c deep
+          (awaits_scalar text fs u.outer f sp.2 sp.3 u.done u.key at v t k j q s nm st (λ l hl. same_kind (is_typed (setting_of f) text (ahead text false at).at) t l k hl hk) h)),
+    )
 
-pub scalar_gives : (text : List ℕ) (fs : List Form) (u w : Unfinished) (f : Form) (at : ℕ) (next : Ahead) (z : Setting) (r : Result Position YamlRefusal) → z ≡ setting_of f → next ≡ ahead text false at → Spot text fs u f at next → starts_scalar next.token ≡ true
-    → takes_scalar f next ≡ true → (takes_mapping f next ≡ true → NoKey text next) → Holds text z next u w r → Gives text (Awaiting text fs u at) (2 * at + 1) fs w r
-scalar_gives text fs u w f at next z r ez e sp s tk nm h =
-    subst (λ a. Spot text fs u f at a → starts_scalar a.token ≡ true → takes_scalar f a ≡ true → (takes_mapping f a ≡ true → NoKey text a) → Holds text (setting_of f) a u w r → Gives text (Awaiting text fs u at) (2 * at + 1) fs w r) (sym e)
-    (λ x y k n g. scalar_node text fs u w f at r x y k n g) sp s tk nm (subst (λ x. Holds text x next u w r) ez h)
+pub scalar_gives : (text : List ℕ) (fs : List Form) (u w : Unfinished) (f : Form) (at : ℕ) (next : Ahead) (r : Result Position YamlRefusal) → next ≡ ahead text false at → Spot text fs u f at next → starts_scalar next.token ≡ true
+    → takes_scalar f next ≡ true → (takes_mapping f next ≡ true → NoKey text next) → Holds text (setting_of f) (follows_get_att text f at) next u w r → Gives text (Awaiting text fs u at) (2 * at + 1) fs w r
+scalar_gives text fs u w f at next r e sp s tk nm h =
+    subst (λ a. Spot text fs u f at a → starts_scalar a.token ≡ true → takes_scalar f a ≡ true → (takes_mapping f a ≡ true → NoKey text a) → Holds text (setting_of f) (follows_get_att text f at) a u w r → Gives text (Awaiting text fs u at) (2 * at + 1) fs w r) (sym e)
+    (λ x y k n g. scalar_node text fs u w f at r x y k n g) sp s tk nm h
 
 -- ---- no node
 
-missing_node : (text : List ℕ) (fs : List Form) (u w : Unfinished) (f : Form) (at : ℕ) (r : Result Position YamlRefusal) → IsCharBoundary text at → Spot text fs u f at (ahead text false at) → NoNode f (ahead text false at) → (f ≡ Root → ⊥)
+missing_node : (text : List ℕ) (fs : List Form) (u w : Unfinished) (f : Form) (at : ℕ) (r : Result Position YamlRefusal) → IsCharBoundary text at → Spot text fs u f at (ahead text false at) → NoNode f (ahead text false at) → block_sign f (ahead text false at) ≡ None → (f ≡ Root → ⊥)
     → Completes at (with_value kind.Null [] at u) w r → Gives text (Awaiting text fs u at) (2 * at + 1) fs w r
-missing_node text fs u w f at (Ok p) b sp none n (es, ej, ew) =
+missing_node text fs u w f at (Ok p) b sp none us n (es, ej, ew) =
     goes text (Awaiting text fs u at) (2 * at + 1) fs fs w (with_value kind.Null [] at u) p stage.After at es ej refl ew
-    (λ v. ((λ h. awaits_missing text fs u.outer f sp.2 sp.3 u.done u.key at v none h), (λ h. missing_awaits text fs u.outer f sp.2 sp.3 u.done u.key at v n h)))
+    (λ v. ((λ h. awaits_missing text fs u.outer f sp.2 sp.3 u.done u.key at v none us h), (λ h. missing_awaits text fs u.outer f sp.2 sp.3 u.done u.key at v n h)))
     (sp.4, refl) b (omega arith)
-missing_node text fs u w f at (Err Unread) b sp none n h = absurd h
-missing_node text fs u w f at (Err NoMemory) b sp none n h = tt
+missing_node text fs u w f at (Err e) b sp none us n h = memory_gives text (Awaiting text fs u at) (2 * at + 1) fs w e h
 
-pub missing_gives : (text : List ℕ) (fs : List Form) (u w : Unfinished) (f : Form) (at : ℕ) (next : Ahead) (r : Result Position YamlRefusal) → next ≡ ahead text false at → IsCharBoundary text at → Spot text fs u f at next → NoNode f next → (f ≡ Root → ⊥)
+pub missing_gives : (text : List ℕ) (fs : List Form) (u w : Unfinished) (f : Form) (at : ℕ) (next : Ahead) (r : Result Position YamlRefusal) → next ≡ ahead text false at → IsCharBoundary text at → Spot text fs u f at next → NoNode f next → block_sign f next ≡ None → (f ≡ Root → ⊥)
     → Completes at (with_value kind.Null [] at u) w r → Gives text (Awaiting text fs u at) (2 * at + 1) fs w r
-missing_gives text fs u w f at next r e b sp none n h =
-    subst (λ a. Spot text fs u f at a → NoNode f a → Gives text (Awaiting text fs u at) (2 * at + 1) fs w r) (sym e) (λ s x. missing_node text fs u w f at r b s x n h) sp none
+missing_gives text fs u w f at next r e b sp none us n h =
+    subst (λ a. Spot text fs u f at a → NoNode f a → block_sign f a ≡ None → Gives text (Awaiting text fs u at) (2 * at + 1) fs w r) (sym e) (λ s x y. missing_node text fs u w f at r b s x y n h) sp none us
 
-pub no_root : (text : List ℕ) (fs : List Form) (u : Unfinished) (at : ℕ) (next : Ahead) (f : Form) → next ≡ ahead text false at → top fs ≡ f → f ≡ Root → NoNode f next → (v : Forest) → Awaiting text fs u at v → ⊥
-no_root text fs u at next f e t r none v h =
-    root_missing text fs u.outer u.done u.key at v (t ∙ r) (subst (λ a. NoNode Root a) e (subst (λ g. NoNode g next) r none)) h
+pub no_root : (text : List ℕ) (fs : List Form) (u : Unfinished) (at : ℕ) (next : Ahead) (f : Form) → next ≡ ahead text false at → top fs ≡ f → f ≡ Root → NoNode f next → block_sign f next ≡ None → (v : Reading) → Awaiting text fs u at v → ⊥
+no_root text fs u at next f e t r none us v h =
+    root_missing text fs u.outer u.done u.key at v (t ∙ r) (subst (λ a. NoNode Root a) e (subst (λ g. NoNode g next) r none)) (subst (λ a. block_sign Root a ≡ None) e (subst (λ g. block_sign g next ≡ None) r us)) h
+
+-- ---- a sign
+
+abbrev Answered : Option Sign → Option YamlRefusal → Type 0
+Answered o r = MatchOption r (o ≡ None) (λ e. Some e ≡ option_map of_sign o)
+
+pub sign_there : (f : Form) (a : Ahead) (tagged : Bool) (r : Option YamlRefusal) → tagged ≡ is_tagged f → takes_scalar f a ≡ true → Answered (node_sign tagged a.at a.token) r → Answered (block_sign f a) r
+sign_there f a tagged r e k h = subst (λ o. Answered o r) (sym (ap (λ q. cond q (node_sign (is_tagged f) a.at a.token) None) k)) (subst (λ q. Answered (node_sign q a.at a.token) r) e h)
+
+pub sign_nowhere : (f : Form) (a : Ahead) → takes_scalar f a ≡ false → block_sign f a ≡ None
+sign_nowhere f a k = ap (λ q. cond q (node_sign (is_tagged f) a.at a.token) None) k
+
+module _ (text : List ℕ) (fs : List Form) (u : Unfinished) (f : Form) (at : ℕ) (s : Sign) (sp : Spot text fs u f at (ahead text false at)) (sg : block_sign f (ahead text false at) ≡ Some s) where
+  barred_sign : AreQuiet text (ahead text false at) fs × Inside text at
+  barred_sign =
+      let b = block_signed f (ahead text false at) s sg in
+      node_barred text fs u f at sp b.0 (inside_at text at (signed_inside (is_tagged f) (ahead text false at).at (ahead text false at).token s b.1))
+
+  sign_node : Broke (Awaiting text fs u at) s
+  sign_node = (signed_awaits text fs u.outer f sp.2 sp.3 u.done u.key at (Refused s) s sg refl, (λ v h. awaits_signed text fs u.outer f sp.2 sp.3 u.done u.key at v s barred_sign sg h))
+
+pub node_signed_gives : (text : List ℕ) (n : ℕ) (fs gs : List Form) (u w : Unfinished) (f : Form) (at : ℕ) (next : Ahead) (r : YamlRefusal) → next ≡ ahead text false at → Spot text fs u f at next → Some r ≡ option_map of_sign (block_sign f next)
+    → Gives text (Awaiting text fs u at) n gs w (Err r)
+node_signed_gives text n fs gs u w f at next r e sp h =
+    let d = told (block_sign f next) r h in
+    subst (λ z. Gives text (Awaiting text fs u at) n gs w (Err z)) d.2
+    (sign_gives text (Awaiting text fs u at) n gs w d.0 (subst (λ a. Spot text fs u f at a → block_sign f a ≡ Some d.0 → Broke (Awaiting text fs u at) d.0) (sym e) (λ x y. sign_node text fs u f at d.0 x y) sp d.1))
 
 -- ---- behind a complete node
 
 -- what may follow there
-abbrev pub Behind : List ℕ → List Form → Unfinished → ℕ → Forest → Type 0
+abbrev pub Behind : List ℕ → List Form → Unfinished → ℕ → Reading → Type 0
 Behind text fs u at v = Ends text fs u.outer u.done at v
 
 -- nothing does where no block has another entry
-pub nothing_follows : (text : List ℕ) (fs : List Form) (u : Unfinished) (at : ℕ) (next : Ahead) → next ≡ ahead text false at → (IsEnd text at → ⊥) → AreQuiet text next fs → (v : Forest) → Behind text fs u at v → ⊥
+pub nothing_follows : (text : List ℕ) (fs : List Form) (u : Unfinished) (at : ℕ) (next : Ahead) → next ≡ ahead text false at → Inside text at → AreQuiet text next fs → (v : Reading) → Behind text fs u at v → ⊥
 nothing_follows text fs u at next e n q v h = quiet_none text fs u.outer u.done at v (subst (λ a. AreQuiet text a fs) e q) n h
 
 is_less : (c m : ℕ) (q : Bool) → (nat_lt c m || q) ≡ false → (c ≡ m → ⊥) → m < c
@@ -315,10 +376,15 @@ no_dash End n = refl
 no_dash Dashes n = refl
 no_dash Dots n = refl
 no_dash (Tag l) n = refl
+no_dash NoTag n = refl
 no_dash (Opens m) n = refl
 no_dash (Closes m) n = refl
 no_dash Comma n = refl
 no_dash (Point l) n = refl
+no_dash Anchor n = refl
+no_dash Percent n = refl
+no_dash Tabbed n = refl
+no_dash Stray n = refl
 no_dash Other n = refl
 
 -- a line that is indented more than the innermost block
@@ -346,7 +412,7 @@ item_stays m next h e n =
 abbrev Place : List ℕ → ℕ → Ahead → Type 0
 Place text at a = IsPlaced text at a × (a.fresh ≡ true)
 
-item_node : (text : List ℕ) (m : ℕ) (done : Forest) (at : ℕ) (p : Position) → Place text at (ahead text false at) → (IsEnd text at → ⊥) → (ahead text false at).column ≡ m → (ahead text false at).token ≡ Dash → p.stage ≡ stage.Value → p.at ≡ (ahead text false at).behind
+item_node : (text : List ℕ) (m : ℕ) (done : Forest) (at : ℕ) (p : Position) → Place text at (ahead text false at) → Inside text at → (ahead text false at).column ≡ m → (ahead text false at).token ≡ Dash → p.stage ≡ stage.Value → p.at ≡ (ahead text false at).behind
     → (fs : List Form) (x : Level) (xs : List Level) → Agrees (Items m ∷ fs) (x ∷ xs) → Nests (Items m ∷ fs) → Goes text (Ends text (Items m ∷ fs) (x ∷ xs) done at) (2 * at + 2) (Items m ∷ fs) (parts (x ∷ xs) done None) p
 item_node text m done at p (pl, fr) n col t es ej fs x xs a ns =
     let one : token_len (ahead text false at).token ≡ 1 = ap token_len t in
@@ -355,7 +421,7 @@ item_node text m done at p (pl, fr) n col t es ej fs x xs a ns =
     (λ v. ((λ h. ends_item text m fs x xs done at v (item_quiet text (ahead text false at) fs m ns (omega (arith, col)) t) n h), (λ h. item_ends text m fs x xs done at v t fr col h)))
     ((a, ns), (λ e. absurd (cc)), awaits_item (Items m) (Items m ∷ fs) (parts (x ∷ xs) done None) refl (λ e. absurd (cc)) refl a refl, omega (arith, near, col, pl.3, one)) pl.2 (omega (arith, pl.0, pl.3, one))
 
-pub item_goes : (text : List ℕ) (m : ℕ) (fs : List Form) (u : Unfinished) (at : ℕ) (next : Ahead) (p : Position) → IsSeen text false at next → next.fresh ≡ true → (IsEnd text at → ⊥) → top fs ≡ Items m → Open fs u → u.key ≡ None
+pub item_goes : (text : List ℕ) (m : ℕ) (fs : List Form) (u : Unfinished) (at : ℕ) (next : Ahead) (p : Position) → IsSeen text false at next → next.fresh ≡ true → Inside text at → top fs ≡ Items m → Open fs u → u.key ≡ None
     → next.column ≡ m → next.token ≡ Dash → p.stage ≡ stage.Value → p.at ≡ next.behind → Goes text (Behind text fs u at) (2 * at + 2) fs u p
 item_goes text m fs u at next p (e, pl) fr n t o k col d es ej =
     subst (λ a. Place text at a → a.column ≡ m → a.token ≡ Dash → p.at ≡ a.behind → Goes text (Ends text fs u.outer u.done at) (2 * at + 2) fs u p) (sym e)
@@ -366,62 +432,104 @@ item_goes text m fs u at next p (e, pl) fr n t o k col d es ej =
 entry_around : (text : List ℕ) (m : ℕ) (fs : List Form) (a : Ahead) → Nests (Entries m ∷ fs) → a.column ≡ m → AreQuiet text a fs
 entry_around text m fs a ns col = entry_quiet text a fs m ns (omega (arith, col))
 
-pub no_entry : (text : List ℕ) (m : ℕ) (fs : List Form) (next : Ahead) → top fs ≡ Entries m → Nests fs → next.column ≡ m → NoKey text next → AreQuiet text next fs
-no_entry text m [] next t ns col k = tt
-no_entry text m (f ∷ fs) next t ns col k = subst (λ g. Nests (g ∷ fs) → AreQuiet text next (g ∷ fs)) (sym t) (λ ks. ((λ fr c. k), entry_around text m fs next ks col)) ns
+pub no_entry : (text : List ℕ) (m : ℕ) (fs : List Form) (next : Ahead) → top fs ≡ Entries m → Nests fs → next.column ≡ m → Missed text (as_key false) next → node_sign false next.at next.token ≡ None → AreQuiet text next fs
+no_entry text m [] next t ns col k us = tt
+no_entry text m (f ∷ fs) next t ns col k us = subst (λ g. Nests (g ∷ fs) → AreQuiet text next (g ∷ fs)) (sym t) (λ ks. ((λ fr c. (k, us)), entry_around text m fs next ks col)) ns
 
-entry_node : (text : List ℕ) (m : ℕ) (done : Forest) (at q : ℕ) (t : List ℕ) (w : Unfinished) (p : Position) → Place text at (ahead text false at) → (IsEnd text at → ⊥) → (ahead text false at).column ≡ m → IsKey text (ahead text false at) t q → (ahead text false at).at < q
+-- what is no key was refused
+pub entry_missed : (text : List ℕ) (m : ℕ) (fs : List Form) (u w : Unfinished) (at : ℕ) (next : Ahead) (z : Setting) (r : YamlRefusal) → z ≡ as_key false → next ≡ ahead text false at → Inside text at → top fs ≡ Entries m → Nests fs → next.column ≡ m → node_sign false next.at next.token ≡ None
+    → Finds text z next (Err r) → Gives text (Behind text fs u at) (2 * at + 2) fs w (Err r)
+entry_missed text m fs u w at next z r ez e n t ns col us (inl h) = memory_gives text (Behind text fs u at) (2 * at + 2) fs w r h
+entry_missed text m fs u w at next z r ez e n t ns col us (inr (inr (p, h, d))) = absurd (key_single false text next p (subst (λ y. scalar_ahead text y next ≡ Divided p) ez d))
+entry_missed text m fs u w at next z r ez e n t ns col us (inr (inl (h, k))) =
+    subst (λ y. Gives text (Behind text fs u at) (2 * at + 2) fs w (Err y)) (sym h) (nothing_follows text fs u at next e n (no_entry text m fs next t ns col (subst (λ y. Missed text y next) ez k.0) us))
+
+entry_node : (text : List ℕ) (m : ℕ) (done : Forest) (at q : ℕ) (t : List ℕ) (w : Unfinished) (p : Position) → Place text at (ahead text false at) → Inside text at → (ahead text false at).column ≡ m → IsKey text (ahead text false at) t q → (ahead text false at).at < q
     → IsCharBoundary text q → has_key done t ≡ false → p.stage ≡ stage.Value → p.at ≡ q → (fs : List Form) (x : Level) (xs : List Level) → Agrees (Entries m ∷ fs) (x ∷ xs) → Nests (Entries m ∷ fs) → w ≡ parts (x ∷ xs) done (Some t)
     → Goes text (Ends text (Entries m ∷ fs) (x ∷ xs) done at) (2 * at + 2) (Entries m ∷ fs) w p
 entry_node text m done at q t w p (pl, fr) n col k far b new es ej fs x xs a ns ew =
     goes text (Ends text (Entries m ∷ fs) (x ∷ xs) done at) (2 * at + 2) (Entries m ∷ fs) (Entries m ∷ fs) w (parts (x ∷ xs) done (Some t)) p stage.Value q es ej refl ew
-    (λ v. ((λ h. (ends_entry text m fs x xs done at v t q (entry_around text m fs (ahead text false at) ns col) n k h).1), (λ h. entry_ends text m fs x xs done at v t q k fr col new h)))
+    (λ v. ((λ h. ends_entry text m fs x xs done at v t q (entry_around text m fs (ahead text false at) ns col) n k new h), (λ h. key_ends text m fs x xs done at v t q k fr col new h)))
     ((a, ns), (λ e. absurd (cc)), awaits_value (Entries m) (Entries m ∷ fs) (x ∷ xs) done t refl (λ e. absurd (cc)) refl a, tt) b (omega (arith, pl.0, far))
 
-pub entry_goes : (text : List ℕ) (m : ℕ) (fs : List Form) (u w : Unfinished) (at q : ℕ) (next : Ahead) (t : List ℕ) (p : Position) → IsSeen text false at next → next.fresh ≡ true → (IsEnd text at → ⊥) → top fs ≡ Entries m → Open fs u
+pub entry_goes : (text : List ℕ) (m : ℕ) (fs : List Form) (u w : Unfinished) (at q : ℕ) (next : Ahead) (t : List ℕ) (p : Position) → IsSeen text false at next → next.fresh ≡ true → Inside text at → top fs ≡ Entries m → Open fs u
     → next.column ≡ m → IsKey text next t q → next.at < q → IsCharBoundary text q → has_key u.done t ≡ false → p.stage ≡ stage.Value → p.at ≡ q → w ≡ with_key t u → Goes text (Behind text fs u at) (2 * at + 2) fs w p
 entry_goes text m fs u w at q next t p (e, pl) fr n tp o col k far b new es ej ew =
     subst (λ a. Place text at a → a.column ≡ m → IsKey text a t q → a.at < q → Goes text (Ends text fs u.outer u.done at) (2 * at + 2) fs w p) (sym e)
     (λ s c y l. inside (λ hs xs. Agrees hs xs → Nests hs → w ≡ parts xs u.done (Some t) → Goes text (Ends text hs xs u.done at) (2 * at + 2) hs w p) (Entries m) fs u.outer tp (λ r. absurd (cc)) o.0
     (entry_node text m u.done at q t w p s n c y l b new es ej) o.0 o.1 ew) (pl, fr) col k far
 
-entry_again : (text : List ℕ) (m : ℕ) (fs : List Form) (u : Unfinished) (at q : ℕ) (next : Ahead) (t : List ℕ) → next ≡ ahead text false at → (IsEnd text at → ⊥) → top fs ≡ Entries m → Open fs u → next.column ≡ m → IsKey text next t q → has_key u.done t ≡ true
-    → (v : Forest) → Behind text fs u at v → ⊥
-entry_again text m fs u at q next t e n tp o col k again =
-    subst (λ a. a.column ≡ m → IsKey text a t q → (v : Forest) → Ends text fs u.outer u.done at v → ⊥) (sym e)
-    (λ c y. inside (λ hs xs. Nests hs → (v : Forest) → Ends text hs xs u.done at v → ⊥) (Entries m) fs u.outer tp (λ r. absurd (cc)) o.0
-    (λ gs x xs ns v h. true≢false (sym again ∙ (ends_entry text m gs x xs u.done at v t q (entry_around text m gs (ahead text false at) ns c) n y h).0)) o.1) col k
+-- another sign
+entry_signed : (text : List ℕ) (m : ℕ) (fs : List Form) (u : Unfinished) (at : ℕ) (s : Sign) → Place text at (ahead text false at) → Inside text at → top fs ≡ Entries m → Open fs u → (ahead text false at).column ≡ m
+    → node_sign false (ahead text false at).at (ahead text false at).token ≡ Some s → Broke (Behind text fs u at) s
+entry_signed text m fs u at s (pl, fr) n tp o col sg =
+    inside (λ hs xs. Nests hs → Broke (Ends text hs xs u.done at) s) (Entries m) fs u.outer tp (λ r. absurd (cc)) o.0
+    (λ gs x xs ns. (signed_ends text m gs x xs u.done at s fr col sg, (λ v h. ends_signed text m gs x xs u.done at v s (entry_around text m gs (ahead text false at) ns col) n sg h))) o.1
 
-pub entry_refused : (text : List ℕ) (m : ℕ) (fs : List Form) (u w : Unfinished) (at q place : ℕ) (next : Ahead) (t : List ℕ) (r : BuildRefusal) → next ≡ ahead text false at → (IsEnd text at → ⊥) → top fs ≡ Entries m → Open fs u → next.column ≡ m → IsKey text next t q
-    → (r ≡ build.NoMemory) ⊎ ((r ≡ build.DuplicateKey place) × (has_key u.done t ≡ true)) → Gives text (Behind text fs u at) (2 * at + 2) fs w (Err (of_build r))
-entry_refused text m fs u w at q place next t r e n tp o col k (inl h) = subst (λ z. Gives text (Behind text fs u at) (2 * at + 2) fs w (Err (of_build z))) (sym h) tt
-entry_refused text m fs u w at q place next t r e n tp o col k (inr (h, again)) =
-    subst (λ z. Gives text (Behind text fs u at) (2 * at + 2) fs w (Err (of_build z))) (sym h) (entry_again text m fs u at q next t e n tp o col k again)
+pub entry_signed_gives : (text : List ℕ) (m n : ℕ) (fs gs : List Form) (u w : Unfinished) (at : ℕ) (next : Ahead) (r : YamlRefusal) → IsSeen text false at next → next.fresh ≡ true → Inside text at → top fs ≡ Entries m → Open fs u → next.column ≡ m
+    → Some r ≡ option_map of_sign (node_sign false next.at next.token) → Gives text (Behind text fs u at) n gs w (Err r)
+entry_signed_gives text m n fs gs u w at next r (e, pl) fr i tp o col h =
+    let d = told (node_sign false next.at next.token) r h in
+    subst (λ z. Gives text (Behind text fs u at) n gs w (Err z)) d.2
+    (sign_gives text (Behind text fs u at) n gs w d.0
+    (subst (λ a. Place text at a → a.column ≡ m → node_sign false a.at a.token ≡ Some d.0 → Broke (Behind text fs u at) d.0) (sym e) (λ q c g. entry_signed text m fs u at d.0 q i tp o c g) (pl, fr) col d.1))
+
+-- a key again, or one without its colon
+module _ (text : List ℕ) (m : ℕ) (fs : List Form) (u : Unfinished) (at : ℕ) (t : List ℕ) (j : ℕ) (n : Inside text at) (tp : top fs ≡ Entries m) (o : Open fs u) where
+  entry_again : Place text at (ahead text false at) → (ahead text false at).column ≡ m → scalar_ahead text (as_key false) (ahead text false at) ≡ Spans t j → has_key u.done t ≡ true → Broke (Behind text fs u at) (DuplicateKey (ahead text false at).at)
+  entry_again (pl, fr) col st again =
+      inside (λ hs xs. Nests hs → Broke (Ends text hs xs u.done at) (DuplicateKey (ahead text false at).at)) (Entries m) fs u.outer tp (λ r. absurd (cc)) o.0
+      (λ gs x xs ns. (
+        again_ends text m gs x xs u.done at t j fr col st again,
+        (λ v h. ends_again text m gs x xs u.done at v t j (entry_around text m gs (ahead text false at) ns col) n st again h),
+      )) o.1
+
+  entry_no_colon : (ahead text false at).column ≡ m → scalar_ahead text (as_key false) (ahead text false at) ≡ Spans t j → has_key u.done t ≡ false → ((ahead text false j).fresh ≡ false → (ahead text false j).token ≡ Point true → ⊥)
+      → (v : Reading) → Behind text fs u at v → ⊥
+  entry_no_colon col st new none =
+      inside (λ hs xs. Nests hs → (v : Reading) → Ends text hs xs u.done at v → ⊥) (Entries m) fs u.outer tp (λ r. absurd (cc)) o.0
+      (λ gs x xs ns v h. ends_no_colon text m gs x xs u.done at v t j (entry_around text m gs (ahead text false at) ns col) n st new none h) o.1
+
+pub no_colon : (text : List ℕ) (m : ℕ) (fs : List Form) (u : Unfinished) (at j : ℕ) (next : Ahead) (t : List ℕ) → next ≡ ahead text false at → Inside text at → top fs ≡ Entries m → Open fs u → next.column ≡ m
+    → scalar_ahead text (as_key false) next ≡ Spans t j → has_key u.done t ≡ false → ((ahead text false j).fresh ≡ false → (ahead text false j).token ≡ Point true → ⊥) → (v : Reading) → Behind text fs u at v → ⊥
+no_colon text m fs u at j next t e n tp o col st new none =
+    subst (λ a. a.column ≡ m → scalar_ahead text (as_key false) a ≡ Spans t j → (v : Reading) → Behind text fs u at v → ⊥) (sym e) (λ c s. entry_no_colon text m fs u at t j n tp o c s new none) col st
+
+pub entry_refused : (text : List ℕ) (m : ℕ) (fs : List Form) (u w : Unfinished) (at j : ℕ) (next : Ahead) (t : List ℕ) (r : BuildRefusal) → IsSeen text false at next → next.fresh ≡ true → Inside text at → top fs ≡ Entries m → Open fs u → next.column ≡ m
+    → scalar_ahead text (as_key false) next ≡ Spans t j → (r ≡ build.NoMemory) ⊎ ((r ≡ build.DuplicateKey next.at) × (has_key u.done t ≡ true)) → Gives text (Behind text fs u at) (2 * at + 2) fs w (Err (of_build r))
+entry_refused text m fs u w at j next t r e fr n tp o col st (inl h) = subst (λ z. Gives text (Behind text fs u at) (2 * at + 2) fs w (Err (of_build z))) (sym h) tt
+entry_refused text m fs u w at j next t r (e, pl) fr n tp o col st (inr (h, again)) =
+    subst (λ z. Gives text (Behind text fs u at) (2 * at + 2) fs w (Err (of_build z))) (sym h)
+    (subst (λ a. Place text at a → a.column ≡ m → scalar_ahead text (as_key false) a ≡ Spans t j → Broke (Behind text fs u at) (DuplicateKey a.at)) (sym e) (λ q c s. entry_again text m fs u at t j n tp o q c s again) (pl, fr) col st)
 
 -- ---- blocks that end
 
 lies_block : (f g : Form) → IsBlock f → LiesIn f g → IsBlock g
 lies_block Root g b l = absurd l
 lies_block (Flow m) g b l = absurd b
+lies_block (FlowTagged m) g b l = absurd b
 lies_block (Items c) Root b l = tt
 lies_block (Items c) (Flow m) b l = absurd l
+lies_block (Items c) (FlowTagged m) b l = absurd l
 lies_block (Items c) (Items m) b l = tt
 lies_block (Items c) (Entries m) b l = tt
 lies_block (Entries c) Root b l = tt
 lies_block (Entries c) (Flow m) b l = absurd l
+lies_block (Entries c) (FlowTagged m) b l = absurd l
 lies_block (Entries c) (Items m) b l = tt
 lies_block (Entries c) (Entries m) b l = tt
 lies_block (Items c) (Tagged at ab sh) b l = tt
 lies_block (Entries c) (Tagged at ab sh) b l = tt
 lies_block (Tagged at ab sh) Root b l = tt
 lies_block (Tagged at ab sh) (Flow m) b l = absurd l
+lies_block (Tagged at ab sh) (FlowTagged m) b l = absurd l
 lies_block (Tagged at ab sh) (Items m) b l = tt
 lies_block (Tagged at ab sh) (Entries m) b l = tt
 lies_block (Tagged at ab sh) (Tagged c n s) b l = absurd l
 
 -- one of them
 abbrev pub Alike : List ℕ → ℕ → List Form → Unfinished → List Form → Unfinished → Type 0
-Alike text i fs u gs w = (v : Forest) → (Behind text fs u i v → Behind text gs w i v) × (Behind text gs w i v → Behind text fs u i v)
+Alike text i fs u gs w = (v : Reading) → (Behind text fs u i v → Behind text gs w i v) × (Behind text gs w i v → Behind text fs u i v)
 
 popped : (text : List ℕ) (i : ℕ) (f : Form) (gs : List Form) (u : Unfinished) → IsQuiet text (ahead text false i) f → Agrees (f ∷ gs) u.outer → Alike text i (f ∷ gs) u gs (with_end u)
 popped text i f gs u q a = by_outer u.outer u.done u.key a where
@@ -448,26 +556,54 @@ ended_alike text i f old gs u w next en e ew s h =
     subst (λ z. Alike text i old u gs z) (sym ew)
     (subst (λ fs. Stands fs u → ends_before (top fs) next ≡ true → Alike text i fs u gs (with_end u)) (sym e) (λ r g. popped text i f gs u (subst (λ a. IsQuiet text a f) en (ended_quiet text next f r.2 g)) r.0.0) s h)
 
--- at the document's end
-end_quiet : (text : List ℕ) (i : ℕ) (f g : Form) → IsBlock f → LiesIn f g → IsEnd text i → IsQuiet text (ahead text false i) f
-end_quiet text i Root g b l e = absurd l
-end_quiet text i (Flow m) g b l e = absurd b
-end_quiet text i (Items m) g b l (inl e) = λ fr col t. absurd (let no : End ≡ Dash = sym e ∙ t in cc)
-end_quiet text i (Items m) g b l (inr (e, k)) = λ fr col t. absurd (let no : Dots ≡ Dash = sym e ∙ t in cc)
-end_quiet text i (Tagged at ab sh) g b l e = tt
-end_quiet text i (Entries m) g b l (inl e) = λ fr col. no_key_at text (ahead text false i) (ap starts_scalar e)
-end_quiet text i (Entries m) g b l (inr (e, k)) = λ fr col. no_key_at text (ahead text false i) (ap starts_scalar e)
+-- where the document ends, or a sign stands behind it
+end_quiet : (text : List ℕ) (a : Ahead) (f g : Form) → IsBlock f → LiesIn f g → is_ending a.token ≡ true → IsQuiet text a f
+end_quiet text a Root g b l e = absurd l
+end_quiet text a (Flow m) g b l e = absurd b
+end_quiet text a (FlowTagged m) g b l e = absurd b
+end_quiet text a (Items m) g b l e = λ fr col t. true≢false (sym e ∙ ap is_ending t)
+end_quiet text a (Tagged at ab sh) g b l e = tt
+end_quiet text a (Entries m) g b l e = λ fr col. (no_word_at text a (ending_word a.token e), ending_unsigned false a.at a.token e)
+
+all_quiet : (text : List ℕ) (a : Ahead) (fs : List Form) → Nests fs → IsBlock (top fs) → is_ending a.token ≡ true → AreQuiet text a fs
+all_quiet text a [] ns b e = tt
+all_quiet text a (f ∷ fs) (l, s, ns) b e = (end_quiet text a f (top fs) b l e, all_quiet text a fs ns (lies_block f (top fs) b l) e)
 
 pub closed_alike : (text : List ℕ) (i : ℕ) (f : Form) (old gs : List Form) (u w : Unfinished) → IsEnd text i → old ≡ f ∷ gs → w ≡ with_end u → Stands old u → Alike text i old u gs w
 closed_alike text i f old gs u w en e ew s =
     subst (λ z. Alike text i old u gs z) (sym ew)
-    (subst (λ fs. Stands fs u → Alike text i fs u gs (with_end u)) (sym e) (λ r. popped text i f gs u (end_quiet text i f (top gs) r.2 r.0.1.0 en) r.0.0) s)
+    (subst (λ fs. Stands fs u → Alike text i fs u gs (with_end u)) (sym e) (λ r. popped text i f gs u (end_quiet text (ahead text false i) f (top gs) r.2 r.0.1.0 (end_ending text i en)) r.0.0) s)
+
+-- a sign behind the root
+signed : (text : List ℕ) (fs : List Form) (u : Unfinished) (at : ℕ) (s : Sign) → IsBlock (top fs) → Open fs u → end_sign text at ≡ Some s → Broke (Behind text fs u at) s
+signed text fs u at s b o e =
+    let q = all_quiet text (ahead text false at) fs o.1 b (sign_ending text at s e) in
+    (over_ends text fs u.outer u.done at s q o.0 e, (λ v h. let x = ends_over text fs u.outer u.done at v q h in only v x.0 x.1)) where
+      only : (v : Reading) (g : Forest) → Over text g at v → v ≡ Refused s
+      only v g (inl (en, h)) = absurd (let no : None ≡ Some s = sym (end_only text at en) ∙ e in cc)
+      only v g (inr (z, h, r)) =
+          let here : Some z ≡ Some s = sym h ∙ e in
+          let same : z ≡ s = cc in
+          r ∙ ap Refused same
+
+pub signed_gives : (text : List ℕ) (n : ℕ) (fs gs : List Form) (u w : Unfinished) (at : ℕ) (r : YamlRefusal) → IsBlock (top fs) → Open fs u → Some r ≡ option_map of_sign (end_sign text at) → Gives text (Behind text fs u at) n gs w (Err r)
+signed_gives text n fs gs u w at r b o e =
+    let t = told (end_sign text at) r e in
+    subst (λ z. Gives text (Behind text fs u at) n gs w (Err z)) t.2 (sign_gives text (Behind text fs u at) n gs w t.0 (signed text fs u at t.0 b o t.1))
+
+pub no_sign_inside : (text : List ℕ) (at : ℕ) → (IsEnd text at → ⊥) → None ≡ option_map of_sign (end_sign text at) → Inside text at
+no_sign_inside text at n e = (n, untold (end_sign text at) e)
 
 pub then_alike : (text : List ℕ) (i : ℕ) (fs gs hs : List Form) (u w x : Unfinished) → Alike text i fs u gs w → Alike text i gs w hs x → Alike text i fs u hs x
 then_alike text i fs gs hs u w x a b = λ v. ((λ h. (b v).0 ((a v).0 h)), (λ h. (a v).1 ((b v).1 h)))
 
 pub same_alike : (text : List ℕ) (i : ℕ) (fs : List Form) (u : Unfinished) → Alike text i fs u fs u
 same_alike text i fs u = λ v. ((λ h. h), (λ h. h))
+
+-- at the document's end it stands for the tree
+over_tree : (text : List ℕ) (g : Forest) (at : ℕ) (v : Reading) → IsEnd text at → Over text g at v → v ≡ Tree g
+over_tree text g at v e (inl (en, h)) = h
+over_tree text g at v e (inr (s, h, r)) = absurd (let no : None ≡ Some s = sym (end_only text at e) ∙ h in cc)
 
 -- nothing is open
 none_open : (outer : List Level) → Agrees [] outer → outer ≡ []
@@ -478,7 +614,7 @@ pub whole_goes : (text : List ℕ) (at : ℕ) (fs gs : List Form) (u w : Unfinis
 whole_goes text at fs gs u w p b e h a eg es ej =
     let o : w.outer ≡ [] = none_open w.outer (subst (λ z. Agrees z w.outer) eg a) in
     goes text (Behind text fs u at) (2 * at + 2) gs gs w w p stage.Whole at es ej refl refl
-    (λ v. ((λ x. (subst (λ z. Ends text z [] w.done at v) eg (subst (λ z. Ends text gs z w.done at v) o ((h v).0 x))).1), (λ x. (h v).1 (subst (λ z. Ends text gs z w.done at v) (sym o) (subst (λ z. Ends text z [] w.done at v) (sym eg) (e, x))))))
+    (λ v. ((λ x. over_tree text w.done at v e (subst (λ z. Ends text z [] w.done at v) eg (subst (λ z. Ends text gs z w.done at v) o ((h v).0 x)))), (λ x. (h v).1 (subst (λ z. Ends text gs z w.done at v) (sym o) (subst (λ z. Ends text z [] w.done at v) (sym eg) (inl (e, x)))))))
     o b (omega arith)
 
 -- ---- what a search for a key answers
@@ -490,7 +626,7 @@ pub found_some : (text : List ℕ) (a : Ahead) (o : Option Key) (k : Key) → o 
 found_some text a o k e h = subst (λ z. FindsKey text a (Ok z)) e h
 
 -- nothing follows the root but the document's end
-pub root_none : (text : List ℕ) (fs : List Form) (u : Unfinished) (at : ℕ) (f : Form) → top fs ≡ f → f ≡ Root → Open fs u → (IsEnd text at → ⊥) → (v : Forest) → Behind text fs u at v → ⊥
+pub root_none : (text : List ℕ) (fs : List Form) (u : Unfinished) (at : ℕ) (f : Form) → top fs ≡ f → f ≡ Root → Open fs u → Inside text at → (v : Reading) → Behind text fs u at v → ⊥
 root_none text [] u at f t r o n v h = quiet_none text [] u.outer u.done at v tt n h
 root_none text (g ∷ fs) u at f t r o n v h = absurd (subst (λ z. LiesIn z (top fs)) (t ∙ r) o.1.0)
 

@@ -1,12 +1,12 @@
 -- What stands behind a key, and where its value is awaited.
-use Rattle.std.proofs.Common.{◌≡◌, ℕ, ◌+◌, ◌<◌, ◌≤◌, ◌⊎◌, inl, inr, Bool, true, false, ◌||◌, List, [], ◌∷◌, drop, length, get_or, nat_eq, refl, sym, ap, ◌∙◌, subst, true≢false, arith}
+use Rattle.std.proofs.Common.{◌≡◌, ℕ, ◌+◌, ◌<◌, ◌≤◌, inl, inr, Bool, true, false, ◌||◌, List, [], ◌∷◌, drop, length, get_or, nat_eq, refl, sym, ap, ◌∙◌, subst, true≢false, arith}
 use Rattle.std.specs.Str.{IsCharBoundary}
 use Rattle.std.proofs.lemmas.List.{get_or-drop, length-drop}
 use Rattle.yaml_scalars.specs.Scalar.{begins_quoted}
 use Rattle.yaml_blocks.specs.declared.ahead.Ahead.{Ahead}
-use Rattle.yaml_blocks.specs.declared.ahead.Token.TheVariants.{Closes, Comma, Point}
+use Rattle.yaml_blocks.specs.declared.ahead.Token.TheVariants.{Point}
 use Rattle.yaml_blocks.specs.Ahead.{ahead}
-use Rattle.yaml_blocks.specs.Flow.{IsColon}
+use Rattle.yaml_blocks.specs.Flow.{ends_key, IsColon}
 use Rattle.yaml_blocks.specs.Steps.{IsSeen, IsPlaced}
 
 abbrev Stood : List ℕ → Bool → ℕ → ℕ → Type 0
@@ -21,17 +21,14 @@ colon_tight text quoted end next loose e c q p (inl (l, d, h, g)) =
     let here : Point l ≡ Point loose = sym d ∙ sym (ap (λ a. a.token) e) ∙ c in
     let same : l ≡ loose = cc in
     true≢false (sym h ∙ ap (λ b. b || quoted) same ∙ q)
-colon_tight text quoted end next loose e c q p (inr (inl d, g)) = absurd (let no : Comma ≡ Point loose = sym d ∙ sym (ap (λ a. a.token) e) ∙ c in cc)
-colon_tight text quoted end next loose e c q p (inr (inr d, g)) = absurd (let no : Closes true ≡ Point loose = sym d ∙ sym (ap (λ a. a.token) e) ∙ c in cc)
+colon_tight text quoted end next loose e c q p (inr (m, g)) = true≢false (sym m ∙ ap ends_key (sym (ap (λ a. a.token) e) ∙ c))
 
-pub colon_missing : (text : List ℕ) (quoted : Bool) (end : ℕ) (next : Ahead) → next ≡ ahead text true end → IsCharBoundary text end → (next.token ≡ Comma) ⊎ (next.token ≡ Closes true) → Stood text quoted end end
-colon_missing text quoted end next e b c = (inr (subst (λ a. (a.token ≡ Comma) ⊎ (a.token ≡ Closes true)) e c, refl), b, omega arith)
+pub colon_missing : (text : List ℕ) (quoted : Bool) (end : ℕ) (next : Ahead) → next ≡ ahead text true end → IsCharBoundary text end → ends_key next.token ≡ true → Stood text quoted end end
+colon_missing text quoted end next e b c = (inr (subst (λ a. ends_key a.token ≡ true) e c, refl), b, omega arith)
 
-pub no_colon_there : (text : List ℕ) (quoted : Bool) (end : ℕ) (next : Ahead) → next ≡ ahead text true end → ((l : Bool) → next.token ≡ Point l → ⊥) → (next.token ≡ Comma → ⊥) → (next.token ≡ Closes true → ⊥)
-    → (p : ℕ) → IsColon text quoted end p → ⊥
-no_colon_there text quoted end next e x y z p (inl (l, d, h, g)) = x l (ap (λ a. a.token) e ∙ d)
-no_colon_there text quoted end next e x y z p (inr (inl d, g)) = y (ap (λ a. a.token) e ∙ d)
-no_colon_there text quoted end next e x y z p (inr (inr d, g)) = z (ap (λ a. a.token) e ∙ d)
+pub no_colon_there : (text : List ℕ) (quoted : Bool) (end : ℕ) (next : Ahead) → next ≡ ahead text true end → ((l : Bool) → next.token ≡ Point l → ⊥) → ends_key next.token ≡ false → (p : ℕ) → IsColon text quoted end p → ⊥
+no_colon_there text quoted end next e x y p (inl (l, d, h, g)) = x l (ap (λ a. a.token) e ∙ d)
+no_colon_there text quoted end next e x y p (inr (m, g)) = true≢false (sym (ap (λ a. ends_key a.token) e ∙ m) ∙ y)
 
 -- a quote is told by the byte there
 quoted_first : (xs : List ℕ) → 0 < length xs → begins_quoted xs ≡ (nat_eq (get_or xs 0 0) 34 || nat_eq (get_or xs 0 0) 39)

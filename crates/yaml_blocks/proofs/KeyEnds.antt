@@ -4,17 +4,16 @@ use Rattle.std.proofs.lemmas.Bool.Decides.{nat_tests}
 use Rattle.std.proofs.lemmas.List.{drop-drop, take_all, length-drop}
 use Rattle.std.specs.Prelude.{ℤ, pos, negsuc}
 use Rattle.yaml_scalars.specs.declared.scalar.Setting.{Setting}
-use Rattle.yaml_scalars.specs.Lines.{Line, Outcome, Stands, Fails, lines, begins_with, begins_break, is_white, is_blank, each, keep, trimmed, lead, indent, past_white, is_mark, is_cut_mark}
+use Rattle.yaml_scalars.specs.Lines.{Line, Outcome, Stands, Fails, Documents, lines, begins_with, begins_break, is_white, is_blank, each, keep, trimmed, lead, indent, past_white, is_mark, is_cut_mark}
 use Rattle.yaml_scalars.specs.Plain.{begins_plain, wrong_begin, plain_len, content, content_end, why, reason, first, plain_on}
 use Rattle.yaml_scalars.specs.Quoted.{Part, Closed, Open, Joined, Returned, Refused, line_part, behind_part, key_part, quoted_more, quoted_on}
 use Rattle.yaml_scalars.specs.Scalar.{scalar_at, plain_scalar, quoted_scalar, block_scalar, begins_quoted, is_first_column}
 use Rattle.yaml_scalars.specs.Walk.{line_at, behind}
 use Rattle.yaml_scalars.proofs.Places.{lines_are, line_drop}
 use Rattle.yaml_blocks.specs.declared.ahead.Ahead.{Ahead}
-use Rattle.yaml_blocks.specs.declared.ahead.Token.TheVariants.{Other}
 use Rattle.yaml_blocks.specs.declared.form.Form.{Form}
-use Rattle.yaml_blocks.specs.declared.form.Form.TheVariants.{Root, Flow, Items, Entries, Tagged}
-use Rattle.yaml_blocks.specs.Ahead.{ahead, token_at, mark_of, token_of, is_passed, is_tabbed, line_ahead, rest_ahead}
+use Rattle.yaml_blocks.specs.declared.form.Form.TheVariants.{Root, Flow, FlowTagged, Items, Entries, Tagged}
+use Rattle.yaml_blocks.specs.Ahead.{ahead, tab_token, token_at, mark_of, token_of, is_passed, is_tabbed, line_ahead, rest_ahead}
 use Rattle.yaml_blocks.specs.Nodes.{below, setting_of, as_key, starts_scalar, scalar_ahead}
 use Rattle.yaml_blocks.specs.Steps.{IsBlock}
 use Rattle.yaml_blocks.proofs.Looks.{first_rest}
@@ -25,7 +24,7 @@ line_fresh : (flow : Bool) (size : ℕ) (ls : List Line) → (line_ahead flow si
 line_fresh flow size [] = refl
 line_fresh flow size (l ∷ ls) = by_tests (is_mark l.bytes) (is_passed true l.bytes) (is_tabbed flow l.bytes) (line_fresh flow size ls) where
   by_tests : (p q r : Bool) → (line_ahead flow size ls).fresh ≡ true
-      → (cond p (token_at (mark_of l.bytes) true 0 l.at) (cond q (line_ahead flow size ls) (cond r (token_at Other true (indent l.bytes) (l.at + indent l.bytes)) (token_at (token_of flow (past_white l.bytes)) true (lead is_white l.bytes) (l.at + lead is_white l.bytes))))).fresh ≡ true
+      → (cond p (token_at (mark_of l.bytes) true 0 l.at) (cond q (line_ahead flow size ls) (cond r (token_at (tab_token (past_white l.bytes)) true (indent l.bytes) (l.at + indent l.bytes)) (token_at (token_of flow (past_white l.bytes)) true (lead is_white l.bytes) (l.at + lead is_white l.bytes))))).fresh ≡ true
   by_tests true q r h = refl
   by_tests false true r h = h
   by_tests false false true h = refl
@@ -85,26 +84,33 @@ break_fresh text at e over h =
     let rest : drop k bytes ≡ line_at (drop (at + k) text) = line_drop k (drop at text) (trimmed_le bytes) ∙ ap line_at (drop-drop k at text) in
     subst (λ i. (ahead text false i).fresh ≡ true) end (blank_fresh text (at + k) (ap is_blank (sym rest) ∙ white_behind bytes))
 
-plain_ends : (p : ℤ) (text : List ℕ) (at : ℕ) (t u : List ℕ) (e j : ℕ) → plain_scalar (as_key false) text at ≡ Stands t e → (ahead text false e).fresh ≡ false → plain_scalar (as_node p) text at ≡ Stands u j → j ≡ e
-plain_ends p text at t u e j k stale h =
+-- a scalar stands there, up to this place
+abbrev StandsTo : ℕ → Outcome → Type 0
+StandsTo e o = (u : List ℕ) × (o ≡ Stands u e)
+
+plain_ends : (p : ℤ) (text : List ℕ) (at : ℕ) (t : List ℕ) (e : ℕ) (o : Outcome) → plain_scalar (as_key false) text at ≡ Stands t e → (ahead text false e).fresh ≡ false → plain_scalar (as_node p) text at ≡ o → StandsTo e o
+plain_ends p text at t e o k stale h =
     by_tests (is_first_column text at && (is_mark bytes || is_cut_mark bytes)) (begins_plain false bytes) (sym (ap (plain_on (as_key false) (is_first_column text at)) (lines_are at (drop at text))) ∙ k)
     (sym (ap (plain_on (as_node p) (is_first_column text at)) (lines_are at (drop at text))) ∙ h) where
       bytes : List ℕ
       bytes = line_at (drop at text)
 
-      same : (o : Outcome) → o ≡ Stands t e → o ≡ Stands u j → j ≡ e
-      same o f g = let both : Stands t e ≡ Stands u j = sym f ∙ g in cc
+      same : (q : Outcome) → q ≡ Stands t e → q ≡ o → StandsTo e o
+      same q f g = (t, sym g ∙ f)
+
+      wrong : (q : Outcome) (n : ℕ) → q ≡ Fails n → q ≡ Stands t e → StandsTo e o
+      wrong q n f g = absurd (let no : Fails n ≡ Stands t e = sym f ∙ g in cc)
 
       -- why the scalar ends on its line: by a carriage return, a colon, a comment or another byte
       by_byte : (q r c : Bool) → first (as_key false) (cond q (why (13 ∷ [])) (cond r (why (58 ∷ [])) (cond c (why (35 ∷ [])) (why (0 ∷ []))))) at bytes (behind at (drop at text)) ≡ Stands t e
-          → first (as_node p) (cond q (why (13 ∷ [])) (cond r (why (58 ∷ [])) (cond c (why (35 ∷ [])) (why (0 ∷ []))))) at bytes (behind at (drop at text)) ≡ Stands u j → j ≡ e
-      by_byte true r c f g = absurd (cc)
+          → first (as_node p) (cond q (why (13 ∷ [])) (cond r (why (58 ∷ [])) (cond c (why (35 ∷ [])) (why (0 ∷ []))))) at bytes (behind at (drop at text)) ≡ o → StandsTo e o
+      by_byte true r c f g = wrong _ _ refl f
       by_byte false true c f g = same _ f g
       by_byte false false true f g = same _ f g
       by_byte false false false f g = same _ f g
 
       by_rest : (rest : List ℕ) → drop (plain_len false false bytes) bytes ≡ rest → first (as_key false) (why rest) at bytes (behind at (drop at text)) ≡ Stands t e
-          → first (as_node p) (why rest) at bytes (behind at (drop at text)) ≡ Stands u j → j ≡ e
+          → first (as_node p) (why rest) at bytes (behind at (drop at text)) ≡ o → StandsTo e o
       by_rest [] r f g =
           let here : Stands (content false bytes) (content_end false bytes at) ≡ Stands t e = f in
           let end : content_end false bytes at ≡ e = cc in
@@ -112,18 +118,18 @@ plain_ends p text at t u e j k stale h =
       by_rest (b ∷ bs) r f g = by_byte (nat_eq b 13) (nat_eq b 58) (nat_eq b 35) f g
 
       by_tests : (m b : Bool) → cond m (Fails (at + 3)) (cond b (first (as_key false) (reason false bytes) at bytes (behind at (drop at text))) (Fails (wrong_begin at bytes))) ≡ Stands t e
-          → cond m (Fails (at + 3)) (cond b (first (as_node p) (reason false bytes) at bytes (behind at (drop at text))) (Fails (wrong_begin at bytes))) ≡ Stands u j → j ≡ e
-      by_tests true b f g = absurd (cc)
-      by_tests false false f g = absurd (cc)
+          → cond m (Fails (at + 3)) (cond b (first (as_node p) (reason false bytes) at bytes (behind at (drop at text))) (Fails (wrong_begin at bytes))) ≡ o → StandsTo e o
+      by_tests true b f g = wrong _ _ refl f
+      by_tests false false f g = wrong _ _ refl f
       by_tests false true f g = by_rest (drop (plain_len false false bytes) bytes) refl f g
 
 -- ---- other scalars
 
-quoted_ends : (size : ℕ) (ls : List Line) (t u : List ℕ) (e j : ℕ) → quoted_on true size ls ≡ Stands t e → quoted_on false size ls ≡ Stands u j → j ≡ e
-quoted_ends size [] t u e j k h = absurd (cc)
-quoted_ends size (l ∷ ls) t u e j k h = by_part (line_part (cond (begins_with 34 l.bytes) 34 39) (suc l.at) 0 [] 0 (drop 1 l.bytes)) k h where
-  by_part : (p : Part) → key_part p (l.at + length l.bytes) ≡ Stands t e → behind_part p (λ q x. quoted_more (cond (begins_with 34 l.bytes) 34 39) size ls x q 0) ≡ Stands u j → j ≡ e
-  by_part (Closed x i) f g = let both : Stands t e ≡ Stands u j = sym f ∙ g in cc
+quoted_ends : (size : ℕ) (ls : List Line) (t : List ℕ) (e : ℕ) (o : Outcome) → quoted_on true size ls ≡ Stands t e → quoted_on false size ls ≡ o → StandsTo e o
+quoted_ends size [] t e o k h = absurd (cc)
+quoted_ends size (l ∷ ls) t e o k h = by_part (line_part (cond (begins_with 34 l.bytes) 34 39) (suc l.at) 0 [] 0 (drop 1 l.bytes)) k h where
+  by_part : (p : Part) → key_part p (l.at + length l.bytes) ≡ Stands t e → behind_part p (λ q x. quoted_more (cond (begins_with 34 l.bytes) 34 39) size ls x q 0) ≡ o → StandsTo e o
+  by_part (Closed x i) f g = (t, sym g ∙ f)
   by_part (Open x) f g = absurd (cc)
   by_part (Joined x) f g = absurd (cc)
   by_part (Returned i) f g = absurd (cc)
@@ -152,28 +158,53 @@ marked_none text at t e m k = by_tests (is_first_column text at && (is_mark byte
   by_tests false false h f = absurd (cc)
   by_tests false true h f = absurd (cc)
 
-node_end : (p : ℤ) (text : List ℕ) (at : ℕ) (t u : List ℕ) (e j : ℕ) → scalar_at (as_key false) text at ≡ Stands t e → (ahead text false e).fresh ≡ false → scalar_at (as_node p) text at ≡ Stands u j → j ≡ e
-node_end p text at t u e j k stale h = by_form (begins_quoted (drop at text)) (begins_with 124 (drop at text) || begins_with 62 (drop at text)) refl k h where
+node_end : (p : ℤ) (text : List ℕ) (at : ℕ) (t : List ℕ) (e : ℕ) (o : Outcome) → scalar_at (as_key false) text at ≡ Stands t e → (ahead text false e).fresh ≡ false → scalar_at (as_node p) text at ≡ o → StandsTo e o
+node_end p text at t e o k stale h = by_form (begins_quoted (drop at text)) (begins_with 124 (drop at text) || begins_with 62 (drop at text)) refl k h where
   by_form : (q b : Bool) → (begins_with 124 (drop at text) || begins_with 62 (drop at text)) ≡ b → cond q (quoted_scalar (as_key false) text at) (plain_scalar (as_key false) text at) ≡ Stands t e
-      → cond q (quoted_scalar (as_node p) text at) (cond b (block_scalar (as_node p) text at) (plain_scalar (as_node p) text at)) ≡ Stands u j → j ≡ e
-  by_form true b m f g = quoted_ends (length text) (lines at (drop at text)) t u e j f g
+      → cond q (quoted_scalar (as_node p) text at) (cond b (block_scalar (as_node p) text at) (plain_scalar (as_node p) text at)) ≡ o → StandsTo e o
+  by_form true b m f g = quoted_ends (length text) (lines at (drop at text)) t e o f g
   by_form false true m f g = absurd (marked_none text at t e m f)
-  by_form false false m f g = plain_ends p text at t u e j f stale g
+  by_form false false m f g = plain_ends p text at t e o f stale g
 
 -- ---- at a token
 
 abbrev BlockAlike : List ℕ → Ahead → Setting → Type 0
 BlockAlike text a s = (t u : List ℕ) (e j : ℕ) → scalar_ahead text (as_key false) a ≡ Stands t e → (ahead text false e).fresh ≡ false → scalar_ahead text s a ≡ Stands u j → j ≡ e
 
+abbrev Undivided : List ℕ → Ahead → Setting → Type 0
+Undivided text a s = (t : List ℕ) (e j : ℕ) → scalar_ahead text (as_key false) a ≡ Stands t e → (ahead text false e).fresh ≡ false → scalar_ahead text s a ≡ Documents j → ⊥
+
 ahead_end : (p : ℤ) (text : List ℕ) (a : Ahead) → BlockAlike text a (as_node p)
 ahead_end p text a t u e j k stale h = by_start (starts_scalar a.token) k h where
+  same : StandsTo e (Stands u j) → j ≡ e
+  same (x, h) = cc
+
   by_start : (q : Bool) → cond q (scalar_at (as_key false) text a.at) (Fails a.at) ≡ Stands t e → cond q (scalar_at (as_node p) text a.at) (Fails a.at) ≡ Stands u j → j ≡ e
-  by_start true f g = node_end p text a.at t u e j f stale g
+  by_start true f g = same (node_end p text a.at t e (Stands u j) f stale g)
+  by_start false f g = absurd (cc)
+
+ahead_single : (p : ℤ) (text : List ℕ) (a : Ahead) → Undivided text a (as_node p)
+ahead_single p text a t e j k stale h = by_start (starts_scalar a.token) k h where
+  wrong : StandsTo e (Documents j) → ⊥
+  wrong (x, h) = absurd (cc)
+
+  by_start : (q : Bool) → cond q (scalar_at (as_key false) text a.at) (Fails a.at) ≡ Stands t e → cond q (scalar_at (as_node p) text a.at) (Fails a.at) ≡ Documents j → ⊥
+  by_start true f g = wrong (node_end p text a.at t e (Documents j) f stale g)
   by_start false f g = absurd (cc)
 
 pub key_end : (text : List ℕ) (a : Ahead) (f : Form) → IsBlock f → BlockAlike text a (setting_of f)
 key_end text a Root b = ahead_end (negsuc 0) text a
 key_end text a (Flow m) b = absurd b
+key_end text a (FlowTagged m) b = absurd b
 key_end text a (Items m) b = ahead_end (pos m) text a
 key_end text a (Entries m) b = ahead_end (pos m) text a
 key_end text a (Tagged at ab sh) b = ahead_end (below ab) text a
+
+-- a key with its colon has no mark in it, read as a node either
+pub key_divides : (text : List ℕ) (a : Ahead) (f : Form) → IsBlock f → Undivided text a (setting_of f)
+key_divides text a Root b = ahead_single (negsuc 0) text a
+key_divides text a (Flow m) b = absurd b
+key_divides text a (FlowTagged m) b = absurd b
+key_divides text a (Items m) b = ahead_single (pos m) text a
+key_divides text a (Entries m) b = ahead_single (pos m) text a
+key_divides text a (Tagged at ab sh) b = ahead_single (below ab) text a

@@ -7,7 +7,9 @@ mod KeyEnds
 mod Looks
 mod Placed
 mod Quiet
+mod Refusals
 mod Rests
 mod Roots
 mod Scalars
 mod Stacks
+pub mod TreeInduction

@@ -1,11 +1,11 @@
 -- What a place has ahead, by the line there and the lines below.
 use Rattle.std.proofs.Common.{◌≡◌, ℕ, ◌+◌, Bool, true, false, ◌||◌, ◌&&◌, not, cond, nat_lt, List, drop, length, refl, sym, ap, ◌∙◌, subst}
 use Rattle.std.proofs.lemmas.List.{drop-drop}
-use Rattle.yaml_scalars.specs.Lines.{lines, begins_with, is_white, is_blank, lead, indent, past_white, is_end, is_mark}
+use Rattle.yaml_scalars.specs.Lines.{lines, begins_with, is_white, is_blank, lead, indent, past_white, is_mark}
 use Rattle.yaml_scalars.specs.Walk.{line_at, behind}
 use Rattle.yaml_scalars.proofs.Places.{lines_are, line_drop, lead_le}
-use Rattle.yaml_blocks.specs.declared.ahead.Token.TheVariants.{Tag, Other}
-use Rattle.yaml_blocks.specs.Ahead.{is_name, begins_letter, tag_token, token_of, token_at, mark_of, has_return, is_passed, is_tabbed, content_ahead, line_ahead, rest_ahead}
+use Rattle.yaml_blocks.specs.declared.ahead.Token.TheVariants.{Tag, NoTag}
+use Rattle.yaml_blocks.specs.Ahead.{is_name, begins_letter, ends_tag, tag_token, tab_token, token_of, token_at, mark_of, has_return, is_passed, is_tabbed, content_ahead, line_ahead, rest_ahead}
 
 -- behind the white space in front of a line
 pub white_rest : (bytes : List ℕ) (start n : ℕ) → n ≡ lead is_white (line_at (drop start bytes)) → past_white (line_at (drop start bytes)) ≡ line_at (drop (start + n) bytes)
@@ -66,7 +66,10 @@ rest_passed bytes flow at f = first_rest bytes flow at
     ∙ ap (λ b. cond b (line_ahead flow (length bytes) (behind at (drop at bytes))) (token_at (token_of flow (past_white (line_at (drop at bytes)))) false (lead is_white (line_at (drop at bytes))) (at + lead is_white (line_at (drop at bytes))))) f
 
 pub untabbed : (flow : Bool) (at : ℕ) (bytes : List ℕ) → is_tabbed flow bytes ≡ false → content_ahead flow at bytes ≡ token_at (token_of flow (past_white bytes)) true (lead is_white bytes) (at + lead is_white bytes)
-untabbed flow at bytes e = ap (λ b. cond b (token_at Other true (indent bytes) (at + indent bytes)) (token_at (token_of flow (past_white bytes)) true (lead is_white bytes) (at + lead is_white bytes))) e
+untabbed flow at bytes e = ap (λ b. cond b (token_at (tab_token (past_white bytes)) true (indent bytes) (at + indent bytes)) (token_at (token_of flow (past_white bytes)) true (lead is_white bytes) (at + lead is_white bytes))) e
+
+pub tabbed : (flow : Bool) (at : ℕ) (bytes : List ℕ) → is_tabbed flow bytes ≡ true → content_ahead flow at bytes ≡ token_at (tab_token (past_white bytes)) true (indent bytes) (at + indent bytes)
+tabbed flow at bytes e = ap (λ b. cond b (token_at (tab_token (past_white bytes)) true (indent bytes) (at + indent bytes)) (token_at (token_of flow (past_white bytes)) true (lead is_white bytes) (at + lead is_white bytes))) e
 
 -- the token behind the white space in front of a line
 pub white_token : (bytes : List ℕ) (flow fresh : Bool) (start n : ℕ) → n ≡ lead is_white (line_at (drop start bytes))
@@ -80,14 +83,14 @@ name_rest bytes start n e =
     line_drop (lead is_name (line_at (drop start bytes))) (drop start bytes) (lead_le is_name (line_at (drop start bytes)))
     ∙ ap line_at (drop-drop (lead is_name (line_at (drop start bytes))) start bytes ∙ ap (λ k. drop (start + k) bytes) (sym e))
 
-pub tag_ends : (bytes : List ℕ) (start n : ℕ) → n ≡ lead is_name (line_at (drop start bytes)) → is_end (line_at (drop (start + n) bytes)) ≡ false → tag_token (line_at (drop start bytes)) ≡ Other
-tag_ends bytes start n e h = by_letter (begins_letter (line_at (drop start bytes))) (ap is_end (name_rest bytes start n e) ∙ h) where
-  by_letter : (q : Bool) → is_end (drop (lead is_name (line_at (drop start bytes))) (line_at (drop start bytes))) ≡ false
-      → cond (q && is_end (drop (lead is_name (line_at (drop start bytes))) (line_at (drop start bytes)))) (Tag (lead is_name (line_at (drop start bytes)))) Other ≡ Other
-  by_letter true k = ap (λ b. cond b (Tag (lead is_name (line_at (drop start bytes)))) Other) k
+pub tag_ends : (bytes : List ℕ) (flow : Bool) (start n : ℕ) → n ≡ lead is_name (line_at (drop start bytes)) → ends_tag flow (line_at (drop (start + n) bytes)) ≡ false → tag_token flow (line_at (drop start bytes)) ≡ NoTag
+tag_ends bytes flow start n e h = by_letter (begins_letter (line_at (drop start bytes))) (ap (ends_tag flow) (name_rest bytes start n e) ∙ h) where
+  by_letter : (q : Bool) → ends_tag flow (drop (lead is_name (line_at (drop start bytes))) (line_at (drop start bytes))) ≡ false
+      → cond (q && ends_tag flow (drop (lead is_name (line_at (drop start bytes))) (line_at (drop start bytes)))) (Tag (lead is_name (line_at (drop start bytes)))) NoTag ≡ NoTag
+  by_letter true k = ap (λ b. cond b (Tag (lead is_name (line_at (drop start bytes)))) NoTag) k
   by_letter false k = refl
 
-pub tag_stands : (bytes : List ℕ) (start n : ℕ) → n ≡ lead is_name (line_at (drop start bytes)) → begins_letter (line_at (drop start bytes)) ≡ true → is_end (line_at (drop (start + n) bytes)) ≡ true → tag_token (line_at (drop start bytes)) ≡ Tag n
-tag_stands bytes start n e l h =
-    ap (λ b. cond (b && is_end (drop (lead is_name (line_at (drop start bytes))) (line_at (drop start bytes)))) (Tag (lead is_name (line_at (drop start bytes)))) Other) l
-    ∙ ap (λ b. cond b (Tag (lead is_name (line_at (drop start bytes)))) Other) (ap is_end (name_rest bytes start n e) ∙ h) ∙ ap Tag (sym e)
+pub tag_stands : (bytes : List ℕ) (flow : Bool) (start n : ℕ) → n ≡ lead is_name (line_at (drop start bytes)) → begins_letter (line_at (drop start bytes)) ≡ true → ends_tag flow (line_at (drop (start + n) bytes)) ≡ true → tag_token flow (line_at (drop start bytes)) ≡ Tag n
+tag_stands bytes flow start n e l h =
+    ap (λ b. cond (b && ends_tag flow (drop (lead is_name (line_at (drop start bytes))) (line_at (drop start bytes)))) (Tag (lead is_name (line_at (drop start bytes)))) NoTag) l
+    ∙ ap (λ b. cond b (Tag (lead is_name (line_at (drop start bytes)))) NoTag) (ap (ends_tag flow) (name_rest bytes start n e) ∙ h) ∙ ap Tag (sym e)

@@ -13,8 +13,8 @@ use Rattle.yaml_scalars.proofs.LineParts.{line_get, lead_byte}
 use Rattle.yaml_scalars.proofs.Places.{line_fits, lead_le}
 use Rattle.yaml_scalars.proofs.QuotedGoing.{white_ascii}
 use Rattle.yaml_blocks.specs.declared.ahead.Token.{Token}
-use Rattle.yaml_blocks.specs.declared.ahead.Token.TheVariants.{End, Dashes, Dots, Dash, Tag, Opens, Closes, Comma, Point, Other}
-use Rattle.yaml_blocks.specs.Ahead.{is_name, begins_letter, tag_token, block_token, token_of, token_len, token_at, mark_of, is_passed, is_tabbed, content_ahead, line_ahead, rest_ahead, ahead}
+use Rattle.yaml_blocks.specs.declared.ahead.Token.TheVariants.{End, Dashes, Dots, Dash, Tag, NoTag, Opens, Closes, Comma, Point, Anchor, Percent, Tabbed, Stray, Other}
+use Rattle.yaml_blocks.specs.Ahead.{is_name, begins_letter, ends_tag, tag_token, tab_token, other_token, block_token, token_of, token_len, token_at, mark_of, is_passed, is_tabbed, content_ahead, line_ahead, rest_ahead, ahead}
 use Rattle.yaml_blocks.specs.Steps.{IsColumn, IsPlaced}
 use Rattle.yaml_blocks.proofs.Looks.{white_rest, first_line, first_rest}
 
@@ -83,11 +83,22 @@ token_first flow (x ∷ xs) = by_break (begins_break x xs) where
   one : (t : Token) → token_len t ≡ 1 → x < 128 → Small t
   one t e a = inr (0, e, omega arith, a, omega arith)
 
-  by_tag : (q8 q9 q10 : Bool) → (q8 ≡ true → x < 128) → Small (cond q8 (cond (q9 && q10) (Tag (lead is_name (line_at xs))) Other) Other)
-  by_tag true true true h = inr (lead is_name (line_at xs), refl, omega arith, h refl, omega arith)
-  by_tag true true false h = inl refl
-  by_tag true false q10 h = inl refl
-  by_tag false q9 q10 h = inl refl
+  by_other : (a b c : Bool) → Small (cond a Anchor (cond b Percent (cond c Stray Other)))
+  by_other true b c = inl refl
+  by_other false true c = inl refl
+  by_other false false true = inl refl
+  by_other false false false = inl refl
+
+  by_tag : (q8 q9 q10 : Bool) (o : Token) → (q8 ≡ true → x < 128) → Small o → Small (cond q8 (cond (q9 && q10) (Tag (lead is_name (line_at xs))) NoTag) o)
+  by_tag true true true o h s = inr (lead is_name (line_at xs), refl, omega arith, h refl, omega arith)
+  by_tag true true false o h s = inl refl
+  by_tag true false q10 o h s = inl refl
+  by_tag false q9 q10 o h s = s
+
+  tag : (fl : Bool) → Small (cond (nat_eq x 33) (tag_token fl (line_at xs)) (other_token x))
+  tag fl =
+      by_tag (nat_eq x 33) (begins_letter (line_at xs)) (ends_tag fl (drop (lead is_name (line_at xs)) (line_at xs))) (other_token x) (λ h. grind (arith, nat_tests))
+      (by_other (nat_eq x 38 || nat_eq x 42) (nat_eq x 37) (nat_eq x 35 || nat_eq x 13))
 
   by_block : (q6 q7 e : Bool) (t : Token) → (q6 ≡ true → x < 128) → (q7 ≡ true → x < 128) → Small t → Small (cond (q7 && e) Dash (cond (q6 && e) (Point true) t))
   by_block q6 true true t g h s = one Dash refl (h refl)
@@ -97,25 +108,24 @@ token_first flow (x ∷ xs) = by_break (begins_break x xs) where
   by_block true false false t g h s = s
   by_block false false e t g h s = s
 
-  by_byte : (q1 q2 fl q3 q4 q5 q6 : Bool) (p t : Token) → token_len p ≡ 1 → (q1 ≡ true → x < 128) → (q2 ≡ true → x < 128) → (q3 ≡ true → x < 128) → (q4 ≡ true → x < 128) → (q5 ≡ true → x < 128) → (q6 ≡ true → x < 128) → Small t
-      → Small (cond q1 (Opens false) (cond q2 (Opens true) (cond (not fl) t (cond q3 (Closes false) (cond q4 (Closes true) (cond q5 Comma (cond q6 p Other)))))))
-  by_byte true q2 fl q3 q4 q5 q6 p t l a b c d f g s = one (Opens false) refl (a refl)
-  by_byte false true fl q3 q4 q5 q6 p t l a b c d f g s = one (Opens true) refl (b refl)
-  by_byte false false false q3 q4 q5 q6 p t l a b c d f g s = s
-  by_byte false false true true q4 q5 q6 p t l a b c d f g s = one (Closes false) refl (c refl)
-  by_byte false false true false true q5 q6 p t l a b c d f g s = one (Closes true) refl (d refl)
-  by_byte false false true false false true q6 p t l a b c d f g s = one Comma refl (f refl)
-  by_byte false false true false false false true p t l a b c d f g s = one p l (g refl)
-  by_byte false false true false false false false p t l a b c d f g s = inl refl
+  by_byte : (q1 q2 fl q3 q4 q5 q6 : Bool) (p t o : Token) → token_len p ≡ 1 → (q1 ≡ true → x < 128) → (q2 ≡ true → x < 128) → (q3 ≡ true → x < 128) → (q4 ≡ true → x < 128) → (q5 ≡ true → x < 128) → (q6 ≡ true → x < 128) → Small t → Small o
+      → Small (cond q1 (Opens false) (cond q2 (Opens true) (cond (not fl) t (cond q3 (Closes false) (cond q4 (Closes true) (cond q5 Comma (cond q6 p o)))))))
+  by_byte true q2 fl q3 q4 q5 q6 p t o l a b c d f g s z = one (Opens false) refl (a refl)
+  by_byte false true fl q3 q4 q5 q6 p t o l a b c d f g s z = one (Opens true) refl (b refl)
+  by_byte false false false q3 q4 q5 q6 p t o l a b c d f g s z = s
+  by_byte false false true true q4 q5 q6 p t o l a b c d f g s z = one (Closes false) refl (c refl)
+  by_byte false false true false true q5 q6 p t o l a b c d f g s z = one (Closes true) refl (d refl)
+  by_byte false false true false false true q6 p t o l a b c d f g s z = one Comma refl (f refl)
+  by_byte false false true false false false true p t o l a b c d f g s z = one p l (g refl)
+  by_byte false false true false false false false p t o l a b c d f g s z = z
 
   block : Small (block_token x (line_at xs))
-  block = by_block (nat_eq x 58) (nat_eq x 45) (is_end (line_at xs)) (cond (nat_eq x 33) (tag_token (line_at xs)) Other) (λ h. grind (arith, nat_tests)) (λ h. grind (arith, nat_tests))
-      (by_tag (nat_eq x 33) (begins_letter (line_at xs)) (is_end (drop (lead is_name (line_at xs)) (line_at xs))) (λ h. grind (arith, nat_tests)))
+  block = by_block (nat_eq x 58) (nat_eq x 45) (is_end (line_at xs)) (cond (nat_eq x 33) (tag_token false (line_at xs)) (other_token x)) (λ h. grind (arith, nat_tests)) (λ h. grind (arith, nat_tests)) (tag false)
 
   by_break : (q : Bool) → Small (token_of flow (cond q [] (x ∷ line_at xs)))
   by_break true = inl refl
-  by_break false = by_byte (nat_eq x 91) (nat_eq x 123) flow (nat_eq x 93) (nat_eq x 125) (nat_eq x 44) (nat_eq x 58) (Point (is_unsafe true (line_at xs))) (block_token x (line_at xs)) refl
-      (λ h. grind (arith, nat_tests)) (λ h. grind (arith, nat_tests)) (λ h. grind (arith, nat_tests)) (λ h. grind (arith, nat_tests)) (λ h. grind (arith, nat_tests)) (λ h. grind (arith, nat_tests)) block
+  by_break false = by_byte (nat_eq x 91) (nat_eq x 123) flow (nat_eq x 93) (nat_eq x 125) (nat_eq x 44) (nat_eq x 58) (Point (is_unsafe true (line_at xs))) (block_token x (line_at xs)) (cond (nat_eq x 33) (tag_token true (line_at xs)) (other_token x)) refl
+      (λ h. grind (arith, nat_tests)) (λ h. grind (arith, nat_tests)) (λ h. grind (arith, nat_tests)) (λ h. grind (arith, nat_tests)) (λ h. grind (arith, nat_tests)) (λ h. grind (arith, nat_tests)) block (tag true)
 
 token_cut : (bytes : List ℕ) (flow : Bool) (at : ℕ) → IsUtf8 bytes → IsCharBoundary bytes at → IsCharBoundary bytes (at + token_len (token_of flow (line_at (drop at bytes))))
 token_cut bytes flow at u b = by_first (token_first flow (drop at bytes)) where
@@ -183,6 +193,12 @@ mark_len bytes = by_first (begins_with 45 bytes) where
 
 -- ---- the parts
 
+tab_len : (bytes : List ℕ) → token_len (tab_token bytes) ≡ 0
+tab_len bytes = by_first (begins_with 35 bytes || begins_with 13 bytes) where
+  by_first : (q : Bool) → token_len (cond q Stray Tabbed) ≡ 0
+  by_first true = refl
+  by_first false = refl
+
 bare : (bytes : List ℕ) (i at column : ℕ) (t : Token) → token_len t ≡ 0 → i ≤ at → column ≤ at → IsCharBoundary bytes at → IsPlaced bytes i (token_at t true column at)
 bare bytes i at column t e l m b =
     (l, b, subst (λ j. IsCharBoundary bytes j) (let h : at ≡ at + token_len t = omega (arith, e) in h) b, refl, ((λ f. m), (λ f. absurd (true≢false f))), (λ z. absurd (omega (arith, z, e))))
@@ -207,8 +223,8 @@ white_placed bytes flow fresh i start u b l f =
 
 content_placed : (bytes : List ℕ) (flow : Bool) (i start : ℕ) → IsUtf8 bytes → IsCharBoundary bytes start → i ≤ start → IsPlaced bytes i (content_ahead flow start (line_at (drop start bytes)))
 content_placed bytes flow i start u b l = by_tab (is_tabbed flow (line_at (drop start bytes))) where
-  by_tab : (q : Bool) → IsPlaced bytes i (cond q (token_at Other true (indent (line_at (drop start bytes))) (start + indent (line_at (drop start bytes)))) (token_at (token_of flow (past_white (line_at (drop start bytes)))) true (lead is_white (line_at (drop start bytes))) (start + lead is_white (line_at (drop start bytes)))))
-  by_tab true = bare bytes i (start + indent (line_at (drop start bytes))) (indent (line_at (drop start bytes))) Other refl (omega (arith, l)) (omega arith) (spaces_boundary bytes start (indent (line_at (drop start bytes))) u b (omega arith))
+  by_tab : (q : Bool) → IsPlaced bytes i (cond q (token_at (tab_token (past_white (line_at (drop start bytes)))) true (indent (line_at (drop start bytes))) (start + indent (line_at (drop start bytes)))) (token_at (token_of flow (past_white (line_at (drop start bytes)))) true (lead is_white (line_at (drop start bytes))) (start + lead is_white (line_at (drop start bytes)))))
+  by_tab true = bare bytes i (start + indent (line_at (drop start bytes))) (indent (line_at (drop start bytes))) (tab_token (past_white (line_at (drop start bytes)))) (tab_len (past_white (line_at (drop start bytes)))) (omega (arith, l)) (omega arith) (spaces_boundary bytes start (indent (line_at (drop start bytes))) u b (omega arith))
   by_tab false = white_placed bytes flow true i start u b l (λ f. absurd (true≢false f))
 
 mark_placed : (bytes : List ℕ) (i start : ℕ) → IsUtf8 bytes → IsCharBoundary bytes start → i ≤ start → is_mark (line_at (drop start bytes)) ≡ true → IsPlaced bytes i (token_at (mark_of (line_at (drop start bytes))) true 0 start)

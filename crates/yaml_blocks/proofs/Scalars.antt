@@ -1,5 +1,5 @@
 -- Which scalar stands at a token, and its kind.
-use Rattle.std.proofs.Common.{◌≡◌, ℕ, ◌+◌, Bool, true, false, ◌||◌, ◌&&◌, not, cond, List, [], ◌∷◌, drop, length, refl, sym, ap, ◌∙◌, subst, arith}
+use Rattle.std.proofs.Common.{◌≡◌, ℕ, suc, ◌+◌, inl, inr, Bool, true, false, ◌||◌, ◌&&◌, not, cond, List, [], ◌∷◌, drop, length, refl, sym, ap, ◌∙◌, subst, arith, nat_eq}
 use Rattle.std.specs.Prelude.{Ok, Err}
 use Rattle.std.specs.Cow.{cow_str_bytes}
 use Rattle.std.proofs.lemmas.List.{drop_all}
@@ -12,20 +12,22 @@ use Rattle.yaml_scalars.specs.declared.scalar.Setting.{Setting}
 use Rattle.yaml_scalars.specs.declared.scalar.ScalarRefusal.{ScalarRefusal}
 use Rattle.yaml_scalars.specs.declared.scalar.ScalarRefusal.TheVariants as refusal
 use Rattle.yaml_scalars.specs.Block.{block_on}
-use Rattle.yaml_scalars.specs.Lines.{Stands, Fails, Documents, lines}
-use Rattle.yaml_scalars.specs.Plain.{plain_on}
-use Rattle.yaml_scalars.specs.Quoted.{quoted_on}
+use Rattle.yaml_scalars.specs.Lines.{Line, Stands, Fails, Documents, lines, begins_with, is_mark, is_cut_mark}
+use Rattle.yaml_scalars.specs.Plain.{begins_plain, wrong_begin, plain_len, why, reason, first, plain_on}
+use Rattle.yaml_scalars.specs.Quoted.{Part, Closed, Open, Joined, Returned, Refused, line_part, key_part, quoted_on}
 use Rattle.yaml_scalars.specs.Scalar.{scalar_at, is_typed, HasKind, Answers, IsEndOf, begins_quoted, begins_block, is_first_column}
 use Rattle.yaml_blocks.specs.declared.ahead.Ahead.{Ahead}
 use Rattle.yaml_blocks.specs.declared.refusal.YamlRefusal.{YamlRefusal}
-use Rattle.yaml_blocks.specs.declared.refusal.YamlRefusal.TheVariants.{Unread, NoMemory}
-use Rattle.yaml_blocks.specs.Nodes.{starts_scalar, scalar_ahead}
+use Rattle.yaml_blocks.specs.Nodes.{as_key, starts_scalar, scalar_ahead}
 use Rattle.yaml_blocks.specs.Refused.{of_scalar}
-use Rattle.yaml_blocks.specs.Steps.{Found, Missed, Finds, Holds, leaf_text}
+use Rattle.yaml_blocks.specs.Steps.{Found, Missed, Failed, Finds, Holds, leaf_text}
 
 -- none at another token
 pub missed_other : (text : List ℕ) (s : Setting) (a : Ahead) → starts_scalar a.token ≡ false → Missed text s a
 missed_other text s a e = λ t j st. absurd (let no : Fails a.at ≡ Stands t j = sym (ap (λ b. cond b (scalar_at s text a.at) (Fails a.at)) e) ∙ st in cc)
+
+pub failed_other : (text : List ℕ) (s : Setting) (a : Ahead) → starts_scalar a.token ≡ false → Failed text s a
+failed_other text s a e = (missed_other text s a e, (λ p h. absurd (let no : Fails a.at ≡ Documents p = sym (ap (λ b. cond b (scalar_at s text a.at) (Fails a.at)) e) ∙ h in cc)))
 
 -- none at the text's end
 end_fails : (s : Setting) (size at : ℕ) (fresh : Bool) (d : List ℕ) (t : List ℕ) (j : ℕ) → d ≡ []
@@ -38,11 +40,27 @@ end_fails s size at fresh [] t j e h = by_form (not (s.flow || s.one_line)) fres
   by_form false true g = absurd (cc)
   by_form false false g = absurd (cc)
 
+end_single : (s : Setting) (size at : ℕ) (fresh : Bool) (d : List ℕ) (p : ℕ) → d ≡ []
+    → cond (begins_quoted d) (quoted_on s.one_line size (lines at d)) (cond (begins_block s d) (block_on s.parent size (lines at d)) (plain_on s fresh (lines at d))) ≡ Documents p → ⊥
+end_single s size at fresh (x ∷ xs) p e h = absurd (cc)
+end_single s size at fresh [] p e h = by_form (not (s.flow || s.one_line)) fresh h where
+  by_form : (b f : Bool) → cond (b && false) (block_on s.parent size (lines at [])) (cond (f && false) (Fails (at + 3)) (Fails at)) ≡ Documents p → ⊥
+  by_form true true g = absurd (cc)
+  by_form true false g = absurd (cc)
+  by_form false true g = absurd (cc)
+  by_form false false g = absurd (cc)
+
 pub missed_end : (text : List ℕ) (s : Setting) (a : Ahead) → a.at ≡ length text → Missed text s a
 missed_end text s a e = λ t j st. by_start t j (starts_scalar a.token) st where
   by_start : (t : List ℕ) (j : ℕ) (q : Bool) → cond q (scalar_at s text a.at) (Fails a.at) ≡ Stands t j → ⊥
   by_start t j true h = end_fails s (length text) a.at (is_first_column text a.at) (drop a.at text) t j (drop_all a.at text (omega (arith, e))) h
   by_start t j false h = absurd (cc)
+
+pub failed_end : (text : List ℕ) (s : Setting) (a : Ahead) → a.at ≡ length text → Failed text s a
+failed_end text s a e = (missed_end text s a e, (λ p h. by_start p (starts_scalar a.token) h)) where
+  by_start : (p : ℕ) (q : Bool) → cond q (scalar_at s text a.at) (Fails a.at) ≡ Documents p → ⊥
+  by_start p true h = end_single s (length text) a.at (is_first_column text a.at) (drop a.at text) p (drop_all a.at text (omega (arith, e))) h
+  by_start p false h = absurd (cc)
 
 -- the one that is read
 starts_at : (text : List ℕ) (s : Setting) (a : Ahead) → starts_scalar a.token ≡ true → scalar_ahead text s a ≡ scalar_at s text a.at
@@ -53,9 +71,55 @@ pub finds_scalar : (text : List ℕ) (s : Setting) (a : Ahead) (c : Scalar) → 
 finds_scalar text s a c e h b = (starts_at text s a e ∙ h.0, h.1, b.0, b.2)
 
 pub finds_none : (text : List ℕ) (s : Setting) (a : Ahead) (r : ScalarRefusal) → starts_scalar a.token ≡ true → Answers (is_typed s text a.at) (scalar_at s text a.at) (Err r) → Finds text s a (Err (of_scalar r))
-finds_none text s a refusal.NoMemory e h = tt
-finds_none text s a (refusal.Syntax at) e h = λ t j st. absurd (let no : Fails at ≡ Stands t j = sym h ∙ sym (starts_at text s a e) ∙ st in cc)
-finds_none text s a (refusal.ManyDocuments at) e h = λ t j st. absurd (let no : Documents at ≡ Stands t j = sym h ∙ sym (starts_at text s a e) ∙ st in cc)
+finds_none text s a refusal.NoMemory e h = inl refl
+finds_none text s a (refusal.Syntax at) e h =
+    inr (inl (refl, ((λ t j st. absurd (let no : Fails at ≡ Stands t j = sym h ∙ sym (starts_at text s a e) ∙ st in cc)), (λ p d. absurd (let no : Fails at ≡ Documents p = sym h ∙ sym (starts_at text s a e) ∙ d in cc)))))
+finds_none text s a (refusal.ManyDocuments at) e h = inr (inr (at, refl, starts_at text s a e ∙ h))
+
+-- a key has no mark in it, whatever it ends by: a carriage return, a colon, a comment, another byte or the line's end
+key_byte : (flow q r c : Bool) (at : ℕ) (bytes : List ℕ) (ls : List Line) (p : ℕ) → first (as_key flow) (cond q (why (13 ∷ [])) (cond r (why (58 ∷ [])) (cond c (why (35 ∷ [])) (why (0 ∷ []))))) at bytes ls ≡ Documents p → ⊥
+key_byte flow true r c at bytes ls p h = absurd (cc)
+key_byte flow false true c at bytes ls p h = absurd (cc)
+key_byte flow false false true at bytes ls p h = absurd (cc)
+key_byte flow false false false at bytes ls p h = absurd (cc)
+
+key_rest : (flow : Bool) (rest : List ℕ) (at : ℕ) (bytes : List ℕ) (ls : List Line) (p : ℕ) → first (as_key flow) (why rest) at bytes ls ≡ Documents p → ⊥
+key_rest flow [] at bytes ls p h = absurd (cc)
+key_rest flow (b ∷ bs) at bytes ls p h = key_byte flow (nat_eq b 13) (nat_eq b 58) (nat_eq b 35) at bytes ls p h
+
+key_plain : (flow fresh : Bool) (ls : List Line) (p : ℕ) → plain_on (as_key flow) fresh ls ≡ Documents p → ⊥
+key_plain flow fresh [] p h = absurd (cc)
+key_plain flow fresh (l ∷ ls) p h = by_tests (fresh && (is_mark l.bytes || is_cut_mark l.bytes)) (begins_plain flow l.bytes) h where
+  by_tests : (m b : Bool) → cond m (Fails (l.at + 3)) (cond b (first (as_key flow) (reason flow l.bytes) l.at l.bytes ls) (Fails (wrong_begin l.at l.bytes))) ≡ Documents p → ⊥
+  by_tests true b g = absurd (cc)
+  by_tests false true g = key_rest flow (drop (plain_len flow false l.bytes) l.bytes) l.at l.bytes ls p g
+  by_tests false false g = absurd (cc)
+
+key_quoted : (size : ℕ) (ls : List Line) (p : ℕ) → quoted_on true size ls ≡ Documents p → ⊥
+key_quoted size [] p h = absurd (cc)
+key_quoted size (l ∷ ls) p h = by_part (line_part (cond (begins_with 34 l.bytes) 34 39) (suc l.at) 0 [] 0 (drop 1 l.bytes)) h where
+  by_part : (x : Part) → key_part x (l.at + length l.bytes) ≡ Documents p → ⊥
+  by_part (Closed t e) g = absurd (cc)
+  by_part (Open t) g = absurd (cc)
+  by_part (Joined t) g = absurd (cc)
+  by_part (Returned i) g = absurd (cc)
+  by_part (Refused i) g = absurd (cc)
+
+key_at : (flow : Bool) (text : List ℕ) (at p : ℕ) → scalar_at (as_key flow) text at ≡ Documents p → ⊥
+key_at true text at p h = by_quote (begins_quoted (drop at text)) h where
+  by_quote : (q : Bool) → cond q (quoted_on true (length text) (lines at (drop at text))) (plain_on (as_key true) (is_first_column text at) (lines at (drop at text))) ≡ Documents p → ⊥
+  by_quote true g = key_quoted (length text) (lines at (drop at text)) p g
+  by_quote false g = key_plain true (is_first_column text at) (lines at (drop at text)) p g
+key_at false text at p h = by_quote (begins_quoted (drop at text)) h where
+  by_quote : (q : Bool) → cond q (quoted_on true (length text) (lines at (drop at text))) (plain_on (as_key false) (is_first_column text at) (lines at (drop at text))) ≡ Documents p → ⊥
+  by_quote true g = key_quoted (length text) (lines at (drop at text)) p g
+  by_quote false g = key_plain false (is_first_column text at) (lines at (drop at text)) p g
+
+pub key_single : (flow : Bool) (text : List ℕ) (a : Ahead) (p : ℕ) → scalar_ahead text (as_key flow) a ≡ Documents p → ⊥
+key_single flow text a p h = by_start (starts_scalar a.token) h where
+  by_start : (q : Bool) → cond q (scalar_at (as_key flow) text a.at) (Fails a.at) ≡ Documents p → ⊥
+  by_start true g = key_at flow text a.at p g
+  by_start false g = absurd (cc)
 
 -- ---- kinds
 
@@ -87,6 +151,7 @@ other_kept k t h n = by_text (has_text k) refl where
   by_text false e = refl
 
 -- what is no scalar becomes no value
-pub holds_none : (text : List ℕ) (s : Setting) (a : Ahead) (u w : Unfinished) (r : YamlRefusal) → Finds text s a (Err r) → Holds text s a u w (Err r)
-holds_none text s a u w NoMemory h = tt
-holds_none text s a u w Unread h = h
+pub holds_none : (text : List ℕ) (s : Setting) (cuts : Bool) (a : Ahead) (u w : Unfinished) (r : YamlRefusal) → Finds text s a (Err r) → Holds text s cuts a u w (Err r)
+holds_none text s cuts a u w r (inl h) = inl h
+holds_none text s cuts a u w r (inr (inl h)) = inr (inl h)
+holds_none text s cuts a u w r (inr (inr h)) = inr (inr (inl h))

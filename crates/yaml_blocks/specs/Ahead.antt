@@ -5,14 +5,14 @@ use Rattle.yaml_scalars.specs.Plain.{is_unsafe}
 use Rattle.yaml_scalars.specs.Scalar.{is_first_column}
 use Rattle.yaml_blocks.specs.declared.ahead.Ahead.{Ahead}
 use Rattle.yaml_blocks.specs.declared.ahead.Token.{Token}
-use Rattle.yaml_blocks.specs.declared.ahead.Token.TheVariants.{End, Dashes, Dots, Dash, Tag, Opens, Closes, Comma, Point, Other}
+use Rattle.yaml_blocks.specs.declared.ahead.Token.TheVariants.{End, Dashes, Dots, Dash, Tag, NoTag, Opens, Closes, Comma, Point, Anchor, Percent, Tabbed, Stray, Other}
 
 -- a carriage return that is in no break stands on the line
 abbrev pub has_return : List ℕ → Bool
 has_return [] = false
 has_return (b ∷ bs) = nat_eq b 13 || has_return bs
 
--- section 6.9.1, a local tag: `!`, a letter and then letters and digits, before white space or the line's end
+-- section 6.9.1, a local tag: `!`, a letter and then letters and digits; any other `!` opens none
 abbrev pub is_letter : ℕ → Bool
 is_letter b = (nat_le 65 b && nat_lt b 91) || (nat_le 97 b && nat_lt b 123)
 
@@ -23,12 +23,20 @@ abbrev pub begins_letter : List ℕ → Bool
 begins_letter [] = false
 begins_letter (b ∷ bs) = is_letter b
 
-abbrev pub tag_token : List ℕ → Token
-tag_token bytes = if begins_letter bytes && is_end (drop (lead is_name bytes) bytes) then Tag (lead is_name bytes) else Other
+-- behind its name white space or the line's end, in flow also one of , ] }
+abbrev pub ends_tag : Bool → List ℕ → Bool
+ends_tag flow bytes = is_end bytes || (flow && (begins_with 44 bytes || (begins_with 93 bytes || begins_with 125 bytes)))
+
+abbrev pub tag_token : Bool → List ℕ → Token
+tag_token flow bytes = if begins_letter bytes && ends_tag flow (drop (lead is_name bytes) bytes) then Tag (lead is_name bytes) else NoTag
+
+-- section 5.3: `&`, `*` and `%` begin nothing that is read, and behind a `#` and at a carriage return there is no content
+abbrev pub other_token : ℕ → Token
+other_token b = if nat_eq b 38 || nat_eq b 42 then Anchor else (if nat_eq b 37 then Percent else (if nat_eq b 35 || nat_eq b 13 then Stray else Other))
 
 -- chapter 8.2: outside of flow, `-` and `:` are tokens before white space or the line's end
 abbrev pub block_token : ℕ → List ℕ → Token
-block_token b bs = if nat_eq b 45 && is_end bs then Dash else (if nat_eq b 58 && is_end bs then Point true else (if nat_eq b 33 then tag_token bs else Other))
+block_token b bs = if nat_eq b 45 && is_end bs then Dash else (if nat_eq b 58 && is_end bs then Point true else (if nat_eq b 33 then tag_token false bs else other_token b))
 
 -- section 7.4: [ ] { } , and : are tokens of flow collections, which their brackets open outside of flow too
 abbrev pub token_of : Bool → List ℕ → Token
@@ -40,7 +48,8 @@ token_of flow (b ∷ bs) =
     (if nat_eq b 93 then Closes false else
     (if nat_eq b 125 then Closes true else
     (if nat_eq b 44 then Comma else
-    (if nat_eq b 58 then Point (is_unsafe true bs) else Other))))))
+    (if nat_eq b 58 then Point (is_unsafe true bs) else
+    (if nat_eq b 33 then tag_token true bs else other_token b)))))))
 
 -- how many bytes a token takes; those of a scalar are not told here
 abbrev pub token_len : Token → ℕ
@@ -49,10 +58,15 @@ token_len Dashes = 3
 token_len Dots = 3
 token_len Dash = 1
 token_len (Tag len) = suc len
+token_len NoTag = 0
 token_len (Opens map) = 1
 token_len (Closes map) = 1
 token_len Comma = 1
 token_len (Point loose) = 1
+token_len Anchor = 0
+token_len Percent = 0
+token_len Tabbed = 0
+token_len Stray = 0
 token_len Other = 0
 
 -- a token at a place. It has a column where it begins a line; else so much white space stands before it.
@@ -71,10 +85,14 @@ is_passed fresh bytes = is_blank bytes || ((fresh || nat_lt 0 (lead is_white byt
 abbrev pub is_tabbed : Bool → List ℕ → Bool
 is_tabbed flow bytes = not flow && nat_lt (indent bytes) (lead is_white bytes)
 
+-- a tab there stands in front of content, unless behind it a comment or white space has a carriage return
+abbrev pub tab_token : List ℕ → Token
+tab_token bytes = if begins_with 35 bytes || begins_with 13 bytes then Stray else Tabbed
+
 -- what a line has behind the white space in front; there is no content behind a tab
 abbrev pub content_ahead : Bool → ℕ → List ℕ → Ahead
 content_ahead flow at bytes =
-    if is_tabbed flow bytes then token_at Other true (indent bytes) (at + indent bytes) else token_at (token_of flow (past_white bytes)) true (lead is_white bytes) (at + lead is_white bytes)
+    if is_tabbed flow bytes then token_at (tab_token (past_white bytes)) true (indent bytes) (at + indent bytes) else token_at (token_of flow (past_white bytes)) true (lead is_white bytes) (at + lead is_white bytes)
 
 -- the first of the lines that is neither blank nor a comment
 abbrev pub line_ahead : Bool → ℕ → List Line → Ahead

@@ -1,8 +1,10 @@
 pub mod Ahead
+pub mod Answers
 pub mod Blocks
 pub mod Flow
 pub mod Nodes
 pub mod Refused
 pub mod Rest
+pub mod Signs
 pub mod Steps
 pub mod Yaml

@@ -1,10 +1,10 @@
 //! What a place has ahead, behind white space, comments and breaks.
-ghost use Rattle.std.specs.Prelude.{◌≡◌, ◌≤◌, ◌<◌, ◌+◌, ◌||◌, ℕ, slice_index, nat_lt, true, false, length, drop};
+ghost use Rattle.std.specs.Prelude.{◌≡◌, ◌≤◌, ◌<◌, ◌+◌, ◌||◌, ℕ, slice_index, nat_lt, nat_eq, true, false, length, drop};
 ghost use Rattle.std.specs.Str.{IsCharBoundary};
 ghost use Rattle.yaml_scalars.specs.Lines.{lines, begins_with, is_end, is_mark, lead};
 ghost use Rattle.yaml_scalars.specs.Plain.{is_flow_mark, is_unsafe};
 ghost use Rattle.yaml_scalars.specs.Walk.{line_at};
-ghost use Rattle.yaml_blocks.specs.Ahead.{is_letter, is_name, begins_letter, tag_token, block_token, token_of, token_at, mark_of, has_return, is_passed, is_tabbed, content_ahead, line_ahead, rest_ahead, ahead};
+ghost use Rattle.yaml_blocks.specs.Ahead.{is_letter, is_name, begins_letter, ends_tag, tag_token, other_token, block_token, tab_token, token_of, token_at, mark_of, has_return, is_passed, is_tabbed, content_ahead, line_ahead, rest_ahead, ahead};
 ghost use Rattle.yaml_blocks.specs.Steps.{IsSeen};
 
 use yaml_scalars::lines::{
@@ -22,8 +22,10 @@ pub(crate) enum Token {
     Dots,
     /// A `-` outside of flow, before white space or the line's end.
     Dash,
-    /// A short tag outside of flow, with so many bytes in its name.
+    /// A short tag, with so many bytes in its name.
     Tag { len: usize },
+    /// A `!` that opens no short tag.
+    NoTag,
     /// An opening bracket, of a map or of a list.
     Opens { map: bool },
     /// A closing bracket, of a map or of a list.
@@ -31,6 +33,13 @@ pub(crate) enum Token {
     Comma,
     /// A colon. It is loose where what follows it may follow that of a plain key.
     Point { loose: bool },
+    /// A `&` or `*`, which begins an anchor or an alias.
+    Anchor,
+    Percent,
+    /// A tab in the white space in front of a line's content, outside of flow.
+    Tabbed,
+    /// No content: a comment or white space that a carriage return stands in, outside of a break.
+    Stray,
     /// Anything else: a scalar may begin there, or nothing may.
     Other,
 }
@@ -103,20 +112,51 @@ fn begins_letter(bytes: &[u8], at: usize) -> bool
     !ends_line(bytes, at) && is_letter(bytes[at])
 }
 
-/// The token of a `!` outside of flow, by what stands behind it.
-fn tag_token(bytes: &[u8], start: usize) -> Token
+/// Whether a byte ends an entry between brackets: `, ] }`.
+fn ends_entry(byte: u8) -> bool
+    ensures { result ≡ (nat_eq byte 44 || (nat_eq byte 93 || nat_eq byte 125)) }
+{
+    matches!(byte, b',' | b']' | b'}')
+}
+
+/// Whether what stands at a place may follow a tag's name.
+fn ends_tag(bytes: &[u8], flow: bool, at: usize) -> bool
+    requires { at ≤ length bytes.now }
+    ensures { result ≡ ends_tag flow (line_at (drop at bytes.now)) }
+{
+    if is_end(bytes, at) {
+        return true;
+    }
+    flow && ends_entry(bytes[at])
+}
+
+/// The token of a `!` by what stands behind it.
+fn tag_token(bytes: &[u8], flow: bool, start: usize) -> Token
     requires { start ≤ length bytes.now }
-    ensures is { result ≡ tag_token (line_at (drop start bytes.now)) }
+    ensures is { result ≡ tag_token flow (line_at (drop start bytes.now)) }
     ensures within { (len : ℕ) → result ≡ Token.Tag len → start + len ≤ length bytes.now }
 {
     if !begins_letter(bytes, start) {
-        return Token::Other;
+        return Token::NoTag;
     }
     let len = name_len(bytes, start);
-    if !is_end(bytes, start + len) {
-        return Token::Other;
+    if !ends_tag(bytes, flow, start + len) {
+        return Token::NoTag;
     }
     Token::Tag { len }
+}
+
+/// The token of a byte that no other rule has.
+fn other_token(byte: u8) -> Token
+    ensures is { result ≡ other_token byte }
+    ensures no_tag { (len : ℕ) → result ≡ Token.Tag len → ⊥ }
+{
+    match byte {
+        b'&' | b'*' => Token::Anchor,
+        b'%' => Token::Percent,
+        b'#' | b'\r' => Token::Stray,
+        _ => Token::Other,
+    }
 }
 
 /// The token of a byte outside of flow that is no bracket.
@@ -128,8 +168,8 @@ fn block_token(bytes: &[u8], at: usize) -> Token
     match bytes[at] {
         b'-' if is_end(bytes, at + 1) => Token::Dash,
         b':' if is_end(bytes, at + 1) => Token::Point { loose: true },
-        b'!' => tag_token(bytes, at + 1),
-        _ => Token::Other,
+        b'!' => tag_token(bytes, false, at + 1),
+        byte => other_token(byte),
     }
 }
 
@@ -151,7 +191,8 @@ fn token_of(bytes: &[u8], at: usize, flow: bool) -> Token
         b':' if flow => Token::Point {
             loose: is_loose(bytes, at + 1),
         },
-        _ if flow => Token::Other,
+        b'!' if flow => tag_token(bytes, true, at + 1),
+        byte if flow => other_token(byte),
         _ => block_token(bytes, at),
     }
 }
@@ -211,7 +252,13 @@ fn token_at(token: Token, fresh: bool, column: usize, at: usize) -> Ahead
     ensures { result ≡ token_at token fresh column at }
 {
     let len = match token {
-        Token::End | Token::Other => 0,
+        Token::End
+        | Token::NoTag
+        | Token::Anchor
+        | Token::Percent
+        | Token::Tabbed
+        | Token::Stray
+        | Token::Other => 0,
         Token::Dashes | Token::Dots => 3,
         Token::Tag { len } => len + 1,
         Token::Dash
@@ -253,6 +300,20 @@ fn is_tabbed(bytes: &[u8], flow: bool, start: usize) -> bool
     spaces(bytes, start) < whites(bytes, start)
 }
 
+/// What a tab in the white space in front of a line is, by the place behind that white space.
+fn tab_token(bytes: &[u8], at: usize) -> Token
+    requires { at ≤ length bytes.now }
+    ensures { result ≡ tab_token (line_at (drop at bytes.now)) }
+{
+    if ends_line(bytes, at) {
+        return Token::Tabbed;
+    }
+    match bytes[at] {
+        b'#' | b'\r' => Token::Stray,
+        _ => Token::Tabbed,
+    }
+}
+
 /// What a line has behind the white space in front.
 fn content_ahead(bytes: &[u8], flow: bool, start: usize) -> Ahead
     requires small { length bytes.now ≤ 8388608 }
@@ -261,7 +322,8 @@ fn content_ahead(bytes: &[u8], flow: bool, start: usize) -> Ahead
 {
     if is_tabbed(bytes, flow, start) {
         let column = spaces(bytes, start);
-        return token_at(Token::Other, true, column, start + column);
+        let token = tab_token(bytes, start + whites(bytes, start));
+        return token_at(token, true, column, start + column);
     }
     let column = whites(bytes, start);
     let at = start + column;

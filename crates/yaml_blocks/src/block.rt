@@ -1,12 +1,13 @@
 //! Block sequences and block mappings: one entry or node at a time, what it adds to the tree, and what may follow it.
-ghost use Rattle.std.specs.Prelude.{◌≡◌, ℕ, List, ◌+◌, ◌*◌, ◌≤◌, length, true, false, None};
+ghost use Rattle.std.specs.Prelude.{◌≡◌, ℕ, List, ◌+◌, ◌*◌, ◌≤◌, length, true, false, None, Some, option_map, MatchOption};
 ghost use Rattle.std.specs.Cow.{cow_str_bytes};
 ghost use Rattle.std.specs.Str.{IsCharBoundary};
 ghost use Rattle.doc_values.specs.Unfinished.{AwaitsValue};
 ghost use Rattle.yaml_blocks.specs.Ahead.{ahead};
 ghost use Rattle.yaml_blocks.specs.Nodes.{starts_scalar};
-ghost use Rattle.yaml_blocks.specs.Blocks.{takes_scalar, takes_mapping, takes_sequence, takes_tag, tagged, column_in};
-ghost use Rattle.yaml_blocks.specs.Rest.{top, Ends, Awaits};
+ghost use Rattle.yaml_blocks.specs.Blocks.{block_sign, takes_scalar, takes_mapping, takes_sequence, takes_tag, tagged, column_in};
+ghost use Rattle.yaml_blocks.specs.Refused.{of_sign};
+ghost use Rattle.yaml_blocks.specs.Rest.{top, Inside, Ends, Awaits};
 ghost use Rattle.yaml_blocks.specs.Yaml.{IsEnd};
 ghost use Rattle.yaml_blocks.specs.Steps.{stack, IsSeen, IsBlock, IsBehind, IsSmall, HasKey, NoKey, Open, Fits, NoNode, Gives, Ended, is_dash, ends_before};
 
@@ -14,13 +15,15 @@ use crate::ahead::{Ahead, Token, look};
 use crate::flow::open;
 use crate::form::Form;
 use crate::node::{
-    Key, begin, find_key, innermost, is_get_att, offset, setting_of, tag_key, take_null,
-    take_scalar,
+    Key, as_key, begin, begin_tag, colon_behind, find_key, find_scalar, innermost, offset,
+    take_null, take_scalar,
 };
 use crate::refusal::YamlRefusal;
+use crate::sign::{end_sign, is_tagged, node_sign};
 use crate::stage::{Position, Stage};
 use doc_values::DocBuilder;
 use std::alloc::Global;
+use yaml_scalars::Scalar;
 
 /// Whether a token is a dash.
 fn is_dash(token: Token) -> bool
@@ -38,7 +41,7 @@ fn takes_scalar(form: Form, next: Ahead) -> bool
 {
     match form {
         Form::Root => next.fresh,
-        Form::Flow { map: _ } => false,
+        Form::Flow { map: _ } | Form::FlowTagged { at: _ } => false,
         Form::Items { column } => !next.fresh || column < next.column,
         Form::Entries { column } => !next.fresh || column < next.column,
         Form::Tagged {
@@ -49,13 +52,24 @@ fn takes_scalar(form: Form, next: Ahead) -> bool
     }
 }
 
+/// The sign where a node may begin, if one stands there.
+fn block_sign(form: Form, next: Ahead) -> Option<YamlRefusal>
+    requires { next.at ≤ 8388608 }
+    ensures { MatchOption result (block_sign form next ≡ None) (λ e. Some e ≡ option_map of_sign (block_sign form next)) }
+{
+    if takes_scalar(form, next) {
+        return node_sign(is_tagged(form), next);
+    }
+    None
+}
+
 /// Whether a tag may begin at a token.
 fn takes_tag(form: Form, next: Ahead) -> bool
     ensures { result ≡ takes_tag form next }
 {
     match form {
         Form::Root => next.fresh,
-        Form::Flow { map: _ } => false,
+        Form::Flow { map: _ } | Form::FlowTagged { at: _ } => false,
         Form::Items { column } | Form::Entries { column } => { !next.fresh || column < next.column }
         Form::Tagged { .. } => false,
     }
@@ -73,7 +87,7 @@ fn tagged(form: Form, next: Ahead) -> Form
             above: 0,
             shares: false,
         },
-        Form::Flow { map: _ } => Form::Tagged {
+        Form::Flow { map: _ } | Form::FlowTagged { at: _ } => Form::Tagged {
             at,
             above: 0,
             shares: false,
@@ -106,7 +120,7 @@ fn takes_mapping(form: Form, next: Ahead) -> bool
 {
     match form {
         Form::Root => next.fresh,
-        Form::Flow { map: _ } => false,
+        Form::Flow { map: _ } | Form::FlowTagged { at: _ } => false,
         Form::Items { column } => !next.fresh || column < next.column,
         Form::Entries { column } => next.fresh && column < next.column,
         Form::Tagged {
@@ -124,7 +138,7 @@ fn takes_sequence(form: Form, next: Ahead) -> bool
 {
     match form {
         Form::Root => next.fresh,
-        Form::Flow { map: _ } => false,
+        Form::Flow { map: _ } | Form::FlowTagged { at: _ } => false,
         Form::Items { column } => !next.fresh || column < next.column,
         Form::Entries { column } => next.fresh && column <= next.column,
         Form::Tagged {
@@ -159,7 +173,7 @@ fn ends_before(form: Form, next: Ahead) -> bool
         Form::Entries { column } => next.column < column,
         Form::Tagged { .. } => true,
         Form::Root => false,
-        Form::Flow { map: _ } => false,
+        Form::Flow { map: _ } | Form::FlowTagged { at: _ } => false,
     }
 }
 
@@ -244,23 +258,7 @@ fn tag<'s>(
     requires takes { takes_tag form next ≡ true }
     ensures { Gives text.now (Awaits text.now (stack forms.old.items) builder.old.outer builder.old.done builder.old.key at) (2 * at + 1) (stack forms.new.items) builder.new result }
 {
-    if is_get_att(text, next.at, next.behind) {
-        return Err(YamlRefusal::Unread);
-    }
-    let key = match tag_key(alloc, text, next.at, next.behind) {
-        Ok(key) => key,
-        Err(_) => return Err(YamlRefusal::NoMemory),
-    };
-    match begin(tagged(form, next), next, forms, builder) {
-        Err(refusal) => Err(refusal),
-        Ok(()) => match builder.key(key, offset(next.at)) {
-            Ok(()) => Ok(Position {
-                stage: Stage::Value,
-                at: next.behind,
-            }),
-            Err(_) => Err(YamlRefusal::NoMemory),
-        },
-    }
+    begin_tag(alloc, text, tagged(form, next), next, forms, builder)
 }
 
 /// A scalar where no key stands.
@@ -283,7 +281,7 @@ fn scalar<'s>(
     requires no_key { takes_mapping form next ≡ true → NoKey text.now next }
     ensures { Gives text.now (Awaits text.now (stack forms.now) builder.old.outer builder.old.done builder.old.key at) (2 * at + 1) (stack forms.now) builder.new result }
 {
-    take_scalar(alloc, text, next, setting_of(form), builder)
+    take_scalar(alloc, text, at, form, next, builder)
 }
 
 /// A mapping or a scalar.
@@ -331,6 +329,7 @@ fn missing(
     requires block { IsBlock form }
     requires fits { Fits Stage.Value (stack forms.now) builder.old at }
     requires none { NoNode form next }
+    requires unsigned { block_sign form next ≡ None }
     ensures { Gives text.now (Awaits text.now (stack forms.now) builder.old.outer builder.old.done builder.old.key at) (2 * at + 1) (stack forms.now) builder.new result }
 {
     match form {
@@ -378,6 +377,10 @@ pub(crate) fn node<'s>(
     ensures { Gives text.now (Awaits text.now (stack forms.old.items) builder.old.outer builder.old.done builder.old.key at) (2 * at + 1) (stack forms.new.items) builder.new result }
 {
     let next = look(text, false, at);
+    match block_sign(form, next) {
+        Some(refusal) => return Err(refusal),
+        None => {}
+    }
     match next.token {
         Token::Dash => {
             if takes_sequence(form, next) {
@@ -443,7 +446,7 @@ fn item(
 ) -> Result<Position, YamlRefusal>
     requires seen { IsSeen text.now false at next }
     requires fresh { next.fresh ≡ true }
-    requires inside { IsEnd text.now at → ⊥ }
+    requires inside { Inside text.now at }
     requires form { top (stack forms.now) ≡ Form.Items column }
     requires stays { ends_before (Form.Items column) next ≡ false }
     requires open { Open (stack forms.now) builder.now }
@@ -475,7 +478,7 @@ fn entry<'s>(
     requires small { length text.now ≤ 8388608 }
     requires seen { IsSeen text.now false at next }
     requires fresh { next.fresh ≡ true }
-    requires inside { IsEnd text.now at → ⊥ }
+    requires inside { Inside text.now at }
     requires form { top (stack forms.now) ≡ Form.Entries column }
     requires stays { ends_before (Form.Entries column) next ≡ false }
     requires open { Open (stack forms.now) builder.old }
@@ -485,21 +488,29 @@ fn entry<'s>(
     if next.column != column {
         return Err(YamlRefusal::Unread);
     }
-    let key = match find_key(alloc, text, next) {
-        Ok(Some(key)) => key,
-        Ok(None) => return Err(YamlRefusal::Unread),
+    match node_sign(false, next) {
+        Some(refusal) => return Err(refusal),
+        None => {}
+    }
+    let scalar = match find_scalar(alloc, text, next, as_key(false)) {
+        Ok(scalar) => scalar,
         Err(refusal) => return Err(refusal),
     };
-    let Key {
+    let Scalar {
+        kind: _,
         text: words,
-        behind,
-    } = key;
+        end,
+    } = scalar;
     match builder.key(words, offset(next.at)) {
-        Ok(()) => Ok(Position {
+        Ok(()) => {}
+        Err(refusal) => return Err(YamlRefusal::from(refusal)),
+    }
+    match colon_behind(text, end) {
+        Some(behind) => Ok(Position {
             stage: Stage::Value,
             at: behind,
         }),
-        Err(refusal) => Err(YamlRefusal::from(refusal)),
+        None => Err(YamlRefusal::Unread),
     }
 }
 
@@ -516,7 +527,7 @@ fn head<'s>(
     requires small { length text.now ≤ 8388608 }
     requires seen { IsSeen text.now false at next }
     requires fresh { next.fresh ≡ true }
-    requires inside { IsEnd text.now at → ⊥ }
+    requires inside { Inside text.now at }
     requires form { top (stack forms.now) ≡ form }
     requires block { IsBlock form }
     requires stays { ends_before form next ≡ false }
@@ -529,6 +540,7 @@ fn head<'s>(
         Form::Entries { column } => entry(alloc, text, at, column, next, forms, builder),
         Form::Root => Err(YamlRefusal::Unread),
         Form::Flow { map: _ } => unreachable!(),
+        Form::FlowTagged { at: _ } => unreachable!(),
         Form::Tagged { .. } => unreachable!(),
     }
 }
@@ -544,7 +556,7 @@ fn line<'s>(
 ) -> Result<Position, YamlRefusal>
     requires small { length text.now ≤ 8388608 }
     requires seen { IsSeen text.now false at next }
-    requires inside { IsEnd text.now at → ⊥ }
+    requires inside { Inside text.now at }
     requires block { IsBlock (top (stack forms.old.items)) }
     requires open { Open (stack forms.old.items) builder.old }
     requires awaited { builder.old.key ≡ None }
@@ -631,5 +643,8 @@ pub(crate) fn after<'s>(
     if is_document_end(text, at, next) {
         return end_all(text, at, forms, builder);
     }
-    line(alloc, text, at, next, forms, builder)
+    match end_sign(text, at, next) {
+        Some(refusal) => Err(refusal),
+        None => line(alloc, text, at, next, forms, builder),
+    }
 }

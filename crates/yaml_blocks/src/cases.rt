@@ -1,7 +1,7 @@
 //! Texts of public samples, and the trees that they stand for: examples of YAML 1.2.2 and samples of js-yaml that are one
 //! document of flow forms, flow collections that stand in such, cut out, and texts that were made of those by a change of
 //! a few bytes. What stands in a table of `tests` is not here again.
-use crate::tests::{is_unread, read};
+use crate::tests::{is_refused, read};
 use doc_values::{Cursor, Doc, Kind};
 use std::alloc::{AllocError, Global};
 use std::test::Fail;
@@ -757,7 +757,7 @@ fn other_lines_round_a_root(rt: HostRuntime) -> Result<(), Fail> {
         ("", "\n...\nd"),
     ] {
         let text = joined(rt.alloc(), front, "[a, {b: c}]", back)?;
-        assert!(rt; is_unread(rt.alloc(), &text), "{text}");
+        assert!(rt; is_refused(rt.alloc(), &text), "{text}");
     }
     Ok(())
 }

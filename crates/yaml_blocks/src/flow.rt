@@ -3,14 +3,18 @@ ghost use Rattle.std.specs.Prelude.{◌≡◌, ℕ, Bool, ◌+◌, ◌*◌, ◌<
 ghost use Rattle.std.specs.Str.{IsCharBoundary};
 ghost use Rattle.doc_values.specs.Unfinished.{AwaitsValue, MayEnd};
 ghost use Rattle.yaml_scalars.specs.Scalar.{begins_quoted};
-ghost use Rattle.yaml_blocks.specs.Flow.{IsColon};
+ghost use Rattle.yaml_blocks.specs.Flow.{may_miss, may_tag, ends_key, IsColon};
+ghost use Rattle.yaml_blocks.specs.Nodes.{node_sign, is_tagged, is_marked};
 ghost use Rattle.yaml_blocks.specs.Rest.{top, Ends, Enters, Awaits};
-ghost use Rattle.yaml_blocks.specs.Steps.{stack, IsSeen, Open, Gives, Opened, Closed};
+ghost use Rattle.yaml_blocks.specs.Steps.{stack, IsSeen, IsFlow, IsBehind, Open, Gives, Opened, Closed, is_flow_ending};
 
 use crate::ahead::{Ahead, Token, look};
 use crate::form::Form;
-use crate::node::{as_key, begin, find_scalar, offset, setting_of, take_null, take_scalar};
+use crate::node::{
+    as_key, begin, begin_tag, find_scalar, innermost, offset, take_null, take_scalar,
+};
 use crate::refusal::YamlRefusal;
+use crate::sign::{is_marked, is_tagged, node_sign};
 use crate::stage::{Position, Stage};
 use doc_values::DocBuilder;
 use std::alloc::Global;
@@ -67,27 +71,64 @@ pub(crate) fn open(
     }
 }
 
-/// A node of a collection.
-fn node<'s>(
+/// The map of a tag begins.
+fn tag<'s>(
     alloc: Global,
     text: &'s str,
     at: usize,
-    map: bool,
+    form: Form,
+    len: usize,
     next: Ahead,
     forms: &mut Vec<Form>,
     builder: &mut DocBuilder<'s>,
 ) -> Result<Position, YamlRefusal>
     requires small { length text.now ≤ 8388608 }
     requires seen { IsSeen text.now true at next }
-    requires there { map ≡ true → (next.token ≡ Token.Comma → ⊥) × (next.token ≡ Token.Closes true → ⊥) }
-    requires form { top (stack forms.old.items) ≡ Form.Flow map }
+    requires tag { next.token ≡ Token.Tag len }
+    requires form { top (stack forms.old.items) ≡ form }
+    requires takes { may_tag form ≡ true }
     requires open { Open (stack forms.old.items) builder.old }
     requires awaited { AwaitsValue builder.old }
     ensures { Gives text.now (Awaits text.now (stack forms.old.items) builder.old.outer builder.old.done builder.old.key at) (2 * at + 2) (stack forms.new.items) builder.new result }
 {
+    begin_tag(
+        alloc,
+        text,
+        Form::FlowTagged { at: next.at },
+        next,
+        forms,
+        builder,
+    )
+}
+
+/// A node in brackets, or behind a tag there.
+fn node<'s>(
+    alloc: Global,
+    text: &'s str,
+    at: usize,
+    form: Form,
+    next: Ahead,
+    forms: &mut Vec<Form>,
+    builder: &mut DocBuilder<'s>,
+) -> Result<Position, YamlRefusal>
+    requires small { length text.now ≤ 8388608 }
+    requires seen { IsSeen text.now true at next }
+    requires there { may_miss form ≡ true → is_flow_ending next.token ≡ false }
+    requires form { top (stack forms.old.items) ≡ form }
+    requires flow { IsFlow form }
+    requires behind { IsBehind form at }
+    requires open { Open (stack forms.old.items) builder.old }
+    requires awaited { AwaitsValue builder.old }
+    ensures { Gives text.now (Awaits text.now (stack forms.old.items) builder.old.outer builder.old.done builder.old.key at) (2 * at + 2) (stack forms.new.items) builder.new result }
+{
+    match node_sign(is_tagged(form), next) {
+        Some(refusal) => return Err(refusal),
+        None => {}
+    }
     match next.token {
-        Token::Opens { map: inner } => open(inner, next, forms, builder),
-        _ => take_scalar(alloc, text, next, setting_of(Form::Flow { map }), builder),
+        Token::Opens { map } => open(map, next, forms, builder),
+        Token::Tag { len } => tag(alloc, text, at, form, len, next, forms, builder),
+        _ => take_scalar(alloc, text, at, form, next, builder),
     }
 }
 
@@ -106,6 +147,28 @@ fn may_follow(loose: bool, quoted: bool) -> bool
     loose || quoted
 }
 
+/// Whether a key without a colon ends before a token.
+fn ends_key(token: Token) -> bool
+    ensures { result ≡ ends_key token }
+{
+    match token {
+        Token::Comma | Token::Dashes | Token::Dots => true,
+        Token::Closes { map } => map,
+        _ => false,
+    }
+}
+
+/// Whether a token ends a node, or a sign stands there behind it.
+fn is_flow_ending(token: Token) -> bool
+    ensures { result ≡ is_flow_ending token }
+{
+    match token {
+        Token::Comma | Token::Dashes | Token::Dots => true,
+        Token::Closes { map: _ } => true,
+        _ => false,
+    }
+}
+
 /// Where the value of a key stands whose end is at a place: behind a colon, or there where none is.
 fn colon(text: &str, end: usize, quoted: bool) -> Option<usize>
     requires small { length text.now ≤ 8388608 }
@@ -113,6 +176,9 @@ fn colon(text: &str, end: usize, quoted: bool) -> Option<usize>
     ensures { MatchOption result ((p : ℕ) → IsColon text.now quoted end p → ⊥) (λ p. IsColon text.now quoted end p × IsCharBoundary text.now p × (end ≤ p)) }
 {
     let next = look(text, true, end);
+    if ends_key(next.token) {
+        return Some(end);
+    }
     match next.token {
         Token::Point { loose } => {
             if may_follow(loose, quoted) {
@@ -121,8 +187,6 @@ fn colon(text: &str, end: usize, quoted: bool) -> Option<usize>
                 None
             }
         }
-        Token::Comma => Some(end),
-        Token::Closes { map: true } => Some(end),
         _ => None,
     }
 }
@@ -139,11 +203,16 @@ fn key<'s>(
     requires small { length text.now ≤ 8388608 }
     requires seen { IsSeen text.now true at next }
     requires there { next.token ≡ Token.Closes true → ⊥ }
+    requires unmarked { is_marked next.token ≡ false }
     requires form { top (stack forms.now) ≡ Form.Flow true }
     requires open { Open (stack forms.now) builder.old }
     requires awaited { builder.old.key ≡ None }
     ensures { Gives text.now (Enters text.now (stack forms.now) builder.old.outer builder.old.done at) (2 * at + 2) (stack forms.now) builder.new result }
 {
+    match node_sign(false, next) {
+        Some(refusal) => return Err(refusal),
+        None => {}
+    }
     let scalar = match find_scalar(alloc, text, next, as_key(true)) {
         Ok(scalar) => scalar,
         Err(refusal) => return Err(refusal),
@@ -153,15 +222,16 @@ fn key<'s>(
         text: words,
         end,
     } = scalar;
-    let Some(place) = colon(text, end, is_quoted(text.as_bytes(), next.at)) else {
-        return Err(YamlRefusal::Unread);
-    };
     match builder.key(words, offset(next.at)) {
-        Ok(()) => Ok(Position {
+        Ok(()) => {}
+        Err(refusal) => return Err(YamlRefusal::from(refusal)),
+    }
+    match colon(text, end, is_quoted(text.as_bytes(), next.at)) {
+        Some(place) => Ok(Position {
             stage: Stage::Value,
             at: place,
         }),
-        Err(refusal) => Err(YamlRefusal::from(refusal)),
+        None => Err(YamlRefusal::Unread),
     }
 }
 
@@ -185,36 +255,48 @@ pub(crate) fn entry<'s>(
     if closes(next.token, map) {
         return close(next, forms, builder);
     }
+    if is_marked(next.token) {
+        return Err(YamlRefusal::ManyDocuments(offset(next.at)));
+    }
     if map {
         key(alloc, text, at, next, forms, builder)
     } else {
-        node(alloc, text, at, false, next, forms, builder)
+        node(
+            alloc,
+            text,
+            at,
+            Form::Flow { map: false },
+            next,
+            forms,
+            builder,
+        )
     }
 }
 
-/// The value of a key.
+/// The value of a key, or of a tag.
 pub(crate) fn value<'s>(
     alloc: Global,
     text: &'s str,
     at: usize,
+    form: Form,
     forms: &mut Vec<Form>,
     builder: &mut DocBuilder<'s>,
 ) -> Result<Position, YamlRefusal>
     requires small { length text.now ≤ 8388608 }
     requires boundary { IsCharBoundary text.now at }
-    requires form { top (stack forms.old.items) ≡ Form.Flow true }
+    requires form { top (stack forms.old.items) ≡ form }
+    requires flow { IsFlow form }
+    requires behind { IsBehind form at }
+    requires misses { may_miss form ≡ true }
     requires open { Open (stack forms.old.items) builder.old }
     requires awaited { AwaitsValue builder.old }
     ensures { Gives text.now (Awaits text.now (stack forms.old.items) builder.old.outer builder.old.done builder.old.key at) (2 * at + 1) (stack forms.new.items) builder.new result }
 {
     let next = look(text, true, at);
-    if closes(next.token, true) {
+    if is_flow_ending(next.token) {
         return take_null(at, at, builder);
     }
-    match next.token {
-        Token::Comma => take_null(at, at, builder),
-        _ => node(alloc, text, at, true, next, forms, builder),
-    }
+    node(alloc, text, at, form, next, forms, builder)
 }
 
 /// What follows a complete node of a collection.
@@ -236,11 +318,40 @@ pub(crate) fn after(
     if closes(next.token, map) {
         return close(next, forms, builder);
     }
+    if is_marked(next.token) {
+        return Err(YamlRefusal::ManyDocuments(offset(next.at)));
+    }
     match next.token {
         Token::Comma => Ok(Position {
             stage: Stage::Entry,
             at: next.behind,
         }),
         _ => Err(YamlRefusal::Unread),
+    }
+}
+
+/// What follows a complete node behind a tag, whose map ends with it.
+pub(crate) fn after_tag(
+    text: &str,
+    at: usize,
+    place: usize,
+    forms: &mut Vec<Form>,
+    builder: &mut DocBuilder,
+) -> Result<Position, YamlRefusal>
+    requires small { length text.now ≤ 8388608 }
+    requires boundary { IsCharBoundary text.now at }
+    requires form { top (stack forms.old.items) ≡ Form.FlowTagged place }
+    requires open { Open (stack forms.old.items) builder.old }
+    requires awaited { builder.old.key ≡ None }
+    ensures { Gives text.now (Ends text.now (stack forms.old.items) builder.old.outer builder.old.done at) (2 * at + 2) (stack forms.new.items) builder.new result }
+{
+    let Some(_) = forms.pop() else { unreachable!() };
+    match builder.end() {
+        Ok(()) => {}
+        Err(_) => return Err(YamlRefusal::NoMemory),
+    }
+    match innermost(forms) {
+        Form::Flow { map } => after(text, at, map, forms, builder),
+        _ => unreachable!(),
     }
 }

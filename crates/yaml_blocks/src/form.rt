@@ -9,6 +9,10 @@ pub(crate) enum Form {
     Flow {
         map: bool,
     },
+    /// A tag in flow, with the place of its `!`.
+    FlowTagged {
+        at: usize,
+    },
     /// A block sequence, whose entries begin at a column.
     Items {
         column: usize,

@@ -1,7 +1,7 @@
-//! YAML 1.2.2 in a profile. `read_yaml` reads a document: scalars, block sequences and block mappings, short tags outside
-//! of flow but for `!GetAtt`, and flow collections, with comments, a byte order mark, and the lines `---` and `...` round
-//! it. It answers just the trees that the relation of `specs/Yaml` gives, and a refusal where that gives none. The crate
-//! stands on `yaml_scalars` for scalars, and builds trees of `doc_values`.
+//! YAML 1.2.2 in a profile. `read_yaml` reads a document: scalars, block sequences and block mappings, flow collections,
+//! and short tags, with comments, a byte order mark, and the lines `---` and `...` round it. It answers just the trees that
+//! the relation of `specs/Yaml` gives; where that gives none, the sign that counts there, if one does. The crate stands on `yaml_scalars` for scalars,
+//! and builds trees of `doc_values`.
 #![tactic(auto)]
 
 mod ahead;
@@ -15,8 +15,13 @@ mod form;
 mod node;
 mod read;
 mod refusal;
+mod sign;
+#[cfg(test)]
+mod sign_tests;
 mod stage;
 mod step;
+#[cfg(test)]
+mod tag_tests;
 #[cfg(test)]
 mod tests;
 

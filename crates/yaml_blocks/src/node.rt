@@ -1,12 +1,13 @@
 //! What nodes are made of: scalars, missing nodes, keys outside of flow, and collections that begin.
 ghost use Rattle.std.specs.Prelude.{◌≡◌, ℕ, ◌+◌, ◌<◌, ◌≤◌, ◌≤ℤ◌, length, [], true, false, Some, None, MatchOption, IfOk, ◌||◌, pos, negsuc};
 ghost use Rattle.std.specs.Cow.{cow_str_bytes};
+ghost use Rattle.std.specs.List.{position_or_len, before_first, after_first};
 ghost use Rattle.std.specs.Str.{IsCharBoundary, bytes_eq};
 ghost use Rattle.doc_values.specs.Tree.{has_text};
 ghost use Rattle.doc_values.specs.Unfinished.{with_value, AwaitsValue};
 ghost use Rattle.yaml_blocks.specs.Ahead.{ahead};
-ghost use Rattle.yaml_blocks.specs.Nodes.{below, tag_name, tag_key, get_att, ref_text, condition_text, setting_of, as_key, starts_scalar};
-ghost use Rattle.yaml_blocks.specs.Steps.{stack, has_keys, IsSmall, Finds, FindsKey, leaf_text, Holds, Begun, Completes};
+ghost use Rattle.yaml_blocks.specs.Nodes.{below, tag_name, tag_key, get_att, follows_get_att, is_dot, is_cut, ref_text, condition_text, setting_of, as_key, starts_scalar};
+ghost use Rattle.yaml_blocks.specs.Steps.{stack, has_keys, IsSmall, IsBehind, Finds, FindsKey, leaf_text, Paired, Holds, Begun, TagBegun, Completes};
 ghost use Rattle.yaml_blocks.specs.Rest.{top};
 
 use crate::ahead::{Ahead, Token, look};
@@ -48,7 +49,7 @@ fn below(above: usize) -> i32
 }
 
 /// How a node stands.
-pub(crate) fn setting_of(form: Form) -> Setting
+fn setting_of(form: Form) -> Setting
     requires { IsSmall form }
     ensures is { result ≡ setting_of form }
     ensures low { negsuc 0 ≤ℤ result.parent }
@@ -61,6 +62,11 @@ pub(crate) fn setting_of(form: Form) -> Setting
             one_line: false,
         },
         Form::Flow { map: _ } => Setting {
+            parent: -1,
+            flow: true,
+            one_line: false,
+        },
+        Form::FlowTagged { at: _ } => Setting {
             parent: -1,
             flow: true,
             one_line: false,
@@ -104,6 +110,7 @@ fn has_keys(form: Form) -> bool
 {
     match form {
         Form::Flow { map } => map,
+        Form::FlowTagged { at: _ } => true,
         Form::Entries { column: _ } => true,
         Form::Tagged { .. } => true,
         Form::Root => false,
@@ -196,12 +203,92 @@ fn kept_text<'s>(kind: &Kind, text: CowStr<'s>) -> CowStr<'s>
     }
 }
 
-/// The scalar at a token becomes a value.
-pub(crate) fn take_scalar<'s>(
+/// The part of a text before its first dot and the part behind it, if it has one.
+fn split_dot(text: &str) -> Option<(&str, &str)>
+    ensures { MatchOption result ((position_or_len is_dot text.now < length text.now) → ⊥) (λ p. (position_or_len is_dot text.now < length text.now) × (p.0.now ≡ before_first is_dot text.now) × (p.1.now ≡ after_first is_dot text.now)) }
+{
+    text.split_once('.')
+}
+
+/// A text of its own.
+fn copied(alloc: Global, text: &str) -> Result<CowStr<'static>, AllocError>
+    ensures { IfOk result (λ copy. cow_str_bytes copy ≡ text.now) }
+{
+    let mut copy = String::new(alloc);
+    copy.push_str(text)?;
+    Ok(CowStr::Owned(copy))
+}
+
+/// The two parts of a scalar that is cut at a dot, or none.
+fn parts<'s>(
+    alloc: Global,
+    cuts: bool,
+    kind: &Kind,
+    text: &CowStr<'s>,
+) -> Result<Option<(CowStr<'s>, CowStr<'s>)>, AllocError>
+    ensures { IfOk result (λ parts. MatchOption parts (is_cut cuts kind.now (cow_str_bytes text.now) ≡ false) (λ p. (is_cut cuts kind.now (cow_str_bytes text.now) ≡ true) × (cow_str_bytes p.0 ≡ before_first is_dot (cow_str_bytes text.now)) × (cow_str_bytes p.1 ≡ after_first is_dot (cow_str_bytes text.now)))) }
+{
+    if !cuts {
+        return Ok(None);
+    }
+    match kind {
+        Kind::Text => {}
+        _ => return Ok(None),
+    }
+    match text {
+        CowStr::Borrowed(words) => match split_dot(words) {
+            None => Ok(None),
+            Some((first, second)) => {
+                Ok(Some((CowStr::Borrowed(first), CowStr::Borrowed(second))))
+            }
+        },
+        CowStr::Owned(words) => match split_dot(words) {
+            None => Ok(None),
+            Some((first, second)) => Ok(Some((copied(alloc, first)?, copied(alloc, second)?))),
+        },
+    }
+}
+
+/// Two texts become a list.
+fn take_pair<'s>(
+    first: CowStr<'s>,
+    second: CowStr<'s>,
+    place: usize,
+    end: usize,
+    builder: &mut DocBuilder<'s>,
+) -> Result<Position, YamlRefusal>
+    requires small { place ≤ 8388608 }
+    requires awaited { AwaitsValue builder.old }
+    ensures { Paired (cow_str_bytes first.entry) (cow_str_bytes second.entry) place end builder.old builder.new result }
+{
+    match builder.begin(false, offset(place)) {
+        Ok(()) => {}
+        Err(refused) => return Err(YamlRefusal::from(refused)),
+    }
+    match builder.scalar(Kind::Text, first, offset(place)) {
+        Ok(()) => {}
+        Err(_) => return Err(YamlRefusal::NoMemory),
+    }
+    match builder.scalar(Kind::Text, second, offset(place)) {
+        Ok(()) => {}
+        Err(_) => return Err(YamlRefusal::NoMemory),
+    }
+    match builder.end() {
+        Ok(()) => Ok(Position {
+            stage: Stage::After,
+            at: end,
+        }),
+        Err(_) => Err(YamlRefusal::NoMemory),
+    }
+}
+
+/// The scalar at a token becomes a value, or where it is cut a list of two.
+fn take_cut<'s>(
     alloc: Global,
     text: &'s str,
     next: Ahead,
     setting: Setting,
+    cuts: bool,
     builder: &mut DocBuilder<'s>,
 ) -> Result<Position, YamlRefusal>
     requires small { length text.now ≤ 8388608 }
@@ -209,7 +296,7 @@ pub(crate) fn take_scalar<'s>(
     requires low { negsuc 0 ≤ℤ setting.parent }
     requires high { setting.parent ≤ℤ pos 8388608 }
     requires awaited { AwaitsValue builder.old }
-    ensures { Holds text.now setting next builder.old builder.new result }
+    ensures { Holds text.now setting cuts next builder.old builder.new result }
 {
     let scalar = match find_scalar(alloc, text, next, setting) {
         Ok(scalar) => scalar,
@@ -220,6 +307,11 @@ pub(crate) fn take_scalar<'s>(
         text: words,
         end,
     } = scalar;
+    match parts(alloc, cuts, &kind, &words) {
+        Err(_) => return Err(YamlRefusal::NoMemory),
+        Ok(Some((first, second))) => return take_pair(first, second, next.at, end, builder),
+        Ok(None) => {}
+    }
     let content = kept_text(&kind, words);
     match builder.scalar(kind, content, offset(next.at)) {
         Ok(()) => Ok(Position {
@@ -228,6 +320,27 @@ pub(crate) fn take_scalar<'s>(
         }),
         Err(_) => Err(YamlRefusal::NoMemory),
     }
+}
+
+/// The scalar at a token becomes the value that is awaited at a place, by what a node stands in there.
+pub(crate) fn take_scalar<'s>(
+    alloc: Global,
+    text: &'s str,
+    at: usize,
+    form: Form,
+    next: Ahead,
+    builder: &mut DocBuilder<'s>,
+) -> Result<Position, YamlRefusal>
+    requires small { length text.now ≤ 8388608 }
+    requires within { at ≤ length text.now }
+    requires boundary { IsCharBoundary text.now next.at }
+    requires form { IsSmall form }
+    requires behind { IsBehind form at }
+    requires awaited { AwaitsValue builder.old }
+    ensures { Holds text.now (setting_of form) (follows_get_att text.now form at) next builder.old builder.new result }
+{
+    let cuts = follows_get_att(text.as_bytes(), form, at);
+    take_cut(alloc, text, next, setting_of(form), cuts, builder)
 }
 
 /// Null becomes a value, where a node is missing.
@@ -250,7 +363,7 @@ pub(crate) fn take_null(
 }
 
 /// The place behind the colon of a key outside of flow whose end is at a place, if there is one.
-fn colon_behind(text: &str, end: usize) -> Option<usize>
+pub(crate) fn colon_behind(text: &str, end: usize) -> Option<usize>
     requires small { length text.now ≤ 8388608 }
     requires boundary { IsCharBoundary text.now end }
     ensures { MatchOption result (((ahead text.now false end).fresh ≡ false) → ((ahead text.now false end).token ≡ Token.Point true) → ⊥) (λ p. ((ahead text.now false end).fresh ≡ false) × ((ahead text.now false end).token ≡ Token.Point true) × (p ≡ (ahead text.now false end).behind) × IsCharBoundary text.now p × (end ≤ p)) }
@@ -277,8 +390,8 @@ pub(crate) fn find_key<'s>(
 {
     let scalar = match find_scalar(alloc, text, next, as_key(false)) {
         Ok(scalar) => scalar,
-        Err(YamlRefusal::Unread) => return Ok(None),
         Err(YamlRefusal::NoMemory) => return Err(YamlRefusal::NoMemory),
+        Err(_) => return Ok(None),
     };
     let Scalar {
         kind: _,
@@ -301,18 +414,33 @@ fn is_key_itself(name: &str) -> bool
     name == "Ref" || name == "Condition"
 }
 
-/// Whether the tag from one place to another is one that is not read.
-pub(crate) fn is_get_att(text: &str, at: usize, behind: usize) -> bool
+/// Whether the tag from one place to another is `!GetAtt`.
+fn is_get_att(bytes: &[u8], at: usize, behind: usize) -> bool
     requires order { at < behind }
-    requires first { IsCharBoundary text.now (at + 1) }
-    requires last { IsCharBoundary text.now behind }
-    ensures { result ≡ bytes_eq (tag_name text.now at behind) get_att }
+    requires within { behind ≤ length bytes.now }
+    ensures { result ≡ bytes_eq (tag_name bytes.now at behind) get_att }
 {
-    &text[at + 1..behind] == "GetAtt"
+    &bytes[at + 1..behind] == "GetAtt".as_bytes()
+}
+
+/// Whether a place is that behind `!GetAtt`, by what a node stands in there.
+fn follows_get_att(bytes: &[u8], form: Form, at: usize) -> bool
+    requires within { at ≤ length bytes.now }
+    requires behind { IsBehind form at }
+    ensures { result ≡ follows_get_att bytes.now form at }
+{
+    match form {
+        Form::Tagged { at: place, .. } => is_get_att(bytes, place, at),
+        Form::FlowTagged { at: place } => is_get_att(bytes, place, at),
+        Form::Root => false,
+        Form::Flow { map: _ } => false,
+        Form::Items { column: _ } => false,
+        Form::Entries { column: _ } => false,
+    }
 }
 
 /// The key that the tag from one place to another stands for.
-pub(crate) fn tag_key<'s>(
+fn tag_key<'s>(
     alloc: Global,
     text: &'s str,
     at: usize,
@@ -331,4 +459,37 @@ pub(crate) fn tag_key<'s>(
     key.push_str("Fn::")?;
     key.push_str(name)?;
     Ok(CowStr::Owned(key))
+}
+
+/// The map of a tag begins, and its value is awaited behind the tag's name.
+pub(crate) fn begin_tag<'s>(
+    alloc: Global,
+    text: &'s str,
+    form: Form,
+    next: Ahead,
+    forms: &mut Vec<Form>,
+    builder: &mut DocBuilder<'s>,
+) -> Result<Position, YamlRefusal>
+    requires small { next.at ≤ 8388608 }
+    requires order { next.at < next.behind }
+    requires first { IsCharBoundary text.now (next.at + 1) }
+    requires last { IsCharBoundary text.now next.behind }
+    requires keys { has_keys form ≡ true }
+    requires awaited { AwaitsValue builder.old }
+    ensures { TagBegun text.now form next (stack forms.old.items) builder.old (stack forms.new.items) builder.new result }
+{
+    let key = match tag_key(alloc, text, next.at, next.behind) {
+        Ok(key) => key,
+        Err(_) => return Err(YamlRefusal::NoMemory),
+    };
+    match begin(form, next, forms, builder) {
+        Err(refusal) => Err(refusal),
+        Ok(()) => match builder.key(key, offset(next.at)) {
+            Ok(()) => Ok(Position {
+                stage: Stage::Value,
+                at: next.behind,
+            }),
+            Err(_) => Err(YamlRefusal::NoMemory),
+        },
+    }
 }

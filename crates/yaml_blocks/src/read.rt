@@ -1,12 +1,13 @@
 //! A whole text.
-ghost use Rattle.std.specs.Prelude.{◌≡◌, ◌≤◌, length, true, false, MatchResult};
+ghost use Rattle.std.specs.Prelude.{◌≡◌, ◌≤◌, length, true, false, None, MatchResult};
 ghost use Rattle.std.specs.Str.{IsCharBoundary};
-ghost use Rattle.doc_values.specs.Tree.{Forest};
 ghost use Rattle.yaml_scalars.specs.Scalar.{begins_order_mark};
-ghost use Rattle.yaml_blocks.specs.Yaml.{IsYaml, IsStart, text_start};
+ghost use Rattle.yaml_blocks.specs.Answers.{Reads, Refuses};
+ghost use Rattle.yaml_blocks.specs.Yaml.{IsStart, start_sign, text_start};
 
 use crate::ahead::{Token, look};
 use crate::refusal::YamlRefusal;
+use crate::sign::start_sign;
 use crate::stage::Stage;
 use crate::step::{root, step};
 use doc_values::{Doc, DocBuilder};
@@ -16,9 +17,12 @@ use std::alloc::Global;
 /// text.
 pub fn read_yaml<'s>(alloc: Global, text: &'s str) -> Result<Doc<'s>, YamlRefusal>
     requires { length text.now ≤ 8388608 }
-    ensures { MatchResult result (λ d. IsYaml text.now d × ((tree : Forest) → IsYaml text.now tree → tree ≡ d)) (λ e. e ≡ YamlRefusal.Unread → (tree : Forest) → IsYaml text.now tree → ⊥) }
+    ensures { MatchResult result (λ d. Reads text.now d) (λ e. Refuses text.now e) }
 {
-    let start = document_start(text);
+    let start = match document_start(text) {
+        Ok(start) => start,
+        Err(refusal) => return Err(refusal),
+    };
     let mut forms = Vec::new(alloc);
     let mut builder = DocBuilder::new(alloc);
     let mut position = match root(text, start, &mut builder) {
@@ -63,16 +67,25 @@ fn text_start(text: &str) -> usize
     }
 }
 
-/// The place behind a line `---`, if there is one.
-fn document_start(text: &str) -> usize
+/// Where the document begins: behind a line `---`, if there is one.
+fn document_start(text: &str) -> Result<usize, YamlRefusal>
     requires { length text.now ≤ 8388608 }
-    ensures is { IsStart text.now result }
-    ensures boundary { IsCharBoundary text.now result }
+    ensures { MatchResult result (λ start. IsStart text.now start × IsCharBoundary text.now start × (start_sign text.now ≡ None)) (λ e. Refuses text.now e) }
 {
     let at = text_start(text);
     let next = look(text, false, at);
+    match start_sign(text, next) {
+        Some(refusal) => return Err(refusal),
+        None => {}
+    }
     match next.token {
-        Token::Dashes => next.behind,
-        _ => at,
+        Token::Dashes => {
+            if look(text, false, next.behind).fresh {
+                Ok(next.behind)
+            } else {
+                Err(YamlRefusal::Unread)
+            }
+        }
+        _ => Ok(at),
     }
 }

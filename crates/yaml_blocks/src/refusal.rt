@@ -7,9 +7,32 @@ use yaml_scalars::ScalarRefusal;
 /// Why a text is refused as a document.
 #[derive(Clone, Copy, Debug, PartialEq, Eq, Error)]
 pub enum YamlRefusal {
-    /// The text is no document in the part of YAML that is read.
+    /// The text is no document of the profile. It comes where none of the refusals below counts.
     #[error("the text is not YAML in the part that is read")]
     Unread,
+    /// A tab in the white space in front of a line's content; its place.
+    #[error("a tab stands in the indentation at byte {0}")]
+    Tab(u32),
+    /// An anchor or an alias: a `&` or `*` where a node or a key may begin; its place.
+    #[error("an anchor or an alias stands at byte {0}")]
+    Anchor(u32),
+    /// A tag that is no short one where a node or a key may begin, or behind a tag another, where a node may begin; the
+    /// place of its `!`.
+    #[error("another tag stands at byte {0}")]
+    Tag(u32),
+    /// A line in front of the document that begins with `%`; the place of that.
+    #[error("a directive begins at byte {0}")]
+    Directive(u32),
+    /// A line `---` or `...` that neither begins nor ends the document, or that has content on it; its place, also between
+    /// brackets and in quotes. Or content behind the line `...`; the place of its first byte.
+    #[error("another document begins at byte {0}")]
+    ManyDocuments(u32),
+    /// A key that an entry of the same map has already, with or without its colon; the place of its first byte.
+    #[error("a key comes again at byte {0}")]
+    DuplicateKey(u32),
+    /// A collection in 128 others; the place of its first byte. A block mapping begins with its first key and the colon.
+    #[error("the collection at byte {0} is too deep")]
+    TooDeep(u32),
     /// The allocator gave no memory.
     #[error("out of memory")]
     NoMemory,
@@ -24,7 +47,8 @@ impl From<BuildRefusal> for YamlRefusal {
     fn from(refusal: BuildRefusal) -> YamlRefusal {
         match refusal {
             BuildRefusal::NoMemory => YamlRefusal::NoMemory,
-            BuildRefusal::TooDeep(_) | BuildRefusal::DuplicateKey(_) => YamlRefusal::Unread,
+            BuildRefusal::TooDeep(at) => YamlRefusal::TooDeep(at),
+            BuildRefusal::DuplicateKey(at) => YamlRefusal::DuplicateKey(at),
         }
     }
 }
@@ -38,7 +62,8 @@ impl From<ScalarRefusal> for YamlRefusal {
     fn from(refusal: ScalarRefusal) -> YamlRefusal {
         match refusal {
             ScalarRefusal::NoMemory => YamlRefusal::NoMemory,
-            ScalarRefusal::Syntax(_) | ScalarRefusal::ManyDocuments(_) => YamlRefusal::Unread,
+            ScalarRefusal::Syntax(_) => YamlRefusal::Unread,
+            ScalarRefusal::ManyDocuments(at) => YamlRefusal::ManyDocuments(at),
         }
     }
 }

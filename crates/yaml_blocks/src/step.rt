@@ -5,10 +5,11 @@ ghost use Rattle.doc_values.specs.Unfinished.{start};
 ghost use Rattle.yaml_blocks.specs.Rest.{top, Ends, Enters, Awaits, Begins};
 ghost use Rattle.yaml_blocks.specs.Steps.{stack, Open, Rest, Fits, reached, Gives};
 
-use crate::ahead::{Token, look};
+use crate::ahead::look;
 use crate::form::Form;
 use crate::node::{innermost, take_null};
 use crate::refusal::YamlRefusal;
+use crate::sign::is_ending;
 use crate::stage::{Position, Stage};
 use crate::{block, flow};
 use doc_values::DocBuilder;
@@ -48,7 +49,8 @@ fn value<'s>(
 {
     let form = innermost(forms);
     match form {
-        Form::Flow { map: true } => flow::value(alloc, text, at, forms, builder),
+        Form::Flow { map: true } => flow::value(alloc, text, at, form, forms, builder),
+        Form::FlowTagged { at: _ } => flow::value(alloc, text, at, form, forms, builder),
         Form::Flow { map: false } => unreachable!(),
         _ => block::node(alloc, text, at, form, forms, builder),
     }
@@ -69,6 +71,7 @@ fn after<'s>(
 {
     match innermost(forms) {
         Form::Flow { map } => flow::after(text, at, map, forms, builder),
+        Form::FlowTagged { at: place } => flow::after_tag(text, at, place, forms, builder),
         _ => block::after(alloc, text, at, forms, builder),
     }
 }
@@ -102,12 +105,11 @@ pub(crate) fn root(text: &str, at: usize, builder: &mut DocBuilder) -> Result<Po
     requires fits { builder.old ≡ start }
     ensures { Gives text.now (Begins text.now at) 0 [] builder.new result }
 {
-    match look(text, false, at).token {
-        Token::End => take_null(text.len(), at, builder),
-        Token::Dots => take_null(text.len(), at, builder),
-        _ => Ok(Position {
-            stage: Stage::Value,
-            at,
-        }),
+    if is_ending(look(text, false, at).token) {
+        return take_null(text.len(), at, builder);
     }
+    Ok(Position {
+        stage: Stage::Value,
+        at,
+    })
 }

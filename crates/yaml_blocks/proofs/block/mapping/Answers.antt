@@ -1,10 +1,10 @@
-use Rattle.std.proofs.Common.{◌∷◌, ap, ◌∙◌, refl, ◌+◌, ◌*◌}
+use Rattle.std.proofs.Common.{◌∷◌, ap, ◌∙◌, refl}
 use Rattle.std.specs.Cow.{cow_str_bytes}
 use Rattle.doc_values.specs.Unfinished.{with_key}
 use Rattle.yaml_blocks.specs.declared.form.Form.TheVariants.{Entries}
 use Rattle.yaml_blocks.specs.declared.stage.Stage.TheVariants as stage
 use Rattle.yaml_blocks.specs.Steps.{stack}
-use Rattle.yaml_blocks.proofs.BlockGains.{Awaiting, mapping_goes, mapping_deep, begun_refused, spot}
+use Rattle.yaml_blocks.proofs.BlockGains.{mapping_goes, mapping_refused, spot}
 use Rattle.yaml_blocks.proofs.block.mapping.Goals as goal
 
 pub returns-in-Ok-key : goal.returns-in-Ok-key
@@ -25,6 +25,5 @@ returns-in-Err c =
     let fs = stack c.args.forms.now.items in
     let u = c.args.builder.now in
     let words = cow_str_bytes c.args.key.text in
-    begun_refused text (Awaiting text fs u c.args.at) (2 * c.args.at + 1) (Entries c.column_in-column.result) c.args.next fs (stack c.begin.new.forms.items) u c.begin.new.builder c.in-Err.refusal
-    (mapping_deep text fs u c.args.form c.args.at c.args.key.behind c.args.next words c.requires.seen.0 (spot text fs u c.args.form c.args.at c.args.next c.requires.small c.requires.seen c.requires.form c.requires.block c.requires.fits) c.requires.key.0 c.requires.takes)
-    c.in-Err.ensures
+    mapping_refused text fs (stack c.begin.new.forms.items) u c.begin.new.builder c.args.form c.args.at c.args.key.behind c.args.next words c.in-Err.refusal c.requires.seen.0
+    (spot text fs u c.args.form c.args.at c.args.next c.requires.small c.requires.seen c.requires.form c.requires.block c.requires.fits) c.requires.key.0 c.requires.takes c.in-Err.ensures

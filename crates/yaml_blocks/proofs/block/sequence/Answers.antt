@@ -1,8 +1,8 @@
-use Rattle.std.proofs.Common.{◌∷◌, ap, ◌∙◌, refl, ◌+◌, ◌*◌}
+use Rattle.std.proofs.Common.{◌∷◌, ap, ◌∙◌, refl}
 use Rattle.yaml_blocks.specs.declared.form.Form.TheVariants.{Items}
 use Rattle.yaml_blocks.specs.declared.stage.Stage.TheVariants as stage
 use Rattle.yaml_blocks.specs.Steps.{stack}
-use Rattle.yaml_blocks.proofs.BlockGains.{Awaiting, sequence_goes, sequence_deep, begun_refused, spot}
+use Rattle.yaml_blocks.proofs.BlockGains.{sequence_goes, sequence_refused, spot}
 use Rattle.yaml_blocks.proofs.block.sequence.Goals as goal
 
 pub returns-in-Ok : goal.returns-in-Ok
@@ -20,5 +20,5 @@ returns-in-Err c =
     let text = c.args.text.now in
     let fs = stack c.args.forms.now.items in
     let u = c.args.builder.now in
-    begun_refused text (Awaiting text fs u c.args.at) (2 * c.args.at + 1) (Items c.column_in-column.result) c.args.next fs (stack c.begin.new.forms.items) u c.begin.new.builder c.in-Err.refusal
-    (sequence_deep text fs u c.args.form c.args.at c.args.next c.requires.seen.0 (spot text fs u c.args.form c.args.at c.args.next c.requires.small c.requires.seen c.requires.form c.requires.block c.requires.fits) c.requires.dash c.requires.takes) c.in-Err.ensures
+    sequence_refused text fs (stack c.begin.new.forms.items) u c.begin.new.builder c.args.form c.args.at c.args.next c.in-Err.refusal c.requires.seen.0
+    (spot text fs u c.args.form c.args.at c.args.next c.requires.small c.requires.seen c.requires.form c.requires.block c.requires.fits) c.requires.dash c.requires.takes c.in-Err.ensures

@@ -1,7 +1,7 @@
-use Rattle.std.proofs.Common.{refl}
+use Rattle.std.proofs.Common.{refl, sym, ◌∙◌}
 use Rattle.yaml_blocks.specs.declared.stage.Stage.TheVariants as stage
 use Rattle.yaml_blocks.specs.Steps.{stack}
-use Rattle.yaml_blocks.proofs.Gains.{closed_after_gives, comma_gives, none_follows}
+use Rattle.yaml_blocks.proofs.Gains.{closed_after_gives, comma_gives, marked_after_gives, none_follows}
 use Rattle.yaml_blocks.proofs.flow.after.Goals as goal
 
 pub returns-then-closes : goal.returns-then-closes
@@ -16,5 +16,9 @@ returns-in-Comma c =
 
 pub returns-in_default : goal.returns-in_default
 returns-in_default c =
-    none_follows c.args.text.now c.args.map (stack c.args.forms.now.items) c.args.builder.now.outer c.args.builder.now.done c.args.at c.look-next.result c.look-next.ensures.0 c.in_default.not-Comma (c.closes.ensures.no c.if-closes.false) c.requires.form
+    none_follows c.args.text.now c.args.map (stack c.args.forms.now.items) c.args.builder.now.outer c.args.builder.now.done c.args.at c.look-next.result c.look-next.ensures.0 c.in_default.not-Comma (c.closes.ensures.no c.if-closes.false) (sym c.is_marked.ensures ∙ c.if-is_marked.false) c.requires.form
     c.requires.open.0
+
+pub returns-then-is_marked : goal.returns-then-is_marked
+returns-then-is_marked c =
+    marked_after_gives c.args.text.now c.args.map (stack c.args.forms.now.items) c.args.builder.now c.args.at c.offset.result c.look-next.result c.look-next.ensures.0 c.offset.ensures (sym c.is_marked.ensures ∙ c.if-is_marked.true) c.requires.form c.requires.open

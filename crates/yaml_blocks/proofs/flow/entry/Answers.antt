@@ -2,7 +2,7 @@ use Rattle.std.proofs.Common.{sym, ap, ◌∙◌}
 use Rattle.yaml_blocks.specs.declared.ahead.Token.TheVariants.{Closes}
 use Rattle.yaml_blocks.specs.declared.form.Form.TheVariants.{Flow}
 use Rattle.yaml_blocks.specs.Steps.{stack}
-use Rattle.yaml_blocks.proofs.Gains.{closed_entry_gives, item_gives}
+use Rattle.yaml_blocks.proofs.Gains.{closed_entry_gives, marked_entry_gives, item_gives}
 use Rattle.yaml_blocks.proofs.flow.entry.Goals as goal
 
 pub returns-then-closes : goal.returns-then-closes
@@ -13,4 +13,8 @@ returns-then-closes c =
 pub returns-else-map : goal.returns-else-map
 returns-else-map c =
     item_gives c.args.text.now (stack c.args.forms.now.items) (stack c.node.new.forms.items) c.args.builder.now c.node.new.builder c.args.at c.look-next.result c.node.result c.look-next.ensures.0 (c.requires.form ∙ ap Flow c.if-map.false) c.requires.open
-    (λ h. c.closes.ensures.no c.if-closes.false (h ∙ ap Closes (sym c.if-map.false))) c.requires.awaited c.node.ensures
+    (λ h. c.closes.ensures.no c.if-closes.false (h ∙ ap Closes (sym c.if-map.false))) (sym c.is_marked.ensures ∙ c.if-is_marked.false) c.requires.awaited c.node.ensures
+
+pub returns-then-is_marked : goal.returns-then-is_marked
+returns-then-is_marked c =
+    marked_entry_gives c.args.text.now c.args.map (stack c.args.forms.now.items) c.args.builder.now c.args.at c.offset.result c.look-next.result c.look-next.ensures.0 c.offset.ensures (sym c.is_marked.ensures ∙ c.if-is_marked.true) c.requires.form c.requires.open

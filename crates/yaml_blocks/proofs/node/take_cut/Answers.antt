@@ -1,7 +1,7 @@
 use Rattle.std.specs.Cow.{cow_str_bytes}
 use Rattle.yaml_scalars.specs.Scalar.{is_typed}
 use Rattle.yaml_blocks.proofs.Scalars.{scalar_kind, holds_none}
-use Rattle.yaml_blocks.proofs.node.take_scalar.Goals as goal
+use Rattle.yaml_blocks.proofs.node.take_cut.Goals as goal
 
 pub kept_text-content-requires : goal.kept_text-content-requires
 kept_text-content-requires c =
@@ -14,4 +14,4 @@ scalar-requires-clause-plain c =
     (scalar_kind (is_typed c.args.setting c.args.text.now c.args.next.at) (cow_str_bytes c.in-Ok.scalar.text) c.in-Ok.scalar.kind h.1).0
 
 pub returns-in-Err : goal.returns-in-Err
-returns-in-Err c = holds_none c.args.text.now c.args.setting c.args.next c.args.builder.now c.args.builder.now c.in-Err.refusal c.in-Err.ensures
+returns-in-Err c = holds_none c.args.text.now c.args.setting c.args.cuts c.args.next c.args.builder.now c.args.builder.now c.in-Err.refusal c.in-Err.ensures

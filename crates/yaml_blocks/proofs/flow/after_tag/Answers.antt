@@ -1,0 +1,29 @@
+use Rattle.std.proofs.Common.{List, ap, ◌∙◌}
+use Rattle.yaml_blocks.specs.declared.form.Form.{Form}
+use Rattle.yaml_blocks.specs.Rest.{top}
+use Rattle.yaml_blocks.specs.Steps.{stack}
+use Rattle.yaml_blocks.proofs.Stacks.{stack_grown}
+use Rattle.yaml_blocks.proofs.Gains.{tag_may_end, tag_popped, tag_gives}
+use Rattle.yaml_blocks.proofs.flow.after_tag.Goals as goal
+
+pub end-requires : goal.end-requires
+end-requires c =
+    let e = stack_grown c.args.forms.now.items c.pop.new.self.items c.in-Some.field-0 c.in-Some.ensures.items in
+    record { awaited = tag_may_end c.args.place (stack c.args.forms.now.items) (stack c.pop.new.self.items) c.args.builder.now (c.in-Some.field-0, e, c.requires.form, c.requires.open) c.requires.awaited }
+
+pub after-requires-clause-open : goal.after-requires-clause-open
+after-requires-clause-open c =
+    let e = stack_grown c.args.forms.now.items c.pop.new.self.items c.in-Some.field-0 c.in-Some.ensures.items in
+    (tag_popped c.args.place (stack c.args.forms.now.items) (stack c.pop.new.self.items) c.args.builder.now c.end.new.self (c.in-Some.field-0, e, c.requires.form, c.requires.open) c.in-Ok.ensures.ok).0
+
+pub unreachable-requires-in_default-innermost : goal.unreachable-requires-in_default-innermost
+unreachable-requires-in_default-innermost c =
+    let e = stack_grown c.args.forms.now.items c.pop.new.self.items c.in-Some.field-0 c.in-Some.ensures.items in
+    let p = tag_popped c.args.place (stack c.args.forms.now.items) (stack c.pop.new.self.items) c.args.builder.now c.end.new.self (c.in-Some.field-0, e, c.requires.form, c.requires.open) c.in-Ok.ensures.ok in
+    c.in_default-innermost.not-Flow p.2.0 (c.innermost.ensures ∙ ap (λ (x : List Form). top (stack x)) c.deref.ensures.value ∙ p.2.1)
+
+pub returns : goal.returns
+returns c =
+    let e = stack_grown c.args.forms.now.items c.pop.new.self.items c.in-Some.field-0 c.in-Some.ensures.items in
+    tag_gives c.args.text.now c.args.place (stack c.args.forms.now.items) (stack c.pop.new.self.items) (stack c.after.new.forms.items) c.args.builder.now c.end.new.self c.after.new.builder c.args.at c.after.result
+    (c.in-Some.field-0, e, c.requires.form, c.requires.open) c.in-Ok.ensures.ok c.after.ensures

@@ -1,0 +1,15 @@
+use Rattle.std.proofs.Common.{true}
+use Rattle.yaml_blocks.specs.Steps.{stack}
+use Rattle.yaml_blocks.proofs.Gains.{flow_spot, flow_tag_gives, tag_cut, tag_flow}
+use Rattle.yaml_blocks.proofs.flow.tag.Goals as goal
+
+pub begin_tag-requires-clause-first : goal.begin_tag-requires-clause-first
+begin_tag-requires-clause-first c = tag_cut c.args.text.now true c.args.at c.args.len c.args.next c.requires.seen c.requires.tag
+
+pub returns : goal.returns
+returns c =
+    let text = c.args.text.now in
+    let fs = stack c.args.forms.now.items in
+    let u = c.args.builder.now in
+    flow_tag_gives text fs (stack c.begin_tag.new.forms.items) u c.begin_tag.new.builder c.args.form c.args.at c.args.len c.args.next c.begin_tag.result c.requires.seen.0
+    (flow_spot text fs u c.args.form c.args.at c.args.next c.requires.seen c.requires.form (tag_flow c.args.form c.requires.takes) c.requires.open) c.requires.tag c.requires.takes c.begin_tag.ensures
