@@ -1,9 +1,10 @@
 -- The names of a file have one fault at most, and none where they are as they must be.
-use Rattle.std.proofs.Common.{◌≡◌, ℕ, ◌+◌, ◌-◌, ◌*◌, length, Option, Some, None, IsNone, inl, inr, sym, ap, ◌∙◌, subst, arith}
+use Rattle.std.proofs.Common.{◌≡◌, ◌⊎◌, ℕ, ◌+◌, ◌-◌, ◌*◌, length, Option, Some, None, IsNone, inl, inr, sym, ap, ◌∙◌, subst, arith}
 use Rattle.std.proofs.lemmas.Bool.{cases_lt}
 use Rattle.guard_syntax.specs.Syntax.{File}
 use Rattle.name_table.specs.declared.refusal.NameKind.{NameKind}
 use Rattle.name_table.specs.Circles.{IsFirstUse, IsCircle, IsCircular, HasNoCircle, given_text, use_place}
+use Rattle.name_table.specs.Deep.{deep_fault}
 use Rattle.name_table.specs.Faults.{Fault}
 use Rattle.name_table.specs.Graphs.{Graph, IsFirstOnCircle, NoneOnCircle}
 use Rattle.name_table.specs.Names.{single_fault, IsNameFault, WellNamed}
@@ -50,6 +51,10 @@ pub circular-apart : (f : File) (a : Fault) → IsCircular f a → HasNoCircle f
 circular-apart f a (inl x) none = circle-there _ f (length f.places) a x (λ n from below. none n from (omega arith))
 circular-apart f a (inr (rules, x)) none = circle-there _ f (2 * length f.places) a x (λ n from below. none n (omega arith) (omega arith))
 
+-- a rule or a variable reaches itself, or none does and an item is too deep
+abbrev Later : File → Fault → Type 0
+Later f fault = IsCircular f fault ⊎ (HasNoCircle f × (deep_fault f ≡ Some fault))
+
 none-some : (o : Option Fault) (a : Fault) → IsNone o → o ≡ Some a → ⊥
 none-some None a none is = absurd cc
 none-some (Some b) a none is = absurd cc
@@ -57,12 +62,23 @@ none-some (Some b) a none is = absurd cc
 some-one : (a b : Fault) → ◌≡◌ {A = Option Fault} (Some a) (Some b) → a ≡ b
 some-one a b is = cc
 
+-- what follows where no single name is wrong
+later-one : (f : File) (a b : Fault) → Later f a → Later f b → a ≡ b
+later-one f a b (inl x) (inl y) = circular-one f a b x y
+later-one f a b (inl x) (inr (none, y)) = absurd (circular-apart f a x none)
+later-one f a b (inr (none, x)) (inl y) = absurd (circular-apart f b y none)
+later-one f a b (inr (none, x)) (inr (none', y)) = some-one a b (sym x ∙ y)
+
 pub one-fault : (f : File) (a b : Fault) → IsNameFault f a → IsNameFault f b → a ≡ b
 one-fault f a b (inl x) (inl y) = some-one a b (sym x ∙ y)
 one-fault f a b (inl x) (inr (none, y)) = absurd (none-some (single_fault f) a none x)
 one-fault f a b (inr (none, x)) (inl y) = absurd (none-some (single_fault f) b none y)
-one-fault f a b (inr (none, x)) (inr (none', y)) = circular-one f a b x y
+one-fault f a b (inr (none, x)) (inr (none', y)) = later-one f a b x y
+
+later-apart : (f : File) (a : Fault) → Later f a → WellNamed f → ⊥
+later-apart f a (inl x) named = circular-apart f a x named.circles
+later-apart f a (inr (none, x)) named = none-some (deep_fault f) a named.shallow x
 
 pub fault-apart : (f : File) (a : Fault) → IsNameFault f a → WellNamed f → ⊥
 fault-apart f a (inl x) named = none-some (single_fault f) a named.singles x
-fault-apart f a (inr (none, x)) named = circular-apart f a x named.circles
+fault-apart f a (inr (none, x)) named = later-apart f a x named

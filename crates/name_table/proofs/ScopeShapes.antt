@@ -46,7 +46,7 @@ pub kinds-scopes : (x : Part) (site : ℕ) (name : List ℕ) (cond : Option Cond
     → scopes_part (see_part x) ≡ scopes_opt_conds (see_opt_conds cond) ++ scopes_body [] (see_body inner)
 kinds-scopes x site name cond inner is = ap (λ (y : Part). scopes_part (see_part y)) is ∙ ap (λ (y : sx.Part). scopes_part y) (kinds-seen site name cond inner)
 
-side-seen : (site : ℕ) (any : Bool) (left : Query) (op : Op) (negated : Bool) (right : Option Expr) (message : Option (List ℕ))
+pub side-seen : (site : ℕ) (any : Bool) (left : Query) (op : Op) (negated : Bool) (right : Option Expr) (message : Option (List ℕ))
     → see_part (part.Test site any left op negated right message) ≡ sx.test site any (see_query left) op negated (see_opt_expr right) message
 side-seen site any left op negated right message = search (rules, the_lemmas)
 

@@ -263,7 +263,7 @@ test-right n x site any left op negated right message e is some h other from =
 
 -- ---- calls
 
-call-seen : (site : ℕ) (negated : Bool) (name : List ℕ) (args : Vec Expr Global) (message : Option (List ℕ))
+pub call-seen : (site : ℕ) (negated : Bool) (name : List ℕ) (args : Vec Expr Global) (message : Option (List ℕ))
     → see_part (part.Call site negated name args message) ≡ sx.call site negated name (expr_list (map see_expr args.items)) message
 call-seen site negated name args message = search (rules, the_lemmas)
 

@@ -36,7 +36,7 @@ in-turn best middle xs ys is = ap (λ (b : Option Fault). first_from b ys) is �
 -- ---- lists, item by item
 
 -- one item more of a list
-next : {X : Type 0} (all : List X → List Fault) (each : X → List Fault) → ((y : X) (ys : List X) → all (y ∷ ys) ≡ each y ++ all ys)
+pub next : {X : Type 0} (all : List X → List Fault) (each : X → List Fault) → ((y : X) (ys : List X) → all (y ∷ ys) ≡ each y ++ all ys)
     → (xs : List X) (i : ℕ) (x : X) (start best more : Option Fault) → i < length xs → x ≡ get_or xs i x → more ≡ first_from best (each x) → first_from best (all (drop i xs)) ≡ start
     → first_from more (all (drop (i + 1) xs)) ≡ start
 next all each split xs i x start best more within is found so =
@@ -45,7 +45,7 @@ next all each split xs i x start best more within is found so =
     ∙ so
 
 -- the end of a list
-end : {X : Type 0} (all : List X → List Fault) → all [] ≡ [] → (xs : List X) (i : ℕ) (start best : Option Fault) → length xs ≤ i → first_from best (all (drop i xs)) ≡ start → best ≡ start
+pub end : {X : Type 0} (all : List X → List Fault) → all [] ≡ [] → (xs : List X) (i : ℕ) (start best : Option Fault) → length xs ≤ i → first_from best (all (drop i xs)) ≡ start → best ≡ start
 end all none xs i start best past so = ap (first_from best) (sym none ∙ ap all (sym (drop_all i xs past))) ∙ so
 
 -- ---- the names of scopes

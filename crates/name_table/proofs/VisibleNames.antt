@@ -1,5 +1,5 @@
 -- What gives a name where a scope stands in others.
-use Rattle.std.proofs.Common.{◌≡◌, ℕ, rules, List, [], ◌++◌, Option, Some, None, refl, ap, sym, ◌∙◌}
+use Rattle.std.proofs.Common.{◌≡◌, ℕ, rules, List, [], ◌∷◌, ◌++◌, Option, Some, None, refl, ap, sym, ◌∙◌}
 use Rattle.std.specs.Prelude.{option_map}
 use Rattle.std.specs.Option.{option_or}
 use Rattle.std.specs.Borrow.{Bor}
@@ -7,10 +7,11 @@ use Rattle.std.specs.Str.{bytes_eq}
 use Rattle.std.proofs.lemmas.List.Folds.{find-append}
 use Rattle.name_table.specs.declared.meanings.Meanings.{Meanings, out-Meanings, the_lemmas}
 use Rattle.name_table.specs.declared.scopes.Giver.{Giver}
-use Rattle.name_table.specs.Scopes.{Given}
+use Rattle.name_table.specs.Scopes.{Given, given_named}
 use Rattle.name_table.specs.Seen.{see_given}
 use Rattle.name_table.specs.Givers.{giver_named}
-use Rattle.name_table.specs.Meanings.{visible_in}
+use Rattle.name_table.specs.Links.{Meant, Scopes, here_or, meant_in, one_out}
+use Rattle.name_table.specs.Meanings.{scopes_in, visible_in}
 
 map_or : {X Y : Type 0} (f : X → Y) (x y : Option X) → option_map f (option_or x y) ≡ option_or (option_map f x) (option_map f y)
 map_or f None y = refl
@@ -43,3 +44,24 @@ outer-giver m outer name is none =
     ap (λ (o : Option Giver). option_or o (giver_named (visible_in outer.now) name)) none
     ∙ ap (λ (o : Option (Bor Meanings)). option_or (giver_named (own m) name) (giver_named (around o) name)) (sym is)
     ∙ sym (giver_append (own m) (around (out-Meanings m).outer) name) ∙ ap (λ (v : List Given). giver_named v name) (sym (visible m))
+
+-- ---- how far out
+
+abbrev scopes_behind : Option (Bor Meanings) → Scopes
+scopes_behind None = []
+scopes_behind (Some outer) = scopes_in outer.now
+
+scopes : (m : Meanings) → scopes_in m ≡ own m ∷ scopes_behind (out-Meanings m).outer
+scopes m = search (rules, the_lemmas)
+
+not_here : (o : Option Given) (outer : Option Meant) → None ≡ option_map (λ (g : Given). g.by) o → outer ≡ None → None ≡ here_or o outer
+not_here None outer none behind = ap (λ (m : Option Meant). option_map one_out m) (sym behind)
+not_here (Some g) outer none behind = absurd cc
+
+-- a name that neither a scope nor those around it have
+pub nowhere : (m : Meanings) (outer : Bor Meanings) (name : List ℕ) → (out-Meanings m).outer ≡ Some outer → None ≡ giver_named (own m) name
+    → meant_in (scopes_in outer.now) name ≡ None → None ≡ meant_in (scopes_in m) name
+nowhere m outer name is none behind =
+    not_here (given_named (own m) name) (meant_in (scopes_in outer.now) name) none behind
+    ∙ ap (λ (o : Option (Bor Meanings)). meant_in (own m ∷ scopes_behind o) name) (sym is)
+    ∙ ap (λ (s : Scopes). meant_in s name) (sym (scopes m))

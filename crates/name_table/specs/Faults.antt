@@ -2,7 +2,7 @@
 use Rattle.std.specs.Prelude.{ℕ, Bool, ◌||◌, ◌&&◌, List, [], ◌∷◌, Option, Some, None, nat_lt, nat_eq, if◌then◌else◌}
 use Rattle.guard_syntax.specs.Named.{Named}
 use Rattle.name_table.specs.declared.refusal.NameKind.{NameKind}
-use Rattle.name_table.specs.declared.refusal.NameKind.TheVariants.{DuplicateRule, DuplicateName, UnknownRule, UnknownVariable, UnknownFunction, NeedsArguments, TakesNone, ArgCount, LiteralWanted, RecursiveRule, RecursiveVariable}
+use Rattle.name_table.specs.declared.refusal.NameKind.TheVariants.{DuplicateRule, DuplicateName, UnknownRule, UnknownVariable, UnknownFunction, NeedsArguments, TakesNone, ArgCount, LiteralWanted, RecursiveRule, RecursiveVariable, TooDeep}
 
 -- a refusal: what is the matter, which name it is about, and the byte offset that is answered
 pub record Fault : Type 0 where
@@ -22,6 +22,7 @@ rank ArgCount = 5
 rank LiteralWanted = 6
 rank RecursiveRule = 7
 rank RecursiveVariable = 8
+rank TooDeep = 9
 
 -- a fault comes before another: its place is less, or at one place its rank
 abbrev pub precedes : Fault → Fault → Bool
@@ -39,3 +40,7 @@ first_from best (x ∷ xs) = first_from (Some (earlier best x)) xs
 
 abbrev pub first_of : List Fault → Option Fault
 first_of xs = first_from None xs
+
+abbrev pub or_else : Option Fault → Option Fault → Option Fault
+or_else None next = next
+or_else (Some fault) next = Some fault

@@ -1,6 +1,8 @@
 pub mod Arities
 pub mod Charts
 pub mod Circles
+pub mod Deep
+pub mod Depths
 pub mod Doubles
 pub mod Faults
 pub mod Files
@@ -9,8 +11,12 @@ pub mod Filters
 pub mod Forms
 pub mod Givers
 pub mod Graphs
+pub mod Homes
+pub mod Links
 pub mod Marks
 pub mod Meanings
+pub mod Measured
+pub mod Measures
 pub mod NameSets
 pub mod Names
 pub mod Narrow
@@ -22,6 +28,8 @@ pub mod Rising
 pub mod RuleSites
 pub mod Scopes
 pub mod Seen
+pub mod Sources
 pub mod Uses
 pub mod Walked
 pub mod Ways
+pub mod Within

@@ -1,8 +1,10 @@
--- The names that are visible in a scope.
-use Rattle.std.specs.Prelude.{List, [], ◌++◌, Option, Some, None}
+-- The names that are visible in a scope, and the scopes around it.
+use Rattle.std.specs.Prelude.{List, [], ◌∷◌, ◌++◌, Option, Some, None}
 use Rattle.std.specs.Borrow.{Bor}
+use Rattle.name_table.specs.declared.meanings.Meant as code
 use Rattle.name_table.specs.declared.meanings.Meanings.{Meanings, fold-Meanings}
 use Rattle.name_table.specs.declared.meanings.Meanings.TheOpen.{Meanings-F}
+use Rattle.name_table.specs.Links.{Meant, Scopes}
 use Rattle.name_table.specs.Scopes.{Given}
 use Rattle.name_table.specs.Seen.{see_given}
 
@@ -16,3 +18,18 @@ visible_step m = see_given m.own.now.names.items ++ visible_around m.outer
 
 abbrev pub visible_in : Meanings → List Given
 visible_in = fold-Meanings (List Given) visible_step
+
+-- a scope and those around it, the innermost first
+abbrev pub scopes_around : Option (Bor Scopes) → Scopes
+scopes_around None = []
+scopes_around (Some outer) = outer.now
+
+abbrev pub scopes_step : Meanings-F Scopes → Scopes
+scopes_step m = see_given m.own.now.names.items ∷ scopes_around m.outer
+
+abbrev pub scopes_in : Meanings → Scopes
+scopes_in = fold-Meanings Scopes scopes_step
+
+-- what gives a name, as the code has it
+abbrev pub see_meant : code.Meant → Meant
+see_meant m = record { up = m.up; by = m.by }

@@ -32,6 +32,7 @@ fn rank(kind: NameKind) -> u32
         NameKind::LiteralWanted => 6,
         NameKind::RecursiveRule => 7,
         NameKind::RecursiveVariable => 8,
+        NameKind::TooDeep => 9,
     }
 }
 

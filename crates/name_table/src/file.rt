@@ -1,11 +1,14 @@
 //! Rule files whose names are as they must be.
-ghost use Rattle.std.specs.Prelude.{◌≡◌, ◌<◌, ℕ, List, length, Some, slice_get};
+ghost use Rattle.std.specs.Prelude.{◌≡◌, ◌<◌, ℕ, List, length, Some, option_map, slice_get};
 ghost use Rattle.guard_syntax.specs.Seen.{see_file};
+ghost use Rattle.name_table.specs.Homes.{home_of, homes_of};
+ghost use Rattle.name_table.specs.Links.{bind_of, links_of, target_of};
 ghost use Rattle.name_table.specs.Names.{WellNamed};
 ghost use Rattle.name_table.specs.Order.{order_of};
 ghost use Rattle.name_table.specs.Pieces.{piece_at, AreInOrder};
 ghost use Rattle.name_table.specs.Seen.{see_piece};
 
+use crate::bind::{Bind, Link};
 use crate::find::in_file;
 use crate::piece::Piece;
 use guard_syntax::RawFile;
@@ -14,9 +17,13 @@ use guard_syntax::RawFile;
 #[derive(Drop)]
 pub struct RuleFile {
     pub raw: RawFile,
+    pub homes: Vec<u32>,
+    pub links: Vec<Option<Link>>,
     pub judged: Vec<u32>,
     pub ghost sites: { AreInOrder (see_file raw) },
     pub ghost named: { WellNamed (see_file raw) },
+    pub ghost homed: { homes.items ≡ homes_of (see_file raw) },
+    pub ghost linked: { links.items ≡ links_of (see_file raw) },
     pub ghost ordered: { judged.items ≡ order_of (see_file raw) },
 }
 
@@ -45,6 +52,42 @@ impl RuleFile {
             unreachable!()
         };
         piece
+    }
+
+    /// The part of a site, if there is one.
+    pub fn find(&self, site: u32) -> Option<Piece<'_>>
+        ensures { option_map see_piece result ≡ piece_at (see_file self.entry.now.raw) site }
+    {
+        in_file(&self.raw, site)
+    }
+
+    /// The site of the scope in which the part of a site stands: 0 for the file, a body, or the step of a filter. A body
+    /// stands in the scope around it.
+    pub fn home(&self, site: u32) -> u32
+        requires { site < length (see_file self.now.raw).places }
+        ensures { result ≡ home_of (see_file self.now.raw) site }
+    {
+        self.homes.as_slice()[site as usize]
+    }
+
+    /// What the use of a variable at a site means; a site where no variable is used has no bind.
+    pub fn bind(&self, site: u32) -> Option<Bind>
+        ensures { result ≡ bind_of (see_file self.now.raw) site }
+    {
+        match self.links.get(site as usize) {
+            Some(Some(Link::Variable(bind))) => Some(*bind),
+            _ => None,
+        }
+    }
+
+    /// The site of the rule that is named by the reference or call of a site; any other site has no target.
+    pub fn target(&self, site: u32) -> Option<u32>
+        ensures { result ≡ target_of (see_file self.now.raw) site }
+    {
+        match self.links.get(site as usize) {
+            Some(Some(Link::Rule(rule))) => Some(*rule),
+            _ => None,
+        }
     }
 
     /// The sites of the rules without parameters, in the order in which they are judged, and then 0 if parts stand

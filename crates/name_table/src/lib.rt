@@ -2,12 +2,13 @@
 //! rules are judged. The crate stands on the types of rule files, and knows neither their grammar nor their meaning.
 #![tactic(auto)]
 
+pub mod bind;
 mod calls;
-#[cfg(test)]
-mod circle_tests;
 mod circles;
+mod deep;
 #[cfg(test)]
-mod double_tests;
+mod deep_tests;
+mod depths;
 mod doubles;
 mod fault;
 pub mod file;
@@ -16,7 +17,13 @@ mod givers;
 mod graph;
 #[cfg(test)]
 mod graph_tests;
+mod homes;
+pub mod laws;
+#[cfg(test)]
+mod link_tests;
+mod links;
 mod meanings;
+mod measure;
 pub mod names;
 pub mod piece;
 pub mod refusal;
@@ -24,15 +31,13 @@ mod scopes;
 mod siblings;
 #[cfg(test)]
 mod tests;
-#[cfg(test)]
-mod use_tests;
 mod uses;
 mod walk;
-#[cfg(test)]
-mod way_tests;
 mod ways;
 
+pub use bind::{Bind, Link};
 pub use file::RuleFile;
+pub use laws::settled_depths;
 pub use names::resolve;
 pub use piece::Piece;
 pub use refusal::{NameKind, NameRefusal};

@@ -7,9 +7,12 @@ ghost use Rattle.name_table.specs.Pieces.{AreInOrder};
 ghost use Rattle.name_table.specs.Refused.{IsNameRefusal};
 
 use crate::circles::first_circle;
+use crate::deep::first_deep;
 use crate::doubles::first_double;
 use crate::fault::refuse;
 use crate::file::RuleFile;
+use crate::homes::homes_of;
+use crate::links::links_of;
 use crate::refusal::NameRefusal;
 use crate::uses::first_wrong_use;
 use crate::ways::graph_of;
@@ -48,6 +51,16 @@ pub fn resolve(alloc: Global, raw: RawFile) -> Result<RuleFile, NameRefusal>
     if let Some(wrong) = first_circle(alloc, &raw, &graph)? {
         return Err(refuse(alloc, wrong));
     }
+    let links = links_of(alloc, &raw)?;
+    if let Some(wrong) = first_deep(alloc, &raw, &links)? {
+        return Err(refuse(alloc, wrong));
+    }
+    let homes = homes_of(alloc, &raw)?;
     let judged = judged_sites(alloc, &raw)?;
-    Ok(RuleFile { raw, judged })
+    Ok(RuleFile {
+        raw,
+        homes,
+        links,
+        judged,
+    })
 }

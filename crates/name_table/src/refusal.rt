@@ -30,11 +30,13 @@ pub enum NameKind {
     RecursiveRule,
     /// A let or a capture reaches itself.
     RecursiveVariable,
+    /// An item of the file is deeper than 200; this is about no name, so the name is empty.
+    TooDeep,
 }
 
 /// Why the names of a rule file are refused: which name it is about, and the byte offset that is answered. That is where
 /// the name stands, but for a reference or call of a rule that part's first byte, which may be its `not`, and for
-/// `LiteralWanted` the argument's.
+/// `LiteralWanted` the argument's, and for `TooDeep` the item's first byte.
 #[derive(Debug, Drop)]
 pub enum NameRefusal {
     Bad { kind: NameKind, name: Text, at: u32 },

@@ -15,6 +15,7 @@ use crate::graph::Graph;
 use crate::meanings::Meanings;
 use crate::scopes::file_names;
 use chart::Chart;
+pub(crate) use chart::sites_of;
 use guard_syntax::RawFile;
 use leads::Way;
 use std::alloc::{AllocError, Global};

@@ -56,7 +56,10 @@ impl<'f> Chart<'f> {
 }
 
 /// The sites of rules by their names; of several rules with one name, the first counts.
-fn sites_of<'f>(alloc: Global, rules: &'f [Rule]) -> Result<BTreeMap<&'f str, u32>, AllocError>
+pub(crate) fn sites_of<'f>(
+    alloc: Global,
+    rules: &'f [Rule],
+) -> Result<BTreeMap<&'f str, u32>, AllocError>
     ensures { IfOk result (λ sites. AreRuleSites (map see_rule rules.entry.now) sites) }
 {
     let mut sites = BTreeMap::new(alloc);

@@ -12,13 +12,13 @@ use Rattle.name_table.proofs.uses.+uses.Goals as goal
 
 pub in_body-returns : goal.in_body-returns
 in_body-returns t c =
-    let visible = c.inside-inner.ensures ∙ ap (λ (v : Vec Given Global). see_given v.items ++ visible_in c.args.scope.now) c.in_ok-own.ensures in
+    let visible = c.inside-inner.ensures.visible ∙ ap (λ (v : Vec Given Global). see_given v.items ++ visible_in c.args.scope.now) c.in_ok-own.ensures in
     IfOk-weaker c.in_disjs.result _ _ (λ found e. e ∙ body-wrong (rules_of c.args.walk.now) (places_of c.args.walk.now) (visible_in c.args.scope.now) (see_best c.args.best) (see_best c.in_ok-best.best) c.args.body.now c.args.params.now (see_given c.in_ok-names.names.items) (visible_in c.inside-inner.result) c.deref.result.now c.deref-2.result.now
     c.in_ok-names.ensures visible c.deref.ensures.value c.deref-2.ensures.value c.in_ok-best.ensures) c.in_disjs.ensures
 
 pub in_filter-returns : goal.in_filter-returns
 in_filter-returns t c =
-    let visible = c.inside-inner.ensures ∙ ap (λ (v : Vec Given Global). see_given v.items ++ visible_in c.args.scope.now) c.in_ok-own.ensures in
+    let visible = c.inside-inner.ensures.visible ∙ ap (λ (v : Vec Given Global). see_given v.items ++ visible_in c.args.scope.now) c.in_ok-own.ensures in
     IfOk-weaker c.in_disjs.result _ _ (λ found e. e ∙ filter-wrong (rules_of c.args.walk.now) (places_of c.args.walk.now) (visible_in c.args.scope.now) (see_best c.args.best) c.args.conds.now (see_given c.in_ok-names.names.items) (visible_in c.inside-inner.result) c.deref.result.now
     c.in_ok-names.ensures visible c.deref.ensures.value) c.in_disjs.ensures
 

@@ -17,7 +17,7 @@ pub returns : goal.returns
 returns c =
     let same = sym c.in_ok-walk.ensures in
     let names = see_given c.in_ok-file_names.field-0.items in
-    let visible = c.outermost-scope.ensures ∙ ap (λ (v : Vec Given Global). see_given v.items) c.in_ok-own.ensures in
+    let visible = c.outermost-scope.ensures.visible ∙ ap (λ (v : Vec Given Global). see_given v.items) c.in_ok-own.ensures in
     IfOk-weaker c.in_disjs.result _ _ (λ found e. e
     ∙ file-wrong c.in_ok-walk.walk.file.now names (visible_in c.outermost-scope.result) c.deref.result.now c.deref-2.result.now c.deref-3.result.now (see_best c.in_ok-best.best) (see_best c.in_ok-best-2.best)
     (c.in_ok-file_names.ensures ∙ ap (λ (f : RawFile). given_file (see_file f)) same) visible

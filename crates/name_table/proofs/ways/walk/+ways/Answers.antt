@@ -6,13 +6,20 @@ use Rattle.name_table.specs.declared.scopes.Given as scope
 use Rattle.name_table.specs.Charts.{rules_of}
 use Rattle.name_table.specs.Meanings.{visible_in}
 use Rattle.name_table.specs.Seen.{see_given}
-use Rattle.name_table.proofs.BodyWays.{body-ways}
+use Rattle.name_table.proofs.BodyWays.{body-ways, filter-ways}
 use Rattle.name_table.proofs.ways.walk.+ways.Goals as goal
 
 pub in_body-returns : goal.in_body-returns
 in_body-returns t c =
     let outer = visible_in c.args.outer.now in
-    let visible = c.inside-inner.ensures ∙ ap (λ (v : Vec scope.Given Global). see_given v.items ++ outer) c.in_ok-own.ensures in
+    let visible = c.inside-inner.ensures.visible ∙ ap (λ (v : Vec scope.Given Global). see_given v.items ++ outer) c.in_ok-own.ensures in
     IfOk-weaker c.in_disjs.result _ _ (λ _ e. e ∙ body-ways (rules_of c.args.chart.now) c.args.chart.now.count outer c.args.params.now c.args.body.now c.deref.result.now c.deref-3.result.now c.deref-2.result.now c.deref-4.result.now
     (see_given c.in_ok-body_names.field-0.items) (visible_in c.inside-inner.result) c.args.ways.now.items c.to_values.new.ways.items c.to_disjs.new.ways.items c.in_lets.new.ways.items
     c.deref.ensures.value c.deref-2.ensures.value c.deref-3.ensures.value c.deref-4.ensures.value c.in_ok-body_names.ensures visible c.in_ok-to_values.ensures c.in_ok-to_disjs.ensures c.in_ok-in_lets.ensures) c.in_disjs.ensures
+
+pub in_filter-returns : goal.in_filter-returns
+in_filter-returns t c =
+    let outer = visible_in c.args.outer.now in
+    let visible = c.inside-inner.ensures.visible ∙ ap (λ (v : Vec scope.Given Global). see_given v.items ++ outer) c.in_ok-own.ensures in
+    IfOk-weaker c.in_conds.result _ _ (λ _ e. e ∙ filter-ways (rules_of c.args.chart.now) c.args.chart.now.count outer c.args.conds.now c.args.site (see_given c.in_ok-filter_names.field-0.items) (visible_in c.inside-inner.result)
+    c.args.ways.now.items c.to_site.new.ways.items c.in_ok-filter_names.ensures visible c.in_ok-to_site.ensures) c.in_conds.ensures

@@ -1,0 +1,7 @@
+use Rattle.std.proofs.Common.{◌≡◌}
+use Rattle.guard_syntax.specs.Seen.{see_file}
+use Rattle.name_table.specs.Depths.{deepened_by}
+use Rattle.name_table.proofs.deep.depths_of.Given as goal
+
+abbrev pub invariant-loop-round : goal.invariant-loop-round
+invariant-loop-round l = l.depths.items ≡ deepened_by (see_file l.file) l._round
