@@ -15,7 +15,7 @@ use Rattle.name_table.specs.Pieces.{Piece, OfExpr, piece_at}
 use Rattle.value_compare.specs.Books.{has_text, IsBookOf}
 use Rattle.value_compare.specs.Held.{holds_if, holds_in, holds_of}
 use Rattle.value_compare.specs.Known.{tree_of_piece, literal_at}
-use Rattle.value_compare.specs.Patterns.{Written, written_if, patterns_in, patterns_of_piece, patterns_at}
+use Rattle.value_compare.specs.Patterns.{Written, written_if, is_sought, sought_text, patterns_in, patterns_of_piece, patterns_at}
 use Rattle.value_compare.specs.Values.{Value, value_of, value_at, values_in, is_pattern, has_pattern}
 
 -- a tree without patterns
@@ -79,10 +79,10 @@ written-held book (Node l kids rest) h =
 
 -- ---- literals
 
-of_literal : (o : Option Piece) (tree : Forest) → option_and_then tree_of_piece o ≡ Some tree → option_map_or patterns_of_piece o [] ≡ patterns_in tree
-of_literal (Some (OfExpr (literal n t))) tree e = let same : t ≡ tree = cc in ap patterns_in same
-of_literal (Some p) tree e = absurd cc
-of_literal None tree e = absurd cc
+of_literal : (sought : Bool) (o : Option Piece) (tree : Forest) → option_and_then tree_of_piece o ≡ Some tree → option_map_or (patterns_of_piece sought) o [] ≡ sought_text sought tree ++ patterns_in tree
+of_literal sought (Some (OfExpr (literal n t))) tree e = let same : t ≡ tree = cc in ap (λ (u : Forest). sought_text sought u ++ patterns_in u) same
+of_literal sought (Some p) tree e = absurd cc
+of_literal sought None tree e = absurd cc
 
 -- the patterns of a site are among those of the sites around it
 among : (g : ℕ → List Written) (p : Written → Bool) (n low many : ℕ) → low ≤ n → n < low + many → list_any p (g n) ≡ true → list_any p (flat_map g (upto low many)) ≡ true
@@ -98,7 +98,8 @@ pub literal-held : (f : File) (book : List (List ℕ)) (site : ℕ) (tree : Fore
 literal-held f book site tree within is_book at =
     written-held book tree (λ text e.
     is_book text ∙ among (patterns_at f) (λ (w : Written). bytes_eq text w.text) site 0 (length f.places) (omega arith) (omega arith)
-    (ap (list_any (λ (w : Written). bytes_eq text w.text)) (of_literal (piece_at f site) tree at) ∙ e))
+    (ap (list_any (λ (w : Written). bytes_eq text w.text)) (of_literal (is_sought f site) (piece_at f site) tree at)
+    ∙ list_any-append (λ (w : Written). bytes_eq text w.text) (sought_text (is_sought f site) tree) (patterns_in tree) ∙ or_right _ _ e))
 
 -- what a look-up of a literal gives
 pub held_some : (f : File) (book : List (List ℕ)) (site : ℕ) (o : Option (Bor Forest)) (m : Option Forest) → site < length f.places → IsBookOf f book → literal_at f site ≡ m

@@ -9,10 +9,15 @@ mod Walks
 pub mod Nodes
 mod HeldPatterns
 mod RowExamples
-mod Beyond
+pub mod Beyond
 mod Items
 mod FoundRows
 mod Making
+mod SoughtSites
 mod MadeLists
 mod AnswerKinds
 mod AllHeld
+pub mod Patternless
+pub mod GivenTrees
+pub mod OneAnswer
+mod GivenAnswers

@@ -11,7 +11,7 @@ use Rattle.std.proofs.lemmas.List.Concat.{flat_map-append}
 use Rattle.std.proofs.Math.Seq.{take-suc, drop-cons}
 use Rattle.std.proofs.lemmas.List.{take-append-drop, take_all, append-nil}
 use Rattle.std.proofs.lemmas.List.Elements.{All-append}
-use Rattle.doc_values.specs.Tree.{Label, Forest, size}
+use Rattle.doc_values.specs.Tree.{Label, Forest, Nil, Node, size}
 use Rattle.doc_values.specs.Places.{label_at}
 use Rattle.guard_io.specs.Outside.{Rose}
 use Rattle.guard_syntax.specs.Sites.{upto}
@@ -21,7 +21,8 @@ use Rattle.value_compare.specs.Books.{has_text}
 use Rattle.value_compare.specs.Finds.{pattern_in}
 use Rattle.value_compare.specs.Known.{tree_of_piece, literal_at}
 use Rattle.value_compare.specs.Making.{AreRead, IsReadBook, Gains, IsNextOf, written}
-use Rattle.value_compare.specs.Patterns.{Written, patterns_in, patterns_at, patterns_of, patterns_of_piece}
+use Rattle.value_compare.specs.Patterns.{Written, written_if, is_sought, sought_text, patterns_in, patterns_at, patterns_of, patterns_of_piece}
+use Rattle.value_compare.specs.Values.{is_text}
 use Rattle.value_compare.proofs.Nodes.{labels, length-labels, label-labels, patterns_in-labels}
 
 -- ---- gains
@@ -155,20 +156,35 @@ written_around tree n h =
 -- ---- literals
 
 pub no_literal : (f : File) (site : ℕ) → literal_at f site ≡ None → patterns_at f site ≡ []
-no_literal f site e = by (piece_at f site) e
+no_literal f site e = by (is_sought f site) (piece_at f site) e
   where
-    by : (o : Option Piece) → option_and_then tree_of_piece o ≡ None → option_map_or patterns_of_piece o [] ≡ []
-    by None e = refl
-    by (Some (OfExpr (literal n tree))) e = absurd cc
-    by (Some p) e = refl
+    by : (sought : Bool) (o : Option Piece) → option_and_then tree_of_piece o ≡ None → option_map_or (patterns_of_piece sought) o [] ≡ []
+    by sought None e = refl
+    by sought (Some (OfExpr (literal n tree))) e = absurd cc
+    by sought (Some p) e = refl
 
-pub a_literal : (f : File) (site : ℕ) (tree : Forest) → literal_at f site ≡ Some tree → patterns_at f site ≡ patterns_in tree
-a_literal f site tree e = by (piece_at f site) e
+pub a_literal : (f : File) (site : ℕ) (sought : Bool) (tree : Forest) → sought ≡ is_sought f site → literal_at f site ≡ Some tree → patterns_at f site ≡ sought_text sought tree ++ patterns_in tree
+a_literal f site sought tree is e = by (is_sought f site) (piece_at f site) is e
   where
-    by : (o : Option Piece) → option_and_then tree_of_piece o ≡ Some tree → option_map_or patterns_of_piece o [] ≡ patterns_in tree
-    by None e = absurd cc
-    by (Some (OfExpr (literal n t))) e = let same : t ≡ tree = cc in ap patterns_in same
-    by (Some p) e = absurd cc
+    by : (other : Bool) (o : Option Piece) → sought ≡ other → option_and_then tree_of_piece o ≡ Some tree → option_map_or (patterns_of_piece other) o [] ≡ sought_text sought tree ++ patterns_in tree
+    by other None is e = absurd cc
+    by other (Some (OfExpr (literal n t))) is e =
+        let same : t ≡ tree = cc in ap (λ (u : Forest). sought_text other u ++ patterns_in u) same ∙ ap (λ b. sought_text b tree ++ patterns_in tree) (sym is)
+    by other (Some p) is e = absurd cc
+
+-- ---- the text of a literal
+
+pub not-sought : (tree : Forest) → sought_text false tree ≡ []
+not-sought Nil = refl
+not-sought (Node l kids rest) = refl
+
+pub sought-nothing : (sought : Bool) (tree : Forest) → size tree ≡ 0 → sought_text sought tree ≡ []
+sought-nothing sought Nil e = refl
+sought-nothing sought (Node l kids rest) e = absurd (omega arith)
+
+pub sought-root : (tree : Forest) → sought_text true tree ≡ written_if (is_text (label_at tree 0).kind) (label_at tree 0)
+sought-root Nil = refl
+sought-root (Node l kids rest) = refl
 
 -- ---- the next pattern of a tree, and of a file
 
@@ -176,6 +192,14 @@ pub next-node : (tree : Forest) (n : ℕ) (l : Label) (text : List ℕ) (at : �
 next-node tree n l text at within same read is =
     next-in (patterns_in tree) (written_before tree n) (written (label_at tree n)) (flat_map written (drop (n + 1) (labels tree))) text at (written_around tree n within) read
     (next-one (written (label_at tree n)) text at (ap written (sym same) ∙ is))
+
+-- the text of a literal comes before the patterns in it
+pub next-text : (tree : Forest) (sought : Bool) (text : List ℕ) (at : ℕ) → sought_text sought tree ≡ record { text = text; at = at } ∷ [] → IsNextOf (sought_text sought tree ++ patterns_in tree) text at
+next-text tree sought text at is = next-in (sought_text sought tree ++ patterns_in tree) [] (sought_text sought tree) (patterns_in tree) text at refl read-none (next-one (sought_text sought tree) text at is)
+
+pub next-inside : (tree : Forest) (sought : Bool) (text : List ℕ) (at : ℕ) → AreRead (sought_text sought tree) → IsNextOf (patterns_in tree) text at → IsNextOf (sought_text sought tree ++ patterns_in tree) text at
+next-inside tree sought text at read next =
+    next-in (sought_text sought tree ++ patterns_in tree) (sought_text sought tree) (patterns_in tree) [] text at (ap (λ ws. sought_text sought tree ++ ws) (sym (append-nil (patterns_in tree)))) read next
 
 pub next-site : (f : File) (site : ℕ) (text : List ℕ) (at : ℕ) → site < length f.places → AreRead (flat_map (patterns_at f) (upto 0 site)) → IsNextOf (patterns_at f site) text at → IsNextOf (patterns_of f) text at
 next-site f site text at within read next =

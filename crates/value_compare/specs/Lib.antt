@@ -1,6 +1,8 @@
+pub mod Answered
 pub mod Books
 pub mod Entries
 pub mod Finds
+pub mod Functions
 pub mod Held
 pub mod Known
 pub mod Making

@@ -1,8 +1,9 @@
 //! The patterns of a rule file by their texts.
-ghost use Rattle.std.specs.Prelude.{◌≡◌, ◌++◌, ◌∷◌, [], true, false, OnOk, Some, slice_get};
+ghost use Rattle.std.specs.Prelude.{◌≡◌, ◌++◌, ◌∷◌, [], true, false, IfOk, OnOk, Some, slice_get};
 ghost use Rattle.value_compare.specs.Books.{has_text};
 
 use crate::pattern::Pattern;
+use crate::replacer::Replacer;
 use indexmap::IndexMap;
 use std::alloc::{AllocError, Global};
 use std::marker::Model;
@@ -34,7 +35,7 @@ impl PatternBook {
     }
 
     /// Whether it has the pattern of a text.
-    pub(crate) fn has(&self, text: &str) -> bool
+    pub fn has(&self, text: &str) -> bool
         ensures { result ≡ has_text self.now text.now }
     {
         self.patterns.contains_key(text)
@@ -66,5 +67,20 @@ impl PatternBook {
             Some((place, _, pattern)) => (place, pattern),
             None => unreachable!(),
         }
+    }
+
+    /// What replaces each match of the pattern of a text that it has by what a template says.
+    pub fn replacer<'b>(
+        &'b self,
+        alloc: Global,
+        pattern: &str,
+        template: &'b str,
+    ) -> Result<Replacer<'b>, AllocError>
+        requires { has_text self.now pattern.now ≡ true }
+        ensures pattern { IfOk result (λ r. r.pattern.now ≡ pattern.now) }
+        ensures template { IfOk result (λ r. r.template.now ≡ template.entry.now) }
+    {
+        let (_, found) = self.find_full(pattern);
+        Replacer::new(alloc, found, template)
     }
 }

@@ -1,16 +1,18 @@
 //! The patterns of a rule file are made, each text once.
-ghost use Rattle.std.specs.Prelude.{◌≡◌, ◌∷◌, ◌≤◌, ℕ, List, [], All, length, IfOk, IfSome, OnOk, IsErrOf, IsNone, IsSome};
+ghost use Rattle.std.specs.Prelude.{◌≡◌, ◌∷◌, ◌++◌, ◌<◌, ◌≤◌, ℕ, List, [], All, length, IfOk, IfSome, MatchOption, OnOk, IsErrOf, IsNone, IsSome, true};
 ghost use Rattle.doc_values.specs.Places.{label_at};
+ghost use Rattle.doc_values.specs.Tree.{has_text};
 ghost use Rattle.guard_io.specs.Outside.{Rose};
 ghost use Rattle.guard_syntax.specs.Seen.{see_file};
 ghost use Rattle.value_compare.specs.Books.{IsBookOf, IsNext};
 ghost use Rattle.value_compare.specs.Finds.{pattern_in};
 ghost use Rattle.value_compare.specs.Making.{AreRead, IsReadBook, Gains, IsNextOf, written};
-ghost use Rattle.value_compare.specs.Patterns.{patterns_at, patterns_in, patterns_of};
+ghost use Rattle.value_compare.specs.Patterns.{is_sought, patterns_at, patterns_in, patterns_of, sought_text};
 
 use crate::book::PatternBook;
 use crate::literals::literal;
 use crate::maker::{PatternFault, PatternMaker};
+use crate::sought::sought_sites;
 use doc_values::{Cursor, Doc, Kind};
 use name_table::RuleFile;
 use std::alloc::Global;
@@ -26,8 +28,8 @@ pub enum BookRefusal {
     NoMemory,
 }
 
-/// Makes the patterns of a rule file in the order of their places, those in lists and maps of literals among them. A text
-/// that stands there twice is made once.
+/// Makes the patterns of a rule file in the order of their places: those in literals, in lists and maps too, and the second
+/// arguments of `regex_replace` that are literal texts. A text that stands there twice is made once.
 pub fn pattern_book<M: PatternMaker>(
     alloc: Global,
     file: &RuleFile,
@@ -46,8 +48,11 @@ pub fn pattern_book<M: PatternMaker>(
     let Some(sites) = site_count(file) else {
         return Err(BookRefusal::NoMemory);
     };
+    let Ok(sought) = sought_sites(alloc, file, sites) else {
+        return Err(BookRefusal::NoMemory);
+    };
     for site in 0..sites {
-        add_site(alloc, file, site, &mut book, maker)?;
+        add_site(alloc, file, site, sought[site as usize], &mut book, maker)?;
     }
     Ok(book)
 }
@@ -64,15 +69,17 @@ fn site_count(file: &RuleFile) -> Option<u32>
     }
 }
 
-/// Makes the patterns of the literal of a site.
+/// Makes the patterns of the literal of a site, from whose text one is read or not.
 fn add_site<M: PatternMaker>(
     alloc: Global,
     file: &RuleFile,
     site: u32,
+    sought: bool,
     book: &mut PatternBook,
     maker: &mut M,
 ) -> Result<(), BookRefusal>
-    requires { IsReadBook book.old }
+    requires sought { sought ≡ is_sought (see_file file.now.raw) site }
+    requires book { IsReadBook book.old }
     ensures gains { OnOk result (Gains book.old book.new (patterns_at (see_file file.now.raw) site)) }
     ensures read { OnOk result (AreRead (patterns_at (see_file file.now.raw) site)) }
     ensures book { OnOk result (IsReadBook book.new) }
@@ -85,7 +92,71 @@ fn add_site<M: PatternMaker>(
 {
     match literal(file, site) {
         None => Ok(()),
-        Some(tree) => add_tree(alloc, tree, book, maker),
+        Some(tree) => add_literal(alloc, tree, sought, book, maker),
+    }
+}
+
+/// Makes the patterns of the tree of a literal, from whose text one is read or not.
+fn add_literal<M: PatternMaker>(
+    alloc: Global,
+    tree: &Doc<'static>,
+    sought: bool,
+    book: &mut PatternBook,
+    maker: &mut M,
+) -> Result<(), BookRefusal>
+    requires { IsReadBook book.old }
+    ensures gains { OnOk result (Gains book.old book.new (sought_text sought tree.now ++ patterns_in tree.now)) }
+    ensures read { OnOk result (AreRead (sought_text sought tree.now ++ patterns_in tree.now)) }
+    ensures book { OnOk result (IsReadBook book.new) }
+    ensures bad { (at : ℕ) → IsErrOf result (BookRefusal.BadPattern at)
+        → (text : List ℕ) × IsNextOf (sought_text sought tree.now ++ patterns_in tree.now) text at × IsNone (pattern_in text) }
+    ensures refused { (at : ℕ) → IsErrOf result (BookRefusal.PatternRefused at)
+        → (text : List ℕ) × IsNextOf (sought_text sought tree.now ++ patterns_in tree.now) text at
+        × Rose (M.faults maker.old text) (M.faults maker.new text) }
+    ensures kept { (other : List ℕ) → M.faults maker.old other ≤ M.faults maker.new other }
+{
+    add_sought(alloc, tree, sought, book, maker)?;
+    add_tree(alloc, tree, book, maker)
+}
+
+/// Makes the pattern that is read from the text of a literal, if one is.
+fn add_sought<M: PatternMaker>(
+    alloc: Global,
+    tree: &Doc<'static>,
+    sought: bool,
+    book: &mut PatternBook,
+    maker: &mut M,
+) -> Result<(), BookRefusal>
+    requires { IsReadBook book.old }
+    ensures gains { OnOk result (Gains book.old book.new (sought_text sought tree.now)) }
+    ensures read { OnOk result (AreRead (sought_text sought tree.now)) }
+    ensures book { OnOk result (IsReadBook book.new) }
+    ensures bad { (at : ℕ) → IsErrOf result (BookRefusal.BadPattern at)
+        → (text : List ℕ) × (sought_text sought tree.now ≡ record { text = text; at = at } ∷ []) × IsNone (pattern_in text) }
+    ensures refused { (at : ℕ) → IsErrOf result (BookRefusal.PatternRefused at)
+        → (text : List ℕ) × (sought_text sought tree.now ≡ record { text = text; at = at } ∷ [])
+        × Rose (M.faults maker.old text) (M.faults maker.new text) }
+    ensures kept { (other : List ℕ) → M.faults maker.old other ≤ M.faults maker.new other }
+{
+    match text_root(tree, sought) {
+        None => Ok(()),
+        Some(root) => add_text(alloc, root.text(), root.at(), book, maker),
+    }
+}
+
+/// The root of a literal, if it is a text from which a pattern is read.
+fn text_root<'t>(tree: &'t Doc<'static>, sought: bool) -> Option<Cursor<'t, 'static>>
+    ensures root { MatchOption result (sought_text sought tree.entry.now ≡ [])
+        (λ root. sought_text sought tree.entry.now ≡ record { text = (label_at root.doc.now root.id).text; at = (label_at root.doc.now root.id).at } ∷ []) }
+    ensures text { IfSome result (λ root. has_text (label_at root.doc.now root.id).kind ≡ true) }
+{
+    if !sought || tree.len() == 0 {
+        return None;
+    }
+    let root = tree.cursor(0);
+    match root.kind() {
+        Kind::Text => Some(root),
+        _ => None,
     }
 }
 

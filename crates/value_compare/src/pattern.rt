@@ -1,9 +1,9 @@
-//! Patterns, which the crate of regular expressions reads and finds.
+//! Patterns, which the crate of regular expressions reads, finds and replaces.
 ghost use Rattle.std.specs.Prelude.{◌≡◌, IfOk, IsSome};
 ghost use Rattle.value_compare.specs.Finds.{pattern_in};
-ghost use Rattle.value_compare.specs.Matching.{IsMatcherOf};
+ghost use Rattle.value_compare.specs.Matching.{IsMatcherOf, IsReplacerOf};
 
-use regex::{Matcher, Regex};
+use regex::{Matcher, Regex, Template};
 use std::alloc::{AllocError, Global};
 use std::marker::Model;
 
@@ -44,5 +44,18 @@ impl Pattern {
         ensures { IfOk result (IsMatcherOf self.entry.now) }
     {
         self.regex.matcher(alloc)
+    }
+
+    /// What finds the pattern in texts, and a template read for it.
+    pub(crate) fn replacer<'b>(
+        &'b self,
+        alloc: Global,
+        template: &str,
+    ) -> Result<(Matcher<'b>, Template), AllocError>
+        ensures { IfOk result (λ r. IsReplacerOf self.entry.now template.now r.0 r.1) }
+    {
+        let read = Template::new(alloc, self.regex.capture_names(), template)?;
+        let matcher = self.regex.matcher(alloc)?;
+        Ok((matcher, read))
     }
 }

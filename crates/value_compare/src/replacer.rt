@@ -1,0 +1,48 @@
+//! A pattern and a template, with what replaces the one by the other.
+ghost use Rattle.std.specs.Prelude.{◌≡◌, IfOk, Some, string_bytes};
+ghost use Rattle.value_compare.specs.Functions.{replaced_in};
+ghost use Rattle.value_compare.specs.Matching.{IsReplacerOf};
+
+use crate::pattern::Pattern;
+use regex::{Matcher, Template};
+use std::alloc::{AllocError, Global};
+
+/// A pattern and a template, with what replaces each match of the one by what the other says. Its caches grow as it is
+/// used.
+#[derive(Drop)]
+pub struct Replacer<'b> {
+    pub pattern: &'b Pattern,
+    pub template: &'b str,
+    matcher: Matcher<'b>,
+    read: Template,
+    ghost fits: { IsReplacerOf pattern.now template.now matcher read },
+}
+
+impl<'b> Replacer<'b> {
+    /// Makes what replaces each match of a pattern by what a template says.
+    pub(crate) fn new(
+        alloc: Global,
+        pattern: &'b Pattern,
+        template: &'b str,
+    ) -> Result<Replacer<'b>, AllocError>
+        ensures pattern { IfOk result (λ r. r.pattern.now ≡ pattern.entry.now) }
+        ensures template { IfOk result (λ r. r.template.now ≡ template.entry.now) }
+    {
+        let (matcher, read) = pattern.replacer(alloc, template)?;
+        Ok(Replacer {
+            pattern,
+            template,
+            matcher,
+            read,
+        })
+    }
+
+    /// A text with each match replaced.
+    pub fn replaced(&mut self, alloc: Global, text: &str) -> Result<String, AllocError>
+        ensures replaced { IfOk result (λ out. replaced_in self.old.pattern.now self.old.template.now text.now ≡ Some (string_bytes out)) }
+        ensures pattern { self.new.pattern.now ≡ self.old.pattern.now }
+        ensures template { self.new.template.now ≡ self.old.template.now }
+    {
+        self.matcher.replace_all(alloc, text, &self.read)
+    }
+}
