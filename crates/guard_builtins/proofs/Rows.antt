@@ -1,0 +1,28 @@
+-- Answers that grow by a row.
+use Rattle.std.proofs.Common.{◌≡◌, ℕ, ◌+◌, ◌<◌, List, [], ◌∷◌, ◌++◌, length, map, take, get_or, ap, sym, subst, ◌∙◌, add-one}
+use Rattle.std.proofs.Math.Seq.{take-suc}
+use Rattle.std.proofs.lemmas.List.{map-append}
+use Rattle.doc_values.specs.Tree.{Forest}
+use Rattle.guard_syntax.specs.declared.row.Row.{Row}
+use Rattle.value_compare.specs.Functions.{AreRows, IsRow, MadeRow}
+use Rattle.value_compare.specs.Known.{Known}
+use Rattle.value_compare.specs.Values.{Value}
+use Rattle.guard_builtins.specs.Seen.{see_made}
+use Rattle.guard_builtins.specs.declared.made.Made.{Made}
+
+module _ (Gives : Value → Forest → Type 0) (k : Known) (call : ℕ) where
+  AreRows-more : (rows : List Row) (made : List MadeRow) (r : Row) (m : MadeRow) → AreRows Gives k call rows made → IsRow Gives k call r m → AreRows Gives k call (rows ++ r ∷ []) (made ++ m ∷ [])
+  AreRows-more [] [] r m h is = (is, tt)
+  AreRows-more [] (n ∷ made) r m h is = absurd h
+  AreRows-more (q ∷ rows) [] r m h is = absurd h
+  AreRows-more (q ∷ rows) (n ∷ made) r m h is = (h.0, AreRows-more rows made r m h.1 is)
+
+  -- one row more of those before an index, and its row of the answer
+  pub rows-more : (rows : List Row) (i : ℕ) (d : Row) (old new : List Made) (m : Made) → i < length rows → new ≡ old ++ m ∷ [] → IsRow Gives k call (get_or rows i d) (see_made m)
+      → AreRows Gives k call (take i rows) (map see_made old) → AreRows Gives k call (take (i + 1) rows) (map see_made new)
+  rows-more rows i d old new m within put is before =
+      let longer : take i rows ++ get_or rows i d ∷ [] ≡ take (i + 1) rows = sym (ap (λ n. take n rows) (add-one i) ∙ take-suc rows i d within) in
+      let grown : map see_made old ++ see_made m ∷ [] ≡ map see_made new = sym (ap (map see_made) put ∙ map-append see_made old (m ∷ [])) in
+      subst (λ rs. AreRows Gives k call rs (map see_made new)) longer
+      (subst (λ ms. AreRows Gives k call (take i rows ++ get_or rows i d ∷ []) ms) grown
+      (AreRows-more (take i rows) (map see_made old) (get_or rows i d) (see_made m) before is))

@@ -1,0 +1,8 @@
+use Rattle.std.proofs.Common.{map, take}
+use Rattle.value_compare.specs.Functions.{AreRows}
+use Rattle.value_compare.specs.Stores.{see_store}
+use Rattle.guard_builtins.specs.Seen.{gives, see_made}
+use Rattle.guard_builtins.proofs.functions.rows_for.Given as goal
+
+abbrev pub invariant-loop-row : goal.invariant-loop-row
+invariant-loop-row l = AreRows (gives l.change) (see_store l.store) l.site (take l.row-index l.rows) (map see_made l.made.items)

@@ -1,0 +1,51 @@
+-- Answers as the code has them.
+use Rattle.std.specs.Prelude.{ℕ, Bool, true, not, List, Option, Some, None, Vec}
+use Rattle.std.specs.declared.alloc.Global.{Global}
+use Rattle.doc_values.specs.Tree.{Forest}
+use Rattle.guard_syntax.specs.declared.row.Row.{Row}
+use Rattle.value_compare.specs.Functions.{MadeRow, New, Kept, IsJson, IsLower, IsReplaced, IsUpper, IsSubstring, IsDecoded, IsInt, IsFloat, IsBoolean, IsPrinted}
+use Rattle.value_compare.specs.Values.{Value, has_pattern}
+use Rattle.value_compare.specs.declared.replacer.Replacer.{Replacer}
+use Rattle.guard_builtins.specs.declared.change.Change.{Change}
+use Rattle.guard_builtins.specs.declared.change.Change.TheVariants as change
+use Rattle.guard_builtins.specs.declared.made.Made.{Made}
+use Rattle.guard_builtins.specs.declared.made.Made.TheVariants as made
+
+abbrev pub see_made : Made → MadeRow
+see_made (made.Tree tree) = New tree
+see_made (made.Kept row) = Kept row
+
+-- a new tree without patterns, or a kept row
+abbrev pub is_plain : Made → Bool
+is_plain (made.Tree tree) = not (has_pattern tree)
+is_plain (made.Kept row) = true
+
+-- what a function gives for one value
+abbrev pub gives : Change → Value → Forest → Type 0
+gives change.JsonParse v tree = IsJson v tree
+gives change.ToLower v tree = IsLower v tree
+gives change.ToUpper v tree = IsUpper v tree
+gives (change.Substring from to) v tree = IsSubstring from to v tree
+gives change.UrlDecode v tree = IsDecoded v tree
+gives change.ParseInt v tree = IsInt v tree
+gives change.ParseFloat v tree = IsFloat v tree
+gives change.ParseBoolean v tree = IsBoolean v tree
+gives change.ParseString v tree = IsPrinted v tree
+
+-- the rows of an argument
+abbrev pub see_rows : Vec Row Global → List Row
+see_rows rows = rows.items
+
+-- the texts of the pattern and the template by which it is replaced
+abbrev pub texts_of : Replacer → List ℕ × List ℕ
+texts_of r = (r.pattern.now, r.template.now)
+
+-- two texts, where there are both
+abbrev pub both : Option (List ℕ) → Option (List ℕ) → Option (List ℕ × List ℕ)
+both (Some pattern) (Some template) = Some (pattern, template)
+both _ _ = None
+
+-- what replacing by two texts, where there are both, gives for one value
+abbrev pub replaces : Option (List ℕ × List ℕ) → Value → Forest → Type 0
+replaces (Some texts) v tree = IsReplaced (Some texts.0) (Some texts.1) v tree
+replaces None v tree = ⊥

@@ -1,0 +1,52 @@
+//! Calls of any function.
+ghost use Rattle.std.specs.Prelude.{◌≡◌, true, IfOk, IfSome, length, map};
+ghost use Rattle.std.specs.List.{list_all};
+ghost use Rattle.name_table.specs.Uses.{arity};
+ghost use Rattle.value_compare.specs.Books.{has_text};
+ghost use Rattle.value_compare.specs.Functions.{Functions, argument, single_text};
+ghost use Rattle.value_compare.specs.Stores.{see_store};
+ghost use Rattle.guard_builtins.specs.Seen.{is_plain, see_made, see_rows};
+
+use crate::functions::{
+    count, join, json_parse, parse_boolean, parse_float, parse_int, parse_string, substring,
+    to_lower, to_upper, url_decode,
+};
+use crate::made::Made;
+use crate::replace::regex_replace;
+use guard_syntax::{Function, Row};
+use std::alloc::{AllocError, Global};
+use value_compare::{PatternBook, Store};
+
+/// What the call of a function at a site answers: a row for each row of its first argument, or its one row. It wants as many
+/// arguments as the function takes, and of `regex_replace` a book that has the pattern.
+pub fn call(
+    alloc: Global,
+    function: Function,
+    site: u32,
+    args: &[Vec<Row>],
+    store: &Store<'_, '_>,
+    book: &PatternBook,
+) -> Result<Vec<Made>, AllocError>
+    requires count { length args.now ≡ arity function }
+    requires pattern { function ≡ Function.RegexReplace
+        → IfSome (single_text (see_store store.now) (argument (map see_rows args.now) 1)) (λ text. has_text book.now text ≡ true) }
+    ensures rows { IfOk result (λ made. Functions (see_store store.now) function site (map see_rows args.now) (map see_made made.items)) }
+    ensures plain { IfOk result (λ made. list_all is_plain made.items ≡ true) }
+{
+    match function {
+        Function::Count => count(alloc, &args[0]),
+        Function::JsonParse => json_parse(alloc, site, &args[0], store),
+        Function::RegexReplace => {
+            regex_replace(alloc, site, &args[0], &args[1], &args[2], store, book)
+        }
+        Function::Join => join(alloc, site, &args[0], &args[1], store),
+        Function::ToLower => to_lower(alloc, site, &args[0], store),
+        Function::ToUpper => to_upper(alloc, site, &args[0], store),
+        Function::Substring => substring(alloc, site, &args[0], &args[1], &args[2], store),
+        Function::UrlDecode => url_decode(alloc, site, &args[0], store),
+        Function::ParseInt => parse_int(alloc, site, &args[0], store),
+        Function::ParseFloat => parse_float(alloc, site, &args[0], store),
+        Function::ParseBoolean => parse_boolean(alloc, site, &args[0], store),
+        Function::ParseString => parse_string(alloc, site, &args[0], store),
+    }
+}

@@ -1,0 +1,200 @@
+//! What each function makes of one value.
+ghost use Rattle.std.specs.Prelude.{◌≡◌, ℤ, IfOk, MatchOption, option_map, string_bytes};
+ghost use Rattle.doc_values.specs.Decimal.{Decimal};
+ghost use Rattle.value_compare.specs.Functions.{IsBoolean, IsDecimalBy, IsDecoded, IsFloat, IsGiven, IsInt, IsJson, IsLower, IsPrinted, IsSubstring, IsUpper, IsWholeBy, printed_by, truth_by};
+ghost use Rattle.value_compare.specs.Views.{see_view};
+ghost use Rattle.guard_builtins.specs.Seen.{gives};
+
+use crate::numbers::{decimal_of, read_decimal, read_whole};
+use crate::printed::{decimal_text, truth_text, whole_text};
+use crate::texts::{parsed, part, truth_in, unescaped};
+use crate::trees::{plain_tree, text_tree};
+use crate::values::text_of;
+use doc_values::{Decimal, Doc, Kind, Num};
+use std::alloc::{AllocError, Global};
+use value_compare::View;
+
+/// A function of one value after another, with its further arguments.
+#[derive(Clone, Copy)]
+pub(crate) enum Change {
+    JsonParse,
+    ToLower,
+    ToUpper,
+    /// From the first index up to the second, each where it is a single whole number.
+    Substring(Option<i64>, Option<i64>),
+    UrlDecode,
+    ParseInt,
+    ParseFloat,
+    ParseBoolean,
+    ParseString,
+}
+
+/// The tree that a function gives for a value, if it applies.
+pub(crate) fn given(
+    alloc: Global,
+    change: Change,
+    value: View<'_, '_>,
+) -> Result<Option<Doc<'static>>, AllocError>
+    ensures { IfOk result (IsGiven (gives change (see_view value.entry))) }
+{
+    match change {
+        Change::JsonParse => json(alloc, value),
+        Change::ToLower => lower(alloc, value),
+        Change::ToUpper => upper(alloc, value),
+        Change::Substring(from, to) => substring(alloc, from, to, value),
+        Change::UrlDecode => decoded(alloc, value),
+        Change::ParseInt => int(alloc, value),
+        Change::ParseFloat => float(alloc, value),
+        Change::ParseBoolean => boolean(alloc, value),
+        Change::ParseString => printed(alloc, value),
+    }
+}
+
+fn json(alloc: Global, value: View<'_, '_>) -> Result<Option<Doc<'static>>, AllocError>
+    ensures { IfOk result (IsGiven (IsJson (see_view value.entry))) }
+{
+    match text_of(value) {
+        None => Ok(None),
+        Some(text) => parsed(alloc, text),
+    }
+}
+
+fn lower(alloc: Global, value: View<'_, '_>) -> Result<Option<Doc<'static>>, AllocError>
+    ensures { IfOk result (IsGiven (IsLower (see_view value.entry))) }
+{
+    match text_of(value) {
+        None => Ok(None),
+        Some(text) => Ok(Some(text_tree(alloc, text.to_ascii_lowercase(alloc)?)?)),
+    }
+}
+
+fn upper(alloc: Global, value: View<'_, '_>) -> Result<Option<Doc<'static>>, AllocError>
+    ensures { IfOk result (IsGiven (IsUpper (see_view value.entry))) }
+{
+    match text_of(value) {
+        None => Ok(None),
+        Some(text) => Ok(Some(text_tree(alloc, text.to_ascii_uppercase(alloc)?)?)),
+    }
+}
+
+fn substring(
+    alloc: Global,
+    from: Option<i64>,
+    to: Option<i64>,
+    value: View<'_, '_>,
+) -> Result<Option<Doc<'static>>, AllocError>
+    ensures { IfOk result (IsGiven (IsSubstring from to (see_view value.entry))) }
+{
+    match text_of(value) {
+        None => Ok(None),
+        Some(text) => part(alloc, from, to, text),
+    }
+}
+
+fn decoded(alloc: Global, value: View<'_, '_>) -> Result<Option<Doc<'static>>, AllocError>
+    ensures { IfOk result (IsGiven (IsDecoded (see_view value.entry))) }
+{
+    match text_of(value) {
+        None => Ok(None),
+        Some(text) => unescaped(alloc, text),
+    }
+}
+
+/// The whole number that a value is or spells.
+fn whole_in(value: View<'_, '_>) -> Option<i64>
+    ensures { MatchOption result
+        ((n : ℤ) → IsWholeBy (see_view value.entry).kind (see_view value.entry).text n → ⊥)
+        (λ n. IsWholeBy (see_view value.entry).kind (see_view value.entry).text n) }
+{
+    match value {
+        View::Key(text) => read_whole(text),
+        View::At(node) => match node.kind() {
+            Kind::Whole(n) => Some(n),
+            Kind::Text => read_whole(node.text()),
+            _ => None,
+        },
+    }
+}
+
+fn int(alloc: Global, value: View<'_, '_>) -> Result<Option<Doc<'static>>, AllocError>
+    ensures { IfOk result (IsGiven (IsInt (see_view value.entry))) }
+{
+    match whole_in(value) {
+        None => Ok(None),
+        Some(n) => Ok(Some(plain_tree(alloc, Kind::Whole(n))?)),
+    }
+}
+
+/// The decimal that a value is or spells.
+fn decimal_in(value: View<'_, '_>) -> Option<Decimal>
+    ensures { MatchOption result
+        ((d : Decimal) → IsDecimalBy (see_view value.entry).kind (see_view value.entry).text d → ⊥)
+        (λ d. IsDecimalBy (see_view value.entry).kind (see_view value.entry).text d) }
+{
+    match value {
+        View::Key(text) => read_decimal(text),
+        View::At(node) => match node.kind() {
+            Kind::Whole(n) => decimal_of(Num::Whole(n)),
+            Kind::Fraction(d) => Some(d),
+            Kind::Text => read_decimal(node.text()),
+            _ => None,
+        },
+    }
+}
+
+fn float(alloc: Global, value: View<'_, '_>) -> Result<Option<Doc<'static>>, AllocError>
+    ensures { IfOk result (IsGiven (IsFloat (see_view value.entry))) }
+{
+    match decimal_in(value) {
+        None => Ok(None),
+        Some(d) => Ok(Some(plain_tree(alloc, Kind::Fraction(d))?)),
+    }
+}
+
+/// The truth value that a value is or spells.
+fn truth_of(value: View<'_, '_>) -> Option<bool>
+    ensures { result ≡ truth_by (see_view value.entry).kind (see_view value.entry).text }
+{
+    match value {
+        View::Key(text) => truth_in(text),
+        View::At(node) => match node.kind() {
+            Kind::Truth(truth) => Some(truth),
+            Kind::Text => truth_in(node.text()),
+            _ => None,
+        },
+    }
+}
+
+fn boolean(alloc: Global, value: View<'_, '_>) -> Result<Option<Doc<'static>>, AllocError>
+    ensures { IfOk result (IsGiven (IsBoolean (see_view value.entry))) }
+{
+    match truth_of(value) {
+        None => Ok(None),
+        Some(truth) => Ok(Some(plain_tree(alloc, Kind::Truth(truth))?)),
+    }
+}
+
+/// A value as it is printed, a text without quotes.
+fn print(alloc: Global, value: View<'_, '_>) -> Result<Option<String>, AllocError>
+    ensures { IfOk result (λ text. option_map string_bytes text ≡ printed_by (see_view value.entry).kind (see_view value.entry).text) }
+{
+    match value {
+        View::Key(text) => Ok(Some(String::from_str(alloc, text)?)),
+        View::At(node) => match node.kind() {
+            Kind::Text => Ok(Some(String::from_str(alloc, node.text())?)),
+            Kind::Whole(n) => Ok(Some(whole_text(alloc, n)?)),
+            Kind::Fraction(d) => Ok(Some(decimal_text(alloc, d)?)),
+            Kind::Truth(truth) => Ok(Some(String::from_str(alloc, truth_text(truth))?)),
+            _ => Ok(None),
+        },
+    }
+}
+
+fn printed(alloc: Global, value: View<'_, '_>) -> Result<Option<Doc<'static>>, AllocError>
+    ensures { IfOk result (IsGiven (IsPrinted (see_view value.entry))) }
+{
+    match print(alloc, value)? {
+        None => Ok(None),
+        Some(text) => Ok(Some(text_tree(alloc, text)?)),
+    }
+}

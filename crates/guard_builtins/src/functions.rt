@@ -1,0 +1,224 @@
+//! The functions on lists of rows.
+ghost use Rattle.std.specs.Prelude.{◌≡◌, false, true, IfOk, IfSome, map};
+ghost use Rattle.std.specs.List.{list_all};
+ghost use Rattle.value_compare.specs.Functions.{AreRows, IsBoolean, IsDecoded, IsFloat, IsInt, IsJson, IsLower, IsPrinted, IsRow, IsSubstring, IsUpper, counted, is_found, joined, joined_row, single_text, single_whole, texts_in};
+ghost use Rattle.value_compare.specs.Stores.{see_store};
+ghost use Rattle.value_compare.specs.Values.{has_pattern};
+ghost use Rattle.guard_builtins.specs.Seen.{gives, is_plain, see_made};
+
+use crate::change::{Change, given};
+use crate::made::{Made, new_or_missing, one_row};
+use crate::trees::{plain_tree, text_tree};
+use crate::values::{single_text, single_whole, texts_in};
+use doc_values::{Doc, Kind};
+use guard_syntax::Row;
+use std::alloc::{AllocError, Global};
+use value_compare::Store;
+
+/// `count`: one whole number, how many rows are found.
+pub fn count(alloc: Global, rows: &[Row]) -> Result<Vec<Made>, AllocError>
+    ensures rows { IfOk result (λ made. map see_made made.items ≡ counted rows.now) }
+    ensures plain { IfOk result (λ made. list_all is_plain made.items ≡ true) }
+{
+    let found = rows.iter().filter(|row| is_found(row)).count();
+    one_row(
+        alloc,
+        Made::Tree(plain_tree(alloc, Kind::Whole(found as i64))?),
+    )
+}
+
+fn is_found(row: &Row) -> bool
+    ensures { result ≡ is_found row.now }
+{
+    matches!(row, Row::Found(_))
+}
+
+/// `join`: one text, those of the rows with that of `between` between each two. Each row has to stand for a text, and
+/// `between` has to be one row that does.
+pub fn join(
+    alloc: Global,
+    site: u32,
+    rows: &[Row],
+    between: &[Row],
+    store: &Store<'_, '_>,
+) -> Result<Vec<Made>, AllocError>
+    ensures rows { IfOk result (λ made. map see_made made.items ≡ joined_row (see_store store.now) site rows.now between.now) }
+    ensures plain { IfOk result (λ made. list_all is_plain made.items ≡ true) }
+{
+    let tree = joined(alloc, rows, between, store)?;
+    one_row(alloc, new_or_missing(site, tree))
+}
+
+fn joined(
+    alloc: Global,
+    rows: &[Row],
+    between: &[Row],
+    store: &Store<'_, '_>,
+) -> Result<Option<Doc<'static>>, AllocError>
+    ensures tree { IfOk result (λ tree. tree ≡ joined (texts_in (see_store store.now) rows.now) (single_text (see_store store.now) between.now)) }
+    ensures plain { IfOk result (λ tree. IfSome tree (λ t. has_pattern t ≡ false)) }
+{
+    match (texts_in(alloc, rows, store)?, single_text(between, store)) {
+        (Some(texts), Some(between)) => Ok(Some(text_tree(alloc, texts.join(alloc, between)?)?)),
+        _ => Ok(None),
+    }
+}
+
+/// A row of the answer for a row of the first argument: a missing one stays as it is.
+fn row_for(
+    alloc: Global,
+    change: Change,
+    site: u32,
+    row: &Row,
+    store: &Store<'_, '_>,
+) -> Result<Made, AllocError>
+    ensures { IfOk result (λ made. IsRow (gives change) (see_store store.now) site row.now (see_made made)) }
+{
+    match row {
+        Row::Found(value) => match store.view(*value) {
+            None => Ok(new_or_missing(site, None)),
+            Some(view) => Ok(new_or_missing(site, given(alloc, change, view)?)),
+        },
+        Row::Missing { .. } | Row::Unmade { .. } => Ok(Made::Kept(*row)),
+    }
+}
+
+/// A row of the answer for each row of the first argument.
+fn rows_for(
+    alloc: Global,
+    change: Change,
+    site: u32,
+    rows: &[Row],
+    store: &Store<'_, '_>,
+) -> Result<Vec<Made>, AllocError>
+    ensures rows { IfOk result (λ made. AreRows (gives change) (see_store store.now) site rows.now (map see_made made.items)) }
+    ensures plain { IfOk result (λ made. list_all is_plain made.items ≡ true) }
+{
+    let mut made = Vec::new(alloc);
+    for row in rows {
+        made.push(row_for(alloc, change, site, row, store)?)?;
+    }
+    Ok(made)
+}
+
+/// `json_parse`: the tree of a text of at most 8 MiB that RFC 8259 accepts.
+pub fn json_parse(
+    alloc: Global,
+    site: u32,
+    rows: &[Row],
+    store: &Store<'_, '_>,
+) -> Result<Vec<Made>, AllocError>
+    ensures rows { IfOk result (λ made. AreRows IsJson (see_store store.now) site rows.now (map see_made made.items)) }
+    ensures plain { IfOk result (λ made. list_all is_plain made.items ≡ true) }
+{
+    rows_for(alloc, Change::JsonParse, site, rows, store)
+}
+
+/// `to_lower`: a text with its ASCII letters in lower case.
+pub fn to_lower(
+    alloc: Global,
+    site: u32,
+    rows: &[Row],
+    store: &Store<'_, '_>,
+) -> Result<Vec<Made>, AllocError>
+    ensures rows { IfOk result (λ made. AreRows IsLower (see_store store.now) site rows.now (map see_made made.items)) }
+    ensures plain { IfOk result (λ made. list_all is_plain made.items ≡ true) }
+{
+    rows_for(alloc, Change::ToLower, site, rows, store)
+}
+
+/// `to_upper`: a text with its ASCII letters in upper case.
+pub fn to_upper(
+    alloc: Global,
+    site: u32,
+    rows: &[Row],
+    store: &Store<'_, '_>,
+) -> Result<Vec<Made>, AllocError>
+    ensures rows { IfOk result (λ made. AreRows IsUpper (see_store store.now) site rows.now (map see_made made.items)) }
+    ensures plain { IfOk result (λ made. list_all is_plain made.items ≡ true) }
+{
+    rows_for(alloc, Change::ToUpper, site, rows, store)
+}
+
+/// `substring`: the bytes of a text from one index up to another. Both have to be single whole numbers, in order and
+/// within the text, and each where a character begins or the text ends.
+pub fn substring(
+    alloc: Global,
+    site: u32,
+    rows: &[Row],
+    from: &[Row],
+    to: &[Row],
+    store: &Store<'_, '_>,
+) -> Result<Vec<Made>, AllocError>
+    ensures rows { IfOk result (λ made. AreRows (IsSubstring (single_whole (see_store store.now) from.now) (single_whole (see_store store.now) to.now)) (see_store store.now) site rows.now (map see_made made.items)) }
+    ensures plain { IfOk result (λ made. list_all is_plain made.items ≡ true) }
+{
+    let change = Change::Substring(single_whole(from, store), single_whole(to, store));
+    rows_for(alloc, change, site, rows, store)
+}
+
+/// `url_decode`: a text with its percent escapes decoded, if that is UTF-8. A plus stays.
+pub fn url_decode(
+    alloc: Global,
+    site: u32,
+    rows: &[Row],
+    store: &Store<'_, '_>,
+) -> Result<Vec<Made>, AllocError>
+    ensures rows { IfOk result (λ made. AreRows IsDecoded (see_store store.now) site rows.now (map see_made made.items)) }
+    ensures plain { IfOk result (λ made. list_all is_plain made.items ≡ true) }
+{
+    rows_for(alloc, Change::UrlDecode, site, rows, store)
+}
+
+/// `parse_int`: a whole number itself, and that of a text of an optional sign and a whole number text in range.
+pub fn parse_int(
+    alloc: Global,
+    site: u32,
+    rows: &[Row],
+    store: &Store<'_, '_>,
+) -> Result<Vec<Made>, AllocError>
+    ensures rows { IfOk result (λ made. AreRows IsInt (see_store store.now) site rows.now (map see_made made.items)) }
+    ensures plain { IfOk result (λ made. list_all is_plain made.items ≡ true) }
+{
+    rows_for(alloc, Change::ParseInt, site, rows, store)
+}
+
+/// `parse_float`: a decimal itself, a whole number below 10^18 in size as a decimal, and the same of a text of an optional
+/// sign and a number text.
+pub fn parse_float(
+    alloc: Global,
+    site: u32,
+    rows: &[Row],
+    store: &Store<'_, '_>,
+) -> Result<Vec<Made>, AllocError>
+    ensures rows { IfOk result (λ made. AreRows IsFloat (see_store store.now) site rows.now (map see_made made.items)) }
+    ensures plain { IfOk result (λ made. list_all is_plain made.items ≡ true) }
+{
+    rows_for(alloc, Change::ParseFloat, site, rows, store)
+}
+
+/// `parse_boolean`: a truth value itself, and that of a text `true` or `false` in any ASCII case.
+pub fn parse_boolean(
+    alloc: Global,
+    site: u32,
+    rows: &[Row],
+    store: &Store<'_, '_>,
+) -> Result<Vec<Made>, AllocError>
+    ensures rows { IfOk result (λ made. AreRows IsBoolean (see_store store.now) site rows.now (map see_made made.items)) }
+    ensures plain { IfOk result (λ made. list_all is_plain made.items ≡ true) }
+{
+    rows_for(alloc, Change::ParseBoolean, site, rows, store)
+}
+
+/// `parse_string`: a text itself, and a whole number, a decimal or a truth value as it is printed.
+pub fn parse_string(
+    alloc: Global,
+    site: u32,
+    rows: &[Row],
+    store: &Store<'_, '_>,
+) -> Result<Vec<Made>, AllocError>
+    ensures rows { IfOk result (λ made. AreRows IsPrinted (see_store store.now) site rows.now (map see_made made.items)) }
+    ensures plain { IfOk result (λ made. list_all is_plain made.items ≡ true) }
+{
+    rows_for(alloc, Change::ParseString, site, rows, store)
+}

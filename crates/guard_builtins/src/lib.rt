@@ -1,0 +1,25 @@
+//! The functions of the rule language: from lists of rows to new trees and rows that stay as they are. The table of
+//! functions is `value_compare`'s `specs/Functions`, and each contract is its line. The crate knows neither queries nor
+//! scopes; where a function does not apply to a value, it answers with the site of its call.
+#![tactic(auto)]
+
+pub mod calls;
+mod change;
+pub mod functions;
+pub mod made;
+mod numbers;
+mod printed;
+pub mod replace;
+#[cfg(test)]
+mod tests;
+mod texts;
+mod trees;
+mod values;
+
+pub use calls::call;
+pub use functions::{
+    count, join, json_parse, parse_boolean, parse_float, parse_int, parse_string, substring,
+    to_lower, to_upper, url_decode,
+};
+pub use made::Made;
+pub use replace::regex_replace;
