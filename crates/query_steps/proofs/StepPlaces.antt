@@ -1,5 +1,5 @@
 -- Steps where they stand, as the code finds them.
-use Rattle.std.proofs.Common.{◌≡◌, ℕ, zero, suc, ◌+◌, ◌-◌, ◌<◌, ◌≤◌, Bool, true, false, not, List, [], ◌∷◌, ◌++◌, length, map, drop, get_or, Option, Some, None, refl, sym, ap, subst, ◌∙◌, inl, inr, arith, rules, nat_eq, nat_lt, is_some, option_map, option_and_then, if◌then◌else◌}
+use Rattle.std.proofs.Common.{◌≡◌, ℕ, zero, suc, ◌+◌, ◌-◌, ◌<◌, ◌≤◌, Bool, true, false, not, List, [], ◌∷◌, ◌++◌, length, map, drop, get_or, Option, Some, None, refl, sym, ap, ◌∙◌, inl, inr, arith, rules, nat_eq, nat_lt, is_some, option_map, option_and_then, if◌then◌else◌}
 use Rattle.std.proofs.lemmas.Bool.{cases_lt}
 use Rattle.std.proofs.lemmas.Bool.Decides.{nat_tests}
 use Rattle.std.specs.List.{flat_map}
@@ -15,7 +15,7 @@ use Rattle.guard_syntax.specs.declared.syntax.Step.{Step}
 use Rattle.name_table.specs.Pieces.{OfStep, piece_at}
 use Rattle.value_compare.specs.Known.{Known}
 use Rattle.query_steps.specs.Filters.{candidates_of, candidates_in, kept, filtered}
-use Rattle.query_steps.specs.Places.{Placed, is_key, is_filter, is_first, is_after_key, step_in, steps_in, placed_in, placed_of, step_at, given_by, before_step, step_candidates, step_rows, candidates_at, rows_at_step, IsStepAt, IsStartAt, IsFilterAt}
+use Rattle.query_steps.specs.Places.{Placed, is_key, is_filter, is_first, is_after_key, step_in, steps_in, placed_in, placed_of, step_at, given_by, step_candidates, step_rows, candidates_at, rows_at_step, IsStepAt, IsStartAt, IsFilterAt}
 use Rattle.query_steps.specs.Steps.{found_step, on_found}
 
 abbrev pub steps_of : List Step → sx.Steps

@@ -18,6 +18,10 @@ abbrev pub is_key : Step → Bool
 is_key (key site name) = true
 is_key _ = false
 
+abbrev pub are_no_steps : Steps → Bool
+are_no_steps no_steps = true
+are_no_steps (more_steps step steps) = false
+
 abbrev pub is_filter : Step → Bool
 is_filter (filter site capture conditions) = true
 is_filter _ = false

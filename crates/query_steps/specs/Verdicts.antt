@@ -1,7 +1,6 @@
 -- Verdicts: of a test on rows, of a disjunction, of a conjunction and of a block.
 use Rattle.std.specs.Prelude.{Bool, true, false, not, List, [], ◌∷◌, if◌then◌else◌}
 use Rattle.std.specs.List.{list_all, list_any}
-use Rattle.guard_syntax.specs.declared.row.Ref.{Ref}
 use Rattle.guard_syntax.specs.declared.row.Row.{Row}
 use Rattle.guard_syntax.specs.declared.row.Row.TheVariants.{Found, Missing, Unmade}
 use Rattle.guard_syntax.specs.declared.row.Verdict.{Verdict}
@@ -49,12 +48,6 @@ abbrev pub set_verdict : (negated : Bool) → List Row → Verdict
 set_verdict true rows = pass_if (list_any is_found rows)
 set_verdict false rows = pass_if (not (list_any is_found rows))
 
--- a block on one row: the verdict of its body with the value as the current one; FAIL where nothing was found
-abbrev pub block_row : (Ref → Verdict) → Row → Verdict
-block_row body (Found v) = body v
-block_row body (Missing v site) = Fail
-block_row body (Unmade call) = Fail
-
 -- a block is the conjunction over its rows, with `some` the disjunction
 abbrev pub block_verdict : (any : Bool) → List Verdict → Verdict
 block_verdict true rows = disjunction rows
@@ -63,3 +56,15 @@ block_verdict false rows = conjunction rows
 -- what stands under conditions is SKIP unless they are PASS
 abbrev pub guarded_by : (conditions inner : Verdict) → Verdict
 guarded_by conditions inner = if is_pass conditions then inner else Skip
+
+-- a reference is PASS where its rule is PASS and else FAIL; with `not` the opposite
+abbrev pub referred : (negated : Bool) → Verdict → Verdict
+referred true rule = pass_if (not (is_pass rule))
+referred false rule = pass_if (is_pass rule)
+
+-- a call is as the called body; with `not` PASS and FAIL are exchanged
+abbrev pub exchanged : (negated : Bool) → Verdict → Verdict
+exchanged true Pass = Fail
+exchanged true Fail = Pass
+exchanged true Skip = Skip
+exchanged false called = called

@@ -1,4 +1,4 @@
-use Rattle.std.proofs.Common.{◌≡◌, ◌++◌, true, List, ap, ◌∙◌, Vec, Global}
+use Rattle.std.proofs.Common.{◌≡◌, ◌++◌, List, ap, ◌∙◌, Vec, Global}
 use Rattle.query_steps.proofs.FilterWalks.{tried-found, tried-other, lost-row, known-refs}
 use Rattle.std.specs.List.{list_all}
 use Rattle.guard_syntax.specs.declared.row.Ref.{Ref}

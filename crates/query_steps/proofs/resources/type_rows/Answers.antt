@@ -1,4 +1,4 @@
-use Rattle.std.proofs.Common.{◌≡◌, true, map, ap, sym, ◌∙◌, Vec, Global}
+use Rattle.std.proofs.Common.{◌≡◌, true, map, ap, ◌∙◌, Vec, Global}
 use Rattle.std.proofs.lemmas.Result.{IfOk-weaker}
 use Rattle.std.specs.List.{filter, list_all}
 use Rattle.guard_syntax.specs.declared.row.Row.{Row}

@@ -1,0 +1,38 @@
+-- Verdicts of tests on rows are those on the rows that these are seen as.
+use Rattle.std.proofs.Common.{◌≡◌, ℕ, Bool, true, false, not, ◌&&◌, ◌||◌, List, [], ◌∷◌, map, refl, ap, ◌∙◌}
+use Rattle.std.specs.List.{list_all, list_any}
+use Rattle.guard_syntax.specs.declared.row.Row.{Row}
+use Rattle.guard_syntax.specs.declared.row.Row.TheVariants as row
+use Rattle.value_compare.specs.Known.{Known}
+use Rattle.query_steps.specs.Seeing.{see_row}
+use Rattle.query_steps.specs.SpotVerdicts as spot
+use Rattle.query_steps.specs.Spots.{SpotRow, is_found}
+use Rattle.query_steps.specs.Verdicts.{pass_if, set_verdict, test_verdict}
+use Rattle.query_steps.specs.Verdicts as verdicts
+
+module _ (known : Known) (calls : List ℕ) where
+  abbrev shown : Row → SpotRow
+  shown = see_row known calls
+
+  pub found-seen : (x : Row) → verdicts.is_found x ≡ is_found (see_row known calls x)
+  found-seen (row.Found r) = refl
+  found-seen (row.Missing v step) = refl
+  found-seen (row.Unmade call) = refl
+
+  module _ (holds : Row → Bool) (by : SpotRow → Bool) (same : (x : Row) → holds x ≡ by (see_row known calls x)) where
+    any-seen : (xs : List Row) → list_any holds xs ≡ list_any by (map shown xs)
+    any-seen [] = refl
+    any-seen (x ∷ xs) = ap (λ (b : Bool). b || list_any holds xs) (same x) ∙ ap (λ (b : Bool). by (shown x) || b) (any-seen xs)
+
+    all-seen : (xs : List Row) → list_all holds xs ≡ list_all by (map shown xs)
+    all-seen [] = refl
+    all-seen (x ∷ xs) = ap (λ (b : Bool). b && list_all holds xs) (same x) ∙ ap (λ (b : Bool). by (shown x) && b) (all-seen xs)
+
+    pub tests-seen : (any : Bool) (xs : List Row) → test_verdict any holds xs ≡ spot.test_verdict any by (map (see_row known calls) xs)
+    tests-seen any [] = refl
+    tests-seen true (x ∷ xs) = ap pass_if (any-seen (x ∷ xs))
+    tests-seen false (x ∷ xs) = ap pass_if (all-seen (x ∷ xs))
+
+  pub sets-seen : (negated : Bool) (xs : List Row) → set_verdict negated xs ≡ spot.set_verdict negated (map (see_row known calls) xs)
+  sets-seen true xs = ap pass_if (any-seen verdicts.is_found is_found found-seen xs)
+  sets-seen false xs = ap (λ (b : Bool). pass_if (not b)) (any-seen verdicts.is_found is_found found-seen xs)
