@@ -1,0 +1,4 @@
+pub mod Rules
+pub mod Seen
+pub mod Sound
+pub mod States

@@ -1,0 +1,14 @@
+//! The verdicts of a rule file over a template, by recursion over the syntax and through the names that stand in it: the
+//! plain evaluator. A variable is evaluated anew at each use, in the scope that has it, and each call of a function makes
+//! its trees anew.
+#![tactic(auto)]
+
+mod environment;
+mod keep;
+mod names;
+mod rows;
+pub mod trees;
+pub mod verdicts;
+
+pub use trees::Trees;
+pub use verdicts::{verdict_of_loose, verdict_of_rule};
