@@ -1,0 +1,3 @@
+pub mod Downwards
+pub mod RuleNames
+pub mod TemplatePaths

@@ -1,0 +1,13 @@
+use Rattle.std.proofs.Common.{◌≡◌, ◌≤◌, ◌+◌, ◌-◌, length, take}
+use Rattle.std.specs.List.{suffix_len}
+use Rattle.report_text.specs.Messages.{is_white}
+use Rattle.report_text.proofs.messages.end_of.Given as goal
+
+abbrev pub invariant-loop-end : goal.invariant-loop-end
+invariant-loop-end l = record {
+  within : l.end ≤ length l.text;
+  same : suffix_len is_white l.text ≡ length l.text - l.end + suffix_len is_white (take l.end l.text);
+}
+
+abbrev pub decreases-loop-end : goal.decreases-loop-end
+decreases-loop-end l = l.end

@@ -1,0 +1,5 @@
+pub mod EntryLines
+pub mod Messages
+pub mod Paths
+pub mod RuleLines
+pub mod Spelling

@@ -1,0 +1,258 @@
+//! The lines of entries.
+ghost use Rattle.std.specs.Prelude.{◌≡◌, ◌≤◌, ◌++◌, ℕ, List, None, Some, true, false, MatchOption, IsErrOf, IsSome, OnOk, OnErr, IfOk, length, slice_index_or};
+ghost use Rattle.std.specs.Option.{ForSome};
+ghost use Rattle.doc_values.specs.Tree.{IsTree};
+ghost use Rattle.guard_io.specs.Outside.{Rose, IsPrefix};
+ghost use Rattle.guard_syntax.specs.Seen.{see_part};
+ghost use Rattle.name_table.specs.Files.{file_of};
+ghost use Rattle.name_table.specs.Pieces.{piece_at};
+ghost use Rattle.value_compare.specs.Known.{is_known_ref};
+ghost use Rattle.value_compare.specs.Stores.{see_store};
+ghost use Rattle.report_text.specs.EntryLines.{IsShowable, entry_line, is_made, node_text, note_of, note_of_part, shown_text, site_text, template_path, tree_for, word_text};
+ghost use Rattle.report_text.specs.Messages.{note_text};
+ghost use Rattle.report_text.specs.Paths.{path_of};
+
+use crate::entry::{Entry, Shown, Word};
+use crate::messages::push_quoted;
+use crate::paths::push_path;
+use crate::put::{ReportFault, put};
+use crate::spelling::push_place;
+use doc_values::Cursor;
+use guard_io::Sink;
+use guard_syntax::{Origin, Part, Ref};
+use name_table::{Piece, RuleFile};
+use std::alloc::{AllocError, Global};
+use value_compare::{Store, View};
+
+/// Writes the line of an entry: two spaces, the path and the place of what is shown, the word, the place of the part in
+/// the rules, and the part's message where it has one. Places are `line:column` from 1, the column in bytes. The texts are
+/// those from which the file and the template were read; the file is the store's. After an error the sink has taken a
+/// front of the line; `Failed` comes only where its count of faults rose.
+pub fn write_entry<S: Sink>(
+    alloc: Global,
+    file: &RuleFile,
+    rules_text: &str,
+    template_text: &str,
+    store: &Store<'_, '_>,
+    entry: &Entry,
+    sink: &mut S,
+) -> Result<(), ReportFault>
+    requires file { (see_store store.now).file ≡ file_of file.now }
+    requires shown { IsShowable (see_store store.now) entry.now.shown }
+    requires rules { length rules_text.now ≤ 1048576 }
+    requires template { length template_text.now ≤ 8388608 }
+    ensures ok { OnOk result (ForSome (S.told sink.old) (λ held.
+        S.told sink.new ≡ Some (held ++ entry_line (see_store store.now) rules_text.now template_text.now entry.now))) }
+    ensures err { OnErr result (ForSome (S.told sink.old) (λ held. (front : List ℕ)
+        × IsPrefix front (entry_line (see_store store.now) rules_text.now template_text.now entry.now) × (S.told sink.new ≡ Some (held ++ front)))) }
+    ensures tells { IsSome (S.told sink.old) → IsSome (S.told sink.new) }
+    ensures failed { IsErrOf result ReportFault.Failed → Rose (S.faults sink.old) (S.faults sink.new) }
+    ensures kept { S.faults sink.old ≤ S.faults sink.new }
+{
+    match line_of(
+        alloc,
+        file,
+        rules_text.as_bytes(),
+        template_text.as_bytes(),
+        store,
+        entry,
+    ) {
+        Ok(line) => put(&line, sink),
+        Err(_) => Err(ReportFault::Memory),
+    }
+}
+
+/// The line of an entry.
+fn line_of(
+    alloc: Global,
+    file: &RuleFile,
+    rules: &[u8],
+    template: &[u8],
+    store: &Store<'_, '_>,
+    entry: &Entry,
+) -> Result<Vec<u8>, AllocError>
+    requires file { (see_store store.now).file ≡ file_of file.now }
+    requires shown { IsShowable (see_store store.now) entry.now.shown }
+    requires rules { length rules.now ≤ 1048576 }
+    requires template { length template.now ≤ 8388608 }
+    ensures { IfOk result (λ line. line.items ≡ entry_line (see_store store.now) rules.now template.now entry.now) }
+{
+    let mut line = Vec::new(alloc);
+    line.extend_from_slice(b"  ")?;
+    push_shown(&mut line, file, rules, template, store, entry.shown)?;
+    line.push(b' ')?;
+    line.extend_from_slice(word_of(entry.word).as_bytes())?;
+    line.extend_from_slice(b" by ")?;
+    push_site(&mut line, file, rules, entry.part)?;
+    push_note(&mut line, file, entry.part)?;
+    line.push(b'\n')?;
+    Ok(line)
+}
+
+/// Appends the path and the place of what is shown.
+fn push_shown(
+    line: &mut Vec<u8>,
+    file: &RuleFile,
+    rules: &[u8],
+    template: &[u8],
+    store: &Store<'_, '_>,
+    shown: Shown,
+) -> Result<(), AllocError>
+    requires file { (see_store store.now).file ≡ file_of file.now }
+    requires shown { IsShowable (see_store store.now) shown }
+    requires rules { length rules.now ≤ 1048576 }
+    requires template { length template.now ≤ 8388608 }
+    ensures { OnOk result (line.new.items ≡ line.old.items ++ shown_text (see_store store.now) rules.now template.now shown) }
+{
+    match shown {
+        Shown::Value(value) => push_value(line, rules, template, store, value),
+        Shown::Made { call, value } => {
+            line.extend_from_slice(b"call")?;
+            push_path(line, node_of(store, value))?;
+            line.push(b' ')?;
+            push_site(line, file, rules, call)
+        }
+        Shown::Unmade(call) => {
+            line.extend_from_slice(b"call ")?;
+            push_site(line, file, rules, call)
+        }
+    }
+}
+
+/// Appends the path and the place of a value of the template or of a literal.
+fn push_value(
+    line: &mut Vec<u8>,
+    rules: &[u8],
+    template: &[u8],
+    store: &Store<'_, '_>,
+    value: Ref,
+) -> Result<(), AllocError>
+    requires known { is_known_ref (see_store store.now) value ≡ true }
+    requires given { is_made value.origin ≡ false }
+    requires rules { length rules.now ≤ 1048576 }
+    requires template { length template.now ≤ 8388608 }
+    ensures { OnOk result (line.new.items ≡ line.old.items ++ node_text rules.now template.now value.origin (tree_for (see_store store.now) value) value.node) }
+{
+    let node = node_of(store, value);
+    match value.origin {
+        Origin::Template => {
+            push_template_path(line, node)?;
+            line.push(b' ')?;
+            push_place(line, template, node.at())
+        }
+        Origin::Literal(_) => {
+            line.extend_from_slice(b"literal")?;
+            push_path(line, node)?;
+            line.push(b' ')?;
+            push_place(line, rules, node.at())
+        }
+        // What a call made is shown under its call.
+        Origin::Made { .. } => unreachable!(),
+    }
+}
+
+/// The node of a value; that of a key is its entry's.
+fn node_of<'v, 's>(store: &'v Store<'_, 's>, value: Ref) -> Cursor<'v, 's>
+    requires { is_known_ref (see_store store.now) value ≡ true }
+    ensures doc { result.doc.now ≡ tree_for (see_store store.entry.now) value }
+    ensures id { result.id ≡ value.node }
+    ensures tree { IsTree result.doc.now }
+{
+    let at = Ref {
+        origin: value.origin,
+        node: value.node,
+        key: false,
+    };
+    match store.view(at) {
+        Some(View::At(node)) => {
+            // Each document is a tree, as `len` says.
+            let _nodes = node.doc.len();
+            node
+        }
+        // What is known has a node, and a key was not asked for.
+        Some(View::Key(_)) => unreachable!(),
+        None => unreachable!(),
+    }
+}
+
+/// Appends the path of a node of the template.
+fn push_template_path(line: &mut Vec<u8>, node: Cursor<'_, '_>) -> Result<(), AllocError>
+    requires { IsTree node.doc.now }
+    ensures { OnOk result (line.new.items ≡ line.old.items ++ template_path (path_of node.entry.doc.now node.entry.id)) }
+{
+    match node.parent() {
+        None => {
+            line.push(b'.')?;
+            Ok(())
+        }
+        Some(_) => push_path(line, node),
+    }
+}
+
+/// Appends the place at which the part of a site begins.
+fn push_site(line: &mut Vec<u8>, file: &RuleFile, rules: &[u8], site: u32) -> Result<(), AllocError>
+    requires { length rules.now ≤ 1048576 }
+    ensures { OnOk result (line.new.items ≡ line.old.items ++ site_text (file_of file.now) rules.now site) }
+{
+    push_place(line, rules, place_of_site(file, site))
+}
+
+/// The byte offset of the part of a site; 0 of what is no site.
+fn place_of_site(file: &RuleFile, site: u32) -> u32
+    ensures { result ≡ slice_index_or (file_of file.now).places site 0 }
+{
+    let places = file.raw().places.as_slice();
+    places.get(site as usize).copied().unwrap_or(0)
+}
+
+/// Appends a space and the message of the part of a site in quotes, where it has one.
+fn push_note(line: &mut Vec<u8>, file: &RuleFile, site: u32) -> Result<(), AllocError>
+    ensures { OnOk result (line.new.items ≡ line.old.items ++ note_text (note_of (piece_at (file_of file.now) site))) }
+{
+    match note_of(file, site) {
+        None => Ok(()),
+        Some(note) => {
+            line.push(b' ')?;
+            push_quoted(line, note)
+        }
+    }
+}
+
+/// The message of the part of a site.
+fn note_of(file: &RuleFile, site: u32) -> Option<&str>
+    ensures { MatchOption result (note_of (piece_at (file_of file.entry.now) site) ≡ None) (λ note. note_of (piece_at (file_of file.entry.now) site) ≡ Some note.now) }
+{
+    match file.find(site) {
+        Some(Piece::Part(part)) => note_of_part(part),
+        _ => None,
+    }
+}
+
+/// The message of a part.
+fn note_of_part(part: &Part) -> Option<&str>
+    ensures { MatchOption result (note_of_part (see_part part.entry.now) ≡ None) (λ note. note_of_part (see_part part.entry.now) ≡ Some note.now) }
+{
+    let note = match part {
+        Part::Test { note, .. } => note,
+        Part::Refer { note, .. } => note,
+        Part::Call { note, .. } => note,
+        _ => return None,
+    };
+    match note {
+        None => None,
+        Some(note) => Some(note.as_str()),
+    }
+}
+
+/// The word that is printed.
+fn word_of(word: Word) -> &'static str
+    ensures { result.now ≡ word_text word }
+{
+    match word {
+        Word::Value => "value",
+        Word::Missing => "missing",
+        Word::Rows => "rows",
+        Word::Rule => "rule",
+        Word::Call => "call",
+    }
+}

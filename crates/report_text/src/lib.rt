@@ -1,0 +1,16 @@
+//! The report's text: the lines of verdicts, and those of entries under a rule that fails, with the path and the place of
+//! what is shown and the message of the part. The crate writes what it is given, and knows nothing of how verdicts come.
+#![tactic(auto)]
+
+pub mod entries;
+pub mod entry;
+mod messages;
+mod paths;
+pub mod put;
+pub mod rules;
+mod spelling;
+
+pub use entries::write_entry;
+pub use entry::{Entry, Shown, Word};
+pub use put::ReportFault;
+pub use rules::{verdict_word, write_rules};
