@@ -1,6 +1,4 @@
 mod Closing
-mod Conjoined
-mod Judged
 mod Judging
 mod Loads
 mod OneEnd
@@ -8,12 +6,9 @@ mod OnePattern
 mod OneRules
 mod OneSyntax
 mod OneTemplate
+mod OneText
 mod Outcomes
-mod Patternless
-mod Placed
 mod Plainness
 mod Refusing
 mod RequestWords
-mod RowsInTurn
-mod Standing
 mod Walks

@@ -1,13 +1,12 @@
 -- Rules have one reading or one refusal, but for the place of Syntax. By the cases of the refusals.
-use Rattle.std.proofs.Common.{◌≡◌, ◌⊎◌, ◌≤◌, ℕ, List, length, Option, Some, None, IsNone, true, false, arith, inl, inr, refl, sym, ap, ◌∙◌, subst}
+use Rattle.std.proofs.Common.{◌≡◌, ◌⊎◌, ◌≤◌, ℕ, List, length, Option, Some, None, IsNone, arith, inl, inr, refl, sym, ap, ◌∙◌, subst}
 use Rattle.guard_syntax.specs.Syntax.{File}
 use Rattle.name_table.specs.Faults.{Fault}
 use Rattle.name_table.specs.Names.{WellNamed, IsNameFault}
 use Rattle.name_table.proofs.OneFault.{one-fault, fault-apart}
-use Rattle.guard_run.specs.Plain.{is_plain}
-use Rattle.guard_run.specs.Inputs.{IsText, IsTooLong, IsNoText, IsSyntax, IsRuleFile, RefusesText, RefusesNames, RefusesRules, name_kind, rules_limit}
+use Rattle.guard_run.specs.Inputs.{IsText, IsTooLong, IsNoText, IsSyntax, IsRuleFile, RefusesText, RefusesNames, RefusesRules, name_kind, name_said, rules_limit}
 use Rattle.guard_run.specs.declared.ends.Refusal.{Refusal}
-use Rattle.guard_run.specs.declared.ends.Refusal.TheVariants.{RulesUnread, DataUnread, TooLong, NotText, At}
+use Rattle.guard_run.specs.declared.ends.Refusal.TheVariants.{DataUnread, TooLong, NotText, At}
 use Rattle.guard_run.specs.declared.ends.RefusalKind.{RefusalKind}
 use Rattle.guard_run.specs.declared.ends.RefusalKind.TheVariants.{Syntax}
 use Rattle.guard_run.specs.declared.ends.Which.TheVariants as file
@@ -17,11 +16,10 @@ use Rattle.guard_run.proofs.OneSyntax.{OneSyntax, AreAlike, syntax-one, text-ali
 abbrev pub IsPlaced : List ℕ → Refusal → Type 0
 IsPlaced bytes r = (kind : RefusalKind) × (at : ℕ) × (r ≡ At file.Rules kind at None) × IsText rules_limit bytes × RefusesText bytes kind at
 
--- why a syntax is refused: it is not evaluated, or it is and its names have a fault
+-- why a syntax is refused: its names have a fault
 abbrev pub IsFaulty : File → Refusal → Type 0
 IsFaulty f r =
-    ((r ≡ RulesUnread) × (is_plain f ≡ false))
-    ⊎ ((fault : Fault) × (r ≡ At file.Rules (name_kind fault.kind) fault.named.at (Some fault.named.text)) × (is_plain f ≡ true) × IsNameFault f fault)
+    (fault : Fault) × (r ≡ At file.Rules (name_kind fault.kind) fault.named.at (name_said fault.kind fault.named.text)) × IsNameFault f fault
 
 abbrev pub IsBeyond : List ℕ → Refusal → Type 0
 IsBeyond bytes r = IsText rules_limit bytes × ((f : File) × IsSyntax bytes f × IsFaulty f r)
@@ -31,23 +29,26 @@ RulesWhy bytes r =
     ((r ≡ TooLong file.Rules) × IsTooLong rules_limit bytes) ⊎ ((r ≡ NotText file.Rules) × IsNoText rules_limit bytes)
     ⊎ IsPlaced bytes r ⊎ IsBeyond bytes r
 
-names-why : (bytes : List ℕ) (kind : RefusalKind) (at : ℕ) (name : List ℕ) → RefusesNames bytes kind at name
-    → (f : File) × IsSyntax bytes f × IsFaulty f (At file.Rules kind at (Some name))
-names-why bytes kind at name (f, spelled, plain, (fault, is, first)) = (
+names-why : (bytes : List ℕ) (kind : RefusalKind) (at : ℕ) (name : Option (List ℕ)) → RefusesNames bytes kind at name
+    → (f : File) × IsSyntax bytes f × IsFaulty f (At file.Rules kind at name)
+names-why bytes kind at name (f, spelled, (fault, first, is, place, said)) = (
   f,
   spelled,
-  inr (record { kind = fault; named = record { text = name; at = at } }, ap (λ k. At file.Rules k at (Some name)) is, plain, first),
+  (
+    fault,
+    ap (λ k. At file.Rules k at name) is ∙ (ap (λ a. At file.Rules (name_kind fault.kind) a name) place ∙ ap (λ n. At file.Rules (name_kind fault.kind) fault.named.at n) said),
+    first,
+  ),
 )
 
 rules-why : (bytes : List ℕ) (r : Refusal) → RefusesRules bytes r → RulesWhy bytes r
-rules-why bytes RulesUnread (text, (f, spelled, unread)) = inr (inr (inr (text, (f, spelled, inl (refl, unread)))))
 rules-why bytes DataUnread h = absurd h
 rules-why bytes (TooLong file.Rules) h = inl (refl, h)
 rules-why bytes (TooLong file.Template) h = absurd h
 rules-why bytes (NotText file.Rules) h = inr (inl (refl, h))
 rules-why bytes (NotText file.Template) h = absurd h
-rules-why bytes (At file.Rules kind at None) h = inr (inr (inl (kind, at, refl, h.0, h.1)))
-rules-why bytes (At file.Rules kind at (Some name)) h = inr (inr (inr (h.0, names-why bytes kind at name h.1)))
+rules-why bytes (At file.Rules kind at name) (text, inl (none, h)) = inr (inr (inl (kind, at, ap (λ n. At file.Rules kind at n) none, text, h)))
+rules-why bytes (At file.Rules kind at name) (text, inr h) = inr (inr (inr (text, names-why bytes kind at name h)))
 rules-why bytes (At file.Template kind at name) h = absurd h
 
 -- the same refusal, or Syntax twice
@@ -64,15 +65,11 @@ placed-alike kind at other place r q is is' (inr (k, k')) =
 
 -- a syntax has one refusal, and none if it is a rule file
 faulty-one : (f : File) (r q : Refusal) → IsFaulty f r → IsFaulty f q → r ≡ q
-faulty-one f r q (inl (is, unread)) (inl (is', unread')) = is ∙ sym is'
-faulty-one f r q (inl (is, unread)) (inr (fault, is', plain, first)) = absurd (let both : false ≡ true = sym unread ∙ plain in cc)
-faulty-one f r q (inr (fault, is, plain, first)) (inl (is', unread)) = absurd (let both : false ≡ true = sym unread ∙ plain in cc)
-faulty-one f r q (inr (fault, is, plain, first)) (inr (fault', is', plain', first')) =
-    is ∙ (ap (λ (o : Fault). At file.Rules (name_kind o.kind) o.named.at (Some o.named.text)) (one-fault f fault fault' first first') ∙ sym is')
+faulty-one f r q (fault, is, first) (fault', is', first') =
+    is ∙ (ap (λ (o : Fault). At file.Rules (name_kind o.kind) o.named.at (name_said o.kind o.named.text)) (one-fault f fault fault' first first') ∙ sym is')
 
-faulty-apart : (f : File) (r : Refusal) → IsFaulty f r → is_plain f ≡ true → WellNamed f → ⊥
-faulty-apart f r (inl (is, unread)) plain named = let both : false ≡ true = sym unread ∙ plain in cc
-faulty-apart f r (inr (fault, is, plain', first)) plain named = fault-apart f fault first named
+faulty-apart : (f : File) (r : Refusal) → IsFaulty f r → WellNamed f → ⊥
+faulty-apart f r (fault, is, first) named = fault-apart f fault first named
 
 -- the conditions exclude each other
 long-apart : (bytes : List ℕ) → IsTooLong rules_limit bytes → length bytes ≤ rules_limit → ⊥
@@ -109,7 +106,7 @@ why-apart law bytes r rules (inl (is, long)) whole = long-apart bytes long whole
 why-apart law bytes r rules (inr (inl (is, bad))) whole = bad.1 whole.text.utf8
 why-apart law bytes r rules (inr (inr (inl (kind, at, is, text, h)))) whole = text-apart law bytes kind at rules text.within h whole.read
 why-apart law bytes r rules (inr (inr (inr (text, (f, spelled, why))))) whole =
-    faulty-apart rules r (subst (λ (g : File). IsFaulty g r) (syntax-one law bytes f rules spelled whole.read) why) whole.plain whole.named
+    faulty-apart rules r (subst (λ (g : File). IsFaulty g r) (syntax-one law bytes f rules spelled whole.read) why) whole.named
 
 pub refusal-apart : OneSyntax → (bytes : List ℕ) (r : Refusal) (rules : File) → RefusesRules bytes r → IsRuleFile bytes rules → ⊥
 refusal-apart law bytes r rules h whole = why-apart law bytes r rules (rules-why bytes r h) whole

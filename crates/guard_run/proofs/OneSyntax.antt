@@ -14,7 +14,7 @@ use Rattle.guard_parser.specs.Lexemes.{lexemes, lexeme_of, ending}
 use Rattle.guard_parser.specs.File.{Rules, IsSpelled, IsShallow, IsTooDeep, IsDeadEnd, IsBadRange, open_before}
 use Rattle.guard_parser.proofs.Count.{few_tokens}
 use Rattle.guard_run.specs.declared.ends.RefusalKind.{RefusalKind}
-use Rattle.guard_run.specs.declared.ends.RefusalKind.TheVariants.{Unclosed, BadByte, NumberRange, NestTooDeep, Syntax, BadRange, DuplicateRule, DuplicateName, UnknownRule, UnknownVariable, UnknownFunction, NeedsArguments, TakesNone, ArgCount, LiteralWanted, RecursiveRule, RecursiveVariable, TooDeep, DuplicateKey, BadPattern}
+use Rattle.guard_run.specs.declared.ends.RefusalKind.TheVariants.{Unclosed, BadByte, NumberRange, NestTooDeep, Syntax, BadRange, DuplicateRule, DuplicateName, UnknownRule, UnknownVariable, UnknownFunction, NeedsArguments, TakesNone, ArgCount, LiteralWanted, RecursiveRule, RecursiveVariable, TooDeep, DuplicateKey, Tab, Anchor, Tag, Directive, ManyDocuments, BadPattern}
 use Rattle.guard_run.specs.Inputs.{IsSyntax, RefusesTokens, RefusesSyntax, RefusesText}
 use Rattle.guard_run.specs.Outcome.{lex_kind}
 use Rattle.guard_run.proofs.Refusing.{pair-one}
@@ -63,6 +63,11 @@ lex-of text RecursiveVariable at h = absurd h
 lex-of text BadPattern at h = absurd h
 lex-of text TooDeep at h = absurd h
 lex-of text DuplicateKey at h = absurd h
+lex-of text Tab at h = absurd h
+lex-of text Anchor at h = absurd h
+lex-of text Tag at h = absurd h
+lex-of text Directive at h = absurd h
+lex-of text ManyDocuments at h = absurd h
 
 lex-alike : (text : List ℕ) (kind : RefusalKind) (at : ℕ) (other : RefusalKind) (place : ℕ) → RefusesTokens text kind at → RefusesTokens text other place
     → AreAlike kind at other place
@@ -134,6 +139,11 @@ syntax-why text tokens RecursiveVariable at h = absurd h
 syntax-why text tokens BadPattern at h = absurd h
 syntax-why text tokens TooDeep at h = absurd h
 syntax-why text tokens DuplicateKey at h = absurd h
+syntax-why text tokens Tab at h = absurd h
+syntax-why text tokens Anchor at h = absurd h
+syntax-why text tokens Tag at h = absurd h
+syntax-why text tokens Directive at h = absurd h
+syntax-why text tokens ManyDocuments at h = absurd h
 
 range-one : OneSyntax → (text : List ℕ) (tokens : List Token) (at place : ℕ) → IsBadRange text tokens at → IsBadRange text tokens place → at ≡ place
 range-one law text tokens at place (shallow, (f, spelled)) (shallow', (g, spelled')) =

@@ -1,11 +1,35 @@
--- Whether there are lets.
-use Rattle.std.proofs.Common.{◌≡◌, List, [], ◌∷◌, length, map, false, refl, arith}
-use Rattle.std.specs.Prelude.{◌==◌}
-use Rattle.std.proofs.lemmas.Bool.Decides.{nat_tests}
-use Rattle.guard_syntax.specs.declared.syntax.Let.{Let}
-use Rattle.guard_syntax.specs.Seen.{see_let, let_list}
-use Rattle.guard_run.specs.Plain.{are_no_lets}
+-- A template has no patterns: one of JSON by the lemma on JSON, one of YAML by the kinds of its values.
+use Rattle.std.proofs.Common.{◌≡◌, ℕ, List, false, refl}
+use Rattle.doc_values.specs.declared.kind.Kind.{Kind}
+use Rattle.doc_values.specs.declared.kind.Kind.TheVariants as kind
+use Rattle.doc_values.specs.Tree.{Label, Forest, Node}
+use Rattle.yaml_blocks.proofs.TreeInduction.{IsYamlKind, yaml-induction}
+use Rattle.value_compare.specs.Values.{is_pattern, has_pattern}
+use Rattle.value_compare.proofs.Patternless.{json-plain}
+use Rattle.guard_run.specs.Inputs.{IsTemplate, IsTreeOf}
+use Rattle.guard_run.specs.declared.words.Format.{Format}
+use Rattle.guard_run.specs.declared.words.Format.TheVariants as format
 
-pub no-lets : (ls : List Let) → (length ls == 0) ≡ are_no_lets (let_list (map see_let ls))
-no-lets [] = refl
-no-lets (l ∷ ls) = let some : (length (l ∷ ls) == 0) ≡ false = grind (arith, nat_tests) in some
+kind-plain : (k : Kind) → IsYamlKind k → is_pattern k ≡ false
+kind-plain kind.Null good = refl
+kind-plain (kind.Truth b) good = refl
+kind-plain (kind.Whole n) good = refl
+kind-plain (kind.Fraction d) good = refl
+kind-plain kind.Text good = refl
+kind-plain kind.List good = refl
+kind-plain kind.Map good = refl
+kind-plain kind.Pattern good = absurd good
+kind-plain (kind.Limits r) good = absurd good
+
+abbrev IsPlain : Forest → Type 0
+IsPlain tree = has_pattern tree ≡ false
+
+node-plain : (l : Label) (kids rest : Forest) → IsYamlKind l.kind → IsPlain kids → IsPlain rest → IsPlain (Node l kids rest)
+node-plain l kids rest good inner more = rw (kind-plain l.kind good, inner, more) refl
+
+tree-plain : (f : Format) (text : List ℕ) (tree : Forest) → IsTreeOf f text tree → has_pattern tree ≡ false
+tree-plain format.Json text tree json = json-plain text tree json
+tree-plain format.Yaml text tree read = yaml-induction IsPlain refl node-plain text tree read.0
+
+pub template-plain : (f : Format) (bytes : List ℕ) (tree : Forest) → IsTemplate f bytes tree → has_pattern tree ≡ false
+template-plain f bytes tree read = tree-plain f bytes tree read.read

@@ -15,10 +15,11 @@ use Rattle.guard_run.specs.declared.ends.Refusal.TheVariants.{At}
 use Rattle.guard_run.specs.declared.ends.RefusalKind.{RefusalKind}
 use Rattle.guard_run.specs.declared.ends.RefusalKind.TheVariants.{Unclosed, BadByte, NumberRange, NestTooDeep, Syntax, BadRange, TooDeep, DuplicateKey}
 use Rattle.guard_run.specs.declared.ends.Which.{Which}
+use Rattle.guard_run.specs.declared.refused.Refused.{Refused}
 use Rattle.guard_run.specs.declared.read.NotRead.{NotRead}
 use Rattle.guard_run.specs.declared.read.NotRead.TheVariants as not_read
 use Rattle.guard_run.specs.Inputs.{RefusesJson, RefusesTokens, RefusesSyntax}
-use Rattle.guard_run.specs.Outcome.{IsPlaced, IsNotRead, lex_kind, parse_kind, json_kind}
+use Rattle.guard_run.specs.Outcome.{IsPlaced, IsNotRead, IsRefusedAs, lex_kind, parse_kind, json_kind}
 
 pub pair-one : (p q : RefusalKind × ℕ) → Some p ≡ Some q → p ≡ q
 pair-one p q same = cc
@@ -77,3 +78,9 @@ placed-not_read Refuses which text (Some p) (not_read.Refused r) why is = (At wh
 placed-not_read Refuses which text (Some p) not_read.Memory why is = absurd is
 placed-not_read Refuses which text None (not_read.Refused r) why is = absurd is
 placed-not_read Refuses which text None not_read.Memory why is = tt
+
+-- and so is what is refused so
+pub refused-not_read : (Refuses : List ℕ → Refusal → Type 0) (text : List ℕ) (why : Option Refusal) (r : Refused)
+    → ((refusal : Refusal) → why ≡ Some refusal → Refuses text refusal) → IsRefusedAs why text (Some r) → IsNotRead Refuses text (not_read.Refused r)
+refused-not_read Refuses text (Some refusal) r gives is = (refusal, gives refusal refl, is)
+refused-not_read Refuses text None r gives is = absurd is

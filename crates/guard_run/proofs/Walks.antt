@@ -1,6 +1,11 @@
--- The rules and the parts outside rules that stand in a file, and what a store is over.
-use Rattle.std.proofs.Common.{◌≡◌, ℕ, ◌<◌, ◌++◌, List, [], ◌∷◌, length, map, get_or, arith, sym, ap, ◌∙◌, subst, zero, suc, refl, codes}
+-- The rules and the parts outside rules that stand in a file, and what trees are over.
+use Rattle.std.proofs.Common.{◌≡◌, ℕ, ◌<◌, ◌≤◌, ◌+◌, ◌++◌, add-one, List, [], ◌∷◌, length, map, take, get_or, arith, sym, ap, ◌∙◌, subst, zero, suc, refl, codes}
+use Rattle.std.specs.List.{flat_map}
+use Rattle.std.proofs.lemmas.Grind.{flat_map-append}
+use Rattle.std.proofs.lemmas.List.{append-nil, length-append, map-append}
+use Rattle.std.proofs.Math.Seq.{take-suc}
 use Rattle.doc_values.specs.Tree.{Forest}
+use Rattle.guard_syntax.specs.Named.{Named}
 use Rattle.guard_syntax.specs.Syntax as sx
 use Rattle.guard_syntax.specs.declared.syntax.Disj.{Disj}
 use Rattle.guard_syntax.specs.declared.syntax.Rule.{Rule}
@@ -9,14 +14,19 @@ use Rattle.guard_syntax.specs.Seen.{see_disj, see_rule, disj_list}
 use Rattle.name_table.specs.Pieces.{OfFile, pieces_rules, pieces_rule, pieces_lets, pieces_disjs}
 use Rattle.name_table.specs.Files.{file_of}
 use Rattle.name_table.specs.declared.file.RuleFile.{RuleFile}
-use Rattle.value_compare.specs.Known.{Known, Made}
-use Rattle.value_compare.specs.Stores.{see_store}
 use Rattle.value_compare.specs.declared.store.Store.{Store}
-use Rattle.query_steps.specs.Meaning.{root_ref, disj_verdicts}
-use Rattle.query_steps.specs.Verdicts.{conjunction}
-use Rattle.guard_run.specs.Reported.{Reported, known_of, of_loose}
-use Rattle.guard_run.specs.Within.{IsAmong, StandsIn}
-use Rattle.guard_run.proofs.Standing.{IsAmong-inner, IsAmong-last, IsAmong-first, IsAmong-behind}
+use Rattle.query_steps.specs.Seeing.{world_of}
+use Rattle.query_steps.specs.Spots.{Answers, World}
+use Rattle.query_steps.specs.SpotTurns.{loose_verdict, rule_verdict}
+use Rattle.query_steps.specs.SpotFunctions.{IsAnswering}
+use Rattle.plain_evaluator.specs.States.{Answering, Grows, State, see_trees}
+use Rattle.plain_evaluator.proofs.Growing.{answering-on}
+use Rattle.guard_run.specs.Listed.{AreLinesOf}
+use Rattle.guard_run.specs.declared.report.Lines.{Lines}
+use Rattle.plain_evaluator.specs.declared.trees.Trees.{Trees}
+use Rattle.guard_run.specs.Reported.{Reported, of_loose, of_rule, if_plain, reported, world_over}
+use Rattle.name_table.specs.Within.{IsAmong, StandsIn}
+use Rattle.name_table.proofs.Among.{IsAmong-inner, IsAmong-last, IsAmong-first, IsAmong-behind}
 
 abbrev of_default : Verdict → Reported
 of_default v = record { name = codes "default"; verdict = v }
@@ -48,15 +58,78 @@ loose-stands f =
     (IsAmong-last (pieces_rules f.rules) some) (IsAmong-last (pieces_lets f.lets) (pieces_rules f.rules ++ some)))
 
 -- the parts outside rules, where there are some, have one verdict
-pub loose-one : (known : Known) (ds : List Disj) (v : Verdict) → (length ds ≡ 0 → ⊥) → v ≡ conjunction (disj_verdicts known root_ref (disj_list (map see_disj ds)))
-    → of_default v ∷ [] ≡ of_loose known (disj_list (map see_disj ds))
-loose-one known [] v some is = absurd (some refl)
-loose-one known (d ∷ ds) v some is = ap (λ (v : Verdict). of_default v ∷ []) is
+pub loose-one : (world : World) (ds : List Disj) (v : Verdict) → (length ds ≡ 0 → ⊥) → v ≡ loose_verdict world (disj_list (map see_disj ds))
+    → of_default v ∷ [] ≡ of_loose world (disj_list (map see_disj ds))
+loose-one world [] v some is = absurd (some refl)
+loose-one world (d ∷ ds) v some is = ap (λ (v : Verdict). of_default v ∷ []) is
 
--- what a store is over
-abbrev over : Forest → RuleFile → List Made → Known
-over tree f made = record { template = tree; file = file_of f; made = made }
+-- what trees over a store are over
+pub trees-world : (t : Trees) (s : Store) (f : RuleFile) (tree : Forest) (answers : Answers) → t.store ≡ s → s.doc.now ≡ tree → s.file.now ≡ f
+    → world_of (see_trees t).known answers ≡ world_over (file_of f) tree answers
+trees-world t s f tree answers is d e =
+    ap (λ (s : Store). world_over (file_of s.file.now) s.doc.now answers) is
+    ∙ (ap (λ (t : Forest). world_over (file_of s.file.now) t answers) d ∙ ap (λ (g : RuleFile). world_over (file_of g) tree answers) e)
 
-pub store-known : (s : Store) (f : RuleFile) (tree : Forest) → s.doc.now ≡ tree → s.file.now ≡ f → s.made ≡ [] → see_store s ≡ known_of (file_of f) tree
-store-known s f tree d e m =
-    ap (λ t. over t s.file.now s.made) d ∙ (ap (λ g. over tree g s.made) e ∙ ap (λ ms. over tree f ms) m)
+pub trees-file : (t : Trees) (s : Store) (f : RuleFile) → t.store ≡ s → s.file.now ≡ f → (see_trees t).known.file ≡ file_of f
+trees-file t s f is e = ap (λ (s : Store). file_of s.file.now) is ∙ ap file_of e
+
+pub trees-loose : (t : Trees) (s : Store) (f : RuleFile) → t.store ≡ s → s.file.now ≡ f → (ds : List Disj) → ds ≡ f.raw.loose.items
+    → (see_trees t).known.file.loose ≡ disj_list (map see_disj ds)
+trees-loose t s f is e ds whole =
+    ap (λ (g : sx.File). g.loose) (trees-file t s f is e) ∙ ap (λ (xs : List Disj). disj_list (map see_disj xs)) (sym whole)
+
+-- the lines of the rules, and behind them that of the parts outside rules, are the lines of all that is reported
+pub lines-all : (t : Trees) (s : Store) (f : RuleFile) (tree : Forest) → t.store ≡ s → s.doc.now ≡ tree → s.file.now ≡ f
+    → (after : State) → Grows (see_trees t) after → (ds : List Disj) → ds ≡ f.raw.loose.items → (lines all : Lines)
+    → Answering (see_trees t) (λ w. AreLinesOf lines (flat_map (of_rule w) w.file.rules))
+    → Answering after (λ w. (before : List Reported) → AreLinesOf lines before → AreLinesOf all (before ++ of_loose w (disj_list (map see_disj ds))))
+    → (answers : Answers) → IsAnswering (world_over (file_of f) tree answers) → AreLinesOf all (reported (world_over (file_of f) tree answers))
+lines-all t s f tree is d e after grows ds whole lines all of_rules of_others answers obey =
+    let known : World = world_of (see_trees t).known answers in
+    let same : known ≡ world_over (file_of f) tree answers = trees-world t s f tree answers is d e in
+    let obeyed : IsAnswering known = subst IsAnswering (sym same) obey in
+    let rules : List Reported = flat_map (of_rule known) known.file.rules in
+    let more : AreLinesOf all (rules ++ of_loose known (disj_list (map see_disj ds))) =
+    answering-on (see_trees t) after grows
+    (λ w. (before : List Reported) → AreLinesOf lines before → AreLinesOf all (before ++ of_loose w (disj_list (map see_disj ds)))) of_others answers obeyed
+    rules (of_rules answers obeyed) in
+    let both : AreLinesOf all (reported known) =
+    subst (λ (loose : sx.Disjs). AreLinesOf all (rules ++ of_loose known loose)) (sym (trees-loose t s f is e ds whole)) more in
+    subst (λ (w : World). AreLinesOf all (reported w)) same both
+
+-- what is reported of one rule more, in turn
+pub rule-more : (world : World) (rs : List Rule) (i : ℕ) (r : Rule) → i < length rs → r ≡ get_or rs i r
+    → flat_map (of_rule world) (map see_rule (take i rs)) ++ of_rule world (see_rule r) ≡ flat_map (of_rule world) (map see_rule (take (i + 1) rs))
+rule-more world rs i r within is =
+    let before : List sx.Rule = map see_rule (take i rs) in
+    let longer : take (i + 1) rs ≡ take i rs ++ (r ∷ []) =
+    ap (λ n. take n rs) (add-one i) ∙ (take-suc rs i r within ∙ ap (λ (x : Rule). take i rs ++ (x ∷ [])) (sym is)) in
+    sym (
+    ap (λ (xs : List Rule). flat_map (of_rule world) (map see_rule xs)) longer
+    ∙ (ap (flat_map (of_rule world)) (map-append see_rule (take i rs) (r ∷ []))
+    ∙ (flat_map-append (of_rule world) before (see_rule r ∷ [])
+    ∙ ap (λ (xs : List Reported). flat_map (of_rule world) before ++ xs) (append-nil (of_rule world (see_rule r)))))
+    )
+
+-- A rule with parameters is not reported.
+
+pub not-reported : (v : Reported) (ps : List Named) → (length ps ≡ 0 → ⊥) → if_plain v ps ≡ []
+not-reported v [] some = absurd (some refl)
+not-reported v (p ∷ ps) some = refl
+
+pub one-reported : (v : Reported) (ps : List Named) → length ps ≡ 0 → if_plain v ps ≡ v ∷ []
+one-reported v [] none = refl
+one-reported v (p ∷ ps) none = absurd (omega arith)
+
+few-reported : (v : Reported) (ps : List Named) → length (if_plain v ps) ≤ 1
+few-reported v [] = omega arith
+few-reported v (p ∷ ps) = omega arith
+
+-- no more are reported than there are rules
+pub reported-few : (world : World) (rs : List sx.Rule) → length (flat_map (of_rule world) rs) ≤ length rs
+reported-few world [] = omega arith
+reported-few world (r ∷ rs) =
+    let one = few-reported (record { name = r.name.text; verdict = rule_verdict world r }) r.params in
+    let more = reported-few world rs in
+    let both = length-append (of_rule world r) (flat_map (of_rule world) rs) in
+    omega arith

@@ -8,19 +8,22 @@ use Rattle.guard_syntax.specs.Syntax.{File}
 use Rattle.value_compare.specs.Books.{IsNext}
 use Rattle.value_compare.specs.Finds.{pattern_in}
 use Rattle.value_compare.specs.Patterns.{Written, patterns_of}
-use Rattle.guard_run.specs.Request.{Request, request, ends_in_json}
+use Rattle.guard_run.specs.Request.{Request, request, format_of}
 use Rattle.guard_run.specs.Inputs.{IsRuleFile, RefusesRules, IsTemplate, RefusesTemplate}
+use Rattle.query_steps.specs.SpotFunctions.{IsAnswering}
+use Rattle.query_steps.specs.Spots.{Answers, World}
 use Rattle.query_steps.specs.Verdicts.{is_fail}
 use Rattle.guard_run.specs.Report.{report}
-use Rattle.guard_run.specs.Reported.{known_of, verdicts_of}
+use Rattle.guard_run.specs.Reported.{world_over, verdicts_of}
 use Rattle.guard_run.specs.Lines.{usage_line, refusal_line, read_fault_line, pattern_line, write_fault_line, memory_line}
 use Rattle.guard_run.specs.declared.ends.End.{End}
 use Rattle.guard_run.specs.declared.ends.End.TheVariants as end_is
 use Rattle.guard_run.specs.declared.ends.Refusal.{Refusal}
-use Rattle.guard_run.specs.declared.ends.Refusal.TheVariants.{DataUnread, At}
+use Rattle.guard_run.specs.declared.ends.Refusal.TheVariants.{At}
 use Rattle.guard_run.specs.declared.ends.RefusalKind.TheVariants.{Syntax, BadPattern}
 use Rattle.guard_run.specs.declared.ends.Which.{Which}
 use Rattle.guard_run.specs.declared.ends.Which.TheVariants as file
+use Rattle.guard_run.specs.declared.words.Format.{Format}
 
 -- the exit status of each end
 abbrev pub status_of : End → ℕ
@@ -33,7 +36,7 @@ status_of (end_is.WriteFault pipe) = 6
 status_of end_is.PatternRefused = 6
 status_of end_is.Memory = 7
 
--- The end by the order of work: the words, the rules, the name of the template, the template, the patterns, the verdicts.
+-- The end by the order of work: the words, the rules, the template, the patterns, the verdicts.
 
 -- how a call ends, and what out and err take
 pub record Ended : Type 0 where
@@ -46,12 +49,16 @@ abbrev pub refused : List ℕ → Refusal → Ended
 refused bytes refusal = record { how = end_is.Refused refusal; out = []; err = refusal_line bytes refusal }
 
 -- a template that was judged by a rule file: Failed if a reported verdict is FAIL, else Passed; out takes the report
-abbrev pub judged : File → Forest → Ended
-judged rules tree = record {
-  how = if list_any is_fail (verdicts_of (known_of rules tree) rules) then end_is.Failed else end_is.Passed;
-  out = report (known_of rules tree) rules;
+abbrev pub judged : World → Ended
+judged world = record {
+  how = if list_any is_fail (verdicts_of world) then end_is.Failed else end_is.Passed;
+  out = report world;
   err = [];
 }
+
+-- and so it was by answers that functions give, which are what their table says
+abbrev pub IsJudged : File → Forest → Ended → Type 0
+IsJudged rules tree e = (answers : Answers) × IsAnswering (world_over rules tree answers) × (e ≡ judged (world_over rules tree answers))
 
 -- what is told of the files before the call: by the name of each its content, if that is told
 abbrev pub Contents : Type 0
@@ -66,24 +73,23 @@ IsContent told bytes = ForSome told (λ content. bytes ≡ content)
 abbrev pub EndOfPatterns : List ℕ → File → Forest → Ended → Type 0
 EndOfPatterns source rules tree e =
     ((text : List ℕ) × (at : ℕ) × IsNext rules text at × IsNone (pattern_in text) × (e ≡ refused source (At file.Rules BadPattern at None)))
-    ⊎ (All (λ (w : Written). IsSome (pattern_in w.text)) (patterns_of rules) × (e ≡ judged rules tree))
+    ⊎ (All (λ (w : Written). IsSome (pattern_in w.text)) (patterns_of rules) × IsJudged rules tree e)
 
--- with the rules read and the template's bytes: they are refused, or they are a template and the patterns are read
-abbrev pub EndOfTemplate : List ℕ → File → List ℕ → Ended → Type 0
-EndOfTemplate source rules bytes e =
-    ((refusal : Refusal) × RefusesTemplate bytes refusal × (e ≡ refused bytes refusal))
-    ⊎ ((tree : Forest) × IsTemplate bytes tree × EndOfPatterns source rules tree e)
+-- with the rules read and the template's bytes: in its format they are refused, or they are a template and the patterns are read
+abbrev pub EndOfTemplate : Format → List ℕ → File → List ℕ → Ended → Type 0
+EndOfTemplate f source rules bytes e =
+    ((refusal : Refusal) × RefusesTemplate f bytes refusal × (e ≡ refused bytes refusal))
+    ⊎ ((tree : Forest) × IsTemplate f bytes tree × EndOfPatterns source rules tree e)
 
--- with the rules read: the template is refused unless its name ends in `.json`, before any bytes of it are loaded
-abbrev pub EndOfName : Bool → Option (List ℕ) → List ℕ → File → Ended → Type 0
-EndOfName false told source rules e = e ≡ refused [] DataUnread
-EndOfName true told source rules e = (bytes : List ℕ) × IsContent told bytes × EndOfTemplate source rules bytes e
+-- with the rules read: the template is loaded
+abbrev pub EndOfLoad : Format → Option (List ℕ) → List ℕ → File → Ended → Type 0
+EndOfLoad f told source rules e = (bytes : List ℕ) × IsContent told bytes × EndOfTemplate f source rules bytes e
 
 -- with the bytes of the rules: they are refused, or they are a rule file and the work goes on
 abbrev pub EndOfRules : Request → Contents → List ℕ → Ended → Type 0
 EndOfRules q told bytes e =
     ((refusal : Refusal) × RefusesRules bytes refusal × (e ≡ refused bytes refusal))
-    ⊎ ((rules : File) × IsRuleFile bytes rules × EndOfName (ends_in_json q.template) (told q.template) bytes rules e)
+    ⊎ ((rules : File) × IsRuleFile bytes rules × EndOfLoad (format_of q.template) (told q.template) bytes rules e)
 
 -- with what the words ask for
 abbrev pub EndOfRequest : Option Request → Contents → Ended → Type 0
@@ -123,25 +129,24 @@ abbrev pub name_of : Which → Request → List ℕ
 name_of file.Rules q = q.rules
 name_of file.Template q = q.template
 
--- the order of work comes to the load of a file: to the rules at once, to a template named `.json` once the rules are read
+-- the order of work comes to the load of a file: to the rules at once, to the template once the rules are read
 abbrev pub ComesTo : Which → Request → Contents → Type 0
 ComesTo file.Rules q told = Unit {0}
-ComesTo file.Template q told = (bytes : List ℕ) × IsContent (told q.rules) bytes
-    × ((rules : File) × IsRuleFile bytes rules) × (ends_in_json q.template ≡ true)
+ComesTo file.Template q told = (bytes : List ℕ) × IsContent (told q.rules) bytes × ((rules : File) × IsRuleFile bytes rules)
 
 -- the words ask for a file whose load the order of work comes to
 abbrev pub Loads : Which → List (List ℕ) → Contents → Request → Type 0
 Loads which words told q = (request words ≡ Some q) × ComesTo which q told
 
--- with the rules read, the order of work comes to a pattern: the template is named `.json` and read, and so is each pattern of the rules before this one
-abbrev pub ComesToPattern : Bool → Option (List ℕ) → File → List ℕ → Type 0
-ComesToPattern named told rules text = (named ≡ true) × ((bytes : List ℕ) × IsContent told bytes × ((tree : Forest) × IsTemplate bytes tree))
+-- with the rules read, the order of work comes to a pattern: the template is read, and so is each pattern of the rules before this one
+abbrev pub ComesToPattern : Format → Option (List ℕ) → File → List ℕ → Type 0
+ComesToPattern f told rules text = ((bytes : List ℕ) × IsContent told bytes × ((tree : Forest) × IsTemplate f bytes tree))
     × ((at : ℕ) × IsNext rules text at)
 
 -- the words ask for rules with a pattern of this text, which the order of work comes to
 abbrev pub Makes : List (List ℕ) → Contents → List ℕ → Type 0
 Makes words told text = (q : Request) × (request words ≡ Some q) × ((bytes : List ℕ) × IsContent (told q.rules) bytes
-    × ((rules : File) × IsRuleFile bytes rules × ComesToPattern (ends_in_json q.template) (told q.template) rules text))
+    × ((rules : File) × IsRuleFile bytes rules × ComesToPattern (format_of q.template) (told q.template) rules text))
 
 -- the counts of faults of what is read: of each file by its name, and of each pattern by its text
 pub record Counts : Type 0 where

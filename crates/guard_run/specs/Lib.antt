@@ -3,9 +3,7 @@ pub mod Inputs
 pub mod Lines
 pub mod Listed
 pub mod Outcome
-pub mod Plain
 pub mod Report
 pub mod Reported
 pub mod Request
-pub mod Within
 pub mod Writing

@@ -2,9 +2,9 @@
 use Rattle.std.specs.Prelude.{ℕ, ◌++◌, List, [], Option, Some, None, codes, decimal}
 use Rattle.doc_values.specs.Position.{line_at, column_at}
 use Rattle.guard_run.specs.declared.ends.Refusal.{Refusal}
-use Rattle.guard_run.specs.declared.ends.Refusal.TheVariants.{RulesUnread, DataUnread, TooLong, NotText, At}
+use Rattle.guard_run.specs.declared.ends.Refusal.TheVariants.{DataUnread, TooLong, NotText, At}
 use Rattle.guard_run.specs.declared.ends.RefusalKind.{RefusalKind}
-use Rattle.guard_run.specs.declared.ends.RefusalKind.TheVariants.{Unclosed, BadByte, NumberRange, NestTooDeep, Syntax, BadRange, DuplicateRule, DuplicateName, UnknownRule, UnknownVariable, UnknownFunction, NeedsArguments, TakesNone, ArgCount, LiteralWanted, RecursiveRule, RecursiveVariable, TooDeep, DuplicateKey, BadPattern}
+use Rattle.guard_run.specs.declared.ends.RefusalKind.TheVariants.{Unclosed, BadByte, NumberRange, NestTooDeep, Syntax, BadRange, DuplicateRule, DuplicateName, UnknownRule, UnknownVariable, UnknownFunction, NeedsArguments, TakesNone, ArgCount, LiteralWanted, RecursiveRule, RecursiveVariable, TooDeep, DuplicateKey, Tab, Anchor, Tag, Directive, ManyDocuments, BadPattern}
 use Rattle.guard_run.specs.declared.ends.Which.{Which}
 use Rattle.guard_run.specs.declared.ends.Which.TheVariants as file
 
@@ -50,6 +50,11 @@ kind_word RecursiveRule = codes "RecursiveRule"
 kind_word RecursiveVariable = codes "RecursiveVariable"
 kind_word TooDeep = codes "TooDeep"
 kind_word DuplicateKey = codes "DuplicateKey"
+kind_word Tab = codes "Tab"
+kind_word Anchor = codes "Anchor"
+kind_word Tag = codes "Tag"
+kind_word Directive = codes "Directive"
+kind_word ManyDocuments = codes "ManyDocuments"
 kind_word BadPattern = codes "BadPattern"
 
 -- the name that a refusal is about, behind its kind
@@ -68,7 +73,6 @@ placed_line which bytes at word = codes "guard: " ++ file_word which ++ codes " 
 
 -- the line of a refusal of a file with these bytes
 abbrev pub refusal_line : List ℕ → Refusal → List ℕ
-refusal_line bytes RulesUnread = whole_line file.Rules (codes "RulesUnread")
 refusal_line bytes DataUnread = whole_line file.Template (codes "DataUnread")
 refusal_line bytes (TooLong which) = whole_line which (codes "TooLong")
 refusal_line bytes (NotText which) = whole_line which (codes "NotText")

@@ -77,6 +77,12 @@ IsPlaced which (Some p) text (not_read.Refused r) = said r ≡ refused text (At 
 IsPlaced which None text not_read.Memory = Unit {0}
 IsPlaced _ _ _ _ = ⊥
 
+-- what comes of a refusal of a text, if it is no want of memory: the refusal with its line
+abbrev pub IsRefusedAs : Option Refusal → List ℕ → Option Refused → Type 0
+IsRefusedAs (Some refusal) text (Some r) = said r ≡ refused text refusal
+IsRefusedAs None text None = Unit {0}
+IsRefusedAs _ _ _ = ⊥
+
 -- a rule file that was loaded and read, or is refused
 abbrev pub AreLoaded : Option (List ℕ) → LoadedRules → Type 0
 AreLoaded told (rules_load.Read rules) = IsContent told rules.bytes.items × IsRuleFile rules.bytes.items (file_of rules.file)

@@ -1,31 +1,38 @@
 -- Which verdicts are reported.
 use Rattle.std.specs.Prelude.{ℕ, List, [], ◌∷◌, ◌++◌, map, codes}
+use Rattle.std.specs.List.{flat_map}
 use Rattle.doc_values.specs.Tree.{Forest}
+use Rattle.guard_syntax.specs.Named.{Named}
 use Rattle.guard_syntax.specs.Syntax.{File, Rule, Disjs, no_disjs, more_disjs}
 use Rattle.guard_syntax.specs.declared.row.Verdict.{Verdict}
-use Rattle.value_compare.specs.Known.{Known}
-use Rattle.query_steps.specs.Meaning.{loose_verdict, rule_verdict}
+use Rattle.query_steps.specs.Spots.{Answers, World}
+use Rattle.query_steps.specs.SpotTurns.{loose_verdict, rule_verdict}
 
--- what rows refer to when a template is judged by a rule file: no call has made a tree
-abbrev pub known_of : File → Forest → Known
-known_of file tree = record { template = tree; file = file; made = [] }
+-- a template that is judged by a rule file, by what functions answer
+abbrev pub world_over : File → Forest → Answers → World
+world_over file tree answers = record { template = tree; file = file; answers = answers }
 
 -- a verdict under its name
 pub record Reported : Type 0 where
   pub name : List ℕ
   pub verdict : Verdict
 
-abbrev pub of_rule : Known → Rule → Reported
-of_rule known rule = record { name = rule.name.text; verdict = rule_verdict known rule }
+-- a rule with parameters has no verdict of its own
+abbrev pub if_plain : Reported → List Named → List Reported
+if_plain verdict [] = verdict ∷ []
+if_plain verdict (param ∷ params) = []
+
+abbrev pub of_rule : World → Rule → List Reported
+of_rule world rule = if_plain (record { name = rule.name.text; verdict = rule_verdict world rule }) rule.params
 
 -- the parts outside rules, if there are some, are reported as `default`: they are judged at the root of the template
-abbrev pub of_loose : Known → Disjs → List Reported
-of_loose known no_disjs = []
-of_loose known (more_disjs d ds) = record { name = codes "default"; verdict = loose_verdict known (more_disjs d ds) } ∷ []
+abbrev pub of_loose : World → Disjs → List Reported
+of_loose world no_disjs = []
+of_loose world (more_disjs d ds) = record { name = codes "default"; verdict = loose_verdict world (more_disjs d ds) } ∷ []
 
--- each rule in the order of the file, `default` last; no rule with parameters is evaluated so far
-abbrev pub reported : Known → File → List Reported
-reported known file = map (of_rule known) file.rules ++ of_loose known file.loose
+-- each rule without parameters in the order of the file, `default` last
+abbrev pub reported : World → List Reported
+reported world = flat_map (of_rule world) world.file.rules ++ of_loose world world.file.loose
 
-abbrev pub verdicts_of : Known → File → List Verdict
-verdicts_of known file = map (λ (r : Reported). r.verdict) (reported known file)
+abbrev pub verdicts_of : World → List Verdict
+verdicts_of world = map (λ (r : Reported). r.verdict) (reported world)

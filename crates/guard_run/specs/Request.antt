@@ -1,6 +1,8 @@
 -- The words of a call, and the files that they ask for.
 use Rattle.std.specs.Prelude.{ℕ, List, [], ◌∷◌, Option, Some, None, Bool, true, false, ◌&&◌, codes, bytes_eq, nat_eq, if◌then◌else◌}
 use Rattle.std.specs.List.{ends_with}
+use Rattle.guard_run.specs.declared.words.Format.{Format}
+use Rattle.guard_run.specs.declared.words.Format.TheVariants.{Json, Yaml}
 
 -- what is asked for: a rule file and a template, each by its name
 pub record Request : Type 0 where
@@ -20,6 +22,6 @@ request (command ∷ first ∷ rules ∷ second ∷ template ∷ []) =
     then Some (record { rules = rules; template = template }) else None
 request _ = None
 
--- whether the name of a template says that it is JSON: it ends in `.json`
-abbrev pub ends_in_json : List ℕ → Bool
-ends_in_json name = ends_with nat_eq name (codes ".json")
+-- the format in which a template is read, by its name: JSON where that ends in `.json`, YAML where it ends otherwise
+abbrev pub format_of : List ℕ → Format
+format_of name = if ends_with nat_eq name (codes ".json") then Json else Yaml

@@ -4,12 +4,10 @@ use std::process::Abort;
 use std::test::Fail;
 
 /// A rule `r` that is SKIP.
-const SKIP: Wanted = ("passed", 0, "rule r SKIP\ntotal 0 PASS 0 FAIL 1 SKIP\n", "");
-
-const UNREAD: Wanted = ("refused", 5, "", "guard: rules: RulesUnread\n");
+pub(crate) const SKIP: Wanted = ("passed", 0, "rule r SKIP\ntotal 0 PASS 0 FAIL 1 SKIP\n", "");
 
 /// Expects of each rule file and template what stands beside them.
-fn expect_each(
+pub(crate) fn expect_each(
     rt: &impl Abort,
     alloc: Global,
     rows: &[(&'static str, &'static str, Wanted)],
@@ -681,49 +679,5 @@ fn reports_rules_and_then_other_parts(rt: HostRuntime) -> Result<(), Fail> {
         ),
     ];
     expect_each(&rt, rt.alloc(), &rows)?;
-    Ok(())
-}
-
-#[test]
-fn refuses_what_is_not_evaluated(rt: HostRuntime) -> Result<(), Fail> {
-    let rows = [
-        "let x = 1",
-        "rule r { let x = 1 A exists }",
-        "rule r { %x exists }",
-        "rule r { A == %x }",
-        "rule r { A.%x exists }",
-        "rule r { A[ x | B exists ] exists }",
-        "rule r { A[ x | keys == 'a' ] exists }",
-        "rule r { A exists } rule s { r }",
-        "rule r { A exists } rule s { not r }",
-        "rule r { A exists } rule s { r(1) }",
-        "rule r(x) { A exists }",
-        "rule r { A == count(B) }",
-    ];
-    for rules in rows {
-        expect_each(&rt, rt.alloc(), &[(rules, "{}", UNREAD)])?;
-    }
-    Ok(())
-}
-
-#[test]
-fn refuses_what_is_not_evaluated_inside_others(rt: HostRuntime) -> Result<(), Fail> {
-    let rows = [
-        "A exists %x exists",
-        "rule r { A exists or %x exists }",
-        "rule r { A { %x exists } }",
-        "rule r { A.%x { B exists } }",
-        "rule r { A { let x = 1 B exists } }",
-        "rule r when %x exists { A exists }",
-        "rule r { when s { A exists } }",
-        "rule r { A::B when %x exists { A exists } }",
-        "rule r { A::B { s } }",
-        "rule r { A[ %x exists ] exists }",
-        "rule r { A[ keys == %x ] exists }",
-        "rule r { A == B[ C == count(D) ] }",
-    ];
-    for rules in rows {
-        expect_each(&rt, rt.alloc(), &[(rules, "{}", UNREAD)])?;
-    }
     Ok(())
 }

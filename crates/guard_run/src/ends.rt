@@ -41,10 +41,20 @@ pub enum RefusalKind {
     RecursiveRule,
     /// In rules, a let or a capture that reaches itself, at its first use of a name by which it does.
     RecursiveVariable,
-    /// In a template, a collection inside 128 others, at its opening bracket.
+    /// In a template, a collection inside 128 others, at its first byte.
     TooDeep,
-    /// In a template, a key that the map has already, at its opening quotation mark.
+    /// In a template, a key that the map has already, at its first byte.
     DuplicateKey,
+    /// In a template of YAML, a tab in the white space in front of a line's content.
+    Tab,
+    /// In a template of YAML, an anchor or an alias, at its first byte.
+    Anchor,
+    /// In a template of YAML, a tag that is no short one, or a second one, at its first byte.
+    Tag,
+    /// In a template of YAML, a line in front of the document that begins with `%`.
+    Directive,
+    /// In a template of YAML, a mark of a document or content that makes a further one, at its first byte.
+    ManyDocuments,
     /// In rules, a pattern whose text is none, or nests deeper than 250 levels, at the slash or quote that opens it.
     BadPattern,
 }
@@ -52,10 +62,7 @@ pub enum RefusalKind {
 /// Why a file is refused.
 #[derive(Debug, Drop)]
 pub enum Refusal {
-    /// The rules are a rule file, but hold what is not evaluated so far: a let, a variable, a capture, parameters, or a
-    /// reference or call of a rule or a function.
-    RulesUnread,
-    /// The template's name does not end in `.json`.
+    /// The template is read as YAML and has no tree in its profile, and no refusal with a place comes for it so far.
     DataUnread,
     /// The file has more bytes than it may have: rules 1 MiB, a template 8 MiB.
     TooLong(Which),

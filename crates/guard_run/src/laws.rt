@@ -2,6 +2,7 @@ ghost use Rattle.std.specs.Prelude.{◌≡◌, ℕ, List, Some};
 ghost use Rattle.guard_run.specs.Request.{Request, request};
 ghost use Rattle.guard_syntax.specs.Syntax.{File};
 ghost use Rattle.guard_run.specs.End.{Ended, EndOf, EndOfTemplate, Contents, AreSame};
+ghost use Rattle.guard_run.specs.declared.words.Format.{Format};
 
 use guard_parser::one_syntax;
 use json_reader::{one_refusal, one_tree, refused_apart};
@@ -20,10 +21,10 @@ pub fn only_end(rules: &[u8], template: &[u8])
     only_template(template);
 }
 
-/// The law that a template has one end, whatever the rules.
+/// The law that a template has one end, whatever its format and the rules.
 fn only_template(bytes: &[u8])
-    ensures { (source : List ℕ) (rules : File) (e other : Ended) → EndOfTemplate source rules bytes.now e
-        → EndOfTemplate source rules bytes.now other → e ≡ other }
+    ensures { (f : Format) (source : List ℕ) (rules : File) (e other : Ended)
+        → EndOfTemplate f source rules bytes.now e → EndOfTemplate f source rules bytes.now other → e ≡ other }
 {
     match str::from_utf8(bytes) {
         Ok(text) => {

@@ -142,6 +142,11 @@ fn kind_word(kind: RefusalKind) -> &'static str
         RefusalKind::RecursiveVariable => "RecursiveVariable",
         RefusalKind::TooDeep => "TooDeep",
         RefusalKind::DuplicateKey => "DuplicateKey",
+        RefusalKind::Tab => "Tab",
+        RefusalKind::Anchor => "Anchor",
+        RefusalKind::Tag => "Tag",
+        RefusalKind::Directive => "Directive",
+        RefusalKind::ManyDocuments => "ManyDocuments",
         RefusalKind::BadPattern => "BadPattern",
     }
 }

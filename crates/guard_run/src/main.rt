@@ -3,33 +3,35 @@
 //! The top call `guard` does the program's work over any files and any sinks. Its contract is the program's promise: the
 //! words and the contents of the files decide the end, what the standard output takes and what the standard error takes,
 //! and in place of that end come only counted faults of the files, of the maker of patterns and of the sinks, and want of
-//! memory. It stands on the lexer and the parser of rules, on the test of their names, on the steps of queries, on the tests
-//! on rows, on the reader of JSON, on located trees and on the traits of files, sinks and makers of patterns. Only `main`
+//! memory. It stands on the lexer and the parser of rules, on the test of their names, on the evaluator and on the tests on rows, on the readers of JSON and of YAML, on located trees and on the traits of files, sinks and makers of patterns. Only `main`
 //! knows the system: it hands the words, the real files and streams and the crate of regular expressions to `guard`.
 //!
-//! The whole language is read. What is evaluated of it so far is said in `rules`.
+//! The whole language is read and evaluated.
 #![tactic(auto)]
 
 #[cfg(test)]
 mod block_tests;
 mod ends;
+#[cfg(test)]
+mod function_tests;
 mod guard;
 mod laws;
 mod line;
 mod load;
+#[cfg(test)]
+mod name_tests;
 mod outcome;
 mod read;
 mod refused;
 mod report;
-mod rows;
-mod rules;
 #[cfg(test)]
 mod tests;
 #[cfg(test)]
 mod verdict_tests;
-mod verdicts;
 mod words;
 mod write;
+#[cfg(test)]
+mod yaml_tests;
 
 use ends::End;
 use guard_io::{RealFiles, RealSink};

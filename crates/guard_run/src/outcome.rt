@@ -5,19 +5,20 @@ ghost use Rattle.guard_syntax.specs.Syntax.{File};
 ghost use Rattle.name_table.specs.Files.{file_of};
 ghost use Rattle.value_compare.specs.Books.{IsNext};
 ghost use Rattle.value_compare.specs.Values.{has_pattern};
-ghost use Rattle.guard_run.specs.Request.{Request, request, ends_in_json};
+ghost use Rattle.guard_run.specs.Request.{Request, request, format_of};
 ghost use Rattle.guard_run.specs.Inputs.{IsRuleFile, IsTemplate};
-ghost use Rattle.guard_run.specs.End.{IsContent, EndOf, EndOfName, EndOfRequest, EndOfTemplate, EndOfPatterns, ComesTo, ComesToPattern, Loads, name_of};
+ghost use Rattle.guard_run.specs.End.{IsContent, EndOf, EndOfLoad, EndOfRequest, EndOfTemplate, EndOfPatterns, ComesTo, ComesToPattern, Loads, name_of};
 ghost use Rattle.guard_run.specs.Outcome.{IsOutcome, IsOutcomeAs};
 
 use crate::ends::{RefusalKind, Which};
 use crate::load::{Loaded, LoadedRules, Rules, load_rules, load_within};
 use crate::read::{NotRead, tree_of};
-use crate::refused::{Refused, data_unread, refused_at, too_long};
+use crate::refused::{Refused, refused_at, too_long};
 use crate::report::{Judgement, judge};
-use crate::words::request_of;
+use crate::words::{Format, format_of, request_of};
 use doc_values::Doc;
 use guard_io::Files;
+use query_steps::one_answer_over_spots;
 use std::alloc::Global;
 use value_compare::{BookRefusal, PatternMaker, pattern_book};
 
@@ -72,7 +73,7 @@ fn files_outcome<F: Files, M: PatternMaker>(
         → Rose (F.faults files.old (name_of which q)) (F.faults files.new (name_of which q)) }
     ensures pattern_fault { result ≡ Outcome.PatternRefused → (text bytes : List ℕ)
         × IsContent (F.content files.old rules.now) bytes × ((file : File) × IsRuleFile bytes file
-        × ComesToPattern (ends_in_json template.now) (F.content files.old template.now) file text)
+        × ComesToPattern (format_of template.now) (F.content files.old template.now) file text)
         × Rose (M.faults maker.old text) (M.faults maker.new text) }
     ensures contents { (other : List ℕ) → F.content files.new other ≡ F.content files.old other }
     ensures kept { (other : List ℕ) → F.faults files.old other ≤ F.faults files.new other }
@@ -86,7 +87,7 @@ fn files_outcome<F: Files, M: PatternMaker>(
     }
 }
 
-/// What comes of a template, once the rules are read. Its name is tested before it is loaded.
+/// What comes of a template, once the rules are read: it is loaded, and read in the format that its name says.
 fn template_outcome<F: Files, M: PatternMaker>(
     alloc: Global,
     rules: &Rules,
@@ -95,54 +96,44 @@ fn template_outcome<F: Files, M: PatternMaker>(
     maker: &mut M,
 ) -> Outcome
     requires { length rules.now.bytes.items ≤ 1048576 }
-    ensures outcome { IsOutcomeAs (EndOfName (ends_in_json name.now) (F.content files.old name.now)
+    ensures outcome { IsOutcomeAs (EndOfLoad (format_of name.now) (F.content files.old name.now)
         rules.now.bytes.items (file_of rules.now.file)) result }
     ensures fault { (which : Which) → result ≡ Outcome.ReadFault which → (which ≡ Which.Template)
-        × (ends_in_json name.now ≡ true)
         × Rose (F.faults files.old name.now) (F.faults files.new name.now) }
     ensures pattern_fault { result ≡ Outcome.PatternRefused → (text : List ℕ)
-        × ComesToPattern (ends_in_json name.now) (F.content files.old name.now) (file_of rules.now.file) text
+        × ComesToPattern (format_of name.now) (F.content files.old name.now) (file_of rules.now.file) text
         × Rose (M.faults maker.old text) (M.faults maker.new text) }
     ensures contents { (other : List ℕ) → F.content files.new other ≡ F.content files.old other }
     ensures kept { (other : List ℕ) → F.faults files.old other ≤ F.faults files.new other }
     ensures maker_kept { (text : List ℕ) → M.faults maker.old text ≤ M.faults maker.new text }
 {
-    if !is_json(name) {
-        return Outcome::Refused(data_unread());
-    }
     match load_within(alloc, name, TEMPLATE_LIMIT, files) {
-        Loaded::Whole(bytes) => bytes_outcome(alloc, rules, &bytes, maker),
+        Loaded::Whole(bytes) => bytes_outcome(alloc, rules, format_of(name), &bytes, maker),
         Loaded::TooLong => Outcome::Refused(too_long(Which::Template)),
         Loaded::Fault => Outcome::ReadFault(Which::Template),
         Loaded::Memory => Outcome::Memory,
     }
 }
 
-/// Whether the name of a template says that it is JSON.
-fn is_json(name: &str) -> bool
-    ensures { result ≡ ends_in_json name.now }
-{
-    name.as_bytes().ends_with(b".json")
-}
-
-/// What comes of a template's bytes, which are no more than it may have.
+/// What comes of a template's bytes in its format, which are no more than it may have.
 fn bytes_outcome<M: PatternMaker>(
     alloc: Global,
     rules: &Rules,
+    format: Format,
     bytes: &[u8],
     maker: &mut M,
 ) -> Outcome
     requires rules { length rules.now.bytes.items ≤ 1048576 }
     requires template { length bytes.now ≤ 8388608 }
-    ensures outcome { IsOutcomeAs (EndOfTemplate rules.now.bytes.items (file_of rules.now.file) bytes.now) result }
+    ensures outcome { IsOutcomeAs (EndOfTemplate format rules.now.bytes.items (file_of rules.now.file) bytes.now) result }
     ensures no_fault { (which : Which) → result ≡ Outcome.ReadFault which → ⊥ }
     ensures pattern_fault { result ≡ Outcome.PatternRefused → (text : List ℕ)
-        × ((tree : Forest) × IsTemplate bytes.now tree)
+        × ((tree : Forest) × IsTemplate format bytes.now tree)
         × ((at : ℕ) × IsNext (file_of rules.now.file) text at)
         × Rose (M.faults maker.old text) (M.faults maker.new text) }
     ensures maker_kept { (text : List ℕ) → M.faults maker.old text ≤ M.faults maker.new text }
 {
-    match tree_of(alloc, bytes) {
+    match tree_of(alloc, format, bytes) {
         Ok(tree) => tree_outcome(alloc, rules, &tree, maker),
         Err(NotRead::Refused(refused)) => Outcome::Refused(refused),
         Err(NotRead::Memory) => Outcome::Memory,
@@ -160,6 +151,7 @@ fn tree_outcome<M: PatternMaker>(alloc: Global, rules: &Rules, tree: &Doc, maker
         × Rose (M.faults maker.old text) (M.faults maker.new text) }
     ensures maker_kept { (text : List ℕ) → M.faults maker.old text ≤ M.faults maker.new text }
 {
+    one_answer_over_spots();
     match pattern_book(alloc, &rules.file, maker) {
         Ok(book) => match judge(alloc, &rules.file, tree, &book) {
             Ok(judgement) => Outcome::Judged(judgement),

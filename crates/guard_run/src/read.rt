@@ -8,9 +8,9 @@ ghost use Rattle.guard_run.specs.Outcome.{IsNotRead, IsPlaced};
 
 use crate::ends::{RefusalKind, Which};
 use crate::refused::{
-    Refused, json_kind, lex_kind, not_text, parse_kind, refused_at, refused_name, rules_unread,
+    Refused, json_kind, lex_kind, not_text, parse_kind, refused_at, refused_name, yaml_refused,
 };
-use crate::rules::is_plain;
+use crate::words::Format;
 use doc_values::Doc;
 use guard_lexer::{Token, tokens};
 use guard_parser::{parse, sites_in_order};
@@ -19,6 +19,7 @@ use json_reader::read_json;
 use name_table::{NameRefusal, RuleFile, resolve};
 use std::alloc::Global;
 use std::str;
+use yaml_blocks::read_yaml;
 
 /// Why bytes are not read.
 #[derive(Drop)]
@@ -72,15 +73,12 @@ fn rules_of_tokens(alloc: Global, text: &str, tokens: &[Token]) -> Result<RuleFi
     }
 }
 
-/// The rules of the syntax of a text: what is not evaluated comes before what is the matter with names.
+/// The rules of the syntax of a text.
 fn rules_of_syntax(alloc: Global, text: &str, raw: RawFile) -> Result<RuleFile, NotRead>
     requires short { length text.now ≤ 1048576 }
     requires syntax { IsSyntax text.now (see_file raw) }
     ensures { MatchResult result (λ rules. IsRuleFile text.now (file_of rules)) (IsNotRead RefusesRules text.now) }
 {
-    if !is_plain(&raw) {
-        return Err(NotRead::Refused(rules_unread()));
-    }
     sites_in_order();
     match resolve(alloc, raw) {
         Ok(rules) => Ok(rules),
@@ -94,21 +92,41 @@ fn rules_of_syntax(alloc: Global, text: &str, raw: RawFile) -> Result<RuleFile, 
     }
 }
 
-/// The tree of bytes, which are no more than a template may be.
-pub(crate) fn tree_of(alloc: Global, bytes: &[u8]) -> Result<Doc<'_>, NotRead>
+/// The tree of bytes in a format, which are no more than a template may be.
+pub(crate) fn tree_of(alloc: Global, format: Format, bytes: &[u8]) -> Result<Doc<'_>, NotRead>
     requires { length bytes.now ≤ 8388608 }
-    ensures { MatchResult result (λ tree. IsTemplate bytes.entry.now tree) (IsNotRead RefusesTemplate bytes.entry.now) }
+    ensures { MatchResult result (λ tree. IsTemplate format bytes.entry.now tree)
+        (IsNotRead (RefusesTemplate format) bytes.entry.now) }
 {
     match str::from_utf8(bytes) {
-        Ok(text) => tree_of_text(alloc, text),
+        Ok(text) => match format {
+            Format::Json => tree_of_json(alloc, text),
+            Format::Yaml => tree_of_yaml(alloc, text),
+        },
         Err(_) => Err(NotRead::Refused(not_text(Which::Template))),
     }
 }
 
-/// The tree of a text.
-fn tree_of_text(alloc: Global, text: &str) -> Result<Doc<'_>, NotRead>
+/// The tree of a text of YAML.
+fn tree_of_yaml(alloc: Global, text: &str) -> Result<Doc<'_>, NotRead>
     requires { length text.now ≤ 8388608 }
-    ensures { MatchResult result (λ tree. IsTemplate text.entry.now tree) (IsNotRead RefusesTemplate text.entry.now) }
+    ensures { MatchResult result (λ tree. IsTemplate Format.Yaml text.entry.now tree)
+        (IsNotRead (RefusesTemplate Format.Yaml) text.entry.now) }
+{
+    match read_yaml(alloc, text) {
+        Ok(tree) => Ok(tree),
+        Err(refusal) => match yaml_refused(refusal, text) {
+            Some(refused) => Err(NotRead::Refused(refused)),
+            None => Err(NotRead::Memory),
+        },
+    }
+}
+
+/// The tree of a text of JSON.
+fn tree_of_json(alloc: Global, text: &str) -> Result<Doc<'_>, NotRead>
+    requires { length text.now ≤ 8388608 }
+    ensures { MatchResult result (λ tree. IsTemplate Format.Json text.entry.now tree)
+        (IsNotRead (RefusesTemplate Format.Json) text.entry.now) }
 {
     match read_json(alloc, text) {
         Ok(tree) => Ok(tree),

@@ -1,8 +1,8 @@
 //! Refusals with their lines.
 ghost use Rattle.std.specs.Prelude.{◌≡◌, ◌≤◌, ℕ, List, Some, None, length, IfOk};
 ghost use Rattle.guard_run.specs.End.{refused};
-ghost use Rattle.guard_run.specs.Inputs.{name_kind};
-ghost use Rattle.guard_run.specs.Outcome.{said, lex_kind, parse_kind, json_kind};
+ghost use Rattle.guard_run.specs.Inputs.{name_kind, name_said, of_yaml};
+ghost use Rattle.guard_run.specs.Outcome.{said, lex_kind, parse_kind, json_kind, IsRefusedAs};
 
 use crate::ends::{Refusal, RefusalKind, Which};
 use crate::line::{Line, named_line, placed_line, whole_line};
@@ -12,6 +12,7 @@ use guard_syntax::Text;
 use json_reader::JsonRefusal;
 use name_table::NameKind;
 use std::alloc::{AllocError, Global};
+use yaml_blocks::YamlRefusal;
 
 /// A refusal and its line on err.
 #[derive(Drop)]
@@ -20,17 +21,7 @@ pub(crate) struct Refused {
     pub line: Line,
 }
 
-/// Rules that are not read.
-pub(crate) fn rules_unread() -> Refused
-    ensures { (bytes : List ℕ) → said result ≡ refused bytes Refusal.RulesUnread }
-{
-    Refused {
-        refusal: Refusal::RulesUnread,
-        line: Line::Short(whole_line(Which::Rules, "RulesUnread")),
-    }
-}
-
-/// A template that is not read.
+/// A template that is not read so far.
 pub(crate) fn data_unread() -> Refused
     ensures { (bytes : List ℕ) → said result ≡ refused bytes Refusal.DataUnread }
 {
@@ -77,6 +68,7 @@ pub(crate) fn refused_at(which: Which, kind: RefusalKind, at: u32, bytes: &[u8])
 }
 
 /// Rules with these bytes, refused for a name at a byte offset. The line is as long as the name, so it is made in memory.
+/// What is too deep is about no name.
 pub(crate) fn refused_name(
     alloc: Global,
     kind: NameKind,
@@ -85,9 +77,13 @@ pub(crate) fn refused_name(
     bytes: &[u8],
 ) -> Result<Refused, AllocError>
     requires { length bytes.now ≤ 8388608 }
-    ensures { IfOk result (λ r. said r ≡ refused bytes.now (Refusal.At Which.Rules (name_kind kind) at (Some name))) }
+    ensures { IfOk result (λ r. said r ≡ refused bytes.now (Refusal.At Which.Rules (name_kind kind) at (name_said kind name))) }
 {
+    let named = name_said(kind, name);
     let kind = name_kind(kind);
+    let Some(name) = named else {
+        return Ok(refused_at(Which::Rules, kind, at, bytes));
+    };
     let line = named_line(alloc, Which::Rules, kind, name.as_str(), at, bytes)?;
     Ok(Refused {
         refusal: Refusal::At {
@@ -116,6 +112,27 @@ fn name_kind(kind: NameKind) -> RefusalKind
         NameKind::LiteralWanted => RefusalKind::LiteralWanted,
         NameKind::RecursiveRule => RefusalKind::RecursiveRule,
         NameKind::RecursiveVariable => RefusalKind::RecursiveVariable,
+        NameKind::TooDeep => RefusalKind::TooDeep,
+    }
+}
+
+/// The name that a refusal is about: what is too deep is about none.
+fn name_said(kind: NameKind, name: Text) -> Option<Text>
+    ensures { result ≡ name_said kind name }
+{
+    match kind {
+        NameKind::TooDeep => None,
+        NameKind::DuplicateRule
+        | NameKind::DuplicateName
+        | NameKind::UnknownRule
+        | NameKind::UnknownVariable
+        | NameKind::UnknownFunction
+        | NameKind::NeedsArguments
+        | NameKind::TakesNone
+        | NameKind::ArgCount
+        | NameKind::LiteralWanted
+        | NameKind::RecursiveRule
+        | NameKind::RecursiveVariable => Some(name),
     }
 }
 
@@ -154,4 +171,30 @@ pub(crate) fn json_kind(refusal: JsonRefusal) -> Option<(RefusalKind, u32)>
         JsonRefusal::TooDeep(at) => Some((RefusalKind::TooDeep, at)),
         JsonRefusal::NoMemory => None,
     }
+}
+
+/// A template with this text, refused by a refusal of YAML. Want of memory is none.
+pub(crate) fn yaml_refused(refusal: YamlRefusal, text: &str) -> Option<Refused>
+    requires { length text.now ≤ 8388608 }
+    ensures { IsRefusedAs (of_yaml refusal) text.now result }
+{
+    match refusal {
+        YamlRefusal::Unread => Some(data_unread()),
+        YamlRefusal::Tab(at) => Some(data_at(RefusalKind::Tab, at, text)),
+        YamlRefusal::Anchor(at) => Some(data_at(RefusalKind::Anchor, at, text)),
+        YamlRefusal::Tag(at) => Some(data_at(RefusalKind::Tag, at, text)),
+        YamlRefusal::Directive(at) => Some(data_at(RefusalKind::Directive, at, text)),
+        YamlRefusal::ManyDocuments(at) => Some(data_at(RefusalKind::ManyDocuments, at, text)),
+        YamlRefusal::DuplicateKey(at) => Some(data_at(RefusalKind::DuplicateKey, at, text)),
+        YamlRefusal::TooDeep(at) => Some(data_at(RefusalKind::TooDeep, at, text)),
+        YamlRefusal::NoMemory => None,
+    }
+}
+
+/// A template with this text, refused at a byte offset.
+fn data_at(kind: RefusalKind, at: u32, text: &str) -> Refused
+    requires { length text.now ≤ 8388608 }
+    ensures { said result ≡ refused text.now (Refusal.At Which.Template kind at None) }
+{
+    refused_at(Which::Template, kind, at, text.as_bytes())
 }

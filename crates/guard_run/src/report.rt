@@ -1,21 +1,25 @@
-ghost use Rattle.std.specs.Prelude.{◌≡◌, ◌+◌, ◌++◌, ◌<◌, ◌^◌, ◌-◌, false, List, [], ◌∷◌, map, string_bytes, codes, decimal, count_by, OnOk, IfOk};
-ghost use Rattle.std.specs.List.{list_any};
+ghost use Rattle.std.specs.Prelude.{◌≡◌, ◌+◌, ◌++◌, ◌≤◌, ◌<◌, ◌^◌, ◌-◌, false, List, [], ◌∷◌, map, string_bytes, codes, decimal, count_by, length, OnOk, IfOk};
+ghost use Rattle.std.specs.List.{flat_map, list_any};
 ghost use Rattle.guard_syntax.specs.Seen.{see_rule, see_disj, disj_list};
 ghost use Rattle.name_table.specs.Files.{file_of};
-ghost use Rattle.name_table.specs.Pieces.{pieces_disjs};
+ghost use Rattle.name_table.specs.Pieces.{pieces_disjs, pieces_rule};
+ghost use Rattle.name_table.specs.Within.{StandsIn};
 ghost use Rattle.value_compare.specs.Books.{IsBookOf};
-ghost use Rattle.value_compare.specs.Stores.{see_store};
 ghost use Rattle.value_compare.specs.Values.{has_pattern};
+ghost use Rattle.query_steps.specs.SpotFunctions.{IsAnswering};
+ghost use Rattle.query_steps.specs.Spots.{Answers};
 ghost use Rattle.query_steps.specs.Verdicts.{is_pass, is_fail, is_skip};
-ghost use Rattle.guard_run.specs.Listed.{AreLinesOf};
-ghost use Rattle.guard_run.specs.Report.{verdict_word, report};
-ghost use Rattle.guard_run.specs.Reported.{Reported, known_of, of_rule, of_loose, verdicts_of};
-ghost use Rattle.guard_run.specs.Within.{StandsIn};
+ghost use Rattle.plain_evaluator.specs.States.{Answering, Grows, see_trees};
+ghost use Rattle.report_text.specs.RuleLines.{rule_line};
+ghost use Rattle.guard_run.specs.Listed.{AreLinesOf, count_of};
+ghost use Rattle.guard_run.specs.Report.{report};
+ghost use Rattle.guard_run.specs.Reported.{Reported, of_rule, of_loose, verdicts_of, world_over};
 
-use crate::verdicts::{verdict_of_loose, verdict_of_rule};
 use doc_values::Doc;
 use guard_syntax::{Disj, Rule, Verdict};
 use name_table::RuleFile;
+use plain_evaluator::{Trees, verdict_of_loose, verdict_of_rule};
+use report_text::verdict_word;
 use std::alloc::{AllocError, Global};
 use value_compare::{PatternBook, Store};
 
@@ -55,8 +59,9 @@ struct Lines {
 impl Lines {
     /// Appends the line of a verdict under its name, and counts it.
     fn add(&mut self, name: &str, verdict: Verdict) -> Result<(), AllocError>
-        requires { self.old.tally.pass + self.old.tally.fail + self.old.tally.skip < 2 ^ 64 - 1 }
-        ensures { (before : List Reported) → AreLinesOf self.old before
+        requires { count_of self.old < 2 ^ 64 - 1 }
+        ensures count { count_of self.new ≤ count_of self.old + 1 }
+        ensures lines { (before : List Reported) → AreLinesOf self.old before
             → OnOk result (AreLinesOf self.new (before ++ (record { name = name.now; verdict = verdict } ∷ []))) }
     {
         push_line(&mut self.text, name, verdict)?;
@@ -83,13 +88,15 @@ pub(crate) fn judge(
 ) -> Result<Judgement, AllocError>
     requires plain { has_pattern doc.now ≡ false }
     requires book { IsBookOf (file_of file.now) book.now }
-    ensures report { IfOk result (λ j. string_bytes j.report ≡ report (known_of (file_of file.now) doc.now) (file_of file.now)) }
-    ensures failed { IfOk result (λ j.
-        j.failed ≡ list_any is_fail (verdicts_of (known_of (file_of file.now) doc.now) (file_of file.now))) }
+    ensures report { (answers : Answers) → IsAnswering (world_over (file_of file.now) doc.now answers)
+        → IfOk result (λ j. string_bytes j.report ≡ report (world_over (file_of file.now) doc.now answers)) }
+    ensures failed { (answers : Answers) → IsAnswering (world_over (file_of file.now) doc.now answers)
+        → IfOk result (λ j. j.failed ≡ list_any is_fail (verdicts_of (world_over (file_of file.now) doc.now answers))) }
 {
     let store = Store::new(alloc, doc, file);
-    let mut lines = rule_lines(alloc, &file.raw().rules, &store, book)?;
-    add_loose(alloc, &mut lines, &file.raw().loose, &store, book)?;
+    let mut trees = Trees::new(alloc, store);
+    let mut lines = rule_lines(alloc, &file.raw().rules, &mut trees, book)?;
+    add_loose(alloc, &mut lines, &file.raw().loose, &mut trees, book)?;
     let Lines { mut text, tally } = lines;
     push_total_line(&mut text, &tally)?;
     Ok(Judgement {
@@ -98,16 +105,18 @@ pub(crate) fn judge(
     })
 }
 
-/// The lines of the rules of the store's file.
+/// The lines of the rules of the trees' file.
 fn rule_lines(
     alloc: Global,
     rules: &[Rule],
-    store: &Store<'_, '_>,
+    trees: &mut Trees<'_, '_>,
     book: &PatternBook,
 ) -> Result<Lines, AllocError>
-    requires rules { (see_store store.now).file.rules ≡ map see_rule rules.now }
-    requires book { IsBookOf (see_store store.now).file book.now }
-    ensures { IfOk result (λ lines. AreLinesOf lines (map (of_rule (see_store store.now)) (see_store store.now).file.rules)) }
+    requires rules { (see_trees trees.old).known.file.rules ≡ map see_rule rules.now }
+    requires book { IsBookOf (see_trees trees.old).known.file book.now }
+    ensures grows { Grows (see_trees trees.old) (see_trees trees.new) }
+    ensures count { IfOk result (λ lines. count_of lines ≤ length rules.now) }
+    ensures lines { Answering (see_trees trees.old) (λ w. IfOk result (λ lines. AreLinesOf lines (flat_map (of_rule w) w.file.rules))) }
 {
     let mut lines = Lines {
         text: String::new(alloc),
@@ -118,39 +127,60 @@ fn rule_lines(
         },
     };
     for rule in rules {
-        let verdict = verdict_of_rule(alloc, rule, store, book)?;
-        lines.add(rule.name.as_str(), verdict)?;
+        add_rule(alloc, &mut lines, rule, trees, book)?;
     }
     Ok(lines)
 }
 
-/// Appends the line `default`, where there are parts outside the rules of the store's file.
+/// Appends the line of a rule of the trees' file, unless it has parameters.
+fn add_rule(
+    alloc: Global,
+    lines: &mut Lines,
+    rule: &Rule,
+    trees: &mut Trees<'_, '_>,
+    book: &PatternBook,
+) -> Result<(), AllocError>
+    requires placed { StandsIn (see_trees trees.old).known.file (pieces_rule (see_rule rule.now)) }
+    requires book { IsBookOf (see_trees trees.old).known.file book.now }
+    requires room { count_of lines.old < 2 ^ 64 - 1 }
+    ensures grows { Grows (see_trees trees.old) (see_trees trees.new) }
+    ensures count { count_of lines.new ≤ count_of lines.old + 1 }
+    ensures lines { Answering (see_trees trees.old) (λ w. (before : List Reported) → AreLinesOf lines.old before
+        → OnOk result (AreLinesOf lines.new (before ++ of_rule w (see_rule rule.now)))) }
+{
+    if !rule.params.as_slice().is_empty() {
+        return Ok(());
+    }
+    let verdict = verdict_of_rule(alloc, rule, trees, book)?;
+    lines.add(rule.name.as_str(), verdict)
+}
+
+/// Appends the line `default`, where there are parts outside the rules of the trees' file.
 fn add_loose(
     alloc: Global,
     lines: &mut Lines,
     parts: &[Disj],
-    store: &Store<'_, '_>,
+    trees: &mut Trees<'_, '_>,
     book: &PatternBook,
 ) -> Result<(), AllocError>
-    requires placed { StandsIn (see_store store.now).file (pieces_disjs (disj_list (map see_disj parts.now))) }
-    requires book { IsBookOf (see_store store.now).file book.now }
-    requires room { lines.old.tally.pass + lines.old.tally.fail + lines.old.tally.skip < 2 ^ 64 - 1 }
-    ensures { (before : List Reported) → AreLinesOf lines.old before
-        → OnOk result (AreLinesOf lines.new (before ++ of_loose (see_store store.now) (disj_list (map see_disj parts.now)))) }
+    requires placed { StandsIn (see_trees trees.old).known.file (pieces_disjs (disj_list (map see_disj parts.now))) }
+    requires book { IsBookOf (see_trees trees.old).known.file book.now }
+    requires room { count_of lines.old < 2 ^ 64 - 1 }
+    ensures { Answering (see_trees trees.old) (λ w. (before : List Reported) → AreLinesOf lines.old before
+        → OnOk result (AreLinesOf lines.new (before ++ of_loose w (disj_list (map see_disj parts.now))))) }
 {
     if parts.is_empty() {
         return Ok(());
     }
-    let verdict = verdict_of_loose(alloc, parts, store, book)?;
+    let verdict = verdict_of_loose(alloc, parts, trees, book)?;
     lines.add("default", verdict)
 }
 
 /// Appends the line of a verdict under its name.
 fn push_line(report: &mut String, name: &str, verdict: Verdict) -> Result<(), AllocError>
-    ensures { OnOk result (string_bytes report.new ≡ string_bytes report.old ++ (codes "rule "
-        ++ name.now ++ codes " " ++ verdict_word verdict ++ codes "\n")) }
+    ensures { OnOk result (string_bytes report.new ≡ string_bytes report.old ++ rule_line name.now verdict) }
 {
-    let word = word_of(verdict);
+    let word = verdict_word(verdict);
     write!(report, "rule {name} {word}\n")
 }
 
@@ -162,15 +192,4 @@ fn push_total_line(report: &mut String, tally: &Tally) -> Result<(), AllocError>
 {
     let Tally { pass, fail, skip } = *tally;
     write!(report, "total {pass} PASS {fail} FAIL {skip} SKIP\n")
-}
-
-/// The word that is printed for a verdict.
-fn word_of(verdict: Verdict) -> &'static str
-    ensures { result.now ≡ verdict_word verdict }
-{
-    match verdict {
-        Verdict::Pass => "PASS",
-        Verdict::Fail => "FAIL",
-        Verdict::Skip => "SKIP",
-    }
 }

@@ -11,7 +11,7 @@ const AMPLE: u64 = 1 << 20;
 
 const RULES: &[u8] = b"rule r { Resources.B.Properties.BucketName exists }";
 
-const NAMED: &[u8] =
+pub(crate) const NAMED: &[u8] =
     br#"{"Resources":{"B":{"Type":"AWS::S3::Bucket","Properties":{"BucketName":"x"}}}}"#;
 
 const UNNAMED: &[u8] = br#"{"Resources":{"B":{"Type":"AWS::S3::Bucket","Properties":{}}}}"#;
@@ -62,6 +62,14 @@ fn sink(alloc: Global, room: u64) -> MemSink {
     }
 }
 
+/// The name of the template that words ask for; of words that ask for none, one that is not loaded.
+fn template_name<'a>(words: &[&'a str]) -> &'a str {
+    match words {
+        [_, _, _, _, name] => name,
+        _ => "d.json",
+    }
+}
+
 pub(crate) fn call(alloc: Global, given: &Given) -> Result<Ran, AllocError> {
     let mut words = Vec::new(alloc);
     for word in given.words {
@@ -73,7 +81,7 @@ pub(crate) fn call(alloc: Global, given: &Given) -> Result<Ran, AllocError> {
         Vec::from_slice(alloc, given.rules)?,
     ))?;
     names.push((
-        String::from_str(alloc, "d.json")?,
+        String::from_str(alloc, template_name(given.words))?,
         Vec::from_slice(alloc, given.data)?,
     ))?;
     let mut files = MemFiles {
@@ -123,7 +131,7 @@ pub(crate) const JUDGED_PASS: Wanted = ("passed", 0, PASSED, "");
 pub(crate) const JUDGED_FAIL: Wanted = ("failed", 19, FAILED, "");
 
 /// A refusal with this line.
-const fn refused(line: &'static str) -> Wanted {
+pub(crate) const fn refused(line: &'static str) -> Wanted {
     ("refused", 5, "", line)
 }
 
@@ -240,22 +248,6 @@ fn refuses_rules_by_name_and_place(rt: HostRuntime) -> Result<(), Fail> {
     ];
     for (rules, line) in rows {
         expect_refused_rules(&rt, rt.alloc(), rules, line)?;
-    }
-    Ok(())
-}
-
-#[test]
-fn refuses_files_that_are_not_evaluated(rt: HostRuntime) -> Result<(), Fail> {
-    let rows: [&[u8]; 5] = [
-        b"let x = 1",
-        b"rule r { A exists } rule s { r }",
-        // What is not evaluated comes before a name that was given before or that nothing has, and before a pattern.
-        b"rule r { A exists } rule r { %x exists }",
-        b"rule r { A exists } rule s { t }",
-        b"rule r { A == /(/ %x exists }",
-    ];
-    for rules in rows {
-        expect_refused_rules(&rt, rt.alloc(), rules, "guard: rules: RulesUnread\n")?;
     }
     Ok(())
 }
@@ -419,7 +411,7 @@ fn refuses_templates_by_name_and_place(rt: HostRuntime) -> Result<(), Fail> {
 }
 
 /// So many lists in each other.
-fn nested(alloc: Global, depth: usize) -> Result<Vec<u8>, AllocError> {
+pub(crate) fn nested(alloc: Global, depth: usize) -> Result<Vec<u8>, AllocError> {
     let mut bytes = vec![in alloc; b'['; depth]?;
     bytes.extend_from_slice(&vec![in alloc; b']'; depth]?)?;
     Ok(bytes)
@@ -449,7 +441,7 @@ fn reads_words(rt: HostRuntime) -> Result<(), Fail> {
         "",
         "usage: guard validate --rules FILE --data FILE\n",
     );
-    let rows: [(&[&str], Wanted, u64); 9] = [
+    let rows: [(&[&str], Wanted, u64); 8] = [
         (FIRST.words, JUDGED_PASS, 2),
         (&[], usage, 0),
         (&["validate", "--rules", "a"], usage, 0),
@@ -469,12 +461,6 @@ fn reads_words(rt: HostRuntime) -> Result<(), Fail> {
             &["Validate", "--rules", "r.guard", "--data", "d.json"],
             usage,
             0,
-        ),
-        // The name is tested before the load: only the rules were loaded.
-        (
-            &["validate", "--rules", "r.guard", "--data", "d.yaml"],
-            refused("guard: data: DataUnread\n"),
-            1,
         ),
     ];
     for (words, wanted, calls) in rows {
@@ -585,7 +571,7 @@ fn ends_as_defined_or_by_want_of_memory(rt: HostRuntime) {
 }
 
 /// A text with spaces behind it up to a length.
-fn padded(alloc: Global, text: &[u8], length: usize) -> Result<Vec<u8>, AllocError> {
+pub(crate) fn padded(alloc: Global, text: &[u8], length: usize) -> Result<Vec<u8>, AllocError> {
     let mut bytes = vec![in alloc; b' '; length]?;
     for (place, byte) in bytes.iter_mut().zip(text) {
         *place = *byte;

@@ -3,17 +3,17 @@ use Rattle.name_table.specs.Files.{file_of}
 use Rattle.guard_run.specs.Inputs.{IsTemplate}
 use Rattle.guard_run.specs.End.{EndOfPatterns, EndOfTemplate}
 use Rattle.guard_run.proofs.Outcomes.{IsOutcomeAs-more}
-use Rattle.guard_run.proofs.Patternless.{json-plain}
+use Rattle.guard_run.proofs.Plainness.{template-plain}
 use Rattle.guard_run.proofs.outcome.bytes_outcome.Goals as goal
 
 pub tree_outcome-requires-clause-plain : goal.tree_outcome-requires-clause-plain
-tree_outcome-requires-clause-plain g c =
-    let read : IsTemplate c.args.bytes.now c.in-Ok.tree = c.in-Ok.ensures in json-plain c.args.bytes.now c.in-Ok.tree read.json
+tree_outcome-requires-clause-plain g c = template-plain c.args.format c.args.bytes.now c.in-Ok.tree c.in-Ok.ensures
 
 pub returns-in-Ok-clause-outcome : goal.returns-in-Ok-clause-outcome
 returns-in-Ok-clause-outcome g c =
     let source = c.args.rules.now.bytes.items in
     let rules = file_of c.args.rules.now.file in
-    let read : IsTemplate c.args.bytes.now c.in-Ok.tree = c.in-Ok.ensures in
-    IsOutcomeAs-more (EndOfPatterns source rules c.in-Ok.tree) (EndOfTemplate source rules c.args.bytes.now)
+    let f = c.args.format in
+    let read : IsTemplate f c.args.bytes.now c.in-Ok.tree = c.in-Ok.ensures in
+    IsOutcomeAs-more (EndOfPatterns source rules c.in-Ok.tree) (EndOfTemplate f source rules c.args.bytes.now)
     (λ e end. inr (c.in-Ok.tree, read, end)) c.tree_outcome.result c.tree_outcome.ensures.outcome

@@ -1,20 +1,12 @@
-use Rattle.std.proofs.Common.{◌≡◌, None, Some, true, refl, sym, ◌∙◌, subst}
+use Rattle.std.proofs.Common.{None, inr, refl, subst}
 use Rattle.guard_syntax.specs.Seen.{see_file}
 use Rattle.name_table.specs.Refused.{IsNameRefusal}
 use Rattle.name_table.specs.declared.refusal.NameRefusal.TheVariants.{Bad}
-use Rattle.guard_run.specs.Plain.{is_plain}
-use Rattle.guard_run.specs.Inputs.{IsText, name_kind, rules_limit}
-use Rattle.guard_run.specs.declared.ends.Refusal.TheVariants.{RulesUnread, At}
+use Rattle.name_table.specs.Faults.{Fault}
+use Rattle.guard_run.specs.Inputs.{IsText, name_kind, name_said, rules_limit}
+use Rattle.guard_run.specs.declared.ends.Refusal.TheVariants.{At}
 use Rattle.guard_run.specs.declared.ends.Which.TheVariants as file
 use Rattle.guard_run.proofs.read.rules_of_syntax.Goals as goal
-
-pub returns-then-not-is_plain : goal.returns-then-not-is_plain
-returns-then-not-is_plain c =
-    let text : IsText rules_limit c.args.text.now = record { within = c.requires.short; utf8 = c.utf8.text } in (
-      RulesUnread,
-      (text, (see_file c.args.raw, c.requires.syntax, sym c.is_plain.ensures ∙ c.if-not-is_plain.true)),
-      c.rules_unread.ensures c.args.text.now,
-    )
 
 pub resolve-requires : goal.resolve-requires
 resolve-requires c = c.sites_in_order.ensures c.args.text.now c.requires.syntax.0 (see_file c.args.raw) None c.requires.syntax.2.1
@@ -24,8 +16,8 @@ returns-in-Ok-refused_name c =
     let text : IsText rules_limit c.args.text.now = record { within = c.requires.short; utf8 = c.utf8.text } in
     let bad : IsNameRefusal (see_file c.args.raw) (Bad c.in-Err-Bad.kind c.in-Err-Bad.name c.in-Err-Bad.at) =
     subst (λ r. IsNameRefusal (see_file c.args.raw) r) c.in-Err-Bad.field-0-is c.in-Err-Bad.ensures in
-    let plain : is_plain (see_file c.args.raw) ≡ true = sym c.is_plain.ensures ∙ c.if-not-is_plain.false in (
-      At file.Rules (name_kind c.in-Err-Bad.kind) c.in-Err-Bad.at (Some c.in-Err-Bad.name),
-      (text, (see_file c.args.raw, c.requires.syntax, plain, (c.in-Err-Bad.kind, refl, bad))),
+    let fault : Fault = record { kind = c.in-Err-Bad.kind; named = record { text = c.in-Err-Bad.name; at = c.in-Err-Bad.at } } in (
+      At file.Rules (name_kind c.in-Err-Bad.kind) c.in-Err-Bad.at (name_said c.in-Err-Bad.kind c.in-Err-Bad.name),
+      (text, inr (see_file c.args.raw, c.requires.syntax, (fault, bad, refl, refl, refl))),
       rw c.as_bytes.ensures.value at c.in-Ok-refused_name.ensures,
     )

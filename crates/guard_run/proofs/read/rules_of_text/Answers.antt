@@ -1,4 +1,4 @@
-use Rattle.std.proofs.Common.{inl, sym, ◌∙◌}
+use Rattle.std.proofs.Common.{inl, refl, sym, ◌∙◌}
 use Rattle.guard_run.specs.Inputs.{IsText, RefusesRules, rules_limit}
 use Rattle.guard_run.specs.declared.ends.Which.TheVariants as file
 use Rattle.guard_run.proofs.Refusing.{lex-why, placed-not_read}
@@ -8,5 +8,5 @@ pub returns-in-Err : goal.returns-in-Err
 returns-in-Err c =
     let text : IsText rules_limit c.args.text.now = record { within = c.requires; utf8 = c.utf8.text } in
     placed-not_read RefusesRules file.Rules c.args.text.now c.lex_kind.result c.unread_at.result
-    (λ kind at named. (text, inl (lex-why c.args.text.now c.in-Err.refusal kind at (sym c.lex_kind.ensures ∙ named) c.in-Err.ensures.refusal)))
+    (λ kind at named. (text, inl (refl, inl (lex-why c.args.text.now c.in-Err.refusal kind at (sym c.lex_kind.ensures ∙ named) c.in-Err.ensures.refusal))))
     c.unread_at.ensures

@@ -1,4 +1,4 @@
-use Rattle.std.proofs.Common.{inr, sym, ◌∙◌}
+use Rattle.std.proofs.Common.{inl, inr, refl, sym, ◌∙◌}
 use Rattle.guard_run.specs.Inputs.{IsText, RefusesRules, rules_limit}
 use Rattle.guard_run.specs.declared.ends.Which.TheVariants as file
 use Rattle.guard_run.proofs.Refusing.{parse-refuses, placed-not_read}
@@ -10,9 +10,12 @@ returns-in-Err c =
     placed-not_read RefusesRules file.Rules c.args.text.now c.parse_kind.result c.unread_at.result
     (λ kind at named. (
       text,
-      inr (
-        c.args.tokens.now,
-        c.requires.tokens,
-        parse-refuses c.args.text.now c.args.tokens.now c.in-Err.refusal kind at (sym c.parse_kind.ensures ∙ named) c.in-Err.ensures.refusal,
+      inl (
+        refl,
+        inr (
+          c.args.tokens.now,
+          c.requires.tokens,
+          parse-refuses c.args.text.now c.args.tokens.now c.in-Err.refusal kind at (sym c.parse_kind.ensures ∙ named) c.in-Err.ensures.refusal,
+        ),
       ),
     )) c.unread_at.ensures

@@ -1,36 +1,62 @@
-use Rattle.std.proofs.Common.{◌≡◌, ◌++◌, List, map, subst, ap, sym, ◌∙◌, nat_lt}
-use Rattle.guard_syntax.specs.declared.syntax.Disj.{Disj}
-use Rattle.guard_syntax.specs.Seen.{see_disj, disj_list}
+use Rattle.std.proofs.Common.{◌≡◌, List, map, subst, ap, sym, ◌∙◌, nat_lt}
+use Rattle.guard_syntax.specs.Syntax as sx
+use Rattle.guard_syntax.specs.declared.syntax.Rule.{Rule}
+use Rattle.guard_syntax.specs.Seen.{see_disj, see_rule, disj_list}
 use Rattle.name_table.specs.Files.{file_of}
 use Rattle.name_table.specs.Pieces.{pieces_disjs}
-use Rattle.value_compare.specs.Known.{Known}
-use Rattle.value_compare.specs.Stores.{see_store}
+use Rattle.name_table.specs.Within.{StandsIn}
+use Rattle.value_compare.specs.Books.{IsBookOf}
 use Rattle.query_steps.specs.Verdicts.{is_fail}
+use Rattle.plain_evaluator.specs.States.{see_trees}
+use Rattle.plain_evaluator.proofs.Growing.{book-on, stands-on}
 use Rattle.guard_run.specs.Listed.{AreLinesOf}
-use Rattle.guard_run.specs.Reported.{known_of, of_rule, of_loose, reported, verdicts_of}
-use Rattle.guard_run.specs.Within.{StandsIn}
+use Rattle.guard_run.specs.Reported.{reported, verdicts_of, world_over}
 use Rattle.guard_run.proofs.Judging.{count_by-any}
-use Rattle.guard_run.proofs.Walks.{loose-stands, store-known}
+use Rattle.guard_run.proofs.Walks.{lines-all, loose-stands, trees-file, trees-loose}
 use Rattle.guard_run.proofs.report.judge.Goals as goal
+
+pub rule_lines-requires-clause-rules : goal.rule_lines-requires-clause-rules
+rule_lines-requires-clause-rules c =
+    let file : (see_trees c.new-trees.result).known.file ≡ file_of c.args.file.now =
+    trees-file c.new-trees.result c.new-store.result c.args.file.now c.new-trees.ensures.store c.new-store.ensures.file in
+    ap (λ (f : sx.File). f.rules) file ∙ sym (ap (λ (rs : List Rule). map see_rule rs) (c.deref.ensures.value ∙ ap (λ r. r.rules.items) c.raw.ensures))
+
+pub rule_lines-requires-clause-book : goal.rule_lines-requires-clause-book
+rule_lines-requires-clause-book c =
+    subst (λ (f : sx.File). IsBookOf f c.args.book.now)
+    (sym (trees-file c.new-trees.result c.new-store.result c.args.file.now c.new-trees.ensures.store c.new-store.ensures.file)) c.requires.book
 
 pub add_loose-requires-clause-placed : goal.add_loose-requires-clause-placed
 add_loose-requires-clause-placed c =
-    let f = (see_store c.new-store.result).file in
-    let kept : c.new-store.result.file.now.raw.loose.items ≡ c.args.file.now.raw.loose.items = ap (λ r. r.raw.loose.items) c.new-store.ensures.file in
+    let before = see_trees c.new-trees.result in
     let walked : c.deref-2.result.now ≡ c.args.file.now.raw.loose.items = c.deref-2.ensures.value ∙ ap (λ r. r.loose.items) c.raw-2.ensures in
-    subst (λ (ds : List Disj). StandsIn f (pieces_disjs (disj_list (map see_disj ds)))) (kept ∙ sym walked) (loose-stands f)
+    stands-on before (see_trees c.rule_lines.new.trees) c.in_ok-lines.ensures.grows (pieces_disjs (disj_list (map see_disj c.deref-2.result.now)))
+    (subst (λ (ds : sx.Disjs). StandsIn before.known.file (pieces_disjs ds))
+    (trees-loose c.new-trees.result c.new-store.result c.args.file.now c.new-trees.ensures.store c.new-store.ensures.file c.deref-2.result.now walked)
+    (loose-stands before.known.file))
+
+pub add_loose-requires-clause-book : goal.add_loose-requires-clause-book
+add_loose-requires-clause-book c =
+    let before = see_trees c.new-trees.result in
+    let book : IsBookOf before.known.file c.args.book.now =
+    subst (λ (f : sx.File). IsBookOf f c.args.book.now)
+    (sym (trees-file c.new-trees.result c.new-store.result c.args.file.now c.new-trees.ensures.store c.new-store.ensures.file)) c.requires.book in
+    book-on before (see_trees c.rule_lines.new.trees) c.in_ok-lines.ensures.grows c.args.book.now book
+
+pub returns-clause-report : goal.returns-clause-report
+returns-clause-report c answers obey =
+    let walked : c.deref-2.result.now ≡ c.args.file.now.raw.loose.items = c.deref-2.ensures.value ∙ ap (λ r. r.loose.items) c.raw-2.ensures in
+    let all : AreLinesOf c.add_loose.new.lines (reported (world_over (file_of c.args.file.now) c.args.doc.now answers)) =
+    lines-all c.new-trees.result c.new-store.result c.args.file.now c.args.doc.now c.new-trees.ensures.store c.new-store.ensures.doc c.new-store.ensures.file
+    (see_trees c.rule_lines.new.trees) c.in_ok-lines.ensures.grows c.deref-2.result.now walked c.in_ok-lines.lines c.add_loose.new.lines c.in_ok-lines.ensures.lines
+    c.in_ok-add_loose.ensures answers obey in
+    rw (all.text, all.pass, all.fail, all.skip) at c.in_ok-push_total_line.ensures
 
 pub returns-clause-failed : goal.returns-clause-failed
-returns-clause-failed c =
-    let k = see_store c.new-store.result in
-    let known = known_of (file_of c.args.file.now) c.args.doc.now in
-    let same : k ≡ known = store-known c.new-store.result c.args.file.now c.args.doc.now c.new-store.ensures.doc c.new-store.ensures.file c.new-store.ensures.made in
-    let kept : c.new-store.result.file.now.raw.loose.items ≡ c.args.file.now.raw.loose.items = ap (λ r. r.raw.loose.items) c.new-store.ensures.file in
+returns-clause-failed c answers obey =
     let walked : c.deref-2.result.now ≡ c.args.file.now.raw.loose.items = c.deref-2.ensures.value ∙ ap (λ r. r.loose.items) c.raw-2.ensures in
-    let lines : AreLinesOf c.add_loose.new.lines (map (of_rule k) k.file.rules ++ of_loose k (disj_list (map see_disj c.deref-2.result.now))) =
-    c.in_ok-add_loose.ensures (map (of_rule k) k.file.rules) c.in_ok-lines.ensures in
-    let whole : AreLinesOf c.add_loose.new.lines (reported k k.file) =
-    subst (λ (ds : List Disj). AreLinesOf c.add_loose.new.lines (map (of_rule k) k.file.rules ++ of_loose k (disj_list (map see_disj ds)))) (walked ∙ sym kept) lines in
-    let all : AreLinesOf c.add_loose.new.lines (reported known known.file) =
-    subst (λ (q : Known). AreLinesOf c.add_loose.new.lines (reported q q.file)) same whole in
-    ap (nat_lt 0) all.fail ∙ count_by-any is_fail (verdicts_of known known.file)
+    let all : AreLinesOf c.add_loose.new.lines (reported (world_over (file_of c.args.file.now) c.args.doc.now answers)) =
+    lines-all c.new-trees.result c.new-store.result c.args.file.now c.args.doc.now c.new-trees.ensures.store c.new-store.ensures.doc c.new-store.ensures.file
+    (see_trees c.rule_lines.new.trees) c.in_ok-lines.ensures.grows c.deref-2.result.now walked c.in_ok-lines.lines c.add_loose.new.lines c.in_ok-lines.ensures.lines
+    c.in_ok-add_loose.ensures answers obey in
+    ap (nat_lt 0) all.fail ∙ count_by-any is_fail (verdicts_of (world_over (file_of c.args.file.now) c.args.doc.now answers))
