@@ -1,5 +1,4 @@
-//! Graphs of nodes that name one another: what reaches what, circles, and orders in which each node stands behind all
-//! that it names. Nothing here knows what a node stands for.
+//! Graphs of nodes that name one another: what reaches what, and circles. Nothing here knows what a node stands for.
 ghost use Rattle.std.specs.Prelude.{◌≡◌, ◌<◌, ◌++◌, ℕ, List, [], ◌∷◌, IfOk, length, map, replicate, slice_index_or, slice_set};
 ghost use Rattle.std.specs.Result.{OnOk, OnErr};
 ghost use Rattle.std.specs.declared.alloc.Global.{Global};
@@ -12,8 +11,7 @@ mod parts;
 mod reach;
 mod reversal;
 
-pub(crate) use circle::{first_on_circle, first_use};
-pub(crate) use ordering::order;
+pub(crate) use circle::first_on_circle;
 pub(crate) use parts::first_part_use;
 pub(crate) use reach::reached;
 pub(crate) use reversal::reversed;

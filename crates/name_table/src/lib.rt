@@ -6,8 +6,6 @@ pub mod bind;
 mod calls;
 mod circles;
 mod deep;
-#[cfg(test)]
-mod deep_tests;
 mod depths;
 mod doubles;
 mod fault;
@@ -15,12 +13,8 @@ pub mod file;
 mod find;
 mod givers;
 mod graph;
-#[cfg(test)]
-mod graph_tests;
 mod homes;
 pub mod laws;
-#[cfg(test)]
-mod link_tests;
 mod links;
 mod meanings;
 mod measure;
@@ -29,8 +23,6 @@ pub mod piece;
 pub mod refusal;
 mod scopes;
 mod siblings;
-#[cfg(test)]
-mod tests;
 mod uses;
 mod walk;
 mod ways;

@@ -1,45 +1,12 @@
-//! Nodes that reach themselves, and by which of the nodes that they name.
-ghost use Rattle.std.specs.Prelude.{◌≡◌, ◌<◌, ◌≤◌, ◌⊎◌, ◌↔◌, ℕ, [], IfOk, IsTrue, MatchOption, length, slice_index_or};
-ghost use Rattle.std.specs.List.{All};
-ghost use Rattle.name_table.specs.Graphs.{IsFirstOf, IsFirstOnCircle, IsOfNone, NoneOnCircle, Reaches, Uses};
+//! Nodes that reach themselves.
+ghost use Rattle.std.specs.Prelude.{◌≡◌, ◌<◌, ◌≤◌, ◌↔◌, ℕ, IfOk, IsTrue, MatchOption, length};
+ghost use Rattle.name_table.specs.Graphs.{IsFirstOnCircle, NoneOnCircle, Reaches};
 ghost use Rattle.name_table.specs.Marks.{IsMarked};
 
 use crate::graph::Graph;
 use crate::graph::ordering::{Outcome, walk_all};
 use crate::graph::reach::reached;
-use crate::graph::reversal::reversed;
 use std::alloc::{AllocError, Global};
-
-/// The index of the first of some nodes that is a node or is marked.
-fn first_marked_or(nodes: &[u32], node: u32, marks: &[bool]) -> Option<usize>
-    requires { All (λ a. a < length marks.now) nodes.now }
-    ensures { MatchOption result (IsOfNone (λ a. (a ≡ node) ⊎ IsMarked marks.now a) nodes.now) (λ i. IsFirstOf (λ a. (a ≡ node) ⊎ IsMarked marks.now a) nodes.now i) }
-{
-    for (index, other) in nodes.iter().enumerate() {
-        if *other == node {
-            return Some(index);
-        }
-        if marks[*other as usize] {
-            return Some(index);
-        }
-    }
-    None
-}
-
-/// The index of the first of the nodes that a node names that is this node or reaches it.
-pub(crate) fn first_use(
-    alloc: Global,
-    graph: &Graph,
-    node: u32,
-) -> Result<Option<usize>, AllocError>
-    requires { node < length graph.now }
-    ensures { IfOk result (λ found. MatchOption found (IsOfNone (λ a. Uses graph.now a node) (slice_index_or graph.now node []))
-        (λ i. IsFirstOf (λ a. Uses graph.now a node) (slice_index_or graph.now node []) i)) }
-{
-    let back = reversed(alloc, graph)?;
-    let users = reached(alloc, &back, node)?;
-    Ok(first_marked_or(graph.targets(node), node, users.as_slice()))
-}
 
 /// Whether a node reaches itself.
 fn reaches_itself(alloc: Global, graph: &Graph, node: u32) -> Result<bool, AllocError>

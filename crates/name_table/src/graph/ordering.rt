@@ -1,8 +1,7 @@
 //! An order in which each node stands behind all that it names, if no node reaches itself.
 ghost use Rattle.std.specs.Prelude.{◌≡◌, ◌<◌, [], IfOk, MatchOption, MatchBool, length};
 ghost use Rattle.std.specs.List.{All};
-ghost use Rattle.std.specs.Option.{IfSome};
-ghost use Rattle.name_table.specs.Graphs.{HasCircle, IsOrder};
+ghost use Rattle.name_table.specs.Graphs.{HasCircle};
 ghost use Rattle.name_table.specs.Marks.{IsMarked};
 ghost use Rattle.name_table.specs.Ordering.{AreMarkedFrom, IsFirstUnmarked, IsSettled, IsWalked, IsOutcome, Begins};
 
@@ -100,16 +99,4 @@ pub(crate) fn walk_all(alloc: Global, graph: &Graph) -> Result<Outcome, AllocErr
         }
     }
     Ok(Outcome::Ordered(walk.order))
-}
-
-/// The nodes of a graph in the order of a depth-first walk from node 0 upwards, the targets of a node in their order, a
-/// node behind what it names; or nothing, if some node reaches itself.
-pub(crate) fn order(alloc: Global, graph: &Graph) -> Result<Option<Vec<u32>>, AllocError>
-    ensures order { IfOk result (λ found. MatchOption found (HasCircle graph.now) (λ order. IsOrder graph.now order.items)) }
-    ensures no_circle { IfOk result (λ found. IfSome found (λ order. HasCircle graph.now → ⊥)) }
-{
-    match walk_all(alloc, graph)? {
-        Outcome::Ordered(order) => Ok(Some(order)),
-        Outcome::Circle(_) => Ok(None),
-    }
 }
