@@ -1,0 +1,6 @@
+pub mod Lines
+pub mod Reading
+pub mod Seen
+pub mod Shapes
+pub mod Spelling
+pub mod Text

@@ -1,0 +1,259 @@
+//! A line of evidence.
+ghost use Rattle.std.specs.Prelude.{◌≡◌};
+ghost use Rattle.evidence_lines.specs.Reading.{kind_in};
+ghost use Rattle.evidence_lines.specs.Shapes.{is_placed, may_cite, sort_of};
+ghost use Rattle.evidence_lines.specs.Spelling.{kind_text};
+
+use guard_syntax::{Ref, Row, Verdict};
+use std::marker::Model;
+
+/// What a line is about.
+#[derive(Clone, Copy, Debug, PartialEq, Eq)]
+pub enum LineKind {
+    /// The template's root, in the frame of the file.
+    File,
+    /// The value of a body, a filter's candidate or a called body: later lines name this line as their frame.
+    Frame,
+    /// The rows of a literal.
+    Literal,
+    /// The rows of a `some` query.
+    Found,
+    /// The rows of a function call.
+    Fn,
+    /// The rows of a query up to a step that is neither a filter nor a key filter.
+    Step,
+    /// The rows of a query up to a filter.
+    Filter,
+    /// The rows of a query up to a key filter.
+    Keys,
+    /// The keys that a filter or key filter captures.
+    Capture,
+    /// The rows of a type block.
+    Types,
+    /// The verdict of a test.
+    Test,
+    /// The verdict of a reference to a rule.
+    Refer,
+    /// The verdict of a call of a rule.
+    Call,
+    /// The verdict of parts joined by `or`.
+    Disj,
+    /// The verdict of a body, of conditions or of the parts outside rules.
+    Conj,
+    /// The verdict of a `when` block.
+    When,
+    /// The verdict of a block.
+    Block,
+    /// The verdict of a type block.
+    Kinds,
+    /// The verdict of a rule, or of `default`.
+    Rule,
+}
+
+/// What a line can say.
+#[derive(Clone, Copy, Debug, PartialEq, Eq)]
+pub enum Sort {
+    Value,
+    Rows,
+    Verdict,
+}
+
+/// Every kind, in the order of the format.
+const KINDS: [LineKind; 19] = [
+    LineKind::File,
+    LineKind::Frame,
+    LineKind::Literal,
+    LineKind::Found,
+    LineKind::Fn,
+    LineKind::Step,
+    LineKind::Filter,
+    LineKind::Keys,
+    LineKind::Capture,
+    LineKind::Types,
+    LineKind::Test,
+    LineKind::Refer,
+    LineKind::Call,
+    LineKind::Disj,
+    LineKind::Conj,
+    LineKind::When,
+    LineKind::Block,
+    LineKind::Kinds,
+    LineKind::Rule,
+];
+
+impl LineKind {
+    /// The word that names the kind.
+    pub fn name(self) -> &'static str
+        ensures { result.now ≡ kind_text self }
+    {
+        match self {
+            LineKind::File => "file",
+            LineKind::Frame => "frame",
+            LineKind::Literal => "literal",
+            LineKind::Found => "found",
+            LineKind::Fn => "fn",
+            LineKind::Step => "step",
+            LineKind::Filter => "filter",
+            LineKind::Keys => "keys",
+            LineKind::Capture => "capture",
+            LineKind::Types => "types",
+            LineKind::Test => "test",
+            LineKind::Refer => "refer",
+            LineKind::Call => "call",
+            LineKind::Disj => "disj",
+            LineKind::Conj => "conj",
+            LineKind::When => "when",
+            LineKind::Block => "block",
+            LineKind::Kinds => "kinds",
+            LineKind::Rule => "rule",
+        }
+    }
+
+    /// The kind of a name.
+    pub(crate) fn named(name: &[u8]) -> Option<LineKind>
+        ensures { result ≡ kind_in name.now }
+    {
+        KINDS
+            .iter()
+            .copied()
+            .find(|kind| kind.name().as_bytes() == name)
+    }
+
+    /// What a line of the kind says.
+    pub fn sort(self) -> Sort
+        ensures { result ≡ sort_of self }
+    {
+        match self {
+            LineKind::File | LineKind::Frame => Sort::Value,
+            LineKind::Literal
+            | LineKind::Found
+            | LineKind::Fn
+            | LineKind::Step
+            | LineKind::Filter
+            | LineKind::Keys
+            | LineKind::Capture
+            | LineKind::Types => Sort::Rows,
+            LineKind::Test
+            | LineKind::Refer
+            | LineKind::Call
+            | LineKind::Disj
+            | LineKind::Conj
+            | LineKind::When
+            | LineKind::Block
+            | LineKind::Kinds
+            | LineKind::Rule => Sort::Verdict,
+        }
+    }
+
+    /// Whether a line of the kind has a frame and a site.
+    pub fn is_placed(self) -> bool
+        ensures { result ≡ is_placed self }
+    {
+        self != LineKind::File
+    }
+
+    /// Whether a line of the kind may cite others.
+    pub fn may_cite(self) -> bool
+        ensures { result ≡ may_cite self }
+    {
+        match self {
+            LineKind::File | LineKind::Frame | LineKind::Literal | LineKind::Types => false,
+            _ => true,
+        }
+    }
+}
+
+/// The numbers of lines that a line cites, in order. Contracts see a list.
+#[derive(Debug, Drop)]
+pub struct Cites {
+    items: Vec<u64>,
+}
+
+impl Model for Cites {
+    ghost use Rattle.std.specs.Prelude.{ℕ, List};
+
+    ghost Value = { List ℕ };
+
+    ghost view = { λ c. c.items.items };
+}
+
+impl Cites {
+    /// The numbers of a vector.
+    pub fn new(items: Vec<u64>) -> Cites
+        ensures { result ≡ items.items }
+    {
+        Cites { items }
+    }
+
+    /// The numbers themselves.
+    pub fn as_slice(&self) -> &[u64]
+        ensures { result.now ≡ self.now }
+    {
+        &self.items
+    }
+
+    /// The vector that they were made from. It takes no memory.
+    pub fn into_vec(self) -> Vec<u64>
+        ensures { result.items ≡ self }
+    {
+        self.items
+    }
+}
+
+/// The rows that a line says, in order. Contracts see a list.
+#[derive(Debug, Drop)]
+pub struct Rows {
+    items: Vec<Row>,
+}
+
+impl Model for Rows {
+    ghost use Rattle.std.specs.Prelude.{List};
+    ghost use Rattle.guard_syntax.specs.declared.row.Row.{Row};
+
+    ghost Value = { List Row };
+
+    ghost view = { λ r. r.items.items };
+}
+
+impl Rows {
+    /// The rows of a vector.
+    pub fn new(items: Vec<Row>) -> Rows
+        ensures { result ≡ items.items }
+    {
+        Rows { items }
+    }
+
+    /// The rows themselves.
+    pub fn as_slice(&self) -> &[Row]
+        ensures { result.now ≡ self.now }
+    {
+        &self.items
+    }
+
+    /// The vector that they were made from. It takes no memory.
+    pub fn into_vec(self) -> Vec<Row>
+        ensures { result.items ≡ self }
+    {
+        self.items
+    }
+}
+
+/// What a line says.
+#[derive(Debug, Drop)]
+pub enum Outcome {
+    /// The current value of a frame.
+    Value(Ref),
+    Rows(Rows),
+    Verdict(Verdict),
+}
+
+/// A line of evidence. Lines are numbered from 1; a frame is the number of the line of kind `File` or `Frame` that names
+/// it, and a site that of a part of the rule file.
+#[derive(Debug, Drop)]
+pub struct Line {
+    pub kind: LineKind,
+    pub frame: Option<u64>,
+    pub site: Option<u32>,
+    pub cites: Cites,
+    pub outcome: Outcome,
+}

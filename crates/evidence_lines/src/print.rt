@@ -1,0 +1,235 @@
+//! Evidence, printed.
+ghost use Rattle.std.specs.Prelude.{◌≡◌, ◌++◌, ◌∷◌, [], All, IfOk, IfSome, OnErr, OnOk, decimal};
+ghost use Rattle.std.specs.List.{flat_map};
+ghost use Rattle.evidence_lines.specs.Shapes.{HasShape, IsBounded, IsCount, IsOriginBounded, IsOutcomeBounded, IsPlace, IsRefBounded, IsRowBounded};
+ghost use Rattle.evidence_lines.specs.Spelling.{fields_text, further_text, line_text, list_text, optional_text, origin_text, outcome_text, ref_text, row_text, verdict_text};
+
+use crate::line::{Line, Outcome};
+use guard_syntax::{Origin, Ref, Row, Verdict};
+use itoa::Buffer;
+use std::alloc::{AllocError, Global};
+
+/// Appends the text of a line, with its newline. On a refusal nothing is appended. That the numbers are below their bounds
+/// is known of every line that the code has, and said here for who reads the text again.
+pub fn print_line(alloc: Global, line: &Line, into: &mut Vec<u8>) -> Result<(), AllocError>
+    requires { HasShape line.now }
+    ensures printed { OnOk result (into.new.items ≡ into.old.items ++ line_text line.now) }
+    ensures bounded { OnOk result (IsBounded line.now) }
+    ensures kept { OnErr result (into.new.items ≡ into.old.items) }
+{
+    let text = text_of(alloc, line)?;
+    into.extend_from_slice(&text)
+}
+
+/// The text of a line, with its newline.
+fn text_of(alloc: Global, line: &Line) -> Result<Vec<u8>, AllocError>
+    ensures printed { IfOk result (λ text. text.items ≡ line_text line.now) }
+    ensures bounded { OnOk result (IsBounded line.now) }
+{
+    let mut text = Vec::new(alloc);
+    push_fields(&mut text, line)?;
+    text.push(b'\n')?;
+    Ok(text)
+}
+
+fn push_fields(text: &mut Vec<u8>, line: &Line) -> Result<(), AllocError>
+    ensures printed { OnOk result (text.new.items ≡ text.old.items ++ fields_text line.now) }
+    ensures bounded { OnOk result (IsBounded line.now) }
+{
+    text.extend_from_slice(line.kind.name().as_bytes())?;
+    text.push(b' ')?;
+    push_frame(text, line.frame)?;
+    text.push(b' ')?;
+    push_site(text, line.site)?;
+    text.push(b' ')?;
+    push_cites(text, line.cites.as_slice())?;
+    text.push(b' ')?;
+    push_outcome(text, &line.outcome)
+}
+
+/// Appends the number of a frame, or `-` for none.
+fn push_frame(text: &mut Vec<u8>, frame: Option<u64>) -> Result<(), AllocError>
+    ensures printed { OnOk result (text.new.items ≡ text.old.items ++ optional_text frame) }
+    ensures bounded { OnOk result (IfSome frame IsCount) }
+{
+    match frame {
+        None => {
+            text.push(b'-')?;
+            Ok(())
+        }
+        Some(frame) => push_number(text, frame),
+    }
+}
+
+/// Appends a site, or `-` for none.
+fn push_site(text: &mut Vec<u8>, site: Option<u32>) -> Result<(), AllocError>
+    ensures printed { OnOk result (text.new.items ≡ text.old.items ++ optional_text site) }
+    ensures bounded { OnOk result (IfSome site IsPlace) }
+{
+    match site {
+        None => {
+            text.push(b'-')?;
+            Ok(())
+        }
+        Some(site) => push_place(text, site),
+    }
+}
+
+/// Appends a number.
+fn push_number(text: &mut Vec<u8>, number: u64) -> Result<(), AllocError>
+    ensures printed { OnOk result (text.new.items ≡ text.old.items ++ decimal number) }
+    ensures bounded { IsCount number }
+{
+    let mut digits = Buffer::new();
+    text.extend_from_slice(digits.format(number).as_bytes())
+}
+
+/// Appends a site or a node.
+fn push_place(text: &mut Vec<u8>, place: u32) -> Result<(), AllocError>
+    ensures printed { OnOk result (text.new.items ≡ text.old.items ++ decimal place) }
+    ensures bounded { IsPlace place }
+{
+    let mut digits = Buffer::new();
+    text.extend_from_slice(digits.format(place).as_bytes())
+}
+
+/// Appends the numbers of cited lines, with commas between them, or `-` for none.
+fn push_cites(text: &mut Vec<u8>, cites: &[u64]) -> Result<(), AllocError>
+    ensures printed { OnOk result (text.new.items ≡ text.old.items ++ list_text decimal cites.now) }
+    ensures bounded { OnOk result (All IsCount cites.now) }
+{
+    match cites {
+        [] => {
+            text.push(b'-')?;
+            Ok(())
+        }
+        [first, others @ ..] => {
+            push_number(text, *first)?;
+            push_further_cites(text, others)
+        }
+    }
+}
+
+/// Appends a comma and a number, for each.
+fn push_further_cites(text: &mut Vec<u8>, cites: &[u64]) -> Result<(), AllocError>
+    ensures printed { OnOk result (text.new.items ≡ text.old.items ++ flat_map (further_text decimal) cites.now) }
+    ensures bounded { OnOk result (All IsCount cites.now) }
+{
+    for cite in cites {
+        text.push(b',')?;
+        push_number(text, *cite)?;
+    }
+    Ok(())
+}
+
+/// Appends what a line says.
+fn push_outcome(text: &mut Vec<u8>, outcome: &Outcome) -> Result<(), AllocError>
+    ensures printed { OnOk result (text.new.items ≡ text.old.items ++ outcome_text outcome.now) }
+    ensures bounded { OnOk result (IsOutcomeBounded outcome.now) }
+{
+    match outcome {
+        Outcome::Value(value) => push_ref(text, *value),
+        Outcome::Rows(rows) => push_rows(text, rows.as_slice()),
+        Outcome::Verdict(verdict) => {
+            text.push(verdict_sign(*verdict))?;
+            Ok(())
+        }
+    }
+}
+
+fn verdict_sign(verdict: Verdict) -> u8
+    ensures { result ∷ [] ≡ verdict_text verdict }
+{
+    match verdict {
+        Verdict::Pass => b'P',
+        Verdict::Fail => b'F',
+        Verdict::Skip => b'S',
+    }
+}
+
+/// Appends rows, with commas between them, or `-` for none.
+fn push_rows(text: &mut Vec<u8>, rows: &[Row]) -> Result<(), AllocError>
+    ensures printed { OnOk result (text.new.items ≡ text.old.items ++ list_text row_text rows.now) }
+    ensures bounded { OnOk result (All IsRowBounded rows.now) }
+{
+    match rows {
+        [] => {
+            text.push(b'-')?;
+            Ok(())
+        }
+        [first, others @ ..] => {
+            push_row(text, *first)?;
+            push_further_rows(text, others)
+        }
+    }
+}
+
+/// Appends a comma and a row, for each.
+fn push_further_rows(text: &mut Vec<u8>, rows: &[Row]) -> Result<(), AllocError>
+    ensures printed { OnOk result (text.new.items ≡ text.old.items ++ flat_map (further_text row_text) rows.now) }
+    ensures bounded { OnOk result (All IsRowBounded rows.now) }
+{
+    for row in rows {
+        text.push(b',')?;
+        push_row(text, *row)?;
+    }
+    Ok(())
+}
+
+/// Appends a row.
+fn push_row(text: &mut Vec<u8>, row: Row) -> Result<(), AllocError>
+    ensures printed { OnOk result (text.new.items ≡ text.old.items ++ row_text row) }
+    ensures bounded { OnOk result (IsRowBounded row) }
+{
+    match row {
+        Row::Found(value) => push_ref(text, value),
+        Row::Missing { value, step } => {
+            text.push(b'm')?;
+            push_place(text, step)?;
+            text.push(b':')?;
+            push_ref(text, value)
+        }
+        Row::Unmade { call } => {
+            text.push(b'u')?;
+            push_place(text, call)
+        }
+    }
+}
+
+/// Appends a value.
+fn push_ref(text: &mut Vec<u8>, value: Ref) -> Result<(), AllocError>
+    ensures printed { OnOk result (text.new.items ≡ text.old.items ++ ref_text value) }
+    ensures bounded { OnOk result (IsRefBounded value) }
+{
+    push_origin(text, value.origin)?;
+    push_place(text, value.node)?;
+    if value.key {
+        text.push(b'k')?;
+    }
+    Ok(())
+}
+
+/// Appends what stands before the node of a value.
+fn push_origin(text: &mut Vec<u8>, origin: Origin) -> Result<(), AllocError>
+    ensures printed { OnOk result (text.new.items ≡ text.old.items ++ origin_text origin) }
+    ensures bounded { OnOk result (IsOriginBounded origin) }
+{
+    match origin {
+        Origin::Template => {
+            text.push(b'd')?;
+        }
+        Origin::Literal(site) => {
+            text.push(b'l')?;
+            push_place(text, site)?;
+            text.push(b'.')?;
+        }
+        Origin::Made { line, row } => {
+            text.push(b'c')?;
+            push_number(text, line)?;
+            text.push(b'.')?;
+            push_number(text, row)?;
+            text.push(b'.')?;
+        }
+    }
+    Ok(())
+}

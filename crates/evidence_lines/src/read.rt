@@ -1,0 +1,258 @@
+//! Evidence, read from its bytes.
+ghost use Rattle.std.specs.Prelude.{◌≡◌, ◌⊎◌, ◌++◌, ℕ, List, IfErr, IfOk, MatchOption, MatchResult, option_map};
+ghost use Rattle.evidence_lines.specs.Reading.{cites_in, count_in, if_placed, items_in, line_in, line_of_parts, list_in, outcome_in, parts_in, place_in, placed_in, row_in};
+ghost use Rattle.evidence_lines.specs.Seen.{fields_seen, placed_seen};
+ghost use Rattle.evidence_lines.specs.Shapes.{is_placed, may_cite, sort_of};
+ghost use Rattle.evidence_lines.specs.Text.{IsEvidence, IsFault, IsRefused, LacksHeader, header};
+ghost use Rattle.evidence_lines.specs.declared.line.Line.{Line};
+
+use crate::evidence::Evidence;
+use crate::field::{cut, is_none_sign, read_count, read_place, read_ref, read_row, read_verdict};
+use crate::line::{Cites, Line, LineKind, Outcome, Rows, Sort};
+use crate::refusal::EvidenceRefusal;
+use guard_syntax::Row;
+use std::alloc::{AllocError, Global};
+
+/// The first line, with its newline.
+const HEADER: &[u8] = b"guard-evidence 1\n";
+
+/// The bytes of the fields of a line.
+#[derive(Clone, Copy)]
+struct Fields<'a> {
+    kind: &'a [u8],
+    frame: &'a [u8],
+    site: &'a [u8],
+    cites: &'a [u8],
+    outcome: &'a [u8],
+}
+
+/// The fields that stand first.
+#[derive(Clone, Copy)]
+struct Placed {
+    kind: LineKind,
+    frame: Option<u64>,
+    site: Option<u32>,
+}
+
+/// The bytes between the first four spaces and around them.
+fn fields_of(bytes: &[u8]) -> Option<Fields<'_>>
+    ensures { option_map fields_seen result ≡ parts_in bytes.entry.now }
+{
+    let (kind, rest) = cut(bytes, b' ')?;
+    let (frame, rest) = cut(rest, b' ')?;
+    let (site, rest) = cut(rest, b' ')?;
+    let (cites, outcome) = cut(rest, b' ')?;
+    Some(Fields {
+        kind,
+        frame,
+        site,
+        cites,
+        outcome,
+    })
+}
+
+/// The frame of a line, where its kind has one.
+fn read_frame(placed: bool, bytes: &[u8]) -> Option<Option<u64>>
+    ensures { result ≡ if_placed placed count_in bytes.now }
+{
+    if placed {
+        return Some(Some(read_count(bytes)?));
+    }
+    if is_none_sign(bytes) {
+        Some(None)
+    } else {
+        None
+    }
+}
+
+/// The site of a line, where its kind has one.
+fn read_site(placed: bool, bytes: &[u8]) -> Option<Option<u32>>
+    ensures { result ≡ if_placed placed place_in bytes.now }
+{
+    if placed {
+        return Some(Some(read_place(bytes)?));
+    }
+    if is_none_sign(bytes) {
+        Some(None)
+    } else {
+        None
+    }
+}
+
+fn read_placed(fields: &Fields<'_>) -> Option<Placed>
+    ensures { option_map placed_seen result ≡ placed_in (fields_seen fields.now) }
+{
+    let kind = LineKind::named(fields.kind)?;
+    let frame = read_frame(kind.is_placed(), fields.frame)?;
+    let site = read_site(kind.is_placed(), fields.site)?;
+    Some(Placed { kind, frame, site })
+}
+
+/// Numbers with commas between them.
+fn read_counts(alloc: Global, bytes: &[u8]) -> Result<Option<Vec<u64>>, AllocError>
+    ensures { IfOk result (λ o. option_map (λ v. v.items) o ≡ items_in count_in bytes.now) }
+{
+    let mut counts = Vec::new(alloc);
+    let mut rest = bytes;
+    'items: while let Some((item, after)) = cut(rest, b',') {
+        let Some(count) = read_count(item) else {
+            return Ok(None);
+        };
+        counts.push(count)?;
+        rest = after;
+    }
+    let Some(count) = read_count(rest) else {
+        return Ok(None);
+    };
+    counts.push(count)?;
+    Ok(Some(counts))
+}
+
+/// Rows with commas between them.
+fn read_rows(alloc: Global, bytes: &[u8]) -> Result<Option<Vec<Row>>, AllocError>
+    ensures { IfOk result (λ o. option_map (λ v. v.items) o ≡ items_in row_in bytes.now) }
+{
+    let mut rows = Vec::new(alloc);
+    let mut rest = bytes;
+    'items: while let Some((item, after)) = cut(rest, b',') {
+        let Some(row) = read_row(item) else {
+            return Ok(None);
+        };
+        rows.push(row)?;
+        rest = after;
+    }
+    let Some(row) = read_row(rest) else {
+        return Ok(None);
+    };
+    rows.push(row)?;
+    Ok(Some(rows))
+}
+
+/// The numbers that a line cites, where its kind may cite some.
+fn read_cites(alloc: Global, may_cite: bool, bytes: &[u8]) -> Result<Option<Cites>, AllocError>
+    ensures { IfOk result (λ o. o ≡ cites_in may_cite bytes.now) }
+{
+    if is_none_sign(bytes) {
+        return Ok(Some(Cites::new(Vec::new(alloc))));
+    }
+    if !may_cite {
+        return Ok(None);
+    }
+    match read_counts(alloc, bytes)? {
+        None => Ok(None),
+        Some(counts) => Ok(Some(Cites::new(counts))),
+    }
+}
+
+/// The rows that a line says.
+fn read_list(alloc: Global, bytes: &[u8]) -> Result<Option<Rows>, AllocError>
+    ensures { IfOk result (λ o. o ≡ list_in row_in bytes.now) }
+{
+    if is_none_sign(bytes) {
+        return Ok(Some(Rows::new(Vec::new(alloc))));
+    }
+    match read_rows(alloc, bytes)? {
+        None => Ok(None),
+        Some(rows) => Ok(Some(Rows::new(rows))),
+    }
+}
+
+/// What a line of this sort says.
+fn read_outcome(alloc: Global, sort: Sort, bytes: &[u8]) -> Result<Option<Outcome>, AllocError>
+    ensures { IfOk result (λ o. o ≡ outcome_in sort bytes.now) }
+{
+    match sort {
+        Sort::Value => Ok(read_ref(bytes).map(|value| Outcome::Value(value))),
+        Sort::Rows => match read_list(alloc, bytes)? {
+            None => Ok(None),
+            Some(rows) => Ok(Some(Outcome::Rows(rows))),
+        },
+        Sort::Verdict => Ok(read_verdict(bytes).map(|verdict| Outcome::Verdict(verdict))),
+    }
+}
+
+/// A line, from its bytes without the newline.
+fn read_line(alloc: Global, bytes: &[u8]) -> Result<Option<Line>, AllocError>
+    ensures { IfOk result (λ o. o ≡ line_in bytes.now) }
+{
+    match fields_of(bytes) {
+        None => Ok(None),
+        Some(fields) => read_fields(alloc, &fields),
+    }
+}
+
+fn read_fields(alloc: Global, fields: &Fields<'_>) -> Result<Option<Line>, AllocError>
+    ensures { IfOk result (λ o. o ≡ line_of_parts (fields_seen fields.now)) }
+{
+    let Some(placed) = read_placed(fields) else {
+        return Ok(None);
+    };
+    let Some(cites) = read_cites(alloc, placed.kind.may_cite(), fields.cites)? else {
+        return Ok(None);
+    };
+    let Some(outcome) = read_outcome(alloc, placed.kind.sort(), fields.outcome)? else {
+        return Ok(None);
+    };
+    Ok(Some(Line {
+        kind: placed.kind,
+        frame: placed.frame,
+        site: placed.site,
+        cites,
+        outcome,
+    }))
+}
+
+/// The bytes behind the header, if they begin with it.
+fn behind_header(bytes: &[u8]) -> Option<&[u8]>
+    ensures { MatchOption result (LacksHeader bytes.entry.now) (λ rest. header ++ rest.now ≡ bytes.entry.now) }
+{
+    bytes.strip_prefix(HEADER)
+}
+
+/// The lines of bytes that stand behind the header.
+fn read_lines(alloc: Global, bytes: &[u8]) -> Result<Evidence, EvidenceRefusal>
+    ensures lines { IfOk result (λ e. IsEvidence (header ++ bytes.now) e) }
+    ensures refusal { IfErr result (λ r. IsRefused (header ++ bytes.now) r) }
+{
+    let mut lines = Vec::new(alloc);
+    let mut number: u64 = 0;
+    let mut rest = bytes;
+    'lines: while !rest.is_empty() {
+        number += 1;
+        let Some((fields, after)) = cut(rest, b'\n') else {
+            return Err(EvidenceRefusal::Syntax(number));
+        };
+        let Some(line) = read_line(alloc, fields)? else {
+            return Err(EvidenceRefusal::Syntax(number));
+        };
+        match lines.push(line) {
+            Ok(()) => {}
+            Err(_) => return Err(EvidenceRefusal::NoMemory),
+        }
+        rest = after;
+    }
+    Ok(Evidence::of(lines))
+}
+
+fn read_text(alloc: Global, bytes: &[u8]) -> Result<Evidence, EvidenceRefusal>
+    ensures lines { IfOk result (λ e. IsEvidence bytes.now e) }
+    ensures refusal { IfErr result (λ r. IsRefused bytes.now r) }
+{
+    match behind_header(bytes) {
+        None => Err(EvidenceRefusal::Syntax(0)),
+        Some(rest) => read_lines(alloc, rest),
+    }
+}
+
+/// The lines of evidence. `Syntax` has the number of the first line that is not in the format, where the header is 0 and a
+/// last line without its newline is not in the format. The bytes are gone over a few times, each line by itself.
+pub fn read_evidence(alloc: Global, bytes: &[u8]) -> Result<Evidence, EvidenceRefusal>
+    ensures lines { IfOk result (λ e. IsEvidence bytes.now e) }
+    ensures refusal { IfErr result (λ r. IsRefused bytes.now r) }
+    ensures only_lines { (ls : List Line) → IsEvidence bytes.now ls
+        → MatchResult result (λ e. e ≡ ls) (λ r. r ≡ EvidenceRefusal.NoMemory) }
+    ensures only_refusal { (n : ℕ) → IsFault bytes.now n
+        → MatchResult result (λ _. ⊥) (λ r. (r ≡ EvidenceRefusal.NoMemory) ⊎ (r ≡ EvidenceRefusal.Syntax n)) }
+{
+    read_text(alloc, bytes)
+}
