@@ -22,20 +22,24 @@ use Rattle.yaml_blocks.specs.declared.form.Form.TheVariants.{Root, Flow, FlowTag
 use Rattle.yaml_blocks.specs.declared.stage.Stage.TheVariants as stage
 use Rattle.yaml_blocks.specs.declared.stage.Position.{Position}
 use Rattle.yaml_blocks.specs.declared.refusal.YamlRefusal.{YamlRefusal}
+use Rattle.yaml_blocks.specs.declared.refusal.YamlRefusal.TheVariants as refusal
 use Rattle.yaml_blocks.specs.Ahead.{ahead, token_len}
 use Rattle.yaml_blocks.specs.Nodes.{as_key, tag_name, tag_key, follows_get_att, is_cut, setting_of, starts_scalar, scalar_ahead, node_sign, is_tagged}
-use Rattle.yaml_blocks.specs.Blocks.{block_sign, takes_scalar, takes_mapping, takes_sequence, takes_tag, tagged, column_in, IsKey}
+use Rattle.yaml_blocks.specs.Blocks.{block_sign, takes_scalar, takes_mapping, takes_sequence, takes_tag, tagged, column_in, last_place, ends_name, IsBare, IsKey}
+use Rattle.yaml_blocks.specs.Signs as sign
 use Rattle.yaml_blocks.specs.Signs.{Sign, ManyDocuments, DuplicateKey, TooDeep, Reading, Tree, Refused}
 use Rattle.yaml_blocks.specs.Refused.{of_build, of_sign}
 use Rattle.yaml_blocks.specs.Yaml.{IsEnd, end_sign}
 use Rattle.yaml_blocks.specs.Rest.{top, Over, Inside, Ends, Enters, Awaits}
-use Rattle.yaml_blocks.specs.Steps.{IsPlaced, IsSeen, Agrees, Nests, LiesIn, IsSmall, IsBlock, IsBehind, Open, Fits, Goes, Broke, Gives, Deep, NoKey, NoNode, HasKey, Missed, Finds, FindsKey, with_scalar, Holds, TagBegun, Opened, Completes, ends_before, is_dash, is_ending}
+use Rattle.yaml_blocks.specs.Steps.{IsPlaced, IsSeen, Agrees, Nests, LiesIn, IsSmall, IsBlock, IsBehind, IsSpelled, IsCalm, Open, Fits, Goes, Broke, Gives, Deep, NoKey, NoNode, Ended, HasKey, Missed, Finds, FindsKey, with_scalar, Holds, TagBegun, Opened, Completes, ends_before, is_dash, is_ending}
 use Rattle.yaml_blocks.proofs.Forms.{map_kind, inside, awaits_item, awaits_value}
 use Rattle.yaml_blocks.proofs.Gains.{parts, goes, memory_gives, told, untold, sign_gives, IsRoomFor, roomy, deep_gives, value_ends, ends_value, value_deep, deep_value, value_fits}
+use Rattle.yaml_blocks.proofs.LastValues.{last_done, value_last, missing_calm}
+use Rattle.yaml_blocks.proofs.NameEnds.{tag_named, dash_unnamed, colon_unnamed}
 use Rattle.yaml_blocks.proofs.Scalars.{key_single}
 use Rattle.yaml_blocks.proofs.Rests.{opened}
 use Rattle.yaml_blocks.proofs.Quiet.{AreQuiet, ending_word, ending_unsigned, signed_inside, word_inside, end_ending, inside_at, sign_ending, end_only, ends_over, over_ends, no_word_at, no_key_at, line_quiet, IsQuiet, quiet_none, node_quiet, sequence_quiet, mapping_takes, tag_takes, shared, deep_quiet, entry_quiet, item_quiet, ended_quiet, ends_pop, pop_ends}
-use Rattle.yaml_blocks.proofs.BlockRests.{awaits_sequence, sequence_awaits, deep_sequence, awaits_mapping, mapping_awaits, deep_mapping, awaits_tag, tag_awaits, deep_tag, awaits_brackets, brackets_awaits, deep_brackets, awaits_scalar, scalar_awaits, awaits_no_scalar, awaits_missing, missing_awaits, root_missing, ends_item, item_ends, ends_entry, key_ends, ends_again, again_ends, ends_no_colon, block_signed, awaits_documents, documents_awaits, awaits_signed, signed_awaits, ends_signed, signed_ends}
+use Rattle.yaml_blocks.proofs.BlockRests.{awaits_sequence, sequence_awaits, deep_sequence, awaits_mapping, mapping_awaits, deep_mapping, awaits_tag, tag_awaits, deep_tag, awaits_brackets, brackets_awaits, deep_brackets, awaits_scalar, scalar_awaits, awaits_no_scalar, awaits_missing, missing_awaits, root_missing, ends_item, item_ends, ends_entry, key_ends, ends_again, again_ends, ends_no_colon, ends_tag_again, tag_again_ends, ends_no_entry, block_signed, awaits_documents, documents_awaits, awaits_signed, signed_awaits, ends_signed, signed_ends}
 
 -- ---- columns
 
@@ -98,10 +102,10 @@ abbrev pub Awaiting : List ℕ → List Form → Unfinished → ℕ → Reading 
 Awaiting text fs u at v = Awaits text fs u.outer u.done u.key at v
 
 abbrev pub Spot : List ℕ → List Form → Unfinished → Form → ℕ → Ahead → Type 0
-Spot text fs u f at a = (length text ≤ 8388608) × IsPlaced text at a × (top fs ≡ f) × IsBlock f × Open fs u × IsBehind f at
+Spot text fs u f at a = (length text ≤ 8388608) × IsPlaced text at a × (top fs ≡ f) × IsBlock f × Open fs u × IsBehind f at × IsSpelled text f at
 
-pub spot : (text : List ℕ) (fs : List Form) (u : Unfinished) (f : Form) (at : ℕ) (a : Ahead) → length text ≤ 8388608 → IsSeen text false at a → top fs ≡ f → IsBlock f → Fits stage.Value fs u at → Spot text fs u f at a
-spot text fs u f at a s (e, p) t b (o, n, w, l) = (s, p, t, b, o, subst (λ g. IsBehind g at) t l)
+pub spot : (text : List ℕ) (fs : List Form) (u : Unfinished) (f : Form) (at : ℕ) (a : Ahead) → length text ≤ 8388608 → IsSeen text false at a → top fs ≡ f → IsBlock f → Fits text stage.Value fs u at → Spot text fs u f at a
+spot text fs u f at a s (e, p) t b (o, n, w, l, k) = (s, p, t, b, o, subst (λ g. IsBehind g at) t l, subst (λ g. IsSpelled text g at) t k)
 
 -- where another collection begins, and its first node is awaited
 abbrev pub First : List ℕ → List Form → Unfinished → ℕ → Form → Bool → Option (List ℕ) → ℕ → Reading → Type 0
@@ -131,7 +135,7 @@ module _ (text : List ℕ) (fs : List Form) (u : Unfinished) (f : Form) (at : �
       let one : token_len (ahead text false at).token ≡ 1 = ap token_len t in
       goes text (Awaiting text fs u at) (2 * at + 1) gs (Items (column_in f (ahead text false at)) ∷ fs) w (with_open kind.List (ahead text false at).at u) p stage.Value (ahead text false at).behind es ej eg ew
       (λ v. ((λ h. roomy (length u.outer) (FirstItem v) (v ≡ Refused (TooDeep (ahead text false at).at)) d (room_sequence v h)), (λ h. sequence_awaits text fs u.outer f sp.2 sp.3 u.done u.key at v t tk d h)))
-      (((refl, sp.4.0), (subst (λ g. LiesIn (Items (column_in f (ahead text false at))) g) (sym sp.2) st.0, omega (arith, st.1, sp.1.1.0, sp.0), sp.4.1)), (λ e. absurd (cc)), refl, omega (arith, st.1, sp.1.3, one))
+      (((refl, sp.4.0), (subst (λ g. LiesIn (Items (column_in f (ahead text false at))) g) (sym sp.2) st.0, omega (arith, st.1, sp.1.1.0, sp.0), sp.4.1)), (λ e. absurd (cc)), refl, omega (arith, st.1, sp.1.3, one), dash_unnamed text false at t)
       sp.1.2 (omega (arith, sp.1.0, sp.1.3, one))
 
 pub sequence_goes : (text : List ℕ) (fs gs : List Form) (u w : Unfinished) (f : Form) (at : ℕ) (next : Ahead) (p : Position) → next ≡ ahead text false at → Spot text fs u f at next → next.token ≡ Dash → takes_sequence f next ≡ true
@@ -177,7 +181,7 @@ module _ (text : List ℕ) (fs : List Form) (u : Unfinished) (f : Form) (at : �
       let st = mapping_stood f at (ahead text false at) sp.3 sp.5 sp.1.4 tk in
       goes text (Awaiting text fs u at) (2 * at + 1) gs (Entries (column_in f (ahead text false at)) ∷ fs) w (with_key t (with_open kind.Map (ahead text false at).at u)) p stage.Value q es ej eg ew
       (λ v. ((λ h. roomy (length u.outer) (FirstEntry v) (v ≡ Refused (TooDeep (ahead text false at).at)) d (room_mapping v h)), (λ h. mapping_awaits text fs u.outer f sp.2 sp.3 u.done u.key at v t q k tk d h)))
-      (((refl, sp.4.0), (subst (λ g. LiesIn (Entries (column_in f (ahead text false at))) g) (sym sp.2) st.0, omega (arith, st.1, sp.1.1.0, sp.0), sp.4.1)), (λ e. absurd (cc)), (t, refl), tt)
+      (((refl, sp.4.0), (subst (λ g. LiesIn (Entries (column_in f (ahead text false at))) g) (sym sp.2) st.0, omega (arith, st.1, sp.1.1.0, sp.0), sp.4.1)), (λ e. absurd (cc)), (t, refl), tt, ap (ends_name text) k.4 ∙ colon_unnamed text false k.0 true k.3)
       b (omega (arith, far))
 
 pub mapping_goes : (text : List ℕ) (fs gs : List Form) (u w : Unfinished) (f : Form) (at q : ℕ) (next : Ahead) (t : List ℕ) (p : Position) → next ≡ ahead text false at → Spot text fs u f at next → IsKey text next t q → takes_mapping f next ≡ true
@@ -225,7 +229,7 @@ module _ (text : List ℕ) (fs : List Form) (u : Unfinished) (f : Form) (at len 
       let name : List ℕ = tag_key (tag_name text (ahead text false at).at (ahead text false at).behind) in
       goes text (Awaiting text fs u at) (2 * at + 1) gs (tagged f (ahead text false at) ∷ fs) w (with_key name (with_open kind.Map (ahead text false at).at u)) p stage.Value (ahead text false at).behind es ej eg ew
       (λ v. ((λ h. roomy (length u.outer) (FirstBehind v) (v ≡ Refused (TooDeep (ahead text false at).at)) d (room_tag v h)), (λ h. tag_awaits text fs u.outer f sp.2 sp.3 u.done u.key at v len t tk d h)))
-      (((refl, sp.4.0), (subst (λ g. LiesIn (tagged f (ahead text false at)) g) (sym sp.2) l.0, l.1, sp.4.1)), (λ e. absurd (cc)), (name, refl), omega (arith, sp.1.3, some))
+      (((refl, sp.4.0), (subst (λ g. LiesIn (tagged f (ahead text false at)) g) (sym sp.2) l.0, l.1, sp.4.1)), (λ e. absurd (cc)), (name, refl), omega (arith, sp.1.3, some), tag_named text false at len t)
       sp.1.2 (omega (arith, sp.1.0, sp.1.3, some))
 
   tag_node : (gs : List Form) (w : Unfinished) (r : Result Position YamlRefusal) → TagBegun text (tagged f (ahead text false at)) (ahead text false at) fs u gs w r → Gives text (Awaiting text fs u at) (2 * at + 1) gs w r
@@ -281,7 +285,7 @@ scalar_node text fs u w f at (Ok p) sp s tk nm (t, k, (st, hk, lt, b), es, ew, r
       (λ h. value_ends text fs u cut k t (ahead text false at).at p.at v room (awaits_scalar text fs u.outer f sp.2 sp.3 u.done u.key at v t k p.at q s nm st (λ l hl. same_kind (is_typed (setting_of f) text (ahead text false at).at) t l k hl hk) h)),
       (λ h. scalar_awaits text fs u.outer f sp.2 sp.3 u.done u.key at v t k p.at tk st hk (ends_value text fs u cut k t (ahead text false at).at p.at v room h)),
     ))
-    (value_fits fs u cut k t (ahead text false at).at p.at sp.4) b (omega (arith, lt, sp.1.0))
+    (value_fits text fs u cut k t (ahead text false at).at p.at sp.4 lt) b (omega (arith, lt, sp.1.0))
 scalar_node text fs u w f at (Err r) sp s tk nm (inl h) = memory_gives text (Awaiting text fs u at) (2 * at + 1) fs w r h
 scalar_node text fs u w f at (Err r) sp s tk nm (inr (inl (h, m))) =
     let q = node_barred text fs u f at sp tk (start_token text at s) in
@@ -307,18 +311,22 @@ scalar_gives text fs u w f at next r e sp s tk nm h =
 
 -- ---- no node
 
-missing_node : (text : List ℕ) (fs : List Form) (u w : Unfinished) (f : Form) (at : ℕ) (r : Result Position YamlRefusal) → IsCharBoundary text at → Spot text fs u f at (ahead text false at) → NoNode f (ahead text false at) → block_sign f (ahead text false at) ≡ None → (f ≡ Root → ⊥)
+-- a tag without its node has no other behind it
+abbrev pub IsOnce : Form → Ahead → Type 0
+IsOnce f a = is_tagged f ≡ true → (len : ℕ) → a.token ≡ Tag len → ⊥
+
+missing_node : (text : List ℕ) (fs : List Form) (u w : Unfinished) (f : Form) (at : ℕ) (r : Result Position YamlRefusal) → IsCharBoundary text at → Spot text fs u f at (ahead text false at) → NoNode f (ahead text false at) → block_sign f (ahead text false at) ≡ None → (f ≡ Root → ⊥) → IsOnce f (ahead text false at)
     → Completes at (with_value kind.Null [] at u) w r → Gives text (Awaiting text fs u at) (2 * at + 1) fs w r
-missing_node text fs u w f at (Ok p) b sp none us n (es, ej, ew) =
+missing_node text fs u w f at (Ok p) b sp none us n once (es, ej, ew) =
     goes text (Awaiting text fs u at) (2 * at + 1) fs fs w (with_value kind.Null [] at u) p stage.After at es ej refl ew
     (λ v. ((λ h. awaits_missing text fs u.outer f sp.2 sp.3 u.done u.key at v none us h), (λ h. missing_awaits text fs u.outer f sp.2 sp.3 u.done u.key at v n h)))
-    (sp.4, refl) b (omega arith)
-missing_node text fs u w f at (Err e) b sp none us n h = memory_gives text (Awaiting text fs u at) (2 * at + 1) fs w e h
+    (sp.4, refl, (λ k. missing_calm text f (with_value kind.Null [] at u) at sp.3 n sp.6 once)) b (omega arith)
+missing_node text fs u w f at (Err e) b sp none us n once h = memory_gives text (Awaiting text fs u at) (2 * at + 1) fs w e h
 
-pub missing_gives : (text : List ℕ) (fs : List Form) (u w : Unfinished) (f : Form) (at : ℕ) (next : Ahead) (r : Result Position YamlRefusal) → next ≡ ahead text false at → IsCharBoundary text at → Spot text fs u f at next → NoNode f next → block_sign f next ≡ None → (f ≡ Root → ⊥)
+pub missing_gives : (text : List ℕ) (fs : List Form) (u w : Unfinished) (f : Form) (at : ℕ) (next : Ahead) (r : Result Position YamlRefusal) → next ≡ ahead text false at → IsCharBoundary text at → Spot text fs u f at next → NoNode f next → block_sign f next ≡ None → (f ≡ Root → ⊥) → IsOnce f next
     → Completes at (with_value kind.Null [] at u) w r → Gives text (Awaiting text fs u at) (2 * at + 1) fs w r
-missing_gives text fs u w f at next r e b sp none us n h =
-    subst (λ a. Spot text fs u f at a → NoNode f a → block_sign f a ≡ None → Gives text (Awaiting text fs u at) (2 * at + 1) fs w r) (sym e) (λ s x y. missing_node text fs u w f at r b s x y n h) sp none us
+missing_gives text fs u w f at next r e b sp none us n once h =
+    subst (λ a. Spot text fs u f at a → NoNode f a → block_sign f a ≡ None → IsOnce f a → Gives text (Awaiting text fs u at) (2 * at + 1) fs w r) (sym e) (λ s x y z. missing_node text fs u w f at r b s x y n z h) sp none us once
 
 pub no_root : (text : List ℕ) (fs : List Form) (u : Unfinished) (at : ℕ) (next : Ahead) (f : Form) → next ≡ ahead text false at → top fs ≡ f → f ≡ Root → NoNode f next → block_sign f next ≡ None → (v : Reading) → Awaiting text fs u at v → ⊥
 no_root text fs u at next f e t r none us v h =
@@ -419,7 +427,7 @@ item_node text m done at p (pl, fr) n col t es ej fs x xs a ns =
     let near : (ahead text false at).column ≤ (ahead text false at).at = pl.4.0 fr in
     goes text (Ends text (Items m ∷ fs) (x ∷ xs) done at) (2 * at + 2) (Items m ∷ fs) (Items m ∷ fs) (parts (x ∷ xs) done None) (parts (x ∷ xs) done None) p stage.Value (ahead text false at).behind es ej refl refl
     (λ v. ((λ h. ends_item text m fs x xs done at v (item_quiet text (ahead text false at) fs m ns (omega (arith, col)) t) n h), (λ h. item_ends text m fs x xs done at v t fr col h)))
-    ((a, ns), (λ e. absurd (cc)), awaits_item (Items m) (Items m ∷ fs) (parts (x ∷ xs) done None) refl (λ e. absurd (cc)) refl a refl, omega (arith, near, col, pl.3, one)) pl.2 (omega (arith, pl.0, pl.3, one))
+    ((a, ns), (λ e. absurd (cc)), awaits_item (Items m) (Items m ∷ fs) (parts (x ∷ xs) done None) refl (λ e. absurd (cc)) refl a refl, omega (arith, near, col, pl.3, one), dash_unnamed text false at t) pl.2 (omega (arith, pl.0, pl.3, one))
 
 pub item_goes : (text : List ℕ) (m : ℕ) (fs : List Form) (u : Unfinished) (at : ℕ) (next : Ahead) (p : Position) → IsSeen text false at next → next.fresh ≡ true → Inside text at → top fs ≡ Items m → Open fs u → u.key ≡ None
     → next.column ≡ m → next.token ≡ Dash → p.stage ≡ stage.Value → p.at ≡ next.behind → Goes text (Behind text fs u at) (2 * at + 2) fs u p
@@ -432,17 +440,20 @@ item_goes text m fs u at next p (e, pl) fr n t o k col d es ej =
 entry_around : (text : List ℕ) (m : ℕ) (fs : List Form) (a : Ahead) → Nests (Entries m ∷ fs) → a.column ≡ m → AreQuiet text a fs
 entry_around text m fs a ns col = entry_quiet text a fs m ns (omega (arith, col))
 
-pub no_entry : (text : List ℕ) (m : ℕ) (fs : List Form) (next : Ahead) → top fs ≡ Entries m → Nests fs → next.column ≡ m → Missed text (as_key false) next → node_sign false next.at next.token ≡ None → AreQuiet text next fs
-no_entry text m [] next t ns col k us = tt
-no_entry text m (f ∷ fs) next t ns col k us = subst (λ g. Nests (g ∷ fs) → AreQuiet text next (g ∷ fs)) (sym t) (λ ks. ((λ fr c. (k, us)), entry_around text m fs next ks col)) ns
+no_entry : (text : List ℕ) (m : ℕ) (fs : List Form) (u : Unfinished) (at : ℕ) → Inside text at → top fs ≡ Entries m → Open fs u → (ahead text false at).column ≡ m → IsCalm text u at → Missed text (as_key false) (ahead text false at)
+    → node_sign false (ahead text false at).at (ahead text false at).token ≡ None → (v : Reading) → Behind text fs u at v → ⊥
+no_entry text m fs u at n tp o col calm k us =
+    inside (λ hs xs. Nests hs → IsCalm text (parts xs u.done u.key) at → (v : Reading) → Ends text hs xs u.done at v → ⊥) (Entries m) fs u.outer tp (λ r. absurd (cc)) o.0
+    (λ gs x xs ns c v h. ends_no_entry text m gs x xs u.done at v (entry_around text m gs (ahead text false at) ns col) n k us (λ len tag bare. c len tag (last_done (x ∷ xs) u.done at bare.0, bare.1)) h) o.1 calm
 
 -- what is no key was refused
-pub entry_missed : (text : List ℕ) (m : ℕ) (fs : List Form) (u w : Unfinished) (at : ℕ) (next : Ahead) (z : Setting) (r : YamlRefusal) → z ≡ as_key false → next ≡ ahead text false at → Inside text at → top fs ≡ Entries m → Nests fs → next.column ≡ m → node_sign false next.at next.token ≡ None
+pub entry_missed : (text : List ℕ) (m : ℕ) (fs : List Form) (u w : Unfinished) (at : ℕ) (next : Ahead) (z : Setting) (r : YamlRefusal) → z ≡ as_key false → next ≡ ahead text false at → Inside text at → top fs ≡ Entries m → Open fs u → next.column ≡ m → IsCalm text u at → node_sign false next.at next.token ≡ None
     → Finds text z next (Err r) → Gives text (Behind text fs u at) (2 * at + 2) fs w (Err r)
-entry_missed text m fs u w at next z r ez e n t ns col us (inl h) = memory_gives text (Behind text fs u at) (2 * at + 2) fs w r h
-entry_missed text m fs u w at next z r ez e n t ns col us (inr (inr (p, h, d))) = absurd (key_single false text next p (subst (λ y. scalar_ahead text y next ≡ Divided p) ez d))
-entry_missed text m fs u w at next z r ez e n t ns col us (inr (inl (h, k))) =
-    subst (λ y. Gives text (Behind text fs u at) (2 * at + 2) fs w (Err y)) (sym h) (nothing_follows text fs u at next e n (no_entry text m fs next t ns col (subst (λ y. Missed text y next) ez k.0) us))
+entry_missed text m fs u w at next z r ez e n t o col calm us (inl h) = memory_gives text (Behind text fs u at) (2 * at + 2) fs w r h
+entry_missed text m fs u w at next z r ez e n t o col calm us (inr (inr (p, h, d))) = absurd (key_single false text next p (subst (λ y. scalar_ahead text y next ≡ Divided p) ez d))
+entry_missed text m fs u w at next z r ez e n t o col calm us (inr (inl (h, k))) =
+    subst (λ y. Gives text (Behind text fs u at) (2 * at + 2) fs w (Err y)) (sym h)
+    (subst (λ a. a.column ≡ m → Missed text (as_key false) a → node_sign false a.at a.token ≡ None → (v : Reading) → Behind text fs u at v → ⊥) (sym e) (λ c y s. no_entry text m fs u at n t o c calm y s) col (subst (λ y. Missed text y next) ez k.0) us)
 
 entry_node : (text : List ℕ) (m : ℕ) (done : Forest) (at q : ℕ) (t : List ℕ) (w : Unfinished) (p : Position) → Place text at (ahead text false at) → Inside text at → (ahead text false at).column ≡ m → IsKey text (ahead text false at) t q → (ahead text false at).at < q
     → IsCharBoundary text q → has_key done t ≡ false → p.stage ≡ stage.Value → p.at ≡ q → (fs : List Form) (x : Level) (xs : List Level) → Agrees (Entries m ∷ fs) (x ∷ xs) → Nests (Entries m ∷ fs) → w ≡ parts (x ∷ xs) done (Some t)
@@ -450,7 +461,7 @@ entry_node : (text : List ℕ) (m : ℕ) (done : Forest) (at q : ℕ) (t : List 
 entry_node text m done at q t w p (pl, fr) n col k far b new es ej fs x xs a ns ew =
     goes text (Ends text (Entries m ∷ fs) (x ∷ xs) done at) (2 * at + 2) (Entries m ∷ fs) (Entries m ∷ fs) w (parts (x ∷ xs) done (Some t)) p stage.Value q es ej refl ew
     (λ v. ((λ h. ends_entry text m fs x xs done at v t q (entry_around text m fs (ahead text false at) ns col) n k new h), (λ h. key_ends text m fs x xs done at v t q k fr col new h)))
-    ((a, ns), (λ e. absurd (cc)), awaits_value (Entries m) (Entries m ∷ fs) (x ∷ xs) done t refl (λ e. absurd (cc)) refl a, tt) b (omega (arith, pl.0, far))
+    ((a, ns), (λ e. absurd (cc)), awaits_value (Entries m) (Entries m ∷ fs) (x ∷ xs) done t refl (λ e. absurd (cc)) refl a, tt, ap (ends_name text) k.4 ∙ colon_unnamed text false k.0 true k.3) b (omega (arith, pl.0, far))
 
 pub entry_goes : (text : List ℕ) (m : ℕ) (fs : List Form) (u w : Unfinished) (at q : ℕ) (next : Ahead) (t : List ℕ) (p : Position) → IsSeen text false at next → next.fresh ≡ true → Inside text at → top fs ≡ Entries m → Open fs u
     → next.column ≡ m → IsKey text next t q → next.at < q → IsCharBoundary text q → has_key u.done t ≡ false → p.stage ≡ stage.Value → p.at ≡ q → w ≡ with_key t u → Goes text (Behind text fs u at) (2 * at + 2) fs w p
@@ -563,7 +574,7 @@ end_quiet text a (Flow m) g b l e = absurd b
 end_quiet text a (FlowTagged m) g b l e = absurd b
 end_quiet text a (Items m) g b l e = λ fr col t. true≢false (sym e ∙ ap is_ending t)
 end_quiet text a (Tagged at ab sh) g b l e = tt
-end_quiet text a (Entries m) g b l e = λ fr col. (no_word_at text a (ending_word a.token e), ending_unsigned false a.at a.token e)
+end_quiet text a (Entries m) g b l e = λ fr col. (no_word_at text a (ending_word a.token e), ending_unsigned false a.at a.token e, (λ len t. true≢false (sym e ∙ ap is_ending t)))
 
 all_quiet : (text : List ℕ) (a : Ahead) (fs : List Form) → Nests fs → IsBlock (top fs) → is_ending a.token ≡ true → AreQuiet text a fs
 all_quiet text a [] ns b e = tt
@@ -636,3 +647,80 @@ may_end f old gs u e s = by_outer u.outer u.done u.key (subst (λ fs. Agrees fs 
   by_outer : (outer : List Level) (done : Forest) (key : Option (List ℕ)) → Agrees (f ∷ gs) outer → key ≡ None → MayEnd (parts outer done key)
   by_outer [] done key b k = absurd b
   by_outer (x ∷ xs) done key b k = (omega arith, k)
+
+-- ---- a tag behind a tag without a node
+
+-- it begins a line, which is indented less
+tag_fresh : (f : Form) (a : Ahead) (len : ℕ) → IsBlock f → is_tagged f ≡ true → a.token ≡ Tag len → block_sign f a ≡ None → a.fresh ≡ true
+tag_fresh Root a len b g t us = absurd (true≢false (sym g))
+tag_fresh (Flow m) a len b g t us = absurd b
+tag_fresh (FlowTagged m) a len b g t us = absurd b
+tag_fresh (Items m) a len b g t us = absurd (true≢false (sym g))
+tag_fresh (Entries m) a len b g t us = absurd (true≢false (sym g))
+tag_fresh (Tagged at ab sh) a len b g t us = by_line a.fresh (nat_le ab a.column) us where
+  shown : node_sign true a.at a.token ≡ Some (sign.Tag a.at)
+  shown = ap (node_sign true a.at) t
+
+  by_line : (q r : Bool) → cond (not q || r) (node_sign true a.at a.token) None ≡ None → q ≡ true
+  by_line true r e = refl
+  by_line false r e = absurd (let no : Some (sign.Tag a.at) ≡ None = sym shown ∙ e in cc)
+
+-- where blocks ended before it, nothing follows but where a key may begin
+late_quiet : (text : List ℕ) (fs : List Form) (f : Form) (a : Ahead) (len : ℕ) → top fs ≡ f → Nests fs → IsBlock f → ends_before f a ≡ false → a.token ≡ Tag len → (f ≡ Entries a.column → ⊥) → AreQuiet text a fs
+late_quiet text [] f a len t ns b e g n = tt
+late_quiet text (h ∷ fs) Root a len t ns b e g n = absurd (subst (λ z. LiesIn z (top fs)) t ns.0)
+late_quiet text (h ∷ fs) (Flow m) a len t ns b e g n = absurd b
+late_quiet text (h ∷ fs) (FlowTagged m) a len t ns b e g n = absurd b
+late_quiet text (h ∷ fs) (Items m) a len t ns b e g n = item_deep text (h ∷ fs) m a ns t e (λ c. item_stays m a e c (λ d. absurd (let no : Tag len ≡ Dash = sym g ∙ d in cc)))
+late_quiet text (h ∷ fs) (Entries m) a len t ns b e g n = entry_deep text (h ∷ fs) m a ns t e (λ c. n (ap Entries (sym c)))
+late_quiet text (h ∷ fs) (Tagged at ab sh) a len t ns b e g n = absurd (true≢false e)
+
+module _ (text : List ℕ) (fs gs : List Form) (u w : Unfinished) (f : Form) (at len : ℕ) (sp : Spot text fs u f at (ahead text false at)) (tag : (ahead text false at).token ≡ Tag len) (tagged_ : is_tagged f ≡ true)
+    (none : NoNode f (ahead text false at)) (us : block_sign f (ahead text false at) ≡ None) (end : Ended text fs (with_value kind.Null [] at u) (ahead text false at) at gs w (Ok tt)) where
+  no_root_here : f ≡ Root → ⊥
+  no_root_here e = true≢false (sym tagged_ ∙ ap is_tagged e)
+
+  then_behind : (v : Reading) → Awaiting text fs u at v → Behind text gs w at v
+  then_behind v h = (end.0 v).0 (awaits_missing text fs u.outer f sp.2 sp.3 u.done u.key at v none us h)
+
+  behind_then : (v : Reading) → Behind text gs w at v → Awaiting text fs u at v
+  behind_then v h = missing_awaits text fs u.outer f sp.2 sp.3 u.done u.key at v no_root_here ((end.0 v).1 h)
+
+  fresh_here : (ahead text false at).fresh ≡ true
+  fresh_here = tag_fresh f (ahead text false at) len sp.3 tagged_ tag us
+
+  bare_here : IsBare text (last_place w.done) at
+  bare_here = (end.5.1 at (value_last kind.Null [] at u), named f sp.3 tagged_ sp.6) where
+    named : (f : Form) → IsBlock f → is_tagged f ≡ true → IsSpelled text f at → ends_name text at ≡ true
+    named Root b g h = absurd (true≢false (sym g))
+    named (Flow m) b g h = absurd b
+    named (FlowTagged m) b g h = absurd b
+    named (Items m) b g h = absurd (true≢false (sym g))
+    named (Entries m) b g h = absurd (true≢false (sym g))
+    named (Tagged p ab sh) b g h = h
+
+  again_broke : top gs ≡ Entries (ahead text false at).column → Broke (Awaiting text fs u at) (sign.Tag (ahead text false at).at)
+  again_broke t =
+      inside (λ hs xs. Nests hs → ((v : Reading) → (Awaiting text fs u at v → Ends text hs xs w.done at v) × (Ends text hs xs w.done at v → Awaiting text fs u at v)) → Broke (Awaiting text fs u at) (sign.Tag (ahead text false at).at))
+      (Entries (ahead text false at).column) gs w.outer t (λ r. absurd (cc)) end.1.0
+      (λ hs x xs ns h. (
+        (h (Refused (sign.Tag (ahead text false at).at))).1 (tag_again_ends text (ahead text false at).column hs x xs w.done at len fresh_here refl tag bare_here),
+        (λ v k. ends_tag_again text (ahead text false at).column hs x xs w.done at v len (entry_around text (ahead text false at).column hs (ahead text false at) ns refl) (end_token text at (Tag len) tag refl) tag ((h v).0 k)),
+      )) end.1.1 (λ v. (then_behind v, behind_then v))
+
+  again_nothing : (top gs ≡ Entries (ahead text false at).column → ⊥) → (v : Reading) → Awaiting text fs u at v → ⊥
+  again_nothing n v h = nothing_follows text gs w at (ahead text false at) refl (end_token text at (Tag len) tag refl) (late_quiet text gs (top gs) (ahead text false at) len refl end.1.1 end.3 end.4 tag n) v (then_behind v h)
+
+-- behind the null of a tag, with the blocks ended
+abbrev pub Late : List ℕ → List Form → List Form → Unfinished → Unfinished → Form → ℕ → ℕ → Ahead → Type 0
+Late text fs gs u w f at len a = Spot text fs u f at a × (a.token ≡ Tag len) × (is_tagged f ≡ true) × NoNode f a × (block_sign f a ≡ None) × Ended text fs (with_value kind.Null [] at u) a at gs w (Ok tt)
+
+pub tag_again_gives : (text : List ℕ) (n : ℕ) (fs gs : List Form) (u w : Unfinished) (f : Form) (at len p : ℕ) (next : Ahead) → next ≡ ahead text false at → Late text fs gs u w f at len next → p ≡ next.at → top gs ≡ Entries next.column
+    → Gives text (Awaiting text fs u at) n gs w (Err (refusal.Tag p))
+tag_again_gives text n fs gs u w f at len p next e late ep t =
+    subst (λ k. Broke (Awaiting text fs u at) (sign.Tag k)) (sym ep)
+    (subst (λ a. Late text fs gs u w f at len a → top gs ≡ Entries a.column → Broke (Awaiting text fs u at) (sign.Tag a.at)) (sym e) (λ (sp, g, k, none, us, end) c. again_broke text fs gs u w f at len sp g k none us end c) late t)
+
+pub no_tag_again : (text : List ℕ) (fs gs : List Form) (u w : Unfinished) (f : Form) (at len : ℕ) (next : Ahead) → next ≡ ahead text false at → Late text fs gs u w f at len next → (top gs ≡ Entries next.column → ⊥) → (v : Reading) → Awaiting text fs u at v → ⊥
+no_tag_again text fs gs u w f at len next e late n =
+    subst (λ a. Late text fs gs u w f at len a → (top gs ≡ Entries a.column → ⊥) → (v : Reading) → Awaiting text fs u at v → ⊥) (sym e) (λ (sp, g, k, none, us, end) c. again_nothing text fs gs u w f at len sp g k none us end c) late n

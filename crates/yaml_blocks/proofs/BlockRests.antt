@@ -13,11 +13,12 @@ use Rattle.yaml_blocks.specs.declared.form.Form.{Form}
 use Rattle.yaml_blocks.specs.declared.form.Form.TheVariants.{Root, Flow, FlowTagged, Items, Entries, Tagged}
 use Rattle.yaml_blocks.specs.Ahead.{ahead}
 use Rattle.yaml_blocks.specs.Nodes.{as_key, tag_name, tag_key, follows_get_att, is_cut, IsValue, setting_of, leaf, collection, starts_scalar, scalar_ahead, IsScalar, IsMissing, Contents, Within, node_sign, is_tagged}
+use Rattle.yaml_blocks.specs.Signs as sign
 use Rattle.yaml_blocks.specs.Signs.{Sign, ManyDocuments, DuplicateKey, TooDeep, Reach, To, Shows, Reading, Refused}
-use Rattle.yaml_blocks.specs.Blocks.{block_sign, takes_scalar, takes_mapping, takes_sequence, takes_tag, tagged, column_in, IsKey, IsEntry, IsEntrySign, IsBlockNode}
+use Rattle.yaml_blocks.specs.Blocks.{block_sign, takes_scalar, takes_mapping, takes_sequence, takes_tag, tagged, column_in, last_place, IsBare, IsKey, IsEntry, IsEntrySign, IsBlockNode}
 use Rattle.yaml_blocks.specs.Yaml.{IsNode, Spells}
 use Rattle.yaml_blocks.specs.Rest.{top, Inside, Ends, Enters, Follows, Awaits}
-use Rattle.yaml_blocks.specs.Steps.{IsBlock, NoKey, NoNode, is_ending, Failed}
+use Rattle.yaml_blocks.specs.Steps.{IsBlock, NoKey, NoNode, is_ending, Missed, Failed}
 use Rattle.yaml_blocks.proofs.Rests.{none_some, same_sign, signed_word, no_scalar, no_documents, opened, at_node, Entry, entry_awaits, awaits_entry, entry_ends}
 use Rattle.yaml_blocks.proofs.Quiet.{AreQuiet, inside_at, quiet_none, no_key_at, no_key_dash, mapping_takes}
 use Rattle.yaml_blocks.proofs.KeyEnds.{key_end, key_divides}
@@ -423,8 +424,9 @@ module _ (text : List ℕ) where
   -- a key that stands before is the sign
   sign_entry : (m : ℕ) (before : Forest) (i : ℕ) (s : Sign) (t : List ℕ) (e : ℕ) → scalar_ahead text (as_key false) (ahead text false i) ≡ Stands t e → IsEntrySign text m before i s
       → (has_key before t ≡ true) × (s ≡ DuplicateKey (ahead text false i).at)
-  sign_entry m before i s t e st (al, inr sg) = absurd (no_scalar text (ahead text false i) (signed_word false (ahead text false i).at (ahead text false i).token s sg) (as_key false) t e st)
-  sign_entry m before i s t e st (al, inl (u, j, su, again, es)) =
+  sign_entry m before i s t e st (al, inr (len, tag, bare, es)) = absurd (no_scalar text (ahead text false i) (ap starts_scalar tag) (as_key false) t e st)
+  sign_entry m before i s t e st (al, inl (inr sg)) = absurd (no_scalar text (ahead text false i) (signed_word false (ahead text false i).at (ahead text false i).token s sg) (as_key false) t e st)
+  sign_entry m before i s t e st (al, inl (inl (u, j, su, again, es))) =
       let here : Stands u j ≡ Stands t e = sym su ∙ st in
       let same : u ≡ t = cc in
       (subst (λ g. has_key before g ≡ true) same again, es)
@@ -460,7 +462,7 @@ module _ (text : List ℕ) where
   pub again_ends : (m : ℕ) (fs : List Form) (x : Level) (xs : List Level) (done : Forest) (i : ℕ) (t : List ℕ) (j : ℕ) → (ahead text false i).fresh ≡ true → (ahead text false i).column ≡ m
       → scalar_ahead text (as_key false) (ahead text false i) ≡ Stands t j → has_key done t ≡ true → Ends text (Entries m ∷ fs) (x ∷ xs) done i (Refused (DuplicateKey (ahead text false i).at))
   again_ends m fs x xs done i t j fr col st again =
-      let s : Sign = DuplicateKey (ahead text false i).at in (Nil, Shows s, (refl, inr (s, ((fr, col), inl (t, j, st, again, refl)), refl)), refl)
+      let s : Sign = DuplicateKey (ahead text false i).at in (Nil, Shows s, (refl, inr (s, ((fr, col), inl (inl (t, j, st, again, refl))), refl)), refl)
 
   -- another sign
   pub ends_signed : (m : ℕ) (fs : List Form) (x : Level) (xs : List Level) (done : Forest) (i : ℕ) (v : Reading) (s : Sign) → AreQuiet text (ahead text false i) fs → Inside text i
@@ -471,13 +473,42 @@ module _ (text : List ℕ) where
 
     by_tail : Ends text (Entries m ∷ fs) (x ∷ xs) done i v → v ≡ Refused s
     by_tail (Nil, r, (h, inl er), en) = absurd (quiet_none text fs xs _ i v q e (subst (λ n. Follows text fs xs (snoc x.before x.label (joined done Nil)) v n) er en))
-    by_tail (Nil, r, (h, inr (z, (al, inl (t, j, st, again, es)), er)), en) = absurd (none t j st)
-    by_tail (Nil, r, (h, inr (z, (al, inr g), er)), en) = subst (λ n. Follows text fs xs (snoc x.before x.label (joined done Nil)) v n) er en ∙ ap Refused (same_sign _ s z sg g)
+    by_tail (Nil, r, (h, inr (z, (al, inr (len, tag, bare, es)), er)), en) = absurd (none_some _ s (ap (node_sign false (ahead text false i).at) tag) sg)
+    by_tail (Nil, r, (h, inr (z, (al, inl (inl (t, j, st, again, es))), er)), en) = absurd (none t j st)
+    by_tail (Nil, r, (h, inr (z, (al, inl (inr g)), er)), en) = subst (λ n. Follows text fs xs (snoc x.before x.label (joined done Nil)) v n) er en ∙ ap Refused (same_sign _ s z sg g)
     by_tail (Node l kids rest, r, (key, p, z, (t, k, al, hk, ek), n, sp), en) = absurd (none t k.0 k.1)
 
   pub signed_ends : (m : ℕ) (fs : List Form) (x : Level) (xs : List Level) (done : Forest) (i : ℕ) (s : Sign) → (ahead text false i).fresh ≡ true → (ahead text false i).column ≡ m
       → node_sign false (ahead text false i).at (ahead text false i).token ≡ Some s → Ends text (Entries m ∷ fs) (x ∷ xs) done i (Refused s)
-  signed_ends m fs x xs done i s fr col sg = (Nil, Shows s, (refl, inr (s, ((fr, col), inr sg), refl)), refl)
+  signed_ends m fs x xs done i s fr col sg = (Nil, Shows s, (refl, inr (s, ((fr, col), inl (inr sg)), refl)), refl)
+
+  -- a tag behind another
+  pub ends_tag_again : (m : ℕ) (fs : List Form) (x : Level) (xs : List Level) (done : Forest) (i : ℕ) (v : Reading) (len : ℕ) → AreQuiet text (ahead text false i) fs → Inside text i
+      → (ahead text false i).token ≡ Tag len → Ends text (Entries m ∷ fs) (x ∷ xs) done i v → v ≡ Refused (sign.Tag (ahead text false i).at)
+  ends_tag_again m fs x xs done i v len q e tag w = by_tail w where
+    none : (t : List ℕ) (j : ℕ) → scalar_ahead text (as_key false) (ahead text false i) ≡ Stands t j → ⊥
+    none t j st = no_scalar text (ahead text false i) (ap starts_scalar tag) (as_key false) t j st
+
+    by_tail : Ends text (Entries m ∷ fs) (x ∷ xs) done i v → v ≡ Refused (sign.Tag (ahead text false i).at)
+    by_tail (Nil, r, (h, inl er), en) = absurd (quiet_none text fs xs _ i v q e (subst (λ n. Follows text fs xs (snoc x.before x.label (joined done Nil)) v n) er en))
+    by_tail (Nil, r, (h, inr (z, (al, inl (inl (t, j, st, again, es))), er)), en) = absurd (none t j st)
+    by_tail (Nil, r, (h, inr (z, (al, inl (inr g)), er)), en) = absurd (none_some _ z (ap (node_sign false (ahead text false i).at) tag) g)
+    by_tail (Nil, r, (h, inr (z, (al, inr (n, t, bare, es)), er)), en) = subst (λ n. Follows text fs xs (snoc x.before x.label (joined done Nil)) v n) er en ∙ ap Refused es
+    by_tail (Node l kids rest, r, (key, p, z, (t, k, al, hk, ek), n, sp), en) = absurd (none t k.0 k.1)
+
+  pub tag_again_ends : (m : ℕ) (fs : List Form) (x : Level) (xs : List Level) (done : Forest) (i len : ℕ) → (ahead text false i).fresh ≡ true → (ahead text false i).column ≡ m
+      → (ahead text false i).token ≡ Tag len → IsBare text (last_place done) i → Ends text (Entries m ∷ fs) (x ∷ xs) done i (Refused (sign.Tag (ahead text false i).at))
+  tag_again_ends m fs x xs done i len fr col tag bare =
+      let s : Sign = sign.Tag (ahead text false i).at in (Nil, Shows s, (refl, inr (s, ((fr, col), inr (len, tag, bare, refl)), refl)), refl)
+
+  -- nothing that begins an entry
+  pub ends_no_entry : (m : ℕ) (fs : List Form) (x : Level) (xs : List Level) (done : Forest) (i : ℕ) (v : Reading) → AreQuiet text (ahead text false i) fs → Inside text i → Missed text (as_key false) (ahead text false i)
+      → node_sign false (ahead text false i).at (ahead text false i).token ≡ None → ((len : ℕ) → (ahead text false i).token ≡ Tag len → IsBare text (last_place done) i → ⊥) → Ends text (Entries m ∷ fs) (x ∷ xs) done i v → ⊥
+  ends_no_entry m fs x xs done i v q e miss us calm (Nil, r, (h, inl er), en) = quiet_none text fs xs _ i v q e (subst (λ n. Follows text fs xs (snoc x.before x.label (joined done Nil)) v n) er en)
+  ends_no_entry m fs x xs done i v q e miss us calm (Nil, r, (h, inr (z, (al, inl (inl (t, j, st, again, es))), er)), en) = miss t j st
+  ends_no_entry m fs x xs done i v q e miss us calm (Nil, r, (h, inr (z, (al, inl (inr g)), er)), en) = none_some _ z us g
+  ends_no_entry m fs x xs done i v q e miss us calm (Nil, r, (h, inr (z, (al, inr (n, t, bare, es)), er)), en) = calm n t bare
+  ends_no_entry m fs x xs done i v q e miss us calm (Node l kids rest, r, (key, p, z, (t, k, al, hk, ek), n, sp), en) = miss t k.0 k.1
 
   -- a key without its colon
   pub ends_no_colon : (m : ℕ) (fs : List Form) (x : Level) (xs : List Level) (done : Forest) (i : ℕ) (v : Reading) (t : List ℕ) (j : ℕ) → AreQuiet text (ahead text false i) fs → Inside text i

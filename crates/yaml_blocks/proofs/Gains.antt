@@ -32,6 +32,8 @@ use Rattle.yaml_blocks.specs.Refused.{of_build, of_sign}
 use Rattle.yaml_blocks.specs.Rest.{top, Ends, Enters, Follows, Awaits}
 use Rattle.yaml_blocks.specs.Steps.{IsPlaced, IsSeen, Rest, Agrees, LiesIn, Nests, IsFlow, Open, Fits, reached, Goes, Broke, Gives, Deep, Found, Missed, Finds, with_scalar, IsRoom, Holds, TagBegun, Opened, Closed, Completes, is_flow_ending}
 use Rattle.yaml_blocks.proofs.Forms.{map_kind, flow_inside, awaits_value, may_end}
+use Rattle.yaml_blocks.proofs.LastValues.{scalar_calm, unnamed_calm, flow_calm}
+use Rattle.yaml_blocks.proofs.NameEnds.{bracket_unnamed}
 use Rattle.yaml_blocks.proofs.Scalars.{key_single}
 use Rattle.yaml_blocks.proofs.Rests.{no_scalar, ends_comma, comma_ends, ends_closed, closed_ends, ends_begin, enters_closed, closed_enters, enters_item, item_enters, enters_key, key_enters, enters_no_key, enters_same_key, same_key_enters, enters_no_colon, NoEndings, ends_tag, tag_ends, awaits_scalar, scalar_awaits, awaits_opens, opens_awaits, deep_opens, awaits_tag, tag_awaits, deep_tag, awaits_missing, missing_awaits, awaits_none, awaits_documents, documents_awaits, awaits_signed, signed_awaits, may_untagged, enters_signed, signed_enters, enters_marked, marked_enters, ends_marked, marked_ends}
 
@@ -41,11 +43,11 @@ parts outer done key = record { outer = outer; done = done; key = key }
 
 -- what may follow at a stage, a place and an unfinished tree is the same as before
 abbrev Same : List ℕ → (Reading → Type 0) → ℕ → Stage → ℕ → List Form → Unfinished → Type 0
-Same text P n s j fs u = ((v : Reading) → (P v → Rest text s fs u j v) × (Rest text s fs u j v → P v)) × Fits s fs u j × IsCharBoundary text j × (n < reached s j)
+Same text P n s j fs u = ((v : Reading) → (P v → Rest text s fs u j v) × (Rest text s fs u j v → P v)) × Fits text s fs u j × IsCharBoundary text j × (n < reached s j)
 
 -- a position is given by its parts
 pub goes : (text : List ℕ) (P : Reading → Type 0) (n : ℕ) (gs fs : List Form) (w u : Unfinished) (p : Position) (s : Stage) (j : ℕ) → p.stage ≡ s → p.at ≡ j → gs ≡ fs → w ≡ u
-    → ((v : Reading) → (P v → Rest text s fs u j v) × (Rest text s fs u j v → P v)) → Fits s fs u j → IsCharBoundary text j → n < reached s j → Goes text P n gs w p
+    → ((v : Reading) → (P v → Rest text s fs u j v) × (Rest text s fs u j v → P v)) → Fits text s fs u j → IsCharBoundary text j → n < reached s j → Goes text P n gs w p
 goes text P n gs fs w u p s j es ej eg ew h f b l =
     subst (λ st. Same text P n st p.at gs w) (sym es)
     (subst (λ k. Same text P n s k gs w) (sym ej) (subst (λ g. Same text P n s j g w) (sym eg) (subst (λ z. Same text P n s j fs z) (sym ew) (h, f, b, l))))
@@ -175,7 +177,7 @@ module _ (text : List ℕ) (fs : List Form) (u : Unfinished) (f : Form) (at len 
       let name : List ℕ = tag_key (tag_name text (ahead text true at).at (ahead text true at).behind) in
       goes text (FlowAwaiting text fs u at) (2 * at + 2) gs (FlowTagged (ahead text true at).at ∷ fs) w (with_key name (with_open kind.Map (ahead text true at).at u)) p stage.Value (ahead text true at).behind es ej eg ew
       (λ v. ((λ h. roomy (length u.outer) (FirstBehind v) (v ≡ Refused (TooDeep (ahead text true at).at)) d (room_tag v h)), (λ h. tag_awaits text fs u.outer f sp.1 sp.2 sp.3.1 u.done u.key at v len c mt d h)))
-      (((refl, sp.3.0), (subst (LiesIn (FlowTagged (ahead text true at).at)) (sym sp.1) (tag_lies (ahead text true at).at f mt), tt, sp.3.1)), (λ e. absurd (cc)), (name, refl), omega (arith, sp.0.3, some))
+      (((refl, sp.3.0), (subst (LiesIn (FlowTagged (ahead text true at).at)) (sym sp.1) (tag_lies (ahead text true at).at f mt), tt, sp.3.1)), (λ e. absurd (cc)), (name, refl), omega (arith, sp.0.3, some), tt)
       sp.0.2 (omega (arith, sp.0.0, sp.0.3, some))
 
   tag_node : (gs : List Form) (w : Unfinished) (r : Result Position YamlRefusal) → TagBegun text (FlowTagged (ahead text true at).at) (ahead text true at) fs u gs w r → Gives text (FlowAwaiting text fs u at) (2 * at + 2) gs w r
@@ -248,9 +250,9 @@ pub deep_value : (text : List ℕ) (fs : List Form) (u : Unfinished) (c : Bool) 
 deep_value text fs u true k t at j e d = (collection false u.key at, Nil, Shows (TooDeep at), inr (d, refl), refl)
 deep_value text fs u false k t at j e d = absurd (true≢false (sym e))
 
-pub value_fits : (fs : List Form) (u : Unfinished) (c : Bool) (k : Kind) (t : List ℕ) (at j : ℕ) → Open fs u → Fits stage.After fs (with_scalar c k t at u) j
-value_fits fs u false k t at j o = (o, refl)
-value_fits fs u true k t at j o = (o, refl)
+pub value_fits : (text : List ℕ) (fs : List Form) (u : Unfinished) (c : Bool) (k : Kind) (t : List ℕ) (at j : ℕ) → Open fs u → at < j → Fits text stage.After fs (with_scalar c k t at u) j
+value_fits text fs u false k t at j o l = (o, refl, (λ b. scalar_calm text false k t at j u l))
+value_fits text fs u true k t at j o l = (o, refl, (λ b. scalar_calm text true k t at j u l))
 
 abbrev NoOpening : Form → Token → Type 0
 NoOpening f t = ((m : Bool) → t ≡ Opens m → ⊥) × (may_tag f ≡ true → (len : ℕ) → t ≡ Tag len → ⊥)
@@ -264,7 +266,7 @@ scalar_node text fs u w f at (Ok p) sp shut us none (t, k, (st, hk, lt, b), es, 
       (λ h. value_ends text fs u cut k t (ahead text true at).at p.at v room (awaits_scalar text fs u.outer f sp.1 sp.2 sp.3.1 u.done u.key at v t k p.at none st (λ l hl. same_kind (is_typed (setting_of f) text (ahead text true at).at) t l k hl hk) h)),
       (λ h. scalar_awaits text fs u.outer f sp.1 sp.2 sp.3.1 u.done u.key at v t k p.at st hk (ends_value text fs u cut k t (ahead text true at).at p.at v room h)),
     ))
-    (value_fits fs u cut k t (ahead text true at).at p.at sp.3) b (omega (arith, lt, sp.0.0))
+    (value_fits text fs u cut k t (ahead text true at).at p.at sp.3 lt) b (omega (arith, lt, sp.0.0))
 scalar_node text fs u w f at (Err r) sp shut us none (inl h) = memory_gives text (FlowAwaiting text fs u at) (2 * at + 2) fs w r h
 scalar_node text fs u w f at (Err r) sp shut us none (inr (inl (h, m))) =
     subst (λ z. Gives text (FlowAwaiting text fs u at) (2 * at + 2) fs w (Err z)) (sym h) (λ v x. awaits_none text fs u.outer f sp.1 sp.2 sp.3.1 u.done u.key at v none shut us m x)
@@ -334,7 +336,7 @@ null_node text fs u w f at (Ok p) sp b mm c (es, ej, ew) =
       (λ h. awaits_missing text fs u.outer f sp.1 sp.2 sp.3.1 u.done u.key at v (ending_shut f t c) (ending_unsigned (is_tagged f) (ahead text true at).at t c) (ending_start t c) h),
       (λ h. missing_awaits text fs u.outer f sp.1 sp.2 sp.3.1 u.done u.key at v mm h),
     ))
-    (sp.3, refl) b (omega arith)
+    (sp.3, refl, flow_calm text fs f (with_value kind.Null [] at u) at sp.1 sp.2) b (omega arith)
 null_node text fs u w f at (Err e) sp b mm c h = memory_gives text (FlowAwaiting text fs u at) (2 * at + 1) fs w e h
 
 pub null_gives : (text : List ℕ) (fs : List Form) (u w : Unfinished) (f : Form) (at : ℕ) (next : Ahead) (r : Result Position YamlRefusal) → next ≡ ahead text true at → FlowSpot text fs u f at next → IsCharBoundary text at → may_miss f ≡ true → is_flow_ending next.token ≡ true
@@ -397,7 +399,7 @@ close_entry text mp done key gs w at (Ok p) pl c fs x xs a ns (es, ej, (f, eg), 
     let rest : gs ≡ fs = cc in
     goes text (Enters text (Flow mp ∷ fs) (x ∷ xs) done at) (2 * at + 2) gs fs w (with_end (parts (x ∷ xs) done key)) p stage.After (ahead text true at).behind es ej rest ew
     (λ v. ((λ h. enters_closed text mp fs x xs done at v c (no_scalar text (ahead text true at) (ap starts_scalar c)) h), (λ h. closed_enters text mp fs x xs done at v c h)))
-    ((a.1, ns.2), refl) pl.2 (omega (arith, far))
+    ((a.1, ns.2), refl, (λ k. unnamed_calm text (with_end (parts (x ∷ xs) done key)) (ahead text true at).behind (bracket_unnamed text true at mp c))) pl.2 (omega (arith, far))
 close_entry text mp done key gs w at (Err e) pl c fs x xs a ns h = memory_gives text (Enters text (Flow mp ∷ fs) (x ∷ xs) done at) (2 * at + 2) gs w e h
 
 pub closed_entry_gives : (text : List ℕ) (mp : Bool) (fs gs : List Form) (u w : Unfinished) (at : ℕ) (next : Ahead) (r : Result Position YamlRefusal) → IsSeen text true at next → next.token ≡ Closes mp → top fs ≡ Flow mp → Open fs u
@@ -415,7 +417,7 @@ close_after text mp done key gs w at (Ok p) pl c fs x xs a ns (es, ej, (f, eg), 
     let rest : gs ≡ fs = cc in
     goes text (Ends text (Flow mp ∷ fs) (x ∷ xs) done at) (2 * at + 2) gs fs w (with_end (parts (x ∷ xs) done key)) p stage.After (ahead text true at).behind es ej rest ew
     (λ v. ((λ h. ends_closed text mp fs x xs done at v c h), (λ h. closed_ends text mp fs x xs done at v c h)))
-    ((a.1, ns.2), refl) pl.2 (omega (arith, far))
+    ((a.1, ns.2), refl, (λ k. unnamed_calm text (with_end (parts (x ∷ xs) done key)) (ahead text true at).behind (bracket_unnamed text true at mp c))) pl.2 (omega (arith, far))
 close_after text mp done key gs w at (Err e) pl c fs x xs a ns h = memory_gives text (Ends text (Flow mp ∷ fs) (x ∷ xs) done at) (2 * at + 2) gs w e h
 
 pub closed_after_gives : (text : List ℕ) (mp : Bool) (fs gs : List Form) (u w : Unfinished) (at : ℕ) (next : Ahead) (r : Result Position YamlRefusal) → IsSeen text true at next → next.token ≡ Closes mp → top fs ≡ Flow mp → Open fs u
@@ -458,7 +460,7 @@ key_node : (text : List ℕ) (done : Forest) (at place end : ℕ) (t : List ℕ)
 key_node text done at place end t w p open_ st lt le b col new es ej fs x xs a ns ew =
     goes text (Enters text (Flow true ∷ fs) (x ∷ xs) done at) (2 * at + 2) (Flow true ∷ fs) (Flow true ∷ fs) w (parts (x ∷ xs) done (Some t)) p stage.Value place es ej refl ew
     (λ v. ((λ h. enters_key text true fs x xs done at v t end place refl open_ st new col h), (λ h. key_enters text true fs x xs done at v t end place refl st new col h)))
-    ((a, ns), (λ e. absurd (cc)), awaits_value (Flow true) (Flow true ∷ fs) (x ∷ xs) done t refl (λ e. absurd (cc)) refl a, tt) b (omega (arith, lt, le))
+    ((a, ns), (λ e. absurd (cc)), awaits_value (Flow true) (Flow true ∷ fs) (x ∷ xs) done t refl (λ e. absurd (cc)) refl a, tt, tt) b (omega (arith, lt, le))
 
 pub key_gives : (text : List ℕ) (fs : List Form) (u w : Unfinished) (at place end : ℕ) (next : Ahead) (t : List ℕ) (k : Kind) (p : Position) → IsSeen text true at next → (next.token ≡ Closes true → ⊥) → top fs ≡ Flow true → Open fs u
     → Found text (as_key true) next t k end → end ≤ place → IsCharBoundary text place → IsColon text (begins_quoted (drop next.at text)) end place

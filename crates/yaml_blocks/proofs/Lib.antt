@@ -1,10 +1,13 @@
+mod AheadStays
 mod BlockGains
 mod BlockRests
 mod Colons
 mod Forms
 mod Gains
 mod KeyEnds
+mod LastValues
 mod Looks
+mod NameEnds
 mod Placed
 mod Quiet
 mod Refusals

@@ -56,7 +56,7 @@ name_ascii b h = by_tests (nat_le 65 b) (nat_lt b 91) (nat_le 97 b) (nat_lt b 12
   by_tests false q false s true false f g k e = absurd (cc)
   by_tests false q false s false u f g k e = absurd (cc)
 
-name_before : (n : ℕ) (xs : List ℕ) → n < lead is_name (line_at xs) → (n < length xs) × (is_name (get_or xs n 0) ≡ true)
+pub name_before : (n : ℕ) (xs : List ℕ) → n < lead is_name (line_at xs) → (n < length xs) × (is_name (get_or xs n 0) ≡ true)
 name_before n xs l =
     let f = lead_le is_name (line_at xs) in
     let g = line_fits xs in

@@ -163,13 +163,16 @@ module _ (text : List ℕ) where
   no_word_dash : (a : Ahead) → a.token ≡ Dash → Missed text (as_key false) a
   no_word_dash a e = no_word_at a (ap starts_scalar e)
 
-  -- no further entry of a block begins at a token, and no key that stands before
+  no_tag_dash : (a : Ahead) → a.token ≡ Dash → (len : ℕ) → a.token ≡ Tag len → ⊥
+  no_tag_dash a e len t = absurd (let no : Tag len ≡ Dash = sym t ∙ e in cc)
+
+  -- no further entry of a block begins at a token, and no key that stands before, and no tag
   abbrev pub IsQuiet : Ahead → Form → Type 0
   IsQuiet a Root = ⊥
   IsQuiet a (Flow map) = ⊥
   IsQuiet a (FlowTagged at) = ⊥
   IsQuiet a (Items m) = a.fresh ≡ true → a.column ≡ m → a.token ≡ Dash → ⊥
-  IsQuiet a (Entries m) = a.fresh ≡ true → a.column ≡ m → Missed text (as_key false) a × (node_sign false a.at a.token ≡ None)
+  IsQuiet a (Entries m) = a.fresh ≡ true → a.column ≡ m → Missed text (as_key false) a × (node_sign false a.at a.token ≡ None) × ((len : ℕ) → a.token ≡ Tag len → ⊥)
   IsQuiet a (Tagged at ab sh) = Unit {0}
 
   abbrev pub AreQuiet : Ahead → List Form → Type 0
@@ -182,8 +185,9 @@ module _ (text : List ℕ) where
   rest_quiet g (FlowTagged m) d before i r q sp = absurd q
   rest_quiet Nil (Items m) d before i r q (e, h) = (refl, h)
   rest_quiet Nil (Entries m) d before i r q (e, inl h) = (refl, h)
-  rest_quiet Nil (Entries m) d before i r q (e, inr (s, ((fr, col), inl (t, j, st, again, es)), h)) = absurd ((q fr col).0 t j st)
-  rest_quiet Nil (Entries m) d before i r q (e, inr (s, ((fr, col), inr sg), h)) = absurd (none_some _ s (q fr col).1 sg)
+  rest_quiet Nil (Entries m) d before i r q (e, inr (s, ((fr, col), inl (inl (t, j, st, again, es))), h)) = absurd ((q fr col).0 t j st)
+  rest_quiet Nil (Entries m) d before i r q (e, inr (s, ((fr, col), inl (inr sg)), h)) = absurd (none_some _ s (q fr col).1 sg)
+  rest_quiet Nil (Entries m) d before i r q (e, inr (s, ((fr, col), inr (len, tag, bare, es)), h)) = absurd ((q fr col).2 len tag)
   rest_quiet Nil (Tagged at ab sh) d before i r q (e, h) = (refl, h)
   rest_quiet (Node l kids rest) (Tagged at ab sh) d before i r q (key, p, z, (e, ek, ep), n, sp) = absurd (true≢false (sym e))
   rest_quiet (Node l kids rest) (Items m) d before i r q (key, p, z, (t, (fr, col), ek, ep), n, sp) = absurd (q fr col t)
@@ -267,7 +271,7 @@ module _ (text : List ℕ) where
   tag_quiet a (Flow q ∷ fs) at ab sh (k, s, ns) t l h = absurd k
   tag_quiet a (FlowTagged q ∷ fs) at ab sh (k, s, ns) t l h = absurd k
   tag_quiet a (Items c ∷ fs) at ab sh (k, s, ns) t l h = let e = k.0 in below_quiet a (Items c ∷ fs) ab (omega (arith, e), nests_below (Items c) fs ab ns (omega (arith, e))) (λ f. h k.1)
-  tag_quiet a (Entries c ∷ fs) at ab sh (k, s, ns) t l h = ((λ f col. (no_word_dash a t, ap (node_sign false a.at) t)), entry_quiet a fs c ns (omega (arith, k, l)))
+  tag_quiet a (Entries c ∷ fs) at ab sh (k, s, ns) t l h = ((λ f col. (no_word_dash a t, ap (node_sign false a.at) t, no_tag_dash a t)), entry_quiet a fs c ns (omega (arith, k, l)))
   tag_quiet a (Tagged b n s' ∷ fs) at ab sh (k, s, ns) t l h = absurd k
 
   pub item_quiet : (a : Ahead) (fs : List Form) (m : ℕ) → Nests (Items m ∷ fs) → m ≤ a.column → a.token ≡ Dash → AreQuiet a fs
@@ -277,7 +281,7 @@ module _ (text : List ℕ) where
   item_quiet a (FlowTagged q ∷ fs) m (k, s, ns) l t = absurd k
   item_quiet a (Items c ∷ fs) m (k, s, ns) l t = below_quiet a (Items c ∷ fs) m (k, nests_below (Items c) fs m ns k) (λ f. l)
   item_quiet a (Tagged b ab sh ∷ fs) m (k, s, ns) l t = (tt, tag_quiet a fs b ab sh ns t (let e = k.0 in omega (arith, e, l)) (λ f. let e = k.1 f in omega (arith, e, l)))
-  item_quiet a (Entries c ∷ fs) m (k, s, ns) l t = ((λ f col. (no_word_dash a t, ap (node_sign false a.at) t)), entry_quiet a fs c ns (omega (arith, k, l)))
+  item_quiet a (Entries c ∷ fs) m (k, s, ns) l t = ((λ f col. (no_word_dash a t, ap (node_sign false a.at) t, no_tag_dash a t)), entry_quiet a fs c ns (omega (arith, k, l)))
 
   -- where a node may begin
   either : (q : Bool) (m n : ℕ) → (not q || nat_lt m n) ≡ true → q ≡ true → m < n
@@ -353,7 +357,7 @@ module _ (text : List ℕ) where
       subst (λ z. Nests (z ∷ fs) → AreQuiet a (z ∷ fs)) (sym e) (λ ks. (tt, tag_quiet a fs at ab sh ks t w.1 w.2)) ns
   sequence_quiet a (Entries m) (g ∷ fs) e ns t h =
       let l : m ≤ a.column = let b = both a.fresh (nat_le m a.column) h in let le = b.1 in grind (arith, nat_tests) in
-      subst (λ z. Nests (z ∷ fs) → AreQuiet a (z ∷ fs)) (sym e) (λ ks. ((λ fr col. (no_word_dash a t, ap (node_sign false a.at) t)), entry_quiet a fs m ks l)) ns
+      subst (λ z. Nests (z ∷ fs) → AreQuiet a (z ∷ fs)) (sym e) (λ ks. ((λ fr col. (no_word_dash a t, ap (node_sign false a.at) t, no_tag_dash a t)), entry_quiet a fs m ks l)) ns
 
   -- a block that ends before a line has no entry there
   less_or : (c m : ℕ) (q : Bool) → (nat_lt c m || (nat_eq c m && q)) ≡ true → c ≡ m → q ≡ true

@@ -29,6 +29,7 @@ use Rattle.yaml_blocks.specs.Yaml.{IsRoot, IsStart, is_content, sign_before, tex
 use Rattle.yaml_blocks.specs.Rest.{Over, Ends, Awaits, Begins}
 use Rattle.yaml_blocks.specs.Steps.{Rest, Fits, reached, Broke, Gives, Goes, NoNode, Completes, is_ending}
 use Rattle.yaml_blocks.proofs.Gains.{goes, memory_gives, told, untold}
+use Rattle.yaml_blocks.proofs.LastValues.{ending_calm}
 use Rattle.yaml_blocks.proofs.Quiet.{ending_word, ending_unsigned, end_ending, sign_ending}
 use Rattle.yaml_blocks.proofs.BlockRests.{root_missing, unsigned_block}
 
@@ -52,7 +53,7 @@ missing_begins text i v en = (leaf kind.Null [] None (length text), Nil, To i, i
 
 null_root : (text : List ℕ) (w : Unfinished) (at : ℕ) (r : Result Position YamlRefusal) → is_ending (ahead text false at).token ≡ true → IsCharBoundary text at → Completes at (with_value kind.Null [] (length text) start) w r → Gives text (Begins text at) 0 [] w r
 null_root text w at (Ok p) c b (es, ej, ew) =
-    goes text (Begins text at) 0 [] [] w (with_value kind.Null [] (length text) start) p stage.After at es ej refl ew (λ v. ((λ h. begins_missing text at v c h), (λ h. missing_begins text at v h))) ((tt, tt), refl) b (omega arith)
+    goes text (Begins text at) 0 [] [] w (with_value kind.Null [] (length text) start) p stage.After at es ej refl ew (λ v. ((λ h. begins_missing text at v c h), (λ h. missing_begins text at v h))) ((tt, tt), refl, (λ k. ending_calm text (with_value kind.Null [] (length text) start) at c)) b (omega arith)
 null_root text w at (Err e) c b h = memory_gives text (Begins text at) 0 [] w e h
 
 pub null_root_gives : (text : List ℕ) (u w : Unfinished) (at : ℕ) (next : Ahead) (r : Result Position YamlRefusal) → u ≡ start → next ≡ ahead text false at → IsCharBoundary text at → is_ending next.token ≡ true
@@ -77,7 +78,7 @@ node_begins text i v (l, kids, Shows s, h, d) = (l, kids, Shows s, inr h, d)
 
 root_node : (text : List ℕ) (w : Unfinished) (at : ℕ) (p : Position) → is_ending (ahead text false at).token ≡ false → IsCharBoundary text at → w ≡ start → p.stage ≡ stage.Value → p.at ≡ at → Goes text (Begins text at) 0 [] w p
 root_node text w at p n b ew es ej =
-    goes text (Begins text at) 0 [] [] w start p stage.Value at es ej refl ew (λ v. ((λ h. begins_node text at v n h), (λ h. node_begins text at v h))) ((tt, tt), (λ e. absurd (cc)), (refl, refl), tt) b (omega arith)
+    goes text (Begins text at) 0 [] [] w start p stage.Value at es ej refl ew (λ v. ((λ h. begins_node text at v n h), (λ h. node_begins text at v h))) ((tt, tt), (λ e. absurd (cc)), (refl, refl), tt, tt) b (omega arith)
 
 pub root_goes : (text : List ℕ) (w : Unfinished) (at : ℕ) (next : Ahead) (p : Position) → next ≡ ahead text false at → is_ending next.token ≡ false → IsCharBoundary text at → w ≡ start → p.stage ≡ stage.Value → p.at ≡ at
     → Goes text (Begins text at) 0 [] w p
@@ -244,8 +245,8 @@ whole_tree text p fs u e h = ((whole_is text p fs u e h (Tree u.done)).1 refl, (
   none : (s : Sign) → Refused s ≡ Tree u.done → ⊥
   none s e = absurd (cc)
 
-pub whole_complete : (text : List ℕ) (p : Position) (fs : List Form) (u : Unfinished) → p.stage ≡ stage.Whole → Same text p fs u → Fits p.stage fs u p.at → IsComplete u
-whole_complete text p fs u e h f = (subst (λ s. Fits s fs u p.at) e f, one_tree_count text u.done (whole_tree text p fs u e h).0)
+pub whole_complete : (text : List ℕ) (p : Position) (fs : List Form) (u : Unfinished) → p.stage ≡ stage.Whole → Same text p fs u → Fits text p.stage fs u p.at → IsComplete u
+whole_complete text p fs u e h f = (subst (λ s. Fits text s fs u p.at) e f, one_tree_count text u.done (whole_tree text p fs u e h).0)
 
 -- how far reading can come
 reached_most : (s : Stage) (at n : ℕ) → at ≤ n → reached s at ≤ 2 * n + 3
@@ -286,6 +287,6 @@ refuses text P n fs w refusal.NoMemory h g = tt
 pub root_refused : (text : List ℕ) (i n : ℕ) (fs : List Form) (w : Unfinished) (r : YamlRefusal) → IsStart text i → start_sign text ≡ None → Gives text (Begins text i) n fs w (Err r) → Refuses text r
 root_refused text i n fs w r s z g = refuses text (Begins text i) n fs w r (λ v. (comes_begins text i v s z, begins_comes text i v s)) g
 
-pub root_same : (text : List ℕ) (i : ℕ) (fs : List Form) (w : Unfinished) (p : Position) → IsStart text i → start_sign text ≡ None → fs ≡ [] → Goes text (Begins text i) 0 [] w p → Same text p fs w × Fits p.stage fs w p.at × IsCharBoundary text p.at
+pub root_same : (text : List ℕ) (i : ℕ) (fs : List Form) (w : Unfinished) (p : Position) → IsStart text i → start_sign text ≡ None → fs ≡ [] → Goes text (Begins text i) 0 [] w p → Same text p fs w × Fits text p.stage fs w p.at × IsCharBoundary text p.at
 root_same text i fs w p s n e g =
-    subst (λ z. Same text p z w × Fits p.stage z w p.at × IsCharBoundary text p.at) (sym e) ((λ v. ((λ h. (g.0 v).0 (comes_begins text i v s n h)), (λ h. begins_comes text i v s ((g.0 v).1 h)))), g.1, g.2)
+    subst (λ z. Same text p z w × Fits text p.stage z w p.at × IsCharBoundary text p.at) (sym e) ((λ v. ((λ h. (g.0 v).0 (comes_begins text i v s n h)), (λ h. begins_comes text i v s ((g.0 v).1 h)))), g.1, g.2)

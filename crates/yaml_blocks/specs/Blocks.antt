@@ -1,12 +1,13 @@
 -- Nodes and entries of block sequences and block mappings: chapter 8.2 of YAML 1.2.2, whose productions are named.
-use Rattle.std.specs.Prelude.{ℕ, suc, ◌+◌, ◌≡◌, ◌⊎◌, Bool, true, false, ◌||◌, ◌&&◌, not, List, Option, Some, None, nat_lt, nat_le, nat_eq, if◌then◌else◌}
-use Rattle.doc_values.specs.Tree.{Label, Forest, Nil, has_key}
+use Rattle.std.specs.Prelude.{ℕ, suc, ◌+◌, ◌-◌, ◌≡◌, ◌⊎◌, Bool, true, false, ◌||◌, ◌&&◌, not, List, slice_index, Option, Some, None, nat_lt, nat_le, nat_eq, if◌then◌else◌}
+use Rattle.doc_values.specs.Tree.{Label, Forest, Nil, Node, has_key}
 use Rattle.yaml_scalars.specs.Lines.{Stands}
 use Rattle.yaml_blocks.specs.declared.ahead.Ahead.{Ahead}
 use Rattle.yaml_blocks.specs.declared.ahead.Token.TheVariants.{Dash, Tag, Point}
 use Rattle.yaml_blocks.specs.declared.form.Form.{Form}
 use Rattle.yaml_blocks.specs.declared.form.Form.TheVariants.{Root, Flow, FlowTagged, Items, Entries, Tagged}
-use Rattle.yaml_blocks.specs.Ahead.{ahead}
+use Rattle.yaml_blocks.specs.Ahead.{is_name, ahead}
+use Rattle.yaml_blocks.specs.Signs as sign
 use Rattle.yaml_blocks.specs.Signs.{Sign, Reach}
 use Rattle.yaml_blocks.specs.Nodes.{setting_of, as_key, follows_get_att, scalar_ahead, IsScalar, Contents, Within, IsCollection, IsKeySign, node_sign, is_tagged, IsSigned}
 
@@ -80,6 +81,24 @@ tagged f a = Tagged a.at (least f) (shares_column f a)
 abbrev pub block_sign : Form → Ahead → Option Sign
 block_sign f a = if takes_scalar f a then node_sign (is_tagged f) a.at a.token else None
 
+-- the place of the last of the values, at every depth
+abbrev pub or_else : Option ℕ → Option ℕ → Option ℕ
+or_else None o = o
+or_else (Some p) o = Some p
+
+abbrev pub last_place : Forest → Option ℕ
+last_place Nil = None
+last_place (Node l kids rest) = or_else (last_place rest) (or_else (last_place kids) (Some l.at))
+
+-- a letter or digit stands in front of a place
+abbrev pub ends_name : List ℕ → ℕ → Bool
+ends_name text i = is_name (slice_index text (i - 1))
+
+-- what ends at a place is a tag without its node: the last value has no byte, and a name stands in front of it, no `-` and no
+-- colon
+abbrev pub IsBare : List ℕ → Option ℕ → ℕ → Type 0
+IsBare text last i = (last ≡ Some i) × (ends_name text i ≡ true)
+
 -- the first entry gives the column; each further one begins a line there
 abbrev pub IsAligned : Bool → ℕ → Ahead → Type 0
 IsAligned true m a = Unit {0}
@@ -99,9 +118,13 @@ module _ (text : List ℕ) where
   abbrev pub IsEntry : ℕ → Bool → Forest → ℕ → Option (List ℕ) → ℕ → Type 0
   IsEntry m first before i key p = (t : List ℕ) × IsKey (ahead text false i) t p × IsAligned first m (ahead text false i) × (has_key before t ≡ false) × (key ≡ Some t)
 
+  -- a tag behind another that has no node, with nothing but white space, breaks and comments between
+  abbrev pub IsTagAgain : Forest → ℕ → Ahead → Sign → Type 0
+  IsTagAgain before i a s = (len : ℕ) × (a.token ≡ Tag len) × IsBare text (last_place before) i × (s ≡ sign.Tag a.at)
+
   -- where a further entry of a mapping would begin stands a sign
   abbrev pub IsEntrySign : ℕ → Forest → ℕ → Sign → Type 0
-  IsEntrySign m before i s = IsAligned false m (ahead text false i) × IsKeySign text false before (ahead text false i) s
+  IsEntrySign m before i s = IsAligned false m (ahead text false i) × (IsKeySign text false before (ahead text false i) s ⊎ IsTagAgain before i (ahead text false i) s)
 
   -- `l+block-sequence` (183), which begins with its first `-`
   abbrev pub IsSequence : Contents → Form → ℕ → Option (List ℕ) → Label → ℕ → Reach → Type 0

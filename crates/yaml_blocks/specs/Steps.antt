@@ -5,7 +5,7 @@ use Rattle.std.specs.Cow.{cow_str_bytes}
 use Rattle.std.specs.List.{before_first, after_first}
 use Rattle.doc_values.specs.declared.kind.Kind.{Kind}
 use Rattle.doc_values.specs.declared.kind.Kind.TheVariants as kind
-use Rattle.doc_values.specs.Tree.{is_map, has_text}
+use Rattle.doc_values.specs.Tree.{Forest, is_map, has_text}
 use Rattle.doc_values.specs.Unfinished.{Level, Unfinished, with_value, with_open, with_key, with_end, open_kind, AwaitsValue}
 use Rattle.yaml_scalars.specs.declared.scalar.Scalar.{Scalar}
 use Rattle.yaml_scalars.specs.declared.scalar.Setting.{Setting}
@@ -26,7 +26,7 @@ use Rattle.yaml_blocks.specs.Ahead.{token_len, ahead}
 use Rattle.yaml_blocks.specs.Nodes.{tag_name, tag_key, is_dot, is_cut, starts_scalar, scalar_ahead}
 use Rattle.yaml_blocks.specs.Signs as sign
 use Rattle.yaml_blocks.specs.Signs.{Sign, Tab, Directive, ManyDocuments, DuplicateKey, TooDeep, Reading, Tree, Refused}
-use Rattle.yaml_blocks.specs.Blocks.{takes_scalar, takes_sequence, takes_tag, IsKey}
+use Rattle.yaml_blocks.specs.Blocks.{takes_scalar, takes_sequence, takes_tag, or_else, last_place, ends_name, IsBare, IsKey}
 use Rattle.yaml_blocks.specs.Rest.{top, Ends, Enters, Awaits}
 
 -- the forms of the open collections, the innermost last, as a list of which it is the first
@@ -142,6 +142,28 @@ IsBehind (Items m) i = m < i
 IsBehind (Entries m) i = Unit {0}
 IsBehind (Tagged at above shares) i = at < i
 
+-- a name stands in front of what a tag has behind it, and of what a `-` or a key's colon has none
+abbrev pub IsSpelled : List ℕ → Form → ℕ → Type 0
+IsSpelled text Root i = Unit {0}
+IsSpelled text (Flow map) i = Unit {0}
+IsSpelled text (FlowTagged at) i = Unit {0}
+IsSpelled text (Items m) i = ends_name text i ≡ false
+IsSpelled text (Entries m) i = ends_name text i ≡ false
+IsSpelled text (Tagged at above shares) i = ends_name text i ≡ true
+
+-- the place of the last value so far, complete or open
+abbrev pub last_open : List Level → Forest → Option ℕ
+last_open [] done = last_place done
+last_open (x ∷ xs) done = or_else (last_place done) (Some x.label.at)
+
+-- no tag without its node ends before another tag
+abbrev pub IsCalm : List ℕ → Unfinished → ℕ → Type 0
+IsCalm text u i = (len : ℕ) → (ahead text false i).token ≡ Tag len → IsBare text (last_open u.outer u.done) i → ⊥
+
+-- the last value is the same
+abbrev pub Lasts : Unfinished → Unfinished → Type 0
+Lasts u w = (last_open w.outer w.done ≡ last_open u.outer u.done) × ((i : ℕ) → last_place u.done ≡ Some i → last_place w.done ≡ Some i)
+
 abbrev pub is_dash : Token → Bool
 is_dash Dash = true
 is_dash _ = false
@@ -184,11 +206,11 @@ abbrev pub Open : List Form → Unfinished → Type 0
 Open fs u = Agrees fs u.outer × Nests fs
 
 -- they are ones that the stage can stand in
-abbrev pub Fits : Stage → List Form → Unfinished → ℕ → Type 0
-Fits stage.Entry fs u i = Open fs u × ((map : Bool) × (top fs ≡ Flow map)) × (u.key ≡ None)
-Fits stage.Value fs u i = Open fs u × (top fs ≡ Flow false → ⊥) × AwaitsValue u × IsBehind (top fs) i
-Fits stage.After fs u i = Open fs u × (u.key ≡ None)
-Fits stage.Whole fs u i = u.outer ≡ []
+abbrev pub Fits : List ℕ → Stage → List Form → Unfinished → ℕ → Type 0
+Fits text stage.Entry fs u i = Open fs u × ((map : Bool) × (top fs ≡ Flow map)) × (u.key ≡ None)
+Fits text stage.Value fs u i = Open fs u × (top fs ≡ Flow false → ⊥) × AwaitsValue u × IsBehind (top fs) i × IsSpelled text (top fs) i
+Fits text stage.After fs u i = Open fs u × (u.key ≡ None) × (IsBlock (top fs) → IsCalm text u i)
+Fits text stage.Whole fs u i = u.outer ≡ []
 
 -- how far reading has come
 abbrev pub reached : Stage → ℕ → ℕ
@@ -200,7 +222,7 @@ reached stage.Whole at = 2 * at + 3
 -- reading went on, and what may follow is the same as before
 abbrev pub Goes : List ℕ → (Reading → Type 0) → ℕ → List Form → Unfinished → Position → Type 0
 Goes text P n fs w p =
-    ((v : Reading) → (P v → Rest text p.stage fs w p.at v) × (Rest text p.stage fs w p.at v → P v)) × Fits p.stage fs w p.at × IsCharBoundary text p.at × (n < reached p.stage p.at)
+    ((v : Reading) → (P v → Rest text p.stage fs w p.at v) × (Rest text p.stage fs w p.at v → P v)) × Fits text p.stage fs w p.at × IsCharBoundary text p.at × (n < reached p.stage p.at)
 
 -- or it ended at a sign, where just that may follow
 abbrev pub Broke : (Reading → Type 0) → Sign → Type 0
@@ -228,7 +250,7 @@ NoNode f a =
 abbrev pub Ended : List ℕ → List Form → Unfinished → Ahead → ℕ → List Form → Unfinished → Result (Unit {0}) YamlRefusal → Type 0
 Ended text fs u a i gs w (Ok _) =
     ((v : Reading) → (Ends text fs u.outer u.done i v → Ends text gs w.outer w.done i v) × (Ends text gs w.outer w.done i v → Ends text fs u.outer u.done i v))
-    × Open gs w × (w.key ≡ None) × IsBlock (top gs) × (ends_before (top gs) a ≡ false)
+    × Open gs w × (w.key ≡ None) × IsBlock (top gs) × (ends_before (top gs) a ≡ false) × Lasts u w
 Ended text fs u a i gs w (Err e) = e ≡ refusal.NoMemory
 
 -- ---- parts

@@ -4,12 +4,12 @@ ghost use Rattle.std.specs.Cow.{cow_str_bytes};
 ghost use Rattle.std.specs.Str.{IsCharBoundary};
 ghost use Rattle.doc_values.specs.Unfinished.{AwaitsValue};
 ghost use Rattle.yaml_blocks.specs.Ahead.{ahead};
-ghost use Rattle.yaml_blocks.specs.Nodes.{starts_scalar};
+ghost use Rattle.yaml_blocks.specs.Nodes.{starts_scalar, is_tagged};
 ghost use Rattle.yaml_blocks.specs.Blocks.{block_sign, takes_scalar, takes_mapping, takes_sequence, takes_tag, tagged, column_in};
 ghost use Rattle.yaml_blocks.specs.Refused.{of_sign};
 ghost use Rattle.yaml_blocks.specs.Rest.{top, Inside, Ends, Awaits};
 ghost use Rattle.yaml_blocks.specs.Yaml.{IsEnd};
-ghost use Rattle.yaml_blocks.specs.Steps.{stack, IsSeen, IsBlock, IsBehind, IsSmall, HasKey, NoKey, Open, Fits, NoNode, Gives, Ended, is_dash, ends_before};
+ghost use Rattle.yaml_blocks.specs.Steps.{stack, IsSeen, IsBlock, IsBehind, IsSmall, HasKey, NoKey, Open, Fits, IsCalm, NoNode, Gives, Ended, is_dash, ends_before};
 
 use crate::ahead::{Ahead, Token, look};
 use crate::flow::open;
@@ -190,7 +190,7 @@ fn sequence(
     requires seen { IsSeen text.now false at next }
     requires form { top (stack forms.old.items) ≡ form }
     requires block { IsBlock form }
-    requires fits { Fits Stage.Value (stack forms.old.items) builder.old at }
+    requires fits { Fits text.now Stage.Value (stack forms.old.items) builder.old at }
     requires dash { next.token ≡ Token.Dash }
     requires takes { takes_sequence form next ≡ true }
     ensures { Gives text.now (Awaits text.now (stack forms.old.items) builder.old.outer builder.old.done builder.old.key at) (2 * at + 1) (stack forms.new.items) builder.new result }
@@ -219,7 +219,7 @@ fn mapping<'s>(
     requires seen { IsSeen text.now false at next }
     requires form { top (stack forms.old.items) ≡ form }
     requires block { IsBlock form }
-    requires fits { Fits Stage.Value (stack forms.old.items) builder.old at }
+    requires fits { Fits text.now Stage.Value (stack forms.old.items) builder.old at }
     requires key { HasKey text.now next key }
     requires takes { takes_mapping form next ≡ true }
     ensures { Gives text.now (Awaits text.now (stack forms.old.items) builder.old.outer builder.old.done builder.old.key at) (2 * at + 1) (stack forms.new.items) builder.new result }
@@ -253,7 +253,7 @@ fn tag<'s>(
     requires seen { IsSeen text.now false at next }
     requires form { top (stack forms.old.items) ≡ form }
     requires block { IsBlock form }
-    requires fits { Fits Stage.Value (stack forms.old.items) builder.old at }
+    requires fits { Fits text.now Stage.Value (stack forms.old.items) builder.old at }
     requires tag { next.token ≡ Token.Tag len }
     requires takes { takes_tag form next ≡ true }
     ensures { Gives text.now (Awaits text.now (stack forms.old.items) builder.old.outer builder.old.done builder.old.key at) (2 * at + 1) (stack forms.new.items) builder.new result }
@@ -275,7 +275,7 @@ fn scalar<'s>(
     requires seen { IsSeen text.now false at next }
     requires form { top (stack forms.now) ≡ form }
     requires block { IsBlock form }
-    requires fits { Fits Stage.Value (stack forms.now) builder.old at }
+    requires fits { Fits text.now Stage.Value (stack forms.now) builder.old at }
     requires starts { starts_scalar next.token ≡ true }
     requires takes { takes_scalar form next ≡ true }
     requires no_key { takes_mapping form next ≡ true → NoKey text.now next }
@@ -298,7 +298,7 @@ fn content<'s>(
     requires seen { IsSeen text.now false at next }
     requires form { top (stack forms.old.items) ≡ form }
     requires block { IsBlock form }
-    requires fits { Fits Stage.Value (stack forms.old.items) builder.old at }
+    requires fits { Fits text.now Stage.Value (stack forms.old.items) builder.old at }
     requires starts { starts_scalar next.token ≡ true }
     requires takes { takes_scalar form next ≡ true }
     ensures { Gives text.now (Awaits text.now (stack forms.old.items) builder.old.outer builder.old.done builder.old.key at) (2 * at + 1) (stack forms.new.items) builder.new result }
@@ -327,14 +327,90 @@ fn missing(
     requires boundary { IsCharBoundary text.now at }
     requires form { top (stack forms.now) ≡ form }
     requires block { IsBlock form }
-    requires fits { Fits Stage.Value (stack forms.now) builder.old at }
+    requires fits { Fits text.now Stage.Value (stack forms.now) builder.old at }
     requires none { NoNode form next }
     requires unsigned { block_sign form next ≡ None }
+    requires once { is_tagged form ≡ true → (len : ℕ) → next.token ≡ Token.Tag len → ⊥ }
     ensures { Gives text.now (Awaits text.now (stack forms.now) builder.old.outer builder.old.done builder.old.key at) (2 * at + 1) (stack forms.now) builder.new result }
 {
     match form {
         Form::Root => Err(YamlRefusal::Unread),
         _ => take_null(at, at, builder),
+    }
+}
+
+/// Whether a further entry of a block mapping begins at the column of a token.
+fn is_entry_column(form: Form, next: Ahead) -> bool
+    ensures yes { result ≡ true → form ≡ Form.Entries next.column }
+    ensures no { result ≡ false → form ≡ Form.Entries next.column → ⊥ }
+{
+    match form {
+        Form::Entries { column } => column == next.column,
+        _ => false,
+    }
+}
+
+/// Behind a tag without a node another tag, which is the sign where a key may begin.
+fn tag_again(
+    text: &str,
+    at: usize,
+    form: Form,
+    len: usize,
+    next: Ahead,
+    forms: &mut Vec<Form>,
+    builder: &mut DocBuilder,
+) -> Result<Position, YamlRefusal>
+    requires small { length text.now ≤ 8388608 }
+    requires seen { IsSeen text.now false at next }
+    requires boundary { IsCharBoundary text.now at }
+    requires form { top (stack forms.old.items) ≡ form }
+    requires block { IsBlock form }
+    requires fits { Fits text.now Stage.Value (stack forms.old.items) builder.old at }
+    requires tag { next.token ≡ Token.Tag len }
+    requires tagged { is_tagged form ≡ true }
+    requires none { NoNode form next }
+    requires unsigned { block_sign form next ≡ None }
+    ensures { Gives text.now (Awaits text.now (stack forms.old.items) builder.old.outer builder.old.done builder.old.key at) (2 * at + 1) (stack forms.new.items) builder.new result }
+{
+    match take_null(at, at, builder) {
+        Err(refusal) => return Err(refusal),
+        Ok(_) => {}
+    }
+    match end_before(next, forms, builder) {
+        Err(refusal) => return Err(refusal),
+        Ok(()) => {}
+    }
+    if is_entry_column(innermost(forms), next) {
+        return Err(YamlRefusal::Tag(offset(next.at)));
+    }
+    Err(YamlRefusal::Unread)
+}
+
+/// A tag where none begins a node.
+fn late_tag(
+    text: &str,
+    at: usize,
+    form: Form,
+    len: usize,
+    next: Ahead,
+    forms: &mut Vec<Form>,
+    builder: &mut DocBuilder,
+) -> Result<Position, YamlRefusal>
+    requires small { length text.now ≤ 8388608 }
+    requires seen { IsSeen text.now false at next }
+    requires boundary { IsCharBoundary text.now at }
+    requires form { top (stack forms.old.items) ≡ form }
+    requires block { IsBlock form }
+    requires fits { Fits text.now Stage.Value (stack forms.old.items) builder.old at }
+    requires tag { next.token ≡ Token.Tag len }
+    requires none { NoNode form next }
+    requires unsigned { block_sign form next ≡ None }
+    ensures { Gives text.now (Awaits text.now (stack forms.old.items) builder.old.outer builder.old.done builder.old.key at) (2 * at + 1) (stack forms.new.items) builder.new result }
+{
+    if is_tagged(form) {
+        tag_again(text, at, form, len, next, forms, builder)
+    } else {
+        missing(text, at, form, next, forms, builder)
     }
 }
 
@@ -352,7 +428,7 @@ fn brackets(
     requires seen { IsSeen text.now false at next }
     requires form { top (stack forms.old.items) ≡ form }
     requires block { IsBlock form }
-    requires fits { Fits Stage.Value (stack forms.old.items) builder.old at }
+    requires fits { Fits text.now Stage.Value (stack forms.old.items) builder.old at }
     requires opens { next.token ≡ Token.Opens map }
     requires takes { takes_scalar form next ≡ true }
     ensures { Gives text.now (Awaits text.now (stack forms.old.items) builder.old.outer builder.old.done builder.old.key at) (2 * at + 1) (stack forms.new.items) builder.new result }
@@ -373,7 +449,7 @@ pub(crate) fn node<'s>(
     requires boundary { IsCharBoundary text.now at }
     requires form { top (stack forms.old.items) ≡ form }
     requires block { IsBlock form }
-    requires fits { Fits Stage.Value (stack forms.old.items) builder.old at }
+    requires fits { Fits text.now Stage.Value (stack forms.old.items) builder.old at }
     ensures { Gives text.now (Awaits text.now (stack forms.old.items) builder.old.outer builder.old.done builder.old.key at) (2 * at + 1) (stack forms.new.items) builder.new result }
 {
     let next = look(text, false, at);
@@ -393,7 +469,7 @@ pub(crate) fn node<'s>(
             if takes_tag(form, next) {
                 tag(alloc, text, at, form, len, next, forms, builder)
             } else {
-                missing(text, at, form, next, forms, builder)
+                late_tag(text, at, form, len, next, forms, builder)
             }
         }
         Token::Opens { map } => {
@@ -482,6 +558,7 @@ fn entry<'s>(
     requires form { top (stack forms.now) ≡ Form.Entries column }
     requires stays { ends_before (Form.Entries column) next ≡ false }
     requires open { Open (stack forms.now) builder.old }
+    requires calm { IsCalm text.now builder.old at }
     requires awaited { builder.old.key ≡ None }
     ensures { Gives text.now (Ends text.now (stack forms.now) builder.old.outer builder.old.done at) (2 * at + 2) (stack forms.now) builder.new result }
 {
@@ -532,6 +609,7 @@ fn head<'s>(
     requires block { IsBlock form }
     requires stays { ends_before form next ≡ false }
     requires open { Open (stack forms.now) builder.old }
+    requires calm { IsCalm text.now builder.old at }
     requires awaited { builder.old.key ≡ None }
     ensures { Gives text.now (Ends text.now (stack forms.now) builder.old.outer builder.old.done at) (2 * at + 2) (stack forms.now) builder.new result }
 {
@@ -559,6 +637,7 @@ fn line<'s>(
     requires inside { Inside text.now at }
     requires block { IsBlock (top (stack forms.old.items)) }
     requires open { Open (stack forms.old.items) builder.old }
+    requires calm { IsCalm text.now builder.old at }
     requires awaited { builder.old.key ≡ None }
     ensures { Gives text.now (Ends text.now (stack forms.old.items) builder.old.outer builder.old.done at) (2 * at + 2) (stack forms.new.items) builder.new result }
 {
@@ -636,6 +715,7 @@ pub(crate) fn after<'s>(
     requires boundary { IsCharBoundary text.now at }
     requires block { IsBlock (top (stack forms.old.items)) }
     requires open { Open (stack forms.old.items) builder.old }
+    requires calm { IsCalm text.now builder.old at }
     requires awaited { builder.old.key ≡ None }
     ensures { Gives text.now (Ends text.now (stack forms.old.items) builder.old.outer builder.old.done at) (2 * at + 2) (stack forms.new.items) builder.new result }
 {

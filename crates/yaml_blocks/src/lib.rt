@@ -25,5 +25,6 @@ mod tag_tests;
 #[cfg(test)]
 mod tests;
 
+pub use ahead::same_ahead;
 pub use read::read_yaml;
 pub use refusal::YamlRefusal;

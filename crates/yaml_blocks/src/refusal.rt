@@ -16,8 +16,8 @@ pub enum YamlRefusal {
     /// An anchor or an alias: a `&` or `*` where a node or a key may begin; its place.
     #[error("an anchor or an alias stands at byte {0}")]
     Anchor(u32),
-    /// A tag that is no short one where a node or a key may begin, or behind a tag another, where a node may begin; the
-    /// place of its `!`.
+    /// A tag that is no short one where a node or a key may begin, or there behind a tag another, with nothing but white
+    /// space, breaks and comments between; the place of its `!`.
     #[error("another tag stands at byte {0}")]
     Tag(u32),
     /// A line in front of the document that begins with `%`; the place of that.

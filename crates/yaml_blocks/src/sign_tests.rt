@@ -135,6 +135,13 @@ fn other_tags(rt: HostRuntime) -> Result<(), Fail> {
         ("a: 1\n!F b: 2", Unread),
         ("{!F b: 2}", Unread),
         ("- !A\n!B", Unread),
+        ("a: !A\n!B b: 1", Tag(6)),
+        ("- a: !A # c\n\n  !B", Tag(15)),
+        ("a:\n  - !A\n!B b: 1", Tag(10)),
+        ("a:\n  b: !A\n !B c: 1", Unread),
+        ("a: x !A\n!B b: 1", Unread),
+        ("a: [!A]\n!B b: 1", Unread),
+        ("a:\n!B b: 1", Unread),
     ] {
         assert!(rt;
             matches!(read(rt.alloc(), text), Err(found) if found == refusal),

@@ -25,7 +25,7 @@ fn entry<'s>(
 ) -> Result<Position, YamlRefusal>
     requires small { length text.now ≤ 8388608 }
     requires boundary { IsCharBoundary text.now at }
-    requires fits { Fits Stage.Entry (stack forms.old.items) builder.old at }
+    requires fits { Fits text.now Stage.Entry (stack forms.old.items) builder.old at }
     ensures { Gives text.now (Enters text.now (stack forms.old.items) builder.old.outer builder.old.done at) (2 * at + 2) (stack forms.new.items) builder.new result }
 {
     match innermost(forms) {
@@ -44,7 +44,7 @@ fn value<'s>(
 ) -> Result<Position, YamlRefusal>
     requires small { length text.now ≤ 8388608 }
     requires boundary { IsCharBoundary text.now at }
-    requires fits { Fits Stage.Value (stack forms.old.items) builder.old at }
+    requires fits { Fits text.now Stage.Value (stack forms.old.items) builder.old at }
     ensures { Gives text.now (Awaits text.now (stack forms.old.items) builder.old.outer builder.old.done builder.old.key at) (2 * at + 1) (stack forms.new.items) builder.new result }
 {
     let form = innermost(forms);
@@ -66,7 +66,7 @@ fn after<'s>(
 ) -> Result<Position, YamlRefusal>
     requires small { length text.now ≤ 8388608 }
     requires boundary { IsCharBoundary text.now at }
-    requires fits { Fits Stage.After (stack forms.old.items) builder.old at }
+    requires fits { Fits text.now Stage.After (stack forms.old.items) builder.old at }
     ensures { Gives text.now (Ends text.now (stack forms.old.items) builder.old.outer builder.old.done at) (2 * at + 2) (stack forms.new.items) builder.new result }
 {
     match innermost(forms) {
@@ -87,7 +87,7 @@ pub(crate) fn step<'s>(
     requires small { length text.now ≤ 8388608 }
     requires boundary { IsCharBoundary text.now position.at }
     requires open { position.stage ≡ Stage.Whole → ⊥ }
-    requires fits { Fits position.stage (stack forms.old.items) builder.old position.at }
+    requires fits { Fits text.now position.stage (stack forms.old.items) builder.old position.at }
     ensures { Gives text.now (Rest text.now position.stage (stack forms.old.items) builder.old position.at) (reached position.stage position.at) (stack forms.new.items) builder.new result }
 {
     match position.stage {

@@ -126,7 +126,7 @@ line_returned p n l m sp r i =
     let d = return_dead 0 front x y e in
     (subst (λ t. Alike t m.bytes) (sym sp.3) (subst (λ t. Alike (front ++ x) t) (sym sp.4) a), (d.0, ap (return_behind 0) sp.4 ∙ d.1))
 
-alike_content : (inner : ℕ) (xs ys : List ℕ) → Alike xs ys → is_content inner ys ≡ is_content inner xs
+pub alike_content : (inner : ℕ) (xs ys : List ℕ) → Alike xs ys → is_content inner ys ≡ is_content inner xs
 alike_content inner xs ys a = ap (λ q. not q && (is_blank ys || nat_le inner (indent ys))) a.mark ∙ ap (λ q. not (is_mark xs) && (q || nat_le inner (indent ys))) (a.other_full ∙ sym a.full) ∙ ap (λ k. not (is_mark xs) && (is_blank xs || nat_le inner k)) a.indented
 
 content_dead : (folded : Bool) (chomp : Chomp) (inner size size2 p : ℕ) (ls ms : List Line) (text : List ℕ) (last : Option Last) (e : ℕ) (t : List ℕ) (f : ℕ) → Shares p ls ms → content_more folded chomp inner size ls text last e ≡ Fails p → content_more folded chomp inner size2 ms text last e ≡ Stands t f → ⊥
@@ -150,7 +150,7 @@ content_dead folded chomp inner size size2 p (l ∷ ls) (m ∷ ms) text last e t
     (λ x y z c r s. (let k = content_later folded chomp inner size p p ls x y z q.2 (sym (s size ls) ∙ h) in absurd (omega (arith, k))))
 
 -- the indentation is the same
-blank_return : (k : ℕ) (xs : List ℕ) → is_blank xs ≡ true → return_behind k xs ≡ None
+pub blank_return : (k : ℕ) (xs : List ℕ) → is_blank xs ≡ true → return_behind k xs ≡ None
 blank_return k [] h = refl
 blank_return k (x ∷ xs) h = cases (is_white x) (λ w. white w (λ g. blank_return (suc k) xs g)) (λ w. absurd (let z : false ≡ true = sym (ap (λ q. cond q (is_blank xs) false) w) ∙ h in cc)) where
   white : is_white x ≡ true → (is_blank xs ≡ true → return_behind (suc k) xs ≡ None) → return_behind k (x ∷ xs) ≡ None
@@ -166,7 +166,7 @@ first_in above w i l h = by_tests (is_mark l.bytes) (nat_lt (indent l.bytes) abo
   by_tests false false true h = absurd (cc)
   by_tests false false false h = (refl, refl, refl, cc)
 
-first_alike : (above w : ℕ) (l m : Line) → Alike l.bytes m.bytes → is_mark l.bytes ≡ false → nat_lt (indent l.bytes) above ≡ false → first above w m ≡ cond (nat_lt (indent l.bytes) w) (Wide (m.at + shown m.bytes)) (Indented (indent l.bytes))
+pub first_alike : (above w : ℕ) (l m : Line) → Alike l.bytes m.bytes → is_mark l.bytes ≡ false → nat_lt (indent l.bytes) above ≡ false → first above w m ≡ cond (nat_lt (indent l.bytes) w) (Wide (m.at + shown m.bytes)) (Indented (indent l.bytes))
 first_alike above w l m a k b =
     ap (λ q. cond (q || nat_lt (indent m.bytes) above) Nothing (cond (nat_lt (indent m.bytes) w) (Wide (m.at + shown m.bytes)) (Indented (indent m.bytes)))) (a.mark ∙ k)
     ∙ ap (λ (n : ℕ). cond (nat_lt n above) Nothing (cond (nat_lt n w) (Wide (m.at + shown m.bytes)) (Indented n))) a.indented

@@ -24,10 +24,16 @@ pub mod QuotedRuns
 pub mod BlockHeads
 pub mod BlockShown
 pub mod BlockLaw
+pub mod LineEnds
+pub mod BlockStays
 pub mod QuotedBounds
 pub mod QuotedAlike
 pub mod QuotedDead
 pub mod QuotedLaw
+pub mod QuotedStays
+pub mod PlainStays
+pub mod PlainLines
+pub mod ScalarStays
 pub mod OneKind
 pub mod Longer
 pub mod BlockLonger

@@ -16,7 +16,7 @@ use Rattle.yaml_scalars.proofs.QuotedDead.{IsAt, IsFailing, part_dead}
 use Rattle.yaml_scalars.proofs.QuotedRuns.{quote_is, quote_ahead}
 
 -- white space in front of other bytes
-lead_all : (f x : List ℕ) → is_blank f ≡ true → length f ≤ lead is_white (f ++ x)
+pub lead_all : (f x : List ℕ) → is_blank f ≡ true → length f ≤ lead is_white (f ++ x)
 lead_all [] x h = omega arith
 lead_all (b ∷ f) x h = by_white (is_white b) h (λ e. lead_all f x e) where
   by_white : (q : Bool) → cond q (is_blank f) false ≡ true → (is_blank f ≡ true → length f ≤ lead is_white (f ++ x)) → suc (length f) ≤ cond q (suc (lead is_white (f ++ x))) 0

@@ -1,3 +1,4 @@
+pub mod Agreement
 pub mod Lines
 pub mod Plain
 pub mod Quoted

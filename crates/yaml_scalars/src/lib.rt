@@ -23,5 +23,5 @@ mod tests;
 mod trim;
 
 pub use kind::{one_kind, plain_kind};
-pub use read::{read_scalar, syntax_place};
+pub use read::{read_scalar, same_scalar, syntax_place};
 pub use scalar::{Scalar, ScalarRefusal, Setting};

@@ -1,8 +1,10 @@
-use Rattle.std.proofs.Common.{List, sym, ap, ◌∙◌}
+use Rattle.std.proofs.Common.{List, sym, ap, subst, ◌∙◌}
 use Rattle.yaml_blocks.specs.declared.form.Form.{Form}
 use Rattle.yaml_blocks.specs.Rest.{top}
-use Rattle.yaml_blocks.specs.Steps.{stack, ends_before}
+use Rattle.doc_values.specs.Unfinished.{with_end}
+use Rattle.yaml_blocks.specs.Steps.{stack, ends_before, Lasts}
 use Rattle.yaml_blocks.proofs.Stacks.{stack_grown}
+use Rattle.yaml_blocks.proofs.LastValues.{ended_lasts, then_lasts}
 use Rattle.yaml_blocks.proofs.BlockGains.{ended_one, ended_alike, then_alike}
 use Rattle.yaml_blocks.proofs.block.end_before.Goals as goal
 
@@ -14,6 +16,7 @@ loop-next-preserved c =
     let s = c.loop-next.invariant.0 in
     let h = sym (c.ends_before.ensures ∙ ap (λ f. ends_before f c.args.next) (c.innermost.ensures ∙ ap (λ (x : List Form). top (stack x)) c.deref.ensures.value)) ∙ c.loop-next-test.true in (
       ended_one c.in-Some.field-0 old gs c.loop-next.builder c.end.new.self e c.in-Ok.ensures.ok s,
-      (λ text i n. then_alike text i (stack c.args.forms.now.items) old gs c.args.builder.now c.loop-next.builder c.end.new.self (c.loop-next.invariant.1 text i n)
+      subst (λ z. Lasts c.args.builder.now z) (sym c.in-Ok.ensures.ok) (then_lasts c.args.builder.now c.loop-next.builder (with_end c.loop-next.builder) c.loop-next.invariant.1 (ended_lasts c.loop-next.builder)),
+      (λ text i n. then_alike text i (stack c.args.forms.now.items) old gs c.args.builder.now c.loop-next.builder c.end.new.self (c.loop-next.invariant.2 text i n)
           (ended_alike text i c.in-Some.field-0 old gs c.loop-next.builder c.end.new.self c.args.next n e c.in-Ok.ensures.ok s h)),
     )

@@ -1,12 +1,12 @@
 use Rattle.std.proofs.Common.{◌≡◌, ℕ, List, false, length}
 use Rattle.yaml_blocks.specs.Ahead.{ahead}
-use Rattle.yaml_blocks.specs.Steps.{stack}
+use Rattle.yaml_blocks.specs.Steps.{stack, Lasts}
 use Rattle.yaml_blocks.proofs.BlockGains.{Alike, Stands}
 use Rattle.yaml_blocks.proofs.block.end_before.Given as goal
 
 abbrev pub invariant-loop-next : goal.invariant-loop-next
 invariant-loop-next l =
-    Stands (stack l.forms.items) l.builder
+    Stands (stack l.forms.items) l.builder × Lasts l.initial.builder l.builder
     × ((text : List ℕ) (i : ℕ) → l.next ≡ ahead text false i → Alike text i (stack l.initial.forms.items) l.initial.builder (stack l.forms.items) l.builder)
 
 abbrev pub decreases-loop-next : goal.decreases-loop-next

@@ -20,8 +20,8 @@ returns-then-next-column c =
 
 pub returns-in-Err : goal.returns-in-Err
 returns-in-Err c =
-    entry_missed c.args.text.now c.args.column (stack c.args.forms.now) c.args.builder.now c.args.builder.now c.args.at c.args.next c.as_key.result c.in-Err.refusal c.as_key.ensures c.requires.seen.0 c.requires.inside c.requires.form c.requires.open.1
-    c.if-next-column.false c.in-None.ensures c.in-Err.ensures
+    entry_missed c.args.text.now c.args.column (stack c.args.forms.now) c.args.builder.now c.args.builder.now c.args.at c.args.next c.as_key.result c.in-Err.refusal c.as_key.ensures c.requires.seen.0 c.requires.inside c.requires.form c.requires.open
+    c.if-next-column.false c.requires.calm c.in-None.ensures c.in-Err.ensures
 
 pub key-requires : goal.key-requires
 key-requires c = record { awaited = awaits_key (Entries c.args.column) (stack c.args.forms.now) c.args.builder.now c.requires.form (λ e. absurd (cc)) refl c.requires.open.0 c.requires.awaited }

@@ -11,4 +11,4 @@ returns-in_default c =
     let fs = stack c.args.forms.now in
     let u = c.args.builder.now in
     missing_gives text fs u c.take_null.new.builder c.args.form c.args.at c.args.next c.take_null.result c.requires.seen.0 c.requires.boundary
-    (spot text fs u c.args.form c.args.at c.args.next c.requires.small c.requires.seen c.requires.form c.requires.block c.requires.fits) c.requires.none c.requires.unsigned c.in_default.not-Root c.take_null.ensures
+    (spot text fs u c.args.form c.args.at c.args.next c.requires.small c.requires.seen c.requires.form c.requires.block c.requires.fits) c.requires.none c.requires.unsigned c.in_default.not-Root c.requires.once c.take_null.ensures

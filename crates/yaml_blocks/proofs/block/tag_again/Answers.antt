@@ -1,0 +1,43 @@
+use Rattle.std.proofs.Common.{List, sym, ap, subst, ◌∙◌, ◌+◌, ◌*◌}
+use Rattle.std.specs.Prelude.{Ok}
+use Rattle.yaml_blocks.specs.declared.form.Form.{Form}
+use Rattle.yaml_blocks.specs.Rest.{top}
+use Rattle.yaml_blocks.specs.Steps.{stack, Ended}
+use Rattle.yaml_blocks.proofs.BlockGains.{spot, tag_again_gives, no_tag_again}
+use Rattle.yaml_blocks.proofs.block.tag_again.Goals as goal
+
+pub returns-then-is_entry_column : goal.returns-then-is_entry_column
+returns-then-is_entry_column c =
+    let text = c.args.text.now in
+    let fs = stack c.args.forms.now.items in
+    let gs = stack c.end_before.new.forms.items in
+    let u = c.args.builder.now in
+    let w = c.end_before.new.builder in
+    let next = c.args.next in
+    let found = c.innermost.ensures ∙ ap (λ (x : List Form). top (stack x)) c.deref.ensures.value in
+    tag_again_gives text (2 * c.args.at + 1) fs gs u w c.args.form c.args.at c.args.len c.offset.result next c.requires.seen.0 (
+      spot text fs u c.args.form c.args.at next c.requires.small c.requires.seen c.requires.form c.requires.block c.requires.fits,
+      c.requires.tag,
+      c.requires.tagged,
+      c.requires.none,
+      c.requires.unsigned,
+      subst (λ z. Ended text fs z next c.args.at gs w (Ok tt)) c.in-Ok.ensures.2 (c.in-Ok-end_before.ensures text c.args.at c.requires.seen.0),
+    ) c.offset.ensures (sym found ∙ c.is_entry_column.ensures.yes c.if-is_entry_column.true)
+
+pub returns : goal.returns
+returns c =
+    let text = c.args.text.now in
+    let fs = stack c.args.forms.now.items in
+    let gs = stack c.end_before.new.forms.items in
+    let u = c.args.builder.now in
+    let w = c.end_before.new.builder in
+    let next = c.args.next in
+    let found = c.innermost.ensures ∙ ap (λ (x : List Form). top (stack x)) c.deref.ensures.value in
+    no_tag_again text fs gs u w c.args.form c.args.at c.args.len next c.requires.seen.0 (
+      spot text fs u c.args.form c.args.at next c.requires.small c.requires.seen c.requires.form c.requires.block c.requires.fits,
+      c.requires.tag,
+      c.requires.tagged,
+      c.requires.none,
+      c.requires.unsigned,
+      subst (λ z. Ended text fs z next c.args.at gs w (Ok tt)) c.in-Ok.ensures.2 (c.in-Ok-end_before.ensures text c.args.at c.requires.seen.0),
+    ) (λ h. c.is_entry_column.ensures.no c.if-is_entry_column.false (found ∙ h))
