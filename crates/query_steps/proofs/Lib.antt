@@ -19,3 +19,12 @@ pub mod SeenAnswers
 pub mod SeenScopes
 pub mod SeenVerdicts
 pub mod SpotAnswers
+pub mod LinesBehind
+mod GivenLines
+mod AcceptedExample
+mod RememberedExample
+pub mod FollowingShapes
+mod CalledExample
+mod KindsExample
+pub mod KnownAnswers
+pub mod FollowingKnown

@@ -63,11 +63,14 @@ module _ (known : Known) (more : List store.Made) where
   tree-before (origin.Literal site) tree there = there
   tree-before (origin.Made line at) tree there = made-before known.made more line at tree there
 
-  -- a known reference stands for what it stood for, and is known
-  pub stands-before : (r : Ref) → is_known_ref known r ≡ true → stands_for (grown known more) r ≡ stands_for known r
-  stands-before r is =
+  -- a known reference is in the tree in which it was, stands for what it stood for, and is known
+  pub tree-kept : (r : Ref) → is_known_ref known r ≡ true → tree_of (grown known more) r.origin ≡ tree_of known r.origin
+  tree-kept r is =
       let there : (tree : Forest) × (tree_of known r.origin ≡ Some tree) = tree-there known r (tree_of known r.origin) refl is in
-      ap (option_and_then (value_in r.node r.key)) (tree-before r.origin there.0 there.1 ∙ sym there.1)
+      tree-before r.origin there.0 there.1 ∙ sym there.1
+
+  pub stands-before : (r : Ref) → is_known_ref known r ≡ true → stands_for (grown known more) r ≡ stands_for known r
+  stands-before r is = ap (option_and_then (value_in r.node r.key)) (tree-kept r is)
 
   pub known-before : (r : Ref) → is_known_ref known r ≡ true → is_known_ref (grown known more) r ≡ true
   known-before r is = by (stands_for known r) refl

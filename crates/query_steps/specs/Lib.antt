@@ -1,8 +1,11 @@
+pub mod CitedLines
 pub mod Environments
 pub mod Fails
 pub mod Filters
+pub mod Follows
 pub mod Keys
 pub mod Kinds
+pub mod Lean
 pub mod Nodes
 pub mod Places
 pub mod Reached

@@ -1,0 +1,20 @@
+-- Lines by their numbers: those behind the first, and one behind others.
+use Rattle.std.proofs.Common.{◌≡◌, ◌⊎◌, ℕ, zero, suc, ◌-◌, ◌==◌, false, refl, inl, inr, arith, slice_get, List, [], ◌∷◌, ◌++◌, Some}
+use Rattle.std.proofs.lemmas.Bool.Decides.{nat_tests}
+use Rattle.std.proofs.lemmas.Option.{same_Some, none-some}
+use Rattle.evidence_lines.specs.Lines.{line_of}
+use Rattle.evidence_lines.specs.declared.line.Line.{Line}
+
+-- numbers are counted from 1
+pub behind-first : (ls : List Line) (n : ℕ) → line_of ls (suc n) ≡ slice_get ls n
+behind-first ls n =
+    let test : (suc n == 0) ≡ false = grind (arith, nat_tests) in
+    let less : suc n - 1 ≡ n = omega arith in
+    rw (test, less) refl
+
+-- a line behind others is one of them, or it
+pub at-end : (ls : List Line) (line : Line) (n : ℕ) (l : Line) → slice_get (ls ++ line ∷ []) n ≡ Some l → (slice_get ls n ≡ Some l) ⊎ (line ≡ l)
+at-end [] line zero l stands = inr (same_Some line l stands)
+at-end [] line (suc n) l stands = absurd (none-some l stands)
+at-end (first ∷ ls) line zero l stands = inl stands
+at-end (first ∷ ls) line (suc n) l stands = at-end ls line n l stands
