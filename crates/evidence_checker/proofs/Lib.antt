@@ -1,0 +1,3 @@
+pub mod FramesAround
+pub mod PartsSeen
+pub mod RowsGiven

@@ -1,0 +1,97 @@
+-- What gives rows: of a step, of a query, and of an argument.
+use Rattle.std.proofs.Common.{◌≡◌, ℕ, ◌-◌, List, [], ◌∷◌, length, map, Option, Some, None, ap, sym, subst, ◌∙◌, arith, MatchOption}
+use Rattle.std.specs.Prelude.{slice_get, option_map}
+use Rattle.std.specs.Borrow.{Bor}
+use Rattle.evidence_lines.specs.Lines.{line_of}
+use Rattle.evidence_lines.specs.declared.line.Line.{Line}
+use Rattle.evidence_lines.specs.declared.line.LineKind.{LineKind}
+use Rattle.evidence_lines.specs.declared.line.LineKind.TheVariants as kind
+use Rattle.evidence_lines.specs.declared.line.Outcome.{Outcome}
+use Rattle.evidence_lines.specs.declared.line.Outcome.TheVariants as says
+use Rattle.guard_syntax.specs.Syntax as sx
+use Rattle.guard_syntax.specs.Seen.{see_step, step_list}
+use Rattle.guard_syntax.specs.declared.row.Row.{Row}
+use Rattle.guard_syntax.specs.declared.syntax.Step.{Step}
+use Rattle.name_table.specs.Uses.{expr_in}
+use Rattle.name_table.specs.Ways.{step_site}
+use Rattle.query_steps.specs.CitedLines.{GivesArgument, GivesExpr, GivesQuery, GivesStep, IsLine, args_at, kind_of_step, last_step}
+use Rattle.query_steps.specs.Places.{steps_in}
+
+-- of what stands in an option
+same-some : {A : Type 0} (o : Option A) (x y : A) → o ≡ Some x → o ≡ Some y → x ≡ y
+same-some o x y is also = cc
+
+pub some-given : {A : Type 0} (o : Option A) (x : A) (Gives : A → List Row → Type 0) (r : Option (Bor (List Row))) → o ≡ Some x
+    → MatchOption r ((rows : List Row) → Gives x rows → ⊥) (λ rows. Gives x rows.now)
+    → MatchOption r ((rows : List Row) → ((y : A) × (o ≡ Some y) × Gives y rows) → ⊥) (λ rows. (y : A) × (o ≡ Some y) × Gives y rows.now)
+some-given o x Gives None is never = λ rows g. never rows (subst (λ y. Gives y rows) (same-some o g.0 x g.1 is) g.2)
+some-given o x Gives (Some rows) is gives = (x, is, gives)
+
+-- the rows of a line, by what it says
+same-line : (o : Option Line) (l line : Line) → o ≡ Some l → o ≡ Some line → l ≡ line
+same-line o l line is also = cc
+
+pub rows-there : (lines : List Line) (number : ℕ) (of : LineKind) (frame site : ℕ) (outcome : Outcome) (r : Option (Bor (List Row))) → IsLine lines number of frame site outcome
+    → MatchOption r ((rows : List Row) → outcome ≡ says.Rows rows → ⊥) (λ rows. outcome ≡ says.Rows rows.now)
+    → MatchOption r ((rows : List Row) → IsLine lines number of frame site (says.Rows rows) → ⊥) (λ rows. IsLine lines number of frame site (says.Rows rows.now))
+rows-there lines number of frame site outcome None there never =
+    λ rows is. never rows (sym there.outcome_is ∙ ap (λ (l : Line). l.outcome) (same-line (line_of lines number) there.line is.line there.stands is.stands) ∙ is.outcome_is)
+rows-there lines number of frame site outcome (Some rows) there are = subst (λ (o : Outcome). IsLine lines number of frame site o) are there
+
+module _ (file : sx.File) (lines : List Line) (frame : ℕ) where
+  pub step-given : (s : sx.Step) (number site : ℕ) (of : LineKind) (r : Option (Bor (List Row))) → of ≡ kind_of_step file lines s → site ≡ step_site s
+      → MatchOption r ((rows : List Row) → IsLine lines number of frame site (says.Rows rows) → ⊥) (λ rows. IsLine lines number of frame site (says.Rows rows.now))
+      → MatchOption r ((rows : List Row) → GivesStep file lines frame s number rows → ⊥) (λ rows. GivesStep file lines frame s number rows.now)
+  step-given s number site of None kind_is site_is never =
+      λ rows g. never rows (subst (λ (k : LineKind). IsLine lines number k frame site (says.Rows rows)) (sym kind_is) (subst (λ (n : ℕ). IsLine lines number (kind_of_step file lines s) frame n (says.Rows rows)) (sym site_is) g))
+  step-given s number site of (Some rows) kind_is site_is is =
+      subst (λ (n : ℕ). IsLine lines number (kind_of_step file lines s) frame n (says.Rows rows.now)) site_is (subst (λ (k : LineKind). IsLine lines number k frame site (says.Rows rows.now)) kind_is is)
+
+  last-of : (x : Step) (xs : List Step) (s : Step) → Some s ≡ slice_get (x ∷ xs) (length xs) → last_step file lines (step_list (map see_step (x ∷ xs))) ≡ Some (see_step s)
+  last-of x [] s is = ap (λ (o : Option Step). option_map see_step o) (sym is)
+  last-of x (y ∷ ys) s is = last-of y ys s is
+
+  pub last-got : (xs : List Step) (s : Step) → Some s ≡ slice_get xs (length xs - 1) → last_step file lines (step_list (map see_step xs)) ≡ Some (see_step s)
+  last-got [] s is = absurd cc
+  last-got (x ∷ xs) s is =
+      let at : length (x ∷ xs) - 1 ≡ length xs = omega arith in
+      last-of x xs s (is ∙ ap (λ (i : ℕ). slice_get (x ∷ xs) i) at)
+
+  same-step : (o : Option sx.Step) (s t : sx.Step) → o ≡ Some s → o ≡ Some t → s ≡ t
+  same-step o s t is also = cc
+
+  pub query-given : (q : sx.Query) (s : sx.Step) (number : ℕ) (r : Option (Bor (List Row))) → last_step file lines (steps_in q) ≡ Some s
+      → MatchOption r ((rows : List Row) → GivesStep file lines frame s number rows → ⊥) (λ rows. GivesStep file lines frame s number rows.now)
+      → MatchOption r ((rows : List Row) → GivesQuery file lines frame q number rows → ⊥) (λ rows. GivesQuery file lines frame q number rows.now)
+  query-given (sx.query n steps) s number None last never =
+      λ rows g. never rows (subst (λ (t : sx.Step). GivesStep file lines frame t number rows) (same-step (last_step file lines steps) g.0 s g.1 last) g.2)
+  query-given (sx.query n steps) s number (Some rows) last is = (s, last, is)
+
+  module _ (index number : ℕ) (line : Line) (caller site : ℕ) (args : sx.Exprs) (stands : Some line ≡ line_of lines frame) (kind_is : line.kind ≡ kind.Frame)
+      (caller_is : line.frame ≡ Some caller) (site_is : line.site ≡ Some site) (args_are : Some args ≡ args_at file site) where
+    arg-is : (rows : List Row) (g : GivesArgument file lines frame index number rows) → (caller ≡ g.caller) × (expr_in args index ≡ Some g.arg)
+    arg-is rows g = parts g.line g.caller g.site g.args g.arg g.stands g.caller_is g.site_is g.args_are g.arg_is
+      where
+        parts : (l : Line) (c s : ℕ) (es : sx.Exprs) (a : sx.Expr) → line_of lines frame ≡ Some l → l.frame ≡ Some c → l.site ≡ Some s → args_at file s ≡ Some es → expr_in es index ≡ Some a → (caller ≡ c) × (expr_in args index ≡ Some a)
+        parts l c s es a st ci si ai xi =
+            let same : line ≡ l = cc in
+            let callers : Some caller ≡ Some c = sym caller_is ∙ ap (λ (x : Line). x.frame) same ∙ ci in
+            let sites : Some site ≡ Some s = sym site_is ∙ ap (λ (x : Line). x.site) same ∙ si in
+            let same_site : site ≡ s = cc in
+            let lists : Some args ≡ Some es = args_are ∙ ap (args_at file) same_site ∙ ai in
+            let same_args : args ≡ es = cc in
+            (cc, ap (λ (x : sx.Exprs). expr_in x index) same_args ∙ xi)
+
+    pub no-argument : None ≡ expr_in args index → (rows : List Row) → GivesArgument file lines frame index number rows → ⊥
+    no-argument none rows g = let wrong : None ≡ Some g.arg = none ∙ (arg-is rows g).1 in absurd cc
+
+    same-expr : (o : Option sx.Expr) (s t : sx.Expr) → o ≡ Some s → Some t ≡ o → s ≡ t
+    same-expr o s t is also = cc
+
+    pub argument-given : (arg : sx.Expr) (r : Option (Bor (List Row))) → Some arg ≡ expr_in args index
+        → MatchOption r ((rows : List Row) → GivesExpr file lines caller arg number rows → ⊥) (λ rows. GivesExpr file lines caller arg number rows.now)
+        → MatchOption r ((rows : List Row) → GivesArgument file lines frame index number rows → ⊥) (λ rows. GivesArgument file lines frame index number rows.now)
+    argument-given arg None is never =
+        λ rows g. never rows (subst (λ (e : sx.Expr). GivesExpr file lines caller e number rows) (same-expr (expr_in args index) g.arg arg (arg-is rows g).1 is) (subst (λ (c : ℕ). GivesExpr file lines c g.arg number rows) (sym (arg-is rows g).0) g.gives))
+    argument-given arg (Some rows) is gives =
+        record { line = line; caller = caller; site = site; args = args; arg = arg; stands = sym stands; kind_is = kind_is; caller_is = caller_is; site_is = site_is; args_are = sym args_are; arg_is = sym is; gives = gives }

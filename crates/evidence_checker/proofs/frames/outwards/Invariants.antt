@@ -1,0 +1,10 @@
+use Rattle.std.proofs.Common.{◌≡◌}
+use Rattle.name_table.specs.Files.{file_of}
+use Rattle.query_steps.specs.CitedLines.{outwards}
+use Rattle.evidence_checker.proofs.frames.outwards.Given as goal
+
+abbrev pub invariant-loop-left : goal.invariant-loop-left
+invariant-loop-left l = outwards (file_of l.file) l.lines l.left l.at ≡ outwards (file_of l.file) l.lines l.up l.frame
+
+abbrev pub decreases-loop-left : goal.decreases-loop-left
+decreases-loop-left l = l.left
