@@ -1,3 +1,4 @@
 pub mod Downwards
+pub mod LineStarts
 pub mod RuleNames
 pub mod TemplatePaths

@@ -1,5 +1,5 @@
 //! The lines of entries.
-ghost use Rattle.std.specs.Prelude.{◌≡◌, ◌≤◌, ◌++◌, ℕ, List, None, Some, true, false, MatchOption, IsErrOf, IsSome, OnOk, OnErr, IfOk, length, slice_index_or};
+ghost use Rattle.std.specs.Prelude.{◌≡◌, ◌≤◌, ◌++◌, [], ℕ, List, None, Some, true, false, MatchOption, IsErrOf, IsSome, OnOk, OnErr, IfOk, length, slice_index_or};
 ghost use Rattle.std.specs.Option.{ForSome};
 ghost use Rattle.doc_values.specs.Tree.{IsTree};
 ghost use Rattle.guard_io.specs.Outside.{Rose, IsPrefix};
@@ -8,11 +8,14 @@ ghost use Rattle.name_table.specs.Files.{file_of};
 ghost use Rattle.name_table.specs.Pieces.{piece_at};
 ghost use Rattle.value_compare.specs.Known.{is_known_ref};
 ghost use Rattle.value_compare.specs.Stores.{see_store};
-ghost use Rattle.report_text.specs.EntryLines.{IsShowable, entry_line, is_made, node_text, note_of, note_of_part, shown_text, site_text, template_path, tree_for, word_text};
+ghost use Rattle.report_text.specs.EntryLines.{entry_line, node_text, note_of, note_of_part, shown_text, site_text, template_path, word_text};
+ghost use Rattle.report_text.specs.SeenEntries.{IsShowable, is_made, see_entry, see_shown, see_word, tree_for};
+ghost use Rattle.query_steps.specs.Seeing.{see_origin};
 ghost use Rattle.report_text.specs.Messages.{note_text};
 ghost use Rattle.report_text.specs.Paths.{path_of};
 
 use crate::entry::{Entry, Shown, Word};
+use crate::lined::Lined;
 use crate::messages::push_quoted;
 use crate::paths::push_path;
 use crate::put::{ReportFault, put};
@@ -42,21 +45,44 @@ pub fn write_entry<S: Sink>(
     requires rules { length rules_text.now ≤ 1048576 }
     requires template { length template_text.now ≤ 8388608 }
     ensures ok { OnOk result (ForSome (S.told sink.old) (λ held.
-        S.told sink.new ≡ Some (held ++ entry_line (see_store store.now) rules_text.now template_text.now entry.now))) }
+        S.told sink.new ≡ Some (held ++ entry_line (see_store store.now).file (see_store store.now).template rules_text.now template_text.now (see_entry (see_store store.now) entry.now)))) }
     ensures err { OnErr result (ForSome (S.told sink.old) (λ held. (front : List ℕ)
-        × IsPrefix front (entry_line (see_store store.now) rules_text.now template_text.now entry.now) × (S.told sink.new ≡ Some (held ++ front)))) }
+        × IsPrefix front (entry_line (see_store store.now).file (see_store store.now).template rules_text.now template_text.now (see_entry (see_store store.now) entry.now)) × (S.told sink.new ≡ Some (held ++ front)))) }
     ensures tells { IsSome (S.told sink.old) → IsSome (S.told sink.new) }
     ensures failed { IsErrOf result ReportFault.Failed → Rose (S.faults sink.old) (S.faults sink.new) }
     ensures kept { S.faults sink.old ≤ S.faults sink.new }
 {
-    match line_of(
-        alloc,
-        file,
-        rules_text.as_bytes(),
-        template_text.as_bytes(),
-        store,
-        entry,
-    ) {
+    let Ok(rules) = Lined::new(alloc, rules_text) else {
+        return Err(ReportFault::Memory);
+    };
+    let Ok(template) = Lined::new(alloc, template_text) else {
+        return Err(ReportFault::Memory);
+    };
+    write_entry_over(alloc, file, &rules, &template, store, entry, sink)
+}
+
+/// Writes the line of an entry as `write_entry` does, over texts whose lines are found: so the lines of many entries take no
+/// scan of a text each.
+pub fn write_entry_over<S: Sink>(
+    alloc: Global,
+    file: &RuleFile,
+    rules: &Lined<'_>,
+    template: &Lined<'_>,
+    store: &Store<'_, '_>,
+    entry: &Entry,
+    sink: &mut S,
+) -> Result<(), ReportFault>
+    requires file { (see_store store.now).file ≡ file_of file.now }
+    requires shown { IsShowable (see_store store.now) entry.now.shown }
+    ensures ok { OnOk result (ForSome (S.told sink.old) (λ held.
+        S.told sink.new ≡ Some (held ++ entry_line (see_store store.now).file (see_store store.now).template rules.now.text.now template.now.text.now (see_entry (see_store store.now) entry.now)))) }
+    ensures err { OnErr result (ForSome (S.told sink.old) (λ held. (front : List ℕ)
+        × IsPrefix front (entry_line (see_store store.now).file (see_store store.now).template rules.now.text.now template.now.text.now (see_entry (see_store store.now) entry.now)) × (S.told sink.new ≡ Some (held ++ front)))) }
+    ensures tells { IsSome (S.told sink.old) → IsSome (S.told sink.new) }
+    ensures failed { IsErrOf result ReportFault.Failed → Rose (S.faults sink.old) (S.faults sink.new) }
+    ensures kept { S.faults sink.old ≤ S.faults sink.new }
+{
+    match line_of(alloc, file, rules, template, store, entry) {
         Ok(line) => put(&line, sink),
         Err(_) => Err(ReportFault::Memory),
     }
@@ -66,16 +92,14 @@ pub fn write_entry<S: Sink>(
 fn line_of(
     alloc: Global,
     file: &RuleFile,
-    rules: &[u8],
-    template: &[u8],
+    rules: &Lined<'_>,
+    template: &Lined<'_>,
     store: &Store<'_, '_>,
     entry: &Entry,
 ) -> Result<Vec<u8>, AllocError>
     requires file { (see_store store.now).file ≡ file_of file.now }
     requires shown { IsShowable (see_store store.now) entry.now.shown }
-    requires rules { length rules.now ≤ 1048576 }
-    requires template { length template.now ≤ 8388608 }
-    ensures { IfOk result (λ line. line.items ≡ entry_line (see_store store.now) rules.now template.now entry.now) }
+    ensures { IfOk result (λ line. line.items ≡ entry_line (see_store store.now).file (see_store store.now).template rules.now.text.now template.now.text.now (see_entry (see_store store.now) entry.now)) }
 {
     let mut line = Vec::new(alloc);
     line.extend_from_slice(b"  ")?;
@@ -93,16 +117,14 @@ fn line_of(
 fn push_shown(
     line: &mut Vec<u8>,
     file: &RuleFile,
-    rules: &[u8],
-    template: &[u8],
+    rules: &Lined<'_>,
+    template: &Lined<'_>,
     store: &Store<'_, '_>,
     shown: Shown,
 ) -> Result<(), AllocError>
     requires file { (see_store store.now).file ≡ file_of file.now }
     requires shown { IsShowable (see_store store.now) shown }
-    requires rules { length rules.now ≤ 1048576 }
-    requires template { length template.now ≤ 8388608 }
-    ensures { OnOk result (line.new.items ≡ line.old.items ++ shown_text (see_store store.now) rules.now template.now shown) }
+    ensures { OnOk result (line.new.items ≡ line.old.items ++ shown_text (see_store store.now).file (see_store store.now).template rules.now.text.now template.now.text.now (see_shown (see_store store.now) shown)) }
 {
     match shown {
         Shown::Value(value) => push_value(line, rules, template, store, value),
@@ -122,16 +144,14 @@ fn push_shown(
 /// Appends the path and the place of a value of the template or of a literal.
 fn push_value(
     line: &mut Vec<u8>,
-    rules: &[u8],
-    template: &[u8],
+    rules: &Lined<'_>,
+    template: &Lined<'_>,
     store: &Store<'_, '_>,
     value: Ref,
 ) -> Result<(), AllocError>
     requires known { is_known_ref (see_store store.now) value ≡ true }
     requires given { is_made value.origin ≡ false }
-    requires rules { length rules.now ≤ 1048576 }
-    requires template { length template.now ≤ 8388608 }
-    ensures { OnOk result (line.new.items ≡ line.old.items ++ node_text rules.now template.now value.origin (tree_for (see_store store.now) value) value.node) }
+    ensures { OnOk result (line.new.items ≡ line.old.items ++ node_text (see_store store.now).file (see_store store.now).template rules.now.text.now template.now.text.now (see_origin (see_store store.now) [] value.origin) value.node) }
 {
     let node = node_of(store, value);
     match value.origin {
@@ -190,9 +210,13 @@ fn push_template_path(line: &mut Vec<u8>, node: Cursor<'_, '_>) -> Result<(), Al
 }
 
 /// Appends the place at which the part of a site begins.
-fn push_site(line: &mut Vec<u8>, file: &RuleFile, rules: &[u8], site: u32) -> Result<(), AllocError>
-    requires { length rules.now ≤ 1048576 }
-    ensures { OnOk result (line.new.items ≡ line.old.items ++ site_text (file_of file.now) rules.now site) }
+fn push_site(
+    line: &mut Vec<u8>,
+    file: &RuleFile,
+    rules: &Lined<'_>,
+    site: u32,
+) -> Result<(), AllocError>
+    ensures { OnOk result (line.new.items ≡ line.old.items ++ site_text (file_of file.now) rules.now.text.now site) }
 {
     push_place(line, rules, place_of_site(file, site))
 }
@@ -246,7 +270,7 @@ fn note_of_part(part: &Part) -> Option<&str>
 
 /// The word that is printed.
 fn word_of(word: Word) -> &'static str
-    ensures { result.now ≡ word_text word }
+    ensures { result.now ≡ word_text (see_word word) }
 {
     match word {
         Word::Value => "value",

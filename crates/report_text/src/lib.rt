@@ -4,13 +4,15 @@
 
 pub mod entries;
 pub mod entry;
+pub mod lined;
 mod messages;
 mod paths;
 pub mod put;
 pub mod rules;
 mod spelling;
 
-pub use entries::write_entry;
+pub use entries::{write_entry, write_entry_over};
 pub use entry::{Entry, Shown, Word};
+pub use lined::Lined;
 pub use put::ReportFault;
-pub use rules::{verdict_word, write_rules};
+pub use rules::{push_rule_line, write_rules};

@@ -72,7 +72,7 @@ fn push_rule<'v>(
     if !rule.params.as_slice().is_empty() {
         return Ok(verdicts);
     }
-    push_line(lines, rule.name.as_str(), verdicts[0])?;
+    push_rule_line(lines, rule.name.as_str(), verdicts[0])?;
     Ok(&verdicts[1..])
 }
 
@@ -85,11 +85,11 @@ fn push_loose(lines: &mut Vec<u8>, loose: &[Disj], verdicts: &[Verdict]) -> Resu
     if loose.is_empty() {
         return Ok(());
     }
-    push_line(lines, "default", verdicts[0])
+    push_rule_line(lines, "default", verdicts[0])
 }
 
 /// Appends the line of a verdict under its name.
-fn push_line(lines: &mut Vec<u8>, name: &str, verdict: Verdict) -> Result<(), AllocError>
+pub fn push_rule_line(lines: &mut Vec<u8>, name: &str, verdict: Verdict) -> Result<(), AllocError>
     ensures { OnOk result (lines.new.items ≡ lines.old.items ++ rule_line name.now verdict) }
 {
     lines.extend_from_slice(b"rule ")?;
@@ -101,7 +101,7 @@ fn push_line(lines: &mut Vec<u8>, name: &str, verdict: Verdict) -> Result<(), Al
 }
 
 /// The word that is printed for a verdict.
-pub fn verdict_word(verdict: Verdict) -> &'static str
+fn verdict_word(verdict: Verdict) -> &'static str
     ensures { result.now ≡ verdict_word verdict }
 {
     match verdict {

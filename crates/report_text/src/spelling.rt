@@ -1,10 +1,9 @@
 //! How bytes and places are spelled.
-ghost use Rattle.std.specs.Prelude.{◌≡◌, ◌++◌, ◌<◌, ◌≤◌, length, decimal, OnOk};
+ghost use Rattle.std.specs.Prelude.{◌≡◌, ◌++◌, ◌<◌, decimal, OnOk};
 ghost use Rattle.std.specs.Char.{digit_char};
-ghost use Rattle.doc_values.specs.Position.{line_at, column_at};
 ghost use Rattle.report_text.specs.Spelling.{is_control, hex_pair, place_text};
 
-use doc_values::place_of;
+use crate::lined::Lined;
 use itoa::Buffer;
 use std::alloc::AllocError;
 
@@ -44,21 +43,12 @@ pub(crate) fn push_number(line: &mut Vec<u8>, number: u32) -> Result<(), AllocEr
     line.extend_from_slice(digits.format(number).as_bytes())
 }
 
-/// Appends the line and the column of a byte offset, those of the end where it is past the bytes.
-pub(crate) fn push_place(line: &mut Vec<u8>, bytes: &[u8], at: u32) -> Result<(), AllocError>
-    requires { length bytes.now ≤ 8388608 }
-    ensures { OnOk result (line.new.items ≡ line.old.items ++ place_text bytes.now at) }
+/// Appends the line and the column of a byte offset, those of the end where it is past the text.
+pub(crate) fn push_place(line: &mut Vec<u8>, text: &Lined<'_>, at: u32) -> Result<(), AllocError>
+    ensures { OnOk result (line.new.items ≡ line.old.items ++ place_text text.now.text.now at) }
 {
-    let (row, column) = place_in(bytes, at);
+    let (row, column) = text.place(at);
     push_number(line, row)?;
     line.push(b':')?;
     push_number(line, column)
-}
-/// The line and the column of a byte offset, those of the end where it is past the bytes.
-fn place_in(bytes: &[u8], at: u32) -> (u32, u32)
-    requires { length bytes.now ≤ 8388608 }
-    ensures line { result.0 ≡ line_at bytes.now at }
-    ensures column { result.1 ≡ column_at bytes.now at }
-{
-    place_of(bytes, at.min(bytes.len() as u32))
 }

@@ -19,6 +19,6 @@ returns c =
     let one : length (name_of_loose (disj_list (map see_disj c.args.loose.now))) ≡ 1 = ap (λ (ns : List (List ℕ)). length ns) named in
     let enough = c.requires in
     let within : 0 < length c.args.verdicts.now = omega arith in
-    subst (λ t. OnOk c.push_line.result (c.push_line.new.lines.items ≡ c.args.lines.now.items ++ t))
+    subst (λ t. OnOk c.push_rule_line.result (c.push_rule_line.new.lines.items ≡ c.args.lines.now.items ++ t))
     (sym (ap (λ ns. rule_lines ns c.args.verdicts.now) named ∙ first-line (codes "default") c.args.verdicts.now Pass within))
-    c.push_line.ensures
+    c.push_rule_line.ensures
