@@ -1,8 +1,11 @@
+mod Appended
 mod CalledRows
 mod Conjoined
+mod Failing
 mod FittingCalls
 mod GivenRows
 pub mod Growing
+mod GrowingEntries
 mod GrowingVerdicts
 mod Judged
 mod Keeping
@@ -15,3 +18,4 @@ mod Scopes
 mod SoughtTexts
 mod Standing
 mod StepsWithin
+mod TestedEntries

@@ -109,7 +109,7 @@ part-among (q ∷ ps) (suc i) p within is =
     IsAmong-inner (pieces_part (see_part p)) (pieces_parts (part_list (map see_part ps))) (pieces_parts (part_list (map see_part (q ∷ ps))))
     (part-among ps i p (omega arith) is) (IsAmong-last (pieces_part (see_part q)) (pieces_parts (part_list (map see_part ps))))
 
-disj-among : (ds : List Disj) (i : ℕ) (d : Disj) → i < length ds → d ≡ get_or ds i d → IsAmong (pieces_disj (see_disj d)) (pieces_disjs (disj_list (map see_disj ds)))
+pub disj-among : (ds : List Disj) (i : ℕ) (d : Disj) → i < length ds → d ≡ get_or ds i d → IsAmong (pieces_disj (see_disj d)) (pieces_disjs (disj_list (map see_disj ds)))
 disj-among [] i d within is = absurd (omega arith)
 disj-among (e ∷ ds) zero d within is = rw is (IsAmong-first (pieces_disj (see_disj e)) (pieces_disjs (disj_list (map see_disj ds))))
 disj-among (e ∷ ds) (suc i) d within is =
@@ -141,6 +141,9 @@ step-among q n (r ∷ ss) (suc count) (suc i) s within is =
 -- the parts of a disjunction among others
 disj-parts : (d : Disj) → IsPart (pieces_parts (part_list (map see_part d.parts.items))) (pieces_disj (see_disj d))
 disj-parts d = subst (λ (x : sx.Disj). IsPart (pieces_parts (part_list (map see_part d.parts.items))) (pieces_disj x)) (sym (disj-seen d)) (behind-one _ _)
+
+pub disj-in : (d : Disj) (ps : List Part) → ps ≡ d.parts.items → IsPart (pieces_parts (part_list (map see_part ps))) (pieces_disj (see_disj d))
+disj-in d ps are = subst (λ (xs : List Part). IsPart (pieces_parts (part_list (map see_part xs))) (pieces_disj (see_disj d))) (sym are) (disj-parts d)
 
 pub parts-in : (ds : List Disj) (i : ℕ) (d : Disj) (ps : List Part) → i < length ds → d ≡ get_or ds i d → ps ≡ d.parts.items
     → IsPart (pieces_parts (part_list (map see_part ps))) (pieces_disjs (disj_list (map see_disj ds)))
@@ -222,10 +225,19 @@ pub when-in : (x : Part) (site : ℕ) (cond : Conds) (b : Body) → x ≡ part.W
 when-in x site cond b is =
     subst (λ (y : sx.Part). IsPart (pieces_conds (see_conds cond) ++ pieces_body (see_body b)) (pieces_part y)) (sym (ap see_part is ∙ when-seen site cond b)) (behind-one _ _)
 
+-- and its body alone
+pub when_body-in : (x : Part) (site : ℕ) (cond : Conds) (b : Body) → x ≡ part.When site cond b → IsPart (pieces_body (see_body b)) (pieces_part (see_part x))
+when_body-in x site cond b is =
+    subst (λ (y : sx.Part). IsPart (pieces_body (see_body b)) (pieces_part y)) (sym (ap see_part is ∙ when-seen site cond b)) (second-two _ (pieces_conds (see_conds cond)) (pieces_body (see_body b)))
+
 pub kinds-in : (x : Part) (site : ℕ) (name : List ℕ) (cond : Option Conds) (b : Body) → x ≡ part.Kinds site name cond b
     → IsPart (pieces_opt_conds (see_opt_conds cond) ++ pieces_body (see_body b)) (pieces_part (see_part x))
 kinds-in x site name cond b is =
     subst (λ (y : sx.Part). IsPart (pieces_opt_conds (see_opt_conds cond) ++ pieces_body (see_body b)) (pieces_part y)) (sym (ap see_part is ∙ kinds-seen site name cond b)) (behind-one _ _)
+
+pub kinds_body-in : (x : Part) (site : ℕ) (name : List ℕ) (cond : Option Conds) (b : Body) → x ≡ part.Kinds site name cond b → IsPart (pieces_body (see_body b)) (pieces_part (see_part x))
+kinds_body-in x site name cond b is =
+    subst (λ (y : sx.Part). IsPart (pieces_body (see_body b)) (pieces_part y)) (sym (ap see_part is ∙ kinds-seen site name cond b)) (second-two _ (pieces_opt_conds (see_opt_conds cond)) (pieces_body (see_body b)))
 
 pub test-in : (x : Part) (site : ℕ) (any : Bool) (left : Query) (op : Op) (negated : Bool) (right : Option Expr) (message : Option (List ℕ))
     → x ≡ part.Test site any left op negated right message → IsPart (pieces_query (see_query left) ++ pieces_opt_expr (see_opt_expr right)) (pieces_part (see_part x))

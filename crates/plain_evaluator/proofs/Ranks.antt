@@ -35,6 +35,9 @@ unfolding rank
 owed-same f turns some more step before n among less is there =
     (omega (arith, no-more some more among, less, is), IsAmong-inner some more (pieces_file f) among there)
 
+pub part-stands : (f : File) (some more : List Sited) → IsPart some more → StandsIn f more → StandsIn f some
+part-stands f some more part there = IsAmong-inner some more (pieces_file f) part.0 there
+
 -- what has no piece of its own
 pub below-part : (f : File) (turns : ℕ) (some more : List Sited) (step before n : ℕ) → IsPart some more → step < 8 → rank f turns more before ≡ n → rank f turns some step < n
 unfolding rank

@@ -1,3 +1,4 @@
+pub mod Entries
 pub mod Rules
 pub mod Seen
 pub mod Sound

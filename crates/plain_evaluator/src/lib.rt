@@ -3,12 +3,15 @@
 //! its trees anew.
 #![tactic(auto)]
 
+mod entries;
 mod environment;
+pub mod fails;
 mod keep;
 mod names;
 mod rows;
 pub mod trees;
 pub mod verdicts;
 
+pub use fails::{fails_of_loose, fails_of_rule};
 pub use trees::Trees;
 pub use verdicts::{verdict_of_loose, verdict_of_rule};

@@ -204,7 +204,7 @@ fn argument(args: &[Expr], index: u32) -> Option<&Expr>
 }
 
 /// The rule that the reference or call of a site names.
-fn named_rule(file: &RuleFile, site: u32) -> Option<&Rule>
+pub(crate) fn named_rule(file: &RuleFile, site: u32) -> Option<&Rule>
     ensures { option_map (λ (r : Bor code.Rule). see_rule r.now) result ≡ rule_to (see_file file.entry.now.raw) site }
 {
     let target = file.target(site)?;

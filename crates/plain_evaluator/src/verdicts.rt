@@ -64,7 +64,7 @@ pub fn verdict_of_loose(
 }
 
 /// Through so many names a part of a rule file leads at most, since no item is deeper.
-fn most_turns() -> u32
+pub(crate) fn most_turns() -> u32
     ensures { result ≡ depth_limit }
 {
     200
@@ -123,7 +123,7 @@ fn verdict_of_disjs(
 
 /// The disjunction of parts.
 #[cycle(meaning)]
-fn verdict_of_parts(
+pub(crate) fn verdict_of_parts(
     alloc: Global,
     parts: &[Part],
     turns: u32,
@@ -149,7 +149,7 @@ fn verdict_of_parts(
 
 /// The verdict of a part.
 #[cycle(meaning)]
-fn verdict_of_part(
+pub(crate) fn verdict_of_part(
     alloc: Global,
     part: &Part,
     turns: u32,
@@ -510,7 +510,7 @@ fn is_pass(verdict: Verdict) -> bool
 }
 
 /// Whether a verdict is FAIL.
-fn is_fail(verdict: Verdict) -> bool
+pub(crate) fn is_fail(verdict: Verdict) -> bool
     ensures { result ≡ judged.is_fail verdict }
 {
     match verdict {
@@ -532,7 +532,7 @@ fn judge_block(any: bool, verdicts: &[Verdict]) -> Verdict
 }
 
 /// Whether a test asks if a set is empty.
-fn is_set_test(op: Op, left: &Query) -> bool
+pub(crate) fn is_set_test(op: Op, left: &Query) -> bool
     ensures { result ≡ (asked.is_empty_test op && asked.is_set (see_query left.now)) }
 {
     match op {

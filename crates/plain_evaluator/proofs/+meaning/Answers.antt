@@ -44,7 +44,8 @@ use Rattle.plain_evaluator.proofs.FittingCalls.{arguments-counted}
 use Rattle.plain_evaluator.proofs.CalledRows.{many-args, literal-argument}
 use Rattle.plain_evaluator.proofs.GivenRows.{step-given, as-many-judged, filter-given, captures-given, founds-kept, one-seen, args-on, args-as-before, call-answered}
 use Rattle.plain_evaluator.proofs.Growing.{Grows-refl, same-world, stands-on, Grows-trans, book-on, below-on, owed-on, rows-on, sound-on, rows-as-before, meant-before, world_in, named_in, scopes_in, known-on}
-use Rattle.plain_evaluator.proofs.KnownAnswers.{answer-known, args-known}
+use Rattle.query_steps.proofs.KnownAnswers.{answer-known}
+use Rattle.plain_evaluator.proofs.KnownAnswers.{args-known}
 use Rattle.plain_evaluator.proofs.Named.{bound, out-of-rows, out-of-verdicts, out-of-calls, refers-to, refers-to-none, calls, calls-none, rule-stands, rule_found, expr-stands, query-stands, step-stands, expr-value, query-value, step-value, no-value, no-capture, first-rows, body-stands, called-is, owed-argument, argument-rows-at, no-argument-at, no-argument-top, no-argument-inner}
 use Rattle.plain_evaluator.proofs.Placed.{same-among, step-in, filter-in, keys-in, asked-in, found-in, function-in, arguments-in, expr-among, side-in, literal-placed, part-among, parts-in, conds-in, body-in, opt_conds-in, block-in, when-in, kinds-in, test-in, refer-in, call-in, rule-in}
 use Rattle.plain_evaluator.proofs.Ranks.{IsPart, owed-part, owed-same, owed-turn, owed-less, below-name, below-turn, below-part, below-first, below-second, first-placed, second-placed}

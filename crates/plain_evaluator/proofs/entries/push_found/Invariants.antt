@@ -1,0 +1,12 @@
+use Rattle.std.proofs.Common.{◌≡◌, ◌++◌, map, take}
+use Rattle.std.specs.List.{flat_map}
+use Rattle.query_steps.specs.Fails.{found_row}
+use Rattle.plain_evaluator.specs.Entries.{AreShowable, see_entries}
+use Rattle.plain_evaluator.specs.States.{see, see_trees}
+use Rattle.plain_evaluator.proofs.entries.push_found.Given as goal
+
+abbrev pub invariant-loop-row : goal.invariant-loop-row
+invariant-loop-row l = record {
+  showable : AreShowable (see_trees l.trees) l.into;
+  entries : see_entries (see_trees l.trees) l.into ≡ see_entries (see_trees l.trees) l.initial.into ++ flat_map (found_row l.part) (map (see (see_trees l.trees)) (take l.row-index l.rows));
+}

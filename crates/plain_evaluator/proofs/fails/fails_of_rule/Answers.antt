@@ -1,0 +1,30 @@
+use Rattle.std.proofs.Common.{◌∙◌, refl, ap, ap₂}
+use Rattle.guard_syntax.specs.Seen.{see_rule}
+use Rattle.value_compare.specs.Known.{is_known_ref}
+use Rattle.query_steps.specs.Roots.{root_ref}
+use Rattle.query_steps.specs.SpotEnvironments.{Inner}
+use Rattle.plain_evaluator.specs.States.{see_spot_in, see_trees, spots}
+use Rattle.plain_evaluator.proofs.Appended.{all-appended}
+use Rattle.plain_evaluator.proofs.Failing.{rule-most}
+use Rattle.plain_evaluator.proofs.Growing.{world_in}
+use Rattle.plain_evaluator.proofs.GrowingVerdicts.{framed}
+use Rattle.plain_evaluator.proofs.Named.{body-stands}
+use Rattle.plain_evaluator.proofs.RowsInTurn.{IsTree-root, known-root}
+use Rattle.plain_evaluator.proofs.Scopes.{inner-sound, top-seen, top-sound}
+use Rattle.plain_evaluator.proofs.fails.fails_of_rule.Goals as goal
+
+pub push_body-requires-clause-placed : goal.push_body-requires-clause-placed
+push_body-requires-clause-placed c =
+    body-stands (see_trees c.args.trees.now).known.file c.args.rule.now c.requires.placed
+
+pub push_body-requires-clause-sound : goal.push_body-requires-clause-sound
+push_body-requires-clause-sound c =
+    let known = known-root (see_trees c.args.trees.now).known root_ref refl (IsTree-root (see_trees c.args.trees.now).known.template c.len-nodes.ensures.tree) in
+    inner-sound (see_trees c.args.trees.now).known c.root.result _ (ap (is_known_ref (see_trees c.args.trees.now).known) c.root.ensures ∙ known) (top-sound (see_trees c.args.trees.now).known known)
+
+pub returns-clause-entries : goal.returns-clause-entries
+returns-clause-entries c =
+    λ answers is. all-appended (see_trees c.args.trees.now) c.new-entries.result _ _ _ c.new-entries.ensures.items
+    (rule-most (world_in c.args.trees.now answers) c.most_turns.result (see_rule c.args.rule.now) _ c.most_turns.ensures
+    (framed (see_trees c.args.trees.now) c.root.result _ ∙ ap₂ Inner (ap (see_spot_in (see_trees c.args.trees.now)) c.root.ensures) (ap (spots (see_trees c.args.trees.now)) top-seen)))
+    (c.in_ok-push_body.ensures.entries answers is)
