@@ -1,4 +1,5 @@
 pub mod CountLemmas
+pub mod DrillCounts
 pub mod SpellingLemmas
 pub mod WalkSteps
 pub mod TakenWords
