@@ -1,5 +1,5 @@
 -- What the sinks took, end by end.
-use Rattle.std.proofs.Common.{◌≡◌, ℕ, ◌++◌, inl, inr, List, [], Option, Some, None, refl, sym, ◌∙◌, ap, subst, append_assoc, string_bytes, true, false, if◌then◌else◌}
+use Rattle.std.proofs.Common.{◌≡◌, ℕ, ◌++◌, inl, inr, List, [], Option, Some, None, refl, sym, ◌∙◌, ap, subst, append_assoc, true, false, if◌then◌else◌}
 use Rattle.std.proofs.lemmas.List.{append-nil}
 use Rattle.std.specs.Option.{ForSome}
 use Rattle.guard_io.specs.Outside.{IsPrefix}
@@ -63,7 +63,7 @@ ended-defined judgement =
     elim judgement.failed as (λ failed. is_defined (if failed then end_is.Failed else end_is.Passed) ≡ true) [ true ↦ refl | false ↦ refl ]
 
 pub IsReport-ended : (words : List (List ℕ)) (told : Contents) (judgement : Judgement) → EndOf words told (ended judgement)
-    → IsReport words told (string_bytes judgement.report)
+    → IsReport words told judgement.report.items
 IsReport-ended words told judgement end = (ended judgement, end, ended-judged judgement, refl)
 
 -- at ends that are defined, what the sinks took is what is defined

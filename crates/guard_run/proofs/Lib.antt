@@ -1,5 +1,8 @@
+mod Accepted
+mod Asking
 mod Closing
 mod Judging
+mod LineLists
 mod Loads
 mod OneEnd
 mod OnePattern
@@ -10,5 +13,5 @@ mod OneText
 mod Outcomes
 mod Plainness
 mod Refusing
-mod RequestWords
+mod Reports
 mod Walks

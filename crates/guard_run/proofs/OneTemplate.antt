@@ -6,6 +6,7 @@ use Rattle.query_steps.specs.Spots.{Answers}
 use Rattle.query_steps.proofs.SpotAnswers.{one-answering}
 use Rattle.guard_run.specs.Inputs.{IsTooLong, IsTemplate, RefusesTemplate, template_limit}
 use Rattle.guard_run.specs.End.{Ended, EndOfPatterns, EndOfTemplate, IsJudged, judged, refused}
+use Rattle.guard_run.specs.Report.{Reporting}
 use Rattle.guard_run.specs.Reported.{world_over}
 use Rattle.guard_run.specs.declared.ends.Refusal.{Refusal}
 use Rattle.guard_run.specs.declared.ends.Refusal.TheVariants.{At}
@@ -36,26 +37,27 @@ why-apart f bytes one r tree (inr (inl (is, bad))) whole = bad.1 whole.text.utf8
 why-apart f bytes one r tree (inr (inr (text, h))) whole = (one text.utf8).apart r tree h whole.read
 
 -- a template is judged in one way: two answers that functions give are one
-judged-one : (rules : File) (tree : Forest) (e other : Ended) → IsJudged rules tree e → IsJudged rules tree other → e ≡ other
-judged-one rules tree e other (answers, obey, is) (others, obey', is') =
-    is ∙ (ap (λ (a : Answers). judged (world_over rules tree a)) (one-answering tree rules answers others obey obey') ∙ sym is')
+judged-one : (made : Reporting) (source : List ℕ) (rules : File) (template : List ℕ) (tree : Forest) (e other : Ended) → IsJudged made source rules template tree e
+    → IsJudged made source rules template tree other → e ≡ other
+judged-one made source rules template tree e other (answers, obey, is) (others, obey', is') =
+    is ∙ (ap (λ (a : Answers). judged made (world_over rules tree a) source template) (one-answering tree rules answers others obey obey') ∙ sym is')
 
 -- and behind it the patterns of the rules have one end
-patterns-one : (source : List ℕ) (rules : File) (tree : Forest) (e other : Ended) → EndOfPatterns source rules tree e → EndOfPatterns source rules tree other
-    → e ≡ other
-patterns-one source rules tree e other (inl (text, at, next, bad, is)) (inl (text', at', next', bad', is')) =
+patterns-one : (made : Reporting) (source : List ℕ) (rules : File) (template : List ℕ) (tree : Forest) (e other : Ended) → EndOfPatterns made source rules template tree e
+    → EndOfPatterns made source rules template tree other → e ≡ other
+patterns-one made source rules template tree e other (inl (text, at, next, bad, is)) (inl (text', at', next', bad', is')) =
     is ∙ (ap (λ a. refused source (At file.Rules BadPattern a None)) (next-one rules text at text' at' next next' bad bad') ∙ sym is')
-patterns-one source rules tree e other (inl (text, at, next, bad, is)) (inr (all, is')) = absurd (next-apart rules text at next bad all)
-patterns-one source rules tree e other (inr (all, is)) (inl (text, at, next, bad, is')) = absurd (next-apart rules text at next bad all)
-patterns-one source rules tree e other (inr (all, is)) (inr (all', is')) = judged-one rules tree e other is is'
+patterns-one made source rules template tree e other (inl (text, at, next, bad, is)) (inr (all, is')) = absurd (next-apart rules text at next bad all)
+patterns-one made source rules template tree e other (inr (all, is)) (inl (text, at, next, bad, is')) = absurd (next-apart rules text at next bad all)
+patterns-one made source rules template tree e other (inr (all, is)) (inr (all', is')) = judged-one made source rules template tree e other is is'
 
 -- so a template has one end, whatever the rules
-pub template-one : (f : Format) (bytes : List ℕ) → (IsUtf8 bytes → OneText f bytes) → (source : List ℕ) (rules : File) (e other : Ended)
-    → EndOfTemplate f source rules bytes e → EndOfTemplate f source rules bytes other → e ≡ other
-template-one f bytes one source rules e other (inl (r, h, is)) (inl (q, h', is')) =
+pub template-one : (f : Format) (bytes : List ℕ) → (IsUtf8 bytes → OneText f bytes) → (made : Reporting) (source : List ℕ) (rules : File) (e other : Ended)
+    → EndOfTemplate made f source rules bytes e → EndOfTemplate made f source rules bytes other → e ≡ other
+template-one f bytes one made source rules e other (inl (r, h, is)) (inl (q, h', is')) =
     is ∙ (ap (refused bytes) (why-one f bytes one r q h h') ∙ sym is')
-template-one f bytes one source rules e other (inl (r, h, is)) (inr (tree, whole, end)) = absurd (why-apart f bytes one r tree h whole)
-template-one f bytes one source rules e other (inr (tree, whole, end)) (inl (r, h, is')) = absurd (why-apart f bytes one r tree h whole)
-template-one f bytes one source rules e other (inr (tree, whole, end)) (inr (tree', whole', end')) =
+template-one f bytes one made source rules e other (inl (r, h, is)) (inr (tree, whole, end)) = absurd (why-apart f bytes one r tree h whole)
+template-one f bytes one made source rules e other (inr (tree, whole, end)) (inl (r, h, is')) = absurd (why-apart f bytes one r tree h whole)
+template-one f bytes one made source rules e other (inr (tree, whole, end)) (inr (tree', whole', end')) =
     let same : tree' ≡ tree = (one whole.text.utf8).tree tree' tree whole'.read whole.read in
-    patterns-one source rules tree e other end (subst (λ (t : Forest). EndOfPatterns source rules t other) same end')
+    patterns-one made source rules bytes tree e other end (subst (λ (t : Forest). EndOfPatterns made source rules bytes t other) same end')

@@ -1,11 +1,11 @@
 -- What comes of a call, as further ends are allowed. By the cases of the outcome.
-use Rattle.std.proofs.Common.{◌≡◌, ℕ, List, [], Bool, string_bytes, ap, ◌∙◌, if◌then◌else◌}
+use Rattle.std.proofs.Common.{◌≡◌, ℕ, List, [], Bool, ap, ◌∙◌, if◌then◌else◌}
 use Rattle.std.specs.List.{list_any}
 use Rattle.query_steps.specs.Spots.{World}
 use Rattle.query_steps.specs.Verdicts.{is_fail}
 use Rattle.guard_run.specs.End.{Ended, judged}
 use Rattle.guard_run.specs.Outcome.{IsOutcomeAs, ended}
-use Rattle.guard_run.specs.Report.{report}
+use Rattle.guard_run.specs.Report.{Reporting}
 use Rattle.guard_run.specs.Reported.{verdicts_of}
 use Rattle.guard_run.specs.declared.ends.End.TheVariants as end_is
 use Rattle.guard_run.specs.declared.report.Judgement.{Judgement}
@@ -21,7 +21,8 @@ IsOutcomeAs-more Ends More more outcome.PatternRefused is = tt
 IsOutcomeAs-more Ends More more outcome.Memory is = tt
 
 -- what is said of a template that was judged
-pub ended-as : (j : Judgement) (world : World) → string_bytes j.report ≡ report world → j.failed ≡ list_any is_fail (verdicts_of world) → ended j ≡ judged world
-ended-as j world text failed =
-    ap (λ (f : Bool). record { how = if f then end_is.Failed else end_is.Passed; out = string_bytes j.report; err = [] }) failed
+pub ended-as : (made : Reporting) (j : Judgement) (world : World) (source template : List ℕ) → j.report.items ≡ made world source template
+    → j.failed ≡ list_any is_fail (verdicts_of world) → ended j ≡ judged made world source template
+ended-as made j world source template text failed =
+    ap (λ (f : Bool). record { how = if f then end_is.Failed else end_is.Passed; out = j.report.items; err = [] }) failed
     ∙ ap (λ (out : List ℕ). record { how = if list_any is_fail (verdicts_of world) then end_is.Failed else end_is.Passed; out = out; err = [] }) text

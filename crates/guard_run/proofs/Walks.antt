@@ -10,26 +10,30 @@ use Rattle.guard_syntax.specs.Syntax as sx
 use Rattle.guard_syntax.specs.declared.syntax.Disj.{Disj}
 use Rattle.guard_syntax.specs.declared.syntax.Rule.{Rule}
 use Rattle.guard_syntax.specs.declared.row.Verdict.{Verdict}
+use Rattle.guard_syntax.specs.declared.row.Verdict.TheVariants as verdict
 use Rattle.guard_syntax.specs.Seen.{see_disj, see_rule, disj_list}
 use Rattle.name_table.specs.Pieces.{OfFile, pieces_rules, pieces_rule, pieces_lets, pieces_disjs}
 use Rattle.name_table.specs.Files.{file_of}
 use Rattle.name_table.specs.declared.file.RuleFile.{RuleFile}
 use Rattle.value_compare.specs.declared.store.Store.{Store}
+use Rattle.query_steps.specs.Fails.{Entry, loose_fails, rule_fails}
 use Rattle.query_steps.specs.Seeing.{world_of}
 use Rattle.query_steps.specs.Spots.{Answers, World}
 use Rattle.query_steps.specs.SpotTurns.{loose_verdict, rule_verdict}
 use Rattle.query_steps.specs.SpotFunctions.{IsAnswering}
 use Rattle.plain_evaluator.specs.States.{Answering, Grows, State, see_trees}
 use Rattle.plain_evaluator.proofs.Growing.{answering-on}
-use Rattle.guard_run.specs.Listed.{AreLinesOf}
+use Rattle.guard_run.specs.Listed.{AreLinesOf, lines_as, lines_in}
 use Rattle.guard_run.specs.declared.report.Lines.{Lines}
+use Rattle.guard_run.specs.declared.report.Source.{Source}
 use Rattle.plain_evaluator.specs.declared.trees.Trees.{Trees}
-use Rattle.guard_run.specs.Reported.{Reported, of_loose, of_rule, if_plain, reported, world_over}
+use Rattle.guard_run.specs.Reported.{Reported, of_loose, of_rule, if_fail, if_plain, reported, world_over}
+use Rattle.guard_run.proofs.LineLists.{lines-kept}
 use Rattle.name_table.specs.Within.{IsAmong, StandsIn}
 use Rattle.name_table.proofs.Among.{IsAmong-inner, IsAmong-last, IsAmong-first, IsAmong-behind}
 
-abbrev of_default : Verdict → Reported
-of_default v = record { name = codes "default"; verdict = v }
+abbrev reported_as : List ℕ → Verdict → List Entry → Reported
+reported_as name v entries = record { name = name; verdict = v; fails = entries }
 
 rule-among : (rs : List Rule) (i : ℕ) (r : Rule) → i < length rs → r ≡ get_or rs i r → IsAmong (pieces_rule (see_rule r)) (pieces_rules (map see_rule rs))
 rule-among [] i r within is = absurd (omega arith)
@@ -57,11 +61,14 @@ loose-stands f =
     (IsAmong-inner some (pieces_rules f.rules ++ some) (pieces_lets f.lets ++ (pieces_rules f.rules ++ some))
     (IsAmong-last (pieces_rules f.rules) some) (IsAmong-last (pieces_lets f.lets) (pieces_rules f.rules ++ some)))
 
--- the parts outside rules, where there are some, have one verdict
-pub loose-one : (world : World) (ds : List Disj) (v : Verdict) → (length ds ≡ 0 → ⊥) → v ≡ loose_verdict world (disj_list (map see_disj ds))
-    → of_default v ∷ [] ≡ of_loose world (disj_list (map see_disj ds))
-loose-one world [] v some is = absurd (some refl)
-loose-one world (d ∷ ds) v some is = ap (λ (v : Verdict). of_default v ∷ []) is
+-- the verdict of the parts outside rules, where there are some, and what they fail by
+pub loose-one : (world : World) (ds : List Disj) (v : Verdict) (entries : List Entry) → (length ds ≡ 0 → ⊥)
+    → v ≡ loose_verdict world (disj_list (map see_disj ds)) → entries ≡ if_fail v (loose_fails world (disj_list (map see_disj ds)))
+    → reported_as (codes "default") v entries ∷ [] ≡ of_loose world (disj_list (map see_disj ds))
+loose-one world [] v entries some is fails = absurd (some refl)
+loose-one world (d ∷ ds) v entries some is fails =
+    ap (λ (es : List Entry). reported_as (codes "default") v es ∷ []) fails
+    ∙ ap (λ (v : Verdict). reported_as (codes "default") v (if_fail v (loose_fails world (disj_list (map see_disj (d ∷ ds))))) ∷ []) is
 
 -- what trees over a store are over
 pub trees-world : (t : Trees) (s : Store) (f : RuleFile) (tree : Forest) (answers : Answers) → t.store ≡ s → s.doc.now ≡ tree → s.file.now ≡ f
@@ -78,24 +85,37 @@ pub trees-loose : (t : Trees) (s : Store) (f : RuleFile) → t.store ≡ s → s
 trees-loose t s f is e ds whole =
     ap (λ (g : sx.File). g.loose) (trees-file t s f is e) ∙ ap (λ (xs : List Disj). disj_list (map see_disj xs)) (sym whole)
 
--- the lines of the rules, and behind them that of the parts outside rules, are the lines of all that is reported
-pub lines-all : (t : Trees) (s : Store) (f : RuleFile) (tree : Forest) → t.store ≡ s → s.doc.now ≡ tree → s.file.now ≡ f
+-- and so lines over a store are lines over its template and its file
+lines-over : (t : Trees) (s : Store) (f : RuleFile) (tree : Forest) (source : Source) → t.store ≡ s → s.doc.now ≡ tree → s.file.now ≡ f
+    → lines_in (see_trees t).known source ≡ lines_as source.form (file_of f) tree source.rules.text.now source.template.text.now
+lines-over t s f tree source is d e =
+    ap (λ (s : Store). lines_as source.form (file_of s.file.now) s.doc.now source.rules.text.now source.template.text.now) is
+    ∙ (ap (λ (t : Forest). lines_as source.form (file_of s.file.now) t source.rules.text.now source.template.text.now) d
+    ∙ ap (λ (g : RuleFile). lines_as source.form (file_of g) tree source.rules.text.now source.template.text.now) e)
+
+-- the lines of the rules, and behind them those of the parts outside rules, are the lines of all that is reported
+pub lines-all : (t : Trees) (s : Store) (f : RuleFile) (tree : Forest) (source : Source) → t.store ≡ s → s.doc.now ≡ tree → s.file.now ≡ f
     → (after : State) → Grows (see_trees t) after → (ds : List Disj) → ds ≡ f.raw.loose.items → (lines all : Lines)
-    → Answering (see_trees t) (λ w. AreLinesOf lines (flat_map (of_rule w) w.file.rules))
-    → Answering after (λ w. (before : List Reported) → AreLinesOf lines before → AreLinesOf all (before ++ of_loose w (disj_list (map see_disj ds))))
-    → (answers : Answers) → IsAnswering (world_over (file_of f) tree answers) → AreLinesOf all (reported (world_over (file_of f) tree answers))
-lines-all t s f tree is d e after grows ds whole lines all of_rules of_others answers obey =
+    → Answering (see_trees t) (λ w. AreLinesOf (lines_in (see_trees t).known source) lines (flat_map (of_rule w) w.file.rules))
+    → Answering after (λ w. (before : List Reported) → AreLinesOf (lines_in after.known source) lines before
+    → AreLinesOf (lines_in after.known source) all (before ++ of_loose w (disj_list (map see_disj ds))))
+    → (answers : Answers) → IsAnswering (world_over (file_of f) tree answers)
+    → AreLinesOf (lines_as source.form (file_of f) tree source.rules.text.now source.template.text.now) all (reported (world_over (file_of f) tree answers))
+lines-all t s f tree source is d e after grows ds whole lines all of_rules of_others answers obey =
     let known : World = world_of (see_trees t).known answers in
     let same : known ≡ world_over (file_of f) tree answers = trees-world t s f tree answers is d e in
     let obeyed : IsAnswering known = subst IsAnswering (sym same) obey in
     let rules : List Reported = flat_map (of_rule known) known.file.rules in
-    let more : AreLinesOf all (rules ++ of_loose known (disj_list (map see_disj ds))) =
+    let written : Reported → List ℕ = lines_in after.known source in
+    let kept : written ≡ lines_in (see_trees t).known source = lines-kept (see_trees t) after grows source in
+    let more : AreLinesOf written all (rules ++ of_loose known (disj_list (map see_disj ds))) =
     answering-on (see_trees t) after grows
-    (λ w. (before : List Reported) → AreLinesOf lines before → AreLinesOf all (before ++ of_loose w (disj_list (map see_disj ds)))) of_others answers obeyed
-    rules (of_rules answers obeyed) in
-    let both : AreLinesOf all (reported known) =
-    subst (λ (loose : sx.Disjs). AreLinesOf all (rules ++ of_loose known loose)) (sym (trees-loose t s f is e ds whole)) more in
-    subst (λ (w : World). AreLinesOf all (reported w)) same both
+    (λ w. (before : List Reported) → AreLinesOf written lines before → AreLinesOf written all (before ++ of_loose w (disj_list (map see_disj ds)))) of_others answers obeyed
+    rules (subst (λ (ws : Reported → List ℕ). AreLinesOf ws lines rules) (sym kept) (of_rules answers obeyed)) in
+    let both : AreLinesOf written all (reported known) =
+    subst (λ (loose : sx.Disjs). AreLinesOf written all (rules ++ of_loose known loose)) (sym (trees-loose t s f is e ds whole)) more in
+    subst (λ (ws : Reported → List ℕ). AreLinesOf ws all (reported (world_over (file_of f) tree answers)))
+    (kept ∙ lines-over t s f tree source is d e) (subst (λ (w : World). AreLinesOf written all (reported w)) same both)
 
 -- what is reported of one rule more, in turn
 pub rule-more : (world : World) (rs : List Rule) (i : ℕ) (r : Rule) → i < length rs → r ≡ get_or rs i r
@@ -111,6 +131,12 @@ rule-more world rs i r within is =
     ∙ ap (λ (xs : List Reported). flat_map (of_rule world) before ++ xs) (append-nil (of_rule world (see_rule r)))))
     )
 
+-- what is not FAIL fails by nothing
+pub none-fail : (v : Verdict) (entries : List Entry) → (v ≡ verdict.Fail → ⊥) → if_fail v entries ≡ []
+none-fail verdict.Pass entries other = refl
+none-fail verdict.Fail entries other = absurd (other refl)
+none-fail verdict.Skip entries other = refl
+
 -- A rule with parameters is not reported.
 
 pub not-reported : (v : Reported) (ps : List Named) → (length ps ≡ 0 → ⊥) → if_plain v ps ≡ []
@@ -121,6 +147,15 @@ pub one-reported : (v : Reported) (ps : List Named) → length ps ≡ 0 → if_p
 one-reported v [] none = refl
 one-reported v (p ∷ ps) none = absurd (omega arith)
 
+-- the verdict of a rule without parameters, and what it fails by
+pub rule-one : (world : World) (r : sx.Rule) (v : Verdict) (entries : List Entry) → length r.params ≡ 0
+    → v ≡ rule_verdict world r → entries ≡ if_fail v (rule_fails world r)
+    → reported_as r.name.text v entries ∷ [] ≡ of_rule world r
+rule-one world r v entries none is fails =
+    ap (λ (es : List Entry). reported_as r.name.text v es ∷ []) fails
+    ∙ (ap (λ (v : Verdict). reported_as r.name.text v (if_fail v (rule_fails world r)) ∷ []) is
+    ∙ sym (one-reported (reported_as r.name.text (rule_verdict world r) (if_fail (rule_verdict world r) (rule_fails world r))) r.params none))
+
 few-reported : (v : Reported) (ps : List Named) → length (if_plain v ps) ≤ 1
 few-reported v [] = omega arith
 few-reported v (p ∷ ps) = omega arith
@@ -129,7 +164,7 @@ few-reported v (p ∷ ps) = omega arith
 pub reported-few : (world : World) (rs : List sx.Rule) → length (flat_map (of_rule world) rs) ≤ length rs
 reported-few world [] = omega arith
 reported-few world (r ∷ rs) =
-    let one = few-reported (record { name = r.name.text; verdict = rule_verdict world r }) r.params in
+    let one = few-reported (reported_as r.name.text (rule_verdict world r) (if_fail (rule_verdict world r) (rule_fails world r))) r.params in
     let more = reported-few world rs in
     let both = length-append (of_rule world r) (flat_map (of_rule world) rs) in
     omega arith

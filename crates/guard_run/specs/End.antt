@@ -3,17 +3,19 @@ use Rattle.std.specs.Prelude.{ℕ, ◌≡◌, ◌++◌, ◌⊎◌, List, [], Opt
 use Rattle.std.specs.List.{list_any}
 use Rattle.std.specs.Option.{ForSome}
 use Rattle.doc_values.specs.Tree.{Forest}
+use Rattle.guard_drill.specs.DrillTexts.{template_text}
 use Rattle.guard_io.specs.Outside.{IsPrefix, Rose}
 use Rattle.guard_syntax.specs.Syntax.{File}
 use Rattle.value_compare.specs.Books.{IsNext}
 use Rattle.value_compare.specs.Finds.{pattern_in}
 use Rattle.value_compare.specs.Patterns.{Written, patterns_of}
-use Rattle.guard_run.specs.Request.{Request, request, format_of}
+use Rattle.guard_run.specs.Request.{Request, Asks, AsksDrill, AsksNothing, format_of}
 use Rattle.guard_run.specs.Inputs.{IsRuleFile, RefusesRules, IsTemplate, RefusesTemplate}
 use Rattle.query_steps.specs.SpotFunctions.{IsAnswering}
 use Rattle.query_steps.specs.Spots.{Answers, World}
 use Rattle.query_steps.specs.Verdicts.{is_fail}
-use Rattle.guard_run.specs.Report.{report}
+use Rattle.guard_run.specs.Drill.{drill_report, drill_rules}
+use Rattle.guard_run.specs.Report.{Reporting, report}
 use Rattle.guard_run.specs.Reported.{world_over, verdicts_of}
 use Rattle.guard_run.specs.Lines.{usage_line, refusal_line, read_fault_line, pattern_line, write_fault_line, memory_line}
 use Rattle.guard_run.specs.declared.ends.End.{End}
@@ -24,6 +26,7 @@ use Rattle.guard_run.specs.declared.ends.RefusalKind.TheVariants.{Syntax, BadPat
 use Rattle.guard_run.specs.declared.ends.Which.{Which}
 use Rattle.guard_run.specs.declared.ends.Which.TheVariants as file
 use Rattle.guard_run.specs.declared.words.Format.{Format}
+use Rattle.guard_run.specs.declared.words.Format.TheVariants.{Json}
 
 -- the exit status of each end
 abbrev pub status_of : End → ℕ
@@ -48,17 +51,19 @@ pub record Ended : Type 0 where
 abbrev pub refused : List ℕ → Refusal → Ended
 refused bytes refusal = record { how = end_is.Refused refusal; out = []; err = refusal_line bytes refusal }
 
--- a template that was judged by a rule file: Failed if a reported verdict is FAIL, else Passed; out takes the report
-abbrev pub judged : World → Ended
-judged world = record {
+-- a template that was judged by a rule file, by the text of each: Failed if a reported verdict is FAIL, else Passed; out takes
+-- the report, as it is made
+abbrev pub judged : Reporting → World → (source template : List ℕ) → Ended
+judged made world source template = record {
   how = if list_any is_fail (verdicts_of world) then end_is.Failed else end_is.Passed;
-  out = report world;
+  out = made world source template;
   err = [];
 }
 
 -- and so it was by answers that functions give, which are what their table says
-abbrev pub IsJudged : File → Forest → Ended → Type 0
-IsJudged rules tree e = (answers : Answers) × IsAnswering (world_over rules tree answers) × (e ≡ judged (world_over rules tree answers))
+abbrev pub IsJudged : Reporting → (source : List ℕ) → File → (template : List ℕ) → Forest → Ended → Type 0
+IsJudged made source rules template tree e =
+    (answers : Answers) × IsAnswering (world_over rules tree answers) × (e ≡ judged made (world_over rules tree answers) source template)
 
 -- what is told of the files before the call: by the name of each its content, if that is told
 abbrev pub Contents : Type 0
@@ -68,37 +73,45 @@ Contents = List ℕ → Option (List ℕ)
 abbrev pub IsContent : Option (List ℕ) → List ℕ → Type 0
 IsContent told bytes = ForSome told (λ content. bytes ≡ content)
 
--- with the rules, their bytes and the template read: the first pattern that cannot be read is refused at its place, or each
--- is read and the template is judged
-abbrev pub EndOfPatterns : List ℕ → File → Forest → Ended → Type 0
-EndOfPatterns source rules tree e =
+-- with the rules and the template read, and the bytes of both: the first pattern that cannot be read is refused at its place,
+-- or each is read and the template is judged
+abbrev pub EndOfPatterns : Reporting → (source : List ℕ) → File → (template : List ℕ) → Forest → Ended → Type 0
+EndOfPatterns made source rules template tree e =
     ((text : List ℕ) × (at : ℕ) × IsNext rules text at × IsNone (pattern_in text) × (e ≡ refused source (At file.Rules BadPattern at None)))
-    ⊎ (All (λ (w : Written). IsSome (pattern_in w.text)) (patterns_of rules) × IsJudged rules tree e)
+    ⊎ (All (λ (w : Written). IsSome (pattern_in w.text)) (patterns_of rules) × IsJudged made source rules template tree e)
 
 -- with the rules read and the template's bytes: in its format they are refused, or they are a template and the patterns are read
-abbrev pub EndOfTemplate : Format → List ℕ → File → List ℕ → Ended → Type 0
-EndOfTemplate f source rules bytes e =
+abbrev pub EndOfTemplate : Reporting → Format → List ℕ → File → List ℕ → Ended → Type 0
+EndOfTemplate made f source rules bytes e =
     ((refusal : Refusal) × RefusesTemplate f bytes refusal × (e ≡ refused bytes refusal))
-    ⊎ ((tree : Forest) × IsTemplate f bytes tree × EndOfPatterns source rules tree e)
+    ⊎ ((tree : Forest) × IsTemplate f bytes tree × EndOfPatterns made source rules bytes tree e)
 
 -- with the rules read: the template is loaded
 abbrev pub EndOfLoad : Format → Option (List ℕ) → List ℕ → File → Ended → Type 0
-EndOfLoad f told source rules e = (bytes : List ℕ) × IsContent told bytes × EndOfTemplate f source rules bytes e
+EndOfLoad f told source rules e = (bytes : List ℕ) × IsContent told bytes × EndOfTemplate report f source rules bytes e
 
 -- with the bytes of the rules: they are refused, or they are a rule file and the work goes on
-abbrev pub EndOfRules : Request → Contents → List ℕ → Ended → Type 0
-EndOfRules q told bytes e =
+abbrev pub EndOfRules : List ℕ → (File → Ended → Type 0) → Ended → Type 0
+EndOfRules bytes GoesOn e =
     ((refusal : Refusal) × RefusesRules bytes refusal × (e ≡ refused bytes refusal))
-    ⊎ ((rules : File) × IsRuleFile bytes rules × EndOfLoad (format_of q.template) (told q.template) bytes rules e)
+    ⊎ ((rules : File) × IsRuleFile bytes rules × GoesOn rules e)
 
--- with what the words ask for
-abbrev pub EndOfRequest : Option Request → Contents → Ended → Type 0
-EndOfRequest None told e = e ≡ record { how = end_is.Usage; out = []; err = usage_line }
-EndOfRequest (Some q) told e = (bytes : List ℕ) × IsContent (told q.rules) bytes × EndOfRules q told bytes e
+-- with the files that the words ask for: the rules are loaded
+abbrev pub EndOfRequest : Request → Contents → Ended → Type 0
+EndOfRequest q told e =
+    (bytes : List ℕ) × IsContent (told q.rules) bytes × EndOfRules bytes (EndOfLoad (format_of q.template) (told q.template) bytes) e
 
--- a call with these words over these files can end so
+-- with the count of a drill: its rules are read, and its template is read as JSON; nothing is loaded
+abbrev pub EndOfDrill : ℕ → Ended → Type 0
+EndOfDrill count e = EndOfRules drill_rules (λ rules. EndOfTemplate (drill_report count) Json drill_rules rules (template_text count)) e
+
+-- a call with these words over these files can end so: by the files that they ask for, as the drill that they ask for, or,
+-- if they ask for neither, with Usage
 abbrev pub EndOf : List (List ℕ) → Contents → Ended → Type 0
-EndOf words told e = EndOfRequest (request words) told e
+EndOf words told e =
+    ((q : Request) × Asks words q × EndOfRequest q told e)
+    ⊎ ((count : ℕ) × AsksDrill words count × EndOfDrill count e)
+    ⊎ (AsksNothing words × (e ≡ record { how = end_is.Usage; out = []; err = usage_line }))
 
 -- Faults and want of memory, which may come in place of that end.
 
@@ -136,7 +149,7 @@ ComesTo file.Template q told = (bytes : List ℕ) × IsContent (told q.rules) by
 
 -- the words ask for a file whose load the order of work comes to
 abbrev pub Loads : Which → List (List ℕ) → Contents → Request → Type 0
-Loads which words told q = (request words ≡ Some q) × ComesTo which q told
+Loads which words told q = Asks words q × ComesTo which q told
 
 -- with the rules read, the order of work comes to a pattern: the template is read, and so is each pattern of the rules before this one
 abbrev pub ComesToPattern : Format → Option (List ℕ) → File → List ℕ → Type 0
@@ -145,7 +158,7 @@ ComesToPattern f told rules text = ((bytes : List ℕ) × IsContent told bytes �
 
 -- the words ask for rules with a pattern of this text, which the order of work comes to
 abbrev pub Makes : List (List ℕ) → Contents → List ℕ → Type 0
-Makes words told text = (q : Request) × (request words ≡ Some q) × ((bytes : List ℕ) × IsContent (told q.rules) bytes
+Makes words told text = (q : Request) × Asks words q × ((bytes : List ℕ) × IsContent (told q.rules) bytes
     × ((rules : File) × IsRuleFile bytes rules × ComesToPattern (format_of q.template) (told q.template) rules text))
 
 -- the counts of faults of what is read: of each file by its name, and of each pattern by its text

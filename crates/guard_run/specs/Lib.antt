@@ -1,3 +1,4 @@
+pub mod Drill
 pub mod End
 pub mod Inputs
 pub mod Lines

@@ -9,7 +9,7 @@ use Rattle.guard_run.specs.declared.ends.Which.{Which}
 use Rattle.guard_run.specs.declared.ends.Which.TheVariants as file
 
 abbrev pub usage_line : List ℕ
-usage_line = codes "usage: guard validate --rules FILE --data FILE\n"
+usage_line = codes "usage: guard validate --rules FILE --data FILE [--evidence] | check --rules FILE --data FILE --proof FILE | drill --count N\n"
 
 abbrev pub read_fault_line : Which → List ℕ
 read_fault_line file.Rules = codes "guard: cannot read rules\n"

@@ -85,7 +85,7 @@ IsRefusedAs _ _ _ = ⊥
 
 -- a rule file that was loaded and read, or is refused
 abbrev pub AreLoaded : Option (List ℕ) → LoadedRules → Type 0
-AreLoaded told (rules_load.Read rules) = IsContent told rules.bytes.items × IsRuleFile rules.bytes.items (file_of rules.file)
+AreLoaded told (rules_load.Read rules) = IsContent told (string_bytes rules.text) × IsRuleFile (string_bytes rules.text) (file_of rules.file)
 AreLoaded told (rules_load.Refused r) = (bytes : List ℕ) × IsContent told bytes × IsNotRead RefusesRules bytes (not_read.Refused r)
 AreLoaded told rules_load.Fault = Unit {0}
 AreLoaded told rules_load.Memory = Unit {0}
@@ -94,7 +94,7 @@ AreLoaded told rules_load.Memory = Unit {0}
 abbrev pub ended : Judgement → Ended
 ended judgement = record {
   how = if judgement.failed then end_is.Failed else end_is.Passed;
-  out = string_bytes judgement.report;
+  out = judgement.report.items;
   err = [];
 }
 

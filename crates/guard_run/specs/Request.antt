@@ -1,6 +1,7 @@
--- The words of a call, and the files that they ask for.
-use Rattle.std.specs.Prelude.{ℕ, List, [], ◌∷◌, Option, Some, None, Bool, true, false, ◌&&◌, codes, bytes_eq, nat_eq, if◌then◌else◌}
+-- The words of a call, and what they ask for.
+use Rattle.std.specs.Prelude.{ℕ, List, false, codes, nat_eq, if◌then◌else◌}
 use Rattle.std.specs.List.{ends_with}
+use Rattle.guard_words.specs.Request.{AsksFor, drill, validate}
 use Rattle.guard_run.specs.declared.words.Format.{Format}
 use Rattle.guard_run.specs.declared.words.Format.TheVariants.{Json, Yaml}
 
@@ -9,18 +10,17 @@ pub record Request : Type 0 where
   pub rules : List ℕ
   pub template : List ℕ
 
--- whether a file can have this name: any text but the empty one
-abbrev pub is_name : List ℕ → Bool
-is_name [] = false
-is_name (byte ∷ bytes) = true
+-- the words ask for `validate` of these files, without evidence
+abbrev pub Asks : List (List ℕ) → Request → Type 0
+Asks words q = AsksFor words (validate q.rules q.template false)
 
--- the words ask for files exactly where they are `validate --rules R --data D`, in this order, with two names
-abbrev pub request : List (List ℕ) → Option Request
-request (command ∷ first ∷ rules ∷ second ∷ template ∷ []) =
-    if bytes_eq command (codes "validate") && bytes_eq first (codes "--rules") && is_name rules
-    && bytes_eq second (codes "--data") && is_name template
-    then Some (record { rules = rules; template = template }) else None
-request _ = None
+-- the words ask for a drill of so many resources
+abbrev pub AsksDrill : List (List ℕ) → ℕ → Type 0
+AsksDrill words count = AsksFor words (drill count)
+
+-- the words ask for neither; what else they may ask for is not done yet
+abbrev pub AsksNothing : List (List ℕ) → Type 0
+AsksNothing words = ((q : Request) → ¬ Asks words q) × ((count : ℕ) → ¬ AsksDrill words count)
 
 -- the format in which a template is read, by its name: JSON where that ends in `.json`, YAML where it ends otherwise
 abbrev pub format_of : List ℕ → Format

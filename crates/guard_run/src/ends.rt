@@ -100,7 +100,7 @@ pub enum End {
     Passed,
     /// A rule is FAIL.
     Failed,
-    /// The words ask for nothing.
+    /// The words ask for nothing, or for what is not done yet.
     Usage,
     Refused(Refusal),
     /// A file could not be read.

@@ -1,10 +1,11 @@
-ghost use Rattle.std.specs.Prelude.{◌≡◌, ◌≤◌, ◌<◌, ◌+◌, ◌^◌, ℕ, List, length};
+ghost use Rattle.std.specs.Prelude.{◌≡◌, ◌≢◌, ◌≤◌, ◌<◌, ◌+◌, ◌^◌, ℕ, List, Option, length};
 ghost use Rattle.guard_io.specs.Outside.{Rose};
+ghost use Rattle.guard_run.specs.End.{IsContent};
 ghost use Rattle.guard_run.specs.Outcome.{IsLoaded, AreLoaded};
 
 use crate::ends::Which;
 use crate::read::{NotRead, rules_of};
-use crate::refused::{Refused, too_long};
+use crate::refused::{Refused, not_text, too_long};
 use guard_io::{Files, LoadFault};
 use name_table::RuleFile;
 use std::alloc::Global;
@@ -43,10 +44,10 @@ pub(crate) fn load_within<F: Files>(alloc: Global, name: &str, limit: u64, files
     Loaded::Whole(bytes)
 }
 
-/// A rule file that was read, with its bytes, from which the line of a pattern that is refused is made.
+/// A rule file that was read, with its text, by which the report and the line of a pattern that is refused tell places.
 #[derive(Drop)]
 pub(crate) struct Rules {
-    pub bytes: Vec<u8>,
+    pub text: String,
     pub file: RuleFile,
 }
 
@@ -68,13 +69,25 @@ pub(crate) fn load_rules<F: Files>(alloc: Global, name: &str, files: &mut F) -> 
     ensures kept { (other : List ℕ) → F.faults files.old other ≤ F.faults files.new other }
 {
     match load_within(alloc, name, RULES_LIMIT, files) {
-        Loaded::Whole(bytes) => match rules_of(alloc, &bytes) {
-            Ok(file) => LoadedRules::Read(Rules { bytes, file }),
-            Err(NotRead::Refused(refused)) => LoadedRules::Refused(refused),
-            Err(NotRead::Memory) => LoadedRules::Memory,
-        },
+        Loaded::Whole(bytes) => read_rules(alloc, bytes),
         Loaded::TooLong => LoadedRules::Refused(too_long(Which::Rules)),
         Loaded::Fault => LoadedRules::Fault,
         Loaded::Memory => LoadedRules::Memory,
+    }
+}
+
+/// Reads the bytes of a rule file, which are no more than rules may be.
+fn read_rules(alloc: Global, bytes: Vec<u8>) -> LoadedRules
+    requires { length bytes.items ≤ 1048576 }
+    ensures loaded { (told : Option (List ℕ)) → IsContent told bytes.items → AreLoaded told result }
+    ensures no_fault { result ≢ LoadedRules.Fault }
+{
+    match String::from_utf8(bytes) {
+        Ok(text) => match rules_of(alloc, &text) {
+            Ok(file) => LoadedRules::Read(Rules { text, file }),
+            Err(NotRead::Refused(refused)) => LoadedRules::Refused(refused),
+            Err(NotRead::Memory) => LoadedRules::Memory,
+        },
+        Err(_) => LoadedRules::Refused(not_text(Which::Rules)),
     }
 }

@@ -1,4 +1,4 @@
-//! The bytes of files, read as rules and as a template.
+//! The texts of files, read as rules and as a template.
 ghost use Rattle.std.specs.Prelude.{◌≤◌, length, MatchResult};
 ghost use Rattle.guard_lexer.specs.Lexes as lex;
 ghost use Rattle.guard_syntax.specs.Seen.{see_file};
@@ -8,7 +8,7 @@ ghost use Rattle.guard_run.specs.Outcome.{IsNotRead, IsPlaced};
 
 use crate::ends::{RefusalKind, Which};
 use crate::refused::{
-    Refused, json_kind, lex_kind, not_text, parse_kind, refused_at, refused_name, yaml_refused,
+    Refused, json_kind, lex_kind, parse_kind, refused_at, refused_name, yaml_refused,
 };
 use crate::words::Format;
 use doc_values::Doc;
@@ -18,10 +18,9 @@ use guard_syntax::RawFile;
 use json_reader::read_json;
 use name_table::{NameRefusal, RuleFile, resolve};
 use std::alloc::Global;
-use std::str;
 use yaml_blocks::read_yaml;
 
-/// Why bytes are not read.
+/// Why a file is not read.
 #[derive(Drop)]
 pub(crate) enum NotRead {
     Refused(Refused),
@@ -39,19 +38,8 @@ fn unread_at(which: Which, placed: Option<(RefusalKind, u32)>, text: &str) -> No
     }
 }
 
-/// The rules of bytes, which are no more than rules may be.
-pub(crate) fn rules_of(alloc: Global, bytes: &[u8]) -> Result<RuleFile, NotRead>
-    requires { length bytes.now ≤ 1048576 }
-    ensures { MatchResult result (λ rules. IsRuleFile bytes.now (file_of rules)) (IsNotRead RefusesRules bytes.now) }
-{
-    match str::from_utf8(bytes) {
-        Ok(text) => rules_of_text(alloc, text),
-        Err(_) => Err(NotRead::Refused(not_text(Which::Rules))),
-    }
-}
-
-/// The rules of a text.
-fn rules_of_text(alloc: Global, text: &str) -> Result<RuleFile, NotRead>
+/// The rules of a text, which is no longer than rules may be.
+pub(crate) fn rules_of(alloc: Global, text: &str) -> Result<RuleFile, NotRead>
     requires { length text.now ≤ 1048576 }
     ensures { MatchResult result (λ rules. IsRuleFile text.now (file_of rules)) (IsNotRead RefusesRules text.now) }
 {
@@ -92,18 +80,15 @@ fn rules_of_syntax(alloc: Global, text: &str, raw: RawFile) -> Result<RuleFile, 
     }
 }
 
-/// The tree of bytes in a format, which are no more than a template may be.
-pub(crate) fn tree_of(alloc: Global, format: Format, bytes: &[u8]) -> Result<Doc<'_>, NotRead>
-    requires { length bytes.now ≤ 8388608 }
-    ensures { MatchResult result (λ tree. IsTemplate format bytes.entry.now tree)
-        (IsNotRead (RefusesTemplate format) bytes.entry.now) }
+/// The tree of a text in a format, which is no longer than a template may be.
+pub(crate) fn tree_of(alloc: Global, format: Format, text: &str) -> Result<Doc<'_>, NotRead>
+    requires { length text.now ≤ 8388608 }
+    ensures { MatchResult result (λ tree. IsTemplate format text.entry.now tree)
+        (IsNotRead (RefusesTemplate format) text.entry.now) }
 {
-    match str::from_utf8(bytes) {
-        Ok(text) => match format {
-            Format::Json => tree_of_json(alloc, text),
-            Format::Yaml => tree_of_yaml(alloc, text),
-        },
-        Err(_) => Err(NotRead::Refused(not_text(Which::Template))),
+    match format {
+        Format::Json => tree_of_json(alloc, text),
+        Format::Yaml => tree_of_yaml(alloc, text),
     }
 }
 

@@ -14,7 +14,8 @@ const RULES: &[u8] = b"rule r { Resources.B.Properties.BucketName exists }";
 pub(crate) const NAMED: &[u8] =
     br#"{"Resources":{"B":{"Type":"AWS::S3::Bucket","Properties":{"BucketName":"x"}}}}"#;
 
-const UNNAMED: &[u8] = br#"{"Resources":{"B":{"Type":"AWS::S3::Bucket","Properties":{}}}}"#;
+pub(crate) const UNNAMED: &[u8] =
+    br#"{"Resources":{"B":{"Type":"AWS::S3::Bucket","Properties":{}}}}"#;
 
 const PASSED: &str = "rule r PASS\ntotal 1 PASS 0 FAIL 0 SKIP\n";
 
@@ -39,6 +40,8 @@ pub(crate) struct Given<'a> {
 pub(crate) struct Ran {
     pub end: End,
     pub out: Vec<u8>,
+    /// What out took, without the lines of entries.
+    pub verdicts: Vec<u8>,
     pub err: Vec<u8>,
     pub calls: u64,
     pub made: u64,
@@ -62,12 +65,27 @@ fn sink(alloc: Global, room: u64) -> MemSink {
     }
 }
 
-/// The name of the template that words ask for; of words that ask for none, one that is not loaded.
+/// The name of the template: the last of five words, else `d.json`.
 fn template_name<'a>(words: &[&'a str]) -> &'a str {
     match words {
         [_, _, _, _, name] => name,
         _ => "d.json",
     }
+}
+
+/// The lines of a report that do not begin with two spaces, as those of entries do.
+fn verdict_lines(alloc: Global, report: &[u8]) -> Result<Vec<u8>, AllocError> {
+    let mut lines = Vec::new(alloc);
+    let mut hidden = false;
+    for (at, byte) in report.iter().enumerate() {
+        if at == 0 || report[at - 1] == b'\n' {
+            hidden = report[at..].starts_with(b"  ");
+        }
+        if !hidden {
+            lines.push(*byte)?;
+        }
+    }
+    Ok(lines)
 }
 
 pub(crate) fn call(alloc: Global, given: &Given) -> Result<Ran, AllocError> {
@@ -100,6 +118,7 @@ pub(crate) fn call(alloc: Global, given: &Given) -> Result<Ran, AllocError> {
     let end = guard(alloc, &words, &mut files, &mut maker, &mut out, &mut err);
     Ok(Ran {
         end,
+        verdicts: verdict_lines(alloc, &out.bytes)?,
         out: out.bytes,
         err: err.bytes,
         calls: files.calls,
@@ -123,7 +142,7 @@ fn word(end: &End) -> &'static str {
     }
 }
 
-/// The end by its word, its status, and what out and err are to take.
+/// The end by its word, its status, and what out, without the lines of entries, and err are to take.
 pub(crate) type Wanted = (&'static str, u8, &'static str, &'static str);
 
 pub(crate) const JUDGED_PASS: Wanted = ("passed", 0, PASSED, "");
@@ -138,7 +157,7 @@ pub(crate) const fn refused(line: &'static str) -> Wanted {
 pub(crate) fn expect(rt: &impl Abort, ran: &Ran, (end, status, out, err): Wanted) {
     assert_eq!(rt; word(&ran.end), end);
     assert_eq!(rt; ran.end.status(), status);
-    assert_eq!(rt; ran.out.as_slice(), out.as_bytes());
+    assert_eq!(rt; ran.verdicts.as_slice(), out.as_bytes());
     assert_eq!(rt; ran.err.as_slice(), err.as_bytes());
 }
 
@@ -439,29 +458,46 @@ fn reads_words(rt: HostRuntime) -> Result<(), Fail> {
         "usage",
         2,
         "",
-        "usage: guard validate --rules FILE --data FILE\n",
+        "usage: guard validate --rules FILE --data FILE [--evidence] | check --rules FILE --data FILE --proof FILE | drill --count N\n",
     );
-    let rows: [(&[&str], Wanted, u64); 8] = [
+    // The words, what comes of them, and how many files are loaded.
+    let rows: [(&[&str], Wanted, u64); 9] = [
         (FIRST.words, JUDGED_PASS, 2),
-        (&[], usage, 0),
+        (
+            &["validate", "--data", "d.json", "--rules=r.guard"],
+            JUDGED_PASS,
+            2,
+        ),
+        (
+            &["validate", "--rules=r.guard", "--data=d.json"],
+            JUDGED_PASS,
+            2,
+        ),
+        (
+            &["validate", "--rules=r.guard", "--data=d.json", "--evidence"],
+            usage,
+            0,
+        ),
+        (
+            &[
+                "check", "--rules", "r.guard", "--data", "d.json", "--proof", "e",
+            ],
+            usage,
+            0,
+        ),
+        (&["drill", "--count", "07"], usage, 0),
+        (
+            &[
+                "validate",
+                "--rules=r.guard",
+                "--data=d.json",
+                "--rules=r.guard",
+            ],
+            usage,
+            0,
+        ),
         (&["validate", "--rules", "a"], usage, 0),
-        (
-            &["validate", "--data", "d.json", "--rules", "r.guard"],
-            usage,
-            0,
-        ),
-        (&["validate", "--rules", "", "--data", "d.json"], usage, 0),
-        (&["validate", "--rules", "r.guard", "--data", ""], usage, 0),
-        (
-            &["validate", "--rules", "r.guard", "--data", "d.json", "x"],
-            usage,
-            0,
-        ),
-        (
-            &["Validate", "--rules", "r.guard", "--data", "d.json"],
-            usage,
-            0,
-        ),
+        (&[], usage, 0),
     ];
     for (words, wanted, calls) in rows {
         let ran = call(rt.alloc(), &Given { words, ..FIRST })?;

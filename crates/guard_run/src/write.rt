@@ -29,7 +29,7 @@ pub(crate) fn write_outcome<O: Sink, E: Sink>(outcome: Outcome, out: &mut O, err
             say(line.as_str(), End::Refused(refusal), err)
         }
         Outcome::Usage => say(
-            "usage: guard validate --rules FILE --data FILE\n",
+            "usage: guard validate --rules FILE --data FILE [--evidence] | check --rules FILE --data FILE --proof FILE | drill --count N\n",
             End::Usage,
             err,
         ),
@@ -51,7 +51,7 @@ fn write_report<O: Sink, E: Sink>(judgement: &Judgement, out: &mut O, err: &mut 
     ensures out_count { O.faults out.old ≤ O.faults out.new }
     ensures err_count { E.faults err.old ≤ E.faults err.new }
 {
-    match out.put(judgement.report.as_bytes()) {
+    match out.put(&judgement.report) {
         Ok(()) => end_of(judgement),
         Err(SinkFault::Failed) => say("guard: cannot write out\n", End::WriteFault(Pipe::Out), err),
         Err(SinkFault::Memory) => say_memory(err),

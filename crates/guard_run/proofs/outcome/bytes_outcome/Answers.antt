@@ -1,19 +1,17 @@
-use Rattle.std.proofs.Common.{inr}
+use Rattle.std.proofs.Common.{ℕ, List, inl, inr, refl, string_bytes, subst}
 use Rattle.name_table.specs.Files.{file_of}
-use Rattle.guard_run.specs.Inputs.{IsTemplate}
-use Rattle.guard_run.specs.End.{EndOfPatterns, EndOfTemplate}
-use Rattle.guard_run.proofs.Outcomes.{IsOutcomeAs-more}
-use Rattle.guard_run.proofs.Plainness.{template-plain}
+use Rattle.guard_run.specs.End.{EndOfTemplate}
+use Rattle.guard_run.specs.Outcome.{IsOutcomeAs}
+use Rattle.guard_run.specs.Report.{report}
+use Rattle.guard_run.specs.declared.ends.Refusal.TheVariants.{NotText}
+use Rattle.guard_run.specs.declared.ends.Which.TheVariants as file
 use Rattle.guard_run.proofs.outcome.bytes_outcome.Goals as goal
-
-pub tree_outcome-requires-clause-plain : goal.tree_outcome-requires-clause-plain
-tree_outcome-requires-clause-plain g c = template-plain c.args.format c.args.bytes.now c.in-Ok.tree c.in-Ok.ensures
 
 pub returns-in-Ok-clause-outcome : goal.returns-in-Ok-clause-outcome
 returns-in-Ok-clause-outcome g c =
-    let source = c.args.rules.now.bytes.items in
-    let rules = file_of c.args.rules.now.file in
-    let f = c.args.format in
-    let read : IsTemplate f c.args.bytes.now c.in-Ok.tree = c.in-Ok.ensures in
-    IsOutcomeAs-more (EndOfPatterns source rules c.in-Ok.tree) (EndOfTemplate f source rules c.args.bytes.now)
-    (λ e end. inr (c.in-Ok.tree, read, end)) c.tree_outcome.result c.tree_outcome.ensures.outcome
+    subst (λ (b : List ℕ). IsOutcomeAs (EndOfTemplate report c.args.format (string_bytes c.args.rules.now.text) (file_of c.args.rules.now.file) b) c.text_outcome.result)
+    c.in-Ok.ensures.cases.0 c.text_outcome.ensures.outcome
+
+pub returns-in-Err-clause-outcome : goal.returns-in-Err-clause-outcome
+returns-in-Err-clause-outcome g c =
+    inl (NotText file.Template, inr (inl (refl, (c.requires.template, c.in-Err.ensures.cases.0))), c.not_text.ensures c.args.bytes.now)

@@ -1,6 +1,12 @@
-use Rattle.guard_run.specs.declared.ends.Refusal.TheVariants.{NotText}
+use Rattle.std.proofs.Common.{inl, refl, sym, ◌∙◌}
+use Rattle.guard_run.specs.Inputs.{IsText, RefusesRules, rules_limit}
 use Rattle.guard_run.specs.declared.ends.Which.TheVariants as file
+use Rattle.guard_run.proofs.Refusing.{lex-why, placed-not_read}
 use Rattle.guard_run.proofs.read.rules_of.Goals as goal
 
 pub returns-in-Err : goal.returns-in-Err
-returns-in-Err c = (NotText file.Rules, (c.requires, c.in-Err.ensures.cases.0), c.not_text.ensures c.args.bytes.now)
+returns-in-Err c =
+    let text : IsText rules_limit c.args.text.now = record { within = c.requires; utf8 = c.utf8.text } in
+    placed-not_read RefusesRules file.Rules c.args.text.now c.lex_kind.result c.unread_at.result
+    (λ kind at named. (text, inl (refl, inl (lex-why c.args.text.now c.in-Err.refusal kind at (sym c.lex_kind.ensures ∙ named) c.in-Err.ensures.refusal))))
+    c.unread_at.ensures

@@ -1,15 +1,37 @@
-use Rattle.std.proofs.Common.{◌++◌, OnOk, subst, arith, List}
+use Rattle.std.proofs.Common.{◌≡◌, ◌++◌, ℕ, List, OnOk, map, arith, subst, sym, ap, ◌∙◌}
 use Rattle.std.proofs.lemmas.Grind.{common_steps}
+use Rattle.guard_syntax.specs.Seen.{disj_list, see_disj}
+use Rattle.query_steps.specs.Fails.{loose_fails}
 use Rattle.query_steps.specs.Seeing.{world_of}
-use Rattle.plain_evaluator.specs.States.{see_trees}
-use Rattle.guard_run.specs.Listed.{AreLinesOf}
-use Rattle.guard_run.specs.Reported.{Reported}
+use Rattle.query_steps.specs.Spots.{World}
+use Rattle.report_text.specs.SeenEntries.{see_entry}
+use Rattle.report_text.specs.declared.entry.Entry as code
+use Rattle.plain_evaluator.specs.States.{Grows, State, see_trees}
+use Rattle.plain_evaluator.proofs.Growing.{Grows-trans, answering-on}
+use Rattle.guard_run.specs.Listed.{AreLinesOf, lines_in}
+use Rattle.guard_run.specs.Reported.{Reported, if_fail, of_loose}
+use Rattle.guard_run.proofs.LineLists.{lines-kept}
 use Rattle.guard_run.proofs.Walks.{loose-one}
 use Rattle.guard_run.proofs.report.add_loose.Goals as goal
 
 pub returns : goal.returns
 returns c answers obey before were =
-    subst (λ (more : List Reported). OnOk c.add.result (AreLinesOf c.add.new.self (before ++ more)))
-    (loose-one (world_of (see_trees c.args.trees.now).known answers) c.args.parts.now c.in_ok-verdict.verdict (λ none. grind (arith, common_steps))
-    (c.in_ok-verdict.ensures.verdict answers obey))
-    (c.add.ensures.lines before were)
+    let first : State = see_trees c.args.trees.now in
+    let second : State = see_trees c.verdict_of_loose.new.trees in
+    let third : State = see_trees c.entries_of_loose.new.trees in
+    let source = c.args.source.now in
+    let parts = disj_list (map see_disj c.args.parts.now) in
+    let w : World = world_of first.known answers in
+    let v = c.in_ok-verdict.verdict in
+    let es : List code.Entry = c.in_ok-entries.entries.items in
+    let grows : Grows first third = Grows-trans first second third c.in_ok-verdict.ensures.grows c.in_ok-entries.ensures.grows in
+    let kept : lines_in third.known source ≡ lines_in first.known source = lines-kept first third grows source in
+    let fails : map (see_entry third.known) es ≡ if_fail v (loose_fails w parts) =
+    answering-on first second c.in_ok-verdict.ensures.grows (λ (w : World). map (see_entry third.known) es ≡ if_fail v (loose_fails w parts))
+    c.in_ok-entries.ensures.entries answers obey in
+    let walked : map (see_entry third.known) c.deref.result.now ≡ map (see_entry third.known) es = ap (map (see_entry third.known)) c.deref.ensures.value in
+    subst (λ (ws : Reported → List ℕ). OnOk c.add.result (AreLinesOf ws c.add.new.self (before ++ of_loose w parts))) kept
+    (subst (λ (more : List Reported). OnOk c.add.result (AreLinesOf (lines_in third.known source) c.add.new.self (before ++ more)))
+    (loose-one w c.args.parts.now v (map (see_entry third.known) c.deref.result.now) (λ none. grind (arith, common_steps))
+    (c.in_ok-verdict.ensures.verdict answers obey) (walked ∙ fails))
+    (c.add.ensures.lines before (subst (λ (ws : Reported → List ℕ). AreLinesOf ws c.args.lines.now before) (sym kept) were)))

@@ -1,4 +1,4 @@
-use Rattle.std.proofs.Common.{◌≡◌, ◌++◌, List, map, take, arith, sym, ap, ◌∙◌, subst, refl}
+use Rattle.std.proofs.Common.{◌≡◌, ◌++◌, ℕ, List, map, take, arith, sym, ap, ◌∙◌, subst, refl}
 use Rattle.std.proofs.lemmas.List.{take_all}
 use Rattle.std.specs.List.{flat_map}
 use Rattle.guard_syntax.specs.Seen.{see_rule}
@@ -7,9 +7,10 @@ use Rattle.name_table.specs.Pieces.{pieces_rule}
 use Rattle.query_steps.specs.Seeing.{world_of}
 use Rattle.query_steps.specs.Spots.{World}
 use Rattle.plain_evaluator.specs.States.{see_trees}
-use Rattle.plain_evaluator.proofs.Growing.{Grows-refl, Grows-trans, answering-on, book-on, stands-on}
-use Rattle.guard_run.specs.Listed.{AreLinesOf}
+use Rattle.plain_evaluator.proofs.Growing.{Grows-refl, Grows-trans, answering-on, book-on, same-file, stands-on}
+use Rattle.guard_run.specs.Listed.{AreLinesOf, lines_in}
 use Rattle.guard_run.specs.Reported.{Reported, of_rule}
+use Rattle.guard_run.proofs.LineLists.{lines-kept}
 use Rattle.guard_run.proofs.Walks.{rule-more, rule-stands}
 use Rattle.guard_run.proofs.report.rule_lines.Goals as goal
 
@@ -23,11 +24,15 @@ pub add_rule-requires-clause-book : goal.add_rule-requires-clause-book
 add_rule-requires-clause-book c =
     book-on (see_trees c.args.trees.now) (see_trees c.loop-rule.trees) c.loop-rule.invariant.0 c.args.book.now c.requires.book
 
+pub add_rule-requires-clause-file : goal.add_rule-requires-clause-file
+add_rule-requires-clause-file c =
+    same-file (see_trees c.args.trees.now) (see_trees c.loop-rule.trees) c.loop-rule.invariant.0 ∙ c.requires.file
+
 pub loop-rule-init : goal.loop-rule-init
 loop-rule-init c = (
   Grows-refl (see_trees c.args.trees.now),
   omega arith,
-  λ answers obey. record { text = c.new.ensures.bytes; all = refl; pass = refl; fail = refl; skip = refl },
+  λ answers obey. record { text = c.new.ensures.items; all = refl; pass = refl; fail = refl; entries = refl; skip = refl },
 )
 
 pub loop-rule-preserved : goal.loop-rule-preserved
@@ -40,10 +45,17 @@ loop-rule-preserved c =
       λ answers obey.
           let w : World = world_of first.known answers in
           let before : List Reported = flat_map (of_rule w) (map see_rule (take c.loop-rule.rule-index c.args.rules.now)) in
-          subst (AreLinesOf c.add_rule.new.lines) (rule-more w c.args.rules.now c.loop-rule.rule-index c.rule-item.result c.loop-rule-test.true c.rule-item.is)
+          let written : Reported → List ℕ = lines_in first.known c.args.source.now in
+          let written_now : Reported → List ℕ = lines_in now.known c.args.source.now in
+          let kept : written_now ≡ written = lines-kept first now c.loop-rule.invariant.0 c.args.source.now in
+          subst (AreLinesOf written c.add_rule.new.lines)
+          (rule-more w c.args.rules.now c.loop-rule.rule-index c.rule-item.result c.loop-rule-test.true c.rule-item.is)
+          (subst (λ (ws : Reported → List ℕ). AreLinesOf ws c.add_rule.new.lines (before ++ of_rule w rule)) kept
           (answering-on first now c.loop-rule.invariant.0
-          (λ (w : World). (before : List Reported) → AreLinesOf c.loop-rule.lines before → AreLinesOf c.add_rule.new.lines (before ++ of_rule w rule))
-          c.in_ok-add_rule.ensures.lines answers obey before (c.loop-rule.invariant.2 answers obey)),
+          (λ (w : World). (before : List Reported) → AreLinesOf written_now c.loop-rule.lines before
+          → AreLinesOf written_now c.add_rule.new.lines (before ++ of_rule w rule))
+          c.in_ok-add_rule.ensures.lines answers obey before
+          (subst (λ (ws : Reported → List ℕ). AreLinesOf ws c.loop-rule.lines before) (sym kept) (c.loop-rule.invariant.2 answers obey)))),
     )
 
 pub returns-clause-lines : goal.returns-clause-lines
@@ -51,4 +63,4 @@ returns-clause-lines c answers obey =
     let known = (see_trees c.args.trees.now).known in
     let all : map see_rule (take c.loop-rule.rule-index c.args.rules.now) ≡ known.file.rules =
     ap (map see_rule) (take_all c.loop-rule.rule-index c.args.rules.now (omega (arith, c.loop-rule-test.false))) ∙ sym c.requires.rules in
-    subst (λ (rs : List sx.Rule). AreLinesOf c.loop-rule.lines (flat_map (of_rule (world_of known answers)) rs)) all (c.loop-rule.invariant.2 answers obey)
+    subst (λ (rs : List sx.Rule). AreLinesOf (lines_in known c.args.source.now) c.loop-rule.lines (flat_map (of_rule (world_of known answers)) rs)) all (c.loop-rule.invariant.2 answers obey)

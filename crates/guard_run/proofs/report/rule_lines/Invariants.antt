@@ -2,7 +2,7 @@ use Rattle.std.proofs.Common.{◌≤◌, map, take}
 use Rattle.std.specs.List.{flat_map}
 use Rattle.guard_syntax.specs.Seen.{see_rule}
 use Rattle.plain_evaluator.specs.States.{Answering, Grows, see_trees}
-use Rattle.guard_run.specs.Listed.{AreLinesOf, count_of}
+use Rattle.guard_run.specs.Listed.{AreLinesOf, count_of, lines_in}
 use Rattle.guard_run.specs.Reported.{of_rule}
 use Rattle.guard_run.proofs.report.rule_lines.Given as goal
 
@@ -10,4 +10,4 @@ abbrev pub invariant-loop-rule : goal.invariant-loop-rule
 invariant-loop-rule l =
     Grows (see_trees l.initial.trees) (see_trees l.trees)
     × (count_of l.lines ≤ l.rule-index)
-    × Answering (see_trees l.initial.trees) (λ w. AreLinesOf l.lines (flat_map (of_rule w) (map see_rule (take l.rule-index l.rules))))
+    × Answering (see_trees l.initial.trees) (λ w. AreLinesOf (lines_in (see_trees l.initial.trees).known l.source) l.lines (flat_map (of_rule w) (map see_rule (take l.rule-index l.rules))))

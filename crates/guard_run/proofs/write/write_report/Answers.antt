@@ -1,4 +1,4 @@
-use Rattle.std.proofs.Common.{ℕ, List, Err, ap, inl, inr, refl, sym, subst, string_bytes}
+use Rattle.std.proofs.Common.{ℕ, List, Err, ap, inl, inr, refl, sym, subst}
 use Rattle.guard_io.specs.Outside.{IsPrefix}
 use Rattle.guard_run.specs.End.{Faults, Took}
 use Rattle.guard_run.specs.Lines.{write_fault_line}
@@ -13,8 +13,8 @@ pub returns-in-Ok-clause-closed : goal.returns-in-Ok-clause-closed
 returns-in-Ok-clause-closed g c = λ words told old new end.
     let before : Faults = record { read = old; out = g.O.Sink.faults c.args.out.now } in
     let after : Faults = record { read = new; out = g.O.Sink.faults c.put.new.self } in
-    let taken : Took (g.O.Sink.told c.args.out.now) (g.O.Sink.told c.put.new.self) (string_bytes c.args.judgement.now.report) =
-    rw c.as_bytes.ensures.value at c.in-Ok.ensures.ok in
+    let taken : Took (g.O.Sink.told c.args.out.now) (g.O.Sink.told c.put.new.self) c.args.judgement.now.report.items =
+    rw c.deref.ensures.value at c.in-Ok.ensures.ok in
     subst (λ how. Closed words told before after how (g.O.Sink.told c.args.out.now) (g.O.Sink.told c.put.new.self)
     (g.E.Sink.told c.args.err.now) (g.E.Sink.told c.args.err.now)) (sym c.end_of.ensures)
     (Closed-defined words told before after (ended c.args.judgement.now).how (g.O.Sink.told c.args.out.now) (g.O.Sink.told c.put.new.self)
@@ -25,9 +25,9 @@ pub returns-in-Err-Failed-clause-closed : goal.returns-in-Err-Failed-clause-clos
 returns-in-Err-Failed-clause-closed g c = λ words told old new end.
     let before : Faults = record { read = old; out = g.O.Sink.faults c.args.out.now } in
     let after : Faults = record { read = new; out = g.O.Sink.faults c.put.new.self } in
-    let report = string_bytes c.args.judgement.now.report in
+    let report = c.args.judgement.now.report.items in
     let cut : (front : List ℕ) × IsPrefix front report × Took (g.O.Sink.told c.args.out.now) (g.O.Sink.told c.put.new.self) front =
-    Took-front (g.O.Sink.told c.args.out.now) (g.O.Sink.told c.put.new.self) report (rw c.as_bytes.ensures.value at c.in-Err-Failed.ensures.err) in
+    Took-front (g.O.Sink.told c.args.out.now) (g.O.Sink.told c.put.new.self) report (rw c.deref.ensures.value at c.in-Err-Failed.ensures.err) in
     let whole = IsReport-ended words told c.args.judgement.now end in
     Closed-said words told before after write_fault_line (WriteFault Out) c.say.result (g.O.Sink.told c.args.out.now) (g.O.Sink.told c.put.new.self)
     (g.E.Sink.told c.args.err.now) (g.E.Sink.told c.say.new.err) cut.0
@@ -38,9 +38,9 @@ pub returns-in-Err-Memory-clause-closed : goal.returns-in-Err-Memory-clause-clos
 returns-in-Err-Memory-clause-closed g c = λ words told old new end.
     let before : Faults = record { read = old; out = g.O.Sink.faults c.args.out.now } in
     let after : Faults = record { read = new; out = g.O.Sink.faults c.put.new.self } in
-    let report = string_bytes c.args.judgement.now.report in
+    let report = c.args.judgement.now.report.items in
     let cut : (front : List ℕ) × IsPrefix front report × Took (g.O.Sink.told c.args.out.now) (g.O.Sink.told c.put.new.self) front =
-    Took-front (g.O.Sink.told c.args.out.now) (g.O.Sink.told c.put.new.self) report (rw c.as_bytes.ensures.value at c.in-Err-Memory.ensures.err) in
+    Took-front (g.O.Sink.told c.args.out.now) (g.O.Sink.told c.put.new.self) report (rw c.deref.ensures.value at c.in-Err-Memory.ensures.err) in
     Closed-memory words told before after c.say_memory.result (g.O.Sink.told c.args.out.now) (g.O.Sink.told c.put.new.self)
     (g.E.Sink.told c.args.err.now) (g.E.Sink.told c.say_memory.new.err) cut.0
     (inr (inl (report, IsReport-ended words told c.args.judgement.now end, cut.1, refl))) cut.2 c.say_memory.ensures.said

@@ -1,0 +1,83 @@
+//! A drill: a template that is made is judged by rules that are always the same. No file is loaded, and no pattern is made.
+ghost use Rattle.std.specs.Prelude.{◌≡◌, ◌≢◌, ◌≤◌, ◌++◌, codes, decimal, string_bytes, IfOk, MatchResult};
+ghost use Rattle.name_table.specs.Files.{file_of};
+ghost use Rattle.guard_run.specs.Drill.{drill_rules};
+ghost use Rattle.guard_run.specs.End.{EndOfDrill};
+ghost use Rattle.guard_run.specs.Inputs.{IsRuleFile, RefusesRules};
+ghost use Rattle.guard_run.specs.Outcome.{IsNotRead, IsOutcomeAs};
+
+use crate::ends::Which;
+use crate::load::Rules;
+use crate::outcome::{Outcome, text_outcome};
+use crate::read::{NotRead, rules_of};
+use crate::report::{Form, Lines, push_total_line};
+use crate::words::Format;
+use guard_drill::{DRILL_RULES, drill_template};
+use std::alloc::{AllocError, Global};
+use value_compare::{Pattern, PatternFault, PatternMaker};
+
+/// Makes no pattern: it is not asked for one, since the rules of a drill have none.
+#[derive(Drop)]
+struct Unasked;
+
+impl PatternMaker for Unasked {
+    ghost faults = { λ maker text. 0 };
+
+    fn make(&mut self, _alloc: Global, _text: &str) -> Result<Pattern, PatternFault> {
+        Err(PatternFault::Memory)
+    }
+}
+
+/// What comes of a drill of so many resources.
+pub(crate) fn drill_outcome(alloc: Global, count: u32) -> Outcome
+    requires { count ≤ 100000 }
+    ensures outcome { IsOutcomeAs (EndOfDrill count) result }
+    ensures no_fault { (which : Which) → result ≢ Outcome.ReadFault which }
+    ensures no_pattern_fault { result ≢ Outcome.PatternRefused }
+{
+    let rules = match drill_rules(alloc) {
+        Ok(rules) => rules,
+        Err(NotRead::Refused(refused)) => return Outcome::Refused(refused),
+        Err(NotRead::Memory) => return Outcome::Memory,
+    };
+    match drill_template(alloc, count) {
+        Ok(template) => text_outcome(
+            alloc,
+            &rules,
+            Form::Drill { count },
+            Format::Json,
+            &template,
+            &mut Unasked,
+        ),
+        Err(AllocError) => Outcome::Memory,
+    }
+}
+
+/// The rules of a drill.
+fn drill_rules(alloc: Global) -> Result<Rules, NotRead>
+    ensures { MatchResult result
+        (λ rules. (string_bytes rules.text ≡ drill_rules) × IsRuleFile drill_rules (file_of rules.file))
+        (IsNotRead RefusesRules drill_rules) }
+{
+    let file = rules_of(alloc, DRILL_RULES)?;
+    match String::from_str(alloc, DRILL_RULES) {
+        Ok(text) => Ok(Rules { text, file }),
+        Err(AllocError) => Err(NotRead::Memory),
+    }
+}
+
+/// The report of a drill of so many resources.
+pub(crate) fn drill_report(alloc: Global, count: u32, lines: &Lines) -> Result<Vec<u8>, AllocError>
+    ensures { IfOk result (λ report. report.items ≡ (codes "drill " ++ decimal count ++ codes "\n") ++ lines.now.text.bytes.items
+        ++ (codes "fails " ++ decimal lines.now.entries ++ codes "\n") ++ (codes "total "
+        ++ decimal lines.now.tally.pass ++ codes " PASS " ++ decimal lines.now.tally.fail ++ codes " FAIL "
+        ++ decimal lines.now.tally.skip ++ codes " SKIP\n")) }
+{
+    let mut report = Vec::new(alloc);
+    report.extend_from_slice(format!(in alloc; "drill {count}\n")?.as_bytes())?;
+    report.extend_from_slice(&lines.text.bytes)?;
+    let entries = lines.entries;
+    report.extend_from_slice(format!(in alloc; "fails {entries}\n")?.as_bytes())?;
+    push_total_line(alloc, &mut report, &lines.tally)?;
+    Ok(report)
+}
