@@ -1,5 +1,5 @@
 //! Lines of evidence by their numbers.
-ghost use Rattle.std.specs.Prelude.{◌≡◌, ◌++◌, ◌∷◌, ◌≤◌, ◌↔◌, [], length, IfOk, IsSome, OnErr};
+ghost use Rattle.std.specs.Prelude.{◌≡◌, ◌++◌, ◌∷◌, ◌^◌, ◌<◌, ◌≤◌, ◌↔◌, [], length, IfOk, IsSome, OnErr};
 ghost use Rattle.std.specs.Option.{option_copied};
 ghost use Rattle.evidence_lines.specs.Lines.{line_of};
 
@@ -57,6 +57,14 @@ impl Evidence {
             return None;
         }
         self.lines.get((number - 1) as usize)
+    }
+
+    /// The lines themselves. It takes no memory.
+    pub fn as_slice(&self) -> &[Line]
+        ensures lines { result.now ≡ self.now }
+        ensures small { length self.now < 2 ^ 63 }
+    {
+        &self.lines
     }
 
     /// How many lines there are. It takes no memory.
