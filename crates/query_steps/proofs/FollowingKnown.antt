@@ -216,7 +216,7 @@ module _ (known : Known) (lines : List Line) (old : AreKnown known lines) where
 
   at-step : (frame site : ℕ) (of : LineKind) (q : Query) (i : ℕ) (step : Option Step) (cites : List ℕ) (rows : List Row) → FollowsAtStep known lines frame site of q i step cites rows
       → list_all (is_known known) rows ≡ true
-  at-step frame site kind.Filter q i (Some (filter n capture conditions)) cites rows h = filter-follows frame site q i conditions cites rows h
+  at-step frame site kind.Filter q i (Some (filter n capture conditions)) cites rows h = filter-follows frame site q i conditions cites rows h.1
   at-step frame site kind.Keys q i (Some (keys n capture op negated right)) cites rows h = step-follows frame site q i (keys n capture op negated right) cites rows h
   at-step frame site kind.Step q i (Some (this n)) cites rows h = step-follows frame site q i (this n) cites rows h
   at-step frame site kind.Step q i (Some (var n name)) cites rows h = step-follows frame site q i (var n name) cites rows h

@@ -231,7 +231,7 @@ follows_9 =
     let at_2 = is-line (first 8) 2 (line 2) 1 3 refl refl refl in
     let at_3 = is-line (first 8) 3 (line 3) 1 4 refl refl refl in
     let at_8 = is-line (first 8) 8 (line 8) 3 5 refl refl refl in
-    inr (1, 4, refl, refl, refl, ((node 0, 2 ∷ [], 8 ∷ [], rows 1, Pass ∷ [], refl, refl, ((key 3 (codes "Resources")), refl, at_2), ((3, at_3, at_8), tt), refl), refl))
+    inr (1, 4, refl, refl, refl, ((tt, (node 0, 2 ∷ [], 8 ∷ [], rows 1, Pass ∷ [], refl, refl, ((key 3 (codes "Resources")), refl, at_2), ((3, at_3, at_8), tt), refl)), refl))
 
 follows_10 : Follows known (first 9) (line 10) []
 follows_10 =

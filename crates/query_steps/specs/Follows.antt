@@ -37,6 +37,11 @@ abbrev pub is_body : Option Piece → Bool
 is_body (Some (OfBody b)) = true
 is_body _ = false
 
+-- an index that is not that of a query's first step: a filter never stands there
+abbrev pub IsLater : ℕ → Type 0
+IsLater zero = ⊥
+IsLater (suc i) = Unit {0}
+
 -- the scope in which a line of a kind and site is evaluated: the home of the site; a body as the site of a `conj` line is itself that scope
 abbrev pub home_for : File → LineKind → ℕ → ℕ
 home_for file kind.Conj site = if is_body (piece_at file site) then site else home_of file site
@@ -165,7 +170,7 @@ module _ (known : Known) (lines : List Line) where
 
   -- a line of a step, by its kind: only a filter and a key filter have keys to capture
   abbrev pub FollowsAtStep : (frame site : ℕ) → LineKind → Query → ℕ → Option Step → (cites : List ℕ) → List Row → Type 0
-  FollowsAtStep frame site kind.Filter q i (Some (filter n capture conditions)) cites rows = FollowsFilter frame site q i conditions cites rows
+  FollowsAtStep frame site kind.Filter q i (Some (filter n capture conditions)) cites rows = IsLater i × FollowsFilter frame site q i conditions cites rows
   FollowsAtStep frame site kind.Keys q i (Some (keys n capture op negated right)) cites rows = FollowsStep frame site q i (keys n capture op negated right) cites rows
   FollowsAtStep frame site kind.Step q i (Some (this n)) cites rows = FollowsStep frame site q i (this n) cites rows
   FollowsAtStep frame site kind.Step q i (Some (var n name)) cites rows = FollowsStep frame site q i (var n name) cites rows

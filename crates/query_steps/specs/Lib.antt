@@ -3,6 +3,7 @@ pub mod Environments
 pub mod Fails
 pub mod Filters
 pub mod Follows
+pub mod Judgement
 pub mod Keys
 pub mod Kinds
 pub mod Lean
