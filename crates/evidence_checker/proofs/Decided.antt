@@ -1,0 +1,66 @@
+-- Whether something holds of the one thing that is given.
+use Rattle.std.proofs.Common.{◌≡◌, ℕ, true, false, Bool, List, [], ◌∷◌, refl, sym, subst, ◌∙◌, MatchBool, MatchOption, Option, None, rules, arith, length, true≢false}
+use Rattle.std.proofs.lemmas.Bool.Decides.{nat_tests}
+use Rattle.std.specs.Prelude.{◌==◌}
+use denote.Enum.Bare.{sameb, same_false, same_true}
+use Rattle.guard_syntax.specs.contracts.row.Verdict.{the_type}
+use Rattle.evidence_lines.specs.declared.line.Line.{Line}
+use Rattle.evidence_lines.specs.declared.line.LineKind.TheVariants as kind
+use Rattle.guard_syntax.specs.Syntax as sx
+use Rattle.guard_syntax.specs.declared.row.Verdict.{Verdict}
+use Rattle.guard_syntax.specs.declared.row.Verdict.TheVariants.{Pass}
+use Rattle.value_compare.specs.Known.{Known}
+use Rattle.query_steps.specs.Follows.{Guarded, Under, UnderSome, conds_site}
+use Rattle.evidence_checker.specs.FirstCites.{IsGuard, IsSomeGuard}
+use Rattle.evidence_checker.proofs.SaidOnce.{same-verdict}
+
+pub decide-given : {A : Type 0} (Gives Then : A → Type 0) (x : A) (r : Bool) → ((y : A) → Gives y → y ≡ x) → Gives x
+    → MatchBool r (Then x) (Then x → ⊥) → MatchBool r ((y : A) × Gives y × Then y) (((y : A) × Gives y × Then y) → ⊥)
+decide-given Gives Then x true once gives is = (x, gives, is)
+decide-given Gives Then x false once gives never = λ g. never (subst Then (once g.0 g.1) g.2)
+
+-- what stands under conditions, by what their line says
+module _ (known : Known) (lines : List Line) (frame : ℕ) (Inner : List ℕ → Verdict → Type 0) (verdict : Verdict) where
+  pub decide-guarded : (said other : Verdict) (left : List ℕ) (r : Bool) → other ≡ said → MatchBool r (Guarded known lines said Inner left verdict) (Guarded known lines said Inner left verdict → ⊥)
+      → MatchBool r (Guarded known lines other Inner left verdict) (Guarded known lines other Inner left verdict → ⊥)
+  decide-guarded said other left r is decided = subst (λ (v : Verdict). MatchBool r (Guarded known lines v Inner left verdict) (Guarded known lines v Inner left verdict → ⊥)) (sym is) decided
+
+  pub decide-under : (conditions : sx.Conds) (cites : List ℕ) (said : Verdict) (left : List ℕ) (r : Bool) → IsGuard lines frame conditions cites said left
+      → MatchBool r (Guarded known lines said Inner left verdict) (Guarded known lines said Inner left verdict → ⊥)
+      → MatchBool r (Under known lines frame conditions Inner cites verdict) (Under known lines frame conditions Inner cites verdict → ⊥)
+  decide-under conditions [] said left r is decided = absurd is
+  decide-under conditions (c ∷ cites) said left true is decided = (said, is.0, subst (λ (cs : List ℕ). Guarded known lines said Inner cs verdict) is.1 decided)
+  decide-under conditions (c ∷ cites) said left false is decided =
+      λ g. decided (subst (λ (cs : List ℕ). Guarded known lines said Inner cs verdict) (sym is.1)
+      (subst (λ (v : Verdict). Guarded known lines v Inner cites verdict) (same-verdict lines c kind.Conj frame frame (conds_site conditions) g.0 said g.1 is.0) g.2))
+
+  pub decide-under-some : (conditions : sx.OptConds) (cites : List ℕ) (said : Verdict) (left : List ℕ) (r : Bool) → IsSomeGuard lines frame conditions cites said left
+      → MatchBool r (Guarded known lines said Inner left verdict) (Guarded known lines said Inner left verdict → ⊥)
+      → MatchBool r (UnderSome known lines frame conditions Inner cites verdict) (UnderSome known lines frame conditions Inner cites verdict → ⊥)
+  decide-under-some sx.no_conds cites said left r is decided =
+      subst (λ (cs : List ℕ). MatchBool r (Inner cs verdict) (Inner cs verdict → ⊥)) is.1
+      (subst (λ (v : Verdict). MatchBool r (Guarded known lines v Inner left verdict) (Guarded known lines v Inner left verdict → ⊥)) is.0 decided)
+  decide-under-some (sx.with_conds conditions) cites said left r is decided = decide-under conditions cites said left r is decided
+
+  -- without their line nothing follows
+  pub never-under : (conditions : sx.Conds) (cites : List ℕ) → ((said : Verdict) (left : List ℕ) → IsGuard lines frame conditions cites said left → ⊥) → Under known lines frame conditions Inner cites verdict → ⊥
+  never-under conditions [] never g = g
+  never-under conditions (c ∷ cites) never g = never g.0 cites (g.1, refl)
+
+  pub never-under-some : (conditions : sx.OptConds) (cites : List ℕ) → ((said : Verdict) (left : List ℕ) → IsSomeGuard lines frame conditions cites said left → ⊥)
+      → UnderSome known lines frame conditions Inner cites verdict → ⊥
+  never-under-some sx.no_conds cites never g = never Pass cites (refl, refl)
+  never-under-some (sx.with_conds conditions) cites never g = never-under conditions cites never g
+
+-- whether two verdicts are the same
+pub same-verdicts : (r : Bool) (v w : Verdict) → r ≡ sameb the_type v w → MatchBool r (v ≡ w) (v ≡ w → ⊥)
+same-verdicts true v w e = same_true the_type (search rules) v w (sym e)
+same-verdicts false v w e = same_false the_type v w (sym e)
+
+pub at-none : {A : Type 0} (r : Option A) (P : Type 0) (Q : A → Type 0) → r ≡ None → P → MatchOption r P Q
+at-none r P Q is p = subst (λ o. MatchOption o P Q) (sym is) p
+
+pub none-within : {A : Type 0} (xs ys : List A) → xs ≡ ys → true ≡ (length xs == 0) → ys ≡ []
+none-within [] ys same none = sym same
+none-within (x ∷ xs) ys same none =
+    let test : (length (x ∷ xs) == 0) ≡ false = grind (arith, nat_tests) in absurd (true≢false (none ∙ test))

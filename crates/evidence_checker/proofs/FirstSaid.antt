@@ -1,0 +1,93 @@
+-- What follows from the first of the lines that a line names and those behind it.
+use Rattle.std.proofs.Common.{◌≡◌, ℕ, List, [], ◌∷◌, Option, true, false, Bool, ◌&&◌, if◌then◌else◌, refl, ap, sym, subst, ◌∙◌, MatchBool, rules}
+use Rattle.evidence_lines.specs.declared.line.Line.{Line}
+use Rattle.evidence_lines.specs.declared.line.LineKind.TheVariants as kind
+use Rattle.evidence_lines.specs.declared.line.Outcome.TheVariants as says
+use Rattle.guard_syntax.specs.Seen.{see_conds}
+use Rattle.guard_syntax.specs.Syntax as sx
+use Rattle.guard_syntax.specs.declared.row.Row.{Row}
+use Rattle.guard_syntax.specs.declared.row.Verdict.{Verdict}
+use Rattle.guard_syntax.specs.declared.syntax.Conds.{Conds, out-Conds, the_lemmas as conds_lemmas}
+use Rattle.guard_syntax.specs.declared.syntax.Op.{Op}
+use Rattle.value_compare.specs.Known.{Known}
+use Rattle.query_steps.specs.CitedLines.{GivesQuery, IsLine}
+use Rattle.query_steps.specs.Follows.{FollowsBlock, FollowsBody, FollowsRowsOf, FollowsRule, FollowsTest, FollowsTyped, GivesRight, UnderSome, conds_site}
+use Rattle.query_steps.specs.Keys.{passes}
+use Rattle.query_steps.specs.SetTests.{is_empty_test, is_set}
+use Rattle.query_steps.specs.Verdicts.{set_verdict, test_verdict}
+use Rattle.evidence_checker.specs.FirstCites.{IsGuard}
+use Rattle.evidence_checker.proofs.Decided.{decide-given}
+use Rattle.evidence_checker.proofs.SaidOnce.{same-query, same-right, same-rows}
+
+pub conds-site : (cs : Conds) → conds_site (see_conds cs) ≡ (out-Conds cs).site
+conds-site cs = search (rules, conds_lemmas)
+
+module _ (lines : List Line) (frame c : ℕ) (cites left : List ℕ) (first : cites ≡ c ∷ left) where
+  pub guard-said : (conditions : sx.Conds) (site : ℕ) (said : Verdict) → site ≡ conds_site conditions → IsLine lines c kind.Conj frame site (says.Verdict said) → IsGuard lines frame conditions cites said left
+  guard-said conditions site said site_is is =
+      subst (λ (cs : List ℕ). IsGuard lines frame conditions cs said left) (sym first) (subst (λ (n : ℕ). IsLine lines c kind.Conj frame n (says.Verdict said)) site_is is, refl)
+
+  pub guard-never : (conditions : sx.Conds) (site : ℕ) → site ≡ conds_site conditions → ((said : Verdict) → IsLine lines c kind.Conj frame site (says.Verdict said) → ⊥)
+      → (said : Verdict) → (others : List ℕ) → IsGuard lines frame conditions cites said others → ⊥
+  guard-never conditions site site_is never said others g =
+      let taken : IsGuard lines frame conditions (c ∷ left) said others = subst (λ (cs : List ℕ). IsGuard lines frame conditions cs said others) first g in
+      never said (subst (λ (n : ℕ). IsLine lines c kind.Conj frame n (says.Verdict said)) (sym site_is) taken.0)
+
+  module _ (known : Known) (verdict : Verdict) where
+    module _ (b : sx.Body) where
+      pub typed-never : (site : ℕ) → ((rows : List Row) → IsLine lines c kind.Types frame site (says.Rows rows) → ⊥) → FollowsTyped known lines frame site b cites verdict → ⊥
+      typed-never site never f =
+          let g : FollowsTyped known lines frame site b (c ∷ left) verdict = subst (λ (cs : List ℕ). FollowsTyped known lines frame site b cs verdict) first f in
+          never g.0 g.1
+
+      pub typed-decided : (site : ℕ) (rows : List Row) (r : Bool) → IsLine lines c kind.Types frame site (says.Rows rows)
+          → MatchBool r (FollowsRowsOf known lines frame false b rows left verdict) (FollowsRowsOf known lines frame false b rows left verdict → ⊥)
+          → MatchBool r (FollowsTyped known lines frame site b cites verdict) (FollowsTyped known lines frame site b cites verdict → ⊥)
+      typed-decided site rows r is decided =
+          subst (λ (cs : List ℕ). MatchBool r (FollowsTyped known lines frame site b cs verdict) (FollowsTyped known lines frame site b cs verdict → ⊥)) (sym first)
+          (decide-given (λ (rs : List Row). IsLine lines c kind.Types frame site (says.Rows rs)) (λ (rs : List Row). FollowsRowsOf known lines frame false b rs left verdict) rows r
+          (λ rs also. same-rows lines c kind.Types frame site rs rows also is) is decided)
+
+      pub block-never : (any : Bool) (head : sx.Query) → ((rows : List Row) → GivesQuery known.file lines frame head c rows → ⊥) → FollowsBlock known lines frame any head b cites verdict → ⊥
+      block-never any head never f =
+          let g : FollowsBlock known lines frame any head b (c ∷ left) verdict = subst (λ (cs : List ℕ). FollowsBlock known lines frame any head b cs verdict) first f in
+          never g.0 g.1
+
+      pub block-decided : (any : Bool) (head : sx.Query) (rows : List Row) (r : Bool) → GivesQuery known.file lines frame head c rows
+          → MatchBool r (FollowsRowsOf known lines frame any b rows left verdict) (FollowsRowsOf known lines frame any b rows left verdict → ⊥)
+          → MatchBool r (FollowsBlock known lines frame any head b cites verdict) (FollowsBlock known lines frame any head b cites verdict → ⊥)
+      block-decided any head rows r gives decided =
+          subst (λ (cs : List ℕ). MatchBool r (FollowsBlock known lines frame any head b cs verdict) (FollowsBlock known lines frame any head b cs verdict → ⊥)) (sym first)
+          (decide-given (λ (rs : List Row). GivesQuery known.file lines frame head c rs) (λ (rs : List Row). FollowsRowsOf known lines frame any b rs left verdict) rows r
+          (λ rs also. same-query known.file lines frame head c rs rows also gives) gives decided)
+
+    module _ (n : ℕ) (any : Bool) (query : sx.Query) (op : Op) (negated : Bool) (right : sx.OptExpr) (message : Option (List ℕ)) where
+      test-taken : FollowsTest known lines frame (sx.test n any query op negated right message) cites verdict → FollowsTest known lines frame (sx.test n any query op negated right message) (c ∷ left) verdict
+      test-taken f = subst (λ (cs : List ℕ). FollowsTest known lines frame (sx.test n any query op negated right message) cs verdict) first f
+
+      pub never-left : ((rows : List Row) → GivesQuery known.file lines frame query c rows → ⊥) → FollowsTest known lines frame (sx.test n any query op negated right message) cites verdict → ⊥
+      never-left never f = let g = test-taken f in never g.0 g.2
+
+      pub never-right : ((rows : List Row) → GivesRight known lines frame right left rows → ⊥) → FollowsTest known lines frame (sx.test n any query op negated right message) cites verdict → ⊥
+      never-right never f = let g = test-taken f in never g.1 g.3
+
+      pub test-decided : (lefts rights : List Row) (said : Verdict) (r : Bool) → GivesQuery known.file lines frame query c lefts → GivesRight known lines frame right left rights
+          → said ≡ (if is_empty_test op && is_set query then set_verdict negated lefts else test_verdict any (passes known op negated rights) lefts)
+          → MatchBool r (verdict ≡ said) (verdict ≡ said → ⊥)
+          → MatchBool r (FollowsTest known lines frame (sx.test n any query op negated right message) cites verdict) (FollowsTest known lines frame (sx.test n any query op negated right message) cites verdict → ⊥)
+      test-decided lefts rights said true found at_right is same =
+          subst (λ (cs : List ℕ). FollowsTest known lines frame (sx.test n any query op negated right message) cs verdict) (sym first) (lefts, rights, found, at_right, same ∙ is)
+      test-decided lefts rights said false found at_right is other =
+          λ f. let g = test-taken f in
+          let one : g.0 ≡ lefts = same-query known.file lines frame query c g.0 lefts g.2 found in
+          let two : g.1 ≡ rights = same-right known lines frame right left g.1 rights g.3 at_right in
+          other (g.4 ∙ ap (λ (xs : List Row). if is_empty_test op && is_set query then set_verdict negated xs else test_verdict any (passes known op negated g.1) xs) one
+          ∙ ap (λ (ys : List Row). if is_empty_test op && is_set query then set_verdict negated lefts else test_verdict any (passes known op negated ys) lefts) two ∙ sym is)
+
+-- a rule without parameters
+module _ (known : Known) (lines : List Line) (frame : ℕ) (r : sx.Rule) (cites : List ℕ) (verdict : Verdict) where
+  pub rule-decided : (result : Bool) → r.params ≡ []
+      → MatchBool result (UnderSome known lines frame r.cond (FollowsBody known lines frame r.body) cites verdict) (UnderSome known lines frame r.cond (FollowsBody known lines frame r.body) cites verdict → ⊥)
+      → MatchBool result (FollowsRule known lines frame r cites verdict) (FollowsRule known lines frame r cites verdict → ⊥)
+  rule-decided true none under = (none, under)
+  rule-decided false none never = λ f. never f.1

@@ -1,0 +1,160 @@
+-- A body on rows, a row at a time.
+use Rattle.std.proofs.Common.{◌≡◌, ℕ, ◌+◌, ◌<◌, ◌≤◌, true, false, Bool, List, [], ◌∷◌, length, drop, get_or, refl, ap, sym, subst, ◌∙◌, MatchBool, add-one, drop-cons}
+use Rattle.std.proofs.lemmas.List.{drop_all}
+use Rattle.evidence_lines.specs.declared.line.Line.{Line}
+use Rattle.evidence_lines.specs.declared.line.LineKind.TheVariants as kind
+use Rattle.evidence_lines.specs.declared.line.Outcome.TheVariants as says
+use Rattle.guard_syntax.specs.Syntax as sx
+use Rattle.guard_syntax.specs.declared.row.Ref.{Ref}
+use Rattle.guard_syntax.specs.declared.row.Row.{Row}
+use Rattle.guard_syntax.specs.declared.row.Row.TheVariants.{Found, Missing, Unmade}
+use Rattle.guard_syntax.specs.declared.row.Verdict.{Verdict}
+use Rattle.guard_syntax.specs.declared.row.Verdict.TheVariants.{Pass, Fail, Skip}
+use Rattle.value_compare.specs.Known.{Known}
+use Rattle.query_steps.specs.CitedLines.{IsLine, body_site}
+use Rattle.query_steps.specs.Follows.{FollowsRowsOf, SayRows, SaysBody}
+use Rattle.query_steps.specs.Verdicts.{block_verdict}
+use Rattle.evidence_checker.specs.FirstCites.{SaysRow}
+use Rattle.evidence_checker.proofs.SaidOnce.{same-body}
+
+-- a body on rows, behind rows that have a verdict already
+abbrev pub FollowsOn : Known → List Line → (frame : ℕ) → (any : Bool) → sx.Body → (before : Verdict) → List Row → (cites : List ℕ) → Verdict → Type 0
+FollowsOn known lines frame any b before rows cites verdict =
+    (verdicts : List Verdict) × SayRows known lines (SaysBody known lines frame b) rows cites verdicts × (verdict ≡ block_verdict any (before ∷ verdicts))
+
+skip-first : (any : Bool) (vs : List Verdict) → block_verdict any (Skip ∷ vs) ≡ block_verdict any vs
+skip-first true vs = refl
+skip-first false vs = refl
+
+one-alone : (any : Bool) (v : Verdict) → block_verdict any (v ∷ []) ≡ v
+one-alone true Pass = refl
+one-alone true Fail = refl
+one-alone true Skip = refl
+one-alone false Pass = refl
+one-alone false Fail = refl
+one-alone false Skip = refl
+
+two-first : (any : Bool) (v w : Verdict) (vs : List Verdict) → block_verdict any (v ∷ w ∷ vs) ≡ block_verdict any (block_verdict any (v ∷ w ∷ []) ∷ vs)
+two-first true Pass w vs = refl
+two-first true Fail Pass vs = refl
+two-first true Fail Fail vs = refl
+two-first true Fail Skip vs = refl
+two-first true Skip Pass vs = refl
+two-first true Skip Fail vs = refl
+two-first true Skip Skip vs = refl
+two-first false Fail w vs = refl
+two-first false Pass Pass vs = refl
+two-first false Pass Fail vs = refl
+two-first false Pass Skip vs = refl
+two-first false Skip Pass vs = refl
+two-first false Skip Fail vs = refl
+two-first false Skip Skip vs = refl
+
+module _ (known : Known) (lines : List Line) (frame : ℕ) (any : Bool) (b : sx.Body) where
+  pub on-first : (rows : List Row) (cites : List ℕ) (verdict : Verdict) → FollowsRowsOf known lines frame any b rows cites verdict → FollowsOn known lines frame any b Skip rows cites verdict
+  on-first rows cites verdict f = (f.0, f.1, f.2 ∙ sym (skip-first any f.0))
+
+  pub back-first : (rows : List Row) (cites : List ℕ) (verdict : Verdict) → FollowsOn known lines frame any b Skip rows cites verdict → FollowsRowsOf known lines frame any b rows cites verdict
+  back-first rows cites verdict f = (f.0, f.1, f.2 ∙ skip-first any f.0)
+
+  -- a row with its verdict, and then the others
+  with-first : (row : Row) (rows : List Row) (cites left : List ℕ) (w : Verdict) (ws : List Verdict) → SaysRow (SaysBody known lines frame b) row cites w left
+      → SayRows known lines (SaysBody known lines frame b) rows left ws → SayRows known lines (SaysBody known lines frame b) (row ∷ rows) cites (w ∷ ws)
+  with-first (Found v) rows [] left w ws is others = absurd is
+  with-first (Found v) rows (c ∷ cites) left w ws is others = (is.0, subst (λ (cs : List ℕ). SayRows known lines (SaysBody known lines frame b) rows cs ws) is.1 others)
+  with-first (Missing v step) rows cites left w ws is others = (is.0, subst (λ (cs : List ℕ). SayRows known lines (SaysBody known lines frame b) rows cs ws) is.1 others)
+  with-first (Unmade site) rows cites left w ws is others = (is.0, subst (λ (cs : List ℕ). SayRows known lines (SaysBody known lines frame b) rows cs ws) is.1 others)
+
+  -- each row has one
+  split-first : (row : Row) (rows : List Row) (cites : List ℕ) (vs : List Verdict) → SayRows known lines (SaysBody known lines frame b) (row ∷ rows) cites vs
+      → (w : Verdict) × (ws : List Verdict) × (left : List ℕ) × (vs ≡ w ∷ ws) × SaysRow (SaysBody known lines frame b) row cites w left × SayRows known lines (SaysBody known lines frame b) rows left ws
+  split-first (Found v) rows [] [] s = absurd s
+  split-first (Found v) rows [] (w ∷ ws) s = absurd s
+  split-first (Found v) rows (c ∷ cites) [] s = absurd s
+  split-first (Found v) rows (c ∷ cites) (w ∷ ws) s = (w, ws, cites, refl, (s.0, refl), s.1)
+  split-first (Missing v step) rows cites [] s = absurd s
+  split-first (Missing v step) rows cites (w ∷ ws) s = (w, ws, cites, refl, (s.0, refl), s.1)
+  split-first (Unmade site) rows cites [] s = absurd s
+  split-first (Unmade site) rows cites (w ∷ ws) s = (w, ws, cites, refl, (s.0, refl), s.1)
+
+  once : (row : Row) (cites left others : List ℕ) (w x : Verdict) → SaysRow (SaysBody known lines frame b) row cites w left → SaysRow (SaysBody known lines frame b) row cites x others
+      → (w ≡ x) × (left ≡ others)
+  once (Found v) [] left others w x is also = absurd is
+  once (Found v) (c ∷ cites) left others w x is also = (same-body known lines frame b v c w x is.0 also.0, is.1 ∙ sym also.1)
+  once (Missing v step) cites left others w x is also = (is.0 ∙ sym also.0, is.1 ∙ sym also.1)
+  once (Unmade site) cites left others w x is also = (is.0 ∙ sym also.0, is.1 ∙ sym also.1)
+
+  module _ (row : Row) (rows : List Row) (cites : List ℕ) (before verdict : Verdict) where
+    pub on-next : (w after : Verdict) (left : List ℕ) → SaysRow (SaysBody known lines frame b) row cites w left → after ≡ block_verdict any (before ∷ w ∷ [])
+        → FollowsOn known lines frame any b before (row ∷ rows) cites verdict → FollowsOn known lines frame any b after rows left verdict
+    on-next w after left is joined f =
+        let s = split-first row rows cites f.0 f.1 in
+        let same = once row cites s.2 left s.0 w s.4 is in (
+          s.1,
+          subst (λ (cs : List ℕ). SayRows known lines (SaysBody known lines frame b) rows cs s.1) same.1 s.5,
+          f.2 ∙ ap (λ (vs : List Verdict). block_verdict any (before ∷ vs)) (s.3 ∙ ap (λ (x : Verdict). x ∷ s.1) same.0) ∙ two-first any before w s.1 ∙ ap (λ (x : Verdict). block_verdict any (x ∷ s.1)) (sym joined),
+        )
+
+    pub back-next : (w after : Verdict) (left : List ℕ) → SaysRow (SaysBody known lines frame b) row cites w left → after ≡ block_verdict any (before ∷ w ∷ [])
+        → FollowsOn known lines frame any b after rows left verdict → FollowsOn known lines frame any b before (row ∷ rows) cites verdict
+    back-next w after left is joined f =
+        (w ∷ f.0, with-first row rows cites left w f.0 is f.1, f.2 ∙ ap (λ (x : Verdict). block_verdict any (x ∷ f.0)) joined ∙ sym (two-first any before w f.0))
+
+    -- where a row has no verdict, there is none
+    pub never-on : ((w : Verdict) (left : List ℕ) → SaysRow (SaysBody known lines frame b) row cites w left → ⊥) → FollowsOn known lines frame any b before (row ∷ rows) cites verdict → ⊥
+    never-on never f = let s = split-first row rows cites f.0 f.1 in never s.0 s.2 s.4
+
+  -- behind the last row no line is left
+  pub on-none : (before verdict : Verdict) (cites : List ℕ) → FollowsOn known lines frame any b before [] cites verdict → (cites ≡ []) × (verdict ≡ before)
+  on-none before verdict cites f = ends cites f.0 f.1 f.2
+    where
+      ends : (cs : List ℕ) (vs : List Verdict) → SayRows known lines (SaysBody known lines frame b) [] cs vs → verdict ≡ block_verdict any (before ∷ vs) → (cs ≡ []) × (verdict ≡ before)
+      ends [] [] s e = (refl, e ∙ one-alone any before)
+      ends [] (v ∷ vs) s e = absurd s
+      ends (c ∷ cs) [] s e = absurd s
+      ends (c ∷ cs) (v ∷ vs) s e = absurd s
+
+  pub back-none : (before verdict : Verdict) (cites : List ℕ) → cites ≡ [] → verdict ≡ before → FollowsOn known lines frame any b before [] cites verdict
+  back-none before verdict [] none is = ([], tt, is ∙ sym (one-alone any before))
+  back-none before verdict (c ∷ cs) none is = absurd cc
+
+  -- so the rows from an index on
+  next-rows : (rows : List Row) (i : ℕ) (d : Row) → i < length rows → drop i rows ≡ get_or rows i d ∷ drop (i + 1) rows
+  next-rows rows i d within = rw add-one (drop-cons rows i d within)
+
+  module _ (rows : List Row) (i : ℕ) (d : Row) (within : i < length rows) (cites : List ℕ) (before verdict : Verdict) where
+    pub on-row : (w after : Verdict) (left : List ℕ) → SaysRow (SaysBody known lines frame b) (get_or rows i d) cites w left → after ≡ block_verdict any (before ∷ w ∷ [])
+        → FollowsOn known lines frame any b before (drop i rows) cites verdict → FollowsOn known lines frame any b after (drop (i + 1) rows) left verdict
+    on-row w after left is joined f =
+        on-next (get_or rows i d) (drop (i + 1) rows) cites before verdict w after left is joined
+        (subst (λ (rs : List Row). FollowsOn known lines frame any b before rs cites verdict) (next-rows rows i d within) f)
+
+    pub back-row : (w after : Verdict) (left : List ℕ) → SaysRow (SaysBody known lines frame b) (get_or rows i d) cites w left → after ≡ block_verdict any (before ∷ w ∷ [])
+        → FollowsOn known lines frame any b after (drop (i + 1) rows) left verdict → FollowsOn known lines frame any b before (drop i rows) cites verdict
+    back-row w after left is joined f =
+        subst (λ (rs : List Row). FollowsOn known lines frame any b before rs cites verdict) (sym (next-rows rows i d within))
+        (back-next (get_or rows i d) (drop (i + 1) rows) cites before verdict w after left is joined f)
+
+    pub never-row : ((w : Verdict) (left : List ℕ) → SaysRow (SaysBody known lines frame b) (get_or rows i d) cites w left → ⊥) → FollowsOn known lines frame any b before (drop i rows) cites verdict → ⊥
+    never-row never f =
+        never-on (get_or rows i d) (drop (i + 1) rows) cites before verdict never (subst (λ (rs : List Row). FollowsOn known lines frame any b before rs cites verdict) (next-rows rows i d within) f)
+
+  -- and behind the last
+  pub decide-end : (rows all : List Row) (i : ℕ) (cites whole : List ℕ) (before verdict : Verdict) (r : Bool) → length rows ≤ i
+      → (FollowsRowsOf known lines frame any b all whole verdict → FollowsOn known lines frame any b before (drop i rows) cites verdict)
+      → (FollowsOn known lines frame any b before (drop i rows) cites verdict → FollowsRowsOf known lines frame any b all whole verdict)
+      → MatchBool r ((cites ≡ []) × (verdict ≡ before)) ((cites ≡ []) × (verdict ≡ before) → ⊥)
+      → MatchBool r (FollowsRowsOf known lines frame any b all whole verdict) (FollowsRowsOf known lines frame any b all whole verdict → ⊥)
+  decide-end rows all i cites whole before verdict true past on back ends =
+      back (subst (λ (rs : List Row). FollowsOn known lines frame any b before rs cites verdict) (sym (drop_all i rows past)) (back-none before verdict cites ends.0 ends.1))
+  decide-end rows all i cites whole before verdict false past on back never =
+      λ f. never (on-none before verdict cites (subst (λ (rs : List Row). FollowsOn known lines frame any b before rs cites verdict) (drop_all i rows past) (on f)))
+
+  -- a row that was found, whose line says nothing
+  pub none-said : (row : Row) (cites : List ℕ) (v : Ref) (c : ℕ) (left : List ℕ) (site : ℕ) → row ≡ Found v → cites ≡ c ∷ left → site ≡ body_site b
+      → ((at : ℕ) → (w : Verdict) → IsLine lines at kind.Frame frame site (says.Value v) → IsLine lines c kind.Conj at site (says.Verdict w) → ⊥)
+      → (w : Verdict) → (others : List ℕ) → SaysRow (SaysBody known lines frame b) row cites w others → ⊥
+  none-said row cites v c left site found first site_is never w others s =
+      let at_found : SaysRow (SaysBody known lines frame b) (Found v) cites w others = subst (λ (x : Row). SaysRow (SaysBody known lines frame b) x cites w others) found s in
+      let taken : SaysRow (SaysBody known lines frame b) (Found v) (c ∷ left) w others = subst (λ (cs : List ℕ). SaysRow (SaysBody known lines frame b) (Found v) cs w others) first at_found in
+      subst (λ (n : ℕ). (at : ℕ) → (x : Verdict) → IsLine lines at kind.Frame frame n (says.Value v) → IsLine lines c kind.Conj at n (says.Verdict x) → ⊥) site_is never taken.0.0 w taken.0.1 taken.0.2

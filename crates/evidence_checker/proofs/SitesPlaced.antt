@@ -1,0 +1,22 @@
+-- A site behind the places of a file is of no part.
+use Rattle.std.proofs.Common.{◌≡◌, ℕ, suc, zero, ◌+◌, ◌≤◌, ◌<◌, cond, refl, ap, ◌∙◌, arith, length, None}
+use Rattle.std.specs.Prelude.{◌==◌}
+use Rattle.std.proofs.lemmas.Bool.Decides.{nat_tests}
+use Rattle.guard_syntax.specs.Seen.{see_file}
+use Rattle.guard_syntax.specs.Sites.{upto}
+use Rattle.guard_syntax.specs.declared.syntax.RawFile.{RawFile}
+use Rattle.name_table.specs.Pieces.{AreInOrder, piece_at, pieces_file}
+use Rattle.name_table.proofs.FileParts.{file_tied}
+use Rattle.name_table.proofs.Parts.{no-hit}
+use Rattle.name_table.proofs.Rises.{times}
+
+not-first : (i n k : ℕ) → n < i → k ≡ 0 → cond (n == i) 1 0 + k ≡ 0
+not-first i n k less none = grind (arith, nat_tests)
+
+past-upto : (i n k : ℕ) → n + k ≤ i → times i (upto n k) ≡ 0
+past-upto i n zero past = refl
+past-upto i n (suc k) past = not-first i n (times i (upto (suc n) k)) (omega arith) (past-upto i (suc n) k (omega arith))
+
+pub placed-nowhere : (f : RawFile) (n : ℕ) → AreInOrder (see_file f) → length f.places ≤ n → piece_at (see_file f) n ≡ None
+placed-nowhere f n h past =
+    no-hit n (pieces_file (see_file f)) ((file_tied f.rules.items f.loose.items f.lets.items).same n ∙ ap (times n) h ∙ past-upto n 0 (length f.places) (omega arith))

@@ -1,0 +1,39 @@
+-- Lines of the rows of type blocks.
+use Rattle.std.proofs.Common.{◌≡◌, ℕ, Bool, true, false, refl, ap, sym, ◌∙◌, subst, List, [], Option, Some, MatchBool, is_some, rules}
+use Rattle.evidence_lines.specs.declared.line.Line.{Line}
+use Rattle.evidence_lines.specs.declared.line.LineKind.{LineKind}
+use Rattle.evidence_lines.specs.declared.line.LineKind.TheVariants as kind
+use Rattle.guard_syntax.specs.Seen.{see_part}
+use Rattle.guard_syntax.specs.Syntax.{Part, kinds}
+use Rattle.guard_syntax.specs.declared.row.Ref.{Ref}
+use Rattle.guard_syntax.specs.declared.row.Row.{Row}
+use Rattle.guard_syntax.specs.declared.syntax.Body.{Body}
+use Rattle.guard_syntax.specs.declared.syntax.Conds.{Conds}
+use Rattle.guard_syntax.specs.declared.syntax.Part as code
+use Rattle.guard_syntax.specs.declared.syntax.Step.{the_lemmas}
+use Rattle.name_table.specs.Pieces.{OfPart}
+use Rattle.value_compare.specs.Known.{Known, Made}
+use Rattle.query_steps.specs.CitedLines.{value_of}
+use Rattle.query_steps.specs.Follows.{FollowsRows, HasValue}
+use Rattle.query_steps.specs.Places.{rows_at_type, type_of_part}
+use Rattle.evidence_checker.proofs.OneGiven.{one-there}
+
+pub kinds-seen : (p : code.Part) (site : ℕ) (name : List ℕ) (conditions : Option Conds) (inner : Body) → p ≡ code.Kinds site name conditions inner → is_some (type_of_part (see_part p)) ≡ true
+kinds-seen p site name conditions inner is =
+    let there : is_some (type_of_part (see_part (code.Kinds site name conditions inner))) ≡ true = search (rules, the_lemmas) in
+    ap (λ (x : code.Part). is_some (type_of_part (see_part x))) is ∙ there
+
+module _ (known : Known) (lines : List Line) (frame site : ℕ) (cites : List ℕ) (current : Ref) (has : HasValue known lines frame current) (none : cites ≡ []) where
+  at-kinds : (p : Part) (rows due : List Row) (b : Bool) → is_some (type_of_part p) ≡ true → due ≡ rows_at_type known site current → MatchBool b (rows ≡ due) (rows ≡ due → ⊥)
+      → MatchBool b (FollowsRows known lines frame site kind.Types (Some (OfPart p)) cites rows []) ((more : List Made) → FollowsRows known lines frame site kind.Types (Some (OfPart p)) cites rows more → ⊥)
+  at-kinds (kinds n name conditions inner) rows due true there is same = (current, has, none, same ∙ is, refl)
+  at-kinds (kinds n name conditions inner) rows due false there is differ = λ more h.
+      let value : h.0 ≡ current = one-there (value_of lines frame) h.0 current h.1 has in
+      differ (h.3 ∙ ap (λ (v : Ref). rows_at_type known site v) value ∙ sym is)
+  at-kinds p rows due b there is same = absurd cc
+
+  pub types-due : (of : LineKind) (p : Part) (rows due : List Row) (b : Bool) → of ≡ kind.Types → is_some (type_of_part p) ≡ true → due ≡ rows_at_type known site current → MatchBool b (rows ≡ due) (rows ≡ due → ⊥)
+      → MatchBool b (FollowsRows known lines frame site of (Some (OfPart p)) cites rows []) ((more : List Made) → FollowsRows known lines frame site of (Some (OfPart p)) cites rows more → ⊥)
+  types-due of p rows due b of_is there is same =
+      subst (λ (k : LineKind). MatchBool b (FollowsRows known lines frame site k (Some (OfPart p)) cites rows []) ((more : List Made) → FollowsRows known lines frame site k (Some (OfPart p)) cites rows more → ⊥)) (sym of_is)
+      (at-kinds p rows due b there is same)

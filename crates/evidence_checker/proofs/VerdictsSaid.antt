@@ -1,0 +1,259 @@
+-- Verdicts that cited lines say, one line for each part, and what they are together.
+use Rattle.std.proofs.Common.{◌≡◌, ℕ, ◌+◌, ◌<◌, ◌≤◌, Bool, true, false, List, [], ◌∷◌, length, map, drop, get_or, refl, ap, ap₂, sym, subst, ◌∙◌, arith, rules, Option, Some, MatchBool}
+use Rattle.std.specs.Prelude.{◌==◌}
+use Rattle.std.proofs.lemmas.Bool.Decides.{nat_tests}
+use Rattle.std.proofs.lemmas.List.{drop_more, drop_all}
+use Rattle.evidence_lines.specs.declared.line.Line.{Line}
+use Rattle.evidence_lines.specs.Lines.{line_of}
+use Rattle.evidence_lines.specs.declared.line.LineKind.{LineKind}
+use Rattle.evidence_lines.specs.declared.line.LineKind.TheVariants as kind
+use Rattle.evidence_lines.specs.declared.line.Outcome.TheVariants as says
+use Rattle.guard_syntax.specs.Syntax as sx
+use Rattle.guard_syntax.specs.Seen.{disj_list, part_list, see_disj, see_part}
+use Rattle.guard_syntax.specs.declared.row.Verdict.{Verdict}
+use Rattle.guard_syntax.specs.declared.row.Verdict.TheVariants.{Pass, Fail, Skip}
+use Rattle.guard_syntax.specs.declared.syntax.Disj.{Disj, the_lemmas}
+use Rattle.guard_syntax.specs.declared.syntax.Part.{Part}
+use Rattle.name_table.specs.Ways.{part_site}
+use Rattle.value_compare.specs.Known.{Known}
+use Rattle.query_steps.specs.CitedLines.{IsLine}
+use Rattle.query_steps.specs.Follows.{FollowsConj, FollowsDisj, FollowsLoose, SayDisjs, SayParts, SaysVerdict, kind_of_part}
+use Rattle.query_steps.specs.Verdicts.{conjunction, disjunction}
+
+-- verdicts of all, and of those that are left behind the ones that are this verdict together
+pub record IsFolded (fold : List Verdict → Verdict) (Whole Rest : List Verdict → Type 0) (so_far : Verdict) : Type 0 where
+  pub on : (vs : List Verdict) → Rest vs → (ws : List Verdict) × Whole ws × (fold ws ≡ fold (so_far ∷ vs))
+  pub off : (ws : List Verdict) → Whole ws → (vs : List Verdict) × Rest vs
+
+-- one part in front of others: a cited line says its verdict
+pub record IsNext (Rest : List ℕ → List Verdict → Type 0) (Says : ℕ → Verdict → Type 0) (Next : List ℕ → List Verdict → Type 0) : Type 0 where
+  pub more : (c : ℕ) (cs : List ℕ) (w : Verdict) (ws : List Verdict) → Says c w → Next cs ws → Rest (c ∷ cs) (w ∷ ws)
+  pub split : (c : ℕ) (cs : List ℕ) (vs : List Verdict) → Rest (c ∷ cs) vs → (w : Verdict) × (ws : List Verdict) × Says c w × Next cs ws
+  pub none : (vs : List Verdict) → Rest [] vs → ⊥
+
+-- no part is left
+pub record IsLast (Rest : List ℕ → List Verdict → Type 0) : Type 0 where
+  pub end : Rest [] []
+  pub none : (c : ℕ) (cs : List ℕ) (vs : List Verdict) → Rest (c ∷ cs) vs → ⊥
+
+module _ (fold : List Verdict → Verdict) (Whole : List Verdict → Type 0) where
+  pub folded-first : ((vs : List Verdict) → fold vs ≡ fold (Skip ∷ vs)) → IsFolded fold Whole Whole Skip
+  folded-first first = record { on = λ vs r. (vs, r, first vs); off = λ ws w. (ws, w) }
+
+  module _ (Rest : List ℕ → List Verdict → Type 0) (left : List ℕ) (so_far : Verdict) (h : IsFolded fold Whole (Rest left) so_far) where
+    -- one part more
+    pub folded-next : (Says : ℕ → Verdict → Type 0) (Next : List ℕ → List Verdict → Type 0) (c : ℕ) (cs : List ℕ) (w new : Verdict) → IsNext Rest Says Next
+        → ((a b : Verdict) (vs : List Verdict) → fold (a ∷ b ∷ vs) ≡ fold (fold (a ∷ b ∷ []) ∷ vs)) → left ≡ c ∷ cs → Says c w → new ≡ fold (so_far ∷ w ∷ [])
+        → IsFolded fold Whole (Next cs) new
+    folded-next Says Next c cs w new next two are said is = record {
+      on = λ vs r.
+          let old = h.on (w ∷ vs) (subst (λ (l : List ℕ). Rest l (w ∷ vs)) (sym are) (next.more c cs w vs said r)) in
+          (old.0, old.1, old.2 ∙ two so_far w vs ∙ ap (λ (v : Verdict). fold (v ∷ vs)) (sym is));
+      off = λ ws whole.
+          let old = h.off ws whole in
+          let parts = next.split c cs old.0 (subst (λ (l : List ℕ). Rest l old.0) are old.1) in
+          (parts.1, parts.3);
+    }
+
+    -- no line is cited for a part, or it says no verdict of it
+    pub folded-uncited : (Says : ℕ → Verdict → Type 0) (Next : List ℕ → List Verdict → Type 0) → IsNext Rest Says Next → left ≡ [] → (ws : List Verdict) → Whole ws → ⊥
+    folded-uncited Says Next next are ws whole =
+        let old = h.off ws whole in
+        next.none old.0 (subst (λ (l : List ℕ). Rest l old.0) are old.1)
+
+    pub folded-unsaid : (Says : ℕ → Verdict → Type 0) (Next : List ℕ → List Verdict → Type 0) (c : ℕ) (cs : List ℕ) → IsNext Rest Says Next → left ≡ c ∷ cs
+        → ((w : Verdict) → Says c w → ⊥) → (ws : List Verdict) → Whole ws → ⊥
+    folded-unsaid Says Next c cs next are unsaid ws whole =
+        let old = h.off ws whole in
+        let parts = next.split c cs old.0 (subst (λ (l : List ℕ). Rest l old.0) are old.1) in
+        unsaid parts.0 parts.2
+
+    -- behind the last part
+    pub folded-last : IsLast Rest → ((v : Verdict) → fold (v ∷ []) ≡ v) → left ≡ [] → (ws : List Verdict) × Whole ws × (so_far ≡ fold ws)
+    folded-last last one are =
+        let old = h.on [] (subst (λ (l : List ℕ). Rest l []) (sym are) last.end) in
+        (old.0, old.1, sym (old.2 ∙ one so_far))
+
+    over : (l : List ℕ) → left ≡ l → (l ≡ [] → ⊥) → IsLast Rest → (ws : List Verdict) → Whole ws → ⊥
+    over [] are some last ws whole = absurd (some refl)
+    over (c ∷ cs) are some last ws whole =
+        let old = h.off ws whole in
+        last.none c cs old.0 (subst (λ (l : List ℕ). Rest l old.0) are old.1)
+
+    pub folded-over : IsLast Rest → (left ≡ [] → ⊥) → (ws : List Verdict) → Whole ws → ⊥
+    folded-over last some = over left refl some last
+
+-- ---- conjunctions and disjunctions
+
+pub conjunction-first : (vs : List Verdict) → conjunction vs ≡ conjunction (Skip ∷ vs)
+conjunction-first vs = refl
+
+pub conjunction-one : (v : Verdict) → conjunction (v ∷ []) ≡ v
+conjunction-one Pass = refl
+conjunction-one Fail = refl
+conjunction-one Skip = refl
+
+pub conjunction-two : (a b : Verdict) (vs : List Verdict) → conjunction (a ∷ b ∷ vs) ≡ conjunction (conjunction (a ∷ b ∷ []) ∷ vs)
+conjunction-two Fail b vs = refl
+conjunction-two Pass Fail vs = refl
+conjunction-two Pass Pass vs = refl
+conjunction-two Pass Skip vs = refl
+conjunction-two Skip Fail vs = refl
+conjunction-two Skip Pass vs = refl
+conjunction-two Skip Skip vs = refl
+
+pub disjunction-first : (vs : List Verdict) → disjunction vs ≡ disjunction (Skip ∷ vs)
+disjunction-first vs = refl
+
+pub disjunction-one : (v : Verdict) → disjunction (v ∷ []) ≡ v
+disjunction-one Pass = refl
+disjunction-one Fail = refl
+disjunction-one Skip = refl
+
+pub disjunction-two : (a b : Verdict) (vs : List Verdict) → disjunction (a ∷ b ∷ vs) ≡ disjunction (disjunction (a ∷ b ∷ []) ∷ vs)
+disjunction-two Pass b vs = refl
+disjunction-two Fail Pass vs = refl
+disjunction-two Fail Fail vs = refl
+disjunction-two Fail Skip vs = refl
+disjunction-two Skip Pass vs = refl
+disjunction-two Skip Fail vs = refl
+disjunction-two Skip Skip vs = refl
+
+-- ---- the disjunctions of a body, and the parts of a disjunction
+
+pub disj-seen : (d : Disj) → see_disj d ≡ sx.disj d.site (part_list (map see_part d.parts.items))
+disj-seen d = search (rules, the_lemmas)
+
+module _ (known : Known) (lines : List Line) (frame : ℕ) where
+  abbrev pub LeftDisjs : List Disj → List ℕ → List Verdict → Type 0
+  LeftDisjs ds cites verdicts = SayDisjs known lines frame (disj_list (map see_disj ds)) cites verdicts
+
+  abbrev pub LeftParts : List Part → List ℕ → List Verdict → Type 0
+  LeftParts ps cites verdicts = SayParts known lines frame (part_list (map see_part ps)) cites verdicts
+
+  split-disj : (n : ℕ) (ps : sx.Parts) (ds : sx.Disjs) (c : ℕ) (cs : List ℕ) (vs : List Verdict) → SayDisjs known lines frame (sx.more_disjs (sx.disj n ps) ds) (c ∷ cs) vs
+      → (w : Verdict) × (ws : List Verdict) × IsLine lines c kind.Disj frame n (says.Verdict w) × SayDisjs known lines frame ds cs ws
+  split-disj n ps ds c cs [] h = absurd h
+  split-disj n ps ds c cs (w ∷ ws) h = (w, ws, h.0, h.1)
+
+  no-disj : (n : ℕ) (ps : sx.Parts) (ds : sx.Disjs) (vs : List Verdict) → SayDisjs known lines frame (sx.more_disjs (sx.disj n ps) ds) [] vs → ⊥
+  no-disj n ps ds [] h = h
+  no-disj n ps ds (w ∷ ws) h = h
+
+  next-disj : (n : ℕ) (ps : sx.Parts) (ds : sx.Disjs) → IsNext (SayDisjs known lines frame (sx.more_disjs (sx.disj n ps) ds)) (λ c w. IsLine lines c kind.Disj frame n (says.Verdict w)) (SayDisjs known lines frame ds)
+  next-disj n ps ds = record { more = λ c cs w ws said rest. (said, rest); split = split-disj n ps ds; none = no-disj n ps ds }
+
+  pub disjs-next : (ds : List Disj) (i : ℕ) (d : Disj) → i < length ds → d ≡ get_or ds i d
+      → IsNext (LeftDisjs (drop i ds)) (λ c w. IsLine lines c kind.Disj frame d.site (says.Verdict w)) (LeftDisjs (drop (i + 1) ds))
+  disjs-next ds i d within is =
+      let front : drop i ds ≡ d ∷ drop (i + 1) ds = drop_more ds i d within ∙ ap (λ (x : Disj). x ∷ drop (i + 1) ds) (sym is) in
+      let seen : disj_list (map see_disj (drop i ds)) ≡ sx.more_disjs (sx.disj d.site (part_list (map see_part d.parts.items))) (disj_list (map see_disj (drop (i + 1) ds))) =
+      ap (λ (xs : List Disj). disj_list (map see_disj xs)) front ∙ ap (λ (x : sx.Disj). sx.more_disjs x (disj_list (map see_disj (drop (i + 1) ds)))) (disj-seen d) in
+      subst (λ (xs : sx.Disjs). IsNext (SayDisjs known lines frame xs) (λ c w. IsLine lines c kind.Disj frame d.site (says.Verdict w)) (LeftDisjs (drop (i + 1) ds))) (sym seen)
+      (next-disj d.site (part_list (map see_part d.parts.items)) (disj_list (map see_disj (drop (i + 1) ds))))
+
+  last-disjs : (c : ℕ) (cs : List ℕ) (vs : List Verdict) → SayDisjs known lines frame sx.no_disjs (c ∷ cs) vs → ⊥
+  last-disjs c cs [] h = h
+  last-disjs c cs (w ∷ ws) h = h
+
+  pub disjs-last : (ds : List Disj) (i : ℕ) → length ds ≤ i → IsLast (LeftDisjs (drop i ds))
+  disjs-last ds i past = subst (λ (xs : List Disj). IsLast (LeftDisjs xs)) (sym (drop_all i ds past)) (record { end = tt; none = last-disjs })
+
+  split-part : (p : sx.Part) (ps : sx.Parts) (c : ℕ) (cs : List ℕ) (vs : List Verdict) → SayParts known lines frame (sx.more_parts p ps) (c ∷ cs) vs
+      → (w : Verdict) × (ws : List Verdict) × SaysVerdict known lines (kind_of_part known lines p) frame (part_site p) c w × SayParts known lines frame ps cs ws
+  split-part p ps c cs [] h = absurd h
+  split-part p ps c cs (w ∷ ws) h = (w, ws, h.0, h.1)
+
+  no-part : (p : sx.Part) (ps : sx.Parts) (vs : List Verdict) → SayParts known lines frame (sx.more_parts p ps) [] vs → ⊥
+  no-part p ps [] h = h
+  no-part p ps (w ∷ ws) h = h
+
+  next-part : (p : sx.Part) (ps : sx.Parts)
+      → IsNext (SayParts known lines frame (sx.more_parts p ps)) (λ c w. SaysVerdict known lines (kind_of_part known lines p) frame (part_site p) c w) (SayParts known lines frame ps)
+  next-part p ps = record { more = λ c cs w ws said rest. (said, rest); split = split-part p ps; none = no-part p ps }
+
+  pub parts-next : (ps : List Part) (i : ℕ) (p : Part) → i < length ps → p ≡ get_or ps i p
+      → IsNext (LeftParts (drop i ps)) (λ c w. SaysVerdict known lines (kind_of_part known lines (see_part p)) frame (part_site (see_part p)) c w) (LeftParts (drop (i + 1) ps))
+  parts-next ps i p within is =
+      let front : drop i ps ≡ p ∷ drop (i + 1) ps = drop_more ps i p within ∙ ap (λ (x : Part). x ∷ drop (i + 1) ps) (sym is) in
+      subst (λ (xs : List Part). IsNext (LeftParts xs) (λ c w. SaysVerdict known lines (kind_of_part known lines (see_part p)) frame (part_site (see_part p)) c w) (LeftParts (drop (i + 1) ps))) (sym front)
+      (next-part (see_part p) (part_list (map see_part (drop (i + 1) ps))))
+
+  last-parts : (c : ℕ) (cs : List ℕ) (vs : List Verdict) → SayParts known lines frame sx.no_parts (c ∷ cs) vs → ⊥
+  last-parts c cs [] h = h
+  last-parts c cs (w ∷ ws) h = h
+
+  pub parts-last : (ps : List Part) (i : ℕ) → length ps ≤ i → IsLast (LeftParts (drop i ps))
+  parts-last ps i past = subst (λ (xs : List Part). IsLast (LeftParts xs)) (sym (drop_all i ps past)) (record { end = tt; none = last-parts })
+
+-- ---- lists of cited lines
+
+pub no-items : (xs : List ℕ) → length xs ≡ 0 → xs ≡ []
+no-items [] none = refl
+no-items (x ∷ xs) none = absurd (omega arith)
+
+pub some-items : (xs : List ℕ) → (length xs ≡ 0 → ⊥) → xs ≡ [] → ⊥
+some-items xs some none = some (ap length none)
+
+pub is-zero : (n : ℕ) → true ≡ (n == 0) → n ≡ 0
+is-zero n is = grind (arith, nat_tests)
+
+pub not-zero : (n : ℕ) → false ≡ (n == 0) → n ≡ 0 → ⊥
+not-zero n is none = grind (arith, nat_tests)
+
+-- ---- what is said is said once
+
+same-line : (o : Option Line) (l m : Line) → o ≡ Some l → o ≡ Some m → l ≡ m
+same-line o l m is also = cc
+
+module _ (lines : List Line) (of : LineKind) (frame : ℕ) where
+  one-verdict : (number site : ℕ) (v w : Verdict) → IsLine lines number of frame site (says.Verdict v) → IsLine lines number of frame site (says.Verdict w) → v ≡ w
+  one-verdict number site v w is also =
+      let same : says.Verdict v ≡ says.Verdict w =
+      sym is.outcome_is ∙ ap (λ (l : Line). l.outcome) (same-line (line_of lines number) is.line also.line is.stands also.stands) ∙ also.outcome_is in
+      cc
+
+module _ (known : Known) (lines : List Line) (frame : ℕ) where
+  same-disjs : (ds : sx.Disjs) (cs : List ℕ) (vs ws : List Verdict) → SayDisjs known lines frame ds cs vs → SayDisjs known lines frame ds cs ws → vs ≡ ws
+  same-disjs sx.no_disjs [] [] [] a b = refl
+  same-disjs sx.no_disjs [] [] (w ∷ ws) a b = absurd b
+  same-disjs (sx.more_disjs (sx.disj n ps) ds) (c ∷ cs) (v ∷ vs) (w ∷ ws) a b =
+      ap₂ (λ (x : Verdict) (xs : List Verdict). x ∷ xs) (one-verdict lines kind.Disj frame c n v w a.0 b.0) (same-disjs ds cs vs ws a.1 b.1)
+  same-disjs (sx.more_disjs (sx.disj n ps) ds) (c ∷ cs) (v ∷ vs) [] a b = absurd b
+  same-disjs ds cs vs ws a b = absurd a
+
+  same-parts : (ps : sx.Parts) (cs : List ℕ) (vs ws : List Verdict) → SayParts known lines frame ps cs vs → SayParts known lines frame ps cs ws → vs ≡ ws
+  same-parts sx.no_parts [] [] [] a b = refl
+  same-parts sx.no_parts [] [] (w ∷ ws) a b = absurd b
+  same-parts (sx.more_parts p ps) (c ∷ cs) (v ∷ vs) (w ∷ ws) a b =
+      ap₂ (λ (x : Verdict) (xs : List Verdict). x ∷ xs) (one-verdict lines (kind_of_part known lines p) frame c (part_site p) v w a.0 b.0) (same-parts ps cs vs ws a.1 b.1)
+  same-parts (sx.more_parts p ps) (c ∷ cs) (v ∷ vs) [] a b = absurd b
+  same-parts ps cs vs ws a b = absurd a
+
+-- a verdict is what all are together where it is the one that was said
+together : (same : Bool) (said verdict : Verdict) (fold : List Verdict → Verdict) (Say : List Verdict → Type 0) → ((vs ws : List Verdict) → Say vs → Say ws → vs ≡ ws)
+    → ((vs : List Verdict) × Say vs × (said ≡ fold vs)) → MatchBool same (said ≡ verdict) (said ≡ verdict → ⊥)
+    → MatchBool same ((vs : List Verdict) × Say vs × (verdict ≡ fold vs)) (((vs : List Verdict) × Say vs × (verdict ≡ fold vs)) → ⊥)
+together true said verdict fold Say once (vs, say, is) same = (vs, say, sym same ∙ is)
+together false said verdict fold Say once (vs, say, is) other = λ h. other (is ∙ ap fold (once vs h.0 say h.1) ∙ sym h.2)
+
+module _ (known : Known) (lines : List Line) (frame : ℕ) (cites : List ℕ) (same : Bool) (said verdict : Verdict) (is : MatchBool same (said ≡ verdict) (said ≡ verdict → ⊥)) where
+  pub conj-said : (ds : List Disj) → ((vs : List Verdict) × SayDisjs known lines frame (disj_list (map see_disj ds)) cites vs × (said ≡ conjunction vs))
+      → MatchBool same (FollowsConj known lines frame (disj_list (map see_disj ds)) cites verdict) (FollowsConj known lines frame (disj_list (map see_disj ds)) cites verdict → ⊥)
+  conj-said ds say = together same said verdict conjunction (SayDisjs known lines frame (disj_list (map see_disj ds)) cites) (same-disjs known lines frame (disj_list (map see_disj ds)) cites) say is
+
+  pub disj-said : (d : Disj) (ps : List Part) → ps ≡ d.parts.items → ((vs : List Verdict) × SayParts known lines frame (part_list (map see_part ps)) cites vs × (said ≡ disjunction vs))
+      → MatchBool same (FollowsDisj known lines frame (see_disj d) cites verdict) (FollowsDisj known lines frame (see_disj d) cites verdict → ⊥)
+  disj-said d ps are say =
+      let seen : sx.disj d.site (part_list (map see_part ps)) ≡ see_disj d = ap (λ (xs : List Part). sx.disj d.site (part_list (map see_part xs))) are ∙ sym (disj-seen d) in
+      subst (λ (x : sx.Disj). MatchBool same (FollowsDisj known lines frame x cites verdict) (FollowsDisj known lines frame x cites verdict → ⊥)) seen
+      (together same said verdict disjunction (SayParts known lines frame (part_list (map see_part ps)) cites) (same-parts known lines frame (part_list (map see_part ps)) cites) say is)
+
+-- the parts outside rules, where there are some, by the one line that is cited
+pub loose-said : (known : Known) (lines : List Line) (frame : ℕ) (verdict : Verdict) (r : Bool) (ds : List Disj) (cites : List ℕ) → (length ds ≡ 0 → ⊥) → 1 ≤ length cites → length cites < 2
+    → MatchBool r (IsLine lines (get_or cites 0 0) kind.Conj frame 0 (says.Verdict verdict)) (IsLine lines (get_or cites 0 0) kind.Conj frame 0 (says.Verdict verdict) → ⊥)
+    → MatchBool r (FollowsLoose known lines frame (disj_list (map see_disj ds)) cites verdict) (FollowsLoose known lines frame (disj_list (map see_disj ds)) cites verdict → ⊥)
+loose-said known lines frame verdict r [] cites some least most said = absurd (some refl)
+loose-said known lines frame verdict r (d ∷ ds) [] some least most said = absurd (omega arith)
+loose-said known lines frame verdict r (d ∷ ds) (c ∷ []) some least most said = said
+loose-said known lines frame verdict r (d ∷ ds) (c ∷ e ∷ cs) some least most said = absurd (omega arith)

@@ -1,0 +1,29 @@
+use Rattle.std.proofs.Common.{List, length, map, ap, subst, sym, ◌∙◌}
+use Rattle.std.specs.declared.alloc.Global.{Global}
+use Rattle.std.specs.declared.vec.Vec.{Vec}
+use Rattle.guard_builtins.specs.Seen.{see_rows}
+use Rattle.guard_syntax.specs.Seen.{expr_list, see_expr}
+use Rattle.guard_syntax.specs.declared.row.Row.{Row}
+use Rattle.name_table.specs.Files.{file_of}
+use Rattle.query_steps.specs.CitedLines.{GiveArgs}
+use Rattle.value_compare.specs.Stores.{see_store}
+use Rattle.evidence_checker.proofs.CallsFollow.{args-given, call-counted, call-pattern}
+use Rattle.evidence_checker.proofs.calls.answer_of.Goals as goal
+
+pub returns-in_default-clause-answer : goal.returns-in_default-clause-answer
+returns-in_default-clause-answer c = λ answer is. c.in_default.ensures is.called is.args is.stands
+
+pub call-requires-clause-count : goal.call-requires-clause-count
+call-requires-clause-count c =
+    let es = expr_list (map see_expr c.in-Some.called.args.now) in
+    let gives = args-given (file_of c.args.store.now.file.now) c.args.lines.now c.args.frame es c.args.cites.now c.in_ok-given.field-0 c.in_ok-given.ensures c.in-Some-2.given c.in-Some-2.is in
+    ap length c.deref.ensures.value
+    ∙ call-counted (see_store c.args.store.now) c.args.site c.in-Some.called.function es c.args.store.now.file.now.sites c.args.store.now.file.now.named c.in-Some.ensures c.args.lines.now c.args.frame c.args.cites.now c.in-Some-2.given.items gives
+
+pub call-requires-clause-pattern : goal.call-requires-clause-pattern
+call-requires-clause-pattern c =
+    let es = expr_list (map see_expr c.in-Some.called.args.now) in
+    let gives = args-given (file_of c.args.store.now.file.now) c.args.lines.now c.args.frame es c.args.cites.now c.in_ok-given.field-0 c.in_ok-given.ensures c.in-Some-2.given c.in-Some-2.is in
+    let there = subst (λ (all : List (Vec Row Global)). GiveArgs (file_of c.args.store.now.file.now) c.args.lines.now c.args.frame es c.args.cites.now (map see_rows all)) (sym c.deref.ensures.value) gives in
+    call-pattern (see_store c.args.store.now) c.args.site c.in-Some.called.function es c.args.store.now.file.now.sites c.args.store.now.file.now.named c.in-Some.ensures c.args.book.now c.requires.book c.args.lines.now c.requires.sound
+    c.args.frame c.args.cites.now (map see_rows c.deref.result.now) there

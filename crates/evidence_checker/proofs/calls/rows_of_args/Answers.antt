@@ -1,0 +1,21 @@
+use Rattle.std.proofs.Common.{◌++◌, [], ◌∷◌, List, arith, map, ap, ◌∙◌}
+use Rattle.std.proofs.lemmas.List.{map-append}
+use Rattle.guard_builtins.specs.Seen.{see_rows}
+use Rattle.guard_syntax.specs.declared.row.Row.{Row}
+use Rattle.name_table.specs.Files.{file_of}
+use Rattle.evidence_checker.proofs.ArgumentsGiven.{args-counted, args-lacking, args-next}
+use Rattle.evidence_checker.proofs.calls.rows_of_args.Goals as goal
+
+pub returns-then-args-cites : goal.returns-then-args-cites
+returns-then-args-cites c = λ all h. let many = args-counted (file_of c.args.file.now) c.args.lines.now c.args.frame c.args.args.now c.args.cites.now all h in absurd (omega (arith, c.if-args-cites.true, many))
+
+pub returns-in_default : goal.returns-in_default
+returns-in_default c =
+    args-lacking (file_of c.args.file.now) c.args.lines.now c.args.frame c.args.args.now c.args.cites.now c.loop-at.at c.index-args-at.result (omega arith) c.index-args-at.is c.in_default.ensures
+
+pub loop-at-preserved : goal.loop-at-preserved
+loop-at-preserved c =
+    args-next (file_of c.args.file.now) c.args.lines.now c.args.frame c.args.args.now c.args.cites.now c.loop-at.at c.index-args-at.result (omega arith) (omega (arith, c.if-args-cites.false)) c.index-args-at.is
+    (map see_rows c.loop-at.all.items) (map see_rows c.push.new.self.items) c.in-Some.rows.now c.loop-at.invariant c.in-Some.ensures
+    (ap (map see_rows) c.in_ok-push.ensures.items ∙ map-append see_rows c.loop-at.all.items (c.in_ok-to_vec.field-0 ∷ [])
+    ∙ ap (λ (rows : List Row). map see_rows c.loop-at.all.items ++ rows ∷ []) (c.in_ok-to_vec.ensures.items_if_clones_equal (λ x y h. h)))

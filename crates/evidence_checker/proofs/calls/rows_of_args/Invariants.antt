@@ -1,0 +1,9 @@
+use Rattle.std.proofs.Common.{map, take}
+use Rattle.guard_builtins.specs.Seen.{see_rows}
+use Rattle.guard_syntax.specs.Seen.{expr_list, see_expr}
+use Rattle.name_table.specs.Files.{file_of}
+use Rattle.query_steps.specs.CitedLines.{GiveArgs}
+use Rattle.evidence_checker.proofs.calls.rows_of_args.Given as goal
+
+abbrev pub invariant-loop-at : goal.invariant-loop-at
+invariant-loop-at l = GiveArgs (file_of l.file) l.lines l.frame (expr_list (map see_expr (take l.at l.args))) (take l.at l.cites) (map see_rows l.all.items)

@@ -1,0 +1,16 @@
+use Rattle.std.proofs.Common.{◌≡◌, ◌≤◌, length, take}
+use Rattle.value_compare.specs.Stores.{see_store}
+use Rattle.evidence_checker.specs.Judging.{AreJudged, IsKnownBehind}
+use Rattle.evidence_checker.specs.Said.{AreMadeWithin, AreSound}
+use Rattle.evidence_checker.proofs.judge.first_fault.Given as goal
+
+abbrev pub invariant-loop-before : goal.invariant-loop-before
+invariant-loop-before l = record {
+  index : l.before ≤ length l.lines;
+  file : (see_store l.store).file ≡ (see_store l.initial.store).file;
+  behind : IsKnownBehind (see_store l.initial.store) (take l.before l.lines) (see_store l.store);
+  judged : AreJudged (take l.before l.lines) l.judged.of.items;
+  sites : length l.judged.of.items ≡ length (see_store l.store).file.places;
+  sound : AreSound (see_store l.store) (take l.before l.lines);
+  made : AreMadeWithin l.before (see_store l.store).made;
+}

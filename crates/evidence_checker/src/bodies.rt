@@ -1,0 +1,174 @@
+//! Verdicts of bodies: in a frame of any value, and on rows.
+ghost use Rattle.std.specs.Prelude.{◌≡◌, List, [], ◌∷◌, ℕ, MatchBool, MatchOption};
+ghost use Rattle.evidence_lines.specs.declared.line.LineKind.TheVariants as kind;
+ghost use Rattle.evidence_lines.specs.declared.line.Outcome.TheVariants as says;
+ghost use Rattle.guard_syntax.specs.Seen.{see_body};
+ghost use Rattle.guard_syntax.specs.declared.row.Ref.{Ref};
+ghost use Rattle.guard_syntax.specs.declared.row.Verdict.{Verdict};
+ghost use Rattle.query_steps.specs.CitedLines.{IsLine};
+ghost use Rattle.query_steps.specs.Follows.{FollowsBody, FollowsRowsOf, SaysBody};
+ghost use Rattle.query_steps.specs.Verdicts.{block_verdict, conjunction, disjunction};
+ghost use Rattle.evidence_checker.specs.FirstCites.{SaysRow};
+ghost use Rattle.evidence_checker.specs.Grounds.{known_of, lines_of};
+
+use crate::cited::{line_of, said, verdict_said};
+use crate::framed::framed_verdict;
+use crate::ground::Ground;
+use evidence_lines::{Line, LineKind, Outcome};
+use guard_syntax::{Body, Row, Verdict};
+
+/// Whether the verdict of a body in a frame of this one follows, from the one line that is cited.
+pub(crate) fn body_follows(
+    ground: &Ground<'_, '_, '_>,
+    frame: u64,
+    body: &Body,
+    cites: &[u64],
+    verdict: Verdict,
+) -> bool
+    ensures { MatchBool result
+        (FollowsBody (known_of ground.now) (lines_of ground.now) frame (see_body body.now) cites.now verdict)
+        (FollowsBody (known_of ground.now) (lines_of ground.now) frame (see_body body.now) cites.now verdict → ⊥) }
+{
+    match cites {
+        [number] => {
+            match said_within(ground.lines, *number, frame, body.site, body.site) {
+                Some(said) => verdict == said,
+                None => false,
+            }
+        }
+        _ => false,
+    }
+}
+
+/// The verdict that the `conj` line of a number says of a site, where its frame is one of a scope's site in a frame, with
+/// any value.
+pub(crate) fn said_within(
+    lines: &[Line],
+    number: u64,
+    frame: u64,
+    scope: u32,
+    site: u32,
+) -> Option<Verdict>
+    ensures { MatchOption result
+        ((at : ℕ) → (value : Ref) → (verdict : Verdict) → IsLine lines.now at kind.Frame frame scope (says.Value value) → IsLine lines.now number kind.Conj at site (says.Verdict verdict) → ⊥)
+        (λ verdict. (at : ℕ) × (value : Ref) × IsLine lines.now at kind.Frame frame scope (says.Value value) × IsLine lines.now number kind.Conj at site (says.Verdict verdict)) }
+{
+    let at = line_of(lines, number)?.frame?;
+    if is_frame_at(lines, at, frame, scope) {
+        verdict_said(lines, number, LineKind::Conj, at, site)
+    } else {
+        None
+    }
+}
+
+/// Whether the line of a number is a frame of a site in a frame, with any value.
+fn is_frame_at(lines: &[Line], number: u64, frame: u64, site: u32) -> bool
+    ensures { MatchBool result
+        ((value : Ref) × IsLine lines.now number kind.Frame frame site (says.Value value))
+        ((value : Ref) → IsLine lines.now number kind.Frame frame site (says.Value value) → ⊥) }
+{
+    match said(lines, number, LineKind::Frame, frame, site) {
+        Some(Outcome::Value(_)) => true,
+        _ => false,
+    }
+}
+
+/// Whether the verdict of a body on rows follows: with `any` one of them has to hold, else each. A row that was found has
+/// one cite.
+pub(crate) fn body_follows_on(
+    ground: &Ground<'_, '_, '_>,
+    frame: u64,
+    any: bool,
+    body: &Body,
+    rows: &[Row],
+    cites: &[u64],
+    verdict: Verdict,
+) -> bool
+    ensures { MatchBool result
+        (FollowsRowsOf (known_of ground.now) (lines_of ground.now) frame any (see_body body.now) rows.now cites.now verdict)
+        (FollowsRowsOf (known_of ground.now) (lines_of ground.now) frame any (see_body body.now) rows.now cites.now verdict → ⊥) }
+{
+    let mut before = Verdict::Skip;
+    let mut left = cites;
+    for row in rows {
+        let Some(judged) = judged_row(ground, frame, body, row, left) else {
+            return false;
+        };
+        before = joined(any, before, judged.verdict);
+        left = judged.left;
+    }
+    ends_with(left, before, verdict)
+}
+
+/// Whether no cite is left, and the verdict is the one that was said.
+pub(crate) fn ends_with(cites: &[u64], said: Verdict, verdict: Verdict) -> bool
+    ensures { MatchBool result ((cites.now ≡ []) × (verdict ≡ said)) ((cites.now ≡ []) × (verdict ≡ said) → ⊥) }
+{
+    match cites {
+        [] => verdict == said,
+        _ => false,
+    }
+}
+
+/// The verdict of a body on a row, and the cites behind its own.
+#[derive(Clone, Copy)]
+struct JudgedRow<'c> {
+    verdict: Verdict,
+    left: &'c [u64],
+}
+
+/// What the first cite says of a row that was found; any other row is FAIL, and has no cite.
+fn judged_row<'c>(
+    ground: &Ground<'_, '_, '_>,
+    frame: u64,
+    body: &Body,
+    row: &Row,
+    cites: &'c [u64],
+) -> Option<JudgedRow<'c>>
+    ensures { MatchOption result
+        ((verdict : Verdict) → (left : List ℕ) → SaysRow (SaysBody (known_of ground.now) (lines_of ground.now) frame (see_body body.now)) row.now cites.entry.now verdict left → ⊥)
+        (λ judged. SaysRow (SaysBody (known_of ground.now) (lines_of ground.now) frame (see_body body.now)) row.now cites.entry.now judged.verdict judged.left.now) }
+{
+    let Row::Found(value) = row else {
+        return Some(JudgedRow {
+            verdict: Verdict::Fail,
+            left: cites,
+        });
+    };
+    let (first, left) = cites.split_first()?;
+    let verdict = framed_verdict(ground.lines, *first, frame, body.site, *value, body.site)?;
+    Some(JudgedRow { verdict, left })
+}
+
+/// The verdict of a block with one row more.
+fn joined(any: bool, before: Verdict, row: Verdict) -> Verdict
+    ensures { result ≡ block_verdict any (before ∷ row ∷ []) }
+{
+    if any {
+        either(before, row)
+    } else {
+        both(before, row)
+    }
+}
+
+/// The conjunction of two verdicts.
+fn both(before: Verdict, row: Verdict) -> Verdict
+    ensures { result ≡ conjunction (before ∷ row ∷ []) }
+{
+    match (before, row) {
+        (Verdict::Fail, _) | (_, Verdict::Fail) => Verdict::Fail,
+        (Verdict::Pass, _) | (_, Verdict::Pass) => Verdict::Pass,
+        (Verdict::Skip, Verdict::Skip) => Verdict::Skip,
+    }
+}
+
+/// The disjunction of two verdicts.
+fn either(before: Verdict, row: Verdict) -> Verdict
+    ensures { result ≡ disjunction (before ∷ row ∷ []) }
+{
+    match (before, row) {
+        (Verdict::Pass, _) | (_, Verdict::Pass) => Verdict::Pass,
+        (Verdict::Fail, _) | (_, Verdict::Fail) => Verdict::Fail,
+        (Verdict::Skip, Verdict::Skip) => Verdict::Skip,
+    }
+}

@@ -1,0 +1,179 @@
+//! The judge of evidence.
+ghost use Rattle.std.specs.Prelude.{◌≡◌, ◌^◌, ◌<◌, ◌≤◌, ◌++◌, [], List, Some, false, true, map, IfOk, MatchOption, length, take};
+ghost use Rattle.doc_values.specs.Tree.{Forest};
+ghost use Rattle.evidence_lines.specs.declared.line.Line.{Line};
+ghost use Rattle.guard_syntax.specs.Seen.{disj_list, see_disj, see_file, see_rule};
+ghost use Rattle.guard_syntax.specs.Syntax.{Disjs};
+ghost use Rattle.guard_syntax.specs.declared.row.Verdict.{Verdict};
+ghost use Rattle.name_table.specs.Files.{file_of};
+ghost use Rattle.value_compare.specs.Books.{IsBookOf};
+ghost use Rattle.value_compare.specs.Stores.{see_store};
+ghost use Rattle.value_compare.specs.Values.{has_pattern};
+ghost use Rattle.query_steps.specs.Follows.{AllFollow, nothing_made};
+ghost use Rattle.evidence_checker.specs.Answered.{AreOfLoose, AreOfRules, IsAnswer};
+ghost use Rattle.evidence_checker.specs.Judging.{AreJudged, IsFaultAt, IsLooseWanting, IsRuleWanting, IsWanting};
+ghost use Rattle.evidence_checker.specs.Owned.{AreOwners};
+
+use crate::judged::Judged;
+use crate::line::line_follows;
+use crate::owners::Owners;
+use doc_values::Doc;
+use evidence_lines::{Evidence, Line};
+use guard_syntax::{Disj, RawFile, Rule, Verdict};
+use name_table::RuleFile;
+use std::alloc::{AllocError, Global};
+use value_compare::{PatternBook, Store};
+
+/// What evidence is found to be.
+#[derive(Drop)]
+pub enum Answer {
+    /// Each line follows and no verdict is wanting: the verdicts of the rules without parameters in the order of the file,
+    /// and then that of the parts outside rules, if there are some.
+    Accepted(Vec<Verdict>),
+    /// The number of the first line that does not follow; where each follows and a verdict is wanting, that behind the last.
+    Rejected(u64),
+}
+
+/// Judges evidence for the verdicts of a rule file over a template, line by line, each from the lines that it names and one
+/// part of the file. The book was made of the file, and the template is without patterns.
+pub fn check<'t, 's>(
+    alloc: Global,
+    file: &'t RuleFile,
+    doc: &'t Doc<'s>,
+    book: &'t PatternBook,
+    evidence: &Evidence,
+) -> Result<Answer, AllocError>
+    requires plain { has_pattern doc.now ≡ false }
+    requires book { IsBookOf (file_of file.now) book.now }
+    ensures { IfOk result (λ answer. IsAnswer doc.now (file_of file.now) evidence.now answer) }
+{
+    let lines = evidence.as_slice();
+    let owners = Owners::new(alloc, file)?;
+    let mut judged = Judged::new(alloc, file.raw().places.as_slice().len())?;
+    let mut store = Store::new(alloc, doc, file);
+    match first_fault(alloc, &mut store, book, &owners, &mut judged, lines)? {
+        Some(number) => Ok(Answer::Rejected(number)),
+        None => answer_of(alloc, file.raw(), &judged, lines.len() as u64),
+    }
+}
+
+/// The answer where each of so many lines follows, by what their `rule` lines say.
+fn answer_of(
+    alloc: Global,
+    file: &RawFile,
+    judged: &Judged,
+    count: u64,
+) -> Result<Answer, AllocError>
+    requires { count < 2 ^ 63 }
+    ensures { (template : Forest) → (lines : List Line) → count ≡ length lines → AreJudged lines judged.now.of.items → AllFollow (nothing_made template (see_file file.now)) [] lines
+        → IfOk result (λ answer. IsAnswer template (see_file file.now) lines answer) }
+{
+    match all_verdicts(alloc, file, judged)? {
+        Some(verdicts) => Ok(Answer::Accepted(verdicts)),
+        None => Ok(Answer::Rejected(count + 1)),
+    }
+}
+
+/// The number of the first line that does not follow, if there is one; else the table has the verdicts of all `rule` lines.
+fn first_fault(
+    alloc: Global,
+    store: &mut Store<'_, '_>,
+    book: &PatternBook,
+    owners: &Owners,
+    judged: &mut Judged,
+    lines: &[Line],
+) -> Result<Option<u64>, AllocError>
+    requires book { IsBookOf (see_store store.old).file book.now }
+    requires owners { AreOwners (see_store store.old).file owners.now }
+    requires judged { AreJudged [] judged.old.of.items }
+    requires sites { length judged.old.of.items ≡ length (see_store store.old).file.places }
+    requires made { (see_store store.old).made ≡ [] }
+    ensures { IfOk result (λ fault. MatchOption fault
+        (AllFollow (see_store store.old) [] lines.now × AreJudged lines.now judged.new.of.items)
+        (λ number. IsFaultAt (see_store store.old) lines.now number)) }
+{
+    for (before, line) in lines.iter().enumerate() {
+        if !line_follows(
+            alloc,
+            store,
+            book,
+            owners,
+            judged,
+            first_lines(lines, before),
+            line,
+        )? {
+            return Ok(Some(before as u64 + 1));
+        }
+        judged.note(line);
+    }
+    Ok(None)
+}
+
+/// The first lines, as many as `count`.
+fn first_lines(lines: &[Line], count: usize) -> &[Line]
+    requires { count ≤ length lines.now }
+    ensures { result.now ≡ take count lines.entry.now }
+{
+    &lines[..count]
+}
+
+/// The verdicts of the rules without parameters and of the parts outside rules, unless one is wanting.
+fn all_verdicts(
+    alloc: Global,
+    file: &RawFile,
+    judged: &Judged,
+) -> Result<Option<Vec<Verdict>>, AllocError>
+    ensures { (lines : List Line) → AreJudged lines judged.now.of.items → IfOk result (λ all. MatchOption all
+        (IsWanting lines (see_file file.now).rules (see_file file.now).loose)
+        (λ verdicts. AreOfRules lines (see_file file.now).rules (see_file file.now).loose verdicts.items)) }
+{
+    let Some(verdicts) = rule_verdicts(alloc, &file.rules, judged)? else {
+        return Ok(None);
+    };
+    let all = with_loose(verdicts, &file.loose, judged)?;
+    Ok(all)
+}
+
+/// The verdicts with that of the parts outside rules behind them, if there are some, unless it is wanting.
+fn with_loose(
+    verdicts: Vec<Verdict>,
+    loose: &[Disj],
+    judged: &Judged,
+) -> Result<Option<Vec<Verdict>>, AllocError>
+    ensures { (lines : List Line) → AreJudged lines judged.now.of.items → IfOk result (λ all. MatchOption all
+        (IsLooseWanting lines (disj_list (map see_disj loose.now)))
+        (λ all. (last : List Verdict) × AreOfLoose lines (disj_list (map see_disj loose.now)) last × (all.items ≡ verdicts.items ++ last))) }
+{
+    if loose.is_empty() {
+        return Ok(Some(verdicts));
+    }
+    let Some(verdict) = judged.verdict(0) else {
+        return Ok(None);
+    };
+    let mut all = verdicts;
+    all.push(verdict)?;
+    Ok(Some(all))
+}
+
+/// The verdicts of the rules without parameters, unless one is wanting.
+fn rule_verdicts(
+    alloc: Global,
+    rules: &[Rule],
+    judged: &Judged,
+) -> Result<Option<Vec<Verdict>>, AllocError>
+    ensures { (lines : List Line) → AreJudged lines judged.now.of.items → IfOk result (λ all. MatchOption all
+        (IsRuleWanting lines (map see_rule rules.now))
+        (λ verdicts. (loose : Disjs) → (last : List Verdict) → AreOfLoose lines loose last → AreOfRules lines (map see_rule rules.now) loose (verdicts.items ++ last))) }
+{
+    let mut verdicts = Vec::new(alloc);
+    for rule in rules {
+        if !rule.params.as_slice().is_empty() {
+            continue;
+        }
+        let Some(verdict) = judged.verdict(rule.site) else {
+            return Ok(None);
+        };
+        verdicts.push(verdict)?;
+    }
+    Ok(Some(verdicts))
+}

@@ -1,0 +1,270 @@
+//! Lines of verdicts of single parts and of rules.
+ghost use Rattle.std.specs.Prelude.{◌≡◌, List, ℕ, IfOk, MatchBool, MatchOption, Some};
+ghost use Rattle.evidence_lines.specs.declared.line.Line.{Line};
+ghost use Rattle.evidence_lines.specs.declared.line.LineKind.TheVariants as kind;
+ghost use Rattle.guard_syntax.specs.Seen.{see_body, see_conds, see_opt_conds, see_part, see_query, see_rule};
+ghost use Rattle.guard_syntax.specs.declared.row.Verdict.{Verdict};
+ghost use Rattle.name_table.specs.Pieces.{OfRule};
+ghost use Rattle.query_steps.specs.Follows.{FollowsAtPart, FollowsBlock, FollowsBody, FollowsRule, FollowsTyped, FollowsVerdict, IsFileFrame, IsNewRule, Under, UnderSome, kind_of_part};
+ghost use Rattle.value_compare.specs.Known.{Known};
+ghost use Rattle.evidence_checker.specs.FirstCites.{IsGuard, IsSomeGuard};
+ghost use Rattle.evidence_checker.specs.Grounds.{known_of, lines_of};
+
+use crate::bodies::{body_follows, body_follows_on, ends_with};
+use crate::cited::{line_of, rows_said, verdict_said};
+use crate::given::given_by_query;
+use crate::ground::Ground;
+use crate::tested::test_follows;
+use crate::uses::{call_follows, reference_follows};
+use evidence_lines::{Line, LineKind};
+use guard_syntax::{Body, Conds, Part, Query, Rule, Verdict};
+use std::alloc::{AllocError, Global};
+
+/// Whether a line of the verdict of a part follows: a test, a reference, a call, a `when` block, a block or a type block.
+pub(crate) fn part_follows(
+    alloc: Global,
+    ground: &Ground<'_, '_, '_>,
+    frame: u64,
+    site: u32,
+    kind: LineKind,
+    part: &Part,
+    cites: &[u64],
+    verdict: Verdict,
+) -> Result<bool, AllocError>
+    ensures { IfOk result (λ follows. MatchBool follows
+        (FollowsAtPart (known_of ground.now) (lines_of ground.now) frame site kind (see_part part.now) cites.now verdict)
+        (FollowsAtPart (known_of ground.now) (lines_of ground.now) frame site kind (see_part part.now) cites.now verdict → ⊥)) }
+{
+    if kind != kind_of_part(part) {
+        return Ok(false);
+    }
+    match part {
+        Part::Block {
+            any,
+            head,
+            body,
+            ..
+        } => Ok(block_follows(ground, frame, *any, head, body, cites, verdict)),
+        Part::When { cond, body, .. } => {
+            Ok(when_follows(ground, frame, cond, body, cites, verdict))
+        }
+        Part::Kinds { cond, body, .. } => Ok(kinds_follows(
+            ground, frame, site, cond, body, cites, verdict,
+        )),
+        Part::Test {
+            any,
+            left,
+            op,
+            not,
+            right,
+            ..
+        } => test_follows(
+            alloc, ground, frame, *any, left, *op, *not, right, cites, verdict,
+        ),
+        Part::Refer { not, .. } => Ok(reference_follows(ground, site, *not, cites, verdict)),
+        Part::Call { not, .. } => Ok(call_follows(ground, frame, site, *not, cites, verdict)),
+    }
+}
+
+/// The kind of a part's line.
+fn kind_of_part(part: &Part) -> LineKind
+    ensures { (known : Known) → (ls : List Line) → result ≡ kind_of_part known ls (see_part part.now) }
+{
+    match part {
+        Part::Block { .. } => LineKind::Block,
+        Part::When { .. } => LineKind::When,
+        Part::Kinds { .. } => LineKind::Kinds,
+        Part::Test { .. } => LineKind::Test,
+        Part::Refer { .. } => LineKind::Refer,
+        Part::Call { .. } => LineKind::Call,
+    }
+}
+
+/// Whether the line of a block follows.
+fn block_follows(
+    ground: &Ground<'_, '_, '_>,
+    frame: u64,
+    any: bool,
+    head: &Query,
+    body: &Body,
+    cites: &[u64],
+    verdict: Verdict,
+) -> bool
+    ensures { MatchBool result
+        (FollowsBlock (known_of ground.now) (lines_of ground.now) frame any (see_query head.now) (see_body body.now) cites.now verdict)
+        (FollowsBlock (known_of ground.now) (lines_of ground.now) frame any (see_query head.now) (see_body body.now) cites.now verdict → ⊥) }
+{
+    let Some((first, others)) = cites.split_first() else {
+        return false;
+    };
+    match given_by_query(ground.store.file, ground.lines, frame, head, *first) {
+        Some(rows) => body_follows_on(ground, frame, any, body, rows, others, verdict),
+        None => false,
+    }
+}
+
+/// Whether the line of a `when` block follows.
+fn when_follows(
+    ground: &Ground<'_, '_, '_>,
+    frame: u64,
+    cond: &Conds,
+    body: &Body,
+    cites: &[u64],
+    verdict: Verdict,
+) -> bool
+    ensures { MatchBool result
+        (Under (known_of ground.now) (lines_of ground.now) frame (see_conds cond.now) (FollowsBody (known_of ground.now) (lines_of ground.now) frame (see_body body.now)) cites.now verdict)
+        (Under (known_of ground.now) (lines_of ground.now) frame (see_conds cond.now) (FollowsBody (known_of ground.now) (lines_of ground.now) frame (see_body body.now)) cites.now verdict → ⊥) }
+{
+    let Some(guard) = conditions(ground.lines, frame, cond, cites) else {
+        return false;
+    };
+    match guard.said {
+        Verdict::Pass => body_follows(ground, frame, body, guard.left, verdict),
+        Verdict::Fail => ends_with(guard.left, Verdict::Skip, verdict),
+        Verdict::Skip => ends_with(guard.left, Verdict::Skip, verdict),
+    }
+}
+
+/// Whether the line of a type block follows.
+fn kinds_follows(
+    ground: &Ground<'_, '_, '_>,
+    frame: u64,
+    site: u32,
+    cond: &Option<Conds>,
+    body: &Body,
+    cites: &[u64],
+    verdict: Verdict,
+) -> bool
+    ensures { MatchBool result
+        (UnderSome (known_of ground.now) (lines_of ground.now) frame (see_opt_conds cond.now) (FollowsTyped (known_of ground.now) (lines_of ground.now) frame site (see_body body.now)) cites.now verdict)
+        (UnderSome (known_of ground.now) (lines_of ground.now) frame (see_opt_conds cond.now) (FollowsTyped (known_of ground.now) (lines_of ground.now) frame site (see_body body.now)) cites.now verdict → ⊥) }
+{
+    let Some(guard) = some_conditions(ground.lines, frame, cond, cites) else {
+        return false;
+    };
+    match guard.said {
+        Verdict::Pass => typed_follows(ground, frame, site, body, guard.left, verdict),
+        Verdict::Fail => ends_with(guard.left, Verdict::Skip, verdict),
+        Verdict::Skip => ends_with(guard.left, Verdict::Skip, verdict),
+    }
+}
+
+/// Whether the verdict of a type block's body on its rows follows.
+fn typed_follows(
+    ground: &Ground<'_, '_, '_>,
+    frame: u64,
+    site: u32,
+    body: &Body,
+    cites: &[u64],
+    verdict: Verdict,
+) -> bool
+    ensures { MatchBool result
+        (FollowsTyped (known_of ground.now) (lines_of ground.now) frame site (see_body body.now) cites.now verdict)
+        (FollowsTyped (known_of ground.now) (lines_of ground.now) frame site (see_body body.now) cites.now verdict → ⊥) }
+{
+    let Some((first, others)) = cites.split_first() else {
+        return false;
+    };
+    match rows_said(ground.lines, *first, LineKind::Types, frame, site) {
+        Some(rows) => body_follows_on(ground, frame, false, body, rows, others, verdict),
+        None => false,
+    }
+}
+
+/// Whether the line of a rule follows; `new` is whether no earlier `rule` line has its site.
+pub(crate) fn rule_follows(
+    ground: &Ground<'_, '_, '_>,
+    new: bool,
+    frame: u64,
+    site: u32,
+    rule: &Rule,
+    cites: &[u64],
+    verdict: Verdict,
+) -> bool
+    requires new { MatchBool new (IsNewRule (known_of ground.now) (lines_of ground.now) site) (IsNewRule (known_of ground.now) (lines_of ground.now) site → ⊥) }
+    ensures { MatchBool result
+        (FollowsVerdict (known_of ground.now) (lines_of ground.now) frame site kind.Rule (Some (OfRule (see_rule rule.now))) cites.now verdict)
+        (FollowsVerdict (known_of ground.now) (lines_of ground.now) frame site kind.Rule (Some (OfRule (see_rule rule.now))) cites.now verdict → ⊥) }
+{
+    if !new {
+        return false;
+    }
+    if !is_file_frame(ground, frame) {
+        return false;
+    }
+    is_rule_verdict(ground, frame, rule, cites, verdict)
+}
+
+/// Whether the line of a number is that of the file.
+fn is_file_frame(ground: &Ground<'_, '_, '_>, frame: u64) -> bool
+    ensures { MatchBool result (IsFileFrame (known_of ground.now) (lines_of ground.now) frame) (IsFileFrame (known_of ground.now) (lines_of ground.now) frame → ⊥) }
+{
+    match line_of(ground.lines, frame) {
+        Some(line) => line.kind == LineKind::File,
+        None => false,
+    }
+}
+
+/// Whether the verdict of a rule follows: it has no parameters.
+fn is_rule_verdict(
+    ground: &Ground<'_, '_, '_>,
+    frame: u64,
+    rule: &Rule,
+    cites: &[u64],
+    verdict: Verdict,
+) -> bool
+    ensures { MatchBool result
+        (FollowsRule (known_of ground.now) (lines_of ground.now) frame (see_rule rule.now) cites.now verdict)
+        (FollowsRule (known_of ground.now) (lines_of ground.now) frame (see_rule rule.now) cites.now verdict → ⊥) }
+{
+    if !rule.params.as_slice().is_empty() {
+        return false;
+    }
+    let Some(guard) = some_conditions(ground.lines, frame, &rule.cond, cites) else {
+        return false;
+    };
+    match guard.said {
+        Verdict::Pass => body_follows(ground, frame, &rule.body, guard.left, verdict),
+        Verdict::Fail => ends_with(guard.left, Verdict::Skip, verdict),
+        Verdict::Skip => ends_with(guard.left, Verdict::Skip, verdict),
+    }
+}
+
+/// What the line of conditions says, and the cites behind it.
+#[derive(Clone, Copy)]
+pub(crate) struct Guard<'c> {
+    pub said: Verdict,
+    pub left: &'c [u64],
+}
+
+/// The line of conditions: the first cite.
+fn conditions<'c>(lines: &[Line], frame: u64, cond: &Conds, cites: &'c [u64]) -> Option<Guard<'c>>
+    ensures { MatchOption result
+        ((said : Verdict) → (left : List ℕ) → IsGuard lines.now frame (see_conds cond.now) cites.entry.now said left → ⊥)
+        (λ guard. IsGuard lines.now frame (see_conds cond.now) cites.entry.now guard.said guard.left.now) }
+{
+    let (first, left) = cites.split_first()?;
+    let said = verdict_said(lines, *first, LineKind::Conj, frame, cond.site)?;
+    Some(Guard { said, left })
+}
+
+/// That of conditions, if there are some; without any, all cites are left.
+fn some_conditions<'c>(
+    lines: &[Line],
+    frame: u64,
+    cond: &Option<Conds>,
+    cites: &'c [u64],
+) -> Option<Guard<'c>>
+    ensures { MatchOption result
+        ((said : Verdict) → (left : List ℕ) → IsSomeGuard lines.now frame (see_opt_conds cond.now) cites.entry.now said left → ⊥)
+        (λ guard. IsSomeGuard lines.now frame (see_opt_conds cond.now) cites.entry.now guard.said guard.left.now) }
+{
+    match cond {
+        Some(cond) => conditions(lines, frame, cond, cites),
+        None => Some(Guard {
+            said: Verdict::Pass,
+            left: cites,
+        }),
+    }
+}

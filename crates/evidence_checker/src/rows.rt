@@ -1,0 +1,84 @@
+//! Lines of rows.
+ghost use Rattle.std.specs.Prelude.{◌≡◌, List, [], Some, true, IfOk, MatchBool};
+ghost use Rattle.std.specs.List.{list_all};
+ghost use Rattle.guard_syntax.specs.Seen.{see_part};
+ghost use Rattle.name_table.specs.Pieces.{OfPart, piece_at};
+ghost use Rattle.value_compare.specs.Known.{Made, is_known};
+ghost use Rattle.query_steps.specs.Follows.{FollowsRows};
+ghost use Rattle.evidence_checker.specs.Grounds.{file_in, known_of, lines_of};
+
+use crate::cited::value_of;
+use crate::exprs::expr_follows;
+use crate::ground::Ground;
+use crate::same::same_rows;
+use crate::step_rows::step_follows;
+use evidence_lines::LineKind;
+use guard_syntax::{Part, Row};
+use name_table::Piece;
+use query_steps::kinds;
+use std::alloc::{AllocError, Global};
+
+/// Whether a line of rows follows, of any kind but that of a call.
+pub(crate) fn rows_follow(
+    alloc: Global,
+    ground: &Ground<'_, '_, '_>,
+    frame: u64,
+    site: u32,
+    kind: LineKind,
+    cites: &[u64],
+    rows: &[Row],
+) -> Result<bool, AllocError>
+    requires other { kind ≡ LineKind.Fn → ⊥ }
+    ensures follows { IfOk result (λ follows. MatchBool follows
+        (FollowsRows (known_of ground.now) (lines_of ground.now) frame site kind (piece_at (file_in ground.now) site) cites.now rows.now [])
+        ((more : List Made) → FollowsRows (known_of ground.now) (lines_of ground.now) frame site kind (piece_at (file_in ground.now) site) cites.now rows.now more → ⊥)) }
+    ensures known { IfOk result (λ follows. follows ≡ true → list_all (is_known (known_of ground.now)) rows.now ≡ true) }
+{
+    match ground.store.file.find(site) {
+        Some(Piece::Expr(expr)) => {
+            Ok(expr_follows(ground, frame, site, kind, expr, cites, rows))
+        }
+        Some(Piece::Step { query, index }) => step_follows(
+            alloc, ground, frame, site, kind, query, index, cites, rows,
+        ),
+        Some(Piece::Part(part)) => {
+            types_follow(alloc, ground, frame, site, kind, part, cites, rows)
+        }
+        _ => Ok(false),
+    }
+}
+
+/// Whether a line of the rows of a part follows: only a type block has rows.
+fn types_follow(
+    alloc: Global,
+    ground: &Ground<'_, '_, '_>,
+    frame: u64,
+    site: u32,
+    kind: LineKind,
+    part: &Part,
+    cites: &[u64],
+    rows: &[Row],
+) -> Result<bool, AllocError>
+    requires placed { piece_at (file_in ground.now) site ≡ Some (OfPart (see_part part.now)) }
+    ensures follows { IfOk result (λ follows. MatchBool follows
+        (FollowsRows (known_of ground.now) (lines_of ground.now) frame site kind (Some (OfPart (see_part part.now))) cites.now rows.now [])
+        ((more : List Made) → FollowsRows (known_of ground.now) (lines_of ground.now) frame site kind (Some (OfPart (see_part part.now))) cites.now rows.now more → ⊥)) }
+    ensures known { IfOk result (λ follows. follows ≡ true → list_all (is_known (known_of ground.now)) rows.now ≡ true) }
+{
+    match kind {
+        LineKind::Types => {}
+        _ => return Ok(false),
+    }
+    match part {
+        Part::Kinds { .. } => {}
+        _ => return Ok(false),
+    }
+    let [] = cites else {
+        return Ok(false);
+    };
+    let Some(current) = value_of(ground.lines, frame) else {
+        return Ok(false);
+    };
+    let due = kinds(alloc, ground.store.file, site, current, ground.store)?;
+    Ok(same_rows(rows, &due))
+}

@@ -1,0 +1,282 @@
+//! Lines of the rows of steps.
+ghost use Rattle.std.specs.Prelude.{◌≡◌, ◌∷◌, ◌++◌, ℕ, [], List, Option, Some, true, false, IfOk, MatchBool, MatchOption};
+ghost use Rattle.std.specs.List.{list_all};
+ghost use Rattle.guard_syntax.specs.Named.{Named};
+ghost use Rattle.guard_syntax.specs.Seen.{see_conds, see_query, see_step};
+ghost use Rattle.guard_syntax.specs.Syntax.{filter};
+ghost use Rattle.guard_syntax.specs.declared.row.Row as row;
+ghost use Rattle.name_table.specs.Pieces.{OfStep, piece_at};
+ghost use Rattle.value_compare.specs.Known.{is_known};
+ghost use Rattle.query_steps.specs.Follows.{FollowsAtStep, FollowsCapture, FollowsFilter, FollowsStep, GivesBefore, GivesFurther, IsLater};
+ghost use Rattle.query_steps.specs.Places.{is_filter, step_in, steps_in};
+ghost use Rattle.evidence_checker.specs.Grounds.{file_in, known_of, lines_of};
+
+use crate::cited::value_of;
+use crate::given::{given_by_expr, given_by_step, given_by_variable};
+use crate::ground::Ground;
+use crate::same::same_rows;
+use crate::tried::tried_verdicts;
+use evidence_lines::LineKind;
+use guard_syntax::{Conds, Query, Row, Step, StepForm};
+use query_steps::{candidates, captured, step as rows_due};
+use std::alloc::{AllocError, Global};
+
+/// Whether a line of the rows of a step follows: those that it gives, or the keys that it captures.
+pub(crate) fn step_follows(
+    alloc: Global,
+    ground: &Ground<'_, '_, '_>,
+    frame: u64,
+    site: u32,
+    kind: LineKind,
+    query: &Query,
+    index: usize,
+    cites: &[u64],
+    rows: &[Row],
+) -> Result<bool, AllocError>
+    requires placed { piece_at (file_in ground.now) site ≡ Some (OfStep (see_query query.now) index) }
+    ensures follows { IfOk result (λ follows. MatchBool follows
+        (FollowsAtStep (known_of ground.now) (lines_of ground.now) frame site kind (see_query query.now) index (step_in (steps_in (see_query query.now)) index) cites.now rows.now)
+        (FollowsAtStep (known_of ground.now) (lines_of ground.now) frame site kind (see_query query.now) index (step_in (steps_in (see_query query.now)) index) cites.now rows.now → ⊥)) }
+    ensures known { IfOk result (λ follows. follows ≡ true → list_all (is_known (known_of ground.now)) rows.now ≡ true) }
+{
+    let Some(step) = query.steps.get(index) else {
+        return Ok(false);
+    };
+    match &step.form {
+        StepForm::Filter(_, conditions) => match kind {
+            LineKind::Filter => filter_follows(
+                alloc, ground, frame, site, query, index, conditions, cites, rows,
+            ),
+            LineKind::Capture => capture_follows(alloc, ground, frame, step, cites, rows),
+            _ => Ok(false),
+        },
+        StepForm::Keys { .. } => match kind {
+            LineKind::Keys => other_follows(
+                alloc, ground, frame, site, query, index, step, cites, rows,
+            ),
+            LineKind::Capture => capture_follows(alloc, ground, frame, step, cites, rows),
+            _ => Ok(false),
+        },
+        _ => match kind {
+            LineKind::Step => other_follows(
+                alloc, ground, frame, site, query, index, step, cites, rows,
+            ),
+            _ => Ok(false),
+        },
+    }
+}
+
+/// Whether the rows of a step that is no filter follow.
+fn other_follows(
+    alloc: Global,
+    ground: &Ground<'_, '_, '_>,
+    frame: u64,
+    site: u32,
+    query: &Query,
+    index: usize,
+    step: &Step,
+    cites: &[u64],
+    rows: &[Row],
+) -> Result<bool, AllocError>
+    requires placed { piece_at (file_in ground.now) site ≡ Some (OfStep (see_query query.now) index) }
+    requires step { step_in (steps_in (see_query query.now)) index ≡ Some (see_step step.now) }
+    requires other { is_filter (see_step step.now) ≡ false }
+    ensures follows { IfOk result (λ follows. MatchBool follows
+        (FollowsStep (known_of ground.now) (lines_of ground.now) frame site (see_query query.now) index (see_step step.now) cites.now rows.now)
+        (FollowsStep (known_of ground.now) (lines_of ground.now) frame site (see_query query.now) index (see_step step.now) cites.now rows.now → ⊥)) }
+    ensures known { IfOk result (λ follows. follows ≡ true → list_all (is_known (known_of ground.now)) rows.now ≡ true) }
+{
+    let Some(current) = value_of(ground.lines, frame) else {
+        return Ok(false);
+    };
+    let Some((before, last)) = rows_before(ground, frame, query, index, cites) else {
+        return Ok(false);
+    };
+    let Some(further) = rows_further(ground, frame, step, last) else {
+        return Ok(false);
+    };
+    let due = rows_due(
+        alloc,
+        ground.store.file,
+        site,
+        current,
+        before,
+        further,
+        &[],
+        ground.store,
+        ground.book,
+    )?;
+    Ok(same_rows(rows, &due))
+}
+
+/// Whether the rows of the filter of an index, which has these conditions, follow: none stands at the start of a query.
+fn filter_follows(
+    alloc: Global,
+    ground: &Ground<'_, '_, '_>,
+    frame: u64,
+    site: u32,
+    query: &Query,
+    index: usize,
+    conditions: &Conds,
+    cites: &[u64],
+    rows: &[Row],
+) -> Result<bool, AllocError>
+    requires placed { piece_at (file_in ground.now) site ≡ Some (OfStep (see_query query.now) index) }
+    requires filter { (n : ℕ) × (capture : Option Named) × (step_in (steps_in (see_query query.now)) index ≡ Some (filter n capture (see_conds conditions.now))) }
+    ensures follows { IfOk result (λ follows. MatchBool follows
+        (IsLater index × FollowsFilter (known_of ground.now) (lines_of ground.now) frame site (see_query query.now) index (see_conds conditions.now) cites.now rows.now)
+        (IsLater index × FollowsFilter (known_of ground.now) (lines_of ground.now) frame site (see_query query.now) index (see_conds conditions.now) cites.now rows.now → ⊥)) }
+    ensures known { IfOk result (λ follows. follows ≡ true → list_all (is_known (known_of ground.now)) rows.now ≡ true) }
+{
+    if index == 0 {
+        return Ok(false);
+    }
+    kept_follow(
+        alloc, ground, frame, site, query, index, conditions, cites, rows,
+    )
+}
+
+/// Whether the rows are those that the filter keeps.
+fn kept_follow(
+    alloc: Global,
+    ground: &Ground<'_, '_, '_>,
+    frame: u64,
+    site: u32,
+    query: &Query,
+    index: usize,
+    conditions: &Conds,
+    cites: &[u64],
+    rows: &[Row],
+) -> Result<bool, AllocError>
+    requires placed { piece_at (file_in ground.now) site ≡ Some (OfStep (see_query query.now) index) }
+    requires filter { (n : ℕ) × (capture : Option Named) × (step_in (steps_in (see_query query.now)) index ≡ Some (filter n capture (see_conds conditions.now))) }
+    ensures follows { IfOk result (λ follows. MatchBool follows
+        (FollowsFilter (known_of ground.now) (lines_of ground.now) frame site (see_query query.now) index (see_conds conditions.now) cites.now rows.now)
+        (FollowsFilter (known_of ground.now) (lines_of ground.now) frame site (see_query query.now) index (see_conds conditions.now) cites.now rows.now → ⊥)) }
+    ensures known { IfOk result (λ follows. follows ≡ true → list_all (is_known (known_of ground.now)) rows.now ≡ true) }
+{
+    let Some(current) = value_of(ground.lines, frame) else {
+        return Ok(false);
+    };
+    let Some((before, last)) = rows_before(ground, frame, query, index, cites) else {
+        return Ok(false);
+    };
+    let tried = candidates(alloc, ground.store.file, site, before, ground.store)?;
+    let Some(verdicts) = tried_verdicts(alloc, ground.lines, frame, site, conditions, &tried, last)?
+    else {
+        return Ok(false);
+    };
+    let due = rows_due(
+        alloc,
+        ground.store.file,
+        site,
+        current,
+        before,
+        &[],
+        &verdicts,
+        ground.store,
+        ground.book,
+    )?;
+    Ok(same_rows(rows, &due))
+}
+
+/// Whether the keys that a filter or key filter captures follow.
+fn capture_follows(
+    alloc: Global,
+    ground: &Ground<'_, '_, '_>,
+    frame: u64,
+    step: &Step,
+    cites: &[u64],
+    rows: &[Row],
+) -> Result<bool, AllocError>
+    ensures follows { IfOk result (λ follows. MatchBool follows
+        (FollowsCapture (known_of ground.now) (lines_of ground.now) frame (see_step step.now) cites.now rows.now)
+        (FollowsCapture (known_of ground.now) (lines_of ground.now) frame (see_step step.now) cites.now rows.now → ⊥)) }
+    ensures known { IfOk result (λ follows. follows ≡ true → list_all (is_known (known_of ground.now)) rows.now ≡ true) }
+{
+    let [number] = cites else {
+        return Ok(false);
+    };
+    let Some(kept) = given_by_step(ground.store.file, ground.lines, frame, step, *number) else {
+        return Ok(false);
+    };
+    let due = captured(alloc, kept, ground.store)?;
+    Ok(same_rows(rows, &due))
+}
+
+/// The rows of the step before the one of an index, which the first number cites, and the numbers behind it. A start has
+/// no rows before it, and no number.
+fn rows_before<'b>(
+    ground: &Ground<'b, '_, '_>,
+    frame: u64,
+    query: &Query,
+    index: usize,
+    cites: &'b [u64],
+) -> Option<(&'b [Row], &'b [u64])>
+    ensures { MatchOption result
+        ((first last : List ℕ) → (rows : List row.Row) → cites.entry.now ≡ first ++ last
+        → GivesBefore (known_of ground.now) (lines_of ground.now) frame (see_query query.now) index first rows → ⊥)
+        (λ found. (first : List ℕ) × (cites.entry.now ≡ first ++ found.1.now)
+        × GivesBefore (known_of ground.now) (lines_of ground.now) frame (see_query query.now) index first found.0.now) }
+{
+    if index == 0 {
+        return Some((&[], cites));
+    }
+    let [number, last @ ..] = cites else {
+        return None;
+    };
+    let step = query.steps.get(index - 1)?;
+    let rows = given_by_step(ground.store.file, ground.lines, frame, step, *number)?;
+    Some((rows, last))
+}
+
+/// The rows of what a step names further: of a variable, or of the right side of a key filter.
+fn rows_further<'b>(
+    ground: &Ground<'b, '_, '_>,
+    frame: u64,
+    step: &Step,
+    cites: &[u64],
+) -> Option<&'b [Row]>
+    ensures { MatchOption result
+        ((rows : List row.Row) → GivesFurther (known_of ground.now) (lines_of ground.now) frame (see_step step.now) cites.now rows → ⊥)
+        (λ rows. GivesFurther (known_of ground.now) (lines_of ground.now) frame (see_step step.now) cites.now rows.now) }
+{
+    match &step.form {
+        StepForm::Var(_) => {
+            given_by_variable(
+                ground.store.file,
+                ground.lines,
+                frame,
+                step.site,
+                only(cites)?,
+            )
+        }
+        StepForm::Splice(_) => {
+            given_by_variable(
+                ground.store.file,
+                ground.lines,
+                frame,
+                step.site,
+                only(cites)?,
+            )
+        }
+        StepForm::Keys { right, .. } => {
+            given_by_expr(ground.store.file, ground.lines, frame, right, only(cites)?)
+        }
+        StepForm::Filter(..) => None,
+        _ => match cites {
+            [] => Some(&[]),
+            _ => None,
+        },
+    }
+}
+
+/// The number of one that is alone.
+fn only(cites: &[u64]) -> Option<u64>
+    ensures { MatchOption result ((number : ℕ) → cites.now ≡ number ∷ [] → ⊥) (λ number. cites.now ≡ number ∷ []) }
+{
+    match cites {
+        [number] => Some(*number),
+        _ => None,
+    }
+}
