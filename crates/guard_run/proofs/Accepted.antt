@@ -1,47 +1,66 @@
--- Where a call's files are accepted, it ends with verdicts: the end by them is one that the definition gives, and there is no other.
-use Rattle.std.proofs.Common.{◌≡◌, ℕ, Bool, true, false, List, [], Option, Some, inl, inr, refl, sym, ap, ◌∙◌, cond}
-use Rattle.std.specs.Prelude.{All, IsSome, unwrap_or}
+-- Where a call's files are accepted, it ends with verdicts, or with those that evidence says, or by its rejection.
+use Rattle.std.proofs.Common.{◌≡◌, ℕ, Bool, true, false, List, Option, Some, None, inl, inr, refl, ap, ◌∙◌, subst, cond}
 use Rattle.std.specs.List.{list_any}
 use Rattle.doc_values.specs.Tree.{Forest}
+use Rattle.evidence_lines.specs.declared.line.Line.{Line}
 use Rattle.guard_syntax.specs.Syntax.{File}
-use Rattle.value_compare.specs.Finds.{pattern_in}
-use Rattle.value_compare.specs.Patterns.{Written, patterns_of}
-use Rattle.query_steps.specs.SpotFunctions.{IsAnswering}
-use Rattle.query_steps.specs.Spots.{Answers, World}
 use Rattle.query_steps.specs.Verdicts.{is_fail}
-use Rattle.guard_run.specs.End.{Ended, EndOf, Contents, AreSame, IsContent, judged, is_judged}
-use Rattle.guard_run.specs.Inputs.{IsRuleFile, IsTemplate}
-use Rattle.guard_run.specs.Report.{report}
-use Rattle.guard_run.specs.Reported.{world_over, verdicts_of}
+use Rattle.guard_run.specs.End.{Ended, AreRead, EndOf, EndOfCheck, EndOfLoad, EndOfProof, EndOfRules, EndOfTemplate, EndOfWork, Contents, IsJudged, is_checked, is_judged}
+use Rattle.guard_run.specs.Inputs.{IsProof, IsRuleFile, IsTemplate}
+use Rattle.guard_run.specs.Report.{Reporting, report}
+use Rattle.guard_run.specs.Reported.{verdicts_of}
 use Rattle.guard_run.specs.Request.{Request, Asks, format_of}
-use Rattle.guard_run.specs.declared.ends.End.{End}
 use Rattle.guard_run.specs.declared.ends.End.TheVariants as end_is
+use Rattle.guard_run.proofs.OneCheck.{EvidenceLaws, checked-ends, refusal-apart}
+use Rattle.guard_run.proofs.OneEnd.{end-asked, rules-go}
+use Rattle.guard_run.proofs.OneSyntax.{OneSyntax}
+use Rattle.guard_run.proofs.OneTemplate.{OneTemplate, template-goes}
 
 by-verdicts : (q : Bool) → is_judged (cond q end_is.Failed end_is.Passed) ≡ true
 by-verdicts true = refl
 by-verdicts false = refl
 
-how-judged : (world : World) (source template : List ℕ) → is_judged (judged report world source template).how ≡ true
-how-judged world source template = by-verdicts (list_any is_fail (verdicts_of world))
+judged-ends : (made : Reporting) (source : List ℕ) (rules : File) (template : List ℕ) (tree : Forest) (e : Ended) → IsJudged made source rules template tree e
+    → is_judged e.how ≡ true
+judged-ends made source rules template tree e (answers, obey, is) =
+    ap (λ (x : Ended). is_judged x.how) is ∙ by-verdicts (list_any is_fail (verdicts_of (record { template = tree; file = rules; answers = answers })))
 
-content-is : (told : Option (List ℕ)) (bytes : List ℕ) → told ≡ Some bytes → IsContent told bytes
-content-is told bytes is content other = ap (λ (o : Option (List ℕ)). unwrap_or o []) (sym is ∙ other)
+-- where evidence is told and read, a check ends by its judgement
+check-ends : (evidence : List ℕ) → EvidenceLaws evidence → (lines : List Line) → IsProof evidence lines → (told : Option (List ℕ)) → told ≡ Some evidence
+    → (rules : File) (tree : Forest) (e : Ended) → EndOfCheck told rules tree e → is_checked e.how ≡ true
+check-ends evidence laws lines whole told known rules tree e (bytes, content, end) =
+    by (subst (λ (b : List ℕ). EndOfProof rules tree b e) (content evidence known) end)
+  where
+    by : EndOfProof rules tree evidence e → is_checked e.how ≡ true
+    by (inl (r, h, is)) = absurd (refusal-apart evidence laws r lines h whole)
+    by (inr (lines', whole', judged)) = checked-ends rules tree lines' e judged
 
--- an end that is the same as one of a template that was judged is one too
-as-judged : (rules : List ℕ) (e other : Ended) → is_judged other.how ≡ true → AreSame rules e other → is_judged e.how ≡ true
-as-judged rules e other is (inl same) = ap (λ (x : Ended). is_judged x.how) same ∙ is
-as-judged rules e other is (inr (at, place, this, that)) = absurd (let no : true ≡ false = sym is ∙ ap (λ (x : Ended). is_judged x.how) that in cc)
+-- where the rules, the template and the patterns are read, the call goes on to what is asked for
+work-reached : OneSyntax → (rules template : List ℕ) → OneTemplate template → (words : List (List ℕ)) (told : Contents) (q : Request) (file : File) (tree : Forest) (e : Ended)
+    → Asks words q → told q.rules ≡ Some rules → told q.template ≡ Some template → IsRuleFile rules file → IsTemplate (format_of q.template) template tree → AreRead file
+    → EndOf words told e → EndOfWork told q.proof rules file template tree e
+work-reached law rules template one words told q file tree e asks known known' read read' all end =
+    let asked = end-asked words told q e asks end in
+    let ruled = subst (λ (b : List ℕ). EndOfRules b (EndOfLoad told q.template q.proof b) e) (asked.1 rules known) asked.2 in
+    let loaded : EndOfLoad told q.template q.proof rules file e = rules-go law rules file (EndOfLoad told q.template q.proof rules) read e ruled in
+    let Work = EndOfWork told q.proof rules file in
+    template-goes (format_of q.template) rules file template one (Work template) tree read' all e
+    (subst (λ (b : List ℕ). EndOfTemplate (format_of q.template) rules file b (Work b) e) (loaded.1 template known') loaded.2)
 
-pub accepted-judged : (rules template : List ℕ)
-    → ((words : List (List ℕ)) (told : Contents) (q : Request) (e other : Ended) → Asks words q → told q.rules ≡ Some rules → told q.template ≡ Some template
-    → EndOf words told e → EndOf words told other → AreSame rules e other)
-    → ((tree : Forest) (file : File) → (answers : Answers) × IsAnswering (record { template = tree; file = file; answers = answers }))
+pub accepted-judged : OneSyntax → (rules template : List ℕ) → OneTemplate template
     → (words : List (List ℕ)) (told : Contents) (q : Request) (file : File) (tree : Forest) (e : Ended)
-    → Asks words q → told q.rules ≡ Some rules → told q.template ≡ Some template → IsRuleFile rules file → IsTemplate (format_of q.template) template tree
-    → All (λ (w : Written). IsSome (pattern_in w.text)) (patterns_of file) → EndOf words told e → is_judged e.how ≡ true
-accepted-judged rules template one some words told q file tree e asks known known' read read' patterns end =
-    let given = some tree file in
-    let world : World = world_over file tree given.0 in
-    let by : EndOf words told (judged report world rules template) =
-    inl (q, asks, (rules, content-is (told q.rules) rules known, inr (file, read, (template, content-is (told q.template) template known', inr (tree, read', inr (patterns, (given.0, given.1, refl))))))) in
-    as-judged rules e (judged report world rules template) (how-judged world rules template) (one words told q e (judged report world rules template) asks known known' end by)
+    → Asks words q → q.proof ≡ None → told q.rules ≡ Some rules → told q.template ≡ Some template → IsRuleFile rules file
+    → IsTemplate (format_of q.template) template tree → AreRead file → EndOf words told e → is_judged e.how ≡ true
+accepted-judged law rules template one words told q file tree e asks none known known' read read' all end =
+    judged-ends report rules file template tree e
+    (subst (λ (p : Option (List ℕ)). EndOfWork told p rules file template tree e) none
+    (work-reached law rules template one words told q file tree e asks known known' read read' all end))
+
+pub accepted-checked : OneSyntax → (rules template evidence : List ℕ) → OneTemplate template → EvidenceLaws evidence
+    → (words : List (List ℕ)) (told : Contents) (q : Request) (name : List ℕ) (file : File) (tree : Forest) (lines : List Line) (e : Ended)
+    → Asks words q → q.proof ≡ Some name → told q.rules ≡ Some rules → told q.template ≡ Some template → told name ≡ Some evidence → IsRuleFile rules file
+    → IsTemplate (format_of q.template) template tree → AreRead file → IsProof evidence lines → EndOf words told e → is_checked e.how ≡ true
+accepted-checked law rules template evidence one laws words told q name file tree lines e asks named known known' known'' read read' all whole end =
+    check-ends evidence laws lines whole (told name) known'' file tree e
+    (subst (λ (p : Option (List ℕ)). EndOfWork told p rules file template tree e) named
+    (work-reached law rules template one words told q file tree e asks known known' read read' all end))

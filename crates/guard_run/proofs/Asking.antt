@@ -1,10 +1,10 @@
 -- What comes of words, by what they ask for.
-use Rattle.std.proofs.Common.{◌≡◌, ◌≢◌, ℕ, List, [], Bool, true, false, inl, inr, refl, sym, ap, ◌∙◌}
+use Rattle.std.proofs.Common.{◌≡◌, ◌≢◌, ℕ, List, [], Bool, true, false, Option, Some, None, inl, inr, refl, sym, ap, ◌∙◌}
 use Rattle.guard_io.specs.Outside.{Rose}
 use Rattle.guard_syntax.specs.Syntax.{File}
 use Rattle.guard_words.specs.Request.{Asked, AsksFor, check, drill, validate}
 use Rattle.guard_run.specs.Inputs.{IsRuleFile}
-use Rattle.guard_run.specs.Request.{Request, Asks, AsksDrill, format_of}
+use Rattle.guard_run.specs.Request.{Request, Asks, AsksDrill, asked_of, format_of}
 use Rattle.guard_run.specs.End.{EndOf, EndOfDrill, EndOfRequest, ComesTo, ComesToPattern, Contents, Counts, IsContent, name_of}
 use Rattle.guard_run.specs.Lines.{usage_line}
 use Rattle.guard_run.specs.Outcome.{IsOutcome, IsOutcomeAs}
@@ -26,6 +26,8 @@ pub outcome-asked : (words : List (List ℕ)) (told : Contents) (before after : 
     → (o ≡ outcome.PatternRefused → UnmadeBy q told before.patterns after.patterns)
     → IsOutcome words told before after o
 outcome-asked words told before after q asked (outcome.Judged judgement) is comes rose unmade = inl (q, asked, is)
+outcome-asked words told before after q asked (outcome.Accepted text) is comes rose unmade = inl (q, asked, is)
+outcome-asked words told before after q asked (outcome.Rejected number) is comes rose unmade = inl (q, asked, is)
 outcome-asked words told before after q asked (outcome.Refused r) is comes rose unmade = inl (q, asked, is)
 outcome-asked words told before after q asked outcome.Usage is comes rose unmade = inl (q, asked, is)
 outcome-asked words told before after q asked (outcome.ReadFault which) is comes rose unmade = (q, (asked, comes which refl), rose which refl)
@@ -39,6 +41,8 @@ pub outcome-drilled : (words : List (List ℕ)) (told : Contents) (before after 
     → IsOutcomeAs (EndOfDrill count) o → ((which : Which) → o ≢ outcome.ReadFault which) → o ≢ outcome.PatternRefused
     → IsOutcome words told before after o
 outcome-drilled words told before after count asked (outcome.Judged judgement) is read made = inr (inl (count, asked, is))
+outcome-drilled words told before after count asked (outcome.Accepted text) is read made = inr (inl (count, asked, is))
+outcome-drilled words told before after count asked (outcome.Rejected number) is read made = inr (inl (count, asked, is))
 outcome-drilled words told before after count asked (outcome.Refused r) is read made = inr (inl (count, asked, is))
 outcome-drilled words told before after count asked outcome.Usage is read made = inr (inl (count, asked, is))
 outcome-drilled words told before after count asked (outcome.ReadFault which) is read made = absurd (read which refl)
@@ -49,8 +53,12 @@ outcome-drilled words told before after count asked outcome.Memory is read made 
 abbrev is_done : Asked → Bool
 is_done (validate rules template false) = true
 is_done (validate rules template true) = false
-is_done (check rules template proof) = false
+is_done (check rules template proof) = true
 is_done (drill count) = true
+
+files-done : (rules template : List ℕ) (proof : Option (List ℕ)) → is_done (asked_of rules template proof) ≡ true
+files-done rules template None = refl
+files-done rules template (Some proof) = refl
 
 -- words that ask for what is not done end with Usage
 pub usage-undone : (words : List (List ℕ)) (told : Contents) (request : Asked) → is_done request ≡ false
@@ -58,9 +66,9 @@ pub usage-undone : (words : List (List ℕ)) (told : Contents) (request : Asked)
 usage-undone words told request undone only =
     let apart : (other : Asked) → is_done other ≡ true → AsksFor words other → ⊥ =
     λ other done asks. let bad : true ≡ false = sym done ∙ (ap is_done (only other asks) ∙ undone) in absurd cc in
-    inr (inr ((λ q. apart (validate q.rules q.template false) refl, λ count. apart (drill count) refl), refl))
+    inr (inr ((λ q. apart (asked_of q.rules q.template q.proof) (files-done q.rules q.template q.proof), λ count. apart (drill count) refl), refl))
 
 -- and so do words that ask for nothing
 pub usage-unasked : (words : List (List ℕ)) (told : Contents) → ((request : Asked) → ¬ AsksFor words request)
     → EndOf words told (record { how = end_is.Usage; out = []; err = usage_line })
-usage-unasked words told none = inr (inr ((λ q. none (validate q.rules q.template false), λ count. none (drill count)), refl))
+usage-unasked words told none = inr (inr ((λ q. none (asked_of q.rules q.template q.proof), λ count. none (drill count)), refl))

@@ -3,7 +3,7 @@ use Rattle.std.proofs.Common.{◌≡◌, ℕ, ◌++◌, inl, inr, List, [], Opti
 use Rattle.std.proofs.lemmas.List.{append-nil}
 use Rattle.std.specs.Option.{ForSome}
 use Rattle.guard_io.specs.Outside.{IsPrefix}
-use Rattle.guard_run.specs.End.{EndOf, Contents, Faults, IsReport, MaySay, MayWant, Took, TookAsDefined, is_defined, is_judged}
+use Rattle.guard_run.specs.End.{Ended, EndOf, Contents, Faults, IsReport, MaySay, MayWant, Took, TookAsDefined, is_defined, is_reported}
 use Rattle.guard_run.specs.Lines.{memory_line}
 use Rattle.guard_run.specs.Outcome.{ended}
 use Rattle.guard_run.specs.declared.report.Judgement.{Judgement}
@@ -54,23 +54,37 @@ Closed-said words told before after line whole how out out' err err' taken says 
     subst (λ how. Closed words told before after how out out' err err') (sym e) (taken, front, memory_line, last, inr (inr (inr (line, says, begun)), refl), tried, wrote, said)
 
 -- a template that was judged
-pub ended-judged : (judgement : Judgement) → is_judged (ended judgement).how ≡ true
-ended-judged judgement =
-    elim judgement.failed as (λ failed. is_judged (if failed then end_is.Failed else end_is.Passed) ≡ true) [ true ↦ refl | false ↦ refl ]
+pub ended-reported : (judgement : Judgement) → is_reported (ended judgement).how ≡ true
+ended-reported judgement =
+    elim judgement.failed as (λ failed. is_reported (if failed then end_is.Failed else end_is.Passed) ≡ true) [ true ↦ refl | false ↦ refl ]
 
-pub ended-defined : (judgement : Judgement) → is_defined (ended judgement).how ≡ true
-ended-defined judgement =
-    elim judgement.failed as (λ failed. is_defined (if failed then end_is.Failed else end_is.Passed) ≡ true) [ true ↦ refl | false ↦ refl ]
+-- ends at which out takes a text
+abbrev pub reported_as : End → List ℕ → Ended
+reported_as how text = record { how = how; out = text; err = [] }
 
-pub IsReport-ended : (words : List (List ℕ)) (told : Contents) (judgement : Judgement) → EndOf words told (ended judgement)
-    → IsReport words told judgement.report.items
-IsReport-ended words told judgement end = (ended judgement, end, ended-judged judgement, refl)
+pub reported-defined : (how : End) → is_reported how ≡ true → is_defined how ≡ true
+reported-defined end_is.Passed is = refl
+reported-defined end_is.Failed is = refl
+reported-defined end_is.Accepted is = refl
+reported-defined (end_is.Rejected number) is = refl
+reported-defined end_is.Usage is = absurd cc
+reported-defined (end_is.Refused refusal) is = absurd cc
+reported-defined (end_is.ReadFault which) is = absurd cc
+reported-defined (end_is.WriteFault pipe) is = absurd cc
+reported-defined end_is.PatternRefused is = absurd cc
+reported-defined end_is.Memory is = absurd cc
+
+pub IsReport-as : (words : List (List ℕ)) (told : Contents) (how : End) (text : List ℕ) → is_reported how ≡ true → EndOf words told (reported_as how text)
+    → IsReport words told text
+IsReport-as words told how text is end = (reported_as how text, end, is, refl)
 
 -- at ends that are defined, what the sinks took is what is defined
 pub Closed-defined : (words : List (List ℕ)) (told : Contents) (before after : Faults) (how : End) (out out' err err' : Option (List ℕ)) → is_defined how ≡ true
     → TookAsDefined words told how out out' err err' → Closed words told before after how out out' err err'
 Closed-defined words told before after end_is.Passed out out' err err' defined took = took
 Closed-defined words told before after end_is.Failed out out' err err' defined took = took
+Closed-defined words told before after end_is.Accepted out out' err err' defined took = took
+Closed-defined words told before after (end_is.Rejected number) out out' err err' defined took = took
 Closed-defined words told before after end_is.Usage out out' err err' defined took = took
 Closed-defined words told before after (end_is.Refused refusal) out out' err err' defined took = took
 Closed-defined words told before after (end_is.ReadFault which) out out' err err' defined took = absurd cc
@@ -82,6 +96,8 @@ pub defined-Closed : (words : List (List ℕ)) (told : Contents) (before after :
     → Closed words told before after how out out' err err' → TookAsDefined words told how out out' err err'
 defined-Closed words told before after end_is.Passed out out' err err' defined closed = closed
 defined-Closed words told before after end_is.Failed out out' err err' defined closed = closed
+defined-Closed words told before after end_is.Accepted out out' err err' defined closed = closed
+defined-Closed words told before after (end_is.Rejected number) out out' err err' defined closed = closed
 defined-Closed words told before after end_is.Usage out out' err err' defined closed = closed
 defined-Closed words told before after (end_is.Refused refusal) out out' err err' defined closed = closed
 defined-Closed words told before after (end_is.ReadFault which) out out' err err' defined closed = absurd cc

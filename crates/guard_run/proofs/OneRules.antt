@@ -1,12 +1,12 @@
 -- Rules have one reading or one refusal, but for the place of Syntax. By the cases of the refusals.
-use Rattle.std.proofs.Common.{◌≡◌, ◌⊎◌, ◌≤◌, ℕ, List, length, Option, Some, None, IsNone, arith, inl, inr, refl, sym, ap, ◌∙◌, subst}
+use Rattle.std.proofs.Common.{◌≡◌, ◌⊎◌, ◌≤◌, ℕ, List, length, Option, None, arith, inl, inr, refl, sym, ap, ◌∙◌, subst}
 use Rattle.guard_syntax.specs.Syntax.{File}
 use Rattle.name_table.specs.Faults.{Fault}
 use Rattle.name_table.specs.Names.{WellNamed, IsNameFault}
 use Rattle.name_table.proofs.OneFault.{one-fault, fault-apart}
 use Rattle.guard_run.specs.Inputs.{IsText, IsTooLong, IsNoText, IsSyntax, IsRuleFile, RefusesText, RefusesNames, RefusesRules, name_kind, name_said, rules_limit}
 use Rattle.guard_run.specs.declared.ends.Refusal.{Refusal}
-use Rattle.guard_run.specs.declared.ends.Refusal.TheVariants.{DataUnread, TooLong, NotText, At}
+use Rattle.guard_run.specs.declared.ends.Refusal.TheVariants.{DataUnread, TooLong, NotText, EvidenceSyntax, At}
 use Rattle.guard_run.specs.declared.ends.RefusalKind.{RefusalKind}
 use Rattle.guard_run.specs.declared.ends.RefusalKind.TheVariants.{Syntax}
 use Rattle.guard_run.specs.declared.ends.Which.TheVariants as file
@@ -45,11 +45,15 @@ rules-why : (bytes : List ℕ) (r : Refusal) → RefusesRules bytes r → RulesW
 rules-why bytes DataUnread h = absurd h
 rules-why bytes (TooLong file.Rules) h = inl (refl, h)
 rules-why bytes (TooLong file.Template) h = absurd h
+rules-why bytes (TooLong file.Proof) h = absurd h
 rules-why bytes (NotText file.Rules) h = inr (inl (refl, h))
 rules-why bytes (NotText file.Template) h = absurd h
+rules-why bytes (NotText file.Proof) h = absurd h
+rules-why bytes (EvidenceSyntax number) h = absurd h
 rules-why bytes (At file.Rules kind at name) (text, inl (none, h)) = inr (inr (inl (kind, at, ap (λ n. At file.Rules kind at n) none, text, h)))
 rules-why bytes (At file.Rules kind at name) (text, inr h) = inr (inr (inr (text, names-why bytes kind at name h)))
 rules-why bytes (At file.Template kind at name) h = absurd h
+rules-why bytes (At file.Proof kind at name) h = absurd h
 
 -- the same refusal, or Syntax twice
 abbrev pub AreAlikeRefusals : Refusal → Refusal → Type 0

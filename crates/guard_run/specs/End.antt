@@ -1,19 +1,24 @@
 -- How a call ends: the words and the contents of the files decide the end, what out takes and what err takes.
-use Rattle.std.specs.Prelude.{ℕ, ◌≡◌, ◌++◌, ◌⊎◌, List, [], Option, Some, None, IsSome, IsNone, All, Bool, true, false, if◌then◌else◌}
+use Rattle.std.specs.Prelude.{ℕ, ◌≡◌, ◌++◌, ◌⊎◌, ◌||◌, List, [], Option, Some, None, IsSome, IsNone, All, Bool, true, false, unwrap_or, if◌then◌else◌}
 use Rattle.std.specs.List.{list_any}
 use Rattle.std.specs.Option.{ForSome}
 use Rattle.doc_values.specs.Tree.{Forest}
+use Rattle.evidence_checker.specs.Answered.{AreOfRules, IsRejectedAt}
+use Rattle.evidence_lines.specs.declared.line.Line.{Line}
 use Rattle.guard_drill.specs.DrillTexts.{template_text}
 use Rattle.guard_io.specs.Outside.{IsPrefix, Rose}
 use Rattle.guard_syntax.specs.Syntax.{File}
+use Rattle.guard_syntax.specs.declared.row.Verdict.{Verdict}
 use Rattle.value_compare.specs.Books.{IsNext}
 use Rattle.value_compare.specs.Finds.{pattern_in}
 use Rattle.value_compare.specs.Patterns.{Written, patterns_of}
 use Rattle.guard_run.specs.Request.{Request, Asks, AsksDrill, AsksNothing, format_of}
-use Rattle.guard_run.specs.Inputs.{IsRuleFile, RefusesRules, IsTemplate, RefusesTemplate}
+use Rattle.guard_run.specs.Inputs.{IsRuleFile, RefusesRules, IsTemplate, RefusesTemplate, IsProof, RefusesProof}
+use Rattle.query_steps.specs.Follows.{Accepts}
 use Rattle.query_steps.specs.SpotFunctions.{IsAnswering}
 use Rattle.query_steps.specs.Spots.{Answers, World}
 use Rattle.query_steps.specs.Verdicts.{is_fail}
+use Rattle.guard_run.specs.Check.{accepted_text, rejected_text}
 use Rattle.guard_run.specs.Drill.{drill_report, drill_rules}
 use Rattle.guard_run.specs.Report.{Reporting, report}
 use Rattle.guard_run.specs.Reported.{world_over, verdicts_of}
@@ -32,6 +37,8 @@ use Rattle.guard_run.specs.declared.words.Format.TheVariants.{Json}
 abbrev pub status_of : End → ℕ
 status_of end_is.Passed = 0
 status_of end_is.Failed = 19
+status_of end_is.Accepted = 0
+status_of (end_is.Rejected number) = 19
 status_of end_is.Usage = 2
 status_of (end_is.Refused refusal) = 5
 status_of (end_is.ReadFault which) = 6
@@ -39,7 +46,7 @@ status_of (end_is.WriteFault pipe) = 6
 status_of end_is.PatternRefused = 6
 status_of end_is.Memory = 7
 
--- The end by the order of work: the words, the rules, the template, the patterns, the verdicts.
+-- The end by the order of work: the words, the rules, the template, the patterns, the evidence if it is asked for, the verdicts.
 
 -- how a call ends, and what out and err take
 pub record Ended : Type 0 where
@@ -73,22 +80,52 @@ Contents = List ℕ → Option (List ℕ)
 abbrev pub IsContent : Option (List ℕ) → List ℕ → Type 0
 IsContent told bytes = ForSome told (λ content. bytes ≡ content)
 
--- with the rules and the template read, and the bytes of both: the first pattern that cannot be read is refused at its place,
--- or each is read and the template is judged
-abbrev pub EndOfPatterns : Reporting → (source : List ℕ) → File → (template : List ℕ) → Forest → Ended → Type 0
-EndOfPatterns made source rules template tree e =
+-- evidence of these lines that was judged, for rules and a template: it is accepted, and out takes the verdicts that it says,
+-- or it is rejected at a line
+abbrev pub IsChecked : File → Forest → List Line → Ended → Type 0
+IsChecked rules tree lines e =
+    ((verdicts : List Verdict) × Accepts tree rules lines × AreOfRules lines rules.rules rules.loose verdicts
+    × (e ≡ record { how = end_is.Accepted; out = accepted_text rules verdicts; err = [] }))
+    ⊎ ((number : ℕ) × IsRejectedAt tree rules lines number
+    × (e ≡ record { how = end_is.Rejected number; out = rejected_text number; err = [] }))
+
+-- with the bytes of evidence: they are refused, or they are evidence and it is judged
+abbrev pub EndOfProof : File → Forest → List ℕ → Ended → Type 0
+EndOfProof rules tree bytes e =
+    ((refusal : Refusal) × RefusesProof bytes refusal × (e ≡ refused bytes refusal))
+    ⊎ ((lines : List Line) × IsProof bytes lines × IsChecked rules tree lines e)
+
+-- with the rules and the template read, and each pattern: the evidence is loaded
+abbrev pub EndOfCheck : Option (List ℕ) → File → Forest → Ended → Type 0
+EndOfCheck told rules tree e = (bytes : List ℕ) × IsContent told bytes × EndOfProof rules tree bytes e
+
+-- each pattern of the rules is read
+abbrev pub AreRead : File → Type 0
+AreRead rules = All (λ (w : Written). IsSome (pattern_in w.text)) (patterns_of rules)
+
+-- with the rules and the template read, and the bytes of the rules: the first pattern that cannot be read is refused at its
+-- place, or each is read and the work goes on
+abbrev pub EndOfPatterns : (source : List ℕ) → File → (Ended → Type 0) → Ended → Type 0
+EndOfPatterns source rules GoesOn e =
     ((text : List ℕ) × (at : ℕ) × IsNext rules text at × IsNone (pattern_in text) × (e ≡ refused source (At file.Rules BadPattern at None)))
-    ⊎ (All (λ (w : Written). IsSome (pattern_in w.text)) (patterns_of rules) × IsJudged made source rules template tree e)
+    ⊎ (AreRead rules × GoesOn e)
 
 -- with the rules read and the template's bytes: in its format they are refused, or they are a template and the patterns are read
-abbrev pub EndOfTemplate : Reporting → Format → List ℕ → File → List ℕ → Ended → Type 0
-EndOfTemplate made f source rules bytes e =
+abbrev pub EndOfTemplate : Format → (source : List ℕ) → File → (template : List ℕ) → (Forest → Ended → Type 0) → Ended → Type 0
+EndOfTemplate f source rules bytes GoesOn e =
     ((refusal : Refusal) × RefusesTemplate f bytes refusal × (e ≡ refused bytes refusal))
-    ⊎ ((tree : Forest) × IsTemplate f bytes tree × EndOfPatterns made source rules bytes tree e)
+    ⊎ ((tree : Forest) × IsTemplate f bytes tree × EndOfPatterns source rules (GoesOn tree) e)
+
+-- what is asked for, with the rules and the template read, and the bytes of both: the template is judged, or evidence is
+abbrev pub EndOfWork : Contents → (proof : Option (List ℕ)) → (source : List ℕ) → File → (template : List ℕ) → Forest → Ended → Type 0
+EndOfWork told None source rules template tree e = IsJudged report source rules template tree e
+EndOfWork told (Some proof) source rules template tree e = EndOfCheck (told proof) rules tree e
 
 -- with the rules read: the template is loaded
-abbrev pub EndOfLoad : Format → Option (List ℕ) → List ℕ → File → Ended → Type 0
-EndOfLoad f told source rules e = (bytes : List ℕ) × IsContent told bytes × EndOfTemplate report f source rules bytes e
+abbrev pub EndOfLoad : Contents → (template : List ℕ) → (proof : Option (List ℕ)) → (source : List ℕ) → File → Ended → Type 0
+EndOfLoad told template proof source rules e =
+    (bytes : List ℕ) × IsContent (told template) bytes
+    × EndOfTemplate (format_of template) source rules bytes (EndOfWork told proof source rules bytes) e
 
 -- with the bytes of the rules: they are refused, or they are a rule file and the work goes on
 abbrev pub EndOfRules : List ℕ → (File → Ended → Type 0) → Ended → Type 0
@@ -99,11 +136,12 @@ EndOfRules bytes GoesOn e =
 -- with the files that the words ask for: the rules are loaded
 abbrev pub EndOfRequest : Request → Contents → Ended → Type 0
 EndOfRequest q told e =
-    (bytes : List ℕ) × IsContent (told q.rules) bytes × EndOfRules bytes (EndOfLoad (format_of q.template) (told q.template) bytes) e
+    (bytes : List ℕ) × IsContent (told q.rules) bytes × EndOfRules bytes (EndOfLoad told q.template q.proof bytes) e
 
 -- with the count of a drill: its rules are read, and its template is read as JSON; nothing is loaded
 abbrev pub EndOfDrill : ℕ → Ended → Type 0
-EndOfDrill count e = EndOfRules drill_rules (λ rules. EndOfTemplate (drill_report count) Json drill_rules rules (template_text count)) e
+EndOfDrill count e = EndOfRules drill_rules (λ rules. EndOfTemplate Json drill_rules rules (template_text count)
+    (IsJudged (drill_report count) drill_rules rules (template_text count))) e
 
 -- a call with these words over these files can end so: by the files that they ask for, as the drill that they ask for, or,
 -- if they ask for neither, with Usage
@@ -119,6 +157,8 @@ EndOf words told e =
 abbrev pub is_defined : End → Bool
 is_defined end_is.Passed = true
 is_defined end_is.Failed = true
+is_defined end_is.Accepted = true
+is_defined (end_is.Rejected number) = true
 is_defined end_is.Usage = true
 is_defined (end_is.Refused refusal) = true
 is_defined (end_is.ReadFault which) = false
@@ -130,6 +170,8 @@ is_defined end_is.Memory = false
 abbrev pub is_judged : End → Bool
 is_judged end_is.Passed = true
 is_judged end_is.Failed = true
+is_judged end_is.Accepted = false
+is_judged (end_is.Rejected number) = false
 is_judged end_is.Usage = false
 is_judged (end_is.Refused refusal) = false
 is_judged (end_is.ReadFault which) = false
@@ -137,15 +179,34 @@ is_judged (end_is.WriteFault pipe) = false
 is_judged end_is.PatternRefused = false
 is_judged end_is.Memory = false
 
+-- ends of evidence that was judged
+abbrev pub is_checked : End → Bool
+is_checked end_is.Accepted = true
+is_checked (end_is.Rejected number) = true
+is_checked _ = false
+
+-- ends at which out takes a text
+abbrev pub is_reported : End → Bool
+is_reported how = is_judged how || is_checked how
+
 -- the name of a file that is asked for
 abbrev pub name_of : Which → Request → List ℕ
 name_of file.Rules q = q.rules
 name_of file.Template q = q.template
+name_of file.Proof q = unwrap_or q.proof []
 
--- the order of work comes to the load of a file: to the rules at once, to the template once the rules are read
+-- with the rules read, the order of work comes to the load of evidence: it is asked for, and the template is read, and so is
+-- each pattern of the rules
+abbrev pub ComesToProof : Contents → (template : List ℕ) → (proof : Option (List ℕ)) → File → Type 0
+ComesToProof told template proof rules = IsSome proof
+    × ((bytes : List ℕ) × IsContent (told template) bytes × ((tree : Forest) × IsTemplate (format_of template) bytes tree)) × AreRead rules
+
+-- the order of work comes to the load of a file: to the rules at once, to the template and to evidence once the rules are read
 abbrev pub ComesTo : Which → Request → Contents → Type 0
 ComesTo file.Rules q told = Unit {0}
 ComesTo file.Template q told = (bytes : List ℕ) × IsContent (told q.rules) bytes × ((rules : File) × IsRuleFile bytes rules)
+ComesTo file.Proof q told = (bytes : List ℕ) × IsContent (told q.rules) bytes
+    × ((rules : File) × IsRuleFile bytes rules × ComesToProof told q.template q.proof rules)
 
 -- the words ask for a file whose load the order of work comes to
 abbrev pub Loads : Which → List (List ℕ) → Contents → Request → Type 0
@@ -183,16 +244,16 @@ Unmade words told before after text = Makes words told text × Rose (before text
 abbrev pub Unwritten : (before after : Faults) → Type 0
 Unwritten before after = Rose before.out after.out
 
--- a text is the report of such a call
+-- a text is the report of such a call, or what is written of evidence
 abbrev pub IsReport : List (List ℕ) → Contents → List ℕ → Type 0
-IsReport words told text = (e : Ended) × EndOf words told e × (is_judged e.how ≡ true) × (text ≡ e.out)
+IsReport words told text = (e : Ended) × EndOf words told e × (is_reported e.how ≡ true) × (text ≡ e.out)
 
 -- a line that may be written on err when out has taken a text: that of usage or a refusal, that of a file that is asked
 -- for and whose count rose, and that of a pattern whose count rose, when out has taken nothing, and that of out, whose
 -- count rose, when it has taken a front of the report
 abbrev pub MaySay : List (List ℕ) → Contents → (before after : Faults) → (out line : List ℕ) → Type 0
 MaySay words told before after out line =
-    ((e : Ended) × EndOf words told e × (is_judged e.how ≡ false) × (line ≡ e.err) × (out ≡ []))
+    ((e : Ended) × EndOf words told e × (is_reported e.how ≡ false) × (line ≡ e.err) × (out ≡ []))
     ⊎ ((which : Which) × ((q : Request) × Loads which words told q × Unread before.read after.read which q)
     × (line ≡ read_fault_line which) × (out ≡ []))
     ⊎ (((text : List ℕ) × Unmade words told before.read.patterns after.read.patterns text) × (line ≡ pattern_line) × (out ≡ []))

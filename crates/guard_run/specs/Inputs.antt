@@ -1,8 +1,10 @@
--- Which bytes are read as rules and as a template, and why others are refused: beside each refusal the condition under
--- which it comes. Of the refusals of one file no two conditions hold together, but that the place of Syntax in rules may be
--- one of several.
+-- Which bytes are read as rules, as a template and as evidence, and why others are refused: beside each refusal the
+-- condition under which it comes. Of the refusals of one file no two conditions hold together, but that the place of Syntax
+-- in rules may be one of several.
 use Rattle.std.specs.Prelude.{ℕ, ◌<◌, ◌≤◌, ◌≡◌, ◌⊎◌, List, Option, Some, None, IsUtf8, length}
 use Rattle.doc_values.specs.Tree.{Forest}
+use Rattle.evidence_lines.specs.Text.{IsEvidence, IsFault}
+use Rattle.evidence_lines.specs.declared.line.Line.{Line}
 use Rattle.json_reader.specs.Json.{Json}
 use Rattle.json_reader.specs.Refusals as json
 use Rattle.json_reader.specs.declared.refusal.JsonRefusal.TheVariants as json_refusal
@@ -19,7 +21,7 @@ use Rattle.name_table.specs.Names.{WellNamed, IsNameFault}
 use Rattle.name_table.specs.declared.refusal.NameKind.{NameKind}
 use Rattle.name_table.specs.declared.refusal.NameKind.TheVariants as naming
 use Rattle.guard_run.specs.declared.ends.Refusal.{Refusal}
-use Rattle.guard_run.specs.declared.ends.Refusal.TheVariants.{DataUnread, TooLong, NotText, At}
+use Rattle.guard_run.specs.declared.ends.Refusal.TheVariants.{DataUnread, TooLong, NotText, EvidenceSyntax, At}
 use Rattle.guard_run.specs.declared.ends.RefusalKind.{RefusalKind}
 use Rattle.guard_run.specs.declared.ends.RefusalKind.TheVariants.{Unclosed, BadByte, NumberRange, NestTooDeep, Syntax, BadRange, DuplicateRule, DuplicateName, UnknownRule, UnknownVariable, UnknownFunction, NeedsArguments, TakesNone, ArgCount, LiteralWanted, RecursiveRule, RecursiveVariable, TooDeep, DuplicateKey, Tab, Anchor, Tag, Directive, ManyDocuments}
 use Rattle.guard_run.specs.declared.ends.Which.TheVariants as file
@@ -39,12 +41,15 @@ IsTooLong limit bytes = limit < length bytes
 abbrev pub IsNoText : ℕ → List ℕ → Type 0
 IsNoText limit bytes = (length bytes ≤ limit) × (IsUtf8 bytes → ⊥)
 
--- a template has at most 8 MiB, and rules have at most 1 MiB
+-- a template has at most 8 MiB, rules have at most 1 MiB, and evidence has at most 256 MiB
 abbrev pub template_limit : ℕ
 template_limit = 8388608
 
 abbrev pub rules_limit : ℕ
 rules_limit = 1048576
+
+abbrev pub proof_limit : ℕ
+proof_limit = 268435456
 
 -- Templates.
 
@@ -155,3 +160,16 @@ RefusesRules bytes (NotText file.Rules) = IsNoText rules_limit bytes
 RefusesRules bytes (At file.Rules kind at name) =
     IsText rules_limit bytes × (((name ≡ None) × RefusesText bytes kind at) ⊎ RefusesNames bytes kind at name)
 RefusesRules bytes _ = ⊥
+
+-- Evidence.
+
+-- bytes that are evidence of these lines
+pub record IsProof (bytes : List ℕ) (lines : List Line) : Type 0 where
+  pub within : length bytes ≤ proof_limit
+  pub read : IsEvidence bytes lines
+
+-- why evidence with these bytes is refused: they are too many, or a line is not in the format
+abbrev pub RefusesProof : List ℕ → Refusal → Type 0
+RefusesProof bytes (TooLong file.Proof) = IsTooLong proof_limit bytes
+RefusesProof bytes (EvidenceSyntax number) = (length bytes ≤ proof_limit) × IsFault bytes number
+RefusesProof bytes _ = ⊥

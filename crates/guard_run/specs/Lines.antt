@@ -2,7 +2,7 @@
 use Rattle.std.specs.Prelude.{ℕ, ◌++◌, List, [], Option, Some, None, codes, decimal}
 use Rattle.doc_values.specs.Position.{line_at, column_at}
 use Rattle.guard_run.specs.declared.ends.Refusal.{Refusal}
-use Rattle.guard_run.specs.declared.ends.Refusal.TheVariants.{DataUnread, TooLong, NotText, At}
+use Rattle.guard_run.specs.declared.ends.Refusal.TheVariants.{DataUnread, TooLong, NotText, EvidenceSyntax, At}
 use Rattle.guard_run.specs.declared.ends.RefusalKind.{RefusalKind}
 use Rattle.guard_run.specs.declared.ends.RefusalKind.TheVariants.{Unclosed, BadByte, NumberRange, NestTooDeep, Syntax, BadRange, DuplicateRule, DuplicateName, UnknownRule, UnknownVariable, UnknownFunction, NeedsArguments, TakesNone, ArgCount, LiteralWanted, RecursiveRule, RecursiveVariable, TooDeep, DuplicateKey, Tab, Anchor, Tag, Directive, ManyDocuments, BadPattern}
 use Rattle.guard_run.specs.declared.ends.Which.{Which}
@@ -14,6 +14,7 @@ usage_line = codes "usage: guard validate --rules FILE --data FILE [--evidence] 
 abbrev pub read_fault_line : Which → List ℕ
 read_fault_line file.Rules = codes "guard: cannot read rules\n"
 read_fault_line file.Template = codes "guard: cannot read data\n"
+read_fault_line file.Proof = codes "guard: cannot read proof\n"
 
 abbrev pub pattern_line : List ℕ
 pattern_line = codes "guard: pattern refused\n"
@@ -28,6 +29,7 @@ memory_line = codes "guard: memory\n"
 abbrev pub file_word : Which → List ℕ
 file_word file.Rules = codes "rules"
 file_word file.Template = codes "data"
+file_word file.Proof = codes "proof"
 
 -- the name of a kind
 abbrev pub kind_word : RefusalKind → List ℕ
@@ -71,9 +73,14 @@ abbrev pub placed_line : Which → List ℕ → ℕ → List ℕ → List ℕ
 placed_line which bytes at word = codes "guard: " ++ file_word which ++ codes " " ++ decimal (line_at bytes at) ++ codes ":"
     ++ decimal (column_at bytes at) ++ codes ": " ++ word ++ codes "\n"
 
+-- `guard: proof line <number>: EvidenceSyntax`
+abbrev pub evidence_line : ℕ → List ℕ
+evidence_line number = codes "guard: proof line " ++ decimal number ++ codes ": EvidenceSyntax\n"
+
 -- the line of a refusal of a file with these bytes
 abbrev pub refusal_line : List ℕ → Refusal → List ℕ
 refusal_line bytes DataUnread = whole_line file.Template (codes "DataUnread")
 refusal_line bytes (TooLong which) = whole_line which (codes "TooLong")
 refusal_line bytes (NotText which) = whole_line which (codes "NotText")
+refusal_line bytes (EvidenceSyntax number) = evidence_line number
 refusal_line bytes (At which kind at name) = placed_line which bytes at (kind_word kind ++ name_part name)

@@ -1,26 +1,33 @@
 -- What comes of the words and the files before anything is written: steps of the order of work, by the types of the code.
-use Rattle.std.specs.Prelude.{ℕ, ◌≡◌, ◌≤◌, ◌<◌, List, [], Option, Some, None, string_bytes, length, if◌then◌else◌}
+use Rattle.std.specs.Prelude.{ℕ, ◌≡◌, ◌⊎◌, ◌≤◌, ◌<◌, List, [], Option, Some, None, string_bytes, length, if◌then◌else◌}
+use Rattle.doc_values.specs.Tree.{Forest}
+use Rattle.guard_io.specs.Outside.{Rose}
+use Rattle.guard_syntax.specs.Syntax.{File}
 use Rattle.name_table.specs.Files.{file_of}
-use Rattle.guard_run.specs.Request.{Request}
+use Rattle.guard_run.specs.Request.{Request, format_of}
 use Rattle.guard_lexer.specs.declared.token.LexRefusal.{LexRefusal}
 use Rattle.guard_lexer.specs.declared.token.LexRefusal.TheVariants as lex
 use Rattle.guard_parser.specs.declared.refusal.ParseRefusal.{ParseRefusal}
 use Rattle.guard_parser.specs.declared.refusal.ParseRefusal.TheVariants as parse
 use Rattle.json_reader.specs.declared.refusal.JsonRefusal.{JsonRefusal}
 use Rattle.json_reader.specs.declared.refusal.JsonRefusal.TheVariants as json
-use Rattle.guard_run.specs.Inputs.{IsRuleFile, RefusesRules}
+use Rattle.guard_run.specs.Inputs.{IsRuleFile, IsTemplate, RefusesRules}
+use Rattle.guard_run.specs.Check.{rejected_text}
 use Rattle.guard_run.specs.Lines.{usage_line}
-use Rattle.guard_run.specs.End.{Ended, EndOf, Contents, Counts, IsContent, Loads, Unread, Unmade, refused}
+use Rattle.guard_run.specs.End.{Ended, EndOf, AreRead, Contents, Counts, IsContent, Loads, Unread, Unmade, refused}
 use Rattle.guard_run.specs.declared.ends.End.TheVariants as end_is
 use Rattle.guard_run.specs.declared.ends.Refusal.{Refusal}
 use Rattle.guard_run.specs.declared.ends.Refusal.TheVariants.{At}
 use Rattle.guard_run.specs.declared.ends.RefusalKind.{RefusalKind}
 use Rattle.guard_run.specs.declared.ends.RefusalKind.TheVariants.{Unclosed, BadByte, NumberRange, NestTooDeep, Syntax, BadRange, TooDeep, DuplicateKey}
 use Rattle.guard_run.specs.declared.ends.Which.{Which}
+use Rattle.guard_run.specs.declared.ends.Which.TheVariants as file
 use Rattle.guard_run.specs.declared.load.Loaded.{Loaded}
 use Rattle.guard_run.specs.declared.load.Loaded.TheVariants as load
 use Rattle.guard_run.specs.declared.load.LoadedRules.{LoadedRules}
 use Rattle.guard_run.specs.declared.load.LoadedRules.TheVariants as rules_load
+use Rattle.guard_run.specs.declared.outcome.Job.{Job}
+use Rattle.guard_run.specs.declared.outcome.Job.TheVariants as job
 use Rattle.guard_run.specs.declared.outcome.Outcome.{Outcome}
 use Rattle.guard_run.specs.declared.outcome.Outcome.TheVariants as outcome
 use Rattle.guard_run.specs.declared.line.Line.{Line}
@@ -90,6 +97,22 @@ AreLoaded told (rules_load.Refused r) = (bytes : List ℕ) × IsContent told byt
 AreLoaded told rules_load.Fault = Unit {0}
 AreLoaded told rules_load.Memory = Unit {0}
 
+-- the name of evidence, where it is to be judged
+abbrev pub proof_of : Job → Option (List ℕ)
+proof_of job.Validate = None
+proof_of (job.Check proof) = Some proof.now
+
+-- evidence that is asked for was not read: each pattern of the rules is read, and the count of its name rose
+abbrev pub IsProofFault : Option (List ℕ) → File → (before after : List ℕ → ℕ) → Type 0
+IsProofFault proof rules before after = (name : List ℕ) × (proof ≡ Some name) × AreRead rules × Rose (before name) (after name)
+
+-- with the rules read, a file was not: the template, whose count rose, or evidence, behind a template that is read
+abbrev pub IsLateFault : Contents → (before after : List ℕ → ℕ) → (template : List ℕ) → (proof : Option (List ℕ)) → File → Which → Type 0
+IsLateFault told before after template proof rules which =
+    ((which ≡ file.Template) × Rose (before template) (after template))
+    ⊎ ((which ≡ file.Proof) × ((bytes : List ℕ) × IsContent (told template) bytes × ((tree : Forest) × IsTemplate (format_of template) bytes tree))
+    × IsProofFault proof rules before after)
+
 -- the end of a template that was judged
 abbrev pub ended : Judgement → Ended
 ended judgement = record {
@@ -98,9 +121,15 @@ ended judgement = record {
   err = [];
 }
 
+-- no work goes on behind a template: ends that come before it does
+abbrev pub goes_nowhere : Forest → Ended → Type 0
+goes_nowhere tree e = ⊥
+
 -- an outcome with a template's bytes or with its name: what is written where it is no fault and no want of memory
 abbrev pub IsOutcomeAs : (Ended → Type 0) → Outcome → Type 0
 IsOutcomeAs Ends (outcome.Judged judgement) = Ends (ended judgement)
+IsOutcomeAs Ends (outcome.Accepted text) = Ends (record { how = end_is.Accepted; out = text.items; err = [] })
+IsOutcomeAs Ends (outcome.Rejected number) = Ends (record { how = end_is.Rejected number; out = rejected_text number; err = [] })
 IsOutcomeAs Ends (outcome.Refused r) = Ends (said r)
 IsOutcomeAs Ends outcome.Usage = Ends (record { how = end_is.Usage; out = []; err = usage_line })
 IsOutcomeAs Ends (outcome.ReadFault which) = Unit {0}

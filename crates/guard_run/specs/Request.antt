@@ -1,24 +1,30 @@
 -- The words of a call, and what they ask for.
-use Rattle.std.specs.Prelude.{ℕ, List, false, codes, nat_eq, if◌then◌else◌}
+use Rattle.std.specs.Prelude.{ℕ, List, Option, Some, None, false, codes, nat_eq, if◌then◌else◌}
 use Rattle.std.specs.List.{ends_with}
-use Rattle.guard_words.specs.Request.{AsksFor, drill, validate}
+use Rattle.guard_words.specs.Request.{Asked, AsksFor, check, drill, validate}
 use Rattle.guard_run.specs.declared.words.Format.{Format}
 use Rattle.guard_run.specs.declared.words.Format.TheVariants.{Json, Yaml}
 
--- what is asked for: a rule file and a template, each by its name
+-- what is asked for: a rule file and a template, and the evidence that is to be judged, if that is asked for; each by its name
 pub record Request : Type 0 where
   pub rules : List ℕ
   pub template : List ℕ
+  pub proof : Option (List ℕ)
 
--- the words ask for `validate` of these files, without evidence
+-- `validate` without `--evidence`, or `check`
+abbrev pub asked_of : (rules template : List ℕ) → (proof : Option (List ℕ)) → Asked
+asked_of rules template None = validate rules template false
+asked_of rules template (Some proof) = check rules template proof
+
+-- the words ask for this of these files
 abbrev pub Asks : List (List ℕ) → Request → Type 0
-Asks words q = AsksFor words (validate q.rules q.template false)
+Asks words q = AsksFor words (asked_of q.rules q.template q.proof)
 
 -- the words ask for a drill of so many resources
 abbrev pub AsksDrill : List (List ℕ) → ℕ → Type 0
 AsksDrill words count = AsksFor words (drill count)
 
--- the words ask for neither; what else they may ask for is not done yet
+-- the words ask for neither; what else they may ask for, `validate` with `--evidence`, is not done yet
 abbrev pub AsksNothing : List (List ℕ) → Type 0
 AsksNothing words = ((q : Request) → ¬ Asks words q) × ((count : ℕ) → ¬ AsksDrill words count)
 

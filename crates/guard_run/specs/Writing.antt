@@ -12,6 +12,8 @@ use Rattle.guard_run.specs.declared.ends.Pipe.TheVariants.{Out, Err}
 abbrev pub Closed : List (List ℕ) → Contents → (before after : Faults) → End → (out out' err err' : Option (List ℕ)) → Type 0
 Closed words told before after end_is.Passed out out' err err' = TookAsDefined words told end_is.Passed out out' err err'
 Closed words told before after end_is.Failed out out' err err' = TookAsDefined words told end_is.Failed out out' err err'
+Closed words told before after end_is.Accepted out out' err err' = TookAsDefined words told end_is.Accepted out out' err err'
+Closed words told before after (end_is.Rejected number) out out' err err' = TookAsDefined words told (end_is.Rejected number) out out' err err'
 Closed words told before after end_is.Usage out out' err err' = TookAsDefined words told end_is.Usage out out' err err'
 Closed words told before after (end_is.Refused refusal) out out' err err' = TookAsDefined words told (end_is.Refused refusal) out out' err err'
 Closed words told before after (end_is.ReadFault which) out out' err err' =

@@ -1,14 +1,14 @@
 //! A drill: a template that is made is judged by rules that are always the same. No file is loaded, and no pattern is made.
-ghost use Rattle.std.specs.Prelude.{◌≡◌, ◌≢◌, ◌≤◌, ◌++◌, codes, decimal, string_bytes, IfOk, MatchResult};
+ghost use Rattle.std.specs.Prelude.{◌≡◌, ◌≢◌, ◌≤◌, ◌++◌, codes, decimal, length, string_bytes, IfOk, MatchResult};
 ghost use Rattle.name_table.specs.Files.{file_of};
-ghost use Rattle.guard_run.specs.Drill.{drill_rules};
-ghost use Rattle.guard_run.specs.End.{EndOfDrill};
+ghost use Rattle.guard_run.specs.Drill.{drill_report, drill_rules};
+ghost use Rattle.guard_run.specs.End.{EndOfDrill, EndOfTemplate, IsJudged};
 ghost use Rattle.guard_run.specs.Inputs.{IsRuleFile, RefusesRules};
 ghost use Rattle.guard_run.specs.Outcome.{IsNotRead, IsOutcomeAs};
 
 use crate::ends::Which;
 use crate::load::Rules;
-use crate::outcome::{Outcome, text_outcome};
+use crate::outcome::{Outcome, ready_of, report_outcome};
 use crate::read::{NotRead, rules_of};
 use crate::report::{Form, Lines, push_total_line};
 use crate::words::Format;
@@ -41,15 +41,23 @@ pub(crate) fn drill_outcome(alloc: Global, count: u32) -> Outcome
         Err(NotRead::Memory) => return Outcome::Memory,
     };
     match drill_template(alloc, count) {
-        Ok(template) => text_outcome(
-            alloc,
-            &rules,
-            Form::Drill { count },
-            Format::Json,
-            &template,
-            &mut Unasked,
-        ),
+        Ok(template) => made_outcome(alloc, &rules, count, &template),
         Err(AllocError) => Outcome::Memory,
+    }
+}
+
+/// What comes of the template that was made, by the rules of a drill.
+fn made_outcome(alloc: Global, rules: &Rules, count: u32, template: &str) -> Outcome
+    requires rules { length (string_bytes rules.now.text) ≤ 1048576 }
+    requires template { length template.now ≤ 8388608 }
+    ensures outcome { IsOutcomeAs (EndOfTemplate Format.Json (string_bytes rules.now.text) (file_of rules.now.file) template.now
+        (IsJudged (drill_report count) (string_bytes rules.now.text) (file_of rules.now.file) template.now)) result }
+    ensures no_fault { (which : Which) → result ≢ Outcome.ReadFault which }
+    ensures no_pattern_fault { result ≢ Outcome.PatternRefused }
+{
+    match ready_of(alloc, rules, Format::Json, template, &mut Unasked) {
+        Ok(ready) => report_outcome(alloc, rules, Form::Drill { count }, template, &ready),
+        Err(outcome) => outcome,
     }
 }
 

@@ -64,10 +64,12 @@ pub enum RefusalKind {
 pub enum Refusal {
     /// The template is read as YAML and has no tree in its profile, and no refusal with a place comes for it so far.
     DataUnread,
-    /// The file has more bytes than it may have: rules 1 MiB, a template 8 MiB.
+    /// The file has more bytes than it may have: rules 1 MiB, a template 8 MiB, evidence 256 MiB.
     TooLong(Which),
     /// The file is not UTF-8.
     NotText(Which),
+    /// The line of this number is the first of the evidence that is not in the format, where the header is 0.
+    EvidenceSyntax(u64),
     /// A place of the file.
     At {
         which: Which,
@@ -84,6 +86,8 @@ pub enum Refusal {
 pub enum Which {
     Rules,
     Template,
+    /// Evidence that is to be judged.
+    Proof,
 }
 
 /// One of the sinks.
@@ -100,6 +104,10 @@ pub enum End {
     Passed,
     /// A rule is FAIL.
     Failed,
+    /// Evidence is accepted, whatever the verdicts that it says.
+    Accepted,
+    /// Evidence is rejected at the line of this number; where a verdict is wanting, at the line behind the last.
+    Rejected(u64),
     /// The words ask for nothing, or for what is not done yet.
     Usage,
     Refused(Refusal),
@@ -119,8 +127,8 @@ impl End {
         ensures { result ≡ status_of self.now }
     {
         match self {
-            End::Passed => 0,
-            End::Failed => 19,
+            End::Passed | End::Accepted => 0,
+            End::Failed | End::Rejected(_) => 19,
             End::Usage => 2,
             End::Refused(_) => 5,
             End::ReadFault(_) | End::WriteFault(_) | End::PatternRefused => 6,

@@ -10,7 +10,7 @@ use guard_io::{Files, Sink};
 use std::alloc::Global;
 use value_compare::PatternMaker;
 
-/// Judges a template by rules: what the program does with its words.
+/// Judges a template by rules, or evidence for their verdicts: what the program does with its words.
 pub fn guard<F: Files, M: PatternMaker, O: Sink, E: Sink>(
     alloc: Global,
     words: &[String],
@@ -34,7 +34,7 @@ pub fn guard<F: Files, M: PatternMaker, O: Sink, E: Sink>(
         → ((text : List ℕ) × Unmade (map string_bytes words.now) (F.content files.old)
         (M.faults maker.old) (M.faults maker.new) text)
         × TookOfUnmade (O.told out.old) (O.told out.new) (E.told err.old) (E.told err.new) }
-    // Out is not written only where there is a report and its count rose.
+    // Out is not written only where there is a report, or what is said of evidence, and its count rose.
     ensures out_fault { result ≡ End.WriteFault Pipe.Out
         → Rose (O.faults out.old) (O.faults out.new)
         × TookOfUnwritten (map string_bytes words.now) (F.content files.old)

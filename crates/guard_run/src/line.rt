@@ -3,7 +3,8 @@
 ghost use Rattle.std.specs.Prelude.{◌≡◌, ◌+◌, ◌≤◌, ◌++◌, Some, length, decimal, string_bytes, IfOk};
 ghost use Rattle.arrayvec.specs.ArrayString.{array_string_len};
 ghost use Rattle.doc_values.specs.Position.{line_at, column_at};
-ghost use Rattle.guard_run.specs.Lines.{file_word, kind_word, name_part, whole_line, placed_line};
+ghost use Rattle.guard_run.specs.Check.{rejected_text};
+ghost use Rattle.guard_run.specs.Lines.{evidence_line, file_word, kind_word, name_part, whole_line, placed_line};
 ghost use Rattle.guard_run.specs.Outcome.{line_bytes};
 
 use crate::ends::{RefusalKind, Which};
@@ -66,6 +67,28 @@ pub(crate) fn placed_line(which: Which, kind: RefusalKind, at: u32, bytes: &[u8]
     line
 }
 
+/// The line of evidence whose line of this number is not in the format.
+pub(crate) fn evidence_line(number: u64) -> Short
+    ensures { result.bytes ≡ evidence_line number }
+{
+    let mut line = ArrayString::new();
+    line.push_str("guard: proof line ");
+    push_line_number(&mut line, number);
+    line.push_str(": EvidenceSyntax\n");
+    line
+}
+
+/// What is written of evidence that is rejected at the line of this number.
+pub(crate) fn rejected_text(number: u64) -> Short
+    ensures { result.bytes ≡ rejected_text number }
+{
+    let mut line = ArrayString::new();
+    line.push_str("rejected ");
+    push_line_number(&mut line, number);
+    line.push_str("\n");
+    line
+}
+
 /// The line of a refusal that is about a name, at a byte offset of a file.
 pub(crate) fn named_line(
     alloc: Global,
@@ -106,6 +129,16 @@ fn push_number(line: &mut Short, number: u32)
     line.push_str(digits.format(number));
 }
 
+/// Appends the number of a line of evidence.
+fn push_line_number(line: &mut Short, number: u64)
+    requires { array_string_len line.old + 20 ≤ 64 }
+    ensures bytes { line.new.bytes ≡ line.old.bytes ++ decimal number }
+    ensures short { array_string_len line.new ≤ array_string_len line.old + 20 }
+{
+    let mut digits = Buffer::new();
+    line.push_str(digits.format(number));
+}
+
 /// The word for a file.
 fn file_word(which: Which) -> &'static str
     ensures word { result.now ≡ file_word which }
@@ -114,6 +147,7 @@ fn file_word(which: Which) -> &'static str
     match which {
         Which::Rules => "rules",
         Which::Template => "data",
+        Which::Proof => "proof",
     }
 }
 

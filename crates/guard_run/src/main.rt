@@ -1,18 +1,22 @@
-//! The program `guard`: it judges a template by rules, and prints the verdicts and what each that is FAIL fails by.
+//! The program `guard`: it judges a template by rules, and prints the verdicts and what each that is FAIL fails by; and it
+//! judges evidence for such verdicts.
 //!
 //! The top call `guard` does the program's work over any files and any sinks. Its contract is the program's promise: the
 //! words and the contents of the files decide the end, what the standard output takes and what the standard error takes,
 //! and in place of that end come only counted faults of the files, of the maker of patterns and of the sinks, and want of
 //! memory. It stands on the reader of words, on the texts of a drill, on the lexer and the parser of rules, on the test of
-//! their names, on the evaluator and on the tests on rows, on the readers of JSON and of YAML, on located trees and on the
-//! traits of files, sinks and makers of patterns. Only `main` knows the system: it hands the words, the real files and
-//! streams and the crate of regular expressions to `guard`.
+//! their names, on the evaluator and on the tests on rows, on the reader and the judge of evidence, on the readers of JSON
+//! and of YAML, on located trees and on the traits of files, sinks and makers of patterns. Only `main` knows the system: it
+//! hands the words, the real files and streams and the crate of regular expressions to `guard`.
 //!
 //! The whole language is read and evaluated.
 #![tactic(auto)]
 
 #[cfg(test)]
 mod block_tests;
+mod check;
+#[cfg(test)]
+mod check_tests;
 mod drill;
 #[cfg(test)]
 mod drill_tests;

@@ -5,7 +5,7 @@ ghost use Rattle.guard_run.specs.Inputs.{name_kind, name_said, of_yaml};
 ghost use Rattle.guard_run.specs.Outcome.{said, lex_kind, parse_kind, json_kind, IsRefusedAs};
 
 use crate::ends::{Refusal, RefusalKind, Which};
-use crate::line::{Line, named_line, placed_line, whole_line};
+use crate::line::{Line, evidence_line, named_line, placed_line, whole_line};
 use guard_lexer::LexRefusal;
 use guard_parser::ParseRefusal;
 use guard_syntax::Text;
@@ -38,6 +38,16 @@ pub(crate) fn too_long(which: Which) -> Refused
     Refused {
         refusal: Refusal::TooLong(which),
         line: Line::Short(whole_line(which, "TooLong")),
+    }
+}
+
+/// Evidence whose line of this number is the first that is not in the format.
+pub(crate) fn not_evidence(number: u64) -> Refused
+    ensures { (bytes : List ℕ) → said result ≡ refused bytes (Refusal.EvidenceSyntax number) }
+{
+    Refused {
+        refusal: Refusal::EvidenceSyntax(number),
+        line: Line::Short(evidence_line(number)),
     }
 }
 

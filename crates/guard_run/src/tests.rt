@@ -9,7 +9,7 @@ use value_compare::ScriptMaker;
 
 const AMPLE: u64 = 1 << 20;
 
-const RULES: &[u8] = b"rule r { Resources.B.Properties.BucketName exists }";
+pub(crate) const RULES: &[u8] = b"rule r { Resources.B.Properties.BucketName exists }";
 
 pub(crate) const NAMED: &[u8] =
     br#"{"Resources":{"B":{"Type":"AWS::S3::Bucket","Properties":{"BucketName":"x"}}}}"#;
@@ -29,6 +29,7 @@ pub(crate) struct Given<'a> {
     pub words: &'a [&'a str],
     pub rules: &'a [u8],
     pub data: &'a [u8],
+    pub proof: &'a [u8],
     pub failing: &'a [u64],
     pub refusing: &'a [u64],
     pub out_room: u64,
@@ -51,6 +52,7 @@ pub(crate) const FIRST: Given<'static> = Given {
     words: &["validate", "--rules", "r.guard", "--data", "d.json"],
     rules: RULES,
     data: NAMED,
+    proof: b"",
     failing: &[],
     refusing: &[],
     out_room: AMPLE,
@@ -102,6 +104,10 @@ pub(crate) fn call(alloc: Global, given: &Given) -> Result<Ran, AllocError> {
         String::from_str(alloc, template_name(given.words))?,
         Vec::from_slice(alloc, given.data)?,
     ))?;
+    names.push((
+        String::from_str(alloc, "e")?,
+        Vec::from_slice(alloc, given.proof)?,
+    ))?;
     let mut files = MemFiles {
         names,
         failing: Vec::from_slice(alloc, given.failing)?,
@@ -131,10 +137,13 @@ fn word(end: &End) -> &'static str {
     match end {
         End::Passed => "passed",
         End::Failed => "failed",
+        End::Accepted => "accepted",
+        End::Rejected(_) => "rejected",
         End::Usage => "usage",
         End::Refused(_) => "refused",
         End::ReadFault(Which::Rules) => "rules not read",
         End::ReadFault(Which::Template) => "template not read",
+        End::ReadFault(Which::Proof) => "proof not read",
         End::WriteFault(Pipe::Out) => "out not written",
         End::WriteFault(Pipe::Err) => "err not written",
         End::PatternRefused => "pattern not made",
@@ -482,8 +491,8 @@ fn reads_words(rt: HostRuntime) -> Result<(), Fail> {
             &[
                 "check", "--rules", "r.guard", "--data", "d.json", "--proof", "e",
             ],
-            usage,
-            0,
+            refused("guard: proof line 0: EvidenceSyntax\n"),
+            3,
         ),
         (&["drill", "--count", "07"], usage, 0),
         (
@@ -628,7 +637,7 @@ fn reads_rules_up_to_the_limit(rt: HostRuntime) -> Result<(), Fail> {
         };
         expect(&rt, &call(rt.alloc(), &given)?, wanted);
     }
-    only_end(RULES, NAMED);
+    only_end(RULES, NAMED, b"");
     Ok(())
 }
 

@@ -1,11 +1,12 @@
-ghost use Rattle.std.specs.Prelude.{◌≡◌, ◌≢◌, ◌≤◌, ◌++◌, ℕ, List, []};
+ghost use Rattle.std.specs.Prelude.{◌≡◌, ◌≢◌, ◌≤◌, ◌++◌, ℕ, List, [], true};
 ghost use Rattle.guard_io.specs.Outside.{Rose, IsPrefix};
 ghost use Rattle.guard_run.specs.Lines.{memory_line, read_fault_line};
-ghost use Rattle.guard_run.specs.End.{Contents, Counts, EndOf};
+ghost use Rattle.guard_run.specs.End.{Contents, Counts, EndOf, is_reported};
 ghost use Rattle.guard_run.specs.Outcome.{IsOutcome, ended};
 ghost use Rattle.guard_run.specs.Writing.{Closed, Said, SaidMemory};
 
 use crate::ends::{End, Pipe, Which};
+use crate::line::rejected_text;
 use crate::outcome::Outcome;
 use crate::refused::Refused;
 use crate::report::Judgement;
@@ -24,7 +25,14 @@ pub(crate) fn write_outcome<O: Sink, E: Sink>(outcome: Outcome, out: &mut O, err
     ensures err_count { E.faults err.old ≤ E.faults err.new }
 {
     match outcome {
-        Outcome::Judged(judgement) => write_report(&judgement, out, err),
+        Outcome::Judged(judgement) => {
+            write_report(&judgement.report, end_of(&judgement), out, err)
+        }
+        Outcome::Accepted(text) => write_report(&text, End::Accepted, out, err),
+        Outcome::Rejected(number) => {
+            let text = rejected_text(number);
+            write_report(text.as_str().as_bytes(), End::Rejected(number), out, err)
+        }
         Outcome::Refused(Refused { refusal, line }) => {
             say(line.as_str(), End::Refused(refusal), err)
         }
@@ -39,10 +47,11 @@ pub(crate) fn write_outcome<O: Sink, E: Sink>(outcome: Outcome, out: &mut O, err
     }
 }
 
-/// Writes a report on out.
-fn write_report<O: Sink, E: Sink>(judgement: &Judgement, out: &mut O, err: &mut E) -> End
+/// Writes a report on out, or what is written of evidence, and gives the end where out took it.
+fn write_report<O: Sink, E: Sink>(report: &[u8], end: End, out: &mut O, err: &mut E) -> End
+    requires { is_reported end ≡ true }
     ensures closed { (words : List (List ℕ)) (told : Contents) (before after : Counts)
-        → EndOf words told (ended judgement.now)
+        → EndOf words told (record { how = end; out = report.now; err = [] })
         → Closed words told (record { read = before; out = O.faults out.old })
         (record { read = after; out = O.faults out.new }) result
         (O.told out.old) (O.told out.new) (E.told err.old) (E.told err.new) }
@@ -51,8 +60,8 @@ fn write_report<O: Sink, E: Sink>(judgement: &Judgement, out: &mut O, err: &mut 
     ensures out_count { O.faults out.old ≤ O.faults out.new }
     ensures err_count { E.faults err.old ≤ E.faults err.new }
 {
-    match out.put(&judgement.report) {
-        Ok(()) => end_of(judgement),
+    match out.put(report) {
+        Ok(()) => end,
         Err(SinkFault::Failed) => say("guard: cannot write out\n", End::WriteFault(Pipe::Out), err),
         Err(SinkFault::Memory) => say_memory(err),
     }
@@ -105,5 +114,6 @@ fn read_fault_text(which: Which) -> &'static str
     match which {
         Which::Rules => "guard: cannot read rules\n",
         Which::Template => "guard: cannot read data\n",
+        Which::Proof => "guard: cannot read proof\n",
     }
 }

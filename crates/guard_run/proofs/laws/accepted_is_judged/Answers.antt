@@ -1,5 +1,8 @@
 use Rattle.guard_run.proofs.Accepted.{accepted-judged}
+use Rattle.guard_run.proofs.OneTemplate.{OneTemplate}
 use Rattle.guard_run.proofs.laws.accepted_is_judged.Goals as goal
 
 pub returns : goal.returns
-returns c = accepted-judged c.args.rules.now c.args.template.now c.only_end.ensures c.one_answer_over_spots.ensures.some
+returns c =
+    let one : OneTemplate c.args.template.now = record { tree = c.only_template.ensures.tree; refusal = c.only_template.ensures.refusal; apart = c.only_template.ensures.apart } in
+    accepted-judged c.one_syntax.ensures c.args.rules.now c.args.template.now one

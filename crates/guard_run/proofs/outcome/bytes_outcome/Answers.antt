@@ -1,15 +1,16 @@
 use Rattle.std.proofs.Common.{ℕ, List, inl, inr, refl, string_bytes, subst}
 use Rattle.name_table.specs.Files.{file_of}
-use Rattle.guard_run.specs.End.{EndOfTemplate}
-use Rattle.guard_run.specs.Outcome.{IsOutcomeAs}
-use Rattle.guard_run.specs.Report.{report}
+use Rattle.guard_run.specs.End.{EndOfTemplate, EndOfWork}
+use Rattle.guard_run.specs.Outcome.{IsOutcomeAs, proof_of}
 use Rattle.guard_run.specs.declared.ends.Refusal.TheVariants.{NotText}
 use Rattle.guard_run.specs.declared.ends.Which.TheVariants as file
 use Rattle.guard_run.proofs.outcome.bytes_outcome.Goals as goal
 
 pub returns-in-Ok-clause-outcome : goal.returns-in-Ok-clause-outcome
 returns-in-Ok-clause-outcome g c =
-    subst (λ (b : List ℕ). IsOutcomeAs (EndOfTemplate report c.args.format (string_bytes c.args.rules.now.text) (file_of c.args.rules.now.file) b) c.text_outcome.result)
+    let source = string_bytes c.args.rules.now.text in
+    let rules = file_of c.args.rules.now.file in
+    subst (λ (b : List ℕ). IsOutcomeAs (EndOfTemplate c.args.format source rules b (EndOfWork (g.F.Files.content c.args.files.now) (proof_of c.args.job) source rules b)) c.text_outcome.result)
     c.in-Ok.ensures.cases.0 c.text_outcome.ensures.outcome
 
 pub returns-in-Err-clause-outcome : goal.returns-in-Err-clause-outcome

@@ -1,4 +1,4 @@
-use Rattle.std.proofs.Common.{◌≡◌, ◌∙◌, Err, ap, ap₂, refl, false, true, map, string_bytes, subst, sym}
+use Rattle.std.proofs.Common.{◌≡◌, ◌∙◌, ℕ, List, Err, Some, None, ap, ap₂, refl, false, true, map, string_bytes, subst, sym}
 use Rattle.guard_words.specs.Request.{AsksFor, asked, check, validate}
 use Rattle.guard_words.proofs.DrillCounts.{drill_low}
 use Rattle.guard_run.specs.End.{Counts}
@@ -11,7 +11,7 @@ pub returns-in-Ok-Validate-default-default-false-clause-outcome :
 returns-in-Ok-Validate-default-default-false-clause-outcome g c =
     let words = map string_bytes c.args.words.now in
     let read = c.in-Ok-Validate-default-default-false in
-    let q : Request = record { rules = c.deref.result.now; template = c.deref-in-Ok-Validate-default-default-false.result.now } in
+    let q : Request = record { rules = c.deref.result.now; template = c.deref-in-Ok-Validate-default-default-false.result.now; proof = None } in
     let same : asked read.field-0 ≡ validate q.rules q.template false =
     ap asked read.field-0-is ∙ ap (validate (string_bytes read.rules) (string_bytes read.template)) read.field-0-2-test
     ∙ ap₂ (λ rules template. validate rules template false) (sym c.deref.ensures) (sym c.deref-in-Ok-Validate-default-default-false.ensures) in
@@ -35,10 +35,20 @@ returns-in-Ok-Validate-default-default-true-clause-outcome g c =
 
 pub returns-in-Ok-Check-clause-outcome : goal.returns-in-Ok-Check-clause-outcome
 returns-in-Ok-Check-clause-outcome g c =
+    let words = map string_bytes c.args.words.now in
     let read = c.in-Ok-Check in
-    usage-undone (map string_bytes c.args.words.now) (g.F.Files.content c.args.files.now)
-    (check (string_bytes read.field-0-0) (string_bytes read.field-0-1) (string_bytes read.field-0-2)) refl
-    (λ other asks. read.ensures.only other asks ∙ ap asked read.field-0-is)
+    let proof = c.deref-in-Ok-Check-3.result.now in
+    let q : Request = record { rules = c.deref-in-Ok-Check.result.now; template = c.deref-in-Ok-Check-2.result.now; proof = Some proof } in
+    let same : asked read.field-0 ≡ check q.rules q.template proof =
+    ap asked read.field-0-is
+    ∙ (ap (λ (rules : List ℕ). check rules (string_bytes read.template) (string_bytes read.proof)) (sym c.deref-in-Ok-Check.ensures)
+    ∙ ap₂ (λ (template proof : List ℕ). check q.rules template proof) (sym c.deref-in-Ok-Check-2.ensures) (sym c.deref-in-Ok-Check-3.ensures)) in
+    let asks : Asks words q = subst (AsksFor words) same read.ensures.ok in
+    outcome-asked words (g.F.Files.content c.args.files.now)
+    (record { files = g.F.Files.faults c.args.files.now; patterns = g.M.PatternMaker.faults c.args.maker.now })
+    (record { files = g.F.Files.faults c.files_outcome-in-Ok-Check.new.files; patterns = g.M.PatternMaker.faults c.files_outcome-in-Ok-Check.new.maker })
+    q asks c.files_outcome-in-Ok-Check.result c.files_outcome-in-Ok-Check.ensures.outcome c.files_outcome-in-Ok-Check.ensures.comes
+    c.files_outcome-in-Ok-Check.ensures.fault c.files_outcome-in-Ok-Check.ensures.pattern_fault
 
 pub drill_outcome-requires : goal.drill_outcome-requires
 drill_outcome-requires g c =

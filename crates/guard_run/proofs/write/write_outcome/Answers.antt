@@ -1,17 +1,41 @@
-use Rattle.std.proofs.Common.{ℕ, List, inl, inr, refl, [], subst}
-use Rattle.guard_run.specs.End.{Ended, EndOf, Faults, Loads, Unread, Unmade, Took}
+use Rattle.std.proofs.Common.{◌≡◌, ℕ, List, true, inl, inr, refl, sym, ap₂, ◌∙◌, [], subst}
+use Rattle.guard_run.specs.Check.{rejected_text}
+use Rattle.guard_run.specs.End.{Ended, EndOf, Faults, Loads, Unread, Unmade, Took, is_reported}
 use Rattle.guard_run.specs.Lines.{usage_line, read_fault_line, pattern_line}
 use Rattle.guard_run.specs.Request.{Request}
-use Rattle.guard_run.specs.Outcome.{IsOutcome, line_bytes, said}
+use Rattle.guard_run.specs.Outcome.{IsOutcome, ended, line_bytes, said}
 use Rattle.guard_run.specs.declared.refused.Refused.{Refused}
 use Rattle.guard_run.specs.Writing.{Said}
+use Rattle.guard_run.specs.declared.ends.End.{End}
 use Rattle.guard_run.specs.declared.ends.End.TheVariants as end_is
-use Rattle.guard_run.proofs.Closing.{Took-nothing, Closed-said, Closed-memory}
+use Rattle.guard_run.specs.declared.report.Judgement.{Judgement}
+use Rattle.guard_run.proofs.Closing.{Took-nothing, Closed-said, Closed-memory, ended-reported, reported_as}
 use Rattle.guard_run.proofs.write.write_outcome.Goals as goal
 
 pub returns-in-Judged-clause-closed : goal.returns-in-Judged-clause-closed
 returns-in-Judged-clause-closed g c = λ words told old new end.
-    c.write_report.ensures.closed words told old new (subst (λ o. IsOutcome words told old new o) c.in-Judged.is end)
+    let judgement : Judgement = c.in-Judged.judgement in
+    let ends : EndOf words told (ended judgement) = subst (λ o. IsOutcome words told old new o) c.in-Judged.is end in
+    let same : ended judgement ≡ reported_as c.end_of.result c.deref.result.now = ap₂ reported_as (sym c.end_of.ensures) (sym c.deref.ensures.value) in
+    c.write_report.ensures.closed words told old new (subst (EndOf words told) same ends)
+
+pub write_report-requires : goal.write_report-requires
+write_report-requires g c = subst (λ (how : End). is_reported how ≡ true) (sym c.end_of.ensures) (ended-reported c.in-Judged.judgement)
+
+pub returns-in-Accepted-clause-closed : goal.returns-in-Accepted-clause-closed
+returns-in-Accepted-clause-closed g c = λ words told old new end.
+    let ends : EndOf words told (reported_as end_is.Accepted c.in-Accepted.text.items) = subst (λ o. IsOutcome words told old new o) c.in-Accepted.is end in
+    c.write_report-in-Accepted.ensures.closed words told old new
+    (subst (λ (text : List ℕ). EndOf words told (reported_as end_is.Accepted text)) (sym c.deref-in-Accepted.ensures.value) ends)
+
+pub returns-in-Rejected-clause-closed : goal.returns-in-Rejected-clause-closed
+returns-in-Rejected-clause-closed g c = λ words told old new end.
+    let number = c.in-Rejected.number in
+    let ends : EndOf words told (reported_as (end_is.Rejected number) (rejected_text number)) =
+    subst (λ o. IsOutcome words told old new o) c.in-Rejected.is end in
+    c.write_report-in-Rejected.ensures.closed words told old new
+    (subst (λ (text : List ℕ). EndOf words told (reported_as (end_is.Rejected number) text))
+    (sym (c.as_bytes.ensures.value ∙ (c.as_str.ensures.value ∙ c.rejected_text-text.ensures))) ends)
 
 pub returns-in-Refused-clause-closed : goal.returns-in-Refused-clause-closed
 returns-in-Refused-clause-closed g c = λ words told old new end.
@@ -19,7 +43,7 @@ returns-in-Refused-clause-closed g c = λ words told old new end.
     let ends : EndOf words told (said r) = subst (λ o. IsOutcome words told old new o) c.in-Refused.is end in
     let none : Took (g.O.Sink.told c.args.out.now) (g.O.Sink.told c.args.out.now) [] = Took-nothing (g.O.Sink.told c.args.out.now) in
     let tried : Said (line_bytes r.line) (end_is.Refused r.refusal) c.say.result
-    (g.E.Sink.told c.args.err.now) (g.E.Sink.told c.say.new.err) = rw c.as_str.ensures at c.say.ensures.said in
+    (g.E.Sink.told c.args.err.now) (g.E.Sink.told c.say.new.err) = rw c.as_str-in-Refused.ensures at c.say.ensures.said in
     let before : Faults = record { read = old; out = g.O.Sink.faults c.args.out.now } in
     let after : Faults = record { read = new; out = g.O.Sink.faults c.args.out.now } in
     Closed-said words told before after (line_bytes r.line) (end_is.Refused r.refusal) c.say.result

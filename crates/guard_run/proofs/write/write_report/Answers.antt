@@ -1,46 +1,49 @@
-use Rattle.std.proofs.Common.{ℕ, List, Err, ap, inl, inr, refl, sym, subst}
+use Rattle.std.proofs.Common.{ℕ, List, Err, ap, inl, inr, refl, sym, ◌∙◌}
+use Rattle.std.proofs.lemmas.Bool.{true≢false}
 use Rattle.guard_io.specs.Outside.{IsPrefix}
-use Rattle.guard_run.specs.End.{Faults, Took}
+use Rattle.guard_run.specs.End.{Faults, Took, is_reported}
 use Rattle.guard_run.specs.Lines.{write_fault_line}
-use Rattle.guard_run.specs.Writing.{Closed}
-use Rattle.guard_run.specs.Outcome.{ended}
 use Rattle.guard_run.specs.declared.ends.End.TheVariants.{WriteFault}
 use Rattle.guard_run.specs.declared.ends.Pipe.TheVariants.{Out}
-use Rattle.guard_run.proofs.Closing.{Took-front, Took-nothing, Closed-said, Closed-memory, Closed-defined, IsReport-ended, ended-defined}
+use Rattle.guard_run.proofs.Closing.{Took-front, Took-nothing, Closed-said, Closed-memory, Closed-defined, IsReport-as, reported_as, reported-defined}
 use Rattle.guard_run.proofs.write.write_report.Goals as goal
 
 pub returns-in-Ok-clause-closed : goal.returns-in-Ok-clause-closed
 returns-in-Ok-clause-closed g c = λ words told old new end.
     let before : Faults = record { read = old; out = g.O.Sink.faults c.args.out.now } in
     let after : Faults = record { read = new; out = g.O.Sink.faults c.put.new.self } in
-    let taken : Took (g.O.Sink.told c.args.out.now) (g.O.Sink.told c.put.new.self) c.args.judgement.now.report.items =
-    rw c.deref.ensures.value at c.in-Ok.ensures.ok in
-    subst (λ how. Closed words told before after how (g.O.Sink.told c.args.out.now) (g.O.Sink.told c.put.new.self)
-    (g.E.Sink.told c.args.err.now) (g.E.Sink.told c.args.err.now)) (sym c.end_of.ensures)
-    (Closed-defined words told before after (ended c.args.judgement.now).how (g.O.Sink.told c.args.out.now) (g.O.Sink.told c.put.new.self)
-    (g.E.Sink.told c.args.err.now) (g.E.Sink.told c.args.err.now) (ended-defined c.args.judgement.now)
-    (ended c.args.judgement.now, end, refl, taken, Took-nothing (g.E.Sink.told c.args.err.now)))
+    let taken : Took (g.O.Sink.told c.args.out.now) (g.O.Sink.told c.put.new.self) c.args.report.now = c.in-Ok.ensures.ok in
+    Closed-defined words told before after c.args.end (g.O.Sink.told c.args.out.now) (g.O.Sink.told c.put.new.self)
+    (g.E.Sink.told c.args.err.now) (g.E.Sink.told c.args.err.now) (reported-defined c.args.end c.requires)
+    (reported_as c.args.end c.args.report.now, end, refl, taken, Took-nothing (g.E.Sink.told c.args.err.now))
 
 pub returns-in-Err-Failed-clause-closed : goal.returns-in-Err-Failed-clause-closed
 returns-in-Err-Failed-clause-closed g c = λ words told old new end.
     let before : Faults = record { read = old; out = g.O.Sink.faults c.args.out.now } in
     let after : Faults = record { read = new; out = g.O.Sink.faults c.put.new.self } in
-    let report = c.args.judgement.now.report.items in
+    let report = c.args.report.now in
     let cut : (front : List ℕ) × IsPrefix front report × Took (g.O.Sink.told c.args.out.now) (g.O.Sink.told c.put.new.self) front =
-    Took-front (g.O.Sink.told c.args.out.now) (g.O.Sink.told c.put.new.self) report (rw c.deref.ensures.value at c.in-Err-Failed.ensures.err) in
-    let whole = IsReport-ended words told c.args.judgement.now end in
+    Took-front (g.O.Sink.told c.args.out.now) (g.O.Sink.told c.put.new.self) report c.in-Err-Failed.ensures.err in
+    let whole = IsReport-as words told c.args.end report c.requires end in
     Closed-said words told before after write_fault_line (WriteFault Out) c.say.result (g.O.Sink.told c.args.out.now) (g.O.Sink.told c.put.new.self)
     (g.E.Sink.told c.args.err.now) (g.E.Sink.told c.say.new.err) cut.0
     (inr (inr (inr (report, whole, cut.1, c.in-Err-Failed.ensures.failed (ap Err c.in-Err-Failed.field-0-is), refl)))) cut.2
     (λ said. (report, cut.0, whole, cut.1, cut.2, said)) c.say.ensures.said
 
-pub returns-in-Err-Memory-clause-closed : goal.returns-in-Err-Memory-clause-closed
-returns-in-Err-Memory-clause-closed g c = λ words told old new end.
+pub returns-clause-closed : goal.returns-clause-closed
+returns-clause-closed g c = λ words told old new end.
     let before : Faults = record { read = old; out = g.O.Sink.faults c.args.out.now } in
     let after : Faults = record { read = new; out = g.O.Sink.faults c.put.new.self } in
-    let report = c.args.judgement.now.report.items in
+    let report = c.args.report.now in
     let cut : (front : List ℕ) × IsPrefix front report × Took (g.O.Sink.told c.args.out.now) (g.O.Sink.told c.put.new.self) front =
-    Took-front (g.O.Sink.told c.args.out.now) (g.O.Sink.told c.put.new.self) report (rw c.deref.ensures.value at c.in-Err-Memory.ensures.err) in
+    Took-front (g.O.Sink.told c.args.out.now) (g.O.Sink.told c.put.new.self) report c.in-Err-Memory.ensures.err in
     Closed-memory words told before after c.say_memory.result (g.O.Sink.told c.args.out.now) (g.O.Sink.told c.put.new.self)
     (g.E.Sink.told c.args.err.now) (g.E.Sink.told c.say_memory.new.err) cut.0
-    (inr (inl (report, IsReport-ended words told c.args.judgement.now end, cut.1, refl))) cut.2 c.say_memory.ensures.said
+    (inr (inl (report, IsReport-as words told c.args.end report c.requires end, cut.1, refl))) cut.2 c.say_memory.ensures.said
+
+-- an end at which out took a text is no fault
+pub returns-in-Ok-clause-out_fault : goal.returns-in-Ok-clause-out_fault
+returns-in-Ok-clause-out_fault g c = λ is. absurd (true≢false (sym c.requires ∙ ap is_reported is))
+
+pub returns-in-Ok-clause-err_fault : goal.returns-in-Ok-clause-err_fault
+returns-in-Ok-clause-err_fault g c = λ is. absurd (true≢false (sym c.requires ∙ ap is_reported is))
