@@ -11,8 +11,6 @@ mod count;
 mod lines;
 mod set;
 mod special;
-#[cfg(test)]
-mod tests;
 
 pub use ascii::is_ascii;
 pub use count::count_byte;

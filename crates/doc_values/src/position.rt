@@ -21,32 +21,3 @@ pub fn place_of(bytes: &[u8], at: u32) -> (u32, u32)
     }
     (line, column)
 }
-
-#[cfg(test)]
-mod tests {
-    use super::*;
-    use std::test::Fail;
-
-    #[test]
-    fn lines_and_columns(rt: HostRuntime) -> Result<(), Fail> {
-        for (text, at, want) in [
-            ("", 0, (1, 1)),
-            ("ab", 0, (1, 1)),
-            ("ab", 2, (1, 3)),
-            ("a\nb", 1, (1, 2)),
-            ("a\nb", 2, (2, 1)),
-            ("a\nb", 3, (2, 2)),
-            ("\n\n", 2, (3, 1)),
-            ("a\r\nb", 3, (2, 1)),
-            ("é\nx", 2, (1, 3)),
-        ] {
-            let bytes = text.as_bytes();
-            if at as usize <= bytes.len() && at < 1000 {
-                assert_eq!(rt; place_of(bytes, at), want, "at {text}");
-            } else {
-                return Err(Fail::from("outside"));
-            }
-        }
-        Ok(())
-    }
-}

@@ -7,13 +7,14 @@ use Rattle.guard_syntax.specs.Syntax.{Disjs, File}
 use Rattle.guard_syntax.specs.declared.syntax.Disj.{Disj as HeldDisj}
 use Rattle.guard_syntax.specs.declared.syntax.Rule.{Rule as Held}
 use Rattle.guard_syntax.specs.declared.row.Verdict.{Verdict}
-use Rattle.name_table.specs.Files.{file_of}
-use Rattle.name_table.specs.declared.file.RuleFile.{RuleFile}
-use Rattle.value_compare.specs.Known.{Known, Made}
+use Rattle.rule_names.specs.Files.{file_of}
+use Rattle.rule_names.specs.declared.file.RuleFile.{RuleFile}
+use Rattle.rule_meaning.specs.Known.{Known, Made}
 use Rattle.value_compare.specs.Stores.{see_store}
 use Rattle.value_compare.specs.declared.store.Store.{Store}
-use Rattle.query_steps.specs.Follows.{Accepts, AllFollow, nothing_made}
-use Rattle.evidence_checker.specs.Answered.{AreOfLoose, AreOfRules, IsRejectedAt}
+use Rattle.evidence_rules.specs.Follows.{Accepts, AllFollow, nothing_made}
+use Rattle.evidence_rules.specs.RuleLines.{AreOfLoose, AreOfRules}
+use Rattle.evidence_checker.specs.Answered.{IsRejectedAt}
 use Rattle.evidence_checker.specs.Judging.{AreJudged, IsFaultAt, IsLooseWanting, IsRuleWanting, IsWanting}
 use Rattle.evidence_checker.proofs.RuleVerdicts.{loose-judged, not-all, rules-judged}
 

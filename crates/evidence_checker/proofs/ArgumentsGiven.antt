@@ -11,10 +11,10 @@ use Rattle.guard_syntax.specs.Syntax as sx
 use Rattle.guard_syntax.specs.declared.row.Row.{Row}
 use Rattle.guard_syntax.specs.declared.row.Row.TheVariants.{Found}
 use Rattle.guard_syntax.specs.declared.syntax.Expr.{Expr}
-use Rattle.name_table.specs.Uses.{count_exprs, expr_in}
-use Rattle.value_compare.specs.Known.{Known}
-use Rattle.query_steps.specs.CitedLines.{GiveArgs, GivesExpr, IsLine}
-use Rattle.query_steps.specs.Roots.{literal_ref}
+use Rattle.rule_names.specs.Uses.{count_exprs, expr_in}
+use Rattle.rule_meaning.specs.Known.{Known}
+use Rattle.evidence_rules.specs.CitedLines.{GiveArgs, GivesExpr, IsLine}
+use Rattle.rule_meaning.specs.Roots.{literal_ref}
 use Rattle.evidence_checker.specs.Said.{AreSound}
 use Rattle.evidence_checker.proofs.SaidKnown.{literal-said}
 

@@ -20,28 +20,28 @@ use Rattle.guard_syntax.specs.declared.syntax.Expr as expr
 use Rattle.guard_syntax.specs.declared.function.Function.{Function}
 use Rattle.guard_syntax.specs.declared.function.Function.TheVariants.{RegexReplace}
 use Rattle.guard_syntax.specs.declared.row.Row.{Row}
-use Rattle.name_table.specs.Names.{WellNamed}
-use Rattle.name_table.specs.Pieces.{AreInOrder, OfExpr, OfStep, Piece, piece_at, pieces_expr}
-use Rattle.name_table.specs.Uses.{arity, function_named, functions}
-use Rattle.name_table.specs.Within.{StandsIn}
-use Rattle.name_table.proofs.Arguments.{named-none}
-use Rattle.name_table.proofs.PiecesStand.{piece-stands}
+use Rattle.rule_names.specs.Names.{WellNamed}
+use Rattle.rule_names.specs.Pieces.{AreInOrder, OfExpr, OfStep, Piece, piece_at, pieces_expr}
+use Rattle.rule_names.specs.Uses.{arity, function_named, functions}
+use Rattle.rule_names.specs.Within.{StandsIn}
+use Rattle.rule_names.proofs.Arguments.{named-none}
+use Rattle.rule_names.proofs.PiecesStand.{piece-stands}
 use Rattle.value_compare.specs.Books.{IsBookOf, has_text}
-use Rattle.value_compare.specs.Functions.{Functions, MadeRow, argument, single_text}
-use Rattle.value_compare.specs.Known.{Known, Made, is_known}
+use Rattle.rule_meaning.specs.Functions.{Functions, MadeRow, argument, single_text}
+use Rattle.rule_meaning.specs.Known.{Known, Made, is_known}
 use Rattle.value_compare.proofs.OneAnswer.{answers-same}
-use Rattle.query_steps.specs.CitedLines.{GiveArgs}
-use Rattle.query_steps.specs.Follows.{FollowsAtExpr, FollowsRows}
-use Rattle.query_steps.specs.Seeing.{grown, rows_kept, trees_kept}
+use Rattle.evidence_rules.specs.CitedLines.{GiveArgs}
+use Rattle.evidence_rules.specs.Follows.{FollowsAtExpr, FollowsRows}
+use Rattle.rule_meaning.specs.Seeing.{grown, rows_kept, trees_kept}
 use Rattle.query_steps.proofs.KnownAnswers.{answer-known}
 use Rattle.query_steps.proofs.SeenAnswers.{answer-known as kept-known}
 use Rattle.evidence_checker.specs.Calls.{IsAnswered, IsCall, IsCallAt}
 use Rattle.evidence_checker.specs.Said.{AreMadeWithin, AreSound}
 use Rattle.evidence_checker.proofs.ArgumentsGiven.{args-literal, args-many, args-one}
-use Rattle.evidence_checker.proofs.FittingCalls.{arguments-counted}
+use Rattle.rule_names.proofs.FittingCalls.{arguments-counted}
 use Rattle.evidence_checker.proofs.KeptTrees.{called-within}
 use Rattle.evidence_checker.proofs.SaidKnown.{args-said-known}
-use Rattle.evidence_checker.proofs.SoughtTexts.{pattern-held}
+use Rattle.query_steps.proofs.SoughtTexts.{pattern-held}
 
 -- ---- the one call of a site
 

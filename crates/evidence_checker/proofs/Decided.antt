@@ -9,8 +9,8 @@ use Rattle.evidence_lines.specs.declared.line.LineKind.TheVariants as kind
 use Rattle.guard_syntax.specs.Syntax as sx
 use Rattle.guard_syntax.specs.declared.row.Verdict.{Verdict}
 use Rattle.guard_syntax.specs.declared.row.Verdict.TheVariants.{Pass}
-use Rattle.value_compare.specs.Known.{Known}
-use Rattle.query_steps.specs.Follows.{Guarded, Under, UnderSome, conds_site}
+use Rattle.rule_meaning.specs.Known.{Known}
+use Rattle.evidence_rules.specs.Follows.{Guarded, Under, UnderSome, conds_site}
 use Rattle.evidence_checker.specs.FirstCites.{IsGuard, IsSomeGuard}
 use Rattle.evidence_checker.proofs.SaidOnce.{same-verdict}
 

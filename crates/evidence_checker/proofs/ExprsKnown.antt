@@ -12,10 +12,10 @@ use Rattle.guard_syntax.specs.declared.row.Row.{Row}
 use Rattle.guard_syntax.specs.declared.row.Row.TheVariants.{Found}
 use Rattle.guard_syntax.specs.declared.syntax.Expr.{Expr, the_lemmas}
 use Rattle.guard_syntax.specs.declared.syntax.Expr as expr
-use Rattle.name_table.specs.Pieces.{OfExpr, Piece, piece_at}
-use Rattle.value_compare.specs.Known.{Known, is_known, is_known_ref, literal_at, tree_of_piece}
-use Rattle.query_steps.specs.Roots.{literal_ref}
-use Rattle.query_steps.specs.Verdicts.{is_found}
+use Rattle.rule_names.specs.Pieces.{OfExpr, Piece, piece_at}
+use Rattle.rule_meaning.specs.Known.{Known, is_known, is_known_ref, literal_at, tree_of_piece}
+use Rattle.rule_meaning.specs.Roots.{literal_ref}
+use Rattle.rule_meaning.specs.Verdicts.{is_found}
 use Rattle.query_steps.proofs.KnownRows.{filter-all}
 use Rattle.evidence_checker.specs.FoundRows.{AreFoundBy}
 use Rattle.evidence_checker.specs.Said.{AreSound}

@@ -9,12 +9,12 @@ use Rattle.guard_syntax.specs.declared.row.Row.{Row}
 use Rattle.guard_syntax.specs.declared.row.Verdict.{Verdict}
 use Rattle.guard_syntax.specs.declared.syntax.Conds.{Conds, out-Conds, the_lemmas as conds_lemmas}
 use Rattle.guard_syntax.specs.declared.syntax.Op.{Op}
-use Rattle.value_compare.specs.Known.{Known}
-use Rattle.query_steps.specs.CitedLines.{GivesQuery, IsLine}
-use Rattle.query_steps.specs.Follows.{FollowsBlock, FollowsBody, FollowsRowsOf, FollowsRule, FollowsTest, FollowsTyped, GivesRight, UnderSome, conds_site}
-use Rattle.query_steps.specs.Keys.{passes}
-use Rattle.query_steps.specs.SetTests.{is_empty_test, is_set}
-use Rattle.query_steps.specs.Verdicts.{set_verdict, test_verdict}
+use Rattle.rule_meaning.specs.Known.{Known}
+use Rattle.evidence_rules.specs.CitedLines.{GivesQuery, IsLine}
+use Rattle.evidence_rules.specs.Follows.{FollowsBlock, FollowsBody, FollowsRowsOf, FollowsRule, FollowsTest, FollowsTyped, GivesRight, UnderSome, conds_site}
+use Rattle.rule_meaning.specs.Keys.{passes}
+use Rattle.rule_meaning.specs.SetTests.{is_empty_test, is_set}
+use Rattle.rule_meaning.specs.Verdicts.{set_verdict, test_verdict}
 use Rattle.evidence_checker.specs.FirstCites.{IsGuard}
 use Rattle.evidence_checker.proofs.Decided.{decide-given}
 use Rattle.evidence_checker.proofs.SaidOnce.{same-query, same-right, same-rows}

@@ -6,7 +6,7 @@ use Rattle.evidence_lines.specs.declared.line.LineKind.TheVariants as kind
 use Rattle.evidence_lines.specs.declared.line.Outcome.TheVariants as says
 use Rattle.guard_syntax.specs.declared.row.Ref.{Ref}
 use Rattle.guard_syntax.specs.declared.row.Verdict.{Verdict}
-use Rattle.query_steps.specs.CitedLines.{IsLine}
+use Rattle.evidence_rules.specs.CitedLines.{IsLine}
 
 same-frame : (o : Option Line) (l line : Line) (at other : ℕ) → Some l ≡ o → l.frame ≡ Some at → o ≡ Some line → line.frame ≡ Some other → other ≡ at
 same-frame o l line at other is framed also otherwise =

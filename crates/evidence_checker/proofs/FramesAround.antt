@@ -6,7 +6,7 @@ use Rattle.evidence_lines.specs.declared.line.Line.{Line}
 use Rattle.evidence_lines.specs.declared.line.LineKind.{LineKind}
 use Rattle.evidence_lines.specs.declared.line.LineKind.TheVariants as kind
 use Rattle.guard_syntax.specs.Syntax.{File, Exprs}
-use Rattle.query_steps.specs.CitedLines.{around_site, file_frame, outer_frame, outwards, past_frame}
+use Rattle.evidence_rules.specs.CitedLines.{around_site, file_frame, outer_frame, outwards, past_frame}
 
 module _ (file : File) (lines : List Line) where
   -- around a called body

@@ -8,7 +8,7 @@ use Rattle.evidence_lines.specs.declared.line.Outcome.{Outcome}
 use Rattle.evidence_lines.specs.declared.line.Outcome.TheVariants as says
 use Rattle.guard_syntax.specs.declared.row.Ref.{Ref}
 use Rattle.guard_syntax.specs.declared.row.Verdict.{Verdict}
-use Rattle.query_steps.specs.CitedLines.{IsLine}
+use Rattle.evidence_rules.specs.CitedLines.{IsLine}
 use Rattle.evidence_checker.proofs.SaidOnce.{same-some}
 
 module _ (lines : List Line) (number : ℕ) (line : Line) (at : ℕ) (stands : Some line ≡ line_of lines number) (frame_is : line.frame ≡ Some at) where

@@ -2,9 +2,9 @@
 use Rattle.std.proofs.Common.{◌≡◌, sym, ap, ◌∙◌, subst, append_assoc, List, [], ◌∷◌, ◌++◌}
 use Rattle.std.proofs.lemmas.List.{append-nil}
 use Rattle.evidence_lines.specs.declared.line.Line.{Line}
-use Rattle.value_compare.specs.Known.{Known, Made}
-use Rattle.query_steps.specs.Follows.{AllFollow, Follows}
-use Rattle.query_steps.specs.Seeing.{grown}
+use Rattle.rule_meaning.specs.Known.{Known, Made}
+use Rattle.evidence_rules.specs.Follows.{AllFollow, Follows}
+use Rattle.rule_meaning.specs.Seeing.{grown}
 use Rattle.evidence_checker.specs.Judging.{IsKnownBehind, Leads}
 
 -- at the start

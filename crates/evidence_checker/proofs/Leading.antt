@@ -2,8 +2,8 @@
 use Rattle.std.proofs.Common.{◌≡◌, Bool, true, false, ap, sym, refl, List, [], MatchBool}
 use Rattle.std.proofs.lemmas.Bool.{true≢false}
 use Rattle.std.proofs.lemmas.List.{append-nil}
-use Rattle.value_compare.specs.Known.{Known, Made}
-use Rattle.query_steps.specs.Seeing.{grown}
+use Rattle.rule_meaning.specs.Known.{Known, Made}
+use Rattle.rule_meaning.specs.Seeing.{grown}
 use Rattle.evidence_checker.specs.Judging.{Leads, Stays}
 
 pub grown-nothing : (known : Known) → grown known [] ≡ known

@@ -15,11 +15,11 @@ use Rattle.guard_syntax.specs.declared.row.Ref.{Ref}
 use Rattle.guard_syntax.specs.declared.row.Row.{Row}
 use Rattle.guard_syntax.specs.declared.row.Row.TheVariants.{Found}
 use Rattle.guard_syntax.specs.declared.row.Verdict.{Verdict}
-use Rattle.name_table.specs.Pieces.{AreInOrder, Piece, OfExpr, OfPart, OfStep, piece_at}
-use Rattle.value_compare.specs.Known.{Known, Made, is_known_ref}
-use Rattle.query_steps.specs.CitedLines.{scope_of}
-use Rattle.query_steps.specs.Follows.{Follows, FollowsAtExpr, FollowsIn, FollowsRows, FollowsVerdict, IsFileLine, IsFrameOf, home_for}
-use Rattle.query_steps.specs.Roots.{literal_ref, root_ref}
+use Rattle.rule_names.specs.Pieces.{AreInOrder, Piece, OfExpr, OfPart, OfStep, piece_at}
+use Rattle.rule_meaning.specs.Known.{Known, Made, is_known_ref}
+use Rattle.evidence_rules.specs.CitedLines.{scope_of}
+use Rattle.evidence_rules.specs.Follows.{Follows, FollowsAtExpr, FollowsIn, FollowsRows, FollowsVerdict, IsFileLine, IsFrameOf, home_for}
+use Rattle.rule_meaning.specs.Roots.{literal_ref, root_ref}
 use Rattle.evidence_checker.specs.Said.{IsSound, is_known_outcome}
 use Rattle.evidence_checker.proofs.Leading.{Decided, decided-alike, nothing-decided}
 use Rattle.evidence_checker.proofs.SitesPlaced.{placed-nowhere}

@@ -7,10 +7,10 @@ use Rattle.evidence_lines.specs.declared.line.Line.{Line}
 use Rattle.guard_syntax.specs.Seen.{see_file}
 use Rattle.guard_syntax.specs.declared.row.Verdict.{Verdict}
 use Rattle.guard_syntax.specs.declared.syntax.RawFile.{RawFile}
-use Rattle.name_table.specs.Pieces.{AreInOrder}
-use Rattle.value_compare.specs.Known.{Known, Made}
-use Rattle.query_steps.specs.Follows.{AllFollow, Follows}
-use Rattle.query_steps.proofs.FollowingShapes.{follows-shape}
+use Rattle.rule_names.specs.Pieces.{AreInOrder}
+use Rattle.rule_meaning.specs.Known.{Known, Made}
+use Rattle.evidence_rules.specs.Follows.{AllFollow, Follows}
+use Rattle.evidence_rules.proofs.FollowingShapes.{follows-shape}
 use Rattle.evidence_checker.specs.Judging.{AreJudged, IsFaultAt, IsKnownBehind, Leads}
 use Rattle.evidence_checker.specs.Said.{AreMadeWithin, AreSound, IsSound}
 use Rattle.evidence_checker.proofs.KnownBehind.{all-follow, behind-more, stuck}

@@ -5,8 +5,8 @@ use Rattle.evidence_lines.specs.Lines.{line_of}
 use Rattle.evidence_lines.specs.declared.line.Line.{Line}
 use Rattle.evidence_lines.specs.declared.line.LineKind.{LineKind}
 use Rattle.evidence_lines.specs.declared.line.Outcome.{Outcome}
-use Rattle.query_steps.specs.CitedLines.{IsLine}
-use Rattle.query_steps.proofs.LinesBehind.{at-end, behind-first}
+use Rattle.evidence_rules.specs.CitedLines.{IsLine}
+use Rattle.evidence_rules.proofs.LinesBehind.{at-end, behind-first}
 
 -- the fields of a line
 abbrev pub HasFields : Line → LineKind → (frame site : ℕ) → Outcome → Type 0

@@ -10,10 +10,10 @@ use Rattle.guard_syntax.specs.declared.row.Row.{Row}
 use Rattle.guard_syntax.specs.declared.row.Row.TheVariants.{Found, Missing, Unmade}
 use Rattle.guard_syntax.specs.declared.row.Verdict.{Verdict}
 use Rattle.guard_syntax.specs.declared.row.Verdict.TheVariants.{Pass, Fail, Skip}
-use Rattle.value_compare.specs.Known.{Known}
-use Rattle.query_steps.specs.CitedLines.{IsLine, body_site}
-use Rattle.query_steps.specs.Follows.{FollowsRowsOf, SayRows, SaysBody}
-use Rattle.query_steps.specs.Verdicts.{block_verdict}
+use Rattle.rule_meaning.specs.Known.{Known}
+use Rattle.evidence_rules.specs.CitedLines.{IsLine, body_site}
+use Rattle.evidence_rules.specs.Follows.{FollowsRowsOf, SayRows, SaysBody}
+use Rattle.rule_meaning.specs.Verdicts.{block_verdict}
 use Rattle.evidence_checker.specs.FirstCites.{SaysRow}
 use Rattle.evidence_checker.proofs.SaidOnce.{same-body}
 

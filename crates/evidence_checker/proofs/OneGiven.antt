@@ -8,12 +8,12 @@ use Rattle.evidence_lines.specs.declared.line.Outcome.TheVariants as says
 use Rattle.guard_syntax.specs.Syntax.{Exprs, Expr, File, Query, literal, function, asked, found, query}
 use Rattle.guard_syntax.specs.declared.row.Row.{Row}
 use Rattle.guard_syntax.specs.declared.row.Verdict.{Verdict}
-use Rattle.name_table.specs.Links.{bind_of}
-use Rattle.name_table.specs.Pieces.{Piece, OfExpr, OfQuery, piece_at}
-use Rattle.name_table.specs.Uses.{expr_in}
-use Rattle.name_table.specs.declared.bind.Bind.{Bind}
-use Rattle.name_table.specs.declared.bind.Bind.TheVariants as bound
-use Rattle.query_steps.specs.CitedLines.{IsLine, GivesArgument, GivesBound, GivesExpr, GivesPiece, GivesQuery, GivesVariable, args_at, outwards}
+use Rattle.rule_names.specs.Links.{bind_of}
+use Rattle.rule_names.specs.Pieces.{Piece, OfExpr, OfQuery, piece_at}
+use Rattle.rule_names.specs.Uses.{expr_in}
+use Rattle.rule_names.specs.declared.bind.Bind.{Bind}
+use Rattle.rule_names.specs.declared.bind.Bind.TheVariants as bound
+use Rattle.evidence_rules.specs.CitedLines.{IsLine, GivesArgument, GivesBound, GivesExpr, GivesPiece, GivesQuery, GivesVariable, args_at, outwards}
 
 -- what stands in an option is one
 pub one-there : {A : Type 0} (o : Option A) (x y : A) → o ≡ Some x → o ≡ Some y → x ≡ y

@@ -1,12 +1,12 @@
 -- Parts, bodies and rules that are found at a site stand in the file, and so does what stands in them.
-use Rattle.std.proofs.Common.{◌≡◌, ◌⊎◌, ℕ, suc, Bool, true, false, cond, sym, ◌∙◌, subst, refl, inl, inr, List, [], ◌∷◌, ◌++◌, Option, Some, None, zero, ◌<◌, length, get_or, arith}
-use Rattle.std.specs.Prelude.{◌==◌, Contains, find, option_map}
+use Rattle.std.proofs.Common.{◌≡◌, ℕ, suc, cond, sym, subst, refl, inl, inr, List, [], ◌∷◌, ◌++◌, Some, zero, ◌<◌, length, get_or, arith}
+use Rattle.std.specs.Prelude.{Contains}
 use Rattle.std.proofs.lemmas.List.{append-nil}
 use Rattle.guard_syntax.specs.Syntax.{Body, Lets, Let, Conds, OptConds, Disjs, Disj, Parts, Part, Query, Steps, Step, Expr, OptExpr, Exprs, Rule, File, body, no_lets, more_lets, assign, conds, no_conds, with_conds, no_disjs, more_disjs, disj, no_parts, more_parts, block, guarded, kinds, test, refer, call, query, no_steps, more_steps, this, var, key, index, every, items, splice, filter, keys, literal, function, asked, found, no_expr, with_expr, no_exprs, more_exprs}
-use Rattle.name_table.specs.Pieces.{Piece, OfFile, OfLet, OfRule, OfBody, OfConds, OfDisj, OfPart, OfQuery, OfStep, OfExpr, Sited, piece_in, piece_at, pieces_file, pieces_body, pieces_lets, pieces_let, pieces_conds, pieces_opt_conds, pieces_disjs, pieces_disj, pieces_parts, pieces_part, pieces_query, pieces_steps, pieces_step, pieces_expr, pieces_opt_expr, pieces_exprs, pieces_rule, pieces_rules}
-use Rattle.name_table.specs.Within.{IsAmong, StandsIn}
-use Rattle.name_table.proofs.Among.{IsAmong-inner, IsAmong-last, IsAmong-first, IsAmong-behind}
-use Rattle.name_table.proofs.Parts.{either, in-append}
+use Rattle.rule_names.specs.Pieces.{Piece, OfFile, OfLet, OfRule, OfBody, OfConds, OfDisj, OfPart, OfQuery, OfStep, OfExpr, Sited, piece_in, piece_at, pieces_file, pieces_body, pieces_lets, pieces_let, pieces_conds, pieces_opt_conds, pieces_disjs, pieces_disj, pieces_parts, pieces_part, pieces_query, pieces_steps, pieces_step, pieces_expr, pieces_opt_expr, pieces_exprs, pieces_rule, pieces_rules}
+use Rattle.rule_names.specs.Within.{IsAmong, StandsIn}
+use Rattle.rule_names.proofs.Among.{IsAmong-inner, IsAmong-last, IsAmong-first, IsAmong-behind}
+use Rattle.rule_names.proofs.PiecesStand.{cons-found, append-found, none-found}
 
 -- a rule is one of the file's, and the pieces of a body or a part are among those of the file
 abbrev pub Own : File → Piece → Type 0
@@ -14,26 +14,6 @@ Own f (OfRule r) = Contains f.rules r
 Own f (OfBody b) = StandsIn f (pieces_body b)
 Own f (OfPart p) = StandsIn f (pieces_part p)
 Own f _ = Unit {0}
-
--- a piece is the first of some, or found behind it
-cons-by : (v : Bool) (m : ℕ) (q p : Piece) (rest : Option Sited) → option_map (λ (s : Sited). s.1) (cond v (Some (m, q)) rest) ≡ Some p
-    → (q ≡ p) ⊎ (option_map (λ (s : Sited). s.1) rest ≡ Some p)
-cons-by true m q p rest e = inl cc
-cons-by false m q p rest e = inr e
-
-cons-found : (n m : ℕ) (q p : Piece) (ps : List Sited) → piece_in ((m, q) ∷ ps) n ≡ Some p → (q ≡ p) ⊎ (piece_in ps n ≡ Some p)
-cons-found n m q p ps e = cons-by (m == n) m q p (find (λ (s : Sited). s.0 == n) ps) e
-
--- in the first of two lists, or in the second
-either-found : (a b : Option Piece) (p : Piece) → either a b ≡ Some p → (a ≡ Some p) ⊎ (b ≡ Some p)
-either-found None b p e = inr e
-either-found (Some q) b p e = inl e
-
-append-found : (n : ℕ) (p : Piece) (ps qs : List Sited) → piece_in (ps ++ qs) n ≡ Some p → (piece_in ps n ≡ Some p) ⊎ (piece_in qs n ≡ Some p)
-append-found n p ps qs e = either-found (piece_in ps n) (piece_in qs n) p (sym (in-append n ps qs) ∙ e)
-
-none-found : (n : ℕ) (p : Piece) → piece_in [] n ≡ Some p → ⊥
-none-found n p e = absurd cc
 
 whole-among : (ps : List Sited) → IsAmong ps ps
 whole-among ps = ([], [], sym (append-nil ps))

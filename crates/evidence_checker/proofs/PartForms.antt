@@ -16,8 +16,8 @@ use Rattle.guard_syntax.specs.declared.syntax.Op.{Op}
 use Rattle.guard_syntax.specs.declared.syntax.Part.{the_lemmas}
 use Rattle.guard_syntax.specs.declared.syntax.Part.TheVariants as part
 use Rattle.guard_syntax.specs.declared.syntax.Query.{Query}
-use Rattle.value_compare.specs.Known.{Known}
-use Rattle.query_steps.specs.Follows.{FollowsAtPart, kind_of_part}
+use Rattle.rule_meaning.specs.Known.{Known}
+use Rattle.evidence_rules.specs.Follows.{FollowsAtPart, kind_of_part}
 
 pub block-seen : (site : ℕ) (any : Bool) (head : Query) (inner : Body) → see_part (part.Block site any head inner) ≡ sx.block site any (see_query head) (see_body inner)
 block-seen site any head inner = search (rules, the_lemmas)

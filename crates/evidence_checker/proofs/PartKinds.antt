@@ -16,10 +16,10 @@ use Rattle.guard_syntax.specs.declared.syntax.Op.{Op}
 use Rattle.guard_syntax.specs.declared.syntax.Part.{Part}
 use Rattle.guard_syntax.specs.declared.syntax.Part as part
 use Rattle.guard_syntax.specs.declared.syntax.Query.{Query}
-use Rattle.name_table.specs.Ways.{part_site}
-use Rattle.value_compare.specs.Known.{Known}
-use Rattle.query_steps.specs.CitedLines.{IsLine}
-use Rattle.query_steps.specs.Follows.{SaysVerdict, kind_of_part}
+use Rattle.rule_names.specs.Ways.{part_site}
+use Rattle.rule_meaning.specs.Known.{Known}
+use Rattle.evidence_rules.specs.CitedLines.{IsLine}
+use Rattle.evidence_rules.specs.Follows.{SaysVerdict, kind_of_part}
 
 module _ (known : Known) (lines : List Line) where
   -- the line of a part is of this kind, and of this site

@@ -5,8 +5,8 @@ use Rattle.evidence_lines.specs.declared.line.LineKind.{LineKind}
 use Rattle.evidence_lines.specs.declared.line.LineKind.TheVariants as kind
 use Rattle.guard_syntax.specs.Syntax as sx
 use Rattle.guard_syntax.specs.declared.row.Verdict.{Verdict}
-use Rattle.value_compare.specs.Known.{Known}
-use Rattle.query_steps.specs.Follows.{FollowsAtPart, kind_of_part}
+use Rattle.rule_meaning.specs.Known.{Known}
+use Rattle.evidence_rules.specs.Follows.{FollowsAtPart, kind_of_part}
 
 module _ (known : Known) (lines : List Line) (frame site : ℕ) (cites : List ℕ) (verdict : Verdict) where
   pub other-kind : (of : LineKind) (part : sx.Part) → (of ≡ kind_of_part known lines part → ⊥) → FollowsAtPart known lines frame site of part cites verdict → ⊥

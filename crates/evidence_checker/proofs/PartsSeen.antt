@@ -6,10 +6,10 @@ use Rattle.guard_syntax.specs.declared.syntax.Body.{Body, out-Body, the_lemmas a
 use Rattle.guard_syntax.specs.declared.syntax.Expr.{Expr}
 use Rattle.guard_syntax.specs.declared.syntax.Query.{Query, out-Query, the_lemmas as query_lemmas}
 use Rattle.guard_syntax.specs.declared.syntax.Step.{Step, the_lemmas as step_lemmas}
-use Rattle.name_table.specs.Uses.{expr_in}
-use Rattle.name_table.specs.Ways.{step_site}
-use Rattle.query_steps.specs.CitedLines.{body_site}
-use Rattle.query_steps.specs.Places.{step_in, steps_in}
+use Rattle.rule_names.specs.Uses.{expr_in}
+use Rattle.rule_names.specs.Ways.{step_site}
+use Rattle.evidence_rules.specs.CitedLines.{body_site}
+use Rattle.rule_meaning.specs.Places.{step_in, steps_in}
 
 pub body-site : (b : Body) → body_site (see_body b) ≡ (out-Body b).site
 body-site b = search (rules, body_lemmas)

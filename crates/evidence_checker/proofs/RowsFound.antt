@@ -5,7 +5,7 @@ use Rattle.std.proofs.lemmas.List.{append-nil, length-take-le, take_more}
 use Rattle.std.proofs.lemmas.List.Elements.{filter_more}
 use Rattle.std.proofs.lemmas.Option.{get_or_from_slice_get, same_Some, slice_get_within}
 use Rattle.guard_syntax.specs.declared.row.Row.{Row}
-use Rattle.query_steps.specs.Verdicts.{is_found}
+use Rattle.rule_meaning.specs.Verdicts.{is_found}
 
 -- whether a row that stands at an index is another
 pub row-there : (rows : List Row) (at : ℕ) (said row : Row) (b : Bool) → slice_get rows at ≡ Some said → MatchBool b (said ≡ row) (said ≡ row → ⊥)

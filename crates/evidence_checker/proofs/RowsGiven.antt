@@ -12,10 +12,10 @@ use Rattle.guard_syntax.specs.Syntax as sx
 use Rattle.guard_syntax.specs.Seen.{see_step, step_list}
 use Rattle.guard_syntax.specs.declared.row.Row.{Row}
 use Rattle.guard_syntax.specs.declared.syntax.Step.{Step}
-use Rattle.name_table.specs.Uses.{expr_in}
-use Rattle.name_table.specs.Ways.{step_site}
-use Rattle.query_steps.specs.CitedLines.{GivesArgument, GivesExpr, GivesQuery, GivesStep, IsLine, args_at, kind_of_step, last_step}
-use Rattle.query_steps.specs.Places.{steps_in}
+use Rattle.rule_names.specs.Uses.{expr_in}
+use Rattle.rule_names.specs.Ways.{step_site}
+use Rattle.evidence_rules.specs.CitedLines.{GivesArgument, GivesExpr, GivesQuery, GivesStep, IsLine, args_at, kind_of_step, last_step}
+use Rattle.rule_meaning.specs.Places.{steps_in}
 
 -- of what stands in an option
 same-some : {A : Type 0} (o : Option A) (x y : A) → o ≡ Some x → o ≡ Some y → x ≡ y

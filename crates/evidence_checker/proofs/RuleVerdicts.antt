@@ -10,8 +10,8 @@ use Rattle.guard_syntax.specs.declared.syntax.Rule.{Rule as Held}
 use Rattle.guard_syntax.specs.Named.{Named}
 use Rattle.guard_syntax.specs.Syntax.{Rule, Disjs, no_disjs, more_disjs}
 use Rattle.guard_syntax.specs.declared.row.Verdict.{Verdict}
-use Rattle.query_steps.specs.Follows.{IsJudged, IsLooseJudged}
-use Rattle.evidence_checker.specs.Answered.{AreFrom, AreOfLoose, AreOfRules, IsSaidOf}
+use Rattle.evidence_rules.specs.Follows.{IsJudged, IsLooseJudged}
+use Rattle.evidence_rules.specs.RuleLines.{AreFrom, AreOfLoose, AreOfRules, IsSaidOf}
 use Rattle.evidence_checker.specs.Judging.{AreJudged, IsJudgedAs, IsLooseWanting, IsRuleWanting, IsUnjudged, IsWanting}
 
 -- a rule without parameters has the first verdict

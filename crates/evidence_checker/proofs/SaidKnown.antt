@@ -14,14 +14,14 @@ use Rattle.guard_syntax.specs.Syntax.{Expr, Exprs, OptExpr, Query, Step, this, v
 use Rattle.guard_syntax.specs.declared.row.Ref.{Ref}
 use Rattle.guard_syntax.specs.declared.row.Row.{Row}
 use Rattle.guard_syntax.specs.declared.row.Row.TheVariants.{Found}
-use Rattle.name_table.specs.Pieces.{Piece, OfExpr, OfQuery, piece_at}
-use Rattle.name_table.specs.declared.bind.Bind.{Bind}
-use Rattle.name_table.specs.declared.bind.Bind.TheVariants as bound
-use Rattle.value_compare.specs.Known.{Known, is_known, is_known_ref}
-use Rattle.query_steps.specs.CitedLines.{GiveArgs, IsLine, GivesBound, GivesExpr, GivesPiece, GivesQuery, GivesVariable, value_of, value_said}
-use Rattle.query_steps.specs.Follows.{GivesBefore, GivesFurther, GivesRight}
-use Rattle.query_steps.specs.Roots.{literal_ref}
-use Rattle.query_steps.proofs.LinesBehind.{behind-first}
+use Rattle.rule_names.specs.Pieces.{Piece, OfExpr, OfQuery, piece_at}
+use Rattle.rule_names.specs.declared.bind.Bind.{Bind}
+use Rattle.rule_names.specs.declared.bind.Bind.TheVariants as bound
+use Rattle.rule_meaning.specs.Known.{Known, is_known, is_known_ref}
+use Rattle.evidence_rules.specs.CitedLines.{GiveArgs, IsLine, GivesBound, GivesExpr, GivesPiece, GivesQuery, GivesVariable, value_of, value_said}
+use Rattle.evidence_rules.specs.Follows.{GivesBefore, GivesFurther, GivesRight}
+use Rattle.rule_meaning.specs.Roots.{literal_ref}
+use Rattle.evidence_rules.proofs.LinesBehind.{behind-first}
 use Rattle.evidence_checker.specs.Said.{AreSound, IsSound, is_known_outcome}
 
 line-got : (lines : List Line) (n : ℕ) (l : Line) → slice_get lines n ≡ Some l → (n < length lines) × (get_or lines n l ≡ l)

@@ -10,10 +10,10 @@ use Rattle.guard_syntax.specs.Syntax as sx
 use Rattle.guard_syntax.specs.declared.row.Ref.{Ref}
 use Rattle.guard_syntax.specs.declared.row.Row.{Row}
 use Rattle.guard_syntax.specs.declared.row.Verdict.{Verdict}
-use Rattle.value_compare.specs.Known.{Known}
-use Rattle.name_table.specs.Ways.{step_site}
-use Rattle.query_steps.specs.CitedLines.{GivesExpr, GivesQuery, GivesStep, IsLine, kind_of_step, last_step}
-use Rattle.query_steps.specs.Follows.{GivesRight, SaysBody}
+use Rattle.rule_meaning.specs.Known.{Known}
+use Rattle.rule_names.specs.Ways.{step_site}
+use Rattle.evidence_rules.specs.CitedLines.{GivesExpr, GivesQuery, GivesStep, IsLine, kind_of_step, last_step}
+use Rattle.evidence_rules.specs.Follows.{GivesRight, SaysBody}
 
 pub same-some : {A : Type 0} (o : Option A) (x y : A) → o ≡ Some x → o ≡ Some y → x ≡ y
 same-some o x y is also = cc

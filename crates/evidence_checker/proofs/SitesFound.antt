@@ -1,46 +1,13 @@
--- The piece of a site: no other piece of a file has it, so what stands in the file is found at its own site.
-use Rattle.std.proofs.Common.{◌≡◌, ℕ, ◌+◌, ◌≤◌, ◌<◌, ◌++◌, List, ◌∷◌, length, cond, true, arith, refl, ap, sym, ◌∙◌, subst, Some, Contains}
-use Rattle.std.specs.Prelude.{◌==◌}
-use Rattle.std.proofs.lemmas.Bool.Decides.{nat_tests}
+-- What is found at a site.
+use Rattle.std.proofs.Common.{◌≡◌, ℕ, ◌≤◌, ◌<◌, ◌++◌, length, cond, arith, sym, ◌∙◌, Some, Contains}
 use Rattle.std.proofs.lemmas.Option.{none-some}
 use Rattle.guard_syntax.specs.Syntax.{Body, File, Rule, body}
-use Rattle.guard_syntax.specs.Sites.{upto, merge, sites_file, sites_lets, sites_rules, sites_disjs}
-use Rattle.name_table.specs.Pieces.{Sited, Piece, OfBody, OfFile, OfRule, piece_in, piece_at, pieces_body, pieces_disjs, pieces_file, pieces_lets, pieces_opt_conds, pieces_rules, AreInOrder}
-use Rattle.name_table.specs.Within.{StandsIn}
-use Rattle.name_table.proofs.Rises.{times, once, upto-rises}
-use Rattle.name_table.proofs.Parts.{Ties, hits, hits-append, no-hit, not-first, here, ties-cons, ties-merge}
-use Rattle.name_table.proofs.Tied.{tied-lets, tied-rules, tied-disjs}
+use Rattle.rule_names.specs.Pieces.{Piece, OfBody, OfRule, piece_at, pieces_body, pieces_disjs, pieces_lets, pieces_opt_conds, AreInOrder}
+use Rattle.rule_names.specs.Within.{StandsIn}
 use Rattle.value_compare.proofs.Beyond.{beyond}
-use Rattle.query_steps.specs.CitedLines.{body_site}
+use Rattle.evidence_rules.specs.CitedLines.{body_site}
 use Rattle.evidence_checker.proofs.OwnersStand.{rule-stands}
-
--- the pieces of a file have its sites
-file-tied : (f : File) → Ties (pieces_file f) (sites_file f)
-file-tied f =
-    ties-cons 0 OfFile (pieces_lets f.lets ++ (pieces_rules f.rules ++ pieces_disjs f.loose)) (merge (sites_lets f.lets) (merge (sites_rules f.rules) (sites_disjs f.loose)))
-    (ties-merge (pieces_lets f.lets) (pieces_rules f.rules ++ pieces_disjs f.loose) (sites_lets f.lets) (merge (sites_rules f.rules) (sites_disjs f.loose)) (tied-lets f.lets)
-    (ties-merge (pieces_rules f.rules) (pieces_disjs f.loose) (sites_rules f.rules) (sites_disjs f.loose) (tied-rules f.rules) (tied-disjs f.loose)))
-
--- so a site of a file is that of one piece
-hit-once : (f : File) (n : ℕ) → AreInOrder f → hits n (pieces_file f) ≤ 1
-hit-once f n order =
-    let e : hits n (pieces_file f) ≡ times n (upto 0 (length f.places)) = (file-tied f).same n ∙ ap (times n) order in
-    omega (arith, e, once n 0 (upto 0 (length f.places)) (upto-rises 0 (length f.places)))
-
--- and a piece with it is the first with it
-found-once : (n : ℕ) (q : Piece) (before after : List Sited) → hits n (before ++ ((n, q) ∷ after)) ≤ 1
-    → piece_in (before ++ ((n, q) ∷ after)) n ≡ Some q
-found-once n q before after one =
-    let same : (n == n) ≡ true = grind (arith, nat_tests) in
-    let hit : hits n ((n, q) ∷ after) ≡ 1 + hits n after = ap (λ b. cond b 1 0 + hits n after) same in
-    let none : hits n before ≡ 0 = omega (arith, one, hits-append n before ((n, q) ∷ after), hit) in
-    not-first n before ((n, q) ∷ after) (no-hit n before none) ∙ here n n q after refl
-
--- what stands in a file is found at its site
-pub piece-found : (f : File) (n : ℕ) (q : Piece) (more : List Sited) → AreInOrder f → StandsIn f ((n, q) ∷ more) → piece_at f n ≡ Some q
-piece-found f n q more order (before, after, is) =
-    let once : hits n (before ++ ((n, q) ∷ (more ++ after))) ≤ 1 = subst (λ ps. hits n ps ≤ 1) is (hit-once f n order) in
-    ap (λ ps. piece_in ps n) is ∙ found-once n q before (more ++ after) once
+use Rattle.rule_names.proofs.PiecesFound.{piece-found}
 
 pub body-found : (f : File) (b : Body) → AreInOrder f → StandsIn f (pieces_body b) → piece_at f (body_site b) ≡ Some (OfBody b)
 body-found f (body n ls ds) order there = piece-found f n (OfBody (body n ls ds)) (pieces_lets ls ++ pieces_disjs ds) order there

@@ -2,7 +2,7 @@
 use Rattle.std.proofs.Common.{◌≡◌, ◌<◌, ℕ, length, Some, sym, ◌∙◌, inl, inr, arith}
 use Rattle.std.proofs.lemmas.Bool.{cases_lt}
 use Rattle.guard_syntax.specs.Syntax.{File}
-use Rattle.name_table.specs.Pieces.{AreInOrder, Piece, piece_at}
+use Rattle.rule_names.specs.Pieces.{AreInOrder, Piece, piece_at}
 use Rattle.value_compare.proofs.Beyond.{beyond}
 
 pub site-within : (f : File) (n : ℕ) (p : Piece) → AreInOrder f → piece_at f n ≡ Some p → n < length f.places

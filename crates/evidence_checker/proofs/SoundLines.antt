@@ -9,9 +9,9 @@ use Rattle.evidence_lines.specs.declared.line.Line.{Line}
 use Rattle.evidence_lines.specs.declared.line.Outcome.{Outcome}
 use Rattle.evidence_lines.specs.declared.line.Outcome.TheVariants as says
 use Rattle.guard_syntax.specs.declared.row.Row.{Row}
-use Rattle.value_compare.specs.Known.{Known, Made, is_known, is_known_ref}
-use Rattle.query_steps.specs.Roots.{root_ref}
-use Rattle.query_steps.specs.Seeing.{grown}
+use Rattle.rule_meaning.specs.Known.{Known, Made, is_known, is_known_ref}
+use Rattle.rule_meaning.specs.Roots.{root_ref}
+use Rattle.rule_meaning.specs.Seeing.{grown}
 use Rattle.query_steps.proofs.SeenGrowth.{known-before, row-known-before}
 use Rattle.evidence_checker.specs.Said.{AreMadeWithin, AreSound, IsSound, is_known_outcome}
 

@@ -8,8 +8,8 @@ use Rattle.guard_syntax.specs.Named.{Named}
 use Rattle.guard_syntax.specs.Syntax.{Conds, Expr, Query, Step, this, var, key, index, every, items, splice, filter, keys}
 use Rattle.guard_syntax.specs.declared.row.Row.{Row}
 use Rattle.guard_syntax.specs.declared.syntax.Op.{Op}
-use Rattle.value_compare.specs.Known.{Known}
-use Rattle.query_steps.specs.Follows.{FollowsAtStep, FollowsCapture, FollowsStep}
+use Rattle.rule_meaning.specs.Known.{Known}
+use Rattle.evidence_rules.specs.Follows.{FollowsAtStep, FollowsCapture, FollowsStep}
 use Rattle.evidence_checker.proofs.StepsSeen.{IsOther}
 
 -- an answer says whether something holds

@@ -7,10 +7,10 @@ use Rattle.guard_syntax.specs.Named.{Named}
 use Rattle.guard_syntax.specs.declared.row.Ref.{Ref}
 use Rattle.guard_syntax.specs.declared.row.Row.{Row}
 use Rattle.guard_syntax.specs.declared.row.Verdict.{Verdict}
-use Rattle.value_compare.specs.Known.{Known}
-use Rattle.query_steps.specs.CitedLines.{GivesStep, GivesVariable, value_of}
-use Rattle.query_steps.specs.Follows.{FollowsCapture, FollowsFilter, FollowsStep, GivesBefore, GivesFurther, HasValue, SayEach, SaysCandidate}
-use Rattle.query_steps.specs.Places.{candidates_at, rows_at_step, step_in, steps_in}
+use Rattle.rule_meaning.specs.Known.{Known}
+use Rattle.evidence_rules.specs.CitedLines.{GivesStep, GivesVariable, value_of}
+use Rattle.evidence_rules.specs.Follows.{FollowsCapture, FollowsFilter, FollowsStep, GivesBefore, GivesFurther, HasValue, SayEach, SaysCandidate}
+use Rattle.rule_meaning.specs.Places.{candidates_at, rows_at_step, step_in, steps_in}
 use Rattle.evidence_checker.proofs.OneGiven.{one-of-expr, one-of-variable, one-rows, one-there, one-verdict}
 use Rattle.evidence_checker.proofs.StepsSeen.{NamesNothing}
 

@@ -9,8 +9,8 @@ use Rattle.guard_syntax.specs.declared.syntax.Op.{Op}
 use Rattle.guard_syntax.specs.declared.syntax.Step.{Step, the_lemmas}
 use Rattle.guard_syntax.specs.declared.syntax.StepForm.{StepForm}
 use Rattle.guard_syntax.specs.declared.syntax.StepForm as form
-use Rattle.query_steps.specs.Follows.{conds_site}
-use Rattle.query_steps.specs.Places.{is_filter}
+use Rattle.evidence_rules.specs.Follows.{conds_site}
+use Rattle.rule_meaning.specs.Places.{is_filter}
 
 step-seen : (s : Step) → see_step s ≡ see_form s.form s.site
 step-seen s = search (rules, the_lemmas)

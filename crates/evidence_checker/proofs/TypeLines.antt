@@ -11,11 +11,11 @@ use Rattle.guard_syntax.specs.declared.syntax.Body.{Body}
 use Rattle.guard_syntax.specs.declared.syntax.Conds.{Conds}
 use Rattle.guard_syntax.specs.declared.syntax.Part as code
 use Rattle.guard_syntax.specs.declared.syntax.Step.{the_lemmas}
-use Rattle.name_table.specs.Pieces.{OfPart}
-use Rattle.value_compare.specs.Known.{Known, Made}
-use Rattle.query_steps.specs.CitedLines.{value_of}
-use Rattle.query_steps.specs.Follows.{FollowsRows, HasValue}
-use Rattle.query_steps.specs.Places.{rows_at_type, type_of_part}
+use Rattle.rule_names.specs.Pieces.{OfPart}
+use Rattle.rule_meaning.specs.Known.{Known, Made}
+use Rattle.evidence_rules.specs.CitedLines.{value_of}
+use Rattle.evidence_rules.specs.Follows.{FollowsRows, HasValue}
+use Rattle.rule_meaning.specs.Places.{rows_at_type, type_of_part}
 use Rattle.evidence_checker.proofs.OneGiven.{one-there}
 
 pub kinds-seen : (p : code.Part) (site : ℕ) (name : List ℕ) (conditions : Option Conds) (inner : Body) → p ≡ code.Kinds site name conditions inner → is_some (type_of_part (see_part p)) ≡ true

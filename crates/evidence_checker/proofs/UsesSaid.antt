@@ -6,11 +6,11 @@ use Rattle.evidence_lines.specs.declared.line.Outcome.TheVariants as says
 use Rattle.guard_syntax.specs.Syntax as sx
 use Rattle.guard_syntax.specs.declared.row.Ref.{Ref}
 use Rattle.guard_syntax.specs.declared.row.Verdict.{Verdict}
-use Rattle.name_table.specs.Links.{target_of}
-use Rattle.value_compare.specs.Known.{Known}
-use Rattle.query_steps.specs.CitedLines.{IsLine, body_site, called_body}
-use Rattle.query_steps.specs.Follows.{FollowsBody, FollowsCall, FollowsRefer}
-use Rattle.query_steps.specs.Verdicts.{exchanged, referred}
+use Rattle.rule_names.specs.Links.{target_of}
+use Rattle.rule_meaning.specs.Known.{Known}
+use Rattle.evidence_rules.specs.CitedLines.{IsLine, body_site, called_body}
+use Rattle.evidence_rules.specs.Follows.{FollowsBody, FollowsCall, FollowsRefer}
+use Rattle.rule_meaning.specs.Verdicts.{exchanged, referred}
 use Rattle.evidence_checker.proofs.SaidOnce.{same-some, same-verdict}
 
 module _ (known : Known) (lines : List Line) (frame number : ℕ) (cites : List ℕ) (verdict : Verdict) (one : cites ≡ number ∷ []) where

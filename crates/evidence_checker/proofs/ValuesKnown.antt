@@ -11,10 +11,10 @@ use Rattle.evidence_lines.specs.declared.line.Outcome.TheVariants as says
 use Rattle.guard_syntax.specs.Seen.{see_body}
 use Rattle.guard_syntax.specs.declared.row.Ref.{Ref}
 use Rattle.guard_syntax.specs.declared.syntax.Body.{Body, out-Body}
-use Rattle.name_table.specs.Pieces.{OfBody, piece_at}
-use Rattle.value_compare.specs.Known.{Known, is_known_ref}
-use Rattle.query_steps.specs.CitedLines.{body_site, value_of, value_said}
-use Rattle.query_steps.specs.Roots.{root_ref}
+use Rattle.rule_names.specs.Pieces.{OfBody, piece_at}
+use Rattle.rule_meaning.specs.Known.{Known, is_known_ref}
+use Rattle.evidence_rules.specs.CitedLines.{body_site, value_of, value_said}
+use Rattle.rule_meaning.specs.Roots.{root_ref}
 use Rattle.evidence_checker.specs.declared.owners.Owner.{Owner}
 use Rattle.evidence_checker.specs.declared.owners.Owners.{Owners}
 use Rattle.evidence_checker.specs.Owned.{AreOwners, IsOwned, marks_of}

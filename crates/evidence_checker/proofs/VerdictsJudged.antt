@@ -9,8 +9,8 @@ use Rattle.evidence_lines.specs.declared.line.LineKind.TheVariants as kind
 use Rattle.evidence_lines.specs.declared.line.Outcome.{Outcome}
 use Rattle.evidence_lines.specs.declared.line.Outcome.TheVariants as says
 use Rattle.guard_syntax.specs.declared.row.Verdict.{Verdict}
-use Rattle.value_compare.specs.Known.{Known}
-use Rattle.query_steps.specs.Follows.{IsNewRule}
+use Rattle.rule_meaning.specs.Known.{Known}
+use Rattle.evidence_rules.specs.Follows.{IsNewRule}
 use Rattle.evidence_checker.specs.Judging.{AreJudged, IsJudgedAs}
 use Rattle.evidence_checker.proofs.LinesSaid.{HasFields, line-before, line-behind, line-last}
 

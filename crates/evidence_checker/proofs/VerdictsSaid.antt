@@ -14,11 +14,11 @@ use Rattle.guard_syntax.specs.declared.row.Verdict.{Verdict}
 use Rattle.guard_syntax.specs.declared.row.Verdict.TheVariants.{Pass, Fail, Skip}
 use Rattle.guard_syntax.specs.declared.syntax.Disj.{Disj, the_lemmas}
 use Rattle.guard_syntax.specs.declared.syntax.Part.{Part}
-use Rattle.name_table.specs.Ways.{part_site}
-use Rattle.value_compare.specs.Known.{Known}
-use Rattle.query_steps.specs.CitedLines.{IsLine}
-use Rattle.query_steps.specs.Follows.{FollowsConj, FollowsDisj, FollowsLoose, SayDisjs, SayParts, SaysVerdict, kind_of_part}
-use Rattle.query_steps.specs.Verdicts.{conjunction, disjunction}
+use Rattle.rule_names.specs.Ways.{part_site}
+use Rattle.rule_meaning.specs.Known.{Known}
+use Rattle.evidence_rules.specs.CitedLines.{IsLine}
+use Rattle.evidence_rules.specs.Follows.{FollowsConj, FollowsDisj, FollowsLoose, SayDisjs, SayParts, SaysVerdict, kind_of_part}
+use Rattle.rule_meaning.specs.Verdicts.{conjunction, disjunction}
 
 -- verdicts of all, and of those that are left behind the ones that are this verdict together
 pub record IsFolded (fold : List Verdict → Verdict) (Whole Rest : List Verdict → Type 0) (so_far : Verdict) : Type 0 where

@@ -4,11 +4,11 @@ use Rattle.evidence_lines.specs.declared.line.Line.{Line}
 use Rattle.guard_syntax.specs.Syntax.{Expr, Exprs, File, function as call_of}
 use Rattle.guard_syntax.specs.declared.function.Function.{Function}
 use Rattle.guard_syntax.specs.declared.row.Row.{Row}
-use Rattle.name_table.specs.Pieces.{OfExpr, piece_at}
-use Rattle.name_table.specs.Uses.{function_named}
-use Rattle.value_compare.specs.Functions.{Functions, MadeRow}
-use Rattle.value_compare.specs.Known.{Known}
-use Rattle.query_steps.specs.CitedLines.{GiveArgs}
+use Rattle.rule_names.specs.Pieces.{OfExpr, piece_at}
+use Rattle.rule_names.specs.Uses.{function_named}
+use Rattle.rule_meaning.specs.Functions.{Functions, MadeRow}
+use Rattle.rule_meaning.specs.Known.{Known}
+use Rattle.evidence_rules.specs.CitedLines.{GiveArgs}
 
 -- an expression is the call of a function with arguments
 pub record IsCall (e : Expr) (f : Function) (args : Exprs) : Type 0 where

@@ -9,8 +9,8 @@ use Rattle.guard_syntax.specs.declared.row.Row.{Row}
 use Rattle.guard_syntax.specs.declared.row.Row.TheVariants.{Found, Missing, Unmade}
 use Rattle.guard_syntax.specs.declared.row.Verdict.{Verdict}
 use Rattle.guard_syntax.specs.declared.row.Verdict.TheVariants.{Pass, Fail}
-use Rattle.query_steps.specs.CitedLines.{IsLine}
-use Rattle.query_steps.specs.Follows.{conds_site}
+use Rattle.evidence_rules.specs.CitedLines.{IsLine}
+use Rattle.evidence_rules.specs.Follows.{conds_site}
 
 module _ (lines : List Line) (frame : ℕ) where
   -- conditions have the first line

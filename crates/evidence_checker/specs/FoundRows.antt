@@ -3,9 +3,9 @@ use Rattle.std.specs.Prelude.{ℕ, ◌≡◌, List, [], ◌∷◌, filter}
 use Rattle.evidence_lines.specs.declared.line.Line.{Line}
 use Rattle.guard_syntax.specs.Syntax.{Query}
 use Rattle.guard_syntax.specs.declared.row.Row.{Row}
-use Rattle.value_compare.specs.Known.{Known}
-use Rattle.query_steps.specs.CitedLines.{GivesQuery}
-use Rattle.query_steps.specs.Verdicts.{is_found}
+use Rattle.rule_meaning.specs.Known.{Known}
+use Rattle.evidence_rules.specs.CitedLines.{GivesQuery}
+use Rattle.rule_meaning.specs.Verdicts.{is_found}
 
 -- one line is cited and gives the rows of a query, and these are those of them at which something was found
 abbrev pub AreFoundBy : Known → List Line → (frame : ℕ) → Query → (cites : List ℕ) → List Row → Type 0

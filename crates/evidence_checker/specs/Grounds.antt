@@ -2,7 +2,7 @@
 use Rattle.std.specs.Prelude.{List}
 use Rattle.evidence_lines.specs.declared.line.Line.{Line}
 use Rattle.guard_syntax.specs.Syntax.{File}
-use Rattle.value_compare.specs.Known.{Known}
+use Rattle.rule_meaning.specs.Known.{Known}
 use Rattle.value_compare.specs.Stores.{see_store}
 use Rattle.evidence_checker.specs.declared.ground.Ground.{Ground}
 

@@ -5,11 +5,11 @@ use Rattle.evidence_lines.specs.declared.line.LineKind.TheVariants as kind
 use Rattle.evidence_lines.specs.declared.line.Outcome.{Outcome}
 use Rattle.guard_syntax.specs.Syntax.{Rule, Disjs, no_disjs, more_disjs}
 use Rattle.guard_syntax.specs.declared.row.Verdict.{Verdict}
-use Rattle.value_compare.specs.Known.{Known, Made}
-use Rattle.query_steps.specs.CitedLines.{IsLine}
-use Rattle.query_steps.specs.Follows.{AllFollow}
-use Rattle.query_steps.specs.Seeing.{grown}
-use Rattle.evidence_checker.specs.Answered.{IsSaidOf}
+use Rattle.rule_meaning.specs.Known.{Known, Made}
+use Rattle.evidence_rules.specs.CitedLines.{IsLine}
+use Rattle.evidence_rules.specs.Follows.{AllFollow}
+use Rattle.rule_meaning.specs.Seeing.{grown}
+use Rattle.evidence_rules.specs.RuleLines.{IsSaidOf}
 
 -- trees of which this holds are known thereafter, and of no others does it hold
 abbrev pub Leads : (List Made → Type 0) → (known after : Known) → Type 0

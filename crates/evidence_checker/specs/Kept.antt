@@ -3,7 +3,7 @@ use Rattle.std.specs.Prelude.{ℕ, false}
 use Rattle.guard_syntax.specs.declared.row.Origin.TheVariants as origin
 use Rattle.guard_syntax.specs.declared.row.Row.{Row}
 use Rattle.guard_syntax.specs.declared.row.Row.TheVariants as row
-use Rattle.value_compare.specs.Functions.{MadeRow, New, Kept}
+use Rattle.rule_meaning.specs.Functions.{MadeRow, New, Kept}
 
 -- a new tree is found at its root, at a line and its place in the answer; any other row stays
 abbrev pub row_kept : (line at : ℕ) → MadeRow → Row

@@ -3,11 +3,11 @@ use Rattle.std.specs.Prelude.{ℕ, zero, suc, ◌≡◌, ◌↔◌, Bool, true, 
 use Rattle.evidence_lines.specs.declared.line.Line.{Line}
 use Rattle.guard_syntax.specs.Named.{Named}
 use Rattle.guard_syntax.specs.Syntax.{File, Body, block, guarded, kinds}
-use Rattle.name_table.specs.Marks.{IsMarked}
-use Rattle.name_table.specs.Pieces.{Piece, OfBody, OfPart, OfRule, piece_at}
-use Rattle.value_compare.specs.Known.{Known}
-use Rattle.query_steps.specs.CitedLines.{body_site}
-use Rattle.query_steps.specs.Follows.{IsBlockBody, IsRuleBody, IsWhenBody}
+use Rattle.rule_names.specs.Marks.{IsMarked}
+use Rattle.rule_names.specs.Pieces.{Piece, OfBody, OfPart, OfRule, piece_at}
+use Rattle.rule_meaning.specs.Known.{Known}
+use Rattle.evidence_rules.specs.CitedLines.{body_site}
+use Rattle.evidence_rules.specs.Follows.{IsBlockBody, IsRuleBody, IsWhenBody}
 use Rattle.evidence_checker.specs.declared.owners.Owner.{Owner}
 use Rattle.evidence_checker.specs.declared.owners.Owner.TheVariants as owner
 use Rattle.evidence_checker.specs.declared.owners.Owners.{Owners}

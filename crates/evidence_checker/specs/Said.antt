@@ -6,8 +6,8 @@ use Rattle.evidence_lines.specs.declared.line.LineKind.TheVariants as kind
 use Rattle.evidence_lines.specs.declared.line.Outcome.{Outcome}
 use Rattle.evidence_lines.specs.declared.line.Outcome.TheVariants as says
 use Rattle.guard_syntax.specs.declared.row.Row.TheVariants.{Found}
-use Rattle.value_compare.specs.Known.{Known, Made, is_known, is_known_ref}
-use Rattle.query_steps.specs.Roots.{literal_ref}
+use Rattle.rule_meaning.specs.Known.{Known, Made, is_known, is_known_ref}
+use Rattle.rule_meaning.specs.Roots.{literal_ref}
 
 -- the store knows all that is said
 abbrev pub is_known_outcome : Known → Outcome → Bool

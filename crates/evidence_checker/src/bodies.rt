@@ -5,9 +5,9 @@ ghost use Rattle.evidence_lines.specs.declared.line.Outcome.TheVariants as says;
 ghost use Rattle.guard_syntax.specs.Seen.{see_body};
 ghost use Rattle.guard_syntax.specs.declared.row.Ref.{Ref};
 ghost use Rattle.guard_syntax.specs.declared.row.Verdict.{Verdict};
-ghost use Rattle.query_steps.specs.CitedLines.{IsLine};
-ghost use Rattle.query_steps.specs.Follows.{FollowsBody, FollowsRowsOf, SaysBody};
-ghost use Rattle.query_steps.specs.Verdicts.{block_verdict, conjunction, disjunction};
+ghost use Rattle.evidence_rules.specs.CitedLines.{IsLine};
+ghost use Rattle.evidence_rules.specs.Follows.{FollowsBody, FollowsRowsOf, SaysBody};
+ghost use Rattle.rule_meaning.specs.Verdicts.{block_verdict, conjunction, disjunction};
 ghost use Rattle.evidence_checker.specs.FirstCites.{SaysRow};
 ghost use Rattle.evidence_checker.specs.Grounds.{known_of, lines_of};
 

@@ -7,7 +7,7 @@ ghost use Rattle.evidence_lines.specs.declared.line.Outcome.{Outcome};
 ghost use Rattle.evidence_lines.specs.declared.line.Outcome.TheVariants as says;
 ghost use Rattle.guard_syntax.specs.declared.row.Row.{Row};
 ghost use Rattle.guard_syntax.specs.declared.row.Verdict.{Verdict};
-ghost use Rattle.query_steps.specs.CitedLines.{IsLine, value_of};
+ghost use Rattle.evidence_rules.specs.CitedLines.{IsLine, value_of};
 
 use evidence_lines::{Line, LineKind, Outcome};
 use guard_syntax::{Ref, Row, Verdict};

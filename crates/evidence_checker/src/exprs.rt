@@ -3,11 +3,11 @@ ghost use Rattle.std.specs.Prelude.{◌≡◌, List, [], ◌∷◌, true, Some, 
 ghost use Rattle.std.specs.List.{list_all};
 ghost use Rattle.guard_syntax.specs.Seen.{see_expr, see_query};
 ghost use Rattle.guard_syntax.specs.declared.row.Row.TheVariants.{Found};
-ghost use Rattle.name_table.specs.Pieces.{OfExpr, piece_at};
-ghost use Rattle.value_compare.specs.Known.{Made, is_known};
-ghost use Rattle.query_steps.specs.Follows.{FollowsAtExpr};
-ghost use Rattle.query_steps.specs.Roots.{literal_ref};
-ghost use Rattle.query_steps.specs.Verdicts.{is_found};
+ghost use Rattle.rule_names.specs.Pieces.{OfExpr, piece_at};
+ghost use Rattle.rule_meaning.specs.Known.{Made, is_known};
+ghost use Rattle.evidence_rules.specs.Follows.{FollowsAtExpr};
+ghost use Rattle.rule_meaning.specs.Roots.{literal_ref};
+ghost use Rattle.rule_meaning.specs.Verdicts.{is_found};
 ghost use Rattle.evidence_checker.specs.FoundRows.{AreFoundBy};
 ghost use Rattle.evidence_checker.specs.Grounds.{file_in, known_of, lines_of};
 

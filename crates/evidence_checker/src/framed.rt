@@ -3,7 +3,7 @@ ghost use Rattle.std.specs.Prelude.{◌≡◌, ℕ, MatchOption};
 ghost use Rattle.evidence_lines.specs.declared.line.LineKind.TheVariants as kind;
 ghost use Rattle.evidence_lines.specs.declared.line.Outcome.TheVariants as says;
 ghost use Rattle.guard_syntax.specs.declared.row.Verdict.{Verdict};
-ghost use Rattle.query_steps.specs.CitedLines.{IsLine};
+ghost use Rattle.evidence_rules.specs.CitedLines.{IsLine};
 
 use crate::cited::{is_frame, line_of, verdict_said};
 use evidence_lines::{Line, LineKind};

@@ -2,16 +2,16 @@
 ghost use Rattle.std.specs.Prelude.{◌≡◌, ◌<◌, Some, is_some, length, map, option_and_then, option_map};
 ghost use Rattle.guard_syntax.specs.Seen.{expr_list, see_body, see_expr, see_part, see_query, see_step};
 ghost use Rattle.guard_syntax.specs.Syntax.{File};
-ghost use Rattle.name_table.specs.Files.{file_of};
-ghost use Rattle.name_table.specs.Pieces.{piece_at};
-ghost use Rattle.query_steps.specs.CitedLines.{args_at, args_of_part, around_site, called_body, file_frame, outer_frame, outwards, scope_of, scope_of_part, scope_of_piece, scope_of_step};
-ghost use Rattle.query_steps.specs.Follows.{home_for, is_body};
-ghost use Rattle.query_steps.specs.Places.{step_in, steps_in};
+ghost use Rattle.rule_names.specs.Files.{file_of};
+ghost use Rattle.rule_names.specs.Pieces.{piece_at};
+ghost use Rattle.evidence_rules.specs.CitedLines.{args_at, args_of_part, around_site, called_body, file_frame, outer_frame, outwards, scope_of, scope_of_part, scope_of_piece, scope_of_step};
+ghost use Rattle.evidence_rules.specs.Follows.{home_for, is_body};
+ghost use Rattle.rule_meaning.specs.Places.{step_in, steps_in};
 
 use crate::cited::line_of;
 use evidence_lines::{Line, LineKind};
 use guard_syntax::{Body, Expr, Part, Query, Step, StepForm};
-use name_table::{Piece, RuleFile};
+use rule_names::{Piece, RuleFile};
 
 /// The scope for which a frame stands, by its site.
 pub fn scope_of(file: &RuleFile, lines: &[Line], frame: u64) -> Option<u32>

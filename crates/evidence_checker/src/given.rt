@@ -4,15 +4,15 @@ ghost use Rattle.evidence_lines.specs.declared.line.Line.{Line};
 ghost use Rattle.guard_syntax.specs.Seen.{see_expr, see_query, see_step};
 ghost use Rattle.guard_syntax.specs.Syntax.{File};
 ghost use Rattle.guard_syntax.specs.declared.row.Row.{Row};
-ghost use Rattle.name_table.specs.Files.{file_of};
-ghost use Rattle.name_table.specs.Pieces.{piece_at};
-ghost use Rattle.query_steps.specs.CitedLines.{GivesArgument, GivesExpr, GivesPiece, GivesQuery, GivesStep, GivesVariable, kind_of_step};
+ghost use Rattle.rule_names.specs.Files.{file_of};
+ghost use Rattle.rule_names.specs.Pieces.{piece_at};
+ghost use Rattle.evidence_rules.specs.CitedLines.{GivesArgument, GivesExpr, GivesPiece, GivesQuery, GivesStep, GivesVariable, kind_of_step};
 
 use crate::cited::{line_of, rows_said};
 use crate::frames::{args_at, outwards};
 use evidence_lines::{Line, LineKind};
 use guard_syntax::{Expr, Query, Row, Step, StepForm};
-use name_table::{Bind, Piece, RuleFile};
+use rule_names::{Bind, Piece, RuleFile};
 
 /// Of a query up to a step.
 pub fn given_by_step<'b>(

@@ -5,12 +5,13 @@ ghost use Rattle.evidence_lines.specs.declared.line.Line.{Line};
 ghost use Rattle.guard_syntax.specs.Seen.{disj_list, see_disj, see_file, see_rule};
 ghost use Rattle.guard_syntax.specs.Syntax.{Disjs};
 ghost use Rattle.guard_syntax.specs.declared.row.Verdict.{Verdict};
-ghost use Rattle.name_table.specs.Files.{file_of};
+ghost use Rattle.rule_names.specs.Files.{file_of};
 ghost use Rattle.value_compare.specs.Books.{IsBookOf};
 ghost use Rattle.value_compare.specs.Stores.{see_store};
-ghost use Rattle.value_compare.specs.Values.{has_pattern};
-ghost use Rattle.query_steps.specs.Follows.{AllFollow, nothing_made};
-ghost use Rattle.evidence_checker.specs.Answered.{AreOfLoose, AreOfRules, IsAnswer};
+ghost use Rattle.rule_meaning.specs.Values.{has_pattern};
+ghost use Rattle.evidence_rules.specs.Follows.{AllFollow, nothing_made};
+ghost use Rattle.evidence_rules.specs.RuleLines.{AreOfLoose, AreOfRules};
+ghost use Rattle.evidence_checker.specs.Answered.{IsAnswer};
 ghost use Rattle.evidence_checker.specs.Judging.{AreJudged, IsFaultAt, IsLooseWanting, IsRuleWanting, IsWanting};
 ghost use Rattle.evidence_checker.specs.Owned.{AreOwners};
 
@@ -20,7 +21,7 @@ use crate::owners::Owners;
 use doc_values::Doc;
 use evidence_lines::{Evidence, Line};
 use guard_syntax::{Disj, RawFile, Rule, Verdict};
-use name_table::RuleFile;
+use rule_names::RuleFile;
 use std::alloc::{AllocError, Global};
 use value_compare::{PatternBook, Store};
 

@@ -3,28 +3,26 @@
 //! the one that is judged; nothing is evaluated but the one step, test or function that the line is about.
 #![tactic(auto)]
 
-pub mod bodies;
-pub mod calls;
-pub mod cited;
-pub mod exprs;
-pub mod framed;
-pub mod frames;
-pub mod given;
-pub mod ground;
-pub mod judge;
+mod bodies;
+mod calls;
+mod cited;
+mod exprs;
+mod framed;
+mod frames;
+mod given;
+mod ground;
+mod judge;
 mod judged;
-pub mod laws;
 mod line;
-pub mod owners;
-pub mod parts;
-pub mod rows;
+mod owners;
+mod parts;
+mod rows;
 mod same;
 mod step_rows;
-pub mod tested;
+mod tested;
 mod tried;
-pub mod uses;
-pub mod values;
-pub mod verdicts;
+mod uses;
+mod values;
+mod verdicts;
 
 pub use judge::{Answer, check};
-pub use laws::lines_true;

@@ -2,13 +2,13 @@
 ghost use Rattle.std.specs.Prelude.{◌≡◌, ◌<◌, List, Some, true, suc, length, IfOk, MatchBool, []};
 ghost use Rattle.evidence_lines.specs.declared.line.LineKind.TheVariants as kind;
 ghost use Rattle.evidence_lines.specs.declared.line.Outcome.TheVariants as says;
-ghost use Rattle.name_table.specs.Files.{file_of};
+ghost use Rattle.rule_names.specs.Files.{file_of};
 ghost use Rattle.value_compare.specs.Books.{IsBookOf};
-ghost use Rattle.value_compare.specs.Known.{Made, is_known_ref};
+ghost use Rattle.rule_meaning.specs.Known.{Made, is_known_ref};
 ghost use Rattle.value_compare.specs.Stores.{see_store};
-ghost use Rattle.query_steps.specs.CitedLines.{scope_of};
-ghost use Rattle.query_steps.specs.Follows.{Follows, FollowsIn, FollowsRows, IsFileLine, home_for};
-ghost use Rattle.query_steps.specs.Roots.{root_ref};
+ghost use Rattle.evidence_rules.specs.CitedLines.{scope_of};
+ghost use Rattle.evidence_rules.specs.Follows.{Follows, FollowsIn, FollowsRows, IsFileLine, home_for};
+ghost use Rattle.rule_meaning.specs.Roots.{root_ref};
 ghost use Rattle.evidence_checker.specs.Grounds.{file_in, known_of, lines_of};
 ghost use Rattle.evidence_checker.specs.Judging.{AreJudged, Leads, Stays};
 ghost use Rattle.evidence_checker.specs.Owned.{AreOwners};
@@ -24,7 +24,7 @@ use crate::values::is_frame_of;
 use crate::verdicts::verdict_follows;
 use evidence_lines::{Line, LineKind, Outcome};
 use guard_syntax::{Origin, Ref, Row};
-use name_table::RuleFile;
+use rule_names::RuleFile;
 use std::alloc::{AllocError, Global};
 use value_compare::{PatternBook, Store};
 

@@ -1,13 +1,13 @@
 //! Whose the bodies of a rule file are.
 ghost use Rattle.std.specs.Prelude.{◌≡◌, false, Some, length, option_map, slice_index_or, IfOk};
 ghost use Rattle.guard_syntax.specs.Seen.{see_part, see_rule};
-ghost use Rattle.name_table.specs.Files.{file_of};
-ghost use Rattle.name_table.specs.Pieces.{OfPart, OfRule, piece_at};
-ghost use Rattle.query_steps.specs.CitedLines.{body_site};
+ghost use Rattle.rule_names.specs.Files.{file_of};
+ghost use Rattle.rule_names.specs.Pieces.{OfPart, OfRule, piece_at};
+ghost use Rattle.evidence_rules.specs.CitedLines.{body_site};
 ghost use Rattle.evidence_checker.specs.Owned.{AreOwners, marks_of, marks_upto, owned_by, with_mark};
 
 use guard_syntax::{Part, Rule};
-use name_table::{Piece, RuleFile};
+use rule_names::{Piece, RuleFile};
 use std::alloc::{AllocError, Global};
 
 /// Whose a body is.

@@ -4,9 +4,9 @@ ghost use Rattle.evidence_lines.specs.declared.line.Line.{Line};
 ghost use Rattle.evidence_lines.specs.declared.line.LineKind.TheVariants as kind;
 ghost use Rattle.guard_syntax.specs.Seen.{see_body, see_conds, see_opt_conds, see_part, see_query, see_rule};
 ghost use Rattle.guard_syntax.specs.declared.row.Verdict.{Verdict};
-ghost use Rattle.name_table.specs.Pieces.{OfRule};
-ghost use Rattle.query_steps.specs.Follows.{FollowsAtPart, FollowsBlock, FollowsBody, FollowsRule, FollowsTyped, FollowsVerdict, IsFileFrame, IsNewRule, Under, UnderSome, kind_of_part};
-ghost use Rattle.value_compare.specs.Known.{Known};
+ghost use Rattle.rule_names.specs.Pieces.{OfRule};
+ghost use Rattle.evidence_rules.specs.Follows.{FollowsAtPart, FollowsBlock, FollowsBody, FollowsRule, FollowsTyped, FollowsVerdict, IsFileFrame, IsNewRule, Under, UnderSome, kind_of_part};
+ghost use Rattle.rule_meaning.specs.Known.{Known};
 ghost use Rattle.evidence_checker.specs.FirstCites.{IsGuard, IsSomeGuard};
 ghost use Rattle.evidence_checker.specs.Grounds.{known_of, lines_of};
 

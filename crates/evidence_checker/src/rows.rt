@@ -2,9 +2,9 @@
 ghost use Rattle.std.specs.Prelude.{◌≡◌, List, [], Some, true, IfOk, MatchBool};
 ghost use Rattle.std.specs.List.{list_all};
 ghost use Rattle.guard_syntax.specs.Seen.{see_part};
-ghost use Rattle.name_table.specs.Pieces.{OfPart, piece_at};
-ghost use Rattle.value_compare.specs.Known.{Made, is_known};
-ghost use Rattle.query_steps.specs.Follows.{FollowsRows};
+ghost use Rattle.rule_names.specs.Pieces.{OfPart, piece_at};
+ghost use Rattle.rule_meaning.specs.Known.{Made, is_known};
+ghost use Rattle.evidence_rules.specs.Follows.{FollowsRows};
 ghost use Rattle.evidence_checker.specs.Grounds.{file_in, known_of, lines_of};
 
 use crate::cited::value_of;
@@ -14,8 +14,8 @@ use crate::same::same_rows;
 use crate::step_rows::step_follows;
 use evidence_lines::LineKind;
 use guard_syntax::{Part, Row};
-use name_table::Piece;
 use query_steps::kinds;
+use rule_names::Piece;
 use std::alloc::{AllocError, Global};
 
 /// Whether a line of rows follows, of any kind but that of a call.

@@ -5,10 +5,10 @@ ghost use Rattle.guard_syntax.specs.Named.{Named};
 ghost use Rattle.guard_syntax.specs.Seen.{see_conds, see_query, see_step};
 ghost use Rattle.guard_syntax.specs.Syntax.{filter};
 ghost use Rattle.guard_syntax.specs.declared.row.Row as row;
-ghost use Rattle.name_table.specs.Pieces.{OfStep, piece_at};
-ghost use Rattle.value_compare.specs.Known.{is_known};
-ghost use Rattle.query_steps.specs.Follows.{FollowsAtStep, FollowsCapture, FollowsFilter, FollowsStep, GivesBefore, GivesFurther, IsLater};
-ghost use Rattle.query_steps.specs.Places.{is_filter, step_in, steps_in};
+ghost use Rattle.rule_names.specs.Pieces.{OfStep, piece_at};
+ghost use Rattle.rule_meaning.specs.Known.{is_known};
+ghost use Rattle.evidence_rules.specs.Follows.{FollowsAtStep, FollowsCapture, FollowsFilter, FollowsStep, GivesBefore, GivesFurther, IsLater};
+ghost use Rattle.rule_meaning.specs.Places.{is_filter, step_in, steps_in};
 ghost use Rattle.evidence_checker.specs.Grounds.{file_in, known_of, lines_of};
 
 use crate::cited::value_of;

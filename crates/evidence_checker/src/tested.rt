@@ -4,12 +4,12 @@ ghost use Rattle.std.specs.List.{list_all, list_any};
 ghost use Rattle.guard_syntax.specs.Seen.{see_opt_expr, see_query, see_step};
 ghost use Rattle.guard_syntax.specs.Syntax.{more_steps, no_steps, test};
 ghost use Rattle.guard_syntax.specs.declared.row.Row.{Row};
-ghost use Rattle.value_compare.specs.Known.{is_known};
-ghost use Rattle.query_steps.specs.Follows.{FollowsTest, GivesRight};
-ghost use Rattle.query_steps.specs.Keys.{passes};
-ghost use Rattle.query_steps.specs.SetTests as asked;
-ghost use Rattle.query_steps.specs.Verdicts as judged;
-ghost use Rattle.query_steps.specs.Verdicts.{set_verdict, test_verdict};
+ghost use Rattle.rule_meaning.specs.Known.{is_known};
+ghost use Rattle.evidence_rules.specs.Follows.{FollowsTest, GivesRight};
+ghost use Rattle.rule_meaning.specs.Keys.{passes};
+ghost use Rattle.rule_meaning.specs.SetTests as asked;
+ghost use Rattle.rule_meaning.specs.Verdicts as judged;
+ghost use Rattle.rule_meaning.specs.Verdicts.{set_verdict, test_verdict};
 ghost use Rattle.evidence_checker.specs.Grounds.{known_of, lines_of};
 
 use crate::given::{given_by_expr, given_by_query};

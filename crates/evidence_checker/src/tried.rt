@@ -2,8 +2,8 @@
 ghost use Rattle.std.specs.Prelude.{◌≡◌, List, IfOk, MatchOption};
 ghost use Rattle.guard_syntax.specs.Seen.{see_conds};
 ghost use Rattle.guard_syntax.specs.declared.row.Verdict as row;
-ghost use Rattle.value_compare.specs.Known.{Known};
-ghost use Rattle.query_steps.specs.Follows.{SayEach, SaysCandidate};
+ghost use Rattle.rule_meaning.specs.Known.{Known};
+ghost use Rattle.evidence_rules.specs.Follows.{SayEach, SaysCandidate};
 
 use crate::framed::framed_verdict;
 use evidence_lines::Line;

@@ -4,9 +4,9 @@ ghost use Rattle.evidence_lines.specs.declared.line.LineKind.TheVariants as kind
 ghost use Rattle.evidence_lines.specs.declared.line.Outcome.TheVariants as says;
 ghost use Rattle.guard_syntax.specs.Syntax.{Exprs, call, refer};
 ghost use Rattle.guard_syntax.specs.declared.row.Verdict.{Verdict};
-ghost use Rattle.query_steps.specs.CitedLines.{IsLine};
-ghost use Rattle.query_steps.specs.Follows.{FollowsCall, FollowsRefer};
-ghost use Rattle.query_steps.specs.Verdicts as judged;
+ghost use Rattle.evidence_rules.specs.CitedLines.{IsLine};
+ghost use Rattle.evidence_rules.specs.Follows.{FollowsCall, FollowsRefer};
+ghost use Rattle.rule_meaning.specs.Verdicts as judged;
 ghost use Rattle.evidence_checker.specs.Grounds.{known_of, lines_of};
 
 use crate::bodies::said_within;

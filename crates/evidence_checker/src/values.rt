@@ -1,12 +1,12 @@
 //! The values of frames.
 ghost use Rattle.std.specs.Prelude.{◌≡◌, true, Some, MatchBool};
 ghost use Rattle.guard_syntax.specs.Seen.{see_body, see_part, see_query, see_step};
-ghost use Rattle.name_table.specs.Pieces.{OfBody, piece_at};
-ghost use Rattle.value_compare.specs.Known.{is_known_ref};
-ghost use Rattle.query_steps.specs.CitedLines.{value_of};
-ghost use Rattle.query_steps.specs.Follows.{HasValue, IsBlockBody, IsFrameOf, IsFrameOfPart, IsFrameOfStep, IsRuleBody, IsWhenBody};
-ghost use Rattle.query_steps.specs.Places.{step_in, steps_in};
-ghost use Rattle.query_steps.specs.Roots.{root_ref};
+ghost use Rattle.rule_names.specs.Pieces.{OfBody, piece_at};
+ghost use Rattle.rule_meaning.specs.Known.{is_known_ref};
+ghost use Rattle.evidence_rules.specs.CitedLines.{value_of};
+ghost use Rattle.evidence_rules.specs.Follows.{HasValue, IsBlockBody, IsFrameOf, IsFrameOfPart, IsFrameOfStep, IsRuleBody, IsWhenBody};
+ghost use Rattle.rule_meaning.specs.Places.{step_in, steps_in};
+ghost use Rattle.rule_meaning.specs.Roots.{root_ref};
 ghost use Rattle.evidence_checker.specs.Grounds.{file_in, known_of, lines_of};
 ghost use Rattle.evidence_checker.specs.Owned.{AreOwners};
 
@@ -14,7 +14,7 @@ use crate::cited::value_of;
 use crate::ground::Ground;
 use crate::owners::{Owner, Owners};
 use guard_syntax::{Body, Origin, Part, Query, Ref, Step, StepForm};
-use name_table::Piece;
+use rule_names::Piece;
 
 /// Whether a frame in a frame may have a value, by its site.
 pub(crate) fn is_frame_of(

@@ -4,12 +4,12 @@ ghost use Rattle.evidence_lines.specs.declared.line.LineKind.TheVariants as kind
 ghost use Rattle.evidence_lines.specs.declared.line.Outcome.TheVariants as says;
 ghost use Rattle.guard_syntax.specs.declared.row.Verdict.{Verdict};
 ghost use Rattle.guard_syntax.specs.Seen.{disj_list, part_list, see_disj, see_part};
-ghost use Rattle.name_table.specs.Pieces.{OfFile, piece_at};
-ghost use Rattle.name_table.specs.Seen.{see_piece};
-ghost use Rattle.name_table.specs.Ways.{part_site};
-ghost use Rattle.query_steps.specs.CitedLines.{IsLine};
-ghost use Rattle.query_steps.specs.Follows.{FollowsConj, FollowsDisj, FollowsLoose, FollowsVerdict, IsFileFrame, IsNewRule, SayDisjs, SayParts, SaysVerdict, kind_of_part};
-ghost use Rattle.query_steps.specs.Verdicts.{conjunction, disjunction};
+ghost use Rattle.rule_names.specs.Pieces.{OfFile, piece_at};
+ghost use Rattle.rule_names.specs.Seen.{see_piece};
+ghost use Rattle.rule_names.specs.Ways.{part_site};
+ghost use Rattle.evidence_rules.specs.CitedLines.{IsLine};
+ghost use Rattle.evidence_rules.specs.Follows.{FollowsConj, FollowsDisj, FollowsLoose, FollowsVerdict, IsFileFrame, IsNewRule, SayDisjs, SayParts, SaysVerdict, kind_of_part};
+ghost use Rattle.rule_meaning.specs.Verdicts.{conjunction, disjunction};
 ghost use Rattle.evidence_checker.specs.Grounds.{file_in, known_of, lines_of};
 
 use crate::cited::{line_of, verdict_said};
@@ -17,7 +17,7 @@ use crate::ground::Ground;
 use crate::parts::{part_follows, rule_follows};
 use evidence_lines::{Line, LineKind};
 use guard_syntax::{Disj, Part, Verdict};
-use name_table::Piece;
+use rule_names::Piece;
 use std::alloc::{AllocError, Global};
 
 /// Whether a line of a verdict follows; `new` is whether no earlier `rule` line has its site, and is asked for at `rule`

@@ -3,7 +3,6 @@ pub mod Cuts
 pub mod Fields
 pub mod Lines
 pub mod Lists
-pub mod Numbered
 pub mod Numbers
 pub mod Texts
 pub mod Values

@@ -9,6 +9,7 @@ use Rattle.std.proofs.lemmas.List.Elements.{All-nil, All-push, All-head, All-tai
 use Rattle.std.proofs.lemmas.Bool.{both_ways}
 use Rattle.std.proofs.lemmas.Option.{none-some, some_pair_parts}
 use Rattle.std.proofs.lemmas.Slice.Eq.{bytes_eq-Decides}
+use Rattle.evidence_lines.specs.Memory.{HasLine}
 use Rattle.evidence_lines.specs.Reading.{cut, line_in}
 use Rattle.evidence_lines.specs.Shapes.{IsInFormat}
 use Rattle.evidence_lines.specs.Spelling.{fields_text, line_text}
@@ -154,3 +155,15 @@ pub only_refusal : (bytes : List ℕ) (r : Result (List Line) EvidenceRefusal) �
 only_refusal bytes (Ok e) ok err n fault = never_both bytes e n ok fault
 only_refusal bytes (Err (Syntax m)) ok err n fault = inr (ap (λ k. Syntax k) (one_fault bytes m n err fault))
 only_refusal bytes (Err NoMemory) ok err n fault = inl refl
+
+-- lines read so far and then a line with its newline begin with a line and its newline
+line_first : (rest fields after : List ℕ) (lines : List Line) → rest ≡ fields ++ 10 ∷ after → (a b : List ℕ) × (flat_map line_text lines ++ rest ≡ a ++ 10 ∷ b)
+line_first rest fields after [] is = (fields, after, is)
+line_first rest fields after (l ∷ ls) is =
+    let more = flat_map line_text ls in
+    (fields_text l, more ++ rest, append_assoc (line_text l) more rest ∙ append_assoc (fields_text l) (10 ∷ []) (more ++ rest))
+
+pub has_line : (bytes rest fields after : List ℕ) (lines : List Line) → HasRead bytes lines rest → cut 10 rest ≡ Some (fields, after) → HasLine bytes
+has_line bytes rest fields after lines read is =
+    let first = line_first rest fields after lines (cut_some 10 rest fields after is).0 in
+    (first.0, first.1, ap (λ t. header ++ t) (sym first.2) ∙ sym (append_assoc header (flat_map line_text lines) rest) ∙ read.text)

@@ -11,8 +11,6 @@ pub mod line;
 pub mod print;
 pub mod read;
 pub mod refusal;
-#[cfg(test)]
-mod tests;
 
 pub use evidence::Evidence;
 pub use laws::one_text;

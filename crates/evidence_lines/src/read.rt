@@ -1,5 +1,6 @@
 //! Evidence, read from its bytes.
 ghost use Rattle.std.specs.Prelude.{◌≡◌, ◌⊎◌, ◌++◌, ℕ, List, IfErr, IfOk, MatchOption, MatchResult, option_map};
+ghost use Rattle.evidence_lines.specs.Memory.{HasLine};
 ghost use Rattle.evidence_lines.specs.Reading.{cites_in, count_in, if_placed, items_in, line_in, line_of_parts, list_in, outcome_in, parts_in, place_in, placed_in, row_in};
 ghost use Rattle.evidence_lines.specs.Seen.{fields_seen, placed_seen};
 ghost use Rattle.evidence_lines.specs.Shapes.{is_placed, may_cite, sort_of};
@@ -213,6 +214,7 @@ fn behind_header(bytes: &[u8]) -> Option<&[u8]>
 fn read_lines(alloc: Global, bytes: &[u8]) -> Result<Evidence, EvidenceRefusal>
     ensures lines { IfOk result (λ e. IsEvidence (header ++ bytes.now) e) }
     ensures refusal { IfErr result (λ r. IsRefused (header ++ bytes.now) r) }
+    ensures memory { IfErr result (λ r. r ≡ EvidenceRefusal.NoMemory → HasLine (header ++ bytes.now)) }
 {
     let mut lines = Vec::new(alloc);
     let mut number: u64 = 0;
@@ -237,6 +239,7 @@ fn read_lines(alloc: Global, bytes: &[u8]) -> Result<Evidence, EvidenceRefusal>
 fn read_text(alloc: Global, bytes: &[u8]) -> Result<Evidence, EvidenceRefusal>
     ensures lines { IfOk result (λ e. IsEvidence bytes.now e) }
     ensures refusal { IfErr result (λ r. IsRefused bytes.now r) }
+    ensures memory { IfErr result (λ r. r ≡ EvidenceRefusal.NoMemory → HasLine bytes.now) }
 {
     match behind_header(bytes) {
         None => Err(EvidenceRefusal::Syntax(0)),
@@ -245,10 +248,12 @@ fn read_text(alloc: Global, bytes: &[u8]) -> Result<Evidence, EvidenceRefusal>
 }
 
 /// The lines of evidence. `Syntax` has the number of the first line that is not in the format, where the header is 0 and a
-/// last line without its newline is not in the format. The bytes are gone over a few times, each line by itself.
+/// last line without its newline is not in the format. The bytes are gone over a few times, each line by itself. Lines with
+/// their newlines take memory, and nothing else does.
 pub fn read_evidence(alloc: Global, bytes: &[u8]) -> Result<Evidence, EvidenceRefusal>
     ensures lines { IfOk result (λ e. IsEvidence bytes.now e) }
     ensures refusal { IfErr result (λ r. IsRefused bytes.now r) }
+    ensures memory { IfErr result (λ r. r ≡ EvidenceRefusal.NoMemory → HasLine bytes.now) }
     ensures only_lines { (ls : List Line) → IsEvidence bytes.now ls
         → MatchResult result (λ e. e ≡ ls) (λ r. r ≡ EvidenceRefusal.NoMemory) }
     ensures only_refusal { (n : ℕ) → IsFault bytes.now n

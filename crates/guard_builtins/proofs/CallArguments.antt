@@ -1,7 +1,7 @@
 -- The arguments of a call by their indexes.
 use Rattle.std.proofs.Common.{◌≡◌, ℕ, zero, suc, ◌<◌, ◌≤◌, List, [], ◌∷◌, length, map, get_or, Vec, Global, Result, IfOk, refl, sym, ap, subst, ◌∙◌, arith}
 use Rattle.guard_syntax.specs.declared.row.Row.{Row}
-use Rattle.value_compare.specs.Functions.{MadeRow, argument}
+use Rattle.rule_meaning.specs.Functions.{MadeRow, argument}
 use Rattle.guard_builtins.specs.Seen.{see_made, see_rows}
 use Rattle.guard_builtins.specs.declared.made.Made.{Made}
 

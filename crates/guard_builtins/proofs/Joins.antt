@@ -5,8 +5,8 @@ use Rattle.std.proofs.lemmas.List.{take-append-drop}
 use Rattle.std.specs.List.{flat_map, join_by}
 use Rattle.doc_values.specs.Tree.{Forest}
 use Rattle.guard_syntax.specs.declared.row.Row.{Row}
-use Rattle.value_compare.specs.Functions.{joined, text_in, text_tree, texts_in, with_text}
-use Rattle.value_compare.specs.Known.{Known}
+use Rattle.rule_meaning.specs.Functions.{joined, text_in, text_tree, texts_in, with_text}
+use Rattle.rule_meaning.specs.Known.{Known}
 
 module _ (k : Known) where
   texts-append : (rows : List Row) (r : Row) (text : List ℕ) → text_in k r ≡ Some text → texts_in k (rows ++ r ∷ []) ≡ option_map (λ texts. texts ++ text ∷ []) (texts_in k rows)

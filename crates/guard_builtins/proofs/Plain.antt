@@ -6,9 +6,9 @@ use Rattle.std.proofs.lemmas.Bool.{and_from}
 use Rattle.doc_values.specs.Tree.{Forest}
 use Rattle.guard_syntax.specs.declared.row.Row.{Row}
 use Rattle.guard_syntax.specs.declared.row.Row.TheVariants as row
-use Rattle.value_compare.specs.Functions.{AreRows, ForText, IsParsed, IsPart, IsReplacement, IsRow, IsRowFor, IsUnescaped, New, Kept, text_of}
-use Rattle.value_compare.specs.Known.{Known, stands_for}
-use Rattle.value_compare.specs.Values.{Value, has_pattern}
+use Rattle.rule_meaning.specs.Functions.{AreRows, ForText, IsParsed, IsPart, IsReplacement, IsRow, IsRowFor, IsUnescaped, New, Kept, text_of}
+use Rattle.rule_meaning.specs.Known.{Known, stands_for}
+use Rattle.rule_meaning.specs.Values.{Value, has_pattern}
 use Rattle.value_compare.proofs.Patternless.{json-plain}
 use Rattle.guard_builtins.specs.Seen.{gives, is_plain, replaces, see_made}
 use Rattle.guard_builtins.specs.declared.change.Change.{Change}

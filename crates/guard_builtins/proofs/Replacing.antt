@@ -3,9 +3,9 @@ use Rattle.std.proofs.Common.{◌≡◌, ℕ, ◌+◌, ◌<◌, List, [], ◌∷
 use Rattle.doc_values.specs.Tree.{Forest}
 use Rattle.guard_syntax.specs.declared.row.Row.{Row}
 use Rattle.guard_syntax.specs.declared.row.Row.TheVariants as row
-use Rattle.value_compare.specs.Functions.{AreRows, ForText, IsGiven, IsReplaced, IsReplacement, IsRow, IsRowFor, MadeRow, text_of}
-use Rattle.value_compare.specs.Known.{Known, stands_for}
-use Rattle.value_compare.specs.Values.{Value}
+use Rattle.rule_meaning.specs.Functions.{AreRows, ForText, IsGiven, IsReplaced, IsReplacement, IsRow, IsRowFor, MadeRow, text_of}
+use Rattle.rule_meaning.specs.Known.{Known, stands_for}
+use Rattle.rule_meaning.specs.Values.{Value}
 use Rattle.guard_builtins.specs.Seen.{both, replaces, see_made}
 use Rattle.guard_builtins.specs.declared.made.Made.{Made}
 use Rattle.guard_builtins.proofs.Rows.{rows-more}

@@ -4,9 +4,9 @@ use Rattle.std.proofs.Math.Seq.{take-suc}
 use Rattle.std.proofs.lemmas.List.{map-append}
 use Rattle.doc_values.specs.Tree.{Forest}
 use Rattle.guard_syntax.specs.declared.row.Row.{Row}
-use Rattle.value_compare.specs.Functions.{AreRows, IsRow, MadeRow}
-use Rattle.value_compare.specs.Known.{Known}
-use Rattle.value_compare.specs.Values.{Value}
+use Rattle.rule_meaning.specs.Functions.{AreRows, IsRow, MadeRow}
+use Rattle.rule_meaning.specs.Known.{Known}
+use Rattle.rule_meaning.specs.Values.{Value}
 use Rattle.guard_builtins.specs.Seen.{see_made}
 use Rattle.guard_builtins.specs.declared.made.Made.{Made}
 

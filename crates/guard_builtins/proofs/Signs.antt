@@ -6,7 +6,7 @@ use Rattle.doc_values.specs.Number.{IsNumber}
 use Rattle.doc_values.specs.declared.decimal.Num.TheVariants as num
 use Rattle.doc_values.specs.declared.kind.Kind.TheVariants as kind
 use Rattle.doc_values.specs.declared.decimal.Num.{Num}
-use Rattle.value_compare.specs.Functions.{behind_plus, IsDecimal, IsDecimalBy, IsSigned}
+use Rattle.rule_meaning.specs.Functions.{behind_plus, IsDecimal, IsDecimalBy, IsSigned}
 use Rattle.value_compare.proofs.OneAnswer.{IsSigned-unique}
 
 -- a text without a plus in front is left as it is

@@ -3,8 +3,8 @@ use Rattle.std.specs.Prelude.{ℕ, Bool, true, not, List, Option, Some, None, Ve
 use Rattle.std.specs.declared.alloc.Global.{Global}
 use Rattle.doc_values.specs.Tree.{Forest}
 use Rattle.guard_syntax.specs.declared.row.Row.{Row}
-use Rattle.value_compare.specs.Functions.{MadeRow, New, Kept, IsJson, IsLower, IsReplaced, IsUpper, IsSubstring, IsDecoded, IsInt, IsFloat, IsBoolean, IsPrinted}
-use Rattle.value_compare.specs.Values.{Value, has_pattern}
+use Rattle.rule_meaning.specs.Functions.{MadeRow, New, Kept, IsJson, IsLower, IsReplaced, IsUpper, IsSubstring, IsDecoded, IsInt, IsFloat, IsBoolean, IsPrinted}
+use Rattle.rule_meaning.specs.Values.{Value, has_pattern}
 use Rattle.value_compare.specs.declared.replacer.Replacer.{Replacer}
 use Rattle.guard_builtins.specs.declared.change.Change.{Change}
 use Rattle.guard_builtins.specs.declared.change.Change.TheVariants as change

@@ -1,9 +1,9 @@
 //! Calls of any function.
 ghost use Rattle.std.specs.Prelude.{◌≡◌, true, IfOk, IfSome, length, map};
 ghost use Rattle.std.specs.List.{list_all};
-ghost use Rattle.name_table.specs.Uses.{arity};
+ghost use Rattle.rule_names.specs.Uses.{arity};
 ghost use Rattle.value_compare.specs.Books.{has_text};
-ghost use Rattle.value_compare.specs.Functions.{Functions, argument, single_text};
+ghost use Rattle.rule_meaning.specs.Functions.{Functions, argument, single_text};
 ghost use Rattle.value_compare.specs.Stores.{see_store};
 ghost use Rattle.guard_builtins.specs.Seen.{is_plain, see_made, see_rows};
 

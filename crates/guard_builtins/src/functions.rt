@@ -1,9 +1,9 @@
 //! The functions on lists of rows.
 ghost use Rattle.std.specs.Prelude.{◌≡◌, false, true, IfOk, IfSome, map};
 ghost use Rattle.std.specs.List.{list_all};
-ghost use Rattle.value_compare.specs.Functions.{AreRows, IsBoolean, IsDecoded, IsFloat, IsInt, IsJson, IsLower, IsPrinted, IsRow, IsSubstring, IsUpper, counted, is_found, joined, joined_row, single_text, single_whole, texts_in};
+ghost use Rattle.rule_meaning.specs.Functions.{AreRows, IsBoolean, IsDecoded, IsFloat, IsInt, IsJson, IsLower, IsPrinted, IsRow, IsSubstring, IsUpper, counted, is_found, joined, joined_row, single_text, single_whole, texts_in};
 ghost use Rattle.value_compare.specs.Stores.{see_store};
-ghost use Rattle.value_compare.specs.Values.{has_pattern};
+ghost use Rattle.rule_meaning.specs.Values.{has_pattern};
 ghost use Rattle.guard_builtins.specs.Seen.{gives, is_plain, see_made};
 
 use crate::change::{Change, given};

@@ -10,8 +10,6 @@ pub mod made;
 mod numbers;
 mod printed;
 pub mod replace;
-#[cfg(test)]
-mod tests;
 mod texts;
 mod trees;
 mod values;

@@ -1,8 +1,8 @@
 //! What calls answer.
 ghost use Rattle.std.specs.Prelude.{◌≡◌, ◌∷◌, [], false, true, IfOk, IfSome, map};
 ghost use Rattle.std.specs.List.{list_all};
-ghost use Rattle.value_compare.specs.Functions.{new_or_missing};
-ghost use Rattle.value_compare.specs.Values.{has_pattern};
+ghost use Rattle.rule_meaning.specs.Functions.{new_or_missing};
+ghost use Rattle.rule_meaning.specs.Values.{has_pattern};
 ghost use Rattle.guard_builtins.specs.Seen.{is_plain, see_made};
 
 use doc_values::Doc;

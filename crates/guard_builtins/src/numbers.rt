@@ -4,7 +4,7 @@ ghost use Rattle.doc_values.specs.Decimal.{Decimal};
 ghost use Rattle.doc_values.specs.declared.decimal.Num.{Num};
 ghost use Rattle.doc_values.specs.declared.decimal.Num.TheVariants as num;
 ghost use Rattle.doc_values.specs.declared.kind.Kind.TheVariants as kind;
-ghost use Rattle.value_compare.specs.Functions.{begins_with_minus, behind_plus, IsDecimal, IsDecimalBy, IsSigned};
+ghost use Rattle.rule_meaning.specs.Functions.{begins_with_minus, behind_plus, IsDecimal, IsDecimalBy, IsSigned};
 
 use doc_values::{Decimal, Num, read_number};
 

@@ -3,7 +3,7 @@ ghost use Rattle.std.specs.Prelude.{◌≡◌, ◌++◌, ◌-◌, ◌<◌, ◌�
 ghost use Rattle.std.specs.Fmt.{signed_decimal};
 ghost use Rattle.std.specs.Int.{is_negative};
 ghost use Rattle.doc_values.specs.Number.{minus_text};
-ghost use Rattle.value_compare.specs.Functions.{decimal_text, filled, scaled_text, truth_text, with_point};
+ghost use Rattle.rule_meaning.specs.Functions.{decimal_text, filled, scaled_text, truth_text, with_point};
 
 use doc_values::Decimal;
 use itoa::Buffer;

@@ -2,7 +2,7 @@
 ghost use Rattle.std.specs.Prelude.{◌≡◌, true, IfOk, IfSome, map, option_map};
 ghost use Rattle.std.specs.List.{list_all};
 ghost use Rattle.value_compare.specs.Books.{has_text};
-ghost use Rattle.value_compare.specs.Functions.{AreRows, IsGiven, IsReplaced, IsRow, single_text};
+ghost use Rattle.rule_meaning.specs.Functions.{AreRows, IsGiven, IsReplaced, IsRow, single_text};
 ghost use Rattle.value_compare.specs.Stores.{see_store};
 ghost use Rattle.value_compare.specs.Views.{see_view};
 ghost use Rattle.guard_builtins.specs.Seen.{both, is_plain, replaces, see_made, texts_of};

@@ -2,7 +2,7 @@
 ghost use Rattle.std.specs.Prelude.{◌≡◌, ℤ, pos, IfOk, MatchOption, Some, length, slice_range};
 ghost use Rattle.std.specs.Str.{IsCharBoundary};
 ghost use Rattle.doc_values.specs.Tree.{Forest};
-ghost use Rattle.value_compare.specs.Functions.{IsGiven, IsParsed, IsPart, IsUnescaped, text_tree, truth_in};
+ghost use Rattle.rule_meaning.specs.Functions.{IsGiven, IsParsed, IsPart, IsUnescaped, text_tree, truth_in};
 
 use crate::trees::text_tree;
 use doc_values::Doc;

@@ -2,7 +2,7 @@
 ghost use Rattle.std.specs.Prelude.{◌≡◌, [], false, IfOk, string_bytes};
 ghost use Rattle.std.specs.Cow.{cow_str_bytes};
 ghost use Rattle.doc_values.specs.Tree.{has_text, holds_values};
-ghost use Rattle.value_compare.specs.Functions.{lone, text_tree};
+ghost use Rattle.rule_meaning.specs.Functions.{lone, text_tree};
 
 use doc_values::{Doc, DocBuilder, Kind};
 use std::alloc::{AllocError, Global};

@@ -3,8 +3,6 @@
 #![tactic(auto)]
 
 pub mod template;
-#[cfg(test)]
-mod tests;
 
 pub use template::drill_template;
 

@@ -1,10 +1,12 @@
 -- One token after the other: a gap and what stands behind it, and the tokens before and behind.
-use Rattle.std.proofs.Common.{◌≡◌, ℕ, ◌+◌, ◌-◌, ◌≤◌, ◌<◌, Bool, false, List, [], ◌∷◌, ◌++◌, length, Option, Some, Ok, drop, sym, ap, ◌∙◌, subst, arith, append_assoc}
+use Rattle.std.proofs.Common.{◌≡◌, ℕ, ◌+◌, ◌-◌, ◌≤◌, ◌<◌, Bool, false, List, [], ◌∷◌, ◌++◌, ◌⊎◌, inl, inr, length, Option, Some, Ok, drop, sym, ap, ◌∙◌, subst, arith, append_assoc}
 use Rattle.std.proofs.lemmas.List.{drop_at, drop-drop, length-append, append-nil}
 use Rattle.guard_lexer.specs.declared.token.Token.{Token}
 use Rattle.guard_lexer.specs.declared.token.LexRefusal.{LexRefusal}
+use Rattle.guard_lexer.specs.declared.token.LexRefusal.TheVariants as why
 use Rattle.guard_lexer.specs.Forms.{Form, HasForm, form_of}
 use Rattle.guard_lexer.specs.Lexes.{IsGap, IsFault, Takes, Ends, Reads, IsToken, is_dot}
+use Rattle.guard_lexer.specs.Memory.{HasToken}
 use Rattle.guard_lexer.specs.Reach.{is_blank, gap_reach}
 use Rattle.guard_lexer.specs.Firsts.{IsFirst, IsNext}
 use Rattle.guard_lexer.proofs.Reaches.{some_form}
@@ -63,3 +65,25 @@ GoesOn-more start bs found dot at t h k on takes ts e reads =
 
 pub GoesOn-end : (start : ℕ) (bs : List ℕ) (found : List Token) (dot : Bool) (at : ℕ) (e : Option LexRefusal) → GoesOn start bs found dot at → Ends dot at (drop (at - start) bs) e → Reads false start bs found e
 GoesOn-end start bs found dot at e on h = subst (λ x. Reads false start bs x e) (append-nil found) (on [] e h)
+
+-- before the first token, or behind one
+abbrev pub Began : Bool → ℕ → ℕ → List ℕ → Type 0
+Began dot at start bs = ((at ≡ start) × (dot ≡ false)) ⊎ HasToken start bs
+
+pub begun : (dot : Bool) (at start : ℕ) (bs rest : List ℕ) (t : Token) → Began dot at start bs → Takes dot at (drop (at - start) bs) t rest → HasToken start bs
+begun dot at start bs rest t (inr has) takes = has
+begun dot at start bs rest t (inl (a, d)) takes =
+    let z : at - start ≡ 0 = omega arith in
+    let undotted : Takes false at (drop (at - start) bs) t rest = subst (λ x. Takes x at (drop (at - start) bs) t rest) d takes in
+    let whole : Takes false at bs t rest = subst (λ n. Takes false at (drop n bs) t rest) z undotted in
+    (t, rest, subst (λ n. Takes false n bs t rest) a whole)
+
+-- want of memory is no fault of the bytes
+no_fault : (dot : Bool) (at : ℕ) (bs : List ℕ) (r : LexRefusal) → IsFault dot at bs r → r ≡ why.NoMemory → ⊥
+no_fault dot at bs (why.Unclosed place) h e = cc
+no_fault dot at bs (why.BadByte place) h e = cc
+no_fault dot at bs (why.NumberRange place) h e = cc
+no_fault dot at bs why.NoMemory h e = h
+
+pub no_end : (dot : Bool) (at : ℕ) (bs : List ℕ) (r : LexRefusal) → Ends dot at bs (Some r) → r ≡ why.NoMemory → ⊥
+no_end dot at bs r (gap, rest, j, g, f) e = no_fault dot (at + length gap) rest r f e

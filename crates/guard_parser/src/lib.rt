@@ -20,6 +20,3 @@ mod words;
 
 pub use refusal::ParseRefusal;
 pub use syntax::{one_syntax, parse, sites_in_order};
-
-#[cfg(test)]
-mod tests;

@@ -3,13 +3,13 @@ use Rattle.std.proofs.Common.{◌≡◌, ◌≢◌, ℕ, List, [], Bool, true, f
 use Rattle.guard_io.specs.Outside.{Rose}
 use Rattle.guard_syntax.specs.Syntax.{File}
 use Rattle.guard_words.specs.Request.{Asked, AsksFor, check, drill, validate}
-use Rattle.guard_run.specs.Inputs.{IsRuleFile}
-use Rattle.guard_run.specs.Request.{Request, Asks, AsksDrill, asked_of, format_of}
-use Rattle.guard_run.specs.End.{EndOf, EndOfDrill, EndOfRequest, ComesTo, ComesToPattern, Contents, Counts, IsContent, name_of}
-use Rattle.guard_run.specs.Lines.{usage_line}
+use Rattle.guard_ends.specs.Inputs.{IsRuleFile}
+use Rattle.guard_ends.specs.Request.{Request, Asks, AsksDrill, asked_of, format_of}
+use Rattle.guard_ends.specs.End.{EndOf, EndOfDrill, EndOfRequest, ComesTo, ComesToPattern, Contents, Counts, IsContent, name_of}
+use Rattle.guard_ends.specs.Lines.{usage_line}
 use Rattle.guard_run.specs.Outcome.{IsOutcome, IsOutcomeAs}
-use Rattle.guard_run.specs.declared.ends.End.TheVariants as end_is
-use Rattle.guard_run.specs.declared.ends.Which.{Which}
+use Rattle.guard_ends.specs.declared.ends.End.TheVariants as end_is
+use Rattle.guard_ends.specs.declared.ends.Which.{Which}
 use Rattle.guard_run.specs.declared.outcome.Outcome.{Outcome}
 use Rattle.guard_run.specs.declared.outcome.Outcome.TheVariants as outcome
 

@@ -3,12 +3,12 @@ use Rattle.std.proofs.Common.{◌≡◌, ◌≤◌, ℕ, List, [], Option, IsSom
 use Rattle.std.proofs.Math.Path.{fun_ext}
 use Rattle.guard_io.specs.Outside.{Rose}
 use Rattle.guard_syntax.specs.Syntax.{File}
-use Rattle.guard_run.specs.End.{ComesTo, Contents, IsContent, name_of}
-use Rattle.guard_run.specs.Inputs.{IsRuleFile}
+use Rattle.guard_ends.specs.End.{ComesTo, Contents, IsContent, name_of}
+use Rattle.guard_ends.specs.Inputs.{IsRuleFile}
 use Rattle.guard_run.specs.Outcome.{IsLateFault, IsProofFault}
-use Rattle.guard_run.specs.Request.{Request}
-use Rattle.guard_run.specs.declared.ends.Which.{Which}
-use Rattle.guard_run.specs.declared.ends.Which.TheVariants as file
+use Rattle.guard_ends.specs.Request.{Request}
+use Rattle.guard_ends.specs.declared.ends.Which.{Which}
+use Rattle.guard_ends.specs.declared.ends.Which.TheVariants as file
 
 -- a rise since a later count, that had not fallen, is one since the earlier count
 rose-since : (earlier before after : ℕ) → earlier ≤ before → Rose before after → Rose earlier after

@@ -1,22 +1,12 @@
-mod Accepted
 mod Asking
 mod Closing
 mod Judging
 mod LateFaults
 mod LineLists
 mod Loads
-mod MeantVerdicts
-mod OneCheck
-mod OneEnd
-mod OnePattern
-mod OneRules
-mod OneSyntax
-mod OneTemplate
-mod OneText
-mod OneVerdict
 mod Outcomes
 mod Plainness
-mod Refusing
+pub mod Refusing
 mod Reports
 mod VerdictCounts
 mod Walks

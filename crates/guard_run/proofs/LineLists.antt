@@ -4,11 +4,11 @@ use Rattle.std.specs.List.{flat_map}
 use Rattle.std.proofs.lemmas.List.{flat_map_more, length-append, map-append, take_more}
 use Rattle.std.proofs.lemmas.List.Sums.{sum_by-append}
 use Rattle.guard_syntax.specs.declared.row.Verdict.{Verdict}
-use Rattle.query_steps.specs.Verdicts.{is_pass, is_fail, is_skip}
+use Rattle.rule_meaning.specs.Verdicts.{is_pass, is_fail, is_skip}
 use Rattle.plain_evaluator.specs.States.{Grows, State}
-use Rattle.guard_run.specs.Drill.{fail_count}
+use Rattle.guard_ends.specs.Drill.{fail_count}
 use Rattle.guard_run.specs.Listed.{AreLinesOf, count_of, lines_in}
-use Rattle.guard_run.specs.Reported.{Reported}
+use Rattle.guard_ends.specs.Reported.{Reported}
 use Rattle.guard_run.specs.declared.report.Lines.{Lines}
 use Rattle.guard_run.specs.declared.report.Source.{Source}
 

@@ -2,7 +2,7 @@
 use Rattle.std.proofs.Common.{◌≡◌, ℕ, ◌+◌, ◌++◌, ◌<◌, ◌≤◌, List, [], length, take, Option, Some, None, arith, refl, ◌∙◌}
 use Rattle.std.proofs.lemmas.List.{length-take, take_all}
 use Rattle.std.specs.Option.{ForSome}
-use Rattle.guard_run.specs.End.{IsContent}
+use Rattle.guard_ends.specs.End.{IsContent}
 
 -- no more than the limit came, though one byte more was asked for: that is all of it
 pub loaded-whole : (told : Option (List ℕ)) (held bytes : List ℕ) (limit : ℕ) → held ≡ []

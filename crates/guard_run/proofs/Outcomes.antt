@@ -3,15 +3,15 @@ use Rattle.std.proofs.Common.{◌≡◌, ℕ, List, [], Bool, ap, inl, inr, ◌�
 use Rattle.std.specs.List.{list_any}
 use Rattle.doc_values.specs.Tree.{Forest}
 use Rattle.guard_syntax.specs.Syntax.{File}
-use Rattle.query_steps.specs.Spots.{World}
-use Rattle.query_steps.specs.Verdicts.{is_fail}
-use Rattle.guard_run.specs.End.{Ended, EndOfPatterns, EndOfTemplate, judged}
+use Rattle.rule_meaning.specs.Spots.{World}
+use Rattle.rule_meaning.specs.Verdicts.{is_fail}
+use Rattle.guard_ends.specs.End.{Ended, EndOfPatterns, EndOfTemplate, judged}
 use Rattle.guard_run.specs.Outcome.{IsOutcomeAs, ended, goes_nowhere}
-use Rattle.guard_run.specs.Report.{Reporting}
-use Rattle.guard_run.specs.Reported.{verdicts_of}
-use Rattle.guard_run.specs.declared.ends.End.TheVariants as end_is
+use Rattle.guard_ends.specs.Report.{Reporting}
+use Rattle.guard_ends.specs.Reported.{verdicts_of}
+use Rattle.guard_ends.specs.declared.ends.End.TheVariants as end_is
 use Rattle.guard_run.specs.declared.report.Judgement.{Judgement}
-use Rattle.guard_run.specs.declared.words.Format.{Format}
+use Rattle.guard_ends.specs.declared.format.Format.{Format}
 use Rattle.guard_run.specs.declared.outcome.Outcome.{Outcome}
 use Rattle.guard_run.specs.declared.outcome.Outcome.TheVariants as outcome
 

@@ -4,11 +4,11 @@ use Rattle.doc_values.specs.declared.kind.Kind.{Kind}
 use Rattle.doc_values.specs.declared.kind.Kind.TheVariants as kind
 use Rattle.doc_values.specs.Tree.{Label, Forest, Node}
 use Rattle.yaml_blocks.proofs.TreeInduction.{IsYamlKind, yaml-induction}
-use Rattle.value_compare.specs.Values.{is_pattern, has_pattern}
+use Rattle.rule_meaning.specs.Values.{is_pattern, has_pattern}
 use Rattle.value_compare.proofs.Patternless.{json-plain}
-use Rattle.guard_run.specs.Inputs.{IsTemplate, IsTreeOf}
-use Rattle.guard_run.specs.declared.words.Format.{Format}
-use Rattle.guard_run.specs.declared.words.Format.TheVariants as format
+use Rattle.guard_ends.specs.Inputs.{IsTemplate, IsTreeOf}
+use Rattle.guard_ends.specs.declared.format.Format.{Format}
+use Rattle.guard_ends.specs.declared.format.Format.TheVariants as format
 
 kind-plain : (k : Kind) → IsYamlKind k → is_pattern k ≡ false
 kind-plain kind.Null good = refl

@@ -10,15 +10,15 @@ use Rattle.guard_lexer.specs.declared.token.Token.{Token}
 use Rattle.guard_parser.specs.File as syntax
 use Rattle.guard_parser.specs.declared.refusal.ParseRefusal.{ParseRefusal}
 use Rattle.guard_parser.specs.declared.refusal.ParseRefusal.TheVariants as parse_refusal
-use Rattle.guard_run.specs.declared.ends.Refusal.{Refusal}
-use Rattle.guard_run.specs.declared.ends.Refusal.TheVariants.{At}
-use Rattle.guard_run.specs.declared.ends.RefusalKind.{RefusalKind}
-use Rattle.guard_run.specs.declared.ends.RefusalKind.TheVariants.{Unclosed, BadByte, NumberRange, NestTooDeep, Syntax, BadRange, TooDeep, DuplicateKey}
-use Rattle.guard_run.specs.declared.ends.Which.{Which}
+use Rattle.guard_ends.specs.declared.ends.Refusal.{Refusal}
+use Rattle.guard_ends.specs.declared.ends.Refusal.TheVariants.{At}
+use Rattle.guard_ends.specs.declared.ends.RefusalKind.{RefusalKind}
+use Rattle.guard_ends.specs.declared.ends.RefusalKind.TheVariants.{Unclosed, BadByte, NumberRange, NestTooDeep, Syntax, BadRange, TooDeep, DuplicateKey}
+use Rattle.guard_ends.specs.declared.ends.Which.{Which}
 use Rattle.guard_run.specs.declared.refused.Refused.{Refused}
 use Rattle.guard_run.specs.declared.read.NotRead.{NotRead}
 use Rattle.guard_run.specs.declared.read.NotRead.TheVariants as not_read
-use Rattle.guard_run.specs.Inputs.{RefusesJson, RefusesTokens, RefusesSyntax}
+use Rattle.guard_ends.specs.Inputs.{RefusesJson, RefusesTokens, RefusesSyntax}
 use Rattle.guard_run.specs.Outcome.{IsPlaced, IsNotRead, IsRefusedAs, lex_kind, parse_kind, json_kind}
 
 pub pair-one : (p q : RefusalKind × ℕ) → Some p ≡ Some q → p ≡ q

@@ -1,11 +1,11 @@
 -- Reports, by the lines of all verdicts and the counts.
 use Rattle.std.proofs.Common.{◌≡◌, ◌++◌, ℕ, List}
 use Rattle.std.specs.Prelude.{codes, decimal}
-use Rattle.query_steps.specs.Spots.{World}
-use Rattle.guard_run.specs.Drill.{drill_report, verdict_line}
+use Rattle.rule_meaning.specs.Spots.{World}
+use Rattle.guard_ends.specs.Drill.{drill_report, verdict_line}
 use Rattle.guard_run.specs.Listed.{AreLinesOf}
-use Rattle.guard_run.specs.Report.{lines_of, report}
-use Rattle.guard_run.specs.Reported.{reported}
+use Rattle.guard_ends.specs.Report.{lines_of, report}
+use Rattle.guard_ends.specs.Reported.{reported}
 use Rattle.guard_run.specs.declared.report.Lines.{Lines}
 use Rattle.guard_run.specs.declared.report.Tally.{Tally}
 

@@ -2,7 +2,7 @@
 use Rattle.std.proofs.Common.{◌≡◌, ◌+◌, ◌++◌, ℕ, refl, sym, ap, ◌∙◌, arith, List, [], ◌∷◌, length, append_assoc}
 use Rattle.std.specs.List.{flat_map}
 use Rattle.std.proofs.lemmas.List.{length-append}
-use Rattle.evidence_checker.specs.Answered.{AreFrom, AreOfLoose, AreOfRules, IsSaidOf}
+use Rattle.evidence_rules.specs.RuleLines.{AreFrom, AreOfLoose, AreOfRules, IsSaidOf}
 use Rattle.evidence_lines.specs.declared.line.Line.{Line}
 use Rattle.guard_syntax.specs.Named.{Named}
 use Rattle.guard_syntax.specs.Syntax.{Rule, Disjs, no_disjs, more_disjs}

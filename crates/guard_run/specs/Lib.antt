@@ -1,11 +1,3 @@
-pub mod Check
-pub mod Drill
-pub mod End
-pub mod Inputs
-pub mod Lines
 pub mod Listed
 pub mod Outcome
-pub mod Report
-pub mod Reported
-pub mod Request
 pub mod Writing

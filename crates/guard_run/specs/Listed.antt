@@ -3,11 +3,11 @@ use Rattle.std.specs.Prelude.{ℕ, ◌≡◌, ◌+◌, List, length, map, count_
 use Rattle.std.specs.List.{flat_map}
 use Rattle.doc_values.specs.Tree.{Forest}
 use Rattle.guard_syntax.specs.Syntax.{File}
-use Rattle.query_steps.specs.Verdicts.{is_pass, is_fail, is_skip}
-use Rattle.value_compare.specs.Known.{Known}
-use Rattle.guard_run.specs.Drill.{drill_report, fail_count, verdict_line}
-use Rattle.guard_run.specs.Report.{Reporting, lines_of, report}
-use Rattle.guard_run.specs.Reported.{Reported}
+use Rattle.rule_meaning.specs.Verdicts.{is_pass, is_fail, is_skip}
+use Rattle.rule_meaning.specs.Known.{Known}
+use Rattle.guard_ends.specs.Drill.{drill_report, fail_count, verdict_line}
+use Rattle.guard_ends.specs.Report.{Reporting, lines_of, report}
+use Rattle.guard_ends.specs.Reported.{Reported}
 use Rattle.guard_run.specs.declared.report.Form.{Form}
 use Rattle.guard_run.specs.declared.report.Form.TheVariants as form
 use Rattle.guard_run.specs.declared.report.Lines.{Lines}

@@ -3,25 +3,25 @@ use Rattle.std.specs.Prelude.{ℕ, ◌≡◌, ◌⊎◌, ◌≤◌, ◌<◌, Lis
 use Rattle.doc_values.specs.Tree.{Forest}
 use Rattle.guard_io.specs.Outside.{Rose}
 use Rattle.guard_syntax.specs.Syntax.{File}
-use Rattle.name_table.specs.Files.{file_of}
-use Rattle.guard_run.specs.Request.{Request, format_of}
+use Rattle.rule_names.specs.Files.{file_of}
+use Rattle.guard_ends.specs.Request.{Request, format_of}
 use Rattle.guard_lexer.specs.declared.token.LexRefusal.{LexRefusal}
 use Rattle.guard_lexer.specs.declared.token.LexRefusal.TheVariants as lex
 use Rattle.guard_parser.specs.declared.refusal.ParseRefusal.{ParseRefusal}
 use Rattle.guard_parser.specs.declared.refusal.ParseRefusal.TheVariants as parse
 use Rattle.json_reader.specs.declared.refusal.JsonRefusal.{JsonRefusal}
 use Rattle.json_reader.specs.declared.refusal.JsonRefusal.TheVariants as json
-use Rattle.guard_run.specs.Inputs.{IsRuleFile, IsTemplate, RefusesRules}
-use Rattle.guard_run.specs.Check.{rejected_text}
-use Rattle.guard_run.specs.Lines.{usage_line}
-use Rattle.guard_run.specs.End.{Ended, EndOf, AreRead, Contents, Counts, IsContent, Loads, Unread, Unmade, refused}
-use Rattle.guard_run.specs.declared.ends.End.TheVariants as end_is
-use Rattle.guard_run.specs.declared.ends.Refusal.{Refusal}
-use Rattle.guard_run.specs.declared.ends.Refusal.TheVariants.{At}
-use Rattle.guard_run.specs.declared.ends.RefusalKind.{RefusalKind}
-use Rattle.guard_run.specs.declared.ends.RefusalKind.TheVariants.{Unclosed, BadByte, NumberRange, NestTooDeep, Syntax, BadRange, TooDeep, DuplicateKey}
-use Rattle.guard_run.specs.declared.ends.Which.{Which}
-use Rattle.guard_run.specs.declared.ends.Which.TheVariants as file
+use Rattle.guard_ends.specs.Inputs.{IsRuleFile, IsTemplate, RefusesRules}
+use Rattle.guard_ends.specs.Check.{rejected_text}
+use Rattle.guard_ends.specs.Lines.{usage_line}
+use Rattle.guard_ends.specs.End.{Ended, EndOf, AreRead, Contents, Counts, IsContent, Loads, Unread, Unmade, refused}
+use Rattle.guard_ends.specs.declared.ends.End.TheVariants as end_is
+use Rattle.guard_ends.specs.declared.ends.Refusal.{Refusal}
+use Rattle.guard_ends.specs.declared.ends.Refusal.TheVariants.{At}
+use Rattle.guard_ends.specs.declared.ends.RefusalKind.{RefusalKind}
+use Rattle.guard_ends.specs.declared.ends.RefusalKind.TheVariants.{Unclosed, BadByte, NumberRange, NestTooDeep, Syntax, BadRange, TooDeep, DuplicateKey}
+use Rattle.guard_ends.specs.declared.ends.Which.{Which}
+use Rattle.guard_ends.specs.declared.ends.Which.TheVariants as file
 use Rattle.guard_run.specs.declared.load.Loaded.{Loaded}
 use Rattle.guard_run.specs.declared.load.Loaded.TheVariants as load
 use Rattle.guard_run.specs.declared.load.LoadedRules.{LoadedRules}

@@ -1,12 +1,12 @@
 -- The writing of an outcome, end by end, by the types of the code.
 use Rattle.std.specs.Prelude.{ℕ, ◌≡◌, ◌++◌, ◌⊎◌, List, Option}
 use Rattle.guard_io.specs.Outside.{IsPrefix}
-use Rattle.guard_run.specs.Request.{Request}
-use Rattle.guard_run.specs.End.{Contents, Faults, Loads, Unread, Unmade, Took, TookAsDefined, TookOfUnread, TookOfUnmade, TookOfUnwritten, TookOfUnsaid, TookOfMemory}
-use Rattle.guard_run.specs.Lines.{memory_line}
-use Rattle.guard_run.specs.declared.ends.End.{End}
-use Rattle.guard_run.specs.declared.ends.End.TheVariants as end_is
-use Rattle.guard_run.specs.declared.ends.Pipe.TheVariants.{Out, Err}
+use Rattle.guard_ends.specs.Request.{Request}
+use Rattle.guard_ends.specs.End.{Contents, Faults, Loads, Unread, Unmade, Took, TookAsDefined, TookOfUnread, TookOfUnmade, TookOfUnwritten, TookOfUnsaid, TookOfMemory}
+use Rattle.guard_ends.specs.Lines.{memory_line}
+use Rattle.guard_ends.specs.declared.ends.End.{End}
+use Rattle.guard_ends.specs.declared.ends.End.TheVariants as end_is
+use Rattle.guard_ends.specs.declared.ends.Pipe.TheVariants.{Out, Err}
 
 -- what out and err took at each end
 abbrev pub Closed : List (List ℕ) → Contents → (before after : Faults) → End → (out out' err err' : Option (List ℕ)) → Type 0

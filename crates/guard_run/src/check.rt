@@ -1,26 +1,26 @@
 //! A check: evidence is loaded and read, and judged line by line for rules and a template. Nothing is evaluated.
 ghost use Rattle.std.specs.Prelude.{◌≡◌, ◌≢◌, ◌≤◌, ℕ, List, false, length, IfOk, MatchResult};
 ghost use Rattle.guard_io.specs.Outside.{Rose};
-ghost use Rattle.name_table.specs.Files.{file_of};
+ghost use Rattle.rule_names.specs.Files.{file_of};
 ghost use Rattle.report_text.specs.RuleLines.{reported_names};
 ghost use Rattle.value_compare.specs.Books.{IsBookOf};
-ghost use Rattle.value_compare.specs.Values.{has_pattern};
-ghost use Rattle.guard_run.specs.Check.{accepted_text};
-ghost use Rattle.guard_run.specs.End.{EndOfCheck, IsChecked};
-ghost use Rattle.guard_run.specs.Inputs.{IsProof, RefusesProof};
+ghost use Rattle.rule_meaning.specs.Values.{has_pattern};
+ghost use Rattle.guard_ends.specs.Check.{accepted_text};
+ghost use Rattle.guard_ends.specs.End.{EndOfCheck, IsChecked};
+ghost use Rattle.guard_ends.specs.Inputs.{IsProof, RefusesProof};
 ghost use Rattle.guard_run.specs.Outcome.{IsNotRead, IsOutcomeAs};
 
-use crate::ends::Which;
 use crate::load::{Loaded, load_within};
 use crate::outcome::{Outcome, Ready};
 use crate::read::NotRead;
 use crate::refused::{not_evidence, too_long};
 use evidence_checker::{Answer, check};
 use evidence_lines::{Evidence, EvidenceRefusal, read_evidence};
+use guard_ends::Which;
 use guard_io::{CleanSink, Files};
 use guard_syntax::Verdict;
-use name_table::RuleFile;
 use report_text::{ReportFault, write_rules};
+use rule_names::RuleFile;
 use std::alloc::{AllocError, Global};
 
 /// How many bytes evidence may have.

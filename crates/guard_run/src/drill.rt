@@ -1,18 +1,17 @@
 //! A drill: a template that is made is judged by rules that are always the same. No file is loaded, and no pattern is made.
 ghost use Rattle.std.specs.Prelude.{◌≡◌, ◌≢◌, ◌≤◌, ◌++◌, codes, decimal, length, string_bytes, IfOk, MatchResult};
-ghost use Rattle.name_table.specs.Files.{file_of};
-ghost use Rattle.guard_run.specs.Drill.{drill_report, drill_rules};
-ghost use Rattle.guard_run.specs.End.{EndOfDrill, EndOfTemplate, IsJudged};
-ghost use Rattle.guard_run.specs.Inputs.{IsRuleFile, RefusesRules};
+ghost use Rattle.rule_names.specs.Files.{file_of};
+ghost use Rattle.guard_ends.specs.Drill.{drill_report, drill_rules};
+ghost use Rattle.guard_ends.specs.End.{EndOfDrill, EndOfTemplate, IsJudged};
+ghost use Rattle.guard_ends.specs.Inputs.{IsRuleFile, RefusesRules};
 ghost use Rattle.guard_run.specs.Outcome.{IsNotRead, IsOutcomeAs};
 
-use crate::ends::Which;
 use crate::load::Rules;
 use crate::outcome::{Outcome, ready_of, report_outcome};
 use crate::read::{NotRead, rules_of};
 use crate::report::{Form, Lines, push_total_line};
-use crate::words::Format;
 use guard_drill::{DRILL_RULES, drill_template};
+use guard_ends::{Format, Which};
 use std::alloc::{AllocError, Global};
 use value_compare::{Pattern, PatternFault, PatternMaker};
 

@@ -3,13 +3,13 @@
 ghost use Rattle.std.specs.Prelude.{◌≡◌, ◌+◌, ◌≤◌, ◌++◌, Some, length, decimal, string_bytes, IfOk};
 ghost use Rattle.arrayvec.specs.ArrayString.{array_string_len};
 ghost use Rattle.doc_values.specs.Position.{line_at, column_at};
-ghost use Rattle.guard_run.specs.Check.{rejected_text};
-ghost use Rattle.guard_run.specs.Lines.{evidence_line, file_word, kind_word, name_part, whole_line, placed_line};
+ghost use Rattle.guard_ends.specs.Check.{rejected_text};
+ghost use Rattle.guard_ends.specs.Lines.{evidence_line, file_word, kind_word, name_part, whole_line, placed_line};
 ghost use Rattle.guard_run.specs.Outcome.{line_bytes};
 
-use crate::ends::{RefusalKind, Which};
 use arrayvec::ArrayString;
 use doc_values::place_of;
+use guard_ends::{RefusalKind, Which};
 use itoa::Buffer;
 use std::alloc::{AllocError, Global};
 

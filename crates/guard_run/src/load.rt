@@ -1,13 +1,13 @@
 ghost use Rattle.std.specs.Prelude.{◌≡◌, ◌≢◌, ◌≤◌, ◌<◌, ◌+◌, ◌^◌, ℕ, List, Option, length};
 ghost use Rattle.guard_io.specs.Outside.{Rose};
-ghost use Rattle.guard_run.specs.End.{IsContent};
+ghost use Rattle.guard_ends.specs.End.{IsContent};
 ghost use Rattle.guard_run.specs.Outcome.{IsLoaded, AreLoaded};
 
-use crate::ends::Which;
 use crate::read::{NotRead, rules_of};
 use crate::refused::{Refused, not_text, too_long};
+use guard_ends::Which;
 use guard_io::{Files, LoadFault};
-use name_table::RuleFile;
+use rule_names::RuleFile;
 use std::alloc::Global;
 
 /// How many bytes a rule file may have.

@@ -2,21 +2,21 @@
 ghost use Rattle.std.specs.Prelude.{◌≤◌, length, MatchResult};
 ghost use Rattle.guard_lexer.specs.Lexes as lex;
 ghost use Rattle.guard_syntax.specs.Seen.{see_file};
-ghost use Rattle.name_table.specs.Files.{file_of};
-ghost use Rattle.guard_run.specs.Inputs.{IsSyntax, IsRuleFile, RefusesRules, IsTemplate, RefusesTemplate};
+ghost use Rattle.rule_names.specs.Files.{file_of};
+ghost use Rattle.guard_ends.specs.Inputs.{IsSyntax, IsRuleFile, RefusesRules, IsTemplate, RefusesTemplate};
 ghost use Rattle.guard_run.specs.Outcome.{IsNotRead, IsPlaced};
 
-use crate::ends::{RefusalKind, Which};
 use crate::refused::{
     Refused, json_kind, lex_kind, parse_kind, refused_at, refused_name, yaml_refused,
 };
-use crate::words::Format;
 use doc_values::Doc;
+use guard_ends::{Format, RefusalKind, Which};
 use guard_lexer::{Token, tokens};
 use guard_parser::{parse, sites_in_order};
 use guard_syntax::RawFile;
 use json_reader::read_json;
-use name_table::{NameRefusal, RuleFile, resolve};
+use name_table::{NameRefusal, resolve};
+use rule_names::RuleFile;
 use std::alloc::Global;
 use yaml_blocks::read_yaml;
 

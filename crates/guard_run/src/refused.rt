@@ -1,16 +1,16 @@
 //! Refusals with their lines.
 ghost use Rattle.std.specs.Prelude.{◌≡◌, ◌≤◌, ℕ, List, Some, None, length, IfOk};
-ghost use Rattle.guard_run.specs.End.{refused};
-ghost use Rattle.guard_run.specs.Inputs.{name_kind, name_said, of_yaml};
+ghost use Rattle.guard_ends.specs.End.{refused};
+ghost use Rattle.guard_ends.specs.Inputs.{name_kind, name_said, of_yaml};
 ghost use Rattle.guard_run.specs.Outcome.{said, lex_kind, parse_kind, json_kind, IsRefusedAs};
 
-use crate::ends::{Refusal, RefusalKind, Which};
 use crate::line::{Line, evidence_line, named_line, placed_line, whole_line};
+use guard_ends::{Refusal, RefusalKind, Which};
 use guard_lexer::LexRefusal;
 use guard_parser::ParseRefusal;
 use guard_syntax::Text;
 use json_reader::JsonRefusal;
-use name_table::NameKind;
+use rule_names::NameKind;
 use std::alloc::{AllocError, Global};
 use yaml_blocks::YamlRefusal;
 

@@ -1,15 +1,15 @@
 ghost use Rattle.std.specs.Prelude.{◌≡◌, ◌≢◌, ◌≤◌, ◌++◌, ℕ, List, [], true};
 ghost use Rattle.guard_io.specs.Outside.{Rose, IsPrefix};
-ghost use Rattle.guard_run.specs.Lines.{memory_line, read_fault_line};
-ghost use Rattle.guard_run.specs.End.{Contents, Counts, EndOf, is_reported};
+ghost use Rattle.guard_ends.specs.Lines.{memory_line, read_fault_line};
+ghost use Rattle.guard_ends.specs.End.{Contents, Counts, EndOf, is_reported};
 ghost use Rattle.guard_run.specs.Outcome.{IsOutcome, ended};
 ghost use Rattle.guard_run.specs.Writing.{Closed, Said, SaidMemory};
 
-use crate::ends::{End, Pipe, Which};
 use crate::line::rejected_text;
 use crate::outcome::Outcome;
 use crate::refused::Refused;
 use crate::report::Judgement;
+use guard_ends::{End, Pipe, Which};
 use guard_io::{Sink, SinkFault};
 
 /// Writes what came of a call, on out or on err.

@@ -164,22 +164,3 @@ impl Places {
         self.items
     }
 }
-
-#[cfg(test)]
-mod tests {
-    use super::{Name, Names, Places, Text};
-    use std::test::Fail;
-
-    #[test]
-    fn names_keep_text_and_place(rt: HostRuntime) -> Result<(), Fail> {
-        let alloc = rt.alloc();
-        let name = Name::new(Text::new(String::from_str(alloc, "port")?), 7);
-        assert!(rt; name.as_str() == "port");
-        assert!(rt; name.at() == 7);
-        let names = Names::new(vec![in alloc; name]?);
-        assert!(rt; names.as_slice().len() == 1);
-        let places = Places::new(vec![in alloc; 3u32]?);
-        assert!(rt; places.as_slice().len() == 1 && places.as_slice()[0] == 3);
-        Ok(())
-    }
-}

@@ -17,6 +17,7 @@ use Rattle.guard_words.specs.declared.table.Command.TheVariants.{Validate, Check
 use Rattle.guard_words.specs.declared.table.Kind.{Kind}
 use Rattle.guard_words.specs.declared.table.Kind.TheVariants.{File, Count, Flag}
 use Rattle.guard_words.specs.Request.{Text, Use, Row, Asked, AsksFor, validate, check, drill, allows, kind_in, is_allowed, is_given, is_once, is_complete, value_in, options_of, name_of, requested, text_of}
+use Rattle.guard_words.specs.Memory.{NamesCommand}
 use Rattle.guard_words.specs.Reading.{command_in, parsed_in, after_name, if_complete, uses_in, HasValues, flag_among, is_true_text, IsFlagText}
 use Rattle.guard_words.proofs.SpellingLemmas.{is_plain_name, find_passes, Reads, reads, reads_gives, reads_once, gives_reads}
 use Rattle.guard_words.proofs.TakenWords.{request_taken, rows, has_value, has_flag, required_given}
@@ -28,7 +29,7 @@ pub record IsParsed (words : List Text) (command : Command) (uses : List Use) : 
   pub read : Reads (options_of command) rest [] uses
   pub complete : is_complete (options_of command) uses ≡ true
 
-named : (word : Text) (command : Command) → command_in word ≡ Some command → word ≡ name_of command
+pub named : (word : Text) (command : Command) → command_in word ≡ Some command → word ≡ name_of command
 named word command e =
     sym ((bytes_eq-Decides (name_of command) word).0 (find_passes (λ c. bytes_eq (name_of c) word) (Validate ∷ Check ∷ Drill ∷ []) command e))
 
@@ -59,6 +60,14 @@ parsed (word ∷ rest) p e = by_command (command_in word) refl e
     by_command : (o : Option Command) → command_in word ≡ o → after_name o rest ≡ Some p → IsParsed (word ∷ rest) p.0 p.1
     by_command None is e' = absurd (none-some _ e')
     by_command (Some k) is e' = by_uses k is (uses_in (options_of k) rest [] None) refl e'
+
+-- they begin with the name of a command
+pub names_command : (words : List Text) (command : Command) → Some command ≡ option_map (λ p. p.0) (parsed_in words) → NamesCommand words
+names_command words command e = by_parts (parsed_in words) refl e
+  where
+    by_parts : (o : Option (Command × List Use)) → parsed_in words ≡ o → Some command ≡ option_map (λ p. p.0) o → NamesCommand words
+    by_parts None is e' = absurd (none-some _ (sym e'))
+    by_parts (Some p) is e' = let q = parsed words p is in (p.0, q.rest, q.begins)
 
 -- the request of a command with these uses
 abbrev pub request_of : Command → List Use → Asked

@@ -1,3 +1,4 @@
-pub mod Request
-pub mod Reading
 pub mod CommandLine
+pub mod Memory
+pub mod Reading
+pub mod Request

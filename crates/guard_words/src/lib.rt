@@ -14,6 +14,3 @@ mod table;
 mod values;
 
 pub use request::{Request, WordsRefusal, read_words};
-
-#[cfg(test)]
-mod tests;

@@ -1,8 +1,9 @@
-ghost use Rattle.std.specs.Prelude.{◌≡◌, ◌||◌, not, [], List, ℕ, Option, Some, None, option_map, IfOk, map, string_bytes, if◌then◌else◌};
+ghost use Rattle.std.specs.Prelude.{◌≡◌, ◌||◌, not, [], List, ℕ, Option, Some, None, option_map, IfOk, OnErr, map, string_bytes, if◌then◌else◌};
 ghost use Rattle.std.specs.List.{list_all, list_any};
 ghost use Rattle.std.specs.Str.{bytes_eq};
 ghost use Rattle.clap.specs.Lexer.{long_of, strip_byte, name_and_value};
 ghost use Rattle.guard_words.specs.Request.{allows, is_given, is_complete, options_of, starts_with_hyphen, Use};
+ghost use Rattle.guard_words.specs.Memory.{NamesCommand};
 ghost use Rattle.guard_words.specs.Reading.{Awaited, parsed_in, uses_in, with_word, use_texts, awaited_text};
 
 use crate::table::{Command, Kind, OptionRow};
@@ -18,7 +19,8 @@ pub(crate) struct OptionUse<'a> {
 
 /// The command of the request that the words make, if they make one.
 pub(crate) fn command_asked(alloc: Global, words: &[String]) -> Result<Option<Command>, AllocError>
-    ensures { IfOk result (λ o. o ≡ option_map (λ p. p.0) (parsed_in (map string_bytes words.now))) }
+    ensures command { IfOk result (λ o. o ≡ option_map (λ p. p.0) (parsed_in (map string_bytes words.now))) }
+    ensures memory { OnErr result (NamesCommand (map string_bytes words.now)) }
 {
     let Some((first, rest)) = words.split_first() else {
         return Ok(None);

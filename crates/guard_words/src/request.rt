@@ -1,5 +1,6 @@
 ghost use Rattle.std.specs.Prelude.{◌≡◌, Some, None, IfOk, IsErrOf, is_some, map, string_bytes, codes, true, OnErr};
 ghost use Rattle.guard_words.specs.Request.{AsksFor, Asked, asked, allows, requested, text_of, validate, check, drill};
+ghost use Rattle.guard_words.specs.Memory.{NamesCommand};
 ghost use Rattle.guard_words.specs.Reading.{parsed_in, IsFlagText, HasValues, flag_among};
 ghost use Rattle.guard_words.specs.CommandLine.{guard_app};
 ghost use Rattle.guard_words.specs.declared.table.Kind.TheVariants.{Count};
@@ -53,11 +54,13 @@ impl From<AllocError> for WordsRefusal {
 
 /// Reads the words of a command line, without the program's own name.
 ///
-/// `Usage` says that they make no request, `NoMemory` that there was no memory to tell.
+/// `Usage` says that they make no request, `NoMemory` that there was no memory to tell. Words of which the first names no
+/// command take none.
 pub fn read_words(alloc: Global, words: &[String]) -> Result<Request, WordsRefusal>
     ensures ok { IfOk result (λ request. AsksFor (map string_bytes words.now) (asked request)) }
     ensures only { IfOk result (λ request. (other : Asked) → AsksFor (map string_bytes words.now) other → other ≡ asked request) }
     ensures usage { IsErrOf result WordsRefusal.Usage → (request : Asked) → ¬ AsksFor (map string_bytes words.now) request }
+    ensures memory { IsErrOf result WordsRefusal.NoMemory → NamesCommand (map string_bytes words.now) }
 {
     let Some(command) = command_asked(alloc, words)? else {
         return Err(WordsRefusal::Usage);

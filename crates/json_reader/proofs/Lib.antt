@@ -16,7 +16,6 @@ pub mod Limits
 pub mod Closings
 pub mod Paths
 pub mod Walk
-pub mod Fitting
 pub mod Verdicts
 pub mod Tokens
 pub mod Counting

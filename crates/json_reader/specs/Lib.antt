@@ -1,6 +1,7 @@
 pub mod Json
-pub mod Reading
-pub mod Steps
-pub mod Refused
+pub mod Memory
 pub mod Numbers
+pub mod Reading
 pub mod Refusals
+pub mod Refused
+pub mod Steps

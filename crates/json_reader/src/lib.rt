@@ -12,10 +12,6 @@ mod read;
 mod refusal;
 mod stage;
 mod step;
-#[cfg(test)]
-mod suite;
-#[cfg(test)]
-mod tests;
 mod text;
 
 pub use read::{one_refusal, one_tree, place_within, read_json, refused_apart};

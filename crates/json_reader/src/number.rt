@@ -1,5 +1,5 @@
 //! Numbers.
-ghost use Rattle.std.specs.Prelude.{◌≡◌, ◌<◌, ◌≤◌, length, take, true, Some, None, MatchResult, slice_index};
+ghost use Rattle.std.specs.Prelude.{◌≡◌, ◌<◌, ◌≤◌, length, take, true, Some, None, IsErrOf, MatchResult, slice_index};
 ghost use Rattle.doc_values.specs.Number.{is_digit};
 ghost use Rattle.json_reader.specs.Numbers.{first_part, part_next, by_exponent, by_point, completes, run_parts};
 ghost use Rattle.json_reader.specs.Reading.{begins_number};
@@ -122,7 +122,8 @@ pub(crate) fn number_at(text: &str, at: usize) -> Result<(Kind, usize), JsonRefu
     requires within { at < length text.now }
     requires small { length text.now ≤ 8388608 }
     requires begins { begins_number (slice_index text.now at) ≡ true }
-    ensures { MatchResult result (λ r. (at < r.1) × (r.1 ≤ length text.now) × IsPlain r.0 × Number text.now at r.0 r.1) (λ e. NoNumber text.now at e) }
+    ensures number { MatchResult result (λ r. (at < r.1) × (r.1 ≤ length text.now) × IsPlain r.0 × Number text.now at r.0 r.1) (λ e. NoNumber text.now at e) }
+    ensures no_memory { ¬ IsErrOf result JsonRefusal.NoMemory }
 {
     let bytes = text.as_bytes();
     let (len, part) = number_run(&bytes[at + 1..], first_part(bytes[at]));

@@ -1,6 +1,7 @@
 //! A whole text, and what its trees and refusals have in common.
-ghost use Rattle.std.specs.Prelude.{◌≡◌, ◌≤◌, length, MatchResult};
+ghost use Rattle.std.specs.Prelude.{◌≡◌, ◌≤◌, length, IsErrOf, MatchResult};
 ghost use Rattle.doc_values.specs.Tree.{Forest};
+ghost use Rattle.json_reader.specs.Memory.{HasBeginning};
 ghost use Rattle.json_reader.specs.Json.{Json};
 ghost use Rattle.json_reader.specs.Refusals.{IsRefused, place_of_refusal};
 
@@ -13,10 +14,12 @@ use doc_values::{Doc, DocBuilder};
 use std::alloc::Global;
 
 /// The tree of a JSON text of at most 8 MiB, in which each value has the offset of its first byte. Each refusal but
-/// `NoMemory`, which says nothing of the text, has the place of its cause.
+/// `NoMemory`, which says nothing of the text, has the place of its cause. A text in which no byte may begin a value takes
+/// no memory.
 pub fn read_json<'s>(alloc: Global, text: &'s str) -> Result<Doc<'s>, JsonRefusal>
     requires { length text.now ≤ 8388608 }
-    ensures { MatchResult result (λ d. Json text.now d) (λ e. (e ≡ JsonRefusal.NoMemory → ⊥) → IsRefused text.now e) }
+    ensures answer { MatchResult result (λ d. Json text.now d) (λ e. (e ≡ JsonRefusal.NoMemory → ⊥) → IsRefused text.now e) }
+    ensures memory { IsErrOf result JsonRefusal.NoMemory → HasBeginning text.now }
 {
     match mark_stop(text.as_bytes()) {
         Some(stop) => return Err(JsonRefusal::Syntax(stop)),

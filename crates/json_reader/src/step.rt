@@ -1,8 +1,9 @@
 //! One token at a time: what it adds to the tree, and what is awaited behind it.
-ghost use Rattle.std.specs.Prelude.{◌≡◌, ◌+◌, ◌<◌, ◌≤◌, length, [], true, false, None, MatchResult, slice_index};
-ghost use Rattle.json_reader.specs.Reading.{AtValue, AtKeyOrEnd, AtItemOrEnd, AtKey, AtColon, After, InString, InWord, begins_number, after_next};
+ghost use Rattle.std.specs.Prelude.{◌≡◌, ◌+◌, ◌<◌, ◌≤◌, length, [], true, false, None, IsErrOf, MatchResult, slice_index, ℕ};
+ghost use Rattle.json_reader.specs.Reading.{AtValue, AtKeyOrEnd, AtItemOrEnd, AtKey, AtColon, After, InString, InWord, begins_number, after_next, class_of};
+ghost use Rattle.json_reader.specs.Memory.{begins, HasEscape};
 ghost use Rattle.json_reader.specs.declared.bytes.Class.TheVariants.{Comma};
-ghost use Rattle.json_reader.specs.Steps.{Gives, Leads, Fits, IsRooted, IsPlain, form_of, open_next, end_next, phase_of};
+ghost use Rattle.json_reader.specs.Steps.{Gives, Leads, Fits, Number, IsRooted, IsPlain, form_of, open_next, end_next, phase_of};
 
 use crate::bytes::{Class, byte_class};
 use crate::number::number_at;
@@ -30,7 +31,8 @@ pub(crate) fn step<'s>(
     requires within { position.at < length text.now }
     requires small { length text.now ≤ 8388608 }
     requires fits { Fits position.stage builder.old }
-    ensures { Gives text.now position.at (phase_of position.stage) builder.old builder.new result }
+    ensures gives { Gives text.now position.at (phase_of position.stage) builder.old builder.new result }
+    ensures memory { IsErrOf result JsonRefusal.NoMemory → begins (class_of (slice_index text.now position.at)) ≡ true }
 {
     let at = position.at;
     match position.stage {
@@ -53,7 +55,8 @@ fn value_step<'s>(
     requires within { at < length text.now }
     requires small { length text.now ≤ 8388608 }
     requires fits { Fits Stage.Value builder.old }
-    ensures { Gives text.now at AtValue builder.old builder.new result }
+    ensures gives { Gives text.now at AtValue builder.old builder.new result }
+    ensures memory { IsErrOf result JsonRefusal.NoMemory → begins (class_of (slice_index text.now at)) ≡ true }
 {
     let bytes = text.as_bytes();
     match byte_class(bytes[at]) {
@@ -82,7 +85,8 @@ fn key_or_end_step<'s>(
     requires within { at < length text.now }
     requires small { length text.now ≤ 8388608 }
     requires fits { Fits Stage.KeyOrEnd builder.old }
-    ensures { Gives text.now at AtKeyOrEnd builder.old builder.new result }
+    ensures gives { Gives text.now at AtKeyOrEnd builder.old builder.new result }
+    ensures memory { IsErrOf result JsonRefusal.NoMemory → begins (class_of (slice_index text.now at)) ≡ true }
 {
     match byte_class(text.as_bytes()[at]) {
         Class::Space => Ok(Position {
@@ -105,7 +109,8 @@ fn item_or_end_step<'s>(
     requires within { at < length text.now }
     requires small { length text.now ≤ 8388608 }
     requires fits { Fits Stage.ItemOrEnd builder.old }
-    ensures { Gives text.now at AtItemOrEnd builder.old builder.new result }
+    ensures gives { Gives text.now at AtItemOrEnd builder.old builder.new result }
+    ensures memory { IsErrOf result JsonRefusal.NoMemory → begins (class_of (slice_index text.now at)) ≡ true }
 {
     match byte_class(text.as_bytes()[at]) {
         Class::Space => Ok(Position {
@@ -127,7 +132,8 @@ fn next_key_step<'s>(
     requires within { at < length text.now }
     requires small { length text.now ≤ 8388608 }
     requires fits { Fits Stage.Key builder.old }
-    ensures { Gives text.now at AtKey builder.old builder.new result }
+    ensures gives { Gives text.now at AtKey builder.old builder.new result }
+    ensures memory { IsErrOf result JsonRefusal.NoMemory → begins (class_of (slice_index text.now at)) ≡ true }
 {
     match byte_class(text.as_bytes()[at]) {
         Class::Space => Ok(Position {
@@ -144,7 +150,8 @@ fn colon_step(text: &str, at: usize, builder: &DocBuilder) -> Result<Position, J
     requires within { at < length text.now }
     requires small { length text.now ≤ 8388608 }
     requires fits { Fits Stage.Colon builder.now }
-    ensures { Gives text.now at AtColon builder.now builder.now result }
+    ensures gives { Gives text.now at AtColon builder.now builder.now result }
+    ensures no_memory { ¬ IsErrOf result JsonRefusal.NoMemory }
 {
     match byte_class(text.as_bytes()[at]) {
         Class::Space => Ok(Position {
@@ -164,7 +171,8 @@ fn after_step(text: &str, at: usize, builder: &mut DocBuilder) -> Result<Positio
     requires within { at < length text.now }
     requires small { length text.now ≤ 8388608 }
     requires fits { Fits Stage.After builder.old }
-    ensures { Gives text.now at After builder.old builder.new result }
+    ensures gives { Gives text.now at After builder.old builder.new result }
+    ensures no_memory { ¬ IsErrOf result JsonRefusal.NoMemory }
 {
     match byte_class(text.as_bytes()[at]) {
         Class::Space => Ok(Position {
@@ -214,7 +222,8 @@ fn key_step<'s>(
     requires small { length text.now ≤ 8388608 }
     requires quote { slice_index text.now at ≡ 34 }
     requires fits { Fits Stage.Key builder.old }
-    ensures { Gives text.now (at + 1) (InString true [] [] at) builder.old builder.new result }
+    ensures gives { Gives text.now (at + 1) (InString true [] [] at) builder.old builder.new result }
+    ensures memory { IsErrOf result JsonRefusal.NoMemory → HasEscape text.now }
 {
     match text_at(texts, text, at + 1) {
         Err(refusal) => Err(refusal),
@@ -234,7 +243,8 @@ fn number_step(text: &str, at: usize, builder: &mut DocBuilder) -> Result<Positi
     requires small { length text.now ≤ 8388608 }
     requires begins { begins_number (slice_index text.now at) ≡ true }
     requires fits { Fits Stage.Value builder.old }
-    ensures { Gives text.now at AtValue builder.old builder.new result }
+    ensures gives { Gives text.now at AtValue builder.old builder.new result }
+    ensures memory { IsErrOf result JsonRefusal.NoMemory → (kind : Kind) × (end : ℕ) × Number text.now at kind end }
 {
     match number_at(text, at) {
         Err(refusal) => Err(refusal),
@@ -283,7 +293,8 @@ fn word_step(
 fn open_step(at: usize, map: bool, builder: &mut DocBuilder) -> Result<Position, JsonRefusal>
     requires small { at < 8388608 }
     requires fits { Fits Stage.Value builder.old }
-    ensures { Leads at (open_next map at builder.old) (JsonRefusal.TooDeep at) builder.new result }
+    ensures leads { Leads at (open_next map at builder.old) (JsonRefusal.TooDeep at) builder.new result }
+    ensures no_memory_where_deep { length builder.old.outer ≡ 128 → IsErrOf result (JsonRefusal.TooDeep at) }
 {
     builder.begin(map, offset(at))?;
     Ok(Position {
@@ -312,7 +323,8 @@ fn end_step(at: usize, map: bool, builder: &mut DocBuilder) -> Result<Position, 
     requires small { at < 8388608 }
     requires rooted { IsRooted builder.old.outer }
     requires key { builder.old.key ≡ None }
-    ensures { Leads at (end_next map builder.old) (JsonRefusal.Syntax at) builder.new result }
+    ensures leads { Leads at (end_next map builder.old) (JsonRefusal.Syntax at) builder.new result }
+    ensures no_memory { ¬ IsErrOf result JsonRefusal.NoMemory }
 {
     match innermost_is_map(builder) {
         None => Err(JsonRefusal::Syntax(offset(at))),
@@ -333,7 +345,8 @@ fn end_step(at: usize, map: bool, builder: &mut DocBuilder) -> Result<Position, 
 fn comma_step(at: usize, builder: &DocBuilder) -> Result<Position, JsonRefusal>
     requires small { at < 8388608 }
     requires fits { Fits Stage.After builder.now }
-    ensures { Leads at (after_next builder.now Comma) (JsonRefusal.Syntax at) builder.now result }
+    ensures leads { Leads at (after_next builder.now Comma) (JsonRefusal.Syntax at) builder.now result }
+    ensures no_memory { ¬ IsErrOf result JsonRefusal.NoMemory }
 {
     match innermost_is_map(builder) {
         None => Err(JsonRefusal::Syntax(offset(at))),

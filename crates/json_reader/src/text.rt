@@ -1,7 +1,8 @@
 //! Texts between quotation marks.
-ghost use Rattle.std.specs.Prelude.{ℕ, ◌≡◌, ◌-◌, ◌<◌, ◌≤◌, ◌⊎◌, length, not, true, false, MatchResult, take, drop, slice_index, string_bytes};
+ghost use Rattle.std.specs.Prelude.{ℕ, ◌≡◌, ◌-◌, ◌<◌, ◌≤◌, ◌⊎◌, length, not, true, false, IsErrOf, MatchResult, take, drop, slice_index, string_bytes};
 ghost use Rattle.std.specs.Cow.{cow_str_bytes};
 ghost use Rattle.byte_lanes.specs.Members.{holds};
+ghost use Rattle.json_reader.specs.Memory.{HasEscape};
 ghost use Rattle.json_reader.specs.Json.{is_unescaped, Each};
 ghost use Rattle.json_reader.specs.Steps.{Reaches, Fails, IsTextAt, Unclosed, is_mark};
 
@@ -73,7 +74,8 @@ pub(crate) fn text_at<'s>(
     requires within { start ≤ length text.now }
     requires small { length text.now ≤ 8388608 }
     requires quote { slice_index text.now (start - 1) ≡ 34 }
-    ensures { MatchResult result (λ r. IsTextAt text.now start (cow_str_bytes r.0) r.1) (λ e. (e ≡ JsonRefusal.NoMemory) ⊎ ((j : ℕ) × (e ≡ JsonRefusal.Syntax j) × Unclosed text.now start j)) }
+    ensures text { MatchResult result (λ r. IsTextAt text.now start (cow_str_bytes r.0) r.1) (λ e. (e ≡ JsonRefusal.NoMemory) ⊎ ((j : ℕ) × (e ≡ JsonRefusal.Syntax j) × Unclosed text.now start j)) }
+    ensures memory { IsErrOf result JsonRefusal.NoMemory → HasEscape text.now }
 {
     let bytes = text.as_bytes();
     match run_end(texts, bytes, start) {

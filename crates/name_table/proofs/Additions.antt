@@ -4,7 +4,7 @@ use Rattle.std.specs.List.{Contains}
 use Rattle.std.proofs.lemmas.Bool.{cases_eq}
 use Rattle.std.proofs.lemmas.List.{length-set, get_or-set_same, get_or-set_other, map-set, set-get_or, get_or-map}
 use Rattle.std.proofs.lemmas.List.Elements.{Contains-push, Contains-push_cases, Contains-append_left}
-use Rattle.name_table.specs.Graphs.{Graph, IsGraph, Names}
+use Rattle.rule_names.specs.Graphs.{Graph, IsGraph, Names}
 
 module _ (g : Graph) (a b : ℕ) (within : a < length g) where
   pub named-after : (x y : ℕ) → Names (set g a (get_or g a [] ++ b ∷ [])) x y → Names g x y ⊎ ((a ≡ x) × (b ≡ y))

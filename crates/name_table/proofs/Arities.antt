@@ -11,7 +11,7 @@ use Rattle.std.proofs.lemmas.List.{drop_more}
 use Rattle.guard_syntax.specs.declared.syntax.Rule.{Rule}
 use Rattle.guard_syntax.specs.Syntax as sx
 use Rattle.guard_syntax.specs.Seen.{see_rule}
-use Rattle.name_table.specs.Uses.{rule_named}
+use Rattle.rule_names.specs.Uses.{rule_named}
 use Rattle.name_table.specs.Arities.{arity_named, AreArities}
 use Rattle.name_table.proofs.NameSets.{bytes_eq_sym}
 

@@ -7,9 +7,9 @@ use Rattle.guard_syntax.specs.declared.syntax.Body.{Body, out-Body}
 use Rattle.guard_syntax.specs.declared.syntax.Let.{Let}
 use Rattle.guard_syntax.specs.declared.syntax.Disj.{Disj}
 use Rattle.guard_syntax.specs.Seen.{see_let, see_disj, see_body, let_list, disj_list}
-use Rattle.name_table.specs.Links.{Linked, Scopes, links_body, links_lets, links_disjs}
-use Rattle.name_table.specs.Scopes.{Given, given_body}
-use Rattle.name_table.proofs.Shapes.{body-seen}
+use Rattle.rule_names.specs.Links.{Linked, Scopes, links_body, links_lets, links_disjs}
+use Rattle.rule_names.specs.Scopes.{Given, given_body}
+use Rattle.rule_names.proofs.Shapes.{body-seen}
 
 module _ (f : sx.File) (outer : Scopes) (params : List Named) where
   pub body-links : (b : Body) (ls : List Let) (ds : List Disj) (own : List Given) (inner : Scopes) (start first : List Linked)

@@ -8,10 +8,10 @@ use Rattle.guard_syntax.specs.declared.syntax.Conds.{Conds, out-Conds}
 use Rattle.guard_syntax.specs.declared.syntax.Let.{Let}
 use Rattle.guard_syntax.specs.declared.syntax.Disj.{Disj}
 use Rattle.guard_syntax.specs.Seen.{see_let, see_disj, see_body, see_conds, let_list, disj_list}
-use Rattle.name_table.specs.Scopes.{Given, given_body, given_conds}
+use Rattle.rule_names.specs.Scopes.{Given, given_body, given_conds}
 use Rattle.name_table.specs.FilterWays.{ways_filter}
-use Rattle.name_table.specs.Ways.{Way, conds_site, to_each, value_sites, disj_sites, ways_body, ways_conds, ways_lets, ways_disjs}
-use Rattle.name_table.proofs.Shapes.{body-seen, conds-seen}
+use Rattle.rule_names.specs.Ways.{Way, conds_site, to_each, value_sites, disj_sites, ways_body, ways_conds, ways_lets, ways_disjs}
+use Rattle.rule_names.proofs.Shapes.{body-seen, conds-seen}
 
 -- four lists behind one, one by one
 in_turn : {X : Type 0} (ws as_ bs cs ds : List X) → (((ws ++ as_) ++ bs) ++ cs) ++ ds ≡ ws ++ (as_ ++ (bs ++ (cs ++ ds)))

@@ -2,13 +2,13 @@
 use Rattle.std.proofs.Common.{◌≡◌, ℕ, ◌+◌, ◌-◌, ◌*◌, ◌<◌, ◌≤◌, inl, inr, ap, sym, ◌∙◌, subst, arith, length}
 use Rattle.std.proofs.lemmas.Bool.{cases_lt}
 use Rattle.guard_syntax.specs.Syntax.{File}
-use Rattle.name_table.specs.declared.refusal.NameKind.{NameKind}
-use Rattle.name_table.specs.Circles.{IsFirstUse, IsCircle, given_text, use_place}
-use Rattle.name_table.specs.Faults.{Fault}
-use Rattle.name_table.specs.Graphs.{Graph, Names, Reaches, IsFirstOnCircle, NoneOnCircle}
+use Rattle.rule_names.specs.declared.name_kind.NameKind.{NameKind}
+use Rattle.rule_names.specs.Circles.{IsFirstUse, IsCircle, given_text, use_place}
+use Rattle.rule_names.specs.Faults.{Fault}
+use Rattle.rule_names.specs.Graphs.{Graph, Names, Reaches, IsFirstOnCircle, NoneOnCircle}
 use Rattle.name_table.specs.Narrow.{IsLeast, IsPartUse}
-use Rattle.name_table.specs.Pieces.{AreInOrder, piece_at}
-use Rattle.name_table.specs.Ways.{graph_of}
+use Rattle.rule_names.specs.Pieces.{AreInOrder, piece_at}
+use Rattle.rule_names.specs.Ways.{graph_of}
 use Rattle.name_table.proofs.PartUses.{circle-used}
 use Rattle.name_table.proofs.WaysToParts.{to-parts, graph-length}
 

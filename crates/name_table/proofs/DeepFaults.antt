@@ -8,12 +8,12 @@ use Rattle.guard_syntax.specs.declared.syntax.Let.{Let}
 use Rattle.guard_syntax.specs.declared.syntax.Rule.{Rule}
 use Rattle.guard_syntax.specs.declared.syntax.Disj.{Disj}
 use Rattle.guard_syntax.specs.Seen.{see_file, see_let, see_rule, see_disj, see_expr, let_list, disj_list}
-use Rattle.name_table.specs.declared.refusal.NameKind.TheVariants.{TooDeep}
-use Rattle.name_table.specs.Deep.{deep_fault, deep_items, default_limit, deep_if, deep_lets, deep_rules, deep_disjs}
-use Rattle.name_table.specs.Depths.{capped, depth_limit, depth_expr, depth_rule, depth_disj, depths_of}
-use Rattle.name_table.specs.Faults.{Fault, first_from, first_of, or_else}
+use Rattle.rule_names.specs.declared.name_kind.NameKind.TheVariants.{TooDeep}
+use Rattle.rule_names.specs.Deep.{deep_fault, deep_items, default_limit, deep_if, deep_lets, deep_rules, deep_disjs}
+use Rattle.rule_names.specs.Depths.{capped, depth_limit, depth_expr, depth_rule, depth_disj, depths_of}
+use Rattle.rule_names.specs.Faults.{Fault, first_from, first_of, or_else}
 use Rattle.name_table.proofs.FirstFaults.{first-append}
-use Rattle.name_table.proofs.Shapes.{let-seen, disj-seen}
+use Rattle.rule_names.proofs.Shapes.{let-seen, disj-seen}
 use Rattle.name_table.proofs.UsesInTurn.{next, end}
 
 capped_above : (most d : ℕ) → most ≤ 200 → nat_lt most (capped d) ≡ nat_lt most d

@@ -8,11 +8,11 @@ use Rattle.std.proofs.lemmas.Grind.{flat_map-append}
 use Rattle.std.proofs.lemmas.Result.{IfOk-weaker}
 use Rattle.guard_syntax.specs.Named.{Named}
 use Rattle.name_table.specs.declared.fault.Wrong.{Wrong}
-use Rattle.name_table.specs.declared.refusal.NameKind.TheVariants.{DuplicateName}
-use Rattle.name_table.specs.Doubles.{given_again, fault_of, doubled}
-use Rattle.name_table.specs.Faults.{Fault, earlier, first_from}
+use Rattle.rule_names.specs.declared.name_kind.NameKind.TheVariants.{DuplicateName}
+use Rattle.rule_names.specs.Doubles.{given_again, fault_of, doubled}
+use Rattle.rule_names.specs.Faults.{Fault, earlier, first_from}
 use Rattle.name_table.specs.declared.scopes.Given as scope
-use Rattle.name_table.specs.Scopes.{Given, names_of}
+use Rattle.rule_names.specs.Scopes.{Given, names_of}
 use Rattle.name_table.specs.Seen.{see_best, see_given, see_names}
 
 pub first-append : (best : Option Fault) (xs ys : List Fault) → first_from best (xs ++ ys) ≡ first_from (first_from best xs) ys

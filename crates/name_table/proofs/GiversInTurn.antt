@@ -8,8 +8,8 @@ use Rattle.std.specs.Map.{update}
 use Rattle.std.specs.Str.{bytes_eq}
 use Rattle.std.proofs.lemmas.List.{drop_more}
 use Rattle.name_table.specs.declared.scopes.Given as scope
-use Rattle.name_table.specs.declared.scopes.Giver.{Giver}
-use Rattle.name_table.specs.Scopes.{given_named, Given}
+use Rattle.rule_names.specs.declared.giver.Giver.{Giver}
+use Rattle.rule_names.specs.Scopes.{given_named, Given}
 use Rattle.name_table.specs.Seen.{see_given}
 use Rattle.name_table.specs.Givers.{giver_named, AreGivers}
 use Rattle.name_table.proofs.RuleSites.{bytes_eq-sym, map-cond}

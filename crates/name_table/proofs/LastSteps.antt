@@ -3,7 +3,7 @@ use Rattle.std.proofs.Common.{◌≡◌, ℕ, ◌-◌, rules, List, [], ◌∷�
 use Rattle.std.specs.Prelude.{slice_get}
 use Rattle.guard_syntax.specs.declared.syntax.Step.{Step, the_lemmas}
 use Rattle.guard_syntax.specs.Seen.{see_step, step_list}
-use Rattle.name_table.specs.Ways.{step_site, last_site, to_last, to_each}
+use Rattle.rule_names.specs.Ways.{step_site, last_site, to_last, to_each}
 
 step_is : (s t : Step) → Some s ≡ Some t → s ≡ t
 step_is s t e = cc

@@ -4,10 +4,10 @@ use Rattle.std.proofs.Math.Seq.{take-suc}
 use Rattle.std.proofs.lemmas.List.{append_assoc, append-nil, length-set, length-take-le, get_or-set_same, get_or-set_other}
 use Rattle.std.proofs.lemmas.Bool.Decides.{nat_tests}
 use Rattle.guard_syntax.specs.Syntax.{File}
-use Rattle.name_table.specs.Depths.{larger, capped, depth_piece}
+use Rattle.rule_names.specs.Depths.{larger, capped, depth_piece}
 use Rattle.name_table.specs.Measured.{IsAmong, IsNotedAt, Measured, noted}
-use Rattle.name_table.specs.Pieces.{Piece, Sited}
-use Rattle.name_table.proofs.Capping.{capped-larger, capped-suc, larger-zero, zero-larger, larger-assoc}
+use Rattle.rule_names.specs.Pieces.{Piece, Sited}
+use Rattle.rule_names.proofs.Capping.{capped-larger, capped-suc, larger-zero, zero-larger, larger-assoc}
 
 -- ---- pieces among others
 

@@ -2,7 +2,7 @@
 use Rattle.std.proofs.Common.{◌≡◌, ℕ, ◌≤◌, ◌-◌, List, [], ◌∷◌, ◌++◌, length, take, drop, refl, sym, ap, ◌∙◌, arith}
 use Rattle.std.proofs.lemmas.List.{drop_all, take_all, append-nil, append_assoc, map-append, length-drop}
 use Rattle.name_table.specs.declared.scopes.Given as scope
-use Rattle.name_table.specs.Scopes.{Given, by_place}
+use Rattle.rule_names.specs.Scopes.{Given, by_place}
 use Rattle.name_table.specs.Seen.{see_given}
 
 by_place-nil : (names : List Given) → by_place names [] ≡ names

@@ -8,7 +8,7 @@ use Rattle.std.specs.Str.{bytes_eq}
 use Rattle.std.specs.BTreeSet.{BTreeSet, contains_by}
 use Rattle.std.proofs.lemmas.Slice.Eq.{bytes_eq-Decides}
 use Rattle.std.proofs.lemmas.Map.Text.{is_eq-slice_cmp}
-use Rattle.name_table.specs.Doubles.{is_among}
+use Rattle.rule_names.specs.Doubles.{is_among}
 pub use Rattle.name_table.specs.NameSets.{IsNameSet}
 
 pub bytes_eq_sym : (x y : List ℕ) → bytes_eq x y ≡ bytes_eq y x

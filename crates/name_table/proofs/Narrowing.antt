@@ -6,8 +6,8 @@ use Rattle.std.proofs.lemmas.Bool.{cases_lt, ltb-true}
 use Rattle.std.proofs.lemmas.Bool.Decides.{nat_tests}
 use Rattle.std.proofs.lemmas.List.{length-set, length-map, length-replicate, get_or_past, get_or-map}
 use Rattle.std.proofs.lemmas.List.Elements.{All-nil, All-cons, All-contains, All-contains_itself, All-filter, All-weaker, filter_passes, Contains-push, Contains-push_cases, Contains-append_left, Contains-append_right}
-use Rattle.name_table.specs.Circles.{parts_only}
-use Rattle.name_table.specs.Graphs.{Graph, Names, Reaches, names, through}
+use Rattle.rule_names.specs.Circles.{parts_only}
+use Rattle.rule_names.specs.Graphs.{Graph, Names, Reaches, names, through}
 use Rattle.name_table.specs.Narrow.{IsNarrow, NamesBelow}
 use Rattle.name_table.proofs.Marking.{not-in-none}
 use Rattle.name_table.proofs.Walks.{names-from}

@@ -2,8 +2,8 @@
 use Rattle.std.proofs.Common.{◌≡◌, ◌≢◌, ℕ, ◌<◌, inl, inr, Bool, sym, ◌∙◌, subst, List, [], length, get_or, take, arith}
 use Rattle.std.specs.List.{AllPairs, Contains}
 use Rattle.std.proofs.lemmas.List.{length-take, get_or-take, get_or_default}
-use Rattle.name_table.specs.Graphs.{Graph, Names, Reaches, names, through, HasCircle, IsOrder}
-use Rattle.name_table.specs.Marks.{IsMarked}
+use Rattle.rule_names.specs.Graphs.{Graph, Names, Reaches, names, through, HasCircle, IsOrder}
+use Rattle.rule_names.specs.Marks.{IsMarked}
 use Rattle.name_table.specs.Ordering.{IsSettled, IsOnPath}
 use Rattle.name_table.proofs.Marking.{not-in-none, marked-within}
 use Rattle.name_table.proofs.Walks.{names-from}

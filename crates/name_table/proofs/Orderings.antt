@@ -5,8 +5,8 @@ use Rattle.std.proofs.lemmas.Bool.{cases_eq, cases_lt}
 use Rattle.std.proofs.lemmas.List.{length-set, length-replicate, length_push, get_or-replicate, get_or_past, get_or-set_same, get_or-set_other, get_or_append_left, get_or_push, get_or_default, take-append-le, take_at}
 use Rattle.std.proofs.lemmas.List.Elements.{Contains-push, Contains-push_cases, Contains-append_left, Contains-get_or}
 use Rattle.std.proofs.lemmas.List.Quantifiers.{all_pairs_push}
-use Rattle.name_table.specs.Graphs.{Graph, Names, Reaches, names, HasCircle}
-use Rattle.name_table.specs.Marks.{IsMarked}
+use Rattle.rule_names.specs.Graphs.{Graph, Names, Reaches, names, HasCircle}
+use Rattle.rule_names.specs.Marks.{IsMarked}
 use Rattle.name_table.specs.Ordering.{IsSettled, IsOnPath, AreMarkedFrom, IsFirstUnmarked}
 use Rattle.name_table.proofs.Marking.{not-in-none, none-marked, marked-within, mark-here, mark-kept, mark-only}
 use Rattle.name_table.proofs.Walks.{reaches-on}

@@ -1,9 +1,9 @@
 -- Uses of a name in what it stands for: by marks, and that there is one where the name reaches itself.
 use Rattle.std.proofs.Common.{ℕ, ◌<◌, ◌≤◌, ◌↔◌, inl, inr, Bool, refl, List, [], get_or, arith, Option, Some, None, MatchOption}
 use Rattle.std.proofs.lemmas.Bool.{cases_lt}
-use Rattle.name_table.specs.Circles.{parts_only}
-use Rattle.name_table.specs.Graphs.{Graph, Names, Reaches, names, through, IsReverse}
-use Rattle.name_table.specs.Marks.{IsMarked}
+use Rattle.rule_names.specs.Circles.{parts_only}
+use Rattle.rule_names.specs.Graphs.{Graph, Names, Reaches, names, through, IsReverse}
+use Rattle.rule_names.specs.Marks.{IsMarked}
 use Rattle.name_table.specs.Narrow.{IsLeast, IsNarrow, IsPartUse, Leads, NoneBelow}
 use Rattle.name_table.proofs.Narrowing.{narrow-same, parts-only-narrow}
 use Rattle.name_table.proofs.NodeUses.{mark-uses, use-marked}

@@ -4,8 +4,8 @@ use Rattle.std.specs.List.{Contains}
 use Rattle.std.proofs.lemmas.Bool.{cases_lt}
 use Rattle.std.proofs.lemmas.List.{length-set, length-replicate, get_or-replicate, get_or_past}
 use Rattle.std.proofs.lemmas.List.Elements.{Contains-push, Contains-push_cases, Contains-append_left}
-use Rattle.name_table.specs.Graphs.{Graph, Names, IsReverse}
-use Rattle.name_table.specs.Marks.{NamesMore}
+use Rattle.rule_names.specs.Graphs.{Graph, Names, IsReverse}
+use Rattle.rule_names.specs.Marks.{NamesMore}
 use Rattle.name_table.proofs.Marking.{not-in-none}
 use Rattle.name_table.proofs.Walks.{names-from}
 use Rattle.name_table.proofs.Additions.{named-after, names-kept, names-added}

@@ -12,7 +12,7 @@ use Rattle.std.proofs.lemmas.Slice.Eq.{bytes_eq-Decides}
 use Rattle.guard_syntax.specs.declared.syntax.Rule.{Rule}
 use Rattle.guard_syntax.specs.Syntax as sx
 use Rattle.guard_syntax.specs.Seen.{see_rule}
-use Rattle.name_table.specs.Uses.{rule_named}
+use Rattle.rule_names.specs.Uses.{rule_named}
 use Rattle.name_table.specs.RuleSites.{site_named, AreRuleSites}
 
 pub bytes_eq-sym : (x y : List ℕ) → bytes_eq x y ≡ bytes_eq y x

@@ -3,9 +3,9 @@ use Rattle.std.proofs.Common.{◌≡◌, ℕ, ◌+◌, ◌<◌, Bool, true, fals
 use Rattle.std.proofs.lemmas.List.{take_more}
 use Rattle.std.specs.Borrow.{Bor}
 use Rattle.guard_syntax.specs.Named.{Named}
-use Rattle.name_table.specs.declared.refusal.NameKind.{NameKind}
-use Rattle.name_table.specs.Doubles.{is_among, given_again, fault_of}
-use Rattle.name_table.specs.Faults.{Fault, earlier, first_from}
+use Rattle.rule_names.specs.declared.name_kind.NameKind.{NameKind}
+use Rattle.rule_names.specs.Doubles.{is_among, given_again, fault_of}
+use Rattle.rule_names.specs.Faults.{Fault, earlier, first_from}
 use Rattle.name_table.specs.Seen.{see_names}
 use Rattle.name_table.proofs.FirstFaults.{drop-next}
 

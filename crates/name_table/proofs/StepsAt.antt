@@ -2,7 +2,7 @@
 use Rattle.std.proofs.Common.{◌≡◌, ℕ, zero, suc, ◌<◌, ◌≤◌, refl, ap, sym, arith, List, [], ◌∷◌, length, get_or, map, Some, None}
 use Rattle.guard_syntax.specs.Seen.{see_step, step_list}
 use Rattle.guard_syntax.specs.declared.syntax.Step.{Step}
-use Rattle.name_table.specs.Circles.{step_of}
+use Rattle.rule_names.specs.Circles.{step_of}
 
 pub step-at : (xs : List Step) (i : ℕ) (x : Step) → i < length xs → x ≡ get_or xs i x → step_of (step_list (map see_step xs)) i ≡ Some (see_step x)
 step-at [] i x l is = absurd (omega arith)

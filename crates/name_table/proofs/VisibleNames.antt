@@ -6,11 +6,11 @@ use Rattle.std.specs.Borrow.{Bor}
 use Rattle.std.specs.Str.{bytes_eq}
 use Rattle.std.proofs.lemmas.List.Folds.{find-append}
 use Rattle.name_table.specs.declared.meanings.Meanings.{Meanings, out-Meanings, the_lemmas}
-use Rattle.name_table.specs.declared.scopes.Giver.{Giver}
-use Rattle.name_table.specs.Scopes.{Given, given_named}
+use Rattle.rule_names.specs.declared.giver.Giver.{Giver}
+use Rattle.rule_names.specs.Scopes.{Given, given_named}
 use Rattle.name_table.specs.Seen.{see_given}
 use Rattle.name_table.specs.Givers.{giver_named}
-use Rattle.name_table.specs.Links.{Meant, Scopes, here_or, meant_in, one_out}
+use Rattle.rule_names.specs.Links.{Meant, Scopes, here_or, meant_in, one_out}
 use Rattle.name_table.specs.Meanings.{scopes_in, visible_in}
 
 map_or : {X Y : Type 0} (f : X → Y) (x y : Option X) → option_map f (option_or x y) ≡ option_or (option_map f x) (option_map f y)

@@ -4,8 +4,8 @@ use Rattle.std.specs.List.{Contains, All}
 use Rattle.std.proofs.lemmas.List.Elements.{All-contains, Contains-push, Contains-push_cases, Contains-get_or, All-pop}
 use Rattle.std.proofs.lemmas.Bool.{cases_lt}
 use Rattle.std.proofs.lemmas.List.{length-replicate, get_or_past}
-use Rattle.name_table.specs.Graphs.{Graph, IsGraph, Names, Reaches, names, through}
-use Rattle.name_table.specs.Marks.{IsMarked, Marks}
+use Rattle.rule_names.specs.Graphs.{Graph, IsGraph, Names, Reaches, names, through}
+use Rattle.rule_names.specs.Marks.{IsMarked, Marks}
 use Rattle.name_table.proofs.Marking.{not-in-none, none-marked, marked-within}
 
 -- what a reached node names is reached

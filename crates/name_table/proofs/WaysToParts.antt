@@ -8,17 +8,17 @@ use Rattle.std.proofs.lemmas.List.{set_past, length-set, length-replicate}
 use Rattle.guard_syntax.specs.Named.{Named}
 use Rattle.guard_syntax.specs.Sites.{upto, merge, sites_body, sites_lets, sites_let, sites_conds, sites_opt_conds, sites_disjs, sites_disj, sites_parts, sites_part, sites_query, sites_steps, sites_step, sites_expr, sites_opt_expr, sites_exprs, sites_rule, sites_rules, sites_file}
 use Rattle.guard_syntax.specs.Syntax.{Body, Lets, Let, Conds, OptConds, Disjs, Disj, Parts, Part, Query, Steps, Step, Expr, OptExpr, Exprs, Rule, File, body, no_lets, more_lets, assign, conds, no_conds, with_conds, no_disjs, more_disjs, disj, no_parts, more_parts, block, guarded, kinds, test, refer, call, query, no_steps, more_steps, this, var, key, index, every, items, splice, filter, keys, literal, function, asked, found, no_expr, with_expr, no_exprs, more_exprs}
-use Rattle.name_table.specs.declared.scopes.Giver.{Giver}
-use Rattle.name_table.specs.declared.scopes.Giver.TheVariants.{Let as LetGiver, Capture, Param}
-use Rattle.name_table.specs.Graphs.{Graph, Names}
-use Rattle.name_table.specs.Pieces.{AreInOrder}
-use Rattle.name_table.specs.Scopes.{given_named, Given, given_body, given_conds, given_file}
-use Rattle.name_table.specs.Uses.{rule_named, query_site, expr_site}
-use Rattle.name_table.specs.Ways.{Way, to_each, body_site, conds_site, value_sites, disj_sites, part_sites, expr_sites, opt_conds_site, opt_expr_site, step_site, to_last, rule_node, to_giver, to_variable, to_rule, from_capture, to_before, ways_body, ways_lets, ways_let, ways_conds, ways_opt_conds, ways_disjs, ways_disj, ways_parts, ways_part, ways_query, ways_steps, ways_step, ways_expr, ways_opt_expr, ways_exprs, ways_rule, ways_rules, ways_file, with_way, with_ways, graph_of}
+use Rattle.rule_names.specs.declared.giver.Giver.{Giver}
+use Rattle.rule_names.specs.declared.giver.Giver.TheVariants.{Let as LetGiver, Capture, Param}
+use Rattle.rule_names.specs.Graphs.{Graph, Names}
+use Rattle.rule_names.specs.Pieces.{AreInOrder}
+use Rattle.rule_names.specs.Scopes.{given_named, Given, given_body, given_conds, given_file}
+use Rattle.rule_names.specs.Uses.{rule_named, query_site, expr_site}
+use Rattle.rule_names.specs.Ways.{Way, to_each, body_site, conds_site, value_sites, disj_sites, part_sites, expr_sites, opt_conds_site, opt_expr_site, step_site, to_last, rule_node, to_giver, to_variable, to_rule, from_capture, to_before, ways_body, ways_lets, ways_let, ways_conds, ways_opt_conds, ways_disjs, ways_disj, ways_parts, ways_part, ways_query, ways_steps, ways_step, ways_expr, ways_opt_expr, ways_exprs, ways_rule, ways_rules, ways_file, with_way, with_ways, graph_of}
 use Rattle.name_table.proofs.Additions.{named-after}
 use Rattle.name_table.proofs.Marking.{not-in-none}
 use Rattle.name_table.proofs.Reversals.{nothing-there}
-use Rattle.name_table.proofs.Rises.{times, times-append, times-merge}
+use Rattle.rule_names.proofs.Rises.{times, times-append, times-merge}
 
 -- ---- sites below a number
 

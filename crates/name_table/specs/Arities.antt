@@ -5,7 +5,7 @@ use Rattle.std.specs.Ordering.{nat_cmp}
 use Rattle.std.specs.Cmp.Lexicographic.{slice_cmp}
 use Rattle.std.specs.BTreeMap.{BTreeMap, get_by}
 use Rattle.guard_syntax.specs.Syntax.{Rule}
-use Rattle.name_table.specs.Uses.{rule_named}
+use Rattle.rule_names.specs.Uses.{rule_named}
 
 -- how many parameters the rule has that a name means
 abbrev pub arity_named : List Rule → List ℕ → Option ℕ

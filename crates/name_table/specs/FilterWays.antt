@@ -1,8 +1,8 @@
 -- The ways of the step of a filter.
 use Rattle.std.specs.Prelude.{ℕ, List, [], ◌∷◌, ◌++◌}
 use Rattle.guard_syntax.specs.Syntax.{Conds, Rule}
-use Rattle.name_table.specs.Scopes.{Given, given_conds}
-use Rattle.name_table.specs.Ways.{Way, conds_site, to_each, ways_conds}
+use Rattle.rule_names.specs.Scopes.{Given, given_conds}
+use Rattle.rule_names.specs.Ways.{Way, conds_site, to_each, ways_conds}
 
 -- the step of a site leads to its conditions, which are a scope of their own
 abbrev pub ways_filter : List Rule → ℕ → List Given → ℕ → Conds → List Way

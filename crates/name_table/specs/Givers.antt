@@ -4,8 +4,8 @@ use Rattle.std.specs.Borrow.{Bor}
 use Rattle.std.specs.Ordering.{nat_cmp}
 use Rattle.std.specs.Cmp.Lexicographic.{slice_cmp}
 use Rattle.std.specs.BTreeMap.{BTreeMap, get_by}
-use Rattle.name_table.specs.declared.scopes.Giver.{Giver}
-use Rattle.name_table.specs.Scopes.{given_named, Given}
+use Rattle.rule_names.specs.declared.giver.Giver.{Giver}
+use Rattle.rule_names.specs.Scopes.{given_named, Given}
 
 -- what gives the first of a name among those that are visible
 abbrev pub giver_named : List Given → List ℕ → Option Giver

@@ -4,8 +4,8 @@ use Rattle.std.specs.Borrow.{Bor}
 use Rattle.name_table.specs.declared.meanings.Meant as code
 use Rattle.name_table.specs.declared.meanings.Meanings.{Meanings, fold-Meanings}
 use Rattle.name_table.specs.declared.meanings.Meanings.TheOpen.{Meanings-F}
-use Rattle.name_table.specs.Links.{Meant, Scopes}
-use Rattle.name_table.specs.Scopes.{Given}
+use Rattle.rule_names.specs.Links.{Meant, Scopes}
+use Rattle.rule_names.specs.Scopes.{Given}
 use Rattle.name_table.specs.Seen.{see_given}
 
 -- its own, and those of the scopes around it

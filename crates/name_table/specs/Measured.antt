@@ -1,8 +1,8 @@
 -- What a walk over parts finds: the Depth of the part that it walks, and those of the sites inside, which it notes in a table.
 use Rattle.std.specs.Prelude.{ℕ, ◌<◌, ◌≡◌, ◌⊎◌, List, [], ◌∷◌, Some, length, nat_lt, if◌then◌else◌, slice_index_or, slice_set}
 use Rattle.guard_syntax.specs.Syntax.{File}
-use Rattle.name_table.specs.Depths.{capped, depth_piece}
-use Rattle.name_table.specs.Pieces.{Piece, Sited}
+use Rattle.rule_names.specs.Depths.{capped, depth_piece}
+use Rattle.rule_names.specs.Pieces.{Piece, Sited}
 
 -- a piece with its site is one of these
 abbrev pub IsAmong : Sited → List Sited → Type 0

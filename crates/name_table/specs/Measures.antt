@@ -3,7 +3,7 @@ use Rattle.std.specs.Prelude.{ℕ, List, [], ◌∷◌}
 use Rattle.guard_syntax.specs.Seen.{see_file}
 use Rattle.guard_syntax.specs.Syntax.{File, Rule}
 use Rattle.name_table.specs.declared.measure.Measure.{Measure}
-use Rattle.name_table.specs.Depths.{depth_disjs, depth_lets, depth_rule, larger}
+use Rattle.rule_names.specs.Depths.{depth_disjs, depth_lets, depth_rule, larger}
 
 abbrev pub file_of : Measure → File
 file_of m = see_file m.file.now

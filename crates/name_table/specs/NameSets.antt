@@ -4,7 +4,7 @@ use Rattle.std.specs.Borrow.{Bor}
 use Rattle.std.specs.Ordering.{nat_cmp}
 use Rattle.std.specs.Cmp.Lexicographic.{slice_cmp}
 use Rattle.std.specs.BTreeSet.{BTreeSet, contains_by}
-use Rattle.name_table.specs.Doubles.{is_among}
+use Rattle.rule_names.specs.Doubles.{is_among}
 
 -- a set has these names, and no others
 abbrev pub IsNameSet : BTreeSet (Bor (List ℕ)) → List (List ℕ) → Type 0

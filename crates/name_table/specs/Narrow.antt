@@ -1,9 +1,9 @@
 -- Graphs with some of their names alone, and what is reached there.
 use Rattle.std.specs.Prelude.{ℕ, ◌≡◌, ◌<◌, ◌≤◌, ◌⊎◌, ◌↔◌, List, Bool, length}
 use Rattle.std.specs.List.{Contains}
-use Rattle.name_table.specs.Circles.{parts_only}
-use Rattle.name_table.specs.Graphs.{Graph, Names, Reaches, Uses}
-use Rattle.name_table.specs.Marks.{IsMarked}
+use Rattle.rule_names.specs.Circles.{parts_only}
+use Rattle.rule_names.specs.Graphs.{Graph, Names, Reaches, Uses}
+use Rattle.rule_names.specs.Marks.{IsMarked}
 
 -- as many nodes, and each names those that it named below a number
 pub record IsNarrow (g : Graph) (bound : ℕ) (narrow : Graph) : Type 0 where

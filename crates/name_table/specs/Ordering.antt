@@ -1,8 +1,8 @@
 -- How far a walk that orders a graph has come.
 use Rattle.std.specs.Prelude.{ℕ, Bool, ◌≡◌, ◌≢◌, ◌<◌, ◌≤◌, ◌↔◌, ◌⊎◌, List, [], length, take, slice_index, slice_index_or}
 use Rattle.std.specs.List.{AllPairs, Contains}
-use Rattle.name_table.specs.Graphs.{Graph, Names, Reaches, HasCircle, IsOrder}
-use Rattle.name_table.specs.Marks.{IsMarked}
+use Rattle.rule_names.specs.Graphs.{Graph, Names, Reaches, HasCircle, IsOrder}
+use Rattle.rule_names.specs.Marks.{IsMarked}
 use Rattle.name_table.specs.declared.graph.ordering.Walk.{Walk}
 use Rattle.name_table.specs.declared.graph.ordering.Outcome.{Outcome}
 use Rattle.name_table.specs.declared.graph.ordering.Outcome.TheVariants.{Ordered, Circle}

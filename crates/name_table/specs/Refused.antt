@@ -1,8 +1,8 @@
 -- Refusals of names as the code has them.
 use Rattle.std.specs.Prelude.{◌≡◌}
 use Rattle.guard_syntax.specs.Syntax.{File}
-use Rattle.name_table.specs.Faults.{Fault}
-use Rattle.name_table.specs.Names.{IsNameFault}
+use Rattle.rule_names.specs.Faults.{Fault}
+use Rattle.rule_names.specs.Names.{IsNameFault}
 use Rattle.name_table.specs.declared.refusal.NameRefusal.{NameRefusal}
 use Rattle.name_table.specs.declared.refusal.NameRefusal.TheVariants.{Bad, NoMemory}
 

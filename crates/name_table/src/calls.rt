@@ -1,20 +1,20 @@
 //! Uses of names, each by itself: variables, references to rules, and calls of rules and of functions.
 ghost use Rattle.std.specs.Prelude.{◌≡◌, Some, [], map};
 ghost use Rattle.guard_syntax.specs.Seen.{expr_list, see_expr};
-ghost use Rattle.name_table.specs.Faults.{earlier, first_from};
-ghost use Rattle.name_table.specs.Scopes.{given_named};
+ghost use Rattle.rule_names.specs.Faults.{earlier, first_from};
+ghost use Rattle.rule_names.specs.Scopes.{given_named};
 ghost use Rattle.name_table.specs.Seen.{see_best};
-ghost use Rattle.name_table.specs.Uses.{arity, count_exprs, expr_in, expr_site, function_named, is_text, place_of, rule_named, wrong_call, wrong_function, wrong_refer, wrong_text, wrong_texts, wrong_variable, is_text_tree};
+ghost use Rattle.rule_names.specs.Uses.{arity, count_exprs, expr_in, expr_site, function_named, is_text, place_of, rule_named, wrong_call, wrong_function, wrong_refer, wrong_text, wrong_texts, wrong_variable, is_text_tree};
 ghost use Rattle.name_table.specs.Meanings.{visible_in};
 ghost use Rattle.name_table.specs.Walked.{rules_of, places_of};
 
 use crate::fault::{Wrong, earlier};
 use crate::meanings::{Meanings, giver};
-use crate::refusal::NameKind;
-use crate::siblings::HasSite;
 use crate::walk::Walk;
 use doc_values::{Doc, Kind};
 use guard_syntax::{Expr, Function, Text};
+use rule_names::NameKind;
+use rule_names::siblings::HasSite;
 
 /// The first of the faults until now and one more.
 fn with_fault<'f>(

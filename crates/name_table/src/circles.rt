@@ -1,18 +1,18 @@
 //! Rules and variables that reach themselves: which, and where it is answered.
 ghost use Rattle.std.specs.Prelude.{◌≡◌, ◌+◌, ◌-◌, ◌*◌, ◌<◌, ◌≤◌, ℕ, Some, IfOk, MatchOption, length, map};
 ghost use Rattle.guard_syntax.specs.Seen.{see_file, see_form, see_step, step_list};
-ghost use Rattle.name_table.specs.Circles.{HasNoCircle, IsCircular, IsFirstUse, capture_in, given_text, place_in_piece, place_in_step, step_of, text_if, use_place};
-ghost use Rattle.name_table.specs.Graphs.{Reaches};
-ghost use Rattle.name_table.specs.Pieces.{AreInOrder, piece_at};
-ghost use Rattle.name_table.specs.Seen.{see_piece, see_wrong};
-ghost use Rattle.name_table.specs.Ways.{graph_of};
+ghost use Rattle.rule_names.specs.Circles.{HasNoCircle, IsCircular, IsFirstUse, capture_in, given_text, place_in_piece, place_in_step, step_of, text_if, use_place};
+ghost use Rattle.rule_names.specs.Graphs.{Reaches};
+ghost use Rattle.rule_names.specs.Pieces.{AreInOrder, piece_at};
+ghost use Rattle.name_table.specs.Seen.{see_wrong};
+ghost use Rattle.rule_names.specs.Seen.{see_piece};
+ghost use Rattle.rule_names.specs.Ways.{graph_of};
 
 use crate::fault::Wrong;
-use crate::find::in_file;
 use crate::graph::{Graph, first_on_circle, first_part_use};
-use crate::piece::Piece;
-use crate::refusal::NameKind;
 use guard_syntax::{Name, RawFile, Step, StepForm};
+use rule_names::find::in_file;
+use rule_names::{NameKind, Piece};
 use std::alloc::{AllocError, Global};
 
 /// The place of a use in a form: that of the variable's name where it is spliced in, else the step's.

@@ -1,20 +1,19 @@
 //! Items of a file that are too deep.
 ghost use Rattle.std.specs.Prelude.{◌≡◌, ◌≤◌, IfOk, map};
 ghost use Rattle.guard_syntax.specs.Seen.{see_file, see_let, see_rule, see_disj, let_list, disj_list};
-ghost use Rattle.name_table.specs.Deep.{deep_fault, deep_if, deep_lets, deep_rules, deep_disjs};
-ghost use Rattle.name_table.specs.Depths.{deepened, depth_limit, depths_of};
-ghost use Rattle.name_table.specs.Faults.{first_from};
-ghost use Rattle.name_table.specs.Links.{links_of};
+ghost use Rattle.rule_names.specs.Deep.{deep_fault, deep_if, deep_lets, deep_rules, deep_disjs};
+ghost use Rattle.rule_names.specs.Depths.{deepened, depth_limit, depths_of};
+ghost use Rattle.rule_names.specs.Faults.{first_from};
+ghost use Rattle.rule_names.specs.Links.{links_of};
 ghost use Rattle.name_table.specs.Measures.{file_of, known_of};
-ghost use Rattle.name_table.specs.Pieces.{AreInOrder};
+ghost use Rattle.rule_names.specs.Pieces.{AreInOrder};
 ghost use Rattle.name_table.specs.Seen.{see_best};
 
-use crate::bind::Link;
 use crate::depths::{of_disj, of_expr, of_file, of_rule};
 use crate::fault::{Wrong, earlier};
 use crate::measure::{DEPTH_LIMIT, Measure};
-use crate::refusal::NameKind;
 use guard_syntax::{Disj, Let, RawFile, Rule};
+use rule_names::{Link, NameKind};
 use std::alloc::{AllocError, Global};
 
 /// The greatest Depth of a part outside rules: what they are together counts 1 more.

@@ -1,11 +1,12 @@
 //! What is the matter with a name, and which of several faults is answered.
 ghost use Rattle.std.specs.Prelude.{◌≡◌, ℕ, Bool, Some};
-ghost use Rattle.name_table.specs.Faults.{rank, precedes, earlier};
+ghost use Rattle.rule_names.specs.Faults.{rank, precedes, earlier};
 ghost use Rattle.name_table.specs.Refused.{IsRefusalOf};
 ghost use Rattle.name_table.specs.Seen.{see_wrong, see_best};
 
-use crate::refusal::{NameKind, NameRefusal};
+use crate::refusal::NameRefusal;
 use guard_syntax::Text;
+use rule_names::NameKind;
 use std::alloc::Global;
 
 /// What is the matter with a name of a rule file, and where.

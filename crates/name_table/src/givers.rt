@@ -3,7 +3,8 @@ ghost use Rattle.std.specs.Prelude.{◌≡◌, IfOk};
 ghost use Rattle.name_table.specs.Givers.{AreGivers, giver_named};
 ghost use Rattle.name_table.specs.Seen.{see_given};
 
-use crate::scopes::{Given, Giver};
+use crate::scopes::Given;
+use rule_names::Giver;
 use std::alloc::{AllocError, Global};
 use std::collections::BTreeMap;
 

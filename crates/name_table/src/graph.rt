@@ -2,7 +2,7 @@
 ghost use Rattle.std.specs.Prelude.{◌≡◌, ◌<◌, ◌++◌, ℕ, List, [], ◌∷◌, IfOk, length, map, replicate, slice_index_or, slice_set};
 ghost use Rattle.std.specs.Result.{OnOk, OnErr};
 ghost use Rattle.std.specs.declared.alloc.Global.{Global};
-ghost use Rattle.name_table.specs.Graphs.{Graph, IsGraph, IsReverse};
+ghost use Rattle.rule_names.specs.Graphs.{Graph, IsGraph, IsReverse};
 
 mod circle;
 mod narrow;

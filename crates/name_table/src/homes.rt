@@ -1,7 +1,7 @@
 //! The scope in which each part of a file stands, by the sites of the parts.
 ghost use Rattle.std.specs.Prelude.{◌≡◌, IfOk};
 ghost use Rattle.guard_syntax.specs.Seen.{see_file};
-ghost use Rattle.name_table.specs.Homes.{homes_in, homes_of, with_home, with_homes};
+ghost use Rattle.rule_names.specs.Homes.{homes_in, homes_of, with_home, with_homes};
 
 mod walk;
 

@@ -2,18 +2,18 @@
 //! then set into a table.
 ghost use Rattle.std.specs.Prelude.{◌≡◌, ◌++◌, IfOk, None, length, replicate};
 ghost use Rattle.guard_syntax.specs.Seen.{see_file};
-ghost use Rattle.name_table.specs.Links.{links_in, links_of, with_link, with_links};
-ghost use Rattle.name_table.specs.Pieces.{AreInOrder};
+ghost use Rattle.rule_names.specs.Links.{links_in, links_of, with_link, with_links};
+ghost use Rattle.rule_names.specs.Pieces.{AreInOrder};
 
 mod sources;
 mod uses;
 mod walk;
 
-use crate::bind::Link;
 use crate::givers::Givers;
 use crate::meanings::Meanings;
 use crate::scopes::file_names;
 use guard_syntax::RawFile;
+use rule_names::Link;
 use sources::Sources;
 use std::alloc::{AllocError, Global};
 use uses::Linked;

@@ -1,12 +1,12 @@
 //! What names mean where scopes stand in one another: the innermost scope that has a name says it.
 ghost use Rattle.std.specs.Prelude.{◌≡◌, ◌++◌, ◌∷◌, [], IfOk, Some, option_map};
 ghost use Rattle.name_table.specs.Givers.{giver_named};
-ghost use Rattle.name_table.specs.Links.{meant_in, one_out};
+ghost use Rattle.rule_names.specs.Links.{meant_in, one_out};
 ghost use Rattle.name_table.specs.Meanings.{scopes_in, see_meant, visible_in};
 ghost use Rattle.name_table.specs.Seen.{see_given};
 
 use crate::givers::Givers;
-use crate::scopes::Giver;
+use rule_names::Giver;
 use std::alloc::AllocError;
 
 /// A scope, with the scopes around it.

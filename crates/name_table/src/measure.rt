@@ -2,12 +2,12 @@
 //! whether it is above.
 ghost use Rattle.std.specs.Prelude.{◌≡◌, suc, ◌+◌};
 ghost use Rattle.guard_syntax.specs.Seen.{see_file};
-ghost use Rattle.name_table.specs.Depths.{capped, depth_at, depth_bound, depth_target, larger};
-ghost use Rattle.name_table.specs.Links.{bind_of, links_of, target_of};
+ghost use Rattle.rule_names.specs.Depths.{capped, depth_at, depth_bound, depth_target, larger};
+ghost use Rattle.rule_names.specs.Links.{bind_of, links_of, target_of};
 ghost use Rattle.name_table.specs.Measured.{noted};
 
-use crate::bind::{Bind, Link};
 use guard_syntax::RawFile;
+use rule_names::{Bind, Link};
 
 /// The greatest Depth that an item may have.
 pub(crate) const DEPTH_LIMIT: u8 = 200;

@@ -1,22 +1,22 @@
 //! Names are tested.
 ghost use Rattle.std.specs.Prelude.{◌≡◌, IfOk, MatchResult};
 ghost use Rattle.guard_syntax.specs.Seen.{see_file};
-ghost use Rattle.name_table.specs.Files.{file_of};
-ghost use Rattle.name_table.specs.Order.{order_of};
-ghost use Rattle.name_table.specs.Pieces.{AreInOrder};
+ghost use Rattle.rule_names.specs.Files.{file_of};
+ghost use Rattle.rule_names.specs.Order.{order_of};
+ghost use Rattle.rule_names.specs.Pieces.{AreInOrder};
 ghost use Rattle.name_table.specs.Refused.{IsNameRefusal};
 
 use crate::circles::first_circle;
 use crate::deep::first_deep;
 use crate::doubles::first_double;
 use crate::fault::refuse;
-use crate::file::RuleFile;
 use crate::homes::homes_of;
 use crate::links::links_of;
 use crate::refusal::NameRefusal;
 use crate::uses::first_wrong_use;
 use crate::ways::graph_of;
 use guard_syntax::RawFile;
+use rule_names::RuleFile;
 use std::alloc::{AllocError, Global};
 
 /// The sites of the rules without parameters, and then 0 if parts stand outside rules.

@@ -2,10 +2,10 @@
 //! around a part, which lie on the stack.
 ghost use Rattle.std.specs.Prelude.{◌≡◌, [], IfOk, map};
 ghost use Rattle.guard_syntax.specs.Seen.{see_file, see_let, see_rule, see_body, see_conds, see_opt_conds, see_disj, see_part, see_query, see_step, see_expr, see_opt_expr, let_list, disj_list, part_list, expr_list};
-ghost use Rattle.name_table.specs.Faults.{first_of, first_from};
+ghost use Rattle.rule_names.specs.Faults.{first_of, first_from};
 ghost use Rattle.name_table.specs.Filters.{wrong_filter};
 ghost use Rattle.name_table.specs.Seen.{see_best};
-ghost use Rattle.name_table.specs.Uses.{wrong_uses, wrong_rules, wrong_rule, wrong_body, wrong_lets, wrong_conds, wrong_opt_conds, wrong_disjs, wrong_parts, wrong_part, wrong_query, wrong_step, wrong_expr, wrong_opt_expr, wrong_exprs};
+ghost use Rattle.rule_names.specs.Uses.{wrong_uses, wrong_rules, wrong_rule, wrong_body, wrong_lets, wrong_conds, wrong_opt_conds, wrong_disjs, wrong_parts, wrong_part, wrong_query, wrong_step, wrong_expr, wrong_opt_expr, wrong_exprs};
 ghost use Rattle.name_table.specs.Meanings.{visible_in};
 ghost use Rattle.name_table.specs.Walked.{rules_of, places_of};
 

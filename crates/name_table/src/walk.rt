@@ -2,7 +2,7 @@
 ghost use Rattle.std.specs.Prelude.{◌≡◌, IfOk, map};
 ghost use Rattle.guard_syntax.specs.Seen.{see_file, see_rule};
 ghost use Rattle.name_table.specs.Arities.{arity_named, AreArities};
-ghost use Rattle.name_table.specs.Uses.{place_of};
+ghost use Rattle.rule_names.specs.Uses.{place_of};
 
 use guard_syntax::{RawFile, Rule};
 use std::alloc::{AllocError, Global};

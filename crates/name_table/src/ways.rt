@@ -3,7 +3,7 @@
 ghost use Rattle.std.specs.Prelude.{◌≡◌, ◌++◌, IfOk, length};
 ghost use Rattle.std.specs.Result.{OnOk};
 ghost use Rattle.guard_syntax.specs.Seen.{see_file};
-ghost use Rattle.name_table.specs.Ways.{graph_of, with_way, with_ways, ways_file};
+ghost use Rattle.rule_names.specs.Ways.{graph_of, with_way, with_ways, ways_file};
 
 mod chart;
 mod leads;

@@ -9,15 +9,15 @@ use Rattle.std.specs.Prelude.{OnOk}
 use Rattle.std.specs.declared.alloc.Global.{Global}
 use Rattle.std.specs.declared.vec.Vec.{Vec}
 use Rattle.guard_syntax.specs.declared.row.Row.{Row}
-use Rattle.name_table.specs.Pieces.{Sited}
-use Rattle.name_table.specs.Within.{StandsIn}
+use Rattle.rule_names.specs.Pieces.{Sited}
+use Rattle.rule_names.specs.Within.{StandsIn}
 use Rattle.value_compare.specs.Books.{IsBookOf}
-use Rattle.value_compare.specs.Known.{is_known}
-use Rattle.query_steps.specs.Environments as scopes
-use Rattle.query_steps.specs.Fails as fails
-use Rattle.query_steps.specs.Seeing.{world_of}
-use Rattle.query_steps.specs.SpotEnvironments.{Environment}
-use Rattle.query_steps.specs.Spots.{SpotRow, World}
+use Rattle.rule_meaning.specs.Known.{is_known}
+use Rattle.rule_meaning.specs.Environments as scopes
+use Rattle.rule_meaning.specs.Fails as fails
+use Rattle.rule_meaning.specs.Seeing.{world_of}
+use Rattle.rule_meaning.specs.SpotEnvironments.{Environment}
+use Rattle.rule_meaning.specs.Spots.{SpotRow, World}
 use Rattle.report_text.specs.SeenEntries.{see_entry}
 use Rattle.report_text.specs.declared.entry.Entry.{Entry}
 use Rattle.plain_evaluator.specs.Entries.{AreShowable, see_entries}

@@ -12,14 +12,14 @@ use Rattle.guard_syntax.specs.declared.row.Origin.TheVariants as origin
 use Rattle.guard_syntax.specs.declared.row.Ref.{Ref}
 use Rattle.guard_syntax.specs.declared.row.Row.{Row}
 use Rattle.guard_syntax.specs.declared.row.Row.TheVariants as row
-use Rattle.name_table.specs.Uses.{count_exprs, expr_in}
-use Rattle.value_compare.specs.Functions.{argument}
-use Rattle.query_steps.specs.Roots.{literal_ref}
-use Rattle.query_steps.specs.Seeing.{see_origin, world_of}
-use Rattle.query_steps.specs.SpotEnvironments.{Environment}
-use Rattle.query_steps.specs.SpotFunctions.{IsAnswering}
-use Rattle.query_steps.specs.SpotMeaning.{Names, rows_of_args, rows_of_expr}
-use Rattle.query_steps.specs.Spots.{Answers, Found, Literal, Spot, SpotRow, World, literal_spot}
+use Rattle.rule_names.specs.Uses.{count_exprs, expr_in}
+use Rattle.rule_meaning.specs.Functions.{argument}
+use Rattle.rule_meaning.specs.Roots.{literal_ref}
+use Rattle.rule_meaning.specs.Seeing.{see_origin, world_of}
+use Rattle.rule_meaning.specs.SpotEnvironments.{Environment}
+use Rattle.rule_meaning.specs.SpotFunctions.{IsAnswering}
+use Rattle.rule_meaning.specs.SpotMeaning.{Names, rows_of_args, rows_of_expr}
+use Rattle.rule_meaning.specs.Spots.{Answers, Found, Literal, Spot, SpotRow, World, literal_spot}
 use Rattle.query_steps.proofs.SpotAnswers.{answering}
 use Rattle.plain_evaluator.specs.States.{State, see, see_spot_in, seen_rows}
 use Rattle.plain_evaluator.proofs.GivenRows.{args-seen}

@@ -6,7 +6,7 @@ use Rattle.std.proofs.lemmas.Simd.{map-map}
 use Rattle.std.specs.List.{list_any, list_all}
 use Rattle.guard_syntax.specs.declared.row.Verdict.{Verdict}
 use Rattle.guard_syntax.specs.declared.row.Verdict.TheVariants.{Pass, Fail, Skip}
-use Rattle.query_steps.specs.Verdicts.{conjunction, disjunction, is_pass, is_fail}
+use Rattle.rule_meaning.specs.Verdicts.{conjunction, disjunction, is_pass, is_fail}
 
 pub next-mapped : {A B : Type 0} (f : A → B) (xs : List A) (i : ℕ) (x : A) → i < length xs → x ≡ get_or xs i x
     → map f (take (i + 1) xs) ≡ map f (take i xs) ++ (f x ∷ [])

@@ -19,18 +19,18 @@ use Rattle.guard_syntax.specs.declared.row.Ref.{Ref}
 use Rattle.guard_syntax.specs.declared.row.Row.{Row}
 use Rattle.guard_syntax.specs.declared.row.Row.TheVariants as row
 use Rattle.guard_syntax.specs.declared.row.Verdict.{Verdict}
-use Rattle.name_table.specs.Depths.{depth_limit}
-use Rattle.name_table.specs.Links.{target_of}
-use Rattle.name_table.specs.Pieces.{Piece, OfFile, OfLet, OfRule, OfBody, OfConds, OfDisj, OfPart, OfQuery, OfStep, OfExpr, piece_at}
-use Rattle.query_steps.specs.Fails.{Calls, IsRule, IsCall, entry, missing_row, test_fails, set_fails, block_row_fails, body_fails, disjs_fails, disj_fails, parts_fails, part_fails, piece_fails, target_fails, turn_fails, calls_by, rule_fails, loose_fails}
-use Rattle.query_steps.specs.Fails as fails
-use Rattle.query_steps.specs.SetTests.{is_empty_test, is_set}
-use Rattle.query_steps.specs.SpotEnvironments.{Environment, Top, Inner, Called, current_of}
-use Rattle.query_steps.specs.SpotMeaning.{rows_of, rows_of_side, body_verdict, disj_verdict, part_verdict}
-use Rattle.query_steps.specs.SpotSteps.{passes, rows_of_type}
-use Rattle.query_steps.specs.SpotTurns.{names_by}
-use Rattle.query_steps.specs.Spots.{Spot, SpotRow, Found, World, root_spot}
-use Rattle.query_steps.specs.Verdicts.{is_fail}
+use Rattle.rule_names.specs.Depths.{depth_limit}
+use Rattle.rule_names.specs.Links.{target_of}
+use Rattle.rule_names.specs.Pieces.{Piece, OfFile, OfLet, OfRule, OfBody, OfConds, OfDisj, OfPart, OfQuery, OfStep, OfExpr, piece_at}
+use Rattle.rule_meaning.specs.Fails.{Calls, IsRule, IsCall, entry, missing_row, test_fails, set_fails, block_row_fails, body_fails, disjs_fails, disj_fails, parts_fails, part_fails, piece_fails, target_fails, turn_fails, calls_by, rule_fails, loose_fails}
+use Rattle.rule_meaning.specs.Fails as fails
+use Rattle.rule_meaning.specs.SetTests.{is_empty_test, is_set}
+use Rattle.rule_meaning.specs.SpotEnvironments.{Environment, Top, Inner, Called, current_of}
+use Rattle.rule_meaning.specs.SpotMeaning.{rows_of, rows_of_side, body_verdict, disj_verdict, part_verdict}
+use Rattle.rule_meaning.specs.SpotSteps.{passes, rows_of_type}
+use Rattle.rule_meaning.specs.SpotTurns.{names_by}
+use Rattle.rule_meaning.specs.Spots.{Spot, SpotRow, Found, World, root_spot}
+use Rattle.rule_meaning.specs.Verdicts.{is_fail}
 use Rattle.plain_evaluator.specs.Rules.{rule_of_piece, rule_to}
 use Rattle.plain_evaluator.specs.States.{State, see}
 use Rattle.plain_evaluator.proofs.Placed.{disj-seen, body-seen, block-seen, when-seen, kinds-seen, test-seen, refer-seen, call-seen}

@@ -12,19 +12,19 @@ use Rattle.guard_syntax.specs.declared.row.Ref.{Ref}
 use Rattle.guard_syntax.specs.declared.row.Row.{Row}
 use Rattle.guard_syntax.specs.declared.row.Row.TheVariants as row
 use Rattle.guard_syntax.specs.declared.row.Verdict.{Verdict}
-use Rattle.value_compare.specs.Functions as table
-use Rattle.value_compare.specs.Known.{is_known}
-use Rattle.query_steps.specs.Environments as scopes
-use Rattle.query_steps.specs.Filters.{candidates_in, filtered}
-use Rattle.query_steps.specs.Keys.{captured_row}
-use Rattle.query_steps.specs.Seeing.{see_answer, world_of}
-use Rattle.query_steps.specs.SpotEnvironments.{current_of}
-use Rattle.query_steps.specs.SpotFunctions as functions
-use Rattle.query_steps.specs.SpotFunctions.{IsAnswering}
-use Rattle.query_steps.specs.SpotSteps as spot
-use Rattle.query_steps.specs.Spots.{Answers, Found, Spot, SpotRow, World, is_found}
-use Rattle.query_steps.specs.Steps.{found_step, on_found}
-use Rattle.query_steps.specs.Verdicts as judged
+use Rattle.rule_meaning.specs.Functions as table
+use Rattle.rule_meaning.specs.Known.{is_known}
+use Rattle.rule_meaning.specs.Environments as scopes
+use Rattle.rule_meaning.specs.Filters.{candidates_in, filtered}
+use Rattle.rule_meaning.specs.Keys.{captured_row}
+use Rattle.rule_meaning.specs.Seeing.{see_answer, world_of}
+use Rattle.rule_meaning.specs.SpotEnvironments.{current_of}
+use Rattle.rule_meaning.specs.SpotFunctions as functions
+use Rattle.rule_meaning.specs.SpotFunctions.{IsAnswering}
+use Rattle.rule_meaning.specs.SpotSteps as spot
+use Rattle.rule_meaning.specs.Spots.{Answers, Found, Spot, SpotRow, World, is_found}
+use Rattle.rule_meaning.specs.Steps.{found_step, on_found}
+use Rattle.rule_meaning.specs.Verdicts as judged
 use Rattle.query_steps.proofs.FilterRows.{passed_at, filtered-judged}
 use Rattle.query_steps.proofs.SeenFilters.{all-candidates-seen, passed-seen}
 use Rattle.query_steps.proofs.SeenFunctions.{functions-seen}

@@ -6,18 +6,18 @@ use Rattle.std.proofs.lemmas.Bool.{and_from, and_parts}
 use Rattle.guard_syntax.specs.Syntax.{File}
 use Rattle.guard_syntax.specs.declared.row.Ref.{Ref}
 use Rattle.guard_syntax.specs.declared.row.Row.{Row}
-use Rattle.name_table.specs.Pieces.{Sited}
-use Rattle.name_table.specs.Within.{StandsIn}
+use Rattle.rule_names.specs.Pieces.{Sited}
+use Rattle.rule_names.specs.Within.{StandsIn}
 use Rattle.value_compare.specs.Books.{IsBookOf}
-use Rattle.value_compare.specs.Known.{Known, Made, is_known, is_known_ref}
-use Rattle.query_steps.specs.Environments as scopes
-use Rattle.query_steps.specs.Roots.{root_ref}
-use Rattle.query_steps.specs.Seeing.{grown, is_known_environment, world_of}
-use Rattle.query_steps.specs.SpotEnvironments.{Environment}
-use Rattle.query_steps.specs.SpotFunctions.{IsAnswering}
-use Rattle.query_steps.specs.SpotMeaning.{Names}
-use Rattle.query_steps.specs.SpotTurns.{names_by}
-use Rattle.query_steps.specs.Spots.{Answers, World}
+use Rattle.rule_meaning.specs.Known.{Known, Made, is_known, is_known_ref}
+use Rattle.rule_meaning.specs.Environments as scopes
+use Rattle.rule_meaning.specs.Roots.{root_ref}
+use Rattle.rule_meaning.specs.Seeing.{grown, is_known_environment, world_of}
+use Rattle.rule_meaning.specs.SpotEnvironments.{Environment}
+use Rattle.rule_meaning.specs.SpotFunctions.{IsAnswering}
+use Rattle.rule_meaning.specs.SpotMeaning.{Names}
+use Rattle.rule_meaning.specs.SpotTurns.{names_by}
+use Rattle.rule_meaning.specs.Spots.{Answers, World}
 use Rattle.query_steps.proofs.SeenGrowth.{known-before, row-known-before, rows-before}
 use Rattle.query_steps.proofs.SeenScopes.{environment-before}
 use Rattle.plain_evaluator.specs.Seen.{see_env}

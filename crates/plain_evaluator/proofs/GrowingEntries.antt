@@ -5,10 +5,10 @@ use Rattle.doc_values.specs.Tree.{Forest, Nil}
 use Rattle.guard_syntax.specs.declared.row.Origin.{Origin}
 use Rattle.guard_syntax.specs.declared.row.Origin.TheVariants as origin
 use Rattle.guard_syntax.specs.declared.row.Ref.{Ref}
-use Rattle.value_compare.specs.Known.{Known, Made}
-use Rattle.query_steps.specs.Fails as fails
-use Rattle.query_steps.specs.Seeing.{grown, see_spot}
-use Rattle.query_steps.specs.Spots as spots
+use Rattle.rule_meaning.specs.Known.{Known, Made}
+use Rattle.rule_meaning.specs.Fails as fails
+use Rattle.rule_meaning.specs.Seeing.{grown, see_spot}
+use Rattle.rule_meaning.specs.Spots as spots
 use Rattle.query_steps.proofs.SeenGrowth.{known-before, tree-kept}
 use Rattle.report_text.specs.SeenEntries.{IsShowable, is_made, see_entry, see_shown, see_word}
 use Rattle.report_text.specs.declared.entry.Entry.{Entry}

@@ -3,13 +3,13 @@ use Rattle.std.proofs.Common.{◌≡◌, ℕ, Bool, List, map, sym, ap, ap₂, �
 use Rattle.guard_syntax.specs.declared.row.Ref.{Ref}
 use Rattle.guard_syntax.specs.declared.row.Row.{Row}
 use Rattle.guard_syntax.specs.declared.syntax.Op.{Op}
-use Rattle.query_steps.specs.Environments.{Environment, current_of}
-use Rattle.query_steps.specs.Keys.{passes}
-use Rattle.query_steps.specs.Kinds.{rows_of_type}
-use Rattle.query_steps.specs.Seeing.{world_of}
-use Rattle.query_steps.specs.SpotEnvironments as around
-use Rattle.query_steps.specs.SpotSteps as spot
-use Rattle.query_steps.specs.Spots.{Answers, Spot, World}
+use Rattle.rule_meaning.specs.Environments.{Environment, current_of}
+use Rattle.rule_meaning.specs.Keys.{passes}
+use Rattle.rule_meaning.specs.Kinds.{rows_of_type}
+use Rattle.rule_meaning.specs.Seeing.{world_of}
+use Rattle.rule_meaning.specs.SpotEnvironments as around
+use Rattle.rule_meaning.specs.SpotSteps as spot
+use Rattle.rule_meaning.specs.Spots.{Answers, Spot, World}
 use Rattle.query_steps.proofs.SeenFilters.{types-seen}
 use Rattle.query_steps.proofs.SeenScopes.{current-seen}
 use Rattle.query_steps.proofs.SeenSteps.{passes-seen}

@@ -19,15 +19,15 @@ use Rattle.guard_syntax.specs.declared.row.Verdict.{Verdict}
 use Rattle.guard_syntax.specs.declared.row.Verdict.TheVariants.{Pass, Fail, Skip}
 use Rattle.guard_syntax.specs.Seen.{see_rule, see_disj, see_body, see_conds, see_opt_conds, see_part, see_query, see_expr, see_opt_expr, disj_list, part_list, expr_list}
 use Rattle.guard_syntax.specs.Syntax as sx
-use Rattle.name_table.specs.Depths.{depth_limit}
-use Rattle.query_steps.specs.SetTests.{is_empty_test, is_set}
-use Rattle.query_steps.specs.SpotEnvironments.{Environment, Top, Inner, current_of}
-use Rattle.query_steps.specs.SpotMeaning.{Names, rows_of, rows_of_side, conds_verdict, body_verdict, disj_verdict, disj_verdicts, part_verdict, part_verdicts, opt_conds_verdict}
-use Rattle.query_steps.specs.SpotSteps.{passes, rows_of_type}
-use Rattle.query_steps.specs.SpotTurns.{names_by, rule_by, rule_verdict, loose_verdict}
-use Rattle.query_steps.specs.SpotVerdicts.{block_row, set_verdict, test_verdict}
-use Rattle.query_steps.specs.Spots.{Spot, SpotRow, Found, World, root_spot}
-use Rattle.query_steps.specs.Verdicts.{conjunction, disjunction, is_pass, block_verdict, guarded_by, referred, exchanged}
+use Rattle.rule_names.specs.Depths.{depth_limit}
+use Rattle.rule_meaning.specs.SetTests.{is_empty_test, is_set}
+use Rattle.rule_meaning.specs.SpotEnvironments.{Environment, Top, Inner, current_of}
+use Rattle.rule_meaning.specs.SpotMeaning.{Names, rows_of, rows_of_side, conds_verdict, body_verdict, disj_verdict, disj_verdicts, part_verdict, part_verdicts, opt_conds_verdict}
+use Rattle.rule_meaning.specs.SpotSteps.{passes, rows_of_type}
+use Rattle.rule_meaning.specs.SpotTurns.{names_by, rule_by, rule_verdict, loose_verdict}
+use Rattle.rule_meaning.specs.SpotVerdicts.{block_row, set_verdict, test_verdict}
+use Rattle.rule_meaning.specs.Spots.{Spot, SpotRow, Found, World, root_spot}
+use Rattle.rule_meaning.specs.Verdicts.{conjunction, disjunction, is_pass, block_verdict, guarded_by, referred, exchanged}
 use Rattle.plain_evaluator.specs.States.{State, see}
 use Rattle.plain_evaluator.proofs.Placed.{disj-seen, body-seen, conds-seen, block-seen, when-seen, kinds-seen, test-seen, refer-seen, call-seen}
 

@@ -1,6 +1,6 @@
 -- The trees of an answer and its rows, kept one after another.
-use Rattle.std.proofs.Common.{◌≡◌, ℕ, suc, ◌+◌, ◌≤◌, Bool, true, false, ◌&&◌, List, [], ◌∷◌, ◌++◌, length, map, Some, None, refl, sym, ap, ap₂, ◌∙◌, arith, nat_le, if◌then◌else◌, append_assoc, length-append}
-use Rattle.std.specs.Prelude.{◌==◌, not, OnOk, OnErr}
+use Rattle.std.proofs.Common.{◌≡◌, ℕ, suc, ◌+◌, ◌≤◌, Bool, true, false, List, [], ◌∷◌, ◌++◌, length, map, None, refl, sym, ap, ap₂, ◌∙◌, arith, nat_le, if◌then◌else◌, length-append}
+use Rattle.std.specs.Prelude.{not, OnOk, OnErr}
 use Rattle.std.specs.List.{list_all}
 use Rattle.std.specs.Iterator.{Yields}
 use Rattle.std.specs.Vec.Iter.{into_iter_items, into_iter_steps}
@@ -19,58 +19,16 @@ use Rattle.guard_syntax.specs.declared.row.Origin.TheVariants as origin
 use Rattle.guard_syntax.specs.declared.row.Row.{Row}
 use Rattle.guard_syntax.specs.declared.row.Row.TheVariants as row
 use Rattle.guard_syntax.specs.Seen.{see_file}
-use Rattle.value_compare.specs.Values.{has_pattern}
-use Rattle.value_compare.specs.Functions.{MadeRow, New, Kept}
-use Rattle.value_compare.specs.Known.{Known, Made, is_known, made_at}
+use Rattle.rule_meaning.specs.Values.{has_pattern}
+use Rattle.rule_meaning.specs.Functions.{MadeRow, New, Kept}
+use Rattle.rule_meaning.specs.Known.{Known, Made, is_known, made_at}
 use Rattle.value_compare.specs.Stores.{see_store}
 use Rattle.value_compare.specs.declared.store.Store.{Store}
-use Rattle.query_steps.specs.Seeing.{are_called, grown, is_known_answer, rows_kept, see_answer, see_row, trees_kept}
-use Rattle.query_steps.specs.Spots.{answered_row}
-use Rattle.query_steps.proofs.SeenAnswers.{answer-known, answer-seen, answer-called}
+use Rattle.rule_meaning.specs.Seeing.{are_called, grown, is_known_answer, rows_kept, see_answer, see_row, trees_kept}
+use Rattle.rule_meaning.specs.Spots.{answered_row}
+use Rattle.query_steps.proofs.SeenAnswers.{answer-known, answer-seen, answer-called, next-free}
+use Rattle.query_steps.proofs.RowsKept.{rows-more, trees-more, rows-many, absent-behind, absent-later, grown-more, added}
 use Rattle.plain_evaluator.specs.States.{Grows, State, see}
-
--- ---- one row more
-
-rows-more : (line at end : ℕ) (xs ys : List MadeRow) → end ≡ at + length xs → rows_kept line at (xs ++ ys) ≡ rows_kept line at xs ++ rows_kept line end ys
-rows-more line at end [] ys is = let here : at ≡ end = omega arith in ap (λ n. rows_kept line n ys) here
-rows-more line at end (New tree ∷ xs) ys is =
-    ap (λ (rows : List Row). row.Found (record { origin = origin.Made line at; node = 0; key = false }) ∷ rows) (rows-more line (suc at) end xs ys (omega arith))
-rows-more line at end (Kept r ∷ xs) ys is = ap (λ (rows : List Row). r ∷ rows) (rows-more line (suc at) end xs ys (omega arith))
-
-trees-more : (line at end : ℕ) (xs ys : List MadeRow) → end ≡ at + length xs → trees_kept line at (xs ++ ys) ≡ trees_kept line at xs ++ trees_kept line end ys
-trees-more line at end [] ys is = let here : at ≡ end = omega arith in ap (λ n. trees_kept line n ys) here
-trees-more line at end (New tree ∷ xs) ys is = ap (λ (trees : List Made). record { line = line; row = at; tree = tree } ∷ trees) (trees-more line (suc at) end xs ys (omega arith))
-trees-more line at end (Kept r ∷ xs) ys is = trees-more line (suc at) end xs ys (omega arith)
-
-rows-many : (line at : ℕ) (xs : List MadeRow) → length (rows_kept line at xs) ≡ length xs
-rows-many line at [] = refl
-rows-many line at (New tree ∷ xs) = ap suc (rows-many line (suc at) xs)
-rows-many line at (Kept r ∷ xs) = ap suc (rows-many line (suc at) xs)
-
--- ---- a place that has no tree
-
-absent-behind : (xs ys : List Made) (line at : ℕ) → made_at xs line at ≡ None → made_at ys line at ≡ None → made_at (xs ++ ys) line at ≡ None
-absent-behind [] ys line at none more = more
-absent-behind (m ∷ xs) ys line at none more = by (m.line == line && m.row == at) none (λ is. absent-behind xs ys line at is more)
-  where
-    by : (b : Bool) → (if b then Some m.tree else made_at xs line at) ≡ None → (made_at xs line at ≡ None → made_at (xs ++ ys) line at ≡ None)
-        → (if b then Some m.tree else made_at (xs ++ ys) line at) ≡ None
-    by true is rest = absurd cc
-    by false is rest = rest is
-
-absent-next : (calls : List ℕ) (made : List Made) (at : ℕ) → are_called calls made ≡ true → made_at made (suc (length calls)) at ≡ None
-absent-next calls [] at called = refl
-absent-next calls (m ∷ made) at called =
-    let both : (nat_le m.line (length calls) ≡ true) × (are_called calls made ≡ true) = and_parts _ _ called in
-    let other : (m.line == suc (length calls)) ≡ false = let e = both.0 in grind (arith, nat_tests, e) in
-    ap (λ (b : Bool). if b && m.row == at then Some m.tree else made_at made (suc (length calls)) at) other ∙ absent-next calls made at both.1
-
-absent-later : (line at k : ℕ) (xs : List MadeRow) → at + length xs ≤ k → made_at (trees_kept line at xs) line k ≡ None
-absent-later line at k [] less = refl
-absent-later line at k (New tree ∷ xs) less =
-    let other : (line == line && at == k) ≡ false = grind (arith, nat_tests) in
-    ap (λ (b : Bool). if b then Some tree else made_at (trees_kept line (suc at) xs) line k) other ∙ absent-later line (suc at) k xs (omega arith)
-absent-later line at k (Kept r ∷ xs) less = absent-later line (suc at) k xs (omega arith)
 
 -- ---- what was kept so far of an answer
 
@@ -88,16 +46,6 @@ kept-none s calls calls_now call line rows more at none =
     let many : line ≡ suc (length calls) = at ∙ ap length more ∙ simp length-append (omega arith) in
     record { at = many; called = more; store = grown-none (see_store s); rows = none }
 
--- a store with one tree more
-added : (before now : Store) (m : Made) → now.doc.now ≡ before.doc.now → now.file.now ≡ before.file.now → now.made ≡ before.made ++ m ∷ [] → see_store now ≡ grown (see_store before) (m ∷ [])
-added before now m doc file made =
-    ap (λ (d : Forest). record { template = d; file = see_file now.file.now.raw; made = now.made }) doc
-    ∙ ap (λ f. record { template = before.doc.now; file = see_file f.raw; made = now.made }) file
-    ∙ ap (λ (ms : List Made). record { template = before.doc.now; file = see_file before.file.now.raw; made = ms }) made
-
-grown-more : (k : Known) (some more : List Made) → grown (grown k some) more ≡ grown k (some ++ more)
-grown-more k some more = ap (λ (made : List Made). record { template = k.template; file = k.file; made = made }) (append_assoc k.made some more)
-
 module _ (before now : Store) (calls calls_now : List ℕ) (call line : ℕ) (taken : List types.Made) (rows : List Row) (so : KeptSoFar before now calls calls_now call line taken rows) where
   abbrev seen : List MadeRow
   seen = map see_made taken
@@ -109,7 +57,7 @@ module _ (before now : Store) (calls calls_now : List ℕ) (call line : ℕ) (ta
   place-free n is all =
       let many : 0 + length seen ≤ n = omega (arith, is, rows-so-far) in
       ap (λ (k : Known). made_at k.made line n) so.store
-      ∙ absent-behind before.made (trees_kept line 0 seen) line n (ap (λ (l : ℕ). made_at before.made l n) so.at ∙ absent-next calls before.made n all) (absent-later line 0 n seen many)
+      ∙ absent-behind before.made (trees_kept line 0 seen) line n (ap (λ (l : ℕ). made_at before.made l n) so.at ∙ next-free calls before.made n all) (absent-later line 0 n seen many)
 
   pub kept-tree : (after : Store) (tree : Forest) (n : ℕ) (m : types.Made) (given : List Row) → m ≡ code.Tree tree → n ≡ length rows
       → after.doc.now ≡ now.doc.now → after.file.now ≡ now.file.now → after.made ≡ now.made ++ record { line = line; row = n; tree = tree } ∷ []

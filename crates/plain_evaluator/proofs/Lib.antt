@@ -2,7 +2,6 @@ mod Appended
 mod CalledRows
 mod Conjoined
 mod Failing
-mod FittingCalls
 mod GivenRows
 pub mod Growing
 mod GrowingEntries
@@ -15,7 +14,6 @@ mod Placed
 mod Ranks
 mod RowsInTurn
 mod Scopes
-mod SoughtTexts
 mod Standing
 mod StepsWithin
 mod TestedEntries

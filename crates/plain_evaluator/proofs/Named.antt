@@ -13,24 +13,24 @@ use Rattle.guard_syntax.specs.declared.syntax.Rule.{Rule}
 use Rattle.guard_syntax.specs.declared.row.Ref.{Ref}
 use Rattle.guard_syntax.specs.declared.row.Verdict.{Verdict}
 use Rattle.guard_syntax.specs.declared.row.Verdict.TheVariants.{Skip}
-use Rattle.name_table.specs.declared.bind.Bind.{Bind}
-use Rattle.name_table.specs.declared.piece.Piece as shape
-use Rattle.name_table.specs.declared.piece.Piece.TheVariants as code
-use Rattle.name_table.specs.Seen.{see_piece}
-use Rattle.name_table.specs.Depths.{first_of_query, first_steps}
-use Rattle.name_table.specs.Links.{bind_of, target_of}
-use Rattle.name_table.specs.Pieces.{Piece, OfFile, OfLet, OfRule, OfBody, OfConds, OfDisj, OfPart, OfQuery, OfStep, OfExpr, piece_at, pieces_rule, pieces_expr, pieces_exprs, pieces_query, pieces_body, pieces_file}
-use Rattle.name_table.specs.Uses.{expr_in}
-use Rattle.name_table.specs.Within.{IsAmong, StandsIn}
-use Rattle.name_table.proofs.Among.{IsAmong-inner, IsAmong-first, IsAmong-last}
-use Rattle.name_table.proofs.PiecesStand.{piece-stands}
-use Rattle.value_compare.specs.Known.{Known}
-use Rattle.query_steps.specs.Environments as scopes
-use Rattle.query_steps.specs.SpotEnvironments.{Environment, Called, current_of}
-use Rattle.query_steps.specs.SpotSteps.{captured_row}
-use Rattle.query_steps.specs.SpotMeaning.{Names, rows_of, rows_of_expr, rows_from, body_verdict}
-use Rattle.query_steps.specs.SpotTurns.{names_by, turn, value_rows, captured_rows, rule_by, target_verdict, target_called, piece_verdict, piece_called, bound_rows, parameter_rows, argument_rows}
-use Rattle.query_steps.specs.Spots.{Found, SpotRow, World}
+use Rattle.rule_names.specs.declared.bind.Bind.{Bind}
+use Rattle.rule_names.specs.declared.piece.Piece as shape
+use Rattle.rule_names.specs.declared.piece.Piece.TheVariants as code
+use Rattle.rule_names.specs.Seen.{see_piece}
+use Rattle.rule_names.specs.Depths.{first_of_query, first_steps}
+use Rattle.rule_names.specs.Links.{bind_of, target_of}
+use Rattle.rule_names.specs.Pieces.{Piece, OfFile, OfLet, OfRule, OfBody, OfConds, OfDisj, OfPart, OfQuery, OfStep, OfExpr, piece_at, pieces_rule, pieces_expr, pieces_exprs, pieces_query, pieces_body, pieces_file}
+use Rattle.rule_names.specs.Uses.{expr_in}
+use Rattle.rule_names.specs.Within.{IsAmong, StandsIn}
+use Rattle.rule_names.proofs.Among.{IsAmong-inner, IsAmong-first, IsAmong-last}
+use Rattle.rule_names.proofs.PiecesStand.{piece-stands}
+use Rattle.rule_meaning.specs.Known.{Known}
+use Rattle.rule_meaning.specs.Environments as scopes
+use Rattle.rule_meaning.specs.SpotEnvironments.{Environment, Called, current_of}
+use Rattle.rule_meaning.specs.SpotSteps.{captured_row}
+use Rattle.rule_meaning.specs.SpotMeaning.{Names, rows_of, rows_of_expr, rows_from, body_verdict}
+use Rattle.rule_meaning.specs.SpotTurns.{names_by, turn, value_rows, captured_rows, rule_by, target_verdict, target_called, piece_verdict, piece_called, bound_rows, parameter_rows, argument_rows}
+use Rattle.rule_meaning.specs.Spots.{Found, SpotRow, World}
 use Rattle.plain_evaluator.specs.declared.environment.Env.{Env}
 use Rattle.plain_evaluator.specs.declared.environment.Env as env
 use Rattle.plain_evaluator.specs.Seen.{see_env}

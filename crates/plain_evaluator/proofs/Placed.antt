@@ -19,11 +19,11 @@ use Rattle.doc_values.specs.Tree.{Forest}
 use Rattle.guard_syntax.specs.Seen.{see_rule, see_step, see_form, see_disj, see_let, see_body, see_conds, see_opt_conds, see_part, see_query, see_expr, see_opt_expr, step_list, disj_list, let_list, part_list, expr_list}
 use Rattle.std.specs.declared.vec.Vec.{Vec}
 use Rattle.std.specs.declared.alloc.Global.{Global}
-use Rattle.name_table.specs.Pieces.{Sited, OfStep, OfExpr, pieces_rule, pieces_body, pieces_lets, pieces_conds, pieces_opt_conds, pieces_disjs, pieces_disj, pieces_parts, pieces_part, pieces_query, pieces_steps, pieces_step, pieces_expr, pieces_exprs, pieces_opt_expr}
-use Rattle.name_table.specs.Forms.{pieces_form}
-use Rattle.name_table.proofs.Shapes.{form-shaped}
-use Rattle.name_table.specs.Within.{IsAmong, StandsIn}
-use Rattle.name_table.proofs.Among.{IsAmong-inner, IsAmong-last, IsAmong-first}
+use Rattle.rule_names.specs.Pieces.{Sited, OfStep, OfExpr, pieces_rule, pieces_body, pieces_lets, pieces_conds, pieces_opt_conds, pieces_disjs, pieces_disj, pieces_parts, pieces_part, pieces_query, pieces_steps, pieces_step, pieces_expr, pieces_exprs, pieces_opt_expr}
+use Rattle.rule_names.specs.Forms.{pieces_form}
+use Rattle.rule_names.proofs.Shapes.{form-shaped}
+use Rattle.rule_names.specs.Within.{IsAmong, StandsIn}
+use Rattle.rule_names.proofs.Among.{IsAmong-inner, IsAmong-last, IsAmong-first}
 use Rattle.plain_evaluator.proofs.Ranks.{IsPart, part-behind, part-inner}
 
 -- The syntax of each type, by one layer.

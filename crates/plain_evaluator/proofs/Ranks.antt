@@ -2,9 +2,9 @@
 use Rattle.std.proofs.Common.{◌≡◌, ℕ, suc, ◌+◌, ◌*◌, ◌-◌, ◌<◌, ◌≤◌, ap, sym, subst, ◌∙◌, arith, List, [], ◌∷◌, ◌++◌, length}
 use Rattle.std.proofs.lemmas.List.{length-append}
 use Rattle.guard_syntax.specs.Syntax.{File}
-use Rattle.name_table.specs.Pieces.{Sited, pieces_file}
-use Rattle.name_table.specs.Within.{IsAmong, StandsIn}
-use Rattle.name_table.proofs.Among.{IsAmong-inner, IsAmong-first, IsAmong-last, IsAmong-behind}
+use Rattle.rule_names.specs.Pieces.{Sited, pieces_file}
+use Rattle.rule_names.specs.Within.{IsAmong, StandsIn}
+use Rattle.rule_names.proofs.Among.{IsAmong-inner, IsAmong-first, IsAmong-last, IsAmong-behind}
 
 -- a part of a part: its pieces stand among those of it, and are fewer
 abbrev pub IsPart : List Sited → List Sited → Type 0

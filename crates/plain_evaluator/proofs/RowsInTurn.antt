@@ -1,5 +1,5 @@
 -- The rows of queries and expressions, step by step.
-use Rattle.std.proofs.Common.{◌≡◌, ℕ, suc, zero, ◌+◌, ◌<◌, ◌≤◌, Bool, true, false, refl, ap, ap₂, sym, ◌∙◌, subst, arith, rules, List, [], ◌∷◌, length, get_or, map, drop, take, filter, Option, Some, None, nat_eq, nat_lt, ◌&&◌, ◌||◌, ◌-◌, if◌then◌else◌, add-one}
+use Rattle.std.proofs.Common.{◌≡◌, ℕ, suc, zero, ◌+◌, ◌<◌, ◌≤◌, Bool, true, false, refl, ap, ap₂, sym, ◌∙◌, subst, arith, rules, List, [], ◌∷◌, length, get_or, map, drop, take, filter, Option, Some, None, nat_eq, nat_lt, ◌&&◌, if◌then◌else◌, add-one}
 use Rattle.std.proofs.Math.Seq.{drop-cons}
 use Rattle.std.proofs.lemmas.List.{drop_all, take_all}
 use Rattle.std.proofs.lemmas.Bool.Decides.{nat_tests}
@@ -21,15 +21,14 @@ use Rattle.guard_syntax.specs.declared.row.Ref.{Ref}
 use Rattle.guard_syntax.specs.declared.row.Row.{Row}
 use Rattle.guard_syntax.specs.declared.row.Row.TheVariants as row
 use Rattle.guard_syntax.specs.Seen.{Form, see_step, see_form, see_query, see_expr, see_opt_expr, step_list, expr_list}
-use Rattle.name_table.specs.Uses.{function_named}
-use Rattle.value_compare.specs.Known.{Known, is_known, is_known_ref, literal_at}
-use Rattle.query_steps.specs.Places.{are_no_steps, is_key}
-use Rattle.query_steps.specs.Roots.{literal_ref, root_ref}
-use Rattle.query_steps.specs.SetTests.{is_lone_variable, ends_filtering, is_filtering, is_set}
-use Rattle.query_steps.specs.SpotEnvironments.{Environment, current_of}
-use Rattle.query_steps.specs.SpotMeaning.{Names, answered, rows_of, rows_from, rows_at, rows_of_args, rows_of_expr, rows_of_side}
-use Rattle.query_steps.specs.SpotSteps.{found_step, on_found, passed_at}
-use Rattle.query_steps.specs.Spots.{Found, Spot, SpotRow, World, is_found, literal_spot}
+use Rattle.rule_names.specs.Uses.{function_named}
+use Rattle.rule_meaning.specs.Known.{Known, is_known, is_known_ref, literal_at}
+use Rattle.rule_meaning.specs.Places.{are_no_steps, is_key}
+use Rattle.rule_meaning.specs.Roots.{literal_ref, root_ref}
+use Rattle.rule_meaning.specs.SpotEnvironments.{Environment, current_of}
+use Rattle.rule_meaning.specs.SpotMeaning.{Names, answered, rows_of, rows_from, rows_at, rows_of_args, rows_of_expr, rows_of_side}
+use Rattle.rule_meaning.specs.SpotSteps.{found_step, on_found, passed_at}
+use Rattle.rule_meaning.specs.Spots.{Found, Spot, SpotRow, World, is_found, literal_spot}
 use Rattle.plain_evaluator.proofs.Placed.{query-seen, step-seen, var-seen, splice-seen, filter-seen, keys-seen, literal-seen, asked-seen, found-seen, function-seen}
 use Rattle.plain_evaluator.proofs.Conjoined.{both-true}
 use Rattle.plain_evaluator.proofs.Judged.{of_conds}
@@ -213,36 +212,3 @@ side-rows w names env side x rows is e = e ∙ sym (ap (λ (o : Option Expr). ro
 
 pub no-side-rows : (w : World) (names : Names) (env : Environment) (side : Option Expr) (rows : List SpotRow) → side ≡ None → rows ≡ [] → rows ≡ rows_of_side w names env (see_opt_expr side)
 no-side-rows w names env side rows is e = e ∙ sym (ap (λ (o : Option Expr). rows_of_side w names env (see_opt_expr o)) is)
-
--- Sets.
-
-lone-more : (x y : sx.Step) (ss : sx.Steps) → is_lone_variable (sx.more_steps x (sx.more_steps y ss)) ≡ false
-lone-more (sx.this n) y ss = refl
-lone-more (sx.var n name) y ss = refl
-lone-more (sx.key n name) y ss = refl
-lone-more (sx.index n i) y ss = refl
-lone-more (sx.every n) y ss = refl
-lone-more (sx.items n) y ss = refl
-lone-more (sx.splice n name) y ss = refl
-lone-more (sx.filter n capture c) y ss = refl
-lone-more (sx.keys n capture op negated e) y ss = refl
-
-ends-last : (s : Step) (ss : List Step) (i : ℕ) (x : Step) → i ≡ length ss → x ≡ get_or (s ∷ ss) i x → is_filtering (see_step x) ≡ ends_filtering (step_list (map see_step (s ∷ ss)))
-ends-last s [] zero x at is = ap (λ y. is_filtering (see_step y)) is
-ends-last s [] (suc i) x at is = absurd (omega (arith, at))
-ends-last s (r ∷ ss) zero x at is = absurd (omega (arith, at))
-ends-last s (r ∷ ss) (suc i) x at is = ends-last r ss i x (omega (arith, at)) is
-
-steps-set : (ss : List Step) (x : Step) (set : Bool) → 2 ≤ length ss → x ≡ get_or ss (length ss - 1) x → set ≡ is_filtering (see_step x)
-    → set ≡ (is_lone_variable (step_list (map see_step ss)) || ends_filtering (step_list (map see_step ss)))
-steps-set [] x set more is e = absurd (omega arith)
-steps-set (s ∷ []) x set more is e = absurd (omega arith)
-steps-set (s ∷ r ∷ ss) x set more is e =
-    let at : suc (length ss) ≡ length (s ∷ r ∷ ss) - 1 = omega arith in
-    let there : x ≡ get_or (s ∷ r ∷ ss) (suc (length ss)) x = rw at is in
-    e ∙ ends-last s (r ∷ ss) (suc (length ss)) x refl there
-    ∙ ap (λ b. b || ends_filtering (step_list (map see_step (s ∷ r ∷ ss)))) (sym (lone-more (see_step s) (see_step r) (step_list (map see_step ss))))
-
-pub set-by-last : (q : Query) (ss : List Step) (x : Step) (set : Bool) → ss ≡ (out-Query q).steps.items → 2 ≤ length ss → x ≡ get_or ss (length ss - 1) x → set ≡ is_filtering (see_step x) → set ≡ is_set (see_query q)
-set-by-last q ss x set are more is e =
-    steps-set ss x set more is e ∙ ap (λ (xs : List Step). is_lone_variable (step_list (map see_step xs)) || ends_filtering (step_list (map see_step xs))) are ∙ sym (ap is_set (query-seen q))

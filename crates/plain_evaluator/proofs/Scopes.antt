@@ -3,11 +3,11 @@ use Rattle.std.proofs.Common.{◌≡◌, ℕ, suc, zero, true, rules, refl, sym,
 use Rattle.guard_syntax.specs.Seen.{see_expr, expr_list}
 use Rattle.guard_syntax.specs.declared.row.Ref.{Ref}
 use Rattle.guard_syntax.specs.declared.syntax.Expr.{Expr}
-use Rattle.name_table.specs.Pieces.{pieces_exprs}
-use Rattle.name_table.specs.Within.{StandsIn}
-use Rattle.value_compare.specs.Known.{Known, is_known_ref}
-use Rattle.query_steps.specs.Environments.{Environment, Top, Inner, Called, current_of, outer_of, outwards}
-use Rattle.query_steps.specs.Roots.{root_ref}
+use Rattle.rule_names.specs.Pieces.{pieces_exprs}
+use Rattle.rule_names.specs.Within.{StandsIn}
+use Rattle.rule_meaning.specs.Known.{Known, is_known_ref}
+use Rattle.rule_meaning.specs.Environments.{Environment, Top, Inner, Called, current_of, outer_of, outwards}
+use Rattle.rule_meaning.specs.Roots.{root_ref}
 use Rattle.plain_evaluator.specs.declared.environment.Env.{Env, the_lemmas}
 use Rattle.plain_evaluator.specs.declared.environment.Env as env
 use Rattle.plain_evaluator.specs.Seen.{see_env}

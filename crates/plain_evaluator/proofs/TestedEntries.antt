@@ -3,11 +3,11 @@ use Rattle.std.proofs.Common.{◌≡◌, ℕ, Bool, List, [], ◌∷◌, ◌++�
 use Rattle.std.specs.List.{flat_map}
 use Rattle.guard_syntax.specs.declared.row.Row.{Row}
 use Rattle.guard_syntax.specs.declared.syntax.Op.{Op}
-use Rattle.query_steps.specs.Fails as fails
-use Rattle.query_steps.specs.Keys.{passes}
-use Rattle.query_steps.specs.Seeing.{world_of}
-use Rattle.query_steps.specs.SpotSteps as spot
-use Rattle.query_steps.specs.Spots.{Answers}
+use Rattle.rule_meaning.specs.Fails as fails
+use Rattle.rule_meaning.specs.Keys.{passes}
+use Rattle.rule_meaning.specs.Seeing.{world_of}
+use Rattle.rule_meaning.specs.SpotSteps as spot
+use Rattle.rule_meaning.specs.Spots.{Answers}
 use Rattle.query_steps.proofs.SeenSteps.{passes-seen}
 use Rattle.plain_evaluator.specs.States.{State, see}
 

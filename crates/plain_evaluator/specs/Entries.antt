@@ -1,6 +1,6 @@
 -- Entries as the meaning of rules has them, by what is known.
 use Rattle.std.specs.Prelude.{List, All, map}
-use Rattle.query_steps.specs.Fails as fails
+use Rattle.rule_meaning.specs.Fails as fails
 use Rattle.report_text.specs.SeenEntries.{IsShowable, see_entry}
 use Rattle.report_text.specs.declared.entry.Entry.{Entry}
 use Rattle.plain_evaluator.specs.States.{State}

@@ -1,8 +1,8 @@
 -- The rules that references and calls name.
 use Rattle.std.specs.Prelude.{ℕ, Option, Some, None, option_and_then}
 use Rattle.guard_syntax.specs.Syntax.{Rule, File}
-use Rattle.name_table.specs.Links.{target_of}
-use Rattle.name_table.specs.Pieces.{Piece, OfRule, piece_at}
+use Rattle.rule_names.specs.Links.{target_of}
+use Rattle.rule_names.specs.Pieces.{Piece, OfRule, piece_at}
 
 abbrev pub rule_of_piece : Piece → Option Rule
 rule_of_piece (OfRule r) = Some r

@@ -1,10 +1,10 @@
 -- What holds of each environment in which a part of a file is evaluated.
 use Rattle.std.specs.Prelude.{◌≡◌, true}
-use Rattle.name_table.specs.Pieces.{pieces_exprs}
-use Rattle.name_table.specs.Within.{StandsIn}
-use Rattle.value_compare.specs.Known.{Known, is_known_ref}
-use Rattle.query_steps.specs.Environments.{Environment, Top, Inner, Called}
-use Rattle.query_steps.specs.Roots.{root_ref}
+use Rattle.rule_names.specs.Pieces.{pieces_exprs}
+use Rattle.rule_names.specs.Within.{StandsIn}
+use Rattle.rule_meaning.specs.Known.{Known, is_known_ref}
+use Rattle.rule_meaning.specs.Environments.{Environment, Top, Inner, Called}
+use Rattle.rule_meaning.specs.Roots.{root_ref}
 
 -- each current value is known, and the arguments of a called body stand in the file
 abbrev pub IsSound : Known → Environment → Type 0

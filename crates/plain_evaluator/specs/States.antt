@@ -3,13 +3,13 @@ use Rattle.std.specs.Prelude.{ℕ, ◌≡◌, Bool, List, ◌++◌, map}
 use Rattle.std.specs.List.{list_all}
 use Rattle.guard_syntax.specs.declared.row.Ref.{Ref}
 use Rattle.guard_syntax.specs.declared.row.Row.{Row}
-use Rattle.value_compare.specs.Known.{Known, Made, is_known}
+use Rattle.rule_meaning.specs.Known.{Known, Made, is_known}
 use Rattle.value_compare.specs.Stores.{see_store}
-use Rattle.query_steps.specs.Environments as scopes
-use Rattle.query_steps.specs.Seeing.{see_spot, see_row, see_environment, grown, world_of}
-use Rattle.query_steps.specs.SpotEnvironments.{Environment}
-use Rattle.query_steps.specs.SpotFunctions.{IsAnswering}
-use Rattle.query_steps.specs.Spots.{Answers, Spot, SpotRow, World}
+use Rattle.rule_meaning.specs.Environments as scopes
+use Rattle.rule_meaning.specs.Seeing.{see_spot, see_row, see_environment, grown, world_of}
+use Rattle.rule_meaning.specs.SpotEnvironments.{Environment}
+use Rattle.rule_meaning.specs.SpotFunctions.{IsAnswering}
+use Rattle.rule_meaning.specs.Spots.{Answers, Spot, SpotRow, World}
 use Rattle.plain_evaluator.specs.declared.trees.Trees.{Trees}
 use Rattle.std.specs.declared.alloc.Global.{Global}
 use Rattle.std.specs.declared.vec.Vec.{Vec}

@@ -2,10 +2,10 @@
 ghost use Rattle.std.specs.Prelude.{◌≡◌, ◌++◌, [], ◌∷◌, true, map, OnOk};
 ghost use Rattle.std.specs.List.{flat_map, list_all};
 ghost use Rattle.value_compare.specs.Books.{IsBookOf};
-ghost use Rattle.value_compare.specs.Known.{is_known, is_known_ref};
-ghost use Rattle.query_steps.specs.Fails as fails;
-ghost use Rattle.query_steps.specs.Seeing.{call_at};
-ghost use Rattle.query_steps.specs.SpotSteps as steps;
+ghost use Rattle.rule_meaning.specs.Known.{is_known, is_known_ref};
+ghost use Rattle.rule_meaning.specs.Fails as fails;
+ghost use Rattle.rule_meaning.specs.Seeing.{call_at};
+ghost use Rattle.rule_meaning.specs.SpotSteps as steps;
 ghost use Rattle.report_text.specs.SeenEntries.{IsShowable, see_shown, see_word};
 ghost use Rattle.plain_evaluator.specs.Entries.{AreShowable, see_entries};
 ghost use Rattle.plain_evaluator.specs.States.{Answering, see, see_spot_in, see_trees};

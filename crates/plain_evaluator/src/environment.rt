@@ -1,7 +1,7 @@
 //! The scopes around a part, each with its current value.
 ghost use Rattle.std.specs.Prelude.{◌≡◌};
-ghost use Rattle.query_steps.specs.Environments as scopes;
-ghost use Rattle.query_steps.specs.Roots.{root_ref};
+ghost use Rattle.rule_meaning.specs.Environments as scopes;
+ghost use Rattle.rule_meaning.specs.Roots.{root_ref};
 ghost use Rattle.plain_evaluator.specs.Seen.{see_env};
 
 use guard_syntax::{Expr, Origin, Ref};

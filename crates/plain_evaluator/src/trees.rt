@@ -1,6 +1,6 @@
 //! The trees that references point into while rules are evaluated.
 ghost use Rattle.std.specs.Prelude.{◌≡◌, [], true};
-ghost use Rattle.query_steps.specs.Seeing.{are_called};
+ghost use Rattle.rule_meaning.specs.Seeing.{are_called};
 
 use std::alloc::Global;
 use value_compare::Store;

@@ -7,10 +7,10 @@ use Rattle.guard_syntax.specs.declared.row.Ref.{Ref}
 use Rattle.guard_syntax.specs.declared.row.Row.{Row}
 use Rattle.guard_syntax.specs.declared.row.Row.TheVariants.{Found, Missing, Unmade}
 use Rattle.guard_syntax.specs.declared.row.Verdict.{Verdict}
-use Rattle.value_compare.specs.Known.{Known}
-use Rattle.query_steps.specs.Filters.{candidates_of, candidates_in, kept, filtered}
-use Rattle.query_steps.specs.Steps.{on_found}
-use Rattle.query_steps.specs.Verdicts.{is_pass}
+use Rattle.rule_meaning.specs.Known.{Known}
+use Rattle.rule_meaning.specs.Filters.{candidates_of, candidates_in, kept, filtered}
+use Rattle.rule_meaning.specs.Steps.{on_found}
+use Rattle.rule_meaning.specs.Verdicts.{is_pass}
 
 -- the candidates of a value that a judge lets pass
 abbrev pub passed_at : Known → (after_key : Bool) → (Ref → Verdict) → Ref → List Row

@@ -10,9 +10,9 @@ use Rattle.guard_syntax.specs.declared.row.Ref.{Ref}
 use Rattle.guard_syntax.specs.declared.row.Row.{Row}
 use Rattle.guard_syntax.specs.declared.row.Row.TheVariants.{Found, Missing, Unmade}
 use Rattle.guard_syntax.specs.declared.row.Verdict.{Verdict}
-use Rattle.value_compare.specs.Known.{Known, is_known, is_known_ref}
-use Rattle.query_steps.specs.Filters.{candidates_of, row_candidates, candidates_in, kept, filtered}
-use Rattle.query_steps.specs.Verdicts.{is_found, is_pass}
+use Rattle.rule_meaning.specs.Known.{Known, is_known, is_known_ref}
+use Rattle.rule_meaning.specs.Filters.{candidates_of, row_candidates, candidates_in, kept, filtered}
+use Rattle.rule_meaning.specs.Verdicts.{is_found, is_pass}
 use Rattle.query_steps.proofs.KnownRows.{filter-all}
 
 -- what is kept, as the candidates beside their verdicts are told apart

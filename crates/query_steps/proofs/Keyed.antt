@@ -7,10 +7,10 @@ use Rattle.doc_values.specs.Tree.{Forest, Nil, Node, AreValues, IsKeyed, IsTree,
 use Rattle.doc_values.specs.Places.{find, first_label, first_kids, kids_at, label_at}
 use Rattle.doc_values.proofs.Among.{find_in, find_past}
 use Rattle.guard_syntax.specs.declared.row.Ref.{Ref}
-use Rattle.value_compare.specs.Known.{Known, is_known_ref, tree_of}
-use Rattle.value_compare.specs.Values.{Value, value_at}
+use Rattle.rule_meaning.specs.Known.{Known, is_known_ref, tree_of}
+use Rattle.rule_meaning.specs.Values.{Value, value_at}
 use Rattle.value_compare.proofs.Nodes.{below, size_in}
-use Rattle.query_steps.specs.Reached.{key_of, node_beside, numbers, value_for}
+use Rattle.rule_meaning.specs.Reached.{key_of, node_beside, numbers, value_for}
 
 -- each of the values side by side has a key
 all_keyed : Forest → Bool

@@ -7,10 +7,10 @@ use Rattle.std.proofs.lemmas.Bool.Decides.{nat_tests}
 use Rattle.doc_values.specs.Tree.{Forest, Nil, Node, size, count}
 use Rattle.doc_values.specs.Places.{child_place, kids_at, label_at}
 use Rattle.guard_syntax.specs.declared.row.Ref.{Ref}
-use Rattle.value_compare.specs.Known.{Known, is_known_ref, tree_of, value_in, value_or_key}
-use Rattle.value_compare.specs.Values.{Value, value_at, value_of_key}
+use Rattle.rule_meaning.specs.Known.{Known, is_known_ref, tree_of, value_in, value_or_key}
+use Rattle.rule_meaning.specs.Values.{Value, value_at, value_of_key}
 use Rattle.value_compare.proofs.Nodes.{size_in}
-use Rattle.query_steps.specs.Reached.{inside, no_value, node_beside, numbers, value_for}
+use Rattle.rule_meaning.specs.Reached.{inside, no_value, node_beside, numbers, value_for}
 
 -- ---- the numbers of values side by side
 

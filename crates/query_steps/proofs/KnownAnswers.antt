@@ -9,10 +9,10 @@ use Rattle.guard_syntax.specs.declared.function.Function.{Function}
 use Rattle.guard_syntax.specs.declared.function.Function.TheVariants as function
 use Rattle.guard_syntax.specs.declared.row.Row.{Row}
 use Rattle.guard_syntax.specs.declared.row.Row.TheVariants as row
-use Rattle.value_compare.specs.Functions.{AreRows, ForText, Functions, Gives, IsGiven, IsPart, IsParsed, IsReplacement, IsRow, IsRowFor, IsUnescaped, Kept, MadeRow, New, argument, joined, lone, new_or_missing, single_text, single_whole, text_of}
-use Rattle.value_compare.specs.Known.{Known, is_known, stands_for}
-use Rattle.value_compare.specs.Values.{Value}
-use Rattle.query_steps.specs.Seeing.{is_known_answer}
+use Rattle.rule_meaning.specs.Functions.{AreRows, ForText, Functions, Gives, IsGiven, IsPart, IsParsed, IsReplacement, IsRow, IsRowFor, IsUnescaped, Kept, MadeRow, New, argument, joined, lone, new_or_missing, single_text, single_whole, text_of}
+use Rattle.rule_meaning.specs.Known.{Known, is_known, stands_for}
+use Rattle.rule_meaning.specs.Values.{Value}
+use Rattle.rule_meaning.specs.Seeing.{is_known_answer}
 
 -- ---- roots
 

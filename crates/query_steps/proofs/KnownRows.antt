@@ -13,12 +13,12 @@ use Rattle.guard_syntax.specs.declared.syntax.Op.{Op}
 use Rattle.guard_syntax.specs.declared.row.Ref.{Ref}
 use Rattle.guard_syntax.specs.declared.row.Row.{Row}
 use Rattle.guard_syntax.specs.declared.row.Row.TheVariants.{Found, Missing, Unmade}
-use Rattle.value_compare.specs.Known.{Known, is_known, is_known_ref, meant, stands_for}
-use Rattle.value_compare.specs.Values.{Value, is_list}
+use Rattle.rule_meaning.specs.Known.{Known, is_known, is_known_ref, meant, stands_for}
+use Rattle.rule_meaning.specs.Values.{Value, is_list}
 use Rattle.value_compare.proofs.Nodes.{child_least, child_most}
-use Rattle.query_steps.specs.Keys.{captured_row, keys_by, passes}
-use Rattle.query_steps.specs.Reached.{entry, inside, item, key_of, node_beside, value_for}
-use Rattle.query_steps.specs.Steps.{each_inside, every_by, found_or_missing, found_step, items_by, key_in, on_found, splice_row}
+use Rattle.rule_meaning.specs.Keys.{captured_row, keys_by, passes}
+use Rattle.rule_meaning.specs.Reached.{entry, inside, item, key_of, node_beside, value_for}
+use Rattle.rule_meaning.specs.Steps.{each_inside, every_by, found_or_missing, found_step, items_by, key_in, on_found, splice_row}
 use Rattle.query_steps.proofs.Known.{beside-known, inside-known}
 
 -- ---- lists

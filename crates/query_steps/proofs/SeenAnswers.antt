@@ -10,16 +10,16 @@ use Rattle.doc_values.specs.Tree.{Forest, Nil, size}
 use Rattle.guard_syntax.specs.declared.row.Origin.TheVariants as origin
 use Rattle.guard_syntax.specs.declared.row.Row.{Row}
 use Rattle.guard_syntax.specs.declared.row.Row.TheVariants as row
-use Rattle.value_compare.specs.Functions.{MadeRow, New, Kept}
-use Rattle.value_compare.specs.Known.{Known, Made, is_known, made_at}
-use Rattle.query_steps.specs.Seeing.{are_called, is_known_answer, grown, rows_kept, see_answer, see_row, trees_kept}
-use Rattle.query_steps.specs.Spots.{SpotRow, Found, answered_row, made_spot}
+use Rattle.rule_meaning.specs.Functions.{MadeRow, New, Kept}
+use Rattle.rule_meaning.specs.Known.{Known, Made, is_known, made_at}
+use Rattle.rule_meaning.specs.Seeing.{are_called, is_known_answer, grown, rows_kept, see_answer, see_row, trees_kept}
+use Rattle.rule_meaning.specs.Spots.{SpotRow, Found, answered_row, made_spot}
 use Rattle.query_steps.proofs.SeenGrowth.{row-before, row-known-before}
 
 -- ---- the tree at a place
 
 -- of trees none of which is there, and others
-free-behind : (before trees : List Made) (line at : ℕ) → made_at before line at ≡ None → made_at (before ++ trees) line at ≡ made_at trees line at
+pub free-behind : (before trees : List Made) (line at : ℕ) → made_at before line at ≡ None → made_at (before ++ trees) line at ≡ made_at trees line at
 free-behind [] trees line at none = refl
 free-behind (m ∷ before) trees line at none = by (m.line == line && m.row == at) none (λ is. free-behind before trees line at is)
   where
@@ -29,7 +29,7 @@ free-behind (m ∷ before) trees line at none = by (m.line == line && m.row == a
     by false is rest = rest is
 
 -- the next line has no tree
-next-free : (calls : List ℕ) (made : List Made) (at : ℕ) → are_called calls made ≡ true → made_at made (suc (length calls)) at ≡ None
+pub next-free : (calls : List ℕ) (made : List Made) (at : ℕ) → are_called calls made ≡ true → made_at made (suc (length calls)) at ≡ None
 next-free calls [] at called = refl
 next-free calls (m ∷ made) at called =
     let both : (nat_le m.line (length calls) ≡ true) × (are_called calls made ≡ true) = and_parts _ _ called in
@@ -37,12 +37,12 @@ next-free calls (m ∷ made) at called =
     ap (λ (b : Bool). if b && m.row == at then Some m.tree else made_at made (suc (length calls)) at) other ∙ next-free calls made at both.1
 
 -- the first of trees, and those behind it at later rows
-first-tree : (line at : ℕ) (tree : Forest) (trees : List Made) → made_at (record { line = line; row = at; tree = tree } ∷ trees) line at ≡ Some tree
+pub first-tree : (line at : ℕ) (tree : Forest) (trees : List Made) → made_at (record { line = line; row = at; tree = tree } ∷ trees) line at ≡ Some tree
 first-tree line at tree trees =
     let same : (line == line && at == at) ≡ true = grind (arith, nat_tests) in
     ap (λ (b : Bool). if b then Some tree else made_at trees line at) same
 
-later-tree : (line at k : ℕ) (tree : Forest) (trees : List Made) → at < k → made_at (record { line = line; row = at; tree = tree } ∷ trees) line k ≡ made_at trees line k
+pub later-tree : (line at k : ℕ) (tree : Forest) (trees : List Made) → at < k → made_at (record { line = line; row = at; tree = tree } ∷ trees) line k ≡ made_at trees line k
 later-tree line at k tree trees less =
     let other : (line == line && at == k) ≡ false = grind (arith, nat_tests) in
     ap (λ (b : Bool). if b then Some tree else made_at trees line k) other

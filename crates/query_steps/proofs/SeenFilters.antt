@@ -8,15 +8,15 @@ use Rattle.guard_syntax.specs.declared.row.Ref.{Ref}
 use Rattle.guard_syntax.specs.declared.row.Row.{Row}
 use Rattle.guard_syntax.specs.declared.row.Row.TheVariants as row
 use Rattle.guard_syntax.specs.declared.row.Verdict.{Verdict}
-use Rattle.value_compare.specs.Known.{Known}
-use Rattle.value_compare.specs.Values.{Value}
-use Rattle.query_steps.specs.Filters.{candidates_by, candidates_in, candidates_of, filtered, kept, row_candidates}
-use Rattle.query_steps.specs.Kinds.{has_type, is_name, is_type, rows_of_type, typed_in}
-use Rattle.query_steps.specs.Reached.{entry, inside, value_for}
-use Rattle.query_steps.specs.Seeing.{see_row, see_spot, world_of}
-use Rattle.query_steps.specs.SpotSteps as spot
-use Rattle.query_steps.specs.Spots.{Answers, Spot, SpotRow, Found, Missing, Unmade, World}
-use Rattle.query_steps.specs.Verdicts.{is_pass}
+use Rattle.rule_meaning.specs.Known.{Known}
+use Rattle.rule_meaning.specs.Values.{Value}
+use Rattle.rule_meaning.specs.Filters.{candidates_by, candidates_in, candidates_of, filtered, kept, row_candidates}
+use Rattle.rule_meaning.specs.Kinds.{has_type, is_name, is_type, rows_of_type, typed_in}
+use Rattle.rule_meaning.specs.Reached.{entry, inside, value_for}
+use Rattle.rule_meaning.specs.Seeing.{see_row, see_spot, world_of}
+use Rattle.rule_meaning.specs.SpotSteps as spot
+use Rattle.rule_meaning.specs.Spots.{Answers, Spot, SpotRow, Found, Missing, Unmade, World}
+use Rattle.rule_meaning.specs.Verdicts.{is_pass}
 use Rattle.query_steps.proofs.FilterRows.{passed_at}
 use Rattle.query_steps.proofs.SeenSpots.{value-seen, inside-seen, entry-seen, filter-seen}
 use Rattle.query_steps.proofs.SeenSteps.{founds-seen}

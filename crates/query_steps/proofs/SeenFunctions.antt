@@ -7,13 +7,13 @@ use Rattle.guard_syntax.specs.declared.function.Function.{Function}
 use Rattle.guard_syntax.specs.declared.function.Function.TheVariants as function
 use Rattle.guard_syntax.specs.declared.row.Row.{Row}
 use Rattle.guard_syntax.specs.declared.row.Row.TheVariants as row
-use Rattle.value_compare.specs.Functions as table
-use Rattle.value_compare.specs.Functions.{MadeRow, IsReplaced, IsSubstring, joined, text_of, whole_of, whole_tree, with_text}
-use Rattle.value_compare.specs.Known.{Known, meant, stands_for}
-use Rattle.value_compare.specs.Values.{Value}
-use Rattle.query_steps.specs.Seeing.{see_answer, see_row, world_of}
-use Rattle.query_steps.specs.SpotFunctions as spot
-use Rattle.query_steps.specs.Spots.{meant as meant_over, AnswerRow, Answers, New, SpotRow, World, is_found}
+use Rattle.rule_meaning.specs.Functions as table
+use Rattle.rule_meaning.specs.Functions.{MadeRow, IsReplaced, IsSubstring, joined, text_of, whole_of, whole_tree, with_text}
+use Rattle.rule_meaning.specs.Known.{Known, meant, stands_for}
+use Rattle.rule_meaning.specs.Values.{Value}
+use Rattle.rule_meaning.specs.Seeing.{see_answer, see_row, world_of}
+use Rattle.rule_meaning.specs.SpotFunctions as spot
+use Rattle.rule_meaning.specs.Spots.{meant as meant_over, AnswerRow, Answers, New, SpotRow, World, is_found}
 use Rattle.query_steps.proofs.SeenSpots.{stands-seen, all-meant}
 
 module _ (known : Known) (answers : Answers) (calls : List ℕ) where

@@ -11,16 +11,16 @@ use Rattle.guard_syntax.specs.declared.row.Origin.TheVariants as origin
 use Rattle.guard_syntax.specs.declared.row.Ref.{Ref}
 use Rattle.guard_syntax.specs.declared.row.Row.{Row}
 use Rattle.guard_syntax.specs.declared.row.Row.TheVariants as row
-use Rattle.value_compare.specs.Known.{Known, is_known, is_known_ref, made_at, stands_for, tree_of, value_in}
-use Rattle.value_compare.specs.Known as store
-use Rattle.value_compare.specs.Values.{Value}
-use Rattle.query_steps.specs.Seeing.{are_called, call_at, grown, see_origin, see_row, see_spot}
-use Rattle.query_steps.specs.Spots.{Made, Spot, SpotOrigin, SpotRow, Found, Missing}
+use Rattle.rule_meaning.specs.Known.{Known, is_known, is_known_ref, made_at, stands_for, tree_of, value_in}
+use Rattle.rule_meaning.specs.Known as store
+use Rattle.rule_meaning.specs.Values.{Value}
+use Rattle.rule_meaning.specs.Seeing.{are_called, call_at, grown, see_origin, see_row, see_spot}
+use Rattle.rule_meaning.specs.Spots.{Made, Spot, SpotOrigin, SpotRow, Found, Missing}
 
 -- ---- trees
 
 -- a tree that was made is found as before
-found-before : (b : Bool) (tree other : Forest) (later more : Option Forest) → (later ≡ Some tree → more ≡ Some tree)
+pub found-before : (b : Bool) (tree other : Forest) (later more : Option Forest) → (later ≡ Some tree → more ≡ Some tree)
     → (if b then Some other else later) ≡ Some tree → (if b then Some other else more) ≡ Some tree
 found-before true tree other later more rest there = there
 found-before false tree other later more rest there = rest there
@@ -44,7 +44,7 @@ called-line calls (m ∷ made) line at tree called there =
     let within : m.line ≤ length calls = let e = both.0 in grind (arith, nat_tests, e) in
     line-of m (m.line == line) line (length calls) tree (made_at made line at) refl within (m.row == at) (called-line calls made line at tree both.1) there
 
-call-before : (calls later : List ℕ) (line : ℕ) → line ≤ length calls → call_at (calls ++ later) line ≡ call_at calls line
+pub call-before : (calls later : List ℕ) (line : ℕ) → line ≤ length calls → call_at (calls ++ later) line ≡ call_at calls line
 call-before calls later zero within = refl
 call-before calls later (suc n) within = get_or_append_left calls later 0 n (omega arith)
 

@@ -1,11 +1,11 @@
 -- Environments seen as environments over spots: their current values, scopes further out, and as before where calls have made more trees.
 use Rattle.std.proofs.Common.{◌≡◌, ℕ, zero, suc, true, List, ◌++◌, refl, ap, ◌∙◌}
 use Rattle.std.proofs.lemmas.Bool.{and_parts}
-use Rattle.value_compare.specs.Known.{Known, Made, is_known_ref}
-use Rattle.query_steps.specs.Environments.{Environment, Top, Inner, Called, current_of, outer_of, outwards}
-use Rattle.query_steps.specs.Seeing.{are_called, grown, is_known_environment, see_environment, see_spot}
-use Rattle.query_steps.specs.SpotEnvironments as spot
-use Rattle.query_steps.specs.Spots.{Spot}
+use Rattle.rule_meaning.specs.Known.{Known, Made, is_known_ref}
+use Rattle.rule_meaning.specs.Environments.{Environment, Top, Inner, Called, current_of, outer_of, outwards}
+use Rattle.rule_meaning.specs.Seeing.{are_called, grown, is_known_environment, see_environment, see_spot}
+use Rattle.rule_meaning.specs.SpotEnvironments as spot
+use Rattle.rule_meaning.specs.Spots.{Spot}
 use Rattle.query_steps.proofs.SeenGrowth.{spot-before}
 
 module _ (known : Known) (calls : List ℕ) where

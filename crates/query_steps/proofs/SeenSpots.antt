@@ -8,13 +8,13 @@ use Rattle.guard_syntax.specs.declared.row.Origin.TheVariants as origin
 use Rattle.guard_syntax.specs.declared.row.Ref.{Ref}
 use Rattle.guard_syntax.specs.declared.row.Row.{Row}
 use Rattle.guard_syntax.specs.declared.row.Row.TheVariants as row
-use Rattle.value_compare.specs.Known.{Known, made_at, meant, stands_for, tree_of, value_in, value_or_key}
-use Rattle.value_compare.specs.Values.{Value, is_list}
-use Rattle.query_steps.specs.Reached.{entry, inside, item, no_value, node_beside, numbers, value_for}
-use Rattle.query_steps.specs.Seeing.{see_origin, see_row, see_spot, world_of}
-use Rattle.query_steps.specs.SpotSteps as spot
-use Rattle.query_steps.specs.Spots.{Answers, Spot, World}
-use Rattle.query_steps.specs.Spots as spots
+use Rattle.rule_meaning.specs.Known.{Known, made_at, meant, stands_for, tree_of, value_in, value_or_key}
+use Rattle.rule_meaning.specs.Values.{Value, is_list}
+use Rattle.rule_meaning.specs.Reached.{entry, inside, item, no_value, node_beside, numbers, value_for}
+use Rattle.rule_meaning.specs.Seeing.{see_origin, see_row, see_spot, world_of}
+use Rattle.rule_meaning.specs.SpotSteps as spot
+use Rattle.rule_meaning.specs.Spots.{Answers, Spot, World}
+use Rattle.rule_meaning.specs.Spots as spots
 
 -- ---- values
 

@@ -9,16 +9,16 @@ use Rattle.guard_syntax.specs.declared.row.Ref.{Ref}
 use Rattle.guard_syntax.specs.declared.row.Row.{Row}
 use Rattle.guard_syntax.specs.declared.row.Row.TheVariants as row
 use Rattle.guard_syntax.specs.declared.syntax.Op.{Op}
-use Rattle.value_compare.specs.Known.{Known, meant, stands_for}
-use Rattle.value_compare.specs.RowTests.{row_test_of}
-use Rattle.value_compare.specs.Values.{Value}
-use Rattle.query_steps.specs.Keys.{captured_row, keys_by, passes}
-use Rattle.query_steps.specs.Reached.{entry, inside, item, key_of, value_for}
-use Rattle.query_steps.specs.Seeing.{see_row, see_spot, world_of}
-use Rattle.query_steps.specs.SpotSteps as spot
-use Rattle.query_steps.specs.Spots.{Answers, Spot, SpotRow, Found, World}
-use Rattle.query_steps.specs.Spots as spots
-use Rattle.query_steps.specs.Steps.{each_inside, every_by, found_or_missing, found_step, items_by, key_in, on_found, splice_row}
+use Rattle.rule_meaning.specs.Known.{Known, meant, stands_for}
+use Rattle.rule_meaning.specs.RowTests.{row_test_of}
+use Rattle.rule_meaning.specs.Values.{Value}
+use Rattle.rule_meaning.specs.Keys.{captured_row, keys_by, passes}
+use Rattle.rule_meaning.specs.Reached.{entry, inside, item, key_of, value_for}
+use Rattle.rule_meaning.specs.Seeing.{see_row, see_spot, world_of}
+use Rattle.rule_meaning.specs.SpotSteps as spot
+use Rattle.rule_meaning.specs.Spots.{Answers, Spot, SpotRow, Found, World}
+use Rattle.rule_meaning.specs.Spots as spots
+use Rattle.rule_meaning.specs.Steps.{each_inside, every_by, found_or_missing, found_step, items_by, key_in, on_found, splice_row}
 use Rattle.query_steps.proofs.SeenSpots.{stands-seen, meant-seen, all-meant, value-seen, inside-seen, entry-seen, item-seen, filter-seen}
 
 module _ (known : Known) (answers : Answers) (calls : List ℕ) where

@@ -3,12 +3,12 @@ use Rattle.std.proofs.Common.{◌≡◌, ℕ, Bool, true, false, not, ◌&&◌, 
 use Rattle.std.specs.List.{list_all, list_any}
 use Rattle.guard_syntax.specs.declared.row.Row.{Row}
 use Rattle.guard_syntax.specs.declared.row.Row.TheVariants as row
-use Rattle.value_compare.specs.Known.{Known}
-use Rattle.query_steps.specs.Seeing.{see_row}
-use Rattle.query_steps.specs.SpotVerdicts as spot
-use Rattle.query_steps.specs.Spots.{SpotRow, is_found}
-use Rattle.query_steps.specs.Verdicts.{pass_if, set_verdict, test_verdict}
-use Rattle.query_steps.specs.Verdicts as verdicts
+use Rattle.rule_meaning.specs.Known.{Known}
+use Rattle.rule_meaning.specs.Seeing.{see_row}
+use Rattle.rule_meaning.specs.SpotVerdicts as spot
+use Rattle.rule_meaning.specs.Spots.{SpotRow, is_found}
+use Rattle.rule_meaning.specs.Verdicts.{pass_if, set_verdict, test_verdict}
+use Rattle.rule_meaning.specs.Verdicts as verdicts
 
 module _ (known : Known) (calls : List ℕ) where
   abbrev shown : Row → SpotRow

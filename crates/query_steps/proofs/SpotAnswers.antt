@@ -6,14 +6,14 @@ use Rattle.guard_syntax.specs.Syntax.{File}
 use Rattle.guard_syntax.specs.declared.function.Function.{Function}
 use Rattle.guard_syntax.specs.declared.function.Function.TheVariants as function
 use Rattle.guard_syntax.specs.declared.row.Row.{Row}
-use Rattle.value_compare.specs.Functions as table
-use Rattle.value_compare.specs.Functions.{MadeRow, IsGiven, IsReplaced, IsSubstring}
-use Rattle.value_compare.specs.Known.{Known, value_in}
-use Rattle.value_compare.specs.Values.{Value}
-use Rattle.query_steps.specs.Seeing.{see_answer, see_row, world_of}
-use Rattle.query_steps.specs.SpotFunctions.{AreRows, Functions, Gives, IsAnswering, IsRow, IsRowFor, argument, counted, joined_row, new_or_missing, single_text, single_whole, values_of}
-use Rattle.query_steps.specs.SpotMeaning.{answered}
-use Rattle.query_steps.specs.Spots.{answered_row, AnswerRow, Answers, Kept, SpotOrigin, Template, Literal, Made, SpotRow, Found, Missing, Unmade, World, meant, stands_for, tree_of}
+use Rattle.rule_meaning.specs.Functions as table
+use Rattle.rule_meaning.specs.Functions.{MadeRow, IsGiven, IsReplaced, IsSubstring}
+use Rattle.rule_meaning.specs.Known.{Known, value_in}
+use Rattle.rule_meaning.specs.Values.{Value}
+use Rattle.rule_meaning.specs.Seeing.{see_answer, see_row, world_of}
+use Rattle.rule_meaning.specs.SpotFunctions.{AreRows, Functions, Gives, IsAnswering, IsRow, IsRowFor, argument, counted, joined_row, new_or_missing, single_text, single_whole, values_of}
+use Rattle.rule_meaning.specs.SpotMeaning.{answered}
+use Rattle.rule_meaning.specs.Spots.{answered_row, AnswerRow, Answers, Kept, SpotOrigin, Template, Literal, Made, SpotRow, Found, Missing, Unmade, World, meant, stands_for, tree_of}
 use Rattle.query_steps.proofs.SeenFunctions.{functions-seen}
 use Rattle.value_compare.proofs.GivenTrees.{IsOne, IsTold, boolean-one, boolean-told, decoded-one, decoded-told, float-one, float-told, int-one, int-told, json-one, json-told, lower-one, lower-told, printed-one, printed-told, replaced-one, replaced-told, substring-one, substring-told, upper-one, upper-told}
 

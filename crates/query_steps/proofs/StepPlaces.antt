@@ -12,11 +12,11 @@ use Rattle.guard_syntax.specs.declared.row.Row.TheVariants.{Found}
 use Rattle.guard_syntax.specs.declared.row.Verdict.{Verdict}
 use Rattle.guard_syntax.specs.declared.syntax.Query.{Query, out-Query, the_lemmas}
 use Rattle.guard_syntax.specs.declared.syntax.Step.{Step}
-use Rattle.name_table.specs.Pieces.{OfStep, piece_at}
-use Rattle.value_compare.specs.Known.{Known}
-use Rattle.query_steps.specs.Filters.{candidates_of, candidates_in, kept, filtered}
-use Rattle.query_steps.specs.Places.{Placed, is_key, is_filter, is_first, is_after_key, step_in, steps_in, placed_in, placed_of, step_at, given_by, step_candidates, step_rows, candidates_at, rows_at_step, IsStepAt, IsStartAt, IsFilterAt}
-use Rattle.query_steps.specs.Steps.{found_step, on_found}
+use Rattle.rule_names.specs.Pieces.{OfStep, piece_at}
+use Rattle.rule_meaning.specs.Known.{Known}
+use Rattle.rule_meaning.specs.Filters.{candidates_of, candidates_in, kept, filtered}
+use Rattle.rule_meaning.specs.Places.{Placed, is_key, is_filter, is_first, is_after_key, step_in, steps_in, placed_in, placed_of, step_at, given_by, step_candidates, step_rows, candidates_at, rows_at_step, IsStepAt, IsStartAt, IsFilterAt}
+use Rattle.rule_meaning.specs.Steps.{found_step, on_found}
 
 abbrev pub steps_of : List Step → sx.Steps
 steps_of xs = step_list (map see_step xs)

@@ -2,9 +2,9 @@
 use Rattle.std.specs.Prelude.{◌≡◌, Some}
 use Rattle.doc_values.specs.declared.cursor.Cursor.{Cursor}
 use Rattle.guard_syntax.specs.declared.row.Ref.{Ref}
-use Rattle.value_compare.specs.Known.{Known, tree_of}
-use Rattle.value_compare.specs.Values.{value_at}
-use Rattle.query_steps.specs.Reached.{value_for}
+use Rattle.rule_meaning.specs.Known.{Known, tree_of}
+use Rattle.rule_meaning.specs.Values.{value_at}
+use Rattle.rule_meaning.specs.Reached.{value_for}
 
 -- a cursor at the node of a reference, in the tree that it points into
 abbrev pub IsNodeOf : Known → Ref → Cursor → Type 0

@@ -1,10 +1,10 @@
 //! Filters: which values they try, and which of these they keep.
 ghost use Rattle.std.specs.Prelude.{◌≡◌, true, length, map, IfOk};
 ghost use Rattle.std.specs.List.{filter, list_all, zip};
-ghost use Rattle.value_compare.specs.Known.{is_known, is_known_ref};
+ghost use Rattle.rule_meaning.specs.Known.{is_known, is_known_ref};
 ghost use Rattle.value_compare.specs.Stores.{see_store};
-ghost use Rattle.query_steps.specs.Filters.{candidates_in, candidates_of, filtered};
-ghost use Rattle.query_steps.specs.Verdicts.{is_pass};
+ghost use Rattle.rule_meaning.specs.Filters.{candidates_in, candidates_of, filtered};
+ghost use Rattle.rule_meaning.specs.Verdicts.{is_pass};
 
 use crate::reached::{inside_of, kind_of};
 use doc_values::Kind;

@@ -2,12 +2,12 @@
 ghost use Rattle.std.specs.Prelude.{◌≡◌, ◌++◌, List, Option, true, false, IfOk, OnOk};
 ghost use Rattle.std.specs.List.{flat_map, list_all};
 ghost use Rattle.value_compare.specs.Books.{IsBookOf};
-ghost use Rattle.value_compare.specs.Known.{is_known};
-ghost use Rattle.value_compare.specs.Pairs.{is_order};
-ghost use Rattle.value_compare.specs.RowTests.{row_test_of};
+ghost use Rattle.rule_meaning.specs.Known.{is_known};
+ghost use Rattle.rule_meaning.specs.Pairs.{is_order};
+ghost use Rattle.rule_meaning.specs.RowTests.{row_test_of};
 ghost use Rattle.value_compare.specs.Stores.{see_store};
-ghost use Rattle.value_compare.specs.Values.{Value};
-ghost use Rattle.query_steps.specs.Keys.{captured_row, passes};
+ghost use Rattle.rule_meaning.specs.Values.{Value};
+ghost use Rattle.rule_meaning.specs.Keys.{captured_row, passes};
 
 use crate::reached::key_of;
 use guard_syntax::{Op, Row};

@@ -18,7 +18,5 @@ pub use seen::{
     seen_answers, seen_as_before, seen_filters, seen_functions, seen_steps, seen_values,
 };
 pub use sites::{candidates, kinds, step};
-pub use spot_laws::{
-    failing_has_entries, one_answer_over_spots, one_meaning_over_spots, turns_suffice_over_spots,
-};
+pub use spot_laws::one_answer_over_spots;
 pub use steps::rows_of_step;

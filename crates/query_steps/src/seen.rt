@@ -4,18 +4,18 @@
 ghost use Rattle.std.specs.Prelude.{◌≡◌, ◌++◌, ◌∷◌, ℕ, suc, Bool, true, List, [], Some, length, map};
 ghost use Rattle.std.specs.List.{flat_map, list_all};
 ghost use Rattle.guard_syntax.specs.Syntax as syntax;
-ghost use Rattle.value_compare.specs.Functions as table;
-ghost use Rattle.value_compare.specs.Known.{Known, Made, is_known, is_known_ref, meant, stands_for};
-ghost use Rattle.query_steps.specs.Filters.{candidates_in, filtered};
-ghost use Rattle.query_steps.specs.Keys.{captured_row, passes};
-ghost use Rattle.query_steps.specs.Kinds.{rows_of_type};
-ghost use Rattle.query_steps.specs.Seeing.{are_called, grown, is_known_answer, rows_kept, see_answer, see_row, see_spot, trees_kept, world_of};
-ghost use Rattle.query_steps.specs.SpotFunctions as functions;
-ghost use Rattle.query_steps.specs.SpotMeaning.{answered};
-ghost use Rattle.query_steps.specs.SpotSteps as spot;
-ghost use Rattle.query_steps.specs.Spots.{Answers};
-ghost use Rattle.query_steps.specs.Spots as spots;
-ghost use Rattle.query_steps.specs.Steps.{found_step, on_found};
+ghost use Rattle.rule_meaning.specs.Functions as table;
+ghost use Rattle.rule_meaning.specs.Known.{Known, Made, is_known, is_known_ref, meant, stands_for};
+ghost use Rattle.rule_meaning.specs.Filters.{candidates_in, filtered};
+ghost use Rattle.rule_meaning.specs.Keys.{captured_row, passes};
+ghost use Rattle.rule_meaning.specs.Kinds.{rows_of_type};
+ghost use Rattle.rule_meaning.specs.Seeing.{are_called, grown, is_known_answer, rows_kept, see_answer, see_row, see_spot, trees_kept, world_of};
+ghost use Rattle.rule_meaning.specs.SpotFunctions as functions;
+ghost use Rattle.rule_meaning.specs.SpotMeaning.{answered};
+ghost use Rattle.rule_meaning.specs.SpotSteps as spot;
+ghost use Rattle.rule_meaning.specs.Spots.{Answers};
+ghost use Rattle.rule_meaning.specs.Spots as spots;
+ghost use Rattle.rule_meaning.specs.Steps.{found_step, on_found};
 
 use guard_syntax::{Function, Op, Ref, Row, Verdict};
 

@@ -2,17 +2,17 @@
 ghost use Rattle.std.specs.Prelude.{◌≡◌, ◌<◌, true, false, not, suc, is_some, length, map, Some, [], IfOk};
 ghost use Rattle.std.specs.List.{list_all};
 ghost use Rattle.guard_syntax.specs.Seen.{see_step, step_list};
-ghost use Rattle.name_table.specs.Files.{file_of};
+ghost use Rattle.rule_names.specs.Files.{file_of};
 ghost use Rattle.value_compare.specs.Books.{IsBookOf};
-ghost use Rattle.value_compare.specs.Known.{is_known, is_known_ref};
+ghost use Rattle.rule_meaning.specs.Known.{is_known, is_known_ref};
 ghost use Rattle.value_compare.specs.Stores.{see_store};
-ghost use Rattle.query_steps.specs.Places.{IsFilterAt, IsStartAt, IsStepAt, IsTypeAt, candidates_at, is_after_key, is_filter, is_key, placed_in, rows_at_step, rows_at_type, step_at, step_in, type_at};
+ghost use Rattle.rule_meaning.specs.Places.{IsFilterAt, IsStartAt, IsStepAt, IsTypeAt, candidates_at, is_after_key, is_filter, is_key, placed_in, rows_at_step, rows_at_type, step_at, step_in, type_at};
 
 use crate::filters::{filter_candidates, kept_rows};
 use crate::resources::type_rows;
 use crate::steps::rows_of_step;
 use guard_syntax::{Part, Ref, Row, Step, StepForm, Verdict};
-use name_table::{Piece, RuleFile};
+use rule_names::{Piece, RuleFile};
 use std::alloc::{AllocError, Global};
 use value_compare::{PatternBook, Store};
 

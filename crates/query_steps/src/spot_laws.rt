@@ -1,23 +1,12 @@
-//! What holds of the meaning of rules, which is over spots: functions have one answer, the turns that are taken suffice,
-//! no other meaning obeys the tables, and what fails has entries. The bodies do nothing but cite other laws; a law is kept
+//! What holds of the meaning of rules, which is over spots: functions have one answer. The body does nothing; a law is kept
 //! by a contract.
-ghost use Rattle.std.specs.Prelude.{◌≡◌, ◌≢◌, ◌↔◌, ℕ, ◌+◌, List, [], map};
+ghost use Rattle.std.specs.Prelude.{◌≡◌, ℕ, List};
 ghost use Rattle.doc_values.specs.Tree.{Forest};
-ghost use Rattle.guard_syntax.specs.Syntax.{Body, Disjs, File, Rule};
-ghost use Rattle.guard_syntax.specs.declared.row.Verdict.TheVariants.{Fail};
-ghost use Rattle.name_table.specs.Depths.{depth_limit};
-ghost use Rattle.name_table.specs.Files.{file_of};
-ghost use Rattle.query_steps.specs.Fails.{body_fails, calls_by, loose_fails, rule_fails};
-ghost use Rattle.query_steps.specs.SpotEnvironments.{Environment, Top};
-ghost use Rattle.query_steps.specs.SpotFunctions.{Functions, IsAnswering};
-ghost use Rattle.query_steps.specs.SpotMeaning.{Names, body_verdict, disj_verdicts};
-ghost use Rattle.query_steps.specs.SpotObeys.{Obeys};
-ghost use Rattle.query_steps.specs.SpotTurns.{names_by, rule_by, rule_verdict, loose_verdict};
-ghost use Rattle.query_steps.specs.Spots.{AnswerRow, Answers, SpotRow, World};
-ghost use Rattle.query_steps.specs.Verdicts.{conjunction};
+ghost use Rattle.guard_syntax.specs.Syntax.{File};
+ghost use Rattle.rule_meaning.specs.SpotFunctions.{Functions, IsAnswering};
+ghost use Rattle.rule_meaning.specs.Spots.{AnswerRow, Answers, SpotRow, World};
 
 use guard_syntax::Function;
-use name_table::{RuleFile, settled_depths};
 
 /// The law that functions have one answer over spots: over each template and file something is answered that follows the
 /// table, and no call has two answers that do.
@@ -25,36 +14,4 @@ pub fn one_answer_over_spots()
     ensures some { (template : Forest) (file : File) → (answers : Answers) × IsAnswering (record { template = template; file = file; answers = answers }) }
     ensures one { (world : World) (function : Function) (call : ℕ) (args : List (List SpotRow)) (a b : List AnswerRow)
         → Functions world function call args a → Functions world function call args b → a ≡ b }
-{}
-
-/// The law that the turns that are taken suffice over spots: by any further ones the rules of a file and the parts outside
-/// them have the same verdicts, whatever functions answer.
-pub fn turns_suffice_over_spots(file: &RuleFile)
-    ensures rules { (world : World) (n : ℕ) → world.file ≡ file_of file.now
-        → map (rule_by world (names_by world (n + depth_limit))) world.file.rules ≡ map (rule_verdict world) world.file.rules }
-    ensures loose { (world : World) (n : ℕ) → world.file ≡ file_of file.now
-        → conjunction (disj_verdicts world (names_by world (n + depth_limit)) Top world.file.loose) ≡ loose_verdict world world.file.loose }
-{
-    settled_depths();
-}
-
-/// The law that there is one meaning over spots: some meaning of names obeys the tables, and by any that does, the rules of
-/// a file and the parts outside them have the same verdicts.
-pub fn one_meaning_over_spots(file: &RuleFile)
-    ensures some { (world : World) → world.file ≡ file_of file.now → (names : Names) × Obeys world names }
-    ensures rules { (world : World) (names : Names) → world.file ≡ file_of file.now → Obeys world names
-        → map (rule_by world names) world.file.rules ≡ map (rule_verdict world) world.file.rules }
-    ensures loose { (world : World) (names : Names) → world.file ≡ file_of file.now → Obeys world names
-        → conjunction (disj_verdicts world names Top world.file.loose) ≡ loose_verdict world world.file.loose }
-{
-    settled_depths();
-}
-
-/// The law that what fails has entries: a rule that is FAIL has some, and a body, by any number of turns in any environment,
-/// and the parts outside rules have some exactly where they are FAIL, whatever functions answer.
-pub fn failing_has_entries()
-    ensures rules { (world : World) (rule : Rule) → rule_verdict world rule ≡ Fail → rule_fails world rule ≢ [] }
-    ensures bodies { (world : World) (n : ℕ) (env : Environment) (part : Body)
-        → (body_verdict world (names_by world n) env part ≡ Fail) ↔ (body_fails world (names_by world n) (calls_by world n) env part ≢ []) }
-    ensures loose { (world : World) (loose : Disjs) → (loose_verdict world loose ≡ Fail) ↔ (loose_fails world loose ≢ []) }
 {}

@@ -4,11 +4,11 @@ ghost use Rattle.std.specs.List.{flat_map, list_all};
 ghost use Rattle.guard_syntax.specs.Seen.{see_step};
 ghost use Rattle.guard_syntax.specs.declared.row.Row.TheVariants.{Found};
 ghost use Rattle.value_compare.specs.Books.{IsBookOf};
-ghost use Rattle.value_compare.specs.Known.{is_known, is_known_ref, meant};
+ghost use Rattle.rule_meaning.specs.Known.{is_known, is_known_ref, meant};
 ghost use Rattle.value_compare.specs.Stores.{see_store};
-ghost use Rattle.query_steps.specs.Keys.{keys_by, passes};
-ghost use Rattle.query_steps.specs.Reached.{entry, inside, key_of, value_for};
-ghost use Rattle.query_steps.specs.Steps.{each_inside, every_by, found_or_missing, found_step, items_by, key_in, on_found, splice_row};
+ghost use Rattle.rule_meaning.specs.Keys.{keys_by, passes};
+ghost use Rattle.rule_meaning.specs.Reached.{entry, inside, key_of, value_for};
+ghost use Rattle.rule_meaning.specs.Steps.{each_inside, every_by, found_or_missing, found_step, items_by, key_in, on_found, splice_row};
 
 use crate::keys::row_passes;
 use crate::reached::{entries_of, entry_of, inside_of, item_of, key_of, kind_of};

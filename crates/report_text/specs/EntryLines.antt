@@ -3,10 +3,10 @@ use Rattle.std.specs.Prelude.{ℕ, List, [], ◌∷◌, ◌++◌, Option, Some, 
 use Rattle.doc_values.specs.Places.{label_at}
 use Rattle.doc_values.specs.Tree.{Forest, Nil}
 use Rattle.guard_syntax.specs.Syntax.{File, Part, test, refer, call}
-use Rattle.name_table.specs.Pieces.{Piece, OfPart, piece_at}
-use Rattle.value_compare.specs.Known.{literal_at}
-use Rattle.query_steps.specs.Fails.{Entry, Shown, OfValue, OfCall, Word, IsValue, IsMissing, IsRows, IsRule, IsCall}
-use Rattle.query_steps.specs.Spots.{SpotOrigin, Template, Literal, Made}
+use Rattle.rule_names.specs.Pieces.{Piece, OfPart, piece_at}
+use Rattle.rule_meaning.specs.Known.{literal_at}
+use Rattle.rule_meaning.specs.Fails.{Entry, Shown, OfValue, OfCall, Word, IsValue, IsMissing, IsRows, IsRule, IsCall}
+use Rattle.rule_meaning.specs.Spots.{SpotOrigin, Template, Literal, Made}
 use Rattle.report_text.specs.Messages.{note_text}
 use Rattle.report_text.specs.Paths.{Down, path_of, path_text}
 use Rattle.report_text.specs.Spelling.{place_text}

@@ -4,10 +4,10 @@ use Rattle.doc_values.specs.Tree.{Forest, Nil}
 use Rattle.guard_syntax.specs.declared.row.Origin.{Origin}
 use Rattle.guard_syntax.specs.declared.row.Origin.TheVariants as origin
 use Rattle.guard_syntax.specs.declared.row.Ref.{Ref}
-use Rattle.value_compare.specs.Known.{Known, tree_of, is_known_ref}
-use Rattle.query_steps.specs.Fails as fails
-use Rattle.query_steps.specs.Seeing.{see_spot}
-use Rattle.query_steps.specs.Spots as spots
+use Rattle.rule_meaning.specs.Known.{Known, tree_of, is_known_ref}
+use Rattle.rule_meaning.specs.Fails as fails
+use Rattle.rule_meaning.specs.Seeing.{see_spot}
+use Rattle.rule_meaning.specs.Spots as spots
 use Rattle.report_text.specs.declared.entry.Entry.{Entry}
 use Rattle.report_text.specs.declared.entry.Shown.{Shown}
 use Rattle.report_text.specs.declared.entry.Shown.TheVariants.{Value, Made, Unmade}

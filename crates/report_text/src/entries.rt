@@ -4,13 +4,13 @@ ghost use Rattle.std.specs.Option.{ForSome};
 ghost use Rattle.doc_values.specs.Tree.{IsTree};
 ghost use Rattle.guard_io.specs.Outside.{Rose, IsPrefix};
 ghost use Rattle.guard_syntax.specs.Seen.{see_part};
-ghost use Rattle.name_table.specs.Files.{file_of};
-ghost use Rattle.name_table.specs.Pieces.{piece_at};
-ghost use Rattle.value_compare.specs.Known.{is_known_ref};
+ghost use Rattle.rule_names.specs.Files.{file_of};
+ghost use Rattle.rule_names.specs.Pieces.{piece_at};
+ghost use Rattle.rule_meaning.specs.Known.{is_known_ref};
 ghost use Rattle.value_compare.specs.Stores.{see_store};
 ghost use Rattle.report_text.specs.EntryLines.{entry_line, node_text, note_of, note_of_part, shown_text, site_text, template_path, word_text};
 ghost use Rattle.report_text.specs.SeenEntries.{IsShowable, is_made, see_entry, see_shown, see_word, tree_for};
-ghost use Rattle.query_steps.specs.Seeing.{see_origin};
+ghost use Rattle.rule_meaning.specs.Seeing.{see_origin};
 ghost use Rattle.report_text.specs.Messages.{note_text};
 ghost use Rattle.report_text.specs.Paths.{path_of};
 
@@ -23,7 +23,7 @@ use crate::spelling::push_place;
 use doc_values::Cursor;
 use guard_io::Sink;
 use guard_syntax::{Origin, Part, Ref};
-use name_table::{Piece, RuleFile};
+use rule_names::{Piece, RuleFile};
 use std::alloc::{AllocError, Global};
 use value_compare::{Store, View};
 

@@ -63,39 +63,3 @@ impl<'t> Lined<'t> {
         )
     }
 }
-
-#[cfg(test)]
-mod tests {
-    use super::*;
-    use std::test::Fail;
-
-    #[test]
-    fn places_at_the_starts_and_ends_of_lines(rt: HostRuntime) -> Result<(), Fail> {
-        let lined = Lined::new(rt.alloc(), "ab\n\ncd\n")?;
-        for (at, want) in [
-            (0, (1, 1)),
-            (2, (1, 3)),
-            (3, (2, 1)),
-            (4, (3, 1)),
-            (6, (3, 3)),
-            (7, (4, 1)),
-            (8, (4, 1)),
-            (4_294_967_295, (4, 1)),
-        ] {
-            assert_eq!(rt; lined.place(at), want, "at {at}");
-        }
-        Ok(())
-    }
-
-    #[test]
-    fn places_without_a_newline_at_the_end(rt: HostRuntime) -> Result<(), Fail> {
-        let empty = Lined::new(rt.alloc(), "")?;
-        assert_eq!(rt; empty.place(0), (1, 1));
-        assert_eq!(rt; empty.place(1), (1, 1));
-        let lined = Lined::new(rt.alloc(), "é\nx")?;
-        assert_eq!(rt; lined.place(2), (1, 3));
-        assert_eq!(rt; lined.place(3), (2, 1));
-        assert_eq!(rt; lined.place(4), (2, 2));
-        Ok(())
-    }
-}

@@ -4,13 +4,13 @@ ghost use Rattle.std.specs.Option.{ForSome};
 ghost use Rattle.std.specs.List.{flat_map};
 ghost use Rattle.guard_io.specs.Outside.{Rose, IsPrefix};
 ghost use Rattle.guard_syntax.specs.Seen.{disj_list, see_disj, see_rule};
-ghost use Rattle.name_table.specs.Files.{file_of};
+ghost use Rattle.rule_names.specs.Files.{file_of};
 ghost use Rattle.report_text.specs.RuleLines.{name_of_loose, name_of_rule, reported_names, rule_line, rule_lines, verdict_word};
 
 use crate::put::{ReportFault, put};
 use guard_io::Sink;
 use guard_syntax::{Disj, Rule, Verdict};
-use name_table::RuleFile;
+use rule_names::RuleFile;
 use std::alloc::{AllocError, Global};
 
 /// Writes the line `rule <name> <verdict>` of each rule without parameters in the order of the file, and last that of

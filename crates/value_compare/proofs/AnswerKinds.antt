@@ -3,10 +3,10 @@ use Rattle.std.proofs.Common.{◌≡◌, true, false, refl, sym, ap, ◌∙◌, 
 use Rattle.std.proofs.lemmas.Bool.{false≢true}
 use Rattle.guard_syntax.specs.declared.syntax.Op.{Op}
 use Rattle.guard_syntax.specs.declared.syntax.Op.TheVariants as op
-use Rattle.value_compare.specs.Pairs.{is_yes, is_no, is_order, pair_of, ordered}
-use Rattle.value_compare.specs.Values.{Value}
-use Rattle.value_compare.specs.declared.answer.PairAnswer.{PairAnswer}
-use Rattle.value_compare.specs.declared.answer.PairAnswer.TheVariants.{Yes, No, Apart}
+use Rattle.rule_meaning.specs.Pairs.{is_yes, is_no, is_order, pair_of, ordered}
+use Rattle.rule_meaning.specs.Values.{Value}
+use Rattle.rule_meaning.specs.declared.answer.PairAnswer.{PairAnswer}
+use Rattle.rule_meaning.specs.declared.answer.PairAnswer.TheVariants.{Yes, No, Apart}
 
 pub not_yes : (a b : PairAnswer) → a ≡ b → (a ≡ No) ⊎ (a ≡ Apart) → is_yes b ≡ false
 not_yes a b same (inl e) = ap is_yes (sym same ∙ e)

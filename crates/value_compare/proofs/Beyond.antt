@@ -4,10 +4,10 @@ use Rattle.std.specs.Prelude.{◌==◌}
 use Rattle.std.proofs.lemmas.Bool.Decides.{nat_tests}
 use Rattle.guard_syntax.specs.Sites.{upto, sites_file}
 use Rattle.guard_syntax.specs.Syntax.{File}
-use Rattle.name_table.specs.Pieces.{OfFile, pieces_file, piece_at, AreInOrder}
-use Rattle.name_table.proofs.Rises.{times}
-use Rattle.name_table.proofs.Parts.{Ties, ties-cons, ties-merge, absent}
-use Rattle.name_table.proofs.Tied.{tied-lets, tied-rules, tied-disjs}
+use Rattle.rule_names.specs.Pieces.{OfFile, pieces_file, piece_at, AreInOrder}
+use Rattle.rule_names.proofs.Rises.{times}
+use Rattle.rule_names.proofs.Parts.{Ties, ties-cons, ties-merge, absent}
+use Rattle.rule_names.proofs.Tied.{tied-lets, tied-rules, tied-disjs}
 
 at_none : (n x k : ℕ) → x < n → k ≡ 0 → cond (x == n) 1 0 + k ≡ 0
 at_none n x k less none = grind (arith, nat_tests)

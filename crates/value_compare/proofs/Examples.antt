@@ -6,10 +6,10 @@ use Rattle.doc_values.specs.declared.decimal.Num.TheVariants as num
 use Rattle.doc_values.specs.declared.kind.Kind.{Kind}
 use Rattle.doc_values.specs.declared.kind.Kind.TheVariants as kind
 use Rattle.guard_syntax.specs.declared.syntax.Op.TheVariants as op
-use Rattle.value_compare.specs.declared.answer.PairAnswer.TheVariants.{Yes, No, Apart}
+use Rattle.rule_meaning.specs.declared.answer.PairAnswer.TheVariants.{Yes, No, Apart}
 use Rattle.value_compare.specs.Held.{may_find}
-use Rattle.value_compare.specs.Pairs.{pair_of}
-use Rattle.value_compare.specs.Values.{Value, value_of_key}
+use Rattle.rule_meaning.specs.Pairs.{pair_of}
+use Rattle.rule_meaning.specs.Values.{Value, value_of_key}
 
 abbrev plain : Kind → Value
 plain k = record { kind = k; text = []; contents = Nil }

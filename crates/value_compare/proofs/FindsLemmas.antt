@@ -1,13 +1,15 @@
 -- What `Regex::new` ensures, in the words of the pattern's text.
-use Rattle.std.proofs.Common.{◌≡◌, ◌≢◌, ℕ, ◌<◌, ◌≤◌, true, false, List, [], ◌∷◌, ◌++◌, Option, Some, None, is_some, IsNone, IsSome, IsSomeAnd, IfSome, nat_le, get_or, slice_range, option_map, chars, length, map, refl, sym, ap, ap₂, ◌∙◌, arith, inl, inr}
+use Rattle.std.proofs.Common.{◌≡◌, ◌≢◌, ℕ, ◌<◌, ◌≤◌, true, false, Bool, List, [], ◌∷◌, ◌++◌, Option, Some, None, is_some, IsNone, IsSome, IsSomeAnd, IfSome, nat_le, get_or, slice_range, option_map, chars, length, map, refl, sym, ap, ap₂, ◌∙◌, arith, inl, inr, if◌then◌else◌}
 use Rattle.std.specs.Option.{option_map_or}
 use Rattle.std.proofs.lemmas.Bool.Decides.{nat_tests}
 use mathlib.Core.Path.{fun_ext}
+use Rattle.regex_hir.specs.Meaning.{meaning}
 use Rattle.regex_syntax.specs.Brackets.{Nested}
 use Rattle.regex_syntax.specs.Grammar.{Names, read, group_count}
 use Rattle.regex_syntax.specs.declared.error.ErrorKind.{ErrorKind}
 use Rattle.regex_syntax.specs.declared.error.ErrorKind.TheVariants.{OutOfMemory}
 use Rattle.regex.specs.Patterns.{Re, Match, find_str, find_all_str, slot_of, default_config, Refuses, Reads, SameCaptures}
+use Rattle.regex.specs.Failures.{IsPattern}
 use Rattle.regex.specs.Replace.{replaced_by, group_bytes}
 use Rattle.regex.specs.Strings.{regex_pattern, regex_source, regex_config, regex_names, matcher_pattern, IsReadFrom, IsReadFromSource, IsWrittenBy}
 use Rattle.regex.specs.Templates.{written_after}
@@ -15,8 +17,9 @@ use Rattle.regex.specs.declared.string.matcher.Matcher.{Matcher}
 use Rattle.regex.specs.declared.string.regex.Regex.{Regex}
 use Rattle.regex.specs.declared.string.template.Template.{Template}
 use Rattle.regex.proofs.ForCallers.{is_match_alike, find_all_alike, spans}
-use Rattle.value_compare.specs.Finds.{pattern_in, finds, shallow}
-use Rattle.value_compare.specs.Functions.{replaced_in, replaced_with}
+use Rattle.guard_io.specs.Outside.{Rose}
+use Rattle.rule_meaning.specs.Finds.{counted, pattern_in, finds, shallow}
+use Rattle.rule_meaning.specs.Functions.{replaced_in, replaced_with}
 
 too_deep : (o : Option (Nested Re × Names)) → IfSome o (λ (re, _). 250 < re.depth) → IsNone (shallow o)
 too_deep None deep = refl
@@ -100,3 +103,19 @@ pub pattern_of_regex : (r : Regex) → regex_config r ≡ default_config → IsR
 unfolding Reads
 pattern_of_regex r is_default is_read =
     read_in (read default_config (chars (regex_source r))) (regex_pattern r) (regex_names r) (rw is_default at is_read)
+
+-- only a pattern is too big
+pub pattern_of_too_big : (text : List ℕ) → IsPattern default_config text → IsSome (pattern_in text)
+unfolding Reads
+pattern_of_too_big text (hir, names, reads) = read_in (read default_config (chars text)) (meaning hir) names reads
+
+-- ---- what is counted
+
+-- what was counted is a pattern
+pub counted-pattern : (before after : ℕ) (text : List ℕ) → Rose (counted before text) (counted after text) → IsSome (pattern_in text)
+counted-pattern before after text = by-cases (is_some (pattern_in text))
+  where
+    by-cases : (b : Bool) → Rose (if b then before else 0) (if b then after else 0) → b ≡ true
+    by-cases true rose = refl
+    by-cases false (inl less) = absurd (omega (arith, less))
+    by-cases false (inr most) = absurd (omega (arith, most))

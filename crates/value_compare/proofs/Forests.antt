@@ -4,8 +4,8 @@ use Rattle.std.specs.Prelude.{nat_lt, if◌then◌else◌}
 use Rattle.std.proofs.lemmas.Bool.{lt-ltb, le-ltb, cases_lt}
 use Rattle.doc_values.specs.Tree.{Label, Forest, Nil, Node, size, count, key_is}
 use Rattle.doc_values.specs.Places.{find, first_label, first_kids, label_at, kids_at, child_place, key_place}
-use Rattle.value_compare.specs.Pairs.{entry_of}
-use Rattle.value_compare.specs.Values.{Value, value_of, value_at}
+use Rattle.rule_meaning.specs.Pairs.{entry_of}
+use Rattle.rule_meaning.specs.Values.{Value, value_of, value_at}
 
 -- the values from an index on
 abbrev pub from_index : Forest → ℕ → Forest

@@ -23,9 +23,9 @@ use Rattle.json_reader.specs.Reading.{verdict}
 use Rattle.json_reader.proofs.Limits.{unique}
 use Rattle.json_reader.proofs.NumberKinds.{number_sound, known_whole, known_fraction}
 use Rattle.json_reader.proofs.Verdicts.{verdict_ok, verdict_err}
-use Rattle.value_compare.specs.Finds.{pattern_in}
-use Rattle.value_compare.specs.Functions.{ForText, IsBoolean, IsDecimal, IsDecimalBy, IsDecoded, IsFloat, IsGiven, IsInt, IsJson, IsLower, IsParsed, IsPart, IsPrinted, IsReplaced, IsReplacement, IsSigned, IsSubstring, IsUnescaped, IsUpper, IsWholeBy, behind_plus, decimal_tree, printed_by, replaced_with, text_of, text_tree, truth_by, truth_tree, whole_tree}
-use Rattle.value_compare.specs.Values.{Value}
+use Rattle.rule_meaning.specs.Finds.{pattern_in}
+use Rattle.rule_meaning.specs.Functions.{ForText, IsBoolean, IsDecimal, IsDecimalBy, IsDecoded, IsFloat, IsGiven, IsInt, IsJson, IsLower, IsParsed, IsPart, IsPrinted, IsReplaced, IsReplacement, IsSigned, IsSubstring, IsUnescaped, IsUpper, IsWholeBy, behind_plus, decimal_tree, printed_by, replaced_with, text_of, text_tree, truth_by, truth_tree, whole_tree}
+use Rattle.rule_meaning.specs.Values.{Value}
 
 -- of a relation: the tree that it gives, or that it gives none
 abbrev pub IsTold : (Forest → Type 0) → Type 0

@@ -11,12 +11,12 @@ use Rattle.doc_values.specs.Tree.{Label, Forest, Nil, Node, size, count}
 use Rattle.doc_values.specs.Places.{find, first_label, first_kids}
 use Rattle.guard_syntax.specs.Sites.{upto}
 use Rattle.guard_syntax.specs.Syntax.{File, literal}
-use Rattle.name_table.specs.Pieces.{Piece, OfExpr, piece_at}
+use Rattle.rule_names.specs.Pieces.{Piece, OfExpr, piece_at}
 use Rattle.value_compare.specs.Books.{has_text, IsBookOf}
 use Rattle.value_compare.specs.Held.{holds_if, holds_in, holds_of}
-use Rattle.value_compare.specs.Known.{tree_of_piece, literal_at}
-use Rattle.value_compare.specs.Patterns.{Written, written_if, is_sought, sought_text, patterns_in, patterns_of_piece, patterns_at}
-use Rattle.value_compare.specs.Values.{Value, value_of, value_at, values_in, is_pattern, has_pattern}
+use Rattle.rule_meaning.specs.Known.{tree_of_piece, literal_at}
+use Rattle.rule_meaning.specs.Patterns.{Written, written_if, is_sought, sought_text, patterns_in, patterns_of_piece, patterns_at}
+use Rattle.rule_meaning.specs.Values.{Value, value_of, value_at, values_in, is_pattern, has_pattern}
 
 -- a tree without patterns
 pub plain-held : (book : List (List ℕ)) (f : Forest) → has_pattern f ≡ false → holds_in book f ≡ true

@@ -4,7 +4,7 @@ use Rattle.std.specs.List.{list_all}
 use Rattle.doc_values.specs.Tree.{Forest, size, count}
 use Rattle.doc_values.specs.Places.{kids_at, child_place}
 use Rattle.value_compare.specs.Held.{holds_in, holds_of}
-use Rattle.value_compare.specs.Values.{value_at, values_in}
+use Rattle.rule_meaning.specs.Values.{value_at, values_in}
 use Rattle.value_compare.specs.Views.{see_view}
 use Rattle.value_compare.specs.declared.view.View.{View}
 use Rattle.value_compare.proofs.HeldPatterns.{held-item}

@@ -1,5 +1,5 @@
 pub mod Examples
-mod FindsLemmas
+pub mod FindsLemmas
 mod BookLemmas
 mod KeptMatchers
 mod Forests
@@ -16,8 +16,6 @@ mod Making
 mod SoughtSites
 mod MadeLists
 mod AnswerKinds
-mod AllHeld
 pub mod Patternless
 pub mod GivenTrees
 pub mod OneAnswer
-mod GivenAnswers

@@ -15,10 +15,10 @@ use Rattle.guard_syntax.specs.declared.row.Row.{Row}
 use Rattle.guard_syntax.specs.declared.row.Row.TheVariants as row
 use Rattle.regex.specs.Patterns.{Re}
 use Rattle.regex_syntax.specs.Grammar.{Names}
-use Rattle.value_compare.specs.Finds.{pattern_in}
-use Rattle.value_compare.specs.Functions.{AreRows, ForText, Functions, Gives, IsDecimal, IsDecimalBy, IsGiven, IsParsed, IsPart, IsReplacement, IsRow, IsRowFor, IsSigned, IsUnescaped, IsWholeBy, MadeRow, argument, decimal_tree, new_or_missing, printed_by, replaced_with, single_text, single_whole, text_of, text_tree, truth_by, truth_tree, whole_tree}
-use Rattle.value_compare.specs.Known.{Known, stands_for}
-use Rattle.value_compare.specs.Values.{Value}
+use Rattle.rule_meaning.specs.Finds.{pattern_in}
+use Rattle.rule_meaning.specs.Functions.{AreRows, ForText, Functions, Gives, IsDecimal, IsDecimalBy, IsGiven, IsParsed, IsPart, IsReplacement, IsRow, IsRowFor, IsSigned, IsUnescaped, IsWholeBy, MadeRow, argument, decimal_tree, new_or_missing, printed_by, replaced_with, single_text, single_whole, text_of, text_tree, truth_by, truth_tree, whole_tree}
+use Rattle.rule_meaning.specs.Known.{Known, stands_for}
+use Rattle.rule_meaning.specs.Values.{Value}
 
 some-same : {X : Type 0} (o : Option X) (x y : X) → o ≡ Some x → o ≡ Some y → x ≡ y
 some-same o x y e f = let s : Some x ≡ Some y = sym e ∙ f in cc

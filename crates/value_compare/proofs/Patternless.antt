@@ -5,7 +5,7 @@ use Rattle.doc_values.specs.declared.kind.Kind.TheVariants as kind
 use Rattle.doc_values.specs.Number.{Parts}
 use Rattle.doc_values.specs.Tree.{Label, Forest, Nil, Node}
 use Rattle.json_reader.specs.Json.{Contents, Collection, Object, Array, Entries, IsEntry, IsValue, IsNamed, StandsFor, kind_of, Shape, Json}
-use Rattle.value_compare.specs.Values.{is_pattern, has_pattern}
+use Rattle.rule_meaning.specs.Values.{is_pattern, has_pattern}
 
 number-plain : (p : Parts) (k : Kind) → StandsFor p k → is_pattern k ≡ false
 number-plain p kind.Null h = absurd h

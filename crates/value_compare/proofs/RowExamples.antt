@@ -5,8 +5,8 @@ use Rattle.doc_values.specs.declared.kind.Kind.{Kind}
 use Rattle.doc_values.specs.declared.kind.Kind.TheVariants as kind
 use Rattle.guard_syntax.specs.declared.syntax.Op.{Op}
 use Rattle.guard_syntax.specs.declared.syntax.Op.TheVariants as op
-use Rattle.value_compare.specs.RowTests.{row_test_of}
-use Rattle.value_compare.specs.Values.{Value, value_of_key}
+use Rattle.rule_meaning.specs.RowTests.{row_test_of}
+use Rattle.rule_meaning.specs.Values.{Value, value_of_key}
 
 abbrev plain : Kind → Value
 plain k = record { kind = k; text = []; contents = Nil }

@@ -6,7 +6,7 @@ use Rattle.std.proofs.lemmas.Bool.Decides.{nat_tests}
 use Rattle.std.proofs.lemmas.List.{get_or-set_same, get_or-set_other}
 use Rattle.std.proofs.lemmas.List.Folds.{list_any-append}
 use Rattle.guard_syntax.specs.Sites.{upto}
-use Rattle.value_compare.specs.Patterns.{is_site}
+use Rattle.rule_meaning.specs.Patterns.{is_site}
 use Rattle.value_compare.proofs.Making.{upto-more}
 
 or_false : (b : Bool) → b ≡ (b || false)

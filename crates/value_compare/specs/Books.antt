@@ -3,8 +3,8 @@ use Rattle.std.specs.Prelude.{ℕ, ◌≡◌, Bool, List, ◌∷◌, ◌++◌, A
 use Rattle.std.specs.List.{list_any}
 use Rattle.std.specs.Str.{bytes_eq}
 use Rattle.guard_syntax.specs.Syntax.{File}
-use Rattle.value_compare.specs.Finds.{pattern_in}
-use Rattle.value_compare.specs.Patterns.{Written, patterns_of}
+use Rattle.rule_meaning.specs.Finds.{pattern_in}
+use Rattle.rule_meaning.specs.Patterns.{Written, patterns_of}
 
 -- one of the texts is this
 abbrev pub has_text : List (List ℕ) → List ℕ → Bool

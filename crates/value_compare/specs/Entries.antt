@@ -3,8 +3,8 @@ use Rattle.std.specs.Prelude.{ℕ, Bool, false, List, Option}
 use Rattle.std.specs.Option.{option_map_or}
 use Rattle.doc_values.specs.Tree.{Forest}
 use Rattle.value_compare.specs.Held.{may_find}
-use Rattle.value_compare.specs.Pairs.{entry_of, equal, is_yes}
-use Rattle.value_compare.specs.Values.{Value}
+use Rattle.rule_meaning.specs.Pairs.{entry_of, equal, is_yes}
+use Rattle.rule_meaning.specs.Values.{Value}
 
 -- the entry of a key is there, and equal to a value
 abbrev pub has_equal : Option (List ℕ) → Value → Forest → Bool

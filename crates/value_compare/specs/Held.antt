@@ -5,8 +5,8 @@ use Rattle.doc_values.specs.Tree.{Forest, Nil, Node}
 use Rattle.doc_values.specs.declared.kind.Kind.{Kind}
 use Rattle.doc_values.specs.declared.kind.Kind.TheVariants as kind
 use Rattle.value_compare.specs.Books.{has_text}
-use Rattle.value_compare.specs.Pairs.{entry_of}
-use Rattle.value_compare.specs.Values.{Value, is_pattern}
+use Rattle.rule_meaning.specs.Pairs.{entry_of}
+use Rattle.rule_meaning.specs.Values.{Value, is_pattern}
 
 -- a book holds the text where it is a pattern's
 abbrev pub holds_if : Bool → List (List ℕ) → List ℕ → Bool

@@ -1,15 +1,7 @@
-pub mod Answered
 pub mod Books
 pub mod Entries
-pub mod Finds
-pub mod Functions
 pub mod Held
-pub mod Known
 pub mod Making
 pub mod Matching
-pub mod Pairs
-pub mod Patterns
-pub mod RowTests
 pub mod Stores
-pub mod Values
 pub mod Views

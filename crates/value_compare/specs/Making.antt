@@ -3,10 +3,10 @@ use Rattle.std.specs.Prelude.{ℕ, ◌≡◌, true, ◌||◌, List, ◌∷◌, �
 use Rattle.std.specs.List.{list_any}
 use Rattle.std.specs.Str.{bytes_eq}
 use Rattle.value_compare.specs.Books.{has_text}
-use Rattle.value_compare.specs.Finds.{pattern_in}
+use Rattle.rule_meaning.specs.Finds.{pattern_in}
 use Rattle.doc_values.specs.Tree.{Label}
-use Rattle.value_compare.specs.Patterns.{Written, written_if}
-use Rattle.value_compare.specs.Values.{is_pattern}
+use Rattle.rule_meaning.specs.Patterns.{Written, written_if}
+use Rattle.rule_meaning.specs.Values.{is_pattern}
 
 -- the pattern that a value is
 abbrev pub written : Label → List Written

@@ -1,6 +1,6 @@
 -- Stores as the code has them.
 use Rattle.guard_syntax.specs.Seen.{see_file}
-use Rattle.value_compare.specs.Known.{Known}
+use Rattle.rule_meaning.specs.Known.{Known}
 use Rattle.value_compare.specs.declared.store.Store.{Store}
 
 -- what a store is over

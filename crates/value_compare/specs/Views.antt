@@ -2,7 +2,7 @@
 use Rattle.std.specs.Prelude.{ℕ, ◌≡◌, Bool, true, false, Option, Some}
 use Rattle.doc_values.specs.Tree.{Forest}
 use Rattle.guard_syntax.specs.declared.row.Ref.{Ref}
-use Rattle.value_compare.specs.Values.{Value, value_at, value_of_key}
+use Rattle.rule_meaning.specs.Values.{Value, value_at, value_of_key}
 use Rattle.value_compare.specs.declared.view.View as shape
 use Rattle.value_compare.specs.declared.view.View.TheVariants as code
 

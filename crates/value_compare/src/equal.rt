@@ -3,16 +3,16 @@ ghost use Rattle.std.specs.Prelude.{◌≡◌, ℕ, Bool, true, false, List, IfO
 ghost use Rattle.doc_values.specs.Places.{label_at, kids_at};
 ghost use Rattle.doc_values.specs.Tree.{Nil};
 ghost use Rattle.value_compare.specs.Held.{holds_if, holds_in, holds_of, may_find, may_find_entries, may_find_items};
-ghost use Rattle.value_compare.specs.Pairs.{equal, equal_by, same_items, same_maps};
+ghost use Rattle.rule_meaning.specs.Pairs.{equal, equal_by, same_items, same_maps};
 ghost use Rattle.value_compare.specs.Entries.{has_equal, may_find_entry};
-ghost use Rattle.value_compare.specs.Values.{is_pattern, value_at, value_of_key};
+ghost use Rattle.rule_meaning.specs.Values.{is_pattern, value_at, value_of_key};
 ghost use Rattle.value_compare.specs.Views.{see_view};
 
-use crate::answer::PairAnswer;
 use crate::matchers::Matchers;
 use crate::range;
 use crate::view::View;
 use doc_values::{Cursor, Decimal, Kind};
+use rule_meaning::PairAnswer;
 use std::alloc::AllocError;
 
 /// Null and a value.

@@ -2,11 +2,9 @@
 //! The tables speak of located trees; the crate knows neither queries nor verdicts.
 #![tactic(auto)]
 
-pub mod answer;
 pub mod book;
 mod equal;
 mod finder;
-pub mod laws;
 mod literals;
 pub mod made;
 pub mod make_book;
@@ -14,8 +12,6 @@ pub mod maker;
 mod matchers;
 mod members;
 mod order;
-#[cfg(test)]
-mod pair_tests;
 pub mod pairs;
 pub mod pattern;
 mod range;
@@ -26,9 +22,7 @@ pub mod store;
 mod unary;
 pub mod view;
 
-pub use answer::PairAnswer;
 pub use book::PatternBook;
-pub use laws::one_answer;
 pub use made::MadeTrees;
 pub use make_book::{BookRefusal, pattern_book};
 pub use maker::{PatternFault, PatternMaker, RegexMaker, ScriptMaker};
@@ -36,5 +30,6 @@ pub use pairs::pair;
 pub use pattern::Pattern;
 pub use replacer::Replacer;
 pub use row_tests::row_test;
+pub use rule_meaning::PairAnswer;
 pub use store::Store;
 pub use view::View;

@@ -3,11 +3,11 @@ ghost use Rattle.std.specs.Prelude.{◌≡◌, ℕ, List, true, None, Some, Matc
 ghost use Rattle.guard_syntax.specs.Seen.{see_expr, see_file};
 ghost use Rattle.value_compare.specs.Books.{IsBookOf};
 ghost use Rattle.value_compare.specs.Held.{holds_in};
-ghost use Rattle.value_compare.specs.Known.{literal_at, tree_of_expr};
+ghost use Rattle.rule_meaning.specs.Known.{literal_at, tree_of_expr};
 
 use doc_values::Doc;
 use guard_syntax::Expr;
-use name_table::{Piece, RuleFile};
+use rule_names::{Piece, RuleFile};
 
 /// The tree of the literal of a site. Other sites, and numbers that are no site, have none.
 pub(crate) fn literal(file: &RuleFile, site: u32) -> Option<&Doc<'static>>

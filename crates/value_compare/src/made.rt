@@ -1,8 +1,8 @@
 //! Trees that function calls made.
 ghost use Rattle.std.specs.Prelude.{◌≡◌, ◌++◌, ◌∷◌, ℕ, [], Option, None, Some, MatchOption, IfSome, OnOk, OnErr, false};
 ghost use Rattle.doc_values.specs.Tree.{Forest};
-ghost use Rattle.value_compare.specs.Known.{Made, made_at};
-ghost use Rattle.value_compare.specs.Values.{has_pattern};
+ghost use Rattle.rule_meaning.specs.Known.{Made, made_at};
+ghost use Rattle.rule_meaning.specs.Values.{has_pattern};
 
 use doc_values::Doc;
 use indexmap::IndexMap;
@@ -25,8 +25,8 @@ pub struct MadeTrees {
 impl Model for MadeTrees {
     ghost use Rattle.std.specs.Prelude.{◌≡◌, List, map, All, false};
     ghost use Rattle.std.specs.Coded.{coded_list};
-    ghost use Rattle.value_compare.specs.Known.{Made, made_code};
-    ghost use Rattle.value_compare.specs.Values.{has_pattern};
+    ghost use Rattle.rule_meaning.specs.Known.{Made, made_code};
+    ghost use Rattle.rule_meaning.specs.Values.{has_pattern};
 
     ghost Value = { List Made };
 

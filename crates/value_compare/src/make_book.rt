@@ -5,16 +5,16 @@ ghost use Rattle.doc_values.specs.Tree.{has_text};
 ghost use Rattle.guard_io.specs.Outside.{Rose};
 ghost use Rattle.guard_syntax.specs.Seen.{see_file};
 ghost use Rattle.value_compare.specs.Books.{IsBookOf, IsNext};
-ghost use Rattle.value_compare.specs.Finds.{pattern_in};
+ghost use Rattle.rule_meaning.specs.Finds.{pattern_in};
 ghost use Rattle.value_compare.specs.Making.{AreRead, IsReadBook, Gains, IsNextOf, written};
-ghost use Rattle.value_compare.specs.Patterns.{is_sought, patterns_at, patterns_in, patterns_of, sought_text};
+ghost use Rattle.rule_meaning.specs.Patterns.{is_sought, patterns_at, patterns_in, patterns_of, sought_text};
 
 use crate::book::PatternBook;
 use crate::literals::literal;
 use crate::maker::{PatternFault, PatternMaker};
 use crate::sought::sought_sites;
 use doc_values::{Cursor, Doc, Kind};
-use name_table::RuleFile;
+use rule_names::RuleFile;
 use std::alloc::Global;
 
 /// Why the patterns of a rule file were not made: the first that was not, by the byte offset of the slash or quote that

@@ -2,7 +2,7 @@
 ghost use Rattle.std.specs.Prelude.{◌≡◌, ◌≤◌, ℕ, nat_eq, true, List, IfOk, IsErrOf, IsNone, IsSome, OnOk};
 ghost use Rattle.std.specs.List.{list_any};
 ghost use Rattle.guard_io.specs.Outside.{Rose, one_more};
-ghost use Rattle.value_compare.specs.Finds.{pattern_in};
+ghost use Rattle.rule_meaning.specs.Finds.{counted, pattern_in};
 
 use crate::pattern::Pattern;
 use regex::{Error, Regex};
@@ -18,7 +18,8 @@ pub enum PatternFault {
     Memory,
 }
 
-/// A maker of patterns, with a count of faults for each text. One counter may serve as the count of every text.
+/// A maker of patterns, with a count of faults for each text. One counter may serve as the count of every text. A maker that
+/// refuses only patterns has a count that stays for every other text, as that of `RegexMaker` does.
 pub trait PatternMaker {
     ghost faults: { Self → List ℕ → ℕ };
 
@@ -37,25 +38,36 @@ fn read_pattern(alloc: Global, text: &str) -> Result<Pattern, PatternFault>
     ensures made { IfOk result (λ pattern. pattern ≡ text.now) }
     ensures read { OnOk result (IsSome (pattern_in text.now)) }
     ensures syntax { IsErrOf result PatternFault.Syntax → IsNone (pattern_in text.now) }
+    ensures large { IsErrOf result PatternFault.TooLarge → IsSome (pattern_in text.now) }
 {
     match Regex::new(alloc, text) {
         Ok(regex) => Ok(Pattern::of(regex)),
         Err(Error::Syntax(_)) => Err(PatternFault::Syntax),
-        Err(Error::CompiledTooBig | Error::Internal) => Err(PatternFault::TooLarge),
+        Err(Error::CompiledTooBig) => Err(PatternFault::TooLarge),
+        Err(Error::Internal) => unreachable!(),
         Err(Error::OutOfMemory) => Err(PatternFault::Memory),
     }
 }
 
-/// Makes patterns by the crate of regular expressions; it counts the patterns that were too large.
+/// Makes patterns by the crate of regular expressions; it counts the patterns that were too large. A text that is no
+/// pattern is never counted.
 #[derive(Debug, Drop)]
 pub struct RegexMaker {
     pub faults: u64,
 }
 
 impl PatternMaker for RegexMaker {
-    ghost faults = { λ maker text. maker.faults };
+    ghost faults = { λ maker text. counted maker.faults text };
 
-    fn make(&mut self, alloc: Global, text: &str) -> Result<Pattern, PatternFault> {
+    fn make(&mut self, alloc: Global, text: &str) -> Result<Pattern, PatternFault>
+        ensures made { IfOk result (λ pattern. pattern ≡ text.now) }
+        ensures read { OnOk result (IsSome (pattern_in text.now)) }
+        ensures syntax { IsErrOf result PatternFault.Syntax → IsNone (pattern_in text.now) }
+        ensures large { IsErrOf result PatternFault.TooLarge → IsSome (pattern_in text.now) }
+        ensures too_large { IsErrOf result PatternFault.TooLarge
+            → Rose (counted self.old.faults text.now) (counted self.new.faults text.now) }
+        ensures kept { (other : List ℕ) → counted self.old.faults other ≤ counted self.new.faults other }
+    {
         let made = read_pattern(alloc, text);
         if let Err(PatternFault::TooLarge) = made {
             self.faults = self.faults.saturating_add(1);

@@ -3,17 +3,17 @@ ghost use Rattle.std.specs.Prelude.{◌≡◌, true, false, map, IfOk, MatchOpti
 ghost use Rattle.std.specs.List.{list_all, list_any};
 ghost use Rattle.doc_values.specs.Places.{kids_at};
 ghost use Rattle.value_compare.specs.Held.{holds_in, holds_of};
-ghost use Rattle.value_compare.specs.Pairs.{equal, is_no, is_yes, told};
-ghost use Rattle.value_compare.specs.RowTests.{is_in, is_member_of_some, is_not_in, is_some_right, member};
-ghost use Rattle.value_compare.specs.Values.{is_list, value_at, values_in};
+ghost use Rattle.rule_meaning.specs.Pairs.{equal, is_no, is_yes, told};
+ghost use Rattle.rule_meaning.specs.RowTests.{is_in, is_member_of_some, is_not_in, is_some_right, member};
+ghost use Rattle.rule_meaning.specs.Values.{is_list, value_at, values_in};
 ghost use Rattle.value_compare.specs.Views.{see_view};
 
-use crate::answer::PairAnswer;
 use crate::matchers::Matchers;
 use crate::pairs::pair_by;
 use crate::view::View;
 use doc_values::{Cursor, Kind};
 use guard_syntax::Op;
+use rule_meaning::PairAnswer;
 use std::alloc::AllocError;
 
 /// Whether a value is in right ones; a list is also in where each of its items is.

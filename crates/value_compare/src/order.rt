@@ -2,13 +2,13 @@
 ghost use Rattle.std.specs.Prelude.{◌≡◌};
 ghost use Rattle.std.specs.Option.{option_map_or};
 ghost use Rattle.guard_syntax.specs.declared.syntax.Op.{Op};
-ghost use Rattle.value_compare.specs.Pairs.{told, holds_of, ordered};
+ghost use Rattle.rule_meaning.specs.Pairs.{told, holds_of, ordered};
 ghost use Rattle.value_compare.specs.Views.{see_view};
 
-use crate::answer::PairAnswer;
 use crate::view::View;
 use doc_values::Kind;
 use guard_syntax::Op;
+use rule_meaning::PairAnswer;
 use std::cmp::Ordering;
 
 /// Whether an order is the one that an operator asks for.

@@ -1,16 +1,16 @@
 //! Pairs of values.
 ghost use Rattle.std.specs.Prelude.{◌≡◌, true, false, IfOk, IsOk};
 ghost use Rattle.value_compare.specs.Held.{holds_of, may_find};
-ghost use Rattle.value_compare.specs.Pairs.{is_pair_operator, is_order, pair_of};
+ghost use Rattle.rule_meaning.specs.Pairs.{is_pair_operator, is_order, pair_of};
 ghost use Rattle.value_compare.specs.Views.{see_view};
 
-use crate::answer::PairAnswer;
 use crate::book::PatternBook;
 use crate::equal::pair_equal;
 use crate::matchers::Matchers;
 use crate::order::pair_order;
 use crate::view::View;
 use guard_syntax::Op;
+use rule_meaning::PairAnswer;
 use std::alloc::{AllocError, Global};
 
 /// What `Eq` or an order operator says of two values. It takes no memory where no pattern is compared.

@@ -1,9 +1,9 @@
 //! Numbers in ranges.
 ghost use Rattle.std.specs.Prelude.{◌≡◌};
-ghost use Rattle.value_compare.specs.Pairs.{is_past, whole_in, decimal_in};
+ghost use Rattle.rule_meaning.specs.Pairs.{is_past, whole_in, decimal_in};
 
-use crate::answer::PairAnswer;
 use doc_values::{Decimal, Num, Range};
+use rule_meaning::PairAnswer;
 use std::cmp::Ordering;
 
 /// Whether a number lies on the inner side of an end of a range. The order is that of the lower of the two to the higher,

@@ -1,28 +1,30 @@
 //! Tests on one row.
-ghost use Rattle.std.specs.Prelude.{◌≡◌, ℕ, List, IfSome, None, Some, true, false, map, IfOk, MatchOption};
+ghost use Rattle.std.specs.Prelude.{◌≡◌, ℕ, List, [], IfSome, None, Some, true, false, map, IfOk, IsOk, MatchOption};
 ghost use Rattle.std.specs.List.{list_all, list_any};
+ghost use Rattle.std.specs.Option.{option_map_or};
 ghost use Rattle.guard_syntax.specs.Seen.{see_file};
 ghost use Rattle.value_compare.specs.Books.{IsBookOf};
 ghost use Rattle.value_compare.specs.Held.{holds_of};
-ghost use Rattle.value_compare.specs.Known.{meant, is_known};
-ghost use Rattle.value_compare.specs.Pairs.{equal, is_no, is_order, is_yes, ordered};
-ghost use Rattle.value_compare.specs.RowTests.{binary, found_of, is_binary, is_some_right, row_test_of};
+ghost use Rattle.rule_meaning.specs.Known.{meant, is_known};
+ghost use Rattle.rule_meaning.specs.Pairs.{equal, is_no, is_order, is_yes, ordered};
+ghost use Rattle.rule_meaning.specs.RowTests.{binary, found_of, is_binary, is_some_right, row_test_of};
 ghost use Rattle.value_compare.specs.Stores.{see_store};
 ghost use Rattle.value_compare.specs.Views.{see_view};
 
-use crate::answer::PairAnswer;
 use crate::book::PatternBook;
 use crate::matchers::Matchers;
 use crate::members::{outside, within};
+use crate::order::pair_order;
 use crate::pairs::pair_by;
 use crate::store::Store;
 use crate::unary::unary_test;
 use crate::view::View;
 use guard_syntax::{Op, Row};
+use rule_meaning::PairAnswer;
 use std::alloc::{AllocError, Global};
 
 /// Whether a left row passes a test against the right rows; a unary test has none. The store knows each row, and the book
-/// was made of the store's rule file.
+/// was made of the store's rule file. Memory is taken only to compare a value by `==` or `IN` with right values that are there.
 pub fn row_test(
     alloc: Global,
     op: Op,
@@ -36,7 +38,11 @@ pub fn row_test(
     requires left { is_known (see_store store.now) left.now ≡ true }
     requires right { list_all (is_known (see_store store.now)) right.now ≡ true }
     requires book { IsBookOf (see_file store.now.file.now.raw) book.now }
-    ensures { IfOk result (λ passes. passes ≡ row_test_of op not (meant (see_store store.now) left.now) (map (meant (see_store store.now)) right.now)) }
+    ensures answer { IfOk result (λ passes. passes ≡ row_test_of op not (meant (see_store store.now) left.now) (map (meant (see_store store.now)) right.now)) }
+    ensures no_memory_unary { is_binary op ≡ false → IsOk result }
+    ensures no_memory_order { is_order op ≡ true → IsOk result }
+    ensures no_memory_left { meant (see_store store.now) left.now ≡ None → IsOk result }
+    ensures no_memory_right { found_of (map (meant (see_store store.now)) right.now) ≡ [] → IsOk result }
 {
     let left = found(left, store);
     if !has_right(op) {
@@ -45,12 +51,22 @@ pub fn row_test(
     let Some(left) = left else {
         return Ok(false);
     };
-    let rights = found_rows(alloc, right, store)?;
-    if rights.is_empty() {
+    if !has_found(right, store) {
         return Ok(false);
     }
+    if is_order(op) {
+        return Ok(stands_to_each(op, left, right, store));
+    }
+    let rights = found_rows(alloc, right, store)?;
     let mut matchers = Matchers::new(alloc, book);
     binary_test(&mut matchers, op, not, left, &rights)
+}
+
+/// Whether a test asks for an order.
+fn is_order(op: Op) -> bool
+    ensures { result ≡ is_order op }
+{
+    matches!(op, Op::Lt | Op::Le | Op::Gt | Op::Ge)
 }
 
 /// Whether a test has a right side.
@@ -74,6 +90,18 @@ fn found<'v, 's>(row: &Row, store: &'v Store<'_, 's>) -> Option<View<'v, 's>>
     }
 }
 
+/// Whether one of the rows has found a value.
+fn has_found(rows: &[Row], store: &Store<'_, '_>) -> bool
+    ensures { result ≡ is_some_right (found_of (map (meant (see_store store.now)) rows.now)) }
+{
+    for row in rows {
+        if let Some(_) = found(row, store) {
+            return true;
+        }
+    }
+    false
+}
+
 /// The values that rows have found; missing ones are passed over.
 fn found_rows<'v, 's>(
     alloc: Global,
@@ -92,7 +120,7 @@ fn found_rows<'v, 's>(
     Ok(views)
 }
 
-/// Whether a value passes a test against right ones.
+/// Whether a value passes a test against right ones that asks for no order.
 fn binary_test(
     matchers: &mut Matchers<'_>,
     op: Op,
@@ -101,7 +129,7 @@ fn binary_test(
     rights: &[View<'_, '_>],
 ) -> Result<bool, AllocError>
     requires op { is_binary op ≡ true }
-    requires order { is_order op ≡ true → not ≡ false }
+    requires order { is_order op ≡ false }
     requires some { is_some_right (map see_view rights.now) ≡ true }
     requires held { list_all (λ r. holds_of matchers.old.book.now (see_view r)) rights.now ≡ true }
     ensures { IfOk result (λ passes. passes ≡ binary op not (see_view left.entry) (map see_view rights.entry.now)) }
@@ -121,7 +149,7 @@ fn binary_test(
                 within(matchers, left, rights)
             }
         }
-        _ => stands_to_each(matchers, op, left, rights),
+        _ => unreachable!(),
     }
 }
 
@@ -161,22 +189,26 @@ fn differs_from_each(
     Ok(true)
 }
 
-/// `<`, `<=`, `>`, `>=`: the order holds with each right value.
-fn stands_to_each(
-    matchers: &mut Matchers<'_>,
-    op: Op,
-    left: View<'_, '_>,
-    rights: &[View<'_, '_>],
-) -> Result<bool, AllocError>
-    requires op { is_order op ≡ true }
-    requires held { list_all (λ r. holds_of matchers.old.book.now (see_view r)) rights.now ≡ true }
-    ensures { IfOk result (λ b. b ≡ list_all (λ r. is_yes (ordered op (see_view left.entry) r)) (map see_view rights.entry.now)) }
+/// `<`, `<=`, `>`, `>=`: the order holds with each right value, of which there is one. It takes no memory.
+fn stands_to_each(op: Op, left: View<'_, '_>, rights: &[Row], store: &Store<'_, '_>) -> bool
+    requires order { is_order op ≡ true }
+    requires some { is_some_right (found_of (map (meant (see_store store.now)) rights.now)) ≡ true }
+    ensures { result ≡ binary op false (see_view left.entry) (found_of (map (meant (see_store store.now)) rights.now)) }
 {
-    for right in rights {
-        match pair_by(matchers, op, left, *right)? {
-            PairAnswer::Yes => {}
-            PairAnswer::No | PairAnswer::Apart => return Ok(false),
+    for row in rights {
+        if !stands_to(op, left, row, store) {
+            return false;
         }
     }
-    Ok(true)
+    true
+}
+
+/// Whether the order holds with the value that a row has found; where it has found none, nothing is asked.
+fn stands_to(op: Op, left: View<'_, '_>, row: &Row, store: &Store<'_, '_>) -> bool
+    ensures { result ≡ option_map_or (λ r. is_yes (ordered op (see_view left.entry) r)) (meant (see_store store.now) row.now) true }
+{
+    match found(row, store) {
+        None => true,
+        Some(right) => pair_order(op, left, right).is_yes(),
+    }
 }

@@ -1,11 +1,11 @@
 //! The literals from which calls read patterns.
 ghost use Rattle.std.specs.Prelude.{◌≡◌, ◌<◌, ◌||◌, ℕ, false, length, map, slice_index_or, IfOk, Some};
 ghost use Rattle.guard_syntax.specs.Seen.{expr_list, see_expr, see_file};
-ghost use Rattle.name_table.specs.Uses.{expr_in};
-ghost use Rattle.value_compare.specs.Patterns.{is_site, is_sought, literal_site, sought_at, sought_by};
+ghost use Rattle.rule_names.specs.Uses.{expr_in};
+ghost use Rattle.rule_meaning.specs.Patterns.{is_site, is_sought, literal_site, sought_at, sought_by};
 
 use guard_syntax::Expr;
-use name_table::{Piece, RuleFile};
+use rule_names::{Piece, RuleFile};
 use std::alloc::{AllocError, Global};
 
 /// Of each site whether a call reads a pattern from its literal.

@@ -3,8 +3,8 @@ ghost use Rattle.std.specs.Prelude.{◌≡◌, ◌++◌, ◌∷◌, ℕ, [], Opt
 ghost use Rattle.guard_syntax.specs.Seen.{see_file};
 ghost use Rattle.value_compare.specs.Books.{IsBookOf};
 ghost use Rattle.value_compare.specs.Held.{holds_in, holds_of};
-ghost use Rattle.value_compare.specs.Known.{made_at, stands_for, tree_of, value_in};
-ghost use Rattle.value_compare.specs.Values.{has_pattern};
+ghost use Rattle.rule_meaning.specs.Known.{made_at, stands_for, tree_of, value_in};
+ghost use Rattle.rule_meaning.specs.Values.{has_pattern};
 ghost use Rattle.value_compare.specs.Views.{IsSeenAt, IsSeenIn, see_view};
 
 use crate::literals::literal;
@@ -12,7 +12,7 @@ use crate::made::MadeTrees;
 use crate::view::View;
 use doc_values::Doc;
 use guard_syntax::{Origin, Ref};
-use name_table::RuleFile;
+use rule_names::RuleFile;
 use std::alloc::{AllocError, Global};
 
 /// The trees that references point into: a template without patterns, the literals of a rule file, and the trees that

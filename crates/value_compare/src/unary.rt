@@ -1,7 +1,7 @@
 //! Tests without a right side. They take no memory.
 ghost use Rattle.std.specs.Prelude.{◌≡◌, MatchOption, None, Some};
 ghost use Rattle.std.specs.Option.{option_map};
-ghost use Rattle.value_compare.specs.RowTests.{has_kind, is_empty, passes_found, passes_missing, unary};
+ghost use Rattle.rule_meaning.specs.RowTests.{has_kind, is_empty, passes_found, passes_missing, unary};
 ghost use Rattle.value_compare.specs.Views.{see_view};
 
 use crate::view::View;

@@ -1,4 +1,3 @@
-mod AheadStays
 mod BlockGains
 mod BlockRests
 mod Colons

@@ -5,7 +5,6 @@ pub mod Flow
 pub mod Nodes
 pub mod Refused
 pub mod Rest
-pub mod Seen
 pub mod Signs
 pub mod Steps
 pub mod Yaml

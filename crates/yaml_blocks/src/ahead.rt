@@ -1,12 +1,10 @@
 //! What a place has ahead, behind white space, comments and breaks.
-ghost use Rattle.std.specs.Prelude.{◌≡◌, ◌≤◌, ◌<◌, ◌+◌, ◌||◌, ℕ, List, slice_index, nat_lt, nat_eq, true, false, length, drop};
+ghost use Rattle.std.specs.Prelude.{◌≡◌, ◌≤◌, ◌<◌, ◌+◌, ◌||◌, ℕ, slice_index, nat_lt, nat_eq, true, false, length, drop};
 ghost use Rattle.std.specs.Str.{IsCharBoundary};
-ghost use Rattle.yaml_scalars.specs.Agreement.{AgreesTo};
 ghost use Rattle.yaml_scalars.specs.Lines.{lines, begins_with, is_end, is_mark, lead};
 ghost use Rattle.yaml_scalars.specs.Plain.{is_flow_mark, is_unsafe};
 ghost use Rattle.yaml_scalars.specs.Walk.{line_at};
 ghost use Rattle.yaml_blocks.specs.Ahead.{is_letter, is_name, begins_letter, ends_tag, tag_token, other_token, block_token, tab_token, token_of, token_at, mark_of, has_return, is_passed, is_tabbed, content_ahead, line_ahead, rest_ahead, ahead};
-ghost use Rattle.yaml_blocks.specs.Seen.{ahead_seen};
 ghost use Rattle.yaml_blocks.specs.Steps.{IsSeen};
 
 use yaml_scalars::lines::{
@@ -15,7 +13,7 @@ use yaml_scalars::lines::{
 
 /// A token of a document, but for scalars.
 #[derive(Clone, Copy, Debug, PartialEq, Eq)]
-pub(crate) enum Token {
+pub enum Token {
     /// The text's end.
     End,
     /// A line that begins with `---`.
@@ -391,9 +389,3 @@ pub(crate) fn look(text: &str, flow: bool, at: usize) -> Ahead
 {
     bytes_ahead(text.as_bytes(), flow, at)
 }
-
-/// What a place has ahead is the same in another text that agrees with this one through the byte that shows it, unless
-/// that byte is a carriage return, behind which a line feed may stand or not. The call itself does nothing.
-pub fn same_ahead(text: &str, flow: bool, at: usize)
-    ensures { (other : List ℕ) (place : ℕ) → AgreesTo place text.now other → begins_with 13 (drop place text.now) ≡ false → at ≤ place → ahead_seen text.now at ≤ place → ahead other flow at ≡ ahead text.now flow at }
-{}

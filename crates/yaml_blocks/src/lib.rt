@@ -6,25 +6,15 @@
 
 mod ahead;
 mod block;
-#[cfg(test)]
-mod block_tests;
-#[cfg(test)]
-mod cases;
 mod flow;
 mod form;
 mod node;
 mod read;
 mod refusal;
 mod sign;
-#[cfg(test)]
-mod sign_tests;
 mod stage;
 mod step;
-#[cfg(test)]
-mod tag_tests;
-#[cfg(test)]
-mod tests;
 
-pub use ahead::same_ahead;
+pub use ahead::Token;
 pub use read::read_yaml;
 pub use refusal::YamlRefusal;

@@ -1,11 +1,9 @@
-pub mod Agreement
 pub mod Lines
 pub mod Plain
 pub mod Quoted
 pub mod Block
 pub mod Kinds
 pub mod Scalar
-pub mod Refusals
 pub mod Walk
 pub mod BlockSteps
 pub mod QuotedSteps

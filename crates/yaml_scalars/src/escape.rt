@@ -23,7 +23,7 @@ pub(crate) enum Meaning {
 
 /// What a number by hexadecimal digits is to be.
 #[derive(Clone, Copy)]
-pub(crate) enum Wanted {
+pub enum Wanted {
     Character,
     /// A unit of UTF-16 that is no low surrogate.
     FirstUnit,

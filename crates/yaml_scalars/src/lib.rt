@@ -5,23 +5,19 @@
 #![tactic(auto)]
 
 mod block;
-#[cfg(test)]
-mod block_tests;
 mod escape;
 mod header;
 mod kind;
 pub mod lines;
 mod plain;
-mod plain_line;
+pub mod plain_line;
 mod quoted;
-#[cfg(test)]
-mod quoted_tests;
 mod read;
 mod scalar;
-#[cfg(test)]
-mod tests;
 mod trim;
 
+pub use escape::Wanted;
 pub use kind::{one_kind, plain_kind};
-pub use read::{read_scalar, same_scalar, syntax_place};
+pub use plain_line::{Below, Why};
+pub use read::read_scalar;
 pub use scalar::{Scalar, ScalarRefusal, Setting};

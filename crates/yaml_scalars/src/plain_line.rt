@@ -11,7 +11,7 @@ use crate::scalar::Setting;
 
 /// Why a plain scalar ends on its line.
 #[derive(Clone, Copy)]
-pub(crate) enum Why {
+pub enum Why {
     Break,
     Return,
     Colon,
@@ -21,7 +21,7 @@ pub(crate) enum Why {
 
 /// What a line below is for a plain scalar; of a further line, how many bytes stand before its content.
 #[derive(Clone, Copy)]
-pub(crate) enum Below {
+pub enum Below {
     Blank,
     Outside,
     Further(usize),

@@ -1,9 +1,6 @@
 //! A scalar of any form.
-ghost use Rattle.std.specs.Prelude.{ℕ, List, ◌≡◌, ◌<◌, ◌≤◌, ◌≤ℤ◌, length, drop, false, pos, negsuc, IfOk};
+ghost use Rattle.std.specs.Prelude.{◌<◌, ◌≤◌, ◌≤ℤ◌, length, pos, negsuc, IfOk};
 ghost use Rattle.std.specs.Str.{IsCharBoundary};
-ghost use Rattle.yaml_scalars.specs.Agreement.{AgreesTo, scalar_shown};
-ghost use Rattle.yaml_scalars.specs.Lines.{Fails, Stands, begins_with};
-ghost use Rattle.yaml_scalars.specs.Refusals.{IsSyntax};
 ghost use Rattle.yaml_scalars.specs.Scalar.{IsEndOf, Answers, scalar_at, is_typed};
 
 use crate::block::read_block;
@@ -34,17 +31,3 @@ pub fn read_scalar<'s>(
         _ => read_plain(alloc, text, at, setting),
     }
 }
-
-/// Where `read_scalar` answers `Syntax`, no text that agrees with this one up to that place and with the byte there has a
-/// scalar of the setting there; or the place is the text's length, and a longer text has one. The call itself does nothing.
-pub fn syntax_place(text: &str, at: usize, setting: Setting)
-    requires { at < length text.now }
-    ensures { (place : ℕ) → scalar_at setting text.now at ≡ Fails place → IsSyntax setting text.now at place }
-{}
-
-/// Where a scalar stands, another text that agrees with this one through the byte that shows the scalar's end has the same
-/// scalar there, unless that byte is a carriage return, behind which a line feed may stand or not. The call itself does
-/// nothing.
-pub fn same_scalar(text: &str, at: usize, setting: Setting)
-    ensures { (other scalar : List ℕ) (place end : ℕ) → AgreesTo place text.now other → begins_with 13 (drop place text.now) ≡ false → at ≤ place → scalar_shown setting text.now at end ≤ place → scalar_at setting text.now at ≡ Stands scalar end → scalar_at setting other at ≡ Stands scalar end }
-{}

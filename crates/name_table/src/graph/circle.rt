@@ -1,7 +1,7 @@
 //! Nodes that reach themselves.
 ghost use Rattle.std.specs.Prelude.{◌≡◌, ◌<◌, ◌≤◌, ◌↔◌, ℕ, IfOk, IsTrue, MatchOption, length};
-ghost use Rattle.name_table.specs.Graphs.{IsFirstOnCircle, NoneOnCircle, Reaches};
-ghost use Rattle.name_table.specs.Marks.{IsMarked};
+ghost use Rattle.rule_names.specs.Graphs.{IsFirstOnCircle, NoneOnCircle, Reaches};
+ghost use Rattle.rule_names.specs.Marks.{IsMarked};
 
 use crate::graph::Graph;
 use crate::graph::ordering::{Outcome, walk_all};

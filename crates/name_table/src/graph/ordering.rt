@@ -1,8 +1,8 @@
 //! An order in which each node stands behind all that it names, if no node reaches itself.
 ghost use Rattle.std.specs.Prelude.{◌≡◌, ◌<◌, [], IfOk, MatchOption, MatchBool, length};
 ghost use Rattle.std.specs.List.{All};
-ghost use Rattle.name_table.specs.Graphs.{HasCircle};
-ghost use Rattle.name_table.specs.Marks.{IsMarked};
+ghost use Rattle.rule_names.specs.Graphs.{HasCircle};
+ghost use Rattle.rule_names.specs.Marks.{IsMarked};
 ghost use Rattle.name_table.specs.Ordering.{AreMarkedFrom, IsFirstUnmarked, IsSettled, IsWalked, IsOutcome, Begins};
 
 use crate::graph::Graph;

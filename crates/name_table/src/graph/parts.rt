@@ -1,7 +1,7 @@
 //! Nodes below a number stand for parts, the others for names: where a name is used in what it stands for.
 ghost use Rattle.std.specs.Prelude.{◌≡◌, ◌<◌, ◌≤◌, ◌↔◌, ℕ, [], IfOk, IsTrue, MatchOption, length, slice_index_or};
 ghost use Rattle.std.specs.List.{All};
-ghost use Rattle.name_table.specs.Marks.{IsMarked};
+ghost use Rattle.rule_names.specs.Marks.{IsMarked};
 ghost use Rattle.name_table.specs.Narrow.{IsLeast, IsPartUse, Leads, NoneBelow};
 
 use crate::graph::Graph;

@@ -2,8 +2,8 @@
 ghost use Rattle.std.specs.Prelude.{◌≡◌, ◌<◌, ℕ, false, length, IfOk, ◌↔◌, replicate};
 ghost use Rattle.std.specs.List.{All};
 ghost use Rattle.std.specs.Result.{OnOk};
-ghost use Rattle.name_table.specs.Graphs.{Reaches};
-ghost use Rattle.name_table.specs.Marks.{IsMarked, Marks};
+ghost use Rattle.rule_names.specs.Graphs.{Reaches};
+ghost use Rattle.rule_names.specs.Marks.{IsMarked, Marks};
 
 use crate::graph::Graph;
 use std::alloc::{AllocError, Global};

@@ -2,8 +2,8 @@
 ghost use Rattle.std.specs.Prelude.{◌≡◌, ◌<◌, ℕ, IfOk, length};
 ghost use Rattle.std.specs.List.{All};
 ghost use Rattle.std.specs.Result.{OnOk};
-ghost use Rattle.name_table.specs.Graphs.{IsReverse};
-ghost use Rattle.name_table.specs.Marks.{NamesMore};
+ghost use Rattle.rule_names.specs.Graphs.{IsReverse};
+ghost use Rattle.rule_names.specs.Marks.{NamesMore};
 
 use crate::graph::Graph;
 use std::alloc::{AllocError, Global};

@@ -2,10 +2,10 @@
 //! scope around.
 ghost use Rattle.std.specs.Prelude.{◌≡◌, ◌++◌, IfOk, map};
 ghost use Rattle.guard_syntax.specs.Seen.{see_let, see_rule, see_body, see_conds, see_opt_conds, see_disj, see_part, see_query, see_step, see_expr, see_opt_expr, let_list, disj_list, part_list, step_list, expr_list};
-ghost use Rattle.name_table.specs.Homes.{homes_rules, homes_rule, homes_body, homes_lets, homes_let, homes_conds, homes_opt_conds, homes_disjs, homes_disj, homes_parts, homes_part, homes_query, homes_steps, homes_step, homes_expr, homes_opt_expr, homes_exprs};
+ghost use Rattle.rule_names.specs.Homes.{homes_rules, homes_rule, homes_body, homes_lets, homes_let, homes_conds, homes_opt_conds, homes_disjs, homes_disj, homes_parts, homes_part, homes_query, homes_steps, homes_step, homes_expr, homes_opt_expr, homes_exprs};
 
-use crate::siblings::HasSite;
 use guard_syntax::{Body, Conds, Disj, Expr, Let, Part, Query, Rule, Step, StepForm};
+use rule_names::siblings::HasSite;
 use std::alloc::AllocError;
 
 /// The site of a part, and that of the scope in which it stands.

@@ -1,15 +1,15 @@
 //! What a walk over the uses of names has to know of the whole file.
 ghost use Rattle.std.specs.Prelude.{◌≡◌, IfOk};
 ghost use Rattle.guard_syntax.specs.Seen.{see_file};
-ghost use Rattle.name_table.specs.Links.{value_in};
-ghost use Rattle.name_table.specs.Pieces.{piece_at, AreInOrder};
+ghost use Rattle.rule_names.specs.Links.{value_in};
+ghost use Rattle.rule_names.specs.Pieces.{piece_at, AreInOrder};
 ghost use Rattle.name_table.specs.RuleSites.{AreRuleSites, site_named};
 
-use crate::find::in_file;
-use crate::piece::Piece;
-use crate::siblings::HasSite;
 use crate::ways::sites_of;
 use guard_syntax::RawFile;
+use rule_names::Piece;
+use rule_names::find::in_file;
+use rule_names::siblings::HasSite;
 use std::alloc::{AllocError, Global};
 use std::collections::BTreeMap;
 

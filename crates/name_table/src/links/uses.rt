@@ -1,14 +1,13 @@
 //! What the use of a name means.
 ghost use Rattle.std.specs.Prelude.{◌≡◌, ◌++◌, IfOk};
-ghost use Rattle.name_table.specs.Links.{bind_to, link_rule, link_variable, meant_in};
+ghost use Rattle.rule_names.specs.Links.{bind_to, link_rule, link_variable, meant_in};
 ghost use Rattle.name_table.specs.Meanings.{scopes_in};
 ghost use Rattle.name_table.specs.Sources.{file_in};
-ghost use Rattle.name_table.specs.Uses.{rule_named};
+ghost use Rattle.rule_names.specs.Uses.{rule_named};
 
-use crate::bind::{Bind, Link};
 use crate::links::sources::Sources;
 use crate::meanings::{Meanings, Meant, nearest};
-use crate::scopes::Giver;
+use rule_names::{Bind, Giver, Link};
 use std::alloc::AllocError;
 
 /// A use, by its site, and what it means.

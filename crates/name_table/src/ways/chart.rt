@@ -2,7 +2,7 @@
 ghost use Rattle.std.specs.Prelude.{◌≡◌, IfOk, map};
 ghost use Rattle.guard_syntax.specs.Seen.{see_rule};
 ghost use Rattle.name_table.specs.RuleSites.{AreRuleSites, site_named};
-ghost use Rattle.name_table.specs.Ways.{rule_node, variable_node};
+ghost use Rattle.rule_names.specs.Ways.{rule_node, variable_node};
 
 use guard_syntax::Rule;
 use std::alloc::{AllocError, Global};

@@ -1,10 +1,10 @@
 //! Ways from one node to the parts in it.
 ghost use Rattle.std.specs.Prelude.{◌≡◌, ◌++◌, ◌∷◌, [], IfOk, map};
 ghost use Rattle.guard_syntax.specs.Seen.{see_let, see_opt_conds, see_disj, see_part, see_step, see_expr, see_opt_expr, let_list, disj_list, part_list, step_list, expr_list};
-ghost use Rattle.name_table.specs.Ways.{to_each, to_last, value_sites, disj_sites, part_sites, expr_sites, opt_conds_site, opt_expr_site};
+ghost use Rattle.rule_names.specs.Ways.{to_each, to_last, value_sites, disj_sites, part_sites, expr_sites, opt_conds_site, opt_expr_site};
 
-use crate::siblings::HasSite;
 use guard_syntax::{Conds, Disj, Expr, Let, Part, Step};
+use rule_names::siblings::HasSite;
 use std::alloc::AllocError;
 
 /// From one node to another. Nodes of names are above all sites, and may be more than a `u32` counts.

@@ -2,15 +2,15 @@
 ghost use Rattle.std.specs.Prelude.{◌≡◌, ◌++◌, IfOk};
 ghost use Rattle.name_table.specs.Charts.{rules_of};
 ghost use Rattle.name_table.specs.Meanings.{visible_in};
-ghost use Rattle.name_table.specs.Uses.{rule_named};
-ghost use Rattle.name_table.specs.Scopes.{given_named};
-ghost use Rattle.name_table.specs.Ways.{from_capture, to_before, to_giver, to_rule, to_variable};
+ghost use Rattle.rule_names.specs.Uses.{rule_named};
+ghost use Rattle.rule_names.specs.Scopes.{given_named};
+ghost use Rattle.rule_names.specs.Ways.{from_capture, to_before, to_giver, to_rule, to_variable};
 
 use crate::meanings::{Meanings, giver};
-use crate::scopes::Giver;
 use crate::ways::chart::Chart;
 use crate::ways::leads::Way;
 use guard_syntax::Name;
+use rule_names::Giver;
 use std::alloc::AllocError;
 
 /// Adds the way from a reference or a call to its rule.

@@ -4,18 +4,18 @@ ghost use Rattle.guard_syntax.specs.Seen.{see_let, see_rule, see_body, see_conds
 ghost use Rattle.name_table.specs.Charts.{rules_of};
 ghost use Rattle.name_table.specs.FilterWays.{ways_filter};
 ghost use Rattle.name_table.specs.Meanings.{visible_in};
-ghost use Rattle.name_table.specs.Ways.{ways_rules, ways_rule, ways_body, ways_lets, ways_let, ways_conds, ways_opt_conds, ways_disjs, ways_disj, ways_parts, ways_part, ways_query, ways_steps, ways_step, ways_expr, ways_opt_expr, ways_exprs};
+ghost use Rattle.rule_names.specs.Ways.{ways_rules, ways_rule, ways_body, ways_lets, ways_let, ways_conds, ways_opt_conds, ways_disjs, ways_disj, ways_parts, ways_part, ways_query, ways_steps, ways_step, ways_expr, ways_opt_expr, ways_exprs};
 
 use crate::givers::Givers;
 use crate::meanings::Meanings;
 use crate::scopes::{body_names, filter_names};
-use crate::siblings::HasSite;
 use crate::ways::chart::Chart;
 use crate::ways::leads::{
     Way, to_disjs, to_exprs, to_last, to_opt_conds, to_opt_expr, to_parts, to_site, to_values,
 };
 use crate::ways::uses::{from_capture, to_before, to_rule, to_variable};
 use guard_syntax::{Body, Conds, Disj, Expr, Let, Name, Part, Query, Rule, Step, StepForm};
+use rule_names::siblings::HasSite;
 use std::alloc::AllocError;
 
 /// Adds the ways of a body, which is a scope with parameters.

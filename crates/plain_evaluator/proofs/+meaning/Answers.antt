@@ -15,24 +15,24 @@ use Rattle.guard_syntax.specs.declared.syntax.Expr.{Expr}
 use Rattle.guard_syntax.specs.declared.syntax.Query.{out-Query}
 use Rattle.guard_syntax.specs.declared.syntax.Step.{Step}
 use Rattle.guard_syntax.specs.declared.row.Verdict.TheVariants.{Fail}
-use Rattle.name_table.specs.Pieces.{pieces_query, pieces_conds, pieces_opt_conds, pieces_body, pieces_part, pieces_expr, pieces_exprs, pieces_opt_expr, piece_at}
-use Rattle.name_table.specs.Uses.{function_named}
-use Rattle.name_table.specs.declared.bind.Bind.TheVariants.{Value, Capture, Param}
-use Rattle.name_table.proofs.Arguments.{named-none, named-some}
-use Rattle.value_compare.specs.Functions.{argument}
-use Rattle.value_compare.specs.Known.{is_known, is_known_ref}
-use Rattle.query_steps.specs.Roots.{literal_ref, root_ref}
-use Rattle.query_steps.specs.Environments as scopes
-use Rattle.query_steps.specs.SpotEnvironments.{Environment, Inner, Called, current_of}
-use Rattle.query_steps.specs.SpotFunctions.{IsAnswering}
-use Rattle.query_steps.specs.SpotMeaning.{answered, rows_from, rows_at, rows_of_args, rows_of_expr, body_verdict, opt_conds_verdict, conds_verdict, rows_of_side}
-use Rattle.query_steps.specs.SpotSteps.{on_found}
-use Rattle.query_steps.specs.SpotTurns.{names_by, value_rows, captured_rows, parameter_rows}
-use Rattle.query_steps.specs.Spots.{Answers, answered_row, Found, Spot, SpotRow, World}
-use Rattle.query_steps.specs.Verdicts.{is_found, block_verdict, conjunction, guarded_by}
-use Rattle.query_steps.specs.Keys.{passes}
-use Rattle.query_steps.specs.Kinds.{rows_of_type}
-use Rattle.query_steps.specs.SpotSteps as spot
+use Rattle.rule_names.specs.Pieces.{pieces_query, pieces_conds, pieces_opt_conds, pieces_body, pieces_part, pieces_expr, pieces_exprs, pieces_opt_expr, piece_at}
+use Rattle.rule_names.specs.Uses.{function_named}
+use Rattle.rule_names.specs.declared.bind.Bind.TheVariants.{Value, Capture, Param}
+use Rattle.rule_names.proofs.Arguments.{named-none, named-some}
+use Rattle.rule_meaning.specs.Functions.{argument}
+use Rattle.rule_meaning.specs.Known.{is_known, is_known_ref}
+use Rattle.rule_meaning.specs.Roots.{literal_ref, root_ref}
+use Rattle.rule_meaning.specs.Environments as scopes
+use Rattle.rule_meaning.specs.SpotEnvironments.{Environment, Inner, Called, current_of}
+use Rattle.rule_meaning.specs.SpotFunctions.{IsAnswering}
+use Rattle.rule_meaning.specs.SpotMeaning.{answered, rows_from, rows_at, rows_of_args, rows_of_expr, body_verdict, opt_conds_verdict, conds_verdict, rows_of_side}
+use Rattle.rule_meaning.specs.SpotSteps.{on_found}
+use Rattle.rule_meaning.specs.SpotTurns.{names_by, value_rows, captured_rows, parameter_rows}
+use Rattle.rule_meaning.specs.Spots.{Answers, answered_row, Found, Spot, SpotRow, World}
+use Rattle.rule_meaning.specs.Verdicts.{is_found, block_verdict, conjunction, guarded_by}
+use Rattle.rule_meaning.specs.Keys.{passes}
+use Rattle.rule_meaning.specs.Kinds.{rows_of_type}
+use Rattle.rule_meaning.specs.SpotSteps as spot
 use Rattle.query_steps.proofs.SeenScopes.{current-seen, outwards-seen}
 use Rattle.query_steps.proofs.SeenVerdicts.{sets-seen, tests-seen}
 use Rattle.guard_builtins.specs.Seen.{see_made, see_rows}
@@ -40,7 +40,7 @@ use Rattle.plain_evaluator.specs.Seen.{see_env}
 use Rattle.plain_evaluator.specs.Sound.{IsSound}
 use Rattle.plain_evaluator.specs.States.{are_known, see, see_spot_in, see_trees, seen_rows, spots}
 use Rattle.plain_evaluator.proofs.Conjoined.{mapped-more, conjunction-next, disjunction-next, mapped-through, passes-at}
-use Rattle.plain_evaluator.proofs.FittingCalls.{arguments-counted}
+use Rattle.rule_names.proofs.FittingCalls.{arguments-counted}
 use Rattle.plain_evaluator.proofs.CalledRows.{many-args, literal-argument}
 use Rattle.plain_evaluator.proofs.GivenRows.{step-given, as-many-judged, filter-given, captures-given, founds-kept, one-seen, args-on, args-as-before, call-answered}
 use Rattle.plain_evaluator.proofs.Growing.{Grows-refl, same-world, stands-on, Grows-trans, book-on, below-on, owed-on, rows-on, sound-on, rows-as-before, meant-before, world_in, named_in, scopes_in, known-on}
@@ -51,7 +51,7 @@ use Rattle.plain_evaluator.proofs.Placed.{same-among, step-in, filter-in, keys-i
 use Rattle.plain_evaluator.proofs.Ranks.{IsPart, owed-part, owed-same, owed-turn, owed-less, below-name, below-turn, below-part, below-first, below-second, first-placed, second-placed}
 use Rattle.plain_evaluator.proofs.RowsInTurn.{of_expr, rows-start, rows-next, rows-end, query-rows, filter-rows, keys-rows, var-rows, splice-rows, other-rows, one-known, known-literal, IsTree-root, kept-known, literal-rows, asked-rows, found-rows, function-rows, args-end, side-rows, no-side-rows, known-root}
 use Rattle.plain_evaluator.proofs.Scopes.{current-known, outwards-sound, called-sound, called-seen, inner-sound, top-sound, top-seen}
-use Rattle.plain_evaluator.proofs.SoughtTexts.{pattern-held}
+use Rattle.query_steps.proofs.SoughtTexts.{pattern-held}
 use Rattle.plain_evaluator.proofs.Standing.{literal-found}
 use Rattle.plain_evaluator.proofs.GrowingVerdicts.{current-spot, framed, passes-on, types-on}
 use Rattle.plain_evaluator.proofs.Judged.{of_disj, of_part, of_conds, of_row, one_of, disjs-end, parts-end, disj-judged, conds-judged, body-judged, opt_conds-judged, no-conds-judged, under, under-fail, under-skip, passed-under, skipped-under, block-judged, when-judged, within-judged, kinds-judged, set-judged, test-judged, sides-judged, refer-judged, call-judged, found-judged, missed-judged, at-judged, rule-judged}

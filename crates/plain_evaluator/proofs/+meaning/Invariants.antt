@@ -2,14 +2,14 @@ use Rattle.std.proofs.Common.{◌≡◌, ◌++◌, suc, [], ◌∷◌, true, fal
 use Rattle.std.specs.List.{list_all}
 use Rattle.guard_syntax.specs.Seen.{see_query, see_form, see_expr, see_opt_expr, see_rule, see_disj, see_part, see_body, see_conds, see_opt_conds, disj_list, part_list, step_list, expr_list, see_step}
 use Rattle.guard_syntax.specs.Syntax.{function}
-use Rattle.name_table.specs.Forms.{pieces_form}
-use Rattle.name_table.specs.Pieces.{pieces_query, pieces_expr, pieces_opt_expr, pieces_exprs, pieces_rule, pieces_disjs, pieces_parts, pieces_part, pieces_body, pieces_conds, pieces_opt_conds}
-use Rattle.value_compare.specs.Known.{is_known}
-use Rattle.query_steps.specs.SpotEnvironments.{current_of}
-use Rattle.query_steps.specs.SpotMeaning.{rows_from}
-use Rattle.query_steps.specs.SpotTurns.{names_by}
-use Rattle.query_steps.specs.Spots.{Found}
-use Rattle.query_steps.specs.Verdicts.{conjunction, disjunction}
+use Rattle.rule_names.specs.Forms.{pieces_form}
+use Rattle.rule_names.specs.Pieces.{pieces_query, pieces_expr, pieces_opt_expr, pieces_exprs, pieces_rule, pieces_disjs, pieces_parts, pieces_part, pieces_body, pieces_conds, pieces_opt_conds}
+use Rattle.rule_meaning.specs.Known.{is_known}
+use Rattle.rule_meaning.specs.SpotEnvironments.{current_of}
+use Rattle.rule_meaning.specs.SpotMeaning.{rows_from}
+use Rattle.rule_meaning.specs.SpotTurns.{names_by}
+use Rattle.rule_meaning.specs.Spots.{Found}
+use Rattle.rule_meaning.specs.Verdicts.{conjunction, disjunction}
 use Rattle.plain_evaluator.specs.Seen.{see_env}
 use Rattle.plain_evaluator.specs.States.{Answering, Grows, are_known, see, see_trees, seen_rows, spots, see_spot_in}
 use Rattle.plain_evaluator.proofs.Ranks.{rank}

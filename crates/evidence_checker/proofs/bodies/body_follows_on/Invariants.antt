@@ -1,6 +1,6 @@
 use Rattle.std.proofs.Common.{drop}
 use Rattle.guard_syntax.specs.Seen.{see_body}
-use Rattle.query_steps.specs.Follows.{FollowsRowsOf}
+use Rattle.evidence_rules.specs.Follows.{FollowsRowsOf}
 use Rattle.evidence_checker.specs.Grounds.{known_of, lines_of}
 use Rattle.evidence_checker.proofs.OnRows.{FollowsOn}
 use Rattle.evidence_checker.proofs.bodies.body_follows_on.Given as goal

@@ -4,8 +4,8 @@ use Rattle.std.specs.declared.vec.Vec.{Vec}
 use Rattle.guard_builtins.specs.Seen.{see_rows}
 use Rattle.guard_syntax.specs.Seen.{expr_list, see_expr}
 use Rattle.guard_syntax.specs.declared.row.Row.{Row}
-use Rattle.name_table.specs.Files.{file_of}
-use Rattle.query_steps.specs.CitedLines.{GiveArgs}
+use Rattle.rule_names.specs.Files.{file_of}
+use Rattle.evidence_rules.specs.CitedLines.{GiveArgs}
 use Rattle.value_compare.specs.Stores.{see_store}
 use Rattle.evidence_checker.proofs.CallsFollow.{args-given, call-counted, call-pattern}
 use Rattle.evidence_checker.proofs.calls.answer_of.Goals as goal

@@ -1,8 +1,8 @@
 use Rattle.std.proofs.Common.{Some, map, ap, sym, ◌∙◌}
 use Rattle.guard_syntax.specs.Seen.{expr_list, see_expr}
-use Rattle.name_table.specs.declared.piece.Piece as code
-use Rattle.name_table.specs.Files.{file_of}
-use Rattle.name_table.specs.Seen.{see_piece}
+use Rattle.rule_names.specs.declared.piece.Piece as code
+use Rattle.rule_names.specs.Files.{file_of}
+use Rattle.rule_names.specs.Seen.{see_piece}
 use Rattle.evidence_checker.specs.declared.calls.Called.{Called}
 use Rattle.evidence_checker.proofs.CallsFollow.{call-placed}
 use Rattle.evidence_checker.proofs.calls.call_at.Goals as goal

@@ -2,9 +2,9 @@ use Rattle.std.proofs.Common.{◌≡◌, ℕ, ◌+◌, suc, add-one, List, lengt
 use Rattle.std.specs.List.{list_all}
 use Rattle.guard_builtins.specs.Seen.{see_made}
 use Rattle.guard_builtins.specs.declared.made.Made.{Made}
-use Rattle.value_compare.specs.Known.{Known, is_known}
+use Rattle.rule_meaning.specs.Known.{Known, is_known}
 use Rattle.value_compare.specs.Stores.{see_store}
-use Rattle.query_steps.specs.Seeing.{grown, rows_kept, trees_kept}
+use Rattle.rule_meaning.specs.Seeing.{grown, rows_kept, trees_kept}
 use Rattle.evidence_checker.specs.Said.{AreMadeWithin}
 use Rattle.evidence_checker.proofs.CallsFollow.{call-differs, call-follows, call-known, call-lacking, call-same, is-answered, is-unanswered}
 use Rattle.evidence_checker.proofs.KeptTrees.{free-behind, within-grown}

@@ -1,8 +1,8 @@
 use Rattle.std.proofs.Common.{map, take}
 use Rattle.guard_builtins.specs.Seen.{see_rows}
 use Rattle.guard_syntax.specs.Seen.{expr_list, see_expr}
-use Rattle.name_table.specs.Files.{file_of}
-use Rattle.query_steps.specs.CitedLines.{GiveArgs}
+use Rattle.rule_names.specs.Files.{file_of}
+use Rattle.evidence_rules.specs.CitedLines.{GiveArgs}
 use Rattle.evidence_checker.proofs.calls.rows_of_args.Given as goal
 
 abbrev pub invariant-loop-at : goal.invariant-loop-at

@@ -1,7 +1,7 @@
 use Rattle.std.proofs.Common.{◌∙◌, sym}
 use Rattle.std.specs.Prelude.{option_and_then}
-use Rattle.name_table.specs.Files.{file_of}
-use Rattle.query_steps.specs.CitedLines.{args_at}
+use Rattle.rule_names.specs.Files.{file_of}
+use Rattle.evidence_rules.specs.CitedLines.{args_at}
 use Rattle.evidence_checker.proofs.FramesAround.{around-call, around-other}
 use Rattle.evidence_checker.proofs.frames.around_site.Goals as goal
 

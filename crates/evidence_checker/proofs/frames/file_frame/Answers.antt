@@ -1,6 +1,6 @@
 use Rattle.std.proofs.Common.{◌≡◌, ◌-◌, suc, Some, None, refl, ◌∙◌, arith}
 use Rattle.evidence_lines.specs.declared.line.LineKind.TheVariants as kind
-use Rattle.query_steps.specs.CitedLines.{file_frame}
+use Rattle.evidence_rules.specs.CitedLines.{file_frame}
 use Rattle.evidence_checker.proofs.FramesAround.{by-fields, no-further, other-kind}
 use Rattle.evidence_checker.proofs.frames.file_frame.Goals as goal
 

@@ -1,6 +1,6 @@
 use Rattle.std.proofs.Common.{◌≡◌, length}
 use Rattle.guard_syntax.specs.Syntax.{File}
-use Rattle.query_steps.specs.CitedLines.{file_frame}
+use Rattle.evidence_rules.specs.CitedLines.{file_frame}
 use Rattle.evidence_checker.proofs.frames.file_frame.Given as goal
 
 abbrev pub invariant-loop-most : goal.invariant-loop-most

@@ -1,6 +1,6 @@
 use Rattle.std.proofs.Common.{◌≡◌}
-use Rattle.name_table.specs.Files.{file_of}
-use Rattle.query_steps.specs.CitedLines.{outwards}
+use Rattle.rule_names.specs.Files.{file_of}
+use Rattle.evidence_rules.specs.CitedLines.{outwards}
 use Rattle.evidence_checker.proofs.frames.outwards.Given as goal
 
 abbrev pub invariant-loop-left : goal.invariant-loop-left

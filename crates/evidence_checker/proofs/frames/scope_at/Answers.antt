@@ -1,10 +1,10 @@
 use Rattle.std.proofs.Common.{Option, Some, ◌∙◌, ap, sym}
 use Rattle.std.specs.Prelude.{option_and_then}
-use Rattle.name_table.specs.declared.piece.Piece as code
-use Rattle.name_table.specs.Files.{file_of}
-use Rattle.name_table.specs.Pieces.{Piece}
-use Rattle.name_table.specs.Seen.{see_piece}
-use Rattle.query_steps.specs.CitedLines.{scope_of_piece}
+use Rattle.rule_names.specs.declared.piece.Piece as code
+use Rattle.rule_names.specs.Files.{file_of}
+use Rattle.rule_names.specs.Pieces.{Piece}
+use Rattle.rule_names.specs.Seen.{see_piece}
+use Rattle.evidence_rules.specs.CitedLines.{scope_of_piece}
 use Rattle.evidence_checker.proofs.frames.scope_at.Goals as goal
 
 pub returns-in-Step : goal.returns-in-Step

@@ -1,6 +1,6 @@
 use Rattle.std.proofs.Common.{Option, ◌∙◌, ap, sym}
 use Rattle.guard_syntax.specs.Syntax as sx
-use Rattle.query_steps.specs.CitedLines.{scope_of_step}
+use Rattle.evidence_rules.specs.CitedLines.{scope_of_step}
 use Rattle.evidence_checker.proofs.PartsSeen.{no-step, step-there}
 use Rattle.evidence_checker.proofs.frames.scope_of_step.Goals as goal
 

@@ -1,6 +1,6 @@
 use Rattle.std.proofs.Common.{map, sym}
 use Rattle.guard_syntax.specs.Seen.{expr_list, see_expr}
-use Rattle.name_table.specs.Files.{file_of}
+use Rattle.rule_names.specs.Files.{file_of}
 use Rattle.evidence_checker.proofs.PartsSeen.{argument-at, argument-past}
 use Rattle.evidence_checker.proofs.RowsGiven.{argument-given, no-argument}
 use Rattle.evidence_checker.proofs.given.given_by_argument.Goals as goal

@@ -2,8 +2,8 @@ use Rattle.std.proofs.Common.{List, map, ap, sym, ◌∙◌}
 use Rattle.guard_syntax.specs.Syntax as sx
 use Rattle.guard_syntax.specs.Seen.{see_query, see_step, step_list}
 use Rattle.guard_syntax.specs.declared.syntax.Step.{Step}
-use Rattle.name_table.specs.Files.{file_of}
-use Rattle.query_steps.specs.CitedLines.{last_step}
+use Rattle.rule_names.specs.Files.{file_of}
+use Rattle.evidence_rules.specs.CitedLines.{last_step}
 use Rattle.evidence_checker.proofs.PartsSeen.{steps-seen}
 use Rattle.evidence_checker.proofs.RowsGiven.{last-got, query-given}
 use Rattle.evidence_checker.proofs.given.given_by_query.Goals as goal

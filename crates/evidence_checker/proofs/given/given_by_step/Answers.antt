@@ -1,6 +1,6 @@
 use Rattle.std.proofs.Common.{sym}
 use Rattle.guard_syntax.specs.Seen.{see_step}
-use Rattle.name_table.specs.Files.{file_of}
+use Rattle.rule_names.specs.Files.{file_of}
 use Rattle.evidence_checker.proofs.PartsSeen.{step-site}
 use Rattle.evidence_checker.proofs.RowsGiven.{step-given}
 use Rattle.evidence_checker.proofs.given.given_by_step.Goals as goal

@@ -1,10 +1,10 @@
 use Rattle.std.proofs.Common.{Some, ◌∙◌, ap, sym}
 use Rattle.evidence_lines.specs.declared.line.LineKind.TheVariants as kind
 use Rattle.evidence_lines.specs.declared.line.Outcome.TheVariants as says
-use Rattle.name_table.specs.Files.{file_of}
-use Rattle.name_table.specs.Links.{bind_of}
-use Rattle.name_table.specs.declared.bind.Bind.TheVariants as bound
-use Rattle.query_steps.specs.CitedLines.{GivesArgument, GivesBound, IsLine, outwards}
+use Rattle.rule_names.specs.Files.{file_of}
+use Rattle.rule_names.specs.Links.{bind_of}
+use Rattle.rule_names.specs.declared.bind.Bind.TheVariants as bound
+use Rattle.evidence_rules.specs.CitedLines.{GivesArgument, GivesBound, IsLine, outwards}
 use Rattle.evidence_checker.proofs.RowsGiven.{some-given}
 use Rattle.evidence_checker.proofs.given.given_by_variable.Goals as goal
 

@@ -2,9 +2,9 @@ use Rattle.std.proofs.Common.{◌≡◌, refl, subst, sym, List, [], IfOk}
 use Rattle.evidence_lines.specs.declared.line.Line.{Line}
 use Rattle.guard_syntax.specs.Seen.{see_file}
 use Rattle.guard_syntax.specs.declared.syntax.RawFile.{RawFile}
-use Rattle.name_table.specs.Files.{file_of}
+use Rattle.rule_names.specs.Files.{file_of}
 use Rattle.value_compare.specs.Stores.{see_store}
-use Rattle.query_steps.specs.Follows.{AllFollow, nothing_made}
+use Rattle.evidence_rules.specs.Follows.{AllFollow, nothing_made}
 use Rattle.evidence_checker.specs.Answered.{IsAnswer}
 use Rattle.evidence_checker.proofs.Answering.{fault-answered, none-follow, none-judged, store-starts}
 use Rattle.evidence_checker.proofs.judge.check.Goals as goal

@@ -2,7 +2,7 @@ use Rattle.std.proofs.Common.{◌≡◌, ◌<◌, ap, sym, ◌∙◌, subst, ari
 use Rattle.guard_syntax.specs.Syntax.{File}
 use Rattle.evidence_lines.specs.declared.line.Line.{Line}
 use Rattle.value_compare.specs.Stores.{see_store}
-use Rattle.query_steps.specs.Follows.{Follows}
+use Rattle.evidence_rules.specs.Follows.{Follows}
 use Rattle.evidence_checker.specs.Judging.{AreJudged, Leads, Stays}
 use Rattle.evidence_checker.specs.Said.{AreMadeWithin, AreSound}
 use Rattle.evidence_checker.proofs.Leading.{leads-of, stays-of}

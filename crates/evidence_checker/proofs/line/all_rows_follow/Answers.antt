@@ -2,10 +2,10 @@ use Rattle.std.proofs.Common.{true, ◌≡◌, length, suc, MatchBool, List, []}
 use Rattle.std.specs.List.{list_all}
 use Rattle.std.proofs.lemmas.Result.{IfOk-weaker}
 use Rattle.evidence_lines.specs.declared.line.Outcome.TheVariants as says
-use Rattle.name_table.specs.Pieces.{piece_at}
-use Rattle.value_compare.specs.Known.{Made, is_known}
+use Rattle.rule_names.specs.Pieces.{piece_at}
+use Rattle.rule_meaning.specs.Known.{Made, is_known}
 use Rattle.value_compare.specs.Stores.{see_store}
-use Rattle.query_steps.specs.Follows.{FollowsIn, FollowsRows}
+use Rattle.evidence_rules.specs.Follows.{FollowsIn, FollowsRows}
 use Rattle.evidence_checker.specs.Said.{AreMadeWithin}
 use Rattle.evidence_checker.proofs.Leading.{Decided}
 use Rattle.evidence_checker.proofs.LinesFollowing.{rows-decided}

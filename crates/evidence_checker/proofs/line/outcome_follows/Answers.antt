@@ -2,9 +2,9 @@ use Rattle.std.proofs.Common.{◌≡◌, Bool, true, sym, ap, ◌∙◌, suc, le
 use Rattle.std.proofs.lemmas.Result.{IfOk-weaker}
 use Rattle.evidence_lines.specs.declared.line.Outcome.TheVariants as says
 use Rattle.guard_syntax.specs.declared.row.Row.{Row}
-use Rattle.name_table.specs.Pieces.{piece_at}
+use Rattle.rule_names.specs.Pieces.{piece_at}
 use Rattle.value_compare.specs.Stores.{see_store}
-use Rattle.query_steps.specs.Follows.{FollowsIn, FollowsVerdict}
+use Rattle.evidence_rules.specs.Follows.{FollowsIn, FollowsVerdict}
 use Rattle.evidence_checker.specs.Said.{AreMadeWithin, is_known_outcome}
 use Rattle.evidence_checker.proofs.Leading.{Decided}
 use Rattle.evidence_checker.proofs.LinesFollowing.{known-as, said-as, value-decided, verdict-decided}

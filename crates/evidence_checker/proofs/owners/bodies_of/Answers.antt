@@ -1,5 +1,5 @@
 use Rattle.std.proofs.Common.{◌≡◌, ◌∙◌, ap, arith, false, length, replicate, ℕ}
-use Rattle.name_table.specs.Files.{file_of}
+use Rattle.rule_names.specs.Files.{file_of}
 use Rattle.evidence_checker.specs.Owned.{marks_upto}
 use Rattle.evidence_checker.proofs.OwnersMarked.{marks-next}
 use Rattle.evidence_checker.proofs.owners.bodies_of.Goals as goal

@@ -4,9 +4,9 @@ use Rattle.guard_syntax.specs.Seen.{see_conds, see_query}
 use Rattle.guard_syntax.specs.Syntax.{Conds}
 use Rattle.guard_syntax.specs.declared.row.Ref.{Ref}
 use Rattle.guard_syntax.specs.declared.row.Verdict.{Verdict}
-use Rattle.value_compare.specs.Known.{Known}
-use Rattle.query_steps.specs.Follows.{SayEach, SaysCandidate}
-use Rattle.query_steps.specs.Places.{candidates_at, rows_at_step}
+use Rattle.rule_meaning.specs.Known.{Known}
+use Rattle.evidence_rules.specs.Follows.{SayEach, SaysCandidate}
+use Rattle.rule_meaning.specs.Places.{candidates_at, rows_at_step}
 use Rattle.evidence_checker.specs.Grounds.{file_in, known_of, lines_of}
 use Rattle.evidence_checker.proofs.SaidKnown.{before-said-known, value-said-known}
 use Rattle.evidence_checker.proofs.SitesWithin.{site-within}

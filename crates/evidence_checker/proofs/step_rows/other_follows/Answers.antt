@@ -1,6 +1,6 @@
 use Rattle.std.proofs.Common.{◌≡◌, [], sym, ◌∙◌}
 use Rattle.guard_syntax.specs.Seen.{see_query, see_step}
-use Rattle.query_steps.specs.Places.{rows_at_step}
+use Rattle.rule_meaning.specs.Places.{rows_at_step}
 use Rattle.evidence_checker.specs.Grounds.{file_in, known_of, lines_of}
 use Rattle.evidence_checker.proofs.SaidKnown.{before-said-known, further-said-known, value-said-known}
 use Rattle.evidence_checker.proofs.SitesWithin.{site-within}

@@ -1,7 +1,7 @@
 use Rattle.std.proofs.Common.{◌≡◌, drop}
 use Rattle.std.specs.List.{list_all}
 use Rattle.evidence_checker.specs.Grounds.{known_of}
-use Rattle.query_steps.specs.Keys.{passes}
+use Rattle.rule_meaning.specs.Keys.{passes}
 use Rattle.evidence_checker.proofs.tested.all_pass.Given as goal
 
 abbrev pub invariant-loop-left : goal.invariant-loop-left

@@ -1,4 +1,4 @@
-use Rattle.evidence_checker.proofs.SetsSeen.{set-by-last}
+use Rattle.query_steps.proofs.SetsSeen.{set-by-last}
 use Rattle.evidence_checker.proofs.tested.is_set.Goals as goal
 
 pub returns-in-len1-up : goal.returns-in-len1-up

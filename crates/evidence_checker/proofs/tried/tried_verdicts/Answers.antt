@@ -7,9 +7,9 @@ use Rattle.guard_syntax.specs.declared.row.Origin.TheVariants as origin
 use Rattle.guard_syntax.specs.declared.row.Ref.{Ref}
 use Rattle.guard_syntax.specs.declared.row.Verdict.{Verdict}
 use Rattle.guard_syntax.specs.declared.syntax.Conds.{Conds, out-Conds}
-use Rattle.value_compare.specs.Known.{Known}
-use Rattle.query_steps.specs.CitedLines.{IsLine}
-use Rattle.query_steps.specs.Follows.{SaysCandidate}
+use Rattle.rule_meaning.specs.Known.{Known}
+use Rattle.evidence_rules.specs.CitedLines.{IsLine}
+use Rattle.evidence_rules.specs.Follows.{SaysCandidate}
 use Rattle.evidence_checker.proofs.StepLines.{said-all, said-at, said-each, said-more}
 use Rattle.evidence_checker.proofs.StepsSeen.{conds-site}
 use Rattle.evidence_checker.proofs.tried.tried_verdicts.Goals as goal

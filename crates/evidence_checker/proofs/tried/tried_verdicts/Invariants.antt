@@ -1,7 +1,7 @@
 use Rattle.std.proofs.Common.{take}
 use Rattle.guard_syntax.specs.Seen.{see_conds}
-use Rattle.value_compare.specs.Known.{Known}
-use Rattle.query_steps.specs.Follows.{SayEach, SaysCandidate}
+use Rattle.rule_meaning.specs.Known.{Known}
+use Rattle.evidence_rules.specs.Follows.{SayEach, SaysCandidate}
 use Rattle.evidence_checker.proofs.tried.tried_verdicts.Given as goal
 
 abbrev pub invariant-loop-i : goal.invariant-loop-i

@@ -1,7 +1,7 @@
 use Rattle.std.proofs.Common.{◌≡◌, true}
 use Rattle.guard_syntax.specs.Seen.{see_body}
-use Rattle.value_compare.specs.Known.{is_known_ref}
-use Rattle.query_steps.specs.Follows.{IsBlockBody}
+use Rattle.rule_meaning.specs.Known.{is_known_ref}
+use Rattle.evidence_rules.specs.Follows.{IsBlockBody}
 use Rattle.evidence_checker.specs.Grounds.{known_of, lines_of}
 use Rattle.evidence_checker.specs.declared.owners.Owner.TheVariants as owner
 use Rattle.evidence_checker.proofs.ValuesKnown.{both-hold, known-test, owner-is, owner-not}

@@ -1,7 +1,7 @@
 use Rattle.std.proofs.Common.{◌≡◌}
 use Rattle.guard_syntax.specs.Seen.{see_body}
-use Rattle.query_steps.specs.Follows.{IsRuleBody}
-use Rattle.query_steps.specs.Roots.{root_ref}
+use Rattle.evidence_rules.specs.Follows.{IsRuleBody}
+use Rattle.rule_meaning.specs.Roots.{root_ref}
 use Rattle.evidence_checker.specs.Grounds.{known_of, lines_of}
 use Rattle.evidence_checker.specs.declared.owners.Owner.TheVariants as owner
 use Rattle.evidence_checker.proofs.ValuesKnown.{both-hold, owner-is, owner-not}

@@ -1,6 +1,6 @@
 use Rattle.std.proofs.Common.{MatchBool, Option, subst, sym}
 use Rattle.guard_syntax.specs.Syntax as sx
-use Rattle.query_steps.specs.Follows.{IsFrameOfStep}
+use Rattle.evidence_rules.specs.Follows.{IsFrameOfStep}
 use Rattle.evidence_checker.specs.Grounds.{known_of, lines_of}
 use Rattle.evidence_checker.proofs.PartsSeen.{no-step, step-there}
 use Rattle.evidence_checker.proofs.values.is_frame_of_step.Goals as goal

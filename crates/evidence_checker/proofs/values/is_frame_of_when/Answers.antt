@@ -1,5 +1,5 @@
 use Rattle.guard_syntax.specs.Seen.{see_body}
-use Rattle.query_steps.specs.Follows.{HasValue, IsWhenBody}
+use Rattle.evidence_rules.specs.Follows.{HasValue, IsWhenBody}
 use Rattle.evidence_checker.specs.Grounds.{known_of, lines_of}
 use Rattle.evidence_checker.specs.declared.owners.Owner.TheVariants as owner
 use Rattle.evidence_checker.proofs.ValuesKnown.{both-hold, owner-is, owner-not}

@@ -2,8 +2,8 @@ use Rattle.std.proofs.Common.{◌+◌, drop, length, ℕ}
 use Rattle.evidence_lines.specs.declared.line.LineKind.TheVariants as kind
 use Rattle.evidence_lines.specs.declared.line.Outcome.TheVariants as says
 use Rattle.guard_syntax.specs.declared.row.Verdict.{Verdict}
-use Rattle.query_steps.specs.CitedLines.{IsLine}
-use Rattle.query_steps.specs.Verdicts.{conjunction}
+use Rattle.evidence_rules.specs.CitedLines.{IsLine}
+use Rattle.rule_meaning.specs.Verdicts.{conjunction}
 use Rattle.evidence_checker.specs.Grounds.{known_of, lines_of}
 use Rattle.evidence_checker.proofs.VerdictsSaid.{LeftDisjs, disjs-next, disjs-last, conjunction-first, conjunction-one, conjunction-two, folded-first, folded-last, folded-next, folded-over, folded-uncited, folded-unsaid, is-zero, no-items, not-zero, some-items}
 use Rattle.evidence_checker.proofs.verdicts.conjunction_said.Goals as goal

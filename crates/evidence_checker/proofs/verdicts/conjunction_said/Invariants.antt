@@ -1,5 +1,5 @@
 use Rattle.std.proofs.Common.{drop}
-use Rattle.query_steps.specs.Verdicts.{conjunction}
+use Rattle.rule_meaning.specs.Verdicts.{conjunction}
 use Rattle.evidence_checker.specs.Grounds.{known_of, lines_of}
 use Rattle.evidence_checker.proofs.VerdictsSaid.{IsFolded, LeftDisjs}
 use Rattle.evidence_checker.proofs.verdicts.conjunction_said.Given as goal

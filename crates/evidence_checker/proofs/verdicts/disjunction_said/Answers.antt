@@ -1,9 +1,9 @@
 use Rattle.std.proofs.Common.{◌+◌, drop, length, ℕ}
 use Rattle.guard_syntax.specs.Seen.{see_part}
 use Rattle.guard_syntax.specs.declared.row.Verdict.{Verdict}
-use Rattle.name_table.specs.Ways.{part_site}
-use Rattle.query_steps.specs.Follows.{SaysVerdict, kind_of_part}
-use Rattle.query_steps.specs.Verdicts.{disjunction}
+use Rattle.rule_names.specs.Ways.{part_site}
+use Rattle.evidence_rules.specs.Follows.{SaysVerdict, kind_of_part}
+use Rattle.rule_meaning.specs.Verdicts.{disjunction}
 use Rattle.evidence_checker.specs.Grounds.{known_of, lines_of}
 use Rattle.evidence_checker.proofs.VerdictsSaid.{LeftParts, parts-next, parts-last, disjunction-first, disjunction-one, disjunction-two, folded-first, folded-last, folded-next, folded-over, folded-uncited, folded-unsaid, is-zero, no-items, not-zero, some-items}
 use Rattle.evidence_checker.proofs.verdicts.disjunction_said.Goals as goal

@@ -1,8 +1,9 @@
 use Rattle.std.proofs.Common.{◌≡◌, ◌+◌, ◌++◌, Some, ap, arith, sym, ◌∙◌}
 use Rattle.std.proofs.lemmas.List.{length_push}
+use Rattle.std.proofs.lemmas.Result.{MatchResult-from_err}
 use Rattle.evidence_lines.specs.Reading.{line_in}
 use Rattle.evidence_lines.specs.Text.{header}
-use Rattle.evidence_lines.proofs.Texts.{fails_here, goes_on, lacks_line, lacks_newline, some_bytes}
+use Rattle.evidence_lines.proofs.Texts.{fails_here, goes_on, has_line, lacks_line, lacks_newline, some_bytes}
 use Rattle.evidence_lines.proofs.read.read_lines.Goals as goal
 
 pub returns-in_default-clause-refusal : goal.returns-in_default-clause-refusal
@@ -27,3 +28,12 @@ lines-preserved c =
       counted = rw c.in-Ok.ensures.items (ap (λ n. n + 1) c.lines.invariant.counted ∙ sym (length_push c.lines.lines.items c.in-Some-2.line));
       within = omega (arith, c.in-Some.ensures.shorter);
     }
+
+pub returns-in_err-line-clause-memory : goal.returns-in_err-line-clause-memory
+returns-in_err-line-clause-memory c =
+    let has = has_line (header ++ c.args.bytes.now) c.lines.rest.now c.in-Some.fields.now c.in-Some.after.now c.lines.lines.items c.lines.invariant.read (sym c.in-Some.ensures.parts) in
+    MatchResult-from_err c.from_residual.result _ _ c.from_residual.ensures.0 (λ _ _. has)
+
+pub returns-in-Err-clause-memory : goal.returns-in-Err-clause-memory
+returns-in-Err-clause-memory c =
+    λ _. has_line (header ++ c.args.bytes.now) c.lines.rest.now c.in-Some.fields.now c.in-Some.after.now c.lines.lines.items c.lines.invariant.read (sym c.in-Some.ensures.parts)

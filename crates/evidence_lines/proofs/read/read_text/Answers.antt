@@ -1,5 +1,7 @@
-use Rattle.std.proofs.Common.{List, ℕ, subst}
+use Rattle.std.proofs.Common.{◌≡◌, List, ℕ, subst}
 use Rattle.std.specs.Result.{IfErr}
+use Rattle.evidence_lines.specs.Memory.{HasLine}
+use Rattle.evidence_lines.specs.declared.refusal.EvidenceRefusal.TheVariants.{NoMemory}
 use Rattle.evidence_lines.specs.Text.{IsRefused}
 use Rattle.evidence_lines.proofs.read.read_text.Goals as goal
 
@@ -7,3 +9,8 @@ pub returns-in-Some-clause-refusal : goal.returns-in-Some-clause-refusal
 returns-in-Some-clause-refusal c =
     let P : List ℕ → Type 0 = λ bytes. IfErr c.read_lines.result (λ r. IsRefused bytes r) in
     subst P c.in-Some.ensures c.read_lines.ensures.refusal
+
+pub returns-in-Some-clause-memory : goal.returns-in-Some-clause-memory
+returns-in-Some-clause-memory c =
+    let P : List ℕ → Type 0 = λ bytes. IfErr c.read_lines.result (λ r. r ≡ NoMemory → HasLine bytes) in
+    subst P c.in-Some.ensures c.read_lines.ensures.memory

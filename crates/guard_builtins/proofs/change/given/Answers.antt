@@ -1,5 +1,5 @@
 use Rattle.std.proofs.Common.{IfOk, subst, sym}
-use Rattle.value_compare.specs.Functions.{IsGiven}
+use Rattle.rule_meaning.specs.Functions.{IsGiven}
 use Rattle.value_compare.specs.Views.{see_view}
 use Rattle.guard_builtins.specs.Seen.{gives}
 use Rattle.guard_builtins.proofs.change.given.Goals as goal

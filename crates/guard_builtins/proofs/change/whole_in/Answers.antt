@@ -1,5 +1,5 @@
 use Rattle.std.proofs.Common.{ap, sym, ◌∙◌}
-use Rattle.value_compare.specs.Functions.{IsWholeBy}
+use Rattle.rule_meaning.specs.Functions.{IsWholeBy}
 use Rattle.value_compare.specs.Views.{see_view}
 use Rattle.guard_builtins.proofs.ReadTexts.{as-text}
 use Rattle.guard_builtins.proofs.change.whole_in.Goals as goal

@@ -1,5 +1,5 @@
 use Rattle.std.proofs.Common.{map, take}
-use Rattle.value_compare.specs.Functions.{AreRows}
+use Rattle.rule_meaning.specs.Functions.{AreRows}
 use Rattle.value_compare.specs.Stores.{see_store}
 use Rattle.guard_builtins.specs.Seen.{gives, see_made}
 use Rattle.guard_builtins.proofs.functions.rows_for.Given as goal

@@ -1,5 +1,5 @@
 use Rattle.std.proofs.Common.{IfOk, map, subst}
-use Rattle.value_compare.specs.Functions.{AreRows, IsSubstring, single_whole}
+use Rattle.rule_meaning.specs.Functions.{AreRows, IsSubstring, single_whole}
 use Rattle.value_compare.specs.Stores.{see_store}
 use Rattle.guard_builtins.specs.Seen.{see_made}
 use Rattle.guard_builtins.proofs.functions.substring.Goals as goal

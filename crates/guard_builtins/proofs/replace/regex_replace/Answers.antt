@@ -1,5 +1,5 @@
 use Rattle.std.proofs.Common.{option_map}
-use Rattle.value_compare.specs.Functions.{single_text}
+use Rattle.rule_meaning.specs.Functions.{single_text}
 use Rattle.value_compare.specs.Stores.{see_store}
 use Rattle.guard_builtins.specs.Seen.{texts_of}
 use Rattle.guard_builtins.proofs.Replacing.{result-replaced}

@@ -1,5 +1,5 @@
 use Rattle.std.proofs.Common.{◌≡◌, map, option_map, take}
-use Rattle.value_compare.specs.Functions.{AreRows}
+use Rattle.rule_meaning.specs.Functions.{AreRows}
 use Rattle.value_compare.specs.Stores.{see_store}
 use Rattle.guard_builtins.specs.Seen.{replaces, see_made, texts_of}
 use Rattle.guard_builtins.proofs.replace.replaced_rows.Given as goal

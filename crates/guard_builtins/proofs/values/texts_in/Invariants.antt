@@ -1,5 +1,5 @@
 use Rattle.std.proofs.Common.{◌≡◌, map, take, Some}
-use Rattle.value_compare.specs.Functions.{texts_in}
+use Rattle.rule_meaning.specs.Functions.{texts_in}
 use Rattle.value_compare.specs.Stores.{see_store}
 use Rattle.guard_builtins.proofs.values.texts_in.Given as goal
 

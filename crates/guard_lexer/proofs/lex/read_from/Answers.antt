@@ -2,7 +2,7 @@ use Rattle.std.proofs.Common.{◌-◌, ◌++◌, ◌∷◌, [], inr, sym, subst,
 use Rattle.std.proofs.lemmas.List.{length-drop}
 use Rattle.guard_lexer.specs.Lexes.{Ends}
 use Rattle.guard_lexer.specs.Firsts.{IsNext}
-use Rattle.guard_lexer.proofs.Steps.{GoesOn, GoesOn-more, GoesOn-end}
+use Rattle.guard_lexer.proofs.Steps.{GoesOn, GoesOn-more, GoesOn-end, begun, no_end}
 use Rattle.guard_lexer.proofs.lex.read_from.Goals as goal
 
 pub returns-in-Err-clause-refusal : goal.returns-in-Err-clause-refusal
@@ -31,4 +31,14 @@ tokens-preserved c =
       subst (λ x. GoesOn c.args.start c.args.bytes.now x c.is_dot-behind_dot.result c.in-Ok-Some.token.to) (sym c.in-Ok.ensures.items)
           (subst (λ d. GoesOn c.args.start c.args.bytes.now (c.tokens.found.items ++ c.in-Ok-Some.token ∷ []) d c.in-Ok-Some.token.to) (sym c.is_dot-behind_dot.ensures)
           (GoesOn-more c.args.start c.args.bytes.now c.tokens.found.items c.tokens.dot c.tokens.at c.in-Ok-Some.token a low i.2 n.0)),
+      inr (begun c.tokens.dot c.tokens.at c.args.start c.args.bytes.now _ c.in-Ok-Some.token i.3 n.0),
     )
+
+pub returns-in-Err-clause-memory : goal.returns-in-Err-clause-memory
+returns-in-Err-clause-memory c =
+    λ is. absurd (no_end c.tokens.dot c.tokens.at c.split_at.result.1.now c.in-Err.refusal c.in-Err.ensures is)
+
+pub returns-in-Err-push-clause-memory : goal.returns-in-Err-push-clause-memory
+returns-in-Err-push-clause-memory c =
+    let n : IsNext c.tokens.dot c.tokens.at (drop (c.tokens.at - c.args.start) c.args.bytes.now) (Ok (Some c.in-Ok-Some.token)) = subst (λ o. IsNext c.tokens.dot c.tokens.at (drop (c.tokens.at - c.args.start) c.args.bytes.now) (Ok o)) c.in-Ok-Some.field-0-is (subst (λ x. IsNext c.tokens.dot c.tokens.at x (Ok c.in-Ok-Some.field-0)) c.split_at.ensures.back c.in-Ok-Some.ensures) in
+    λ _. begun c.tokens.dot c.tokens.at c.args.start c.args.bytes.now _ c.in-Ok-Some.token c.tokens.invariant.3 n.0

@@ -1,10 +1,10 @@
 use Rattle.std.proofs.Common.{inl, inr, subst}
-use Rattle.name_table.specs.Files.{file_of}
-use Rattle.guard_run.specs.End.{EndOfCheck, IsChecked}
-use Rattle.guard_run.specs.Inputs.{RefusesProof}
+use Rattle.rule_names.specs.Files.{file_of}
+use Rattle.guard_ends.specs.End.{EndOfCheck, IsChecked}
+use Rattle.guard_ends.specs.Inputs.{RefusesProof}
 use Rattle.guard_run.specs.Outcome.{IsNotRead}
-use Rattle.guard_run.specs.declared.ends.Refusal.TheVariants.{TooLong}
-use Rattle.guard_run.specs.declared.ends.Which.TheVariants as file
+use Rattle.guard_ends.specs.declared.ends.Refusal.TheVariants.{TooLong}
+use Rattle.guard_ends.specs.declared.ends.Which.TheVariants as file
 use Rattle.guard_run.specs.declared.read.NotRead.{NotRead}
 use Rattle.guard_run.specs.declared.read.NotRead.TheVariants as not_read
 use Rattle.guard_run.proofs.Outcomes.{IsOutcomeAs-more}

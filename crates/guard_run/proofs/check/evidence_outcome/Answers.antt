@@ -1,9 +1,10 @@
 use Rattle.std.proofs.Common.{◌≡◌, ◌∙◌, inl, inr, refl, subst, ap, length}
-use Rattle.evidence_checker.specs.Answered.{AreOfRules, IsAnswer, IsRejectedAt}
-use Rattle.name_table.specs.Files.{file_of}
-use Rattle.query_steps.specs.Follows.{Accepts}
-use Rattle.guard_run.specs.Check.{accepted_text}
-use Rattle.guard_run.specs.declared.ends.End.TheVariants as end_is
+use Rattle.evidence_rules.specs.RuleLines.{AreOfRules}
+use Rattle.evidence_checker.specs.Answered.{IsAnswer, IsRejectedAt}
+use Rattle.rule_names.specs.Files.{file_of}
+use Rattle.evidence_rules.specs.Follows.{Accepts}
+use Rattle.guard_ends.specs.Check.{accepted_text}
+use Rattle.guard_ends.specs.declared.ends.End.TheVariants as end_is
 use Rattle.guard_run.proofs.Closing.{reported_as}
 use Rattle.guard_run.proofs.VerdictCounts.{verdicts-counted}
 use Rattle.guard_run.proofs.check.evidence_outcome.Goals as goal

@@ -1,7 +1,7 @@
 use Rattle.std.proofs.Common.{ℕ, List, subst}
 use Rattle.evidence_lines.specs.Text.{IsEvidence, IsFault, IsRefused}
 use Rattle.evidence_lines.specs.declared.refusal.EvidenceRefusal.{EvidenceRefusal}
-use Rattle.guard_run.specs.declared.ends.Refusal.TheVariants.{EvidenceSyntax}
+use Rattle.guard_ends.specs.declared.ends.Refusal.TheVariants.{EvidenceSyntax}
 use Rattle.guard_run.proofs.check.lines_of.Goals as goal
 
 pub returns-in-Ok : goal.returns-in-Ok

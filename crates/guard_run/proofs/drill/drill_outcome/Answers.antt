@@ -1,11 +1,11 @@
 use Rattle.std.proofs.Common.{◌≡◌, ◌≤◌, ℕ, List, length, inr, subst, sym, ◌∙◌, arith}
 use Rattle.guard_drill.specs.DrillTexts.{template_text}
 use Rattle.guard_drill.proofs.TemplateLengths.{template-short}
-use Rattle.name_table.specs.Files.{file_of}
-use Rattle.guard_run.specs.Drill.{drill_report, drill_rules}
-use Rattle.guard_run.specs.End.{EndOfDrill, EndOfTemplate, IsJudged}
+use Rattle.rule_names.specs.Files.{file_of}
+use Rattle.guard_ends.specs.Drill.{drill_report, drill_rules}
+use Rattle.guard_ends.specs.End.{EndOfDrill, EndOfTemplate, IsJudged}
 use Rattle.guard_run.specs.Outcome.{IsOutcomeAs}
-use Rattle.guard_run.specs.declared.words.Format.TheVariants.{Json}
+use Rattle.guard_ends.specs.declared.format.Format.TheVariants.{Json}
 use Rattle.guard_run.proofs.Outcomes.{IsOutcomeAs-more}
 use Rattle.guard_run.proofs.drill.drill_outcome.Goals as goal
 

@@ -1,9 +1,9 @@
 use Rattle.std.proofs.Common.{inr, string_bytes}
-use Rattle.name_table.specs.Files.{file_of}
-use Rattle.guard_run.specs.Drill.{drill_report}
-use Rattle.guard_run.specs.End.{EndOfTemplate, IsJudged}
+use Rattle.rule_names.specs.Files.{file_of}
+use Rattle.guard_ends.specs.Drill.{drill_report}
+use Rattle.guard_ends.specs.End.{EndOfTemplate, IsJudged}
 use Rattle.guard_run.specs.Outcome.{goes_nowhere}
-use Rattle.guard_run.specs.declared.words.Format.TheVariants.{Json}
+use Rattle.guard_ends.specs.declared.format.Format.TheVariants.{Json}
 use Rattle.guard_run.proofs.Outcomes.{IsOutcomeAs-more, template-before}
 use Rattle.guard_run.proofs.Plainness.{template-plain}
 use Rattle.guard_run.proofs.drill.made_outcome.Goals as goal

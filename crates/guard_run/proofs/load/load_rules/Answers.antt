@@ -1,5 +1,5 @@
-use Rattle.guard_run.specs.declared.ends.Refusal.TheVariants.{TooLong}
-use Rattle.guard_run.specs.declared.ends.Which.TheVariants as file
+use Rattle.guard_ends.specs.declared.ends.Refusal.TheVariants.{TooLong}
+use Rattle.guard_ends.specs.declared.ends.Which.TheVariants as file
 use Rattle.guard_run.proofs.load.load_rules.Goals as goal
 
 pub returns-in-TooLong-clause-loaded : goal.returns-in-TooLong-clause-loaded

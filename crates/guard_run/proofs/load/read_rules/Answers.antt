@@ -1,6 +1,6 @@
 use Rattle.std.proofs.Common.{◌≡◌, ℕ, List, true, false}
-use Rattle.guard_run.specs.declared.ends.Refusal.TheVariants.{NotText}
-use Rattle.guard_run.specs.declared.ends.Which.TheVariants as file
+use Rattle.guard_ends.specs.declared.ends.Refusal.TheVariants.{NotText}
+use Rattle.guard_ends.specs.declared.ends.Which.TheVariants as file
 use Rattle.guard_run.proofs.load.read_rules.Goals as goal
 
 pub returns-clause-loaded : goal.returns-clause-loaded

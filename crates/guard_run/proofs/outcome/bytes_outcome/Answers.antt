@@ -1,9 +1,9 @@
 use Rattle.std.proofs.Common.{ℕ, List, inl, inr, refl, string_bytes, subst}
-use Rattle.name_table.specs.Files.{file_of}
-use Rattle.guard_run.specs.End.{EndOfTemplate, EndOfWork}
+use Rattle.rule_names.specs.Files.{file_of}
+use Rattle.guard_ends.specs.End.{EndOfTemplate, EndOfWork}
 use Rattle.guard_run.specs.Outcome.{IsOutcomeAs, proof_of}
-use Rattle.guard_run.specs.declared.ends.Refusal.TheVariants.{NotText}
-use Rattle.guard_run.specs.declared.ends.Which.TheVariants as file
+use Rattle.guard_ends.specs.declared.ends.Refusal.TheVariants.{NotText}
+use Rattle.guard_ends.specs.declared.ends.Which.TheVariants as file
 use Rattle.guard_run.proofs.outcome.bytes_outcome.Goals as goal
 
 pub returns-in-Ok-clause-outcome : goal.returns-in-Ok-clause-outcome

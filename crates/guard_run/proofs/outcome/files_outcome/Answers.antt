@@ -1,8 +1,8 @@
 use Rattle.std.proofs.Common.{inr, string_bytes, subst}
 use Rattle.std.proofs.Math.Path.{fun_ext}
-use Rattle.name_table.specs.Files.{file_of}
-use Rattle.guard_run.specs.Request.{Request}
-use Rattle.guard_run.specs.End.{Contents, EndOfLoad, EndOfRequest}
+use Rattle.rule_names.specs.Files.{file_of}
+use Rattle.guard_ends.specs.Request.{Request}
+use Rattle.guard_ends.specs.End.{Contents, EndOfLoad, EndOfRequest}
 use Rattle.guard_run.specs.Outcome.{IsLateFault, IsOutcomeAs, proof_of}
 use Rattle.guard_run.proofs.LateFaults.{late-comes, late-rose, late-told}
 use Rattle.guard_run.proofs.Outcomes.{IsOutcomeAs-more}

@@ -1,8 +1,8 @@
 use Rattle.std.proofs.Common.{◌≡◌, ◌∙◌, ℕ, List, Err, Some, None, ap, ap₂, refl, false, true, map, string_bytes, subst, sym}
 use Rattle.guard_words.specs.Request.{AsksFor, asked, check, validate}
 use Rattle.guard_words.proofs.DrillCounts.{drill_low}
-use Rattle.guard_run.specs.End.{Counts}
-use Rattle.guard_run.specs.Request.{Request, Asks}
+use Rattle.guard_ends.specs.End.{Counts}
+use Rattle.guard_ends.specs.Request.{Request, Asks}
 use Rattle.guard_run.proofs.Asking.{outcome-asked, outcome-drilled, usage-unasked, usage-undone}
 use Rattle.guard_run.proofs.outcome.outcome_of.Goals as goal
 

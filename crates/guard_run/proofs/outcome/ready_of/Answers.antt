@@ -1,7 +1,7 @@
 use Rattle.std.proofs.Common.{inr, string_bytes}
-use Rattle.name_table.specs.Files.{file_of}
-use Rattle.guard_run.specs.Inputs.{IsTemplate}
-use Rattle.guard_run.specs.End.{EndOfPatterns, EndOfTemplate}
+use Rattle.rule_names.specs.Files.{file_of}
+use Rattle.guard_ends.specs.Inputs.{IsTemplate}
+use Rattle.guard_ends.specs.End.{EndOfPatterns, EndOfTemplate}
 use Rattle.guard_run.specs.Outcome.{goes_nowhere}
 use Rattle.guard_run.proofs.Outcomes.{IsOutcomeAs-more}
 use Rattle.guard_run.proofs.outcome.ready_of.Goals as goal

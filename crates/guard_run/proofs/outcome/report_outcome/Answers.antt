@@ -1,9 +1,9 @@
 use Rattle.std.proofs.Common.{◌≡◌, ℕ, List, string_bytes, subst}
-use Rattle.name_table.specs.Files.{file_of}
-use Rattle.query_steps.specs.SpotFunctions.{IsAnswering}
-use Rattle.query_steps.specs.Spots.{Answers}
+use Rattle.rule_names.specs.Files.{file_of}
+use Rattle.rule_meaning.specs.SpotFunctions.{IsAnswering}
+use Rattle.rule_meaning.specs.Spots.{Answers}
 use Rattle.guard_run.specs.Listed.{report_in}
-use Rattle.guard_run.specs.Reported.{world_over}
+use Rattle.guard_ends.specs.Reported.{world_over}
 use Rattle.guard_run.proofs.Outcomes.{ended-as}
 use Rattle.guard_run.proofs.outcome.report_outcome.Goals as goal
 

@@ -1,14 +1,14 @@
 use Rattle.std.proofs.Common.{ℕ, List, inl, inr, refl, string_bytes, subst}
 use Rattle.std.proofs.Math.Path.{fun_ext}
 use Rattle.doc_values.specs.Tree.{Forest}
-use Rattle.name_table.specs.Files.{file_of}
-use Rattle.guard_run.specs.Request.{format_of}
-use Rattle.guard_run.specs.End.{Contents, EndOfLoad, EndOfTemplate, EndOfWork}
-use Rattle.guard_run.specs.Inputs.{IsTemplate}
+use Rattle.rule_names.specs.Files.{file_of}
+use Rattle.guard_ends.specs.Request.{format_of}
+use Rattle.guard_ends.specs.End.{Contents, EndOfLoad, EndOfTemplate, EndOfWork}
+use Rattle.guard_ends.specs.Inputs.{IsTemplate}
 use Rattle.guard_run.specs.Outcome.{IsOutcomeAs, proof_of}
-use Rattle.guard_run.specs.declared.ends.Refusal.TheVariants.{TooLong}
-use Rattle.guard_run.specs.declared.ends.Which.TheVariants as file
-use Rattle.guard_run.specs.declared.words.Format.{Format}
+use Rattle.guard_ends.specs.declared.ends.Refusal.TheVariants.{TooLong}
+use Rattle.guard_ends.specs.declared.ends.Which.TheVariants as file
+use Rattle.guard_ends.specs.declared.format.Format.{Format}
 use Rattle.guard_run.proofs.LateFaults.{proof-since}
 use Rattle.guard_run.proofs.Outcomes.{IsOutcomeAs-more}
 use Rattle.guard_run.proofs.outcome.template_outcome.Goals as goal

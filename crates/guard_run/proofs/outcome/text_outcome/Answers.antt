@@ -1,7 +1,7 @@
 use Rattle.std.proofs.Common.{inr, string_bytes, subst, sym, ap}
 use Rattle.doc_values.specs.Tree.{Forest}
-use Rattle.name_table.specs.Files.{file_of}
-use Rattle.guard_run.specs.End.{Ended, EndOfTemplate, EndOfWork}
+use Rattle.rule_names.specs.Files.{file_of}
+use Rattle.guard_ends.specs.End.{Ended, EndOfTemplate, EndOfWork}
 use Rattle.guard_run.specs.Outcome.{IsOutcomeAs, goes_nowhere, proof_of}
 use Rattle.guard_run.specs.declared.outcome.Job.{Job}
 use Rattle.guard_run.proofs.Outcomes.{IsOutcomeAs-more, template-before}

@@ -1,6 +1,6 @@
 use Rattle.std.proofs.Common.{inl, refl, sym, ◌∙◌}
-use Rattle.guard_run.specs.Inputs.{IsText, RefusesRules, rules_limit}
-use Rattle.guard_run.specs.declared.ends.Which.TheVariants as file
+use Rattle.guard_ends.specs.Inputs.{IsText, RefusesRules, rules_limit}
+use Rattle.guard_ends.specs.declared.ends.Which.TheVariants as file
 use Rattle.guard_run.proofs.Refusing.{lex-why, placed-not_read}
 use Rattle.guard_run.proofs.read.rules_of.Goals as goal
 

@@ -2,10 +2,10 @@ use Rattle.std.proofs.Common.{None, inr, refl, subst}
 use Rattle.guard_syntax.specs.Seen.{see_file}
 use Rattle.name_table.specs.Refused.{IsNameRefusal}
 use Rattle.name_table.specs.declared.refusal.NameRefusal.TheVariants.{Bad}
-use Rattle.name_table.specs.Faults.{Fault}
-use Rattle.guard_run.specs.Inputs.{IsText, name_kind, name_said, rules_limit}
-use Rattle.guard_run.specs.declared.ends.Refusal.TheVariants.{At}
-use Rattle.guard_run.specs.declared.ends.Which.TheVariants as file
+use Rattle.rule_names.specs.Faults.{Fault}
+use Rattle.guard_ends.specs.Inputs.{IsText, name_kind, name_said, rules_limit}
+use Rattle.guard_ends.specs.declared.ends.Refusal.TheVariants.{At}
+use Rattle.guard_ends.specs.declared.ends.Which.TheVariants as file
 use Rattle.guard_run.proofs.read.rules_of_syntax.Goals as goal
 
 pub resolve-requires : goal.resolve-requires

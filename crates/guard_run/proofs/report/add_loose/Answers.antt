@@ -1,15 +1,15 @@
 use Rattle.std.proofs.Common.{◌≡◌, ◌++◌, ℕ, List, OnOk, map, arith, subst, sym, ap, ◌∙◌}
 use Rattle.std.proofs.lemmas.Grind.{common_steps}
 use Rattle.guard_syntax.specs.Seen.{disj_list, see_disj}
-use Rattle.query_steps.specs.Fails.{loose_fails}
-use Rattle.query_steps.specs.Seeing.{world_of}
-use Rattle.query_steps.specs.Spots.{World}
+use Rattle.rule_meaning.specs.Fails.{loose_fails}
+use Rattle.rule_meaning.specs.Seeing.{world_of}
+use Rattle.rule_meaning.specs.Spots.{World}
 use Rattle.report_text.specs.SeenEntries.{see_entry}
 use Rattle.report_text.specs.declared.entry.Entry as code
 use Rattle.plain_evaluator.specs.States.{Grows, State, see_trees}
 use Rattle.plain_evaluator.proofs.Growing.{Grows-trans, answering-on}
 use Rattle.guard_run.specs.Listed.{AreLinesOf, lines_in}
-use Rattle.guard_run.specs.Reported.{Reported, if_fail, of_loose}
+use Rattle.guard_ends.specs.Reported.{Reported, if_fail, of_loose}
 use Rattle.guard_run.proofs.LineLists.{lines-kept}
 use Rattle.guard_run.proofs.Walks.{loose-one}
 use Rattle.guard_run.proofs.report.add_loose.Goals as goal

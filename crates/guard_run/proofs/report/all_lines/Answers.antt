@@ -2,9 +2,9 @@ use Rattle.std.proofs.Common.{◌≡◌, List, map, subst, ap, sym, ◌∙◌}
 use Rattle.guard_syntax.specs.Syntax as sx
 use Rattle.guard_syntax.specs.declared.syntax.Rule.{Rule}
 use Rattle.guard_syntax.specs.Seen.{see_disj, see_rule, disj_list}
-use Rattle.name_table.specs.Files.{file_of}
-use Rattle.name_table.specs.Pieces.{pieces_disjs}
-use Rattle.name_table.specs.Within.{StandsIn}
+use Rattle.rule_names.specs.Files.{file_of}
+use Rattle.rule_names.specs.Pieces.{pieces_disjs}
+use Rattle.rule_names.specs.Within.{StandsIn}
 use Rattle.value_compare.specs.Books.{IsBookOf}
 use Rattle.plain_evaluator.specs.States.{see_trees}
 use Rattle.plain_evaluator.proofs.Growing.{book-on, same-file, stands-on}

@@ -2,15 +2,15 @@ use Rattle.std.proofs.Common.{◌≡◌, IfOk, [], map, subst, sym, ap, ◌∙�
 use Rattle.std.proofs.lemmas.List.Elements.{All-nil, All-same}
 use Rattle.guard_syntax.specs.Seen.{disj_list, see_disj}
 use Rattle.guard_syntax.specs.declared.row.Verdict.{Verdict}
-use Rattle.query_steps.specs.Fails.{loose_fails}
-use Rattle.query_steps.specs.Seeing.{world_of}
-use Rattle.query_steps.specs.Spots.{World}
+use Rattle.rule_meaning.specs.Fails.{loose_fails}
+use Rattle.rule_meaning.specs.Seeing.{world_of}
+use Rattle.rule_meaning.specs.Spots.{World}
 use Rattle.report_text.specs.SeenEntries.{IsShowable, see_entry}
 use Rattle.report_text.specs.declared.entry.Entry.{Entry}
 use Rattle.plain_evaluator.specs.Entries.{see_entries}
 use Rattle.plain_evaluator.specs.States.{see_trees}
 use Rattle.plain_evaluator.proofs.Growing.{Grows-refl}
-use Rattle.guard_run.specs.Reported.{if_fail}
+use Rattle.guard_ends.specs.Reported.{if_fail}
 use Rattle.guard_run.proofs.Walks.{none-fail}
 use Rattle.guard_run.proofs.report.entries_of_loose.Goals as goal
 

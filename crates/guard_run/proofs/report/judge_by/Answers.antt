@@ -1,7 +1,7 @@
 use Rattle.std.proofs.Common.{ap, ◌∙◌, nat_lt}
-use Rattle.name_table.specs.Files.{file_of}
-use Rattle.query_steps.specs.Verdicts.{is_fail}
-use Rattle.guard_run.specs.Reported.{verdicts_of, world_over}
+use Rattle.rule_names.specs.Files.{file_of}
+use Rattle.rule_meaning.specs.Verdicts.{is_fail}
+use Rattle.guard_ends.specs.Reported.{verdicts_of, world_over}
 use Rattle.guard_run.proofs.Judging.{count_by-any}
 use Rattle.guard_run.proofs.report.judge_by.Goals as goal
 

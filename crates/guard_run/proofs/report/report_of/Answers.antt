@@ -1,10 +1,10 @@
 use Rattle.std.proofs.Common.{◌≡◌, ◌++◌, IfOk, sym, subst}
 use Rattle.std.proofs.lemmas.Result.{IfOk-weaker}
 use Rattle.std.specs.Prelude.{codes, decimal}
-use Rattle.guard_run.specs.Drill.{drill_report}
+use Rattle.guard_ends.specs.Drill.{drill_report}
 use Rattle.guard_run.specs.Listed.{AreLinesOf, lines_as, report_in}
-use Rattle.guard_run.specs.Report.{lines_of, report}
-use Rattle.guard_run.specs.Reported.{reported}
+use Rattle.guard_ends.specs.Report.{lines_of, report}
+use Rattle.guard_ends.specs.Reported.{reported}
 use Rattle.guard_run.specs.declared.report.Form.{Form}
 use Rattle.guard_run.proofs.Reports.{drill-made, tally_line, whole-made}
 use Rattle.guard_run.proofs.report.report_of.Goals as goal

@@ -3,7 +3,7 @@ use Rattle.std.specs.List.{flat_map}
 use Rattle.guard_syntax.specs.Seen.{see_rule}
 use Rattle.plain_evaluator.specs.States.{Answering, Grows, see_trees}
 use Rattle.guard_run.specs.Listed.{AreLinesOf, count_of, lines_in}
-use Rattle.guard_run.specs.Reported.{of_rule}
+use Rattle.guard_ends.specs.Reported.{of_rule}
 use Rattle.guard_run.proofs.report.rule_lines.Given as goal
 
 abbrev pub invariant-loop-rule : goal.invariant-loop-rule

@@ -1,6 +1,6 @@
 use Rattle.std.proofs.Common.{ℕ, List, inl, inr, refl}
 use Rattle.guard_io.specs.Outside.{IsPrefix}
-use Rattle.guard_run.specs.End.{Took}
+use Rattle.guard_ends.specs.End.{Took}
 use Rattle.guard_run.proofs.Closing.{Took-front, Took-both}
 use Rattle.guard_run.proofs.write.say.Goals as goal
 

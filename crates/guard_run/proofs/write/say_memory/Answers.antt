@@ -1,5 +1,5 @@
 use Rattle.std.proofs.Common.{inl, inr, refl, []}
-use Rattle.guard_run.specs.Lines.{memory_line}
+use Rattle.guard_ends.specs.Lines.{memory_line}
 use Rattle.guard_run.proofs.Closing.{Took-front}
 use Rattle.guard_run.proofs.write.say_memory.Goals as goal
 

@@ -1,13 +1,13 @@
 use Rattle.std.proofs.Common.{◌≡◌, ℕ, List, true, inl, inr, refl, sym, ap₂, ◌∙◌, [], subst}
-use Rattle.guard_run.specs.Check.{rejected_text}
-use Rattle.guard_run.specs.End.{Ended, EndOf, Faults, Loads, Unread, Unmade, Took, is_reported}
-use Rattle.guard_run.specs.Lines.{usage_line, read_fault_line, pattern_line}
-use Rattle.guard_run.specs.Request.{Request}
+use Rattle.guard_ends.specs.Check.{rejected_text}
+use Rattle.guard_ends.specs.End.{Ended, EndOf, Faults, Loads, Unread, Unmade, Took, is_reported}
+use Rattle.guard_ends.specs.Lines.{usage_line, read_fault_line, pattern_line}
+use Rattle.guard_ends.specs.Request.{Request}
 use Rattle.guard_run.specs.Outcome.{IsOutcome, ended, line_bytes, said}
 use Rattle.guard_run.specs.declared.refused.Refused.{Refused}
 use Rattle.guard_run.specs.Writing.{Said}
-use Rattle.guard_run.specs.declared.ends.End.{End}
-use Rattle.guard_run.specs.declared.ends.End.TheVariants as end_is
+use Rattle.guard_ends.specs.declared.ends.End.{End}
+use Rattle.guard_ends.specs.declared.ends.End.TheVariants as end_is
 use Rattle.guard_run.specs.declared.report.Judgement.{Judgement}
 use Rattle.guard_run.proofs.Closing.{Took-nothing, Closed-said, Closed-memory, ended-reported, reported_as}
 use Rattle.guard_run.proofs.write.write_outcome.Goals as goal

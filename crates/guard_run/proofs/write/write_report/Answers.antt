@@ -1,10 +1,10 @@
 use Rattle.std.proofs.Common.{ℕ, List, Err, ap, inl, inr, refl, sym, ◌∙◌}
 use Rattle.std.proofs.lemmas.Bool.{true≢false}
 use Rattle.guard_io.specs.Outside.{IsPrefix}
-use Rattle.guard_run.specs.End.{Faults, Took, is_reported}
-use Rattle.guard_run.specs.Lines.{write_fault_line}
-use Rattle.guard_run.specs.declared.ends.End.TheVariants.{WriteFault}
-use Rattle.guard_run.specs.declared.ends.Pipe.TheVariants.{Out}
+use Rattle.guard_ends.specs.End.{Faults, Took, is_reported}
+use Rattle.guard_ends.specs.Lines.{write_fault_line}
+use Rattle.guard_ends.specs.declared.ends.End.TheVariants.{WriteFault}
+use Rattle.guard_ends.specs.declared.ends.Pipe.TheVariants.{Out}
 use Rattle.guard_run.proofs.Closing.{Took-front, Took-nothing, Closed-said, Closed-memory, Closed-defined, IsReport-as, reported_as, reported-defined}
 use Rattle.guard_run.proofs.write.write_report.Goals as goal
 

@@ -19,8 +19,8 @@ range-requires-clause-end_boundary c =
     let l : end - 1 < length c.args.text.now = omega (arith, run.within) in
     subst (λ k. IsCharBoundary c.args.text.now k) n (IsCharBoundary-after_ascii c.args.text.now (end - 1) c.utf8.text l run.ascii)
 
-pub returns-in-Some : goal.returns-in-Some
-returns-in-Some c =
+pub returns-in-Some-clause-number : goal.returns-in-Some-clause-number
+returns-in-Some-clause-number c =
     let v = c.as_bytes-bytes.ensures.value in
     let len = c.number_run-len.result.0 in
     let end = c.args.at + 1 + len in
@@ -29,8 +29,8 @@ returns-in-Some c =
     let made = number_some c.args.text.now c.args.at end c.number_run-len.result.1 c.in-Some.number run known in
     (run.more, run.within, subst IsPlain (sym c.kind_of.ensures) made.0, subst (λ (k : Kind). Number c.args.text.now c.args.at k end) (sym c.kind_of.ensures) made.1)
 
-pub returns-then-completes : goal.returns-then-completes
-returns-then-completes c =
+pub returns-then-completes-clause-number : goal.returns-then-completes-clause-number
+returns-then-completes-clause-number c =
     let v = c.as_bytes-bytes.ensures.value in
     let len = c.number_run-len.result.0 in
     let end = c.args.at + 1 + len in
@@ -38,8 +38,8 @@ returns-then-completes c =
     let none = number_none c.args.text.now c.args.at end c.number_run-len.result.1 c.completes.result run c.completes.ensures (λ n i. c.in-None.ensures n (subst (λ (t : List ℕ). IsNumber t n) (sym c.range.ensures.value) i)) in
     subst (λ (q : Bool). NoNumber c.args.text.now c.args.at (number_cause end q None c.args.at)) c.if-completes.true none
 
-pub returns-else-completes : goal.returns-else-completes
-returns-else-completes c =
+pub returns-else-completes-clause-number : goal.returns-else-completes-clause-number
+returns-else-completes-clause-number c =
     let v = c.as_bytes-bytes.ensures.value in
     let len = c.number_run-len.result.0 in
     let end = c.args.at + 1 + len in

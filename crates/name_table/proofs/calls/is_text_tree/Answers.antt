@@ -1,4 +1,4 @@
-use Rattle.name_table.proofs.Arguments.{tree-root}
+use Rattle.rule_names.proofs.Arguments.{tree-root}
 use Rattle.name_table.proofs.calls.is_text_tree.Goals as goal
 
 pub cursor-requires : goal.cursor-requires

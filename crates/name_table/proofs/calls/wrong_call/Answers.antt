@@ -1,11 +1,11 @@
 use Rattle.std.proofs.Common.{◌∙◌, sym, ap}
-use Rattle.name_table.specs.Faults.{first_from}
+use Rattle.rule_names.specs.Faults.{first_from}
 use Rattle.name_table.specs.Seen.{see_best}
-use Rattle.name_table.specs.declared.refusal.NameKind.TheVariants.{ArgCount}
-use Rattle.name_table.specs.Uses.{wrong}
+use Rattle.rule_names.specs.declared.name_kind.NameKind.TheVariants.{ArgCount}
+use Rattle.rule_names.specs.Uses.{wrong}
 use Rattle.name_table.specs.Arities.{arity_named}
 use Rattle.name_table.specs.Walked.{rules_of, places_of}
-use Rattle.name_table.proofs.Arguments.{count-args, call-good, call-other}
+use Rattle.rule_names.proofs.Arguments.{count-args, call-good, call-other}
 use Rattle.name_table.proofs.calls.wrong_call.Goals as goal
 
 pub returns-then-count-args : goal.returns-then-count-args

@@ -1,11 +1,11 @@
 use Rattle.std.proofs.Common.{◌≡◌, ◌∙◌, sym, ap, map, ◌++◌, Some, None}
 use Rattle.guard_syntax.specs.Seen.{expr_list, see_expr}
-use Rattle.name_table.specs.Faults.{first_from}
+use Rattle.rule_names.specs.Faults.{first_from}
 use Rattle.name_table.specs.Seen.{see_best}
-use Rattle.name_table.specs.declared.refusal.NameKind.TheVariants.{ArgCount, UnknownFunction}
-use Rattle.name_table.specs.Uses.{wrong, wrong_function, wrong_texts, function_named, place_of}
+use Rattle.rule_names.specs.declared.name_kind.NameKind.TheVariants.{ArgCount, UnknownFunction}
+use Rattle.rule_names.specs.Uses.{wrong, wrong_function, wrong_texts, function_named, place_of}
 use Rattle.name_table.specs.Walked.{rules_of, places_of}
-use Rattle.name_table.proofs.Arguments.{count-args, named-none, named-some, function-good, function-other}
+use Rattle.rule_names.proofs.Arguments.{count-args, named-none, named-some, function-good, function-other}
 use Rattle.name_table.proofs.calls.wrong_function.Goals as goal
 
 pub returns-in_default : goal.returns-in_default

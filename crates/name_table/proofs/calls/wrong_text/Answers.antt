@@ -1,11 +1,11 @@
 use Rattle.std.proofs.Common.{◌∙◌, sym, ap}
 use Rattle.guard_syntax.specs.Seen.{see_expr}
-use Rattle.name_table.specs.Faults.{first_from}
+use Rattle.rule_names.specs.Faults.{first_from}
 use Rattle.name_table.specs.Seen.{see_best}
-use Rattle.name_table.specs.Uses.{wrong, wrong_text, place_of}
-use Rattle.name_table.specs.declared.refusal.NameKind.TheVariants.{LiteralWanted}
+use Rattle.rule_names.specs.Uses.{wrong, wrong_text, place_of}
+use Rattle.rule_names.specs.declared.name_kind.NameKind.TheVariants.{LiteralWanted}
 use Rattle.name_table.specs.Walked.{rules_of, places_of}
-use Rattle.name_table.proofs.Arguments.{args-none, args-some, site-first, text-good, text-other}
+use Rattle.rule_names.proofs.Arguments.{args-none, args-some, site-first, text-good, text-other}
 use Rattle.name_table.proofs.calls.wrong_text.Goals as goal
 
 pub returns-in_default : goal.returns-in_default

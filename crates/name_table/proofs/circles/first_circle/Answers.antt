@@ -1,8 +1,8 @@
 use Rattle.std.proofs.Common.{◌≡◌, ◌*◌, ◌/◌, inl, inr, arith, length}
 use Rattle.guard_syntax.specs.Seen.{see_file}
-use Rattle.name_table.specs.Ways.{graph_of}
+use Rattle.rule_names.specs.Ways.{graph_of}
 use Rattle.name_table.specs.Seen.{see_wrong}
-use Rattle.name_table.specs.declared.refusal.NameKind.TheVariants.{RecursiveRule, RecursiveVariable}
+use Rattle.rule_names.specs.declared.name_kind.NameKind.TheVariants.{RecursiveRule, RecursiveVariable}
 use Rattle.name_table.proofs.CircleFaults.{graph-size, none-on, fault-of, none-in-halves}
 use Rattle.name_table.proofs.circles.first_circle.Goals as goal
 use Rattle.name_table.proofs.circles.first_circle.Goals.{After-count-count}

@@ -1,7 +1,7 @@
 use Rattle.std.proofs.Common.{ap, sym, ◌∙◌, Some, Option}
 use Rattle.guard_syntax.specs.Syntax as sx
-use Rattle.name_table.specs.Circles.{capture_in, text_if}
-use Rattle.name_table.proofs.Shapes.{step-seen}
+use Rattle.rule_names.specs.Circles.{capture_in, text_if}
+use Rattle.rule_names.proofs.Shapes.{step-seen}
 use Rattle.name_table.proofs.StepsAt.{step-at, step-beyond}
 use Rattle.name_table.proofs.circles.text_at_step.Goals as goal
 

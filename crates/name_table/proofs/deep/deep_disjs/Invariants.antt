@@ -1,5 +1,5 @@
 use Rattle.std.proofs.Common.{◌≡◌, drop}
-use Rattle.name_table.specs.Faults.{first_from}
+use Rattle.rule_names.specs.Faults.{first_from}
 use Rattle.name_table.specs.Measures.{file_of, known_of}
 use Rattle.name_table.specs.Seen.{see_best}
 use Rattle.name_table.proofs.DeepFaults.{of_disjs}

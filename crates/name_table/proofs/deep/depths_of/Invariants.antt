@@ -1,6 +1,6 @@
 use Rattle.std.proofs.Common.{◌≡◌}
 use Rattle.guard_syntax.specs.Seen.{see_file}
-use Rattle.name_table.specs.Depths.{deepened_by}
+use Rattle.rule_names.specs.Depths.{deepened_by}
 use Rattle.name_table.proofs.deep.depths_of.Given as goal
 
 abbrev pub invariant-loop-round : goal.invariant-loop-round

@@ -6,9 +6,9 @@ use Rattle.guard_syntax.specs.declared.syntax.Step.{Step}
 use Rattle.guard_syntax.specs.declared.syntax.Expr.{Expr}
 use Rattle.guard_syntax.specs.Named.{Named}
 use Rattle.guard_syntax.specs.Seen.{see_let, see_step, see_disj, see_part, see_query, see_body, see_conds, see_opt_conds, see_expr, see_opt_expr, let_list, step_list, disj_list, part_list, expr_list}
-use Rattle.name_table.specs.Doubles.{doubled}
-use Rattle.name_table.specs.Faults.{first_from}
-use Rattle.name_table.specs.Scopes.{names_of, given_body, given_conds, scopes_lets, scopes_let, scopes_steps, scopes_step, scopes_disjs, scopes_disj, scopes_parts, scopes_part, scopes_exprs, scopes_expr, scopes_opt_expr, scopes_query, scopes_body, scopes_conds, scopes_opt_conds}
+use Rattle.rule_names.specs.Doubles.{doubled}
+use Rattle.rule_names.specs.Faults.{first_from}
+use Rattle.rule_names.specs.Scopes.{names_of, given_body, given_conds, scopes_lets, scopes_let, scopes_steps, scopes_step, scopes_disjs, scopes_disj, scopes_parts, scopes_part, scopes_exprs, scopes_expr, scopes_opt_expr, scopes_query, scopes_body, scopes_conds, scopes_opt_conds}
 use Rattle.name_table.specs.Seen.{see_best}
 use Rattle.name_table.proofs.FirstFaults.{first-then, last-then, own-scope, more-parts}
 use Rattle.name_table.proofs.ScopeShapes.{let-scopes, disj-scopes, body-scopes, block-scopes, when-scopes, kinds-scopes, test-scopes}

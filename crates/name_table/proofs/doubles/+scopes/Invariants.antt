@@ -1,8 +1,8 @@
 use Rattle.std.proofs.Common.{◌≡◌, drop, map}
 use Rattle.guard_syntax.specs.Seen.{see_let, see_step, see_disj, see_part, see_expr, let_list, step_list, disj_list, part_list, expr_list}
-use Rattle.name_table.specs.Doubles.{doubled}
-use Rattle.name_table.specs.Faults.{first_from}
-use Rattle.name_table.specs.Scopes.{scopes_lets, scopes_steps, scopes_disjs, scopes_parts, scopes_exprs}
+use Rattle.rule_names.specs.Doubles.{doubled}
+use Rattle.rule_names.specs.Faults.{first_from}
+use Rattle.rule_names.specs.Scopes.{scopes_lets, scopes_steps, scopes_disjs, scopes_parts, scopes_exprs}
 use Rattle.name_table.specs.Seen.{see_best}
 use Rattle.name_table.proofs.doubles.+scopes.Given as goal
 

@@ -1,6 +1,6 @@
 use Rattle.std.proofs.Common.{◌≡◌, [], take, drop, map}
-use Rattle.name_table.specs.Doubles.{given_again, fault_of}
-use Rattle.name_table.specs.Faults.{first_from}
+use Rattle.rule_names.specs.Doubles.{given_again, fault_of}
+use Rattle.rule_names.specs.Faults.{first_from}
 use Rattle.name_table.specs.Seen.{see_best, see_names}
 use Rattle.name_table.proofs.NameSets.{IsNameSet}
 use Rattle.name_table.proofs.SeenNames.{texts_of}

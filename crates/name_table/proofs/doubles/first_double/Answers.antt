@@ -4,9 +4,9 @@ use Rattle.std.proofs.lemmas.Result.{IfOk-weaker}
 use Rattle.guard_syntax.specs.Named.{Named}
 use Rattle.guard_syntax.specs.Seen.{see_file, see_rule}
 use Rattle.guard_syntax.specs.declared.syntax.Rule.{Rule}
-use Rattle.name_table.specs.declared.refusal.NameKind.TheVariants.{DuplicateRule}
-use Rattle.name_table.specs.Doubles.{doubles, double_rules, double_names, given_again, fault_of, rule_names}
-use Rattle.name_table.specs.Faults.{Fault, first_from, first_of}
+use Rattle.rule_names.specs.declared.name_kind.NameKind.TheVariants.{DuplicateRule}
+use Rattle.rule_names.specs.Doubles.{doubles, double_rules, double_names, given_again, fault_of, rule_names}
+use Rattle.rule_names.specs.Faults.{Fault, first_from, first_of}
 use Rattle.name_table.specs.Seen.{see_best, see_names}
 use Rattle.name_table.proofs.FirstFaults.{first-append}
 use Rattle.name_table.proofs.doubles.first_double.Goals as goal

@@ -3,9 +3,9 @@ use Rattle.std.proofs.lemmas.List.{append_assoc}
 use Rattle.guard_syntax.specs.Named.{Named}
 use Rattle.guard_syntax.specs.declared.syntax.Rule.{Rule}
 use Rattle.guard_syntax.specs.Seen.{see_rule, see_body, see_opt_conds}
-use Rattle.name_table.specs.Doubles.{doubled}
-use Rattle.name_table.specs.Faults.{first_from}
-use Rattle.name_table.specs.Scopes.{scopes_body, scopes_opt_conds, scopes_rules}
+use Rattle.rule_names.specs.Doubles.{doubled}
+use Rattle.rule_names.specs.Faults.{first_from}
+use Rattle.rule_names.specs.Scopes.{scopes_body, scopes_opt_conds, scopes_rules}
 use Rattle.name_table.specs.Seen.{see_best}
 use Rattle.name_table.proofs.FirstFaults.{first-then, more-parts}
 use Rattle.name_table.proofs.doubles.in_rules.Goals as goal

@@ -1,8 +1,8 @@
 use Rattle.std.proofs.Common.{◌≡◌, drop, map}
 use Rattle.guard_syntax.specs.Seen.{see_rule}
-use Rattle.name_table.specs.Doubles.{doubled}
-use Rattle.name_table.specs.Faults.{first_from}
-use Rattle.name_table.specs.Scopes.{scopes_rules}
+use Rattle.rule_names.specs.Doubles.{doubled}
+use Rattle.rule_names.specs.Faults.{first_from}
+use Rattle.rule_names.specs.Scopes.{scopes_rules}
 use Rattle.name_table.specs.Seen.{see_best}
 use Rattle.name_table.proofs.doubles.in_rules.Given as goal
 

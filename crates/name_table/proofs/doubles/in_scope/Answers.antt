@@ -1,4 +1,4 @@
-use Rattle.name_table.specs.Scopes.{names_of}
+use Rattle.rule_names.specs.Scopes.{names_of}
 use Rattle.name_table.specs.Seen.{see_best, see_given}
 use Rattle.name_table.proofs.FirstFaults.{own-names}
 use Rattle.name_table.proofs.doubles.in_scope.Goals as goal

@@ -1,6 +1,6 @@
 use Rattle.std.proofs.Common.{[], ◌∷◌, ◌++◌, map}
 use Rattle.guard_syntax.specs.Seen.{see_file, see_let, see_rule, see_disj, let_list, disj_list}
-use Rattle.name_table.specs.Scopes.{names_of, given_file, scopes_file, scopes_lets, scopes_rules, scopes_disjs}
+use Rattle.rule_names.specs.Scopes.{names_of, given_file, scopes_file, scopes_lets, scopes_rules, scopes_disjs}
 use Rattle.name_table.specs.Seen.{see_best}
 use Rattle.name_table.proofs.FirstFaults.{first-then, last-then, own-scope}
 use Rattle.name_table.proofs.ScopeShapes.{file-scopes}

@@ -1,5 +1,5 @@
 use Rattle.std.proofs.Common.{◌≡◌, ◌++◌, drop}
-use Rattle.name_table.specs.Scopes.{names_of}
+use Rattle.rule_names.specs.Scopes.{names_of}
 use Rattle.name_table.specs.Seen.{see_given, see_names}
 use Rattle.name_table.proofs.doubles.names_of.Given as goal
 

@@ -1,6 +1,6 @@
 use Rattle.std.proofs.Common.{◌≡◌, ◌++◌, drop, map}
 use Rattle.guard_syntax.specs.Seen.{see_rule}
-use Rattle.name_table.specs.Doubles.{rule_names}
+use Rattle.rule_names.specs.Doubles.{rule_names}
 use Rattle.name_table.specs.Seen.{see_names}
 use Rattle.name_table.proofs.doubles.rule_names.Given as goal
 

@@ -1,5 +1,5 @@
 use Rattle.std.proofs.Common.{◌≡◌, drop}
-use Rattle.name_table.specs.Homes.{with_homes}
+use Rattle.rule_names.specs.Homes.{with_homes}
 use Rattle.name_table.proofs.homes.set_homes.Given as goal
 
 abbrev pub invariant-loop-homed : goal.invariant-loop-homed

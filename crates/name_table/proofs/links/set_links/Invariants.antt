@@ -1,5 +1,5 @@
 use Rattle.std.proofs.Common.{◌≡◌, drop}
-use Rattle.name_table.specs.Links.{with_links}
+use Rattle.rule_names.specs.Links.{with_links}
 use Rattle.name_table.proofs.links.set_links.Given as goal
 
 abbrev pub invariant-loop-linked : goal.invariant-loop-linked

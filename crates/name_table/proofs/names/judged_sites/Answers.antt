@@ -2,7 +2,7 @@ use Rattle.std.proofs.Common.{ℕ, List, [], ◌∷◌, ◌++◌, drop, map, ari
 use Rattle.std.proofs.lemmas.List.{append-nil}
 use Rattle.std.proofs.lemmas.Grind.{common_steps}
 use Rattle.guard_syntax.specs.Seen.{see_rule}
-use Rattle.name_table.specs.Order.{plain_sites}
+use Rattle.rule_names.specs.Order.{plain_sites}
 use Rattle.name_table.proofs.PlainSites.{plain-end, no-default, with-default, gathered}
 use Rattle.name_table.proofs.names.judged_sites.Goals as goal
 

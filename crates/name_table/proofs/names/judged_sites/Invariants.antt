@@ -1,6 +1,6 @@
 use Rattle.std.proofs.Common.{◌≡◌, ◌++◌, drop, map}
 use Rattle.guard_syntax.specs.Seen.{see_rule}
-use Rattle.name_table.specs.Order.{plain_sites}
+use Rattle.rule_names.specs.Order.{plain_sites}
 use Rattle.name_table.proofs.names.judged_sites.Given as goal
 
 abbrev pub invariant-loop-rule : goal.invariant-loop-rule

@@ -1,6 +1,6 @@
 use Rattle.std.proofs.Common.{◌≡◌, ◌++◌, drop, map}
 use Rattle.guard_syntax.specs.Seen.{see_step, see_expr, step_list, expr_list}
-use Rattle.name_table.specs.Scopes.{given_steps, given_exprs}
+use Rattle.rule_names.specs.Scopes.{given_steps, given_exprs}
 use Rattle.name_table.specs.Seen.{see_given}
 use Rattle.name_table.proofs.scopes.+asked.Given as goal
 

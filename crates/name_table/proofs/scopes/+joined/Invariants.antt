@@ -1,6 +1,6 @@
 use Rattle.std.proofs.Common.{◌≡◌, ◌++◌, drop, map}
 use Rattle.guard_syntax.specs.Seen.{see_disj, see_part, disj_list, part_list}
-use Rattle.name_table.specs.Scopes.{given_disjs, given_parts}
+use Rattle.rule_names.specs.Scopes.{given_disjs, given_parts}
 use Rattle.name_table.specs.Seen.{see_given}
 use Rattle.name_table.proofs.scopes.+joined.Given as goal
 

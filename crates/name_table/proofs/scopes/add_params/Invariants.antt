@@ -1,5 +1,5 @@
 use Rattle.std.proofs.Common.{◌≡◌, ◌++◌, drop}
-use Rattle.name_table.specs.Scopes.{given_params}
+use Rattle.rule_names.specs.Scopes.{given_params}
 use Rattle.name_table.specs.Seen.{see_given}
 use Rattle.name_table.proofs.scopes.add_params.Given as goal
 

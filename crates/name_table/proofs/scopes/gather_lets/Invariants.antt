@@ -1,6 +1,6 @@
 use Rattle.std.proofs.Common.{◌≡◌, ◌++◌, drop, map}
 use Rattle.guard_syntax.specs.Seen.{see_let, let_list}
-use Rattle.name_table.specs.Scopes.{given_lets}
+use Rattle.rule_names.specs.Scopes.{given_lets}
 use Rattle.name_table.specs.Seen.{see_given}
 use Rattle.name_table.proofs.scopes.gather_lets.Given as goal
 

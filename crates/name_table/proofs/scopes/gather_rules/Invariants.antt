@@ -1,6 +1,6 @@
 use Rattle.std.proofs.Common.{◌≡◌, ◌++◌, drop, map}
 use Rattle.guard_syntax.specs.Seen.{see_rule}
-use Rattle.name_table.specs.Scopes.{given_rules}
+use Rattle.rule_names.specs.Scopes.{given_rules}
 use Rattle.name_table.specs.Seen.{see_given}
 use Rattle.name_table.proofs.scopes.gather_rules.Given as goal
 

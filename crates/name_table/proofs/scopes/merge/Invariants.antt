@@ -1,6 +1,6 @@
 use Rattle.std.proofs.Common.{◌≡◌, ◌++◌, ◌+◌, ◌-◌, drop, length}
 use Rattle.std.specs.Prelude.{◌≤◌}
-use Rattle.name_table.specs.Scopes.{by_place}
+use Rattle.rule_names.specs.Scopes.{by_place}
 use Rattle.name_table.specs.Seen.{see_given}
 use Rattle.name_table.proofs.scopes.merge.Given as goal
 

@@ -1,8 +1,8 @@
 use Rattle.std.proofs.Common.{◌≡◌, drop}
 use Rattle.guard_syntax.specs.Seen.{see_query}
-use Rattle.name_table.specs.Faults.{first_from}
+use Rattle.rule_names.specs.Faults.{first_from}
 use Rattle.name_table.specs.Seen.{see_best}
-use Rattle.name_table.specs.Uses.{wrong_query}
+use Rattle.rule_names.specs.Uses.{wrong_query}
 use Rattle.name_table.specs.Meanings.{visible_in}
 use Rattle.name_table.specs.Walked.{rules_of, places_of}
 use Rattle.name_table.proofs.UsesInTurn.{of_lets, of_disjs, of_parts, of_steps, of_exprs}

@@ -5,10 +5,10 @@ use Rattle.std.specs.declared.alloc.Global.{Global}
 use Rattle.name_table.specs.declared.scopes.Given.{Given}
 use Rattle.guard_syntax.specs.Seen.{see_file}
 use Rattle.guard_syntax.specs.declared.syntax.RawFile.{RawFile}
-use Rattle.name_table.specs.Faults.{first_of}
-use Rattle.name_table.specs.Scopes.{given_file}
+use Rattle.rule_names.specs.Faults.{first_of}
+use Rattle.rule_names.specs.Scopes.{given_file}
 use Rattle.name_table.specs.Seen.{see_best, see_given}
-use Rattle.name_table.specs.Uses.{wrong_uses}
+use Rattle.rule_names.specs.Uses.{wrong_uses}
 use Rattle.name_table.specs.Meanings.{visible_in}
 use Rattle.name_table.proofs.UsesInTurn.{file-wrong}
 use Rattle.name_table.proofs.uses.first_wrong_use.Goals as goal

@@ -1,5 +1,5 @@
 use Rattle.std.proofs.Common.{◌≡◌, drop}
-use Rattle.name_table.specs.Ways.{with_ways}
+use Rattle.rule_names.specs.Ways.{with_ways}
 use Rattle.name_table.proofs.ways.add_ways.Given as goal
 
 abbrev pub invariant-loop-way : goal.invariant-loop-way

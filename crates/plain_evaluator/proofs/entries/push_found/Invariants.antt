@@ -1,6 +1,6 @@
 use Rattle.std.proofs.Common.{◌≡◌, ◌++◌, map, take}
 use Rattle.std.specs.List.{flat_map}
-use Rattle.query_steps.specs.Fails.{found_row}
+use Rattle.rule_meaning.specs.Fails.{found_row}
 use Rattle.plain_evaluator.specs.Entries.{AreShowable, see_entries}
 use Rattle.plain_evaluator.specs.States.{see, see_trees}
 use Rattle.plain_evaluator.proofs.entries.push_found.Given as goal

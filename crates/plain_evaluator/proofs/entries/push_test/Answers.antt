@@ -1,7 +1,7 @@
 use Rattle.std.proofs.Common.{◌≤◌, ◌++◌, List, ap, length, arith, ◌∙◌}
 use Rattle.std.specs.List.{flat_map}
 use Rattle.std.proofs.lemmas.List.{take_all}
-use Rattle.query_steps.specs.Fails.{Entry}
+use Rattle.rule_meaning.specs.Fails.{Entry}
 use Rattle.plain_evaluator.specs.Entries.{see_entries}
 use Rattle.plain_evaluator.specs.States.{see_trees}
 use Rattle.plain_evaluator.proofs.TestedEntries.{entries_by_test, tests-seen}

@@ -4,14 +4,14 @@ use Rattle.guard_syntax.specs.Seen.{see_query, see_body, see_rule, see_expr, see
 use Rattle.guard_syntax.specs.declared.row.Row.{Row}
 use Rattle.guard_syntax.specs.declared.row.Row.TheVariants as row
 use Rattle.guard_syntax.specs.declared.syntax.Expr.{Expr}
-use Rattle.name_table.specs.Pieces.{pieces_query, pieces_body, pieces_part, pieces_exprs, pieces_opt_expr}
-use Rattle.value_compare.specs.Known.{is_known, is_known_ref}
-use Rattle.query_steps.specs.Fails.{calls_by, part_fails}
-use Rattle.query_steps.specs.Kinds.{rows_of_type}
-use Rattle.query_steps.specs.Roots.{root_ref}
-use Rattle.query_steps.specs.SpotEnvironments.{Inner, Called}
-use Rattle.query_steps.specs.SpotMeaning.{body_verdict, part_verdict}
-use Rattle.query_steps.specs.SpotTurns.{names_by}
+use Rattle.rule_names.specs.Pieces.{pieces_query, pieces_body, pieces_part, pieces_exprs, pieces_opt_expr}
+use Rattle.rule_meaning.specs.Known.{is_known, is_known_ref}
+use Rattle.rule_meaning.specs.Fails.{calls_by, part_fails}
+use Rattle.rule_meaning.specs.Kinds.{rows_of_type}
+use Rattle.rule_meaning.specs.Roots.{root_ref}
+use Rattle.rule_meaning.specs.SpotEnvironments.{Inner, Called}
+use Rattle.rule_meaning.specs.SpotMeaning.{body_verdict, part_verdict}
+use Rattle.rule_meaning.specs.SpotTurns.{names_by}
 use Rattle.plain_evaluator.specs.Entries.{see_entries}
 use Rattle.plain_evaluator.specs.Seen.{see_env}
 use Rattle.plain_evaluator.specs.States.{see, see_spot_in, see_trees, spots}

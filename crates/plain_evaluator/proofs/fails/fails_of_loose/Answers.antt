@@ -1,6 +1,6 @@
 use Rattle.std.proofs.Common.{refl, ap, map}
 use Rattle.guard_syntax.specs.Seen.{see_disj, disj_list}
-use Rattle.query_steps.specs.Roots.{root_ref}
+use Rattle.rule_meaning.specs.Roots.{root_ref}
 use Rattle.plain_evaluator.specs.States.{see_trees, spots}
 use Rattle.plain_evaluator.proofs.Appended.{all-appended}
 use Rattle.plain_evaluator.proofs.Failing.{loose-most}

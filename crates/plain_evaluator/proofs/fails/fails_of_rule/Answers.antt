@@ -1,8 +1,8 @@
 use Rattle.std.proofs.Common.{◌∙◌, refl, ap, ap₂}
 use Rattle.guard_syntax.specs.Seen.{see_rule}
-use Rattle.value_compare.specs.Known.{is_known_ref}
-use Rattle.query_steps.specs.Roots.{root_ref}
-use Rattle.query_steps.specs.SpotEnvironments.{Inner}
+use Rattle.rule_meaning.specs.Known.{is_known_ref}
+use Rattle.rule_meaning.specs.Roots.{root_ref}
+use Rattle.rule_meaning.specs.SpotEnvironments.{Inner}
 use Rattle.plain_evaluator.specs.States.{see_spot_in, see_trees, spots}
 use Rattle.plain_evaluator.proofs.Appended.{all-appended}
 use Rattle.plain_evaluator.proofs.Failing.{rule-most}

@@ -1,13 +1,13 @@
 use Rattle.std.proofs.Common.{◌≡◌, ◌∙◌, ap, map}
 use Rattle.std.specs.List.{list_all}
-use Rattle.query_steps.specs.Fails.{set_fails, test_fails}
-use Rattle.query_steps.specs.SpotMeaning.{rows_of_side}
-use Rattle.query_steps.specs.SpotSteps.{passes}
-use Rattle.query_steps.specs.SpotTurns.{names_by}
+use Rattle.rule_meaning.specs.Fails.{set_fails, test_fails}
+use Rattle.rule_meaning.specs.SpotMeaning.{rows_of_side}
+use Rattle.rule_meaning.specs.SpotSteps.{passes}
+use Rattle.rule_meaning.specs.SpotTurns.{names_by}
 use Rattle.guard_syntax.specs.Seen.{see_opt_expr}
-use Rattle.value_compare.specs.Known.{is_known, is_known_ref}
-use Rattle.query_steps.specs.Environments.{current_of}
-use Rattle.query_steps.specs.SpotEnvironments as around
+use Rattle.rule_meaning.specs.Known.{is_known, is_known_ref}
+use Rattle.rule_meaning.specs.Environments.{current_of}
+use Rattle.rule_meaning.specs.SpotEnvironments as around
 use Rattle.plain_evaluator.specs.Entries.{see_entries}
 use Rattle.plain_evaluator.specs.Seen.{see_env}
 use Rattle.plain_evaluator.specs.States.{see, see_spot_in, see_trees}

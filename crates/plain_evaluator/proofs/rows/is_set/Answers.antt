@@ -1,4 +1,4 @@
-use Rattle.plain_evaluator.proofs.RowsInTurn.{set-by-last}
+use Rattle.query_steps.proofs.SetsSeen.{set-by-last}
 use Rattle.plain_evaluator.proofs.rows.is_set.Goals as goal
 
 pub returns-in-len1-up : goal.returns-in-len1-up

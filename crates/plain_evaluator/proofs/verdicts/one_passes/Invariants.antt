@@ -1,7 +1,7 @@
 use Rattle.std.proofs.Common.{◌≡◌, drop}
 use Rattle.std.specs.List.{list_any}
 use Rattle.value_compare.specs.Stores.{see_store}
-use Rattle.query_steps.specs.Keys.{passes}
+use Rattle.rule_meaning.specs.Keys.{passes}
 use Rattle.plain_evaluator.proofs.verdicts.one_passes.Given as goal
 
 abbrev pub invariant-loop-left : goal.invariant-loop-left

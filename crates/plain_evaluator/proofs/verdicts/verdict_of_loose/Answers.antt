@@ -1,8 +1,8 @@
 use Rattle.std.proofs.Common.{refl, ap, map}
 use Rattle.std.proofs.lemmas.Result.{IfOk-weaker}
 use Rattle.guard_syntax.specs.Seen.{see_disj, disj_list}
-use Rattle.query_steps.specs.Roots.{root_ref}
-use Rattle.query_steps.specs.Seeing.{world_of}
+use Rattle.rule_meaning.specs.Roots.{root_ref}
+use Rattle.rule_meaning.specs.Seeing.{world_of}
 use Rattle.plain_evaluator.specs.States.{see_trees, spots}
 use Rattle.plain_evaluator.proofs.Judged.{loose-most}
 use Rattle.plain_evaluator.proofs.RowsInTurn.{IsTree-root, known-root}

@@ -1,6 +1,6 @@
 use Rattle.std.proofs.lemmas.Result.{IfOk-weaker}
 use Rattle.guard_syntax.specs.Seen.{see_rule}
-use Rattle.query_steps.specs.Seeing.{world_of}
+use Rattle.rule_meaning.specs.Seeing.{world_of}
 use Rattle.plain_evaluator.specs.States.{see_trees}
 use Rattle.plain_evaluator.proofs.Judged.{rule-most}
 use Rattle.plain_evaluator.proofs.verdicts.verdict_of_rule.Goals as goal

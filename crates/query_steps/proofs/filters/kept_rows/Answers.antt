@@ -2,7 +2,7 @@ use Rattle.std.proofs.Common.{◌≡◌, ◌++◌, ◌+◌, ◌-◌, List, lengt
 use Rattle.guard_syntax.specs.declared.row.Row.{Row}
 use Rattle.guard_syntax.specs.declared.row.Verdict.{Verdict}
 use Rattle.value_compare.specs.Stores.{see_store}
-use Rattle.query_steps.specs.Filters.{filtered}
+use Rattle.rule_meaning.specs.Filters.{filtered}
 use Rattle.query_steps.proofs.FilterWalks.{kept_pairs, kept-found, left-found, known-pairs, kept-other, left-other, known-row, other-row, rest-is}
 use Rattle.query_steps.proofs.filters.kept_rows.Goals as goal
 use Rattle.query_steps.proofs.filters.kept_rows.Goals.{in-Found+in_ok-tried-in-Found+in_ok-kept-in-Found+in_ok-extend_from_slice-in-Found, in-Missing+in_ok-push-in-Missing}

@@ -1,7 +1,7 @@
 use Rattle.std.proofs.Common.{◌≡◌, take}
 use Rattle.std.specs.List.{flat_map}
 use Rattle.value_compare.specs.Stores.{see_store}
-use Rattle.query_steps.specs.Keys.{captured_row}
+use Rattle.rule_meaning.specs.Keys.{captured_row}
 use Rattle.query_steps.proofs.keys.captured.Given as goal
 
 abbrev pub invariant-loop-row : goal.invariant-loop-row

@@ -2,7 +2,7 @@ use Rattle.std.proofs.Common.{◌≡◌, ◌+◌, ◌<◌, ◌≤◌, ◌∷◌,
 use Rattle.std.proofs.lemmas.List.{take_all, map-append}
 use Rattle.doc_values.specs.Places.{kids_at, child_place}
 use Rattle.doc_values.specs.Tree.{Forest, count}
-use Rattle.query_steps.specs.Reached.{node_beside, numbers}
+use Rattle.rule_meaning.specs.Reached.{node_beside, numbers}
 use Rattle.query_steps.proofs.Known.{length-numbers, numbers-more}
 use Rattle.query_steps.proofs.reached.inside_node.Goals as goal
 

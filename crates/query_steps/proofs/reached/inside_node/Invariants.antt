@@ -1,6 +1,6 @@
 use Rattle.std.proofs.Common.{◌≡◌, ◌+◌, map, take}
 use Rattle.doc_values.specs.Places.{kids_at}
-use Rattle.query_steps.specs.Reached.{node_beside, numbers}
+use Rattle.rule_meaning.specs.Reached.{node_beside, numbers}
 use Rattle.query_steps.proofs.reached.inside_node.Given as goal
 
 abbrev pub invariant-loop-i : goal.invariant-loop-i

@@ -3,8 +3,8 @@ use Rattle.std.proofs.lemmas.Result.{IfOk-weaker}
 use Rattle.guard_syntax.specs.Syntax as sx
 use Rattle.guard_syntax.specs.declared.row.Ref.{Ref}
 use Rattle.value_compare.specs.Stores.{see_store}
-use Rattle.query_steps.specs.Filters.{candidates_in}
-use Rattle.query_steps.specs.Places.{IsFilterAt, candidates_at, step_at}
+use Rattle.rule_meaning.specs.Filters.{candidates_in}
+use Rattle.rule_meaning.specs.Places.{IsFilterAt, candidates_at, step_at}
 use Rattle.query_steps.proofs.StepPlaces.{candidates-at, item-at}
 use Rattle.query_steps.proofs.sites.candidates.Goals as goal
 

@@ -7,9 +7,9 @@ use Rattle.guard_syntax.specs.Syntax as sx
 use Rattle.guard_syntax.specs.declared.row.Row.{Row}
 use Rattle.guard_syntax.specs.declared.row.Row.TheVariants.{Found}
 use Rattle.value_compare.specs.Stores.{see_store}
-use Rattle.query_steps.specs.Filters.{candidates_in, filtered}
-use Rattle.query_steps.specs.Places.{IsStartAt, rows_at_step, step_at}
-use Rattle.query_steps.specs.Steps.{found_step, on_found}
+use Rattle.rule_meaning.specs.Filters.{candidates_in, filtered}
+use Rattle.rule_meaning.specs.Places.{IsStartAt, rows_at_step, step_at}
+use Rattle.rule_meaning.specs.Steps.{found_step, on_found}
 use Rattle.query_steps.proofs.StepPlaces.{candidates-of-filter, rows-of-start, rows-of-filter, rows-of-other}
 use Rattle.query_steps.proofs.sites.step.Goals as goal
 

@@ -1,6 +1,6 @@
 use Rattle.std.proofs.Common.{◌≡◌, ◌++◌, map, take}
 use Rattle.value_compare.specs.Stores.{see_store}
-use Rattle.query_steps.specs.Steps.{splice_row}
+use Rattle.rule_meaning.specs.Steps.{splice_row}
 use Rattle.query_steps.proofs.steps.push_spliced.Given as goal
 
 abbrev pub invariant-loop-row : goal.invariant-loop-row

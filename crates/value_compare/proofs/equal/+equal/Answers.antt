@@ -6,8 +6,8 @@ use Rattle.doc_values.specs.declared.kind.Kind.TheVariants as kind
 use Rattle.doc_values.proofs.Lookups.{kids-formed}
 use Rattle.value_compare.specs.Entries.{may_find_entry}
 use Rattle.value_compare.specs.Held.{holds_of, holds_in, may_find}
-use Rattle.value_compare.specs.Pairs.{same_items, same_entries, entry_of}
-use Rattle.value_compare.specs.Values.{value_at}
+use Rattle.rule_meaning.specs.Pairs.{same_items, same_entries, entry_of}
+use Rattle.rule_meaning.specs.Values.{value_at}
 use Rattle.value_compare.proofs.Forests.{from_index, is_at, key_value, no_key}
 use Rattle.value_compare.proofs.MapKeys.{maps_differ, maps_by_entries}
 use Rattle.value_compare.proofs.Equalities.{items_turn, items_end, items_differ, entries_turn, entries_end, by_kind, as_key, item_held, item_apart, entry_held, entry_apart, entry_value_apart, has_equal_at, no_entry_of, no_entry_none}

@@ -1,7 +1,7 @@
 use Rattle.std.proofs.Common.{◌≡◌, ◌+◌, ◌*◌}
 use Rattle.doc_values.specs.Tree.{size}
 use Rattle.doc_values.specs.Places.{kids_at}
-use Rattle.value_compare.specs.Pairs.{same_items, same_entries}
+use Rattle.rule_meaning.specs.Pairs.{same_items, same_entries}
 use Rattle.value_compare.proofs.Forests.{from_index}
 use Rattle.value_compare.proofs.equal.+equal.Given as goal
 

@@ -5,7 +5,7 @@ use Rattle.std.specs.List.{flat_map}
 use Rattle.guard_syntax.specs.Seen.{see_file}
 use Rattle.guard_syntax.specs.Sites.{upto}
 use Rattle.guard_syntax.specs.Syntax.{File}
-use Rattle.value_compare.specs.Patterns.{patterns_at}
+use Rattle.rule_meaning.specs.Patterns.{patterns_at}
 use Rattle.value_compare.specs.declared.make_book.BookRefusal.TheVariants.{BadPattern, PatternRefused}
 use Rattle.value_compare.proofs.Making.{gains-append, same-gains, read-append, same-read, sites-more, next-site, rose-later}
 use Rattle.value_compare.proofs.make_book.pattern_book.Goals as goal

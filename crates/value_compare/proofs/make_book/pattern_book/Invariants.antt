@@ -3,7 +3,7 @@ use Rattle.std.specs.List.{flat_map}
 use Rattle.guard_syntax.specs.Seen.{see_file}
 use Rattle.guard_syntax.specs.Sites.{upto}
 use Rattle.value_compare.specs.Making.{AreRead, IsReadBook, Gains}
-use Rattle.value_compare.specs.Patterns.{patterns_at}
+use Rattle.rule_meaning.specs.Patterns.{patterns_at}
 use Rattle.value_compare.proofs.make_book.pattern_book.Given as goal
 
 abbrev pub invariant-loop-site : goal.invariant-loop-site

@@ -1,8 +1,8 @@
 use Rattle.std.proofs.Common.{◌≡◌, false, map, take}
 use Rattle.std.specs.List.{list_any}
-use Rattle.value_compare.specs.Pairs.{is_yes}
-use Rattle.value_compare.specs.RowTests.{member}
-use Rattle.value_compare.specs.Values.{Value}
+use Rattle.rule_meaning.specs.Pairs.{is_yes}
+use Rattle.rule_meaning.specs.RowTests.{member}
+use Rattle.rule_meaning.specs.Values.{Value}
 use Rattle.value_compare.specs.Views.{see_view}
 use Rattle.value_compare.proofs.members.is_member.Given as goal
 

@@ -1,8 +1,8 @@
 use Rattle.std.proofs.Common.{◌≡◌, true, map, take}
 use Rattle.std.specs.List.{list_all}
-use Rattle.value_compare.specs.Pairs.{is_no}
-use Rattle.value_compare.specs.RowTests.{member}
-use Rattle.value_compare.specs.Values.{Value}
+use Rattle.rule_meaning.specs.Pairs.{is_no}
+use Rattle.rule_meaning.specs.RowTests.{member}
+use Rattle.rule_meaning.specs.Values.{Value}
 use Rattle.value_compare.specs.Views.{see_view}
 use Rattle.value_compare.proofs.members.is_outside_each.Given as goal
 

@@ -1,8 +1,8 @@
 use Rattle.std.proofs.Common.{◌<◌, sym, ap, ◌∙◌, arith}
 use Rattle.doc_values.specs.Places.{kids_at}
 use Rattle.doc_values.specs.Tree.{count, Forest}
-use Rattle.value_compare.specs.Pairs.{equal, is_yes, told}
-use Rattle.value_compare.specs.Values.{Value, value_at, values_in}
+use Rattle.rule_meaning.specs.Pairs.{equal, is_yes, told}
+use Rattle.rule_meaning.specs.Values.{Value, value_at, values_in}
 use Rattle.value_compare.specs.Views.{see_view}
 use Rattle.value_compare.proofs.AnswerKinds.{not_yes}
 use Rattle.value_compare.proofs.Items.{item-is, item-held, item_within}

@@ -1,6 +1,6 @@
 use Rattle.std.proofs.Common.{map, sym, ap, ◌∙◌}
-use Rattle.value_compare.specs.Pairs.{equal, is_no}
-use Rattle.value_compare.specs.Values.{Value}
+use Rattle.rule_meaning.specs.Pairs.{equal, is_no}
+use Rattle.rule_meaning.specs.Values.{Value}
 use Rattle.value_compare.specs.Views.{see_view}
 use Rattle.value_compare.proofs.AnswerKinds.{not_no}
 use Rattle.value_compare.proofs.Walks.{all_hit, all_more, seen_at, seen_within}

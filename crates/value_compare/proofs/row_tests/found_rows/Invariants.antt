@@ -3,8 +3,8 @@ use Rattle.std.specs.List.{list_all}
 use Rattle.guard_syntax.specs.Seen.{see_file}
 use Rattle.value_compare.specs.Books.{IsBookOf}
 use Rattle.value_compare.specs.Held.{holds_of}
-use Rattle.value_compare.specs.Known.{meant}
-use Rattle.value_compare.specs.RowTests.{found_of}
+use Rattle.rule_meaning.specs.Known.{meant}
+use Rattle.rule_meaning.specs.RowTests.{found_of}
 use Rattle.value_compare.specs.Stores.{see_store}
 use Rattle.value_compare.specs.Views.{see_view}
 use Rattle.value_compare.proofs.row_tests.found_rows.Given as goal

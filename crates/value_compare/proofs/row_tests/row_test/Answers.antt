@@ -1,3 +1,8 @@
+use Rattle.std.proofs.Common.{List, map, ap, sym, ◌∙◌}
+use Rattle.rule_meaning.specs.RowTests.{is_some_right}
+use Rattle.rule_meaning.specs.Values.{Value}
+use Rattle.value_compare.specs.Views.{see_view}
+use Rattle.value_compare.specs.declared.view.View.{View}
 use Rattle.value_compare.proofs.Items.{rights-held}
 use Rattle.value_compare.proofs.row_tests.row_test.Goals as goal
 
@@ -5,3 +10,8 @@ pub binary_test-requires-clause-held : goal.binary_test-requires-clause-held
 binary_test-requires-clause-held c =
     rights-held c.args.book.now c.new-matchers.result.book.now c.in_ok-rights.rights.items c.deref.result.now c.new-matchers.ensures c.deref.ensures.value
     (c.in_ok-rights.ensures.held c.args.book.now c.requires.book)
+
+pub binary_test-requires-clause-some : goal.binary_test-requires-clause-some
+binary_test-requires-clause-some c =
+    ap (λ (vs : List View). is_some_right (map see_view vs)) c.deref.ensures.value ∙ ap (λ (vs : List Value). is_some_right vs) c.in_ok-rights.ensures.values
+    ∙ sym c.has_found.ensures ∙ c.if-not-has_found.false

@@ -1,22 +1,35 @@
-use Rattle.std.proofs.Common.{map, sym, ap, ◌∙◌}
-use Rattle.value_compare.specs.Pairs.{ordered, is_yes}
-use Rattle.value_compare.specs.Values.{Value}
+use Rattle.std.proofs.Common.{true, sym, ◌∙◌}
+use Rattle.std.specs.Option.{option_map_or}
+use Rattle.std.proofs.lemmas.Bool.{and_from}
+use Rattle.std.proofs.lemmas.List.Folds.{list_all_at, list_all_more}
+use Rattle.guard_syntax.specs.declared.row.Row.{Row}
+use Rattle.rule_meaning.specs.Known.{meant}
+use Rattle.rule_meaning.specs.Pairs.{is_yes, ordered}
+use Rattle.value_compare.specs.Stores.{see_store}
+use Rattle.rule_meaning.specs.Values.{Value}
 use Rattle.value_compare.specs.Views.{see_view}
-use Rattle.value_compare.proofs.AnswerKinds.{not_yes, ordered-pair}
-use Rattle.value_compare.proofs.Walks.{all_hit, all_more, seen_at, seen_within}
+use Rattle.value_compare.proofs.FoundRows.{order-by-row}
+use Rattle.value_compare.proofs.Walks.{all_end}
 use Rattle.value_compare.proofs.row_tests.stands_to_each.Goals as goal
 
-pub returns-in-No : goal.returns-in-No
-returns-in-No c =
-    sym (all_hit (λ (r : Value). is_yes (ordered c.args.op (see_view c.args.left) r)) (map see_view c.args.rights.now) c.loop-right.right-index (see_view c.right-item.result)
-    (seen_within see_view c.args.rights.now c.loop-right.right-index c.loop-right-test.true) (seen_at see_view c.args.rights.now c.loop-right.right-index c.right-item.result c.loop-right-test.true c.right-item.is)
-    (not_yes c.in_ok-pair_by.field-0 (ordered c.args.op (see_view c.args.left) (see_view c.right-item.result)) (c.in_ok-pair_by.ensures.answer ∙ ordered-pair c.args.op (see_view c.args.left) (see_view c.right-item.result) c.requires.op) c.in-No.is))
+pub returns-then-not-stands_to : goal.returns-then-not-stands_to
+returns-then-not-stands_to c =
+    let k = see_store c.args.store.now in
+    let l = see_view c.args.left in
+    order-by-row c.args.op l k c.args.rights.now _ c.requires.order c.requires.some
+    (list_all_at (λ (r : Row). option_map_or (λ (v : Value). is_yes (ordered c.args.op l v)) (meant k r) true) c.args.rights.now c.loop-row.row-index _ c.loop-row-test.true
+    (sym c.stands_to.ensures ∙ c.if-not-stands_to.true))
 
-pub loop-right-preserved : goal.loop-right-preserved
-loop-right-preserved c =
-    record {
-      kept = c.pair_by.ensures.kept ∙ c.loop-right.invariant.kept;
-      before = all_more (λ (r : Value). is_yes (ordered c.args.op (see_view c.args.left) r)) (map see_view c.args.rights.now) c.loop-right.right-index (see_view c.right-item.result)
-          (seen_within see_view c.args.rights.now c.loop-right.right-index c.loop-right-test.true) (seen_at see_view c.args.rights.now c.loop-right.right-index c.right-item.result c.loop-right-test.true c.right-item.is)
-          c.loop-right.invariant.before (ap is_yes (sym (c.in_ok-pair_by.ensures.answer ∙ ordered-pair c.args.op (see_view c.args.left) (see_view c.right-item.result) c.requires.op) ∙ c.in-Yes.is));
-    }
+pub loop-row-preserved : goal.loop-row-preserved
+loop-row-preserved c =
+    let k = see_store c.args.store.now in
+    let l = see_view c.args.left in
+    list_all_more (λ (r : Row). option_map_or (λ (v : Value). is_yes (ordered c.args.op l v)) (meant k r) true) c.args.rights.now c.loop-row.row-index _ c.loop-row-test.true
+    ∙ and_from _ _ c.loop-row.invariant (sym c.stands_to.ensures ∙ c.if-not-stands_to.false)
+
+pub returns : goal.returns
+returns c =
+    let k = see_store c.args.store.now in
+    let l = see_view c.args.left in
+    order-by-row c.args.op l k c.args.rights.now _ c.requires.order c.requires.some
+    (all_end (λ (r : Row). option_map_or (λ (v : Value). is_yes (ordered c.args.op l v)) (meant k r) true) c.args.rights.now c.loop-row.row-index c.loop-row-test.false c.loop-row.invariant)

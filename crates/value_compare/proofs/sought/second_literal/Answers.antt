@@ -1,6 +1,6 @@
 use Rattle.std.proofs.Common.{◌∙◌, sym, ap}
-use Rattle.name_table.proofs.Arguments.{args-none, args-some}
-use Rattle.value_compare.specs.Patterns.{literal_site}
+use Rattle.rule_names.proofs.Arguments.{args-none, args-some}
+use Rattle.rule_meaning.specs.Patterns.{literal_site}
 use Rattle.value_compare.proofs.sought.second_literal.Goals as goal
 
 pub returns-in-None : goal.returns-in-None

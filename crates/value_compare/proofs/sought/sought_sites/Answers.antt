@@ -5,7 +5,7 @@ use Rattle.std.proofs.lemmas.List.{length-replicate, get_or-replicate}
 use Rattle.guard_syntax.specs.Seen.{see_file}
 use Rattle.guard_syntax.specs.Sites.{upto}
 use Rattle.guard_syntax.specs.Syntax.{File}
-use Rattle.value_compare.specs.Patterns.{is_site, sought_at}
+use Rattle.rule_meaning.specs.Patterns.{is_site, sought_at}
 use Rattle.value_compare.proofs.SoughtSites.{sought-more}
 use Rattle.value_compare.proofs.sought.sought_sites.Goals as goal
 

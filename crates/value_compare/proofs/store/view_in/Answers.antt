@@ -1,7 +1,7 @@
 use Rattle.std.proofs.Common.{ap, ◌∙◌}
 use Rattle.doc_values.specs.Tree.{Forest}
 use Rattle.value_compare.specs.Held.{holds_of}
-use Rattle.value_compare.specs.Values.{value_at}
+use Rattle.rule_meaning.specs.Values.{value_at}
 use Rattle.value_compare.proofs.HeldPatterns.{held-at}
 use Rattle.value_compare.proofs.store.view_in.Goals as goal
 

@@ -1,4 +1,4 @@
-use Rattle.name_table.specs.Files.{file_of}
+use Rattle.rule_names.specs.Files.{file_of}
 use Rattle.evidence_checker.proofs.OwnersMarked.{all-marked}
 use Rattle.evidence_checker.proofs.owners.Owners.new.Goals as goal
 

@@ -1,7 +1,7 @@
 use Rattle.std.proofs.Common.{◌≡◌, ◌<◌, ◌∙◌, ◌++◌, ◌∷◌, [], ap, sym, subst, ℕ, List, length, set, get_or, arith, Vec, Global, Result, Ok, Err}
 use Rattle.std.proofs.lemmas.List.{length-map}
 use Rattle.std.specs.Result.{OnErr}
-use Rattle.name_table.specs.Graphs.{Graph, IsGraph}
+use Rattle.rule_names.specs.Graphs.{Graph, IsGraph}
 use Rattle.name_table.proofs.Additions.{lists, row-kept, row-pushed, graph-added}
 use Rattle.name_table.proofs.graph.Graph.add.Goals as goal
 use Rattle.name_table.proofs.graph.Graph.add.Goals.{In_err-push, In_ok-push}

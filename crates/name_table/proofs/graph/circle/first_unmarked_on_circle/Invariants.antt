@@ -1,5 +1,5 @@
 use Rattle.std.proofs.Common.{ℕ, ◌<◌, ◌≤◌}
-use Rattle.name_table.specs.Graphs.{Reaches}
+use Rattle.rule_names.specs.Graphs.{Reaches}
 use Rattle.name_table.proofs.graph.circle.first_unmarked_on_circle.Given as goal
 
 abbrev pub invariant-loop-node : goal.invariant-loop-node

@@ -1,8 +1,8 @@
 use Rattle.std.proofs.Common.{◌<◌, ◌∙◌, ap, sym, subst, ℕ, Bool, true, false, List, [], ◌∷◌, ◌++◌, length, get_or, set, arith, true≢false}
 use Rattle.std.proofs.lemmas.List.{get_or_read}
 use Rattle.std.proofs.lemmas.List.Elements.{Contains-get_or}
-use Rattle.name_table.specs.Graphs.{Names}
-use Rattle.name_table.specs.Marks.{IsMarked}
+use Rattle.rule_names.specs.Graphs.{Names}
+use Rattle.rule_names.specs.Marks.{IsMarked}
 use Rattle.name_table.specs.Ordering.{AreMarkedFrom, IsFirstUnmarked, IsOnPath}
 use Rattle.name_table.proofs.Marking.{not-in-none, mark-here, mark-kept, mark-counts}
 use Rattle.name_table.proofs.Walks.{targets-below}

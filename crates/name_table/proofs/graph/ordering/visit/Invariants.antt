@@ -1,5 +1,5 @@
 use Rattle.std.proofs.Common.{◌+◌, ◌*◌, vec_len}
-use Rattle.name_table.specs.Marks.{unmarked}
+use Rattle.rule_names.specs.Marks.{unmarked}
 use Rattle.name_table.specs.Ordering.{IsWalked, Begins}
 use Rattle.name_table.proofs.graph.ordering.visit.Given as goal
 

@@ -1,5 +1,5 @@
 use Rattle.std.proofs.Common.{ℕ, ◌<◌, []}
-use Rattle.name_table.specs.Marks.{IsMarked}
+use Rattle.rule_names.specs.Marks.{IsMarked}
 use Rattle.name_table.specs.Ordering.{IsWalked}
 use Rattle.name_table.proofs.graph.ordering.walk_all.Given as goal
 

@@ -1,5 +1,5 @@
 use Rattle.std.proofs.Common.{get_or, []}
-use Rattle.name_table.specs.Marks.{IsMarked}
+use Rattle.rule_names.specs.Marks.{IsMarked}
 use Rattle.name_table.specs.Narrow.{Leads, NoneBelow}
 use Rattle.name_table.proofs.graph.parts.first_leading.Given as goal
 

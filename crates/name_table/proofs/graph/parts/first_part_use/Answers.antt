@@ -1,5 +1,5 @@
 use Rattle.std.proofs.Common.{get_or, []}
-use Rattle.name_table.specs.Marks.{IsMarked}
+use Rattle.rule_names.specs.Marks.{IsMarked}
 use Rattle.name_table.specs.Narrow.{IsPartUse, Leads}
 use Rattle.name_table.proofs.PartUses.{least-same, marked-use, use-is-marked}
 use Rattle.name_table.proofs.graph.parts.first_part_use.Goals as goal

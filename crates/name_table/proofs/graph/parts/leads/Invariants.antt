@@ -1,5 +1,5 @@
 use Rattle.std.proofs.Common.{◌≡◌, ℕ, ◌<◌, ◌≤◌, ◌⊎◌, get_or}
-use Rattle.name_table.specs.Marks.{IsMarked}
+use Rattle.rule_names.specs.Marks.{IsMarked}
 use Rattle.name_table.proofs.graph.parts.leads.Given as goal
 
 abbrev pub invariant-loop-target : goal.invariant-loop-target

@@ -1,5 +1,5 @@
 use Rattle.std.proofs.Common.{take}
-use Rattle.name_table.specs.Marks.{Marks}
+use Rattle.rule_names.specs.Marks.{Marks}
 use Rattle.name_table.proofs.graph.reach.mark.Given as goal
 
 abbrev pub invariant-loop-target : goal.invariant-loop-target

@@ -1,5 +1,5 @@
 use Rattle.std.proofs.Common.{◌+◌, vec_len}
-use Rattle.name_table.specs.Marks.{unmarked}
+use Rattle.rule_names.specs.Marks.{unmarked}
 use Rattle.name_table.proofs.Walks.{IsWalk}
 use Rattle.name_table.proofs.graph.reach.reached.Given as goal
 

@@ -1,6 +1,6 @@
 use Rattle.std.proofs.Common.{◌≡◌, ◌++◌, drop, map}
 use Rattle.guard_syntax.specs.Seen.{see_let, see_disj, see_part, see_expr, see_step, let_list, disj_list, part_list, expr_list, step_list}
-use Rattle.name_table.specs.Homes.{homes_lets, homes_disjs, homes_parts, homes_exprs, homes_steps}
+use Rattle.rule_names.specs.Homes.{homes_lets, homes_disjs, homes_parts, homes_exprs, homes_steps}
 use Rattle.name_table.proofs.homes.walk.+homes.Given as goal
 
 abbrev pub invariant-in_lets-loop-given : goal.invariant-in_lets-loop-given

@@ -1,6 +1,6 @@
 use Rattle.std.proofs.Common.{◌≡◌, ◌++◌, drop, map}
 use Rattle.guard_syntax.specs.Seen.{see_rule}
-use Rattle.name_table.specs.Homes.{homes_rules}
+use Rattle.rule_names.specs.Homes.{homes_rules}
 use Rattle.name_table.proofs.homes.walk.in_rules.Given as goal
 
 abbrev pub invariant-loop-rule : goal.invariant-loop-rule

@@ -2,7 +2,7 @@ use Rattle.std.proofs.Common.{◌≡◌, ◌++◌, drop, map}
 use Rattle.guard_syntax.specs.Seen.{see_let, see_disj, see_part, see_expr, see_step, let_list, disj_list, part_list, expr_list, step_list}
 use Rattle.name_table.specs.Sources.{file_in}
 use Rattle.name_table.specs.Meanings.{scopes_in}
-use Rattle.name_table.specs.Links.{links_lets, links_disjs, links_parts, links_exprs, links_steps}
+use Rattle.rule_names.specs.Links.{links_lets, links_disjs, links_parts, links_exprs, links_steps}
 use Rattle.name_table.proofs.links.walk.+links.Given as goal
 
 abbrev pub invariant-in_lets-loop-given : goal.invariant-in_lets-loop-given

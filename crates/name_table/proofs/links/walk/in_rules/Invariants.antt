@@ -2,7 +2,7 @@ use Rattle.std.proofs.Common.{◌≡◌, ◌++◌, drop, map}
 use Rattle.guard_syntax.specs.Seen.{see_rule}
 use Rattle.name_table.specs.Sources.{file_in}
 use Rattle.name_table.specs.Meanings.{scopes_in}
-use Rattle.name_table.specs.Links.{links_rules}
+use Rattle.rule_names.specs.Links.{links_rules}
 use Rattle.name_table.proofs.links.walk.in_rules.Given as goal
 
 abbrev pub invariant-loop-rule : goal.invariant-loop-rule

@@ -1,6 +1,6 @@
 use Rattle.std.proofs.Common.{◌≡◌, ◌++◌, drop, map}
 use Rattle.guard_syntax.specs.Seen.{see_expr, expr_list}
-use Rattle.name_table.specs.Ways.{to_each, expr_sites}
+use Rattle.rule_names.specs.Ways.{to_each, expr_sites}
 use Rattle.name_table.proofs.ways.leads.to_exprs.Given as goal
 
 abbrev pub invariant-loop-expr : goal.invariant-loop-expr

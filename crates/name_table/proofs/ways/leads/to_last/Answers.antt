@@ -3,7 +3,7 @@ use Rattle.std.specs.Borrow.{Bor}
 use Rattle.std.specs.Option.{option_copied}
 use Rattle.std.proofs.lemmas.Result.{IfOk-weaker}
 use Rattle.guard_syntax.specs.declared.syntax.Step.{Step}
-use Rattle.name_table.specs.Ways.{Way}
+use Rattle.rule_names.specs.Ways.{Way}
 use Rattle.name_table.proofs.LastSteps.{last-step}
 use Rattle.name_table.proofs.ways.leads.to_last.Goals as goal
 

@@ -1,6 +1,6 @@
 use Rattle.std.proofs.Common.{◌≡◌, ◌++◌, drop, map}
 use Rattle.guard_syntax.specs.Seen.{see_let, let_list}
-use Rattle.name_table.specs.Ways.{to_each, value_sites}
+use Rattle.rule_names.specs.Ways.{to_each, value_sites}
 use Rattle.name_table.proofs.ways.leads.to_values.Given as goal
 
 abbrev pub invariant-loop-given : goal.invariant-loop-given

@@ -2,7 +2,7 @@ use Rattle.std.proofs.Common.{◌≡◌, ◌++◌, drop, map, None}
 use Rattle.guard_syntax.specs.Seen.{see_let, see_disj, see_part, see_expr, see_step, let_list, disj_list, part_list, expr_list, step_list}
 use Rattle.name_table.specs.Charts.{rules_of}
 use Rattle.name_table.specs.Meanings.{visible_in}
-use Rattle.name_table.specs.Ways.{ways_lets, ways_disjs, ways_parts, ways_exprs, ways_steps}
+use Rattle.rule_names.specs.Ways.{ways_lets, ways_disjs, ways_parts, ways_exprs, ways_steps}
 use Rattle.name_table.proofs.ways.walk.+ways.Given as goal
 
 abbrev pub invariant-in_lets-loop-given : goal.invariant-in_lets-loop-given

@@ -1,4 +1,4 @@
-use Rattle.name_table.proofs.FileParts.{file-rise}
+use Rattle.rule_names.proofs.FileParts.{file-rise}
 use Rattle.name_table.proofs.links.sources.Sources.value.Goals as goal
 
 pub in_file-requires : goal.in_file-requires

@@ -1,0 +1,5 @@
+mod AcceptedExample
+mod CalledExample
+mod GivenLines
+mod KindsExample
+mod RememberedExample

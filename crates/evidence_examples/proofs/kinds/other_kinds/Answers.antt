@@ -1,0 +1,8 @@
+use Rattle.evidence_examples.proofs.KindsExample.{ordered, all_follow}
+use Rattle.evidence_examples.proofs.kinds.other_kinds.Goals as goal
+
+pub returns-clause-ordered : goal.returns-clause-ordered
+returns-clause-ordered c = ordered
+
+pub returns-clause-follow : goal.returns-clause-follow
+returns-clause-follow c = all_follow

@@ -1,0 +1,5 @@
+pub mod FailingRule
+pub mod GivenLines
+pub mod OneCall
+pub mod OneVariable
+pub mod OtherKinds

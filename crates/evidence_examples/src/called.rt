@@ -1,0 +1,11 @@
+//! A call with parameters.
+ghost use Rattle.std.specs.Prelude.{[]};
+ghost use Rattle.rule_names.specs.Pieces.{AreInOrder};
+ghost use Rattle.evidence_rules.specs.Follows.{AllFollow};
+ghost use Rattle.evidence_examples.specs.OneCall.{file, known, all_lines};
+
+/// The lines of a call with parameters follow, each from those before it. The call itself does nothing.
+pub fn call_with_parameters()
+    ensures ordered { AreInOrder file }
+    ensures follow { AllFollow known [] all_lines }
+{}

@@ -1,0 +1,2 @@
+pub mod FollowingShapes
+pub mod LinesBehind

@@ -1,0 +1,5 @@
+pub mod CitedLines
+pub mod Follows
+pub mod Judgement
+pub mod Lean
+pub mod RuleLines

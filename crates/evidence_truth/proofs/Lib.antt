@@ -1,0 +1,13 @@
+mod FollowingKnown
+mod HeldLines
+mod HeldRows
+mod HeldSeen
+mod LinesSoFar
+mod LinesTrue
+mod OneOwner
+mod PiecesAt
+mod RowsTrue
+mod RuleTargets
+mod StepsTrue
+mod StepsUpTo
+mod VerdictsTrue

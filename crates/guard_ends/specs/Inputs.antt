@@ -1,0 +1,175 @@
+-- Which bytes are read as rules, as a template and as evidence, and why others are refused: beside each refusal the
+-- condition under which it comes. Of the refusals of one file no two conditions hold together, but that the place of Syntax
+-- in rules may be one of several.
+use Rattle.std.specs.Prelude.{ℕ, ◌<◌, ◌≤◌, ◌≡◌, ◌⊎◌, List, Option, Some, None, IsUtf8, length}
+use Rattle.doc_values.specs.Tree.{Forest}
+use Rattle.evidence_lines.specs.Text.{IsEvidence, IsFault}
+use Rattle.evidence_lines.specs.declared.line.Line.{Line}
+use Rattle.json_reader.specs.Json.{Json}
+use Rattle.json_reader.specs.Refusals as json
+use Rattle.json_reader.specs.declared.refusal.JsonRefusal.TheVariants as json_refusal
+use Rattle.yaml_blocks.specs.Answers as yaml
+use Rattle.yaml_blocks.specs.declared.refusal.YamlRefusal.{YamlRefusal}
+use Rattle.yaml_blocks.specs.declared.refusal.YamlRefusal.TheVariants as yaml_refusal
+use Rattle.guard_lexer.specs.Lexes as lex
+use Rattle.guard_lexer.specs.declared.token.Token.{Token}
+use Rattle.guard_lexer.specs.declared.token.LexRefusal.TheVariants as lex_refusal
+use Rattle.guard_syntax.specs.Syntax.{File}
+use Rattle.guard_parser.specs.File.{Rules, IsTooDeep, IsDeadEnd, IsBadRange}
+use Rattle.rule_names.specs.Faults.{Fault}
+use Rattle.rule_names.specs.Names.{WellNamed, IsNameFault}
+use Rattle.rule_names.specs.declared.name_kind.NameKind.{NameKind}
+use Rattle.rule_names.specs.declared.name_kind.NameKind.TheVariants as naming
+use Rattle.guard_ends.specs.declared.ends.Refusal.{Refusal}
+use Rattle.guard_ends.specs.declared.ends.Refusal.TheVariants.{DataUnread, TooLong, NotText, EvidenceSyntax, At}
+use Rattle.guard_ends.specs.declared.ends.RefusalKind.{RefusalKind}
+use Rattle.guard_ends.specs.declared.ends.RefusalKind.TheVariants.{Unclosed, BadByte, NumberRange, NestTooDeep, Syntax, BadRange, DuplicateRule, DuplicateName, UnknownRule, UnknownVariable, UnknownFunction, NeedsArguments, TakesNone, ArgCount, LiteralWanted, RecursiveRule, RecursiveVariable, TooDeep, DuplicateKey, Tab, Anchor, Tag, Directive, ManyDocuments}
+use Rattle.guard_ends.specs.declared.ends.Which.TheVariants as file
+use Rattle.guard_ends.specs.declared.format.Format.{Format}
+use Rattle.guard_ends.specs.declared.format.Format.TheVariants as format
+
+-- a text of at most so many bytes
+pub record IsText (limit : ℕ) (bytes : List ℕ) : Type 0 where
+  pub within : length bytes ≤ limit
+  pub utf8 : IsUtf8 bytes
+
+-- more bytes than that
+abbrev pub IsTooLong : ℕ → List ℕ → Type 0
+IsTooLong limit bytes = limit < length bytes
+
+-- no more bytes, but no text
+abbrev pub IsNoText : ℕ → List ℕ → Type 0
+IsNoText limit bytes = (length bytes ≤ limit) × (IsUtf8 bytes → ⊥)
+
+-- a template has at most 8 MiB, rules have at most 1 MiB, and evidence has at most 256 MiB
+abbrev pub template_limit : ℕ
+template_limit = 8388608
+
+abbrev pub rules_limit : ℕ
+rules_limit = 1048576
+
+abbrev pub proof_limit : ℕ
+proof_limit = 268435456
+
+-- Templates.
+
+-- the tree that a text stands for in a format
+abbrev pub IsTreeOf : Format → List ℕ → Forest → Type 0
+IsTreeOf format.Json text tree = Json text tree
+IsTreeOf format.Yaml text tree = yaml.Reads text tree
+
+-- bytes that are a template of this tree in a format
+pub record IsTemplate (f : Format) (bytes : List ℕ) (tree : Forest) : Type 0 where
+  pub text : IsText template_limit bytes
+  pub read : IsTreeOf f bytes tree
+
+-- what is the matter with a text as JSON, and at which byte offset
+abbrev pub RefusesJson : List ℕ → RefusalKind → ℕ → Type 0
+RefusesJson text Syntax at = json.IsRefused text (json_refusal.Syntax at)
+RefusesJson text DuplicateKey at = json.IsRefused text (json_refusal.DuplicateKey at)
+RefusesJson text NumberRange at = json.IsRefused text (json_refusal.NumberRange at)
+RefusesJson text TooDeep at = json.IsRefused text (json_refusal.TooDeep at)
+RefusesJson text _ at = ⊥
+
+-- what a refusal of YAML is for a template: its kind at its place, or that the template is not read so far; want of memory
+-- is none
+abbrev pub of_yaml : YamlRefusal → Option Refusal
+of_yaml yaml_refusal.Unread = Some DataUnread
+of_yaml (yaml_refusal.Tab at) = Some (At file.Template Tab at None)
+of_yaml (yaml_refusal.Anchor at) = Some (At file.Template Anchor at None)
+of_yaml (yaml_refusal.Tag at) = Some (At file.Template Tag at None)
+of_yaml (yaml_refusal.Directive at) = Some (At file.Template Directive at None)
+of_yaml (yaml_refusal.ManyDocuments at) = Some (At file.Template ManyDocuments at None)
+of_yaml (yaml_refusal.DuplicateKey at) = Some (At file.Template DuplicateKey at None)
+of_yaml (yaml_refusal.TooDeep at) = Some (At file.Template TooDeep at None)
+of_yaml yaml_refusal.NoMemory = None
+
+-- why a text has no tree in a format
+abbrev pub RefusesTree : Format → List ℕ → Refusal → Type 0
+RefusesTree format.Json text refusal = (kind : RefusalKind) × (at : ℕ) × (refusal ≡ At file.Template kind at None) × RefusesJson text kind at
+RefusesTree format.Yaml text refusal = (r : YamlRefusal) × (of_yaml r ≡ Some refusal) × yaml.Refuses text r
+
+-- why a template with these bytes is refused: they are too many, or no text, or a text without a tree
+abbrev pub RefusesTemplate : Format → List ℕ → Refusal → Type 0
+RefusesTemplate f bytes refusal =
+    ((refusal ≡ TooLong file.Template) × IsTooLong template_limit bytes)
+    ⊎ ((refusal ≡ NotText file.Template) × IsNoText template_limit bytes)
+    ⊎ (IsText template_limit bytes × RefusesTree f bytes refusal)
+
+-- Rules.
+
+-- the syntax of a text, which is that of its tokens
+abbrev pub IsSyntax : List ℕ → File → Type 0
+IsSyntax text syntax_tree = (tokens : List Token) × lex.IsTokenList text tokens × Rules text tokens syntax_tree
+
+-- bytes that are a rule file of this syntax, whose names are as they must be
+pub record IsRuleFile (bytes : List ℕ) (syntax_tree : File) : Type 0 where
+  pub text : IsText rules_limit bytes
+  pub read : IsSyntax bytes syntax_tree
+  pub named : WellNamed syntax_tree
+
+-- what is the matter with a text that has no tokens, and at which byte offset
+abbrev pub RefusesTokens : List ℕ → RefusalKind → ℕ → Type 0
+RefusesTokens text Unclosed at = lex.IsRefused text (lex_refusal.Unclosed at)
+RefusesTokens text BadByte at = lex.IsRefused text (lex_refusal.BadByte at)
+RefusesTokens text NumberRange at = lex.IsRefused text (lex_refusal.NumberRange at)
+RefusesTokens text _ at = ⊥
+
+-- and with the tokens of a text that have no syntax
+abbrev pub RefusesSyntax : List ℕ → List Token → RefusalKind → ℕ → Type 0
+RefusesSyntax text tokens NestTooDeep at = IsTooDeep text tokens at
+RefusesSyntax text tokens Syntax at = IsDeadEnd text tokens at
+RefusesSyntax text tokens BadRange at = IsBadRange text tokens at
+RefusesSyntax text tokens _ at = ⊥
+
+-- either of them
+abbrev pub RefusesText : List ℕ → RefusalKind → ℕ → Type 0
+RefusesText text kind at =
+    RefusesTokens text kind at ⊎ ((tokens : List Token) × lex.IsTokenList text tokens × RefusesSyntax text tokens kind at)
+
+-- what is the matter with names
+abbrev pub name_kind : NameKind → RefusalKind
+name_kind naming.DuplicateRule = DuplicateRule
+name_kind naming.DuplicateName = DuplicateName
+name_kind naming.UnknownRule = UnknownRule
+name_kind naming.UnknownVariable = UnknownVariable
+name_kind naming.UnknownFunction = UnknownFunction
+name_kind naming.NeedsArguments = NeedsArguments
+name_kind naming.TakesNone = TakesNone
+name_kind naming.ArgCount = ArgCount
+name_kind naming.LiteralWanted = LiteralWanted
+name_kind naming.RecursiveRule = RecursiveRule
+name_kind naming.RecursiveVariable = RecursiveVariable
+name_kind naming.TooDeep = TooDeep
+
+-- a refusal of names carries the name that it is about; what is too deep is about none
+abbrev pub name_said : NameKind → List ℕ → Option (List ℕ)
+name_said naming.TooDeep name = None
+name_said _ name = Some name
+
+-- and with the names of a text that has a syntax: with which name, at which byte offset
+abbrev pub RefusesNames : List ℕ → RefusalKind → ℕ → Option (List ℕ) → Type 0
+RefusesNames text kind at name = (syntax_tree : File) × IsSyntax text syntax_tree
+    × ((fault : Fault) × IsNameFault syntax_tree fault × (kind ≡ name_kind fault.kind) × (at ≡ fault.named.at)
+    × (name ≡ name_said fault.kind fault.named.text))
+
+-- why rules with these bytes are refused
+abbrev pub RefusesRules : List ℕ → Refusal → Type 0
+RefusesRules bytes (TooLong file.Rules) = IsTooLong rules_limit bytes
+RefusesRules bytes (NotText file.Rules) = IsNoText rules_limit bytes
+RefusesRules bytes (At file.Rules kind at name) =
+    IsText rules_limit bytes × (((name ≡ None) × RefusesText bytes kind at) ⊎ RefusesNames bytes kind at name)
+RefusesRules bytes _ = ⊥
+
+-- Evidence.
+
+-- bytes that are evidence of these lines
+pub record IsProof (bytes : List ℕ) (lines : List Line) : Type 0 where
+  pub within : length bytes ≤ proof_limit
+  pub read : IsEvidence bytes lines
+
+-- why evidence with these bytes is refused: they are too many, or a line is not in the format
+abbrev pub RefusesProof : List ℕ → Refusal → Type 0
+RefusesProof bytes (TooLong file.Proof) = IsTooLong proof_limit bytes
+RefusesProof bytes (EvidenceSyntax number) = (length bytes ≤ proof_limit) × IsFault bytes number
+RefusesProof bytes _ = ⊥

@@ -1,0 +1,8 @@
+pub mod Check
+pub mod Drill
+pub mod End
+pub mod Inputs
+pub mod Lines
+pub mod Report
+pub mod Reported
+pub mod Request

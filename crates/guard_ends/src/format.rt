@@ -1,0 +1,21 @@
+//! The format of a template.
+ghost use Rattle.std.specs.Prelude.{◌≡◌};
+ghost use Rattle.guard_ends.specs.Request.{format_of};
+
+/// How the text of a template is written.
+#[derive(Clone, Copy, Debug, PartialEq, Eq)]
+pub enum Format {
+    Json,
+    Yaml,
+}
+
+/// The format of a template, which its name says: JSON where it ends in `.json`, YAML where it ends otherwise.
+pub fn format_of(name: &str) -> Format
+    ensures { result ≡ format_of name.now }
+{
+    if name.as_bytes().ends_with(b".json") {
+        Format::Json
+    } else {
+        Format::Yaml
+    }
+}

@@ -1,0 +1,11 @@
+mod Accepted
+mod MeantVerdicts
+mod OneCheck
+mod OneEnd
+mod OneFault
+mod OnePattern
+mod OneRules
+mod OneSyntax
+mod OneTemplate
+mod OneText
+mod OneVerdict

@@ -1,0 +1,133 @@
+-- Evidence is judged in one way, where its bytes have one list of lines or one fault.
+use Rattle.std.proofs.Common.{◌≡◌, ◌⊎◌, ◌≤◌, ◌<◌, ℕ, zero, suc, true, refl, sym, ap, ◌∙◌, subst, inl, inr, arith, List, [], ◌∷◌, ◌++◌, Option, Some, length, take}
+use Rattle.doc_values.specs.Tree.{Forest}
+use Rattle.evidence_checker.specs.Answered.{IsRejectedAt}
+use Rattle.evidence_lines.specs.Text.{IsEvidence, IsFault}
+use Rattle.evidence_lines.specs.declared.line.Line.{Line}
+use Rattle.guard_syntax.specs.Syntax.{File}
+use Rattle.guard_syntax.specs.declared.row.Verdict.{Verdict}
+use Rattle.rule_meaning.specs.Known.{Known}
+use Rattle.evidence_rules.specs.Follows.{Accepts, AllFollow, nothing_made}
+use Rattle.rule_meaning.specs.Seeing.{grown}
+use Rattle.guard_ends.specs.Check.{accepted_text, rejected_text}
+use Rattle.guard_ends.specs.End.{Ended, EndOfCheck, EndOfProof, IsChecked, is_checked, refused}
+use Rattle.guard_ends.specs.Inputs.{IsProof, IsTooLong, RefusesProof, proof_limit}
+use Rattle.guard_ends.specs.declared.ends.End.TheVariants as end_is
+use Rattle.guard_ends.specs.declared.ends.Refusal.{Refusal}
+use Rattle.guard_ends.specs.declared.ends.Refusal.TheVariants.{DataUnread, TooLong, NotText, EvidenceSyntax, At}
+use Rattle.guard_ends.specs.declared.ends.Which.TheVariants as file
+use Rattle.guard_laws.proofs.OneVerdict.{said-one, verdicts-one}
+
+-- ---- the first line that does not follow is one
+
+-- where lines follow, so do the first of them
+follow-take : (known : Known) (before : List Line) (n : ℕ) (lines : List Line) → AllFollow known before lines → AllFollow known before (take n lines)
+follow-take known before zero lines follow = tt
+follow-take known before (suc n) [] follow = tt
+follow-take known before (suc n) (l ∷ lines) (more, follows, others) = (more, follows, follow-take (grown known more) (before ++ l ∷ []) n lines others)
+
+follow-less : (known : Known) (before : List Line) (n m : ℕ) (lines : List Line) → n ≤ m → AllFollow known before (take m lines) → AllFollow known before (take n lines)
+follow-less known before zero m lines less follow = tt
+follow-less known before (suc n) zero lines less follow = absurd (omega (arith, less))
+follow-less known before (suc n) (suc m) [] less follow = tt
+follow-less known before (suc n) (suc m) (l ∷ lines) less (more, follows, others) =
+    (more, follows, follow-less (grown known more) (before ++ l ∷ []) n m lines (omega (arith, less)) others)
+
+module _ (template : Forest) (rules : File) (lines : List Line) where
+  abbrev FollowTo : ℕ → Type 0
+  FollowTo n = AllFollow (nothing_made template rules) [] (take n lines)
+
+  never-less : (before after : ℕ) → suc before ≤ after → FollowTo after → (FollowTo (suc before) → ⊥) → ⊥
+  never-less before after less follow fails = fails (follow-less (nothing_made template rules) [] (suc before) after lines less follow)
+
+  -- of two places up to which lines follow, and not further, none is before the other
+  same-place : (m n : ℕ) → FollowTo m → (FollowTo (suc m) → ⊥) → FollowTo n → (FollowTo (suc n) → ⊥) → m ≡ n
+  same-place m n follow fails follow' fails' =
+      let not_less : m < n → ⊥ = λ less. never-less m n (omega (arith, less)) follow' fails in
+      let not_more : n < m → ⊥ = λ less. never-less n m (omega (arith, less)) follow fails' in
+      grind (arith, not_less, not_more)
+
+  rejected-apart : (n : ℕ) → Accepts template rules lines → IsRejectedAt template rules lines n → ⊥
+  rejected-apart n accepted (inl (before, is, within, follow, fails)) = fails (follow-take (nothing_made template rules) [] n lines accepted.follow)
+  rejected-apart n accepted (inr (is, follow, not)) = not accepted
+
+  rejected-one : (n m : ℕ) → IsRejectedAt template rules lines n → IsRejectedAt template rules lines m → n ≡ m
+  rejected-one n m (inl (before, is, within, follow, fails)) (inl (before', is', within', follow', fails')) =
+      is ∙ (ap suc (same-place before before' follow (subst (λ k. FollowTo k → ⊥) is fails) follow' (subst (λ k. FollowTo k → ⊥) is' fails')) ∙ sym is')
+  rejected-one n m (inl (before, is, within, follow, fails)) (inr (is', all, not)) = absurd (fails (follow-take (nothing_made template rules) [] n lines all))
+  rejected-one n m (inr (is, all, not)) (inl (before, is', within, follow, fails)) = absurd (fails (follow-take (nothing_made template rules) [] m lines all))
+  rejected-one n m (inr (is, all, not)) (inr (is', all', not')) = is ∙ sym is'
+
+  abbrev accepted-as : List Verdict → Ended
+  accepted-as vs = record { how = end_is.Accepted; out = accepted_text rules vs; err = [] }
+
+  abbrev rejected-as : ℕ → Ended
+  rejected-as n = record { how = end_is.Rejected n; out = rejected_text n; err = [] }
+
+  checked-one : (e other : Ended) → IsChecked rules template lines e → IsChecked rules template lines other → e ≡ other
+  checked-one e other (inl (vs, accepted, are, is)) (inl (ws, accepted', are', is')) =
+      is ∙ (ap accepted-as (verdicts-one lines (said-one template rules lines accepted.follow) rules.rules rules.loose vs ws are are') ∙ sym is')
+  checked-one e other (inl (vs, accepted, are, is)) (inr (n, rejected, is')) = absurd (rejected-apart n accepted rejected)
+  checked-one e other (inr (n, rejected, is)) (inl (ws, accepted, are, is')) = absurd (rejected-apart n accepted rejected)
+  checked-one e other (inr (n, rejected, is)) (inr (m, rejected', is')) = is ∙ (ap rejected-as (rejected-one n m rejected rejected') ∙ sym is')
+
+-- what was judged ends as evidence that was judged
+pub checked-ends : (rules : File) (template : Forest) (lines : List Line) (e : Ended) → IsChecked rules template lines e → is_checked e.how ≡ true
+checked-ends rules template lines e (inl (vs, accepted, are, is)) = ap (λ (x : Ended). is_checked x.how) is
+checked-ends rules template lines e (inr (n, rejected, is)) = ap (λ (x : Ended). is_checked x.how) is
+
+-- ---- bytes have lines or a refusal
+
+-- what the laws of the reader of evidence say of bytes
+pub record EvidenceLaws (bytes : List ℕ) : Type 0 where
+  pub lines : (ls ms : List Line) → IsEvidence bytes ls → IsEvidence bytes ms → ls ≡ ms
+  pub fault : (n m : ℕ) → IsFault bytes n → IsFault bytes m → n ≡ m
+  pub apart : (ls : List Line) (n : ℕ) → IsEvidence bytes ls → IsFault bytes n → ⊥
+
+abbrev ProofWhy : List ℕ → Refusal → Type 0
+ProofWhy bytes r =
+    ((r ≡ TooLong file.Proof) × IsTooLong proof_limit bytes)
+    ⊎ ((n : ℕ) × (r ≡ EvidenceSyntax n) × (length bytes ≤ proof_limit) × IsFault bytes n)
+
+proof-why : (bytes : List ℕ) (r : Refusal) → RefusesProof bytes r → ProofWhy bytes r
+proof-why bytes DataUnread h = absurd h
+proof-why bytes (TooLong file.Rules) h = absurd h
+proof-why bytes (TooLong file.Template) h = absurd h
+proof-why bytes (TooLong file.Proof) h = inl (refl, h)
+proof-why bytes (NotText which) h = absurd h
+proof-why bytes (EvidenceSyntax n) h = inr (n, refl, h.0, h.1)
+proof-why bytes (At which kind at name) h = absurd h
+
+long-apart : (bytes : List ℕ) → IsTooLong proof_limit bytes → length bytes ≤ proof_limit → ⊥
+long-apart bytes long within = omega arith
+
+module _ (bytes : List ℕ) (laws : EvidenceLaws bytes) where
+  why-one : (r q : Refusal) → ProofWhy bytes r → ProofWhy bytes q → r ≡ q
+  why-one r q (inl (is, long)) (inl (is', long')) = is ∙ sym is'
+  why-one r q (inl (is, long)) (inr (n, is', within, fault)) = absurd (long-apart bytes long within)
+  why-one r q (inr (n, is, within, fault)) (inl (is', long)) = absurd (long-apart bytes long within)
+  why-one r q (inr (n, is, within, fault)) (inr (m, is', within', fault')) = is ∙ (ap (λ k. EvidenceSyntax k) (laws.fault n m fault fault') ∙ sym is')
+
+  why-apart : (r : Refusal) (lines : List Line) → ProofWhy bytes r → IsProof bytes lines → ⊥
+  why-apart r lines (inl (is, long)) whole = long-apart bytes long whole.within
+  why-apart r lines (inr (n, is, within, fault)) whole = laws.apart lines n whole.read fault
+
+  pub refusal-apart : (r : Refusal) (lines : List Line) → RefusesProof bytes r → IsProof bytes lines → ⊥
+  refusal-apart r lines h whole = why-apart r lines (proof-why bytes r h) whole
+
+  proof-one : (rules : File) (template : Forest) (e other : Ended) → EndOfProof rules template bytes e → EndOfProof rules template bytes other → e ≡ other
+  proof-one rules template e other (inl (r, h, is)) (inl (q, h', is')) =
+      is ∙ (ap (refused bytes) (why-one r q (proof-why bytes r h) (proof-why bytes q h')) ∙ sym is')
+  proof-one rules template e other (inl (r, h, is)) (inr (lines, whole, judged)) = absurd (refusal-apart r lines h whole)
+  proof-one rules template e other (inr (lines, whole, judged)) (inl (r, h, is)) = absurd (refusal-apart r lines h whole)
+  proof-one rules template e other (inr (lines, whole, judged)) (inr (lines', whole', judged')) =
+      let same : lines' ≡ lines = laws.lines lines' lines whole'.read whole.read in
+      checked-one template rules lines e other judged (subst (λ (ls : List Line). IsChecked rules template ls other) same judged')
+
+-- where the evidence is told, a check has one end
+pub check-one : (bytes : List ℕ) → EvidenceLaws bytes → (told : Option (List ℕ)) → told ≡ Some bytes → (rules : File) (template : Forest) (e other : Ended)
+    → EndOfCheck told rules template e → EndOfCheck told rules template other → e ≡ other
+check-one bytes laws told known rules template e other (b, content, end) (b', content', end') =
+    proof-one bytes laws rules template e other
+    (subst (λ (x : List ℕ). EndOfProof rules template x e) (content bytes known) end)
+    (subst (λ (x : List ℕ). EndOfProof rules template x other) (content' bytes known) end')

@@ -1,0 +1,198 @@
+-- A text has one list of tokens or one refusal of its tokens, and these one syntax or one refusal of it, but for the place
+-- of Syntax. By the laws of the lexer and of the parser.
+use Rattle.std.proofs.Common.{◌≡◌, ◌⊎◌, ◌<◌, ◌≤◌, ℕ, List, length, map, Option, Some, None, Result, Ok, Err, true, false, arith, inl, inr, refl, sym, ap, subst, ◌∙◌}
+use Rattle.std.proofs.lemmas.Bool.{cases_lt, cases_order}
+use Rattle.std.proofs.lemmas.List.{length-map, get_or_past}
+use Rattle.guard_lexer.specs.Lexes as lex
+use Rattle.guard_lexer.specs.declared.token.Token.{Token}
+use Rattle.guard_lexer.specs.declared.token.LexRefusal.{LexRefusal}
+use Rattle.guard_lexer.specs.declared.token.LexRefusal.TheVariants as lex_refusal
+use Rattle.guard_lexer.proofs.Unique.{only_tokens, only_refusal}
+use Rattle.guard_syntax.specs.Syntax.{File}
+use Rattle.guard_parser.specs.Forms.{form, is_opening}
+use Rattle.guard_parser.specs.Lexemes.{lexemes, lexeme_of, ending}
+use Rattle.guard_parser.specs.File.{Rules, IsSpelled, IsShallow, IsTooDeep, IsDeadEnd, IsBadRange, open_before}
+use Rattle.guard_parser.proofs.Count.{few_tokens}
+use Rattle.guard_ends.specs.declared.ends.RefusalKind.{RefusalKind}
+use Rattle.guard_ends.specs.declared.ends.RefusalKind.TheVariants.{Unclosed, BadByte, NumberRange, NestTooDeep, Syntax, BadRange, DuplicateRule, DuplicateName, UnknownRule, UnknownVariable, UnknownFunction, NeedsArguments, TakesNone, ArgCount, LiteralWanted, RecursiveRule, RecursiveVariable, TooDeep, DuplicateKey, Tab, Anchor, Tag, Directive, ManyDocuments, BadPattern}
+use Rattle.guard_ends.specs.Inputs.{IsSyntax, RefusesTokens, RefusesSyntax, RefusesText}
+use Rattle.guard_run.specs.Outcome.{lex_kind}
+use Rattle.guard_run.proofs.Refusing.{pair-one}
+
+-- the same kind and place, or Syntax twice
+abbrev pub AreAlike : (kind : RefusalKind) (at : ℕ) (other : RefusalKind) (place : ℕ) → Type 0
+AreAlike kind at other place = ((kind ≡ other) × (at ≡ place)) ⊎ ((kind ≡ Syntax) × (other ≡ Syntax))
+
+-- the law of the parser
+abbrev pub OneSyntax : Type 0
+OneSyntax = (text : List ℕ) (tokens : List Token) (f g : File) (p q : Option ℕ) → IsSpelled text tokens f p → IsSpelled text tokens g q → (f ≡ g) × (p ≡ q)
+
+-- Tokens.
+
+pub tokens-one : (text : List ℕ) (ts us : List Token) → lex.IsTokenList text ts → lex.IsTokenList text us → ts ≡ us
+tokens-one text ts us (at, bytes, starts, reads) other =
+    let read : Result (List Token) LexRefusal = Ok ts in only_tokens (λ (v : List Token). v) read text at bytes starts reads tt us other
+
+tokens-apart : (text : List ℕ) (ts : List Token) (r : LexRefusal) → lex.IsTokenList text ts → lex.IsRefused text r → ⊥
+tokens-apart text ts r (at, bytes, starts, reads) bad =
+    let read : Result (List Token) LexRefusal = Ok ts in only_refusal (λ (v : List Token). v) read text at bytes starts reads tt r bad
+
+tokens-refused : (text : List ℕ) (q r : LexRefusal) → lex.IsRefused text q → lex.IsRefused text r → (q ≡ lex_refusal.NoMemory) ⊎ (q ≡ r)
+tokens-refused text q r (at, bytes, starts, reads) other =
+    let read : Result (List Token) LexRefusal = Err q in only_refusal (λ (v : List Token). v) read text at bytes starts tt (inr reads) r other
+
+-- the refusal of the lexer, by the kind and the place
+lex-of : (text : List ℕ) (kind : RefusalKind) (at : ℕ) → RefusesTokens text kind at → (r : LexRefusal) × lex.IsRefused text r × (lex_kind r ≡ Some (kind, at))
+lex-of text Unclosed at h = (lex_refusal.Unclosed at, h, refl)
+lex-of text BadByte at h = (lex_refusal.BadByte at, h, refl)
+lex-of text NumberRange at h = (lex_refusal.NumberRange at, h, refl)
+lex-of text NestTooDeep at h = absurd h
+lex-of text Syntax at h = absurd h
+lex-of text BadRange at h = absurd h
+lex-of text DuplicateRule at h = absurd h
+lex-of text DuplicateName at h = absurd h
+lex-of text UnknownRule at h = absurd h
+lex-of text UnknownVariable at h = absurd h
+lex-of text UnknownFunction at h = absurd h
+lex-of text NeedsArguments at h = absurd h
+lex-of text TakesNone at h = absurd h
+lex-of text ArgCount at h = absurd h
+lex-of text LiteralWanted at h = absurd h
+lex-of text RecursiveRule at h = absurd h
+lex-of text RecursiveVariable at h = absurd h
+lex-of text BadPattern at h = absurd h
+lex-of text TooDeep at h = absurd h
+lex-of text DuplicateKey at h = absurd h
+lex-of text Tab at h = absurd h
+lex-of text Anchor at h = absurd h
+lex-of text Tag at h = absurd h
+lex-of text Directive at h = absurd h
+lex-of text ManyDocuments at h = absurd h
+
+lex-alike : (text : List ℕ) (kind : RefusalKind) (at : ℕ) (other : RefusalKind) (place : ℕ) → RefusesTokens text kind at → RefusesTokens text other place
+    → AreAlike kind at other place
+lex-alike text kind at other place h h' =
+    let a = lex-of text kind at h in
+    let b = lex-of text other place h' in
+    let p : RefusalKind × ℕ = (kind, at) in
+    let q : RefusalKind × ℕ = (other, place) in
+    elim (tokens-refused text a.0 b.0 a.1 b.1) [
+      | inl none ↦ absurd (let both : None ≡ Some p = sym (ap lex_kind none) ∙ a.2 in cc)
+      | inr same ↦ (
+          let e : p ≡ q = pair-one p q (sym a.2 ∙ (ap lex_kind same ∙ b.2)) in
+          inl (ap (λ (o : RefusalKind × ℕ). o.0) e, ap (λ (o : RefusalKind × ℕ). o.1) e)
+          )
+    ]
+
+-- Brackets.
+
+opening-token : (text : List ℕ) (tokens : List Token) (i : ℕ) → length tokens ≤ i → is_opening (form (lexemes text tokens i)) ≡ false
+opening-token text tokens i past =
+    let within : length (map (lexeme_of text) tokens) ≤ i = omega (arith, length-map tokens (lexeme_of text)) in
+    ap (λ l. is_opening (form l)) (get_or_past (map (lexeme_of text) tokens) i (ending text) within)
+
+deep-apart : (text : List ℕ) (tokens : List Token) (at : ℕ) → IsTooDeep text tokens at → IsShallow text tokens → ⊥
+deep-apart text tokens at (i, opens, deep, before, is) shallow =
+    elim (cases_lt i (length tokens)) [
+      | inl within ↦ absurd (let low : open_before (lexemes text tokens) i < 128 = shallow i within opens in omega arith)
+      | inr past ↦ absurd (let both : true ≡ false = sym opens ∙ opening-token text tokens i past in cc)
+    ]
+
+deep-one : (text : List ℕ) (tokens : List Token) (at place : ℕ) → IsTooDeep text tokens at → IsTooDeep text tokens place → at ≡ place
+deep-one text tokens at place (i, opens, deep, before, is) (j, opens', deep', before', is') =
+    elim (cases_order i j) [
+      | inl same ↦ is ∙ (ap (λ n. (lexemes text tokens n).from) same ∙ sym is')
+      | inr (inl less) ↦ absurd (let low : open_before (lexemes text tokens) i < 128 = before' i less opens in omega arith)
+      | inr (inr more) ↦ absurd (let low : open_before (lexemes text tokens) j < 128 = before j more opens' in omega arith)
+    ]
+
+-- Syntax. The text is short, so that its own tokens are among those of which a dead end speaks.
+
+dead-apart : (text : List ℕ) (tokens : List Token) (at : ℕ) (f : File) (mixed : Option ℕ) → length text ≤ 1048576 → lex.IsTokenList text tokens
+    → IsDeadEnd text tokens at → IsSpelled text tokens f mixed → ⊥
+dead-apart text tokens at f mixed short listed (shallow, (k, is, none)) spelled =
+    none text tokens f mixed (omega (arith, few_tokens text tokens listed)) (λ i _. refl) shallow spelled
+
+-- why the parser refuses, by the kind
+abbrev pub SyntaxWhy : List ℕ → List Token → RefusalKind → ℕ → Type 0
+SyntaxWhy text tokens kind at =
+    ((kind ≡ NestTooDeep) × IsTooDeep text tokens at) ⊎ ((kind ≡ Syntax) × IsDeadEnd text tokens at) ⊎ ((kind ≡ BadRange) × IsBadRange text tokens at)
+
+syntax-why : (text : List ℕ) (tokens : List Token) (kind : RefusalKind) (at : ℕ) → RefusesSyntax text tokens kind at → SyntaxWhy text tokens kind at
+syntax-why text tokens NestTooDeep at h = inl (refl, h)
+syntax-why text tokens Syntax at h = inr (inl (refl, h))
+syntax-why text tokens BadRange at h = inr (inr (refl, h))
+syntax-why text tokens Unclosed at h = absurd h
+syntax-why text tokens BadByte at h = absurd h
+syntax-why text tokens NumberRange at h = absurd h
+syntax-why text tokens DuplicateRule at h = absurd h
+syntax-why text tokens DuplicateName at h = absurd h
+syntax-why text tokens UnknownRule at h = absurd h
+syntax-why text tokens UnknownVariable at h = absurd h
+syntax-why text tokens UnknownFunction at h = absurd h
+syntax-why text tokens NeedsArguments at h = absurd h
+syntax-why text tokens TakesNone at h = absurd h
+syntax-why text tokens ArgCount at h = absurd h
+syntax-why text tokens LiteralWanted at h = absurd h
+syntax-why text tokens RecursiveRule at h = absurd h
+syntax-why text tokens RecursiveVariable at h = absurd h
+syntax-why text tokens BadPattern at h = absurd h
+syntax-why text tokens TooDeep at h = absurd h
+syntax-why text tokens DuplicateKey at h = absurd h
+syntax-why text tokens Tab at h = absurd h
+syntax-why text tokens Anchor at h = absurd h
+syntax-why text tokens Tag at h = absurd h
+syntax-why text tokens Directive at h = absurd h
+syntax-why text tokens ManyDocuments at h = absurd h
+
+range-one : OneSyntax → (text : List ℕ) (tokens : List Token) (at place : ℕ) → IsBadRange text tokens at → IsBadRange text tokens place → at ≡ place
+range-one law text tokens at place (shallow, (f, spelled)) (shallow', (g, spelled')) =
+    let same : Some at ≡ Some place = (law text tokens f g (Some at) (Some place) spelled spelled').1 in cc
+
+why-alike : OneSyntax → (text : List ℕ) (tokens : List Token) (kind : RefusalKind) (at : ℕ) (other : RefusalKind) (place : ℕ) → length text ≤ 1048576
+    → lex.IsTokenList text tokens → SyntaxWhy text tokens kind at → SyntaxWhy text tokens other place → AreAlike kind at other place
+why-alike law text tokens kind at other place short listed (inl (k, deep)) (inl (k', deep')) = inl (k ∙ sym k', deep-one text tokens at place deep deep')
+why-alike law text tokens kind at other place short listed (inl (k, deep)) (inr (inl (k', dead))) = absurd (deep-apart text tokens at deep dead.0)
+why-alike law text tokens kind at other place short listed (inl (k, deep)) (inr (inr (k', range))) = absurd (deep-apart text tokens at deep range.0)
+why-alike law text tokens kind at other place short listed (inr (inl (k, dead))) (inl (k', deep)) = absurd (deep-apart text tokens place deep dead.0)
+why-alike law text tokens kind at other place short listed (inr (inl (k, dead))) (inr (inl (k', dead'))) = inr (k, k')
+why-alike law text tokens kind at other place short listed (inr (inl (k, dead))) (inr (inr (k', (shallow, (f, spelled))))) =
+    absurd (dead-apart text tokens at f (Some place) short listed dead spelled)
+why-alike law text tokens kind at other place short listed (inr (inr (k, range))) (inl (k', deep)) = absurd (deep-apart text tokens place deep range.0)
+why-alike law text tokens kind at other place short listed (inr (inr (k, (shallow, (f, spelled))))) (inr (inl (k', dead))) =
+    absurd (dead-apart text tokens place f (Some at) short listed dead spelled)
+why-alike law text tokens kind at other place short listed (inr (inr (k, range))) (inr (inr (k', range'))) =
+    inl (k ∙ sym k', range-one law text tokens at place range range')
+
+-- what is refused so has no syntax
+why-apart : OneSyntax → (text : List ℕ) (tokens : List Token) (kind : RefusalKind) (at : ℕ) (f : File) → length text ≤ 1048576 → lex.IsTokenList text tokens
+    → SyntaxWhy text tokens kind at → Rules text tokens f → ⊥
+why-apart law text tokens kind at f short listed (inl (k, deep)) spelled = deep-apart text tokens at deep spelled.0
+why-apart law text tokens kind at f short listed (inr (inl (k, dead))) spelled = dead-apart text tokens at f None short listed dead spelled.1
+why-apart law text tokens kind at f short listed (inr (inr (k, (shallow, (g, spelled'))))) spelled =
+    let both : None ≡ Some at = (law text tokens f g None (Some at) spelled.1 spelled').1 in cc
+
+-- Texts.
+
+pub syntax-one : OneSyntax → (text : List ℕ) (f g : File) → IsSyntax text f → IsSyntax text g → f ≡ g
+syntax-one law text f g (ts, listed, spelled) (us, listed', spelled') =
+    let same : us ≡ ts = tokens-one text us ts listed' listed in
+    (law text ts f g None None spelled.1 (subst (λ (ws : List Token). Rules text ws g) same spelled').1).0
+
+pub text-alike : OneSyntax → (text : List ℕ) (kind : RefusalKind) (at : ℕ) (other : RefusalKind) (place : ℕ) → length text ≤ 1048576
+    → RefusesText text kind at → RefusesText text other place → AreAlike kind at other place
+text-alike law text kind at other place short (inl h) (inl h') = lex-alike text kind at other place h h'
+text-alike law text kind at other place short (inl h) (inr (us, listed, h')) =
+    let a = lex-of text kind at h in absurd (tokens-apart text us a.0 listed a.1)
+text-alike law text kind at other place short (inr (ts, listed, h)) (inl h') =
+    let b = lex-of text other place h' in absurd (tokens-apart text ts b.0 listed b.1)
+text-alike law text kind at other place short (inr (ts, listed, h)) (inr (us, listed', h')) =
+    let same : us ≡ ts = tokens-one text us ts listed' listed in
+    why-alike law text ts kind at other place short listed (syntax-why text ts kind at h)
+    (syntax-why text ts other place (subst (λ (ws : List Token). RefusesSyntax text ws other place) same h'))
+
+pub text-apart : OneSyntax → (text : List ℕ) (kind : RefusalKind) (at : ℕ) (f : File) → length text ≤ 1048576 → RefusesText text kind at → IsSyntax text f → ⊥
+text-apart law text kind at f short (inl h) (us, listed, spelled) = let a = lex-of text kind at h in tokens-apart text us a.0 listed a.1
+text-apart law text kind at f short (inr (ts, listed, h)) (us, listed', spelled) =
+    let same : us ≡ ts = tokens-one text us ts listed' listed in
+    why-apart law text ts kind at f short listed (syntax-why text ts kind at h) (subst (λ (ws : List Token). Rules text ws f) same spelled)

@@ -1,0 +1,134 @@
+-- A text has one tree or one refusal in a format, where the laws of the reader of JSON hold of it. By the cases of the refusals.
+use Rattle.std.proofs.Common.{◌≡◌, ◌⊎◌, ℕ, List, Some, None, inl, inr, refl, sym, ap, ◌∙◌}
+use Rattle.doc_values.specs.Tree.{Forest}
+use Rattle.json_reader.specs.Json.{Json}
+use Rattle.json_reader.specs.Refusals.{IsRefused}
+use Rattle.json_reader.specs.declared.refusal.JsonRefusal.{JsonRefusal}
+use Rattle.json_reader.specs.declared.refusal.JsonRefusal.TheVariants as json
+use Rattle.yaml_blocks.specs.Answers.{IsSignOf, Reads, Refuses}
+use Rattle.yaml_blocks.specs.Signs.{Sign}
+use Rattle.yaml_blocks.specs.Signs as sign
+use Rattle.yaml_blocks.specs.Yaml.{Counts, IsYaml}
+use Rattle.yaml_blocks.specs.declared.refusal.YamlRefusal.{YamlRefusal}
+use Rattle.yaml_blocks.specs.declared.refusal.YamlRefusal.TheVariants as yaml
+use Rattle.guard_ends.specs.Inputs.{IsTreeOf, RefusesJson, RefusesTree, of_yaml}
+use Rattle.guard_run.specs.Outcome.{json_kind}
+use Rattle.guard_ends.specs.declared.ends.Refusal.{Refusal}
+use Rattle.guard_ends.specs.declared.ends.Refusal.TheVariants.{DataUnread, At}
+use Rattle.guard_ends.specs.declared.ends.RefusalKind.{RefusalKind}
+use Rattle.guard_ends.specs.declared.ends.RefusalKind.TheVariants.{Unclosed, BadByte, NumberRange, NestTooDeep, Syntax, BadRange, DuplicateRule, DuplicateName, UnknownRule, UnknownVariable, UnknownFunction, NeedsArguments, TakesNone, ArgCount, LiteralWanted, RecursiveRule, RecursiveVariable, TooDeep, DuplicateKey, Tab, Anchor, Tag, Directive, ManyDocuments, BadPattern}
+use Rattle.guard_ends.specs.declared.ends.Which.TheVariants as file
+use Rattle.guard_ends.specs.declared.format.Format.{Format}
+use Rattle.guard_ends.specs.declared.format.Format.TheVariants as format
+use Rattle.guard_run.proofs.Refusing.{pair-one}
+
+-- of two trees, of two refusals, and of a tree and a refusal
+pub record OneText (f : Format) (text : List ℕ) : Type 0 where
+  pub tree : (a b : Forest) → IsTreeOf f text a → IsTreeOf f text b → a ≡ b
+  pub refusal : (r q : Refusal) → RefusesTree f text r → RefusesTree f text q → r ≡ q
+  pub apart : (r : Refusal) (tree : Forest) → RefusesTree f text r → IsTreeOf f text tree → ⊥
+
+-- what the laws of the reader of JSON say of a text
+pub record JsonLaws (text : List ℕ) : Type 0 where
+  pub tree : (a b : Forest) → Json text a → Json text b → a ≡ b
+  pub refusal : (d e : JsonRefusal) → IsRefused text d → IsRefused text e → d ≡ e
+  pub apart : (e : JsonRefusal) (tree : Forest) → IsRefused text e → Json text tree → ⊥
+
+-- the refusal of the reader, by the kind and the place
+json-of : (text : List ℕ) (kind : RefusalKind) (at : ℕ) → RefusesJson text kind at → (r : JsonRefusal) × IsRefused text r × (json_kind r ≡ Some (kind, at))
+json-of text Syntax at h = (json.Syntax at, h, refl)
+json-of text DuplicateKey at h = (json.DuplicateKey at, h, refl)
+json-of text NumberRange at h = (json.NumberRange at, h, refl)
+json-of text TooDeep at h = (json.TooDeep at, h, refl)
+json-of text Unclosed at h = absurd h
+json-of text BadByte at h = absurd h
+json-of text NestTooDeep at h = absurd h
+json-of text BadRange at h = absurd h
+json-of text DuplicateRule at h = absurd h
+json-of text DuplicateName at h = absurd h
+json-of text UnknownRule at h = absurd h
+json-of text UnknownVariable at h = absurd h
+json-of text UnknownFunction at h = absurd h
+json-of text NeedsArguments at h = absurd h
+json-of text TakesNone at h = absurd h
+json-of text ArgCount at h = absurd h
+json-of text LiteralWanted at h = absurd h
+json-of text RecursiveRule at h = absurd h
+json-of text RecursiveVariable at h = absurd h
+json-of text BadPattern at h = absurd h
+json-of text Tab at h = absurd h
+json-of text Anchor at h = absurd h
+json-of text Tag at h = absurd h
+json-of text Directive at h = absurd h
+json-of text ManyDocuments at h = absurd h
+
+json-one : (text : List ℕ) → JsonLaws text → (kind : RefusalKind) (at : ℕ) (other : RefusalKind) (place : ℕ) → RefusesJson text kind at
+    → RefusesJson text other place → (kind ≡ other) × (at ≡ place)
+json-one text laws kind at other place h h' =
+    let a = json-of text kind at h in
+    let b = json-of text other place h' in
+    let p : RefusalKind × ℕ = (kind, at) in
+    let q : RefusalKind × ℕ = (other, place) in
+    let e : p ≡ q = pair-one p q (sym a.2 ∙ (ap json_kind (laws.refusal a.0 b.0 a.1 b.1) ∙ b.2)) in
+    (ap (λ (o : RefusalKind × ℕ). o.0) e, ap (λ (o : RefusalKind × ℕ). o.1) e)
+
+json-same : (text : List ℕ) → JsonLaws text → (r q : Refusal) → RefusesTree format.Json text r → RefusesTree format.Json text q → r ≡ q
+json-same text laws r q (kind, at, is, h) (other, place, is', h') =
+    let same = json-one text laws kind at other place h h' in
+    is ∙ (ap (λ k. At file.Template k at None) same.0 ∙ (ap (λ a. At file.Template other a None) same.1 ∙ sym is'))
+
+json-apart : (text : List ℕ) → JsonLaws text → (r : Refusal) (tree : Forest) → RefusesTree format.Json text r → Json text tree → ⊥
+json-apart text laws r tree (kind, at, is, h) whole = let a = json-of text kind at h in laws.apart a.0 tree a.1 whole
+
+-- the refusal of a template by a sign
+abbrev of_sign : Sign → Refusal
+of_sign (sign.Tab at) = At file.Template Tab at None
+of_sign (sign.Anchor at) = At file.Template Anchor at None
+of_sign (sign.Tag at) = At file.Template Tag at None
+of_sign (sign.Directive at) = At file.Template Directive at None
+of_sign (sign.ManyDocuments at) = At file.Template ManyDocuments at None
+of_sign (sign.DuplicateKey at) = At file.Template DuplicateKey at None
+of_sign (sign.TooDeep at) = At file.Template TooDeep at None
+
+-- a refusal of YAML says that no sign counts, or that one does, the only one
+abbrev IsSaid : List ℕ → Refusal → Type 0
+IsSaid text refusal =
+    ((refusal ≡ DataUnread) × ((s : Sign) → Counts text s → ⊥) × ((tree : Forest) → IsYaml text tree → ⊥))
+    ⊎ ((s : Sign) × (refusal ≡ of_sign s) × IsSignOf text s)
+
+refusal-one : (r q : Refusal) → Some r ≡ Some q → q ≡ r
+refusal-one r q same = cc
+
+yaml-said : (text : List ℕ) (r : YamlRefusal) (refusal : Refusal) → of_yaml r ≡ Some refusal → Refuses text r → IsSaid text refusal
+yaml-said text yaml.Unread refusal named h = inl (refusal-one DataUnread refusal named, h.0, h.1)
+yaml-said text (yaml.DuplicateKey at) refusal named h = inr (sign.DuplicateKey at, refusal-one (of_sign (sign.DuplicateKey at)) refusal named, h)
+yaml-said text (yaml.TooDeep at) refusal named h = inr (sign.TooDeep at, refusal-one (of_sign (sign.TooDeep at)) refusal named, h)
+yaml-said text (yaml.Tab at) refusal named h = inr (sign.Tab at, refusal-one (of_sign (sign.Tab at)) refusal named, h)
+yaml-said text (yaml.Anchor at) refusal named h = inr (sign.Anchor at, refusal-one (of_sign (sign.Anchor at)) refusal named, h)
+yaml-said text (yaml.Tag at) refusal named h = inr (sign.Tag at, refusal-one (of_sign (sign.Tag at)) refusal named, h)
+yaml-said text (yaml.Directive at) refusal named h = inr (sign.Directive at, refusal-one (of_sign (sign.Directive at)) refusal named, h)
+yaml-said text (yaml.ManyDocuments at) refusal named h = inr (sign.ManyDocuments at, refusal-one (of_sign (sign.ManyDocuments at)) refusal named, h)
+yaml-said text yaml.NoMemory refusal named h = absurd cc
+
+said-one : (text : List ℕ) (r q : Refusal) → IsSaid text r → IsSaid text q → r ≡ q
+said-one text r q (inl (is, quiet, none)) (inl (is', quiet', none')) = is ∙ sym is'
+said-one text r q (inl (is, quiet, none)) (inr (s, is', h)) = absurd (quiet s h.0)
+said-one text r q (inr (s, is, h)) (inl (is', quiet, none)) = absurd (quiet s h.0)
+said-one text r q (inr (s, is, h)) (inr (z, is', h')) = is ∙ (ap of_sign (sym (h.1 z h'.0)) ∙ sym is')
+
+said-apart : (text : List ℕ) (r : Refusal) (tree : Forest) → IsSaid text r → Reads text tree → ⊥
+said-apart text r tree (inl (is, quiet, none)) read = none tree read.0
+said-apart text r tree (inr (s, is, h)) read = h.2 tree read.0
+
+yaml-same : (text : List ℕ) (r q : Refusal) → RefusesTree format.Yaml text r → RefusesTree format.Yaml text q → r ≡ q
+yaml-same text r q (y, named, h) (z, named', h') = said-one text r q (yaml-said text y r named h) (yaml-said text z q named' h')
+
+yaml-apart : (text : List ℕ) (r : Refusal) (tree : Forest) → RefusesTree format.Yaml text r → Reads text tree → ⊥
+yaml-apart text r tree (y, named, h) read = said-apart text r tree (yaml-said text y r named h) read
+
+yaml-tree : (text : List ℕ) (a b : Forest) → Reads text a → Reads text b → a ≡ b
+yaml-tree text a b read read' = read'.1 a read.0
+
+pub text-one : (f : Format) (text : List ℕ) → JsonLaws text → OneText f text
+text-one format.Json text laws = record { tree = laws.tree; refusal = json-same text laws; apart = json-apart text laws }
+text-one format.Yaml text laws = record { tree = yaml-tree text; refusal = yaml-same text; apart = yaml-apart text }

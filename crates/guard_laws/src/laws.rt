@@ -1,0 +1,103 @@
+//! The laws. The bodies cite other laws and do nothing else; a law is kept by a contract.
+ghost use Rattle.std.specs.Prelude.{◌≡◌, ℕ, List, Some, None, true};
+ghost use Rattle.doc_values.specs.Tree.{Forest};
+ghost use Rattle.evidence_lines.specs.declared.line.Line.{Line};
+ghost use Rattle.guard_drill.specs.DrillTexts.{template_text};
+ghost use Rattle.guard_syntax.specs.Syntax.{File};
+ghost use Rattle.rule_names.specs.Files.{file_of};
+ghost use Rattle.rule_meaning.specs.SpotFunctions.{IsAnswering};
+ghost use Rattle.rule_meaning.specs.Spots.{Answers};
+ghost use Rattle.guard_ends.specs.Check.{accepted_text};
+ghost use Rattle.guard_ends.specs.Drill.{drill_rules};
+ghost use Rattle.guard_ends.specs.End.{Ended, EndOf, Contents, AreRead, AreSame, IsChecked, is_checked, is_judged};
+ghost use Rattle.guard_ends.specs.Inputs.{IsProof, IsRuleFile, IsTemplate, RefusesTemplate};
+ghost use Rattle.guard_ends.specs.Reported.{verdicts_of, world_over};
+ghost use Rattle.guard_ends.specs.Request.{Request, Asks, AsksDrill, format_of};
+ghost use Rattle.guard_ends.specs.declared.ends.End.TheVariants as end_is;
+ghost use Rattle.guard_ends.specs.declared.ends.Refusal.{Refusal};
+ghost use Rattle.guard_ends.specs.declared.format.Format.{Format};
+
+use evidence_lines::one_text;
+use evidence_truth::lines_true;
+use guard_parser::one_syntax;
+use json_reader::{one_refusal, one_tree, refused_apart};
+use rule_names::RuleFile;
+use std::str;
+
+/// The law that a call has one end: where the contents of the files are told, two ends that the definition gives are
+/// equal, or both refuse the rules as Syntax, each at a place of its own. The body does nothing; a law is kept by a
+/// contract.
+pub fn only_end(rules: &[u8], template: &[u8], evidence: &[u8])
+    ensures { (words : List (List ℕ)) (told : Contents) (q : Request) (e other : Ended)
+        → Asks words q → told q.rules ≡ Some rules.now
+        → told q.template ≡ Some template.now
+        → ((name : List ℕ) → q.proof ≡ Some name → told name ≡ Some evidence.now)
+        → EndOf words told e → EndOf words told other → AreSame rules.now e other }
+{
+    one_syntax();
+    only_template(template);
+    one_text();
+}
+
+/// The law of completeness: where the words ask for two files, whose contents are told, and these are a rule file and a
+/// template whose patterns can all be read, each end that the definition gives is one of a template that was judged.
+pub fn accepted_is_judged(rules: &[u8], template: &[u8])
+    ensures { (words : List (List ℕ)) (told : Contents) (q : Request) (file : File) (tree : Forest) (e : Ended)
+        → Asks words q → q.proof ≡ None → told q.rules ≡ Some rules.now → told q.template ≡ Some template.now
+        → IsRuleFile rules.now file → IsTemplate (format_of q.template) template.now tree → AreRead file
+        → EndOf words told e → is_judged e.how ≡ true }
+{
+    one_syntax();
+    only_template(template);
+}
+
+/// The law of completeness for a check: where, besides, evidence is asked for, whose content is told, and that is evidence,
+/// each end that the definition gives is one of evidence that was judged: it is accepted or rejected.
+pub fn accepted_is_checked(rules: &[u8], template: &[u8], evidence: &[u8])
+    ensures { (words : List (List ℕ)) (told : Contents) (q : Request) (name : List ℕ) (file : File) (tree : Forest) (lines : List Line) (e : Ended)
+        → Asks words q → q.proof ≡ Some name → told q.rules ≡ Some rules.now → told q.template ≡ Some template.now
+        → told name ≡ Some evidence.now
+        → IsRuleFile rules.now file → IsTemplate (format_of q.template) template.now tree → AreRead file
+        → IsProof evidence.now lines → EndOf words told e → is_checked e.how ≡ true }
+{
+    one_syntax();
+    only_template(template);
+    one_text();
+}
+
+/// The law that accepted evidence is true, whoever wrote it: what out takes of it are the verdicts of the rules by their
+/// meaning over the template, those that the report has.
+pub fn accepted_is_true(rules: &RuleFile)
+    ensures { (template : Forest) (lines : List Line) (answers : Answers) (e : Ended)
+        → IsChecked (file_of rules.now) template lines e → e.how ≡ end_is.Accepted
+        → IsAnswering (world_over (file_of rules.now) template answers)
+        → e.out ≡ accepted_text (file_of rules.now) (verdicts_of (world_over (file_of rules.now) template answers)) }
+{
+    lines_true(rules);
+}
+
+/// The law that a drill has one end in the same sense, whatever the files hold: by the text of its template.
+pub fn only_drill(template: &[u8])
+    ensures { (words : List (List ℕ)) (told : Contents) (count : ℕ) (e other : Ended)
+        → AsksDrill words count → template.now ≡ template_text count
+        → EndOf words told e → EndOf words told other → AreSame drill_rules e other }
+{
+    one_syntax();
+    only_template(template);
+}
+
+/// The law that a template has one tree or one refusal in each format, and not both.
+fn only_template(bytes: &[u8])
+    ensures tree { (f : Format) (tree other : Forest) → IsTemplate f bytes.now tree → IsTemplate f bytes.now other → tree ≡ other }
+    ensures refusal { (f : Format) (r other : Refusal) → RefusesTemplate f bytes.now r → RefusesTemplate f bytes.now other → r ≡ other }
+    ensures apart { (f : Format) (r : Refusal) (tree : Forest) → RefusesTemplate f bytes.now r → IsTemplate f bytes.now tree → ⊥ }
+{
+    match str::from_utf8(bytes) {
+        Ok(text) => {
+            one_tree(text);
+            one_refusal(text);
+            refused_apart(text);
+        }
+        Err(_) => {}
+    }
+}

@@ -1,0 +1,7 @@
+mod FailingParts
+mod GivenAnswers
+mod SpotOneMeaning
+mod SpotSameParts
+mod SpotTurned
+mod SpotWeighed
+mod Weighed

@@ -1,0 +1,9 @@
+//! Laws over the meaning of rules and of functions, which `rule_meaning` defines: calls that do nothing, whose contracts are
+//! the laws. Only other laws cite them.
+#![tactic(auto)]
+
+pub mod function_laws;
+pub mod spot_laws;
+
+pub use function_laws::{one_answer, refused_is_pattern};
+pub use spot_laws::{failing_has_entries, one_meaning_over_spots, turns_suffice_over_spots};

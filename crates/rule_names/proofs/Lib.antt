@@ -1,0 +1,17 @@
+pub mod Among
+pub mod Arguments
+pub mod Behind
+pub mod Capping
+pub mod FileParts
+pub mod HomeTables
+pub mod Lists
+pub mod Parts
+pub mod PiecesStand
+pub mod Rises
+pub mod Settled
+pub mod Shallow
+pub mod ShallowParts
+pub mod Shapes
+pub mod Tied
+pub mod FittingCalls
+pub mod PiecesFound

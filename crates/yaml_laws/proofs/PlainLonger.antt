@@ -1,0 +1,451 @@
+-- Where a plain scalar fails at the text's end, a longer text has one.
+use Rattle.std.proofs.Common.{◌≡◌, ℕ, zero, suc, ◌+◌, ◌<◌, ◌≤◌, ◌⊎◌, Bool, true, false, List, [], ◌∷◌, ◌++◌, length, take, drop, refl, sym, ap, inl, inr, ◌∙◌, arith, cond, subst, append_assoc, append-nil, length-append}
+use Rattle.std.specs.Prelude.{nat_eq, nat_lt, not, ◌||◌, ◌&&◌}
+use Rattle.std.proofs.lemmas.Bool.Decides.{nat_tests}
+use Rattle.yaml_scalars.specs.declared.scalar.Setting.{Setting}
+use Rattle.yaml_scalars.specs.declared.plain_line.Why.{Why}
+use Rattle.yaml_scalars.specs.declared.plain_line.Why.TheVariants.{Break, Return, Colon, Comment, Mark}
+use Rattle.yaml_scalars.specs.declared.plain_line.Below.{Below}
+use Rattle.yaml_scalars.specs.declared.plain_line.Below.TheVariants.{Blank, Outside, Further}
+use Rattle.yaml_scalars.specs.Lines.{Line, Outcome, Stands, Fails, begins_with, ends_with, is_white, is_space, is_blank, is_mark, each, lead, indent, past_white}
+use Rattle.yaml_scalars.specs.Plain.{above_of, is_doubtful, begins_plain, wrong_begin, stops, plain_len, content, content_end, why, reason, content_at, inside, below, joined, ends_on, return_shown, joins, further, first, more, plain_on}
+use Rattle.yaml_laws.proofs.Agree.{drop_before}
+use Rattle.yaml_laws.proofs.Longer.{glue, rest_of, last_line, ended, cut, Ends, ends_last, IsScalar}
+use Rattle.yaml_laws.proofs.BlockHeads.{cases}
+use Rattle.yaml_laws.proofs.BlockShown.{blank_less, lead_ended, spaces_less}
+use Rattle.yaml_scalars.proofs.FurtherLines.{below_inside, skip_le}
+use Rattle.yaml_laws.proofs.PlainDead.{fails_same, ends_fails, why_return, why_colon, return_stops, colon_stops, len_front, drop_whole, drop_length}
+use Rattle.yaml_laws.proofs.PlainShown.{shown_colon, below_front, fail_parts, fail_within, take_front}
+use Rattle.yaml_laws.proofs.PlainLaw.{marked, opens, dash, marks_end, mark_of, mark_made, mark_length, may_begin, bare, bare_return, wrong_to}
+
+-- a further line: the scalar goes on, whatever follows, or fails at a carriage return or a colon
+abbrev Goes : Bool → Why → List ℕ → ℕ → List ℕ → ℕ → ℕ → ℕ → (List ℕ → ℕ → ℕ → Outcome) → Type 0
+Goes flow w part at t e k p next = (next (joined flow part t k) (content_end flow part at) 0 ≡ Fails p) × ((other : List ℕ → ℕ → ℕ → Outcome) → joins flow w part at t e k other ≡ other (joined flow part t k) (content_end flow part at) 0)
+
+abbrev Returns : Bool → Why → List ℕ → ℕ → ℕ → Type 0
+Returns flow w part at p = (w ≡ Return) × (return_shown flow part at ≡ p)
+
+abbrev Colons : Bool → Why → List ℕ → ℕ → ℕ → Type 0
+Colons flow w part at p = (w ≡ Colon) × (flow ≡ false) × (at + plain_len flow false part + 1 ≡ p)
+
+joins_cases : (flow : Bool) (w : Why) (part : List ℕ) (at : ℕ) (t : List ℕ) (e k p : ℕ) (next : List ℕ → ℕ → ℕ → Outcome) → joins flow w part at t e k next ≡ Fails p → Goes flow w part at t e k p next ⊎ (Returns flow w part at p ⊎ Colons flow w part at p)
+joins_cases flow Break part at t e k p next h = inl (h, λ other. refl)
+joins_cases flow Return part at t e k p next h = inr (inl (refl, fails_same _ p h))
+joins_cases true Colon part at t e k p next h = absurd (ends_fails true part t at e k p h)
+joins_cases false Colon part at t e k p next h = inr (inr (refl, refl, fails_same _ p h))
+joins_cases flow Comment part at t e k p next h = absurd (cc)
+joins_cases flow Mark part at t e k p next h = absurd (ends_fails flow part t at e k p h)
+
+shown_cases : (flow : Bool) (part : List ℕ) (at p : ℕ) → return_shown flow part at ≡ p → (at + plain_len flow false part ≡ p) ⊎ ((at + plain_len flow false part + 1 ≡ p) × ((not flow && ends_with 58 (take (plain_len flow false part) part)) ≡ false))
+shown_cases flow part at p h = by_test (not flow && ends_with 58 (take (plain_len flow false part) part)) h where
+  by_test : (q : Bool) → cond q (at + plain_len flow false part) (at + plain_len flow false part + 1) ≡ p → (at + plain_len flow false part ≡ p) ⊎ ((at + plain_len flow false part + 1 ≡ p) × (q ≡ false))
+  by_test true h = inl h
+  by_test false h = inr (h, refl)
+
+-- a further line on which a scalar stands
+ends_stands : (flow : Bool) (part : List ℕ) (at : ℕ) (t : List ℕ) (e k : ℕ) → IsScalar (ends_on flow part at t e k)
+ends_stands flow part at t e k = by_length (nat_eq (plain_len flow false part) 0) where
+  by_length : (q : Bool) → IsScalar (cond q (Stands t e) (Stands (joined flow part t k) (content_end flow part at)))
+  by_length true = (_, _, refl)
+  by_length false = (_, _, refl)
+
+join_stands : (flow : Bool) (w : Why) (part : List ℕ) (at : ℕ) (t : List ℕ) (e k : ℕ) (next : List ℕ → ℕ → ℕ → Outcome) → (w ≡ Return → ⊥) → (w ≡ Colon → flow ≡ true) → ((t : List ℕ) (e k : ℕ) → IsScalar (next t e k)) → IsScalar (joins flow w part at t e k next)
+join_stands flow Break part at t e k next r c n = n (joined flow part t k) (content_end flow part at) 0
+join_stands flow Return part at t e k next r c n = absurd (r refl)
+join_stands true Colon part at t e k next r c n = ends_stands true part at t e k
+join_stands false Colon part at t e k next r c n = absurd (let h : false ≡ true = c refl in cc)
+join_stands flow Comment part at t e k next r c n = (_, _, refl)
+join_stands flow Mark part at t e k next r c n = ends_stands flow part at t e k
+
+empty_more : (s : Setting) (at : ℕ) (t : List ℕ) (e k : ℕ) → IsScalar (more s (rest_of at [] ∷ []) t e k)
+empty_more s at t e k = (t, e, refl)
+
+not_stands : (t : List ℕ) (e p : ℕ) → Stands t e ≡ Fails p → ⊥
+not_stands t e p h = cc
+
+-- bytes that go on up to a carriage return hold none, and no colon before white space
+return_not : (flow white : Bool) (f : List ℕ) → plain_len flow white (f ++ (13 ∷ [])) ≡ length f → why (drop (plain_len flow white f) f) ≡ Return → ⊥
+return_not flow white [] h e = cc
+return_not flow white (b ∷ []) h e = by_stop (stops flow white b []) e where
+  by_stop : (p : Bool) → why (drop (cond p 0 1) (b ∷ [])) ≡ Return → ⊥
+  by_stop true e =
+      let n : b ≡ 13 = why_return b [] e in
+      let z : plain_len flow white (b ∷ 13 ∷ []) ≡ 0 = ap (λ (b : ℕ). plain_len flow white (b ∷ 13 ∷ [])) n ∙ ap (λ q. cond q 0 (suc (plain_len flow (is_white 13) (13 ∷ [])))) (return_stops flow white (13 ∷ [])) in
+      omega (arith, h, z)
+  by_stop false e = cc
+return_not flow white (b ∷ c ∷ f) h e = by_stop (stops flow white b (c ∷ f)) h e (λ g i. return_not flow (is_white b) (c ∷ f) g i) where
+  by_stop : (p : Bool) → cond p 0 (suc (plain_len flow (is_white b) (c ∷ (f ++ (13 ∷ []))))) ≡ suc (suc (length f)) → why (drop (cond p 0 (suc (plain_len flow (is_white b) (c ∷ f)))) (b ∷ c ∷ f)) ≡ Return
+      → (plain_len flow (is_white b) (c ∷ (f ++ (13 ∷ []))) ≡ suc (length f) → why (drop (plain_len flow (is_white b) (c ∷ f)) (c ∷ f)) ≡ Return → ⊥) → ⊥
+  by_stop true h e r = omega (arith, h)
+  by_stop false h e r = r (omega (arith, h)) e
+
+colon_not : (white : Bool) (f : List ℕ) → plain_len false white (f ++ (13 ∷ [])) ≡ length f → ends_with 58 f ≡ false → why (drop (plain_len false white f) f) ≡ Colon → ⊥
+colon_not white [] h n e = cc
+colon_not white (b ∷ []) h n e = by_stop (stops false white b []) e where
+  by_stop : (p : Bool) → why (drop (cond p 0 1) (b ∷ [])) ≡ Colon → ⊥
+  by_stop true e = let m : b ≡ 58 = why_colon b [] e in let z : true ≡ false = sym (ap (λ (b : ℕ). nat_eq b 58) m) ∙ n in cc
+  by_stop false e = cc
+colon_not white (b ∷ c ∷ f) h n e = by_stop (stops false white b (c ∷ f)) h e (λ g i. colon_not (is_white b) (c ∷ f) g n i) where
+  by_stop : (p : Bool) → cond p 0 (suc (plain_len false (is_white b) (c ∷ (f ++ (13 ∷ []))))) ≡ suc (suc (length f)) → why (drop (cond p 0 (suc (plain_len false (is_white b) (c ∷ f)))) (b ∷ c ∷ f)) ≡ Colon
+      → (plain_len false (is_white b) (c ∷ (f ++ (13 ∷ []))) ≡ suc (length f) → why (drop (plain_len false (is_white b) (c ∷ f)) (c ∷ f)) ≡ Colon → ⊥) → ⊥
+  by_stop true h e r = omega (arith, h)
+  by_stop false h e r = r (omega (arith, h)) e
+
+colon_flow : (flow : Bool) (f : List ℕ) → plain_len flow false (f ++ (13 ∷ [])) ≡ length f → (not flow && ends_with 58 f) ≡ false → reason flow f ≡ Colon → flow ≡ true
+colon_flow true f h n e = refl
+colon_flow false f h n e = absurd (colon_not false f h n e)
+
+-- a line without the carriage return at its end
+begins_ended : (k n : ℕ) (f : List ℕ) → n < length f → begins_with k (drop n (f ++ (13 ∷ []))) ≡ begins_with k (drop n f)
+begins_ended k n [] l = absurd (omega (arith, l))
+begins_ended k zero (x ∷ f) l = refl
+begins_ended k (suc n) (x ∷ f) l = begins_ended k n f (omega (arith, l))
+
+inside_ended : (s : Setting) (f : List ℕ) → is_blank f ≡ false → inside s (f ++ (13 ∷ [])) ≡ inside s f
+inside_ended s f b = by_flow s.flow where
+  xs : List ℕ
+  xs = f ++ (13 ∷ [])
+
+  white : lead is_white xs ≡ lead is_white f
+  white = lead_ended is_white f [] refl
+
+  space : indent xs ≡ indent f
+  space = lead_ended is_space f [] refl
+
+  less : lead is_white f < length f
+  less = blank_less f b
+
+  same : (n m : ℕ) → n ≡ m → m < length f → content_at n (drop n xs) ≡ content_at m (drop m f)
+  same n m e l = ap (λ k. content_at k (drop k xs)) e ∙ ap (λ q. cond q Outside (Further m)) (begins_ended 35 m f l)
+
+  by_flow : (q : Bool) → cond q (content_at (lead is_white xs) (past_white xs)) (cond (nat_lt (indent xs) (above_of s.parent) || begins_with 9 (drop (indent xs) xs)) Outside (content_at (indent xs) (drop (indent xs) xs)))
+      ≡ cond q (content_at (lead is_white f) (past_white f)) (cond (nat_lt (indent f) (above_of s.parent) || begins_with 9 (drop (indent f) f)) Outside (content_at (indent f) (drop (indent f) f)))
+  by_flow true = same (lead is_white xs) (lead is_white f) white less
+  by_flow false =
+      let l : indent f < length f = let m = spaces_less f in omega (arith, m, less) in
+      ap (λ k. cond (nat_lt k (above_of s.parent) || begins_with 9 (drop k xs)) Outside (content_at (indent xs) (drop (indent xs) xs))) space
+      ∙ ap (λ q. cond (nat_lt (indent f) (above_of s.parent) || q) Outside (content_at (indent xs) (drop (indent xs) xs))) (begins_ended 9 (indent f) f l)
+      ∙ ap (λ o. cond (nat_lt (indent f) (above_of s.parent) || begins_with 9 (drop (indent f) f)) Outside o) (same (indent xs) (indent f) space l)
+
+further_inside : (s : Setting) (xs : List ℕ) (n : ℕ) → below s xs ≡ Further n → inside s xs ≡ Further n
+further_inside s xs n h = by_tests (is_blank xs) (is_mark xs) h where
+  by_tests : (p q : Bool) → cond p Blank (cond q Outside (inside s xs)) ≡ Further n → inside s xs ≡ Further n
+  by_tests true q h = absurd (cc)
+  by_tests false true h = absurd (cc)
+  by_tests false false h = h
+
+-- the last line ends in a carriage return: with a line feed behind it the scalar ends before it, or behind it
+last_further : (s : Setting) (place at n : ℕ) (f t : List ℕ) (e k : ℕ) → at + length f ≡ place → below s (f ++ (13 ∷ [])) ≡ Further n → is_blank f ≡ false → is_mark f ≡ false
+    → joins s.flow (reason s.flow (drop n (f ++ (13 ∷ [])))) (drop n (f ++ (13 ∷ []))) (at + n) t e k (more s []) ≡ Fails (suc place) → IsScalar (further s (below s f) at f t e k (more s (last_line place ∷ [])))
+last_further s place at n f t e k size b full mark h =
+    let xs = f ++ (13 ∷ []) in
+    let m = plain_len s.flow false (drop n xs) in
+    let long = length-append f (13 ∷ []) in
+    let le = skip_le s xs n b in
+    let is : below s f ≡ Further n = below_inside s f full mark ∙ sym (inside_ended s f full) ∙ further_inside s xs n b in
+    let lead_le = skip_le s f n is in
+    let parts : drop n xs ≡ drop n f ++ (13 ∷ []) = drop_before n f (13 ∷ []) lead_le in
+    let dl = drop_length n f lead_le in
+    let stands : (n + m ≡ length f) → (not s.flow && ends_with 58 (take m (drop n xs))) ≡ false → IsScalar (further s (Further n) at f t e k (more s (last_line place ∷ []))) = λ len colon.
+    let short : plain_len s.flow false (drop n f ++ (13 ∷ [])) ≡ length (drop n f) = ap (plain_len s.flow false) (sym parts) ∙ (let q : m ≡ length (drop n f) = omega (arith, len, dl) in q) in
+    let front : take m (drop n xs) ≡ drop n f = ap (λ y. take (plain_len s.flow false y) y) parts ∙ ap (λ j. take j (drop n f ++ (13 ∷ []))) short ∙ take_front (drop n f) (13 ∷ []) in
+    join_stands s.flow (reason s.flow (drop n f)) (drop n f) (at + n) t e k (more s (last_line place ∷ [])) (return_not s.flow false (drop n f) short)
+    (colon_flow s.flow (drop n f) short (sym (ap (λ y. not s.flow && ends_with 58 y) front) ∙ colon)) (λ x y z. empty_more s (suc (suc place)) x y z) in
+    subst (λ w. IsScalar (further s w at f t e k (more s (last_line place ∷ [])))) (sym is)
+    (elim (joins_cases s.flow (reason s.flow (drop n xs)) (drop n xs) (at + n) t e k (suc place) (more s []) h) [
+      | inl g ↦ absurd (not_stands _ _ (suc place) g.0)
+      | inr g ↦ elim g [
+        | inl r ↦ elim (shown_cases s.flow (drop n xs) (at + n) (suc place) r.1) [
+          | inl q ↦ absurd (let w = fail_within s.flow xs n le (inl r.0) in omega (arith, q, w, long, size))
+          | inr q ↦ (let z = q.0 in stands (omega (arith, z, size)) q.1)
+        ]
+        | inr c ↦ absurd (let z = c.2 in let w = returns (drop n f) (drop n xs) parts (let q : m ≡ length (drop n f) = omega (arith, z, size, dl) in q) in let v : Return ≡ Colon = sym w ∙ c.0 in cc)
+      ]
+    ]) where
+      returns : (g y : List ℕ) → y ≡ g ++ (13 ∷ []) → plain_len s.flow false y ≡ length g → reason s.flow y ≡ Return
+      returns g y e l = ap (λ j. why (drop j y)) l ∙ ap (λ y. why (drop (length g) y)) e ∙ ap why (drop_whole g (13 ∷ []))
+
+last_returned : (s : Setting) (place at : ℕ) (f t : List ℕ) (e k : ℕ) → at + length f ≡ place → further s (below s (f ++ (13 ∷ []))) at (f ++ (13 ∷ [])) t e k (more s []) ≡ Fails (suc place) → IsScalar (further s (below s f) at f t e k (more s (last_line place ∷ [])))
+last_returned s place at f t e k size h = cases (is_blank f) blank (λ b. cases (is_mark f) (mark b) (λ m. by_below b m (below s (f ++ (13 ∷ []))) refl h)) where
+  blank : is_blank f ≡ true → IsScalar (further s (below s f) at f t e k (more s (last_line place ∷ [])))
+  blank b = (t, e, ap (λ q. further s (cond q Blank (cond (is_mark f) Outside (inside s f))) at f t e k (more s (last_line place ∷ []))) b)
+
+  mark : is_blank f ≡ false → is_mark f ≡ true → IsScalar (further s (below s f) at f t e k (more s (last_line place ∷ [])))
+  mark b m = (t, e, ap (λ q. further s (cond q Blank (cond (is_mark f) Outside (inside s f))) at f t e k (more s (last_line place ∷ []))) b ∙ ap (λ q. further s (cond q Outside (inside s f)) at f t e k (more s (last_line place ∷ []))) m)
+
+  by_below : is_blank f ≡ false → is_mark f ≡ false → (w : Below) → below s (f ++ (13 ∷ [])) ≡ w → further s w at (f ++ (13 ∷ [])) t e k (more s []) ≡ Fails (suc place) → IsScalar (further s (below s f) at f t e k (more s (last_line place ∷ [])))
+  by_below b m Blank i h = absurd (cc)
+  by_below b m Outside i h = absurd (cc)
+  by_below b m (Further n) i h = last_further s place at n f t e k size i b m h
+
+-- a line that is not the last does not fail at the text's end
+before_end : (s : Setting) (p at n : ℕ) (xs : List ℕ) → below s xs ≡ Further n → at + length xs < p → Returns s.flow (reason s.flow (drop n xs)) (drop n xs) (at + n) p ⊎ Colons s.flow (reason s.flow (drop n xs)) (drop n xs) (at + n) p → ⊥
+before_end s p at n xs b l (inl r) =
+    let w = fail_within s.flow xs n (skip_le s xs n b) (inl r.0) in
+    elim (shown_cases s.flow (drop n xs) (at + n) p r.1) [ inl q ↦ omega (arith, q, w, l) | inr q ↦ (let z = q.0 in omega (arith, z, w, l)) ]
+before_end s p at n xs b l (inr c) = let w = fail_within s.flow xs n (skip_le s xs n b) (inr (c.0, c.1)) in let z = c.2 in omega (arith, z, w, l)
+
+more_returned : (s : Setting) (place : ℕ) (r : Bool) (ks : List Line) (t : List ℕ) (e k : ℕ) → Ends place r ks → more s (cut ks place) t e k ≡ Fails (suc place) → IsScalar (more s (glue ks (ended place [])) t e k)
+more_returned s place r [] t e k x h = absurd x
+more_returned s place r (l ∷ []) t e k x h =
+    subst (λ (b : List ℕ). IsScalar (further s (below s b) l.at b t e k (more s (last_line place ∷ [])))) (sym (append-nil l.bytes)) (last_returned s place l.at l.bytes t e k x.0 h)
+more_returned s place r (l ∷ m ∷ ks) t e k x h = by_below (below s l.bytes) refl h (λ u v w g. more_returned s place r (m ∷ ks) u v w x.2 g) where
+  new : List Line
+  new = glue (m ∷ ks) (ended place [])
+
+  by_below : (w : Below) → below s l.bytes ≡ w → further s w l.at l.bytes t e k (more s (cut (m ∷ ks) place)) ≡ Fails (suc place)
+      → ((u : List ℕ) (v w : ℕ) → more s (cut (m ∷ ks) place) u v w ≡ Fails (suc place) → IsScalar (more s new u v w)) → IsScalar (further s (below s l.bytes) l.at l.bytes t e k (more s new))
+  by_below Blank i h f = subst (λ w. IsScalar (further s w l.at l.bytes t e k (more s new))) (sym i) (f t e (suc k) h)
+  by_below Outside i h f = absurd (cc)
+  by_below (Further n) i h f = subst (λ w. IsScalar (further s w l.at l.bytes t e k (more s new))) (sym i) (elim (joins_cases s.flow (reason s.flow (drop n l.bytes)) (drop n l.bytes) (l.at + n) t e k (suc place) (more s (cut (m ∷ ks) place)) h) [
+    | inl g ↦ (let z = f _ _ _ g.0 in (z.0, z.1, g.1 (more s new) ∙ z.2))
+    | inr g ↦ absurd (let y = x.0 in before_end s (suc place) l.at n l.bytes i (omega (arith, y)) g)
+  ])
+
+-- the last line ends in a colon: with another byte behind it the scalar goes on
+abbrev letter : ℕ → Line
+letter at = rest_of at (97 ∷ [])
+
+last_colon : (s : Setting) (size at n : ℕ) (f t : List ℕ) (e k : ℕ) → at + length f ≡ size → below s f ≡ Further n → Colons s.flow (reason s.flow (drop n f)) (drop n f) (at + n) size → IsScalar (further s (below s (f ++ (97 ∷ []))) at (f ++ (97 ∷ [])) t e k (more s []))
+last_colon s size at n f t e k end b c =
+    let d = fail_parts s.flow f n (skip_le s f n b) (inr (c.0, c.1)) in
+    let a = d.0 in
+    let z = d.1 in
+    let q = d.2 in
+    let dot : q ≡ 58 = why_colon q z (sym d.9 ∙ c.0) in
+    let v = c.2 in
+    let w = d.4 in
+    let sizes = ap (λ (y : List ℕ). length y) d.3 in
+    let long = length-append a (q ∷ z) in
+    let none : z ≡ [] = empty z (omega (arith, v, w, sizes, long, end)) in
+    let whole : f ≡ a ++ (58 ∷ []) = d.3 ∙ ap (λ y. a ++ (q ∷ y)) none ∙ ap (λ y. a ++ (y ∷ [])) dot in
+    let new : f ++ (97 ∷ []) ≡ a ++ (58 ∷ 97 ∷ []) = ap (λ y. y ++ (97 ∷ [])) whole ∙ append_assoc a (58 ∷ []) (97 ∷ []) in
+    let within : n ≤ length a = omega (arith, w) in
+    let is : below s (a ++ (58 ∷ 97 ∷ [])) ≡ Further n = below_front s a 58 (97 ∷ []) [] (shown_colon 58 refl) ∙ ap (below s) (sym whole) ∙ b in
+    let short : plain_len s.flow false (drop n a ++ (58 ∷ [])) ≡ length (drop n a) = ap (λ y. plain_len s.flow false (drop n a ++ (y ∷ []))) (sym dot) ∙ ap (λ y. plain_len s.flow false (drop n a ++ (q ∷ y))) (sym none) ∙ d.7 in
+    let part : drop n (a ++ (58 ∷ 97 ∷ [])) ≡ drop n a ++ (58 ∷ 97 ∷ []) = drop_before n a (58 ∷ 97 ∷ []) within in
+    let breaks : reason s.flow (drop n (a ++ (58 ∷ 97 ∷ []))) ≡ Break = ap (reason s.flow) part ∙ goes_on s.flow (drop n a) c.1 short in
+    subst (λ y. IsScalar (further s (below s y) at y t e k (more s []))) (sym new)
+    (subst (λ w. IsScalar (further s w at (a ++ (58 ∷ 97 ∷ [])) t e k (more s []))) (sym is)
+    (subst (λ w. IsScalar (joins s.flow w (drop n (a ++ (58 ∷ 97 ∷ []))) (at + n) t e k (more s []))) (sym breaks) (_, _, refl))) where
+      empty : (z : List ℕ) → length z ≡ 0 → z ≡ []
+      empty [] h = refl
+      empty (y ∷ z) h = absurd (omega (arith, h))
+
+      goes_on : (flow : Bool) (g : List ℕ) → flow ≡ false → plain_len flow false (g ++ (58 ∷ [])) ≡ length g → reason flow (g ++ (58 ∷ 97 ∷ [])) ≡ Break
+      goes_on true g o h = absurd (cc)
+      goes_on false g o h =
+          let l : plain_len false false (g ++ (58 ∷ 97 ∷ [])) ≡ length g + 2 = len_front false false g 58 [] (97 ∷ []) false (λ w. colon_stops w (97 ∷ [])) h in
+          ap (λ j. why (drop j (g ++ (58 ∷ 97 ∷ [])))) l ∙ ap why (past g) where
+            past : (g : List ℕ) → drop (length g + 2) (g ++ (58 ∷ 97 ∷ [])) ≡ []
+            past [] = refl
+            past (x ∷ g) = let e : suc (length g) + 2 ≡ suc (length g + 2) = omega arith in ap (λ j. drop j (x ∷ (g ++ (58 ∷ 97 ∷ [])))) e ∙ past g
+
+no_last_return : (s : Setting) (size at n : ℕ) (f : List ℕ) → at + length f ≡ size → (ends_with 13 f ≡ true → false ≡ true) → n ≤ length f → reason s.flow (drop n f) ≡ Return → (at + n + plain_len s.flow false (drop n f) ≡ size) ⊎ (at + n + plain_len s.flow false (drop n f) + 1 ≡ size) → ⊥
+no_last_return s size at n f end r le w (inl p) = let k = fail_within s.flow f n le (inl w) in omega (arith, k, p, end)
+no_last_return s size at n f end r le w (inr p) =
+    let d = fail_parts s.flow f n le (inl w) in
+    let q : d.2 ≡ 13 = why_return d.2 d.1 (sym d.9 ∙ w) in
+    let sizes = ap (λ (y : List ℕ). length y) d.3 in
+    let long = length-append d.0 (d.2 ∷ d.1) in
+    let v = d.4 in
+    let last : ends_with 13 f ≡ true = ap (ends_with 13) d.3 ∙ ap (λ y. ends_with 13 (d.0 ++ (y ∷ d.1))) q ∙ alone d.0 d.1 (omega (arith, sizes, long, v, p, end)) in
+    let z : false ≡ true = r last in cc where
+      alone : (a z : List ℕ) → length z ≡ 0 → ends_with 13 (a ++ (13 ∷ z)) ≡ true
+      alone a [] h = ends_last a
+      alone a (y ∷ z) h = absurd (omega (arith, h))
+
+more_longer : (s : Setting) (size : ℕ) (ls : List Line) (t : List ℕ) (e k : ℕ) → Ends size false ls → more s ls t e k ≡ Fails size → IsScalar (more s (glue ls (letter size ∷ [])) t e k)
+more_longer s size [] t e k x h = absurd x
+more_longer s size (l ∷ []) t e k (x, y, z) h = by_below (below s l.bytes) refl h where
+  by_below : (w : Below) → below s l.bytes ≡ w → further s w l.at l.bytes t e k (more s []) ≡ Fails size → IsScalar (further s (below s (l.bytes ++ (97 ∷ []))) l.at (l.bytes ++ (97 ∷ [])) t e k (more s []))
+  by_below Blank i h = absurd (cc)
+  by_below Outside i h = absurd (cc)
+  by_below (Further n) i h = elim (joins_cases s.flow (reason s.flow (drop n l.bytes)) (drop n l.bytes) (l.at + n) t e k size (more s []) h) [
+    | inl g ↦ absurd (not_stands (joined s.flow (drop n l.bytes) t k) (content_end s.flow (drop n l.bytes) (l.at + n)) size g.0)
+    | inr g ↦ elim g [
+      | inl r ↦ absurd (no_last_return s size l.at n l.bytes x z (skip_le s l.bytes n i) r.0 (elim (shown_cases s.flow (drop n l.bytes) (l.at + n) size r.1) [ inl q ↦ inl q | inr q ↦ inr q.0 ]))
+      | inr c ↦ last_colon s size l.at n l.bytes t e k x i c
+    ]
+  ]
+more_longer s size (l ∷ m ∷ ls) t e k (x, y, z) h = by_below (below s l.bytes) refl h (λ u v w g. more_longer s size (m ∷ ls) u v w z g) where
+  new : List Line
+  new = glue (m ∷ ls) (letter size ∷ [])
+
+  by_below : (w : Below) → below s l.bytes ≡ w → further s w l.at l.bytes t e k (more s (m ∷ ls)) ≡ Fails size
+      → ((u : List ℕ) (v w : ℕ) → more s (m ∷ ls) u v w ≡ Fails size → IsScalar (more s new u v w)) → IsScalar (further s (below s l.bytes) l.at l.bytes t e k (more s new))
+  by_below Blank i h f = subst (λ w. IsScalar (further s w l.at l.bytes t e k (more s new))) (sym i) (f t e (suc k) h)
+  by_below Outside i h f = absurd (cc)
+  by_below (Further n) i h f = subst (λ w. IsScalar (further s w l.at l.bytes t e k (more s new))) (sym i) (elim (joins_cases s.flow (reason s.flow (drop n l.bytes)) (drop n l.bytes) (l.at + n) t e k size (more s (m ∷ ls)) h) [
+    | inl g ↦ (let z = f _ _ _ g.0 in (z.0, z.1, g.1 (more s new) ∙ z.2))
+    | inr g ↦ absurd (before_end s size l.at n l.bytes i x g)
+  ])
+
+-- the first line
+first_cases : (s : Setting) (w : Why) (at : ℕ) (xs : List ℕ) (ls : List Line) (p : ℕ) → first s w at xs ls ≡ Fails p
+    → ((w ≡ Return) × (at + plain_len s.flow false xs + 1 ≡ p)) ⊎ ((more s ls (content s.flow xs) (content_end s.flow xs at) 0 ≡ Fails p) × ((other : List Line) → first s w at xs other ≡ more s other (content s.flow xs) (content_end s.flow xs at) 0))
+first_cases s Break at xs ls p h = by_line s.one_line refl h where
+  by_line : (q : Bool) → s.one_line ≡ q → cond q (Stands (content s.flow xs) (content_end s.flow xs at)) (more s ls (content s.flow xs) (content_end s.flow xs at) 0) ≡ Fails p
+      → ((Break ≡ Return) × (at + plain_len s.flow false xs + 1 ≡ p)) ⊎ ((more s ls (content s.flow xs) (content_end s.flow xs at) 0 ≡ Fails p) × ((other : List Line) → first s Break at xs other ≡ more s other (content s.flow xs) (content_end s.flow xs at) 0))
+  by_line true e h = absurd (cc)
+  by_line false e h = inr (h, λ other. ap (λ q. cond q (Stands (content s.flow xs) (content_end s.flow xs at)) (more s other (content s.flow xs) (content_end s.flow xs at) 0)) e)
+first_cases s Return at xs ls p h = inl (refl, fails_same _ p h)
+first_cases s Colon at xs ls p h = absurd (cc)
+first_cases s Comment at xs ls p h = absurd (cc)
+first_cases s Mark at xs ls p h = absurd (cc)
+
+first_stands : (s : Setting) (w : Why) (at : ℕ) (xs : List ℕ) (ls : List Line) → (w ≡ Return → ⊥) → ((t : List ℕ) (e : ℕ) → IsScalar (more s ls t e 0)) → IsScalar (first s w at xs ls)
+first_stands s Break at xs ls r n = by_line s.one_line where
+  by_line : (q : Bool) → IsScalar (cond q (Stands (content s.flow xs) (content_end s.flow xs at)) (more s ls (content s.flow xs) (content_end s.flow xs at) 0))
+  by_line true = (_, _, refl)
+  by_line false = n (content s.flow xs) (content_end s.flow xs at)
+first_stands s Return at xs ls r n = absurd (r refl)
+first_stands s Colon at xs ls r n = (_, _, refl)
+first_stands s Comment at xs ls r n = (_, _, refl)
+first_stands s Mark at xs ls r n = (_, _, refl)
+
+opens_stands : (s : Setting) (fresh : Bool) (at : ℕ) (xs : List ℕ) (ls : List Line) → (fresh && marked xs) ≡ false → begins_plain s.flow xs ≡ true → IsScalar (first s (reason s.flow xs) at xs ls) → IsScalar (opens s at xs ls (fresh && marked xs) (begins_plain s.flow xs))
+opens_stands s fresh at xs ls m b h = (h.0, h.1, ap (λ q. opens s at xs ls q (begins_plain s.flow xs)) m ∙ ap (opens s at xs ls false) b ∙ h.2)
+
+pub mark_longer : (f : List ℕ) → marked f ≡ true → marked (f ++ (13 ∷ [])) ≡ true
+mark_longer f h =
+    let m = mark_of f h in
+    ap (λ t. marked (t ++ (13 ∷ []))) m.4 ∙ mark_made m.0 m.1 m.2 (m.3 ++ (13 ∷ [])) m.5 m.6 m.7 (ends m.3 m.8) where
+      ends : (r : List ℕ) → marks_end r ≡ true → marks_end (r ++ (13 ∷ [])) ≡ true
+      ends [] h = refl
+      ends (d ∷ r) h = h
+
+begins_less : (flow : Bool) (f : List ℕ) → begins_plain flow (f ++ (13 ∷ [])) ≡ true → begins_plain flow f ≡ true
+begins_less flow [] h = absurd (cc)
+begins_less flow (b ∷ []) h = firm (may_begin b) (is_doubtful b) (bare flow (13 ∷ [])) (bare flow []) (bare_return flow 13 [] refl) h where
+  firm : (x d u v : Bool) → u ≡ true → (x && (not d || not u)) ≡ true → (x && (not d || not v)) ≡ true
+  firm true false u v e h = refl
+  firm true true true v e h = absurd (cc)
+  firm true true false v e h = absurd (cc)
+  firm false d u v e h = absurd (cc)
+begins_less flow (b ∷ c ∷ f) h = h
+
+mark_less : (fresh : Bool) (f : List ℕ) → (fresh && marked (f ++ (13 ∷ []))) ≡ false → (fresh && marked f) ≡ false
+mark_less false f h = refl
+mark_less true f h = cases (marked f) (λ m. absurd (let z : true ≡ false = sym (mark_longer f m) ∙ h in cc)) (λ m. m)
+
+two_not : (a b : ℕ) → marked (a ∷ b ∷ 13 ∷ []) ≡ false
+two_not a b = grind (arith, nat_tests)
+
+not_three : (fresh : Bool) (f : List ℕ) → length f ≡ 2 → (fresh && marked (f ++ (13 ∷ []))) ≡ true → ⊥
+not_three fresh [] l h = omega (arith, l)
+not_three fresh (a ∷ []) l h = omega (arith, l)
+not_three fresh (a ∷ b ∷ []) l h = by_fresh fresh h where
+  by_fresh : (q : Bool) → (q && marked (a ∷ b ∷ 13 ∷ [])) ≡ true → ⊥
+  by_fresh true h = let z : true ≡ false = sym h ∙ two_not a b in cc
+  by_fresh false h = cc
+not_three fresh (a ∷ b ∷ c ∷ f) l h = omega (arith, l)
+
+wrong_early : (at : ℕ) (f : List ℕ) → wrong_begin at (f ++ (13 ∷ [])) < suc (at + length f)
+wrong_early at [] = omega arith
+wrong_early at (b ∷ f) = by_doubt (is_doubtful b) where
+  by_doubt : (d : Bool) → cond d (suc at) at < suc (at + suc (length f))
+  by_doubt true = omega arith
+  by_doubt false = omega arith
+
+plain_first_returned : (s : Setting) (fresh : Bool) (place at : ℕ) (f : List ℕ) (m b : Bool) → (fresh && marked (f ++ (13 ∷ []))) ≡ m → begins_plain s.flow (f ++ (13 ∷ [])) ≡ b → at + length f ≡ place → opens s at (f ++ (13 ∷ [])) [] m b ≡ Fails (suc place) → IsScalar (opens s at f (last_line place ∷ []) (fresh && marked f) (begins_plain s.flow f))
+plain_first_returned s fresh place at f true b x y end h = absurd (let p = fails_same _ (suc place) h in not_three fresh f (omega (arith, p, end)) x)
+plain_first_returned s fresh place at f false false x y end h = absurd (let p = fails_same _ (suc place) h in let w = wrong_early at f in omega (arith, p, end, w))
+plain_first_returned s fresh place at f false true x y end h = elim (first_cases s (reason s.flow (f ++ (13 ∷ []))) at (f ++ (13 ∷ [])) [] (suc place) h) [
+  | inl r ↦ (let p = r.1 in let short : plain_len s.flow false (f ++ (13 ∷ [])) ≡ length f = omega (arith, p, end) in
+      opens_stands s fresh at f (last_line place ∷ []) (mark_less fresh f x) (begins_less s.flow f y) (first_stands s (reason s.flow f) at f (last_line place ∷ []) (return_not s.flow false f short) (λ t e. empty_more s (suc (suc place)) t e 0)))
+  | inr r ↦ absurd (not_stands _ _ (suc place) r.0)
+]
+
+-- a first line that is not the last
+plain_below : (s : Setting) (fresh : Bool) (p : ℕ) (l : Line) (ls ms : List Line) → l.at + length l.bytes < p → ((t : List ℕ) (e : ℕ) → more s ls t e 0 ≡ Fails p → IsScalar (more s ms t e 0)) → plain_on s fresh (l ∷ ls) ≡ Fails p → IsScalar (plain_on s fresh (l ∷ ms))
+plain_below s fresh p l ls ms less below h = by_tests (fresh && marked l.bytes) (begins_plain s.flow l.bytes) refl refl h where
+  by_tests : (m b : Bool) → (fresh && marked l.bytes) ≡ m → begins_plain s.flow l.bytes ≡ b → opens s l.at l.bytes ls m b ≡ Fails p → IsScalar (opens s l.at l.bytes ms (fresh && marked l.bytes) (begins_plain s.flow l.bytes))
+  by_tests true b x y h = absurd (let q = fails_same _ p h in let k = mark_length l.bytes (second fresh (marked l.bytes) x) in omega (arith, q, k, less)) where
+    second : (q r : Bool) → (q && r) ≡ true → r ≡ true
+    second true r h = h
+    second false r h = absurd (cc)
+  by_tests false false x y h = absurd (let q = fails_same _ p h in let k = wrong_to l.at l.bytes in omega (arith, q, k, less))
+  by_tests false true x y h = elim (first_cases s (reason s.flow l.bytes) l.at l.bytes ls p h) [
+    | inl r ↦ absurd (let k = fail_within s.flow l.bytes 0 (omega arith) (inl r.0) in let q = r.1 in omega (arith, k, q, less))
+    | inr r ↦ (let z = below _ _ r.0 in opens_stands s fresh l.at l.bytes ms x y (z.0, z.1, r.1 ms ∙ z.2))
+  ]
+
+pub plain_returned : (s : Setting) (fresh : Bool) (place : ℕ) (r : Bool) (ks : List Line) → Ends place r ks → plain_on s fresh (cut ks place) ≡ Fails (suc place) → IsScalar (plain_on s fresh (glue ks (ended place [])))
+plain_returned s fresh place r [] x h = absurd x
+plain_returned s fresh place r (l ∷ []) x h =
+    subst (λ (b : List ℕ). IsScalar (opens s l.at b (last_line place ∷ []) (fresh && marked b) (begins_plain s.flow b))) (sym (append-nil l.bytes))
+    (plain_first_returned s fresh place l.at l.bytes (fresh && marked (l.bytes ++ (13 ∷ []))) (begins_plain s.flow (l.bytes ++ (13 ∷ []))) refl refl x.0 h)
+plain_returned s fresh place r (l ∷ m ∷ ks) x h =
+    plain_below s fresh (suc place) l (cut (m ∷ ks) place) (glue (m ∷ ks) (ended place [])) (let y = x.0 in omega (arith, y)) (λ t e g. more_returned s place r (m ∷ ks) t e 0 x.2 g) h
+
+-- bytes without a carriage return
+abbrev no_return : ℕ → Bool
+no_return b = not (nat_eq b 13)
+
+never_returns : (flow white : Bool) (xs : List ℕ) → each no_return xs ≡ true → why (drop (plain_len flow white xs) xs) ≡ Return → ⊥
+never_returns flow white [] h e = cc
+never_returns flow white (b ∷ xs) h e = by_stop (stops flow white b xs) (no_return b) refl h e (λ g i. never_returns flow (is_white b) xs g i) where
+  by_stop : (p q : Bool) → no_return b ≡ q → cond q (each no_return xs) false ≡ true → why (drop (cond p 0 (suc (plain_len flow (is_white b) xs))) (b ∷ xs)) ≡ Return → (each no_return xs ≡ true → why (drop (plain_len flow (is_white b) xs) xs) ≡ Return → ⊥) → ⊥
+  by_stop p false n h e r = cc
+  by_stop true true n h e r = let m : b ≡ 13 = why_return b xs e in let z : false ≡ true = sym (ap no_return m) ∙ n in cc
+  by_stop false true n h e r = r h e
+
+letter_stands : (s : Setting) (fresh : Bool) (at : ℕ) (xs : List ℕ) → marked xs ≡ false → begins_plain s.flow xs ≡ true → each no_return xs ≡ true → IsScalar (opens s at xs [] (fresh && marked xs) (begins_plain s.flow xs))
+letter_stands s fresh at xs m b n = opens_stands s fresh at xs [] (ap (λ q. fresh && q) m ∙ none fresh) b (first_stands s (reason s.flow xs) at xs [] (never_returns s.flow false xs n) (λ t e. (t, e, refl))) where
+  none : (q : Bool) → (q && false) ≡ false
+  none true = refl
+  none false = refl
+
+mark_letter : (s : Setting) (fresh : Bool) (at : ℕ) (f : List ℕ) → marked f ≡ true → length f ≡ 3 → IsScalar (opens s at (f ++ (97 ∷ [])) [] (fresh && marked (f ++ (97 ∷ []))) (begins_plain s.flow (f ++ (97 ∷ []))))
+mark_letter s fresh at f h l =
+    let m = mark_of f h in
+    let sizes = ap (λ (t : List ℕ). length t) m.4 in
+    let none : m.3 ≡ [] = empty m.3 (omega (arith, sizes, l)) in
+    let whole : f ++ (97 ∷ []) ≡ m.0 ∷ m.1 ∷ m.2 ∷ 97 ∷ [] = ap (λ t. t ++ (97 ∷ [])) m.4 ∙ ap (λ t. m.0 ∷ m.1 ∷ m.2 ∷ (t ++ (97 ∷ []))) none in
+    subst (λ t. IsScalar (opens s at t [] (fresh && marked t) (begins_plain s.flow t))) (sym whole) (letter_stands s fresh at (m.0 ∷ m.1 ∷ m.2 ∷ 97 ∷ []) (plain_mark m.0 m.1 m.2) (begins s.flow m.0 m.1 m.2 m.5 m.6) (returns m.0 m.1 m.2 m.5 m.6 m.7)) where
+      empty : (z : List ℕ) → length z ≡ 0 → z ≡ []
+      empty [] h = refl
+      empty (y ∷ z) h = absurd (omega (arith, h))
+
+      plain_mark : (a b c : ℕ) → marked (a ∷ b ∷ c ∷ 97 ∷ []) ≡ false
+      plain_mark a b c = by_tests (dash a) (nat_eq a b) (nat_eq a c) where
+        by_tests : (d e f : Bool) → ((d && (e && (f && false))) || (d && (e && (f && false)))) ≡ false
+        by_tests true true true = refl
+        by_tests true true false = refl
+        by_tests true false f = refl
+        by_tests false e f = refl
+
+      begins : (flow : Bool) (a b c : ℕ) → dash a ≡ true → nat_eq a b ≡ true → begins_plain flow (a ∷ b ∷ c ∷ 97 ∷ []) ≡ true
+      begins true a b c d e = grind (arith, nat_tests, d, e)
+      begins false a b c d e = grind (arith, nat_tests, d, e)
+
+      returns : (a b c : ℕ) → dash a ≡ true → nat_eq a b ≡ true → nat_eq a c ≡ true → each no_return (a ∷ b ∷ c ∷ 97 ∷ []) ≡ true
+      returns a b c d e f = grind (arith, nat_tests, d, e, f)
+
+plain_first_longer : (s : Setting) (fresh : Bool) (size at : ℕ) (f : List ℕ) (m b : Bool) → (fresh && marked f) ≡ m → begins_plain s.flow f ≡ b → at + length f ≡ size → at < size → (ends_with 13 f ≡ true → false ≡ true) → opens s at f [] m b ≡ Fails size
+    → IsScalar (opens s at (f ++ (97 ∷ [])) [] (fresh && marked (f ++ (97 ∷ []))) (begins_plain s.flow (f ++ (97 ∷ []))))
+plain_first_longer s fresh size at f true b x y end low r h = let p = fails_same _ size h in mark_letter s fresh at f (second fresh (marked f) x) (omega (arith, p, end)) where
+  second : (q r : Bool) → (q && r) ≡ true → r ≡ true
+  second true r h = h
+  second false r h = absurd (cc)
+plain_first_longer s fresh size at [] false false x y end low r h = absurd (omega (arith, end, low))
+plain_first_longer s fresh size at (c ∷ []) false false x y end low r h = by_doubt (is_doubtful c) refl (fails_same _ size h) where
+  by_doubt : (d : Bool) → is_doubtful c ≡ d → cond d (suc at) at ≡ size → IsScalar (opens s at (c ∷ 97 ∷ []) [] (fresh && marked (c ∷ 97 ∷ [])) (begins_plain s.flow (c ∷ 97 ∷ [])))
+  by_doubt false d p = absurd (omega (arith, p, low))
+  by_doubt true d p = letter_stands s fresh at (c ∷ 97 ∷ []) refl (begins s.flow) (grind (arith, nat_tests, d)) where
+    begins : (flow : Bool) → begins_plain flow (c ∷ 97 ∷ []) ≡ true
+    begins true = grind (arith, nat_tests, d)
+    begins false = grind (arith, nat_tests, d)
+plain_first_longer s fresh size at (c ∷ g ∷ f) false false x y end low r h = absurd (let p = fails_same _ size h in let w = wrong_first (is_doubtful c) in omega (arith, p, end, w)) where
+  wrong_first : (d : Bool) → cond d (suc at) at ≤ suc at
+  wrong_first true = omega arith
+  wrong_first false = omega arith
+plain_first_longer s fresh size at f false true x y end low r h = absurd (elim (first_cases s (reason s.flow f) at f [] size h) [
+  | inl w ↦ (let p = w.1 in no_last_return s size at 0 f end r (omega arith) w.0 (inr (omega (arith, p))))
+  | inr w ↦ not_stands _ _ size w.0
+])
+
+pub plain_longer : (s : Setting) (fresh : Bool) (size : ℕ) (l : Line) (ls : List Line) → l.at < size → Ends size false (l ∷ ls) → plain_on s fresh (l ∷ ls) ≡ Fails size → IsScalar (plain_on s fresh (glue (l ∷ ls) (letter size ∷ [])))
+plain_longer s fresh size l [] low (x, y, z) h = plain_first_longer s fresh size l.at l.bytes (fresh && marked l.bytes) (begins_plain s.flow l.bytes) refl refl x low z h
+plain_longer s fresh size l (m ∷ ls) low (x, y, z) h = plain_below s fresh size l (m ∷ ls) (glue (m ∷ ls) (letter size ∷ [])) x (λ t e g. more_longer s size (m ∷ ls) t e 0 z g) h

@@ -1,0 +1,4 @@
+pub mod Agreement
+pub mod AheadSeen
+pub mod Digits
+pub mod Refusals
