@@ -3,3 +3,4 @@ pub mod Named
 pub mod Syntax
 pub mod Seen
 pub mod Sites
+pub mod Queries

@@ -12,9 +12,9 @@ use Rattle.rule_names.specs.declared.name_kind.NameKind.TheVariants.{TooDeep}
 use Rattle.rule_names.specs.Deep.{deep_fault, deep_items, default_limit, deep_if, deep_lets, deep_rules, deep_disjs}
 use Rattle.rule_names.specs.Depths.{capped, depth_limit, depth_expr, depth_rule, depth_disj, depths_of}
 use Rattle.rule_names.specs.Faults.{Fault, first_from, first_of, or_else}
-use Rattle.name_table.proofs.FirstFaults.{first-append}
+use Rattle.name_scopes.proofs.FirstFaults.{first-append}
 use Rattle.rule_names.proofs.Shapes.{let-seen, disj-seen}
-use Rattle.name_table.proofs.UsesInTurn.{next, end}
+use Rattle.name_faults.proofs.UsesInTurn.{next, end}
 
 capped_above : (most d : ℕ) → most ≤ 200 → nat_lt most (capped d) ≡ nat_lt most d
 capped_above most d l = grind (arith, nat_tests)

@@ -17,7 +17,7 @@ use Rattle.rule_names.specs.Pieces.{Piece, Sited, OfFile, AreInOrder, piece_in, 
 use Rattle.rule_names.proofs.FileParts.{file_tied, file-has}
 use Rattle.name_table.proofs.Measuring.{same_or_not, measured-both, plain-site, items-next}
 use Rattle.rule_names.proofs.Parts.{hits, here, elsewhere}
-use Rattle.rule_names.proofs.Rises.{times, once, upto-rises}
+use Rattle.rule_names.proofs.Increases.{times, once, upto-rises}
 use Rattle.rule_names.proofs.Settled.{read-mapped, mapped-long}
 
 -- ---- the piece of a site

@@ -1,30 +1,6 @@
-pub mod UsesInTurn
-pub mod Arities
-pub mod FirstFaults
-pub mod Merged
-pub mod NameSets
-pub mod PlainSites
-pub mod ScopeShapes
-pub mod SeenNames
-pub mod Marking
-pub mod Walks
-pub mod Additions
-pub mod Reversals
-pub mod NodeUses
-pub mod Orderings
-pub mod OnCircle
-pub mod Narrowing
-pub mod PartUses
-pub mod WaysToParts
-pub mod StepsAt
-pub mod CircleFaults
-pub mod RuleSites
-pub mod GiversInTurn
-pub mod VisibleNames
-pub mod LastSteps
-pub mod BodyLinks
-pub mod BodyWays
-pub mod Measuring
-pub mod MeasuredParts
-pub mod DeepTables
-pub mod DeepFaults
+mod PlainSites
+mod RuleOrders
+mod Measuring
+mod MeasuredParts
+mod DeepTables
+mod DeepFaults

@@ -1,16 +1,4 @@
-pub mod Arities
-pub mod Charts
-pub mod FilterWays
-pub mod Filters
-pub mod Givers
-pub mod Meanings
 pub mod Measured
 pub mod Measures
-pub mod NameSets
-pub mod Narrow
-pub mod Ordering
+pub mod Picked
 pub mod Refused
-pub mod RuleSites
-pub mod Seen
-pub mod Sources
-pub mod Walked

@@ -2,7 +2,7 @@
 use Rattle.std.specs.Prelude.{◌≡◌}
 use Rattle.guard_syntax.specs.Syntax.{File}
 use Rattle.rule_names.specs.Faults.{Fault}
-use Rattle.rule_names.specs.Names.{IsNameFault}
+use Rattle.rule_names.specs.WellNamed.{IsNameFault}
 use Rattle.name_table.specs.declared.refusal.NameRefusal.{NameRefusal}
 use Rattle.name_table.specs.declared.refusal.NameRefusal.TheVariants.{Bad, NoMemory}
 

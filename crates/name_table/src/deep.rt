@@ -4,15 +4,15 @@ ghost use Rattle.guard_syntax.specs.Seen.{see_file, see_let, see_rule, see_disj,
 ghost use Rattle.rule_names.specs.Deep.{deep_fault, deep_if, deep_lets, deep_rules, deep_disjs};
 ghost use Rattle.rule_names.specs.Depths.{deepened, depth_limit, depths_of};
 ghost use Rattle.rule_names.specs.Faults.{first_from};
-ghost use Rattle.rule_names.specs.Links.{links_of};
+ghost use Rattle.rule_names.specs.Resolution.{resolution_of};
 ghost use Rattle.name_table.specs.Measures.{file_of, known_of};
 ghost use Rattle.rule_names.specs.Pieces.{AreInOrder};
-ghost use Rattle.name_table.specs.Seen.{see_best};
+ghost use Rattle.name_scopes.specs.Seen.{see_best};
 
 use crate::depths::{of_disj, of_expr, of_file, of_rule};
-use crate::fault::{Wrong, earlier};
 use crate::measure::{DEPTH_LIMIT, Measure};
 use guard_syntax::{Disj, Let, RawFile, Rule};
+use name_scopes::fault::{Wrong, earlier};
 use rule_names::{Link, NameKind};
 use std::alloc::{AllocError, Global};
 
@@ -27,7 +27,7 @@ fn deepened(
     depths: &[u8],
 ) -> Result<Vec<u8>, AllocError>
     requires sites { AreInOrder (see_file file.now) }
-    requires links { links.now ≡ links_of (see_file file.now) }
+    requires links { links.now ≡ resolution_of (see_file file.now) }
     ensures { IfOk result (λ next. next.items ≡ deepened (see_file file.now) depths.now) }
 {
     let measure = Measure {
@@ -42,9 +42,13 @@ fn deepened(
 
 /// The Depths of the sites of a file. Names are followed until that changes nothing, at most as often as a part that is
 /// not too deep can lead through them, and once more.
-fn depths_of(alloc: Global, file: &RawFile, links: &[Option<Link>]) -> Result<Vec<u8>, AllocError>
+pub(crate) fn depths_of(
+    alloc: Global,
+    file: &RawFile,
+    links: &[Option<Link>],
+) -> Result<Vec<u8>, AllocError>
     requires sites { AreInOrder (see_file file.now) }
-    requires links { links.now ≡ links_of (see_file file.now) }
+    requires links { links.now ≡ resolution_of (see_file file.now) }
     ensures { IfOk result (λ depths. depths.items ≡ depths_of (see_file file.now)) }
 {
     let mut depths = vec![in alloc; 0; file.places.as_slice().len()]?;
@@ -127,27 +131,26 @@ fn deep_disjs<'f>(
     best
 }
 
-/// The first item of a file that is too deep.
+/// The first item of a file that is too deep, by the Depths of its sites.
 pub(crate) fn first_deep<'f>(
-    alloc: Global,
     file: &'f RawFile,
     links: &[Option<Link>],
-) -> Result<Option<Wrong<'f>>, AllocError>
-    requires sites { AreInOrder (see_file file.now) }
-    requires links { links.now ≡ links_of (see_file file.now) }
-    ensures { IfOk result (λ wrong. see_best wrong ≡ deep_fault (see_file file.entry.now)) }
+    depths: &[u8],
+) -> Option<Wrong<'f>>
+    requires links { links.now ≡ resolution_of (see_file file.now) }
+    requires depths { depths.now ≡ depths_of (see_file file.now) }
+    ensures { see_best result ≡ deep_fault (see_file file.entry.now) }
 {
-    let depths = depths_of(alloc, file, links)?;
     let measure = Measure {
         file,
         links,
-        depths: &depths,
+        depths,
     };
     let best = deep_lets(&measure, &file.lets, None);
     let best = deep_rules(&measure, &file.rules, best);
     let best = deep_disjs(&measure, DEPTH_LIMIT, &file.loose, best);
     match best {
-        Some(wrong) => Ok(Some(wrong)),
-        None => Ok(deep_disjs(&measure, DEFAULT_LIMIT, &file.loose, None)),
+        Some(wrong) => Some(wrong),
+        None => deep_disjs(&measure, DEFAULT_LIMIT, &file.loose, None),
     }
 }

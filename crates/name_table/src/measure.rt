@@ -3,7 +3,7 @@
 ghost use Rattle.std.specs.Prelude.{◌≡◌, suc, ◌+◌};
 ghost use Rattle.guard_syntax.specs.Seen.{see_file};
 ghost use Rattle.rule_names.specs.Depths.{capped, depth_at, depth_bound, depth_target, larger};
-ghost use Rattle.rule_names.specs.Links.{bind_of, links_of, target_of};
+ghost use Rattle.rule_names.specs.Resolution.{bind_of, resolution_of, target_of};
 ghost use Rattle.name_table.specs.Measured.{noted};
 
 use guard_syntax::RawFile;
@@ -18,7 +18,7 @@ pub(crate) struct Measure<'m> {
     pub file: &'m RawFile,
     pub links: &'m [Option<Link>],
     pub depths: &'m [u8],
-    pub ghost linked: { links.now ≡ links_of (see_file file.now) },
+    pub ghost linked: { links.now ≡ resolution_of (see_file file.now) },
 }
 
 impl<'m> Measure<'m> {

@@ -1,10 +1,13 @@
 //! Why names are refused.
 ghost use Rattle.std.specs.Prelude.{◌≡◌};
+ghost use Rattle.name_scopes.specs.Seen.{see_wrong};
+ghost use Rattle.name_table.specs.Refused.{IsRefusalOf};
 ghost use Rattle.name_table.specs.declared.refusal.NameRefusal.TheVariants.{NoMemory};
 
 use guard_syntax::Text;
+use name_scopes::fault::Wrong;
 use rule_names::NameKind;
-use std::alloc::AllocError;
+use std::alloc::{AllocError, Global};
 
 /// Why the names of a rule file are refused: which name it is about, and the byte offset that is answered. That is where
 /// the name stands, but for a reference or call of a rule that part's first byte, which may be its `not`, and for
@@ -20,5 +23,19 @@ impl From<AllocError> for NameRefusal {
 
     fn from(_error: AllocError) -> NameRefusal {
         NameRefusal::NoMemory
+    }
+}
+
+/// The refusal of a fault.
+pub(crate) fn refuse(alloc: Global, wrong: Wrong) -> NameRefusal
+    ensures { IsRefusalOf (see_wrong wrong.entry) result }
+{
+    match String::from_str(alloc, wrong.name) {
+        Ok(text) => NameRefusal::Bad {
+            kind: wrong.kind,
+            name: Text::new(text),
+            at: wrong.at,
+        },
+        Err(_) => NameRefusal::NoMemory,
     }
 }

@@ -14,7 +14,7 @@ use Rattle.guard_syntax.specs.declared.function.Function.{Function}
 use Rattle.guard_syntax.specs.declared.function.Function.TheVariants.{Count, JsonParse, RegexReplace, Join, ToLower, ToUpper, Substring, UrlDecode, ParseInt, ParseFloat, ParseBoolean, ParseString}
 use Rattle.guard_syntax.specs.Sites.{sites_expr}
 use Rattle.rule_names.specs.declared.name_kind.NameKind.TheVariants.{ArgCount, LiteralWanted}
-use Rattle.rule_names.specs.Rising.{first_site}
+use Rattle.rule_names.specs.IncreasingSites.{first_site}
 use Rattle.rule_names.specs.Uses.{arity, expr_site, wrong, wrong_call, wrong_function, wrong_text, wrong_texts, is_text, place_of, count_exprs, expr_in, function_named, functions, is_text_kind, is_text_tree}
 
 pub count-args : (xs : List Expr) → count_exprs (expr_list (map see_expr xs)) ≡ length xs

@@ -9,8 +9,8 @@ use Rattle.guard_syntax.specs.declared.syntax.RawFile.{RawFile}
 use Rattle.guard_syntax.specs.Seen.{see_disj, see_rule, see_let, see_body, see_opt_conds, see_file, disj_list, let_list}
 use Rattle.guard_syntax.specs.Sites.{merge, sites_body, sites_lets, sites_opt_conds, sites_disjs, sites_rule, sites_rules, sites_file}
 use Rattle.rule_names.specs.Pieces.{Sited, Piece, OfFile, OfRule, piece_in, pieces_body, pieces_lets, pieces_opt_conds, pieces_disjs, pieces_rule, pieces_rules, pieces_file, AreInOrder}
-use Rattle.rule_names.specs.Rising.{Rising, Rise}
-use Rattle.rule_names.proofs.Rises.{times, upto-rises, upto-has}
+use Rattle.rule_names.specs.IncreasingSites.{Increasing, IsIncreasing}
+use Rattle.rule_names.proofs.Increases.{times, upto-rises, upto-has}
 use Rattle.rule_names.proofs.Parts.{Ties, ties-cons, ties-merge, not-in, elsewhere, rise-behind, rise-front, rise-back, two-front, two-back, merged-first, merged-second, among-first, among-second, among-not-first, among-not-second}
 use Rattle.rule_names.proofs.Tied.{tied-body, tied-lets, tied-disjs, tied-opt_conds, tied-rules}
 use Rattle.rule_names.proofs.Lists.{begins-body}
@@ -18,20 +18,20 @@ use Rattle.rule_names.proofs.Shapes.{body-first}
 
 -- ---- a rule
 
-pub rule-conds-rise : (r : Rule) → Rise (sites_rule (see_rule r)) → Rise (sites_opt_conds (see_opt_conds r.cond))
+pub rule-conds-rise : (r : Rule) → IsIncreasing (sites_rule (see_rule r)) → IsIncreasing (sites_opt_conds (see_opt_conds r.cond))
 rule-conds-rise r h = rise-front r.site (sites_opt_conds (see_opt_conds r.cond)) (sites_body (see_body r.body)) h
 
-pub rule-body-rise : (r : Rule) → Rise (sites_rule (see_rule r)) → Rise (sites_body (see_body r.body))
+pub rule-body-rise : (r : Rule) → IsIncreasing (sites_rule (see_rule r)) → IsIncreasing (sites_body (see_body r.body))
 rule-body-rise r h = rise-back r.site (sites_opt_conds (see_opt_conds r.cond)) (sites_body (see_body r.body)) h
 
-pub rule-conds : (n : ℕ) (r : Rule) → Rise (sites_rule (see_rule r)) → (r.site ≡ n → ⊥) → n < (out-Body r.body).site
+pub rule-conds : (n : ℕ) (r : Rule) → IsIncreasing (sites_rule (see_rule r)) → (r.site ≡ n → ⊥) → n < (out-Body r.body).site
     → piece_in (pieces_opt_conds (see_opt_conds r.cond)) n ≡ piece_in (pieces_rule (see_rule r)) n
 rule-conds n r h other before =
     let e = body-first n r.body in
     two-front n r.site (OfRule (see_rule r)) (pieces_opt_conds (see_opt_conds r.cond)) (pieces_body (see_body r.body)) (sites_opt_conds (see_opt_conds r.cond)) (sites_body (see_body r.body))
     (tied-body (see_body r.body)) (begins-body (see_body r.body)) h other (omega arith)
 
-pub rule-body : (n : ℕ) (r : Rule) → Rise (sites_rule (see_rule r)) → (r.site ≡ n → ⊥) → (out-Body r.body).site ≤ n
+pub rule-body : (n : ℕ) (r : Rule) → IsIncreasing (sites_rule (see_rule r)) → (r.site ≡ n → ⊥) → (out-Body r.body).site ≤ n
     → piece_in (pieces_body (see_body r.body)) n ≡ piece_in (pieces_rule (see_rule r)) n
 rule-body n r h other from =
     let e = body-first n r.body in
@@ -53,16 +53,16 @@ module _ (rs : List Rule) (ds : List Disj) where
   abbrev pub items_pieces : List Sited
   items_pieces = pieces_rules rules_in ++ pieces_disjs loose_in
 
-  pub items-rules-rise : Rise items_sites → Rise (sites_rules rules_in)
+  pub items-rules-rise : IsIncreasing items_sites → IsIncreasing (sites_rules rules_in)
   items-rules-rise h = merged-first (sites_rules rules_in) (sites_disjs loose_in) h
 
-  pub items-loose-rise : Rise items_sites → Rise (sites_disjs loose_in)
+  pub items-loose-rise : IsIncreasing items_sites → IsIncreasing (sites_disjs loose_in)
   items-loose-rise h = merged-second (sites_rules rules_in) (sites_disjs loose_in) h
 
   pub items-in-rules : (n : ℕ) (p : Piece) → Some p ≡ piece_in (pieces_rules rules_in) n → Some p ≡ piece_in items_pieces n
   items-in-rules n p is = among-first n (pieces_rules rules_in) (pieces_disjs loose_in) p is
 
-  pub items-in-loose : (n : ℕ) (p : Piece) → Rise items_sites → Some p ≡ piece_in (pieces_disjs loose_in) n → Some p ≡ piece_in items_pieces n
+  pub items-in-loose : (n : ℕ) (p : Piece) → IsIncreasing items_sites → Some p ≡ piece_in (pieces_disjs loose_in) n → Some p ≡ piece_in items_pieces n
   items-in-loose n p h is = among-second n (pieces_rules rules_in) (pieces_disjs loose_in) (sites_rules rules_in) (sites_disjs loose_in) p (tied-rules rules_in) (tied-disjs loose_in) h is
 
   pub items-not-rules : (n : ℕ) → None ≡ piece_in (pieces_rules rules_in) n → piece_in (pieces_disjs loose_in) n ≡ piece_in items_pieces n
@@ -86,13 +86,13 @@ module _ (rs : List Rule) (ds : List Disj) where
     abbrev pub all_pieces : List Sited
     all_pieces = (0, OfFile) ∷ (pieces_lets lets_in ++ items_pieces)
 
-    inside_rise : Rise all_sites → Rise (merge (sites_lets lets_in) items_sites)
+    inside_rise : IsIncreasing all_sites → IsIncreasing (merge (sites_lets lets_in) items_sites)
     inside_rise h = rise-behind 0 (merge (sites_lets lets_in) items_sites) h
 
-    pub file-lets-rise : Rise all_sites → Rise (sites_lets lets_in)
+    pub file-lets-rise : IsIncreasing all_sites → IsIncreasing (sites_lets lets_in)
     file-lets-rise h = merged-first (sites_lets lets_in) items_sites (inside_rise h)
 
-    pub file-items-rise : Rise all_sites → Rise items_sites
+    pub file-items-rise : IsIncreasing all_sites → IsIncreasing items_sites
     file-items-rise h = merged-second (sites_lets lets_in) items_sites (inside_rise h)
 
     inside : (n : ℕ) → (n ≡ 0 → ⊥) → piece_in (pieces_lets lets_in ++ items_pieces) n ≡ piece_in all_pieces n
@@ -101,7 +101,7 @@ module _ (rs : List Rule) (ds : List Disj) where
     pub file-in-lets : (n : ℕ) (p : Piece) → (n ≡ 0 → ⊥) → Some p ≡ piece_in (pieces_lets lets_in) n → Some p ≡ piece_in all_pieces n
     file-in-lets n p other is = among-first n (pieces_lets lets_in) items_pieces p is ∙ inside n other
 
-    pub file-in-items : (n : ℕ) (p : Piece) → (n ≡ 0 → ⊥) → Rise all_sites → Some p ≡ piece_in items_pieces n → Some p ≡ piece_in all_pieces n
+    pub file-in-items : (n : ℕ) (p : Piece) → (n ≡ 0 → ⊥) → IsIncreasing all_sites → Some p ≡ piece_in items_pieces n → Some p ≡ piece_in all_pieces n
     file-in-items n p other h is =
         among-second n (pieces_lets lets_in) items_pieces (sites_lets lets_in) items_sites p (tied-lets lets_in) items_tied (inside_rise h) is ∙ inside n other
 
@@ -115,8 +115,8 @@ module _ (rs : List Rule) (ds : List Disj) where
     file_tied = ties-cons 0 OfFile _ _ (ties-merge (pieces_lets lets_in) items_pieces (sites_lets lets_in) items_sites (tied-lets lets_in) items_tied)
 
 -- the sites of a file in order rise
-pub file-rise : (f : RawFile) → AreInOrder (see_file f) → Rise (sites_file (see_file f))
-file-rise f h = record { up = subst (λ (ns : List ℕ). Rising 0 ns) (sym h) (upto-rises 0 (length f.places)) }
+pub file-rise : (f : RawFile) → AreInOrder (see_file f) → IsIncreasing (sites_file (see_file f))
+file-rise f h = record { up = subst (λ (ns : List ℕ). Increasing 0 ns) (sym h) (upto-rises 0 (length f.places)) }
 
 -- and each site with a place has a piece
 pub file-has : (f : RawFile) (n : ℕ) → AreInOrder (see_file f) → n < length f.places → piece_in (pieces_file (see_file f)) n ≡ None → ⊥

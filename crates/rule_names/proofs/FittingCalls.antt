@@ -8,8 +8,8 @@ use Rattle.guard_syntax.specs.declared.function.Function.{Function}
 use Rattle.guard_syntax.specs.declared.function.Function.TheVariants.{RegexReplace}
 use Rattle.rule_names.specs.declared.name_kind.NameKind.TheVariants.{ArgCount, LiteralWanted}
 use Rattle.rule_names.specs.Faults.{first_of}
-use Rattle.rule_names.specs.Doubles.{doubles}
-use Rattle.rule_names.specs.Names.{WellNamed}
+use Rattle.rule_names.specs.Duplicates.{duplicates}
+use Rattle.rule_names.specs.WellNamed.{WellNamed}
 use Rattle.rule_names.specs.Pieces.{Piece, OfExpr, Sited, pieces_body, pieces_lets, pieces_let, pieces_conds, pieces_opt_conds, pieces_disjs, pieces_disj, pieces_parts, pieces_part, pieces_query, pieces_steps, pieces_step, pieces_expr, pieces_opt_expr, pieces_exprs, pieces_rule, pieces_rules, pieces_file}
 use Rattle.rule_names.specs.Scopes.{Given, given_file}
 use Rattle.rule_names.specs.Uses.{arity, count_exprs, expr_in, function_named, is_text_tree, place_of, wrong, wrong_body, wrong_conds, wrong_disj, wrong_disjs, wrong_expr, wrong_exprs, wrong_function, wrong_let, wrong_lets, wrong_opt_conds, wrong_opt_expr, wrong_part, wrong_parts, wrong_query, wrong_rule, wrong_rules, wrong_step, wrong_steps, wrong_text, wrong_uses}
@@ -153,7 +153,7 @@ module _ (rules : List Rule) (places : List ℕ) where
 
 file-fit : (f : File) → WellNamed f → AreFit f.rules f.places (pieces_file f)
 file-fit f named =
-    let none : wrong_uses f ≡ [] = none-first (wrong_uses f) (neither (first_of (doubles f)) (first_of (wrong_uses f)) named.singles).1 in
+    let none : wrong_uses f ≡ [] = none-first (wrong_uses f) (neither (first_of (duplicates f)) (first_of (wrong_uses f)) named.singles).1 in
     let parts = none-both (wrong_lets f.rules f.places (given_file f) f.lets) _ none in
     let others = none-both (wrong_rules f.rules f.places (given_file f) f.rules) _ parts.1 in (
       tt,

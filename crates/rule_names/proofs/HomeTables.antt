@@ -3,7 +3,7 @@ use Rattle.std.proofs.Common.{◌≡◌, ℕ, Bool, true, false, refl, ◌∙◌
 use Rattle.std.specs.Prelude.{nat_lt, if◌then◌else◌, slice_set}
 use Rattle.std.proofs.lemmas.List.{length-set, length-replicate}
 use Rattle.guard_syntax.specs.Syntax.{File}
-use Rattle.rule_names.specs.Homes.{Homed, homes_in, homes_of, with_home, with_homes}
+use Rattle.rule_names.specs.EnclosingScopes.{Homed, homes_in, homes_of, with_home, with_homes}
 
 length-if : (b : Bool) (homes : List ℕ) (n home : ℕ) → length (if b then slice_set homes n home else homes) ≡ length homes
 length-if true homes n home = length-set homes n home

@@ -7,7 +7,7 @@ pub mod HomeTables
 pub mod Lists
 pub mod Parts
 pub mod PiecesStand
-pub mod Rises
+pub mod Increases
 pub mod Settled
 pub mod Shallow
 pub mod ShallowParts
@@ -15,3 +15,8 @@ pub mod Shapes
 pub mod Tied
 pub mod FittingCalls
 pub mod PiecesFound
+pub mod Sizes
+pub mod FallingEdges
+pub mod NameCycles
+pub mod DepthTables
+pub mod PlainRules

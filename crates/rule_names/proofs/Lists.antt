@@ -11,7 +11,7 @@ use Rattle.guard_syntax.specs.declared.syntax.Expr.{Expr}
 use Rattle.guard_syntax.specs.Seen.{see_step, see_disj, see_rule, see_let, see_part, see_expr, step_list, disj_list, let_list, part_list, expr_list}
 use Rattle.guard_syntax.specs.Sites.{merge, sites_body, sites_lets, sites_let, sites_conds, sites_opt_conds, sites_disjs, sites_disj, sites_parts, sites_part, sites_query, sites_steps, sites_step, sites_expr, sites_opt_expr, sites_exprs, sites_rule, sites_rules}
 use Rattle.rule_names.specs.Pieces.{Sited, piece_in, pieces_lets, pieces_let, pieces_disjs, pieces_disj, pieces_parts, pieces_part, pieces_steps, pieces_step, pieces_expr, pieces_exprs, pieces_rule, pieces_rules}
-use Rattle.rule_names.specs.Rising.{Rise, first_site, IsLast, AllBehind}
+use Rattle.rule_names.specs.IncreasingSites.{IsIncreasing, first_site, IsLast, AllBehind}
 use Rattle.rule_names.proofs.Parts.{Begins, Ties}
 use Rattle.rule_names.proofs.Tied.{tied-let, tied-disj, tied-part, tied-step, tied-expr, tied-rule}
 use Rattle.rule_names.proofs.Behind.{all_sites, all_pieces, sorted, rises, chosen, none}
@@ -80,20 +80,20 @@ lets_pieces : (i : ℕ) (xs : List Let) → all_pieces let_pieces i xs ≡ piece
 lets_pieces i [] = refl
 lets_pieces i (x ∷ xs) = ap (λ (l : List Sited). let_pieces i x ++ l) (lets_pieces (suc i) xs)
 
-lets_rise : (xs : List Let) → Rise (sites_lets (let_list (map see_let xs))) → Rise (all_sites let_sites xs)
-lets_rise xs h = subst Rise (sym (lets_sites xs)) h
+lets_rise : (xs : List Let) → IsIncreasing (sites_lets (let_list (map see_let xs))) → IsIncreasing (all_sites let_sites xs)
+lets_rise xs h = subst IsIncreasing (sym (lets_sites xs)) h
 
-pub lets-sorted : (xs : List Let) → Rise (sites_lets (let_list (map see_let xs))) → IsNonDecreasingBy (λ (x : Let). first_site (sites_let (see_let x))) xs
+pub lets-sorted : (xs : List Let) → IsIncreasing (sites_lets (let_list (map see_let xs))) → IsNonDecreasingBy (λ (x : Let). first_site (sites_let (see_let x))) xs
 lets-sorted xs h = sorted let_sites let_pieces let_begins let_tied xs (lets_rise xs h)
 
-pub lets-rise : (n : ℕ) (xs : List Let) (i : ℕ) (x : Let) → Rise (sites_lets (let_list (map see_let xs))) → IsLast (λ (y : Let). first_site (sites_let (see_let y))) n xs i → x ≡ get_or xs i x → Rise (sites_let (see_let x))
+pub lets-rise : (n : ℕ) (xs : List Let) (i : ℕ) (x : Let) → IsIncreasing (sites_lets (let_list (map see_let xs))) → IsLast (λ (y : Let). first_site (sites_let (see_let y))) n xs i → x ≡ get_or xs i x → IsIncreasing (sites_let (see_let x))
 lets-rise n xs i x h last is = rises let_sites let_pieces let_begins let_tied xs i x (lets_rise xs h) last.within is
 
-pub lets-chosen : (n : ℕ) (xs : List Let) (i : ℕ) (x : Let) → Rise (sites_lets (let_list (map see_let xs))) → IsLast (λ (y : Let). first_site (sites_let (see_let y))) n xs i → x ≡ get_or xs i x
+pub lets-chosen : (n : ℕ) (xs : List Let) (i : ℕ) (x : Let) → IsIncreasing (sites_lets (let_list (map see_let xs))) → IsLast (λ (y : Let). first_site (sites_let (see_let y))) n xs i → x ≡ get_or xs i x
     → piece_in (pieces_let (see_let x)) n ≡ piece_in (pieces_lets (let_list (map see_let xs))) n
 lets-chosen n xs i x h last is = sym (chosen let_sites let_pieces let_begins let_tied n xs i x (lets_rise xs h) last is) ∙ ap (λ (l : List Sited). piece_in l n) (lets_pieces 0 xs)
 
-pub lets-none : (n : ℕ) (xs : List Let) → Rise (sites_lets (let_list (map see_let xs))) → AllBehind (λ (y : Let). first_site (sites_let (see_let y))) n xs → None ≡ piece_in (pieces_lets (let_list (map see_let xs))) n
+pub lets-none : (n : ℕ) (xs : List Let) → IsIncreasing (sites_lets (let_list (map see_let xs))) → AllBehind (λ (y : Let). first_site (sites_let (see_let y))) n xs → None ≡ piece_in (pieces_lets (let_list (map see_let xs))) n
 lets-none n xs h later = sym (none let_sites let_pieces let_begins let_tied n xs (lets_rise xs h) later) ∙ ap (λ (l : List Sited). piece_in l n) (lets_pieces 0 xs)
 
 -- ---- disjs
@@ -118,20 +118,20 @@ disjs_pieces : (i : ℕ) (xs : List Disj) → all_pieces disj_pieces i xs ≡ pi
 disjs_pieces i [] = refl
 disjs_pieces i (x ∷ xs) = ap (λ (l : List Sited). disj_pieces i x ++ l) (disjs_pieces (suc i) xs)
 
-disjs_rise : (xs : List Disj) → Rise (sites_disjs (disj_list (map see_disj xs))) → Rise (all_sites disj_sites xs)
-disjs_rise xs h = subst Rise (sym (disjs_sites xs)) h
+disjs_rise : (xs : List Disj) → IsIncreasing (sites_disjs (disj_list (map see_disj xs))) → IsIncreasing (all_sites disj_sites xs)
+disjs_rise xs h = subst IsIncreasing (sym (disjs_sites xs)) h
 
-pub disjs-sorted : (xs : List Disj) → Rise (sites_disjs (disj_list (map see_disj xs))) → IsNonDecreasingBy (λ (x : Disj). first_site (sites_disj (see_disj x))) xs
+pub disjs-sorted : (xs : List Disj) → IsIncreasing (sites_disjs (disj_list (map see_disj xs))) → IsNonDecreasingBy (λ (x : Disj). first_site (sites_disj (see_disj x))) xs
 disjs-sorted xs h = sorted disj_sites disj_pieces disj_begins disj_tied xs (disjs_rise xs h)
 
-pub disjs-rise : (n : ℕ) (xs : List Disj) (i : ℕ) (x : Disj) → Rise (sites_disjs (disj_list (map see_disj xs))) → IsLast (λ (y : Disj). first_site (sites_disj (see_disj y))) n xs i → x ≡ get_or xs i x → Rise (sites_disj (see_disj x))
+pub disjs-rise : (n : ℕ) (xs : List Disj) (i : ℕ) (x : Disj) → IsIncreasing (sites_disjs (disj_list (map see_disj xs))) → IsLast (λ (y : Disj). first_site (sites_disj (see_disj y))) n xs i → x ≡ get_or xs i x → IsIncreasing (sites_disj (see_disj x))
 disjs-rise n xs i x h last is = rises disj_sites disj_pieces disj_begins disj_tied xs i x (disjs_rise xs h) last.within is
 
-pub disjs-chosen : (n : ℕ) (xs : List Disj) (i : ℕ) (x : Disj) → Rise (sites_disjs (disj_list (map see_disj xs))) → IsLast (λ (y : Disj). first_site (sites_disj (see_disj y))) n xs i → x ≡ get_or xs i x
+pub disjs-chosen : (n : ℕ) (xs : List Disj) (i : ℕ) (x : Disj) → IsIncreasing (sites_disjs (disj_list (map see_disj xs))) → IsLast (λ (y : Disj). first_site (sites_disj (see_disj y))) n xs i → x ≡ get_or xs i x
     → piece_in (pieces_disj (see_disj x)) n ≡ piece_in (pieces_disjs (disj_list (map see_disj xs))) n
 disjs-chosen n xs i x h last is = sym (chosen disj_sites disj_pieces disj_begins disj_tied n xs i x (disjs_rise xs h) last is) ∙ ap (λ (l : List Sited). piece_in l n) (disjs_pieces 0 xs)
 
-pub disjs-none : (n : ℕ) (xs : List Disj) → Rise (sites_disjs (disj_list (map see_disj xs))) → AllBehind (λ (y : Disj). first_site (sites_disj (see_disj y))) n xs → None ≡ piece_in (pieces_disjs (disj_list (map see_disj xs))) n
+pub disjs-none : (n : ℕ) (xs : List Disj) → IsIncreasing (sites_disjs (disj_list (map see_disj xs))) → AllBehind (λ (y : Disj). first_site (sites_disj (see_disj y))) n xs → None ≡ piece_in (pieces_disjs (disj_list (map see_disj xs))) n
 disjs-none n xs h later = sym (none disj_sites disj_pieces disj_begins disj_tied n xs (disjs_rise xs h) later) ∙ ap (λ (l : List Sited). piece_in l n) (disjs_pieces 0 xs)
 
 -- ---- parts
@@ -156,20 +156,20 @@ parts_pieces : (i : ℕ) (xs : List Part) → all_pieces part_pieces i xs ≡ pi
 parts_pieces i [] = refl
 parts_pieces i (x ∷ xs) = ap (λ (l : List Sited). part_pieces i x ++ l) (parts_pieces (suc i) xs)
 
-parts_rise : (xs : List Part) → Rise (sites_parts (part_list (map see_part xs))) → Rise (all_sites part_sites xs)
-parts_rise xs h = subst Rise (sym (parts_sites xs)) h
+parts_rise : (xs : List Part) → IsIncreasing (sites_parts (part_list (map see_part xs))) → IsIncreasing (all_sites part_sites xs)
+parts_rise xs h = subst IsIncreasing (sym (parts_sites xs)) h
 
-pub parts-sorted : (xs : List Part) → Rise (sites_parts (part_list (map see_part xs))) → IsNonDecreasingBy (λ (x : Part). first_site (sites_part (see_part x))) xs
+pub parts-sorted : (xs : List Part) → IsIncreasing (sites_parts (part_list (map see_part xs))) → IsNonDecreasingBy (λ (x : Part). first_site (sites_part (see_part x))) xs
 parts-sorted xs h = sorted part_sites part_pieces part_begins part_tied xs (parts_rise xs h)
 
-pub parts-rise : (n : ℕ) (xs : List Part) (i : ℕ) (x : Part) → Rise (sites_parts (part_list (map see_part xs))) → IsLast (λ (y : Part). first_site (sites_part (see_part y))) n xs i → x ≡ get_or xs i x → Rise (sites_part (see_part x))
+pub parts-rise : (n : ℕ) (xs : List Part) (i : ℕ) (x : Part) → IsIncreasing (sites_parts (part_list (map see_part xs))) → IsLast (λ (y : Part). first_site (sites_part (see_part y))) n xs i → x ≡ get_or xs i x → IsIncreasing (sites_part (see_part x))
 parts-rise n xs i x h last is = rises part_sites part_pieces part_begins part_tied xs i x (parts_rise xs h) last.within is
 
-pub parts-chosen : (n : ℕ) (xs : List Part) (i : ℕ) (x : Part) → Rise (sites_parts (part_list (map see_part xs))) → IsLast (λ (y : Part). first_site (sites_part (see_part y))) n xs i → x ≡ get_or xs i x
+pub parts-chosen : (n : ℕ) (xs : List Part) (i : ℕ) (x : Part) → IsIncreasing (sites_parts (part_list (map see_part xs))) → IsLast (λ (y : Part). first_site (sites_part (see_part y))) n xs i → x ≡ get_or xs i x
     → piece_in (pieces_part (see_part x)) n ≡ piece_in (pieces_parts (part_list (map see_part xs))) n
 parts-chosen n xs i x h last is = sym (chosen part_sites part_pieces part_begins part_tied n xs i x (parts_rise xs h) last is) ∙ ap (λ (l : List Sited). piece_in l n) (parts_pieces 0 xs)
 
-pub parts-none : (n : ℕ) (xs : List Part) → Rise (sites_parts (part_list (map see_part xs))) → AllBehind (λ (y : Part). first_site (sites_part (see_part y))) n xs → None ≡ piece_in (pieces_parts (part_list (map see_part xs))) n
+pub parts-none : (n : ℕ) (xs : List Part) → IsIncreasing (sites_parts (part_list (map see_part xs))) → AllBehind (λ (y : Part). first_site (sites_part (see_part y))) n xs → None ≡ piece_in (pieces_parts (part_list (map see_part xs))) n
 parts-none n xs h later = sym (none part_sites part_pieces part_begins part_tied n xs (parts_rise xs h) later) ∙ ap (λ (l : List Sited). piece_in l n) (parts_pieces 0 xs)
 
 -- ---- exprs
@@ -194,20 +194,20 @@ exprs_pieces : (i : ℕ) (xs : List Expr) → all_pieces expr_pieces i xs ≡ pi
 exprs_pieces i [] = refl
 exprs_pieces i (x ∷ xs) = ap (λ (l : List Sited). expr_pieces i x ++ l) (exprs_pieces (suc i) xs)
 
-exprs_rise : (xs : List Expr) → Rise (sites_exprs (expr_list (map see_expr xs))) → Rise (all_sites expr_sites xs)
-exprs_rise xs h = subst Rise (sym (exprs_sites xs)) h
+exprs_rise : (xs : List Expr) → IsIncreasing (sites_exprs (expr_list (map see_expr xs))) → IsIncreasing (all_sites expr_sites xs)
+exprs_rise xs h = subst IsIncreasing (sym (exprs_sites xs)) h
 
-pub exprs-sorted : (xs : List Expr) → Rise (sites_exprs (expr_list (map see_expr xs))) → IsNonDecreasingBy (λ (x : Expr). first_site (sites_expr (see_expr x))) xs
+pub exprs-sorted : (xs : List Expr) → IsIncreasing (sites_exprs (expr_list (map see_expr xs))) → IsNonDecreasingBy (λ (x : Expr). first_site (sites_expr (see_expr x))) xs
 exprs-sorted xs h = sorted expr_sites expr_pieces expr_begins expr_tied xs (exprs_rise xs h)
 
-pub exprs-rise : (n : ℕ) (xs : List Expr) (i : ℕ) (x : Expr) → Rise (sites_exprs (expr_list (map see_expr xs))) → IsLast (λ (y : Expr). first_site (sites_expr (see_expr y))) n xs i → x ≡ get_or xs i x → Rise (sites_expr (see_expr x))
+pub exprs-rise : (n : ℕ) (xs : List Expr) (i : ℕ) (x : Expr) → IsIncreasing (sites_exprs (expr_list (map see_expr xs))) → IsLast (λ (y : Expr). first_site (sites_expr (see_expr y))) n xs i → x ≡ get_or xs i x → IsIncreasing (sites_expr (see_expr x))
 exprs-rise n xs i x h last is = rises expr_sites expr_pieces expr_begins expr_tied xs i x (exprs_rise xs h) last.within is
 
-pub exprs-chosen : (n : ℕ) (xs : List Expr) (i : ℕ) (x : Expr) → Rise (sites_exprs (expr_list (map see_expr xs))) → IsLast (λ (y : Expr). first_site (sites_expr (see_expr y))) n xs i → x ≡ get_or xs i x
+pub exprs-chosen : (n : ℕ) (xs : List Expr) (i : ℕ) (x : Expr) → IsIncreasing (sites_exprs (expr_list (map see_expr xs))) → IsLast (λ (y : Expr). first_site (sites_expr (see_expr y))) n xs i → x ≡ get_or xs i x
     → piece_in (pieces_expr (see_expr x)) n ≡ piece_in (pieces_exprs (expr_list (map see_expr xs))) n
 exprs-chosen n xs i x h last is = sym (chosen expr_sites expr_pieces expr_begins expr_tied n xs i x (exprs_rise xs h) last is) ∙ ap (λ (l : List Sited). piece_in l n) (exprs_pieces 0 xs)
 
-pub exprs-none : (n : ℕ) (xs : List Expr) → Rise (sites_exprs (expr_list (map see_expr xs))) → AllBehind (λ (y : Expr). first_site (sites_expr (see_expr y))) n xs → None ≡ piece_in (pieces_exprs (expr_list (map see_expr xs))) n
+pub exprs-none : (n : ℕ) (xs : List Expr) → IsIncreasing (sites_exprs (expr_list (map see_expr xs))) → AllBehind (λ (y : Expr). first_site (sites_expr (see_expr y))) n xs → None ≡ piece_in (pieces_exprs (expr_list (map see_expr xs))) n
 exprs-none n xs h later = sym (none expr_sites expr_pieces expr_begins expr_tied n xs (exprs_rise xs h) later) ∙ ap (λ (l : List Sited). piece_in l n) (exprs_pieces 0 xs)
 
 -- ---- rules
@@ -232,20 +232,20 @@ rules_pieces : (i : ℕ) (xs : List Rule) → all_pieces rule_pieces i xs ≡ pi
 rules_pieces i [] = refl
 rules_pieces i (x ∷ xs) = ap (λ (l : List Sited). rule_pieces i x ++ l) (rules_pieces (suc i) xs)
 
-rules_rise : (xs : List Rule) → Rise (sites_rules (map see_rule xs)) → Rise (all_sites rule_sites xs)
-rules_rise xs h = subst Rise (sym (rules_sites xs)) h
+rules_rise : (xs : List Rule) → IsIncreasing (sites_rules (map see_rule xs)) → IsIncreasing (all_sites rule_sites xs)
+rules_rise xs h = subst IsIncreasing (sym (rules_sites xs)) h
 
-pub rules-sorted : (xs : List Rule) → Rise (sites_rules (map see_rule xs)) → IsNonDecreasingBy (λ (x : Rule). first_site (sites_rule (see_rule x))) xs
+pub rules-sorted : (xs : List Rule) → IsIncreasing (sites_rules (map see_rule xs)) → IsNonDecreasingBy (λ (x : Rule). first_site (sites_rule (see_rule x))) xs
 rules-sorted xs h = sorted rule_sites rule_pieces rule_begins rule_tied xs (rules_rise xs h)
 
-pub rules-rise : (n : ℕ) (xs : List Rule) (i : ℕ) (x : Rule) → Rise (sites_rules (map see_rule xs)) → IsLast (λ (y : Rule). first_site (sites_rule (see_rule y))) n xs i → x ≡ get_or xs i x → Rise (sites_rule (see_rule x))
+pub rules-rise : (n : ℕ) (xs : List Rule) (i : ℕ) (x : Rule) → IsIncreasing (sites_rules (map see_rule xs)) → IsLast (λ (y : Rule). first_site (sites_rule (see_rule y))) n xs i → x ≡ get_or xs i x → IsIncreasing (sites_rule (see_rule x))
 rules-rise n xs i x h last is = rises rule_sites rule_pieces rule_begins rule_tied xs i x (rules_rise xs h) last.within is
 
-pub rules-chosen : (n : ℕ) (xs : List Rule) (i : ℕ) (x : Rule) → Rise (sites_rules (map see_rule xs)) → IsLast (λ (y : Rule). first_site (sites_rule (see_rule y))) n xs i → x ≡ get_or xs i x
+pub rules-chosen : (n : ℕ) (xs : List Rule) (i : ℕ) (x : Rule) → IsIncreasing (sites_rules (map see_rule xs)) → IsLast (λ (y : Rule). first_site (sites_rule (see_rule y))) n xs i → x ≡ get_or xs i x
     → piece_in (pieces_rule (see_rule x)) n ≡ piece_in (pieces_rules (map see_rule xs)) n
 rules-chosen n xs i x h last is = sym (chosen rule_sites rule_pieces rule_begins rule_tied n xs i x (rules_rise xs h) last is) ∙ ap (λ (l : List Sited). piece_in l n) (rules_pieces 0 xs)
 
-pub rules-none : (n : ℕ) (xs : List Rule) → Rise (sites_rules (map see_rule xs)) → AllBehind (λ (y : Rule). first_site (sites_rule (see_rule y))) n xs → None ≡ piece_in (pieces_rules (map see_rule xs)) n
+pub rules-none : (n : ℕ) (xs : List Rule) → IsIncreasing (sites_rules (map see_rule xs)) → AllBehind (λ (y : Rule). first_site (sites_rule (see_rule y))) n xs → None ≡ piece_in (pieces_rules (map see_rule xs)) n
 rules-none n xs h later = sym (none rule_sites rule_pieces rule_begins rule_tied n xs (rules_rise xs h) later) ∙ ap (λ (l : List Sited). piece_in l n) (rules_pieces 0 xs)
 
 -- ---- steps of a query
@@ -270,21 +270,21 @@ steps_pieces : (q : sx.Query) (i : ℕ) (xs : List Step) → all_pieces (step_pi
 steps_pieces q i [] = refl
 steps_pieces q i (x ∷ xs) = ap (λ (l : List Sited). step_pieces q i x ++ l) (steps_pieces q (suc i) xs)
 
-steps_rise : (xs : List Step) → Rise (sites_steps (step_list (map see_step xs))) → Rise (all_sites step_sites xs)
-steps_rise xs h = subst Rise (sym (steps_sites xs)) h
+steps_rise : (xs : List Step) → IsIncreasing (sites_steps (step_list (map see_step xs))) → IsIncreasing (all_sites step_sites xs)
+steps_rise xs h = subst IsIncreasing (sym (steps_sites xs)) h
 
 abbrev nowhere : sx.Query
 nowhere = sx.query 0 sx.no_steps
 
-pub steps-sorted : (xs : List Step) → Rise (sites_steps (step_list (map see_step xs))) → IsNonDecreasingBy (λ (x : Step). first_site (sites_step (see_step x))) xs
+pub steps-sorted : (xs : List Step) → IsIncreasing (sites_steps (step_list (map see_step xs))) → IsNonDecreasingBy (λ (x : Step). first_site (sites_step (see_step x))) xs
 steps-sorted xs h = sorted step_sites (step_pieces nowhere) step_begins (step_tied nowhere) xs (steps_rise xs h)
 
-pub steps-rise : (n : ℕ) (xs : List Step) (i : ℕ) (x : Step) → Rise (sites_steps (step_list (map see_step xs))) → IsLast (λ (y : Step). first_site (sites_step (see_step y))) n xs i → x ≡ get_or xs i x → Rise (sites_step (see_step x))
+pub steps-rise : (n : ℕ) (xs : List Step) (i : ℕ) (x : Step) → IsIncreasing (sites_steps (step_list (map see_step xs))) → IsLast (λ (y : Step). first_site (sites_step (see_step y))) n xs i → x ≡ get_or xs i x → IsIncreasing (sites_step (see_step x))
 steps-rise n xs i x h last is = rises step_sites (step_pieces nowhere) step_begins (step_tied nowhere) xs i x (steps_rise xs h) last.within is
 
-pub steps-chosen : (q : sx.Query) (n : ℕ) (xs : List Step) (i : ℕ) (x : Step) → Rise (sites_steps (step_list (map see_step xs))) → IsLast (λ (y : Step). first_site (sites_step (see_step y))) n xs i → x ≡ get_or xs i x
+pub steps-chosen : (q : sx.Query) (n : ℕ) (xs : List Step) (i : ℕ) (x : Step) → IsIncreasing (sites_steps (step_list (map see_step xs))) → IsLast (λ (y : Step). first_site (sites_step (see_step y))) n xs i → x ≡ get_or xs i x
     → piece_in (pieces_step q i (see_step x)) n ≡ piece_in (pieces_steps q 0 (step_list (map see_step xs))) n
 steps-chosen q n xs i x h last is = sym (chosen step_sites (step_pieces q) step_begins (step_tied q) n xs i x (steps_rise xs h) last is) ∙ ap (λ (l : List Sited). piece_in l n) (steps_pieces q 0 xs)
 
-pub steps-none : (q : sx.Query) (n : ℕ) (xs : List Step) → Rise (sites_steps (step_list (map see_step xs))) → AllBehind (λ (y : Step). first_site (sites_step (see_step y))) n xs → None ≡ piece_in (pieces_steps q 0 (step_list (map see_step xs))) n
+pub steps-none : (q : sx.Query) (n : ℕ) (xs : List Step) → IsIncreasing (sites_steps (step_list (map see_step xs))) → AllBehind (λ (y : Step). first_site (sites_step (see_step y))) n xs → None ≡ piece_in (pieces_steps q 0 (step_list (map see_step xs))) n
 steps-none q n xs h later = sym (none step_sites (step_pieces q) step_begins (step_tied q) n xs (steps_rise xs h) later) ∙ ap (λ (l : List Sited). piece_in l n) (steps_pieces q 0 xs)

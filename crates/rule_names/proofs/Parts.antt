@@ -4,8 +4,8 @@ use Rattle.std.specs.Prelude.{◌==◌, find, option_map}
 use Rattle.std.proofs.lemmas.Bool.Decides.{nat_tests}
 use Rattle.guard_syntax.specs.Sites.{merge}
 use Rattle.rule_names.specs.Pieces.{Piece, Sited, piece_in}
-use Rattle.rule_names.specs.Rising.{Rising, Rise, first_site}
-use Rattle.rule_names.proofs.Rises.{times, times-append, times-merge, below-none, past, past-none, once, front, back, apart, rise}
+use Rattle.rule_names.specs.IncreasingSites.{Increasing, IsIncreasing, first_site}
+use Rattle.rule_names.proofs.Increases.{times, times-append, times-merge, below-none, past, past-none, once, front, back, apart, rise}
 
 -- how often a site stands among pieces
 abbrev pub hits : ℕ → List Sited → ℕ
@@ -96,24 +96,24 @@ pub record Begins (ns : List ℕ) : Type 0 where
   pub rest : List ℕ
   pub are : ns ≡ first_site ns ∷ rest
 
-first_above : (low : ℕ) (ns : List ℕ) → Begins ns → Rising low ns → low ≤ first_site ns
-first_above low ns b h = let k = subst (Rising low) b.are h in k.0
+first_above : (low : ℕ) (ns : List ℕ) → Begins ns → Increasing low ns → low ≤ first_site ns
+first_above low ns b h = let k = subst (Increasing low) b.are h in k.0
 
-from_first : (low : ℕ) (ns : List ℕ) → Begins ns → Rising low ns → Rising (first_site ns) ns
-from_first low ns b h = let k = subst (Rising low) b.are h in subst (Rising (first_site ns)) (sym b.are) (omega arith, k.1)
+from_first : (low : ℕ) (ns : List ℕ) → Begins ns → Increasing low ns → Increasing (first_site ns) ns
+from_first low ns b h = let k = subst (Increasing low) b.are h in subst (Increasing (first_site ns)) (sym b.are) (omega arith, k.1)
 
-pub above-first : (low : ℕ) (ns : List ℕ) → Begins ns → Rising low ns → low ≤ first_site ns
+pub above-first : (low : ℕ) (ns : List ℕ) → Begins ns → Increasing low ns → low ≤ first_site ns
 above-first low ns b h = first_above low ns b h
 
-pub rising-first : (low : ℕ) (ns : List ℕ) → Begins ns → Rising low ns → Rising (first_site ns) ns
-rising-first low ns b h = from_first low ns b h
+pub increasing-first : (low : ℕ) (ns : List ℕ) → Begins ns → Increasing low ns → Increasing (first_site ns) ns
+increasing-first low ns b h = from_first low ns b h
 
 -- before the second begins, a site is of the first
-pub in-front : (n low : ℕ) (ps qs : List Sited) (ns ms : List ℕ) → Ties qs ms → Begins ms → Rising low (ns ++ ms) → n < first_site ms → piece_in (ps ++ qs) n ≡ piece_in ps n
+pub in-front : (n low : ℕ) (ps qs : List Sited) (ns ms : List ℕ) → Ties qs ms → Begins ms → Increasing low (ns ++ ms) → n < first_site ms → piece_in (ps ++ qs) n ≡ piece_in ps n
 in-front n low ps qs ns ms t b h e = either-left n ps qs (absent n qs ms t (below-none n (first_site ms) ms (from_first (past low ns) ms b (back low ns ms h)) e))
 
 -- and from there on of the second
-pub in-back : (n low : ℕ) (ps qs : List Sited) (ns ms : List ℕ) → Ties ps ns → Begins ms → Rising low (ns ++ ms) → first_site ms ≤ n → piece_in (ps ++ qs) n ≡ piece_in qs n
+pub in-back : (n low : ℕ) (ps qs : List Sited) (ns ms : List ℕ) → Ties ps ns → Begins ms → Increasing low (ns ++ ms) → first_site ms ≤ n → piece_in (ps ++ qs) n ≡ piece_in qs n
 in-back n low ps qs ns ms t b h e =
     let f = first_above (past low ns) ms b (back low ns ms h) in
     either-right n ps qs (absent n ps ns t (past-none n low ns (front low ns ms h) (omega arith)))
@@ -121,7 +121,7 @@ in-back n low ps qs ns ms t b h e =
 -- ---- two kinds of parts that stand among each other
 
 -- what the second has the first has not
-pub in-second : (n low : ℕ) (ps qs : List Sited) (ns ms : List ℕ) (p : Piece) → Ties ps ns → Ties qs ms → Rising low (merge ns ms) → piece_in qs n ≡ Some p → piece_in (ps ++ qs) n ≡ Some p
+pub in-second : (n low : ℕ) (ps qs : List Sited) (ns ms : List ℕ) (p : Piece) → Ties ps ns → Ties qs ms → Increasing low (merge ns ms) → piece_in qs n ≡ Some p → piece_in (ps ++ qs) n ≡ Some p
 in-second n low ps qs ns ms p t u h is =
     either-right n ps qs (absent n ps ns t (only (once n low (merge ns ms) h) (times-merge n ns ms) (λ none. absurd (cc (is, absent n qs ms u none))))) ∙ is
   where
@@ -139,41 +139,41 @@ not-second n ps qs e = either-left n ps qs e
 
 -- ---- a part with what stands inside it
 
-pub rise-behind : (m : ℕ) (ns : List ℕ) → Rise (m ∷ ns) → Rise ns
+pub rise-behind : (m : ℕ) (ns : List ℕ) → IsIncreasing (m ∷ ns) → IsIncreasing ns
 rise-behind m ns h = rise (suc m) ns h.up.1
 
-pub rise-front : (m : ℕ) (ns ms : List ℕ) → Rise (m ∷ (ns ++ ms)) → Rise ns
+pub rise-front : (m : ℕ) (ns ms : List ℕ) → IsIncreasing (m ∷ (ns ++ ms)) → IsIncreasing ns
 rise-front m ns ms h = rise (suc m) ns (front (suc m) ns ms h.up.1)
 
-pub rise-back : (m : ℕ) (ns ms : List ℕ) → Rise (m ∷ (ns ++ ms)) → Rise ms
+pub rise-back : (m : ℕ) (ns ms : List ℕ) → IsIncreasing (m ∷ (ns ++ ms)) → IsIncreasing ms
 rise-back m ns ms h = rise (past (suc m) ns) ms (back (suc m) ns ms h.up.1)
 
-pub rise-first : (m : ℕ) (ns ms : List ℕ) → Rise (m ∷ merge ns ms) → Rise ns
+pub rise-first : (m : ℕ) (ns ms : List ℕ) → IsIncreasing (m ∷ merge ns ms) → IsIncreasing ns
 rise-first m ns ms h = rise (suc m) ns (apart (suc m) ns ms h.up.1).0
 
-pub rise-second : (m : ℕ) (ns ms : List ℕ) → Rise (m ∷ merge ns ms) → Rise ms
+pub rise-second : (m : ℕ) (ns ms : List ℕ) → IsIncreasing (m ∷ merge ns ms) → IsIncreasing ms
 rise-second m ns ms h = rise (suc m) ms (apart (suc m) ns ms h.up.1).1
 
-pub two-front : (n m : ℕ) (p : Piece) (ps qs : List Sited) (ns ms : List ℕ) → Ties qs ms → Begins ms → Rise (m ∷ (ns ++ ms)) → (m ≡ n → ⊥) → n < first_site ms
+pub two-front : (n m : ℕ) (p : Piece) (ps qs : List Sited) (ns ms : List ℕ) → Ties qs ms → Begins ms → IsIncreasing (m ∷ (ns ++ ms)) → (m ≡ n → ⊥) → n < first_site ms
     → piece_in ps n ≡ piece_in ((m, p) ∷ (ps ++ qs)) n
 two-front n m p ps qs ns ms t b h other e = sym (elsewhere n m p (ps ++ qs) other ∙ in-front n (suc m) ps qs ns ms t b h.up.1 e)
 
-pub two-back : (n m : ℕ) (p : Piece) (ps qs : List Sited) (ns ms : List ℕ) → Ties ps ns → Begins ms → Rise (m ∷ (ns ++ ms)) → (m ≡ n → ⊥) → first_site ms ≤ n
+pub two-back : (n m : ℕ) (p : Piece) (ps qs : List Sited) (ns ms : List ℕ) → Ties ps ns → Begins ms → IsIncreasing (m ∷ (ns ++ ms)) → (m ≡ n → ⊥) → first_site ms ≤ n
     → piece_in qs n ≡ piece_in ((m, p) ∷ (ps ++ qs)) n
 two-back n m p ps qs ns ms t b h other e = sym (elsewhere n m p (ps ++ qs) other ∙ in-back n (suc m) ps qs ns ms t b h.up.1 e)
 
 -- ---- two kinds of parts among each other, by what was looked for in each
 
-pub merged-first : (ns ms : List ℕ) → Rise (merge ns ms) → Rise ns
+pub merged-first : (ns ms : List ℕ) → IsIncreasing (merge ns ms) → IsIncreasing ns
 merged-first ns ms h = record { up = (apart 0 ns ms h.up).0 }
 
-pub merged-second : (ns ms : List ℕ) → Rise (merge ns ms) → Rise ms
+pub merged-second : (ns ms : List ℕ) → IsIncreasing (merge ns ms) → IsIncreasing ms
 merged-second ns ms h = record { up = (apart 0 ns ms h.up).1 }
 
 pub among-first : (n : ℕ) (ps qs : List Sited) (p : Piece) → Some p ≡ piece_in ps n → Some p ≡ piece_in (ps ++ qs) n
 among-first n ps qs p is = sym (in-first n ps qs p (sym is))
 
-pub among-second : (n : ℕ) (ps qs : List Sited) (ns ms : List ℕ) (p : Piece) → Ties ps ns → Ties qs ms → Rise (merge ns ms) → Some p ≡ piece_in qs n → Some p ≡ piece_in (ps ++ qs) n
+pub among-second : (n : ℕ) (ps qs : List Sited) (ns ms : List ℕ) (p : Piece) → Ties ps ns → Ties qs ms → IsIncreasing (merge ns ms) → Some p ≡ piece_in qs n → Some p ≡ piece_in (ps ++ qs) n
 among-second n ps qs ns ms p t u h is = sym (in-second n 0 ps qs ns ms p t u h.up (sym is))
 
 pub among-not-first : (n : ℕ) (ps qs : List Sited) → None ≡ piece_in ps n → piece_in qs n ≡ piece_in (ps ++ qs) n

@@ -5,7 +5,7 @@ use Rattle.std.proofs.lemmas.Bool.Decides.{nat_tests}
 use Rattle.guard_syntax.specs.Syntax.{File}
 use Rattle.guard_syntax.specs.Sites.{upto, merge, sites_file, sites_lets, sites_rules, sites_disjs}
 use Rattle.rule_names.specs.Pieces.{Sited, Piece, OfFile, piece_in, piece_at, pieces_file, pieces_lets, pieces_rules, pieces_disjs, AreInOrder}
-use Rattle.rule_names.proofs.Rises.{times, once, upto-rises}
+use Rattle.rule_names.proofs.Increases.{times, once, upto-rises}
 use Rattle.rule_names.proofs.Parts.{Ties, hits, hits-append, no-hit, not-first, here, ties-cons, ties-merge}
 use Rattle.rule_names.proofs.Tied.{tied-lets, tied-rules, tied-disjs}
 use Rattle.rule_names.specs.Within.{StandsIn}

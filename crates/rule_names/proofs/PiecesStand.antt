@@ -39,7 +39,7 @@ append-found n p ps qs e = either-found (piece_in ps n) (piece_in qs n) p (sym (
 pub none-found : (n : ℕ) (p : Piece) → piece_in [] n ≡ Some p → ⊥
 none-found n p e = absurd cc
 
-IsAmong-whole : (ps : List Sited) → IsAmong ps ps
+pub IsAmong-whole : (ps : List Sited) → IsAmong ps ps
 IsAmong-whole ps = ([], [], sym (append-nil ps))
 
 -- among all, where the site and the piece that is looked for are given

@@ -7,7 +7,7 @@ use Rattle.guard_syntax.specs.Syntax.{Body, Lets, Let, Conds, OptConds, Disjs, D
 use Rattle.rule_names.specs.declared.bind.Bind.{Bind}
 use Rattle.rule_names.specs.declared.bind.Bind.TheVariants.{Value, Capture, Param}
 use Rattle.rule_names.specs.Depths.{larger, capped, first_of_query, depth_bound, depth_target, depth_body, depth_lets, depth_let, depth_conds, depth_opt_conds, depth_disjs, depth_disj, depth_parts, depth_part, depth_query, depth_steps, depth_step, depth_expr, depth_opt_expr, depth_exprs, depth_rule, depth_piece, deepened, deepened_by, depths_of, rounds}
-use Rattle.rule_names.specs.Links.{bind_of, target_of}
+use Rattle.rule_names.specs.Resolution.{bind_of, target_of}
 use Rattle.rule_names.specs.Pieces.{Piece, OfFile, OfLet, OfRule, OfBody, OfConds, OfDisj, OfPart, OfQuery, OfStep, OfExpr, piece_at}
 use Rattle.rule_names.proofs.Capping.{capped-most}
 

@@ -21,7 +21,7 @@ use Rattle.guard_syntax.specs.Seen.{see_step, see_form, see_disj, see_let, see_b
 use Rattle.guard_syntax.specs.Sites.{sites_body, sites_lets, sites_let, sites_conds, sites_opt_conds, sites_disjs, sites_disj, sites_parts, sites_part, sites_query, sites_steps, sites_step, sites_expr, sites_exprs}
 use Rattle.rule_names.specs.Pieces.{Sited, Piece, OfLet, OfDisj, OfStep, piece_in, pieces_body, pieces_lets, pieces_let, pieces_conds, pieces_opt_conds, pieces_disjs, pieces_disj, pieces_parts, pieces_part, pieces_query, pieces_steps, pieces_step, pieces_expr}
 use Rattle.rule_names.specs.Forms.{sites_form, pieces_form}
-use Rattle.rule_names.specs.Rising.{Rise, first_site}
+use Rattle.rule_names.specs.IncreasingSites.{IsIncreasing, first_site}
 use Rattle.rule_names.proofs.Parts.{here, elsewhere, in-first, in-second, not-first, not-second, rise-behind, rise-front, rise-back, rise-first, rise-second, two-front, two-back}
 use Rattle.rule_names.proofs.Tied.{tied-body, tied-lets, tied-disjs, tied-query, tied-conds, tied-opt_conds, tied-expr}
 use Rattle.rule_names.proofs.Lists.{begins-body, begins-expr}
@@ -61,8 +61,8 @@ let-here n l is = ap (λ (x : sx.Let). piece_in (pieces_let x) n) (let-seen l) �
 pub let-inner : (n : ℕ) (l : Let) → (l.site ≡ n → ⊥) → piece_in (pieces_expr (see_expr l.value)) n ≡ piece_in (pieces_let (see_let l)) n
 let-inner n l other = sym (ap (λ (x : sx.Let). piece_in (pieces_let x) n) (let-seen l) ∙ elsewhere n l.site _ _ other)
 
-pub let-rise : (l : Let) → Rise (sites_let (see_let l)) → Rise (sites_expr (see_expr l.value))
-let-rise l h = rise-behind l.site _ (subst (λ (x : sx.Let). Rise (sites_let x)) (let-seen l) h)
+pub let-rise : (l : Let) → IsIncreasing (sites_let (see_let l)) → IsIncreasing (sites_expr (see_expr l.value))
+let-rise l h = rise-behind l.site _ (subst (λ (x : sx.Let). IsIncreasing (sites_let x)) (let-seen l) h)
 
 -- ---- a disjunction
 
@@ -74,29 +74,29 @@ disj-inner n d ps are other =
     ap (λ (xs : List Part). piece_in (pieces_parts (part_list (map see_part xs))) n) are
     ∙ sym (ap (λ (x : sx.Disj). piece_in (pieces_disj x) n) (disj-seen d) ∙ elsewhere n d.site _ _ other)
 
-pub disj-rise : (d : Disj) (ps : List Part) → ps ≡ d.parts.items → Rise (sites_disj (see_disj d)) → Rise (sites_parts (part_list (map see_part ps)))
+pub disj-rise : (d : Disj) (ps : List Part) → ps ≡ d.parts.items → IsIncreasing (sites_disj (see_disj d)) → IsIncreasing (sites_parts (part_list (map see_part ps)))
 disj-rise d ps are h =
-    subst (λ (xs : List Part). Rise (sites_parts (part_list (map see_part xs)))) (sym are)
-    (rise-behind d.site _ (subst (λ (x : sx.Disj). Rise (sites_disj x)) (disj-seen d) h))
+    subst (λ (xs : List Part). IsIncreasing (sites_parts (part_list (map see_part xs)))) (sym are)
+    (rise-behind d.site _ (subst (λ (x : sx.Disj). IsIncreasing (sites_disj x)) (disj-seen d) h))
 
 -- ---- conditions
 
-pub conds-rise : (c : Conds) (ds : List Disj) → ds ≡ (out-Conds c).parts.items → Rise (sites_conds (see_conds c)) → Rise (sites_disjs (disj_list (map see_disj ds)))
+pub conds-rise : (c : Conds) (ds : List Disj) → ds ≡ (out-Conds c).parts.items → IsIncreasing (sites_conds (see_conds c)) → IsIncreasing (sites_disjs (disj_list (map see_disj ds)))
 conds-rise c ds are h =
-    subst (λ (xs : List Disj). Rise (sites_disjs (disj_list (map see_disj xs)))) (sym are)
-    (rise-behind (out-Conds c).site _ (subst (λ (x : sx.Conds). Rise (sites_conds x)) (conds-seen c) h))
+    subst (λ (xs : List Disj). IsIncreasing (sites_disjs (disj_list (map see_disj xs)))) (sym are)
+    (rise-behind (out-Conds c).site _ (subst (λ (x : sx.Conds). IsIncreasing (sites_conds x)) (conds-seen c) h))
 
 -- ---- a body
 
-pub body-lets-rise : (b : Body) (ls : List Let) → ls ≡ (out-Body b).lets.items → Rise (sites_body (see_body b)) → Rise (sites_lets (let_list (map see_let ls)))
+pub body-lets-rise : (b : Body) (ls : List Let) → ls ≡ (out-Body b).lets.items → IsIncreasing (sites_body (see_body b)) → IsIncreasing (sites_lets (let_list (map see_let ls)))
 body-lets-rise b ls are h =
-    subst (λ (xs : List Let). Rise (sites_lets (let_list (map see_let xs)))) (sym are)
-    (rise-first (out-Body b).site _ (sites_disjs (disj_list (map see_disj (out-Body b).parts.items))) (subst (λ (x : sx.Body). Rise (sites_body x)) (body-seen b) h))
+    subst (λ (xs : List Let). IsIncreasing (sites_lets (let_list (map see_let xs)))) (sym are)
+    (rise-first (out-Body b).site _ (sites_disjs (disj_list (map see_disj (out-Body b).parts.items))) (subst (λ (x : sx.Body). IsIncreasing (sites_body x)) (body-seen b) h))
 
-pub body-parts-rise : (b : Body) (ds : List Disj) → ds ≡ (out-Body b).parts.items → Rise (sites_body (see_body b)) → Rise (sites_disjs (disj_list (map see_disj ds)))
+pub body-parts-rise : (b : Body) (ds : List Disj) → ds ≡ (out-Body b).parts.items → IsIncreasing (sites_body (see_body b)) → IsIncreasing (sites_disjs (disj_list (map see_disj ds)))
 body-parts-rise b ds are h =
-    subst (λ (xs : List Disj). Rise (sites_disjs (disj_list (map see_disj xs)))) (sym are)
-    (rise-second (out-Body b).site (sites_lets (let_list (map see_let (out-Body b).lets.items))) _ (subst (λ (x : sx.Body). Rise (sites_body x)) (body-seen b) h))
+    subst (λ (xs : List Disj). IsIncreasing (sites_disjs (disj_list (map see_disj xs)))) (sym are)
+    (rise-second (out-Body b).site (sites_lets (let_list (map see_let (out-Body b).lets.items))) _ (subst (λ (x : sx.Body). IsIncreasing (sites_body x)) (body-seen b) h))
 
 pub body-first : (n : ℕ) (b : Body) → first_site (sites_body (see_body b)) ≡ (out-Body b).site
 body-first n b = ap (λ (x : sx.Body). first_site (sites_body x)) (body-seen b)
@@ -121,12 +121,12 @@ body-not-lets n b ls ds are be other is =
     (sym (is ∙ ap (λ (xs : List Let). piece_in (pieces_lets (let_list (map see_let xs))) n) are)))
     ∙ body_inside n b other
 
-pub body-in-parts : (n : ℕ) (b : Body) (ds : List Disj) (p : Piece) → ds ≡ (out-Body b).parts.items → ((out-Body b).site ≡ n → ⊥) → Rise (sites_body (see_body b))
+pub body-in-parts : (n : ℕ) (b : Body) (ds : List Disj) (p : Piece) → ds ≡ (out-Body b).parts.items → ((out-Body b).site ≡ n → ⊥) → IsIncreasing (sites_body (see_body b))
     → Some p ≡ piece_in (pieces_disjs (disj_list (map see_disj ds))) n → Some p ≡ piece_in (pieces_body (see_body b)) n
 body-in-parts n b ds p be other h is =
     let ls = let_list (map see_let (out-Body b).lets.items) in
     let ps = disj_list (map see_disj (out-Body b).parts.items) in
-    let r = subst (λ (x : sx.Body). Rise (sites_body x)) (body-seen b) h in
+    let r = subst (λ (x : sx.Body). IsIncreasing (sites_body x)) (body-seen b) h in
     sym (in-second n (suc (out-Body b).site) (pieces_lets ls) (pieces_disjs ps) (sites_lets ls) (sites_disjs ps) p (tied-lets ls) (tied-disjs ps) r.up.1
     (sym (is ∙ ap (λ (xs : List Disj). piece_in (pieces_disjs (disj_list (map see_disj xs))) n) be)))
     ∙ body_inside n b other
@@ -144,27 +144,27 @@ body-not-parts n b ls ds are be other is =
 abbrev Inside : ℕ → List Sited → Part → Type 0
 Inside n ps x = piece_in ps n ≡ piece_in (pieces_part (see_part x)) n
 
-pub block-rise : (x : Part) (site : ℕ) (any : Bool) (head : Query) (inner : Body) → x ≡ part.Block site any head inner → Rise (sites_part (see_part x))
-    → Rise (sites_query (see_query head)) × Rise (sites_body (see_body inner))
+pub block-rise : (x : Part) (site : ℕ) (any : Bool) (head : Query) (inner : Body) → x ≡ part.Block site any head inner → IsIncreasing (sites_part (see_part x))
+    → IsIncreasing (sites_query (see_query head)) × IsIncreasing (sites_body (see_body inner))
 block-rise x site any head inner is h =
-    let r = subst (λ (y : sx.Part). Rise (sites_part y)) (ap see_part is ∙ block-seen site any head inner) h in
+    let r = subst (λ (y : sx.Part). IsIncreasing (sites_part y)) (ap see_part is ∙ block-seen site any head inner) h in
     (rise-front site (sites_query (see_query head)) (sites_body (see_body inner)) r, rise-back site (sites_query (see_query head)) (sites_body (see_body inner)) r)
 
-pub block-head : (n : ℕ) (x : Part) (site : ℕ) (any : Bool) (head : Query) (inner : Body) → x ≡ part.Block site any head inner → Rise (sites_part (see_part x))
+pub block-head : (n : ℕ) (x : Part) (site : ℕ) (any : Bool) (head : Query) (inner : Body) → x ≡ part.Block site any head inner → IsIncreasing (sites_part (see_part x))
     → (first_site (sites_part (see_part x)) ≡ n → ⊥) → n < (out-Body inner).site → Inside n (pieces_query (see_query head)) x
 block-head n x site any head inner is h other before =
     let e = body-first n inner in
-    subst (λ (y : sx.Part). Rise (sites_part y) → (first_site (sites_part y) ≡ n → ⊥) → piece_in (pieces_query (see_query head)) n ≡ piece_in (pieces_part y) n)
+    subst (λ (y : sx.Part). IsIncreasing (sites_part y) → (first_site (sites_part y) ≡ n → ⊥) → piece_in (pieces_query (see_query head)) n ≡ piece_in (pieces_part y) n)
     (sym (ap see_part is ∙ block-seen site any head inner))
     (λ r o. two-front n site _ (pieces_query (see_query head)) (pieces_body (see_body inner)) (sites_query (see_query head)) (sites_body (see_body inner))
     (tied-body (see_body inner)) (begins-body (see_body inner)) r o (omega arith))
     h other
 
-pub block-body : (n : ℕ) (x : Part) (site : ℕ) (any : Bool) (head : Query) (inner : Body) → x ≡ part.Block site any head inner → Rise (sites_part (see_part x))
+pub block-body : (n : ℕ) (x : Part) (site : ℕ) (any : Bool) (head : Query) (inner : Body) → x ≡ part.Block site any head inner → IsIncreasing (sites_part (see_part x))
     → (first_site (sites_part (see_part x)) ≡ n → ⊥) → (out-Body inner).site ≤ n → Inside n (pieces_body (see_body inner)) x
 block-body n x site any head inner is h other from =
     let e = body-first n inner in
-    subst (λ (y : sx.Part). Rise (sites_part y) → (first_site (sites_part y) ≡ n → ⊥) → piece_in (pieces_body (see_body inner)) n ≡ piece_in (pieces_part y) n)
+    subst (λ (y : sx.Part). IsIncreasing (sites_part y) → (first_site (sites_part y) ≡ n → ⊥) → piece_in (pieces_body (see_body inner)) n ≡ piece_in (pieces_part y) n)
     (sym (ap see_part is ∙ block-seen site any head inner))
     (λ r o. two-back n site _ (pieces_query (see_query head)) (pieces_body (see_body inner)) (sites_query (see_query head)) (sites_body (see_body inner))
     (tied-query (see_query head)) (begins-body (see_body inner)) r o (omega arith))
@@ -172,26 +172,26 @@ block-body n x site any head inner is h other from =
 
 -- ---- a `when` block
 
-pub when-rise : (x : Part) (site : ℕ) (cond : Conds) (inner : Body) → x ≡ part.When site cond inner → Rise (sites_part (see_part x)) → Rise (sites_conds (see_conds cond)) × Rise (sites_body (see_body inner))
+pub when-rise : (x : Part) (site : ℕ) (cond : Conds) (inner : Body) → x ≡ part.When site cond inner → IsIncreasing (sites_part (see_part x)) → IsIncreasing (sites_conds (see_conds cond)) × IsIncreasing (sites_body (see_body inner))
 when-rise x site cond inner is h =
-    let r = subst (λ (y : sx.Part). Rise (sites_part y)) (ap see_part is ∙ when-seen site cond inner) h in
+    let r = subst (λ (y : sx.Part). IsIncreasing (sites_part y)) (ap see_part is ∙ when-seen site cond inner) h in
     (rise-front site (sites_conds (see_conds cond)) (sites_body (see_body inner)) r, rise-back site (sites_conds (see_conds cond)) (sites_body (see_body inner)) r)
 
-pub when-conds : (n : ℕ) (x : Part) (site : ℕ) (cond : Conds) (inner : Body) → x ≡ part.When site cond inner → Rise (sites_part (see_part x))
+pub when-conds : (n : ℕ) (x : Part) (site : ℕ) (cond : Conds) (inner : Body) → x ≡ part.When site cond inner → IsIncreasing (sites_part (see_part x))
     → (first_site (sites_part (see_part x)) ≡ n → ⊥) → n < (out-Body inner).site → Inside n (pieces_conds (see_conds cond)) x
 when-conds n x site cond inner is h other before =
     let e = body-first n inner in
-    subst (λ (y : sx.Part). Rise (sites_part y) → (first_site (sites_part y) ≡ n → ⊥) → piece_in (pieces_conds (see_conds cond)) n ≡ piece_in (pieces_part y) n)
+    subst (λ (y : sx.Part). IsIncreasing (sites_part y) → (first_site (sites_part y) ≡ n → ⊥) → piece_in (pieces_conds (see_conds cond)) n ≡ piece_in (pieces_part y) n)
     (sym (ap see_part is ∙ when-seen site cond inner))
     (λ r o. two-front n site _ (pieces_conds (see_conds cond)) (pieces_body (see_body inner)) (sites_conds (see_conds cond)) (sites_body (see_body inner))
     (tied-body (see_body inner)) (begins-body (see_body inner)) r o (omega arith))
     h other
 
-pub when-body : (n : ℕ) (x : Part) (site : ℕ) (cond : Conds) (inner : Body) → x ≡ part.When site cond inner → Rise (sites_part (see_part x))
+pub when-body : (n : ℕ) (x : Part) (site : ℕ) (cond : Conds) (inner : Body) → x ≡ part.When site cond inner → IsIncreasing (sites_part (see_part x))
     → (first_site (sites_part (see_part x)) ≡ n → ⊥) → (out-Body inner).site ≤ n → Inside n (pieces_body (see_body inner)) x
 when-body n x site cond inner is h other from =
     let e = body-first n inner in
-    subst (λ (y : sx.Part). Rise (sites_part y) → (first_site (sites_part y) ≡ n → ⊥) → piece_in (pieces_body (see_body inner)) n ≡ piece_in (pieces_part y) n)
+    subst (λ (y : sx.Part). IsIncreasing (sites_part y) → (first_site (sites_part y) ≡ n → ⊥) → piece_in (pieces_body (see_body inner)) n ≡ piece_in (pieces_part y) n)
     (sym (ap see_part is ∙ when-seen site cond inner))
     (λ r o. two-back n site _ (pieces_conds (see_conds cond)) (pieces_body (see_body inner)) (sites_conds (see_conds cond)) (sites_body (see_body inner))
     (tied-conds (see_conds cond)) (begins-body (see_body inner)) r o (omega arith))
@@ -199,26 +199,26 @@ when-body n x site cond inner is h other from =
 
 -- ---- a type block
 
-pub kinds-rise : (x : Part) (site : ℕ) (name : List ℕ) (cond : Option Conds) (inner : Body) → x ≡ part.Kinds site name cond inner → Rise (sites_part (see_part x)) → Rise (sites_opt_conds (see_opt_conds cond)) × Rise (sites_body (see_body inner))
+pub kinds-rise : (x : Part) (site : ℕ) (name : List ℕ) (cond : Option Conds) (inner : Body) → x ≡ part.Kinds site name cond inner → IsIncreasing (sites_part (see_part x)) → IsIncreasing (sites_opt_conds (see_opt_conds cond)) × IsIncreasing (sites_body (see_body inner))
 kinds-rise x site name cond inner is h =
-    let r = subst (λ (y : sx.Part). Rise (sites_part y)) (ap see_part is ∙ kinds-seen site name cond inner) h in
+    let r = subst (λ (y : sx.Part). IsIncreasing (sites_part y)) (ap see_part is ∙ kinds-seen site name cond inner) h in
     (rise-front site (sites_opt_conds (see_opt_conds cond)) (sites_body (see_body inner)) r, rise-back site (sites_opt_conds (see_opt_conds cond)) (sites_body (see_body inner)) r)
 
-pub kinds-conds : (n : ℕ) (x : Part) (site : ℕ) (name : List ℕ) (cond : Option Conds) (inner : Body) → x ≡ part.Kinds site name cond inner → Rise (sites_part (see_part x))
+pub kinds-conds : (n : ℕ) (x : Part) (site : ℕ) (name : List ℕ) (cond : Option Conds) (inner : Body) → x ≡ part.Kinds site name cond inner → IsIncreasing (sites_part (see_part x))
     → (first_site (sites_part (see_part x)) ≡ n → ⊥) → n < (out-Body inner).site → Inside n (pieces_opt_conds (see_opt_conds cond)) x
 kinds-conds n x site name cond inner is h other before =
     let e = body-first n inner in
-    subst (λ (y : sx.Part). Rise (sites_part y) → (first_site (sites_part y) ≡ n → ⊥) → piece_in (pieces_opt_conds (see_opt_conds cond)) n ≡ piece_in (pieces_part y) n)
+    subst (λ (y : sx.Part). IsIncreasing (sites_part y) → (first_site (sites_part y) ≡ n → ⊥) → piece_in (pieces_opt_conds (see_opt_conds cond)) n ≡ piece_in (pieces_part y) n)
     (sym (ap see_part is ∙ kinds-seen site name cond inner))
     (λ r o. two-front n site _ (pieces_opt_conds (see_opt_conds cond)) (pieces_body (see_body inner)) (sites_opt_conds (see_opt_conds cond)) (sites_body (see_body inner))
     (tied-body (see_body inner)) (begins-body (see_body inner)) r o (omega arith))
     h other
 
-pub kinds-body : (n : ℕ) (x : Part) (site : ℕ) (name : List ℕ) (cond : Option Conds) (inner : Body) → x ≡ part.Kinds site name cond inner → Rise (sites_part (see_part x))
+pub kinds-body : (n : ℕ) (x : Part) (site : ℕ) (name : List ℕ) (cond : Option Conds) (inner : Body) → x ≡ part.Kinds site name cond inner → IsIncreasing (sites_part (see_part x))
     → (first_site (sites_part (see_part x)) ≡ n → ⊥) → (out-Body inner).site ≤ n → Inside n (pieces_body (see_body inner)) x
 kinds-body n x site name cond inner is h other from =
     let e = body-first n inner in
-    subst (λ (y : sx.Part). Rise (sites_part y) → (first_site (sites_part y) ≡ n → ⊥) → piece_in (pieces_body (see_body inner)) n ≡ piece_in (pieces_part y) n)
+    subst (λ (y : sx.Part). IsIncreasing (sites_part y) → (first_site (sites_part y) ≡ n → ⊥) → piece_in (pieces_body (see_body inner)) n ≡ piece_in (pieces_part y) n)
     (sym (ap see_part is ∙ kinds-seen site name cond inner))
     (λ r o. two-back n site _ (pieces_opt_conds (see_opt_conds cond)) (pieces_body (see_body inner)) (sites_opt_conds (see_opt_conds cond)) (sites_body (see_body inner))
     (tied-opt_conds (see_opt_conds cond)) (begins-body (see_body inner)) r o (omega arith))
@@ -236,26 +236,26 @@ test-seen site any left op negated right message e some =
     test_seen site any left op negated message e = search (rules, the_lemmas)
 
 pub test-rise : (x : Part) (site : ℕ) (any : Bool) (left : Query) (op : Op) (negated : Bool) (right : Option Expr) (message : Option (List ℕ)) (e : Expr)
-    → x ≡ part.Test site any left op negated right message → right ≡ Some e → Rise (sites_part (see_part x)) → Rise (sites_query (see_query left)) × Rise (sites_expr (see_expr e))
+    → x ≡ part.Test site any left op negated right message → right ≡ Some e → IsIncreasing (sites_part (see_part x)) → IsIncreasing (sites_query (see_query left)) × IsIncreasing (sites_expr (see_expr e))
 test-rise x site any left op negated right message e is some h =
-    let r = subst (λ (y : sx.Part). Rise (sites_part y)) (ap see_part is ∙ test-seen site any left op negated right message e some) h in
+    let r = subst (λ (y : sx.Part). IsIncreasing (sites_part y)) (ap see_part is ∙ test-seen site any left op negated right message e some) h in
     (rise-front site (sites_query (see_query left)) (sites_expr (see_expr e)) r, rise-back site (sites_query (see_query left)) (sites_expr (see_expr e)) r)
 
 pub test-left : (n : ℕ) (x : Part) (site : ℕ) (any : Bool) (left : Query) (op : Op) (negated : Bool) (right : Option Expr) (message : Option (List ℕ)) (e : Expr)
-    → x ≡ part.Test site any left op negated right message → right ≡ Some e → Rise (sites_part (see_part x))
+    → x ≡ part.Test site any left op negated right message → right ≡ Some e → IsIncreasing (sites_part (see_part x))
     → (first_site (sites_part (see_part x)) ≡ n → ⊥) → n < first_site (sites_expr (see_expr e)) → Inside n (pieces_query (see_query left)) x
 test-left n x site any left op negated right message e is some h other before =
-    subst (λ (y : sx.Part). Rise (sites_part y) → (first_site (sites_part y) ≡ n → ⊥) → piece_in (pieces_query (see_query left)) n ≡ piece_in (pieces_part y) n)
+    subst (λ (y : sx.Part). IsIncreasing (sites_part y) → (first_site (sites_part y) ≡ n → ⊥) → piece_in (pieces_query (see_query left)) n ≡ piece_in (pieces_part y) n)
     (sym (ap see_part is ∙ test-seen site any left op negated right message e some))
     (λ r o. two-front n site _ (pieces_query (see_query left)) (pieces_expr (see_expr e)) (sites_query (see_query left)) (sites_expr (see_expr e))
     (tied-expr (see_expr e)) (begins-expr (see_expr e)) r o before)
     h other
 
 pub test-right : (n : ℕ) (x : Part) (site : ℕ) (any : Bool) (left : Query) (op : Op) (negated : Bool) (right : Option Expr) (message : Option (List ℕ)) (e : Expr)
-    → x ≡ part.Test site any left op negated right message → right ≡ Some e → Rise (sites_part (see_part x))
+    → x ≡ part.Test site any left op negated right message → right ≡ Some e → IsIncreasing (sites_part (see_part x))
     → (first_site (sites_part (see_part x)) ≡ n → ⊥) → first_site (sites_expr (see_expr e)) ≤ n → Inside n (pieces_expr (see_expr e)) x
 test-right n x site any left op negated right message e is some h other from =
-    subst (λ (y : sx.Part). Rise (sites_part y) → (first_site (sites_part y) ≡ n → ⊥) → piece_in (pieces_expr (see_expr e)) n ≡ piece_in (pieces_part y) n)
+    subst (λ (y : sx.Part). IsIncreasing (sites_part y) → (first_site (sites_part y) ≡ n → ⊥) → piece_in (pieces_expr (see_expr e)) n ≡ piece_in (pieces_part y) n)
     (sym (ap see_part is ∙ test-seen site any left op negated right message e some))
     (λ r o. two-back n site _ (pieces_query (see_query left)) (pieces_expr (see_expr e)) (sites_query (see_query left)) (sites_expr (see_expr e))
     (tied-query (see_query left)) (begins-expr (see_expr e)) r o from)
@@ -268,26 +268,26 @@ pub call-seen : (site : ℕ) (negated : Bool) (name : List ℕ) (args : Vec Expr
 call-seen site negated name args message = search (rules, the_lemmas)
 
 pub call-rise : (x : Part) (site : ℕ) (negated : Bool) (name : List ℕ) (args : Vec Expr Global) (message : Option (List ℕ)) (es : List Expr)
-    → x ≡ part.Call site negated name args message → es ≡ args.items → Rise (sites_part (see_part x)) → Rise (sites_exprs (expr_list (map see_expr es)))
+    → x ≡ part.Call site negated name args message → es ≡ args.items → IsIncreasing (sites_part (see_part x)) → IsIncreasing (sites_exprs (expr_list (map see_expr es)))
 call-rise x site negated name args message es is are h =
-    subst (λ (xs : List Expr). Rise (sites_exprs (expr_list (map see_expr xs)))) (sym are)
-    (rise-behind site _ (subst (λ (y : sx.Part). Rise (sites_part y)) (ap see_part is ∙ call-seen site negated name args message) h))
+    subst (λ (xs : List Expr). IsIncreasing (sites_exprs (expr_list (map see_expr xs)))) (sym are)
+    (rise-behind site _ (subst (λ (y : sx.Part). IsIncreasing (sites_part y)) (ap see_part is ∙ call-seen site negated name args message) h))
 
 pub function-seen : (site : ℕ) (name : List ℕ) (args : Vec Expr Global) → see_expr (expr.Function site name args) ≡ sx.function site name (expr_list (map see_expr args.items))
 function-seen site name args = search (rules, the_lemmas)
 
 pub function-rise : (x : Expr) (site : ℕ) (name : List ℕ) (args : Vec Expr Global) (es : List Expr)
-    → x ≡ expr.Function site name args → es ≡ args.items → Rise (sites_expr (see_expr x)) → Rise (sites_exprs (expr_list (map see_expr es)))
+    → x ≡ expr.Function site name args → es ≡ args.items → IsIncreasing (sites_expr (see_expr x)) → IsIncreasing (sites_exprs (expr_list (map see_expr es)))
 function-rise x site name args es is are h =
-    subst (λ (xs : List Expr). Rise (sites_exprs (expr_list (map see_expr xs)))) (sym are)
-    (rise-behind site _ (subst (λ (y : sx.Expr). Rise (sites_expr y)) (ap see_expr is ∙ function-seen site name args) h))
+    subst (λ (xs : List Expr). IsIncreasing (sites_exprs (expr_list (map see_expr xs)))) (sym are)
+    (rise-behind site _ (subst (λ (y : sx.Expr). IsIncreasing (sites_expr y)) (ap see_expr is ∙ function-seen site name args) h))
 
 -- ---- a query
 
-pub query-rise : (q : Query) (ss : List Step) → ss ≡ (out-Query q).steps.items → Rise (sites_query (see_query q)) → Rise (sites_steps (step_list (map see_step ss)))
+pub query-rise : (q : Query) (ss : List Step) → ss ≡ (out-Query q).steps.items → IsIncreasing (sites_query (see_query q)) → IsIncreasing (sites_steps (step_list (map see_step ss)))
 query-rise q ss are h =
-    subst (λ (xs : List Step). Rise (sites_steps (step_list (map see_step xs)))) (sym are)
-    (rise-behind (out-Query q).site _ (subst (λ (x : sx.Query). Rise (sites_query x)) (query-seen q) h))
+    subst (λ (xs : List Step). IsIncreasing (sites_steps (step_list (map see_step xs)))) (sym are)
+    (rise-behind (out-Query q).site _ (subst (λ (x : sx.Query). IsIncreasing (sites_query x)) (query-seen q) h))
 
 query_inside : (n : ℕ) (q : Query) → ((out-Query q).site ≡ n → ⊥)
     → piece_in (pieces_steps (see_query q) 0 (step_list (map see_step (out-Query q).steps.items))) n ≡ piece_in (pieces_query (see_query q)) n
@@ -342,5 +342,5 @@ step-inner n i q s other =
     sym (ap (λ (x : sx.Step). piece_in (pieces_step q i x) n) (step-seen s)
     ∙ ap (λ (ps : List Sited). piece_in ps n) ((form-shaped s.form).pieces q i s.site) ∙ elsewhere n s.site (OfStep q i) _ other)
 
-pub step-rise : (s : Step) → Rise (sites_step (see_step s)) → Rise (sites_form (see_form s.form))
-step-rise s h = rise-behind s.site _ (subst Rise (ap (λ (x : sx.Step). sites_step x) (step-seen s) ∙ (form-shaped s.form).sites s.site) h)
+pub step-rise : (s : Step) → IsIncreasing (sites_step (see_step s)) → IsIncreasing (sites_form (see_form s.form))
+step-rise s h = rise-behind s.site _ (subst IsIncreasing (ap (λ (x : sx.Step). sites_step x) (step-seen s) ∙ (form-shaped s.form).sites s.site) h)

@@ -21,8 +21,8 @@ pub data Reaches (g : Graph) : ℕ → ℕ → Type 0 where
   through : {a b c : ℕ} → Names g a c → Reaches g c b → Reaches g a b
 
 -- some node reaches itself
-abbrev pub HasCircle : Graph → Type 0
-HasCircle g = (a : ℕ) × Reaches g a a
+abbrev pub HasCycle : Graph → Type 0
+HasCycle g = (a : ℕ) × Reaches g a a
 
 -- a list has each node of a graph just once, and each stands behind all that it names
 pub record IsOrder (g : Graph) (order : List ℕ) : Type 0 where
@@ -37,15 +37,15 @@ pub record IsReverse (g back : Graph) : Type 0 where
   pub turned : (a b : ℕ) → Names back b a ↔ Names g a b
 
 -- the least node from low up to high, without it, that reaches itself
-pub record IsFirstOnCircle (g : Graph) (low high a : ℕ) : Type 0 where
+pub record IsFirstOnCycle (g : Graph) (low high a : ℕ) : Type 0 where
   pub from_low : low ≤ a
   pub below_high : a < high
-  pub circle : Reaches g a a
+  pub cycle : Reaches g a a
   pub least : (b : ℕ) → low ≤ b → b < a → Reaches g b b → ⊥
 
 -- no node from low up to high, without it, reaches itself
-abbrev pub NoneOnCircle : Graph → ℕ → ℕ → Type 0
-NoneOnCircle g low high = (a : ℕ) → low ≤ a → a < high → Reaches g a a → ⊥
+abbrev pub NoneOnCycle : Graph → ℕ → ℕ → Type 0
+NoneOnCycle g low high = (a : ℕ) → low ≤ a → a < high → Reaches g a a → ⊥
 
 -- the index of the first of some numbers of which something holds
 pub record IsFirstOf (P : ℕ → Type 0) (xs : List ℕ) (i : ℕ) : Type 0 where

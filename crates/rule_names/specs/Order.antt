@@ -1,7 +1,10 @@
--- The rules that have a verdict, in the order in which they are judged.
-use Rattle.std.specs.Prelude.{ℕ, List, [], ◌∷◌, ◌++◌}
+-- The rules that have a verdict, and the orders in which they can be judged one after another.
+use Rattle.std.specs.Prelude.{ℕ, ◌≡◌, ◌==◌, ◌-◌, List, [], ◌∷◌, ◌++◌, length, take, drop}
+use Rattle.std.specs.List.{AllPairs, count_by}
 use Rattle.guard_syntax.specs.Named.{Named}
 use Rattle.guard_syntax.specs.Syntax.{Rule, File, Disjs, no_disjs, more_disjs}
+use Rattle.rule_names.specs.Graphs.{Reaches}
+use Rattle.rule_names.specs.ReferenceGraph.{graph_of, rule_node}
 
 -- the site of a rule without parameters
 abbrev pub site_if_plain : ℕ → List Named → List ℕ
@@ -18,5 +21,20 @@ abbrev pub default_site : Disjs → List ℕ
 default_site no_disjs = []
 default_site (more_disjs d ds) = 0 ∷ []
 
-abbrev pub order_of : File → List ℕ
-order_of f = plain_sites f.rules ++ default_site f.loose
+-- a rule reaches another, by their sites: by references and calls that stand anywhere in its conditions or its body, or in what a variable means that is used there
+abbrev pub RuleReaches : File → ℕ → ℕ → Type 0
+RuleReaches f a b = Reaches (graph_of f) (rule_node f.rules (length f.places) a) (rule_node f.rules (length f.places) b)
+
+-- the rules without parameters stand in a list as in the file, each once, but none in front of one that it reaches
+pub record AreRulesInOrder (f : File) (sites : List ℕ) : Type 0 where
+  pub each : (site : ℕ) → count_by (λ s. s == site) sites ≡ count_by (λ s. s == site) (plain_sites f.rules)
+  pub behind : AllPairs (λ a b. RuleReaches f a b → ⊥) sites
+
+-- how many stand in front of `default`
+abbrev pub rules_before : File → List ℕ → ℕ
+rules_before f order = length order - length (default_site f.loose)
+
+-- the rules in such an order, and `default` last
+pub record IsOrderOf (f : File) (order : List ℕ) : Type 0 where
+  pub rules : AreRulesInOrder f (take (rules_before f order) order)
+  pub last : drop (rules_before f order) order ≡ default_site f.loose

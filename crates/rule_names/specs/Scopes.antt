@@ -2,14 +2,14 @@
 use Rattle.std.specs.Prelude.{ℕ, suc, List, [], ◌∷◌, ◌++◌, Option, Some, None, map, find, if◌then◌else◌, nat_lt}
 use Rattle.std.specs.Str.{bytes_eq}
 use Rattle.guard_syntax.specs.Named.{Named}
-use Rattle.rule_names.specs.declared.giver.Giver.{Giver}
-use Rattle.rule_names.specs.declared.giver.Giver.TheVariants.{Let as LetGiver, Capture, Param}
+use Rattle.rule_names.specs.declared.binder.Binder.{Binder}
+use Rattle.rule_names.specs.declared.binder.Binder.TheVariants.{Let as LetBinder, Capture, Param}
 use Rattle.guard_syntax.specs.Syntax.{Body, Lets, Let, Conds, OptConds, Disjs, Disj, Parts, Part, Query, Steps, Step, Expr, OptExpr, Exprs, Rule, File, body, no_lets, more_lets, assign, conds, no_conds, with_conds, no_disjs, more_disjs, disj, no_parts, more_parts, block, guarded, kinds, test, refer, call, query, no_steps, more_steps, this, var, key, index, every, items, splice, filter, keys, literal, function, asked, found, no_expr, with_expr, no_exprs, more_exprs}
 
 -- a name of a scope, and what gives it: the let of a site, the capture of the step of a site, or a parameter
 pub record Given : Type 0 where
   pub name : Named
-  pub by : Giver
+  pub by : Binder
 
 abbrev pub names_of : List Given → List Named
 names_of given = map (λ (g : Given). g.name) given
@@ -46,7 +46,7 @@ abbrev mutual
   given_lets (more_lets l ls) = given_let l ++ given_lets ls
 
   pub given_let : Let → List Given
-  given_let (assign n name e) = record { name = name; by = LetGiver n } ∷ given_expr e
+  given_let (assign n name e) = record { name = name; by = LetBinder n } ∷ given_expr e
 
   pub given_conds : Conds → List Given
   given_conds (conds n ds) = given_disjs ds

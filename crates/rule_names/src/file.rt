@@ -1,10 +1,13 @@
 //! Rule files whose names are as they must be.
-ghost use Rattle.std.specs.Prelude.{◌≡◌, ◌<◌, ℕ, List, length, Some, option_map, slice_get};
+ghost use Rattle.std.specs.Prelude.{◌≡◌, ◌<◌, ◌≤◌, ℕ, List, length, Some, option_map, slice_get};
+ghost use Rattle.guard_syntax.specs.Queries.{QueriesBegin};
 ghost use Rattle.guard_syntax.specs.Seen.{see_file};
-ghost use Rattle.rule_names.specs.Homes.{home_of, homes_of};
-ghost use Rattle.rule_names.specs.Links.{bind_of, links_of, target_of};
-ghost use Rattle.rule_names.specs.Names.{WellNamed};
-ghost use Rattle.rule_names.specs.Order.{order_of};
+ghost use Rattle.rule_names.specs.Begun.{QueriesBegin-prop};
+ghost use Rattle.rule_names.specs.Depths.{depth_at, depth_limit, depth_piece, depths_of};
+ghost use Rattle.rule_names.specs.EnclosingScopes.{home_of, homes_of};
+ghost use Rattle.rule_names.specs.Resolution.{bind_of, resolution_of, target_of};
+ghost use Rattle.rule_names.specs.WellNamed.{WellNamed};
+ghost use Rattle.rule_names.specs.Order.{IsOrderOf};
 ghost use Rattle.rule_names.specs.Pieces.{piece_at, AreInOrder};
 ghost use Rattle.rule_names.specs.Seen.{see_piece};
 
@@ -13,18 +16,23 @@ use crate::find::in_file;
 use crate::piece::Piece;
 use guard_syntax::RawFile;
 
-/// A rule file whose names are as they must be, with its parts by their sites and the order of its rules.
+/// A rule file whose names are as they must be, with its parts by their sites, how deep they are, and an order in which
+/// its rules can be judged.
 #[derive(Drop)]
 pub struct RuleFile {
     pub raw: RawFile,
     pub homes: Vec<u32>,
     pub links: Vec<Option<Link>>,
+    /// The Depth of each rule, query, step and expression by its site; 0 at any other site.
+    pub depths: Vec<u8>,
     pub judged: Vec<u32>,
     pub ghost sites: { AreInOrder (see_file raw) },
+    pub ghost begins: { QueriesBegin (see_file raw) } by { QueriesBegin-prop (see_file raw) },
     pub ghost named: { WellNamed (see_file raw) },
     pub ghost homed: { homes.items ≡ homes_of (see_file raw) },
-    pub ghost linked: { links.items ≡ links_of (see_file raw) },
-    pub ghost ordered: { judged.items ≡ order_of (see_file raw) },
+    pub ghost linked: { links.items ≡ resolution_of (see_file raw) },
+    pub ghost measured: { depths.items ≡ depths_of (see_file raw) },
+    pub ghost ordered: { IsOrderOf (see_file raw) judged.items },
 }
 
 impl RuleFile {
@@ -90,10 +98,21 @@ impl RuleFile {
         }
     }
 
-    /// The sites of the rules without parameters, in the order in which they are judged, and then 0 if parts stand
+    /// The Depth of the rule, query, step or expression of a site: how deep its meaning leads, through what names mean. A
+    /// step has that of its query up to it; any other part has 0.
+    pub fn depth(&self, site: u32) -> u8
+        requires { site < length (see_file self.now.raw).places }
+        ensures table { result ≡ depth_at (see_file self.now.raw) (depths_of (see_file self.now.raw)) site }
+        ensures part { result ≡ depth_piece (see_file self.now.raw) (depths_of (see_file self.now.raw)) (piece_at (see_file self.now.raw) site) }
+        ensures most { result ≤ depth_limit }
+    {
+        self.depths.as_slice()[site as usize]
+    }
+
+    /// The sites of the rules without parameters, none in front of a rule that it reaches, and then 0 if parts stand
     /// outside rules.
     pub fn order(&self) -> &[u32]
-        ensures { result.now ≡ order_of (see_file self.now.raw) }
+        ensures { IsOrderOf (see_file self.now.raw) result.now }
     {
         self.judged.as_slice()
     }

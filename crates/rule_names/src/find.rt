@@ -1,11 +1,11 @@
-//! A part by its site. The way goes from the file down to the part, at each list into the one sibling that begins last
+//! A part by its site. The edge goes from the file down to the part, at each list into the one sibling that begins last
 //! at or before the site: a part's sites begin with its own, and the next sibling's are all above them.
 ghost use Rattle.std.specs.Prelude.{◌≡◌, ◌++◌, ℕ, List, option_map, map};
 ghost use Rattle.guard_syntax.specs.Seen.{see_file, see_let, see_rule, see_body, see_conds, see_opt_conds, see_disj, see_part, see_query, see_form, see_expr, see_opt_expr, let_list, disj_list, part_list, expr_list};
 ghost use Rattle.guard_syntax.specs.Sites.{sites_file, sites_lets, sites_rule, sites_rules, sites_body, sites_conds, sites_opt_conds, sites_disjs, sites_part, sites_parts, sites_query, sites_expr, sites_exprs, sites_step, merge};
 ghost use Rattle.rule_names.specs.Pieces.{piece_in, pieces_file, pieces_lets, pieces_rule, pieces_rules, pieces_body, pieces_conds, pieces_opt_conds, pieces_disjs, pieces_part, pieces_parts, pieces_query, pieces_expr, pieces_exprs};
 ghost use Rattle.rule_names.specs.Forms.{sites_form, pieces_form};
-ghost use Rattle.rule_names.specs.Rising.{Rise};
+ghost use Rattle.rule_names.specs.IncreasingSites.{IsIncreasing};
 ghost use Rattle.rule_names.specs.Seen.{see_piece};
 
 use crate::piece::Piece;
@@ -16,7 +16,7 @@ use std::cmp::max;
 /// The part of a site in a body.
 #[cycle(find)]
 fn in_body<'f>(body: &'f Body, site: u32) -> Option<Piece<'f>>
-    requires { Rise (sites_body (see_body body.now)) }
+    requires { IsIncreasing (sites_body (see_body body.now)) }
     ensures { option_map see_piece result ≡ piece_in (pieces_body (see_body body.entry.now)) site }
 {
     if body.site == site {
@@ -38,7 +38,7 @@ fn in_body<'f>(body: &'f Body, site: u32) -> Option<Piece<'f>>
 /// The part of a site in lets.
 #[cycle(find)]
 fn in_lets<'f>(lets: &'f [Let], site: u32) -> Option<Piece<'f>>
-    requires { Rise (sites_lets (let_list (map see_let lets.now))) }
+    requires { IsIncreasing (sites_lets (let_list (map see_let lets.now))) }
     ensures { option_map see_piece result ≡ piece_in (pieces_lets (let_list (map see_let lets.entry.now))) site }
 {
     match last_to(lets, site) {
@@ -57,7 +57,7 @@ fn in_lets<'f>(lets: &'f [Let], site: u32) -> Option<Piece<'f>>
 /// The part of a site in conditions.
 #[cycle(find)]
 fn in_conds<'f>(conds: &'f Conds, site: u32) -> Option<Piece<'f>>
-    requires { Rise (sites_conds (see_conds conds.now)) }
+    requires { IsIncreasing (sites_conds (see_conds conds.now)) }
     ensures { option_map see_piece result ≡ piece_in (pieces_conds (see_conds conds.entry.now)) site }
 {
     if conds.site == site {
@@ -70,7 +70,7 @@ fn in_conds<'f>(conds: &'f Conds, site: u32) -> Option<Piece<'f>>
 /// The part of a site in disjunctions.
 #[cycle(find)]
 fn in_disjs<'f>(disjs: &'f [Disj], site: u32) -> Option<Piece<'f>>
-    requires { Rise (sites_disjs (disj_list (map see_disj disjs.now))) }
+    requires { IsIncreasing (sites_disjs (disj_list (map see_disj disjs.now))) }
     ensures { option_map see_piece result ≡ piece_in (pieces_disjs (disj_list (map see_disj disjs.entry.now))) site }
 {
     match last_to(disjs, site) {
@@ -89,7 +89,7 @@ fn in_disjs<'f>(disjs: &'f [Disj], site: u32) -> Option<Piece<'f>>
 /// The part of a site in parts that are joined by `or`.
 #[cycle(find)]
 fn in_parts<'f>(parts: &'f [Part], site: u32) -> Option<Piece<'f>>
-    requires { Rise (sites_parts (part_list (map see_part parts.now))) }
+    requires { IsIncreasing (sites_parts (part_list (map see_part parts.now))) }
     ensures { option_map see_piece result ≡ piece_in (pieces_parts (part_list (map see_part parts.entry.now))) site }
 {
     match last_to(parts, site) {
@@ -100,7 +100,7 @@ fn in_parts<'f>(parts: &'f [Part], site: u32) -> Option<Piece<'f>>
 
 #[cycle(find)]
 fn in_part<'f>(part: &'f Part, site: u32) -> Option<Piece<'f>>
-    requires { Rise (sites_part (see_part part.now)) }
+    requires { IsIncreasing (sites_part (see_part part.now)) }
     ensures { option_map see_piece result ≡ piece_in (pieces_part (see_part part.entry.now)) site }
 {
     if part.site() == site {
@@ -148,7 +148,7 @@ fn in_part<'f>(part: &'f Part, site: u32) -> Option<Piece<'f>>
 /// The part of a site in a query.
 #[cycle(find)]
 fn in_query<'f>(query: &'f Query, site: u32) -> Option<Piece<'f>>
-    requires { Rise (sites_query (see_query query.now)) }
+    requires { IsIncreasing (sites_query (see_query query.now)) }
     ensures { option_map see_piece result ≡ piece_in (pieces_query (see_query query.entry.now)) site }
 {
     if query.site == site {
@@ -170,7 +170,7 @@ fn in_query<'f>(query: &'f Query, site: u32) -> Option<Piece<'f>>
 /// The part of a site in what a step does.
 #[cycle(find)]
 fn in_form<'f>(form: &'f StepForm, site: u32) -> Option<Piece<'f>>
-    requires { Rise (sites_form (see_form form.now)) }
+    requires { IsIncreasing (sites_form (see_form form.now)) }
     ensures { option_map see_piece result ≡ piece_in (pieces_form (see_form form.entry.now)) site }
 {
     match form {
@@ -189,7 +189,7 @@ fn in_form<'f>(form: &'f StepForm, site: u32) -> Option<Piece<'f>>
 /// The part of a site in an expression.
 #[cycle(find)]
 fn in_expr<'f>(expr: &'f Expr, site: u32) -> Option<Piece<'f>>
-    requires { Rise (sites_expr (see_expr expr.now)) }
+    requires { IsIncreasing (sites_expr (see_expr expr.now)) }
     ensures { option_map see_piece result ≡ piece_in (pieces_expr (see_expr expr.entry.now)) site }
 {
     match expr {
@@ -225,7 +225,7 @@ fn in_expr<'f>(expr: &'f Expr, site: u32) -> Option<Piece<'f>>
 /// The part of a site in arguments.
 #[cycle(find)]
 fn in_exprs<'f>(exprs: &'f [Expr], site: u32) -> Option<Piece<'f>>
-    requires { Rise (sites_exprs (expr_list (map see_expr exprs.now))) }
+    requires { IsIncreasing (sites_exprs (expr_list (map see_expr exprs.now))) }
     ensures { option_map see_piece result ≡ piece_in (pieces_exprs (expr_list (map see_expr exprs.entry.now))) site }
 {
     match last_to(exprs, site) {
@@ -236,7 +236,7 @@ fn in_exprs<'f>(exprs: &'f [Expr], site: u32) -> Option<Piece<'f>>
 
 /// The part of a site in a rule.
 fn in_rule<'f>(rule: &'f Rule, site: u32) -> Option<Piece<'f>>
-    requires { Rise (sites_rule (see_rule rule.now)) }
+    requires { IsIncreasing (sites_rule (see_rule rule.now)) }
     ensures { option_map see_piece result ≡ piece_in (pieces_rule (see_rule rule.entry.now)) site }
 {
     if rule.site == site {
@@ -253,7 +253,7 @@ fn in_rule<'f>(rule: &'f Rule, site: u32) -> Option<Piece<'f>>
 
 /// The part of a site in rules.
 fn in_rules<'f>(rules: &'f [Rule], site: u32) -> Option<Piece<'f>>
-    requires { Rise (sites_rules (map see_rule rules.now)) }
+    requires { IsIncreasing (sites_rules (map see_rule rules.now)) }
     ensures { option_map see_piece result ≡ piece_in (pieces_rules (map see_rule rules.entry.now)) site }
 {
     match last_to(rules, site) {
@@ -264,7 +264,7 @@ fn in_rules<'f>(rules: &'f [Rule], site: u32) -> Option<Piece<'f>>
 
 /// The part of a site in the rules of a file and the parts outside them.
 fn in_items<'f>(file: &'f RawFile, site: u32) -> Option<Piece<'f>>
-    requires { Rise (merge (sites_rules (see_file file.now).rules) (sites_disjs (see_file file.now).loose)) }
+    requires { IsIncreasing (merge (sites_rules (see_file file.now).rules) (sites_disjs (see_file file.now).loose)) }
     ensures { option_map see_piece result ≡ piece_in (pieces_rules (see_file file.entry.now).rules ++ pieces_disjs (see_file file.entry.now).loose) site }
 {
     if last_site(&file.rules, site) > last_site(&file.loose, site) {
@@ -282,7 +282,7 @@ fn in_items<'f>(file: &'f RawFile, site: u32) -> Option<Piece<'f>>
 
 /// The part of a site in a file.
 pub fn in_file<'f>(file: &'f RawFile, site: u32) -> Option<Piece<'f>>
-    requires { Rise (sites_file (see_file file.now)) }
+    requires { IsIncreasing (sites_file (see_file file.now)) }
     ensures { option_map see_piece result ≡ piece_in (pieces_file (see_file file.entry.now)) site }
 {
     if site == 0 {

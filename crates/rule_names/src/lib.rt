@@ -6,17 +6,17 @@
 #![tactic(auto)]
 
 pub mod bind;
+pub mod binder;
 pub mod file;
 pub mod find;
-pub mod giver;
 pub mod laws;
 pub mod name_kind;
 pub mod piece;
 pub mod siblings;
 
 pub use bind::{Bind, Link};
+pub use binder::Binder;
 pub use file::RuleFile;
-pub use giver::Giver;
 pub use laws::settled_depths;
 pub use name_kind::NameKind;
 pub use piece::Piece;

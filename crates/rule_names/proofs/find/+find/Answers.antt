@@ -4,7 +4,7 @@ use Rattle.guard_syntax.specs.Sites.{sites_opt_conds}
 use Rattle.guard_syntax.specs.declared.syntax.Conds.{Conds, the_lemmas}
 use Rattle.guard_syntax.specs.declared.syntax.Step.{Step}
 use Rattle.rule_names.specs.Pieces.{piece_in, pieces_opt_conds}
-use Rattle.rule_names.specs.Rising.{Rise}
+use Rattle.rule_names.specs.IncreasingSites.{IsIncreasing}
 use Rattle.rule_names.proofs.Lists.{lets-sorted, lets-rise, lets-chosen, lets-none, disjs-sorted, disjs-rise, disjs-chosen, disjs-none, parts-sorted, parts-rise, parts-chosen, parts-none, exprs-sorted, exprs-rise, exprs-chosen, exprs-none, steps-sorted, steps-rise, steps-chosen, steps-none}
 use Rattle.rule_names.proofs.Shapes.{let-here, let-inner, let-rise, disj-here, disj-inner, disj-rise, conds-rise, body-lets-rise, body-parts-rise, body-in-lets, body-not-lets, body-in-parts, body-not-parts, block-rise, block-head, block-body, when-rise, when-conds, when-body, kinds-rise, kinds-conds, kinds-body, test-rise, test-left, test-right, call-rise, function-rise, query-rise, query-inner, step-here, step-inner, step-rise}
 use Rattle.rule_names.proofs.find.+find.Goals as goal
@@ -106,7 +106,7 @@ pub in_part-returns-then-body-site-3 : goal.in_part-returns-then-body-site-3
 in_part-returns-then-body-site-3 t c = c.in_body-then-body-site-3.ensures ∙ kinds-body c.args.site c.args.part.now c.in-Kinds.site c.in-Kinds.name c.in-Kinds.cond c.in-Kinds.body c.in-Kinds.is c.requires (λ e. c.if-site.false (c.site.ensures ∙ e)) c.if-body-site-3.true
 
 pub in_part-in_conds-requires-in-Some : goal.in_part-in_conds-requires-in-Some
-in_part-in_conds-requires-in-Some t c = (search (rules, the_lemmas), subst (λ (o : Option Conds). Rise (sites_opt_conds (see_opt_conds o))) c.in-Some.is (kinds-rise c.args.part.now c.in-Kinds.site c.in-Kinds.name c.in-Kinds.cond c.in-Kinds.body c.in-Kinds.is c.requires).0)
+in_part-in_conds-requires-in-Some t c = (search (rules, the_lemmas), subst (λ (o : Option Conds). IsIncreasing (sites_opt_conds (see_opt_conds o))) c.in-Some.is (kinds-rise c.args.part.now c.in-Kinds.site c.in-Kinds.name c.in-Kinds.cond c.in-Kinds.body c.in-Kinds.is c.requires).0)
 
 pub in_part-in_expr-requires : goal.in_part-in_expr-requires
 in_part-in_expr-requires t c = (search (rules, the_lemmas), (test-rise c.args.part.now c.in-Test.site c.in-Test.any c.in-Test.left c.in-Test.op c.in-Test.not c.in-Test.right c.in-Test.note c.in-Some-right.expr c.in-Test.is c.in-Some-right.is c.requires).1)

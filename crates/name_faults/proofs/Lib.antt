@@ -1,0 +1,4 @@
+pub mod UsesInTurn
+mod Arities
+mod NameSets
+mod SeenNames

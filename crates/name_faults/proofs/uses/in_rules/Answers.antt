@@ -1,0 +1,9 @@
+use Rattle.name_scopes.specs.Seen.{see_best}
+use Rattle.name_scopes.specs.ScopeChains.{visible_in}
+use Rattle.name_faults.specs.RuleArities.{rules_of, places_of}
+use Rattle.name_faults.proofs.UsesInTurn.{rules-next}
+use Rattle.name_faults.proofs.uses.in_rules.Goals as goal
+
+pub loop-rule-preserved : goal.loop-rule-preserved
+loop-rule-preserved c =
+    rules-next (rules_of c.args.walk.now) (places_of c.args.walk.now) (visible_in c.args.scope.now) c.args.rules.now c.loop-rule.rule-index c.rule-item.result _ (see_best c.loop-rule.best) (see_best c.in_ok-best.best) c.loop-rule-test.true c.rule-item.is c.in_ok-best.ensures c.loop-rule.invariant

@@ -1,0 +1,4 @@
+pub mod Arities
+pub mod Filters
+pub mod NameSets
+pub mod RuleArities

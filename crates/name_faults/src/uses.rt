@@ -1,0 +1,297 @@
+//! Names that are used. The walk goes over the syntax once, with the first of the faults until now, and with the scopes
+//! around a part, which lie on the stack.
+ghost use Rattle.std.specs.Prelude.{◌≡◌, [], IfOk, map};
+ghost use Rattle.guard_syntax.specs.Seen.{see_file, see_let, see_rule, see_body, see_conds, see_opt_conds, see_disj, see_part, see_query, see_step, see_expr, see_opt_expr, let_list, disj_list, part_list, expr_list};
+ghost use Rattle.rule_names.specs.Faults.{first_of, first_from};
+ghost use Rattle.name_faults.specs.Filters.{wrong_filter};
+ghost use Rattle.name_scopes.specs.Seen.{see_best};
+ghost use Rattle.rule_names.specs.Uses.{wrong_uses, wrong_rules, wrong_rule, wrong_body, wrong_lets, wrong_conds, wrong_opt_conds, wrong_disjs, wrong_parts, wrong_part, wrong_query, wrong_step, wrong_expr, wrong_opt_expr, wrong_exprs};
+ghost use Rattle.name_scopes.specs.ScopeChains.{visible_in};
+ghost use Rattle.name_faults.specs.RuleArities.{rules_of, places_of};
+
+use crate::calls::{wrong_call, wrong_function, wrong_reference, wrong_variable};
+use crate::rule_arities::Walk;
+use guard_syntax::{
+    Body, Conds, Disj, Expr, Let, Name, Part, Query, RawFile, Rule, Step, StepForm,
+};
+use name_scopes::binders::Binders;
+use name_scopes::fault::Wrong;
+use name_scopes::scope_chain::ScopeChain;
+use name_scopes::scopes::{body_names, file_names, filter_names};
+use std::alloc::{AllocError, Global};
+
+/// The first of the faults until now and those in a body, which is a scope with parameters.
+#[cycle(uses)]
+fn in_body<'f>(
+    walk: &Walk<'f>,
+    body: &'f Body,
+    params: &'f [Name],
+    scope: &ScopeChain<'f, '_>,
+    best: Option<Wrong<'f>>,
+) -> Result<Option<Wrong<'f>>, AllocError>
+    ensures { IfOk result (λ found. see_best found ≡ first_from (see_best best.entry) (wrong_body (rules_of walk.now) (places_of walk.now) (visible_in scope.now) params.entry.now (see_body body.entry.now))) }
+{
+    let names = body_names(walk.alloc, params, body)?;
+    let own = Binders::new(walk.alloc, names)?;
+    let inner = ScopeChain::inside(&own, &*scope);
+    let best = in_lets(walk, &body.lets, &inner, best)?;
+    in_disjs(walk, &body.parts, &inner, best)
+}
+
+/// The first of the faults until now and those in lets.
+#[cycle(uses)]
+fn in_lets<'f>(
+    walk: &Walk<'f>,
+    lets: &'f [Let],
+    scope: &ScopeChain<'f, '_>,
+    mut best: Option<Wrong<'f>>,
+) -> Result<Option<Wrong<'f>>, AllocError>
+    ensures { IfOk result (λ found. see_best found ≡ first_from (see_best best.entry) (wrong_lets (rules_of walk.now) (places_of walk.now) (visible_in scope.now) (let_list (map see_let lets.entry.now)))) }
+{
+    for given in lets {
+        best = in_expr(walk, &given.value, scope, best)?;
+    }
+    Ok(best)
+}
+
+/// The first of the faults until now and those in conditions, if there are any.
+#[cycle(uses)]
+fn in_opt_conds<'f>(
+    walk: &Walk<'f>,
+    conds: &'f Option<Conds>,
+    scope: &ScopeChain<'f, '_>,
+    best: Option<Wrong<'f>>,
+) -> Result<Option<Wrong<'f>>, AllocError>
+    ensures { IfOk result (λ found. see_best found ≡ first_from (see_best best.entry) (wrong_opt_conds (rules_of walk.now) (places_of walk.now) (visible_in scope.now) (see_opt_conds conds.entry.now))) }
+{
+    match conds {
+        Some(conds) => in_disjs(walk, &conds.parts, scope, best),
+        None => Ok(best),
+    }
+}
+
+/// The first of the faults until now and those in a filter, whose conditions are a scope.
+#[cycle(uses)]
+fn in_filter<'f>(
+    walk: &Walk<'f>,
+    conds: &'f Conds,
+    scope: &ScopeChain<'f, '_>,
+    best: Option<Wrong<'f>>,
+) -> Result<Option<Wrong<'f>>, AllocError>
+    ensures { IfOk result (λ found. see_best found ≡ first_from (see_best best.entry) (wrong_filter (rules_of walk.now) (places_of walk.now) (visible_in scope.now) (see_conds conds.entry.now))) }
+{
+    let names = filter_names(walk.alloc, conds)?;
+    let own = Binders::new(walk.alloc, names)?;
+    let inner = ScopeChain::inside(&own, &*scope);
+    in_disjs(walk, &conds.parts, &inner, best)
+}
+
+/// The first of the faults until now and those in disjunctions.
+#[cycle(uses)]
+fn in_disjs<'f>(
+    walk: &Walk<'f>,
+    disjs: &'f [Disj],
+    scope: &ScopeChain<'f, '_>,
+    mut best: Option<Wrong<'f>>,
+) -> Result<Option<Wrong<'f>>, AllocError>
+    ensures { IfOk result (λ found. see_best found ≡ first_from (see_best best.entry) (wrong_disjs (rules_of walk.now) (places_of walk.now) (visible_in scope.now) (disj_list (map see_disj disjs.entry.now)))) }
+{
+    for disj in disjs {
+        best = in_parts(walk, &disj.parts, scope, best)?;
+    }
+    Ok(best)
+}
+
+/// The first of the faults until now and those in parts that are joined by `or`.
+#[cycle(uses)]
+fn in_parts<'f>(
+    walk: &Walk<'f>,
+    parts: &'f [Part],
+    scope: &ScopeChain<'f, '_>,
+    mut best: Option<Wrong<'f>>,
+) -> Result<Option<Wrong<'f>>, AllocError>
+    ensures { IfOk result (λ found. see_best found ≡ first_from (see_best best.entry) (wrong_parts (rules_of walk.now) (places_of walk.now) (visible_in scope.now) (part_list (map see_part parts.entry.now)))) }
+{
+    for part in parts {
+        best = in_part(walk, part, scope, best)?;
+    }
+    Ok(best)
+}
+
+/// The first of the faults until now and those in a part.
+#[cycle(uses)]
+fn in_part<'f>(
+    walk: &Walk<'f>,
+    part: &'f Part,
+    scope: &ScopeChain<'f, '_>,
+    best: Option<Wrong<'f>>,
+) -> Result<Option<Wrong<'f>>, AllocError>
+    ensures { IfOk result (λ found. see_best found ≡ first_from (see_best best.entry) (wrong_part (rules_of walk.now) (places_of walk.now) (visible_in scope.now) (see_part part.entry.now))) }
+{
+    match part {
+        Part::Block { head, body, .. } => {
+            let best = in_query(walk, head, scope, best)?;
+            in_body(walk, body, &[], scope, best)
+        }
+        Part::When { cond, body, .. } => {
+            let best = in_disjs(walk, &cond.parts, scope, best)?;
+            in_body(walk, body, &[], scope, best)
+        }
+        Part::Kinds { cond, body, .. } => {
+            let best = in_opt_conds(walk, cond, scope, best)?;
+            in_body(walk, body, &[], scope, best)
+        }
+        Part::Test { left, right, .. } => {
+            let best = in_query(walk, left, scope, best)?;
+            in_opt_expr(walk, right, scope, best)
+        }
+        Part::Refer { site, name, .. } => Ok(wrong_reference(walk, name, *site, best)),
+        Part::Call {
+            site,
+            name,
+            args,
+            ..
+        } => {
+            let called = wrong_call(walk, name, args, *site, best);
+            in_exprs(walk, args, scope, called)
+        }
+    }
+}
+
+/// The first of the faults until now and those in a query.
+#[cycle(uses)]
+fn in_query<'f>(
+    walk: &Walk<'f>,
+    query: &'f Query,
+    scope: &ScopeChain<'f, '_>,
+    mut best: Option<Wrong<'f>>,
+) -> Result<Option<Wrong<'f>>, AllocError>
+    ensures { IfOk result (λ found. see_best found ≡ first_from (see_best best.entry) (wrong_query (rules_of walk.now) (places_of walk.now) (visible_in scope.now) (see_query query.entry.now))) }
+{
+    for step in &query.steps {
+        best = in_step(walk, step, scope, best)?;
+    }
+    Ok(best)
+}
+
+/// The first of the faults until now and those in a step.
+#[cycle(uses)]
+fn in_step<'f>(
+    walk: &Walk<'f>,
+    step: &'f Step,
+    scope: &ScopeChain<'f, '_>,
+    best: Option<Wrong<'f>>,
+) -> Result<Option<Wrong<'f>>, AllocError>
+    ensures { IfOk result (λ found. see_best found ≡ first_from (see_best best.entry) (wrong_step (rules_of walk.now) (places_of walk.now) (visible_in scope.now) (see_step step.entry.now))) }
+{
+    match &step.form {
+        StepForm::Var(name) => {
+            let at = walk.place(step.site);
+            Ok(wrong_variable(scope, name.as_str(), at, best))
+        }
+        StepForm::Splice(name) => Ok(wrong_variable(scope, name.as_str(), name.at(), best)),
+        StepForm::Filter(_, conds) => in_filter(walk, conds, scope, best),
+        StepForm::Keys { right, .. } => in_expr(walk, right, scope, best),
+        StepForm::This => Ok(best),
+        StepForm::Key(_) => Ok(best),
+        StepForm::Index(_) => Ok(best),
+        StepForm::Every => Ok(best),
+        StepForm::Items => Ok(best),
+    }
+}
+
+/// The first of the faults until now and those in an expression.
+#[cycle(uses)]
+fn in_expr<'f>(
+    walk: &Walk<'f>,
+    expr: &'f Expr,
+    scope: &ScopeChain<'f, '_>,
+    best: Option<Wrong<'f>>,
+) -> Result<Option<Wrong<'f>>, AllocError>
+    ensures { IfOk result (λ found. see_best found ≡ first_from (see_best best.entry) (wrong_expr (rules_of walk.now) (places_of walk.now) (visible_in scope.now) (see_expr expr.entry.now))) }
+{
+    match expr {
+        Expr::Literal { .. } => Ok(best),
+        Expr::Function { site, name, args } => {
+            let best = wrong_function(walk, name, args, *site, best);
+            in_exprs(walk, args, scope, best)
+        }
+        Expr::Query(query) => in_query(walk, query, scope, best),
+        Expr::Found { query, .. } => in_query(walk, query, scope, best),
+    }
+}
+
+/// The first of the faults until now and those in the right side of a test, if there is one.
+#[cycle(uses)]
+fn in_opt_expr<'f>(
+    walk: &Walk<'f>,
+    expr: &'f Option<Expr>,
+    scope: &ScopeChain<'f, '_>,
+    best: Option<Wrong<'f>>,
+) -> Result<Option<Wrong<'f>>, AllocError>
+    ensures { IfOk result (λ found. see_best found ≡ first_from (see_best best.entry) (wrong_opt_expr (rules_of walk.now) (places_of walk.now) (visible_in scope.now) (see_opt_expr expr.entry.now))) }
+{
+    match expr {
+        Some(expr) => in_expr(walk, expr, scope, best),
+        None => Ok(best),
+    }
+}
+
+/// The first of the faults until now and those in arguments.
+#[cycle(uses)]
+fn in_exprs<'f>(
+    walk: &Walk<'f>,
+    exprs: &'f [Expr],
+    scope: &ScopeChain<'f, '_>,
+    mut best: Option<Wrong<'f>>,
+) -> Result<Option<Wrong<'f>>, AllocError>
+    ensures { IfOk result (λ found. see_best found ≡ first_from (see_best best.entry) (wrong_exprs (rules_of walk.now) (places_of walk.now) (visible_in scope.now) (expr_list (map see_expr exprs.entry.now)))) }
+{
+    for expr in exprs {
+        best = in_expr(walk, expr, scope, best)?;
+    }
+    Ok(best)
+}
+
+/// The first of the faults until now and those in rules.
+fn in_rules<'f>(
+    walk: &Walk<'f>,
+    rules: &'f [Rule],
+    scope: &ScopeChain<'f, '_>,
+    mut best: Option<Wrong<'f>>,
+) -> Result<Option<Wrong<'f>>, AllocError>
+    ensures { IfOk result (λ found. see_best found ≡ first_from (see_best best.entry) (wrong_rules (rules_of walk.now) (places_of walk.now) (visible_in scope.now) (map see_rule rules.entry.now))) }
+{
+    for rule in rules {
+        best = in_rule(walk, rule, scope, best)?;
+    }
+    Ok(best)
+}
+
+/// The first of the faults until now and those in a rule.
+fn in_rule<'f>(
+    walk: &Walk<'f>,
+    rule: &'f Rule,
+    scope: &ScopeChain<'f, '_>,
+    best: Option<Wrong<'f>>,
+) -> Result<Option<Wrong<'f>>, AllocError>
+    ensures { IfOk result (λ found. see_best found ≡ first_from (see_best best.entry) (wrong_rule (rules_of walk.now) (places_of walk.now) (visible_in scope.now) (see_rule rule.entry.now))) }
+{
+    let best = in_opt_conds(walk, &rule.cond, scope, best)?;
+    in_body(walk, &rule.body, rule.params.as_slice(), scope, best)
+}
+
+/// The first fault of a name that is used.
+pub fn first_wrong_use<'f>(
+    alloc: Global,
+    file: &'f RawFile,
+) -> Result<Option<Wrong<'f>>, AllocError>
+    ensures { IfOk result (λ found. see_best found ≡ first_of (wrong_uses (see_file file.entry.now))) }
+{
+    let walk = Walk::new(alloc, file)?;
+    let own = Binders::new(alloc, file_names(alloc, file)?)?;
+    let scope = ScopeChain::outermost(&own);
+    let best = in_lets(&walk, &file.lets, &scope, None)?;
+    let best = in_rules(&walk, &file.rules, &scope, best)?;
+    in_disjs(&walk, &file.loose, &scope, best)
+}

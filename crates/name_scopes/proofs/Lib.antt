@@ -1,0 +1,6 @@
+pub mod FirstFaults
+mod Merged
+pub mod ScopeShapes
+mod RuleSites
+mod BindersInTurn
+mod VisibleNames

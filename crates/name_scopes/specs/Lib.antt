@@ -1,0 +1,4 @@
+pub mod Binders
+pub mod ScopeChains
+pub mod RuleSites
+pub mod Seen

@@ -1,7 +1,0 @@
-use Rattle.std.proofs.Common.{◌≡◌, ◌++◌, drop}
-use Rattle.rule_names.specs.Scopes.{names_of}
-use Rattle.name_table.specs.Seen.{see_given, see_names}
-use Rattle.name_table.proofs.doubles.names_of.Given as goal
-
-abbrev pub invariant-loop-one : goal.invariant-loop-one
-invariant-loop-one l = see_names l.names.items ++ names_of (see_given (drop l.one-index l.given)) ≡ names_of (see_given l.given)

@@ -1,8 +1,0 @@
-use Rattle.std.proofs.Common.{◌≡◌, ◌++◌, drop, map}
-use Rattle.guard_syntax.specs.Seen.{see_rule}
-use Rattle.rule_names.specs.Doubles.{rule_names}
-use Rattle.name_table.specs.Seen.{see_names}
-use Rattle.name_table.proofs.doubles.rule_names.Given as goal
-
-abbrev pub invariant-loop-rule : goal.invariant-loop-rule
-invariant-loop-rule l = see_names l.names.items ++ rule_names (map see_rule (drop l.rule-index l.rules)) ≡ rule_names (map see_rule l.rules)

@@ -1,6 +1,0 @@
-use Rattle.std.proofs.Common.{ℕ, ◌<◌, ◌≤◌}
-use Rattle.rule_names.specs.Graphs.{Reaches}
-use Rattle.name_table.proofs.graph.circle.first_unmarked_on_circle.Given as goal
-
-abbrev pub invariant-loop-node : goal.invariant-loop-node
-invariant-loop-node l = (a : ℕ) → l.low ≤ a → a < l.node → Reaches l.graph a a → ⊥

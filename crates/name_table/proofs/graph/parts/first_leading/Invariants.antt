@@ -1,7 +1,0 @@
-use Rattle.std.proofs.Common.{get_or, []}
-use Rattle.rule_names.specs.Marks.{IsMarked}
-use Rattle.name_table.specs.Narrow.{Leads, NoneBelow}
-use Rattle.name_table.proofs.graph.parts.first_leading.Given as goal
-
-abbrev pub invariant-loop-part : goal.invariant-loop-part
-invariant-loop-part l = NoneBelow (λ part. IsMarked l.inside part × Leads l.users l.count l.node (get_or l.graph part [])) l.part

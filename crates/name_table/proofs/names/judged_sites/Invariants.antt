@@ -1,7 +1,0 @@
-use Rattle.std.proofs.Common.{◌≡◌, ◌++◌, drop, map}
-use Rattle.guard_syntax.specs.Seen.{see_rule}
-use Rattle.rule_names.specs.Order.{plain_sites}
-use Rattle.name_table.proofs.names.judged_sites.Given as goal
-
-abbrev pub invariant-loop-rule : goal.invariant-loop-rule
-invariant-loop-rule l = l.sites.items ++ plain_sites (map see_rule (drop l.rule-index l.rule-items)) ≡ plain_sites (map see_rule l.file.rules.items)

@@ -1,7 +1,0 @@
-use Rattle.std.proofs.Common.{drop, map}
-use Rattle.guard_syntax.specs.Seen.{see_rule}
-use Rattle.name_table.specs.Arities.{AreArities}
-use Rattle.name_table.proofs.walk.arities_of.Given as goal
-
-abbrev pub invariant-loop-index : goal.invariant-loop-index
-invariant-loop-index l = AreArities (map see_rule (drop l.index l.rules)) l.arities

@@ -1,7 +1,0 @@
-use Rattle.std.proofs.Common.{drop, map}
-use Rattle.guard_syntax.specs.Seen.{see_rule}
-use Rattle.name_table.specs.RuleSites.{AreRuleSites}
-use Rattle.name_table.proofs.ways.chart.sites_of.Given as goal
-
-abbrev pub invariant-loop-index : goal.invariant-loop-index
-invariant-loop-index l = AreRuleSites (map see_rule (drop l.index l.rules)) l.sites

@@ -1,8 +1,0 @@
-use Rattle.std.proofs.Common.{◌≡◌, ◌++◌, drop, map}
-use Rattle.guard_syntax.specs.Seen.{see_expr, expr_list}
-use Rattle.rule_names.specs.Ways.{to_each, expr_sites}
-use Rattle.name_table.proofs.ways.leads.to_exprs.Given as goal
-
-abbrev pub invariant-loop-expr : goal.invariant-loop-expr
-invariant-loop-expr l =
-    l.ways.items ++ to_each l.from (expr_sites (expr_list (map see_expr (drop l.expr-index l.exprs)))) ≡ l.initial.ways.items ++ to_each l.from (expr_sites (expr_list (map see_expr l.exprs)))

@@ -1,8 +1,0 @@
-use Rattle.std.proofs.Common.{◌≡◌, ◌++◌, drop, map}
-use Rattle.guard_syntax.specs.Seen.{see_part, part_list}
-use Rattle.rule_names.specs.Ways.{to_each, part_sites}
-use Rattle.name_table.proofs.ways.leads.to_parts.Given as goal
-
-abbrev pub invariant-loop-part : goal.invariant-loop-part
-invariant-loop-part l =
-    l.ways.items ++ to_each l.from (part_sites (part_list (map see_part (drop l.part-index l.parts)))) ≡ l.initial.ways.items ++ to_each l.from (part_sites (part_list (map see_part l.parts)))

@@ -1,0 +1,147 @@
+//! Names are tested.
+ghost use Rattle.std.specs.Prelude.{◌≡◌, ◌<◌, ◌↔◌, ℕ, false, slice_index_or, IfOk, MatchResult};
+ghost use Rattle.std.specs.List.{All, Contains};
+ghost use Rattle.guard_syntax.specs.Queries.{QueriesBegin};
+ghost use Rattle.guard_syntax.specs.Seen.{see_file};
+ghost use Rattle.rule_names.specs.Cycles.{IsAcyclic};
+ghost use Rattle.rule_names.specs.Files.{file_of};
+ghost use Rattle.rule_names.specs.Graphs.{IsOrder};
+ghost use Rattle.rule_names.specs.Marks.{IsMarked};
+ghost use Rattle.rule_names.specs.Order.{AreRulesInOrder, IsOrderOf, plain_sites};
+ghost use Rattle.rule_names.specs.Pieces.{AreInOrder};
+ghost use Rattle.rule_names.specs.ReferenceGraph.{graph_of};
+ghost use Rattle.name_table.specs.Picked.{ArePicked};
+ghost use Rattle.name_table.specs.Refused.{IsNameRefusal};
+
+use crate::deep::{depths_of, first_deep};
+use crate::refusal::{NameRefusal, refuse};
+use guard_syntax::RawFile;
+use name_faults::duplicates::first_duplicate;
+use name_faults::uses::first_wrong_use;
+use name_resolution::homes::homes_of;
+use name_resolution::resolution::resolution_of;
+use reference_cycles::cycles::first_cycle;
+use reference_cycles::edges::graph_of;
+use reference_graph::Graph;
+use reference_graph::ordering::{Outcome, walk_all};
+use rule_names::RuleFile;
+use std::alloc::{AllocError, Global};
+
+/// The nodes of the graph of a file without cycles of names, each behind all that it names.
+fn ordered_nodes(alloc: Global, file: &RawFile, graph: &Graph) -> Result<Vec<u32>, AllocError>
+    requires sites { AreInOrder (see_file file.now) }
+    requires graph { graph.now ≡ graph_of (see_file file.now) }
+    requires acyclic { IsAcyclic (see_file file.now) }
+    ensures { IfOk result (λ order. IsOrder graph.now order.items) }
+{
+    match walk_all(alloc, graph)? {
+        Outcome::Ordered(order) => Ok(order),
+        // Each cycle has a name on it.
+        Outcome::Cycle(_) => unreachable!(),
+    }
+}
+
+/// The sites of the rules without parameters.
+fn plain_sites(alloc: Global, file: &RawFile) -> Result<Vec<u32>, AllocError>
+    ensures { IfOk result (λ sites. sites.items ≡ plain_sites (see_file file.now).rules) }
+{
+    let mut sites = Vec::new(alloc);
+    for rule in &file.rules {
+        if rule.params.as_slice().is_empty() {
+            sites.push(rule.site)?;
+        }
+    }
+    Ok(sites)
+}
+
+/// Marks at some of the numbers below one.
+fn marks_at(alloc: Global, count: usize, sites: &[u32]) -> Result<Vec<bool>, AllocError>
+    requires { All (λ site. site < count) sites.now }
+    ensures { IfOk result (λ marks. (site : ℕ) → IsMarked marks.items site ↔ Contains sites.now site) }
+{
+    let mut marks = vec![in alloc; false; count]?;
+    for site in sites {
+        marks[*site as usize] = true;
+    }
+    Ok(marks)
+}
+
+/// Whether a site is marked.
+fn is_marked(marks: &[bool], site: u32) -> bool
+    ensures { result ≡ slice_index_or marks.now site false }
+{
+    marks.get(site as usize).copied().unwrap_or(false)
+}
+
+/// The marked sites whose rules' nodes are among some nodes, in the order of these.
+fn picked(alloc: Global, count: u32, marks: &[bool], nodes: &[u32]) -> Result<Vec<u32>, AllocError>
+    ensures { IfOk result (λ sites. ArePicked count marks.now nodes.now sites.items) }
+{
+    let mut sites = Vec::new(alloc);
+    for node in nodes {
+        if *node >= count && is_marked(marks, *node - count) {
+            sites.push(*node - count)?;
+        }
+    }
+    Ok(sites)
+}
+
+/// The sites of the rules without parameters, none in front of a rule that it reaches.
+fn rules_in_order(alloc: Global, file: &RawFile, graph: &Graph) -> Result<Vec<u32>, AllocError>
+    requires sites { AreInOrder (see_file file.now) }
+    requires graph { graph.now ≡ graph_of (see_file file.now) }
+    requires acyclic { IsAcyclic (see_file file.now) }
+    ensures { IfOk result (λ sites. AreRulesInOrder (see_file file.now) sites.items) }
+{
+    let nodes = ordered_nodes(alloc, file, graph)?;
+    let plain = plain_sites(alloc, file)?;
+    let marks = marks_at(alloc, file.places.as_slice().len(), &plain)?;
+    picked(alloc, graph.count() / 3, &marks, &nodes)
+}
+
+/// The same, and then 0 if parts stand outside rules.
+fn judged_sites(alloc: Global, file: &RawFile, graph: &Graph) -> Result<Vec<u32>, AllocError>
+    requires sites { AreInOrder (see_file file.now) }
+    requires graph { graph.now ≡ graph_of (see_file file.now) }
+    requires acyclic { IsAcyclic (see_file file.now) }
+    ensures { IfOk result (λ sites. IsOrderOf (see_file file.now) sites.items) }
+{
+    let mut sites = rules_in_order(alloc, file, graph)?;
+    if file.loose.is_empty() {
+        return Ok(sites);
+    }
+    sites.push(0)?;
+    Ok(sites)
+}
+
+/// Tests the names of a rule file, and gives the file with its parts by their sites. The file is dropped on a refusal.
+pub fn resolve(alloc: Global, raw: RawFile) -> Result<RuleFile, NameRefusal>
+    requires sites { AreInOrder (see_file raw) }
+    requires begins { QueriesBegin (see_file raw) }
+    ensures { MatchResult result (λ f. file_of f ≡ see_file raw) (λ refusal. IsNameRefusal (see_file raw) refusal) }
+{
+    if let Some(wrong) = first_duplicate(alloc, &raw)? {
+        return Err(refuse(alloc, wrong));
+    }
+    if let Some(wrong) = first_wrong_use(alloc, &raw)? {
+        return Err(refuse(alloc, wrong));
+    }
+    let graph = graph_of(alloc, &raw)?;
+    if let Some(wrong) = first_cycle(alloc, &raw, &graph)? {
+        return Err(refuse(alloc, wrong));
+    }
+    let links = resolution_of(alloc, &raw)?;
+    let depths = depths_of(alloc, &raw, &links)?;
+    if let Some(wrong) = first_deep(&raw, &links, &depths) {
+        return Err(refuse(alloc, wrong));
+    }
+    let homes = homes_of(alloc, &raw)?;
+    let judged = judged_sites(alloc, &raw, &graph)?;
+    Ok(RuleFile {
+        raw,
+        homes,
+        links,
+        depths,
+        judged,
+    })
+}

@@ -1,0 +1,5 @@
+mod EdgesToParts
+mod StepsAt
+mod CycleFaults
+mod LastSteps
+mod BodyEdges

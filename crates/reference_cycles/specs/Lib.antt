@@ -1,0 +1,2 @@
+pub mod RuleIndexes
+pub mod FilterEdges

@@ -1,0 +1,15 @@
+use Rattle.std.proofs.Common.{◌<◌, arith}
+use Rattle.reference_graph.proofs.OnCycle.{settled-no-cycle, walk-ordered}
+use Rattle.reference_graph.proofs.ordering.walk_all.Goals as goal
+
+pub returns-then-not-ended : goal.returns-then-not-ended
+returns-then-not-ended c =
+    let met = rw c.if-not-ended.true at c.in_ok-ended.ensures in
+    (met.0.same_nodes, settled-no-cycle c.args.graph.now c.visit.new.walk.done.items c.visit.new.walk.order.items met.0, met.1)
+
+pub returns : goal.returns
+returns c =
+    let walk = c.loop-root.walk in
+    let end = c.loop-root-test.false in
+    walk-ordered c.args.graph.now walk.begun.items walk.done.items walk.next.items walk.order.items c.loop-root.invariant.walked.settled c.loop-root.invariant.walked.on_path
+    (λ a l. let below : a < c.loop-root.root = omega (arith, c.count-root-end.ensures.count) in c.loop-root.invariant.begun a below)

@@ -1,0 +1,10 @@
+use Rattle.std.proofs.Common.{ℕ, ◌<◌, []}
+use Rattle.rule_names.specs.Marks.{IsMarked}
+use Rattle.reference_graph.specs.Ordering.{IsWalked}
+use Rattle.reference_graph.proofs.ordering.walk_all.Given as goal
+
+abbrev pub invariant-loop-root : goal.invariant-loop-root
+invariant-loop-root l = record {
+  walked : IsWalked l.graph l.walk [];
+  begun : (a : ℕ) → a < l.root → IsMarked l.walk.begun.items a;
+}

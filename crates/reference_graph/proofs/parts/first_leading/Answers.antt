@@ -1,0 +1,6 @@
+use Rattle.std.proofs.Common.{length}
+use Rattle.reference_graph.proofs.Walks.{targets-below}
+use Rattle.reference_graph.proofs.parts.first_leading.Goals as goal
+
+pub leads-requires : goal.leads-requires
+leads-requires c = rw c.targets.ensures.targets (targets-below c.args.graph.now c.loop-part.part (length c.args.users.now) c.targets.ensures.graph c.requires.users)

@@ -1,0 +1,2 @@
+pub mod Subgraphs
+pub mod Ordering

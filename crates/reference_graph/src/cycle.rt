@@ -1,0 +1,59 @@
+//! Nodes that reach themselves.
+ghost use Rattle.std.specs.Prelude.{◌≡◌, ◌<◌, ◌≤◌, ◌↔◌, ℕ, IfOk, IsTrue, MatchOption, length};
+ghost use Rattle.rule_names.specs.Graphs.{IsFirstOnCycle, NoneOnCycle, Reaches};
+ghost use Rattle.rule_names.specs.Marks.{IsMarked};
+
+use crate::graph::Graph;
+use crate::ordering::{Outcome, walk_all};
+use crate::reach::reached;
+use std::alloc::{AllocError, Global};
+
+/// Whether a node reaches itself.
+fn reaches_itself(alloc: Global, graph: &Graph, node: u32) -> Result<bool, AllocError>
+    requires { node < length graph.now }
+    ensures { IfOk result (λ does. IsTrue does ↔ Reaches graph.now node node) }
+{
+    let marks = reached(alloc, graph, node)?;
+    Ok(marks[node as usize])
+}
+
+/// The least node from one on up to another that reaches itself, where it is known that the marked ones do not.
+fn first_unmarked_on_cycle(
+    alloc: Global,
+    graph: &Graph,
+    low: u32,
+    high: u32,
+    marks: &[bool],
+) -> Result<Option<u32>, AllocError>
+    requires within { high ≤ length graph.now }
+    requires marks { length marks.now ≡ length graph.now }
+    requires known { (a : ℕ) → IsMarked marks.now a → Reaches graph.now a a → ⊥ }
+    ensures { IfOk result (λ found. MatchOption found (NoneOnCycle graph.now low high) (λ a. IsFirstOnCycle graph.now low high a)) }
+{
+    for node in low..high {
+        if marks[node as usize] {
+            continue;
+        }
+        if reaches_itself(alloc, graph, node)? {
+            return Ok(Some(node));
+        }
+    }
+    Ok(None)
+}
+
+/// The least node from low up to high, without it, that reaches itself. Linear where there is no cycle at all; else it
+/// walks once from each node that it tries, but from none that the walk in order had done before it met a cycle.
+pub fn first_on_cycle(
+    alloc: Global,
+    graph: &Graph,
+    low: u32,
+    high: u32,
+) -> Result<Option<u32>, AllocError>
+    requires { high ≤ length graph.now }
+    ensures { IfOk result (λ found. MatchOption found (NoneOnCycle graph.now low high) (λ a. IsFirstOnCycle graph.now low high a)) }
+{
+    match walk_all(alloc, graph)? {
+        Outcome::Ordered(_) => Ok(None),
+        Outcome::Cycle(done) => first_unmarked_on_cycle(alloc, graph, low, high, done.as_slice()),
+    }
+}
