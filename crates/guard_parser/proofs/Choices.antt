@@ -1,13 +1,13 @@
 -- What is spelled so is read so: the choices by the lexemes ahead, given what the chosen reader gives.
 use Rattle.std.proofs.Common.{◌≡◌, ℕ, suc, Bool, true, false, cond, ◌&&◌, refl, sym, ◌∙◌, true≢false}
 use Rattle.guard_syntax.specs.Syntax.{Expr, Part}
-use Rattle.guard_parser.specs.Lexemes.{Lexeme}
-use Rattle.guard_parser.specs.Forms.{form, is_name, is_any_name, is_lparen, is_plain, is_constant, is_some_word, is_start, is_neg, is_operator_word, opens_range, is_literal, is_applied, leads, is_led}
-use Rattle.guard_parser.specs.States.{State}
-use Rattle.guard_parser.specs.Parser.{Parser, choose, choose_pair, choose_next, choose_third}
+use Rattle.literal_parser.specs.Lexemes.{Lexeme}
+use Rattle.literal_parser.specs.Forms.{form, is_name, is_any_name, is_lparen, is_plain, is_constant, is_some_word, is_start, is_neg, is_operator_word, opens_range, is_literal, is_applied, leads, is_led}
+use Rattle.literal_parser.specs.States.{State}
+use Rattle.literal_parser.specs.Parser.{Parser, choose, choose_pair, choose_next, choose_third}
 use Rattle.guard_parser.specs.Reading.{Inner, tree_expr, applied, asked_expr, expr_of, found_expr, value_of, headed, ruled, led_by_name, cond_of}
-use Rattle.guard_parser.proofs.Combine.{Gives}
-use Rattle.guard_parser.proofs.Apart.{apart, implied}
+use Rattle.literal_parser.proofs.Combine.{Gives}
+use Rattle.literal_parser.proofs.Apart.{apart, implied}
 use Rattle.guard_parser.proofs.Facts.{literal_range, literal_plain, literal_constant, literal_applied, literal_named, literal_other, led_by_next, led_by_third, unled_next, unled_third}
 
 -- no test answers both

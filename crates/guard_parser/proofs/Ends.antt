@@ -5,10 +5,10 @@ use Rattle.guard_lexer.specs.declared.token.Mark.TheVariants as m
 use Rattle.guard_lexer.specs.declared.token.Token.{Token}
 use Rattle.guard_lexer.specs.declared.token.TokenKind.{TokenKind}
 use Rattle.guard_lexer.specs.declared.token.TokenKind.TheVariants as k
-use Rattle.guard_parser.specs.declared.keyword.Keyword.{Keyword}
-use Rattle.guard_parser.specs.declared.keyword.Keyword.TheVariants as kw
-use Rattle.guard_parser.specs.Lexemes.{Lexeme, keyword_of, name_word, word_of, lexeme_of, ending, lexemes}
-use Rattle.guard_parser.specs.Forms.{form, word_form, mark_form, keyword_form, is_index_number, is_end}
+use Rattle.literal_parser.specs.declared.keyword.Keyword.{Keyword}
+use Rattle.literal_parser.specs.declared.keyword.Keyword.TheVariants as kw
+use Rattle.literal_parser.specs.Lexemes.{Lexeme, keyword_of, name_word, word_of, lexeme_of, ending, lexemes}
+use Rattle.literal_parser.specs.Forms.{form, word_form, mark_form, keyword_form, is_index_number, is_end}
 
 mark_goes_on : (mark : Mark) → is_end (mark_form mark) ≡ false
 mark_goes_on m.LBrace = refl

@@ -1,8 +1,8 @@
 -- What the tests of lexemes in a row say together.
 use Rattle.std.proofs.Common.{◌≡◌, Bool, true, false, not, ◌&&◌, ◌||◌, refl}
-use Rattle.guard_parser.specs.Lexemes.{Lexeme}
-use Rattle.guard_parser.specs.Forms.{form, is_name, is_any_name, is_lparen, is_plain, is_constant, is_r, is_start, is_neg, is_operator_word, opens_range, is_literal, is_applied, leads, goes_on, is_led}
-use Rattle.guard_parser.proofs.Apart.{apart, denied}
+use Rattle.literal_parser.specs.Lexemes.{Lexeme}
+use Rattle.literal_parser.specs.Forms.{form, is_name, is_any_name, is_lparen, is_plain, is_constant, is_r, is_start, is_neg, is_operator_word, opens_range, is_literal, is_applied, leads, goes_on, is_led}
+use Rattle.literal_parser.proofs.Apart.{apart, denied}
 
 -- ---- literals, calls and queries: plain, range, constant, parenthesis
 

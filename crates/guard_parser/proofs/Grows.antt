@@ -4,11 +4,11 @@ use Rattle.doc_values.specs.Tree.{Forest}
 use Rattle.guard_syntax.specs.Named.{Named}
 use Rattle.guard_syntax.specs.declared.syntax.Op.{Op}
 use Rattle.guard_syntax.specs.Syntax.{Body, Lets, Let, Conds, OptConds, Disjs, Disj, Parts, Part, Query, Steps, Step, Expr, OptExpr, Exprs, Rule, body, no_lets, more_lets, assign, conds, no_conds, with_conds, no_disjs, more_disjs, disj, no_parts, more_parts, block, guarded, kinds, test, refer, call, query, no_steps, more_steps, this, var, key, index, every, items, splice, filter, keys, literal, function, asked, found, no_expr, with_expr, no_exprs, more_exprs}
-use Rattle.guard_parser.specs.Lexemes.{Lexeme}
-use Rattle.guard_parser.specs.States.{State}
-use Rattle.guard_parser.specs.Literal.{IsLiteral}
+use Rattle.literal_parser.specs.Lexemes.{Lexeme}
+use Rattle.literal_parser.specs.States.{State}
+use Rattle.literal_parser.specs.Literal.{IsLiteral}
 use Rattle.guard_parser.specs.Grammar.{Sort, ALet, ARule, APart, Piece, of_sort, is_sort, body_sort, InRow, IsCapture, IsNote, IsNeg, IsOperator, IsKeysOperator, IsAny, IsNot, IsNames, IsBody, AreLets, AreDisjs, IsLet, IsConds, IsDisjs, IsOptConds, IsDisj, IsOrs, IsPart, IsRight, IsQuery, IsStart, IsSteps, IsStep, IsExpr, IsExprs, IsMoreExprs, IsHead, IsRule, AreRules}
-use Rattle.guard_parser.proofs.Steps.{place}
+use Rattle.literal_parser.proofs.Steps.{place}
 
 -- each of the pieces takes a lexeme
 abbrev pub AllGrow : List Piece → Type 0

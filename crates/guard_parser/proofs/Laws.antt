@@ -3,11 +3,11 @@ use Rattle.std.proofs.Common.{◌≡◌, ℕ, zero, suc, ◌≤◌, ◌<◌, max
 use Rattle.guard_lexer.specs.declared.token.Token.{Token}
 use Rattle.guard_syntax.specs.Syntax.{Lets, Disjs, Rule, File}
 use Rattle.guard_syntax.specs.Sites.{upto, sites_file}
-use Rattle.guard_parser.specs.Lexemes.{Lexeme, End, lexeme_of, ending, lexemes}
-use Rattle.guard_parser.specs.Forms.{form, is_end}
-use Rattle.guard_parser.specs.States.{State, start}
+use Rattle.literal_parser.specs.Lexemes.{Lexeme, End, lexeme_of, ending, lexemes}
+use Rattle.literal_parser.specs.Forms.{form, is_end}
+use Rattle.literal_parser.specs.States.{State, start}
 use Rattle.guard_parser.specs.Grammar.{IsContents}
-use Rattle.guard_parser.specs.Parser.{Outcome, Read, Fail}
+use Rattle.literal_parser.specs.Parser.{Outcome, Read, Fail}
 use Rattle.guard_parser.specs.Reading.{FileItems, whole_file, inners}
 use Rattle.guard_parser.specs.Depth.{deep_file}
 use Rattle.guard_parser.specs.File.{IsSpelledBy, IsSpelled, IsShallowTo, IsShallow, IsDeadEnd, MayGoOn, going_on}
@@ -15,15 +15,15 @@ use Rattle.std.proofs.lemmas.Bool.{ltb-true, ltb-false}
 use Rattle.std.proofs.lemmas.List.{append-nil, get_or-take, length-append, length-map, length-take, take-map}
 use Rattle.std.proofs.Math.ListN.{get_or-append, get_or-eq_default}
 use Rattle.std.proofs.Math.Seq.{get_or-append_seam}
-use Rattle.guard_parser.proofs.Places.{at_end}
-use Rattle.guard_parser.proofs.GoOn.{Spells, only}
+use Rattle.literal_parser.proofs.Places.{at_end}
+use Rattle.literal_parser.proofs.GoOn.{Spells, only}
 use Rattle.guard_parser.proofs.GoOnFile.{goes_on}
-use Rattle.guard_parser.proofs.Combine.{Holds, holds_then, done, failed, Gives, gives, gives_then, horizon}
-use Rattle.guard_parser.proofs.Steps.{Alike, Local, alike_then, choose_local, pure_local, stop_local, choose_sound, by}
-use Rattle.guard_parser.proofs.LiteralSound.{literal_sound}
-use Rattle.guard_parser.proofs.LiteralLocal.{literal_local}
-use Rattle.guard_parser.proofs.LiteralGrows.{literal_grows}
-use Rattle.guard_parser.proofs.LiteralComplete.{literal_gives}
+use Rattle.literal_parser.proofs.Combine.{Holds, holds_then, done, failed, Gives, gives, gives_then, horizon}
+use Rattle.literal_parser.proofs.Steps.{Alike, Local, alike_then, choose_local, pure_local, stop_local, choose_sound, by}
+use Rattle.literal_parser.proofs.LiteralSound.{literal_sound}
+use Rattle.literal_parser.proofs.LiteralLocal.{literal_local}
+use Rattle.literal_parser.proofs.LiteralGrows.{literal_grows}
+use Rattle.literal_parser.proofs.LiteralComplete.{literal_gives}
 use Rattle.guard_parser.proofs.Sound.{file_sound}
 use Rattle.guard_parser.proofs.Local.{inners_local, contents_local}
 use Rattle.guard_parser.proofs.Complete.{contents_gives}

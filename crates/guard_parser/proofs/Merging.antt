@@ -2,8 +2,8 @@
 use Rattle.std.proofs.Common.{◌≡◌, ℕ, zero, suc, ◌+◌, ◌≤◌, ◌<◌, Bool, true, false, cond, refl, ap, sym, ◌∙◌, subst, arith, List, [], ◌∷◌, ◌++◌, length, Option, nat_lt}
 use Rattle.std.proofs.lemmas.Bool.Decides.{nat_tests}
 use Rattle.guard_syntax.specs.Sites.{upto, before_each, merge}
-use Rattle.guard_parser.specs.Lexemes.{Lexeme}
-use Rattle.guard_parser.specs.States.{State}
+use Rattle.literal_parser.specs.Lexemes.{Lexeme}
+use Rattle.literal_parser.specs.States.{State}
 use Rattle.guard_parser.specs.Grammar.{Sort, ALet, ARule, APart, Piece, is_sort, of_sort, InRow}
 
 -- between two states these sites were opened, each with the next number

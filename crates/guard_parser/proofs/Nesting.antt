@@ -7,16 +7,17 @@ use Rattle.doc_values.specs.declared.kind.Kind.TheVariants as kind
 use Rattle.guard_syntax.specs.Named.{Named}
 use Rattle.guard_syntax.specs.declared.syntax.Op.{Op}
 use Rattle.guard_syntax.specs.Syntax.{Body, Lets, Let, Conds, OptConds, Disjs, Disj, Parts, Part, Query, Steps, Step, Expr, OptExpr, Exprs, Rule, body, no_lets, more_lets, assign, conds, no_conds, with_conds, no_disjs, more_disjs, disj, no_parts, more_parts, block, guarded, kinds, test, refer, call, query, no_steps, more_steps, this, var, key, index, every, items, splice, filter, keys, literal, function, asked, found, no_expr, with_expr, no_exprs, more_exprs}
-use Rattle.guard_parser.specs.declared.keyword.Keyword.{Keyword}
-use Rattle.guard_parser.specs.declared.keyword.Keyword.TheVariants as kw
-use Rattle.guard_parser.specs.Lexemes.{Word, Name, Reserved, TypeName, Var, Str, Pat, Whole, Fraction, Note, Sign, End, Lexeme}
-use Rattle.guard_parser.specs.Forms.{is_end, form, is_name, is_rule_name, is_any_name, is_type_name, is_var, is_index, is_note, is_lbrace, is_rbrace, is_lparen, is_rparen, is_lbracket, is_rbracket, is_comma, is_colon, is_bar, is_dot, is_star, is_assign, is_equality, is_sign, is_let, is_rule, is_when, is_some_word, is_or, is_neg, is_keys, is_this, is_in, is_operator_word, is_key, is_first_key, is_r, is_number, is_scalar, is_opening_end, is_closing_end, is_opening, is_closing}
-use Rattle.guard_parser.specs.States.{State, past, Opens}
+use Rattle.literal_parser.specs.declared.keyword.Keyword.{Keyword}
+use Rattle.literal_parser.specs.declared.keyword.Keyword.TheVariants as kw
+use Rattle.literal_parser.specs.Lexemes.{Word, Name, Reserved, TypeName, Var, Str, Pat, Whole, Fraction, Note, Sign, End, Lexeme}
+use Rattle.literal_parser.specs.Forms.{is_end, form, is_name, is_rule_name, is_any_name, is_type_name, is_var, is_index, is_note, is_lbrace, is_rbrace, is_lparen, is_rparen, is_lbracket, is_rbracket, is_comma, is_colon, is_bar, is_dot, is_star, is_assign, is_equality, is_sign, is_let, is_rule, is_when, is_some_word, is_or, is_neg, is_keys, is_this, is_in, is_operator_word, is_key, is_first_key, is_r, is_number, is_scalar, is_opening_end, is_closing_end, is_opening, is_closing}
+use Rattle.literal_parser.specs.States.{State, past, Opens}
 use Rattle.guard_parser.specs.File.{open_behind, open_before, IsShallowTo}
-use Rattle.guard_parser.specs.Depth.{deep_forest, deep_body, deep_lets, deep_let, deep_conds, deep_opt_conds, deep_disjs, deep_disj, deep_parts, deep_part, deep_query, deep_steps, deep_step, deep_expr, deep_opt_expr, deep_exprs, deep_rule, deep_rules, deep_file}
-use Rattle.guard_parser.specs.Literal.{constant_kind, scalar_kind, holder, IsLiteral, AreItems, AreMoreItems, AreEntries, AreMoreEntries, IsNode, IsEntry}
+use Rattle.literal_parser.specs.LiteralDepth.{deep_forest}
+use Rattle.guard_parser.specs.Depth.{deep_body, deep_lets, deep_let, deep_conds, deep_opt_conds, deep_disjs, deep_disj, deep_parts, deep_part, deep_query, deep_steps, deep_step, deep_expr, deep_opt_expr, deep_exprs, deep_rule, deep_rules, deep_file}
+use Rattle.literal_parser.specs.Literal.{constant_kind, scalar_kind, holder, IsLiteral, AreItems, AreMoreItems, AreEntries, AreMoreEntries, IsNode, IsEntry}
 use Rattle.guard_parser.specs.Grammar.{Sort, ALet, ARule, APart, Piece, is_sort, of_sort, body_sort, file_sort, InRow, IsCapture, IsNote, IsNeg, IsOperator, IsKeysOperator, IsAny, IsNot, IsNames, IsBody, AreLets, AreDisjs, IsLet, IsConds, IsDisjs, IsOptConds, IsDisj, IsOrs, IsPart, IsRight, IsQuery, IsStart, IsSteps, IsStep, IsExpr, IsExprs, IsMoreExprs, IsHead, IsRule, AreRules, IsContents}
-use Rattle.guard_parser.proofs.Apart.{always, apart, implied}
+use Rattle.literal_parser.proofs.Apart.{always, apart, implied}
 use Rattle.guard_parser.proofs.Numbered.{body_no_rules}
 
 module _ (s : ℕ → Lexeme) where

@@ -2,8 +2,8 @@
 use Rattle.std.proofs.Common.{◌≡◌, ℕ, suc, ◌+◌, ◌<◌, ◌≤◌, Bool, true, false, refl, ap, sym, ◌∙◌, subst, arith, nat_eq, List, length, get_or}
 use Rattle.std.proofs.lemmas.Bool.Decides.{nat_tests}
 use Rattle.guard_lexer.specs.declared.token.Token.{Token}
-use Rattle.guard_parser.specs.Lexemes.{Lexeme, lexeme_of, lexemes}
-use Rattle.guard_parser.specs.Forms.{form, is_opening}
+use Rattle.literal_parser.specs.Lexemes.{Lexeme, lexeme_of, lexemes}
+use Rattle.literal_parser.specs.Forms.{form, is_opening}
 use Rattle.guard_parser.specs.File.{open_behind, open_before, IsShallowTo, IsTooDeep}
 use Rattle.guard_parser.proofs.Nesting.{bounded}
 use Rattle.guard_parser.proofs.TokenForms.{lexeme_there}

@@ -2,10 +2,10 @@
 use Rattle.std.proofs.Common.{◌≡◌, ℕ, ◌<◌, Bool, true, false, cond, refl, List, length, get_or, Option, Some, None, bytes_eq, codes}
 use Rattle.std.proofs.lemmas.List.{get_or-map}
 use Rattle.guard_lexer.specs.declared.token.Token.{Token}
-use Rattle.guard_parser.specs.declared.keyword.Keyword.{Keyword}
-use Rattle.guard_parser.specs.declared.keyword.Keyword.TheVariants as kw
-use Rattle.guard_parser.specs.Lexemes.{name_word, lexeme_of, ending, lexemes}
-use Rattle.guard_parser.specs.Forms.{word_form, keyword_form, is_any_name}
+use Rattle.literal_parser.specs.declared.keyword.Keyword.{Keyword}
+use Rattle.literal_parser.specs.declared.keyword.Keyword.TheVariants as kw
+use Rattle.literal_parser.specs.Lexemes.{name_word, lexeme_of, ending, lexemes}
+use Rattle.literal_parser.specs.Forms.{word_form, keyword_form, is_any_name}
 
 either_name : (f : ℕ → Bool) (v : Bool) (x y : ℕ) → f x ≡ true → f y ≡ true → f (cond v x y) ≡ true
 either_name f true x y p q = p

@@ -3,7 +3,7 @@ use Rattle.std.proofs.Common.{◌≡◌, ℕ, List, [], ◌∷◌, ◌++◌, ref
 use Rattle.guard_syntax.specs.Syntax as sx
 use Rattle.guard_syntax.specs.Seen.{prepend}
 use Rattle.guard_syntax.specs.Named.{Named}
-use Rattle.guard_parser.specs.Parser.{Outcome, Read, Fail, Parser, and_then, pure}
+use Rattle.literal_parser.specs.Parser.{Outcome, Read, Fail, Parser, and_then, pure}
 use Rattle.guard_parser.specs.Reading as spec
 use Rattle.guard_parser.proofs.CodeSteps.{prepend-push}
 use Rattle.guard_parser.specs.FileReads.{before_names, before_items}

@@ -1,11 +1,7 @@
 -- How deep brackets nest in a syntax.
-use Rattle.std.specs.Prelude.{ℕ, suc, max, List, [], ◌∷◌, if◌then◌else◌}
-use Rattle.doc_values.specs.Tree.{Forest, Nil, Node, holds_values}
+use Rattle.std.specs.Prelude.{ℕ, suc, max, List, [], ◌∷◌}
 use Rattle.guard_syntax.specs.Syntax.{Body, Lets, Let, Conds, OptConds, Disjs, Disj, Parts, Part, Query, Steps, Step, Expr, OptExpr, Exprs, Rule, body, no_lets, more_lets, assign, conds, no_conds, with_conds, no_disjs, more_disjs, disj, no_parts, more_parts, block, guarded, kinds, test, refer, call, query, no_steps, more_steps, filter, keys, literal, function, asked, found, no_expr, with_expr, no_exprs, more_exprs}
-
-abbrev pub deep_forest : Forest → ℕ
-deep_forest Nil = 0
-deep_forest (Node l kids rest) = max (if holds_values l.kind then suc (deep_forest kids) else 0) (deep_forest rest)
+use Rattle.literal_parser.specs.LiteralDepth.{deep_forest}
 
 abbrev mutual
   pub deep_body : Body → ℕ

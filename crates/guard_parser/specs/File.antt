@@ -4,9 +4,9 @@ use Rattle.guard_lexer.specs.declared.token.Token.{Token}
 use Rattle.guard_syntax.specs.Syntax.{File}
 use Rattle.guard_parser.specs.declared.refusal.ParseRefusal.{ParseRefusal}
 use Rattle.guard_parser.specs.declared.refusal.ParseRefusal.TheVariants as r
-use Rattle.guard_parser.specs.Lexemes.{Lexeme, lexeme_of, ending, lexemes}
-use Rattle.guard_parser.specs.Forms.{form, is_opening, is_closing}
-use Rattle.guard_parser.specs.States.{State, start}
+use Rattle.literal_parser.specs.Lexemes.{Lexeme, lexeme_of, ending, lexemes}
+use Rattle.literal_parser.specs.Forms.{form, is_opening, is_closing}
+use Rattle.literal_parser.specs.States.{State, start}
 use Rattle.guard_parser.specs.Grammar.{IsContents}
 
 -- the first lexemes, so many, spell a file, whose sites begin at its places; the first range with a whole and a decimal bound, if there is one

@@ -4,11 +4,12 @@ use Rattle.guard_syntax.specs.Named.{Named}
 use Rattle.guard_syntax.specs.declared.syntax.Conds.{Conds}
 use Rattle.guard_syntax.specs.Syntax as sx
 use Rattle.guard_syntax.specs.Seen.{prepend, let_list, disj_list, see_let, see_disj, see_rule, see_opt_conds}
-use Rattle.guard_parser.specs.declared.state.Tokens.{Tokens}
+use Rattle.literal_parser.specs.declared.token_cursor.Tokens.{Tokens}
 use Rattle.guard_parser.specs.declared.items.FileItems.{FileItems}
-use Rattle.guard_parser.specs.Parser.{Outcome, Parser, and_then, pure}
+use Rattle.literal_parser.specs.Parser.{Outcome, Parser, and_then, pure}
 use Rattle.guard_parser.specs.Reading as spec
-use Rattle.guard_parser.specs.Reads.{source, inner}
+use Rattle.literal_parser.specs.Reads.{source}
+use Rattle.guard_parser.specs.GrammarReads.{inner}
 
 -- ---- what is read, as it is seen
 

@@ -1,14 +1,6 @@
-pub mod Lexemes
-pub mod Forms
-pub mod States
-pub mod Shapes
 pub mod Grammar
-pub mod Literal
-pub mod Parser
-pub mod LiteralReading
 pub mod Reading
-pub mod Reads
+pub mod GrammarReads
 pub mod FileReads
-pub mod LiteralReads
 pub mod Depth
 pub mod File

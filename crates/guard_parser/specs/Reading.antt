@@ -4,10 +4,10 @@ use Rattle.doc_values.specs.Tree.{Forest}
 use Rattle.guard_syntax.specs.Named.{Named}
 use Rattle.guard_syntax.specs.declared.syntax.Op.{Op}
 use Rattle.guard_syntax.specs.Syntax.{Body, Lets, Let, Conds, OptConds, Disjs, Disj, Parts, Part, Query, Steps, Step, Expr, OptExpr, Exprs, Rule, body, no_lets, more_lets, assign, conds, no_conds, with_conds, no_disjs, more_disjs, disj, no_parts, more_parts, block, guarded, kinds, test, refer, call, query, no_steps, more_steps, this, var, key, index, every, items, splice, filter, keys, literal, function, asked, found, no_expr, with_expr, no_exprs, more_exprs}
-use Rattle.guard_parser.specs.Lexemes.{Lexeme}
-use Rattle.guard_parser.specs.Forms.{is_end, is_name, is_rule_name, is_any_name, is_type_name, is_var, is_index, is_note, is_lbrace, is_rbrace, is_lparen, is_rparen, is_lbracket, is_rbracket, is_comma, is_bar, is_dot, is_star, is_assign, is_equality, is_sign, is_let, is_rule, is_when, is_some_word, is_or, is_neg, is_keys, is_this, is_in, is_operator_word, is_key, is_first_key, is_start, is_plain, is_constant, begins_step, begins_cond, begins_part, leads, opens_range, text_of, named_of, index_of, operator_of, sign_of, is_binary}
-use Rattle.guard_parser.specs.Parser.{Parser, ◌>>=◌, ◌>>◌, pure, stop, opens, takes, has, choose, choose_pair, choose_next, choose_third}
-use Rattle.guard_parser.specs.LiteralReading.{literal_of}
+use Rattle.literal_parser.specs.Lexemes.{Lexeme}
+use Rattle.literal_parser.specs.Forms.{is_end, is_name, is_rule_name, is_any_name, is_type_name, is_var, is_index, is_note, is_lbrace, is_rbrace, is_lparen, is_rparen, is_lbracket, is_rbracket, is_comma, is_bar, is_dot, is_star, is_assign, is_equality, is_sign, is_let, is_rule, is_when, is_some_word, is_or, is_neg, is_keys, is_this, is_in, is_operator_word, is_key, is_first_key, is_start, is_plain, is_constant, begins_step, begins_cond, begins_part, leads, opens_range, text_of, named_of, index_of, operator_of, sign_of, is_binary}
+use Rattle.literal_parser.specs.Parser.{Parser, ◌>>=◌, ◌>>◌, pure, stop, opens, takes, has, choose, choose_pair, choose_next, choose_third}
+use Rattle.literal_parser.specs.LiteralReading.{literal_of}
 
 -- whether there is a part
 abbrev pub is_filled : Disjs → Bool

@@ -1,7 +1,7 @@
 //! How many brackets are open at once.
 ghost use Rattle.std.specs.Prelude.{◌≡◌, ◌≤◌, ℕ, List, MatchOption};
-ghost use Rattle.guard_parser.specs.Lexemes.{lexeme_of};
-ghost use Rattle.guard_parser.specs.Forms.{form, is_opening, is_closing};
+ghost use Rattle.literal_parser.specs.Lexemes.{lexeme_of};
+ghost use Rattle.literal_parser.specs.Forms.{form, is_opening, is_closing};
 ghost use Rattle.guard_parser.specs.File.{open_behind, IsShallow, IsTooDeep};
 
 use guard_lexer::{Mark, Token, TokenKind};

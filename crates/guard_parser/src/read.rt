@@ -1,14 +1,13 @@
 //! Bodies, their parts and conditions. The grammar recurs through brackets alone, each time one level of depth less.
 ghost use Rattle.std.specs.Prelude.{◌≤◌, true, false, map};
 ghost use Rattle.guard_syntax.specs.Seen.{see_body, see_conds, see_disj, see_let, see_part, see_query, see_opt_conds, see_opt_expr};
-ghost use Rattle.guard_parser.specs.Reads.{Reads, state_of, see_disjs, see_items, see_parts, body_at, body_end_at, body_items_at, called_at, cond_at, cond_part_at, conds_at, disj_at, disjs_front_at, full_part_at, guarded_at, headed_at, inner_body_at, judged_at, kinds_at, led_at, led_by_name_at, let_at, opt_conds_at, ors_front_at, right_at, ruled_at, tested_at};
+ghost use Rattle.literal_parser.specs.Reads.{Reads, state_of};
+ghost use Rattle.guard_parser.specs.GrammarReads.{see_disjs, see_items, see_parts, body_at, body_end_at, body_items_at, called_at, cond_at, cond_part_at, conds_at, disj_at, disjs_front_at, full_part_at, guarded_at, headed_at, inner_body_at, judged_at, kinds_at, led_at, led_by_name_at, let_at, opt_conds_at, ors_front_at, right_at, ruled_at, tested_at};
 
-use crate::bits::{is_binary, lead_of, note, operator};
-use crate::cursor::Halt;
+use crate::leaf_rules::{is_binary, lead_of, note, operator};
 use crate::read_query::{expr, exprs, query, value};
-use crate::shape::Want;
-use crate::state::{Cursor, Tokens};
 use guard_syntax::{Body, Conds, Disj, Expr, Let, Name, Op, Part, Query, Text};
+use literal_parser::{Cursor, Halt, TokenTest, Tokens};
 use std::alloc::Global;
 
 /// A body, one bracket deeper.
@@ -41,7 +40,7 @@ fn body_of(
     ensures { Reads see_body (body_at tokens.entry depth (state_of cursor.old) cursor.old.seen) result cursor.new }
 {
     let site = cursor.opens(tokens)?;
-    cursor.takes(tokens, Want::LBrace)?;
+    cursor.takes(tokens, TokenTest::LBrace)?;
     let (lets, parts) = body_items(alloc, tokens, cursor, depth)?;
     if parts.is_empty() {
         return Err(Halt::Dead(cursor.seen));
@@ -58,12 +57,12 @@ fn body_end(
 ) -> Result<Body, Halt>
     ensures { Reads see_body (body_end_at tokens.entry site (see_items (lets, parts)) (state_of cursor.old) cursor.old.seen) result cursor.new }
 {
-    cursor.takes(tokens, Want::RBrace)?;
+    cursor.takes(tokens, TokenTest::RBrace)?;
     Ok(Body { site, lets, parts })
 }
 
 #[cycle(grammar)]
-#[tactic(auto, unfolding(crate::specs::Reading::body_items, crate::specs::Parser::choose))]
+#[tactic(auto, unfolding(crate::specs::Reading::body_items, literal_parser::specs::Parser::choose))]
 fn body_items(
     alloc: Global,
     tokens: Tokens<'_>,
@@ -76,14 +75,14 @@ fn body_items(
     let mut lets = Vec::new(alloc);
     let mut parts = Vec::new(alloc);
     for _turn in 0..tokens.turns {
-        if cursor.sees(tokens, Want::Let) {
+        if cursor.sees(tokens, TokenTest::Let) {
             match let_of(alloc, tokens, cursor, depth) {
                 Ok(found) => lets.push(found)?,
                 Err(e) => return Err(e),
             }
             continue;
         }
-        if !cursor.sees(tokens, Want::Part) {
+        if !cursor.sees(tokens, TokenTest::Part) {
             return Ok((lets, parts));
         }
         match disj(alloc, tokens, cursor, depth) {
@@ -107,9 +106,9 @@ pub(crate) fn let_of(
     ensures { Reads see_let (let_at tokens.entry depth (state_of cursor.old) cursor.old.seen) result cursor.new }
 {
     let site = cursor.opens(tokens)?;
-    cursor.takes(tokens, Want::Let)?;
-    let name = cursor.has_name(alloc, tokens, Want::Name)?;
-    cursor.takes(tokens, Want::Assign)?;
+    cursor.takes(tokens, TokenTest::Let)?;
+    let name = cursor.has_name(alloc, tokens, TokenTest::Name)?;
+    cursor.takes(tokens, TokenTest::Assign)?;
     let value = value(alloc, tokens, cursor, depth)?;
     Ok(Let { site, name, value })
 }
@@ -134,7 +133,7 @@ pub(crate) fn disj(
 }
 
 #[cycle(grammar)]
-#[tactic(auto, unfolding(crate::specs::Reading::ors, crate::specs::Parser::choose))]
+#[tactic(auto, unfolding(crate::specs::Reading::ors, literal_parser::specs::Parser::choose))]
 fn ors(
     alloc: Global,
     tokens: Tokens<'_>,
@@ -147,10 +146,10 @@ fn ors(
 {
     let mut found = found;
     for _turn in 0..tokens.turns {
-        if !cursor.sees(tokens, Want::Or) {
+        if !cursor.sees(tokens, TokenTest::Or) {
             return Ok(found);
         }
-        cursor.takes(tokens, Want::Or)?;
+        cursor.takes(tokens, TokenTest::Or)?;
         found.push(full_part(alloc, tokens, cursor, depth)?)?;
     }
     Err(Halt::Dead(cursor.seen))
@@ -176,7 +175,7 @@ fn cond_disj(
 }
 
 #[cycle(grammar)]
-#[tactic(auto, unfolding(crate::specs::Reading::ors, crate::specs::Parser::choose))]
+#[tactic(auto, unfolding(crate::specs::Reading::ors, literal_parser::specs::Parser::choose))]
 fn cond_ors(
     alloc: Global,
     tokens: Tokens<'_>,
@@ -189,10 +188,10 @@ fn cond_ors(
 {
     let mut found = found;
     for _turn in 0..tokens.turns {
-        if !cursor.sees(tokens, Want::Or) {
+        if !cursor.sees(tokens, TokenTest::Or) {
             return Ok(found);
         }
-        cursor.takes(tokens, Want::Or)?;
+        cursor.takes(tokens, TokenTest::Or)?;
         found.push(cond_part(alloc, tokens, cursor, depth)?)?;
     }
     Err(Halt::Dead(cursor.seen))
@@ -214,7 +213,7 @@ fn cond_part(
 }
 
 #[cycle(grammar)]
-#[tactic(auto, unfolding(crate::specs::Reading::full_part, crate::specs::Parser::choose))]
+#[tactic(auto, unfolding(crate::specs::Reading::full_part, literal_parser::specs::Parser::choose))]
 fn full_part(
     alloc: Global,
     tokens: Tokens<'_>,
@@ -225,10 +224,10 @@ fn full_part(
     ensures { Reads see_part (full_part_at tokens.entry depth (state_of cursor.old) cursor.old.seen) result cursor.new }
 {
     let site = cursor.opens(tokens)?;
-    if cursor.sees(tokens, Want::When) {
+    if cursor.sees(tokens, TokenTest::When) {
         return guarded(alloc, tokens, cursor, depth, site);
     }
-    if cursor.sees(tokens, Want::TypeName) {
+    if cursor.sees(tokens, TokenTest::TypeName) {
         return kinds(alloc, tokens, cursor, depth, site);
     }
     cond(alloc, tokens, cursor, depth, true, site)
@@ -246,7 +245,7 @@ fn guarded(
     requires room { depth ≤ 128 }
     ensures { Reads see_part (guarded_at tokens.entry depth site (state_of cursor.old) cursor.old.seen) result cursor.new }
 {
-    cursor.takes(tokens, Want::When)?;
+    cursor.takes(tokens, TokenTest::When)?;
     let cond = conds(alloc, tokens, cursor, depth)?;
     let body = body(alloc, tokens, cursor, depth)?;
     Ok(Part::When { site, cond, body })
@@ -264,7 +263,7 @@ fn kinds(
     requires room { depth ≤ 128 }
     ensures { Reads see_part (kinds_at tokens.entry depth site (state_of cursor.old) cursor.old.seen) result cursor.new }
 {
-    let name = cursor.has_text(alloc, tokens, Want::TypeName)?;
+    let name = cursor.has_text(alloc, tokens, TokenTest::TypeName)?;
     let cond = opt_conds(alloc, tokens, cursor, depth)?;
     let body = body(alloc, tokens, cursor, depth)?;
     Ok(Part::Kinds {
@@ -277,7 +276,7 @@ fn kinds(
 
 /// `when` and conditions, or nothing.
 #[cycle(grammar)]
-#[tactic(auto, unfolding(crate::specs::Reading::opt_conds, crate::specs::Parser::choose))]
+#[tactic(auto, unfolding(crate::specs::Reading::opt_conds, literal_parser::specs::Parser::choose))]
 pub(crate) fn opt_conds(
     alloc: Global,
     tokens: Tokens<'_>,
@@ -287,10 +286,10 @@ pub(crate) fn opt_conds(
     requires room { depth ≤ 128 }
     ensures { Reads see_opt_conds (opt_conds_at tokens.entry depth (state_of cursor.old) cursor.old.seen) result cursor.new }
 {
-    if !cursor.sees(tokens, Want::When) {
+    if !cursor.sees(tokens, TokenTest::When) {
         return Ok(None);
     }
-    cursor.takes(tokens, Want::When)?;
+    cursor.takes(tokens, TokenTest::When)?;
     let found = conds(alloc, tokens, cursor, depth)?;
     Ok(Some(found))
 }
@@ -314,7 +313,7 @@ pub(crate) fn conds(
 }
 
 #[cycle(grammar)]
-#[tactic(auto, unfolding(crate::specs::Reading::disjs, crate::specs::Parser::choose))]
+#[tactic(auto, unfolding(crate::specs::Reading::disjs, literal_parser::specs::Parser::choose))]
 fn disjs(
     alloc: Global,
     tokens: Tokens<'_>,
@@ -327,7 +326,7 @@ fn disjs(
 {
     let mut found = found;
     for _turn in 0..tokens.turns {
-        if !cursor.sees(tokens, Want::Cond) {
+        if !cursor.sees(tokens, TokenTest::Cond) {
             return Ok(found);
         }
         found.push(cond_disj(alloc, tokens, cursor, depth)?)?;
@@ -336,7 +335,7 @@ fn disjs(
 }
 
 #[cycle(grammar)]
-#[tactic(auto, unfolding(crate::specs::Reading::cond_of, crate::specs::Parser::choose))]
+#[tactic(auto, unfolding(crate::specs::Reading::cond_of, literal_parser::specs::Parser::choose))]
 fn cond(
     alloc: Global,
     tokens: Tokens<'_>,
@@ -348,19 +347,19 @@ fn cond(
     requires room { depth ≤ 128 }
     ensures { Reads see_part (cond_at tokens.entry depth full site (state_of cursor.old) cursor.old.seen) result cursor.new }
 {
-    if cursor.sees(tokens, Want::Some) {
-        cursor.takes(tokens, Want::Some)?;
+    if cursor.sees(tokens, TokenTest::Some) {
+        cursor.takes(tokens, TokenTest::Some)?;
         return headed(alloc, tokens, cursor, depth, full, site, true);
     }
-    if cursor.sees(tokens, Want::Neg) {
-        cursor.takes(tokens, Want::Neg)?;
+    if cursor.sees(tokens, TokenTest::Neg) {
+        cursor.takes(tokens, TokenTest::Neg)?;
         return ruled(alloc, tokens, cursor, depth, site, true);
     }
     led(alloc, tokens, cursor, depth, full, site)
 }
 
 #[cycle(grammar)]
-#[tactic(auto, unfolding(crate::specs::Parser::choose))]
+#[tactic(auto, unfolding(literal_parser::specs::Parser::choose))]
 fn led(
     alloc: Global,
     tokens: Tokens<'_>,
@@ -372,10 +371,10 @@ fn led(
     requires room { depth ≤ 128 }
     ensures { Reads see_part (led_at tokens.entry depth full site (state_of cursor.old) cursor.old.seen) result cursor.new }
 {
-    if cursor.sees(tokens, Want::Name) {
+    if cursor.sees(tokens, TokenTest::Name) {
         return led_by_name(alloc, tokens, cursor, depth, full, site);
     }
-    if cursor.sees(tokens, Want::Start) {
+    if cursor.sees(tokens, TokenTest::Start) {
         return headed(alloc, tokens, cursor, depth, full, site, false);
     }
     Err(Halt::Dead(cursor.seen))
@@ -383,7 +382,7 @@ fn led(
 
 /// A name begins a query or is a rule's.
 #[cycle(grammar)]
-#[tactic(auto, unfolding(crate::specs::Reading::led_by_name, crate::specs::Parser::choose_next, crate::specs::Parser::choose_third))]
+#[tactic(auto, unfolding(crate::specs::Reading::led_by_name, literal_parser::specs::Parser::choose_next, literal_parser::specs::Parser::choose_third))]
 fn led_by_name(
     alloc: Global,
     tokens: Tokens<'_>,
@@ -398,10 +397,10 @@ fn led_by_name(
     if cursor.sees_next(tokens, lead_of(full)) {
         return headed(alloc, tokens, cursor, depth, full, site, false);
     }
-    if !cursor.sees_next(tokens, Want::Neg) {
+    if !cursor.sees_next(tokens, TokenTest::Neg) {
         return ruled(alloc, tokens, cursor, depth, site, false);
     }
-    if cursor.sees_third(tokens, Want::Operator) {
+    if cursor.sees_third(tokens, TokenTest::Operator) {
         return headed(alloc, tokens, cursor, depth, full, site, false);
     }
     ruled(alloc, tokens, cursor, depth, site, false)
@@ -426,7 +425,7 @@ fn headed(
 }
 
 #[cycle(grammar)]
-#[tactic(auto, unfolding(crate::specs::Reading::judged, crate::specs::Parser::choose))]
+#[tactic(auto, unfolding(crate::specs::Reading::judged, literal_parser::specs::Parser::choose))]
 fn judged(
     alloc: Global,
     tokens: Tokens<'_>,
@@ -443,7 +442,7 @@ fn judged(
     if !full {
         return tested(alloc, tokens, cursor, depth, site, any, left);
     }
-    if !cursor.sees(tokens, Want::LBrace) {
+    if !cursor.sees(tokens, TokenTest::LBrace) {
         return tested(alloc, tokens, cursor, depth, site, any, left);
     }
     let body = body(alloc, tokens, cursor, depth)?;
@@ -503,7 +502,7 @@ fn right(
 }
 
 #[cycle(grammar)]
-#[tactic(auto, unfolding(crate::specs::Reading::ruled, crate::specs::Reading::referred, crate::specs::Parser::choose))]
+#[tactic(auto, unfolding(crate::specs::Reading::ruled, crate::specs::Reading::referred, literal_parser::specs::Parser::choose))]
 fn ruled(
     alloc: Global,
     tokens: Tokens<'_>,
@@ -515,8 +514,8 @@ fn ruled(
     requires room { depth ≤ 128 }
     ensures { Reads see_part (ruled_at tokens.entry depth site not (state_of cursor.old) cursor.old.seen) result cursor.new }
 {
-    let name = cursor.has_text(alloc, tokens, Want::Name)?;
-    if cursor.sees(tokens, Want::LParen) {
+    let name = cursor.has_text(alloc, tokens, TokenTest::Name)?;
+    if cursor.sees(tokens, TokenTest::LParen) {
         return called(alloc, tokens, cursor, depth, site, not, name);
     }
     let note = note(alloc, tokens, cursor)?;
@@ -542,9 +541,9 @@ fn called(
     requires room { depth ≤ 128 }
     ensures { Reads see_part (called_at tokens.entry depth site not name (state_of cursor.old) cursor.old.seen) result cursor.new }
 {
-    cursor.takes(tokens, Want::LParen)?;
+    cursor.takes(tokens, TokenTest::LParen)?;
     let args = exprs(alloc, tokens, cursor, depth)?;
-    cursor.takes(tokens, Want::RParen)?;
+    cursor.takes(tokens, TokenTest::RParen)?;
     let note = note(alloc, tokens, cursor)?;
     Ok(Part::Call {
         site,

@@ -1,19 +1,17 @@
 //! The grammar of a file: its lets, its rules and its parts.
 ghost use Rattle.std.specs.Prelude.{◌≡◌, ◌≤◌, map};
 ghost use Rattle.guard_syntax.specs.Seen.{see_rule};
-ghost use Rattle.guard_parser.specs.Reads.{Reads, state_of};
+ghost use Rattle.literal_parser.specs.Reads.{Reads, state_of};
 ghost use Rattle.guard_parser.specs.FileReads.{see_head, see_file_items, before_names, before_items, names_at, params_at, head_at, rule_at, items_at, contents_at, whole_file_at};
 
-use crate::cursor::Halt;
 use crate::items::FileItems;
 use crate::read::{body, disj, let_of, opt_conds};
-use crate::shape::Want;
-use crate::state::{Cursor, Tokens};
 use guard_syntax::{Conds, Name, Names, Rule};
+use literal_parser::{Cursor, Halt, TokenTest, Tokens};
 use std::alloc::Global;
 
 /// Names behind commas, behind those that were found before.
-#[tactic(auto, unfolding(crate::specs::Reading::names, crate::specs::Parser::choose))]
+#[tactic(auto, unfolding(crate::specs::Reading::names, literal_parser::specs::Parser::choose))]
 fn names(
     alloc: Global,
     tokens: Tokens<'_>,
@@ -24,11 +22,11 @@ fn names(
 {
     let mut found = found;
     for _turn in 0..tokens.turns {
-        if !cursor.sees(tokens, Want::Comma) {
+        if !cursor.sees(tokens, TokenTest::Comma) {
             return Ok(found);
         }
-        cursor.takes(tokens, Want::Comma)?;
-        found.push(cursor.has_name(alloc, tokens, Want::Name)?)?;
+        cursor.takes(tokens, TokenTest::Comma)?;
+        found.push(cursor.has_name(alloc, tokens, TokenTest::Name)?)?;
     }
     Err(Halt::Dead(cursor.seen))
 }
@@ -38,16 +36,16 @@ fn names(
 fn params(alloc: Global, tokens: Tokens<'_>, cursor: &mut Cursor) -> Result<Vec<Name>, Halt>
     ensures { Reads (λ v. v.items) (params_at tokens.entry (state_of cursor.old) cursor.old.seen) result cursor.new }
 {
-    cursor.takes(tokens, Want::LParen)?;
+    cursor.takes(tokens, TokenTest::LParen)?;
     let mut found = Vec::new(alloc);
-    found.push(cursor.has_name(alloc, tokens, Want::Name)?)?;
+    found.push(cursor.has_name(alloc, tokens, TokenTest::Name)?)?;
     let found = names(alloc, tokens, cursor, found)?;
-    cursor.takes(tokens, Want::RParen)?;
+    cursor.takes(tokens, TokenTest::RParen)?;
     Ok(found)
 }
 
 /// The parameters of a rule, or its conditions.
-#[tactic(auto, unfolding(crate::specs::Reading::head, crate::specs::Parser::choose))]
+#[tactic(auto, unfolding(crate::specs::Reading::head, literal_parser::specs::Parser::choose))]
 fn head(
     alloc: Global,
     tokens: Tokens<'_>,
@@ -57,7 +55,7 @@ fn head(
     requires room { depth ≤ 128 }
     ensures { Reads see_head (head_at tokens.entry depth (state_of cursor.old) cursor.old.seen) result cursor.new }
 {
-    if cursor.sees(tokens, Want::LParen) {
+    if cursor.sees(tokens, TokenTest::LParen) {
         let params = params(alloc, tokens, cursor)?;
         return Ok((Names::new(params), None));
     }
@@ -72,8 +70,8 @@ fn rule(alloc: Global, tokens: Tokens<'_>, cursor: &mut Cursor, depth: usize) ->
     ensures { Reads see_rule (rule_at tokens.entry depth (state_of cursor.old) cursor.old.seen) result cursor.new }
 {
     let site = cursor.opens(tokens)?;
-    cursor.takes(tokens, Want::Rule)?;
-    let name = cursor.has_name(alloc, tokens, Want::RuleName)?;
+    cursor.takes(tokens, TokenTest::Rule)?;
+    let name = cursor.has_name(alloc, tokens, TokenTest::RuleName)?;
     let (params, cond) = head(alloc, tokens, cursor, depth)?;
     let body = body(alloc, tokens, cursor, depth)?;
     Ok(Rule {
@@ -86,7 +84,7 @@ fn rule(alloc: Global, tokens: Tokens<'_>, cursor: &mut Cursor, depth: usize) ->
 }
 
 /// The lets, the rules and the parts of a file, up to what begins none.
-#[tactic(auto, unfolding(crate::specs::Reading::file_items, crate::specs::Parser::choose))]
+#[tactic(auto, unfolding(crate::specs::Reading::file_items, literal_parser::specs::Parser::choose))]
 fn items(
     alloc: Global,
     tokens: Tokens<'_>,
@@ -102,15 +100,15 @@ fn items(
         loose: Vec::new(alloc),
     };
     for _turn in 0..tokens.turns {
-        if cursor.sees(tokens, Want::Let) {
+        if cursor.sees(tokens, TokenTest::Let) {
             found.lets.push(let_of(alloc, tokens, cursor, depth)?)?;
             continue;
         }
-        if cursor.sees(tokens, Want::Rule) {
+        if cursor.sees(tokens, TokenTest::Rule) {
             found.rules.push(rule(alloc, tokens, cursor, depth)?)?;
             continue;
         }
-        if !cursor.sees(tokens, Want::Part) {
+        if !cursor.sees(tokens, TokenTest::Part) {
             return Ok(found);
         }
         let part = match disj(alloc, tokens, cursor, depth) {
@@ -138,7 +136,7 @@ fn contents(
 }
 
 /// The contents of a file, and nothing behind them.
-#[tactic(auto, unfolding(crate::specs::Reading::whole_file, crate::specs::Parser::choose))]
+#[tactic(auto, unfolding(crate::specs::Reading::whole_file, literal_parser::specs::Parser::choose))]
 pub(crate) fn whole_file(
     alloc: Global,
     tokens: Tokens<'_>,

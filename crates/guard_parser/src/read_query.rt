@@ -2,16 +2,15 @@
 //! of depth less.
 ghost use Rattle.std.specs.Prelude.{◌≤◌, map};
 ghost use Rattle.guard_syntax.specs.Seen.{see_conds, see_query, see_step, see_expr};
-ghost use Rattle.guard_parser.specs.Reads.{Reads, state_of, see_exprs, see_steps, applied_at, asked_at, behind_bracket_at, bracketed_at, captured_at, expr_at, exprs_at, filtered_at, found_expr_at, inner_conds_at, inner_expr_at, inner_exprs_at, keyed_at, more_exprs_front_at, named_expr_at, query_at, step_at, steps_front_at, value_at};
+ghost use Rattle.literal_parser.specs.Reads.{Reads, state_of};
+ghost use Rattle.guard_parser.specs.GrammarReads.{see_exprs, see_steps, applied_at, asked_at, behind_bracket_at, bracketed_at, captured_at, expr_at, exprs_at, filtered_at, found_expr_at, inner_conds_at, inner_expr_at, inner_exprs_at, keyed_at, more_exprs_front_at, named_expr_at, query_at, step_at, steps_front_at, value_at};
 
-use crate::bits::{
+use crate::leaf_rules::{
     all_items, capture, dotted, keys_operator, numbered_item, start_step, tree_expr,
 };
-use crate::cursor::Halt;
 use crate::read::conds;
-use crate::shape::Want;
-use crate::state::{Cursor, Tokens};
 use guard_syntax::{Conds, Expr, Name, Query, Step, StepForm};
+use literal_parser::{Cursor, Halt, TokenTest, Tokens};
 use std::alloc::Global;
 
 #[cycle(grammar)]
@@ -33,7 +32,7 @@ pub(crate) fn query(
 }
 
 #[cycle(grammar)]
-#[tactic(auto, unfolding(crate::specs::Reading::steps, crate::specs::Parser::choose))]
+#[tactic(auto, unfolding(crate::specs::Reading::steps, literal_parser::specs::Parser::choose))]
 fn steps(
     alloc: Global,
     tokens: Tokens<'_>,
@@ -46,7 +45,7 @@ fn steps(
 {
     let mut found = found;
     for _turn in 0..tokens.turns {
-        if !cursor.sees(tokens, Want::Step) {
+        if !cursor.sees(tokens, TokenTest::Step) {
             return Ok(found);
         }
         found.push(step(alloc, tokens, cursor, depth)?)?;
@@ -55,13 +54,13 @@ fn steps(
 }
 
 #[cycle(grammar)]
-#[tactic(auto, unfolding(crate::specs::Reading::step, crate::specs::Reading::dotted, crate::specs::Parser::choose))]
+#[tactic(auto, unfolding(crate::specs::Reading::step, crate::specs::Reading::dotted, literal_parser::specs::Parser::choose))]
 fn step(alloc: Global, tokens: Tokens<'_>, cursor: &mut Cursor, depth: usize) -> Result<Step, Halt>
     requires room { depth ≤ 128 }
     ensures { Reads see_step (step_at tokens.entry depth (state_of cursor.old) cursor.old.seen) result cursor.new }
 {
     let site = cursor.opens(tokens)?;
-    if cursor.sees(tokens, Want::Dot) {
+    if cursor.sees(tokens, TokenTest::Dot) {
         return dotted(alloc, tokens, cursor, site);
     }
     bracketed(alloc, tokens, cursor, depth, site)
@@ -79,12 +78,12 @@ fn bracketed(
     requires room { depth ≤ 128 }
     ensures { Reads see_step (bracketed_at tokens.entry depth site (state_of cursor.old) cursor.old.seen) result cursor.new }
 {
-    cursor.takes(tokens, Want::LBracket)?;
+    cursor.takes(tokens, TokenTest::LBracket)?;
     behind_bracket(alloc, tokens, cursor, depth, site)
 }
 
 #[cycle(grammar)]
-#[tactic(auto, unfolding(crate::specs::Parser::choose))]
+#[tactic(auto, unfolding(literal_parser::specs::Parser::choose))]
 fn behind_bracket(
     alloc: Global,
     tokens: Tokens<'_>,
@@ -95,17 +94,17 @@ fn behind_bracket(
     requires room { depth ≤ 128 }
     ensures { Reads see_step (behind_bracket_at tokens.entry depth site (state_of cursor.old) cursor.old.seen) result cursor.new }
 {
-    if cursor.sees(tokens, Want::Star) {
+    if cursor.sees(tokens, TokenTest::Star) {
         return all_items(tokens, cursor, site);
     }
-    if cursor.sees(tokens, Want::Index) {
+    if cursor.sees(tokens, TokenTest::Index) {
         return numbered_item(tokens, cursor, site);
     }
     captured(alloc, tokens, cursor, depth, site)
 }
 
 #[cycle(grammar)]
-#[tactic(auto, unfolding(crate::specs::Parser::choose))]
+#[tactic(auto, unfolding(literal_parser::specs::Parser::choose))]
 fn captured(
     alloc: Global,
     tokens: Tokens<'_>,
@@ -117,7 +116,7 @@ fn captured(
     ensures { Reads see_step (captured_at tokens.entry depth site (state_of cursor.old) cursor.old.seen) result cursor.new }
 {
     let name = capture(alloc, tokens, cursor)?;
-    if cursor.sees(tokens, Want::Keys) {
+    if cursor.sees(tokens, TokenTest::Keys) {
         return keyed(alloc, tokens, cursor, depth, site, name);
     }
     filtered(alloc, tokens, cursor, depth, site, name)
@@ -136,10 +135,10 @@ fn keyed(
     requires room { depth ≤ 128 }
     ensures { Reads see_step (keyed_at tokens.entry depth site capture (state_of cursor.old) cursor.old.seen) result cursor.new }
 {
-    cursor.takes(tokens, Want::Keys)?;
+    cursor.takes(tokens, TokenTest::Keys)?;
     let (op, not) = keys_operator(tokens, cursor)?;
     let right = expr_inside(alloc, tokens, cursor, depth)?;
-    cursor.takes(tokens, Want::RBracket)?;
+    cursor.takes(tokens, TokenTest::RBracket)?;
     Ok(Step {
         site,
         form: StepForm::Keys {
@@ -165,7 +164,7 @@ fn filtered(
     ensures { Reads see_step (filtered_at tokens.entry depth site capture (state_of cursor.old) cursor.old.seen) result cursor.new }
 {
     let conds = conds_inside(alloc, tokens, cursor, depth)?;
-    cursor.takes(tokens, Want::RBracket)?;
+    cursor.takes(tokens, TokenTest::RBracket)?;
     Ok(Step {
         site,
         form: StepForm::Filter(capture, conds),
@@ -207,7 +206,7 @@ fn expr_inside(
 }
 
 #[cycle(grammar)]
-#[tactic(auto, unfolding(crate::specs::Reading::expr_of, crate::specs::Parser::choose))]
+#[tactic(auto, unfolding(crate::specs::Reading::expr_of, literal_parser::specs::Parser::choose))]
 pub(crate) fn expr(
     alloc: Global,
     tokens: Tokens<'_>,
@@ -217,10 +216,10 @@ pub(crate) fn expr(
     requires room { depth ≤ 128 }
     ensures { Reads see_expr (expr_at tokens.entry depth (state_of cursor.old) cursor.old.seen) result cursor.new }
 {
-    if cursor.sees(tokens, Want::AnyName) {
+    if cursor.sees(tokens, TokenTest::AnyName) {
         return named_expr(alloc, tokens, cursor, depth);
     }
-    if cursor.sees(tokens, Want::Plain) {
+    if cursor.sees(tokens, TokenTest::Plain) {
         return tree_expr(alloc, tokens, cursor, depth);
     }
     asked(alloc, tokens, cursor, depth)
@@ -228,7 +227,7 @@ pub(crate) fn expr(
 
 /// An expression that begins with a name or a keyword.
 #[cycle(grammar)]
-#[tactic(auto, unfolding(crate::specs::Parser::choose, crate::specs::Parser::choose_pair, crate::specs::Parser::choose_next))]
+#[tactic(auto, unfolding(literal_parser::specs::Parser::choose, literal_parser::specs::Parser::choose_pair, literal_parser::specs::Parser::choose_next))]
 fn named_expr(
     alloc: Global,
     tokens: Tokens<'_>,
@@ -241,10 +240,10 @@ fn named_expr(
     if cursor.sees_range(tokens) {
         return tree_expr(alloc, tokens, cursor, depth);
     }
-    if cursor.sees_next(tokens, Want::LParen) {
+    if cursor.sees_next(tokens, TokenTest::LParen) {
         return applied(alloc, tokens, cursor, depth);
     }
-    if cursor.sees(tokens, Want::Constant) {
+    if cursor.sees(tokens, TokenTest::Constant) {
         return tree_expr(alloc, tokens, cursor, depth);
     }
     asked(alloc, tokens, cursor, depth)
@@ -272,10 +271,10 @@ fn applied(
     ensures { Reads see_expr (applied_at tokens.entry depth (state_of cursor.old) cursor.old.seen) result cursor.new }
 {
     let site = cursor.opens(tokens)?;
-    let name = cursor.has_text(alloc, tokens, Want::AnyName)?;
-    cursor.takes(tokens, Want::LParen)?;
+    let name = cursor.has_text(alloc, tokens, TokenTest::AnyName)?;
+    cursor.takes(tokens, TokenTest::LParen)?;
     let args = exprs(alloc, tokens, cursor, depth)?;
-    cursor.takes(tokens, Want::RParen)?;
+    cursor.takes(tokens, TokenTest::RParen)?;
     Ok(Expr::Function { site, name, args })
 }
 
@@ -313,7 +312,7 @@ fn exprs_of(
 }
 
 #[cycle(grammar)]
-#[tactic(auto, unfolding(crate::specs::Reading::more_exprs_of, crate::specs::Parser::choose))]
+#[tactic(auto, unfolding(crate::specs::Reading::more_exprs_of, literal_parser::specs::Parser::choose))]
 fn more_exprs(
     alloc: Global,
     tokens: Tokens<'_>,
@@ -326,10 +325,10 @@ fn more_exprs(
 {
     let mut found = found;
     for _turn in 0..tokens.turns {
-        if !cursor.sees(tokens, Want::Comma) {
+        if !cursor.sees(tokens, TokenTest::Comma) {
             return Ok(found);
         }
-        cursor.takes(tokens, Want::Comma)?;
+        cursor.takes(tokens, TokenTest::Comma)?;
         found.push(expr(alloc, tokens, cursor, depth)?)?;
     }
     Err(Halt::Dead(cursor.seen))
@@ -337,7 +336,7 @@ fn more_exprs(
 
 /// The right side of a let.
 #[cycle(grammar)]
-#[tactic(auto, unfolding(crate::specs::Reading::value_of, crate::specs::Parser::choose, crate::specs::Parser::choose_next))]
+#[tactic(auto, unfolding(crate::specs::Reading::value_of, literal_parser::specs::Parser::choose, literal_parser::specs::Parser::choose_next))]
 pub(crate) fn value(
     alloc: Global,
     tokens: Tokens<'_>,
@@ -347,10 +346,10 @@ pub(crate) fn value(
     requires room { depth ≤ 128 }
     ensures { Reads see_expr (value_at tokens.entry depth (state_of cursor.old) cursor.old.seen) result cursor.new }
 {
-    if !cursor.sees(tokens, Want::Some) {
+    if !cursor.sees(tokens, TokenTest::Some) {
         return expr(alloc, tokens, cursor, depth);
     }
-    if cursor.sees_next(tokens, Want::LParen) {
+    if cursor.sees_next(tokens, TokenTest::LParen) {
         return expr(alloc, tokens, cursor, depth);
     }
     found_expr(alloc, tokens, cursor, depth)
@@ -368,7 +367,7 @@ fn found_expr(
     ensures { Reads see_expr (found_expr_at tokens.entry depth (state_of cursor.old) cursor.old.seen) result cursor.new }
 {
     let site = cursor.opens(tokens)?;
-    cursor.takes(tokens, Want::Some)?;
+    cursor.takes(tokens, TokenTest::Some)?;
     let query = query(alloc, tokens, cursor, depth)?;
     Ok(Expr::Found { site, query })
 }

@@ -4,18 +4,17 @@ ghost use Rattle.guard_lexer.specs.Lexes.{IsTokenList};
 ghost use Rattle.guard_lexer.specs.declared.token.Token.{Token};
 ghost use Rattle.guard_syntax.specs.Syntax.{File};
 ghost use Rattle.guard_syntax.specs.Seen.{see_file};
+ghost use Rattle.guard_syntax.specs.Queries.{QueriesBegin};
 ghost use Rattle.guard_syntax.specs.Sites.{upto, sites_file};
 ghost use Rattle.guard_parser.specs.declared.refusal.ParseRefusal.TheVariants.{NestTooDeep};
 ghost use Rattle.guard_parser.specs.File.{Rules, IsSpelled, IsShallow, IsTooDeep, IsRefused};
 
-use crate::cursor::Halt;
 use crate::nest::{MOST_OPEN, first_too_deep};
 use crate::read_file::whole_file;
 use crate::refusal::ParseRefusal;
-use crate::state::{Cursor, Tokens};
-use crate::words::shapes_of;
 use guard_lexer::Token;
 use guard_syntax::{Places, RawFile};
+use literal_parser::{Cursor, Halt, Tokens, shapes_of};
 use std::alloc::Global;
 
 /// No rule file has more tokens.
@@ -85,4 +84,9 @@ pub fn one_syntax()
 /// The sites of a file are the numbers from 0 on in the order in which its parts begin, and each has a place.
 pub fn sites_in_order()
     ensures { (text : List ℕ) (tokens : List Token) (f : File) (p : Option ℕ) → IsSpelled text tokens f p → sites_file f ≡ upto 0 (length f.places) }
+{}
+
+/// Each query of a file has a first step, and it is `this`, a variable or a key.
+pub fn queries_begin()
+    ensures { (text : List ℕ) (tokens : List Token) (f : File) (p : Option ℕ) → IsSpelled text tokens f p → QueriesBegin f }
 {}

@@ -1,7 +1,7 @@
 use Rattle.std.proofs.Common.{◌≡◌, ◌<◌, ◌+◌, ℕ, List, true, true≢false, sym, ◌∙◌, arith, []}
 use Rattle.std.proofs.lemmas.Bool.Decides.{nat_tests}
-use Rattle.guard_parser.specs.Lexemes.{lexeme_of}
-use Rattle.guard_parser.specs.Forms.{form, is_opening}
+use Rattle.literal_parser.specs.Lexemes.{lexeme_of}
+use Rattle.literal_parser.specs.Forms.{form, is_opening}
 use Rattle.guard_parser.proofs.Opened.{one_more, still_few, too_deep}
 use Rattle.guard_parser.proofs.nest.first_too_deep.Goals.{else-depth-eq-MOST_OPEN-via-then-depth-eq-MOST_OPEN+else-is_opening, else-depth-eq-MOST_OPEN-via-else-depth-eq-MOST_OPEN}
 use Rattle.guard_parser.proofs.nest.first_too_deep.Goals as goal

@@ -1,5 +1,5 @@
 use Rattle.std.proofs.Common.{◌≡◌, ℕ, List, ◌≤◌}
-use Rattle.guard_parser.specs.Lexemes.{lexemes}
+use Rattle.literal_parser.specs.Lexemes.{lexemes}
 use Rattle.guard_parser.specs.File.{open_before, IsShallowTo}
 use Rattle.guard_parser.proofs.nest.first_too_deep.Given as goal
 

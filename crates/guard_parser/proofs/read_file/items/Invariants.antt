@@ -1,6 +1,6 @@
 use Rattle.std.proofs.Common.{◌≡◌, ◌-◌, map}
 use Rattle.guard_syntax.specs.Seen.{see_let, see_rule, see_disj}
-use Rattle.guard_parser.specs.Reads.{state_of}
+use Rattle.literal_parser.specs.Reads.{state_of}
 use Rattle.guard_parser.specs.FileReads.{before_items, items_at}
 use Rattle.guard_parser.proofs.read_file.items.Given as goal
 

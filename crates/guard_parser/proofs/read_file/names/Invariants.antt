@@ -1,5 +1,5 @@
 use Rattle.std.proofs.Common.{◌≡◌, ◌-◌}
-use Rattle.guard_parser.specs.Reads.{state_of}
+use Rattle.literal_parser.specs.Reads.{state_of}
 use Rattle.guard_parser.specs.FileReads.{before_names, names_at}
 use Rattle.guard_parser.proofs.read_file.names.Given as goal
 

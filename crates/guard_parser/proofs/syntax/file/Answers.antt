@@ -1,6 +1,6 @@
 use Rattle.std.proofs.Common.{◌≡◌, ap, sym, ◌∙◌, subst, arith, None, Err}
-use Rattle.guard_parser.specs.Parser.{Fail}
-use Rattle.guard_parser.specs.Reads.{Reads, source, state_of}
+use Rattle.literal_parser.specs.Parser.{Fail}
+use Rattle.literal_parser.specs.Reads.{Reads, source, state_of}
 use Rattle.guard_parser.specs.FileReads.{see_file_items, whole_file_at}
 use Rattle.guard_parser.specs.File.{IsSpelled, IsDeadEnd}
 use Rattle.guard_parser.proofs.Laws.{dead_end_at, read_is, file_of}

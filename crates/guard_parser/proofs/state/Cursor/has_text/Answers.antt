@@ -1,8 +1,0 @@
-use Rattle.guard_parser.specs.Forms.{text_of}
-use Rattle.guard_parser.specs.Shapes.{wants}
-use Rattle.guard_parser.specs.Reads.{state_of, source}
-use Rattle.guard_parser.proofs.Takes.{has_of}
-use Rattle.guard_parser.proofs.state.Cursor.has_text.Goals as goal
-
-pub returns : goal.returns
-returns c = has_of (source c.args.tokens) (wants c.args.want) text_of _ (state_of c.args.self.now) _ c.args.self.now.seen _ c.in_ok-takes.ensures (c.in_ok-text.ensures)

@@ -1,8 +1,0 @@
-use Rattle.guard_parser.specs.Shapes.{wants}
-use Rattle.guard_parser.specs.Reads.{source}
-use Rattle.guard_parser.proofs.Places.{told}
-use Rattle.guard_parser.proofs.state.Cursor.sees.Goals as goal
-
-pub returns-clause-token : goal.returns-clause-token
-returns-clause-token c =
-    told (wants c.args.want) c.shape.result (source c.args.tokens c.args.self.now.at) c.accepts.result c.accepts.ensures c.shape.ensures

@@ -1,8 +1,0 @@
-use Rattle.std.proofs.Common.{◌≡◌, map, take}
-use Rattle.guard_lexer.specs.declared.token.Token.{Token}
-use Rattle.guard_parser.specs.Lexemes.{lexeme_of}
-use Rattle.guard_parser.specs.Shapes.{shape_of}
-use Rattle.guard_parser.proofs.words.shapes_of.Given as goal
-
-abbrev pub invariant-loop-token : goal.invariant-loop-token
-invariant-loop-token l = l.shapes.items ≡ map (λ (t : Token). shape_of (lexeme_of l.text t)) (take l.token-index l.tokens)

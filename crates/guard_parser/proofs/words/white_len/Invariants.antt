@@ -1,6 +1,0 @@
-use Rattle.std.proofs.Common.{◌≡◌, drop}
-use Rattle.guard_parser.specs.Lexemes.{front_trimmed}
-use Rattle.guard_parser.proofs.words.white_len.Given as goal
-
-abbrev pub invariant-loop-at : goal.invariant-loop-at
-invariant-loop-at l = front_trimmed (drop l.at l.bytes) ≡ front_trimmed l.bytes

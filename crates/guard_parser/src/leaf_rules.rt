@@ -1,0 +1,289 @@
+//! The rules of the grammar that hold no other parts.
+ghost use Rattle.std.specs.Prelude.{◌≡◌, ◌≤◌, ℕ, Option, Some, None, map};
+ghost use Rattle.guard_syntax.specs.declared.syntax.Op.{Op};
+ghost use Rattle.guard_syntax.specs.Seen.{see_step, see_expr};
+ghost use Rattle.literal_parser.specs.Forms.{leads, is_binary};
+ghost use Rattle.literal_parser.specs.TokenClasses.{wants};
+ghost use Rattle.literal_parser.specs.Reads.{Reads, itself, state_of, source};
+ghost use Rattle.guard_parser.specs.GrammarReads.{tree_expr_at, every_at, index_at, splice_at, key_at, name_at, behind_dot_at, dotted_at, items_at, closed_index_at, start_at, tree_at};
+ghost use Rattle.guard_parser.specs.Reading as spec;
+
+use doc_values::Doc;
+use guard_syntax::{Expr, Name, Op, Step, StepForm, Text};
+use literal_parser::literal::literal;
+use literal_parser::{Cursor, Halt, TokenTest, Tokens};
+use std::alloc::Global;
+
+#[tactic(auto, unfolding(crate::specs::Reading::named_bar))]
+fn named_bar(alloc: Global, tokens: Tokens<'_>, cursor: &mut Cursor) -> Result<Option<Name>, Halt>
+    ensures { Reads itself (spec.named_bar (source tokens.entry) (state_of cursor.old) cursor.old.seen) result cursor.new }
+{
+    let name = cursor.has_name(alloc, tokens, TokenTest::Name)?;
+    cursor.takes(tokens, TokenTest::Bar)?;
+    Ok(Some(name))
+}
+
+/// A name and a bar, or nothing.
+#[tactic(auto, unfolding(crate::specs::Reading::capture, literal_parser::specs::Parser::choose, literal_parser::specs::Parser::choose_next))]
+pub(crate) fn capture(
+    alloc: Global,
+    tokens: Tokens<'_>,
+    cursor: &mut Cursor,
+) -> Result<Option<Name>, Halt>
+    ensures { Reads itself (spec.capture (source tokens.entry) (state_of cursor.old) cursor.old.seen) result cursor.new }
+{
+    if !cursor.sees(tokens, TokenTest::Name) {
+        return Ok(None);
+    }
+    if !cursor.sees_next(tokens, TokenTest::Bar) {
+        return Ok(None);
+    }
+    named_bar(alloc, tokens, cursor)
+}
+
+/// A note, or nothing.
+#[tactic(auto, unfolding(crate::specs::Reading::note, literal_parser::specs::Parser::choose))]
+pub(crate) fn note(
+    alloc: Global,
+    tokens: Tokens<'_>,
+    cursor: &mut Cursor,
+) -> Result<Option<Text>, Halt>
+    ensures { Reads itself (spec.note (source tokens.entry) (state_of cursor.old) cursor.old.seen) result cursor.new }
+{
+    if !cursor.sees(tokens, TokenTest::Note) {
+        return Ok(None);
+    }
+    let text = cursor.has_text(alloc, tokens, TokenTest::Note)?;
+    Ok(Some(text))
+}
+
+/// `!` or `not`, or nothing.
+#[tactic(auto, unfolding(crate::specs::Reading::neg, literal_parser::specs::Parser::choose))]
+fn neg(tokens: Tokens<'_>, cursor: &mut Cursor) -> Result<bool, Halt>
+    ensures { Reads itself (spec.neg (source tokens.entry) (state_of cursor.old) cursor.old.seen) result cursor.new }
+{
+    if !cursor.sees(tokens, TokenTest::Neg) {
+        return Ok(false);
+    }
+    cursor.takes(tokens, TokenTest::Neg)?;
+    Ok(true)
+}
+
+/// The word of an operator, negated or not.
+#[tactic(auto, unfolding(crate::specs::Reading::worded))]
+fn worded(tokens: Tokens<'_>, cursor: &mut Cursor, want: TokenTest) -> Result<(Op, bool), Halt>
+    ensures { Reads itself (spec.worded (source tokens.entry) (wants want) (state_of cursor.old) cursor.old.seen) result cursor.new }
+{
+    let not = neg(tokens, cursor)?;
+    let op = cursor.has_operator(tokens, want)?;
+    Ok((op, not))
+}
+
+/// The operator of a test.
+#[tactic(auto, unfolding(crate::specs::Reading::operator, literal_parser::specs::Parser::choose))]
+pub(crate) fn operator(tokens: Tokens<'_>, cursor: &mut Cursor) -> Result<(Op, bool), Halt>
+    ensures { Reads itself (spec.operator (source tokens.entry) (state_of cursor.old) cursor.old.seen) result cursor.new }
+{
+    if cursor.sees(tokens, TokenTest::Comparison) {
+        return cursor.has_sign(tokens, TokenTest::Comparison);
+    }
+    worded(tokens, cursor, TokenTest::Operator)
+}
+
+/// The operator of a filter on keys.
+#[tactic(auto, unfolding(crate::specs::Reading::keys_operator, literal_parser::specs::Parser::choose))]
+pub(crate) fn keys_operator(tokens: Tokens<'_>, cursor: &mut Cursor) -> Result<(Op, bool), Halt>
+    ensures { Reads itself (spec.keys_operator (source tokens.entry) (state_of cursor.old) cursor.old.seen) result cursor.new }
+{
+    if cursor.sees(tokens, TokenTest::Equality) {
+        return cursor.has_sign(tokens, TokenTest::Equality);
+    }
+    worded(tokens, cursor, TokenTest::In)
+}
+
+/// Whether an operator has a right side.
+pub(crate) fn is_binary(op: Op) -> bool
+    ensures { result ≡ is_binary op }
+{
+    matches!(op, Op::Eq | Op::Lt | Op::Le | Op::Gt | Op::Ge | Op::Within)
+}
+
+/// What stands behind a name that begins a query, where blocks may stand or not.
+pub(crate) fn lead_of(full: bool) -> TokenTest
+    ensures { (n : ℕ) → wants result n ≡ leads full n }
+{
+    if full {
+        TokenTest::PartLead
+    } else {
+        TokenTest::CondLead
+    }
+}
+
+/// `.*`
+fn every(tokens: Tokens<'_>, cursor: &mut Cursor, site: u32) -> Result<Step, Halt>
+    ensures { Reads see_step (every_at tokens.entry site (state_of cursor.old) cursor.old.seen) result cursor.new }
+{
+    cursor.takes(tokens, TokenTest::Star)?;
+    Ok(Step {
+        site,
+        form: StepForm::Every,
+    })
+}
+
+fn numbered(tokens: Tokens<'_>, cursor: &mut Cursor, site: u32) -> Result<Step, Halt>
+    ensures { Reads see_step (index_at tokens.entry site (state_of cursor.old) cursor.old.seen) result cursor.new }
+{
+    let index = cursor.has_index(tokens)?;
+    Ok(Step {
+        site,
+        form: StepForm::Index(index),
+    })
+}
+
+fn spliced(alloc: Global, tokens: Tokens<'_>, cursor: &mut Cursor, site: u32) -> Result<Step, Halt>
+    ensures { Reads see_step (splice_at tokens.entry site (state_of cursor.old) cursor.old.seen) result cursor.new }
+{
+    let name = cursor.has_name(alloc, tokens, TokenTest::Var)?;
+    Ok(Step {
+        site,
+        form: StepForm::Splice(name),
+    })
+}
+
+fn keyed_by(alloc: Global, tokens: Tokens<'_>, cursor: &mut Cursor, site: u32) -> Result<Step, Halt>
+    ensures { Reads see_step (key_at tokens.entry site (state_of cursor.old) cursor.old.seen) result cursor.new }
+{
+    let name = cursor.has_text(alloc, tokens, TokenTest::Key)?;
+    Ok(Step {
+        site,
+        form: StepForm::Key(name),
+    })
+}
+
+#[tactic(auto, unfolding(literal_parser::specs::Parser::choose))]
+fn named(alloc: Global, tokens: Tokens<'_>, cursor: &mut Cursor, site: u32) -> Result<Step, Halt>
+    ensures { Reads see_step (name_at tokens.entry site (state_of cursor.old) cursor.old.seen) result cursor.new }
+{
+    if cursor.sees(tokens, TokenTest::Var) {
+        return spliced(alloc, tokens, cursor, site);
+    }
+    keyed_by(alloc, tokens, cursor, site)
+}
+
+#[tactic(auto, unfolding(literal_parser::specs::Parser::choose))]
+fn behind_dot(
+    alloc: Global,
+    tokens: Tokens<'_>,
+    cursor: &mut Cursor,
+    site: u32,
+) -> Result<Step, Halt>
+    ensures { Reads see_step (behind_dot_at tokens.entry site (state_of cursor.old) cursor.old.seen) result cursor.new }
+{
+    if cursor.sees(tokens, TokenTest::Star) {
+        return every(tokens, cursor, site);
+    }
+    if cursor.sees(tokens, TokenTest::Index) {
+        return numbered(tokens, cursor, site);
+    }
+    named(alloc, tokens, cursor, site)
+}
+
+/// A step behind a dot.
+pub(crate) fn dotted(
+    alloc: Global,
+    tokens: Tokens<'_>,
+    cursor: &mut Cursor,
+    site: u32,
+) -> Result<Step, Halt>
+    ensures { Reads see_step (dotted_at tokens.entry site (state_of cursor.old) cursor.old.seen) result cursor.new }
+{
+    cursor.takes(tokens, TokenTest::Dot)?;
+    behind_dot(alloc, tokens, cursor, site)
+}
+
+/// `[*]`, behind its bracket.
+pub(crate) fn all_items(tokens: Tokens<'_>, cursor: &mut Cursor, site: u32) -> Result<Step, Halt>
+    ensures { Reads see_step (items_at tokens.entry site (state_of cursor.old) cursor.old.seen) result cursor.new }
+{
+    cursor.takes(tokens, TokenTest::Star)?;
+    cursor.takes(tokens, TokenTest::RBracket)?;
+    Ok(Step {
+        site,
+        form: StepForm::Items,
+    })
+}
+
+/// An index in brackets, behind the first.
+pub(crate) fn numbered_item(
+    tokens: Tokens<'_>,
+    cursor: &mut Cursor,
+    site: u32,
+) -> Result<Step, Halt>
+    ensures { Reads see_step (closed_index_at tokens.entry site (state_of cursor.old) cursor.old.seen) result cursor.new }
+{
+    let index = cursor.has_index(tokens)?;
+    cursor.takes(tokens, TokenTest::RBracket)?;
+    Ok(Step {
+        site,
+        form: StepForm::Index(index),
+    })
+}
+
+/// The start of a query.
+#[tactic(auto, unfolding(literal_parser::specs::Parser::choose))]
+pub(crate) fn start_step(
+    alloc: Global,
+    tokens: Tokens<'_>,
+    cursor: &mut Cursor,
+) -> Result<Step, Halt>
+    ensures { Reads see_step (start_at tokens.entry (state_of cursor.old) cursor.old.seen) result cursor.new }
+{
+    let site = cursor.opens(tokens)?;
+    if cursor.sees(tokens, TokenTest::This) {
+        cursor.takes(tokens, TokenTest::This)?;
+        return Ok(Step {
+            site,
+            form: StepForm::This,
+        });
+    }
+    if cursor.sees(tokens, TokenTest::Var) {
+        let name = cursor.has_text(alloc, tokens, TokenTest::Var)?;
+        return Ok(Step {
+            site,
+            form: StepForm::Var(name),
+        });
+    }
+    let name = cursor.has_text(alloc, tokens, TokenTest::FirstKey)?;
+    Ok(Step {
+        site,
+        form: StepForm::Key(name),
+    })
+}
+
+fn tree_inside(
+    alloc: Global,
+    tokens: Tokens<'_>,
+    cursor: &mut Cursor,
+    depth: usize,
+) -> Result<Doc<'static>, Halt>
+    requires room { depth ≤ 128 }
+    ensures { Reads itself (tree_at tokens.entry depth (state_of cursor.old) cursor.old.seen) result cursor.new }
+{
+    literal(alloc, tokens, cursor, depth)
+}
+
+/// A literal.
+#[tactic(auto, unfolding(crate::specs::Reading::tree_expr))]
+pub(crate) fn tree_expr(
+    alloc: Global,
+    tokens: Tokens<'_>,
+    cursor: &mut Cursor,
+    depth: usize,
+) -> Result<Expr, Halt>
+    requires room { depth ≤ 128 }
+    ensures { Reads see_expr (tree_expr_at tokens.entry depth (state_of cursor.old) cursor.old.seen) result cursor.new }
+{
+    let site = cursor.opens(tokens)?;
+    let tree = tree_inside(alloc, tokens, cursor, depth)?;
+    Ok(Expr::Literal { site, tree })
+}

@@ -1,0 +1,15 @@
+pub mod Apart
+pub mod Combine
+pub mod Steps
+pub mod Places
+pub mod Takes
+pub mod Texts
+pub mod LiteralSound
+pub mod LiteralGrows
+pub mod LiteralLocal
+pub mod LiteralComplete
+pub mod LiteralSteps
+pub mod GoOn
+pub mod GoOnSteps
+pub mod GoOnSides
+pub mod LiteralGoOn

@@ -1,0 +1,9 @@
+use Rattle.std.proofs.Common.{◌≡◌, ◌≤◌, length, take}
+use Rattle.literal_parser.specs.Lexemes.{back_trimmed}
+use Rattle.literal_parser.proofs.lexeme.solid_len.Given as goal
+
+abbrev pub invariant-loop-len : goal.invariant-loop-len
+invariant-loop-len l = (back_trimmed (take l.len l.bytes) ≡ back_trimmed l.bytes) × (l.len ≤ length l.bytes)
+
+abbrev pub decreases-loop-len : goal.decreases-loop-len
+decreases-loop-len l = l.len

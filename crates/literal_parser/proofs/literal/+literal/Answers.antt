@@ -1,0 +1,168 @@
+use Rattle.std.proofs.Common.{true, false, refl, ap, sym, ◌∙◌, subst}
+use Rattle.doc_values.specs.Tree.{Nil, Node, snoc}
+use Rattle.doc_values.specs.Laws.{joined-Nil}
+use Rattle.doc_values.specs.Unfinished.{Unfinished}
+use Rattle.doc_values.specs.declared.kind.Kind.TheVariants as kind
+use Rattle.literal_parser.specs.Forms.{is_scalar, is_lbracket, is_rbracket, is_lbrace, is_r, opens_range}
+use Rattle.literal_parser.specs.Literal.{holder}
+use Rattle.literal_parser.specs.LiteralReading.{items_of, node}
+use Rattle.literal_parser.specs.Reads.{state_of, source}
+use Rattle.literal_parser.specs.LiteralReads.{Puts, with_tree, more_items_at, more_entries_at}
+use Rattle.literal_parser.proofs.LiteralSteps.{saw, saw_pair, list_closed, list_read, map_closed, map_read, held, all-one, collected, one_more_done, behind, behind-none, less_none, items_turn, items_end, items_first, entries_turn, entries_end, entries_first}
+use Rattle.literal_parser.proofs.literal.+literal.Goals as goal
+
+pub list-returns-then-depth-eq0-clause-reads : goal.list-returns-then-depth-eq0-clause-reads
+list-returns-then-depth-eq0-clause-reads t c = list_closed (source c.args.tokens) c.args.tokens.turns c.args.depth c.args.builder.now.key (state_of c.args.cursor.now) (state_of c.takes.new.self)
+    c.args.cursor.now.seen c.takes.new.self.seen c.if-depth-eq0.true c.in_ok-takes.ensures
+
+pub list-returns-clause-reads : goal.list-returns-clause-reads
+list-returns-clause-reads t c =
+    let x = source c.args.tokens c.args.cursor.now.at in let r = c.in_ok-items.ensures.reads in (
+      (holder kind.List c.args.builder.now.key x, r.0),
+      list_read (source c.args.tokens) c.args.tokens.turns c.args.depth c.args.builder.now.key r.0
+          (state_of c.args.cursor.now) (state_of c.takes.new.self) (state_of c.items.new.cursor) (state_of c.takes-2.new.self)
+          c.args.cursor.now.seen c.takes.new.self.seen c.items.new.cursor.seen c.takes-2.new.self.seen
+          c.if-depth-eq0.false c.in_ok-takes.ensures r.1 c.in_ok-takes-2.ensures,
+      held false c.from-from.result x r.0 c.args.builder.now c.begun.new.builder c.items.new.builder c.ended.new.builder c.in_ok-begun.ensures.ok r.2 c.in_ok-ended.ensures.ok c.from-from.ensures,
+    )
+
+pub map-returns-then-depth-eq0-clause-reads : goal.map-returns-then-depth-eq0-clause-reads
+map-returns-then-depth-eq0-clause-reads t c = map_closed (source c.args.tokens) c.args.tokens.turns c.args.depth c.args.builder.now.key (state_of c.args.cursor.now) (state_of c.takes.new.self)
+    c.args.cursor.now.seen c.takes.new.self.seen c.if-depth-eq0.true c.in_ok-takes.ensures
+
+pub map-returns-clause-reads : goal.map-returns-clause-reads
+map-returns-clause-reads t c =
+    let x = source c.args.tokens c.args.cursor.now.at in let r = c.in_ok-entries.ensures.reads in (
+      (holder kind.Map c.args.builder.now.key x, r.0),
+      map_read (source c.args.tokens) c.args.tokens.turns c.args.depth c.args.builder.now.key r.0
+          (state_of c.args.cursor.now) (state_of c.takes.new.self) (state_of c.entries.new.cursor) (state_of c.takes-2.new.self)
+          c.args.cursor.now.seen c.takes.new.self.seen c.entries.new.cursor.seen c.takes-2.new.self.seen
+          c.if-depth-eq0.false c.in_ok-takes.ensures r.1 c.in_ok-takes-2.ensures,
+      held true c.from-from.result x r.0 c.args.builder.now c.begun.new.builder c.entries.new.builder c.ended.new.builder c.in_ok-begun.ensures.ok r.2 c.in_ok-ended.ensures.ok c.from-from.ensures,
+    )
+
+pub items-returns-then-sees-clause-reads : goal.items-returns-then-sees-clause-reads
+unfolding items_of
+items-returns-then-sees-clause-reads t c = (
+  Nil,
+  saw (source c.args.tokens) is_rbracket _ _ _ _ c.sees.ensures.token c.if-sees.true c.sees.ensures.state c.sees.ensures.seen refl,
+  collected c.args.builder.now c.args.builder.now Nil (refl, c.requires.opened.1) (sym (joined-Nil c.args.builder.now.done)),
+)
+
+pub items-returns-clause-reads : goal.items-returns-clause-reads
+items-returns-clause-reads t c =
+    let r = c.in_ok-node.ensures.reads in let m = c.in_ok-more_items.ensures.reads in (
+      Node r.0.0 r.0.1 m.0,
+      items_first (source c.args.tokens) c.args.tokens.turns _ _ c.args.builder.now.key r.0 m.0 c.sees.result
+          (state_of c.args.cursor.now) (state_of c.sees.new.self) (state_of c.node.new.cursor) (state_of c.more_items.new.cursor)
+          c.args.cursor.now.seen c.sees.new.self.seen c.node.new.cursor.seen c.more_items.new.cursor.seen
+          c.sees.ensures.token c.if-sees.false c.sees.ensures.state c.sees.ensures.seen c.requires.opened.1 r.1 m.1,
+      m.2 ∙ all-one c.args.builder.now c.node.new.builder r.0 m.0 r.2,
+    )
+
+pub more_items-loop-turn-init : goal.more_items-loop-turn-init
+more_items-loop-turn-init t c = (
+  (refl, c.requires.opened.1),
+  (
+    Nil,
+    behind-none _ ∙ ap (λ k. behind Nil (more_items_at c.args.tokens c.args.depth k (state_of c.args.cursor.now) c.args.cursor.now.seen)) (sym (less_none c.args.tokens.turns)),
+    sym (joined-Nil c.args.builder.now.done),
+  ),
+)
+
+pub more_items-returns-then-not-sees-clause-reads : goal.more_items-returns-then-not-sees-clause-reads
+more_items-returns-then-not-sees-clause-reads t c =
+    let i = c.loop-turn.invariant in (
+      i.1.0,
+      items_end (source c.args.tokens) c.args.tokens.turns _ _ c.args.tokens.turns c.loop-turn._turn i.1.0 c.sees.result _
+          (state_of c.loop-turn.cursor) (state_of c.sees.new.self) c.loop-turn.cursor.seen c.sees.new.self.seen
+          c.loop-turn-test.true i.1.1 c.sees.ensures.token c.if-not-sees.true c.sees.ensures.state c.sees.ensures.seen,
+      collected c.args.builder.now c.loop-turn.builder i.1.0 i.0 i.1.2,
+    )
+
+pub more_items-loop-turn-preserved : goal.more_items-loop-turn-preserved
+more_items-loop-turn-preserved t c =
+    let i = c.loop-turn.invariant in let r = c.in_ok-node.ensures.reads in (
+      (c.in_ok-node.ensures.level.0 ∙ i.0.0, c.in_ok-node.ensures.level.1),
+      (
+        snoc i.1.0 r.0.0 r.0.1,
+        items_turn (source c.args.tokens) c.args.tokens.turns _ _ c.args.tokens.turns c.loop-turn._turn i.1.0 r.0 c.loop-turn.builder.key c.sees.result _
+            (state_of c.loop-turn.cursor) (state_of c.sees.new.self) (state_of c.takes.new.self) (state_of c.node.new.cursor)
+            c.loop-turn.cursor.seen c.sees.new.self.seen c.takes.new.self.seen c.node.new.cursor.seen
+            c.loop-turn-test.true i.1.1 c.sees.ensures.token c.if-not-sees.false c.sees.ensures.state c.sees.ensures.seen c.in_ok-takes.ensures i.0.1 r.1,
+        one_more_done c.args.builder.now c.loop-turn.builder c.node.new.builder i.1.0 r.0 i.1.2 r.2,
+      ),
+    )
+
+pub entries-returns-clause-reads : goal.entries-returns-clause-reads
+entries-returns-clause-reads t c =
+    let r = c.in_ok-entry.ensures.reads in let m = c.in_ok-more_entries.ensures.reads in (
+      Node r.0.0 r.0.1 m.0,
+      entries_first (source c.args.tokens) c.args.tokens.turns _ _ c.args.builder.now.done c.entry.new.builder.done r.0 m.0 c.sees.result
+          (state_of c.args.cursor.now) (state_of c.sees.new.self) (state_of c.entry.new.cursor) (state_of c.more_entries.new.cursor)
+          c.args.cursor.now.seen c.sees.new.self.seen c.entry.new.cursor.seen c.more_entries.new.cursor.seen
+          c.sees.ensures.token c.if-sees.false c.sees.ensures.state c.sees.ensures.seen c.requires.none r.1 (ap (λ (u : Unfinished). u.done) r.2) m.1,
+      m.2 ∙ all-one c.args.builder.now c.entry.new.builder r.0 m.0 r.2,
+    )
+
+pub more_entries-loop-turn-init : goal.more_entries-loop-turn-init
+more_entries-loop-turn-init t c = (
+  (refl, c.requires.opened.1),
+  (
+    Nil,
+    behind-none _ ∙ ap (λ k. behind Nil (more_entries_at c.args.tokens c.args.depth k c.args.builder.now.done (state_of c.args.cursor.now) c.args.cursor.now.seen)) (sym (less_none c.args.tokens.turns)),
+    sym (joined-Nil c.args.builder.now.done),
+  ),
+)
+
+pub more_entries-returns-then-not-sees-clause-reads : goal.more_entries-returns-then-not-sees-clause-reads
+more_entries-returns-then-not-sees-clause-reads t c =
+    let i = c.loop-turn.invariant in (
+      i.1.0,
+      entries_end (source c.args.tokens) c.args.tokens.turns _ _ c.args.tokens.turns c.loop-turn._turn i.1.0 c.loop-turn.builder.done c.sees.result _
+          (state_of c.loop-turn.cursor) (state_of c.sees.new.self) c.loop-turn.cursor.seen c.sees.new.self.seen
+          c.loop-turn-test.true i.1.1 c.sees.ensures.token c.if-not-sees.true c.sees.ensures.state c.sees.ensures.seen,
+      collected c.args.builder.now c.loop-turn.builder i.1.0 i.0 i.1.2,
+    )
+
+pub more_entries-loop-turn-preserved : goal.more_entries-loop-turn-preserved
+more_entries-loop-turn-preserved t c =
+    let i = c.loop-turn.invariant in let r = c.in_ok-entry.ensures.reads in (
+      (c.in_ok-entry.ensures.level.0 ∙ i.0.0, c.in_ok-entry.ensures.level.1),
+      (
+        snoc i.1.0 r.0.0 r.0.1,
+        entries_turn (source c.args.tokens) c.args.tokens.turns _ _ c.args.tokens.turns c.loop-turn._turn i.1.0 c.loop-turn.builder.done c.entry.new.builder.done r.0 c.sees.result _
+            (state_of c.loop-turn.cursor) (state_of c.sees.new.self) (state_of c.takes.new.self) (state_of c.entry.new.cursor)
+            c.loop-turn.cursor.seen c.sees.new.self.seen c.takes.new.self.seen c.entry.new.cursor.seen
+            c.loop-turn-test.true i.1.1 c.sees.ensures.token c.if-not-sees.false c.sees.ensures.state c.sees.ensures.seen c.in_ok-takes.ensures r.1 (ap (λ (u : Unfinished). u.done) r.2),
+        one_more_done c.args.builder.now c.loop-turn.builder c.entry.new.builder i.1.0 r.0 i.1.2 r.2,
+      ),
+    )
+
+pub node-returns-then-not-sees-clause-reads : goal.node-returns-then-not-sees-clause-reads
+unfolding node
+node-returns-then-not-sees-clause-reads t c = let s = source c.args.tokens in
+    saw s is_scalar _ _ _ _ c.sees.ensures.token c.if-sees.false c.sees.ensures.state c.sees.ensures.seen
+    (saw s is_lbracket _ _ _ _ c.sees-2.ensures.token c.if-sees-2.false c.sees-2.ensures.state c.sees-2.ensures.seen
+    (saw s is_lbrace _ _ _ _ c.sees-3.ensures.token c.if-sees-3.false c.sees-3.ensures.state c.sees-3.ensures.seen
+    (saw s is_r _ _ _ _ c.sees-4.ensures.token c.if-not-sees.true c.sees-4.ensures.state c.sees-4.ensures.seen refl)))
+
+pub node-returns-then-not-sees_range-clause-reads : goal.node-returns-then-not-sees_range-clause-reads
+unfolding node
+node-returns-then-not-sees_range-clause-reads t c = let s = source c.args.tokens in
+    saw s is_scalar _ _ _ _ c.sees.ensures.token c.if-sees.false c.sees.ensures.state c.sees.ensures.seen
+    (saw s is_lbracket _ _ _ _ c.sees-2.ensures.token c.if-sees-2.false c.sees-2.ensures.state c.sees-2.ensures.seen
+    (saw s is_lbrace _ _ _ _ c.sees-3.ensures.token c.if-sees-3.false c.sees-3.ensures.state c.sees-3.ensures.seen
+    (saw s is_r _ _ _ _ c.sees-4.ensures.token c.if-not-sees.false c.sees-4.ensures.state c.sees-4.ensures.seen
+    (saw_pair s opens_range _ _ _ _ c.sees_range.ensures.token c.if-not-sees_range.true c.sees_range.ensures.state c.sees_range.ensures.seen refl))))
+
+pub node-returns-clause-reads : goal.node-returns-clause-reads
+unfolding node
+node-returns-clause-reads t c = let s = source c.args.tokens in
+    subst (λ o. Puts (with_tree c.args.builder.now) o c.range.result c.range.new.builder c.range.new.cursor)
+    (sym (saw s is_scalar _ _ _ _ c.sees.ensures.token c.if-sees.false c.sees.ensures.state c.sees.ensures.seen
+    (saw s is_lbracket _ _ _ _ c.sees-2.ensures.token c.if-sees-2.false c.sees-2.ensures.state c.sees-2.ensures.seen
+    (saw s is_lbrace _ _ _ _ c.sees-3.ensures.token c.if-sees-3.false c.sees-3.ensures.state c.sees-3.ensures.seen
+    (saw s is_r _ _ _ _ c.sees-4.ensures.token c.if-not-sees.false c.sees-4.ensures.state c.sees-4.ensures.seen
+    (saw_pair s opens_range _ _ _ _ c.sees_range.ensures.token c.if-not-sees_range.false c.sees_range.ensures.state c.sees_range.ensures.seen refl))))))
+    c.range.ensures.reads

@@ -1,0 +1,287 @@
+//! What the text of a token means.
+ghost use Rattle.std.specs.Prelude.{◌≡◌, ◌≤◌, ◌<◌, ◌+◌, ◌==◌, ◌&&◌, ℕ, List, length, slice_index, map, take, drop, slice_range, string_bytes, IfOk};
+ghost use Rattle.doc_values.specs.declared.decimal.Num.{Num};
+ghost use Rattle.guard_lexer.specs.declared.token.Token.{Token};
+ghost use Rattle.guard_lexer.specs.Bytes.{is_white};
+ghost use Rattle.literal_parser.specs.Lexemes.{lexeme_of, word_of, name_word, keyword_of, text_within, note_within, front_trimmed, back_trimmed};
+ghost use Rattle.literal_parser.specs.Forms.{text_in, text_of, number_in, keyword_operator, mark_operator};
+ghost use Rattle.literal_parser.specs.TokenClasses.{shape_in, shape_of, name_shape, whole_shape, shape_operator, shape_sign, shape_index};
+
+use crate::keyword::Keyword;
+use crate::token_class::TokenClass;
+use doc_values::Num;
+use guard_lexer::{Mark, Token, TokenKind};
+use guard_syntax::{Op, Text};
+use std::alloc::{AllocError, Global};
+
+/// The keyword of a name.
+fn keyword_of(name: &str) -> Option<Keyword>
+    ensures { result ≡ keyword_of name.now }
+{
+    match name {
+        "let" => Some(Keyword::Let),
+        "rule" => Some(Keyword::Rule),
+        "true" | "True" => Some(Keyword::True),
+        "false" | "False" => Some(Keyword::False),
+        "null" | "NULL" => Some(Keyword::Null),
+        "when" | "WHEN" => Some(Keyword::When),
+        "some" | "SOME" => Some(Keyword::Some),
+        "or" | "OR" => Some(Keyword::Or),
+        "not" | "NOT" => Some(Keyword::Not),
+        "keys" | "KEYS" => Some(Keyword::Keys),
+        "this" | "THIS" => Some(Keyword::This),
+        "in" | "IN" => Some(Keyword::In),
+        "exists" | "EXISTS" => Some(Keyword::Exists),
+        "empty" | "EMPTY" => Some(Keyword::Empty),
+        "is_string" | "IS_STRING" => Some(Keyword::IsString),
+        "is_list" | "IS_LIST" => Some(Keyword::IsList),
+        "is_struct" | "IS_STRUCT" => Some(Keyword::IsStruct),
+        "is_bool" | "IS_BOOL" => Some(Keyword::IsBool),
+        "is_int" | "IS_INT" => Some(Keyword::IsInt),
+        "is_float" | "IS_FLOAT" => Some(Keyword::IsFloat),
+        "is_null" | "IS_NULL" => Some(Keyword::IsNull),
+        _ => None,
+    }
+}
+
+/// What a name that is no keyword is to the grammar.
+fn plain_shape(name: &str) -> TokenClass
+    ensures { result ≡ name_shape name.now }
+{
+    match name {
+        "r" => TokenClass::R,
+        "default" => TokenClass::Default,
+        _ => TokenClass::Name,
+    }
+}
+
+fn name_shape(name: &str) -> TokenClass
+    ensures { result ≡ shape_in (name_word (keyword_of name.now) name.now) }
+{
+    match keyword_of(name) {
+        Some(keyword) => TokenClass::Reserved(keyword),
+        None => plain_shape(name),
+    }
+}
+
+fn whole_shape(n: i64) -> TokenClass
+    ensures { result ≡ whole_shape n }
+{
+    match u32::try_from(n) {
+        Ok(index) => TokenClass::Index(index),
+        Err(_) => TokenClass::Whole,
+    }
+}
+
+/// The part of a text between two byte offsets.
+fn part_of(text: &str, from: usize, to: usize) -> Result<&str, AllocError>
+    ensures { IfOk result (λ part. part.now ≡ slice_range text.now from to) }
+{
+    match text.get(from..to) {
+        Some(part) => Ok(part),
+        None => Err(AllocError),
+    }
+}
+
+/// What a token of a text is to the grammar.
+fn shape_of(text: &str, token: Token) -> Result<TokenClass, AllocError>
+    ensures { IfOk result (λ shape. shape ≡ shape_of (lexeme_of text.now token)) }
+{
+    match token.kind {
+        TokenKind::Name => match part_of(text, token.from as usize, token.to as usize) {
+            Ok(name) => Ok(name_shape(name)),
+            Err(e) => Err(e),
+        },
+        TokenKind::TypeName => Ok(TokenClass::TypeName),
+        TokenKind::Var => Ok(TokenClass::Var),
+        TokenKind::Str => Ok(TokenClass::Str),
+        TokenKind::Pat => Ok(TokenClass::Pat),
+        TokenKind::Whole(n) => Ok(whole_shape(n)),
+        TokenKind::Fraction(_) => Ok(TokenClass::Fraction),
+        TokenKind::Note => Ok(TokenClass::Note),
+        TokenKind::Mark(mark) => Ok(TokenClass::Sign(mark)),
+    }
+}
+
+/// What each token of a text is to the grammar.
+pub fn shapes_of(alloc: Global, text: &str, tokens: &[Token]) -> Result<Vec<TokenClass>, AllocError>
+    ensures { IfOk result (λ shapes. shapes.items ≡ map (λ (t : Token). shape_of (lexeme_of text.now t)) tokens.now) }
+{
+    let mut shapes = Vec::with_capacity(alloc, tokens.len())?;
+    for token in tokens {
+        let shape = shape_of(text, *token)?;
+        if shapes.push(shape).is_err() {
+            return Err(AllocError);
+        }
+    }
+    Ok(shapes)
+}
+
+/// Whether a backslash and a quote stand at a place.
+fn is_escape(bytes: &[u8], at: usize, quote: u8) -> bool
+    requires { at + 1 < length bytes.now }
+    ensures { result ≡ (slice_index bytes.now at == 92 && slice_index bytes.now (at + 1) == quote) }
+{
+    if bytes[at] != b'\\' {
+        return false;
+    }
+    bytes[at + 1] == quote
+}
+
+/// A text or pattern, with its quotes, as it is meant.
+fn unquoted(alloc: Global, part: &str) -> Result<String, AllocError>
+    ensures { IfOk result (λ text. string_bytes text ≡ text_within part.now) }
+{
+    let bytes = part.as_bytes();
+    let mut text = String::new(alloc);
+    if bytes.is_empty() {
+        return Ok(text);
+    }
+    let quote = bytes[0];
+    let mut start = 1;
+    let mut at = 1;
+    while at + 1 < bytes.len() {
+        if is_escape(bytes, at, quote) {
+            text.push_str(part_of(part, start, at)?)?;
+            start = at + 1;
+            at += 2;
+        } else {
+            at += 1;
+        }
+    }
+    text.push_str(part_of(part, start, at)?)?;
+    Ok(text)
+}
+
+fn is_white(byte: u8) -> bool
+    ensures { result ≡ is_white byte }
+{
+    byte == b' ' || byte == b'\t' || byte == b'\n' || byte == b'\r'
+}
+
+/// How much white space is in front.
+fn white_len(bytes: &[u8]) -> usize
+    ensures { drop result bytes.now ≡ front_trimmed bytes.now }
+{
+    for (at, byte) in bytes.iter().enumerate() {
+        if !is_white(*byte) {
+            return at;
+        }
+    }
+    bytes.len()
+}
+
+/// How much is left without the white space at the end.
+fn solid_len(bytes: &[u8]) -> usize
+    ensures { take result bytes.now ≡ back_trimmed bytes.now }
+{
+    let mut len = bytes.len();
+    while len > 0 && is_white(bytes[len - 1]) {
+        len -= 1;
+    }
+    len
+}
+
+/// What a note says: what stands between its signs, without white space at both ends.
+fn note_of(alloc: Global, part: &str) -> Result<String, AllocError>
+    ensures { IfOk result (λ text. string_bytes text ≡ note_within part.now) }
+{
+    let within = part_of(part, 2, part.len().saturating_sub(2))?;
+    let behind = part_of(within, white_len(within.as_bytes()), within.len())?;
+    String::from_str(alloc, part_of(behind, 0, solid_len(behind.as_bytes()))?)
+}
+
+/// What a token of a kind says, whose part of the text this is.
+fn meant(alloc: Global, kind: TokenKind, part: &str) -> Result<String, AllocError>
+    ensures { IfOk result (λ text. string_bytes text ≡ text_in (word_of kind part.now)) }
+{
+    match kind {
+        TokenKind::Name => String::from_str(alloc, part),
+        TokenKind::TypeName => String::from_str(alloc, part),
+        TokenKind::Var => String::from_str(alloc, part_of(part, 1, part.len())?),
+        TokenKind::Str | TokenKind::Pat => unquoted(alloc, part),
+        TokenKind::Note => note_of(alloc, part),
+        _ => Ok(String::new(alloc)),
+    }
+}
+
+/// What a token of a text says: a name, a variable without its `%`, a text, a pattern or a note as it is meant.
+pub(crate) fn text_of(alloc: Global, text: &str, token: Token) -> Result<Text, AllocError>
+    ensures { IfOk result (λ found. found ≡ text_of (lexeme_of text.now token)) }
+{
+    let part = part_of(text, token.from as usize, token.to as usize)?;
+    Ok(Text::new(meant(alloc, token.kind, part)?))
+}
+
+/// The number of a token of a text; 0 where it is none.
+pub(crate) fn number_of(kind: TokenKind) -> Num
+    ensures { (part : List ℕ) → result ≡ number_in (word_of kind part) }
+{
+    match kind {
+        TokenKind::Whole(n) => Num::Whole(n),
+        TokenKind::Fraction(d) => Num::Fraction(d),
+        _ => Num::Whole(0),
+    }
+}
+
+/// The operator of a keyword.
+fn keyword_operator(keyword: Keyword) -> Op
+    ensures { result ≡ keyword_operator keyword }
+{
+    match keyword {
+        Keyword::In => Op::Within,
+        Keyword::Empty => Op::Empty,
+        Keyword::IsString => Op::IsString,
+        Keyword::IsList => Op::IsList,
+        Keyword::IsStruct => Op::IsStruct,
+        Keyword::IsBool => Op::IsBool,
+        Keyword::IsInt => Op::IsInt,
+        Keyword::IsFloat => Op::IsFloat,
+        Keyword::IsNull => Op::IsNull,
+        _ => Op::Exists,
+    }
+}
+
+/// The operator of a keyword's shape; `exists` where it is of another.
+pub(crate) fn operator_of(shape: TokenClass) -> Op
+    ensures { result ≡ shape_operator shape }
+{
+    match shape {
+        TokenClass::Reserved(keyword) => keyword_operator(keyword),
+        _ => Op::Exists,
+    }
+}
+
+/// The operator of a mark, and whether it is negated.
+fn mark_operator(mark: Mark) -> (Op, bool)
+    ensures { result ≡ mark_operator mark }
+{
+    match mark {
+        Mark::Differs => (Op::Eq, true),
+        Mark::Less => (Op::Lt, false),
+        Mark::LessEq => (Op::Le, false),
+        Mark::Greater => (Op::Gt, false),
+        Mark::GreaterEq => (Op::Ge, false),
+        _ => (Op::Eq, false),
+    }
+}
+
+/// The operator of a mark's shape, and whether it is negated; `==` where it is of another.
+pub(crate) fn sign_of(shape: TokenClass) -> (Op, bool)
+    ensures { result ≡ shape_sign shape }
+{
+    match shape {
+        TokenClass::Sign(mark) => mark_operator(mark),
+        _ => (Op::Eq, false),
+    }
+}
+
+/// The index of its shape; 0 where it is of another.
+pub(crate) fn index_of(shape: TokenClass) -> u32
+    ensures { result ≡ shape_index shape }
+{
+    match shape {
+        TokenClass::Index(index) => index,
+        _ => 0,
+    }
+}
