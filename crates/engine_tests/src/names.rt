@@ -96,7 +96,7 @@ fn each_use_has_its_meaning(rt: HostRuntime) -> Result<(), Fail> {
     for (site, target) in [(16, None), (56, Some(57)), (63, None)] {
         assert_eq!(rt; file.target(site), target, "at {site}");
     }
-    assert_eq!(rt; file.order(), [11u32, 57].as_slice());
+    assert_eq!(rt; file.order(), [57u32, 11].as_slice());
     Ok(())
 }
 

@@ -6,12 +6,12 @@ ghost use Rattle.guard_lexer.specs.declared.token.Token.{Token};
 ghost use Rattle.guard_parser.specs.File.{Rules};
 ghost use Rattle.guard_syntax.specs.Seen.{see_file};
 ghost use Rattle.rule_meaning.specs.Functions.{lone, text_tree};
-ghost use Rattle.rule_meaning.specs.Known.{is_known_ref};
+ghost use Rattle.rule_meaning.specs.StoreModel.{is_known_ref};
 ghost use Rattle.value_compare.specs.Stores.{see_store};
 
 use doc_values::{Doc, DocBuilder, Kind};
 use guard_lexer::{Token, tokens};
-use guard_parser::{parse, sites_in_order};
+use guard_parser::{parse, queries_begin, sites_in_order};
 use guard_syntax::{Origin, Places, RawFile, Ref, Row};
 use name_table::resolve;
 use rule_names::RuleFile;
@@ -47,6 +47,7 @@ fn file_of_syntax(alloc: Global, text: &'static str, raw: RawFile) -> Result<Rul
     requires { (tokens : List Token) × lex.IsTokenList text.now tokens × Rules text.now tokens (see_file raw) }
 {
     sites_in_order();
+    queries_begin();
     match resolve(alloc, raw) {
         Ok(file) => Ok(file),
         Err(_) => Err(Fail::from(text)),

@@ -6,9 +6,9 @@ use Rattle.std.specs.List.{flat_map, join_by}
 use Rattle.doc_values.specs.Tree.{Forest}
 use Rattle.guard_syntax.specs.declared.row.Row.{Row}
 use Rattle.rule_meaning.specs.Functions.{joined, text_in, text_tree, texts_in, with_text}
-use Rattle.rule_meaning.specs.Known.{Known}
+use Rattle.rule_meaning.specs.StoreModel.{StoreModel}
 
-module _ (k : Known) where
+module _ (k : StoreModel) where
   texts-append : (rows : List Row) (r : Row) (text : List ℕ) → text_in k r ≡ Some text → texts_in k (rows ++ r ∷ []) ≡ option_map (λ texts. texts ++ text ∷ []) (texts_in k rows)
   texts-append [] r text is = rw is refl
   texts-append (q ∷ rows) r text is = ap (with_text (text_in k q)) (texts-append rows r text is) ∙ through (text_in k q) (texts_in k rows)

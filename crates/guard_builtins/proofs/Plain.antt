@@ -7,7 +7,7 @@ use Rattle.doc_values.specs.Tree.{Forest}
 use Rattle.guard_syntax.specs.declared.row.Row.{Row}
 use Rattle.guard_syntax.specs.declared.row.Row.TheVariants as row
 use Rattle.rule_meaning.specs.Functions.{AreRows, ForText, IsParsed, IsPart, IsReplacement, IsRow, IsRowFor, IsUnescaped, New, Kept, text_of}
-use Rattle.rule_meaning.specs.Known.{Known, stands_for}
+use Rattle.rule_meaning.specs.StoreModel.{StoreModel, stands_for}
 use Rattle.rule_meaning.specs.Values.{Value, has_pattern}
 use Rattle.value_compare.proofs.Patternless.{json-plain}
 use Rattle.guard_builtins.specs.Seen.{gives, is_plain, replaces, see_made}
@@ -51,7 +51,7 @@ replaces-plain : (texts : Option (List ℕ × List ℕ)) (v : Value) (tree : For
 replaces-plain None v tree h = absurd h
 replaces-plain (Some texts) v tree h = text-plain (IsReplacement (Some texts.0) (Some texts.1)) (λ text t is. ap has_pattern is.2) (text_of v) tree h
 
-module _ (G : Value → Forest → Type 0) (plain : (v : Value) (tree : Forest) → G v tree → has_pattern tree ≡ false) (k : Known) (call : ℕ) where
+module _ (G : Value → Forest → Type 0) (plain : (v : Value) (tree : Forest) → G v tree → has_pattern tree ≡ false) (k : StoreModel) (call : ℕ) where
   value-plain : (o : Option Value) (m : Made) → IsRowFor G call o (see_made m) → is_plain m ≡ true
   value-plain None m h = kept-plain m (row.Unmade call) h
   value-plain (Some v) m (None, none, is) = kept-plain m (row.Unmade call) is
@@ -69,9 +69,9 @@ module _ (G : Value → Forest → Type 0) (plain : (v : Value) (tree : Forest) 
   rows-without (r ∷ rows) (m ∷ ms) h = and_from _ _ (row-plain r m h.0) (rows-without rows ms h.1)
 
 -- the rows that a function of one value after another gives
-pub rows-plain : (f : Change) (k : Known) (call : ℕ) (rows : List Row) (ms : List Made) → AreRows (gives f) k call rows (map see_made ms) → list_all is_plain ms ≡ true
+pub rows-plain : (f : Change) (k : StoreModel) (call : ℕ) (rows : List Row) (ms : List Made) → AreRows (gives f) k call rows (map see_made ms) → list_all is_plain ms ≡ true
 rows-plain f k call rows ms h = rows-without (gives f) (gives-plain f) k call rows ms h
 
 -- and those that replacing gives
-pub replaced-plain : (texts : Option (List ℕ × List ℕ)) (k : Known) (call : ℕ) (rows : List Row) (ms : List Made) → AreRows (replaces texts) k call rows (map see_made ms) → list_all is_plain ms ≡ true
+pub replaced-plain : (texts : Option (List ℕ × List ℕ)) (k : StoreModel) (call : ℕ) (rows : List Row) (ms : List Made) → AreRows (replaces texts) k call rows (map see_made ms) → list_all is_plain ms ≡ true
 replaced-plain texts k call rows ms h = rows-without (replaces texts) (replaces-plain texts) k call rows ms h

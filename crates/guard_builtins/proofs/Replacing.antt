@@ -4,13 +4,13 @@ use Rattle.doc_values.specs.Tree.{Forest}
 use Rattle.guard_syntax.specs.declared.row.Row.{Row}
 use Rattle.guard_syntax.specs.declared.row.Row.TheVariants as row
 use Rattle.rule_meaning.specs.Functions.{AreRows, ForText, IsGiven, IsReplaced, IsReplacement, IsRow, IsRowFor, MadeRow, text_of}
-use Rattle.rule_meaning.specs.Known.{Known, stands_for}
+use Rattle.rule_meaning.specs.StoreModel.{StoreModel, stands_for}
 use Rattle.rule_meaning.specs.Values.{Value}
 use Rattle.guard_builtins.specs.Seen.{both, replaces, see_made}
 use Rattle.guard_builtins.specs.declared.made.Made.{Made}
 use Rattle.guard_builtins.proofs.Rows.{rows-more}
 
-module _ (G H : Value → Forest → Type 0) (same : (v : Value) (o : Option Forest) → IsGiven (G v) o → IsGiven (H v) o) (k : Known) (call : ℕ) where
+module _ (G H : Value → Forest → Type 0) (same : (v : Value) (o : Option Forest) → IsGiven (G v) o → IsGiven (H v) o) (k : StoreModel) (call : ℕ) where
   row_for-same : (o : Option Value) (m : MadeRow) → IsRowFor G call o m → IsRowFor H call o m
   row_for-same None m is = is
   row_for-same (Some v) m (given, fits, is) = (given, same v given fits, is)
@@ -42,19 +42,19 @@ both-replaced (Some pattern) None v o given = none-replaced (Some pattern) None 
 both-replaced None template v o given = none-replaced None template (λ text tree is. is) v o given
 
 -- rows by what replaces are those by the texts of the pattern and the template
-rows-replaced : (texts : Option (List ℕ × List ℕ)) (pattern template : Option (List ℕ)) (k : Known) (call : ℕ) (rows : List Row) (made : List MadeRow) → texts ≡ both pattern template
+rows-replaced : (texts : Option (List ℕ × List ℕ)) (pattern template : Option (List ℕ)) (k : StoreModel) (call : ℕ) (rows : List Row) (made : List MadeRow) → texts ≡ both pattern template
     → AreRows (replaces texts) k call rows made → AreRows (IsReplaced pattern template) k call rows made
 rows-replaced texts pattern template k call rows made is rows-are =
     rows-same (replaces (both pattern template)) (IsReplaced pattern template) (both-replaced pattern template) k call rows made (subst (λ t. AreRows (replaces t) k call rows made) is rows-are)
 
 -- the same of a call's result
-pub result-replaced : {E : Type 0} (r : Result (Vec Made Global) E) (texts : Option (List ℕ × List ℕ)) (pattern template : Option (List ℕ)) (k : Known) (call : ℕ) (rows : List Row) → texts ≡ both pattern template
+pub result-replaced : {E : Type 0} (r : Result (Vec Made Global) E) (texts : Option (List ℕ × List ℕ)) (pattern template : Option (List ℕ)) (k : StoreModel) (call : ℕ) (rows : List Row) → texts ≡ both pattern template
     → IfOk r (λ made. AreRows (replaces texts) k call rows (map see_made made.items)) → IfOk r (λ made. AreRows (IsReplaced pattern template) k call rows (map see_made made.items))
 result-replaced (Ok made) texts pattern template k call rows is rows-are = rows-replaced texts pattern template k call rows (map see_made made.items) is rows-are
 result-replaced (Err e) texts pattern template k call rows is rows-are = tt
 
 -- one row more, by what still replaces the same
-pub replaced-more : (old texts : Option (List ℕ × List ℕ)) (k : Known) (call : ℕ) (rows : List Row) (i : ℕ) (d : Row) (before after : List Made) (m : Made) → old ≡ texts → i < length rows → after ≡ before ++ m ∷ []
+pub replaced-more : (old texts : Option (List ℕ × List ℕ)) (k : StoreModel) (call : ℕ) (rows : List Row) (i : ℕ) (d : Row) (before after : List Made) (m : Made) → old ≡ texts → i < length rows → after ≡ before ++ m ∷ []
     → IsRow (replaces old) k call (get_or rows i d) (see_made m) → AreRows (replaces texts) k call (take i rows) (map see_made before) → AreRows (replaces texts) k call (take (i + 1) rows) (map see_made after)
 replaced-more old texts k call rows i d before after m same within put is rows-are =
     rows-more (replaces texts) k call rows i d before after m within put (subst (λ t. IsRow (replaces t) k call (get_or rows i d) (see_made m)) same is) rows-are

@@ -5,12 +5,12 @@ use Rattle.std.proofs.lemmas.List.{map-append}
 use Rattle.doc_values.specs.Tree.{Forest}
 use Rattle.guard_syntax.specs.declared.row.Row.{Row}
 use Rattle.rule_meaning.specs.Functions.{AreRows, IsRow, MadeRow}
-use Rattle.rule_meaning.specs.Known.{Known}
+use Rattle.rule_meaning.specs.StoreModel.{StoreModel}
 use Rattle.rule_meaning.specs.Values.{Value}
 use Rattle.guard_builtins.specs.Seen.{see_made}
 use Rattle.guard_builtins.specs.declared.made.Made.{Made}
 
-module _ (Gives : Value → Forest → Type 0) (k : Known) (call : ℕ) where
+module _ (Gives : Value → Forest → Type 0) (k : StoreModel) (call : ℕ) where
   AreRows-more : (rows : List Row) (made : List MadeRow) (r : Row) (m : MadeRow) → AreRows Gives k call rows made → IsRow Gives k call r m → AreRows Gives k call (rows ++ r ∷ []) (made ++ m ∷ [])
   AreRows-more [] [] r m h is = (is, tt)
   AreRows-more [] (n ∷ made) r m h is = absurd h

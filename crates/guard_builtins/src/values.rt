@@ -1,7 +1,7 @@
 //! Values and what rows stand for.
 ghost use Rattle.std.specs.Prelude.{◌≡◌, ℕ, None, Some, option_map, IfOk, map};
 ghost use Rattle.rule_meaning.specs.Functions.{single, single_text, single_whole, text_in, text_of, texts_in};
-ghost use Rattle.rule_meaning.specs.Known.{meant};
+ghost use Rattle.rule_meaning.specs.StoreModel.{meant};
 ghost use Rattle.value_compare.specs.Stores.{see_store};
 ghost use Rattle.value_compare.specs.Views.{see_view};
 

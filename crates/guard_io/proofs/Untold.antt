@@ -2,7 +2,7 @@
 use Rattle.std.proofs.Common.{◌≡◌, ℕ, None, Result, Ok, Err, OnOk, OnErr, IsErrOf, arith}
 use Rattle.std.proofs.lemmas.Option.{none-some}
 use Rattle.std.specs.Option.{ForSome}
-use Rattle.guard_io.specs.Outside.{Rose, one_more}
+use Rattle.guard_io.specs.Outside.{FaultCounted, one_more}
 
 pub OnOk-untold : {T E A : Type 0} (r : Result T E) (P : A → Type 0) → OnOk r (ForSome None P)
 OnOk-untold (Ok v) P = λ x e. absurd (none-some x e)
@@ -12,8 +12,8 @@ pub OnErr-untold : {T E A : Type 0} (r : Result T E) (P : A → Type 0) → OnEr
 OnErr-untold (Ok v) P = tt
 OnErr-untold (Err v) P = λ x e. absurd (none-some x e)
 
-pub Rose-one_more : (before after : ℕ) → after ≡ one_more before → Rose before after
-Rose-one_more before after e = grind (arith, e)
+pub FaultCounted-one_more : (before after : ℕ) → after ≡ one_more before → FaultCounted before after
+FaultCounted-one_more before after e = grind (arith, e)
 
 -- what holds of each error holds of one
 pub on_one_error : {T E P : Type 0} (r : Result T E) (e : E) → IsErrOf r e → OnErr r P → P

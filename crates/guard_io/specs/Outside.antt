@@ -3,8 +3,8 @@ use Rattle.std.specs.Prelude.{◌≡◌, ◌⊎◌, ℕ, ◌+◌, ◌-◌, ◌<�
 
 -- a count is greater than before, or stands at its last value; so a rise within a longer stretch,
 -- in which no count falls, is a rise over the whole of it
-abbrev pub Rose : ℕ → ℕ → Type 0
-Rose before after = (before < after) ⊎ (2 ^ 64 - 1 ≤ after)
+abbrev pub FaultCounted : ℕ → ℕ → Type 0
+FaultCounted before after = (before < after) ⊎ (2 ^ 64 - 1 ≤ after)
 
 -- a counter of 64 bits after one more; it stays at its last value
 abbrev pub one_more : ℕ → ℕ

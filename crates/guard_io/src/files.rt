@@ -1,6 +1,6 @@
 ghost use Rattle.std.specs.Prelude.{◌≡◌, ◌≤◌, ◌++◌, ℕ, List, Option, length, take, IsErrOf, OnOk, OnErr};
 ghost use Rattle.std.specs.Option.{ForSome};
-ghost use Rattle.guard_io.specs.Outside.{Rose, IsPrefix};
+ghost use Rattle.guard_io.specs.Outside.{FaultCounted, IsPrefix};
 
 /// Why a file was not loaded.
 #[derive(Clone, Copy, Debug, PartialEq, Eq)]
@@ -30,7 +30,7 @@ pub trait Files {
         ensures held { (more : List ℕ) × (into.new.items ≡ into.old.items ++ more)
             × (length more ≤ most) }
         ensures failed { IsErrOf result LoadFault.Failed
-            → Rose (faults self.old name.now) (faults self.new name.now) }
+            → FaultCounted (faults self.old name.now) (faults self.new name.now) }
         ensures same { (other : List ℕ) → content self.new other ≡ content self.old other }
         ensures kept { (other : List ℕ) → faults self.old other ≤ faults self.new other };
 }

@@ -1,6 +1,6 @@
 ghost use Rattle.std.specs.Prelude.{◌≡◌, ◌≤◌, ◌++◌, ℕ, List, Option, Some, [], IsErrOf, IsOk, IsSome, OnOk, OnErr};
 ghost use Rattle.std.specs.Option.{ForSome};
-ghost use Rattle.guard_io.specs.Outside.{Rose, IsPrefix};
+ghost use Rattle.guard_io.specs.Outside.{FaultCounted, IsPrefix};
 
 /// Why a piece was not taken.
 #[derive(Clone, Copy, Debug, PartialEq, Eq)]
@@ -26,7 +26,7 @@ pub trait Sink {
         ensures err { OnErr result (ForSome (told self.old) (λ held. (front : List ℕ)
             × IsPrefix front bytes.now × (told self.new ≡ Some (held ++ front)))) }
         ensures tells { IsSome (told self.old) → IsSome (told self.new) }
-        ensures failed { IsErrOf result SinkFault.Failed → Rose (faults self.old) (faults self.new) }
+        ensures failed { IsErrOf result SinkFault.Failed → FaultCounted (faults self.old) (faults self.new) }
         ensures kept { faults self.old ≤ faults self.new }
         ensures empty { bytes.now ≡ [] → IsOk result }
         ensures nothing { bytes.now ≡ []

@@ -7,16 +7,16 @@ use Rattle.guard_syntax.specs.Syntax.{Rule, Body, Disjs, Disj, Parts, Part, Expr
 use Rattle.guard_syntax.specs.declared.row.Verdict.{Verdict}
 use Rattle.guard_syntax.specs.declared.row.Verdict.TheVariants.{Pass, Fail, Skip}
 use Rattle.rule_names.specs.Depths.{depth_limit}
-use Rattle.rule_names.specs.Links.{target_of}
+use Rattle.rule_names.specs.Resolution.{target_of}
 use Rattle.rule_names.specs.Pieces.{Piece, OfFile, OfLet, OfRule, OfBody, OfConds, OfDisj, OfPart, OfQuery, OfStep, OfExpr, piece_at}
 use Rattle.rule_meaning.specs.Fails.{Entry, Calls, IsRows, entry, missing_row, tested_row, test_fails, first_or, found_row, set_fails, block_row_fails, body_fails, disjs_fails, disj_fails, parts_fails, part_fails, piece_fails, target_fails, calls_by, rule_fails, loose_fails}
 use Rattle.rule_meaning.specs.SetTests.{is_empty_test, is_set}
-use Rattle.rule_meaning.specs.SpotEnvironments.{Environment, Top, Inner, Called, current_of}
-use Rattle.rule_meaning.specs.SpotMeaning.{Names, rows_of, rows_of_side, body_verdict, conds_verdict, opt_conds_verdict, disj_verdicts, disj_verdict, part_verdicts, part_verdict}
-use Rattle.rule_meaning.specs.SpotSteps.{passes, rows_of_type}
-use Rattle.rule_meaning.specs.SpotTurns.{names_by, piece_called, target_called, rule_by, rule_verdict, loose_verdict}
-use Rattle.rule_meaning.specs.SpotVerdicts.{test_verdict, set_verdict, block_row}
-use Rattle.rule_meaning.specs.Spots.{Spot, SpotRow, Found, Missing, Unmade, World, is_found, root_spot}
+use Rattle.rule_meaning.specs.Environments.{Environment, Top, Inner, Called, current_of}
+use Rattle.rule_meaning.specs.Meaning.{Names, rows_of, rows_of_side, body_verdict, conds_verdict, opt_conds_verdict, disj_verdicts, disj_verdict, part_verdicts, part_verdict}
+use Rattle.rule_meaning.specs.StepMeaning.{passes, rows_of_type}
+use Rattle.rule_meaning.specs.NameMeaning.{unfolded, piece_called, target_called, rule_by, rule_verdict, loose_verdict}
+use Rattle.rule_meaning.specs.VerdictMeaning.{test_verdict, set_verdict, block_row}
+use Rattle.rule_meaning.specs.Locations.{Location, LocatedRow, Found, Missing, Unmade, World, is_found, root_location}
 use Rattle.rule_meaning.specs.Verdicts.{is_pass, is_fail, pass_if, conjunction, disjunction, block_verdict}
 
 -- whether there are entries
@@ -83,7 +83,7 @@ passing-not true h = refl
 passing-not false h = contrary h
 
 -- rows of a test
-tested-entries : (site : ℕ) (row : SpotRow) → has_entries (tested_row site row) ≡ true
+tested-entries : (site : ℕ) (row : LocatedRow) → has_entries (tested_row site row) ≡ true
 tested-entries site (Found v) = refl
 tested-entries site (Missing v step) = refl
 tested-entries site (Unmade function) = refl
@@ -92,7 +92,7 @@ one-test : (holds rest : Bool) (es fs : List Entry) → has_entries es ≡ true 
 one-test true rest es fs first second h = second h
 one-test false rest es fs first second h = in-first es fs first
 
-tests-entries : (site : ℕ) (holds : SpotRow → Bool) (rows : List SpotRow) → list_all holds rows ≡ false → has_entries (test_fails site holds rows) ≡ true
+tests-entries : (site : ℕ) (holds : LocatedRow → Bool) (rows : List LocatedRow) → list_all holds rows ≡ false → has_entries (test_fails site holds rows) ≡ true
 tests-entries site holds [] h = absurd (true≢false h)
 tests-entries site holds (row ∷ rows) h =
     one-test (holds row) (list_all holds rows) (tested_row site row) (test_fails site holds rows) (tested-entries site row) (tests-entries site holds rows) h
@@ -101,14 +101,14 @@ none-then-not-all : (a b c : Bool) → (a || b) ≡ false → (a && c) ≡ false
 none-then-not-all true b c h = absurd (true≢false h)
 none-then-not-all false b c h = refl
 
-test-entries : (site : ℕ) (any : Bool) (holds : SpotRow → Bool) (rows : List SpotRow) → is_fail (test_verdict any holds rows) ≡ true → has_entries (test_fails site holds rows) ≡ true
+test-entries : (site : ℕ) (any : Bool) (holds : LocatedRow → Bool) (rows : List LocatedRow) → is_fail (test_verdict any holds rows) ≡ true → has_entries (test_fails site holds rows) ≡ true
 test-entries site any holds [] h = contrary h
 test-entries site true holds (row ∷ rows) h =
     tests-entries site holds (row ∷ rows) (none-then-not-all (holds row) (list_any holds rows) (list_all holds rows) (not-passing (list_any holds (row ∷ rows)) h))
 test-entries site false holds (row ∷ rows) h = tests-entries site holds (row ∷ rows) (not-passing (list_all holds (row ∷ rows)) h)
 
 -- rows of a set
-found-entries : (site : ℕ) (rows : List SpotRow) → list_any is_found rows ≡ true → has_entries (flat_map (found_row site) rows) ≡ true
+found-entries : (site : ℕ) (rows : List LocatedRow) → list_any is_found rows ≡ true → has_entries (flat_map (found_row site) rows) ≡ true
 found-entries site [] h = contrary h
 found-entries site (Found v ∷ rows) h = refl
 found-entries site (Missing v step ∷ rows) h = found-entries site rows h
@@ -118,7 +118,7 @@ first-entries : (e : Entry) (es : List Entry) → has_entries (first_or e es) �
 first-entries e [] = refl
 first-entries e (f ∷ es) = refl
 
-set-entries : (site : ℕ) (negated : Bool) (current : Spot) (rows : List SpotRow) → is_fail (set_verdict negated rows) ≡ true → has_entries (set_fails site negated current rows) ≡ true
+set-entries : (site : ℕ) (negated : Bool) (current : Location) (rows : List LocatedRow) → is_fail (set_verdict negated rows) ≡ true → has_entries (set_fails site negated current rows) ≡ true
 set-entries site true current rows h = first-entries (entry site IsRows current) (flat_map (missing_row site) rows)
 set-entries site false current rows h = found-entries site rows (passing-not (list_any is_found rows) h)
 
@@ -128,7 +128,7 @@ of-two true v w es fs first second h = first h
 of-two false v w es fs first second h = second h
 
 -- rows of a block
-block-entries : (site : ℕ) (f : Spot → Verdict) (g : Spot → List Entry) → ((v : Spot) → is_fail (f v) ≡ true → has_entries (g v) ≡ true) → (rows : List SpotRow)
+block-entries : (site : ℕ) (f : Location → Verdict) (g : Location → List Entry) → ((v : Location) → is_fail (f v) ≡ true → has_entries (g v) ≡ true) → (rows : List LocatedRow)
     → list_any is_fail (map (block_row f) rows) ≡ true → has_entries (flat_map (block_row_fails site g) rows) ≡ true
 block-entries site f g each [] h = contrary h
 block-entries site f g each (Found v ∷ rows) h =
@@ -140,8 +140,8 @@ module _ (world : World) (names : Names) (calls : Calls)
     (called : (env : Environment) (site : ℕ) (args : Exprs) → is_fail (names.called env site args) ≡ true → has_entries (calls env site args) ≡ true) where
   -- at a value, by a body
   inner-entries : (env : Environment) (inner : Body)
-      → ((v : Spot) → has_entries (body_fails world names calls (Inner v env) inner) ≡ is_fail (body_verdict world names (Inner v env) inner))
-      → (v : Spot) → is_fail (body_verdict world names (Inner v env) inner) ≡ true
+      → ((v : Location) → has_entries (body_fails world names calls (Inner v env) inner) ≡ is_fail (body_verdict world names (Inner v env) inner))
+      → (v : Location) → is_fail (body_verdict world names (Inner v env) inner) ≡ true
       → has_entries (if is_fail (body_verdict world names (Inner v env) inner) then body_fails world names calls (Inner v env) inner else []) ≡ true
   inner-entries env inner same v h =
       those-if (is_fail (body_verdict world names (Inner v env) inner)) (body_fails world names calls (Inner v env) inner) (λ is. same v ∙ is) ∙ h
@@ -171,7 +171,7 @@ module _ (world : World) (names : Names) (calls : Calls)
 
     part-entries : (env : Environment) (p : Part) → is_fail (part_verdict world names env p) ≡ true → has_entries (part_fails world names calls env p) ≡ true
     part-entries env (block site any head inner) h =
-        let f : Spot → Verdict = λ v. body_verdict world names (Inner v env) inner in
+        let f : Location → Verdict = λ v. body_verdict world names (Inner v env) inner in
         let rows = rows_of world names env head in
         block-entries site f (λ v. if is_fail (f v) then body_fails world names calls (Inner v env) inner else []) (inner-entries env inner (λ v. body-entries (Inner v env) inner)) rows
         (in-block any (map (block_row f) rows) h)
@@ -179,7 +179,7 @@ module _ (world : World) (names : Names) (calls : Calls)
         let v = body_verdict world names (Inner (current_of env) env) inner in
         body-entries (Inner (current_of env) env) inner ∙ under-conditions (is_pass (conds_verdict world names env conditions)) v h
     part-entries env (kinds site name conditions inner) h =
-        let f : Spot → Verdict = λ v. body_verdict world names (Inner v env) inner in
+        let f : Location → Verdict = λ v. body_verdict world names (Inner v env) inner in
         let rows = rows_of_type world name (current_of env) in
         let vs = map (block_row f) rows in
         block-entries site f (λ v. if is_fail (f v) then body_fails world names calls (Inner v env) inner else []) (inner-entries env inner (λ v. body-entries (Inner v env) inner)) rows
@@ -214,11 +214,11 @@ module _ (world : World) (names : Names) (calls : Calls)
   target-entries env args None h = contrary h
   target-entries env args (Some site) h = piece-entries env args (piece_at world.file site) h
 
--- what a call fails by, by so many turns
+-- what a call fails by, by so many unfoldings
 calls-entries : (world : World) (n : ℕ) (env : Environment) (site : ℕ) (args : Exprs)
-    → is_fail ((names_by world n).called env site args) ≡ true → has_entries (calls_by world n env site args) ≡ true
+    → is_fail ((unfolded world n).called env site args) ≡ true → has_entries (calls_by world n env site args) ≡ true
 calls-entries world zero env site args h = contrary h
-calls-entries world (suc n) env site args h = target-entries world (names_by world n) (calls_by world n) (calls-entries world n) env args (target_of world.file site) h
+calls-entries world (suc n) env site args h = target-entries world (unfolded world n) (calls_by world n) (calls-entries world n) env args (target_of world.file site) h
 
 -- the same said of verdicts
 failing-is : (v : Verdict) → is_fail v ≡ true → v ≡ Fail
@@ -237,26 +237,26 @@ exactly : (v : Verdict) (es : List Entry) → has_entries es ≡ is_fail v → (
 exactly v es same = (λ fails. some-entries es (same ∙ ap is_fail fails), λ some. failing-is v (sym same ∙ no-entries es some))
 
 pub bodies-fail : (world : World) (n : ℕ) (env : Environment) (b : Body)
-    → (body_verdict world (names_by world n) env b ≡ Fail) ↔ (body_fails world (names_by world n) (calls_by world n) env b ≢ [])
+    → (body_verdict world (unfolded world n) env b ≡ Fail) ↔ (body_fails world (unfolded world n) (calls_by world n) env b ≢ [])
 bodies-fail world n env b =
-    exactly (body_verdict world (names_by world n) env b) (body_fails world (names_by world n) (calls_by world n) env b)
-    (body-entries world (names_by world n) (calls_by world n) (calls-entries world n) env b)
+    exactly (body_verdict world (unfolded world n) env b) (body_fails world (unfolded world n) (calls_by world n) env b)
+    (body-entries world (unfolded world n) (calls_by world n) (calls-entries world n) env b)
 
-rules-by : (world : World) (n : ℕ) (r : Rule) → rule_by world (names_by world n) r ≡ Fail
-    → body_fails world (names_by world n) (calls_by world n) (Inner root_spot Top) r.body ≢ []
+rules-by : (world : World) (n : ℕ) (r : Rule) → rule_by world (unfolded world n) r ≡ Fail
+    → body_fails world (unfolded world n) (calls_by world n) (Inner root_location Top) r.body ≢ []
 rules-by world n r fails =
-    let v = body_verdict world (names_by world n) (Inner root_spot Top) r.body in
-    (bodies-fail world n (Inner root_spot Top) r.body).0
-    (failing-is v (under-conditions (is_pass (opt_conds_verdict world (names_by world n) Top r.cond)) v (ap is_fail fails)))
+    let v = body_verdict world (unfolded world n) (Inner root_location Top) r.body in
+    (bodies-fail world n (Inner root_location Top) r.body).0
+    (failing-is v (under-conditions (is_pass (opt_conds_verdict world (unfolded world n) Top r.cond)) v (ap is_fail fails)))
 
 pub rules-fail : (world : World) (r : Rule) → rule_verdict world r ≡ Fail → rule_fails world r ≢ []
 rules-fail world r = rules-by world depth_limit r
 
 loose-by : (world : World) (n : ℕ) (loose : Disjs)
-    → (conjunction (disj_verdicts world (names_by world n) Top loose) ≡ Fail) ↔ (disjs_fails world (names_by world n) (calls_by world n) Top loose ≢ [])
+    → (conjunction (disj_verdicts world (unfolded world n) Top loose) ≡ Fail) ↔ (disjs_fails world (unfolded world n) (calls_by world n) Top loose ≢ [])
 loose-by world n loose =
-    exactly (conjunction (disj_verdicts world (names_by world n) Top loose)) (disjs_fails world (names_by world n) (calls_by world n) Top loose)
-    (disjs-entries world (names_by world n) (calls_by world n) (calls-entries world n) Top loose ∙ sym (in-conjunction (disj_verdicts world (names_by world n) Top loose)))
+    exactly (conjunction (disj_verdicts world (unfolded world n) Top loose)) (disjs_fails world (unfolded world n) (calls_by world n) Top loose)
+    (disjs-entries world (unfolded world n) (calls_by world n) (calls-entries world n) Top loose ∙ sym (in-conjunction (disj_verdicts world (unfolded world n) Top loose)))
 
 pub loose-fail : (world : World) (loose : Disjs) → (loose_verdict world loose ≡ Fail) ↔ (loose_fails world loose ≢ [])
 loose-fail world loose = loose-by world depth_limit loose

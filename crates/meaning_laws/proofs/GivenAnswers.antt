@@ -25,9 +25,9 @@ use Rattle.guard_syntax.specs.declared.function.Function.TheVariants as function
 use Rattle.guard_syntax.specs.declared.row.Row.{Row}
 use Rattle.guard_syntax.specs.declared.row.Row.TheVariants as row
 use Rattle.meaning_laws.specs.Answered.{answered, answered_for, answered_row, cut, cut_at, decimal_of_num, decimal_read, decoded, given_by, is_boundary, lowered, num_of, parsed, raised, replaced, signed, tree_if_ok, whole_of_num, whole_read}
-use Rattle.rule_meaning.specs.Finds.{pattern_in}
+use Rattle.rule_meaning.specs.PatternMatch.{pattern_in}
 use Rattle.rule_meaning.specs.Functions.{AreRows, ForText, Functions, Gives, IsDecimal, IsDecimalBy, IsGiven, IsLower, IsParsed, IsPart, IsReplacement, IsRow, IsRowFor, IsSigned, IsUnescaped, IsUpper, IsWholeBy, argument, behind_plus, decimal_tree, printed_by, replaced_with, single_text, single_whole, text_of, text_tree, truth_by, truth_tree, whole_tree}
-use Rattle.rule_meaning.specs.Known.{Known, stands_for}
+use Rattle.rule_meaning.specs.StoreModel.{StoreModel, stands_for}
 use Rattle.rule_meaning.specs.Values.{Value}
 use Rattle.value_compare.proofs.OneAnswer.{IsSigned-unique}
 
@@ -201,7 +201,7 @@ decimal-given (kind.Limits r) text = λ d is. is
 
 -- ---- one value
 
-given-is : (known : Known) (f : Function) (args : List (List Row)) (v : Value) → IsGiven (Gives known f args v) (given_by known f args v)
+given-is : (known : StoreModel) (f : Function) (args : List (List Row)) (v : Value) → IsGiven (Gives known f args v) (given_by known f args v)
 given-is known function.JsonParse args v = text-given IsParsed parsed parsed-given (text_of v)
 given-is known function.RegexReplace args v = text-given (IsReplacement (single_text known (argument args 1)) (single_text known (argument args 2))) _ (replacement-given (single_text known (argument args 1)) (single_text known (argument args 2))) (text_of v)
 given-is known function.ToLower args v = text-given (λ text tree. tree ≡ text_tree (map to_ascii_lowercase text)) lowered (λ text. refl) (text_of v)
@@ -217,7 +217,7 @@ given-is known function.Join args v = λ tree is. is
 
 -- ---- rows
 
-module _ (G : Value → Forest → Type 0) (g : Value → Option Forest) (each : (v : Value) → IsGiven (G v) (g v)) (known : Known) (call : ℕ) where
+module _ (G : Value → Forest → Type 0) (g : Value → Option Forest) (each : (v : Value) → IsGiven (G v) (g v)) (known : StoreModel) (call : ℕ) where
   answered_for-is : (o : Option Value) → IsRowFor G call o (answered_for g call o)
   answered_for-is None = refl
   answered_for-is (Some v) = (g v, each v, refl)
@@ -231,12 +231,12 @@ module _ (G : Value → Forest → Type 0) (g : Value → Option Forest) (each :
   answered_rows-are [] = tt
   answered_rows-are (r ∷ rows) = (answered_row-is r, answered_rows-are rows)
 
-by_value : (known : Known) (f : Function) (call : ℕ) (args : List (List Row)) → AreRows (Gives known f args) known call (argument args 0) (map (answered_row (given_by known f args) known call) (argument args 0))
+by_value : (known : StoreModel) (f : Function) (call : ℕ) (args : List (List Row)) → AreRows (Gives known f args) known call (argument args 0) (map (answered_row (given_by known f args) known call) (argument args 0))
 by_value known f call args = answered_rows-are (Gives known f args) (given_by known f args) (given-is known f args) known call (argument args 0)
 
 -- ---- calls
 
-pub answered-is : (known : Known) (f : Function) (call : ℕ) (args : List (List Row)) → Functions known f call args (answered known f call args)
+pub answered-is : (known : StoreModel) (f : Function) (call : ℕ) (args : List (List Row)) → Functions known f call args (answered known f call args)
 answered-is known function.Count call args = refl
 answered-is known function.Join call args = refl
 answered-is known function.JsonParse call args = by_value known function.JsonParse call args

@@ -1,7 +1,7 @@
 mod FailingParts
 mod GivenAnswers
-mod SpotOneMeaning
-mod SpotSameParts
-mod SpotTurned
-mod SpotWeighed
+mod OneMeaning
+mod SameParts
+mod Unfolded
+mod WeighedParts
 mod Weighed

@@ -17,7 +17,7 @@ use Rattle.guard_syntax.specs.declared.function.Function.TheVariants as function
 use Rattle.guard_syntax.specs.declared.row.Row.{Row}
 use Rattle.guard_syntax.specs.declared.row.Row.TheVariants as row
 use Rattle.rule_meaning.specs.Functions.{MadeRow, Kept, argument, behind_plus, counted, decimal_tree, joined_row, new_or_missing, printed_by, replaced_in, single_text, single_whole, text_of, text_tree, truth_by, truth_tree, whole_tree}
-use Rattle.rule_meaning.specs.Known.{Known, stands_for}
+use Rattle.rule_meaning.specs.StoreModel.{StoreModel, stands_for}
 use Rattle.rule_meaning.specs.Values.{Value}
 
 -- the tree of a text that JSON accepts
@@ -82,7 +82,7 @@ replaced (Some pattern) (Some template) text = option_map text_tree (replaced_in
 replaced _ _ text = None
 
 -- what a function of one value after another gives for a value, its further arguments these
-abbrev pub given_by : Known → Function → List (List Row) → Value → Option Forest
+abbrev pub given_by : StoreModel → Function → List (List Row) → Value → Option Forest
 given_by known function.JsonParse args v = option_and_then parsed (text_of v)
 given_by known function.RegexReplace args v = option_and_then (replaced (single_text known (argument args 1)) (single_text known (argument args 2))) (text_of v)
 given_by known function.ToLower args v = option_and_then lowered (text_of v)
@@ -100,13 +100,13 @@ abbrev pub answered_for : (Value → Option Forest) → ℕ → Option Value →
 answered_for given call (Some v) = new_or_missing call (given v)
 answered_for given call None = Kept (row.Unmade call)
 
-abbrev pub answered_row : (Value → Option Forest) → Known → ℕ → Row → MadeRow
+abbrev pub answered_row : (Value → Option Forest) → StoreModel → ℕ → Row → MadeRow
 answered_row given known call (row.Found r) = answered_for given call (stands_for known r)
 answered_row given known call (row.Missing v step) = Kept (row.Missing v step)
 answered_row given known call (row.Unmade inner) = Kept (row.Unmade inner)
 
 -- what the call of a function at a site answers
-abbrev pub answered : Known → Function → ℕ → List (List Row) → List MadeRow
+abbrev pub answered : StoreModel → Function → ℕ → List (List Row) → List MadeRow
 answered known function.Count call args = counted (argument args 0)
 answered known function.Join call args = joined_row known call (argument args 0) (argument args 1)
 answered known f call args = map (answered_row (given_by known f args) known call) (argument args 0)

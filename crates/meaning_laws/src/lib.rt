@@ -3,7 +3,9 @@
 #![tactic(auto)]
 
 pub mod function_laws;
-pub mod spot_laws;
+pub mod location_laws;
 
 pub use function_laws::{one_answer, refused_is_pattern};
-pub use spot_laws::{failing_has_entries, one_meaning_over_spots, turns_suffice_over_spots};
+pub use location_laws::{
+    failing_has_entries, one_meaning_over_locations, unfoldings_suffice_over_locations,
+};

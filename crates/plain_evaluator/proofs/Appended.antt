@@ -12,17 +12,17 @@ use Rattle.guard_syntax.specs.declared.row.Row.{Row}
 use Rattle.rule_names.specs.Pieces.{Sited}
 use Rattle.rule_names.specs.Within.{StandsIn}
 use Rattle.value_compare.specs.Books.{IsBookOf}
-use Rattle.rule_meaning.specs.Known.{is_known}
-use Rattle.rule_meaning.specs.Environments as scopes
+use Rattle.rule_meaning.specs.StoreModel.{is_known}
+use Rattle.rule_meaning.specs.StoreEnvironments as scopes
 use Rattle.rule_meaning.specs.Fails as fails
 use Rattle.rule_meaning.specs.Seeing.{world_of}
-use Rattle.rule_meaning.specs.SpotEnvironments.{Environment}
-use Rattle.rule_meaning.specs.Spots.{SpotRow, World}
+use Rattle.rule_meaning.specs.Environments.{Environment}
+use Rattle.rule_meaning.specs.Locations.{LocatedRow, World}
 use Rattle.report_text.specs.SeenEntries.{see_entry}
 use Rattle.report_text.specs.declared.entry.Entry.{Entry}
 use Rattle.plain_evaluator.specs.Entries.{AreShowable, see_entries}
 use Rattle.plain_evaluator.specs.Sound.{IsSound}
-use Rattle.plain_evaluator.specs.States.{Answering, Grows, State, see, see_trees, spots}
+use Rattle.plain_evaluator.specs.States.{Answering, Grows, State, see, see_trees, locations}
 use Rattle.plain_evaluator.specs.declared.trees.Trees.{Trees}
 use Rattle.plain_evaluator.proofs.Conjoined.{passes-at}
 use Rattle.plain_evaluator.proofs.Growing.{book-on, meant-before, owed-on, rows-as-before, sound-on}
@@ -41,10 +41,10 @@ none-behind before after grows es can fs none =
 -- what a call appended that came after others
 pub behind : (t : Trees) (now : State) → Grows (see_trees t) now → (es : Vec Entry Global) → AreShowable (see_trees t) es
     → (env : scopes.Environment) → IsSound (see_trees t).known env → {E : Type 0} (r : Result (Unit {0}) E) (later : List fails.Entry) (f : World → Environment → List fails.Entry)
-    → Answering now (λ w. OnOk r (later ≡ see_entries now es ++ f w (spots now env)))
-    → Answering (see_trees t) (λ w. OnOk r (later ≡ see_entries (see_trees t) es ++ f w (spots (see_trees t) env)))
+    → Answering now (λ w. OnOk r (later ≡ see_entries now es ++ f w (locations now env)))
+    → Answering (see_trees t) (λ w. OnOk r (later ≡ see_entries (see_trees t) es ++ f w (locations (see_trees t) env)))
 behind t now grows es can env sound r later f all answers is =
-    on_ok_weaker r (λ e. e ∙ ap (λ (xs : List fails.Entry). xs ++ f (world_of (see_trees t).known answers) (spots (see_trees t) env)) (entries-as-before (see_trees t) now grows es.items can))
+    on_ok_weaker r (λ e. e ∙ ap (λ (xs : List fails.Entry). xs ++ f (world_of (see_trees t).known answers) (locations (see_trees t) env)) (entries-as-before (see_trees t) now grows es.items can))
     (meant-before t now grows env sound (λ w e. OnOk r (later ≡ see_entries now es ++ f w e)) all answers is)
 
 -- what was appended is the same
@@ -68,11 +68,11 @@ walk-starts f before xs = sym (append-nil before)
 
 pub walk-goes-on : {A : Type 0} (t : Trees) (now : State) → Grows (see_trees t) now → (env : scopes.Environment) → IsSound (see_trees t).known env
     → (f : World → Environment → A → List fails.Entry) (before mid later : List fails.Entry) (xs : List A) (i : ℕ) (d x : A) → i < length xs → x ≡ get_or xs i d
-    → Answering (see_trees t) (λ w. mid ≡ before ++ flat_map (f w (spots (see_trees t) env)) (take i xs))
-    → Answering now (λ w. later ≡ mid ++ f w (spots now env) x)
-    → Answering (see_trees t) (λ w. later ≡ before ++ flat_map (f w (spots (see_trees t) env)) (take (i + 1) xs))
+    → Answering (see_trees t) (λ w. mid ≡ before ++ flat_map (f w (locations (see_trees t) env)) (take i xs))
+    → Answering now (λ w. later ≡ mid ++ f w (locations now env) x)
+    → Answering (see_trees t) (λ w. later ≡ before ++ flat_map (f w (locations (see_trees t) env)) (take (i + 1) xs))
 walk-goes-on t now grows env sound f before mid later xs i d x within is was more answers holds =
-    element-more (f (world_of (see_trees t).known answers) (spots (see_trees t) env)) before mid later xs i d x within is (was answers holds)
+    element-more (f (world_of (see_trees t).known answers) (locations (see_trees t) env)) before mid later xs i d x within is (was answers holds)
     (meant-before t now grows env sound (λ w e. later ≡ mid ++ f w e x) more answers holds)
 
 pub walk-ends : {A : Type 0} (f : A → List fails.Entry) (before later fs : List fails.Entry) (xs : List A) (i : ℕ) → length xs ≤ i → flat_map f xs ≡ fs
@@ -85,16 +85,16 @@ row-as-before : (t : Trees) (now : State) → Grows (see_trees t) now → (x : R
 row-as-before t now grows x known = let e : see now x ∷ [] ≡ see (see_trees t) x ∷ [] = rows-as-before t now grows (x ∷ []) (and_from _ _ known refl) in cc
 
 pub rows-go-on : (t : Trees) (now : State) → Grows (see_trees t) now → (env : scopes.Environment) → IsSound (see_trees t).known env
-    → (f : World → Environment → SpotRow → List fails.Entry) (before mid later : List fails.Entry) (xs : List Row) (i : ℕ) (d : Row) → i < length xs → list_all (is_known (see_trees t).known) xs ≡ true
-    → Answering (see_trees t) (λ w. mid ≡ before ++ flat_map (λ x. f w (spots (see_trees t) env) (see (see_trees t) x)) (take i xs))
-    → Answering now (λ w. later ≡ mid ++ f w (spots now env) (see now (get_or xs i d)))
-    → Answering (see_trees t) (λ w. later ≡ before ++ flat_map (λ x. f w (spots (see_trees t) env) (see (see_trees t) x)) (take (i + 1) xs))
+    → (f : World → Environment → LocatedRow → List fails.Entry) (before mid later : List fails.Entry) (xs : List Row) (i : ℕ) (d : Row) → i < length xs → list_all (is_known (see_trees t).known) xs ≡ true
+    → Answering (see_trees t) (λ w. mid ≡ before ++ flat_map (λ x. f w (locations (see_trees t) env) (see (see_trees t) x)) (take i xs))
+    → Answering now (λ w. later ≡ mid ++ f w (locations now env) (see now (get_or xs i d)))
+    → Answering (see_trees t) (λ w. later ≡ before ++ flat_map (λ x. f w (locations (see_trees t) env) (see (see_trees t) x)) (take (i + 1) xs))
 rows-go-on t now grows env sound f before mid later xs i d within known was more =
     walk-goes-on t now grows env sound (λ w e x. f w e (see (see_trees t) x)) before mid later xs i d (get_or xs i d) within refl was
     (λ answers is. more answers is
-    ∙ ap (λ (r : SpotRow). mid ++ f (world_of now.known answers) (spots now env) r) (row-as-before t now grows (get_or xs i d) (passes-at (is_known (see_trees t).known) xs i d within known)))
+    ∙ ap (λ (r : LocatedRow). mid ++ f (world_of now.known answers) (locations now env) r) (row-as-before t now grows (get_or xs i d) (passes-at (is_known (see_trees t).known) xs i d within known)))
 
-pub rows-end : (s : State) (f : SpotRow → List fails.Entry) (before later : List fails.Entry) (xs : List Row) (i : ℕ) → length xs ≤ i
+pub rows-end : (s : State) (f : LocatedRow → List fails.Entry) (before later : List fails.Entry) (xs : List Row) (i : ℕ) → length xs ≤ i
     → later ≡ before ++ flat_map (λ x. f (see s x)) (take i xs) → later ≡ before ++ flat_map f (map (see s) xs)
 rows-end s f before later xs i past e = walk-ends (λ x. f (see s x)) before later (flat_map f (map (see s) xs)) xs i past (sym (flat_map-map f (see s) xs)) e
 

@@ -9,20 +9,20 @@ use Rattle.guard_syntax.specs.declared.row.Row.{Row}
 use Rattle.rule_names.specs.Pieces.{Sited}
 use Rattle.rule_names.specs.Within.{StandsIn}
 use Rattle.value_compare.specs.Books.{IsBookOf}
-use Rattle.rule_meaning.specs.Known.{Known, Made, is_known, is_known_ref}
-use Rattle.rule_meaning.specs.Environments as scopes
+use Rattle.rule_meaning.specs.StoreModel.{StoreModel, Made, is_known, is_known_ref}
+use Rattle.rule_meaning.specs.StoreEnvironments as scopes
 use Rattle.rule_meaning.specs.Roots.{root_ref}
 use Rattle.rule_meaning.specs.Seeing.{grown, is_known_environment, world_of}
-use Rattle.rule_meaning.specs.SpotEnvironments.{Environment}
-use Rattle.rule_meaning.specs.SpotFunctions.{IsAnswering}
-use Rattle.rule_meaning.specs.SpotMeaning.{Names}
-use Rattle.rule_meaning.specs.SpotTurns.{names_by}
-use Rattle.rule_meaning.specs.Spots.{Answers, World}
+use Rattle.rule_meaning.specs.Environments.{Environment}
+use Rattle.rule_meaning.specs.FunctionMeaning.{IsAnswering}
+use Rattle.rule_meaning.specs.Meaning.{Names}
+use Rattle.rule_meaning.specs.NameMeaning.{unfolded}
+use Rattle.rule_meaning.specs.Locations.{Answers, World}
 use Rattle.query_steps.proofs.SeenGrowth.{known-before, row-known-before, rows-before}
 use Rattle.query_steps.proofs.SeenScopes.{environment-before}
 use Rattle.plain_evaluator.specs.Seen.{see_env}
 use Rattle.plain_evaluator.specs.Sound.{IsSound}
-use Rattle.plain_evaluator.specs.States.{Answering, Grows, State, see, see_trees, spots}
+use Rattle.plain_evaluator.specs.States.{Answering, Grows, State, see, see_trees, locations}
 use Rattle.plain_evaluator.specs.declared.environment.Env.{Env}
 use Rattle.plain_evaluator.specs.declared.trees.Trees.{Trees}
 use Rattle.plain_evaluator.proofs.Ranks.{rank}
@@ -98,7 +98,7 @@ module _ (before after : State) (grows : Grows before after) where
   sound-on (scopes.Inner current outer) sound = (known-on current sound.0, sound-on outer sound.1)
   sound-on (scopes.Called current args caller) sound = (known-on current sound.0, (stands-on _ sound.1.0, sound-on caller sound.1.1))
 
-known-scopes : (known : Known) (env : scopes.Environment) → IsSound known env → is_known_environment known env ≡ true
+known-scopes : (known : StoreModel) (env : scopes.Environment) → IsSound known env → is_known_environment known env ≡ true
 known-scopes known scopes.Top sound = refl
 known-scopes known (scopes.Inner current outer) sound = and_from _ _ sound.0 (known-scopes known outer sound.1)
 known-scopes known (scopes.Called current args caller) sound = and_from _ _ sound.0 (known-scopes known caller sound.1.1)
@@ -111,16 +111,16 @@ module _ (t : Trees) (after : State) (grows : Grows (see_trees t) after) where
   rows-as-before xs all =
       ap (λ (s : State). map (see s) xs) grows.2 ∙ rows-before (see_trees t).known grows.0 t.calls.items grows.1 t.called xs all
 
-  pub spots-as-before : (env : scopes.Environment) → IsSound (see_trees t).known env → spots after env ≡ spots (see_trees t) env
-  spots-as-before env sound =
-      ap (λ (s : State). spots s env) grows.2 ∙ environment-before (see_trees t).known t.calls.items grows.0 grows.1 t.called env (known-scopes (see_trees t).known env sound)
+  pub locations-as-before : (env : scopes.Environment) → IsSound (see_trees t).known env → locations after env ≡ locations (see_trees t) env
+  locations-as-before env sound =
+      ap (λ (s : State). locations s env) grows.2 ∙ environment-before (see_trees t).known t.calls.items grows.0 grows.1 t.called env (known-scopes (see_trees t).known env sound)
 
   -- what holds later of the world and of scopes, and so before
   pub meant-before : (env : scopes.Environment) → IsSound (see_trees t).known env → (Holds : World → Environment → Type 0)
-      → Answering after (λ w. Holds w (spots after env)) → Answering (see_trees t) (λ w. Holds w (spots (see_trees t) env))
+      → Answering after (λ w. Holds w (locations after env)) → Answering (see_trees t) (λ w. Holds w (locations (see_trees t) env))
   meant-before env sound Holds all =
-      answering-on (see_trees t) after grows (λ w. Holds w (spots (see_trees t) env))
-      (subst (λ (e : Environment). Answering after (λ w. Holds w e)) (spots-as-before env sound) all)
+      answering-on (see_trees t) after grows (λ w. Holds w (locations (see_trees t) env))
+      (subst (λ (e : Environment). Answering after (λ w. Holds w e)) (locations-as-before env sound) all)
 
 -- ---- over the trees of a function
 
@@ -128,7 +128,7 @@ abbrev pub world_in : Trees → Answers → World
 world_in t answers = world_of (see_trees t).known answers
 
 abbrev pub named_in : Trees → Answers → ℕ → Names
-named_in t answers turns = names_by (world_in t answers) turns
+named_in t answers turns = unfolded (world_in t answers) turns
 
 abbrev pub scopes_in : Trees → Env → Environment
-scopes_in t e = spots (see_trees t) (see_env e)
+scopes_in t e = locations (see_trees t) (see_env e)

@@ -5,10 +5,10 @@ use Rattle.doc_values.specs.Tree.{Forest, Nil}
 use Rattle.guard_syntax.specs.declared.row.Origin.{Origin}
 use Rattle.guard_syntax.specs.declared.row.Origin.TheVariants as origin
 use Rattle.guard_syntax.specs.declared.row.Ref.{Ref}
-use Rattle.rule_meaning.specs.Known.{Known, Made}
+use Rattle.rule_meaning.specs.StoreModel.{StoreModel, Made}
 use Rattle.rule_meaning.specs.Fails as fails
-use Rattle.rule_meaning.specs.Seeing.{grown, see_spot}
-use Rattle.rule_meaning.specs.Spots as spots
+use Rattle.rule_meaning.specs.Seeing.{grown, see_location}
+use Rattle.rule_meaning.specs.Locations as locations
 use Rattle.query_steps.proofs.SeenGrowth.{known-before, tree-kept}
 use Rattle.report_text.specs.SeenEntries.{IsShowable, is_made, see_entry, see_shown, see_word}
 use Rattle.report_text.specs.declared.entry.Entry.{Entry}
@@ -19,25 +19,25 @@ use Rattle.plain_evaluator.specs.States.{State, Grows}
 -- ---- one entry
 
 -- a value of the template or of a literal is told without any trees that calls made
-untold : (before after : Known) (r : Ref) (o : Origin) → r.origin ≡ o → is_made o ≡ false → see_spot after [] r ≡ see_spot before [] r
+untold : (before after : StoreModel) (r : Ref) (o : Origin) → r.origin ≡ o → is_made o ≡ false → see_location after [] r ≡ see_location before [] r
 untold before after r origin.Template is unmade = rw (is) refl
 untold before after r (origin.Literal site) is unmade = rw (is) refl
 untold before after r (origin.Made line at) is unmade = absurd (true≢false unmade)
 
-shown-before : (known : Known) (more : List Made) (x : Shown) → IsShowable known x → see_shown (grown known more) x ≡ see_shown known x
+shown-before : (known : StoreModel) (more : List Made) (x : Shown) → IsShowable known x → see_shown (grown known more) x ≡ see_shown known x
 shown-before known more (shown.Value r) showable = ap fails.OfValue (untold known (grown known more) r r.origin refl showable.1)
 shown-before known more (shown.Made site r) showable =
-    ap (λ (o : Option Forest). fails.OfValue (record { origin = spots.Made site (unwrap_or o Nil); node = r.node; key = r.key })) (tree-kept known more r showable.0)
+    ap (λ (o : Option Forest). fails.OfValue (record { origin = locations.Made site (unwrap_or o Nil); node = r.node; key = r.key })) (tree-kept known more r showable.0)
 shown-before known more (shown.Unmade site) showable = refl
 
-showable-still : (known : Known) (more : List Made) (x : Shown) → IsShowable known x → IsShowable (grown known more) x
+showable-still : (known : StoreModel) (more : List Made) (x : Shown) → IsShowable known x → IsShowable (grown known more) x
 showable-still known more (shown.Value r) showable = (known-before known more r showable.0, showable.1)
 showable-still known more (shown.Made site r) showable = (known-before known more r showable.0, showable.1)
 showable-still known more (shown.Unmade site) showable = tt
 
 -- ---- entries
 
-seen-before : (known : Known) (more : List Made) (es : List Entry) → All (λ (e : Entry). IsShowable known e.shown) es → map (see_entry (grown known more)) es ≡ map (see_entry known) es
+seen-before : (known : StoreModel) (more : List Made) (es : List Entry) → All (λ (e : Entry). IsShowable known e.shown) es → map (see_entry (grown known more)) es ≡ map (see_entry known) es
 seen-before known more [] all = refl
 seen-before known more (e ∷ es) all =
     ap₂ (λ (s : fails.Shown) (rest : List fails.Entry). record { shown = s; word = see_word e.word; part = e.part } ∷ rest)

@@ -21,12 +21,12 @@ use Rattle.guard_syntax.specs.Seen.{see_rule, see_disj, see_body, see_conds, see
 use Rattle.guard_syntax.specs.Syntax as sx
 use Rattle.rule_names.specs.Depths.{depth_limit}
 use Rattle.rule_meaning.specs.SetTests.{is_empty_test, is_set}
-use Rattle.rule_meaning.specs.SpotEnvironments.{Environment, Top, Inner, current_of}
-use Rattle.rule_meaning.specs.SpotMeaning.{Names, rows_of, rows_of_side, conds_verdict, body_verdict, disj_verdict, disj_verdicts, part_verdict, part_verdicts, opt_conds_verdict}
-use Rattle.rule_meaning.specs.SpotSteps.{passes, rows_of_type}
-use Rattle.rule_meaning.specs.SpotTurns.{names_by, rule_by, rule_verdict, loose_verdict}
-use Rattle.rule_meaning.specs.SpotVerdicts.{block_row, set_verdict, test_verdict}
-use Rattle.rule_meaning.specs.Spots.{Spot, SpotRow, Found, World, root_spot}
+use Rattle.rule_meaning.specs.Environments.{Environment, Top, Inner, current_of}
+use Rattle.rule_meaning.specs.Meaning.{Names, rows_of, rows_of_side, conds_verdict, body_verdict, disj_verdict, disj_verdicts, part_verdict, part_verdicts, opt_conds_verdict}
+use Rattle.rule_meaning.specs.StepMeaning.{passes, rows_of_type}
+use Rattle.rule_meaning.specs.NameMeaning.{unfolded, rule_by, rule_verdict, loose_verdict}
+use Rattle.rule_meaning.specs.VerdictMeaning.{block_row, set_verdict, test_verdict}
+use Rattle.rule_meaning.specs.Locations.{Location, LocatedRow, Found, World, root_location}
 use Rattle.rule_meaning.specs.Verdicts.{conjunction, disjunction, is_pass, block_verdict, guarded_by, referred, exchanged}
 use Rattle.plain_evaluator.specs.States.{State, see}
 use Rattle.plain_evaluator.proofs.Placed.{disj-seen, body-seen, conds-seen, block-seen, when-seen, kinds-seen, test-seen, refer-seen, call-seen}
@@ -38,10 +38,10 @@ of_part w names env p = part_verdict w names env (see_part p)
 abbrev pub of_disj : World → Names → Environment → Disj → Verdict
 of_disj w names env d = disj_verdict w names env (see_disj d)
 
-abbrev pub of_conds : World → Names → Environment → Conds → Spot → Verdict
+abbrev pub of_conds : World → Names → Environment → Conds → Location → Verdict
 of_conds w names env c r = conds_verdict w names (Inner r env) (see_conds c)
 
-abbrev pub of_row : World → Names → Environment → Body → SpotRow → Verdict
+abbrev pub of_row : World → Names → Environment → Body → LocatedRow → Verdict
 of_row w names env b = block_row (λ v. body_verdict w names (Inner v env) (see_body b))
 
 -- the conjunction of disjunctions, and the disjunction of parts
@@ -93,7 +93,7 @@ under-skip conditions inner is = sym (ap (λ w. guarded_by w inner) is)
 
 -- Parts.
 
-pub block-judged : (w : World) (names : Names) (env : Environment) (x : Part) (site : ℕ) (any : Bool) (head : Query) (b : Body) (rows : List SpotRow) (result : Verdict)
+pub block-judged : (w : World) (names : Names) (env : Environment) (x : Part) (site : ℕ) (any : Bool) (head : Query) (b : Body) (rows : List LocatedRow) (result : Verdict)
     → x ≡ part.Block site any head b → rows ≡ rows_of w names env (see_query head) → result ≡ block_verdict any (map (of_row w names env b) rows) → result ≡ of_part w names env x
 block-judged w names env x site any head b rows result is found e =
     e ∙ ap (λ rs. block_verdict any (map (of_row w names env b) rs)) found ∙ sym (ap (part_verdict w names env) (ap see_part is ∙ block-seen site any head b))
@@ -141,14 +141,14 @@ of_sides w names env any left op negated right =
     by_test (is_empty_test op && is_set (see_query left)) (set_verdict negated (rows_of w names env (see_query left)))
     (test_verdict any (passes w op negated (rows_of_side w names env (see_opt_expr right))) (rows_of w names env (see_query left)))
 
-pub set-judged : (w : World) (names : Names) (env : Environment) (any : Bool) (left : Query) (op : Op) (negated : Bool) (right : Option Expr) (on_set : Bool) (lefts : List SpotRow) (result : Verdict)
+pub set-judged : (w : World) (names : Names) (env : Environment) (any : Bool) (left : Query) (op : Op) (negated : Bool) (right : Option Expr) (on_set : Bool) (lefts : List LocatedRow) (result : Verdict)
     → on_set ≡ (is_empty_test op && is_set (see_query left)) → on_set ≡ true
     → lefts ≡ rows_of w names env (see_query left) → result ≡ set_verdict negated lefts → result ≡ of_sides w names env any left op negated right
 set-judged w names env any left op negated right on_set lefts result set on found e =
     e ∙ ap (set_verdict negated) found
     ∙ ap (λ b. by_test b (set_verdict negated (rows_of w names env (see_query left))) (test_verdict any (passes w op negated (rows_of_side w names env (see_opt_expr right))) (rows_of w names env (see_query left)))) (sym on ∙ set)
 
-pub test-judged : (w : World) (names : Names) (env : Environment) (any : Bool) (left : Query) (op : Op) (negated : Bool) (right : Option Expr) (on_set : Bool) (lefts rights : List SpotRow) (result : Verdict)
+pub test-judged : (w : World) (names : Names) (env : Environment) (any : Bool) (left : Query) (op : Op) (negated : Bool) (right : Option Expr) (on_set : Bool) (lefts rights : List LocatedRow) (result : Verdict)
     → on_set ≡ (is_empty_test op && is_set (see_query left)) → on_set ≡ false
     → lefts ≡ rows_of w names env (see_query left) → rights ≡ rows_of_side w names env (see_opt_expr right) → result ≡ test_verdict any (passes w op negated rights) lefts
     → result ≡ of_sides w names env any left op negated right
@@ -175,7 +175,7 @@ call-judged w names env x site negated name args message given called result is 
     ∙ sym (ap (part_verdict w names env) (ap see_part is ∙ call-seen site negated name args message))
 
 -- a block at a row: FAIL where nothing was found
-pub found-judged : (w : World) (names : Names) (env inner : Environment) (b : Body) (row : SpotRow) (v : Spot) (one : Verdict) → row ≡ Found v → inner ≡ Inner v env
+pub found-judged : (w : World) (names : Names) (env inner : Environment) (b : Body) (row : LocatedRow) (v : Location) (one : Verdict) → row ≡ Found v → inner ≡ Inner v env
     → one ≡ body_verdict w names inner (see_body b) → one ≡ of_row w names env b row
 found-judged w names env inner b row v one is within e = e ∙ ap (λ (i : Environment). body_verdict w names i (see_body b)) within ∙ sym (ap (of_row w names env b) is)
 
@@ -185,19 +185,19 @@ missed-judged s w names env b (row.Missing v site) never = refl
 missed-judged s w names env b (row.Unmade site) never = refl
 
 -- conditions at a value
-pub at-judged : (w : World) (names : Names) (env inner : Environment) (c : Conds) (v : Spot) (one : Verdict) → inner ≡ Inner v env → one ≡ conds_verdict w names inner (see_conds c) → one ≡ of_conds w names env c v
+pub at-judged : (w : World) (names : Names) (env inner : Environment) (c : Conds) (v : Location) (one : Verdict) → inner ≡ Inner v env → one ≡ conds_verdict w names inner (see_conds c) → one ≡ of_conds w names env c v
 at-judged w names env inner c v one within e = e ∙ ap (λ (i : Environment). conds_verdict w names i (see_conds c)) within
 
 -- a rule
-pub rule-judged : (w : World) (names : Names) (r : Rule) (file inner : Environment) (conditions result : Verdict) → file ≡ Top → inner ≡ Inner root_spot Top
+pub rule-judged : (w : World) (names : Names) (r : Rule) (file inner : Environment) (conditions result : Verdict) → file ≡ Top → inner ≡ Inner root_location Top
     → conditions ≡ opt_conds_verdict w names file (see_opt_conds r.cond) → result ≡ guarded_by conditions (body_verdict w names inner (see_body r.body)) → result ≡ rule_by w names (see_rule r)
 rule-judged w names r file inner conditions result at_top within judged e =
     e ∙ ap₂ (λ v (i : Environment). guarded_by v (body_verdict w names i (see_body r.body))) (judged ∙ ap (λ (i : Environment). opt_conds_verdict w names i (see_opt_conds r.cond)) at_top) within
 
 -- with the most turns
-pub rule-most : (w : World) (turns : ℕ) (r : sx.Rule) (result : Verdict) → turns ≡ depth_limit → result ≡ rule_by w (names_by w turns) r → result ≡ rule_verdict w r
-rule-most w turns r result most judged = judged ∙ ap (λ (n : ℕ). rule_by w (names_by w n) r) most
+pub rule-most : (w : World) (turns : ℕ) (r : sx.Rule) (result : Verdict) → turns ≡ depth_limit → result ≡ rule_by w (unfolded w turns) r → result ≡ rule_verdict w r
+rule-most w turns r result most judged = judged ∙ ap (λ (n : ℕ). rule_by w (unfolded w n) r) most
 
 pub loose-most : (w : World) (turns : ℕ) (file : Environment) (ds : sx.Disjs) (result : Verdict) → turns ≡ depth_limit → file ≡ Top
-    → result ≡ conjunction (disj_verdicts w (names_by w turns) file ds) → result ≡ loose_verdict w ds
-loose-most w turns file ds result most at_top judged = judged ∙ ap₂ (λ (n : ℕ) (i : Environment). conjunction (disj_verdicts w (names_by w n) i ds)) most at_top
+    → result ≡ conjunction (disj_verdicts w (unfolded w turns) file ds) → result ≡ loose_verdict w ds
+loose-most w turns file ds result most at_top judged = judged ∙ ap₂ (λ (n : ℕ) (i : Environment). conjunction (disj_verdicts w (unfolded w n) i ds)) most at_top

@@ -21,11 +21,11 @@ use Rattle.guard_syntax.specs.declared.row.Row.TheVariants as row
 use Rattle.guard_syntax.specs.Seen.{see_file}
 use Rattle.rule_meaning.specs.Values.{has_pattern}
 use Rattle.rule_meaning.specs.Functions.{MadeRow, New, Kept}
-use Rattle.rule_meaning.specs.Known.{Known, Made, is_known, made_at}
+use Rattle.rule_meaning.specs.StoreModel.{StoreModel, Made, is_known, made_at}
 use Rattle.value_compare.specs.Stores.{see_store}
 use Rattle.value_compare.specs.declared.store.Store.{Store}
 use Rattle.rule_meaning.specs.Seeing.{are_called, grown, is_known_answer, rows_kept, see_answer, see_row, trees_kept}
-use Rattle.rule_meaning.specs.Spots.{answered_row}
+use Rattle.rule_meaning.specs.Locations.{answered_row}
 use Rattle.query_steps.proofs.SeenAnswers.{answer-known, answer-seen, answer-called, next-free}
 use Rattle.query_steps.proofs.RowsKept.{rows-more, trees-more, rows-many, absent-behind, absent-later, grown-more, added}
 use Rattle.plain_evaluator.specs.States.{Grows, State, see}
@@ -38,7 +38,7 @@ pub record KeptSoFar (before now : Store) (calls calls_now : List ℕ) (call lin
   pub store : see_store now ≡ grown (see_store before) (trees_kept line 0 (map see_made taken))
   pub rows : given ≡ rows_kept line 0 (map see_made taken)
 
-grown-none : (k : Known) → k ≡ grown k []
+grown-none : (k : StoreModel) → k ≡ grown k []
 grown-none k = ap (λ (made : List Made). record { template = k.template; file = k.file; made = made }) (sym (append-nil k.made))
 
 pub kept-none : (s : Store) (calls calls_now : List ℕ) (call line : ℕ) (rows : List Row) → calls_now ≡ calls ++ call ∷ [] → line ≡ length calls_now → rows ≡ [] → KeptSoFar s s calls calls_now call line [] rows
@@ -56,7 +56,7 @@ module _ (before now : Store) (calls calls_now : List ℕ) (call line : ℕ) (ta
   pub place-free : (n : ℕ) → n ≡ length rows → are_called calls before.made ≡ true → made_at now.made line n ≡ None
   place-free n is all =
       let many : 0 + length seen ≤ n = omega (arith, is, rows-so-far) in
-      ap (λ (k : Known). made_at k.made line n) so.store
+      ap (λ (k : StoreModel). made_at k.made line n) so.store
       ∙ absent-behind before.made (trees_kept line 0 seen) line n (ap (λ (l : ℕ). made_at before.made l n) so.at ∙ next-free calls before.made n all) (absent-later line 0 n seen many)
 
   pub kept-tree : (after : Store) (tree : Forest) (n : ℕ) (m : types.Made) (given : List Row) → m ≡ code.Tree tree → n ≡ length rows
@@ -71,7 +71,7 @@ module _ (before now : Store) (calls calls_now : List ℕ) (call line : ℕ) (ta
         called = so.called;
         store =
             added now after (record { line = line; row = n; tree = tree }) doc file made
-            ∙ ap (λ (k : Known). grown k (record { line = line; row = n; tree = tree } ∷ [])) so.store
+            ∙ ap (λ (k : StoreModel). grown k (record { line = line; row = n; tree = tree } ∷ [])) so.store
             ∙ grown-more (see_store before) (trees_kept line 0 seen) (record { line = line; row = n; tree = tree } ∷ [])
             ∙ ap (grown (see_store before)) (sym (ap (trees_kept line 0) all ∙ trees-more line 0 n seen (New tree ∷ []) at));
         rows = gives ∙ ap (λ (rs : List Row). rs ++ row.Found (record { origin = origin.Made line n; node = 0; key = false }) ∷ []) so.rows
@@ -96,7 +96,7 @@ module _ (before now : Store) (calls calls_now : List ℕ) (call line : ℕ) (ta
   state = record { known = see_store now; calls = calls_now }
 
   pub kept-grows : Grows (record { known = see_store before; calls = calls }) state
-  kept-grows = (trees_kept line 0 seen, call ∷ [], ap₂ (λ (k : Known) (c : List ℕ). record { known = k; calls = c }) so.store so.called)
+  kept-grows = (trees_kept line 0 seen, call ∷ [], ap₂ (λ (k : StoreModel) (c : List ℕ). record { known = k; calls = c }) so.store so.called)
 
   -- and so they have where one more was added, or none
   pub added-grows : (after : Store) (m : Made) → after.doc.now ≡ now.doc.now → after.file.now ≡ now.file.now → after.made ≡ now.made ++ m ∷ []
@@ -104,8 +104,8 @@ module _ (before now : Store) (calls calls_now : List ℕ) (call line : ℕ) (ta
   added-grows after m doc file made = (
     trees_kept line 0 seen ++ m ∷ [],
     call ∷ [],
-    ap₂ (λ (k : Known) (c : List ℕ). record { known = k; calls = c })
-        (added now after m doc file made ∙ ap (λ (k : Known). grown k (m ∷ [])) so.store ∙ grown-more (see_store before) (trees_kept line 0 seen) (m ∷ [])) so.called,
+    ap₂ (λ (k : StoreModel) (c : List ℕ). record { known = k; calls = c })
+        (added now after m doc file made ∙ ap (λ (k : StoreModel). grown k (m ∷ [])) so.store ∙ grown-more (see_store before) (trees_kept line 0 seen) (m ∷ [])) so.called,
   )
 
   pub same-grows : (after : Store) → after.doc.now ≡ now.doc.now → after.file.now ≡ now.file.now → after.made ≡ now.made
@@ -113,7 +113,7 @@ module _ (before now : Store) (calls calls_now : List ℕ) (call line : ℕ) (ta
   same-grows after doc file made = (
     trees_kept line 0 seen,
     call ∷ [],
-    ap₂ (λ (k : Known) (c : List ℕ). record { known = k; calls = c })
+    ap₂ (λ (k : StoreModel) (c : List ℕ). record { known = k; calls = c })
         (ap (λ (d : Forest). record { template = d; file = see_file after.file.now.raw; made = after.made }) doc
         ∙ ap (λ f. record { template = now.doc.now; file = see_file f.raw; made = after.made }) file
         ∙ ap (λ (ms : List Made). record { template = now.doc.now; file = see_file now.file.now.raw; made = ms }) made
@@ -132,17 +132,17 @@ module _ (before now : Store) (calls calls_now : List ℕ) (call line : ℕ) (ta
     rows-whole = so.rows ∙ ap₂ (λ (l : ℕ) (xs : List types.Made). rows_kept l 0 (map see_made xs)) so.at whole
 
     pub whole-known : list_all (is_known (see_store now)) rows ≡ true
-    whole-known = ap₂ (λ (k : Known) (rs : List Row). list_all (is_known k) rs) store-whole rows-whole ∙ answer-known (see_store before) calls call all made known
+    whole-known = ap₂ (λ (k : StoreModel) (rs : List Row). list_all (is_known k) rs) store-whole rows-whole ∙ answer-known (see_store before) calls call all made known
 
     pub whole-seen : map (see state) rows ≡ map (answered_row call) (map (see_answer (see_store before) calls) made)
     whole-seen =
-        ap₂ (λ (k : Known) (c : List ℕ). map (see_row k c) rows) store-whole so.called
+        ap₂ (λ (k : StoreModel) (c : List ℕ). map (see_row k c) rows) store-whole so.called
         ∙ ap (map (see_row (grown (see_store before) (trees_kept (suc (length calls)) 0 made)) (calls ++ call ∷ []))) rows-whole
         ∙ answer-seen (see_store before) calls call all made known
 
 -- ---- each tree was made by one of the calls
 
-pub called-more : (b : Bool) (k : Known) (calls now : List ℕ) (call : ℕ) → now ≡ (if b then calls ++ call ∷ [] else calls) → are_called calls k.made ≡ true → are_called now k.made ≡ true
+pub called-more : (b : Bool) (k : StoreModel) (calls now : List ℕ) (call : ℕ) → now ≡ (if b then calls ++ call ∷ [] else calls) → are_called calls k.made ≡ true → are_called now k.made ≡ true
 called-more true k calls now call is all =
     ap₂ are_called is (sym (append-nil k.made)) ∙ answer-called k calls call all []
 called-more false k calls now call is all = ap (λ (c : List ℕ). are_called c k.made) is ∙ all
@@ -158,9 +158,9 @@ called-kept (Ok x) calls before after m more same line all = called-added calls 
 called-kept (Err e) calls before after m more same line all = ap (are_called calls) same ∙ all
 
 -- where no call came to the others, they are as before
-pub same-calls : (k : Known) (calls now : List ℕ) → now ≡ calls → Grows (record { known = k; calls = calls }) (record { known = k; calls = now })
+pub same-calls : (k : StoreModel) (calls now : List ℕ) → now ≡ calls → Grows (record { known = k; calls = calls }) (record { known = k; calls = now })
 same-calls k calls now is =
-    ([], [], ap₂ (λ (m : Known) (c : List ℕ). record { known = m; calls = c }) (grown-none k) (is ∙ sym (append-nil calls)))
+    ([], [], ap₂ (λ (m : StoreModel) (c : List ℕ). record { known = m; calls = c }) (grown-none k) (is ∙ sym (append-nil calls)))
 
 -- ---- what an iterator over a vector has given
 

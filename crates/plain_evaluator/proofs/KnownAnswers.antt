@@ -5,7 +5,7 @@ use Rattle.std.specs.declared.vec.Vec.{Vec}
 use Rattle.std.specs.declared.alloc.Global.{Global}
 use Rattle.guard_builtins.specs.Seen.{see_rows}
 use Rattle.guard_syntax.specs.declared.row.Row.{Row}
-use Rattle.rule_meaning.specs.Known.{is_known}
+use Rattle.rule_meaning.specs.StoreModel.{is_known}
 use Rattle.plain_evaluator.specs.States.{State, are_known}
 
 -- the rows of arguments

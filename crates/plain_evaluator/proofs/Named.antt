@@ -18,33 +18,33 @@ use Rattle.rule_names.specs.declared.piece.Piece as shape
 use Rattle.rule_names.specs.declared.piece.Piece.TheVariants as code
 use Rattle.rule_names.specs.Seen.{see_piece}
 use Rattle.rule_names.specs.Depths.{first_of_query, first_steps}
-use Rattle.rule_names.specs.Links.{bind_of, target_of}
+use Rattle.rule_names.specs.Resolution.{bind_of, target_of}
 use Rattle.rule_names.specs.Pieces.{Piece, OfFile, OfLet, OfRule, OfBody, OfConds, OfDisj, OfPart, OfQuery, OfStep, OfExpr, piece_at, pieces_rule, pieces_expr, pieces_exprs, pieces_query, pieces_body, pieces_file}
 use Rattle.rule_names.specs.Uses.{expr_in}
 use Rattle.rule_names.specs.Within.{IsAmong, StandsIn}
 use Rattle.rule_names.proofs.Among.{IsAmong-inner, IsAmong-first, IsAmong-last}
 use Rattle.rule_names.proofs.PiecesStand.{piece-stands}
-use Rattle.rule_meaning.specs.Known.{Known}
-use Rattle.rule_meaning.specs.Environments as scopes
-use Rattle.rule_meaning.specs.SpotEnvironments.{Environment, Called, current_of}
-use Rattle.rule_meaning.specs.SpotSteps.{captured_row}
-use Rattle.rule_meaning.specs.SpotMeaning.{Names, rows_of, rows_of_expr, rows_from, body_verdict}
-use Rattle.rule_meaning.specs.SpotTurns.{names_by, turn, value_rows, captured_rows, rule_by, target_verdict, target_called, piece_verdict, piece_called, bound_rows, parameter_rows, argument_rows}
-use Rattle.rule_meaning.specs.Spots.{Found, SpotRow, World}
+use Rattle.rule_meaning.specs.StoreModel.{StoreModel}
+use Rattle.rule_meaning.specs.StoreEnvironments as scopes
+use Rattle.rule_meaning.specs.Environments.{Environment, Called, current_of}
+use Rattle.rule_meaning.specs.StepMeaning.{captured_row}
+use Rattle.rule_meaning.specs.Meaning.{Names, rows_of, rows_of_expr, rows_from, body_verdict}
+use Rattle.rule_meaning.specs.NameMeaning.{unfolded, unfolded_once, value_rows, captured_rows, rule_by, target_verdict, target_called, piece_verdict, piece_called, bound_rows, parameter_rows, argument_rows}
+use Rattle.rule_meaning.specs.Locations.{Found, LocatedRow, World}
 use Rattle.plain_evaluator.specs.declared.environment.Env.{Env}
 use Rattle.plain_evaluator.specs.declared.environment.Env as env
 use Rattle.plain_evaluator.specs.Seen.{see_env}
 use Rattle.plain_evaluator.specs.Sound.{IsSound}
 use Rattle.plain_evaluator.specs.Rules.{rule_of_piece, rule_to}
 use Rattle.plain_evaluator.proofs.Placed.{query-seen, rule-in}
-use Rattle.plain_evaluator.specs.States.{State, spots}
+use Rattle.plain_evaluator.specs.States.{State, locations}
 use Rattle.plain_evaluator.proofs.Scopes.{top-seen, inner-seen, called-seen}
 use Rattle.plain_evaluator.proofs.StepsWithin.{steps_in, count-listed, piece-within}
 use Rattle.plain_evaluator.proofs.Ranks.{has-turn}
 
 -- where a turn is left, names mean one turn more than what one turn less says
-pub by-turn : (w : World) (turns : ℕ) → (turns ≡ 0 → ⊥) → names_by w turns ≡ turn w (names_by w (turns - 1))
-by-turn w turns some = ap (names_by w) (has-turn turns some)
+pub by-turn : (w : World) (turns : ℕ) → (turns ≡ 0 → ⊥) → unfolded w turns ≡ unfolded_once w (unfolded w (turns - 1))
+by-turn w turns some = ap (unfolded w) (has-turn turns some)
 
 -- any other piece gives a let no rows
 other-value : (w : World) (names : Names) (env : Environment) (p : shape.Piece) → ((e : Bor Expr) → p ≡ code.Expr e → ⊥) → ((q : Bor Query) → p ≡ code.Query q → ⊥)
@@ -231,42 +231,42 @@ called-to : (w : World) (names : Names) (env : Environment) (args : sx.Exprs) (t
 called-to w names env args None = refl
 called-to w names env args (Some site) = called-at w names env args (piece_at w.file site)
 
-pub refers-to : (w : World) (turns site : ℕ) (r : sx.Rule) → (turns ≡ 0 → ⊥) → rule_to w.file site ≡ Some r → rule_by w (names_by w (turns - 1)) r ≡ (names_by w turns).verdict site
+pub refers-to : (w : World) (turns site : ℕ) (r : sx.Rule) → (turns ≡ 0 → ⊥) → rule_to w.file site ≡ Some r → rule_by w (unfolded w (turns - 1)) r ≡ (unfolded w turns).verdict site
 refers-to w turns site r some is =
-    let less = names_by w (turns - 1) in
+    let less = unfolded w (turns - 1) in
     sym (ap (λ (names : Names). names.verdict site) (by-turn w turns some) ∙ verdict-to w less (target_of w.file site) ∙ ap (by_rule w less) is)
 
-pub refers-to-none : (w : World) (turns site : ℕ) → (turns ≡ 0 → ⊥) → rule_to w.file site ≡ None → Skip ≡ (names_by w turns).verdict site
+pub refers-to-none : (w : World) (turns site : ℕ) → (turns ≡ 0 → ⊥) → rule_to w.file site ≡ None → Skip ≡ (unfolded w turns).verdict site
 refers-to-none w turns site some is =
-    let less = names_by w (turns - 1) in
+    let less = unfolded w (turns - 1) in
     sym (ap (λ (names : Names). names.verdict site) (by-turn w turns some) ∙ verdict-to w less (target_of w.file site) ∙ ap (by_rule w less) is)
 
 pub calls : (w : World) (turns site : ℕ) (env : Environment) (args : sx.Exprs) (r : sx.Rule) → (turns ≡ 0 → ⊥) → rule_to w.file site ≡ Some r
-    → called_by w (names_by w (turns - 1)) env args r ≡ (names_by w turns).called env site args
+    → called_by w (unfolded w (turns - 1)) env args r ≡ (unfolded w turns).called env site args
 calls w turns site env args r some is =
-    let less = names_by w (turns - 1) in
+    let less = unfolded w (turns - 1) in
     sym (ap (λ (names : Names). names.called env site args) (by-turn w turns some) ∙ called-to w less env args (target_of w.file site) ∙ ap (by_called w less env args) is)
 
-pub calls-none : (w : World) (turns site : ℕ) (env : Environment) (args : sx.Exprs) → (turns ≡ 0 → ⊥) → rule_to w.file site ≡ None → Skip ≡ (names_by w turns).called env site args
+pub calls-none : (w : World) (turns site : ℕ) (env : Environment) (args : sx.Exprs) → (turns ≡ 0 → ⊥) → rule_to w.file site ≡ None → Skip ≡ (unfolded w turns).called env site args
 calls-none w turns site env args some is =
-    let less = names_by w (turns - 1) in
+    let less = unfolded w (turns - 1) in
     sym (ap (λ (names : Names). names.called env site args) (by-turn w turns some) ∙ called-to w less env args (target_of w.file site) ∙ ap (by_called w less env args) is)
 
 -- no turn is left
-pub out-of-rows : (w : World) (turns site : ℕ) (env : Environment) → turns ≡ 0 → [] ≡ (names_by w turns).rows env site
-out-of-rows w turns site env none = sym (ap (λ (m : ℕ). (names_by w m).rows env site) none)
+pub out-of-rows : (w : World) (turns site : ℕ) (env : Environment) → turns ≡ 0 → [] ≡ (unfolded w turns).rows env site
+out-of-rows w turns site env none = sym (ap (λ (m : ℕ). (unfolded w m).rows env site) none)
 
-pub out-of-verdicts : (w : World) (turns site : ℕ) → turns ≡ 0 → Skip ≡ (names_by w turns).verdict site
-out-of-verdicts w turns site none = sym (ap (λ (m : ℕ). (names_by w m).verdict site) none)
+pub out-of-verdicts : (w : World) (turns site : ℕ) → turns ≡ 0 → Skip ≡ (unfolded w turns).verdict site
+out-of-verdicts w turns site none = sym (ap (λ (m : ℕ). (unfolded w m).verdict site) none)
 
-pub out-of-calls : (w : World) (turns site : ℕ) (env : Environment) (args : sx.Exprs) → turns ≡ 0 → Skip ≡ (names_by w turns).called env site args
-out-of-calls w turns site env args none = sym (ap (λ (m : ℕ). (names_by w m).called env site args) none)
+pub out-of-calls : (w : World) (turns site : ℕ) (env : Environment) (args : sx.Exprs) → turns ≡ 0 → Skip ≡ (unfolded w turns).called env site args
+out-of-calls w turns site env args none = sym (ap (λ (m : ℕ). (unfolded w m).called env site args) none)
 
 -- a variable, by what binds it
-pub bound : (w : World) (turns site : ℕ) (env : Environment) (b : Option Bind) (rows : List SpotRow) → (turns ≡ 0 → ⊥) → b ≡ bind_of w.file site → rows ≡ bound_rows w (names_by w (turns - 1)) env b
-    → rows ≡ (names_by w turns).rows env site
+pub bound : (w : World) (turns site : ℕ) (env : Environment) (b : Option Bind) (rows : List LocatedRow) → (turns ≡ 0 → ⊥) → b ≡ bind_of w.file site → rows ≡ bound_rows w (unfolded w (turns - 1)) env b
+    → rows ≡ (unfolded w turns).rows env site
 bound w turns site env b rows some is e =
-    e ∙ ap (bound_rows w (names_by w (turns - 1)) env) is ∙ sym (ap (λ (names : Names). names.rows env site) (by-turn w turns some))
+    e ∙ ap (bound_rows w (unfolded w (turns - 1)) env) is ∙ sym (ap (λ (names : Names). names.rows env site) (by-turn w turns some))
 
 -- the rule that was found
 abbrev pub rule_found : Option (Bor Rule) → Option sx.Rule
@@ -276,7 +276,7 @@ pub body-stands : (f : sx.File) (r : Rule) → StandsIn f (pieces_rule (see_rule
 body-stands f r there = IsAmong-inner (pieces_body (see_body r.body)) (pieces_rule (see_rule r)) (pieces_file f) (rule-in r).1.0 there
 
 -- the arguments of a called body, and where they are meant
-pub called-is : (k : Known) (e : Env) (v : Ref) (args : Bor (List Expr)) (o : Bor Env) → e ≡ env.Called v args o → IsSound k (see_env e)
+pub called-is : (k : StoreModel) (e : Env) (v : Ref) (args : Bor (List Expr)) (o : Bor Env) → e ≡ env.Called v args o → IsSound k (see_env e)
     → StandsIn k.file (pieces_exprs (expr_list (map see_expr args.now))) × IsSound k (see_env o.now)
 called-is k e v args o is sound = let s = subst (IsSound k) (ap see_env is ∙ called-seen v args o) sound in s.1
 
@@ -285,17 +285,17 @@ owed-argument f es i x is there = IsAmong-inner (pieces_expr (see_expr x)) (piec
 
 module _ (w : World) (names : Names) (s : State) where
   pub argument-rows-at : (e : Env) (v : Ref) (args : Bor (List Expr)) (o : Bor Env) (i : ℕ) (x : Expr) → e ≡ env.Called v args o → slice_get args.now i ≡ Some x
-      → rows_of_expr w names (spots s (see_env o.now)) (see_expr x) ≡ parameter_rows w names (spots s (see_env e)) i
+      → rows_of_expr w names (locations s (see_env o.now)) (see_expr x) ≡ parameter_rows w names (locations s (see_env e)) i
   argument-rows-at e v args o i x is got =
-      sym (ap (λ (n : scopes.Environment). parameter_rows w names (spots s n) i) (ap see_env is ∙ called-seen v args o) ∙ ap (argument_rows w names (spots s (see_env o.now))) (argument-in args.now i x got))
+      sym (ap (λ (n : scopes.Environment). parameter_rows w names (locations s n) i) (ap see_env is ∙ called-seen v args o) ∙ ap (argument_rows w names (locations s (see_env o.now))) (argument-in args.now i x got))
 
-  pub no-argument-at : (e : Env) (v : Ref) (args : Bor (List Expr)) (o : Bor Env) (i : ℕ) → e ≡ env.Called v args o → slice_get args.now i ≡ None → [] ≡ parameter_rows w names (spots s (see_env e)) i
+  pub no-argument-at : (e : Env) (v : Ref) (args : Bor (List Expr)) (o : Bor Env) (i : ℕ) → e ≡ env.Called v args o → slice_get args.now i ≡ None → [] ≡ parameter_rows w names (locations s (see_env e)) i
   no-argument-at e v args o i is past =
-      sym (ap (λ (n : scopes.Environment). parameter_rows w names (spots s n) i) (ap see_env is ∙ called-seen v args o) ∙ ap (argument_rows w names (spots s (see_env o.now))) (argument-past args.now i past))
+      sym (ap (λ (n : scopes.Environment). parameter_rows w names (locations s n) i) (ap see_env is ∙ called-seen v args o) ∙ ap (argument_rows w names (locations s (see_env o.now))) (argument-past args.now i past))
 
   -- no other scope has arguments
-  pub no-argument-top : (e : Env) (i : ℕ) → e ≡ env.Top → [] ≡ parameter_rows w names (spots s (see_env e)) i
-  no-argument-top e i is = sym (ap (λ (n : scopes.Environment). parameter_rows w names (spots s n) i) (ap see_env is ∙ top-seen))
+  pub no-argument-top : (e : Env) (i : ℕ) → e ≡ env.Top → [] ≡ parameter_rows w names (locations s (see_env e)) i
+  no-argument-top e i is = sym (ap (λ (n : scopes.Environment). parameter_rows w names (locations s n) i) (ap see_env is ∙ top-seen))
 
-  pub no-argument-inner : (e : Env) (v : Ref) (o : Bor Env) (i : ℕ) → e ≡ env.Inner v o → [] ≡ parameter_rows w names (spots s (see_env e)) i
-  no-argument-inner e v o i is = sym (ap (λ (n : scopes.Environment). parameter_rows w names (spots s n) i) (ap see_env is ∙ inner-seen v o))
+  pub no-argument-inner : (e : Env) (v : Ref) (o : Bor Env) (i : ℕ) → e ≡ env.Inner v o → [] ≡ parameter_rows w names (locations s (see_env e)) i
+  no-argument-inner e v o i is = sym (ap (λ (n : scopes.Environment). parameter_rows w names (locations s n) i) (ap see_env is ∙ inner-seen v o))

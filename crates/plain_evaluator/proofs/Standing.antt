@@ -5,7 +5,7 @@ use Rattle.guard_syntax.specs.Syntax.{File, literal}
 use Rattle.rule_names.specs.Pieces.{OfExpr, piece_at, AreInOrder}
 use Rattle.rule_names.specs.Within.{StandsIn}
 use Rattle.rule_names.proofs.PiecesFound.{piece-found}
-use Rattle.rule_meaning.specs.Known.{literal_at}
+use Rattle.rule_meaning.specs.StoreModel.{literal_at}
 
 -- the literal of a site that stands in a file
 pub literal-found : (f : File) (n : ℕ) (tree : Forest) → AreInOrder f → StandsIn f ((n, OfExpr (literal n tree)) ∷ []) → literal_at f n ≡ Some tree

@@ -1,4 +1,4 @@
--- What the entries of the rows that a test fails come to over spots.
+-- What the entries of the rows that a test fails come to over locations.
 use Rattle.std.proofs.Common.{◌≡◌, ℕ, Bool, List, [], ◌∷◌, ◌++◌, map, refl, sym, ap₂, if◌then◌else◌}
 use Rattle.std.specs.List.{flat_map}
 use Rattle.guard_syntax.specs.declared.row.Row.{Row}
@@ -6,8 +6,8 @@ use Rattle.guard_syntax.specs.declared.syntax.Op.{Op}
 use Rattle.rule_meaning.specs.Fails as fails
 use Rattle.rule_meaning.specs.Keys.{passes}
 use Rattle.rule_meaning.specs.Seeing.{world_of}
-use Rattle.rule_meaning.specs.SpotSteps as spot
-use Rattle.rule_meaning.specs.Spots.{Answers}
+use Rattle.rule_meaning.specs.StepMeaning as location
+use Rattle.rule_meaning.specs.Locations.{Answers}
 use Rattle.query_steps.proofs.SeenSteps.{passes-seen}
 use Rattle.plain_evaluator.specs.States.{State, see}
 
@@ -16,7 +16,7 @@ abbrev pub entries_by_test : State → ℕ → Op → Bool → List Row → Row 
 entries_by_test s part op negated rights x = if passes s.known op negated rights x then [] else fails.tested_row part (see s x)
 
 pub tests-seen : (s : State) (answers : Answers) (part : ℕ) (op : Op) (negated : Bool) (rights xs : List Row)
-    → flat_map (entries_by_test s part op negated rights) xs ≡ fails.test_fails part (spot.passes (world_of s.known answers) op negated (map (see s) rights)) (map (see s) xs)
+    → flat_map (entries_by_test s part op negated rights) xs ≡ fails.test_fails part (location.passes (world_of s.known answers) op negated (map (see s) rights)) (map (see s) xs)
 tests-seen s answers part op negated rights [] = refl
 tests-seen s answers part op negated rights (x ∷ xs) =
     ap₂ (λ (b : Bool) (es : List fails.Entry). (if b then [] else fails.tested_row part (see s x)) ++ es)

@@ -1,7 +1,7 @@
 -- The rules that references and calls name.
 use Rattle.std.specs.Prelude.{ℕ, Option, Some, None, option_and_then}
 use Rattle.guard_syntax.specs.Syntax.{Rule, File}
-use Rattle.rule_names.specs.Links.{target_of}
+use Rattle.rule_names.specs.Resolution.{target_of}
 use Rattle.rule_names.specs.Pieces.{Piece, OfRule, piece_at}
 
 abbrev pub rule_of_piece : Piece → Option Rule

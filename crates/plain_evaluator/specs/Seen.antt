@@ -1,7 +1,7 @@
 -- Environments as the code has them.
 use Rattle.std.specs.Prelude.{map}
 use Rattle.guard_syntax.specs.Seen.{see_expr, expr_list}
-use Rattle.rule_meaning.specs.Environments.{Environment, Top, Inner, Called}
+use Rattle.rule_meaning.specs.StoreEnvironments.{Environment, Top, Inner, Called}
 use Rattle.plain_evaluator.specs.declared.environment.Env.{Env, fold-Env}
 use Rattle.plain_evaluator.specs.declared.environment.Env.TheOpen.{Env-F}
 use Rattle.plain_evaluator.specs.declared.environment.Env.TheOpen as layer

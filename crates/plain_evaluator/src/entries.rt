@@ -2,13 +2,13 @@
 ghost use Rattle.std.specs.Prelude.{◌≡◌, ◌++◌, [], ◌∷◌, true, map, OnOk};
 ghost use Rattle.std.specs.List.{flat_map, list_all};
 ghost use Rattle.value_compare.specs.Books.{IsBookOf};
-ghost use Rattle.rule_meaning.specs.Known.{is_known, is_known_ref};
+ghost use Rattle.rule_meaning.specs.StoreModel.{is_known, is_known_ref};
 ghost use Rattle.rule_meaning.specs.Fails as fails;
 ghost use Rattle.rule_meaning.specs.Seeing.{call_at};
-ghost use Rattle.rule_meaning.specs.SpotSteps as steps;
+ghost use Rattle.rule_meaning.specs.StepMeaning as steps;
 ghost use Rattle.report_text.specs.SeenEntries.{IsShowable, see_shown, see_word};
 ghost use Rattle.plain_evaluator.specs.Entries.{AreShowable, see_entries};
-ghost use Rattle.plain_evaluator.specs.States.{Answering, see, see_spot_in, see_trees};
+ghost use Rattle.plain_evaluator.specs.States.{Answering, see, see_location_in, see_trees};
 
 use crate::rows::is_found;
 use crate::trees::Trees;
@@ -21,7 +21,7 @@ use value_compare::PatternBook;
 /// A value as it is shown: what a call made under the site of the call.
 fn shown(trees: &Trees<'_, '_>, value: Ref) -> Shown
     requires { is_known_ref (see_trees trees.now).known value ≡ true }
-    ensures seen { see_shown (see_trees trees.now).known result ≡ fails.OfValue (see_spot_in (see_trees trees.now) value) }
+    ensures seen { see_shown (see_trees trees.now).known result ≡ fails.OfValue (see_location_in (see_trees trees.now) value) }
     ensures showable { IsShowable (see_trees trees.now).known result }
 {
     match value.origin {
@@ -59,7 +59,7 @@ pub(crate) fn push_value(
     requires known { is_known_ref (see_trees trees.now).known value ≡ true }
     requires showable { AreShowable (see_trees trees.now) into.old }
     ensures entries { OnOk result (see_entries (see_trees trees.now) into.new
-        ≡ see_entries (see_trees trees.now) into.old ++ (fails.entry part (see_word word) (see_spot_in (see_trees trees.now) value) ∷ [])) }
+        ≡ see_entries (see_trees trees.now) into.old ++ (fails.entry part (see_word word) (see_location_in (see_trees trees.now) value) ∷ [])) }
     ensures showable { OnOk result (AreShowable (see_trees trees.now) into.new) }
 {
     into.push(Entry {
@@ -159,7 +159,7 @@ pub(crate) fn push_set(
     requires rows { list_all (is_known (see_trees trees.now).known) rows.now ≡ true }
     requires showable { AreShowable (see_trees trees.now) into.old }
     ensures entries { OnOk result (see_entries (see_trees trees.now) into.new
-        ≡ see_entries (see_trees trees.now) into.old ++ fails.set_fails part not (see_spot_in (see_trees trees.now) current) (map (see (see_trees trees.now)) rows.now)) }
+        ≡ see_entries (see_trees trees.now) into.old ++ fails.set_fails part not (see_location_in (see_trees trees.now) current) (map (see (see_trees trees.now)) rows.now)) }
     ensures showable { OnOk result (AreShowable (see_trees trees.now) into.new) }
 {
     if not {
@@ -181,7 +181,7 @@ fn push_first_missing(
     requires rows { list_all (is_known (see_trees trees.now).known) rows.now ≡ true }
     requires showable { AreShowable (see_trees trees.now) into.old }
     ensures entries { OnOk result (see_entries (see_trees trees.now) into.new
-        ≡ see_entries (see_trees trees.now) into.old ++ fails.first_or (fails.entry part fails.IsRows (see_spot_in (see_trees trees.now) current)) (flat_map (fails.missing_row part) (map (see (see_trees trees.now)) rows.now))) }
+        ≡ see_entries (see_trees trees.now) into.old ++ fails.first_or (fails.entry part fails.IsRows (see_location_in (see_trees trees.now) current)) (flat_map (fails.missing_row part) (map (see (see_trees trees.now)) rows.now))) }
     ensures showable { OnOk result (AreShowable (see_trees trees.now) into.new) }
 {
     for row in rows {

@@ -1,6 +1,6 @@
 //! The scopes around a part, each with its current value.
 ghost use Rattle.std.specs.Prelude.{◌≡◌};
-ghost use Rattle.rule_meaning.specs.Environments as scopes;
+ghost use Rattle.rule_meaning.specs.StoreEnvironments as scopes;
 ghost use Rattle.rule_meaning.specs.Roots.{root_ref};
 ghost use Rattle.plain_evaluator.specs.Seen.{see_env};
 

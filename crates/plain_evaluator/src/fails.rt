@@ -6,19 +6,19 @@ ghost use Rattle.guard_syntax.specs.Seen.{see_rule, see_disj, see_part, see_body
 ghost use Rattle.rule_names.specs.Pieces.{pieces_rule, pieces_disjs, pieces_disj, pieces_parts, pieces_part, pieces_body, pieces_exprs, pieces_opt_expr, pieces_query};
 ghost use Rattle.rule_names.specs.Within.{StandsIn};
 ghost use Rattle.value_compare.specs.Books.{IsBookOf};
-ghost use Rattle.rule_meaning.specs.Known.{is_known};
+ghost use Rattle.rule_meaning.specs.StoreModel.{is_known};
 ghost use Rattle.rule_meaning.specs.Fails as fails;
 ghost use Rattle.rule_meaning.specs.Fails.{calls_by, loose_fails, rule_fails};
 ghost use Rattle.rule_meaning.specs.SetTests as asked;
-ghost use Rattle.rule_meaning.specs.SpotEnvironments.{Inner, current_of};
-ghost use Rattle.rule_meaning.specs.SpotMeaning as meaning;
-ghost use Rattle.rule_meaning.specs.SpotSteps as steps;
-ghost use Rattle.rule_meaning.specs.SpotTurns.{names_by};
+ghost use Rattle.rule_meaning.specs.Environments.{Inner, current_of};
+ghost use Rattle.rule_meaning.specs.Meaning as meaning;
+ghost use Rattle.rule_meaning.specs.StepMeaning as steps;
+ghost use Rattle.rule_meaning.specs.NameMeaning.{unfolded};
 ghost use Rattle.rule_meaning.specs.Verdicts as judged;
 ghost use Rattle.plain_evaluator.specs.Entries.{AreShowable, see_entries};
 ghost use Rattle.plain_evaluator.specs.Seen.{see_env};
 ghost use Rattle.plain_evaluator.specs.Sound.{IsSound};
-ghost use Rattle.plain_evaluator.specs.States.{Answering, Grows, see, see_trees, spots};
+ghost use Rattle.plain_evaluator.specs.States.{Answering, Grows, see, see_trees, locations};
 
 use crate::entries::{push_missing, push_set, push_test, push_value};
 use crate::environment::{Env, current, root};
@@ -112,7 +112,7 @@ fn push_disjs(
     requires showable { AreShowable (see_trees trees.old) into.old }
     ensures grows { Grows (see_trees trees.old) (see_trees trees.new) }
     ensures entries { Answering (see_trees trees.old) (λ w. OnOk result (see_entries (see_trees trees.new) into.new
-        ≡ see_entries (see_trees trees.old) into.old ++ fails.disjs_fails w (names_by w turns) (calls_by w turns) (spots (see_trees trees.old) (see_env env.now)) (disj_list (map see_disj disjs.now)))) }
+        ≡ see_entries (see_trees trees.old) into.old ++ fails.disjs_fails w (unfolded w turns) (calls_by w turns) (locations (see_trees trees.old) (see_env env.now)) (disj_list (map see_disj disjs.now)))) }
     ensures showable { OnOk result (AreShowable (see_trees trees.new) into.new) }
 {
     for disj in disjs {
@@ -138,7 +138,7 @@ fn push_failing_disj(
     requires showable { AreShowable (see_trees trees.old) into.old }
     ensures grows { Grows (see_trees trees.old) (see_trees trees.new) }
     ensures entries { Answering (see_trees trees.old) (λ w. OnOk result (see_entries (see_trees trees.new) into.new
-        ≡ see_entries (see_trees trees.old) into.old ++ (if judged.is_fail (meaning.disj_verdict w (names_by w turns) (spots (see_trees trees.old) (see_env env.now)) (see_disj disj.now)) then fails.disj_fails w (names_by w turns) (calls_by w turns) (spots (see_trees trees.old) (see_env env.now)) (see_disj disj.now) else []))) }
+        ≡ see_entries (see_trees trees.old) into.old ++ (if judged.is_fail (meaning.disj_verdict w (unfolded w turns) (locations (see_trees trees.old) (see_env env.now)) (see_disj disj.now)) then fails.disj_fails w (unfolded w turns) (calls_by w turns) (locations (see_trees trees.old) (see_env env.now)) (see_disj disj.now) else []))) }
     ensures showable { OnOk result (AreShowable (see_trees trees.new) into.new) }
 {
     let verdict = verdict_of_parts(alloc, &disj.parts, turns, env, trees, book)?;
@@ -165,7 +165,7 @@ fn push_parts(
     requires showable { AreShowable (see_trees trees.old) into.old }
     ensures grows { Grows (see_trees trees.old) (see_trees trees.new) }
     ensures entries { Answering (see_trees trees.old) (λ w. OnOk result (see_entries (see_trees trees.new) into.new
-        ≡ see_entries (see_trees trees.old) into.old ++ fails.parts_fails w (names_by w turns) (calls_by w turns) (spots (see_trees trees.old) (see_env env.now)) (part_list (map see_part parts.now)))) }
+        ≡ see_entries (see_trees trees.old) into.old ++ fails.parts_fails w (unfolded w turns) (calls_by w turns) (locations (see_trees trees.old) (see_env env.now)) (part_list (map see_part parts.now)))) }
     ensures showable { OnOk result (AreShowable (see_trees trees.new) into.new) }
 {
     for part in parts {
@@ -191,7 +191,7 @@ fn push_failing_part(
     requires showable { AreShowable (see_trees trees.old) into.old }
     ensures grows { Grows (see_trees trees.old) (see_trees trees.new) }
     ensures entries { Answering (see_trees trees.old) (λ w. OnOk result (see_entries (see_trees trees.new) into.new
-        ≡ see_entries (see_trees trees.old) into.old ++ (if judged.is_fail (meaning.part_verdict w (names_by w turns) (spots (see_trees trees.old) (see_env env.now)) (see_part part.now)) then fails.part_fails w (names_by w turns) (calls_by w turns) (spots (see_trees trees.old) (see_env env.now)) (see_part part.now) else []))) }
+        ≡ see_entries (see_trees trees.old) into.old ++ (if judged.is_fail (meaning.part_verdict w (unfolded w turns) (locations (see_trees trees.old) (see_env env.now)) (see_part part.now)) then fails.part_fails w (unfolded w turns) (calls_by w turns) (locations (see_trees trees.old) (see_env env.now)) (see_part part.now) else []))) }
     ensures showable { OnOk result (AreShowable (see_trees trees.new) into.new) }
 {
     let verdict = verdict_of_part(alloc, part, turns, env, trees, book)?;
@@ -218,7 +218,7 @@ fn push_part(
     requires showable { AreShowable (see_trees trees.old) into.old }
     ensures grows { Grows (see_trees trees.old) (see_trees trees.new) }
     ensures entries { Answering (see_trees trees.old) (λ w. OnOk result (see_entries (see_trees trees.new) into.new
-        ≡ see_entries (see_trees trees.old) into.old ++ fails.part_fails w (names_by w turns) (calls_by w turns) (spots (see_trees trees.old) (see_env env.now)) (see_part part.now))) }
+        ≡ see_entries (see_trees trees.old) into.old ++ fails.part_fails w (unfolded w turns) (calls_by w turns) (locations (see_trees trees.old) (see_env env.now)) (see_part part.now))) }
     ensures showable { OnOk result (AreShowable (see_trees trees.new) into.new) }
 {
     match part {
@@ -279,7 +279,7 @@ fn push_rows(
     requires showable { AreShowable (see_trees trees.old) into.old }
     ensures grows { Grows (see_trees trees.old) (see_trees trees.new) }
     ensures entries { Answering (see_trees trees.old) (λ w. OnOk result (see_entries (see_trees trees.new) into.new
-        ≡ see_entries (see_trees trees.old) into.old ++ flat_map (fails.block_row_fails part (λ v. (if judged.is_fail (meaning.body_verdict w (names_by w turns) (Inner v (spots (see_trees trees.old) (see_env env.now))) (see_body body.now)) then fails.body_fails w (names_by w turns) (calls_by w turns) (Inner v (spots (see_trees trees.old) (see_env env.now))) (see_body body.now) else []))) (map (see (see_trees trees.old)) rows.now))) }
+        ≡ see_entries (see_trees trees.old) into.old ++ flat_map (fails.block_row_fails part (λ v. (if judged.is_fail (meaning.body_verdict w (unfolded w turns) (Inner v (locations (see_trees trees.old) (see_env env.now))) (see_body body.now)) then fails.body_fails w (unfolded w turns) (calls_by w turns) (Inner v (locations (see_trees trees.old) (see_env env.now))) (see_body body.now) else []))) (map (see (see_trees trees.old)) rows.now))) }
     ensures showable { OnOk result (AreShowable (see_trees trees.new) into.new) }
 {
     for row in rows {
@@ -308,7 +308,7 @@ fn push_row(
     requires showable { AreShowable (see_trees trees.old) into.old }
     ensures grows { Grows (see_trees trees.old) (see_trees trees.new) }
     ensures entries { Answering (see_trees trees.old) (λ w. OnOk result (see_entries (see_trees trees.new) into.new
-        ≡ see_entries (see_trees trees.old) into.old ++ fails.block_row_fails part (λ v. (if judged.is_fail (meaning.body_verdict w (names_by w turns) (Inner v (spots (see_trees trees.old) (see_env env.now))) (see_body body.now)) then fails.body_fails w (names_by w turns) (calls_by w turns) (Inner v (spots (see_trees trees.old) (see_env env.now))) (see_body body.now) else [])) (see (see_trees trees.old) row.now))) }
+        ≡ see_entries (see_trees trees.old) into.old ++ fails.block_row_fails part (λ v. (if judged.is_fail (meaning.body_verdict w (unfolded w turns) (Inner v (locations (see_trees trees.old) (see_env env.now))) (see_body body.now)) then fails.body_fails w (unfolded w turns) (calls_by w turns) (Inner v (locations (see_trees trees.old) (see_env env.now))) (see_body body.now) else [])) (see (see_trees trees.old) row.now))) }
     ensures showable { OnOk result (AreShowable (see_trees trees.new) into.new) }
 {
     match row {
@@ -340,7 +340,7 @@ fn push_failing_body(
     requires showable { AreShowable (see_trees trees.old) into.old }
     ensures grows { Grows (see_trees trees.old) (see_trees trees.new) }
     ensures entries { Answering (see_trees trees.old) (λ w. OnOk result (see_entries (see_trees trees.new) into.new
-        ≡ see_entries (see_trees trees.old) into.old ++ (if judged.is_fail (meaning.body_verdict w (names_by w turns) (spots (see_trees trees.old) (see_env env.now)) (see_body body.now)) then fails.body_fails w (names_by w turns) (calls_by w turns) (spots (see_trees trees.old) (see_env env.now)) (see_body body.now) else []))) }
+        ≡ see_entries (see_trees trees.old) into.old ++ (if judged.is_fail (meaning.body_verdict w (unfolded w turns) (locations (see_trees trees.old) (see_env env.now)) (see_body body.now)) then fails.body_fails w (unfolded w turns) (calls_by w turns) (locations (see_trees trees.old) (see_env env.now)) (see_body body.now) else []))) }
     ensures showable { OnOk result (AreShowable (see_trees trees.new) into.new) }
 {
     let verdict = verdict_of_body(alloc, body, turns, env, trees, book)?;
@@ -367,7 +367,7 @@ fn push_body(
     requires showable { AreShowable (see_trees trees.old) into.old }
     ensures grows { Grows (see_trees trees.old) (see_trees trees.new) }
     ensures entries { Answering (see_trees trees.old) (λ w. OnOk result (see_entries (see_trees trees.new) into.new
-        ≡ see_entries (see_trees trees.old) into.old ++ fails.body_fails w (names_by w turns) (calls_by w turns) (spots (see_trees trees.old) (see_env env.now)) (see_body body.now))) }
+        ≡ see_entries (see_trees trees.old) into.old ++ fails.body_fails w (unfolded w turns) (calls_by w turns) (locations (see_trees trees.old) (see_env env.now)) (see_body body.now))) }
     ensures showable { OnOk result (AreShowable (see_trees trees.new) into.new) }
 {
     push_disjs(alloc, &body.parts, turns, env, trees, book, into)
@@ -390,7 +390,7 @@ fn push_within(
     requires showable { AreShowable (see_trees trees.old) into.old }
     ensures grows { Grows (see_trees trees.old) (see_trees trees.new) }
     ensures entries { Answering (see_trees trees.old) (λ w. OnOk result (see_entries (see_trees trees.new) into.new
-        ≡ see_entries (see_trees trees.old) into.old ++ fails.body_fails w (names_by w turns) (calls_by w turns) (Inner (current_of (spots (see_trees trees.old) (see_env env.now))) (spots (see_trees trees.old) (see_env env.now))) (see_body body.now))) }
+        ≡ see_entries (see_trees trees.old) into.old ++ fails.body_fails w (unfolded w turns) (calls_by w turns) (Inner (current_of (locations (see_trees trees.old) (see_env env.now))) (locations (see_trees trees.old) (see_env env.now))) (see_body body.now))) }
     ensures showable { OnOk result (AreShowable (see_trees trees.new) into.new) }
 {
     let frame = Env::Inner {
@@ -419,7 +419,7 @@ fn push_kinds(
     requires showable { AreShowable (see_trees trees.old) into.old }
     ensures grows { Grows (see_trees trees.old) (see_trees trees.new) }
     ensures entries { Answering (see_trees trees.old) (λ w. OnOk result (see_entries (see_trees trees.new) into.new
-        ≡ see_entries (see_trees trees.old) into.old ++ flat_map (fails.block_row_fails part (λ v. (if judged.is_fail (meaning.body_verdict w (names_by w turns) (Inner v (spots (see_trees trees.old) (see_env env.now))) (see_body body.now)) then fails.body_fails w (names_by w turns) (calls_by w turns) (Inner v (spots (see_trees trees.old) (see_env env.now))) (see_body body.now) else []))) (steps.rows_of_type w name.now (current_of (spots (see_trees trees.old) (see_env env.now)))))) }
+        ≡ see_entries (see_trees trees.old) into.old ++ flat_map (fails.block_row_fails part (λ v. (if judged.is_fail (meaning.body_verdict w (unfolded w turns) (Inner v (locations (see_trees trees.old) (see_env env.now))) (see_body body.now)) then fails.body_fails w (unfolded w turns) (calls_by w turns) (Inner v (locations (see_trees trees.old) (see_env env.now))) (see_body body.now) else []))) (steps.rows_of_type w name.now (current_of (locations (see_trees trees.old) (see_env env.now)))))) }
     ensures showable { OnOk result (AreShowable (see_trees trees.new) into.new) }
 {
     let rows = type_rows(alloc, name.as_str(), current(env), &trees.store)?;
@@ -447,7 +447,7 @@ fn push_sides(
     requires showable { AreShowable (see_trees trees.old) into.old }
     ensures grows { Grows (see_trees trees.old) (see_trees trees.new) }
     ensures entries { Answering (see_trees trees.old) (λ w. OnOk result (see_entries (see_trees trees.new) into.new
-        ≡ see_entries (see_trees trees.old) into.old ++ (if asked.is_empty_test op && asked.is_set (see_query left.now) then fails.set_fails part not (current_of (spots (see_trees trees.old) (see_env env.now))) (meaning.rows_of w (names_by w turns) (spots (see_trees trees.old) (see_env env.now)) (see_query left.now)) else fails.test_fails part (steps.passes w op not (meaning.rows_of_side w (names_by w turns) (spots (see_trees trees.old) (see_env env.now)) (see_opt_expr right.now))) (meaning.rows_of w (names_by w turns) (spots (see_trees trees.old) (see_env env.now)) (see_query left.now))))) }
+        ≡ see_entries (see_trees trees.old) into.old ++ (if asked.is_empty_test op && asked.is_set (see_query left.now) then fails.set_fails part not (current_of (locations (see_trees trees.old) (see_env env.now))) (meaning.rows_of w (unfolded w turns) (locations (see_trees trees.old) (see_env env.now)) (see_query left.now)) else fails.test_fails part (steps.passes w op not (meaning.rows_of_side w (unfolded w turns) (locations (see_trees trees.old) (see_env env.now)) (see_opt_expr right.now))) (meaning.rows_of w (unfolded w turns) (locations (see_trees trees.old) (see_env env.now)) (see_query left.now))))) }
     ensures showable { OnOk result (AreShowable (see_trees trees.new) into.new) }
 {
     let lefts = rows_of_query(alloc, left, turns, env, trees, book)?;
@@ -477,7 +477,7 @@ fn push_call(
     requires showable { AreShowable (see_trees trees.old) into.old }
     ensures grows { Grows (see_trees trees.old) (see_trees trees.new) }
     ensures entries { Answering (see_trees trees.old) (λ w. OnOk result (see_entries (see_trees trees.new) into.new
-        ≡ see_entries (see_trees trees.old) into.old ++ (if not then fails.entry site fails.IsCall (current_of (spots (see_trees trees.old) (see_env env.now))) ∷ [] else calls_by w turns (spots (see_trees trees.old) (see_env env.now)) site (expr_list (map see_expr args.now))))) }
+        ≡ see_entries (see_trees trees.old) into.old ++ (if not then fails.entry site fails.IsCall (current_of (locations (see_trees trees.old) (see_env env.now))) ∷ [] else calls_by w turns (locations (see_trees trees.old) (see_env env.now)) site (expr_list (map see_expr args.now))))) }
     ensures showable { OnOk result (AreShowable (see_trees trees.new) into.new) }
 {
     if not {
@@ -505,7 +505,7 @@ fn push_called(
     requires showable { AreShowable (see_trees trees.old) into.old }
     ensures grows { Grows (see_trees trees.old) (see_trees trees.new) }
     ensures entries { Answering (see_trees trees.old) (λ w. OnOk result (see_entries (see_trees trees.new) into.new
-        ≡ see_entries (see_trees trees.old) into.old ++ calls_by w turns (spots (see_trees trees.old) (see_env env.now)) site (expr_list (map see_expr args.now)))) }
+        ≡ see_entries (see_trees trees.old) into.old ++ calls_by w turns (locations (see_trees trees.old) (see_env env.now)) site (expr_list (map see_expr args.now)))) }
     ensures showable { OnOk result (AreShowable (see_trees trees.new) into.new) }
 {
     if turns == 0 {

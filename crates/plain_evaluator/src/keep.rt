@@ -2,9 +2,9 @@
 ghost use Rattle.std.specs.Prelude.{◌≡◌, false, true, IfOk, map};
 ghost use Rattle.std.specs.List.{list_all};
 ghost use Rattle.guard_builtins.specs.Seen.{is_plain, see_made};
-ghost use Rattle.rule_meaning.specs.Known.{is_known};
+ghost use Rattle.rule_meaning.specs.StoreModel.{is_known};
 ghost use Rattle.rule_meaning.specs.Seeing.{is_known_answer, see_answer};
-ghost use Rattle.rule_meaning.specs.Spots.{answered_row};
+ghost use Rattle.rule_meaning.specs.Locations.{answered_row};
 ghost use Rattle.plain_evaluator.specs.States.{Grows, see, see_trees};
 
 use crate::trees::Trees;

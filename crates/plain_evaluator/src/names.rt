@@ -8,13 +8,13 @@ ghost use Rattle.guard_syntax.specs.declared.syntax.Rule as code;
 ghost use Rattle.rule_names.specs.Pieces.{piece_at, pieces_exprs};
 ghost use Rattle.rule_names.specs.Within.{StandsIn};
 ghost use Rattle.value_compare.specs.Books.{IsBookOf};
-ghost use Rattle.rule_meaning.specs.Known.{is_known};
-ghost use Rattle.rule_meaning.specs.SpotTurns as turned;
-ghost use Rattle.rule_meaning.specs.SpotTurns.{names_by};
+ghost use Rattle.rule_meaning.specs.StoreModel.{is_known};
+ghost use Rattle.rule_meaning.specs.NameMeaning as turned;
+ghost use Rattle.rule_meaning.specs.NameMeaning.{unfolded};
 ghost use Rattle.plain_evaluator.specs.Rules.{rule_to};
 ghost use Rattle.plain_evaluator.specs.Seen.{see_env};
 ghost use Rattle.plain_evaluator.specs.Sound.{IsSound};
-ghost use Rattle.plain_evaluator.specs.States.{Answering, Grows, see, see_trees, spots};
+ghost use Rattle.plain_evaluator.specs.States.{Answering, Grows, see, see_trees, locations};
 
 use crate::environment::{Env, current, outwards};
 use crate::rows::{rows_of_expr, rows_of_first, rows_of_query};
@@ -39,7 +39,7 @@ pub(crate) fn rows_of_variable(
     requires book { IsBookOf (see_trees trees.old).known.file book.now }
     requires sound { IsSound (see_trees trees.old).known (see_env env.now) }
     ensures grows { Grows (see_trees trees.old) (see_trees trees.new) }
-    ensures rows { Answering (see_trees trees.old) (λ w. IfOk result (λ rows. map (see (see_trees trees.new)) rows.items ≡ (names_by w turns).rows (spots (see_trees trees.old) (see_env env.now)) site)) }
+    ensures rows { Answering (see_trees trees.old) (λ w. IfOk result (λ rows. map (see (see_trees trees.new)) rows.items ≡ (unfolded w turns).rows (locations (see_trees trees.old) (see_env env.now)) site)) }
     ensures known { IfOk result (λ rows. list_all (is_known (see_trees trees.new).known) rows.items ≡ true) }
 {
     if turns == 0 {
@@ -74,7 +74,7 @@ fn rows_of_value(
     requires book { IsBookOf (see_trees trees.old).known.file book.now }
     requires sound { IsSound (see_trees trees.old).known (see_env env.now) }
     ensures grows { Grows (see_trees trees.old) (see_trees trees.new) }
-    ensures rows { Answering (see_trees trees.old) (λ w. IfOk result (λ rows. map (see (see_trees trees.new)) rows.items ≡ turned.value_rows w (names_by w turns) (spots (see_trees trees.old) (see_env env.now)) (piece_at w.file site))) }
+    ensures rows { Answering (see_trees trees.old) (λ w. IfOk result (λ rows. map (see (see_trees trees.new)) rows.items ≡ turned.value_rows w (unfolded w turns) (locations (see_trees trees.old) (see_env env.now)) (piece_at w.file site))) }
     ensures known { IfOk result (λ rows. list_all (is_known (see_trees trees.new).known) rows.items ≡ true) }
 {
     let Some(piece) = trees.store.file.find(site) else {
@@ -100,7 +100,7 @@ fn rows_of_capture(
     requires book { IsBookOf (see_trees trees.old).known.file book.now }
     requires sound { IsSound (see_trees trees.old).known (see_env env.now) }
     ensures grows { Grows (see_trees trees.old) (see_trees trees.new) }
-    ensures rows { Answering (see_trees trees.old) (λ w. IfOk result (λ rows. map (see (see_trees trees.new)) rows.items ≡ turned.captured_rows w (names_by w turns) (spots (see_trees trees.old) (see_env env.now)) (piece_at w.file site))) }
+    ensures rows { Answering (see_trees trees.old) (λ w. IfOk result (λ rows. map (see (see_trees trees.new)) rows.items ≡ turned.captured_rows w (unfolded w turns) (locations (see_trees trees.old) (see_env env.now)) (piece_at w.file site))) }
     ensures known { IfOk result (λ rows. list_all (is_known (see_trees trees.new).known) rows.items ≡ true) }
 {
     let Some(piece) = trees.store.file.find(site) else {
@@ -128,7 +128,7 @@ fn rows_of_argument(
     requires book { IsBookOf (see_trees trees.old).known.file book.now }
     requires sound { IsSound (see_trees trees.old).known (see_env env) }
     ensures grows { Grows (see_trees trees.old) (see_trees trees.new) }
-    ensures rows { Answering (see_trees trees.old) (λ w. IfOk result (λ rows. map (see (see_trees trees.new)) rows.items ≡ turned.parameter_rows w (names_by w turns) (spots (see_trees trees.old) (see_env env.entry)) index)) }
+    ensures rows { Answering (see_trees trees.old) (λ w. IfOk result (λ rows. map (see (see_trees trees.new)) rows.items ≡ turned.parameter_rows w (unfolded w turns) (locations (see_trees trees.old) (see_env env.entry)) index)) }
     ensures known { IfOk result (λ rows. list_all (is_known (see_trees trees.new).known) rows.items ≡ true) }
 {
     match env {
@@ -152,7 +152,7 @@ pub(crate) fn verdict_of_reference(
 ) -> Result<Verdict, AllocError>
     requires book { IsBookOf (see_trees trees.old).known.file book.now }
     ensures grows { Grows (see_trees trees.old) (see_trees trees.new) }
-    ensures verdict { Answering (see_trees trees.old) (λ w. IfOk result (λ v. v ≡ (names_by w turns).verdict site)) }
+    ensures verdict { Answering (see_trees trees.old) (λ w. IfOk result (λ v. v ≡ (unfolded w turns).verdict site)) }
 {
     if turns == 0 {
         return Ok(Verdict::Skip);
@@ -178,7 +178,7 @@ pub(crate) fn verdict_of_called(
     requires book { IsBookOf (see_trees trees.old).known.file book.now }
     requires sound { IsSound (see_trees trees.old).known (see_env env.now) }
     ensures grows { Grows (see_trees trees.old) (see_trees trees.new) }
-    ensures verdict { Answering (see_trees trees.old) (λ w. IfOk result (λ v. v ≡ (names_by w turns).called (spots (see_trees trees.old) (see_env env.now)) site (expr_list (map see_expr args.now)))) }
+    ensures verdict { Answering (see_trees trees.old) (λ w. IfOk result (λ v. v ≡ (unfolded w turns).called (locations (see_trees trees.old) (see_env env.now)) site (expr_list (map see_expr args.now)))) }
 {
     if turns == 0 {
         return Ok(Verdict::Skip);

@@ -10,19 +10,19 @@ ghost use Rattle.rule_names.specs.Forms.{pieces_form};
 ghost use Rattle.rule_names.specs.Uses.{function_named};
 ghost use Rattle.rule_names.specs.Within.{StandsIn};
 ghost use Rattle.value_compare.specs.Books.{IsBookOf};
-ghost use Rattle.rule_meaning.specs.Known.{is_known};
+ghost use Rattle.rule_meaning.specs.StoreModel.{is_known};
 ghost use Rattle.rule_meaning.specs.Places as places;
 ghost use Rattle.rule_meaning.specs.Roots.{literal_ref};
 ghost use Rattle.rule_meaning.specs.SetTests as asked;
-ghost use Rattle.rule_meaning.specs.SpotEnvironments.{current_of};
-ghost use Rattle.rule_meaning.specs.SpotMeaning as meaning;
-ghost use Rattle.rule_meaning.specs.SpotSteps as steps;
-ghost use Rattle.rule_meaning.specs.SpotTurns.{names_by};
-ghost use Rattle.rule_meaning.specs.Spots as spot;
+ghost use Rattle.rule_meaning.specs.Environments.{current_of};
+ghost use Rattle.rule_meaning.specs.Meaning as meaning;
+ghost use Rattle.rule_meaning.specs.StepMeaning as steps;
+ghost use Rattle.rule_meaning.specs.NameMeaning.{unfolded};
+ghost use Rattle.rule_meaning.specs.Locations as location;
 ghost use Rattle.rule_meaning.specs.Verdicts as verdicts;
 ghost use Rattle.plain_evaluator.specs.Seen.{see_env};
 ghost use Rattle.plain_evaluator.specs.Sound.{IsSound};
-ghost use Rattle.plain_evaluator.specs.States.{Answering, Grows, are_known, see, see_trees, seen_rows, spots};
+ghost use Rattle.plain_evaluator.specs.States.{Answering, Grows, are_known, see, see_trees, seen_rows, locations};
 
 use crate::environment::{Env, current};
 use crate::names::rows_of_variable;
@@ -48,7 +48,7 @@ pub(crate) fn rows_of_query(
     requires book { IsBookOf (see_trees trees.old).known.file book.now }
     requires sound { IsSound (see_trees trees.old).known (see_env env.now) }
     ensures grows { Grows (see_trees trees.old) (see_trees trees.new) }
-    ensures rows { Answering (see_trees trees.old) (λ w. IfOk result (λ rows. map (see (see_trees trees.new)) rows.items ≡ meaning.rows_of w (names_by w turns) (spots (see_trees trees.old) (see_env env.now)) (see_query query.now))) }
+    ensures rows { Answering (see_trees trees.old) (λ w. IfOk result (λ rows. map (see (see_trees trees.new)) rows.items ≡ meaning.rows_of w (unfolded w turns) (locations (see_trees trees.old) (see_env env.now)) (see_query query.now))) }
     ensures known { IfOk result (λ rows. list_all (is_known (see_trees trees.new).known) rows.items ≡ true) }
 {
     rows_of_first(alloc, query, query.steps.len(), turns, env, trees, book)
@@ -70,7 +70,7 @@ pub(crate) fn rows_of_first(
     requires book { IsBookOf (see_trees trees.old).known.file book.now }
     requires sound { IsSound (see_trees trees.old).known (see_env env.now) }
     ensures grows { Grows (see_trees trees.old) (see_trees trees.new) }
-    ensures rows { Answering (see_trees trees.old) (λ w. IfOk result (λ rows. map (see (see_trees trees.new)) rows.items ≡ meaning.rows_from w (names_by w turns) (spots (see_trees trees.old) (see_env env.now)) false (step_list (map see_step (take count (out-Query query.now).steps.items))) (spot.Found (current_of (spots (see_trees trees.old) (see_env env.now))) ∷ []))) }
+    ensures rows { Answering (see_trees trees.old) (λ w. IfOk result (λ rows. map (see (see_trees trees.new)) rows.items ≡ meaning.rows_from w (unfolded w turns) (locations (see_trees trees.old) (see_env env.now)) false (step_list (map see_step (take count (out-Query query.now).steps.items))) (location.Found (current_of (locations (see_trees trees.old) (see_env env.now))) ∷ []))) }
     ensures known { IfOk result (λ rows. list_all (is_known (see_trees trees.new).known) rows.items ≡ true) }
 {
     let mut rows = one_row(alloc, Row::Found(current(env)))?;
@@ -110,7 +110,7 @@ fn rows_behind(
     requires book { IsBookOf (see_trees trees.old).known.file book.now }
     requires sound { IsSound (see_trees trees.old).known (see_env env.now) }
     ensures grows { Grows (see_trees trees.old) (see_trees trees.new) }
-    ensures rows { Answering (see_trees trees.old) (λ w. IfOk result (λ rows. map (see (see_trees trees.new)) rows.items ≡ flat_map (steps.on_found (meaning.rows_at w (names_by w turns) (spots (see_trees trees.old) (see_env env.now)) last after_key (see_step step.now))) (map (see (see_trees trees.old)) before.now))) }
+    ensures rows { Answering (see_trees trees.old) (λ w. IfOk result (λ rows. map (see (see_trees trees.new)) rows.items ≡ flat_map (steps.on_found (meaning.rows_at w (unfolded w turns) (locations (see_trees trees.old) (see_env env.now)) last after_key (see_step step.now))) (map (see (see_trees trees.old)) before.now))) }
     ensures known { IfOk result (λ rows. list_all (is_known (see_trees trees.new).known) rows.items ≡ true) }
 {
     match &step.form {
@@ -149,7 +149,7 @@ pub(crate) fn rows_of_expr(
     requires book { IsBookOf (see_trees trees.old).known.file book.now }
     requires sound { IsSound (see_trees trees.old).known (see_env env.now) }
     ensures grows { Grows (see_trees trees.old) (see_trees trees.new) }
-    ensures rows { Answering (see_trees trees.old) (λ w. IfOk result (λ rows. map (see (see_trees trees.new)) rows.items ≡ meaning.rows_of_expr w (names_by w turns) (spots (see_trees trees.old) (see_env env.now)) (see_expr expr.now))) }
+    ensures rows { Answering (see_trees trees.old) (λ w. IfOk result (λ rows. map (see (see_trees trees.new)) rows.items ≡ meaning.rows_of_expr w (unfolded w turns) (locations (see_trees trees.old) (see_env env.now)) (see_expr expr.now))) }
     ensures known { IfOk result (λ rows. list_all (is_known (see_trees trees.new).known) rows.items ≡ true) }
 {
     match expr {
@@ -185,7 +185,7 @@ fn rows_of_call(
     requires book { IsBookOf (see_trees trees.old).known.file book.now }
     requires sound { IsSound (see_trees trees.old).known (see_env env.now) }
     ensures grows { Grows (see_trees trees.old) (see_trees trees.new) }
-    ensures rows { Answering (see_trees trees.old) (λ w. IfOk result (λ rows. map (see (see_trees trees.new)) rows.items ≡ meaning.answered w site (function_named name.now) (meaning.rows_of_args w (names_by w turns) (spots (see_trees trees.old) (see_env env.now)) (expr_list (map see_expr args.now))))) }
+    ensures rows { Answering (see_trees trees.old) (λ w. IfOk result (λ rows. map (see (see_trees trees.new)) rows.items ≡ meaning.answered w site (function_named name.now) (meaning.rows_of_args w (unfolded w turns) (locations (see_trees trees.old) (see_env env.now)) (expr_list (map see_expr args.now))))) }
     ensures known { IfOk result (λ rows. list_all (is_known (see_trees trees.new).known) rows.items ≡ true) }
 {
     let Some(function) = Function::named(name.as_str()) else {
@@ -210,7 +210,7 @@ fn rows_of_args(
     requires book { IsBookOf (see_trees trees.old).known.file book.now }
     requires sound { IsSound (see_trees trees.old).known (see_env env.now) }
     ensures grows { Grows (see_trees trees.old) (see_trees trees.new) }
-    ensures rows { Answering (see_trees trees.old) (λ w. IfOk result (λ all. map (seen_rows (see_trees trees.new)) all.items ≡ meaning.rows_of_args w (names_by w turns) (spots (see_trees trees.old) (see_env env.now)) (expr_list (map see_expr args.now)))) }
+    ensures rows { Answering (see_trees trees.old) (λ w. IfOk result (λ all. map (seen_rows (see_trees trees.new)) all.items ≡ meaning.rows_of_args w (unfolded w turns) (locations (see_trees trees.old) (see_env env.now)) (expr_list (map see_expr args.now)))) }
     ensures known { IfOk result (λ all. list_all (are_known (see_trees trees.new)) all.items ≡ true) }
 {
     let mut all = Vec::new(alloc);
@@ -234,7 +234,7 @@ pub(crate) fn rows_of_side(
     requires book { IsBookOf (see_trees trees.old).known.file book.now }
     requires sound { IsSound (see_trees trees.old).known (see_env env.now) }
     ensures grows { Grows (see_trees trees.old) (see_trees trees.new) }
-    ensures rows { Answering (see_trees trees.old) (λ w. IfOk result (λ rows. map (see (see_trees trees.new)) rows.items ≡ meaning.rows_of_side w (names_by w turns) (spots (see_trees trees.old) (see_env env.now)) (see_opt_expr side.now))) }
+    ensures rows { Answering (see_trees trees.old) (λ w. IfOk result (λ rows. map (see (see_trees trees.new)) rows.items ≡ meaning.rows_of_side w (unfolded w turns) (locations (see_trees trees.old) (see_env env.now)) (see_opt_expr side.now))) }
     ensures known { IfOk result (λ rows. list_all (is_known (see_trees trees.new).known) rows.items ≡ true) }
 {
     match side {

@@ -7,20 +7,20 @@ ghost use Rattle.rule_names.specs.Depths.{depth_limit};
 ghost use Rattle.rule_names.specs.Pieces.{pieces_rule, pieces_disjs, pieces_parts, pieces_part, pieces_body, pieces_conds, pieces_opt_conds, pieces_opt_expr, pieces_query};
 ghost use Rattle.rule_names.specs.Within.{StandsIn};
 ghost use Rattle.value_compare.specs.Books.{IsBookOf};
-ghost use Rattle.rule_meaning.specs.Known.{is_known, is_known_ref};
+ghost use Rattle.rule_meaning.specs.StoreModel.{is_known, is_known_ref};
 ghost use Rattle.value_compare.specs.Stores.{see_store};
 ghost use Rattle.rule_meaning.specs.Keys.{passes};
 ghost use Rattle.rule_meaning.specs.SetTests as asked;
-ghost use Rattle.rule_meaning.specs.SpotEnvironments.{Inner, current_of};
-ghost use Rattle.rule_meaning.specs.SpotMeaning as meaning;
-ghost use Rattle.rule_meaning.specs.SpotSteps as steps;
-ghost use Rattle.rule_meaning.specs.SpotTurns.{names_by, rule_by, rule_verdict, loose_verdict};
-ghost use Rattle.rule_meaning.specs.SpotVerdicts as seen;
+ghost use Rattle.rule_meaning.specs.Environments.{Inner, current_of};
+ghost use Rattle.rule_meaning.specs.Meaning as meaning;
+ghost use Rattle.rule_meaning.specs.StepMeaning as steps;
+ghost use Rattle.rule_meaning.specs.NameMeaning.{unfolded, rule_by, rule_verdict, loose_verdict};
+ghost use Rattle.rule_meaning.specs.VerdictMeaning as seen;
 ghost use Rattle.rule_meaning.specs.Verdicts.{conjunction, disjunction, test_verdict, set_verdict, block_verdict, guarded_by};
 ghost use Rattle.rule_meaning.specs.Verdicts as judged;
 ghost use Rattle.plain_evaluator.specs.Seen.{see_env};
 ghost use Rattle.plain_evaluator.specs.Sound.{IsSound};
-ghost use Rattle.plain_evaluator.specs.States.{Answering, Grows, see, see_spot_in, see_trees, spots};
+ghost use Rattle.plain_evaluator.specs.States.{Answering, Grows, see, see_location_in, see_trees, locations};
 
 use crate::environment::{Env, current, root};
 use crate::names::{verdict_of_called, verdict_of_reference};
@@ -82,7 +82,7 @@ pub(crate) fn verdict_of_judged(
     requires placed { StandsIn (see_trees trees.old).known.file (pieces_rule (see_rule rule.now)) }
     requires book { IsBookOf (see_trees trees.old).known.file book.now }
     ensures grows { Grows (see_trees trees.old) (see_trees trees.new) }
-    ensures verdict { Answering (see_trees trees.old) (λ w. IfOk result (λ v. v ≡ rule_by w (names_by w turns) (see_rule rule.now))) }
+    ensures verdict { Answering (see_trees trees.old) (λ w. IfOk result (λ v. v ≡ rule_by w (unfolded w turns) (see_rule rule.now))) }
 {
     // A tree has a root, as `len` says: the current value of the file is known.
     let _nodes = trees.store.doc.len();
@@ -109,7 +109,7 @@ fn verdict_of_disjs(
     requires book { IsBookOf (see_trees trees.old).known.file book.now }
     requires sound { IsSound (see_trees trees.old).known (see_env env.now) }
     ensures grows { Grows (see_trees trees.old) (see_trees trees.new) }
-    ensures verdict { Answering (see_trees trees.old) (λ w. IfOk result (λ v. v ≡ conjunction (meaning.disj_verdicts w (names_by w turns) (spots (see_trees trees.old) (see_env env.now)) (disj_list (map see_disj disjs.now))))) }
+    ensures verdict { Answering (see_trees trees.old) (λ w. IfOk result (λ v. v ≡ conjunction (meaning.disj_verdicts w (unfolded w turns) (locations (see_trees trees.old) (see_env env.now)) (disj_list (map see_disj disjs.now))))) }
 {
     let mut verdict = Verdict::Skip;
     for disj in disjs {
@@ -135,7 +135,7 @@ pub(crate) fn verdict_of_parts(
     requires book { IsBookOf (see_trees trees.old).known.file book.now }
     requires sound { IsSound (see_trees trees.old).known (see_env env.now) }
     ensures grows { Grows (see_trees trees.old) (see_trees trees.new) }
-    ensures verdict { Answering (see_trees trees.old) (λ w. IfOk result (λ v. v ≡ disjunction (meaning.part_verdicts w (names_by w turns) (spots (see_trees trees.old) (see_env env.now)) (part_list (map see_part parts.now))))) }
+    ensures verdict { Answering (see_trees trees.old) (λ w. IfOk result (λ v. v ≡ disjunction (meaning.part_verdicts w (unfolded w turns) (locations (see_trees trees.old) (see_env env.now)) (part_list (map see_part parts.now))))) }
 {
     let mut verdict = Verdict::Skip;
     for part in parts {
@@ -161,7 +161,7 @@ pub(crate) fn verdict_of_part(
     requires book { IsBookOf (see_trees trees.old).known.file book.now }
     requires sound { IsSound (see_trees trees.old).known (see_env env.now) }
     ensures grows { Grows (see_trees trees.old) (see_trees trees.new) }
-    ensures verdict { Answering (see_trees trees.old) (λ w. IfOk result (λ v. v ≡ meaning.part_verdict w (names_by w turns) (spots (see_trees trees.old) (see_env env.now)) (see_part part.now))) }
+    ensures verdict { Answering (see_trees trees.old) (λ w. IfOk result (λ v. v ≡ meaning.part_verdict w (unfolded w turns) (locations (see_trees trees.old) (see_env env.now)) (see_part part.now))) }
 {
     match part {
         Part::Block {
@@ -222,7 +222,7 @@ fn verdict_of_when(
     requires book { IsBookOf (see_trees trees.old).known.file book.now }
     requires sound { IsSound (see_trees trees.old).known (see_env env.now) }
     ensures grows { Grows (see_trees trees.old) (see_trees trees.new) }
-    ensures verdict { Answering (see_trees trees.old) (λ w. IfOk result (λ v. v ≡ guarded_by (meaning.conds_verdict w (names_by w turns) (spots (see_trees trees.old) (see_env env.now)) (see_conds cond.now)) (meaning.body_verdict w (names_by w turns) (Inner (current_of (spots (see_trees trees.old) (see_env env.now))) (spots (see_trees trees.old) (see_env env.now))) (see_body body.now)))) }
+    ensures verdict { Answering (see_trees trees.old) (λ w. IfOk result (λ v. v ≡ guarded_by (meaning.conds_verdict w (unfolded w turns) (locations (see_trees trees.old) (see_env env.now)) (see_conds cond.now)) (meaning.body_verdict w (unfolded w turns) (Inner (current_of (locations (see_trees trees.old) (see_env env.now))) (locations (see_trees trees.old) (see_env env.now))) (see_body body.now)))) }
 {
     let conditions = verdict_of_conds(alloc, cond, turns, env, trees, book)?;
     let frame = Env::Inner {
@@ -252,7 +252,7 @@ fn verdict_of_sides(
     requires book { IsBookOf (see_trees trees.old).known.file book.now }
     requires sound { IsSound (see_trees trees.old).known (see_env env.now) }
     ensures grows { Grows (see_trees trees.old) (see_trees trees.new) }
-    ensures verdict { Answering (see_trees trees.old) (λ w. IfOk result (λ v. v ≡ (if asked.is_empty_test op && asked.is_set (see_query left.now) then seen.set_verdict not (meaning.rows_of w (names_by w turns) (spots (see_trees trees.old) (see_env env.now)) (see_query left.now)) else seen.test_verdict any (steps.passes w op not (meaning.rows_of_side w (names_by w turns) (spots (see_trees trees.old) (see_env env.now)) (see_opt_expr right.now))) (meaning.rows_of w (names_by w turns) (spots (see_trees trees.old) (see_env env.now)) (see_query left.now))))) }
+    ensures verdict { Answering (see_trees trees.old) (λ w. IfOk result (λ v. v ≡ (if asked.is_empty_test op && asked.is_set (see_query left.now) then seen.set_verdict not (meaning.rows_of w (unfolded w turns) (locations (see_trees trees.old) (see_env env.now)) (see_query left.now)) else seen.test_verdict any (steps.passes w op not (meaning.rows_of_side w (unfolded w turns) (locations (see_trees trees.old) (see_env env.now)) (see_opt_expr right.now))) (meaning.rows_of w (unfolded w turns) (locations (see_trees trees.old) (see_env env.now)) (see_query left.now))))) }
 {
     let lefts = rows_of_query(alloc, left, turns, env, trees, book)?;
     if is_set_test(op, left) {
@@ -279,7 +279,7 @@ fn verdict_of_kinds(
     requires book { IsBookOf (see_trees trees.old).known.file book.now }
     requires sound { IsSound (see_trees trees.old).known (see_env env.now) }
     ensures grows { Grows (see_trees trees.old) (see_trees trees.new) }
-    ensures verdict { Answering (see_trees trees.old) (λ w. IfOk result (λ v. v ≡ guarded_by (meaning.opt_conds_verdict w (names_by w turns) (spots (see_trees trees.old) (see_env env.now)) (see_opt_conds cond.now)) (conjunction (map (seen.block_row (λ r. meaning.body_verdict w (names_by w turns) (Inner r (spots (see_trees trees.old) (see_env env.now))) (see_body body.now))) (steps.rows_of_type w name.now (current_of (spots (see_trees trees.old) (see_env env.now)))))))) }
+    ensures verdict { Answering (see_trees trees.old) (λ w. IfOk result (λ v. v ≡ guarded_by (meaning.opt_conds_verdict w (unfolded w turns) (locations (see_trees trees.old) (see_env env.now)) (see_opt_conds cond.now)) (conjunction (map (seen.block_row (λ r. meaning.body_verdict w (unfolded w turns) (Inner r (locations (see_trees trees.old) (see_env env.now))) (see_body body.now))) (steps.rows_of_type w name.now (current_of (locations (see_trees trees.old) (see_env env.now)))))))) }
 {
     if !is_pass(verdict_of_cond(alloc, cond, turns, env, trees, book)?) {
         return Ok(Verdict::Skip);
@@ -303,7 +303,7 @@ fn verdict_under(
     requires book { IsBookOf (see_trees trees.old).known.file book.now }
     requires sound { IsSound (see_trees trees.old).known (see_env env.now) }
     ensures grows { Grows (see_trees trees.old) (see_trees trees.new) }
-    ensures verdict { Answering (see_trees trees.old) (λ w. IfOk result (λ v. v ≡ guarded_by conditions (meaning.body_verdict w (names_by w turns) (spots (see_trees trees.old) (see_env env.now)) (see_body body.now)))) }
+    ensures verdict { Answering (see_trees trees.old) (λ w. IfOk result (λ v. v ≡ guarded_by conditions (meaning.body_verdict w (unfolded w turns) (locations (see_trees trees.old) (see_env env.now)) (see_body body.now)))) }
 {
     match conditions {
         Verdict::Pass => verdict_of_body(alloc, body, turns, env, trees, book),
@@ -326,7 +326,7 @@ pub(crate) fn verdict_of_body(
     requires book { IsBookOf (see_trees trees.old).known.file book.now }
     requires sound { IsSound (see_trees trees.old).known (see_env env.now) }
     ensures grows { Grows (see_trees trees.old) (see_trees trees.new) }
-    ensures verdict { Answering (see_trees trees.old) (λ w. IfOk result (λ v. v ≡ meaning.body_verdict w (names_by w turns) (spots (see_trees trees.old) (see_env env.now)) (see_body body.now))) }
+    ensures verdict { Answering (see_trees trees.old) (λ w. IfOk result (λ v. v ≡ meaning.body_verdict w (unfolded w turns) (locations (see_trees trees.old) (see_env env.now)) (see_body body.now))) }
 {
     verdict_of_disjs(alloc, &body.parts, turns, env, trees, book)
 }
@@ -345,7 +345,7 @@ fn verdict_of_conds(
     requires book { IsBookOf (see_trees trees.old).known.file book.now }
     requires sound { IsSound (see_trees trees.old).known (see_env env.now) }
     ensures grows { Grows (see_trees trees.old) (see_trees trees.new) }
-    ensures verdict { Answering (see_trees trees.old) (λ w. IfOk result (λ v. v ≡ meaning.conds_verdict w (names_by w turns) (spots (see_trees trees.old) (see_env env.now)) (see_conds conds.now))) }
+    ensures verdict { Answering (see_trees trees.old) (λ w. IfOk result (λ v. v ≡ meaning.conds_verdict w (unfolded w turns) (locations (see_trees trees.old) (see_env env.now)) (see_conds conds.now))) }
 {
     verdict_of_disjs(alloc, &conds.parts, turns, env, trees, book)
 }
@@ -364,7 +364,7 @@ fn verdict_of_cond(
     requires book { IsBookOf (see_trees trees.old).known.file book.now }
     requires sound { IsSound (see_trees trees.old).known (see_env env.now) }
     ensures grows { Grows (see_trees trees.old) (see_trees trees.new) }
-    ensures verdict { Answering (see_trees trees.old) (λ w. IfOk result (λ v. v ≡ meaning.opt_conds_verdict w (names_by w turns) (spots (see_trees trees.old) (see_env env.now)) (see_opt_conds cond.now))) }
+    ensures verdict { Answering (see_trees trees.old) (λ w. IfOk result (λ v. v ≡ meaning.opt_conds_verdict w (unfolded w turns) (locations (see_trees trees.old) (see_env env.now)) (see_opt_conds cond.now))) }
 {
     match cond {
         Some(conds) => verdict_of_conds(alloc, conds, turns, env, trees, book),
@@ -388,7 +388,7 @@ pub(crate) fn verdicts_of_conds(
     requires book { IsBookOf (see_trees trees.old).known.file book.now }
     requires sound { IsSound (see_trees trees.old).known (see_env env.now) }
     ensures grows { Grows (see_trees trees.old) (see_trees trees.new) }
-    ensures verdicts { Answering (see_trees trees.old) (λ w. IfOk result (λ vs. vs.items ≡ map (λ r. meaning.conds_verdict w (names_by w turns) (Inner r (spots (see_trees trees.old) (see_env env.now))) (see_conds conds.now)) (map (see_spot_in (see_trees trees.old)) values.now))) }
+    ensures verdicts { Answering (see_trees trees.old) (λ w. IfOk result (λ vs. vs.items ≡ map (λ r. meaning.conds_verdict w (unfolded w turns) (Inner r (locations (see_trees trees.old) (see_env env.now))) (see_conds conds.now)) (map (see_location_in (see_trees trees.old)) values.now))) }
 {
     let mut verdicts = Vec::new(alloc);
     for value in values {
@@ -419,7 +419,7 @@ fn verdict_of_block(
     requires book { IsBookOf (see_trees trees.old).known.file book.now }
     requires sound { IsSound (see_trees trees.old).known (see_env env.now) }
     ensures grows { Grows (see_trees trees.old) (see_trees trees.new) }
-    ensures verdict { Answering (see_trees trees.old) (λ w. IfOk result (λ v. v ≡ block_verdict any (map (seen.block_row (λ r. meaning.body_verdict w (names_by w turns) (Inner r (spots (see_trees trees.old) (see_env env.now))) (see_body body.now))) (map (see (see_trees trees.old)) rows.now)))) }
+    ensures verdict { Answering (see_trees trees.old) (λ w. IfOk result (λ v. v ≡ block_verdict any (map (seen.block_row (λ r. meaning.body_verdict w (unfolded w turns) (Inner r (locations (see_trees trees.old) (see_env env.now))) (see_body body.now))) (map (see (see_trees trees.old)) rows.now)))) }
 {
     let mut verdicts = Vec::new(alloc);
     for row in rows {

@@ -7,13 +7,13 @@ use Rattle.guard_syntax.specs.declared.row.Ref.{Ref}
 use Rattle.guard_syntax.specs.declared.row.Row.{Row}
 use Rattle.guard_syntax.specs.declared.row.Row.TheVariants.{Found, Missing, Unmade}
 use Rattle.guard_syntax.specs.declared.row.Verdict.{Verdict}
-use Rattle.rule_meaning.specs.Known.{Known}
+use Rattle.rule_meaning.specs.StoreModel.{StoreModel}
 use Rattle.rule_meaning.specs.Filters.{candidates_of, candidates_in, kept, filtered}
 use Rattle.rule_meaning.specs.Steps.{on_found}
 use Rattle.rule_meaning.specs.Verdicts.{is_pass}
 
 -- the candidates of a value that a judge lets pass
-abbrev pub passed_at : Known → (after_key : Bool) → (Ref → Verdict) → Ref → List Row
+abbrev pub passed_at : StoreModel → (after_key : Bool) → (Ref → Verdict) → Ref → List Row
 passed_at known after_key judge v = map Found (filter (λ r. is_pass (judge r)) (candidates_of known after_key v))
 
 kept-by : (passes : Bool) (r : Ref) (rows others : List Ref) (left : List Row) → left ≡ map Found others
@@ -31,7 +31,7 @@ kept-judged judge (r ∷ rs) vs =
 drop-judged : (judge : Ref → Verdict) (rs : List Ref) (vs : List Verdict) → drop (length rs) (map judge rs ++ vs) ≡ vs
 drop-judged judge rs vs = ap (λ n. drop n (map judge rs ++ vs)) (sym (length-map rs judge)) ∙ drop-append_seam (map judge rs) vs
 
-pub filtered-judged : (known : Known) (after_key : Bool) (judge : Ref → Verdict) (rows : List Row)
+pub filtered-judged : (known : StoreModel) (after_key : Bool) (judge : Ref → Verdict) (rows : List Row)
     → filtered known after_key rows (map judge (candidates_in known after_key rows)) ≡ flat_map (on_found (passed_at known after_key judge)) rows
 filtered-judged known after_key judge [] = refl
 filtered-judged known after_key judge (Found v ∷ rows) =

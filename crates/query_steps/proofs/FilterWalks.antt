@@ -10,7 +10,7 @@ use Rattle.guard_syntax.specs.declared.row.Ref.{Ref}
 use Rattle.guard_syntax.specs.declared.row.Row.{Row}
 use Rattle.guard_syntax.specs.declared.row.Row.TheVariants.{Found, Missing, Unmade}
 use Rattle.guard_syntax.specs.declared.row.Verdict.{Verdict}
-use Rattle.rule_meaning.specs.Known.{Known, is_known, is_known_ref}
+use Rattle.rule_meaning.specs.StoreModel.{StoreModel, is_known, is_known_ref}
 use Rattle.rule_meaning.specs.Filters.{candidates_of, row_candidates, candidates_in, kept, filtered}
 use Rattle.rule_meaning.specs.Verdicts.{is_found, is_pass}
 use Rattle.query_steps.proofs.KnownRows.{filter-all}
@@ -30,51 +30,51 @@ kept-pairs (r ∷ rs) [] = refl
 kept-pairs (r ∷ rs) (v ∷ vs) = kept-pair (is_pass v) r v (kept rs vs) (filter (λ (p : Ref × Verdict). is_pass p.1) (zip rs vs)) (kept-pairs rs vs)
 
 -- what is kept of known values is known
-known-one : (known : Known) (passes : Bool) (r : Ref) (rows : List Row) → is_known_ref known r ≡ true → list_all (is_known known) rows ≡ true
+known-one : (known : StoreModel) (passes : Bool) (r : Ref) (rows : List Row) → is_known_ref known r ≡ true → list_all (is_known known) rows ≡ true
     → list_all (is_known known) (if passes then Found r ∷ rows else rows) ≡ true
 known-one known true r rows here others = and_from _ _ here others
 known-one known false r rows here others = others
 
-pub kept-known : (known : Known) (rs : List Ref) (vs : List Verdict) → list_all (is_known_ref known) rs ≡ true → list_all (is_known known) (kept rs vs) ≡ true
+pub kept-known : (known : StoreModel) (rs : List Ref) (vs : List Verdict) → list_all (is_known_ref known) rs ≡ true → list_all (is_known known) (kept rs vs) ≡ true
 kept-known known [] vs all = refl
 kept-known known (r ∷ rs) [] all = refl
 kept-known known (r ∷ rs) (v ∷ vs) all =
     let parts = and_parts (is_known_ref known r) (list_all (is_known_ref known) rs) all in
     known-one known (is_pass v) r (kept rs vs) parts.0 (kept-known known rs vs parts.1)
 
-pub known-pairs : (known : Known) (made new : List Row) (rs : List Ref) (vs : List Verdict) → new ≡ made ++ kept_pairs rs vs
+pub known-pairs : (known : StoreModel) (made new : List Row) (rs : List Ref) (vs : List Verdict) → new ≡ made ++ kept_pairs rs vs
     → list_all (is_known known) made ≡ true → list_all (is_known_ref known) rs ≡ true → list_all (is_known known) new ≡ true
 known-pairs known made new rs vs put before all =
     ap (list_all (is_known known)) put ∙ list_all-append (is_known known) made (kept_pairs rs vs)
     ∙ and_from _ _ before (ap (list_all (is_known known)) (sym (kept-pairs rs vs)) ∙ kept-known known rs vs all)
 
-pub known-refs : (known : Known) (made new rs : List Ref) → new ≡ made ++ rs
+pub known-refs : (known : StoreModel) (made new rs : List Ref) → new ≡ made ++ rs
     → list_all (is_known_ref known) made ≡ true → list_all (is_known_ref known) rs ≡ true → list_all (is_known_ref known) new ≡ true
 known-refs known made new rs put before all = ap (list_all (is_known_ref known)) put ∙ list_all-append (is_known_ref known) made rs ∙ and_from _ _ before all
 
 -- a row of known ones is known
-known-at : (known : Known) (rows : List Row) (i : ℕ) (d : Row) → i < length rows → list_all (is_known known) rows ≡ true → is_known known (get_or rows i d) ≡ true
+known-at : (known : StoreModel) (rows : List Row) (i : ℕ) (d : Row) → i < length rows → list_all (is_known known) rows ≡ true → is_known known (get_or rows i d) ≡ true
 known-at known [] i d within all = absurd (omega arith)
 known-at known (row ∷ rows) zero d within all = (and_parts (is_known known row) (list_all (is_known known) rows) all).0
 known-at known (row ∷ rows) (suc i) d within all = known-at known rows i d (omega arith) (and_parts (is_known known row) (list_all (is_known known) rows) all).1
 
-pub known-row : (known : Known) (rows : List Row) (i : ℕ) (d : Row) (made new : List Row) → i < length rows → new ≡ made ++ get_or rows i d ∷ []
+pub known-row : (known : StoreModel) (rows : List Row) (i : ℕ) (d : Row) (made new : List Row) → i < length rows → new ≡ made ++ get_or rows i d ∷ []
     → list_all (is_known known) made ≡ true → list_all (is_known known) rows ≡ true → list_all (is_known known) new ≡ true
 known-row known rows i d made new within put before all =
     ap (list_all (is_known known)) put ∙ list_all-append (is_known known) made (get_or rows i d ∷ [])
     ∙ and_from _ _ before (and_from _ _ (known-at known rows i d within all) refl)
 
 -- known values that pass a test, as rows
-pub known-found : (known : Known) (test : Ref → Bool) (rs : List Ref) → list_all (is_known_ref known) rs ≡ true → list_all (is_known known) (map Found (filter test rs)) ≡ true
+pub known-found : (known : StoreModel) (test : Ref → Bool) (rs : List Ref) → list_all (is_known_ref known) rs ≡ true → list_all (is_known known) (map Found (filter test rs)) ≡ true
 known-found known test rs all = list_all-map (is_known known) Found (filter test rs) ∙ filter-all test (is_known_ref known) rs all
 
 -- a row that was not found stays
-stays : (known : Known) (after_key : Bool) (row : Row) (rows : List Row) (vs : List Verdict) → is_found row ≡ false → filtered known after_key (row ∷ rows) vs ≡ row ∷ filtered known after_key rows vs
+stays : (known : StoreModel) (after_key : Bool) (row : Row) (rows : List Row) (vs : List Verdict) → is_found row ≡ false → filtered known after_key (row ∷ rows) vs ≡ row ∷ filtered known after_key rows vs
 stays known after_key (Found v) rows vs lost = absurd cc
 stays known after_key (Missing v site) rows vs lost = refl
 stays known after_key (Unmade call) rows vs lost = refl
 
-none-of : (known : Known) (after_key : Bool) (row : Row) → is_found row ≡ false → row_candidates known after_key row ≡ []
+none-of : (known : StoreModel) (after_key : Bool) (row : Row) → is_found row ≡ false → row_candidates known after_key row ≡ []
 none-of known after_key (Found v) lost = absurd cc
 none-of known after_key (Missing v site) lost = refl
 none-of known after_key (Unmade call) lost = refl
@@ -95,7 +95,7 @@ lost-row (Found v) other = absurd (other v refl)
 lost-row (Missing v site) other = refl
 lost-row (Unmade call) other = refl
 
-module _ (known : Known) (after_key : Bool) (before : List Row) (i : ℕ) (d : Row) (within : i < length before) where
+module _ (known : StoreModel) (after_key : Bool) (before : List Row) (i : ℕ) (d : Row) (within : i < length before) where
   abbrev behind : List Row
   behind = drop (i + 1) before
 

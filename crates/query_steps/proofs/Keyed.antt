@@ -7,7 +7,7 @@ use Rattle.doc_values.specs.Tree.{Forest, Nil, Node, AreValues, IsKeyed, IsTree,
 use Rattle.doc_values.specs.Places.{find, first_label, first_kids, kids_at, label_at}
 use Rattle.doc_values.proofs.Among.{find_in, find_past}
 use Rattle.guard_syntax.specs.declared.row.Ref.{Ref}
-use Rattle.rule_meaning.specs.Known.{Known, is_known_ref, tree_of}
+use Rattle.rule_meaning.specs.StoreModel.{StoreModel, is_known_ref, tree_of}
 use Rattle.rule_meaning.specs.Values.{Value, value_at}
 use Rattle.value_compare.proofs.Nodes.{below, size_in}
 use Rattle.rule_meaning.specs.Reached.{key_of, node_beside, numbers, value_for}
@@ -70,11 +70,11 @@ entries f n tree h m = side-entries f (n + 1) (kids_at f n) (size_in f n h) at (
     at : (m : ℕ) → m < size (kids_at f n) → find f (n + 1 + m) ≡ find (kids_at f n) m
     at m k = let e : n + 1 + m ≡ suc (n + m) = omega arith in ap (find f) e ∙ below f n m h k
 
-key-known : (k : Known) (r : Ref) (f : Forest) (n : ℕ) (o : Option (List ℕ)) → tree_of k r.origin ≡ Some f → nat_lt n (size f) ≡ true → (label_at f n).key ≡ o → is_some o ≡ true → is_known_ref k (key_of (node_beside r n)) ≡ true
+key-known : (k : StoreModel) (r : Ref) (f : Forest) (n : ℕ) (o : Option (List ℕ)) → tree_of k r.origin ≡ Some f → nat_lt n (size f) ≡ true → (label_at f n).key ≡ o → is_some o ≡ true → is_known_ref k (key_of (node_beside r n)) ≡ true
 key-known k r f n None there within keyed h = absurd (true≢false (sym h))
 key-known k r f n (Some key) there within keyed h = rw (there, within, keyed) refl
 
-keys-known : (k : Known) (r : Ref) (f : Forest) (ns : List ℕ) → tree_of k r.origin ≡ Some f → list_all (is_entry f) ns ≡ true → list_all (λ q. is_known_ref k (key_of q)) (map (node_beside r) ns) ≡ true
+keys-known : (k : StoreModel) (r : Ref) (f : Forest) (ns : List ℕ) → tree_of k r.origin ≡ Some f → list_all (is_entry f) ns ≡ true → list_all (λ q. is_known_ref k (key_of q)) (map (node_beside r) ns) ≡ true
 keys-known k r f [] there h = refl
 keys-known k r f (n ∷ ns) there h =
     let both : (is_entry f n ≡ true) × (list_all (is_entry f) ns ≡ true) = and_parts _ _ h in
@@ -82,7 +82,7 @@ keys-known k r f (n ∷ ns) there h =
     and_from _ _ (key-known k r f n (label_at f n).key there here.0 refl here.1) (keys-known k r f ns there both.1)
 
 -- the keys of a map are known
-pub entries-known : (k : Known) (r : Ref) (f : Forest) (n : ℕ) → tree_of k r.origin ≡ Some f → value_for k r ≡ value_at f n → IsTree f → n < size f → is_map (value_for k r).kind ≡ true
+pub entries-known : (k : StoreModel) (r : Ref) (f : Forest) (n : ℕ) → tree_of k r.origin ≡ Some f → value_for k r ≡ value_at f n → IsTree f → n < size f → is_map (value_for k r).kind ≡ true
     → list_all (λ q. is_known_ref k (key_of q)) (map (node_beside r) (numbers (n + 1) (kids_at f n))) ≡ true
 entries-known k r f n there is tree h m =
     keys-known k r f (numbers (n + 1) (kids_at f n)) there (entries f n tree h (ap (λ (v : Value). is_map v.kind) (sym is) ∙ m))

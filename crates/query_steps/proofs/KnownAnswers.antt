@@ -10,7 +10,7 @@ use Rattle.guard_syntax.specs.declared.function.Function.TheVariants as function
 use Rattle.guard_syntax.specs.declared.row.Row.{Row}
 use Rattle.guard_syntax.specs.declared.row.Row.TheVariants as row
 use Rattle.rule_meaning.specs.Functions.{AreRows, ForText, Functions, Gives, IsGiven, IsPart, IsParsed, IsReplacement, IsRow, IsRowFor, IsUnescaped, Kept, MadeRow, New, argument, joined, lone, new_or_missing, single_text, single_whole, text_of}
-use Rattle.rule_meaning.specs.Known.{Known, is_known, stands_for}
+use Rattle.rule_meaning.specs.StoreModel.{StoreModel, is_known, stands_for}
 use Rattle.rule_meaning.specs.Values.{Value}
 use Rattle.rule_meaning.specs.Seeing.{is_known_answer}
 
@@ -46,16 +46,16 @@ replacement-root None template text tree is = absurd is
 
 -- ---- rows
 
-known_made : Known → MadeRow → Bool
+known_made : StoreModel → MadeRow → Bool
 known_made known (New tree) = nat_lt 0 (size tree)
 known_made known (Kept r) = is_known known r
 
-known-next : (known : Known) (m : MadeRow) (made : List MadeRow) → known_made known m ≡ true → is_known_answer known made ≡ true → is_known_answer known (m ∷ made) ≡ true
+known-next : (known : StoreModel) (m : MadeRow) (made : List MadeRow) → known_made known m ≡ true → is_known_answer known made ≡ true → is_known_answer known (m ∷ made) ≡ true
 unfolding known_made
 known-next known (New tree) made here rest = and_from _ _ here rest
 known-next known (Kept r) made here rest = and_from _ _ here rest
 
-module _ (Holds : Value → Forest → Type 0) (root : (v : Value) → HasRoot (Holds v)) (known : Known) (call : ℕ) where
+module _ (Holds : Value → Forest → Type 0) (root : (v : Value) → HasRoot (Holds v)) (known : StoreModel) (call : ℕ) where
   given-known : (v : Value) (given : Option Forest) → IsGiven (Holds v) given → known_made known (new_or_missing call given) ≡ true
   unfolding known_made
   given-known v None none = refl
@@ -82,7 +82,7 @@ module _ (Holds : Value → Forest → Type 0) (root : (v : Value) → HasRoot (
 
 -- ---- functions
 
-argument-known : (known : Known) (args : List (List Row)) (i : ℕ) → list_all (list_all (is_known known)) args ≡ true → list_all (is_known known) (argument args i) ≡ true
+argument-known : (known : StoreModel) (args : List (List Row)) (i : ℕ) → list_all (list_all (is_known known)) args ≡ true → list_all (is_known known) (argument args i) ≡ true
 argument-known known args i all = at args i all
   where
     at : (xs : List (List Row)) (n : ℕ) → list_all (list_all (is_known known)) xs ≡ true → list_all (is_known known) (get_or xs n []) ≡ true
@@ -90,12 +90,12 @@ argument-known known args i all = at args i all
     at (x ∷ xs) zero each = let both : (list_all (is_known known) x ≡ true) × (list_all (list_all (is_known known)) xs ≡ true) = and_parts _ _ each in both.0
     at (x ∷ xs) (suc n) each = let both : (list_all (is_known known) x ≡ true) × (list_all (list_all (is_known known)) xs ≡ true) = and_parts _ _ each in at xs n both.1
 
-joined-known : (known : Known) (call : ℕ) (texts : Option (List (List ℕ))) (between : Option (List ℕ)) → is_known_answer known (new_or_missing call (joined texts between) ∷ []) ≡ true
+joined-known : (known : StoreModel) (call : ℕ) (texts : Option (List (List ℕ))) (between : Option (List ℕ)) → is_known_answer known (new_or_missing call (joined texts between) ∷ []) ≡ true
 joined-known known call None between = refl
 joined-known known call (Some texts) None = refl
 joined-known known call (Some texts) (Some between) = refl
 
-pub answer-known : (known : Known) (f : Function) (call : ℕ) (args : List (List Row)) (made : List MadeRow) → list_all (list_all (is_known known)) args ≡ true → Functions known f call args made
+pub answer-known : (known : StoreModel) (f : Function) (call : ℕ) (args : List (List Row)) (made : List MadeRow) → list_all (list_all (is_known known)) args ≡ true → Functions known f call args made
     → is_known_answer known made ≡ true
 answer-known known function.Count call args made all is = ap (is_known_answer known) is
 answer-known known function.Join call args made all is = ap (is_known_answer known) is ∙ joined-known known call _ _

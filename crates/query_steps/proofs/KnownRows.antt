@@ -13,13 +13,13 @@ use Rattle.guard_syntax.specs.declared.syntax.Op.{Op}
 use Rattle.guard_syntax.specs.declared.row.Ref.{Ref}
 use Rattle.guard_syntax.specs.declared.row.Row.{Row}
 use Rattle.guard_syntax.specs.declared.row.Row.TheVariants.{Found, Missing, Unmade}
-use Rattle.rule_meaning.specs.Known.{Known, is_known, is_known_ref, meant, stands_for}
+use Rattle.rule_meaning.specs.StoreModel.{StoreModel, is_known, is_known_ref, meant, stands_for}
 use Rattle.rule_meaning.specs.Values.{Value, is_list}
 use Rattle.value_compare.proofs.Nodes.{child_least, child_most}
 use Rattle.rule_meaning.specs.Keys.{captured_row, keys_by, passes}
 use Rattle.rule_meaning.specs.Reached.{entry, inside, item, key_of, node_beside, value_for}
 use Rattle.rule_meaning.specs.Steps.{each_inside, every_by, found_or_missing, found_step, items_by, key_in, on_found, splice_row}
-use Rattle.query_steps.proofs.Known.{beside-known, inside-known}
+use Rattle.query_steps.proofs.KnownModel.{beside-known, inside-known}
 
 -- ---- lists
 
@@ -40,11 +40,11 @@ filter-all p q (x ∷ xs) h = let both : (q x ≡ true) × (list_all q xs ≡ tr
 -- ---- one value
 
 -- a reference is known, if there is one
-abbrev known_if : Known → Option Ref → Bool
+abbrev known_if : StoreModel → Option Ref → Bool
 known_if k None = true
 known_if k (Some r) = is_known_ref k r
 
-module _ (k : Known) where
+module _ (k : StoreModel) where
   if-known : (b : Bool) (o : Option Ref) → known_if k o ≡ true → known_if k (if b then o else None) ≡ true
   if-known true o h = h
   if-known false o h = refl
@@ -91,7 +91,7 @@ module _ (k : Known) where
 
 -- ---- all that stands in a value
 
-module _ (k : Known) (site : ℕ) (v : Ref) (hv : is_known_ref k v ≡ true) where
+module _ (k : StoreModel) (site : ℕ) (v : Ref) (hv : is_known_ref k v ≡ true) where
   one : list_all (is_known k) (Found v ∷ []) ≡ true
   one = and_from _ _ hv refl
 
@@ -140,7 +140,7 @@ module _ (k : Known) (site : ℕ) (v : Ref) (hv : is_known_ref k v ≡ true) whe
 
 -- ---- a step, and a capture
 
-module _ (k : Known) (last : Bool) (rows : List Row) (hrows : list_all (is_known k) rows ≡ true) where
+module _ (k : StoreModel) (last : Bool) (rows : List Row) (hrows : list_all (is_known k) rows ≡ true) where
   step-known : (s : Step) (v : Ref) → is_known_ref k v ≡ true → list_all (is_known k) (found_step k last rows s v) ≡ true
   step-known (this site) v hv = one k site v hv
   step-known (var site name) v hv = hrows
@@ -161,10 +161,10 @@ module _ (k : Known) (last : Bool) (rows : List Row) (hrows : list_all (is_known
   pub rows-known : (s : Step) (before : List Row) → list_all (is_known k) before ≡ true → list_all (is_known k) (flat_map (on_found (found_step k last rows s)) before) ≡ true
   rows-known s before h = flat_map-all (is_known k) (is_known k) (on_found (found_step k last rows s)) (row-known s) before h
 
-known-there : (k : Known) (r : Ref) (v : Value) → stands_for k r ≡ Some v → is_known_ref k r ≡ true
+known-there : (k : StoreModel) (r : Ref) (v : Value) → stands_for k r ≡ Some v → is_known_ref k r ≡ true
 known-there k r v there = rw there refl
 
-captured-known : (k : Known) (row : Row) → is_known k row ≡ true → list_all (is_known k) (captured_row k row) ≡ true
+captured-known : (k : StoreModel) (row : Row) → is_known k row ≡ true → list_all (is_known k) (captured_row k row) ≡ true
 captured-known k (Found r) h = at r.key (stands_for k (key_of r)) refl
   where
     at : (key : Bool) (o : Option Value) → stands_for k (key_of r) ≡ o → list_all (is_known k) (if key then [] else (if is_some o then Found (key_of r) ∷ [] else [])) ≡ true
@@ -175,5 +175,5 @@ captured-known k (Missing v site) h = refl
 captured-known k (Unmade call) h = refl
 
 -- the keys that a capture binds are known
-pub keys-captured : (k : Known) (rows : List Row) → list_all (is_known k) rows ≡ true → list_all (is_known k) (flat_map (captured_row k) rows) ≡ true
+pub keys-captured : (k : StoreModel) (rows : List Row) → list_all (is_known k) rows ≡ true → list_all (is_known k) (flat_map (captured_row k) rows) ≡ true
 keys-captured k rows h = flat_map-all (is_known k) (is_known k) (captured_row k) (captured-known k) rows h

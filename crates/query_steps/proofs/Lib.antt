@@ -1,18 +1,18 @@
 pub mod FilterRows
 pub mod FilterWalks
 mod StepPlaces
-pub mod Known
+pub mod KnownModel
 pub mod Keyed
 pub mod KnownRows
 pub mod SeenFilters
 pub mod SeenFunctions
 pub mod SeenGrowth
-pub mod SeenSpots
+pub mod SeenLocations
 pub mod SeenSteps
 pub mod SeenAnswers
 pub mod SeenScopes
 pub mod SeenVerdicts
-pub mod SpotAnswers
+pub mod LocatedAnswers
 pub mod KnownAnswers
 pub mod SetsSeen
 pub mod RowsKept

@@ -8,7 +8,7 @@ use Rattle.guard_syntax.specs.declared.row.Origin.TheVariants as origin
 use Rattle.guard_syntax.specs.declared.row.Row.{Row}
 use Rattle.guard_syntax.specs.declared.row.Row.TheVariants as row
 use Rattle.rule_meaning.specs.Functions.{MadeRow, New, Kept}
-use Rattle.rule_meaning.specs.Known.{Known, Made, made_at}
+use Rattle.rule_meaning.specs.StoreModel.{StoreModel, Made, made_at}
 use Rattle.value_compare.specs.Stores.{see_store}
 use Rattle.value_compare.specs.declared.store.Store.{Store}
 use Rattle.rule_meaning.specs.Seeing.{grown, rows_kept, trees_kept}
@@ -46,7 +46,7 @@ absent-later line at k (New tree ∷ xs) less =
     ap (λ (b : Bool). if b then Some tree else made_at (trees_kept line (suc at) xs) line k) other ∙ absent-later line (suc at) k xs (omega arith)
 absent-later line at k (Kept r ∷ xs) less = absent-later line (suc at) k xs (omega arith)
 
-pub grown-more : (k : Known) (some more : List Made) → grown (grown k some) more ≡ grown k (some ++ more)
+pub grown-more : (k : StoreModel) (some more : List Made) → grown (grown k some) more ≡ grown k (some ++ more)
 grown-more k some more = ap (λ (made : List Made). record { template = k.template; file = k.file; made = made }) (append_assoc k.made some more)
 
 -- a store with one tree more

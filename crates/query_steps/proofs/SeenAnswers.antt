@@ -11,9 +11,9 @@ use Rattle.guard_syntax.specs.declared.row.Origin.TheVariants as origin
 use Rattle.guard_syntax.specs.declared.row.Row.{Row}
 use Rattle.guard_syntax.specs.declared.row.Row.TheVariants as row
 use Rattle.rule_meaning.specs.Functions.{MadeRow, New, Kept}
-use Rattle.rule_meaning.specs.Known.{Known, Made, is_known, made_at}
+use Rattle.rule_meaning.specs.StoreModel.{StoreModel, Made, is_known, made_at}
 use Rattle.rule_meaning.specs.Seeing.{are_called, is_known_answer, grown, rows_kept, see_answer, see_row, trees_kept}
-use Rattle.rule_meaning.specs.Spots.{SpotRow, Found, answered_row, made_spot}
+use Rattle.rule_meaning.specs.Locations.{LocatedRow, Found, answered_row, made_location}
 use Rattle.query_steps.proofs.SeenGrowth.{row-before, row-known-before}
 
 -- ---- the tree at a place
@@ -47,33 +47,33 @@ later-tree line at k tree trees less =
     let other : (line == line && at == k) ≡ false = grind (arith, nat_tests) in
     ap (λ (b : Bool). if b then Some tree else made_at trees line k) other
 
-module _ (known : Known) (calls : List ℕ) (call : ℕ) (called : are_called calls known.made ≡ true) where
+module _ (known : StoreModel) (calls : List ℕ) (call : ℕ) (called : are_called calls known.made ≡ true) where
   -- the line of the call
   abbrev line : ℕ
   line = suc (length calls)
 
   -- the rows from one on, where the trees from there on are those at their places
   module _ (whole : List Made) where
-    abbrev shown : Row → SpotRow
+    abbrev shown : Row → LocatedRow
     shown = see_row (grown known whole) (calls ++ call ∷ [])
 
-    new-seen : (at : ℕ) (tree : Forest) → made_at whole line at ≡ Some tree → shown (row.Found (record { origin = origin.Made line at; node = 0; key = false })) ≡ Found (made_spot call tree)
+    new-seen : (at : ℕ) (tree : Forest) → made_at whole line at ≡ Some tree → shown (row.Found (record { origin = origin.Made line at; node = 0; key = false })) ≡ Found (made_location call tree)
     new-seen at tree there =
-        ap (λ (site : ℕ). Found (made_spot site (unwrap_or (made_at (known.made ++ whole) line at) Nil))) (get_or-append_seam calls call [] 0)
-        ∙ ap (λ (o : Option Forest). Found (made_spot call (unwrap_or o Nil))) (free-behind known.made whole line at (next-free calls known.made at called) ∙ there)
+        ap (λ (site : ℕ). Found (made_location site (unwrap_or (made_at (known.made ++ whole) line at) Nil))) (get_or-append_seam calls call [] 0)
+        ∙ ap (λ (o : Option Forest). Found (made_location call (unwrap_or o Nil))) (free-behind known.made whole line at (next-free calls known.made at called) ∙ there)
 
     rest-seen : (at : ℕ) (made : List MadeRow) → is_known_answer known made ≡ true → ((k : ℕ) → at ≤ k → made_at whole line k ≡ made_at (trees_kept line at made) line k)
         → map shown (rows_kept line at made) ≡ map (answered_row call) (map (see_answer known calls) made)
     rest-seen at [] all there = refl
     rest-seen at (New tree ∷ made) all there =
         let both : (nat_lt 0 (size tree) ≡ true) × (is_known_answer known made ≡ true) = and_parts _ _ all in
-        ap (λ (y : SpotRow). y ∷ map shown (rows_kept line (suc at) made)) (new-seen at tree (there at (omega arith) ∙ first-tree line at tree (trees_kept line (suc at) made)))
-        ∙ ap (λ (ys : List SpotRow). Found (made_spot call tree) ∷ ys)
+        ap (λ (y : LocatedRow). y ∷ map shown (rows_kept line (suc at) made)) (new-seen at tree (there at (omega arith) ∙ first-tree line at tree (trees_kept line (suc at) made)))
+        ∙ ap (λ (ys : List LocatedRow). Found (made_location call tree) ∷ ys)
         (rest-seen (suc at) made both.1 (λ k h. there k (omega (arith, h)) ∙ later-tree line at k tree (trees_kept line (suc at) made) (omega (arith, h))))
     rest-seen at (Kept r ∷ made) all there =
         let both : (is_known known r ≡ true) × (is_known_answer known made ≡ true) = and_parts _ _ all in
-        ap (λ (y : SpotRow). y ∷ map shown (rows_kept line (suc at) made)) (row-before known whole calls (call ∷ []) called r both.0)
-        ∙ ap (λ (ys : List SpotRow). see_row known calls r ∷ ys) (rest-seen (suc at) made both.1 (λ k h. there k (omega (arith, h))))
+        ap (λ (y : LocatedRow). y ∷ map shown (rows_kept line (suc at) made)) (row-before known whole calls (call ∷ []) called r both.0)
+        ∙ ap (λ (ys : List LocatedRow). see_row known calls r ∷ ys) (rest-seen (suc at) made both.1 (λ k h. there k (omega (arith, h))))
 
     new-known : (at : ℕ) (tree : Forest) → made_at whole line at ≡ Some tree → nat_lt 0 (size tree) ≡ true
         → is_known (grown known whole) (row.Found (record { origin = origin.Made line at; node = 0; key = false })) ≡ true

@@ -11,11 +11,11 @@ use Rattle.guard_syntax.specs.declared.row.Origin.TheVariants as origin
 use Rattle.guard_syntax.specs.declared.row.Ref.{Ref}
 use Rattle.guard_syntax.specs.declared.row.Row.{Row}
 use Rattle.guard_syntax.specs.declared.row.Row.TheVariants as row
-use Rattle.rule_meaning.specs.Known.{Known, is_known, is_known_ref, made_at, stands_for, tree_of, value_in}
-use Rattle.rule_meaning.specs.Known as store
+use Rattle.rule_meaning.specs.StoreModel.{StoreModel, is_known, is_known_ref, made_at, stands_for, tree_of, value_in}
+use Rattle.rule_meaning.specs.StoreModel as store
 use Rattle.rule_meaning.specs.Values.{Value}
-use Rattle.rule_meaning.specs.Seeing.{are_called, call_at, grown, see_origin, see_row, see_spot}
-use Rattle.rule_meaning.specs.Spots.{Made, Spot, SpotOrigin, SpotRow, Found, Missing}
+use Rattle.rule_meaning.specs.Seeing.{are_called, call_at, grown, see_origin, see_row, see_location}
+use Rattle.rule_meaning.specs.Locations.{Made, Location, LocatedOrigin, LocatedRow, Found, Missing}
 
 -- ---- trees
 
@@ -51,13 +51,13 @@ call-before calls later (suc n) within = get_or_append_left calls later 0 n (ome
 -- ---- references
 
 -- what is known has a tree
-tree-there : (known : Known) (r : Ref) (o : Option Forest) → tree_of known r.origin ≡ o → is_known_ref known r ≡ true → (tree : Forest) × (o ≡ Some tree)
+tree-there : (known : StoreModel) (r : Ref) (o : Option Forest) → tree_of known r.origin ≡ o → is_known_ref known r ≡ true → (tree : Forest) × (o ≡ Some tree)
 tree-there known r None none is =
     let lost : is_known_ref known r ≡ false = rw (none) refl in
     absurd (true≢false (sym is ∙ lost))
 tree-there known r (Some tree) there is = (tree, refl)
 
-module _ (known : Known) (more : List store.Made) where
+module _ (known : StoreModel) (more : List store.Made) where
   tree-before : (o : Origin) (tree : Forest) → tree_of known o ≡ Some tree → tree_of (grown known more) o ≡ Some tree
   tree-before origin.Template tree there = there
   tree-before (origin.Literal site) tree there = there
@@ -92,21 +92,21 @@ module _ (known : Known) (more : List store.Made) where
         ap (λ (call : ℕ). Made call (unwrap_or (made_at (known.made ++ more) line at) Nil)) (call-before calls later line (called-line calls known.made line at tree called there))
         ∙ ap (λ (o : Option Forest). Made (call_at calls line) (unwrap_or o Nil)) (made-before known.made more line at tree there ∙ sym there)
 
-    -- a known reference is seen as the same spot
-    pub spot-before : (r : Ref) → is_known_ref known r ≡ true → see_spot (grown known more) (calls ++ later) r ≡ see_spot known calls r
-    spot-before r is =
+    -- a known reference is seen as the same location
+    pub location-before : (r : Ref) → is_known_ref known r ≡ true → see_location (grown known more) (calls ++ later) r ≡ see_location known calls r
+    location-before r is =
         let there : (tree : Forest) × (tree_of known r.origin ≡ Some tree) = tree-there known r (tree_of known r.origin) refl is in
-        let at : SpotOrigin → Spot = λ o. record { origin = o; node = r.node; key = r.key } in
+        let at : LocatedOrigin → Location = λ o. record { origin = o; node = r.node; key = r.key } in
         ap at (origin-before r.origin there.0 there.1)
 
     pub row-before : (x : Row) → is_known known x ≡ true → see_row (grown known more) (calls ++ later) x ≡ see_row known calls x
-    row-before (row.Found r) is = ap Found (spot-before r is)
-    row-before (row.Missing v step) is = ap (λ (w : Spot). Missing w step) (spot-before v is)
+    row-before (row.Found r) is = ap Found (location-before r is)
+    row-before (row.Missing v step) is = ap (λ (w : Location). Missing w step) (location-before v is)
     row-before (row.Unmade call) is = refl
 
     pub rows-before : (xs : List Row) → list_all (is_known known) xs ≡ true → map (see_row (grown known more) (calls ++ later)) xs ≡ map (see_row known calls) xs
     rows-before [] all = refl
     rows-before (x ∷ xs) all =
         let both : (is_known known x ≡ true) × (list_all (is_known known) xs ≡ true) = and_parts _ _ all in
-        ap (λ (y : SpotRow). y ∷ map (see_row (grown known more) (calls ++ later)) xs) (row-before x both.0)
-        ∙ ap (λ (ys : List SpotRow). see_row known calls x ∷ ys) (rows-before xs both.1)
+        ap (λ (y : LocatedRow). y ∷ map (see_row (grown known more) (calls ++ later)) xs) (row-before x both.0)
+        ∙ ap (λ (ys : List LocatedRow). see_row known calls x ∷ ys) (rows-before xs both.1)

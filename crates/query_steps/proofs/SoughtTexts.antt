@@ -18,14 +18,14 @@ use Rattle.guard_syntax.specs.declared.function.Function.{Function}
 use Rattle.guard_syntax.specs.declared.function.Function.TheVariants.{RegexReplace}
 use Rattle.guard_syntax.specs.declared.row.Row.{Row}
 use Rattle.guard_syntax.specs.declared.row.Row.TheVariants as row
-use Rattle.rule_names.specs.Names.{WellNamed}
+use Rattle.rule_names.specs.WellNamed.{WellNamed}
 use Rattle.rule_names.specs.Pieces.{AreInOrder, OfExpr, Piece, piece_at, pieces_expr, pieces_exprs, pieces_file}
 use Rattle.rule_names.specs.Uses.{expr_in, function_named, is_text_kind, is_text_tree}
 use Rattle.rule_names.specs.Within.{IsAmong, StandsIn}
 use Rattle.rule_names.proofs.Among.{IsAmong-behind, IsAmong-first, IsAmong-inner, IsAmong-last}
 use Rattle.value_compare.specs.Books.{has_text, IsBookOf}
 use Rattle.rule_meaning.specs.Functions.{single_text, text_of}
-use Rattle.rule_meaning.specs.Known.{Known, tree_of_piece, value_in, value_or_key}
+use Rattle.rule_meaning.specs.StoreModel.{StoreModel, tree_of_piece, value_in, value_or_key}
 use Rattle.rule_meaning.specs.Values.{is_text}
 use Rattle.rule_meaning.specs.Patterns.{Written, is_site, is_sought, patterns_at, patterns_in, patterns_of_piece, sought_at, sought_by_piece, sought_text}
 use Rattle.value_compare.proofs.Beyond.{beyond}
@@ -110,7 +110,7 @@ text-held f book order is_book site name es n l kids rest there is second text =
     (ap (list_any p) has ∙ list_any-append p (sought_text true tree) (patterns_in tree) ∙ or_left _ _ (ap (list_any p) written ∙ or_left _ _ same))
 
 -- the pattern that a call of `regex_replace` is given is one that the book has
-pub pattern-held : (k : Known) (book : List (List ℕ)) → AreInOrder k.file → WellNamed k.file → IsBookOf k.file book → (site : ℕ) (name : List ℕ) (es : Exprs) (g : Function)
+pub pattern-held : (k : StoreModel) (book : List (List ℕ)) → AreInOrder k.file → WellNamed k.file → IsBookOf k.file book → (site : ℕ) (name : List ℕ) (es : Exprs) (g : Function)
     → StandsIn k.file (pieces_expr (function site name es)) → name ≡ name_of g → function_named name ≡ Some g → (rows : List Row)
     → ((n : ℕ) (tree : Forest) → expr_in es 1 ≡ Some (literal n tree) → rows ≡ row.Found (literal_ref n) ∷ [])
     → g ≡ RegexReplace → IfSome (single_text k rows) (λ text. has_text book text ≡ true)

@@ -13,7 +13,7 @@ use Rattle.guard_syntax.specs.declared.row.Verdict.{Verdict}
 use Rattle.guard_syntax.specs.declared.syntax.Query.{Query, out-Query, the_lemmas}
 use Rattle.guard_syntax.specs.declared.syntax.Step.{Step}
 use Rattle.rule_names.specs.Pieces.{OfStep, piece_at}
-use Rattle.rule_meaning.specs.Known.{Known}
+use Rattle.rule_meaning.specs.StoreModel.{StoreModel}
 use Rattle.rule_meaning.specs.Filters.{candidates_of, candidates_in, kept, filtered}
 use Rattle.rule_meaning.specs.Places.{Placed, is_key, is_filter, is_first, is_after_key, step_in, steps_in, placed_in, placed_of, step_at, given_by, step_candidates, step_rows, candidates_at, rows_at_step, IsStepAt, IsStartAt, IsFilterAt}
 use Rattle.rule_meaning.specs.Steps.{found_step, on_found}
@@ -86,7 +86,7 @@ drop-nothing zero = refl
 drop-nothing (suc n) = refl
 
 -- a filter that begins a query keeps nothing, as it has no verdicts; any other start is a step at the current value
-starts : (known : Known) (last after_key : Bool) (current : Ref) (rows : List Row) (s : sx.Step)
+starts : (known : StoreModel) (last after_key : Bool) (current : Ref) (rows : List Row) (s : sx.Step)
     → flat_map (on_found (found_step known last rows s)) (Found current ∷ [])
     ≡ (if is_filter s then filtered known after_key (Found current ∷ []) [] else flat_map (on_found (found_step known last rows s)) (Found current ∷ []))
 starts known last after_key current rows (sx.filter site capture conditions) =
@@ -106,7 +106,7 @@ first-not : (i : ℕ) → (i ≡ 0 → ⊥) → is_first i ≡ false
 first-not zero later = absurd (later refl)
 first-not (suc i) later = refl
 
-module _ (known : Known) (site : ℕ) (xs : List Step) (i : ℕ) (x : Step) (at : step_at known.file site ≡ placed_in (steps_of xs) i) (within : i < length xs) (is : x ≡ get_or xs i x) where
+module _ (known : StoreModel) (site : ℕ) (xs : List Step) (i : ℕ) (x : Step) (at : step_at known.file site ≡ placed_in (steps_of xs) i) (within : i < length xs) (is : x ≡ get_or xs i x) where
   abbrev here : Placed
   here = record { step = see_step x; first = is_first i; last = not (is_some (step_in (steps_of xs) (suc i))); after_key = is_after_key (steps_of xs) i }
 

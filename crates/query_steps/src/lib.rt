@@ -4,19 +4,19 @@
 
 pub mod filters;
 pub mod keys;
+pub mod location_laws;
 mod reached;
 pub mod resources;
 pub mod seen;
 pub mod sites;
-pub mod spot_laws;
 pub mod steps;
 
 pub use filters::{filter_candidates, kept_rows};
 pub use keys::{captured, row_passes};
+pub use location_laws::one_answer_over_locations;
 pub use resources::type_rows;
 pub use seen::{
     seen_answers, seen_as_before, seen_filters, seen_functions, seen_steps, seen_values,
 };
 pub use sites::{candidates, kinds, step};
-pub use spot_laws::one_answer_over_spots;
 pub use steps::rows_of_step;

@@ -1,7 +1,7 @@
 //! Type blocks: the resources of a type.
 ghost use Rattle.std.specs.Prelude.{◌≡◌, true, map, IfOk};
 ghost use Rattle.std.specs.List.{filter, list_all};
-ghost use Rattle.rule_meaning.specs.Known.{is_known, is_known_ref};
+ghost use Rattle.rule_meaning.specs.StoreModel.{is_known, is_known_ref};
 ghost use Rattle.value_compare.specs.Stores.{see_store};
 ghost use Rattle.rule_meaning.specs.Kinds.{has_type, is_name, rows_of_type};
 ghost use Rattle.rule_meaning.specs.Reached.{value_for};

@@ -4,7 +4,7 @@ ghost use Rattle.std.specs.List.{flat_map, list_all};
 ghost use Rattle.guard_syntax.specs.Seen.{see_step};
 ghost use Rattle.guard_syntax.specs.declared.row.Row.TheVariants.{Found};
 ghost use Rattle.value_compare.specs.Books.{IsBookOf};
-ghost use Rattle.rule_meaning.specs.Known.{is_known, is_known_ref, meant};
+ghost use Rattle.rule_meaning.specs.StoreModel.{is_known, is_known_ref, meant};
 ghost use Rattle.value_compare.specs.Stores.{see_store};
 ghost use Rattle.rule_meaning.specs.Keys.{keys_by, passes};
 ghost use Rattle.rule_meaning.specs.Reached.{entry, inside, key_of, value_for};

@@ -4,9 +4,9 @@ use Rattle.doc_values.specs.Places.{label_at}
 use Rattle.doc_values.specs.Tree.{Forest, Nil}
 use Rattle.guard_syntax.specs.Syntax.{File, Part, test, refer, call}
 use Rattle.rule_names.specs.Pieces.{Piece, OfPart, piece_at}
-use Rattle.rule_meaning.specs.Known.{literal_at}
+use Rattle.rule_meaning.specs.StoreModel.{literal_at}
 use Rattle.rule_meaning.specs.Fails.{Entry, Shown, OfValue, OfCall, Word, IsValue, IsMissing, IsRows, IsRule, IsCall}
-use Rattle.rule_meaning.specs.Spots.{SpotOrigin, Template, Literal, Made}
+use Rattle.rule_meaning.specs.Locations.{LocatedOrigin, Template, Literal, Made}
 use Rattle.report_text.specs.Messages.{note_text}
 use Rattle.report_text.specs.Paths.{Down, path_of, path_text}
 use Rattle.report_text.specs.Spelling.{place_text}
@@ -25,7 +25,7 @@ abbrev pub literal_text : (rules : List ℕ) → Forest → ℕ → List ℕ
 literal_text rules tree node = codes "literal" ++ (path_text (path_of tree node) ++ (codes " " ++ place_text rules (label_at tree node).at))
 
 -- the path and the place of a node: of the template and of a literal its own, each in its own text; of what a call made the place of the call
-abbrev pub node_text : File → (template_tree : Forest) → (rules template : List ℕ) → SpotOrigin → ℕ → List ℕ
+abbrev pub node_text : File → (template_tree : Forest) → (rules template : List ℕ) → LocatedOrigin → ℕ → List ℕ
 node_text file template_tree rules template Template node = template_path (path_of template_tree node) ++ (codes " " ++ place_text template (label_at template_tree node).at)
 node_text file template_tree rules template (Literal site) node = literal_text rules (unwrap_or (literal_at file site) Nil) node
 node_text file template_tree rules template (Made site tree) node = codes "call" ++ (path_text (path_of tree node) ++ (codes " " ++ site_text file rules site))

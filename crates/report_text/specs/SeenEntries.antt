@@ -4,10 +4,10 @@ use Rattle.doc_values.specs.Tree.{Forest, Nil}
 use Rattle.guard_syntax.specs.declared.row.Origin.{Origin}
 use Rattle.guard_syntax.specs.declared.row.Origin.TheVariants as origin
 use Rattle.guard_syntax.specs.declared.row.Ref.{Ref}
-use Rattle.rule_meaning.specs.Known.{Known, tree_of, is_known_ref}
+use Rattle.rule_meaning.specs.StoreModel.{StoreModel, tree_of, is_known_ref}
 use Rattle.rule_meaning.specs.Fails as fails
-use Rattle.rule_meaning.specs.Seeing.{see_spot}
-use Rattle.rule_meaning.specs.Spots as spots
+use Rattle.rule_meaning.specs.Seeing.{see_location}
+use Rattle.rule_meaning.specs.Locations as spots
 use Rattle.report_text.specs.declared.entry.Entry.{Entry}
 use Rattle.report_text.specs.declared.entry.Shown.{Shown}
 use Rattle.report_text.specs.declared.entry.Shown.TheVariants.{Value, Made, Unmade}
@@ -21,18 +21,18 @@ is_made (origin.Literal site) = false
 is_made (origin.Made line row) = true
 
 -- the tree that a value stands in
-abbrev pub tree_for : Known → Ref → Forest
+abbrev pub tree_for : StoreModel → Ref → Forest
 tree_for known v = unwrap_or (tree_of known v.origin) Nil
 
 -- what can be shown: a value that is known, with its call where one made it; and any call
-abbrev pub IsShowable : Known → Shown → Type 0
+abbrev pub IsShowable : StoreModel → Shown → Type 0
 IsShowable known (Value v) = (is_known_ref known v ≡ true) × (is_made v.origin ≡ false)
 IsShowable known (Made site v) = (is_known_ref known v ≡ true) × (is_made v.origin ≡ true)
 IsShowable known (Unmade site) = Unit {0}
 
 -- a value of the template or of a literal needs no calls to be told; what a call made is told by the call and the tree
-abbrev pub see_shown : Known → Shown → fails.Shown
-see_shown known (Value v) = fails.OfValue (see_spot known [] v)
+abbrev pub see_shown : StoreModel → Shown → fails.Shown
+see_shown known (Value v) = fails.OfValue (see_location known [] v)
 see_shown known (Made site v) = fails.OfValue (record { origin = spots.Made site (tree_for known v); node = v.node; key = v.key })
 see_shown known (Unmade site) = fails.OfCall site
 
@@ -43,5 +43,5 @@ see_word word.Rows = fails.IsRows
 see_word word.Rule = fails.IsRule
 see_word word.Call = fails.IsCall
 
-abbrev pub see_entry : Known → Entry → fails.Entry
+abbrev pub see_entry : StoreModel → Entry → fails.Entry
 see_entry known e = record { shown = see_shown known e.shown; word = see_word e.word; part = e.part }

@@ -2,11 +2,11 @@
 ghost use Rattle.std.specs.Prelude.{◌≡◌, ◌≤◌, ◌++◌, [], ℕ, List, None, Some, true, false, MatchOption, IsErrOf, IsSome, OnOk, OnErr, IfOk, length, slice_index_or};
 ghost use Rattle.std.specs.Option.{ForSome};
 ghost use Rattle.doc_values.specs.Tree.{IsTree};
-ghost use Rattle.guard_io.specs.Outside.{Rose, IsPrefix};
+ghost use Rattle.guard_io.specs.Outside.{FaultCounted, IsPrefix};
 ghost use Rattle.guard_syntax.specs.Seen.{see_part};
 ghost use Rattle.rule_names.specs.Files.{file_of};
 ghost use Rattle.rule_names.specs.Pieces.{piece_at};
-ghost use Rattle.rule_meaning.specs.Known.{is_known_ref};
+ghost use Rattle.rule_meaning.specs.StoreModel.{is_known_ref};
 ghost use Rattle.value_compare.specs.Stores.{see_store};
 ghost use Rattle.report_text.specs.EntryLines.{entry_line, node_text, note_of, note_of_part, shown_text, site_text, template_path, word_text};
 ghost use Rattle.report_text.specs.SeenEntries.{IsShowable, is_made, see_entry, see_shown, see_word, tree_for};
@@ -49,7 +49,7 @@ pub fn write_entry<S: Sink>(
     ensures err { OnErr result (ForSome (S.told sink.old) (λ held. (front : List ℕ)
         × IsPrefix front (entry_line (see_store store.now).file (see_store store.now).template rules_text.now template_text.now (see_entry (see_store store.now) entry.now)) × (S.told sink.new ≡ Some (held ++ front)))) }
     ensures tells { IsSome (S.told sink.old) → IsSome (S.told sink.new) }
-    ensures failed { IsErrOf result ReportFault.Failed → Rose (S.faults sink.old) (S.faults sink.new) }
+    ensures failed { IsErrOf result ReportFault.Failed → FaultCounted (S.faults sink.old) (S.faults sink.new) }
     ensures kept { S.faults sink.old ≤ S.faults sink.new }
 {
     let Ok(rules) = Lined::new(alloc, rules_text) else {
@@ -79,7 +79,7 @@ pub fn write_entry_over<S: Sink>(
     ensures err { OnErr result (ForSome (S.told sink.old) (λ held. (front : List ℕ)
         × IsPrefix front (entry_line (see_store store.now).file (see_store store.now).template rules.now.text.now template.now.text.now (see_entry (see_store store.now) entry.now)) × (S.told sink.new ≡ Some (held ++ front)))) }
     ensures tells { IsSome (S.told sink.old) → IsSome (S.told sink.new) }
-    ensures failed { IsErrOf result ReportFault.Failed → Rose (S.faults sink.old) (S.faults sink.new) }
+    ensures failed { IsErrOf result ReportFault.Failed → FaultCounted (S.faults sink.old) (S.faults sink.new) }
     ensures kept { S.faults sink.old ≤ S.faults sink.new }
 {
     match line_of(alloc, file, rules, template, store, entry) {

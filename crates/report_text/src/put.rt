@@ -1,7 +1,7 @@
 //! What is written at once.
 ghost use Rattle.std.specs.Prelude.{◌≡◌, ◌≤◌, ◌++◌, ℕ, List, Some, IsErrOf, IsSome, OnOk, OnErr};
 ghost use Rattle.std.specs.Option.{ForSome};
-ghost use Rattle.guard_io.specs.Outside.{Rose, IsPrefix};
+ghost use Rattle.guard_io.specs.Outside.{FaultCounted, IsPrefix};
 
 use guard_io::{Sink, SinkFault};
 
@@ -20,7 +20,7 @@ pub(crate) fn put<S: Sink>(text: &[u8], sink: &mut S) -> Result<(), ReportFault>
     ensures err { OnErr result (ForSome (S.told sink.old) (λ held. (front : List ℕ)
         × IsPrefix front text.now × (S.told sink.new ≡ Some (held ++ front)))) }
     ensures tells { IsSome (S.told sink.old) → IsSome (S.told sink.new) }
-    ensures failed { IsErrOf result ReportFault.Failed → Rose (S.faults sink.old) (S.faults sink.new) }
+    ensures failed { IsErrOf result ReportFault.Failed → FaultCounted (S.faults sink.old) (S.faults sink.new) }
     ensures kept { S.faults sink.old ≤ S.faults sink.new }
 {
     match sink.put(text) {

@@ -2,7 +2,7 @@
 ghost use Rattle.std.specs.Prelude.{◌≡◌, ◌≤◌, ◌++◌, ℕ, List, Some, IsErrOf, IsSome, OnOk, OnErr, IfOk, drop, length, map};
 ghost use Rattle.std.specs.Option.{ForSome};
 ghost use Rattle.std.specs.List.{flat_map};
-ghost use Rattle.guard_io.specs.Outside.{Rose, IsPrefix};
+ghost use Rattle.guard_io.specs.Outside.{FaultCounted, IsPrefix};
 ghost use Rattle.guard_syntax.specs.Seen.{disj_list, see_disj, see_rule};
 ghost use Rattle.rule_names.specs.Files.{file_of};
 ghost use Rattle.report_text.specs.RuleLines.{name_of_loose, name_of_rule, reported_names, rule_line, rule_lines, verdict_word};
@@ -28,7 +28,7 @@ pub fn write_rules<S: Sink>(
     ensures err { OnErr result (ForSome (S.told sink.old) (λ held. (front : List ℕ)
         × IsPrefix front (rule_lines (reported_names (file_of file.now)) verdicts.now) × (S.told sink.new ≡ Some (held ++ front)))) }
     ensures tells { IsSome (S.told sink.old) → IsSome (S.told sink.new) }
-    ensures failed { IsErrOf result ReportFault.Failed → Rose (S.faults sink.old) (S.faults sink.new) }
+    ensures failed { IsErrOf result ReportFault.Failed → FaultCounted (S.faults sink.old) (S.faults sink.new) }
     ensures kept { S.faults sink.old ≤ S.faults sink.new }
 {
     let raw = file.raw();

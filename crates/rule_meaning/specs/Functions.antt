@@ -22,8 +22,8 @@ use Rattle.guard_syntax.specs.declared.function.Function.{Function}
 use Rattle.guard_syntax.specs.declared.function.Function.TheVariants as function
 use Rattle.guard_syntax.specs.declared.row.Row.{Row}
 use Rattle.guard_syntax.specs.declared.row.Row.TheVariants as row
-use Rattle.rule_meaning.specs.Finds.{pattern_in}
-use Rattle.rule_meaning.specs.Known.{Known, stands_for, meant}
+use Rattle.rule_meaning.specs.PatternMatch.{pattern_in}
+use Rattle.rule_meaning.specs.StoreModel.{StoreModel, stands_for, meant}
 use Rattle.rule_meaning.specs.Values.{Value, is_text}
 
 -- a row of an answer: a new tree, or a row that is no new value
@@ -67,15 +67,15 @@ abbrev pub whole_of : Value → Option ℤ
 whole_of v = whole_by v.kind
 
 -- what the one row of an argument stands for, where there is exactly one
-abbrev pub single : Known → List Row → Option Value
+abbrev pub single : StoreModel → List Row → Option Value
 single known [] = None
 single known (r ∷ []) = meant known r
 single known (r ∷ (s ∷ rs)) = None
 
-abbrev pub single_text : Known → List Row → Option (List ℕ)
+abbrev pub single_text : StoreModel → List Row → Option (List ℕ)
 single_text known rows = option_and_then text_of (single known rows)
 
-abbrev pub single_whole : Known → List Row → Option ℤ
+abbrev pub single_whole : StoreModel → List Row → Option ℤ
 single_whole known rows = option_and_then whole_of (single known rows)
 
 -- the rows of an argument, counted from 0
@@ -235,13 +235,13 @@ IsRowFor Gives call (Some v) made = (given : Option Forest) × IsGiven (Gives v)
 IsRowFor Gives call None made = made ≡ Kept (row.Unmade call)
 
 -- a missing row stays as it is
-abbrev pub IsRow : (Value → Forest → Type 0) → Known → ℕ → Row → MadeRow → Type 0
+abbrev pub IsRow : (Value → Forest → Type 0) → StoreModel → ℕ → Row → MadeRow → Type 0
 IsRow Gives known call (row.Found r) made = IsRowFor Gives call (stands_for known r) made
 IsRow Gives known call (row.Missing v step) made = made ≡ Kept (row.Missing v step)
 IsRow Gives known call (row.Unmade inner) made = made ≡ Kept (row.Unmade inner)
 
 -- one for each
-abbrev pub AreRows : (Value → Forest → Type 0) → Known → ℕ → List Row → List MadeRow → Type 0
+abbrev pub AreRows : (Value → Forest → Type 0) → StoreModel → ℕ → List Row → List MadeRow → Type 0
 AreRows Gives known call [] [] = Unit {0}
 AreRows Gives known call [] (m ∷ made) = ⊥
 AreRows Gives known call (r ∷ rows) [] = ⊥
@@ -254,10 +254,10 @@ with_text (Some text) None = None
 with_text (Some text) (Some texts) = Some (text ∷ texts)
 
 -- the texts that rows stand for, where each stands for one
-abbrev pub text_in : Known → Row → Option (List ℕ)
+abbrev pub text_in : StoreModel → Row → Option (List ℕ)
 text_in known r = option_and_then text_of (meant known r)
 
-abbrev pub texts_in : Known → List Row → Option (List (List ℕ))
+abbrev pub texts_in : StoreModel → List Row → Option (List (List ℕ))
 texts_in known [] = Some []
 texts_in known (r ∷ rows) = with_text (text_in known r) (texts_in known rows)
 
@@ -271,11 +271,11 @@ abbrev pub counted : List Row → List MadeRow
 counted rows = New (whole_tree (pos (count_by is_found rows))) ∷ []
 
 -- the one row of `join`
-abbrev pub joined_row : Known → ℕ → (rows between : List Row) → List MadeRow
+abbrev pub joined_row : StoreModel → ℕ → (rows between : List Row) → List MadeRow
 joined_row known call rows between = new_or_missing call (joined (texts_in known rows) (single_text known between)) ∷ []
 
 -- what a function of one value after another gives for a value, its further arguments these
-abbrev pub Gives : Known → Function → List (List Row) → Value → Forest → Type 0
+abbrev pub Gives : StoreModel → Function → List (List Row) → Value → Forest → Type 0
 Gives known function.JsonParse args v tree = IsJson v tree
 Gives known function.RegexReplace args v tree = IsReplaced (single_text known (argument args 1)) (single_text known (argument args 2)) v tree
 Gives known function.ToLower args v tree = IsLower v tree
@@ -290,7 +290,7 @@ Gives known function.Count args v tree = ⊥
 Gives known function.Join args v tree = ⊥
 
 -- what the call of a function at a site answers
-abbrev pub Functions : Known → Function → ℕ → List (List Row) → List MadeRow → Type 0
+abbrev pub Functions : StoreModel → Function → ℕ → List (List Row) → List MadeRow → Type 0
 Functions known function.Count call args made = made ≡ counted (argument args 0)
 Functions known function.Join call args made = made ≡ joined_row known call (argument args 0) (argument args 1)
 Functions known f call args made = AreRows (Gives known f args) known call (argument args 0) made

@@ -16,7 +16,7 @@ use Rattle.guard_syntax.specs.declared.syntax.Op.{Op}
 use Rattle.guard_syntax.specs.declared.syntax.Op.TheVariants as op
 use Rattle.rule_meaning.specs.declared.answer.PairAnswer.{PairAnswer}
 use Rattle.rule_meaning.specs.declared.answer.PairAnswer.TheVariants.{Yes, No, Apart}
-use Rattle.rule_meaning.specs.Finds.{finds}
+use Rattle.rule_meaning.specs.PatternMatch.{finds}
 use Rattle.rule_meaning.specs.Values.{Value, value_of}
 
 abbrev pub told : Bool → PairAnswer
@@ -117,18 +117,18 @@ equal l r = equal_by (same_items l.contents r.contents) (same_maps l.contents r.
 
 -- Order.
 
-abbrev pub holds_of : Op → Ordering → Bool
-holds_of op.Lt o = is_lt o
-holds_of op.Le o = is_le o
-holds_of op.Gt o = is_gt o
-holds_of op.Ge o = is_ge o
-holds_of _ o = false
+abbrev pub covers : Op → Ordering → Bool
+covers op.Lt o = is_lt o
+covers op.Le o = is_le o
+covers op.Gt o = is_gt o
+covers op.Ge o = is_ge o
+covers _ o = false
 
 -- two whole numbers, two decimals and two texts are ordered, texts by their bytes
 abbrev pub ordered_by : Op → Kind → List ℕ → Kind → List ℕ → PairAnswer
-ordered_by o (kind.Whole a) lt (kind.Whole b) rt = told (holds_of o (int_cmp a b))
-ordered_by o (kind.Fraction a) lt (kind.Fraction b) rt = told (holds_of o (order a b))
-ordered_by o kind.Text lt kind.Text rt = told (holds_of o (slice_cmp nat_cmp lt rt))
+ordered_by o (kind.Whole a) lt (kind.Whole b) rt = told (covers o (int_cmp a b))
+ordered_by o (kind.Fraction a) lt (kind.Fraction b) rt = told (covers o (order a b))
+ordered_by o kind.Text lt kind.Text rt = told (covers o (slice_cmp nat_cmp lt rt))
 ordered_by o _ lt _ rt = Apart
 
 abbrev pub ordered : Op → Value → Value → PairAnswer

@@ -8,7 +8,7 @@ use Rattle.guard_syntax.specs.declared.row.Row.{Row}
 use Rattle.guard_syntax.specs.declared.row.Row.TheVariants.{Found}
 use Rattle.guard_syntax.specs.declared.row.Verdict.{Verdict}
 use Rattle.rule_names.specs.Pieces.{Piece, OfStep, OfPart, piece_at}
-use Rattle.rule_meaning.specs.Known.{Known}
+use Rattle.rule_meaning.specs.StoreModel.{StoreModel}
 use Rattle.rule_meaning.specs.Filters.{candidates_in, filtered}
 use Rattle.rule_meaning.specs.Kinds.{rows_of_type}
 use Rattle.rule_meaning.specs.Steps.{found_step, on_found}
@@ -61,7 +61,7 @@ abbrev pub step_at : File → ℕ → Option Placed
 step_at file site = option_and_then placed_of (piece_at file site)
 
 -- what a step gives for rows: a filter has a verdict for each candidate, in order
-abbrev pub given_by : Known → Placed → (before rows : List Row) → List Verdict → List Row
+abbrev pub given_by : StoreModel → Placed → (before rows : List Row) → List Verdict → List Row
 given_by known at before rows verdicts =
     if is_filter at.step then filtered known at.after_key before verdicts else flat_map (on_found (found_step known at.last rows at.step)) before
 
@@ -70,11 +70,11 @@ abbrev pub before_step : Placed → (current : Ref) → (before : List Row) → 
 before_step at current before = if at.first then Found current ∷ [] else before
 
 -- one step where it stands
-abbrev pub step_rows : Known → Placed → (current : Ref) → (before rows : List Row) → List Verdict → List Row
+abbrev pub step_rows : StoreModel → Placed → (current : Ref) → (before rows : List Row) → List Verdict → List Row
 step_rows known at current before rows verdicts = given_by known at (before_step at current before) rows verdicts
 
 -- the candidates of a filter, which is never a start; no other step has any
-abbrev pub step_candidates : Known → Placed → (before : List Row) → List Ref
+abbrev pub step_candidates : StoreModel → Placed → (before : List Row) → List Ref
 step_candidates known at before = if is_filter at.step then candidates_in known at.after_key before else []
 
 abbrev pub type_of_part : Part → Option (List ℕ)
@@ -92,16 +92,16 @@ type_at file site = option_and_then type_of (piece_at file site)
 -- By the sites of what is known.
 
 -- what the step of a site gives
-abbrev pub rows_at_step : Known → ℕ → (current : Ref) → (before rows : List Row) → List Verdict → List Row
+abbrev pub rows_at_step : StoreModel → ℕ → (current : Ref) → (before rows : List Row) → List Verdict → List Row
 rows_at_step known site current before rows verdicts =
     option_map_or (λ (at : Placed). step_rows known at current before rows verdicts) (step_at known.file site) []
 
 -- the candidates of the filter of a site
-abbrev pub candidates_at : Known → ℕ → (before : List Row) → List Ref
+abbrev pub candidates_at : StoreModel → ℕ → (before : List Row) → List Ref
 candidates_at known site before = option_map_or (λ (at : Placed). step_candidates known at before) (step_at known.file site) []
 
 -- the rows of the type block of a site
-abbrev pub rows_at_type : Known → ℕ → (current : Ref) → List Row
+abbrev pub rows_at_type : StoreModel → ℕ → (current : Ref) → List Row
 rows_at_type known site current = option_map_or (λ name. rows_of_type known name current) (type_at known.file site) []
 
 abbrev pub IsStepAt : File → ℕ → Type 0

@@ -6,7 +6,7 @@ use Rattle.guard_syntax.specs.Syntax.{Step, this, var, key, index, every, items,
 use Rattle.guard_syntax.specs.declared.row.Ref.{Ref}
 use Rattle.guard_syntax.specs.declared.row.Row.{Row}
 use Rattle.guard_syntax.specs.declared.row.Row.TheVariants.{Found, Missing, Unmade}
-use Rattle.rule_meaning.specs.Known.{Known, meant}
+use Rattle.rule_meaning.specs.StoreModel.{StoreModel, meant}
 use Rattle.rule_meaning.specs.Values.{Value, is_text}
 use Rattle.rule_meaning.specs.Keys.{keys_by}
 use Rattle.rule_meaning.specs.Reached.{value_for, inside, entry, item}
@@ -39,11 +39,11 @@ key_in None = None
 key_in (Some v) = if is_text v.kind then Some v.text else None
 
 -- `.%x` with one row of the variable: the key step where a text was found
-abbrev pub splice_row : Known → ℕ → Ref → Row → Row
+abbrev pub splice_row : StoreModel → ℕ → Ref → Row → Row
 splice_row known site v x = found_or_missing site v (option_and_then (entry known v) (key_in (meant known x)))
 
 -- a step at a value; `rows` are those of the variable, or of a key filter's right side. A filter stands for nothing here: it has its rows in `filtered`.
-abbrev pub found_step : Known → (last : Bool) → (rows : List Row) → Step → Ref → List Row
+abbrev pub found_step : StoreModel → (last : Bool) → (rows : List Row) → Step → Ref → List Row
 found_step known last rows (this site) v = Found v ∷ []
 found_step known last rows (var site name) v = rows
 found_step known last rows (key site name) v = found_or_missing site v (entry known v name) ∷ []

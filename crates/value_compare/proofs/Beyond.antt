@@ -5,7 +5,7 @@ use Rattle.std.proofs.lemmas.Bool.Decides.{nat_tests}
 use Rattle.guard_syntax.specs.Sites.{upto, sites_file}
 use Rattle.guard_syntax.specs.Syntax.{File}
 use Rattle.rule_names.specs.Pieces.{OfFile, pieces_file, piece_at, AreInOrder}
-use Rattle.rule_names.proofs.Rises.{times}
+use Rattle.rule_names.proofs.Increases.{times}
 use Rattle.rule_names.proofs.Parts.{Ties, ties-cons, ties-merge, absent}
 use Rattle.rule_names.proofs.Tied.{tied-lets, tied-rules, tied-disjs}
 

@@ -9,7 +9,7 @@ use Rattle.doc_values.specs.declared.kind.Kind.{Kind}
 use Rattle.doc_values.specs.declared.kind.Kind.TheVariants as kind
 use Rattle.rule_meaning.specs.declared.answer.PairAnswer.{PairAnswer}
 use Rattle.value_compare.specs.Entries.{has_equal, may_find_entry}
-use Rattle.value_compare.specs.Held.{holds_if, holds_in, holds_of, may_find, may_find_items, may_find_entries}
+use Rattle.value_compare.specs.BookCovers.{holds_if, holds_in, covers, compares_pattern, may_find_items, may_find_entries}
 use Rattle.rule_meaning.specs.Pairs.{equal, equal_by, same_items, same_entries, same_maps, entry_of, is_yes}
 use Rattle.rule_meaning.specs.Values.{Value, value_of, value_of_key, is_pattern}
 use Rattle.value_compare.proofs.Forests.{from_index, first_value, index_step, index_end}
@@ -94,7 +94,7 @@ second_true : (a b : Bool) → (a && b) ≡ true → b ≡ true
 second_true true b e = e
 second_true false b e = absurd cc
 
-head_held : (book : List (List ℕ)) (l : Label) (kids rest : Forest) → holds_in book (Node l kids rest) ≡ true → holds_of book (value_of l kids) ≡ true
+head_held : (book : List (List ℕ)) (l : Label) (kids rest : Forest) → holds_in book (Node l kids rest) ≡ true → covers book (value_of l kids) ≡ true
 head_held book l kids rest e =
     let mine = holds_if (is_pattern l.kind) book l.text in
     let both = second_true mine (holds_in book kids && holds_in book rest) e in
@@ -106,18 +106,18 @@ rest_held book l kids rest e =
     second_true (holds_in book kids) (holds_in book rest) (second_true mine (holds_in book kids && holds_in book rest) e)
 
 -- a book that holds the patterns of values holds those of each
-pub item_held : (book : List (List ℕ)) (f : Forest) (i : ℕ) → i < count f → holds_in book f ≡ true → holds_of book (first_value (from_index f i)) ≡ true
+pub item_held : (book : List (List ℕ)) (f : Forest) (i : ℕ) → i < count f → holds_in book f ≡ true → covers book (first_value (from_index f i)) ≡ true
 item_held book Nil i h e = absurd (omega arith)
 item_held book (Node l kids rest) zero h e = head_held book l kids rest e
 item_held book (Node l kids rest) (suc i) h e = item_held book rest i (omega arith) (rest_held book l kids rest e)
 
 -- of two lists, no text of the one meets a pattern of the other at an index
-pub item_apart : (f g : Forest) (i : ℕ) → i < count f → i < count g → may_find_items f g ≡ false → may_find (first_value (from_index f i)) (first_value (from_index g i)) ≡ false
+pub item_apart : (f g : Forest) (i : ℕ) → i < count f → i < count g → may_find_items f g ≡ false → compares_pattern (first_value (from_index f i)) (first_value (from_index g i)) ≡ false
 item_apart Nil g i h k e = absurd (omega arith)
 item_apart (Node l lkids lrest) Nil i h k e = absurd (omega arith)
-item_apart (Node l lkids lrest) (Node r rkids rrest) zero h k e = (or_parts (may_find (value_of l lkids) (value_of r rkids)) (may_find_items lrest rrest) e).0
+item_apart (Node l lkids lrest) (Node r rkids rrest) zero h k e = (or_parts (compares_pattern (value_of l lkids) (value_of r rkids)) (may_find_items lrest rrest) e).0
 item_apart (Node l lkids lrest) (Node r rkids rrest) (suc i) h k e =
-    item_apart lrest rrest i (omega arith) (omega arith) (or_parts (may_find (value_of l lkids) (value_of r rkids)) (may_find_items lrest rrest) e).1
+    item_apart lrest rrest i (omega arith) (omega arith) (or_parts (compares_pattern (value_of l lkids) (value_of r rkids)) (may_find_items lrest rrest) e).1
 
 -- nor of two maps at an entry of the one
 pub entry_apart : (f g : Forest) (i : ℕ) → i < count f → may_find_entries f g ≡ false → may_find_entry (first_label (from_index f i)).key (first_value (from_index f i)) g ≡ false
@@ -126,20 +126,20 @@ entry_apart (Node l kids rest) g zero h e = (or_parts (may_find_entry l.key (val
 entry_apart (Node l kids rest) g (suc i) h e = entry_apart rest g i (omega arith) (or_parts (may_find_entry l.key (value_of l kids) g) (may_find_entries rest g) e).1
 
 -- and the value that stands there
-pub entry_value_apart : (key : Option (List ℕ)) (k : List ℕ) (v other : Value) (g : Forest) → key ≡ Some k → entry_of g (Some k) ≡ Some other → may_find_entry key v g ≡ false → may_find v other ≡ false
-entry_value_apart key k v other g is found e = sym (ap (λ o. option_map_or (may_find v) o false) (ap (entry_of g) is ∙ found)) ∙ e
+pub entry_value_apart : (key : Option (List ℕ)) (k : List ℕ) (v other : Value) (g : Forest) → key ≡ Some k → entry_of g (Some k) ≡ Some other → may_find_entry key v g ≡ false → compares_pattern v other ≡ false
+entry_value_apart key k v other g is found e = sym (ap (λ o. option_map_or (compares_pattern v) o false) (ap (entry_of g) is ∙ found)) ∙ e
 
 some_same : (v w : Value) → Some v ≡ Some w → v ≡ w
 some_same v w e = cc
 
 -- the entry of a key likewise
-pub entry_held : (book : List (List ℕ)) (f : Forest) (key : Option (List ℕ)) (v : Value) → holds_in book f ≡ true → entry_of f key ≡ Some v → holds_of book v ≡ true
+pub entry_held : (book : List (List ℕ)) (f : Forest) (key : Option (List ℕ)) (v : Value) → holds_in book f ≡ true → entry_of f key ≡ Some v → covers book v ≡ true
 entry_held book Nil key v h e = absurd cc
 entry_held book (Node l kids rest) None v h e = absurd cc
 entry_held book (Node l kids rest) (Some k) v h e = by_test (entry_held book rest (Some k) v (rest_held book l kids rest h)) (key_is l.key k) refl
   where
-    by_test : (entry_of rest (Some k) ≡ Some v → holds_of book v ≡ true) → (b : Bool) → key_is l.key k ≡ b → holds_of book v ≡ true
-    by_test later true is = let q : value_of l kids ≡ v = some_same (value_of l kids) v (rw is at e) in subst (λ w. holds_of book w ≡ true) q (head_held book l kids rest h)
+    by_test : (entry_of rest (Some k) ≡ Some v → covers book v ≡ true) → (b : Bool) → key_is l.key k ≡ b → covers book v ≡ true
+    by_test later true is = let q : value_of l kids ≡ v = some_same (value_of l kids) v (rw is at e) in subst (λ w. covers book w ≡ true) q (head_held book l kids rest h)
     by_test later false is = later (rw is at e)
 
 -- what an entry of a key says

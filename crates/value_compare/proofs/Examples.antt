@@ -7,7 +7,7 @@ use Rattle.doc_values.specs.declared.kind.Kind.{Kind}
 use Rattle.doc_values.specs.declared.kind.Kind.TheVariants as kind
 use Rattle.guard_syntax.specs.declared.syntax.Op.TheVariants as op
 use Rattle.rule_meaning.specs.declared.answer.PairAnswer.TheVariants.{Yes, No, Apart}
-use Rattle.value_compare.specs.Held.{may_find}
+use Rattle.value_compare.specs.BookCovers.{compares_pattern}
 use Rattle.rule_meaning.specs.Pairs.{pair_of}
 use Rattle.rule_meaning.specs.Values.{Value, value_of_key}
 
@@ -119,29 +119,29 @@ range_on_the_left : pair_of op.Eq (one_to_five true true) (one_to_five true true
 range_on_the_left = refl
 
 -- a text meets the pattern at its own index: not in `["a",1]` and `[1,/a/]`
-text_beside_pattern : may_find (list (item kind.Text (item (kind.Whole (pos 1)) Nil))) (list (item (kind.Whole (pos 1)) (item kind.Pattern Nil))) ≡ false
+text_beside_pattern : compares_pattern (list (item kind.Text (item (kind.Whole (pos 1)) Nil))) (list (item (kind.Whole (pos 1)) (item kind.Pattern Nil))) ≡ false
 text_beside_pattern = refl
 
-text_at_pattern : may_find (list (item kind.Null (item kind.Text Nil))) (list (item kind.Null (item kind.Pattern Nil))) ≡ true
+text_at_pattern : compares_pattern (list (item kind.Null (item kind.Text Nil))) (list (item kind.Null (item kind.Pattern Nil))) ≡ true
 text_at_pattern = refl
 
 -- and at its own key, wherever that stands
-text_at_another_key : may_find (map (entry (codes "a") kind.Text Nil)) (map (entry (codes "b") kind.Pattern Nil)) ≡ false
+text_at_another_key : compares_pattern (map (entry (codes "a") kind.Text Nil)) (map (entry (codes "b") kind.Pattern Nil)) ≡ false
 text_at_another_key = refl
 
-text_at_the_key : may_find (map (entry (codes "a") kind.Text (entry (codes "b") kind.Null Nil))) (map (entry (codes "b") kind.Null (entry (codes "a") kind.Pattern Nil))) ≡ true
+text_at_the_key : compares_pattern (map (entry (codes "a") kind.Text (entry (codes "b") kind.Null Nil))) (map (entry (codes "b") kind.Null (entry (codes "a") kind.Pattern Nil))) ≡ true
 text_at_the_key = refl
 
 abbrev list_in : Forest → Forest
 list_in items = Node (record { kind = kind.List; text = []; key = None; at = 0 }) items Nil
 
 -- in lists of lists too: in `[["a"]]` and `[[/a/]]`, but not where one of them is a list
-texts_in_lists : may_find (list (list_in (item kind.Text Nil))) (list (list_in (item kind.Pattern Nil))) ≡ true
+texts_in_lists : compares_pattern (list (list_in (item kind.Text Nil))) (list (list_in (item kind.Pattern Nil))) ≡ true
 texts_in_lists = refl
 
-text_and_list : may_find (list (item kind.Text Nil)) (list (list_in (item kind.Pattern Nil))) ≡ false
+text_and_list : compares_pattern (list (item kind.Text Nil)) (list (list_in (item kind.Pattern Nil))) ≡ false
 text_and_list = refl
 
 -- a text on the right and a pattern on the left do not meet
-pattern_and_text : may_find (plain kind.Pattern) (text (codes "a")) ≡ false
+pattern_and_text : compares_pattern (plain kind.Pattern) (text (codes "a")) ≡ false
 pattern_and_text = refl

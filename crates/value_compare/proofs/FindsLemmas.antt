@@ -17,8 +17,8 @@ use Rattle.regex.specs.declared.string.matcher.Matcher.{Matcher}
 use Rattle.regex.specs.declared.string.regex.Regex.{Regex}
 use Rattle.regex.specs.declared.string.template.Template.{Template}
 use Rattle.regex.proofs.ForCallers.{is_match_alike, find_all_alike, spans}
-use Rattle.guard_io.specs.Outside.{Rose}
-use Rattle.rule_meaning.specs.Finds.{counted, pattern_in, finds, shallow}
+use Rattle.guard_io.specs.Outside.{FaultCounted}
+use Rattle.rule_meaning.specs.PatternMatch.{counted, pattern_in, finds, shallow}
 use Rattle.rule_meaning.specs.Functions.{replaced_in, replaced_with}
 
 too_deep : (o : Option (Nested Re × Names)) → IfSome o (λ (re, _). 250 < re.depth) → IsNone (shallow o)
@@ -112,10 +112,10 @@ pattern_of_too_big text (hir, names, reads) = read_in (read default_config (char
 -- ---- what is counted
 
 -- what was counted is a pattern
-pub counted-pattern : (before after : ℕ) (text : List ℕ) → Rose (counted before text) (counted after text) → IsSome (pattern_in text)
+pub counted-pattern : (before after : ℕ) (text : List ℕ) → FaultCounted (counted before text) (counted after text) → IsSome (pattern_in text)
 counted-pattern before after text = by-cases (is_some (pattern_in text))
   where
-    by-cases : (b : Bool) → Rose (if b then before else 0) (if b then after else 0) → b ≡ true
+    by-cases : (b : Bool) → FaultCounted (if b then before else 0) (if b then after else 0) → b ≡ true
     by-cases true rose = refl
     by-cases false (inl less) = absurd (omega (arith, less))
     by-cases false (inr most) = absurd (omega (arith, most))

@@ -23,7 +23,7 @@ use Rattle.json_reader.specs.Reading.{verdict}
 use Rattle.json_reader.proofs.Limits.{unique}
 use Rattle.json_reader.proofs.NumberKinds.{number_sound, known_whole, known_fraction}
 use Rattle.json_reader.proofs.Verdicts.{verdict_ok, verdict_err}
-use Rattle.rule_meaning.specs.Finds.{pattern_in}
+use Rattle.rule_meaning.specs.PatternMatch.{pattern_in}
 use Rattle.rule_meaning.specs.Functions.{ForText, IsBoolean, IsDecimal, IsDecimalBy, IsDecoded, IsFloat, IsGiven, IsInt, IsJson, IsLower, IsParsed, IsPart, IsPrinted, IsReplaced, IsReplacement, IsSigned, IsSubstring, IsUnescaped, IsUpper, IsWholeBy, behind_plus, decimal_tree, printed_by, replaced_with, text_of, text_tree, truth_by, truth_tree, whole_tree}
 use Rattle.rule_meaning.specs.Values.{Value}
 

@@ -13,8 +13,8 @@ use Rattle.guard_syntax.specs.Sites.{upto}
 use Rattle.guard_syntax.specs.Syntax.{File, literal}
 use Rattle.rule_names.specs.Pieces.{Piece, OfExpr, piece_at}
 use Rattle.value_compare.specs.Books.{has_text, IsBookOf}
-use Rattle.value_compare.specs.Held.{holds_if, holds_in, holds_of}
-use Rattle.rule_meaning.specs.Known.{tree_of_piece, literal_at}
+use Rattle.value_compare.specs.BookCovers.{holds_if, holds_in, covers}
+use Rattle.rule_meaning.specs.StoreModel.{tree_of_piece, literal_at}
 use Rattle.rule_meaning.specs.Patterns.{Written, written_if, is_sought, sought_text, patterns_in, patterns_of_piece, patterns_at}
 use Rattle.rule_meaning.specs.Values.{Value, value_of, value_at, values_in, is_pattern, has_pattern}
 
@@ -28,14 +28,14 @@ plain-held book (Node l kids rest) e =
 
 -- the first of values side by side
 abbrev pub is_first_held : List (List ℕ) → Forest → Bool
-is_first_held book g = holds_of book (value_of (first_label g) (first_kids g))
+is_first_held book g = covers book (value_of (first_label g) (first_kids g))
 
 chosen-held : (book : List (List ℕ)) (b : Bool) (g h : Forest) → is_first_held book g ≡ true → is_first_held book h ≡ true → is_first_held book (if b then g else h) ≡ true
 chosen-held book true g h e f = e
 chosen-held book false g h e f = f
 
 -- each value of a tree
-pub held-at : (book : List (List ℕ)) (f : Forest) (n : ℕ) → holds_in book f ≡ true → holds_of book (value_at f n) ≡ true
+pub held-at : (book : List (List ℕ)) (f : Forest) (n : ℕ) → holds_in book f ≡ true → covers book (value_at f n) ≡ true
 held-at book Nil n h = refl
 held-at book (Node l kids rest) zero h =
     let first = and_parts (holds_if (is_pattern l.kind) book l.text) (holds_in book kids && holds_in book rest) h in
@@ -47,7 +47,7 @@ held-at book (Node l kids rest) (suc n) h =
     chosen-held book (nat_lt n (size kids)) (find kids n) (find rest (n - size kids)) (held-at book kids n others.0) (held-at book rest (n - size kids) others.1)
 
 -- each of the values side by side
-pub held-item : (book : List (List ℕ)) (g : Forest) (i : ℕ) (d : Value) → i < count g → holds_in book g ≡ true → holds_of book (get_or (values_in g) i d) ≡ true
+pub held-item : (book : List (List ℕ)) (g : Forest) (i : ℕ) (d : Value) → i < count g → holds_in book g ≡ true → covers book (get_or (values_in g) i d) ≡ true
 held-item book Nil i d within h = absurd (omega arith)
 held-item book (Node l kids rest) zero d within h = held-at book (Node l kids rest) zero h
 held-item book (Node l kids rest) (suc i) d within h =

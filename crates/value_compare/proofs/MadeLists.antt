@@ -8,7 +8,7 @@ use Rattle.std.proofs.lemmas.Bool.Decides.{nat_tests}
 use Rattle.std.proofs.lemmas.List.{get_or-map, length-map, map-append}
 use Rattle.std.proofs.lemmas.List.Elements.{All-append}
 use Rattle.doc_values.specs.Tree.{Forest}
-use Rattle.rule_meaning.specs.Known.{Made, made_at}
+use Rattle.rule_meaning.specs.StoreModel.{Made, made_at}
 use Rattle.rule_meaning.specs.Values.{has_pattern}
 use Rattle.value_compare.specs.declared.made.Place.{Place}
 

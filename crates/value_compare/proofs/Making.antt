@@ -13,13 +13,13 @@ use Rattle.std.proofs.lemmas.List.{take-append-drop, take_all, append-nil}
 use Rattle.std.proofs.lemmas.List.Elements.{All-append}
 use Rattle.doc_values.specs.Tree.{Label, Forest, Nil, Node, size}
 use Rattle.doc_values.specs.Places.{label_at}
-use Rattle.guard_io.specs.Outside.{Rose}
+use Rattle.guard_io.specs.Outside.{FaultCounted}
 use Rattle.guard_syntax.specs.Sites.{upto}
 use Rattle.guard_syntax.specs.Syntax.{File, literal}
 use Rattle.rule_names.specs.Pieces.{Piece, OfExpr, piece_at}
 use Rattle.value_compare.specs.Books.{has_text}
-use Rattle.rule_meaning.specs.Finds.{pattern_in}
-use Rattle.rule_meaning.specs.Known.{tree_of_piece, literal_at}
+use Rattle.rule_meaning.specs.PatternMatch.{pattern_in}
+use Rattle.rule_meaning.specs.StoreModel.{tree_of_piece, literal_at}
 use Rattle.value_compare.specs.Making.{AreRead, IsReadBook, Gains, IsNextOf, written}
 use Rattle.rule_meaning.specs.Patterns.{Written, written_if, is_sought, sought_text, patterns_in, patterns_at, patterns_of, patterns_of_piece}
 use Rattle.rule_meaning.specs.Values.{is_text}
@@ -89,7 +89,7 @@ next-one ws text at is = ([], [], is, λ k d h. absurd (omega arith))
 
 -- ---- faults
 
-pub rose-later : (old mid new : ℕ) → old ≤ mid → Rose mid new → Rose old new
+pub rose-later : (old mid new : ℕ) → old ≤ mid → FaultCounted mid new → FaultCounted old new
 rose-later old mid new kept (inl rose) = inl (omega arith)
 rose-later old mid new kept (inr last) = inr last
 

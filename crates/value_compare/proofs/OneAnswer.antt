@@ -15,9 +15,9 @@ use Rattle.guard_syntax.specs.declared.row.Row.{Row}
 use Rattle.guard_syntax.specs.declared.row.Row.TheVariants as row
 use Rattle.regex.specs.Patterns.{Re}
 use Rattle.regex_syntax.specs.Grammar.{Names}
-use Rattle.rule_meaning.specs.Finds.{pattern_in}
+use Rattle.rule_meaning.specs.PatternMatch.{pattern_in}
 use Rattle.rule_meaning.specs.Functions.{AreRows, ForText, Functions, Gives, IsDecimal, IsDecimalBy, IsGiven, IsParsed, IsPart, IsReplacement, IsRow, IsRowFor, IsSigned, IsUnescaped, IsWholeBy, MadeRow, argument, decimal_tree, new_or_missing, printed_by, replaced_with, single_text, single_whole, text_of, text_tree, truth_by, truth_tree, whole_tree}
-use Rattle.rule_meaning.specs.Known.{Known, stands_for}
+use Rattle.rule_meaning.specs.StoreModel.{StoreModel, stands_for}
 use Rattle.rule_meaning.specs.Values.{Value}
 
 some-same : {X : Type 0} (o : Option X) (x y : X) → o ≡ Some x → o ≡ Some y → x ≡ y
@@ -66,7 +66,7 @@ text-unique G each None x y is other = absurd is
 text-unique G each (Some text) x y is other = each text x y is other
 
 -- a function gives one tree at most for a value
-Gives-unique : (known : Known) (f : Function) (args : List (List Row)) (v : Value) (x y : Forest) → Gives known f args v x → Gives known f args v y → x ≡ y
+Gives-unique : (known : StoreModel) (f : Function) (args : List (List Row)) (v : Value) (x y : Forest) → Gives known f args v x → Gives known f args v y → x ≡ y
 Gives-unique known function.JsonParse args v x y is other = text-unique IsParsed (λ text s t a b. unique text s t a.1 b.1) (text_of v) x y is other
 Gives-unique known function.RegexReplace args v x y is other =
     text-unique (IsReplacement (single_text known (argument args 1)) (single_text known (argument args 2))) (IsReplacement-unique (single_text known (argument args 1)) (single_text known (argument args 2))) (text_of v) x y is other
@@ -90,7 +90,7 @@ given-unique P one None (Some y) none is = absurd (none y is)
 given-unique P one (Some x) None is none = absurd (none x is)
 given-unique P one (Some x) (Some y) is other = ap (λ t. Some t) (one x y is other)
 
-module _ (G : Value → Forest → Type 0) (one : (v : Value) (x y : Forest) → G v x → G v y → x ≡ y) (known : Known) (call : ℕ) where
+module _ (G : Value → Forest → Type 0) (one : (v : Value) (x y : Forest) → G v x → G v y → x ≡ y) (known : StoreModel) (call : ℕ) where
   row_for-unique : (o : Option Value) (a b : MadeRow) → IsRowFor G call o a → IsRowFor G call o b → a ≡ b
   row_for-unique None a b is other = is ∙ sym other
   row_for-unique (Some v) a b (given, fits, is) (given2, fits2, other) = is ∙ ap (new_or_missing call) (given-unique (G v) (one v) given given2 fits fits2) ∙ sym other
@@ -110,7 +110,7 @@ module _ (G : Value → Forest → Type 0) (one : (v : Value) (x y : Forest) →
 
 -- ---- calls
 
-pub answers-same : (known : Known) (f : Function) (call : ℕ) (args : List (List Row)) (a b : List MadeRow) → Functions known f call args a → Functions known f call args b → a ≡ b
+pub answers-same : (known : StoreModel) (f : Function) (call : ℕ) (args : List (List Row)) (a b : List MadeRow) → Functions known f call args a → Functions known f call args b → a ≡ b
 answers-same known function.Count call args a b is other = is ∙ sym other
 answers-same known function.Join call args a b is other = is ∙ sym other
 answers-same known function.JsonParse call args a b is other = rows-unique (Gives known function.JsonParse args) (Gives-unique known function.JsonParse args) known call (argument args 0) a b is other

@@ -2,7 +2,7 @@
 use Rattle.std.specs.Prelude.{ℕ, Bool, false, List, Option}
 use Rattle.std.specs.Option.{option_map_or}
 use Rattle.doc_values.specs.Tree.{Forest}
-use Rattle.value_compare.specs.Held.{may_find}
+use Rattle.value_compare.specs.BookCovers.{compares_pattern}
 use Rattle.rule_meaning.specs.Pairs.{entry_of, equal, is_yes}
 use Rattle.rule_meaning.specs.Values.{Value}
 
@@ -12,4 +12,4 @@ has_equal key v entries = option_map_or (λ other. is_yes (equal v other)) (entr
 
 -- the entry of a key is there, and a text of a value stands over against a pattern of it
 abbrev pub may_find_entry : Option (List ℕ) → Value → Forest → Bool
-may_find_entry key v entries = option_map_or (may_find v) (entry_of entries key) false
+may_find_entry key v entries = option_map_or (compares_pattern v) (entry_of entries key) false

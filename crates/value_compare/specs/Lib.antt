@@ -1,6 +1,6 @@
 pub mod Books
 pub mod Entries
-pub mod Held
+pub mod BookCovers
 pub mod Making
 pub mod Matching
 pub mod Stores

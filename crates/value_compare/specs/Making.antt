@@ -3,7 +3,7 @@ use Rattle.std.specs.Prelude.{ℕ, ◌≡◌, true, ◌||◌, List, ◌∷◌, �
 use Rattle.std.specs.List.{list_any}
 use Rattle.std.specs.Str.{bytes_eq}
 use Rattle.value_compare.specs.Books.{has_text}
-use Rattle.rule_meaning.specs.Finds.{pattern_in}
+use Rattle.rule_meaning.specs.PatternMatch.{pattern_in}
 use Rattle.doc_values.specs.Tree.{Label}
 use Rattle.rule_meaning.specs.Patterns.{Written, written_if}
 use Rattle.rule_meaning.specs.Values.{is_pattern}

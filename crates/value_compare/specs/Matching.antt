@@ -4,7 +4,7 @@ use Rattle.regex.specs.Patterns.{find_str, find_all_str}
 use Rattle.regex.specs.Strings.{matcher_pattern, IsWrittenBy}
 use Rattle.regex.specs.declared.string.matcher.Matcher.{Matcher}
 use Rattle.regex.specs.declared.string.template.Template.{Template}
-use Rattle.rule_meaning.specs.Finds.{finds}
+use Rattle.rule_meaning.specs.PatternMatch.{finds}
 use Rattle.rule_meaning.specs.Functions.{replaced_in}
 
 -- in each text a matcher finds what the pattern of a text says

@@ -2,7 +2,7 @@
 ghost use Rattle.std.specs.Prelude.{◌≡◌, ℕ, Bool, true, false, List, IfOk, IsOk};
 ghost use Rattle.doc_values.specs.Places.{label_at, kids_at};
 ghost use Rattle.doc_values.specs.Tree.{Nil};
-ghost use Rattle.value_compare.specs.Held.{holds_if, holds_in, holds_of, may_find, may_find_entries, may_find_items};
+ghost use Rattle.value_compare.specs.BookCovers.{holds_if, holds_in, covers, compares_pattern, may_find_entries, may_find_items};
 ghost use Rattle.rule_meaning.specs.Pairs.{equal, equal_by, same_items, same_maps};
 ghost use Rattle.value_compare.specs.Entries.{has_equal, may_find_entry};
 ghost use Rattle.rule_meaning.specs.Values.{is_pattern, value_at, value_of_key};
@@ -63,7 +63,7 @@ fn pair_text(
     left: &str,
     right: View<'_, '_>,
 ) -> Result<PairAnswer, AllocError>
-    requires held { holds_of matchers.old.book.now (see_view right) ≡ true }
+    requires held { covers matchers.old.book.now (see_view right) ≡ true }
     ensures answer { IfOk result (λ a. a ≡ equal (value_of_key left.now) (see_view right.entry)) }
     ensures kept { matchers.new.book.now ≡ matchers.old.book.now }
     ensures no_memory { is_pattern (see_view right.entry).kind ≡ false → IsOk result }
@@ -82,10 +82,10 @@ fn pair_values(
     left: Cursor<'_, '_>,
     right: Cursor<'_, '_>,
 ) -> Result<PairAnswer, AllocError>
-    requires held { holds_of matchers.old.book.now (value_at right.doc.now right.id) ≡ true }
+    requires held { covers matchers.old.book.now (value_at right.doc.now right.id) ≡ true }
     ensures answer { IfOk result (λ a. a ≡ equal (value_at left.entry.doc.now left.entry.id) (value_at right.entry.doc.now right.entry.id)) }
     ensures kept { matchers.new.book.now ≡ matchers.old.book.now }
-    ensures no_memory { may_find (value_at left.entry.doc.now left.entry.id) (value_at right.entry.doc.now right.entry.id) ≡ false → IsOk result }
+    ensures no_memory { compares_pattern (value_at left.entry.doc.now left.entry.id) (value_at right.entry.doc.now right.entry.id) ≡ false → IsOk result }
 {
     match left.kind() {
         Kind::Null => Ok(pair_null(right.kind())),
@@ -192,10 +192,10 @@ pub(crate) fn pair_equal(
     left: View<'_, '_>,
     right: View<'_, '_>,
 ) -> Result<PairAnswer, AllocError>
-    requires held { holds_of matchers.old.book.now (see_view right) ≡ true }
+    requires held { covers matchers.old.book.now (see_view right) ≡ true }
     ensures answer { IfOk result (λ a. a ≡ equal (see_view left.entry) (see_view right.entry)) }
     ensures kept { matchers.new.book.now ≡ matchers.old.book.now }
-    ensures no_memory { may_find (see_view left.entry) (see_view right.entry) ≡ false → IsOk result }
+    ensures no_memory { compares_pattern (see_view left.entry) (see_view right.entry) ≡ false → IsOk result }
 {
     match left {
         View::Key(text) => pair_text(matchers, text, right),

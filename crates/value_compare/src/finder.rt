@@ -1,6 +1,6 @@
 //! A pattern with what finds it.
 ghost use Rattle.std.specs.Prelude.{◌≡◌, IfOk};
-ghost use Rattle.rule_meaning.specs.Finds.{finds};
+ghost use Rattle.rule_meaning.specs.PatternMatch.{finds};
 ghost use Rattle.value_compare.specs.Matching.{IsMatcherOf};
 
 use crate::pattern::Pattern;

@@ -1,7 +1,7 @@
 //! Trees that function calls made.
 ghost use Rattle.std.specs.Prelude.{◌≡◌, ◌++◌, ◌∷◌, ℕ, [], Option, None, Some, MatchOption, IfSome, OnOk, OnErr, false};
 ghost use Rattle.doc_values.specs.Tree.{Forest};
-ghost use Rattle.rule_meaning.specs.Known.{Made, made_at};
+ghost use Rattle.rule_meaning.specs.StoreModel.{Made, made_at};
 ghost use Rattle.rule_meaning.specs.Values.{has_pattern};
 
 use doc_values::Doc;
@@ -25,7 +25,7 @@ pub struct MadeTrees {
 impl Model for MadeTrees {
     ghost use Rattle.std.specs.Prelude.{◌≡◌, List, map, All, false};
     ghost use Rattle.std.specs.Coded.{coded_list};
-    ghost use Rattle.rule_meaning.specs.Known.{Made, made_code};
+    ghost use Rattle.rule_meaning.specs.StoreModel.{Made, made_code};
     ghost use Rattle.rule_meaning.specs.Values.{has_pattern};
 
     ghost Value = { List Made };

@@ -2,10 +2,11 @@
 ghost use Rattle.std.specs.Prelude.{◌≡◌, ◌∷◌, ◌++◌, ◌<◌, ◌≤◌, ℕ, List, [], All, length, IfOk, IfSome, MatchOption, OnOk, IsErrOf, IsNone, IsSome, true};
 ghost use Rattle.doc_values.specs.Places.{label_at};
 ghost use Rattle.doc_values.specs.Tree.{has_text};
-ghost use Rattle.guard_io.specs.Outside.{Rose};
+ghost use Rattle.guard_io.specs.Outside.{FaultCounted};
 ghost use Rattle.guard_syntax.specs.Seen.{see_file};
-ghost use Rattle.value_compare.specs.Books.{IsBookOf, IsNext};
-ghost use Rattle.rule_meaning.specs.Finds.{pattern_in};
+ghost use Rattle.value_compare.specs.Books.{IsBookOf};
+ghost use Rattle.rule_meaning.specs.NextPattern.{IsNextPattern};
+ghost use Rattle.rule_meaning.specs.PatternMatch.{pattern_in};
 ghost use Rattle.value_compare.specs.Making.{AreRead, IsReadBook, Gains, IsNextOf, written};
 ghost use Rattle.rule_meaning.specs.Patterns.{is_sought, patterns_at, patterns_in, patterns_of, sought_text};
 
@@ -38,10 +39,10 @@ pub fn pattern_book<M: PatternMaker>(
     ensures made { IfOk result (λ book. IsBookOf (see_file file.now.raw) book) }
     ensures read { OnOk result (All (λ w. IsSome (pattern_in w.text)) (patterns_of (see_file file.now.raw))) }
     ensures bad { (at : ℕ) → IsErrOf result (BookRefusal.BadPattern at)
-        → (text : List ℕ) × IsNext (see_file file.now.raw) text at × IsNone (pattern_in text) }
+        → (text : List ℕ) × IsNextPattern (see_file file.now.raw) text at × IsNone (pattern_in text) }
     ensures refused { (at : ℕ) → IsErrOf result (BookRefusal.PatternRefused at)
-        → (text : List ℕ) × IsNext (see_file file.now.raw) text at
-        × Rose (M.faults maker.old text) (M.faults maker.new text) }
+        → (text : List ℕ) × IsNextPattern (see_file file.now.raw) text at
+        × FaultCounted (M.faults maker.old text) (M.faults maker.new text) }
     ensures kept { (other : List ℕ) → M.faults maker.old other ≤ M.faults maker.new other }
 {
     let mut book = PatternBook::new(alloc);
@@ -87,7 +88,7 @@ fn add_site<M: PatternMaker>(
         → (text : List ℕ) × IsNextOf (patterns_at (see_file file.now.raw) site) text at × IsNone (pattern_in text) }
     ensures refused { (at : ℕ) → IsErrOf result (BookRefusal.PatternRefused at)
         → (text : List ℕ) × IsNextOf (patterns_at (see_file file.now.raw) site) text at
-        × Rose (M.faults maker.old text) (M.faults maker.new text) }
+        × FaultCounted (M.faults maker.old text) (M.faults maker.new text) }
     ensures kept { (other : List ℕ) → M.faults maker.old other ≤ M.faults maker.new other }
 {
     match literal(file, site) {
@@ -112,7 +113,7 @@ fn add_literal<M: PatternMaker>(
         → (text : List ℕ) × IsNextOf (sought_text sought tree.now ++ patterns_in tree.now) text at × IsNone (pattern_in text) }
     ensures refused { (at : ℕ) → IsErrOf result (BookRefusal.PatternRefused at)
         → (text : List ℕ) × IsNextOf (sought_text sought tree.now ++ patterns_in tree.now) text at
-        × Rose (M.faults maker.old text) (M.faults maker.new text) }
+        × FaultCounted (M.faults maker.old text) (M.faults maker.new text) }
     ensures kept { (other : List ℕ) → M.faults maker.old other ≤ M.faults maker.new other }
 {
     add_sought(alloc, tree, sought, book, maker)?;
@@ -135,7 +136,7 @@ fn add_sought<M: PatternMaker>(
         → (text : List ℕ) × (sought_text sought tree.now ≡ record { text = text; at = at } ∷ []) × IsNone (pattern_in text) }
     ensures refused { (at : ℕ) → IsErrOf result (BookRefusal.PatternRefused at)
         → (text : List ℕ) × (sought_text sought tree.now ≡ record { text = text; at = at } ∷ [])
-        × Rose (M.faults maker.old text) (M.faults maker.new text) }
+        × FaultCounted (M.faults maker.old text) (M.faults maker.new text) }
     ensures kept { (other : List ℕ) → M.faults maker.old other ≤ M.faults maker.new other }
 {
     match text_root(tree, sought) {
@@ -175,7 +176,7 @@ fn add_tree<M: PatternMaker>(
         → (text : List ℕ) × IsNextOf (patterns_in tree.now) text at × IsNone (pattern_in text) }
     ensures refused { (at : ℕ) → IsErrOf result (BookRefusal.PatternRefused at)
         → (text : List ℕ) × IsNextOf (patterns_in tree.now) text at
-        × Rose (M.faults maker.old text) (M.faults maker.new text) }
+        × FaultCounted (M.faults maker.old text) (M.faults maker.new text) }
     ensures kept { (other : List ℕ) → M.faults maker.old other ≤ M.faults maker.new other }
 {
     for id in 0..tree.len() {
@@ -199,7 +200,7 @@ fn add_node<M: PatternMaker>(
         → (text : List ℕ) × (written (label_at node.entry.doc.now node.entry.id) ≡ record { text = text; at = at } ∷ []) × IsNone (pattern_in text) }
     ensures refused { (at : ℕ) → IsErrOf result (BookRefusal.PatternRefused at)
         → (text : List ℕ) × (written (label_at node.entry.doc.now node.entry.id) ≡ record { text = text; at = at } ∷ [])
-        × Rose (M.faults maker.old text) (M.faults maker.new text) }
+        × FaultCounted (M.faults maker.old text) (M.faults maker.new text) }
     ensures kept { (other : List ℕ) → M.faults maker.old other ≤ M.faults maker.new other }
 {
     match node.kind() {
@@ -222,7 +223,7 @@ fn add_text<M: PatternMaker>(
     ensures book { OnOk result (IsReadBook book.new) }
     ensures bad { (place : ℕ) → IsErrOf result (BookRefusal.BadPattern place) → (place ≡ at) × IsNone (pattern_in text.now) }
     ensures refused { (place : ℕ) → IsErrOf result (BookRefusal.PatternRefused place)
-        → (place ≡ at) × Rose (M.faults maker.old text.now) (M.faults maker.new text.now) }
+        → (place ≡ at) × FaultCounted (M.faults maker.old text.now) (M.faults maker.new text.now) }
     ensures kept { (other : List ℕ) → M.faults maker.old other ≤ M.faults maker.new other }
 {
     if book.has(text) {

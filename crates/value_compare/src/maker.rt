@@ -1,8 +1,8 @@
 //! What makes patterns of texts.
 ghost use Rattle.std.specs.Prelude.{◌≡◌, ◌≤◌, ℕ, nat_eq, true, List, IfOk, IsErrOf, IsNone, IsSome, OnOk};
 ghost use Rattle.std.specs.List.{list_any};
-ghost use Rattle.guard_io.specs.Outside.{Rose, one_more};
-ghost use Rattle.rule_meaning.specs.Finds.{counted, pattern_in};
+ghost use Rattle.guard_io.specs.Outside.{FaultCounted, one_more};
+ghost use Rattle.rule_meaning.specs.PatternMatch.{counted, pattern_in};
 
 use crate::pattern::Pattern;
 use regex::{Error, Regex};
@@ -29,7 +29,7 @@ pub trait PatternMaker {
         ensures read { OnOk result (IsSome (pattern_in text.now)) }
         ensures syntax { IsErrOf result PatternFault.Syntax → IsNone (pattern_in text.now) }
         ensures too_large { IsErrOf result PatternFault.TooLarge
-            → Rose (faults self.old text.now) (faults self.new text.now) }
+            → FaultCounted (faults self.old text.now) (faults self.new text.now) }
         ensures kept { (other : List ℕ) → faults self.old other ≤ faults self.new other };
 }
 
@@ -65,7 +65,7 @@ impl PatternMaker for RegexMaker {
         ensures syntax { IsErrOf result PatternFault.Syntax → IsNone (pattern_in text.now) }
         ensures large { IsErrOf result PatternFault.TooLarge → IsSome (pattern_in text.now) }
         ensures too_large { IsErrOf result PatternFault.TooLarge
-            → Rose (counted self.old.faults text.now) (counted self.new.faults text.now) }
+            → FaultCounted (counted self.old.faults text.now) (counted self.new.faults text.now) }
         ensures kept { (other : List ℕ) → counted self.old.faults other ≤ counted self.new.faults other }
     {
         let made = read_pattern(alloc, text);

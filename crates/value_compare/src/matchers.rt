@@ -2,7 +2,7 @@
 ghost use Rattle.std.specs.Prelude.{◌≡◌, ℕ, true, IfOk, Some, nat_eq, slice_get};
 ghost use Rattle.indexmap.specs.IndexMap.{get};
 ghost use Rattle.value_compare.specs.Books.{has_text};
-ghost use Rattle.rule_meaning.specs.Finds.{finds};
+ghost use Rattle.rule_meaning.specs.PatternMatch.{finds};
 
 use crate::book::PatternBook;
 use crate::finder::Finder;

@@ -2,7 +2,7 @@
 ghost use Rattle.std.specs.Prelude.{◌≡◌, true, false, map, IfOk, MatchOption};
 ghost use Rattle.std.specs.List.{list_all, list_any};
 ghost use Rattle.doc_values.specs.Places.{kids_at};
-ghost use Rattle.value_compare.specs.Held.{holds_in, holds_of};
+ghost use Rattle.value_compare.specs.BookCovers.{holds_in, covers};
 ghost use Rattle.rule_meaning.specs.Pairs.{equal, is_no, is_yes, told};
 ghost use Rattle.rule_meaning.specs.RowTests.{is_in, is_member_of_some, is_not_in, is_some_right, member};
 ghost use Rattle.rule_meaning.specs.Values.{is_list, value_at, values_in};
@@ -23,7 +23,7 @@ pub(crate) fn within(
     rights: &[View<'_, '_>],
 ) -> Result<bool, AllocError>
     requires some { is_some_right (map see_view rights.now) ≡ true }
-    requires held { list_all (λ r. holds_of matchers.old.book.now (see_view r)) rights.now ≡ true }
+    requires held { list_all (λ r. covers matchers.old.book.now (see_view r)) rights.now ≡ true }
     ensures { IfOk result (λ b. b ≡ is_in (is_list (see_view left.entry).kind) (see_view left.entry) (map see_view rights.entry.now)) }
 {
     if is_member(matchers, left, rights)? {
@@ -42,7 +42,7 @@ pub(crate) fn outside(
     rights: &[View<'_, '_>],
 ) -> Result<bool, AllocError>
     requires some { is_some_right (map see_view rights.now) ≡ true }
-    requires held { list_all (λ r. holds_of matchers.old.book.now (see_view r)) rights.now ≡ true }
+    requires held { list_all (λ r. covers matchers.old.book.now (see_view r)) rights.now ≡ true }
     ensures { IfOk result (λ b. b ≡ is_not_in (is_list (see_view left.entry).kind) (see_view left.entry) (map see_view rights.entry.now)) }
 {
     let Some(list) = list_of(left) else {
@@ -74,7 +74,7 @@ fn member(
     left: View<'_, '_>,
     right: View<'_, '_>,
 ) -> Result<PairAnswer, AllocError>
-    requires { holds_of matchers.old.book.now (see_view right) ≡ true }
+    requires { covers matchers.old.book.now (see_view right) ≡ true }
     ensures answer { IfOk result (λ a. a ≡ member (see_view left.entry) (see_view right.entry)) }
     ensures kept { matchers.new.book.now ≡ matchers.old.book.now }
 {
@@ -110,7 +110,7 @@ fn is_member(
     left: View<'_, '_>,
     rights: &[View<'_, '_>],
 ) -> Result<bool, AllocError>
-    requires { list_all (λ r. holds_of matchers.old.book.now (see_view r)) rights.now ≡ true }
+    requires { list_all (λ r. covers matchers.old.book.now (see_view r)) rights.now ≡ true }
     ensures answer { IfOk result (λ b. b ≡ is_member_of_some (map see_view rights.entry.now) (see_view left.entry)) }
     ensures kept { matchers.new.book.now ≡ matchers.old.book.now }
 {
@@ -129,7 +129,7 @@ fn is_outside_each(
     left: View<'_, '_>,
     rights: &[View<'_, '_>],
 ) -> Result<bool, AllocError>
-    requires { list_all (λ r. holds_of matchers.old.book.now (see_view r)) rights.now ≡ true }
+    requires { list_all (λ r. covers matchers.old.book.now (see_view r)) rights.now ≡ true }
     ensures { IfOk result (λ b. b ≡ list_all (λ r. is_no (member (see_view left.entry) r)) (map see_view rights.entry.now)) }
 {
     for right in rights {
@@ -147,7 +147,7 @@ fn are_members(
     list: Cursor<'_, '_>,
     rights: &[View<'_, '_>],
 ) -> Result<bool, AllocError>
-    requires { list_all (λ r. holds_of matchers.old.book.now (see_view r)) rights.now ≡ true }
+    requires { list_all (λ r. covers matchers.old.book.now (see_view r)) rights.now ≡ true }
     ensures { IfOk result (λ b. b ≡ list_all (is_member_of_some (map see_view rights.entry.now)) (values_in (kids_at list.entry.doc.now list.entry.id))) }
 {
     for i in 0..list.len() {
@@ -164,7 +164,7 @@ fn has_member(
     list: Cursor<'_, '_>,
     rights: &[View<'_, '_>],
 ) -> Result<bool, AllocError>
-    requires { list_all (λ r. holds_of matchers.old.book.now (see_view r)) rights.now ≡ true }
+    requires { list_all (λ r. covers matchers.old.book.now (see_view r)) rights.now ≡ true }
     ensures { IfOk result (λ b. b ≡ list_any (is_member_of_some (map see_view rights.entry.now)) (values_in (kids_at list.entry.doc.now list.entry.id))) }
 {
     for i in 0..list.len() {

@@ -2,7 +2,7 @@
 ghost use Rattle.std.specs.Prelude.{◌≡◌};
 ghost use Rattle.std.specs.Option.{option_map_or};
 ghost use Rattle.guard_syntax.specs.declared.syntax.Op.{Op};
-ghost use Rattle.rule_meaning.specs.Pairs.{told, holds_of, ordered};
+ghost use Rattle.rule_meaning.specs.Pairs.{told, covers, ordered};
 ghost use Rattle.value_compare.specs.Views.{see_view};
 
 use crate::view::View;
@@ -13,7 +13,7 @@ use std::cmp::Ordering;
 
 /// Whether an order is the one that an operator asks for.
 fn holds(op: Op, order: Ordering) -> bool
-    ensures { result ≡ holds_of op order }
+    ensures { result ≡ covers op order }
 {
     match op {
         Op::Lt => order.is_lt(),
@@ -26,7 +26,7 @@ fn holds(op: Op, order: Ordering) -> bool
 
 /// The order of two values, texts by their bytes; None where they have none.
 fn order_of(left: View<'_, '_>, right: View<'_, '_>) -> Option<Ordering>
-    ensures { (op : Op) → ordered op (see_view left.entry) (see_view right.entry) ≡ option_map_or (λ order. told (holds_of op order)) result PairAnswer.Apart }
+    ensures { (op : Op) → ordered op (see_view left.entry) (see_view right.entry) ≡ option_map_or (λ order. told (covers op order)) result PairAnswer.Apart }
 {
     match left.kind() {
         Kind::Whole(a) => match right.kind() {

@@ -1,6 +1,6 @@
 //! Pairs of values.
 ghost use Rattle.std.specs.Prelude.{◌≡◌, true, false, IfOk, IsOk};
-ghost use Rattle.value_compare.specs.Held.{holds_of, may_find};
+ghost use Rattle.value_compare.specs.BookCovers.{covers, compares_pattern};
 ghost use Rattle.rule_meaning.specs.Pairs.{is_pair_operator, is_order, pair_of};
 ghost use Rattle.value_compare.specs.Views.{see_view};
 
@@ -22,9 +22,9 @@ pub fn pair(
     book: &PatternBook,
 ) -> Result<PairAnswer, AllocError>
     requires op { is_pair_operator op ≡ true }
-    requires held { holds_of book.now (see_view right) ≡ true }
+    requires held { covers book.now (see_view right) ≡ true }
     ensures answer { IfOk result (λ a. a ≡ pair_of op (see_view left.entry) (see_view right.entry)) }
-    ensures no_memory { may_find (see_view left.entry) (see_view right.entry) ≡ false → IsOk result }
+    ensures no_memory { compares_pattern (see_view left.entry) (see_view right.entry) ≡ false → IsOk result }
     ensures no_memory_of_order { is_order op ≡ true → IsOk result }
 {
     pair_by(&mut Matchers::new(alloc, book), op, left, right)
@@ -38,10 +38,10 @@ pub(crate) fn pair_by(
     right: View<'_, '_>,
 ) -> Result<PairAnswer, AllocError>
     requires op { is_pair_operator op ≡ true }
-    requires held { holds_of matchers.old.book.now (see_view right) ≡ true }
+    requires held { covers matchers.old.book.now (see_view right) ≡ true }
     ensures answer { IfOk result (λ a. a ≡ pair_of op (see_view left.entry) (see_view right.entry)) }
     ensures kept { matchers.new.book.now ≡ matchers.old.book.now }
-    ensures no_memory { may_find (see_view left.entry) (see_view right.entry) ≡ false → IsOk result }
+    ensures no_memory { compares_pattern (see_view left.entry) (see_view right.entry) ≡ false → IsOk result }
     ensures no_memory_of_order { is_order op ≡ true → IsOk result }
 {
     match op {

@@ -1,6 +1,6 @@
 //! Patterns, which the crate of regular expressions reads, finds and replaces.
 ghost use Rattle.std.specs.Prelude.{◌≡◌, IfOk, IsSome};
-ghost use Rattle.rule_meaning.specs.Finds.{pattern_in};
+ghost use Rattle.rule_meaning.specs.PatternMatch.{pattern_in};
 ghost use Rattle.value_compare.specs.Matching.{IsMatcherOf, IsReplacerOf};
 
 use regex::{Matcher, Regex, Template};

@@ -4,8 +4,8 @@ ghost use Rattle.std.specs.List.{list_all, list_any};
 ghost use Rattle.std.specs.Option.{option_map_or};
 ghost use Rattle.guard_syntax.specs.Seen.{see_file};
 ghost use Rattle.value_compare.specs.Books.{IsBookOf};
-ghost use Rattle.value_compare.specs.Held.{holds_of};
-ghost use Rattle.rule_meaning.specs.Known.{meant, is_known};
+ghost use Rattle.value_compare.specs.BookCovers.{covers};
+ghost use Rattle.rule_meaning.specs.StoreModel.{meant, is_known};
 ghost use Rattle.rule_meaning.specs.Pairs.{equal, is_no, is_order, is_yes, ordered};
 ghost use Rattle.rule_meaning.specs.RowTests.{binary, found_of, is_binary, is_some_right, row_test_of};
 ghost use Rattle.value_compare.specs.Stores.{see_store};
@@ -82,7 +82,7 @@ fn has_right(op: Op) -> bool
 /// The value that a row has found.
 fn found<'v, 's>(row: &Row, store: &'v Store<'_, 's>) -> Option<View<'v, 's>>
     ensures value { MatchOption result (meant (see_store store.entry.now) row.now ≡ None) (λ seen. meant (see_store store.entry.now) row.now ≡ Some (see_view seen)) }
-    ensures held { (book : List (List ℕ)) → IsBookOf (see_file store.entry.now.file.now.raw) book → IfSome result (λ seen. holds_of book (see_view seen) ≡ true) }
+    ensures held { (book : List (List ℕ)) → IsBookOf (see_file store.entry.now.file.now.raw) book → IfSome result (λ seen. covers book (see_view seen) ≡ true) }
 {
     match row {
         Row::Found(value) => store.view(*value),
@@ -109,7 +109,7 @@ fn found_rows<'v, 's>(
     store: &'v Store<'_, 's>,
 ) -> Result<Vec<View<'v, 's>>, AllocError>
     ensures values { IfOk result (λ views. map see_view views.items ≡ found_of (map (meant (see_store store.entry.now)) rows.now)) }
-    ensures held { (book : List (List ℕ)) → IsBookOf (see_file store.entry.now.file.now.raw) book → IfOk result (λ views. list_all (λ r. holds_of book (see_view r)) views.items ≡ true) }
+    ensures held { (book : List (List ℕ)) → IsBookOf (see_file store.entry.now.file.now.raw) book → IfOk result (λ views. list_all (λ r. covers book (see_view r)) views.items ≡ true) }
 {
     let mut views = Vec::new(alloc);
     for row in rows {
@@ -131,7 +131,7 @@ fn binary_test(
     requires op { is_binary op ≡ true }
     requires order { is_order op ≡ false }
     requires some { is_some_right (map see_view rights.now) ≡ true }
-    requires held { list_all (λ r. holds_of matchers.old.book.now (see_view r)) rights.now ≡ true }
+    requires held { list_all (λ r. covers matchers.old.book.now (see_view r)) rights.now ≡ true }
     ensures { IfOk result (λ passes. passes ≡ binary op not (see_view left.entry) (map see_view rights.entry.now)) }
 {
     match op {
@@ -159,7 +159,7 @@ fn equals_some(
     left: View<'_, '_>,
     rights: &[View<'_, '_>],
 ) -> Result<bool, AllocError>
-    requires { list_all (λ r. holds_of matchers.old.book.now (see_view r)) rights.now ≡ true }
+    requires { list_all (λ r. covers matchers.old.book.now (see_view r)) rights.now ≡ true }
     ensures { IfOk result (λ b. b ≡ list_any (λ r. is_yes (equal (see_view left.entry) r)) (map see_view rights.entry.now)) }
 {
     for right in rights {
@@ -177,7 +177,7 @@ fn differs_from_each(
     left: View<'_, '_>,
     rights: &[View<'_, '_>],
 ) -> Result<bool, AllocError>
-    requires { list_all (λ r. holds_of matchers.old.book.now (see_view r)) rights.now ≡ true }
+    requires { list_all (λ r. covers matchers.old.book.now (see_view r)) rights.now ≡ true }
     ensures { IfOk result (λ b. b ≡ list_all (λ r. is_no (equal (see_view left.entry) r)) (map see_view rights.entry.now)) }
 {
     for right in rights {

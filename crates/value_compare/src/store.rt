@@ -2,8 +2,8 @@
 ghost use Rattle.std.specs.Prelude.{◌≡◌, ◌++◌, ◌∷◌, ℕ, [], Option, None, Some, MatchOption, IfSome, OnOk, OnErr, List, true, false};
 ghost use Rattle.guard_syntax.specs.Seen.{see_file};
 ghost use Rattle.value_compare.specs.Books.{IsBookOf};
-ghost use Rattle.value_compare.specs.Held.{holds_in, holds_of};
-ghost use Rattle.rule_meaning.specs.Known.{made_at, stands_for, tree_of, value_in};
+ghost use Rattle.value_compare.specs.BookCovers.{holds_in, covers};
+ghost use Rattle.rule_meaning.specs.StoreModel.{made_at, stands_for, tree_of, value_in};
 ghost use Rattle.rule_meaning.specs.Values.{has_pattern};
 ghost use Rattle.value_compare.specs.Views.{IsSeenAt, IsSeenIn, see_view};
 
@@ -58,7 +58,7 @@ impl<'t, 's> Store<'t, 's> {
             (stands_for (record { template = self.entry.now.doc.now; file = see_file self.entry.now.file.now.raw; made = self.entry.now.made }) value ≡ None)
             (λ seen. stands_for (record { template = self.entry.now.doc.now; file = see_file self.entry.now.file.now.raw; made = self.entry.now.made }) value ≡ Some (see_view seen)) }
         ensures placed { IfSome result (IsSeenAt (tree_of (record { template = self.entry.now.doc.now; file = see_file self.entry.now.file.now.raw; made = self.entry.now.made }) value.origin) value) }
-        ensures held { (book : List (List ℕ)) → IsBookOf (see_file self.entry.now.file.now.raw) book → IfSome result (λ seen. holds_of book (see_view seen) ≡ true) }
+        ensures held { (book : List (List ℕ)) → IsBookOf (see_file self.entry.now.file.now.raw) book → IfSome result (λ seen. covers book (see_view seen) ≡ true) }
     {
         let doc = self.tree(value.origin)?;
         view_in(doc, value.node, value.key)
@@ -83,7 +83,7 @@ impl<'t, 's> Store<'t, 's> {
 fn view_in<'t, 's>(doc: &'t Doc<'s>, node: u32, key: bool) -> Option<View<'t, 's>>
     ensures value { MatchOption result (value_in node key doc.entry.now ≡ None) (λ seen. value_in node key doc.entry.now ≡ Some (see_view seen)) }
     ensures placed { IfSome result (IsSeenIn node key doc.entry.now) }
-    ensures held { (book : List (List ℕ)) → holds_in book doc.entry.now ≡ true → IfSome result (λ seen. holds_of book (see_view seen) ≡ true) }
+    ensures held { (book : List (List ℕ)) → holds_in book doc.entry.now ≡ true → IfSome result (λ seen. covers book (see_view seen) ≡ true) }
 {
     if node >= doc.len() {
         return None;

@@ -27,7 +27,7 @@ fn sample(alloc: Global) -> Result<Doc<'static>, BuildRefusal> {
 }
 
 /// The index, the number of the parent, and how many values stand in it.
-fn spot(at: &Cursor) -> (Option<u32>, Option<u32>, usize) {
+fn location(at: &Cursor) -> (Option<u32>, Option<u32>, usize) {
     let parent = match at.parent() {
         None => None,
         Some(up) => Some(up.id),
@@ -64,7 +64,7 @@ fn nodes(rt: HostRuntime) -> Result<(), Fail> {
 }
 
 #[test]
-fn spots(rt: HostRuntime) -> Result<(), Fail> {
+fn locations(rt: HostRuntime) -> Result<(), Fail> {
     let doc = match sample(rt.alloc()) {
         Ok(doc) => doc,
         Err(e) => return Err(fail(e)),
@@ -79,7 +79,7 @@ fn spots(rt: HostRuntime) -> Result<(), Fail> {
         if doc.len() <= id {
             return Err(Fail::from("too few"));
         }
-        assert_eq!(rt; spot(&doc.cursor(id)), want, "at {id}");
+        assert_eq!(rt; location(&doc.cursor(id)), want, "at {id}");
     }
     Ok(())
 }

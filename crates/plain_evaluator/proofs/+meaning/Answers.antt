@@ -20,25 +20,25 @@ use Rattle.rule_names.specs.Uses.{function_named}
 use Rattle.rule_names.specs.declared.bind.Bind.TheVariants.{Value, Capture, Param}
 use Rattle.rule_names.proofs.Arguments.{named-none, named-some}
 use Rattle.rule_meaning.specs.Functions.{argument}
-use Rattle.rule_meaning.specs.Known.{is_known, is_known_ref}
+use Rattle.rule_meaning.specs.StoreModel.{is_known, is_known_ref}
 use Rattle.rule_meaning.specs.Roots.{literal_ref, root_ref}
-use Rattle.rule_meaning.specs.Environments as scopes
-use Rattle.rule_meaning.specs.SpotEnvironments.{Environment, Inner, Called, current_of}
-use Rattle.rule_meaning.specs.SpotFunctions.{IsAnswering}
-use Rattle.rule_meaning.specs.SpotMeaning.{answered, rows_from, rows_at, rows_of_args, rows_of_expr, body_verdict, opt_conds_verdict, conds_verdict, rows_of_side}
-use Rattle.rule_meaning.specs.SpotSteps.{on_found}
-use Rattle.rule_meaning.specs.SpotTurns.{names_by, value_rows, captured_rows, parameter_rows}
-use Rattle.rule_meaning.specs.Spots.{Answers, answered_row, Found, Spot, SpotRow, World}
+use Rattle.rule_meaning.specs.StoreEnvironments as scopes
+use Rattle.rule_meaning.specs.Environments.{Environment, Inner, Called, current_of}
+use Rattle.rule_meaning.specs.FunctionMeaning.{IsAnswering}
+use Rattle.rule_meaning.specs.Meaning.{answered, rows_from, rows_at, rows_of_args, rows_of_expr, body_verdict, opt_conds_verdict, conds_verdict, rows_of_side}
+use Rattle.rule_meaning.specs.StepMeaning.{on_found}
+use Rattle.rule_meaning.specs.NameMeaning.{unfolded, value_rows, captured_rows, parameter_rows}
+use Rattle.rule_meaning.specs.Locations.{Answers, answered_row, Found, Location, LocatedRow, World}
 use Rattle.rule_meaning.specs.Verdicts.{is_found, block_verdict, conjunction, guarded_by}
 use Rattle.rule_meaning.specs.Keys.{passes}
 use Rattle.rule_meaning.specs.Kinds.{rows_of_type}
-use Rattle.rule_meaning.specs.SpotSteps as spot
+use Rattle.rule_meaning.specs.StepMeaning as location
 use Rattle.query_steps.proofs.SeenScopes.{current-seen, outwards-seen}
 use Rattle.query_steps.proofs.SeenVerdicts.{sets-seen, tests-seen}
 use Rattle.guard_builtins.specs.Seen.{see_made, see_rows}
 use Rattle.plain_evaluator.specs.Seen.{see_env}
 use Rattle.plain_evaluator.specs.Sound.{IsSound}
-use Rattle.plain_evaluator.specs.States.{are_known, see, see_spot_in, see_trees, seen_rows, spots}
+use Rattle.plain_evaluator.specs.States.{are_known, see, see_location_in, see_trees, seen_rows, locations}
 use Rattle.plain_evaluator.proofs.Conjoined.{mapped-more, conjunction-next, disjunction-next, mapped-through, passes-at}
 use Rattle.rule_names.proofs.FittingCalls.{arguments-counted}
 use Rattle.plain_evaluator.proofs.CalledRows.{many-args, literal-argument}
@@ -53,7 +53,7 @@ use Rattle.plain_evaluator.proofs.RowsInTurn.{of_expr, rows-start, rows-next, ro
 use Rattle.plain_evaluator.proofs.Scopes.{current-known, outwards-sound, called-sound, called-seen, inner-sound, top-sound, top-seen}
 use Rattle.query_steps.proofs.SoughtTexts.{pattern-held}
 use Rattle.plain_evaluator.proofs.Standing.{literal-found}
-use Rattle.plain_evaluator.proofs.GrowingVerdicts.{current-spot, framed, passes-on, types-on}
+use Rattle.plain_evaluator.proofs.GrowingVerdicts.{current-location, framed, passes-on, types-on}
 use Rattle.plain_evaluator.proofs.Judged.{of_disj, of_part, of_conds, of_row, one_of, disjs-end, parts-end, disj-judged, conds-judged, body-judged, opt_conds-judged, no-conds-judged, under, under-fail, under-skip, passed-under, skipped-under, block-judged, when-judged, within-judged, kinds-judged, set-judged, test-judged, sides-judged, refer-judged, call-judged, found-judged, missed-judged, at-judged, rule-judged}
 use Rattle.plain_evaluator.proofs.+meaning.Goals as goal
 
@@ -86,7 +86,7 @@ rows::rows_of_first-loop-index-preserved t c =
       (λ answers is. rows-next (world_in c.args.trees.now answers) (named_in c.args.trees.now answers c.args.turns) (scopes_in c.args.trees.now c.args.env.now) c.loop-index.after_key c.first_steps-steps.result.now c.loop-index.index c.index-steps-index.result (map (see (see_trees c.loop-index.trees)) c.loop-index.rows.items) (map (see (see_trees c.rows_behind.new.trees)) c.in_ok-rows-2.rows.items) _ c.is_key-after_key.result
           c.loop-index-test.true c.index-steps-index.is c.is_key-after_key.ensures
           (meant-before c.args.trees.now (see_trees c.loop-index.trees) g (see_env c.args.env.now) c.requires.sound (λ (w : World) (e : Environment). map (see (see_trees c.rows_behind.new.trees)) c.in_ok-rows-2.rows.items
-          ≡ flat_map (on_found (rows_at w (names_by w c.args.turns) e (nat_eq (c.loop-index.index + 1) (length c.first_steps-steps.result.now)) c.loop-index.after_key (see_step c.index-steps-index.result))) (map (see (see_trees c.loop-index.trees)) c.deref.result.now)) c.in_ok-rows-2.ensures.rows answers is
+          ≡ flat_map (on_found (rows_at w (unfolded w c.args.turns) e (nat_eq (c.loop-index.index + 1) (length c.first_steps-steps.result.now)) c.loop-index.after_key (see_step c.index-steps-index.result))) (map (see (see_trees c.loop-index.trees)) c.deref.result.now)) c.in_ok-rows-2.ensures.rows answers is
           ∙ ap (λ (xs : List Row). flat_map (on_found (rows_at (world_in c.args.trees.now answers) (named_in c.args.trees.now answers c.args.turns) (scopes_in c.args.trees.now c.args.env.now) (nat_eq (c.loop-index.index + 1) (length c.first_steps-steps.result.now)) c.loop-index.after_key (see_step c.index-steps-index.result))) (map (see (see_trees c.loop-index.trees)) xs)) c.deref.ensures.value)
           (c.loop-index.invariant.1 answers is)),
       c.in_ok-rows-2.ensures.known,
@@ -265,7 +265,7 @@ rows::rows_of_expr-returns-in-Literal-clause-grows t c =
 
 pub rows::rows_of_expr-returns-in-Literal-clause-rows : goal.rows::rows_of_expr-returns-in-Literal-clause-rows
 rows::rows_of_expr-returns-in-Literal-clause-rows t c =
-    λ answers is. IfOk-weaker c.one_row.result _ _ (λ rows e. literal-rows (world_in c.args.trees.now answers) (named_in c.args.trees.now answers c.args.turns) (scopes_in c.args.trees.now c.args.env.now) c.args.expr.now c.in-Literal.site c.in-Literal.tree (map (see (see_trees c.args.trees.now)) rows.items) c.in-Literal.is (ap (map (see (see_trees c.args.trees.now))) e ∙ ap (λ (r : Ref). Found (see_spot_in (see_trees c.args.trees.now) r) ∷ []) c.root_of_literal.ensures)) c.one_row.ensures
+    λ answers is. IfOk-weaker c.one_row.result _ _ (λ rows e. literal-rows (world_in c.args.trees.now answers) (named_in c.args.trees.now answers c.args.turns) (scopes_in c.args.trees.now c.args.env.now) c.args.expr.now c.in-Literal.site c.in-Literal.tree (map (see (see_trees c.args.trees.now)) rows.items) c.in-Literal.is (ap (map (see (see_trees c.args.trees.now))) e ∙ ap (λ (r : Ref). Found (see_location_in (see_trees c.args.trees.now) r) ∷ []) c.root_of_literal.ensures)) c.one_row.ensures
 
 pub rows::rows_of_expr-returns-in-Literal-clause-known : goal.rows::rows_of_expr-returns-in-Literal-clause-known
 rows::rows_of_expr-returns-in-Literal-clause-known t c =
@@ -376,9 +376,9 @@ rows::rows_of_args-loop-arg-preserved t c =
     let rows = c.in_ok-rows_of_expr.field-0 in (
       Grows-trans (see_trees c.args.trees.now) (see_trees c.loop-arg.trees) (see_trees c.rows_of_expr.new.trees) g c.rows_of_expr.ensures.grows,
       (λ answers is. mapped-more (of_expr (world_in c.args.trees.now answers) (named_in c.args.trees.now answers c.args.turns) (scopes_in c.args.trees.now c.args.env.now)) c.args.args.now c.loop-arg.arg-index c.arg-item.result (map (seen_rows (see_trees c.loop-arg.trees)) c.loop-arg.all.items) (map (seen_rows (see_trees c.rows_of_expr.new.trees)) c.push.new.self.items) (map (see (see_trees c.rows_of_expr.new.trees)) rows.items) c.loop-arg-test.true (c.loop-arg.invariant.1 answers is)
-          (meant-before c.args.trees.now (see_trees c.loop-arg.trees) g (see_env c.args.env.now) c.requires.sound (λ (w : World) (e : Environment). map (see (see_trees c.rows_of_expr.new.trees)) rows.items ≡ of_expr w (names_by w c.args.turns) e c.arg-item.result) c.in_ok-rows_of_expr.ensures.rows answers is ∙ ap (of_expr (world_in c.args.trees.now answers) (named_in c.args.trees.now answers c.args.turns) (scopes_in c.args.trees.now c.args.env.now)) c.arg-item.is)
+          (meant-before c.args.trees.now (see_trees c.loop-arg.trees) g (see_env c.args.env.now) c.requires.sound (λ (w : World) (e : Environment). map (see (see_trees c.rows_of_expr.new.trees)) rows.items ≡ of_expr w (unfolded w c.args.turns) e c.arg-item.result) c.in_ok-rows_of_expr.ensures.rows answers is ∙ ap (of_expr (world_in c.args.trees.now answers) (named_in c.args.trees.now answers c.args.turns) (scopes_in c.args.trees.now c.args.env.now)) c.arg-item.is)
           (ap (map (seen_rows (see_trees c.rows_of_expr.new.trees))) c.in_ok-push.ensures.items ∙ map-append (seen_rows (see_trees c.rows_of_expr.new.trees)) c.loop-arg.all.items (rows ∷ [])
-          ∙ ap (λ (yss : List (List SpotRow)). yss ++ map (see (see_trees c.rows_of_expr.new.trees)) rows.items ∷ []) (args-as-before c.loop-arg.trees (see_trees c.rows_of_expr.new.trees) c.rows_of_expr.ensures.grows c.loop-arg.all.items c.loop-arg.invariant.2))),
+          ∙ ap (λ (yss : List (List LocatedRow)). yss ++ map (see (see_trees c.rows_of_expr.new.trees)) rows.items ∷ []) (args-as-before c.loop-arg.trees (see_trees c.rows_of_expr.new.trees) c.rows_of_expr.ensures.grows c.loop-arg.all.items c.loop-arg.invariant.2))),
       (ap (list_all (are_known (see_trees c.rows_of_expr.new.trees))) c.in_ok-push.ensures.items ∙ list_all-append (are_known (see_trees c.rows_of_expr.new.trees)) c.loop-arg.all.items (rows ∷ [])
           ∙ and_from _ _ (args-on c.loop-arg.trees (see_trees c.rows_of_expr.new.trees) c.rows_of_expr.ensures.grows c.loop-arg.all.items c.loop-arg.invariant.2) (and_from _ _ c.in_ok-rows_of_expr.ensures.known refl)),
     )
@@ -436,7 +436,7 @@ pub verdicts::verdict_of_disjs-loop-disj-preserved : goal.verdicts::verdict_of_d
 verdicts::verdict_of_disjs-loop-disj-preserved t c = (
   Grows-trans (see_trees c.args.trees.now) (see_trees c.loop-disj.trees) (see_trees c.verdict_of_parts.new.trees) c.loop-disj.invariant.0 c.in_ok-verdict_of_parts.ensures.grows,
   λ answers is. conjunction-next (of_disj (world_in c.args.trees.now answers) (named_in c.args.trees.now answers c.args.turns) (scopes_in c.args.trees.now c.args.env.now)) c.args.disjs.now c.loop-disj.disj-index c.disj-item.result c.loop-disj.verdict c.in_ok-verdict_of_parts.field-0 c.both-verdict.result c.loop-disj-test.true c.disj-item.is (c.loop-disj.invariant.1 answers is)
-      (meant-before c.args.trees.now (see_trees c.loop-disj.trees) c.loop-disj.invariant.0 (see_env c.args.env.now) c.requires.sound (λ w e. c.in_ok-verdict_of_parts.field-0 ≡ one_of w (names_by w c.args.turns) e c.deref.result.now) c.in_ok-verdict_of_parts.ensures.verdict answers is ∙ disj-judged (world_in c.args.trees.now answers) (named_in c.args.trees.now answers c.args.turns) (scopes_in c.args.trees.now c.args.env.now) c.disj-item.result c.deref.result.now c.deref.ensures.value) c.both-verdict.ensures,
+      (meant-before c.args.trees.now (see_trees c.loop-disj.trees) c.loop-disj.invariant.0 (see_env c.args.env.now) c.requires.sound (λ w e. c.in_ok-verdict_of_parts.field-0 ≡ one_of w (unfolded w c.args.turns) e c.deref.result.now) c.in_ok-verdict_of_parts.ensures.verdict answers is ∙ disj-judged (world_in c.args.trees.now answers) (named_in c.args.trees.now answers c.args.turns) (scopes_in c.args.trees.now c.args.env.now) c.disj-item.result c.deref.result.now c.deref.ensures.value) c.both-verdict.ensures,
 )
 
 pub verdicts::verdict_of_disjs-returns-clause-grows : goal.verdicts::verdict_of_disjs-returns-clause-grows
@@ -460,7 +460,7 @@ pub verdicts::verdict_of_parts-loop-part-preserved : goal.verdicts::verdict_of_p
 verdicts::verdict_of_parts-loop-part-preserved t c = (
   Grows-trans (see_trees c.args.trees.now) (see_trees c.loop-part.trees) (see_trees c.verdict_of_part.new.trees) c.loop-part.invariant.0 c.in_ok-verdict_of_part.ensures.grows,
   λ answers is. disjunction-next (of_part (world_in c.args.trees.now answers) (named_in c.args.trees.now answers c.args.turns) (scopes_in c.args.trees.now c.args.env.now)) c.args.parts.now c.loop-part.part-index c.part-item.result c.loop-part.verdict c.in_ok-verdict_of_part.field-0 c.either-verdict.result c.loop-part-test.true c.part-item.is (c.loop-part.invariant.1 answers is)
-      (meant-before c.args.trees.now (see_trees c.loop-part.trees) c.loop-part.invariant.0 (see_env c.args.env.now) c.requires.sound (λ w e. c.in_ok-verdict_of_part.field-0 ≡ of_part w (names_by w c.args.turns) e c.part-item.result) c.in_ok-verdict_of_part.ensures.verdict answers is) c.either-verdict.ensures,
+      (meant-before c.args.trees.now (see_trees c.loop-part.trees) c.loop-part.invariant.0 (see_env c.args.env.now) c.requires.sound (λ w e. c.in_ok-verdict_of_part.field-0 ≡ of_part w (unfolded w c.args.turns) e c.part-item.result) c.in_ok-verdict_of_part.ensures.verdict answers is) c.either-verdict.ensures,
 )
 
 pub verdicts::verdict_of_parts-returns-clause-grows : goal.verdicts::verdict_of_parts-returns-clause-grows
@@ -527,9 +527,9 @@ verdicts::verdicts_of_conds-loop-value-init t c =
 pub verdicts::verdicts_of_conds-loop-value-preserved : goal.verdicts::verdicts_of_conds-loop-value-preserved
 verdicts::verdicts_of_conds-loop-value-preserved t c = (
   Grows-trans (see_trees c.args.trees.now) (see_trees c.loop-value.trees) (see_trees c.verdict_of_conds.new.trees) c.loop-value.invariant.0 c.in_ok-verdict_of_conds.ensures.grows,
-  λ answers is. mapped-through (of_conds (world_in c.args.trees.now answers) (named_in c.args.trees.now answers c.args.turns) (scopes_in c.args.trees.now c.args.env.now) c.args.conds.now) (see_spot_in (see_trees c.args.trees.now)) c.args.values.now c.loop-value.value-index root_ref c.loop-value.verdicts.items c.push.new.self.items c.in_ok-verdict_of_conds.field-0 c.loop-value-test.true (c.loop-value.invariant.1 answers is)
-      (at-judged (world_in c.args.trees.now answers) (named_in c.args.trees.now answers c.args.turns) (scopes_in c.args.trees.now c.args.env.now) _ c.args.conds.now (see_spot_in (see_trees c.args.trees.now) (get_or c.args.values.now c.loop-value.value-index root_ref)) c.in_ok-verdict_of_conds.field-0 (framed (see_trees c.args.trees.now) (get_or c.args.values.now c.loop-value.value-index root_ref) _)
-      (meant-before c.args.trees.now (see_trees c.loop-value.trees) c.loop-value.invariant.0 _ (inner-sound (see_trees c.args.trees.now).known (get_or c.args.values.now c.loop-value.value-index root_ref) _ (passes-at (is_known_ref (see_trees c.args.trees.now).known) c.args.values.now c.loop-value.value-index root_ref c.loop-value-test.true c.requires.known) c.requires.sound) (λ w e. c.in_ok-verdict_of_conds.field-0 ≡ conds_verdict w (names_by w c.args.turns) e (see_conds c.args.conds.now)) c.in_ok-verdict_of_conds.ensures.verdict answers is))
+  λ answers is. mapped-through (of_conds (world_in c.args.trees.now answers) (named_in c.args.trees.now answers c.args.turns) (scopes_in c.args.trees.now c.args.env.now) c.args.conds.now) (see_location_in (see_trees c.args.trees.now)) c.args.values.now c.loop-value.value-index root_ref c.loop-value.verdicts.items c.push.new.self.items c.in_ok-verdict_of_conds.field-0 c.loop-value-test.true (c.loop-value.invariant.1 answers is)
+      (at-judged (world_in c.args.trees.now answers) (named_in c.args.trees.now answers c.args.turns) (scopes_in c.args.trees.now c.args.env.now) _ c.args.conds.now (see_location_in (see_trees c.args.trees.now) (get_or c.args.values.now c.loop-value.value-index root_ref)) c.in_ok-verdict_of_conds.field-0 (framed (see_trees c.args.trees.now) (get_or c.args.values.now c.loop-value.value-index root_ref) _)
+      (meant-before c.args.trees.now (see_trees c.loop-value.trees) c.loop-value.invariant.0 _ (inner-sound (see_trees c.args.trees.now).known (get_or c.args.values.now c.loop-value.value-index root_ref) _ (passes-at (is_known_ref (see_trees c.args.trees.now).known) c.args.values.now c.loop-value.value-index root_ref c.loop-value-test.true c.requires.known) c.requires.sound) (λ w e. c.in_ok-verdict_of_conds.field-0 ≡ conds_verdict w (unfolded w c.args.turns) e (see_conds c.args.conds.now)) c.in_ok-verdict_of_conds.ensures.verdict answers is))
       c.in_ok-push.ensures.items,
 )
 
@@ -539,7 +539,7 @@ verdicts::verdicts_of_conds-returns-clause-grows t c =
 
 pub verdicts::verdicts_of_conds-returns-clause-verdicts : goal.verdicts::verdicts_of_conds-returns-clause-verdicts
 verdicts::verdicts_of_conds-returns-clause-verdicts t c =
-    λ answers is. c.loop-value.invariant.1 answers is ∙ ap (λ (xs : List Ref). map (of_conds (world_in c.args.trees.now answers) (named_in c.args.trees.now answers c.args.turns) (scopes_in c.args.trees.now c.args.env.now) c.args.conds.now) (map (see_spot_in (see_trees c.args.trees.now)) xs)) (take_all c.loop-value.value-index c.args.values.now c.loop-value-test.false)
+    λ answers is. c.loop-value.invariant.1 answers is ∙ ap (λ (xs : List Ref). map (of_conds (world_in c.args.trees.now answers) (named_in c.args.trees.now answers c.args.turns) (scopes_in c.args.trees.now c.args.env.now) c.args.conds.now) (map (see_location_in (see_trees c.args.trees.now)) xs)) (take_all c.loop-value.value-index c.args.values.now c.loop-value-test.false)
 
 pub verdicts::verdict_of_block-verdict_of_body-requires : goal.verdicts::verdict_of_block-verdict_of_body-requires
 verdicts::verdict_of_block-verdict_of_body-requires t c =
@@ -561,8 +561,8 @@ pub verdicts::verdict_of_block-loop-row-preserved : goal.verdicts::verdict_of_bl
 verdicts::verdict_of_block-loop-row-preserved t c = (
   Grows-trans (see_trees c.args.trees.now) (see_trees c.loop-row.trees) (see_trees c.verdict_of_body.new.trees) c.loop-row.invariant.0 c.in_ok-verdict_of_body.ensures.grows,
   λ answers is. mapped-through (of_row (world_in c.args.trees.now answers) (named_in c.args.trees.now answers c.args.turns) (scopes_in c.args.trees.now c.args.env.now) c.args.body.now) (see (see_trees c.args.trees.now)) c.args.rows.now c.loop-row.row-index _ c.loop-row.verdicts.items c.push-in-loop-row.new.self.items c.in_ok-verdict_of_body.field-0 c.loop-row-test.true (c.loop-row.invariant.1 answers is)
-      (found-judged (world_in c.args.trees.now answers) (named_in c.args.trees.now answers c.args.turns) (scopes_in c.args.trees.now c.args.env.now) _ c.args.body.now _ (see_spot_in (see_trees c.args.trees.now) c.in-Found.value) c.in_ok-verdict_of_body.field-0 (ap (see (see_trees c.args.trees.now)) c.in-Found.is) (framed (see_trees c.args.trees.now) c.in-Found.value _)
-      (meant-before c.args.trees.now (see_trees c.loop-row.trees) c.loop-row.invariant.0 _ (inner-sound (see_trees c.args.trees.now).known c.in-Found.value _ (ap (is_known (see_trees c.args.trees.now).known) (sym c.in-Found.is) ∙ passes-at (is_known (see_trees c.args.trees.now).known) c.args.rows.now c.loop-row.row-index _ c.loop-row-test.true c.requires.known) c.requires.sound) (λ w e. c.in_ok-verdict_of_body.field-0 ≡ body_verdict w (names_by w c.args.turns) e (see_body c.args.body.now)) c.in_ok-verdict_of_body.ensures.verdict answers is))
+      (found-judged (world_in c.args.trees.now answers) (named_in c.args.trees.now answers c.args.turns) (scopes_in c.args.trees.now c.args.env.now) _ c.args.body.now _ (see_location_in (see_trees c.args.trees.now) c.in-Found.value) c.in_ok-verdict_of_body.field-0 (ap (see (see_trees c.args.trees.now)) c.in-Found.is) (framed (see_trees c.args.trees.now) c.in-Found.value _)
+      (meant-before c.args.trees.now (see_trees c.loop-row.trees) c.loop-row.invariant.0 _ (inner-sound (see_trees c.args.trees.now).known c.in-Found.value _ (ap (is_known (see_trees c.args.trees.now).known) (sym c.in-Found.is) ∙ passes-at (is_known (see_trees c.args.trees.now).known) c.args.rows.now c.loop-row.row-index _ c.loop-row-test.true c.requires.known) c.requires.sound) (λ w e. c.in_ok-verdict_of_body.field-0 ≡ body_verdict w (unfolded w c.args.turns) e (see_body c.args.body.now)) c.in_ok-verdict_of_body.ensures.verdict answers is))
       c.in_ok-push-2.ensures.items,
 )
 
@@ -620,7 +620,7 @@ verdicts::verdict_of_kinds-returns-then-not-is_pass-clause-grows t c =
 
 pub verdicts::verdict_of_kinds-returns-then-not-is_pass-clause-verdict : goal.verdicts::verdict_of_kinds-returns-then-not-is_pass-clause-verdict
 verdicts::verdict_of_kinds-returns-then-not-is_pass-clause-verdict t c =
-    λ answers is. skipped-under c.in_ok-verdict_of_cond.field-0 (opt_conds_verdict (world_in c.args.trees.now answers) (named_in c.args.trees.now answers c.args.turns) (scopes_in c.args.trees.now c.args.env.now) (see_opt_conds c.args.cond.now)) (conjunction (map (of_row (world_in c.args.trees.now answers) (named_in c.args.trees.now answers c.args.turns) (scopes_in c.args.trees.now c.args.env.now) c.args.body.now) (spot.rows_of_type (world_in c.args.trees.now answers) c.args.name.now (current_of (scopes_in c.args.trees.now c.args.env.now))))) c.is_pass.result (c.in_ok-verdict_of_cond.ensures.verdict answers is) c.is_pass.ensures c.if-not-is_pass.true
+    λ answers is. skipped-under c.in_ok-verdict_of_cond.field-0 (opt_conds_verdict (world_in c.args.trees.now answers) (named_in c.args.trees.now answers c.args.turns) (scopes_in c.args.trees.now c.args.env.now) (see_opt_conds c.args.cond.now)) (conjunction (map (of_row (world_in c.args.trees.now answers) (named_in c.args.trees.now answers c.args.turns) (scopes_in c.args.trees.now c.args.env.now) c.args.body.now) (location.rows_of_type (world_in c.args.trees.now answers) c.args.name.now (current_of (scopes_in c.args.trees.now c.args.env.now))))) c.is_pass.result (c.in_ok-verdict_of_cond.ensures.verdict answers is) c.is_pass.ensures c.if-not-is_pass.true
 
 pub verdicts::verdict_of_kinds-returns-clause-grows : goal.verdicts::verdict_of_kinds-returns-clause-grows
 verdicts::verdict_of_kinds-returns-clause-grows t c =
@@ -628,9 +628,9 @@ verdicts::verdict_of_kinds-returns-clause-grows t c =
 
 pub verdicts::verdict_of_kinds-returns-clause-verdict : goal.verdicts::verdict_of_kinds-returns-clause-verdict
 verdicts::verdict_of_kinds-returns-clause-verdict t c =
-    λ answers is. IfOk-weaker c.verdict_of_block.result _ _ (λ v e. passed-under c.in_ok-verdict_of_cond.field-0 (opt_conds_verdict (world_in c.args.trees.now answers) (named_in c.args.trees.now answers c.args.turns) (scopes_in c.args.trees.now c.args.env.now) (see_opt_conds c.args.cond.now)) (conjunction (map (of_row (world_in c.args.trees.now answers) (named_in c.args.trees.now answers c.args.turns) (scopes_in c.args.trees.now c.args.env.now) c.args.body.now) (spot.rows_of_type (world_in c.args.trees.now answers) c.args.name.now (current_of (scopes_in c.args.trees.now c.args.env.now))))) v c.is_pass.result (c.in_ok-verdict_of_cond.ensures.verdict answers is) c.is_pass.ensures c.if-not-is_pass.false
+    λ answers is. IfOk-weaker c.verdict_of_block.result _ _ (λ v e. passed-under c.in_ok-verdict_of_cond.field-0 (opt_conds_verdict (world_in c.args.trees.now answers) (named_in c.args.trees.now answers c.args.turns) (scopes_in c.args.trees.now c.args.env.now) (see_opt_conds c.args.cond.now)) (conjunction (map (of_row (world_in c.args.trees.now answers) (named_in c.args.trees.now answers c.args.turns) (scopes_in c.args.trees.now c.args.env.now) c.args.body.now) (location.rows_of_type (world_in c.args.trees.now answers) c.args.name.now (current_of (scopes_in c.args.trees.now c.args.env.now))))) v c.is_pass.result (c.in_ok-verdict_of_cond.ensures.verdict answers is) c.is_pass.ensures c.if-not-is_pass.false
     (e ∙ ap (λ rs. conjunction (map (of_row (world_in c.args.trees.now answers) (named_in c.args.trees.now answers c.args.turns) (scopes_in c.args.trees.now c.args.env.now) c.args.body.now) rs)) (ap (map (see (see_trees c.verdict_of_cond.new.trees))) (c.deref.ensures.value ∙ c.in_ok-rows.ensures.rows ∙ ap₂ (rows_of_type (see_trees c.verdict_of_cond.new.trees).known) c.as_str.ensures c.current.ensures) ∙ types-on c.args.trees.now (see_trees c.verdict_of_cond.new.trees) c.in_ok-verdict_of_cond.ensures.grows answers c.args.name.now (see_env c.args.env.now) c.requires.sound)))
-    (meant-before c.args.trees.now (see_trees c.verdict_of_cond.new.trees) c.in_ok-verdict_of_cond.ensures.grows (see_env c.args.env.now) c.requires.sound (λ w e. IfOk c.verdict_of_block.result (λ v. v ≡ block_verdict false (map (of_row w (names_by w c.args.turns) e c.args.body.now) (map (see (see_trees c.verdict_of_cond.new.trees)) c.deref.result.now)))) c.verdict_of_block.ensures.verdict answers is)
+    (meant-before c.args.trees.now (see_trees c.verdict_of_cond.new.trees) c.in_ok-verdict_of_cond.ensures.grows (see_env c.args.env.now) c.requires.sound (λ w e. IfOk c.verdict_of_block.result (λ v. v ≡ block_verdict false (map (of_row w (unfolded w c.args.turns) e c.args.body.now) (map (see (see_trees c.verdict_of_cond.new.trees)) c.deref.result.now)))) c.verdict_of_block.ensures.verdict answers is)
 
 pub verdicts::verdict_of_when-verdict_of_conds-requires : goal.verdicts::verdict_of_when-verdict_of_conds-requires
 verdicts::verdict_of_when-verdict_of_conds-requires t c =
@@ -655,8 +655,8 @@ verdicts::verdict_of_when-returns-clause-grows t c =
 pub verdicts::verdict_of_when-returns-clause-verdict : goal.verdicts::verdict_of_when-returns-clause-verdict
 verdicts::verdict_of_when-returns-clause-verdict t c =
     λ answers is. IfOk-weaker c.verdict_under.result _ _ (λ v e. within-judged (world_in c.args.trees.now answers) (named_in c.args.trees.now answers c.args.turns) (scopes_in c.args.trees.now c.args.env.now) _ c.args.cond.now c.args.body.now c.in_ok-conditions.conditions v
-    (framed (see_trees c.args.trees.now) c.current.result _ ∙ ap (λ r. Inner r (scopes_in c.args.trees.now c.args.env.now)) (ap (see_spot_in (see_trees c.args.trees.now)) c.current.ensures ∙ current-spot (see_trees c.args.trees.now) (see_env c.args.env.now))) (c.in_ok-conditions.ensures.verdict answers is) e)
-    (meant-before c.args.trees.now (see_trees c.verdict_of_conds.new.trees) c.in_ok-conditions.ensures.grows _ (inner-sound (see_trees c.args.trees.now).known c.current.result _ (ap (is_known_ref (see_trees c.args.trees.now).known) c.current.ensures ∙ current-known (see_trees c.args.trees.now).known (see_env c.args.env.now) c.requires.sound) c.requires.sound) (λ w e. IfOk c.verdict_under.result (λ v. v ≡ guarded_by c.in_ok-conditions.conditions (body_verdict w (names_by w c.args.turns) e (see_body c.args.body.now)))) c.verdict_under.ensures.verdict answers is)
+    (framed (see_trees c.args.trees.now) c.current.result _ ∙ ap (λ r. Inner r (scopes_in c.args.trees.now c.args.env.now)) (ap (see_location_in (see_trees c.args.trees.now)) c.current.ensures ∙ current-location (see_trees c.args.trees.now) (see_env c.args.env.now))) (c.in_ok-conditions.ensures.verdict answers is) e)
+    (meant-before c.args.trees.now (see_trees c.verdict_of_conds.new.trees) c.in_ok-conditions.ensures.grows _ (inner-sound (see_trees c.args.trees.now).known c.current.result _ (ap (is_known_ref (see_trees c.args.trees.now).known) c.current.ensures ∙ current-known (see_trees c.args.trees.now).known (see_env c.args.env.now) c.requires.sound) c.requires.sound) (λ w e. IfOk c.verdict_under.result (λ v. v ≡ guarded_by c.in_ok-conditions.conditions (body_verdict w (unfolded w c.args.turns) e (see_body c.args.body.now)))) c.verdict_under.ensures.verdict answers is)
 
 pub verdicts::verdict_of_sides-rows_of_query-requires : goal.verdicts::verdict_of_sides-rows_of_query-requires
 verdicts::verdict_of_sides-rows_of_query-requires t c =
@@ -695,8 +695,8 @@ pub verdicts::verdict_of_sides-returns-clause-verdict : goal.verdicts::verdict_o
 verdicts::verdict_of_sides-returns-clause-verdict t c =
     λ answers is. IfOk-weaker c.verdict_of_test.result _ _ (λ v e. test-judged (world_in c.args.trees.now answers) (named_in c.args.trees.now answers c.args.turns) (scopes_in c.args.trees.now c.args.env.now) c.args.any c.args.left.now c.args.op c.args.not c.args.right.now c.is_set_test.result (map (see (see_trees c.rows_of_side.new.trees)) c.deref-2.result.now) (map (see (see_trees c.rows_of_side.new.trees)) c.deref-3.result.now) v c.is_set_test.ensures c.if-is_set_test.false
     (ap (map (see (see_trees c.rows_of_side.new.trees))) c.deref-2.ensures.value ∙ rows-as-before c.rows_of_query.new.trees (see_trees c.rows_of_side.new.trees) c.in_ok-rights.ensures.grows c.in_ok-lefts.lefts.items c.in_ok-lefts.ensures.known ∙ c.in_ok-lefts.ensures.rows answers is)
-    (ap (map (see (see_trees c.rows_of_side.new.trees))) c.deref-3.ensures.value ∙ meant-before c.args.trees.now (see_trees c.rows_of_query.new.trees) c.in_ok-lefts.ensures.grows (see_env c.args.env.now) c.requires.sound (λ w e. map (see (see_trees c.rows_of_side.new.trees)) c.in_ok-rights.rights.items ≡ rows_of_side w (names_by w c.args.turns) e (see_opt_expr c.args.right.now)) c.in_ok-rights.ensures.rows answers is)
-    (e ∙ tests-seen (see_trees c.rows_of_side.new.trees).known (see_trees c.rows_of_side.new.trees).calls (passes (see_trees c.rows_of_side.new.trees).known c.args.op c.args.not c.deref-3.result.now) (spot.passes (world_in c.args.trees.now answers) c.args.op c.args.not (map (see (see_trees c.rows_of_side.new.trees)) c.deref-3.result.now))
+    (ap (map (see (see_trees c.rows_of_side.new.trees))) c.deref-3.ensures.value ∙ meant-before c.args.trees.now (see_trees c.rows_of_query.new.trees) c.in_ok-lefts.ensures.grows (see_env c.args.env.now) c.requires.sound (λ w e. map (see (see_trees c.rows_of_side.new.trees)) c.in_ok-rights.rights.items ≡ rows_of_side w (unfolded w c.args.turns) e (see_opt_expr c.args.right.now)) c.in_ok-rights.ensures.rows answers is)
+    (e ∙ tests-seen (see_trees c.rows_of_side.new.trees).known (see_trees c.rows_of_side.new.trees).calls (passes (see_trees c.rows_of_side.new.trees).known c.args.op c.args.not c.deref-3.result.now) (location.passes (world_in c.args.trees.now answers) c.args.op c.args.not (map (see (see_trees c.rows_of_side.new.trees)) c.deref-3.result.now))
     (passes-on (see_trees c.args.trees.now) (see_trees c.rows_of_side.new.trees) (Grows-trans (see_trees c.args.trees.now) (see_trees c.rows_of_query.new.trees) (see_trees c.rows_of_side.new.trees) c.in_ok-lefts.ensures.grows c.in_ok-rights.ensures.grows) answers c.args.op c.args.not c.deref-3.result.now) c.args.any c.deref-2.result.now)) c.verdict_of_test.ensures
 
 pub verdicts::verdict_of_part-rows_of_query-requires : goal.verdicts::verdict_of_part-rows_of_query-requires
@@ -737,7 +737,7 @@ verdicts::verdict_of_part-returns-in_ok-rows-in-Block-clause-grows t c =
 pub verdicts::verdict_of_part-returns-in_ok-rows-in-Block-clause-verdict : goal.verdicts::verdict_of_part-returns-in_ok-rows-in-Block-clause-verdict
 verdicts::verdict_of_part-returns-in_ok-rows-in-Block-clause-verdict t c =
     λ answers is. IfOk-weaker c.verdict_of_block.result _ _ (λ v e. block-judged (world_in c.args.trees.now answers) (named_in c.args.trees.now answers c.args.turns) (scopes_in c.args.trees.now c.args.env.now) c.args.part.now c.in-Block.site c.in-Block.any c.in-Block.head c.in-Block.body (map (see (see_trees c.rows_of_query.new.trees)) c.deref.result.now) v c.in-Block.is (ap (map (see (see_trees c.rows_of_query.new.trees))) c.deref.ensures.value ∙ c.in_ok-rows-in-Block.ensures.rows answers is) e)
-    (meant-before c.args.trees.now (see_trees c.rows_of_query.new.trees) c.in_ok-rows-in-Block.ensures.grows (see_env c.args.env.now) c.requires.sound (λ w e. IfOk c.verdict_of_block.result (λ v. v ≡ block_verdict c.in-Block.any (map (of_row w (names_by w c.args.turns) e c.in-Block.body) (map (see (see_trees c.rows_of_query.new.trees)) c.deref.result.now)))) c.verdict_of_block.ensures.verdict answers is)
+    (meant-before c.args.trees.now (see_trees c.rows_of_query.new.trees) c.in_ok-rows-in-Block.ensures.grows (see_env c.args.env.now) c.requires.sound (λ w e. IfOk c.verdict_of_block.result (λ v. v ≡ block_verdict c.in-Block.any (map (of_row w (unfolded w c.args.turns) e c.in-Block.body) (map (see (see_trees c.rows_of_query.new.trees)) c.deref.result.now)))) c.verdict_of_block.ensures.verdict answers is)
 
 pub verdicts::verdict_of_part-returns-in-When-clause-grows : goal.verdicts::verdict_of_part-returns-in-When-clause-grows
 verdicts::verdict_of_part-returns-in-When-clause-grows t c =
@@ -793,8 +793,8 @@ verdicts::verdict_of_judged-returns-clause-grows t c =
 
 pub verdicts::verdict_of_judged-returns-clause-verdict : goal.verdicts::verdict_of_judged-returns-clause-verdict
 verdicts::verdict_of_judged-returns-clause-verdict t c =
-    λ answers is. IfOk-weaker c.verdict_under.result _ _ (λ v e. rule-judged (world_in c.args.trees.now answers) (named_in c.args.trees.now answers c.args.turns) c.args.rule.now _ _ c.in_ok-conditions.conditions v (ap (spots (see_trees c.args.trees.now)) top-seen) (framed (see_trees c.args.trees.now) c.root.result _ ∙ ap₂ Inner (ap (see_spot_in (see_trees c.args.trees.now)) c.root.ensures) (ap (spots (see_trees c.args.trees.now)) top-seen)) (c.in_ok-conditions.ensures.verdict answers is) e)
-    (meant-before c.args.trees.now (see_trees c.verdict_of_cond.new.trees) c.in_ok-conditions.ensures.grows _ (inner-sound (see_trees c.args.trees.now).known c.root.result _ (ap (is_known_ref (see_trees c.args.trees.now).known) c.root.ensures ∙ (known-root (see_trees c.args.trees.now).known root_ref refl (IsTree-root (see_trees c.args.trees.now).known.template c.len-nodes.ensures.tree))) (top-sound (see_trees c.args.trees.now).known (known-root (see_trees c.args.trees.now).known root_ref refl (IsTree-root (see_trees c.args.trees.now).known.template c.len-nodes.ensures.tree)))) (λ w e. IfOk c.verdict_under.result (λ v. v ≡ guarded_by c.in_ok-conditions.conditions (body_verdict w (names_by w c.args.turns) e (see_body c.args.rule.now.body)))) c.verdict_under.ensures.verdict answers is)
+    λ answers is. IfOk-weaker c.verdict_under.result _ _ (λ v e. rule-judged (world_in c.args.trees.now answers) (named_in c.args.trees.now answers c.args.turns) c.args.rule.now _ _ c.in_ok-conditions.conditions v (ap (locations (see_trees c.args.trees.now)) top-seen) (framed (see_trees c.args.trees.now) c.root.result _ ∙ ap₂ Inner (ap (see_location_in (see_trees c.args.trees.now)) c.root.ensures) (ap (locations (see_trees c.args.trees.now)) top-seen)) (c.in_ok-conditions.ensures.verdict answers is) e)
+    (meant-before c.args.trees.now (see_trees c.verdict_of_cond.new.trees) c.in_ok-conditions.ensures.grows _ (inner-sound (see_trees c.args.trees.now).known c.root.result _ (ap (is_known_ref (see_trees c.args.trees.now).known) c.root.ensures ∙ (known-root (see_trees c.args.trees.now).known root_ref refl (IsTree-root (see_trees c.args.trees.now).known.template c.len-nodes.ensures.tree))) (top-sound (see_trees c.args.trees.now).known (known-root (see_trees c.args.trees.now).known root_ref refl (IsTree-root (see_trees c.args.trees.now).known.template c.len-nodes.ensures.tree)))) (λ w e. IfOk c.verdict_under.result (λ v. v ≡ guarded_by c.in_ok-conditions.conditions (body_verdict w (unfolded w c.args.turns) e (see_body c.args.rule.now.body)))) c.verdict_under.ensures.verdict answers is)
 
 pub names::rows_of_variable-overflow_sub-turns : goal.names::rows_of_variable-overflow_sub-turns
 names::rows_of_variable-overflow_sub-turns t c =
@@ -843,7 +843,7 @@ names::rows_of_variable-returns-in-Value-clause-grows t c =
 pub names::rows_of_variable-returns-in-Value-clause-rows : goal.names::rows_of_variable-returns-in-Value-clause-rows
 names::rows_of_variable-returns-in-Value-clause-rows t c =
     λ answers is. IfOk-weaker c.rows_of_value.result _ _ (λ rows e. bound (world_in c.args.trees.now answers) c.args.turns c.args.site (scopes_in c.args.trees.now c.args.env.now) (Some (Value c.in-Value.up c.in-Value.site)) (map (see (see_trees c.rows_of_value.new.trees)) rows.items) c.if-turns-eq0.false (ap Some (sym c.in-Value.is) ∙ c.in-Some.ensures)
-    (e ∙ ap (λ (i : scopes.Environment). value_rows (world_in c.args.trees.now answers) (named_in c.args.trees.now answers (c.args.turns - 1)) (spots (see_trees c.args.trees.now) i) (piece_at (see_trees c.args.trees.now).known.file c.in-Value.site)) c.outwards.ensures ∙ ap (λ (i : Environment). value_rows (world_in c.args.trees.now answers) (named_in c.args.trees.now answers (c.args.turns - 1)) i (piece_at (see_trees c.args.trees.now).known.file c.in-Value.site)) (sym (outwards-seen (see_trees c.args.trees.now).known (see_trees c.args.trees.now).calls c.in-Value.up (see_env c.args.env.now))))) (c.rows_of_value.ensures.rows answers is)
+    (e ∙ ap (λ (i : scopes.Environment). value_rows (world_in c.args.trees.now answers) (named_in c.args.trees.now answers (c.args.turns - 1)) (locations (see_trees c.args.trees.now) i) (piece_at (see_trees c.args.trees.now).known.file c.in-Value.site)) c.outwards.ensures ∙ ap (λ (i : Environment). value_rows (world_in c.args.trees.now answers) (named_in c.args.trees.now answers (c.args.turns - 1)) i (piece_at (see_trees c.args.trees.now).known.file c.in-Value.site)) (sym (outwards-seen (see_trees c.args.trees.now).known (see_trees c.args.trees.now).calls c.in-Value.up (see_env c.args.env.now))))) (c.rows_of_value.ensures.rows answers is)
 
 pub names::rows_of_variable-returns-in-Value-clause-known : goal.names::rows_of_variable-returns-in-Value-clause-known
 names::rows_of_variable-returns-in-Value-clause-known t c =
@@ -860,7 +860,7 @@ names::rows_of_variable-returns-in-Capture-clause-grows t c =
 pub names::rows_of_variable-returns-in-Capture-clause-rows : goal.names::rows_of_variable-returns-in-Capture-clause-rows
 names::rows_of_variable-returns-in-Capture-clause-rows t c =
     λ answers is. IfOk-weaker c.rows_of_capture.result _ _ (λ rows e. bound (world_in c.args.trees.now answers) c.args.turns c.args.site (scopes_in c.args.trees.now c.args.env.now) (Some (Capture c.in-Capture.up c.in-Capture.step)) (map (see (see_trees c.rows_of_capture.new.trees)) rows.items) c.if-turns-eq0.false (ap Some (sym c.in-Capture.is) ∙ c.in-Some.ensures)
-    (e ∙ ap (λ (i : scopes.Environment). captured_rows (world_in c.args.trees.now answers) (named_in c.args.trees.now answers (c.args.turns - 1)) (spots (see_trees c.args.trees.now) i) (piece_at (see_trees c.args.trees.now).known.file c.in-Capture.step)) c.outwards-in-Capture.ensures ∙ ap (λ (i : Environment). captured_rows (world_in c.args.trees.now answers) (named_in c.args.trees.now answers (c.args.turns - 1)) i (piece_at (see_trees c.args.trees.now).known.file c.in-Capture.step)) (sym (outwards-seen (see_trees c.args.trees.now).known (see_trees c.args.trees.now).calls c.in-Capture.up (see_env c.args.env.now))))) (c.rows_of_capture.ensures.rows answers is)
+    (e ∙ ap (λ (i : scopes.Environment). captured_rows (world_in c.args.trees.now answers) (named_in c.args.trees.now answers (c.args.turns - 1)) (locations (see_trees c.args.trees.now) i) (piece_at (see_trees c.args.trees.now).known.file c.in-Capture.step)) c.outwards-in-Capture.ensures ∙ ap (λ (i : Environment). captured_rows (world_in c.args.trees.now answers) (named_in c.args.trees.now answers (c.args.turns - 1)) i (piece_at (see_trees c.args.trees.now).known.file c.in-Capture.step)) (sym (outwards-seen (see_trees c.args.trees.now).known (see_trees c.args.trees.now).calls c.in-Capture.up (see_env c.args.env.now))))) (c.rows_of_capture.ensures.rows answers is)
 
 pub names::rows_of_variable-returns-in-Capture-clause-known : goal.names::rows_of_variable-returns-in-Capture-clause-known
 names::rows_of_variable-returns-in-Capture-clause-known t c =
@@ -877,7 +877,7 @@ names::rows_of_variable-returns-in-Param-clause-grows t c =
 pub names::rows_of_variable-returns-in-Param-clause-rows : goal.names::rows_of_variable-returns-in-Param-clause-rows
 names::rows_of_variable-returns-in-Param-clause-rows t c =
     λ answers is. IfOk-weaker c.rows_of_argument.result _ _ (λ rows e. bound (world_in c.args.trees.now answers) c.args.turns c.args.site (scopes_in c.args.trees.now c.args.env.now) (Some (Param c.in-Param.up c.in-Param.index)) (map (see (see_trees c.rows_of_argument.new.trees)) rows.items) c.if-turns-eq0.false (ap Some (sym c.in-Param.is) ∙ c.in-Some.ensures)
-    (e ∙ ap (λ (i : scopes.Environment). parameter_rows (world_in c.args.trees.now answers) (named_in c.args.trees.now answers (c.args.turns - 1)) (spots (see_trees c.args.trees.now) i) c.in-Param.index) c.outwards-in-Param.ensures ∙ ap (λ (i : Environment). parameter_rows (world_in c.args.trees.now answers) (named_in c.args.trees.now answers (c.args.turns - 1)) i c.in-Param.index) (sym (outwards-seen (see_trees c.args.trees.now).known (see_trees c.args.trees.now).calls c.in-Param.up (see_env c.args.env.now))))) (c.rows_of_argument.ensures.rows answers is)
+    (e ∙ ap (λ (i : scopes.Environment). parameter_rows (world_in c.args.trees.now answers) (named_in c.args.trees.now answers (c.args.turns - 1)) (locations (see_trees c.args.trees.now) i) c.in-Param.index) c.outwards-in-Param.ensures ∙ ap (λ (i : Environment). parameter_rows (world_in c.args.trees.now answers) (named_in c.args.trees.now answers (c.args.turns - 1)) i c.in-Param.index) (sym (outwards-seen (see_trees c.args.trees.now).known (see_trees c.args.trees.now).calls c.in-Param.up (see_env c.args.env.now))))) (c.rows_of_argument.ensures.rows answers is)
 
 pub names::rows_of_variable-returns-in-Param-clause-known : goal.names::rows_of_variable-returns-in-Param-clause-known
 names::rows_of_variable-returns-in-Param-clause-known t c =
@@ -1089,8 +1089,8 @@ names::verdict_of_called-returns-in-Some-clause-grows t c =
 pub names::verdict_of_called-returns-in-Some-clause-verdict : goal.names::verdict_of_called-returns-in-Some-clause-verdict
 names::verdict_of_called-returns-in-Some-clause-verdict t c =
     λ answers is. IfOk-weaker c.verdict_of_body.result _ _ (λ v e. e
-    ∙ ap (λ (i : scopes.Environment). body_verdict (world_in c.args.trees.now answers) (named_in c.args.trees.now answers (c.args.turns - 1)) (spots (see_trees c.args.trees.now) i) (see_body c.in-Some.rule.now.body)) (called-seen _ _ _ ∙ ap (λ (r : Ref). scopes.Called r (expr_list (map see_expr c.args.args.now)) (see_env c.args.env.now)) c.current.ensures)
-    ∙ ap (λ (v : Spot). body_verdict (world_in c.args.trees.now answers) (named_in c.args.trees.now answers (c.args.turns - 1)) (Called v (expr_list (map see_expr c.args.args.now)) (scopes_in c.args.trees.now c.args.env.now)) (see_body c.in-Some.rule.now.body)) (sym (current-seen (see_trees c.args.trees.now).known (see_trees c.args.trees.now).calls (see_env c.args.env.now)))
+    ∙ ap (λ (i : scopes.Environment). body_verdict (world_in c.args.trees.now answers) (named_in c.args.trees.now answers (c.args.turns - 1)) (locations (see_trees c.args.trees.now) i) (see_body c.in-Some.rule.now.body)) (called-seen _ _ _ ∙ ap (λ (r : Ref). scopes.Called r (expr_list (map see_expr c.args.args.now)) (see_env c.args.env.now)) c.current.ensures)
+    ∙ ap (λ (v : Location). body_verdict (world_in c.args.trees.now answers) (named_in c.args.trees.now answers (c.args.turns - 1)) (Called v (expr_list (map see_expr c.args.args.now)) (scopes_in c.args.trees.now c.args.env.now)) (see_body c.in-Some.rule.now.body)) (sym (current-seen (see_trees c.args.trees.now).known (see_trees c.args.trees.now).calls (see_env c.args.env.now)))
     ∙ calls (world_in c.args.trees.now answers) c.args.turns c.args.site (scopes_in c.args.trees.now c.args.env.now) (expr_list (map see_expr c.args.args.now)) (see_rule c.in-Some.rule.now) c.if-turns-eq0.false (sym c.named_rule.ensures ∙ ap rule_found c.in-Some.is)) (c.verdict_of_body.ensures.verdict answers is)
 
 pub names::verdict_of_called-returns-in-None-clause-grows : goal.names::verdict_of_called-returns-in-None-clause-grows

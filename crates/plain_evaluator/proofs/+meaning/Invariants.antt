@@ -4,14 +4,14 @@ use Rattle.guard_syntax.specs.Seen.{see_query, see_form, see_expr, see_opt_expr,
 use Rattle.guard_syntax.specs.Syntax.{function}
 use Rattle.rule_names.specs.Forms.{pieces_form}
 use Rattle.rule_names.specs.Pieces.{pieces_query, pieces_expr, pieces_opt_expr, pieces_exprs, pieces_rule, pieces_disjs, pieces_parts, pieces_part, pieces_body, pieces_conds, pieces_opt_conds}
-use Rattle.rule_meaning.specs.Known.{is_known}
-use Rattle.rule_meaning.specs.SpotEnvironments.{current_of}
-use Rattle.rule_meaning.specs.SpotMeaning.{rows_from}
-use Rattle.rule_meaning.specs.SpotTurns.{names_by}
-use Rattle.rule_meaning.specs.Spots.{Found}
+use Rattle.rule_meaning.specs.StoreModel.{is_known}
+use Rattle.rule_meaning.specs.Environments.{current_of}
+use Rattle.rule_meaning.specs.Meaning.{rows_from}
+use Rattle.rule_meaning.specs.NameMeaning.{unfolded}
+use Rattle.rule_meaning.specs.Locations.{Found}
 use Rattle.rule_meaning.specs.Verdicts.{conjunction, disjunction}
 use Rattle.plain_evaluator.specs.Seen.{see_env}
-use Rattle.plain_evaluator.specs.States.{Answering, Grows, are_known, see, see_trees, seen_rows, spots, see_spot_in}
+use Rattle.plain_evaluator.specs.States.{Answering, Grows, are_known, see, see_trees, seen_rows, locations, see_location_in}
 use Rattle.plain_evaluator.proofs.Ranks.{rank}
 use Rattle.plain_evaluator.proofs.RowsInTurn.{left_from, of_expr}
 use Rattle.plain_evaluator.proofs.Judged.{of_disj, of_part, of_row, of_conds}
@@ -106,32 +106,32 @@ decreases-verdicts::verdict_of_block l = rank (see_trees l.trees.now).known.file
 abbrev pub invariant-rows::rows_of_first-loop-index : goal.invariant-rows::rows_of_first-loop-index
 invariant-rows::rows_of_first-loop-index l =
     Grows (see_trees l.fn.trees) (see_trees l.trees)
-    × Answering (see_trees l.fn.trees) (λ w. left_from w (names_by w l.turns) (spots (see_trees l.fn.trees) (see_env l.env)) l.after_key l.steps l.index (map (see (see_trees l.trees)) l.rows.items)
-    ≡ rows_from w (names_by w l.turns) (spots (see_trees l.fn.trees) (see_env l.env)) false (step_list (map see_step l.steps)) (Found (current_of (spots (see_trees l.fn.trees) (see_env l.env))) ∷ []))
+    × Answering (see_trees l.fn.trees) (λ w. left_from w (unfolded w l.turns) (locations (see_trees l.fn.trees) (see_env l.env)) l.after_key l.steps l.index (map (see (see_trees l.trees)) l.rows.items)
+    ≡ rows_from w (unfolded w l.turns) (locations (see_trees l.fn.trees) (see_env l.env)) false (step_list (map see_step l.steps)) (Found (current_of (locations (see_trees l.fn.trees) (see_env l.env))) ∷ []))
     × (list_all (is_known (see_trees l.trees).known) l.rows.items ≡ true)
 
 abbrev pub invariant-rows::rows_of_args-loop-arg : goal.invariant-rows::rows_of_args-loop-arg
 invariant-rows::rows_of_args-loop-arg l =
     Grows (see_trees l.fn.trees) (see_trees l.trees)
-    × Answering (see_trees l.fn.trees) (λ w. map (seen_rows (see_trees l.trees)) l.all.items ≡ map (of_expr w (names_by w l.turns) (spots (see_trees l.fn.trees) (see_env l.env))) (take l.arg-index l.args))
+    × Answering (see_trees l.fn.trees) (λ w. map (seen_rows (see_trees l.trees)) l.all.items ≡ map (of_expr w (unfolded w l.turns) (locations (see_trees l.fn.trees) (see_env l.env))) (take l.arg-index l.args))
     × (list_all (are_known (see_trees l.trees)) l.all.items ≡ true)
 
 abbrev pub invariant-verdicts::verdict_of_disjs-loop-disj : goal.invariant-verdicts::verdict_of_disjs-loop-disj
 invariant-verdicts::verdict_of_disjs-loop-disj l =
     Grows (see_trees l.initial.trees) (see_trees l.trees)
-    × Answering (see_trees l.initial.trees) (λ w. l.verdict ≡ conjunction (map (of_disj w (names_by w l.turns) (spots (see_trees l.initial.trees) (see_env l.env))) (take l.disj-index l.disjs)))
+    × Answering (see_trees l.initial.trees) (λ w. l.verdict ≡ conjunction (map (of_disj w (unfolded w l.turns) (locations (see_trees l.initial.trees) (see_env l.env))) (take l.disj-index l.disjs)))
 
 abbrev pub invariant-verdicts::verdict_of_parts-loop-part : goal.invariant-verdicts::verdict_of_parts-loop-part
 invariant-verdicts::verdict_of_parts-loop-part l =
     Grows (see_trees l.initial.trees) (see_trees l.trees)
-    × Answering (see_trees l.initial.trees) (λ w. l.verdict ≡ disjunction (map (of_part w (names_by w l.turns) (spots (see_trees l.initial.trees) (see_env l.env))) (take l.part-index l.parts)))
+    × Answering (see_trees l.initial.trees) (λ w. l.verdict ≡ disjunction (map (of_part w (unfolded w l.turns) (locations (see_trees l.initial.trees) (see_env l.env))) (take l.part-index l.parts)))
 
 abbrev pub invariant-verdicts::verdict_of_block-loop-row : goal.invariant-verdicts::verdict_of_block-loop-row
 invariant-verdicts::verdict_of_block-loop-row l =
     Grows (see_trees l.initial.trees) (see_trees l.trees)
-    × Answering (see_trees l.initial.trees) (λ w. l.verdicts.items ≡ map (of_row w (names_by w l.turns) (spots (see_trees l.initial.trees) (see_env l.env)) l.body) (map (see (see_trees l.initial.trees)) (take l.row-index l.rows)))
+    × Answering (see_trees l.initial.trees) (λ w. l.verdicts.items ≡ map (of_row w (unfolded w l.turns) (locations (see_trees l.initial.trees) (see_env l.env)) l.body) (map (see (see_trees l.initial.trees)) (take l.row-index l.rows)))
 
 abbrev pub invariant-verdicts::verdicts_of_conds-loop-value : goal.invariant-verdicts::verdicts_of_conds-loop-value
 invariant-verdicts::verdicts_of_conds-loop-value l =
     Grows (see_trees l.initial.trees) (see_trees l.trees)
-    × Answering (see_trees l.initial.trees) (λ w. l.verdicts.items ≡ map (of_conds w (names_by w l.turns) (spots (see_trees l.initial.trees) (see_env l.env)) l.conds) (map (see_spot_in (see_trees l.initial.trees)) (take l.value-index l.values)))
+    × Answering (see_trees l.initial.trees) (λ w. l.verdicts.items ≡ map (of_conds w (unfolded w l.turns) (locations (see_trees l.initial.trees) (see_env l.env)) l.conds) (map (see_location_in (see_trees l.initial.trees)) (take l.value-index l.values)))

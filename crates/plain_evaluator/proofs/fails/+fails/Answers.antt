@@ -5,21 +5,21 @@ use Rattle.guard_syntax.specs.declared.row.Row.{Row}
 use Rattle.guard_syntax.specs.declared.row.Row.TheVariants as row
 use Rattle.guard_syntax.specs.declared.syntax.Expr.{Expr}
 use Rattle.rule_names.specs.Pieces.{pieces_query, pieces_body, pieces_part, pieces_exprs, pieces_opt_expr}
-use Rattle.rule_meaning.specs.Known.{is_known, is_known_ref}
+use Rattle.rule_meaning.specs.StoreModel.{is_known, is_known_ref}
 use Rattle.rule_meaning.specs.Fails.{calls_by, part_fails}
 use Rattle.rule_meaning.specs.Kinds.{rows_of_type}
 use Rattle.rule_meaning.specs.Roots.{root_ref}
-use Rattle.rule_meaning.specs.SpotEnvironments.{Inner, Called}
-use Rattle.rule_meaning.specs.SpotMeaning.{body_verdict, part_verdict}
-use Rattle.rule_meaning.specs.SpotTurns.{names_by}
+use Rattle.rule_meaning.specs.Environments.{Inner, Called}
+use Rattle.rule_meaning.specs.Meaning.{body_verdict, part_verdict}
+use Rattle.rule_meaning.specs.NameMeaning.{unfolded}
 use Rattle.plain_evaluator.specs.Entries.{see_entries}
 use Rattle.plain_evaluator.specs.Seen.{see_env}
-use Rattle.plain_evaluator.specs.States.{see, see_spot_in, see_trees, spots}
+use Rattle.plain_evaluator.specs.States.{see, see_location_in, see_trees, locations}
 use Rattle.plain_evaluator.proofs.Appended.{as-appended, behind, none-behind, owed-later, rows-end, rows-go-on, shown-on, walk-ends, walk-goes-on, walk-starts}
 use Rattle.plain_evaluator.proofs.Conjoined.{passes-at}
 use Rattle.plain_evaluator.proofs.Failing.{block-listed, body-called, body-listed, call-listed, called-listed, disj-listed, disj-passed, disjs-listed, fails-where, found-listed, kinds-listed, missed-listed, negated-listed, nothing-called, of_body, of_disj, of_part, of_parts, of_row, of_rows, out-of-turns, parts-listed, passes-where, refer-listed, sides-listed, when-listed}
 use Rattle.plain_evaluator.proofs.Growing.{Grows-refl, Grows-trans, named_in, row-on, scopes_in, world_in}
-use Rattle.plain_evaluator.proofs.GrowingVerdicts.{current-spot, framed, types-on}
+use Rattle.plain_evaluator.proofs.GrowingVerdicts.{current-location, framed, types-on}
 use Rattle.plain_evaluator.proofs.Named.{body-stands, rule-stands, rule_found}
 use Rattle.plain_evaluator.proofs.Placed.{block-in, body-in, call-in, disj-among, disj-in, kinds_body-in, part-among, same-among, test-in, when_body-in}
 use Rattle.plain_evaluator.proofs.Ranks.{IsPart, first-placed, owed-less, owed-part, owed-same, part-stands, second-placed}
@@ -148,7 +148,7 @@ pub push_failing_part-returns-clause-entries : goal.push_failing_part-returns-cl
 push_failing_part-returns-clause-entries t c =
     λ answers is. as-appended c.push_part.result (see_entries (see_trees c.push_part.new.trees) c.push_part.new.into) (see_entries (see_trees c.args.trees.now) c.args.into.now) _ _
     (fails-where c.in_ok-verdict.verdict (part_verdict (world_in c.args.trees.now answers) (named_in c.args.trees.now answers c.args.turns) (scopes_in c.args.trees.now c.args.env.now) (see_part c.args.part.now)) (part_fails (world_in c.args.trees.now answers) (named_in c.args.trees.now answers c.args.turns) (calls_by (world_in c.args.trees.now answers) c.args.turns) (scopes_in c.args.trees.now c.args.env.now) (see_part c.args.part.now)) (part_fails (world_in c.args.trees.now answers) (named_in c.args.trees.now answers c.args.turns) (calls_by (world_in c.args.trees.now answers) c.args.turns) (scopes_in c.args.trees.now c.args.env.now) (see_part c.args.part.now)) c.is_fail.result (c.in_ok-verdict.ensures.verdict answers is) c.is_fail.ensures c.if-not-is_fail.false refl)
-    (behind c.args.trees.now (see_trees c.verdict_of_part.new.trees) c.in_ok-verdict.ensures.grows c.args.into.now c.requires.showable (see_env c.args.env.now) c.requires.sound c.push_part.result (see_entries (see_trees c.push_part.new.trees) c.push_part.new.into) (λ w e. part_fails w (names_by w c.args.turns) (calls_by w c.args.turns) e (see_part c.args.part.now)) c.push_part.ensures.entries answers is)
+    (behind c.args.trees.now (see_trees c.verdict_of_part.new.trees) c.in_ok-verdict.ensures.grows c.args.into.now c.requires.showable (see_env c.args.env.now) c.requires.sound c.push_part.result (see_entries (see_trees c.push_part.new.trees) c.push_part.new.into) (λ w e. part_fails w (unfolded w c.args.turns) (calls_by w c.args.turns) e (see_part c.args.part.now)) c.push_part.ensures.entries answers is)
 
 pub push_failing_part-returns-clause-showable : goal.push_failing_part-returns-clause-showable
 push_failing_part-returns-clause-showable t c =
@@ -251,7 +251,7 @@ push_part-returns-in-Refer-clause-grows t c =
 pub push_part-returns-in-Refer-clause-entries : goal.push_part-returns-in-Refer-clause-entries
 push_part-returns-in-Refer-clause-entries t c =
     λ answers is. as-appended c.push_value.result (see_entries (see_trees c.args.trees.now) c.push_value.new.into) (see_entries (see_trees c.args.trees.now) c.args.into.now) _ _
-    (refer-listed c.args.turns (world_in c.args.trees.now answers) (scopes_in c.args.trees.now c.args.env.now) c.args.part.now c.in-Refer.site c.in-Refer.not c.in-Refer.name c.in-Refer.note (see_spot_in (see_trees c.args.trees.now) c.current.result) c.in-Refer.is (ap (see_spot_in (see_trees c.args.trees.now)) c.current.ensures ∙ current-spot (see_trees c.args.trees.now) (see_env c.args.env.now)))
+    (refer-listed c.args.turns (world_in c.args.trees.now answers) (scopes_in c.args.trees.now c.args.env.now) c.args.part.now c.in-Refer.site c.in-Refer.not c.in-Refer.name c.in-Refer.note (see_location_in (see_trees c.args.trees.now) c.current.result) c.in-Refer.is (ap (see_location_in (see_trees c.args.trees.now)) c.current.ensures ∙ current-location (see_trees c.args.trees.now) (see_env c.args.env.now)))
     c.push_value.ensures.entries
 
 pub push_part-returns-in-Refer-clause-showable : goal.push_part-returns-in-Refer-clause-showable
@@ -312,7 +312,7 @@ push_row-returns-in-Found-clause-grows t c =
 pub push_row-returns-in-Found-clause-entries : goal.push_row-returns-in-Found-clause-entries
 push_row-returns-in-Found-clause-entries t c =
     λ answers is. as-appended c.push_failing_body.result (see_entries (see_trees c.push_failing_body.new.trees) c.push_failing_body.new.into) (see_entries (see_trees c.args.trees.now) c.args.into.now) _ _
-    (found-listed c.args.turns (world_in c.args.trees.now answers) (scopes_in c.args.trees.now c.args.env.now) _ c.args.part c.args.body.now (see (see_trees c.args.trees.now) c.args.row.now) (see_spot_in (see_trees c.args.trees.now) c.in-Found.value) (ap (see (see_trees c.args.trees.now)) c.in-Found.is) (framed (see_trees c.args.trees.now) c.in-Found.value _))
+    (found-listed c.args.turns (world_in c.args.trees.now answers) (scopes_in c.args.trees.now c.args.env.now) _ c.args.part c.args.body.now (see (see_trees c.args.trees.now) c.args.row.now) (see_location_in (see_trees c.args.trees.now) c.in-Found.value) (ap (see (see_trees c.args.trees.now)) c.in-Found.is) (framed (see_trees c.args.trees.now) c.in-Found.value _))
     (c.push_failing_body.ensures.entries answers is)
 
 pub push_row-returns-in-Found-clause-showable : goal.push_row-returns-in-Found-clause-showable
@@ -396,7 +396,7 @@ push_within-returns-clause-grows t c =
 pub push_within-returns-clause-entries : goal.push_within-returns-clause-entries
 push_within-returns-clause-entries t c =
     λ answers is. as-appended c.push_body.result (see_entries (see_trees c.push_body.new.trees) c.push_body.new.into) (see_entries (see_trees c.args.trees.now) c.args.into.now) _ _
-    (ap (λ i. of_body c.args.turns (world_in c.args.trees.now answers) i c.args.body.now) (framed (see_trees c.args.trees.now) c.current.result _ ∙ ap (λ r. Inner r (scopes_in c.args.trees.now c.args.env.now)) (ap (see_spot_in (see_trees c.args.trees.now)) c.current.ensures ∙ current-spot (see_trees c.args.trees.now) (see_env c.args.env.now))))
+    (ap (λ i. of_body c.args.turns (world_in c.args.trees.now answers) i c.args.body.now) (framed (see_trees c.args.trees.now) c.current.result _ ∙ ap (λ r. Inner r (scopes_in c.args.trees.now c.args.env.now)) (ap (see_location_in (see_trees c.args.trees.now)) c.current.ensures ∙ current-location (see_trees c.args.trees.now) (see_env c.args.env.now))))
     (c.push_body.ensures.entries answers is)
 
 pub push_within-returns-clause-showable : goal.push_within-returns-clause-showable
@@ -446,7 +446,7 @@ push_call-returns-then-not-clause-grows t c =
 pub push_call-returns-then-not-clause-entries : goal.push_call-returns-then-not-clause-entries
 push_call-returns-then-not-clause-entries t c =
     λ answers is. as-appended c.push_value.result (see_entries (see_trees c.args.trees.now) c.push_value.new.into) (see_entries (see_trees c.args.trees.now) c.args.into.now) _ _
-    (negated-listed c.args.turns (world_in c.args.trees.now answers) (scopes_in c.args.trees.now c.args.env.now) c.args.site c.args.not c.args.args.now (see_spot_in (see_trees c.args.trees.now) c.current.result) c.if-not.true (ap (see_spot_in (see_trees c.args.trees.now)) c.current.ensures ∙ current-spot (see_trees c.args.trees.now) (see_env c.args.env.now)))
+    (negated-listed c.args.turns (world_in c.args.trees.now answers) (scopes_in c.args.trees.now c.args.env.now) c.args.site c.args.not c.args.args.now (see_location_in (see_trees c.args.trees.now) c.current.result) c.if-not.true (ap (see_location_in (see_trees c.args.trees.now)) c.current.ensures ∙ current-location (see_trees c.args.trees.now) (see_env c.args.env.now)))
     c.push_value.ensures.entries
 
 pub push_call-returns-then-not-clause-showable : goal.push_call-returns-then-not-clause-showable
@@ -510,7 +510,7 @@ pub push_called-returns-in-Some-clause-entries : goal.push_called-returns-in-Som
 push_called-returns-in-Some-clause-entries t c =
     λ answers is. as-appended c.push_body.result (see_entries (see_trees c.push_body.new.trees) c.push_body.new.into) (see_entries (see_trees c.args.trees.now) c.args.into.now) _ _
     (body-called c.args.turns (world_in c.args.trees.now answers) (scopes_in c.args.trees.now c.args.env.now) _ c.args.site (expr_list (map see_expr c.args.args.now)) (see_rule c.in-Some.rule.now) c.if-turns-eq0.false (sym c.named_rule.ensures ∙ ap rule_found c.in-Some.is)
-    (ap (spots (see_trees c.args.trees.now)) (called-seen _ _ _) ∙ ap (λ v. Called v (expr_list (map see_expr c.args.args.now)) (scopes_in c.args.trees.now c.args.env.now)) (ap (see_spot_in (see_trees c.args.trees.now)) c.current.ensures ∙ current-spot (see_trees c.args.trees.now) (see_env c.args.env.now))))
+    (ap (locations (see_trees c.args.trees.now)) (called-seen _ _ _) ∙ ap (λ v. Called v (expr_list (map see_expr c.args.args.now)) (scopes_in c.args.trees.now c.args.env.now)) (ap (see_location_in (see_trees c.args.trees.now)) c.current.ensures ∙ current-location (see_trees c.args.trees.now) (see_env c.args.env.now))))
     (c.push_body.ensures.entries answers is)
 
 pub push_called-returns-in-Some-clause-showable : goal.push_called-returns-in-Some-clause-showable

@@ -4,7 +4,7 @@ use Rattle.guard_syntax.specs.Seen.{see_disj, see_part, see_body, see_expr, disj
 use Rattle.rule_names.specs.Pieces.{pieces_disjs, pieces_disj, pieces_parts, pieces_part, pieces_body, pieces_exprs}
 use Rattle.plain_evaluator.specs.Entries.{AreShowable, see_entries}
 use Rattle.plain_evaluator.specs.Seen.{see_env}
-use Rattle.plain_evaluator.specs.States.{Answering, Grows, see, see_trees, spots}
+use Rattle.plain_evaluator.specs.States.{Answering, Grows, see, see_trees, locations}
 use Rattle.plain_evaluator.proofs.Failing.{of_disj, of_part, of_row}
 use Rattle.plain_evaluator.proofs.Ranks.{rank}
 use Rattle.plain_evaluator.proofs.fails.+fails.Given as goal
@@ -54,14 +54,14 @@ abbrev pub invariant-push_disjs-loop-disj : goal.invariant-push_disjs-loop-disj
 invariant-push_disjs-loop-disj l =
     Grows (see_trees l.initial.trees) (see_trees l.trees)
     × Answering (see_trees l.initial.trees) (λ w. see_entries (see_trees l.trees) l.into
-    ≡ see_entries (see_trees l.initial.trees) l.initial.into ++ flat_map (of_disj l.turns w (spots (see_trees l.initial.trees) (see_env l.env))) (take l.disj-index l.disjs))
+    ≡ see_entries (see_trees l.initial.trees) l.initial.into ++ flat_map (of_disj l.turns w (locations (see_trees l.initial.trees) (see_env l.env))) (take l.disj-index l.disjs))
     × AreShowable (see_trees l.trees) l.into
 
 abbrev pub invariant-push_parts-loop-part : goal.invariant-push_parts-loop-part
 invariant-push_parts-loop-part l =
     Grows (see_trees l.initial.trees) (see_trees l.trees)
     × Answering (see_trees l.initial.trees) (λ w. see_entries (see_trees l.trees) l.into
-    ≡ see_entries (see_trees l.initial.trees) l.initial.into ++ flat_map (of_part l.turns w (spots (see_trees l.initial.trees) (see_env l.env))) (take l.part-index l.parts))
+    ≡ see_entries (see_trees l.initial.trees) l.initial.into ++ flat_map (of_part l.turns w (locations (see_trees l.initial.trees) (see_env l.env))) (take l.part-index l.parts))
     × AreShowable (see_trees l.trees) l.into
 
 abbrev pub invariant-push_rows-loop-row : goal.invariant-push_rows-loop-row
@@ -69,5 +69,5 @@ invariant-push_rows-loop-row l =
     Grows (see_trees l.initial.trees) (see_trees l.trees)
     × Answering (see_trees l.initial.trees) (λ w. see_entries (see_trees l.trees) l.into
     ≡ see_entries (see_trees l.initial.trees) l.initial.into
-    ++ flat_map (λ x. of_row l.turns l.part l.body w (spots (see_trees l.initial.trees) (see_env l.env)) (see (see_trees l.initial.trees) x)) (take l.row-index l.rows))
+    ++ flat_map (λ x. of_row l.turns l.part l.body w (locations (see_trees l.initial.trees) (see_env l.env)) (see (see_trees l.initial.trees) x)) (take l.row-index l.rows))
     × AreShowable (see_trees l.trees) l.into

@@ -1,7 +1,7 @@
 use Rattle.std.proofs.Common.{refl, ap, map}
 use Rattle.guard_syntax.specs.Seen.{see_disj, disj_list}
 use Rattle.rule_meaning.specs.Roots.{root_ref}
-use Rattle.plain_evaluator.specs.States.{see_trees, spots}
+use Rattle.plain_evaluator.specs.States.{see_trees, locations}
 use Rattle.plain_evaluator.proofs.Appended.{all-appended}
 use Rattle.plain_evaluator.proofs.Failing.{loose-most}
 use Rattle.plain_evaluator.proofs.Growing.{world_in}
@@ -16,5 +16,5 @@ push_disjs-requires-clause-sound c =
 pub returns-clause-entries : goal.returns-clause-entries
 returns-clause-entries c =
     λ answers is. all-appended (see_trees c.args.trees.now) c.new-entries.result _ _ _ c.new-entries.ensures.items
-    (loose-most (world_in c.args.trees.now answers) c.most_turns.result _ (disj_list (map see_disj c.args.parts.now)) c.most_turns.ensures (ap (spots (see_trees c.args.trees.now)) top-seen))
+    (loose-most (world_in c.args.trees.now answers) c.most_turns.result _ (disj_list (map see_disj c.args.parts.now)) c.most_turns.ensures (ap (locations (see_trees c.args.trees.now)) top-seen))
     (c.in_ok-push_disjs.ensures.entries answers is)

@@ -1,9 +1,9 @@
 use Rattle.std.proofs.Common.{◌∙◌, refl, ap, ap₂}
 use Rattle.guard_syntax.specs.Seen.{see_rule}
-use Rattle.rule_meaning.specs.Known.{is_known_ref}
+use Rattle.rule_meaning.specs.StoreModel.{is_known_ref}
 use Rattle.rule_meaning.specs.Roots.{root_ref}
-use Rattle.rule_meaning.specs.SpotEnvironments.{Inner}
-use Rattle.plain_evaluator.specs.States.{see_spot_in, see_trees, spots}
+use Rattle.rule_meaning.specs.Environments.{Inner}
+use Rattle.plain_evaluator.specs.States.{see_location_in, see_trees, locations}
 use Rattle.plain_evaluator.proofs.Appended.{all-appended}
 use Rattle.plain_evaluator.proofs.Failing.{rule-most}
 use Rattle.plain_evaluator.proofs.Growing.{world_in}
@@ -26,5 +26,5 @@ pub returns-clause-entries : goal.returns-clause-entries
 returns-clause-entries c =
     λ answers is. all-appended (see_trees c.args.trees.now) c.new-entries.result _ _ _ c.new-entries.ensures.items
     (rule-most (world_in c.args.trees.now answers) c.most_turns.result (see_rule c.args.rule.now) _ c.most_turns.ensures
-    (framed (see_trees c.args.trees.now) c.root.result _ ∙ ap₂ Inner (ap (see_spot_in (see_trees c.args.trees.now)) c.root.ensures) (ap (spots (see_trees c.args.trees.now)) top-seen)))
+    (framed (see_trees c.args.trees.now) c.root.result _ ∙ ap₂ Inner (ap (see_location_in (see_trees c.args.trees.now)) c.root.ensures) (ap (locations (see_trees c.args.trees.now)) top-seen)))
     (c.in_ok-push_body.ensures.entries answers is)

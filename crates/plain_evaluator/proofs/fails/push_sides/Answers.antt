@@ -1,20 +1,20 @@
 use Rattle.std.proofs.Common.{◌≡◌, ◌∙◌, ap, map}
 use Rattle.std.specs.List.{list_all}
 use Rattle.rule_meaning.specs.Fails.{set_fails, test_fails}
-use Rattle.rule_meaning.specs.SpotMeaning.{rows_of_side}
-use Rattle.rule_meaning.specs.SpotSteps.{passes}
-use Rattle.rule_meaning.specs.SpotTurns.{names_by}
+use Rattle.rule_meaning.specs.Meaning.{rows_of_side}
+use Rattle.rule_meaning.specs.StepMeaning.{passes}
+use Rattle.rule_meaning.specs.NameMeaning.{unfolded}
 use Rattle.guard_syntax.specs.Seen.{see_opt_expr}
-use Rattle.rule_meaning.specs.Known.{is_known, is_known_ref}
-use Rattle.rule_meaning.specs.Environments.{current_of}
-use Rattle.rule_meaning.specs.SpotEnvironments as around
+use Rattle.rule_meaning.specs.StoreModel.{is_known, is_known_ref}
+use Rattle.rule_meaning.specs.StoreEnvironments.{current_of}
+use Rattle.rule_meaning.specs.Environments as around
 use Rattle.plain_evaluator.specs.Entries.{see_entries}
 use Rattle.plain_evaluator.specs.Seen.{see_env}
-use Rattle.plain_evaluator.specs.States.{see, see_spot_in, see_trees}
+use Rattle.plain_evaluator.specs.States.{see, see_location_in, see_trees}
 use Rattle.plain_evaluator.proofs.Appended.{as-appended, behind, shown-on}
 use Rattle.plain_evaluator.proofs.Failing.{set-listed, test-listed}
-use Rattle.plain_evaluator.proofs.Growing.{Grows-trans, book-on, known-on, meant-before, rows-as-before, rows-on, scopes_in, sound-on, stands-on, spots-as-before, world_in}
-use Rattle.plain_evaluator.proofs.GrowingVerdicts.{current-spot}
+use Rattle.plain_evaluator.proofs.Growing.{Grows-trans, book-on, known-on, meant-before, rows-as-before, rows-on, scopes_in, sound-on, stands-on, locations-as-before, world_in}
+use Rattle.plain_evaluator.proofs.GrowingVerdicts.{current-location}
 use Rattle.plain_evaluator.proofs.Scopes.{current-known}
 use Rattle.plain_evaluator.proofs.fails.push_sides.Goals as goal
 
@@ -65,11 +65,11 @@ returns-then-is_set_test-clause-grows c =
 pub returns-then-is_set_test-clause-entries : goal.returns-then-is_set_test-clause-entries
 returns-then-is_set_test-clause-entries c =
     λ answers is. as-appended c.push_set.result (see_entries (see_trees c.rows_of_query.new.trees) c.push_set.new.into) (see_entries (see_trees c.args.trees.now) c.args.into.now) _ _
-    (set-listed c.args.turns (world_in c.args.trees.now answers) (scopes_in c.args.trees.now c.args.env.now) c.args.part c.args.left.now c.args.op c.args.not c.args.right.now c.is_set_test.result (see_spot_in (see_trees c.rows_of_query.new.trees) c.current.result) (map (see (see_trees c.rows_of_query.new.trees)) c.deref.result.now) c.is_set_test.ensures c.if-is_set_test.true
-    (ap (see_spot_in (see_trees c.rows_of_query.new.trees)) c.current.ensures ∙ current-spot (see_trees c.rows_of_query.new.trees) (see_env c.args.env.now) ∙ ap around.current_of (spots-as-before c.args.trees.now (see_trees c.rows_of_query.new.trees) c.in_ok-lefts.ensures.grows (see_env c.args.env.now) c.requires.sound))
+    (set-listed c.args.turns (world_in c.args.trees.now answers) (scopes_in c.args.trees.now c.args.env.now) c.args.part c.args.left.now c.args.op c.args.not c.args.right.now c.is_set_test.result (see_location_in (see_trees c.rows_of_query.new.trees) c.current.result) (map (see (see_trees c.rows_of_query.new.trees)) c.deref.result.now) c.is_set_test.ensures c.if-is_set_test.true
+    (ap (see_location_in (see_trees c.rows_of_query.new.trees)) c.current.ensures ∙ current-location (see_trees c.rows_of_query.new.trees) (see_env c.args.env.now) ∙ ap around.current_of (locations-as-before c.args.trees.now (see_trees c.rows_of_query.new.trees) c.in_ok-lefts.ensures.grows (see_env c.args.env.now) c.requires.sound))
     (ap (map (see (see_trees c.rows_of_query.new.trees))) c.deref.ensures.value ∙ c.in_ok-lefts.ensures.rows answers is))
     (behind c.args.trees.now (see_trees c.rows_of_query.new.trees) c.in_ok-lefts.ensures.grows c.args.into.now c.requires.showable (see_env c.args.env.now) c.requires.sound c.push_set.result (see_entries (see_trees c.rows_of_query.new.trees) c.push_set.new.into)
-    (λ w e. set_fails c.args.part c.args.not (see_spot_in (see_trees c.rows_of_query.new.trees) c.current.result) (map (see (see_trees c.rows_of_query.new.trees)) c.deref.result.now)) (λ others here. c.push_set.ensures.entries) answers is)
+    (λ w e. set_fails c.args.part c.args.not (see_location_in (see_trees c.rows_of_query.new.trees) c.current.result) (map (see (see_trees c.rows_of_query.new.trees)) c.deref.result.now)) (λ others here. c.push_set.ensures.entries) answers is)
 
 pub returns-then-is_set_test-clause-showable : goal.returns-then-is_set_test-clause-showable
 returns-then-is_set_test-clause-showable c =
@@ -85,7 +85,7 @@ returns-clause-entries c =
     (test-listed c.args.turns (world_in c.args.trees.now answers) (scopes_in c.args.trees.now c.args.env.now) c.args.part c.args.left.now c.args.op c.args.not c.args.right.now c.is_set_test.result (map (see (see_trees c.rows_of_side.new.trees)) c.deref-2.result.now) (map (see (see_trees c.rows_of_side.new.trees)) c.deref-3.result.now) c.is_set_test.ensures c.if-is_set_test.false
     (ap (map (see (see_trees c.rows_of_side.new.trees))) c.deref-2.ensures.value ∙ rows-as-before c.rows_of_query.new.trees (see_trees c.rows_of_side.new.trees) c.in_ok-rights.ensures.grows c.in_ok-lefts.lefts.items c.in_ok-lefts.ensures.known ∙ c.in_ok-lefts.ensures.rows answers is)
     (ap (map (see (see_trees c.rows_of_side.new.trees))) c.deref-3.ensures.value
-    ∙ meant-before c.args.trees.now (see_trees c.rows_of_query.new.trees) c.in_ok-lefts.ensures.grows (see_env c.args.env.now) c.requires.sound (λ w e. map (see (see_trees c.rows_of_side.new.trees)) c.in_ok-rights.rights.items ≡ rows_of_side w (names_by w c.args.turns) e (see_opt_expr c.args.right.now)) c.in_ok-rights.ensures.rows answers is))
+    ∙ meant-before c.args.trees.now (see_trees c.rows_of_query.new.trees) c.in_ok-lefts.ensures.grows (see_env c.args.env.now) c.requires.sound (λ w e. map (see (see_trees c.rows_of_side.new.trees)) c.in_ok-rights.rights.items ≡ rows_of_side w (unfolded w c.args.turns) e (see_opt_expr c.args.right.now)) c.in_ok-rights.ensures.rows answers is))
     (behind c.args.trees.now (see_trees c.rows_of_side.new.trees) (Grows-trans (see_trees c.args.trees.now) (see_trees c.rows_of_query.new.trees) (see_trees c.rows_of_side.new.trees) c.in_ok-lefts.ensures.grows c.in_ok-rights.ensures.grows) c.args.into.now c.requires.showable (see_env c.args.env.now) c.requires.sound c.push_test.result (see_entries (see_trees c.rows_of_side.new.trees) c.push_test.new.into)
     (λ w e. test_fails c.args.part (passes w c.args.op c.args.not (map (see (see_trees c.rows_of_side.new.trees)) c.deref-3.result.now)) (map (see (see_trees c.rows_of_side.new.trees)) c.deref-2.result.now)) c.push_test.ensures.entries answers is)
 

@@ -3,7 +3,7 @@ use Rattle.std.proofs.lemmas.Result.{IfOk-weaker}
 use Rattle.guard_syntax.specs.Seen.{see_disj, disj_list}
 use Rattle.rule_meaning.specs.Roots.{root_ref}
 use Rattle.rule_meaning.specs.Seeing.{world_of}
-use Rattle.plain_evaluator.specs.States.{see_trees, spots}
+use Rattle.plain_evaluator.specs.States.{see_trees, locations}
 use Rattle.plain_evaluator.proofs.Judged.{loose-most}
 use Rattle.plain_evaluator.proofs.RowsInTurn.{IsTree-root, known-root}
 use Rattle.plain_evaluator.proofs.Scopes.{top-seen, top-sound}
@@ -19,4 +19,4 @@ returns-clause-grows c =
 
 pub returns-clause-verdict : goal.returns-clause-verdict
 returns-clause-verdict c =
-    λ answers is. IfOk-weaker c.verdict_of_disjs.result _ _ (λ v e. loose-most (world_of (see_trees c.args.trees.now).known answers) c.most_turns.result _ (disj_list (map see_disj c.args.parts.now)) v c.most_turns.ensures (ap (spots (see_trees c.args.trees.now)) top-seen) e) (c.verdict_of_disjs.ensures.verdict answers is)
+    λ answers is. IfOk-weaker c.verdict_of_disjs.result _ _ (λ v e. loose-most (world_of (see_trees c.args.trees.now).known answers) c.most_turns.result _ (disj_list (map see_disj c.args.parts.now)) v c.most_turns.ensures (ap (locations (see_trees c.args.trees.now)) top-seen) e) (c.verdict_of_disjs.ensures.verdict answers is)

@@ -2,7 +2,7 @@ use Rattle.std.proofs.Common.{◌≡◌, true, ap, ◌∙◌}
 use Rattle.std.specs.List.{list_all}
 use Rattle.std.proofs.lemmas.Result.{IfOk-weaker}
 use Rattle.guard_syntax.specs.declared.row.Ref.{Ref}
-use Rattle.rule_meaning.specs.Known.{is_known_ref}
+use Rattle.rule_meaning.specs.StoreModel.{is_known_ref}
 use Rattle.value_compare.specs.Stores.{see_store}
 use Rattle.rule_meaning.specs.Reached.{key_of}
 use Rattle.query_steps.proofs.Keyed.{entries-known}

@@ -3,7 +3,7 @@ use Rattle.std.proofs.lemmas.List.{take_all, map-append}
 use Rattle.doc_values.specs.Places.{kids_at, child_place}
 use Rattle.doc_values.specs.Tree.{Forest, count}
 use Rattle.rule_meaning.specs.Reached.{node_beside, numbers}
-use Rattle.query_steps.proofs.Known.{length-numbers, numbers-more}
+use Rattle.query_steps.proofs.KnownModel.{length-numbers, numbers-more}
 use Rattle.query_steps.proofs.reached.inside_node.Goals as goal
 
 pub loop-i-preserved : goal.loop-i-preserved

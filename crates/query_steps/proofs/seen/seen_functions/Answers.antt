@@ -1,5 +1,5 @@
 use Rattle.query_steps.proofs.SeenFunctions.{functions-seen}
-use Rattle.query_steps.proofs.SpotAnswers.{answer-is}
+use Rattle.query_steps.proofs.LocatedAnswers.{answer-is}
 use Rattle.query_steps.proofs.seen.seen_functions.Goals as goal
 
 pub returns-clause-called : goal.returns-clause-called

@@ -1,4 +1,4 @@
-use Rattle.query_steps.proofs.SeenSpots.{stands-seen, meant-seen}
+use Rattle.query_steps.proofs.SeenLocations.{stands-seen, meant-seen}
 use Rattle.query_steps.proofs.seen.seen_values.Goals as goal
 
 pub returns-clause-references : goal.returns-clause-references

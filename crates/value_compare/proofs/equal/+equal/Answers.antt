@@ -5,7 +5,7 @@ use Rattle.doc_values.specs.Places.{label_at, kids_at}
 use Rattle.doc_values.specs.declared.kind.Kind.TheVariants as kind
 use Rattle.doc_values.proofs.Lookups.{kids-formed}
 use Rattle.value_compare.specs.Entries.{may_find_entry}
-use Rattle.value_compare.specs.Held.{holds_of, holds_in, may_find}
+use Rattle.value_compare.specs.BookCovers.{covers, holds_in, compares_pattern}
 use Rattle.rule_meaning.specs.Pairs.{same_items, same_entries, entry_of}
 use Rattle.rule_meaning.specs.Values.{value_at}
 use Rattle.value_compare.proofs.Forests.{from_index, is_at, key_value, no_key}
@@ -55,8 +55,8 @@ are_items_equal-pair_values-requires t c =
     let mine = is_at l.doc.now l.id i c.child.result.doc.now c.child.result.id l.within in_left c.child.ensures.doc c.child.ensures.id in
     let other = is_at r.doc.now r.id i c.child-in-loop-i.result.doc.now c.child-in-loop-i.result.id r.within in_right c.child-in-loop-i.ensures.doc c.child-in-loop-i.ensures.id in
     let less = mine.less in
-    let held : holds_of c.loop-i.matchers.book.now (value_at c.child-in-loop-i.result.doc.now c.child-in-loop-i.result.id) ≡ true =
-    ap₂ holds_of c.loop-i.invariant.0 other.value ∙ item_held c.args.matchers.now.book.now g i in_right c.requires.held in
+    let held : covers c.loop-i.matchers.book.now (value_at c.child-in-loop-i.result.doc.now c.child-in-loop-i.result.id) ≡ true =
+    ap₂ covers c.loop-i.invariant.0 other.value ∙ item_held c.args.matchers.now.book.now g i in_right c.requires.held in
     (omega (arith, less, c.decreases), held)
 
 pub are_items_equal-returns-in_err-pair_values-clause-no_memory : goal.are_items_equal-returns-in_err-pair_values-clause-no_memory
@@ -68,7 +68,7 @@ are_items_equal-returns-in_err-pair_values-clause-no_memory t c h =
     let in_right : i < count g = omega (arith, in_left, c.if-len.false, c.len.ensures, c.len-2.ensures) in
     let mine = is_at l.doc.now l.id i c.child.result.doc.now c.child.result.id l.within in_left c.child.ensures.doc c.child.ensures.id in
     let other = is_at r.doc.now r.id i c.child-in-loop-i.result.doc.now c.child-in-loop-i.result.id r.within in_right c.child-in-loop-i.ensures.doc c.child-in-loop-i.ensures.id in
-    absurd (true≢false (sym (c.in_err-pair_values.ensures.no_memory (ap₂ may_find mine.value other.value ∙ item_apart f g i in_left in_right h))))
+    absurd (true≢false (sym (c.in_err-pair_values.ensures.no_memory (ap₂ compares_pattern mine.value other.value ∙ item_apart f g i in_left in_right h))))
 
 pub are_items_equal-returns-then-not-is_yes-clause-answer : goal.are_items_equal-returns-then-not-is_yes-clause-answer
 are_items_equal-returns-then-not-is_yes-clause-answer t c =

@@ -1,6 +1,6 @@
 use Rattle.std.proofs.Common.{◌≡◌, ◌++◌, ◌∷◌, [], ap, map, ◌∙◌, Vec, Global}
 use Rattle.std.specs.List.{list_all}
-use Rattle.value_compare.specs.Held.{holds_of}
+use Rattle.value_compare.specs.BookCovers.{covers}
 use Rattle.value_compare.specs.Stores.{see_store}
 use Rattle.value_compare.specs.Views.{see_view}
 use Rattle.value_compare.specs.declared.view.View.{View}
@@ -20,6 +20,6 @@ loop-row-preserved c = elim c.match-found.branch [
       let same : c.match-found.views.items ≡ c.loop-row.views.items = ap (λ (v : Vec View Global). v.items) w.views-is in
       record {
         values = more-missing (see_store c.args.store.now) c.args.rows.now c.loop-row.row-index _ c.loop-row-test.true c.match-found.views.items w.in_default.ensures.value (ap (map see_view) same ∙ c.loop-row.invariant.values);
-        held = λ book is_book. ap (list_all (λ r. holds_of book (see_view r))) same ∙ c.loop-row.invariant.held book is_book;
+        held = λ book is_book. ap (list_all (λ r. covers book (see_view r))) same ∙ c.loop-row.invariant.held book is_book;
       }
 ]

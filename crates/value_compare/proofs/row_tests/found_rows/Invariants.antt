@@ -2,8 +2,8 @@ use Rattle.std.proofs.Common.{◌≡◌, ℕ, List, true, map, take}
 use Rattle.std.specs.List.{list_all}
 use Rattle.guard_syntax.specs.Seen.{see_file}
 use Rattle.value_compare.specs.Books.{IsBookOf}
-use Rattle.value_compare.specs.Held.{holds_of}
-use Rattle.rule_meaning.specs.Known.{meant}
+use Rattle.value_compare.specs.BookCovers.{covers}
+use Rattle.rule_meaning.specs.StoreModel.{meant}
 use Rattle.rule_meaning.specs.RowTests.{found_of}
 use Rattle.value_compare.specs.Stores.{see_store}
 use Rattle.value_compare.specs.Views.{see_view}
@@ -12,5 +12,5 @@ use Rattle.value_compare.proofs.row_tests.found_rows.Given as goal
 abbrev pub invariant-loop-row : goal.invariant-loop-row
 invariant-loop-row l = record {
   values : map see_view l.views.items ≡ found_of (map (meant (see_store l.store)) (take l.row-index l.rows));
-  held : (book : List (List ℕ)) → IsBookOf (see_file l.store.file.now.raw) book → list_all (λ r. holds_of book (see_view r)) l.views.items ≡ true;
+  held : (book : List (List ℕ)) → IsBookOf (see_file l.store.file.now.raw) book → list_all (λ r. covers book (see_view r)) l.views.items ≡ true;
 }

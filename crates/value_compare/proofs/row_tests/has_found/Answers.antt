@@ -1,7 +1,7 @@
 use Rattle.std.proofs.Common.{List, map, ap, sym, ◌∙◌}
 use Rattle.std.proofs.lemmas.List.{take_all}
 use Rattle.guard_syntax.specs.declared.row.Row.{Row}
-use Rattle.rule_meaning.specs.Known.{meant}
+use Rattle.rule_meaning.specs.StoreModel.{meant}
 use Rattle.rule_meaning.specs.RowTests.{found_of, is_some_right}
 use Rattle.value_compare.specs.Stores.{see_store}
 use Rattle.rule_meaning.specs.Values.{Value}

@@ -1,5 +1,5 @@
 use Rattle.std.proofs.Common.{◌≡◌, [], map, take}
-use Rattle.rule_meaning.specs.Known.{meant}
+use Rattle.rule_meaning.specs.StoreModel.{meant}
 use Rattle.rule_meaning.specs.RowTests.{found_of}
 use Rattle.value_compare.specs.Stores.{see_store}
 use Rattle.value_compare.proofs.row_tests.has_found.Given as goal

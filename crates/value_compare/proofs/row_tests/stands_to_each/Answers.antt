@@ -3,7 +3,7 @@ use Rattle.std.specs.Option.{option_map_or}
 use Rattle.std.proofs.lemmas.Bool.{and_from}
 use Rattle.std.proofs.lemmas.List.Folds.{list_all_at, list_all_more}
 use Rattle.guard_syntax.specs.declared.row.Row.{Row}
-use Rattle.rule_meaning.specs.Known.{meant}
+use Rattle.rule_meaning.specs.StoreModel.{meant}
 use Rattle.rule_meaning.specs.Pairs.{is_yes, ordered}
 use Rattle.value_compare.specs.Stores.{see_store}
 use Rattle.rule_meaning.specs.Values.{Value}

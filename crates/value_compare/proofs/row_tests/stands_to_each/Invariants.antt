@@ -2,7 +2,7 @@ use Rattle.std.proofs.Common.{◌≡◌, true, take}
 use Rattle.std.specs.List.{list_all}
 use Rattle.std.specs.Option.{option_map_or}
 use Rattle.guard_syntax.specs.declared.row.Row.{Row}
-use Rattle.rule_meaning.specs.Known.{meant}
+use Rattle.rule_meaning.specs.StoreModel.{meant}
 use Rattle.rule_meaning.specs.Pairs.{is_yes, ordered}
 use Rattle.value_compare.specs.Stores.{see_store}
 use Rattle.rule_meaning.specs.Values.{Value}

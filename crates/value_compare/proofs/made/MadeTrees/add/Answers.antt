@@ -1,6 +1,6 @@
 use Rattle.std.proofs.Common.{◌≡◌, ◌++◌, ◌∷◌, [], sym, ap, ◌∙◌}
 use Rattle.indexmap.proofs.CallerLemmas.{insert_entry-new}
-use Rattle.rule_meaning.specs.Known.{made_at}
+use Rattle.rule_meaning.specs.StoreModel.{made_at}
 use Rattle.value_compare.proofs.MadeLists.{found_at, made_more, plain_more, same_place}
 use Rattle.value_compare.proofs.made.MadeTrees.add.Goals as goal
 

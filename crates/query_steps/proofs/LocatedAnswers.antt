@@ -1,4 +1,4 @@
--- Over a template and a file each call of a function has an answer by the table over spots, and no two.
+-- Over a template and a file each call of a function has an answer by the table over locations, and no two.
 use Rattle.std.proofs.Common.{◌≡◌, ℕ, Bool, List, [], ◌∷◌, map, Option, Some, None, option_and_then, refl, sym, ap, subst, ◌∙◌}
 use Rattle.std.proofs.Math.Path.{fun_ext}
 use Rattle.doc_values.specs.Tree.{Forest}
@@ -8,12 +8,12 @@ use Rattle.guard_syntax.specs.declared.function.Function.TheVariants as function
 use Rattle.guard_syntax.specs.declared.row.Row.{Row}
 use Rattle.rule_meaning.specs.Functions as table
 use Rattle.rule_meaning.specs.Functions.{MadeRow, IsGiven, IsReplaced, IsSubstring}
-use Rattle.rule_meaning.specs.Known.{Known, value_in}
+use Rattle.rule_meaning.specs.StoreModel.{StoreModel, value_in}
 use Rattle.rule_meaning.specs.Values.{Value}
 use Rattle.rule_meaning.specs.Seeing.{see_answer, see_row, world_of}
-use Rattle.rule_meaning.specs.SpotFunctions.{AreRows, Functions, Gives, IsAnswering, IsRow, IsRowFor, argument, counted, joined_row, new_or_missing, single_text, single_whole, values_of}
-use Rattle.rule_meaning.specs.SpotMeaning.{answered}
-use Rattle.rule_meaning.specs.Spots.{answered_row, AnswerRow, Answers, Kept, SpotOrigin, Template, Literal, Made, SpotRow, Found, Missing, Unmade, World, meant, stands_for, tree_of}
+use Rattle.rule_meaning.specs.FunctionMeaning.{AreRows, Functions, Gives, IsAnswering, IsRow, IsRowFor, argument, counted, joined_row, new_or_missing, single_text, single_whole, values_of}
+use Rattle.rule_meaning.specs.Meaning.{answered}
+use Rattle.rule_meaning.specs.Locations.{answered_row, AnswerRow, Answers, Kept, LocatedOrigin, Template, Literal, Made, LocatedRow, Found, Missing, Unmade, World, meant, stands_for, tree_of}
 use Rattle.query_steps.proofs.SeenFunctions.{functions-seen}
 use Rattle.value_compare.proofs.GivenTrees.{IsOne, IsTold, boolean-one, boolean-told, decoded-one, decoded-told, float-one, float-told, int-one, int-told, json-one, json-told, lower-one, lower-told, printed-one, printed-told, replaced-one, replaced-told, substring-one, substring-told, upper-one, upper-told}
 
@@ -24,19 +24,19 @@ module _ (Gives : Value → Forest → Type 0) (told : (v : Value) → IsTold (G
   value-told None = (Kept (Unmade call), refl)
   value-told (Some v) = let t : IsTold (Gives v) = told v in (new_or_missing call t.0, (t.0, t.1, refl))
 
-  row-told : (x : SpotRow) → (a : AnswerRow) × IsRow Gives world call x a
+  row-told : (x : LocatedRow) → (a : AnswerRow) × IsRow Gives world call x a
   row-told (Found v) = value-told (stands_for world v)
   row-told (Missing v step) = (Kept (Missing v step), refl)
   row-told (Unmade inner) = (Kept (Unmade inner), refl)
 
-  rows-told : (xs : List SpotRow) → (answers : List AnswerRow) × AreRows Gives world call xs answers
+  rows-told : (xs : List LocatedRow) → (answers : List AnswerRow) × AreRows Gives world call xs answers
   rows-told [] = ([], tt)
   rows-told (x ∷ xs) =
       let first : (a : AnswerRow) × IsRow Gives world call x a = row-told x in
       let others : (answers : List AnswerRow) × AreRows Gives world call xs answers = rows-told xs in
       (first.0 ∷ others.0, (first.1, others.1))
 
-some-answer : (world : World) (f : Function) (call : ℕ) (args : List (List SpotRow)) → (answers : List AnswerRow) × Functions world f call args answers
+some-answer : (world : World) (f : Function) (call : ℕ) (args : List (List LocatedRow)) → (answers : List AnswerRow) × Functions world f call args answers
 some-answer world function.Count call args = (counted (argument args 0), refl)
 some-answer world function.Join call args = (joined_row call (values_of world args 0) (values_of world args 1), refl)
 some-answer world function.JsonParse call args = rows-told (Gives world function.JsonParse args) json-told world call (argument args 0)
@@ -65,12 +65,12 @@ module _ (Gives : Value → Forest → Type 0) (one : (v : Value) → IsOne (Giv
   value-one None a b x y = x ∙ sym y
   value-one (Some v) a b x y = x.2 ∙ ap (new_or_missing call) (given-one (Gives v) (one v) x.0 y.0 x.1 y.1) ∙ sym y.2
 
-  row-one : (x : SpotRow) (a b : AnswerRow) → IsRow Gives world call x a → IsRow Gives world call x b → a ≡ b
+  row-one : (x : LocatedRow) (a b : AnswerRow) → IsRow Gives world call x a → IsRow Gives world call x b → a ≡ b
   row-one (Found v) a b x y = value-one (stands_for world v) a b x y
   row-one (Missing v step) a b x y = x ∙ sym y
   row-one (Unmade inner) a b x y = x ∙ sym y
 
-  rows-one : (xs : List SpotRow) (ys zs : List AnswerRow) → AreRows Gives world call xs ys → AreRows Gives world call xs zs → ys ≡ zs
+  rows-one : (xs : List LocatedRow) (ys zs : List AnswerRow) → AreRows Gives world call xs ys → AreRows Gives world call xs zs → ys ≡ zs
   rows-one [] [] [] x y = refl
   rows-one [] [] (b ∷ zs) x y = absurd y
   rows-one [] (a ∷ ys) zs x y = absurd x
@@ -79,7 +79,7 @@ module _ (Gives : Value → Forest → Type 0) (one : (v : Value) → IsOne (Giv
   rows-one (r ∷ xs) (a ∷ ys) (b ∷ zs) x y =
       ap (λ (c : AnswerRow). c ∷ ys) (row-one r a b x.0 y.0) ∙ ap (λ (cs : List AnswerRow). b ∷ cs) (rows-one xs ys zs x.1 y.1)
 
-pub one-answer : (world : World) (f : Function) (call : ℕ) (args : List (List SpotRow)) (a b : List AnswerRow) → Functions world f call args a → Functions world f call args b → a ≡ b
+pub one-answer : (world : World) (f : Function) (call : ℕ) (args : List (List LocatedRow)) (a b : List AnswerRow) → Functions world f call args a → Functions world f call args b → a ≡ b
 one-answer world function.Count call args a b x y = x ∙ sym y
 one-answer world function.Join call args a b x y = x ∙ sym y
 one-answer world function.JsonParse call args a b x y = rows-one (Gives world function.JsonParse args) json-one world call (argument args 0) a b x y
@@ -105,32 +105,32 @@ module _ (template : Forest) (file : File) (old new : Answers) where
   abbrev after : World
   after = record { template = template; file = file; answers = new }
 
-  same-tree : (n : ℕ) (key : Bool) (o : SpotOrigin) → option_and_then (value_in n key) (tree_of before o) ≡ option_and_then (value_in n key) (tree_of after o)
+  same-tree : (n : ℕ) (key : Bool) (o : LocatedOrigin) → option_and_then (value_in n key) (tree_of before o) ≡ option_and_then (value_in n key) (tree_of after o)
   same-tree n key Template = refl
   same-tree n key (Literal site) = refl
   same-tree n key (Made call tree) = refl
 
-  same-meant : (x : SpotRow) → meant before x ≡ meant after x
+  same-meant : (x : LocatedRow) → meant before x ≡ meant after x
   same-meant (Found v) = same-tree v.node v.key v.origin
   same-meant (Missing v step) = refl
   same-meant (Unmade call) = refl
 
-  all-meant : (xs : List SpotRow) → map (meant before) xs ≡ map (meant after) xs
+  all-meant : (xs : List LocatedRow) → map (meant before) xs ≡ map (meant after) xs
   all-meant [] = refl
   all-meant (x ∷ xs) = ap (λ (o : Option Value). o ∷ map (meant before) xs) (same-meant x) ∙ ap (λ (os : List (Option Value)). meant after x ∷ os) (all-meant xs)
 
-  same-row : (Gives : Value → Forest → Type 0) (call : ℕ) (x : SpotRow) (a : AnswerRow) → IsRow Gives before call x a → IsRow Gives after call x a
+  same-row : (Gives : Value → Forest → Type 0) (call : ℕ) (x : LocatedRow) (a : AnswerRow) → IsRow Gives before call x a → IsRow Gives after call x a
   same-row Gives call (Found v) a is = subst (λ (o : Option Value). IsRowFor Gives call o a) (same-meant (Found v)) is
   same-row Gives call (Missing v step) a is = is
   same-row Gives call (Unmade inner) a is = is
 
-  same-rows : (Gives : Value → Forest → Type 0) (call : ℕ) (xs : List SpotRow) (ys : List AnswerRow) → AreRows Gives before call xs ys → AreRows Gives after call xs ys
+  same-rows : (Gives : Value → Forest → Type 0) (call : ℕ) (xs : List LocatedRow) (ys : List AnswerRow) → AreRows Gives before call xs ys → AreRows Gives after call xs ys
   same-rows Gives call [] [] are = tt
   same-rows Gives call [] (a ∷ ys) are = are
   same-rows Gives call (x ∷ xs) [] are = are
   same-rows Gives call (x ∷ xs) (a ∷ ys) are = (same-row Gives call x a are.0, same-rows Gives call xs ys are.1)
 
-  same-answer : (f : Function) (call : ℕ) (args : List (List SpotRow)) (ys : List AnswerRow) → Functions before f call args ys → Functions after f call args ys
+  same-answer : (f : Function) (call : ℕ) (args : List (List LocatedRow)) (ys : List AnswerRow) → Functions before f call args ys → Functions after f call args ys
   same-answer function.Count call args ys is = is
   same-answer function.Join call args ys is =
       is
@@ -175,10 +175,10 @@ module _ (template : Forest) (file : File) where
 
 -- ---- the answer of a store
 
--- what a function answers for rows of references is, over spots, what it answers in the world of the store
-pub answer-is : (known : Known) (answers : Answers) (calls : List ℕ) → IsAnswering (world_of known answers) → (f : Function) (call : ℕ) (args : List (List Row)) (made : List MadeRow)
+-- what a function answers for rows of references is, over locations, what it answers in the world of the store
+pub answer-is : (known : StoreModel) (answers : Answers) (calls : List ℕ) → IsAnswering (world_of known answers) → (f : Function) (call : ℕ) (args : List (List Row)) (made : List MadeRow)
     → table.Functions known f call args made → map (answered_row call) (map (see_answer known calls) made) ≡ answered (world_of known answers) call (Some f) (map (map (see_row known calls)) args)
 answer-is known answers calls answering f call args made is =
-    let seen : List (List SpotRow) = map (map (see_row known calls)) args in
+    let seen : List (List LocatedRow) = map (map (see_row known calls)) args in
     ap (map (answered_row call))
     (one-answer (world_of known answers) f call seen (map (see_answer known calls) made) (answers f call seen) (functions-seen known answers calls f call args made is) (answering f call seen))

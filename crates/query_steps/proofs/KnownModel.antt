@@ -7,7 +7,7 @@ use Rattle.std.proofs.lemmas.Bool.Decides.{nat_tests}
 use Rattle.doc_values.specs.Tree.{Forest, Nil, Node, size, count}
 use Rattle.doc_values.specs.Places.{child_place, kids_at, label_at}
 use Rattle.guard_syntax.specs.declared.row.Ref.{Ref}
-use Rattle.rule_meaning.specs.Known.{Known, is_known_ref, tree_of, value_in, value_or_key}
+use Rattle.rule_meaning.specs.StoreModel.{StoreModel, is_known_ref, tree_of, value_in, value_or_key}
 use Rattle.rule_meaning.specs.Values.{Value, value_at, value_of_key}
 use Rattle.value_compare.proofs.Nodes.{size_in}
 use Rattle.rule_meaning.specs.Reached.{inside, no_value, node_beside, numbers, value_for}
@@ -32,7 +32,7 @@ numbers-more n g i h =
 -- ---- what stands in a value
 
 -- by the tree of the value, and where that is there by whether the value is a node of it
-beside-at : (k : Known) (r : Ref) (m : ℕ) (tree : Forest) (key within : Bool) → nat_lt r.node (size tree) ≡ within → tree_of k r.origin ≡ Some tree → r.node + 1 ≤ m
+beside-at : (k : StoreModel) (r : Ref) (m : ℕ) (tree : Forest) (key within : Bool) → nat_lt r.node (size tree) ≡ within → tree_of k r.origin ≡ Some tree → r.node + 1 ≤ m
     → m < r.node + 1 + size (unwrap_or (if within then value_or_key key tree r.node else None) no_value).contents → is_known_ref k (node_beside r m) ≡ true
 beside-at k r m tree key false w there low high = absurd (omega arith)
 beside-at k r m tree false true w there low high =
@@ -46,16 +46,16 @@ beside-at k r m tree true true w there low high = at-key (label_at tree r.node).
     at-key None h = absurd (omega arith)
     at-key (Some key) h = absurd (omega arith)
 
-beside-in : (k : Known) (r : Ref) (m : ℕ) (o : Option Forest) → tree_of k r.origin ≡ o → r.node + 1 ≤ m
+beside-in : (k : StoreModel) (r : Ref) (m : ℕ) (o : Option Forest) → tree_of k r.origin ≡ o → r.node + 1 ≤ m
     → m < r.node + 1 + size (unwrap_or (option_and_then (value_in r.node r.key) o) no_value).contents → is_known_ref k (node_beside r m) ≡ true
 beside-in k r m None none low high = absurd (omega arith)
 beside-in k r m (Some tree) there low high = beside-at k r m tree r.key (nat_lt r.node (size tree)) refl there low high
 
 -- a node in a value is known
-pub beside-known : (k : Known) (r : Ref) (m : ℕ) → r.node + 1 ≤ m → m < r.node + 1 + size (value_for k r).contents → is_known_ref k (node_beside r m) ≡ true
+pub beside-known : (k : StoreModel) (r : Ref) (m : ℕ) → r.node + 1 ≤ m → m < r.node + 1 + size (value_for k r).contents → is_known_ref k (node_beside r m) ≡ true
 beside-known k r m low high = beside-in k r m (tree_of k r.origin) refl low high
 
-module _ (k : Known) (r : Ref) where
+module _ (k : StoreModel) (r : Ref) where
   -- the last number in a value, and one more
   end : ℕ
   end = r.node + 1 + size (value_for k r).contents
@@ -70,6 +70,6 @@ module _ (k : Known) (r : Ref) where
   inside-known = numbers-known (r.node + 1) (value_for k r).contents (omega arith) (omega arith)
 
 -- what stands in the node of a value
-pub inside-node : (k : Known) (r : Ref) (f : Forest) (n : ℕ) → n ≡ r.node → value_for k r ≡ value_at f n → map (node_beside r) (numbers (n + 1) (kids_at f n)) ≡ inside k r
+pub inside-node : (k : StoreModel) (r : Ref) (f : Forest) (n : ℕ) → n ≡ r.node → value_for k r ≡ value_at f n → map (node_beside r) (numbers (n + 1) (kids_at f n)) ≡ inside k r
 inside-node k r f n same is =
     ap (λ m. map (node_beside r) (numbers (m + 1) (kids_at f n))) same ∙ ap (λ (v : Value). map (node_beside r) (numbers (r.node + 1) v.contents)) (sym is)

@@ -1,4 +1,4 @@
--- A turn more, over spots: where two meanings of names agree on what is not deeper than a number, those that a turn makes of them agree on what is 1 deeper.
+-- One unfolding more, over locations: where two meanings of names agree on what is not deeper than a number, those that an unfolding makes of them agree on what is 1 deeper.
 use Rattle.std.proofs.Common.{◌≡◌, ℕ, zero, suc, ◌+◌, ◌≤◌, refl, ap, ◌∙◌, arith, List, Option, Some, None}
 use Rattle.std.specs.List.{flat_map}
 use Rattle.guard_syntax.specs.Syntax.{Rule, Exprs, no_exprs, more_exprs}
@@ -6,19 +6,19 @@ use Rattle.guard_syntax.specs.declared.row.Verdict.{Verdict}
 use Rattle.rule_names.specs.declared.bind.Bind.{Bind}
 use Rattle.rule_names.specs.declared.bind.Bind.TheVariants.{Value, Capture, Param}
 use Rattle.rule_names.specs.Depths.{larger, depth_at, depth_bound, depth_target, depth_piece, depth_rule, depth_opt_conds, depth_body, depth_expr, depth_exprs, first_of_query}
-use Rattle.rule_names.specs.Links.{bind_of, target_of}
+use Rattle.rule_names.specs.Resolution.{bind_of, target_of}
 use Rattle.rule_names.specs.Pieces.{Piece, OfFile, OfLet, OfRule, OfBody, OfConds, OfDisj, OfPart, OfQuery, OfStep, OfExpr, piece_at}
 use Rattle.rule_names.specs.Uses.{expr_in}
-use Rattle.rule_meaning.specs.SpotEnvironments.{Environment, Top, Inner, Called, current_of, outwards}
-use Rattle.rule_meaning.specs.SpotMeaning.{Names, opt_conds_verdict, body_verdict}
-use Rattle.rule_meaning.specs.SpotSteps.{captured_row}
-use Rattle.rule_meaning.specs.SpotTurns.{value_rows, captured_rows, argument_rows, parameter_rows, bound_rows, rule_by, piece_verdict, target_verdict, piece_called, target_called, turn}
+use Rattle.rule_meaning.specs.Environments.{Environment, Top, Inner, Called, current_of, outwards}
+use Rattle.rule_meaning.specs.Meaning.{Names, opt_conds_verdict, body_verdict}
+use Rattle.rule_meaning.specs.StepMeaning.{captured_row}
+use Rattle.rule_meaning.specs.NameMeaning.{value_rows, captured_rows, argument_rows, parameter_rows, bound_rows, rule_by, piece_verdict, target_verdict, piece_called, target_called, unfolded_once}
 use Rattle.rule_meaning.specs.Verdicts.{guarded_by}
-use Rattle.meaning_laws.specs.SpotWeights.{weight}
-use Rattle.rule_meaning.specs.Spots.{World, root_spot}
+use Rattle.meaning_laws.specs.Weights.{weight}
+use Rattle.rule_meaning.specs.Locations.{World, root_location}
 use Rattle.meaning_laws.proofs.Weighed.{larger-first, larger-second}
-use Rattle.meaning_laws.proofs.SpotWeighed.{outwards-weight}
-use Rattle.meaning_laws.proofs.SpotSameParts.{Agree, rows-same, expr-same, opt_conds-same, body-same}
+use Rattle.meaning_laws.proofs.WeighedParts.{outwards-weight}
+use Rattle.meaning_laws.proofs.SameParts.{Agree, rows-same, expr-same, opt_conds-same, body-same}
 
 module _ (world : World) (depths : List ℕ) (k : ℕ) (a b : Names) (same : Agree world depths k a b) where
   value-same : (env : Environment) (p : Option Piece) → depth_piece world.file depths p + weight world.file depths env ≤ k → value_rows world a env p ≡ value_rows world b env p
@@ -67,8 +67,8 @@ module _ (world : World) (depths : List ℕ) (k : ℕ) (a b : Names) (same : Agr
       let m = depth_opt_conds world.file depths r.cond in
       let n = depth_body world.file depths r.body in
       let fits : larger m n + 0 ≤ k = omega (arith, h) in
-      ap (λ (v : Verdict). guarded_by v (body_verdict world a (Inner root_spot Top) r.body)) (opt_conds-same world depths k a b same Top r.cond (larger-first m n 0 k fits))
-      ∙ ap (guarded_by (opt_conds_verdict world b Top r.cond)) (body-same world depths k a b same (Inner root_spot Top) r.body (larger-second m n 0 k fits))
+      ap (λ (v : Verdict). guarded_by v (body_verdict world a (Inner root_location Top) r.body)) (opt_conds-same world depths k a b same Top r.cond (larger-first m n 0 k fits))
+      ∙ ap (guarded_by (opt_conds_verdict world b Top r.cond)) (body-same world depths k a b same (Inner root_location Top) r.body (larger-second m n 0 k fits))
 
   judged-same : (p : Option Piece) → depth_piece world.file depths p ≤ k → piece_verdict world a p ≡ piece_verdict world b p
   judged-same None h = refl
@@ -132,8 +132,8 @@ module _ (world : World) (depths : List ℕ) (k : ℕ) (a b : Names) (same : Agr
         let e = leads site (depth_exprs world.file depths args + weight world.file depths env) (omega (arith, h)) in
         called-same env args (piece_at world.file site) (omega (arith, e))
 
-    pub turn-same : Agree world depths (suc k) (turn world a) (turn world b)
-    turn-same = record {
+    pub unfolded-same : Agree world depths (suc k) (unfolded_once world a) (unfolded_once world b)
+    unfolded-same = record {
       rows = λ env site h. bound-same env (bind_of world.file site) h;
       verdict = λ site h. target-same (target_of world.file site) (omega (arith, h));
       called = λ env site args h. target-called-same env args (target_of world.file site) (omega (arith, h));

@@ -1,4 +1,4 @@
--- The meaning of queries and parts: rows and verdicts over spots, by recursion over the syntax of the file, in an environment. What names mean is an argument: each name
+-- The meaning of queries and parts: rows and verdicts over locations, by recursion over the syntax of the file, in an environment. What names mean is an argument: each name
 -- stands for another part of the file, whose meaning is the same recursion again (see SpotTurns). What functions answer is told by the world.
 use Rattle.std.specs.Prelude.{ℕ, Bool, false, ◌&&◌, List, [], ◌∷◌, Option, Some, None, map, filter as kept_of, if◌then◌else◌}
 use Rattle.std.specs.List.{flat_map}
@@ -9,40 +9,40 @@ use Rattle.guard_syntax.specs.declared.row.Verdict.TheVariants.{Pass}
 use Rattle.rule_names.specs.Uses.{function_named}
 use Rattle.rule_meaning.specs.Places.{are_no_steps, is_key}
 use Rattle.rule_meaning.specs.SetTests.{is_set, is_empty_test}
-use Rattle.rule_meaning.specs.SpotEnvironments.{Environment, Inner, current_of}
-use Rattle.rule_meaning.specs.SpotSteps.{candidates_of, found_step, on_found, passes, rows_of_type}
-use Rattle.rule_meaning.specs.SpotVerdicts.{test_verdict, set_verdict, block_row}
-use Rattle.rule_meaning.specs.Spots.{Spot, SpotRow, Found, World, answered_row, is_found, literal_spot}
+use Rattle.rule_meaning.specs.Environments.{Environment, Inner, current_of}
+use Rattle.rule_meaning.specs.StepMeaning.{candidates_of, found_step, on_found, passes, rows_of_type}
+use Rattle.rule_meaning.specs.VerdictMeaning.{test_verdict, set_verdict, block_row}
+use Rattle.rule_meaning.specs.Locations.{Location, LocatedRow, Found, World, answered_row, is_found, literal_location}
 use Rattle.rule_meaning.specs.Verdicts.{is_pass, conjunction, disjunction, block_verdict, guarded_by, referred, exchanged}
 
 -- what names mean, by the sites at which they are used
 pub record Names : Type 0 where
   -- the rows of a variable that is used in an environment
-  pub rows : Environment → ℕ → List SpotRow
+  pub rows : Environment → ℕ → List LocatedRow
   -- the verdict of a rule that is referred to
   pub verdict : ℕ → Verdict
   -- the verdict of the body of a rule that is called in an environment, with arguments
   pub called : Environment → ℕ → Exprs → Verdict
 
 -- what the call of a function at a site has for the rows of its arguments; a name that is no function's has nothing, as no call has in a file that is well named
-abbrev pub answered : World → ℕ → Option Function → List (List SpotRow) → List SpotRow
+abbrev pub answered : World → ℕ → Option Function → List (List LocatedRow) → List LocatedRow
 answered world site None args = []
 answered world site (Some f) args = map (answered_row site) (world.answers f site args)
 
 abbrev mutual
   -- the rows of a query, which begins at the current value
-  pub rows_of : World → Names → Environment → Query → List SpotRow
+  pub rows_of : World → Names → Environment → Query → List LocatedRow
   rows_of world names env (query site steps) = rows_from world names env false steps (Found (current_of env) ∷ [])
 
   -- of steps in turn, each on every row in order
-  pub rows_from : World → Names → Environment → (after_key : Bool) → Steps → List SpotRow → List SpotRow
+  pub rows_from : World → Names → Environment → (after_key : Bool) → Steps → List LocatedRow → List LocatedRow
   rows_from world names env after_key no_steps rows = rows
   rows_from world names env after_key (more_steps step steps) rows =
       rows_from world names env (is_key step) steps (flat_map (on_found (rows_at world names env (are_no_steps steps) after_key step)) rows)
 
   -- of a step at a value: a filter keeps the candidates for which its conditions are PASS, each the current value of a scope of its own; the right side of a
   -- key filter is taken where the query stands
-  pub rows_at : World → Names → Environment → (last after_key : Bool) → Step → Spot → List SpotRow
+  pub rows_at : World → Names → Environment → (last after_key : Bool) → Step → Location → List LocatedRow
   rows_at world names env last after_key (var site name) v = found_step world last (names.rows env site) (var site name) v
   rows_at world names env last after_key (splice site name) v = found_step world last (names.rows env site) (splice site name) v
   rows_at world names env last after_key (filter site capture conditions) v =
@@ -52,19 +52,19 @@ abbrev mutual
   rows_at world names env last after_key step v = found_step world last [] step v
 
   -- of an expression: a literal is one value, a call of a function has what the function answers, `some` keeps what was found
-  pub rows_of_expr : World → Names → Environment → Expr → List SpotRow
-  rows_of_expr world names env (literal site tree) = Found (literal_spot site) ∷ []
+  pub rows_of_expr : World → Names → Environment → Expr → List LocatedRow
+  rows_of_expr world names env (literal site tree) = Found (literal_location site) ∷ []
   rows_of_expr world names env (function site name args) = answered world site (function_named name) (rows_of_args world names env args)
   rows_of_expr world names env (asked q) = rows_of world names env q
   rows_of_expr world names env (found site q) = kept_of is_found (rows_of world names env q)
 
   -- of the arguments of a call, each by itself
-  pub rows_of_args : World → Names → Environment → Exprs → List (List SpotRow)
+  pub rows_of_args : World → Names → Environment → Exprs → List (List LocatedRow)
   rows_of_args world names env no_exprs = []
   rows_of_args world names env (more_exprs e es) = rows_of_expr world names env e ∷ rows_of_args world names env es
 
   -- of the right side of a test; a unary test has none
-  pub rows_of_side : World → Names → Environment → OptExpr → List SpotRow
+  pub rows_of_side : World → Names → Environment → OptExpr → List LocatedRow
   rows_of_side world names env no_expr = []
   rows_of_side world names env (with_expr e) = rows_of_expr world names env e
 

@@ -1,23 +1,23 @@
--- Enough turns give the one meaning of names over spots that the tables allow, as far as a file leads that is not too deep.
+-- Enough unfoldings give the one meaning of names over locations that the tables allow, as far as a file leads that is not too deep.
 use Rattle.std.proofs.Common.{◌≡◌, ℕ, zero, suc, ◌+◌, ◌≤◌, refl, ap, sym, ◌∙◌, subst, arith, List, [], ◌∷◌, map}
 use Rattle.std.specs.Prelude.{IsNone}
 use Rattle.guard_syntax.specs.Syntax.{Rule, File, Exprs}
 use Rattle.guard_syntax.specs.declared.row.Verdict.{Verdict}
 use Rattle.rule_names.specs.Deep.{deep_rules, deep_fault, default_limit}
 use Rattle.rule_names.specs.Depths.{deepened, depth_at, depth_bound, depth_target, depth_exprs, depth_piece, depth_disjs, depth_limit, depths_of}
-use Rattle.rule_names.specs.Links.{bind_of, target_of}
+use Rattle.rule_names.specs.Resolution.{bind_of, target_of}
 use Rattle.rule_names.specs.Pieces.{AreInOrder, piece_at}
-use Rattle.rule_meaning.specs.SpotEnvironments.{Environment, Top}
-use Rattle.rule_meaning.specs.SpotMeaning.{Names, disj_verdicts}
-use Rattle.rule_meaning.specs.SpotObeys.{Obeys}
-use Rattle.meaning_laws.specs.SpotWeights.{weight}
-use Rattle.rule_meaning.specs.Spots.{World}
+use Rattle.rule_meaning.specs.Environments.{Environment, Top}
+use Rattle.rule_meaning.specs.Meaning.{Names, disj_verdicts}
+use Rattle.rule_meaning.specs.Fixpoint.{IsFixpoint}
+use Rattle.meaning_laws.specs.Weights.{weight}
+use Rattle.rule_meaning.specs.Locations.{World}
 use Rattle.meaning_laws.proofs.Weighed.{piece-depth}
-use Rattle.rule_meaning.specs.SpotTurns.{names_by, turn, rule_by, rule_verdict, loose_verdict}
+use Rattle.rule_meaning.specs.NameMeaning.{unfolded, unfolded_once, rule_by, rule_verdict, loose_verdict}
 use Rattle.rule_meaning.specs.Verdicts.{conjunction}
-use Rattle.meaning_laws.proofs.SpotSameParts.{Agree, disjs-same}
+use Rattle.meaning_laws.proofs.SameParts.{Agree, disjs-same}
 use Rattle.rule_names.proofs.Shallow.{AreShallow, rules-shallow, file-shallow, pieces-shallow}
-use Rattle.meaning_laws.proofs.SpotTurned.{turn-same, rule-same}
+use Rattle.meaning_laws.proofs.Unfolded.{unfolded-same, rule-same}
 
 module _ (world : World) (depths : List ℕ) where
   -- each use leads one deeper
@@ -36,24 +36,24 @@ module _ (world : World) (depths : List ℕ) where
   }
 
   module _ (told : (site : ℕ) → depth_piece world.file depths (piece_at world.file site) ≤ depth_at world.file depths site) where
-    -- further turns change nothing
-    pub stable : (n m : ℕ) → n ≤ m → Agree world depths n (names_by world n) (names_by world m)
-    stable zero m h = agree-none (names_by world zero) (names_by world m)
+    -- further unfoldings change nothing
+    pub stable : (n m : ℕ) → n ≤ m → Agree world depths n (unfolded world n) (unfolded world m)
+    stable zero m h = agree-none (unfolded world zero) (unfolded world m)
     stable (suc n) zero h = absurd (omega (arith, h))
-    stable (suc n) (suc m) h = turn-same world depths n (names_by world n) (names_by world m) (stable n m (omega (arith, h))) told
+    stable (suc n) (suc m) h = unfolded-same world depths n (unfolded world n) (unfolded world m) (stable n m (omega (arith, h))) told
 
-    -- what obeys the tables is what the turns give
-    pub unique : (names : Names) → Obeys world names → (n : ℕ) → Agree world depths n names (names_by world n)
-    unique names obeys zero = agree-none names (names_by world zero)
+    -- what obeys the tables is what the unfoldings give
+    pub unique : (names : Names) → IsFixpoint world names → (n : ℕ) → Agree world depths n names (unfolded world n)
+    unique names obeys zero = agree-none names (unfolded world zero)
     unique names obeys (suc n) =
-        let next = turn-same world depths n names (names_by world n) (unique names obeys n) told in
+        let next = unfolded-same world depths n names (unfolded world n) (unique names obeys n) told in
         record {
           rows = λ env site h. obeys.rows env site ∙ next.rows env site h;
           verdict = λ site h. obeys.verdict site ∙ next.verdict site h;
           called = λ env site args h. obeys.called env site args ∙ next.called env site args h;
         }
 
-    -- each use by as many turns as it leads deep
+    -- each use by as many unfoldings as it leads deep
     abbrev rows_depth : Environment → ℕ → ℕ
     rows_depth env site = suc (depth_bound world.file depths (bind_of world.file site)) + weight world.file depths env
 
@@ -63,31 +63,31 @@ module _ (world : World) (depths : List ℕ) where
     abbrev called_depth : Environment → ℕ → Exprs → ℕ
     called_depth env site args = suc (depth_target world.file depths (target_of world.file site) + depth_exprs world.file depths args) + weight world.file depths env
 
-    pub enough_turns : Names
-    enough_turns = record {
-      rows = λ env site. (names_by world (rows_depth env site)).rows env site;
-      verdict = λ site. (names_by world (verdict_depth site)).verdict site;
-      called = λ env site args. (names_by world (called_depth env site args)).called env site args;
+    pub enough_unfolded : Names
+    enough_unfolded = record {
+      rows = λ env site. (unfolded world (rows_depth env site)).rows env site;
+      verdict = λ site. (unfolded world (verdict_depth site)).verdict site;
+      called = λ env site args. (unfolded world (called_depth env site args)).called env site args;
     }
 
-    by-turns : (n : ℕ) → Agree world depths n enough_turns (names_by world n)
-    unfolding enough_turns
-    by-turns n = record {
+    by-unfolded : (n : ℕ) → Agree world depths n enough_unfolded (unfolded world n)
+    unfolding enough_unfolded
+    by-unfolded n = record {
       rows = λ env site h. (stable (rows_depth env site) n h).rows env site (omega arith);
       verdict = λ site h. (stable (verdict_depth site) n h).verdict site (omega arith);
       called = λ env site args h. (stable (called_depth env site args) n h).called env site args (omega arith);
     }
 
-    next-turn : (n : ℕ) → Agree world depths (suc n) (turn world enough_turns) (names_by world (suc n))
-    next-turn n = turn-same world depths n enough_turns (names_by world n) (by-turns n) told
+    next-unfolded : (n : ℕ) → Agree world depths (suc n) (unfolded_once world enough_unfolded) (unfolded world (suc n))
+    next-unfolded n = unfolded-same world depths n enough_unfolded (unfolded world n) (by-unfolded n) told
 
     -- and these obey the tables
-    pub obeyed : Obeys world enough_turns
+    pub obeyed : IsFixpoint world enough_unfolded
     obeyed = record {
-      rows = λ env site. let n = rows_depth env site in (by-turns (suc n)).rows env site (omega arith) ∙ sym ((next-turn n).rows env site (omega arith));
-      verdict = λ site. let n = verdict_depth site in (by-turns (suc n)).verdict site (omega arith) ∙ sym ((next-turn n).verdict site (omega arith));
+      rows = λ env site. let n = rows_depth env site in (by-unfolded (suc n)).rows env site (omega arith) ∙ sym ((next-unfolded n).rows env site (omega arith));
+      verdict = λ site. let n = verdict_depth site in (by-unfolded (suc n)).verdict site (omega arith) ∙ sym ((next-unfolded n).verdict site (omega arith));
       called = λ env site args.
-          let n = called_depth env site args in (by-turns (suc n)).called env site args (omega arith) ∙ sym ((next-turn n).called env site args (omega arith));
+          let n = called_depth env site args in (by-unfolded (suc n)).called env site args (omega arith) ∙ sym ((next-unfolded n).called env site args (omega arith));
     }
 
   module _ (a b : Names) (same : Agree world depths depth_limit a b) where
@@ -121,32 +121,32 @@ module _ (f : File) (fine : IsFine f) (world : World) (is : world.file ≡ f) wh
   told : (site : ℕ) → depth_piece world.file (depths_of world.file) (piece_at world.file site) ≤ depth_at world.file (depths_of world.file) site
   told = piece-depth world.file (depths_of world.file) here.settled here.ordered (pieces-shallow world.file (depths_of world.file) shallow)
 
-  enough : (n : ℕ) → Agree world (depths_of world.file) depth_limit (names_by world (n + depth_limit)) (names_by world depth_limit)
-  enough n = agree-back world (depths_of world.file) depth_limit (names_by world depth_limit) (names_by world (n + depth_limit))
+  enough : (n : ℕ) → Agree world (depths_of world.file) depth_limit (unfolded world (n + depth_limit)) (unfolded world depth_limit)
+  enough n = agree-back world (depths_of world.file) depth_limit (unfolded world depth_limit) (unfolded world (n + depth_limit))
       (stable world (depths_of world.file) told depth_limit (n + depth_limit) (omega arith))
 
-  one : (names : Names) → Obeys world names → Agree world (depths_of world.file) depth_limit names (names_by world depth_limit)
+  one : (names : Names) → IsFixpoint world names → Agree world (depths_of world.file) depth_limit names (unfolded world depth_limit)
   one names obeys = unique world (depths_of world.file) told names obeys depth_limit
 
-  pub some-names : (names : Names) × Obeys world names
-  some-names = (enough_turns world (depths_of world.file) told, obeyed world (depths_of world.file) told)
+  pub some-names : (names : Names) × IsFixpoint world names
+  some-names = (enough_unfolded world (depths_of world.file) told, obeyed world (depths_of world.file) told)
 
-  rules-by : (names : Names) → Agree world (depths_of world.file) depth_limit names (names_by world depth_limit)
+  rules-by : (names : Names) → Agree world (depths_of world.file) depth_limit names (unfolded world depth_limit)
       → map (rule_by world names) world.file.rules ≡ map (rule_verdict world) world.file.rules
-  rules-by names same = rules-same world (depths_of world.file) names (names_by world depth_limit) same world.file.rules shallow.rules
+  rules-by names same = rules-same world (depths_of world.file) names (unfolded world depth_limit) same world.file.rules shallow.rules
 
-  loose-by : (names : Names) → Agree world (depths_of world.file) depth_limit names (names_by world depth_limit)
+  loose-by : (names : Names) → Agree world (depths_of world.file) depth_limit names (unfolded world depth_limit)
       → conjunction (disj_verdicts world names Top world.file.loose) ≡ loose_verdict world world.file.loose
-  loose-by names same = ap conjunction (loose-same world (depths_of world.file) names (names_by world depth_limit) same shallow.loose)
+  loose-by names same = ap conjunction (loose-same world (depths_of world.file) names (unfolded world depth_limit) same shallow.loose)
 
-  pub rules-turned : (n : ℕ) → map (rule_by world (names_by world (n + depth_limit))) world.file.rules ≡ map (rule_verdict world) world.file.rules
-  rules-turned n = rules-by (names_by world (n + depth_limit)) (enough n)
+  pub rules-turned : (n : ℕ) → map (rule_by world (unfolded world (n + depth_limit))) world.file.rules ≡ map (rule_verdict world) world.file.rules
+  rules-turned n = rules-by (unfolded world (n + depth_limit)) (enough n)
 
-  pub loose-turned : (n : ℕ) → conjunction (disj_verdicts world (names_by world (n + depth_limit)) Top world.file.loose) ≡ loose_verdict world world.file.loose
-  loose-turned n = loose-by (names_by world (n + depth_limit)) (enough n)
+  pub loose-turned : (n : ℕ) → conjunction (disj_verdicts world (unfolded world (n + depth_limit)) Top world.file.loose) ≡ loose_verdict world world.file.loose
+  loose-turned n = loose-by (unfolded world (n + depth_limit)) (enough n)
 
-  pub rules-obeyed : (names : Names) → Obeys world names → map (rule_by world names) world.file.rules ≡ map (rule_verdict world) world.file.rules
+  pub rules-obeyed : (names : Names) → IsFixpoint world names → map (rule_by world names) world.file.rules ≡ map (rule_verdict world) world.file.rules
   rules-obeyed names obeys = rules-by names (one names obeys)
 
-  pub loose-obeyed : (names : Names) → Obeys world names → conjunction (disj_verdicts world names Top world.file.loose) ≡ loose_verdict world world.file.loose
+  pub loose-obeyed : (names : Names) → IsFixpoint world names → conjunction (disj_verdicts world names Top world.file.loose) ≡ loose_verdict world world.file.loose
   loose-obeyed names obeys = loose-by names (one names obeys)

@@ -1,5 +1,5 @@
 use Rattle.meaning_laws.proofs.FailingParts.{bodies-fail, loose-fail, rules-fail}
-use Rattle.meaning_laws.proofs.spot_laws.failing_has_entries.Goals as goal
+use Rattle.meaning_laws.proofs.location_laws.failing_has_entries.Goals as goal
 
 pub returns-clause-rules : goal.returns-clause-rules
 returns-clause-rules c world rule = rules-fail world rule

@@ -1,8 +1,8 @@
--- The weight of environments over spots, scopes further out.
+-- The weight of environments over locations, scopes further out.
 use Rattle.std.proofs.Common.{ℕ, zero, suc, ◌≤◌, arith, List}
 use Rattle.guard_syntax.specs.Syntax.{File}
-use Rattle.rule_meaning.specs.SpotEnvironments.{Environment, Top, Inner, Called, outer_of, outwards}
-use Rattle.meaning_laws.specs.SpotWeights.{weight}
+use Rattle.rule_meaning.specs.Environments.{Environment, Top, Inner, Called, outer_of, outwards}
+use Rattle.meaning_laws.specs.Weights.{weight}
 
 module _ (f : File) (depths : List ℕ) where
   outer-weight : (env : Environment) → weight f depths (outer_of env) ≤ weight f depths env

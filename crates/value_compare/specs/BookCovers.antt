@@ -19,8 +19,8 @@ holds_in book Nil = true
 holds_in book (Node l kids rest) = holds_if (is_pattern l.kind) book l.text && (holds_in book kids && holds_in book rest)
 
 -- and each pattern of a value
-abbrev pub holds_of : List (List ℕ) → Value → Bool
-holds_of book v = holds_if (is_pattern v.kind) book v.text && holds_in book v.contents
+abbrev pub covers : List (List ℕ) → Value → Bool
+covers book v = holds_if (is_pattern v.kind) book v.text && holds_in book v.contents
 
 -- a text stands over against a pattern, by the kinds of both; of two lists, and of two maps, what stands in them tells
 abbrev pub may_find_by : (items entries : Bool) → Kind → Kind → Bool
@@ -43,5 +43,5 @@ abbrev mutual
       option_map_or (λ (r : Value). may_find_by (may_find_items lkids r.contents) (may_find_entries lkids r.contents) l.kind r.kind) (entry_of g l.key) false
       || may_find_entries lrest g
 
-abbrev pub may_find : Value → Value → Bool
-may_find l r = may_find_by (may_find_items l.contents r.contents) (may_find_entries l.contents r.contents) l.kind r.kind
+abbrev pub compares_pattern : Value → Value → Bool
+compares_pattern l r = may_find_by (may_find_items l.contents r.contents) (may_find_entries l.contents r.contents) l.kind r.kind

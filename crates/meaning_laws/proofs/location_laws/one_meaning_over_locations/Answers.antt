@@ -1,6 +1,6 @@
 use Rattle.rule_names.specs.Files.{file_of}
-use Rattle.meaning_laws.proofs.SpotOneMeaning.{IsFine, some-names, rules-obeyed, loose-obeyed}
-use Rattle.meaning_laws.proofs.spot_laws.one_meaning_over_spots.Goals as goal
+use Rattle.meaning_laws.proofs.OneMeaning.{IsFine, some-names, rules-obeyed, loose-obeyed}
+use Rattle.meaning_laws.proofs.location_laws.one_meaning_over_locations.Goals as goal
 
 pub returns-clause-some : goal.returns-clause-some
 returns-clause-some c world is =

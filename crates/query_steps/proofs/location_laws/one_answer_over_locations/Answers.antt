@@ -1,5 +1,5 @@
-use Rattle.query_steps.proofs.SpotAnswers.{answering, one-answer}
-use Rattle.query_steps.proofs.spot_laws.one_answer_over_spots.Goals as goal
+use Rattle.query_steps.proofs.LocatedAnswers.{answering, one-answer}
+use Rattle.query_steps.proofs.location_laws.one_answer_over_locations.Goals as goal
 
 pub returns-clause-some : goal.returns-clause-some
 returns-clause-some c template file = answering template file

@@ -1,6 +1,6 @@
 use Rattle.rule_names.specs.Files.{file_of}
-use Rattle.meaning_laws.proofs.SpotOneMeaning.{IsFine, rules-turned, loose-turned}
-use Rattle.meaning_laws.proofs.spot_laws.turns_suffice_over_spots.Goals as goal
+use Rattle.meaning_laws.proofs.OneMeaning.{IsFine, rules-turned, loose-turned}
+use Rattle.meaning_laws.proofs.location_laws.unfoldings_suffice_over_locations.Goals as goal
 
 pub returns-clause-rules : goal.returns-clause-rules
 returns-clause-rules c world n is =

@@ -23,7 +23,7 @@ abbrev pub made_code : Coded Made
 made_code = code_by (ℕ × (ℕ × Forest)) (coded× coded_ℕ (coded× coded_ℕ forest_code)) (λ m. (m.line, (m.row, m.tree))) (λ p. record { line = p.0; row = p.1.0; tree = p.1.1 }) (λ _. refl)
 
 -- what a store is over: a template, a rule file, and the trees that calls made
-pub record Known : Type 0 where
+pub record StoreModel : Type 0 where
   pub template : Forest
   pub file : File
   pub made : List Made
@@ -46,7 +46,7 @@ made_at [] line row = None
 made_at (m ∷ ms) line row = if m.line == line && m.row == row then Some m.tree else made_at ms line row
 
 -- the tree of an origin
-abbrev pub tree_of : Known → Origin → Option Forest
+abbrev pub tree_of : StoreModel → Origin → Option Forest
 tree_of k origin.Template = Some k.template
 tree_of k (origin.Literal site) = literal_at k.file site
 tree_of k (origin.Made line row) = made_at k.made line row
@@ -60,24 +60,24 @@ abbrev pub value_in : ℕ → Bool → Forest → Option Value
 value_in n key tree = if nat_lt n (size tree) then value_or_key key tree n else None
 
 -- what a reference stands for
-abbrev pub stands_for : Known → Ref → Option Value
+abbrev pub stands_for : StoreModel → Ref → Option Value
 stands_for k r = option_and_then (value_in r.node r.key) (tree_of k r.origin)
 
 -- what a row stands for: a missing one for nothing
-abbrev pub meant : Known → Row → Option Value
+abbrev pub meant : StoreModel → Row → Option Value
 meant k (row.Found r) = stands_for k r
 meant k (row.Missing value step) = None
 meant k (row.Unmade call) = None
 
 -- whether a store knows what a row refers to
-abbrev pub is_known_ref : Known → Ref → Bool
+abbrev pub is_known_ref : StoreModel → Ref → Bool
 is_known_ref k r = is_there (stands_for k r)
   where
     is_there : Option Value → Bool
     is_there None = false
     is_there (Some v) = true
 
-abbrev pub is_known : Known → Row → Bool
+abbrev pub is_known : StoreModel → Row → Bool
 is_known k (row.Found r) = is_known_ref k r
 is_known k (row.Missing value step) = is_known_ref k value
 is_known k (row.Unmade call) = true

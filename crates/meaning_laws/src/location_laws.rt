@@ -1,0 +1,48 @@
+//! What holds of the meaning of rules, which is over locations: the unfoldings that are taken suffice, no other meaning obeys the
+//! tables, and what fails has entries. The bodies do nothing but cite other laws; a law is kept by a contract.
+ghost use Rattle.std.specs.Prelude.{◌≡◌, ◌≢◌, ◌↔◌, ℕ, ◌+◌, [], map};
+ghost use Rattle.guard_syntax.specs.Syntax.{Body, Disjs, Rule};
+ghost use Rattle.guard_syntax.specs.declared.row.Verdict.TheVariants.{Fail};
+ghost use Rattle.rule_names.specs.Depths.{depth_limit};
+ghost use Rattle.rule_names.specs.Files.{file_of};
+ghost use Rattle.rule_meaning.specs.Fails.{body_fails, calls_by, loose_fails, rule_fails};
+ghost use Rattle.rule_meaning.specs.Environments.{Environment, Top};
+ghost use Rattle.rule_meaning.specs.Meaning.{Names, body_verdict, disj_verdicts};
+ghost use Rattle.rule_meaning.specs.Fixpoint.{IsFixpoint};
+ghost use Rattle.rule_meaning.specs.NameMeaning.{unfolded, rule_by, rule_verdict, loose_verdict};
+ghost use Rattle.rule_meaning.specs.Locations.{World};
+ghost use Rattle.rule_meaning.specs.Verdicts.{conjunction};
+
+use rule_names::{RuleFile, settled_depths};
+
+/// The law that the unfoldings that are taken suffice over locations: by any further ones the rules of a file and the parts outside
+/// them have the same verdicts, whatever functions answer.
+pub fn unfoldings_suffice_over_locations(file: &RuleFile)
+    ensures rules { (world : World) (n : ℕ) → world.file ≡ file_of file.now
+        → map (rule_by world (unfolded world (n + depth_limit))) world.file.rules ≡ map (rule_verdict world) world.file.rules }
+    ensures loose { (world : World) (n : ℕ) → world.file ≡ file_of file.now
+        → conjunction (disj_verdicts world (unfolded world (n + depth_limit)) Top world.file.loose) ≡ loose_verdict world world.file.loose }
+{
+    settled_depths();
+}
+
+/// The law that there is one meaning over locations: some meaning of names obeys the tables, and by any that does, the rules of
+/// a file and the parts outside them have the same verdicts.
+pub fn one_meaning_over_locations(file: &RuleFile)
+    ensures some { (world : World) → world.file ≡ file_of file.now → (names : Names) × IsFixpoint world names }
+    ensures rules { (world : World) (names : Names) → world.file ≡ file_of file.now → IsFixpoint world names
+        → map (rule_by world names) world.file.rules ≡ map (rule_verdict world) world.file.rules }
+    ensures loose { (world : World) (names : Names) → world.file ≡ file_of file.now → IsFixpoint world names
+        → conjunction (disj_verdicts world names Top world.file.loose) ≡ loose_verdict world world.file.loose }
+{
+    settled_depths();
+}
+
+/// The law that what fails has entries: a rule that is FAIL has some, and a body, by any number of unfoldings in any environment,
+/// and the parts outside rules have some exactly where they are FAIL, whatever functions answer.
+pub fn failing_has_entries()
+    ensures rules { (world : World) (rule : Rule) → rule_verdict world rule ≡ Fail → rule_fails world rule ≢ [] }
+    ensures bodies { (world : World) (n : ℕ) (env : Environment) (part : Body)
+        → (body_verdict world (unfolded world n) env part ≡ Fail) ↔ (body_fails world (unfolded world n) (calls_by world n) env part ≢ []) }
+    ensures loose { (world : World) (loose : Disjs) → (loose_verdict world loose ≡ Fail) ↔ (loose_fails world loose ≢ []) }
+{}
