@@ -12,7 +12,7 @@ use Rattle.guard_syntax.specs.declared.row.Row.{Row}
 use Rattle.guard_syntax.specs.declared.row.Row.TheVariants.{Found}
 use Rattle.guard_syntax.specs.declared.syntax.Expr.{Expr}
 use Rattle.rule_names.specs.Uses.{count_exprs, expr_in}
-use Rattle.rule_meaning.specs.Known.{Known}
+use Rattle.rule_meaning.specs.StoreModel.{StoreModel}
 use Rattle.evidence_rules.specs.CitedLines.{GiveArgs, GivesExpr, IsLine}
 use Rattle.rule_meaning.specs.Roots.{literal_ref}
 use Rattle.evidence_checker.specs.Said.{AreSound}
@@ -80,7 +80,7 @@ module _ (file : sx.File) (lines : List Line) (frame : ℕ) where
   args-lacking xs cs i x within is never all h = h
 
 -- the one row of an argument that is a literal is its root
-pub args-literal : (known : Known) (lines : List Line) (sound : AreSound known lines) (frame : ℕ) (es : sx.Exprs) (cites : List ℕ) (all : List (List Row)) → GiveArgs known.file lines frame es cites all
+pub args-literal : (known : StoreModel) (lines : List Line) (sound : AreSound known lines) (frame : ℕ) (es : sx.Exprs) (cites : List ℕ) (all : List (List Row)) → GiveArgs known.file lines frame es cites all
     → (i n : ℕ) (tree : Forest) → expr_in es i ≡ Some (sx.literal n tree) → get_or all i [] ≡ Found (literal_ref n) ∷ []
 args-literal known lines sound frame sx.no_exprs [] [] h i n tree is = absurd cc
 args-literal known lines sound frame (sx.more_exprs e es) (c ∷ cs) (rows ∷ all) h zero n tree is =

@@ -20,7 +20,7 @@ use Rattle.guard_syntax.specs.declared.syntax.Expr as expr
 use Rattle.guard_syntax.specs.declared.function.Function.{Function}
 use Rattle.guard_syntax.specs.declared.function.Function.TheVariants.{RegexReplace}
 use Rattle.guard_syntax.specs.declared.row.Row.{Row}
-use Rattle.rule_names.specs.Names.{WellNamed}
+use Rattle.rule_names.specs.WellNamed.{WellNamed}
 use Rattle.rule_names.specs.Pieces.{AreInOrder, OfExpr, OfStep, Piece, piece_at, pieces_expr}
 use Rattle.rule_names.specs.Uses.{arity, function_named, functions}
 use Rattle.rule_names.specs.Within.{StandsIn}
@@ -28,7 +28,7 @@ use Rattle.rule_names.proofs.Arguments.{named-none}
 use Rattle.rule_names.proofs.PiecesStand.{piece-stands}
 use Rattle.value_compare.specs.Books.{IsBookOf, has_text}
 use Rattle.rule_meaning.specs.Functions.{Functions, MadeRow, argument, single_text}
-use Rattle.rule_meaning.specs.Known.{Known, Made, is_known}
+use Rattle.rule_meaning.specs.StoreModel.{StoreModel, Made, is_known}
 use Rattle.value_compare.proofs.OneAnswer.{answers-same}
 use Rattle.evidence_rules.specs.CitedLines.{GiveArgs}
 use Rattle.evidence_rules.specs.Follows.{FollowsAtExpr, FollowsRows}
@@ -82,7 +82,7 @@ module _ (e : Expr) (site : ℕ) (name : List ℕ) (args : Vec Expr Global) (is 
 
 -- ---- one answer
 
-module _ (known : Known) (lines : List Line) (frame site : ℕ) (cites : List ℕ) where
+module _ (known : StoreModel) (lines : List Line) (frame site : ℕ) (cites : List ℕ) where
   pub answered-one : (a b : List MadeRow) → IsAnswered known lines frame site cites a → IsAnswered known lines frame site cites b → a ≡ b
   answered-one a b x y =
       let calls = call-one known.file site x.called y.called x.args y.args x.stands y.stands in
@@ -156,7 +156,7 @@ module _ (known : Known) (lines : List Line) (frame site : ℕ) (cites : List �
 
 -- ---- what was found of an answer
 
-module _ (known : Known) (lines : List Line) (frame site : ℕ) (cites : List ℕ) (found : Option (Vec types.Made Global))
+module _ (known : StoreModel) (lines : List Line) (frame site : ℕ) (cites : List ℕ) (found : Option (Vec types.Made Global))
     (told : MatchOption found ((answer : List MadeRow) → IsAnswered known lines frame site cites answer → ⊥) (λ answer. IsAnswered known lines frame site cites (map see_made answer.items))) where
   pub is-answered : (answer : Vec types.Made Global) → found ≡ Some answer → IsAnswered known lines frame site cites (map see_made answer.items)
   is-answered answer is = MatchOption-at_some _ (λ (a : Vec types.Made Global). IsAnswered known lines frame site cites (map see_made a.items)) answer is told
@@ -181,7 +181,7 @@ found-name name (g ∷ gs) f is = by (bytes_eq name (name_of g)) refl is (found-
     by true same there rest = (bytes_eq-Decides name (name_of g)).0 same ∙ ap name_of (same_Some g f there)
     by false other there rest = rest there
 
-module _ (known : Known) (site : ℕ) (f : Function) (es : sx.Exprs) (order : AreInOrder known.file) (named : WellNamed known.file) (at : IsCallAt known.file site f es) where
+module _ (known : StoreModel) (site : ℕ) (f : Function) (es : sx.Exprs) (order : AreInOrder known.file) (named : WellNamed known.file) (at : IsCallAt known.file site f es) where
   call-stands : StandsIn known.file (pieces_expr (sx.function at.call.site at.call.name es))
   call-stands = piece-stands known.file site (OfExpr (sx.function at.call.site at.call.name es)) (at.stands ∙ ap (λ (e : sx.Expr). Some (OfExpr e)) at.call.call_is)
 

@@ -9,7 +9,7 @@ use Rattle.evidence_lines.specs.declared.line.LineKind.TheVariants as kind
 use Rattle.guard_syntax.specs.Syntax as sx
 use Rattle.guard_syntax.specs.declared.row.Verdict.{Verdict}
 use Rattle.guard_syntax.specs.declared.row.Verdict.TheVariants.{Pass}
-use Rattle.rule_meaning.specs.Known.{Known}
+use Rattle.rule_meaning.specs.StoreModel.{StoreModel}
 use Rattle.evidence_rules.specs.Follows.{Guarded, Under, UnderSome, conds_site}
 use Rattle.evidence_checker.specs.FirstCites.{IsGuard, IsSomeGuard}
 use Rattle.evidence_checker.proofs.SaidOnce.{same-verdict}
@@ -20,7 +20,7 @@ decide-given Gives Then x true once gives is = (x, gives, is)
 decide-given Gives Then x false once gives never = λ g. never (subst Then (once g.0 g.1) g.2)
 
 -- what stands under conditions, by what their line says
-module _ (known : Known) (lines : List Line) (frame : ℕ) (Inner : List ℕ → Verdict → Type 0) (verdict : Verdict) where
+module _ (known : StoreModel) (lines : List Line) (frame : ℕ) (Inner : List ℕ → Verdict → Type 0) (verdict : Verdict) where
   pub decide-guarded : (said other : Verdict) (left : List ℕ) (r : Bool) → other ≡ said → MatchBool r (Guarded known lines said Inner left verdict) (Guarded known lines said Inner left verdict → ⊥)
       → MatchBool r (Guarded known lines other Inner left verdict) (Guarded known lines other Inner left verdict → ⊥)
   decide-guarded said other left r is decided = subst (λ (v : Verdict). MatchBool r (Guarded known lines v Inner left verdict) (Guarded known lines v Inner left verdict → ⊥)) (sym is) decided

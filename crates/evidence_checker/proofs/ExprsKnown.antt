@@ -13,7 +13,7 @@ use Rattle.guard_syntax.specs.declared.row.Row.TheVariants.{Found}
 use Rattle.guard_syntax.specs.declared.syntax.Expr.{Expr, the_lemmas}
 use Rattle.guard_syntax.specs.declared.syntax.Expr as expr
 use Rattle.rule_names.specs.Pieces.{OfExpr, Piece, piece_at}
-use Rattle.rule_meaning.specs.Known.{Known, is_known, is_known_ref, literal_at, tree_of_piece}
+use Rattle.rule_meaning.specs.StoreModel.{StoreModel, is_known, is_known_ref, literal_at, tree_of_piece}
 use Rattle.rule_meaning.specs.Roots.{literal_ref}
 use Rattle.rule_meaning.specs.Verdicts.{is_found}
 use Rattle.query_steps.proofs.KnownRows.{filter-all}
@@ -28,10 +28,10 @@ tree-root : (tree : Forest) → IsTree tree → 0 < size tree
 tree-root Nil one = absurd (omega (arith, one.one))
 tree-root (Node l kids rest) one = omega arith
 
-known-literal : (known : Known) (site : ℕ) (tree : Forest) → literal_at known.file site ≡ Some tree → 0 < size tree → is_known_ref known (literal_ref site) ≡ true
+known-literal : (known : StoreModel) (site : ℕ) (tree : Forest) → literal_at known.file site ≡ Some tree → 0 < size tree → is_known_ref known (literal_ref site) ≡ true
 known-literal known site tree there root = let inside : nat_lt 0 (size tree) ≡ true = grind (arith, nat_tests) in rw (there, inside) refl
 
-pub literal-known : (known : Known) (site n : ℕ) (e : Expr) (tree : Forest) → piece_at known.file site ≡ Some (OfExpr (see_expr e)) → e ≡ expr.Literal n tree → IsTree tree
+pub literal-known : (known : StoreModel) (site n : ℕ) (e : Expr) (tree : Forest) → piece_at known.file site ≡ Some (OfExpr (see_expr e)) → e ≡ expr.Literal n tree → IsTree tree
     → (cites : List ℕ) (rows : List Row) (b : Bool) → MatchBool b ((cites ≡ []) × (rows ≡ Found (literal_ref site) ∷ [])) ((cites ≡ []) × (rows ≡ Found (literal_ref site) ∷ []) → ⊥)
     → b ≡ true → list_all (is_known known) rows ≡ true
 literal-known known site n e tree stands is one cites rows false says is_true = absurd (true≢false (sym is_true))
@@ -40,7 +40,7 @@ literal-known known site n e tree stands is one cites rows true says is_true =
     let there : literal_at known.file site ≡ Some tree = ap (λ (p : Option Piece). option_and_then tree_of_piece p) placed in
     ap (list_all (is_known known)) says.1 ∙ and_from _ _ (known-literal known site tree there (tree-root tree one)) refl
 
-pub found-known : (known : Known) (lines : List Line) → AreSound known lines → (frame : ℕ) (q : sx.Query) (cites : List ℕ) (rows : List Row) (b : Bool)
+pub found-known : (known : StoreModel) (lines : List Line) → AreSound known lines → (frame : ℕ) (q : sx.Query) (cites : List ℕ) (rows : List Row) (b : Bool)
     → MatchBool b (AreFoundBy known lines frame q cites rows) (AreFoundBy known lines frame q cites rows → ⊥) → b ≡ true → list_all (is_known known) rows ≡ true
 found-known known lines sound frame q (c ∷ []) rows true says is_true =
     ap (list_all (is_known known)) says.2 ∙ filter-all is_found (is_known known) says.0 (query-said-known known lines sound frame q c says.0 says.1)

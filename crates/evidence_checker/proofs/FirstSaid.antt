@@ -1,5 +1,5 @@
 -- What follows from the first of the lines that a line names and those behind it.
-use Rattle.std.proofs.Common.{◌≡◌, ℕ, List, [], ◌∷◌, Option, true, false, Bool, ◌&&◌, if◌then◌else◌, refl, ap, sym, subst, ◌∙◌, MatchBool, rules}
+use Rattle.std.proofs.Common.{◌≡◌, ℕ, List, [], ◌∷◌, Option, None, true, false, Bool, ◌&&◌, if◌then◌else◌, refl, ap, sym, subst, ◌∙◌, MatchBool, rules}
 use Rattle.evidence_lines.specs.declared.line.Line.{Line}
 use Rattle.evidence_lines.specs.declared.line.LineKind.TheVariants as kind
 use Rattle.evidence_lines.specs.declared.line.Outcome.TheVariants as says
@@ -9,7 +9,7 @@ use Rattle.guard_syntax.specs.declared.row.Row.{Row}
 use Rattle.guard_syntax.specs.declared.row.Verdict.{Verdict}
 use Rattle.guard_syntax.specs.declared.syntax.Conds.{Conds, out-Conds, the_lemmas as conds_lemmas}
 use Rattle.guard_syntax.specs.declared.syntax.Op.{Op}
-use Rattle.rule_meaning.specs.Known.{Known}
+use Rattle.rule_meaning.specs.StoreModel.{StoreModel}
 use Rattle.evidence_rules.specs.CitedLines.{GivesQuery, IsLine}
 use Rattle.evidence_rules.specs.Follows.{FollowsBlock, FollowsBody, FollowsRowsOf, FollowsRule, FollowsTest, FollowsTyped, GivesRight, UnderSome, conds_site}
 use Rattle.rule_meaning.specs.Keys.{passes}
@@ -33,7 +33,7 @@ module _ (lines : List Line) (frame c : ℕ) (cites left : List ℕ) (first : ci
       let taken : IsGuard lines frame conditions (c ∷ left) said others = subst (λ (cs : List ℕ). IsGuard lines frame conditions cs said others) first g in
       never said (subst (λ (n : ℕ). IsLine lines c kind.Conj frame n (says.Verdict said)) (sym site_is) taken.0)
 
-  module _ (known : Known) (verdict : Verdict) where
+  module _ (known : StoreModel) (verdict : Verdict) where
     module _ (b : sx.Body) where
       pub typed-never : (site : ℕ) → ((rows : List Row) → IsLine lines c kind.Types frame site (says.Rows rows) → ⊥) → FollowsTyped known lines frame site b cites verdict → ⊥
       typed-never site never f =
@@ -41,24 +41,24 @@ module _ (lines : List Line) (frame c : ℕ) (cites left : List ℕ) (first : ci
           never g.0 g.1
 
       pub typed-decided : (site : ℕ) (rows : List Row) (r : Bool) → IsLine lines c kind.Types frame site (says.Rows rows)
-          → MatchBool r (FollowsRowsOf known lines frame false b rows left verdict) (FollowsRowsOf known lines frame false b rows left verdict → ⊥)
+          → MatchBool r (FollowsRowsOf known lines frame false None b rows left verdict) (FollowsRowsOf known lines frame false None b rows left verdict → ⊥)
           → MatchBool r (FollowsTyped known lines frame site b cites verdict) (FollowsTyped known lines frame site b cites verdict → ⊥)
       typed-decided site rows r is decided =
           subst (λ (cs : List ℕ). MatchBool r (FollowsTyped known lines frame site b cs verdict) (FollowsTyped known lines frame site b cs verdict → ⊥)) (sym first)
-          (decide-given (λ (rs : List Row). IsLine lines c kind.Types frame site (says.Rows rs)) (λ (rs : List Row). FollowsRowsOf known lines frame false b rs left verdict) rows r
+          (decide-given (λ (rs : List Row). IsLine lines c kind.Types frame site (says.Rows rs)) (λ (rs : List Row). FollowsRowsOf known lines frame false None b rs left verdict) rows r
           (λ rs also. same-rows lines c kind.Types frame site rs rows also is) is decided)
 
-      pub block-never : (any : Bool) (head : sx.Query) → ((rows : List Row) → GivesQuery known.file lines frame head c rows → ⊥) → FollowsBlock known lines frame any head b cites verdict → ⊥
-      block-never any head never f =
-          let g : FollowsBlock known lines frame any head b (c ∷ left) verdict = subst (λ (cs : List ℕ). FollowsBlock known lines frame any head b cs verdict) first f in
+      pub block-never : (any : Bool) (stop : Option Verdict) (head : sx.Query) → ((rows : List Row) → GivesQuery known.file lines frame head c rows → ⊥) → FollowsBlock known lines frame any stop head b cites verdict → ⊥
+      block-never any stop head never f =
+          let g : FollowsBlock known lines frame any stop head b (c ∷ left) verdict = subst (λ (cs : List ℕ). FollowsBlock known lines frame any stop head b cs verdict) first f in
           never g.0 g.1
 
-      pub block-decided : (any : Bool) (head : sx.Query) (rows : List Row) (r : Bool) → GivesQuery known.file lines frame head c rows
-          → MatchBool r (FollowsRowsOf known lines frame any b rows left verdict) (FollowsRowsOf known lines frame any b rows left verdict → ⊥)
-          → MatchBool r (FollowsBlock known lines frame any head b cites verdict) (FollowsBlock known lines frame any head b cites verdict → ⊥)
-      block-decided any head rows r gives decided =
-          subst (λ (cs : List ℕ). MatchBool r (FollowsBlock known lines frame any head b cs verdict) (FollowsBlock known lines frame any head b cs verdict → ⊥)) (sym first)
-          (decide-given (λ (rs : List Row). GivesQuery known.file lines frame head c rs) (λ (rs : List Row). FollowsRowsOf known lines frame any b rs left verdict) rows r
+      pub block-decided : (any : Bool) (stop : Option Verdict) (head : sx.Query) (rows : List Row) (r : Bool) → GivesQuery known.file lines frame head c rows
+          → MatchBool r (FollowsRowsOf known lines frame any stop b rows left verdict) (FollowsRowsOf known lines frame any stop b rows left verdict → ⊥)
+          → MatchBool r (FollowsBlock known lines frame any stop head b cites verdict) (FollowsBlock known lines frame any stop head b cites verdict → ⊥)
+      block-decided any stop head rows r gives decided =
+          subst (λ (cs : List ℕ). MatchBool r (FollowsBlock known lines frame any stop head b cs verdict) (FollowsBlock known lines frame any stop head b cs verdict → ⊥)) (sym first)
+          (decide-given (λ (rs : List Row). GivesQuery known.file lines frame head c rs) (λ (rs : List Row). FollowsRowsOf known lines frame any stop b rs left verdict) rows r
           (λ rs also. same-query known.file lines frame head c rs rows also gives) gives decided)
 
     module _ (n : ℕ) (any : Bool) (query : sx.Query) (op : Op) (negated : Bool) (right : sx.OptExpr) (message : Option (List ℕ)) where
@@ -85,7 +85,7 @@ module _ (lines : List Line) (frame c : ℕ) (cites left : List ℕ) (first : ci
           ∙ ap (λ (ys : List Row). if is_empty_test op && is_set query then set_verdict negated lefts else test_verdict any (passes known op negated ys) lefts) two ∙ sym is)
 
 -- a rule without parameters
-module _ (known : Known) (lines : List Line) (frame : ℕ) (r : sx.Rule) (cites : List ℕ) (verdict : Verdict) where
+module _ (known : StoreModel) (lines : List Line) (frame : ℕ) (r : sx.Rule) (cites : List ℕ) (verdict : Verdict) where
   pub rule-decided : (result : Bool) → r.params ≡ []
       → MatchBool result (UnderSome known lines frame r.cond (FollowsBody known lines frame r.body) cites verdict) (UnderSome known lines frame r.cond (FollowsBody known lines frame r.body) cites verdict → ⊥)
       → MatchBool result (FollowsRule known lines frame r cites verdict) (FollowsRule known lines frame r cites verdict → ⊥)

@@ -12,7 +12,7 @@ use Rattle.guard_builtins.specs.declared.made.Made as types
 use Rattle.guard_builtins.specs.declared.made.Made.TheVariants as code
 use Rattle.guard_syntax.specs.declared.row.Row.{Row}
 use Rattle.rule_meaning.specs.Functions.{MadeRow, New, Kept}
-use Rattle.rule_meaning.specs.Known.{Known, Made, made_at}
+use Rattle.rule_meaning.specs.StoreModel.{StoreModel, Made, made_at}
 use Rattle.value_compare.specs.Stores.{see_store}
 use Rattle.value_compare.specs.declared.store.Store.{Store}
 use Rattle.rule_meaning.specs.Seeing.{are_called, grown, rows_kept, trees_kept}
@@ -99,7 +99,7 @@ new-within line at (New tree ∷ xs) =
     All-cons (λ (x : Made). x.line ≤ line) (record { line = line; row = at; tree = tree }) (trees_kept line (suc at) xs) (omega arith) (new-within line (suc at) xs)
 new-within line at (Kept r ∷ xs) = new-within line (suc at) xs
 
-pub within-grown : (n : ℕ) (known : Known) (xs : List MadeRow) → AreMadeWithin n known.made → AreMadeWithin (suc n) (grown known (trees_kept (suc n) 0 xs)).made
+pub within-grown : (n : ℕ) (known : StoreModel) (xs : List MadeRow) → AreMadeWithin n known.made → AreMadeWithin (suc n) (grown known (trees_kept (suc n) 0 xs)).made
 within-grown n known xs within =
     All-append (λ (x : Made). x.line ≤ suc n) known.made (trees_kept (suc n) 0 xs) (within-later n known.made within) (new-within (suc n) 0 xs)
 
@@ -126,7 +126,7 @@ module _ (before now : Store) (line next : ℕ) (taken : List types.Made) (so : 
 
   pub place-free : ((row : ℕ) → made_at (see_store before).made line row ≡ None) → made_at now.made line next ≡ None
   place-free free =
-      ap (λ (k : Known). made_at k.made line next) so.store
+      ap (λ (k : StoreModel). made_at k.made line next) so.store
       ∙ absent-behind before.made (trees_kept line 0 seen) line next (free next) (absent-later line 0 next seen (omega (arith, many)))
 
   pub kept-tree : (after : Store) (tree : Forest) (m : types.Made) (later : ℕ) → m ≡ code.Tree tree → later ≡ next + 1
@@ -138,7 +138,7 @@ module _ (before now : Store) (line next : ℕ) (taken : List types.Made) (so : 
         at = omega (arith, one, so.at, length-append taken (m ∷ []));
         store =
             added now after (record { line = line; row = next; tree = tree }) doc file made
-            ∙ ap (λ (k : Known). grown k (record { line = line; row = next; tree = tree } ∷ [])) so.store
+            ∙ ap (λ (k : StoreModel). grown k (record { line = line; row = next; tree = tree } ∷ [])) so.store
             ∙ grown-more (see_store before) (trees_kept line 0 seen) (record { line = line; row = next; tree = tree } ∷ [])
             ∙ ap (grown (see_store before)) (sym (ap (trees_kept line 0) all ∙ trees-more line 0 next seen (New tree ∷ []) many));
       }

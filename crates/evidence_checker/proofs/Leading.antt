@@ -2,17 +2,17 @@
 use Rattle.std.proofs.Common.{◌≡◌, Bool, true, false, ap, sym, refl, List, [], MatchBool}
 use Rattle.std.proofs.lemmas.Bool.{true≢false}
 use Rattle.std.proofs.lemmas.List.{append-nil}
-use Rattle.rule_meaning.specs.Known.{Known, Made}
+use Rattle.rule_meaning.specs.StoreModel.{StoreModel, Made}
 use Rattle.rule_meaning.specs.Seeing.{grown}
 use Rattle.evidence_checker.specs.Judging.{Leads, Stays}
 
-pub grown-nothing : (known : Known) → grown known [] ≡ known
+pub grown-nothing : (known : StoreModel) → grown known [] ≡ known
 grown-nothing known = ap (λ (ms : List Made). record { template = known.template; file = known.file; made = ms }) (append-nil known.made)
 
-abbrev pub Decided : Bool → (List Made → Type 0) → (known after : Known) → Type 0
+abbrev pub Decided : Bool → (List Made → Type 0) → (known after : StoreModel) → Type 0
 Decided b Holds known after = MatchBool b (Leads Holds known after) (Stays Holds known after)
 
-module _ (Holds : List Made → Type 0) (known : Known) where
+module _ (Holds : List Made → Type 0) (known : StoreModel) where
   pub nothing-leads : Holds [] → ((other : List Made) → Holds other → other ≡ []) → Leads Holds known known
   nothing-leads holds only = ([], holds, sym (grown-nothing known), only)
 
@@ -22,12 +22,12 @@ module _ (Holds : List Made → Type 0) (known : Known) where
 
 -- what holds of the same trees leads and stays alike
 module _ (Holds Other : List Made → Type 0) (there : (more : List Made) → Holds more → Other more) (back : (more : List Made) → Other more → Holds more) where
-  pub decided-alike : (b : Bool) (known after : Known) → Decided b Holds known after → Decided b Other known after
+  pub decided-alike : (b : Bool) (known after : StoreModel) → Decided b Holds known after → Decided b Other known after
   decided-alike true known after leads = (leads.0, there leads.0 leads.1, leads.2, λ other holds. leads.3 other (back other holds))
   decided-alike false known after stays = ((λ more holds. stays.0 more (back more holds)), stays.1)
 
 -- by the answer
-module _ (Holds : List Made → Type 0) (known after : Known) where
+module _ (Holds : List Made → Type 0) (known after : StoreModel) where
   pub leads-of : (b : Bool) → b ≡ true → Decided b Holds known after → Leads Holds known after
   leads-of true holds_is leads = leads
   leads-of false holds_is stays = absurd (true≢false (sym holds_is))

@@ -8,6 +8,7 @@ use Rattle.evidence_lines.specs.declared.line.LineKind.{LineKind}
 use Rattle.evidence_lines.specs.declared.line.LineKind.TheVariants as kind
 use Rattle.evidence_lines.specs.declared.line.Outcome.{Outcome}
 use Rattle.evidence_lines.specs.declared.line.Outcome.TheVariants as says
+use Rattle.evidence_lines.specs.declared.version.Version.{Version}
 use Rattle.guard_syntax.specs.Seen.{see_file}
 use Rattle.guard_syntax.specs.declared.syntax.RawFile.{RawFile}
 use Rattle.guard_syntax.specs.Syntax.{Expr, File, kinds, literal, function, found}
@@ -16,7 +17,7 @@ use Rattle.guard_syntax.specs.declared.row.Row.{Row}
 use Rattle.guard_syntax.specs.declared.row.Row.TheVariants.{Found}
 use Rattle.guard_syntax.specs.declared.row.Verdict.{Verdict}
 use Rattle.rule_names.specs.Pieces.{AreInOrder, Piece, OfExpr, OfPart, OfStep, piece_at}
-use Rattle.rule_meaning.specs.Known.{Known, Made, is_known_ref}
+use Rattle.rule_meaning.specs.StoreModel.{StoreModel, Made, is_known_ref}
 use Rattle.evidence_rules.specs.CitedLines.{scope_of}
 use Rattle.evidence_rules.specs.Follows.{Follows, FollowsAtExpr, FollowsIn, FollowsRows, FollowsVerdict, IsFileLine, IsFrameOf, home_for}
 use Rattle.rule_meaning.specs.Roots.{literal_ref, root_ref}
@@ -24,31 +25,31 @@ use Rattle.evidence_checker.specs.Said.{IsSound, is_known_outcome}
 use Rattle.evidence_checker.proofs.Leading.{Decided, decided-alike, nothing-decided}
 use Rattle.evidence_checker.proofs.SitesPlaced.{placed-nowhere}
 
-module _ (known : Known) (lines : List Line) (frame site : ℕ) where
+module _ (version : Version) (known : StoreModel) (lines : List Line) (frame site : ℕ) where
   -- ---- what each kind says, as lines have it
 
   pub rows-in : (of : LineKind) (cites : List ℕ) (rows : List Row) (more : List Made) → FollowsRows known lines frame site of (piece_at known.file site) cites rows more
-      → FollowsIn known lines frame site of cites (says.Rows rows) more
+      → FollowsIn version known lines frame site of cites (says.Rows rows) more
   rows-in kind.Frame cites rows more h = h
   rows-in of cites rows more h = h
 
-  pub rows-of : (of : LineKind) (cites : List ℕ) (rows : List Row) (more : List Made) → FollowsIn known lines frame site of cites (says.Rows rows) more
+  pub rows-of : (of : LineKind) (cites : List ℕ) (rows : List Row) (more : List Made) → FollowsIn version known lines frame site of cites (says.Rows rows) more
       → FollowsRows known lines frame site of (piece_at known.file site) cites rows more
   rows-of kind.Frame cites rows more h = h
   rows-of of cites rows more h = h
 
-  pub verdict-in : (of : LineKind) (cites : List ℕ) (verdict : Verdict) → FollowsVerdict known lines frame site of (piece_at known.file site) cites verdict
-      → FollowsIn known lines frame site of cites (says.Verdict verdict) []
+  pub verdict-in : (of : LineKind) (cites : List ℕ) (verdict : Verdict) → FollowsVerdict version known lines frame site of (piece_at known.file site) cites verdict
+      → FollowsIn version known lines frame site of cites (says.Verdict verdict) []
   verdict-in kind.Frame cites verdict h = (h, refl)
   verdict-in of cites verdict h = (h, refl)
 
-  pub verdict-of : (of : LineKind) (cites : List ℕ) (verdict : Verdict) (more : List Made) → FollowsIn known lines frame site of cites (says.Verdict verdict) more
-      → FollowsVerdict known lines frame site of (piece_at known.file site) cites verdict × (more ≡ [])
+  pub verdict-of : (of : LineKind) (cites : List ℕ) (verdict : Verdict) (more : List Made) → FollowsIn version known lines frame site of cites (says.Verdict verdict) more
+      → FollowsVerdict version known lines frame site of (piece_at known.file site) cites verdict × (more ≡ [])
   verdict-of kind.Frame cites verdict more h = h
   verdict-of of cites verdict more h = h
 
   -- a value is said by a frame, which cites none
-  pub value-of : (of : LineKind) (cites : List ℕ) (v : Ref) (more : List Made) → FollowsIn known lines frame site of cites (says.Value v) more
+  pub value-of : (of : LineKind) (cites : List ℕ) (v : Ref) (more : List Made) → FollowsIn version known lines frame site of cites (says.Value v) more
       → (of ≡ kind.Frame) × (cites ≡ []) × IsFrameOf known lines frame (piece_at known.file site) v × (more ≡ [])
   value-of kind.Frame cites v more h = (refl, h.0, h.1, h.2)
   value-of of cites v more h = absurd h
@@ -68,30 +69,30 @@ module _ (known : Known) (lines : List Line) (frame site : ℕ) where
   rows-plain kind.Types (Some (OfPart (kinds n name conditions inner))) cites rows more other h = h.4
   rows-plain of piece cites rows more other h = absurd h
 
-  pub rows-only : (of : LineKind) (cites : List ℕ) (rows : List Row) (more : List Made) → (of ≡ kind.Fn → ⊥) → FollowsIn known lines frame site of cites (says.Rows rows) more → more ≡ []
+  pub rows-only : (of : LineKind) (cites : List ℕ) (rows : List Row) (more : List Made) → (of ≡ kind.Fn → ⊥) → FollowsIn version known lines frame site of cites (says.Rows rows) more → more ≡ []
   rows-only of cites rows more other h = rows-plain of (piece_at known.file site) cites rows more other (rows-of of cites rows more h)
 
   pub rows-decided : (of : LineKind) (cites : List ℕ) (rows : List Row) (b : Bool) → (of ≡ kind.Fn → ⊥)
       → MatchBool b (FollowsRows known lines frame site of (piece_at known.file site) cites rows [])
       ((more : List Made) → FollowsRows known lines frame site of (piece_at known.file site) cites rows more → ⊥)
-      → Decided b (FollowsIn known lines frame site of cites (says.Rows rows)) known known
+      → Decided b (FollowsIn version known lines frame site of cites (says.Rows rows)) known known
   rows-decided of cites rows true other holds =
-      nothing-decided (FollowsIn known lines frame site of cites (says.Rows rows)) known true (λ more h. rows-only of cites rows more other h) (rows-in of cites rows [] holds)
+      nothing-decided (FollowsIn version known lines frame site of cites (says.Rows rows)) known true (λ more h. rows-only of cites rows more other h) (rows-in of cites rows [] holds)
   rows-decided of cites rows false other never =
-      nothing-decided (FollowsIn known lines frame site of cites (says.Rows rows)) known false (λ more h. rows-only of cites rows more other h) (λ more h. never more (rows-of of cites rows more h))
+      nothing-decided (FollowsIn version known lines frame site of cites (says.Rows rows)) known false (λ more h. rows-only of cites rows more other h) (λ more h. never more (rows-of of cites rows more h))
 
   pub verdict-decided : (of : LineKind) (cites : List ℕ) (verdict : Verdict) (b : Bool)
-      → MatchBool b (FollowsVerdict known lines frame site of (piece_at known.file site) cites verdict) (FollowsVerdict known lines frame site of (piece_at known.file site) cites verdict → ⊥)
-      → Decided b (FollowsIn known lines frame site of cites (says.Verdict verdict)) known known
+      → MatchBool b (FollowsVerdict version known lines frame site of (piece_at known.file site) cites verdict) (FollowsVerdict version known lines frame site of (piece_at known.file site) cites verdict → ⊥)
+      → Decided b (FollowsIn version known lines frame site of cites (says.Verdict verdict)) known known
   verdict-decided of cites verdict true holds =
-      nothing-decided (FollowsIn known lines frame site of cites (says.Verdict verdict)) known true (λ more h. (verdict-of of cites verdict more h).1) (verdict-in of cites verdict holds)
+      nothing-decided (FollowsIn version known lines frame site of cites (says.Verdict verdict)) known true (λ more h. (verdict-of of cites verdict more h).1) (verdict-in of cites verdict holds)
   verdict-decided of cites verdict false never =
-      nothing-decided (FollowsIn known lines frame site of cites (says.Verdict verdict)) known false (λ more h. (verdict-of of cites verdict more h).1) (λ more h. never (verdict-of of cites verdict more h).0)
+      nothing-decided (FollowsIn version known lines frame site of cites (says.Verdict verdict)) known false (λ more h. (verdict-of of cites verdict more h).1) (λ more h. never (verdict-of of cites verdict more h).0)
 
   pub value-decided : (of : LineKind) (cites : List ℕ) (v : Ref) (b : Bool)
-      → MatchBool b (FollowsIn known lines frame site of cites (says.Value v) []) ((more : List Made) → FollowsIn known lines frame site of cites (says.Value v) more → ⊥)
-      → Decided b (FollowsIn known lines frame site of cites (says.Value v)) known known
-  value-decided of cites v b holds = nothing-decided (FollowsIn known lines frame site of cites (says.Value v)) known b (λ more h. (value-of of cites v more h).3) holds
+      → MatchBool b (FollowsIn version known lines frame site of cites (says.Value v) []) ((more : List Made) → FollowsIn version known lines frame site of cites (says.Value v) more → ⊥)
+      → Decided b (FollowsIn version known lines frame site of cites (says.Value v)) known known
+  value-decided of cites v b holds = nothing-decided (FollowsIn version known lines frame site of cites (says.Value v)) known b (λ more h. (value-of of cites v more h).3) holds
 
   -- ---- a site of no part
 
@@ -99,16 +100,16 @@ module _ (known : Known) (lines : List Line) (frame site : ℕ) where
   no-rows kind.Types cites rows more h = h
   no-rows of cites rows more h = h
 
-  no-verdict : (of : LineKind) (cites : List ℕ) (verdict : Verdict) → FollowsVerdict known lines frame site of None cites verdict → ⊥
+  no-verdict : (of : LineKind) (cites : List ℕ) (verdict : Verdict) → FollowsVerdict version known lines frame site of None cites verdict → ⊥
   no-verdict kind.Rule cites verdict h = h
   no-verdict of cites verdict h = h
 
-  pub nowhere : (of : LineKind) (cites : List ℕ) (outcome : Outcome) (more : List Made) → piece_at known.file site ≡ None → FollowsIn known lines frame site of cites outcome more → ⊥
+  pub nowhere : (of : LineKind) (cites : List ℕ) (outcome : Outcome) (more : List Made) → piece_at known.file site ≡ None → FollowsIn version known lines frame site of cites outcome more → ⊥
   nowhere of cites (says.Value v) more none h = subst (λ (p : Option Piece). IsFrameOf known lines frame p v) none (value-of of cites v more h).2
   nowhere of cites (says.Rows rows) more none h =
       no-rows of cites rows more (subst (λ (p : Option Piece). FollowsRows known lines frame site of p cites rows more) none (rows-of of cites rows more h))
   nowhere of cites (says.Verdict verdict) more none h =
-      no-verdict of cites verdict (subst (λ (p : Option Piece). FollowsVerdict known lines frame site of p cites verdict) none (verdict-of of cites verdict more h).0)
+      no-verdict of cites verdict (subst (λ (p : Option Piece). FollowsVerdict version known lines frame site of p cites verdict) none (verdict-of of cites verdict more h).0)
 
   -- ---- a literal
 
@@ -119,57 +120,57 @@ module _ (known : Known) (lines : List Line) (frame site : ℕ) where
   literal-rows (Some (OfStep q i)) cites rows more h = absurd h.0
   literal-rows piece cites rows more h = absurd h
 
-  literal-verdict : (piece : Option Piece) (cites : List ℕ) (verdict : Verdict) → FollowsVerdict known lines frame site kind.Literal piece cites verdict → ⊥
+  literal-verdict : (piece : Option Piece) (cites : List ℕ) (verdict : Verdict) → FollowsVerdict version known lines frame site kind.Literal piece cites verdict → ⊥
   literal-verdict (Some (OfPart part)) cites verdict h = h
   literal-verdict piece cites verdict h = h
 
-  literal-is : (cites : List ℕ) (outcome : Outcome) (more : List Made) → FollowsIn known lines frame site kind.Literal cites outcome more → outcome ≡ says.Rows (Found (literal_ref site) ∷ [])
+  literal-is : (cites : List ℕ) (outcome : Outcome) (more : List Made) → FollowsIn version known lines frame site kind.Literal cites outcome more → outcome ≡ says.Rows (Found (literal_ref site) ∷ [])
   literal-is cites (says.Value v) more h = absurd h
   literal-is cites (says.Rows rows) more h = ap (λ (rs : List Row). says.Rows rs) (literal-rows (piece_at known.file site) cites rows more h)
   literal-is cites (says.Verdict verdict) more h = absurd (literal-verdict (piece_at known.file site) cites verdict h.0)
 
-  pub literal-said : (of : LineKind) (cites : List ℕ) (outcome : Outcome) (more : List Made) → of ≡ kind.Literal → FollowsIn known lines frame site of cites outcome more
+  pub literal-said : (of : LineKind) (cites : List ℕ) (outcome : Outcome) (more : List Made) → of ≡ kind.Literal → FollowsIn version known lines frame site of cites outcome more
       → outcome ≡ says.Rows (Found (literal_ref site) ∷ [])
-  literal-said of cites outcome more is h = literal-is cites outcome more (subst (λ (k : LineKind). FollowsIn known lines frame site k cites outcome more) is h)
+  literal-said of cites outcome more is h = literal-is cites outcome more (subst (λ (k : LineKind). FollowsIn version known lines frame site k cites outcome more) is h)
 
 -- ---- lines
 
-module _ (known : Known) (lines : List Line) (line : Line) where
+module _ (version : Version) (known : StoreModel) (lines : List Line) (line : Line) where
   -- a line in a frame and of a site
   module _ (frame site : ℕ) (frame_is : line.frame ≡ Some frame) (site_is : line.site ≡ Some site) where
     abbrev pub Placed : List Made → Type 0
-    Placed more = (scope_of known.file lines frame ≡ Some (home_for known.file line.kind site)) × FollowsIn known lines frame site line.kind line.cites line.outcome more
+    Placed more = (scope_of known.file lines frame ≡ Some (home_for known.file line.kind site)) × FollowsIn version known lines frame site line.kind line.cites line.outcome more
 
-    pub placed : (more : List Made) → Placed more → Follows known lines line more
+    pub placed : (more : List Made) → Placed more → Follows version known lines line more
     placed more h = inr (frame, site, frame_is, site_is, h.0, h.1)
 
-    pub placed-of : (more : List Made) → Follows known lines line more → Placed more
+    pub placed-of : (more : List Made) → Follows version known lines line more → Placed more
     placed-of more h = elim h [
       | inl (q, none) ↦ absurd (none-some frame (sym q.1 ∙ frame_is))
       | inr (f, s, f_is, s_is, home, follows) ↦
           let same_frame : f ≡ frame = same_Some f frame (sym f_is ∙ frame_is) in
           let same_site : s ≡ site = same_Some s site (sym s_is ∙ site_is) in
-          let Both : ℕ → ℕ → Type 0 = λ m n. (scope_of known.file lines m ≡ Some (home_for known.file line.kind n)) × FollowsIn known lines m n line.kind line.cites line.outcome more in
+          let Both : ℕ → ℕ → Type 0 = λ m n. (scope_of known.file lines m ≡ Some (home_for known.file line.kind n)) × FollowsIn version known lines m n line.kind line.cites line.outcome more in
           subst (λ (m : ℕ). Both m site) same_frame (subst (λ (n : ℕ). Both f n) same_site (home, follows))
     ]
 
   -- one without a frame, and one without a site
-  pub file-only : line.frame ≡ None → (more : List Made) → Follows known lines line more → IsFileLine known lines line × (more ≡ [])
+  pub file-only : line.frame ≡ None → (more : List Made) → Follows version known lines line more → IsFileLine known lines line × (more ≡ [])
   file-only none more h = elim h [
     | inl both ↦ both
     | inr (f, s, f_is, s_is, home, follows) ↦ absurd (none-some f (sym none ∙ f_is))
   ]
 
-  pub never-sited : (frame : ℕ) → line.frame ≡ Some frame → line.site ≡ None → (more : List Made) → Follows known lines line more → ⊥
+  pub never-sited : (frame : ℕ) → line.frame ≡ Some frame → line.site ≡ None → (more : List Made) → Follows version known lines line more → ⊥
   never-sited frame frame_is none more h = elim h [
     | inl (q, nothing) ↦ none-some frame (sym q.1 ∙ frame_is)
     | inr (f, s, f_is, s_is, home, follows) ↦ none-some s (sym none ∙ s_is)
   ]
 
   -- one without a frame is judged by whether it is the `file` line
-  pub file-decided : line.frame ≡ None → (b : Bool) → MatchBool b (IsFileLine known [] line) (IsFileLine known [] line → ⊥) → Decided b (Follows known lines line) known known
-  file-decided none true file = nothing-decided (Follows known lines line) known true (λ other h. (file-only none other h).1) (inl (file, refl))
-  file-decided none false never = nothing-decided (Follows known lines line) known false (λ other h. (file-only none other h).1) (λ more h. never (file-only none more h).0)
+  pub file-decided : line.frame ≡ None → (b : Bool) → MatchBool b (IsFileLine known [] line) (IsFileLine known [] line → ⊥) → Decided b (Follows version known lines line) known known
+  file-decided none true file = nothing-decided (Follows version known lines line) known true (λ other h. (file-only none other h).1) (inl (file, refl))
+  file-decided none false never = nothing-decided (Follows version known lines line) known false (λ other h. (file-only none other h).1) (λ more h. never (file-only none more h).0)
 
   pub file-sound : (b : Bool) → MatchBool b (IsFileLine known [] line) (IsFileLine known [] line → ⊥) → is_known_ref known root_ref ≡ true → b ≡ true → IsSound known line
   file-sound true file root is = record {
@@ -181,17 +182,17 @@ module _ (known : Known) (lines : List Line) (line : Line) where
   -- and one in a frame and of a site by what it says there
   module _ (frame site : ℕ) (frame_is : line.frame ≡ Some frame) (site_is : line.site ≡ Some site) where
     abbrev SaidThere : List Made → Type 0
-    SaidThere more = FollowsIn known lines frame site line.kind line.cites line.outcome more
+    SaidThere more = FollowsIn version known lines frame site line.kind line.cites line.outcome more
 
-    pub placed-decided : (b : Bool) (after : Known) → scope_of known.file lines frame ≡ Some (home_for known.file line.kind site) → Decided b SaidThere known after → Decided b (Follows known lines line) known after
+    pub placed-decided : (b : Bool) (after : StoreModel) → scope_of known.file lines frame ≡ Some (home_for known.file line.kind site) → Decided b SaidThere known after → Decided b (Follows version known lines line) known after
     placed-decided b after home decided =
-        decided-alike SaidThere (Follows known lines line) (λ more h. placed frame site frame_is site_is more (home, h)) (λ more h. (placed-of frame site frame_is site_is more h).1) b known after decided
+        decided-alike SaidThere (Follows version known lines line) (λ more h. placed frame site frame_is site_is more (home, h)) (λ more h. (placed-of frame site frame_is site_is more h).1) b known after decided
 
-    pub placed-sound : (b : Bool) (after : Known) → Decided b SaidThere known after → (b ≡ true → is_known_outcome after line.outcome ≡ true) → b ≡ true → IsSound after line
+    pub placed-sound : (b : Bool) (after : StoreModel) → Decided b SaidThere known after → (b ≡ true → is_known_outcome after line.outcome ≡ true) → b ≡ true → IsSound after line
     placed-sound true after leads known_is is = record {
       known_is = known_is is;
       literal_is = λ s kind_is s_is.
-          literal-said known lines frame site line.kind line.cites line.outcome leads.0 kind_is leads.1
+          literal-said version known lines frame site line.kind line.cites line.outcome leads.0 kind_is leads.1
           ∙ ap (λ (n : ℕ). says.Rows (Found (literal_ref n) ∷ [])) (same_Some site s (sym site_is ∙ s_is));
     }
     placed-sound false after stays known_is is = absurd (true≢false (sym is))
@@ -205,12 +206,12 @@ within-or n m = by (nat_lt n m) refl
     by true less = inl (grind (arith, nat_tests, less))
     by false not_less = inr (grind (arith, nat_tests, not_less))
 
-module _ (f : RawFile) (ordered : AreInOrder (see_file f)) (known : Known) (file_is : known.file ≡ see_file f) (lines : List Line) (line : Line) where
+module _ (version : Version) (f : RawFile) (ordered : AreInOrder (see_file f)) (known : StoreModel) (file_is : known.file ≡ see_file f) (lines : List Line) (line : Line) where
   no-part : (site : ℕ) → length f.places ≤ site → piece_at known.file site ≡ None
   no-part site past = ap (λ (x : File). piece_at x site) file_is ∙ placed-nowhere f site ordered past
 
   -- a line that follows has a site that has a place
-  pub sited-within : (site : ℕ) (more : List Made) → Follows known lines line more → line.site ≡ Some site → site < length f.places
+  pub sited-within : (site : ℕ) (more : List Made) → Follows version known lines line more → line.site ≡ Some site → site < length f.places
   sited-within site more h site_is = elim h [
     | inl (q, none) ↦ absurd (none-some site (sym q.2 ∙ site_is))
     | inr (frame, s, frame_is, s_is, home, follows) ↦
@@ -218,25 +219,25 @@ module _ (f : RawFile) (ordered : AreInOrder (see_file f)) (known : Known) (file
         elim (within-or site (length f.places)) [
           | inl within ↦ within
           | inr past ↦
-              absurd (nowhere known lines frame s line.kind line.cites line.outcome more (no-part s (subst (λ (n : ℕ). length f.places ≤ n) (sym same) past)) follows)
+              absurd (nowhere version known lines frame s line.kind line.cites line.outcome more (no-part s (subst (λ (n : ℕ). length f.places ≤ n) (sym same) past)) follows)
         ]
   ]
 
   -- where a frame's scope is not the home of a site that has a place, no line follows there
   pub not-home : (frame site : ℕ) → line.frame ≡ Some frame → line.site ≡ Some site
       → (site < length (see_file f).places → scope_of (see_file f) lines frame ≡ Some (home_for (see_file f) line.kind site) → ⊥)
-      → (more : List Made) → Follows known lines line more → ⊥
+      → (more : List Made) → Follows version known lines line more → ⊥
   not-home frame site frame_is site_is never more h =
-      let there = placed-of known lines line frame site frame_is site_is more h in
+      let there = placed-of version known lines line frame site frame_is site_is more h in
       never (sited-within site more h site_is) (subst (λ (x : File). scope_of x lines frame ≡ Some (home_for x line.kind site)) file_is there.0)
 
 -- ---- what the code passes on
 
-module _ (known after : Known) (lines : List Line) (frame site : ℕ) (of : LineKind) (cites given : List ℕ) (outcome said : Outcome) (given_is : given ≡ cites) (is : outcome ≡ said) where
-  pub said-as : (b : Bool) → Decided b (FollowsIn known lines frame site of given said) known after → Decided b (FollowsIn known lines frame site of cites outcome) known after
+module _ (version : Version) (known after : StoreModel) (lines : List Line) (frame site : ℕ) (of : LineKind) (cites given : List ℕ) (outcome said : Outcome) (given_is : given ≡ cites) (is : outcome ≡ said) where
+  pub said-as : (b : Bool) → Decided b (FollowsIn version known lines frame site of given said) known after → Decided b (FollowsIn version known lines frame site of cites outcome) known after
   said-as b decided =
-      subst (λ (o : Outcome). Decided b (FollowsIn known lines frame site of cites o) known after) (sym is)
-      (subst (λ (cs : List ℕ). Decided b (FollowsIn known lines frame site of cs said) known after) given_is decided)
+      subst (λ (o : Outcome). Decided b (FollowsIn version known lines frame site of cites o) known after) (sym is)
+      (subst (λ (cs : List ℕ). Decided b (FollowsIn version known lines frame site of cs said) known after) given_is decided)
 
   pub known-as : (b : Bool) → (b ≡ true → is_known_outcome after said ≡ true) → b ≡ true → is_known_outcome after outcome ≡ true
   known-as b known_is e = ap (is_known_outcome after) is ∙ known_is e

@@ -4,11 +4,12 @@ use Rattle.std.proofs.lemmas.List.{length-take-le, take_all}
 use Rattle.std.proofs.Math.Seq.{take-suc}
 use Rattle.evidence_lines.specs.Shapes.{HasShape}
 use Rattle.evidence_lines.specs.declared.line.Line.{Line}
+use Rattle.evidence_lines.specs.declared.version.Version.{Version}
 use Rattle.guard_syntax.specs.Seen.{see_file}
 use Rattle.guard_syntax.specs.declared.row.Verdict.{Verdict}
 use Rattle.guard_syntax.specs.declared.syntax.RawFile.{RawFile}
 use Rattle.rule_names.specs.Pieces.{AreInOrder}
-use Rattle.rule_meaning.specs.Known.{Known, Made}
+use Rattle.rule_meaning.specs.StoreModel.{StoreModel, Made}
 use Rattle.evidence_rules.specs.Follows.{AllFollow, Follows}
 use Rattle.evidence_rules.proofs.FollowingShapes.{follows-shape}
 use Rattle.evidence_checker.specs.Judging.{AreJudged, IsFaultAt, IsKnownBehind, Leads}
@@ -27,28 +28,28 @@ module _ (lines seen : List Line) (before : ℕ) (line : Line) (within : before 
   pub counted : length seen ≡ before
   counted = ap length seen_is ∙ length-take-le before lines (omega arith)
 
-  module _ (start known : Known) (behind : IsKnownBehind start (take before lines) known) where
-    behind_seen : IsKnownBehind start seen known
-    behind_seen = subst (λ (ls : List Line). IsKnownBehind start ls known) (sym seen_is) behind
+  module _ (version : Version) (start known : StoreModel) (behind : IsKnownBehind version start (take before lines) known) where
+    behind_seen : IsKnownBehind version start seen known
+    behind_seen = subst (λ (ls : List Line). IsKnownBehind version start ls known) (sym seen_is) behind
 
-    pub fault-here : ((more : List Made) → Follows known seen line more → ⊥) → IsFaultAt start lines (before + 1)
+    pub fault-here : ((more : List Made) → Follows version known seen line more → ⊥) → IsFaultAt version start lines (before + 1)
     fault-here never = (
       before,
       add-one before,
       omega arith,
-      subst (AllFollow start []) seen_is (all-follow start seen known behind_seen),
-      λ follow. stuck start seen known behind_seen line never (subst (AllFollow start []) (sym one-more) follow),
+      subst (AllFollow version start []) seen_is (all-follow version start seen known behind_seen),
+      λ follow. stuck version start seen known behind_seen line never (subst (AllFollow version start []) (sym one-more) follow),
     )
 
-    module _ (after : Known) (leads : Leads (Follows known seen line) known after) where
-      pub known-on : IsKnownBehind start (take (before + 1) lines) after
-      known-on = subst (λ (ls : List Line). IsKnownBehind start ls after) one-more (behind-more start seen known behind_seen line after leads)
+    module _ (after : StoreModel) (leads : Leads (Follows version known seen line) known after) where
+      pub known-on : IsKnownBehind version start (take (before + 1) lines) after
+      known-on = subst (λ (ls : List Line). IsKnownBehind version start ls after) one-more (behind-more version start seen known behind_seen line after leads)
 
       pub file-on : after.file ≡ known.file
-      file-on = ap (λ (k : Known). k.file) leads.2
+      file-on = ap (λ (k : StoreModel). k.file) leads.2
 
       pub shape-here : HasShape line
-      shape-here = follows-shape known seen line leads.0 leads.1
+      shape-here = follows-shape version known seen line leads.0 leads.1
 
       pub judged-on : (table : List (Option Verdict)) → AreJudged (seen ++ line ∷ []) table → AreJudged (take (before + 1) lines) table
       judged-on table judged = subst (λ (ls : List Line). AreJudged ls table) one-more judged
@@ -58,14 +59,14 @@ module _ (lines seen : List Line) (before : ℕ) (line : Line) (within : before 
           subst (AreSound after) one-more (sound-behind known after leads.0 seen line leads.2 (subst (AreSound known) (sym seen_is) sound) new)
 
       pub site-here : (f : RawFile) → AreInOrder (see_file f) → known.file ≡ see_file f → (site : ℕ) → line.site ≡ Some site → site < length f.places
-      site-here f ordered file_is site site_is = sited-within f ordered known file_is seen line site leads.0 leads.1 site_is
+      site-here f ordered file_is site site_is = sited-within version f ordered known file_is seen line site leads.0 leads.1 site_is
 
   pub made-on : (made : List Made) → AreMadeWithin (suc (length seen)) made → AreMadeWithin (before + 1) made
   made-on made all = subst (λ (n : ℕ). AreMadeWithin n made) (ap suc counted ∙ sym (add-one before)) all
 
 -- behind the last
-pub all-behind : (start known : Known) (lines : List Line) (before : ℕ) → length lines ≤ before → IsKnownBehind start (take before lines) known → AllFollow start [] lines
-all-behind start known lines before past behind = subst (AllFollow start []) (take_all before lines past) (all-follow start (take before lines) known behind)
+pub all-behind : (version : Version) (start known : StoreModel) (lines : List Line) (before : ℕ) → length lines ≤ before → IsKnownBehind version start (take before lines) known → AllFollow version start [] lines
+all-behind version start known lines before past behind = subst (AllFollow version start []) (take_all before lines past) (all-follow version start (take before lines) known behind)
 
 pub all-judged : (lines : List Line) (before : ℕ) (table : List (Option Verdict)) → length lines ≤ before → AreJudged (take before lines) table → AreJudged lines table
 all-judged lines before table past judged = subst (λ (ls : List Line). AreJudged ls table) (take_all before lines past) judged

@@ -8,7 +8,7 @@ use Rattle.evidence_lines.specs.declared.line.Outcome.TheVariants as says
 use Rattle.guard_syntax.specs.Syntax.{Exprs, Expr, File, Query, literal, function, asked, found, query}
 use Rattle.guard_syntax.specs.declared.row.Row.{Row}
 use Rattle.guard_syntax.specs.declared.row.Verdict.{Verdict}
-use Rattle.rule_names.specs.Links.{bind_of}
+use Rattle.rule_names.specs.Resolution.{bind_of}
 use Rattle.rule_names.specs.Pieces.{Piece, OfExpr, OfQuery, piece_at}
 use Rattle.rule_names.specs.Uses.{expr_in}
 use Rattle.rule_names.specs.declared.bind.Bind.{Bind}

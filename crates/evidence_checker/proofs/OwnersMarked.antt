@@ -11,7 +11,7 @@ use Rattle.guard_syntax.specs.Syntax.{Body, File, Part, Rule, block, guarded, ki
 use Rattle.rule_names.specs.Marks.{IsMarked}
 use Rattle.rule_names.specs.Pieces.{Piece, OfBody, OfPart, OfRule, piece_at, pieces_body, pieces_conds, pieces_opt_conds, pieces_query, AreInOrder}
 use Rattle.rule_names.specs.Within.{StandsIn}
-use Rattle.rule_meaning.specs.Known.{Known}
+use Rattle.rule_meaning.specs.StoreModel.{StoreModel}
 use Rattle.evidence_rules.specs.CitedLines.{body_site}
 use Rattle.evidence_rules.specs.Follows.{IsBlockBody, IsRuleBody, IsWhenBody}
 use Rattle.evidence_checker.specs.declared.owners.Owner.{Owner}
@@ -115,7 +115,7 @@ plain-is : (params : List Named) (a b : Body) → plain_body params a ≡ Some b
 plain-is [] a b is = (refl, same_Some a b is)
 plain-is (p ∷ params) a b is = absurd (none-some b is)
 
-module _ (known : Known) (lines : List Line) (order : AreInOrder known.file) where
+module _ (known : StoreModel) (lines : List Line) (order : AreInOrder known.file) where
   rule-owns : (r : Rule) (b : Body) → Contains known.file.rules r → plain_body r.params r.body ≡ Some b → StandsIn known.file (pieces_body b) × IsRuleBody known lines b
   rule-owns r b has is =
       let plain = plain-is r.params r.body b is in (

@@ -1,5 +1,5 @@
 -- Parts, bodies and rules that are found at a site stand in the file, and so does what stands in them.
-use Rattle.std.proofs.Common.{◌≡◌, ℕ, suc, cond, sym, subst, refl, inl, inr, List, [], ◌∷◌, ◌++◌, Some, zero, ◌<◌, length, get_or, arith}
+use Rattle.std.proofs.Common.{◌≡◌, ℕ, suc, sym, subst, refl, inl, inr, List, [], ◌∷◌, ◌++◌, Some, zero, ◌<◌, length, get_or, arith}
 use Rattle.std.specs.Prelude.{Contains}
 use Rattle.std.proofs.lemmas.List.{append-nil}
 use Rattle.guard_syntax.specs.Syntax.{Body, Lets, Let, Conds, OptConds, Disjs, Disj, Parts, Part, Query, Steps, Step, Expr, OptExpr, Exprs, Rule, File, body, no_lets, more_lets, assign, conds, no_conds, with_conds, no_disjs, more_disjs, disj, no_parts, more_parts, block, guarded, kinds, test, refer, call, query, no_steps, more_steps, this, var, key, index, every, items, splice, filter, keys, literal, function, asked, found, no_expr, with_expr, no_exprs, more_exprs}

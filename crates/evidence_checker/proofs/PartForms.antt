@@ -6,6 +6,7 @@ use denote.Enum.Bare.{sameb, differs_false, differs_true}
 use Rattle.evidence_lines.specs.contracts.line.LineKind.{the_type}
 use Rattle.evidence_lines.specs.declared.line.Line.{Line}
 use Rattle.evidence_lines.specs.declared.line.LineKind.{LineKind}
+use Rattle.evidence_lines.specs.declared.version.Version.{Version}
 use Rattle.guard_syntax.specs.Syntax as sx
 use Rattle.guard_syntax.specs.Seen.{expr_list, see_body, see_conds, see_expr, see_opt_conds, see_opt_expr, see_part, see_query}
 use Rattle.guard_syntax.specs.declared.row.Verdict.{Verdict}
@@ -16,7 +17,7 @@ use Rattle.guard_syntax.specs.declared.syntax.Op.{Op}
 use Rattle.guard_syntax.specs.declared.syntax.Part.{the_lemmas}
 use Rattle.guard_syntax.specs.declared.syntax.Part.TheVariants as part
 use Rattle.guard_syntax.specs.declared.syntax.Query.{Query}
-use Rattle.rule_meaning.specs.Known.{Known}
+use Rattle.rule_meaning.specs.StoreModel.{StoreModel}
 use Rattle.evidence_rules.specs.Follows.{FollowsAtPart, kind_of_part}
 
 pub block-seen : (site : ℕ) (any : Bool) (head : Query) (inner : Body) → see_part (part.Block site any head inner) ≡ sx.block site any (see_query head) (see_body inner)
@@ -46,11 +47,11 @@ kind-same r a b is off = differs_false the_type (search rules) a b (sym is ∙ o
 pub kind-other : (r : Bool) (a b : LineKind) → r ≡ not (sameb the_type a b) → r ≡ true → a ≡ b → ⊥
 kind-other r a b is on = differs_true the_type a b (sym is ∙ on)
 
-module _ (known : Known) (lines : List Line) (frame site : ℕ) (cites : List ℕ) (verdict : Verdict) where
+module _ (version : Version) (known : StoreModel) (lines : List Line) (frame site : ℕ) (cites : List ℕ) (verdict : Verdict) where
   -- a part by its form
   pub part-decided : (of : LineKind) (p form : sx.Part) (r : Bool) → of ≡ kind_of_part known lines p → p ≡ form
-      → MatchBool r (FollowsAtPart known lines frame site (kind_of_part known lines form) form cites verdict) (FollowsAtPart known lines frame site (kind_of_part known lines form) form cites verdict → ⊥)
-      → MatchBool r (FollowsAtPart known lines frame site of p cites verdict) (FollowsAtPart known lines frame site of p cites verdict → ⊥)
+      → MatchBool r (FollowsAtPart version known lines frame site (kind_of_part known lines form) form cites verdict) (FollowsAtPart version known lines frame site (kind_of_part known lines form) form cites verdict → ⊥)
+      → MatchBool r (FollowsAtPart version known lines frame site of p cites verdict) (FollowsAtPart version known lines frame site of p cites verdict → ⊥)
   part-decided of p form r kind_is is decided =
-      subst (λ (k : LineKind). MatchBool r (FollowsAtPart known lines frame site k p cites verdict) (FollowsAtPart known lines frame site k p cites verdict → ⊥)) (sym kind_is)
-      (subst (λ (q : sx.Part). MatchBool r (FollowsAtPart known lines frame site (kind_of_part known lines q) q cites verdict) (FollowsAtPart known lines frame site (kind_of_part known lines q) q cites verdict → ⊥)) (sym is) decided)
+      subst (λ (k : LineKind). MatchBool r (FollowsAtPart version known lines frame site k p cites verdict) (FollowsAtPart version known lines frame site k p cites verdict → ⊥)) (sym kind_is)
+      (subst (λ (q : sx.Part). MatchBool r (FollowsAtPart version known lines frame site (kind_of_part known lines q) q cites verdict) (FollowsAtPart version known lines frame site (kind_of_part known lines q) q cites verdict → ⊥)) (sym is) decided)

@@ -16,12 +16,12 @@ use Rattle.guard_syntax.specs.declared.syntax.Op.{Op}
 use Rattle.guard_syntax.specs.declared.syntax.Part.{Part}
 use Rattle.guard_syntax.specs.declared.syntax.Part as part
 use Rattle.guard_syntax.specs.declared.syntax.Query.{Query}
-use Rattle.rule_names.specs.Ways.{part_site}
-use Rattle.rule_meaning.specs.Known.{Known}
+use Rattle.rule_names.specs.ReferenceGraph.{part_site}
+use Rattle.rule_meaning.specs.StoreModel.{StoreModel}
 use Rattle.evidence_rules.specs.CitedLines.{IsLine}
 use Rattle.evidence_rules.specs.Follows.{SaysVerdict, kind_of_part}
 
-module _ (known : Known) (lines : List Line) where
+module _ (known : StoreModel) (lines : List Line) where
   -- the line of a part is of this kind, and of this site
   pub record IsAbout (p : Part) (of : LineKind) (site : ℕ) : Type 0 where
     pub kind_is : kind_of_part known lines (see_part p) ≡ of

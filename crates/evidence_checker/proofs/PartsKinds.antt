@@ -3,13 +3,14 @@ use Rattle.std.proofs.Common.{◌≡◌, ℕ, List, refl}
 use Rattle.evidence_lines.specs.declared.line.Line.{Line}
 use Rattle.evidence_lines.specs.declared.line.LineKind.{LineKind}
 use Rattle.evidence_lines.specs.declared.line.LineKind.TheVariants as kind
+use Rattle.evidence_lines.specs.declared.version.Version.{Version}
 use Rattle.guard_syntax.specs.Syntax as sx
 use Rattle.guard_syntax.specs.declared.row.Verdict.{Verdict}
-use Rattle.rule_meaning.specs.Known.{Known}
+use Rattle.rule_meaning.specs.StoreModel.{StoreModel}
 use Rattle.evidence_rules.specs.Follows.{FollowsAtPart, kind_of_part}
 
-module _ (known : Known) (lines : List Line) (frame site : ℕ) (cites : List ℕ) (verdict : Verdict) where
-  pub other-kind : (of : LineKind) (part : sx.Part) → (of ≡ kind_of_part known lines part → ⊥) → FollowsAtPart known lines frame site of part cites verdict → ⊥
+module _ (version : Version) (known : StoreModel) (lines : List Line) (frame site : ℕ) (cites : List ℕ) (verdict : Verdict) where
+  pub other-kind : (of : LineKind) (part : sx.Part) → (of ≡ kind_of_part known lines part → ⊥) → FollowsAtPart version known lines frame site of part cites verdict → ⊥
   other-kind kind.File part other f = f
   other-kind kind.Frame part other f = f
   other-kind kind.Literal part other f = f

@@ -7,7 +7,7 @@ use Rattle.guard_syntax.specs.declared.syntax.Expr.{Expr}
 use Rattle.guard_syntax.specs.declared.syntax.Query.{Query, out-Query, the_lemmas as query_lemmas}
 use Rattle.guard_syntax.specs.declared.syntax.Step.{Step, the_lemmas as step_lemmas}
 use Rattle.rule_names.specs.Uses.{expr_in}
-use Rattle.rule_names.specs.Ways.{step_site}
+use Rattle.rule_names.specs.ReferenceGraph.{step_site}
 use Rattle.evidence_rules.specs.CitedLines.{body_site}
 use Rattle.rule_meaning.specs.Places.{step_in, steps_in}
 

@@ -13,7 +13,7 @@ use Rattle.guard_syntax.specs.Seen.{see_step, step_list}
 use Rattle.guard_syntax.specs.declared.row.Row.{Row}
 use Rattle.guard_syntax.specs.declared.syntax.Step.{Step}
 use Rattle.rule_names.specs.Uses.{expr_in}
-use Rattle.rule_names.specs.Ways.{step_site}
+use Rattle.rule_names.specs.ReferenceGraph.{step_site}
 use Rattle.evidence_rules.specs.CitedLines.{GivesArgument, GivesExpr, GivesQuery, GivesStep, IsLine, args_at, kind_of_step, last_step}
 use Rattle.rule_meaning.specs.Places.{steps_in}
 

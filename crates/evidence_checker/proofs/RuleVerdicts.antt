@@ -6,7 +6,7 @@ use Rattle.std.proofs.lemmas.List.{drop_all, get_or-map, length-map, nil_from_le
 use Rattle.evidence_lines.specs.declared.line.Line.{Line}
 use Rattle.guard_syntax.specs.Seen.{disj_list, see_disj, see_rule}
 use Rattle.guard_syntax.specs.declared.syntax.Disj.{Disj as HeldDisj}
-use Rattle.guard_syntax.specs.declared.syntax.Rule.{Rule as Held}
+use Rattle.guard_syntax.specs.declared.syntax.Rule.{Rule as BookCovers}
 use Rattle.guard_syntax.specs.Named.{Named}
 use Rattle.guard_syntax.specs.Syntax.{Rule, Disjs, no_disjs, more_disjs}
 use Rattle.guard_syntax.specs.declared.row.Verdict.{Verdict}
@@ -85,32 +85,32 @@ module _ (lines : List Line) where
 
   -- ---- rules as the code has them, one after another
 
-  step-on : (rs : List Held) (i : ℕ) (r : Held) (loose : Disjs) (verdicts : List Verdict) → i < length rs → r ≡ get_or rs i r
+  step-on : (rs : List BookCovers) (i : ℕ) (r : BookCovers) (loose : Disjs) (verdicts : List Verdict) → i < length rs → r ≡ get_or rs i r
       → AreOfRules lines (see_rule r ∷ map see_rule (drop (i + 1) rs)) loose verdicts → AreOfRules lines (map see_rule (drop i rs)) loose verdicts
   step-on rs i r loose verdicts within is are =
-      subst (λ (xs : List Held). AreOfRules lines (map see_rule xs) loose verdicts)
-      (ap (λ (x : Held). x ∷ drop (i + 1) rs) is ∙ ap (λ (n : ℕ). get_or rs i r ∷ drop n rs) (add-one i) ∙ sym (drop-cons rs i r within)) are
+      subst (λ (xs : List BookCovers). AreOfRules lines (map see_rule xs) loose verdicts)
+      (ap (λ (x : BookCovers). x ∷ drop (i + 1) rs) is ∙ ap (λ (n : ℕ). get_or rs i r ∷ drop n rs) (add-one i) ∙ sym (drop-cons rs i r within)) are
 
   -- the verdicts so far, with those of the rules from an index on
-  abbrev pub AreSoFar : List Held → List Verdict → (i : ℕ) → Type 0
+  abbrev pub AreSoFar : List BookCovers → List Verdict → (i : ℕ) → Type 0
   AreSoFar rs verdicts i = (loose : Disjs) → (last : List Verdict) → AreOfRules lines (map see_rule (drop i rs)) loose last → AreOfRules lines (map see_rule rs) loose (verdicts ++ last)
 
-  pub none-more : (rs : List Held) (verdicts : List Verdict) (i : ℕ) (r : Held) → i < length rs → r ≡ get_or rs i r → (r.params ≡ [] → ⊥) → AreSoFar rs verdicts i → AreSoFar rs verdicts (i + 1)
+  pub none-more : (rs : List BookCovers) (verdicts : List Verdict) (i : ℕ) (r : BookCovers) → i < length rs → r ≡ get_or rs i r → (r.params ≡ [] → ⊥) → AreSoFar rs verdicts i → AreSoFar rs verdicts (i + 1)
   none-more rs verdicts i r within is some so_far loose last are =
       so_far loose last (step-on rs i r loose last within is (no-verdict (see_rule r) (map see_rule (drop (i + 1) rs)) loose last some are))
 
-  pub one-more : (rs : List Held) (verdicts after : List Verdict) (verdict : Verdict) (i : ℕ) (r : Held) → i < length rs → r ≡ get_or rs i r → r.params ≡ [] → IsSaidOf lines r.site verdict
+  pub one-more : (rs : List BookCovers) (verdicts after : List Verdict) (verdict : Verdict) (i : ℕ) (r : BookCovers) → i < length rs → r ≡ get_or rs i r → r.params ≡ [] → IsSaidOf lines r.site verdict
       → after ≡ verdicts ++ verdict ∷ [] → AreSoFar rs verdicts i → AreSoFar rs after (i + 1)
   one-more rs verdicts after verdict i r within is none said pushed so_far loose last are =
       subst (AreOfRules lines (map see_rule rs) loose) (sym (ap (λ (vs : List Verdict). vs ++ last) pushed ∙ append_assoc verdicts (verdict ∷ []) last))
       (so_far loose (verdict ∷ last) (step-on rs i r loose (verdict ∷ last) within is (rule-verdict (see_rule r) (map see_rule (drop (i + 1) rs)) loose verdict last none said are)))
 
-  pub all-so-far : (rs : List Held) (verdicts : List Verdict) (i : ℕ) → length rs ≤ i → AreSoFar rs verdicts i → (loose : Disjs) (last : List Verdict) → AreOfLoose lines loose last
+  pub all-so-far : (rs : List BookCovers) (verdicts : List Verdict) (i : ℕ) → length rs ≤ i → AreSoFar rs verdicts i → (loose : Disjs) (last : List Verdict) → AreOfLoose lines loose last
       → AreOfRules lines (map see_rule rs) loose (verdicts ++ last)
   all-so-far rs verdicts i past so_far loose last are =
-      so_far loose last (subst (λ (xs : List Held). AreOfRules lines (map see_rule xs) loose last) (sym (drop_all i rs past)) are)
+      so_far loose last (subst (λ (xs : List BookCovers). AreOfRules lines (map see_rule xs) loose last) (sym (drop_all i rs past)) are)
 
-  pub wanting-here : (rs : List Held) (i : ℕ) (r : Held) → i < length rs → r ≡ get_or rs i r → r.params ≡ [] → IsUnjudged lines r.site → IsRuleWanting lines (map see_rule rs)
+  pub wanting-here : (rs : List BookCovers) (i : ℕ) (r : BookCovers) → i < length rs → r ≡ get_or rs i r → r.params ≡ [] → IsUnjudged lines r.site → IsRuleWanting lines (map see_rule rs)
   wanting-here rs i r within is none unjudged =
       let at : get_or (map see_rule rs) i (see_rule r) ≡ see_rule r = get_or-map see_rule rs i r (see_rule r) within ∙ ap see_rule (sym is) in
       (see_rule r, (i, subst (λ (n : ℕ). i < n) (sym (length-map rs see_rule)) within, at), none, unjudged)

@@ -17,7 +17,7 @@ use Rattle.guard_syntax.specs.declared.row.Row.TheVariants.{Found}
 use Rattle.rule_names.specs.Pieces.{Piece, OfExpr, OfQuery, piece_at}
 use Rattle.rule_names.specs.declared.bind.Bind.{Bind}
 use Rattle.rule_names.specs.declared.bind.Bind.TheVariants as bound
-use Rattle.rule_meaning.specs.Known.{Known, is_known, is_known_ref}
+use Rattle.rule_meaning.specs.StoreModel.{StoreModel, is_known, is_known_ref}
 use Rattle.evidence_rules.specs.CitedLines.{GiveArgs, IsLine, GivesBound, GivesExpr, GivesPiece, GivesQuery, GivesVariable, value_of, value_said}
 use Rattle.evidence_rules.specs.Follows.{GivesBefore, GivesFurther, GivesRight}
 use Rattle.rule_meaning.specs.Roots.{literal_ref}
@@ -32,7 +32,7 @@ line-got (first ∷ lines) (suc n) l is = let rest = line-got lines n l is in (o
 same-said : (xs ys : List Row) → says.Rows xs ≡ says.Rows ys → xs ≡ ys
 same-said xs ys is = cc
 
-module _ (known : Known) (lines : List Line) (sound : AreSound known lines) where
+module _ (known : StoreModel) (lines : List Line) (sound : AreSound known lines) where
   pub sound-line : (number : ℕ) (l : Line) → line_of lines number ≡ Some l → IsSound known l
   sound-line zero l stands = absurd (none-some l stands)
   sound-line (suc n) l stands =

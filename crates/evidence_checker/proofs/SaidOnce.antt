@@ -10,8 +10,8 @@ use Rattle.guard_syntax.specs.Syntax as sx
 use Rattle.guard_syntax.specs.declared.row.Ref.{Ref}
 use Rattle.guard_syntax.specs.declared.row.Row.{Row}
 use Rattle.guard_syntax.specs.declared.row.Verdict.{Verdict}
-use Rattle.rule_meaning.specs.Known.{Known}
-use Rattle.rule_names.specs.Ways.{step_site}
+use Rattle.rule_meaning.specs.StoreModel.{StoreModel}
+use Rattle.rule_names.specs.ReferenceGraph.{step_site}
 use Rattle.evidence_rules.specs.CitedLines.{GivesExpr, GivesQuery, GivesStep, IsLine, kind_of_step, last_step}
 use Rattle.evidence_rules.specs.Follows.{GivesRight, SaysBody}
 
@@ -56,7 +56,7 @@ module _ (file : sx.File) (lines : List Line) (frame : ℕ) where
   same-expr (sx.asked q) number xs ys gives also = same-query q number xs ys gives also
   same-expr (sx.found n q) number xs ys gives also = same-rows lines number kind.Found frame n xs ys gives also
 
-module _ (known : Known) (lines : List Line) (frame : ℕ) where
+module _ (known : StoreModel) (lines : List Line) (frame : ℕ) where
   pub same-right : (right : sx.OptExpr) (cites : List ℕ) (xs ys : List Row) → GivesRight known lines frame right cites xs → GivesRight known lines frame right cites ys → xs ≡ ys
   same-right sx.no_expr [] xs ys gives also = gives ∙ sym also
   same-right sx.no_expr (c ∷ cites) xs ys gives also = absurd gives

@@ -1,5 +1,5 @@
 -- What is found at a site.
-use Rattle.std.proofs.Common.{◌≡◌, ℕ, ◌≤◌, ◌<◌, ◌++◌, length, cond, arith, sym, ◌∙◌, Some, Contains}
+use Rattle.std.proofs.Common.{◌≡◌, ℕ, ◌≤◌, ◌<◌, ◌++◌, length, arith, sym, ◌∙◌, Some, Contains}
 use Rattle.std.proofs.lemmas.Option.{none-some}
 use Rattle.guard_syntax.specs.Syntax.{Body, File, Rule, body}
 use Rattle.rule_names.specs.Pieces.{Piece, OfBody, OfRule, piece_at, pieces_body, pieces_disjs, pieces_lets, pieces_opt_conds, AreInOrder}

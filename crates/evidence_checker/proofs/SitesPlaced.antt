@@ -8,7 +8,7 @@ use Rattle.guard_syntax.specs.declared.syntax.RawFile.{RawFile}
 use Rattle.rule_names.specs.Pieces.{AreInOrder, piece_at, pieces_file}
 use Rattle.rule_names.proofs.FileParts.{file_tied}
 use Rattle.rule_names.proofs.Parts.{no-hit}
-use Rattle.rule_names.proofs.Rises.{times}
+use Rattle.rule_names.proofs.Increases.{times}
 
 not-first : (i n k : ℕ) → n < i → k ≡ 0 → cond (n == i) 1 0 + k ≡ 0
 not-first i n k less none = grind (arith, nat_tests)

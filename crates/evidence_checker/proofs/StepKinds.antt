@@ -8,7 +8,7 @@ use Rattle.guard_syntax.specs.Named.{Named}
 use Rattle.guard_syntax.specs.Syntax.{Conds, Expr, Query, Step, this, var, key, index, every, items, splice, filter, keys}
 use Rattle.guard_syntax.specs.declared.row.Row.{Row}
 use Rattle.guard_syntax.specs.declared.syntax.Op.{Op}
-use Rattle.rule_meaning.specs.Known.{Known}
+use Rattle.rule_meaning.specs.StoreModel.{StoreModel}
 use Rattle.evidence_rules.specs.Follows.{FollowsAtStep, FollowsCapture, FollowsStep}
 use Rattle.evidence_checker.proofs.StepsSeen.{IsOther}
 
@@ -16,7 +16,7 @@ use Rattle.evidence_checker.proofs.StepsSeen.{IsOther}
 abbrev pub IsAnswered : Result Bool AllocError → Type 0 → Type 0
 IsAnswered r Follows = IfOk r (λ (follows : Bool). MatchBool follows Follows (Follows → ⊥))
 
-module _ (known : Known) (lines : List Line) (frame site : ℕ) (q : Query) (i : ℕ) (cites : List ℕ) (rows : List Row) where
+module _ (known : StoreModel) (lines : List Line) (frame site : ℕ) (q : Query) (i : ℕ) (cites : List ℕ) (rows : List Row) where
   abbrev AtStep : LineKind → Option Step → Type 0
   AtStep of step = FollowsAtStep known lines frame site of q i step cites rows
 

@@ -7,7 +7,7 @@ use Rattle.guard_syntax.specs.Named.{Named}
 use Rattle.guard_syntax.specs.declared.row.Ref.{Ref}
 use Rattle.guard_syntax.specs.declared.row.Row.{Row}
 use Rattle.guard_syntax.specs.declared.row.Verdict.{Verdict}
-use Rattle.rule_meaning.specs.Known.{Known}
+use Rattle.rule_meaning.specs.StoreModel.{StoreModel}
 use Rattle.evidence_rules.specs.CitedLines.{GivesStep, GivesVariable, value_of}
 use Rattle.evidence_rules.specs.Follows.{FollowsCapture, FollowsFilter, FollowsStep, GivesBefore, GivesFurther, HasValue, SayEach, SaysCandidate}
 use Rattle.rule_meaning.specs.Places.{candidates_at, rows_at_step, step_in, steps_in}
@@ -53,7 +53,7 @@ one-cite (c ∷ []) least most = refl
 one-cite (c ∷ d ∷ cites) least most = absurd (omega arith)
 
 -- one line for each value
-module _ (known : Known) (lines : List Line) (Says : Ref → ℕ → Verdict → Type 0) where
+module _ (known : StoreModel) (lines : List Line) (Says : Ref → ℕ → Verdict → Type 0) where
   pub said-each : (vs : List Ref) (cs : List ℕ) (ws : List Verdict) → SayEach known lines Says vs cs ws → (length vs ≡ length cs) × (length ws ≡ length vs)
   said-each [] [] [] all = (refl, refl)
   said-each (v ∷ vs) (c ∷ cs) (w ∷ ws) all = let rest = said-each vs cs ws all.1 in (ap suc rest.0, ap suc rest.1)
@@ -86,7 +86,7 @@ module _ (known : Known) (lines : List Line) (Says : Ref → ℕ → Verdict →
       subst (λ (ns : List ℕ). SayEach known lines Says vs ns ws) (take_all i cs (omega (arith, past, long))) (subst (λ (xs : List Ref). SayEach known lines Says xs (take i cs) ws) (take_all i vs past) all)
 
 -- the step and what is before it
-module _ (known : Known) (lines : List Line) (frame : ℕ) where
+module _ (known : StoreModel) (lines : List Line) (frame : ℕ) where
   -- ---- what a step names further
 
   pub var-further : (s : Step) (n c : ℕ) (name : List ℕ) (cites : List ℕ) (r : Option (Bor (List Row))) → s ≡ var n name → cites ≡ c ∷ []

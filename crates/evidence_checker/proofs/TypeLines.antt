@@ -12,7 +12,7 @@ use Rattle.guard_syntax.specs.declared.syntax.Conds.{Conds}
 use Rattle.guard_syntax.specs.declared.syntax.Part as code
 use Rattle.guard_syntax.specs.declared.syntax.Step.{the_lemmas}
 use Rattle.rule_names.specs.Pieces.{OfPart}
-use Rattle.rule_meaning.specs.Known.{Known, Made}
+use Rattle.rule_meaning.specs.StoreModel.{StoreModel, Made}
 use Rattle.evidence_rules.specs.CitedLines.{value_of}
 use Rattle.evidence_rules.specs.Follows.{FollowsRows, HasValue}
 use Rattle.rule_meaning.specs.Places.{rows_at_type, type_of_part}
@@ -23,7 +23,7 @@ kinds-seen p site name conditions inner is =
     let there : is_some (type_of_part (see_part (code.Kinds site name conditions inner))) ≡ true = search (rules, the_lemmas) in
     ap (λ (x : code.Part). is_some (type_of_part (see_part x))) is ∙ there
 
-module _ (known : Known) (lines : List Line) (frame site : ℕ) (cites : List ℕ) (current : Ref) (has : HasValue known lines frame current) (none : cites ≡ []) where
+module _ (known : StoreModel) (lines : List Line) (frame site : ℕ) (cites : List ℕ) (current : Ref) (has : HasValue known lines frame current) (none : cites ≡ []) where
   at-kinds : (p : Part) (rows due : List Row) (b : Bool) → is_some (type_of_part p) ≡ true → due ≡ rows_at_type known site current → MatchBool b (rows ≡ due) (rows ≡ due → ⊥)
       → MatchBool b (FollowsRows known lines frame site kind.Types (Some (OfPart p)) cites rows []) ((more : List Made) → FollowsRows known lines frame site kind.Types (Some (OfPart p)) cites rows more → ⊥)
   at-kinds (kinds n name conditions inner) rows due true there is same = (current, has, none, same ∙ is, refl)

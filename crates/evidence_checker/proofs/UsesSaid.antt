@@ -6,14 +6,14 @@ use Rattle.evidence_lines.specs.declared.line.Outcome.TheVariants as says
 use Rattle.guard_syntax.specs.Syntax as sx
 use Rattle.guard_syntax.specs.declared.row.Ref.{Ref}
 use Rattle.guard_syntax.specs.declared.row.Verdict.{Verdict}
-use Rattle.rule_names.specs.Links.{target_of}
-use Rattle.rule_meaning.specs.Known.{Known}
+use Rattle.rule_names.specs.Resolution.{target_of}
+use Rattle.rule_meaning.specs.StoreModel.{StoreModel}
 use Rattle.evidence_rules.specs.CitedLines.{IsLine, body_site, called_body}
 use Rattle.evidence_rules.specs.Follows.{FollowsBody, FollowsCall, FollowsRefer}
 use Rattle.rule_meaning.specs.Verdicts.{exchanged, referred}
 use Rattle.evidence_checker.proofs.SaidOnce.{same-some, same-verdict}
 
-module _ (known : Known) (lines : List Line) (frame number : ℕ) (cites : List ℕ) (verdict : Verdict) (one : cites ≡ number ∷ []) where
+module _ (known : StoreModel) (lines : List Line) (frame number : ℕ) (cites : List ℕ) (verdict : Verdict) (one : cites ≡ number ∷ []) where
   module _ (b : sx.Body) (site : ℕ) (site_is : site ≡ body_site b) where
     taken : FollowsBody known lines frame b cites verdict
         → (at : ℕ) × (v : Ref) × IsLine lines at kind.Frame frame site (says.Value v) × IsLine lines number kind.Conj at site (says.Verdict verdict)

@@ -12,7 +12,7 @@ use Rattle.guard_syntax.specs.Seen.{see_body}
 use Rattle.guard_syntax.specs.declared.row.Ref.{Ref}
 use Rattle.guard_syntax.specs.declared.syntax.Body.{Body, out-Body}
 use Rattle.rule_names.specs.Pieces.{OfBody, piece_at}
-use Rattle.rule_meaning.specs.Known.{Known, is_known_ref}
+use Rattle.rule_meaning.specs.StoreModel.{StoreModel, is_known_ref}
 use Rattle.evidence_rules.specs.CitedLines.{body_site, value_of, value_said}
 use Rattle.rule_meaning.specs.Roots.{root_ref}
 use Rattle.evidence_checker.specs.declared.owners.Owner.{Owner}
@@ -27,7 +27,7 @@ got-holds P [] i l all is = absurd (none-some l is)
 got-holds P (x ∷ xs) zero l all is = subst P (same_Some x l is) (all 0 x (omega arith))
 got-holds P (x ∷ xs) (suc i) l all is = got-holds P xs i l (λ k d h. all (suc k) d (omega arith)) is
 
-module _ (known : Known) (lines : List Line) (sound : AreSound known lines) where
+module _ (known : StoreModel) (lines : List Line) (sound : AreSound known lines) where
   line-sound : (first : Bool) (number : ℕ) (l : Line) → (if first then None else slice_get lines (number - 1)) ≡ Some l → IsSound known l
   line-sound true number l is = absurd (none-some l is)
   line-sound false number l is = got-holds (IsSound known) lines (number - 1) l sound is
@@ -50,7 +50,7 @@ tree-root : (tree : Forest) → IsTree tree → 0 < size tree
 tree-root Nil one = absurd (omega (arith, one.one))
 tree-root (Node l kids rest) one = omega arith
 
-pub root-known : (known : Known) (v : Ref) → v ≡ root_ref → IsTree known.template → is_known_ref known v ≡ true
+pub root-known : (known : StoreModel) (v : Ref) → v ≡ root_ref → IsTree known.template → is_known_ref known v ≡ true
 root-known known v is tree =
     let within = tree-root known.template tree in
     let inside : nat_lt 0 (size known.template) ≡ true = grind (arith, nat_tests) in
@@ -58,7 +58,7 @@ root-known known v is tree =
 
 -- ---- whose a body is, by the tables
 
-module _ (known : Known) (lines : List Line) (owners : Owners) (o : Owner) (site : ℕ) (b : Body) (owns : Bool) (are : AreOwners known.file owners)
+module _ (known : StoreModel) (lines : List Line) (owners : Owners) (o : Owner) (site : ℕ) (b : Body) (owns : Bool) (are : AreOwners known.file owners)
     (placed : piece_at known.file site ≡ Some (OfBody (see_body b))) (marked : owns ≡ slice_index_or (marks_of owners o) (out-Body b).site false) where
   mark-is : owns ≡ slice_index_or (marks_of owners o) (body_site (see_body b)) false
   mark-is = marked ∙ ap (λ (n : ℕ). slice_index_or (marks_of owners o) n false) (sym (body-site b))
@@ -81,11 +81,11 @@ known-test false known is = λ there. true≢false (sym (is ∙ there))
 
 -- ---- values that are the same
 
-pub has-known : (known : Known) (lines : List Line) (frame : ℕ) (said v : Ref) (same : Bool) → AreSound known lines → MatchBool same (said ≡ v) (said ≡ v → ⊥) → Some said ≡ value_of lines frame
+pub has-known : (known : StoreModel) (lines : List Line) (frame : ℕ) (said v : Ref) (same : Bool) → AreSound known lines → MatchBool same (said ≡ v) (said ≡ v → ⊥) → Some said ≡ value_of lines frame
     → same ≡ true → is_known_ref known v ≡ true
 has-known known lines frame said v true sound is there holds = value-known known lines sound frame v (sym there ∙ ap Some is)
 has-known known lines frame said v false sound is there holds = absurd (true≢false (sym holds))
 
-pub root-same : (known : Known) (v : Ref) (same : Bool) → MatchBool same (v ≡ root_ref) (v ≡ root_ref → ⊥) → IsTree known.template → same ≡ true → is_known_ref known v ≡ true
+pub root-same : (known : StoreModel) (v : Ref) (same : Bool) → MatchBool same (v ≡ root_ref) (v ≡ root_ref → ⊥) → IsTree known.template → same ≡ true → is_known_ref known v ≡ true
 root-same known v true is tree holds = root-known known v is tree
 root-same known v false is tree holds = absurd (true≢false (sym holds))

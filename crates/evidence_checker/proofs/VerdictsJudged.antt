@@ -9,7 +9,7 @@ use Rattle.evidence_lines.specs.declared.line.LineKind.TheVariants as kind
 use Rattle.evidence_lines.specs.declared.line.Outcome.{Outcome}
 use Rattle.evidence_lines.specs.declared.line.Outcome.TheVariants as says
 use Rattle.guard_syntax.specs.declared.row.Verdict.{Verdict}
-use Rattle.rule_meaning.specs.Known.{Known}
+use Rattle.rule_meaning.specs.StoreModel.{StoreModel}
 use Rattle.evidence_rules.specs.Follows.{IsNewRule}
 use Rattle.evidence_checker.specs.Judging.{AreJudged, IsJudgedAs}
 use Rattle.evidence_checker.proofs.LinesSaid.{HasFields, line-before, line-behind, line-last}
@@ -53,7 +53,7 @@ module _ (lines : List Line) (line : Line) where
           (judged-before at (get_or table at None) (λ frame outcome fields. ne (same_Some at site (sym fields.2 ∙ site_is))) (judged at))
 
 -- whether a site is new, by the table
-pub new-rule : (known : Known) (lines : List Line) (table : List (Option Verdict)) (site : ℕ) (o : Option Verdict) (b : Bool) → o ≡ get_or table site None → is_some o ≡ not b
+pub new-rule : (known : StoreModel) (lines : List Line) (table : List (Option Verdict)) (site : ℕ) (o : Option Verdict) (b : Bool) → o ≡ get_or table site None → is_some o ≡ not b
     → AreJudged lines table → MatchBool b (IsNewRule known lines site) (IsNewRule known lines site → ⊥)
 new-rule known lines table site o b is test judged = by o b test (subst (IsJudgedAs lines site) (sym is) (judged site))
   where

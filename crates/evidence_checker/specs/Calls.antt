@@ -7,7 +7,7 @@ use Rattle.guard_syntax.specs.declared.row.Row.{Row}
 use Rattle.rule_names.specs.Pieces.{OfExpr, piece_at}
 use Rattle.rule_names.specs.Uses.{function_named}
 use Rattle.rule_meaning.specs.Functions.{Functions, MadeRow}
-use Rattle.rule_meaning.specs.Known.{Known}
+use Rattle.rule_meaning.specs.StoreModel.{StoreModel}
 use Rattle.evidence_rules.specs.CitedLines.{GiveArgs}
 
 -- an expression is the call of a function with arguments
@@ -24,7 +24,7 @@ pub record IsCallAt (file : File) (site : ℕ) (f : Function) (args : Exprs) : T
   pub call : IsCall expr f args
 
 -- what the call of a site answers, where cited lines give its arguments
-pub record IsAnswered (known : Known) (lines : List Line) (frame site : ℕ) (cites : List ℕ) (answer : List MadeRow) : Type 0 where
+pub record IsAnswered (known : StoreModel) (lines : List Line) (frame site : ℕ) (cites : List ℕ) (answer : List MadeRow) : Type 0 where
   pub called : Function
   pub args : Exprs
   pub given : List (List Row)

@@ -3,32 +3,34 @@ use Rattle.std.specs.Prelude.{ℕ, ◌≡◌, ◌≤◌, ◌⊎◌, Contains, su
 use Rattle.evidence_lines.specs.declared.line.Line.{Line}
 use Rattle.evidence_lines.specs.declared.line.LineKind.TheVariants as kind
 use Rattle.evidence_lines.specs.declared.line.Outcome.{Outcome}
+use Rattle.evidence_lines.specs.declared.version.Version.{Version}
 use Rattle.guard_syntax.specs.Syntax.{Rule, Disjs, no_disjs, more_disjs}
 use Rattle.guard_syntax.specs.declared.row.Verdict.{Verdict}
-use Rattle.rule_meaning.specs.Known.{Known, Made}
+use Rattle.rule_meaning.specs.StoreModel.{StoreModel, Made}
 use Rattle.evidence_rules.specs.CitedLines.{IsLine}
 use Rattle.evidence_rules.specs.Follows.{AllFollow}
 use Rattle.rule_meaning.specs.Seeing.{grown}
 use Rattle.evidence_rules.specs.RuleLines.{IsSaidOf}
 
 -- trees of which this holds are known thereafter, and of no others does it hold
-abbrev pub Leads : (List Made → Type 0) → (known after : Known) → Type 0
+abbrev pub Leads : (List Made → Type 0) → (known after : StoreModel) → Type 0
 Leads Holds known after = (more : List Made) × Holds more × (after ≡ grown known more) × ((other : List Made) → Holds other → other ≡ more)
 
 -- it holds of no trees, and what is known is as it was
-abbrev pub Stays : (List Made → Type 0) → (known after : Known) → Type 0
+abbrev pub Stays : (List Made → Type 0) → (known after : StoreModel) → Type 0
 Stays Holds known after = ((more : List Made) → Holds more → ⊥) × (after ≡ known)
 
 -- this is known behind lines that follow: whatever lines come behind them, they follow from the start where they follow from here
-abbrev pub IsKnownBehind : (start : Known) → List Line → Known → Type 0
-IsKnownBehind start lines known =
-    ((rest : List Line) → AllFollow start [] (lines ++ rest) → AllFollow known lines rest)
-    × ((rest : List Line) → AllFollow known lines rest → AllFollow start [] (lines ++ rest))
+abbrev pub IsKnownBehind : Version → (start : StoreModel) → List Line → StoreModel → Type 0
+IsKnownBehind version start lines known =
+    ((rest : List Line) → AllFollow version start [] (lines ++ rest) → AllFollow version known lines rest)
+    × ((rest : List Line) → AllFollow version known lines rest → AllFollow version start [] (lines ++ rest))
 
 -- the first line that does not follow has this number
-abbrev pub IsFaultAt : (start : Known) → List Line → ℕ → Type 0
-IsFaultAt start lines number =
-    (before : ℕ) × (number ≡ suc before) × (number ≤ length lines) × AllFollow start [] (take before lines) × (AllFollow start [] (take number lines) → ⊥)
+abbrev pub IsFaultAt : Version → (start : StoreModel) → List Line → ℕ → Type 0
+IsFaultAt version start lines number =
+    (before : ℕ) × (number ≡ suc before) × (number ≤ length lines) × AllFollow version start [] (take before lines)
+    × (AllFollow version start [] (take number lines) → ⊥)
 
 -- no `rule` line has this site
 abbrev pub IsUnjudged : List Line → (site : ℕ) → Type 0

@@ -5,7 +5,7 @@ use Rattle.guard_syntax.specs.Named.{Named}
 use Rattle.guard_syntax.specs.Syntax.{File, Body, block, guarded, kinds}
 use Rattle.rule_names.specs.Marks.{IsMarked}
 use Rattle.rule_names.specs.Pieces.{Piece, OfBody, OfPart, OfRule, piece_at}
-use Rattle.rule_meaning.specs.Known.{Known}
+use Rattle.rule_meaning.specs.StoreModel.{StoreModel}
 use Rattle.evidence_rules.specs.CitedLines.{body_site}
 use Rattle.evidence_rules.specs.Follows.{IsBlockBody, IsRuleBody, IsWhenBody}
 use Rattle.evidence_checker.specs.declared.owners.Owner.{Owner}
@@ -13,7 +13,7 @@ use Rattle.evidence_checker.specs.declared.owners.Owner.TheVariants as owner
 use Rattle.evidence_checker.specs.declared.owners.Owners.{Owners}
 
 -- the body belongs to a rule without parameters, to a `when` block, or to a block or a type block
-abbrev pub IsOwned : Known → List Line → Owner → Body → Type 0
+abbrev pub IsOwned : StoreModel → List Line → Owner → Body → Type 0
 IsOwned known lines owner.Rule b = IsRuleBody known lines b
 IsOwned known lines owner.When b = IsWhenBody known lines b
 IsOwned known lines owner.Block b = IsBlockBody known lines b
@@ -27,7 +27,7 @@ marks_of owners owner.Block = owners.blocks.items
 -- a table marks just the bodies of a file that such an owner has, by their sites
 abbrev pub AreMarked : File → Owner → List Bool → Type 0
 AreMarked file o marks =
-    (known : Known) (lines : List Line) (site : ℕ) (b : Body) → known.file ≡ file → piece_at file site ≡ Some (OfBody b) → IsMarked marks (body_site b) ↔ IsOwned known lines o b
+    (known : StoreModel) (lines : List Line) (site : ℕ) (b : Body) → known.file ≡ file → piece_at file site ≡ Some (OfBody b) → IsMarked marks (body_site b) ↔ IsOwned known lines o b
 
 -- so does each table
 abbrev pub AreOwners : File → Owners → Type 0

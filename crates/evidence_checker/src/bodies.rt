@@ -6,32 +6,33 @@ ghost use Rattle.guard_syntax.specs.Seen.{see_body};
 ghost use Rattle.guard_syntax.specs.declared.row.Ref.{Ref};
 ghost use Rattle.guard_syntax.specs.declared.row.Verdict.{Verdict};
 ghost use Rattle.evidence_rules.specs.CitedLines.{IsLine};
-ghost use Rattle.evidence_rules.specs.Follows.{FollowsBody, FollowsRowsOf, SaysBody};
+ghost use Rattle.evidence_rules.specs.Follows.{FollowsBody, FollowsRowsOf, SaysBody, block_stop};
 ghost use Rattle.rule_meaning.specs.Verdicts.{block_verdict, conjunction, disjunction};
 ghost use Rattle.evidence_checker.specs.FirstCites.{SaysRow};
-ghost use Rattle.evidence_checker.specs.Grounds.{known_of, lines_of};
+ghost use Rattle.evidence_checker.specs.Grounds.{known_of, lines_of, version_of};
 
-use crate::cited::{line_of, said, verdict_said};
-use crate::framed::framed_verdict;
-use crate::ground::Ground;
+use crate::body_frames::framed_verdict;
+use crate::line_context::LineContext;
+use crate::lookup::{line_of, said, verdict_said};
+use crate::stops::{block_stop, is_stop};
 use evidence_lines::{Line, LineKind, Outcome};
 use guard_syntax::{Body, Row, Verdict};
 
 /// Whether the verdict of a body in a frame of this one follows, from the one line that is cited.
 pub(crate) fn body_follows(
-    ground: &Ground<'_, '_, '_>,
+    context: &LineContext<'_, '_, '_>,
     frame: u64,
     body: &Body,
     cites: &[u64],
     verdict: Verdict,
 ) -> bool
     ensures { MatchBool result
-        (FollowsBody (known_of ground.now) (lines_of ground.now) frame (see_body body.now) cites.now verdict)
-        (FollowsBody (known_of ground.now) (lines_of ground.now) frame (see_body body.now) cites.now verdict → ⊥) }
+        (FollowsBody (known_of context.now) (lines_of context.now) frame (see_body body.now) cites.now verdict)
+        (FollowsBody (known_of context.now) (lines_of context.now) frame (see_body body.now) cites.now verdict → ⊥) }
 {
     match cites {
         [number] => {
-            match said_within(ground.lines, *number, frame, body.site, body.site) {
+            match said_within(context.lines, *number, frame, body.site, body.site) {
                 Some(said) => verdict == said,
                 None => false,
             }
@@ -74,9 +75,9 @@ fn is_frame_at(lines: &[Line], number: u64, frame: u64, site: u32) -> bool
 }
 
 /// Whether the verdict of a body on rows follows: with `any` one of them has to hold, else each. A row that was found has
-/// one cite.
+/// one cite, up to the row that decides where evidence of this version stops there.
 pub(crate) fn body_follows_on(
-    ground: &Ground<'_, '_, '_>,
+    context: &LineContext<'_, '_, '_>,
     frame: u64,
     any: bool,
     body: &Body,
@@ -85,17 +86,22 @@ pub(crate) fn body_follows_on(
     verdict: Verdict,
 ) -> bool
     ensures { MatchBool result
-        (FollowsRowsOf (known_of ground.now) (lines_of ground.now) frame any (see_body body.now) rows.now cites.now verdict)
-        (FollowsRowsOf (known_of ground.now) (lines_of ground.now) frame any (see_body body.now) rows.now cites.now verdict → ⊥) }
+        (FollowsRowsOf (known_of context.now) (lines_of context.now) frame any (block_stop any (version_of context.now)) (see_body body.now) rows.now cites.now verdict)
+        (FollowsRowsOf (known_of context.now) (lines_of context.now) frame any (block_stop any (version_of context.now)) (see_body body.now) rows.now cites.now verdict → ⊥) }
 {
+    let stop = block_stop(any, context.version);
     let mut before = Verdict::Skip;
     let mut left = cites;
     for row in rows {
-        let Some(judged) = judged_row(ground, frame, body, row, left) else {
+        let Some(judged) = judged_row(context, frame, body, row, left) else {
             return false;
         };
         before = joined(any, before, judged.verdict);
         left = judged.left;
+        if is_stop(stop, judged.verdict) {
+            // The rows behind, found or not, change nothing.
+            return ends_with(left, before, verdict);
+        }
     }
     ends_with(left, before, verdict)
 }
@@ -119,15 +125,15 @@ struct JudgedRow<'c> {
 
 /// What the first cite says of a row that was found; any other row is FAIL, and has no cite.
 fn judged_row<'c>(
-    ground: &Ground<'_, '_, '_>,
+    context: &LineContext<'_, '_, '_>,
     frame: u64,
     body: &Body,
     row: &Row,
     cites: &'c [u64],
 ) -> Option<JudgedRow<'c>>
     ensures { MatchOption result
-        ((verdict : Verdict) → (left : List ℕ) → SaysRow (SaysBody (known_of ground.now) (lines_of ground.now) frame (see_body body.now)) row.now cites.entry.now verdict left → ⊥)
-        (λ judged. SaysRow (SaysBody (known_of ground.now) (lines_of ground.now) frame (see_body body.now)) row.now cites.entry.now judged.verdict judged.left.now) }
+        ((verdict : Verdict) → (left : List ℕ) → SaysRow (SaysBody (known_of context.now) (lines_of context.now) frame (see_body body.now)) row.now cites.entry.now verdict left → ⊥)
+        (λ judged. SaysRow (SaysBody (known_of context.now) (lines_of context.now) frame (see_body body.now)) row.now cites.entry.now judged.verdict judged.left.now) }
 {
     let Row::Found(value) = row else {
         return Some(JudgedRow {
@@ -136,7 +142,7 @@ fn judged_row<'c>(
         });
     };
     let (first, left) = cites.split_first()?;
-    let verdict = framed_verdict(ground.lines, *first, frame, body.site, *value, body.site)?;
+    let verdict = framed_verdict(context.lines, *first, frame, body.site, *value, body.site)?;
     Some(JudgedRow { verdict, left })
 }
 

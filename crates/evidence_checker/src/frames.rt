@@ -8,7 +8,7 @@ ghost use Rattle.evidence_rules.specs.CitedLines.{args_at, args_of_part, around_
 ghost use Rattle.evidence_rules.specs.Follows.{home_for, is_body};
 ghost use Rattle.rule_meaning.specs.Places.{step_in, steps_in};
 
-use crate::cited::line_of;
+use crate::lookup::line_of;
 use evidence_lines::{Line, LineKind};
 use guard_syntax::{Body, Expr, Part, Query, Step, StepForm};
 use rule_names::{Piece, RuleFile};

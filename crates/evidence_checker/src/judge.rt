@@ -2,6 +2,7 @@
 ghost use Rattle.std.specs.Prelude.{◌≡◌, ◌^◌, ◌<◌, ◌≤◌, ◌++◌, [], List, Some, false, true, map, IfOk, MatchOption, length, take};
 ghost use Rattle.doc_values.specs.Tree.{Forest};
 ghost use Rattle.evidence_lines.specs.declared.line.Line.{Line};
+ghost use Rattle.evidence_lines.specs.declared.version.Version.{Version};
 ghost use Rattle.guard_syntax.specs.Seen.{disj_list, see_disj, see_file, see_rule};
 ghost use Rattle.guard_syntax.specs.Syntax.{Disjs};
 ghost use Rattle.guard_syntax.specs.declared.row.Verdict.{Verdict};
@@ -19,7 +20,7 @@ use crate::judged::Judged;
 use crate::line::line_follows;
 use crate::owners::Owners;
 use doc_values::Doc;
-use evidence_lines::{Evidence, Line};
+use evidence_lines::{Evidence, Line, Version};
 use guard_syntax::{Disj, RawFile, Rule, Verdict};
 use rule_names::RuleFile;
 use std::alloc::{AllocError, Global};
@@ -36,7 +37,7 @@ pub enum Answer {
 }
 
 /// Judges evidence for the verdicts of a rule file over a template, line by line, each from the lines that it names and one
-/// part of the file. The book was made of the file, and the template is without patterns.
+/// part of the file, by the version of the evidence. The book was made of the file, and the template is without patterns.
 pub fn check<'t, 's>(
     alloc: Global,
     file: &'t RuleFile,
@@ -46,13 +47,21 @@ pub fn check<'t, 's>(
 ) -> Result<Answer, AllocError>
     requires plain { has_pattern doc.now ≡ false }
     requires book { IsBookOf (file_of file.now) book.now }
-    ensures { IfOk result (λ answer. IsAnswer doc.now (file_of file.now) evidence.now answer) }
+    ensures { IfOk result (λ answer. IsAnswer evidence.now.version doc.now (file_of file.now) evidence.now.lines answer) }
 {
     let lines = evidence.as_slice();
     let owners = Owners::new(alloc, file)?;
     let mut judged = Judged::new(alloc, file.raw().places.as_slice().len())?;
     let mut store = Store::new(alloc, doc, file);
-    match first_fault(alloc, &mut store, book, &owners, &mut judged, lines)? {
+    match first_fault(
+        alloc,
+        evidence.version(),
+        &mut store,
+        book,
+        &owners,
+        &mut judged,
+        lines,
+    )? {
         Some(number) => Ok(Answer::Rejected(number)),
         None => answer_of(alloc, file.raw(), &judged, lines.len() as u64),
     }
@@ -66,8 +75,9 @@ fn answer_of(
     count: u64,
 ) -> Result<Answer, AllocError>
     requires { count < 2 ^ 63 }
-    ensures { (template : Forest) → (lines : List Line) → count ≡ length lines → AreJudged lines judged.now.of.items → AllFollow (nothing_made template (see_file file.now)) [] lines
-        → IfOk result (λ answer. IsAnswer template (see_file file.now) lines answer) }
+    ensures { (version : Version) → (template : Forest) → (lines : List Line) → count ≡ length lines → AreJudged lines judged.now.of.items
+        → AllFollow version (nothing_made template (see_file file.now)) [] lines
+        → IfOk result (λ answer. IsAnswer version template (see_file file.now) lines answer) }
 {
     match all_verdicts(alloc, file, judged)? {
         Some(verdicts) => Ok(Answer::Accepted(verdicts)),
@@ -78,6 +88,7 @@ fn answer_of(
 /// The number of the first line that does not follow, if there is one; else the table has the verdicts of all `rule` lines.
 fn first_fault(
     alloc: Global,
+    version: Version,
     store: &mut Store<'_, '_>,
     book: &PatternBook,
     owners: &Owners,
@@ -90,12 +101,13 @@ fn first_fault(
     requires sites { length judged.old.of.items ≡ length (see_store store.old).file.places }
     requires made { (see_store store.old).made ≡ [] }
     ensures { IfOk result (λ fault. MatchOption fault
-        (AllFollow (see_store store.old) [] lines.now × AreJudged lines.now judged.new.of.items)
-        (λ number. IsFaultAt (see_store store.old) lines.now number)) }
+        (AllFollow version (see_store store.old) [] lines.now × AreJudged lines.now judged.new.of.items)
+        (λ number. IsFaultAt version (see_store store.old) lines.now number)) }
 {
     for (before, line) in lines.iter().enumerate() {
         if !line_follows(
             alloc,
+            version,
             store,
             book,
             owners,

@@ -4,24 +4,25 @@
 #![tactic(auto)]
 
 mod bodies;
+mod body_frames;
 mod calls;
-mod cited;
-mod exprs;
-mod framed;
+mod cited_rows;
+mod expression_lines;
 mod frames;
-mod given;
-mod ground;
 mod judge;
 mod judged;
 mod line;
+mod line_context;
+mod lookup;
 mod owners;
 mod parts;
+mod reference_lines;
+mod row_equality;
 mod rows;
-mod same;
 mod step_rows;
-mod tested;
-mod tried;
-mod uses;
+mod stops;
+mod test_lines;
+mod tried_candidates;
 mod values;
 mod verdicts;
 

@@ -4,25 +4,25 @@ ghost use Rattle.evidence_lines.specs.declared.line.LineKind.TheVariants as kind
 ghost use Rattle.evidence_lines.specs.declared.line.Outcome.TheVariants as says;
 ghost use Rattle.rule_names.specs.Files.{file_of};
 ghost use Rattle.value_compare.specs.Books.{IsBookOf};
-ghost use Rattle.rule_meaning.specs.Known.{Made, is_known_ref};
+ghost use Rattle.rule_meaning.specs.StoreModel.{Made, is_known_ref};
 ghost use Rattle.value_compare.specs.Stores.{see_store};
 ghost use Rattle.evidence_rules.specs.CitedLines.{scope_of};
 ghost use Rattle.evidence_rules.specs.Follows.{Follows, FollowsIn, FollowsRows, IsFileLine, home_for};
 ghost use Rattle.rule_meaning.specs.Roots.{root_ref};
-ghost use Rattle.evidence_checker.specs.Grounds.{file_in, known_of, lines_of};
+ghost use Rattle.evidence_checker.specs.Grounds.{file_in, known_of, lines_of, version_of};
 ghost use Rattle.evidence_checker.specs.Judging.{AreJudged, Leads, Stays};
 ghost use Rattle.evidence_checker.specs.Owned.{AreOwners};
 ghost use Rattle.evidence_checker.specs.Said.{AreMadeWithin, AreSound, IsSound, is_known_outcome};
 
 use crate::calls::call_follows;
 use crate::frames::{home_for, scope_of};
-use crate::ground::Ground;
 use crate::judged::Judged;
+use crate::line_context::LineContext;
 use crate::owners::Owners;
 use crate::rows::rows_follow;
 use crate::values::is_frame_of;
 use crate::verdicts::verdict_follows;
-use evidence_lines::{Line, LineKind, Outcome};
+use evidence_lines::{Line, LineKind, Outcome, Version};
 use guard_syntax::{Origin, Ref, Row};
 use rule_names::RuleFile;
 use std::alloc::{AllocError, Global};
@@ -32,6 +32,7 @@ use value_compare::{PatternBook, Store};
 /// is as it was.
 pub(crate) fn line_follows(
     alloc: Global,
+    version: Version,
     store: &mut Store<'_, '_>,
     book: &PatternBook,
     owners: &Owners,
@@ -45,8 +46,8 @@ pub(crate) fn line_follows(
     requires sound { AreSound (see_store store.old) lines.now }
     requires made { AreMadeWithin (length lines.now) (see_store store.old).made }
     ensures follows { IfOk result (λ follows. MatchBool follows
-        (Leads (Follows (see_store store.old) lines.now line.now) (see_store store.old) (see_store store.new))
-        (Stays (Follows (see_store store.old) lines.now line.now) (see_store store.old) (see_store store.new))) }
+        (Leads (Follows version (see_store store.old) lines.now line.now) (see_store store.old) (see_store store.new))
+        (Stays (Follows version (see_store store.old) lines.now line.now) (see_store store.old) (see_store store.new))) }
     ensures sound { IfOk result (λ follows. follows ≡ true → IsSound (see_store store.new) line.now) }
     ensures made { IfOk result (λ follows. AreMadeWithin (suc (length lines.now)) (see_store store.new).made) }
 {
@@ -56,7 +57,9 @@ pub(crate) fn line_follows(
     let Some(site) = line.site else {
         return Ok(false);
     };
-    placed_follows(alloc, store, book, owners, judged, lines, line, frame, site)
+    placed_follows(
+        alloc, version, store, book, owners, judged, lines, line, frame, site,
+    )
 }
 
 /// Whether a line is the `file` line. The root of the template, which it says, is known.
@@ -93,6 +96,7 @@ fn is_root(outcome: &Outcome) -> bool
 /// Whether a line in a frame and of a site follows.
 fn placed_follows(
     alloc: Global,
+    version: Version,
     store: &mut Store<'_, '_>,
     book: &PatternBook,
     owners: &Owners,
@@ -110,15 +114,17 @@ fn placed_follows(
     requires sound { AreSound (see_store store.old) lines.now }
     requires made { AreMadeWithin (length lines.now) (see_store store.old).made }
     ensures follows { IfOk result (λ follows. MatchBool follows
-        (Leads (Follows (see_store store.old) lines.now line.now) (see_store store.old) (see_store store.new))
-        (Stays (Follows (see_store store.old) lines.now line.now) (see_store store.old) (see_store store.new))) }
+        (Leads (Follows version (see_store store.old) lines.now line.now) (see_store store.old) (see_store store.new))
+        (Stays (Follows version (see_store store.old) lines.now line.now) (see_store store.old) (see_store store.new))) }
     ensures sound { IfOk result (λ follows. follows ≡ true → IsSound (see_store store.new) line.now) }
     ensures made { IfOk result (λ follows. AreMadeWithin (suc (length lines.now)) (see_store store.new).made) }
 {
     if !is_at_home(store.file, lines, frame, line.kind, site) {
         return Ok(false);
     }
-    let follows = outcome_follows(alloc, store, book, owners, judged, lines, line, frame, site)?;
+    let follows = outcome_follows(
+        alloc, version, store, book, owners, judged, lines, line, frame, site,
+    )?;
     Ok(follows)
 }
 
@@ -140,6 +146,7 @@ fn is_at_home(file: &RuleFile, lines: &[Line], frame: u64, kind: LineKind, site:
 /// Whether a line in a frame and of a site, which is at home there, may say what it says.
 fn outcome_follows(
     alloc: Global,
+    version: Version,
     store: &mut Store<'_, '_>,
     book: &PatternBook,
     owners: &Owners,
@@ -155,34 +162,46 @@ fn outcome_follows(
     requires sound { AreSound (see_store store.old) lines.now }
     requires made { AreMadeWithin (length lines.now) (see_store store.old).made }
     ensures follows { IfOk result (λ follows. MatchBool follows
-        (Leads (FollowsIn (see_store store.old) lines.now frame site line.now.kind line.now.cites line.now.outcome) (see_store store.old) (see_store store.new))
-        (Stays (FollowsIn (see_store store.old) lines.now frame site line.now.kind line.now.cites line.now.outcome) (see_store store.old) (see_store store.new))) }
+        (Leads (FollowsIn version (see_store store.old) lines.now frame site line.now.kind line.now.cites line.now.outcome) (see_store store.old) (see_store store.new))
+        (Stays (FollowsIn version (see_store store.old) lines.now frame site line.now.kind line.now.cites line.now.outcome) (see_store store.old) (see_store store.new))) }
     ensures known { IfOk result (λ follows. follows ≡ true → is_known_outcome (see_store store.new) line.now.outcome ≡ true) }
     ensures made { IfOk result (λ follows. AreMadeWithin (suc (length lines.now)) (see_store store.new).made) }
 {
     let cites = line.cites.as_slice();
     match &line.outcome {
         Outcome::Value(value) => {
-            let ground = Ground { store, book, lines };
-            Ok(value_follows(&ground, owners, frame, site, line.kind, cites, *value))
+            let context = LineContext {
+                version,
+                store,
+                book,
+                lines,
+            };
+            Ok(value_follows(&context, owners, frame, site, line.kind, cites, *value))
         }
         Outcome::Rows(rows) => {
             let rows = rows.as_slice();
             all_rows_follow(
-                alloc, store, book, lines, frame, site, line.kind, cites, rows,
+                alloc, version, store, book, lines, frame, site, line.kind, cites, rows,
             )
         }
         Outcome::Verdict(verdict) => {
-            let ground = Ground { store, book, lines };
+            let context = LineContext {
+                version,
+                store,
+                book,
+                lines,
+            };
             let new = judged.verdict(site).is_none();
-            verdict_follows(alloc, &ground, new, frame, site, line.kind, cites, *verdict)
+            verdict_follows(
+                alloc, &context, new, frame, site, line.kind, cites, *verdict,
+            )
         }
     }
 }
 
 /// Whether a line of a value follows: that of a frame, which cites none.
 fn value_follows(
-    ground: &Ground<'_, '_, '_>,
+    context: &LineContext<'_, '_, '_>,
     owners: &Owners,
     frame: u64,
     site: u32,
@@ -190,14 +209,14 @@ fn value_follows(
     cites: &[u64],
     value: Ref,
 ) -> bool
-    requires owners { AreOwners (file_in ground.now) owners.now }
+    requires owners { AreOwners (file_in context.now) owners.now }
     ensures follows { MatchBool result
-        (FollowsIn (known_of ground.now) (lines_of ground.now) frame site kind cites.now (says.Value value) [])
-        ((more : List Made) → FollowsIn (known_of ground.now) (lines_of ground.now) frame site kind cites.now (says.Value value) more → ⊥) }
-    ensures known { result ≡ true → is_known_ref (known_of ground.now) value ≡ true }
+        (FollowsIn (version_of context.now) (known_of context.now) (lines_of context.now) frame site kind cites.now (says.Value value) [])
+        ((more : List Made) → FollowsIn (version_of context.now) (known_of context.now) (lines_of context.now) frame site kind cites.now (says.Value value) more → ⊥) }
+    ensures known { result ≡ true → is_known_ref (known_of context.now) value ≡ true }
 {
     match kind {
-        LineKind::Frame => cites.is_empty() && is_frame_of(ground, owners, frame, site, value),
+        LineKind::Frame => cites.is_empty() && is_frame_of(context, owners, frame, site, value),
         _ => false,
     }
 }
@@ -206,6 +225,7 @@ fn value_follows(
 /// elsewhere it is as it was.
 fn all_rows_follow(
     alloc: Global,
+    version: Version,
     store: &mut Store<'_, '_>,
     book: &PatternBook,
     lines: &[Line],
@@ -219,16 +239,21 @@ fn all_rows_follow(
     requires sound { AreSound (see_store store.old) lines.now }
     requires made { AreMadeWithin (length lines.now) (see_store store.old).made }
     ensures follows { IfOk result (λ follows. MatchBool follows
-        (Leads (FollowsIn (see_store store.old) lines.now frame site kind cites.now (says.Rows rows.now)) (see_store store.old) (see_store store.new))
-        (Stays (FollowsIn (see_store store.old) lines.now frame site kind cites.now (says.Rows rows.now)) (see_store store.old) (see_store store.new))) }
+        (Leads (FollowsIn version (see_store store.old) lines.now frame site kind cites.now (says.Rows rows.now)) (see_store store.old) (see_store store.new))
+        (Stays (FollowsIn version (see_store store.old) lines.now frame site kind cites.now (says.Rows rows.now)) (see_store store.old) (see_store store.new))) }
     ensures known { IfOk result (λ follows. follows ≡ true → is_known_outcome (see_store store.new) (says.Rows rows.now) ≡ true) }
     ensures made { IfOk result (λ follows. AreMadeWithin (suc (length lines.now)) (see_store store.new).made) }
 {
     match kind {
         LineKind::Fn => call_follows(alloc, store, book, lines, frame, site, cites, rows),
         _ => {
-            let ground = Ground { store, book, lines };
-            rows_follow(alloc, &ground, frame, site, kind, cites, rows)
+            let context = LineContext {
+                version,
+                store,
+                book,
+                lines,
+            };
+            rows_follow(alloc, &context, frame, site, kind, cites, rows)
         }
     }
 }

@@ -5,17 +5,17 @@ ghost use Rattle.evidence_lines.specs.declared.line.LineKind.TheVariants as kind
 ghost use Rattle.guard_syntax.specs.Seen.{see_body, see_conds, see_opt_conds, see_part, see_query, see_rule};
 ghost use Rattle.guard_syntax.specs.declared.row.Verdict.{Verdict};
 ghost use Rattle.rule_names.specs.Pieces.{OfRule};
-ghost use Rattle.evidence_rules.specs.Follows.{FollowsAtPart, FollowsBlock, FollowsBody, FollowsRule, FollowsTyped, FollowsVerdict, IsFileFrame, IsNewRule, Under, UnderSome, kind_of_part};
-ghost use Rattle.rule_meaning.specs.Known.{Known};
+ghost use Rattle.evidence_rules.specs.Follows.{FollowsAtPart, FollowsBlock, FollowsBody, FollowsRule, FollowsTyped, FollowsVerdict, IsFileFrame, IsNewRule, Under, UnderSome, block_stop, kind_of_part};
+ghost use Rattle.rule_meaning.specs.StoreModel.{StoreModel};
 ghost use Rattle.evidence_checker.specs.FirstCites.{IsGuard, IsSomeGuard};
-ghost use Rattle.evidence_checker.specs.Grounds.{known_of, lines_of};
+ghost use Rattle.evidence_checker.specs.Grounds.{known_of, lines_of, version_of};
 
 use crate::bodies::{body_follows, body_follows_on, ends_with};
-use crate::cited::{line_of, rows_said, verdict_said};
-use crate::given::given_by_query;
-use crate::ground::Ground;
-use crate::tested::test_follows;
-use crate::uses::{call_follows, reference_follows};
+use crate::cited_rows::given_by_query;
+use crate::line_context::LineContext;
+use crate::lookup::{line_of, rows_said, verdict_said};
+use crate::reference_lines::{call_follows, reference_follows};
+use crate::test_lines::test_follows;
 use evidence_lines::{Line, LineKind};
 use guard_syntax::{Body, Conds, Part, Query, Rule, Verdict};
 use std::alloc::{AllocError, Global};
@@ -23,7 +23,7 @@ use std::alloc::{AllocError, Global};
 /// Whether a line of the verdict of a part follows: a test, a reference, a call, a `when` block, a block or a type block.
 pub(crate) fn part_follows(
     alloc: Global,
-    ground: &Ground<'_, '_, '_>,
+    context: &LineContext<'_, '_, '_>,
     frame: u64,
     site: u32,
     kind: LineKind,
@@ -32,8 +32,8 @@ pub(crate) fn part_follows(
     verdict: Verdict,
 ) -> Result<bool, AllocError>
     ensures { IfOk result (λ follows. MatchBool follows
-        (FollowsAtPart (known_of ground.now) (lines_of ground.now) frame site kind (see_part part.now) cites.now verdict)
-        (FollowsAtPart (known_of ground.now) (lines_of ground.now) frame site kind (see_part part.now) cites.now verdict → ⊥)) }
+        (FollowsAtPart (version_of context.now) (known_of context.now) (lines_of context.now) frame site kind (see_part part.now) cites.now verdict)
+        (FollowsAtPart (version_of context.now) (known_of context.now) (lines_of context.now) frame site kind (see_part part.now) cites.now verdict → ⊥)) }
 {
     if kind != kind_of_part(part) {
         return Ok(false);
@@ -44,12 +44,12 @@ pub(crate) fn part_follows(
             head,
             body,
             ..
-        } => Ok(block_follows(ground, frame, *any, head, body, cites, verdict)),
+        } => Ok(block_follows(context, frame, *any, head, body, cites, verdict)),
         Part::When { cond, body, .. } => {
-            Ok(when_follows(ground, frame, cond, body, cites, verdict))
+            Ok(when_follows(context, frame, cond, body, cites, verdict))
         }
         Part::Kinds { cond, body, .. } => Ok(kinds_follows(
-            ground, frame, site, cond, body, cites, verdict,
+            context, frame, site, cond, body, cites, verdict,
         )),
         Part::Test {
             any,
@@ -59,16 +59,16 @@ pub(crate) fn part_follows(
             right,
             ..
         } => test_follows(
-            alloc, ground, frame, *any, left, *op, *not, right, cites, verdict,
+            alloc, context, frame, *any, left, *op, *not, right, cites, verdict,
         ),
-        Part::Refer { not, .. } => Ok(reference_follows(ground, site, *not, cites, verdict)),
-        Part::Call { not, .. } => Ok(call_follows(ground, frame, site, *not, cites, verdict)),
+        Part::Refer { not, .. } => Ok(reference_follows(context, site, *not, cites, verdict)),
+        Part::Call { not, .. } => Ok(call_follows(context, frame, site, *not, cites, verdict)),
     }
 }
 
 /// The kind of a part's line.
 fn kind_of_part(part: &Part) -> LineKind
-    ensures { (known : Known) → (ls : List Line) → result ≡ kind_of_part known ls (see_part part.now) }
+    ensures { (known : StoreModel) → (ls : List Line) → result ≡ kind_of_part known ls (see_part part.now) }
 {
     match part {
         Part::Block { .. } => LineKind::Block,
@@ -82,7 +82,7 @@ fn kind_of_part(part: &Part) -> LineKind
 
 /// Whether the line of a block follows.
 fn block_follows(
-    ground: &Ground<'_, '_, '_>,
+    context: &LineContext<'_, '_, '_>,
     frame: u64,
     any: bool,
     head: &Query,
@@ -91,21 +91,21 @@ fn block_follows(
     verdict: Verdict,
 ) -> bool
     ensures { MatchBool result
-        (FollowsBlock (known_of ground.now) (lines_of ground.now) frame any (see_query head.now) (see_body body.now) cites.now verdict)
-        (FollowsBlock (known_of ground.now) (lines_of ground.now) frame any (see_query head.now) (see_body body.now) cites.now verdict → ⊥) }
+        (FollowsBlock (known_of context.now) (lines_of context.now) frame any (block_stop any (version_of context.now)) (see_query head.now) (see_body body.now) cites.now verdict)
+        (FollowsBlock (known_of context.now) (lines_of context.now) frame any (block_stop any (version_of context.now)) (see_query head.now) (see_body body.now) cites.now verdict → ⊥) }
 {
     let Some((first, others)) = cites.split_first() else {
         return false;
     };
-    match given_by_query(ground.store.file, ground.lines, frame, head, *first) {
-        Some(rows) => body_follows_on(ground, frame, any, body, rows, others, verdict),
+    match given_by_query(context.store.file, context.lines, frame, head, *first) {
+        Some(rows) => body_follows_on(context, frame, any, body, rows, others, verdict),
         None => false,
     }
 }
 
 /// Whether the line of a `when` block follows.
 fn when_follows(
-    ground: &Ground<'_, '_, '_>,
+    context: &LineContext<'_, '_, '_>,
     frame: u64,
     cond: &Conds,
     body: &Body,
@@ -113,14 +113,14 @@ fn when_follows(
     verdict: Verdict,
 ) -> bool
     ensures { MatchBool result
-        (Under (known_of ground.now) (lines_of ground.now) frame (see_conds cond.now) (FollowsBody (known_of ground.now) (lines_of ground.now) frame (see_body body.now)) cites.now verdict)
-        (Under (known_of ground.now) (lines_of ground.now) frame (see_conds cond.now) (FollowsBody (known_of ground.now) (lines_of ground.now) frame (see_body body.now)) cites.now verdict → ⊥) }
+        (Under (known_of context.now) (lines_of context.now) frame (see_conds cond.now) (FollowsBody (known_of context.now) (lines_of context.now) frame (see_body body.now)) cites.now verdict)
+        (Under (known_of context.now) (lines_of context.now) frame (see_conds cond.now) (FollowsBody (known_of context.now) (lines_of context.now) frame (see_body body.now)) cites.now verdict → ⊥) }
 {
-    let Some(guard) = conditions(ground.lines, frame, cond, cites) else {
+    let Some(guard) = conditions(context.lines, frame, cond, cites) else {
         return false;
     };
     match guard.said {
-        Verdict::Pass => body_follows(ground, frame, body, guard.left, verdict),
+        Verdict::Pass => body_follows(context, frame, body, guard.left, verdict),
         Verdict::Fail => ends_with(guard.left, Verdict::Skip, verdict),
         Verdict::Skip => ends_with(guard.left, Verdict::Skip, verdict),
     }
@@ -128,7 +128,7 @@ fn when_follows(
 
 /// Whether the line of a type block follows.
 fn kinds_follows(
-    ground: &Ground<'_, '_, '_>,
+    context: &LineContext<'_, '_, '_>,
     frame: u64,
     site: u32,
     cond: &Option<Conds>,
@@ -137,14 +137,14 @@ fn kinds_follows(
     verdict: Verdict,
 ) -> bool
     ensures { MatchBool result
-        (UnderSome (known_of ground.now) (lines_of ground.now) frame (see_opt_conds cond.now) (FollowsTyped (known_of ground.now) (lines_of ground.now) frame site (see_body body.now)) cites.now verdict)
-        (UnderSome (known_of ground.now) (lines_of ground.now) frame (see_opt_conds cond.now) (FollowsTyped (known_of ground.now) (lines_of ground.now) frame site (see_body body.now)) cites.now verdict → ⊥) }
+        (UnderSome (known_of context.now) (lines_of context.now) frame (see_opt_conds cond.now) (FollowsTyped (known_of context.now) (lines_of context.now) frame site (see_body body.now)) cites.now verdict)
+        (UnderSome (known_of context.now) (lines_of context.now) frame (see_opt_conds cond.now) (FollowsTyped (known_of context.now) (lines_of context.now) frame site (see_body body.now)) cites.now verdict → ⊥) }
 {
-    let Some(guard) = some_conditions(ground.lines, frame, cond, cites) else {
+    let Some(guard) = some_conditions(context.lines, frame, cond, cites) else {
         return false;
     };
     match guard.said {
-        Verdict::Pass => typed_follows(ground, frame, site, body, guard.left, verdict),
+        Verdict::Pass => typed_follows(context, frame, site, body, guard.left, verdict),
         Verdict::Fail => ends_with(guard.left, Verdict::Skip, verdict),
         Verdict::Skip => ends_with(guard.left, Verdict::Skip, verdict),
     }
@@ -152,7 +152,7 @@ fn kinds_follows(
 
 /// Whether the verdict of a type block's body on its rows follows.
 fn typed_follows(
-    ground: &Ground<'_, '_, '_>,
+    context: &LineContext<'_, '_, '_>,
     frame: u64,
     site: u32,
     body: &Body,
@@ -160,21 +160,21 @@ fn typed_follows(
     verdict: Verdict,
 ) -> bool
     ensures { MatchBool result
-        (FollowsTyped (known_of ground.now) (lines_of ground.now) frame site (see_body body.now) cites.now verdict)
-        (FollowsTyped (known_of ground.now) (lines_of ground.now) frame site (see_body body.now) cites.now verdict → ⊥) }
+        (FollowsTyped (known_of context.now) (lines_of context.now) frame site (see_body body.now) cites.now verdict)
+        (FollowsTyped (known_of context.now) (lines_of context.now) frame site (see_body body.now) cites.now verdict → ⊥) }
 {
     let Some((first, others)) = cites.split_first() else {
         return false;
     };
-    match rows_said(ground.lines, *first, LineKind::Types, frame, site) {
-        Some(rows) => body_follows_on(ground, frame, false, body, rows, others, verdict),
+    match rows_said(context.lines, *first, LineKind::Types, frame, site) {
+        Some(rows) => body_follows_on(context, frame, false, body, rows, others, verdict),
         None => false,
     }
 }
 
 /// Whether the line of a rule follows; `new` is whether no earlier `rule` line has its site.
 pub(crate) fn rule_follows(
-    ground: &Ground<'_, '_, '_>,
+    context: &LineContext<'_, '_, '_>,
     new: bool,
     frame: u64,
     site: u32,
@@ -182,25 +182,25 @@ pub(crate) fn rule_follows(
     cites: &[u64],
     verdict: Verdict,
 ) -> bool
-    requires new { MatchBool new (IsNewRule (known_of ground.now) (lines_of ground.now) site) (IsNewRule (known_of ground.now) (lines_of ground.now) site → ⊥) }
+    requires new { MatchBool new (IsNewRule (known_of context.now) (lines_of context.now) site) (IsNewRule (known_of context.now) (lines_of context.now) site → ⊥) }
     ensures { MatchBool result
-        (FollowsVerdict (known_of ground.now) (lines_of ground.now) frame site kind.Rule (Some (OfRule (see_rule rule.now))) cites.now verdict)
-        (FollowsVerdict (known_of ground.now) (lines_of ground.now) frame site kind.Rule (Some (OfRule (see_rule rule.now))) cites.now verdict → ⊥) }
+        (FollowsVerdict (version_of context.now) (known_of context.now) (lines_of context.now) frame site kind.Rule (Some (OfRule (see_rule rule.now))) cites.now verdict)
+        (FollowsVerdict (version_of context.now) (known_of context.now) (lines_of context.now) frame site kind.Rule (Some (OfRule (see_rule rule.now))) cites.now verdict → ⊥) }
 {
     if !new {
         return false;
     }
-    if !is_file_frame(ground, frame) {
+    if !is_file_frame(context, frame) {
         return false;
     }
-    is_rule_verdict(ground, frame, rule, cites, verdict)
+    is_rule_verdict(context, frame, rule, cites, verdict)
 }
 
 /// Whether the line of a number is that of the file.
-fn is_file_frame(ground: &Ground<'_, '_, '_>, frame: u64) -> bool
-    ensures { MatchBool result (IsFileFrame (known_of ground.now) (lines_of ground.now) frame) (IsFileFrame (known_of ground.now) (lines_of ground.now) frame → ⊥) }
+fn is_file_frame(context: &LineContext<'_, '_, '_>, frame: u64) -> bool
+    ensures { MatchBool result (IsFileFrame (known_of context.now) (lines_of context.now) frame) (IsFileFrame (known_of context.now) (lines_of context.now) frame → ⊥) }
 {
-    match line_of(ground.lines, frame) {
+    match line_of(context.lines, frame) {
         Some(line) => line.kind == LineKind::File,
         None => false,
     }
@@ -208,24 +208,24 @@ fn is_file_frame(ground: &Ground<'_, '_, '_>, frame: u64) -> bool
 
 /// Whether the verdict of a rule follows: it has no parameters.
 fn is_rule_verdict(
-    ground: &Ground<'_, '_, '_>,
+    context: &LineContext<'_, '_, '_>,
     frame: u64,
     rule: &Rule,
     cites: &[u64],
     verdict: Verdict,
 ) -> bool
     ensures { MatchBool result
-        (FollowsRule (known_of ground.now) (lines_of ground.now) frame (see_rule rule.now) cites.now verdict)
-        (FollowsRule (known_of ground.now) (lines_of ground.now) frame (see_rule rule.now) cites.now verdict → ⊥) }
+        (FollowsRule (known_of context.now) (lines_of context.now) frame (see_rule rule.now) cites.now verdict)
+        (FollowsRule (known_of context.now) (lines_of context.now) frame (see_rule rule.now) cites.now verdict → ⊥) }
 {
     if !rule.params.as_slice().is_empty() {
         return false;
     }
-    let Some(guard) = some_conditions(ground.lines, frame, &rule.cond, cites) else {
+    let Some(guard) = some_conditions(context.lines, frame, &rule.cond, cites) else {
         return false;
     };
     match guard.said {
-        Verdict::Pass => body_follows(ground, frame, &rule.body, guard.left, verdict),
+        Verdict::Pass => body_follows(context, frame, &rule.body, guard.left, verdict),
         Verdict::Fail => ends_with(guard.left, Verdict::Skip, verdict),
         Verdict::Skip => ends_with(guard.left, Verdict::Skip, verdict),
     }

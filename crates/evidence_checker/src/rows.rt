@@ -3,14 +3,14 @@ ghost use Rattle.std.specs.Prelude.{◌≡◌, List, [], Some, true, IfOk, Match
 ghost use Rattle.std.specs.List.{list_all};
 ghost use Rattle.guard_syntax.specs.Seen.{see_part};
 ghost use Rattle.rule_names.specs.Pieces.{OfPart, piece_at};
-ghost use Rattle.rule_meaning.specs.Known.{Made, is_known};
+ghost use Rattle.rule_meaning.specs.StoreModel.{Made, is_known};
 ghost use Rattle.evidence_rules.specs.Follows.{FollowsRows};
 ghost use Rattle.evidence_checker.specs.Grounds.{file_in, known_of, lines_of};
 
-use crate::cited::value_of;
-use crate::exprs::expr_follows;
-use crate::ground::Ground;
-use crate::same::same_rows;
+use crate::expression_lines::expr_follows;
+use crate::line_context::LineContext;
+use crate::lookup::value_of;
+use crate::row_equality::same_rows;
 use crate::step_rows::step_follows;
 use evidence_lines::LineKind;
 use guard_syntax::{Part, Row};
@@ -21,7 +21,7 @@ use std::alloc::{AllocError, Global};
 /// Whether a line of rows follows, of any kind but that of a call.
 pub(crate) fn rows_follow(
     alloc: Global,
-    ground: &Ground<'_, '_, '_>,
+    context: &LineContext<'_, '_, '_>,
     frame: u64,
     site: u32,
     kind: LineKind,
@@ -30,19 +30,19 @@ pub(crate) fn rows_follow(
 ) -> Result<bool, AllocError>
     requires other { kind ≡ LineKind.Fn → ⊥ }
     ensures follows { IfOk result (λ follows. MatchBool follows
-        (FollowsRows (known_of ground.now) (lines_of ground.now) frame site kind (piece_at (file_in ground.now) site) cites.now rows.now [])
-        ((more : List Made) → FollowsRows (known_of ground.now) (lines_of ground.now) frame site kind (piece_at (file_in ground.now) site) cites.now rows.now more → ⊥)) }
-    ensures known { IfOk result (λ follows. follows ≡ true → list_all (is_known (known_of ground.now)) rows.now ≡ true) }
+        (FollowsRows (known_of context.now) (lines_of context.now) frame site kind (piece_at (file_in context.now) site) cites.now rows.now [])
+        ((more : List Made) → FollowsRows (known_of context.now) (lines_of context.now) frame site kind (piece_at (file_in context.now) site) cites.now rows.now more → ⊥)) }
+    ensures known { IfOk result (λ follows. follows ≡ true → list_all (is_known (known_of context.now)) rows.now ≡ true) }
 {
-    match ground.store.file.find(site) {
+    match context.store.file.find(site) {
         Some(Piece::Expr(expr)) => {
-            Ok(expr_follows(ground, frame, site, kind, expr, cites, rows))
+            Ok(expr_follows(context, frame, site, kind, expr, cites, rows))
         }
         Some(Piece::Step { query, index }) => step_follows(
-            alloc, ground, frame, site, kind, query, index, cites, rows,
+            alloc, context, frame, site, kind, query, index, cites, rows,
         ),
         Some(Piece::Part(part)) => {
-            types_follow(alloc, ground, frame, site, kind, part, cites, rows)
+            types_follow(alloc, context, frame, site, kind, part, cites, rows)
         }
         _ => Ok(false),
     }
@@ -51,7 +51,7 @@ pub(crate) fn rows_follow(
 /// Whether a line of the rows of a part follows: only a type block has rows.
 fn types_follow(
     alloc: Global,
-    ground: &Ground<'_, '_, '_>,
+    context: &LineContext<'_, '_, '_>,
     frame: u64,
     site: u32,
     kind: LineKind,
@@ -59,11 +59,11 @@ fn types_follow(
     cites: &[u64],
     rows: &[Row],
 ) -> Result<bool, AllocError>
-    requires placed { piece_at (file_in ground.now) site ≡ Some (OfPart (see_part part.now)) }
+    requires placed { piece_at (file_in context.now) site ≡ Some (OfPart (see_part part.now)) }
     ensures follows { IfOk result (λ follows. MatchBool follows
-        (FollowsRows (known_of ground.now) (lines_of ground.now) frame site kind (Some (OfPart (see_part part.now))) cites.now rows.now [])
-        ((more : List Made) → FollowsRows (known_of ground.now) (lines_of ground.now) frame site kind (Some (OfPart (see_part part.now))) cites.now rows.now more → ⊥)) }
-    ensures known { IfOk result (λ follows. follows ≡ true → list_all (is_known (known_of ground.now)) rows.now ≡ true) }
+        (FollowsRows (known_of context.now) (lines_of context.now) frame site kind (Some (OfPart (see_part part.now))) cites.now rows.now [])
+        ((more : List Made) → FollowsRows (known_of context.now) (lines_of context.now) frame site kind (Some (OfPart (see_part part.now))) cites.now rows.now more → ⊥)) }
+    ensures known { IfOk result (λ follows. follows ≡ true → list_all (is_known (known_of context.now)) rows.now ≡ true) }
 {
     match kind {
         LineKind::Types => {}
@@ -76,9 +76,9 @@ fn types_follow(
     let [] = cites else {
         return Ok(false);
     };
-    let Some(current) = value_of(ground.lines, frame) else {
+    let Some(current) = value_of(context.lines, frame) else {
         return Ok(false);
     };
-    let due = kinds(alloc, ground.store.file, site, current, ground.store)?;
+    let due = kinds(alloc, context.store.file, site, current, context.store)?;
     Ok(same_rows(rows, &due))
 }

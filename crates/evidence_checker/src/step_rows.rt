@@ -6,16 +6,16 @@ ghost use Rattle.guard_syntax.specs.Seen.{see_conds, see_query, see_step};
 ghost use Rattle.guard_syntax.specs.Syntax.{filter};
 ghost use Rattle.guard_syntax.specs.declared.row.Row as row;
 ghost use Rattle.rule_names.specs.Pieces.{OfStep, piece_at};
-ghost use Rattle.rule_meaning.specs.Known.{is_known};
+ghost use Rattle.rule_meaning.specs.StoreModel.{is_known};
 ghost use Rattle.evidence_rules.specs.Follows.{FollowsAtStep, FollowsCapture, FollowsFilter, FollowsStep, GivesBefore, GivesFurther, IsLater};
 ghost use Rattle.rule_meaning.specs.Places.{is_filter, step_in, steps_in};
 ghost use Rattle.evidence_checker.specs.Grounds.{file_in, known_of, lines_of};
 
-use crate::cited::value_of;
-use crate::given::{given_by_expr, given_by_step, given_by_variable};
-use crate::ground::Ground;
-use crate::same::same_rows;
-use crate::tried::tried_verdicts;
+use crate::cited_rows::{given_by_expr, given_by_step, given_by_variable};
+use crate::line_context::LineContext;
+use crate::lookup::value_of;
+use crate::row_equality::same_rows;
+use crate::tried_candidates::tried_verdicts;
 use evidence_lines::LineKind;
 use guard_syntax::{Conds, Query, Row, Step, StepForm};
 use query_steps::{candidates, captured, step as rows_due};
@@ -24,7 +24,7 @@ use std::alloc::{AllocError, Global};
 /// Whether a line of the rows of a step follows: those that it gives, or the keys that it captures.
 pub(crate) fn step_follows(
     alloc: Global,
-    ground: &Ground<'_, '_, '_>,
+    context: &LineContext<'_, '_, '_>,
     frame: u64,
     site: u32,
     kind: LineKind,
@@ -33,11 +33,11 @@ pub(crate) fn step_follows(
     cites: &[u64],
     rows: &[Row],
 ) -> Result<bool, AllocError>
-    requires placed { piece_at (file_in ground.now) site ≡ Some (OfStep (see_query query.now) index) }
+    requires placed { piece_at (file_in context.now) site ≡ Some (OfStep (see_query query.now) index) }
     ensures follows { IfOk result (λ follows. MatchBool follows
-        (FollowsAtStep (known_of ground.now) (lines_of ground.now) frame site kind (see_query query.now) index (step_in (steps_in (see_query query.now)) index) cites.now rows.now)
-        (FollowsAtStep (known_of ground.now) (lines_of ground.now) frame site kind (see_query query.now) index (step_in (steps_in (see_query query.now)) index) cites.now rows.now → ⊥)) }
-    ensures known { IfOk result (λ follows. follows ≡ true → list_all (is_known (known_of ground.now)) rows.now ≡ true) }
+        (FollowsAtStep (known_of context.now) (lines_of context.now) frame site kind (see_query query.now) index (step_in (steps_in (see_query query.now)) index) cites.now rows.now)
+        (FollowsAtStep (known_of context.now) (lines_of context.now) frame site kind (see_query query.now) index (step_in (steps_in (see_query query.now)) index) cites.now rows.now → ⊥)) }
+    ensures known { IfOk result (λ follows. follows ≡ true → list_all (is_known (known_of context.now)) rows.now ≡ true) }
 {
     let Some(step) = query.steps.get(index) else {
         return Ok(false);
@@ -45,21 +45,21 @@ pub(crate) fn step_follows(
     match &step.form {
         StepForm::Filter(_, conditions) => match kind {
             LineKind::Filter => filter_follows(
-                alloc, ground, frame, site, query, index, conditions, cites, rows,
+                alloc, context, frame, site, query, index, conditions, cites, rows,
             ),
-            LineKind::Capture => capture_follows(alloc, ground, frame, step, cites, rows),
+            LineKind::Capture => capture_follows(alloc, context, frame, step, cites, rows),
             _ => Ok(false),
         },
         StepForm::Keys { .. } => match kind {
             LineKind::Keys => other_follows(
-                alloc, ground, frame, site, query, index, step, cites, rows,
+                alloc, context, frame, site, query, index, step, cites, rows,
             ),
-            LineKind::Capture => capture_follows(alloc, ground, frame, step, cites, rows),
+            LineKind::Capture => capture_follows(alloc, context, frame, step, cites, rows),
             _ => Ok(false),
         },
         _ => match kind {
             LineKind::Step => other_follows(
-                alloc, ground, frame, site, query, index, step, cites, rows,
+                alloc, context, frame, site, query, index, step, cites, rows,
             ),
             _ => Ok(false),
         },
@@ -69,7 +69,7 @@ pub(crate) fn step_follows(
 /// Whether the rows of a step that is no filter follow.
 fn other_follows(
     alloc: Global,
-    ground: &Ground<'_, '_, '_>,
+    context: &LineContext<'_, '_, '_>,
     frame: u64,
     site: u32,
     query: &Query,
@@ -78,33 +78,33 @@ fn other_follows(
     cites: &[u64],
     rows: &[Row],
 ) -> Result<bool, AllocError>
-    requires placed { piece_at (file_in ground.now) site ≡ Some (OfStep (see_query query.now) index) }
+    requires placed { piece_at (file_in context.now) site ≡ Some (OfStep (see_query query.now) index) }
     requires step { step_in (steps_in (see_query query.now)) index ≡ Some (see_step step.now) }
     requires other { is_filter (see_step step.now) ≡ false }
     ensures follows { IfOk result (λ follows. MatchBool follows
-        (FollowsStep (known_of ground.now) (lines_of ground.now) frame site (see_query query.now) index (see_step step.now) cites.now rows.now)
-        (FollowsStep (known_of ground.now) (lines_of ground.now) frame site (see_query query.now) index (see_step step.now) cites.now rows.now → ⊥)) }
-    ensures known { IfOk result (λ follows. follows ≡ true → list_all (is_known (known_of ground.now)) rows.now ≡ true) }
+        (FollowsStep (known_of context.now) (lines_of context.now) frame site (see_query query.now) index (see_step step.now) cites.now rows.now)
+        (FollowsStep (known_of context.now) (lines_of context.now) frame site (see_query query.now) index (see_step step.now) cites.now rows.now → ⊥)) }
+    ensures known { IfOk result (λ follows. follows ≡ true → list_all (is_known (known_of context.now)) rows.now ≡ true) }
 {
-    let Some(current) = value_of(ground.lines, frame) else {
+    let Some(current) = value_of(context.lines, frame) else {
         return Ok(false);
     };
-    let Some((before, last)) = rows_before(ground, frame, query, index, cites) else {
+    let Some((before, last)) = rows_before(context, frame, query, index, cites) else {
         return Ok(false);
     };
-    let Some(further) = rows_further(ground, frame, step, last) else {
+    let Some(further) = rows_further(context, frame, step, last) else {
         return Ok(false);
     };
     let due = rows_due(
         alloc,
-        ground.store.file,
+        context.store.file,
         site,
         current,
         before,
         further,
         &[],
-        ground.store,
-        ground.book,
+        context.store,
+        context.book,
     )?;
     Ok(same_rows(rows, &due))
 }
@@ -112,7 +112,7 @@ fn other_follows(
 /// Whether the rows of the filter of an index, which has these conditions, follow: none stands at the start of a query.
 fn filter_follows(
     alloc: Global,
-    ground: &Ground<'_, '_, '_>,
+    context: &LineContext<'_, '_, '_>,
     frame: u64,
     site: u32,
     query: &Query,
@@ -121,25 +121,25 @@ fn filter_follows(
     cites: &[u64],
     rows: &[Row],
 ) -> Result<bool, AllocError>
-    requires placed { piece_at (file_in ground.now) site ≡ Some (OfStep (see_query query.now) index) }
+    requires placed { piece_at (file_in context.now) site ≡ Some (OfStep (see_query query.now) index) }
     requires filter { (n : ℕ) × (capture : Option Named) × (step_in (steps_in (see_query query.now)) index ≡ Some (filter n capture (see_conds conditions.now))) }
     ensures follows { IfOk result (λ follows. MatchBool follows
-        (IsLater index × FollowsFilter (known_of ground.now) (lines_of ground.now) frame site (see_query query.now) index (see_conds conditions.now) cites.now rows.now)
-        (IsLater index × FollowsFilter (known_of ground.now) (lines_of ground.now) frame site (see_query query.now) index (see_conds conditions.now) cites.now rows.now → ⊥)) }
-    ensures known { IfOk result (λ follows. follows ≡ true → list_all (is_known (known_of ground.now)) rows.now ≡ true) }
+        (IsLater index × FollowsFilter (known_of context.now) (lines_of context.now) frame site (see_query query.now) index (see_conds conditions.now) cites.now rows.now)
+        (IsLater index × FollowsFilter (known_of context.now) (lines_of context.now) frame site (see_query query.now) index (see_conds conditions.now) cites.now rows.now → ⊥)) }
+    ensures known { IfOk result (λ follows. follows ≡ true → list_all (is_known (known_of context.now)) rows.now ≡ true) }
 {
     if index == 0 {
         return Ok(false);
     }
     kept_follow(
-        alloc, ground, frame, site, query, index, conditions, cites, rows,
+        alloc, context, frame, site, query, index, conditions, cites, rows,
     )
 }
 
 /// Whether the rows are those that the filter keeps.
 fn kept_follow(
     alloc: Global,
-    ground: &Ground<'_, '_, '_>,
+    context: &LineContext<'_, '_, '_>,
     frame: u64,
     site: u32,
     query: &Query,
@@ -148,34 +148,42 @@ fn kept_follow(
     cites: &[u64],
     rows: &[Row],
 ) -> Result<bool, AllocError>
-    requires placed { piece_at (file_in ground.now) site ≡ Some (OfStep (see_query query.now) index) }
+    requires placed { piece_at (file_in context.now) site ≡ Some (OfStep (see_query query.now) index) }
     requires filter { (n : ℕ) × (capture : Option Named) × (step_in (steps_in (see_query query.now)) index ≡ Some (filter n capture (see_conds conditions.now))) }
     ensures follows { IfOk result (λ follows. MatchBool follows
-        (FollowsFilter (known_of ground.now) (lines_of ground.now) frame site (see_query query.now) index (see_conds conditions.now) cites.now rows.now)
-        (FollowsFilter (known_of ground.now) (lines_of ground.now) frame site (see_query query.now) index (see_conds conditions.now) cites.now rows.now → ⊥)) }
-    ensures known { IfOk result (λ follows. follows ≡ true → list_all (is_known (known_of ground.now)) rows.now ≡ true) }
+        (FollowsFilter (known_of context.now) (lines_of context.now) frame site (see_query query.now) index (see_conds conditions.now) cites.now rows.now)
+        (FollowsFilter (known_of context.now) (lines_of context.now) frame site (see_query query.now) index (see_conds conditions.now) cites.now rows.now → ⊥)) }
+    ensures known { IfOk result (λ follows. follows ≡ true → list_all (is_known (known_of context.now)) rows.now ≡ true) }
 {
-    let Some(current) = value_of(ground.lines, frame) else {
+    let Some(current) = value_of(context.lines, frame) else {
         return Ok(false);
     };
-    let Some((before, last)) = rows_before(ground, frame, query, index, cites) else {
+    let Some((before, last)) = rows_before(context, frame, query, index, cites) else {
         return Ok(false);
     };
-    let tried = candidates(alloc, ground.store.file, site, before, ground.store)?;
-    let Some(verdicts) = tried_verdicts(alloc, ground.lines, frame, site, conditions, &tried, last)?
+    let tried = candidates(alloc, context.store.file, site, before, context.store)?;
+    let Some(verdicts) = tried_verdicts(
+        alloc,
+        context.lines,
+        frame,
+        site,
+        conditions,
+        &tried,
+        last,
+    )?
     else {
         return Ok(false);
     };
     let due = rows_due(
         alloc,
-        ground.store.file,
+        context.store.file,
         site,
         current,
         before,
         &[],
         &verdicts,
-        ground.store,
-        ground.book,
+        context.store,
+        context.book,
     )?;
     Ok(same_rows(rows, &due))
 }
@@ -183,31 +191,31 @@ fn kept_follow(
 /// Whether the keys that a filter or key filter captures follow.
 fn capture_follows(
     alloc: Global,
-    ground: &Ground<'_, '_, '_>,
+    context: &LineContext<'_, '_, '_>,
     frame: u64,
     step: &Step,
     cites: &[u64],
     rows: &[Row],
 ) -> Result<bool, AllocError>
     ensures follows { IfOk result (λ follows. MatchBool follows
-        (FollowsCapture (known_of ground.now) (lines_of ground.now) frame (see_step step.now) cites.now rows.now)
-        (FollowsCapture (known_of ground.now) (lines_of ground.now) frame (see_step step.now) cites.now rows.now → ⊥)) }
-    ensures known { IfOk result (λ follows. follows ≡ true → list_all (is_known (known_of ground.now)) rows.now ≡ true) }
+        (FollowsCapture (known_of context.now) (lines_of context.now) frame (see_step step.now) cites.now rows.now)
+        (FollowsCapture (known_of context.now) (lines_of context.now) frame (see_step step.now) cites.now rows.now → ⊥)) }
+    ensures known { IfOk result (λ follows. follows ≡ true → list_all (is_known (known_of context.now)) rows.now ≡ true) }
 {
     let [number] = cites else {
         return Ok(false);
     };
-    let Some(kept) = given_by_step(ground.store.file, ground.lines, frame, step, *number) else {
+    let Some(kept) = given_by_step(context.store.file, context.lines, frame, step, *number) else {
         return Ok(false);
     };
-    let due = captured(alloc, kept, ground.store)?;
+    let due = captured(alloc, kept, context.store)?;
     Ok(same_rows(rows, &due))
 }
 
 /// The rows of the step before the one of an index, which the first number cites, and the numbers behind it. A start has
 /// no rows before it, and no number.
 fn rows_before<'b>(
-    ground: &Ground<'b, '_, '_>,
+    context: &LineContext<'b, '_, '_>,
     frame: u64,
     query: &Query,
     index: usize,
@@ -215,9 +223,9 @@ fn rows_before<'b>(
 ) -> Option<(&'b [Row], &'b [u64])>
     ensures { MatchOption result
         ((first last : List ℕ) → (rows : List row.Row) → cites.entry.now ≡ first ++ last
-        → GivesBefore (known_of ground.now) (lines_of ground.now) frame (see_query query.now) index first rows → ⊥)
+        → GivesBefore (known_of context.now) (lines_of context.now) frame (see_query query.now) index first rows → ⊥)
         (λ found. (first : List ℕ) × (cites.entry.now ≡ first ++ found.1.now)
-        × GivesBefore (known_of ground.now) (lines_of ground.now) frame (see_query query.now) index first found.0.now) }
+        × GivesBefore (known_of context.now) (lines_of context.now) frame (see_query query.now) index first found.0.now) }
 {
     if index == 0 {
         return Some((&[], cites));
@@ -226,26 +234,26 @@ fn rows_before<'b>(
         return None;
     };
     let step = query.steps.get(index - 1)?;
-    let rows = given_by_step(ground.store.file, ground.lines, frame, step, *number)?;
+    let rows = given_by_step(context.store.file, context.lines, frame, step, *number)?;
     Some((rows, last))
 }
 
 /// The rows of what a step names further: of a variable, or of the right side of a key filter.
 fn rows_further<'b>(
-    ground: &Ground<'b, '_, '_>,
+    context: &LineContext<'b, '_, '_>,
     frame: u64,
     step: &Step,
     cites: &[u64],
 ) -> Option<&'b [Row]>
     ensures { MatchOption result
-        ((rows : List row.Row) → GivesFurther (known_of ground.now) (lines_of ground.now) frame (see_step step.now) cites.now rows → ⊥)
-        (λ rows. GivesFurther (known_of ground.now) (lines_of ground.now) frame (see_step step.now) cites.now rows.now) }
+        ((rows : List row.Row) → GivesFurther (known_of context.now) (lines_of context.now) frame (see_step step.now) cites.now rows → ⊥)
+        (λ rows. GivesFurther (known_of context.now) (lines_of context.now) frame (see_step step.now) cites.now rows.now) }
 {
     match &step.form {
         StepForm::Var(_) => {
             given_by_variable(
-                ground.store.file,
-                ground.lines,
+                context.store.file,
+                context.lines,
                 frame,
                 step.site,
                 only(cites)?,
@@ -253,15 +261,21 @@ fn rows_further<'b>(
         }
         StepForm::Splice(_) => {
             given_by_variable(
-                ground.store.file,
-                ground.lines,
+                context.store.file,
+                context.lines,
                 frame,
                 step.site,
                 only(cites)?,
             )
         }
         StepForm::Keys { right, .. } => {
-            given_by_expr(ground.store.file, ground.lines, frame, right, only(cites)?)
+            given_by_expr(
+                context.store.file,
+                context.lines,
+                frame,
+                right,
+                only(cites)?,
+            )
         }
         StepForm::Filter(..) => None,
         _ => match cites {

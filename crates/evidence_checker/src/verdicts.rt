@@ -6,15 +6,16 @@ ghost use Rattle.guard_syntax.specs.declared.row.Verdict.{Verdict};
 ghost use Rattle.guard_syntax.specs.Seen.{disj_list, part_list, see_disj, see_part};
 ghost use Rattle.rule_names.specs.Pieces.{OfFile, piece_at};
 ghost use Rattle.rule_names.specs.Seen.{see_piece};
-ghost use Rattle.rule_names.specs.Ways.{part_site};
+ghost use Rattle.rule_names.specs.ReferenceGraph.{part_site};
 ghost use Rattle.evidence_rules.specs.CitedLines.{IsLine};
-ghost use Rattle.evidence_rules.specs.Follows.{FollowsConj, FollowsDisj, FollowsLoose, FollowsVerdict, IsFileFrame, IsNewRule, SayDisjs, SayParts, SaysVerdict, kind_of_part};
+ghost use Rattle.evidence_rules.specs.Follows.{FollowsConj, FollowsDisj, FollowsLoose, FollowsVerdict, IsFileFrame, IsNewRule, SayDisjs, SayParts, SaysVerdict, conds_stop, disj_stop, kind_of_part};
 ghost use Rattle.rule_meaning.specs.Verdicts.{conjunction, disjunction};
-ghost use Rattle.evidence_checker.specs.Grounds.{file_in, known_of, lines_of};
+ghost use Rattle.evidence_checker.specs.Grounds.{file_in, known_of, lines_of, version_of};
 
-use crate::cited::{line_of, verdict_said};
-use crate::ground::Ground;
+use crate::line_context::LineContext;
+use crate::lookup::{line_of, verdict_said};
 use crate::parts::{part_follows, rule_follows};
+use crate::stops::{conds_stop, disj_stop, is_stop};
 use evidence_lines::{Line, LineKind};
 use guard_syntax::{Disj, Part, Verdict};
 use rule_names::Piece;
@@ -24,7 +25,7 @@ use std::alloc::{AllocError, Global};
 /// lines alone.
 pub(crate) fn verdict_follows(
     alloc: Global,
-    ground: &Ground<'_, '_, '_>,
+    context: &LineContext<'_, '_, '_>,
     new: bool,
     frame: u64,
     site: u32,
@@ -32,25 +33,25 @@ pub(crate) fn verdict_follows(
     cites: &[u64],
     verdict: Verdict,
 ) -> Result<bool, AllocError>
-    requires new { kind ≡ LineKind.Rule → MatchBool new (IsNewRule (known_of ground.now) (lines_of ground.now) site) (IsNewRule (known_of ground.now) (lines_of ground.now) site → ⊥) }
+    requires new { kind ≡ LineKind.Rule → MatchBool new (IsNewRule (known_of context.now) (lines_of context.now) site) (IsNewRule (known_of context.now) (lines_of context.now) site → ⊥) }
     ensures { IfOk result (λ follows. MatchBool follows
-        (FollowsVerdict (known_of ground.now) (lines_of ground.now) frame site kind (piece_at (file_in ground.now) site) cites.now verdict)
-        (FollowsVerdict (known_of ground.now) (lines_of ground.now) frame site kind (piece_at (file_in ground.now) site) cites.now verdict → ⊥)) }
+        (FollowsVerdict (version_of context.now) (known_of context.now) (lines_of context.now) frame site kind (piece_at (file_in context.now) site) cites.now verdict)
+        (FollowsVerdict (version_of context.now) (known_of context.now) (lines_of context.now) frame site kind (piece_at (file_in context.now) site) cites.now verdict → ⊥)) }
 {
-    let Some(piece) = ground.store.file.find(site) else {
+    let Some(piece) = context.store.file.find(site) else {
         return Ok(false);
     };
     match kind {
-        LineKind::Rule => Ok(rule_line_follows(ground, new, frame, site, piece, cites, verdict)),
-        LineKind::Conj => Ok(conj_line_follows(ground, frame, site, piece, cites, verdict)),
-        LineKind::Disj => Ok(disj_line_follows(ground, frame, site, piece, cites, verdict)),
-        _ => part_line_follows(alloc, ground, frame, site, kind, piece, cites, verdict),
+        LineKind::Rule => Ok(rule_line_follows(context, new, frame, site, piece, cites, verdict)),
+        LineKind::Conj => Ok(conj_line_follows(context, frame, site, piece, cites, verdict)),
+        LineKind::Disj => Ok(disj_line_follows(context, frame, site, piece, cites, verdict)),
+        _ => part_line_follows(alloc, context, frame, site, kind, piece, cites, verdict),
     }
 }
 
 /// Whether a `rule` line follows: of a rule, or of the parts outside rules, which have the file's site.
 fn rule_line_follows(
-    ground: &Ground<'_, '_, '_>,
+    context: &LineContext<'_, '_, '_>,
     new: bool,
     frame: u64,
     site: u32,
@@ -58,21 +59,21 @@ fn rule_line_follows(
     cites: &[u64],
     verdict: Verdict,
 ) -> bool
-    requires new { MatchBool new (IsNewRule (known_of ground.now) (lines_of ground.now) site) (IsNewRule (known_of ground.now) (lines_of ground.now) site → ⊥) }
+    requires new { MatchBool new (IsNewRule (known_of context.now) (lines_of context.now) site) (IsNewRule (known_of context.now) (lines_of context.now) site → ⊥) }
     ensures { MatchBool result
-        (FollowsVerdict (known_of ground.now) (lines_of ground.now) frame site kind.Rule (Some (see_piece piece.entry)) cites.now verdict)
-        (FollowsVerdict (known_of ground.now) (lines_of ground.now) frame site kind.Rule (Some (see_piece piece.entry)) cites.now verdict → ⊥) }
+        (FollowsVerdict (version_of context.now) (known_of context.now) (lines_of context.now) frame site kind.Rule (Some (see_piece piece.entry)) cites.now verdict)
+        (FollowsVerdict (version_of context.now) (known_of context.now) (lines_of context.now) frame site kind.Rule (Some (see_piece piece.entry)) cites.now verdict → ⊥) }
 {
     match piece {
-        Piece::Rule(rule) => rule_follows(ground, new, frame, site, rule, cites, verdict),
-        Piece::File => file_rule_follows(ground, new, frame, site, cites, verdict),
+        Piece::Rule(rule) => rule_follows(context, new, frame, site, rule, cites, verdict),
+        Piece::File => file_rule_follows(context, new, frame, site, cites, verdict),
         _ => false,
     }
 }
 
 /// Whether a `conj` line follows: of a body, of conditions, or of the parts outside rules.
 fn conj_line_follows(
-    ground: &Ground<'_, '_, '_>,
+    context: &LineContext<'_, '_, '_>,
     frame: u64,
     site: u32,
     piece: Piece<'_>,
@@ -80,20 +81,30 @@ fn conj_line_follows(
     verdict: Verdict,
 ) -> bool
     ensures { MatchBool result
-        (FollowsVerdict (known_of ground.now) (lines_of ground.now) frame site kind.Conj (Some (see_piece piece.entry)) cites.now verdict)
-        (FollowsVerdict (known_of ground.now) (lines_of ground.now) frame site kind.Conj (Some (see_piece piece.entry)) cites.now verdict → ⊥) }
+        (FollowsVerdict (version_of context.now) (known_of context.now) (lines_of context.now) frame site kind.Conj (Some (see_piece piece.entry)) cites.now verdict)
+        (FollowsVerdict (version_of context.now) (known_of context.now) (lines_of context.now) frame site kind.Conj (Some (see_piece piece.entry)) cites.now verdict → ⊥) }
 {
     match piece {
-        Piece::Body(body) => conj_follows(ground, frame, &body.parts, cites, verdict),
-        Piece::Conds(conds) => conj_follows(ground, frame, &conds.parts, cites, verdict),
-        Piece::File => conj_follows(ground, frame, &ground.store.file.raw.loose, cites, verdict),
+        Piece::Body(body) => conj_follows(context, frame, None, &body.parts, cites, verdict),
+        Piece::Conds(conds) => {
+            let stop = conds_stop(context.version);
+            conj_follows(context, frame, stop, &conds.parts, cites, verdict)
+        }
+        Piece::File => conj_follows(
+            context,
+            frame,
+            None,
+            &context.store.file.raw.loose,
+            cites,
+            verdict,
+        ),
         _ => false,
     }
 }
 
 /// Whether a `disj` line follows.
 fn disj_line_follows(
-    ground: &Ground<'_, '_, '_>,
+    context: &LineContext<'_, '_, '_>,
     frame: u64,
     site: u32,
     piece: Piece<'_>,
@@ -101,11 +112,11 @@ fn disj_line_follows(
     verdict: Verdict,
 ) -> bool
     ensures { MatchBool result
-        (FollowsVerdict (known_of ground.now) (lines_of ground.now) frame site kind.Disj (Some (see_piece piece.entry)) cites.now verdict)
-        (FollowsVerdict (known_of ground.now) (lines_of ground.now) frame site kind.Disj (Some (see_piece piece.entry)) cites.now verdict → ⊥) }
+        (FollowsVerdict (version_of context.now) (known_of context.now) (lines_of context.now) frame site kind.Disj (Some (see_piece piece.entry)) cites.now verdict)
+        (FollowsVerdict (version_of context.now) (known_of context.now) (lines_of context.now) frame site kind.Disj (Some (see_piece piece.entry)) cites.now verdict → ⊥) }
 {
     match piece {
-        Piece::Disj(disj) => disj_follows(ground, frame, disj, cites, verdict),
+        Piece::Disj(disj) => disj_follows(context, frame, disj, cites, verdict),
         _ => false,
     }
 }
@@ -113,7 +124,7 @@ fn disj_line_follows(
 /// Whether a line of any other kind follows, which is of a part.
 fn part_line_follows(
     alloc: Global,
-    ground: &Ground<'_, '_, '_>,
+    context: &LineContext<'_, '_, '_>,
     frame: u64,
     site: u32,
     kind: LineKind,
@@ -125,12 +136,12 @@ fn part_line_follows(
     requires conj { kind ≡ LineKind.Conj → ⊥ }
     requires disj { kind ≡ LineKind.Disj → ⊥ }
     ensures { IfOk result (λ follows. MatchBool follows
-        (FollowsVerdict (known_of ground.now) (lines_of ground.now) frame site kind (Some (see_piece piece.entry)) cites.now verdict)
-        (FollowsVerdict (known_of ground.now) (lines_of ground.now) frame site kind (Some (see_piece piece.entry)) cites.now verdict → ⊥)) }
+        (FollowsVerdict (version_of context.now) (known_of context.now) (lines_of context.now) frame site kind (Some (see_piece piece.entry)) cites.now verdict)
+        (FollowsVerdict (version_of context.now) (known_of context.now) (lines_of context.now) frame site kind (Some (see_piece piece.entry)) cites.now verdict → ⊥)) }
 {
     match piece {
         Piece::Part(part) => {
-            part_follows(alloc, ground, frame, site, kind, part, cites, verdict)
+            part_follows(alloc, context, frame, site, kind, part, cites, verdict)
         }
         _ => Ok(false),
     }
@@ -138,94 +149,102 @@ fn part_line_follows(
 
 /// Whether the `rule` line of the parts outside rules follows: it is the first of its site, in the frame of the file.
 fn file_rule_follows(
-    ground: &Ground<'_, '_, '_>,
+    context: &LineContext<'_, '_, '_>,
     new: bool,
     frame: u64,
     site: u32,
     cites: &[u64],
     verdict: Verdict,
 ) -> bool
-    requires new { MatchBool new (IsNewRule (known_of ground.now) (lines_of ground.now) site) (IsNewRule (known_of ground.now) (lines_of ground.now) site → ⊥) }
+    requires new { MatchBool new (IsNewRule (known_of context.now) (lines_of context.now) site) (IsNewRule (known_of context.now) (lines_of context.now) site → ⊥) }
     ensures { MatchBool result
-        (FollowsVerdict (known_of ground.now) (lines_of ground.now) frame site kind.Rule (Some OfFile) cites.now verdict)
-        (FollowsVerdict (known_of ground.now) (lines_of ground.now) frame site kind.Rule (Some OfFile) cites.now verdict → ⊥) }
+        (FollowsVerdict (version_of context.now) (known_of context.now) (lines_of context.now) frame site kind.Rule (Some OfFile) cites.now verdict)
+        (FollowsVerdict (version_of context.now) (known_of context.now) (lines_of context.now) frame site kind.Rule (Some OfFile) cites.now verdict → ⊥) }
 {
     if !new {
         return false;
     }
-    if !is_file_frame(ground, frame) {
+    if !is_file_frame(context, frame) {
         return false;
     }
-    loose_follows(ground, frame, cites, verdict)
+    loose_follows(context, frame, cites, verdict)
 }
 
 /// Whether a frame is a `file` line.
-fn is_file_frame(ground: &Ground<'_, '_, '_>, frame: u64) -> bool
-    ensures { MatchBool result (IsFileFrame (known_of ground.now) (lines_of ground.now) frame) (IsFileFrame (known_of ground.now) (lines_of ground.now) frame → ⊥) }
+fn is_file_frame(context: &LineContext<'_, '_, '_>, frame: u64) -> bool
+    ensures { MatchBool result (IsFileFrame (known_of context.now) (lines_of context.now) frame) (IsFileFrame (known_of context.now) (lines_of context.now) frame → ⊥) }
 {
-    match line_of(ground.lines, frame) {
+    match line_of(context.lines, frame) {
         Some(line) => line.kind == LineKind::File,
         None => false,
     }
 }
 
 /// Whether a line of the parts outside rules has the verdict of their conjunction, which it cites.
-fn loose_follows(ground: &Ground<'_, '_, '_>, frame: u64, cites: &[u64], verdict: Verdict) -> bool
+fn loose_follows(
+    context: &LineContext<'_, '_, '_>,
+    frame: u64,
+    cites: &[u64],
+    verdict: Verdict,
+) -> bool
     ensures { MatchBool result
-        (FollowsLoose (known_of ground.now) (lines_of ground.now) frame (file_in ground.now).loose cites.now verdict)
-        (FollowsLoose (known_of ground.now) (lines_of ground.now) frame (file_in ground.now).loose cites.now verdict → ⊥) }
+        (FollowsLoose (known_of context.now) (lines_of context.now) frame (file_in context.now).loose cites.now verdict)
+        (FollowsLoose (known_of context.now) (lines_of context.now) frame (file_in context.now).loose cites.now verdict → ⊥) }
 {
     match cites {
         [cite] => {
-            !ground.store.file.raw.loose.is_empty() && is_said(ground, *cite, frame, verdict)
+            !context.store.file.raw.loose.is_empty() && is_said(context, *cite, frame, verdict)
         }
         _ => false,
     }
 }
 
 /// Whether the `conj` line of the parts outside rules says a verdict.
-fn is_said(ground: &Ground<'_, '_, '_>, number: u64, frame: u64, verdict: Verdict) -> bool
+fn is_said(context: &LineContext<'_, '_, '_>, number: u64, frame: u64, verdict: Verdict) -> bool
     ensures { MatchBool result
-        (IsLine (lines_of ground.now) number kind.Conj frame 0 (says.Verdict verdict))
-        (IsLine (lines_of ground.now) number kind.Conj frame 0 (says.Verdict verdict) → ⊥) }
+        (IsLine (lines_of context.now) number kind.Conj frame 0 (says.Verdict verdict))
+        (IsLine (lines_of context.now) number kind.Conj frame 0 (says.Verdict verdict) → ⊥) }
 {
-    match verdict_said(ground.lines, number, LineKind::Conj, frame, 0) {
+    match verdict_said(context.lines, number, LineKind::Conj, frame, 0) {
         Some(said) => said == verdict,
         None => false,
     }
 }
 
-/// Whether a verdict is the conjunction of what cited lines say of disjunctions.
+/// Whether a verdict is the conjunction of what cited lines say of disjunctions, up to the one that decides.
 fn conj_follows(
-    ground: &Ground<'_, '_, '_>,
+    context: &LineContext<'_, '_, '_>,
     frame: u64,
+    stop: Option<Verdict>,
     disjs: &[Disj],
     cites: &[u64],
     verdict: Verdict,
 ) -> bool
     ensures { MatchBool result
-        (FollowsConj (known_of ground.now) (lines_of ground.now) frame (disj_list (map see_disj disjs.now)) cites.now verdict)
-        (FollowsConj (known_of ground.now) (lines_of ground.now) frame (disj_list (map see_disj disjs.now)) cites.now verdict → ⊥) }
+        (FollowsConj (known_of context.now) (lines_of context.now) frame stop (disj_list (map see_disj disjs.now)) cites.now verdict)
+        (FollowsConj (known_of context.now) (lines_of context.now) frame stop (disj_list (map see_disj disjs.now)) cites.now verdict → ⊥) }
 {
-    match conjunction_said(ground, frame, disjs, cites) {
+    match conjunction_said(context, frame, stop, disjs, cites) {
         Some(said) => is_same(said, verdict),
         None => false,
     }
 }
 
-/// Whether a verdict is the disjunction of what cited lines say of the parts of a disjunction.
+/// Whether a verdict is the disjunction of what cited lines say of the parts of a disjunction, up to the one that decides
+/// where evidence of this version stops there.
 fn disj_follows(
-    ground: &Ground<'_, '_, '_>,
+    context: &LineContext<'_, '_, '_>,
     frame: u64,
     disj: &Disj,
     cites: &[u64],
     verdict: Verdict,
 ) -> bool
     ensures { MatchBool result
-        (FollowsDisj (known_of ground.now) (lines_of ground.now) frame (see_disj disj.now) cites.now verdict)
-        (FollowsDisj (known_of ground.now) (lines_of ground.now) frame (see_disj disj.now) cites.now verdict → ⊥) }
+        (FollowsDisj (known_of context.now) (lines_of context.now) frame (disj_stop (version_of context.now)) (see_disj disj.now) cites.now verdict)
+        (FollowsDisj (known_of context.now) (lines_of context.now) frame (disj_stop (version_of context.now)) (see_disj disj.now) cites.now verdict → ⊥) }
 {
-    match disjunction_said(ground, frame, &disj.parts, cites) {
+    let stop = disj_stop(context.version);
+    match disjunction_said(context, frame, stop, &disj.parts, cites) {
         Some(said) => is_same(said, verdict),
         None => false,
     }
@@ -238,62 +257,80 @@ fn is_same(said: Verdict, verdict: Verdict) -> bool
     said == verdict
 }
 
-/// The conjunction of what cited lines say of disjunctions, one line for each.
+/// The conjunction of what cited lines say of disjunctions, one line for each up to the one that decides.
 fn conjunction_said(
-    ground: &Ground<'_, '_, '_>,
+    context: &LineContext<'_, '_, '_>,
     frame: u64,
+    stop: Option<Verdict>,
     disjs: &[Disj],
     cites: &[u64],
 ) -> Option<Verdict>
     ensures { MatchOption result
-        ((verdicts : List Verdict) → SayDisjs (known_of ground.now) (lines_of ground.now) frame (disj_list (map see_disj disjs.now)) cites.now verdicts → ⊥)
-        (λ verdict. (verdicts : List Verdict) × SayDisjs (known_of ground.now) (lines_of ground.now) frame (disj_list (map see_disj disjs.now)) cites.now verdicts × (verdict ≡ conjunction verdicts)) }
+        ((verdicts : List Verdict) → SayDisjs (known_of context.now) (lines_of context.now) frame stop (disj_list (map see_disj disjs.now)) cites.now verdicts → ⊥)
+        (λ verdict. (verdicts : List Verdict) × SayDisjs (known_of context.now) (lines_of context.now) frame stop (disj_list (map see_disj disjs.now)) cites.now verdicts × (verdict ≡ conjunction verdicts)) }
 {
     let mut verdict = Verdict::Skip;
     let mut left = cites;
     for disj in disjs {
         let (cite, others) = left.split_first()?;
-        let said = verdict_said(ground.lines, *cite, LineKind::Disj, frame, disj.site)?;
+        let said = verdict_said(context.lines, *cite, LineKind::Disj, frame, disj.site)?;
         verdict = both(verdict, said);
         left = others;
+        if is_stop(stop, said) {
+            return at_end(left, verdict);
+        }
     }
-    if left.is_empty() { Some(verdict) } else { None }
+    at_end(left, verdict)
 }
 
-/// The disjunction of what cited lines say of parts, one line for each.
+/// The disjunction of what cited lines say of parts, one line for each up to the one that decides.
 fn disjunction_said(
-    ground: &Ground<'_, '_, '_>,
+    context: &LineContext<'_, '_, '_>,
     frame: u64,
+    stop: Option<Verdict>,
     parts: &[Part],
     cites: &[u64],
 ) -> Option<Verdict>
     ensures { MatchOption result
-        ((verdicts : List Verdict) → SayParts (known_of ground.now) (lines_of ground.now) frame (part_list (map see_part parts.now)) cites.now verdicts → ⊥)
-        (λ verdict. (verdicts : List Verdict) × SayParts (known_of ground.now) (lines_of ground.now) frame (part_list (map see_part parts.now)) cites.now verdicts × (verdict ≡ disjunction verdicts)) }
+        ((verdicts : List Verdict) → SayParts (known_of context.now) (lines_of context.now) frame stop (part_list (map see_part parts.now)) cites.now verdicts → ⊥)
+        (λ verdict. (verdicts : List Verdict) × SayParts (known_of context.now) (lines_of context.now) frame stop (part_list (map see_part parts.now)) cites.now verdicts × (verdict ≡ disjunction verdicts)) }
 {
     let mut verdict = Verdict::Skip;
     let mut left = cites;
     for part in parts {
         let (cite, others) = left.split_first()?;
-        let said = said_of_part(ground, *cite, frame, part)?;
+        let said = said_of_part(context, *cite, frame, part)?;
         verdict = either(verdict, said);
         left = others;
+        if is_stop(stop, said) {
+            return at_end(left, verdict);
+        }
     }
-    if left.is_empty() { Some(verdict) } else { None }
+    at_end(left, verdict)
+}
+
+/// The verdict, where no cite is left.
+fn at_end(left: &[u64], verdict: Verdict) -> Option<Verdict>
+    ensures { MatchOption result (left.now ≡ [] → ⊥) (λ said. (left.now ≡ []) × (said ≡ verdict)) }
+{
+    match left {
+        [] => Some(verdict),
+        _ => None,
+    }
 }
 
 /// The verdict that the line of a number says of a part, where it is of the part's kind.
 fn said_of_part(
-    ground: &Ground<'_, '_, '_>,
+    context: &LineContext<'_, '_, '_>,
     number: u64,
     frame: u64,
     part: &Part,
 ) -> Option<Verdict>
     ensures { MatchOption result
-        ((verdict : Verdict) → SaysVerdict (known_of ground.now) (lines_of ground.now) (kind_of_part (known_of ground.now) (lines_of ground.now) (see_part part.now)) frame (part_site (see_part part.now)) number verdict → ⊥)
-        (λ verdict. SaysVerdict (known_of ground.now) (lines_of ground.now) (kind_of_part (known_of ground.now) (lines_of ground.now) (see_part part.now)) frame (part_site (see_part part.now)) number verdict) }
+        ((verdict : Verdict) → SaysVerdict (known_of context.now) (lines_of context.now) (kind_of_part (known_of context.now) (lines_of context.now) (see_part part.now)) frame (part_site (see_part part.now)) number verdict → ⊥)
+        (λ verdict. SaysVerdict (known_of context.now) (lines_of context.now) (kind_of_part (known_of context.now) (lines_of context.now) (see_part part.now)) frame (part_site (see_part part.now)) number verdict) }
 {
-    let lines = ground.lines;
+    let lines = context.lines;
     match part {
         Part::Block { site, .. } => verdict_said(lines, number, LineKind::Block, frame, *site),
         Part::When { site, .. } => verdict_said(lines, number, LineKind::When, frame, *site),

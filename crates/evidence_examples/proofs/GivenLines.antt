@@ -8,7 +8,7 @@ use Rattle.evidence_lines.specs.Lines.{line_of}
 use Rattle.evidence_lines.specs.declared.line.Line.{Line}
 use Rattle.evidence_lines.specs.declared.line.LineKind.{LineKind}
 use Rattle.evidence_lines.specs.declared.line.LineKind.TheVariants as kind
-use Rattle.rule_meaning.specs.Known.{Known}
+use Rattle.rule_meaning.specs.StoreModel.{StoreModel}
 use Rattle.evidence_rules.specs.CitedLines.{IsLine}
 use Rattle.evidence_rules.specs.Follows.{IsNewRule}
 use Rattle.evidence_rules.proofs.LinesBehind.{behind-first}
@@ -41,7 +41,7 @@ abbrev pub IsNoRule : ℕ → Line → Type 0
 IsNoRule n l = is_rule l.kind ≡ false
 
 -- where no line is that of a rule, any rule is new
-pub new-rule : (known : Known) (ls : List Line) → Each IsNoRule ls → (site : ℕ) → IsNewRule known ls site
+pub new-rule : (known : StoreModel) (ls : List Line) → Each IsNoRule ls → (site : ℕ) → IsNewRule known ls site
 new-rule known ls none site number frame outcome is =
     let other = each-line IsNoRule ls none number is.line is.stands in
     true≢false (sym (ap is_rule is.kind_is) ∙ other.2)
@@ -50,7 +50,7 @@ new-rule known ls none site number frame outcome is =
 abbrev pub IsOtherRule : ℕ → ℕ → Line → Type 0
 IsOtherRule site n l = is_rule l.kind && option_map_or (λ (s : ℕ). s == site) l.site false ≡ false
 
-pub new-site : (known : Known) (ls : List Line) (site : ℕ) → Each (IsOtherRule site) ls → IsNewRule known ls site
+pub new-site : (known : StoreModel) (ls : List Line) (site : ℕ) → Each (IsOtherRule site) ls → IsNewRule known ls site
 new-site known ls site others number frame outcome is =
     let other = each-line (IsOtherRule site) ls others number is.line is.stands in
     let same : is_rule is.line.kind && option_map_or (λ (s : ℕ). s == site) is.line.site false ≡ (site == site) =

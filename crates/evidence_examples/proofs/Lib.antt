@@ -1,5 +1,6 @@
 mod AcceptedExample
 mod CalledExample
+mod DecidedExample
 mod GivenLines
 mod KindsExample
 mod RememberedExample

@@ -3,7 +3,9 @@
 use Rattle.std.proofs.Common.{◌≡◌, ℕ, zero, suc, ◌==◌, Contains, arith, refl, subst, inl, inr, [], ◌∷◌, Option, unwrap_or, codes, if◌then◌else◌}
 use Rattle.evidence_lines.specs.declared.line.LineKind.{LineKind}
 use Rattle.evidence_lines.specs.declared.line.LineKind.TheVariants as kind
-use Rattle.guard_syntax.specs.Syntax.{File, Rule, Step, Disj, key}
+use Rattle.evidence_lines.specs.declared.version.Version.{Version}
+use Rattle.evidence_lines.specs.declared.version.Version.TheVariants.{One, Two}
+use Rattle.guard_syntax.specs.Syntax.{Rule, key}
 use Rattle.guard_syntax.specs.declared.row.Verdict.TheVariants.{Pass}
 use Rattle.rule_names.specs.declared.bind.Bind.TheVariants as bound
 use Rattle.rule_names.specs.Pieces.{AreInOrder}
@@ -19,56 +21,60 @@ ordered = refl
 
 -- ---- they are accepted
 
-follows_1 : Follows known [] file_line []
-follows_1 =
+follows_1 : (version : Version) → Follows version known [] file_line []
+follows_1 version =
     inl ((refl, refl, refl, refl, refl), refl)
 
-follows_2 : Follows known one_lines line_2 []
-follows_2 =
+follows_2 : (version : Version) → Follows version known one_lines line_2 []
+follows_2 version =
     inr (1, 3, refl, refl, refl, ((node 0, [], [], [], [], refl, refl, (refl, refl), (refl, refl), refl), refl))
 
-follows_3 : Follows known two_lines line_3 []
-follows_3 =
+follows_3 : (version : Version) → Follows version known two_lines line_3 []
+follows_3 version =
     inr (1, 5, refl, refl, refl, (refl, inl ((rule, (0, omega arith, refl), refl, refl), refl), refl))
 
-follows_4 : Follows known three_lines line_4 []
-follows_4 =
+follows_4 : (version : Version) → Follows version known three_lines line_4 []
+follows_4 version =
     let at_2 = is-line three_lines 2 line_2 1 3 refl refl refl in
     inr (3, 9, refl, refl, refl, ((node 0, [], 2 ∷ [], [], rows 1, refl, refl, (refl, refl), (bound.Value 1 2, refl, (1, refl, (key_a, refl, at_2))), refl), refl))
 
-follows_5 : Follows known four_lines line_5 []
-follows_5 =
+follows_5 : (version : Version) → Follows version known four_lines line_5 []
+follows_5 version =
     let at_4 = is-line four_lines 4 line_4 3 9 refl refl refl in
     inr (3, 10, refl, refl, refl, ((node 0, 4 ∷ [], [], rows 1, [], refl, refl, (start 9, refl, at_4), (refl, refl), refl), refl))
 
-follows_6 : Follows known five_lines line_6 []
-follows_6 =
+follows_6 : (version : Version) → Follows version known five_lines line_6 []
+follows_6 version =
     inr (3, 7, refl, refl, refl, ((rows 2, [], (key 10 (codes "b"), refl, is-line five_lines 5 line_5 3 10 refl refl refl), refl, refl), refl))
 
-follows_7 : Follows known six_lines line_7 []
-follows_7 =
+follows_7 : (version : Version) → Follows version known six_lines line_7 []
+follows_7 One =
     inr (3, 6, refl, refl, refl, ((Pass ∷ [], (is-line six_lines 6 line_6 3 7 refl refl refl, tt), refl), refl))
+follows_7 Two =
+    inr (3, 6, refl, refl, refl, ((Pass ∷ [], (is-line six_lines 6 line_6 3 7 refl refl refl, (refl, refl)), refl), refl))
 
-follows_8 : Follows known seven_lines line_8 []
-follows_8 =
+follows_8 : (version : Version) → Follows version known seven_lines line_8 []
+follows_8 version =
     let at_2 = is-line seven_lines 2 line_2 1 3 refl refl refl in
     inr (3, 14, refl, refl, refl, ((node 0, [], 2 ∷ [], [], rows 1, refl, refl, (refl, refl), (bound.Value 1 2, refl, (1, refl, (key_a, refl, at_2))), refl), refl))
 
-follows_9 : Follows known eight_lines line_9 []
-follows_9 =
+follows_9 : (version : Version) → Follows version known eight_lines line_9 []
+follows_9 version =
     let at_8 = is-line eight_lines 8 line_8 3 14 refl refl refl in
     inr (3, 15, refl, refl, refl, ((node 0, 8 ∷ [], [], rows 1, [], refl, refl, (start 14, refl, at_8), (refl, refl), refl), refl))
 
-follows_10 : Follows known nine_lines line_10 []
-follows_10 =
+follows_10 : (version : Version) → Follows version known nine_lines line_10 []
+follows_10 version =
     inr (3, 12, refl, refl, refl, ((rows 3, [], (key 15 (codes "c"), refl, is-line nine_lines 9 line_9 3 15 refl refl refl), refl, refl), refl))
 
-follows_11 : Follows known ten_lines line_11 []
-follows_11 =
+follows_11 : (version : Version) → Follows version known ten_lines line_11 []
+follows_11 One =
     inr (3, 11, refl, refl, refl, ((Pass ∷ [], (is-line ten_lines 10 line_10 3 12 refl refl refl, tt), refl), refl))
+follows_11 Two =
+    inr (3, 11, refl, refl, refl, ((Pass ∷ [], (is-line ten_lines 10 line_10 3 12 refl refl refl, (refl, refl)), refl), refl))
 
-follows_12 : Follows known eleven_lines line_12 []
-follows_12 =
+follows_12 : (version : Version) → Follows version known eleven_lines line_12 []
+follows_12 version =
     let at_7 = is-line eleven_lines 7 line_7 3 6 refl refl refl in
     let at_11 = is-line eleven_lines 11 line_11 3 11 refl refl refl in
     inr (3, 5, refl, refl, refl, ((Pass ∷ Pass ∷ [], (at_7, (at_11, tt)), refl), refl))
@@ -76,44 +82,44 @@ follows_12 =
 no-rule : Each IsNoRule twelve_lines
 no-rule = (refl, (refl, (refl, (refl, (refl, (refl, (refl, (refl, (refl, (refl, (refl, (refl, tt))))))))))))
 
-follows_13 : Follows known twelve_lines line_13 []
-follows_13 =
+follows_13 : (version : Version) → Follows version known twelve_lines line_13 []
+follows_13 version =
     let at_3 = is-line twelve_lines 3 line_3 1 5 refl refl refl in
     let at_12 = is-line twelve_lines 12 line_12 3 5 refl refl refl in
     inr (1, 4, refl, refl, refl, (((file_line, refl, refl), new-rule known twelve_lines no-rule 4, (refl, (node 0, (3, at_3, at_12)))), refl))
 
-pub all_follow : AllFollow known [] all_lines
-all_follow = (
+pub all_follow : (version : Version) → AllFollow version known [] all_lines
+all_follow version = (
   [],
-  follows_1,
+  follows_1 version,
   (
     [],
-    follows_2,
+    follows_2 version,
     (
       [],
-      follows_3,
+      follows_3 version,
       (
         [],
-        follows_4,
+        follows_4 version,
         (
           [],
-          follows_5,
+          follows_5 version,
           (
             [],
-            follows_6,
+            follows_6 version,
             (
               [],
-              follows_7,
+              follows_7 version,
               (
                 [],
-                follows_8,
+                follows_8 version,
                 (
                   [],
-                  follows_9,
+                  follows_9 version,
                   (
                     [],
-                    follows_10,
-                    ([], follows_11, ([], follows_12, ([], follows_13, tt))),
+                    follows_10 version,
+                    ([], follows_11 version, ([], follows_12 version, ([], follows_13 version, tt))),
                   ),
                 ),
               ),
@@ -130,8 +136,8 @@ judged : (r : Rule) → Contains (rule ∷ []) r → r.params ≡ [] → IsJudge
 judged r (zero, within, is) plain = subst (λ (q : Rule). IsJudged all_lines q.site) is (13, 1, Pass, is-line all_lines 13 line_13 1 4 refl refl refl)
 judged r (suc k, within, is) plain = absurd (omega (arith, within))
 
-pub accepted : Accepts template file all_lines
-accepted = record { follow = all_follow; rules = judged; loose = tt }
+pub accepted : (version : Version) → Accepts version template file all_lines
+accepted version = record { follow = all_follow version; rules = judged; loose = tt }
 
 -- ---- they are lean
 

@@ -9,7 +9,7 @@ use Rattle.guard_syntax.specs.Syntax.{File, Rule, Body, Query, body, no_lets, no
 use Rattle.guard_syntax.specs.declared.syntax.Op.TheVariants as op
 use Rattle.guard_syntax.specs.declared.row.Row.TheVariants.{Found, Missing}
 use Rattle.guard_syntax.specs.declared.row.Verdict.TheVariants.{Pass, Fail}
-use Rattle.rule_meaning.specs.Known.{Known}
+use Rattle.rule_meaning.specs.StoreModel.{StoreModel}
 use Rattle.evidence_rules.specs.Follows.{nothing_made}
 use Rattle.evidence_examples.specs.GivenLines.{entry, node, said, file_line}
 
@@ -72,7 +72,7 @@ six_lines = file_line ∷ line_2 ∷ line_3 ∷ line_4 ∷ line_5 ∷ line_6 ∷
 abbrev pub all_lines : List Line
 all_lines = file_line ∷ line_2 ∷ line_3 ∷ line_4 ∷ line_5 ∷ line_6 ∷ line_7 ∷ line_8 ∷ line_9 ∷ line_10 ∷ []
 
-abbrev pub known : Known
+abbrev pub known : StoreModel
 known = nothing_made template file
 
 abbrev pub passes_line : Line

@@ -1,3 +1,4 @@
+pub mod DecidedCondition
 pub mod FailingRule
 pub mod GivenLines
 pub mod OneCall

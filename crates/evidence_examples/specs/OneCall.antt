@@ -11,7 +11,7 @@ use Rattle.guard_syntax.specs.declared.row.Origin.TheVariants as origin
 use Rattle.guard_syntax.specs.declared.row.Row.{Row}
 use Rattle.guard_syntax.specs.declared.row.Row.TheVariants.{Found}
 use Rattle.guard_syntax.specs.declared.row.Verdict.TheVariants.{Pass}
-use Rattle.rule_meaning.specs.Known.{Known}
+use Rattle.rule_meaning.specs.StoreModel.{StoreModel}
 use Rattle.evidence_rules.specs.Follows.{nothing_made}
 use Rattle.evidence_examples.specs.GivenLines.{entry, node, said, file_line}
 
@@ -62,7 +62,7 @@ file = record {
   places = 0 ∷ 0 ∷ 8 ∷ 13 ∷ 13 ∷ 15 ∷ 31 ∷ 33 ∷ 33 ∷ 33 ∷ 33 ∷ 35 ∷ 48 ∷ 55 ∷ 57 ∷ 57 ∷ 62 ∷ 62 ∷ 66 ∷ [];
 }
 
-abbrev pub known : Known
+abbrev pub known : StoreModel
 known = nothing_made template file
 
 -- ---- the lines

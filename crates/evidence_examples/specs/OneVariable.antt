@@ -10,7 +10,7 @@ use Rattle.guard_syntax.specs.declared.syntax.Op.TheVariants as op
 use Rattle.guard_syntax.specs.declared.row.Row.{Row}
 use Rattle.guard_syntax.specs.declared.row.Row.TheVariants.{Found}
 use Rattle.guard_syntax.specs.declared.row.Verdict.TheVariants.{Pass}
-use Rattle.rule_meaning.specs.Known.{Known}
+use Rattle.rule_meaning.specs.StoreModel.{StoreModel}
 use Rattle.evidence_rules.specs.Follows.{nothing_made}
 use Rattle.evidence_examples.specs.GivenLines.{entry, node, said, file_line}
 
@@ -54,7 +54,7 @@ file = record {
   places = 0 ∷ 0 ∷ 8 ∷ 8 ∷ 10 ∷ 17 ∷ 19 ∷ 19 ∷ 19 ∷ 19 ∷ 21 ∷ 31 ∷ 31 ∷ 31 ∷ 31 ∷ 33 ∷ [];
 }
 
-abbrev pub known : Known
+abbrev pub known : StoreModel
 known = nothing_made template file
 
 -- ---- the lines

@@ -22,7 +22,7 @@ use Rattle.guard_syntax.specs.declared.row.Origin.TheVariants as origin
 use Rattle.guard_syntax.specs.declared.row.Row.{Row}
 use Rattle.guard_syntax.specs.declared.row.Row.TheVariants.{Found, Missing}
 use Rattle.guard_syntax.specs.declared.row.Verdict.TheVariants.{Pass, Fail}
-use Rattle.rule_meaning.specs.Known.{Known, Made}
+use Rattle.rule_meaning.specs.StoreModel.{StoreModel, Made}
 use Rattle.rule_meaning.specs.Functions.{whole_tree}
 use Rattle.evidence_rules.specs.Follows.{nothing_made}
 use Rattle.rule_meaning.specs.Seeing.{grown}
@@ -90,13 +90,13 @@ file = record {
 }
 
 -- what is known before the line of the function, and what behind it
-abbrev pub known : Known
+abbrev pub known : StoreModel
 known = nothing_made template file
 
 abbrev pub counted : List Made
 counted = record { line = 42; row = 0; tree = whole_tree (pos 1) } ∷ []
 
-abbrev pub after : Known
+abbrev pub after : StoreModel
 after = grown known counted
 
 -- ---- the lines

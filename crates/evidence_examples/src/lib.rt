@@ -4,11 +4,13 @@
 #![tactic(auto)]
 
 mod called;
+mod decided;
 mod failing;
 mod kinds;
 mod remembered;
 
 pub use called::call_with_parameters;
+pub use decided::decided_condition;
 pub use failing::failing_rule;
 pub use kinds::other_kinds;
 pub use remembered::remembered_variable;

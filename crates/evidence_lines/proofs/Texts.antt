@@ -1,55 +1,65 @@
--- The text of evidence is that of one list of lines, and bytes that are no evidence have one fault.
-use Rattle.std.proofs.Common.{eqb, ◌≡◌, ◌≢◌, ◌⊎◌, ◌+◌, inl, inr, ℕ, Bool, true, false, List, [], ◌∷◌, ◌++◌, Some, None, Result, Ok, Err, All, length, take, drop, refl, sym, ap, ◌∙◌}
+-- The text of evidence is that of one version and one list of lines, and bytes that are no evidence have one fault.
+use Rattle.std.proofs.Common.{eqb, ◌≡◌, ◌≢◌, ◌⊎◌, ◌+◌, inl, inr, ℕ, Bool, true, false, List, [], ◌∷◌, ◌++◌, Some, None, Result, Ok, Err, All, length, get_or, refl, sym, subst, ap, arith, ◌∙◌}
 use Rattle.std.specs.Result.{IfErr, IfOk, MatchResult}
 use Rattle.std.specs.List.{flat_map}
-use Rattle.std.specs.Str.{bytes_eq}
-use Rattle.std.proofs.lemmas.List.{append-nil, append_assoc, append_cancel_left, take-append-drop}
+use Rattle.std.proofs.lemmas.List.{append-nil, append_assoc, append_cancel_left}
 use Rattle.std.proofs.lemmas.List.Concat.{flat_map-append}
 use Rattle.std.proofs.lemmas.List.Elements.{All-nil, All-push, All-head, All-tail}
 use Rattle.std.proofs.lemmas.Bool.{both_ways}
 use Rattle.std.proofs.lemmas.Option.{none-some, some_pair_parts}
-use Rattle.std.proofs.lemmas.Slice.Eq.{bytes_eq-Decides}
+use Rattle.evidence_lines.specs.Headers.{header}
 use Rattle.evidence_lines.specs.Memory.{HasLine}
 use Rattle.evidence_lines.specs.Reading.{cut, line_in}
 use Rattle.evidence_lines.specs.Shapes.{IsInFormat}
 use Rattle.evidence_lines.specs.Spelling.{fields_text, line_text}
-use Rattle.evidence_lines.specs.Text.{FailsBehind, IsEvidence, IsFault, IsRefused, LacksHeader, LacksLine, evidence_text, header}
+use Rattle.evidence_lines.specs.Text.{FailsBehind, IsEvidence, IsFault, IsRefused, LacksHeader, LacksLine, evidence_text}
 use Rattle.evidence_lines.specs.declared.line.Line.{Line}
 use Rattle.evidence_lines.specs.declared.refusal.EvidenceRefusal.{EvidenceRefusal}
 use Rattle.evidence_lines.specs.declared.refusal.EvidenceRefusal.TheVariants.{NoMemory, Syntax}
+use Rattle.evidence_lines.specs.declared.version.Version.{Version}
+use Rattle.evidence_lines.specs.declared.version.Version.TheVariants.{One, Two}
+use Rattle.evidence_lines.specs.Versioned.{Versioned}
 use Rattle.evidence_lines.proofs.Cuts.{cut_some}
 use Rattle.evidence_lines.proofs.Lines.{cut_line, line_is, line_some, lines_apart}
 
 -- ---- the loop over lines
 
--- the lines that were read, and what stands behind them
-pub record HasRead (bytes : List ℕ) (lines : List Line) (rest : List ℕ) : Type 0 where
+-- the lines that were read behind the header of a version, and what stands behind them
+pub record HasRead (bytes : List ℕ) (version : Version) (lines : List Line) (rest : List ℕ) : Type 0 where
   pub in_format : All IsInFormat lines
-  pub text : evidence_text lines ++ rest ≡ bytes
+  pub text : evidence_text version lines ++ rest ≡ bytes
 
-pub begins : (bytes rest : List ℕ) → header ++ rest ≡ bytes → HasRead bytes [] rest
-begins bytes rest e = record { in_format = All-nil IsInFormat; text = e }
+module _ (bytes : List ℕ) (version : Version) where
+  pub begins : (rest : List ℕ) → header version ++ rest ≡ bytes → HasRead bytes version [] rest
+  begins rest e = record { in_format = All-nil IsInFormat; text = ap (λ t. t ++ rest) (append-nil (header version)) ∙ e }
 
-pub goes_on : (bytes rest fields after : List ℕ) (lines : List Line) (l : Line) → HasRead bytes lines rest → cut 10 rest ≡ Some (fields, after)
-    → line_in fields ≡ Some l → HasRead bytes (lines ++ l ∷ []) after
-goes_on bytes rest fields after lines l read is e =
-    let line = line_some fields l e in
-    let parts = cut_some 10 rest fields after is in
-    let whole : line_text l ++ after ≡ rest = append_assoc (fields_text l) (10 ∷ []) after ∙ ap (λ t. t ++ (10 ∷ after)) line.1 ∙ sym parts.0 in
-    let one : flat_map line_text (lines ++ l ∷ []) ≡ flat_map line_text lines ++ line_text l =
-    flat_map-append line_text lines (l ∷ []) ∙ ap (λ t. flat_map line_text lines ++ t) (append-nil (line_text l)) in
-    let more : evidence_text (lines ++ l ∷ []) ++ after ≡ evidence_text lines ++ (line_text l ++ after) =
-    ap (λ t. (header ++ t) ++ after) one ∙ regroup header (flat_map line_text lines) (line_text l) after in
-    record {
-      in_format = All-push IsInFormat lines l read.in_format line.0;
-      text = more ∙ ap (λ t. evidence_text lines ++ t) whole ∙ read.text;
-    }
-  where
-    regroup : (h a b c : List ℕ) → (h ++ (a ++ b)) ++ c ≡ (h ++ a) ++ (b ++ c)
-    regroup h a b c = simp append_assoc
+  pub goes_on : (rest fields after : List ℕ) (lines : List Line) (l : Line) → HasRead bytes version lines rest → cut 10 rest ≡ Some (fields, after)
+      → line_in fields ≡ Some l → HasRead bytes version (lines ++ l ∷ []) after
+  goes_on rest fields after lines l read is e =
+      let line = line_some fields l e in
+      let parts = cut_some 10 rest fields after is in
+      let whole : line_text l ++ after ≡ rest = append_assoc (fields_text l) (10 ∷ []) after ∙ ap (λ t. t ++ (10 ∷ after)) line.1 ∙ sym parts.0 in
+      let one : flat_map line_text (lines ++ l ∷ []) ≡ flat_map line_text lines ++ line_text l =
+      flat_map-append line_text lines (l ∷ []) ∙ ap (λ t. flat_map line_text lines ++ t) (append-nil (line_text l)) in
+      let more : evidence_text version (lines ++ l ∷ []) ++ after ≡ evidence_text version lines ++ (line_text l ++ after) =
+      ap (λ t. (header version ++ t) ++ after) one ∙ regroup (header version) (flat_map line_text lines) (line_text l) after in
+      record {
+        in_format = All-push IsInFormat lines l read.in_format line.0;
+        text = more ∙ ap (λ t. evidence_text version lines ++ t) whole ∙ read.text;
+      }
+    where
+      regroup : (h a b c : List ℕ) → (h ++ (a ++ b)) ++ c ≡ (h ++ a) ++ (b ++ c)
+      regroup h a b c = simp append_assoc
 
-pub ends : (bytes : List ℕ) (lines : List Line) → HasRead bytes lines [] → IsEvidence bytes lines
-ends bytes lines read = record { in_format = read.in_format; text = sym (append-nil (evidence_text lines)) ∙ read.text }
+  pub ends : (lines : List Line) → HasRead bytes version lines [] → IsEvidence bytes version lines
+  ends lines read = record { in_format = read.in_format; text = sym (append-nil (evidence_text version lines)) ∙ read.text }
+
+-- the same where evidence is said to have this version and these lines
+pub ends-as : (bytes : List ℕ) (version : Version) (lines : List Line) (rest : List ℕ) (e : Versioned) → HasRead bytes version lines rest → rest ≡ [] → e.version ≡ version → e.lines ≡ lines
+    → IsEvidence bytes e.version e.lines
+ends-as bytes version lines rest e read none version_is lines_are =
+    subst (λ (v : Version). IsEvidence bytes v e.lines) (sym version_is)
+    (subst (λ (ls : List Line). IsEvidence bytes version ls) (sym lines_are) (ends bytes version lines (subst (λ (r : List ℕ). HasRead bytes version lines r) none read)))
 
 pub some_bytes : (rest : List ℕ) (empty : Bool) → empty ≡ eqb (length rest) 0 → empty ≡ false → rest ≢ []
 some_bytes rest empty is not_empty e =
@@ -67,10 +77,10 @@ lacks_line rest fields behind e none l after format is =
     let same = some_pair_parts fields (fields_text l) behind after cuts in
     none-some _ (sym none ∙ ap line_in same.0 ∙ line_is l format)
 
-pub fails_here : (bytes : List ℕ) (lines : List Line) (rest : List ℕ) (number : ℕ) → HasRead bytes lines rest → number ≡ length lines + 1 → rest ≢ []
+pub fails_here : (bytes : List ℕ) (version : Version) (lines : List Line) (rest : List ℕ) (number : ℕ) → HasRead bytes version lines rest → number ≡ length lines + 1 → rest ≢ []
     → LacksLine rest → IsFault bytes number
-fails_here bytes lines rest number read is remains lacks =
-    inr (record { lines = lines; rest = rest; in_format = read.in_format; text = read.text; number_is = is; remains = remains; fails = lacks })
+fails_here bytes version lines rest number read is remains lacks =
+    inr (record { version = version; lines = lines; rest = rest; in_format = read.in_format; text = read.text; number_is = is; remains = remains; fails = lacks })
 
 -- ---- one list, one fault, and never both
 
@@ -96,36 +106,61 @@ same_lines (l ∷ ls) (m ∷ ms) a b in_ls in_ms lacks_a lacks_b e =
     let rest = same_lines ls ms a b (All-tail IsInFormat l ls in_ls) (All-tail IsInFormat m ms in_ms) lacks_a lacks_b first.1 in
     (ap (λ x. x ∷ ls) first.0 ∙ ap (λ xs. m ∷ xs) rest.0, rest.1)
 
+-- the headers of the versions differ at their sixteenth byte
+apart : (a b : List ℕ) → header One ++ a ≡ header Two ++ b → ⊥
+apart a b e =
+    let bytes : 49 ≡ 50 = ap (λ (t : List ℕ). get_or t 15 0) e in
+    omega (arith, bytes)
+
+same_version : (v w : Version) (a b : List ℕ) → header v ++ a ≡ header w ++ b → v ≡ w
+same_version One One a b e = refl
+same_version One Two a b e = absurd (apart a b e)
+same_version Two One a b e = absurd (apart b a (sym e))
+same_version Two Two a b e = refl
+
 -- behind the header
-behind_header : (ls ms : List Line) (a b : List ℕ) → evidence_text ls ++ a ≡ evidence_text ms ++ b → flat_map line_text ls ++ a ≡ flat_map line_text ms ++ b
-behind_header ls ms a b e =
-    append_cancel_left header (flat_map line_text ls ++ a) (flat_map line_text ms ++ b)
-    (sym (append_assoc header (flat_map line_text ls) a) ∙ e ∙ append_assoc header (flat_map line_text ms) b)
+pub record AreBehind (v w : Version) (ls ms : List Line) (a b : List ℕ) : Type 0 where
+  pub versions : v ≡ w
+  pub behind : flat_map line_text ls ++ a ≡ flat_map line_text ms ++ b
+
+behind_header : (v w : Version) (ls ms : List Line) (a b : List ℕ) → evidence_text v ls ++ a ≡ evidence_text w ms ++ b → AreBehind v w ls ms a b
+behind_header v w ls ms a b e =
+    let whole : header v ++ (flat_map line_text ls ++ a) ≡ header w ++ (flat_map line_text ms ++ b) =
+    sym (append_assoc (header v) (flat_map line_text ls) a) ∙ e ∙ append_assoc (header w) (flat_map line_text ms) b in
+    let same : v ≡ w = same_version v w (flat_map line_text ls ++ a) (flat_map line_text ms ++ b) whole in
+    record {
+      versions = same;
+      behind = append_cancel_left (header w) (flat_map line_text ls ++ a) (flat_map line_text ms ++ b)
+          (ap (λ (x : Version). header x ++ (flat_map line_text ls ++ a)) (sym same) ∙ whole);
+    }
 
 lacks_nothing : LacksLine []
 lacks_nothing l rest format e = line_some_bytes l rest e
 
-pub one_list : (bytes : List ℕ) (ls ms : List Line) → IsEvidence bytes ls → IsEvidence bytes ms → ls ≡ ms
-one_list bytes ls ms p q =
-    let e : evidence_text ls ++ [] ≡ evidence_text ms ++ [] = ap (λ t. t ++ []) (p.text ∙ sym q.text) in
-    (same_lines ls ms [] [] p.in_format q.in_format lacks_nothing lacks_nothing (behind_header ls ms [] [] e)).0
+pub one_list : (bytes : List ℕ) (v w : Version) (ls ms : List Line) → IsEvidence bytes v ls → IsEvidence bytes w ms → (v ≡ w) × (ls ≡ ms)
+one_list bytes v w ls ms p q =
+    let e : evidence_text v ls ++ [] ≡ evidence_text w ms ++ [] = ap (λ t. t ++ []) (p.text ∙ sym q.text) in
+    let same = behind_header v w ls ms [] [] e in
+    (same.versions, (same_lines ls ms [] [] p.in_format q.in_format lacks_nothing lacks_nothing same.behind).0)
 
-pub never_both : (bytes : List ℕ) (ls : List Line) (n : ℕ) → IsEvidence bytes ls → IsFault bytes n → ⊥
-never_both bytes ls n p (inl (is, lacks)) = lacks (flat_map line_text ls) p.text
-never_both bytes ls n p (inr f) =
-    let e : evidence_text f.lines ++ f.rest ≡ evidence_text ls ++ [] = f.text ∙ sym p.text ∙ sym (append-nil (evidence_text ls)) in
-    f.remains (same_lines f.lines ls f.rest [] f.in_format p.in_format f.fails lacks_nothing (behind_header f.lines ls f.rest [] e)).1
+pub never_both : (bytes : List ℕ) (v : Version) (ls : List Line) (n : ℕ) → IsEvidence bytes v ls → IsFault bytes n → ⊥
+never_both bytes v ls n p (inl (is, lacks)) = lacks v (flat_map line_text ls) p.text
+never_both bytes v ls n p (inr f) =
+    let e : evidence_text f.version f.lines ++ f.rest ≡ evidence_text v ls ++ [] = f.text ∙ sym p.text ∙ sym (append-nil (evidence_text v ls)) in
+    let same = behind_header f.version v f.lines ls f.rest [] e in
+    f.remains (same_lines f.lines ls f.rest [] f.in_format p.in_format f.fails lacks_nothing same.behind).1
 
 no_header : (bytes : List ℕ) (n : ℕ) → LacksHeader bytes → FailsBehind bytes n → ⊥
-no_header bytes n lacks f = lacks (flat_map line_text f.lines ++ f.rest) (sym (append_assoc header (flat_map line_text f.lines) f.rest) ∙ f.text)
+no_header bytes n lacks f = lacks f.version (flat_map line_text f.lines ++ f.rest) (sym (append_assoc (header f.version) (flat_map line_text f.lines) f.rest) ∙ f.text)
 
 pub one_fault : (bytes : List ℕ) (n m : ℕ) → IsFault bytes n → IsFault bytes m → n ≡ m
 one_fault bytes n m (inl p) (inl q) = p.0 ∙ sym q.0
 one_fault bytes n m (inl p) (inr g) = absurd (no_header bytes m p.1 g)
 one_fault bytes n m (inr f) (inl q) = absurd (no_header bytes n q.1 f)
 one_fault bytes n m (inr f) (inr g) =
-    let e : evidence_text f.lines ++ f.rest ≡ evidence_text g.lines ++ g.rest = f.text ∙ sym g.text in
-    let same = (same_lines f.lines g.lines f.rest g.rest f.in_format g.in_format f.fails g.fails (behind_header f.lines g.lines f.rest g.rest e)).0 in
+    let e : evidence_text f.version f.lines ++ f.rest ≡ evidence_text g.version g.lines ++ g.rest = f.text ∙ sym g.text in
+    let behind = behind_header f.version g.version f.lines g.lines f.rest g.rest e in
+    let same = (same_lines f.lines g.lines f.rest g.rest f.in_format g.in_format f.fails g.fails behind.behind).0 in
     f.number_is ∙ ap (λ ls. length ls + 1) same ∙ sym g.number_is
 
 pub no_front : (l m : Line) (rest : List ℕ) → IsInFormat l → IsInFormat m → line_text l ++ rest ≡ line_text m → (l ≡ m) × (rest ≡ [])
@@ -133,26 +168,21 @@ no_front l m rest format_l format_m e = lines_apart l m rest [] format_l format_
 
 -- ---- the header
 
-pub with_header : (bytes rest : List ℕ) → bytes_eq (take 17 bytes) header ≡ true → rest ≡ drop 17 bytes → header ++ rest ≡ bytes
-with_header bytes rest is behind =
-    ap (λ t. header ++ t) behind ∙ ap (λ t. t ++ drop 17 bytes) (sym ((bytes_eq-Decides (take 17 bytes) header).0 is)) ∙ take-append-drop 17 bytes
-
-pub without_header : (bytes : List ℕ) → bytes_eq (take 17 bytes) header ≡ false → LacksHeader bytes
-without_header bytes is rest e =
-    let front : take 17 bytes ≡ header = ap (take 17) (sym e) in
-    both_ways (bytes_eq (take 17 bytes) header) is ((bytes_eq-Decides (take 17 bytes) header).1 front)
+pub no_version : (bytes : List ℕ) → ((rest : List ℕ) → header One ++ rest ≡ bytes → ⊥) → ((rest : List ℕ) → header Two ++ rest ≡ bytes → ⊥) → LacksHeader bytes
+no_version bytes first second One rest e = first rest e
+no_version bytes first second Two rest e = second rest e
 
 -- ---- what reading answers, both ways
 
-pub only_lines : (bytes : List ℕ) (r : Result (List Line) EvidenceRefusal) → IfOk r (λ e. IsEvidence bytes e) → IfErr r (λ q. IsRefused bytes q)
-    → (ls : List Line) → IsEvidence bytes ls → MatchResult r (λ e. e ≡ ls) (λ q. q ≡ NoMemory)
-only_lines bytes (Ok e) ok err ls is = one_list bytes e ls ok is
-only_lines bytes (Err (Syntax n)) ok err ls is = absurd (never_both bytes ls n is err)
-only_lines bytes (Err NoMemory) ok err ls is = refl
+pub only_lines : (bytes : List ℕ) (r : Result Versioned EvidenceRefusal) → IfOk r (λ e. IsEvidence bytes e.version e.lines) → IfErr r (λ q. IsRefused bytes q)
+    → (v : Version) (ls : List Line) → IsEvidence bytes v ls → MatchResult r (λ e. (e.version ≡ v) × (e.lines ≡ ls)) (λ q. q ≡ NoMemory)
+only_lines bytes (Ok e) ok err v ls is = one_list bytes e.version v e.lines ls ok is
+only_lines bytes (Err (Syntax n)) ok err v ls is = absurd (never_both bytes v ls n is err)
+only_lines bytes (Err NoMemory) ok err v ls is = refl
 
-pub only_refusal : (bytes : List ℕ) (r : Result (List Line) EvidenceRefusal) → IfOk r (λ e. IsEvidence bytes e) → IfErr r (λ q. IsRefused bytes q)
+pub only_refusal : (bytes : List ℕ) (r : Result Versioned EvidenceRefusal) → IfOk r (λ e. IsEvidence bytes e.version e.lines) → IfErr r (λ q. IsRefused bytes q)
     → (n : ℕ) → IsFault bytes n → MatchResult r (λ _. ⊥) (λ q. (q ≡ NoMemory) ⊎ (q ≡ Syntax n))
-only_refusal bytes (Ok e) ok err n fault = never_both bytes e n ok fault
+only_refusal bytes (Ok e) ok err n fault = never_both bytes e.version e.lines n ok fault
 only_refusal bytes (Err (Syntax m)) ok err n fault = inr (ap (λ k. Syntax k) (one_fault bytes m n err fault))
 only_refusal bytes (Err NoMemory) ok err n fault = inl refl
 
@@ -163,7 +193,7 @@ line_first rest fields after (l ∷ ls) is =
     let more = flat_map line_text ls in
     (fields_text l, more ++ rest, append_assoc (line_text l) more rest ∙ append_assoc (fields_text l) (10 ∷ []) (more ++ rest))
 
-pub has_line : (bytes rest fields after : List ℕ) (lines : List Line) → HasRead bytes lines rest → cut 10 rest ≡ Some (fields, after) → HasLine bytes
-has_line bytes rest fields after lines read is =
+pub has_line : (bytes : List ℕ) (version : Version) (rest fields after : List ℕ) (lines : List Line) → HasRead bytes version lines rest → cut 10 rest ≡ Some (fields, after) → HasLine bytes
+has_line bytes version rest fields after lines read is =
     let first = line_first rest fields after lines (cut_some 10 rest fields after is).0 in
-    (first.0, first.1, ap (λ t. header ++ t) (sym first.2) ∙ sym (append_assoc header (flat_map line_text lines) rest) ∙ read.text)
+    (version, first.0, first.1, ap (λ t. header version ++ t) (sym first.2) ∙ sym (append_assoc (header version) (flat_map line_text lines) rest) ∙ read.text)

@@ -1,3 +1,4 @@
+pub mod Headers
 pub mod Lines
 pub mod Memory
 pub mod Reading
@@ -5,3 +6,4 @@ pub mod Seen
 pub mod Shapes
 pub mod Spelling
 pub mod Text
+pub mod Versioned

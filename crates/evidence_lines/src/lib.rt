@@ -1,7 +1,8 @@
 //! Evidence: lines that each say one value, the rows of one expression or one verdict, and cite the lines that they rest
-//! on. The crate holds such lines, prints them and reads them. `specs/Spelling` has the one text of a line, `specs/Shapes`
-//! which fields a line has, and `specs/Text` which bytes are evidence, and where other bytes first fail to be. Whether a
-//! line follows from those that it cites is not asked here: the crate knows no rules and no templates.
+//! on. The crate holds such lines with their version, prints them and reads them. `specs/Spelling` has the one text of a
+//! line, `specs/Shapes` which fields a line has, `specs/Headers` the first line of each version, and `specs/Text` which
+//! bytes are evidence, and where other bytes first fail to be. Whether a line follows from those that it cites is not asked
+//! here: the crate knows no rules and no templates.
 #![tactic(auto)]
 
 pub mod evidence;
@@ -11,6 +12,7 @@ pub mod line;
 pub mod print;
 pub mod read;
 pub mod refusal;
+pub mod version;
 
 pub use evidence::Evidence;
 pub use laws::one_text;
@@ -18,3 +20,4 @@ pub use line::{Cites, Line, LineKind, Outcome, Rows, Sort};
 pub use print::print_line;
 pub use read::read_evidence;
 pub use refusal::EvidenceRefusal;
+pub use version::Version;

@@ -1,21 +1,21 @@
 //! Evidence, read from its bytes.
 ghost use Rattle.std.specs.Prelude.{◌≡◌, ◌⊎◌, ◌++◌, ℕ, List, IfErr, IfOk, MatchOption, MatchResult, option_map};
+ghost use Rattle.evidence_lines.specs.Headers.{header};
 ghost use Rattle.evidence_lines.specs.Memory.{HasLine};
 ghost use Rattle.evidence_lines.specs.Reading.{cites_in, count_in, if_placed, items_in, line_in, line_of_parts, list_in, outcome_in, parts_in, place_in, placed_in, row_in};
 ghost use Rattle.evidence_lines.specs.Seen.{fields_seen, placed_seen};
 ghost use Rattle.evidence_lines.specs.Shapes.{is_placed, may_cite, sort_of};
-ghost use Rattle.evidence_lines.specs.Text.{IsEvidence, IsFault, IsRefused, LacksHeader, header};
+ghost use Rattle.evidence_lines.specs.Text.{IsEvidence, IsFault, IsRefused};
 ghost use Rattle.evidence_lines.specs.declared.line.Line.{Line};
+ghost use Rattle.evidence_lines.specs.declared.version.Version.{Version};
 
 use crate::evidence::Evidence;
 use crate::field::{cut, is_none_sign, read_count, read_place, read_ref, read_row, read_verdict};
 use crate::line::{Cites, Line, LineKind, Outcome, Rows, Sort};
 use crate::refusal::EvidenceRefusal;
+use crate::version::Version;
 use guard_syntax::Row;
 use std::alloc::{AllocError, Global};
-
-/// The first line, with its newline.
-const HEADER: &[u8] = b"guard-evidence 1\n";
 
 /// The bytes of the fields of a line.
 #[derive(Clone, Copy)]
@@ -203,18 +203,20 @@ fn read_fields(alloc: Global, fields: &Fields<'_>) -> Result<Option<Line>, Alloc
     }))
 }
 
-/// The bytes behind the header, if they begin with it.
-fn behind_header(bytes: &[u8]) -> Option<&[u8]>
-    ensures { MatchOption result (LacksHeader bytes.entry.now) (λ rest. header ++ rest.now ≡ bytes.entry.now) }
+/// The bytes behind the header of a version, if they begin with it.
+fn behind_header(version: Version, bytes: &[u8]) -> Option<&[u8]>
+    ensures { MatchOption result
+        ((rest : List ℕ) → header version ++ rest ≡ bytes.entry.now → ⊥)
+        (λ rest. header version ++ rest.now ≡ bytes.entry.now) }
 {
-    bytes.strip_prefix(HEADER)
+    bytes.strip_prefix(version.header().as_bytes())
 }
 
-/// The lines of bytes that stand behind the header.
-fn read_lines(alloc: Global, bytes: &[u8]) -> Result<Evidence, EvidenceRefusal>
-    ensures lines { IfOk result (λ e. IsEvidence (header ++ bytes.now) e) }
-    ensures refusal { IfErr result (λ r. IsRefused (header ++ bytes.now) r) }
-    ensures memory { IfErr result (λ r. r ≡ EvidenceRefusal.NoMemory → HasLine (header ++ bytes.now)) }
+/// The lines of bytes that stand behind the header of a version.
+fn read_lines(alloc: Global, version: Version, bytes: &[u8]) -> Result<Evidence, EvidenceRefusal>
+    ensures lines { IfOk result (λ e. IsEvidence (header version ++ bytes.now) e.version e.lines) }
+    ensures refusal { IfErr result (λ r. IsRefused (header version ++ bytes.now) r) }
+    ensures memory { IfErr result (λ r. r ≡ EvidenceRefusal.NoMemory → HasLine (header version ++ bytes.now)) }
 {
     let mut lines = Vec::new(alloc);
     let mut number: u64 = 0;
@@ -233,29 +235,32 @@ fn read_lines(alloc: Global, bytes: &[u8]) -> Result<Evidence, EvidenceRefusal>
         }
         rest = after;
     }
-    Ok(Evidence::of(lines))
+    Ok(Evidence::of(version, lines))
 }
 
 fn read_text(alloc: Global, bytes: &[u8]) -> Result<Evidence, EvidenceRefusal>
-    ensures lines { IfOk result (λ e. IsEvidence bytes.now e) }
+    ensures lines { IfOk result (λ e. IsEvidence bytes.now e.version e.lines) }
     ensures refusal { IfErr result (λ r. IsRefused bytes.now r) }
     ensures memory { IfErr result (λ r. r ≡ EvidenceRefusal.NoMemory → HasLine bytes.now) }
 {
-    match behind_header(bytes) {
-        None => Err(EvidenceRefusal::Syntax(0)),
-        Some(rest) => read_lines(alloc, rest),
+    match behind_header(Version::One, bytes) {
+        Some(rest) => read_lines(alloc, Version::One, rest),
+        None => match behind_header(Version::Two, bytes) {
+            Some(rest) => read_lines(alloc, Version::Two, rest),
+            None => Err(EvidenceRefusal::Syntax(0)),
+        },
     }
 }
 
-/// The lines of evidence. `Syntax` has the number of the first line that is not in the format, where the header is 0 and a
-/// last line without its newline is not in the format. The bytes are gone over a few times, each line by itself. Lines with
-/// their newlines take memory, and nothing else does.
+/// The version and the lines of evidence. `Syntax` has the number of the first line that is not in the format, where the
+/// header is 0 and a last line without its newline is not in the format. The bytes are gone over a few times, each line by
+/// itself. Lines with their newlines take memory, and nothing else does.
 pub fn read_evidence(alloc: Global, bytes: &[u8]) -> Result<Evidence, EvidenceRefusal>
-    ensures lines { IfOk result (λ e. IsEvidence bytes.now e) }
+    ensures lines { IfOk result (λ e. IsEvidence bytes.now e.version e.lines) }
     ensures refusal { IfErr result (λ r. IsRefused bytes.now r) }
     ensures memory { IfErr result (λ r. r ≡ EvidenceRefusal.NoMemory → HasLine bytes.now) }
-    ensures only_lines { (ls : List Line) → IsEvidence bytes.now ls
-        → MatchResult result (λ e. e ≡ ls) (λ r. r ≡ EvidenceRefusal.NoMemory) }
+    ensures only_lines { (v : Version) (ls : List Line) → IsEvidence bytes.now v ls
+        → MatchResult result (λ e. (e.version ≡ v) × (e.lines ≡ ls)) (λ r. r ≡ EvidenceRefusal.NoMemory) }
     ensures only_refusal { (n : ℕ) → IsFault bytes.now n
         → MatchResult result (λ _. ⊥) (λ r. (r ≡ EvidenceRefusal.NoMemory) ⊎ (r ≡ EvidenceRefusal.Syntax n)) }
 {

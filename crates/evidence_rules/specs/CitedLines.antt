@@ -12,10 +12,10 @@ use Rattle.guard_syntax.specs.declared.row.Ref.{Ref}
 use Rattle.guard_syntax.specs.declared.row.Row.{Row}
 use Rattle.rule_names.specs.declared.bind.Bind.{Bind}
 use Rattle.rule_names.specs.declared.bind.Bind.TheVariants as bound
-use Rattle.rule_names.specs.Links.{bind_of, target_of}
+use Rattle.rule_names.specs.Resolution.{bind_of, target_of}
 use Rattle.rule_names.specs.Pieces.{Piece, OfRule, OfBody, OfPart, OfQuery, OfStep, OfExpr, piece_at}
 use Rattle.rule_names.specs.Uses.{expr_in}
-use Rattle.rule_names.specs.Ways.{step_site}
+use Rattle.rule_names.specs.ReferenceGraph.{step_site}
 use Rattle.rule_meaning.specs.Places.{step_in, steps_in}
 
 -- the line of a number: of this kind, in this frame, of this site, and what it says

@@ -1,5 +1,5 @@
--- Which lines of evidence follow from the lines before them: the table of lines, a case for each kind. It looks at the lines that a line names, at one part of the
--- rule file, and at one step, test or function.
+-- Which lines of evidence follow from the lines before them: the table of lines, a case for each kind, by the version of the evidence. It looks at the lines that a
+-- line names, at one part of the rule file, and at one step, test or function.
 use Rattle.std.specs.Prelude.{ℕ, zero, suc, ◌≡◌, ◌⊎◌, Bool, true, false, ◌&&◌, List, [], ◌∷◌, ◌++◌, length, flat_map, filter as kept_of, Contains, Option, Some, None, if◌then◌else◌}
 use Rattle.doc_values.specs.Tree.{Forest}
 use Rattle.evidence_lines.specs.Lines.{line_of}
@@ -8,6 +8,8 @@ use Rattle.evidence_lines.specs.declared.line.LineKind.{LineKind}
 use Rattle.evidence_lines.specs.declared.line.LineKind.TheVariants as kind
 use Rattle.evidence_lines.specs.declared.line.Outcome.{Outcome}
 use Rattle.evidence_lines.specs.declared.line.Outcome.TheVariants as says
+use Rattle.evidence_lines.specs.declared.version.Version.{Version}
+use Rattle.evidence_lines.specs.declared.version.Version.TheVariants.{One, Two}
 use Rattle.guard_syntax.specs.Syntax.{File, Rule, Body, Conds, OptConds, Disjs, Disj, Parts, Part, Query, Step, Expr, OptExpr, body, conds, no_conds, with_conds, no_disjs, more_disjs, disj, no_parts, more_parts, block, guarded, kinds, test, refer, call, var, splice, filter, keys, this, key, index, every, items, literal, function, found, no_expr, with_expr}
 use Rattle.guard_syntax.specs.declared.function.Function.{Function}
 use Rattle.guard_syntax.specs.declared.row.Ref.{Ref}
@@ -15,20 +17,20 @@ use Rattle.guard_syntax.specs.declared.row.Row.{Row}
 use Rattle.guard_syntax.specs.declared.row.Row.TheVariants.{Found, Missing, Unmade}
 use Rattle.guard_syntax.specs.declared.row.Verdict.{Verdict}
 use Rattle.guard_syntax.specs.declared.row.Verdict.TheVariants.{Pass, Fail, Skip}
-use Rattle.rule_names.specs.Homes.{home_of}
-use Rattle.rule_names.specs.Links.{target_of}
+use Rattle.rule_names.specs.EnclosingScopes.{home_of}
+use Rattle.rule_names.specs.Resolution.{target_of}
 use Rattle.rule_names.specs.Pieces.{Piece, OfFile, OfRule, OfBody, OfConds, OfDisj, OfPart, OfStep, OfExpr, piece_at}
 use Rattle.rule_names.specs.Uses.{function_named}
-use Rattle.rule_names.specs.Ways.{part_site}
+use Rattle.rule_names.specs.ReferenceGraph.{part_site}
 use Rattle.rule_meaning.specs.Functions.{Functions, MadeRow}
-use Rattle.rule_meaning.specs.Known.{Known, Made, is_known_ref}
+use Rattle.rule_meaning.specs.StoreModel.{StoreModel, Made, is_known_ref}
 use Rattle.evidence_rules.specs.CitedLines.{IsLine, value_of, body_site, called_body, scope_of, GivesStep, GivesQuery, GivesExpr, GiveArgs, GivesVariable}
 use Rattle.rule_meaning.specs.Keys.{captured_row, passes}
 use Rattle.rule_meaning.specs.Places.{candidates_at, rows_at_step, rows_at_type, step_in, steps_in}
 use Rattle.rule_meaning.specs.Roots.{root_ref, literal_ref}
 use Rattle.rule_meaning.specs.Seeing.{grown, rows_kept, trees_kept}
 use Rattle.rule_meaning.specs.SetTests.{is_set, is_empty_test}
-use Rattle.rule_meaning.specs.Verdicts.{is_found, conjunction, disjunction, test_verdict, set_verdict, block_verdict, referred, exchanged}
+use Rattle.rule_meaning.specs.Verdicts.{is_pass, is_fail, is_skip, is_found, conjunction, disjunction, test_verdict, set_verdict, block_verdict, referred, exchanged}
 
 abbrev pub conds_site : Conds → ℕ
 conds_site (conds n parts) = n
@@ -47,8 +49,45 @@ abbrev pub home_for : File → LineKind → ℕ → ℕ
 home_for file kind.Conj site = if is_body (piece_at file site) then site else home_of file site
 home_for file _ site = home_of file site
 
+-- ---- where lines stop
+
+-- the verdict that decides a disjunction, behind the first line of which no other is cited; in version 1 there is none
+abbrev pub disj_stop : Version → Option Verdict
+disj_stop One = None
+disj_stop Two = Some Pass
+
+-- that which decides conditions; nothing decides a body or the parts outside rules
+abbrev pub conds_stop : Version → Option Verdict
+conds_stop One = None
+conds_stop Two = Some Fail
+
+-- that which decides a block with `some`; nothing decides one without
+abbrev pub block_stop : (any : Bool) → Version → Option Verdict
+block_stop false version = None
+block_stop true One = None
+block_stop true Two = Some Pass
+
+-- a verdict is the deciding one, if there is one
+abbrev pub is_stop : Option Verdict → Verdict → Bool
+is_stop None verdict = false
+is_stop (Some Pass) verdict = is_pass verdict
+is_stop (Some Fail) verdict = is_fail verdict
+is_stop (Some Skip) verdict = is_skip verdict
+
+-- what is cited behind a line: nothing where it decides, and then these are the verdicts that need no line; else what comes next
+abbrev pub Behind : (stops : Bool) → (unlined : List Verdict) → ((cites : List ℕ) → List Verdict → Type 0) → (cites : List ℕ) → List Verdict → Type 0
+Behind true unlined Next cites verdicts = (cites ≡ []) × (verdicts ≡ unlined)
+Behind false unlined Next cites verdicts = Next cites verdicts
+
+-- the verdicts of rows without lines: FAIL for each at which nothing was found
+abbrev pub missing_fails : List Row → List Verdict
+missing_fails [] = []
+missing_fails (Found v ∷ rows) = missing_fails rows
+missing_fails (Missing v step ∷ rows) = Fail ∷ missing_fails rows
+missing_fails (Unmade site ∷ rows) = Fail ∷ missing_fails rows
+
 -- the lines before, and what they have made known
-module _ (known : Known) (lines : List Line) where
+module _ (known : StoreModel) (lines : List Line) where
   -- ---- verdicts that are named
 
   abbrev pub SaysVerdict : LineKind → (frame site number : ℕ) → Verdict → Type 0
@@ -70,13 +109,14 @@ module _ (known : Known) (lines : List Line) where
   SayEach Says (v ∷ vs) (c ∷ cs) (w ∷ ws) = Says v c w × SayEach Says vs cs ws
   SayEach Says values cites verdicts = ⊥
 
-  -- one line for each row that was found, in order; a row at which nothing was found is FAIL
-  abbrev pub SayRows : (Ref → (number : ℕ) → Verdict → Type 0) → List Row → (cites : List ℕ) → List Verdict → Type 0
-  SayRows Says [] [] [] = Unit {0}
-  SayRows Says (Found v ∷ rows) (c ∷ cs) (w ∷ ws) = Says v c w × SayRows Says rows cs ws
-  SayRows Says (Missing v step ∷ rows) cites (w ∷ ws) = (w ≡ Fail) × SayRows Says rows cites ws
-  SayRows Says (Unmade site ∷ rows) cites (w ∷ ws) = (w ≡ Fail) × SayRows Says rows cites ws
-  SayRows Says rows cites verdicts = ⊥
+  -- one line for each row that was found, in order, up to and including the first that says the deciding verdict, and for all if none does; a row at which nothing was
+  -- found is FAIL, wherever it stands
+  abbrev pub SayRows : (Ref → (number : ℕ) → Verdict → Type 0) → (stop : Option Verdict) → List Row → (cites : List ℕ) → List Verdict → Type 0
+  SayRows Says stop [] [] [] = Unit {0}
+  SayRows Says stop (Found v ∷ rows) (c ∷ cs) (w ∷ ws) = Says v c w × Behind (is_stop stop w) (missing_fails rows) (SayRows Says stop rows) cs ws
+  SayRows Says stop (Missing v step ∷ rows) cites (w ∷ ws) = (w ≡ Fail) × SayRows Says stop rows cites ws
+  SayRows Says stop (Unmade site ∷ rows) cites (w ∷ ws) = (w ≡ Fail) × SayRows Says stop rows cites ws
+  SayRows Says stop rows cites verdicts = ⊥
 
   abbrev pub kind_of_part : Part → LineKind
   kind_of_part (block n any head inner) = kind.Block
@@ -86,16 +126,18 @@ module _ (known : Known) (lines : List Line) where
   kind_of_part (refer n negated name message) = kind.Refer
   kind_of_part (call n negated name args message) = kind.Call
 
-  -- the lines of all parts of a disjunction, and of all disjunctions of a body, in order
-  abbrev pub SayParts : (frame : ℕ) → Parts → (cites : List ℕ) → List Verdict → Type 0
-  SayParts frame no_parts [] [] = Unit {0}
-  SayParts frame (more_parts p ps) (c ∷ cs) (w ∷ ws) = SaysVerdict (kind_of_part p) frame (part_site p) c w × SayParts frame ps cs ws
-  SayParts frame parts cites verdicts = ⊥
+  -- the lines of the parts of a disjunction, in order, up to and including the first that says the deciding verdict, and of all if none does
+  abbrev pub SayParts : (frame : ℕ) → (stop : Option Verdict) → Parts → (cites : List ℕ) → List Verdict → Type 0
+  SayParts frame stop no_parts [] [] = Unit {0}
+  SayParts frame stop (more_parts p ps) (c ∷ cs) (w ∷ ws) =
+      SaysVerdict (kind_of_part p) frame (part_site p) c w × Behind (is_stop stop w) [] (SayParts frame stop ps) cs ws
+  SayParts frame stop parts cites verdicts = ⊥
 
-  abbrev pub SayDisjs : (frame : ℕ) → Disjs → (cites : List ℕ) → List Verdict → Type 0
-  SayDisjs frame no_disjs [] [] = Unit {0}
-  SayDisjs frame (more_disjs (disj n parts) ds) (c ∷ cs) (w ∷ ws) = SaysVerdict kind.Disj frame n c w × SayDisjs frame ds cs ws
-  SayDisjs frame disjs cites verdicts = ⊥
+  -- so the lines of disjunctions
+  abbrev pub SayDisjs : (frame : ℕ) → (stop : Option Verdict) → Disjs → (cites : List ℕ) → List Verdict → Type 0
+  SayDisjs frame stop no_disjs [] [] = Unit {0}
+  SayDisjs frame stop (more_disjs (disj n parts) ds) (c ∷ cs) (w ∷ ws) = SaysVerdict kind.Disj frame n c w × Behind (is_stop stop w) [] (SayDisjs frame stop ds) cs ws
+  SayDisjs frame stop disjs cites verdicts = ⊥
 
   -- ---- frames: which value a frame has
 
@@ -248,34 +290,25 @@ module _ (known : Known) (lines : List Line) where
   FollowsBody frame b cites verdict = ⊥
 
   -- a body on rows
-  abbrev pub FollowsRowsOf : (frame : ℕ) → (any : Bool) → Body → List Row → (cites : List ℕ) → Verdict → Type 0
-  FollowsRowsOf frame any b rows cites verdict = (verdicts : List Verdict) × SayRows (SaysBody frame b) rows cites verdicts × (verdict ≡ block_verdict any verdicts)
+  abbrev pub FollowsRowsOf : (frame : ℕ) → (any : Bool) → (stop : Option Verdict) → Body → List Row → (cites : List ℕ) → Verdict → Type 0
+  FollowsRowsOf frame any stop b rows cites verdict = (verdicts : List Verdict) × SayRows (SaysBody frame b) stop rows cites verdicts × (verdict ≡ block_verdict any verdicts)
 
   abbrev pub FollowsTyped : (frame site : ℕ) → Body → (cites : List ℕ) → Verdict → Type 0
   FollowsTyped frame site b [] verdict = ⊥
   FollowsTyped frame site b (c ∷ cites) verdict =
-      (rows : List Row) × IsLine lines c kind.Types frame site (says.Rows rows) × FollowsRowsOf frame false b rows cites verdict
+      (rows : List Row) × IsLine lines c kind.Types frame site (says.Rows rows) × FollowsRowsOf frame false None b rows cites verdict
 
-  abbrev pub FollowsBlock : (frame : ℕ) → (any : Bool) → Query → Body → (cites : List ℕ) → Verdict → Type 0
-  FollowsBlock frame any head b [] verdict = ⊥
-  FollowsBlock frame any head b (c ∷ cites) verdict =
-      (rows : List Row) × GivesQuery known.file lines frame head c rows × FollowsRowsOf frame any b rows cites verdict
-
-  abbrev pub FollowsAtPart : (frame site : ℕ) → LineKind → Part → (cites : List ℕ) → Verdict → Type 0
-  FollowsAtPart frame site kind.Test part cites verdict = FollowsTest frame part cites verdict
-  FollowsAtPart frame site kind.Refer part cites verdict = FollowsRefer site part cites verdict
-  FollowsAtPart frame site kind.Call part cites verdict = FollowsCall frame site part cites verdict
-  FollowsAtPart frame site kind.When (guarded n conditions inner) cites verdict = Under frame conditions (FollowsBody frame inner) cites verdict
-  FollowsAtPart frame site kind.Block (block n any head inner) cites verdict = FollowsBlock frame any head inner cites verdict
-  FollowsAtPart frame site kind.Kinds (kinds n name conditions inner) cites verdict = UnderSome frame conditions (FollowsTyped frame site inner) cites verdict
-  FollowsAtPart frame site of part cites verdict = ⊥
+  abbrev pub FollowsBlock : (frame : ℕ) → (any : Bool) → (stop : Option Verdict) → Query → Body → (cites : List ℕ) → Verdict → Type 0
+  FollowsBlock frame any stop head b [] verdict = ⊥
+  FollowsBlock frame any stop head b (c ∷ cites) verdict =
+      (rows : List Row) × GivesQuery known.file lines frame head c rows × FollowsRowsOf frame any stop b rows cites verdict
 
   -- a conjunction of disjunctions: of a body, of conditions, or of the parts outside rules, which have the site 0
-  abbrev pub FollowsConj : (frame : ℕ) → Disjs → (cites : List ℕ) → Verdict → Type 0
-  FollowsConj frame ds cites verdict = (verdicts : List Verdict) × SayDisjs frame ds cites verdicts × (verdict ≡ conjunction verdicts)
+  abbrev pub FollowsConj : (frame : ℕ) → (stop : Option Verdict) → Disjs → (cites : List ℕ) → Verdict → Type 0
+  FollowsConj frame stop ds cites verdict = (verdicts : List Verdict) × SayDisjs frame stop ds cites verdicts × (verdict ≡ conjunction verdicts)
 
-  abbrev pub FollowsDisj : (frame : ℕ) → Disj → (cites : List ℕ) → Verdict → Type 0
-  FollowsDisj frame (disj n parts) cites verdict = (verdicts : List Verdict) × SayParts frame parts cites verdicts × (verdict ≡ disjunction verdicts)
+  abbrev pub FollowsDisj : (frame : ℕ) → (stop : Option Verdict) → Disj → (cites : List ℕ) → Verdict → Type 0
+  FollowsDisj frame stop (disj n parts) cites verdict = (verdicts : List Verdict) × SayParts frame stop parts cites verdicts × (verdict ≡ disjunction verdicts)
 
   -- a frame that is a `file` line
   abbrev pub IsFileFrame : (frame : ℕ) → Type 0
@@ -293,42 +326,56 @@ module _ (known : Known) (lines : List Line) where
   FollowsLoose frame (more_disjs d ds) (c ∷ []) verdict = SaysVerdict kind.Conj frame 0 c verdict
   FollowsLoose frame ds cites verdict = ⊥
 
+  -- the `file` line: it has no frame, no site and no cites, and its value is the root of the template
+  abbrev pub IsFileLine : Line → Type 0
+  IsFileLine line = (line.kind ≡ kind.File) × (line.frame ≡ None) × (line.site ≡ None) × (line.cites ≡ []) × (line.outcome ≡ says.Value root_ref)
+
+-- ---- lines, by the version of the evidence
+
+module _ (version : Version) (known : StoreModel) (lines : List Line) where
+  -- a line of a part, by its kind
+  abbrev pub FollowsAtPart : (frame site : ℕ) → LineKind → Part → (cites : List ℕ) → Verdict → Type 0
+  FollowsAtPart frame site kind.Test part cites verdict = FollowsTest known lines frame part cites verdict
+  FollowsAtPart frame site kind.Refer part cites verdict = FollowsRefer known lines site part cites verdict
+  FollowsAtPart frame site kind.Call part cites verdict = FollowsCall known lines frame site part cites verdict
+  FollowsAtPart frame site kind.When (guarded n conditions inner) cites verdict = Under known lines frame conditions (FollowsBody known lines frame inner) cites verdict
+  FollowsAtPart frame site kind.Block (block n any head inner) cites verdict = FollowsBlock known lines frame any (block_stop any version) head inner cites verdict
+  FollowsAtPart frame site kind.Kinds (kinds n name conditions inner) cites verdict =
+      UnderSome known lines frame conditions (FollowsTyped known lines frame site inner) cites verdict
+  FollowsAtPart frame site of part cites verdict = ⊥
+
+  -- a line that says a verdict, by its kind and the part of its site: the line of conditions may stop, that of a body or of the parts outside rules has all
   abbrev pub FollowsVerdict : (frame site : ℕ) → LineKind → Option Piece → (cites : List ℕ) → Verdict → Type 0
-  FollowsVerdict frame site kind.Rule (Some (OfRule r)) cites verdict = IsFileFrame frame × IsNewRule site × FollowsRule frame r cites verdict
-  FollowsVerdict frame site kind.Rule (Some OfFile) cites verdict = IsFileFrame frame × IsNewRule site × FollowsLoose frame known.file.loose cites verdict
-  FollowsVerdict frame site kind.Conj (Some (OfBody (body n lets ds))) cites verdict = FollowsConj frame ds cites verdict
-  FollowsVerdict frame site kind.Conj (Some (OfConds (conds n ds))) cites verdict = FollowsConj frame ds cites verdict
-  FollowsVerdict frame site kind.Conj (Some OfFile) cites verdict = FollowsConj frame known.file.loose cites verdict
-  FollowsVerdict frame site kind.Disj (Some (OfDisj d)) cites verdict = FollowsDisj frame d cites verdict
+  FollowsVerdict frame site kind.Rule (Some (OfRule r)) cites verdict = IsFileFrame known lines frame × IsNewRule known lines site × FollowsRule known lines frame r cites verdict
+  FollowsVerdict frame site kind.Rule (Some OfFile) cites verdict =
+      IsFileFrame known lines frame × IsNewRule known lines site × FollowsLoose known lines frame known.file.loose cites verdict
+  FollowsVerdict frame site kind.Conj (Some (OfBody (body n lets ds))) cites verdict = FollowsConj known lines frame None ds cites verdict
+  FollowsVerdict frame site kind.Conj (Some (OfConds (conds n ds))) cites verdict = FollowsConj known lines frame (conds_stop version) ds cites verdict
+  FollowsVerdict frame site kind.Conj (Some OfFile) cites verdict = FollowsConj known lines frame None known.file.loose cites verdict
+  FollowsVerdict frame site kind.Disj (Some (OfDisj d)) cites verdict = FollowsDisj known lines frame (disj_stop version) d cites verdict
   FollowsVerdict frame site of (Some (OfPart part)) cites verdict = FollowsAtPart frame site of part cites verdict
   FollowsVerdict frame site of piece cites verdict = ⊥
 
-  -- ---- lines
-
   abbrev pub FollowsIn : (frame site : ℕ) → LineKind → (cites : List ℕ) → Outcome → List Made → Type 0
-  FollowsIn frame site kind.Frame cites (says.Value v) more = (cites ≡ []) × IsFrameOf frame (piece_at known.file site) v × (more ≡ [])
-  FollowsIn frame site of cites (says.Rows rows) more = FollowsRows frame site of (piece_at known.file site) cites rows more
+  FollowsIn frame site kind.Frame cites (says.Value v) more = (cites ≡ []) × IsFrameOf known lines frame (piece_at known.file site) v × (more ≡ [])
+  FollowsIn frame site of cites (says.Rows rows) more = FollowsRows known lines frame site of (piece_at known.file site) cites rows more
   FollowsIn frame site of cites (says.Verdict verdict) more = FollowsVerdict frame site of (piece_at known.file site) cites verdict × (more ≡ [])
   FollowsIn frame site of cites outcome more = ⊥
-
-  -- the one `file` line there can be: it has no frame, no site and no cites, and its value is the root of the template
-  abbrev pub IsFileLine : Line → Type 0
-  IsFileLine line = (line.kind ≡ kind.File) × (line.frame ≡ None) × (line.site ≡ None) × (line.cites ≡ []) × (line.outcome ≡ says.Value root_ref)
 
   -- a line follows, and makes these trees known: the `file` line always; any other in a frame whose scope is the home of its site
   abbrev pub Follows : Line → List Made → Type 0
   Follows line more =
-      (IsFileLine line × (more ≡ []))
+      (IsFileLine known lines line × (more ≡ []))
       ⊎ ((frame site : ℕ) × (line.frame ≡ Some frame) × (line.site ≡ Some site)
       × (scope_of known.file lines frame ≡ Some (home_for known.file line.kind site)) × FollowsIn frame site line.kind line.cites line.outcome more)
 
 -- each of these lines follows from those before it
-abbrev pub AllFollow : Known → (before rest : List Line) → Type 0
-AllFollow known before [] = Unit {0}
-AllFollow known before (line ∷ lines) = (more : List Made) × Follows known before line more × AllFollow (grown known more) (before ++ (line ∷ [])) lines
+abbrev pub AllFollow : Version → StoreModel → (before rest : List Line) → Type 0
+AllFollow version known before [] = Unit {0}
+AllFollow version known before (line ∷ lines) = (more : List Made) × Follows version known before line more × AllFollow version (grown known more) (before ++ (line ∷ [])) lines
 
 -- the template and the file, and nothing made
-abbrev pub nothing_made : Forest → File → Known
+abbrev pub nothing_made : Forest → File → StoreModel
 nothing_made template file = record { template = template; file = file; made = [] }
 
 -- a `rule` line of a site is among the lines
@@ -341,7 +388,7 @@ IsLooseJudged lines no_disjs = Unit {0}
 IsLooseJudged lines (more_disjs d ds) = IsJudged lines 0
 
 -- evidence is accepted: every line follows, and each rule without parameters has its line, and so have the parts outside rules
-pub record Accepts (template : Forest) (file : File) (lines : List Line) : Type 0 where
-  pub follow : AllFollow (nothing_made template file) [] lines
+pub record Accepts (version : Version) (template : Forest) (file : File) (lines : List Line) : Type 0 where
+  pub follow : AllFollow version (nothing_made template file) [] lines
   pub rules : (r : Rule) → Contains file.rules r → r.params ≡ [] → IsJudged lines r.site
   pub loose : IsLooseJudged lines file.loose

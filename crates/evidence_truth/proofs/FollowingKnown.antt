@@ -11,6 +11,7 @@ use Rattle.doc_values.specs.declared.kind.Kind.{Kind}
 use Rattle.doc_values.specs.declared.kind.Kind.TheVariants as value
 use Rattle.evidence_lines.specs.Lines.{line_of}
 use Rattle.evidence_lines.specs.declared.line.Line.{Line}
+use Rattle.evidence_lines.specs.declared.version.Version.{Version}
 use Rattle.evidence_lines.specs.declared.line.LineKind.{LineKind}
 use Rattle.evidence_lines.specs.declared.line.LineKind.TheVariants as kind
 use Rattle.evidence_lines.specs.declared.line.Outcome.{Outcome}
@@ -24,7 +25,7 @@ use Rattle.rule_names.specs.Pieces.{Piece, OfBody, OfExpr, OfPart, OfQuery, OfSt
 use Rattle.rule_names.specs.declared.bind.Bind.{Bind}
 use Rattle.rule_names.specs.declared.bind.Bind.TheVariants as bound
 use Rattle.rule_meaning.specs.Functions.{MadeRow}
-use Rattle.rule_meaning.specs.Known.{Known, Made, is_known, is_known_ref, literal_at, tree_of_piece}
+use Rattle.rule_meaning.specs.StoreModel.{StoreModel, Made, is_known, is_known_ref, literal_at, tree_of_piece}
 use Rattle.evidence_rules.specs.CitedLines.{IsLine, GivesBound, GivesExpr, GivesPiece, GivesQuery, GivesVariable, GiveArgs, value_said}
 use Rattle.rule_meaning.specs.Filters.{candidates_by, candidates_of, filtered, kept}
 use Rattle.evidence_rules.specs.Follows.{AllFollow, Follows, FollowsAtExpr, FollowsAtStep, FollowsCapture, FollowsFilter, FollowsIn, FollowsRows, FollowsStep, GivesBefore, GivesFurther, HasValue, IsFrameOf, IsFrameOfStep}
@@ -36,7 +37,7 @@ use Rattle.rule_meaning.specs.Seeing.{are_called, grown, rows_kept, trees_kept}
 use Rattle.rule_meaning.specs.Steps.{found_step, on_found}
 use Rattle.rule_meaning.specs.Verdicts.{is_found}
 use Rattle.query_steps.proofs.FilterWalks.{kept-known, known-found}
-use Rattle.query_steps.proofs.Known.{inside-known}
+use Rattle.query_steps.proofs.KnownModel.{inside-known}
 use Rattle.query_steps.proofs.KnownAnswers.{answer-known}
 use Rattle.query_steps.proofs.KnownRows.{filter-all, keys-captured, rows-known}
 use Rattle.evidence_rules.proofs.LinesBehind.{at-end, behind-first}
@@ -44,30 +45,30 @@ use Rattle.query_steps.proofs.SeenAnswers.{answer-called, answer-known as kept-a
 use Rattle.query_steps.proofs.SeenGrowth.{known-before, row-known-before}
 
 -- each value that a line says is known
-abbrev pub outcome_known : Known → Outcome → Bool
+abbrev pub outcome_known : StoreModel → Outcome → Bool
 outcome_known known (says.Value v) = is_known_ref known v
 outcome_known known (says.Rows rows) = list_all (is_known known) rows
 outcome_known known (says.Verdict verdict) = true
 
-abbrev pub AreKnown : Known → List Line → Type 0
+abbrev pub AreKnown : StoreModel → List Line → Type 0
 AreKnown known lines = (number : ℕ) (l : Line) → line_of lines number ≡ Some l → outcome_known known l.outcome ≡ true
 
 -- ---- what is known stays known
 
-rows-before : (known : Known) (more : List Made) (rows : List Row) → list_all (is_known known) rows ≡ true → list_all (is_known (grown known more)) rows ≡ true
+rows-before : (known : StoreModel) (more : List Made) (rows : List Row) → list_all (is_known known) rows ≡ true → list_all (is_known (grown known more)) rows ≡ true
 rows-before known more [] all = refl
 rows-before known more (r ∷ rows) all =
     let both = and_parts (is_known known r) (list_all (is_known known) rows) all in
     and_from _ _ (row-known-before known more r both.0) (rows-before known more rows both.1)
 
-pub outcome-before : (known : Known) (more : List Made) (outcome : Outcome) → outcome_known known outcome ≡ true → outcome_known (grown known more) outcome ≡ true
+pub outcome-before : (known : StoreModel) (more : List Made) (outcome : Outcome) → outcome_known known outcome ≡ true → outcome_known (grown known more) outcome ≡ true
 outcome-before known more (says.Value v) is = known-before known more v is
 outcome-before known more (says.Rows rows) is = rows-before known more rows is
 outcome-before known more (says.Verdict verdict) is = refl
 
 -- ---- rows of filters and of type blocks
 
-module _ (known : Known) (after_key : Bool) where
+module _ (known : StoreModel) (after_key : Bool) where
   candidates-by : (k : Kind) (v : Ref) (rs : List Ref) → is_known_ref known v ≡ true → list_all (is_known_ref known) rs ≡ true
       → list_all (is_known_ref known) (candidates_by k after_key v rs) ≡ true
   candidates-by value.List v rs one all = all
@@ -97,7 +98,7 @@ module _ (known : Known) (after_key : Bool) where
       and_from _ _ both.0 (filtered-known rows verdicts both.1)
   filtered-known (Unmade n ∷ rows) verdicts all = filtered-known rows verdicts all
 
-module _ (known : Known) (name : List ℕ) where
+module _ (known : StoreModel) (name : List ℕ) where
   typed-known : (o : Option Ref) → list_all (is_known known) (map Found (typed_in known name o)) ≡ true
   typed-known None = refl
   typed-known (Some r) = by (is_map (value_for known r).kind)
@@ -106,7 +107,7 @@ module _ (known : Known) (name : List ℕ) where
       by true = known-found known (has_type known name) (inside known r) (inside-known known r)
       by false = refl
 
-type-known : (known : Known) (site : ℕ) (current : Ref) → list_all (is_known known) (rows_at_type known site current) ≡ true
+type-known : (known : StoreModel) (site : ℕ) (current : Ref) → list_all (is_known known) (rows_at_type known site current) ≡ true
 type-known known site current = by (type_at known.file site)
   where
     by : (o : Option (List ℕ)) → list_all (is_known known) (option_map_or (λ name. rows_of_type known name current) o []) ≡ true
@@ -115,7 +116,7 @@ type-known known site current = by (type_at known.file site)
 
 -- ---- a step where it stands
 
-module _ (known : Known) (current : Ref) (before further : List Row) (verdicts : List Verdict) (here : is_known_ref known current ≡ true)
+module _ (known : StoreModel) (current : Ref) (before further : List Row) (verdicts : List Verdict) (here : is_known_ref known current ≡ true)
     (all : list_all (is_known known) before ≡ true) (others : list_all (is_known known) further ≡ true) where
   begun : (first : Bool) → list_all (is_known known) (if first then Found current ∷ [] else before) ≡ true
   begun true = and_from _ _ here refl
@@ -135,7 +136,7 @@ module _ (known : Known) (current : Ref) (before further : List Row) (verdicts :
 
 -- ---- what lines before give
 
-module _ (known : Known) (lines : List Line) (old : AreKnown known lines) where
+module _ (known : StoreModel) (lines : List Line) (old : AreKnown known lines) where
   rows-at : (number : ℕ) (of : LineKind) (frame site : ℕ) (rows : List Row) → IsLine lines number of frame site (says.Rows rows) → list_all (is_known known) rows ≡ true
   rows-at number of frame site rows is = subst (λ (o : Outcome). outcome_known known o ≡ true) is.outcome_is (old number is.line is.stands)
 
@@ -267,23 +268,23 @@ module _ (known : Known) (lines : List Line) (old : AreKnown known lines) where
     frame-known frame (Some (OfPart (call n negated name args message))) v h = value-at frame v h
     frame-known frame piece v h = absurd h
 
-    at-line : (frame site : ℕ) (of : LineKind) (cites : List ℕ) (outcome : Outcome) (more : List Made) → FollowsIn known lines frame site of cites outcome more
+    at-line : (version : Version) (frame site : ℕ) (of : LineKind) (cites : List ℕ) (outcome : Outcome) (more : List Made) → FollowsIn version known lines frame site of cites outcome more
         → outcome_known (grown known more) outcome ≡ true
-    at-line frame site kind.Frame cites (says.Value v) more h = known-before known more v (frame-known frame (piece_at known.file site) v h.1)
-    at-line frame site of cites (says.Rows rows) more h = at-rows frame site of (piece_at known.file site) cites rows more refl h
-    at-line frame site of cites (says.Verdict verdict) more h = refl
-    at-line frame site of cites outcome more h = absurd h
+    at-line version frame site kind.Frame cites (says.Value v) more h = known-before known more v (frame-known frame (piece_at known.file site) v h.1)
+    at-line version frame site of cites (says.Rows rows) more h = at-rows frame site of (piece_at known.file site) cites rows more refl h
+    at-line version frame site of cites (says.Verdict verdict) more h = refl
+    at-line version frame site of cites outcome more h = absurd h
 
     -- each value that a line names is known once the trees are there that it makes known
-    pub follows-known : (line : Line) (more : List Made) → Follows known lines line more → outcome_known (grown known more) line.outcome ≡ true
-    follows-known line more follows = elim follows [
+    pub follows-known : (version : Version) (line : Line) (more : List Made) → Follows version known lines line more → outcome_known (grown known more) line.outcome ≡ true
+    follows-known version line more follows = elim follows [
       | inl (q, none) ↦ outcome-before known more line.outcome (ap (outcome_known known) q.4 ∙ root)
-      | inr (frame, site, frame_is, site_is, home, h) ↦ at-line frame site line.kind line.cites line.outcome more h
+      | inr (frame, site, frame_is, site_is, home, h) ↦ at-line version frame site line.kind line.cites line.outcome more h
     ]
 
 -- ---- all lines
 
-pub known-behind : (known : Known) (more : List Made) (lines : List Line) (line : Line) → AreKnown known lines → outcome_known (grown known more) line.outcome ≡ true
+pub known-behind : (known : StoreModel) (more : List Made) (lines : List Line) (line : Line) → AreKnown known lines → outcome_known (grown known more) line.outcome ≡ true
     → AreKnown (grown known more) (lines ++ line ∷ [])
 known-behind known more lines line old new zero l stands = absurd (none-some l stands)
 known-behind known more lines line old new (suc n) l stands =
@@ -297,7 +298,7 @@ abbrev pub IsKept : List Line → List Made → Type 0
 IsKept lines more = (answer : List MadeRow) × (more ≡ trees_kept (suc (length lines)) 0 answer)
 
 -- so are those that a line makes known
-module _ (known : Known) (lines : List Line) (frame site : ℕ) where
+module _ (known : StoreModel) (lines : List Line) (frame site : ℕ) where
   kept-of-expr : (of : LineKind) (e : Expr) (cites : List ℕ) (rows : List Row) (more : List Made) → FollowsAtExpr known lines frame site of e cites rows more → IsKept lines more
   kept-of-expr kind.Literal (literal n tree) cites rows more h = ([], h.2)
   kept-of-expr kind.Found (found n q) (c ∷ []) rows more h = ([], h.3)
@@ -310,38 +311,38 @@ module _ (known : Known) (lines : List Line) (frame site : ℕ) where
   kept-of-rows kind.Types (Some (OfPart (kinds n name conditions inner))) cites rows more h = ([], h.4)
   kept-of-rows of piece cites rows more h = absurd h
 
-  kept-of-line : (of : LineKind) (cites : List ℕ) (outcome : Outcome) (more : List Made) → FollowsIn known lines frame site of cites outcome more → IsKept lines more
-  kept-of-line kind.Frame cites (says.Value v) more h = ([], h.2)
-  kept-of-line of cites (says.Rows rows) more h = kept-of-rows of (piece_at known.file site) cites rows more h
-  kept-of-line of cites (says.Verdict verdict) more h = ([], h.1)
-  kept-of-line of cites outcome more h = absurd h
+  kept-of-line : (version : Version) (of : LineKind) (cites : List ℕ) (outcome : Outcome) (more : List Made) → FollowsIn version known lines frame site of cites outcome more → IsKept lines more
+  kept-of-line version kind.Frame cites (says.Value v) more h = ([], h.2)
+  kept-of-line version of cites (says.Rows rows) more h = kept-of-rows of (piece_at known.file site) cites rows more h
+  kept-of-line version of cites (says.Verdict verdict) more h = ([], h.1)
+  kept-of-line version of cites outcome more h = absurd h
 
-pub follows-kept : (known : Known) (lines : List Line) (line : Line) (more : List Made) → Follows known lines line more → IsKept lines more
-follows-kept known lines line more follows = elim follows [
+pub follows-kept : (version : Version) (known : StoreModel) (lines : List Line) (line : Line) (more : List Made) → Follows version known lines line more → IsKept lines more
+follows-kept version known lines line more follows = elim follows [
   | inl (q, none) ↦ ([], none)
-  | inr (frame, site, frame_is, site_is, home, h) ↦ kept-of-line known lines frame site line.kind line.cites line.outcome more h
+  | inr (frame, site, frame_is, site_is, home, h) ↦ kept-of-line known lines frame site version line.kind line.cites line.outcome more h
 ]
 
 -- so no later line finds a tree at its own number
-pub follows-called : (known : Known) (lines : List Line) (line : Line) (more : List Made) (calls : List ℕ) (site : ℕ) → length calls ≡ length lines → are_called calls known.made ≡ true
-    → Follows known lines line more → are_called (calls ++ site ∷ []) (grown known more).made ≡ true
-follows-called known lines line more calls site counted called follows =
-    let kept_trees = follows-kept known lines line more follows in
+pub follows-called : (version : Version) (known : StoreModel) (lines : List Line) (line : Line) (more : List Made) (calls : List ℕ) (site : ℕ) → length calls ≡ length lines → are_called calls known.made ≡ true
+    → Follows version known lines line more → are_called (calls ++ site ∷ []) (grown known more).made ≡ true
+follows-called version known lines line more calls site counted called follows =
+    let kept_trees = follows-kept version known lines line more follows in
     ap (λ (trees : List Made). are_called (calls ++ site ∷ []) (grown known trees).made) kept_trees.1
     ∙ subst (λ (n : ℕ). are_called (calls ++ site ∷ []) (grown known (trees_kept (suc n) 0 kept_trees.0)).made ≡ true) counted (answer-called known calls site called kept_trees.0)
 
 -- the values of all lines are known where they follow
-pub all-known : (known : Known) (calls : List ℕ) (before rest : List Line) → is_known_ref known root_ref ≡ true
+pub all-known : (version : Version) (known : StoreModel) (calls : List ℕ) (before rest : List Line) → is_known_ref known root_ref ≡ true
     → ((site : ℕ) (tree : Forest) → literal_at known.file site ≡ Some tree → is_known_ref known (literal_ref site) ≡ true)
-    → length calls ≡ length before → are_called calls known.made ≡ true → AreKnown known before → AllFollow known before rest
+    → length calls ≡ length before → are_called calls known.made ≡ true → AreKnown known before → AllFollow version known before rest
     → (made : List Made) × AreKnown (record { template = known.template; file = known.file; made = made }) (before ++ rest)
-all-known known calls before [] root literals counted called old follow = (known.made, subst (AreKnown known) (sym (append-nil before)) old)
-all-known known calls before (line ∷ rest) root literals counted called old follow =
+all-known version known calls before [] root literals counted called old follow = (known.made, subst (AreKnown known) (sym (append-nil before)) old)
+all-known version known calls before (line ∷ rest) root literals counted called old follow =
     let more = follow.0 in
-    let new = follows-known known before old root literals calls counted called line more follow.1 in
+    let new = follows-known known before old root literals calls counted called version line more follow.1 in
     let longer : length (calls ++ 0 ∷ []) ≡ length (before ++ line ∷ []) = length-append calls (0 ∷ []) ∙ ap (λ (n : ℕ). n + 1) counted ∙ sym (length-append before (line ∷ [])) in
-    let all = all-known (grown known more) (calls ++ 0 ∷ []) (before ++ line ∷ []) rest
+    let all = all-known version (grown known more) (calls ++ 0 ∷ []) (before ++ line ∷ []) rest
     (known-before known more root_ref root)
     (λ site tree there. known-before known more (literal_ref site) (literals site tree there))
-    longer (follows-called known before line more calls 0 counted called follow.1) (known-behind known more before line old new) follow.2 in
+    longer (follows-called version known before line more calls 0 counted called follow.1) (known-behind known more before line old new) follow.2 in
     (all.0, subst (AreKnown (record { template = known.template; file = known.file; made = all.0 })) (append_assoc before (line ∷ []) rest) all.1)

@@ -5,6 +5,7 @@ use Rattle.std.proofs.lemmas.Bool.{and_from, and_parts}
 use Rattle.std.proofs.lemmas.Option.{same_Some, none-some}
 use Rattle.evidence_lines.specs.Lines.{line_of}
 use Rattle.evidence_lines.specs.declared.line.Line.{Line}
+use Rattle.evidence_lines.specs.declared.version.Version.{Version}
 use Rattle.evidence_lines.specs.declared.line.LineKind.{LineKind}
 use Rattle.evidence_lines.specs.declared.line.LineKind.TheVariants as kind
 use Rattle.evidence_lines.specs.declared.line.Outcome.{Outcome}
@@ -15,7 +16,7 @@ use Rattle.guard_syntax.specs.declared.row.Row.{Row}
 use Rattle.rule_names.specs.Pieces.{Piece, OfBody, OfExpr, OfPart, OfQuery, OfStep, piece_at}
 use Rattle.rule_names.specs.declared.bind.Bind.{Bind}
 use Rattle.rule_names.specs.declared.bind.Bind.TheVariants as bound
-use Rattle.rule_meaning.specs.Known.{Known, Made}
+use Rattle.rule_meaning.specs.StoreModel.{StoreModel, Made}
 use Rattle.evidence_rules.specs.CitedLines.{IsLine, GivesBound, GivesExpr, GivesPiece, GivesQuery, GivesVariable, GiveArgs, value_said}
 use Rattle.evidence_rules.specs.Follows.{Follows, FollowsAtExpr, FollowsAtStep, FollowsCapture, FollowsFilter, FollowsIn, FollowsRows, FollowsStep, GivesBefore, GivesFurther, HasValue, IsFrameOf, IsFrameOfStep}
 use Rattle.rule_meaning.specs.Places.{step_in, steps_in}
@@ -27,30 +28,30 @@ use Rattle.evidence_truth.proofs.HeldRows.{answer-held, is_held, is_held_ref, ke
 use Rattle.evidence_truth.proofs.HeldSeen.{answer-kept-held, ref-held-before, row-held-before}
 
 -- each value that a line says is known
-abbrev pub is_held_outcome : Known → Outcome → Bool
+abbrev pub is_held_outcome : StoreModel → Outcome → Bool
 is_held_outcome known (says.Value v) = is_held_ref known v
 is_held_outcome known (says.Rows rows) = list_all (is_held known) rows
 is_held_outcome known (says.Verdict verdict) = true
 
-abbrev pub AreHeld : Known → List Line → Type 0
+abbrev pub AreHeld : StoreModel → List Line → Type 0
 AreHeld known lines = (number : ℕ) (l : Line) → line_of lines number ≡ Some l → is_held_outcome known l.outcome ≡ true
 
 -- ---- what is known stays known
 
-rows-before : (known : Known) (more : List Made) (rows : List Row) → list_all (is_held known) rows ≡ true → list_all (is_held (grown known more)) rows ≡ true
+rows-before : (known : StoreModel) (more : List Made) (rows : List Row) → list_all (is_held known) rows ≡ true → list_all (is_held (grown known more)) rows ≡ true
 rows-before known more [] all = refl
 rows-before known more (r ∷ rows) all =
     let both = and_parts (is_held known r) (list_all (is_held known) rows) all in
     and_from _ _ (row-held-before known more r both.0) (rows-before known more rows both.1)
 
-pub outcome-before : (known : Known) (more : List Made) (outcome : Outcome) → is_held_outcome known outcome ≡ true → is_held_outcome (grown known more) outcome ≡ true
+pub outcome-before : (known : StoreModel) (more : List Made) (outcome : Outcome) → is_held_outcome known outcome ≡ true → is_held_outcome (grown known more) outcome ≡ true
 outcome-before known more (says.Value v) is = ref-held-before known more v is
 outcome-before known more (says.Rows rows) is = rows-before known more rows is
 outcome-before known more (says.Verdict verdict) is = refl
 
 -- ---- what lines before give
 
-module _ (known : Known) (lines : List Line) (old : AreHeld known lines) where
+module _ (known : StoreModel) (lines : List Line) (old : AreHeld known lines) where
   rows-at : (number : ℕ) (of : LineKind) (frame site : ℕ) (rows : List Row) → IsLine lines number of frame site (says.Rows rows) → list_all (is_held known) rows ≡ true
   rows-at number of frame site rows is = subst (λ (o : Outcome). is_held_outcome known o ≡ true) is.outcome_is (old number is.line is.stands)
 
@@ -180,23 +181,23 @@ module _ (known : Known) (lines : List Line) (old : AreHeld known lines) where
     frame-held frame (Some (OfPart (call n negated name args message))) v h = value-at frame v h
     frame-held frame piece v h = absurd h
 
-    at-line : (frame site : ℕ) (of : LineKind) (cites : List ℕ) (outcome : Outcome) (more : List Made) → FollowsIn known lines frame site of cites outcome more
+    at-line : (version : Version) (frame site : ℕ) (of : LineKind) (cites : List ℕ) (outcome : Outcome) (more : List Made) → FollowsIn version known lines frame site of cites outcome more
         → is_held_outcome (grown known more) outcome ≡ true
-    at-line frame site kind.Frame cites (says.Value v) more h = ref-held-before known more v (frame-held frame (piece_at known.file site) v h.1)
-    at-line frame site of cites (says.Rows rows) more h = at-rows frame site of (piece_at known.file site) cites rows more refl h
-    at-line frame site of cites (says.Verdict verdict) more h = refl
-    at-line frame site of cites outcome more h = absurd h
+    at-line version frame site kind.Frame cites (says.Value v) more h = ref-held-before known more v (frame-held frame (piece_at known.file site) v h.1)
+    at-line version frame site of cites (says.Rows rows) more h = at-rows frame site of (piece_at known.file site) cites rows more refl h
+    at-line version frame site of cites (says.Verdict verdict) more h = refl
+    at-line version frame site of cites outcome more h = absurd h
 
     -- each value that a line names is known once the trees are there that it makes known
-    pub follows-held : (line : Line) (more : List Made) → Follows known lines line more → is_held_outcome (grown known more) line.outcome ≡ true
-    follows-held line more follows = elim follows [
+    pub follows-held : (version : Version) (line : Line) (more : List Made) → Follows version known lines line more → is_held_outcome (grown known more) line.outcome ≡ true
+    follows-held version line more follows = elim follows [
       | inl (q, none) ↦ outcome-before known more line.outcome (ap (is_held_outcome known) q.4)
-      | inr (frame, site, frame_is, site_is, home, h) ↦ at-line frame site line.kind line.cites line.outcome more h
+      | inr (frame, site, frame_is, site_is, home, h) ↦ at-line version frame site line.kind line.cites line.outcome more h
     ]
 
 -- ---- all lines
 
-pub held-behind : (known : Known) (more : List Made) (lines : List Line) (line : Line) → AreHeld known lines → is_held_outcome (grown known more) line.outcome ≡ true
+pub held-behind : (known : StoreModel) (more : List Made) (lines : List Line) (line : Line) → AreHeld known lines → is_held_outcome (grown known more) line.outcome ≡ true
     → AreHeld (grown known more) (lines ++ line ∷ [])
 held-behind known more lines line old new zero l stands = absurd (none-some l stands)
 held-behind known more lines line old new (suc n) l stands =

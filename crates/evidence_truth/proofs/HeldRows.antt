@@ -20,7 +20,7 @@ use Rattle.guard_syntax.specs.declared.row.Row.{Row}
 use Rattle.guard_syntax.specs.declared.row.Row.TheVariants.{Found, Missing, Unmade}
 use Rattle.guard_syntax.specs.declared.row.Verdict.{Verdict}
 use Rattle.rule_meaning.specs.Functions.{AreRows, Functions, Gives, IsRow, IsRowFor, Kept, MadeRow, New, argument, joined, new_or_missing}
-use Rattle.rule_meaning.specs.Known.{Known, is_known_ref, made_at, meant, stands_for, tree_of}
+use Rattle.rule_meaning.specs.StoreModel.{StoreModel, is_known_ref, made_at, meant, stands_for, tree_of}
 use Rattle.rule_meaning.specs.Values.{Value, is_list}
 use Rattle.rule_meaning.specs.Filters.{candidates_by, candidates_in, candidates_of, row_candidates, filtered, kept}
 use Rattle.rule_meaning.specs.Keys.{captured_row, keys_by, passes}
@@ -31,24 +31,24 @@ use Rattle.rule_meaning.specs.Steps.{each_inside, every_by, found_or_missing, fo
 use Rattle.rule_meaning.specs.Verdicts.{is_pass}
 use Rattle.query_steps.proofs.KnownRows.{filter-all, flat_map-all}
 
-abbrev pub is_held_origin : Known → Origin → Bool
+abbrev pub is_held_origin : StoreModel → Origin → Bool
 is_held_origin k origin.Template = true
 is_held_origin k (origin.Literal site) = true
 is_held_origin k (origin.Made line row) = is_some (made_at k.made line row)
 
-abbrev pub is_held_ref : Known → Ref → Bool
+abbrev pub is_held_ref : StoreModel → Ref → Bool
 is_held_ref k r = is_held_origin k r.origin
 
-abbrev pub is_held : Known → Row → Bool
+abbrev pub is_held : StoreModel → Row → Bool
 is_held k (Found r) = is_held_ref k r
 is_held k (Missing v step) = is_held_ref k v
 is_held k (Unmade call) = true
 
 -- what is known is held
-no-tree : (k : Known) (r : Ref) → tree_of k r.origin ≡ None → is_known_ref k r ≡ true → false ≡ true
+no-tree : (k : StoreModel) (r : Ref) → tree_of k r.origin ≡ None → is_known_ref k r ≡ true → false ≡ true
 no-tree k r none is = let lost : is_known_ref k r ≡ false = rw (none) refl in sym lost ∙ is
 
-pub known-held : (k : Known) (r : Ref) → is_known_ref k r ≡ true → is_held_ref k r ≡ true
+pub known-held : (k : StoreModel) (r : Ref) → is_known_ref k r ≡ true → is_held_ref k r ≡ true
 known-held k r is = by r.origin (no-tree k r)
   where
     by : (o : Origin) → (tree_of k o ≡ None → is_known_ref k r ≡ true → false ≡ true) → is_held_origin k o ≡ true
@@ -62,11 +62,11 @@ known-held k r is = by r.origin (no-tree k r)
 
 -- ---- one value
 
-abbrev held_if : Known → Option Ref → Bool
+abbrev held_if : StoreModel → Option Ref → Bool
 held_if k None = true
 held_if k (Some r) = is_held_ref k r
 
-module _ (k : Known) where
+module _ (k : StoreModel) where
   if-held : (b : Bool) (o : Option Ref) → held_if k o ≡ true → held_if k (if b then o else None) ≡ true
   if-held true o h = h
   if-held false o h = refl
@@ -106,7 +106,7 @@ module _ (k : Known) where
 
 -- ---- all that stands in a value
 
-module _ (k : Known) (site : ℕ) (v : Ref) (hv : is_held_ref k v ≡ true) where
+module _ (k : StoreModel) (site : ℕ) (v : Ref) (hv : is_held_ref k v ≡ true) where
   one : list_all (is_held k) (Found v ∷ []) ≡ true
   one = and_from _ _ hv refl
 
@@ -155,7 +155,7 @@ module _ (k : Known) (site : ℕ) (v : Ref) (hv : is_held_ref k v ≡ true) wher
 
 -- ---- a step, and a capture
 
-module _ (k : Known) (last : Bool) (rows : List Row) (hrows : list_all (is_held k) rows ≡ true) where
+module _ (k : StoreModel) (last : Bool) (rows : List Row) (hrows : list_all (is_held k) rows ≡ true) where
   found-step-held : (s : Step) (v : Ref) → is_held_ref k v ≡ true → list_all (is_held k) (found_step k last rows s v) ≡ true
   found-step-held (this site) v hv = one k site v hv
   found-step-held (var site name) v hv = hrows
@@ -176,7 +176,7 @@ module _ (k : Known) (last : Bool) (rows : List Row) (hrows : list_all (is_held 
   pub rows-held : (s : Step) (before : List Row) → list_all (is_held k) before ≡ true → list_all (is_held k) (flat_map (on_found (found_step k last rows s)) before) ≡ true
   rows-held s before h = flat_map-all (is_held k) (is_held k) (on_found (found_step k last rows s)) (row-held s) before h
 
-captured-held : (k : Known) (row : Row) → is_held k row ≡ true → list_all (is_held k) (captured_row k row) ≡ true
+captured-held : (k : StoreModel) (row : Row) → is_held k row ≡ true → list_all (is_held k) (captured_row k row) ≡ true
 captured-held k (Found r) h = at r.key (is_some (stands_for k (key_of r)))
   where
     at : (key there : Bool) → list_all (is_held k) (if key then [] else (if there then Found (key_of r) ∷ [] else [])) ≡ true
@@ -187,24 +187,24 @@ captured-held k (Missing v site) h = refl
 captured-held k (Unmade call) h = refl
 
 -- the keys that a capture binds
-pub keys-captured : (k : Known) (rows : List Row) → list_all (is_held k) rows ≡ true → list_all (is_held k) (flat_map (captured_row k) rows) ≡ true
+pub keys-captured : (k : StoreModel) (rows : List Row) → list_all (is_held k) rows ≡ true → list_all (is_held k) (flat_map (captured_row k) rows) ≡ true
 keys-captured k rows h = flat_map-all (is_held k) (is_held k) (captured_row k) (captured-held k) rows h
 
 -- ---- rows of filters and of type blocks
 
-kept-one : (k : Known) (passes : Bool) (r : Ref) (rows : List Row) → is_held_ref k r ≡ true → list_all (is_held k) rows ≡ true
+kept-one : (k : StoreModel) (passes : Bool) (r : Ref) (rows : List Row) → is_held_ref k r ≡ true → list_all (is_held k) rows ≡ true
     → list_all (is_held k) (if passes then Found r ∷ rows else rows) ≡ true
 kept-one k true r rows here others = and_from _ _ here others
 kept-one k false r rows here others = others
 
-kept-held : (k : Known) (rs : List Ref) (vs : List Verdict) → list_all (is_held_ref k) rs ≡ true → list_all (is_held k) (kept rs vs) ≡ true
+kept-held : (k : StoreModel) (rs : List Ref) (vs : List Verdict) → list_all (is_held_ref k) rs ≡ true → list_all (is_held k) (kept rs vs) ≡ true
 kept-held k [] vs all = refl
 kept-held k (r ∷ rs) [] all = refl
 kept-held k (r ∷ rs) (v ∷ vs) all =
     let parts = and_parts (is_held_ref k r) (list_all (is_held_ref k) rs) all in
     kept-one k (is_pass v) r (kept rs vs) parts.0 (kept-held k rs vs parts.1)
 
-module _ (known : Known) (after_key : Bool) where
+module _ (known : StoreModel) (after_key : Bool) where
   candidates-by : (k : Kind) (v : Ref) (rs : List Ref) → is_held_ref known v ≡ true → list_all (is_held_ref known) rs ≡ true
       → list_all (is_held_ref known) (candidates_by k after_key v rs) ≡ true
   candidates-by value.List v rs first all = all
@@ -242,7 +242,7 @@ module _ (known : Known) (after_key : Bool) where
       and_from _ _ both.0 (filtered-held rows verdicts both.1)
   filtered-held (Unmade n ∷ rows) verdicts all = filtered-held rows verdicts all
 
-module _ (known : Known) (name : List ℕ) where
+module _ (known : StoreModel) (name : List ℕ) where
   typed-held : (o : Option Ref) → held_if known o ≡ true → list_all (is_held known) (map Found (typed_in known name o)) ≡ true
   typed-held None ho = refl
   typed-held (Some r) ho = by (is_map (value_for known r).kind)
@@ -251,7 +251,7 @@ module _ (known : Known) (name : List ℕ) where
       by true = all-found known (kept_of (has_type known name) (inside known r)) (filter-all (has_type known name) (is_held_ref known) (inside known r) (inside-held known r ho))
       by false = refl
 
-pub type-held : (known : Known) (site : ℕ) (current : Ref) → is_held_ref known current ≡ true → list_all (is_held known) (rows_at_type known site current) ≡ true
+pub type-held : (known : StoreModel) (site : ℕ) (current : Ref) → is_held_ref known current ≡ true → list_all (is_held known) (rows_at_type known site current) ≡ true
 type-held known site current here = by (type_at known.file site)
   where
     by : (o : Option (List ℕ)) → list_all (is_held known) (option_map_or (λ name. rows_of_type known name current) o []) ≡ true
@@ -260,7 +260,7 @@ type-held known site current here = by (type_at known.file site)
 
 -- ---- a step where it stands
 
-module _ (known : Known) (current : Ref) (before further : List Row) (verdicts : List Verdict) (here : is_held_ref known current ≡ true)
+module _ (known : StoreModel) (current : Ref) (before further : List Row) (verdicts : List Verdict) (here : is_held_ref known current ≡ true)
     (all : list_all (is_held known) before ≡ true) (others : list_all (is_held known) further ≡ true) where
   begun : (first : Bool) → list_all (is_held known) (if first then Found current ∷ [] else before) ≡ true
   begun true = and_from _ _ here refl
@@ -281,14 +281,14 @@ module _ (known : Known) (current : Ref) (before further : List Row) (verdicts :
 -- ---- answers
 
 -- each row of an answer that is no new tree
-abbrev pub is_held_made : Known → MadeRow → Bool
+abbrev pub is_held_made : StoreModel → MadeRow → Bool
 is_held_made known (New tree) = true
 is_held_made known (Kept r) = is_held known r
 
-abbrev pub is_held_answer : Known → List MadeRow → Bool
+abbrev pub is_held_answer : StoreModel → List MadeRow → Bool
 is_held_answer known made = list_all (is_held_made known) made
 
-module _ (Holds : Value → Forest → Type 0) (known : Known) (call : ℕ) where
+module _ (Holds : Value → Forest → Type 0) (known : StoreModel) (call : ℕ) where
   given-held : (given : Option Forest) → is_held_made known (new_or_missing call given) ≡ true
   given-held None = refl
   given-held (Some tree) = refl
@@ -310,7 +310,7 @@ module _ (Holds : Value → Forest → Type 0) (known : Known) (call : ℕ) wher
       let both : (is_held known r ≡ true) × (list_all (is_held known) rows ≡ true) = and_parts _ _ all in
       and_from _ _ (one-held r m both.0 are.0) (each-held-row rows made both.1 are.1)
 
-argument-held : (known : Known) (args : List (List Row)) (i : ℕ) → list_all (list_all (is_held known)) args ≡ true → list_all (is_held known) (argument args i) ≡ true
+argument-held : (known : StoreModel) (args : List (List Row)) (i : ℕ) → list_all (list_all (is_held known)) args ≡ true → list_all (is_held known) (argument args i) ≡ true
 argument-held known args i all = at args i all
   where
     at : (xs : List (List Row)) (n : ℕ) → list_all (list_all (is_held known)) xs ≡ true → list_all (is_held known) (get_or xs n []) ≡ true
@@ -319,7 +319,7 @@ argument-held known args i all = at args i all
     at (x ∷ xs) (suc n) each = let both : (list_all (is_held known) x ≡ true) × (list_all (list_all (is_held known)) xs ≡ true) = and_parts _ _ each in at xs n both.1
 
 -- what a function answers
-pub answer-held : (known : Known) (f : Function) (call : ℕ) (args : List (List Row)) (made : List MadeRow) → list_all (list_all (is_held known)) args ≡ true → Functions known f call args made
+pub answer-held : (known : StoreModel) (f : Function) (call : ℕ) (args : List (List Row)) (made : List MadeRow) → list_all (list_all (is_held known)) args ≡ true → Functions known f call args made
     → is_held_answer known made ≡ true
 answer-held known function.Count call args made all is = ap (is_held_answer known) is
 answer-held known function.Join call args made all is = ap (is_held_answer known) is ∙ and_from _ _ (given-held (λ v tree. ⊥) known call (joined _ _)) refl

@@ -13,9 +13,9 @@ use Rattle.guard_syntax.specs.declared.row.Ref.{Ref}
 use Rattle.guard_syntax.specs.declared.row.Row.{Row}
 use Rattle.guard_syntax.specs.declared.row.Row.TheVariants as row
 use Rattle.rule_meaning.specs.Functions.{MadeRow, New, Kept}
-use Rattle.rule_meaning.specs.Known.{Known, Made, made_at}
-use Rattle.rule_meaning.specs.Seeing.{are_called, call_at, grown, rows_kept, see_answer, see_origin, see_row, see_spot, trees_kept}
-use Rattle.rule_meaning.specs.Spots.{Made as MadeBy, Missing, Spot, SpotOrigin, SpotRow, Found, answered_row, made_spot}
+use Rattle.rule_meaning.specs.StoreModel.{StoreModel, Made, made_at}
+use Rattle.rule_meaning.specs.Seeing.{are_called, call_at, grown, rows_kept, see_answer, see_origin, see_row, see_location, trees_kept}
+use Rattle.rule_meaning.specs.Locations.{Made as MadeBy, Missing, Location, LocatedOrigin, LocatedRow, Found, answered_row, made_location}
 use Rattle.evidence_truth.proofs.HeldRows.{is_held, is_held_answer, is_held_origin, is_held_ref}
 use Rattle.query_steps.proofs.SeenAnswers.{free-behind, next-free, first-tree, later-tree}
 use Rattle.query_steps.proofs.SeenGrowth.{found-before, call-before}
@@ -43,7 +43,7 @@ called-line calls (m ∷ made) line at tree called there =
 
 -- ---- what is held
 
-module _ (known : Known) (more : List Made) where
+module _ (known : StoreModel) (more : List Made) where
   held-made : (line at : ℕ) (o : Option Forest) → made_at known.made line at ≡ o → is_some o ≡ true → is_some (made_at (known.made ++ more) line at) ≡ true
   held-made line at None there is = absurd cc
   held-made line at (Some tree) there is = ap is_some (made-before known.made more line at tree there)
@@ -74,49 +74,49 @@ module _ (known : Known) (more : List Made) where
     origin-seen (origin.Literal site) is = refl
     origin-seen (origin.Made line at) is = made-seen line at (made_at known.made line at) refl is
 
-    pub spot-seen : (r : Ref) → is_held_ref known r ≡ true → see_spot (grown known more) (calls ++ later) r ≡ see_spot known calls r
-    spot-seen r is = let at : SpotOrigin → Spot = λ o. record { origin = o; node = r.node; key = r.key } in ap at (origin-seen r.origin is)
+    pub location-seen : (r : Ref) → is_held_ref known r ≡ true → see_location (grown known more) (calls ++ later) r ≡ see_location known calls r
+    location-seen r is = let at : LocatedOrigin → Location = λ o. record { origin = o; node = r.node; key = r.key } in ap at (origin-seen r.origin is)
 
     pub row-seen : (x : Row) → is_held known x ≡ true → see_row (grown known more) (calls ++ later) x ≡ see_row known calls x
-    row-seen (row.Found r) is = ap Found (spot-seen r is)
-    row-seen (row.Missing v step) is = ap (λ (w : Spot). Missing w step) (spot-seen v is)
+    row-seen (row.Found r) is = ap Found (location-seen r is)
+    row-seen (row.Missing v step) is = ap (λ (w : Location). Missing w step) (location-seen v is)
     row-seen (row.Unmade call) is = refl
 
     pub rows-seen : (xs : List Row) → list_all (is_held known) xs ≡ true → map (see_row (grown known more) (calls ++ later)) xs ≡ map (see_row known calls) xs
     rows-seen [] all = refl
     rows-seen (x ∷ xs) all =
         let both : (is_held known x ≡ true) × (list_all (is_held known) xs ≡ true) = and_parts _ _ all in
-        ap (λ (y : SpotRow). y ∷ map (see_row (grown known more) (calls ++ later)) xs) (row-seen x both.0)
-        ∙ ap (λ (ys : List SpotRow). see_row known calls x ∷ ys) (rows-seen xs both.1)
+        ap (λ (y : LocatedRow). y ∷ map (see_row (grown known more) (calls ++ later)) xs) (row-seen x both.0)
+        ∙ ap (λ (ys : List LocatedRow). see_row known calls x ∷ ys) (rows-seen xs both.1)
 
 -- ---- the tree of a new line
 
-module _ (known : Known) (calls : List ℕ) (call : ℕ) (called : are_called calls known.made ≡ true) where
+module _ (known : StoreModel) (calls : List ℕ) (call : ℕ) (called : are_called calls known.made ≡ true) where
   -- the line of the call
   abbrev line : ℕ
   line = suc (length calls)
 
   -- the rows from one on, where the trees from there on are those at their places
   module _ (whole : List Made) where
-    abbrev shown : Row → SpotRow
+    abbrev shown : Row → LocatedRow
     shown = see_row (grown known whole) (calls ++ call ∷ [])
 
-    new-seen : (at : ℕ) (tree : Forest) → made_at whole line at ≡ Some tree → shown (row.Found (record { origin = origin.Made line at; node = 0; key = false })) ≡ Found (made_spot call tree)
+    new-seen : (at : ℕ) (tree : Forest) → made_at whole line at ≡ Some tree → shown (row.Found (record { origin = origin.Made line at; node = 0; key = false })) ≡ Found (made_location call tree)
     new-seen at tree there =
-        ap (λ (site : ℕ). Found (made_spot site (unwrap_or (made_at (known.made ++ whole) line at) Nil))) (get_or-append_seam calls call [] 0)
-        ∙ ap (λ (o : Option Forest). Found (made_spot call (unwrap_or o Nil))) (free-behind known.made whole line at (next-free calls known.made at called) ∙ there)
+        ap (λ (site : ℕ). Found (made_location site (unwrap_or (made_at (known.made ++ whole) line at) Nil))) (get_or-append_seam calls call [] 0)
+        ∙ ap (λ (o : Option Forest). Found (made_location call (unwrap_or o Nil))) (free-behind known.made whole line at (next-free calls known.made at called) ∙ there)
 
     rest-seen : (at : ℕ) (made : List MadeRow) → is_held_answer known made ≡ true → ((k : ℕ) → at ≤ k → made_at whole line k ≡ made_at (trees_kept line at made) line k)
         → map shown (rows_kept line at made) ≡ map (answered_row call) (map (see_answer known calls) made)
     rest-seen at [] all there = refl
     rest-seen at (New tree ∷ made) all there =
-        ap (λ (y : SpotRow). y ∷ map shown (rows_kept line (suc at) made)) (new-seen at tree (there at (omega arith) ∙ first-tree line at tree (trees_kept line (suc at) made)))
-        ∙ ap (λ (ys : List SpotRow). Found (made_spot call tree) ∷ ys)
+        ap (λ (y : LocatedRow). y ∷ map shown (rows_kept line (suc at) made)) (new-seen at tree (there at (omega arith) ∙ first-tree line at tree (trees_kept line (suc at) made)))
+        ∙ ap (λ (ys : List LocatedRow). Found (made_location call tree) ∷ ys)
         (rest-seen (suc at) made all (λ k h. there k (omega (arith, h)) ∙ later-tree line at k tree (trees_kept line (suc at) made) (omega (arith, h))))
     rest-seen at (Kept r ∷ made) all there =
         let both : (is_held known r ≡ true) × (is_held_answer known made ≡ true) = and_parts _ _ all in
-        ap (λ (y : SpotRow). y ∷ map shown (rows_kept line (suc at) made)) (row-seen known whole calls (call ∷ []) called r both.0)
-        ∙ ap (λ (ys : List SpotRow). see_row known calls r ∷ ys) (rest-seen (suc at) made both.1 (λ k h. there k (omega (arith, h))))
+        ap (λ (y : LocatedRow). y ∷ map shown (rows_kept line (suc at) made)) (row-seen known whole calls (call ∷ []) called r both.0)
+        ∙ ap (λ (ys : List LocatedRow). see_row known calls r ∷ ys) (rest-seen (suc at) made both.1 (λ k h. there k (omega (arith, h))))
 
     new-held : (at : ℕ) (tree : Forest) → made_at whole line at ≡ Some tree
         → is_held (grown known whole) (row.Found (record { origin = origin.Made line at; node = 0; key = false })) ≡ true

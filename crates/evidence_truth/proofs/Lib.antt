@@ -1,3 +1,4 @@
+mod Decided
 mod FollowingKnown
 mod HeldLines
 mod HeldRows

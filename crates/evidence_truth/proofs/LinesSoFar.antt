@@ -6,6 +6,7 @@ use Rattle.std.proofs.lemmas.Option.{same_Some, none-some}
 use Rattle.doc_values.specs.Tree.{Forest}
 use Rattle.evidence_lines.specs.Lines.{line_of}
 use Rattle.evidence_lines.specs.declared.line.Line.{Line}
+use Rattle.evidence_lines.specs.declared.version.Version.{Version}
 use Rattle.evidence_lines.specs.declared.line.LineKind.{LineKind}
 use Rattle.evidence_lines.specs.declared.line.LineKind.TheVariants as kind
 use Rattle.evidence_lines.specs.declared.line.Outcome.{Outcome}
@@ -13,30 +14,31 @@ use Rattle.evidence_lines.specs.declared.line.Outcome.TheVariants as says
 use Rattle.guard_syntax.specs.Syntax.{File, Exprs}
 use Rattle.guard_syntax.specs.declared.row.Ref.{Ref}
 use Rattle.guard_syntax.specs.declared.row.Row.{Row}
-use Rattle.rule_names.specs.Links.{target_of}
+use Rattle.rule_names.specs.Resolution.{target_of}
 use Rattle.rule_names.specs.Pieces.{Piece, OfBody, OfPart, piece_at, pieces_file}
 use Rattle.rule_names.proofs.Parts.{hits}
-use Rattle.rule_meaning.specs.Known.{Known, Made}
+use Rattle.rule_meaning.specs.StoreModel.{StoreModel, Made}
 use Rattle.evidence_rules.specs.CitedLines.{IsLine, args_at, around_by, around_site, file_frame, outer_frame, outwards, past_frame, scope_by, scope_of, value_of, value_said}
 use Rattle.evidence_rules.specs.Follows.{IsBlockBody, IsRuleBody, IsWhenBody}
 use Rattle.rule_meaning.specs.Roots.{root_ref}
-use Rattle.rule_meaning.specs.Seeing.{are_called, see_row, see_spot}
-use Rattle.rule_meaning.specs.SpotEnvironments.{Environment, Top, Inner, Called, current_of, outer_of}
-use Rattle.rule_meaning.specs.SpotEnvironments as spot
-use Rattle.rule_meaning.specs.SpotFunctions.{IsAnswering}
-use Rattle.rule_meaning.specs.SpotMeaning.{Names}
-use Rattle.rule_meaning.specs.SpotObeys.{Obeys}
-use Rattle.rule_meaning.specs.Spots.{Answers, Spot, SpotRow, World}
-use Rattle.evidence_rules.specs.Judgement.{FrameNames, Holds, HoldsAt, HoldsIn, line_sites, spot_said}
+use Rattle.rule_meaning.specs.Seeing.{are_called, see_row, see_location}
+use Rattle.rule_meaning.specs.Environments.{Environment, Top, Inner, Called, current_of, outer_of}
+use Rattle.rule_meaning.specs.Environments as location
+use Rattle.rule_meaning.specs.FunctionMeaning.{IsAnswering}
+use Rattle.rule_meaning.specs.Meaning.{Names}
+use Rattle.rule_meaning.specs.Fixpoint.{IsFixpoint}
+use Rattle.rule_meaning.specs.Locations.{Answers, Location, LocatedRow, World}
+use Rattle.evidence_rules.specs.Judgement.{FrameNames, Holds, HoldsAt, HoldsIn, line_sites, location_said}
 use Rattle.evidence_truth.proofs.HeldLines.{AreHeld}
 use Rattle.evidence_truth.proofs.HeldRows.{is_held, is_held_ref}
-use Rattle.evidence_truth.proofs.HeldSeen.{rows-seen, spot-seen}
+use Rattle.evidence_truth.proofs.HeldSeen.{rows-seen, location-seen}
 use Rattle.evidence_truth.proofs.PiecesAt.{IsOrdered}
 
 -- ---- all evidence
 
 -- lines over a template and a file, all trees that they make, what functions answer, and what names mean
 pub record Evidence : Type 0 where
+  pub version : Version
   pub template : Forest
   pub file : File
   pub made : List Made
@@ -45,20 +47,20 @@ pub record Evidence : Type 0 where
   pub names : Names
 
 -- the store with these trees
-abbrev pub store_of : Evidence → List Made → Known
+abbrev pub store_of : Evidence → List Made → StoreModel
 store_of e made = record { template = e.template; file = e.file; made = made }
 
-abbrev pub last_store : Evidence → Known
+abbrev pub last_store : Evidence → StoreModel
 last_store e = store_of e e.made
 
 abbrev pub world_for : Evidence → World
 world_for e = record { template = e.template; file = e.file; answers = e.answers }
 
 -- values and rows as they are seen in the end
-abbrev pub seen : Evidence → Ref → Spot
-seen e v = see_spot (last_store e) (line_sites e.lines) v
+abbrev pub seen : Evidence → Ref → Location
+seen e v = see_location (last_store e) (line_sites e.lines) v
 
-abbrev pub shown : Evidence → Row → SpotRow
+abbrev pub shown : Evidence → Row → LocatedRow
 shown e row = see_row (last_store e) (line_sites e.lines) row
 
 -- the frame of a number names an environment
@@ -71,7 +73,7 @@ pub record Meant (e : Evidence) : Type 0 where
   pub ordered : IsOrdered e.file
   pub targets : (site : ℕ) → target_of e.file site ≡ Some 0 → ⊥
   pub answering : IsAnswering (world_for e)
-  pub obeys : Obeys (world_for e) e.names
+  pub obeys : IsFixpoint (world_for e) e.names
 
 -- ---- the lines before
 
@@ -116,10 +118,10 @@ module _ (e : Evidence) (made : List Made) (before : List Line) (cut : Cut e mad
   sites-split : line_sites before ++ line_sites cut.rest ≡ line_sites e.lines
   sites-split = sym (map-append (λ (l : Line). unwrap_or l.site 0) before cut.rest) ∙ ap line_sites cut.splits
 
-  pub spot-then : (v : Ref) → is_held_ref (store_of e made) v ≡ true → see_spot (store_of e made) (line_sites before) v ≡ seen e v
-  spot-then v held =
-      sym (spot-seen (store_of e made) cut.later (line_sites before) (line_sites cut.rest) cut.called v held)
-      ∙ ap₂ (λ (m : List Made) (sites : List ℕ). see_spot (store_of e m) sites v) cut.grows sites-split
+  pub location-then : (v : Ref) → is_held_ref (store_of e made) v ≡ true → see_location (store_of e made) (line_sites before) v ≡ seen e v
+  location-then v held =
+      sym (location-seen (store_of e made) cut.later (line_sites before) (line_sites cut.rest) cut.called v held)
+      ∙ ap₂ (λ (m : List Made) (sites : List ℕ). see_location (store_of e m) sites v) cut.grows sites-split
 
   pub rows-then : (rows : List Row) → list_all (is_held (store_of e made)) rows ≡ true → map (see_row (store_of e made) (line_sites before)) rows ≡ map (shown e) rows
   rows-then rows held =
@@ -154,7 +156,7 @@ same-value v w e = same_Some v w (ap value_said e)
 
 -- ---- a frame names one environment
 
-module _ (known : Known) (lines : List Line) where
+module _ (known : StoreModel) (lines : List Line) where
   file-line-apart : (number frame site : ℕ) (v : Ref) (l : Line) → line_of lines number ≡ Some l → l.kind ≡ kind.File → IsLine lines number kind.Frame frame site (says.Value v) → ⊥
   file-line-apart number frame site v l stands file is =
       file-frame (sym file ∙ ap (λ (x : Line). x.kind) (same_Some l is.line (sym stands ∙ is.stands)) ∙ is.kind_is)
@@ -171,14 +173,14 @@ module _ (known : Known) (lines : List Line) where
   one-environment number (Inner current outer) (Inner current' outer') (frame, site, v, is, none, same, around) (frame', site', v', is', none', same', around') =
       let value : v ≡ v' = same-value v v' (same-outcome lines number _ _ frame frame' site site' _ _ is is') in
       let frames : frame ≡ frame' = same-frame lines number _ _ frame frame' site site' _ _ is is' in
-      ap₂ Inner (same ∙ ap (spot_said known lines) value ∙ sym same')
+      ap₂ Inner (same ∙ ap (location_said known lines) value ∙ sym same')
       (one-environment frame outer outer' around (subst (λ (n : ℕ). FrameNames known lines n outer') (sym frames) around'))
   one-environment number (Called current args caller) (Called current' args' caller') (frame, site, v, is, some, same, around) (frame', site', v', is', some', same', around') =
       let value : v ≡ v' = same-value v v' (same-outcome lines number _ _ frame frame' site site' _ _ is is') in
       let frames : frame ≡ frame' = same-frame lines number _ _ frame frame' site site' _ _ is is' in
       let sites : site ≡ site' = same-site lines number _ _ frame frame' site site' _ _ is is' in
       let given : args ≡ args' = same_Some args args' (sym some ∙ ap (args_at known.file) sites ∙ some') in
-      ap (λ (c : Spot). Called c args caller) (same ∙ ap (spot_said known lines) value ∙ sym same')
+      ap (λ (c : Location). Called c args caller) (same ∙ ap (location_said known lines) value ∙ sym same')
       ∙ ap₂ (λ (xs : Exprs) (c : Environment). Called current' xs c) given
       (one-environment frame caller caller' around (subst (λ (n : ℕ). FrameNames known lines n caller') (sym frames) around'))
   one-environment number (Inner current outer) (Called current' args' caller') (frame, site, v, is, none, same, around) (frame', site', v', is', some', same', around') =
@@ -313,11 +315,11 @@ module _ (e : Evidence) (made : List Made) (before : List Line) (past : Past e m
       by None none is = absurd (none-some at is)
       by (Some l) there is = around l there env framing l.kind refl is
 
-  pub outwards-names : (up frame at : ℕ) (env : Environment) → Framing e frame env → outwards e.file before up frame ≡ Some at → Framing e at (spot.outwards up env)
+  pub outwards-names : (up frame at : ℕ) (env : Environment) → Framing e frame env → outwards e.file before up frame ≡ Some at → Framing e at (location.outwards up env)
   outwards-names zero frame at env framing is = subst (λ (n : ℕ). Framing e n env) (same_Some frame at is) framing
   outwards-names (suc up) frame at env framing is = by (outer_frame e.file before frame) refl is (λ n. outwards-names up n at (outer_of env))
     where
       by : (o : Option ℕ) → outer_frame e.file before frame ≡ o → option_and_then (outwards e.file before up) o ≡ Some at
-          → ((n : ℕ) → Framing e n (outer_of env) → outwards e.file before up n ≡ Some at → Framing e at (spot.outwards up (outer_of env))) → Framing e at (spot.outwards up (outer_of env))
+          → ((n : ℕ) → Framing e n (outer_of env) → outwards e.file before up n ≡ Some at → Framing e at (location.outwards up (outer_of env))) → Framing e at (location.outwards up (outer_of env))
       by None none is next = absurd (none-some at is)
       by (Some n) there is next = next n (outer-names frame n env framing there) is

@@ -7,6 +7,7 @@ use Rattle.doc_values.specs.Tree.{Forest}
 use Rattle.evidence_lines.specs.Lines.{line_of}
 use Rattle.evidence_lines.specs.Shapes.{HasShape, is_placed, sort_of, sort_said}
 use Rattle.evidence_lines.specs.declared.line.Line.{Line}
+use Rattle.evidence_lines.specs.declared.version.Version.{Version}
 use Rattle.evidence_lines.specs.declared.line.LineKind.{LineKind}
 use Rattle.evidence_lines.specs.declared.line.LineKind.TheVariants as kind
 use Rattle.evidence_lines.specs.declared.line.Outcome.{Outcome}
@@ -19,15 +20,15 @@ use Rattle.guard_syntax.specs.declared.row.Ref.{Ref}
 use Rattle.guard_syntax.specs.declared.row.Verdict.{Verdict}
 use Rattle.rule_names.specs.Pieces.{Piece, OfBody, OfFile, OfPart, OfRule, piece_at, pieces_file}
 use Rattle.rule_names.proofs.Parts.{hits}
-use Rattle.rule_meaning.specs.Known.{Known, Made}
+use Rattle.rule_meaning.specs.StoreModel.{StoreModel, Made}
 use Rattle.evidence_rules.specs.Follows.{AllFollow, Follows, FollowsIn, IsFrameOf, IsFrameOfPart, nothing_made}
 use Rattle.rule_meaning.specs.Seeing.{are_called, grown, world_of}
-use Rattle.rule_meaning.specs.SpotEnvironments.{Environment, Top}
-use Rattle.rule_meaning.specs.SpotFunctions.{IsAnswering}
-use Rattle.rule_meaning.specs.SpotMeaning.{Names, disj_verdicts}
-use Rattle.rule_meaning.specs.SpotObeys.{Obeys}
-use Rattle.rule_meaning.specs.SpotTurns.{loose_verdict, rule_by, rule_verdict}
-use Rattle.rule_meaning.specs.Spots.{Answers, World}
+use Rattle.rule_meaning.specs.Environments.{Environment, Top}
+use Rattle.rule_meaning.specs.FunctionMeaning.{IsAnswering}
+use Rattle.rule_meaning.specs.Meaning.{Names, disj_verdicts}
+use Rattle.rule_meaning.specs.Fixpoint.{IsFixpoint}
+use Rattle.rule_meaning.specs.NameMeaning.{loose_verdict, rule_by, rule_verdict}
+use Rattle.rule_meaning.specs.Locations.{Answers, World}
 use Rattle.rule_meaning.specs.Verdicts.{conjunction}
 use Rattle.evidence_truth.proofs.FollowingKnown.{follows-called}
 use Rattle.evidence_rules.proofs.FollowingShapes.{follows-shape}
@@ -76,7 +77,7 @@ sort_tag sort.Rows = 1
 sort_tag sort.Verdict = 2
 
 module _ (e : Evidence) (meant : Meant e) (made : List Made) (before : List Line) (past : Past e made before) where
-  abbrev known : Known
+  abbrev known : StoreModel
   known = store_of e made
 
   part-fits : (frame : ℕ) (p : Part) (v : Ref) → IsFrameOfPart known before frame p v → IsCurrent e frame v
@@ -96,28 +97,28 @@ module _ (e : Evidence) (meant : Meant e) (made : List Made) (before : List Line
 
   module _ (line : Line) (more : List Made) (next : Cut e (made ++ more) (before ++ line ∷ [])) (held : is_held_outcome (store_of e (made ++ more)) line.outcome ≡ true) where
     module _ (frame site : ℕ) (env : Environment) (site_is : line.site ≡ Some site) (framing : Framing e frame env) where
-      holds-in : (of : LineKind) (said : Outcome) → is_held_outcome (store_of e (made ++ more)) said ≡ true → FollowsIn known before frame site of line.cites said more
+      holds-in : (of : LineKind) (said : Outcome) → is_held_outcome (store_of e (made ++ more)) said ≡ true → FollowsIn e.version known before frame site of line.cites said more
           → HoldsIn (last_store e) e.lines (world_for e) e.names env of (piece_at e.file site) said
       holds-in kind.Frame (says.Value v) here h = tt
       holds-in of (says.Rows rows) here h = rows-true e meant made before past line more next frame site env site_is framing of (piece_at e.file site) line.cites rows refl here h
       holds-in of (says.Verdict verdict) here h = verdict-true e meant made before past frame site env of (piece_at e.file site) line.cites verdict framing refl h.0
       holds-in of said here h = absurd h
 
-      framed-in : (said : Outcome) → line.outcome ≡ said → line.frame ≡ Some frame → sort_said said ≡ sort.Value → FollowsIn known before frame site kind.Frame line.cites said more → IsFramed e line kind.Frame
+      framed-in : (said : Outcome) → line.outcome ≡ said → line.frame ≡ Some frame → sort_said said ≡ sort.Value → FollowsIn e.version known before frame site kind.Frame line.cites said more → IsFramed e line kind.Frame
       unfolding sort_tag
       framed-in (says.Value v) said_is frame_is sorted h = (frame, site, v, env, frame_is, site_is, said_is, framing, value-fits frame (piece_at e.file site) v h.1)
       framed-in (says.Rows rows) said_is frame_is sorted h = let tags : 1 ≡ 0 = ap sort_tag sorted in absurd (omega (arith, tags))
       framed-in (says.Verdict verdict) said_is frame_is sorted h = let tags : 2 ≡ 0 = ap sort_tag sorted in absurd (omega (arith, tags))
 
-      framed-by : (of : LineKind) → line.kind ≡ of → line.frame ≡ Some frame → HasShape line → FollowsIn known before frame site of line.cites line.outcome more → IsFramed e line of
+      framed-by : (of : LineKind) → line.kind ≡ of → line.frame ≡ Some frame → HasShape line → FollowsIn e.version known before frame site of line.cites line.outcome more → IsFramed e line of
       framed-by kind.File of_is frame_is shape h =
           let placed : true ≡ false = sym (ap is_some frame_is) ∙ shape.framed ∙ ap is_placed of_is in
           absurd (true≢false placed)
       framed-by kind.Frame of_is frame_is shape h = framed-in line.outcome refl frame_is (shape.said ∙ ap sort_of of_is) h
       framed-by _ of_is frame_is shape h = tt
 
-    pub line-true : Follows (store_of e made) before line more → Holds (last_store e) e.lines (world_for e) e.names line × IsFramed e line line.kind
-    line-true follows = let shape = follows-shape known before line more follows in elim follows [
+    pub line-true : Follows e.version (store_of e made) before line more → Holds (last_store e) e.lines (world_for e) e.names line × IsFramed e line line.kind
+    line-true follows = let shape = follows-shape e.version known before line more follows in elim follows [
       | inl ((kind_is, frame_is, site_is, cites_are, outcome_is), none) ↦ (
         subst (λ (f : Option ℕ). HoldsAt (last_store e) e.lines (world_for e) e.names line f line.site) (sym frame_is) kind_is,
         subst (λ (k : LineKind). IsFramed e line k) (sym kind_is) outcome_is,
@@ -134,33 +135,33 @@ module _ (e : Evidence) (meant : Meant e) (made : List Made) (before : List Line
 -- ---- all lines
 
 -- the trees behind those that are there
-later-trees : (template : Forest) (file : File) (made : List Made) (before rest : List Line) (last : Known) → FollowTo (record { template = template; file = file; made = made }) before rest last
+later-trees : (version : Version) (template : Forest) (file : File) (made : List Made) (before rest : List Line) (last : StoreModel) → FollowTo version (record { template = template; file = file; made = made }) before rest last
     → (later : List Made) × (last ≡ record { template = template; file = file; made = made ++ later })
-later-trees template file made before [] last follow = ([], sym follow ∙ ap (λ (trees : List Made). record { template = template; file = file; made = trees }) (sym (append-nil made)))
-later-trees template file made before (line ∷ rest) last (more, follows, others) =
-    let behind = later-trees template file (made ++ more) (before ++ line ∷ []) rest last others in
+later-trees version template file made before [] last follow = ([], sym follow ∙ ap (λ (trees : List Made). record { template = template; file = file; made = trees }) (sym (append-nil made)))
+later-trees version template file made before (line ∷ rest) last (more, follows, others) =
+    let behind = later-trees version template file (made ++ more) (before ++ line ∷ []) rest last others in
     (more ++ behind.0, behind.1 ∙ ap (λ (trees : List Made). record { template = template; file = file; made = trees }) (append_assoc made more behind.0))
 
 module _ (e : Evidence) (meant : Meant e) where
   abbrev pub HoldsOf : Line → Type 0
   HoldsOf l = Holds (last_store e) e.lines (world_for e) e.names l
 
-  one-more : (made : List Made) (before rest : List Line) (line : Line) (more : List Made) → before ++ line ∷ rest ≡ e.lines → Past e made before → Follows (store_of e made) before line more
-      → FollowTo (store_of e (made ++ more)) (before ++ line ∷ []) rest (last_store e) → Past e (made ++ more) (before ++ line ∷ [])
+  one-more : (made : List Made) (before rest : List Line) (line : Line) (more : List Made) → before ++ line ∷ rest ≡ e.lines → Past e made before → Follows e.version (store_of e made) before line more
+      → FollowTo e.version (store_of e (made ++ more)) (before ++ line ∷ []) rest (last_store e) → Past e (made ++ more) (before ++ line ∷ [])
   one-more made before rest line more split past follows others =
-      let behind = later-trees e.template e.file (made ++ more) (before ++ line ∷ []) rest (last_store e) others in
+      let behind = later-trees e.version e.template e.file (made ++ more) (before ++ line ∷ []) rest (last_store e) others in
       let splits : (before ++ line ∷ []) ++ rest ≡ e.lines = append_assoc before (line ∷ []) rest ∙ split in
       let counted : length (line_sites before) ≡ length before = length-map before (λ (l : Line). unwrap_or l.site 0) in
       let sites : line_sites (before ++ line ∷ []) ≡ line_sites before ++ unwrap_or line.site 0 ∷ [] = map-append (λ (l : Line). unwrap_or l.site 0) before (line ∷ []) in
       let next : Cut e (made ++ more) (before ++ line ∷ []) = record {
         later = behind.0;
-        grows = ap (λ (k : Known). k.made) (sym behind.1);
+        grows = ap (λ (k : StoreModel). k.made) (sym behind.1);
         rest = rest;
         splits = splits;
         called = subst (λ (ns : List ℕ). are_called ns (made ++ more) ≡ true) (sym sites)
-            (follows-called (store_of e made) before line more (line_sites before) (unwrap_or line.site 0) counted past.cut.called follows);
+            (follows-called e.version (store_of e made) before line more (line_sites before) (unwrap_or line.site 0) counted past.cut.called follows);
       } in
-      let held : is_held_outcome (store_of e (made ++ more)) line.outcome ≡ true = follows-held (store_of e made) before past.held (line_sites before) counted past.cut.called line more follows in
+      let held : is_held_outcome (store_of e (made ++ more)) line.outcome ≡ true = follows-held (store_of e made) before past.held (line_sites before) counted past.cut.called e.version line more follows in
       let new = line-true e meant made before past line more next held follows in
       record {
         cut = next;
@@ -170,14 +171,14 @@ module _ (e : Evidence) (meant : Meant e) where
         framed = one-behind (λ (l : Line). IsFramed e l l.kind) before line past.framed new.1;
       }
 
-  all-hold : (made : List Made) (before rest : List Line) → before ++ rest ≡ e.lines → Past e made before → FollowTo (store_of e made) before rest (last_store e)
+  all-hold : (made : List Made) (before rest : List Line) → before ++ rest ≡ e.lines → Past e made before → FollowTo e.version (store_of e made) before rest (last_store e)
       → (number : ℕ) (l : Line) → line_of e.lines number ≡ Some l → HoldsOf l
   all-hold made before [] split past follow number l is =
       past.holds number l (ap (λ (ls : List Line). line_of ls number) (sym (append-nil before) ∙ split) ∙ is)
   all-hold made before (line ∷ rest) split past (more, follows, others) number l is =
       all-hold (made ++ more) (before ++ line ∷ []) rest (append_assoc before (line ∷ []) rest ∙ split) (one-more made before rest line more split past follows others) others number l is
 
-  pub lines-hold : FollowTo (nothing_made e.template e.file) [] e.lines (last_store e) → (number : ℕ) (l : Line) → line_of e.lines number ≡ Some l → HoldsOf l
+  pub lines-hold : FollowTo e.version (nothing_made e.template e.file) [] e.lines (last_store e) → (number : ℕ) (l : Line) → line_of e.lines number ≡ Some l → HoldsOf l
   lines-hold follow number l is =
       let start : Past e [] [] = record {
         cut = record { later = e.made; grows = refl; rest = e.lines; splits = refl; called = refl };
@@ -189,16 +190,16 @@ module _ (e : Evidence) (meant : Meant e) where
       all-hold [] [] e.lines refl start follow number l is
 
 -- whatever the last store is
-pub known-hold : (template : Forest) (file : File) (lines : List Line) (known : Known) (answers : Answers) (names : Names)
-    → ((e : Evidence) → e.file ≡ file → IsAnswering (world_for e) → Obeys (world_for e) e.names → Meant e)
-    → FollowTo (nothing_made template file) [] lines known → IsAnswering (world_of known answers) → Obeys (world_of known answers) names
+pub known-hold : (version : Version) (template : Forest) (file : File) (lines : List Line) (known : StoreModel) (answers : Answers) (names : Names)
+    → ((e : Evidence) → e.file ≡ file → IsAnswering (world_for e) → IsFixpoint (world_for e) e.names → Meant e)
+    → FollowTo version (nothing_made template file) [] lines known → IsAnswering (world_of known answers) → IsFixpoint (world_of known answers) names
     → (number : ℕ) (l : Line) → line_of lines number ≡ Some l → Holds known lines (world_of known answers) names l
-known-hold template file lines known answers names means follow =
-    let trees = later-trees template file [] [] lines known follow in
-    subst (λ (k : Known). FollowTo (nothing_made template file) [] lines k → IsAnswering (world_of k answers) → Obeys (world_of k answers) names
+known-hold version template file lines known answers names means follow =
+    let trees = later-trees version template file [] [] lines known follow in
+    subst (λ (k : StoreModel). FollowTo version (nothing_made template file) [] lines k → IsAnswering (world_of k answers) → IsFixpoint (world_of k answers) names
     → (number : ℕ) (l : Line) → line_of lines number ≡ Some l → Holds k lines (world_of k answers) names l) (sym trees.1)
     (λ followed answering obeys.
-    let e : Evidence = record { template = template; file = file; made = trees.0; lines = lines; answers = answers; names = names } in
+    let e : Evidence = record { version = version; template = template; file = file; made = trees.0; lines = lines; answers = answers; names = names } in
     lines-hold e (means e refl answering obeys) followed) follow
 
 -- each of a list, by its index
@@ -211,27 +212,28 @@ pub line-at : (lines : List Line) (k : ℕ) (d : Line) → k < length lines → 
 line-at lines k d within = behind-first lines k ∙ got-at lines k d within
 
 -- lines that follow make a last store
-pub some-last : (known : Known) (before rest : List Line) → AllFollow known before rest → (last : Known) × FollowTo known before rest last
-some-last known before [] follow = (known, refl)
-some-last known before (line ∷ rest) (more, follows, others) =
-    let behind = some-last (grown known more) (before ++ line ∷ []) rest others in
+pub some-last : (version : Version) (known : StoreModel) (before rest : List Line) → AllFollow version known before rest
+    → (last : StoreModel) × FollowTo version known before rest last
+some-last version known before [] follow = (known, refl)
+some-last version known before (line ∷ rest) (more, follows, others) =
+    let behind = some-last version (grown known more) (before ++ line ∷ []) rest others in
     (behind.0, (more, follows, behind.1))
 
 -- ---- rules
 
 -- a file that was resolved
-pub meant-by : (file : File) → ((n : ℕ) → hits n (pieces_file file) ≤ 1) → (e : Evidence) → e.file ≡ file → IsAnswering (world_for e) → Obeys (world_for e) e.names → Meant e
+pub meant-by : (file : File) → ((n : ℕ) → hits n (pieces_file file) ≤ 1) → (e : Evidence) → e.file ≡ file → IsAnswering (world_for e) → IsFixpoint (world_for e) e.names → Meant e
 meant-by file few e same answering obeys =
     let few_here : (n : ℕ) → hits n (pieces_file e.file) ≤ 1 = subst (λ (f : File). (n : ℕ) → hits n (pieces_file f) ≤ 1) (sym same) few in
     let ordered : IsOrdered e.file = ordered-by e.file few_here in
     record { alone = few_here; ordered = ordered; targets = target-apart e.file ordered; answering = answering; obeys = obeys }
 
 -- the last store is over the same file
-pub file-kept : (template : Forest) (file : File) (lines : List Line) (known : Known) → FollowTo (nothing_made template file) [] lines known → known.file ≡ file
-file-kept template file lines known follow = let trees = later-trees template file [] [] lines known follow in ap (λ (k : Known). k.file) trees.1
+pub file-kept : (version : Version) (template : Forest) (file : File) (lines : List Line) (known : StoreModel) → FollowTo version (nothing_made template file) [] lines known → known.file ≡ file
+file-kept version template file lines known follow = let trees = later-trees version template file [] [] lines known follow in ap (λ (k : StoreModel). k.file) trees.1
 
 -- what a `rule` line says where it holds
-pub said-ruled : (known : Known) (lines : List Line) (world : World) (names : Names) (site : ℕ) (verdict : Verdict)
+pub said-ruled : (known : StoreModel) (lines : List Line) (world : World) (names : Names) (site : ℕ) (verdict : Verdict)
     → ((number : ℕ) (l : Line) → line_of lines number ≡ Some l → Holds known lines world names l) → IsSaidOf lines site verdict → ruled_verdict world names (piece_at world.file site) ≡ Some verdict
 said-ruled known lines world names site verdict hold (number, frame, is) =
     let h : HoldsAt known lines world names is.line is.line.frame is.line.site = hold number is.line is.stands in
@@ -250,7 +252,7 @@ pub same-in : (f g : Rule → Verdict) (rs : List Rule) (r : Rule) → map f rs 
 same-in f g rs r same (k, within, is) = subst (λ (x : Rule). f x ≡ g x) is (same-at f g rs k r same within)
 
 -- so a rule that is said to have a verdict has it, where all names that mean what theirs say give it the same
-pub rule-is : (file : File) → IsOrdered file → (known : Known) (lines : List Line) (world : World) (names : Names) (r : Rule) (verdict : Verdict) → world.file ≡ file
+pub rule-is : (file : File) → IsOrdered file → (known : StoreModel) (lines : List Line) (world : World) (names : Names) (r : Rule) (verdict : Verdict) → world.file ≡ file
     → ((number : ℕ) (l : Line) → line_of lines number ≡ Some l → Holds known lines world names l) → map (rule_by world names) world.file.rules ≡ map (rule_verdict world) world.file.rules
     → Contains file.rules r → IsSaidOf lines r.site verdict → verdict ≡ rule_verdict world r
 rule-is file ordered known lines world names r verdict same hold one among said =
@@ -260,7 +262,7 @@ rule-is file ordered known lines world names r verdict same hold one among said 
     sym by_names ∙ same-in (rule_by world names) (rule_verdict world) world.file.rules r one here
 
 -- and so it is with the parts outside rules
-pub loose-is : (file : File) → IsOrdered file → (known : Known) (lines : List Line) (world : World) (names : Names) (verdict : Verdict) → world.file ≡ file
+pub loose-is : (file : File) → IsOrdered file → (known : StoreModel) (lines : List Line) (world : World) (names : Names) (verdict : Verdict) → world.file ≡ file
     → ((number : ℕ) (l : Line) → line_of lines number ≡ Some l → Holds known lines world names l)
     → conjunction (disj_verdicts world names Top world.file.loose) ≡ loose_verdict world world.file.loose → IsSaidOf lines 0 verdict → verdict ≡ loose_verdict world file.loose
 loose-is file ordered known lines world names verdict same hold one said =
@@ -307,8 +309,8 @@ accepted-are file lines world verdicts rules loose are =
     verdicts-are lines world file.rules file.loose verdicts (λ k d verdict within said. rules (slice_index_or file.rules k d) verdict (contained file.rules k d within) said) loose are
 
 -- what functions answer in the last store they answer where nothing is made
-pub same-world : (template : Forest) (file : File) (lines : List Line) (known : Known) (answers : Answers) → FollowTo (nothing_made template file) [] lines known
+pub same-world : (version : Version) (template : Forest) (file : File) (lines : List Line) (known : StoreModel) (answers : Answers) → FollowTo version (nothing_made template file) [] lines known
     → world_of (nothing_made template file) answers ≡ world_of known answers
-same-world template file lines known answers follow =
-    let trees = later-trees template file [] [] lines known follow in
-    ap (λ (k : Known). world_of k answers) (sym trees.1)
+same-world version template file lines known answers follow =
+    let trees = later-trees version template file [] [] lines known follow in
+    ap (λ (k : StoreModel). world_of k answers) (sym trees.1)

@@ -8,10 +8,10 @@ use Rattle.guard_syntax.specs.declared.syntax.RawFile.{RawFile}
 use Rattle.guard_syntax.specs.Seen.{see_file}
 use Rattle.rule_names.specs.Pieces.{Piece, OfFile, OfLet, OfRule, OfBody, OfConds, OfDisj, OfPart, OfQuery, OfStep, OfExpr, Sited, AreInOrder, piece_in, piece_at, pieces_file, pieces_body, pieces_lets, pieces_let, pieces_conds, pieces_opt_conds, pieces_disjs, pieces_disj, pieces_parts, pieces_part, pieces_query, pieces_steps, pieces_step, pieces_expr, pieces_opt_expr, pieces_exprs, pieces_rule, pieces_rules}
 use Rattle.rule_names.specs.Uses.{expr_site}
-use Rattle.rule_names.specs.Ways.{part_site}
+use Rattle.rule_names.specs.ReferenceGraph.{part_site}
 use Rattle.rule_names.proofs.FileParts.{file-rise, file_tied}
 use Rattle.rule_names.proofs.Parts.{hits, no-hit, here, elsewhere}
-use Rattle.rule_names.proofs.Rises.{once, times}
+use Rattle.rule_names.proofs.Increases.{once, times}
 use Rattle.guard_syntax.specs.Sites.{sites_file}
 
 -- ---- what holds of each piece

@@ -14,14 +14,14 @@ use Rattle.rule_names.specs.declared.bind.Bind.{Bind}
 use Rattle.rule_names.specs.declared.bind.Bind.TheVariants as bound
 use Rattle.rule_names.specs.Pieces.{Piece, OfExpr, OfPart, OfQuery, OfStep, piece_at, pieces_expr, pieces_exprs, pieces_query}
 use Rattle.rule_names.specs.Uses.{expr_in}
-use Rattle.rule_names.specs.Ways.{step_site}
-use Rattle.rule_meaning.specs.Known.{Known, Made}
+use Rattle.rule_names.specs.ReferenceGraph.{step_site}
+use Rattle.rule_meaning.specs.StoreModel.{StoreModel, Made}
 use Rattle.evidence_rules.specs.CitedLines.{IsLine, GivesArgument, GivesBound, GivesExpr, GivesPiece, GivesQuery, GivesStep, GivesVariable, GiveArgs, args_at, args_of_piece, kind_of_step}
-use Rattle.rule_meaning.specs.SpotEnvironments.{Environment, Top, Inner, Called, current_of}
-use Rattle.rule_meaning.specs.SpotEnvironments as scopes
-use Rattle.rule_meaning.specs.SpotMeaning.{rows_of, rows_of_args, rows_of_expr}
-use Rattle.rule_meaning.specs.SpotTurns.{argument_rows, bound_rows, captured_rows, parameter_rows, value_rows}
-use Rattle.rule_meaning.specs.Spots.{SpotRow, World, Found}
+use Rattle.rule_meaning.specs.Environments.{Environment, Top, Inner, Called, current_of}
+use Rattle.rule_meaning.specs.Environments as scopes
+use Rattle.rule_meaning.specs.Meaning.{rows_of, rows_of_args, rows_of_expr}
+use Rattle.rule_meaning.specs.NameMeaning.{argument_rows, bound_rows, captured_rows, parameter_rows, value_rows}
+use Rattle.rule_meaning.specs.Locations.{LocatedRow, World, Found}
 use Rattle.evidence_rules.specs.Judgement.{line_rows, line_sites, query_rows}
 use Rattle.evidence_truth.proofs.HeldLines.{args-held as all-args-held, expr-held, is_held_outcome, variable-held}
 use Rattle.evidence_truth.proofs.HeldRows.{is_held}
@@ -33,13 +33,13 @@ module _ (e : Evidence) (meant : Meant e) (made : List Made) (before : List Line
   abbrev world : World
   world = world_for e
 
-  abbrev known : Known
+  abbrev known : StoreModel
   known = store_of e made
 
   abbrev sites : List ℕ
   sites = line_sites before
 
-  abbrev shown_all : List Row → List SpotRow
+  abbrev shown_all : List Row → List LocatedRow
   shown_all rows = map (shown e) rows
 
   -- ---- lines that are cited
@@ -61,7 +61,7 @@ module _ (e : Evidence) (meant : Meant e) (made : List Made) (before : List Line
   args-held frame xs cites all gives = all-args-held known before past.held frame xs cites all gives
 
   -- by the part of its site
-  rows-of-piece : (number : ℕ) (of : LineKind) (frame site : ℕ) (rows : List Row) (env : Environment) (p : Piece) (given : List SpotRow) → IsLine before number of frame site (says.Rows rows)
+  rows-of-piece : (number : ℕ) (of : LineKind) (frame site : ℕ) (rows : List Row) (env : Environment) (p : Piece) (given : List LocatedRow) → IsLine before number of frame site (says.Rows rows)
       → Framing e frame env → piece_at e.file site ≡ Some p → line_rows world e.names env of (Some p) ≡ Some given → given ≡ map (shown e) rows
   rows-of-piece number of frame site rows env p given is framing there says_given =
       same_Some given (shown_all rows) (sym says_given ∙ ap (line_rows world e.names env of) (sym there) ∙ rows-cited number of frame site rows env is framing)
@@ -104,7 +104,7 @@ module _ (e : Evidence) (meant : Meant e) (made : List Made) (before : List Line
   args-given frame env no_exprs [] [] framing placed gives = refl
   args-given frame env (more_exprs x xs) (c ∷ cs) (rows ∷ others) framing placed gives =
       let both = parted (IsAt e.file) (pieces_expr x) (pieces_exprs xs) placed in
-      ap₂ (λ (r : List SpotRow) (rs : List (List SpotRow)). r ∷ rs) (expr-given frame env x c rows framing both.0 gives.0) (args-given frame env xs cs others framing both.1 gives.1)
+      ap₂ (λ (r : List LocatedRow) (rs : List (List LocatedRow)). r ∷ rs) (expr-given frame env x c rows framing both.0 gives.0) (args-given frame env xs cs others framing both.1 gives.1)
   args-given frame env xs cites all framing placed gives = absurd gives
 
   -- ---- variables

@@ -5,7 +5,7 @@ use Rattle.std.proofs.lemmas.Option.{same_Some, none-some}
 use Rattle.guard_syntax.specs.Named.{Named}
 use Rattle.guard_syntax.specs.Syntax.{Body, Lets, Let, Conds, OptConds, Disjs, Disj, Parts, Part, Query, Steps, Step, Expr, OptExpr, Exprs, Rule, File, body, no_lets, more_lets, assign, conds, no_conds, with_conds, no_disjs, more_disjs, disj, no_parts, more_parts, block, guarded, kinds, test, refer, call, query, no_steps, more_steps, this, var, key, index, every, items, splice, filter, keys, literal, function, asked, found, no_expr, with_expr, no_exprs, more_exprs}
 use Rattle.rule_names.specs.declared.bind.Link.{Link}
-use Rattle.rule_names.specs.Links.{Linked, Meant, Scopes, link_rule, link_variable, links_body, links_conds, links_disj, links_disjs, links_expr, links_exprs, links_in, links_let, links_lets, links_of, links_opt_conds, links_opt_expr, links_part, links_parts, links_query, links_rule, links_rules, links_step, links_steps, meant_in, rule_of, target_of, with_link, with_links}
+use Rattle.rule_names.specs.Resolution.{Linked, Meant, Scopes, link_rule, link_variable, links_body, links_conds, links_disj, links_disjs, links_expr, links_exprs, links_in, links_let, links_lets, resolution_of, links_opt_conds, links_opt_expr, links_part, links_parts, links_query, links_rule, links_rules, links_step, links_steps, meant_in, rule_of, target_of, with_link, with_links}
 use Rattle.rule_names.specs.Pieces.{Piece, OfRule, piece_at, pieces_disjs, pieces_lets, pieces_rule, pieces_rules}
 use Rattle.rule_names.specs.Scopes.{given_body, given_conds, given_file}
 use Rattle.rule_names.specs.Uses.{rule_named}
@@ -184,7 +184,7 @@ linked-at (o ∷ os) (suc n) all = linked-at os n all.1
 
 -- the target of a reference or a call is not the file
 pub target-apart : (f : File) → IsOrdered f → (site : ℕ) → target_of f site ≡ Some 0 → ⊥
-target-apart f ordered site e = by (slice_index_or (links_of f) site None) (linked-at (links_of f) site (all-linked (replicate (length f.places) None) (links_in f) (in-file f ordered) (none-linked (length f.places)))) e
+target-apart f ordered site e = by (slice_index_or (resolution_of f) site None) (linked-at (resolution_of f) site (all-linked (replicate (length f.places) None) (links_in f) (in-file f ordered) (none-linked (length f.places)))) e
   where
     by : (o : Option Link) → IsToRuleIf o → option_and_then rule_of o ≡ Some 0 → ⊥
     by None h e = none-some 0 e

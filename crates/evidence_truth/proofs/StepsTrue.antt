@@ -19,29 +19,29 @@ use Rattle.guard_syntax.specs.declared.row.Verdict.{Verdict}
 use Rattle.rule_names.specs.Depths.{first_steps}
 use Rattle.rule_names.specs.Pieces.{Piece, OfConds, OfExpr, OfPart, OfStep, piece_at, pieces_conds, pieces_expr, pieces_query}
 use Rattle.rule_names.specs.Uses.{function_named}
-use Rattle.rule_meaning.specs.Known.{Known, Made}
+use Rattle.rule_meaning.specs.StoreModel.{StoreModel, Made}
 use Rattle.evidence_rules.specs.CitedLines.{args_at, args_of_piece}
 use Rattle.rule_meaning.specs.Filters.{candidates_in, filtered}
 use Rattle.evidence_rules.specs.Follows.{FollowsAtExpr, FollowsAtStep, FollowsCapture, FollowsFilter, FollowsRows, FollowsStep, GivesBefore, GivesFurther, IsLater, SayEach, SaysCandidate, conds_site}
 use Rattle.rule_meaning.specs.Kinds.{rows_of_type}
 use Rattle.rule_meaning.specs.Places.{Placed, candidates_at, is_after_key, is_filter, is_first, placed_of, rows_at_step, step_at, step_candidates, step_in, step_rows, type_of}
 use Rattle.rule_meaning.specs.Roots.{literal_ref}
-use Rattle.rule_meaning.specs.Seeing.{rows_kept, see_answer, see_row, see_spot, trees_kept}
-use Rattle.rule_meaning.specs.SpotEnvironments.{Environment, Inner, current_of}
-use Rattle.rule_meaning.specs.SpotMeaning.{answered, conds_verdict, rows_at, rows_from, rows_of_args, rows_of_expr}
-use Rattle.rule_meaning.specs.SpotSteps as spot
-use Rattle.rule_meaning.specs.Spots.{Spot, SpotRow, World, Found, answered_row, is_found as is_found_spot}
+use Rattle.rule_meaning.specs.Seeing.{rows_kept, see_answer, see_row, see_location, trees_kept}
+use Rattle.rule_meaning.specs.Environments.{Environment, Inner, current_of}
+use Rattle.rule_meaning.specs.Meaning.{answered, conds_verdict, rows_at, rows_from, rows_of_args, rows_of_expr}
+use Rattle.rule_meaning.specs.StepMeaning as location
+use Rattle.rule_meaning.specs.Locations.{Location, LocatedRow, World, Found, answered_row, is_found as is_found_location}
 use Rattle.rule_meaning.specs.Steps.{found_step, on_found}
 use Rattle.rule_meaning.specs.Verdicts.{is_found}
 use Rattle.query_steps.proofs.FilterRows.{filtered-judged, passed_at}
 use Rattle.query_steps.proofs.SeenFilters.{passed-seen, types-seen}
 use Rattle.query_steps.proofs.SeenSteps.{captures-seen, given-seen, steps-seen}
-use Rattle.query_steps.proofs.SpotAnswers.{answer-is}
+use Rattle.query_steps.proofs.LocatedAnswers.{answer-is}
 use Rattle.evidence_rules.specs.Judgement.{line_rows, line_sites, line_verdict, query_rows}
 use Rattle.evidence_truth.proofs.HeldLines.{value-at}
 use Rattle.evidence_truth.proofs.HeldRows.{answer-held, candidates-held, is_held, is_held_ref}
 use Rattle.evidence_truth.proofs.HeldSeen.{answer-seen}
-use Rattle.evidence_truth.proofs.LinesSoFar.{Cut, Evidence, Framing, Meant, Past, cited-in, in-all, rows-then, seen, shown, spot-then, store_of, value-current, world_for}
+use Rattle.evidence_truth.proofs.LinesSoFar.{Cut, Evidence, Framing, Meant, Past, cited-in, in-all, rows-then, seen, shown, location-then, store_of, value-current, world_for}
 use Rattle.evidence_truth.proofs.PiecesAt.{Each, IsAt, found-whole}
 use Rattle.evidence_truth.proofs.RowsTrue.{args-given, args-held, expr-given, held-cited, held-expr, held-variable, query-given, step-given, variable-given}
 use Rattle.evidence_truth.proofs.StepsUpTo.{first-rows, step-at, stepped, up-to-first, up-to-next}
@@ -50,9 +50,9 @@ use Rattle.evidence_truth.proofs.StepsUpTo.{first-rows, step-at, stepped, up-to-
 pub conds-at : (e : Evidence) (c : Conds) → Each (IsAt e.file) (pieces_conds c) → piece_at e.file (conds_site c) ≡ Some (OfConds c)
 conds-at e (conds n ds) placed = placed.0
 
-founds-shown : (e : Evidence) (rows : List Row) → map (shown e) (kept_of is_found rows) ≡ kept_of is_found_spot (map (shown e) rows)
+founds-shown : (e : Evidence) (rows : List Row) → map (shown e) (kept_of is_found rows) ≡ kept_of is_found_location (map (shown e) rows)
 founds-shown e [] = refl
-founds-shown e (row.Found v ∷ rows) = ap (λ (rs : List SpotRow). Found (seen e v) ∷ rs) (founds-shown e rows)
+founds-shown e (row.Found v ∷ rows) = ap (λ (rs : List LocatedRow). Found (seen e v) ∷ rs) (founds-shown e rows)
 founds-shown e (row.Missing v site ∷ rows) = founds-shown e rows
 founds-shown e (row.Unmade call ∷ rows) = founds-shown e rows
 
@@ -60,14 +60,14 @@ module _ (e : Evidence) (meant : Meant e) (made : List Made) (before : List Line
   abbrev world : World
   world = world_for e
 
-  abbrev known : Known
+  abbrev known : StoreModel
   known = store_of e made
 
   abbrev sites : List ℕ
   sites = line_sites before
 
   -- a row as it is seen now
-  abbrev now : Row → SpotRow
+  abbrev now : Row → LocatedRow
   now = see_row known sites
 
   -- ---- a step where it stands
@@ -80,13 +80,13 @@ module _ (e : Evidence) (meant : Meant e) (made : List Made) (before : List Line
     placed = let whole = found-whole e.file meant.ordered site (OfStep (query n ss) i) there in whole.1
 
     -- the rows before the step of an index
-    spots_before : ℕ → List SpotRow
-    spots_before zero = Found (current_of env) ∷ []
-    spots_before (suc j) = query_rows world e.names env (query n ss) j
+    locations_before : ℕ → List LocatedRow
+    locations_before zero = Found (current_of env) ∷ []
+    locations_before (suc j) = query_rows world e.names env (query n ss) j
 
     query-next : (j : ℕ) (step : Step) → step_in ss j ≡ Some step
-        → query_rows world e.names env (query n ss) j ≡ stepped world e.names env (not (is_some (step_in ss (suc j)))) (is_after_key ss j) step (spots_before j)
-    unfolding spots_before
+        → query_rows world e.names env (query n ss) j ≡ stepped world e.names env (not (is_some (step_in ss (suc j)))) (is_after_key ss j) step (locations_before j)
+    unfolding locations_before
     query-next zero step is = up-to-first world e.names env false ss step (Found (current_of env) ∷ []) is
     query-next (suc j) step is = up-to-next world e.names env false ss j step (Found (current_of env) ∷ []) is
 
@@ -102,9 +102,9 @@ module _ (e : Evidence) (meant : Meant e) (made : List Made) (before : List Line
 
     -- what the step before gives
     before-given : (j : ℕ) (current : Ref) (cites : List ℕ) (rows : List Row) → current_of env ≡ seen e current → GivesBefore known before frame (query n ss) j cites rows
-        → map (shown e) (if is_first j then row.Found current ∷ [] else rows) ≡ spots_before j
-    unfolding spots_before
-    before-given zero current cites rows here gives = ap (λ (v : Spot). Found v ∷ []) (sym here)
+        → map (shown e) (if is_first j then row.Found current ∷ [] else rows) ≡ locations_before j
+    unfolding locations_before
+    before-given zero current cites rows here gives = ap (λ (v : Location). Found v ∷ []) (sym here)
     before-given (suc j) current (c ∷ []) rows here gives =
         let at = step-at e.file n j ss gives.0 placed gives.1 in
         sym (step-given e meant made before past frame env (query n ss) j gives.0 c rows framing at.0 gives.2)
@@ -119,7 +119,7 @@ module _ (e : Evidence) (meant : Meant e) (made : List Made) (before : List Line
     -- a step that is no filter, where its meaning is that of the table on what it names further
     step-true : (step : Step) (cites : List ℕ) (rows : List Row) → step_in ss i ≡ Some step → is_filter step ≡ false → list_all (is_held known) rows ≡ true
         → ((cites : List ℕ) (further : List Row) → GivesFurther known before frame step cites further
-        → list_all (is_held known) further ≡ true × ((last after : Bool) → rows_at world e.names env last after step ≡ spot.found_step world last (map (shown e) further) step))
+        → list_all (is_held known) further ≡ true × ((last after : Bool) → rows_at world e.names env last after step ≡ location.found_step world last (map (shown e) further) step))
         → FollowsStep known before frame site (query n ss) i step cites rows → query_rows world e.names env (query n ss) i ≡ map (shown e) rows
     step-true step cites rows is other held means (current, first, last, rows_before, further, has, split, gives, names, are) =
         let here : current_of env ≡ seen e current = value-current e made before past frame current env has framing in
@@ -133,8 +133,8 @@ module _ (e : Evidence) (meant : Meant e) (made : List Made) (before : List Line
         ∙ ap (λ (b : Bool). if b then filtered known (is_after_key ss i) begun [] else flat_map (on_found (found_step known ends further step)) begun) other in
         query-next i step is
         ∙ ap (stepped world e.names env ends (is_after_key ss i) step) (sym (before-given i current first rows_before here gives))
-        ∙ ap (λ (f : Spot → List SpotRow). flat_map (spot.on_found f) (map (shown e) begun)) (named.1 ends (is_after_key ss i))
-        ∙ ap₂ (λ (xs ys : List SpotRow). flat_map (spot.on_found (spot.found_step world ends xs step)) ys) (sym (rows-then e made before past.cut further named.0)) (sym (rows-then e made before past.cut begun begun_held))
+        ∙ ap (λ (f : Location → List LocatedRow). flat_map (location.on_found f) (map (shown e) begun)) (named.1 ends (is_after_key ss i))
+        ∙ ap₂ (λ (xs ys : List LocatedRow). flat_map (location.on_found (location.found_step world ends xs step)) ys) (sym (rows-then e made before past.cut further named.0)) (sym (rows-then e made before past.cut begun begun_held))
         ∙ sym (steps-seen known e.answers sites ends further step begun)
         ∙ ap (map now) (sym table)
         ∙ rows-then e made before past.cut rows held
@@ -152,12 +152,12 @@ module _ (e : Evidence) (meant : Meant e) (made : List Made) (before : List Line
 
     candidates-true : (c : Conds) (vs : List Ref) (cites : List ℕ) (verdicts : List Verdict) → piece_at e.file (conds_site c) ≡ Some (OfConds c) → list_all (is_held_ref known) vs ≡ true
         → SayEach known before (SaysCandidate known before frame site c) vs cites verdicts
-        → verdicts ≡ map (λ (r : Ref). conds_verdict world e.names (Inner (see_spot known sites r) env) c) vs
+        → verdicts ≡ map (λ (r : Ref). conds_verdict world e.names (Inner (see_location known sites r) env) c) vs
     candidates-true c [] [] [] conds_there held each = refl
     candidates-true c (v ∷ vs) (n ∷ cs) (w ∷ ws) conds_there held (first, others) =
         let both : (is_held_ref known v ≡ true) × (list_all (is_held_ref known) vs ≡ true) = and_parts _ _ held in
         ap₂ (λ (x : Verdict) (xs : List Verdict). x ∷ xs)
-        (candidate-true c v n w conds_there first ∙ ap (λ (x : Spot). conds_verdict world e.names (Inner x env) c) (sym (spot-then e made before past.cut v both.0)))
+        (candidate-true c v n w conds_there first ∙ ap (λ (x : Location). conds_verdict world e.names (Inner x env) c) (sym (location-then e made before past.cut v both.0)))
         (candidates-true c vs cs ws conds_there both.1 others)
     candidates-true c vs cites verdicts conds_there held each = absurd each
 
@@ -175,8 +175,8 @@ module _ (e : Evidence) (meant : Meant e) (made : List Made) (before : List Line
         let before_held : list_all (is_held known) rows_before ≡ true = ap (list_all (is_held known)) (sym start) ∙ before-held i current first rows_before current_held gives in
         let after : Bool = is_after_key ss i in
         let placed_conds = step-at e.file n i ss (filter m name c) placed is in
-        let judge : Spot → Verdict = λ w. conds_verdict world e.names (Inner w env) c in
-        let by_ref : Ref → Verdict = λ r. judge (see_spot known sites r) in
+        let judge : Location → Verdict = λ w. conds_verdict world e.names (Inner w env) c in
+        let by_ref : Ref → Verdict = λ r. judge (see_location known sites r) in
         let tried : candidates_at known site rows_before ≡ candidates_in known after rows_before =
         ap (λ (o : Option Placed). option_map_or (λ (at : Placed). step_candidates known at rows_before) o []) (stands (filter m name c) is) in
         let tried_held : list_all (is_held_ref known) (candidates_at known site rows_before) ≡ true = ap (list_all (is_held_ref known)) tried ∙ candidates-held known after rows_before before_held in
@@ -186,8 +186,8 @@ module _ (e : Evidence) (meant : Meant e) (made : List Made) (before : List Line
         are ∙ given-at (filter m name c) current rows_before [] verdicts is ∙ ap (λ (rs : List Row). filtered known after rs verdicts) start ∙ ap (filtered known after rows_before) judged
         ∙ filtered-judged known after by_ref rows_before in
         query-next i (filter m name c) is
-        ∙ ap (flat_map (spot.on_found (spot.passed_at world after judge))) (sym (before-given i current first rows_before here gives) ∙ ap (map (shown e)) start ∙ sym (rows-then e made before past.cut rows_before before_held))
-        ∙ sym (given-seen known e.answers sites (passed_at known after by_ref) (spot.passed_at world after judge) (passed-seen known e.answers sites after by_ref judge (λ r. refl)) rows_before)
+        ∙ ap (flat_map (location.on_found (location.passed_at world after judge))) (sym (before-given i current first rows_before here gives) ∙ ap (map (shown e)) start ∙ sym (rows-then e made before past.cut rows_before before_held))
+        ∙ sym (given-seen known e.answers sites (passed_at known after by_ref) (location.passed_at world after judge) (passed-seen known e.answers sites after by_ref judge (λ r. refl)) rows_before)
         ∙ ap (map now) (sym table)
         ∙ rows-then e made before past.cut rows held
 
@@ -201,10 +201,10 @@ module _ (e : Evidence) (meant : Meant e) (made : List Made) (before : List Line
 
     capture-true : (step : Step) (cites : List ℕ) (rows : List Row) → step_in ss i ≡ Some step → list_all (is_held known) rows ≡ true
         → ((last after : Bool) → rows_at world e.names env last after step ≡ rows_at world e.names env true after step)
-        → FollowsCapture known before frame step cites rows → flat_map (spot.captured_row world) (rows_from world e.names env false (first_steps i ss) (Found (current_of env) ∷ [])) ≡ map (shown e) rows
+        → FollowsCapture known before frame step cites rows → flat_map (location.captured_row world) (rows_from world e.names env false (first_steps i ss) (Found (current_of env) ∷ [])) ≡ map (shown e) rows
     capture-true step (c ∷ []) rows is held same (kept_rows, gives, are) =
         let at = step-at e.file n i ss step placed is in
-        ap (flat_map (spot.captured_row world))
+        ap (flat_map (location.captured_row world))
         (sym (first-rows world e.names env false ss i step (Found (current_of env) ∷ []) is same)
         ∙ step-given e meant made before past frame env (query n ss) i step c kept_rows framing at.0 gives
         ∙ sym (rows-then e made before past.cut kept_rows (held-cited e meant made before past c _ frame _ kept_rows gives)))
@@ -215,10 +215,10 @@ module _ (e : Evidence) (meant : Meant e) (made : List Made) (before : List Line
 
     -- ---- by the kind of the line
 
-    none-further : (step : Step) (further : List Row) → further ≡ [] → ((last after : Bool) → rows_at world e.names env last after step ≡ spot.found_step world last [] step)
-        → list_all (is_held known) further ≡ true × ((last after : Bool) → rows_at world e.names env last after step ≡ spot.found_step world last (map (shown e) further) step)
+    none-further : (step : Step) (further : List Row) → further ≡ [] → ((last after : Bool) → rows_at world e.names env last after step ≡ location.found_step world last [] step)
+        → list_all (is_held known) further ≡ true × ((last after : Bool) → rows_at world e.names env last after step ≡ location.found_step world last (map (shown e) further) step)
     none-further step further none same =
-        (ap (list_all (is_held known)) none, λ last after. same last after ∙ ap (λ (rs : List Row). spot.found_step world last (map (shown e) rs) step) (sym none))
+        (ap (list_all (is_held known)) none, λ last after. same last after ∙ ap (λ (rs : List Row). location.found_step world last (map (shown e) rs) step) (sym none))
 
     pub at-step : (of : LineKind) (step : Option Step) (cites : List ℕ) (rows : List Row) → step_in ss i ≡ step → list_all (is_held known) rows ≡ true
         → FollowsAtStep known before frame site of (query n ss) i step cites rows → line_rows (world_for e) e.names env of (Some (OfStep (query n ss) i)) ≡ Some (map (shown e) rows)
@@ -230,20 +230,20 @@ module _ (e : Evidence) (meant : Meant e) (made : List Made) (before : List Line
         at = let x = step-at e.file n i ss (keys m name op negated right) placed is in x.1.1
 
         further : (cites : List ℕ) (more : List Row) → GivesFurther known before frame (keys m name op negated right) cites more
-            → list_all (is_held known) more ≡ true × ((last after : Bool) → rows_at world e.names env last after (keys m name op negated right) ≡ spot.found_step world last (map (shown e) more) (keys m name op negated right))
+            → list_all (is_held known) more ≡ true × ((last after : Bool) → rows_at world e.names env last after (keys m name op negated right) ≡ location.found_step world last (map (shown e) more) (keys m name op negated right))
         further (c ∷ []) more gives = (
           held-expr e meant made before past frame right c more gives,
-          λ last after. ap (λ (rs : List SpotRow). spot.found_step world last rs (keys m name op negated right)) (expr-given e meant made before past frame env right c more framing at gives),
+          λ last after. ap (λ (rs : List LocatedRow). location.found_step world last rs (keys m name op negated right)) (expr-given e meant made before past frame env right c more framing at gives),
         )
         further cites more gives = absurd gives
     at-step kind.Step (Some (this m)) cites rows is held h = ap Some (step-true (this m) cites rows is refl held (λ cs more gives. none-further (this m) more gives.1 (λ last after. refl)) h)
     at-step kind.Step (Some (var m name)) cites rows is held h = ap Some (step-true (var m name) cites rows is refl held further h)
       where
         further : (cites : List ℕ) (more : List Row) → GivesFurther known before frame (var m name) cites more
-            → list_all (is_held known) more ≡ true × ((last after : Bool) → rows_at world e.names env last after (var m name) ≡ spot.found_step world last (map (shown e) more) (var m name))
+            → list_all (is_held known) more ≡ true × ((last after : Bool) → rows_at world e.names env last after (var m name) ≡ location.found_step world last (map (shown e) more) (var m name))
         further (c ∷ []) more gives = (
           held-variable e meant made before past frame m c more gives,
-          λ last after. ap (λ (rs : List SpotRow). spot.found_step world last rs (var m name)) (variable-given e meant made before past frame env m c more framing gives),
+          λ last after. ap (λ (rs : List LocatedRow). location.found_step world last rs (var m name)) (variable-given e meant made before past frame env m c more framing gives),
         )
         further cites more gives = absurd gives
     at-step kind.Step (Some (key m name)) cites rows is held h = ap Some (step-true (key m name) cites rows is refl held (λ cs more gives. none-further (key m name) more gives.1 (λ last after. refl)) h)
@@ -253,10 +253,10 @@ module _ (e : Evidence) (meant : Meant e) (made : List Made) (before : List Line
     at-step kind.Step (Some (splice m name)) cites rows is held h = ap Some (step-true (splice m name) cites rows is refl held further h)
       where
         further : (cites : List ℕ) (more : List Row) → GivesFurther known before frame (splice m name) cites more
-            → list_all (is_held known) more ≡ true × ((last after : Bool) → rows_at world e.names env last after (splice m name) ≡ spot.found_step world last (map (shown e) more) (splice m name))
+            → list_all (is_held known) more ≡ true × ((last after : Bool) → rows_at world e.names env last after (splice m name) ≡ location.found_step world last (map (shown e) more) (splice m name))
         further (c ∷ []) more gives = (
           held-variable e meant made before past frame m c more gives,
-          λ last after. ap (λ (rs : List SpotRow). spot.found_step world last rs (splice m name)) (variable-given e meant made before past frame env m c more framing gives),
+          λ last after. ap (λ (rs : List LocatedRow). location.found_step world last rs (splice m name)) (variable-given e meant made before past frame env m c more framing gives),
         )
         further cites more gives = absurd gives
     at-step kind.Capture (Some (filter m name c)) cites rows is held h = ap Some (capture-true (filter m name c) cites rows is held (λ last after. refl) h)
@@ -280,13 +280,13 @@ module _ (e : Evidence) (meant : Meant e) (made : List Made) (before : List Line
         ap (λ (k : ℕ). Some (map (shown e) (row.Found (literal_ref k) ∷ []))) own.0 ∙ ap (λ (rs : List Row). Some (map (shown e) rs)) (sym h.1)
     at-expr kind.Found (found n q) (c ∷ []) rows there held (all, gives, are, none) =
         let own = found-whole e.file meant.ordered site (OfExpr (found n q)) there in
-        ap Some (ap (kept_of is_found_spot) (query-given e meant made before past frame env q c all framing own.1.1 gives) ∙ sym (founds-shown e all) ∙ ap (map (shown e)) (sym are))
+        ap Some (ap (kept_of is_found_location) (query-given e meant made before past frame env q c all framing own.1.1 gives) ∙ sym (founds-shown e all) ∙ ap (map (shown e)) (sym are))
     at-expr kind.Fn (function n name args) cites rows there held (f, given, answer, named, gives, answers, are, kept_trees) =
         let own = found-whole e.file meant.ordered site (OfExpr (function n name args)) there in
         let given_held : list_all (list_all (is_held known)) given ≡ true = args-held e meant made before past frame args cites given gives in
         let meaning : rows_of_expr world e.names env (function n name args) ≡ answered world site (Some f) (map (map now) given) =
         ap (λ (k : ℕ). answered world k (function_named name) (rows_of_args world e.names env args)) own.0
-        ∙ ap₂ (λ (o : Option Function) (as_given : List (List SpotRow)). answered world site o as_given) named
+        ∙ ap₂ (λ (o : Option Function) (as_given : List (List LocatedRow)). answered world site o as_given) named
         (args-given e meant made before past frame env args cites given framing own.1.1 gives ∙ sym (all-then given given_held)) in
         let seen_answer : map (answered_row site) (map (see_answer known sites) answer) ≡ answered world site (Some f) (map (map now) given) =
         answer-is known e.answers sites meant.answering f site given answer answers in
@@ -303,7 +303,7 @@ module _ (e : Evidence) (meant : Meant e) (made : List Made) (before : List Line
         all-then [] held = refl
         all-then (rows ∷ all) held =
             let both : (list_all (is_held known) rows ≡ true) × (list_all (list_all (is_held known)) all ≡ true) = and_parts _ _ held in
-            ap₂ (λ (r : List SpotRow) (rs : List (List SpotRow)). r ∷ rs) (rows-then e made before past.cut rows both.0) (all-then all both.1)
+            ap₂ (λ (r : List LocatedRow) (rs : List (List LocatedRow)). r ∷ rs) (rows-then e made before past.cut rows both.0) (all-then all both.1)
     at-expr of x cites rows there held h = absurd h
 
     -- where no tree is new, what is held is held by the store before
@@ -320,6 +320,6 @@ module _ (e : Evidence) (meant : Meant e) (made : List Made) (before : List Line
         let current_held : is_held_ref known current ≡ true = value-at known before past.held frame current has in
         let table : rows ≡ rows_of_type known name current = are ∙ ap (λ (o : Option Piece). option_map_or (λ nm. rows_of_type known nm current) (option_and_then type_of o) []) there in
         ap Some
-        (ap (spot.rows_of_type world name) (here ∙ sym (spot-then e made before past.cut current current_held))
+        (ap (location.rows_of_type world name) (here ∙ sym (location-then e made before past.cut current current_held))
         ∙ sym (types-seen known e.answers sites name current) ∙ ap (map now) (sym table) ∙ rows-then e made before past.cut rows (held-before rows none held))
     rows-true of p cites rows there held h = absurd h

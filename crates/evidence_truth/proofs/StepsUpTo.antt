@@ -7,13 +7,13 @@ use Rattle.evidence_lines.specs.declared.line.Line.{Line}
 use Rattle.guard_syntax.specs.Syntax.{File, Query, Steps, Step, query, no_steps, more_steps, this, var, key, index, every, items, splice, filter, keys}
 use Rattle.rule_names.specs.Depths.{first_steps}
 use Rattle.rule_names.specs.Pieces.{OfStep, piece_at, pieces_query, pieces_step, pieces_steps}
-use Rattle.rule_names.specs.Ways.{step_site}
+use Rattle.rule_names.specs.ReferenceGraph.{step_site}
 use Rattle.evidence_rules.specs.CitedLines.{last_step}
 use Rattle.rule_meaning.specs.Places.{are_no_steps, is_after_key, is_key, step_in}
-use Rattle.rule_meaning.specs.SpotEnvironments.{Environment}
-use Rattle.rule_meaning.specs.SpotMeaning.{Names, rows_at, rows_from}
-use Rattle.rule_meaning.specs.SpotSteps.{on_found}
-use Rattle.rule_meaning.specs.Spots.{SpotRow, World}
+use Rattle.rule_meaning.specs.Environments.{Environment}
+use Rattle.rule_meaning.specs.Meaning.{Names, rows_at, rows_from}
+use Rattle.rule_meaning.specs.StepMeaning.{on_found}
+use Rattle.rule_meaning.specs.Locations.{LocatedRow, World}
 use Rattle.evidence_rules.specs.Judgement.{rows_up_to}
 use Rattle.evidence_truth.proofs.PiecesAt.{Each, IsAt, parted}
 
@@ -65,15 +65,15 @@ first-none (more_steps s ss) (suc i) step e = refl
 
 module _ (world : World) (names : Names) (env : Environment) where
   -- a step on rows
-  abbrev pub stepped : (last after_key : Bool) → Step → List SpotRow → List SpotRow
+  abbrev pub stepped : (last after_key : Bool) → Step → List LocatedRow → List LocatedRow
   stepped last after_key step rows = flat_map (on_found (rows_at world names env last after_key step)) rows
 
-  pub up-to-first : (after_key : Bool) (ss : Steps) (step : Step) (rows : List SpotRow) → step_in ss 0 ≡ Some step
+  pub up-to-first : (after_key : Bool) (ss : Steps) (step : Step) (rows : List LocatedRow) → step_in ss 0 ≡ Some step
       → rows_up_to world names env after_key ss 0 rows ≡ stepped (not (is_some (step_in ss 1))) after_key step rows
   up-to-first after_key no_steps step rows e = absurd (none-some step e)
   up-to-first after_key (more_steps s ss) step rows e = ap₂ (λ (last : Bool) (x : Step). stepped last after_key x rows) (last-of-none ss) (same_Some s step e)
 
-  pub up-to-next : (after_key : Bool) (ss : Steps) (i : ℕ) (step : Step) (rows : List SpotRow) → step_in ss (suc i) ≡ Some step
+  pub up-to-next : (after_key : Bool) (ss : Steps) (i : ℕ) (step : Step) (rows : List LocatedRow) → step_in ss (suc i) ≡ Some step
       → rows_up_to world names env after_key ss (suc i) rows
       ≡ stepped (not (is_some (step_in ss (suc (suc i))))) (is_after_key ss (suc i)) step (rows_up_to world names env after_key ss i rows)
   up-to-next after_key no_steps i step rows e = absurd (none-some step e)
@@ -82,7 +82,7 @@ module _ (world : World) (names : Names) (env : Environment) where
 
   -- those of a query are those up to its last step
   pub last-rows : (file : File) (lines : List Line) (ss : Steps) (step : Step) → last_step file lines ss ≡ Some step
-      → (i : ℕ) × (step_in ss i ≡ Some step) × ((after_key : Bool) (rows : List SpotRow) → rows_up_to world names env after_key ss i rows ≡ rows_from world names env after_key ss rows)
+      → (i : ℕ) × (step_in ss i ≡ Some step) × ((after_key : Bool) (rows : List LocatedRow) → rows_up_to world names env after_key ss i rows ≡ rows_from world names env after_key ss rows)
   last-rows file lines no_steps step e = absurd (none-some step e)
   last-rows file lines (more_steps s no_steps) step e = (0, e, λ after_key rows. refl)
   last-rows file lines (more_steps s (more_steps t ss)) step e =
@@ -90,7 +90,7 @@ module _ (world : World) (names : Names) (env : Environment) where
       (suc behind.0, behind.1, λ after_key rows. behind.2 (is_key s) (stepped false after_key s rows))
 
   -- up to a step that is the same where it is the last, they are those of the first steps alone
-  pub first-rows : (after_key : Bool) (ss : Steps) (i : ℕ) (step : Step) (rows : List SpotRow) → step_in ss i ≡ Some step
+  pub first-rows : (after_key : Bool) (ss : Steps) (i : ℕ) (step : Step) (rows : List LocatedRow) → step_in ss i ≡ Some step
       → ((last after : Bool) → rows_at world names env last after step ≡ rows_at world names env true after step)
       → rows_up_to world names env after_key ss i rows ≡ rows_from world names env after_key (first_steps i ss) rows
   first-rows after_key no_steps i step rows e same = absurd (none-some step e)

@@ -13,27 +13,28 @@ use Rattle.guard_syntax.specs.declared.row.Row.{Row}
 use Rattle.guard_syntax.specs.declared.row.Row.TheVariants as row
 use Rattle.guard_syntax.specs.declared.row.Verdict.{Verdict}
 use Rattle.guard_syntax.specs.declared.row.Verdict.TheVariants.{Pass, Fail, Skip}
-use Rattle.rule_names.specs.Links.{target_of}
+use Rattle.rule_names.specs.Resolution.{target_of}
 use Rattle.rule_names.specs.Pieces.{Piece, OfFile, OfRule, OfBody, OfConds, OfDisj, OfPart, piece_at, pieces_body, pieces_conds, pieces_disj, pieces_disjs, pieces_lets, pieces_opt_conds, pieces_opt_expr, pieces_part, pieces_parts, pieces_query, pieces_rule, pieces_rules}
-use Rattle.rule_names.specs.Ways.{part_site}
-use Rattle.rule_meaning.specs.Known.{Known, Made}
+use Rattle.rule_names.specs.ReferenceGraph.{part_site}
+use Rattle.rule_meaning.specs.StoreModel.{StoreModel, Made}
 use Rattle.evidence_rules.specs.CitedLines.{IsLine, args_at, args_of_piece, body_of_rule, body_site}
-use Rattle.evidence_rules.specs.Follows.{FollowsAtPart, FollowsBlock, FollowsBody, FollowsCall, FollowsConj, FollowsLoose, FollowsRefer, FollowsRowsOf, FollowsTest, FollowsTyped, FollowsVerdict, GivesRight, Guarded, IsBlockBody, IsFileFrame, SayDisjs, SayParts, SayRows, SaysBody, SaysVerdict, Under, UnderSome, conds_site, kind_of_part}
+use Rattle.evidence_rules.specs.Follows.{FollowsAtPart, FollowsBlock, FollowsBody, FollowsCall, FollowsConj, FollowsLoose, FollowsRefer, FollowsRowsOf, FollowsTest, FollowsTyped, FollowsVerdict, GivesRight, Guarded, IsBlockBody, IsFileFrame, SayDisjs, SayParts, SayRows, SaysBody, SaysVerdict, Under, UnderSome, block_stop, conds_site, conds_stop, disj_stop, kind_of_part, missing_fails}
 use Rattle.rule_meaning.specs.Keys.{passes}
 use Rattle.rule_meaning.specs.Roots.{root_ref}
 use Rattle.rule_meaning.specs.Seeing.{see_row}
 use Rattle.rule_meaning.specs.SetTests.{is_empty_test, is_set}
-use Rattle.rule_meaning.specs.SpotEnvironments.{Environment, Top, Inner, Called, current_of}
-use Rattle.rule_meaning.specs.SpotMeaning.{body_verdict, conds_verdict, disj_verdict, disj_verdicts, opt_conds_verdict, part_verdict, part_verdicts, rows_of, rows_of_side}
-use Rattle.rule_meaning.specs.SpotSteps as spot
-use Rattle.rule_meaning.specs.SpotTurns.{piece_called, piece_verdict as verdict_of_piece, rule_by, target_called, target_verdict}
-use Rattle.rule_meaning.specs.SpotVerdicts as over
-use Rattle.rule_meaning.specs.SpotVerdicts.{block_row}
-use Rattle.rule_meaning.specs.Spots.{Spot, SpotRow, World, root_spot}
-use Rattle.rule_meaning.specs.Verdicts.{block_verdict, conjunction, disjunction, exchanged, guarded_by, referred}
+use Rattle.rule_meaning.specs.Environments.{Environment, Top, Inner, Called, current_of}
+use Rattle.rule_meaning.specs.Meaning.{body_verdict, conds_verdict, disj_verdict, disj_verdicts, opt_conds_verdict, part_verdict, part_verdicts, rows_of, rows_of_side}
+use Rattle.rule_meaning.specs.StepMeaning as location
+use Rattle.rule_meaning.specs.NameMeaning.{piece_called, piece_verdict as verdict_of_piece, rule_by, target_called, target_verdict}
+use Rattle.rule_meaning.specs.VerdictMeaning as over
+use Rattle.rule_meaning.specs.VerdictMeaning.{block_row}
+use Rattle.rule_meaning.specs.Locations.{Location, LocatedRow, World, root_location}
+use Rattle.rule_meaning.specs.Verdicts.{block_verdict, conjunction, exchanged, guarded_by, referred}
 use Rattle.query_steps.proofs.SeenSteps.{passes-seen}
 use Rattle.query_steps.proofs.SeenVerdicts.{sets-seen, tests-seen}
 use Rattle.evidence_rules.specs.Judgement.{line_rows, line_sites, line_verdict, ruled_verdict}
+use Rattle.evidence_truth.proofs.Decided.{AreDecidedAlike, alike-all, alike-block, alike-conds, alike-cons, alike-disj, alike-more}
 use Rattle.evidence_truth.proofs.HeldLines.{expr-held, query-held}
 use Rattle.evidence_truth.proofs.HeldRows.{is_held}
 use Rattle.evidence_truth.proofs.LinesSoFar.{Evidence, Framing, IsFramed, Meant, Past, ValueFits, cited, cited-in, in-all, rows-then, same-value, seen, shown, store_of, world_for}
@@ -130,7 +131,7 @@ module _ (e : Evidence) (meant : Meant e) (made : List Made) (before : List Line
   abbrev world : World
   world = world_for e
 
-  abbrev known : Known
+  abbrev known : StoreModel
   known = store_of e made
 
   abbrev sites : List ℕ
@@ -152,29 +153,32 @@ module _ (e : Evidence) (meant : Meant e) (made : List Made) (before : List Line
   line-of-part env (refer n negated name message) = refl
   line-of-part env (call n negated name xs message) = refl
 
-  parts-true : (frame : ℕ) (env : Environment) (ps : Parts) (cites : List ℕ) (verdicts : List Verdict) → Framing e frame env → Each (IsAt e.file) (pieces_parts ps)
-      → SayParts known before frame ps cites verdicts → part_verdicts world e.names env ps ≡ verdicts
-  parts-true frame env no_parts [] [] framing placed say = refl
-  parts-true frame env (more_parts p ps) (c ∷ cs) (w ∷ ws) framing placed (first, others) =
+  parts-true : (frame : ℕ) (env : Environment) (stop : Option Verdict) (ps : Parts) (cites : List ℕ) (verdicts : List Verdict) → Framing e frame env
+      → Each (IsAt e.file) (pieces_parts ps) → SayParts known before frame stop ps cites verdicts → AreDecidedAlike stop verdicts (part_verdicts world e.names env ps)
+  parts-true frame env stop no_parts [] [] framing placed say = inl refl
+  parts-true frame env stop (more_parts p ps) (c ∷ cs) (w ∷ ws) framing placed (first, others) =
       let both = parted (IsAt e.file) (pieces_part p) (pieces_parts ps) placed in
-      ap₂ (λ (x : Verdict) (xs : List Verdict). x ∷ xs)
+      alike-more stop w (part_verdict world e.names env p) ws (part_verdicts world e.names env ps) [] (SayParts known before frame stop ps) cs
       (verdict-given c (kind_of_part known before p) frame (part_site p) w env (OfPart p) (part_verdict world e.names env p) first framing (part-at e p both.0) (line-of-part env p))
-      (parts-true frame env ps cs ws framing both.1 others)
-  parts-true frame env ps cites verdicts framing placed say = absurd say
+      others (λ say. parts-true frame env stop ps cs ws framing both.1 say)
+  parts-true frame env stop ps cites verdicts framing placed say = absurd say
 
-  disjs-true : (frame : ℕ) (env : Environment) (ds : Disjs) (cites : List ℕ) (verdicts : List Verdict) → Framing e frame env → Each (IsAt e.file) (pieces_disjs ds)
-      → SayDisjs known before frame ds cites verdicts → disj_verdicts world e.names env ds ≡ verdicts
-  disjs-true frame env no_disjs [] [] framing placed say = refl
-  disjs-true frame env (more_disjs (disj n parts) ds) (c ∷ cs) (w ∷ ws) framing placed (first, others) =
+  disjs-true : (frame : ℕ) (env : Environment) (stop : Option Verdict) (ds : Disjs) (cites : List ℕ) (verdicts : List Verdict) → Framing e frame env
+      → Each (IsAt e.file) (pieces_disjs ds) → SayDisjs known before frame stop ds cites verdicts → AreDecidedAlike stop verdicts (disj_verdicts world e.names env ds)
+  disjs-true frame env stop no_disjs [] [] framing placed say = inl refl
+  disjs-true frame env stop (more_disjs (disj n parts) ds) (c ∷ cs) (w ∷ ws) framing placed (first, others) =
       let both = parted (IsAt e.file) (pieces_disj (disj n parts)) (pieces_disjs ds) placed in
-      ap₂ (λ (x : Verdict) (xs : List Verdict). x ∷ xs)
+      alike-more stop w (disj_verdict world e.names env (disj n parts)) ws (disj_verdicts world e.names env ds) [] (SayDisjs known before frame stop ds) cs
       (verdict-given c kind.Disj frame n w env (OfDisj (disj n parts)) (disj_verdict world e.names env (disj n parts)) first framing both.0.0 refl)
-      (disjs-true frame env ds cs ws framing both.1 others)
-  disjs-true frame env ds cites verdicts framing placed say = absurd say
+      others (λ say. disjs-true frame env stop ds cs ws framing both.1 say)
+  disjs-true frame env stop ds cites verdicts framing placed say = absurd say
 
-  conj-true : (frame : ℕ) (env : Environment) (ds : Disjs) (cites : List ℕ) (verdict : Verdict) → Framing e frame env → Each (IsAt e.file) (pieces_disjs ds)
-      → FollowsConj known before frame ds cites verdict → conjunction (disj_verdicts world e.names env ds) ≡ verdict
-  conj-true frame env ds cites verdict framing placed (verdicts, say, is) = ap conjunction (disjs-true frame env ds cites verdicts framing placed say) ∙ sym is
+  -- of all disjunctions, and of conditions up to the one that decides
+  conj-true : (frame : ℕ) (env : Environment) (stop : Option Verdict) (ds : Disjs) (cites : List ℕ) (verdict : Verdict)
+      → ((vs ws : List Verdict) → AreDecidedAlike stop vs ws → conjunction vs ≡ conjunction ws) → Framing e frame env → Each (IsAt e.file) (pieces_disjs ds)
+      → FollowsConj known before frame stop ds cites verdict → conjunction (disj_verdicts world e.names env ds) ≡ verdict
+  conj-true frame env stop ds cites verdict alike framing placed (verdicts, say, is) =
+      sym (alike verdicts (disj_verdicts world e.names env ds) (disjs-true frame env stop ds cites verdicts framing placed say)) ∙ sym is
 
   -- ---- bodies in frames
 
@@ -203,23 +207,30 @@ module _ (e : Evidence) (meant : Meant e) (made : List Made) (before : List Line
   body-value frame b v number verdict placed (at, is, says_verdict) =
       subst (λ (p : Option Piece). ValueFits e frame p v) (body-at e b placed) (frame-value at frame (body_site b) v is)
 
-  -- on rows
-  bodies-true : (frame : ℕ) (env : Environment) (b : Body) (rows : List Row) (cites : List ℕ) (verdicts : List Verdict) → Framing e frame env → Each (IsAt e.file) (pieces_body b)
-      → SayRows known before (SaysBody known before frame b) rows cites verdicts
-      → map (block_row (λ (w : Spot). body_verdict world e.names (Inner w env) b)) (map (shown e) rows) ≡ verdicts
-  bodies-true frame env b [] [] [] framing placed say = refl
-  bodies-true frame env b (row.Found v ∷ rows) (c ∷ cs) (w ∷ ws) framing placed (first, others) =
-      ap₂ (λ (x : Verdict) (xs : List Verdict). x ∷ xs) (body-given frame env b v c w framing placed first) (bodies-true frame env b rows cs ws framing placed others)
-  bodies-true frame env b (row.Missing v step ∷ rows) cites (w ∷ ws) framing placed (first, others) =
-      ap₂ (λ (x : Verdict) (xs : List Verdict). x ∷ xs) (sym first) (bodies-true frame env b rows cites ws framing placed others)
-  bodies-true frame env b (row.Unmade site ∷ rows) cites (w ∷ ws) framing placed (first, others) =
-      ap₂ (λ (x : Verdict) (xs : List Verdict). x ∷ xs) (sym first) (bodies-true frame env b rows cites ws framing placed others)
-  bodies-true frame env b rows cites verdicts framing placed say = absurd say
+  -- on rows, up to the one that decides
+  bodies-true : (frame : ℕ) (env : Environment) (stop : Option Verdict) (b : Body) (rows : List Row) (cites : List ℕ) (verdicts : List Verdict) → Framing e frame env
+      → Each (IsAt e.file) (pieces_body b) → SayRows known before (SaysBody known before frame b) stop rows cites verdicts
+      → AreDecidedAlike stop verdicts (map (block_row (λ (w : Location). body_verdict world e.names (Inner w env) b)) (map (shown e) rows))
+  bodies-true frame env stop b [] [] [] framing placed say = inl refl
+  bodies-true frame env stop b (row.Found v ∷ rows) (c ∷ cs) (w ∷ ws) framing placed (first, others) =
+      alike-more stop w (body_verdict world e.names (Inner (seen e v) env) b) ws (map (block_row (λ (x : Location). body_verdict world e.names (Inner x env) b)) (map (shown e) rows))
+      (missing_fails rows) (SayRows known before (SaysBody known before frame b) stop rows) cs (body-given frame env b v c w framing placed first)
+      others (λ say. bodies-true frame env stop b rows cs ws framing placed say)
+  bodies-true frame env stop b (row.Missing v step ∷ rows) cites (w ∷ ws) framing placed (first, others) =
+      alike-cons stop w Fail ws (map (block_row (λ (x : Location). body_verdict world e.names (Inner x env) b)) (map (shown e) rows)) (sym first)
+      (bodies-true frame env stop b rows cites ws framing placed others)
+  bodies-true frame env stop b (row.Unmade site ∷ rows) cites (w ∷ ws) framing placed (first, others) =
+      alike-cons stop w Fail ws (map (block_row (λ (x : Location). body_verdict world e.names (Inner x env) b)) (map (shown e) rows)) (sym first)
+      (bodies-true frame env stop b rows cites ws framing placed others)
+  bodies-true frame env stop b rows cites verdicts framing placed say = absurd say
 
-  rows-of-true : (frame : ℕ) (env : Environment) (any : Bool) (b : Body) (rows : List Row) (cites : List ℕ) (verdict : Verdict) → Framing e frame env → Each (IsAt e.file) (pieces_body b)
-      → FollowsRowsOf known before frame any b rows cites verdict
-      → block_verdict any (map (block_row (λ (w : Spot). body_verdict world e.names (Inner w env) b)) (map (shown e) rows)) ≡ verdict
-  rows-of-true frame env any b rows cites verdict framing placed (verdicts, say, is) = ap (block_verdict any) (bodies-true frame env b rows cites verdicts framing placed say) ∙ sym is
+  rows-of-true : (frame : ℕ) (env : Environment) (any : Bool) (stop : Option Verdict) (b : Body) (rows : List Row) (cites : List ℕ) (verdict : Verdict)
+      → ((vs ws : List Verdict) → AreDecidedAlike stop vs ws → block_verdict any vs ≡ block_verdict any ws) → Framing e frame env → Each (IsAt e.file) (pieces_body b)
+      → FollowsRowsOf known before frame any stop b rows cites verdict
+      → block_verdict any (map (block_row (λ (w : Location). body_verdict world e.names (Inner w env) b)) (map (shown e) rows)) ≡ verdict
+  rows-of-true frame env any stop b rows cites verdict alike framing placed (verdicts, say, is) =
+      sym (alike verdicts (map (block_row (λ (w : Location). body_verdict world e.names (Inner w env) b)) (map (shown e) rows)) (bodies-true frame env stop b rows cites verdicts framing placed say))
+      ∙ sym is
 
   -- ---- conditions
 
@@ -261,9 +272,9 @@ module _ (e : Evidence) (meant : Meant e) (made : List Made) (before : List Line
       let lefts_now : rows_of world e.names env left ≡ map (see_row known sites) lefts =
       query-given e meant made before past frame env left c lefts framing both.0 gives ∙ sym (rows-then e made before past.cut lefts lefts_held) in
       let rights_now : rows_of_side world e.names env right ≡ map (see_row known sites) rights = side.0 ∙ sym (rows-then e made before past.cut rights side.1) in
-      ap₂ (λ (xs ys : List SpotRow). if is_empty_test op && is_set left then over.set_verdict negated xs else over.test_verdict any (spot.passes world op negated ys) xs) lefts_now rights_now
+      ap₂ (λ (xs ys : List LocatedRow). if is_empty_test op && is_set left then over.set_verdict negated xs else over.test_verdict any (location.passes world op negated ys) xs) lefts_now rights_now
       ∙ ap₂ (λ (x y : Verdict). if is_empty_test op && is_set left then x else y) (sym (sets-seen known sites negated lefts))
-      (sym (tests-seen known sites (passes known op negated rights) (spot.passes world op negated (map (see_row known sites) rights)) (λ x. sym (passes-seen known e.answers sites op negated rights x)) any lefts))
+      (sym (tests-seen known sites (passes known op negated rights) (location.passes world op negated (map (see_row known sites) rights)) (λ x. sym (passes-seen known e.answers sites op negated rights x)) any lefts))
       ∙ sym is
   test-true frame site env p cites verdict framing there h = absurd h
 
@@ -314,7 +325,7 @@ module _ (e : Evidence) (meant : Meant e) (made : List Made) (before : List Line
       verdict-given c kind.Conj at (body_site b) said (Called (seen e v) args env) (OfBody b) (body_verdict world e.names (Called (seen e v) args env) b) says_verdict inner (body-at e b inside.1) refl in
       let means : e.names.called env n args ≡ said =
       meant.obeys.called env n args ∙ ap (λ (k : ℕ). target_called world e.names env args (target_of e.file k)) own.0 ∙ inside.0
-      ∙ ap (λ (w : Spot). body_verdict world e.names (Called w args env) b) current ∙ judged in
+      ∙ ap (λ (w : Location). body_verdict world e.names (Called w args env) b) current ∙ judged in
       ap (exchanged negated) means ∙ sym is
   call-true frame site env p cites verdict framing there h = absurd h
 
@@ -325,30 +336,30 @@ module _ (e : Evidence) (meant : Meant e) (made : List Made) (before : List Line
   when-body frame site n env c b verdict framing there placed (k ∷ []) (v, says_body) =
       let fits : ValueFits e frame (Some (OfBody b)) v = body-value frame b v k verdict placed says_body in
       let current : current_of env ≡ seen e v = when-value e meant b site n c frame env v there framing fits in
-      ap (λ (w : Spot). body_verdict world e.names (Inner w env) b) current ∙ body-given frame env b v k verdict framing placed says_body
+      ap (λ (w : Location). body_verdict world e.names (Inner w env) b) current ∙ body-given frame env b v k verdict framing placed says_body
   when-body frame site n env c b verdict framing there placed cites h = absurd h
 
   typed-body : (frame site n : ℕ) (env : Environment) (name : List ℕ) (o : OptConds) (b : Body) (verdict : Verdict) → Framing e frame env → piece_at e.file site ≡ Some (OfPart (kinds n name o b))
       → Each (IsAt e.file) (pieces_body b) → (cites : List ℕ) → FollowsTyped known before frame site b cites verdict
-      → conjunction (map (block_row (λ (w : Spot). body_verdict world e.names (Inner w env) b)) (spot.rows_of_type world name (current_of env))) ≡ verdict
+      → conjunction (map (block_row (λ (w : Location). body_verdict world e.names (Inner w env) b)) (location.rows_of_type world name (current_of env))) ≡ verdict
   typed-body frame site n env name o b verdict framing there placed [] h = absurd h
   typed-body frame site n env name o b verdict framing there placed (k ∷ cites) (rows, is, follows) =
-      let types : spot.rows_of_type world name (current_of env) ≡ map (shown e) rows =
-      same_Some (spot.rows_of_type world name (current_of env)) (map (shown e) rows)
+      let types : location.rows_of_type world name (current_of env) ≡ map (shown e) rows =
+      same_Some (location.rows_of_type world name (current_of env)) (map (shown e) rows)
       (ap (line_rows world e.names env kind.Types) (sym there) ∙ rows-cited e meant made before past k kind.Types frame site rows env is framing) in
-      ap (λ (rs : List SpotRow). conjunction (map (block_row (λ (w : Spot). body_verdict world e.names (Inner w env) b)) rs)) types ∙ rows-of-true frame env false b rows cites verdict framing placed follows
+      ap (λ (rs : List LocatedRow). conjunction (map (block_row (λ (w : Location). body_verdict world e.names (Inner w env) b)) rs)) types ∙ rows-of-true frame env false None b rows cites verdict (alike-all (block_verdict false)) framing placed follows
 
   block-true : (frame site : ℕ) (env : Environment) (n : ℕ) (any : Bool) (head : Query) (b : Body) (cites : List ℕ) (verdict : Verdict) → Framing e frame env
-      → piece_at e.file site ≡ Some (OfPart (block n any head b)) → FollowsBlock known before frame any head b cites verdict → part_verdict world e.names env (block n any head b) ≡ verdict
+      → piece_at e.file site ≡ Some (OfPart (block n any head b)) → FollowsBlock known before frame any (block_stop any e.version) head b cites verdict → part_verdict world e.names env (block n any head b) ≡ verdict
   block-true frame site env n any head b [] verdict framing there h = absurd h
   block-true frame site env n any head b (k ∷ cites) verdict framing there (rows, gives, follows) =
       let whole = found-whole e.file meant.ordered site (OfPart (block n any head b)) there in
       let both = parted (IsAt e.file) (pieces_query head) (pieces_body b) whole.1.1 in
-      ap (λ (rs : List SpotRow). block_verdict any (map (block_row (λ (w : Spot). body_verdict world e.names (Inner w env) b)) rs)) (query-given e meant made before past frame env head k rows framing both.0 gives)
-      ∙ rows-of-true frame env any b rows cites verdict framing both.1 follows
+      ap (λ (rs : List LocatedRow). block_verdict any (map (block_row (λ (w : Location). body_verdict world e.names (Inner w env) b)) rs)) (query-given e meant made before past frame env head k rows framing both.0 gives)
+      ∙ rows-of-true frame env any (block_stop any e.version) b rows cites verdict (alike-block any e.version) framing both.1 follows
 
   part-true : (frame site : ℕ) (env : Environment) (of : LineKind) (p : Part) (cites : List ℕ) (verdict : Verdict) → Framing e frame env → piece_at e.file site ≡ Some (OfPart p)
-      → FollowsAtPart known before frame site of p cites verdict → line_verdict world e.names env of (Some (OfPart p)) ≡ Some verdict
+      → FollowsAtPart e.version known before frame site of p cites verdict → line_verdict world e.names env of (Some (OfPart p)) ≡ Some verdict
   part-true frame site env kind.Test p cites verdict framing there h = ap Some (test-true frame site env p cites verdict framing there h)
   part-true frame site env kind.Refer p cites verdict framing there h = ap Some (refer-true frame site env p cites verdict there h)
   part-true frame site env kind.Call p cites verdict framing there h = ap Some (call-true frame site env p cites verdict framing there h)
@@ -361,7 +372,7 @@ module _ (e : Evidence) (meant : Meant e) (made : List Made) (before : List Line
   part-true frame site env kind.Kinds (kinds n name o b) cites verdict framing there h =
       let whole = found-whole e.file meant.ordered site (OfPart (kinds n name o b)) there in
       let both = parted (IsAt e.file) (pieces_opt_conds o) (pieces_body b) whole.1.1 in
-      ap Some (under-some-true frame env o (conjunction (map (block_row (λ (w : Spot). body_verdict world e.names (Inner w env) b)) (spot.rows_of_type world name (current_of env)))) verdict
+      ap Some (under-some-true frame env o (conjunction (map (block_row (λ (w : Location). body_verdict world e.names (Inner w env) b)) (location.rows_of_type world name (current_of env)))) verdict
       (FollowsTyped known before frame site b) cites framing both.0 (typed-body frame site n env name o b verdict framing there both.1) h)
   part-true frame site env of p cites verdict framing there h = absurd h
 
@@ -371,7 +382,7 @@ module _ (e : Evidence) (meant : Meant e) (made : List Made) (before : List Line
   file-framing frame (l, stands, file) = (l, past.stand frame l stands, file)
 
   rule-body : (frame site : ℕ) (r : Rule) (verdict : Verdict) → Framing e frame Top → piece_at e.file site ≡ Some (OfRule r) → Each (IsAt e.file) (pieces_body r.body)
-      → (cites : List ℕ) → FollowsBody known before frame r.body cites verdict → body_verdict world e.names (Inner root_spot Top) r.body ≡ verdict
+      → (cites : List ℕ) → FollowsBody known before frame r.body cites verdict → body_verdict world e.names (Inner root_location Top) r.body ≡ verdict
   rule-body frame site r verdict framing there placed (k ∷ []) (v, says_body) =
       let fits : ValueFits e frame (Some (OfBody r.body)) v = body-value frame r.body v k verdict placed says_body in
       let root : v ≡ root_ref = rule-value e meant r.body r site frame v refl there fits in
@@ -387,25 +398,26 @@ module _ (e : Evidence) (meant : Meant e) (made : List Made) (before : List Line
   -- ---- lines with a verdict
 
   pub verdict-true : (frame site : ℕ) (env : Environment) (of : LineKind) (p : Option Piece) (cites : List ℕ) (verdict : Verdict) → Framing e frame env → piece_at e.file site ≡ p
-      → FollowsVerdict (store_of e made) before frame site of p cites verdict → line_verdict (world_for e) e.names env of p ≡ Some verdict
+      → FollowsVerdict e.version (store_of e made) before frame site of p cites verdict → line_verdict (world_for e) e.names env of p ≡ Some verdict
   verdict-true frame site env kind.Rule (Some (OfRule r)) cites verdict framing there (file, new, (plain, follows)) =
       let whole = found-whole e.file meant.ordered site (OfRule r) there in
       let both = parted (IsAt e.file) (pieces_opt_conds r.cond) (pieces_body r.body) whole.1.1 in
       let top : Framing e frame Top = file-framing frame file in
-      ap Some (under-some-true frame Top r.cond (body_verdict world e.names (Inner root_spot Top) r.body) verdict (FollowsBody known before frame r.body) cites top both.0
+      ap Some (under-some-true frame Top r.cond (body_verdict world e.names (Inner root_location Top) r.body) verdict (FollowsBody known before frame r.body) cites top both.0
       (rule-body frame site r verdict top there both.1) follows)
   verdict-true frame site env kind.Rule (Some OfFile) cites verdict framing there (file, new, follows) =
       ap Some (loose-true frame e.file.loose cites verdict (file-framing frame file) follows)
   verdict-true frame site env kind.Conj (Some (OfBody (body n lets ds))) cites verdict framing there h =
       let whole = found-whole e.file meant.ordered site (OfBody (body n lets ds)) there in
       let both = parted (IsAt e.file) (pieces_lets lets) (pieces_disjs ds) whole.1.1 in
-      ap Some (conj-true frame env ds cites verdict framing both.1 h)
+      ap Some (conj-true frame env None ds cites verdict (alike-all conjunction) framing both.1 h)
   verdict-true frame site env kind.Conj (Some (OfConds (conds n ds))) cites verdict framing there h =
       let whole = found-whole e.file meant.ordered site (OfConds (conds n ds)) there in
-      ap Some (conj-true frame env ds cites verdict framing whole.1.1 h)
-  verdict-true frame site env kind.Conj (Some OfFile) cites verdict framing there h = ap Some (conj-true frame env e.file.loose cites verdict framing (loose-there e.file meant.ordered) h)
+      ap Some (conj-true frame env (conds_stop e.version) ds cites verdict (alike-conds e.version) framing whole.1.1 h)
+  verdict-true frame site env kind.Conj (Some OfFile) cites verdict framing there h =
+      ap Some (conj-true frame env None e.file.loose cites verdict (alike-all conjunction) framing (loose-there e.file meant.ordered) h)
   verdict-true frame site env kind.Disj (Some (OfDisj (disj n parts))) cites verdict framing there (verdicts, say, is) =
       let whole = found-whole e.file meant.ordered site (OfDisj (disj n parts)) there in
-      ap Some (ap disjunction (parts-true frame env parts cites verdicts framing whole.1.1 say) ∙ sym is)
+      ap Some (sym (alike-disj e.version verdicts (part_verdicts world e.names env parts) (parts-true frame env (disj_stop e.version) parts cites verdicts framing whole.1.1 say)) ∙ sym is)
   verdict-true frame site env of (Some (OfPart p)) cites verdict framing there h = part-true frame site env of p cites verdict framing there h
   verdict-true frame site env of p cites verdict framing there h = absurd h

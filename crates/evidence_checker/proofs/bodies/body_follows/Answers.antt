@@ -10,11 +10,11 @@ use Rattle.evidence_checker.proofs.bodies.body_follows.Goals as goal
 
 pub returns-in-None : goal.returns-in-None
 returns-in-None c =
-    body-never (known_of c.args.ground.now) (lines_of c.args.ground.now) c.args.frame (get_or c.args.cites.now 0 0) c.args.cites.now c.args.verdict
+    body-never (known_of c.args.context.now) (lines_of c.args.context.now) c.args.frame (get_or c.args.cites.now 0 0) c.args.cites.now c.args.verdict
     (one-cite c.args.cites.now c.in-len1.len_at_least c.in-len1.len_below) (see_body c.args.body.now) (out-Body c.args.body.now).site (sym (body-site c.args.body.now)) c.in-None.ensures
 
 pub returns-in-Some : goal.returns-in-Some
 returns-in-Some c =
-    body-decided (known_of c.args.ground.now) (lines_of c.args.ground.now) c.args.frame (get_or c.args.cites.now 0 0) c.args.cites.now c.args.verdict
+    body-decided (known_of c.args.context.now) (lines_of c.args.context.now) c.args.frame (get_or c.args.cites.now 0 0) c.args.cites.now c.args.verdict
     (one-cite c.args.cites.now c.in-len1.len_at_least c.in-len1.len_below) (see_body c.args.body.now) (out-Body c.args.body.now).site (sym (body-site c.args.body.now))
     c.in-Some.said c.eq.result c.in-Some.ensures (same-verdicts c.eq.result c.args.verdict c.in-Some.said c.eq.ensures)

@@ -2,7 +2,7 @@ use Rattle.std.proofs.Common.{◌≡◌, ℕ, ◌+◌, suc, add-one, List, lengt
 use Rattle.std.specs.List.{list_all}
 use Rattle.guard_builtins.specs.Seen.{see_made}
 use Rattle.guard_builtins.specs.declared.made.Made.{Made}
-use Rattle.rule_meaning.specs.Known.{Known, is_known}
+use Rattle.rule_meaning.specs.StoreModel.{StoreModel, is_known}
 use Rattle.value_compare.specs.Stores.{see_store}
 use Rattle.rule_meaning.specs.Seeing.{grown, rows_kept, trees_kept}
 use Rattle.evidence_checker.specs.Said.{AreMadeWithin}
@@ -47,7 +47,7 @@ pub returns-clause-made : goal.returns-clause-made
 returns-clause-made c =
     let known = see_store c.args.store.now in
     let answer = map see_made c.in-Some.answer.items in
-    subst (λ (k : Known). AreMadeWithin (suc (length c.args.lines.now)) k.made) (sym (c.in_ok-keep.ensures ∙ ap (λ (n : ℕ). grown known (trees_kept n 0 answer)) (add-one (length c.args.lines.now))))
+    subst (λ (k : StoreModel). AreMadeWithin (suc (length c.args.lines.now)) k.made) (sym (c.in_ok-keep.ensures ∙ ap (λ (n : ℕ). grown known (trees_kept n 0 answer)) (add-one (length c.args.lines.now))))
     (within-grown (length c.args.lines.now) known answer c.requires.made)
 
 pub returns-clause-known : goal.returns-clause-known
@@ -57,5 +57,5 @@ returns-clause-known c =
     let is = is-answered known c.args.lines.now c.args.frame c.args.site c.args.cites.now c.in_ok-answer.field-0 c.in_ok-answer.ensures.answer c.in-Some.answer c.in-Some.is in
     let rows : c.args.rows.now ≡ rows_kept (suc (length c.args.lines.now)) 0 answer =
     c.if-not-are_kept.ensures ∙ ap (λ (ms : List Made). rows_kept (length c.args.lines.now + 1) 0 (map see_made ms)) c.deref.ensures.value ∙ ap (λ (n : ℕ). rows_kept n 0 answer) (add-one (length c.args.lines.now)) in
-    λ _. ap (λ (k : Known). list_all (is_known k) c.args.rows.now) (c.in_ok-keep.ensures ∙ ap (λ (n : ℕ). grown known (trees_kept n 0 answer)) (add-one (length c.args.lines.now)))
+    λ _. ap (λ (k : StoreModel). list_all (is_known k) c.args.rows.now) (c.in_ok-keep.ensures ∙ ap (λ (n : ℕ). grown known (trees_kept n 0 answer)) (add-one (length c.args.lines.now)))
     ∙ call-known known c.args.lines.now c.args.frame c.args.site c.args.cites.now answer is c.requires.sound c.requires.made c.args.rows.now rows

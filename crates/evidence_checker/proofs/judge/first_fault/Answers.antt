@@ -26,9 +26,9 @@ returns-then-not-branch c =
     let known = see_store c.loop-before.store in
     let seen = c.first_lines.result.now in
     let line = c.index-lines-before.result in
-    let stays : Stays (Follows known seen line) known (see_store c.line_follows.new.store) =
-    stays-of (Follows known seen line) known (see_store c.line_follows.new.store) c.in_ok-line_follows.field-0 c.if-not-branch.true c.in_ok-line_follows.ensures.follows in
-    fault-here c.args.lines.now seen c.loop-before.before line c.loop-before-test.true c.index-lines-before.is c.first_lines.ensures start known c.loop-before.invariant.behind stays.0
+    let stays : Stays (Follows c.args.version known seen line) known (see_store c.line_follows.new.store) =
+    stays-of (Follows c.args.version known seen line) known (see_store c.line_follows.new.store) c.in_ok-line_follows.field-0 c.if-not-branch.true c.in_ok-line_follows.ensures.follows in
+    fault-here c.args.lines.now seen c.loop-before.before line c.loop-before-test.true c.index-lines-before.is c.first_lines.ensures c.args.version start known c.loop-before.invariant.behind stays.0
 
 pub note-requires-clause-shape : goal.note-requires-clause-shape
 note-requires-clause-shape c =
@@ -37,8 +37,8 @@ note-requires-clause-shape c =
     let after = see_store c.line_follows.new.store in
     let seen = c.first_lines.result.now in
     let line = c.index-lines-before.result in
-    shape-here c.args.lines.now seen c.loop-before.before line c.loop-before-test.true c.index-lines-before.is c.first_lines.ensures start known c.loop-before.invariant.behind after
-    (leads-of (Follows known seen line) known after c.in_ok-line_follows.field-0 c.if-not-branch.false c.in_ok-line_follows.ensures.follows)
+    shape-here c.args.lines.now seen c.loop-before.before line c.loop-before-test.true c.index-lines-before.is c.first_lines.ensures c.args.version start known c.loop-before.invariant.behind after
+    (leads-of (Follows c.args.version known seen line) known after c.in_ok-line_follows.field-0 c.if-not-branch.false c.in_ok-line_follows.ensures.follows)
 
 pub note-requires-clause-site : goal.note-requires-clause-site
 note-requires-clause-site c =
@@ -47,11 +47,11 @@ note-requires-clause-site c =
     let after = see_store c.line_follows.new.store in
     let seen = c.first_lines.result.now in
     let line = c.index-lines-before.result in
-    let leads : Leads (Follows known seen line) known after =
-    leads-of (Follows known seen line) known after c.in_ok-line_follows.field-0 c.if-not-branch.false c.in_ok-line_follows.ensures.follows in
+    let leads : Leads (Follows c.args.version known seen line) known after =
+    leads-of (Follows c.args.version known seen line) known after c.in_ok-line_follows.field-0 c.if-not-branch.false c.in_ok-line_follows.ensures.follows in
     λ site site_is.
     subst (λ (n : ℕ). site < n) (sym c.loop-before.invariant.sites)
-    (site-here c.args.lines.now seen c.loop-before.before line c.loop-before-test.true c.index-lines-before.is c.first_lines.ensures start known c.loop-before.invariant.behind after leads
+    (site-here c.args.lines.now seen c.loop-before.before line c.loop-before-test.true c.index-lines-before.is c.first_lines.ensures c.args.version start known c.loop-before.invariant.behind after leads
     c.loop-before.store.file.now.raw c.loop-before.store.file.now.sites refl site site_is)
 
 pub loop-before-preserved : goal.loop-before-preserved
@@ -64,26 +64,26 @@ loop-before-preserved c =
     let before = c.loop-before.before in
     let line = c.index-lines-before.result in
     let within : before < length lines = c.loop-before-test.true in
-    let leads : Leads (Follows known seen line) known after =
-    leads-of (Follows known seen line) known after c.in_ok-line_follows.field-0 c.if-not-branch.false c.in_ok-line_follows.ensures.follows in
+    let leads : Leads (Follows c.args.version known seen line) known after =
+    leads-of (Follows c.args.version known seen line) known after c.in_ok-line_follows.field-0 c.if-not-branch.false c.in_ok-line_follows.ensures.follows in
     let file_is : after.file ≡ known.file =
-    file-on lines seen before line within c.index-lines-before.is c.first_lines.ensures start known c.loop-before.invariant.behind after leads in
+    file-on lines seen before line within c.index-lines-before.is c.first_lines.ensures c.args.version start known c.loop-before.invariant.behind after leads in
     record {
       index = omega (arith, within);
       file = file_is ∙ c.loop-before.invariant.file;
-      behind = known-on lines seen before line within c.index-lines-before.is c.first_lines.ensures start known c.loop-before.invariant.behind after leads;
+      behind = known-on lines seen before line within c.index-lines-before.is c.first_lines.ensures c.args.version start known c.loop-before.invariant.behind after leads;
       judged =
-          judged-on lines seen before line within c.index-lines-before.is c.first_lines.ensures start known c.loop-before.invariant.behind after leads c.note.new.self.of.items
+          judged-on lines seen before line within c.index-lines-before.is c.first_lines.ensures c.args.version start known c.loop-before.invariant.behind after leads c.note.new.self.of.items
           (c.note.ensures.judged seen (subst (λ (ls : List Line). AreJudged ls c.loop-before.judged.of.items) (sym c.first_lines.ensures) c.loop-before.invariant.judged));
       sites = c.note.ensures.sites ∙ c.loop-before.invariant.sites ∙ ap (λ (f : File). length f.places) (sym file_is);
       sound =
-          sound-on lines seen before line within c.index-lines-before.is c.first_lines.ensures start known c.loop-before.invariant.behind after leads c.loop-before.invariant.sound
+          sound-on lines seen before line within c.index-lines-before.is c.first_lines.ensures c.args.version start known c.loop-before.invariant.behind after leads c.loop-before.invariant.sound
           (c.in_ok-line_follows.ensures.sound c.if-not-branch.false);
       made = made-on lines seen before line within c.index-lines-before.is c.first_lines.ensures after.made c.in_ok-line_follows.ensures.made;
     }
 
 pub returns : goal.returns
 returns c = (
-  all-behind (see_store c.args.store.now) (see_store c.loop-before.store) c.args.lines.now c.loop-before.before c.loop-before-test.false c.loop-before.invariant.behind,
+  all-behind c.args.version (see_store c.args.store.now) (see_store c.loop-before.store) c.args.lines.now c.loop-before.before c.loop-before-test.false c.loop-before.invariant.behind,
   all-judged c.args.lines.now c.loop-before.before c.loop-before.judged.of.items c.loop-before-test.false c.loop-before.invariant.judged,
 )

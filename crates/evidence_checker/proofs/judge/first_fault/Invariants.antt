@@ -8,7 +8,7 @@ abbrev pub invariant-loop-before : goal.invariant-loop-before
 invariant-loop-before l = record {
   index : l.before ≤ length l.lines;
   file : (see_store l.store).file ≡ (see_store l.initial.store).file;
-  behind : IsKnownBehind (see_store l.initial.store) (take l.before l.lines) (see_store l.store);
+  behind : IsKnownBehind l.version (see_store l.initial.store) (take l.before l.lines) (see_store l.store);
   judged : AreJudged (take l.before l.lines) l.judged.of.items;
   sites : length l.judged.of.items ≡ length (see_store l.store).file.places;
   sound : AreSound (see_store l.store) (take l.before l.lines);

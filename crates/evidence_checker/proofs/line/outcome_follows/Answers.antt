@@ -23,10 +23,10 @@ returns-in-Value c =
     let line = c.args.line.now in
     record {
       follows =
-          said-as k k c.args.lines.now c.args.frame c.args.site line.kind line.cites c.as_slice-cites.result.now line.outcome (says.Value c.in-Value.value) c.as_slice-cites.ensures c.in-Value.is c.value_follows.result
-          (value-decided k c.args.lines.now c.args.frame c.args.site line.kind c.as_slice-cites.result.now c.in-Value.value c.value_follows.result c.value_follows.ensures.follows);
+          said-as c.args.version k k c.args.lines.now c.args.frame c.args.site line.kind line.cites c.as_slice-cites.result.now line.outcome (says.Value c.in-Value.value) c.as_slice-cites.ensures c.in-Value.is c.value_follows.result
+          (value-decided c.args.version k c.args.lines.now c.args.frame c.args.site line.kind c.as_slice-cites.result.now c.in-Value.value c.value_follows.result c.value_follows.ensures.follows);
       known =
-          known-as k k c.args.lines.now c.args.frame c.args.site line.kind line.cites c.as_slice-cites.result.now line.outcome (says.Value c.in-Value.value) c.as_slice-cites.ensures c.in-Value.is c.value_follows.result
+          known-as c.args.version k k c.args.lines.now c.args.frame c.args.site line.kind line.cites c.as_slice-cites.result.now line.outcome (says.Value c.in-Value.value) c.as_slice-cites.ensures c.in-Value.is c.value_follows.result
           c.value_follows.ensures.known;
       made = made-more (length c.args.lines.now) k.made c.requires.made;
     }
@@ -42,12 +42,12 @@ returns-in-Rows c =
     let is : line.outcome ≡ says.Rows rows = c.in-Rows.is ∙ ap (λ (rs : List Row). says.Rows rs) (sym c.as_slice-rows.ensures) in
     record {
       follows =
-          IfOk-weaker c.all_rows_follow.result (λ b. Decided b (FollowsIn k ls c.args.frame c.args.site line.kind cites (says.Rows rows)) k after)
-          (λ b. Decided b (FollowsIn k ls c.args.frame c.args.site line.kind line.cites line.outcome) k after)
-          (said-as k after ls c.args.frame c.args.site line.kind line.cites cites line.outcome (says.Rows rows) c.as_slice-cites.ensures is) c.all_rows_follow.ensures.follows;
+          IfOk-weaker c.all_rows_follow.result (λ b. Decided b (FollowsIn c.args.version k ls c.args.frame c.args.site line.kind cites (says.Rows rows)) k after)
+          (λ b. Decided b (FollowsIn c.args.version k ls c.args.frame c.args.site line.kind line.cites line.outcome) k after)
+          (said-as c.args.version k after ls c.args.frame c.args.site line.kind line.cites cites line.outcome (says.Rows rows) c.as_slice-cites.ensures is) c.all_rows_follow.ensures.follows;
       known =
           IfOk-weaker c.all_rows_follow.result (λ b. b ≡ true → is_known_outcome after (says.Rows rows) ≡ true) (λ b. b ≡ true → is_known_outcome after line.outcome ≡ true)
-          (known-as k after ls c.args.frame c.args.site line.kind line.cites cites line.outcome (says.Rows rows) c.as_slice-cites.ensures is) c.all_rows_follow.ensures.known;
+          (known-as c.args.version k after ls c.args.frame c.args.site line.kind line.cites cites line.outcome (says.Rows rows) c.as_slice-cites.ensures is) c.all_rows_follow.ensures.known;
       made = c.all_rows_follow.ensures.made;
     }
 
@@ -58,13 +58,13 @@ returns-in-Verdict c =
     let line = c.args.line.now in
     let cites = c.as_slice-cites.result.now in
     let verdict = c.in-Verdict.verdict in
-    let Follows : Type 0 = FollowsVerdict k ls c.args.frame c.args.site line.kind (piece_at k.file c.args.site) cites verdict in
+    let Follows : Type 0 = FollowsVerdict c.args.version k ls c.args.frame c.args.site line.kind (piece_at k.file c.args.site) cites verdict in
     let Asked : Bool → Type 0 = λ b. MatchBool b Follows (Follows → ⊥) in
     record {
       follows =
-          IfOk-weaker c.verdict_follows.result Asked (λ b. Decided b (FollowsIn k ls c.args.frame c.args.site line.kind line.cites line.outcome) k k)
-          (λ b decided. said-as k k ls c.args.frame c.args.site line.kind line.cites cites line.outcome (says.Verdict verdict) c.as_slice-cites.ensures c.in-Verdict.is b
-          (verdict-decided k ls c.args.frame c.args.site line.kind cites verdict b decided)) c.verdict_follows.ensures;
+          IfOk-weaker c.verdict_follows.result Asked (λ b. Decided b (FollowsIn c.args.version k ls c.args.frame c.args.site line.kind line.cites line.outcome) k k)
+          (λ b decided. said-as c.args.version k k ls c.args.frame c.args.site line.kind line.cites cites line.outcome (says.Verdict verdict) c.as_slice-cites.ensures c.in-Verdict.is b
+          (verdict-decided c.args.version k ls c.args.frame c.args.site line.kind cites verdict b decided)) c.verdict_follows.ensures;
       known = IfOk-weaker c.verdict_follows.result Asked (λ b. b ≡ true → is_known_outcome k line.outcome ≡ true) (λ b decided e. ap (is_known_outcome k) c.in-Verdict.is) c.verdict_follows.ensures;
       made = IfOk-weaker c.verdict_follows.result Asked (λ b. AreMadeWithin (suc (length ls)) k.made) (λ b decided. made-more (length ls) k.made c.requires.made) c.verdict_follows.ensures;
     }

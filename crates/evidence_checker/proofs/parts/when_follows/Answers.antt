@@ -6,19 +6,19 @@ use Rattle.evidence_checker.proofs.Decided.{decide-guarded, decide-under, never-
 use Rattle.evidence_checker.proofs.parts.when_follows.Goals as goal
 
 pub returns-in_default : goal.returns-in_default
-returns-in_default c = never-under (known_of c.args.ground.now) (lines_of c.args.ground.now) c.args.frame (FollowsBody (known_of c.args.ground.now) (lines_of c.args.ground.now) c.args.frame (see_body c.args.body.now)) c.args.verdict (see_conds c.args.cond.now) c.args.cites.now c.in_default.ensures
+returns-in_default c = never-under (known_of c.args.context.now) (lines_of c.args.context.now) c.args.frame (FollowsBody (known_of c.args.context.now) (lines_of c.args.context.now) c.args.frame (see_body c.args.body.now)) c.args.verdict (see_conds c.args.cond.now) c.args.cites.now c.in_default.ensures
 
 pub returns-in-Pass : goal.returns-in-Pass
 returns-in-Pass c =
-    decide-under (known_of c.args.ground.now) (lines_of c.args.ground.now) c.args.frame (FollowsBody (known_of c.args.ground.now) (lines_of c.args.ground.now) c.args.frame (see_body c.args.body.now)) c.args.verdict (see_conds c.args.cond.now) c.args.cites.now c.in-Some.guard.said c.in-Some.guard.left.now c.body_follows.result c.in-Some.ensures
-    (decide-guarded (known_of c.args.ground.now) (lines_of c.args.ground.now) c.args.frame (FollowsBody (known_of c.args.ground.now) (lines_of c.args.ground.now) c.args.frame (see_body c.args.body.now)) c.args.verdict Pass c.in-Some.guard.said c.in-Some.guard.left.now c.body_follows.result c.in-Pass.is c.body_follows.ensures)
+    decide-under (known_of c.args.context.now) (lines_of c.args.context.now) c.args.frame (FollowsBody (known_of c.args.context.now) (lines_of c.args.context.now) c.args.frame (see_body c.args.body.now)) c.args.verdict (see_conds c.args.cond.now) c.args.cites.now c.in-Some.guard.said c.in-Some.guard.left.now c.body_follows.result c.in-Some.ensures
+    (decide-guarded (known_of c.args.context.now) (lines_of c.args.context.now) c.args.frame (FollowsBody (known_of c.args.context.now) (lines_of c.args.context.now) c.args.frame (see_body c.args.body.now)) c.args.verdict Pass c.in-Some.guard.said c.in-Some.guard.left.now c.body_follows.result c.in-Pass.is c.body_follows.ensures)
 
 pub returns-in-Fail : goal.returns-in-Fail
 returns-in-Fail c =
-    decide-under (known_of c.args.ground.now) (lines_of c.args.ground.now) c.args.frame (FollowsBody (known_of c.args.ground.now) (lines_of c.args.ground.now) c.args.frame (see_body c.args.body.now)) c.args.verdict (see_conds c.args.cond.now) c.args.cites.now c.in-Some.guard.said c.in-Some.guard.left.now c.ends_with.result c.in-Some.ensures
-    (decide-guarded (known_of c.args.ground.now) (lines_of c.args.ground.now) c.args.frame (FollowsBody (known_of c.args.ground.now) (lines_of c.args.ground.now) c.args.frame (see_body c.args.body.now)) c.args.verdict Fail c.in-Some.guard.said c.in-Some.guard.left.now c.ends_with.result c.in-Fail.is c.ends_with.ensures)
+    decide-under (known_of c.args.context.now) (lines_of c.args.context.now) c.args.frame (FollowsBody (known_of c.args.context.now) (lines_of c.args.context.now) c.args.frame (see_body c.args.body.now)) c.args.verdict (see_conds c.args.cond.now) c.args.cites.now c.in-Some.guard.said c.in-Some.guard.left.now c.ends_with.result c.in-Some.ensures
+    (decide-guarded (known_of c.args.context.now) (lines_of c.args.context.now) c.args.frame (FollowsBody (known_of c.args.context.now) (lines_of c.args.context.now) c.args.frame (see_body c.args.body.now)) c.args.verdict Fail c.in-Some.guard.said c.in-Some.guard.left.now c.ends_with.result c.in-Fail.is c.ends_with.ensures)
 
 pub returns-in-Skip : goal.returns-in-Skip
 returns-in-Skip c =
-    decide-under (known_of c.args.ground.now) (lines_of c.args.ground.now) c.args.frame (FollowsBody (known_of c.args.ground.now) (lines_of c.args.ground.now) c.args.frame (see_body c.args.body.now)) c.args.verdict (see_conds c.args.cond.now) c.args.cites.now c.in-Some.guard.said c.in-Some.guard.left.now c.ends_with-in-Skip.result c.in-Some.ensures
-    (decide-guarded (known_of c.args.ground.now) (lines_of c.args.ground.now) c.args.frame (FollowsBody (known_of c.args.ground.now) (lines_of c.args.ground.now) c.args.frame (see_body c.args.body.now)) c.args.verdict Skip c.in-Some.guard.said c.in-Some.guard.left.now c.ends_with-in-Skip.result c.in-Skip.is c.ends_with-in-Skip.ensures)
+    decide-under (known_of c.args.context.now) (lines_of c.args.context.now) c.args.frame (FollowsBody (known_of c.args.context.now) (lines_of c.args.context.now) c.args.frame (see_body c.args.body.now)) c.args.verdict (see_conds c.args.cond.now) c.args.cites.now c.in-Some.guard.said c.in-Some.guard.left.now c.ends_with-in-Skip.result c.in-Some.ensures
+    (decide-guarded (known_of c.args.context.now) (lines_of c.args.context.now) c.args.frame (FollowsBody (known_of c.args.context.now) (lines_of c.args.context.now) c.args.frame (see_body c.args.body.now)) c.args.verdict Skip c.in-Some.guard.said c.in-Some.guard.left.now c.ends_with-in-Skip.result c.in-Skip.is c.ends_with-in-Skip.ensures)

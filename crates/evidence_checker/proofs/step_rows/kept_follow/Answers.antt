@@ -4,7 +4,7 @@ use Rattle.guard_syntax.specs.Seen.{see_conds, see_query}
 use Rattle.guard_syntax.specs.Syntax.{Conds}
 use Rattle.guard_syntax.specs.declared.row.Ref.{Ref}
 use Rattle.guard_syntax.specs.declared.row.Verdict.{Verdict}
-use Rattle.rule_meaning.specs.Known.{Known}
+use Rattle.rule_meaning.specs.StoreModel.{StoreModel}
 use Rattle.evidence_rules.specs.Follows.{SayEach, SaysCandidate}
 use Rattle.rule_meaning.specs.Places.{candidates_at, rows_at_step}
 use Rattle.evidence_checker.specs.Grounds.{file_in, known_of, lines_of}
@@ -14,11 +14,11 @@ use Rattle.evidence_checker.proofs.StepLines.{filter-due, filter-lacks, none-tak
 use Rattle.evidence_checker.proofs.step_rows.kept_follow.Goals as goal
 
 -- one verdict for each value that is tried
-abbrev Said : Known → List Line → (frame site : ℕ) → Conds → List Ref → (cites : List ℕ) → List Verdict → Type 0
+abbrev Said : StoreModel → List Line → (frame site : ℕ) → Conds → List Ref → (cites : List ℕ) → List Verdict → Type 0
 Said known lines frame site conditions = SayEach known lines (SaysCandidate known lines frame site conditions)
 
 -- and whether there is one for each
-module _ (known : Known) (lines : List Line) (frame site : ℕ) (conditions : Conds) (values : List Ref) (cites : List ℕ) (said : Option (Vec Verdict Global)) where
+module _ (known : StoreModel) (lines : List Line) (frame site : ℕ) (conditions : Conds) (values : List Ref) (cites : List ℕ) (said : Option (Vec Verdict Global)) where
   abbrev AreSaid : Type 0
   AreSaid =
       MatchOption said ((verdicts : List Verdict) → Said known lines frame site conditions values cites verdicts → ⊥) (λ verdicts. Said known lines frame site conditions values cites verdicts.items)
@@ -30,45 +30,45 @@ module _ (known : Known) (lines : List Line) (frame site : ℕ) (conditions : Co
   some-said verdicts is are = some-taken said verdicts _ (λ verdicts. Said known lines frame site conditions values cites verdicts.items) is are
 
 pub candidates-requires-clause-site : goal.candidates-requires-clause-site
-candidates-requires-clause-site c = site-within (file_in c.args.ground.now) c.args.site _ c.args.ground.now.store.now.file.now.sites c.requires.placed
+candidates-requires-clause-site c = site-within (file_in c.args.context.now) c.args.site _ c.args.context.now.store.now.file.now.sites c.requires.placed
 
 pub candidates-requires-clause-known : goal.candidates-requires-clause-known
 candidates-requires-clause-known c =
     let b = c.in-Some-rows_before.ensures in
-    before-said-known (known_of c.args.ground.now) (lines_of c.args.ground.now) c.args.ground.now.sound c.args.frame (see_query c.args.query.now) c.args.index b.0 c.in-Some-rows_before.before.now b.2
+    before-said-known (known_of c.args.context.now) (lines_of c.args.context.now) c.args.context.now.sound c.args.frame (see_query c.args.query.now) c.args.index b.0 c.in-Some-rows_before.before.now b.2
 
 pub returns-in_default-2-clause-follows : goal.returns-in_default-2-clause-follows
 returns-in_default-2-clause-follows c =
     let b = c.in-Some-rows_before.ensures in
-    let tried : c.in_ok-tried.tried.items ≡ candidates_at (known_of c.args.ground.now) c.args.site c.in-Some-rows_before.before.now = c.in_ok-tried.ensures.candidates in
-    filter-lacks (known_of c.args.ground.now) (lines_of c.args.ground.now) c.args.frame (see_query c.args.query.now) c.args.site c.args.index c.in-Some.current b.0 c.in-Some-rows_before.last.now c.args.cites.now c.in-Some-rows_before.before.now (sym c.in-Some.ensures) b.1 b.2
+    let tried : c.in_ok-tried.tried.items ≡ candidates_at (known_of c.args.context.now) c.args.site c.in-Some-rows_before.before.now = c.in_ok-tried.ensures.candidates in
+    filter-lacks (known_of c.args.context.now) (lines_of c.args.context.now) c.args.frame (see_query c.args.query.now) c.args.site c.args.index c.in-Some.current b.0 c.in-Some-rows_before.last.now c.args.cites.now c.in-Some-rows_before.before.now (sym c.in-Some.ensures) b.1 b.2
     (see_conds c.args.conditions.now) c.deref.result.now c.args.rows.now (c.deref.ensures.value ∙ tried)
-    (none-said (known_of c.args.ground.now) (lines_of c.args.ground.now) c.args.frame c.args.site (see_conds c.args.conditions.now) c.deref.result.now c.in-Some-rows_before.last.now c.in_ok-verdicts.field-0 c.in_default-2.is (c.in_ok-verdicts.ensures (known_of c.args.ground.now)))
+    (none-said (known_of c.args.context.now) (lines_of c.args.context.now) c.args.frame c.args.site (see_conds c.args.conditions.now) c.deref.result.now c.in-Some-rows_before.last.now c.in_ok-verdicts.field-0 c.in_default-2.is (c.in_ok-verdicts.ensures (known_of c.args.context.now)))
 
 pub step-requires-clause-site : goal.step-requires-clause-site
-step-requires-clause-site c = site-within (file_in c.args.ground.now) c.args.site _ c.args.ground.now.store.now.file.now.sites c.requires.placed
+step-requires-clause-site c = site-within (file_in c.args.context.now) c.args.site _ c.args.context.now.store.now.file.now.sites c.requires.placed
 
 pub step-requires-clause-verdicts : goal.step-requires-clause-verdicts
 step-requires-clause-verdicts c =
-    let tried : c.in_ok-tried.tried.items ≡ candidates_at (known_of c.args.ground.now) c.args.site c.in-Some-rows_before.before.now = c.in_ok-tried.ensures.candidates in
-    ap length c.deref-2.ensures.value ∙ (said-each (known_of c.args.ground.now) (lines_of c.args.ground.now) (SaysCandidate (known_of c.args.ground.now) (lines_of c.args.ground.now) c.args.frame c.args.site (see_conds c.args.conditions.now)) c.deref.result.now c.in-Some-rows_before.last.now c.in-Some-2.verdicts.items
-    (some-said (known_of c.args.ground.now) (lines_of c.args.ground.now) c.args.frame c.args.site (see_conds c.args.conditions.now) c.deref.result.now c.in-Some-rows_before.last.now c.in_ok-verdicts.field-0 c.in-Some-2.verdicts c.in-Some-2.is (c.in_ok-verdicts.ensures (known_of c.args.ground.now)))).1 ∙ ap length (c.deref.ensures.value ∙ tried)
+    let tried : c.in_ok-tried.tried.items ≡ candidates_at (known_of c.args.context.now) c.args.site c.in-Some-rows_before.before.now = c.in_ok-tried.ensures.candidates in
+    ap length c.deref-2.ensures.value ∙ (said-each (known_of c.args.context.now) (lines_of c.args.context.now) (SaysCandidate (known_of c.args.context.now) (lines_of c.args.context.now) c.args.frame c.args.site (see_conds c.args.conditions.now)) c.deref.result.now c.in-Some-rows_before.last.now c.in-Some-2.verdicts.items
+    (some-said (known_of c.args.context.now) (lines_of c.args.context.now) c.args.frame c.args.site (see_conds c.args.conditions.now) c.deref.result.now c.in-Some-rows_before.last.now c.in_ok-verdicts.field-0 c.in-Some-2.verdicts c.in-Some-2.is (c.in_ok-verdicts.ensures (known_of c.args.context.now)))).1 ∙ ap length (c.deref.ensures.value ∙ tried)
 
 pub step-requires-clause-current : goal.step-requires-clause-current
-step-requires-clause-current c = value-said-known (known_of c.args.ground.now) (lines_of c.args.ground.now) c.args.ground.now.sound c.args.frame c.in-Some.current (sym c.in-Some.ensures)
+step-requires-clause-current c = value-said-known (known_of c.args.context.now) (lines_of c.args.context.now) c.args.context.now.sound c.args.frame c.in-Some.current (sym c.in-Some.ensures)
 
 pub step-requires-clause-before : goal.step-requires-clause-before
 step-requires-clause-before c =
     let b = c.in-Some-rows_before.ensures in
-    before-said-known (known_of c.args.ground.now) (lines_of c.args.ground.now) c.args.ground.now.sound c.args.frame (see_query c.args.query.now) c.args.index b.0 c.in-Some-rows_before.before.now b.2
+    before-said-known (known_of c.args.context.now) (lines_of c.args.context.now) c.args.context.now.sound c.args.frame (see_query c.args.query.now) c.args.index b.0 c.in-Some-rows_before.before.now b.2
 
 pub returns-clause-follows : goal.returns-clause-follows
 returns-clause-follows c =
     let b = c.in-Some-rows_before.ensures in
-    let tried : c.in_ok-tried.tried.items ≡ candidates_at (known_of c.args.ground.now) c.args.site c.in-Some-rows_before.before.now = c.in_ok-tried.ensures.candidates in
-    let due : c.in_ok-due.due.items ≡ rows_at_step (known_of c.args.ground.now) c.args.site c.in-Some.current c.in-Some-rows_before.before.now [] c.deref-2.result.now = c.in_ok-due.ensures.rows in
-    filter-due (known_of c.args.ground.now) (lines_of c.args.ground.now) c.args.frame (see_query c.args.query.now) c.args.site c.args.index c.in-Some.current b.0 c.in-Some-rows_before.last.now c.args.cites.now c.in-Some-rows_before.before.now (sym c.in-Some.ensures) b.1 b.2
+    let tried : c.in_ok-tried.tried.items ≡ candidates_at (known_of c.args.context.now) c.args.site c.in-Some-rows_before.before.now = c.in_ok-tried.ensures.candidates in
+    let due : c.in_ok-due.due.items ≡ rows_at_step (known_of c.args.context.now) c.args.site c.in-Some.current c.in-Some-rows_before.before.now [] c.deref-2.result.now = c.in_ok-due.ensures.rows in
+    filter-due (known_of c.args.context.now) (lines_of c.args.context.now) c.args.frame (see_query c.args.query.now) c.args.site c.args.index c.in-Some.current b.0 c.in-Some-rows_before.last.now c.args.cites.now c.in-Some-rows_before.before.now (sym c.in-Some.ensures) b.1 b.2
     (see_conds c.args.conditions.now) c.deref.result.now c.deref-2.result.now c.args.rows.now c.deref-3.result.now c.same_rows.result (c.deref.ensures.value ∙ tried)
-    (subst (λ (verdicts : List Verdict). Said (known_of c.args.ground.now) (lines_of c.args.ground.now) c.args.frame c.args.site (see_conds c.args.conditions.now) c.deref.result.now c.in-Some-rows_before.last.now verdicts) (sym c.deref-2.ensures.value)
-    (some-said (known_of c.args.ground.now) (lines_of c.args.ground.now) c.args.frame c.args.site (see_conds c.args.conditions.now) c.deref.result.now c.in-Some-rows_before.last.now c.in_ok-verdicts.field-0 c.in-Some-2.verdicts c.in-Some-2.is (c.in_ok-verdicts.ensures (known_of c.args.ground.now))))
+    (subst (λ (verdicts : List Verdict). Said (known_of c.args.context.now) (lines_of c.args.context.now) c.args.frame c.args.site (see_conds c.args.conditions.now) c.deref.result.now c.in-Some-rows_before.last.now verdicts) (sym c.deref-2.ensures.value)
+    (some-said (known_of c.args.context.now) (lines_of c.args.context.now) c.args.frame c.args.site (see_conds c.args.conditions.now) c.deref.result.now c.in-Some-rows_before.last.now c.in_ok-verdicts.field-0 c.in-Some-2.verdicts c.in-Some-2.is (c.in_ok-verdicts.ensures (known_of c.args.context.now))))
     (c.deref-3.ensures.value ∙ due) c.same_rows.ensures

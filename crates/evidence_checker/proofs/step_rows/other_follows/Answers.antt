@@ -8,23 +8,23 @@ use Rattle.evidence_checker.proofs.StepLines.{step-due}
 use Rattle.evidence_checker.proofs.step_rows.other_follows.Goals as goal
 
 pub step-requires-clause-site : goal.step-requires-clause-site
-step-requires-clause-site c = site-within (file_in c.args.ground.now) c.args.site _ c.args.ground.now.store.now.file.now.sites c.requires.placed
+step-requires-clause-site c = site-within (file_in c.args.context.now) c.args.site _ c.args.context.now.store.now.file.now.sites c.requires.placed
 
 pub step-requires-clause-current : goal.step-requires-clause-current
-step-requires-clause-current c = value-said-known (known_of c.args.ground.now) (lines_of c.args.ground.now) c.args.ground.now.sound c.args.frame c.in-Some.current (sym c.in-Some.ensures)
+step-requires-clause-current c = value-said-known (known_of c.args.context.now) (lines_of c.args.context.now) c.args.context.now.sound c.args.frame c.in-Some.current (sym c.in-Some.ensures)
 
 pub step-requires-clause-before : goal.step-requires-clause-before
 step-requires-clause-before c =
     let b = c.in-Some-rows_before.ensures in
-    before-said-known (known_of c.args.ground.now) (lines_of c.args.ground.now) c.args.ground.now.sound c.args.frame (see_query c.args.query.now) c.args.index b.0 c.in-Some-rows_before.before.now b.2
+    before-said-known (known_of c.args.context.now) (lines_of c.args.context.now) c.args.context.now.sound c.args.frame (see_query c.args.query.now) c.args.index b.0 c.in-Some-rows_before.before.now b.2
 
 pub step-requires-clause-rows : goal.step-requires-clause-rows
 step-requires-clause-rows c =
-    further-said-known (known_of c.args.ground.now) (lines_of c.args.ground.now) c.args.ground.now.sound c.args.frame (see_step c.args.step.now) c.in-Some-rows_before.last.now c.in-Some-rows_further.further.now c.in-Some-rows_further.ensures
+    further-said-known (known_of c.args.context.now) (lines_of c.args.context.now) c.args.context.now.sound c.args.frame (see_step c.args.step.now) c.in-Some-rows_before.last.now c.in-Some-rows_further.further.now c.in-Some-rows_further.ensures
 
 pub returns-clause-follows : goal.returns-clause-follows
 returns-clause-follows c =
     let b = c.in-Some-rows_before.ensures in
-    let due : c.in_ok-due.due.items ≡ rows_at_step (known_of c.args.ground.now) c.args.site c.in-Some.current c.in-Some-rows_before.before.now c.in-Some-rows_further.further.now [] = c.in_ok-due.ensures.rows in
-    step-due (known_of c.args.ground.now) (lines_of c.args.ground.now) c.args.frame (see_query c.args.query.now) c.args.site c.args.index c.in-Some.current b.0 c.in-Some-rows_before.last.now c.args.cites.now c.in-Some-rows_before.before.now (sym c.in-Some.ensures) b.1 b.2
+    let due : c.in_ok-due.due.items ≡ rows_at_step (known_of c.args.context.now) c.args.site c.in-Some.current c.in-Some-rows_before.before.now c.in-Some-rows_further.further.now [] = c.in_ok-due.ensures.rows in
+    step-due (known_of c.args.context.now) (lines_of c.args.context.now) c.args.frame (see_query c.args.query.now) c.args.site c.args.index c.in-Some.current b.0 c.in-Some-rows_before.last.now c.args.cites.now c.in-Some-rows_before.before.now (sym c.in-Some.ensures) b.1 b.2
     (see_step c.args.step.now) c.in-Some-rows_further.further.now c.args.rows.now c.deref.result.now c.same_rows.result c.in-Some-rows_further.ensures (c.deref.ensures.value ∙ due) c.same_rows.ensures

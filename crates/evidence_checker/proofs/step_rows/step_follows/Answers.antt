@@ -11,8 +11,8 @@ use Rattle.evidence_checker.proofs.step_rows.step_follows.Goals as goal
 
 pub returns-in_default-clause-follows : goal.returns-in_default-clause-follows
 returns-in_default-clause-follows c =
-    let k = known_of c.args.ground.now in
-    let ls = lines_of c.args.ground.now in
+    let k = known_of c.args.context.now in
+    let ls = lines_of c.args.context.now in
     let q = see_query c.args.query.now in
     no-step-line k ls c.args.frame c.args.site q c.args.index c.args.cites.now c.args.rows.now c.args.kind (step_in (steps_in q) c.args.index) (no-step c.args.query.now c.args.index c.deref.result.now c.deref.ensures.value c.in_default.ensures.lookup.3)
 
@@ -35,8 +35,8 @@ other_follows-requires-in-Step c = record {
 
 pub returns-in-Filter-kind-clause-follows : goal.returns-in-Filter-kind-clause-follows
 returns-in-Filter-kind-clause-follows c =
-    let k = known_of c.args.ground.now in
-    let ls = lines_of c.args.ground.now in
+    let k = known_of c.args.context.now in
+    let ls = lines_of c.args.context.now in
     let q = see_query c.args.query.now in
     let there = step-there c.args.query.now c.args.index c.deref.result.now c.in-Some.step.now c.deref.ensures.value c.in-Some.ensures.lookup.3.0 c.in-Some.ensures.lookup.1 in
     let seen = filter-seen c.in-Some.step.now c.in-Filter.field-0 c.in-Filter.conditions c.in-Filter.is in
@@ -45,8 +45,8 @@ returns-in-Filter-kind-clause-follows c =
 
 pub returns-in-Capture-clause-follows : goal.returns-in-Capture-clause-follows
 returns-in-Capture-clause-follows c =
-    let k = known_of c.args.ground.now in
-    let ls = lines_of c.args.ground.now in
+    let k = known_of c.args.context.now in
+    let ls = lines_of c.args.context.now in
     let q = see_query c.args.query.now in
     let s = see_step c.in-Some.step.now in
     let there = step-there c.args.query.now c.args.index c.deref.result.now c.in-Some.step.now c.deref.ensures.value c.in-Some.ensures.lookup.3.0 c.in-Some.ensures.lookup.1 in
@@ -57,8 +57,8 @@ returns-in-Capture-clause-follows c =
 
 pub returns-in_default-kind : goal.returns-in_default-kind
 returns-in_default-kind c =
-    let k = known_of c.args.ground.now in
-    let ls = lines_of c.args.ground.now in
+    let k = known_of c.args.context.now in
+    let ls = lines_of c.args.context.now in
     let q = see_query c.args.query.now in
     let there = step-there c.args.query.now c.args.index c.deref.result.now c.in-Some.step.now c.deref.ensures.value c.in-Some.ensures.lookup.3.0 c.in-Some.ensures.lookup.1 in
     let seen = filter-seen c.in-Some.step.now c.in-Filter.field-0 c.in-Filter.conditions c.in-Filter.is in
@@ -71,8 +71,8 @@ returns-in_default-kind c =
 
 pub returns-in-Keys-kind-clause-follows : goal.returns-in-Keys-kind-clause-follows
 returns-in-Keys-kind-clause-follows c =
-    let k = known_of c.args.ground.now in
-    let ls = lines_of c.args.ground.now in
+    let k = known_of c.args.context.now in
+    let ls = lines_of c.args.context.now in
     let q = see_query c.args.query.now in
     let s = see_step c.in-Some.step.now in
     let there = step-there c.args.query.now c.args.index c.deref.result.now c.in-Some.step.now c.deref.ensures.value c.in-Some.ensures.lookup.3.0 c.in-Some.ensures.lookup.1 in
@@ -83,8 +83,8 @@ returns-in-Keys-kind-clause-follows c =
 
 pub returns-in-Capture-kind-clause-follows : goal.returns-in-Capture-kind-clause-follows
 returns-in-Capture-kind-clause-follows c =
-    let k = known_of c.args.ground.now in
-    let ls = lines_of c.args.ground.now in
+    let k = known_of c.args.context.now in
+    let ls = lines_of c.args.context.now in
     let q = see_query c.args.query.now in
     let s = see_step c.in-Some.step.now in
     let there = step-there c.args.query.now c.args.index c.deref.result.now c.in-Some.step.now c.deref.ensures.value c.in-Some.ensures.lookup.3.0 c.in-Some.ensures.lookup.1 in
@@ -95,8 +95,8 @@ returns-in-Capture-kind-clause-follows c =
 
 pub returns-in_default-kind-2 : goal.returns-in_default-kind-2
 returns-in_default-kind-2 c =
-    let k = known_of c.args.ground.now in
-    let ls = lines_of c.args.ground.now in
+    let k = known_of c.args.context.now in
+    let ls = lines_of c.args.context.now in
     let q = see_query c.args.query.now in
     let there = step-there c.args.query.now c.args.index c.deref.result.now c.in-Some.step.now c.deref.ensures.value c.in-Some.ensures.lookup.3.0 c.in-Some.ensures.lookup.1 in
     let seen = keys-seen c.in-Some.step.now c.in-Keys.capture c.in-Keys.op c.in-Keys.not c.in-Keys.right c.in-Keys.is in
@@ -109,8 +109,8 @@ returns-in_default-kind-2 c =
 
 pub returns-in-Step : goal.returns-in-Step
 returns-in-Step c =
-    let k = known_of c.args.ground.now in
-    let ls = lines_of c.args.ground.now in
+    let k = known_of c.args.context.now in
+    let ls = lines_of c.args.context.now in
     let q = see_query c.args.query.now in
     let s = see_step c.in-Some.step.now in
     let there = step-there c.args.query.now c.args.index c.deref.result.now c.in-Some.step.now c.deref.ensures.value c.in-Some.ensures.lookup.3.0 c.in-Some.ensures.lookup.1 in
@@ -122,8 +122,8 @@ returns-in-Step c =
 
 pub returns-in_default-kind-3 : goal.returns-in_default-kind-3
 returns-in_default-kind-3 c =
-    let k = known_of c.args.ground.now in
-    let ls = lines_of c.args.ground.now in
+    let k = known_of c.args.context.now in
+    let ls = lines_of c.args.context.now in
     let q = see_query c.args.query.now in
     let s = see_step c.in-Some.step.now in
     let there = step-there c.args.query.now c.args.index c.deref.result.now c.in-Some.step.now c.deref.ensures.value c.in-Some.ensures.lookup.3.0 c.in-Some.ensures.lookup.1 in

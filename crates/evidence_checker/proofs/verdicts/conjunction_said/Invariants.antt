@@ -6,4 +6,4 @@ use Rattle.evidence_checker.proofs.verdicts.conjunction_said.Given as goal
 
 abbrev pub invariant-loop-disj : goal.invariant-loop-disj
 invariant-loop-disj l =
-    IsFolded conjunction (LeftDisjs (known_of l.ground) (lines_of l.ground) l.frame l.disjs l.cites) (LeftDisjs (known_of l.ground) (lines_of l.ground) l.frame (drop l.disj-index l.disjs) l.left) l.verdict
+    IsFolded conjunction (LeftDisjs (known_of l.context) (lines_of l.context) l.frame l.stop l.disjs l.cites) (LeftDisjs (known_of l.context) (lines_of l.context) l.frame l.stop (drop l.disj-index l.disjs) l.left) l.verdict

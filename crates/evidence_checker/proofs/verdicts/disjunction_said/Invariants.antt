@@ -6,4 +6,4 @@ use Rattle.evidence_checker.proofs.verdicts.disjunction_said.Given as goal
 
 abbrev pub invariant-loop-part : goal.invariant-loop-part
 invariant-loop-part l =
-    IsFolded disjunction (LeftParts (known_of l.ground) (lines_of l.ground) l.frame l.parts l.cites) (LeftParts (known_of l.ground) (lines_of l.ground) l.frame (drop l.part-index l.parts) l.left) l.verdict
+    IsFolded disjunction (LeftParts (known_of l.context) (lines_of l.context) l.frame l.stop l.parts l.cites) (LeftParts (known_of l.context) (lines_of l.context) l.frame l.stop (drop l.part-index l.parts) l.left) l.verdict

@@ -11,7 +11,7 @@ pub returns-clause-lean : goal.returns-clause-lean
 returns-clause-lean c = lean
 
 pub returns-clause-no_pass : goal.returns-clause-no_pass
-returns-clause-no_pass c more = refused-pass more
+returns-clause-no_pass c = refused-pass
 
 pub returns-clause-no_other_cite : goal.returns-clause-no_other_cite
-returns-clause-no_other_cite c more = refused-cite more
+returns-clause-no_other_cite c = refused-cite

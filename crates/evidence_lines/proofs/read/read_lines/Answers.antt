@@ -2,18 +2,18 @@ use Rattle.std.proofs.Common.{◌≡◌, ◌+◌, ◌++◌, Some, ap, arith, sym
 use Rattle.std.proofs.lemmas.List.{length_push}
 use Rattle.std.proofs.lemmas.Result.{MatchResult-from_err}
 use Rattle.evidence_lines.specs.Reading.{line_in}
-use Rattle.evidence_lines.specs.Text.{header}
-use Rattle.evidence_lines.proofs.Texts.{fails_here, goes_on, has_line, lacks_line, lacks_newline, some_bytes}
+use Rattle.evidence_lines.specs.Headers.{header}
+use Rattle.evidence_lines.proofs.Texts.{ends-as, fails_here, goes_on, has_line, lacks_line, lacks_newline, some_bytes}
 use Rattle.evidence_lines.proofs.read.read_lines.Goals as goal
 
 pub returns-in_default-clause-refusal : goal.returns-in_default-clause-refusal
 returns-in_default-clause-refusal c =
-    fails_here (header ++ c.args.bytes.now) c.lines.lines.items c.lines.rest.now (c.lines.number + 1) c.lines.invariant.read (ap (λ n. n + 1) c.lines.invariant.counted)
+    fails_here (header c.args.version ++ c.args.bytes.now) c.args.version c.lines.lines.items c.lines.rest.now (c.lines.number + 1) c.lines.invariant.read (ap (λ n. n + 1) c.lines.invariant.counted)
     (some_bytes c.lines.rest.now c.is_empty.result c.is_empty.ensures c.lines-test.true) (lacks_newline c.lines.rest.now (sym c.in_default.ensures.parts))
 
 pub returns-in_default-2-clause-refusal : goal.returns-in_default-2-clause-refusal
 returns-in_default-2-clause-refusal c =
-    fails_here (header ++ c.args.bytes.now) c.lines.lines.items c.lines.rest.now (c.lines.number + 1) c.lines.invariant.read (ap (λ n. n + 1) c.lines.invariant.counted)
+    fails_here (header c.args.version ++ c.args.bytes.now) c.args.version c.lines.lines.items c.lines.rest.now (c.lines.number + 1) c.lines.invariant.read (ap (λ n. n + 1) c.lines.invariant.counted)
     (some_bytes c.lines.rest.now c.is_empty.result c.is_empty.ensures c.lines-test.true)
     (lacks_line c.lines.rest.now c.in-Some.fields.now c.in-Some.after.now (sym c.in-Some.ensures.parts) (sym c.in_ok-line.ensures ∙ c.in_default-2.is))
 
@@ -21,7 +21,7 @@ pub lines-preserved : goal.lines-preserved
 lines-preserved c =
     let read : line_in c.in-Some.fields.now ≡ Some c.in-Some-2.line = sym c.in_ok-line.ensures ∙ c.in-Some-2.is in
     let more =
-    goes_on (header ++ c.args.bytes.now) c.lines.rest.now c.in-Some.fields.now c.in-Some.after.now c.lines.lines.items c.in-Some-2.line c.lines.invariant.read
+    goes_on (header c.args.version ++ c.args.bytes.now) c.args.version c.lines.rest.now c.in-Some.fields.now c.in-Some.after.now c.lines.lines.items c.in-Some-2.line c.lines.invariant.read
     (sym c.in-Some.ensures.parts) read in
     record {
       read = rw c.in-Ok.ensures.items more;
@@ -31,9 +31,9 @@ lines-preserved c =
 
 pub returns-in_err-line-clause-memory : goal.returns-in_err-line-clause-memory
 returns-in_err-line-clause-memory c =
-    let has = has_line (header ++ c.args.bytes.now) c.lines.rest.now c.in-Some.fields.now c.in-Some.after.now c.lines.lines.items c.lines.invariant.read (sym c.in-Some.ensures.parts) in
+    let has = has_line (header c.args.version ++ c.args.bytes.now) c.args.version c.lines.rest.now c.in-Some.fields.now c.in-Some.after.now c.lines.lines.items c.lines.invariant.read (sym c.in-Some.ensures.parts) in
     MatchResult-from_err c.from_residual.result _ _ c.from_residual.ensures.0 (λ _ _. has)
 
 pub returns-in-Err-clause-memory : goal.returns-in-Err-clause-memory
 returns-in-Err-clause-memory c =
-    λ _. has_line (header ++ c.args.bytes.now) c.lines.rest.now c.in-Some.fields.now c.in-Some.after.now c.lines.lines.items c.lines.invariant.read (sym c.in-Some.ensures.parts)
+    λ _. has_line (header c.args.version ++ c.args.bytes.now) c.args.version c.lines.rest.now c.in-Some.fields.now c.in-Some.after.now c.lines.lines.items c.lines.invariant.read (sym c.in-Some.ensures.parts)

@@ -1,8 +1,9 @@
-use Rattle.std.proofs.Common.{◌≡◌, List, ℕ, subst}
+use Rattle.std.proofs.Common.{◌≡◌, List, ℕ, inl, refl, subst}
 use Rattle.std.specs.Result.{IfErr}
 use Rattle.evidence_lines.specs.Memory.{HasLine}
 use Rattle.evidence_lines.specs.declared.refusal.EvidenceRefusal.TheVariants.{NoMemory}
 use Rattle.evidence_lines.specs.Text.{IsRefused}
+use Rattle.evidence_lines.proofs.Texts.{no_version}
 use Rattle.evidence_lines.proofs.read.read_text.Goals as goal
 
 pub returns-in-Some-clause-refusal : goal.returns-in-Some-clause-refusal
@@ -14,3 +15,6 @@ pub returns-in-Some-clause-memory : goal.returns-in-Some-clause-memory
 returns-in-Some-clause-memory c =
     let P : List ℕ → Type 0 = λ bytes. IfErr c.read_lines.result (λ r. r ≡ NoMemory → HasLine bytes) in
     subst P c.in-Some.ensures c.read_lines.ensures.memory
+
+pub returns-in-None-behind_header-clause-refusal : goal.returns-in-None-behind_header-clause-refusal
+returns-in-None-behind_header-clause-refusal c = inl (refl, no_version c.args.bytes.now c.in-None.ensures c.in-None-behind_header.ensures)

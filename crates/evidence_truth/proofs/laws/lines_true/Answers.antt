@@ -7,51 +7,51 @@ use Rattle.rule_names.specs.Files.{file_of}
 use Rattle.rule_names.specs.Pieces.{pieces_file}
 use Rattle.evidence_rules.specs.Follows.{nothing_made}
 use Rattle.rule_meaning.specs.Seeing.{world_of}
-use Rattle.rule_meaning.specs.SpotFunctions.{IsAnswering}
-use Rattle.rule_meaning.specs.Spots.{World}
+use Rattle.rule_meaning.specs.FunctionMeaning.{IsAnswering}
+use Rattle.rule_meaning.specs.Locations.{World}
 use Rattle.evidence_rules.specs.Judgement.{Holds, verdicts_of}
 use Rattle.evidence_truth.proofs.LinesTrue.{accepted-are, file-kept, known-hold, line-at, loose-is, meant-by, rule-is, same-world, some-last}
 use Rattle.evidence_truth.proofs.PiecesAt.{ordered-by, sites-alone}
 use Rattle.evidence_truth.proofs.laws.lines_true.Goals as goal
 
 pub returns-clause-store : goal.returns-clause-store
-returns-clause-store c template lines follow = some-last (nothing_made template (file_of c.args.file.now)) [] lines follow
+returns-clause-store c version template lines follow = some-last version (nothing_made template (file_of c.args.file.now)) [] lines follow
 
 pub returns-clause-lines : goal.returns-clause-lines
-returns-clause-lines c template lines known answers names follow answering obeys k d within =
+returns-clause-lines c version template lines known answers names follow answering obeys k d within =
     let file = c.args.file.now in
     let few : (n : ℕ) → hits n (pieces_file (file_of file)) ≤ 1 = sites-alone file.raw file.sites in
-    known-hold template (file_of file) lines known answers names (meant-by (file_of file) few) follow answering obeys (suc k) (slice_index_or lines k d) (line-at lines k d within)
+    known-hold version template (file_of file) lines known answers names (meant-by (file_of file) few) follow answering obeys (suc k) (slice_index_or lines k d) (line-at lines k d within)
 
 pub returns-clause-rules : goal.returns-clause-rules
-returns-clause-rules c template lines known answers rule verdict follow answering among said =
+returns-clause-rules c version template lines known answers rule verdict follow answering among said =
     let file = c.args.file.now in
     let few : (n : ℕ) → hits n (pieces_file (file_of file)) ≤ 1 = sites-alone file.raw file.sites in
-    let same = file-kept template (file_of file) lines known follow in
-    let names = c.one_meaning_over_spots.ensures.some (world_of known answers) same in
+    let same = file-kept version template (file_of file) lines known follow in
+    let names = c.one_meaning_over_locations.ensures.some (world_of known answers) same in
     let hold : (number : ℕ) (l : Line) → line_of lines number ≡ Some l → Holds known lines (world_of known answers) names.0 l =
-    known-hold template (file_of file) lines known answers names.0 (meant-by (file_of file) few) follow answering names.1 in
+    known-hold version template (file_of file) lines known answers names.0 (meant-by (file_of file) few) follow answering names.1 in
     rule-is (file_of file) (ordered-by (file_of file) few) known lines (world_of known answers) names.0 rule verdict same hold
-    (c.one_meaning_over_spots.ensures.rules (world_of known answers) names.0 same names.1) among said
+    (c.one_meaning_over_locations.ensures.rules (world_of known answers) names.0 same names.1) among said
 
 pub returns-clause-loose : goal.returns-clause-loose
-returns-clause-loose c template lines known answers verdict follow answering said =
+returns-clause-loose c version template lines known answers verdict follow answering said =
     let file = c.args.file.now in
     let few : (n : ℕ) → hits n (pieces_file (file_of file)) ≤ 1 = sites-alone file.raw file.sites in
-    let same = file-kept template (file_of file) lines known follow in
-    let names = c.one_meaning_over_spots.ensures.some (world_of known answers) same in
+    let same = file-kept version template (file_of file) lines known follow in
+    let names = c.one_meaning_over_locations.ensures.some (world_of known answers) same in
     let hold : (number : ℕ) (l : Line) → line_of lines number ≡ Some l → Holds known lines (world_of known answers) names.0 l =
-    known-hold template (file_of file) lines known answers names.0 (meant-by (file_of file) few) follow answering names.1 in
+    known-hold version template (file_of file) lines known answers names.0 (meant-by (file_of file) few) follow answering names.1 in
     loose-is (file_of file) (ordered-by (file_of file) few) known lines (world_of known answers) names.0 verdict same hold
-    (c.one_meaning_over_spots.ensures.loose (world_of known answers) names.0 same names.1) said
+    (c.one_meaning_over_locations.ensures.loose (world_of known answers) names.0 same names.1) said
 
 pub returns-clause-accepted : goal.returns-clause-accepted
-returns-clause-accepted c template lines answers verdicts follow answering are =
+returns-clause-accepted c version template lines answers verdicts follow answering are =
     let file = c.args.file.now in
-    let made = returns-clause-store c template lines follow in
-    let same : world_of (nothing_made template (file_of file)) answers ≡ world_of made.0 answers = same-world template (file_of file) lines made.0 answers made.1 in
+    let made = returns-clause-store c version template lines follow in
+    let same : world_of (nothing_made template (file_of file)) answers ≡ world_of made.0 answers = same-world version template (file_of file) lines made.0 answers made.1 in
     let answering_last : IsAnswering (world_of made.0 answers) = subst IsAnswering same answering in
     accepted-are (file_of file) lines (world_of made.0 answers) verdicts
-    (λ rule verdict among said. returns-clause-rules c template lines made.0 answers rule verdict made.1 answering_last among said)
-    (λ verdict said. returns-clause-loose c template lines made.0 answers verdict made.1 answering_last said) are
+    (λ rule verdict among said. returns-clause-rules c version template lines made.0 answers rule verdict made.1 answering_last among said)
+    (λ verdict said. returns-clause-loose c version template lines made.0 answers verdict made.1 answering_last said) are
     ∙ ap (λ (w : World). verdicts_of w (file_of file).rules (file_of file).loose) (sym same)

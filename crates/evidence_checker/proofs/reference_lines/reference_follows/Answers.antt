@@ -1,0 +1,17 @@
+use Rattle.std.proofs.Common.{get_or}
+use Rattle.evidence_checker.specs.Grounds.{known_of, lines_of}
+use Rattle.evidence_checker.proofs.Decided.{same-verdicts}
+use Rattle.evidence_checker.proofs.FramesSaid.{one-cite}
+use Rattle.evidence_checker.proofs.UsesSaid.{refer-decided, refer-never}
+use Rattle.evidence_checker.proofs.reference_lines.reference_follows.Goals as goal
+
+pub returns-in-None : goal.returns-in-None
+returns-in-None c =
+    λ n name message. refer-never (known_of c.args.context.now) (lines_of c.args.context.now) 0 (get_or c.args.cites.now 0 0) c.args.cites.now c.args.verdict
+    (one-cite c.args.cites.now c.in-len1.len_at_least c.in-len1.len_below) c.args.site n c.args.not name message c.in-Some.rule c.in-Some.ensures c.in-None.ensures
+
+pub returns-in-Some-rule_said : goal.returns-in-Some-rule_said
+returns-in-Some-rule_said c =
+    λ n name message. refer-decided (known_of c.args.context.now) (lines_of c.args.context.now) 0 (get_or c.args.cites.now 0 0) c.args.cites.now c.args.verdict
+    (one-cite c.args.cites.now c.in-len1.len_at_least c.in-len1.len_below) c.args.site n c.args.not name message c.in-Some.rule c.in-Some.ensures
+    c.in-Some-rule_said.said c.referred.result c.eq.result c.in-Some-rule_said.ensures c.referred.ensures (same-verdicts c.eq.result c.args.verdict c.referred.result c.eq.ensures)

@@ -1,8 +1,0 @@
-use Rattle.std.proofs.Common.{take}
-use Rattle.guard_syntax.specs.Seen.{see_conds}
-use Rattle.rule_meaning.specs.Known.{Known}
-use Rattle.evidence_rules.specs.Follows.{SayEach, SaysCandidate}
-use Rattle.evidence_checker.proofs.tried.tried_verdicts.Given as goal
-
-abbrev pub invariant-loop-i : goal.invariant-loop-i
-invariant-loop-i l = (known : Known) → SayEach known l.lines (SaysCandidate known l.lines l.frame l.site (see_conds l.conditions)) (take l.i l.values) (take l.i l.cites) l.verdicts.items

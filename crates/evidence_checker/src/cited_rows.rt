@@ -1,0 +1,143 @@
+//! Which rows the line of a number gives for a step, a query, an expression or a variable in a frame.
+ghost use Rattle.std.specs.Prelude.{◌≡◌, List, MatchOption};
+ghost use Rattle.evidence_lines.specs.declared.line.Line.{Line};
+ghost use Rattle.guard_syntax.specs.Seen.{see_expr, see_query, see_step};
+ghost use Rattle.guard_syntax.specs.Syntax.{File};
+ghost use Rattle.guard_syntax.specs.declared.row.Row.{Row};
+ghost use Rattle.rule_names.specs.Files.{file_of};
+ghost use Rattle.rule_names.specs.Pieces.{piece_at};
+ghost use Rattle.evidence_rules.specs.CitedLines.{GivesArgument, GivesExpr, GivesPiece, GivesQuery, GivesStep, GivesVariable, kind_of_step};
+
+use crate::frames::{args_at, outwards};
+use crate::lookup::{line_of, rows_said};
+use evidence_lines::{Line, LineKind};
+use guard_syntax::{Expr, Query, Row, Step, StepForm};
+use rule_names::{Bind, Piece, RuleFile};
+
+/// Of a query up to a step.
+pub fn given_by_step<'b>(
+    file: &RuleFile,
+    lines: &'b [Line],
+    frame: u64,
+    step: &Step,
+    number: u64,
+) -> Option<&'b [Row]>
+    ensures { MatchOption result ((rows : List Row) → GivesStep (file_of file.now) lines.entry.now frame (see_step step.now) number rows → ⊥)
+        (λ rows. GivesStep (file_of file.now) lines.entry.now frame (see_step step.now) number rows.now) }
+{
+    rows_said(lines, number, kind_of_step(step), frame, step.site)
+}
+
+/// The kind of a step's line.
+fn kind_of_step(step: &Step) -> LineKind
+    ensures { (f : File) → (ls : List Line) → result ≡ kind_of_step f ls (see_step step.now) }
+{
+    match step.form {
+        StepForm::Filter(_, _) => LineKind::Filter,
+        StepForm::Keys { .. } => LineKind::Keys,
+        _ => LineKind::Step,
+    }
+}
+
+/// Of a whole query.
+pub fn given_by_query<'b>(
+    file: &RuleFile,
+    lines: &'b [Line],
+    frame: u64,
+    query: &Query,
+    number: u64,
+) -> Option<&'b [Row]>
+    ensures { MatchOption result ((rows : List Row) → GivesQuery (file_of file.now) lines.entry.now frame (see_query query.now) number rows → ⊥)
+        (λ rows. GivesQuery (file_of file.now) lines.entry.now frame (see_query query.now) number rows.now) }
+{
+    let step = query.steps.last()?;
+    given_by_step(file, lines, frame, step, number)
+}
+
+/// Of an expression.
+pub fn given_by_expr<'b>(
+    file: &RuleFile,
+    lines: &'b [Line],
+    frame: u64,
+    expr: &Expr,
+    number: u64,
+) -> Option<&'b [Row]>
+    ensures { MatchOption result ((rows : List Row) → GivesExpr (file_of file.now) lines.entry.now frame (see_expr expr.now) number rows → ⊥)
+        (λ rows. GivesExpr (file_of file.now) lines.entry.now frame (see_expr expr.now) number rows.now) }
+{
+    match expr {
+        Expr::Literal { site, .. } => rows_said(lines, number, LineKind::Literal, frame, *site),
+        Expr::Function { site, .. } => rows_said(lines, number, LineKind::Fn, frame, *site),
+        Expr::Query(query) => given_by_query(file, lines, frame, query, number),
+        Expr::Found { site, .. } => rows_said(lines, number, LineKind::Found, frame, *site),
+    }
+}
+
+/// Of the variable that is used at a site.
+pub fn given_by_variable<'b>(
+    file: &RuleFile,
+    lines: &'b [Line],
+    frame: u64,
+    site: u32,
+    number: u64,
+) -> Option<&'b [Row]>
+    ensures { MatchOption result ((rows : List Row) → GivesVariable (file_of file.now) lines.entry.now frame site number rows → ⊥)
+        (λ rows. GivesVariable (file_of file.now) lines.entry.now frame site number rows.now) }
+{
+    match file.bind(site)? {
+        Bind::Value { up, site } => {
+            let at = outwards(file, lines, up, frame)?;
+            given_by_piece(file, lines, at, site, number)
+        }
+        Bind::Capture { up, step } => {
+            let at = outwards(file, lines, up, frame)?;
+            rows_said(lines, number, LineKind::Capture, at, step)
+        }
+        Bind::Param { up, index } => {
+            let at = outwards(file, lines, up, frame)?;
+            given_by_argument(file, lines, at, index, number)
+        }
+    }
+}
+
+/// Of the expression of a let, by its site.
+fn given_by_piece<'b>(
+    file: &RuleFile,
+    lines: &'b [Line],
+    frame: u64,
+    site: u32,
+    number: u64,
+) -> Option<&'b [Row]>
+    ensures { MatchOption result ((rows : List Row) → GivesPiece (file_of file.now) lines.entry.now frame (piece_at (file_of file.now) site) number rows → ⊥)
+        (λ rows. GivesPiece (file_of file.now) lines.entry.now frame (piece_at (file_of file.now) site) number rows.now) }
+{
+    match file.find(site)? {
+        Piece::Expr(expr) => given_by_expr(file, lines, frame, expr, number),
+        Piece::Query(query) => given_by_query(file, lines, frame, query, number),
+        _ => None,
+    }
+}
+
+/// Of the argument of an index, in the frame in which the call stands.
+fn given_by_argument<'b>(
+    file: &RuleFile,
+    lines: &'b [Line],
+    frame: u64,
+    index: u32,
+    number: u64,
+) -> Option<&'b [Row]>
+    ensures { MatchOption result ((rows : List Row) → GivesArgument (file_of file.now) lines.entry.now frame index number rows → ⊥)
+        (λ rows. GivesArgument (file_of file.now) lines.entry.now frame index number rows.now) }
+{
+    let line = line_of(lines, frame)?;
+    match line.kind {
+        LineKind::Frame => {}
+        _ => return None,
+    }
+    let caller = line.frame?;
+    let args = args_at(file, line.site?)?;
+    let Some(arg) = args.get(index as usize) else {
+        return None;
+    };
+    given_by_expr(file, lines, caller, arg, number)
+}

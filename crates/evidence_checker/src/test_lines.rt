@@ -1,0 +1,237 @@
+//! Lines of verdicts of tests.
+ghost use Rattle.std.specs.Prelude.{◌≡◌, ◌&&◌, true, List, Option, ℕ, IfOk, MatchBool, MatchOption, if◌then◌else◌};
+ghost use Rattle.std.specs.List.{list_all, list_any};
+ghost use Rattle.guard_syntax.specs.Seen.{see_opt_expr, see_query, see_step};
+ghost use Rattle.guard_syntax.specs.Syntax.{more_steps, no_steps, test};
+ghost use Rattle.guard_syntax.specs.declared.row.Row.{Row};
+ghost use Rattle.rule_meaning.specs.StoreModel.{is_known};
+ghost use Rattle.evidence_rules.specs.Follows.{FollowsTest, GivesRight};
+ghost use Rattle.rule_meaning.specs.Keys.{passes};
+ghost use Rattle.rule_meaning.specs.SetTests as asked;
+ghost use Rattle.rule_meaning.specs.Verdicts as judged;
+ghost use Rattle.rule_meaning.specs.Verdicts.{set_verdict, test_verdict};
+ghost use Rattle.evidence_checker.specs.Grounds.{known_of, lines_of};
+
+use crate::cited_rows::{given_by_expr, given_by_query};
+use crate::line_context::LineContext;
+use guard_syntax::{Expr, Op, Query, Row, Step, StepForm, Verdict};
+use query_steps::row_passes;
+use std::alloc::{AllocError, Global};
+
+/// Whether the line of a test follows, from the rows of its left side and of its right side, if it has one.
+pub(crate) fn test_follows(
+    alloc: Global,
+    context: &LineContext<'_, '_, '_>,
+    frame: u64,
+    any: bool,
+    left: &Query,
+    op: Op,
+    not: bool,
+    right: &Option<Expr>,
+    cites: &[u64],
+    verdict: Verdict,
+) -> Result<bool, AllocError>
+    ensures { (n : ℕ) → (message : Option (List ℕ)) → IfOk result (λ follows. MatchBool follows
+        (FollowsTest (known_of context.now) (lines_of context.now) frame (test n any (see_query left.now) op not (see_opt_expr right.now) message) cites.now verdict)
+        (FollowsTest (known_of context.now) (lines_of context.now) frame (test n any (see_query left.now) op not (see_opt_expr right.now) message) cites.now verdict → ⊥)) }
+{
+    let Some((first, others)) = cites.split_first() else {
+        return Ok(false);
+    };
+    let Some(lefts) = given_by_query(context.store.file, context.lines, frame, left, *first) else {
+        return Ok(false);
+    };
+    let Some(rights) = given_at_right(context, frame, right, others) else {
+        return Ok(false);
+    };
+    let said = test_of_rows(alloc, context, any, left, op, not, lefts, rights)?;
+    Ok(verdict == said)
+}
+
+/// The rows of the right side of a test: of its one cite, if it has one.
+fn given_at_right<'g>(
+    context: &LineContext<'g, '_, '_>,
+    frame: u64,
+    right: &Option<Expr>,
+    cites: &[u64],
+) -> Option<&'g [Row]>
+    ensures { MatchOption result
+        ((rows : List Row) → GivesRight (known_of context.now) (lines_of context.now) frame (see_opt_expr right.now) cites.now rows → ⊥)
+        (λ rows. GivesRight (known_of context.now) (lines_of context.now) frame (see_opt_expr right.now) cites.now rows.now) }
+{
+    match (right, cites) {
+        (None, []) => Some(&[]),
+        (Some(expr), [number]) => {
+            given_by_expr(context.store.file, context.lines, frame, expr, *number)
+        }
+        _ => None,
+    }
+}
+
+/// The verdict of a test on rows. `empty` on a set looks at the rows together, any other test at each row.
+fn test_of_rows(
+    alloc: Global,
+    context: &LineContext<'_, '_, '_>,
+    any: bool,
+    left: &Query,
+    op: Op,
+    not: bool,
+    lefts: &[Row],
+    rights: &[Row],
+) -> Result<Verdict, AllocError>
+    requires lefts { list_all (is_known (known_of context.now)) lefts.now ≡ true }
+    requires rights { list_all (is_known (known_of context.now)) rights.now ≡ true }
+    ensures { IfOk result (λ v. v ≡ (if asked.is_empty_test op && asked.is_set (see_query left.now)
+        then set_verdict not lefts.now
+        else test_verdict any (passes (known_of context.now) op not rights.now) lefts.now)) }
+{
+    if is_set_test(op, left) {
+        Ok(verdict_of_set(not, lefts))
+    } else {
+        verdict_of_each(alloc, context, any, op, not, lefts, rights)
+    }
+}
+
+/// Whether a test asks if a set is empty.
+fn is_set_test(op: Op, left: &Query) -> bool
+    ensures { result ≡ (asked.is_empty_test op && asked.is_set (see_query left.now)) }
+{
+    match op {
+        Op::Empty => is_set(left),
+        _ => false,
+    }
+}
+
+/// Whether the rows of a query are a set: it ends in a filter or a key filter, or is a variable alone.
+fn is_set(query: &Query) -> bool
+    ensures { result ≡ asked.is_set (see_query query.now) }
+{
+    match query.steps.as_slice() {
+        [] => false,
+        [step] => is_filtering(step) || is_variable(step),
+        [.., last] => is_filtering(last),
+    }
+}
+
+/// Whether a step is a filter or a key filter.
+fn is_filtering(step: &Step) -> bool
+    ensures { result ≡ asked.is_filtering (see_step step.now) }
+{
+    match &step.form {
+        StepForm::Filter(_, _) => true,
+        StepForm::Keys { .. } => true,
+        _ => false,
+    }
+}
+
+/// Whether a step is a variable.
+fn is_variable(step: &Step) -> bool
+    ensures { result ≡ asked.is_lone_variable (more_steps (see_step step.now) no_steps) }
+{
+    match &step.form {
+        StepForm::Var(_) => true,
+        _ => false,
+    }
+}
+
+/// The verdict of a test whether a set is empty: it is where no row was found.
+fn verdict_of_set(not: bool, rows: &[Row]) -> Verdict
+    ensures { result ≡ set_verdict not rows.now }
+{
+    if not {
+        pass_if(one_is_found(rows))
+    } else {
+        pass_if(!one_is_found(rows))
+    }
+}
+
+/// Whether something was found at one of the rows.
+fn one_is_found(rows: &[Row]) -> bool
+    ensures { result ≡ list_any judged.is_found rows.now }
+{
+    rows.iter().any(|row| is_found(row))
+}
+
+/// Whether something was found at a row.
+fn is_found(row: &Row) -> bool
+    ensures { result ≡ judged.is_found row.now }
+{
+    match row {
+        Row::Found(_) => true,
+        Row::Missing { .. } => false,
+        Row::Unmade { .. } => false,
+    }
+}
+
+/// The verdict of a test on left rows against right rows; with `some` one left row that passes is enough.
+fn verdict_of_each(
+    alloc: Global,
+    context: &LineContext<'_, '_, '_>,
+    any: bool,
+    op: Op,
+    not: bool,
+    lefts: &[Row],
+    rights: &[Row],
+) -> Result<Verdict, AllocError>
+    requires lefts { list_all (is_known (known_of context.now)) lefts.now ≡ true }
+    requires rights { list_all (is_known (known_of context.now)) rights.now ≡ true }
+    ensures { IfOk result (λ v. v ≡ test_verdict any (passes (known_of context.now) op not rights.now) lefts.now) }
+{
+    if lefts.is_empty() {
+        return Ok(Verdict::Skip);
+    }
+    if any {
+        Ok(pass_if(one_passes(alloc, context, op, not, lefts, rights)?))
+    } else {
+        Ok(pass_if(all_pass(alloc, context, op, not, lefts, rights)?))
+    }
+}
+
+/// Whether a left row passes a test against right rows.
+fn one_passes(
+    alloc: Global,
+    context: &LineContext<'_, '_, '_>,
+    op: Op,
+    not: bool,
+    lefts: &[Row],
+    rights: &[Row],
+) -> Result<bool, AllocError>
+    requires lefts { list_all (is_known (known_of context.now)) lefts.now ≡ true }
+    requires rights { list_all (is_known (known_of context.now)) rights.now ≡ true }
+    ensures { IfOk result (λ p. p ≡ list_any (passes (known_of context.now) op not rights.now) lefts.now) }
+{
+    for left in lefts {
+        if row_passes(alloc, op, not, left, rights, context.store, context.book)? {
+            return Ok(true);
+        }
+    }
+    Ok(false)
+}
+
+/// Whether each left row passes a test against right rows.
+fn all_pass(
+    alloc: Global,
+    context: &LineContext<'_, '_, '_>,
+    op: Op,
+    not: bool,
+    lefts: &[Row],
+    rights: &[Row],
+) -> Result<bool, AllocError>
+    requires lefts { list_all (is_known (known_of context.now)) lefts.now ≡ true }
+    requires rights { list_all (is_known (known_of context.now)) rights.now ≡ true }
+    ensures { IfOk result (λ p. p ≡ list_all (passes (known_of context.now) op not rights.now) lefts.now) }
+{
+    for left in lefts {
+        if !row_passes(alloc, op, not, left, rights, context.store, context.book)? {
+            return Ok(false);
+        }
+    }
+    Ok(true)
+}
+
+/// PASS where something holds.
+fn pass_if(holds: bool) -> Verdict
+    ensures { result ≡ judged.pass_if holds }
+{
+    if holds { Verdict::Pass } else { Verdict::Fail }
+}

@@ -1,0 +1,39 @@
+//! The verdicts of what a filter tries.
+ghost use Rattle.std.specs.Prelude.{◌≡◌, List, IfOk, MatchOption};
+ghost use Rattle.guard_syntax.specs.Seen.{see_conds};
+ghost use Rattle.guard_syntax.specs.declared.row.Verdict as row;
+ghost use Rattle.rule_meaning.specs.StoreModel.{StoreModel};
+ghost use Rattle.evidence_rules.specs.Follows.{SayEach, SaysCandidate};
+
+use crate::body_frames::framed_verdict;
+use evidence_lines::Line;
+use guard_syntax::{Conds, Ref, Verdict};
+use std::alloc::{AllocError, Global};
+
+/// The verdict of the conditions of the filter of a site for each value, if there is one line for each, in order.
+pub(crate) fn tried_verdicts(
+    alloc: Global,
+    lines: &[Line],
+    frame: u64,
+    site: u32,
+    conditions: &Conds,
+    values: &[Ref],
+    cites: &[u64],
+) -> Result<Option<Vec<Verdict>>, AllocError>
+    ensures { (known : StoreModel) → IfOk result (λ said. MatchOption said
+        ((verdicts : List row.Verdict) → SayEach known lines.now (SaysCandidate known lines.now frame site (see_conds conditions.now)) values.now cites.now verdicts → ⊥)
+        (λ verdicts. SayEach known lines.now (SaysCandidate known lines.now frame site (see_conds conditions.now)) values.now cites.now verdicts.items)) }
+{
+    let mut verdicts = Vec::new(alloc);
+    if values.len() != cites.len() {
+        return Ok(None);
+    }
+    for (i, value) in values.iter().enumerate() {
+        let Some(verdict) = framed_verdict(lines, cites[i], frame, site, *value, conditions.site)
+        else {
+            return Ok(None);
+        };
+        verdicts.push(verdict)?;
+    }
+    Ok(Some(verdicts))
+}
