@@ -4,20 +4,21 @@ use Rattle.std.specs.List.{list_any}
 use Rattle.std.specs.Option.{ForSome}
 use Rattle.doc_values.specs.Tree.{Forest}
 use Rattle.evidence_rules.specs.RuleLines.{AreOfRules}
-use Rattle.evidence_checker.specs.Answered.{IsRejectedAt}
+use Rattle.evidence_rules.specs.Rejected.{IsRejectedAt}
 use Rattle.evidence_lines.specs.declared.line.Line.{Line}
+use Rattle.evidence_lines.specs.declared.version.Version.{Version}
 use Rattle.guard_drill.specs.DrillTexts.{template_text}
-use Rattle.guard_io.specs.Outside.{IsPrefix, Rose}
+use Rattle.guard_io.specs.Outside.{IsPrefix, FaultCounted}
 use Rattle.guard_syntax.specs.Syntax.{File}
 use Rattle.guard_syntax.specs.declared.row.Verdict.{Verdict}
-use Rattle.value_compare.specs.Books.{IsNext}
-use Rattle.rule_meaning.specs.Finds.{pattern_in}
+use Rattle.rule_meaning.specs.NextPattern.{IsNextPattern}
+use Rattle.rule_meaning.specs.PatternMatch.{pattern_in}
 use Rattle.rule_meaning.specs.Patterns.{Written, patterns_of}
 use Rattle.guard_ends.specs.Request.{Request, Asks, AsksDrill, AsksNothing, format_of}
 use Rattle.guard_ends.specs.Inputs.{IsRuleFile, RefusesRules, IsTemplate, RefusesTemplate, IsProof, RefusesProof}
 use Rattle.evidence_rules.specs.Follows.{Accepts}
-use Rattle.rule_meaning.specs.SpotFunctions.{IsAnswering}
-use Rattle.rule_meaning.specs.Spots.{Answers, World}
+use Rattle.rule_meaning.specs.FunctionMeaning.{IsAnswering}
+use Rattle.rule_meaning.specs.Locations.{Answers, World}
 use Rattle.rule_meaning.specs.Verdicts.{is_fail}
 use Rattle.guard_ends.specs.Check.{accepted_text, rejected_text}
 use Rattle.guard_ends.specs.Drill.{drill_report, drill_rules}
@@ -81,20 +82,20 @@ Contents = List ℕ → Option (List ℕ)
 abbrev pub IsContent : Option (List ℕ) → List ℕ → Type 0
 IsContent told bytes = ForSome told (λ content. bytes ≡ content)
 
--- evidence of these lines that was judged, for rules and a template: it is accepted, and out takes the verdicts that it says,
--- or it is rejected at a line
-abbrev pub IsChecked : File → Forest → List Line → Ended → Type 0
-IsChecked rules tree lines e =
-    ((verdicts : List Verdict) × Accepts tree rules lines × AreOfRules lines rules.rules rules.loose verdicts
+-- evidence of a version and these lines that was judged, for rules and a template: it is accepted, and out takes the verdicts
+-- that it says, or it is rejected at a line
+abbrev pub IsChecked : File → Forest → Version → List Line → Ended → Type 0
+IsChecked rules tree version lines e =
+    ((verdicts : List Verdict) × Accepts version tree rules lines × AreOfRules lines rules.rules rules.loose verdicts
     × (e ≡ record { how = end_is.Accepted; out = accepted_text rules verdicts; err = [] }))
-    ⊎ ((number : ℕ) × IsRejectedAt tree rules lines number
+    ⊎ ((number : ℕ) × IsRejectedAt version tree rules lines number
     × (e ≡ record { how = end_is.Rejected number; out = rejected_text number; err = [] }))
 
 -- with the bytes of evidence: they are refused, or they are evidence and it is judged
 abbrev pub EndOfProof : File → Forest → List ℕ → Ended → Type 0
 EndOfProof rules tree bytes e =
     ((refusal : Refusal) × RefusesProof bytes refusal × (e ≡ refused bytes refusal))
-    ⊎ ((lines : List Line) × IsProof bytes lines × IsChecked rules tree lines e)
+    ⊎ ((version : Version) × (lines : List Line) × IsProof bytes version lines × IsChecked rules tree version lines e)
 
 -- with the rules and the template read, and each pattern: the evidence is loaded
 abbrev pub EndOfCheck : Option (List ℕ) → File → Forest → Ended → Type 0
@@ -108,7 +109,7 @@ AreRead rules = All (λ (w : Written). IsSome (pattern_in w.text)) (patterns_of 
 -- place, or each is read and the work goes on
 abbrev pub EndOfPatterns : (source : List ℕ) → File → (Ended → Type 0) → Ended → Type 0
 EndOfPatterns source rules GoesOn e =
-    ((text : List ℕ) × (at : ℕ) × IsNext rules text at × IsNone (pattern_in text) × (e ≡ refused source (At file.Rules BadPattern at None)))
+    ((text : List ℕ) × (at : ℕ) × IsNextPattern rules text at × IsNone (pattern_in text) × (e ≡ refused source (At file.Rules BadPattern at None)))
     ⊎ (AreRead rules × GoesOn e)
 
 -- with the rules read and the template's bytes: in its format they are refused, or they are a template and the patterns are read
@@ -216,7 +217,7 @@ Loads which words told q = Asks words q × ComesTo which q told
 -- with the rules read, the order of work comes to a pattern: the template is read, and so is each pattern of the rules before this one
 abbrev pub ComesToPattern : Format → Option (List ℕ) → File → List ℕ → Type 0
 ComesToPattern f told rules text = ((bytes : List ℕ) × IsContent told bytes × ((tree : Forest) × IsTemplate f bytes tree))
-    × ((at : ℕ) × IsNext rules text at)
+    × ((at : ℕ) × IsNextPattern rules text at)
 
 -- the words ask for rules with a pattern of this text, which the order of work comes to
 abbrev pub Makes : List (List ℕ) → Contents → List ℕ → Type 0
@@ -235,15 +236,15 @@ pub record Faults : Type 0 where
 
 -- the count of a file that is asked for rose
 abbrev pub Unread : (before after : Counts) → Which → Request → Type 0
-Unread before after which q = Rose (before.files (name_of which q)) (after.files (name_of which q))
+Unread before after which q = FaultCounted (before.files (name_of which q)) (after.files (name_of which q))
 
 -- a pattern that the order of work comes to, and whose count rose
 abbrev pub Unmade : List (List ℕ) → Contents → (before after : List ℕ → ℕ) → List ℕ → Type 0
-Unmade words told before after text = Makes words told text × Rose (before text) (after text)
+Unmade words told before after text = Makes words told text × FaultCounted (before text) (after text)
 
 -- the count of out rose
 abbrev pub Unwritten : (before after : Faults) → Type 0
-Unwritten before after = Rose before.out after.out
+Unwritten before after = FaultCounted before.out after.out
 
 -- a text is the report of such a call, or what is written of evidence
 abbrev pub IsReport : List (List ℕ) → Contents → List ℕ → Type 0

@@ -5,6 +5,7 @@ use Rattle.std.specs.Prelude.{ℕ, ◌<◌, ◌≤◌, ◌≡◌, ◌⊎◌, Lis
 use Rattle.doc_values.specs.Tree.{Forest}
 use Rattle.evidence_lines.specs.Text.{IsEvidence, IsFault}
 use Rattle.evidence_lines.specs.declared.line.Line.{Line}
+use Rattle.evidence_lines.specs.declared.version.Version.{Version}
 use Rattle.json_reader.specs.Json.{Json}
 use Rattle.json_reader.specs.Refusals as json
 use Rattle.json_reader.specs.declared.refusal.JsonRefusal.TheVariants as json_refusal
@@ -17,7 +18,7 @@ use Rattle.guard_lexer.specs.declared.token.LexRefusal.TheVariants as lex_refusa
 use Rattle.guard_syntax.specs.Syntax.{File}
 use Rattle.guard_parser.specs.File.{Rules, IsTooDeep, IsDeadEnd, IsBadRange}
 use Rattle.rule_names.specs.Faults.{Fault}
-use Rattle.rule_names.specs.Names.{WellNamed, IsNameFault}
+use Rattle.rule_names.specs.WellNamed.{WellNamed, IsNameFault}
 use Rattle.rule_names.specs.declared.name_kind.NameKind.{NameKind}
 use Rattle.rule_names.specs.declared.name_kind.NameKind.TheVariants as naming
 use Rattle.guard_ends.specs.declared.ends.Refusal.{Refusal}
@@ -163,10 +164,10 @@ RefusesRules bytes _ = ⊥
 
 -- Evidence.
 
--- bytes that are evidence of these lines
-pub record IsProof (bytes : List ℕ) (lines : List Line) : Type 0 where
+-- bytes that are evidence of this version and these lines
+pub record IsProof (bytes : List ℕ) (version : Version) (lines : List Line) : Type 0 where
   pub within : length bytes ≤ proof_limit
-  pub read : IsEvidence bytes lines
+  pub read : IsEvidence bytes version lines
 
 -- why evidence with these bytes is refused: they are too many, or a line is not in the format
 abbrev pub RefusesProof : List ℕ → Refusal → Type 0

@@ -4,7 +4,7 @@ use Rattle.std.specs.List.{flat_map}
 use Rattle.doc_values.specs.Tree.{Forest}
 use Rattle.guard_syntax.specs.Syntax.{File}
 use Rattle.guard_syntax.specs.declared.row.Verdict.{Verdict}
-use Rattle.rule_meaning.specs.Spots.{World}
+use Rattle.rule_meaning.specs.Locations.{World}
 use Rattle.rule_meaning.specs.Verdicts.{is_pass, is_fail, is_skip}
 use Rattle.report_text.specs.EntryLines.{entry_line}
 use Rattle.report_text.specs.RuleLines.{rule_line}

@@ -6,8 +6,8 @@ use Rattle.guard_syntax.specs.Named.{Named}
 use Rattle.guard_syntax.specs.Syntax.{File, Rule, Disjs, no_disjs, more_disjs}
 use Rattle.guard_syntax.specs.declared.row.Verdict.{Verdict}
 use Rattle.rule_meaning.specs.Fails.{Entry, loose_fails, rule_fails}
-use Rattle.rule_meaning.specs.Spots.{Answers, World}
-use Rattle.rule_meaning.specs.SpotTurns.{loose_verdict, rule_verdict}
+use Rattle.rule_meaning.specs.Locations.{Answers, World}
+use Rattle.rule_meaning.specs.NameMeaning.{loose_verdict, rule_verdict}
 use Rattle.rule_meaning.specs.Verdicts.{is_fail}
 
 -- a template that is judged by a rule file, by what functions answer

@@ -3,6 +3,7 @@ use Rattle.std.proofs.Common.{◌≡◌, ℕ, Bool, true, false, List, Option, S
 use Rattle.std.specs.List.{list_any}
 use Rattle.doc_values.specs.Tree.{Forest}
 use Rattle.evidence_lines.specs.declared.line.Line.{Line}
+use Rattle.evidence_lines.specs.declared.version.Version.{Version}
 use Rattle.guard_syntax.specs.Syntax.{File}
 use Rattle.rule_meaning.specs.Verdicts.{is_fail}
 use Rattle.guard_ends.specs.End.{Ended, AreRead, EndOf, EndOfCheck, EndOfLoad, EndOfProof, EndOfRules, EndOfTemplate, EndOfWork, Contents, IsJudged, is_checked, is_judged}
@@ -26,14 +27,14 @@ judged-ends made source rules template tree e (answers, obey, is) =
     ap (λ (x : Ended). is_judged x.how) is ∙ by-verdicts (list_any is_fail (verdicts_of (record { template = tree; file = rules; answers = answers })))
 
 -- where evidence is told and read, a check ends by its judgement
-check-ends : (evidence : List ℕ) → EvidenceLaws evidence → (lines : List Line) → IsProof evidence lines → (told : Option (List ℕ)) → told ≡ Some evidence
+check-ends : (evidence : List ℕ) → EvidenceLaws evidence → (version : Version) (lines : List Line) → IsProof evidence version lines → (told : Option (List ℕ)) → told ≡ Some evidence
     → (rules : File) (tree : Forest) (e : Ended) → EndOfCheck told rules tree e → is_checked e.how ≡ true
-check-ends evidence laws lines whole told known rules tree e (bytes, content, end) =
+check-ends evidence laws version lines whole told known rules tree e (bytes, content, end) =
     by (subst (λ (b : List ℕ). EndOfProof rules tree b e) (content evidence known) end)
   where
     by : EndOfProof rules tree evidence e → is_checked e.how ≡ true
-    by (inl (r, h, is)) = absurd (refusal-apart evidence laws r lines h whole)
-    by (inr (lines', whole', judged)) = checked-ends rules tree lines' e judged
+    by (inl (r, h, is)) = absurd (refusal-apart evidence laws r version lines h whole)
+    by (inr (version', lines', whole', judged)) = checked-ends rules tree version' lines' e judged
 
 -- where the rules, the template and the patterns are read, the call goes on to what is asked for
 work-reached : OneSyntax → (rules template : List ℕ) → OneTemplate template → (words : List (List ℕ)) (told : Contents) (q : Request) (file : File) (tree : Forest) (e : Ended)
@@ -57,10 +58,10 @@ accepted-judged law rules template one words told q file tree e asks none known 
     (work-reached law rules template one words told q file tree e asks known known' read read' all end))
 
 pub accepted-checked : OneSyntax → (rules template evidence : List ℕ) → OneTemplate template → EvidenceLaws evidence
-    → (words : List (List ℕ)) (told : Contents) (q : Request) (name : List ℕ) (file : File) (tree : Forest) (lines : List Line) (e : Ended)
+    → (words : List (List ℕ)) (told : Contents) (q : Request) (name : List ℕ) (file : File) (tree : Forest) (version : Version) (lines : List Line) (e : Ended)
     → Asks words q → q.proof ≡ Some name → told q.rules ≡ Some rules → told q.template ≡ Some template → told name ≡ Some evidence → IsRuleFile rules file
-    → IsTemplate (format_of q.template) template tree → AreRead file → IsProof evidence lines → EndOf words told e → is_checked e.how ≡ true
-accepted-checked law rules template evidence one laws words told q name file tree lines e asks named known known' known'' read read' all whole end =
-    check-ends evidence laws lines whole (told name) known'' file tree e
+    → IsTemplate (format_of q.template) template tree → AreRead file → IsProof evidence version lines → EndOf words told e → is_checked e.how ≡ true
+accepted-checked law rules template evidence one laws words told q name file tree version lines e asks named known known' known'' read read' all whole end =
+    check-ends evidence laws version lines whole (told name) known'' file tree e
     (subst (λ (p : Option (List ℕ)). EndOfWork told p rules file template tree e) named
     (work-reached law rules template one words told q file tree e asks known known' read read' all end))

@@ -6,15 +6,16 @@ use Rattle.std.proofs.lemmas.List.Concat.{flat_map-cons}
 use Rattle.doc_values.specs.Tree.{Forest}
 use Rattle.evidence_rules.specs.RuleLines.{AreOfRules}
 use Rattle.evidence_lines.specs.declared.line.Line.{Line}
+use Rattle.evidence_lines.specs.declared.version.Version.{Version}
 use Rattle.guard_syntax.specs.Named.{Named}
 use Rattle.guard_syntax.specs.Syntax.{File, Rule, Disjs, no_disjs, more_disjs}
 use Rattle.guard_syntax.specs.declared.row.Verdict.{Verdict}
 use Rattle.evidence_rules.specs.Follows.{AllFollow, nothing_made}
 use Rattle.evidence_rules.specs.Judgement as said
 use Rattle.rule_meaning.specs.Seeing.{world_of}
-use Rattle.rule_meaning.specs.SpotFunctions.{IsAnswering}
-use Rattle.rule_meaning.specs.Spots.{Answers, World}
-use Rattle.rule_meaning.specs.SpotTurns.{rule_verdict}
+use Rattle.rule_meaning.specs.FunctionMeaning.{IsAnswering}
+use Rattle.rule_meaning.specs.Locations.{Answers, World}
+use Rattle.rule_meaning.specs.NameMeaning.{rule_verdict}
 use Rattle.guard_ends.specs.Check.{accepted_text}
 use Rattle.guard_ends.specs.End.{Ended, IsChecked}
 use Rattle.guard_ends.specs.Reported.{Reported, if_plain, of_loose, of_rule, verdicts_of, world_over}
@@ -44,14 +45,14 @@ module _ (world : World) where
 -- what is said of rules by lines that follow is what they mean
 abbrev pub IsTrue : File → Type 0
 IsTrue file =
-    (template : Forest) (lines : List Line) (answers : Answers) (verdicts : List Verdict) → AllFollow (nothing_made template file) [] lines
+    (version : Version) (template : Forest) (lines : List Line) (answers : Answers) (verdicts : List Verdict) → AllFollow version (nothing_made template file) [] lines
     → IsAnswering (world_of (nothing_made template file) answers) → AreOfRules lines file.rules file.loose verdicts
     → verdicts ≡ said.verdicts_of (world_of (nothing_made template file) answers) file.rules file.loose
 
-pub accepted-meant : (file : File) → IsTrue file → (template : Forest) (lines : List Line) (answers : Answers) (e : Ended) → IsChecked file template lines e → e.how ≡ end_is.Accepted
+pub accepted-meant : (file : File) → IsTrue file → (version : Version) (template : Forest) (lines : List Line) (answers : Answers) (e : Ended) → IsChecked file template version lines e → e.how ≡ end_is.Accepted
     → IsAnswering (world_over file template answers) → e.out ≡ accepted_text file (verdicts_of (world_over file template answers))
-accepted-meant file true template lines answers e (inl (verdicts, accepts, are, is)) how answering =
-    let meant : verdicts ≡ said.verdicts_of (world_over file template answers) file.rules file.loose = true template lines answers verdicts accepts.follow answering are in
+accepted-meant file true version template lines answers e (inl (verdicts, accepts, are, is)) how answering =
+    let meant : verdicts ≡ said.verdicts_of (world_over file template answers) file.rules file.loose = true version template lines answers verdicts accepts.follow answering are in
     ap (λ (x : Ended). x.out) is ∙ ap (accepted_text file) (meant ∙ sym (rules-same (world_over file template answers) file.rules file.loose))
-accepted-meant file true template lines answers e (inr (number, rejected, is)) how answering =
+accepted-meant file true version template lines answers e (inr (number, rejected, is)) how answering =
     absurd (let bad : end_is.Rejected number ≡ end_is.Accepted = sym (ap (λ (x : Ended). x.how) is) ∙ how in cc)

@@ -1,12 +1,13 @@
 -- Evidence is judged in one way, where its bytes have one list of lines or one fault.
 use Rattle.std.proofs.Common.{◌≡◌, ◌⊎◌, ◌≤◌, ◌<◌, ℕ, zero, suc, true, refl, sym, ap, ◌∙◌, subst, inl, inr, arith, List, [], ◌∷◌, ◌++◌, Option, Some, length, take}
 use Rattle.doc_values.specs.Tree.{Forest}
-use Rattle.evidence_checker.specs.Answered.{IsRejectedAt}
+use Rattle.evidence_rules.specs.Rejected.{IsRejectedAt}
 use Rattle.evidence_lines.specs.Text.{IsEvidence, IsFault}
 use Rattle.evidence_lines.specs.declared.line.Line.{Line}
+use Rattle.evidence_lines.specs.declared.version.Version.{Version}
 use Rattle.guard_syntax.specs.Syntax.{File}
 use Rattle.guard_syntax.specs.declared.row.Verdict.{Verdict}
-use Rattle.rule_meaning.specs.Known.{Known}
+use Rattle.rule_meaning.specs.StoreModel.{StoreModel}
 use Rattle.evidence_rules.specs.Follows.{Accepts, AllFollow, nothing_made}
 use Rattle.rule_meaning.specs.Seeing.{grown}
 use Rattle.guard_ends.specs.Check.{accepted_text, rejected_text}
@@ -21,24 +22,24 @@ use Rattle.guard_laws.proofs.OneVerdict.{said-one, verdicts-one}
 -- ---- the first line that does not follow is one
 
 -- where lines follow, so do the first of them
-follow-take : (known : Known) (before : List Line) (n : ℕ) (lines : List Line) → AllFollow known before lines → AllFollow known before (take n lines)
-follow-take known before zero lines follow = tt
-follow-take known before (suc n) [] follow = tt
-follow-take known before (suc n) (l ∷ lines) (more, follows, others) = (more, follows, follow-take (grown known more) (before ++ l ∷ []) n lines others)
+follow-take : (version : Version) (known : StoreModel) (before : List Line) (n : ℕ) (lines : List Line) → AllFollow version known before lines → AllFollow version known before (take n lines)
+follow-take version known before zero lines follow = tt
+follow-take version known before (suc n) [] follow = tt
+follow-take version known before (suc n) (l ∷ lines) (more, follows, others) = (more, follows, follow-take version (grown known more) (before ++ l ∷ []) n lines others)
 
-follow-less : (known : Known) (before : List Line) (n m : ℕ) (lines : List Line) → n ≤ m → AllFollow known before (take m lines) → AllFollow known before (take n lines)
-follow-less known before zero m lines less follow = tt
-follow-less known before (suc n) zero lines less follow = absurd (omega (arith, less))
-follow-less known before (suc n) (suc m) [] less follow = tt
-follow-less known before (suc n) (suc m) (l ∷ lines) less (more, follows, others) =
-    (more, follows, follow-less (grown known more) (before ++ l ∷ []) n m lines (omega (arith, less)) others)
+follow-less : (version : Version) (known : StoreModel) (before : List Line) (n m : ℕ) (lines : List Line) → n ≤ m → AllFollow version known before (take m lines) → AllFollow version known before (take n lines)
+follow-less version known before zero m lines less follow = tt
+follow-less version known before (suc n) zero lines less follow = absurd (omega (arith, less))
+follow-less version known before (suc n) (suc m) [] less follow = tt
+follow-less version known before (suc n) (suc m) (l ∷ lines) less (more, follows, others) =
+    (more, follows, follow-less version (grown known more) (before ++ l ∷ []) n m lines (omega (arith, less)) others)
 
-module _ (template : Forest) (rules : File) (lines : List Line) where
+module _ (version : Version) (template : Forest) (rules : File) (lines : List Line) where
   abbrev FollowTo : ℕ → Type 0
-  FollowTo n = AllFollow (nothing_made template rules) [] (take n lines)
+  FollowTo n = AllFollow version (nothing_made template rules) [] (take n lines)
 
   never-less : (before after : ℕ) → suc before ≤ after → FollowTo after → (FollowTo (suc before) → ⊥) → ⊥
-  never-less before after less follow fails = fails (follow-less (nothing_made template rules) [] (suc before) after lines less follow)
+  never-less before after less follow fails = fails (follow-less version (nothing_made template rules) [] (suc before) after lines less follow)
 
   -- of two places up to which lines follow, and not further, none is before the other
   same-place : (m n : ℕ) → FollowTo m → (FollowTo (suc m) → ⊥) → FollowTo n → (FollowTo (suc n) → ⊥) → m ≡ n
@@ -47,15 +48,15 @@ module _ (template : Forest) (rules : File) (lines : List Line) where
       let not_more : n < m → ⊥ = λ less. never-less n m (omega (arith, less)) follow fails' in
       grind (arith, not_less, not_more)
 
-  rejected-apart : (n : ℕ) → Accepts template rules lines → IsRejectedAt template rules lines n → ⊥
-  rejected-apart n accepted (inl (before, is, within, follow, fails)) = fails (follow-take (nothing_made template rules) [] n lines accepted.follow)
+  rejected-apart : (n : ℕ) → Accepts version template rules lines → IsRejectedAt version template rules lines n → ⊥
+  rejected-apart n accepted (inl (before, is, within, follow, fails)) = fails (follow-take version (nothing_made template rules) [] n lines accepted.follow)
   rejected-apart n accepted (inr (is, follow, not)) = not accepted
 
-  rejected-one : (n m : ℕ) → IsRejectedAt template rules lines n → IsRejectedAt template rules lines m → n ≡ m
+  rejected-one : (n m : ℕ) → IsRejectedAt version template rules lines n → IsRejectedAt version template rules lines m → n ≡ m
   rejected-one n m (inl (before, is, within, follow, fails)) (inl (before', is', within', follow', fails')) =
       is ∙ (ap suc (same-place before before' follow (subst (λ k. FollowTo k → ⊥) is fails) follow' (subst (λ k. FollowTo k → ⊥) is' fails')) ∙ sym is')
-  rejected-one n m (inl (before, is, within, follow, fails)) (inr (is', all, not)) = absurd (fails (follow-take (nothing_made template rules) [] n lines all))
-  rejected-one n m (inr (is, all, not)) (inl (before, is', within, follow, fails)) = absurd (fails (follow-take (nothing_made template rules) [] m lines all))
+  rejected-one n m (inl (before, is, within, follow, fails)) (inr (is', all, not)) = absurd (fails (follow-take version (nothing_made template rules) [] n lines all))
+  rejected-one n m (inr (is, all, not)) (inl (before, is', within, follow, fails)) = absurd (fails (follow-take version (nothing_made template rules) [] m lines all))
   rejected-one n m (inr (is, all, not)) (inr (is', all', not')) = is ∙ sym is'
 
   abbrev accepted-as : List Verdict → Ended
@@ -64,25 +65,25 @@ module _ (template : Forest) (rules : File) (lines : List Line) where
   abbrev rejected-as : ℕ → Ended
   rejected-as n = record { how = end_is.Rejected n; out = rejected_text n; err = [] }
 
-  checked-one : (e other : Ended) → IsChecked rules template lines e → IsChecked rules template lines other → e ≡ other
+  checked-one : (e other : Ended) → IsChecked rules template version lines e → IsChecked rules template version lines other → e ≡ other
   checked-one e other (inl (vs, accepted, are, is)) (inl (ws, accepted', are', is')) =
-      is ∙ (ap accepted-as (verdicts-one lines (said-one template rules lines accepted.follow) rules.rules rules.loose vs ws are are') ∙ sym is')
+      is ∙ (ap accepted-as (verdicts-one lines (said-one version template rules lines accepted.follow) rules.rules rules.loose vs ws are are') ∙ sym is')
   checked-one e other (inl (vs, accepted, are, is)) (inr (n, rejected, is')) = absurd (rejected-apart n accepted rejected)
   checked-one e other (inr (n, rejected, is)) (inl (ws, accepted, are, is')) = absurd (rejected-apart n accepted rejected)
   checked-one e other (inr (n, rejected, is)) (inr (m, rejected', is')) = is ∙ (ap rejected-as (rejected-one n m rejected rejected') ∙ sym is')
 
 -- what was judged ends as evidence that was judged
-pub checked-ends : (rules : File) (template : Forest) (lines : List Line) (e : Ended) → IsChecked rules template lines e → is_checked e.how ≡ true
-checked-ends rules template lines e (inl (vs, accepted, are, is)) = ap (λ (x : Ended). is_checked x.how) is
-checked-ends rules template lines e (inr (n, rejected, is)) = ap (λ (x : Ended). is_checked x.how) is
+pub checked-ends : (rules : File) (template : Forest) (version : Version) (lines : List Line) (e : Ended) → IsChecked rules template version lines e → is_checked e.how ≡ true
+checked-ends rules template version lines e (inl (vs, accepted, are, is)) = ap (λ (x : Ended). is_checked x.how) is
+checked-ends rules template version lines e (inr (n, rejected, is)) = ap (λ (x : Ended). is_checked x.how) is
 
 -- ---- bytes have lines or a refusal
 
 -- what the laws of the reader of evidence say of bytes
 pub record EvidenceLaws (bytes : List ℕ) : Type 0 where
-  pub lines : (ls ms : List Line) → IsEvidence bytes ls → IsEvidence bytes ms → ls ≡ ms
+  pub lines : (v w : Version) (ls ms : List Line) → IsEvidence bytes v ls → IsEvidence bytes w ms → (v ≡ w) × (ls ≡ ms)
   pub fault : (n m : ℕ) → IsFault bytes n → IsFault bytes m → n ≡ m
-  pub apart : (ls : List Line) (n : ℕ) → IsEvidence bytes ls → IsFault bytes n → ⊥
+  pub apart : (v : Version) (ls : List Line) (n : ℕ) → IsEvidence bytes v ls → IsFault bytes n → ⊥
 
 abbrev ProofWhy : List ℕ → Refusal → Type 0
 ProofWhy bytes r =
@@ -108,21 +109,22 @@ module _ (bytes : List ℕ) (laws : EvidenceLaws bytes) where
   why-one r q (inr (n, is, within, fault)) (inl (is', long)) = absurd (long-apart bytes long within)
   why-one r q (inr (n, is, within, fault)) (inr (m, is', within', fault')) = is ∙ (ap (λ k. EvidenceSyntax k) (laws.fault n m fault fault') ∙ sym is')
 
-  why-apart : (r : Refusal) (lines : List Line) → ProofWhy bytes r → IsProof bytes lines → ⊥
-  why-apart r lines (inl (is, long)) whole = long-apart bytes long whole.within
-  why-apart r lines (inr (n, is, within, fault)) whole = laws.apart lines n whole.read fault
+  why-apart : (r : Refusal) (version : Version) (lines : List Line) → ProofWhy bytes r → IsProof bytes version lines → ⊥
+  why-apart r version lines (inl (is, long)) whole = long-apart bytes long whole.within
+  why-apart r version lines (inr (n, is, within, fault)) whole = laws.apart version lines n whole.read fault
 
-  pub refusal-apart : (r : Refusal) (lines : List Line) → RefusesProof bytes r → IsProof bytes lines → ⊥
-  refusal-apart r lines h whole = why-apart r lines (proof-why bytes r h) whole
+  pub refusal-apart : (r : Refusal) (version : Version) (lines : List Line) → RefusesProof bytes r → IsProof bytes version lines → ⊥
+  refusal-apart r version lines h whole = why-apart r version lines (proof-why bytes r h) whole
 
   proof-one : (rules : File) (template : Forest) (e other : Ended) → EndOfProof rules template bytes e → EndOfProof rules template bytes other → e ≡ other
   proof-one rules template e other (inl (r, h, is)) (inl (q, h', is')) =
       is ∙ (ap (refused bytes) (why-one r q (proof-why bytes r h) (proof-why bytes q h')) ∙ sym is')
-  proof-one rules template e other (inl (r, h, is)) (inr (lines, whole, judged)) = absurd (refusal-apart r lines h whole)
-  proof-one rules template e other (inr (lines, whole, judged)) (inl (r, h, is)) = absurd (refusal-apart r lines h whole)
-  proof-one rules template e other (inr (lines, whole, judged)) (inr (lines', whole', judged')) =
-      let same : lines' ≡ lines = laws.lines lines' lines whole'.read whole.read in
-      checked-one template rules lines e other judged (subst (λ (ls : List Line). IsChecked rules template ls other) same judged')
+  proof-one rules template e other (inl (r, h, is)) (inr (version, lines, whole, judged)) = absurd (refusal-apart r version lines h whole)
+  proof-one rules template e other (inr (version, lines, whole, judged)) (inl (r, h, is)) = absurd (refusal-apart r version lines h whole)
+  proof-one rules template e other (inr (version, lines, whole, judged)) (inr (version', lines', whole', judged')) =
+      let same = laws.lines version' version lines' lines whole'.read whole.read in
+      let here : IsChecked rules template version lines' other = subst (λ (v : Version). IsChecked rules template v lines' other) same.0 judged' in
+      checked-one version template rules lines e other judged (subst (λ (ls : List Line). IsChecked rules template version ls other) same.1 here)
 
 -- where the evidence is told, a check has one end
 pub check-one : (bytes : List ℕ) → EvidenceLaws bytes → (told : Option (List ℕ)) → told ≡ Some bytes → (rules : File) (template : Forest) (e other : Ended)

@@ -1,8 +1,8 @@
 -- The first pattern that cannot be read is one, and where there is one, not every pattern is read. By induction on those before it.
 use Rattle.std.proofs.Common.{◌≡◌, ℕ, suc, ◌++◌, List, [], ◌∷◌, Option, true, false, IsSome, IsNone, All, sym, ap, ◌∙◌, subst, arith}
 use Rattle.guard_syntax.specs.Syntax.{File}
-use Rattle.value_compare.specs.Books.{IsNext}
-use Rattle.rule_meaning.specs.Finds.{pattern_in}
+use Rattle.rule_meaning.specs.NextPattern.{IsNextPattern}
+use Rattle.rule_meaning.specs.PatternMatch.{pattern_in}
 use Rattle.rule_meaning.specs.Patterns.{Written, patterns_of}
 
 abbrev pub IsRead : Written → Type 0
@@ -37,13 +37,13 @@ all-unread : (xs : List Written) (v : Written) (vs : List Written) → All IsRea
 all-unread [] v vs all bad = clash (pattern_in v.text) (all-head v vs all) bad
 all-unread (x ∷ xs) v vs all bad = all-unread xs v vs (all-tail x (xs ++ (v ∷ vs)) all) bad
 
-pub next-one : (f : File) (text : List ℕ) (at : ℕ) (other : List ℕ) (place : ℕ) → IsNext f text at → IsNext f other place
+pub next-one : (f : File) (text : List ℕ) (at : ℕ) (other : List ℕ) (place : ℕ) → IsNextPattern f text at → IsNextPattern f other place
     → IsNone (pattern_in text) → IsNone (pattern_in other) → at ≡ place
 next-one f text at other place (xs, vs, is, read) (ys, ws, is', read') bad bad' =
     let v : Written = record { text = text; at = at } in
     let w : Written = record { text = other; at = place } in
     ap (λ (o : Written). o.at) (first-one xs ys v w vs ws (sym is ∙ is') read read' bad bad')
 
-pub next-apart : (f : File) (text : List ℕ) (at : ℕ) → IsNext f text at → IsNone (pattern_in text) → All IsRead (patterns_of f) → ⊥
+pub next-apart : (f : File) (text : List ℕ) (at : ℕ) → IsNextPattern f text at → IsNone (pattern_in text) → All IsRead (patterns_of f) → ⊥
 next-apart f text at (xs, vs, is, read) bad all =
     all-unread xs (record { text = text; at = at }) vs (subst (All IsRead) is all) bad

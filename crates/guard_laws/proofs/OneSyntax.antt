@@ -9,14 +9,14 @@ use Rattle.guard_lexer.specs.declared.token.LexRefusal.{LexRefusal}
 use Rattle.guard_lexer.specs.declared.token.LexRefusal.TheVariants as lex_refusal
 use Rattle.guard_lexer.proofs.Unique.{only_tokens, only_refusal}
 use Rattle.guard_syntax.specs.Syntax.{File}
-use Rattle.guard_parser.specs.Forms.{form, is_opening}
-use Rattle.guard_parser.specs.Lexemes.{lexemes, lexeme_of, ending}
+use Rattle.literal_parser.specs.Forms.{form, is_opening}
+use Rattle.literal_parser.specs.Lexemes.{lexemes, lexeme_of, ending}
 use Rattle.guard_parser.specs.File.{Rules, IsSpelled, IsShallow, IsTooDeep, IsDeadEnd, IsBadRange, open_before}
 use Rattle.guard_parser.proofs.Count.{few_tokens}
 use Rattle.guard_ends.specs.declared.ends.RefusalKind.{RefusalKind}
 use Rattle.guard_ends.specs.declared.ends.RefusalKind.TheVariants.{Unclosed, BadByte, NumberRange, NestTooDeep, Syntax, BadRange, DuplicateRule, DuplicateName, UnknownRule, UnknownVariable, UnknownFunction, NeedsArguments, TakesNone, ArgCount, LiteralWanted, RecursiveRule, RecursiveVariable, TooDeep, DuplicateKey, Tab, Anchor, Tag, Directive, ManyDocuments, BadPattern}
 use Rattle.guard_ends.specs.Inputs.{IsSyntax, RefusesTokens, RefusesSyntax, RefusesText}
-use Rattle.guard_run.specs.Outcome.{lex_kind}
+use Rattle.guard_run.specs.Refusals.{lex_kind}
 use Rattle.guard_run.proofs.Refusing.{pair-one}
 
 -- the same kind and place, or Syntax twice

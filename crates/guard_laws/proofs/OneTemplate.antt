@@ -2,8 +2,8 @@
 use Rattle.std.proofs.Common.{◌≡◌, ◌≤◌, ℕ, List, length, None, arith, inl, inr, sym, ap, ◌∙◌, subst, IsUtf8}
 use Rattle.doc_values.specs.Tree.{Forest}
 use Rattle.guard_syntax.specs.Syntax.{File}
-use Rattle.rule_meaning.specs.Spots.{Answers}
-use Rattle.query_steps.proofs.SpotAnswers.{one-answering}
+use Rattle.rule_meaning.specs.Locations.{Answers}
+use Rattle.query_steps.proofs.LocatedAnswers.{one-answering}
 use Rattle.guard_ends.specs.Inputs.{IsTooLong, IsTemplate, RefusesTemplate, template_limit}
 use Rattle.guard_ends.specs.End.{Ended, AreRead, EndOfPatterns, EndOfTemplate, IsJudged, judged, refused}
 use Rattle.guard_ends.specs.Report.{Reporting}

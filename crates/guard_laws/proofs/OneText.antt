@@ -12,7 +12,7 @@ use Rattle.yaml_blocks.specs.Yaml.{Counts, IsYaml}
 use Rattle.yaml_blocks.specs.declared.refusal.YamlRefusal.{YamlRefusal}
 use Rattle.yaml_blocks.specs.declared.refusal.YamlRefusal.TheVariants as yaml
 use Rattle.guard_ends.specs.Inputs.{IsTreeOf, RefusesJson, RefusesTree, of_yaml}
-use Rattle.guard_run.specs.Outcome.{json_kind}
+use Rattle.guard_run.specs.Refusals.{json_kind}
 use Rattle.guard_ends.specs.declared.ends.Refusal.{Refusal}
 use Rattle.guard_ends.specs.declared.ends.Refusal.TheVariants.{DataUnread, At}
 use Rattle.guard_ends.specs.declared.ends.RefusalKind.{RefusalKind}

@@ -11,34 +11,35 @@ use Rattle.evidence_lines.specs.declared.line.LineKind.{LineKind}
 use Rattle.evidence_lines.specs.declared.line.LineKind.TheVariants as kind
 use Rattle.evidence_lines.specs.declared.line.Outcome.{Outcome}
 use Rattle.evidence_lines.specs.declared.line.Outcome.TheVariants as says
+use Rattle.evidence_lines.specs.declared.version.Version.{Version}
 use Rattle.guard_syntax.specs.Named.{Named}
 use Rattle.guard_syntax.specs.Syntax.{File, Rule, Disjs, no_disjs, more_disjs}
 use Rattle.guard_syntax.specs.declared.row.Verdict.{Verdict}
 use Rattle.rule_names.specs.Pieces.{Piece, OfFile, OfRule, OfPart, piece_at}
-use Rattle.rule_meaning.specs.Known.{Known, Made}
+use Rattle.rule_meaning.specs.StoreModel.{StoreModel, Made}
 use Rattle.evidence_rules.specs.Follows.{AllFollow, Follows, FollowsIn, FollowsVerdict, IsNewRule, nothing_made}
 use Rattle.rule_meaning.specs.Seeing.{grown}
 use Rattle.evidence_rules.proofs.LinesBehind.{at-end, behind-first}
 
 -- ---- a `rule` line that follows is the first of its site
 
-module _ (known : Known) (lines : List Line) where
+module _ (version : Version) (known : StoreModel) (lines : List Line) where
   new-at : (frame site : ℕ) (piece : Option Piece) (cites : List ℕ) (verdict : Verdict)
-      → FollowsVerdict known lines frame site kind.Rule piece cites verdict → IsNewRule known lines site
+      → FollowsVerdict version known lines frame site kind.Rule piece cites verdict → IsNewRule known lines site
   new-at frame site (Some (OfRule r)) cites verdict h = h.1
   new-at frame site (Some OfFile) cites verdict h = h.1
   new-at frame site (Some (OfPart part)) cites verdict h = absurd h
   new-at frame site piece cites verdict h = absurd h
 
   rule-new : (line : Line) (more : List Made) (site : ℕ) (verdict : Verdict) → line.kind ≡ kind.Rule → line.site ≡ Some site
-      → line.outcome ≡ says.Verdict verdict → Follows known lines line more → IsNewRule known lines site
+      → line.outcome ≡ says.Verdict verdict → Follows version known lines line more → IsNewRule known lines site
   rule-new line more site verdict kind_is site_is outcome_is (inl (q, none)) = absurd (let bad : kind.File ≡ kind.Rule = sym q.0 ∙ kind_is in cc)
   rule-new line more site verdict kind_is site_is outcome_is (inr (f, s, f_is, s_is, home, h)) =
       let same : s ≡ site = same_Some s site (sym s_is ∙ site_is) in
-      let as_rule : FollowsIn known lines f s kind.Rule line.cites line.outcome more =
-      subst (λ (k : LineKind). FollowsIn known lines f s k line.cites line.outcome more) kind_is h in
-      let as_verdict : FollowsIn known lines f s kind.Rule line.cites (says.Verdict verdict) more =
-      subst (λ (o : Outcome). FollowsIn known lines f s kind.Rule line.cites o more) outcome_is as_rule in
+      let as_rule : FollowsIn version known lines f s kind.Rule line.cites line.outcome more =
+      subst (λ (k : LineKind). FollowsIn version known lines f s k line.cites line.outcome more) kind_is h in
+      let as_verdict : FollowsIn version known lines f s kind.Rule line.cites (says.Verdict verdict) more =
+      subst (λ (o : Outcome). FollowsIn version known lines f s kind.Rule line.cites o more) outcome_is as_rule in
       subst (λ (n : ℕ). IsNewRule known lines n) same (new-at f s (piece_at known.file s) line.cites verdict as_verdict.0)
 
 -- ---- so all `rule` lines of a site say one verdict
@@ -53,11 +54,11 @@ OneEach ls = (m n : ℕ) (l k : Line) (site : ℕ) (v w : Verdict) → slice_get
 verdicts-same : (v w : Verdict) → says.Verdict v ≡ says.Verdict w → v ≡ w
 verdicts-same v w same = cc
 
-module _ (known : Known) (before : List Line) (line : Line) (more : List Made) (follows : Follows known before line more) where
+module _ (version : Version) (known : StoreModel) (before : List Line) (line : Line) (more : List Made) (follows : Follows version known before line more) where
   -- a line before does not say what the line itself says
   never-again : (m : ℕ) (l : Line) (site : ℕ) (v w : Verdict) → slice_get before m ≡ Some l → Says l site v → Says line site w → ⊥
   never-again m l site v w stands (f, k_is, f_is, s_is, o_is) (g, k_is', f_is', s_is', o_is') =
-      rule-new known before line more site w k_is' s_is' o_is' follows (suc m) f (says.Verdict v)
+      rule-new version known before line more site w k_is' s_is' o_is' follows (suc m) f (says.Verdict v)
       (record { line = l; stands = behind-first before m ∙ stands; kind_is = k_is; frame_is = f_is; site_is = s_is; outcome_is = o_is })
 
   one-more : OneEach before → OneEach (before ++ line ∷ [])
@@ -72,11 +73,11 @@ module _ (known : Known) (before : List Line) (line : Line) (more : List Made) (
           let that : Says line site w = subst (λ (x : Line). Says x site w) (sym b) says' in
           verdicts-same v w (sym this.4 ∙ that.4)
 
-each-one : (rest : List Line) (known : Known) (before : List Line) → OneEach before → AllFollow known before rest → OneEach (before ++ rest)
-each-one [] known before one follow = subst OneEach (sym (append-nil before)) one
-each-one (line ∷ rest) known before one (more, follows, others) =
+each-one : (version : Version) (rest : List Line) (known : StoreModel) (before : List Line) → OneEach before → AllFollow version known before rest → OneEach (before ++ rest)
+each-one version [] known before one follow = subst OneEach (sym (append-nil before)) one
+each-one version (line ∷ rest) known before one (more, follows, others) =
     subst OneEach (append_assoc before (line ∷ []) rest)
-    (each-one rest (grown known more) (before ++ line ∷ []) (one-more known before line more follows one) others)
+    (each-one version rest (grown known more) (before ++ line ∷ []) (one-more version known before line more follows one) others)
 
 none-one : OneEach []
 none-one m n l k site v w at at' says says' = absurd (none-some l at)
@@ -89,9 +90,9 @@ at-index lines (suc n) l stands = (n, sym (behind-first lines n) ∙ stands)
 abbrev pub SayOne : List Line → Type 0
 SayOne lines = (site : ℕ) (v w : Verdict) → IsSaidOf lines site v → IsSaidOf lines site w → v ≡ w
 
-pub said-one : (template : Forest) (file : File) (lines : List Line) → AllFollow (nothing_made template file) [] lines → SayOne lines
-said-one template file lines follow site v w (number, f, is) (number', g, is') =
-    let one : OneEach lines = each-one lines (nothing_made template file) [] none-one follow in
+pub said-one : (version : Version) (template : Forest) (file : File) (lines : List Line) → AllFollow version (nothing_made template file) [] lines → SayOne lines
+said-one version template file lines follow site v w (number, f, is) (number', g, is') =
+    let one : OneEach lines = each-one version lines (nothing_made template file) [] none-one follow in
     let first = at-index lines number is.line is.stands in
     let second = at-index lines number' is'.line is'.stands in
     one first.0 second.0 is.line is'.line site v w first.1 second.1

@@ -2,11 +2,12 @@
 ghost use Rattle.std.specs.Prelude.{◌≡◌, ℕ, List, Some, None, true};
 ghost use Rattle.doc_values.specs.Tree.{Forest};
 ghost use Rattle.evidence_lines.specs.declared.line.Line.{Line};
+ghost use Rattle.evidence_lines.specs.declared.version.Version.{Version};
 ghost use Rattle.guard_drill.specs.DrillTexts.{template_text};
 ghost use Rattle.guard_syntax.specs.Syntax.{File};
 ghost use Rattle.rule_names.specs.Files.{file_of};
-ghost use Rattle.rule_meaning.specs.SpotFunctions.{IsAnswering};
-ghost use Rattle.rule_meaning.specs.Spots.{Answers};
+ghost use Rattle.rule_meaning.specs.FunctionMeaning.{IsAnswering};
+ghost use Rattle.rule_meaning.specs.Locations.{Answers};
 ghost use Rattle.guard_ends.specs.Check.{accepted_text};
 ghost use Rattle.guard_ends.specs.Drill.{drill_rules};
 ghost use Rattle.guard_ends.specs.End.{Ended, EndOf, Contents, AreRead, AreSame, IsChecked, is_checked, is_judged};
@@ -54,11 +55,11 @@ pub fn accepted_is_judged(rules: &[u8], template: &[u8])
 /// The law of completeness for a check: where, besides, evidence is asked for, whose content is told, and that is evidence,
 /// each end that the definition gives is one of evidence that was judged: it is accepted or rejected.
 pub fn accepted_is_checked(rules: &[u8], template: &[u8], evidence: &[u8])
-    ensures { (words : List (List ℕ)) (told : Contents) (q : Request) (name : List ℕ) (file : File) (tree : Forest) (lines : List Line) (e : Ended)
+    ensures { (words : List (List ℕ)) (told : Contents) (q : Request) (name : List ℕ) (file : File) (tree : Forest) (version : Version) (lines : List Line) (e : Ended)
         → Asks words q → q.proof ≡ Some name → told q.rules ≡ Some rules.now → told q.template ≡ Some template.now
         → told name ≡ Some evidence.now
         → IsRuleFile rules.now file → IsTemplate (format_of q.template) template.now tree → AreRead file
-        → IsProof evidence.now lines → EndOf words told e → is_checked e.how ≡ true }
+        → IsProof evidence.now version lines → EndOf words told e → is_checked e.how ≡ true }
 {
     one_syntax();
     only_template(template);
@@ -68,8 +69,8 @@ pub fn accepted_is_checked(rules: &[u8], template: &[u8], evidence: &[u8])
 /// The law that accepted evidence is true, whoever wrote it: what out takes of it are the verdicts of the rules by their
 /// meaning over the template, those that the report has.
 pub fn accepted_is_true(rules: &RuleFile)
-    ensures { (template : Forest) (lines : List Line) (answers : Answers) (e : Ended)
-        → IsChecked (file_of rules.now) template lines e → e.how ≡ end_is.Accepted
+    ensures { (version : Version) (template : Forest) (lines : List Line) (answers : Answers) (e : Ended)
+        → IsChecked (file_of rules.now) template version lines e → e.how ≡ end_is.Accepted
         → IsAnswering (world_over (file_of rules.now) template answers)
         → e.out ≡ accepted_text (file_of rules.now) (verdicts_of (world_over (file_of rules.now) template answers)) }
 {

@@ -1,53 +1,41 @@
 -- What comes of words, by what they ask for.
-use Rattle.std.proofs.Common.{◌≡◌, ◌≢◌, ℕ, List, [], Bool, true, false, Option, Some, None, inl, inr, refl, sym, ap, ◌∙◌}
-use Rattle.guard_io.specs.Outside.{Rose}
-use Rattle.guard_syntax.specs.Syntax.{File}
+use Rattle.std.proofs.Common.{◌≡◌, ℕ, List, [], Bool, true, false, Option, Some, None, Result, inl, inr, refl, sym, ap, ◌∙◌}
 use Rattle.guard_words.specs.Request.{Asked, AsksFor, check, drill, validate}
-use Rattle.guard_ends.specs.Inputs.{IsRuleFile}
-use Rattle.guard_ends.specs.Request.{Request, Asks, AsksDrill, asked_of, format_of}
-use Rattle.guard_ends.specs.End.{EndOf, EndOfDrill, EndOfRequest, ComesTo, ComesToPattern, Contents, Counts, IsContent, name_of}
+use Rattle.guard_ends.specs.Request.{Request, Asks, AsksDrill, asked_of}
+use Rattle.guard_ends.specs.End.{EndOf, EndOfDrill, EndOfRequest, ComesTo, Contents, Counts, Loads, Unread, Unmade}
 use Rattle.guard_ends.specs.Lines.{usage_line}
-use Rattle.guard_run.specs.Outcome.{IsOutcome, IsOutcomeAs}
 use Rattle.guard_ends.specs.declared.ends.End.TheVariants as end_is
 use Rattle.guard_ends.specs.declared.ends.Which.{Which}
-use Rattle.guard_run.specs.declared.outcome.Outcome.{Outcome}
-use Rattle.guard_run.specs.declared.outcome.Outcome.TheVariants as outcome
+use Rattle.guard_run.specs.Outcome.{IsOutcomeAt, IsOutcomeFor, IsOutcomeOf, IsUnmadeFor}
+use Rattle.guard_run.specs.declared.done.Done.{Done}
+use Rattle.guard_run.specs.declared.stop.Stop.{Stop}
+use Rattle.guard_run.proofs.Outcomes.{IsOutcome-more, none-made, none-read}
 
--- a pattern of the rules of these files, which the order of work comes to, and whose count rose
-abbrev pub UnmadeBy : Request → Contents → (before after : List ℕ → ℕ) → Type 0
-UnmadeBy q told before after = (text bytes : List ℕ) × IsContent (told q.rules) bytes × ((rules : File) × IsRuleFile bytes rules
-    × ComesToPattern (format_of q.template) (told q.template) rules text) × Rose (before text) (after text)
+abbrev MayNotRead : List (List ℕ) → Contents → (before after : Counts) → Which → Type 0
+MayNotRead words told before after which = (q : Request) × Loads which words told q × Unread before after which q
+
+abbrev MayNotMake : List (List ℕ) → Contents → (before after : Counts) → Type 0
+MayNotMake words told before after = (text : List ℕ) × Unmade words told before.patterns after.patterns text
 
 -- what comes of the files that words ask for comes of the words
-pub outcome-asked : (words : List (List ℕ)) (told : Contents) (before after : Counts) (q : Request) → Asks words q → (o : Outcome)
-    → IsOutcomeAs (EndOfRequest q told) o
-    → ((which : Which) → o ≡ outcome.ReadFault which → ComesTo which q told)
-    → ((which : Which) → o ≡ outcome.ReadFault which → Rose (before.files (name_of which q)) (after.files (name_of which q)))
-    → (o ≡ outcome.PatternRefused → UnmadeBy q told before.patterns after.patterns)
-    → IsOutcome words told before after o
-outcome-asked words told before after q asked (outcome.Judged judgement) is comes rose unmade = inl (q, asked, is)
-outcome-asked words told before after q asked (outcome.Accepted text) is comes rose unmade = inl (q, asked, is)
-outcome-asked words told before after q asked (outcome.Rejected number) is comes rose unmade = inl (q, asked, is)
-outcome-asked words told before after q asked (outcome.Refused r) is comes rose unmade = inl (q, asked, is)
-outcome-asked words told before after q asked outcome.Usage is comes rose unmade = inl (q, asked, is)
-outcome-asked words told before after q asked (outcome.ReadFault which) is comes rose unmade = (q, (asked, comes which refl), rose which refl)
-outcome-asked words told before after q asked outcome.PatternRefused is comes rose unmade =
-    let found = unmade refl in
-    (found.0, ((q, asked, (found.1, found.2, found.3)), found.4))
-outcome-asked words told before after q asked outcome.Memory is comes rose unmade = tt
+pub outcome-asked : (words : List (List ℕ)) (told : Contents) (before after : Counts) (q : Request) → Asks words q → (o : Result Done Stop)
+    → IsOutcomeFor q told before after o → IsOutcomeOf words told before after o
+outcome-asked words told before after q asked o is =
+    IsOutcome-more (EndOfRequest q told) (EndOf words told)
+    (λ which. ComesTo which q told × Unread before after which q) (MayNotRead words told before after)
+    (IsUnmadeFor q told before.patterns after.patterns) (MayNotMake words told before after)
+    (λ e end. inl (q, asked, end))
+    (λ which fault. (q, (asked, fault.0), fault.1))
+    (λ found. (found.0, ((q, asked, (found.1, found.2, found.3)), found.4))) o is
 
 -- and so does what comes of the drill that they ask for: it reads no file, and no pattern is refused it
-pub outcome-drilled : (words : List (List ℕ)) (told : Contents) (before after : Counts) (count : ℕ) → AsksDrill words count → (o : Outcome)
-    → IsOutcomeAs (EndOfDrill count) o → ((which : Which) → o ≢ outcome.ReadFault which) → o ≢ outcome.PatternRefused
-    → IsOutcome words told before after o
-outcome-drilled words told before after count asked (outcome.Judged judgement) is read made = inr (inl (count, asked, is))
-outcome-drilled words told before after count asked (outcome.Accepted text) is read made = inr (inl (count, asked, is))
-outcome-drilled words told before after count asked (outcome.Rejected number) is read made = inr (inl (count, asked, is))
-outcome-drilled words told before after count asked (outcome.Refused r) is read made = inr (inl (count, asked, is))
-outcome-drilled words told before after count asked outcome.Usage is read made = inr (inl (count, asked, is))
-outcome-drilled words told before after count asked (outcome.ReadFault which) is read made = absurd (read which refl)
-outcome-drilled words told before after count asked outcome.PatternRefused is read made = absurd (made refl)
-outcome-drilled words told before after count asked outcome.Memory is read made = tt
+pub outcome-drilled : (words : List (List ℕ)) (told : Contents) (before after : Counts) (count : ℕ) → AsksDrill words count → (o : Result Done Stop)
+    → IsOutcomeAt (EndOfDrill count) o → IsOutcomeOf words told before after o
+outcome-drilled words told before after count asked o is =
+    IsOutcome-more (EndOfDrill count) (EndOf words told)
+    (λ which. ⊥) (MayNotRead words told before after) ⊥ (MayNotMake words told before after)
+    (λ e end. inr (inl (count, asked, end)))
+    (none-read (MayNotRead words told before after)) (none-made (MayNotMake words told before after)) o is
 
 -- what is done of what words may ask for
 abbrev is_done : Asked → Bool

@@ -1,12 +1,10 @@
 -- What the sinks took, end by end.
-use Rattle.std.proofs.Common.{◌≡◌, ℕ, ◌++◌, inl, inr, List, [], Option, Some, None, refl, sym, ◌∙◌, ap, subst, append_assoc, true, false, if◌then◌else◌}
+use Rattle.std.proofs.Common.{◌≡◌, ℕ, ◌++◌, inl, inr, List, [], Option, Some, None, refl, sym, ◌∙◌, ap, subst, append_assoc, true, false}
 use Rattle.std.proofs.lemmas.List.{append-nil}
 use Rattle.std.specs.Option.{ForSome}
 use Rattle.guard_io.specs.Outside.{IsPrefix}
 use Rattle.guard_ends.specs.End.{Ended, EndOf, Contents, Faults, IsReport, MaySay, MayWant, Took, TookAsDefined, is_defined, is_reported}
 use Rattle.guard_ends.specs.Lines.{memory_line}
-use Rattle.guard_run.specs.Outcome.{ended}
-use Rattle.guard_run.specs.declared.report.Judgement.{Judgement}
 use Rattle.guard_run.specs.Writing.{Closed, Said, SaidMemory}
 use Rattle.guard_ends.specs.declared.ends.End.{End}
 use Rattle.guard_ends.specs.declared.ends.End.TheVariants as end_is
@@ -52,11 +50,6 @@ Closed-said words told before after line whole how out out' err err' taken says 
     subst (λ how. Closed words told before after how out out' err err') (sym e) (taken, front, last, inr (inr (line, says, begun)), tried, wrote, said)
 Closed-said words told before after line whole how out out' err err' taken says wrote closes (inr (inr (inr e, (front, last, begun, tried, said)))) =
     subst (λ how. Closed words told before after how out out' err err') (sym e) (taken, front, memory_line, last, inr (inr (inr (line, says, begun)), refl), tried, wrote, said)
-
--- a template that was judged
-pub ended-reported : (judgement : Judgement) → is_reported (ended judgement).how ≡ true
-ended-reported judgement =
-    elim judgement.failed as (λ failed. is_reported (if failed then end_is.Failed else end_is.Passed) ≡ true) [ true ↦ refl | false ↦ refl ]
 
 -- ends at which out takes a text
 abbrev pub reported_as : End → List ℕ → Ended

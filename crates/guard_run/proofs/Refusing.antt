@@ -16,10 +16,11 @@ use Rattle.guard_ends.specs.declared.ends.RefusalKind.{RefusalKind}
 use Rattle.guard_ends.specs.declared.ends.RefusalKind.TheVariants.{Unclosed, BadByte, NumberRange, NestTooDeep, Syntax, BadRange, TooDeep, DuplicateKey}
 use Rattle.guard_ends.specs.declared.ends.Which.{Which}
 use Rattle.guard_run.specs.declared.refused.Refused.{Refused}
-use Rattle.guard_run.specs.declared.read.NotRead.{NotRead}
-use Rattle.guard_run.specs.declared.read.NotRead.TheVariants as not_read
+use Rattle.guard_run.specs.declared.stop.Stop.{Stop}
+use Rattle.guard_run.specs.declared.stop.Stop.TheVariants as stop
 use Rattle.guard_ends.specs.Inputs.{RefusesJson, RefusesTokens, RefusesSyntax}
-use Rattle.guard_run.specs.Outcome.{IsPlaced, IsNotRead, IsRefusedAs, lex_kind, parse_kind, json_kind}
+use Rattle.guard_run.specs.Refusals.{IsRefusedAs, lex_kind, parse_kind, json_kind}
+use Rattle.guard_run.specs.Stops.{IsPlaced, IsNotRead}
 
 pub pair-one : (p q : RefusalKind × ℕ) → Some p ≡ Some q → p ≡ q
 pair-one p q same = cc
@@ -72,15 +73,21 @@ json-why text r kind at named h =
     json-refuses text r kind at named (h (json-known r kind at named))
 
 -- what is refused with that kind, at that place, is not read
-pub placed-not_read : (Refuses : List ℕ → Refusal → Type 0) (which : Which) (text : List ℕ) (placed : Option (RefusalKind × ℕ)) (n : NotRead)
-    → ((kind : RefusalKind) (at : ℕ) → placed ≡ Some (kind, at) → Refuses text (At which kind at None)) → IsPlaced which placed text n → IsNotRead Refuses text n
-placed-not_read Refuses which text (Some p) (not_read.Refused r) why is = (At which p.0 p.1 None, why p.0 p.1 refl, is)
-placed-not_read Refuses which text (Some p) not_read.Memory why is = absurd is
-placed-not_read Refuses which text None (not_read.Refused r) why is = absurd is
-placed-not_read Refuses which text None not_read.Memory why is = tt
+pub placed-not_read : (Refuses : List ℕ → Refusal → Type 0) (which : Which) (text : List ℕ) (placed : Option (RefusalKind × ℕ)) (s : Stop)
+    → ((kind : RefusalKind) (at : ℕ) → placed ≡ Some (kind, at) → Refuses text (At which kind at None)) → IsPlaced which placed text s → IsNotRead Refuses text s
+placed-not_read Refuses which text (Some p) (stop.Refused r) why is = (At which p.0 p.1 None, why p.0 p.1 refl, is)
+placed-not_read Refuses which text (Some p) stop.Memory why is = absurd is
+placed-not_read Refuses which text (Some p) stop.Usage why is = absurd is
+placed-not_read Refuses which text (Some p) (stop.Unread other) why is = absurd is
+placed-not_read Refuses which text (Some p) stop.Unmade why is = absurd is
+placed-not_read Refuses which text None stop.Memory why is = tt
+placed-not_read Refuses which text None (stop.Refused r) why is = absurd is
+placed-not_read Refuses which text None stop.Usage why is = absurd is
+placed-not_read Refuses which text None (stop.Unread other) why is = absurd is
+placed-not_read Refuses which text None stop.Unmade why is = absurd is
 
 -- and so is what is refused so
 pub refused-not_read : (Refuses : List ℕ → Refusal → Type 0) (text : List ℕ) (why : Option Refusal) (r : Refused)
-    → ((refusal : Refusal) → why ≡ Some refusal → Refuses text refusal) → IsRefusedAs why text (Some r) → IsNotRead Refuses text (not_read.Refused r)
+    → ((refusal : Refusal) → why ≡ Some refusal → Refuses text refusal) → IsRefusedAs why text (Some r) → IsNotRead Refuses text (stop.Refused r)
 refused-not_read Refuses text (Some refusal) r gives is = (refusal, gives refusal refl, is)
 refused-not_read Refuses text None r gives is = absurd is

@@ -1,7 +1,7 @@
 -- Reports, by the lines of all verdicts and the counts.
 use Rattle.std.proofs.Common.{◌≡◌, ◌++◌, ℕ, List}
 use Rattle.std.specs.Prelude.{codes, decimal}
-use Rattle.rule_meaning.specs.Spots.{World}
+use Rattle.rule_meaning.specs.Locations.{World}
 use Rattle.guard_ends.specs.Drill.{drill_report, verdict_line}
 use Rattle.guard_run.specs.Listed.{AreLinesOf}
 use Rattle.guard_ends.specs.Report.{lines_of, report}

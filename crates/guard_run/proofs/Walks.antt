@@ -1,6 +1,7 @@
 -- The rules and the parts outside rules that stand in a file, and what trees are over.
-use Rattle.std.proofs.Common.{◌≡◌, ℕ, ◌<◌, ◌≤◌, ◌+◌, ◌++◌, add-one, List, [], ◌∷◌, length, map, take, get_or, arith, sym, ap, ◌∙◌, subst, zero, suc, refl, codes}
+use Rattle.std.proofs.Common.{◌≡◌, ℕ, ◌<◌, ◌≤◌, ◌+◌, ◌++◌, ◌==◌, Bool, true, add-one, List, [], ◌∷◌, length, map, take, get_or, arith, sym, ap, ◌∙◌, subst, zero, suc, refl, codes}
 use Rattle.std.specs.List.{flat_map}
+use Rattle.std.proofs.lemmas.Bool.Decides.{nat_tests}
 use Rattle.std.proofs.lemmas.Grind.{flat_map-append}
 use Rattle.std.proofs.lemmas.List.{append-nil, length-append, map-append}
 use Rattle.std.proofs.Math.Seq.{take-suc}
@@ -18,9 +19,9 @@ use Rattle.rule_names.specs.declared.file.RuleFile.{RuleFile}
 use Rattle.value_compare.specs.declared.store.Store.{Store}
 use Rattle.rule_meaning.specs.Fails.{Entry, loose_fails, rule_fails}
 use Rattle.rule_meaning.specs.Seeing.{world_of}
-use Rattle.rule_meaning.specs.Spots.{Answers, World}
-use Rattle.rule_meaning.specs.SpotTurns.{loose_verdict, rule_verdict}
-use Rattle.rule_meaning.specs.SpotFunctions.{IsAnswering}
+use Rattle.rule_meaning.specs.Locations.{Answers, World}
+use Rattle.rule_meaning.specs.NameMeaning.{loose_verdict, rule_verdict}
+use Rattle.rule_meaning.specs.FunctionMeaning.{IsAnswering}
 use Rattle.plain_evaluator.specs.States.{Answering, Grows, State, see_trees}
 use Rattle.plain_evaluator.proofs.Growing.{answering-on}
 use Rattle.guard_run.specs.Listed.{AreLinesOf, lines_as, lines_in}
@@ -168,3 +169,7 @@ reported-few world (r ∷ rs) =
     let more = reported-few world rs in
     let both = length-append (of_rule world r) (flat_map (of_rule world) rs) in
     omega arith
+
+-- a list that is told empty has no length
+pub none-left : {X : Type 0} (xs : List X) (b : Bool) → b ≡ (length xs == 0) → b ≡ true → length xs ≡ 0
+none-left xs b is holds_is = let test : (length xs == 0) ≡ true = sym is ∙ holds_is in grind (arith, nat_tests, test)

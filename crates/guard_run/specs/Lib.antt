@@ -1,3 +1,6 @@
 pub mod Listed
+pub mod Loading
 pub mod Outcome
+pub mod Refusals
+pub mod Stops
 pub mod Writing

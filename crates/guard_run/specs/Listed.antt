@@ -4,7 +4,7 @@ use Rattle.std.specs.List.{flat_map}
 use Rattle.doc_values.specs.Tree.{Forest}
 use Rattle.guard_syntax.specs.Syntax.{File}
 use Rattle.rule_meaning.specs.Verdicts.{is_pass, is_fail, is_skip}
-use Rattle.rule_meaning.specs.Known.{Known}
+use Rattle.rule_meaning.specs.StoreModel.{StoreModel}
 use Rattle.guard_ends.specs.Drill.{drill_report, fail_count, verdict_line}
 use Rattle.guard_ends.specs.Report.{Reporting, lines_of, report}
 use Rattle.guard_ends.specs.Reported.{Reported}
@@ -28,7 +28,7 @@ lines_as form.Entries = lines_of
 lines_as (form.Drill count) = λ file template_tree rules template. verdict_line
 
 -- the lines of what is reported over a store, by the texts of the rules and of the template
-abbrev pub lines_in : Known → Source → Reported → List ℕ
+abbrev pub lines_in : StoreModel → Source → Reported → List ℕ
 lines_in known source r = lines_as source.form known.file known.template source.rules.text.now source.template.text.now r
 
 -- the text has the lines of each of these, in order, and they and what they fail by are counted

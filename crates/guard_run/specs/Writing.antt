@@ -8,14 +8,8 @@ use Rattle.guard_ends.specs.declared.ends.End.{End}
 use Rattle.guard_ends.specs.declared.ends.End.TheVariants as end_is
 use Rattle.guard_ends.specs.declared.ends.Pipe.TheVariants.{Out, Err}
 
--- what out and err took at each end
+-- what out and err took at each end: at a fault and for want of memory what is said of those, else what is defined
 abbrev pub Closed : List (List ℕ) → Contents → (before after : Faults) → End → (out out' err err' : Option (List ℕ)) → Type 0
-Closed words told before after end_is.Passed out out' err err' = TookAsDefined words told end_is.Passed out out' err err'
-Closed words told before after end_is.Failed out out' err err' = TookAsDefined words told end_is.Failed out out' err err'
-Closed words told before after end_is.Accepted out out' err err' = TookAsDefined words told end_is.Accepted out out' err err'
-Closed words told before after (end_is.Rejected number) out out' err err' = TookAsDefined words told (end_is.Rejected number) out out' err err'
-Closed words told before after end_is.Usage out out' err err' = TookAsDefined words told end_is.Usage out out' err err'
-Closed words told before after (end_is.Refused refusal) out out' err err' = TookAsDefined words told (end_is.Refused refusal) out out' err err'
 Closed words told before after (end_is.ReadFault which) out out' err err' =
     ((q : Request) × Loads which words told q × Unread before.read after.read which q) × TookOfUnread which out out' err err'
 Closed words told before after end_is.PatternRefused out out' err err' =
@@ -23,6 +17,7 @@ Closed words told before after end_is.PatternRefused out out' err err' =
 Closed words told before after (end_is.WriteFault Out) out out' err err' = TookOfUnwritten words told out out' err err'
 Closed words told before after (end_is.WriteFault Err) out out' err err' = TookOfUnsaid words told before after out out' err err'
 Closed words told before after end_is.Memory out out' err err' = TookOfMemory words told before after out out' err err'
+Closed words told before after how out out' err err' = TookAsDefined words told how out out' err err'
 
 -- an end where the line of memory was tried on err
 abbrev pub SaidMemory : End → Option (List ℕ) → Option (List ℕ) → Type 0

@@ -1,94 +1,80 @@
 //! A check: evidence is loaded and read, and judged line by line for rules and a template. Nothing is evaluated.
-ghost use Rattle.std.specs.Prelude.{◌≡◌, ◌≢◌, ◌≤◌, ℕ, List, false, length, IfOk, MatchResult};
-ghost use Rattle.guard_io.specs.Outside.{Rose};
+ghost use Rattle.std.specs.Prelude.{◌≡◌, ◌≤◌, ℕ, List, length, IfOk, MatchResult};
+ghost use Rattle.guard_io.specs.Outside.{FaultCounted};
 ghost use Rattle.rule_names.specs.Files.{file_of};
 ghost use Rattle.report_text.specs.RuleLines.{reported_names};
-ghost use Rattle.value_compare.specs.Books.{IsBookOf};
-ghost use Rattle.rule_meaning.specs.Values.{has_pattern};
 ghost use Rattle.guard_ends.specs.Check.{accepted_text};
 ghost use Rattle.guard_ends.specs.End.{EndOfCheck, IsChecked};
 ghost use Rattle.guard_ends.specs.Inputs.{IsProof, RefusesProof};
-ghost use Rattle.guard_run.specs.Outcome.{IsNotRead, IsOutcomeAs};
+ghost use Rattle.guard_run.specs.Outcome.{IsOutcome, IsOutcomeAt};
+ghost use Rattle.guard_run.specs.Stops.{IsNotRead};
 
-use crate::load::{Loaded, load_within};
-use crate::outcome::{Outcome, Ready};
-use crate::read::NotRead;
-use crate::refused::{not_evidence, too_long};
+use crate::done::Done;
+use crate::inputs::Inputs;
+use crate::line::rejected_text;
+use crate::load::load_bytes;
+use crate::refused::not_evidence;
+use crate::stop::Stop;
 use evidence_checker::{Answer, check};
 use evidence_lines::{Evidence, EvidenceRefusal, read_evidence};
-use guard_ends::Which;
+use guard_ends::{End, Which};
 use guard_io::{CleanSink, Files};
 use guard_syntax::Verdict;
 use report_text::{ReportFault, write_rules};
 use rule_names::RuleFile;
 use std::alloc::{AllocError, Global};
 
-/// How many bytes evidence may have.
-const PROOF_LIMIT: u64 = 268_435_456;
-
-/// What comes of evidence of this name, once the rules and the template are read and the patterns are made.
-pub(crate) fn check_outcome<F: Files>(
+/// Judges evidence of this name, for rules and a template.
+pub(crate) fn check_evidence<F: Files>(
     alloc: Global,
-    rules: &RuleFile,
-    ready: &Ready<'_>,
+    inputs: &Inputs<'_, '_>,
     name: &str,
     files: &mut F,
-) -> Outcome
-    requires plain { has_pattern ready.now.tree ≡ false }
-    requires book { IsBookOf (file_of rules.now) ready.now.book }
-    ensures outcome { IsOutcomeAs (EndOfCheck (F.content files.old name.now) (file_of rules.now) ready.now.tree) result }
-    ensures fault { (which : Which) → result ≡ Outcome.ReadFault which
-        → (which ≡ Which.Proof) × Rose (F.faults files.old name.now) (F.faults files.new name.now) }
-    ensures no_pattern_fault { result ≢ Outcome.PatternRefused }
+) -> Result<Done, Stop>
+    ensures outcome { IsOutcome (EndOfCheck (F.content files.old name.now) (file_of inputs.now.rules.now.file) inputs.now.tree)
+        (λ which. (which ≡ Which.Proof) × FaultCounted (F.faults files.old name.now) (F.faults files.new name.now)) ⊥ result }
     ensures contents { (other : List ℕ) → F.content files.new other ≡ F.content files.old other }
     ensures kept { (other : List ℕ) → F.faults files.old other ≤ F.faults files.new other }
 {
-    let bytes = match load_within(alloc, name, PROOF_LIMIT, files) {
-        Loaded::Whole(bytes) => bytes,
-        Loaded::TooLong => return Outcome::Refused(too_long(Which::Proof)),
-        Loaded::Fault => return Outcome::ReadFault(Which::Proof),
-        Loaded::Memory => return Outcome::Memory,
-    };
-    match lines_of(alloc, bytes) {
-        Ok(evidence) => evidence_outcome(alloc, rules, ready, &evidence),
-        Err(NotRead::Refused(refused)) => Outcome::Refused(refused),
-        Err(NotRead::Memory) => Outcome::Memory,
-    }
+    let bytes = load_bytes(alloc, Which::Proof, name, files)?;
+    let evidence = lines_of(alloc, bytes)?;
+    check_lines(alloc, inputs, &evidence)
 }
 
 /// The lines of the bytes of evidence, which are no more than it may have.
-fn lines_of(alloc: Global, bytes: Vec<u8>) -> Result<Evidence, NotRead>
+fn lines_of(alloc: Global, bytes: Vec<u8>) -> Result<Evidence, Stop>
     requires { length bytes.items ≤ 268435456 }
-    ensures { MatchResult result (λ lines. IsProof bytes.items lines) (IsNotRead RefusesProof bytes.items) }
+    ensures { MatchResult result (λ evidence. IsProof bytes.items evidence.version evidence.lines) (IsNotRead RefusesProof bytes.items) }
 {
     match read_evidence(alloc, &bytes) {
         Ok(evidence) => Ok(evidence),
-        Err(EvidenceRefusal::Syntax(number)) => Err(NotRead::Refused(not_evidence(number))),
-        Err(EvidenceRefusal::NoMemory) => Err(NotRead::Memory),
+        Err(EvidenceRefusal::Syntax(number)) => Err(Stop::Refused(not_evidence(number))),
+        Err(EvidenceRefusal::NoMemory) => Err(Stop::Memory),
     }
 }
 
-/// What comes of lines of evidence: they are judged.
-fn evidence_outcome(
-    alloc: Global,
-    rules: &RuleFile,
-    ready: &Ready<'_>,
-    evidence: &Evidence,
-) -> Outcome
-    requires plain { has_pattern ready.now.tree ≡ false }
-    requires book { IsBookOf (file_of rules.now) ready.now.book }
-    ensures outcome { IsOutcomeAs (IsChecked (file_of rules.now) ready.now.tree evidence.now) result }
-    ensures no_fault { (which : Which) → result ≢ Outcome.ReadFault which }
-    ensures no_pattern_fault { result ≢ Outcome.PatternRefused }
+/// Judges lines of evidence.
+fn check_lines(alloc: Global, inputs: &Inputs<'_, '_>, evidence: &Evidence) -> Result<Done, Stop>
+    ensures { IsOutcomeAt (IsChecked (file_of inputs.now.rules.now.file) inputs.now.tree evidence.now.version evidence.now.lines) result }
 {
-    let verdicts = match check(alloc, rules, &ready.tree, &ready.book, evidence) {
-        Ok(Answer::Accepted(verdicts)) => verdicts,
-        Ok(Answer::Rejected(number)) => return Outcome::Rejected(number),
-        Err(AllocError) => return Outcome::Memory,
-    };
-    match accepted_text(alloc, rules, &verdicts) {
-        Ok(text) => Outcome::Accepted(text),
-        Err(AllocError) => Outcome::Memory,
+    let rules = &inputs.rules.file;
+    let answer = check(alloc, rules, &inputs.tree, &inputs.book, evidence)?;
+    match answer {
+        Answer::Accepted(verdicts) => {
+            let text = accepted_text(alloc, rules, &verdicts)?;
+            Ok(Done {
+                how: End::Accepted,
+                out: text,
+            })
+        }
+        Answer::Rejected(number) => {
+            let line = rejected_text(number);
+            let text = Vec::from_slice(alloc, line.as_str().as_bytes())?;
+            Ok(Done {
+                how: End::Rejected(number),
+                out: text,
+            })
+        }
     }
 }
 

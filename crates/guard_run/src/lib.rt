@@ -14,14 +14,20 @@
 #![tactic(auto)]
 
 mod check;
+mod done;
 mod drill;
+mod inputs;
 mod line;
 mod load;
-mod outcome;
-mod read;
+mod patterns;
 mod refused;
 mod report;
+mod rules;
+mod stop;
+mod template;
 mod top_call;
+mod validate;
+mod work;
 mod write;
 
 pub use guard_ends::{End, Format, Pipe, Refusal, RefusalKind, Which};

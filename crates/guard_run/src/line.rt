@@ -5,7 +5,7 @@ ghost use Rattle.arrayvec.specs.ArrayString.{array_string_len};
 ghost use Rattle.doc_values.specs.Position.{line_at, column_at};
 ghost use Rattle.guard_ends.specs.Check.{rejected_text};
 ghost use Rattle.guard_ends.specs.Lines.{evidence_line, file_word, kind_word, name_part, whole_line, placed_line};
-ghost use Rattle.guard_run.specs.Outcome.{line_bytes};
+ghost use Rattle.guard_run.specs.Refusals.{line_bytes};
 
 use arrayvec::ArrayString;
 use doc_values::place_of;

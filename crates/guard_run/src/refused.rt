@@ -2,7 +2,7 @@
 ghost use Rattle.std.specs.Prelude.{◌≡◌, ◌≤◌, ℕ, List, Some, None, length, IfOk};
 ghost use Rattle.guard_ends.specs.End.{refused};
 ghost use Rattle.guard_ends.specs.Inputs.{name_kind, name_said, of_yaml};
-ghost use Rattle.guard_run.specs.Outcome.{said, lex_kind, parse_kind, json_kind, IsRefusedAs};
+ghost use Rattle.guard_run.specs.Refusals.{said, lex_kind, parse_kind, json_kind, IsRefusedAs};
 
 use crate::line::{Line, evidence_line, named_line, placed_line, whole_line};
 use guard_ends::{Refusal, RefusalKind, Which};

@@ -1,4 +1,4 @@
-ghost use Rattle.std.specs.Prelude.{◌≡◌, ◌+◌, ◌++◌, ◌≤◌, ◌<◌, ◌^◌, ◌-◌, false, All, ℕ, List, [], ◌∷◌, map, codes, decimal, count_by, length, OnOk, IfOk};
+ghost use Rattle.std.specs.Prelude.{◌≡◌, ◌+◌, ◌++◌, ◌≤◌, ◌<◌, ◌^◌, ◌-◌, false, All, ℕ, List, [], ◌∷◌, map, codes, decimal, count_by, length, string_bytes, OnOk, IfOk};
 ghost use Rattle.std.specs.List.{flat_map, list_any};
 ghost use Rattle.guard_syntax.specs.Seen.{see_rule, see_disj, disj_list};
 ghost use Rattle.rule_names.specs.Files.{file_of};
@@ -8,8 +8,8 @@ ghost use Rattle.value_compare.specs.Books.{IsBookOf};
 ghost use Rattle.value_compare.specs.Stores.{see_store};
 ghost use Rattle.rule_meaning.specs.Values.{has_pattern};
 ghost use Rattle.rule_meaning.specs.Fails.{loose_fails, rule_fails};
-ghost use Rattle.rule_meaning.specs.SpotFunctions.{IsAnswering};
-ghost use Rattle.rule_meaning.specs.Spots.{Answers, World};
+ghost use Rattle.rule_meaning.specs.FunctionMeaning.{IsAnswering};
+ghost use Rattle.rule_meaning.specs.Locations.{Answers, World};
 ghost use Rattle.rule_meaning.specs.Verdicts.{is_pass, is_fail, is_skip};
 ghost use Rattle.plain_evaluator.specs.Entries.{AreShowable, see_entries};
 ghost use Rattle.plain_evaluator.specs.States.{Answering, Grows, see_trees};
@@ -18,7 +18,7 @@ ghost use Rattle.report_text.specs.SeenEntries.{IsShowable, see_entry};
 ghost use Rattle.guard_run.specs.Listed.{AreLinesOf, count_of, lines_as, lines_in, report_in};
 ghost use Rattle.guard_ends.specs.Reported.{Reported, if_fail, of_rule, of_loose, reported, verdicts_of, world_over};
 
-use crate::drill::drill_report;
+use crate::inputs::Inputs;
 use doc_values::Doc;
 use guard_io::CleanSink;
 use guard_syntax::{Disj, Rule, Verdict};
@@ -154,33 +154,26 @@ pub(crate) struct Judgement {
     pub report: Vec<u8>,
 }
 
-/// Judges a template by a rule file, whose patterns are in the book. The texts are those from which they were read.
+/// Judges a template by rules, and makes the report on it in a form.
 pub(crate) fn judge(
     alloc: Global,
-    file: &RuleFile,
-    rules: &str,
-    template: &str,
+    inputs: &Inputs<'_, '_>,
     form: Form,
-    doc: &Doc,
-    book: &PatternBook,
 ) -> Result<Judgement, AllocError>
-    requires plain { has_pattern doc.now ≡ false }
-    requires book { IsBookOf (file_of file.now) book.now }
-    requires rules { length rules.now ≤ 1048576 }
-    requires template { length template.now ≤ 8388608 }
-    ensures report { (answers : Answers) → IsAnswering (world_over (file_of file.now) doc.now answers)
-        → IfOk result (λ j. j.report.items ≡ report_in form (world_over (file_of file.now) doc.now answers) rules.now template.now) }
-    ensures failed { (answers : Answers) → IsAnswering (world_over (file_of file.now) doc.now answers)
-        → IfOk result (λ j. j.failed ≡ list_any is_fail (verdicts_of (world_over (file_of file.now) doc.now answers))) }
+    ensures report { (answers : Answers) → IsAnswering (world_over (file_of inputs.now.rules.now.file) inputs.now.tree answers)
+        → IfOk result (λ j. j.report.items ≡ report_in form (world_over (file_of inputs.now.rules.now.file) inputs.now.tree answers)
+        (string_bytes inputs.now.rules.now.text) inputs.now.template.now) }
+    ensures failed { (answers : Answers) → IsAnswering (world_over (file_of inputs.now.rules.now.file) inputs.now.tree answers)
+        → IfOk result (λ j. j.failed ≡ list_any is_fail (verdicts_of (world_over (file_of inputs.now.rules.now.file) inputs.now.tree answers))) }
 {
     // The lines are found once, and not anew for each entry.
     let source = Source {
-        file,
-        rules: Lined::new(alloc, rules)?,
-        template: Lined::new(alloc, template)?,
+        file: &inputs.rules.file,
+        rules: Lined::new(alloc, inputs.rules.text.as_str())?,
+        template: Lined::new(alloc, inputs.template)?,
         form,
     };
-    judge_by(alloc, &source, doc, book)
+    judge_by(alloc, &source, &inputs.tree, &inputs.book)
 }
 
 /// Judges a template by the file of a source, whose patterns are in the book.
@@ -254,6 +247,22 @@ fn whole_report(alloc: Global, lines: Lines) -> Result<Vec<u8>, AllocError>
         ..
     } = lines;
     push_total_line(alloc, &mut report, &tally)?;
+    Ok(report)
+}
+
+/// The report of a drill of so many resources.
+fn drill_report(alloc: Global, count: u32, lines: &Lines) -> Result<Vec<u8>, AllocError>
+    ensures { IfOk result (λ report. report.items ≡ (codes "drill " ++ decimal count ++ codes "\n") ++ lines.now.text.bytes.items
+        ++ (codes "fails " ++ decimal lines.now.entries ++ codes "\n") ++ (codes "total "
+        ++ decimal lines.now.tally.pass ++ codes " PASS " ++ decimal lines.now.tally.fail ++ codes " FAIL "
+        ++ decimal lines.now.tally.skip ++ codes " SKIP\n")) }
+{
+    let mut report = Vec::new(alloc);
+    report.extend_from_slice(format!(in alloc; "drill {count}\n")?.as_bytes())?;
+    report.extend_from_slice(&lines.text.bytes)?;
+    let entries = lines.entries;
+    report.extend_from_slice(format!(in alloc; "fails {entries}\n")?.as_bytes())?;
+    push_total_line(alloc, &mut report, &lines.tally)?;
     Ok(report)
 }
 
@@ -388,11 +397,7 @@ fn entries_of_loose(
 }
 
 /// Appends the total line.
-pub(crate) fn push_total_line(
-    alloc: Global,
-    report: &mut Vec<u8>,
-    tally: &Tally,
-) -> Result<(), AllocError>
+fn push_total_line(alloc: Global, report: &mut Vec<u8>, tally: &Tally) -> Result<(), AllocError>
     ensures { OnOk result (report.new.items ≡ report.old.items ++ (codes "total "
         ++ decimal tally.now.pass ++ codes " PASS " ++ decimal tally.now.fail ++ codes " FAIL "
         ++ decimal tally.now.skip ++ codes " SKIP\n")) }

@@ -1,9 +1,9 @@
 ghost use Rattle.std.specs.Prelude.{◌≡◌, ◌≤◌, ℕ, List, map, string_bytes, true};
-ghost use Rattle.guard_io.specs.Outside.{Rose};
+ghost use Rattle.guard_io.specs.Outside.{FaultCounted};
 ghost use Rattle.guard_ends.specs.Request.{Request};
 ghost use Rattle.guard_ends.specs.End.{is_defined, Loads, Unmade, name_of, TookAsDefined, TookOfUnread, TookOfUnmade, TookOfUnwritten, TookOfUnsaid, TookOfMemory};
 
-use crate::outcome::outcome_of;
+use crate::work::outcome_of;
 use crate::write::write_outcome;
 use guard_ends::{End, Pipe, Which};
 use guard_io::{Files, Sink};
@@ -27,7 +27,7 @@ pub fn guard<F: Files, M: PatternMaker, O: Sink, E: Sink>(
     // A file is not read only where the order of work comes to it and the count of its name rose.
     ensures read_fault { (which : Which) → result ≡ End.ReadFault which
         → ((q : Request) × Loads which (map string_bytes words.now) (F.content files.old) q
-        × Rose (F.faults files.old (name_of which q)) (F.faults files.new (name_of which q)))
+        × FaultCounted (F.faults files.old (name_of which q)) (F.faults files.new (name_of which q)))
         × TookOfUnread which (O.told out.old) (O.told out.new) (E.told err.old) (E.told err.new) }
     // A pattern is not made only where the order of work comes to it and the count of its text rose.
     ensures pattern_fault { result ≡ End.PatternRefused
@@ -36,12 +36,12 @@ pub fn guard<F: Files, M: PatternMaker, O: Sink, E: Sink>(
         × TookOfUnmade (O.told out.old) (O.told out.new) (E.told err.old) (E.told err.new) }
     // Out is not written only where there is a report, or what is said of evidence, and its count rose.
     ensures out_fault { result ≡ End.WriteFault Pipe.Out
-        → Rose (O.faults out.old) (O.faults out.new)
+        → FaultCounted (O.faults out.old) (O.faults out.new)
         × TookOfUnwritten (map string_bytes words.now) (F.content files.old)
         (O.told out.old) (O.told out.new) (E.told err.old) (E.told err.new) }
     // Err is not written only where there is a line to write and its count rose.
     ensures err_fault { result ≡ End.WriteFault Pipe.Err
-        → Rose (E.faults err.old) (E.faults err.new)
+        → FaultCounted (E.faults err.old) (E.faults err.new)
         × TookOfUnsaid (map string_bytes words.now) (F.content files.old)
         (record { read = record { files = F.faults files.old; patterns = M.faults maker.old }; out = O.faults out.old })
         (record { read = record { files = F.faults files.new; patterns = M.faults maker.new }; out = O.faults out.new })

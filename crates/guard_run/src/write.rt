@@ -1,80 +1,80 @@
-ghost use Rattle.std.specs.Prelude.{◌≡◌, ◌≢◌, ◌≤◌, ◌++◌, ℕ, List, [], true};
-ghost use Rattle.guard_io.specs.Outside.{Rose, IsPrefix};
-ghost use Rattle.guard_ends.specs.Lines.{memory_line, read_fault_line};
-ghost use Rattle.guard_ends.specs.End.{Contents, Counts, EndOf, is_reported};
-ghost use Rattle.guard_run.specs.Outcome.{IsOutcome, ended};
+//! What came of a call is written, on out or on err.
+ghost use Rattle.std.specs.Prelude.{◌≡◌, ◌≢◌, ◌≤◌, ℕ, List, Option};
+ghost use Rattle.guard_io.specs.Outside.{FaultCounted};
+ghost use Rattle.guard_ends.specs.Lines.{read_fault_line};
+ghost use Rattle.guard_ends.specs.End.{Contents, Counts, EndOf, Faults};
+ghost use Rattle.guard_run.specs.Outcome.{IsOutcomeOf, IsStopOf, ended};
 ghost use Rattle.guard_run.specs.Writing.{Closed, Said, SaidMemory};
 
-use crate::line::rejected_text;
-use crate::outcome::Outcome;
+use crate::done::Done;
 use crate::refused::Refused;
-use crate::report::Judgement;
+use crate::stop::Stop;
 use guard_ends::{End, Pipe, Which};
 use guard_io::{Sink, SinkFault};
 
 /// Writes what came of a call, on out or on err.
-pub(crate) fn write_outcome<O: Sink, E: Sink>(outcome: Outcome, out: &mut O, err: &mut E) -> End
+pub(crate) fn write_outcome<O: Sink, E: Sink>(
+    outcome: Result<Done, Stop>,
+    out: &mut O,
+    err: &mut E,
+) -> End
     ensures closed { (words : List (List ℕ)) (told : Contents) (before after : Counts)
-        → IsOutcome words told before after outcome
+        → IsOutcomeOf words told before after outcome
         → Closed words told (record { read = before; out = O.faults out.old })
         (record { read = after; out = O.faults out.new }) result
         (O.told out.old) (O.told out.new) (E.told err.old) (E.told err.new) }
-    ensures out_fault { result ≡ End.WriteFault Pipe.Out → Rose (O.faults out.old) (O.faults out.new) }
-    ensures err_fault { result ≡ End.WriteFault Pipe.Err → Rose (E.faults err.old) (E.faults err.new) }
+    ensures out_fault { result ≡ End.WriteFault Pipe.Out → FaultCounted (O.faults out.old) (O.faults out.new) }
+    ensures err_fault { result ≡ End.WriteFault Pipe.Err → FaultCounted (E.faults err.old) (E.faults err.new) }
     ensures out_count { O.faults out.old ≤ O.faults out.new }
     ensures err_count { E.faults err.old ≤ E.faults err.new }
 {
     match outcome {
-        Outcome::Judged(judgement) => {
-            write_report(&judgement.report, end_of(&judgement), out, err)
-        }
-        Outcome::Accepted(text) => write_report(&text, End::Accepted, out, err),
-        Outcome::Rejected(number) => {
-            let text = rejected_text(number);
-            write_report(text.as_str().as_bytes(), End::Rejected(number), out, err)
-        }
-        Outcome::Refused(Refused { refusal, line }) => {
-            say(line.as_str(), End::Refused(refusal), err)
-        }
-        Outcome::Usage => say(
-            "usage: guard validate --rules FILE --data FILE [--evidence] | check --rules FILE --data FILE --proof FILE | drill --count N\n",
-            End::Usage,
-            err,
-        ),
-        Outcome::ReadFault(which) => say(read_fault_text(which), End::ReadFault(which), err),
-        Outcome::PatternRefused => say("guard: pattern refused\n", End::PatternRefused, err),
-        Outcome::Memory => say_memory(err),
+        Ok(done) => write_done(done, out, err),
+        Err(stop) => write_stop(stop, err),
     }
 }
 
-/// Writes a report on out, or what is written of evidence, and gives the end where out took it.
-fn write_report<O: Sink, E: Sink>(report: &[u8], end: End, out: &mut O, err: &mut E) -> End
-    requires { is_reported end ≡ true }
+/// Writes on out what is done, and gives the end where out took it.
+fn write_done<O: Sink, E: Sink>(done: Done, out: &mut O, err: &mut E) -> End
     ensures closed { (words : List (List ℕ)) (told : Contents) (before after : Counts)
-        → EndOf words told (record { how = end; out = report.now; err = [] })
+        → EndOf words told (ended done)
         → Closed words told (record { read = before; out = O.faults out.old })
         (record { read = after; out = O.faults out.new }) result
         (O.told out.old) (O.told out.new) (E.told err.old) (E.told err.new) }
-    ensures out_fault { result ≡ End.WriteFault Pipe.Out → Rose (O.faults out.old) (O.faults out.new) }
-    ensures err_fault { result ≡ End.WriteFault Pipe.Err → Rose (E.faults err.old) (E.faults err.new) }
+    ensures out_fault { result ≡ End.WriteFault Pipe.Out → FaultCounted (O.faults out.old) (O.faults out.new) }
+    ensures err_fault { result ≡ End.WriteFault Pipe.Err → FaultCounted (E.faults err.old) (E.faults err.new) }
     ensures out_count { O.faults out.old ≤ O.faults out.new }
     ensures err_count { E.faults err.old ≤ E.faults err.new }
 {
-    match out.put(report) {
-        Ok(()) => end,
+    let Done { how, out: text } = done;
+    match out.put(&text) {
+        Ok(()) => how,
         Err(SinkFault::Failed) => say("guard: cannot write out\n", End::WriteFault(Pipe::Out), err),
         Err(SinkFault::Memory) => say_memory(err),
     }
 }
 
-/// The end of a template that was judged, where its report was written.
-fn end_of(judgement: &Judgement) -> End
-    ensures { result ≡ (ended judgement.now).how }
+/// Writes on err what stopped the work; out takes nothing.
+fn write_stop<E: Sink>(stop: Stop, err: &mut E) -> End
+    ensures closed { (words : List (List ℕ)) (told : Contents) (before after : Faults) (out : Option (List ℕ))
+        → IsStopOf words told before.read after.read stop
+        → Closed words told before after result out out (E.told err.old) (E.told err.new) }
+    ensures no_out_fault { result ≢ End.WriteFault Pipe.Out }
+    ensures err_fault { result ≡ End.WriteFault Pipe.Err → FaultCounted (E.faults err.old) (E.faults err.new) }
+    ensures err_count { E.faults err.old ≤ E.faults err.new }
 {
-    if judgement.failed {
-        End::Failed
-    } else {
-        End::Passed
+    match stop {
+        Stop::Usage => say(
+            "usage: guard validate --rules FILE --data FILE [--evidence] | check --rules FILE --data FILE --proof FILE | drill --count N\n",
+            End::Usage,
+            err,
+        ),
+        Stop::Refused(Refused { refusal, line }) => {
+            say(line.as_str(), End::Refused(refusal), err)
+        }
+        Stop::Unread(which) => say(read_fault_text(which), End::ReadFault(which), err),
+        Stop::Unmade => say("guard: pattern refused\n", End::PatternRefused, err),
+        Stop::Memory => say_memory(err),
     }
 }
 
@@ -84,7 +84,7 @@ fn say<E: Sink>(line: &str, end: End, err: &mut E) -> End
     ensures said { Said line.now end result (E.told err.old) (E.told err.new) }
     ensures whole { result ≢ End.WriteFault Pipe.Err → result ≢ End.Memory → result ≡ end }
     ensures fault { end ≢ End.WriteFault Pipe.Err → result ≡ End.WriteFault Pipe.Err
-        → Rose (E.faults err.old) (E.faults err.new) }
+        → FaultCounted (E.faults err.old) (E.faults err.new) }
     ensures kept { E.faults err.old ≤ E.faults err.new }
 {
     match err.put(line.as_bytes()) {
@@ -97,7 +97,7 @@ fn say<E: Sink>(line: &str, end: End, err: &mut E) -> End
 /// Tries the line of wanting memory on err, once.
 fn say_memory<E: Sink>(err: &mut E) -> End
     ensures said { SaidMemory result (E.told err.old) (E.told err.new) }
-    ensures fault { result ≡ End.WriteFault Pipe.Err → Rose (E.faults err.old) (E.faults err.new) }
+    ensures fault { result ≡ End.WriteFault Pipe.Err → FaultCounted (E.faults err.old) (E.faults err.new) }
     ensures kept { E.faults err.old ≤ E.faults err.new }
 {
     match err.put(b"guard: memory\n") {

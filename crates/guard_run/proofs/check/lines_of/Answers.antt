@@ -7,7 +7,7 @@ use Rattle.guard_run.proofs.check.lines_of.Goals as goal
 pub returns-in-Ok : goal.returns-in-Ok
 returns-in-Ok c = record {
   within = c.requires;
-  read = subst (λ (b : List ℕ). IsEvidence b c.in-Ok.evidence) c.deref.ensures.value c.in-Ok.ensures.lines;
+  read = subst (λ (b : List ℕ). IsEvidence b c.in-Ok.evidence.version c.in-Ok.evidence.lines) c.deref.ensures.value c.in-Ok.ensures.lines;
 }
 
 pub returns-in-Err-Syntax : goal.returns-in-Err-Syntax

@@ -3,7 +3,7 @@ use Rattle.std.proofs.lemmas.Grind.{common_steps}
 use Rattle.guard_syntax.specs.Seen.{disj_list, see_disj}
 use Rattle.rule_meaning.specs.Fails.{loose_fails}
 use Rattle.rule_meaning.specs.Seeing.{world_of}
-use Rattle.rule_meaning.specs.Spots.{World}
+use Rattle.rule_meaning.specs.Locations.{World}
 use Rattle.report_text.specs.SeenEntries.{see_entry}
 use Rattle.report_text.specs.declared.entry.Entry as code
 use Rattle.plain_evaluator.specs.States.{Grows, State, see_trees}

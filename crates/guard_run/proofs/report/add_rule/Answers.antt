@@ -1,9 +1,8 @@
-use Rattle.std.proofs.Common.{◌≡◌, ◌++◌, ◌∷◌, [], ℕ, List, OnOk, length, map, arith, subst, sym, ap, ◌∙◌}
-use Rattle.std.proofs.lemmas.Grind.{common_steps}
+use Rattle.std.proofs.Common.{◌≡◌, ◌++◌, ◌∷◌, [], ℕ, List, OnOk, length, map, subst, sym, ap, ◌∙◌}
 use Rattle.guard_syntax.specs.Seen.{see_rule}
 use Rattle.rule_meaning.specs.Fails.{rule_fails}
 use Rattle.rule_meaning.specs.Seeing.{world_of}
-use Rattle.rule_meaning.specs.Spots.{World}
+use Rattle.rule_meaning.specs.Locations.{World}
 use Rattle.report_text.specs.SeenEntries.{see_entry}
 use Rattle.report_text.specs.declared.entry.Entry as code
 use Rattle.plain_evaluator.specs.States.{Grows, State, see_trees}
@@ -11,7 +10,7 @@ use Rattle.plain_evaluator.proofs.Growing.{Grows-refl, Grows-trans, answering-on
 use Rattle.guard_run.specs.Listed.{AreLinesOf, lines_in}
 use Rattle.guard_ends.specs.Reported.{Reported, if_fail, of_rule}
 use Rattle.guard_run.proofs.LineLists.{lines-kept}
-use Rattle.guard_run.proofs.Walks.{rule-one}
+use Rattle.guard_run.proofs.Walks.{none-left, rule-one}
 use Rattle.guard_run.proofs.report.add_rule.Goals as goal
 
 pub returns-then-not-is_empty-clause-grows : goal.returns-then-not-is_empty-clause-grows
@@ -33,7 +32,8 @@ returns-clause-lines c answers obey before were =
     answering-on first second c.in_ok-verdict.ensures.grows (λ (w : World). map (see_entry third.known) es ≡ if_fail v (rule_fails w rule))
     c.in_ok-entries.ensures.entries answers obey in
     let walked : map (see_entry third.known) c.deref.result.now ≡ map (see_entry third.known) es = ap (map (see_entry third.known)) c.deref.ensures.value in
-    let none : length rule.params ≡ 0 = grind (arith, common_steps) in
+    let none : length rule.params ≡ 0 =
+    ap length (sym c.as_slice.ensures) ∙ none-left c.as_slice.result.now c.is_empty.result c.is_empty.ensures c.if-not-is_empty.false in
     subst (λ (ws : Reported → List ℕ). OnOk c.add.result (AreLinesOf ws c.add.new.self (before ++ of_rule w rule))) kept
     (subst (λ (more : List Reported). OnOk c.add.result (AreLinesOf (lines_in third.known source) c.add.new.self (before ++ more)))
     (rule-one w rule v (map (see_entry third.known) c.deref.result.now) none (c.in_ok-verdict.ensures.verdict answers obey) (walked ∙ fails))

@@ -4,7 +4,7 @@ use Rattle.guard_syntax.specs.Seen.{disj_list, see_disj}
 use Rattle.guard_syntax.specs.declared.row.Verdict.{Verdict}
 use Rattle.rule_meaning.specs.Fails.{loose_fails}
 use Rattle.rule_meaning.specs.Seeing.{world_of}
-use Rattle.rule_meaning.specs.Spots.{World}
+use Rattle.rule_meaning.specs.Locations.{World}
 use Rattle.report_text.specs.SeenEntries.{IsShowable, see_entry}
 use Rattle.report_text.specs.declared.entry.Entry.{Entry}
 use Rattle.plain_evaluator.specs.Entries.{see_entries}

@@ -5,7 +5,7 @@ use Rattle.guard_syntax.specs.Seen.{see_rule}
 use Rattle.guard_syntax.specs.Syntax as sx
 use Rattle.rule_names.specs.Pieces.{pieces_rule}
 use Rattle.rule_meaning.specs.Seeing.{world_of}
-use Rattle.rule_meaning.specs.Spots.{World}
+use Rattle.rule_meaning.specs.Locations.{World}
 use Rattle.plain_evaluator.specs.States.{see_trees}
 use Rattle.plain_evaluator.proofs.Growing.{Grows-refl, Grows-trans, answering-on, book-on, same-file, stands-on}
 use Rattle.guard_run.specs.Listed.{AreLinesOf, lines_in}

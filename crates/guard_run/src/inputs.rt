@@ -1,0 +1,29 @@
+//! The rules and the template of a judgement.
+ghost use Rattle.std.specs.Prelude.{◌≡◌, ◌≤◌, false, length, string_bytes};
+ghost use Rattle.rule_names.specs.Files.{file_of};
+ghost use Rattle.value_compare.specs.Books.{IsBookOf};
+ghost use Rattle.rule_meaning.specs.Values.{has_pattern};
+
+use doc_values::Doc;
+use rule_names::RuleFile;
+use value_compare::PatternBook;
+
+/// A rule file that was read, with its text, by which the report and the line of a pattern that is refused tell places.
+#[derive(Drop)]
+pub(crate) struct Rules {
+    pub text: String,
+    pub file: RuleFile,
+    pub ghost short: { length (string_bytes text) ≤ 1048576 },
+}
+
+/// Rules, and a template with its text, that are read, and the patterns of the rules, which are made.
+#[derive(Drop)]
+pub(crate) struct Inputs<'r, 't> {
+    pub rules: &'r Rules,
+    pub template: &'t str,
+    pub tree: Doc<'t>,
+    pub book: PatternBook,
+    pub ghost short: { length template.now ≤ 8388608 },
+    pub ghost plain: { has_pattern tree ≡ false },
+    pub ghost made: { IsBookOf (file_of rules.now.file) book },
+}

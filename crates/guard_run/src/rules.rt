@@ -1,0 +1,87 @@
+//! Rules: they are loaded, and read as tokens, syntax and names.
+ghost use Rattle.std.specs.Prelude.{◌≡◌, ◌≤◌, ℕ, List, MatchResult, length, string_bytes};
+ghost use Rattle.guard_lexer.specs.Lexes as lex;
+ghost use Rattle.guard_syntax.specs.Seen.{see_file};
+ghost use Rattle.rule_names.specs.Files.{file_of};
+ghost use Rattle.guard_ends.specs.End.{IsContent};
+ghost use Rattle.guard_ends.specs.Inputs.{IsSyntax, IsRuleFile, RefusesRules};
+ghost use Rattle.guard_run.specs.Loading.{IsNotLoaded};
+ghost use Rattle.guard_run.specs.Stops.{IsNotRead};
+
+use crate::inputs::Rules;
+use crate::load::load_text;
+use crate::refused::{lex_kind, parse_kind, refused_name};
+use crate::stop::{Stop, unread_at};
+use guard_ends::Which;
+use guard_io::Files;
+use guard_lexer::{Token, tokens};
+use guard_parser::{parse, queries_begin, sites_in_order};
+use guard_syntax::RawFile;
+use name_table::{NameRefusal, resolve};
+use rule_names::RuleFile;
+use std::alloc::Global;
+
+/// Loads and reads a rule file.
+pub(crate) fn load_rules<F: Files>(alloc: Global, name: &str, files: &mut F) -> Result<Rules, Stop>
+    ensures loaded { MatchResult result
+        (λ rules. IsContent (F.content files.old name.now) (string_bytes rules.text) × IsRuleFile (string_bytes rules.text) (file_of rules.file))
+        (IsNotLoaded (F.content files.old name.now) RefusesRules Which.Rules (F.faults files.old name.now) (F.faults files.new name.now)) }
+    ensures contents { (other : List ℕ) → F.content files.new other ≡ F.content files.old other }
+    ensures kept { (other : List ℕ) → F.faults files.old other ≤ F.faults files.new other }
+{
+    let text = load_text(alloc, Which::Rules, name, files)?;
+    read_rules(alloc, text)
+}
+
+/// Reads the text of a rule file, which is no longer than rules may be.
+pub(crate) fn read_rules(alloc: Global, text: String) -> Result<Rules, Stop>
+    requires { length (string_bytes text) ≤ 1048576 }
+    ensures { MatchResult result (λ rules. (string_bytes rules.text ≡ string_bytes text) × IsRuleFile (string_bytes text) (file_of rules.file))
+        (IsNotRead RefusesRules (string_bytes text)) }
+{
+    let file = rules_of(alloc, text.as_str())?;
+    Ok(Rules { text, file })
+}
+
+/// The rules of a text, which is no longer than rules may be.
+fn rules_of(alloc: Global, text: &str) -> Result<RuleFile, Stop>
+    requires { length text.now ≤ 1048576 }
+    ensures { MatchResult result (λ rules. IsRuleFile text.now (file_of rules)) (IsNotRead RefusesRules text.now) }
+{
+    match tokens(alloc, text) {
+        Ok(found) => rules_of_tokens(alloc, text, &found),
+        Err(refusal) => Err(unread_at(Which::Rules, lex_kind(refusal), text)),
+    }
+}
+
+/// The rules of the tokens of a text.
+fn rules_of_tokens(alloc: Global, text: &str, tokens: &[Token]) -> Result<RuleFile, Stop>
+    requires short { length text.now ≤ 1048576 }
+    requires tokens { lex.IsTokenList text.now tokens.now }
+    ensures { MatchResult result (λ rules. IsRuleFile text.now (file_of rules)) (IsNotRead RefusesRules text.now) }
+{
+    match parse(alloc, text, tokens) {
+        Ok(raw) => rules_of_syntax(alloc, text, raw),
+        Err(refusal) => Err(unread_at(Which::Rules, parse_kind(refusal), text)),
+    }
+}
+
+/// The rules of the syntax of a text.
+fn rules_of_syntax(alloc: Global, text: &str, raw: RawFile) -> Result<RuleFile, Stop>
+    requires short { length text.now ≤ 1048576 }
+    requires syntax { IsSyntax text.now (see_file raw) }
+    ensures { MatchResult result (λ rules. IsRuleFile text.now (file_of rules)) (IsNotRead RefusesRules text.now) }
+{
+    sites_in_order();
+    queries_begin();
+    match resolve(alloc, raw) {
+        Ok(rules) => Ok(rules),
+        Err(NameRefusal::Bad { kind, name, at }) => {
+            match refused_name(alloc, kind, name, at, text.as_bytes()) {
+                Ok(refused) => Err(Stop::Refused(refused)),
+                Err(_) => Err(Stop::Memory),
+            }
+        }
+        Err(NameRefusal::NoMemory) => Err(Stop::Memory),
+    }
+}

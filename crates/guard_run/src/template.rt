@@ -1,0 +1,51 @@
+//! Templates, which are read in the format that is asked for.
+ghost use Rattle.std.specs.Prelude.{◌≤◌, MatchResult, length};
+ghost use Rattle.guard_ends.specs.Inputs.{IsTemplate, RefusesTemplate};
+ghost use Rattle.guard_run.specs.Stops.{IsNotRead};
+
+use crate::refused::{json_kind, yaml_refused};
+use crate::stop::{Stop, unread_at};
+use doc_values::Doc;
+use guard_ends::{Format, Which};
+use json_reader::read_json;
+use std::alloc::Global;
+use yaml_blocks::read_yaml;
+
+/// The tree of a text in a format, which is no longer than a template may be.
+pub(crate) fn read_template(alloc: Global, format: Format, text: &str) -> Result<Doc<'_>, Stop>
+    requires { length text.now ≤ 8388608 }
+    ensures { MatchResult result (λ tree. IsTemplate format text.entry.now tree)
+        (IsNotRead (RefusesTemplate format) text.entry.now) }
+{
+    match format {
+        Format::Json => read_as_json(alloc, text),
+        Format::Yaml => read_as_yaml(alloc, text),
+    }
+}
+
+/// The tree of a text of YAML.
+fn read_as_yaml(alloc: Global, text: &str) -> Result<Doc<'_>, Stop>
+    requires { length text.now ≤ 8388608 }
+    ensures { MatchResult result (λ tree. IsTemplate Format.Yaml text.entry.now tree)
+        (IsNotRead (RefusesTemplate Format.Yaml) text.entry.now) }
+{
+    match read_yaml(alloc, text) {
+        Ok(tree) => Ok(tree),
+        Err(refusal) => match yaml_refused(refusal, text) {
+            Some(refused) => Err(Stop::Refused(refused)),
+            None => Err(Stop::Memory),
+        },
+    }
+}
+
+/// The tree of a text of JSON.
+fn read_as_json(alloc: Global, text: &str) -> Result<Doc<'_>, Stop>
+    requires { length text.now ≤ 8388608 }
+    ensures { MatchResult result (λ tree. IsTemplate Format.Json text.entry.now tree)
+        (IsNotRead (RefusesTemplate Format.Json) text.entry.now) }
+{
+    match read_json(alloc, text) {
+        Ok(tree) => Ok(tree),
+        Err(refusal) => Err(unread_at(Which::Template, json_kind(refusal), text)),
+    }
+}
