@@ -1,18 +1,16 @@
 -- Each part of a rule file is found at its own site, and so is each part in it.
-use Rattle.std.proofs.Common.{◌≡◌, ℕ, suc, ◌+◌, ◌≤◌, Bool, true, false, cond, refl, sym, ap, ◌∙◌, subst, arith, List, [], ◌∷◌, ◌++◌, Some}
+use Rattle.std.proofs.Common.{◌≡◌, ℕ, suc, ◌+◌, ◌≤◌, Bool, true, false, cond, refl, sym, ap, ◌∙◌, subst, arith, List, [], ◌∷◌, ◌++◌, length, Some}
 use Rattle.std.specs.Prelude.{◌==◌, find, option_map}
 use Rattle.std.proofs.lemmas.Bool.Decides.{nat_tests}
 use Rattle.std.proofs.lemmas.Option.{same_Some, none-some}
 use Rattle.guard_syntax.specs.Syntax.{Body, Lets, Let, Conds, OptConds, Disjs, Disj, Parts, Part, Query, Steps, Step, Expr, OptExpr, Exprs, Rule, File, body, no_lets, more_lets, assign, conds, no_conds, with_conds, no_disjs, more_disjs, disj, no_parts, more_parts, block, guarded, kinds, test, refer, call, query, no_steps, more_steps, this, var, key, index, every, items, splice, filter, keys, literal, function, asked, found, no_expr, with_expr, no_exprs, more_exprs}
-use Rattle.guard_syntax.specs.declared.syntax.RawFile.{RawFile}
-use Rattle.guard_syntax.specs.Seen.{see_file}
 use Rattle.rule_names.specs.Pieces.{Piece, OfFile, OfLet, OfRule, OfBody, OfConds, OfDisj, OfPart, OfQuery, OfStep, OfExpr, Sited, AreInOrder, piece_in, piece_at, pieces_file, pieces_body, pieces_lets, pieces_let, pieces_conds, pieces_opt_conds, pieces_disjs, pieces_disj, pieces_parts, pieces_part, pieces_query, pieces_steps, pieces_step, pieces_expr, pieces_opt_expr, pieces_exprs, pieces_rule, pieces_rules}
 use Rattle.rule_names.specs.Uses.{expr_site}
 use Rattle.rule_names.specs.ReferenceGraph.{part_site}
-use Rattle.rule_names.proofs.FileParts.{file-rise, file_tied}
-use Rattle.rule_names.proofs.Parts.{hits, no-hit, here, elsewhere}
-use Rattle.rule_names.proofs.Increases.{once, times}
-use Rattle.guard_syntax.specs.Sites.{sites_file}
+use Rattle.rule_names.proofs.Increases.{once, times, upto-rises}
+use Rattle.rule_names.proofs.Parts.{Ties, hits, no-hit, here, elsewhere, ties-cons, ties-merge}
+use Rattle.rule_names.proofs.Tied.{tied-disjs, tied-lets, tied-rules}
+use Rattle.guard_syntax.specs.Sites.{merge, sites_disjs, sites_file, sites_lets, sites_rules, upto}
 
 -- ---- what holds of each piece
 
@@ -215,12 +213,19 @@ module _ (file : File) where
   pub found-whole : IsOrdered → (n : ℕ) (p : Piece) → piece_at file n ≡ Some p → HasSite n p × Each IsAt (pieces_of p)
   found-whole ordered n p there = found-one (Whole IsAt) (pieces_file file) n p (whole-file IsAt file ordered) there
 
+-- the pieces of a file have its sites
+file-tied : (f : File) → Ties (pieces_file f) (sites_file f)
+file-tied f =
+    let items = merge (sites_rules f.rules) (sites_disjs f.loose) in
+    let tied = ties-merge (pieces_rules f.rules) (pieces_disjs f.loose) (sites_rules f.rules) (sites_disjs f.loose) (tied-rules f.rules) (tied-disjs f.loose) in
+    ties-cons 0 OfFile (pieces_lets f.lets ++ (pieces_rules f.rules ++ pieces_disjs f.loose)) (merge (sites_lets f.lets) items)
+    (ties-merge (pieces_lets f.lets) (pieces_rules f.rules ++ pieces_disjs f.loose) (sites_lets f.lets) items (tied-lets f.lets) tied)
+
 -- each site of a file whose sites are in order stands once
-pub sites-alone : (f : RawFile) → AreInOrder (see_file f) → (n : ℕ) → hits n (pieces_file (see_file f)) ≤ 1
+pub sites-alone : (f : File) → AreInOrder f → (n : ℕ) → hits n (pieces_file f) ≤ 1
 sites-alone f order n =
-    let most : times n (sites_file (see_file f)) ≤ 1 = once n 0 (sites_file (see_file f)) (file-rise f order).up in
-    let same : hits n (pieces_file (see_file f)) ≡ times n (sites_file (see_file f)) = (file_tied f.rules.items f.loose.items f.lets.items).same n in
-    subst (λ (k : ℕ). k ≤ 1) (sym same) most
+    let same : hits n (pieces_file f) ≡ times n (upto 0 (length f.places)) = (file-tied f).same n ∙ ap (times n) order in
+    omega (arith, same, once n 0 (upto 0 (length f.places)) (upto-rises 0 (length f.places)))
 
 -- so each piece is found at its site
 pub ordered-by : (f : File) → ((n : ℕ) → hits n (pieces_file f) ≤ 1) → IsOrdered f

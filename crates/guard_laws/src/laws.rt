@@ -5,7 +5,6 @@ ghost use Rattle.evidence_lines.specs.declared.line.Line.{Line};
 ghost use Rattle.evidence_lines.specs.declared.version.Version.{Version};
 ghost use Rattle.guard_drill.specs.DrillTexts.{template_text};
 ghost use Rattle.guard_syntax.specs.Syntax.{File};
-ghost use Rattle.rule_names.specs.Files.{file_of};
 ghost use Rattle.rule_meaning.specs.FunctionMeaning.{IsAnswering};
 ghost use Rattle.rule_meaning.specs.Locations.{Answers};
 ghost use Rattle.guard_ends.specs.Check.{accepted_text};
@@ -20,9 +19,8 @@ ghost use Rattle.guard_ends.specs.declared.format.Format.{Format};
 
 use evidence_lines::one_text;
 use evidence_truth::lines_true;
-use guard_parser::one_syntax;
+use guard_parser::{one_syntax, sites_in_order};
 use json_reader::{one_refusal, one_tree, refused_apart};
-use rule_names::RuleFile;
 use std::str;
 
 /// The law that a call has one end: where the contents of the files are told, two ends that the definition gives are
@@ -66,15 +64,16 @@ pub fn accepted_is_checked(rules: &[u8], template: &[u8], evidence: &[u8])
     one_text();
 }
 
-/// The law that accepted evidence is true, whoever wrote it: what out takes of it are the verdicts of the rules by their
-/// meaning over the template, those that the report has.
-pub fn accepted_is_true(rules: &RuleFile)
-    ensures { (version : Version) (template : Forest) (lines : List Line) (answers : Answers) (e : Ended)
-        → IsChecked (file_of rules.now) template version lines e → e.how ≡ end_is.Accepted
-        → IsAnswering (world_over (file_of rules.now) template answers)
-        → e.out ≡ accepted_text (file_of rules.now) (verdicts_of (world_over (file_of rules.now) template answers)) }
+/// The law that accepted evidence is true, whoever wrote it: for bytes that are a rule file, what out takes of it are the verdicts of the
+/// rules by their meaning over the template, those that the report has.
+pub fn accepted_is_true()
+    ensures { (bytes : List ℕ) (rules : File) (version : Version) (template : Forest) (lines : List Line) (answers : Answers) (e : Ended)
+        → IsRuleFile bytes rules → IsChecked rules template version lines e → e.how ≡ end_is.Accepted
+        → IsAnswering (world_over rules template answers)
+        → e.out ≡ accepted_text rules (verdicts_of (world_over rules template answers)) }
 {
-    lines_true(rules);
+    lines_true();
+    sites_in_order();
 }
 
 /// The law that a drill has one end in the same sense, whatever the files hold: by the text of its template.

@@ -1,6 +1,7 @@
 mod FailingParts
 mod GivenAnswers
 mod OneMeaning
+mod SameEntries
 mod SameParts
 mod Unfolded
 mod WeighedParts

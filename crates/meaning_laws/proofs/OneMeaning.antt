@@ -115,10 +115,10 @@ module _ (f : File) (fine : IsFine f) (world : World) (is : world.file ≡ f) wh
   here : IsFine world.file
   here = subst IsFine (sym is) fine
 
-  shallow : AreShallow world.file (depths_of world.file)
+  pub shallow : AreShallow world.file (depths_of world.file)
   shallow = file-shallow world.file here.shallow
 
-  told : (site : ℕ) → depth_piece world.file (depths_of world.file) (piece_at world.file site) ≤ depth_at world.file (depths_of world.file) site
+  pub told : (site : ℕ) → depth_piece world.file (depths_of world.file) (piece_at world.file site) ≤ depth_at world.file (depths_of world.file) site
   told = piece-depth world.file (depths_of world.file) here.settled here.ordered (pieces-shallow world.file (depths_of world.file) shallow)
 
   enough : (n : ℕ) → Agree world (depths_of world.file) depth_limit (unfolded world (n + depth_limit)) (unfolded world depth_limit)

@@ -1,2 +1,3 @@
 pub mod Answered
+pub mod Entries
 pub mod Weights
