@@ -1,22 +1,27 @@
 -- Which bytes are read as rules, as a template and as evidence, and why others are refused: beside each refusal the
 -- condition under which it comes. Of the refusals of one file no two conditions hold together, but that the place of Syntax
 -- in rules may be one of several.
-use Rattle.std.specs.Prelude.{ℕ, ◌<◌, ◌≤◌, ◌≡◌, ◌⊎◌, List, Option, Some, None, IsUtf8, length}
+use Rattle.std.specs.Prelude.{ℕ, ◌<◌, ◌≤◌, ◌≡◌, ◌⊎◌, List, Option, Some, None, IsUtf8, codes, length, nat_eq, if◌then◌else◌}
+use Rattle.std.specs.List.{ends_with}
 use Rattle.doc_values.specs.Tree.{Forest}
 use Rattle.evidence_lines.specs.Text.{IsEvidence, IsFault}
-use Rattle.evidence_lines.specs.declared.line.Line.{Line}
-use Rattle.evidence_lines.specs.declared.version.Version.{Version}
+use Rattle.evidence_lines.specs.Versioned.{Versioned}
 use Rattle.json_reader.specs.Json.{Json}
 use Rattle.json_reader.specs.Refusals as json
+use Rattle.json_reader.specs.declared.refusal.JsonRefusal.{JsonRefusal}
 use Rattle.json_reader.specs.declared.refusal.JsonRefusal.TheVariants as json_refusal
 use Rattle.yaml_blocks.specs.Answers as yaml
 use Rattle.yaml_blocks.specs.declared.refusal.YamlRefusal.{YamlRefusal}
 use Rattle.yaml_blocks.specs.declared.refusal.YamlRefusal.TheVariants as yaml_refusal
 use Rattle.guard_lexer.specs.Lexes as lex
 use Rattle.guard_lexer.specs.declared.token.Token.{Token}
+use Rattle.guard_lexer.specs.declared.token.LexRefusal.{LexRefusal}
 use Rattle.guard_lexer.specs.declared.token.LexRefusal.TheVariants as lex_refusal
 use Rattle.guard_syntax.specs.Syntax.{File}
-use Rattle.guard_parser.specs.File.{Rules, IsTooDeep, IsDeadEnd, IsBadRange}
+use Rattle.guard_parser.specs.File as syntax
+use Rattle.guard_parser.specs.File.{Rules}
+use Rattle.guard_parser.specs.declared.refusal.ParseRefusal.{ParseRefusal}
+use Rattle.guard_parser.specs.declared.refusal.ParseRefusal.TheVariants as parse_refusal
 use Rattle.rule_names.specs.Faults.{Fault}
 use Rattle.rule_names.specs.WellNamed.{WellNamed, IsNameFault}
 use Rattle.rule_names.specs.declared.name_kind.NameKind.{NameKind}
@@ -54,6 +59,10 @@ proof_limit = 268435456
 
 -- Templates.
 
+-- the format in which a template is read, by its name: JSON where that ends in `.json`, YAML where it ends otherwise
+abbrev pub format_of : List ℕ → Format
+format_of name = if ends_with nat_eq name (codes ".json") then format.Json else format.Yaml
+
 -- the tree that a text stands for in a format
 abbrev pub IsTreeOf : Format → List ℕ → Forest → Type 0
 IsTreeOf format.Json text tree = Json text tree
@@ -64,13 +73,17 @@ pub record IsTemplate (f : Format) (bytes : List ℕ) (tree : Forest) : Type 0 w
   pub text : IsText template_limit bytes
   pub read : IsTreeOf f bytes tree
 
+-- the kind and the place of a refusal of JSON; want of memory has none
+abbrev pub json_kind : JsonRefusal → Option (RefusalKind × ℕ)
+json_kind (json_refusal.Syntax at) = Some (Syntax, at)
+json_kind (json_refusal.DuplicateKey at) = Some (DuplicateKey, at)
+json_kind (json_refusal.NumberRange at) = Some (NumberRange, at)
+json_kind (json_refusal.TooDeep at) = Some (TooDeep, at)
+json_kind json_refusal.NoMemory = None
+
 -- what is the matter with a text as JSON, and at which byte offset
 abbrev pub RefusesJson : List ℕ → RefusalKind → ℕ → Type 0
-RefusesJson text Syntax at = json.IsRefused text (json_refusal.Syntax at)
-RefusesJson text DuplicateKey at = json.IsRefused text (json_refusal.DuplicateKey at)
-RefusesJson text NumberRange at = json.IsRefused text (json_refusal.NumberRange at)
-RefusesJson text TooDeep at = json.IsRefused text (json_refusal.TooDeep at)
-RefusesJson text _ at = ⊥
+RefusesJson text kind at = (r : JsonRefusal) × (json_kind r ≡ Some (kind, at)) × json.IsRefused text r
 
 -- what a refusal of YAML is for a template: its kind at its place, or that the template is not read so far; want of memory
 -- is none
@@ -109,19 +122,26 @@ pub record IsRuleFile (bytes : List ℕ) (syntax_tree : File) : Type 0 where
   pub read : IsSyntax bytes syntax_tree
   pub named : WellNamed syntax_tree
 
+-- the kind and the place of a refusal of tokens, and of syntax; want of memory has none
+abbrev pub lex_kind : LexRefusal → Option (RefusalKind × ℕ)
+lex_kind (lex_refusal.Unclosed at) = Some (Unclosed, at)
+lex_kind (lex_refusal.BadByte at) = Some (BadByte, at)
+lex_kind (lex_refusal.NumberRange at) = Some (NumberRange, at)
+lex_kind lex_refusal.NoMemory = None
+
+abbrev pub parse_kind : ParseRefusal → Option (RefusalKind × ℕ)
+parse_kind (parse_refusal.NestTooDeep at) = Some (NestTooDeep, at)
+parse_kind (parse_refusal.Syntax at) = Some (Syntax, at)
+parse_kind (parse_refusal.BadRange at) = Some (BadRange, at)
+parse_kind parse_refusal.NoMemory = None
+
 -- what is the matter with a text that has no tokens, and at which byte offset
 abbrev pub RefusesTokens : List ℕ → RefusalKind → ℕ → Type 0
-RefusesTokens text Unclosed at = lex.IsRefused text (lex_refusal.Unclosed at)
-RefusesTokens text BadByte at = lex.IsRefused text (lex_refusal.BadByte at)
-RefusesTokens text NumberRange at = lex.IsRefused text (lex_refusal.NumberRange at)
-RefusesTokens text _ at = ⊥
+RefusesTokens text kind at = (r : LexRefusal) × (lex_kind r ≡ Some (kind, at)) × lex.IsRefused text r
 
 -- and with the tokens of a text that have no syntax
 abbrev pub RefusesSyntax : List ℕ → List Token → RefusalKind → ℕ → Type 0
-RefusesSyntax text tokens NestTooDeep at = IsTooDeep text tokens at
-RefusesSyntax text tokens Syntax at = IsDeadEnd text tokens at
-RefusesSyntax text tokens BadRange at = IsBadRange text tokens at
-RefusesSyntax text tokens _ at = ⊥
+RefusesSyntax text tokens kind at = (r : ParseRefusal) × (parse_kind r ≡ Some (kind, at)) × syntax.IsRefused text tokens r
 
 -- either of them
 abbrev pub RefusesText : List ℕ → RefusalKind → ℕ → Type 0
@@ -164,10 +184,10 @@ RefusesRules bytes _ = ⊥
 
 -- Evidence.
 
--- bytes that are evidence of this version and these lines
-pub record IsProof (bytes : List ℕ) (version : Version) (lines : List Line) : Type 0 where
+-- bytes that are evidence of a version and its lines
+pub record IsProof (bytes : List ℕ) (evidence : Versioned) : Type 0 where
   pub within : length bytes ≤ proof_limit
-  pub read : IsEvidence bytes version lines
+  pub read : IsEvidence bytes evidence.version evidence.lines
 
 -- why evidence with these bytes is refused: they are too many, or a line is not in the format
 abbrev pub RefusesProof : List ℕ → Refusal → Type 0

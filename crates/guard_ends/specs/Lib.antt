@@ -3,6 +3,6 @@ pub mod Drill
 pub mod End
 pub mod Inputs
 pub mod Lines
+pub mod Order
 pub mod Report
 pub mod Reported
-pub mod Request

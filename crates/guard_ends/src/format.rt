@@ -1,6 +1,6 @@
 //! The format of a template.
 ghost use Rattle.std.specs.Prelude.{◌≡◌};
-ghost use Rattle.guard_ends.specs.Request.{format_of};
+ghost use Rattle.guard_ends.specs.Inputs.{format_of};
 
 /// How the text of a template is written.
 #[derive(Clone, Copy, Debug, PartialEq, Eq)]

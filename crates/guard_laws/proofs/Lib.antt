@@ -1,10 +1,10 @@
-mod Accepted
 mod MeantVerdicts
 mod OneCheck
 mod OneEnd
 mod OneFault
 mod OnePattern
 mod OneRules
+mod OneStage
 mod OneSyntax
 mod OneTemplate
 mod OneText

@@ -5,6 +5,7 @@ use Rattle.std.proofs.lemmas.List.{append_assoc, map-append}
 use Rattle.std.proofs.lemmas.List.Concat.{flat_map-cons}
 use Rattle.doc_values.specs.Tree.{Forest}
 use Rattle.evidence_rules.specs.RuleLines.{AreOfRules}
+use Rattle.evidence_lines.specs.Versioned.{Versioned}
 use Rattle.evidence_lines.specs.declared.line.Line.{Line}
 use Rattle.evidence_lines.specs.declared.version.Version.{Version}
 use Rattle.guard_syntax.specs.Named.{Named}
@@ -17,7 +18,7 @@ use Rattle.rule_meaning.specs.FunctionMeaning.{IsAnswering}
 use Rattle.rule_meaning.specs.Locations.{Answers, World}
 use Rattle.rule_meaning.specs.NameMeaning.{rule_verdict}
 use Rattle.guard_ends.specs.Check.{accepted_text}
-use Rattle.guard_ends.specs.End.{Ended, IsChecked}
+use Rattle.guard_ends.specs.Order.{Ended, IsChecked}
 use Rattle.guard_ends.specs.Reported.{Reported, if_plain, of_loose, of_rule, verdicts_of, world_over}
 use Rattle.guard_ends.specs.declared.ends.End.TheVariants as end_is
 
@@ -49,10 +50,12 @@ IsTrue file =
     → IsAnswering (world_of (nothing_made template file) answers) → AreOfRules lines file.rules file.loose verdicts
     → verdicts ≡ said.verdicts_of (world_of (nothing_made template file) answers) file.rules file.loose
 
-pub accepted-meant : (file : File) → IsTrue file → (version : Version) (template : Forest) (lines : List Line) (answers : Answers) (e : Ended) → IsChecked file template version lines e → e.how ≡ end_is.Accepted
-    → IsAnswering (world_over file template answers) → e.out ≡ accepted_text file (verdicts_of (world_over file template answers))
-accepted-meant file true version template lines answers e (inl (verdicts, accepts, are, is)) how answering =
-    let meant : verdicts ≡ said.verdicts_of (world_over file template answers) file.rules file.loose = true version template lines answers verdicts accepts.follow answering are in
+pub accepted-meant : (file : File) → IsTrue file → (evidence : Versioned) (template : Forest) (answers : Answers) (e : Ended)
+    → IsChecked file template evidence e → e.how ≡ end_is.Accepted → IsAnswering (world_over file template answers)
+    → e.out ≡ accepted_text file (verdicts_of (world_over file template answers))
+accepted-meant file true evidence template answers e (inl (verdicts, accepts, are, is)) how answering =
+    let meant : verdicts ≡ said.verdicts_of (world_over file template answers) file.rules file.loose =
+    true evidence.version template evidence.lines answers verdicts accepts.follow answering are in
     ap (λ (x : Ended). x.out) is ∙ ap (accepted_text file) (meant ∙ sym (rules-same (world_over file template answers) file.rules file.loose))
-accepted-meant file true version template lines answers e (inr (number, rejected, is)) how answering =
+accepted-meant file true evidence template answers e (inr (number, rejected, is)) how answering =
     absurd (let bad : end_is.Rejected number ≡ end_is.Accepted = sym (ap (λ (x : Ended). x.how) is) ∙ how in cc)

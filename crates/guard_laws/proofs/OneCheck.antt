@@ -1,8 +1,9 @@
 -- Evidence is judged in one way, where its bytes have one list of lines or one fault.
-use Rattle.std.proofs.Common.{◌≡◌, ◌⊎◌, ◌≤◌, ◌<◌, ℕ, zero, suc, true, refl, sym, ap, ◌∙◌, subst, inl, inr, arith, List, [], ◌∷◌, ◌++◌, Option, Some, length, take}
+use Rattle.std.proofs.Common.{◌≡◌, ◌⊎◌, ◌≤◌, ◌<◌, ℕ, zero, suc, refl, sym, ap, ap₂, ◌∙◌, subst, inl, inr, arith, List, [], ◌∷◌, ◌++◌, Some, length, take}
 use Rattle.doc_values.specs.Tree.{Forest}
 use Rattle.evidence_rules.specs.Rejected.{IsRejectedAt}
 use Rattle.evidence_lines.specs.Text.{IsEvidence, IsFault}
+use Rattle.evidence_lines.specs.Versioned.{Versioned}
 use Rattle.evidence_lines.specs.declared.line.Line.{Line}
 use Rattle.evidence_lines.specs.declared.version.Version.{Version}
 use Rattle.guard_syntax.specs.Syntax.{File}
@@ -11,12 +12,13 @@ use Rattle.rule_meaning.specs.StoreModel.{StoreModel}
 use Rattle.evidence_rules.specs.Follows.{Accepts, AllFollow, nothing_made}
 use Rattle.rule_meaning.specs.Seeing.{grown}
 use Rattle.guard_ends.specs.Check.{accepted_text, rejected_text}
-use Rattle.guard_ends.specs.End.{Ended, EndOfCheck, EndOfProof, IsChecked, is_checked, refused}
 use Rattle.guard_ends.specs.Inputs.{IsProof, IsTooLong, RefusesProof, proof_limit}
+use Rattle.guard_ends.specs.Order.{Contents, Ended, Ending, Ends, Inputs, IsChecked, OfEvidence, Reading, Work}
 use Rattle.guard_ends.specs.declared.ends.End.TheVariants as end_is
 use Rattle.guard_ends.specs.declared.ends.Refusal.{Refusal}
 use Rattle.guard_ends.specs.declared.ends.Refusal.TheVariants.{DataUnread, TooLong, NotText, EvidenceSyntax, At}
 use Rattle.guard_ends.specs.declared.ends.Which.TheVariants as file
+use Rattle.guard_laws.proofs.OneStage.{HasOne, OneReading, ending-is, ending-one, loaded, loading-one, read-goes, reading-one}
 use Rattle.guard_laws.proofs.OneVerdict.{said-one, verdicts-one}
 
 -- ---- the first line that does not follow is one
@@ -59,23 +61,30 @@ module _ (version : Version) (template : Forest) (rules : File) (lines : List Li
   rejected-one n m (inr (is, all, not)) (inl (before, is', within, follow, fails)) = absurd (fails (follow-take version (nothing_made template rules) [] m lines all))
   rejected-one n m (inr (is, all, not)) (inr (is', all', not')) = is ∙ sym is'
 
-  abbrev accepted-as : List Verdict → Ended
-  accepted-as vs = record { how = end_is.Accepted; out = accepted_text rules vs; err = [] }
+abbrev accepted-as : File → List Verdict → Ended
+accepted-as rules vs = record { how = end_is.Accepted; out = accepted_text rules vs; err = [] }
 
-  abbrev rejected-as : ℕ → Ended
-  rejected-as n = record { how = end_is.Rejected n; out = rejected_text n; err = [] }
+abbrev rejected-as : ℕ → Ended
+rejected-as n = record { how = end_is.Rejected n; out = rejected_text n; err = [] }
 
-  checked-one : (e other : Ended) → IsChecked rules template version lines e → IsChecked rules template version lines other → e ≡ other
-  checked-one e other (inl (vs, accepted, are, is)) (inl (ws, accepted', are', is')) =
-      is ∙ (ap accepted-as (verdicts-one lines (said-one version template rules lines accepted.follow) rules.rules rules.loose vs ws are are') ∙ sym is')
-  checked-one e other (inl (vs, accepted, are, is)) (inr (n, rejected, is')) = absurd (rejected-apart n accepted rejected)
-  checked-one e other (inr (n, rejected, is)) (inl (ws, accepted, are, is')) = absurd (rejected-apart n accepted rejected)
-  checked-one e other (inr (n, rejected, is)) (inr (m, rejected', is')) = is ∙ (ap rejected-as (rejected-one n m rejected rejected') ∙ sym is')
+checked-one : (rules : File) (template : Forest) (evidence : Versioned) (e other : Ended)
+    → IsChecked rules template evidence e → IsChecked rules template evidence other → e ≡ other
+checked-one rules template evidence e other (inl (vs, accepted, are, is)) (inl (ws, accepted', are', is')) =
+    is
+    ∙ (ap (accepted-as rules)
+    (verdicts-one evidence.lines (said-one evidence.version template rules evidence.lines accepted.follow) rules.rules rules.loose vs ws are are') ∙ sym is')
+checked-one rules template evidence e other (inl (vs, accepted, are, is)) (inr (n, rejected, is')) =
+    absurd (rejected-apart evidence.version template rules evidence.lines n accepted rejected)
+checked-one rules template evidence e other (inr (n, rejected, is)) (inl (ws, accepted, are, is')) =
+    absurd (rejected-apart evidence.version template rules evidence.lines n accepted rejected)
+checked-one rules template evidence e other (inr (n, rejected, is)) (inr (m, rejected', is')) =
+    is ∙ (ap rejected-as (rejected-one evidence.version template rules evidence.lines n m rejected rejected') ∙ sym is')
 
--- what was judged ends as evidence that was judged
-pub checked-ends : (rules : File) (template : Forest) (version : Version) (lines : List Line) (e : Ended) → IsChecked rules template version lines e → is_checked e.how ≡ true
-checked-ends rules template version lines e (inl (vs, accepted, are, is)) = ap (λ (x : Ended). is_checked x.how) is
-checked-ends rules template version lines e (inr (n, rejected, is)) = ap (λ (x : Ended). is_checked x.how) is
+-- lines that are to be accepted are not rejected
+pub accepted-ends : (rules : File) (template : Forest) (evidence : Versioned) (e : Ended)
+    → Accepts evidence.version template rules evidence.lines → IsChecked rules template evidence e → e.how ≡ end_is.Accepted
+accepted-ends rules template evidence e accepts (inl (verdicts, accepted, are, is)) = ap (λ (x : Ended). x.how) is
+accepted-ends rules template evidence e accepts (inr (n, rejected, is)) = absurd (rejected-apart evidence.version template rules evidence.lines n accepts rejected)
 
 -- ---- bytes have lines or a refusal
 
@@ -109,27 +118,41 @@ module _ (bytes : List ℕ) (laws : EvidenceLaws bytes) where
   why-one r q (inr (n, is, within, fault)) (inl (is', long)) = absurd (long-apart bytes long within)
   why-one r q (inr (n, is, within, fault)) (inr (m, is', within', fault')) = is ∙ (ap (λ k. EvidenceSyntax k) (laws.fault n m fault fault') ∙ sym is')
 
-  why-apart : (r : Refusal) (version : Version) (lines : List Line) → ProofWhy bytes r → IsProof bytes version lines → ⊥
-  why-apart r version lines (inl (is, long)) whole = long-apart bytes long whole.within
-  why-apart r version lines (inr (n, is, within, fault)) whole = laws.apart version lines n whole.read fault
+  why-apart : (r : Refusal) (evidence : Versioned) → ProofWhy bytes r → IsProof bytes evidence → ⊥
+  why-apart r evidence (inl (is, long)) whole = long-apart bytes long whole.within
+  why-apart r evidence (inr (n, is, within, fault)) whole = laws.apart evidence.version evidence.lines n whole.read fault
 
-  pub refusal-apart : (r : Refusal) (version : Version) (lines : List Line) → RefusesProof bytes r → IsProof bytes version lines → ⊥
-  refusal-apart r version lines h whole = why-apart r version lines (proof-why bytes r h) whole
+  evidence-one : (x y : Versioned) → IsProof bytes x → IsProof bytes y → x ≡ y
+  evidence-one x y whole whole' =
+      let same = laws.lines x.version y.version x.lines y.lines whole.read whole'.read in
+      let made : Version → List Line → Versioned = λ version lines. record { version = version; lines = lines } in
+      ap₂ made same.0 same.1
 
-  proof-one : (rules : File) (template : Forest) (e other : Ended) → EndOfProof rules template bytes e → EndOfProof rules template bytes other → e ≡ other
-  proof-one rules template e other (inl (r, h, is)) (inl (q, h', is')) =
-      is ∙ (ap (refused bytes) (why-one r q (proof-why bytes r h) (proof-why bytes q h')) ∙ sym is')
-  proof-one rules template e other (inl (r, h, is)) (inr (version, lines, whole, judged)) = absurd (refusal-apart r version lines h whole)
-  proof-one rules template e other (inr (version, lines, whole, judged)) (inl (r, h, is)) = absurd (refusal-apart r version lines h whole)
-  proof-one rules template e other (inr (version, lines, whole, judged)) (inr (version', lines', whole', judged')) =
-      let same = laws.lines version' version lines' lines whole'.read whole.read in
-      let here : IsChecked rules template version lines' other = subst (λ (v : Version). IsChecked rules template v lines' other) same.0 judged' in
-      checked-one version template rules lines e other judged (subst (λ (ls : List Line). IsChecked rules template version ls other) same.1 here)
+  pub proof-reading : OneReading Versioned RefusesProof IsProof bytes
+  proof-reading = record {
+    one = evidence-one;
+    refusal = λ r q h h'. why-one r q (proof-why bytes r h) (proof-why bytes q h');
+    apart = λ r evidence h whole. why-apart r evidence (proof-why bytes r h) whole;
+  }
 
--- where the evidence is told, a check has one end
-pub check-one : (bytes : List ℕ) → EvidenceLaws bytes → (told : Option (List ℕ)) → told ≡ Some bytes → (rules : File) (template : Forest) (e other : Ended)
-    → EndOfCheck told rules template e → EndOfCheck told rules template other → e ≡ other
-check-one bytes laws told known rules template e other (b, content, end) (b', content', end') =
-    proof-one bytes laws rules template e other
-    (subst (λ (x : List ℕ). EndOfProof rules template x e) (content bytes known) end)
-    (subst (λ (x : List ℕ). EndOfProof rules template x other) (content' bytes known) end')
+module _ (bytes : List ℕ) (laws : EvidenceLaws bytes) (told : Contents) (name : List ℕ) (known : told name ≡ Some bytes) (inputs : Inputs) where
+  abbrev Judges : Versioned → Work
+  Judges evidence = Ending (IsChecked inputs.rules inputs.tree evidence)
+
+  abbrev Reads_proof : List ℕ → Work
+  Reads_proof read = Reading RefusesProof IsProof read Judges
+
+  -- where evidence is told, it is judged with one end
+  pub proof-one : HasOne (OfEvidence told name inputs)
+  proof-one =
+      loading-one file.Proof told name bytes Reads_proof known
+      (reading-one Versioned RefusesProof IsProof bytes Judges (proof-reading bytes laws)
+      (λ evidence. ending-one (IsChecked inputs.rules inputs.tree evidence) (checked-one inputs.rules inputs.tree evidence)))
+
+  -- and where it is read, its end is that of its lines
+  pub proof-goes : (evidence : Versioned) → IsProof bytes evidence → (e : Ended) → OfEvidence told name inputs (Ends e)
+      → IsChecked inputs.rules inputs.tree evidence e
+  proof-goes evidence whole e came =
+      ending-is (IsChecked inputs.rules inputs.tree evidence) e
+      (read-goes Versioned RefusesProof IsProof bytes Judges (proof-reading bytes laws) evidence whole e
+      (loaded file.Proof told name bytes Reads_proof known e came))

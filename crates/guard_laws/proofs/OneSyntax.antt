@@ -3,6 +3,7 @@
 use Rattle.std.proofs.Common.{◌≡◌, ◌⊎◌, ◌<◌, ◌≤◌, ℕ, List, length, map, Option, Some, None, Result, Ok, Err, true, false, arith, inl, inr, refl, sym, ap, subst, ◌∙◌}
 use Rattle.std.proofs.lemmas.Bool.{cases_lt, cases_order}
 use Rattle.std.proofs.lemmas.List.{length-map, get_or_past}
+use Rattle.std.proofs.lemmas.Option.{none-some, some_pair_parts}
 use Rattle.guard_lexer.specs.Lexes as lex
 use Rattle.guard_lexer.specs.declared.token.Token.{Token}
 use Rattle.guard_lexer.specs.declared.token.LexRefusal.{LexRefusal}
@@ -12,12 +13,11 @@ use Rattle.guard_syntax.specs.Syntax.{File}
 use Rattle.literal_parser.specs.Forms.{form, is_opening}
 use Rattle.literal_parser.specs.Lexemes.{lexemes, lexeme_of, ending}
 use Rattle.guard_parser.specs.File.{Rules, IsSpelled, IsShallow, IsTooDeep, IsDeadEnd, IsBadRange, open_before}
+use Rattle.guard_parser.specs.declared.refusal.ParseRefusal.TheVariants as parse_refusal
 use Rattle.guard_parser.proofs.Count.{few_tokens}
 use Rattle.guard_ends.specs.declared.ends.RefusalKind.{RefusalKind}
-use Rattle.guard_ends.specs.declared.ends.RefusalKind.TheVariants.{Unclosed, BadByte, NumberRange, NestTooDeep, Syntax, BadRange, DuplicateRule, DuplicateName, UnknownRule, UnknownVariable, UnknownFunction, NeedsArguments, TakesNone, ArgCount, LiteralWanted, RecursiveRule, RecursiveVariable, TooDeep, DuplicateKey, Tab, Anchor, Tag, Directive, ManyDocuments, BadPattern}
-use Rattle.guard_ends.specs.Inputs.{IsSyntax, RefusesTokens, RefusesSyntax, RefusesText}
-use Rattle.guard_run.specs.Refusals.{lex_kind}
-use Rattle.guard_run.proofs.Refusing.{pair-one}
+use Rattle.guard_ends.specs.declared.ends.RefusalKind.TheVariants.{NestTooDeep, Syntax, BadRange}
+use Rattle.guard_ends.specs.Inputs.{IsSyntax, RefusesTokens, RefusesSyntax, RefusesText, lex_kind}
 
 -- the same kind and place, or Syntax twice
 abbrev pub AreAlike : (kind : RefusalKind) (at : ℕ) (other : RefusalKind) (place : ℕ) → Type 0
@@ -41,47 +41,12 @@ tokens-refused : (text : List ℕ) (q r : LexRefusal) → lex.IsRefused text q �
 tokens-refused text q r (at, bytes, starts, reads) other =
     let read : Result (List Token) LexRefusal = Err q in only_refusal (λ (v : List Token). v) read text at bytes starts tt (inr reads) r other
 
--- the refusal of the lexer, by the kind and the place
-lex-of : (text : List ℕ) (kind : RefusalKind) (at : ℕ) → RefusesTokens text kind at → (r : LexRefusal) × lex.IsRefused text r × (lex_kind r ≡ Some (kind, at))
-lex-of text Unclosed at h = (lex_refusal.Unclosed at, h, refl)
-lex-of text BadByte at h = (lex_refusal.BadByte at, h, refl)
-lex-of text NumberRange at h = (lex_refusal.NumberRange at, h, refl)
-lex-of text NestTooDeep at h = absurd h
-lex-of text Syntax at h = absurd h
-lex-of text BadRange at h = absurd h
-lex-of text DuplicateRule at h = absurd h
-lex-of text DuplicateName at h = absurd h
-lex-of text UnknownRule at h = absurd h
-lex-of text UnknownVariable at h = absurd h
-lex-of text UnknownFunction at h = absurd h
-lex-of text NeedsArguments at h = absurd h
-lex-of text TakesNone at h = absurd h
-lex-of text ArgCount at h = absurd h
-lex-of text LiteralWanted at h = absurd h
-lex-of text RecursiveRule at h = absurd h
-lex-of text RecursiveVariable at h = absurd h
-lex-of text BadPattern at h = absurd h
-lex-of text TooDeep at h = absurd h
-lex-of text DuplicateKey at h = absurd h
-lex-of text Tab at h = absurd h
-lex-of text Anchor at h = absurd h
-lex-of text Tag at h = absurd h
-lex-of text Directive at h = absurd h
-lex-of text ManyDocuments at h = absurd h
-
 lex-alike : (text : List ℕ) (kind : RefusalKind) (at : ℕ) (other : RefusalKind) (place : ℕ) → RefusesTokens text kind at → RefusesTokens text other place
     → AreAlike kind at other place
-lex-alike text kind at other place h h' =
-    let a = lex-of text kind at h in
-    let b = lex-of text other place h' in
-    let p : RefusalKind × ℕ = (kind, at) in
-    let q : RefusalKind × ℕ = (other, place) in
-    elim (tokens-refused text a.0 b.0 a.1 b.1) [
-      | inl none ↦ absurd (let both : None ≡ Some p = sym (ap lex_kind none) ∙ a.2 in cc)
-      | inr same ↦ (
-          let e : p ≡ q = pair-one p q (sym a.2 ∙ (ap lex_kind same ∙ b.2)) in
-          inl (ap (λ (o : RefusalKind × ℕ). o.0) e, ap (λ (o : RefusalKind × ℕ). o.1) e)
-          )
+lex-alike text kind at other place (r, named, h) (q, named', h') =
+    elim (tokens-refused text r q h h') [
+      | inl none ↦ absurd (none-some (kind, at) (sym (ap lex_kind none) ∙ named))
+      | inr same ↦ inl (some_pair_parts kind other at place (sym named ∙ (ap lex_kind same ∙ named')))
     ]
 
 -- Brackets.
@@ -119,31 +84,13 @@ SyntaxWhy text tokens kind at =
     ((kind ≡ NestTooDeep) × IsTooDeep text tokens at) ⊎ ((kind ≡ Syntax) × IsDeadEnd text tokens at) ⊎ ((kind ≡ BadRange) × IsBadRange text tokens at)
 
 syntax-why : (text : List ℕ) (tokens : List Token) (kind : RefusalKind) (at : ℕ) → RefusesSyntax text tokens kind at → SyntaxWhy text tokens kind at
-syntax-why text tokens NestTooDeep at h = inl (refl, h)
-syntax-why text tokens Syntax at h = inr (inl (refl, h))
-syntax-why text tokens BadRange at h = inr (inr (refl, h))
-syntax-why text tokens Unclosed at h = absurd h
-syntax-why text tokens BadByte at h = absurd h
-syntax-why text tokens NumberRange at h = absurd h
-syntax-why text tokens DuplicateRule at h = absurd h
-syntax-why text tokens DuplicateName at h = absurd h
-syntax-why text tokens UnknownRule at h = absurd h
-syntax-why text tokens UnknownVariable at h = absurd h
-syntax-why text tokens UnknownFunction at h = absurd h
-syntax-why text tokens NeedsArguments at h = absurd h
-syntax-why text tokens TakesNone at h = absurd h
-syntax-why text tokens ArgCount at h = absurd h
-syntax-why text tokens LiteralWanted at h = absurd h
-syntax-why text tokens RecursiveRule at h = absurd h
-syntax-why text tokens RecursiveVariable at h = absurd h
-syntax-why text tokens BadPattern at h = absurd h
-syntax-why text tokens TooDeep at h = absurd h
-syntax-why text tokens DuplicateKey at h = absurd h
-syntax-why text tokens Tab at h = absurd h
-syntax-why text tokens Anchor at h = absurd h
-syntax-why text tokens Tag at h = absurd h
-syntax-why text tokens Directive at h = absurd h
-syntax-why text tokens ManyDocuments at h = absurd h
+syntax-why text tokens kind at (parse_refusal.NestTooDeep place, named, h) =
+    let same = some_pair_parts NestTooDeep kind place at named in inl (sym same.0, subst (IsTooDeep text tokens) same.1 h)
+syntax-why text tokens kind at (parse_refusal.Syntax place, named, h) =
+    let same = some_pair_parts Syntax kind place at named in inr (inl (sym same.0, subst (IsDeadEnd text tokens) same.1 h))
+syntax-why text tokens kind at (parse_refusal.BadRange place, named, h) =
+    let same = some_pair_parts BadRange kind place at named in inr (inr (sym same.0, subst (IsBadRange text tokens) same.1 h))
+syntax-why text tokens kind at (parse_refusal.NoMemory, named, h) = absurd (none-some (kind, at) named)
 
 range-one : OneSyntax → (text : List ℕ) (tokens : List Token) (at place : ℕ) → IsBadRange text tokens at → IsBadRange text tokens place → at ≡ place
 range-one law text tokens at place (shallow, (f, spelled)) (shallow', (g, spelled')) =
@@ -182,17 +129,15 @@ syntax-one law text f g (ts, listed, spelled) (us, listed', spelled') =
 pub text-alike : OneSyntax → (text : List ℕ) (kind : RefusalKind) (at : ℕ) (other : RefusalKind) (place : ℕ) → length text ≤ 1048576
     → RefusesText text kind at → RefusesText text other place → AreAlike kind at other place
 text-alike law text kind at other place short (inl h) (inl h') = lex-alike text kind at other place h h'
-text-alike law text kind at other place short (inl h) (inr (us, listed, h')) =
-    let a = lex-of text kind at h in absurd (tokens-apart text us a.0 listed a.1)
-text-alike law text kind at other place short (inr (ts, listed, h)) (inl h') =
-    let b = lex-of text other place h' in absurd (tokens-apart text ts b.0 listed b.1)
+text-alike law text kind at other place short (inl (r, named, h)) (inr (us, listed, h')) = absurd (tokens-apart text us r listed h)
+text-alike law text kind at other place short (inr (ts, listed, h)) (inl (r, named, h')) = absurd (tokens-apart text ts r listed h')
 text-alike law text kind at other place short (inr (ts, listed, h)) (inr (us, listed', h')) =
     let same : us ≡ ts = tokens-one text us ts listed' listed in
     why-alike law text ts kind at other place short listed (syntax-why text ts kind at h)
     (syntax-why text ts other place (subst (λ (ws : List Token). RefusesSyntax text ws other place) same h'))
 
 pub text-apart : OneSyntax → (text : List ℕ) (kind : RefusalKind) (at : ℕ) (f : File) → length text ≤ 1048576 → RefusesText text kind at → IsSyntax text f → ⊥
-text-apart law text kind at f short (inl h) (us, listed, spelled) = let a = lex-of text kind at h in tokens-apart text us a.0 listed a.1
+text-apart law text kind at f short (inl (r, named, h)) (us, listed, spelled) = tokens-apart text us r listed h
 text-apart law text kind at f short (inr (ts, listed, h)) (us, listed', spelled) =
     let same : us ≡ ts = tokens-one text us ts listed' listed in
     why-apart law text ts kind at f short listed (syntax-why text ts kind at h) (subst (λ (ws : List Token). Rules text ws f) same spelled)

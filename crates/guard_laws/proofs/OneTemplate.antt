@@ -1,19 +1,16 @@
 -- A template has one tree or one refusal in its format, where its text has. By the cases of the refusals.
-use Rattle.std.proofs.Common.{◌≡◌, ◌≤◌, ℕ, List, length, None, arith, inl, inr, sym, ap, ◌∙◌, subst, IsUtf8}
+use Rattle.std.proofs.Common.{◌≡◌, ◌≤◌, ℕ, List, length, arith, inl, inr, sym, ap, ◌∙◌, IsUtf8}
 use Rattle.doc_values.specs.Tree.{Forest}
 use Rattle.guard_syntax.specs.Syntax.{File}
 use Rattle.rule_meaning.specs.Locations.{Answers}
 use Rattle.query_steps.proofs.LocatedAnswers.{one-answering}
 use Rattle.guard_ends.specs.Inputs.{IsTooLong, IsTemplate, RefusesTemplate, template_limit}
-use Rattle.guard_ends.specs.End.{Ended, AreRead, EndOfPatterns, EndOfTemplate, IsJudged, judged, refused}
+use Rattle.guard_ends.specs.Order.{AreRead, Ended, Ends, Inputs, IsJudged, MakingPatterns, ReadingInputs, Work, judged}
 use Rattle.guard_ends.specs.Report.{Reporting}
 use Rattle.guard_ends.specs.Reported.{world_over}
 use Rattle.guard_ends.specs.declared.ends.Refusal.{Refusal}
-use Rattle.guard_ends.specs.declared.ends.Refusal.TheVariants.{At}
-use Rattle.guard_ends.specs.declared.ends.RefusalKind.TheVariants.{BadPattern}
-use Rattle.guard_ends.specs.declared.ends.Which.TheVariants as file
 use Rattle.guard_ends.specs.declared.format.Format.{Format}
-use Rattle.guard_laws.proofs.OnePattern.{next-one, next-apart}
+use Rattle.guard_laws.proofs.OneStage.{HasOne, OneReading, patterns-go, patterns-one, read-goes, reading-one}
 use Rattle.guard_laws.proofs.OneText.{OneText}
 
 long-apart : (bytes : List ℕ) → IsTooLong template_limit bytes → length bytes ≤ template_limit → ⊥
@@ -52,37 +49,32 @@ template-laws bytes one = record {
   apart = λ f. why-apart f bytes (one f);
 }
 
--- a template is judged in one way: two answers that functions give are one
-pub judged-one : (made : Reporting) (source : List ℕ) (rules : File) (template : List ℕ) (tree : Forest) (e other : Ended) → IsJudged made source rules template tree e
-    → IsJudged made source rules template tree other → e ≡ other
-judged-one made source rules template tree e other (answers, obey, is) (others, obey', is') =
-    is ∙ (ap (λ (a : Answers). judged made (world_over rules tree a) source template) (one-answering tree rules answers others obey obey') ∙ sym is')
+pub template-reading : (f : Format) (bytes : List ℕ) → OneTemplate bytes → OneReading Forest (RefusesTemplate f) (IsTemplate f) bytes
+template-reading f bytes laws = record { one = laws.tree f; refusal = laws.refusal f; apart = laws.apart f }
 
--- where the work behind the patterns has one end, so has the work with them
-patterns-one : (source : List ℕ) (rules : File) (GoesOn : Ended → Type 0) → ((e other : Ended) → GoesOn e → GoesOn other → e ≡ other) → (e other : Ended)
-    → EndOfPatterns source rules GoesOn e → EndOfPatterns source rules GoesOn other → e ≡ other
-patterns-one source rules GoesOn one e other (inl (text, at, next, bad, is)) (inl (text', at', next', bad', is')) =
-    is ∙ (ap (λ a. refused source (At file.Rules BadPattern a None)) (next-one rules text at text' at' next next' bad bad') ∙ sym is')
-patterns-one source rules GoesOn one e other (inl (text, at, next, bad, is)) (inr (all, is')) = absurd (next-apart rules text at next bad all)
-patterns-one source rules GoesOn one e other (inr (all, is)) (inl (text, at, next, bad, is')) = absurd (next-apart rules text at next bad all)
-patterns-one source rules GoesOn one e other (inr (all, is)) (inr (all', is')) = one e other is is'
+-- inputs are judged in one way: two answers that functions give are one
+pub judged-one : (made : Reporting) (inputs : Inputs) (e other : Ended) → IsJudged made inputs e → IsJudged made inputs other → e ≡ other
+judged-one made inputs e other (answers, obey, is) (others, obey', is') =
+    is
+    ∙ (ap (λ (a : Answers). judged made (world_over inputs.rules inputs.tree a) inputs.source inputs.template)
+    (one-answering inputs.tree inputs.rules answers others obey obey') ∙ sym is')
 
--- and so has the work with the template
-pub template-one : (f : Format) (source : List ℕ) (rules : File) (bytes : List ℕ) → OneTemplate bytes → (GoesOn : Forest → Ended → Type 0)
-    → ((tree : Forest) (e other : Ended) → GoesOn tree e → GoesOn tree other → e ≡ other) → (e other : Ended)
-    → EndOfTemplate f source rules bytes GoesOn e → EndOfTemplate f source rules bytes GoesOn other → e ≡ other
-template-one f source rules bytes laws GoesOn one e other (inl (r, h, is)) (inl (q, h', is')) =
-    is ∙ (ap (refused bytes) (laws.refusal f r q h h') ∙ sym is')
-template-one f source rules bytes laws GoesOn one e other (inl (r, h, is)) (inr (tree, whole, end)) = absurd (laws.apart f r tree h whole)
-template-one f source rules bytes laws GoesOn one e other (inr (tree, whole, end)) (inl (r, h, is)) = absurd (laws.apart f r tree h whole)
-template-one f source rules bytes laws GoesOn one e other (inr (tree, whole, end)) (inr (tree', whole', end')) =
-    let same : tree' ≡ tree = laws.tree f tree' tree whole' whole in
-    patterns-one source rules (GoesOn tree) (one tree) e other end (subst (λ (t : Forest). EndOfPatterns source rules (GoesOn t) other) same end')
+module _ (f : Format) (source : List ℕ) (rules : File) (template : List ℕ) (laws : OneTemplate template) (GoesOn : Inputs → Work) where
+  abbrev with_tree : Forest → Inputs
+  with_tree tree = record { source = source; rules = rules; template = template; tree = tree }
 
--- a template that is read, with patterns that are read, ends by the work behind them
-pub template-goes : (f : Format) (source : List ℕ) (rules : File) (bytes : List ℕ) → OneTemplate bytes → (GoesOn : Forest → Ended → Type 0) (tree : Forest)
-    → IsTemplate f bytes tree → AreRead rules → (e : Ended) → EndOfTemplate f source rules bytes GoesOn e → GoesOn tree e
-template-goes f source rules bytes laws GoesOn tree whole all e (inl (r, h, is)) = absurd (laws.apart f r tree h whole)
-template-goes f source rules bytes laws GoesOn tree whole all e (inr (tree', whole', inl (text, at, next, bad, is))) = absurd (next-apart rules text at next bad all)
-template-goes f source rules bytes laws GoesOn tree whole all e (inr (tree', whole', inr (all', end))) =
-    subst (λ (t : Forest). GoesOn t e) (laws.tree f tree' tree whole' whole) end
+  abbrev Makes_patterns : Forest → Work
+  Makes_patterns tree = MakingPatterns source rules (GoesOn (with_tree tree))
+
+  -- where the work with the inputs has one end, so has the work that reads them
+  pub inputs-one : ((inputs : Inputs) → HasOne (GoesOn inputs)) → HasOne (ReadingInputs f source rules template GoesOn)
+  inputs-one one =
+      reading-one Forest (RefusesTemplate f) (IsTemplate f) template Makes_patterns (template-reading f template laws)
+      (λ tree. patterns-one source rules (GoesOn (with_tree tree)) (one (with_tree tree)))
+
+  -- a template that is read, with patterns that are read, ends by the work behind them
+  pub inputs-go : (tree : Forest) → IsTemplate f template tree → AreRead rules → (e : Ended) → ReadingInputs f source rules template GoesOn (Ends e)
+      → GoesOn (with_tree tree) (Ends e)
+  inputs-go tree whole all e came =
+      patterns-go source rules (GoesOn (with_tree tree)) all e
+      (read-goes Forest (RefusesTemplate f) (IsTemplate f) template Makes_patterns (template-reading f template laws) tree whole e came)

@@ -1,26 +1,24 @@
 -- A text has one tree or one refusal in a format, where the laws of the reader of JSON hold of it. By the cases of the refusals.
-use Rattle.std.proofs.Common.{◌≡◌, ◌⊎◌, ℕ, List, Some, None, inl, inr, refl, sym, ap, ◌∙◌}
+use Rattle.std.proofs.Common.{◌≡◌, ◌⊎◌, ℕ, List, Some, None, inl, inr, sym, ap, ◌∙◌}
+use Rattle.std.proofs.lemmas.Option.{some_pair_parts}
 use Rattle.doc_values.specs.Tree.{Forest}
 use Rattle.json_reader.specs.Json.{Json}
 use Rattle.json_reader.specs.Refusals.{IsRefused}
 use Rattle.json_reader.specs.declared.refusal.JsonRefusal.{JsonRefusal}
-use Rattle.json_reader.specs.declared.refusal.JsonRefusal.TheVariants as json
 use Rattle.yaml_blocks.specs.Answers.{IsSignOf, Reads, Refuses}
 use Rattle.yaml_blocks.specs.Signs.{Sign}
 use Rattle.yaml_blocks.specs.Signs as sign
 use Rattle.yaml_blocks.specs.Yaml.{Counts, IsYaml}
 use Rattle.yaml_blocks.specs.declared.refusal.YamlRefusal.{YamlRefusal}
 use Rattle.yaml_blocks.specs.declared.refusal.YamlRefusal.TheVariants as yaml
-use Rattle.guard_ends.specs.Inputs.{IsTreeOf, RefusesJson, RefusesTree, of_yaml}
-use Rattle.guard_run.specs.Refusals.{json_kind}
+use Rattle.guard_ends.specs.Inputs.{IsTreeOf, RefusesJson, RefusesTree, json_kind, of_yaml}
 use Rattle.guard_ends.specs.declared.ends.Refusal.{Refusal}
 use Rattle.guard_ends.specs.declared.ends.Refusal.TheVariants.{DataUnread, At}
 use Rattle.guard_ends.specs.declared.ends.RefusalKind.{RefusalKind}
-use Rattle.guard_ends.specs.declared.ends.RefusalKind.TheVariants.{Unclosed, BadByte, NumberRange, NestTooDeep, Syntax, BadRange, DuplicateRule, DuplicateName, UnknownRule, UnknownVariable, UnknownFunction, NeedsArguments, TakesNone, ArgCount, LiteralWanted, RecursiveRule, RecursiveVariable, TooDeep, DuplicateKey, Tab, Anchor, Tag, Directive, ManyDocuments, BadPattern}
+use Rattle.guard_ends.specs.declared.ends.RefusalKind.TheVariants.{TooDeep, DuplicateKey, Tab, Anchor, Tag, Directive, ManyDocuments}
 use Rattle.guard_ends.specs.declared.ends.Which.TheVariants as file
 use Rattle.guard_ends.specs.declared.format.Format.{Format}
 use Rattle.guard_ends.specs.declared.format.Format.TheVariants as format
-use Rattle.guard_run.proofs.Refusing.{pair-one}
 
 -- of two trees, of two refusals, and of a tree and a refusal
 pub record OneText (f : Format) (text : List ℕ) : Type 0 where
@@ -34,43 +32,10 @@ pub record JsonLaws (text : List ℕ) : Type 0 where
   pub refusal : (d e : JsonRefusal) → IsRefused text d → IsRefused text e → d ≡ e
   pub apart : (e : JsonRefusal) (tree : Forest) → IsRefused text e → Json text tree → ⊥
 
--- the refusal of the reader, by the kind and the place
-json-of : (text : List ℕ) (kind : RefusalKind) (at : ℕ) → RefusesJson text kind at → (r : JsonRefusal) × IsRefused text r × (json_kind r ≡ Some (kind, at))
-json-of text Syntax at h = (json.Syntax at, h, refl)
-json-of text DuplicateKey at h = (json.DuplicateKey at, h, refl)
-json-of text NumberRange at h = (json.NumberRange at, h, refl)
-json-of text TooDeep at h = (json.TooDeep at, h, refl)
-json-of text Unclosed at h = absurd h
-json-of text BadByte at h = absurd h
-json-of text NestTooDeep at h = absurd h
-json-of text BadRange at h = absurd h
-json-of text DuplicateRule at h = absurd h
-json-of text DuplicateName at h = absurd h
-json-of text UnknownRule at h = absurd h
-json-of text UnknownVariable at h = absurd h
-json-of text UnknownFunction at h = absurd h
-json-of text NeedsArguments at h = absurd h
-json-of text TakesNone at h = absurd h
-json-of text ArgCount at h = absurd h
-json-of text LiteralWanted at h = absurd h
-json-of text RecursiveRule at h = absurd h
-json-of text RecursiveVariable at h = absurd h
-json-of text BadPattern at h = absurd h
-json-of text Tab at h = absurd h
-json-of text Anchor at h = absurd h
-json-of text Tag at h = absurd h
-json-of text Directive at h = absurd h
-json-of text ManyDocuments at h = absurd h
-
 json-one : (text : List ℕ) → JsonLaws text → (kind : RefusalKind) (at : ℕ) (other : RefusalKind) (place : ℕ) → RefusesJson text kind at
     → RefusesJson text other place → (kind ≡ other) × (at ≡ place)
-json-one text laws kind at other place h h' =
-    let a = json-of text kind at h in
-    let b = json-of text other place h' in
-    let p : RefusalKind × ℕ = (kind, at) in
-    let q : RefusalKind × ℕ = (other, place) in
-    let e : p ≡ q = pair-one p q (sym a.2 ∙ (ap json_kind (laws.refusal a.0 b.0 a.1 b.1) ∙ b.2)) in
-    (ap (λ (o : RefusalKind × ℕ). o.0) e, ap (λ (o : RefusalKind × ℕ). o.1) e)
+json-one text laws kind at other place (r, is, h) (q, is', h') =
+    some_pair_parts kind other at place (sym is ∙ (ap json_kind (laws.refusal r q h h') ∙ is'))
 
 json-same : (text : List ℕ) → JsonLaws text → (r q : Refusal) → RefusesTree format.Json text r → RefusesTree format.Json text q → r ≡ q
 json-same text laws r q (kind, at, is, h) (other, place, is', h') =
@@ -78,7 +43,7 @@ json-same text laws r q (kind, at, is, h) (other, place, is', h') =
     is ∙ (ap (λ k. At file.Template k at None) same.0 ∙ (ap (λ a. At file.Template other a None) same.1 ∙ sym is'))
 
 json-apart : (text : List ℕ) → JsonLaws text → (r : Refusal) (tree : Forest) → RefusesTree format.Json text r → Json text tree → ⊥
-json-apart text laws r tree (kind, at, is, h) whole = let a = json-of text kind at h in laws.apart a.0 tree a.1 whole
+json-apart text laws r tree (kind, at, is, (refusal, named, h)) whole = laws.apart refusal tree h whole
 
 -- the refusal of a template by a sign
 abbrev of_sign : Sign → Refusal

@@ -1,18 +1,20 @@
 //! The laws. The bodies cite other laws and do nothing else; a law is kept by a contract.
-ghost use Rattle.std.specs.Prelude.{◌≡◌, ℕ, List, Some, None, true};
+ghost use Rattle.std.specs.Prelude.{◌≡◌, ℕ, List, Some, false};
 ghost use Rattle.doc_values.specs.Tree.{Forest};
-ghost use Rattle.evidence_lines.specs.declared.line.Line.{Line};
-ghost use Rattle.evidence_lines.specs.declared.version.Version.{Version};
+ghost use Rattle.evidence_lines.specs.Versioned.{Versioned};
+ghost use Rattle.evidence_rules.specs.Follows.{Accepts};
 ghost use Rattle.guard_drill.specs.DrillTexts.{template_text};
 ghost use Rattle.guard_syntax.specs.Syntax.{File};
+ghost use Rattle.guard_words.specs.Request.{AsksFor, check, drill, validate};
 ghost use Rattle.rule_meaning.specs.FunctionMeaning.{IsAnswering};
 ghost use Rattle.rule_meaning.specs.Locations.{Answers};
 ghost use Rattle.guard_ends.specs.Check.{accepted_text};
 ghost use Rattle.guard_ends.specs.Drill.{drill_rules};
-ghost use Rattle.guard_ends.specs.End.{Ended, EndOf, Contents, AreRead, AreSame, IsChecked, is_checked, is_judged};
-ghost use Rattle.guard_ends.specs.Inputs.{IsProof, IsRuleFile, IsTemplate, RefusesTemplate};
+ghost use Rattle.guard_ends.specs.End.{AreSame};
+ghost use Rattle.guard_ends.specs.Inputs.{IsProof, IsRuleFile, IsTemplate, RefusesTemplate, format_of};
+ghost use Rattle.guard_ends.specs.Order.{AreRead, Contents, EndOf, Ended, IsChecked, IsJudged};
+ghost use Rattle.guard_ends.specs.Report.{report};
 ghost use Rattle.guard_ends.specs.Reported.{verdicts_of, world_over};
-ghost use Rattle.guard_ends.specs.Request.{Request, Asks, AsksDrill, format_of};
 ghost use Rattle.guard_ends.specs.declared.ends.End.TheVariants as end_is;
 ghost use Rattle.guard_ends.specs.declared.ends.Refusal.{Refusal};
 ghost use Rattle.guard_ends.specs.declared.format.Format.{Format};
@@ -23,14 +25,15 @@ use guard_parser::{one_syntax, sites_in_order};
 use json_reader::{one_refusal, one_tree, refused_apart};
 use std::str;
 
-/// The law that a call has one end: where the contents of the files are told, two ends that the definition gives are
-/// equal, or both refuse the rules as Syntax, each at a place of its own. The body does nothing; a law is kept by a
-/// contract.
+/// The law that a call has one end: where the words ask for files whose contents are told, two ends that the definition gives
+/// are equal, or both refuse the rules as Syntax, each at a place of its own. A clause for each command. The body does nothing;
+/// a law is kept by a contract.
 pub fn only_end(rules: &[u8], template: &[u8], evidence: &[u8])
-    ensures { (words : List (List ℕ)) (told : Contents) (q : Request) (e other : Ended)
-        → Asks words q → told q.rules ≡ Some rules.now
-        → told q.template ≡ Some template.now
-        → ((name : List ℕ) → q.proof ≡ Some name → told name ≡ Some evidence.now)
+    ensures validated { (words : List (List ℕ)) (told : Contents) (r t : List ℕ) (e other : Ended)
+        → AsksFor words (validate r t false) → told r ≡ Some rules.now → told t ≡ Some template.now
+        → EndOf words told e → EndOf words told other → AreSame rules.now e other }
+    ensures checked { (words : List (List ℕ)) (told : Contents) (r t p : List ℕ) (e other : Ended)
+        → AsksFor words (check r t p) → told r ≡ Some rules.now → told t ≡ Some template.now → told p ≡ Some evidence.now
         → EndOf words told e → EndOf words told other → AreSame rules.now e other }
 {
     one_syntax();
@@ -38,52 +41,63 @@ pub fn only_end(rules: &[u8], template: &[u8], evidence: &[u8])
     one_text();
 }
 
-/// The law of completeness: where the words ask for two files, whose contents are told, and these are a rule file and a
-/// template whose patterns can all be read, each end that the definition gives is one of a template that was judged.
+/// The law that a drill has one end in the same sense, whatever the files hold: by the text of its template.
+pub fn only_drill(template: &[u8])
+    ensures { (words : List (List ℕ)) (told : Contents) (count : ℕ) (e other : Ended)
+        → AsksFor words (drill count) → template.now ≡ template_text count
+        → EndOf words told e → EndOf words told other → AreSame drill_rules e other }
+{
+    one_syntax();
+    only_template(template);
+}
+
+/// The law of completeness: where the words ask for `validate` of two files, whose contents are told, and these are a rule file
+/// and a template whose patterns can all be read, each end that the definition gives is one of the template that was judged.
 pub fn accepted_is_judged(rules: &[u8], template: &[u8])
-    ensures { (words : List (List ℕ)) (told : Contents) (q : Request) (file : File) (tree : Forest) (e : Ended)
-        → Asks words q → q.proof ≡ None → told q.rules ≡ Some rules.now → told q.template ≡ Some template.now
-        → IsRuleFile rules.now file → IsTemplate (format_of q.template) template.now tree → AreRead file
-        → EndOf words told e → is_judged e.how ≡ true }
+    ensures { (words : List (List ℕ)) (told : Contents) (r t : List ℕ) (file : File) (tree : Forest) (e : Ended)
+        → AsksFor words (validate r t false) → told r ≡ Some rules.now → told t ≡ Some template.now
+        → IsRuleFile rules.now file → IsTemplate (format_of t) template.now tree → AreRead file
+        → EndOf words told e → IsJudged report (record { source = rules.now; rules = file; template = template.now; tree = tree }) e }
 {
     one_syntax();
     only_template(template);
 }
 
 /// The law of completeness for a check: where, besides, evidence is asked for, whose content is told, and that is evidence,
-/// each end that the definition gives is one of evidence that was judged: it is accepted or rejected.
+/// each end that the definition gives is one of the evidence that was judged: it is accepted or rejected.
 pub fn accepted_is_checked(rules: &[u8], template: &[u8], evidence: &[u8])
-    ensures { (words : List (List ℕ)) (told : Contents) (q : Request) (name : List ℕ) (file : File) (tree : Forest) (version : Version) (lines : List Line) (e : Ended)
-        → Asks words q → q.proof ≡ Some name → told q.rules ≡ Some rules.now → told q.template ≡ Some template.now
-        → told name ≡ Some evidence.now
-        → IsRuleFile rules.now file → IsTemplate (format_of q.template) template.now tree → AreRead file
-        → IsProof evidence.now version lines → EndOf words told e → is_checked e.how ≡ true }
+    ensures { (words : List (List ℕ)) (told : Contents) (r t p : List ℕ) (file : File) (tree : Forest) (lines : Versioned) (e : Ended)
+        → AsksFor words (check r t p) → told r ≡ Some rules.now → told t ≡ Some template.now → told p ≡ Some evidence.now
+        → IsRuleFile rules.now file → IsTemplate (format_of t) template.now tree → AreRead file
+        → IsProof evidence.now lines → EndOf words told e → IsChecked file tree lines e }
 {
     one_syntax();
     only_template(template);
     one_text();
 }
 
-/// The law that accepted evidence is true, whoever wrote it: for bytes that are a rule file, what out takes of it are the verdicts of the
-/// rules by their meaning over the template, those that the report has.
+/// The law that evidence which is to be accepted is accepted: where, besides, each line follows and each rule has the line of its
+/// verdict, each end that the definition gives is Accepted.
+pub fn following_is_accepted(rules: &[u8], template: &[u8], evidence: &[u8])
+    ensures { (words : List (List ℕ)) (told : Contents) (r t p : List ℕ) (file : File) (tree : Forest) (lines : Versioned) (e : Ended)
+        → AsksFor words (check r t p) → told r ≡ Some rules.now → told t ≡ Some template.now → told p ≡ Some evidence.now
+        → IsRuleFile rules.now file → IsTemplate (format_of t) template.now tree → AreRead file
+        → IsProof evidence.now lines → Accepts lines.version tree file lines.lines
+        → EndOf words told e → e.how ≡ end_is.Accepted }
+{
+    accepted_is_checked(rules, template, evidence);
+}
+
+/// The law that accepted evidence is true, whoever wrote it: for bytes that are a rule file, what out takes of it are the
+/// verdicts of the rules by their meaning over the template, those that the report has.
 pub fn accepted_is_true()
-    ensures { (bytes : List ℕ) (rules : File) (version : Version) (template : Forest) (lines : List Line) (answers : Answers) (e : Ended)
-        → IsRuleFile bytes rules → IsChecked rules template version lines e → e.how ≡ end_is.Accepted
+    ensures { (bytes : List ℕ) (rules : File) (evidence : Versioned) (template : Forest) (answers : Answers) (e : Ended)
+        → IsRuleFile bytes rules → IsChecked rules template evidence e → e.how ≡ end_is.Accepted
         → IsAnswering (world_over rules template answers)
         → e.out ≡ accepted_text rules (verdicts_of (world_over rules template answers)) }
 {
     lines_true();
     sites_in_order();
-}
-
-/// The law that a drill has one end in the same sense, whatever the files hold: by the text of its template.
-pub fn only_drill(template: &[u8])
-    ensures { (words : List (List ℕ)) (told : Contents) (count : ℕ) (e other : Ended)
-        → AsksDrill words count → template.now ≡ template_text count
-        → EndOf words told e → EndOf words told other → AreSame drill_rules e other }
-{
-    one_syntax();
-    only_template(template);
 }
 
 /// The law that a template has one tree or one refusal in each format, and not both.

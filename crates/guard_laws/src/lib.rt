@@ -5,4 +5,6 @@
 
 mod laws;
 
-pub use laws::{accepted_is_checked, accepted_is_judged, accepted_is_true, only_drill, only_end};
+pub use laws::{
+    accepted_is_checked, accepted_is_judged, accepted_is_true, following_is_accepted, only_drill, only_end,
+};

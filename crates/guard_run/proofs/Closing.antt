@@ -3,8 +3,9 @@ use Rattle.std.proofs.Common.{◌≡◌, ℕ, ◌++◌, inl, inr, List, [], Opti
 use Rattle.std.proofs.lemmas.List.{append-nil}
 use Rattle.std.specs.Option.{ForSome}
 use Rattle.guard_io.specs.Outside.{IsPrefix}
-use Rattle.guard_ends.specs.End.{Ended, EndOf, Contents, Faults, IsReport, MaySay, MayWant, Took, TookAsDefined, is_defined, is_reported}
+use Rattle.guard_ends.specs.End.{Faults, IsReport, MaySay, MayWant, Took, TookAsDefined, is_defined, is_reported}
 use Rattle.guard_ends.specs.Lines.{memory_line}
+use Rattle.guard_ends.specs.Order.{Contents, EndOf, Ended}
 use Rattle.guard_run.specs.Writing.{Closed, Said, SaidMemory}
 use Rattle.guard_ends.specs.declared.ends.End.{End}
 use Rattle.guard_ends.specs.declared.ends.End.TheVariants as end_is

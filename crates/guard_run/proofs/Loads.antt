@@ -1,8 +1,14 @@
--- What was loaded, against what is told of the file.
-use Rattle.std.proofs.Common.{◌≡◌, ℕ, ◌+◌, ◌++◌, ◌<◌, ◌≤◌, List, [], length, take, Option, Some, None, arith, refl, ◌∙◌}
+-- What was loaded, against what is told of the file, and as what it is refused.
+use Rattle.std.proofs.Common.{◌≡◌, ℕ, ◌+◌, ◌++◌, ◌<◌, ◌≤◌, List, [], length, take, Option, Some, None, arith, inl, inr, refl, sym, subst, ◌∙◌}
 use Rattle.std.proofs.lemmas.List.{length-take, take_all}
 use Rattle.std.specs.Option.{ForSome}
-use Rattle.guard_ends.specs.End.{IsContent}
+use Rattle.guard_ends.specs.Inputs.{RefusesProof, RefusesRules, RefusesTemplate}
+use Rattle.guard_ends.specs.Order.{Contents, IsContent, Loading, Point, Refusing, Work}
+use Rattle.guard_ends.specs.declared.ends.Refusal.{Refusal}
+use Rattle.guard_ends.specs.declared.ends.Which.{Which}
+use Rattle.guard_ends.specs.declared.ends.Which.TheVariants as file
+use Rattle.guard_ends.specs.declared.format.Format.{Format}
+use Rattle.guard_run.specs.Loading.{RefusesLength, RefusesText}
 
 -- no more than the limit came, though one byte more was asked for: that is all of it
 pub loaded-whole : (told : Option (List ℕ)) (held bytes : List ℕ) (limit : ℕ) → held ≡ []
@@ -21,3 +27,28 @@ loaded-long (Some content) held bytes limit none ok long =
     let e : bytes ≡ take (limit + 1) content = rw none at (ok content refl) in
     let h : limit < length (take (limit + 1) content) = rw (← e) long in
     (content, (λ other is. cc), omega (arith, length-take (limit + 1) content, h))
+
+-- what is refused as no text, or for its length, is refused as rules, as a template, or as evidence
+pub text-rules : (bytes : List ℕ) (refusal : Refusal) → RefusesText file.Rules bytes refusal → RefusesRules bytes refusal
+text-rules bytes refusal (inl (is, long)) = subst (RefusesRules bytes) (sym is) long
+text-rules bytes refusal (inr (is, bad)) = subst (RefusesRules bytes) (sym is) bad
+
+pub text-template : (f : Format) (bytes : List ℕ) (refusal : Refusal) → RefusesText file.Template bytes refusal → RefusesTemplate f bytes refusal
+text-template f bytes refusal (inl long) = inl long
+text-template f bytes refusal (inr bad) = inr (inl bad)
+
+pub long-proof : (bytes : List ℕ) (refusal : Refusal) → RefusesLength file.Proof bytes refusal → RefusesProof bytes refusal
+long-proof bytes refusal (is, long) = subst (RefusesProof bytes) (sym is) long
+
+-- a file is loaded, and refused for more reasons; and what is told of it may be told otherwise
+pub refused-more : (which : Which) (told : Contents) (name : List ℕ) (Refuses More : List ℕ → Refusal → Type 0)
+    → ((bytes : List ℕ) (refusal : Refusal) → Refuses bytes refusal → More bytes refusal)
+    → (p : Point) → Loading which told name (Refusing Refuses) p → Loading which told name (Refusing More) p
+refused-more which told name Refuses More more p (inl load) = inl load
+refused-more which told name Refuses More more p (inr (bytes, content, refused)) =
+    inr (bytes, content, (refused.0, more bytes refused.0 refused.1, refused.2))
+
+pub loading-same : (which : Which) (told other : Contents) (name : List ℕ) (GoesOn : List ℕ → Work) → told name ≡ other name
+    → (p : Point) → Loading which told name GoesOn p → Loading which other name GoesOn p
+loading-same which told other name GoesOn same p (inl load) = inl load
+loading-same which told other name GoesOn same p (inr (bytes, content, goes)) = inr (bytes, subst (λ t. IsContent t bytes) same content, goes)

@@ -1,45 +1,51 @@
--- What comes of work, as further ends are allowed. By the cases of what stops it.
-use Rattle.std.proofs.Common.{◌≡◌, ℕ, List, [], Bool, Result, Ok, Err, MatchResult, ap, sym, subst, inl, inr, ◌∙◌, if◌then◌else◌}
+-- What comes of work, as it comes to more. By the cases of what stops it.
+use Rattle.std.proofs.Common.{◌≡◌, ◌≤◌, ℕ, List, [], Bool, Result, Ok, Err, MatchResult, refl, ap, sym, subst, arith, inl, inr, ◌∙◌, if◌then◌else◌}
 use Rattle.std.proofs.lemmas.Result.{err_from_is_err_and}  -- what the exit of a `?` returns
 use Rattle.std.specs.Prelude.{IsErrAnd}
 use Rattle.std.specs.List.{list_any}
-use Rattle.guard_syntax.specs.Syntax.{File}
 use Rattle.rule_meaning.specs.Locations.{World}
 use Rattle.rule_meaning.specs.Verdicts.{is_fail}
-use Rattle.guard_ends.specs.End.{Ended, EndOfPatterns, judged}
+use Rattle.guard_ends.specs.Order.{Ending, Ends, Loads, Makes, Point, Work, judged, usage}
 use Rattle.guard_ends.specs.Report.{Reporting}
 use Rattle.guard_ends.specs.Reported.{verdicts_of}
 use Rattle.guard_ends.specs.declared.ends.End.{End}
 use Rattle.guard_ends.specs.declared.ends.End.TheVariants as end_is
-use Rattle.guard_ends.specs.declared.ends.Which.{Which}
-use Rattle.guard_run.specs.Outcome.{IsOutcome, ended}
-use Rattle.guard_run.specs.Stops.{IsStop}
+use Rattle.guard_run.specs.Outcome.{IsOutcome, IsOutcomeAt, ended}
+use Rattle.guard_run.specs.Refusals.{bytes_of, said}
+use Rattle.guard_run.specs.Stops.{IsStop, NoneRose, Rose}
 use Rattle.guard_run.specs.declared.done.Done.{Done}
 use Rattle.guard_run.specs.declared.stop.Stop.{Stop}
 use Rattle.guard_run.specs.declared.stop.Stop.TheVariants as stop
 
-pub IsStop-more : (Ends More : Ended → Type 0) (NotRead LessRead : Which → Type 0) (NotMade LessMade : Type 0)
-    → ((e : Ended) → Ends e → More e) → ((which : Which) → NotRead which → LessRead which) → (NotMade → LessMade)
-    → (s : Stop) → IsStop Ends NotRead NotMade s → IsStop More LessRead LessMade s
-IsStop-more Ends More NotRead LessRead NotMade LessMade more read made stop.Usage is = more _ is
-IsStop-more Ends More NotRead LessRead NotMade LessMade more read made (stop.Refused r) is = more _ is
-IsStop-more Ends More NotRead LessRead NotMade LessMade more read made (stop.Unread which) is = read which is
-IsStop-more Ends More NotRead LessRead NotMade LessMade more read made stop.Unmade is = made is
-IsStop-more Ends More NotRead LessRead NotMade LessMade more read made stop.Memory is = tt
+module _
+    (Comes More : Work)
+    (FileRose MoreFile PatternRose MorePattern : List ℕ → Type 0)
+    (more : (p : Point) → Comes p → More p)
+    (files : (name : List ℕ) → FileRose name → MoreFile name)
+    (patterns : (text : List ℕ) → PatternRose text → MorePattern text)
+  where
+    pub IsStop-more : (s : Stop) → IsStop Comes FileRose PatternRose s → IsStop More MoreFile MorePattern s
+    IsStop-more stop.Usage is = more (Ends usage) is
+    IsStop-more (stop.Refused r) is = more (Ends (said r)) is
+    IsStop-more (stop.Unread which) is = (is.0, more (Loads which is.0) is.1, files is.0 is.2)
+    IsStop-more stop.Unmade is = (is.0, more (Makes is.0) is.1, patterns is.0 is.2)
+    IsStop-more stop.Memory is = tt
 
-pub IsOutcome-more : (Ends More : Ended → Type 0) (NotRead LessRead : Which → Type 0) (NotMade LessMade : Type 0)
-    → ((e : Ended) → Ends e → More e) → ((which : Which) → NotRead which → LessRead which) → (NotMade → LessMade)
-    → (o : Result Done Stop) → IsOutcome Ends NotRead NotMade o → IsOutcome More LessRead LessMade o
-IsOutcome-more Ends More NotRead LessRead NotMade LessMade more read made (Ok done) is = more (ended done) is
-IsOutcome-more Ends More NotRead LessRead NotMade LessMade more read made (Err s) is =
-    IsStop-more Ends More NotRead LessRead NotMade LessMade more read made s is
+    pub IsOutcome-more : (o : Result Done Stop) → IsOutcome Comes FileRose PatternRose o → IsOutcome More MoreFile MorePattern o
+    IsOutcome-more (Ok done) is = more (Ends (ended done)) is
+    IsOutcome-more (Err s) is = IsStop-more s is
 
--- nothing is said of what cannot be
-pub none-read : (P : Which → Type 0) → (which : Which) → ⊥ → P which
-none-read P which none = absurd none
+-- where no count rose, nothing is said of what rose
+pub none-rose : (R : List ℕ → Type 0) (name : List ℕ) → NoneRose name → R name
+none-rose R name none = absurd none
 
-pub none-made : (P : Type 0) → ⊥ → P
-none-made P none = absurd none
+pub as-rose : (R : List ℕ → Type 0) (name : List ℕ) → R name → R name
+as-rose R name rose = rose
+
+-- a rise since later counts, that had not fallen, is one since the earlier counts
+pub rose-since : (before mid after : List ℕ → ℕ) → ((name : List ℕ) → before name ≤ mid name) → (name : List ℕ) → Rose mid after name → Rose before after name
+rose-since before mid after kept name (inl more) = let k : before name ≤ mid name = kept name in inl (omega (arith, k, more))
+rose-since before mid after kept name (inr most) = inr most
 
 -- what `?` returns is what it was given
 pub at-exit : {T : Type 0} → (Good : T → Type 0) (Bad : Stop → Type 0) (r : Result T Stop) (s : Stop) → IsErrAnd r (λ (y : Stop). y ≡ s) → Bad s
@@ -48,16 +54,23 @@ at-exit Good Bad r s err bad =
     let p = err_from_is_err_and r err in
     subst (λ o. MatchResult o Good Bad) (sym p.1) (subst Bad (sym p.2) bad)
 
--- an end that comes before the work goes on is one whatever the work is
-pub patterns-before : (source : List ℕ) (rules : File) (GoesOn : Ended → Type 0) (e : Ended) → EndOfPatterns source rules (λ e. ⊥) e → EndOfPatterns source rules GoesOn e
-patterns-before source rules GoesOn e (inl bad) = inl bad
-patterns-before source rules GoesOn e (inr (all, never)) = absurd never
+-- work that comes to no load and no making of a pattern comes to nothing but an end
+ended-stop : (Comes : Work) (s : Stop) → IsStop Comes NoneRose NoneRose s → IsStop (Ending (λ e. Comes (Ends e))) NoneRose NoneRose s
+ended-stop Comes stop.Usage is = (usage, is, refl)
+ended-stop Comes (stop.Refused r) is = (said r, is, refl)
+ended-stop Comes (stop.Unread which) is = absurd is.2
+ended-stop Comes stop.Unmade is = absurd is.2
+ended-stop Comes stop.Memory is = tt
+
+pub ended-outcome : (Comes : Work) (o : Result Done Stop) → IsOutcomeAt Comes o → IsOutcomeAt (Ending (λ e. Comes (Ends e))) o
+ended-outcome Comes (Ok done) is = (ended done, is, refl)
+ended-outcome Comes (Err s) is = ended-stop Comes s is
 
 -- what is said of a template that was judged
 pub judged-as : (made : Reporting) (done : Done) (failed : Bool) (report : List ℕ) (world : World) (source template : List ℕ)
-    → done.how ≡ (if failed then end_is.Failed else end_is.Passed) → done.out.items ≡ report
+    → done.how ≡ (if failed then end_is.Failed else end_is.Passed) → bytes_of done.out ≡ report
     → report ≡ made world source template → failed ≡ list_any is_fail (verdicts_of world) → ended done ≡ judged made world source template
 judged-as made done failed report world source template how out text fails =
-    ap (λ (h : End). record { how = h; out = done.out.items; err = [] })
+    ap (λ (h : End). record { how = h; out = bytes_of done.out; err = [] })
     (how ∙ ap (λ (f : Bool). if f then end_is.Failed else end_is.Passed) fails)
     ∙ ap (λ (t : List ℕ). record { how = if list_any is_fail (verdicts_of world) then end_is.Failed else end_is.Passed; out = t; err = [] }) (out ∙ text)

@@ -1,13 +1,12 @@
 -- Files that are loaded, or are not.
-use Rattle.std.specs.Prelude.{ℕ, ◌≡◌, ◌⊎◌, List, Option}
-use Rattle.guard_io.specs.Outside.{FaultCounted}
-use Rattle.guard_ends.specs.End.{IsContent}
+use Rattle.std.specs.Prelude.{ℕ, ◌≡◌, ◌⊎◌, List}
 use Rattle.guard_ends.specs.Inputs.{IsNoText, IsTooLong, proof_limit, rules_limit, template_limit}
+use Rattle.guard_ends.specs.Order.{Contents, Loading, Refusing}
 use Rattle.guard_ends.specs.declared.ends.Refusal.{Refusal}
 use Rattle.guard_ends.specs.declared.ends.Refusal.TheVariants.{NotText, TooLong}
 use Rattle.guard_ends.specs.declared.ends.Which.{Which}
 use Rattle.guard_ends.specs.declared.ends.Which.TheVariants as file
-use Rattle.guard_run.specs.Stops.{EndsRefused, IsStop}
+use Rattle.guard_run.specs.Stops.{IsStop, NoneRose, Rose}
 use Rattle.guard_run.specs.declared.stop.Stop.{Stop}
 
 -- how many bytes a file may have
@@ -24,7 +23,6 @@ RefusesLength which bytes refusal = (refusal ≡ TooLong which) × IsTooLong (li
 abbrev pub RefusesText : Which → List ℕ → Refusal → Type 0
 RefusesText which bytes refusal = RefusesLength which bytes refusal ⊎ ((refusal ≡ NotText which) × IsNoText (limit_of which) bytes)
 
--- why a file is not loaded, or not read: it is refused so, or its count rose
-abbrev pub IsNotLoaded : (told : Option (List ℕ)) → (List ℕ → Refusal → Type 0) → Which → (before after : ℕ) → Stop → Type 0
-IsNotLoaded told Refuses which before after =
-    IsStop (λ e. (bytes : List ℕ) × IsContent told bytes × EndsRefused Refuses bytes e) (λ other. (other ≡ which) × FaultCounted before after) ⊥
+-- why a file of this name is not loaded, or not read: it is refused so, or its count rose
+abbrev pub IsNotLoaded : Which → Contents → (name : List ℕ) → (List ℕ → Refusal → Type 0) → (before after : List ℕ → ℕ) → Stop → Type 0
+IsNotLoaded which told name Refuses before after = IsStop (Loading which told name (Refusing Refuses)) (Rose before after) NoneRose

@@ -1,8 +1,8 @@
 -- The writing of an outcome, end by end, by the types of the code.
 use Rattle.std.specs.Prelude.{ℕ, ◌≡◌, ◌++◌, ◌⊎◌, List, Option}
 use Rattle.guard_io.specs.Outside.{IsPrefix}
-use Rattle.guard_ends.specs.Request.{Request}
-use Rattle.guard_ends.specs.End.{Contents, Faults, Loads, Unread, Unmade, Took, TookAsDefined, TookOfUnread, TookOfUnmade, TookOfUnwritten, TookOfUnsaid, TookOfMemory}
+use Rattle.guard_ends.specs.Order.{Contents}
+use Rattle.guard_ends.specs.End.{Faults, Unread, Unmade, Took, TookAsDefined, TookOfUnread, TookOfUnmade, TookOfUnwritten, TookOfUnsaid, TookOfMemory}
 use Rattle.guard_ends.specs.Lines.{memory_line}
 use Rattle.guard_ends.specs.declared.ends.End.{End}
 use Rattle.guard_ends.specs.declared.ends.End.TheVariants as end_is
@@ -11,9 +11,9 @@ use Rattle.guard_ends.specs.declared.ends.Pipe.TheVariants.{Out, Err}
 -- what out and err took at each end: at a fault and for want of memory what is said of those, else what is defined
 abbrev pub Closed : List (List ℕ) → Contents → (before after : Faults) → End → (out out' err err' : Option (List ℕ)) → Type 0
 Closed words told before after (end_is.ReadFault which) out out' err err' =
-    ((q : Request) × Loads which words told q × Unread before.read after.read which q) × TookOfUnread which out out' err err'
+    Unread words told before.read.files after.read.files which × TookOfUnread which out out' err err'
 Closed words told before after end_is.PatternRefused out out' err err' =
-    ((text : List ℕ) × Unmade words told before.read.patterns after.read.patterns text) × TookOfUnmade out out' err err'
+    Unmade words told before.read.patterns after.read.patterns × TookOfUnmade out out' err err'
 Closed words told before after (end_is.WriteFault Out) out out' err err' = TookOfUnwritten words told out out' err err'
 Closed words told before after (end_is.WriteFault Err) out out' err err' = TookOfUnsaid words told before after out out' err err'
 Closed words told before after end_is.Memory out out' err err' = TookOfMemory words told before after out out' err err'

@@ -1,20 +1,23 @@
-//! A check: evidence is loaded and read, and judged line by line for rules and a template. Nothing is evaluated.
-ghost use Rattle.std.specs.Prelude.{◌≡◌, ◌≤◌, ℕ, List, length, IfOk, MatchResult};
-ghost use Rattle.guard_io.specs.Outside.{FaultCounted};
+//! `check`: evidence is loaded and read, and judged line by line for rules and a template. Nothing is evaluated.
+ghost use Rattle.std.specs.Prelude.{◌≡◌, ◌≤◌, ℕ, List, [], length, IfOk, MatchResult};
 ghost use Rattle.rule_names.specs.Files.{file_of};
 ghost use Rattle.report_text.specs.RuleLines.{reported_names};
-ghost use Rattle.guard_ends.specs.Check.{accepted_text};
-ghost use Rattle.guard_ends.specs.End.{EndOfCheck, IsChecked};
+ghost use Rattle.guard_words.specs.Request.{check};
+ghost use Rattle.guard_ends.specs.Check.{accepted_text, rejected_text};
 ghost use Rattle.guard_ends.specs.Inputs.{IsProof, RefusesProof};
-ghost use Rattle.guard_run.specs.Outcome.{IsOutcome, IsOutcomeAt};
-ghost use Rattle.guard_run.specs.Stops.{IsNotRead};
+ghost use Rattle.guard_ends.specs.Order.{Ending, IsChecked, OfEvidence, WorkOf};
+ghost use Rattle.guard_run.specs.Inputs.{inputs_of};
+ghost use Rattle.guard_run.specs.Outcome.{IsOutcome, IsOutcomeAt, IsOutcomeBy, ended};
+ghost use Rattle.guard_run.specs.Stops.{IsNotRead, NoneRose, Rose};
 
 use crate::done::Done;
-use crate::inputs::Inputs;
+use crate::inputs::{Inputs, Names};
 use crate::line::rejected_text;
 use crate::load::load_bytes;
+use crate::prepare::{load_texts, read_inputs};
 use crate::refused::not_evidence;
 use crate::stop::Stop;
+use crate::written::Written;
 use evidence_checker::{Answer, check};
 use evidence_lines::{Evidence, EvidenceRefusal, read_evidence};
 use guard_ends::{End, Which};
@@ -23,16 +26,37 @@ use guard_syntax::Verdict;
 use report_text::{ReportFault, write_rules};
 use rule_names::RuleFile;
 use std::alloc::{AllocError, Global};
+use value_compare::PatternMaker;
+
+/// Judges the evidence of this name, for the rules and the template of these names.
+pub(crate) fn run_check<F: Files, M: PatternMaker>(
+    alloc: Global,
+    names: &Names<'_, '_>,
+    proof: &str,
+    files: &mut F,
+    maker: &mut M,
+) -> Result<Done, Stop>
+    ensures outcome { IsOutcomeBy (WorkOf (check names.now.rules.now names.now.template.now proof.now) (F.content files.old))
+        (record { files = F.faults files.old; patterns = M.faults maker.old })
+        (record { files = F.faults files.new; patterns = M.faults maker.new }) result }
+    ensures contents { (other : List ℕ) → F.content files.new other ≡ F.content files.old other }
+    ensures kept { (other : List ℕ) → F.faults files.old other ≤ F.faults files.new other }
+    ensures maker_kept { (text : List ℕ) → M.faults maker.old text ≤ M.faults maker.new text }
+{
+    let texts = load_texts(alloc, names, files)?;
+    let inputs = read_inputs(alloc, &texts, maker)?;
+    check_evidence(alloc, &inputs, proof, files)
+}
 
 /// Judges evidence of this name, for rules and a template.
-pub(crate) fn check_evidence<F: Files>(
+fn check_evidence<F: Files>(
     alloc: Global,
     inputs: &Inputs<'_, '_>,
     name: &str,
     files: &mut F,
 ) -> Result<Done, Stop>
-    ensures outcome { IsOutcome (EndOfCheck (F.content files.old name.now) (file_of inputs.now.rules.now.file) inputs.now.tree)
-        (λ which. (which ≡ Which.Proof) × FaultCounted (F.faults files.old name.now) (F.faults files.new name.now)) ⊥ result }
+    ensures outcome { IsOutcome (OfEvidence (F.content files.old) name.now (inputs_of inputs.now))
+        (Rose (F.faults files.old) (F.faults files.new)) NoneRose result }
     ensures contents { (other : List ℕ) → F.content files.new other ≡ F.content files.old other }
     ensures kept { (other : List ℕ) → F.faults files.old other ≤ F.faults files.new other }
 {
@@ -44,7 +68,7 @@ pub(crate) fn check_evidence<F: Files>(
 /// The lines of the bytes of evidence, which are no more than it may have.
 fn lines_of(alloc: Global, bytes: Vec<u8>) -> Result<Evidence, Stop>
     requires { length bytes.items ≤ 268435456 }
-    ensures { MatchResult result (λ evidence. IsProof bytes.items evidence.version evidence.lines) (IsNotRead RefusesProof bytes.items) }
+    ensures { MatchResult result (λ evidence. IsProof bytes.items evidence) (IsNotRead RefusesProof bytes.items) }
 {
     match read_evidence(alloc, &bytes) {
         Ok(evidence) => Ok(evidence),
@@ -55,7 +79,7 @@ fn lines_of(alloc: Global, bytes: Vec<u8>) -> Result<Evidence, Stop>
 
 /// Judges lines of evidence.
 fn check_lines(alloc: Global, inputs: &Inputs<'_, '_>, evidence: &Evidence) -> Result<Done, Stop>
-    ensures { IsOutcomeAt (IsChecked (file_of inputs.now.rules.now.file) inputs.now.tree evidence.now.version evidence.now.lines) result }
+    ensures { IsOutcomeAt (Ending (IsChecked (file_of inputs.now.rules.now.file) inputs.now.tree evidence.now)) result }
 {
     let rules = &inputs.rules.file;
     let answer = check(alloc, rules, &inputs.tree, &inputs.book, evidence)?;
@@ -64,17 +88,20 @@ fn check_lines(alloc: Global, inputs: &Inputs<'_, '_>, evidence: &Evidence) -> R
             let text = accepted_text(alloc, rules, &verdicts)?;
             Ok(Done {
                 how: End::Accepted,
-                out: text,
+                out: Written::Long(text),
             })
         }
-        Answer::Rejected(number) => {
-            let line = rejected_text(number);
-            let text = Vec::from_slice(alloc, line.as_str().as_bytes())?;
-            Ok(Done {
-                how: End::Rejected(number),
-                out: text,
-            })
-        }
+        Answer::Rejected(number) => Ok(rejected(number)),
+    }
+}
+
+/// What is done with evidence that is rejected at the line of this number. It wants no memory.
+fn rejected(number: u64) -> Done
+    ensures { ended result ≡ record { how = End.Rejected number; out = rejected_text number; err = [] } }
+{
+    Done {
+        how: End::Rejected(number),
+        out: Written::Short(rejected_text(number)),
     }
 }
 

@@ -1,15 +1,14 @@
-//! A drill: a template that is made is judged by rules that are always the same. No file is loaded, and no pattern is made.
+//! `drill`: a template that is made is judged by rules that are always the same. No file is loaded, and no pattern is made.
 ghost use Rattle.std.specs.Prelude.{◌≤◌};
-ghost use Rattle.guard_ends.specs.End.{EndOfDrill};
+ghost use Rattle.guard_ends.specs.Order.{OfDrill};
 ghost use Rattle.guard_run.specs.Outcome.{IsOutcomeAt};
 
 use crate::done::Done;
-use crate::inputs::Inputs;
-use crate::patterns::make_patterns;
+use crate::inputs::Texts;
+use crate::prepare::read_inputs;
 use crate::report::Form;
 use crate::rules::read_rules;
 use crate::stop::Stop;
-use crate::template::read_template;
 use crate::validate::report_on;
 use guard_drill::{DRILL_RULES, drill_template};
 use guard_ends::Format;
@@ -31,19 +30,16 @@ impl PatternMaker for Unasked {
 /// Judges the template of a drill of so many resources by the rules of a drill.
 pub(crate) fn run_drill(alloc: Global, count: u32) -> Result<Done, Stop>
     requires { count ≤ 100000 }
-    ensures { IsOutcomeAt (EndOfDrill count) result }
+    ensures { IsOutcomeAt (OfDrill count) result }
 {
     let source = String::from_str(alloc, DRILL_RULES)?;
     let rules = read_rules(alloc, source)?;
-    let text = drill_template(alloc, count)?;
-    let template = text.as_str();
-    let tree = read_template(alloc, Format::Json, template)?;
-    let book = make_patterns(alloc, &rules, &mut Unasked)?;
-    let inputs = Inputs {
-        rules: &rules,
+    let template = drill_template(alloc, count)?;
+    let texts = Texts {
+        rules,
         template,
-        tree,
-        book,
+        format: Format::Json,
     };
+    let inputs = read_inputs(alloc, &texts, &mut Unasked)?;
     report_on(alloc, &inputs, Form::Drill { count })
 }

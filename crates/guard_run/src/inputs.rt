@@ -1,12 +1,20 @@
-//! The rules and the template of a judgement.
+//! The inputs of a judgement: rules and a template, by their names, then loaded, then read.
 ghost use Rattle.std.specs.Prelude.{◌≡◌, ◌≤◌, false, length, string_bytes};
 ghost use Rattle.rule_names.specs.Files.{file_of};
 ghost use Rattle.value_compare.specs.Books.{IsBookOf};
 ghost use Rattle.rule_meaning.specs.Values.{has_pattern};
 
 use doc_values::Doc;
+use guard_ends::Format;
 use rule_names::RuleFile;
 use value_compare::PatternBook;
+
+/// The names of rules and of a template. Each is borrowed from a word of its own.
+#[derive(Clone, Copy)]
+pub(crate) struct Names<'r, 't> {
+    pub rules: &'r str,
+    pub template: &'t str,
+}
 
 /// A rule file that was read, with its text, by which the report and the line of a pattern that is refused tell places.
 #[derive(Drop)]
@@ -14,6 +22,15 @@ pub(crate) struct Rules {
     pub text: String,
     pub file: RuleFile,
     pub ghost short: { length (string_bytes text) ≤ 1048576 },
+}
+
+/// Rules that were read, and the text of a template, with the format in which it is to be read.
+#[derive(Drop)]
+pub(crate) struct Texts {
+    pub rules: Rules,
+    pub template: String,
+    pub format: Format,
+    pub ghost short: { length (string_bytes template) ≤ 8388608 },
 }
 
 /// Rules, and a template with its text, that are read, and the patterns of the rules, which are made.

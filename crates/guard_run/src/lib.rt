@@ -20,6 +20,7 @@ mod inputs;
 mod line;
 mod load;
 mod patterns;
+mod prepare;
 mod refused;
 mod report;
 mod rules;
@@ -29,6 +30,7 @@ mod top_call;
 mod validate;
 mod work;
 mod write;
+mod written;
 
 pub use guard_ends::{End, Format, Pipe, Refusal, RefusalKind, Which};
 pub use top_call::guard;

@@ -1,11 +1,10 @@
-//! The lines of refusals. They stand on the stack, so that no refusal wants memory, but for those that end with a name
-//! of the rules, which may be as long as the rules are.
+//! The lines of refusals, and of evidence that is rejected. They stand on the stack, so that none wants memory, but for those
+//! that end with a name of the rules, which may be as long as the rules are.
 ghost use Rattle.std.specs.Prelude.{◌≡◌, ◌+◌, ◌≤◌, ◌++◌, Some, length, decimal, string_bytes, IfOk};
 ghost use Rattle.arrayvec.specs.ArrayString.{array_string_len};
 ghost use Rattle.doc_values.specs.Position.{line_at, column_at};
 ghost use Rattle.guard_ends.specs.Check.{rejected_text};
 ghost use Rattle.guard_ends.specs.Lines.{evidence_line, file_word, kind_word, name_part, whole_line, placed_line};
-ghost use Rattle.guard_run.specs.Refusals.{line_bytes};
 
 use arrayvec::ArrayString;
 use doc_values::place_of;
@@ -15,24 +14,6 @@ use std::alloc::{AllocError, Global};
 
 /// A line without a name. The longest, `guard: rules 4294967295:4294967295: RecursiveVariable`, has 54 bytes with its newline.
 type Short = ArrayString<64>;
-
-/// A line on err.
-#[derive(Drop)]
-pub(crate) enum Line {
-    Short(ArrayString<64>),
-    Long(String),
-}
-
-impl Line {
-    pub(crate) fn as_str(&self) -> &str
-        ensures { result.now ≡ line_bytes self.now }
-    {
-        match self {
-            Line::Short(text) => text.as_str(),
-            Line::Long(text) => text.as_str(),
-        }
-    }
-}
 
 /// The line of a file that is refused as a whole.
 pub(crate) fn whole_line(which: Which, name: &str) -> Short

@@ -1,6 +1,6 @@
 //! Files are loaded: each by its name, and no further than one byte past its limit.
 ghost use Rattle.std.specs.Prelude.{◌≡◌, ◌≤◌, ◌<◌, ◌^◌, ℕ, List, MatchResult, length, string_bytes};
-ghost use Rattle.guard_ends.specs.End.{IsContent};
+ghost use Rattle.guard_ends.specs.Order.{IsContent};
 ghost use Rattle.guard_run.specs.Loading.{IsNotLoaded, RefusesLength, RefusesText, limit_of};
 
 use crate::refused::{not_text, too_long};
@@ -30,7 +30,7 @@ pub(crate) fn load_bytes<F: Files>(
 ) -> Result<Vec<u8>, Stop>
     ensures loaded { MatchResult result
         (λ bytes. IsContent (F.content files.old name.now) bytes.items × (length bytes.items ≤ limit_of which))
-        (IsNotLoaded (F.content files.old name.now) (RefusesLength which) which (F.faults files.old name.now) (F.faults files.new name.now)) }
+        (IsNotLoaded which (F.content files.old) name.now (RefusesLength which) (F.faults files.old) (F.faults files.new)) }
     ensures contents { (other : List ℕ) → F.content files.new other ≡ F.content files.old other }
     ensures kept { (other : List ℕ) → F.faults files.old other ≤ F.faults files.new other }
 {
@@ -56,7 +56,7 @@ pub(crate) fn load_text<F: Files>(
 ) -> Result<String, Stop>
     ensures loaded { MatchResult result
         (λ text. IsContent (F.content files.old name.now) (string_bytes text) × (length (string_bytes text) ≤ limit_of which))
-        (IsNotLoaded (F.content files.old name.now) (RefusesText which) which (F.faults files.old name.now) (F.faults files.new name.now)) }
+        (IsNotLoaded which (F.content files.old) name.now (RefusesText which) (F.faults files.old) (F.faults files.new)) }
     ensures contents { (other : List ℕ) → F.content files.new other ≡ F.content files.old other }
     ensures kept { (other : List ℕ) → F.faults files.old other ≤ F.faults files.new other }
 {

@@ -2,7 +2,7 @@
 ghost use Rattle.std.specs.Prelude.{◌≤◌, ℕ, List, MatchResult, string_bytes};
 ghost use Rattle.rule_names.specs.Files.{file_of};
 ghost use Rattle.value_compare.specs.Books.{IsBookOf};
-ghost use Rattle.guard_ends.specs.End.{AreRead};
+ghost use Rattle.guard_ends.specs.Order.{AreRead};
 ghost use Rattle.guard_run.specs.Stops.{AreNotMade};
 
 use crate::inputs::Rules;

@@ -1,10 +1,11 @@
 //! Refusals with their lines.
 ghost use Rattle.std.specs.Prelude.{◌≡◌, ◌≤◌, ℕ, List, Some, None, length, IfOk};
-ghost use Rattle.guard_ends.specs.End.{refused};
-ghost use Rattle.guard_ends.specs.Inputs.{name_kind, name_said, of_yaml};
-ghost use Rattle.guard_run.specs.Refusals.{said, lex_kind, parse_kind, json_kind, IsRefusedAs};
+ghost use Rattle.guard_ends.specs.Inputs.{json_kind, lex_kind, name_kind, name_said, of_yaml, parse_kind};
+ghost use Rattle.guard_ends.specs.Order.{refused};
+ghost use Rattle.guard_run.specs.Refusals.{said, IsRefusedAs};
 
-use crate::line::{Line, evidence_line, named_line, placed_line, whole_line};
+use crate::line::{evidence_line, named_line, placed_line, whole_line};
+use crate::written::Written;
 use guard_ends::{Refusal, RefusalKind, Which};
 use guard_lexer::LexRefusal;
 use guard_parser::ParseRefusal;
@@ -18,7 +19,7 @@ use yaml_blocks::YamlRefusal;
 #[derive(Drop)]
 pub(crate) struct Refused {
     pub refusal: Refusal,
-    pub line: Line,
+    pub line: Written,
 }
 
 /// A template that is not read so far.
@@ -27,7 +28,7 @@ pub(crate) fn data_unread() -> Refused
 {
     Refused {
         refusal: Refusal::DataUnread,
-        line: Line::Short(whole_line(Which::Template, "DataUnread")),
+        line: Written::Short(whole_line(Which::Template, "DataUnread")),
     }
 }
 
@@ -37,7 +38,7 @@ pub(crate) fn too_long(which: Which) -> Refused
 {
     Refused {
         refusal: Refusal::TooLong(which),
-        line: Line::Short(whole_line(which, "TooLong")),
+        line: Written::Short(whole_line(which, "TooLong")),
     }
 }
 
@@ -47,7 +48,7 @@ pub(crate) fn not_evidence(number: u64) -> Refused
 {
     Refused {
         refusal: Refusal::EvidenceSyntax(number),
-        line: Line::Short(evidence_line(number)),
+        line: Written::Short(evidence_line(number)),
     }
 }
 
@@ -57,7 +58,7 @@ pub(crate) fn not_text(which: Which) -> Refused
 {
     Refused {
         refusal: Refusal::NotText(which),
-        line: Line::Short(whole_line(which, "NotText")),
+        line: Written::Short(whole_line(which, "NotText")),
     }
 }
 
@@ -73,7 +74,7 @@ pub(crate) fn refused_at(which: Which, kind: RefusalKind, at: u32, bytes: &[u8])
             at,
             name: None,
         },
-        line: Line::Short(placed_line(which, kind, at, bytes)),
+        line: Written::Short(placed_line(which, kind, at, bytes)),
     }
 }
 
@@ -102,7 +103,7 @@ pub(crate) fn refused_name(
             at,
             name: Some(name),
         },
-        line: Line::Long(line),
+        line: Written::Long(line.into_bytes()),
     })
 }
 

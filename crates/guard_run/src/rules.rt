@@ -3,8 +3,8 @@ ghost use Rattle.std.specs.Prelude.{◌≡◌, ◌≤◌, ℕ, List, MatchResult
 ghost use Rattle.guard_lexer.specs.Lexes as lex;
 ghost use Rattle.guard_syntax.specs.Seen.{see_file};
 ghost use Rattle.rule_names.specs.Files.{file_of};
-ghost use Rattle.guard_ends.specs.End.{IsContent};
 ghost use Rattle.guard_ends.specs.Inputs.{IsSyntax, IsRuleFile, RefusesRules};
+ghost use Rattle.guard_ends.specs.Order.{IsContent};
 ghost use Rattle.guard_run.specs.Loading.{IsNotLoaded};
 ghost use Rattle.guard_run.specs.Stops.{IsNotRead};
 
@@ -25,7 +25,7 @@ use std::alloc::Global;
 pub(crate) fn load_rules<F: Files>(alloc: Global, name: &str, files: &mut F) -> Result<Rules, Stop>
     ensures loaded { MatchResult result
         (λ rules. IsContent (F.content files.old name.now) (string_bytes rules.text) × IsRuleFile (string_bytes rules.text) (file_of rules.file))
-        (IsNotLoaded (F.content files.old name.now) RefusesRules Which.Rules (F.faults files.old name.now) (F.faults files.new name.now)) }
+        (IsNotLoaded Which.Rules (F.content files.old) name.now RefusesRules (F.faults files.old) (F.faults files.new)) }
     ensures contents { (other : List ℕ) → F.content files.new other ≡ F.content files.old other }
     ensures kept { (other : List ℕ) → F.faults files.old other ≤ F.faults files.new other }
 {

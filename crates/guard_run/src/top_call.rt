@@ -1,7 +1,6 @@
 ghost use Rattle.std.specs.Prelude.{◌≡◌, ◌≤◌, ℕ, List, map, string_bytes, true};
 ghost use Rattle.guard_io.specs.Outside.{FaultCounted};
-ghost use Rattle.guard_ends.specs.Request.{Request};
-ghost use Rattle.guard_ends.specs.End.{is_defined, Loads, Unmade, name_of, TookAsDefined, TookOfUnread, TookOfUnmade, TookOfUnwritten, TookOfUnsaid, TookOfMemory};
+ghost use Rattle.guard_ends.specs.End.{is_defined, Unmade, Unread, TookAsDefined, TookOfUnread, TookOfUnmade, TookOfUnwritten, TookOfUnsaid, TookOfMemory};
 
 use crate::work::outcome_of;
 use crate::write::write_outcome;
@@ -24,15 +23,13 @@ pub fn guard<F: Files, M: PatternMaker, O: Sink, E: Sink>(
     ensures ends { is_defined result ≡ true
         → TookAsDefined (map string_bytes words.now) (F.content files.old) result
         (O.told out.old) (O.told out.new) (E.told err.old) (E.told err.new) }
-    // A file is not read only where the order of work comes to it and the count of its name rose.
+    // A file is not read only where the call comes to its load and the count of its name rose.
     ensures read_fault { (which : Which) → result ≡ End.ReadFault which
-        → ((q : Request) × Loads which (map string_bytes words.now) (F.content files.old) q
-        × FaultCounted (F.faults files.old (name_of which q)) (F.faults files.new (name_of which q)))
+        → Unread (map string_bytes words.now) (F.content files.old) (F.faults files.old) (F.faults files.new) which
         × TookOfUnread which (O.told out.old) (O.told out.new) (E.told err.old) (E.told err.new) }
-    // A pattern is not made only where the order of work comes to it and the count of its text rose.
+    // A pattern is not made only where the call comes to its making and the count of its text rose.
     ensures pattern_fault { result ≡ End.PatternRefused
-        → ((text : List ℕ) × Unmade (map string_bytes words.now) (F.content files.old)
-        (M.faults maker.old) (M.faults maker.new) text)
+        → Unmade (map string_bytes words.now) (F.content files.old) (M.faults maker.old) (M.faults maker.new)
         × TookOfUnmade (O.told out.old) (O.told out.new) (E.told err.old) (E.told err.new) }
     // Out is not written only where there is a report, or what is said of evidence, and its count rose.
     ensures out_fault { result ≡ End.WriteFault Pipe.Out

@@ -2,8 +2,9 @@
 ghost use Rattle.std.specs.Prelude.{◌≡◌, ◌≢◌, ◌≤◌, ℕ, List, Option};
 ghost use Rattle.guard_io.specs.Outside.{FaultCounted};
 ghost use Rattle.guard_ends.specs.Lines.{read_fault_line};
-ghost use Rattle.guard_ends.specs.End.{Contents, Counts, EndOf, Faults};
-ghost use Rattle.guard_run.specs.Outcome.{IsOutcomeOf, IsStopOf, ended};
+ghost use Rattle.guard_ends.specs.End.{Counts, Faults};
+ghost use Rattle.guard_ends.specs.Order.{ComesTo, Contents, EndOf};
+ghost use Rattle.guard_run.specs.Outcome.{IsOutcomeBy, IsStopBy, ended};
 ghost use Rattle.guard_run.specs.Writing.{Closed, Said, SaidMemory};
 
 use crate::done::Done;
@@ -19,7 +20,7 @@ pub(crate) fn write_outcome<O: Sink, E: Sink>(
     err: &mut E,
 ) -> End
     ensures closed { (words : List (List ℕ)) (told : Contents) (before after : Counts)
-        → IsOutcomeOf words told before after outcome
+        → IsOutcomeBy (ComesTo words told) before after outcome
         → Closed words told (record { read = before; out = O.faults out.old })
         (record { read = after; out = O.faults out.new }) result
         (O.told out.old) (O.told out.new) (E.told err.old) (E.told err.new) }
@@ -47,9 +48,13 @@ fn write_done<O: Sink, E: Sink>(done: Done, out: &mut O, err: &mut E) -> End
     ensures err_count { E.faults err.old ≤ E.faults err.new }
 {
     let Done { how, out: text } = done;
-    match out.put(&text) {
+    match out.put(text.as_bytes()) {
         Ok(()) => how,
-        Err(SinkFault::Failed) => say("guard: cannot write out\n", End::WriteFault(Pipe::Out), err),
+        Err(SinkFault::Failed) => say(
+            b"guard: cannot write out\n",
+            End::WriteFault(Pipe::Out),
+            err,
+        ),
         Err(SinkFault::Memory) => say_memory(err),
     }
 }
@@ -57,7 +62,7 @@ fn write_done<O: Sink, E: Sink>(done: Done, out: &mut O, err: &mut E) -> End
 /// Writes on err what stopped the work; out takes nothing.
 fn write_stop<E: Sink>(stop: Stop, err: &mut E) -> End
     ensures closed { (words : List (List ℕ)) (told : Contents) (before after : Faults) (out : Option (List ℕ))
-        → IsStopOf words told before.read after.read stop
+        → IsStopBy (ComesTo words told) before.read after.read stop
         → Closed words told before after result out out (E.told err.old) (E.told err.new) }
     ensures no_out_fault { result ≢ End.WriteFault Pipe.Out }
     ensures err_fault { result ≡ End.WriteFault Pipe.Err → FaultCounted (E.faults err.old) (E.faults err.new) }
@@ -65,29 +70,33 @@ fn write_stop<E: Sink>(stop: Stop, err: &mut E) -> End
 {
     match stop {
         Stop::Usage => say(
-            "usage: guard validate --rules FILE --data FILE [--evidence] | check --rules FILE --data FILE --proof FILE | drill --count N\n",
+            b"usage: guard validate --rules FILE --data FILE [--evidence] | check --rules FILE --data FILE --proof FILE | drill --count N\n",
             End::Usage,
             err,
         ),
         Stop::Refused(Refused { refusal, line }) => {
-            say(line.as_str(), End::Refused(refusal), err)
+            say(line.as_bytes(), End::Refused(refusal), err)
         }
-        Stop::Unread(which) => say(read_fault_text(which), End::ReadFault(which), err),
-        Stop::Unmade => say("guard: pattern refused\n", End::PatternRefused, err),
+        Stop::Unread(which) => say(
+            read_fault_text(which).as_bytes(),
+            End::ReadFault(which),
+            err,
+        ),
+        Stop::Unmade => say(b"guard: pattern refused\n", End::PatternRefused, err),
         Stop::Memory => say_memory(err),
     }
 }
 
 /// Writes a line on err, and gives the end where err took it. Where err wants memory for it, the
 /// line of that is tried.
-fn say<E: Sink>(line: &str, end: End, err: &mut E) -> End
+fn say<E: Sink>(line: &[u8], end: End, err: &mut E) -> End
     ensures said { Said line.now end result (E.told err.old) (E.told err.new) }
     ensures whole { result ≢ End.WriteFault Pipe.Err → result ≢ End.Memory → result ≡ end }
     ensures fault { end ≢ End.WriteFault Pipe.Err → result ≡ End.WriteFault Pipe.Err
         → FaultCounted (E.faults err.old) (E.faults err.new) }
     ensures kept { E.faults err.old ≤ E.faults err.new }
 {
-    match err.put(line.as_bytes()) {
+    match err.put(line) {
         Ok(()) => end,
         Err(SinkFault::Failed) => End::WriteFault(Pipe::Err),
         Err(SinkFault::Memory) => say_memory(err),

@@ -4,8 +4,9 @@ use Rattle.evidence_checker.specs.Answered.{IsAnswer}
 use Rattle.evidence_rules.specs.Rejected.{IsRejectedAt}
 use Rattle.rule_names.specs.Files.{file_of}
 use Rattle.evidence_rules.specs.Follows.{Accepts}
-use Rattle.guard_ends.specs.Check.{accepted_text, rejected_text}
+use Rattle.guard_ends.specs.Check.{accepted_text}
 use Rattle.guard_ends.specs.declared.ends.End.TheVariants as end_is
+use Rattle.guard_run.specs.Outcome.{ended}
 use Rattle.guard_run.proofs.Closing.{reported_as}
 use Rattle.guard_run.proofs.VerdictCounts.{verdicts-counted}
 use Rattle.guard_run.proofs.check.check_lines.Goals as goal
@@ -30,11 +31,14 @@ returns-in_ok-text-in-Accepted c =
     let verdicts = c.in-Accepted.verdicts.items in
     let said : Accepts version tree rules lines × AreOfRules lines rules.rules rules.loose verdicts =
     subst (λ a. IsAnswer version tree rules lines a) c.in-Accepted.is c.in_ok-answer.ensures in
-    let text : c.in_ok-text-in-Accepted.text.items ≡ accepted_text rules c.deref.result.now = c.in_ok-text-in-Accepted.ensures in
-    inl (verdicts, said.0, said.1, ap (reported_as end_is.Accepted) (text ∙ ap (accepted_text rules) c.deref.ensures.value))
+    let text : c.in_ok-text-in-Accepted.text.items ≡ accepted_text rules c.deref.result.now = c.in_ok-text-in-Accepted.ensures in (
+      reported_as end_is.Accepted c.in_ok-text-in-Accepted.text.items,
+      inl (verdicts, said.0, said.1, ap (reported_as end_is.Accepted) (text ∙ ap (accepted_text rules) c.deref.ensures.value)),
+      refl,
+    )
 
-pub returns-in_ok-text-in-Rejected : goal.returns-in_ok-text-in-Rejected
-returns-in_ok-text-in-Rejected c =
+pub returns-in-Rejected : goal.returns-in-Rejected
+returns-in-Rejected c =
     let rules = file_of c.args.inputs.now.rules.now.file in
     let tree = c.args.inputs.now.tree in
     let version = c.args.evidence.now.version in
@@ -42,6 +46,4 @@ returns-in_ok-text-in-Rejected c =
     let number = c.in-Rejected.number in
     let rejected : IsRejectedAt version tree rules lines number =
     subst (λ a. IsAnswer version tree rules lines a) c.in-Rejected.is c.in_ok-answer.ensures in
-    let text : c.in_ok-text-in-Rejected.text.items ≡ rejected_text number =
-    c.in_ok-text-in-Rejected.ensures.items ∙ (c.as_bytes.ensures.value ∙ (c.as_str.ensures.value ∙ c.rejected_text-line.ensures)) in
-    inr (number, rejected, ap (reported_as (end_is.Rejected number)) text)
+    (ended c.rejected.result, inr (number, rejected, c.rejected.ensures), refl)

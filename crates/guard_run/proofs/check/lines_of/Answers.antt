@@ -1,6 +1,7 @@
-use Rattle.std.proofs.Common.{ℕ, List, subst}
+use Rattle.std.proofs.Common.{ℕ, List, ap, subst}
 use Rattle.evidence_lines.specs.Text.{IsEvidence, IsFault, IsRefused}
 use Rattle.evidence_lines.specs.declared.refusal.EvidenceRefusal.{EvidenceRefusal}
+use Rattle.guard_ends.specs.Order.{Ends}
 use Rattle.guard_ends.specs.declared.ends.Refusal.TheVariants.{EvidenceSyntax}
 use Rattle.guard_run.proofs.check.lines_of.Goals as goal
 
@@ -17,4 +18,4 @@ returns-in-Err-Syntax c =
     let why : IsFault c.deref.result.now number =
     subst (λ (r : EvidenceRefusal). IsRefused c.deref.result.now r) c.in-Err-Syntax.field-0-is c.in-Err-Syntax.ensures.refusal in
     let fault : IsFault bytes number = subst (λ (b : List ℕ). IsFault b number) c.deref.ensures.value why in
-    (EvidenceSyntax number, (c.requires, fault), c.not_evidence.ensures bytes)
+    (EvidenceSyntax number, (c.requires, fault), ap Ends (c.not_evidence.ensures bytes))

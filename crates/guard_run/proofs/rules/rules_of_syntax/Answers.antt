@@ -1,9 +1,10 @@
-use Rattle.std.proofs.Common.{None, inr, refl, subst}
+use Rattle.std.proofs.Common.{None, ap, inr, refl, subst}
 use Rattle.guard_syntax.specs.Seen.{see_file}
 use Rattle.name_table.specs.Refused.{IsNameRefusal}
 use Rattle.name_table.specs.declared.refusal.NameRefusal.TheVariants.{Bad}
 use Rattle.rule_names.specs.Faults.{Fault}
 use Rattle.guard_ends.specs.Inputs.{IsText, name_kind, name_said, rules_limit}
+use Rattle.guard_ends.specs.Order.{Ends}
 use Rattle.guard_ends.specs.declared.ends.Refusal.TheVariants.{At}
 use Rattle.guard_ends.specs.declared.ends.Which.TheVariants as file
 use Rattle.guard_run.proofs.rules.rules_of_syntax.Goals as goal
@@ -22,5 +23,5 @@ returns-in-Ok-refused_name c =
     let fault : Fault = record { kind = c.in-Err-Bad.kind; named = record { text = c.in-Err-Bad.name; at = c.in-Err-Bad.at } } in (
       At file.Rules (name_kind c.in-Err-Bad.kind) c.in-Err-Bad.at (name_said c.in-Err-Bad.kind c.in-Err-Bad.name),
       (text, inr (see_file c.args.raw, c.requires.syntax, (fault, bad, refl, refl, refl))),
-      rw c.as_bytes.ensures.value at c.in-Ok-refused_name.ensures,
+      ap Ends (rw c.as_bytes.ensures.value at c.in-Ok-refused_name.ensures),
     )

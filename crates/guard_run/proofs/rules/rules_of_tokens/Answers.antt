@@ -1,7 +1,7 @@
 use Rattle.std.proofs.Common.{inl, inr, refl, sym, ◌∙◌}
 use Rattle.guard_ends.specs.Inputs.{IsText, RefusesRules, rules_limit}
 use Rattle.guard_ends.specs.declared.ends.Which.TheVariants as file
-use Rattle.guard_run.proofs.Refusing.{parse-refuses, placed-not_read}
+use Rattle.guard_run.proofs.Refusing.{placed-not_read}
 use Rattle.guard_run.proofs.rules.rules_of_tokens.Goals as goal
 
 pub returns-in-Err : goal.returns-in-Err
@@ -15,7 +15,7 @@ returns-in-Err c =
         inr (
           c.args.tokens.now,
           c.requires.tokens,
-          parse-refuses c.args.text.now c.args.tokens.now c.in-Err.refusal kind at (sym c.parse_kind.ensures ∙ named) c.in-Err.ensures.refusal,
+          (c.in-Err.refusal, sym c.parse_kind.ensures ∙ named, c.in-Err.ensures.refusal),
         ),
       ),
     )) c.unread_at.ensures

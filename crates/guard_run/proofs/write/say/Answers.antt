@@ -8,14 +8,14 @@ pub returns-in-Err-Failed-clause-said : goal.returns-in-Err-Failed-clause-said
 returns-in-Err-Failed-clause-said g c =
     let front : (front : List ℕ) × IsPrefix front c.args.line.now × Took (g.E.Sink.told c.args.err.now) (g.E.Sink.told c.put.new.self) front =
     Took-front (g.E.Sink.told c.args.err.now) (g.E.Sink.told c.put.new.self) c.args.line.now
-    (rw c.as_bytes.ensures.value at c.in-Err-Failed.ensures.err) in
+    c.in-Err-Failed.ensures.err in
     inr (inl (refl, front))
 
 pub returns-clause-said : goal.returns-clause-said
 returns-clause-said g c =
     let begun : (front : List ℕ) × IsPrefix front c.args.line.now × Took (g.E.Sink.told c.args.err.now) (g.E.Sink.told c.put.new.self) front =
     Took-front (g.E.Sink.told c.args.err.now) (g.E.Sink.told c.put.new.self) c.args.line.now
-    (rw c.as_bytes.ensures.value at c.in-Err-Memory.ensures.err) in
+    c.in-Err-Memory.ensures.err in
     let tried = c.say_memory.ensures.said.1 in
     inr (inr (
       c.say_memory.ensures.said.0,

@@ -5,6 +5,7 @@ use Rattle.guard_ends.specs.End.{Faults, Took, is_reported}
 use Rattle.guard_ends.specs.Lines.{write_fault_line}
 use Rattle.guard_ends.specs.declared.ends.End.TheVariants.{WriteFault}
 use Rattle.guard_ends.specs.declared.ends.Pipe.TheVariants.{Out}
+use Rattle.guard_run.specs.Refusals.{bytes_of}
 use Rattle.guard_run.proofs.Closing.{Took-front, Took-nothing, Closed-said, Closed-memory, Closed-defined, IsReport-as, reported_as, reported-defined}
 use Rattle.guard_run.proofs.write.write_done.Goals as goal
 
@@ -13,9 +14,9 @@ returns-in-Ok-clause-closed g c = λ words told old new end.
     let before : Faults = record { read = old; out = g.O.Sink.faults c.args.out.now } in
     let after : Faults = record { read = new; out = g.O.Sink.faults c.put.new.self } in
     let how = c.args.done.how in
-    let text : List ℕ = c.args.done.out.items in
+    let text : List ℕ = bytes_of c.args.done.out in
     let taken : Took (g.O.Sink.told c.args.out.now) (g.O.Sink.told c.put.new.self) text =
-    subst (λ (b : List ℕ). Took (g.O.Sink.told c.args.out.now) (g.O.Sink.told c.put.new.self) b) c.deref.ensures.value c.in-Ok.ensures.ok in
+    subst (λ (b : List ℕ). Took (g.O.Sink.told c.args.out.now) (g.O.Sink.told c.put.new.self) b) c.as_bytes.ensures c.in-Ok.ensures.ok in
     Closed-defined words told before after how (g.O.Sink.told c.args.out.now) (g.O.Sink.told c.put.new.self)
     (g.E.Sink.told c.args.err.now) (g.E.Sink.told c.args.err.now) (reported-defined how c.args.done.reported)
     (reported_as how text, end, refl, taken, Took-nothing (g.E.Sink.told c.args.err.now))
@@ -24,9 +25,9 @@ pub returns-in-Err-Failed-clause-closed : goal.returns-in-Err-Failed-clause-clos
 returns-in-Err-Failed-clause-closed g c = λ words told old new end.
     let before : Faults = record { read = old; out = g.O.Sink.faults c.args.out.now } in
     let after : Faults = record { read = new; out = g.O.Sink.faults c.put.new.self } in
-    let text : List ℕ = c.args.done.out.items in
+    let text : List ℕ = bytes_of c.args.done.out in
     let cut : (front : List ℕ) × IsPrefix front text × Took (g.O.Sink.told c.args.out.now) (g.O.Sink.told c.put.new.self) front =
-    Took-front (g.O.Sink.told c.args.out.now) (g.O.Sink.told c.put.new.self) text (rw c.deref.ensures.value at c.in-Err-Failed.ensures.err) in
+    Took-front (g.O.Sink.told c.args.out.now) (g.O.Sink.told c.put.new.self) text (rw c.as_bytes.ensures at c.in-Err-Failed.ensures.err) in
     let whole = IsReport-as words told c.args.done.how text c.args.done.reported end in
     Closed-said words told before after write_fault_line (WriteFault Out) c.say.result (g.O.Sink.told c.args.out.now) (g.O.Sink.told c.put.new.self)
     (g.E.Sink.told c.args.err.now) (g.E.Sink.told c.say.new.err) cut.0
@@ -37,9 +38,9 @@ pub returns-clause-closed : goal.returns-clause-closed
 returns-clause-closed g c = λ words told old new end.
     let before : Faults = record { read = old; out = g.O.Sink.faults c.args.out.now } in
     let after : Faults = record { read = new; out = g.O.Sink.faults c.put.new.self } in
-    let text : List ℕ = c.args.done.out.items in
+    let text : List ℕ = bytes_of c.args.done.out in
     let cut : (front : List ℕ) × IsPrefix front text × Took (g.O.Sink.told c.args.out.now) (g.O.Sink.told c.put.new.self) front =
-    Took-front (g.O.Sink.told c.args.out.now) (g.O.Sink.told c.put.new.self) text (rw c.deref.ensures.value at c.in-Err-Memory.ensures.err) in
+    Took-front (g.O.Sink.told c.args.out.now) (g.O.Sink.told c.put.new.self) text (rw c.as_bytes.ensures at c.in-Err-Memory.ensures.err) in
     Closed-memory words told before after c.say_memory.result (g.O.Sink.told c.args.out.now) (g.O.Sink.told c.put.new.self)
     (g.E.Sink.told c.args.err.now) (g.E.Sink.told c.say_memory.new.err) cut.0
     (inr (inl (text, IsReport-as words told c.args.done.how text c.args.done.reported end, cut.1, refl))) cut.2 c.say_memory.ensures.said

@@ -1,10 +1,10 @@
-use Rattle.std.proofs.Common.{ℕ, List, inl, inr, refl, [], subst}
-use Rattle.guard_ends.specs.End.{Ended, EndOf, Loads, Unread, Unmade, Took}
+use Rattle.std.proofs.Common.{inl, inr, refl, [], subst}
+use Rattle.guard_ends.specs.End.{Unread, Unmade, Took}
 use Rattle.guard_ends.specs.Lines.{usage_line, read_fault_line, pattern_line}
-use Rattle.guard_ends.specs.Request.{Request}
+use Rattle.guard_ends.specs.Order.{ComesTo, EndOf, usage}
 use Rattle.guard_ends.specs.declared.ends.End.TheVariants as end_is
-use Rattle.guard_run.specs.Outcome.{IsStopOf}
-use Rattle.guard_run.specs.Refusals.{line_bytes, said}
+use Rattle.guard_run.specs.Outcome.{IsStopBy}
+use Rattle.guard_run.specs.Refusals.{bytes_of, said}
 use Rattle.guard_run.specs.Writing.{Said}
 use Rattle.guard_run.specs.declared.refused.Refused.{Refused}
 use Rattle.guard_run.proofs.Closing.{Took-nothing, Closed-said, Closed-memory}
@@ -12,8 +12,7 @@ use Rattle.guard_run.proofs.write.write_stop.Goals as goal
 
 pub returns-in-Usage-clause-closed : goal.returns-in-Usage-clause-closed
 returns-in-Usage-clause-closed g c = λ words told before after out end.
-    let usage : Ended = record { how = end_is.Usage; out = []; err = usage_line } in
-    let ends : EndOf words told usage = subst (λ s. IsStopOf words told before.read after.read s) c.in-Usage.is end in
+    let ends : EndOf words told usage = subst (λ s. IsStopBy (ComesTo words told) before.read after.read s) c.in-Usage.is end in
     let none : Took out out [] = Took-nothing out in
     Closed-said words told before after usage_line end_is.Usage c.say.result
     out out (g.E.Sink.told c.args.err.now) (g.E.Sink.told c.say.new.err) []
@@ -22,30 +21,30 @@ returns-in-Usage-clause-closed g c = λ words told before after out end.
 pub returns-in-Refused-clause-closed : goal.returns-in-Refused-clause-closed
 returns-in-Refused-clause-closed g c = λ words told before after out end.
     let r : Refused = c.in-Refused.field-0 in
-    let ends : EndOf words told (said r) = subst (λ s. IsStopOf words told before.read after.read s) c.in-Refused.is end in
+    let ends : EndOf words told (said r) = subst (λ s. IsStopBy (ComesTo words told) before.read after.read s) c.in-Refused.is end in
     let none : Took out out [] = Took-nothing out in
-    let tried : Said (line_bytes r.line) (end_is.Refused r.refusal) c.say-in-Refused.result
-    (g.E.Sink.told c.args.err.now) (g.E.Sink.told c.say-in-Refused.new.err) = rw c.as_str.ensures at c.say-in-Refused.ensures.said in
-    Closed-said words told before after (line_bytes r.line) (end_is.Refused r.refusal) c.say-in-Refused.result
+    let tried : Said (bytes_of r.line) (end_is.Refused r.refusal) c.say-in-Refused.result
+    (g.E.Sink.told c.args.err.now) (g.E.Sink.told c.say-in-Refused.new.err) = rw c.as_bytes.ensures at c.say-in-Refused.ensures.said in
+    Closed-said words told before after (bytes_of r.line) (end_is.Refused r.refusal) c.say-in-Refused.result
     out out (g.E.Sink.told c.args.err.now) (g.E.Sink.told c.say-in-Refused.new.err) []
     (inl (said r, ends, refl, refl, refl)) none (λ whole. (said r, ends, refl, none, whole)) tried
 
 pub returns-in-Unread-clause-closed : goal.returns-in-Unread-clause-closed
 returns-in-Unread-clause-closed g c = λ words told before after out end.
     let which = c.in-Unread.which in
-    let loads : (q : Request) × Loads which words told q × Unread before.read after.read which q =
-    subst (λ s. IsStopOf words told before.read after.read s) c.in-Unread.is end in
+    let loads : Unread words told before.read.files after.read.files which =
+    subst (λ s. IsStopBy (ComesTo words told) before.read after.read s) c.in-Unread.is end in
     let none : Took out out [] = Took-nothing out in
     let tried : Said (read_fault_line which) (end_is.ReadFault which) c.say-in-Unread.result
-    (g.E.Sink.told c.args.err.now) (g.E.Sink.told c.say-in-Unread.new.err) = rw c.read_fault_text.ensures at c.say-in-Unread.ensures.said in
+    (g.E.Sink.told c.args.err.now) (g.E.Sink.told c.say-in-Unread.new.err) = rw (c.as_bytes-in-Unread.ensures.value, c.read_fault_text.ensures) at c.say-in-Unread.ensures.said in
     Closed-said words told before after (read_fault_line which) (end_is.ReadFault which) c.say-in-Unread.result
     out out (g.E.Sink.told c.args.err.now) (g.E.Sink.told c.say-in-Unread.new.err) []
     (inr (inl (which, loads, refl, refl))) none (λ whole. (loads, (none, whole))) tried
 
 pub returns-in-Unmade-clause-closed : goal.returns-in-Unmade-clause-closed
 returns-in-Unmade-clause-closed g c = λ words told before after out end.
-    let unmade : (text : List ℕ) × Unmade words told before.read.patterns after.read.patterns text =
-    subst (λ s. IsStopOf words told before.read after.read s) c.in-Unmade.is end in
+    let unmade : Unmade words told before.read.patterns after.read.patterns =
+    subst (λ s. IsStopBy (ComesTo words told) before.read after.read s) c.in-Unmade.is end in
     let none : Took out out [] = Took-nothing out in
     Closed-said words told before after pattern_line end_is.PatternRefused c.say-in-Unmade.result
     out out (g.E.Sink.told c.args.err.now) (g.E.Sink.told c.say-in-Unmade.new.err) []

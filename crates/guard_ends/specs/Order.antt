@@ -1,0 +1,176 @@
+-- The order of work: what a call comes to, by its words and by what is told of the files. A stage of the work comes to
+-- something itself, or the work goes on with what the stage gives.
+use Rattle.std.specs.Prelude.{ℕ, ◌≡◌, ◌⊎◌, List, [], Option, None, IsSome, IsNone, All, true, false, if◌then◌else◌}
+use Rattle.std.specs.List.{list_any}
+use Rattle.std.specs.Option.{ForSome}
+use Rattle.doc_values.specs.Tree.{Forest}
+use Rattle.evidence_lines.specs.Versioned.{Versioned}
+use Rattle.evidence_rules.specs.Follows.{Accepts}
+use Rattle.evidence_rules.specs.Rejected.{IsRejectedAt}
+use Rattle.evidence_rules.specs.RuleLines.{AreOfRules}
+use Rattle.guard_drill.specs.DrillTexts.{template_text}
+use Rattle.guard_syntax.specs.Syntax.{File}
+use Rattle.guard_syntax.specs.declared.row.Verdict.{Verdict}
+use Rattle.guard_words.specs.Request.{Asked, AsksFor, check, drill, validate}
+use Rattle.rule_meaning.specs.FunctionMeaning.{IsAnswering}
+use Rattle.rule_meaning.specs.Locations.{Answers, World}
+use Rattle.rule_meaning.specs.NextPattern.{IsNextPattern}
+use Rattle.rule_meaning.specs.PatternMatch.{pattern_in}
+use Rattle.rule_meaning.specs.Patterns.{Written, patterns_of}
+use Rattle.rule_meaning.specs.Verdicts.{is_fail}
+use Rattle.guard_ends.specs.Check.{accepted_text, rejected_text}
+use Rattle.guard_ends.specs.Drill.{drill_report, drill_rules}
+use Rattle.guard_ends.specs.Inputs.{IsProof, IsRuleFile, IsTemplate, RefusesProof, RefusesRules, RefusesTemplate, format_of}
+use Rattle.guard_ends.specs.Lines.{refusal_line, usage_line}
+use Rattle.guard_ends.specs.Report.{Reporting, report}
+use Rattle.guard_ends.specs.Reported.{verdicts_of, world_over}
+use Rattle.guard_ends.specs.declared.ends.End.{End}
+use Rattle.guard_ends.specs.declared.ends.End.TheVariants as end_is
+use Rattle.guard_ends.specs.declared.ends.Refusal.{Refusal}
+use Rattle.guard_ends.specs.declared.ends.Refusal.TheVariants.{At}
+use Rattle.guard_ends.specs.declared.ends.RefusalKind.TheVariants.{BadPattern}
+use Rattle.guard_ends.specs.declared.ends.Which.{Which}
+use Rattle.guard_ends.specs.declared.ends.Which.TheVariants as file
+use Rattle.guard_ends.specs.declared.format.Format.{Format}
+use Rattle.guard_ends.specs.declared.format.Format.TheVariants.{Json}
+
+-- how a call ends, and what out and err take
+pub record Ended : Type 0 where
+  pub how : End
+  pub out : List ℕ
+  pub err : List ℕ
+
+-- what a call comes to: its end, the load of a file by its name, or the making of a pattern by its text
+pub data Point : Type 0 where
+  Ends : Ended → Point
+  Loads : Which → List ℕ → Point
+  Makes : List ℕ → Point
+
+-- work is told by what a call comes to in it
+abbrev pub Work : Type 1
+Work = Point → Type 0
+
+-- what is told of the files before the call: by the name of each its content, if that is told
+abbrev pub Contents : Type 0
+Contents = List ℕ → Option (List ℕ)
+
+-- bytes that a file can have by what is told of it
+abbrev pub IsContent : Option (List ℕ) → List ℕ → Type 0
+IsContent told bytes = ForSome told (λ content. bytes ≡ content)
+
+-- ---- Ends.
+
+-- words that ask for nothing, or for what is not done yet
+abbrev pub usage : Ended
+usage = record { how = end_is.Usage; out = []; err = usage_line }
+
+-- a file with these bytes that is refused: the refusal has its line on err
+abbrev pub refused : List ℕ → Refusal → Ended
+refused bytes refusal = record { how = end_is.Refused refusal; out = []; err = refusal_line bytes refusal }
+
+-- a template that was judged by rules, by the bytes of both: Failed if a reported verdict is FAIL, else Passed; out takes the
+-- report, as it is made
+abbrev pub judged : Reporting → World → (source template : List ℕ) → Ended
+judged made world source template = record {
+  how = if list_any is_fail (verdicts_of world) then end_is.Failed else end_is.Passed;
+  out = made world source template;
+  err = [];
+}
+
+-- rules and a template that were read, with the bytes of each
+pub record Inputs : Type 0 where
+  pub source : List ℕ
+  pub rules : File
+  pub template : List ℕ
+  pub tree : Forest
+
+-- they were judged, by answers that functions give, which are what their table says
+abbrev pub IsJudged : Reporting → Inputs → Ended → Type 0
+IsJudged made inputs e = (answers : Answers) × IsAnswering (world_over inputs.rules inputs.tree answers)
+    × (e ≡ judged made (world_over inputs.rules inputs.tree answers) inputs.source inputs.template)
+
+-- evidence that was judged, for rules and a template: it is accepted, and out takes the verdicts that it says, or it is rejected
+-- at a line
+abbrev pub IsChecked : File → Forest → Versioned → Ended → Type 0
+IsChecked rules tree evidence e =
+    ((verdicts : List Verdict) × Accepts evidence.version tree rules evidence.lines × AreOfRules evidence.lines rules.rules rules.loose verdicts
+    × (e ≡ record { how = end_is.Accepted; out = accepted_text rules verdicts; err = [] }))
+    ⊎ ((number : ℕ) × IsRejectedAt evidence.version tree rules evidence.lines number
+    × (e ≡ record { how = end_is.Rejected number; out = rejected_text number; err = [] }))
+
+-- ---- Stages.
+
+-- the work ends so
+abbrev pub Ending : (Ended → Type 0) → Work
+Ending Is p = (e : Ended) × Is e × (p ≡ Ends e)
+
+-- a file is loaded: a call comes to that, and the work goes on with bytes that the file can have
+abbrev pub Loading : Which → Contents → (name : List ℕ) → (List ℕ → Work) → Work
+Loading which told name GoesOn p = (p ≡ Loads which name) ⊎ ((bytes : List ℕ) × IsContent (told name) bytes × GoesOn bytes p)
+
+-- bytes are refused
+abbrev pub Refusing : (List ℕ → Refusal → Type 0) → List ℕ → Work
+Refusing Refuses bytes p = (refusal : Refusal) × Refuses bytes refusal × (p ≡ Ends (refused bytes refusal))
+
+-- bytes are read: they are refused, or the work goes on with what they are
+abbrev pub Reading : {X : Type 0} → (List ℕ → Refusal → Type 0) → (List ℕ → X → Type 0) → List ℕ → (X → Work) → Work
+Reading {X} Refuses Is bytes GoesOn p = Refusing Refuses bytes p ⊎ ((x : X) × Is bytes x × GoesOn x p)
+
+-- each pattern of the rules is read
+abbrev pub AreRead : File → Type 0
+AreRead rules = All (λ (w : Written). IsSome (pattern_in w.text)) (patterns_of rules)
+
+-- the next pattern of rules with these bytes: it is made, or it cannot be read, and is refused at its place
+abbrev pub MakingPattern : (source text : List ℕ) → (at : ℕ) → Work
+MakingPattern source text at p = (p ≡ Makes text) ⊎ (IsNone (pattern_in text) × (p ≡ Ends (refused source (At file.Rules BadPattern at None))))
+
+-- the patterns of rules are made, one after another, and the work goes on where each is read
+abbrev pub MakingPatterns : (source : List ℕ) → File → Work → Work
+MakingPatterns source rules GoesOn p =
+    ((text : List ℕ) × (at : ℕ) × IsNextPattern rules text at × MakingPattern source text at p) ⊎ (AreRead rules × GoesOn p)
+
+-- rules are loaded and read, and then a template is loaded
+abbrev pub LoadingTexts : Contents → (rules template : List ℕ) → ((source : List ℕ) → File → (template : List ℕ) → Work) → Work
+LoadingTexts told rules template GoesOn =
+    Loading file.Rules told rules (λ source. Reading RefusesRules IsRuleFile source (λ read. Loading file.Template told template (GoesOn source read)))
+
+-- with rules that are read: a template is read in a format, and then the patterns are made
+abbrev pub ReadingInputs : Format → (source : List ℕ) → File → (template : List ℕ) → (Inputs → Work) → Work
+ReadingInputs f source rules template GoesOn =
+    Reading (RefusesTemplate f) (IsTemplate f) template (λ tree. MakingPatterns source rules
+    (GoesOn (record { source = source; rules = rules; template = template; tree = tree })))
+
+-- ---- The work of each command.
+
+-- the rules and the template of these names become inputs, with which the work goes on
+abbrev pub OverFiles : Contents → (rules template : List ℕ) → (Inputs → Work) → Work
+OverFiles told rules template GoesOn =
+    LoadingTexts told rules template (λ source read bytes. ReadingInputs (format_of template) source read bytes GoesOn)
+
+-- `check`: evidence of this name is loaded, read and judged
+abbrev pub OfEvidence : Contents → (proof : List ℕ) → Inputs → Work
+OfEvidence told proof inputs =
+    Loading file.Proof told proof (λ bytes. Reading RefusesProof IsProof bytes (λ evidence. Ending (IsChecked inputs.rules inputs.tree evidence)))
+
+-- `drill`: the rules and the template of a drill of so many resources become inputs, which are judged; it loads no file, and it
+-- makes no pattern, so it comes to nothing but an end
+abbrev pub OfDrill : (count : ℕ) → Work
+OfDrill count = Ending (λ e. Reading RefusesRules IsRuleFile drill_rules
+    (λ rules. ReadingInputs Json drill_rules rules (template_text count) (λ inputs. Ending (IsJudged (drill_report count) inputs))) (Ends e))
+
+-- the work of what is asked for, a line for each command; `validate` with `--evidence` is not done yet
+abbrev pub WorkOf : Asked → Contents → Work
+WorkOf (validate rules template false) told = OverFiles told rules template (λ inputs. Ending (IsJudged report inputs))
+WorkOf (validate rules template true) told = Ending (λ e. e ≡ usage)
+WorkOf (check rules template proof) told = OverFiles told rules template (OfEvidence told proof)
+WorkOf (drill count) told = OfDrill count
+
+-- what a call with these words over these files comes to: that of the work which they ask for, or, if they ask for none, Usage
+abbrev pub ComesTo : List (List ℕ) → Contents → Work
+ComesTo words told p =
+    ((asked : Asked) × AsksFor words asked × WorkOf asked told p)
+    ⊎ (((asked : Asked) → ¬ AsksFor words asked) × (p ≡ Ends usage))
+
+-- how it can end
+abbrev pub EndOf : List (List ℕ) → Contents → Ended → Type 0
+EndOf words told e = ComesTo words told (Ends e)
