@@ -1,5 +1,5 @@
 -- The answer that is worked out is that of the table.
-use Rattle.std.proofs.Common.{◌≡◌, ◌≢◌, ℕ, ℤ, pos, negsuc, ◌+◌, ◌<◌, ◌≤◌, ◌^◌, Bool, true, false, List, [], ◌∷◌, length, map, nat_le, nat_lt, slice_range, get_or, unsigned_abs, IsUtf8, Option, Some, None, option_map, MatchOption, Result, Ok, Err, refl, sym, ap, ap₂, subst, ◌∙◌, arith}
+use Rattle.std.proofs.Common.{◌≡◌, ℕ, ℤ, pos, negsuc, ◌≤◌, ◌^◌, Bool, true, false, List, [], ◌∷◌, length, map, nat_le, nat_lt, slice_range, get_or, unsigned_abs, Option, Some, None, option_map, MatchOption, Result, Ok, Err, refl, sym, subst, ◌∙◌, arith}
 use Rattle.std.specs.Prelude.{◌&&◌, ◌||◌, not, option_and_then, if◌then◌else◌}
 use Rattle.std.specs.Char.{to_ascii_lowercase, to_ascii_uppercase}
 use Rattle.std.specs.Str.{IsCharBoundary, is_utf8}
@@ -24,9 +24,9 @@ use Rattle.guard_syntax.specs.declared.function.Function.{Function}
 use Rattle.guard_syntax.specs.declared.function.Function.TheVariants as function
 use Rattle.guard_syntax.specs.declared.row.Row.{Row}
 use Rattle.guard_syntax.specs.declared.row.Row.TheVariants as row
-use Rattle.meaning_laws.specs.Answered.{answered, answered_for, answered_row, cut, cut_at, decimal_of_num, decimal_read, decoded, given_by, is_boundary, lowered, num_of, parsed, raised, replaced, signed, tree_if_ok, whole_of_num, whole_read}
+use Rattle.meaning_laws.specs.Answered.{answered, answered_for, answered_row, cut, decimal_of_num, decimal_read, decoded, given_by, is_boundary, lowered, num_of, parsed, raised, replaced, signed, tree_if_ok, whole_of_num, whole_read}
 use Rattle.rule_meaning.specs.PatternMatch.{pattern_in}
-use Rattle.rule_meaning.specs.Functions.{AreRows, ForText, Functions, Gives, IsDecimal, IsDecimalBy, IsGiven, IsLower, IsParsed, IsPart, IsReplacement, IsRow, IsRowFor, IsSigned, IsUnescaped, IsUpper, IsWholeBy, argument, behind_plus, decimal_tree, printed_by, replaced_with, single_text, single_whole, text_of, text_tree, truth_by, truth_tree, whole_tree}
+use Rattle.rule_meaning.specs.Functions.{AreRows, ForText, Functions, Gives, IsDecimal, IsDecimalBy, IsGiven, IsParsed, IsPart, IsReplacement, IsRow, IsRowFor, IsSigned, IsUnescaped, IsWholeBy, argument, behind_plus, decimal_tree, printed_by, replaced_with, single_text, single_whole, text_of, text_tree, truth_by, truth_tree, whole_tree}
 use Rattle.rule_meaning.specs.StoreModel.{StoreModel, stands_for}
 use Rattle.rule_meaning.specs.Values.{Value}
 use Rattle.value_compare.proofs.OneAnswer.{IsSigned-unique}

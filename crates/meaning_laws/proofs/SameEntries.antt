@@ -7,14 +7,14 @@ use Rattle.std.proofs.Math.Path.{fun_ext}
 use Rattle.guard_syntax.specs.Syntax.{Body, Disjs, Disj, Parts, Part, Exprs, File, Rule, body, no_disjs, more_disjs, disj, no_parts, more_parts, block, guarded, kinds, test, refer, call}
 use Rattle.guard_syntax.specs.declared.row.Verdict.{Verdict}
 use Rattle.rule_names.proofs.Shallow.{AreShallow, rules-shallow}
-use Rattle.rule_names.specs.Deep.{deep_rules, default_limit}
+use Rattle.rule_names.specs.Deep.{deep_rules}
 use Rattle.rule_names.specs.Depths.{larger, depth_at, depth_body, depth_conds, depth_disj, depth_disjs, depth_exprs, depth_lets, depth_opt_conds, depth_opt_expr, depth_part, depth_parts, depth_piece, depth_limit, depth_query, depth_rule, depth_target, depths_of}
 use Rattle.rule_names.specs.Pieces.{Piece, OfFile, OfLet, OfRule, OfBody, OfConds, OfDisj, OfPart, OfQuery, OfStep, OfExpr, piece_at}
 use Rattle.rule_names.specs.Resolution.{target_of}
 use Rattle.rule_meaning.specs.Environments.{Environment, Top, Inner, Called, current_of}
 use Rattle.rule_meaning.specs.Fails.{Calls, Entry, block_row_fails, body_fails, calls_by, disj_fails, disjs_fails, loose_fails, part_fails, parts_fails, piece_fails, rule_fails, set_fails, target_fails, test_fails, unfold_fails}
 use Rattle.rule_meaning.specs.Locations.{Location, LocatedRow, World, root_location}
-use Rattle.rule_meaning.specs.Meaning.{Names, body_verdict, disj_verdict, part_verdict, rows_of, rows_of_side}
+use Rattle.rule_meaning.specs.Meaning.{Names, body_verdict}
 use Rattle.rule_meaning.specs.NameMeaning.{unfolded}
 use Rattle.rule_meaning.specs.SetTests.{is_empty_test, is_set}
 use Rattle.rule_meaning.specs.StepMeaning.{passes, rows_of_type}
@@ -84,7 +84,8 @@ module _ (world : World) (depths : List ℕ) (k : ℕ) (a b : Names) (same : Agr
         let m = depth_query world.file depths head in
         let n = depth_body world.file depths inner in
         let fits = below env (larger m n) h in
-        let at : inner_fails world a c env inner ≡ inner_fails world b d env inner = fun_ext (λ v. inner-entries env v inner (second env m n fits)) in
+        let at : inner_fails world a c env inner ≡ inner_fails world b d env inner = fun_ext (λ v. ap₂ (λ (w : Verdict) (es : List Entry). those (is_fail w) es)
+        (body-same world depths k a b same (Inner v env) inner (second env m n fits)) (body-entries (Inner v env) inner (second env m n fits))) in
         ap₂ (λ (fails : Location → List Entry) (rows : List LocatedRow). flat_map (block_row_fails site fails) rows) at (rows-same world depths k a b same env head (first env m n fits))
     part-entries env (guarded site conditions inner) h =
         let m = depth_conds world.file depths conditions in
@@ -94,24 +95,20 @@ module _ (world : World) (depths : List ℕ) (k : ℕ) (a b : Names) (same : Agr
         let m = depth_opt_conds world.file depths conditions in
         let n = depth_body world.file depths inner in
         let fits = below env (larger m n) h in
-        let at : inner_fails world a c env inner ≡ inner_fails world b d env inner = fun_ext (λ v. inner-entries env v inner (second env m n fits)) in
+        let at : inner_fails world a c env inner ≡ inner_fails world b d env inner = fun_ext (λ v. ap₂ (λ (w : Verdict) (es : List Entry). those (is_fail w) es)
+        (body-same world depths k a b same (Inner v env) inner (second env m n fits)) (body-entries (Inner v env) inner (second env m n fits))) in
         ap (λ (fails : Location → List Entry). flat_map (block_row_fails site fails) (rows_of_type world name (current_of env))) at
     part-entries env (test site any left o negated right message) h =
         let m = depth_query world.file depths left in
         let n = depth_opt_expr world.file depths right in
         let fits = below env (larger m n) h in
         ap₂ (λ (lefts rights : List LocatedRow). if is_empty_test o && is_set left
-            then set_fails site negated (current_of env) lefts
-            else test_fails site (passes world o negated rights) lefts)
+        then set_fails site negated (current_of env) lefts
+        else test_fails site (passes world o negated rights) lefts)
         (rows-same world depths k a b same env left (first env m n fits)) (side-same world depths k a b same env right (second env m n fits))
     part-entries env (refer site negated name message) h = refl
     part-entries env (call site true name args message) h = refl
     part-entries env (call site false name args message) h = alike.entries env site args h
-
-    inner-entries : (env : Environment) (v : Location) (inner : Body) → Fits (depth_body world.file depths inner) env
-        → inner_fails world a c env inner v ≡ inner_fails world b d env inner v
-    inner-entries env v inner h =
-        ap₂ (λ (w : Verdict) (es : List Entry). those (is_fail w) es) (body-same world depths k a b same (Inner v env) inner h) (body-entries (Inner v env) inner h)
 
   -- ---- one unfolding more
 
@@ -181,10 +178,7 @@ module _ (world : World) (depths : List ℕ) (told : (site : ℕ) → depth_piec
 -- ---- rules and the parts outside them
 
 module _ (f : File) (fine : IsFine f) (world : World) (is : world.file ≡ f) where
-  depths : List ℕ
-  depths = depths_of world.file
-
-  are_shallow : AreShallow world.file depths
+  are_shallow : AreShallow world.file (depths_of world.file)
   are_shallow = shallow f fine world is
 
   pub entries-steady : (env : Environment) (x : Body) (n m : ℕ) → depth_body world.file (depths_of world.file) x + weight world.file (depths_of world.file) env ≤ n

@@ -2,7 +2,6 @@ use Rattle.std.proofs.Common.{sym, ap, ◌∙◌, subst, ◌≡◌, ◌≤◌, �
 use Rattle.std.specs.Prelude.{slice_index_or}
 use Rattle.evidence_lines.specs.Lines.{line_of}
 use Rattle.evidence_lines.specs.declared.line.Line.{Line}
-use Rattle.guard_syntax.specs.Syntax.{File}
 use Rattle.rule_names.proofs.Parts.{hits}
 use Rattle.rule_names.specs.Pieces.{AreInOrder, pieces_file}
 use Rattle.rule_names.specs.WellNamed.{WellNamed}
