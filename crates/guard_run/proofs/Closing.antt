@@ -1,5 +1,5 @@
 -- What the sinks took, end by end.
-use Rattle.std.proofs.Common.{◌≡◌, ℕ, ◌++◌, inl, inr, List, [], Option, Some, None, refl, sym, ◌∙◌, ap, subst, append_assoc, true, false}
+use Rattle.std.proofs.Common.{◌≡◌, ℕ, ◌++◌, inl, inr, List, [], Option, Some, None, refl, sym, ◌∙◌, ap, subst, append_assoc, true}
 use Rattle.std.proofs.lemmas.List.{append-nil}
 use Rattle.std.specs.Option.{ForSome}
 use Rattle.guard_io.specs.Outside.{IsPrefix}

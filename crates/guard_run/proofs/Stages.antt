@@ -7,7 +7,7 @@ use Rattle.guard_ends.specs.Inputs.{RefusesRules, format_of}
 use Rattle.guard_ends.specs.Order.{Contents, Inputs, Loading, LoadingTexts, OverFiles, Point, ReadingInputs, Refusing, Work}
 use Rattle.guard_ends.specs.declared.ends.Which.TheVariants as file
 use Rattle.guard_ends.specs.declared.format.Format.{Format}
-use Rattle.guard_run.specs.Inputs.{AreInputs, AreLoaded, inputs_of}
+use Rattle.guard_run.specs.Inputs.{AreInputs, AreLoaded, ReadingTexts, inputs_of}
 use Rattle.guard_run.specs.Loading.{RefusesText}
 use Rattle.guard_run.specs.Outcome.{IsOutcome, IsOutcomeBy, IsStopBy}
 use Rattle.guard_run.specs.Stops.{IsStop, NoneRose, Rose}
@@ -31,7 +31,23 @@ pub rules-before : (told : Contents) (rules template : List ℕ) (GoesOn : List 
 rules-before told rules template GoesOn p (inl load) = inl load
 rules-before told rules template GoesOn p (inr (source, content, refused)) = inr (source, content, inl refused)
 
-module _ (told : Contents) (rules template : List ℕ) (GoesOn : Inputs → Work) where
+module _ (texts : Texts) (GoesOn : Inputs → Work) (FileRose PatternRose : List ℕ → Type 0) where
+  -- the inputs are not read
+  pub inputs-stop : (s : Stop) → IsStop (ReadingTexts texts (λ inputs p. ⊥)) NoneRose PatternRose s → IsStop (ReadingTexts texts GoesOn) FileRose PatternRose s
+  inputs-stop s stopped =
+      IsStop-more (ReadingTexts texts (λ inputs p. ⊥)) (ReadingTexts texts GoesOn) NoneRose FileRose PatternRose PatternRose
+      (inputs-before texts.format (string_bytes texts.rules.text) (file_of texts.rules.file) (string_bytes texts.template) GoesOn)
+      (none-rose FileRose) (as-rose PatternRose) s stopped
+
+  -- what comes of them
+  pub inputs-done : (inputs : code.Inputs) → AreInputs texts inputs → (o : Result Done Stop) → IsOutcome (GoesOn (inputs_of inputs)) FileRose NoneRose o
+      → IsOutcome (ReadingTexts texts GoesOn) FileRose PatternRose o
+  inputs-done inputs are o done =
+      IsOutcome-more (GoesOn (inputs_of inputs)) (ReadingTexts texts GoesOn) FileRose FileRose NoneRose PatternRose
+      (λ p goes. inr (inputs.tree, are.read, inr (are.patterns, subst (λ (i : Inputs). GoesOn i p) are.same goes)))
+      (as-rose FileRose) (none-rose PatternRose) o done
+
+module _ (told : Contents) (rules template : List ℕ) (GoesOn : Inputs → Work) (before after : Counts) where
   over-texts : (p : Point) → LoadingTexts told rules template (λ source read. Refusing (RefusesText file.Template)) p → OverFiles told rules template GoesOn p
   over-texts p (inl load) = inl load
   over-texts p (inr (source, content, inl refused)) = inr (source, content, inl refused)
@@ -39,56 +55,34 @@ module _ (told : Contents) (rules template : List ℕ) (GoesOn : Inputs → Work
   over-texts p (inr (source, content, inr (read, whole, inr (bytes, content', refused)))) =
       inr (source, content, inr (read, whole, inr (bytes, content', inl (refused.0, text-template (format_of template) bytes refused.0 refused.1, refused.2))))
 
-  module _ (texts : Texts) (loaded : AreLoaded told rules template texts) where
-    abbrev over : Format → (Inputs → Work) → Work
-    over f = ReadingInputs f (string_bytes texts.rules.text) (file_of texts.rules.file) (string_bytes texts.template)
+  -- the texts are not loaded
+  pub texts-stop : (s : Stop)
+      → IsStop (LoadingTexts told rules template (λ source read. Refusing (RefusesText file.Template))) (Rose before.files after.files) NoneRose s
+      → IsStopBy (OverFiles told rules template GoesOn) before after s
+  texts-stop s stopped =
+      IsStop-more (LoadingTexts told rules template (λ source read. Refusing (RefusesText file.Template))) (OverFiles told rules template GoesOn)
+      (Rose before.files after.files) (Rose before.files after.files) NoneRose (Rose before.patterns after.patterns)
+      over-texts (as-rose (Rose before.files after.files)) (none-rose (Rose before.patterns after.patterns)) s stopped
 
-    over-inputs : (p : Point) → over texts.format GoesOn p → OverFiles told rules template GoesOn p
-    over-inputs p came =
+  -- what comes of them
+  pub texts-done : (texts : Texts) → AreLoaded told rules template texts
+      → (FileRose : List ℕ → Type 0) → ((name : List ℕ) → FileRose name → Rose before.files after.files name)
+      → (o : Result Done Stop) → IsOutcome (ReadingTexts texts GoesOn) FileRose (Rose before.patterns after.patterns) o
+      → IsOutcomeBy (OverFiles told rules template GoesOn) before after o
+  texts-done texts loaded FileRose rose o done =
+      IsOutcome-more (ReadingTexts texts GoesOn) (OverFiles told rules template GoesOn)
+      FileRose (Rose before.files after.files) (Rose before.patterns after.patterns) (Rose before.patterns after.patterns)
+      (λ p came. inr (
+        string_bytes texts.rules.text,
+        loaded.source,
         inr (
-          string_bytes texts.rules.text,
-          loaded.source,
+          file_of texts.rules.file,
+          loaded.read,
           inr (
-            file_of texts.rules.file,
-            loaded.read,
-            inr (
-              string_bytes texts.template,
-              loaded.text,
-              subst (λ (f : Format). over f GoesOn p) loaded.format came,
-            ),
+            string_bytes texts.template,
+            loaded.text,
+            subst (λ (f : Format). ReadingInputs f (string_bytes texts.rules.text) (file_of texts.rules.file) (string_bytes texts.template) GoesOn p) loaded.format came,
           ),
-        )
-
-    over-work : (inputs : code.Inputs) → AreInputs texts inputs → (p : Point) → GoesOn (inputs_of inputs) p → OverFiles told rules template GoesOn p
-    over-work inputs are p goes =
-        over-inputs p (inr (inputs.tree, are.read, inr (are.patterns, subst (λ (i : Inputs). GoesOn i p) are.same goes)))
-
-  module _ (before after : Counts) where
-    -- the texts are not loaded
-    pub texts-stop : (s : Stop)
-        → IsStop (LoadingTexts told rules template (λ source read. Refusing (RefusesText file.Template))) (Rose before.files after.files) NoneRose s
-        → IsStopBy (OverFiles told rules template GoesOn) before after s
-    texts-stop s stopped =
-        IsStop-more (LoadingTexts told rules template (λ source read. Refusing (RefusesText file.Template))) (OverFiles told rules template GoesOn)
-        (Rose before.files after.files) (Rose before.files after.files) NoneRose (Rose before.patterns after.patterns)
-        over-texts (as-rose (Rose before.files after.files)) (none-rose (Rose before.patterns after.patterns)) s stopped
-
-    module _ (texts : Texts) (loaded : AreLoaded told rules template texts) where
-      -- the inputs are not read
-      pub inputs-stop : (s : Stop) → IsStop (over texts loaded texts.format (λ inputs p. ⊥)) NoneRose (Rose before.patterns after.patterns) s
-          → IsStopBy (OverFiles told rules template GoesOn) before after s
-      inputs-stop s stopped =
-          IsStop-more (over texts loaded texts.format (λ inputs p. ⊥)) (OverFiles told rules template GoesOn)
-          NoneRose (Rose before.files after.files) (Rose before.patterns after.patterns) (Rose before.patterns after.patterns)
-          (λ p came. over-inputs texts loaded p
-          (inputs-before texts.format (string_bytes texts.rules.text) (file_of texts.rules.file) (string_bytes texts.template) GoesOn p came))
-          (none-rose (Rose before.files after.files)) (as-rose (Rose before.patterns after.patterns)) s stopped
-
-      -- what comes of the command
-      pub work-done : (inputs : code.Inputs) → AreInputs texts inputs
-          → (FileRose : List ℕ → Type 0) → ((name : List ℕ) → FileRose name → Rose before.files after.files name)
-          → (o : Result Done Stop) → IsOutcome (GoesOn (inputs_of inputs)) FileRose NoneRose o → IsOutcomeBy (OverFiles told rules template GoesOn) before after o
-      work-done inputs are FileRose rose o done =
-          IsOutcome-more (GoesOn (inputs_of inputs)) (OverFiles told rules template GoesOn)
-          FileRose (Rose before.files after.files) NoneRose (Rose before.patterns after.patterns)
-          (over-work texts loaded inputs are) rose (none-rose (Rose before.patterns after.patterns)) o done
+        ),
+      ))
+      rose (as-rose (Rose before.patterns after.patterns)) o done

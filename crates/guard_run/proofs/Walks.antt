@@ -1,5 +1,5 @@
 -- The rules and the parts outside rules that stand in a file, and what trees are over.
-use Rattle.std.proofs.Common.{◌≡◌, ℕ, ◌<◌, ◌≤◌, ◌+◌, ◌++◌, ◌==◌, Bool, true, add-one, List, [], ◌∷◌, length, map, take, get_or, arith, sym, ap, ◌∙◌, subst, zero, suc, refl, codes}
+use Rattle.std.proofs.Common.{◌≡◌, ℕ, ◌<◌, ◌≤◌, ◌+◌, ◌++◌, ◌==◌, Bool, true, add-one, IfOk, Result, List, [], ◌∷◌, length, map, take, get_or, arith, sym, ap, ◌∙◌, subst, zero, suc, refl, codes}
 use Rattle.std.specs.List.{flat_map}
 use Rattle.std.proofs.lemmas.Bool.Decides.{nat_tests}
 use Rattle.std.proofs.lemmas.Grind.{flat_map-append}
@@ -81,11 +81,6 @@ trees-world t s f tree answers is d e =
 pub trees-file : (t : Trees) (s : Store) (f : RuleFile) → t.store ≡ s → s.file.now ≡ f → (see_trees t).known.file ≡ file_of f
 trees-file t s f is e = ap (λ (s : Store). file_of s.file.now) is ∙ ap file_of e
 
-pub trees-loose : (t : Trees) (s : Store) (f : RuleFile) → t.store ≡ s → s.file.now ≡ f → (ds : List Disj) → ds ≡ f.raw.loose.items
-    → (see_trees t).known.file.loose ≡ disj_list (map see_disj ds)
-trees-loose t s f is e ds whole =
-    ap (λ (g : sx.File). g.loose) (trees-file t s f is e) ∙ ap (λ (xs : List Disj). disj_list (map see_disj xs)) (sym whole)
-
 -- and so lines over a store are lines over its template and its file
 lines-over : (t : Trees) (s : Store) (f : RuleFile) (tree : Forest) (source : Source) → t.store ≡ s → s.doc.now ≡ tree → s.file.now ≡ f
     → lines_in (see_trees t).known source ≡ lines_as source.form (file_of f) tree source.rules.text.now source.template.text.now
@@ -94,29 +89,35 @@ lines-over t s f tree source is d e =
     ∙ (ap (λ (t : Forest). lines_as source.form (file_of s.file.now) t source.rules.text.now source.template.text.now) d
     ∙ ap (λ (g : RuleFile). lines_as source.form (file_of g) tree source.rules.text.now source.template.text.now) e)
 
+pub lines-world : {E : Type 0} (t : Trees) (s : Store) (f : RuleFile) (tree : Forest) (source : Source) → t.store ≡ s → s.doc.now ≡ tree → s.file.now ≡ f
+    → (r : Result Lines E) → Answering (see_trees t) (λ w. IfOk r (λ lines. AreLinesOf (lines_in (see_trees t).known source) lines (reported w)))
+    → (answers : Answers) → IsAnswering (world_over (file_of f) tree answers)
+    → IfOk r (λ lines. AreLinesOf (lines_as source.form (file_of f) tree source.rules.text.now source.template.text.now) lines (reported (world_over (file_of f) tree answers)))
+lines-world t s f tree source is d e r all answers obey =
+    let same : world_of (see_trees t).known answers ≡ world_over (file_of f) tree answers = trees-world t s f tree answers is d e in
+    subst (λ (ws : Reported → List ℕ). IfOk r (λ lines. AreLinesOf ws lines (reported (world_over (file_of f) tree answers))))
+    (lines-over t s f tree source is d e)
+    (subst (λ (w : World). IfOk r (λ lines. AreLinesOf (lines_in (see_trees t).known source) lines (reported w))) same
+    (all answers (subst IsAnswering (sym same) obey)))
+
 -- the lines of the rules, and behind them those of the parts outside rules, are the lines of all that is reported
-pub lines-all : (t : Trees) (s : Store) (f : RuleFile) (tree : Forest) (source : Source) → t.store ≡ s → s.doc.now ≡ tree → s.file.now ≡ f
-    → (after : State) → Grows (see_trees t) after → (ds : List Disj) → ds ≡ f.raw.loose.items → (lines all : Lines)
-    → Answering (see_trees t) (λ w. AreLinesOf (lines_in (see_trees t).known source) lines (flat_map (of_rule w) w.file.rules))
+pub lines-all : (first after : State) (source : Source) → Grows first after → (ds : List Disj) → first.known.file.loose ≡ disj_list (map see_disj ds) → (lines all : Lines)
+    → Answering first (λ w. AreLinesOf (lines_in first.known source) lines (flat_map (of_rule w) w.file.rules))
     → Answering after (λ w. (before : List Reported) → AreLinesOf (lines_in after.known source) lines before
     → AreLinesOf (lines_in after.known source) all (before ++ of_loose w (disj_list (map see_disj ds))))
-    → (answers : Answers) → IsAnswering (world_over (file_of f) tree answers)
-    → AreLinesOf (lines_as source.form (file_of f) tree source.rules.text.now source.template.text.now) all (reported (world_over (file_of f) tree answers))
-lines-all t s f tree source is d e after grows ds whole lines all of_rules of_others answers obey =
-    let known : World = world_of (see_trees t).known answers in
-    let same : known ≡ world_over (file_of f) tree answers = trees-world t s f tree answers is d e in
-    let obeyed : IsAnswering known = subst IsAnswering (sym same) obey in
+    → Answering first (λ w. AreLinesOf (lines_in first.known source) all (reported w))
+lines-all first after source grows ds whole lines all of_rules of_others answers obey =
+    let known : World = world_of first.known answers in
     let rules : List Reported = flat_map (of_rule known) known.file.rules in
     let written : Reported → List ℕ = lines_in after.known source in
-    let kept : written ≡ lines_in (see_trees t).known source = lines-kept (see_trees t) after grows source in
+    let kept : written ≡ lines_in first.known source = lines-kept first after grows source in
     let more : AreLinesOf written all (rules ++ of_loose known (disj_list (map see_disj ds))) =
-    answering-on (see_trees t) after grows
-    (λ w. (before : List Reported) → AreLinesOf written lines before → AreLinesOf written all (before ++ of_loose w (disj_list (map see_disj ds)))) of_others answers obeyed
-    rules (subst (λ (ws : Reported → List ℕ). AreLinesOf ws lines rules) (sym kept) (of_rules answers obeyed)) in
+    answering-on first after grows
+    (λ w. (before : List Reported) → AreLinesOf written lines before → AreLinesOf written all (before ++ of_loose w (disj_list (map see_disj ds)))) of_others answers obey
+    rules (subst (λ (ws : Reported → List ℕ). AreLinesOf ws lines rules) (sym kept) (of_rules answers obey)) in
     let both : AreLinesOf written all (reported known) =
-    subst (λ (loose : sx.Disjs). AreLinesOf written all (rules ++ of_loose known loose)) (sym (trees-loose t s f is e ds whole)) more in
-    subst (λ (ws : Reported → List ℕ). AreLinesOf ws all (reported (world_over (file_of f) tree answers)))
-    (kept ∙ lines-over t s f tree source is d e) (subst (λ (w : World). AreLinesOf written all (reported w)) same both)
+    subst (λ (loose : sx.Disjs). AreLinesOf written all (rules ++ of_loose known loose)) (sym whole) more in
+    subst (λ (ws : Reported → List ℕ). AreLinesOf ws all (reported known)) kept both
 
 -- what is reported of one rule more, in turn
 pub rule-more : (world : World) (rs : List Rule) (i : ℕ) (r : Rule) → i < length rs → r ≡ get_or rs i r

@@ -6,12 +6,12 @@ ghost use Rattle.guard_words.specs.Request.{check};
 ghost use Rattle.guard_ends.specs.Check.{accepted_text, rejected_text};
 ghost use Rattle.guard_ends.specs.Inputs.{IsProof, RefusesProof};
 ghost use Rattle.guard_ends.specs.Order.{Ending, IsChecked, OfEvidence, WorkOf};
-ghost use Rattle.guard_run.specs.Inputs.{inputs_of};
+ghost use Rattle.guard_run.specs.Inputs.{ReadingTexts, inputs_of};
 ghost use Rattle.guard_run.specs.Outcome.{IsOutcome, IsOutcomeAt, IsOutcomeBy, ended};
 ghost use Rattle.guard_run.specs.Stops.{IsNotRead, NoneRose, Rose};
 
 use crate::done::Done;
-use crate::inputs::{Inputs, Names};
+use crate::inputs::{Inputs, Names, Texts};
 use crate::line::rejected_text;
 use crate::load::load_bytes;
 use crate::prepare::{load_texts, read_inputs};
@@ -44,7 +44,24 @@ pub(crate) fn run_check<F: Files, M: PatternMaker>(
     ensures maker_kept { (text : List ℕ) → M.faults maker.old text ≤ M.faults maker.new text }
 {
     let texts = load_texts(alloc, names, files)?;
-    let inputs = read_inputs(alloc, &texts, maker)?;
+    check_texts(alloc, &texts, proof, files, maker)
+}
+
+/// Reads texts, and judges the evidence of this name for them.
+fn check_texts<F: Files, M: PatternMaker>(
+    alloc: Global,
+    texts: &Texts,
+    proof: &str,
+    files: &mut F,
+    maker: &mut M,
+) -> Result<Done, Stop>
+    ensures outcome { IsOutcome (ReadingTexts texts.now (OfEvidence (F.content files.old) proof.now))
+        (Rose (F.faults files.old) (F.faults files.new)) (Rose (M.faults maker.old) (M.faults maker.new)) result }
+    ensures contents { (other : List ℕ) → F.content files.new other ≡ F.content files.old other }
+    ensures kept { (other : List ℕ) → F.faults files.old other ≤ F.faults files.new other }
+    ensures maker_kept { (text : List ℕ) → M.faults maker.old text ≤ M.faults maker.new text }
+{
+    let inputs = read_inputs(alloc, texts, maker)?;
     check_evidence(alloc, &inputs, proof, files)
 }
 

@@ -1,15 +1,18 @@
 //! `drill`: a template that is made is judged by rules that are always the same. No file is loaded, and no pattern is made.
-ghost use Rattle.std.specs.Prelude.{◌≤◌};
+ghost use Rattle.std.specs.Prelude.{◌≤◌, MatchResult};
+ghost use Rattle.guard_ends.specs.Drill.{drill_rules};
+ghost use Rattle.guard_ends.specs.Inputs.{RefusesRules};
 ghost use Rattle.guard_ends.specs.Order.{OfDrill};
+ghost use Rattle.guard_run.specs.Inputs.{AreOfDrill};
 ghost use Rattle.guard_run.specs.Outcome.{IsOutcomeAt};
+ghost use Rattle.guard_run.specs.Stops.{IsNotRead};
 
 use crate::done::Done;
 use crate::inputs::Texts;
-use crate::prepare::read_inputs;
 use crate::report::Form;
 use crate::rules::read_rules;
 use crate::stop::Stop;
-use crate::validate::report_on;
+use crate::validate::judge_texts;
 use guard_drill::{DRILL_RULES, drill_template};
 use guard_ends::Format;
 use std::alloc::Global;
@@ -32,14 +35,21 @@ pub(crate) fn run_drill(alloc: Global, count: u32) -> Result<Done, Stop>
     requires { count ≤ 100000 }
     ensures { IsOutcomeAt (OfDrill count) result }
 {
+    let texts = drill_texts(alloc, count)?;
+    judge_texts(alloc, &texts, Form::Drill { count }, &mut Unasked)
+}
+
+/// The rules of a drill, and the text of its template.
+fn drill_texts(alloc: Global, count: u32) -> Result<Texts, Stop>
+    requires { count ≤ 100000 }
+    ensures { MatchResult result (λ texts. AreOfDrill count texts) (IsNotRead RefusesRules drill_rules) }
+{
     let source = String::from_str(alloc, DRILL_RULES)?;
     let rules = read_rules(alloc, source)?;
     let template = drill_template(alloc, count)?;
-    let texts = Texts {
+    Ok(Texts {
         rules,
         template,
         format: Format::Json,
-    };
-    let inputs = read_inputs(alloc, &texts, &mut Unasked)?;
-    report_on(alloc, &inputs, Form::Drill { count })
+    })
 }

@@ -1,6 +1,6 @@
 //! The lines of refusals, and of evidence that is rejected. They stand on the stack, so that none wants memory, but for those
 //! that end with a name of the rules, which may be as long as the rules are.
-ghost use Rattle.std.specs.Prelude.{◌≡◌, ◌+◌, ◌≤◌, ◌++◌, Some, length, decimal, string_bytes, IfOk};
+ghost use Rattle.std.specs.Prelude.{◌≡◌, ◌+◌, ◌≤◌, ◌++◌, Some, codes, length, decimal, string_bytes, IfOk};
 ghost use Rattle.arrayvec.specs.ArrayString.{array_string_len};
 ghost use Rattle.doc_values.specs.Position.{line_at, column_at};
 ghost use Rattle.guard_ends.specs.Check.{rejected_text};
@@ -34,6 +34,18 @@ pub(crate) fn placed_line(which: Which, kind: RefusalKind, at: u32, bytes: &[u8]
     requires { length bytes.now ≤ 8388608 }
     ensures { result.bytes ≡ placed_line which bytes.now at (kind_word kind) }
 {
+    let mut line = line_start(which, kind, at, bytes);
+    line.push_str("\n");
+    line
+}
+
+/// The line up to the refusal's kind, and the kind.
+fn line_start(which: Which, kind: RefusalKind, at: u32, bytes: &[u8]) -> Short
+    requires { length bytes.now ≤ 8388608 }
+    ensures start { result.bytes ≡ codes "guard: " ++ file_word which ++ codes " " ++ decimal (line_at bytes.now at) ++ codes ":"
+        ++ decimal (column_at bytes.now at) ++ codes ": " ++ kind_word kind }
+    ensures short { array_string_len result ≤ 53 }
+{
     let (row, column) = place_in(bytes, at);
     let mut line = ArrayString::new();
     line.push_str("guard: ");
@@ -44,7 +56,6 @@ pub(crate) fn placed_line(which: Which, kind: RefusalKind, at: u32, bytes: &[u8]
     push_number(&mut line, column);
     line.push_str(": ");
     line.push_str(kind_word(kind));
-    line.push_str("\n");
     line
 }
 
@@ -83,11 +94,11 @@ pub(crate) fn named_line(
     ensures { IfOk result (λ line. string_bytes line
         ≡ placed_line which bytes.now at (kind_word kind ++ name_part (Some name.now))) }
 {
-    let (row, column) = place_in(bytes, at);
-    let file = file_word(which);
-    let word = kind_word(kind);
-    let mut line = String::new(alloc);
-    write!(line, "guard: {file} {row}:{column}: {word} {name}\n")?;
+    let start = line_start(which, kind, at, bytes);
+    let mut line = String::from_str(alloc, start.as_str())?;
+    line.push_str(" ")?;
+    line.push_str(name)?;
+    line.push_str("\n")?;
     Ok(line)
 }
 

@@ -1,8 +1,7 @@
 //! The inputs of a judgement are prepared: they are loaded, and then read.
-ghost use Rattle.std.specs.Prelude.{◌≡◌, ◌≤◌, ℕ, List, MatchResult, string_bytes};
-ghost use Rattle.rule_names.specs.Files.{file_of};
-ghost use Rattle.guard_ends.specs.Order.{LoadingTexts, ReadingInputs, Refusing};
-ghost use Rattle.guard_run.specs.Inputs.{AreInputs, AreLoaded};
+ghost use Rattle.std.specs.Prelude.{◌≡◌, ◌≤◌, ℕ, List, MatchResult};
+ghost use Rattle.guard_ends.specs.Order.{LoadingTexts, Refusing};
+ghost use Rattle.guard_run.specs.Inputs.{AreInputs, AreLoaded, ReadingTexts};
 ghost use Rattle.guard_run.specs.Loading.{RefusesText};
 ghost use Rattle.guard_run.specs.Stops.{IsStop, NoneRose, Rose};
 
@@ -47,9 +46,7 @@ pub(crate) fn read_inputs<'t, M: PatternMaker>(
 ) -> Result<Inputs<'t, 't>, Stop>
     ensures read { MatchResult result
         (λ inputs. AreInputs texts.entry.now inputs)
-        (IsStop (ReadingInputs texts.entry.now.format (string_bytes texts.entry.now.rules.text) (file_of texts.entry.now.rules.file)
-        (string_bytes texts.entry.now.template) (λ inputs p. ⊥))
-        NoneRose (Rose (M.faults maker.old) (M.faults maker.new))) }
+        (IsStop (ReadingTexts texts.entry.now (λ inputs p. ⊥)) NoneRose (Rose (M.faults maker.old) (M.faults maker.new))) }
     ensures kept { (text : List ℕ) → M.faults maker.old text ≤ M.faults maker.new text }
 {
     let rules = &texts.rules;

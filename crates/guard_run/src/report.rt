@@ -211,15 +211,24 @@ fn all_lines(
 {
     let store = Store::new(alloc, doc, source.file);
     let mut trees = Trees::new(alloc, store);
-    let mut lines = rule_lines(alloc, &source.file.raw().rules, source, &mut trees, book)?;
-    add_loose(
-        alloc,
-        &mut lines,
-        &source.file.raw().loose,
-        source,
-        &mut trees,
-        book,
-    )?;
+    lines_over(alloc, source, &mut trees, book)
+}
+
+/// The lines of all verdicts of the trees' file, and their counts.
+fn lines_over(
+    alloc: Global,
+    source: &Source<'_>,
+    trees: &mut Trees<'_, '_>,
+    book: &PatternBook,
+) -> Result<Lines, AllocError>
+    requires file { (see_trees trees.old).known.file ≡ file_of source.now.file.now }
+    requires book { IsBookOf (see_trees trees.old).known.file book.now }
+    ensures { Answering (see_trees trees.old) (λ w. IfOk result (λ lines.
+        AreLinesOf (lines_in (see_trees trees.old).known source.now) lines (reported w))) }
+{
+    let file = source.file.raw();
+    let mut lines = rule_lines(alloc, &file.rules, source, trees, book)?;
+    add_loose(alloc, &mut lines, &file.loose, source, trees, book)?;
     Ok(lines)
 }
 

@@ -2,13 +2,14 @@
 ghost use Rattle.std.specs.Prelude.{◌≡◌, ◌≤◌, ℕ, List, false, if◌then◌else◌};
 ghost use Rattle.guard_words.specs.Request.{validate};
 ghost use Rattle.guard_ends.specs.Order.{Ending, IsJudged, WorkOf};
-ghost use Rattle.guard_run.specs.Inputs.{inputs_of};
+ghost use Rattle.guard_run.specs.Inputs.{ReadingTexts, inputs_of};
 ghost use Rattle.guard_run.specs.Listed.{report_in};
-ghost use Rattle.guard_run.specs.Outcome.{IsOutcomeAt, IsOutcomeBy};
+ghost use Rattle.guard_run.specs.Outcome.{IsOutcome, IsOutcomeAt, IsOutcomeBy};
 ghost use Rattle.guard_run.specs.Refusals.{bytes_of};
+ghost use Rattle.guard_run.specs.Stops.{NoneRose, Rose};
 
 use crate::done::Done;
-use crate::inputs::{Inputs, Names};
+use crate::inputs::{Inputs, Names, Texts};
 use crate::prepare::{load_texts, read_inputs};
 use crate::report::{Form, Judgement, judge};
 use crate::stop::Stop;
@@ -34,12 +35,26 @@ pub(crate) fn run_validate<F: Files, M: PatternMaker>(
     ensures maker_kept { (text : List ℕ) → M.faults maker.old text ≤ M.faults maker.new text }
 {
     let texts = load_texts(alloc, names, files)?;
-    let inputs = read_inputs(alloc, &texts, maker)?;
-    report_on(alloc, &inputs, Form::Entries)
+    judge_texts(alloc, &texts, Form::Entries, maker)
+}
+
+/// Reads texts, judges the template by the rules, and reports on it in a form.
+pub(crate) fn judge_texts<M: PatternMaker>(
+    alloc: Global,
+    texts: &Texts,
+    form: Form,
+    maker: &mut M,
+) -> Result<Done, Stop>
+    ensures outcome { IsOutcome (ReadingTexts texts.now (λ inputs. Ending (IsJudged (report_in form) inputs)))
+        NoneRose (Rose (M.faults maker.old) (M.faults maker.new)) result }
+    ensures kept { (text : List ℕ) → M.faults maker.old text ≤ M.faults maker.new text }
+{
+    let inputs = read_inputs(alloc, texts, maker)?;
+    report_on(alloc, &inputs, form)
 }
 
 /// Judges a template by rules, and reports on it in a form.
-pub(crate) fn report_on(alloc: Global, inputs: &Inputs<'_, '_>, form: Form) -> Result<Done, Stop>
+fn report_on(alloc: Global, inputs: &Inputs<'_, '_>, form: Form) -> Result<Done, Stop>
     ensures { IsOutcomeAt (Ending (IsJudged (report_in form) (inputs_of inputs.now))) result }
 {
     one_answer_over_locations();

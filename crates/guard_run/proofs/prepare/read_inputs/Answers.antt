@@ -1,8 +1,8 @@
 use Rattle.std.proofs.Common.{◌≤◌, ℕ, List, ap, inl, inr, length, string_bytes, subst, sym}
 use Rattle.rule_names.specs.Files.{file_of}
 use Rattle.guard_ends.specs.Inputs.{IsTemplate, RefusesTemplate}
-use Rattle.guard_ends.specs.Order.{Inputs, MakingPatterns, ReadingInputs, Refusing, Work}
-use Rattle.guard_run.specs.Inputs.{AreInputs}
+use Rattle.guard_ends.specs.Order.{Inputs, MakingPatterns, Refusing, Work}
+use Rattle.guard_run.specs.Inputs.{AreInputs, ReadingTexts}
 use Rattle.guard_run.specs.Stops.{IsNotRead, IsStop, NoneRose, Rose}
 use Rattle.guard_run.specs.declared.inputs.Inputs as code
 use Rattle.guard_run.proofs.Outcomes.{IsStop-more, as-rose, at-exit, none-rose}
@@ -24,7 +24,7 @@ returns-in_err-tree-clause-read g c =
     let texts = c.args.texts.now in
     let bytes : List ℕ = string_bytes texts.template in
     let Rises = Rose (g.M.PatternMaker.faults c.args.maker.now) (g.M.PatternMaker.faults c.args.maker.now) in
-    let Comes : Work = ReadingInputs texts.format (string_bytes texts.rules.text) (file_of texts.rules.file) bytes (λ inputs p. ⊥) in
+    let Comes : Work = ReadingTexts texts (λ inputs p. ⊥) in
     let s = c.in_err-tree.field-0.0 in
     at-exit (λ (inputs : code.Inputs). AreInputs texts inputs) (IsStop Comes NoneRose Rises) c.from_residual.result s c.from_residual.ensures.1
     (IsStop-more (Refusing (RefusesTemplate texts.format) bytes) Comes NoneRose NoneRose NoneRose Rises
@@ -38,7 +38,7 @@ returns-in_err-book-clause-read g c =
     let bytes : List ℕ = string_bytes texts.template in
     let tree = c.in_ok-tree.tree in
     let Rises = Rose (g.M.PatternMaker.faults c.args.maker.now) (g.M.PatternMaker.faults c.make_patterns.new.maker) in
-    let Comes : Work = ReadingInputs texts.format source (file_of texts.rules.file) bytes (λ inputs p. ⊥) in
+    let Comes : Work = ReadingTexts texts (λ inputs p. ⊥) in
     let read : IsTemplate texts.format bytes tree = subst (λ (b : List ℕ). IsTemplate texts.format b tree) c.as_str-template.ensures.value c.in_ok-tree.ensures in
     let s = c.in_err-book.field-0.0 in
     at-exit (λ (inputs : code.Inputs). AreInputs texts inputs) (IsStop Comes NoneRose Rises)

@@ -1,18 +1,34 @@
 use Rattle.std.proofs.Common.{◌≡◌, ◌++◌, ℕ, List, OnOk, map, arith, subst, sym, ap, ◌∙◌}
 use Rattle.std.proofs.lemmas.Grind.{common_steps}
 use Rattle.guard_syntax.specs.Seen.{disj_list, see_disj}
+use Rattle.rule_names.specs.Pieces.{pieces_disjs}
 use Rattle.rule_meaning.specs.Fails.{loose_fails}
 use Rattle.rule_meaning.specs.Seeing.{world_of}
 use Rattle.rule_meaning.specs.Locations.{World}
 use Rattle.report_text.specs.SeenEntries.{see_entry}
 use Rattle.report_text.specs.declared.entry.Entry as code
 use Rattle.plain_evaluator.specs.States.{Grows, State, see_trees}
-use Rattle.plain_evaluator.proofs.Growing.{Grows-trans, answering-on}
+use Rattle.plain_evaluator.proofs.Growing.{Grows-trans, answering-on, book-on, same-file, stands-on}
 use Rattle.guard_run.specs.Listed.{AreLinesOf, lines_in}
 use Rattle.guard_ends.specs.Reported.{Reported, if_fail, of_loose}
 use Rattle.guard_run.proofs.LineLists.{lines-kept}
 use Rattle.guard_run.proofs.Walks.{loose-one}
 use Rattle.guard_run.proofs.report.add_loose.Goals as goal
+
+pub entries_of_loose-requires-clause-placed : goal.entries_of_loose-requires-clause-placed
+entries_of_loose-requires-clause-placed c =
+    stands-on (see_trees c.args.trees.now) (see_trees c.verdict_of_loose.new.trees) c.in_ok-verdict.ensures.grows (pieces_disjs (disj_list (map see_disj c.args.parts.now))) c.requires.placed
+
+pub entries_of_loose-requires-clause-book : goal.entries_of_loose-requires-clause-book
+entries_of_loose-requires-clause-book c =
+    book-on (see_trees c.args.trees.now) (see_trees c.verdict_of_loose.new.trees) c.in_ok-verdict.ensures.grows c.args.book.now c.requires.book
+
+pub add-requires-clause-file : goal.add-requires-clause-file
+add-requires-clause-file c =
+    let first : State = see_trees c.args.trees.now in
+    let second : State = see_trees c.verdict_of_loose.new.trees in
+    let third : State = see_trees c.entries_of_loose.new.trees in
+    same-file first third (Grows-trans first second third c.in_ok-verdict.ensures.grows c.in_ok-entries.ensures.grows) ∙ c.requires.file
 
 pub returns : goal.returns
 returns c answers obey before were =

@@ -5,7 +5,7 @@ use Rattle.guard_run.specs.Outcome.{IsStopBy, ended}
 use Rattle.guard_run.specs.Stops.{NoneRose, Rose}
 use Rattle.guard_run.specs.declared.done.Done.{Done}
 use Rattle.guard_run.proofs.Outcomes.{at-exit, none-rose}
-use Rattle.guard_run.proofs.Stages.{inputs-stop, texts-stop, work-done}
+use Rattle.guard_run.proofs.Stages.{texts-done, texts-stop}
 use Rattle.guard_run.proofs.validate.run_validate.Goals as goal
 
 -- what is done with the inputs
@@ -23,23 +23,11 @@ returns-in_err-texts-clause-outcome g c =
     c.from_residual.result c.in_err-texts.field-0.0 c.from_residual.ensures.1
     (texts-stop told names.rules.now names.template.now Judges before after c.in_err-texts.field-0.0 c.in_err-texts.ensures.loaded)
 
-pub returns-in_err-inputs-clause-outcome : goal.returns-in_err-inputs-clause-outcome
-returns-in_err-inputs-clause-outcome g c =
-    let told = g.F.Files.content c.args.files.now in
-    let names = c.args.names.now in
-    let before : Counts = record { files = g.F.Files.faults c.args.files.now; patterns = g.M.PatternMaker.faults c.args.maker.now } in
-    let after : Counts = record { files = g.F.Files.faults c.load_texts.new.files; patterns = g.M.PatternMaker.faults c.read_inputs.new.maker } in
-    let Comes : Work = OverFiles told names.rules.now names.template.now Judges in
-    at-exit (λ (done : Done). Comes (Ends (ended done))) (IsStopBy Comes before after)
-    c.from_residual-in_err-inputs.result c.in_err-inputs.field-0.0 c.from_residual-in_err-inputs.ensures.1
-    (inputs-stop told names.rules.now names.template.now Judges before after c.in_ok-texts.texts c.in_ok-texts.ensures.loaded
-    c.in_err-inputs.field-0.0 c.in_err-inputs.ensures.read)
-
 pub returns-clause-outcome : goal.returns-clause-outcome
 returns-clause-outcome g c =
     let told = g.F.Files.content c.args.files.now in
     let names = c.args.names.now in
     let before : Counts = record { files = g.F.Files.faults c.args.files.now; patterns = g.M.PatternMaker.faults c.args.maker.now } in
-    let after : Counts = record { files = g.F.Files.faults c.load_texts.new.files; patterns = g.M.PatternMaker.faults c.read_inputs.new.maker } in
-    work-done told names.rules.now names.template.now Judges before after c.in_ok-texts.texts c.in_ok-texts.ensures.loaded
-    c.in_ok-inputs.inputs c.in_ok-inputs.ensures.read NoneRose (none-rose (Rose before.files after.files)) c.report_on.result c.report_on.ensures
+    let after : Counts = record { files = g.F.Files.faults c.load_texts.new.files; patterns = g.M.PatternMaker.faults c.judge_texts.new.maker } in
+    texts-done told names.rules.now names.template.now Judges before after c.in_ok-texts.texts c.in_ok-texts.ensures.loaded
+    NoneRose (none-rose (Rose before.files after.files)) c.judge_texts.result c.judge_texts.ensures.outcome

@@ -1,0 +1,26 @@
+use Rattle.guard_ends.specs.Order.{Ends, Inputs, OfEvidence, Work}
+use Rattle.guard_run.specs.Inputs.{ReadingTexts}
+use Rattle.guard_run.specs.Outcome.{ended}
+use Rattle.guard_run.specs.Stops.{IsStop, Rose}
+use Rattle.guard_run.specs.declared.done.Done.{Done}
+use Rattle.guard_run.proofs.Outcomes.{at-exit}
+use Rattle.guard_run.proofs.Stages.{inputs-done, inputs-stop}
+use Rattle.guard_run.proofs.check.check_texts.Goals as goal
+
+pub returns-in_err-inputs-clause-outcome : goal.returns-in_err-inputs-clause-outcome
+returns-in_err-inputs-clause-outcome g c =
+    let texts = c.args.texts.now in
+    let Judges : Inputs → Work = OfEvidence (g.F.Files.content c.args.files.now) c.args.proof.now in
+    let FileRose = Rose (g.F.Files.faults c.args.files.now) (g.F.Files.faults c.args.files.now) in
+    let PatternRose = Rose (g.M.PatternMaker.faults c.args.maker.now) (g.M.PatternMaker.faults c.read_inputs.new.maker) in
+    let Comes : Work = ReadingTexts texts Judges in
+    at-exit (λ (done : Done). Comes (Ends (ended done))) (IsStop Comes FileRose PatternRose)
+    c.from_residual.result c.in_err-inputs.field-0.0 c.from_residual.ensures.1
+    (inputs-stop texts Judges FileRose PatternRose c.in_err-inputs.field-0.0 c.in_err-inputs.ensures.read)
+
+pub returns-clause-outcome : goal.returns-clause-outcome
+returns-clause-outcome g c =
+    let Judges : Inputs → Work = OfEvidence (g.F.Files.content c.args.files.now) c.args.proof.now in
+    inputs-done c.args.texts.now Judges (Rose (g.F.Files.faults c.args.files.now) (g.F.Files.faults c.check_evidence.new.files))
+    (Rose (g.M.PatternMaker.faults c.args.maker.now) (g.M.PatternMaker.faults c.read_inputs.new.maker))
+    c.in_ok-inputs.inputs c.in_ok-inputs.ensures.read c.check_evidence.result c.check_evidence.ensures.outcome
