@@ -2,7 +2,7 @@
 
 /// Where a value comes from: the template, the literal of a site, or the call that wrote a line of the evidence, at one
 /// of its rows.
-#[derive(Clone, Copy, Debug, PartialEq, Eq)]
+#[derive(Clone, Copy, Debug, PartialEq, Eq, Hash)]
 pub enum Origin {
     Template,
     Literal(u32),
@@ -10,7 +10,7 @@ pub enum Origin {
 }
 
 /// A node of a tree of values, counted in document order from the root 0, or the key of that node.
-#[derive(Clone, Copy, Debug, PartialEq, Eq)]
+#[derive(Clone, Copy, Debug, PartialEq, Eq, Hash)]
 pub struct Ref {
     pub origin: Origin,
     pub node: u32,

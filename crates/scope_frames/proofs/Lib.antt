@@ -1,0 +1,7 @@
+mod DistinctFrames
+pub mod EnteredFrames
+mod FilledCells
+pub mod FramesAround
+pub mod NamesBound
+mod OutwardSteps
+pub mod RulesNamed

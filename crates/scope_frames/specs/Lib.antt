@@ -1,0 +1,5 @@
+pub mod Cells
+pub mod Entering
+pub mod Frames
+pub mod Scoping
+pub mod Seen

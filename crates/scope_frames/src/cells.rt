@@ -1,0 +1,88 @@
+//! Cells: which one the use of a name leads to, and what fills it.
+ghost use Rattle.std.specs.Prelude.{◌≡◌, ◌++◌, ◌∷◌, [], IsSome, MatchOption, None, OnErr, OnOk, Some};
+ghost use Rattle.rule_names.specs.EnclosingScopes.{home_of};
+ghost use Rattle.rule_names.specs.Files.{file_of};
+ghost use Rattle.rule_names.specs.Resolution.{bind_of};
+ghost use Rattle.scope_frames.specs.Cells.{cell_of, filled_at, slot_of};
+ghost use Rattle.scope_frames.specs.Frames.{AreEntered, StandsFor};
+ghost use Rattle.scope_frames.specs.Scoping.{up_of};
+ghost use Rattle.scope_frames.specs.Seen.{cells_in};
+
+use crate::cell::{Cell, Slot};
+use crate::frames::Frames;
+use crate::outwards::outwards;
+use crate::remembered::Remembered;
+use guard_syntax::Row;
+use rule_names::Bind;
+use std::alloc::AllocError;
+
+impl<'t> Frames<'t> {
+    /// The cell of the variable that is used at a site, in a frame of the scope in which the site stands: it is one of the
+    /// frame of the scope that gives the name.
+    pub fn lookup(&self, frame: u64, site: u32) -> Cell
+        requires sound { AreEntered (file_of self.now.file.now) self.now.entered.keys }
+        requires used { IsSome (bind_of (file_of self.now.file.now) site) }
+        requires home { StandsFor (file_of self.now.file.now) self.now.entered.keys frame (home_of (file_of self.now.file.now) site) }
+        ensures { cell_of (file_of self.now.file.now) self.now.entered.keys frame site ≡ Some result }
+    {
+        let Some(bind) = self.file.bind(site) else {
+            unreachable!()
+        };
+        let Some(frame) = outwards(self.file, self.entered.as_slice(), up_of(bind), frame) else {
+            unreachable!()
+        };
+        Cell {
+            frame,
+            slot: slot_of(bind),
+        }
+    }
+
+    /// What fills a cell: the line of the evidence that gives the rows of its name, and these. It is None exactly where the
+    /// cell is empty.
+    pub fn rows(&self, cell: Cell) -> Option<(u64, &[Row])>
+        ensures { MatchOption result (filled_at (cells_in self.entry.now) cell ≡ None)
+            (λ r. filled_at (cells_in self.entry.now) cell ≡ Some (record { cell = cell; line = r.0; rows = r.1.now })) }
+    {
+        let remembered = self.cells.get(&cell)?;
+        Some((remembered.line, remembered.rows.as_slice()))
+    }
+
+    /// Fills an empty cell. Any other stays as it is.
+    pub fn fill(&mut self, cell: Cell, line: u64, rows: &[Row]) -> Result<(), AllocError>
+        requires { filled_at (cells_in self.old) cell ≡ None }
+        ensures file { self.new.file.now ≡ self.old.file.now }
+        ensures frames { self.new.entered.keys ≡ self.old.entered.keys }
+        ensures ok { OnOk result (cells_in self.new ≡ cells_in self.old ++ record { cell = cell; line = line; rows = rows.now } ∷ []) }
+        ensures err { OnErr result (cells_in self.new ≡ cells_in self.old) }
+    {
+        let mut remembered = Remembered {
+            line,
+            rows: Vec::new(self.alloc),
+        };
+        remembered.rows.extend_from_slice(rows)?;
+        self.cells.insert(cell, remembered)?;
+        Ok(())
+    }
+}
+
+/// How many scopes outwards a name is given.
+fn up_of(bind: Bind) -> u32
+    ensures { result ≡ up_of bind }
+{
+    match bind {
+        Bind::Value { up, .. } => up,
+        Bind::Capture { up, .. } => up,
+        Bind::Param { up, .. } => up,
+    }
+}
+
+/// The slot of what gives a name.
+fn slot_of(bind: Bind) -> Slot
+    ensures { result ≡ slot_of bind }
+{
+    match bind {
+        Bind::Value { site, .. } => Slot::Let(site),
+        Bind::Capture { step, .. } => Slot::Capture(step),
+        Bind::Param { index, .. } => Slot::Param(index),
+    }
+}

@@ -1,0 +1,17 @@
+//! Frames and cells: the scopes that an evaluation has entered, each with its current value, and in each frame a cell for
+//! each name of its scope, which is empty until what the name means is known. Equal arguments give the same frame; a cell
+//! that is filled keeps what it has. Nothing is evaluated here.
+#![tactic(auto)]
+
+pub mod cell;
+pub mod cells;
+pub mod enter;
+pub mod frame;
+pub mod frames;
+pub mod outwards;
+pub mod remembered;
+
+pub use cell::{Cell, Slot};
+pub use frame::Frame;
+pub use frames::Frames;
+pub use remembered::Remembered;
