@@ -16,7 +16,8 @@ use Rattle.value_compare.specs.declared.store.Store.{Store}
 use Rattle.evidence_rules.specs.Follows.{Accepts, AllFollow, nothing_made}
 use Rattle.evidence_rules.specs.RuleLines.{AreOfLoose, AreOfRules}
 use Rattle.evidence_rules.specs.Rejected.{IsRejectedAt}
-use Rattle.evidence_checker.specs.Judging.{AreJudged, IsFaultAt, IsLooseWanting, IsRuleWanting, IsWanting}
+use Rattle.evidence_lookups.specs.JudgedSites.{AreJudged}
+use Rattle.evidence_checker.specs.Judging.{IsFaultAt, IsLooseWanting, IsRuleWanting, IsWanting}
 use Rattle.evidence_checker.proofs.RuleVerdicts.{loose-judged, not-all, rules-judged}
 
 -- what a new store knows

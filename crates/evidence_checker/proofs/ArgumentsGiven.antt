@@ -15,8 +15,8 @@ use Rattle.rule_names.specs.Uses.{count_exprs, expr_in}
 use Rattle.rule_meaning.specs.StoreModel.{StoreModel}
 use Rattle.evidence_rules.specs.CitedLines.{GiveArgs, GivesExpr, IsLine}
 use Rattle.rule_meaning.specs.Roots.{literal_ref}
-use Rattle.evidence_checker.specs.Said.{AreSound}
-use Rattle.evidence_checker.proofs.SaidKnown.{literal-said}
+use Rattle.evidence_lookups.specs.Said.{AreSound}
+use Rattle.evidence_lookups.proofs.SaidKnown.{literal-said}
 
 module _ (file : sx.File) (lines : List Line) (frame : ℕ) where
   -- a line says one thing

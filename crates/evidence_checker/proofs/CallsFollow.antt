@@ -35,12 +35,13 @@ use Rattle.evidence_rules.specs.Follows.{FollowsAtExpr, FollowsRows}
 use Rattle.rule_meaning.specs.Seeing.{grown, rows_kept, trees_kept}
 use Rattle.query_steps.proofs.KnownAnswers.{answer-known}
 use Rattle.query_steps.proofs.SeenAnswers.{answer-known as kept-known}
+use Rattle.evidence_lookups.specs.Said.{AreSound}
 use Rattle.evidence_checker.specs.Calls.{IsAnswered, IsCall, IsCallAt}
-use Rattle.evidence_checker.specs.Said.{AreMadeWithin, AreSound}
+use Rattle.evidence_checker.specs.Judging.{AreMadeWithin}
 use Rattle.evidence_checker.proofs.ArgumentsGiven.{args-literal, args-many, args-one}
 use Rattle.rule_names.proofs.FittingCalls.{arguments-counted}
+use Rattle.evidence_lookups.proofs.SaidKnown.{args-said-known}
 use Rattle.evidence_checker.proofs.KeptTrees.{called-within}
-use Rattle.evidence_checker.proofs.SaidKnown.{args-said-known}
 use Rattle.query_steps.proofs.SoughtTexts.{pattern-held}
 
 -- ---- the one call of a site

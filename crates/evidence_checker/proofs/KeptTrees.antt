@@ -18,7 +18,7 @@ use Rattle.value_compare.specs.declared.store.Store.{Store}
 use Rattle.rule_meaning.specs.Seeing.{are_called, grown, rows_kept, trees_kept}
 use Rattle.query_steps.proofs.RowsKept.{rows-more, trees-more, rows-many, absent-behind, absent-later, grown-more, added}
 use Rattle.evidence_checker.specs.Kept.{row_kept}
-use Rattle.evidence_checker.specs.Said.{AreMadeWithin}
+use Rattle.evidence_checker.specs.Judging.{AreMadeWithin}
 
 -- ---- one row more
 

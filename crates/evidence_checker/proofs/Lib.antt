@@ -1,41 +1,27 @@
-pub mod Answering
-pub mod ArgumentsGiven
-pub mod CallsFollow
-pub mod Decided
-pub mod ExprsKnown
-pub mod FirstSaid
-pub mod FramedVerdicts
-pub mod FramesAround
-pub mod FramesSaid
-pub mod KeptTrees
-pub mod KnownBehind
-pub mod Leading
-pub mod LinesFollowing
-pub mod LinesInTurn
-pub mod LinesSaid
-pub mod OnRows
-pub mod OneGiven
-pub mod OwnersMarked
-pub mod OwnersStand
-pub mod PartForms
-pub mod PartKinds
-pub mod PartsKinds
-pub mod PartsSeen
-pub mod RowsFound
-pub mod RowsGiven
-pub mod RuleVerdicts
-pub mod SaidKnown
-pub mod SaidOnce
-pub mod SameRows
-pub mod SitesFound
-pub mod SitesPlaced
-pub mod SitesWithin
-pub mod SoundLines
-pub mod StepKinds
-pub mod StepLines
-pub mod StepsSeen
-pub mod TypeLines
-pub mod UsesSaid
-pub mod ValuesKnown
-pub mod VerdictsJudged
-pub mod VerdictsSaid
+mod Answering
+mod ArgumentsGiven
+mod CallsFollow
+mod Decided
+mod FirstSaid
+mod FramesSaid
+mod KeptTrees
+mod KnownBehind
+mod Leading
+mod LinesFollowing
+mod LinesInTurn
+mod OnRows
+mod OneGiven
+mod PartForms
+mod PartKinds
+mod PartsKinds
+mod RuleVerdicts
+mod SaidOnce
+mod SameRows
+mod SitesPlaced
+mod SoundLines
+mod StepKinds
+mod StepLines
+mod StepsSeen
+mod TypeLines
+mod UsesSaid
+mod VerdictsSaid

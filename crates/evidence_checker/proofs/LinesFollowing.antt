@@ -21,7 +21,7 @@ use Rattle.rule_meaning.specs.StoreModel.{StoreModel, Made, is_known_ref}
 use Rattle.evidence_rules.specs.CitedLines.{scope_of}
 use Rattle.evidence_rules.specs.Follows.{Follows, FollowsAtExpr, FollowsIn, FollowsRows, FollowsVerdict, IsFileLine, IsFrameOf, home_for}
 use Rattle.rule_meaning.specs.Roots.{literal_ref, root_ref}
-use Rattle.evidence_checker.specs.Said.{IsSound, is_known_outcome}
+use Rattle.evidence_lookups.specs.Said.{IsSound, is_known_outcome}
 use Rattle.evidence_checker.proofs.Leading.{Decided, decided-alike, nothing-decided}
 use Rattle.evidence_checker.proofs.SitesPlaced.{placed-nowhere}
 

@@ -12,8 +12,9 @@ use Rattle.rule_names.specs.Pieces.{AreInOrder}
 use Rattle.rule_meaning.specs.StoreModel.{StoreModel, Made}
 use Rattle.evidence_rules.specs.Follows.{AllFollow, Follows}
 use Rattle.evidence_rules.proofs.FollowingShapes.{follows-shape}
-use Rattle.evidence_checker.specs.Judging.{AreJudged, IsFaultAt, IsKnownBehind, Leads}
-use Rattle.evidence_checker.specs.Said.{AreMadeWithin, AreSound, IsSound}
+use Rattle.evidence_lookups.specs.JudgedSites.{AreJudged}
+use Rattle.evidence_lookups.specs.Said.{AreSound, IsSound}
+use Rattle.evidence_checker.specs.Judging.{AreMadeWithin, IsFaultAt, IsKnownBehind, Leads}
 use Rattle.evidence_checker.proofs.KnownBehind.{all-follow, behind-more, stuck}
 use Rattle.evidence_checker.proofs.LinesFollowing.{sited-within}
 use Rattle.evidence_checker.proofs.SoundLines.{sound-behind}

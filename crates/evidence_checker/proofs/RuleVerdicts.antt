@@ -1,18 +1,21 @@
--- The verdicts of the rules of a file, one after another.
-use Rattle.std.proofs.Common.{◌≡◌, ℕ, zero, suc, refl, sym, ap, ◌∙◌, subst, inl, inr, arith, Contains, get_or, List, [], ◌∷◌, ◌++◌, length, map, drop, drop-cons, add-one, append_assoc, ◌<◌, ◌≤◌, ◌+◌, ◌==◌, Bool, true, false, Option, Some, None}
+-- The verdicts of the rules of a file, one after another, and whether one is new.
+use Rattle.std.proofs.Common.{◌≡◌, ℕ, zero, suc, refl, sym, ap, ◌∙◌, subst, inl, inr, arith, Contains, get_or, List, [], ◌∷◌, ◌++◌, length, map, drop, drop-cons, add-one, append_assoc, ◌<◌, ◌≤◌, ◌+◌, ◌==◌, Bool, true, false, Option, Some, None, is_some, not, MatchBool}
 use Rattle.std.proofs.lemmas.Bool.{true≢false}
 use Rattle.std.proofs.lemmas.Bool.Decides.{nat_tests}
 use Rattle.std.proofs.lemmas.List.{drop_all, get_or-map, length-map, nil_from_length}
 use Rattle.evidence_lines.specs.declared.line.Line.{Line}
+use Rattle.evidence_lines.specs.declared.line.Outcome.TheVariants as says
 use Rattle.guard_syntax.specs.Seen.{disj_list, see_disj, see_rule}
 use Rattle.guard_syntax.specs.declared.syntax.Disj.{Disj as HeldDisj}
 use Rattle.guard_syntax.specs.declared.syntax.Rule.{Rule as BookCovers}
 use Rattle.guard_syntax.specs.Named.{Named}
 use Rattle.guard_syntax.specs.Syntax.{Rule, Disjs, no_disjs, more_disjs}
 use Rattle.guard_syntax.specs.declared.row.Verdict.{Verdict}
-use Rattle.evidence_rules.specs.Follows.{IsJudged, IsLooseJudged}
+use Rattle.rule_meaning.specs.StoreModel.{StoreModel}
+use Rattle.evidence_rules.specs.Follows.{IsJudged, IsLooseJudged, IsNewRule}
 use Rattle.evidence_rules.specs.RuleLines.{AreFrom, AreOfLoose, AreOfRules, IsSaidOf}
-use Rattle.evidence_checker.specs.Judging.{AreJudged, IsJudgedAs, IsLooseWanting, IsRuleWanting, IsUnjudged, IsWanting}
+use Rattle.evidence_lookups.specs.JudgedSites.{AreJudged, IsJudgedAs, IsUnjudged}
+use Rattle.evidence_checker.specs.Judging.{IsLooseWanting, IsRuleWanting, IsWanting}
 
 -- a rule without parameters has the first verdict
 from-none : (params : List Named) (Is : Verdict → Type 0) (AreOthers : List Verdict → Type 0) (verdict : Verdict) (verdicts : List Verdict)
@@ -140,3 +143,14 @@ is-none xs b is holds_is = nil_from_length xs (let test : (length xs == 0) ≡ t
 
 pub is-some : {X : Type 0} (xs : List X) (b : Bool) → b ≡ (length xs == 0) → b ≡ false → xs ≡ [] → ⊥
 is-some {X = X} xs b is fails none = true≢false (sym (is ∙ ap (λ (ys : List X). length ys == 0) none) ∙ fails)
+
+-- whether a site is new, by the table
+pub new-rule : (known : StoreModel) (lines : List Line) (table : List (Option Verdict)) (site : ℕ) (o : Option Verdict) (b : Bool) → o ≡ get_or table site None → is_some o ≡ not b
+    → AreJudged lines table → MatchBool b (IsNewRule known lines site) (IsNewRule known lines site → ⊥)
+new-rule known lines table site o b is test judged = by o b test (subst (IsJudgedAs lines site) (sym is) (judged site))
+  where
+    by : (p : Option Verdict) (v : Bool) → is_some p ≡ not v → IsJudgedAs lines site p → MatchBool v (IsNewRule known lines site) (IsNewRule known lines site → ⊥)
+    by None true there none = none
+    by None false there none = absurd (true≢false (sym there))
+    by (Some verdict) true there said = absurd (true≢false there)
+    by (Some verdict) false there said = λ new. new said.0 said.1 (says.Verdict verdict) said.2

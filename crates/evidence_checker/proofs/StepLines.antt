@@ -11,8 +11,8 @@ use Rattle.rule_meaning.specs.StoreModel.{StoreModel}
 use Rattle.evidence_rules.specs.CitedLines.{GivesStep, GivesVariable, value_of}
 use Rattle.evidence_rules.specs.Follows.{FollowsCapture, FollowsFilter, FollowsStep, GivesBefore, GivesFurther, HasValue, SayEach, SaysCandidate}
 use Rattle.rule_meaning.specs.Places.{candidates_at, rows_at_step, step_in, steps_in}
-use Rattle.evidence_checker.proofs.OneGiven.{one-of-expr, one-of-variable, one-rows, one-there, one-verdict}
 use Rattle.evidence_checker.proofs.StepsSeen.{NamesNothing}
+use Rattle.evidence_checker.proofs.OneGiven.{one-of-expr, one-of-variable, one-rows, one-there, one-verdict}
 
 -- rows that are given by something, if by any
 abbrev pub AreGiven : (List Row → Type 0) → Option (Bor (List Row)) → Type 0

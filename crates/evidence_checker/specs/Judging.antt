@@ -1,16 +1,12 @@
--- What is kept from line to line: what is known, and what `rule` lines say of each site.
-use Rattle.std.specs.Prelude.{ℕ, ◌≡◌, ◌≤◌, ◌⊎◌, Contains, suc, List, [], ◌++◌, length, take, Option, Some, None, slice_index_or}
+-- What is kept from line to line: what is known, and by which lines trees were made. The first line that does not follow, and verdicts that are wanting.
+use Rattle.std.specs.Prelude.{ℕ, ◌≡◌, ◌≤◌, ◌⊎◌, All, Contains, suc, List, [], ◌++◌, length, take}
 use Rattle.evidence_lines.specs.declared.line.Line.{Line}
-use Rattle.evidence_lines.specs.declared.line.LineKind.TheVariants as kind
-use Rattle.evidence_lines.specs.declared.line.Outcome.{Outcome}
 use Rattle.evidence_lines.specs.declared.version.Version.{Version}
 use Rattle.guard_syntax.specs.Syntax.{Rule, Disjs, no_disjs, more_disjs}
-use Rattle.guard_syntax.specs.declared.row.Verdict.{Verdict}
 use Rattle.rule_meaning.specs.StoreModel.{StoreModel, Made}
-use Rattle.evidence_rules.specs.CitedLines.{IsLine}
 use Rattle.evidence_rules.specs.Follows.{AllFollow}
 use Rattle.rule_meaning.specs.Seeing.{grown}
-use Rattle.evidence_rules.specs.RuleLines.{IsSaidOf}
+use Rattle.evidence_lookups.specs.JudgedSites.{IsUnjudged}
 
 -- trees of which this holds are known thereafter, and of no others does it hold
 abbrev pub Leads : (List Made → Type 0) → (known after : StoreModel) → Type 0
@@ -32,17 +28,9 @@ IsFaultAt version start lines number =
     (before : ℕ) × (number ≡ suc before) × (number ≤ length lines) × AllFollow version start [] (take before lines)
     × (AllFollow version start [] (take number lines) → ⊥)
 
--- no `rule` line has this site
-abbrev pub IsUnjudged : List Line → (site : ℕ) → Type 0
-IsUnjudged lines site = (number frame : ℕ) → (outcome : Outcome) → IsLine lines number kind.Rule frame site outcome → ⊥
-
-abbrev pub IsJudgedAs : List Line → (site : ℕ) → Option Verdict → Type 0
-IsJudgedAs lines site None = IsUnjudged lines site
-IsJudgedAs lines site (Some verdict) = IsSaidOf lines site verdict
-
--- a table has the verdicts of the `rule` lines at their sites, and of other sites none
-abbrev pub AreJudged : List Line → List (Option Verdict) → Type 0
-AreJudged lines table = (site : ℕ) → IsJudgedAs lines site (slice_index_or table site None)
+-- each tree was made by one of so many lines
+abbrev pub AreMadeWithin : ℕ → List Made → Type 0
+AreMadeWithin number made = All (λ (m : Made). m.line ≤ number) made
 
 -- a rule without parameters has no line
 abbrev pub IsRuleWanting : List Line → List Rule → Type 0

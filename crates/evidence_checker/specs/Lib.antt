@@ -1,9 +1,5 @@
 pub mod Answered
 pub mod Calls
 pub mod FirstCites
-pub mod FoundRows
-pub mod Grounds
 pub mod Judging
 pub mod Kept
-pub mod Owned
-pub mod Said

@@ -8,14 +8,14 @@ ghost use Rattle.guard_syntax.specs.declared.row.Verdict.{Verdict};
 ghost use Rattle.evidence_rules.specs.CitedLines.{IsLine};
 ghost use Rattle.evidence_rules.specs.Follows.{FollowsBody, FollowsRowsOf, SaysBody, block_stop};
 ghost use Rattle.rule_meaning.specs.Verdicts.{block_verdict, conjunction, disjunction};
+ghost use Rattle.evidence_lookups.specs.Grounds.{known_of, lines_of, version_of};
 ghost use Rattle.evidence_checker.specs.FirstCites.{SaysRow};
-ghost use Rattle.evidence_checker.specs.Grounds.{known_of, lines_of, version_of};
 
-use crate::body_frames::framed_verdict;
-use crate::line_context::LineContext;
-use crate::lookup::{line_of, said, verdict_said};
 use crate::stops::{block_stop, is_stop};
 use evidence_lines::{Line, LineKind, Outcome};
+use evidence_lookups::body_frames::framed_verdict;
+use evidence_lookups::line_context::LineContext;
+use evidence_lookups::lookup::{line_of, said, verdict_said};
 use guard_syntax::{Body, Row, Verdict};
 
 /// Whether the verdict of a body in a frame of this one follows, from the one line that is cited.
@@ -158,7 +158,7 @@ fn joined(any: bool, before: Verdict, row: Verdict) -> Verdict
 }
 
 /// The conjunction of two verdicts.
-fn both(before: Verdict, row: Verdict) -> Verdict
+pub(crate) fn both(before: Verdict, row: Verdict) -> Verdict
     ensures { result ≡ conjunction (before ∷ row ∷ []) }
 {
     match (before, row) {
@@ -169,7 +169,7 @@ fn both(before: Verdict, row: Verdict) -> Verdict
 }
 
 /// The disjunction of two verdicts.
-fn either(before: Verdict, row: Verdict) -> Verdict
+pub(crate) fn either(before: Verdict, row: Verdict) -> Verdict
     ensures { result ≡ disjunction (before ∷ row ∷ []) }
 {
     match (before, row) {

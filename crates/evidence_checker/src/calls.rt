@@ -15,13 +15,14 @@ ghost use Rattle.value_compare.specs.Stores.{see_store};
 ghost use Rattle.evidence_rules.specs.CitedLines.{GiveArgs};
 ghost use Rattle.evidence_rules.specs.Follows.{FollowsRows};
 ghost use Rattle.rule_meaning.specs.Seeing.{grown, rows_kept, trees_kept};
+ghost use Rattle.evidence_lookups.specs.Said.{AreSound};
 ghost use Rattle.evidence_checker.specs.Calls.{IsAnswered, IsCall, IsCallAt};
 ghost use Rattle.evidence_checker.specs.Kept.{row_kept};
-ghost use Rattle.evidence_checker.specs.Said.{AreMadeWithin, AreSound};
+ghost use Rattle.evidence_checker.specs.Judging.{AreMadeWithin};
 
-use crate::cited_rows::given_by_expr;
-use crate::expression_lines::stands_at;
 use evidence_lines::Line;
+use evidence_lookups::cited_rows::given_by_expr;
+use evidence_lookups::expression_lines::stands_at;
 use guard_builtins::{Made, call};
 use guard_syntax::{Expr, Function, Origin, Ref, Row};
 use rule_names::{Piece, RuleFile};

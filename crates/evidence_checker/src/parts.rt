@@ -5,18 +5,19 @@ ghost use Rattle.evidence_lines.specs.declared.line.LineKind.TheVariants as kind
 ghost use Rattle.guard_syntax.specs.Seen.{see_body, see_conds, see_opt_conds, see_part, see_query, see_rule};
 ghost use Rattle.guard_syntax.specs.declared.row.Verdict.{Verdict};
 ghost use Rattle.rule_names.specs.Pieces.{OfRule};
-ghost use Rattle.evidence_rules.specs.Follows.{FollowsAtPart, FollowsBlock, FollowsBody, FollowsRule, FollowsTyped, FollowsVerdict, IsFileFrame, IsNewRule, Under, UnderSome, block_stop, kind_of_part};
+ghost use Rattle.evidence_rules.specs.Follows.{FollowsAtPart, FollowsBlock, FollowsBody, FollowsRule, FollowsTyped, FollowsVerdict, IsNewRule, Under, UnderSome, block_stop, kind_of_part};
 ghost use Rattle.rule_meaning.specs.StoreModel.{StoreModel};
+ghost use Rattle.evidence_lookups.specs.Grounds.{known_of, lines_of, version_of};
 ghost use Rattle.evidence_checker.specs.FirstCites.{IsGuard, IsSomeGuard};
-ghost use Rattle.evidence_checker.specs.Grounds.{known_of, lines_of, version_of};
 
 use crate::bodies::{body_follows, body_follows_on, ends_with};
-use crate::cited_rows::given_by_query;
-use crate::line_context::LineContext;
-use crate::lookup::{line_of, rows_said, verdict_said};
 use crate::reference_lines::{call_follows, reference_follows};
 use crate::test_lines::test_follows;
 use evidence_lines::{Line, LineKind};
+use evidence_lookups::cited_rows::given_by_query;
+use evidence_lookups::frames::is_file_frame;
+use evidence_lookups::line_context::LineContext;
+use evidence_lookups::lookup::{rows_said, verdict_said};
 use guard_syntax::{Body, Conds, Part, Query, Rule, Verdict};
 use std::alloc::{AllocError, Global};
 
@@ -194,16 +195,6 @@ pub(crate) fn rule_follows(
         return false;
     }
     is_rule_verdict(context, frame, rule, cites, verdict)
-}
-
-/// Whether the line of a number is that of the file.
-fn is_file_frame(context: &LineContext<'_, '_, '_>, frame: u64) -> bool
-    ensures { MatchBool result (IsFileFrame (known_of context.now) (lines_of context.now) frame) (IsFileFrame (known_of context.now) (lines_of context.now) frame → ⊥) }
-{
-    match line_of(context.lines, frame) {
-        Some(line) => line.kind == LineKind::File,
-        None => false,
-    }
 }
 
 /// Whether the verdict of a rule follows: it has no parameters.

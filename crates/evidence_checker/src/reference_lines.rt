@@ -7,13 +7,13 @@ ghost use Rattle.guard_syntax.specs.declared.row.Verdict.{Verdict};
 ghost use Rattle.evidence_rules.specs.CitedLines.{IsLine};
 ghost use Rattle.evidence_rules.specs.Follows.{FollowsCall, FollowsRefer};
 ghost use Rattle.rule_meaning.specs.Verdicts as judged;
-ghost use Rattle.evidence_checker.specs.Grounds.{known_of, lines_of};
+ghost use Rattle.evidence_lookups.specs.Grounds.{known_of, lines_of};
 
 use crate::bodies::said_within;
-use crate::frames::called_body;
-use crate::line_context::LineContext;
-use crate::lookup::{line_of, verdict_said};
 use evidence_lines::{Line, LineKind};
+use evidence_lookups::frames::called_body;
+use evidence_lookups::line_context::LineContext;
+use evidence_lookups::lookup::{line_of, verdict_said};
 use guard_syntax::Verdict;
 
 /// Whether the line of a reference follows, from the line of the rule that is named.

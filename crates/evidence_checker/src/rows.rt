@@ -5,14 +5,14 @@ ghost use Rattle.guard_syntax.specs.Seen.{see_part};
 ghost use Rattle.rule_names.specs.Pieces.{OfPart, piece_at};
 ghost use Rattle.rule_meaning.specs.StoreModel.{Made, is_known};
 ghost use Rattle.evidence_rules.specs.Follows.{FollowsRows};
-ghost use Rattle.evidence_checker.specs.Grounds.{file_in, known_of, lines_of};
+ghost use Rattle.evidence_lookups.specs.Grounds.{file_in, known_of, lines_of};
 
-use crate::expression_lines::expr_follows;
-use crate::line_context::LineContext;
-use crate::lookup::value_of;
 use crate::row_equality::same_rows;
 use crate::step_rows::step_follows;
 use evidence_lines::LineKind;
+use evidence_lookups::expression_lines::expr_follows;
+use evidence_lookups::line_context::LineContext;
+use evidence_lookups::lookup::value_of;
 use guard_syntax::{Part, Row};
 use query_steps::kinds;
 use rule_names::Piece;

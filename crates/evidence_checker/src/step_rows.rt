@@ -9,14 +9,14 @@ ghost use Rattle.rule_names.specs.Pieces.{OfStep, piece_at};
 ghost use Rattle.rule_meaning.specs.StoreModel.{is_known};
 ghost use Rattle.evidence_rules.specs.Follows.{FollowsAtStep, FollowsCapture, FollowsFilter, FollowsStep, GivesBefore, GivesFurther, IsLater};
 ghost use Rattle.rule_meaning.specs.Places.{is_filter, step_in, steps_in};
-ghost use Rattle.evidence_checker.specs.Grounds.{file_in, known_of, lines_of};
+ghost use Rattle.evidence_lookups.specs.Grounds.{file_in, known_of, lines_of};
 
-use crate::cited_rows::{given_by_expr, given_by_step, given_by_variable};
-use crate::line_context::LineContext;
-use crate::lookup::value_of;
 use crate::row_equality::same_rows;
 use crate::tried_candidates::tried_verdicts;
 use evidence_lines::LineKind;
+use evidence_lookups::cited_rows::{given_by_expr, given_by_step, given_by_variable};
+use evidence_lookups::line_context::LineContext;
+use evidence_lookups::lookup::value_of;
 use guard_syntax::{Conds, Query, Row, Step, StepForm};
 use query_steps::{candidates, captured, step as rows_due};
 use std::alloc::{AllocError, Global};

@@ -10,10 +10,11 @@ ghost use Rattle.rule_meaning.specs.Keys.{passes};
 ghost use Rattle.rule_meaning.specs.SetTests as asked;
 ghost use Rattle.rule_meaning.specs.Verdicts as judged;
 ghost use Rattle.rule_meaning.specs.Verdicts.{set_verdict, test_verdict};
-ghost use Rattle.evidence_checker.specs.Grounds.{known_of, lines_of};
+ghost use Rattle.evidence_lookups.specs.Grounds.{known_of, lines_of};
 
-use crate::cited_rows::{given_by_expr, given_by_query};
-use crate::line_context::LineContext;
+use evidence_lookups::cited_rows::{given_by_expr, given_by_query};
+use evidence_lookups::expression_lines::is_found;
+use evidence_lookups::line_context::LineContext;
 use guard_syntax::{Expr, Op, Query, Row, Step, StepForm, Verdict};
 use query_steps::row_passes;
 use std::alloc::{AllocError, Global};
@@ -150,17 +151,6 @@ fn one_is_found(rows: &[Row]) -> bool
     ensures { result ≡ list_any judged.is_found rows.now }
 {
     rows.iter().any(|row| is_found(row))
-}
-
-/// Whether something was found at a row.
-fn is_found(row: &Row) -> bool
-    ensures { result ≡ judged.is_found row.now }
-{
-    match row {
-        Row::Found(_) => true,
-        Row::Missing { .. } => false,
-        Row::Unmade { .. } => false,
-    }
 }
 
 /// The verdict of a test on left rows against right rows; with `some` one left row that passes is enough.

@@ -5,8 +5,8 @@ ghost use Rattle.guard_syntax.specs.declared.row.Verdict as row;
 ghost use Rattle.rule_meaning.specs.StoreModel.{StoreModel};
 ghost use Rattle.evidence_rules.specs.Follows.{SayEach, SaysCandidate};
 
-use crate::body_frames::framed_verdict;
 use evidence_lines::Line;
+use evidence_lookups::body_frames::framed_verdict;
 use guard_syntax::{Conds, Ref, Verdict};
 use std::alloc::{AllocError, Global};
 

@@ -1,5 +1,5 @@
 //! Lines of verdicts, of whatever kind.
-ghost use Rattle.std.specs.Prelude.{◌≡◌, ◌∷◌, [], List, Some, map, IfOk, MatchBool, MatchOption};
+ghost use Rattle.std.specs.Prelude.{◌≡◌, [], List, Some, map, IfOk, MatchBool, MatchOption};
 ghost use Rattle.evidence_lines.specs.declared.line.LineKind.TheVariants as kind;
 ghost use Rattle.evidence_lines.specs.declared.line.Outcome.TheVariants as says;
 ghost use Rattle.guard_syntax.specs.declared.row.Verdict.{Verdict};
@@ -8,15 +8,17 @@ ghost use Rattle.rule_names.specs.Pieces.{OfFile, piece_at};
 ghost use Rattle.rule_names.specs.Seen.{see_piece};
 ghost use Rattle.rule_names.specs.ReferenceGraph.{part_site};
 ghost use Rattle.evidence_rules.specs.CitedLines.{IsLine};
-ghost use Rattle.evidence_rules.specs.Follows.{FollowsConj, FollowsDisj, FollowsLoose, FollowsVerdict, IsFileFrame, IsNewRule, SayDisjs, SayParts, SaysVerdict, conds_stop, disj_stop, kind_of_part};
+ghost use Rattle.evidence_rules.specs.Follows.{FollowsConj, FollowsDisj, FollowsLoose, FollowsVerdict, IsNewRule, SayDisjs, SayParts, SaysVerdict, conds_stop, disj_stop, kind_of_part};
 ghost use Rattle.rule_meaning.specs.Verdicts.{conjunction, disjunction};
-ghost use Rattle.evidence_checker.specs.Grounds.{file_in, known_of, lines_of, version_of};
+ghost use Rattle.evidence_lookups.specs.Grounds.{file_in, known_of, lines_of, version_of};
 
-use crate::line_context::LineContext;
-use crate::lookup::{line_of, verdict_said};
+use crate::bodies::{both, either};
 use crate::parts::{part_follows, rule_follows};
 use crate::stops::{conds_stop, disj_stop, is_stop};
-use evidence_lines::{Line, LineKind};
+use evidence_lines::LineKind;
+use evidence_lookups::frames::is_file_frame;
+use evidence_lookups::line_context::LineContext;
+use evidence_lookups::lookup::verdict_said;
 use guard_syntax::{Disj, Part, Verdict};
 use rule_names::Piece;
 use std::alloc::{AllocError, Global};
@@ -168,16 +170,6 @@ fn file_rule_follows(
         return false;
     }
     loose_follows(context, frame, cites, verdict)
-}
-
-/// Whether a frame is a `file` line.
-fn is_file_frame(context: &LineContext<'_, '_, '_>, frame: u64) -> bool
-    ensures { MatchBool result (IsFileFrame (known_of context.now) (lines_of context.now) frame) (IsFileFrame (known_of context.now) (lines_of context.now) frame → ⊥) }
-{
-    match line_of(context.lines, frame) {
-        Some(line) => line.kind == LineKind::File,
-        None => false,
-    }
 }
 
 /// Whether a line of the parts outside rules has the verdict of their conjunction, which it cites.
@@ -338,27 +330,5 @@ fn said_of_part(
         Part::Test { site, .. } => verdict_said(lines, number, LineKind::Test, frame, *site),
         Part::Refer { site, .. } => verdict_said(lines, number, LineKind::Refer, frame, *site),
         Part::Call { site, .. } => verdict_said(lines, number, LineKind::Call, frame, *site),
-    }
-}
-
-/// The conjunction of two verdicts.
-fn both(earlier: Verdict, later: Verdict) -> Verdict
-    ensures { result ≡ conjunction (earlier ∷ later ∷ []) }
-{
-    match (earlier, later) {
-        (Verdict::Fail, _) | (_, Verdict::Fail) => Verdict::Fail,
-        (Verdict::Pass, _) | (_, Verdict::Pass) => Verdict::Pass,
-        (Verdict::Skip, Verdict::Skip) => Verdict::Skip,
-    }
-}
-
-/// The disjunction of two verdicts.
-fn either(earlier: Verdict, later: Verdict) -> Verdict
-    ensures { result ≡ disjunction (earlier ∷ later ∷ []) }
-{
-    match (earlier, later) {
-        (Verdict::Pass, _) | (_, Verdict::Pass) => Verdict::Pass,
-        (Verdict::Fail, _) | (_, Verdict::Fail) => Verdict::Fail,
-        (Verdict::Skip, Verdict::Skip) => Verdict::Skip,
     }
 }

@@ -2,7 +2,7 @@ use Rattle.std.proofs.Common.{◌≡◌, ◌∙◌, true, false, Option, ap, sym
 use Rattle.guard_syntax.specs.Seen.{see_body}
 use Rattle.guard_syntax.specs.declared.row.Verdict.{Verdict}
 use Rattle.evidence_rules.specs.Follows.{block_stop, is_stop}
-use Rattle.evidence_checker.specs.Grounds.{known_of, lines_of, version_of}
+use Rattle.evidence_lookups.specs.Grounds.{known_of, lines_of, version_of}
 use Rattle.evidence_checker.proofs.OnRows.{back-first, back-row, decide-end, decide-stop, never-row, on-first, on-row}
 use Rattle.evidence_checker.proofs.bodies.body_follows_on.Goals as goal
 

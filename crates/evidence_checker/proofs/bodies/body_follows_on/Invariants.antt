@@ -1,7 +1,7 @@
 use Rattle.std.proofs.Common.{drop}
 use Rattle.guard_syntax.specs.Seen.{see_body}
 use Rattle.evidence_rules.specs.Follows.{FollowsRowsOf, block_stop}
-use Rattle.evidence_checker.specs.Grounds.{known_of, lines_of, version_of}
+use Rattle.evidence_lookups.specs.Grounds.{known_of, lines_of, version_of}
 use Rattle.evidence_checker.proofs.OnRows.{FollowsOn}
 use Rattle.evidence_checker.proofs.bodies.body_follows_on.Given as goal
 

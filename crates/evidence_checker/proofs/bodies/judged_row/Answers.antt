@@ -1,10 +1,10 @@
 use Rattle.std.proofs.Common.{sym}
 use Rattle.guard_syntax.specs.Seen.{see_body}
 use Rattle.guard_syntax.specs.declared.syntax.Body.{out-Body}
-use Rattle.evidence_checker.specs.Grounds.{known_of, lines_of}
+use Rattle.evidence_lookups.specs.Grounds.{known_of, lines_of}
+use Rattle.evidence_lookups.proofs.PartsSeen.{body-site}
 use Rattle.evidence_checker.proofs.Decided.{at-none}
 use Rattle.evidence_checker.proofs.OnRows.{none-said}
-use Rattle.evidence_checker.proofs.PartsSeen.{body-site}
 use Rattle.evidence_checker.proofs.bodies.judged_row.Goals as goal
 
 pub returns-in_err-verdict : goal.returns-in_err-verdict

@@ -1,7 +1,8 @@
 use Rattle.std.proofs.Common.{◌≡◌, ◌≤◌, length, take}
 use Rattle.value_compare.specs.Stores.{see_store}
-use Rattle.evidence_checker.specs.Judging.{AreJudged, IsKnownBehind}
-use Rattle.evidence_checker.specs.Said.{AreMadeWithin, AreSound}
+use Rattle.evidence_lookups.specs.JudgedSites.{AreJudged}
+use Rattle.evidence_lookups.specs.Said.{AreSound}
+use Rattle.evidence_checker.specs.Judging.{AreMadeWithin, IsKnownBehind}
 use Rattle.evidence_checker.proofs.judge.first_fault.Given as goal
 
 abbrev pub invariant-loop-before : goal.invariant-loop-before

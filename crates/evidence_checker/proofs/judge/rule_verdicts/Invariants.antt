@@ -4,7 +4,7 @@ use Rattle.guard_syntax.specs.Seen.{see_rule}
 use Rattle.guard_syntax.specs.Syntax.{Disjs}
 use Rattle.guard_syntax.specs.declared.row.Verdict.{Verdict}
 use Rattle.evidence_rules.specs.RuleLines.{AreOfRules}
-use Rattle.evidence_checker.specs.Judging.{AreJudged}
+use Rattle.evidence_lookups.specs.JudgedSites.{AreJudged}
 use Rattle.evidence_checker.proofs.judge.rule_verdicts.Given as goal
 
 abbrev pub invariant-loop-rule : goal.invariant-loop-rule

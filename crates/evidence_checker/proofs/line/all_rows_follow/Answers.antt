@@ -6,7 +6,7 @@ use Rattle.rule_names.specs.Pieces.{piece_at}
 use Rattle.rule_meaning.specs.StoreModel.{Made, is_known}
 use Rattle.value_compare.specs.Stores.{see_store}
 use Rattle.evidence_rules.specs.Follows.{FollowsIn, FollowsRows}
-use Rattle.evidence_checker.specs.Said.{AreMadeWithin}
+use Rattle.evidence_checker.specs.Judging.{AreMadeWithin}
 use Rattle.evidence_checker.proofs.Leading.{Decided}
 use Rattle.evidence_checker.proofs.LinesFollowing.{rows-decided}
 use Rattle.evidence_checker.proofs.SoundLines.{made-more}

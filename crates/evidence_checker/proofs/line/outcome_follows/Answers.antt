@@ -5,11 +5,12 @@ use Rattle.guard_syntax.specs.declared.row.Row.{Row}
 use Rattle.rule_names.specs.Pieces.{piece_at}
 use Rattle.value_compare.specs.Stores.{see_store}
 use Rattle.evidence_rules.specs.Follows.{FollowsIn, FollowsVerdict}
-use Rattle.evidence_checker.specs.Said.{AreMadeWithin, is_known_outcome}
+use Rattle.evidence_lookups.specs.Said.{is_known_outcome}
+use Rattle.evidence_checker.specs.Judging.{AreMadeWithin}
 use Rattle.evidence_checker.proofs.Leading.{Decided}
 use Rattle.evidence_checker.proofs.LinesFollowing.{known-as, said-as, value-decided, verdict-decided}
+use Rattle.evidence_checker.proofs.RuleVerdicts.{new-rule}
 use Rattle.evidence_checker.proofs.SoundLines.{made-more}
-use Rattle.evidence_checker.proofs.VerdictsJudged.{new-rule}
 use Rattle.evidence_checker.proofs.line.outcome_follows.Goals as goal
 
 pub verdict_follows-requires : goal.verdict_follows-requires

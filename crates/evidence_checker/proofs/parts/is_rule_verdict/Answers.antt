@@ -1,7 +1,7 @@
 use Rattle.guard_syntax.specs.Seen.{see_body, see_opt_conds, see_rule}
 use Rattle.guard_syntax.specs.declared.row.Verdict.TheVariants.{Pass, Fail, Skip}
 use Rattle.evidence_rules.specs.Follows.{FollowsBody}
-use Rattle.evidence_checker.specs.Grounds.{known_of, lines_of}
+use Rattle.evidence_lookups.specs.Grounds.{known_of, lines_of}
 use Rattle.evidence_checker.proofs.Decided.{decide-guarded, decide-under-some, never-under-some, none-within}
 use Rattle.evidence_checker.proofs.FirstSaid.{rule-decided}
 use Rattle.evidence_checker.proofs.parts.is_rule_verdict.Goals as goal

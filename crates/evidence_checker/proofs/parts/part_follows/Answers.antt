@@ -2,7 +2,7 @@ use Rattle.std.proofs.Common.{map, ap, sym, ◌∙◌}
 use Rattle.std.proofs.lemmas.Result.{IfOk-weaker}
 use Rattle.guard_syntax.specs.Seen.{expr_list, see_body, see_conds, see_expr, see_opt_conds, see_opt_expr, see_part, see_query}
 use Rattle.guard_syntax.specs.Syntax as sx
-use Rattle.evidence_checker.specs.Grounds.{known_of, lines_of, version_of}
+use Rattle.evidence_lookups.specs.Grounds.{known_of, lines_of, version_of}
 use Rattle.evidence_checker.proofs.PartForms.{block-seen, call-seen, kind-other, kind-same, kinds-seen, part-decided, refer-seen, test-seen, when-seen}
 use Rattle.evidence_checker.proofs.PartsKinds.{other-kind}
 use Rattle.evidence_checker.proofs.parts.part_follows.Goals as goal

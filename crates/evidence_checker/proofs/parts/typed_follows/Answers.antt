@@ -1,5 +1,5 @@
 use Rattle.guard_syntax.specs.Seen.{see_body}
-use Rattle.evidence_checker.specs.Grounds.{known_of, lines_of}
+use Rattle.evidence_lookups.specs.Grounds.{known_of, lines_of}
 use Rattle.evidence_checker.proofs.FirstSaid.{typed-decided, typed-never}
 use Rattle.evidence_checker.proofs.parts.typed_follows.Goals as goal
 

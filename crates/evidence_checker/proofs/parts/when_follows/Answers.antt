@@ -1,7 +1,7 @@
 use Rattle.guard_syntax.specs.Seen.{see_body, see_conds}
 use Rattle.guard_syntax.specs.declared.row.Verdict.TheVariants.{Pass, Fail, Skip}
 use Rattle.evidence_rules.specs.Follows.{FollowsBody}
-use Rattle.evidence_checker.specs.Grounds.{known_of, lines_of}
+use Rattle.evidence_lookups.specs.Grounds.{known_of, lines_of}
 use Rattle.evidence_checker.proofs.Decided.{decide-guarded, decide-under, never-under}
 use Rattle.evidence_checker.proofs.parts.when_follows.Goals as goal
 

@@ -1,10 +1,10 @@
 use Rattle.std.proofs.Common.{get_or, sym}
 use Rattle.guard_syntax.specs.Seen.{see_body}
 use Rattle.guard_syntax.specs.declared.syntax.Body.{out-Body}
-use Rattle.evidence_checker.specs.Grounds.{known_of, lines_of}
+use Rattle.evidence_lookups.specs.Grounds.{known_of, lines_of}
+use Rattle.evidence_lookups.proofs.PartsSeen.{body-site}
 use Rattle.evidence_checker.proofs.Decided.{same-verdicts}
 use Rattle.evidence_checker.proofs.FramesSaid.{one-cite}
-use Rattle.evidence_checker.proofs.PartsSeen.{body-site}
 use Rattle.evidence_checker.proofs.UsesSaid.{call-decided, call-never}
 use Rattle.evidence_checker.proofs.reference_lines.call_follows.Goals as goal
 

@@ -7,9 +7,9 @@ use Rattle.guard_syntax.specs.declared.row.Verdict.{Verdict}
 use Rattle.rule_meaning.specs.StoreModel.{StoreModel}
 use Rattle.evidence_rules.specs.Follows.{SayEach, SaysCandidate}
 use Rattle.rule_meaning.specs.Places.{candidates_at, rows_at_step}
-use Rattle.evidence_checker.specs.Grounds.{file_in, known_of, lines_of}
-use Rattle.evidence_checker.proofs.SaidKnown.{before-said-known, value-said-known}
-use Rattle.evidence_checker.proofs.SitesWithin.{site-within}
+use Rattle.evidence_lookups.specs.Grounds.{file_in, known_of, lines_of}
+use Rattle.evidence_lookups.proofs.SaidKnown.{before-said-known, value-said-known}
+use Rattle.evidence_lookups.proofs.SitesWithin.{site-within}
 use Rattle.evidence_checker.proofs.StepLines.{filter-due, filter-lacks, none-taken, said-each, some-taken}
 use Rattle.evidence_checker.proofs.step_rows.kept_follow.Goals as goal
 

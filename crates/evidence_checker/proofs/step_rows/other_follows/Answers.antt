@@ -1,9 +1,9 @@
 use Rattle.std.proofs.Common.{◌≡◌, [], sym, ◌∙◌}
 use Rattle.guard_syntax.specs.Seen.{see_query, see_step}
 use Rattle.rule_meaning.specs.Places.{rows_at_step}
-use Rattle.evidence_checker.specs.Grounds.{file_in, known_of, lines_of}
-use Rattle.evidence_checker.proofs.SaidKnown.{before-said-known, further-said-known, value-said-known}
-use Rattle.evidence_checker.proofs.SitesWithin.{site-within}
+use Rattle.evidence_lookups.specs.Grounds.{file_in, known_of, lines_of}
+use Rattle.evidence_lookups.proofs.SaidKnown.{before-said-known, further-said-known, value-said-known}
+use Rattle.evidence_lookups.proofs.SitesWithin.{site-within}
 use Rattle.evidence_checker.proofs.StepLines.{step-due}
 use Rattle.evidence_checker.proofs.step_rows.other_follows.Goals as goal
 

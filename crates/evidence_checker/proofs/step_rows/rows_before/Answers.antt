@@ -1,7 +1,7 @@
 use Rattle.std.proofs.Common.{◌≡◌, ◌-◌, [], ◌∷◌, drop, get_or, length, sym, suc, take, arith, ◌∙◌}
 use Rattle.guard_syntax.specs.Seen.{see_query, see_step}
-use Rattle.evidence_checker.specs.Grounds.{known_of, lines_of}
-use Rattle.evidence_checker.proofs.PartsSeen.{no-step, step-there}
+use Rattle.evidence_lookups.specs.Grounds.{known_of, lines_of}
+use Rattle.evidence_lookups.proofs.PartsSeen.{no-step, step-there}
 use Rattle.evidence_checker.proofs.StepLines.{before-given, first-of, no-rows-before, no-step-before, none-given}
 use Rattle.evidence_checker.proofs.step_rows.rows_before.Goals as goal
 

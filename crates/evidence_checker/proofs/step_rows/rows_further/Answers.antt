@@ -1,6 +1,6 @@
 use Rattle.std.proofs.Common.{◌≡◌, ap, arith, length}
 use Rattle.guard_syntax.specs.Seen.{see_conds, see_step}
-use Rattle.evidence_checker.specs.Grounds.{known_of, lines_of}
+use Rattle.evidence_lookups.specs.Grounds.{known_of, lines_of}
 use Rattle.evidence_checker.proofs.StepLines.{filter-further, further-nothing, no-cites, nothing-further, splice-further, var-further}
 use Rattle.evidence_checker.proofs.StepsSeen.{filter-seen, nothing-seen, splice-seen, var-seen}
 use Rattle.evidence_checker.proofs.step_rows.rows_further.Goals as goal

@@ -1,6 +1,6 @@
 use Rattle.std.proofs.Common.{◌≡◌, drop}
 use Rattle.std.specs.List.{list_all}
-use Rattle.evidence_checker.specs.Grounds.{known_of}
+use Rattle.evidence_lookups.specs.Grounds.{known_of}
 use Rattle.rule_meaning.specs.Keys.{passes}
 use Rattle.evidence_checker.proofs.test_lines.all_pass.Given as goal
 

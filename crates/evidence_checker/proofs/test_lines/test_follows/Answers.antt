@@ -1,8 +1,8 @@
 use Rattle.guard_syntax.specs.Seen.{see_opt_expr, see_query}
-use Rattle.evidence_checker.specs.Grounds.{known_of, lines_of}
+use Rattle.evidence_lookups.specs.Grounds.{known_of, lines_of}
+use Rattle.evidence_lookups.proofs.SaidKnown.{query-said-known, right-said-known}
 use Rattle.evidence_checker.proofs.Decided.{same-verdicts}
 use Rattle.evidence_checker.proofs.FirstSaid.{test-decided}
-use Rattle.evidence_checker.proofs.SaidKnown.{query-said-known, right-said-known}
 use Rattle.evidence_checker.proofs.test_lines.test_follows.Goals as goal
 
 pub test_of_rows-requires : goal.test_of_rows-requires

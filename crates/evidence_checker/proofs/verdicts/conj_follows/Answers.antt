@@ -1,4 +1,4 @@
-use Rattle.evidence_checker.specs.Grounds.{known_of, lines_of}
+use Rattle.evidence_lookups.specs.Grounds.{known_of, lines_of}
 use Rattle.evidence_checker.proofs.VerdictsSaid.{conj-said}
 use Rattle.evidence_checker.proofs.verdicts.conj_follows.Goals as goal
 

@@ -1,7 +1,7 @@
 use Rattle.std.proofs.Common.{◌+◌, ◌≡◌, false, true, drop, sym}
 use Rattle.evidence_rules.specs.Follows.{is_stop}
 use Rattle.rule_meaning.specs.Verdicts.{conjunction}
-use Rattle.evidence_checker.specs.Grounds.{known_of, lines_of}
+use Rattle.evidence_lookups.specs.Grounds.{known_of, lines_of}
 use Rattle.evidence_checker.proofs.VerdictsSaid.{LeftDisjs, SaysDisj, disjs-next, disjs-last, conjunction-first, conjunction-one, conjunction-two, folded-first, folded-last, folded-next, folded-stop, folded-uncited, folded-unsaid, no-items}
 use Rattle.evidence_checker.proofs.verdicts.conjunction_said.Goals as goal
 

@@ -1,6 +1,6 @@
 use Rattle.std.proofs.Common.{drop}
 use Rattle.rule_meaning.specs.Verdicts.{conjunction}
-use Rattle.evidence_checker.specs.Grounds.{known_of, lines_of}
+use Rattle.evidence_lookups.specs.Grounds.{known_of, lines_of}
 use Rattle.evidence_checker.proofs.VerdictsSaid.{IsFolded, LeftDisjs}
 use Rattle.evidence_checker.proofs.verdicts.conjunction_said.Given as goal
 

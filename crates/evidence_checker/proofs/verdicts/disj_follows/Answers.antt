@@ -2,7 +2,7 @@ use Rattle.std.proofs.Common.{Option, MatchBool, subst}
 use Rattle.guard_syntax.specs.Seen.{see_disj}
 use Rattle.guard_syntax.specs.declared.row.Verdict.{Verdict}
 use Rattle.evidence_rules.specs.Follows.{FollowsDisj}
-use Rattle.evidence_checker.specs.Grounds.{known_of, lines_of}
+use Rattle.evidence_lookups.specs.Grounds.{known_of, lines_of}
 use Rattle.evidence_checker.proofs.VerdictsSaid.{disj-said}
 use Rattle.evidence_checker.proofs.verdicts.disj_follows.Goals as goal
 

@@ -1,6 +1,6 @@
 use Rattle.std.proofs.Common.{drop}
 use Rattle.rule_meaning.specs.Verdicts.{disjunction}
-use Rattle.evidence_checker.specs.Grounds.{known_of, lines_of}
+use Rattle.evidence_lookups.specs.Grounds.{known_of, lines_of}
 use Rattle.evidence_checker.proofs.VerdictsSaid.{IsFolded, LeftParts}
 use Rattle.evidence_checker.proofs.verdicts.disjunction_said.Given as goal
 

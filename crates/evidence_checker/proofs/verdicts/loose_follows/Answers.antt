@@ -1,6 +1,6 @@
 use Rattle.std.proofs.Common.{◌∙◌}
 use Rattle.std.specs.Vec.{vec_len}
-use Rattle.evidence_checker.specs.Grounds.{known_of, lines_of}
+use Rattle.evidence_lookups.specs.Grounds.{known_of, lines_of}
 use Rattle.evidence_checker.proofs.VerdictsSaid.{loose-said, not-zero}
 use Rattle.evidence_checker.proofs.verdicts.loose_follows.Goals as goal
 

@@ -1,5 +1,5 @@
 use Rattle.evidence_lines.specs.declared.line.LineKind.TheVariants as kind
-use Rattle.evidence_checker.specs.Grounds.{known_of, lines_of}
+use Rattle.evidence_lookups.specs.Grounds.{known_of, lines_of}
 use Rattle.evidence_checker.proofs.PartKinds.{about-block, about-call, about-kinds, about-refer, about-test, about-when, said-about}
 use Rattle.evidence_checker.proofs.verdicts.said_of_part.Goals as goal
 

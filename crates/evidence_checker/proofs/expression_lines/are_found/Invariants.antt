@@ -1,5 +1,0 @@
-use Rattle.evidence_checker.proofs.RowsFound.{FoundSoFar}
-use Rattle.evidence_checker.proofs.expression_lines.are_found.Given as goal
-
-abbrev pub invariant-loop-row : goal.invariant-loop-row
-invariant-loop-row l = FoundSoFar l.all l.rows l.row-index l.next

@@ -1,0 +1,14 @@
+pub mod PartsSeen
+pub mod SaidKnown
+pub mod SitesWithin
+mod ExprsKnown
+mod FramedVerdicts
+mod FramesAround
+mod LinesSaid
+mod OwnersMarked
+mod OwnersStand
+mod RowsFound
+mod RowsGiven
+mod SitesFound
+mod ValuesKnown
+mod VerdictsJudged

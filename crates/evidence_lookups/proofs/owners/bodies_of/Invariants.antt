@@ -1,0 +1,7 @@
+use Rattle.std.proofs.Common.{◌≡◌}
+use Rattle.rule_names.specs.Files.{file_of}
+use Rattle.evidence_lookups.specs.Owned.{marks_upto}
+use Rattle.evidence_lookups.proofs.owners.bodies_of.Given as goal
+
+abbrev pub invariant-loop-site : goal.invariant-loop-site
+invariant-loop-site l = l.marks.items ≡ marks_upto (file_of l.file) l.owner l.site

@@ -1,0 +1,21 @@
+-- What `rule` lines say of each site, as a table by sites.
+use Rattle.std.specs.Prelude.{ℕ, List, Option, Some, None, slice_index_or}
+use Rattle.evidence_lines.specs.declared.line.Line.{Line}
+use Rattle.evidence_lines.specs.declared.line.LineKind.TheVariants as kind
+use Rattle.evidence_lines.specs.declared.line.Outcome.{Outcome}
+use Rattle.guard_syntax.specs.declared.row.Verdict.{Verdict}
+use Rattle.evidence_rules.specs.CitedLines.{IsLine}
+use Rattle.evidence_rules.specs.RuleLines.{IsSaidOf}
+
+-- no `rule` line has this site
+abbrev pub IsUnjudged : List Line → (site : ℕ) → Type 0
+IsUnjudged lines site = (number frame : ℕ) → (outcome : Outcome) → IsLine lines number kind.Rule frame site outcome → ⊥
+
+-- one says this verdict of it, or none has it
+abbrev pub IsJudgedAs : List Line → (site : ℕ) → Option Verdict → Type 0
+IsJudgedAs lines site None = IsUnjudged lines site
+IsJudgedAs lines site (Some verdict) = IsSaidOf lines site verdict
+
+-- a table has the verdicts of the `rule` lines at their sites, and of other sites none
+abbrev pub AreJudged : List Line → List (Option Verdict) → Type 0
+AreJudged lines table = (site : ℕ) → IsJudgedAs lines site (slice_index_or table site None)

@@ -1,0 +1,5 @@
+pub mod FoundRows
+pub mod Grounds
+pub mod JudgedSites
+pub mod Owned
+pub mod Said

@@ -1,0 +1,108 @@
+//! Lines by their numbers, their kind, frame and site.
+ghost use Rattle.std.specs.Prelude.{◌≡◌, List, MatchBool, MatchOption};
+ghost use Rattle.std.specs.Option.{option_copied};
+ghost use Rattle.evidence_lines.specs.Lines.{line_of};
+ghost use Rattle.evidence_lines.specs.declared.line.LineKind.TheVariants as kind;
+ghost use Rattle.evidence_lines.specs.declared.line.Outcome.{Outcome};
+ghost use Rattle.evidence_lines.specs.declared.line.Outcome.TheVariants as says;
+ghost use Rattle.guard_syntax.specs.declared.row.Row.{Row};
+ghost use Rattle.guard_syntax.specs.declared.row.Verdict.{Verdict};
+ghost use Rattle.evidence_rules.specs.CitedLines.{IsLine, value_of};
+
+use evidence_lines::{Line, LineKind, Outcome};
+use guard_syntax::{Ref, Row, Verdict};
+
+/// The line of a number.
+pub fn line_of<'b>(lines: &'b [Line], number: u64) -> Option<&'b Line>
+    ensures { option_copied result ≡ line_of lines.entry.now number }
+{
+    if number == 0 {
+        return None;
+    }
+    lines.get((number - 1) as usize)
+}
+
+/// What the line of a number says, where it is of this kind, in this frame and of this site.
+pub fn said<'b>(
+    lines: &'b [Line],
+    number: u64,
+    kind: LineKind,
+    frame: u64,
+    site: u32,
+) -> Option<&'b Outcome>
+    ensures { MatchOption result ((outcome : Outcome) → IsLine lines.entry.now number kind frame site outcome → ⊥)
+        (λ outcome. IsLine lines.entry.now number kind frame site outcome.now) }
+{
+    let line = line_of(lines, number)?;
+    if line.kind == kind && line.frame == Some(frame) && line.site == Some(site) {
+        Some(&line.outcome)
+    } else {
+        None
+    }
+}
+
+/// The rows that it says.
+pub fn rows_said<'b>(
+    lines: &'b [Line],
+    number: u64,
+    kind: LineKind,
+    frame: u64,
+    site: u32,
+) -> Option<&'b [Row]>
+    ensures { MatchOption result ((rows : List Row) → IsLine lines.entry.now number kind frame site (says.Rows rows) → ⊥)
+        (λ rows. IsLine lines.entry.now number kind frame site (says.Rows rows.now)) }
+{
+    match said(lines, number, kind, frame, site) {
+        Some(outcome) => rows_of(outcome),
+        None => None,
+    }
+}
+
+/// The rows of an outcome.
+fn rows_of(outcome: &Outcome) -> Option<&[Row]>
+    ensures { MatchOption result ((rows : List Row) → outcome.entry.now ≡ says.Rows rows → ⊥)
+        (λ rows. outcome.entry.now ≡ says.Rows rows.now) }
+{
+    match outcome {
+        Outcome::Rows(rows) => Some(rows.as_slice()),
+        Outcome::Value(_) | Outcome::Verdict(_) => None,
+    }
+}
+
+/// The verdict that it says.
+pub fn verdict_said(
+    lines: &[Line],
+    number: u64,
+    kind: LineKind,
+    frame: u64,
+    site: u32,
+) -> Option<Verdict>
+    ensures { MatchOption result ((verdict : Verdict) → IsLine lines.now number kind frame site (says.Verdict verdict) → ⊥)
+        (λ verdict. IsLine lines.now number kind frame site (says.Verdict verdict)) }
+{
+    match said(lines, number, kind, frame, site) {
+        Some(Outcome::Verdict(verdict)) => Some(*verdict),
+        _ => None,
+    }
+}
+
+/// Whether the line of a number is a frame of this site in this frame, with this value.
+pub(crate) fn is_frame(lines: &[Line], number: u64, frame: u64, site: u32, value: Ref) -> bool
+    ensures { MatchBool result (IsLine lines.now number kind.Frame frame site (says.Value value))
+        (IsLine lines.now number kind.Frame frame site (says.Value value) → ⊥) }
+{
+    match said(lines, number, LineKind::Frame, frame, site) {
+        Some(Outcome::Value(said)) => *said == value,
+        _ => false,
+    }
+}
+
+/// The value of a frame.
+pub fn value_of(lines: &[Line], frame: u64) -> Option<Ref>
+    ensures { result ≡ value_of lines.now frame }
+{
+    match &line_of(lines, frame)?.outcome {
+        Outcome::Value(value) => Some(*value),
+        _ => None,
+    }
+}
