@@ -1,10 +1,11 @@
 //! Calls of any function.
-ghost use Rattle.std.specs.Prelude.{◌≡◌, true, IfOk, IfSome, length, map};
+ghost use Rattle.std.specs.Prelude.{◌≡◌, [], true, IfOk, IfSome, IsOk, length, map};
 ghost use Rattle.std.specs.List.{list_all};
 ghost use Rattle.rule_names.specs.Uses.{arity};
 ghost use Rattle.value_compare.specs.Books.{has_text};
 ghost use Rattle.rule_meaning.specs.Functions.{Functions, argument, single_text};
 ghost use Rattle.value_compare.specs.Stores.{see_store};
+ghost use Rattle.guard_builtins.specs.Memory.{is_by_row};
 ghost use Rattle.guard_builtins.specs.Seen.{is_plain, see_made, see_rows};
 
 use crate::functions::{
@@ -18,7 +19,8 @@ use std::alloc::{AllocError, Global};
 use value_compare::{PatternBook, Store};
 
 /// What the call of a function at a site answers: a row for each row of its first argument, or its one row. It wants as many
-/// arguments as the function takes, and of `regex_replace` a book that has the pattern.
+/// arguments as the function takes, and of `regex_replace` a book that has the pattern. Where it answers a row for each row
+/// of its first argument and that has none, no memory is taken.
 pub fn call(
     alloc: Global,
     function: Function,
@@ -32,6 +34,7 @@ pub fn call(
         → IfSome (single_text (see_store store.now) (argument (map see_rows args.now) 1)) (λ text. has_text book.now text ≡ true) }
     ensures rows { IfOk result (λ made. Functions (see_store store.now) function site (map see_rows args.now) (map see_made made.items)) }
     ensures plain { IfOk result (λ made. list_all is_plain made.items ≡ true) }
+    ensures no_memory { is_by_row function ≡ true → argument (map see_rows args.now) 0 ≡ [] → IsOk result }
 {
     match function {
         Function::Count => count(alloc, &args[0]),

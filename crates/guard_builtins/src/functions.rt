@@ -1,5 +1,5 @@
-//! The functions on lists of rows.
-ghost use Rattle.std.specs.Prelude.{◌≡◌, false, true, IfOk, IfSome, map};
+//! The functions on lists of rows. Those that answer a row for each row of an argument take no memory where it has none.
+ghost use Rattle.std.specs.Prelude.{◌≡◌, [], false, true, IfOk, IfSome, IsOk, map};
 ghost use Rattle.std.specs.List.{list_all};
 ghost use Rattle.rule_meaning.specs.Functions.{AreRows, IsBoolean, IsDecoded, IsFloat, IsInt, IsJson, IsLower, IsPrinted, IsRow, IsSubstring, IsUpper, counted, is_found, joined, joined_row, single_text, single_whole, texts_in};
 ghost use Rattle.value_compare.specs.Stores.{see_store};
@@ -83,7 +83,7 @@ fn row_for(
     }
 }
 
-/// A row of the answer for each row of the first argument.
+/// A row of the answer for each row of the first argument. Where there is none, no memory is taken.
 fn rows_for(
     alloc: Global,
     change: Change,
@@ -93,6 +93,7 @@ fn rows_for(
 ) -> Result<Vec<Made>, AllocError>
     ensures rows { IfOk result (λ made. AreRows (gives change) (see_store store.now) site rows.now (map see_made made.items)) }
     ensures plain { IfOk result (λ made. list_all is_plain made.items ≡ true) }
+    ensures no_memory { rows.now ≡ [] → IsOk result }
 {
     let mut made = Vec::new(alloc);
     for row in rows {
@@ -110,6 +111,7 @@ pub fn json_parse(
 ) -> Result<Vec<Made>, AllocError>
     ensures rows { IfOk result (λ made. AreRows IsJson (see_store store.now) site rows.now (map see_made made.items)) }
     ensures plain { IfOk result (λ made. list_all is_plain made.items ≡ true) }
+    ensures no_memory { rows.now ≡ [] → IsOk result }
 {
     rows_for(alloc, Change::JsonParse, site, rows, store)
 }
@@ -123,6 +125,7 @@ pub fn to_lower(
 ) -> Result<Vec<Made>, AllocError>
     ensures rows { IfOk result (λ made. AreRows IsLower (see_store store.now) site rows.now (map see_made made.items)) }
     ensures plain { IfOk result (λ made. list_all is_plain made.items ≡ true) }
+    ensures no_memory { rows.now ≡ [] → IsOk result }
 {
     rows_for(alloc, Change::ToLower, site, rows, store)
 }
@@ -136,6 +139,7 @@ pub fn to_upper(
 ) -> Result<Vec<Made>, AllocError>
     ensures rows { IfOk result (λ made. AreRows IsUpper (see_store store.now) site rows.now (map see_made made.items)) }
     ensures plain { IfOk result (λ made. list_all is_plain made.items ≡ true) }
+    ensures no_memory { rows.now ≡ [] → IsOk result }
 {
     rows_for(alloc, Change::ToUpper, site, rows, store)
 }
@@ -152,6 +156,7 @@ pub fn substring(
 ) -> Result<Vec<Made>, AllocError>
     ensures rows { IfOk result (λ made. AreRows (IsSubstring (single_whole (see_store store.now) from.now) (single_whole (see_store store.now) to.now)) (see_store store.now) site rows.now (map see_made made.items)) }
     ensures plain { IfOk result (λ made. list_all is_plain made.items ≡ true) }
+    ensures no_memory { rows.now ≡ [] → IsOk result }
 {
     let change = Change::Substring(single_whole(from, store), single_whole(to, store));
     rows_for(alloc, change, site, rows, store)
@@ -166,6 +171,7 @@ pub fn url_decode(
 ) -> Result<Vec<Made>, AllocError>
     ensures rows { IfOk result (λ made. AreRows IsDecoded (see_store store.now) site rows.now (map see_made made.items)) }
     ensures plain { IfOk result (λ made. list_all is_plain made.items ≡ true) }
+    ensures no_memory { rows.now ≡ [] → IsOk result }
 {
     rows_for(alloc, Change::UrlDecode, site, rows, store)
 }
@@ -179,6 +185,7 @@ pub fn parse_int(
 ) -> Result<Vec<Made>, AllocError>
     ensures rows { IfOk result (λ made. AreRows IsInt (see_store store.now) site rows.now (map see_made made.items)) }
     ensures plain { IfOk result (λ made. list_all is_plain made.items ≡ true) }
+    ensures no_memory { rows.now ≡ [] → IsOk result }
 {
     rows_for(alloc, Change::ParseInt, site, rows, store)
 }
@@ -193,6 +200,7 @@ pub fn parse_float(
 ) -> Result<Vec<Made>, AllocError>
     ensures rows { IfOk result (λ made. AreRows IsFloat (see_store store.now) site rows.now (map see_made made.items)) }
     ensures plain { IfOk result (λ made. list_all is_plain made.items ≡ true) }
+    ensures no_memory { rows.now ≡ [] → IsOk result }
 {
     rows_for(alloc, Change::ParseFloat, site, rows, store)
 }
@@ -206,6 +214,7 @@ pub fn parse_boolean(
 ) -> Result<Vec<Made>, AllocError>
     ensures rows { IfOk result (λ made. AreRows IsBoolean (see_store store.now) site rows.now (map see_made made.items)) }
     ensures plain { IfOk result (λ made. list_all is_plain made.items ≡ true) }
+    ensures no_memory { rows.now ≡ [] → IsOk result }
 {
     rows_for(alloc, Change::ParseBoolean, site, rows, store)
 }
@@ -219,6 +228,7 @@ pub fn parse_string(
 ) -> Result<Vec<Made>, AllocError>
     ensures rows { IfOk result (λ made. AreRows IsPrinted (see_store store.now) site rows.now (map see_made made.items)) }
     ensures plain { IfOk result (λ made. list_all is_plain made.items ≡ true) }
+    ensures no_memory { rows.now ≡ [] → IsOk result }
 {
     rows_for(alloc, Change::ParseString, site, rows, store)
 }

@@ -1,5 +1,5 @@
 //! Texts with the matches of a pattern replaced.
-ghost use Rattle.std.specs.Prelude.{◌≡◌, true, IfOk, IfSome, map, option_map};
+ghost use Rattle.std.specs.Prelude.{◌≡◌, [], true, IfOk, IfSome, IsOk, map, option_map};
 ghost use Rattle.std.specs.List.{list_all};
 ghost use Rattle.value_compare.specs.Books.{has_text};
 ghost use Rattle.rule_meaning.specs.Functions.{AreRows, IsGiven, IsReplaced, IsRow, single_text};
@@ -16,7 +16,7 @@ use std::alloc::{AllocError, Global};
 use value_compare::{PatternBook, Replacer, Store, View};
 
 /// `regex_replace`: a text with each match of a pattern replaced by what a template says. Pattern and template have to be
-/// single texts; the book has the pattern.
+/// single texts; the book has the pattern. Where there are no rows, nothing is made that replaces.
 pub fn regex_replace(
     alloc: Global,
     site: u32,
@@ -29,7 +29,11 @@ pub fn regex_replace(
     requires { IfSome (single_text (see_store store.now) pattern.now) (λ text. has_text book.now text ≡ true) }
     ensures rows { IfOk result (λ made. AreRows (IsReplaced (single_text (see_store store.now) pattern.now) (single_text (see_store store.now) template.now)) (see_store store.now) site rows.now (map see_made made.items)) }
     ensures plain { IfOk result (λ made. list_all is_plain made.items ≡ true) }
+    ensures no_memory { rows.now ≡ [] → IsOk result }
 {
+    if rows.is_empty() {
+        return Ok(Vec::new(alloc));
+    }
     let mut replacer = replacer(alloc, pattern, template, store, book)?;
     replaced_rows(alloc, &mut replacer, site, rows, store)
 }

@@ -1,6 +1,7 @@
 pub mod FilterRows
 pub mod FilterWalks
 mod StepPlaces
+mod EmptyLists
 pub mod KnownModel
 pub mod Keyed
 pub mod KnownRows

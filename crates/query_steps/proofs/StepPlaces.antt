@@ -130,11 +130,13 @@ module _ (known : StoreModel) (site : ℕ) (xs : List Step) (i : ℕ) (x : Step)
   rows-there current before rows verdicts = sym (ap (λ (o : Option Placed). option_map_or (λ (p : Placed). step_rows known p current before rows verdicts) o []) stands)
 
   -- a start
+  pub start-there : i ≡ 0 → IsStartAt known.file site
+  start-there first = ap (λ (o : Option Placed). option_map_or (λ (p : Placed). p.first) o false) stands ∙ ap is_first first
+
   pub rows-of-start : (current : Ref) (before rows : List Row) (verdicts : List Verdict) → i ≡ 0 → (IsStartAt known.file site → before ≡ []) → length verdicts ≡ length (candidates_at known site before)
       → flat_map (on_found (found_step known (not (is_some (step_in (steps_of xs) (suc i)))) rows (see_step x))) (Found current ∷ []) ≡ rows_at_step known site current before rows verdicts
   rows-of-start current before rows verdicts first start enough =
-      let is_start : IsStartAt known.file site = ap (λ (o : Option Placed). option_map_or (λ (p : Placed). p.first) o false) stands ∙ ap is_first first in
-      let none : candidates_at known site before ≡ [] = ap (candidates_at known site) (start is_start) ∙ candidates-there [] ∙ either-nothing (is_filter (see_step x)) in
+      let none : candidates_at known site before ≡ [] = ap (candidates_at known site) (start (start-there first)) ∙ candidates-there [] ∙ either-nothing (is_filter (see_step x)) in
       let unjudged : verdicts ≡ [] = no-verdicts verdicts (enough ∙ ap length none) in
       starts known (not (is_some (step_in (steps_of xs) (suc i)))) (is_after_key (steps_of xs) i) current rows (see_step x)
       ∙ ap (λ (vs : List Verdict). given_by known here (Found current ∷ []) rows vs) (sym unjudged)

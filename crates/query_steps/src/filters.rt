@@ -1,5 +1,5 @@
 //! Filters: which values they try, and which of these they keep.
-ghost use Rattle.std.specs.Prelude.{◌≡◌, true, length, map, IfOk};
+ghost use Rattle.std.specs.Prelude.{◌≡◌, [], true, length, map, IfOk, IsOk};
 ghost use Rattle.std.specs.List.{filter, list_all, zip};
 ghost use Rattle.rule_meaning.specs.StoreModel.{is_known, is_known_ref};
 ghost use Rattle.value_compare.specs.Stores.{see_store};
@@ -13,7 +13,7 @@ use std::alloc::{AllocError, Global};
 use value_compare::Store;
 
 /// The values that a filter behind these rows tries, in order; `after_key` is whether the step before it is a key step. A
-/// missing row has none.
+/// missing row has none. Where there are no such values, no memory is taken.
 pub fn filter_candidates(
     alloc: Global,
     after_key: bool,
@@ -23,6 +23,7 @@ pub fn filter_candidates(
     requires known { list_all (is_known (see_store store.now)) before.now ≡ true }
     ensures candidates { IfOk result (λ refs. refs.items ≡ candidates_in (see_store store.now) after_key before.now) }
     ensures known { IfOk result (λ refs. list_all (is_known_ref (see_store store.now)) refs.items ≡ true) }
+    ensures no_memory { candidates_in (see_store store.now) after_key before.now ≡ [] → IsOk result }
 {
     let mut refs = Vec::new(alloc);
     for row in before {
@@ -44,6 +45,7 @@ fn candidates_at(
     requires { is_known_ref (see_store store.now) value ≡ true }
     ensures candidates { IfOk result (λ refs. refs.items ≡ candidates_of (see_store store.now) after_key value) }
     ensures known { IfOk result (λ refs. list_all (is_known_ref (see_store store.now)) refs.items ≡ true) }
+    ensures no_memory { candidates_of (see_store store.now) after_key value ≡ [] → IsOk result }
 {
     match kind_of(value, store) {
         Kind::List => inside_of(alloc, value, store),
@@ -52,7 +54,8 @@ fn candidates_at(
     }
 }
 
-/// What a filter keeps of these rows, given the verdict of each candidate in order. A missing row stays in its place.
+/// What a filter keeps of these rows, given the verdict of each candidate in order. A missing row stays in its place. Behind
+/// no rows it takes no memory.
 pub fn kept_rows(
     alloc: Global,
     after_key: bool,
@@ -64,6 +67,7 @@ pub fn kept_rows(
     requires verdicts { length verdicts.now ≡ length (candidates_in (see_store store.now) after_key before.now) }
     ensures rows { IfOk result (λ rows. rows.items ≡ filtered (see_store store.now) after_key before.now verdicts.now) }
     ensures known { IfOk result (λ rows. list_all (is_known (see_store store.now)) rows.items ≡ true) }
+    ensures no_memory { before.now ≡ [] → IsOk result }
 {
     let mut rows = Vec::new(alloc);
     let mut left = verdicts;

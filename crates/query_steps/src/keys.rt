@@ -1,10 +1,10 @@
 //! Tests of rows, the keys that a key filter tests and those that a capture binds.
-ghost use Rattle.std.specs.Prelude.{◌≡◌, ◌++◌, List, Option, true, false, IfOk, OnOk};
+ghost use Rattle.std.specs.Prelude.{◌≡◌, ◌++◌, [], List, Option, None, true, false, map, IfOk, IsOk, OnOk};
 ghost use Rattle.std.specs.List.{flat_map, list_all};
 ghost use Rattle.value_compare.specs.Books.{IsBookOf};
-ghost use Rattle.rule_meaning.specs.StoreModel.{is_known};
+ghost use Rattle.rule_meaning.specs.StoreModel.{is_known, meant};
 ghost use Rattle.rule_meaning.specs.Pairs.{is_order};
-ghost use Rattle.rule_meaning.specs.RowTests.{row_test_of};
+ghost use Rattle.rule_meaning.specs.RowTests.{found_of, is_binary, row_test_of};
 ghost use Rattle.value_compare.specs.Stores.{see_store};
 ghost use Rattle.rule_meaning.specs.Values.{Value};
 ghost use Rattle.rule_meaning.specs.Keys.{captured_row, passes};
@@ -15,7 +15,7 @@ use std::alloc::{AllocError, Global};
 use value_compare::{PatternBook, Store, row_test};
 
 /// Whether a left row passes a test against right rows. An order operator has one meaning, negated or not: no rule file
-/// spells its negation.
+/// spells its negation. Memory is taken only to compare a value by `==` or `IN` with right values that are there.
 pub fn row_passes(
     alloc: Global,
     op: Op,
@@ -28,7 +28,11 @@ pub fn row_passes(
     requires left { is_known (see_store store.now) left.now ≡ true }
     requires rights { list_all (is_known (see_store store.now)) rights.now ≡ true }
     requires book { IsBookOf (see_store store.now).file book.now }
-    ensures { IfOk result (λ p. p ≡ passes (see_store store.now) op not rights.now left.now) }
+    ensures answer { IfOk result (λ p. p ≡ passes (see_store store.now) op not rights.now left.now) }
+    ensures no_memory_unary { is_binary op ≡ false → IsOk result }
+    ensures no_memory_order { is_order op ≡ true → IsOk result }
+    ensures no_memory_left { meant (see_store store.now) left.now ≡ None → IsOk result }
+    ensures no_memory_right { found_of (map (meant (see_store store.now)) rights.now) ≡ [] → IsOk result }
 {
     row_test(alloc, op, is_negated(op, not), left, rights, store, book)
 }
@@ -46,11 +50,12 @@ fn is_negated(op: Op, not: bool) -> bool
 }
 
 /// The keys that a capture binds: those of the found rows that are entries of a map, in order. A row that is itself a key
-/// gives none.
+/// gives none. Where no row has a key, no memory is taken.
 pub fn captured(alloc: Global, rows: &[Row], store: &Store<'_, '_>) -> Result<Vec<Row>, AllocError>
     requires known { list_all (is_known (see_store store.now)) rows.now ≡ true }
     ensures rows { IfOk result (λ keys. keys.items ≡ flat_map (captured_row (see_store store.now)) rows.now) }
     ensures known { IfOk result (λ keys. list_all (is_known (see_store store.now)) keys.items ≡ true) }
+    ensures no_memory { flat_map (captured_row (see_store store.now)) rows.now ≡ [] → IsOk result }
 {
     let mut keys = Vec::new(alloc);
     for row in rows {
@@ -61,7 +66,8 @@ pub fn captured(alloc: Global, rows: &[Row], store: &Store<'_, '_>) -> Result<Ve
 
 /// Adds the key of a row, where a capture binds one.
 fn push_captured(row: &Row, store: &Store<'_, '_>, keys: &mut Vec<Row>) -> Result<(), AllocError>
-    ensures { OnOk result (keys.new.items ≡ keys.old.items ++ captured_row (see_store store.now) row.now) }
+    ensures keys { OnOk result (keys.new.items ≡ keys.old.items ++ captured_row (see_store store.now) row.now) }
+    ensures no_memory { captured_row (see_store store.now) row.now ≡ [] → IsOk result }
 {
     let value = match row {
         Row::Found(value) if !value.key => *value,

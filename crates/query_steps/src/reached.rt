@@ -1,5 +1,5 @@
 //! What is reached from a value: values in the same tree.
-ghost use Rattle.std.specs.Prelude.{◌≡◌, ◌+◌, true, false, map, IfOk, IfSome, MatchOption};
+ghost use Rattle.std.specs.Prelude.{◌≡◌, ◌+◌, [], true, false, map, IfOk, IfSome, IsOk, MatchOption};
 ghost use Rattle.std.specs.List.{list_all};
 ghost use Rattle.doc_values.specs.Places.{kids_at};
 ghost use Rattle.doc_values.specs.Tree.{Nil, holds_values, is_map};
@@ -58,7 +58,7 @@ pub(crate) fn kind_of(value: Ref, store: &Store<'_, '_>) -> Kind
     }
 }
 
-/// What stands in a value, in order: the items of a list and the values of a map.
+/// What stands in a value, in order: the items of a list and the values of a map. Where nothing does, no memory is taken.
 pub(crate) fn inside_of(
     alloc: Global,
     value: Ref,
@@ -66,6 +66,7 @@ pub(crate) fn inside_of(
 ) -> Result<Vec<Ref>, AllocError>
     ensures inside { IfOk result (λ refs. refs.items ≡ inside (see_store store.now) value) }
     ensures known { IfOk result (λ refs. list_all (is_known_ref (see_store store.now)) refs.items ≡ true) }
+    ensures no_memory { inside (see_store store.now) value ≡ [] → IsOk result }
 {
     match node_of(value, store) {
         None => Ok(Vec::new(alloc)),
@@ -95,7 +96,8 @@ pub(crate) fn entries_of(
 
 /// What stands in the node of a value, in order.
 fn inside_node(alloc: Global, value: Ref, node: Cursor<'_, '_>) -> Result<Vec<Ref>, AllocError>
-    ensures { IfOk result (λ refs. refs.items ≡ map (node_beside value) (numbers (node.entry.id + 1) (kids_at node.entry.doc.now node.entry.id))) }
+    ensures inside { IfOk result (λ refs. refs.items ≡ map (node_beside value) (numbers (node.entry.id + 1) (kids_at node.entry.doc.now node.entry.id))) }
+    ensures no_memory { map (node_beside value) (numbers (node.entry.id + 1) (kids_at node.entry.doc.now node.entry.id)) ≡ [] → IsOk result }
 {
     let mut refs = Vec::new(alloc);
     for i in 0..node.len() {

@@ -1,10 +1,11 @@
 //! Type blocks: the resources of a type.
-ghost use Rattle.std.specs.Prelude.{◌≡◌, true, map, IfOk};
+ghost use Rattle.std.specs.Prelude.{◌≡◌, false, true, map, IfOk, IsOk};
 ghost use Rattle.std.specs.List.{filter, list_all};
 ghost use Rattle.rule_meaning.specs.StoreModel.{is_known, is_known_ref};
 ghost use Rattle.value_compare.specs.Stores.{see_store};
 ghost use Rattle.rule_meaning.specs.Kinds.{has_type, is_name, rows_of_type};
 ghost use Rattle.rule_meaning.specs.Reached.{value_for};
+ghost use Rattle.query_steps.specs.Memory.{has_resources};
 
 use crate::reached::{entry_of, inside_of, kind_of};
 use doc_values::Kind;
@@ -13,7 +14,7 @@ use std::alloc::{AllocError, Global};
 use value_compare::{Store, View};
 
 /// The rows of a type block: the entries of the `Resources` map of the current value that are maps whose `Type` is the
-/// name.
+/// name. Where it has no such map, no memory is taken.
 pub fn type_rows(
     alloc: Global,
     name: &str,
@@ -23,6 +24,7 @@ pub fn type_rows(
     requires known { is_known_ref (see_store store.now) current ≡ true }
     ensures rows { IfOk result (λ rows. rows.items ≡ rows_of_type (see_store store.now) name.now current) }
     ensures known { IfOk result (λ rows. list_all (is_known (see_store store.now)) rows.items ≡ true) }
+    ensures no_memory { has_resources (see_store store.now) current ≡ false → IsOk result }
 {
     let Some(resources) = entry_of(current, "Resources", store) else {
         return Ok(Vec::new(alloc));

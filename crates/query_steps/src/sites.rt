@@ -1,11 +1,12 @@
 //! Steps and type blocks by their sites in a rule file.
-ghost use Rattle.std.specs.Prelude.{◌≡◌, ◌<◌, true, false, not, suc, is_some, length, map, Some, [], IfOk};
+ghost use Rattle.std.specs.Prelude.{◌≡◌, ◌<◌, true, false, not, suc, is_some, length, map, Some, [], IfOk, IsOk};
 ghost use Rattle.std.specs.List.{list_all};
 ghost use Rattle.guard_syntax.specs.Seen.{see_step, step_list};
 ghost use Rattle.rule_names.specs.Files.{file_of};
 ghost use Rattle.value_compare.specs.Books.{IsBookOf};
 ghost use Rattle.rule_meaning.specs.StoreModel.{is_known, is_known_ref};
 ghost use Rattle.value_compare.specs.Stores.{see_store};
+ghost use Rattle.query_steps.specs.Memory.{has_resources};
 ghost use Rattle.rule_meaning.specs.Places.{IsFilterAt, IsStartAt, IsStepAt, IsTypeAt, candidates_at, is_after_key, is_filter, is_key, placed_in, rows_at_step, rows_at_type, step_at, step_in, type_at};
 
 use crate::filters::{filter_candidates, kept_rows};
@@ -16,7 +17,8 @@ use rule_names::{Piece, RuleFile};
 use std::alloc::{AllocError, Global};
 use value_compare::{PatternBook, Store};
 
-/// The values that the filter of a site tries behind these rows, in order. The file is the store's.
+/// The values that the filter of a site tries behind these rows, in order. The file is the store's. Where there are none,
+/// no memory is taken.
 pub fn candidates(
     alloc: Global,
     file: &RuleFile,
@@ -30,6 +32,7 @@ pub fn candidates(
     requires known { list_all (is_known (see_store store.now)) before.now ≡ true }
     ensures candidates { IfOk result (λ refs. refs.items ≡ candidates_at (see_store store.now) site before.now) }
     ensures known { IfOk result (λ refs. list_all (is_known_ref (see_store store.now)) refs.items ≡ true) }
+    ensures no_memory { candidates_at (see_store store.now) site before.now ≡ [] → IsOk result }
 {
     let (steps, index) = step_of(file, site);
     filter_candidates(alloc, is_after_key(steps, index), before, store)
@@ -37,7 +40,8 @@ pub fn candidates(
 
 /// What the step of a site gives for the rows before it, with a current value, at which a start begins: it has no rows
 /// before it. `rows` are those of the variable that the step names or of a key filter's right side, `verdicts` those of a
-/// filter's candidates in order; other steps have none. The file is the store's, and the book was made of it.
+/// filter's candidates in order; other steps have none. The file is the store's, and the book was made of it. Behind no rows
+/// a step that is no start takes no memory.
 pub fn step(
     alloc: Global,
     file: &RuleFile,
@@ -60,6 +64,7 @@ pub fn step(
     requires rows { list_all (is_known (see_store store.now)) rows.now ≡ true }
     ensures rows { IfOk result (λ given. given.items ≡ rows_at_step (see_store store.now) site current before.now rows.now verdicts.now) }
     ensures known { IfOk result (λ given. list_all (is_known (see_store store.now)) given.items ≡ true) }
+    ensures no_memory { (IsStartAt (file_of file.now) site → ⊥) → before.now ≡ [] → IsOk result }
 {
     let (steps, index) = step_of(file, site);
     let step = &steps[index];
@@ -73,7 +78,8 @@ pub fn step(
     rows_of_step(alloc, step, last, before, rows, store, book)
 }
 
-/// The rows of the type block of a site, with a current value. The file is the store's.
+/// The rows of the type block of a site, with a current value. The file is the store's. Where the value has no map
+/// `Resources`, no memory is taken.
 pub fn kinds(
     alloc: Global,
     file: &RuleFile,
@@ -87,6 +93,7 @@ pub fn kinds(
     requires current { is_known_ref (see_store store.now) current ≡ true }
     ensures rows { IfOk result (λ rows. rows.items ≡ rows_at_type (see_store store.now) site current) }
     ensures known { IfOk result (λ rows. list_all (is_known (see_store store.now)) rows.items ≡ true) }
+    ensures no_memory { has_resources (see_store store.now) current ≡ false → IsOk result }
 {
     type_rows(alloc, type_name(file, site), current, store)
 }

@@ -1,5 +1,5 @@
 //! Steps other than filters, each on every row in order.
-ghost use Rattle.std.specs.Prelude.{◌≡◌, ◌++◌, ◌∷◌, [], true, if◌then◌else◌, option_and_then, map, filter, None, Some, IfOk, MatchOption, OnOk};
+ghost use Rattle.std.specs.Prelude.{◌≡◌, ◌++◌, ◌∷◌, [], true, if◌then◌else◌, option_and_then, map, filter, None, Some, IfOk, IsOk, MatchOption, OnOk};
 ghost use Rattle.std.specs.List.{flat_map, list_all};
 ghost use Rattle.guard_syntax.specs.Seen.{see_step};
 ghost use Rattle.guard_syntax.specs.declared.row.Row.TheVariants.{Found};
@@ -19,7 +19,7 @@ use value_compare::{PatternBook, Store, View};
 
 /// What a step other than a filter gives for the rows before it; a start has one, the current value. `last` is whether it
 /// is its query's last, `rows` are those of the variable that it names or of a key filter's right side. A missing row stays
-/// in its place. A filter gives nothing for a value here: it has its rows by `kept_rows`.
+/// in its place. A filter gives nothing for a value here: it has its rows by `kept_rows`. Behind no rows no memory is taken.
 pub fn rows_of_step(
     alloc: Global,
     step: &Step,
@@ -34,6 +34,7 @@ pub fn rows_of_step(
     requires book { IsBookOf (see_store store.now).file book.now }
     ensures rows { IfOk result (λ given. given.items ≡ flat_map (on_found (found_step (see_store store.now) last rows.now (see_step step.now))) before.now) }
     ensures known { IfOk result (λ given. list_all (is_known (see_store store.now)) given.items ≡ true) }
+    ensures no_memory { before.now ≡ [] → IsOk result }
 {
     let mut given = Vec::new(alloc);
     for row in before {

@@ -1,4 +1,5 @@
-use Rattle.std.proofs.Common.{◌≡◌, ◌++◌, List, ap, ◌∙◌, Vec, Global}
+use Rattle.std.proofs.Common.{◌≡◌, ◌≤◌, ◌++◌, List, [], length, ap, sym, ◌∙◌, arith, true≢false, vec_capacity, vec_len, Vec, Global}
+use Rattle.query_steps.proofs.EmptyLists.{none-tried}
 use Rattle.query_steps.proofs.FilterWalks.{tried-found, tried-other, lost-row, known-refs}
 use Rattle.std.specs.List.{list_all}
 use Rattle.guard_syntax.specs.declared.row.Ref.{Ref}
@@ -26,3 +27,16 @@ loop-row-preserved c = elim c.match-row.branch [
         known = ap (list_all (is_known_ref (see_store c.args.store.now))) same ∙ c.loop-row.invariant.known;
       }
 ]
+
+pub returns-in_err-tried-clause-no_memory : goal.returns-in_err-tried-clause-no_memory
+returns-in_err-tried-clause-no_memory c none =
+    absurd (true≢false (sym (c.in_err-tried.ensures.no_memory (none-tried (see_store c.args.store.now) c.args.after_key c.args.before.now c.loop-row.row-index _ c.in-Found.value c.loop-row-test.true c.in-Found.is none))))
+
+pub returns-in_err-extend_from_slice-clause-no_memory : goal.returns-in_err-extend_from_slice-clause-no_memory
+returns-in_err-extend_from_slice-clause-no_memory c none =
+    let mine : c.in_ok-tried.tried.items ≡ [] =
+    c.in_ok-tried.ensures.candidates ∙ none-tried (see_store c.args.store.now) c.args.after_key c.args.before.now c.loop-row.row-index _ c.in-Found.value c.loop-row-test.true c.in-Found.is none
+    in
+    let added : length c.deref.result.now ≡ 0 = ap length (c.deref.ensures.value ∙ mine) in
+    let room : vec_len c.loop-row.refs ≤ vec_capacity c.loop-row.refs = c.loop-row.refs.ok.1 in
+    absurd (omega (arith, c.in_err-extend_from_slice.ensures.full, added, room))

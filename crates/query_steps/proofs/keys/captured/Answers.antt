@@ -1,9 +1,10 @@
-use Rattle.std.proofs.Common.{ap, ◌∙◌}
+use Rattle.std.proofs.Common.{ap, sym, ◌∙◌, true≢false}
 use Rattle.std.specs.List.{flat_map, list_all}
 use Rattle.std.proofs.lemmas.List.{take_all}
 use Rattle.rule_meaning.specs.StoreModel.{is_known}
 use Rattle.value_compare.specs.Stores.{see_store}
 use Rattle.rule_meaning.specs.Keys.{captured_row}
+use Rattle.query_steps.proofs.EmptyLists.{item-empty}
 use Rattle.query_steps.proofs.KnownRows.{keys-captured}
 use Rattle.query_steps.proofs.keys.captured.Goals as goal
 
@@ -12,3 +13,7 @@ returns-clause-known c =
     let k = see_store c.args.store.now in
     ap (list_all (is_known k)) (c.loop-row.invariant ∙ ap (flat_map (captured_row k)) (take_all c.loop-row.row-index c.args.rows.now c.loop-row-test.false))
     ∙ keys-captured k c.args.rows.now c.requires.known
+
+pub returns-in_err-push_captured-clause-no_memory : goal.returns-in_err-push_captured-clause-no_memory
+returns-in_err-push_captured-clause-no_memory c none =
+    absurd (true≢false (sym (c.in_err-push_captured.ensures.no_memory (item-empty (captured_row (see_store c.args.store.now)) c.args.rows.now c.loop-row.row-index _ c.loop-row-test.true none))))

@@ -13,4 +13,4 @@ returns-clause-keys c =
     let k = see_store c.args.store.now in
     let node = c.in-Some.node in
     let known = entries-known k c.args.value node.doc.now node.id c.in-Some.ensures.0 c.in-Some.ensures.2 c.len-nodes.ensures.tree node.within c.requires.map in
-    IfOk-weaker c.inside_node.result _ (λ refs. list_all (λ (r : Ref). is_known_ref k (key_of r)) refs.items ≡ true) (λ refs is. ap (list_all (λ (r : Ref). is_known_ref k (key_of r))) is ∙ known) c.inside_node.ensures
+    IfOk-weaker c.inside_node.result _ (λ refs. list_all (λ (r : Ref). is_known_ref k (key_of r)) refs.items ≡ true) (λ refs is. ap (list_all (λ (r : Ref). is_known_ref k (key_of r))) is ∙ known) c.inside_node.ensures.inside

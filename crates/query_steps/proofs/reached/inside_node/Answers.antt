@@ -1,5 +1,5 @@
 use Rattle.std.proofs.Common.{◌≡◌, ◌+◌, ◌<◌, ◌≤◌, ◌∷◌, [], ◌++◌, length, map, take, ap, sym, ◌∙◌, arith}
-use Rattle.std.proofs.lemmas.List.{take_all, map-append}
+use Rattle.std.proofs.lemmas.List.{take_all, length-map, map-append}
 use Rattle.doc_values.specs.Places.{kids_at, child_place}
 use Rattle.doc_values.specs.Tree.{Forest, count}
 use Rattle.rule_meaning.specs.Reached.{node_beside, numbers}
@@ -17,10 +17,18 @@ loop-i-preserved c =
     ∙ sym (map-append (node_beside c.args.value) (take c.loop-i.i (numbers n kids)) (child_place n kids c.loop-i.i ∷ []))
     ∙ sym (ap (map (node_beside c.args.value)) (numbers-more n kids c.loop-i.i within))
 
-pub returns : goal.returns
-returns c =
+pub returns-clause-inside : goal.returns-clause-inside
+returns-clause-inside c =
     let kids : Forest = kids_at c.args.node.doc.now c.args.node.id in
     let n = c.args.node.id + 1 in
     let same = length-numbers n kids in
     let past : length (numbers n kids) ≤ c.loop-i.i = omega arith in
     c.loop-i.invariant ∙ ap (map (node_beside c.args.value)) (take_all c.loop-i.i (numbers n kids) past)
+
+pub returns-in_err-push-clause-no_memory : goal.returns-in_err-push-clause-no_memory
+returns-in_err-push-clause-no_memory c none =
+    let kids : Forest = kids_at c.args.node.doc.now c.args.node.id in
+    let n = c.args.node.id + 1 in
+    let within : c.loop-i.i < count kids = omega arith in
+    let nothing : count kids ≡ 0 = sym (length-numbers n kids) ∙ sym (length-map (numbers n kids) (node_beside c.args.value)) ∙ ap length none in
+    absurd (omega (arith, within, nothing))

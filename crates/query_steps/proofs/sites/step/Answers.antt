@@ -10,7 +10,7 @@ use Rattle.value_compare.specs.Stores.{see_store}
 use Rattle.rule_meaning.specs.Filters.{candidates_in, filtered}
 use Rattle.rule_meaning.specs.Places.{IsStartAt, rows_at_step, step_at}
 use Rattle.rule_meaning.specs.Steps.{found_step, on_found}
-use Rattle.query_steps.proofs.StepPlaces.{candidates-of-filter, rows-of-start, rows-of-filter, rows-of-other}
+use Rattle.query_steps.proofs.StepPlaces.{candidates-of-filter, rows-of-start, rows-of-filter, rows-of-other, start-there}
 use Rattle.query_steps.proofs.sites.step.Goals as goal
 
 given-so : (r : Result (Vec Row Global) AllocError) (a b : List Row) → a ≡ b → IfOk r (λ rows. rows.items ≡ a) → IfOk r (λ rows. rows.items ≡ b)
@@ -59,3 +59,9 @@ returns-clause-rows c =
     (ap (λ (f : sx.File). step_at f c.args.site) c.requires.file ∙ c.step_of-index.ensures.at) c.step_of-index.ensures.within c.index-steps-index.is
     c.args.current c.args.before.now c.args.rows.now c.args.verdicts.now c.if-index-eq0.false (sym c.is_filter.ensures ∙ c.if-is_filter.false))
     c.rows_of_step-2.ensures.rows
+
+pub returns-then-index-eq0-clause-no_memory : goal.returns-then-index-eq0-clause-no_memory
+returns-then-index-eq0-clause-no_memory c later none =
+    absurd (later (subst (λ (f : sx.File). IsStartAt f c.args.site) c.requires.file
+    (start-there (see_store c.args.store.now) c.args.site c.step_of-index.result.0.now c.step_of-index.result.1 c.index-steps-index.result
+    (ap (λ (f : sx.File). step_at f c.args.site) c.requires.file ∙ c.step_of-index.ensures.at) c.step_of-index.ensures.within c.index-steps-index.is c.if-index-eq0.true)))
