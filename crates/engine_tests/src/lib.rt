@@ -14,4 +14,6 @@ mod makers;
 #[cfg(test)]
 mod names;
 #[cfg(test)]
+mod sites;
+#[cfg(test)]
 mod worlds;

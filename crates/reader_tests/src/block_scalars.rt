@@ -1,83 +1,38 @@
 //! Block scalars: where one ends, and the place of a refusal.
-use crate::scalars::{read, under};
-use doc_values::Kind;
-use std::alloc::Global;
-use std::test::Fail;
-use yaml_scalars::ScalarRefusal;
+use crate::scalars::Wanted::{Refused, Text};
+use crate::scalars::{BLOCK, Row, TOP};
 
-/// The first source whose scalar does not have this text and this end.
-fn first_wrong<'a>(
-    alloc: Global,
-    parent: i32,
-    rows: &[(&'a str, &'a str, usize)],
-) -> Option<&'a str> {
-    for (source, text, end) in rows {
-        match read(alloc, source, 0, under(parent)) {
-            Err(_) => return Some(source),
-            Ok(scalar) => {
-                let found = scalar.text.as_str();
-                if found != *text || scalar.end != *end || !matches!(scalar.kind, Kind::Text) {
-                    return Some(source);
-                }
-            }
-        }
-    }
-    None
-}
-
-/// A scalar behind other text, and the place of a fault there.
-#[test]
-fn behind_a_key(rt: HostRuntime) -> Result<(), Fail> {
-    let source = "k: |+1\n   x\n\n\nl: >\n a\n  b\n c\n";
-    let scalar = read(rt.alloc(), source, 3, under(0))?;
-    assert_eq!(rt; scalar.text.as_str(), "  x\n\n\n");
-    assert_eq!(rt; scalar.end, 14);
-    let scalar = read(rt.alloc(), source, 17, under(0))?;
-    assert_eq!(rt; scalar.text.as_str(), "a\n b\nc\n");
-    assert_eq!(rt; scalar.end, 29);
-    assert!(rt;
-        matches!(
-            read(rt.alloc(), "a: |", 3, under(0)),
-            Err(ScalarRefusal::Syntax(4))
-        )
-    );
-    assert!(rt;
-        matches!(
-            read(rt.alloc(), "- |\n  \n text", 2, under(0)),
-            Err(ScalarRefusal::Syntax(8))
-        )
-    );
-    Ok(())
-}
+/// Scalars behind other text, and the place of a fault there.
+pub(crate) const BEHIND_A_KEY: &[Row] = &[
+    (
+        BLOCK,
+        "k: |+1\n   x\n\n\nl: >\n a\n  b\n c\n",
+        3,
+        Text("  x\n\n\n", 14),
+    ),
+    (
+        BLOCK,
+        "k: |+1\n   x\n\n\nl: >\n a\n  b\n c\n",
+        17,
+        Text("a\n b\nc\n", 29),
+    ),
+    (BLOCK, "a: |", 3, Refused(4)),
+    (BLOCK, "- |\n  \n text", 2, Refused(8)),
+];
 
 /// Scalars that end where a document goes on with what it is refused for.
-#[test]
-fn ends_in_front_of_what_is_refused(rt: HostRuntime) {
-    let wrong = first_wrong(
-        rt.alloc(),
-        0,
-        &[
-            ("|\n  a\n b\n", "a\n", 6),
-            (">\n  a\n b", "a\n", 6),
-            ("|\n a\n\r", "a\n", 5),
-        ],
-    );
-    assert_eq!(rt; wrong.unwrap_or(""), "");
-    let wrong = first_wrong(
-        rt.alloc(),
-        -1,
-        &[
-            ("|\n a\nb\n", "a\n", 5),
-            ("|1\na\n", "", 3),
-            ("|1+\n\na", "\n", 5),
-            ("|\na\n---\nb", "a\n", 4),
-            ("|\na\n... \nb", "a\n", 4),
-            ("|\na\n---", "a\n", 4),
-            ("|\n---\n", "", 2),
-            ("|+\n\n---\n", "\n", 4),
-            (">\na\n--- b", "a\n", 4),
-            ("|1\n---\n", "", 3),
-        ],
-    );
-    assert_eq!(rt; wrong.unwrap_or(""), "");
-}
+pub(crate) const ENDS: &[Row] = &[
+    (BLOCK, "|\n  a\n b\n", 0, Text("a\n", 6)),
+    (BLOCK, ">\n  a\n b", 0, Text("a\n", 6)),
+    (BLOCK, "|\n a\n\r", 0, Text("a\n", 5)),
+    (TOP, "|\n a\nb\n", 0, Text("a\n", 5)),
+    (TOP, "|1\na\n", 0, Text("", 3)),
+    (TOP, "|1+\n\na", 0, Text("\n", 5)),
+    (TOP, "|\na\n---\nb", 0, Text("a\n", 4)),
+    (TOP, "|\na\n... \nb", 0, Text("a\n", 4)),
+    (TOP, "|\na\n---", 0, Text("a\n", 4)),
+    (TOP, "|\n---\n", 0, Text("", 2)),
+    (TOP, "|+\n\n---\n", 0, Text("\n", 4)),
+    (TOP, ">\na\n--- b", 0, Text("a\n", 4)),
+    (TOP, "|1\n---\n", 0, Text("", 3)),
+];

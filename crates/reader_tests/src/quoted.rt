@@ -1,101 +1,58 @@
-//! Quoted scalars: borrowed or owned texts, and the place of a refusal.
-use crate::scalars::{flow, key, read, under};
-use doc_values::Kind;
-use std::alloc::Global;
-use std::borrow::CowStr;
-use std::test::Fail;
-use yaml_scalars::{ScalarRefusal, Setting};
+//! Quoted scalars: texts that are parts of the source or made, and the place of a refusal.
+use crate::scalars::Wanted::{Lent, Made, Refused};
+use crate::scalars::{FLOW, KEY, Row, TOP};
 
-/// The text of the scalar that is a whole text.
-fn whole(alloc: Global, text: &str, setting: Setting) -> Result<CowStr<'_>, ScalarRefusal> {
-    match read(alloc, text, 0, setting) {
-        Err(refusal) => Err(refusal),
-        Ok(scalar) => {
-            if scalar.end == text.len() && scalar.kind == Kind::Text {
-                Ok(scalar.text)
-            } else {
-                Err(ScalarRefusal::NoMemory)
-            }
-        }
-    }
-}
-
-/// The refusal of the scalar that a text begins with.
-fn refusal(alloc: Global, text: &str, setting: Setting) -> Option<ScalarRefusal> {
-    match read(alloc, text, 0, setting) {
-        Ok(_) => None,
-        Err(refusal) => Some(refusal),
-    }
-}
-
-/// Texts of quoted scalars, their values, and whether the value is a part of the text.
-const QUOTED: [(&str, &str, bool); 20] = [
-    ("''", "", true),
-    ("'a b '", "a b ", true),
-    ("' \ta'", " \ta", true),
-    ("'a\\nb\\'", "a\\nb\\", true),
-    ("'\"a\": #b'", "\"a\": #b", true),
-    ("'\u{1}\u{7f}'", "\u{1}\u{7f}", true),
-    ("'\u{e9}\u{20ac}\u{1f600}'", "\u{e9}\u{20ac}\u{1f600}", true),
-    ("'true'", "true", true),
-    ("''''", "'", false),
-    ("'it''s'", "it's", false),
-    ("'''a'''", "'a'", false),
-    ("'a''''b'", "a''b", false),
-    ("'\u{e9}''\u{e9}'", "\u{e9}'\u{e9}", false),
-    ("\"\"", "", true),
-    ("\"a 'b' \"", "a 'b' ", true),
-    ("\"12\"", "12", true),
-    ("\"\u{20ac}\"", "\u{20ac}", true),
-    ("\"\u{e9}\\x41\u{1f600}\"", "\u{e9}A\u{1f600}", false),
-    ("\"\\\"a\\\"\"", "\"a\"", false),
-    ("\"a\\  b\"", "a  b", false),
+/// Scalars that are whole texts.
+pub(crate) const WHOLE: &[Row] = &[
+    (TOP, "''", 0, Lent("", 2)),
+    (TOP, "'a b '", 0, Lent("a b ", 6)),
+    (TOP, "' \ta'", 0, Lent(" \ta", 5)),
+    (TOP, "'a\\nb\\'", 0, Lent("a\\nb\\", 7)),
+    (TOP, "'\"a\": #b'", 0, Lent("\"a\": #b", 9)),
+    (TOP, "'\u{1}\u{7f}'", 0, Lent("\u{1}\u{7f}", 4)),
+    (
+        TOP,
+        "'\u{e9}\u{20ac}\u{1f600}'",
+        0,
+        Lent("\u{e9}\u{20ac}\u{1f600}", 11),
+    ),
+    (TOP, "'true'", 0, Lent("true", 6)),
+    (TOP, "''''", 0, Made("'", 4)),
+    (TOP, "'it''s'", 0, Made("it's", 7)),
+    (TOP, "'''a'''", 0, Made("'a'", 7)),
+    (TOP, "'a''''b'", 0, Made("a''b", 8)),
+    (TOP, "'\u{e9}''\u{e9}'", 0, Made("\u{e9}'\u{e9}", 8)),
+    (TOP, "\"\"", 0, Lent("", 2)),
+    (TOP, "\"a 'b' \"", 0, Lent("a 'b' ", 8)),
+    (TOP, "\"12\"", 0, Lent("12", 4)),
+    (TOP, "\"\u{20ac}\"", 0, Lent("\u{20ac}", 5)),
+    (
+        TOP,
+        "\"\u{e9}\\x41\u{1f600}\"",
+        0,
+        Made("\u{e9}A\u{1f600}", 12),
+    ),
+    (TOP, "\"\\\"a\\\"\"", 0, Made("\"a\"", 7)),
+    (TOP, "\"a\\  b\"", 0, Made("a  b", 7)),
 ];
 
-#[test]
-fn values_are_parts_of_their_texts_where_they_can_be(rt: HostRuntime) -> Result<(), Fail> {
-    for (text, value, is_part) in QUOTED {
-        let found = whole(rt.alloc(), text, under(-1))?;
-        assert_eq!(rt; found.as_str(), value, "{text}");
-        assert_eq!(rt; matches!(found, CowStr::Borrowed(_)), is_part, "{text}");
-    }
-    Ok(())
-}
+/// Carriage returns that are no breaks.
+pub(crate) const RETURNS: &[Row] = &[
+    (FLOW, "'a\n---\rb'", 0, Refused(6)),
+    (KEY, "'a\n---\rb'", 0, Refused(2)),
+    (FLOW, "\"\n---\r", 0, Refused(5)),
+    (KEY, "\"\n---\r", 0, Refused(1)),
+    (FLOW, "'\n...\r", 0, Refused(5)),
+    (KEY, "'\n...\r", 0, Refused(1)),
+];
 
-#[test]
-fn carriage_returns(rt: HostRuntime) {
-    for (text, at, as_key) in [
-        ("'a\n---\rb'", 6, 2),
-        ("\"\n---\r", 5, 1),
-        ("'\n...\r", 5, 1),
-    ] {
-        assert_eq!(rt;
-            refusal(rt.alloc(), text, flow()),
-            Some(ScalarRefusal::Syntax(at)),
-            "{text}"
-        );
-        assert_eq!(rt;
-            refusal(rt.alloc(), text, key()),
-            Some(ScalarRefusal::Syntax(as_key)),
-            "{text}"
-        );
-    }
-}
-
-#[test]
-fn further_in_a_text(rt: HostRuntime) -> Result<(), Fail> {
-    for (text, at, value, end) in [
-        ("k: 'x' # c", 3, "x", 6),
-        ("a: 'it''s\n  two'\n", 3, "it's two", 16),
-        ("b: \"q \\\n  r\"", 3, "q r", 12),
-        ("{\"a\":1}", 1, "a", 4),
-        ("\u{feff}'a'", 3, "a", 6),
-        ("'a'b", 0, "a", 3),
-        ("'a''b", 2, "", 4),
-    ] {
-        let scalar = read(rt.alloc(), text, at, flow())?;
-        assert_eq!(rt; scalar.text.as_str(), value, "{text}");
-        assert_eq!(rt; scalar.end, end, "{text}");
-    }
-    Ok(())
-}
+/// Scalars further in a text.
+pub(crate) const FURTHER_IN: &[Row] = &[
+    (FLOW, "k: 'x' # c", 3, Lent("x", 6)),
+    (FLOW, "a: 'it''s\n  two'\n", 3, Made("it's two", 16)),
+    (FLOW, "b: \"q \\\n  r\"", 3, Made("q r", 12)),
+    (FLOW, "{\"a\":1}", 1, Lent("a", 4)),
+    (FLOW, "\u{feff}'a'", 3, Lent("a", 6)),
+    (FLOW, "'a'b", 0, Lent("a", 3)),
+    (FLOW, "'a''b", 2, Lent("", 4)),
+];

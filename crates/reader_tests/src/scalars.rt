@@ -1,13 +1,56 @@
-//! Scalars of YAML by the settings that they are read in: where each ends, whether its text is borrowed, and the place of
-//! a refusal, none of which a report tells.
+//! Scalars of YAML by the settings that they are read in: where each ends, whether its text is a part of the source, and the
+//! place of a refusal, none of which a report tells. The rows of plain scalars stand here.
+use crate::scalars::Wanted::{Lent, Made, Refused};
+use crate::{block_scalars, quoted};
 use doc_values::Kind;
 use std::alloc::Global;
 use std::borrow::CowStr;
 use std::test::Fail;
-use yaml_scalars::{Scalar, ScalarRefusal, Setting, lines, read_scalar};
+use yaml_scalars::{Scalar, ScalarRefusal, Setting, read_scalar};
+
+/// In block at the top.
+pub(crate) const TOP: Setting = Setting {
+    parent: -1,
+    flow: false,
+    one_line: false,
+};
+
+/// In block under a parent without indentation.
+pub(crate) const BLOCK: Setting = Setting { parent: 0, ..TOP };
+
+/// In block under a parent with an indentation of one.
+const INNER: Setting = Setting { parent: 1, ..TOP };
+
+/// Between flow brackets.
+pub(crate) const FLOW: Setting = Setting {
+    flow: true,
+    ..BLOCK
+};
+
+/// As a key in block.
+pub(crate) const KEY: Setting = Setting {
+    one_line: true,
+    ..BLOCK
+};
+
+/// What is to stand at a place. Each scalar of these tests is a text.
+#[derive(Clone, Copy)]
+pub(crate) enum Wanted {
+    /// A scalar whose text is a part of the source, and its end.
+    Lent(&'static str, usize),
+    /// A scalar whose text was made, and its end.
+    Made(&'static str, usize),
+    /// A scalar whose text may be either, and its end.
+    Text(&'static str, usize),
+    /// No scalar, by this place.
+    Refused(u32),
+}
+
+/// A setting, a source, the place in it, and what is to stand there.
+pub(crate) type Row = (Setting, &'static str, usize, Wanted);
 
 /// The scalar at a place that surely begins a character of a text that is short enough.
-pub(crate) fn read<'s>(
+fn read<'s>(
     alloc: Global,
     text: &'s str,
     at: usize,
@@ -22,194 +65,167 @@ pub(crate) fn read<'s>(
     read_scalar(alloc, text, at, setting)
 }
 
-/// In block under a parent with this indentation.
-pub(crate) fn under(parent: i32) -> Setting {
-    Setting {
-        parent,
-        flow: false,
-        one_line: false,
+fn is_lent(scalar: &Scalar<'_>) -> bool {
+    matches!(scalar.text, CowStr::Borrowed(_))
+}
+
+fn is_text(scalar: &Scalar<'_>, text: &str, end: usize) -> bool {
+    matches!(scalar.kind, Kind::Text) && scalar.text.as_str() == text && scalar.end == end
+}
+
+/// Whether a scalar is what is to stand there.
+fn is_scalar(scalar: &Scalar<'_>, wanted: Wanted) -> bool {
+    match wanted {
+        Wanted::Lent(text, end) => is_lent(scalar) && is_text(scalar, text, end),
+        Wanted::Made(text, end) => !is_lent(scalar) && is_text(scalar, text, end),
+        Wanted::Text(text, end) => is_text(scalar, text, end),
+        Wanted::Refused(_) => false,
     }
 }
 
-/// Between flow brackets.
-pub(crate) fn flow() -> Setting {
-    Setting {
-        parent: 0,
-        flow: true,
-        one_line: false,
+/// Whether a refusal is what is to come.
+fn is_refusal(refusal: ScalarRefusal, wanted: Wanted) -> bool {
+    match wanted {
+        Wanted::Refused(at) => refusal == ScalarRefusal::Syntax(at),
+        _ => false,
     }
 }
 
-/// As a key in block.
-pub(crate) fn key() -> Setting {
-    Setting {
-        parent: 0,
-        flow: false,
-        one_line: true,
+/// Whether what is to stand in a source stands there.
+fn stands(alloc: Global, (setting, source, at, wanted): &Row) -> bool {
+    match read(alloc, *source, *at, *setting) {
+        Ok(scalar) => is_scalar(&scalar, *wanted),
+        Err(refusal) => is_refusal(refusal, *wanted),
     }
 }
 
-/// What kind it is, the number or its units, and the scale.
-fn told(kind: Kind) -> (&'static str, i64, u8) {
-    match kind {
-        Kind::Null => ("null", 0, 0),
-        Kind::Truth(true) => ("true", 0, 0),
-        Kind::Truth(false) => ("false", 0, 0),
-        Kind::Whole(n) => ("whole", n, 0),
-        Kind::Fraction(d) => ("fraction", d.units(), d.scale()),
-        Kind::Text => ("text", 0, 0),
-        _ => ("other", 0, 0),
+/// The first source in which something else stands than is to stand there.
+fn first_wrong(alloc: Global, rows: &[Row]) -> Option<&'static str> {
+    for row in rows {
+        if !stands(alloc, row) {
+            return Some(row.1);
+        }
     }
+    None
 }
+
+const TABLES: &[&[Row]] = &[
+    ON_A_LINE,
+    IN_FLOW,
+    OVER_LINES,
+    AS_A_KEY,
+    NOT_PLAIN,
+    quoted::WHOLE,
+    quoted::RETURNS,
+    quoted::FURTHER_IN,
+    block_scalars::BEHIND_A_KEY,
+    block_scalars::ENDS,
+];
 
 #[test]
-fn plain_on_a_line(rt: HostRuntime) -> Result<(), Fail> {
-    for (text, at, want, end) in [
-        ("a", 0, "a", 1),
-        ("a b \t", 0, "a b", 3),
-        ("a#b #c", 0, "a#b", 3),
-        ("a\t#c", 0, "a", 1),
-        ("a: b", 0, "a", 1),
-        ("a: b", 3, "b", 4),
-        ("a:b", 0, "a:b", 3),
-        ("a :", 0, "a", 1),
-        ("a , [b] {c}", 0, "a , [b] {c}", 11),
-        ("-a", 0, "-a", 2),
-        ("- a", 2, "a", 3),
-        ("?a :b", 0, "?a :b", 5),
-        ("a\u{1}\u{7f}b", 0, "a\u{1}\u{7f}b", 4),
-        ("\u{e9}\u{20ac} x", 0, "\u{e9}\u{20ac} x", 7),
-        ("----", 0, "----", 4),
-        (" ---", 1, "---", 4),
-    ] {
-        let scalar = read(rt.alloc(), text, at, under(-1))?;
-        assert_eq!(rt; scalar.text.as_str(), want, "{text}");
-        assert_eq!(rt; scalar.end, end, "{text}");
-        assert!(rt; matches!(scalar.text, CowStr::Borrowed(_)), "{text}");
+fn each_stands_as_it_should(rt: HostRuntime) -> Result<(), Fail> {
+    for rows in TABLES {
+        if let Some(source) = first_wrong(rt.alloc(), rows) {
+            return Err(Fail::from(source));
+        }
     }
     Ok(())
 }
 
-#[test]
-fn plain_in_flow(rt: HostRuntime) -> Result<(), Fail> {
-    for (text, at, want, end) in [
-        ("[a, b]", 1, "a", 2),
-        ("[a, b]", 4, "b", 5),
-        ("{a:1}", 1, "a:1", 4),
-        ("{a:[1]}", 1, "a", 2),
-        ("{a:,b}", 1, "a", 2),
-        ("[a\n\t b , c]", 1, "a b", 6),
-        ("[a\n]", 1, "a", 2),
-        ("[a\n\n: b]", 1, "a", 2),
-        ("[a\n:b]", 1, "a :b", 5),
-        ("[a\n# c\n]", 1, "a", 2),
-        ("[a #c\n b]", 1, "a", 2),
-        ("[a\n\nb]", 1, "a\nb", 5),
-        ("[---,", 1, "---", 4),
-        ("[a\n---\n]", 1, "a", 2),
-    ] {
-        let scalar = read(rt.alloc(), text, at, flow())?;
-        assert_eq!(rt; scalar.text.as_str(), want, "{text}");
-        assert_eq!(rt; scalar.end, end, "{text}");
-    }
-    Ok(())
-}
+/// Plain scalars on a line.
+const ON_A_LINE: &[Row] = &[
+    (TOP, "a", 0, Lent("a", 1)),
+    (TOP, "a b \t", 0, Lent("a b", 3)),
+    (TOP, "a#b #c", 0, Lent("a#b", 3)),
+    (TOP, "a\t#c", 0, Lent("a", 1)),
+    (TOP, "a: b", 0, Lent("a", 1)),
+    (TOP, "a: b", 3, Lent("b", 4)),
+    (TOP, "a:b", 0, Lent("a:b", 3)),
+    (TOP, "a :", 0, Lent("a", 1)),
+    (TOP, "a , [b] {c}", 0, Lent("a , [b] {c}", 11)),
+    (TOP, "-a", 0, Lent("-a", 2)),
+    (TOP, "- a", 2, Lent("a", 3)),
+    (TOP, "?a :b", 0, Lent("?a :b", 5)),
+    (TOP, "a\u{1}\u{7f}b", 0, Lent("a\u{1}\u{7f}b", 4)),
+    (TOP, "\u{e9}\u{20ac} x", 0, Lent("\u{e9}\u{20ac} x", 7)),
+    (TOP, "----", 0, Lent("----", 4)),
+    (TOP, " ---", 1, Lent("---", 4)),
+];
 
-#[test]
-fn plain_over_lines(rt: HostRuntime) -> Result<(), Fail> {
-    for (parent, text, want, end) in [
-        (-1, "a\nb", "a b", 3),
-        (-1, "a \n \n\t\n b \nc\n", "a\n\nb c", 12),
-        (0, "a\nb", "a", 1),
-        (0, "a\n b\n\n", "a b", 4),
-        (1, "a\n b\n  c", "a", 1),
-        (1, "a\n  b\n c", "a b", 5),
-        (0, "a\r\n b\r\n\r\n c\r\n", "a b\nc", 11),
-        (0, "a\n # b\n c", "a", 1),
-        (0, "a #\n b", "a", 1),
-        (0, "a\n - b", "a - b", 6),
-        (0, "a\n !b &c \"d", "a !b &c \"d", 11),
-        (0, "a\n \tb", "a", 1),
-        (-1, "a\n---\nb", "a", 1),
-        (-1, "a\n...", "a", 1),
-        (-1, "a\n---b", "a ---b", 6),
-        (-1, "a\n\n---", "a", 1),
-    ] {
-        let scalar = read(rt.alloc(), text, 0, under(parent))?;
-        assert_eq!(rt; scalar.text.as_str(), want, "{text}");
-        assert_eq!(rt; scalar.end, end, "{text}");
-    }
-    Ok(())
-}
+/// Plain scalars between flow brackets.
+const IN_FLOW: &[Row] = &[
+    (FLOW, "[a, b]", 1, Lent("a", 2)),
+    (FLOW, "[a, b]", 4, Lent("b", 5)),
+    (FLOW, "{a:1}", 1, Lent("a:1", 4)),
+    (FLOW, "{a:[1]}", 1, Lent("a", 2)),
+    (FLOW, "{a:,b}", 1, Lent("a", 2)),
+    (FLOW, "[a\n\t b , c]", 1, Made("a b", 6)),
+    (FLOW, "[a\n]", 1, Lent("a", 2)),
+    (FLOW, "[a\n\n: b]", 1, Lent("a", 2)),
+    (FLOW, "[a\n:b]", 1, Made("a :b", 5)),
+    (FLOW, "[a\n# c\n]", 1, Lent("a", 2)),
+    (FLOW, "[a #c\n b]", 1, Lent("a", 2)),
+    (FLOW, "[a\n\nb]", 1, Made("a\nb", 5)),
+    (FLOW, "[---,", 1, Lent("---", 4)),
+    (FLOW, "[a\n---\n]", 1, Lent("a", 2)),
+];
 
-#[test]
-fn plain_as_key(rt: HostRuntime) -> Result<(), Fail> {
-    for (text, want, end) in [("a\n b", "a", 1), ("1: x", "1", 1), ("a b : c", "a b", 3)] {
-        let scalar = read(rt.alloc(), text, 0, key())?;
-        assert_eq!(rt; scalar.text.as_str(), want, "{text}");
-        assert_eq!(rt; scalar.end, end, "{text}");
-        assert_eq!(rt; told(scalar.kind).0, "text", "{text}");
-    }
-    Ok(())
-}
+/// Plain scalars that go on, or do not, in the lines below.
+const OVER_LINES: &[Row] = &[
+    (TOP, "a\nb", 0, Made("a b", 3)),
+    (TOP, "a \n \n\t\n b \nc\n", 0, Made("a\n\nb c", 12)),
+    (BLOCK, "a\nb", 0, Lent("a", 1)),
+    (BLOCK, "a\n b\n\n", 0, Made("a b", 4)),
+    (INNER, "a\n b\n  c", 0, Lent("a", 1)),
+    (INNER, "a\n  b\n c", 0, Made("a b", 5)),
+    (BLOCK, "a\r\n b\r\n\r\n c\r\n", 0, Made("a b\nc", 11)),
+    (BLOCK, "a\n # b\n c", 0, Lent("a", 1)),
+    (BLOCK, "a #\n b", 0, Lent("a", 1)),
+    (BLOCK, "a\n - b", 0, Made("a - b", 6)),
+    (BLOCK, "a\n !b &c \"d", 0, Made("a !b &c \"d", 11)),
+    (BLOCK, "a\n \tb", 0, Lent("a", 1)),
+    (TOP, "a\n---\nb", 0, Lent("a", 1)),
+    (TOP, "a\n...", 0, Lent("a", 1)),
+    (TOP, "a\n---b", 0, Made("a ---b", 6)),
+    (TOP, "a\n\n---", 0, Lent("a", 1)),
+];
 
-#[test]
-fn not_plain(rt: HostRuntime) {
-    for (text, at, place) in [
-        (" a", 0, 0),
-        ("\n", 0, 0),
-        ("# a", 0, 0),
-        ("@a", 0, 0),
-        ("`a", 0, 0),
-        ("%a", 0, 0),
-        ("]", 0, 0),
-        ("&a", 0, 0),
-        ("!a", 0, 0),
-        ("? a", 0, 1),
-        (": a", 0, 1),
-        ("-", 0, 1),
-        ("-\n", 0, 1),
-        ("---", 0, 3),
-        ("a\n--- ", 2, 5),
-        ("\u{feff}...\n", 3, 6),
-        ("-\r", 0, 1),
-        (":\r", 0, 1),
-        ("?\r", 0, 1),
-        ("-\rx", 0, 1),
-        ("---\r", 0, 3),
-        ("...\r", 0, 3),
-        ("---\rx", 0, 3),
-        ("a\n---\r", 2, 5),
-        (" ---\r", 1, 5),
-        ("----\r", 0, 5),
-        ("a\n:\r", 0, 3),
-        ("a\nb:\r", 0, 4),
-        ("a\n:\rx", 0, 3),
-    ] {
-        let refusal = read(rt.alloc(), text, at, under(-1));
-        assert!(rt;
-            matches!(refusal, Err(ScalarRefusal::Syntax(p)) if p == place),
-            "{text}"
-        );
-    }
-}
+/// Plain scalars as keys, which are not typed.
+const AS_A_KEY: &[Row] = &[
+    (KEY, "a\n b", 0, Lent("a", 1)),
+    (KEY, "1: x", 0, Lent("1", 1)),
+    (KEY, "a b : c", 0, Lent("a b", 3)),
+];
 
-/// What the calls on lines say of one text.
-#[test]
-fn lines_of_a_text(rt: HostRuntime) {
-    let text = b"a \r\n\t\n --- \n...";
-    assert!(rt;
-        lines::ends_line(text, 2) && lines::ends_line(text, 3) && !lines::ends_line(text, 1)
-    );
-    assert_eq!(rt; lines::line_end(text, 0), 2);
-    assert_eq!(rt; lines::next_line(text, 0), Some(4));
-    assert_eq!(rt; lines::next_line(text, 12), None);
-    assert_eq!(rt; lines::spaces(text, 6), 1);
-    assert_eq!(rt; lines::whites(text, 4), 1);
-    assert!(rt; lines::is_white(b'\t') && !lines::is_white(b'\n'));
-    assert!(rt; lines::is_blank(text, 4) && !lines::is_blank(text, 0));
-    assert!(rt; lines::is_end(text, 1) && !lines::is_end(text, 0));
-    assert!(rt; lines::is_mark(text, 12) && !lines::is_mark(text, 6) && lines::is_mark(text, 7));
-    assert!(rt; lines::is_first_column(text, 0) && lines::is_first_column(text, 12));
-    assert!(rt; !lines::is_first_column(text, 7));
-}
+/// Places where no plain scalar stands.
+const NOT_PLAIN: &[Row] = &[
+    (TOP, " a", 0, Refused(0)),
+    (TOP, "\n", 0, Refused(0)),
+    (TOP, "# a", 0, Refused(0)),
+    (TOP, "@a", 0, Refused(0)),
+    (TOP, "`a", 0, Refused(0)),
+    (TOP, "%a", 0, Refused(0)),
+    (TOP, "]", 0, Refused(0)),
+    (TOP, "&a", 0, Refused(0)),
+    (TOP, "!a", 0, Refused(0)),
+    (TOP, "? a", 0, Refused(1)),
+    (TOP, ": a", 0, Refused(1)),
+    (TOP, "-", 0, Refused(1)),
+    (TOP, "-\n", 0, Refused(1)),
+    (TOP, "---", 0, Refused(3)),
+    (TOP, "a\n--- ", 2, Refused(5)),
+    (TOP, "\u{feff}...\n", 3, Refused(6)),
+    (TOP, "-\r", 0, Refused(1)),
+    (TOP, ":\r", 0, Refused(1)),
+    (TOP, "?\r", 0, Refused(1)),
+    (TOP, "-\rx", 0, Refused(1)),
+    (TOP, "---\r", 0, Refused(3)),
+    (TOP, "...\r", 0, Refused(3)),
+    (TOP, "---\rx", 0, Refused(3)),
+    (TOP, "a\n---\r", 2, Refused(5)),
+    (TOP, " ---\r", 1, Refused(5)),
+    (TOP, "----\r", 0, Refused(5)),
+    (TOP, "a\n:\r", 0, Refused(3)),
+    (TOP, "a\nb:\r", 0, Refused(4)),
+    (TOP, "a\n:\rx", 0, Refused(3)),
+];

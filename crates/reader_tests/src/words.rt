@@ -3,80 +3,119 @@ use guard_words::{Request, WordsRefusal, read_words};
 use std::alloc::{AllocError, Global};
 use std::test::Fail;
 
-/// What the words between the bars ask for, written between bars.
-fn answer(alloc: Global, line: &str) -> Result<String, AllocError> {
+/// The words between the bars of a line.
+fn words_of(alloc: Global, line: &str) -> Result<Vec<String>, AllocError> {
     let mut words = Vec::new(alloc);
     for word in line.split('|') {
         words.push(String::from_str(alloc, word)?)?;
     }
-    shown(alloc, &words)
+    Ok(words)
 }
 
-fn shown(alloc: Global, words: &[String]) -> Result<String, AllocError> {
-    match read_words(alloc, words) {
-        Ok(
-            Request::Validate {
-                rules,
-                template,
-                evidence,
-            },
-        ) => format!(in alloc; "validate|{rules}|{template}|{evidence}"),
-        Ok(
-            Request::Check {
-                rules,
-                template,
-                proof,
-            },
-        ) => format!(in alloc; "check|{rules}|{template}|{proof}"),
-        Ok(Request::Drill { count }) => format!(in alloc; "drill|{count}"),
+/// Four words between bars.
+fn told(alloc: Global, words: [&str; 4]) -> Result<String, AllocError> {
+    let mut line = String::new(alloc);
+    for word in words {
+        line.push_str(word)?;
+        line.push('|')?;
+    }
+    Ok(line)
+}
+
+/// What a request asks for, between bars.
+fn shown(alloc: Global, request: &Request) -> Result<String, AllocError> {
+    match request {
+        Request::Validate {
+            rules,
+            template,
+            evidence,
+        } => {
+            let evidence = if *evidence { "evidence" } else { "report" };
+            told(
+                alloc,
+                ["validate", evidence, rules.as_str(), template.as_str()],
+            )
+        }
+        Request::Check {
+            rules,
+            template,
+            proof,
+        } => told(
+            alloc,
+            ["check", proof.as_str(), rules.as_str(), template.as_str()],
+        ),
+        Request::Drill { count } => format!(in alloc; "drill|{count}|"),
+    }
+}
+
+/// What the words of a line ask for, between bars.
+fn answer(alloc: Global, line: &str) -> Result<String, AllocError> {
+    let words = words_of(alloc, line)?;
+    match read_words(alloc, &words) {
+        Ok(request) => shown(alloc, &request),
         Err(WordsRefusal::Usage) => String::from_str(alloc, "usage"),
         Err(WordsRefusal::NoMemory) => Err(AllocError),
     }
 }
 
+/// Lines, and what they ask for.
+const ANSWERS: &[(&str, &str)] = &[
+    (
+        "validate|--evidence|--data|b|--rules|a",
+        "validate|evidence|a|b|",
+    ),
+    ("check|--proof=c|--rules|a|--data=b", "check|c|a|b|"),
+    ("drill|--count|100000", "drill|100000|"),
+    ("validate|--rules|a b|--data| ", "validate|report|a b| |"),
+    ("validate|--rules=a b|--data= ", "validate|report|a b| |"),
+    ("validate ", "usage"),
+    ("validate|--rules |a|--data|b", "usage"),
+    ("drill|--count| 1", "usage"),
+    ("drill|--count|1 ", "usage"),
+];
+
+/// Whether a line asks for this.
+fn asks(alloc: Global, line: &str, wanted: &str) -> Result<bool, AllocError> {
+    let answer = answer(alloc, line)?;
+    Ok(answer.as_str() == wanted)
+}
+
 #[test]
 fn words_make_requests(rt: HostRuntime) -> Result<(), Fail> {
-    let alloc = rt.alloc();
-    for (line, wanted) in [
-        ("validate|--rules|a|--data|b", "validate|a|b|false"),
-        (
-            "validate|--evidence|--data|b|--rules|a",
-            "validate|a|b|true",
-        ),
-        ("check|--proof=c|--rules|a|--data=b", "check|a|b|c"),
-        ("drill|--count|100000", "drill|100000"),
-        ("validate|--rules|a b|--data| ", "validate|a b| |false"),
-        ("validate|--rules=a b|--data= ", "validate|a b| |false"),
-        ("validate ", "usage"),
-        ("validate|--rules |a|--data|b", "usage"),
-        ("drill|--count| 1", "usage"),
-        ("drill|--count|1 ", "usage"),
-    ] {
-        assert_eq!(rt; answer(alloc, line)?.as_str(), wanted, "{line}");
+    for (line, wanted) in ANSWERS {
+        if !asks(rt.alloc(), *line, *wanted)? {
+            return Err(Fail::from(*line));
+        }
     }
     Ok(())
 }
 
-/// Names of any length are read, and lists of words of any length.
+/// A text with another one in its middle, many times.
+fn long(alloc: Global, (front, piece, end): (&str, &str, &str)) -> Result<String, AllocError> {
+    let mut text = String::from_str(alloc, front)?;
+    text.push_str(piece.repeat(alloc, 200_000)?.as_str())?;
+    text.push_str(end)?;
+    Ok(text)
+}
+
+/// Whether a line asks for this, each with a middle that is there many times.
+fn long_asks(
+    alloc: Global,
+    line: (&str, &str, &str),
+    wanted: (&str, &str, &str),
+) -> Result<bool, AllocError> {
+    let line = long(alloc, line)?;
+    let wanted = long(alloc, wanted)?;
+    asks(alloc, line.as_str(), wanted.as_str())
+}
+
+/// A long name, and many words.
 #[test]
-fn long_words(rt: HostRuntime) -> Result<(), Fail> {
-    let alloc = rt.alloc();
-    let mut name = String::from_str(alloc, "--data=")?;
-    for _ in 0..200_000 {
-        name.push('n')?;
-    }
-    let mut words = Vec::new(alloc);
-    for word in ["validate", "--rules", "a"] {
-        words.push(String::from_str(alloc, word)?)?;
-    }
-    words.push(name)?;
-    assert_eq!(rt;
-        shown(alloc, &words)?.len(),
-        "validate|a||false".len() + 200_000
-    );
-    for _ in 0..20_000 {
-        words.push(String::from_str(alloc, "x")?)?;
-    }
-    assert_eq!(rt; shown(alloc, &words)?.as_str(), "usage");
+fn long_words_and_many(rt: HostRuntime) -> Result<(), Fail> {
+    let name = ("validate|--rules|a|--data=", "n", "");
+    let request = ("validate|report|a|", "n", "|");
+    assert!(rt; long_asks(rt.alloc(), name, request)?);
+    let words = ("validate|--rules|a|--data=b", "|x", "");
+    assert!(rt; long_asks(rt.alloc(), words, ("usage", "", ""))?);
     Ok(())
 }

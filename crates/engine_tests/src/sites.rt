@@ -1,11 +1,11 @@
-//! The sites of rule files with their places.
+//! Texts of rules: the place of each site.
 use guard_lexer::tokens;
-use guard_parser::{ParseRefusal, parse};
-use guard_syntax::RawFile;
+use guard_parser::parse;
 use std::alloc::Global;
+use std::test::Fail;
 
 /// Texts with the places of their sites, in the order of the sites.
-const SITES: [(&str, &[u32]); 22] = [
+const SITES: &[(&str, &[u32])] = &[
     ("", &[0]),
     (" \n", &[2]),
     ("a exists", &[0, 0, 0, 0, 0]),
@@ -45,28 +45,26 @@ const SITES: [(&str, &[u32]); 22] = [
     ),
 ];
 
-/// The file that a text of these tests spells.
-fn read(alloc: Global, text: &str) -> Result<RawFile, ParseRefusal> {
-    if text.len() > 1048576 {
-        return Err(ParseRefusal::NoMemory);
+/// Whether a text spells a file whose sites have these places.
+fn has_sites(alloc: Global, text: &str, places: &[u32]) -> bool {
+    if 1048576 < text.len() {
+        return false;
     }
     match tokens(alloc, text) {
-        Ok(found) => parse(alloc, text, &found),
-        Err(_) => Err(ParseRefusal::NoMemory),
-    }
-}
-
-/// Whether a text spells a file whose sites have these places.
-fn has_sites(alloc: Global, text: &str, want: &[u32]) -> bool {
-    match read(alloc, text) {
-        Ok(file) => file.places.as_slice() == want,
+        Ok(found) => match parse(alloc, text, &found) {
+            Ok(file) => file.places.as_slice() == places,
+            Err(_) => false,
+        },
         Err(_) => false,
     }
 }
 
 #[test]
-fn sites_have_their_places(rt: HostRuntime) {
+fn sites_have_their_places(rt: HostRuntime) -> Result<(), Fail> {
     for (text, places) in SITES {
-        assert!(rt; has_sites(rt.alloc(), text, places), "{text}");
+        if !has_sites(rt.alloc(), *text, *places) {
+            return Err(Fail::from(*text));
+        }
     }
+    Ok(())
 }

@@ -1,0 +1,163 @@
+//! A tree of JSON by the calls of a cursor, and two laws that only speak of definitions.
+use doc_values::{Cursor, Doc, Kind};
+use json_reader::{place_within, read_json};
+use std::alloc::Global;
+use std::test::Fail;
+use yaml_scalars::one_kind;
+
+/// A value: what it is, its text, where it stands in the text and in the tree, and what stands in it.
+#[derive(Clone, Copy)]
+struct Node {
+    kind: &'static str,
+    text: &'static str,
+    at: u32,
+    parent: Option<u32>,
+    key: &'static str,
+    index: Option<u32>,
+    children: &'static [u32],
+    /// The child under the key `b`.
+    b: Option<u32>,
+}
+
+const TEXT: &str = r#"{"a":1,"b":[true,"x"]}"#;
+
+/// The values of the text by their numbers.
+const NODES: &[Node] = &[
+    Node {
+        kind: "map",
+        text: "",
+        at: 0,
+        parent: None,
+        key: "",
+        index: None,
+        children: &[1, 2],
+        b: Some(2),
+    },
+    Node {
+        kind: "1",
+        text: "",
+        at: 5,
+        parent: Some(0),
+        key: "a",
+        index: None,
+        children: &[],
+        b: None,
+    },
+    Node {
+        kind: "list",
+        text: "",
+        at: 11,
+        parent: Some(0),
+        key: "b",
+        index: None,
+        children: &[3, 4],
+        b: None,
+    },
+    Node {
+        kind: "true",
+        text: "",
+        at: 12,
+        parent: Some(2),
+        key: "",
+        index: Some(0),
+        children: &[],
+        b: None,
+    },
+    Node {
+        kind: "text",
+        text: "x",
+        at: 17,
+        parent: Some(2),
+        key: "",
+        index: Some(1),
+        children: &[],
+        b: None,
+    },
+];
+
+/// The tree of a text, which outlives it.
+fn tree_of(alloc: Global, text: &str) -> Result<Doc<'static>, Fail> {
+    if 8388608 < text.len() {
+        return Err(Fail::from("too long"));
+    }
+    match read_json(alloc, text) {
+        Ok(tree) => Ok(tree.detach(alloc)?),
+        Err(_) => Err(Fail::from("refused")),
+    }
+}
+
+/// What a value is.
+fn word_of(value: &Cursor<'_, '_>) -> &'static str {
+    match value.kind() {
+        Kind::Map => "map",
+        Kind::Whole(1) => "1",
+        Kind::List => "list",
+        Kind::Truth(true) => "true",
+        Kind::Text => "text",
+        _ => "another",
+    }
+}
+
+/// The text of a value, if it is one.
+fn text_of<'t>(value: &Cursor<'t, '_>) -> &'t str {
+    match value.kind() {
+        Kind::Text => value.text(),
+        _ => "",
+    }
+}
+
+fn number_of(value: Option<Cursor<'_, '_>>) -> Option<u32> {
+    match value {
+        Some(value) => Some(value.id),
+        None => None,
+    }
+}
+
+/// Whether a value has this kind and text, and this key if it has one.
+fn is_value(value: &Cursor<'_, '_>, node: &Node) -> bool {
+    word_of(value) == node.kind
+        && text_of(value) == node.text
+        && value.key().unwrap_or("") == node.key
+        && value.key().is_some() != node.key.is_empty()
+}
+
+/// Whether a value stands here.
+fn is_placed(value: &Cursor<'_, '_>, node: &Node) -> bool {
+    value.at() == node.at && value.index() == node.index && number_of(value.parent()) == node.parent
+}
+
+/// Whether these stand in a value, in order and by a key.
+fn has_children(value: &Cursor<'_, '_>, node: &Node) -> bool {
+    for (index, id) in node.children.iter().enumerate() {
+        if value.len() <= index || value.child(index).id != *id {
+            return false;
+        }
+    }
+    value.len() == node.children.len() && number_of(value.get("b")) == node.b
+}
+
+/// Whether the value of a number is as it is to be.
+fn is_node(tree: &Doc<'_>, id: usize, node: &Node) -> bool {
+    if tree.len() as usize <= id {
+        return false;
+    }
+    let value = tree.cursor(id as u32);
+    is_value(&value, node) && is_placed(&value, node) && has_children(&value, node)
+}
+
+#[test]
+fn cursors_tell_a_tree(rt: HostRuntime) -> Result<(), Fail> {
+    let tree = tree_of(rt.alloc(), TEXT)?;
+    for (id, node) in NODES.iter().enumerate() {
+        assert!(rt; is_node(&tree, id, node), "{id}");
+    }
+    assert!(rt; tree.len() == 5);
+    Ok(())
+}
+
+/// The calls do nothing.
+#[test]
+fn laws() {
+    place_within("[");
+    one_kind("~");
+}
