@@ -190,6 +190,18 @@ start_refused text r e =
       by_sign (DuplicateKey at) h = h
       by_sign (TooDeep at) h = h
 
+-- it is no want of memory
+pub start_solid : (text : List ℕ) (r : YamlRefusal) → Some r ≡ option_map of_sign (start_sign text) → r ≡ refusal.NoMemory → ⊥
+start_solid text r e n = let t = told (start_sign text) r e in by_sign t.0 (t.2 ∙ n) where
+  by_sign : (s : Sign) → of_sign s ≡ refusal.NoMemory → ⊥
+  by_sign (Tab at) h = cc
+  by_sign (sign.Anchor at) h = cc
+  by_sign (sign.Tag at) h = cc
+  by_sign (Directive at) h = cc
+  by_sign (ManyDocuments at) h = cc
+  by_sign (DuplicateKey at) h = cc
+  by_sign (TooDeep at) h = cc
+
 pub marked_refused : (text : List ℕ) (at behind : ℕ) (next after : Ahead) → at ≡ text_start text → next ≡ ahead text false at → behind ≡ next.behind → after ≡ ahead text false behind → next.token ≡ Dashes → after.fresh ≡ false
     → None ≡ option_map of_sign (start_sign text) → Refuses text refusal.Unread
 marked_refused text at behind next after ea en eb ef d f n =

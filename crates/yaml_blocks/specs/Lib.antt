@@ -8,3 +8,4 @@ pub mod Rest
 pub mod Signs
 pub mod Steps
 pub mod Yaml
+pub mod Memory

@@ -1,8 +1,9 @@
 //! A whole text.
-ghost use Rattle.std.specs.Prelude.{◌≡◌, ◌≤◌, length, true, false, None, MatchResult};
+ghost use Rattle.std.specs.Prelude.{◌≡◌, ◌≤◌, length, true, false, None, IsErrOf, MatchResult};
 ghost use Rattle.std.specs.Str.{IsCharBoundary};
 ghost use Rattle.yaml_scalars.specs.Scalar.{begins_order_mark};
 ghost use Rattle.yaml_blocks.specs.Answers.{Reads, Refuses};
+ghost use Rattle.yaml_blocks.specs.Memory.{BeginsDocument};
 ghost use Rattle.yaml_blocks.specs.Yaml.{IsStart, start_sign, text_start};
 
 use crate::ahead::{Token, look};
@@ -13,11 +14,12 @@ use crate::step::{root, step};
 use doc_values::{Doc, DocBuilder};
 use std::alloc::Global;
 
-/// The tree of a YAML text of at most 8 MiB that is one document, the only one. `NoMemory` says nothing of the
-/// text.
+/// The tree of a YAML text of at most 8 MiB that is one document, the only one. `NoMemory` says no more of the text than that
+/// a document begins: what is refused in front of one takes no memory.
 pub fn read_yaml<'s>(alloc: Global, text: &'s str) -> Result<Doc<'s>, YamlRefusal>
     requires { length text.now ≤ 8388608 }
-    ensures { MatchResult result (λ d. Reads text.now d) (λ e. Refuses text.now e) }
+    ensures answer { MatchResult result (λ d. Reads text.now d) (λ e. Refuses text.now e) }
+    ensures memory { IsErrOf result YamlRefusal.NoMemory → BeginsDocument text.now }
 {
     let start = match document_start(text) {
         Ok(start) => start,
@@ -70,7 +72,8 @@ fn text_start(text: &str) -> usize
 /// Where the document begins: behind a line `---`, if there is one.
 fn document_start(text: &str) -> Result<usize, YamlRefusal>
     requires { length text.now ≤ 8388608 }
-    ensures { MatchResult result (λ start. IsStart text.now start × IsCharBoundary text.now start × (start_sign text.now ≡ None)) (λ e. Refuses text.now e) }
+    ensures start { MatchResult result (λ start. IsStart text.now start × IsCharBoundary text.now start × (start_sign text.now ≡ None)) (λ e. Refuses text.now e) }
+    ensures no_memory { ¬ IsErrOf result YamlRefusal.NoMemory }
 {
     let at = text_start(text);
     let next = look(text, false, at);

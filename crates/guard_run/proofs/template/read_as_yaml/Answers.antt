@@ -8,4 +8,4 @@ pub returns-in-Some : goal.returns-in-Some
 returns-in-Some c =
     let text : IsText template_limit c.args.text.now = record { within = c.requires; utf8 = c.utf8.text } in
     refused-not_read (RefusesTemplate format.Yaml) c.args.text.now (of_yaml c.in-Err.refusal) c.in-Some.refused
-    (λ refusal named. inr (inr (text, (c.in-Err.refusal, named, c.in-Err.ensures)))) c.in-Some.ensures
+    (λ refusal named. inr (inr (text, (c.in-Err.refusal, named, c.in-Err.ensures.answer)))) c.in-Some.ensures

@@ -6,12 +6,12 @@ use Rattle.yaml_blocks.specs.Steps.{stack, Rest, reached}
 use Rattle.yaml_blocks.proofs.Roots.{root_same, whole_tree, whole_complete, root_refused, refuses}
 use Rattle.yaml_blocks.proofs.read.read_yaml.Goals as goal
 
-pub returns-in-Err-root : goal.returns-in-Err-root
-returns-in-Err-root c = root_refused c.args.text.now c.in-Ok.start 0 [] c.root.new.builder c.in-Err-root.refusal c.in-Ok.ensures.0 c.in-Ok.ensures.2 c.in-Err-root.ensures
+pub returns-in-Err-root-clause-answer : goal.returns-in-Err-root-clause-answer
+returns-in-Err-root-clause-answer c = root_refused c.args.text.now c.in-Ok.start 0 [] c.root.new.builder c.in-Err-root.refusal c.in-Ok.ensures.start.0 c.in-Ok.ensures.start.2 c.in-Err-root.ensures
 
 pub loop-alloc-init : goal.loop-alloc-init
 loop-alloc-init c =
-    root_same c.args.text.now c.in-Ok.start (stack c.new-forms.result.items) c.root.new.builder c.in-Ok-root.next c.in-Ok.ensures.0 c.in-Ok.ensures.2 (ap (λ (x : List Form). stack x) c.new-forms.ensures.items) c.in-Ok-root.ensures
+    root_same c.args.text.now c.in-Ok.start (stack c.new-forms.result.items) c.root.new.builder c.in-Ok-root.next c.in-Ok.ensures.start.0 c.in-Ok.ensures.start.2 (ap (λ (x : List Form). stack x) c.new-forms.ensures.items) c.in-Ok-root.ensures
 
 pub loop-alloc-preserved : goal.loop-alloc-preserved
 loop-alloc-preserved c =
@@ -19,8 +19,8 @@ loop-alloc-preserved c =
     let i = c.loop-alloc.invariant in
     ((λ v. ((λ h. (g.0 v).0 ((i.0 v).0 h)), (λ h. (i.0 v).1 ((g.0 v).1 h)))), g.1, g.2)
 
-pub returns-in-Err-step : goal.returns-in-Err-step
-returns-in-Err-step c =
+pub returns-in-Err-step-clause-answer : goal.returns-in-Err-step-clause-answer
+returns-in-Err-step-clause-answer c =
     let p = c.loop-alloc.position in
     refuses c.args.text.now (Rest c.args.text.now p.stage (stack c.loop-alloc.forms.items) c.loop-alloc.builder p.at) (reached p.stage p.at) (stack c.step.new.forms.items) c.step.new.builder c.in-Err-step.refusal c.loop-alloc.invariant.0 c.in-Err-step.ensures
 
@@ -29,8 +29,14 @@ finish-requires c =
     let i = c.loop-alloc.invariant in
     record { complete = whole_complete c.args.text.now c.loop-alloc.position (stack c.loop-alloc.forms.items) c.loop-alloc.builder (c.goes_on.ensures.no c.loop-alloc-test.false) i.0 i.1 }
 
-pub returns : goal.returns
-returns c =
+pub returns-clause-answer : goal.returns-clause-answer
+returns-clause-answer c =
     let i = c.loop-alloc.invariant in
     subst (λ (t : Forest). Reads c.args.text.now t) (sym c.finish.ensures.done)
     (whole_tree c.args.text.now c.loop-alloc.position (stack c.loop-alloc.forms.items) c.loop-alloc.builder (c.goes_on.ensures.no c.loop-alloc-test.false) i.0)
+
+pub returns-in-Err-root-clause-memory : goal.returns-in-Err-root-clause-memory
+returns-in-Err-root-clause-memory c want = (c.in-Ok.ensures.start.2, (c.in-Ok.start, c.in-Ok.ensures.start.0))
+
+pub returns-in-Err-step-clause-memory : goal.returns-in-Err-step-clause-memory
+returns-in-Err-step-clause-memory c want = (c.in-Ok.ensures.start.2, (c.in-Ok.start, c.in-Ok.ensures.start.0))
