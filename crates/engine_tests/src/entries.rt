@@ -1,9 +1,9 @@
 //! The lines of entries: places at the borders of lines and past a text, and sinks with each room.
-use crate::worlds::{file_of, text_tree};
+use crate::worlds::{file_of, template_of};
 use guard_io::MemSink;
-use guard_syntax::Verdict;
-use report_text::{Entry, ReportFault, Shown, Word, push_rule_line, write_entry};
-use std::alloc::Global;
+use report_text::{Entry, ReportFault, Shown, Word, write_entry};
+use rule_names::RuleFile;
+use std::alloc::{AllocError, Global};
 use std::test::Fail;
 use value_compare::Store;
 
@@ -17,89 +17,124 @@ const CALL: Entry = Entry {
     part: 2,
 };
 
-fn sink(alloc: Global, room: u64) -> MemSink {
-    MemSink {
-        bytes: Vec::new(alloc),
-        room,
-        faults: 0,
-    }
-}
-
-/// The line of the entry over a text that is handed in for that of the rules.
-fn line_over(
+/// How the line of the entry is written over a text that is handed in for that of the rules.
+fn write(
     alloc: Global,
+    file: &RuleFile,
     text: &str,
     sink: &mut MemSink,
-) -> Result<Result<(), ReportFault>, Fail> {
+) -> Result<Result<(), ReportFault>, AllocError> {
+    let template = template_of(alloc, "a")?;
+    let store = Store::new(alloc, &template, file);
     if 1048576 < text.len() {
-        return Err(Fail::from("too long"));
+        return Err(AllocError);
     }
-    let file = file_of(alloc, RULES)?;
-    let template = text_tree(alloc, "a")?;
-    let store = Store::new(alloc, &template, &file);
-    Ok(write_entry(alloc, &file, text, "", &store, &CALL, sink))
+    Ok(write_entry(alloc, file, text, "", &store, &CALL, sink))
 }
 
-// Each row: a text, and the line and the column of its byte 6, or of its end where that is past it.
+/// The room of a sink, and what comes of it: what it takes, and how many faults it counts.
+#[derive(Clone, Copy)]
+struct Wanted<'a> {
+    room: usize,
+    taken: &'a [u8],
+    faults: u64,
+}
+
+/// Whether a sink takes so much of the line over a text. It fails exactly where it counts a fault.
+fn is_written(
+    alloc: Global,
+    file: &RuleFile,
+    text: &str,
+    wanted: &Wanted<'_>,
+) -> Result<bool, AllocError> {
+    let mut sink = MemSink {
+        bytes: Vec::new(alloc),
+        room: wanted.room as u64,
+        faults: 0,
+    };
+    let faults: u64 = match write(alloc, file, text, &mut sink)? {
+        Ok(()) => 0,
+        Err(ReportFault::Failed) => 1,
+        Err(ReportFault::Memory) => return Err(AllocError),
+    };
+    Ok(
+        faults == wanted.faults
+            && sink.faults == wanted.faults
+            && sink.bytes.as_slice() == wanted.taken,
+    )
+}
+
+/// Texts with the line over each: the line and the column of its byte 6, or of its end where that is past it.
+const LINES: &[(&str, &[u8])] = &[
+    ("", b"  call 1:1 missing by 1:1\n"),
+    ("abc", b"  call 1:4 missing by 1:4\n"),
+    ("ab\n", b"  call 2:1 missing by 2:1\n"),
+    ("abcdef", b"  call 1:7 missing by 1:7\n"),
+    ("abcde\n", b"  call 2:1 missing by 2:1\n"),
+    ("abcdef\n", b"  call 1:7 missing by 1:7\n"),
+    ("abcdefg", b"  call 1:7 missing by 1:7\n"),
+    ("abcde\n\n", b"  call 2:1 missing by 2:1\n"),
+    ("abcde\ng", b"  call 2:1 missing by 2:1\n"),
+    ("ab\n\ncd\n", b"  call 3:3 missing by 3:3\n"),
+    ("abc\n\n\nab", b"  call 4:1 missing by 4:1\n"),
+    ("\n\n\n\n\n\n\n", b"  call 7:1 missing by 7:1\n"),
+    ("éé\nxx", b"  call 2:2 missing by 2:2\n"),
+    ("abcd\r\nx", b"  call 2:1 missing by 2:1\n"),
+];
+
+/// Whether this is the line over a text.
+fn is_line(alloc: Global, file: &RuleFile, text: &str, taken: &[u8]) -> Result<bool, AllocError> {
+    let wanted = Wanted {
+        room: 100,
+        taken,
+        faults: 0,
+    };
+    is_written(alloc, file, text, &wanted)
+}
+
+/// The first text over which another line is written.
+fn first_wrong(alloc: Global, file: &RuleFile) -> Result<Option<&'static str>, AllocError> {
+    for (text, taken) in LINES {
+        if !is_line(alloc, file, *text, *taken)? {
+            return Ok(Some(*text));
+        }
+    }
+    Ok(None)
+}
+
 #[test]
 fn places_are_found_by_lines(rt: HostRuntime) -> Result<(), Fail> {
-    let alloc = rt.alloc();
-    for (text, place) in [
-        ("", "1:1"),
-        ("abc", "1:4"),
-        ("ab\n", "2:1"),
-        ("abcdef", "1:7"),
-        ("abcde\n", "2:1"),
-        ("abcdef\n", "1:7"),
-        ("abcdefg", "1:7"),
-        ("abcde\n\n", "2:1"),
-        ("abcde\ng", "2:1"),
-        ("ab\n\ncd\n", "3:3"),
-        ("abc\n\n\nab", "4:1"),
-        ("\n\n\n\n\n\n\n", "7:1"),
-        ("éé\nxx", "2:2"),
-        ("abcd\r\nx", "2:1"),
-    ] {
-        let mut taken = sink(alloc, 100);
-        assert_eq!(rt; line_over(alloc, text, &mut taken)?, Ok(()), "{text}");
-        let wanted = format!(in alloc; "  call {place} missing by {place}\n")?;
-        assert_eq!(rt; taken.bytes.as_slice(), wanted.as_bytes(), "{text}");
-    }
+    let file = file_of(rt.alloc(), RULES)?;
+    assert_eq!(rt; first_wrong(rt.alloc(), &file)?, None);
     Ok(())
+}
+
+/// The line over the rules.
+const LINE: &[u8] = b"  call 1:7 missing by 1:7\n";
+
+/// Whether a sink of this room takes as much of the line.
+fn is_cut(alloc: Global, file: &RuleFile, room: usize) -> Result<bool, AllocError> {
+    let wanted = Wanted {
+        room,
+        taken: LINE.get(..room).unwrap_or(LINE),
+        faults: if room < LINE.len() { 1 } else { 0 },
+    };
+    is_written(alloc, file, RULES, &wanted)
+}
+
+/// The first room with which a sink takes more or less.
+fn first_wrong_room(alloc: Global, file: &RuleFile) -> Result<Option<usize>, AllocError> {
+    for room in 0..LINE.len() + 1 {
+        if !is_cut(alloc, file, room)? {
+            return Ok(Some(room));
+        }
+    }
+    Ok(None)
 }
 
 #[test]
 fn a_sink_takes_what_has_room(rt: HostRuntime) -> Result<(), Fail> {
-    let alloc = rt.alloc();
-    let line = b"  call 1:7 missing by 1:7\n".as_slice();
-    for room in 0..=line.len() {
-        let mut taken = sink(alloc, room as u64);
-        let written = line_over(alloc, RULES, &mut taken)?;
-        let is_whole = room == line.len();
-        assert_eq!(rt;
-            written,
-            if is_whole {
-                Ok(())
-            } else {
-                Err(ReportFault::Failed)
-            },
-            "{room}"
-        );
-        assert_eq!(rt; taken.bytes.as_slice(), &line[..room], "{room}");
-        assert_eq!(rt; taken.faults, if is_whole { 0 } else { 1 }, "{room}");
-    }
-    Ok(())
-}
-
-#[test]
-fn each_verdict_has_its_word(rt: HostRuntime) -> Result<(), Fail> {
-    let mut lines = Vec::new(rt.alloc());
-    push_rule_line(&mut lines, "a", Verdict::Pass)?;
-    push_rule_line(&mut lines, "b", Verdict::Fail)?;
-    push_rule_line(&mut lines, "default", Verdict::Skip)?;
-    assert_eq!(rt;
-        lines.as_slice(),
-        b"rule a PASS\nrule b FAIL\nrule default SKIP\n".as_slice()
-    );
+    let file = file_of(rt.alloc(), RULES)?;
+    assert_eq!(rt; first_wrong_room(rt.alloc(), &file)?, None);
     Ok(())
 }

@@ -1,6 +1,6 @@
 //! Tests of the parts that judge and report. Each stands on public calls alone, and asks what no run of the program can
-//! show: makers of patterns that fail, rows and values that no query hands on, lines of evidence by themselves, places past
-//! a text, and sinks with too little room. The library itself is empty.
+//! show: makers of patterns that fail, the places and look-ups of a rule file, lines of evidence by themselves, places past a text, and
+//! sinks with too little room. The library itself is empty.
 #![tactic(auto)]
 
 #[cfg(test)]

@@ -1,7 +1,8 @@
 //! The calls of a rule file whose names are as they must be: its parts, their scopes and places, and what a use of a name
 //! means.
 use crate::worlds::file_of;
-use rule_names::{Bind, Piece, settled_depths};
+use rule_names::{Bind, Piece, RuleFile};
+use std::alloc::Global;
 use std::test::Fail;
 
 /// A file with a filter that gives a name, a block, a condition, a block over a type, a call of a function, a filter by
@@ -37,80 +38,105 @@ fn told(piece: &Piece) -> (&'static str, usize) {
     }
 }
 
-// Each row: a site, its part, its place, and the site of its scope.
+/// A site, its part, its place, and the site of its scope.
+type Site = (u32, (&'static str, usize), u32, u32);
+
+const SITES: &[Site] = &[
+    (0, ("file", 0), 0, 0),
+    (1, ("let", 0), 0, 0),
+    (2, ("query", 0), 8, 0),
+    (3, ("step", 0), 8, 0),
+    (4, ("step", 1), 17, 0),
+    (5, ("conditions", 0), 24, 4),
+    (6, ("disjunction", 0), 24, 4),
+    (7, ("part", 0), 24, 4),
+    (9, ("step", 0), 24, 4),
+    (10, ("expression", 0), 32, 4),
+    (11, ("rule", 0), 41, 0),
+    (12, ("body", 0), 48, 0),
+    (13, ("disjunction", 0), 52, 12),
+    (16, ("step", 0), 52, 12),
+    (24, ("step", 0), 70, 12),
+    (25, ("body", 0), 80, 12),
+    (29, ("step", 0), 82, 25),
+    (30, ("body", 0), 85, 25),
+    (34, ("step", 0), 87, 30),
+    (57, ("rule", 0), 192, 0),
+    (62, ("step", 0), 201, 58),
+];
+
+/// Whether a part is found at a site.
+fn is_found(file: &RuleFile, site: u32, part: (&str, usize)) -> bool {
+    match file.find(site) {
+        Some(piece) => told(&piece) == part,
+        None => false,
+    }
+}
+
+/// Whether a site has its part, its place and its scope.
+fn is_site(file: &RuleFile, (site, part, at, home): Site) -> bool {
+    if file.raw().places.as_slice().len() <= site as usize {
+        return false;
+    }
+    told(&file.piece(site)) == part && file.place(site) == at && file.home(site) == home
+}
+
+/// The first site that has another part, place or scope.
+fn first_wrong(file: &RuleFile) -> Option<u32> {
+    for site in SITES {
+        if !is_site(file, *site) || !is_found(file, site.0, site.1) {
+            return Some(site.0);
+        }
+    }
+    None
+}
+
 #[test]
 fn each_site_has_its_part(rt: HostRuntime) -> Result<(), Fail> {
     let file = file_of(rt.alloc(), RULES)?;
-    assert!(rt; file.raw().places.as_slice().len() == 63);
-    for (site, part, at, home) in [
-        (0, ("file", 0), 0, 0),
-        (1, ("let", 0), 0, 0),
-        (2, ("query", 0), 8, 0),
-        (3, ("step", 0), 8, 0),
-        (4, ("step", 1), 17, 0),
-        (5, ("conditions", 0), 24, 4),
-        (6, ("disjunction", 0), 24, 4),
-        (7, ("part", 0), 24, 4),
-        (9, ("step", 0), 24, 4),
-        (10, ("expression", 0), 32, 4),
-        (11, ("rule", 0), 41, 0),
-        (12, ("body", 0), 48, 0),
-        (13, ("disjunction", 0), 52, 12),
-        (16, ("step", 0), 52, 12),
-        (24, ("step", 0), 70, 12),
-        (25, ("body", 0), 80, 12),
-        (29, ("step", 0), 82, 25),
-        (30, ("body", 0), 85, 25),
-        (34, ("step", 0), 87, 30),
-        (57, ("rule", 0), 192, 0),
-        (62, ("step", 0), 201, 58),
-    ] {
-        if file.raw().places.as_slice().len() <= site as usize {
-            return Err(Fail::from("too few sites"));
-        }
-        assert_eq!(rt; told(&file.piece(site)), part, "at {site}");
-        assert_eq!(rt; file.place(site), at, "at {site}");
-        assert_eq!(rt; file.home(site), home, "at {site}");
-        match file.find(site) {
-            Some(piece) => assert_eq!(rt; told(&piece), part, "at {site}"),
-            None => return Err(Fail::from("no part")),
-        }
-    }
-    assert!(rt; file.find(63).is_none());
+    assert_eq!(rt; first_wrong(&file), None);
+    assert!(rt; file.raw().places.as_slice().len() == 63 && file.find(63).is_none());
     Ok(())
 }
 
+/// A site, what the use of a variable there means, and the rule that is named there.
+type Use = (u32, Option<Bind>, Option<u32>);
+
+const USES: &[Use] = &[
+    (3, None, None),
+    (16, Some(Bind::Capture { up: 1, step: 4 }), None),
+    (24, Some(Bind::Value { up: 1, site: 2 }), None),
+    (29, Some(Bind::Value { up: 2, site: 2 }), None),
+    (48, Some(Bind::Value { up: 1, site: 2 }), None),
+    (56, None, Some(57)),
+    (63, None, None),
+];
+
+const LOOSE_USES: &[Use] = &[
+    (10, Some(Bind::Param { up: 0, index: 0 }), None),
+    (14, None, Some(5)),
+];
+
+/// Whether names mean this in a file, whose rules are judged in this order.
+fn means(file: &RuleFile, uses: &[Use], order: &[u32]) -> bool {
+    for (site, bind, target) in uses {
+        if file.bind(*site) != *bind || file.target(*site) != *target {
+            return false;
+        }
+    }
+    file.order() == order
+}
+
+/// Whether names mean this in the file of a text.
+fn says(alloc: Global, text: &'static str, uses: &[Use], order: &[u32]) -> Result<bool, Fail> {
+    let file = file_of(alloc, text)?;
+    Ok(means(&file, uses, order))
+}
+
+/// Rules come behind those that they name, and parts outside rules last.
 #[test]
 fn each_use_has_its_meaning(rt: HostRuntime) -> Result<(), Fail> {
-    let file = file_of(rt.alloc(), RULES)?;
-    for (site, bind) in [
-        (3, None),
-        (16, Some(Bind::Capture { up: 1, step: 4 })),
-        (24, Some(Bind::Value { up: 1, site: 2 })),
-        (29, Some(Bind::Value { up: 2, site: 2 })),
-        (48, Some(Bind::Value { up: 1, site: 2 })),
-        (63, None),
-    ] {
-        assert_eq!(rt; file.bind(site), bind, "at {site}");
-    }
-    for (site, target) in [(16, None), (56, Some(57)), (63, None)] {
-        assert_eq!(rt; file.target(site), target, "at {site}");
-    }
-    assert_eq!(rt; file.order(), [57u32, 11].as_slice());
+    assert!(rt; says(rt.alloc(), RULES, USES, &[57, 11])?);
+    assert!(rt; says(rt.alloc(), LOOSE, LOOSE_USES, &[11, 0])?);
     Ok(())
-}
-
-#[test]
-fn parts_outside_rules_are_judged_last(rt: HostRuntime) -> Result<(), Fail> {
-    let file = file_of(rt.alloc(), LOOSE)?;
-    assert_eq!(rt; file.bind(10), Some(Bind::Param { up: 0, index: 0 }));
-    assert_eq!(rt; file.target(14), Some(5));
-    assert_eq!(rt; file.order(), [11u32, 0].as_slice());
-    Ok(())
-}
-
-/// The call of a law does nothing.
-#[test]
-fn laws() {
-    settled_depths();
 }

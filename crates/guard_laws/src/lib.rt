@@ -6,5 +6,6 @@
 mod laws;
 
 pub use laws::{
-    accepted_is_checked, accepted_is_judged, accepted_is_true, following_is_accepted, only_drill, only_end,
+    accepted_is_checked, accepted_is_judged, accepted_is_true, following_is_accepted, only_drill,
+    only_end,
 };

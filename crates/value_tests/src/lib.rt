@@ -1,6 +1,5 @@
-//! Tests of the crates that hold values and touch the outside: scans of bytes, located trees, files and sinks. Each stands on
-//! public calls alone, and asks what no run of the program can show: lengths round a border of lanes, calls that the readers
-//! never make, and devices that fail. The library itself is empty.
+//! Tests of the crates that scan bytes and touch the outside. Each stands on public calls alone, and asks what no run of the
+//! program can show: lengths round a border of lanes, and files and sinks that fail. The library itself is empty.
 #![tactic(auto)]
 
 #[cfg(test)]
@@ -11,5 +10,3 @@ mod files;
 mod lanes;
 #[cfg(test)]
 mod sinks;
-#[cfg(test)]
-mod trees;
