@@ -12,7 +12,8 @@ use Rattle.value_compare.specs.Books.{IsBookOf}
 use Rattle.rule_meaning.specs.StoreModel.{StoreModel, Made, is_known, is_known_ref}
 use Rattle.rule_meaning.specs.StoreEnvironments as scopes
 use Rattle.rule_meaning.specs.Roots.{root_ref}
-use Rattle.rule_meaning.specs.Seeing.{grown, is_known_environment, world_of}
+use Rattle.rule_meaning.specs.Seeing.{grown, world_of}
+use Rattle.rule_meaning.specs.SeeingEnvironments.{is_known_environment}
 use Rattle.rule_meaning.specs.Environments.{Environment}
 use Rattle.rule_meaning.specs.FunctionMeaning.{IsAnswering}
 use Rattle.rule_meaning.specs.Meaning.{Names}

@@ -6,7 +6,8 @@ use Rattle.guard_syntax.specs.declared.row.Row.{Row}
 use Rattle.rule_meaning.specs.StoreModel.{StoreModel, Made, is_known}
 use Rattle.value_compare.specs.Stores.{see_store}
 use Rattle.rule_meaning.specs.StoreEnvironments as scopes
-use Rattle.rule_meaning.specs.Seeing.{see_location, see_row, see_environment, grown, world_of}
+use Rattle.rule_meaning.specs.Seeing.{see_location, see_row, grown, world_of}
+use Rattle.rule_meaning.specs.SeeingEnvironments.{see_environment}
 use Rattle.rule_meaning.specs.Environments.{Environment}
 use Rattle.rule_meaning.specs.FunctionMeaning.{IsAnswering}
 use Rattle.rule_meaning.specs.Locations.{Answers, Location, LocatedRow, World}

@@ -18,9 +18,11 @@ pub mod Reached
 pub mod Roots
 pub mod RowTests
 pub mod Seeing
+pub mod SeeingEnvironments
 pub mod SetTests
 pub mod StepMeaning
 pub mod Steps
+pub mod StoreCode
 pub mod StoreEnvironments
 pub mod StoreModel
 pub mod Values

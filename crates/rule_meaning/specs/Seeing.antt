@@ -8,10 +8,8 @@ use Rattle.guard_syntax.specs.declared.row.Ref.{Ref}
 use Rattle.guard_syntax.specs.declared.row.Row.{Row}
 use Rattle.guard_syntax.specs.declared.row.Row.TheVariants as row
 use Rattle.rule_meaning.specs.Functions as functions
-use Rattle.rule_meaning.specs.StoreModel.{StoreModel, is_known, is_known_ref, made_at}
+use Rattle.rule_meaning.specs.StoreModel.{StoreModel, is_known, made_at}
 use Rattle.rule_meaning.specs.StoreModel as store
-use Rattle.rule_meaning.specs.StoreEnvironments as scopes
-use Rattle.rule_meaning.specs.Environments.{Environment, Top, Inner, Called}
 use Rattle.rule_meaning.specs.Locations.{LocatedOrigin, Template, Literal, Made, Location, LocatedRow, Found, Missing, Unmade, AnswerRow, New, Kept, Answers, World}
 
 -- the template and the file that a store is over, with what functions answer
@@ -72,15 +70,3 @@ grown known more = record { template = known.template; file = known.file; made =
 -- each tree was made by one of the calls
 abbrev pub are_called : List ℕ → List store.Made → Bool
 are_called calls made = list_all (λ (m : store.Made). nat_le m.line (length calls)) made
-
--- the scopes around a part, by the locations of their current values
-abbrev pub see_environment : StoreModel → List ℕ → scopes.Environment → Environment
-see_environment known calls scopes.Top = Top
-see_environment known calls (scopes.Inner current outer) = Inner (see_location known calls current) (see_environment known calls outer)
-see_environment known calls (scopes.Called current args caller) = Called (see_location known calls current) args (see_environment known calls caller)
-
--- each current value is known
-abbrev pub is_known_environment : StoreModel → scopes.Environment → Bool
-is_known_environment known scopes.Top = true
-is_known_environment known (scopes.Inner current outer) = is_known_ref known current && is_known_environment known outer
-is_known_environment known (scopes.Called current args caller) = is_known_ref known current && is_known_environment known caller

@@ -1,7 +1,5 @@
 -- What references stand for.
-use Rattle.std.specs.Prelude.{ℕ, Bool, true, false, ◌==◌, ◌&&◌, List, [], ◌∷◌, Option, Some, None, option_map, option_and_then, nat_lt, if◌then◌else◌, refl}
-use Rattle.std.specs.Coded.{Coded, code_by, coded×, coded_ℕ}
-use Rattle.doc_values.specs.Codes.{forest_code}
+use Rattle.std.specs.Prelude.{ℕ, Bool, true, false, ◌==◌, ◌&&◌, List, [], ◌∷◌, Option, Some, None, option_map, option_and_then, nat_lt, if◌then◌else◌}
 use Rattle.doc_values.specs.Tree.{Forest, size}
 use Rattle.doc_values.specs.Places.{label_at}
 use Rattle.guard_syntax.specs.Syntax.{File, Expr, literal}
@@ -18,9 +16,6 @@ pub record Made : Type 0 where
   pub line : ℕ
   pub row : ℕ
   pub tree : Forest
-
-abbrev pub made_code : Coded Made
-made_code = code_by (ℕ × (ℕ × Forest)) (coded× coded_ℕ (coded× coded_ℕ forest_code)) (λ m. (m.line, (m.row, m.tree))) (λ p. record { line = p.0; row = p.1.0; tree = p.1.1 }) (λ _. refl)
 
 -- what a store is over: a template, a rule file, and the trees that calls made
 pub record StoreModel : Type 0 where

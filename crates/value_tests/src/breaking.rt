@@ -1,5 +1,6 @@
 //! Files of a system whose reads fail in mid-stream.
-use guard_io::{Files, LoadFault, RealFiles};
+use crate::files::loads;
+use guard_io::RealFiles;
 use std::alloc::Allocator;
 use std::fs::{self, Metadata, OpenFile, OpenOptions};
 use std::io::{self, ErrorKind, Read, Seek, SeekFrom, Write};
@@ -124,18 +125,9 @@ fn keeps_what_came_before_a_failed_read(rt: HostRuntime) -> Result<(), Fail> {
         rt: &system,
         faults: 0,
     };
-    let failed = Err(LoadFault::Failed);
-    let rows = [
-        (0, Ok(()), b"<".as_slice(), 0),
-        (2, Ok(()), b"<ab", 0),
-        (3, Ok(()), b"<abc", 0),
-        (4, failed, b"<abc", 1),
-    ];
-    for (most, wanted, text, faults) in rows {
-        let mut into = Vec::from_slice(rt.alloc(), b"<")?;
-        assert_eq!(rt; files.load("a", most, &mut into), wanted, "{most}");
-        assert_eq!(rt; into.as_slice(), text, "{most}");
-        assert_eq!(rt; files.faults, faults, "{most}");
-    }
+    let asked = &[("a", 0), ("a", 2), ("a", 3), ("a", 4)];
+    let text = loads(rt.alloc(), &mut files, asked)?;
+    assert!(rt; text.as_slice() == b" loaded\nab loaded\nabc loaded\nabc failed\n".as_slice());
+    assert!(rt; files.faults == 1);
     Ok(())
 }
