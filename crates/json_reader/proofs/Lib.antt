@@ -16,6 +16,7 @@ pub mod Limits
 pub mod Closings
 pub mod Paths
 pub mod Walk
+pub mod ByClass
 pub mod Verdicts
 pub mod Tokens
 pub mod Counting

@@ -15,3 +15,4 @@ mod Roots
 mod Scalars
 mod Stacks
 pub mod TreeInduction
+pub mod AwaitedNodes

@@ -212,6 +212,15 @@ Fits text stage.Value fs u i = Open fs u × (top fs ≡ Flow false → ⊥) × A
 Fits text stage.After fs u i = Open fs u × (u.key ≡ None) × (IsBlock (top fs) → IsCalm text u i)
 Fits text stage.Whole fs u i = u.outer ≡ []
 
+-- a node outside of flow is awaited at a place, in a form, and what is ahead of it was seen
+pub record Awaited (text : List ℕ) (fs : List Form) (u : Unfinished) (f : Form) (i : ℕ) (a : Ahead) : Type 0 where
+  pub small : length text ≤ 8388608
+  pub boundary : IsCharBoundary text i
+  pub seen : IsSeen text false i a
+  pub form : top fs ≡ f
+  pub block : IsBlock f
+  pub fits : Fits text stage.Value fs u i
+
 -- how far reading has come
 abbrev pub reached : Stage → ℕ → ℕ
 reached stage.Entry at = 2 * at + 2

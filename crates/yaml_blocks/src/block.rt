@@ -9,7 +9,7 @@ ghost use Rattle.yaml_blocks.specs.Blocks.{block_sign, takes_scalar, takes_mappi
 ghost use Rattle.yaml_blocks.specs.Refused.{of_sign};
 ghost use Rattle.yaml_blocks.specs.Rest.{top, Inside, Ends, Awaits};
 ghost use Rattle.yaml_blocks.specs.Yaml.{IsEnd};
-ghost use Rattle.yaml_blocks.specs.Steps.{stack, IsSeen, IsBlock, IsBehind, IsSmall, HasKey, NoKey, Open, Fits, IsCalm, NoNode, Gives, Ended, is_dash, ends_before};
+ghost use Rattle.yaml_blocks.specs.Steps.{stack, IsSeen, IsBlock, IsBehind, IsSmall, HasKey, NoKey, Open, Fits, Awaited, IsCalm, NoNode, Gives, Ended, is_dash, ends_before};
 
 use crate::ahead::{Ahead, Token, look};
 use crate::flow::open;
@@ -186,11 +186,7 @@ fn sequence(
     forms: &mut Vec<Form>,
     builder: &mut DocBuilder,
 ) -> Result<Position, YamlRefusal>
-    requires small { length text.now ≤ 8388608 }
-    requires seen { IsSeen text.now false at next }
-    requires form { top (stack forms.old.items) ≡ form }
-    requires block { IsBlock form }
-    requires fits { Fits text.now Stage.Value (stack forms.old.items) builder.old at }
+    requires awaited { Awaited text.now (stack forms.old.items) builder.old form at next }
     requires dash { next.token ≡ Token.Dash }
     requires takes { takes_sequence form next ≡ true }
     ensures { Gives text.now (Awaits text.now (stack forms.old.items) builder.old.outer builder.old.done builder.old.key at) (2 * at + 1) (stack forms.new.items) builder.new result }
@@ -215,11 +211,7 @@ fn mapping<'s>(
     forms: &mut Vec<Form>,
     builder: &mut DocBuilder<'s>,
 ) -> Result<Position, YamlRefusal>
-    requires small { length text.now ≤ 8388608 }
-    requires seen { IsSeen text.now false at next }
-    requires form { top (stack forms.old.items) ≡ form }
-    requires block { IsBlock form }
-    requires fits { Fits text.now Stage.Value (stack forms.old.items) builder.old at }
+    requires awaited { Awaited text.now (stack forms.old.items) builder.old form at next }
     requires key { HasKey text.now next key }
     requires takes { takes_mapping form next ≡ true }
     ensures { Gives text.now (Awaits text.now (stack forms.old.items) builder.old.outer builder.old.done builder.old.key at) (2 * at + 1) (stack forms.new.items) builder.new result }
@@ -249,11 +241,7 @@ fn tag<'s>(
     forms: &mut Vec<Form>,
     builder: &mut DocBuilder<'s>,
 ) -> Result<Position, YamlRefusal>
-    requires small { length text.now ≤ 8388608 }
-    requires seen { IsSeen text.now false at next }
-    requires form { top (stack forms.old.items) ≡ form }
-    requires block { IsBlock form }
-    requires fits { Fits text.now Stage.Value (stack forms.old.items) builder.old at }
+    requires awaited { Awaited text.now (stack forms.old.items) builder.old form at next }
     requires tag { next.token ≡ Token.Tag len }
     requires takes { takes_tag form next ≡ true }
     ensures { Gives text.now (Awaits text.now (stack forms.old.items) builder.old.outer builder.old.done builder.old.key at) (2 * at + 1) (stack forms.new.items) builder.new result }
@@ -271,11 +259,7 @@ fn scalar<'s>(
     forms: &[Form],
     builder: &mut DocBuilder<'s>,
 ) -> Result<Position, YamlRefusal>
-    requires small { length text.now ≤ 8388608 }
-    requires seen { IsSeen text.now false at next }
-    requires form { top (stack forms.now) ≡ form }
-    requires block { IsBlock form }
-    requires fits { Fits text.now Stage.Value (stack forms.now) builder.old at }
+    requires awaited { Awaited text.now (stack forms.now) builder.old form at next }
     requires starts { starts_scalar next.token ≡ true }
     requires takes { takes_scalar form next ≡ true }
     requires no_key { takes_mapping form next ≡ true → NoKey text.now next }
@@ -294,11 +278,7 @@ fn content<'s>(
     forms: &mut Vec<Form>,
     builder: &mut DocBuilder<'s>,
 ) -> Result<Position, YamlRefusal>
-    requires small { length text.now ≤ 8388608 }
-    requires seen { IsSeen text.now false at next }
-    requires form { top (stack forms.old.items) ≡ form }
-    requires block { IsBlock form }
-    requires fits { Fits text.now Stage.Value (stack forms.old.items) builder.old at }
+    requires awaited { Awaited text.now (stack forms.old.items) builder.old form at next }
     requires starts { starts_scalar next.token ≡ true }
     requires takes { takes_scalar form next ≡ true }
     ensures { Gives text.now (Awaits text.now (stack forms.old.items) builder.old.outer builder.old.done builder.old.key at) (2 * at + 1) (stack forms.new.items) builder.new result }
@@ -322,12 +302,7 @@ fn missing(
     forms: &[Form],
     builder: &mut DocBuilder,
 ) -> Result<Position, YamlRefusal>
-    requires small { length text.now ≤ 8388608 }
-    requires seen { IsSeen text.now false at next }
-    requires boundary { IsCharBoundary text.now at }
-    requires form { top (stack forms.now) ≡ form }
-    requires block { IsBlock form }
-    requires fits { Fits text.now Stage.Value (stack forms.now) builder.old at }
+    requires awaited { Awaited text.now (stack forms.now) builder.old form at next }
     requires none { NoNode form next }
     requires unsigned { block_sign form next ≡ None }
     requires once { is_tagged form ≡ true → (len : ℕ) → next.token ≡ Token.Tag len → ⊥ }
@@ -360,12 +335,7 @@ fn tag_again(
     forms: &mut Vec<Form>,
     builder: &mut DocBuilder,
 ) -> Result<Position, YamlRefusal>
-    requires small { length text.now ≤ 8388608 }
-    requires seen { IsSeen text.now false at next }
-    requires boundary { IsCharBoundary text.now at }
-    requires form { top (stack forms.old.items) ≡ form }
-    requires block { IsBlock form }
-    requires fits { Fits text.now Stage.Value (stack forms.old.items) builder.old at }
+    requires awaited { Awaited text.now (stack forms.old.items) builder.old form at next }
     requires tag { next.token ≡ Token.Tag len }
     requires tagged { is_tagged form ≡ true }
     requires none { NoNode form next }
@@ -396,12 +366,7 @@ fn late_tag(
     forms: &mut Vec<Form>,
     builder: &mut DocBuilder,
 ) -> Result<Position, YamlRefusal>
-    requires small { length text.now ≤ 8388608 }
-    requires seen { IsSeen text.now false at next }
-    requires boundary { IsCharBoundary text.now at }
-    requires form { top (stack forms.old.items) ≡ form }
-    requires block { IsBlock form }
-    requires fits { Fits text.now Stage.Value (stack forms.old.items) builder.old at }
+    requires awaited { Awaited text.now (stack forms.old.items) builder.old form at next }
     requires tag { next.token ≡ Token.Tag len }
     requires none { NoNode form next }
     requires unsigned { block_sign form next ≡ None }
@@ -424,11 +389,7 @@ fn brackets(
     forms: &mut Vec<Form>,
     builder: &mut DocBuilder,
 ) -> Result<Position, YamlRefusal>
-    requires small { length text.now ≤ 8388608 }
-    requires seen { IsSeen text.now false at next }
-    requires form { top (stack forms.old.items) ≡ form }
-    requires block { IsBlock form }
-    requires fits { Fits text.now Stage.Value (stack forms.old.items) builder.old at }
+    requires awaited { Awaited text.now (stack forms.old.items) builder.old form at next }
     requires opens { next.token ≡ Token.Opens map }
     requires takes { takes_scalar form next ≡ true }
     ensures { Gives text.now (Awaits text.now (stack forms.old.items) builder.old.outer builder.old.done builder.old.key at) (2 * at + 1) (stack forms.new.items) builder.new result }
@@ -436,27 +397,20 @@ fn brackets(
     open(map, next, forms, builder)
 }
 
-/// The root, or the value behind `-` or a key.
-pub(crate) fn node<'s>(
+/// A node, or that none stands there, by the token ahead.
+fn node_at<'s>(
     alloc: Global,
     text: &'s str,
     at: usize,
     form: Form,
+    next: Ahead,
     forms: &mut Vec<Form>,
     builder: &mut DocBuilder<'s>,
 ) -> Result<Position, YamlRefusal>
-    requires small { length text.now ≤ 8388608 }
-    requires boundary { IsCharBoundary text.now at }
-    requires form { top (stack forms.old.items) ≡ form }
-    requires block { IsBlock form }
-    requires fits { Fits text.now Stage.Value (stack forms.old.items) builder.old at }
+    requires awaited { Awaited text.now (stack forms.old.items) builder.old form at next }
+    requires unsigned { block_sign form next ≡ None }
     ensures { Gives text.now (Awaits text.now (stack forms.old.items) builder.old.outer builder.old.done builder.old.key at) (2 * at + 1) (stack forms.new.items) builder.new result }
 {
-    let next = look(text, false, at);
-    match block_sign(form, next) {
-        Some(refusal) => return Err(refusal),
-        None => {}
-    }
     match next.token {
         Token::Dash => {
             if takes_sequence(form, next) {
@@ -487,6 +441,29 @@ pub(crate) fn node<'s>(
             }
         }
         _ => missing(text, at, form, next, forms, builder),
+    }
+}
+
+/// The root, or the value behind `-` or a key.
+pub(crate) fn node<'s>(
+    alloc: Global,
+    text: &'s str,
+    at: usize,
+    form: Form,
+    forms: &mut Vec<Form>,
+    builder: &mut DocBuilder<'s>,
+) -> Result<Position, YamlRefusal>
+    requires small { length text.now ≤ 8388608 }
+    requires boundary { IsCharBoundary text.now at }
+    requires form { top (stack forms.old.items) ≡ form }
+    requires block { IsBlock form }
+    requires fits { Fits text.now Stage.Value (stack forms.old.items) builder.old at }
+    ensures { Gives text.now (Awaits text.now (stack forms.old.items) builder.old.outer builder.old.done builder.old.key at) (2 * at + 1) (stack forms.new.items) builder.new result }
+{
+    let next = look(text, false, at);
+    match block_sign(form, next) {
+        Some(refusal) => Err(refusal),
+        None => node_at(alloc, text, at, form, next, forms, builder),
     }
 }
 

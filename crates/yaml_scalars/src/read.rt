@@ -1,13 +1,30 @@
 //! A scalar of any form.
-ghost use Rattle.std.specs.Prelude.{◌<◌, ◌≤◌, ◌≤ℤ◌, length, pos, negsuc, IfOk};
+ghost use Rattle.std.specs.Prelude.{◌≡◌, ◌⊎◌, ◌<◌, ◌≤◌, ◌≤ℤ◌, length, drop, slice_index, true, pos, negsuc, IfOk};
 ghost use Rattle.std.specs.Str.{IsCharBoundary};
-ghost use Rattle.yaml_scalars.specs.Scalar.{IsEndOf, Answers, scalar_at, is_typed};
+ghost use Rattle.yaml_scalars.specs.Scalar.{IsEndOf, Answers, begins_quoted, begins_block, scalar_at, is_typed};
 
 use crate::block::read_block;
 use crate::plain::read_plain;
 use crate::quoted::read_quoted;
 use crate::scalar::{Scalar, ScalarRefusal, Setting};
 use std::alloc::Global;
+
+/// Whether a quote stands at a place.
+fn begins_quoted(bytes: &[u8], at: usize) -> bool
+    requires { at < length bytes.now }
+    ensures { result ≡ begins_quoted (drop at bytes.now) }
+{
+    matches!(bytes[at], b'"' | b'\'')
+}
+
+/// Whether the indicator of a block scalar stands at a place, where one may stand.
+fn begins_block(bytes: &[u8], at: usize, setting: Setting) -> bool
+    requires { at < length bytes.now }
+    ensures is { result ≡ begins_block setting (drop at bytes.now) }
+    ensures indicator { result ≡ true → (slice_index bytes.now at ≡ 124) ⊎ (slice_index bytes.now at ≡ 62) }
+{
+    !setting.flow && !setting.one_line && matches!(bytes[at], b'|' | b'>')
+}
 
 /// The plain, quoted or block scalar that begins at a byte offset. Its text is borrowed where it stands on one line
 /// without escapes. `NoMemory` says nothing of the text.
@@ -25,9 +42,11 @@ pub fn read_scalar<'s>(
     ensures answer { Answers (is_typed setting text.now at) (scalar_at setting text.now at) result }
     ensures end { IfOk result (λ s. IsEndOf text.now at s.end) }
 {
-    match text.as_bytes()[at] {
-        b'"' | b'\'' => read_quoted(alloc, text, at, setting),
-        b'|' | b'>' if !setting.flow && !setting.one_line => read_block(alloc, text, at, setting),
-        _ => read_plain(alloc, text, at, setting),
+    if begins_quoted(text.as_bytes(), at) {
+        return read_quoted(alloc, text, at, setting);
     }
+    if begins_block(text.as_bytes(), at, setting) {
+        return read_block(alloc, text, at, setting);
+    }
+    read_plain(alloc, text, at, setting)
 }

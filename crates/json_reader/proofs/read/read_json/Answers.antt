@@ -33,3 +33,6 @@ returns-in-Some-clause-answer c = λ q. refuses c.args.text.now (Syntax c.in-Som
 
 pub returns-in-Err-clause-memory : goal.returns-in-Err-clause-memory
 returns-in-Err-clause-memory c = λ h. let want : c.in-Err.refusal ≡ NoMemory = cc in (c.loop-position.position.at, c.loop-position-test.true, c.in-Err.ensures.memory (ap Err want))
+
+pub loop-position-preserved : goal.loop-position-preserved
+loop-position-preserved c = let g = c.in-Ok.ensures.gives in (sym g.2 ∙ c.loop-position.invariant.0, g.3, g.1)

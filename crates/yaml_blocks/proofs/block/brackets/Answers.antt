@@ -7,5 +7,5 @@ returns c =
     let text = c.args.text.now in
     let fs = stack c.args.forms.now.items in
     let u = c.args.builder.now in
-    brackets_gives text fs (stack c.open.new.forms.items) u c.open.new.builder c.args.form c.args.at c.args.map c.args.next c.open.result c.requires.seen.0
-    (spot text fs u c.args.form c.args.at c.args.next c.requires.small c.requires.seen c.requires.form c.requires.block c.requires.fits) c.requires.opens c.requires.takes c.open.ensures
+    brackets_gives text fs (stack c.open.new.forms.items) u c.open.new.builder c.args.form c.args.at c.args.map c.args.next c.open.result c.requires.awaited.seen.0
+    (spot text fs u c.args.form c.args.at c.args.next c.requires.awaited.small c.requires.awaited.seen c.requires.awaited.form c.requires.awaited.block c.requires.awaited.fits) c.requires.opens c.requires.takes c.open.ensures

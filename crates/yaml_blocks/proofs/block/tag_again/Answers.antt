@@ -15,13 +15,13 @@ returns-then-is_entry_column c =
     let w = c.end_before.new.builder in
     let next = c.args.next in
     let found = c.innermost.ensures ∙ ap (λ (x : List Form). top (stack x)) c.deref.ensures.value in
-    tag_again_gives text (2 * c.args.at + 1) fs gs u w c.args.form c.args.at c.args.len c.offset.result next c.requires.seen.0 (
-      spot text fs u c.args.form c.args.at next c.requires.small c.requires.seen c.requires.form c.requires.block c.requires.fits,
+    tag_again_gives text (2 * c.args.at + 1) fs gs u w c.args.form c.args.at c.args.len c.offset.result next c.requires.awaited.seen.0 (
+      spot text fs u c.args.form c.args.at next c.requires.awaited.small c.requires.awaited.seen c.requires.awaited.form c.requires.awaited.block c.requires.awaited.fits,
       c.requires.tag,
       c.requires.tagged,
       c.requires.none,
       c.requires.unsigned,
-      subst (λ z. Ended text fs z next c.args.at gs w (Ok tt)) c.in-Ok.ensures.2 (c.in-Ok-end_before.ensures text c.args.at c.requires.seen.0),
+      subst (λ z. Ended text fs z next c.args.at gs w (Ok tt)) c.in-Ok.ensures.2 (c.in-Ok-end_before.ensures text c.args.at c.requires.awaited.seen.0),
     ) c.offset.ensures (sym found ∙ c.is_entry_column.ensures.yes c.if-is_entry_column.true)
 
 pub returns : goal.returns
@@ -33,11 +33,11 @@ returns c =
     let w = c.end_before.new.builder in
     let next = c.args.next in
     let found = c.innermost.ensures ∙ ap (λ (x : List Form). top (stack x)) c.deref.ensures.value in
-    no_tag_again text fs gs u w c.args.form c.args.at c.args.len next c.requires.seen.0 (
-      spot text fs u c.args.form c.args.at next c.requires.small c.requires.seen c.requires.form c.requires.block c.requires.fits,
+    no_tag_again text fs gs u w c.args.form c.args.at c.args.len next c.requires.awaited.seen.0 (
+      spot text fs u c.args.form c.args.at next c.requires.awaited.small c.requires.awaited.seen c.requires.awaited.form c.requires.awaited.block c.requires.awaited.fits,
       c.requires.tag,
       c.requires.tagged,
       c.requires.none,
       c.requires.unsigned,
-      subst (λ z. Ended text fs z next c.args.at gs w (Ok tt)) c.in-Ok.ensures.2 (c.in-Ok-end_before.ensures text c.args.at c.requires.seen.0),
+      subst (λ z. Ended text fs z next c.args.at gs w (Ok tt)) c.in-Ok.ensures.2 (c.in-Ok-end_before.ensures text c.args.at c.requires.awaited.seen.0),
     ) (λ h. c.is_entry_column.ensures.no c.if-is_entry_column.false (found ∙ h))

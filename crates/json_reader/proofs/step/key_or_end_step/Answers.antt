@@ -1,0 +1,37 @@
+use Rattle.std.proofs.Common.{List, [], true, ℕ, get_or, ap, sym, ◌∙◌, refl}
+use Rattle.std.specs.Prelude.{Err}
+use Rattle.json_reader.specs.declared.stage.Stage.TheVariants as stage
+use Rattle.json_reader.specs.declared.refusal.JsonRefusal.TheVariants.{Syntax}
+use Rattle.json_reader.specs.declared.bytes.Class.TheVariants.{Close}
+use Rattle.json_reader.specs.Reading.{class_of, AtKeyOrEnd, InString, key_or_end_next}
+use Rattle.json_reader.proofs.Walk.{Gives-one, from_cause}
+use Rattle.json_reader.proofs.ByClass.{goes, gives_on, key_or_end_stops, quote_is}
+use Rattle.json_reader.proofs.step.key_or_end_step.Goals as goal
+
+pub returns-in-Space-clause-gives : goal.returns-in-Space-clause-gives
+returns-in-Space-clause-gives c =
+    let u = c.args.builder.now in
+    let class = c.byte_class.ensures ∙ ap (λ (t : List ℕ). class_of (get_or t c.args.at 0)) c.as_bytes.ensures.value in
+    goes c.args.text.now c.args.at AtKeyOrEnd stage.KeyOrEnd u u c.requires.within (ap (key_or_end_next c.args.at u) (sym class ∙ c.in-Space.is)) c.requires.fits
+
+pub returns-in-Quote-clause-gives : goal.returns-in-Quote-clause-gives
+returns-in-Quote-clause-gives c =
+    let u = c.args.builder.now in
+    let class = c.byte_class.ensures ∙ ap (λ (t : List ℕ). class_of (get_or t c.args.at 0)) c.as_bytes.ensures.value in
+    gives_on c.args.text.now c.args.at AtKeyOrEnd (InString true [] [] c.args.at) u c.key_step.new.builder c.key_step.result c.requires.within (ap (key_or_end_next c.args.at u) (sym class ∙ c.in-Quote.is)) c.key_step.ensures.gives
+
+pub key_step-requires-clause-quote : goal.key_step-requires-clause-quote
+key_step-requires-clause-quote c =
+    let class = c.byte_class.ensures ∙ ap (λ (t : List ℕ). class_of (get_or t c.args.at 0)) c.as_bytes.ensures.value in
+    quote_is (get_or c.args.text.now c.args.at 0) (sym class ∙ c.in-Quote.is)
+
+pub returns-in-Close-clause-gives : goal.returns-in-Close-clause-gives
+returns-in-Close-clause-gives c =
+    let u = c.args.builder.now in
+    let class = c.byte_class.ensures ∙ ap (λ (t : List ℕ). class_of (get_or t c.args.at 0)) c.as_bytes.ensures.value in
+    Gives-one c.args.text.now c.args.at AtKeyOrEnd u c.end_step.new.builder (key_or_end_next c.args.at u Close) (Syntax c.args.at) c.end_step.result c.requires.within (ap (key_or_end_next c.args.at u) (sym class ∙ c.in-Close.is)) refl c.end_step.ensures.leads
+
+pub returns-in_default-clause-gives : goal.returns-in_default-clause-gives
+returns-in_default-clause-gives c =
+    let class = c.byte_class.ensures ∙ ap (λ (t : List ℕ). class_of (get_or t c.args.at 0)) c.as_bytes.ensures.value in
+    from_cause c.args.text.now c.args.at AtKeyOrEnd c.args.builder.now (Syntax c.args.at) c.requires.within (key_or_end_stops (class_of (get_or c.args.text.now c.args.at 0)) c.args.at c.args.builder.now (λ h. c.in_default.not-Space (class ∙ h)) (λ h. c.in_default.not-Quote (class ∙ h)) (λ h. c.in_default.not-Close (class ∙ h))) refl ∙ ap (λ n. Err (Syntax n)) (sym c.offset.ensures)
