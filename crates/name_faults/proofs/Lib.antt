@@ -1,4 +1,5 @@
 pub mod UsesInTurn
+mod ScopeParts
 mod Arities
 mod NameSets
 mod SeenNames

@@ -1,5 +1,5 @@
 -- The names that a set has.
-use Rattle.std.proofs.Common.{◌≡◌, ℕ, Bool, true, false, List, ◌∷◌, refl, sym, ap, ◌∙◌, arith, cond}
+use Rattle.std.proofs.Common.{◌≡◌, ℕ, Bool, true, false, List, ◌∷◌, refl, sym, ap, ◌∙◌, cond}
 use Rattle.std.specs.Prelude.{◌||◌, not}
 use Rattle.std.specs.Borrow.{Bor}
 use Rattle.std.specs.Ordering.{nat_cmp, is_eq}
@@ -7,12 +7,19 @@ use Rattle.std.specs.Cmp.Lexicographic.{slice_cmp}
 use Rattle.std.specs.Str.{bytes_eq}
 use Rattle.std.specs.BTreeSet.{BTreeSet, contains_by}
 use Rattle.std.proofs.lemmas.Slice.Eq.{bytes_eq-Decides}
+use Rattle.std.specs.Bool.{Decides}
 use Rattle.std.proofs.lemmas.Map.Text.{is_eq-slice_cmp}
 use Rattle.rule_names.specs.Duplicates.{is_among}
 pub use Rattle.name_faults.specs.NameSets.{IsNameSet}
 
 pub bytes_eq_sym : (x y : List ℕ) → bytes_eq x y ≡ bytes_eq y x
-bytes_eq_sym x y = grind (arith, bytes_eq-Decides x y, bytes_eq-Decides y x)
+bytes_eq_sym x y = as_one (bytes_eq x y) (bytes_eq y x) (bytes_eq-Decides x y) (bytes_eq-Decides y x)
+  where
+    as_one : (a b : Bool) → Decides a (x ≡ y) → Decides b (y ≡ x) → a ≡ b
+    as_one true true one two = refl
+    as_one true false one two = sym (two.1 (sym (one.0 refl)))
+    as_one false true one two = one.1 (sym (two.0 refl))
+    as_one false false one two = refl
 
 or_cond : (a b : Bool) → cond a true b ≡ a || b
 or_cond true b = refl

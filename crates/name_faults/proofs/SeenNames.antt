@@ -1,6 +1,6 @@
 -- Names of a list, one after another: whether the next was given before, and the first fault then.
-use Rattle.std.proofs.Common.{◌≡◌, ℕ, ◌+◌, ◌<◌, Bool, true, false, List, [], ◌∷◌, ◌++◌, length, take, drop, get_or, map, Option, Some, cond, refl, ap, sym, ◌∙◌}
-use Rattle.std.proofs.lemmas.List.{take_more}
+use Rattle.std.proofs.Common.{◌≡◌, ℕ, ◌+◌, ◌<◌, ◌≤◌, Bool, true, false, List, [], ◌∷◌, ◌++◌, length, take, drop, get_or, map, Option, Some, cond, refl, ap, sym, ◌∙◌}
+use Rattle.std.proofs.lemmas.List.{take_more, drop_all, append-nil, append_assoc, map-append}
 use Rattle.std.specs.Borrow.{Bor}
 use Rattle.guard_syntax.specs.Named.{Named}
 use Rattle.rule_names.specs.declared.name_kind.NameKind.{NameKind}
@@ -8,6 +8,20 @@ use Rattle.rule_names.specs.Duplicates.{is_among, given_again, fault_of}
 use Rattle.rule_names.specs.Faults.{Fault, earlier, first_from}
 use Rattle.name_scopes.specs.Seen.{see_names}
 use Rattle.name_scopes.proofs.FirstFaults.{drop-next}
+
+-- names gathered from the items of a list, one item more
+pub names-next : {X : Type 0} (all : List X → List Named) (name : X → Named) → ((y : X) (ys : List X) → all (y ∷ ys) ≡ name y ∷ all ys)
+    → (xs : List X) (i : ℕ) (x : X) (b : Bor Named) (start : List Named) (old new : List (Bor Named)) → i < length xs → x ≡ get_or xs i x → b.now ≡ name x → new ≡ old ++ b ∷ []
+    → see_names old ++ all (drop i xs) ≡ start → see_names new ++ all (drop (i + 1) xs) ≡ start
+names-next all name split xs i x b start old new within is named added so =
+    ap (λ (l : List (Bor Named)). see_names l ++ all (drop (i + 1) xs)) added
+    ∙ ap (λ (l : List Named). l ++ all (drop (i + 1) xs)) (map-append (λ (n : Bor Named). n.now) old (b ∷ []) ∙ ap (λ (n : Named). see_names old ++ n ∷ []) named)
+    ∙ append_assoc (see_names old) (name x ∷ []) (all (drop (i + 1) xs))
+    ∙ ap (λ (l : List Named). see_names old ++ l) (sym (split x (drop (i + 1) xs)) ∙ ap all (sym (drop-next xs i x within is)))
+    ∙ so
+
+pub names-end : {X : Type 0} (all : List X → List Named) → all [] ≡ [] → (xs : List X) (i : ℕ) (start : List Named) (old : List (Bor Named)) → length xs ≤ i → see_names old ++ all (drop i xs) ≡ start → see_names old ≡ start
+names-end all none xs i start old past so = sym (append-nil (see_names old)) ∙ ap (λ (l : List Named). see_names old ++ l) (sym none ∙ ap all (sym (drop_all i xs past))) ∙ so
 
 -- the texts of names, the newest first, in front of others
 abbrev pub texts_of : List (List ℕ) → List (Bor Named) → List (List ℕ)

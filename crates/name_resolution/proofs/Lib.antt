@@ -1,1 +1,2 @@
 mod BodyLinks
+mod HomesInTurn

@@ -1,3 +1,4 @@
+mod GivenInTurn
 pub mod FirstFaults
 mod Merged
 pub mod ScopeShapes

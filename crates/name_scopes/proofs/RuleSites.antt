@@ -1,5 +1,5 @@
 -- The sites of rules by their names, from the last rule to the first.
-use Rattle.std.proofs.Common.{◌≡◌, ℕ, ◌+◌, ◌<◌, Bool, true, false, List, ◌∷◌, map, drop, get_or, length, Option, Some, cond, refl, sym, ap, ◌∙◌, arith}
+use Rattle.std.proofs.Common.{◌≡◌, ℕ, ◌+◌, ◌<◌, Bool, true, false, List, ◌∷◌, map, drop, get_or, length, Option, Some, cond, refl, sym, ap, ◌∙◌}
 use Rattle.std.specs.Prelude.{option_map}
 use Rattle.std.specs.Borrow.{Bor}
 use Rattle.std.specs.Ordering.{nat_cmp}
@@ -9,6 +9,7 @@ use Rattle.std.specs.Map.{update}
 use Rattle.std.specs.Str.{bytes_eq}
 use Rattle.std.proofs.lemmas.List.{drop_more}
 use Rattle.std.proofs.lemmas.Slice.Eq.{bytes_eq-Decides}
+use Rattle.std.specs.Bool.{Decides}
 use Rattle.guard_syntax.specs.declared.syntax.Rule.{Rule}
 use Rattle.guard_syntax.specs.Syntax as sx
 use Rattle.guard_syntax.specs.Seen.{see_rule}
@@ -16,7 +17,13 @@ use Rattle.rule_names.specs.Uses.{rule_named}
 use Rattle.name_scopes.specs.RuleSites.{site_named, AreRuleSites}
 
 pub bytes_eq-sym : (x y : List ℕ) → bytes_eq x y ≡ bytes_eq y x
-bytes_eq-sym x y = grind (arith, bytes_eq-Decides x y, bytes_eq-Decides y x)
+bytes_eq-sym x y = as_one (bytes_eq x y) (bytes_eq y x) (bytes_eq-Decides x y) (bytes_eq-Decides y x)
+  where
+    as_one : (a b : Bool) → Decides a (x ≡ y) → Decides b (y ≡ x) → a ≡ b
+    as_one true true one two = refl
+    as_one true false one two = sym (two.1 (sym (one.0 refl)))
+    as_one false true one two = one.1 (sym (two.0 refl))
+    as_one false false one two = refl
 
 pub map-cond : {X Y : Type 0} (f : X → Y) (b : Bool) (x : X) (o : Option X) → cond b (Some (f x)) (option_map f o) ≡ option_map f (cond b (Some x) o)
 map-cond f true x o = refl

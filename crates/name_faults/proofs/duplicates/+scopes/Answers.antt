@@ -1,4 +1,7 @@
-use Rattle.std.proofs.Common.{ap, sym, ◌∙◌, refl, List, [], ◌∷◌, map}
+use Rattle.std.proofs.Common.{ap, sym, ◌∙◌, refl, List, [], ◌∷◌, map, Some, None}
+use Rattle.std.proofs.lemmas.List.{drop_all}
+use Rattle.std.proofs.lemmas.Result.{IfOk-weaker}
+use Rattle.guard_syntax.specs.Syntax as sx
 use Rattle.guard_syntax.specs.declared.syntax.Let.{Let}
 use Rattle.guard_syntax.specs.declared.syntax.Disj.{Disj}
 use Rattle.guard_syntax.specs.declared.syntax.Part.{Part}
@@ -12,6 +15,7 @@ use Rattle.rule_names.specs.Scopes.{names_of, given_body, given_conds, scopes_le
 use Rattle.name_scopes.specs.Seen.{see_best}
 use Rattle.name_scopes.proofs.FirstFaults.{first-then, last-then, own-scope, more-parts}
 use Rattle.name_scopes.proofs.ScopeShapes.{let-scopes, disj-scopes, body-scopes, block-scopes, when-scopes, kinds-scopes, test-scopes}
+use Rattle.name_faults.proofs.ScopeParts.{of-conds, of-query, of-call, of-refer, of-function, of-asked, of-found, of-some-conds, of-some-expr}
 use Rattle.name_faults.proofs.duplicates.+scopes.Goals as goal
 
 pub in_body-returns : goal.in_body-returns
@@ -85,3 +89,51 @@ in_steps-loop-step-preserved t c =
     more-parts (λ (xs : List Step). scopes_steps (step_list (map see_step xs))) (λ (x : Step). scopes_step (see_step x)) (λ x xs. refl)
     c.args.steps.now c.loop-step.step-index c.step-item.result (see_best c.loop-step.best) (see_best c.in_ok-best.best) _ c.loop-step-test.true c.step-item.is
     c.in_ok-best.ensures c.loop-step.invariant
+
+pub in_conds-returns : goal.in_conds-returns
+in_conds-returns t c = IfOk-weaker c.in_disjs.result _ _ (λ found e. e ∙ of-conds (λ (y : sx.Conds). first_from (see_best c.args.best) (duplicated (scopes_conds y))) c.args.conds.now c.deref.result.now c.deref.ensures.value) c.in_disjs.ensures
+
+pub in_query-returns : goal.in_query-returns
+in_query-returns t c = IfOk-weaker c.in_steps.result _ _ (λ found e. e ∙ of-query (λ (y : sx.Query). first_from (see_best c.args.best) (duplicated (scopes_query y))) c.args.query.now c.deref.result.now c.deref.ensures.value) c.in_steps.ensures
+
+pub in_expr-returns-in-Function : goal.in_expr-returns-in-Function
+in_expr-returns-in-Function t c = IfOk-weaker c.in_exprs.result _ _ (λ found e. e ∙ of-function (λ (y : sx.Expr). first_from (see_best c.args.best) (duplicated (scopes_expr y))) c.args.expr.now c.in-Function.site c.in-Function.name c.in-Function.args c.deref.result.now c.in-Function.is c.deref.ensures.value) c.in_exprs.ensures
+
+pub in_expr-returns-in-Query : goal.in_expr-returns-in-Query
+in_expr-returns-in-Query t c = IfOk-weaker c.in_query.result _ _ (λ found e. e ∙ of-asked (λ (y : sx.Expr). first_from (see_best c.args.best) (duplicated (scopes_expr y))) c.args.expr.now c.in-Query.query c.in-Query.is) c.in_query.ensures
+
+pub in_expr-returns-in-Found : goal.in_expr-returns-in-Found
+in_expr-returns-in-Found t c = IfOk-weaker c.in_query-in-Found.result _ _ (λ found e. e ∙ of-found (λ (y : sx.Expr). first_from (see_best c.args.best) (duplicated (scopes_expr y))) c.args.expr.now c.in-Found.site c.in-Found.query c.in-Found.is) c.in_query-in-Found.ensures
+
+pub in_part-returns-in-Refer : goal.in_part-returns-in-Refer
+in_part-returns-in-Refer t c = of-refer (λ (y : sx.Part). first_from (see_best c.args.best) (duplicated (scopes_part y))) c.args.part.now c.in-Refer.site c.in-Refer.not c.in-Refer.name c.in-Refer.note c.in-Refer.is
+
+pub in_part-returns-in-Call : goal.in_part-returns-in-Call
+in_part-returns-in-Call t c = IfOk-weaker c.in_exprs.result _ _ (λ found e. e ∙ of-call (λ (y : sx.Part). first_from (see_best c.args.best) (duplicated (scopes_part y))) c.args.part.now c.in-Call.site c.in-Call.not c.in-Call.name c.in-Call.args c.in-Call.note c.deref.result.now c.in-Call.is c.deref.ensures.value) c.in_exprs.ensures
+
+pub in_side-returns-in-Some : goal.in_side-returns-in-Some
+in_side-returns-in-Some t c = IfOk-weaker c.in_expr.result _ _ (λ found e. e ∙ of-some-expr (λ (y : sx.OptExpr). first_from (see_best c.args.best) (duplicated (scopes_opt_expr y))) c.args.side.now (Some c.in-Some.expr) c.in-Some.is) c.in_expr.ensures
+
+pub in_side-returns-in-None : goal.in_side-returns-in-None
+in_side-returns-in-None t c = of-some-expr (λ (y : sx.OptExpr). first_from (see_best c.args.best) (duplicated (scopes_opt_expr y))) c.args.side.now None c.in-None.is
+
+pub in_some_conds-returns-in-Some : goal.in_some_conds-returns-in-Some
+in_some_conds-returns-in-Some t c = IfOk-weaker c.in_conds.result _ _ (λ found e. e ∙ of-some-conds (λ (y : sx.OptConds). first_from (see_best c.args.best) (duplicated (scopes_opt_conds y))) c.args.conds.now (Some c.in-Some.conds) c.in-Some.is) c.in_conds.ensures
+
+pub in_some_conds-returns-in-None : goal.in_some_conds-returns-in-None
+in_some_conds-returns-in-None t c = of-some-conds (λ (y : sx.OptConds). first_from (see_best c.args.best) (duplicated (scopes_opt_conds y))) c.args.conds.now None c.in-None.is
+
+pub in_steps-returns : goal.in_steps-returns
+in_steps-returns t c = ap (λ (xs : List Step). first_from (see_best c.loop-step.best) (duplicated (scopes_steps (step_list (map see_step xs))))) (sym (drop_all c.loop-step.step-index c.args.steps.now c.loop-step-test.false)) ∙ c.loop-step.invariant
+
+pub in_exprs-returns : goal.in_exprs-returns
+in_exprs-returns t c = ap (λ (xs : List Expr). first_from (see_best c.loop-expr.best) (duplicated (scopes_exprs (expr_list (map see_expr xs))))) (sym (drop_all c.loop-expr.expr-index c.args.exprs.now c.loop-expr-test.false)) ∙ c.loop-expr.invariant
+
+pub in_lets-returns : goal.in_lets-returns
+in_lets-returns t c = ap (λ (xs : List Let). first_from (see_best c.loop-given.best) (duplicated (scopes_lets (let_list (map see_let xs))))) (sym (drop_all c.loop-given.given-index c.args.lets.now c.loop-given-test.false)) ∙ c.loop-given.invariant
+
+pub in_disjs-returns : goal.in_disjs-returns
+in_disjs-returns t c = ap (λ (xs : List Disj). first_from (see_best c.loop-disj.best) (duplicated (scopes_disjs (disj_list (map see_disj xs))))) (sym (drop_all c.loop-disj.disj-index c.args.disjs.now c.loop-disj-test.false)) ∙ c.loop-disj.invariant
+
+pub in_parts-returns : goal.in_parts-returns
+in_parts-returns t c = ap (λ (xs : List Part). first_from (see_best c.loop-part.best) (duplicated (scopes_parts (part_list (map see_part xs))))) (sym (drop_all c.loop-part.part-index c.args.parts.now c.loop-part-test.false)) ∙ c.loop-part.invariant

@@ -1,13 +1,20 @@
-use Rattle.std.proofs.Common.{◌∙◌, ap}
+use Rattle.std.proofs.Common.{◌∙◌, ap, rules, Some, None}
 use Rattle.std.proofs.lemmas.Result.{IfOk-weaker}
 use Rattle.std.proofs.Common.{◌++◌}
+use Rattle.guard_syntax.specs.Syntax as sx
+use Rattle.guard_syntax.specs.Seen.{see_conds, see_expr}
+use Rattle.guard_syntax.specs.declared.syntax.Body.{the_lemmas}
+use Rattle.guard_syntax.specs.declared.syntax.StepForm as form
+use Rattle.rule_names.specs.Faults.{first_from}
+use Rattle.rule_names.specs.Uses.{wrong_opt_conds, wrong_part, wrong_step, wrong_expr, wrong_opt_expr}
 use Rattle.std.specs.declared.vec.Vec.{Vec}
 use Rattle.std.specs.declared.alloc.Global.{Global}
 use Rattle.name_scopes.specs.declared.scopes.Given.{Given}
 use Rattle.name_scopes.specs.Seen.{see_best, see_given}
 use Rattle.name_scopes.specs.ScopeChains.{visible_in}
 use Rattle.name_faults.specs.RuleArities.{rules_of, places_of}
-use Rattle.name_faults.proofs.UsesInTurn.{lets-next, disjs-next, parts-next, steps-next, exprs-next, block-wrong, when-wrong, kinds-wrong, test-wrong, function-wrong, body-wrong, filter-wrong}
+use Rattle.name_faults.proofs.UsesInTurn.{lets-next, lets-end, disjs-next, disjs-end, parts-next, parts-end, steps-next, steps-end, exprs-next, exprs-end, query-steps, block-wrong, when-wrong, kinds-wrong, test-wrong, function-wrong, body-wrong, filter-wrong}
+use Rattle.name_faults.proofs.ScopeParts.{of-conds, of-step, of-refer, of-asked, of-found, of-some-conds, of-some-expr}
 use Rattle.name_faults.proofs.uses.+uses.Goals as goal
 
 pub in_body-returns : goal.in_body-returns
@@ -62,3 +69,63 @@ in_exprs-loop-expr-preserved t c =
 pub in_query-loop-step-preserved : goal.in_query-loop-step-preserved
 in_query-loop-step-preserved t c =
     steps-next (rules_of c.args.walk.now) (places_of c.args.walk.now) (visible_in c.args.scope.now) c.deref-step-items.result.now c.loop-step.step-index c.step-item.result _ (see_best c.loop-step.best) (see_best c.in_ok-best.best) c.loop-step-test.true c.step-item.is c.in_ok-best.ensures c.loop-step.invariant
+
+pub in_opt_conds-returns-in-Some : goal.in_opt_conds-returns-in-Some
+in_opt_conds-returns-in-Some t c = IfOk-weaker c.in_disjs.result _ _ (λ found e. e ∙ of-conds (λ (y : sx.Conds). first_from (see_best c.args.best) (wrong_opt_conds (rules_of c.args.walk.now) (places_of c.args.walk.now) (visible_in c.args.scope.now) (sx.with_conds y))) c.in-Some.conds c.deref.result.now c.deref.ensures.value ∙ of-some-conds (λ (y : sx.OptConds). first_from (see_best c.args.best) (wrong_opt_conds (rules_of c.args.walk.now) (places_of c.args.walk.now) (visible_in c.args.scope.now) y)) c.args.conds.now (Some c.in-Some.conds) c.in-Some.is) c.in_disjs.ensures
+
+pub in_opt_conds-returns-in-None : goal.in_opt_conds-returns-in-None
+in_opt_conds-returns-in-None t c = of-some-conds (λ (y : sx.OptConds). first_from (see_best c.args.best) (wrong_opt_conds (rules_of c.args.walk.now) (places_of c.args.walk.now) (visible_in c.args.scope.now) y)) c.args.conds.now None c.in-None.is
+
+pub in_part-returns-in-Refer : goal.in_part-returns-in-Refer
+in_part-returns-in-Refer t c = c.wrong_reference.ensures ∙ of-refer (λ (y : sx.Part). first_from (see_best c.args.best) (wrong_part (rules_of c.args.walk.now) (places_of c.args.walk.now) (visible_in c.args.scope.now) y)) c.args.part.now c.in-Refer.site c.in-Refer.not c.in-Refer.name c.in-Refer.note c.in-Refer.is
+
+pub in_step-returns-in-Filter : goal.in_step-returns-in-Filter
+in_step-returns-in-Filter t c = IfOk-weaker c.in_filter.result _ _ (λ found e. e ∙ of-step (λ (y : sx.Step). first_from (see_best c.args.best) (wrong_step (rules_of c.args.walk.now) (places_of c.args.walk.now) (visible_in c.args.scope.now) y)) c.args.step.now (form.Filter c.in-Filter.field-0 c.in-Filter.conds) (λ n. sx.filter n c.in-Filter.field-0 (see_conds c.in-Filter.conds)) c.in-Filter.is (search (rules, the_lemmas))) c.in_filter.ensures
+
+pub in_step-returns-in-Keys : goal.in_step-returns-in-Keys
+in_step-returns-in-Keys t c = IfOk-weaker c.in_expr.result _ _ (λ found e. e ∙ of-step (λ (y : sx.Step). first_from (see_best c.args.best) (wrong_step (rules_of c.args.walk.now) (places_of c.args.walk.now) (visible_in c.args.scope.now) y)) c.args.step.now (form.Keys c.in-Keys.capture c.in-Keys.op c.in-Keys.not c.in-Keys.right) (λ n. sx.keys n c.in-Keys.capture c.in-Keys.op c.in-Keys.not (see_expr c.in-Keys.right)) c.in-Keys.is (search (rules, the_lemmas))) c.in_expr.ensures
+
+pub in_step-returns-in-This : goal.in_step-returns-in-This
+in_step-returns-in-This t c = of-step (λ (y : sx.Step). first_from (see_best c.args.best) (wrong_step (rules_of c.args.walk.now) (places_of c.args.walk.now) (visible_in c.args.scope.now) y)) c.args.step.now form.This (λ n. sx.this n) c.in-This.is (search (rules, the_lemmas))
+
+pub in_step-returns-in-Key : goal.in_step-returns-in-Key
+in_step-returns-in-Key t c = of-step (λ (y : sx.Step). first_from (see_best c.args.best) (wrong_step (rules_of c.args.walk.now) (places_of c.args.walk.now) (visible_in c.args.scope.now) y)) c.args.step.now (form.Key c.in-Key.field-0) (λ n. sx.key n c.in-Key.field-0) c.in-Key.is (search (rules, the_lemmas))
+
+pub in_step-returns-in-Index : goal.in_step-returns-in-Index
+in_step-returns-in-Index t c = of-step (λ (y : sx.Step). first_from (see_best c.args.best) (wrong_step (rules_of c.args.walk.now) (places_of c.args.walk.now) (visible_in c.args.scope.now) y)) c.args.step.now (form.Index c.in-Index.field-0) (λ n. sx.index n c.in-Index.field-0) c.in-Index.is (search (rules, the_lemmas))
+
+pub in_step-returns-in-Every : goal.in_step-returns-in-Every
+in_step-returns-in-Every t c = of-step (λ (y : sx.Step). first_from (see_best c.args.best) (wrong_step (rules_of c.args.walk.now) (places_of c.args.walk.now) (visible_in c.args.scope.now) y)) c.args.step.now form.Every (λ n. sx.every n) c.in-Every.is (search (rules, the_lemmas))
+
+pub in_step-returns-in-Items : goal.in_step-returns-in-Items
+in_step-returns-in-Items t c = of-step (λ (y : sx.Step). first_from (see_best c.args.best) (wrong_step (rules_of c.args.walk.now) (places_of c.args.walk.now) (visible_in c.args.scope.now) y)) c.args.step.now form.Items (λ n. sx.items n) c.in-Items.is (search (rules, the_lemmas))
+
+pub in_expr-returns-in-Query : goal.in_expr-returns-in-Query
+in_expr-returns-in-Query t c = IfOk-weaker c.in_query.result _ _ (λ found e. e ∙ of-asked (λ (y : sx.Expr). first_from (see_best c.args.best) (wrong_expr (rules_of c.args.walk.now) (places_of c.args.walk.now) (visible_in c.args.scope.now) y)) c.args.expr.now c.in-Query.query c.in-Query.is) c.in_query.ensures
+
+pub in_expr-returns-in-Found : goal.in_expr-returns-in-Found
+in_expr-returns-in-Found t c = IfOk-weaker c.in_query-in-Found.result _ _ (λ found e. e ∙ of-found (λ (y : sx.Expr). first_from (see_best c.args.best) (wrong_expr (rules_of c.args.walk.now) (places_of c.args.walk.now) (visible_in c.args.scope.now) y)) c.args.expr.now c.in-Found.site c.in-Found.query c.in-Found.is) c.in_query-in-Found.ensures
+
+pub in_opt_expr-returns-in-Some : goal.in_opt_expr-returns-in-Some
+in_opt_expr-returns-in-Some t c = IfOk-weaker c.in_expr.result _ _ (λ found e. e ∙ of-some-expr (λ (y : sx.OptExpr). first_from (see_best c.args.best) (wrong_opt_expr (rules_of c.args.walk.now) (places_of c.args.walk.now) (visible_in c.args.scope.now) y)) c.args.expr.now (Some c.in-Some.expr) c.in-Some.is) c.in_expr.ensures
+
+pub in_opt_expr-returns-in-None : goal.in_opt_expr-returns-in-None
+in_opt_expr-returns-in-None t c = of-some-expr (λ (y : sx.OptExpr). first_from (see_best c.args.best) (wrong_opt_expr (rules_of c.args.walk.now) (places_of c.args.walk.now) (visible_in c.args.scope.now) y)) c.args.expr.now None c.in-None.is
+
+pub in_lets-returns : goal.in_lets-returns
+in_lets-returns t c = lets-end (rules_of c.args.walk.now) (places_of c.args.walk.now) (visible_in c.args.scope.now) c.args.lets.now c.loop-given.given-index _ (see_best c.loop-given.best) c.loop-given-test.false c.loop-given.invariant
+
+pub in_disjs-returns : goal.in_disjs-returns
+in_disjs-returns t c = disjs-end (rules_of c.args.walk.now) (places_of c.args.walk.now) (visible_in c.args.scope.now) c.args.disjs.now c.loop-disj.disj-index _ (see_best c.loop-disj.best) c.loop-disj-test.false c.loop-disj.invariant
+
+pub in_parts-returns : goal.in_parts-returns
+in_parts-returns t c = parts-end (rules_of c.args.walk.now) (places_of c.args.walk.now) (visible_in c.args.scope.now) c.args.parts.now c.loop-part.part-index _ (see_best c.loop-part.best) c.loop-part-test.false c.loop-part.invariant
+
+pub in_exprs-returns : goal.in_exprs-returns
+in_exprs-returns t c = exprs-end (rules_of c.args.walk.now) (places_of c.args.walk.now) (visible_in c.args.scope.now) c.args.exprs.now c.loop-expr.expr-index _ (see_best c.loop-expr.best) c.loop-expr-test.false c.loop-expr.invariant
+
+pub in_query-returns : goal.in_query-returns
+in_query-returns t c = steps-end (rules_of c.args.walk.now) (places_of c.args.walk.now) (visible_in c.args.scope.now) c.deref-step-items.result.now c.loop-step.step-index _ (see_best c.loop-step.best) c.loop-step-test.false c.loop-step.invariant
+
+pub in_query-loop-step-init : goal.in_query-loop-step-init
+in_query-loop-step-init t c = ap (first_from (see_best c.args.best)) (query-steps (rules_of c.args.walk.now) (places_of c.args.walk.now) (visible_in c.args.scope.now) c.args.query.now c.deref-step-items.result.now c.deref-step-items.ensures.value)

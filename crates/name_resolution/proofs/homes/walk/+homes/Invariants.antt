@@ -1,24 +1,19 @@
-use Rattle.std.proofs.Common.{◌≡◌, ◌++◌, drop, map}
-use Rattle.guard_syntax.specs.Seen.{see_let, see_disj, see_part, see_expr, see_step, let_list, disj_list, part_list, expr_list, step_list}
-use Rattle.rule_names.specs.EnclosingScopes.{homes_lets, homes_disjs, homes_parts, homes_exprs, homes_steps}
+use Rattle.std.proofs.Common.{◌≡◌, drop}
+use Rattle.rule_names.specs.EnclosingScopes.{with_homes}
+use Rattle.name_resolution.proofs.HomesInTurn.{of_lets, of_disjs, of_parts, of_steps, of_exprs}
 use Rattle.name_resolution.proofs.homes.walk.+homes.Given as goal
 
 abbrev pub invariant-in_lets-loop-given : goal.invariant-in_lets-loop-given
-invariant-in_lets-loop-given l =
-    l.homes.items ++ homes_lets l.home (let_list (map see_let (drop l.given-index l.lets))) ≡ l.initial.homes.items ++ homes_lets l.home (let_list (map see_let l.lets))
+invariant-in_lets-loop-given l = with_homes l.table (of_lets l.home (drop l.given-index l.lets)) ≡ with_homes l.initial.table (of_lets l.home l.lets)
 
 abbrev pub invariant-in_disjs-loop-disj : goal.invariant-in_disjs-loop-disj
-invariant-in_disjs-loop-disj l =
-    l.homes.items ++ homes_disjs l.home (disj_list (map see_disj (drop l.disj-index l.disjs))) ≡ l.initial.homes.items ++ homes_disjs l.home (disj_list (map see_disj l.disjs))
+invariant-in_disjs-loop-disj l = with_homes l.table (of_disjs l.home (drop l.disj-index l.disjs)) ≡ with_homes l.initial.table (of_disjs l.home l.disjs)
 
 abbrev pub invariant-in_parts-loop-part : goal.invariant-in_parts-loop-part
-invariant-in_parts-loop-part l =
-    l.homes.items ++ homes_parts l.home (part_list (map see_part (drop l.part-index l.parts))) ≡ l.initial.homes.items ++ homes_parts l.home (part_list (map see_part l.parts))
+invariant-in_parts-loop-part l = with_homes l.table (of_parts l.home (drop l.part-index l.parts)) ≡ with_homes l.initial.table (of_parts l.home l.parts)
 
 abbrev pub invariant-in_exprs-loop-expr : goal.invariant-in_exprs-loop-expr
-invariant-in_exprs-loop-expr l =
-    l.homes.items ++ homes_exprs l.home (expr_list (map see_expr (drop l.expr-index l.exprs))) ≡ l.initial.homes.items ++ homes_exprs l.home (expr_list (map see_expr l.exprs))
+invariant-in_exprs-loop-expr l = with_homes l.table (of_exprs l.home (drop l.expr-index l.exprs)) ≡ with_homes l.initial.table (of_exprs l.home l.exprs)
 
-abbrev pub invariant-in_steps-loop-step : goal.invariant-in_steps-loop-step
-invariant-in_steps-loop-step l =
-    l.homes.items ++ homes_steps l.home (step_list (map see_step (drop l.step-index l.steps))) ≡ l.initial.homes.items ++ homes_steps l.home (step_list (map see_step l.steps))
+abbrev pub invariant-in_query-loop-step : goal.invariant-in_query-loop-step
+invariant-in_query-loop-step l = with_homes l.table (of_steps l.home (drop l.step-index l.step-items)) ≡ with_homes l.initial.table (of_steps l.home l.step-items)

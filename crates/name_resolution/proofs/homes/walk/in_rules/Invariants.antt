@@ -1,8 +1,7 @@
-use Rattle.std.proofs.Common.{◌≡◌, ◌++◌, drop, map}
-use Rattle.guard_syntax.specs.Seen.{see_rule}
-use Rattle.rule_names.specs.EnclosingScopes.{homes_rules}
+use Rattle.std.proofs.Common.{◌≡◌, drop}
+use Rattle.rule_names.specs.EnclosingScopes.{with_homes}
+use Rattle.name_resolution.proofs.HomesInTurn.{of_rules}
 use Rattle.name_resolution.proofs.homes.walk.in_rules.Given as goal
 
 abbrev pub invariant-loop-rule : goal.invariant-loop-rule
-invariant-loop-rule l =
-    l.homes.items ++ homes_rules l.home (map see_rule (drop l.rule-index l.rules)) ≡ l.initial.homes.items ++ homes_rules l.home (map see_rule l.rules)
+invariant-loop-rule l = with_homes l.table (of_rules l.home (drop l.rule-index l.rules)) ≡ with_homes l.initial.table (of_rules l.home l.rules)

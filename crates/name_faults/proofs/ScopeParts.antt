@@ -1,0 +1,62 @@
+-- The scopes and the wrong uses in a part, where they are those of one thing in it.
+use Rattle.std.proofs.Common.{◌≡◌, ℕ, Bool, List, Option, map, sym, ap, ◌∙◌, rules}
+use Rattle.std.specs.declared.vec.Vec.{Vec}
+use Rattle.std.specs.declared.alloc.Global.{Global}
+use Rattle.guard_syntax.specs.Syntax as sx
+use Rattle.guard_syntax.specs.declared.syntax.Body.{the_lemmas}
+use Rattle.guard_syntax.specs.declared.syntax.Conds.{Conds, out-Conds}
+use Rattle.guard_syntax.specs.declared.syntax.Query.{Query, out-Query}
+use Rattle.guard_syntax.specs.declared.syntax.Part.{Part}
+use Rattle.guard_syntax.specs.declared.syntax.Part as part
+use Rattle.guard_syntax.specs.declared.syntax.Step.{Step}
+use Rattle.guard_syntax.specs.declared.syntax.StepForm.{StepForm}
+use Rattle.guard_syntax.specs.declared.syntax.Disj.{Disj}
+use Rattle.guard_syntax.specs.declared.syntax.Expr.{Expr}
+use Rattle.guard_syntax.specs.declared.syntax.Expr as expr
+use Rattle.guard_syntax.specs.Seen.{Form, see_step, see_form, see_disj, see_conds, see_opt_conds, see_part, see_query, see_expr, see_opt_expr, step_list, disj_list, expr_list}
+use Rattle.rule_names.proofs.Shapes.{conds-seen, query-seen, step-seen, call-seen, function-seen}
+
+-- whatever is said of the syntax of these, by what it is seen as
+module _ {Y : Type 0} where
+  pub of-conds : (say : sx.Conds → Y) (c : Conds) (ds : List Disj) → ds ≡ (out-Conds c).parts.items → say (sx.conds (out-Conds c).site (disj_list (map see_disj ds))) ≡ say (see_conds c)
+  of-conds say c ds are = ap (λ (l : List Disj). say (sx.conds (out-Conds c).site (disj_list (map see_disj l)))) are ∙ ap say (sym (conds-seen c))
+
+  pub of-query : (say : sx.Query → Y) (q : Query) (ss : List Step) → ss ≡ (out-Query q).steps.items → say (sx.query (out-Query q).site (step_list (map see_step ss))) ≡ say (see_query q)
+  of-query say q ss are = ap (λ (l : List Step). say (sx.query (out-Query q).site (step_list (map see_step l)))) are ∙ ap say (sym (query-seen q))
+
+  pub of-step : (say : sx.Step → Y) (s : Step) (fm : StepForm) (fn : Form) → s.form ≡ fm → see_form fm ≡ fn → say (fn s.site) ≡ say (see_step s)
+  of-step say s fm fn is seen = ap say (sym (step-seen s ∙ ap (λ (f : Form). f s.site) (ap see_form is ∙ seen)))
+
+  pub of-refer : (say : sx.Part → Y) (x : Part) (site : ℕ) (negated : Bool) (name : List ℕ) (message : Option (List ℕ)) → x ≡ part.Refer site negated name message → say (sx.refer site negated name message) ≡ say (see_part x)
+  of-refer say x site negated name message is = ap say (sym (ap see_part is ∙ seen))
+    where
+      seen : see_part (part.Refer site negated name message) ≡ sx.refer site negated name message
+      seen = search (rules, the_lemmas)
+
+  pub of-call : (say : sx.Part → Y) (x : Part) (site : ℕ) (negated : Bool) (name : List ℕ) (args : Vec Expr Global) (message : Option (List ℕ)) (es : List Expr) → x ≡ part.Call site negated name args message → es ≡ args.items
+      → say (sx.call site negated name (expr_list (map see_expr es)) message) ≡ say (see_part x)
+  of-call say x site negated name args message es is are =
+      ap (λ (l : List Expr). say (sx.call site negated name (expr_list (map see_expr l)) message)) are ∙ ap say (sym (ap see_part is ∙ call-seen site negated name args message))
+
+  pub of-function : (say : sx.Expr → Y) (x : Expr) (site : ℕ) (name : List ℕ) (args : Vec Expr Global) (es : List Expr) → x ≡ expr.Function site name args → es ≡ args.items
+      → say (sx.function site name (expr_list (map see_expr es))) ≡ say (see_expr x)
+  of-function say x site name args es is are =
+      ap (λ (l : List Expr). say (sx.function site name (expr_list (map see_expr l)))) are ∙ ap say (sym (ap see_expr is ∙ function-seen site name args))
+
+  pub of-asked : (say : sx.Expr → Y) (x : Expr) (q : Query) → x ≡ expr.Query q → say (sx.asked (see_query q)) ≡ say (see_expr x)
+  of-asked say x q is = ap say (sym (ap see_expr is ∙ seen))
+    where
+      seen : see_expr (expr.Query q) ≡ sx.asked (see_query q)
+      seen = search (rules, the_lemmas)
+
+  pub of-found : (say : sx.Expr → Y) (x : Expr) (site : ℕ) (q : Query) → x ≡ expr.Found site q → say (sx.found site (see_query q)) ≡ say (see_expr x)
+  of-found say x site q is = ap say (sym (ap see_expr is ∙ seen))
+    where
+      seen : see_expr (expr.Found site q) ≡ sx.found site (see_query q)
+      seen = search (rules, the_lemmas)
+
+  pub of-some-conds : (say : sx.OptConds → Y) (o p : Option Conds) → o ≡ p → say (see_opt_conds p) ≡ say (see_opt_conds o)
+  of-some-conds say o p is = ap (λ (x : Option Conds). say (see_opt_conds x)) (sym is)
+
+  pub of-some-expr : (say : sx.OptExpr → Y) (o p : Option Expr) → o ≡ p → say (see_opt_expr p) ≡ say (see_opt_expr o)
+  of-some-expr say o p is = ap (λ (x : Option Expr). say (see_opt_expr x)) (sym is)
