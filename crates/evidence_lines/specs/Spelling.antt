@@ -16,6 +16,10 @@ use Rattle.evidence_lines.specs.declared.line.Outcome.TheVariants as says
 
 -- ---- values and rows
 
+-- a number and the point behind it
+abbrev pub part_text : ℕ → List ℕ
+part_text n = decimal n ++ codes "."
+
 -- `d`, a value of the template; `l<site>.`, of the literal of a site; `c<line>.<row>.`, of what a call made at a row of its line
 abbrev pub origin_text : Origin → List ℕ
 origin_text Template = codes "d"
@@ -31,10 +35,14 @@ key_text false = []
 abbrev pub ref_text : Ref → List ℕ
 ref_text v = origin_text v.origin ++ (decimal v.node ++ key_text v.key)
 
+-- the site of a step, and the value at which it found nothing
+abbrev pub missing_text : Ref → ℕ → List ℕ
+missing_text v step = codes "m" ++ (decimal step ++ (codes ":" ++ ref_text v))
+
 -- a value; `m<site>:` and the value at which the step of the site found nothing; `u<site>`, the call that did not apply
 abbrev pub row_text : Row → List ℕ
 row_text (Found v) = ref_text v
-row_text (Missing v step) = codes "m" ++ (decimal step ++ (codes ":" ++ ref_text v))
+row_text (Missing v step) = missing_text v step
 row_text (Unmade call) = codes "u" ++ decimal call
 
 abbrev pub verdict_text : Verdict → List ℕ

@@ -2,7 +2,7 @@
 ghost use Rattle.std.specs.Prelude.{◌≡◌, ◌++◌, ◌∷◌, [], All, IfOk, IfSome, OnErr, OnOk, decimal};
 ghost use Rattle.std.specs.List.{flat_map};
 ghost use Rattle.evidence_lines.specs.Shapes.{HasShape, IsBounded, IsCount, IsOriginBounded, IsOutcomeBounded, IsPlace, IsRefBounded, IsRowBounded};
-ghost use Rattle.evidence_lines.specs.Spelling.{fields_text, further_text, line_text, list_text, optional_text, origin_text, outcome_text, ref_text, row_text, verdict_text};
+ghost use Rattle.evidence_lines.specs.Spelling.{fields_text, further_text, key_text, line_text, list_text, missing_text, optional_text, origin_text, outcome_text, part_text, ref_text, row_text, verdict_text};
 
 use crate::line::{Line, Outcome};
 use guard_syntax::{Origin, Ref, Row, Verdict};
@@ -183,17 +183,28 @@ fn push_row(text: &mut Vec<u8>, row: Row) -> Result<(), AllocError>
 {
     match row {
         Row::Found(value) => push_ref(text, value),
-        Row::Missing { value, step } => {
-            text.push(b'm')?;
-            push_place(text, step)?;
-            text.push(b':')?;
-            push_ref(text, value)
-        }
-        Row::Unmade { call } => {
-            text.push(b'u')?;
-            push_place(text, call)
-        }
+        Row::Missing { value, step } => push_missing(text, value, step),
+        Row::Unmade { call } => push_signed_place(text, b'u', call),
     }
+}
+
+/// Appends a step and the value at which it found nothing.
+fn push_missing(text: &mut Vec<u8>, value: Ref, step: u32) -> Result<(), AllocError>
+    ensures printed { OnOk result (text.new.items ≡ text.old.items ++ missing_text value step) }
+    ensures bounded { OnOk result (IsRefBounded value × IsPlace step) }
+{
+    push_signed_place(text, b'm', step)?;
+    text.push(b':')?;
+    push_ref(text, value)
+}
+
+/// Appends a sign and a site.
+fn push_signed_place(text: &mut Vec<u8>, sign: u8, place: u32) -> Result<(), AllocError>
+    ensures printed { OnOk result (text.new.items ≡ text.old.items ++ sign ∷ decimal place) }
+    ensures bounded { OnOk result (IsPlace place) }
+{
+    text.push(sign)?;
+    push_place(text, place)
 }
 
 /// Appends a value.
@@ -203,9 +214,17 @@ fn push_ref(text: &mut Vec<u8>, value: Ref) -> Result<(), AllocError>
 {
     push_origin(text, value.origin)?;
     push_place(text, value.node)?;
-    if value.key {
-        text.push(b'k')?;
+    push_key(text, value.key)
+}
+
+/// Appends the sign of a key, where one is meant.
+fn push_key(text: &mut Vec<u8>, key: bool) -> Result<(), AllocError>
+    ensures { OnOk result (text.new.items ≡ text.old.items ++ key_text key) }
+{
+    if !key {
+        return Ok(());
     }
+    text.push(b'k')?;
     Ok(())
 }
 
@@ -217,19 +236,27 @@ fn push_origin(text: &mut Vec<u8>, origin: Origin) -> Result<(), AllocError>
     match origin {
         Origin::Template => {
             text.push(b'd')?;
+            Ok(())
         }
         Origin::Literal(site) => {
-            text.push(b'l')?;
-            push_place(text, site)?;
+            push_signed_place(text, b'l', site)?;
             text.push(b'.')?;
+            Ok(())
         }
         Origin::Made { line, row } => {
             text.push(b'c')?;
-            push_number(text, line)?;
-            text.push(b'.')?;
-            push_number(text, row)?;
-            text.push(b'.')?;
+            push_part(text, line)?;
+            push_part(text, row)
         }
     }
+}
+
+/// Appends a number and the point behind it.
+fn push_part(text: &mut Vec<u8>, number: u64) -> Result<(), AllocError>
+    ensures printed { OnOk result (text.new.items ≡ text.old.items ++ part_text number) }
+    ensures bounded { OnOk result (IsCount number) }
+{
+    push_number(text, number)?;
+    text.push(b'.')?;
     Ok(())
 }

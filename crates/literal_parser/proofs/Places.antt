@@ -145,3 +145,12 @@ neither_way false b c e = refl
 -- no range is opened by what is no bracket
 pub no_bracket : (x y : Lexeme) → is_opening_end (form y) ≡ false → false ≡ opens_range x y
 no_bracket x y e = neither_way (is_r (form x)) (is_opening_end (form y)) (y.from == x.to) e
+
+-- nor by what is no `r`
+pub no_r : (x y : Lexeme) → is_r (form x) ≡ false → false ≡ opens_range x y
+no_r x y e = ap (λ b. b && (is_opening_end (form y) && y.from == x.to)) (sym e)
+
+-- an `r` and a bracket open a range where the one ends at the place at which the other begins
+pub by_places : (x y : Lexeme) (from to : ℕ) → is_r (form x) ≡ true → is_opening_end (form y) ≡ true → from ≡ y.from → to ≡ x.to → (from == to) ≡ opens_range x y
+by_places x y from to e f g h =
+    ap (λ n. n == to) g ∙ ap (λ n. y.from == n) h ∙ ap (λ b. b && y.from == x.to) (sym f) ∙ ap (λ b. b && (is_opening_end (form y) && y.from == x.to)) (sym e)

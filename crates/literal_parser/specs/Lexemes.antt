@@ -46,8 +46,12 @@ reserved =
     ∷ (codes "is_int", kw.IsInt) ∷ (codes "IS_INT", kw.IsInt) ∷ (codes "is_float", kw.IsFloat) ∷ (codes "IS_FLOAT", kw.IsFloat)
     ∷ (codes "is_null", kw.IsNull) ∷ (codes "IS_NULL", kw.IsNull) ∷ []
 
-abbrev pub keyword_of : List ℕ → Option Keyword
-keyword_of name = option_map (λ (p : List ℕ × Keyword). p.1) (find (λ (p : List ℕ × Keyword). bytes_eq name p.0) reserved)
+-- the keyword of the first row of a table with this name
+abbrev pub keyword_in : List (List ℕ × Keyword) → List ℕ → Option Keyword
+keyword_in table name = option_map (λ (p : List ℕ × Keyword). p.1) (find (λ (p : List ℕ × Keyword). bytes_eq name p.0) table)
+
+unfoldable pub keyword_of : List ℕ → Option Keyword
+keyword_of name = keyword_in reserved name
 
 abbrev pub name_word : Option Keyword → List ℕ → Word
 name_word None name = Name name

@@ -3,45 +3,35 @@ ghost use Rattle.std.specs.Prelude.{◌≡◌, ◌≤◌, ◌<◌, ◌+◌, ◌=
 ghost use Rattle.doc_values.specs.declared.decimal.Num.{Num};
 ghost use Rattle.guard_lexer.specs.declared.token.Token.{Token};
 ghost use Rattle.guard_lexer.specs.Bytes.{is_white};
-ghost use Rattle.literal_parser.specs.Lexemes.{lexeme_of, word_of, name_word, keyword_of, text_within, note_within, front_trimmed, back_trimmed};
+ghost use Rattle.literal_parser.specs.Lexemes.{lexeme_of, word_of, name_word, keyword_in, keyword_of, text_within, note_within, front_trimmed, back_trimmed};
 ghost use Rattle.literal_parser.specs.Forms.{text_in, text_of, number_in, keyword_operator, mark_operator};
-ghost use Rattle.literal_parser.specs.TokenClasses.{shape_in, shape_of, name_shape, whole_shape, shape_operator, shape_sign, shape_index};
+ghost use Rattle.literal_parser.specs.TokenClasses.{spelling, shape_in, shape_of, name_shape, whole_shape, shape_operator, shape_sign, shape_index};
 
-use crate::keyword::Keyword;
+use crate::keyword::{KEYWORDS, Keyword};
 use crate::token_class::TokenClass;
 use doc_values::Num;
 use guard_lexer::{Mark, Token, TokenKind};
 use guard_syntax::{Op, Text};
 use std::alloc::{AllocError, Global};
 
+/// The keyword that is written so, among those of a table.
+fn keyword_among(rows: &[(&str, Keyword)], name: &str) -> Option<Keyword>
+    ensures { result ≡ keyword_in (map spelling rows.now) name.now }
+{
+    for row in rows {
+        if name == row.0 {
+            return Some(row.1);
+        }
+    }
+    None
+}
+
 /// The keyword of a name.
+#[tactic(auto, unfolding(crate::specs::Lexemes::keyword_of))]
 fn keyword_of(name: &str) -> Option<Keyword>
     ensures { result ≡ keyword_of name.now }
 {
-    match name {
-        "let" => Some(Keyword::Let),
-        "rule" => Some(Keyword::Rule),
-        "true" | "True" => Some(Keyword::True),
-        "false" | "False" => Some(Keyword::False),
-        "null" | "NULL" => Some(Keyword::Null),
-        "when" | "WHEN" => Some(Keyword::When),
-        "some" | "SOME" => Some(Keyword::Some),
-        "or" | "OR" => Some(Keyword::Or),
-        "not" | "NOT" => Some(Keyword::Not),
-        "keys" | "KEYS" => Some(Keyword::Keys),
-        "this" | "THIS" => Some(Keyword::This),
-        "in" | "IN" => Some(Keyword::In),
-        "exists" | "EXISTS" => Some(Keyword::Exists),
-        "empty" | "EMPTY" => Some(Keyword::Empty),
-        "is_string" | "IS_STRING" => Some(Keyword::IsString),
-        "is_list" | "IS_LIST" => Some(Keyword::IsList),
-        "is_struct" | "IS_STRUCT" => Some(Keyword::IsStruct),
-        "is_bool" | "IS_BOOL" => Some(Keyword::IsBool),
-        "is_int" | "IS_INT" => Some(Keyword::IsInt),
-        "is_float" | "IS_FLOAT" => Some(Keyword::IsFloat),
-        "is_null" | "IS_NULL" => Some(Keyword::IsNull),
-        _ => None,
-    }
+    keyword_among(&KEYWORDS, name)
 }
 
 /// What a name that is no keyword is to the grammar.
@@ -110,8 +100,9 @@ pub fn shapes_of(alloc: Global, text: &str, tokens: &[Token]) -> Result<Vec<Toke
     let mut shapes = Vec::with_capacity(alloc, tokens.len())?;
     for token in tokens {
         let shape = shape_of(text, *token)?;
-        if shapes.push(shape).is_err() {
-            return Err(AllocError);
+        match shapes.push(shape) {
+            Ok(()) => {}
+            Err(_) => return Err(AllocError),
         }
     }
     Ok(shapes)

@@ -1,0 +1,30 @@
+use Rattle.std.proofs.Common.{◌≡◌, ℕ, ◌<◌, ◌≤◌, ◌+◌, List, [], ◌∷◌, ◌++◌, length, get_or, map, take, ap, sym, ◌∙◌}
+use Rattle.std.proofs.lemmas.List.{map_more, take_all}
+use Rattle.guard_lexer.specs.declared.token.Token.{Token}
+use Rattle.literal_parser.specs.declared.token_class.TokenClass.{TokenClass}
+use Rattle.literal_parser.specs.Lexemes.{lexeme_of}
+use Rattle.literal_parser.specs.TokenClasses.{shape_of}
+use Rattle.literal_parser.proofs.lexeme.shapes_of.Goals as goal
+
+-- over any shape of a token, so that none is computed
+module _ (f : Token → TokenClass) (tokens : List Token) (i : ℕ) (shapes : List TokenClass) (so_far : shapes ≡ map f (take i tokens)) where
+  one_more : (token : Token) (shape : TokenClass) (more : List TokenClass) → i < length tokens → token ≡ get_or tokens i token → shape ≡ f token → more ≡ shapes ++ shape ∷ []
+      → more ≡ map f (take (i + 1) tokens)
+  one_more token shape more within item e pushed =
+      pushed ∙ ap (λ (xs : List TokenClass). xs ++ shape ∷ []) so_far ∙ ap (λ (x : TokenClass). map f (take i tokens) ++ x ∷ []) (e ∙ ap f item) ∙ sym (map_more f tokens i token within)
+
+  no_more : length tokens ≤ i → shapes ≡ map f tokens
+  no_more behind = so_far ∙ ap (map f) (take_all i tokens behind)
+
+pub loop-token-preserved : goal.loop-token-preserved
+loop-token-preserved c =
+    one_more (λ (t : Token). shape_of (lexeme_of c.args.text.now t)) c.args.tokens.now c.loop-token.token-index c.loop-token.shapes.items c.loop-token.invariant
+    c.token-item.result c.in_ok-shape.shape c.push.new.self.items c.loop-token-test.true c.token-item.is c.in_ok-shape.ensures c.in-Ok.ensures.items
+
+pub loop-token-init : goal.loop-token-init
+loop-token-init c = c.in_ok-shapes.ensures.items
+
+pub returns : goal.returns
+returns c =
+    no_more (λ (t : Token). shape_of (lexeme_of c.args.text.now t)) c.args.tokens.now c.loop-token.token-index c.loop-token.shapes.items c.loop-token.invariant
+    c.loop-token-test.false
