@@ -1,9 +1,11 @@
 pub mod PartsSeen
 pub mod SaidKnown
 pub mod SitesWithin
+mod ExprsFollow
 mod ExprsKnown
 mod FramedVerdicts
 mod FramesAround
+mod FramesValued
 mod LinesSaid
 mod OwnersMarked
 mod OwnersStand

@@ -1,7 +1,8 @@
 -- What gives rows: of a step, of a query, and of an argument.
-use Rattle.std.proofs.Common.{◌≡◌, ℕ, ◌-◌, List, [], ◌∷◌, length, map, Option, Some, None, ap, sym, subst, ◌∙◌, arith, MatchOption}
+use Rattle.std.proofs.Common.{◌≡◌, ℕ, ◌-◌, List, [], ◌∷◌, length, map, Option, Some, None, refl, ap, sym, subst, ◌∙◌, arith, MatchOption}
 use Rattle.std.specs.Prelude.{slice_get, option_map}
 use Rattle.std.specs.Borrow.{Bor}
+use Rattle.std.proofs.lemmas.Option.{none-some}
 use Rattle.evidence_lines.specs.Lines.{line_of}
 use Rattle.evidence_lines.specs.declared.line.Line.{Line}
 use Rattle.evidence_lines.specs.declared.line.LineKind.{LineKind}
@@ -56,6 +57,20 @@ module _ (file : sx.File) (lines : List Line) (frame : ℕ) where
   last-got (x ∷ xs) s is =
       let at : length (x ∷ xs) - 1 ≡ length xs = omega arith in
       last-of x xs s (is ∙ ap (λ (i : ℕ). slice_get (x ∷ xs) i) at)
+
+  no-last : (x : Step) (xs : List Step) → None ≡ slice_get (x ∷ xs) (length xs) → ⊥
+  no-last x [] none = none-some x none
+  no-last x (y ∷ ys) none = no-last y ys none
+
+  none-last : (xs : List Step) → None ≡ slice_get xs (length xs - 1) → None ≡ last_step file lines (step_list (map see_step xs))
+  none-last [] none = refl
+  none-last (x ∷ xs) none =
+      let at : length (x ∷ xs) - 1 ≡ length xs = omega arith in
+      absurd (no-last x xs (none ∙ ap (λ (i : ℕ). slice_get (x ∷ xs) i) at))
+
+  pub none-given : (q : sx.Query) (xs : List Step) (number : ℕ) → steps_in q ≡ step_list (map see_step xs) → None ≡ slice_get xs (length xs - 1)
+      → (rows : List Row) → GivesQuery file lines frame q number rows → ⊥
+  none-given (sx.query n steps) xs number are none rows g = none-some g.0 (none-last xs none ∙ ap (last_step file lines) (sym are) ∙ g.1)
 
   same-step : (o : Option sx.Step) (s t : sx.Step) → o ≡ Some s → o ≡ Some t → s ≡ t
   same-step o s t is also = cc

@@ -3,11 +3,13 @@ use Rattle.std.specs.Prelude.{ℕ, zero, suc, ◌≡◌, ◌↔◌, Bool, true, 
 use Rattle.evidence_lines.specs.declared.line.Line.{Line}
 use Rattle.guard_syntax.specs.Named.{Named}
 use Rattle.guard_syntax.specs.Syntax.{File, Body, block, guarded, kinds}
+use Rattle.guard_syntax.specs.declared.row.Ref.{Ref}
 use Rattle.rule_names.specs.Marks.{IsMarked}
 use Rattle.rule_names.specs.Pieces.{Piece, OfBody, OfPart, OfRule, piece_at}
-use Rattle.rule_meaning.specs.StoreModel.{StoreModel}
+use Rattle.rule_meaning.specs.StoreModel.{StoreModel, is_known_ref}
+use Rattle.rule_meaning.specs.Roots.{root_ref}
 use Rattle.evidence_rules.specs.CitedLines.{body_site}
-use Rattle.evidence_rules.specs.Follows.{IsBlockBody, IsRuleBody, IsWhenBody}
+use Rattle.evidence_rules.specs.Follows.{HasValue, IsBlockBody, IsRuleBody, IsWhenBody}
 use Rattle.evidence_lookups.specs.declared.owners.Owner.{Owner}
 use Rattle.evidence_lookups.specs.declared.owners.Owner.TheVariants as owner
 use Rattle.evidence_lookups.specs.declared.owners.Owners.{Owners}
@@ -17,6 +19,12 @@ abbrev pub IsOwned : StoreModel → List Line → Owner → Body → Type 0
 IsOwned known lines owner.Rule b = IsRuleBody known lines b
 IsOwned known lines owner.When b = IsWhenBody known lines b
 IsOwned known lines owner.Block b = IsBlockBody known lines b
+
+-- a value that the frame of such a body may have: the root of the template, the value of the frame around it, or any
+abbrev pub HasOwned : StoreModel → List Line → Owner → (frame : ℕ) → Ref → Type 0
+HasOwned known lines owner.Rule frame v = v ≡ root_ref
+HasOwned known lines owner.When frame v = HasValue known lines frame v
+HasOwned known lines owner.Block frame v = is_known_ref known v ≡ true
 
 -- the table of an owner
 abbrev pub marks_of : Owners → Owner → List Bool

@@ -50,8 +50,10 @@ pub fn given_by_query<'b>(
     ensures { MatchOption result ((rows : List Row) → GivesQuery (file_of file.now) lines.entry.now frame (see_query query.now) number rows → ⊥)
         (λ rows. GivesQuery (file_of file.now) lines.entry.now frame (see_query query.now) number rows.now) }
 {
-    let step = query.steps.last()?;
-    given_by_step(file, lines, frame, step, number)
+    match query.steps.last() {
+        Some(step) => given_by_step(file, lines, frame, step, number),
+        None => None,
+    }
 }
 
 /// Of an expression.

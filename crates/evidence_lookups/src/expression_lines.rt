@@ -37,11 +37,15 @@ pub fn expr_follows(
         Expr::Literal { tree, .. } => {
             // A tree has a root, as `len` says.
             let _nodes = tree.len();
-            kind == LineKind::Literal && is_literal(site, cites, rows)
+            match kind {
+                LineKind::Literal => is_literal(site, cites, rows),
+                _ => false,
+            }
         }
-        Expr::Found { query, .. } => {
-            kind == LineKind::Found && is_found_by(context, frame, query, cites, rows)
-        }
+        Expr::Found { query, .. } => match kind {
+            LineKind::Found => is_found_by(context, frame, query, cites, rows),
+            _ => false,
+        },
         Expr::Function { .. } => false,
         Expr::Query(_) => false,
     }

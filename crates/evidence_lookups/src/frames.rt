@@ -40,7 +40,7 @@ fn scope_at(file: &RuleFile, site: u32) -> Option<u32>
 }
 
 /// The scope that the step of an index is.
-fn scope_of_step(site: u32, query: &Query, index: usize) -> Option<u32>
+pub(crate) fn scope_of_step(site: u32, query: &Query, index: usize) -> Option<u32>
     ensures { (f : File) → result ≡ scope_of_step f site (step_in (steps_in (see_query query.now)) index) }
 {
     match query.steps.get(index) {
@@ -90,7 +90,7 @@ pub(crate) fn args_at(file: &RuleFile, site: u32) -> Option<&[Expr]>
 }
 
 /// The arguments of a part that is a call.
-fn args_of_part(part: &Part) -> Option<&[Expr]>
+pub(crate) fn args_of_part(part: &Part) -> Option<&[Expr]>
     ensures { option_map (λ args. expr_list (map see_expr args.now)) result ≡ args_of_part (see_part part.entry.now) }
 {
     match part {
