@@ -6,7 +6,7 @@ use thiserror::Error;
 #[derive(Clone, Copy, Debug, PartialEq, Eq, Error)]
 pub enum EvidenceRefusal {
     /// The number of the first line that is not in the format. The header is 0, and the line behind it 1.
-    #[error("line {0} is no line of evidence")]
+    #[error("a line that is none of evidence")]
     Syntax(u64),
     /// The allocator gave no memory.
     #[error("out of memory")]

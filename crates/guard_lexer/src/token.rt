@@ -61,13 +61,13 @@ pub enum Mark {
 #[derive(Clone, Copy, Debug, PartialEq, Eq, Error)]
 pub enum LexRefusal {
     /// A text, pattern or note without its end, at its opening quote, slash or `<<`.
-    #[error("a text, pattern or note without its end, at byte {0}")]
+    #[error("a text, pattern or note without its end")]
     Unclosed(u32),
     /// A byte that begins no token, or that stands directly behind a number.
-    #[error("a byte that begins no token, at byte {0}")]
+    #[error("a byte that begins no token")]
     BadByte(u32),
     /// A number out of range, at its first byte.
-    #[error("a number out of range, at byte {0}")]
+    #[error("a number out of range")]
     NumberRange(u32),
     /// The allocator gave no memory.
     #[error("out of memory")]

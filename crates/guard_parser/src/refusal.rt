@@ -5,13 +5,13 @@ use thiserror::Error;
 #[derive(Clone, Copy, Debug, PartialEq, Eq, Error)]
 pub enum ParseRefusal {
     /// A bracket opens while 128 are open: the first such bracket.
-    #[error("a bracket inside 128 others, at byte {0}")]
+    #[error("a bracket inside 128 others")]
     NestTooDeep(u32),
     /// No rule file begins with the tokens up to this one and with it; the text's length where more had to come.
-    #[error("no rule file goes on so, at byte {0}")]
+    #[error("no rule file goes on so")]
     Syntax(u32),
     /// A range with a whole and a decimal bound in what is else a rule file: the first such range.
-    #[error("a range with bounds of two kinds, at byte {0}")]
+    #[error("a range with bounds of two kinds")]
     BadRange(u32),
     /// The allocator gave no memory.
     #[error("out of memory")]

@@ -2,8 +2,7 @@
 use doc_values::Kind;
 use std::alloc::AllocError;
 use std::borrow::CowStr;
-use std::error::Error;
-use std::fmt::{self, Display, Formatter, Write};
+use thiserror::Error;
 
 /// What a scalar stands in.
 #[derive(Clone, Copy, Debug, PartialEq, Eq)]
@@ -28,46 +27,19 @@ pub struct Scalar<'s> {
 }
 
 /// Why no scalar is read.
-#[derive(Clone, Copy, Debug, PartialEq, Eq)]
+#[derive(Clone, Copy, Debug, PartialEq, Eq, Error)]
 pub enum ScalarRefusal {
     /// No text that agrees up to and with this byte offset has a scalar there, or the text ends too early, where it is
     /// the length.
+    #[error("no scalar goes on like this")]
     Syntax(u32),
     /// A mark between documents at this byte offset, inside quotation marks.
+    #[error("another document begins inside a scalar")]
     ManyDocuments(u32),
     /// The allocator gave no memory.
+    #[error("out of memory")]
     NoMemory,
 }
-
-impl ScalarRefusal {
-    /// What is wrong, and at which place.
-    fn words(self) -> (&'static str, Option<u32>) {
-        match self {
-            ScalarRefusal::Syntax(at) => ("no scalar goes on like this", Some(at)),
-            ScalarRefusal::ManyDocuments(at) => (
-                "another document begins inside a scalar",
-                Some(at),
-            ),
-            ScalarRefusal::NoMemory => ("out of memory", None),
-        }
-    }
-}
-
-impl Display for ScalarRefusal {
-    fn fmt<W: Write>(&self, f: &mut Formatter<W>) -> fmt::Result {
-        let (words, place) = self.words();
-        f.write_str(words)?;
-        match place {
-            None => Ok(()),
-            Some(at) => {
-                f.write_str(" at byte ")?;
-                Display::fmt(&at, f)
-            }
-        }
-    }
-}
-
-impl Error for ScalarRefusal {}
 
 impl From<AllocError> for ScalarRefusal {
     ghost use Rattle.std.specs.Prelude.{◌≡◌};
