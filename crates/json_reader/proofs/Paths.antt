@@ -7,6 +7,7 @@ use Rattle.std.proofs.lemmas.Bool.Decides.{Decides-eqb}
 use Rattle.doc_values.specs.Tree.{Forest}
 use Rattle.doc_values.specs.Unfinished.{Unfinished, start}
 use Rattle.json_reader.specs.declared.refusal.JsonRefusal.{JsonRefusal}
+use Rattle.json_reader.specs.declared.refusal.JsonRefusal.TheVariants.{Syntax}
 use Rattle.json_reader.specs.Json.{past, byte_order_mark, IsFront, Shape}
 use Rattle.json_reader.specs.Reading.{Phase, AtValue, Next, Stop, Go, next, cause, judged, ended, final, final_cause, judge, mark_stop, behind_mark, verdict}
 use Rattle.json_reader.proofs.Spellings.{past-append, past-length}
@@ -204,24 +205,33 @@ stopped bytes e m v = elim (either (starts_with nat_eq bytes byte_order_mark)) [
       (s.0, s.1, s.2, s.3, s.4, r, subst (λ k. StopsHere s.1 k s.2 s.3 e) (front_place [] s.0) s.6, λ z. subst NotMark (s.4 ∙ ap (λ x. x ++ s.1) z) n)
 ]
 
+cons_same : (x y : ℕ) (a b : List ℕ) → x ∷ a ≡ y ∷ b → (x ≡ y) × (a ≡ b)
+cons_same x y a b e = (cc, cc)
+
 -- the front of a text that is read, up to a line feed, leads to a state
 abbrev Marked : List ℕ → List ℕ → List ℕ → Type 0
 Marked pre s rest = (body : List ℕ) × (pre ≡ byte_order_mark ++ body) × (rest ≡ body ++ (10 ∷ s))
 
 behind_mark_is : (pre s rest : List ℕ) → pre ++ (10 ∷ s) ≡ byte_order_mark ++ rest → Marked pre s rest
-behind_mark_is [] s rest e = absurd (cc)
-behind_mark_is (x ∷ []) s rest e = absurd (cc)
-behind_mark_is (x ∷ y ∷ []) s rest e = absurd (cc)
+behind_mark_is [] s rest e = let first = cons_same 10 239 s (187 ∷ 191 ∷ rest) e in absurd (omega (arith, first.0))
+behind_mark_is (x ∷ []) s rest e =
+    let first = cons_same x 239 (10 ∷ s) (187 ∷ 191 ∷ rest) e in
+    let second = cons_same 10 187 s (191 ∷ rest) first.1 in
+    absurd (omega (arith, second.0))
+behind_mark_is (x ∷ y ∷ []) s rest e =
+    let first = cons_same x 239 (y ∷ 10 ∷ s) (187 ∷ 191 ∷ rest) e in
+    let second = cons_same y 187 (10 ∷ s) (191 ∷ rest) first.1 in
+    let third = cons_same 10 191 s rest second.1 in
+    absurd (omega (arith, third.0))
 behind_mark_is (x ∷ y ∷ z ∷ body) s rest e =
-    let a : x ≡ 239 = cc in
-    let b : y ≡ 187 = cc in
-    let c : z ≡ 191 = cc in
-    let d : body ++ (10 ∷ s) ≡ rest = cc in
-    (body, ap (λ n. n ∷ (y ∷ (z ∷ body))) a ∙ ap (λ n. 239 ∷ (n ∷ (z ∷ body))) b ∙ ap (λ n. 239 ∷ (187 ∷ (n ∷ body))) c, sym d)
+    let first = cons_same x 239 (y ∷ z ∷ (body ++ (10 ∷ s))) (187 ∷ 191 ∷ rest) e in
+    let second = cons_same y 187 (z ∷ (body ++ (10 ∷ s))) (191 ∷ rest) first.1 in
+    let third = cons_same z 191 (body ++ (10 ∷ s)) rest second.1 in
+    (body, ap (λ n. n ∷ (y ∷ (z ∷ body))) first.0 ∙ ap (λ n. 239 ∷ (n ∷ (z ∷ body))) second.0 ∙ ap (λ n. 239 ∷ (187 ∷ (n ∷ body))) third.0, sym third.1)
 
 some_mark : (bytes : List ℕ) (o : Option ℕ) (v : Forest) → mark_stop bytes ≡ o → behind_mark bytes o ≡ Ok v → mark_stop bytes ≡ None
 some_mark bytes None v m h = m
-some_mark bytes (Some n) v m h = absurd (cc)
+some_mark bytes (Some n) v m h = absurd (err_ok (Syntax n) v h)
 
 pub reached_line : (pre s : List ℕ) (v : Forest) → verdict (pre ++ (10 ∷ s)) ≡ Ok v → (q : Phase) × (w : Unfinished) × Reached pre q w
 reached_line pre s v h = elim (either (starts_with nat_eq (pre ++ (10 ∷ s)) byte_order_mark)) [

@@ -135,6 +135,9 @@ quoted_ends size (l ∷ ls) t e o k h = by_part (line_part (cond (begins_with 34
   by_part (Returned i) f g = absurd (cc)
   by_part (Refused i) f g = absurd (cc)
 
+byte_is : (b c : ℕ) → nat_eq b c ≡ true → b ≡ c
+byte_is b c e = grind (arith, nat_tests)
+
 -- what begins a block scalar begins no plain one
 marked_plain : (d : List ℕ) → (begins_with 124 d || begins_with 62 d) ≡ true → begins_plain false (line_at d) ≡ false
 marked_plain [] h = refl
@@ -146,7 +149,7 @@ marked_plain (b ∷ bs) h = by_break (begins_break b bs) where
 
   by_break : (q : Bool) → begins_plain false (cond q [] (b ∷ line_at bs)) ≡ false
   by_break true = refl
-  by_break false = is_one (nat_eq b 124) (nat_eq b 62) (λ e. grind (arith, nat_tests)) (λ e. grind (arith, nat_tests)) h
+  by_break false = is_one (nat_eq b 124) (nat_eq b 62) (byte_is b 124) (byte_is b 62) h
 
 marked_none : (text : List ℕ) (at : ℕ) (t : List ℕ) (e : ℕ) → (begins_with 124 (drop at text) || begins_with 62 (drop at text)) ≡ true → plain_scalar (as_key false) text at ≡ Stands t e → ⊥
 marked_none text at t e m k = by_tests (is_first_column text at && (is_mark bytes || is_cut_mark bytes)) (begins_plain false bytes) (marked_plain (drop at text) m) (sym (ap (plain_on (as_key false) (is_first_column text at)) (lines_are at (drop at text))) ∙ k) where

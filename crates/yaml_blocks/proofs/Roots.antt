@@ -1,5 +1,5 @@
 -- The root, and the document's beginning and end.
-use Rattle.std.proofs.Common.{◌≡◌, ℕ, ◌<◌, ◌≤◌, ◌+◌, ◌-◌, ◌*◌, inl, inr, Bool, true, false, ◌&&◌, List, [], ◌∷◌, Some, None, length, refl, sym, ap, ◌∙◌, subst, true≢false, cond, not, arith}
+use Rattle.std.proofs.Common.{◌≡◌, ℕ, ◌<◌, ◌≤◌, ◌+◌, ◌-◌, ◌*◌, inl, inr, Bool, true, false, ◌&&◌, List, [], ◌∷◌, Some, None, length, refl, sym, ap, ◌∙◌, subst, true≢false, cond, nat_eq, not, arith}
 use Rattle.std.proofs.lemmas.Bool.Decides.{nat_tests}
 use Rattle.std.specs.Prelude.{Result, Ok, Err, option_map}
 use Rattle.std.specs.Str.{IsCharBoundary, IsUtf8}
@@ -92,6 +92,21 @@ one_start text i j (inl (a, b, f)) (inr (c, d)) = absurd (c a)
 one_start text i j (inr (a, b)) (inl (c, d, g)) = absurd (a c)
 one_start text i j (inr (a, b)) (inr (c, d)) = b ∙ sym d
 
+no_sign : (s : Sign) → None ≡ Some s → ⊥
+no_sign s e = absurd (cc)
+
+some_same : (y s : Sign) → Some y ≡ Some s → y ≡ s
+some_same y s e = cc
+
+refused_same : (z y : Sign) → Refused z ≡ Refused y → z ≡ y
+refused_same z y e = cc
+
+tree_refused : (t : Forest) (y : Sign) → Tree t ≡ Refused y → ⊥
+tree_refused t y e = absurd (cc)
+
+no_percent : Dashes ≡ Percent → ⊥
+no_percent e = absurd (cc)
+
 -- the text comes to the tree, or to the sign
 abbrev pub Comes : List ℕ → Reading → Type 0
 Comes text (Tree t) = IsYaml text t
@@ -99,7 +114,7 @@ Comes text (Refused s) = Counts text s
 
 pub comes_begins : (text : List ℕ) (i : ℕ) (v : Reading) → IsStart text i → start_sign text ≡ None → Comes text v → Begins text i v
 comes_begins text i (Tree t) s n (l, kids, i', j, s', r, e, h) = (l, kids, To j, subst (λ n. IsRoot text l kids n (To j)) (one_start text i' i s' s) r, inl (e, ap Tree h))
-comes_begins text i (Refused z) s n (inl e) = absurd (let no : None ≡ Some z = sym n ∙ e in cc)
+comes_begins text i (Refused z) s n (inl e) = absurd (no_sign z (sym n ∙ e))
 comes_begins text i (Refused z) s n (inr (l, kids, i', s', inl r)) = (l, kids, Shows z, subst (λ n. IsRoot text l kids n (Shows z)) (one_start text i' i s' s) r, refl)
 comes_begins text i (Refused z) s n (inr (l, kids, i', s', inr (j, r, e))) = (l, kids, To j, subst (λ n. IsRoot text l kids n (To j)) (one_start text i' i s' s) r, inr (z, e, refl))
 
@@ -126,7 +141,7 @@ percent_none a e =
     ((λ h. (ap starts_scalar e, (λ m o. absurd (let no : Opens m ≡ Percent = sym o ∙ e in cc)))), (λ h d. absurd (let no : Dash ≡ Percent = sym d ∙ e in cc)), (λ h len t. absurd (let no : Tag len ≡ Percent = sym t ∙ e in cc)))
 
 percent_nowhere : (text : List ℕ) → (ahead text false (text_start text)).token ≡ Percent → (i : ℕ) (w : Reading) → IsStart text i → Begins text i w → ⊥
-percent_nowhere text p i w (inl (t, e, g)) h = absurd (let no : Dashes ≡ Percent = sym t ∙ p in cc)
+percent_nowhere text p i w (inl (t, e, g)) h = absurd (no_percent (sym t ∙ p))
 percent_nowhere text p i w (inr (n, e)) h =
     let here : (ahead text false i).token ≡ Percent = ap (λ k. (ahead text false k).token) e ∙ p in
     root_missing text [] [] Nil None i w refl (percent_none (ahead text false i) here) (unsigned_block Root (ahead text false i) (ap (node_sign false (ahead text false i).at) here)) (begins_node text i w (ap is_ending here) h)
@@ -151,31 +166,28 @@ signed_nowhere text s e = by_token (ahead text false (text_start text)).token re
   by_token : (t : Token) → a.token ≡ t → sign_before a b t ≡ Some s → (i : ℕ) (w : Reading) → IsStart text i → Begins text i w → ⊥
   by_token Percent t h = percent_nowhere text t
   by_token Dashes t h = marked_nowhere text t (both_first b.fresh (is_content b.token) (if_some (not b.fresh && is_content b.token) (ManyDocuments a.at) s h))
-  by_token End t h = absurd (cc)
-  by_token Dots t h = absurd (cc)
-  by_token Dash t h = absurd (cc)
-  by_token (Tag l) t h = absurd (cc)
-  by_token NoTag t h = absurd (cc)
-  by_token (Opens m) t h = absurd (cc)
-  by_token (Closes m) t h = absurd (cc)
-  by_token Comma t h = absurd (cc)
-  by_token (Point l) t h = absurd (cc)
-  by_token Anchor t h = absurd (cc)
-  by_token Tabbed t h = absurd (cc)
-  by_token Stray t h = absurd (cc)
-  by_token Other t h = absurd (cc)
+  by_token End t h = absurd (no_sign s h)
+  by_token Dots t h = absurd (no_sign s h)
+  by_token Dash t h = absurd (no_sign s h)
+  by_token (Tag l) t h = absurd (no_sign s h)
+  by_token NoTag t h = absurd (no_sign s h)
+  by_token (Opens m) t h = absurd (no_sign s h)
+  by_token (Closes m) t h = absurd (no_sign s h)
+  by_token Comma t h = absurd (no_sign s h)
+  by_token (Point l) t h = absurd (no_sign s h)
+  by_token Anchor t h = absurd (no_sign s h)
+  by_token Tabbed t h = absurd (no_sign s h)
+  by_token Stray t h = absurd (no_sign s h)
+  by_token Other t h = absurd (no_sign s h)
 
 start_counts : (text : List ℕ) (s : Sign) → start_sign text ≡ Some s → IsSignOf text s
 start_counts text s e = (inl e, (λ z y. same z (comes_nowhere text (Refused z) (signed_nowhere text s e) y)), (λ t y. none t (comes_nowhere text (Tree t) (signed_nowhere text s e) y))) where
   same : (z : Sign) → (y : Sign) × (start_sign text ≡ Some y) × (Refused z ≡ Refused y) → z ≡ s
   same z (y, h, r) =
-      let here : Some y ≡ Some s = sym h ∙ e in
-      let one : y ≡ s = cc in
-      let two : z ≡ y = cc in
-      two ∙ one
+      refused_same z y r ∙ some_same y s (sym h ∙ e)
 
   none : (t : Forest) → (y : Sign) × (start_sign text ≡ Some y) × (Tree t ≡ Refused y) → ⊥
-  none t (y, h, r) = absurd (cc)
+  none t (y, h, r) = tree_refused t y r
 
 pub start_refused : (text : List ℕ) (r : YamlRefusal) → Some r ≡ option_map of_sign (start_sign text) → Refuses text r
 start_refused text r e =
@@ -211,10 +223,10 @@ marked_refused text at behind next after ea en eb ef d f n =
     let free = untold (start_sign text) n in
     ((λ s y. by_sign s (comes_nowhere text (Refused s) nowhere y) free), (λ t y. by_tree t (comes_nowhere text (Tree t) nowhere y))) where
       by_sign : (s : Sign) → (y : Sign) × (start_sign text ≡ Some y) × (Refused s ≡ Refused y) → start_sign text ≡ None → ⊥
-      by_sign s (y, h, r) free = absurd (let bad : None ≡ Some y = sym free ∙ h in cc)
+      by_sign s (y, h, r) free = no_sign y (sym free ∙ h)
 
       by_tree : (t : Forest) → (y : Sign) × (start_sign text ≡ Some y) × (Tree t ≡ Refused y) → ⊥
-      by_tree t (y, h, r) = absurd (cc)
+      by_tree t (y, h, r) = tree_refused t y r
 
 -- where the document begins
 pub starts_behind : (text : List ℕ) (at behind : ℕ) (next after : Ahead) → at ≡ text_start text → next ≡ ahead text false at → behind ≡ next.behind → after ≡ ahead text false behind → next.token ≡ Dashes → after.fresh ≡ true → IsStart text behind
@@ -225,6 +237,9 @@ starts_behind text at behind next after ea en eb ef d f =
 pub starts_there : (text : List ℕ) (at : ℕ) (next : Ahead) → at ≡ text_start text → next ≡ ahead text false at → (next.token ≡ Dashes → ⊥) → IsStart text at
 starts_there text at next ea en n = inr ((λ d. n (ap (λ a. a.token) (en ∙ ap (ahead text false) ea) ∙ d)), ea)
 
+mark_bytes : (a b c : ℕ) → (nat_eq a 239 && (nat_eq b 187 && nat_eq c 191)) ≡ true → (a ≡ 239) × (b ≡ 187) × (c ≡ 191)
+mark_bytes a b c h = (grind (arith, nat_tests), grind (arith, nat_tests), grind (arith, nat_tests))
+
 -- a text may be cut behind a byte order mark
 pub order_mark_cut : (bytes : List ℕ) → IsUtf8 bytes → begins_order_mark bytes ≡ true → IsCharBoundary bytes 3
 unfolding lib.Utf8.encode
@@ -232,10 +247,8 @@ order_mark_cut [] u h = absurd (cc)
 order_mark_cut (a ∷ []) u h = absurd (cc)
 order_mark_cut (a ∷ b ∷ []) u h = absurd (cc)
 order_mark_cut (a ∷ b ∷ c ∷ bs) u h =
-    let x : a ≡ 239 = grind (arith, nat_tests, h) in
-    let y : b ≡ 187 = grind (arith, nat_tests, h) in
-    let z : c ≡ 191 = grind (arith, nat_tests, h) in
-    let e : (a ∷ b ∷ c ∷ bs) ≡ 239 ∷ 187 ∷ 191 ∷ bs = ap (λ k. k ∷ b ∷ c ∷ bs) x ∙ ap (λ k. 239 ∷ k ∷ c ∷ bs) y ∙ ap (λ k. 239 ∷ 187 ∷ k ∷ bs) z in
+    let m = mark_bytes a b c h in
+    let e : (a ∷ b ∷ c ∷ bs) ≡ 239 ∷ 187 ∷ 191 ∷ bs = ap (λ k. k ∷ b ∷ c ∷ bs) m.0 ∙ ap (λ k. 239 ∷ k ∷ c ∷ bs) m.1 ∙ ap (λ k. 239 ∷ 187 ∷ k ∷ bs) m.2 in
     IsCharBoundary-past_char (a ∷ b ∷ c ∷ bs) bs 0 65279 (omega arith) u e
 
 -- ---- the end

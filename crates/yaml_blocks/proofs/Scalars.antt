@@ -22,45 +22,54 @@ use Rattle.yaml_blocks.specs.Nodes.{as_key, starts_scalar, scalar_ahead}
 use Rattle.yaml_blocks.specs.Refused.{of_scalar}
 use Rattle.yaml_blocks.specs.Steps.{Found, Missed, Failed, Finds, Holds, leaf_text}
 
+fails_stands : (at j : ℕ) (t : List ℕ) → Fails at ≡ Stands t j → ⊥
+fails_stands at j t e = absurd (cc)
+
+fails_documents : (at p : ℕ) → Fails at ≡ Documents p → ⊥
+fails_documents at p e = absurd (cc)
+
+some_bytes : (x : ℕ) (xs : List ℕ) → x ∷ xs ≡ [] → ⊥
+some_bytes x xs e = absurd (cc)
+
 -- none at another token
 pub missed_other : (text : List ℕ) (s : Setting) (a : Ahead) → starts_scalar a.token ≡ false → Missed text s a
-missed_other text s a e = λ t j st. absurd (let no : Fails a.at ≡ Stands t j = sym (ap (λ b. cond b (scalar_at s text a.at) (Fails a.at)) e) ∙ st in cc)
+missed_other text s a e = λ t j st. fails_stands a.at j t (sym (ap (λ b. cond b (scalar_at s text a.at) (Fails a.at)) e) ∙ st)
 
 pub failed_other : (text : List ℕ) (s : Setting) (a : Ahead) → starts_scalar a.token ≡ false → Failed text s a
-failed_other text s a e = (missed_other text s a e, (λ p h. absurd (let no : Fails a.at ≡ Documents p = sym (ap (λ b. cond b (scalar_at s text a.at) (Fails a.at)) e) ∙ h in cc)))
+failed_other text s a e = (missed_other text s a e, (λ p h. fails_documents a.at p (sym (ap (λ b. cond b (scalar_at s text a.at) (Fails a.at)) e) ∙ h)))
 
 -- none at the text's end
 end_fails : (s : Setting) (size at : ℕ) (fresh : Bool) (d : List ℕ) (t : List ℕ) (j : ℕ) → d ≡ []
     → cond (begins_quoted d) (quoted_on s.one_line size (lines at d)) (cond (begins_block s d) (block_on s.parent size (lines at d)) (plain_on s fresh (lines at d))) ≡ Stands t j → ⊥
-end_fails s size at fresh (x ∷ xs) t j e h = absurd (cc)
+end_fails s size at fresh (x ∷ xs) t j e h = some_bytes x xs e
 end_fails s size at fresh [] t j e h = by_form (not (s.flow || s.one_line)) fresh h where
   by_form : (b f : Bool) → cond (b && false) (block_on s.parent size (lines at [])) (cond (f && false) (Fails (at + 3)) (Fails at)) ≡ Stands t j → ⊥
-  by_form true true g = absurd (cc)
-  by_form true false g = absurd (cc)
-  by_form false true g = absurd (cc)
-  by_form false false g = absurd (cc)
+  by_form true true g = fails_stands at j t g
+  by_form true false g = fails_stands at j t g
+  by_form false true g = fails_stands at j t g
+  by_form false false g = fails_stands at j t g
 
 end_single : (s : Setting) (size at : ℕ) (fresh : Bool) (d : List ℕ) (p : ℕ) → d ≡ []
     → cond (begins_quoted d) (quoted_on s.one_line size (lines at d)) (cond (begins_block s d) (block_on s.parent size (lines at d)) (plain_on s fresh (lines at d))) ≡ Documents p → ⊥
-end_single s size at fresh (x ∷ xs) p e h = absurd (cc)
+end_single s size at fresh (x ∷ xs) p e h = some_bytes x xs e
 end_single s size at fresh [] p e h = by_form (not (s.flow || s.one_line)) fresh h where
   by_form : (b f : Bool) → cond (b && false) (block_on s.parent size (lines at [])) (cond (f && false) (Fails (at + 3)) (Fails at)) ≡ Documents p → ⊥
-  by_form true true g = absurd (cc)
-  by_form true false g = absurd (cc)
-  by_form false true g = absurd (cc)
-  by_form false false g = absurd (cc)
+  by_form true true g = fails_documents at p g
+  by_form true false g = fails_documents at p g
+  by_form false true g = fails_documents at p g
+  by_form false false g = fails_documents at p g
 
 pub missed_end : (text : List ℕ) (s : Setting) (a : Ahead) → a.at ≡ length text → Missed text s a
 missed_end text s a e = λ t j st. by_start t j (starts_scalar a.token) st where
   by_start : (t : List ℕ) (j : ℕ) (q : Bool) → cond q (scalar_at s text a.at) (Fails a.at) ≡ Stands t j → ⊥
   by_start t j true h = end_fails s (length text) a.at (is_first_column text a.at) (drop a.at text) t j (drop_all a.at text (omega (arith, e))) h
-  by_start t j false h = absurd (cc)
+  by_start t j false h = fails_stands a.at j t h
 
 pub failed_end : (text : List ℕ) (s : Setting) (a : Ahead) → a.at ≡ length text → Failed text s a
 failed_end text s a e = (missed_end text s a e, (λ p h. by_start p (starts_scalar a.token) h)) where
   by_start : (p : ℕ) (q : Bool) → cond q (scalar_at s text a.at) (Fails a.at) ≡ Documents p → ⊥
   by_start p true h = end_single s (length text) a.at (is_first_column text a.at) (drop a.at text) p (drop_all a.at text (omega (arith, e))) h
-  by_start p false h = absurd (cc)
+  by_start p false h = fails_documents a.at p h
 
 -- the one that is read
 starts_at : (text : List ℕ) (s : Setting) (a : Ahead) → starts_scalar a.token ≡ true → scalar_ahead text s a ≡ scalar_at s text a.at
@@ -73,7 +82,7 @@ finds_scalar text s a c e h b = (starts_at text s a e ∙ h.0, h.1, b.0, b.2)
 pub finds_none : (text : List ℕ) (s : Setting) (a : Ahead) (r : ScalarRefusal) → starts_scalar a.token ≡ true → Answers (is_typed s text a.at) (scalar_at s text a.at) (Err r) → Finds text s a (Err (of_scalar r))
 finds_none text s a refusal.NoMemory e h = inl refl
 finds_none text s a (refusal.Syntax at) e h =
-    inr (inl (refl, ((λ t j st. absurd (let no : Fails at ≡ Stands t j = sym h ∙ sym (starts_at text s a e) ∙ st in cc)), (λ p d. absurd (let no : Fails at ≡ Documents p = sym h ∙ sym (starts_at text s a e) ∙ d in cc)))))
+    inr (inl (refl, ((λ t j st. fails_stands at j t (sym h ∙ sym (starts_at text s a e) ∙ st)), (λ p d. fails_documents at p (sym h ∙ sym (starts_at text s a e) ∙ d)))))
 finds_none text s a (refusal.ManyDocuments at) e h = inr (inr (at, refl, starts_at text s a e ∙ h))
 
 -- a key has no mark in it, whatever it ends by: a carriage return, a colon, a comment, another byte or the line's end
@@ -119,7 +128,7 @@ pub key_single : (flow : Bool) (text : List ℕ) (a : Ahead) (p : ℕ) → scala
 key_single flow text a p h = by_start (starts_scalar a.token) h where
   by_start : (q : Bool) → cond q (scalar_at (as_key flow) text a.at) (Fails a.at) ≡ Documents p → ⊥
   by_start true g = key_at flow text a.at p g
-  by_start false g = absurd (cc)
+  by_start false g = fails_documents a.at p g
 
 -- ---- kinds
 

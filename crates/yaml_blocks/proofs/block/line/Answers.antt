@@ -1,4 +1,8 @@
-use Rattle.yaml_blocks.specs.Steps.{stack}
+use Rattle.std.proofs.Common.{List, ◌+◌, ◌*◌, arith, subst}
+use Rattle.yaml_blocks.specs.declared.form.Form.{Form}
+use Rattle.yaml_blocks.specs.Rest.{Ends}
+use Rattle.yaml_blocks.specs.Steps.{stack, Gives}
+use Rattle.yaml_blocks.proofs.Gains.{gives_from}
 use Rattle.yaml_blocks.proofs.Quiet.{line_quiet}
 use Rattle.yaml_blocks.proofs.Roots.{not_true}
 use Rattle.yaml_blocks.proofs.BlockGains.{nothing_follows}
@@ -9,3 +13,14 @@ returns-then-not-next c =
     let text = c.args.text.now in
     let fs = stack c.args.forms.now.items in
     nothing_follows text fs c.args.builder.now c.args.at c.args.next c.requires.seen.0 c.requires.inside (line_quiet text c.args.next fs c.requires.open.1 c.requires.block (not_true c.args.next.fresh c.if-not-next.true))
+
+pub returns-in-Ok : goal.returns-in-Ok
+returns-in-Ok c =
+    let text = c.args.text.now in
+    let at = c.args.at in
+    let u = c.args.builder.now in
+    let w = c.end_before.new.builder in
+    let gs = stack c.end_before.new.forms.items in
+    let ended = c.in-Ok.ensures text at c.requires.seen.0 in
+    gives_from text (Ends text (stack c.args.forms.now.items) u.outer u.done at) (Ends text gs w.outer w.done at) (2 * at + 2) (2 * at + 2) gs c.head.new.builder c.head.result ended.0 (omega arith)
+    (subst (λ (x : List Form). Gives text (Ends text (stack x) w.outer w.done at) (2 * at + 2) (stack x) c.head.new.builder c.head.result) c.deref-in-Ok.ensures.value c.head.ensures)

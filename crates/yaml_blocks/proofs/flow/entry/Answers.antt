@@ -1,7 +1,9 @@
-use Rattle.std.proofs.Common.{sym, ap, ◌∙◌}
+use Rattle.std.proofs.Common.{List, ◌+◌, ◌*◌, sym, ap, subst, ◌∙◌}
 use Rattle.yaml_blocks.specs.declared.ahead.Token.TheVariants.{Closes}
 use Rattle.yaml_blocks.specs.declared.form.Form.TheVariants.{Flow}
-use Rattle.yaml_blocks.specs.Steps.{stack}
+use Rattle.yaml_blocks.specs.declared.form.Form.{Form}
+use Rattle.yaml_blocks.specs.Rest.{Enters}
+use Rattle.yaml_blocks.specs.Steps.{stack, Gives}
 use Rattle.yaml_blocks.proofs.Gains.{closed_entry_gives, marked_entry_gives, item_gives}
 use Rattle.yaml_blocks.proofs.flow.entry.Goals as goal
 
@@ -18,3 +20,10 @@ returns-else-map c =
 pub returns-then-is_marked : goal.returns-then-is_marked
 returns-then-is_marked c =
     marked_entry_gives c.args.text.now c.args.map (stack c.args.forms.now.items) c.args.builder.now c.args.at c.offset.result c.look-next.result c.look-next.ensures.0 c.offset.ensures (sym c.is_marked.ensures ∙ c.if-is_marked.true) c.requires.form c.requires.open
+
+pub returns-then-map : goal.returns-then-map
+returns-then-map c =
+    let text = c.args.text.now in
+    let at = c.args.at in
+    let u = c.args.builder.now in
+    subst (λ (x : List Form). Gives text (Enters text (stack x) u.outer u.done at) (2 * at + 2) (stack x) c.key.new.builder c.key.result) c.deref.ensures.value c.key.ensures

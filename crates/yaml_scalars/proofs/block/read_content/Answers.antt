@@ -1,5 +1,7 @@
 use Rattle.std.proofs.Common.{◌≡◌, ℕ, List, [], ◌-◌, ◌≤◌, length, get_or, drop, arith, subst, sym, ◌∙◌, ap, true, false, Some, None}
 use Rattle.std.specs.Prelude.{string_bytes}
+use Rattle.std.specs.Str.{IsCharBoundary}
+use Rattle.std.proofs.lemmas.Str.{IsCharBoundary-end}
 use Rattle.yaml_scalars.specs.Lines.{lines}
 use Rattle.yaml_scalars.specs.Block.{is_content, return_behind}
 use Rattle.yaml_scalars.specs.Walk.{line_at, has_break, behind}
@@ -63,3 +65,19 @@ loop-place-preserved c =
       omega (arith, c.loop-place.invariant.3, found.1, added.few),
       c.loop-place.invariant.4 ∙ content_next c.args.style text place next (string_bytes c.loop-place.reading.text) (last_seen c.loop-place.reading.last) c.loop-place.reading.empties (line_at (drop c.content_start-begin.result text)) (string_bytes reading.text) (last_seen reading.last) reading.empties h r c.content_start-begin.ensures.part n k added.text added.last added.empties,
     )
+
+pub content_start-begin-requires-clause-content : goal.content_start-begin-requires-clause-content
+content_start-begin-requires-clause-content c = subst (λ (b : List ℕ). is_content c.args.style.inner (line_at (drop c.loop-place.place b)) ≡ true) c.as_bytes-bytes.ensures.value (sym c.is_content.ensures ∙ c.if-not-is_content.false)
+
+pub returns-then-not-is_content-clause-end : goal.returns-then-not-is_content-clause-end
+returns-then-not-is_content-clause-end c =
+    let text = c.args.text.now in
+    let before = c.loop-place.invariant in
+    subst (λ k. (c.args.start ≤ k) × (k ≤ length text) × IsCharBoundary text k) (sym c.in_ok-finish.ensures.end) (before.0, before.1, before.2)
+
+pub returns-in-None-clause-end : goal.returns-in-None-clause-end
+returns-in-None-clause-end c =
+    let text = c.args.text.now in
+    let before = c.loop-place.invariant in
+    let whole = ap (λ (b : List ℕ). length b) c.as_bytes-bytes.ensures.value in
+    subst (λ k. (c.args.start ≤ k) × (k ≤ length text) × IsCharBoundary text k) (sym (c.in_ok-finish-in-None.ensures.end ∙ whole)) (omega (arith, before.0, before.1), omega arith, IsCharBoundary-end text)

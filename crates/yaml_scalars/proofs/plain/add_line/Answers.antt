@@ -1,4 +1,4 @@
-use Rattle.std.proofs.Common.{◌≡◌, ℕ, List, ◌+◌, drop, false, subst, sym, ap, ◌∙◌}
+use Rattle.std.proofs.Common.{◌≡◌, ℕ, List, ◌+◌, drop, false, subst, sym, ap, ◌∙◌, ◌<◌, ◌≤◌, length, get_or}
 use Rattle.std.specs.Prelude.{string_bytes}
 use Rattle.yaml_scalars.specs.declared.plain_line.Why.TheVariants.{Break, Return, Colon, Comment, Mark}
 use Rattle.yaml_scalars.specs.Lines.{Fails}
@@ -59,3 +59,39 @@ returns-in_ok-end_on-in-Mark-clause-ok c =
     let e = subst (λ (t : List ℕ). stop ≡ c.args.line.begin + plain_len c.args.setting.flow false (line_at (drop c.args.line.begin t))) v c.plain_end-stop.ensures.end in
     let w = subst (λ (t : List ℕ). Mark ≡ why (line_at (drop stop t))) v (sym c.in-Mark.is ∙ c.why_at.ensures) in
     ends_same c.args.setting c.args.text.now c.args.line _ _ _ _ _ (line_mark c.args.setting c.args.text.now c.args.line stop (string_bytes c.args.reading.now.text) c.args.reading.now.end e w) c.in_ok-end_on-in-Mark.ensures.ok c.in_ok-end_on-in-Mark.ensures.next
+
+pub push_content-requires-clause-order : goal.push_content-requires-clause-order
+push_content-requires-clause-order c = let stop = c.plain_end-stop.result in subst (λ (t : List ℕ). stop ≡ c.args.line.begin + plain_len c.args.setting.flow false (line_at (drop c.args.line.begin t))) c.as_bytes-bytes.ensures.value c.plain_end-stop.ensures.end
+
+pub push_content-requires-clause-within : goal.push_content-requires-clause-within
+push_content-requires-clause-within c = let stop = c.plain_end-stop.result in subst (λ (t : List ℕ). stop ≤ length t) c.as_bytes-bytes.ensures.value c.plain_end-stop.ensures.within
+
+pub push_content-requires-clause-edge : goal.push_content-requires-clause-edge
+push_content-requires-clause-edge c = let stop = c.plain_end-stop.result in subst (λ (t : List ℕ). stop < length t → get_or t stop 0 < 128) c.as_bytes-bytes.ensures.value c.plain_end-stop.ensures.edge
+
+pub push_content-requires-in-Comment-clause-order : goal.push_content-requires-in-Comment-clause-order
+push_content-requires-in-Comment-clause-order c = let stop = c.plain_end-stop.result in subst (λ (t : List ℕ). stop ≡ c.args.line.begin + plain_len c.args.setting.flow false (line_at (drop c.args.line.begin t))) c.as_bytes-bytes.ensures.value c.plain_end-stop.ensures.end
+
+pub push_content-requires-in-Comment-clause-within : goal.push_content-requires-in-Comment-clause-within
+push_content-requires-in-Comment-clause-within c = let stop = c.plain_end-stop.result in subst (λ (t : List ℕ). stop ≤ length t) c.as_bytes-bytes.ensures.value c.plain_end-stop.ensures.within
+
+pub push_content-requires-in-Comment-clause-edge : goal.push_content-requires-in-Comment-clause-edge
+push_content-requires-in-Comment-clause-edge c = let stop = c.plain_end-stop.result in subst (λ (t : List ℕ). stop < length t → get_or t stop 0 < 128) c.as_bytes-bytes.ensures.value c.plain_end-stop.ensures.edge
+
+pub end_on-requires-clause-order : goal.end_on-requires-clause-order
+end_on-requires-clause-order c = let stop = c.plain_end-stop.result in subst (λ (t : List ℕ). stop ≡ c.args.line.begin + plain_len c.args.setting.flow false (line_at (drop c.args.line.begin t))) c.as_bytes-bytes.ensures.value c.plain_end-stop.ensures.end
+
+pub end_on-requires-clause-within : goal.end_on-requires-clause-within
+end_on-requires-clause-within c = let stop = c.plain_end-stop.result in subst (λ (t : List ℕ). stop ≤ length t) c.as_bytes-bytes.ensures.value c.plain_end-stop.ensures.within
+
+pub end_on-requires-clause-edge : goal.end_on-requires-clause-edge
+end_on-requires-clause-edge c = let stop = c.plain_end-stop.result in subst (λ (t : List ℕ). stop < length t → get_or t stop 0 < 128) c.as_bytes-bytes.ensures.value c.plain_end-stop.ensures.edge
+
+pub end_on-requires-in-Mark-clause-order : goal.end_on-requires-in-Mark-clause-order
+end_on-requires-in-Mark-clause-order c = let stop = c.plain_end-stop.result in subst (λ (t : List ℕ). stop ≡ c.args.line.begin + plain_len c.args.setting.flow false (line_at (drop c.args.line.begin t))) c.as_bytes-bytes.ensures.value c.plain_end-stop.ensures.end
+
+pub end_on-requires-in-Mark-clause-within : goal.end_on-requires-in-Mark-clause-within
+end_on-requires-in-Mark-clause-within c = let stop = c.plain_end-stop.result in subst (λ (t : List ℕ). stop ≤ length t) c.as_bytes-bytes.ensures.value c.plain_end-stop.ensures.within
+
+pub end_on-requires-in-Mark-clause-edge : goal.end_on-requires-in-Mark-clause-edge
+end_on-requires-in-Mark-clause-edge c = let stop = c.plain_end-stop.result in subst (λ (t : List ℕ). stop < length t → get_or t stop 0 < 128) c.as_bytes-bytes.ensures.value c.plain_end-stop.ensures.edge

@@ -125,3 +125,23 @@ returns-in_default-clause-end c =
     let more : at < end = omega (arith, size, some, ap (λ (t : List ℕ). length t) slice) in
     let edge = subst (λ (t : List ℕ). end < length t → slice_index t end < 128) v (c.trim_end-end.ensures.edge c.plain_end-stop.ensures.edge) in
     subst (λ e. IsEndOf text at e) (sym c.scalar.ensures.end) (end_of text at end more fits edge)
+
+pub range-requires-clause-end_boundary : goal.range-requires-clause-end_boundary
+range-requires-clause-end_boundary c =
+    let text = c.args.text.now in
+    let at = c.args.at in
+    let flow = c.args.setting.flow in
+    let v = c.as_bytes-bytes.ensures.value in
+    let b = subst (λ (t : List ℕ). true ≡ begins_plain flow (line_at (drop at t))) v (sym c.if-not-begins_plain.false ∙ c.begins_plain.ensures) in
+    let stop = c.plain_end-stop.result in
+    let e = subst (λ (t : List ℕ). stop ≡ at + plain_len flow false (line_at (drop at t))) v c.plain_end-stop.ensures.end in
+    let end = c.trim_end-end.result in
+    let trim = subst (λ (t : List ℕ). take (end - at) (drop at t) ≡ trimmed (take (stop - at) (drop at t))) v c.trim_end-end.ensures.part in
+    let slice = content_is flow text at end stop e trim in
+    let within = subst (λ (t : List ℕ). stop ≤ length t) v c.plain_end-stop.ensures.within in
+    let fits : end ≤ length text = omega (arith, within, c.trim_end-end.ensures.to) in
+    let size = slice_length text (take (end - at) (drop at text)) at end c.trim_end-end.ensures.from fits refl in
+    let some = content_some flow (line_at (drop at text)) (sym b) in
+    let more : at < end = omega (arith, size, some, ap (λ (t : List ℕ). length t) slice) in
+    let edge = subst (λ (t : List ℕ). end < length t → slice_index t end < 128) v (c.trim_end-end.ensures.edge c.plain_end-stop.ensures.edge) in
+    let ends = end_of text at end more fits edge in ends.2

@@ -133,3 +133,27 @@ returns-in-Wrong c =
     let more = c.ends_line.ensures.more c.if-ends_line.false in
     subst (λ (t : List ℕ). from quote one_line t at old ≡ Fails (stop + c.in-Wrong.behind)) v
     (from_wrong quote bytes at stop c.first_special-stop.ensures.from c.first_special-stop.ensures.within (λ k l m. sym (c.requires.specials (get_or bytes k 0)) ∙ c.first_special-stop.ensures.before k l m) one_line old (get_or bytes stop 0) more.1 c.in-Wrong.behind c.in-Wrong.ensures.is)
+
+pub range-requires-2-clause-end_boundary : goal.range-requires-2-clause-end_boundary
+range-requires-2-clause-end_boundary c =
+    let bytes = c.as_bytes-bytes.result.now in
+    let stop = c.first_special-stop.result in
+    subst (λ (t : List ℕ). IsCharBoundary t stop) c.as_bytes-bytes.ensures.value
+    (cut_before bytes c.args.quote stop stop (omega arith) c.first_special-stop.ensures.within (λ l. absurd (omega (arith, l))) (λ l. sym (c.requires.specials (get_or bytes stop 0)) ∙ c.first_special-stop.ensures.found l))
+
+pub read_break-requires-clause-over : goal.read_break-requires-clause-over
+read_break-requires-clause-over c = c.ends_line.ensures.over c.if-ends_line.true
+
+pub read_break-requires-in-Joins-clause-over : goal.read_break-requires-in-Joins-clause-over
+read_break-requires-in-Joins-clause-over c = c.in-Joins.ensures.ends
+
+pub meaning_at-requires-clause-within : goal.meaning_at-requires-clause-within
+meaning_at-requires-clause-within c = let more = c.ends_line.ensures.more c.if-ends_line.false in more.0
+
+pub meaning_at-requires-clause-inside : goal.meaning_at-requires-clause-inside
+meaning_at-requires-clause-inside c = let more = c.ends_line.ensures.more c.if-ends_line.false in more.1
+
+pub meaning_at-requires-clause-special : goal.meaning_at-requires-clause-special
+meaning_at-requires-clause-special c =
+    let more = c.ends_line.ensures.more c.if-ends_line.false in
+    sym (c.requires.specials (get_or c.as_bytes-bytes.result.now c.first_special-stop.result 0)) ∙ c.first_special-stop.ensures.found more.0

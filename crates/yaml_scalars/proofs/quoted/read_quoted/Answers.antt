@@ -1,9 +1,10 @@
 use Rattle.std.proofs.Common.{◌≡◌, ℕ, List, [], ◌+◌, ◌-◌, ◌≤◌, ◌⊎◌, length, take, drop, get_or, arith, refl, sym, subst, ap, ◌∙◌}
+use Rattle.std.specs.Str.{IsCharBoundary}
 use Rattle.yaml_scalars.specs.Lines.{Stands}
 use Rattle.yaml_scalars.specs.Quoted.{piece}
 use Rattle.yaml_scalars.specs.QuotedSteps.{from}
 use Rattle.yaml_scalars.specs.Walk.{line_at}
-use Rattle.yaml_scalars.proofs.QuotedGoing.{cut_behind, quote_ascii, answers_refused}
+use Rattle.yaml_scalars.proofs.QuotedGoing.{cut_behind, cut_before, quote_ascii, answers_refused}
 use Rattle.yaml_scalars.proofs.QuotedRuns.{quote_is, quote_ahead, quoted_begins, from_closes}
 use Rattle.yaml_scalars.proofs.quoted.read_quoted.Goals as goal
 
@@ -63,3 +64,19 @@ returns-in-Ok-clause-answer c =
 
 pub returns-in-Ok-clause-end : goal.returns-in-Ok-clause-end
 returns-in-Ok-clause-end c = let h = c.in-Ok.ensures in (omega (arith, h.1), h.2, cut_behind c.args.text.now c.in-Ok.end c.utf8.text (omega (arith, h.1)) h.2 h.3)
+
+pub range-requires-clause-end_boundary : goal.range-requires-clause-end_boundary
+range-requires-clause-end_boundary c =
+    let bytes = c.as_bytes-bytes.result.now in
+    let stop = c.first_special-stop.result in
+    subst (λ (t : List ℕ). IsCharBoundary t stop) c.as_bytes-bytes.ensures.value
+    (cut_before bytes (get_or bytes c.args.at 0) stop stop (omega arith) c.first_special-stop.ensures.within (λ l. absurd (omega (arith, l))) (λ l. sym (c.specials-specials.ensures (get_or bytes stop 0)) ∙ c.first_special-stop.ensures.found l))
+
+pub closes-requires-clause-quote : goal.closes-requires-clause-quote
+closes-requires-clause-quote c = subst (λ (t : List ℕ). (get_or t c.args.at 0 ≡ 34) ⊎ (get_or t c.args.at 0 ≡ 39)) (sym c.as_bytes-bytes.ensures.value) (quote_is c.args.text.now c.args.at c.requires.within c.requires.quoted)
+
+pub decoded_from-requires-clause-quote : goal.decoded_from-requires-clause-quote
+decoded_from-requires-clause-quote c = subst (λ (t : List ℕ). (get_or t c.args.at 0 ≡ 34) ⊎ (get_or t c.args.at 0 ≡ 39)) (sym c.as_bytes-bytes.ensures.value) (quote_is c.args.text.now c.args.at c.requires.within c.requires.quoted)
+
+pub decoded_from-requires-clause-ascii : goal.decoded_from-requires-clause-ascii
+decoded_from-requires-clause-ascii c = quote_ascii c.args.text.now c.args.at (quote_is c.args.text.now c.args.at c.requires.within c.requires.quoted)
