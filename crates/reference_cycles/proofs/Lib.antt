@@ -1,3 +1,4 @@
+mod LeadsInTurn
 mod EdgesToParts
 mod StepsAt
 mod CycleFaults

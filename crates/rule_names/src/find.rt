@@ -22,15 +22,17 @@ fn in_body<'f>(body: &'f Body, site: u32) -> Option<Piece<'f>>
     if body.site == site {
         return Some(Piece::Body(body));
     }
-    if last_site(&body.lets, site) > last_site(&body.parts, site) {
-        match in_lets(&body.lets, site) {
+    let lets = body.lets.as_slice();
+    let parts = body.parts.as_slice();
+    if last_site(lets, site) > last_site(parts, site) {
+        match in_lets(lets, site) {
             Some(piece) => Some(piece),
-            None => in_disjs(&body.parts, site),
+            None => in_disjs(parts, site),
         }
     } else {
-        match in_disjs(&body.parts, site) {
+        match in_disjs(parts, site) {
             Some(piece) => Some(piece),
-            None => in_lets(&body.lets, site),
+            None => in_lets(lets, site),
         }
     }
 }
@@ -267,15 +269,17 @@ fn in_items<'f>(file: &'f RawFile, site: u32) -> Option<Piece<'f>>
     requires { IsIncreasing (merge (sites_rules (see_file file.now).rules) (sites_disjs (see_file file.now).loose)) }
     ensures { option_map see_piece result ≡ piece_in (pieces_rules (see_file file.entry.now).rules ++ pieces_disjs (see_file file.entry.now).loose) site }
 {
-    if last_site(&file.rules, site) > last_site(&file.loose, site) {
-        match in_rules(&file.rules, site) {
+    let rules = file.rules.as_slice();
+    let loose = file.loose.as_slice();
+    if last_site(rules, site) > last_site(loose, site) {
+        match in_rules(rules, site) {
             Some(piece) => Some(piece),
-            None => in_disjs(&file.loose, site),
+            None => in_disjs(loose, site),
         }
     } else {
-        match in_disjs(&file.loose, site) {
+        match in_disjs(loose, site) {
             Some(piece) => Some(piece),
-            None => in_rules(&file.rules, site),
+            None => in_rules(rules, site),
         }
     }
 }
@@ -288,17 +292,17 @@ pub fn in_file<'f>(file: &'f RawFile, site: u32) -> Option<Piece<'f>>
     if site == 0 {
         return Some(Piece::File);
     }
-    if last_site(&file.lets, site)
-        > max(last_site(&file.rules, site), last_site(&file.loose, site))
-    {
-        match in_lets(&file.lets, site) {
+    let lets = file.lets.as_slice();
+    let last_item = max(last_site(&file.rules, site), last_site(&file.loose, site));
+    if last_site(lets, site) > last_item {
+        match in_lets(lets, site) {
             Some(piece) => Some(piece),
             None => in_items(file, site),
         }
     } else {
         match in_items(file, site) {
             Some(piece) => Some(piece),
-            None => in_lets(&file.lets, site),
+            None => in_lets(lets, site),
         }
     }
 }

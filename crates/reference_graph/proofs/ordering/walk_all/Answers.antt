@@ -1,6 +1,16 @@
 use Rattle.std.proofs.Common.{◌<◌, arith}
+use borrow.Author.Count.{below_more}
+use Rattle.rule_names.specs.Marks.{IsMarked}
 use Rattle.reference_graph.proofs.OnCycle.{settled-no-cycle, walk-ordered}
 use Rattle.reference_graph.proofs.ordering.walk_all.Goals as goal
+
+pub loop-root-preserved : goal.loop-root-preserved
+loop-root-preserved c =
+    let met = rw c.if-not-ended.false at c.in_ok-ended.ensures in
+    record {
+      walked = met.0;
+      begun = below_more (λ a. IsMarked c.visit.new.walk.begun.items a) c.loop-root.root (λ a l. met.1.kept a (c.loop-root.invariant.begun a l)) met.1.here;
+    }
 
 pub returns-then-not-ended : goal.returns-then-not-ended
 returns-then-not-ended c =

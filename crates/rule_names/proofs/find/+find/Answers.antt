@@ -1,43 +1,49 @@
-use Rattle.std.proofs.Common.{ap, sym, ◌∙◌, subst, arith, rules, List, get_or, Option}
-use Rattle.guard_syntax.specs.Seen.{see_query, see_opt_conds}
+use Rattle.std.proofs.Common.{◌≡◌, ℕ, ap, sym, ◌∙◌, subst, arith, rules, refl, List, [], ◌∷◌, map, get_or, Option, Some}
+use Rattle.guard_syntax.specs.Syntax as sx
+use Rattle.guard_syntax.specs.Seen.{Form, see_query, see_conds, see_form, see_expr, see_opt_conds, expr_list}
 use Rattle.guard_syntax.specs.Sites.{sites_opt_conds}
 use Rattle.guard_syntax.specs.declared.syntax.Conds.{Conds, the_lemmas}
 use Rattle.guard_syntax.specs.declared.syntax.Step.{Step}
-use Rattle.rule_names.specs.Pieces.{piece_in, pieces_opt_conds}
+use Rattle.guard_syntax.specs.declared.syntax.StepForm.{StepForm}
+use Rattle.guard_syntax.specs.declared.syntax.StepForm as form
+use Rattle.guard_syntax.specs.declared.syntax.Expr.{Expr}
+use Rattle.rule_names.specs.Forms.{pieces_form}
+use Rattle.rule_names.specs.Pieces.{Sited, OfExpr, piece_in, pieces_opt_conds, pieces_expr, pieces_exprs}
+use Rattle.rule_names.proofs.Parts.{here, elsewhere}
 use Rattle.rule_names.specs.IncreasingSites.{IsIncreasing}
 use Rattle.rule_names.proofs.Lists.{lets-sorted, lets-rise, lets-chosen, lets-none, disjs-sorted, disjs-rise, disjs-chosen, disjs-none, parts-sorted, parts-rise, parts-chosen, parts-none, exprs-sorted, exprs-rise, exprs-chosen, exprs-none, steps-sorted, steps-rise, steps-chosen, steps-none}
-use Rattle.rule_names.proofs.Shapes.{let-here, let-inner, let-rise, disj-here, disj-inner, disj-rise, conds-rise, body-lets-rise, body-parts-rise, body-in-lets, body-not-lets, body-in-parts, body-not-parts, block-rise, block-head, block-body, when-rise, when-conds, when-body, kinds-rise, kinds-conds, kinds-body, test-rise, test-left, test-right, call-rise, function-rise, query-rise, query-inner, step-here, step-inner, step-rise}
+use Rattle.rule_names.proofs.Shapes.{let-here, let-inner, let-rise, disj-here, disj-inner, disj-rise, conds-rise, body-lets-rise, body-parts-rise, body-in-lets, body-not-lets, body-in-parts, body-not-parts, block-rise, block-head, block-body, when-rise, when-conds, when-body, kinds-rise, kinds-conds, kinds-body, test-rise, test-left, test-right, call-rise, function-rise, query-rise, query-inner, function-seen, step-here, step-inner, step-rise}
 use Rattle.rule_names.proofs.find.+find.Goals as goal
 
 pub in_body-last_site-requires : goal.in_body-last_site-requires
-in_body-last_site-requires t c = lets-sorted _ (body-lets-rise c.args.body.now _ c.deref.ensures.value c.requires)
+in_body-last_site-requires t c = lets-sorted _ (body-lets-rise c.args.body.now _ c.as_slice-lets.ensures.value c.requires)
 
 pub in_body-last_site-requires-2 : goal.in_body-last_site-requires-2
-in_body-last_site-requires-2 t c = disjs-sorted _ (body-parts-rise c.args.body.now _ c.deref-2.ensures.value c.requires)
+in_body-last_site-requires-2 t c = disjs-sorted _ (body-parts-rise c.args.body.now _ c.as_slice-parts.ensures.value c.requires)
 
 pub in_body-in_lets-requires : goal.in_body-in_lets-requires
-in_body-in_lets-requires t c = (search (rules, the_lemmas), body-lets-rise c.args.body.now _ c.deref-then-gt.ensures.value c.requires)
+in_body-in_lets-requires t c = (search (rules, the_lemmas), body-lets-rise c.args.body.now _ c.as_slice-lets.ensures.value c.requires)
 
 pub in_body-in_disjs-requires : goal.in_body-in_disjs-requires
-in_body-in_disjs-requires t c = (search (rules, the_lemmas), body-parts-rise c.args.body.now _ c.deref-in-None.ensures.value c.requires)
+in_body-in_disjs-requires t c = (search (rules, the_lemmas), body-parts-rise c.args.body.now _ c.as_slice-parts.ensures.value c.requires)
 
 pub in_body-in_disjs-requires-else-gt : goal.in_body-in_disjs-requires-else-gt
-in_body-in_disjs-requires-else-gt t c = (search (rules, the_lemmas), body-parts-rise c.args.body.now _ c.deref-else-gt.ensures.value c.requires)
+in_body-in_disjs-requires-else-gt t c = (search (rules, the_lemmas), body-parts-rise c.args.body.now _ c.as_slice-parts.ensures.value c.requires)
 
 pub in_body-in_lets-requires-in-None-in_disjs : goal.in_body-in_lets-requires-in-None-in_disjs
-in_body-in_lets-requires-in-None-in_disjs t c = (search (rules, the_lemmas), body-lets-rise c.args.body.now _ c.deref-in-None-in_disjs.ensures.value c.requires)
+in_body-in_lets-requires-in-None-in_disjs t c = (search (rules, the_lemmas), body-lets-rise c.args.body.now _ c.as_slice-lets.ensures.value c.requires)
 
 pub in_body-returns-in-Some : goal.in_body-returns-in-Some
-in_body-returns-in-Some t c = body-in-lets c.args.site c.args.body.now _ _ c.deref-then-gt.ensures.value c.if-body-site.false c.in-Some.ensures
+in_body-returns-in-Some t c = body-in-lets c.args.site c.args.body.now _ _ c.as_slice-lets.ensures.value c.if-body-site.false c.in-Some.ensures
 
 pub in_body-returns-in-None : goal.in_body-returns-in-None
-in_body-returns-in-None t c = c.in_disjs.ensures ∙ body-not-lets c.args.site c.args.body.now _ _ c.deref-then-gt.ensures.value c.deref-in-None.ensures.value c.if-body-site.false c.in-None.ensures
+in_body-returns-in-None t c = c.in_disjs.ensures ∙ body-not-lets c.args.site c.args.body.now _ _ c.as_slice-lets.ensures.value c.as_slice-parts.ensures.value c.if-body-site.false c.in-None.ensures
 
 pub in_body-returns-in-Some-in_disjs : goal.in_body-returns-in-Some-in_disjs
-in_body-returns-in-Some-in_disjs t c = body-in-parts c.args.site c.args.body.now _ _ c.deref-else-gt.ensures.value c.if-body-site.false c.requires c.in-Some-in_disjs.ensures
+in_body-returns-in-Some-in_disjs t c = body-in-parts c.args.site c.args.body.now _ _ c.as_slice-parts.ensures.value c.if-body-site.false c.requires c.in-Some-in_disjs.ensures
 
 pub in_body-returns-in-None-in_disjs : goal.in_body-returns-in-None-in_disjs
-in_body-returns-in-None-in_disjs t c = c.in_lets-in-None-in_disjs.ensures ∙ body-not-parts c.args.site c.args.body.now _ _ c.deref-in-None-in_disjs.ensures.value c.deref-else-gt.ensures.value c.if-body-site.false c.in-None-in_disjs.ensures
+in_body-returns-in-None-in_disjs t c = c.in_lets-in-None-in_disjs.ensures ∙ body-not-parts c.args.site c.args.body.now _ _ c.as_slice-lets.ensures.value c.as_slice-parts.ensures.value c.if-body-site.false c.in-None-in_disjs.ensures
 
 pub in_conds-in_disjs-requires : goal.in_conds-in_disjs-requires
 in_conds-in_disjs-requires t c = (search (rules, the_lemmas), conds-rise c.args.conds.now _ c.deref.ensures.value c.requires)
@@ -167,3 +173,60 @@ in_query-returns-else-found-site t c = c.in_form.ensures ∙ step-inner c.args.s
 
 pub in_query-returns-in-None : goal.in_query-returns-in-None
 in_query-returns-in-None t c = steps-none (see_query c.args.query.now) c.args.site c.deref.result.now (query-rise c.args.query.now c.deref.result.now c.deref.ensures.value c.requires) c.in-None.ensures ∙ query-inner c.args.site c.args.query.now c.deref.result.now c.deref.ensures.value c.if-query-site.false
+
+-- what stands in a form, by the syntax that it is seen as
+by_form : (n : ℕ) (f g : StepForm) (fn : Form) → f ≡ g → see_form g ≡ fn → piece_in (pieces_form fn) n ≡ piece_in (pieces_form (see_form f)) n
+by_form n f g fn is seen = ap (λ (s : Form). piece_in (pieces_form s) n) (sym (ap see_form is ∙ seen))
+
+pub in_form-returns-in-Filter : goal.in_form-returns-in-Filter
+in_form-returns-in-Filter t c = c.in_conds.ensures ∙ by_form c.args.site c.args.form.now (form.Filter c.in-Filter.field-0 c.in-Filter.conds) (λ n. sx.filter n c.in-Filter.field-0 (see_conds c.in-Filter.conds)) c.in-Filter.is (search (rules, the_lemmas))
+
+pub in_form-returns-in-Keys : goal.in_form-returns-in-Keys
+in_form-returns-in-Keys t c =
+    c.in_expr.ensures ∙ by_form c.args.site c.args.form.now (form.Keys c.in-Keys.capture c.in-Keys.op c.in-Keys.not c.in-Keys.right) (λ n. sx.keys n c.in-Keys.capture c.in-Keys.op c.in-Keys.not (see_expr c.in-Keys.right)) c.in-Keys.is (search (rules, the_lemmas))
+
+pub in_form-returns-in-This : goal.in_form-returns-in-This
+in_form-returns-in-This t c = by_form c.args.site c.args.form.now form.This (λ n. sx.this n) c.in-This.is (search (rules, the_lemmas))
+
+pub in_form-returns-in-Var : goal.in_form-returns-in-Var
+in_form-returns-in-Var t c = by_form c.args.site c.args.form.now (form.Var c.in-Var.field-0) (λ n. sx.var n c.in-Var.field-0) c.in-Var.is (search (rules, the_lemmas))
+
+pub in_form-returns-in-Key : goal.in_form-returns-in-Key
+in_form-returns-in-Key t c = by_form c.args.site c.args.form.now (form.Key c.in-Key.field-0) (λ n. sx.key n c.in-Key.field-0) c.in-Key.is (search (rules, the_lemmas))
+
+pub in_form-returns-in-Index : goal.in_form-returns-in-Index
+in_form-returns-in-Index t c = by_form c.args.site c.args.form.now (form.Index c.in-Index.field-0) (λ n. sx.index n c.in-Index.field-0) c.in-Index.is (search (rules, the_lemmas))
+
+pub in_form-returns-in-Every : goal.in_form-returns-in-Every
+in_form-returns-in-Every t c = by_form c.args.site c.args.form.now form.Every (λ n. sx.every n) c.in-Every.is (search (rules, the_lemmas))
+
+pub in_form-returns-in-Items : goal.in_form-returns-in-Items
+in_form-returns-in-Items t c = by_form c.args.site c.args.form.now form.Items (λ n. sx.items n) c.in-Items.is (search (rules, the_lemmas))
+
+pub in_form-returns-in-Splice : goal.in_form-returns-in-Splice
+in_form-returns-in-Splice t c = by_form c.args.site c.args.form.now (form.Splice c.in-Splice.field-0) (λ n. sx.splice n c.in-Splice.field-0) c.in-Splice.is (search (rules, the_lemmas))
+
+-- what stands in an expression, at its own site and behind it
+expr_here : (n : ℕ) (x : Expr) (e : sx.Expr) (m : ℕ) (ps : List Sited) → see_expr x ≡ e → pieces_expr e ≡ (m, OfExpr e) ∷ ps → m ≡ n → Some (OfExpr (see_expr x)) ≡ piece_in (pieces_expr (see_expr x)) n
+expr_here n x e m ps seen are is =
+    ap (λ (y : sx.Expr). Some (OfExpr y)) seen ∙ sym (ap (λ (l : List Sited). piece_in l n) are ∙ here n m (OfExpr e) ps is) ∙ ap (λ (y : sx.Expr). piece_in (pieces_expr y) n) (sym seen)
+
+expr_inner : (n : ℕ) (x : Expr) (e : sx.Expr) (m : ℕ) (ps : List Sited) → see_expr x ≡ e → pieces_expr e ≡ (m, OfExpr e) ∷ ps → (m ≡ n → ⊥) → piece_in ps n ≡ piece_in (pieces_expr (see_expr x)) n
+expr_inner n x e m ps seen are other = sym (ap (λ (l : List Sited). piece_in l n) are ∙ elsewhere n m (OfExpr e) ps other) ∙ ap (λ (y : sx.Expr). piece_in (pieces_expr y) n) (sym seen)
+
+pub in_expr-returns-then-own-site : goal.in_expr-returns-then-own-site
+in_expr-returns-then-own-site t c =
+    expr_here c.args.site c.args.expr.now (sx.literal c.in-Literal.own c.in-Literal.tree) c.in-Literal.own [] (ap see_expr c.in-Literal.is ∙ search (rules, the_lemmas)) refl c.if-own-site.true
+
+pub in_expr-returns-else-own-site : goal.in_expr-returns-else-own-site
+in_expr-returns-else-own-site t c =
+    expr_inner c.args.site c.args.expr.now (sx.literal c.in-Literal.own c.in-Literal.tree) c.in-Literal.own [] (ap see_expr c.in-Literal.is ∙ search (rules, the_lemmas)) refl c.if-own-site.false
+
+pub in_expr-returns-then-own-site-2 : goal.in_expr-returns-then-own-site-2
+in_expr-returns-then-own-site-2 t c =
+    expr_here c.args.site c.args.expr.now _ c.in-Function.own _ (ap see_expr c.in-Function.is ∙ function-seen c.in-Function.own c.in-Function.name c.in-Function.args) refl c.if-own-site-2.true
+
+pub in_expr-returns-else-own-site-2 : goal.in_expr-returns-else-own-site-2
+in_expr-returns-else-own-site-2 t c =
+    c.in_exprs.ensures ∙ ap (λ (l : List Expr). piece_in (pieces_exprs (expr_list (map see_expr l))) c.args.site) c.deref.ensures.value
+    ∙ expr_inner c.args.site c.args.expr.now _ c.in-Function.own (pieces_exprs (expr_list (map see_expr c.in-Function.args.items))) (ap see_expr c.in-Function.is ∙ function-seen c.in-Function.own c.in-Function.name c.in-Function.args) refl c.if-own-site-2.false
