@@ -1,8 +1,8 @@
 //! Bodies, their parts and conditions. The grammar recurs through brackets alone, each time one level of depth less.
-ghost use Rattle.std.specs.Prelude.{◌≤◌, true, false, map};
+ghost use Rattle.std.specs.Prelude.{◌≤◌, map};
 ghost use Rattle.guard_syntax.specs.Seen.{see_body, see_conds, see_disj, see_let, see_part, see_query, see_opt_conds, see_opt_expr};
 ghost use Rattle.literal_parser.specs.Reads.{Reads, state_of};
-ghost use Rattle.guard_parser.specs.GrammarReads.{see_disjs, see_items, see_parts, body_at, body_end_at, body_items_at, called_at, cond_at, cond_part_at, conds_at, disj_at, disjs_front_at, full_part_at, guarded_at, headed_at, inner_body_at, judged_at, kinds_at, led_at, led_by_name_at, let_at, opt_conds_at, ors_front_at, right_at, ruled_at, tested_at};
+ghost use Rattle.guard_parser.specs.GrammarReads.{see_disjs, see_items, see_parts, body_at, body_end_at, body_items_at, called_at, cond_at, cond_part_at, conds_at, disj_at, disjs_front_at, full_part_at, guarded_at, headed_at, inner_body_at, judged_at, kinds_at, led_at, led_by_name_at, let_at, opt_conds_at, ors_front_at, part_at, right_at, ruled_at, tested_at};
 
 use crate::leaf_rules::{is_binary, lead_of, note, operator};
 use crate::read_query::{expr, exprs, query, value};
@@ -85,7 +85,7 @@ fn body_items(
         if !cursor.sees(tokens, TokenTest::Part) {
             return Ok((lets, parts));
         }
-        match disj(alloc, tokens, cursor, depth) {
+        match disj(alloc, tokens, cursor, depth, true) {
             Ok(found) => parts.push(found)?,
             Err(e) => return Err(e),
         }
@@ -113,7 +113,7 @@ pub(crate) fn let_of(
     Ok(Let { site, name, value })
 }
 
-/// Parts of a body joined by `or`.
+/// Parts joined by `or`: those of a body, or conditions.
 #[cycle(grammar)]
 #[tactic(auto, unfolding(crate::specs::Reading::disj_of))]
 pub(crate) fn disj(
@@ -121,14 +121,15 @@ pub(crate) fn disj(
     tokens: Tokens<'_>,
     cursor: &mut Cursor,
     depth: usize,
+    full: bool,
 ) -> Result<Disj, Halt>
     requires room { depth ≤ 128 }
-    ensures { Reads see_disj (disj_at tokens.entry depth true (state_of cursor.old) cursor.old.seen) result cursor.new }
+    ensures { Reads see_disj (disj_at tokens.entry depth full (state_of cursor.old) cursor.old.seen) result cursor.new }
 {
     let site = cursor.opens(tokens)?;
     let mut parts = Vec::new(alloc);
-    parts.push(full_part(alloc, tokens, cursor, depth)?)?;
-    let parts = ors(alloc, tokens, cursor, depth, parts)?;
+    parts.push(part(alloc, tokens, cursor, depth, full)?)?;
+    let parts = ors(alloc, tokens, cursor, depth, full, parts)?;
     Ok(Disj { site, parts })
 }
 
@@ -139,10 +140,11 @@ fn ors(
     tokens: Tokens<'_>,
     cursor: &mut Cursor,
     depth: usize,
+    full: bool,
     found: Vec<Part>,
 ) -> Result<Vec<Part>, Halt>
     requires room { depth ≤ 128 }
-    ensures { Reads see_parts (ors_front_at tokens.entry depth true (map see_part found.items) tokens.entry.turns (state_of cursor.old) cursor.old.seen) result cursor.new }
+    ensures { Reads see_parts (ors_front_at tokens.entry depth full (map see_part found.items) tokens.entry.turns (state_of cursor.old) cursor.old.seen) result cursor.new }
 {
     let mut found = found;
     for _turn in 0..tokens.turns {
@@ -150,51 +152,27 @@ fn ors(
             return Ok(found);
         }
         cursor.takes(tokens, TokenTest::Or)?;
-        found.push(full_part(alloc, tokens, cursor, depth)?)?;
+        found.push(part(alloc, tokens, cursor, depth, full)?)?;
     }
     Err(Halt::Dead(cursor.seen))
 }
 
-/// Conditions joined by `or`.
+/// A part of a body, or a condition.
 #[cycle(grammar)]
-#[tactic(auto, unfolding(crate::specs::Reading::disj_of))]
-fn cond_disj(
+fn part(
     alloc: Global,
     tokens: Tokens<'_>,
     cursor: &mut Cursor,
     depth: usize,
-) -> Result<Disj, Halt>
+    full: bool,
+) -> Result<Part, Halt>
     requires room { depth ≤ 128 }
-    ensures { Reads see_disj (disj_at tokens.entry depth false (state_of cursor.old) cursor.old.seen) result cursor.new }
+    ensures { Reads see_part (part_at tokens.entry depth full (state_of cursor.old) cursor.old.seen) result cursor.new }
 {
-    let site = cursor.opens(tokens)?;
-    let mut parts = Vec::new(alloc);
-    parts.push(cond_part(alloc, tokens, cursor, depth)?)?;
-    let parts = cond_ors(alloc, tokens, cursor, depth, parts)?;
-    Ok(Disj { site, parts })
-}
-
-#[cycle(grammar)]
-#[tactic(auto, unfolding(crate::specs::Reading::ors, literal_parser::specs::Parser::choose))]
-fn cond_ors(
-    alloc: Global,
-    tokens: Tokens<'_>,
-    cursor: &mut Cursor,
-    depth: usize,
-    found: Vec<Part>,
-) -> Result<Vec<Part>, Halt>
-    requires room { depth ≤ 128 }
-    ensures { Reads see_parts (ors_front_at tokens.entry depth false (map see_part found.items) tokens.entry.turns (state_of cursor.old) cursor.old.seen) result cursor.new }
-{
-    let mut found = found;
-    for _turn in 0..tokens.turns {
-        if !cursor.sees(tokens, TokenTest::Or) {
-            return Ok(found);
-        }
-        cursor.takes(tokens, TokenTest::Or)?;
-        found.push(cond_part(alloc, tokens, cursor, depth)?)?;
+    if full {
+        return full_part(alloc, tokens, cursor, depth);
     }
-    Err(Halt::Dead(cursor.seen))
+    cond_part(alloc, tokens, cursor, depth)
 }
 
 #[cycle(grammar)]
@@ -307,7 +285,7 @@ pub(crate) fn conds(
 {
     let site = cursor.opens(tokens)?;
     let mut parts = Vec::new(alloc);
-    parts.push(cond_disj(alloc, tokens, cursor, depth)?)?;
+    parts.push(disj(alloc, tokens, cursor, depth, false)?)?;
     let parts = disjs(alloc, tokens, cursor, depth, parts)?;
     Ok(Conds { site, parts })
 }
@@ -329,7 +307,7 @@ fn disjs(
         if !cursor.sees(tokens, TokenTest::Cond) {
             return Ok(found);
         }
-        found.push(cond_disj(alloc, tokens, cursor, depth)?)?;
+        found.push(disj(alloc, tokens, cursor, depth, false)?)?;
     }
     Err(Halt::Dead(cursor.seen))
 }

@@ -111,7 +111,7 @@ fn items(
         if !cursor.sees(tokens, TokenTest::Part) {
             return Ok(found);
         }
-        let part = match disj(alloc, tokens, cursor, depth) {
+        let part = match disj(alloc, tokens, cursor, depth, true) {
             Ok(part) => part,
             Err(halt) => return Err(halt),
         };

@@ -7,7 +7,7 @@ use Rattle.literal_parser.specs.Reads.{state_of, source, Reads}
 use Rattle.guard_parser.specs.GrammarReads.{with_items, body_items_at, see_items, let_at, disj_at, body_end_at, body_at, cond_at, led_at, with_front, ors_at, disjs_at, more_exprs_at, steps_at, see_exprs}
 use Rattle.guard_syntax.specs.Seen.{see_disj, see_let, see_body, see_part, see_expr, see_step, see_conds}
 use Rattle.guard_syntax.specs.Syntax as sx
-use Rattle.std.proofs.Common.{◌≡◌, ℕ, ◌-◌, ◌+◌, true, map, refl, ap, sym, ◌∙◌, subst, Bool, cond, length, ◌≢◌, arith, false}
+use Rattle.std.proofs.Common.{◌≡◌, ℕ, ◌-◌, ◌+◌, ◌*◌, ◌<◌, true≢false, true, map, refl, ap, sym, ◌∙◌, subst, Bool, cond, length, ◌≢◌, arith, false}
 use Rattle.std.proofs.lemmas.List.{map-append}
 use Rattle.guard_parser.proofs.+grammar.Goals as goal
 
@@ -109,26 +109,6 @@ read::cond-returns t c =
     (saw s is_neg _ _ (state_of c.sees.new.self) c.sees.new.self.seen c.sees-2.ensures.token c.if-sees-2.false c.sees-2.ensures.state c.sees-2.ensures.seen refl) in
     subst (λ (o : Outcome sx.Part). Reads see_part o c.led.result c.led.new.cursor) (sym same) c.led.ensures
 
-pub read::cond_ors-returns-then-not-sees : goal.read::cond_ors-returns-then-not-sees
-unfolding ors
-read::cond_ors-returns-then-not-sees t c =
-    let front = map see_part c.loop-turn.found.items in
-    sym c.loop-turn.invariant
-    ∙ ap (λ (k : ℕ). with_front sx.more_parts front (ors_at c.args.tokens c.args.depth false k (state_of c.loop-turn.cursor) c.loop-turn.cursor.seen)) (one_more c.args.tokens.turns c.loop-turn._turn c.loop-turn-test.true)
-    ∙ ap (with_front sx.more_parts front) (saw (source c.args.tokens) is_or _ _ (state_of c.loop-turn.cursor) c.loop-turn.cursor.seen c.sees.ensures.token c.if-not-sees.true c.sees.ensures.state c.sees.ensures.seen refl)
-
-pub read::cond_ors-loop-turn-preserved : goal.read::cond_ors-loop-turn-preserved
-unfolding ors
-read::cond_ors-loop-turn-preserved t c =
-    let front = map see_part c.loop-turn.found.items in
-    let longer = ap (map see_part) c.in_ok-push.ensures.items ∙ map-append see_part c.loop-turn.found.items _ in
-    let left : ℕ = c.args.tokens.turns - (c.loop-turn._turn + 1) in
-    ap (λ xs. with_front sx.more_parts xs (ors_at c.args.tokens c.args.depth false left (state_of c.cond_part.new.cursor) c.cond_part.new.cursor.seen)) longer
-    ∙ sym (one_turn sx.more_parts front _ (ors_at c.args.tokens c.args.depth false left (state_of c.cond_part.new.cursor) c.cond_part.new.cursor.seen))
-    ∙ sym (ap (with_front sx.more_parts front) (saw (source c.args.tokens) is_or _ _ (state_of c.loop-turn.cursor) c.loop-turn.cursor.seen c.sees.ensures.token c.if-not-sees.false c.sees.ensures.state c.sees.ensures.seen (then_read _ c.in_ok-takes.ensures (then_read _ c.in_ok-cond_part.ensures refl))))
-    ∙ sym (ap (λ (k : ℕ). with_front sx.more_parts front (ors_at c.args.tokens c.args.depth false k (state_of c.loop-turn.cursor) c.loop-turn.cursor.seen)) (one_more c.args.tokens.turns c.loop-turn._turn c.loop-turn-test.true))
-    ∙ c.loop-turn.invariant
-
 pub read::disjs-returns-then-not-sees : goal.read::disjs-returns-then-not-sees
 unfolding disjs
 read::disjs-returns-then-not-sees t c =
@@ -143,9 +123,9 @@ read::disjs-loop-turn-preserved t c =
     let front = map see_disj c.loop-turn.found.items in
     let longer = ap (map see_disj) c.in_ok-push.ensures.items ∙ map-append see_disj c.loop-turn.found.items _ in
     let left : ℕ = c.args.tokens.turns - (c.loop-turn._turn + 1) in
-    ap (λ xs. with_front sx.more_disjs xs (disjs_at c.args.tokens c.args.depth left (state_of c.cond_disj.new.cursor) c.cond_disj.new.cursor.seen)) longer
-    ∙ sym (one_turn sx.more_disjs front _ (disjs_at c.args.tokens c.args.depth left (state_of c.cond_disj.new.cursor) c.cond_disj.new.cursor.seen))
-    ∙ sym (ap (with_front sx.more_disjs front) (saw (source c.args.tokens) begins_cond _ _ (state_of c.loop-turn.cursor) c.loop-turn.cursor.seen c.sees.ensures.token c.if-not-sees.false c.sees.ensures.state c.sees.ensures.seen (then_read _ c.in_ok-cond_disj.ensures refl)))
+    ap (λ xs. with_front sx.more_disjs xs (disjs_at c.args.tokens c.args.depth left (state_of c.disj.new.cursor) c.disj.new.cursor.seen)) longer
+    ∙ sym (one_turn sx.more_disjs front _ (disjs_at c.args.tokens c.args.depth left (state_of c.disj.new.cursor) c.disj.new.cursor.seen))
+    ∙ sym (ap (with_front sx.more_disjs front) (saw (source c.args.tokens) begins_cond _ _ (state_of c.loop-turn.cursor) c.loop-turn.cursor.seen c.sees.ensures.token c.if-not-sees.false c.sees.ensures.state c.sees.ensures.seen (then_read _ c.in_ok-disj.ensures refl)))
     ∙ sym (ap (λ (k : ℕ). with_front sx.more_disjs front (disjs_at c.args.tokens c.args.depth k (state_of c.loop-turn.cursor) c.loop-turn.cursor.seen)) (one_more c.args.tokens.turns c.loop-turn._turn c.loop-turn-test.true))
     ∙ c.loop-turn.invariant
 
@@ -169,12 +149,20 @@ read_query::more_exprs-loop-turn-preserved t c =
     ∙ sym (ap (λ (k : ℕ). with_front sx.more_exprs front (more_exprs_at c.args.tokens c.args.depth k (state_of c.loop-turn.cursor) c.loop-turn.cursor.seen)) (one_more c.args.tokens.turns c.loop-turn._turn c.loop-turn-test.true))
     ∙ c.loop-turn.invariant
 
+-- the parts of a body come behind those of conditions
+part_falls : (depth t : ℕ) (full : Bool) → full ≡ true → 64 * depth + 19 + cond full 8 0 ≡ t → 64 * depth + 26 < t
+part_falls depth t true e is = omega (arith, is)
+part_falls depth t false e is = absurd (true≢false (sym e))
+
+pub read::part-full_part-requires : goal.read::part-full_part-requires
+read::part-full_part-requires t c = (part_falls c.args.depth t c.args.full c.if-full.true c.decreases, c.requires.room)
+
 pub read::ors-returns-then-not-sees : goal.read::ors-returns-then-not-sees
 unfolding ors
 read::ors-returns-then-not-sees t c =
     let front = map see_part c.loop-turn.found.items in
     sym c.loop-turn.invariant
-    ∙ ap (λ (k : ℕ). with_front sx.more_parts front (ors_at c.args.tokens c.args.depth true k (state_of c.loop-turn.cursor) c.loop-turn.cursor.seen)) (one_more c.args.tokens.turns c.loop-turn._turn c.loop-turn-test.true)
+    ∙ ap (λ (k : ℕ). with_front sx.more_parts front (ors_at c.args.tokens c.args.depth c.args.full k (state_of c.loop-turn.cursor) c.loop-turn.cursor.seen)) (one_more c.args.tokens.turns c.loop-turn._turn c.loop-turn-test.true)
     ∙ ap (with_front sx.more_parts front) (saw (source c.args.tokens) is_or _ _ (state_of c.loop-turn.cursor) c.loop-turn.cursor.seen c.sees.ensures.token c.if-not-sees.true c.sees.ensures.state c.sees.ensures.seen refl)
 
 pub read::ors-loop-turn-preserved : goal.read::ors-loop-turn-preserved
@@ -183,10 +171,10 @@ read::ors-loop-turn-preserved t c =
     let front = map see_part c.loop-turn.found.items in
     let longer = ap (map see_part) c.in_ok-push.ensures.items ∙ map-append see_part c.loop-turn.found.items _ in
     let left : ℕ = c.args.tokens.turns - (c.loop-turn._turn + 1) in
-    ap (λ xs. with_front sx.more_parts xs (ors_at c.args.tokens c.args.depth true left (state_of c.full_part.new.cursor) c.full_part.new.cursor.seen)) longer
-    ∙ sym (one_turn sx.more_parts front _ (ors_at c.args.tokens c.args.depth true left (state_of c.full_part.new.cursor) c.full_part.new.cursor.seen))
-    ∙ sym (ap (with_front sx.more_parts front) (saw (source c.args.tokens) is_or _ _ (state_of c.loop-turn.cursor) c.loop-turn.cursor.seen c.sees.ensures.token c.if-not-sees.false c.sees.ensures.state c.sees.ensures.seen (then_read _ c.in_ok-takes.ensures (then_read _ c.in_ok-full_part.ensures refl))))
-    ∙ sym (ap (λ (k : ℕ). with_front sx.more_parts front (ors_at c.args.tokens c.args.depth true k (state_of c.loop-turn.cursor) c.loop-turn.cursor.seen)) (one_more c.args.tokens.turns c.loop-turn._turn c.loop-turn-test.true))
+    ap (λ xs. with_front sx.more_parts xs (ors_at c.args.tokens c.args.depth c.args.full left (state_of c.part.new.cursor) c.part.new.cursor.seen)) longer
+    ∙ sym (one_turn sx.more_parts front _ (ors_at c.args.tokens c.args.depth c.args.full left (state_of c.part.new.cursor) c.part.new.cursor.seen))
+    ∙ sym (ap (with_front sx.more_parts front) (saw (source c.args.tokens) is_or _ _ (state_of c.loop-turn.cursor) c.loop-turn.cursor.seen c.sees.ensures.token c.if-not-sees.false c.sees.ensures.state c.sees.ensures.seen (then_read _ c.in_ok-takes.ensures (then_read _ c.in_ok-part.ensures refl))))
+    ∙ sym (ap (λ (k : ℕ). with_front sx.more_parts front (ors_at c.args.tokens c.args.depth c.args.full k (state_of c.loop-turn.cursor) c.loop-turn.cursor.seen)) (one_more c.args.tokens.turns c.loop-turn._turn c.loop-turn-test.true))
     ∙ c.loop-turn.invariant
 
 pub read_query::steps-returns-then-not-sees : goal.read_query::steps-returns-then-not-sees

@@ -1,8 +1,12 @@
 use Rattle.literal_parser.specs.Reads.{state_of}
 use Rattle.guard_parser.specs.GrammarReads.{with_items, body_items_at, ors_front_at, disjs_front_at, more_exprs_front_at, steps_front_at}
 use Rattle.guard_syntax.specs.Seen.{see_disj, see_let, see_part, see_expr, see_step}
-use Rattle.std.proofs.Common.{◌≡◌, map, ◌-◌, false, true, ◌+◌, ◌*◌}
+use Rattle.std.proofs.Common.{◌≡◌, ℕ, Bool, cond, map, ◌-◌, ◌+◌, ◌*◌}
 use Rattle.guard_parser.proofs.+grammar.Given as goal
+
+-- the parts of a body come behind those of conditions
+abbrev later : Bool → ℕ
+later full = cond full 8 0
 
 abbrev pub decreases-read::body : goal.decreases-read::body
 decreases-read::body l = 64 * l.depth
@@ -97,51 +101,43 @@ decreases-read::cond l = 64 * l.depth + 17
 abbrev pub decreases-read::cond_part : goal.decreases-read::cond_part
 decreases-read::cond_part l = 64 * l.depth + 18
 
-abbrev pub decreases-read::cond_ors : goal.decreases-read::cond_ors
-decreases-read::cond_ors l = 64 * l.depth + 19
-
-abbrev pub decreases-read::cond_disj : goal.decreases-read::cond_disj
-decreases-read::cond_disj l = 64 * l.depth + 20
-
-abbrev pub decreases-read::disjs : goal.decreases-read::disjs
-decreases-read::disjs l = 64 * l.depth + 21
-
-abbrev pub decreases-read::conds : goal.decreases-read::conds
-decreases-read::conds l = 64 * l.depth + 22
-
-abbrev pub decreases-read::guarded : goal.decreases-read::guarded
-decreases-read::guarded l = 64 * l.depth + 23
-
-abbrev pub decreases-read::opt_conds : goal.decreases-read::opt_conds
-decreases-read::opt_conds l = 64 * l.depth + 23
-
-abbrev pub decreases-read::kinds : goal.decreases-read::kinds
-decreases-read::kinds l = 64 * l.depth + 24
-
-abbrev pub decreases-read::full_part : goal.decreases-read::full_part
-decreases-read::full_part l = 64 * l.depth + 25
+abbrev pub decreases-read::part : goal.decreases-read::part
+decreases-read::part l = 64 * l.depth + 19 + later l.full
 
 abbrev pub decreases-read::ors : goal.decreases-read::ors
-decreases-read::ors l = 64 * l.depth + 26
+decreases-read::ors l = 64 * l.depth + 20 + later l.full
 
 abbrev pub decreases-read::disj : goal.decreases-read::disj
-decreases-read::disj l = 64 * l.depth + 27
+decreases-read::disj l = 64 * l.depth + 21 + later l.full
+
+abbrev pub decreases-read::disjs : goal.decreases-read::disjs
+decreases-read::disjs l = 64 * l.depth + 22
+
+abbrev pub decreases-read::conds : goal.decreases-read::conds
+decreases-read::conds l = 64 * l.depth + 23
+
+abbrev pub decreases-read::guarded : goal.decreases-read::guarded
+decreases-read::guarded l = 64 * l.depth + 24
+
+abbrev pub decreases-read::opt_conds : goal.decreases-read::opt_conds
+decreases-read::opt_conds l = 64 * l.depth + 24
+
+abbrev pub decreases-read::kinds : goal.decreases-read::kinds
+decreases-read::kinds l = 64 * l.depth + 25
+
+abbrev pub decreases-read::full_part : goal.decreases-read::full_part
+decreases-read::full_part l = 64 * l.depth + 26
 
 abbrev pub decreases-read::body_items : goal.decreases-read::body_items
-decreases-read::body_items l = 64 * l.depth + 28
+decreases-read::body_items l = 64 * l.depth + 30
 
 abbrev pub decreases-read::body_of : goal.decreases-read::body_of
-decreases-read::body_of l = 64 * l.depth + 29
+decreases-read::body_of l = 64 * l.depth + 31
 
 abbrev pub invariant-read::body_items-loop-turn : goal.invariant-read::body_items-loop-turn
 invariant-read::body_items-loop-turn l =
     with_items (map see_let l.lets.items) (map see_disj l.parts.items) (body_items_at l.tokens l.depth (l.tokens.turns - l._turn) (state_of l.cursor) l.cursor.seen)
     ≡ body_items_at l.tokens l.depth l.tokens.turns (state_of l.fn.cursor) l.fn.cursor.seen
-
-abbrev pub invariant-read::cond_ors-loop-turn : goal.invariant-read::cond_ors-loop-turn
-invariant-read::cond_ors-loop-turn l =
-    ors_front_at l.tokens l.depth false (map see_part l.found.items) (l.tokens.turns - l._turn) (state_of l.cursor) l.cursor.seen
-    ≡ ors_front_at l.tokens l.depth false (map see_part l.initial.found.items) l.tokens.turns (state_of l.fn.cursor) l.fn.cursor.seen
 
 abbrev pub invariant-read::disjs-loop-turn : goal.invariant-read::disjs-loop-turn
 invariant-read::disjs-loop-turn l =
@@ -155,8 +151,8 @@ invariant-read_query::more_exprs-loop-turn l =
 
 abbrev pub invariant-read::ors-loop-turn : goal.invariant-read::ors-loop-turn
 invariant-read::ors-loop-turn l =
-    ors_front_at l.tokens l.depth true (map see_part l.found.items) (l.tokens.turns - l._turn) (state_of l.cursor) l.cursor.seen
-    ≡ ors_front_at l.tokens l.depth true (map see_part l.initial.found.items) l.tokens.turns (state_of l.fn.cursor) l.fn.cursor.seen
+    ors_front_at l.tokens l.depth l.full (map see_part l.found.items) (l.tokens.turns - l._turn) (state_of l.cursor) l.cursor.seen
+    ≡ ors_front_at l.tokens l.depth l.full (map see_part l.initial.found.items) l.tokens.turns (state_of l.fn.cursor) l.fn.cursor.seen
 
 abbrev pub invariant-read_query::steps-loop-turn : goal.invariant-read_query::steps-loop-turn
 invariant-read_query::steps-loop-turn l =
