@@ -1,5 +1,5 @@
 //! The nodes of a tree that grows.
-ghost use Rattle.std.specs.Prelude.{◌≡◌, ℕ, ◌<◌, List, [], ◌∷◌, ◌++◌, length, slice_index_or, OnErr, OnOk, Option, None};
+ghost use Rattle.std.specs.Prelude.{◌≡◌, ℕ, ◌<◌, List, [], ◌∷◌, ◌++◌, length, slice_index_or, OnErr, OnOk, Option, None, vec_capacity, vec_len};
 ghost use Rattle.std.specs.Cow.{cow_str_bytes};
 ghost use Rattle.doc_values.specs.Texts.{key_text};
 ghost use Rattle.doc_values.specs.Rows.{Row};
@@ -96,15 +96,10 @@ impl<'s> Arena<'s> {
         ensures err { OnErr result ((self.new ≡ self.old) × (key.new ≡ key.old)) }
         ensures small { length self.new < 4294967295 }
     {
-        let count = self.nodes.len();
-        if NODES <= count {
-            return Err(AllocError);
-        }
+        make_room(&mut self.nodes, &mut self.starts, &mut self.slots)?;
         let kind = StoredKind::of(self.alloc, kind)?;
-        self.nodes.reserve(1)?;
-        self.starts.reserve(1)?;
-        self.slots.reserve(1)?;
-        self.keys.add_if(seat.under, key, count as u32)?;
+        let number = self.nodes.len() as u32;
+        self.keys.add_if(seat.under, key, number)?;
         self.starts.push_reserved(0);
         self.slots.push_reserved(0);
         self.nodes.push_reserved(Node {
@@ -116,4 +111,26 @@ impl<'s> Arena<'s> {
         });
         Ok(())
     }
+}
+
+/// Room for a node more, where one more can be counted.
+fn make_room(
+    nodes: &mut Vec<Node<'_>>,
+    starts: &mut Vec<u32>,
+    slots: &mut Vec<u32>,
+) -> Result<(), AllocError>
+    ensures nodes { nodes.new.items ≡ nodes.old.items }
+    ensures starts { starts.new.items ≡ starts.old.items }
+    ensures slots { slots.new.items ≡ slots.old.items }
+    ensures counted { OnOk result (length nodes.new.items < 4294967294) }
+    ensures node { OnOk result (vec_len nodes.new < vec_capacity nodes.new) }
+    ensures start { OnOk result (vec_len starts.new < vec_capacity starts.new) }
+    ensures slot { OnOk result (vec_len slots.new < vec_capacity slots.new) }
+{
+    if NODES <= nodes.len() {
+        return Err(AllocError);
+    }
+    nodes.reserve(1)?;
+    starts.reserve(1)?;
+    slots.reserve(1)
 }

@@ -2,6 +2,7 @@ pub mod FilterRows
 pub mod FilterWalks
 mod StepPlaces
 mod EmptyLists
+mod LoopRows
 pub mod KnownModel
 pub mod Keyed
 pub mod KnownRows

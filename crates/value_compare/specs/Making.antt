@@ -3,6 +3,10 @@ use Rattle.std.specs.Prelude.{ℕ, ◌≡◌, true, ◌||◌, List, ◌∷◌, �
 use Rattle.std.specs.List.{list_any}
 use Rattle.std.specs.Str.{bytes_eq}
 use Rattle.value_compare.specs.Books.{has_text}
+use Rattle.value_compare.specs.declared.make_book.BookRefusal.{BookRefusal}
+use Rattle.value_compare.specs.declared.make_book.BookRefusal.TheVariants.{BadPattern, PatternRefused, NoMemory}
+use Rattle.value_compare.specs.declared.maker.PatternFault.{PatternFault}
+use Rattle.value_compare.specs.declared.maker.PatternFault.TheVariants.{Syntax, TooLarge, Memory}
 use Rattle.rule_meaning.specs.PatternMatch.{pattern_in}
 use Rattle.doc_values.specs.Tree.{Label}
 use Rattle.rule_meaning.specs.Patterns.{Written, written_if}
@@ -27,3 +31,9 @@ Gains old new ws = (text : List ℕ) → has_text new text ≡ (has_text old tex
 -- one of these patterns, such that each before it is read
 abbrev pub IsNextOf : List Written → (text : List ℕ) → (at : ℕ) → Type 0
 IsNextOf ws text at = (before after : List Written) × (ws ≡ before ++ (record { text = text; at = at } ∷ after)) × AreRead before
+
+-- the refusal of a book by the fault of a pattern that stands at a place
+abbrev pub refusal_of : PatternFault → (at : ℕ) → BookRefusal
+refusal_of Syntax at = BadPattern at
+refusal_of TooLarge at = PatternRefused at
+refusal_of Memory at = NoMemory

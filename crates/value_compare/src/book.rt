@@ -1,5 +1,5 @@
 //! The patterns of a rule file by their texts.
-ghost use Rattle.std.specs.Prelude.{◌≡◌, ◌++◌, ◌∷◌, [], true, false, IfOk, OnOk, Some, slice_get};
+ghost use Rattle.std.specs.Prelude.{◌≡◌, ◌++◌, ◌∷◌, [], true, false, IfOk, OnOk, Some, slice_get, string_bytes};
 ghost use Rattle.value_compare.specs.Books.{has_text};
 
 use crate::pattern::Pattern;
@@ -42,19 +42,15 @@ impl PatternBook {
     }
 
     /// Adds the pattern of a text that it does not have. The pattern is dropped on a refusal.
-    pub(crate) fn insert(
-        &mut self,
-        alloc: Global,
-        text: &str,
-        pattern: Pattern,
-    ) -> Result<(), AllocError>
-        requires pattern { pattern ≡ text.now }
-        requires absent { has_text self.old text.now ≡ false }
-        ensures { OnOk result (self.new ≡ self.old ++ text.now ∷ []) }
+    pub(crate) fn insert(&mut self, text: String, pattern: Pattern) -> Result<(), AllocError>
+        requires pattern { pattern ≡ string_bytes text }
+        requires absent { has_text self.old (string_bytes text) ≡ false }
+        ensures { OnOk result (self.new ≡ self.old ++ string_bytes text ∷ []) }
     {
-        let key = String::from_str(alloc, text)?;
-        self.patterns.insert(key, pattern)?;
-        Ok(())
+        match self.patterns.insert(text, pattern) {
+            Ok(_) => Ok(()),
+            Err(_) => Err(AllocError),
+        }
     }
 
     /// The pattern of a text that it has, with its place among the others.

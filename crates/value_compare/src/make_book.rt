@@ -1,5 +1,5 @@
 //! The patterns of a rule file are made, each text once.
-ghost use Rattle.std.specs.Prelude.{◌≡◌, ◌∷◌, ◌++◌, ◌<◌, ◌≤◌, ℕ, List, [], All, length, IfOk, IfSome, MatchOption, OnOk, IsErrOf, IsNone, IsSome, true};
+ghost use Rattle.std.specs.Prelude.{◌≡◌, ◌∷◌, ◌++◌, ◌<◌, ◌≤◌, ℕ, List, [], All, length, slice_index_or, IfOk, IfSome, MatchOption, OnOk, IsErrOf, IsNone, IsSome, true, false};
 ghost use Rattle.doc_values.specs.Places.{label_at};
 ghost use Rattle.doc_values.specs.Tree.{has_text};
 ghost use Rattle.guard_io.specs.Outside.{FaultCounted};
@@ -7,7 +7,7 @@ ghost use Rattle.guard_syntax.specs.Seen.{see_file};
 ghost use Rattle.value_compare.specs.Books.{IsBookOf};
 ghost use Rattle.rule_meaning.specs.NextPattern.{IsNextPattern};
 ghost use Rattle.rule_meaning.specs.PatternMatch.{pattern_in};
-ghost use Rattle.value_compare.specs.Making.{AreRead, IsReadBook, Gains, IsNextOf, written};
+ghost use Rattle.value_compare.specs.Making.{AreRead, IsReadBook, Gains, IsNextOf, refusal_of, written};
 ghost use Rattle.rule_meaning.specs.Patterns.{is_sought, patterns_at, patterns_in, patterns_of, sought_text};
 
 use crate::book::PatternBook;
@@ -45,17 +45,42 @@ pub fn pattern_book<M: PatternMaker>(
         × FaultCounted (M.faults maker.old text) (M.faults maker.new text) }
     ensures kept { (other : List ℕ) → M.faults maker.old other ≤ M.faults maker.new other }
 {
-    let mut book = PatternBook::new(alloc);
     let Some(sites) = site_count(file) else {
         return Err(BookRefusal::NoMemory);
     };
     let Ok(sought) = sought_sites(alloc, file, sites) else {
         return Err(BookRefusal::NoMemory);
     };
-    for site in 0..sites {
-        add_site(alloc, file, site, sought[site as usize], &mut book, maker)?;
-    }
+    let mut book = PatternBook::new(alloc);
+    add_sites(alloc, file, &sought, &mut book, maker)?;
     Ok(book)
+}
+
+/// Makes the patterns of the literals of all sites, of each of which is told whether one is read from its text.
+fn add_sites<M: PatternMaker>(
+    alloc: Global,
+    file: &RuleFile,
+    sought: &[bool],
+    book: &mut PatternBook,
+    maker: &mut M,
+) -> Result<(), BookRefusal>
+    requires sites { length sought.now ≡ length (see_file file.now.raw).places }
+    requires sought { (n : ℕ) → n < length sought.now → slice_index_or sought.now n false ≡ is_sought (see_file file.now.raw) n }
+    requires counted { length sought.now < 4294967296 }
+    requires book { IsReadBook book.old }
+    ensures gains { OnOk result (Gains book.old book.new (patterns_of (see_file file.now.raw))) }
+    ensures read { OnOk result (AreRead (patterns_of (see_file file.now.raw))) }
+    ensures bad { (at : ℕ) → IsErrOf result (BookRefusal.BadPattern at)
+        → (text : List ℕ) × IsNextOf (patterns_of (see_file file.now.raw)) text at × IsNone (pattern_in text) }
+    ensures refused { (at : ℕ) → IsErrOf result (BookRefusal.PatternRefused at)
+        → (text : List ℕ) × IsNextOf (patterns_of (see_file file.now.raw)) text at
+        × FaultCounted (M.faults maker.old text) (M.faults maker.new text) }
+    ensures kept { (other : List ℕ) → M.faults maker.old other ≤ M.faults maker.new other }
+{
+    for site in 0..sought.len() as u32 {
+        add_site(alloc, file, site, sought[site as usize], book, maker)?;
+    }
+    Ok(())
 }
 
 /// How many sites a file has, if they can be numbered.
@@ -229,13 +254,25 @@ fn add_text<M: PatternMaker>(
     if book.has(text) {
         return Ok(());
     }
+    let Ok(key) = String::from_str(alloc, text) else {
+        return Err(BookRefusal::NoMemory);
+    };
     match maker.make(alloc, text) {
-        Ok(pattern) => match book.insert(alloc, text, pattern) {
+        Ok(pattern) => match book.insert(key, pattern) {
             Ok(()) => Ok(()),
             Err(_) => Err(BookRefusal::NoMemory),
         },
-        Err(PatternFault::Syntax) => Err(BookRefusal::BadPattern(at)),
-        Err(PatternFault::TooLarge) => Err(BookRefusal::PatternRefused(at)),
-        Err(PatternFault::Memory) => Err(BookRefusal::NoMemory),
+        Err(fault) => Err(refusal_of(fault, at)),
+    }
+}
+
+/// The refusal of a book by the fault of a pattern that stands at a place.
+fn refusal_of(fault: PatternFault, at: u32) -> BookRefusal
+    ensures { result ≡ refusal_of fault at }
+{
+    match fault {
+        PatternFault::Syntax => BookRefusal::BadPattern(at),
+        PatternFault::TooLarge => BookRefusal::PatternRefused(at),
+        PatternFault::Memory => BookRefusal::NoMemory,
     }
 }

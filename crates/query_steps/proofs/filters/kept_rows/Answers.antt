@@ -1,11 +1,30 @@
-use Rattle.std.proofs.Common.{◌≡◌, ◌++◌, ◌+◌, ◌-◌, List, length, take, drop, ap, sym, ◌∙◌, Bor, Vec, Global}
+use Rattle.std.proofs.Common.{◌≡◌, ◌++◌, ◌+◌, ◌-◌, List, length, take, drop, ap, sym, ◌∙◌, arith, Bor, Vec, Global}
+use Rattle.std.proofs.lemmas.List.Sums.{AllPass-from_list_all}
 use Rattle.guard_syntax.specs.declared.row.Row.{Row}
 use Rattle.guard_syntax.specs.declared.row.Verdict.{Verdict}
 use Rattle.value_compare.specs.Stores.{see_store}
 use Rattle.rule_meaning.specs.Filters.{filtered}
+use Rattle.rule_meaning.specs.StoreModel.{is_known}
 use Rattle.query_steps.proofs.FilterWalks.{kept_pairs, kept-found, left-found, known-pairs, kept-other, left-other, known-row, other-row, rest-is}
 use Rattle.query_steps.proofs.filters.kept_rows.Goals as goal
 use Rattle.query_steps.proofs.filters.kept_rows.Goals.{in-Found+in_ok-tried-in-Found+in_ok-kept-in-Found+in_ok-extend_from_slice-in-Found, in-Missing+in_ok-push-in-Missing}
+
+pub candidates_at-requires : goal.candidates_at-requires
+candidates_at-requires c =
+    let k = see_store c.args.store.now in
+    ap (is_known k) (sym c.in-Found.is) ∙ AllPass-from_list_all (is_known k) c.args.before.now c.requires.known c.loop-row.row-index _ c.loop-row-test.true
+
+pub returns-in_err-tried-in-Found-clause-no_memory : goal.returns-in_err-tried-in-Found-clause-no_memory
+returns-in_err-tried-in-Found-clause-no_memory c = λ none. absurd (omega (arith, c.loop-row-test.true, ap length none))
+
+pub returns-in_err-kept-in-Found-clause-no_memory : goal.returns-in_err-kept-in-Found-clause-no_memory
+returns-in_err-kept-in-Found-clause-no_memory c = λ none. absurd (omega (arith, c.loop-row-test.true, ap length none))
+
+pub returns-in_err-extend_from_slice-in-Found-clause-no_memory : goal.returns-in_err-extend_from_slice-in-Found-clause-no_memory
+returns-in_err-extend_from_slice-in-Found-clause-no_memory c = λ none. absurd (omega (arith, c.loop-row-test.true, ap length none))
+
+pub returns-in_err-push-in-Missing-clause-no_memory : goal.returns-in_err-push-in-Missing-clause-no_memory
+returns-in_err-push-in-Missing-clause-no_memory c = λ none. absurd (omega (arith, c.loop-row-test.true, ap length none))
 
 pub loop-row-preserved : goal.loop-row-preserved
 loop-row-preserved c = elim c.match-row.branch [

@@ -6,7 +6,13 @@ use Rattle.value_compare.specs.Stores.{see_store}
 use Rattle.rule_meaning.specs.Keys.{captured_row}
 use Rattle.query_steps.proofs.EmptyLists.{item-empty}
 use Rattle.query_steps.proofs.KnownRows.{keys-captured}
+use Rattle.query_steps.proofs.LoopRows.{given-more}
 use Rattle.query_steps.proofs.keys.captured.Goals as goal
+
+pub loop-row-preserved : goal.loop-row-preserved
+loop-row-preserved c =
+    given-more (captured_row (see_store c.args.store.now)) c.args.rows.now c.loop-row.row-index _ c.loop-row.keys.items c.push_captured.new.keys.items
+    c.loop-row-test.true c.loop-row.invariant c.in_ok-push_captured.ensures.keys
 
 pub returns-clause-known : goal.returns-clause-known
 returns-clause-known c =

@@ -1,4 +1,4 @@
-use Rattle.std.proofs.Common.{ap, ◌∙◌}
+use Rattle.std.proofs.Common.{length, ap, ◌∙◌, arith}
 use Rattle.std.specs.List.{flat_map, list_all}
 use Rattle.std.proofs.lemmas.List.{take_all}
 use Rattle.guard_syntax.specs.Seen.{see_step}
@@ -6,7 +6,16 @@ use Rattle.rule_meaning.specs.StoreModel.{is_known}
 use Rattle.value_compare.specs.Stores.{see_store}
 use Rattle.rule_meaning.specs.Steps.{found_step, on_found}
 use Rattle.query_steps.proofs.KnownRows.{rows-known}
+use Rattle.query_steps.proofs.LoopRows.{given-more}
 use Rattle.query_steps.proofs.steps.rows_of_step.Goals as goal
+
+pub loop-row-preserved : goal.loop-row-preserved
+loop-row-preserved c =
+    given-more (on_found (found_step (see_store c.args.store.now) c.args.last c.args.rows.now (see_step c.args.step.now))) c.args.before.now c.loop-row.row-index _ c.loop-row.given.items c.push_row.new.into.items
+    c.loop-row-test.true c.loop-row.invariant c.in_ok-push_row.ensures
+
+pub returns-in_err-push_row-clause-no_memory : goal.returns-in_err-push_row-clause-no_memory
+returns-in_err-push_row-clause-no_memory c = λ none. absurd (omega (arith, c.loop-row-test.true, ap length none))
 
 pub returns-clause-known : goal.returns-clause-known
 returns-clause-known c =

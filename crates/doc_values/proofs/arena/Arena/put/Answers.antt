@@ -8,7 +8,7 @@ use Rattle.doc_values.proofs.arena.Arena.put.Goals as goal
 
 pub invariant_of-self-in_err-add_if : goal.invariant_of-self-in_err-add_if
 invariant_of-self-in_err-add_if c =
-    rw (c.reserve.ensures.items, c.reserve-2.ensures.items, c.reserve-3.ensures.items) (record {
+    rw (c.make_room.ensures.nodes, c.make_room.ensures.starts, c.make_room.ensures.slots) (record {
       keys = c.in_err-add_if.ensures.err c.self.inside.nodes.items c.self.invariant.keys;
       zero = c.self.invariant.zero;
       same = c.self.invariant.same;
@@ -19,8 +19,8 @@ invariant_of-self-in_err-add_if c =
 pub invariant_of-self-2 : goal.invariant_of-self-2
 invariant_of-self-2 c =
     let r : Row = row_of c.args.seat (record { kind = c.args.kind; text = cow_str_bytes c.args.text; key = key_text c.args.key.now; at = c.args.at }) in
-    let m : length c.self.inside.nodes.items < 4294967294 = omega arith in
-    let n : length c.self.inside.nodes.items ≡ c.len-count.result = omega arith in
+    let m : length c.self.inside.nodes.items < 4294967294 = omega (arith, c.in_ok-make_room.ensures.counted, ap length c.make_room.ensures.nodes) in
+    let n : length c.self.inside.nodes.items ≡ c.len-number.result = omega (arith, ap length c.make_room.ensures.nodes) in
     let e = ap key_text c.take.ensures.value in
-    rw (c.push_reserved-3.ensures.items, c.push_reserved.ensures.items, c.push_reserved-2.ensures.items, c.reserve.ensures.items, c.reserve-2.ensures.items, c.reserve-3.ensures.items, e, c.in_ok-kind.ensures)
+    rw (c.push_reserved-3.ensures.items, c.push_reserved.ensures.items, c.push_reserved-2.ensures.items, c.make_room.ensures.nodes, c.make_room.ensures.starts, c.make_room.ensures.slots, e, c.in_ok-kind.ensures)
     (IsArena-more c.self.inside.nodes.items c.self.inside.starts.items c.self.inside.slots.items c.self.inside.keys c.add_if.new.self r m (c.in_ok-add_if.ensures.ok c.self.inside.nodes.items r n refl refl (subst (λ (rs : List Row). IsNewUnder rs c.args.seat.under (key_text c.args.key.now)) (sym c.self.view_is) c.requires) c.self.invariant.keys) c.self.invariant)

@@ -1,12 +1,13 @@
+use Rattle.std.proofs.Common.{refl}
 use Rattle.value_compare.proofs.BookLemmas.{texts_after, patterns_after}
 use Rattle.value_compare.proofs.book.PatternBook.insert.Goals as goal
 
-pub invariant_of-self-2 : goal.invariant_of-self-2
-invariant_of-self-2 c =
-    patterns_after c.in_ok-key.key _ c.args.text.now c.self.inside.patterns.entries c.insert.new.self.entries c.in_ok-key.ensures.ok (rw c.self.view_is c.requires.absent)
-    c.in_ok-insert.ensures.entries c.requires.pattern c.self.invariant
+pub invariant_of-self : goal.invariant_of-self
+invariant_of-self c =
+    patterns_after c.args.text _ _ c.self.inside.patterns.entries c.insert.new.self.entries refl (rw c.self.view_is c.requires.absent)
+    c.in-Ok.ensures.entries c.requires.pattern c.self.invariant
 
-pub returns : goal.returns
-returns c =
+pub returns-in-Ok : goal.returns-in-Ok
+returns-in-Ok c =
     rw (← c.self.view_is)
-    (texts_after c.in_ok-key.key _ c.args.text.now c.self.inside.patterns.entries c.insert.new.self.entries c.in_ok-key.ensures.ok (rw c.self.view_is c.requires.absent) c.in_ok-insert.ensures.entries)
+    (texts_after c.args.text _ _ c.self.inside.patterns.entries c.insert.new.self.entries refl (rw c.self.view_is c.requires.absent) c.in-Ok.ensures.entries)

@@ -1,0 +1,29 @@
+use Rattle.std.proofs.Common.{◌≡◌, ◌++◌, ◌∷◌, [], true, sym, ap, ◌∙◌, arith}
+use Rattle.value_compare.specs.Books.{has_text}
+use Rattle.value_compare.proofs.Making.{gains-present, gains-added, read-added}
+use Rattle.value_compare.proofs.make_book.add_text.Goals as goal
+
+pub returns-then-has : goal.returns-then-has
+returns-then-has g c =
+    let there : has_text c.args.book.now c.args.text.now ≡ true = sym c.has.ensures ∙ c.if-has.true in
+    record {
+      gains = gains-present c.args.book.now c.args.text.now c.args.at there;
+      read = c.requires c.args.text.now there;
+      book = c.requires;
+      bad = λ place is. absurd cc;
+      refused = λ place is. absurd cc;
+      kept = λ other. omega arith;
+    }
+
+pub returns-in-Ok-insert : goal.returns-in-Ok-insert
+returns-in-Ok-insert g c =
+    let put : c.insert.new.self ≡ c.args.book.now ++ c.args.text.now ∷ [] = c.in-Ok-insert.ensures ∙ ap (λ text. c.args.book.now ++ text ∷ []) c.in-Ok.ensures.ok in
+    let read = c.in-Ok-make.ensures.read in
+    record {
+      gains = gains-added c.args.book.now c.insert.new.self c.args.text.now c.args.at put;
+      read = read;
+      book = read-added c.args.book.now c.insert.new.self c.args.text.now put c.requires read;
+      bad = λ place is. absurd cc;
+      refused = λ place is. absurd cc;
+      kept = c.make.ensures.kept;
+    }
