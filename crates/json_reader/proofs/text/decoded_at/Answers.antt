@@ -1,9 +1,9 @@
-use Rattle.std.proofs.Common.{◌≡◌, ℕ, List, ◌+◌, ◌-◌, ◌<◌, ◌≤◌, length, get_or, take, drop, arith, subst, sym, ◌∙◌, ap, ◌++◌}
+use Rattle.std.proofs.Common.{◌≡◌, ℕ, List, ◌+◌, ◌-◌, ◌<◌, ◌≤◌, length, get_or, take, drop, arith, subst, sym, ◌∙◌, ap, ◌++◌, inr, refl}
 use Rattle.std.specs.Prelude.{encode_utf8}
 use Rattle.std.specs.Str.{IsCharBoundary}
-use Rattle.std.proofs.lemmas.Str.{IsCharBoundary-after_ascii}
-use Rattle.json_reader.specs.Steps.{Reaches}
-use Rattle.json_reader.proofs.Walk.{reaches_self, reaches_on}
+use Rattle.std.proofs.lemmas.Str.{IsCharBoundary-after_ascii, IsCharBoundary-before_ascii}
+use Rattle.json_reader.specs.Steps.{Reaches, Fails}
+use Rattle.json_reader.proofs.Walk.{reaches_self, reaches_on, text_fails, mark_ascii}
 use Rattle.json_reader.proofs.text.decoded_at.Goals as goal
 
 pub loop-at-init : goal.loop-at-init
@@ -32,3 +32,27 @@ loop-at-preserved c =
     let whole = reaches_on text c.args.start end behind (c.loop-at.decoded.bytes.items ++ take (end - i) (drop i text)) (encode_utf8 c.in-Ok-escape_at.c) (reaches_on text c.args.start i end c.loop-at.decoded.bytes.items (take (end - i) (drop i text)) c.loop-at.invariant.0 run) one in
     let made = c.in_ok-push-in-Ok-escape_at.ensures.bytes ∙ ap (λ (s : List ℕ). s ++ encode_utf8 c.in-Ok-escape_at.c) (c.in_ok-push_str-in-Ok.ensures.bytes ∙ ap (λ (s : List ℕ). c.loop-at.decoded.bytes.items ++ s) c.range.ensures.value) in
     (subst (λ (s : List ℕ). Reaches text c.args.start s behind) (sym made) whole, omega (arith, later, c.loop-at.invariant.1), within, subst (λ k. IsCharBoundary text k) n (IsCharBoundary-after_ascii text (behind - 1) c.utf8.text l ascii))
+
+pub returns-in-Err : goal.returns-in-Err
+returns-in-Err c =
+    let text = c.args.text.now in
+    let failed = subst (λ (t : List ℕ). Fails t c.loop-at.at c.in-Err.stop) c.as_bytes-bytes.ensures.value c.in-Err.ensures in
+    inr (c.in-Err.stop, refl, text_fails text c.args.start c.loop-at.at c.in-Err.stop c.loop-at.decoded.bytes.items c.loop-at.invariant.0 failed)
+
+pub returns-in-Err-escape_at : goal.returns-in-Err-escape_at
+returns-in-Err-escape_at c =
+    let text = c.args.text.now in
+    let v = c.as_bytes-bytes.ensures.value in
+    let i = c.loop-at.at in
+    let end = c.in-Ok.end in
+    let run : Reaches text i (take (end - i) (drop i text)) end = subst (λ (t : List ℕ). Reaches t i (take (end - i) (drop i t)) end) v c.in-Ok.ensures.2 in
+    let failed = subst (λ (t : List ℕ). Fails t end c.in-Err-escape_at.stop) v c.in-Err-escape_at.ensures in
+    let before = c.loop-at.decoded.bytes.items in
+    inr (c.in-Err-escape_at.stop, refl, text_fails text c.args.start end c.in-Err-escape_at.stop (before ++ take (end - i) (drop i text)) (reaches_on text c.args.start i end before (take (end - i) (drop i text)) c.loop-at.invariant.0 run) failed)
+
+pub range-requires-clause-end_boundary : goal.range-requires-clause-end_boundary
+range-requires-clause-end_boundary c =
+    let bytes = c.as_bytes-bytes.result.now in
+    let end = c.in-Ok.end in
+    let e = c.in-Ok.ensures in
+    subst (λ (t : List ℕ). IsCharBoundary t end) c.as_bytes-bytes.ensures.value (IsCharBoundary-before_ascii bytes end e.1 (mark_ascii (get_or bytes end 0) e.3))

@@ -1,6 +1,7 @@
-use Rattle.std.proofs.Common.{◌≡◌, ◌+◌, ◌-◌, ◌<◌, length, get_or, arith, subst}
+use Rattle.std.proofs.Common.{◌≡◌, ℕ, List, ◌+◌, ◌-◌, ◌<◌, length, get_or, arith, subst}
 use Rattle.std.specs.Str.{IsCharBoundary}
-use Rattle.std.proofs.lemmas.Str.{IsCharBoundary-after_ascii}
+use Rattle.std.proofs.lemmas.Str.{IsCharBoundary-after_ascii, IsCharBoundary-before_ascii}
+use Rattle.json_reader.proofs.Walk.{mark_ascii}
 use Rattle.json_reader.proofs.text.text_at.Goals as goal
 
 pub range-requires-clause-start_boundary : goal.range-requires-clause-start_boundary
@@ -9,3 +10,10 @@ range-requires-clause-start_boundary c =
     let l : c.args.start - 1 < length c.args.text.now = omega arith in
     let q : get_or c.args.text.now (c.args.start - 1) 0 ≡ 34 = c.requires.quote in
     λ h. subst (λ k. IsCharBoundary c.args.text.now k) n (IsCharBoundary-after_ascii c.args.text.now (c.args.start - 1) c.utf8.text l (omega arith))
+
+pub range-requires-clause-end_boundary : goal.range-requires-clause-end_boundary
+range-requires-clause-end_boundary c =
+    let bytes = c.as_bytes-bytes.result.now in
+    let end = c.in-Ok.end in
+    let e = c.in-Ok.ensures in
+    subst (λ (t : List ℕ). IsCharBoundary t end) c.as_bytes-bytes.ensures.value (IsCharBoundary-before_ascii bytes end e.1 (mark_ascii (get_or bytes end 0) e.3))
