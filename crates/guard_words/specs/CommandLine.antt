@@ -34,8 +34,12 @@ program = record {
   subs = [];
 }
 
+-- with the subcommand of a command more
+abbrev pub with_command : App → Command → App
+with_command app command = with_subcommand app (subcommand_app command).top
+
 abbrev pub guard_app : App
-guard_app = with_subcommand (with_subcommand (with_subcommand program (subcommand_app Validate).top) (subcommand_app Check).top) (subcommand_app Drill).top
+guard_app = with_command (with_command (with_command program Validate) Check) Drill
 
 -- where the command is added to another one, it stands there in this shape
 abbrev pub StandsAs : Shape → ClapCommand → Type 0

@@ -1,23 +1,35 @@
 ghost use Rattle.std.specs.Prelude.{◌≡◌, IfOk, false};
 ghost use Rattle.clap.specs.Words.{app_of, rule_of};
-ghost use Rattle.guard_words.specs.CommandLine.{StandsAs, guard_app, subcommand_app, rule_for};
+ghost use Rattle.guard_words.specs.CommandLine.{StandsAs, guard_app, program, subcommand_app, rule_for};
 ghost use Rattle.guard_words.specs.Reading.{row_text};
 
 use crate::table::{Command, Kind, OptionRow};
 use clap::{Arg, ArgAction};
 use std::alloc::{AllocError, Global};
 
+/// All commands.
+const COMMANDS: [Command; 3] = [Command::Validate, Command::Check, Command::Drill];
+
 /// The command line as `clap` is told of it.
 pub(crate) fn command_line<'a>(alloc: Global) -> Result<clap::Command<'a>, AllocError>
     ensures app { IfOk result (λ c. app_of c ≡ guard_app) }
+{
+    let mut built: clap::Command<'a> = program(alloc);
+    for command in &COMMANDS {
+        let subcommand: clap::Command<'a> = subcommand_of(alloc, *command)?;
+        built = built.subcommand(subcommand)?;
+    }
+    Ok(built)
+}
+
+/// The program's own part, before its subcommands.
+fn program<'a>(alloc: Global) -> clap::Command<'a>
+    ensures { app_of result ≡ program }
 {
     clap::Command::new(alloc, "guard")
         .no_binary_name(true)
         .disable_help_flag(true)
         .disable_help_subcommand(true)
-        .subcommand(subcommand_of(alloc, Command::Validate)?)?
-        .subcommand(subcommand_of(alloc, Command::Check)?)?
-        .subcommand(subcommand_of(alloc, Command::Drill)?)
 }
 
 /// The subcommand of a command, with the options of its table.

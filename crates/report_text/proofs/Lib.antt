@@ -1,3 +1,4 @@
+mod LoopBytes
 pub mod Downwards
 pub mod LineStarts
 pub mod RuleNames

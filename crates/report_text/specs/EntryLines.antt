@@ -53,8 +53,12 @@ abbrev pub note_of : Option Piece → Option (List ℕ)
 note_of (Some (OfPart part)) = note_of_part part
 note_of _ = None
 
+-- what an entry's line says behind the path and the place
+abbrev pub cause_text : File → (rules : List ℕ) → Word → (part : ℕ) → List ℕ
+cause_text file rules word part =
+    codes " " ++ (word_text word ++ (codes " by " ++ (site_text file rules part ++ (note_text (note_of (piece_at file part)) ++ codes "\n"))))
+
 -- `  <path> <place> <word> by <place of the part>`, and the message of the part in quotes, where it has one
 abbrev pub entry_line : File → (template_tree : Forest) → (rules template : List ℕ) → Entry → List ℕ
 entry_line file template_tree rules template entry =
-    codes "  " ++ (shown_text file template_tree rules template entry.shown ++ (codes " " ++ (word_text entry.word ++ (codes " by "
-    ++ (site_text file rules entry.part ++ (note_text (note_of (piece_at file entry.part)) ++ codes "\n"))))))
+    codes "  " ++ (shown_text file template_tree rules template entry.shown ++ cause_text file rules entry.word entry.part)

@@ -8,7 +8,7 @@ ghost use Rattle.rule_names.specs.Files.{file_of};
 ghost use Rattle.rule_names.specs.Pieces.{piece_at};
 ghost use Rattle.rule_meaning.specs.StoreModel.{is_known_ref};
 ghost use Rattle.value_compare.specs.Stores.{see_store};
-ghost use Rattle.report_text.specs.EntryLines.{entry_line, node_text, note_of, note_of_part, shown_text, site_text, template_path, word_text};
+ghost use Rattle.report_text.specs.EntryLines.{cause_text, entry_line, node_text, note_of, note_of_part, shown_text, site_text, template_path, word_text};
 ghost use Rattle.report_text.specs.SeenEntries.{IsShowable, is_made, see_entry, see_shown, see_word, tree_for};
 ghost use Rattle.rule_meaning.specs.Seeing.{see_origin};
 ghost use Rattle.report_text.specs.Messages.{note_text};
@@ -104,13 +104,26 @@ fn line_of(
     let mut line = Vec::new(alloc);
     line.extend_from_slice(b"  ")?;
     push_shown(&mut line, file, rules, template, store, entry.shown)?;
+    push_cause(&mut line, file, rules, entry)?;
+    Ok(line)
+}
+
+/// Appends the word of an entry, and the place and the message of its part.
+fn push_cause(
+    line: &mut Vec<u8>,
+    file: &RuleFile,
+    rules: &Lined<'_>,
+    entry: &Entry,
+) -> Result<(), AllocError>
+    ensures { OnOk result (line.new.items ≡ line.old.items ++ cause_text (file_of file.now) rules.now.text.now (see_word entry.now.word) entry.now.part) }
+{
     line.push(b' ')?;
     line.extend_from_slice(word_of(entry.word).as_bytes())?;
     line.extend_from_slice(b" by ")?;
-    push_site(&mut line, file, rules, entry.part)?;
-    push_note(&mut line, file, entry.part)?;
+    push_site(line, file, rules, entry.part)?;
+    push_note(line, file, entry.part)?;
     line.push(b'\n')?;
-    Ok(line)
+    Ok(())
 }
 
 /// Appends the path and the place of what is shown.

@@ -1,19 +1,27 @@
-use Rattle.std.proofs.Common.{◌≡◌, true, ◌∙◌, ap}
-use Rattle.std.proofs.lemmas.Result.{IfOk-weaker}
-use Rattle.clap.specs.Simple.{App, app_of, app_of_fields, with_subcommand, on_top}
+use Rattle.std.proofs.Common.{◌∙◌, List, [], ◌∷◌, get_or, ap, sym}
+use Rattle.std.proofs.lemmas.List.{take_all}
+use Rattle.std.proofs.lemmas.List.Sums.{fold_more}
+use Rattle.std.specs.List.{fold}
+use Rattle.clap.specs.Simple.{App}
+use Rattle.guard_words.specs.declared.table.Command.{Command}
 use Rattle.guard_words.specs.declared.table.Command.TheVariants.{Validate, Check, Drill}
-use Rattle.guard_words.specs.CommandLine.{program, subcommand_app}
+use Rattle.guard_words.specs.CommandLine.{program, with_command}
 use Rattle.guard_words.proofs.command_line.command_line.Goals as goal
 
+abbrev commands : List Command
+commands = Validate ∷ Check ∷ Drill ∷ []
+
+pub loop-command-init : goal.loop-command-init
+loop-command-init c = c.program-built.ensures
+
+pub loop-command-preserved : goal.loop-command-preserved
+loop-command-preserved c =
+    c.in_ok-subcommand.ensures c.loop-command.built c.in_ok-built.built c.in_ok-built.ensures
+    ∙ ap (λ (a : App). with_command a (get_or commands c.loop-command.command-index Validate)) c.loop-command.invariant
+    ∙ sym (fold_more with_command program commands c.loop-command.command-index Validate c.loop-command-test.true)
+
 pub returns : goal.returns
-returns c =
-    let program_is : app_of c.disable_help_subcommand.result ≡ program =
-    ap app_of_fields c.disable_help_subcommand.ensures
-    ∙ ap (on_top (λ s. record s { disable_help_subcommand = true })) (ap app_of_fields c.disable_help_flag.ensures
-    ∙ ap (on_top (λ s. record s { disable_help_flag = true })) (ap app_of_fields c.no_binary_name.ensures
-    ∙ ap (on_top (λ s. record s { no_binary_name = true })) c.new.ensures.app)) in
-    record {
-      app = IfOk-weaker c.subcommand-3.result _ _ (λ r h. c.in_ok-subcommand_of-3.ensures _ r h ∙ ap (λ (a : App). with_subcommand a (subcommand_app Drill).top)
-          (c.in_ok-subcommand_of-2.ensures _ _ c.in_ok-subcommand-2.ensures ∙ ap (λ (a : App). with_subcommand a (subcommand_app Check).top)
-          (c.in_ok-subcommand_of.ensures _ _ c.in_ok-subcommand.ensures ∙ ap (λ (a : App). with_subcommand a (subcommand_app Validate).top) program_is))) c.subcommand-3.ensures;
-    }
+returns c = record {
+  app = c.loop-command.invariant
+      ∙ ap (fold with_command program) (take_all c.loop-command.command-index commands c.loop-command-test.false);
+}
