@@ -1,6 +1,7 @@
 -- One step of the code that reads literals is one step of their reading.
 use Rattle.std.proofs.Common.{◌≡◌, ◌≢◌, ℕ, suc, ◌+◌, ◌-◌, ◌<◌, Bool, true, false, cond, List, [], ◌∷◌, Option, Some, None, length, refl, ap, sym, ◌∙◌, subst, arith, max}
-use Rattle.std.specs.Prelude.{ℤ, codes, bytes_eq}
+use Rattle.std.specs.Prelude.{ℤ, codes, bytes_eq, Result, Ok, Err}
+use Rattle.std.specs.Result.{IsErrAnd}
 use Rattle.doc_values.specs.Tree.{Label, Forest, Nil, Node, snoc, joined, is_map}
 use Rattle.doc_values.specs.Laws.{joined-Nil, joined-snoc}
 use Rattle.doc_values.specs.Unfinished.{Level, Unfinished, start, with_value, with_open, open_kind, with_key, with_end, innermost, in_map, IsKeyThere, MayHold, AwaitsValue, AwaitsKey, MayEnd}
@@ -11,14 +12,18 @@ use Rattle.doc_values.specs.declared.decimal.Num.TheVariants as num
 use Rattle.doc_values.specs.declared.decimal.Range.{Range}
 use Rattle.literal_parser.specs.declared.token_class.TokenClass.{TokenClass}
 use Rattle.literal_parser.specs.declared.token_class.TokenClass.TheVariants as sh
+use Rattle.literal_parser.specs.declared.cursor.Halt.{Halt}
+use Rattle.literal_parser.specs.declared.cursor.Halt.TheVariants.{Dead, NoMemory}
+use Rattle.literal_parser.specs.declared.token_cursor.Cursor.{Cursor}
+use Rattle.literal_parser.specs.Reads.{Reads}
 use Rattle.literal_parser.specs.Lexemes.{Lexeme, Word, Name, Reserved, TypeName, Var, Str, Pat, Whole, Fraction, Note, Sign, End}
 use Rattle.literal_parser.specs.Forms.{form, is_lbrace, is_rbrace, is_lbracket, is_rbracket, is_comma, is_r, is_scalar, is_index_number, magnitude, number_in, number_of, text_in}
 use Rattle.literal_parser.specs.TokenClasses.{shape_of, shape_in, name_shape, whole_shape}
 use Rattle.literal_parser.specs.States.{State}
-use Rattle.literal_parser.specs.Parser.{Outcome, Read, Fail, Parser, and_then, pure, takes, has, choose, choose_pair, note_range}
+use Rattle.literal_parser.specs.Parser.{One, Outcome, Read, Fail, Parser, and_then, pure, takes, has, choose, choose_pair, note_range}
 use Rattle.literal_parser.specs.Literal.{scalar_kind, scalar_text, scalar, holder, is_mixed}
 use Rattle.literal_parser.specs.LiteralReading.{Tree, bounds, range, list, map_of, node, more_items, items_of, entry, more_entries, entries_of, within, literal_of}
-use Rattle.literal_parser.specs.LiteralReads.{kind_of, is_quoted, with_tree, with_all, IsOpen, IsLevel}
+use Rattle.literal_parser.specs.LiteralReads.{kind_of, is_quoted, Puts, with_tree, with_all, IsOpen, IsLevel}
 use Rattle.literal_parser.proofs.Takes.{has_of, has_none}
 
 -- ---- a value of one token
@@ -96,6 +101,22 @@ pub saw_pair : {A : Type 0} {r : Outcome A} {v w : Bool} {st1 : State} {seen1 : 
 unfolding choose_pair
 saw_pair {w = w} {st1 = st1} s f p q st seen e d g h k =
     ap (λ x. (cond x p q) st (max seen (suc st.at))) (sym e ∙ d) ∙ ap (λ x. (cond w p q) x (max seen (suc st.at))) (sym g) ∙ ap (λ x. (cond w p q) st1 x) (sym h) ∙ k
+
+-- ---- an exit by `?`, where the step that failed says why the whole fails
+
+pub halted_read : {A B X : Type 0} (put : A → Unfinished) (see : One → B) (o : Outcome A) (step : Outcome B) (r : Result X Halt) (e : Halt) (u : Unfinished) (c d : Cursor)
+    → IsErrAnd r (λ (y : Halt). y ≡ e) → ((k : ℕ) → step ≡ Fail k → o ≡ Fail k) → Reads see step (Err e) d → Puts put o r u c
+halted_read put see o step (Ok x) e u c d is f h = absurd is
+halted_read put see o step (Err NoMemory) e u c d is f h = tt
+halted_read put see o step (Err (Dead k)) NoMemory u c d is f h = absurd cc
+halted_read put see o step (Err (Dead k)) (Dead j) u c d is f h = let same : j ≡ k = cc in f j h ∙ ap (λ n. Fail n) same
+
+pub halted_put : {A B X : Type 0} (put : A → Unfinished) (inner : B → Unfinished) (o : Outcome A) (step : Outcome B) (r : Result X Halt) (e : Halt) (u v : Unfinished) (c d : Cursor)
+    → IsErrAnd r (λ (y : Halt). y ≡ e) → ((k : ℕ) → step ≡ Fail k → o ≡ Fail k) → Puts {X = One} inner step (Err e) v d → Puts put o r u c
+halted_put put inner o step (Ok x) e u v c d is f h = absurd is
+halted_put put inner o step (Err NoMemory) e u v c d is f h = tt
+halted_put put inner o step (Err (Dead k)) NoMemory u v c d is f h = absurd cc
+halted_put put inner o step (Err (Dead k)) (Dead j) u v c d is f h = let same : j ≡ k = cc in f j h ∙ ap (λ n. Fail n) same
 
 -- ---- a value of one lexeme, and a range
 

@@ -221,7 +221,6 @@ fn ended(builder: &mut DocBuilder<'static>) -> Result<(), Halt>
 
 /// A list.
 #[cycle(literal)]
-#[tactic(auto, using(crate::proofs::LiteralSteps::list_failed, crate::proofs::LiteralSteps::list_unread, crate::proofs::LiteralSteps::list_open))]
 fn list(
     alloc: Global,
     tokens: Tokens<'_>,
@@ -296,7 +295,6 @@ fn more_items(
 
 /// A map.
 #[cycle(literal)]
-#[tactic(auto, using(crate::proofs::LiteralSteps::map_failed, crate::proofs::LiteralSteps::map_unread, crate::proofs::LiteralSteps::map_open))]
 fn map(
     alloc: Global,
     tokens: Tokens<'_>,

@@ -1,14 +1,15 @@
-use Rattle.std.proofs.Common.{true, false, refl, ap, sym, ◌∙◌, subst}
+use Rattle.std.proofs.Common.{◌-◌, true, false, refl, ap, sym, ◌∙◌, subst}
 use Rattle.doc_values.specs.Tree.{Nil, Node, snoc}
 use Rattle.doc_values.specs.Laws.{joined-Nil}
 use Rattle.doc_values.specs.Unfinished.{Unfinished}
 use Rattle.doc_values.specs.declared.kind.Kind.TheVariants as kind
-use Rattle.literal_parser.specs.Forms.{is_scalar, is_lbracket, is_rbracket, is_lbrace, is_r, opens_range}
+use Rattle.literal_parser.specs.Forms.{is_scalar, is_lbracket, is_rbracket, is_lbrace, is_rbrace, is_r, opens_range}
 use Rattle.literal_parser.specs.Literal.{holder}
 use Rattle.literal_parser.specs.LiteralReading.{items_of, node}
+use Rattle.literal_parser.specs.Parser.{takes}
 use Rattle.literal_parser.specs.Reads.{state_of, source}
-use Rattle.literal_parser.specs.LiteralReads.{Puts, with_tree, more_items_at, more_entries_at}
-use Rattle.literal_parser.proofs.LiteralSteps.{saw, saw_pair, list_closed, list_read, map_closed, map_read, held, all-one, collected, one_more_done, behind, behind-none, less_none, items_turn, items_end, items_first, entries_turn, entries_end, entries_first}
+use Rattle.literal_parser.specs.LiteralReads.{Puts, with_tree, with_all, list_at, map_at, items_at, entries_at, more_items_at, more_entries_at}
+use Rattle.literal_parser.proofs.LiteralSteps.{halted_read, halted_put, saw, saw_pair, list_failed, list_unread, list_open, list_closed, list_read, map_failed, map_unread, map_open, map_closed, map_read, held, all-one, collected, one_more_done, behind, behind-none, less_none, items_turn, items_end, items_first, entries_turn, entries_end, entries_first}
 use Rattle.literal_parser.proofs.literal.+literal.Goals as goal
 
 pub list-returns-then-depth-eq0-clause-reads : goal.list-returns-then-depth-eq0-clause-reads
@@ -166,3 +167,41 @@ node-returns-clause-reads t c = let s = source c.args.tokens in
     (saw s is_r _ _ _ _ c.sees-4.ensures.token c.if-not-sees.false c.sees-4.ensures.state c.sees-4.ensures.seen
     (saw_pair s opens_range _ _ _ _ c.sees_range.ensures.token c.if-not-sees_range.false c.sees_range.ensures.state c.sees_range.ensures.seen refl))))))
     c.range.ensures.reads
+
+pub list-returns-in_err-takes-clause-reads : goal.list-returns-in_err-takes-clause-reads
+list-returns-in_err-takes-clause-reads t c =
+    halted_read (with_tree c.args.builder.now) (λ _. tt) (list_at c.args.tokens c.args.depth c.args.builder.now.key (state_of c.args.cursor.now) c.args.cursor.now.seen)
+    (takes (source c.args.tokens) is_lbracket (state_of c.args.cursor.now) c.args.cursor.now.seen) c.from_residual.result c.in_err-takes.field-0.0 c.args.builder.now c.takes.new.self c.takes.new.self c.from_residual.ensures.1
+    (λ k e. list_failed (source c.args.tokens) c.args.tokens.turns c.args.depth c.args.builder.now.key (state_of c.args.cursor.now) c.args.cursor.now.seen k e) c.in_err-takes.ensures
+
+pub list-returns-in_err-items-clause-reads : goal.list-returns-in_err-items-clause-reads
+list-returns-in_err-items-clause-reads t c =
+    halted_put (with_tree c.args.builder.now) (with_all c.begun.new.builder) (list_at c.args.tokens c.args.depth c.args.builder.now.key (state_of c.args.cursor.now) c.args.cursor.now.seen)
+    (items_at c.args.tokens (c.args.depth - 1) (state_of c.takes.new.self) c.takes.new.self.seen) c.from_residual-in_err-items.result c.in_err-items.field-0.0 c.items.new.builder c.items.new.builder c.items.new.cursor c.items.new.cursor c.from_residual-in_err-items.ensures.1
+    (λ k e. list_unread (source c.args.tokens) c.args.tokens.turns c.args.depth c.args.builder.now.key (state_of c.args.cursor.now) (state_of c.takes.new.self) c.args.cursor.now.seen c.takes.new.self.seen k c.if-depth-eq0.false c.in_ok-takes.ensures e) c.in_err-items.ensures.reads
+
+pub list-returns-in_err-takes-2-clause-reads : goal.list-returns-in_err-takes-2-clause-reads
+list-returns-in_err-takes-2-clause-reads t c =
+    let r = c.in_ok-items.ensures.reads in
+    halted_read (with_tree c.args.builder.now) (λ _. tt) (list_at c.args.tokens c.args.depth c.args.builder.now.key (state_of c.args.cursor.now) c.args.cursor.now.seen)
+    (takes (source c.args.tokens) is_rbracket (state_of c.items.new.cursor) c.items.new.cursor.seen) c.from_residual-in_err-takes-2.result c.in_err-takes-2.field-0.0 c.items.new.builder c.takes-2.new.self c.takes-2.new.self c.from_residual-in_err-takes-2.ensures.1
+    (λ k e. list_open (source c.args.tokens) c.args.tokens.turns c.args.depth c.args.builder.now.key r.0 (state_of c.args.cursor.now) (state_of c.takes.new.self) (state_of c.items.new.cursor) c.args.cursor.now.seen c.takes.new.self.seen c.items.new.cursor.seen k c.if-depth-eq0.false c.in_ok-takes.ensures r.1 e) c.in_err-takes-2.ensures
+
+pub map-returns-in_err-takes-clause-reads : goal.map-returns-in_err-takes-clause-reads
+map-returns-in_err-takes-clause-reads t c =
+    halted_read (with_tree c.args.builder.now) (λ _. tt) (map_at c.args.tokens c.args.depth c.args.builder.now.key (state_of c.args.cursor.now) c.args.cursor.now.seen)
+    (takes (source c.args.tokens) is_lbrace (state_of c.args.cursor.now) c.args.cursor.now.seen) c.from_residual.result c.in_err-takes.field-0.0 c.args.builder.now c.takes.new.self c.takes.new.self c.from_residual.ensures.1
+    (λ k e. map_failed (source c.args.tokens) c.args.tokens.turns c.args.depth c.args.builder.now.key (state_of c.args.cursor.now) c.args.cursor.now.seen k e) c.in_err-takes.ensures
+
+pub map-returns-in_err-entries-clause-reads : goal.map-returns-in_err-entries-clause-reads
+map-returns-in_err-entries-clause-reads t c =
+    halted_put (with_tree c.args.builder.now) (with_all c.begun.new.builder) (map_at c.args.tokens c.args.depth c.args.builder.now.key (state_of c.args.cursor.now) c.args.cursor.now.seen)
+    (entries_at c.args.tokens (c.args.depth - 1) (state_of c.takes.new.self) c.takes.new.self.seen) c.from_residual-in_err-entries.result c.in_err-entries.field-0.0 c.entries.new.builder c.entries.new.builder c.entries.new.cursor c.entries.new.cursor c.from_residual-in_err-entries.ensures.1
+    (λ k e. map_unread (source c.args.tokens) c.args.tokens.turns c.args.depth c.args.builder.now.key (state_of c.args.cursor.now) (state_of c.takes.new.self) c.args.cursor.now.seen c.takes.new.self.seen k c.if-depth-eq0.false c.in_ok-takes.ensures e) c.in_err-entries.ensures.reads
+
+pub map-returns-in_err-takes-2-clause-reads : goal.map-returns-in_err-takes-2-clause-reads
+map-returns-in_err-takes-2-clause-reads t c =
+    let r = c.in_ok-entries.ensures.reads in
+    halted_read (with_tree c.args.builder.now) (λ _. tt) (map_at c.args.tokens c.args.depth c.args.builder.now.key (state_of c.args.cursor.now) c.args.cursor.now.seen)
+    (takes (source c.args.tokens) is_rbrace (state_of c.entries.new.cursor) c.entries.new.cursor.seen) c.from_residual-in_err-takes-2.result c.in_err-takes-2.field-0.0 c.entries.new.builder c.takes-2.new.self c.takes-2.new.self c.from_residual-in_err-takes-2.ensures.1
+    (λ k e. map_open (source c.args.tokens) c.args.tokens.turns c.args.depth c.args.builder.now.key r.0 (state_of c.args.cursor.now) (state_of c.takes.new.self) (state_of c.entries.new.cursor) c.args.cursor.now.seen c.takes.new.self.seen c.entries.new.cursor.seen k c.if-depth-eq0.false c.in_ok-takes.ensures r.1 e) c.in_err-takes-2.ensures
