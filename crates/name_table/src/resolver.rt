@@ -12,6 +12,7 @@ ghost use Rattle.rule_names.specs.Pieces.{AreInOrder};
 ghost use Rattle.rule_names.specs.ReferenceGraph.{graph_of};
 ghost use Rattle.name_table.specs.Picked.{ArePicked};
 ghost use Rattle.name_table.specs.Refused.{IsNameRefusal};
+ghost use Rattle.name_table.specs.Tables.{AreTablesOf, IsTested};
 
 use crate::deep::{depths_of, first_deep};
 use crate::refusal::{NameRefusal, refuse};
@@ -24,7 +25,7 @@ use reference_cycles::cycles::first_cycle;
 use reference_cycles::edges::graph_of;
 use reference_graph::Graph;
 use reference_graph::ordering::{Outcome, walk_all};
-use rule_names::RuleFile;
+use rule_names::{Link, RuleFile};
 use std::alloc::{AllocError, Global};
 
 /// The nodes of the graph of a file without cycles of names, each behind all that it names.
@@ -114,34 +115,66 @@ fn judged_sites(alloc: Global, file: &RawFile, graph: &Graph) -> Result<Vec<u32>
     Ok(sites)
 }
 
+/// The tables of a file whose names are as they must be.
+#[derive(Drop)]
+struct Tables {
+    homes: Vec<u32>,
+    links: Vec<Option<Link>>,
+    depths: Vec<u8>,
+    judged: Vec<u32>,
+}
+
+/// Tests single names, and whether one reaches itself. The graph of the file is of use to the order of its rules.
+fn tested_graph(alloc: Global, file: &RawFile) -> Result<Graph, NameRefusal>
+    requires sites { AreInOrder (see_file file.now) }
+    ensures { MatchResult result (λ graph. IsTested (see_file file.now) graph) (λ refusal. IsNameRefusal (see_file file.now) refusal) }
+{
+    if let Some(wrong) = first_duplicate(alloc, file)? {
+        return Err(refuse(alloc, wrong));
+    }
+    if let Some(wrong) = first_wrong_use(alloc, file)? {
+        return Err(refuse(alloc, wrong));
+    }
+    let graph = graph_of(alloc, file)?;
+    if let Some(wrong) = first_cycle(alloc, file, &graph)? {
+        return Err(refuse(alloc, wrong));
+    }
+    Ok(graph)
+}
+
+/// Tests the names of a file, and makes its tables.
+fn tables_of(alloc: Global, file: &RawFile) -> Result<Tables, NameRefusal>
+    requires sites { AreInOrder (see_file file.now) }
+    ensures { MatchResult result (λ tables. AreTablesOf (see_file file.now) tables) (λ refusal. IsNameRefusal (see_file file.now) refusal) }
+{
+    let graph = tested_graph(alloc, file)?;
+    let links = resolution_of(alloc, file)?;
+    let depths = depths_of(alloc, file, &links)?;
+    if let Some(wrong) = first_deep(file, &links, &depths) {
+        return Err(refuse(alloc, wrong));
+    }
+    let homes = homes_of(alloc, file)?;
+    let judged = judged_sites(alloc, file, &graph)?;
+    Ok(Tables {
+        homes,
+        links,
+        depths,
+        judged,
+    })
+}
+
 /// Tests the names of a rule file, and gives the file with its parts by their sites. The file is dropped on a refusal.
 pub fn resolve(alloc: Global, raw: RawFile) -> Result<RuleFile, NameRefusal>
     requires sites { AreInOrder (see_file raw) }
     requires begins { QueriesBegin (see_file raw) }
     ensures { MatchResult result (λ f. file_of f ≡ see_file raw) (λ refusal. IsNameRefusal (see_file raw) refusal) }
 {
-    if let Some(wrong) = first_duplicate(alloc, &raw)? {
-        return Err(refuse(alloc, wrong));
-    }
-    if let Some(wrong) = first_wrong_use(alloc, &raw)? {
-        return Err(refuse(alloc, wrong));
-    }
-    let graph = graph_of(alloc, &raw)?;
-    if let Some(wrong) = first_cycle(alloc, &raw, &graph)? {
-        return Err(refuse(alloc, wrong));
-    }
-    let links = resolution_of(alloc, &raw)?;
-    let depths = depths_of(alloc, &raw, &links)?;
-    if let Some(wrong) = first_deep(&raw, &links, &depths) {
-        return Err(refuse(alloc, wrong));
-    }
-    let homes = homes_of(alloc, &raw)?;
-    let judged = judged_sites(alloc, &raw, &graph)?;
+    let tables = tables_of(alloc, &raw)?;
     Ok(RuleFile {
         raw,
-        homes,
-        links,
-        depths,
-        judged,
+        homes: tables.homes,
+        links: tables.links,
+        depths: tables.depths,
+        judged: tables.judged,
     })
 }
