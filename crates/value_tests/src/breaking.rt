@@ -1,6 +1,6 @@
 //! Files of a system whose reads fail in mid-stream.
-use crate::files::loads;
-use guard_io::RealFiles;
+use crate::files::end_of;
+use guard_io::{Files, RealFiles};
 use std::alloc::Allocator;
 use std::fs::{self, Metadata, OpenFile, OpenOptions};
 use std::io::{self, ErrorKind, Read, Seek, SeekFrom, Write};
@@ -125,8 +125,11 @@ fn keeps_what_came_before_a_failed_read(rt: HostRuntime) -> Result<(), Fail> {
         rt: &system,
         faults: 0,
     };
-    let asked = &[("a", 0), ("a", 2), ("a", 3), ("a", 4)];
-    let text = loads(rt.alloc(), &mut files, asked)?;
+    let mut text = Vec::new(rt.alloc());
+    for most in [0, 2, 3, 4] {
+        let end = end_of(files.load("a", most, &mut text));
+        text.extend_from_slice(end)?;
+    }
     assert!(rt; text.as_slice() == b" loaded\nab loaded\nabc loaded\nabc failed\n".as_slice());
     assert!(rt; files.faults == 1);
     Ok(())

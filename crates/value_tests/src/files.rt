@@ -5,7 +5,7 @@ use std::fs;
 use std::test::Fail;
 
 /// How a load ended.
-fn end_of(load: Result<(), LoadFault>) -> &'static [u8] {
+pub(crate) fn end_of(load: Result<(), LoadFault>) -> &'static [u8] {
     match load {
         Ok(()) => b" loaded\n",
         Err(LoadFault::Failed) => b" failed\n",
@@ -14,7 +14,7 @@ fn end_of(load: Result<(), LoadFault>) -> &'static [u8] {
 }
 
 /// What comes of loads by names and lengths, one after another into one text: what each appends, and how it ends.
-pub(crate) fn loads<F: Files>(
+fn loads<F: Files>(
     alloc: Global,
     files: &mut F,
     asked: &[(&str, u64)],
