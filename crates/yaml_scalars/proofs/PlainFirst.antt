@@ -10,6 +10,7 @@ use Rattle.yaml_scalars.specs.Walk.{line_at, behind}
 use Rattle.yaml_scalars.specs.Plain.{begins_plain, wrong_begin, stops, plain_len, content, content_end, why, reason, first, plain_on}
 use Rattle.yaml_scalars.specs.PlainSteps.{from}
 use Rattle.yaml_scalars.specs.Scalar.{is_first_column, plain_scalar, IsEndOf}
+use Rattle.yaml_scalars.specs.Memory.{fills_line, is_break}
 use Rattle.yaml_scalars.proofs.Places.{lines_are}
 use Rattle.yaml_scalars.proofs.FurtherLines.{reason_is, stands_same}
 
@@ -47,6 +48,13 @@ first_stands s text at w t end r o a b = by_reason w r o ∙ stands_same _ t _ e
   by_reason Colon r o = refl
   by_reason Comment r o = refl
   by_reason Mark r o = refl
+
+-- it fills its line where that ends it and it is no key
+pub line_filled : (s : Setting) (text : List ℕ) (at stop : ℕ) → s.one_line ≡ false → true ≡ begins_plain s.flow (line_at (drop at text)) → stop ≡ at + plain_len s.flow false (line_at (drop at text)) → Break ≡ why (line_at (drop stop text)) → fills_line s (line_at (drop at text)) ≡ true
+unfolding fills_line
+line_filled s text at stop o b e w =
+    ap (λ q. not q && (begins_plain s.flow (line_at (drop at text)) && is_break (reason s.flow (line_at (drop at text))))) o
+    ∙ ap (λ q. q && is_break (reason s.flow (line_at (drop at text)))) (sym b) ∙ ap is_break (reason_is s.flow text at stop e ∙ sym w)
 
 -- the content of a first line is not empty
 keep_some : (b : ℕ) (xs : List ℕ) → is_white b ≡ false → 0 < length (keep b xs)

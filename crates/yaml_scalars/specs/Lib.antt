@@ -9,3 +9,4 @@ pub mod BlockSteps
 pub mod QuotedSteps
 pub mod KindSteps
 pub mod PlainSteps
+pub mod Memory

@@ -1,5 +1,5 @@
 //! Block scalars.
-ghost use Rattle.std.specs.Prelude.{ℕ, ◌≡◌, ◌⊎◌, ◌+◌, ◌-◌, ◌<◌, ◌≤◌, ◌≤ℤ◌, ◌++◌, Bool, List, [], None, Some, length, drop, slice_index, pos, negsuc, IfOk, true, false, not, MatchOption, string_bytes};
+ghost use Rattle.std.specs.Prelude.{ℕ, ◌≡◌, ◌⊎◌, ◌+◌, ◌-◌, ◌<◌, ◌≤◌, ◌≤ℤ◌, ◌++◌, Bool, List, [], None, Some, length, drop, slice_index, pos, negsuc, IfOk, IsErrOf, true, false, not, MatchOption, string_bytes};
 ghost use Rattle.std.specs.Str.{IsCharBoundary};
 ghost use Rattle.std.specs.Cow.{cow_str_bytes};
 ghost use Rattle.yaml_scalars.specs.Lines.{is_blank, lines};
@@ -437,7 +437,7 @@ fn read_lines<'s>(
     }
 }
 
-/// The block scalar that begins at a place.
+/// The block scalar that begins at a place. It takes memory only where a line stands below.
 pub(crate) fn read_block<'s>(
     alloc: Global,
     text: &'s str,
@@ -452,6 +452,7 @@ pub(crate) fn read_block<'s>(
     requires high { setting.parent ≤ℤ pos 8388608 }
     ensures answer { Answers false (block_scalar setting text.now at) result }
     ensures end { IfOk result (λ s. IsEndOf text.now at s.end) }
+    ensures memory { IsErrOf result ScalarRefusal.NoMemory → has_break (drop at text.now) ≡ true }
 {
     let bytes = text.as_bytes();
     let header = header_at(bytes, at + 1);

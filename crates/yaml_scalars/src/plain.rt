@@ -1,5 +1,5 @@
 //! Plain scalars.
-ghost use Rattle.std.specs.Prelude.{ℕ, List, ◌≡◌, ◌+◌, ◌-◌, ◌<◌, ◌≤◌, ◌≤ℤ◌, length, drop, take, pos, negsuc, slice_index, IfOk, IfErr, true, false, not, ◌&&◌, ◌||◌, string_bytes, Option, Some, None};
+ghost use Rattle.std.specs.Prelude.{ℕ, List, ◌≡◌, ◌+◌, ◌-◌, ◌<◌, ◌≤◌, ◌≤ℤ◌, length, drop, take, pos, negsuc, slice_index, IfOk, IfErr, IsErrOf, true, false, not, ◌&&◌, ◌||◌, string_bytes, Option, Some, None};
 ghost use Rattle.std.specs.Str.{IsCharBoundary};
 ghost use Rattle.std.specs.Cow.{cow_str_bytes};
 ghost use Rattle.yaml_scalars.specs.Lines.{Stands, is_mark, is_cut_mark};
@@ -7,6 +7,7 @@ ghost use Rattle.yaml_scalars.specs.Walk.{line_at};
 ghost use Rattle.yaml_scalars.specs.Plain.{plain_len, joined, content_end, ends_on};
 ghost use Rattle.yaml_scalars.specs.PlainSteps.{from, rest, LiesBehind, IsRefusal};
 ghost use Rattle.yaml_scalars.specs.Scalar.{IsEndOf, Answers, HasKind, is_first_column, plain_scalar};
+ghost use Rattle.yaml_scalars.specs.Memory.{fills_line};
 
 use crate::kind::plain_kind;
 use crate::lines::{is_cut_mark, is_first_column, is_mark, next_line, push_fold};
@@ -222,7 +223,7 @@ fn is_mark_at(bytes: &[u8], at: usize) -> bool
     is_first_column(bytes, at) && (is_mark(bytes, at) || is_cut_mark(bytes, at))
 }
 
-/// The plain scalar that begins at a place.
+/// The plain scalar that begins at a place. It takes memory only where it may go on over further lines.
 pub(crate) fn read_plain<'s>(
     alloc: Global,
     text: &'s str,
@@ -236,6 +237,7 @@ pub(crate) fn read_plain<'s>(
     requires high { setting.parent ≤ℤ pos 8388608 }
     ensures answer { Answers (not setting.one_line) (plain_scalar setting text.now at) result }
     ensures end { IfOk result (λ s. IsEndOf text.now at s.end) }
+    ensures memory { IsErrOf result ScalarRefusal.NoMemory → fills_line setting (line_at (drop at text.now)) ≡ true }
 {
     let bytes = text.as_bytes();
     if is_mark_at(bytes, at) {

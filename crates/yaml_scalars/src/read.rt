@@ -1,7 +1,8 @@
 //! A scalar of any form.
-ghost use Rattle.std.specs.Prelude.{◌≡◌, ◌⊎◌, ◌<◌, ◌≤◌, ◌≤ℤ◌, length, drop, slice_index, true, pos, negsuc, IfOk};
+ghost use Rattle.std.specs.Prelude.{◌≡◌, ◌⊎◌, ◌<◌, ◌≤◌, ◌≤ℤ◌, length, drop, slice_index, true, pos, negsuc, IfOk, IsErrOf};
 ghost use Rattle.std.specs.Str.{IsCharBoundary};
 ghost use Rattle.yaml_scalars.specs.Scalar.{IsEndOf, Answers, begins_quoted, begins_block, scalar_at, is_typed};
+ghost use Rattle.yaml_scalars.specs.Memory.{may_take};
 
 use crate::block::read_block;
 use crate::plain::read_plain;
@@ -27,7 +28,7 @@ fn begins_block(bytes: &[u8], at: usize, setting: Setting) -> bool
 }
 
 /// The plain, quoted or block scalar that begins at a byte offset. Its text is borrowed where it stands on one line
-/// without escapes. `NoMemory` says nothing of the text.
+/// without escapes. `NoMemory` says no more of the text than that the scalar is in quotes or may have lines below.
 pub fn read_scalar<'s>(
     alloc: Global,
     text: &'s str,
@@ -41,6 +42,7 @@ pub fn read_scalar<'s>(
     requires high { setting.parent ≤ℤ pos 8388608 }
     ensures answer { Answers (is_typed setting text.now at) (scalar_at setting text.now at) result }
     ensures end { IfOk result (λ s. IsEndOf text.now at s.end) }
+    ensures memory { IsErrOf result ScalarRefusal.NoMemory → may_take setting text.now at ≡ true }
 {
     if begins_quoted(text.as_bytes(), at) {
         return read_quoted(alloc, text, at, setting);

@@ -56,3 +56,6 @@ returns-in-Some-next_line-clause-answer c =
     let fits : FitsSigned w32 c.args.setting.parent = search rules in
     let below = λ (p : ℤ). by_digit folded p (chomp_seen h.chomp) (length text) h.digit (lines start (drop start text)) in
     subst (λ (o : Outcome). Answers false o c.read_lines.result) (ap below (to_z-of_z w32 c.args.setting.parent fits) ∙ sym (block_lines c.args.setting.parent text at start h folded c.requires.within c.requires.indicator seen fault broken next (ap (λ (b : List ℕ). nat_eq (get_or b at 0) 62) v))) c.read_lines.ensures.answer
+
+pub returns-in-Some-next_line-clause-memory : goal.returns-in-Some-next_line-clause-memory
+returns-in-Some-next_line-clause-memory c want = subst (λ (b : List ℕ). has_break (drop c.args.at b) ≡ true) c.as_bytes-bytes.ensures.value c.in-Some-next_line.ensures.0

@@ -8,7 +8,7 @@ use Rattle.yaml_scalars.specs.Plain.{begins_plain, wrong_begin, plain_len, why}
 use Rattle.yaml_scalars.specs.Scalar.{is_first_column, IsEndOf, Answers, HasKind}
 use Rattle.yaml_scalars.proofs.LineParts.{slice_length}
 use Rattle.yaml_scalars.proofs.FurtherLines.{content_is, not_true, not_false, stands_same}
-use Rattle.yaml_scalars.proofs.PlainFirst.{plain_mark, plain_wrong, plain_first, first_return, first_break, first_stands, content_some, end_of}
+use Rattle.yaml_scalars.proofs.PlainFirst.{plain_mark, plain_wrong, plain_first, first_return, first_break, first_stands, line_filled, content_some, end_of}
 use Rattle.yaml_scalars.proofs.plain.read_plain.Goals.{in_default-via-in-Break+else-not-setting, in_default-via-in_default}
 use Rattle.yaml_scalars.proofs.plain.read_plain.Goals as goal
 
@@ -145,3 +145,15 @@ range-requires-clause-end_boundary c =
     let more : at < end = omega (arith, size, some, ap (λ (t : List ℕ). length t) slice) in
     let edge = subst (λ (t : List ℕ). end < length t → slice_index t end < 128) v (c.trim_end-end.ensures.edge c.plain_end-stop.ensures.edge) in
     let ends = end_of text at end more fits edge in ends.2
+
+pub returns-in-Break-clause-memory : goal.returns-in-Break-clause-memory
+returns-in-Break-clause-memory c want =
+    let text = c.args.text.now in
+    let at = c.args.at in
+    let flow = c.args.setting.flow in
+    let v = c.as_bytes-bytes.ensures.value in
+    let b = subst (λ (t : List ℕ). true ≡ begins_plain flow (line_at (drop at t))) v (sym c.if-not-begins_plain.false ∙ c.begins_plain.ensures) in
+    let stop = c.plain_end-stop.result in
+    let e = subst (λ (t : List ℕ). stop ≡ at + plain_len flow false (line_at (drop at t))) v c.plain_end-stop.ensures.end in
+    let w = subst (λ (t : List ℕ). Break ≡ why (line_at (drop stop t))) v (sym c.in-Break.is ∙ c.why_at.ensures) in
+    line_filled c.args.setting text at stop (not_true c.args.setting.one_line c.if-not-setting.true) b e w
