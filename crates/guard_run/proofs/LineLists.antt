@@ -1,16 +1,23 @@
 -- The lines of one verdict more, and what stays of lines where the trees grow.
-use Rattle.std.proofs.Common.{◌≡◌, ℕ, ◌+◌, ◌++◌, List, [], ◌∷◌, Bool, Some, ◌<◌, ◌^◌, ◌-◌, min, length, map, take, get_or, arith, count_by, cond, sym, ap, ap₂, ◌∙◌, append_assoc}
+use Rattle.std.proofs.Common.{◌≡◌, ℕ, ◌+◌, ◌++◌, List, [], ◌∷◌, Bool, Some, ◌<◌, ◌^◌, ◌-◌, min, length, map, take, get_or, arith, count_by, cond, refl, sym, ap, ap₂, ◌∙◌, append_assoc}
 use Rattle.std.specs.List.{flat_map}
-use Rattle.std.proofs.lemmas.List.{flat_map_more, length-append, map-append, take_more}
+use Rattle.std.proofs.lemmas.List.{append-nil, flat_map_more, length-append, map-append, take_more}
 use Rattle.std.proofs.lemmas.List.Sums.{sum_by-append}
+use Rattle.doc_values.specs.Tree.{Forest}
+use Rattle.guard_io.specs.declared.memory_sinks.CleanSink.{CleanSink}
+use Rattle.guard_syntax.specs.Syntax.{File}
 use Rattle.guard_syntax.specs.declared.row.Verdict.{Verdict}
 use Rattle.rule_meaning.specs.Verdicts.{is_pass, is_fail, is_skip}
 use Rattle.plain_evaluator.specs.States.{Grows, State}
 use Rattle.guard_ends.specs.Drill.{fail_count}
-use Rattle.guard_run.specs.Listed.{AreLinesOf, count_of, lines_in}
+use Rattle.report_text.specs.RuleLines.{rule_line}
+use Rattle.guard_run.specs.Listed.{AreLinesOf, count_of, lines_as, lines_in}
 use Rattle.guard_ends.specs.Reported.{Reported}
+use Rattle.guard_run.specs.declared.report.Form.{Form}
+use Rattle.guard_run.specs.declared.report.Form.TheVariants as form
 use Rattle.guard_run.specs.declared.report.Lines.{Lines}
 use Rattle.guard_run.specs.declared.report.Source.{Source}
+use Rattle.guard_run.specs.declared.report.Tally.{Tally}
 
 abbrev verdicts_in : List Reported → List Verdict
 verdicts_in of = map (λ (r : Reported). r.verdict) of
@@ -41,22 +48,29 @@ one-written : (written : Reported → List ℕ) (before : List Reported) (r : Re
 one-written written before r old first more new were is then =
     then ∙ (append_assoc old first more ∙ (ap₂ (λ (a b : List ℕ). a ++ b) were is ∙ flat_map_more written [] before r))
 
--- behind the lines of others stand those of one verdict more, and it is counted
-pub one-more_line : (written : Reported → List ℕ) (lines all : Lines) (before : List Reported) (r : Reported) (first more : List ℕ)
-    → AreLinesOf written lines before → first ++ more ≡ written r → all.text.bytes.items ≡ (lines.text.bytes.items ++ first) ++ more
-    → all.tally.pass ≡ lines.tally.pass + count_by is_pass (r.verdict ∷ [])
-    → all.tally.fail ≡ lines.tally.fail + count_by is_fail (r.verdict ∷ [])
-    → all.tally.skip ≡ lines.tally.skip + count_by is_skip (r.verdict ∷ [])
-    → all.entries ≡ min (lines.entries + length r.fails) (2 ^ 64 - 1)
-    → count_of all ≡ count_of lines + 1 → AreLinesOf written all (before ++ (r ∷ []))
-one-more_line written lines all before r first more were is text pass fail skip entries count = record {
-  text = one-written written before r lines.text.bytes.items first more all.text.bytes.items were.text is text;
-  all = omega (arith, count, were.all, length-append before (r ∷ []));
-  pass = one-counted is_pass before r lines.tally.pass all.tally.pass were.pass pass;
-  fail = one-counted is_fail before r lines.tally.fail all.tally.fail were.fail fail;
-  entries = entries-counted before r lines.entries all.entries were.entries entries;
-  skip = one-counted is_skip before r lines.tally.skip all.tally.skip were.skip skip;
+-- behind the lines of others stand those of one verdict more, which are written first, and it is counted then
+pub one-more_line : (written : Reported → List ℕ) (lines mid all : Lines) (before : List Reported) (r : Reported) (first more : List ℕ)
+    → AreLinesOf written lines before → first ++ more ≡ written r → mid.text.bytes.items ≡ (lines.text.bytes.items ++ first) ++ more
+    → mid.tally ≡ lines.tally → mid.entries ≡ lines.entries → all.text ≡ mid.text
+    → all.tally.pass ≡ mid.tally.pass + count_by is_pass (r.verdict ∷ [])
+    → all.tally.fail ≡ mid.tally.fail + count_by is_fail (r.verdict ∷ [])
+    → all.tally.skip ≡ mid.tally.skip + count_by is_skip (r.verdict ∷ [])
+    → count_of all ≡ count_of mid + 1
+    → all.entries ≡ min (mid.entries + length r.fails) (2 ^ 64 - 1) → AreLinesOf written all (before ++ (r ∷ []))
+one-more_line written lines mid all before r first more were is text tally entries same pass fail skip count counted = record {
+  text = one-written written before r lines.text.bytes.items first more all.text.bytes.items were.text is (ap (λ (s : CleanSink). s.bytes.items) same ∙ text);
+  all = omega (arith, count ∙ ap (λ (t : Tally). t.pass + t.fail + t.skip + 1) tally, were.all, length-append before (r ∷ []));
+  pass = one-counted is_pass before r mid.tally.pass all.tally.pass (ap (λ (t : Tally). t.pass) tally ∙ were.pass) pass;
+  fail = one-counted is_fail before r mid.tally.fail all.tally.fail (ap (λ (t : Tally). t.fail) tally ∙ were.fail) fail;
+  entries = entries-counted before r mid.entries all.entries (entries ∙ were.entries) counted;
+  skip = one-counted is_skip before r mid.tally.skip all.tally.skip (ap (λ (t : Tally). t.skip) tally ∙ were.skip) skip;
 }
+
+-- a form without entries writes the line of the verdict alone
+pub line-alone : (f : Form) (file : File) (tree : Forest) (rules template : List ℕ) (r : Reported) → (f ≡ form.Entries → ⊥)
+    → rule_line r.name r.verdict ++ [] ≡ lines_as f file tree rules template r
+line-alone form.Entries file tree rules template r other = absurd (other refl)
+line-alone (form.Drill count) file tree rules template r other = append-nil (rule_line r.name r.verdict)
 
 -- one text more behind those of the items before
 pub texts-more : {X Y : Type 0} (see : X → Y) (written : Y → List ℕ) (xs : List X) (i : ℕ) (d : X) (start old new : List ℕ) → i < length xs

@@ -1,9 +1,10 @@
 -- The rules and the parts outside rules that stand in a file, and what trees are over.
-use Rattle.std.proofs.Common.{◌≡◌, ℕ, ◌<◌, ◌≤◌, ◌+◌, ◌++◌, ◌==◌, Bool, true, add-one, IfOk, Result, List, [], ◌∷◌, length, map, take, get_or, arith, sym, ap, ◌∙◌, subst, zero, suc, refl, codes}
+use Rattle.std.proofs.Common.{◌≡◌, ℕ, ◌<◌, ◌+◌, ◌++◌, ◌==◌, Bool, true, false, add-one, IfOk, Result, Ok, Err, List, [], ◌∷◌, length, map, take, get_or, arith, sym, ap, ◌∙◌, subst, zero, suc, refl, codes}
+use Rattle.std.specs.Prelude.{IsErrAnd}
 use Rattle.std.specs.List.{flat_map}
 use Rattle.std.proofs.lemmas.Bool.Decides.{nat_tests}
 use Rattle.std.proofs.lemmas.Grind.{flat_map-append}
-use Rattle.std.proofs.lemmas.List.{append-nil, length-append, map-append}
+use Rattle.std.proofs.lemmas.List.{append-nil, map-append}
 use Rattle.std.proofs.Math.Seq.{take-suc}
 use Rattle.doc_values.specs.Tree.{Forest}
 use Rattle.guard_syntax.specs.Named.{Named}
@@ -141,9 +142,13 @@ none-fail verdict.Skip entries other = refl
 
 -- A rule with parameters is not reported.
 
-pub not-reported : (v : Reported) (ps : List Named) → (length ps ≡ 0 → ⊥) → if_plain v ps ≡ []
+not-reported : (v : Reported) (ps : List Named) → (length ps ≡ 0 → ⊥) → if_plain v ps ≡ []
 not-reported v [] some = absurd (some refl)
 not-reported v (p ∷ ps) some = refl
+
+pub none-reported : (world : World) (r : sx.Rule) → (length r.params ≡ 0 → ⊥) → of_rule world r ≡ []
+none-reported world r some =
+    not-reported (reported_as r.name.text (rule_verdict world r) (if_fail (rule_verdict world r) (rule_fails world r))) r.params some
 
 pub one-reported : (v : Reported) (ps : List Named) → length ps ≡ 0 → if_plain v ps ≡ v ∷ []
 one-reported v [] none = refl
@@ -158,19 +163,16 @@ rule-one world r v entries none is fails =
     ∙ (ap (λ (v : Verdict). reported_as r.name.text v (if_fail v (rule_fails world r)) ∷ []) is
     ∙ sym (one-reported (reported_as r.name.text (rule_verdict world r) (if_fail (rule_verdict world r) (rule_fails world r))) r.params none))
 
-few-reported : (v : Reported) (ps : List Named) → length (if_plain v ps) ≤ 1
-few-reported v [] = omega arith
-few-reported v (p ∷ ps) = omega arith
-
--- no more are reported than there are rules
-pub reported-few : (world : World) (rs : List sx.Rule) → length (flat_map (of_rule world) rs) ≤ length rs
-reported-few world [] = omega arith
-reported-few world (r ∷ rs) =
-    let one = few-reported (reported_as r.name.text (rule_verdict world r) (if_fail (rule_verdict world r) (rule_fails world r))) r.params in
-    let more = reported-few world rs in
-    let both = length-append (of_rule world r) (flat_map (of_rule world) rs) in
-    omega arith
-
 -- a list that is told empty has no length
 pub none-left : {X : Type 0} (xs : List X) (b : Bool) → b ≡ (length xs == 0) → b ≡ true → length xs ≡ 0
 none-left xs b is holds_is = let test : (length xs == 0) ≡ true = sym is ∙ holds_is in grind (arith, nat_tests, test)
+
+pub some-left : {X : Type 0} (xs : List X) (b : Bool) → b ≡ (length xs == 0) → b ≡ false → length xs ≡ 0 → ⊥
+some-left xs b is fails none =
+    let test : (length xs == 0) ≡ false = sym is ∙ fails in
+    grind (arith, nat_tests, test, none)
+
+-- where an error is handed up, nothing is said of a value
+pub none-at-exit : {T E : Type 0} (P : T → Type 0) (r : Result T E) (e : E) → IsErrAnd r (λ (y : E). y ≡ e) → IfOk r P
+none-at-exit P (Ok x) e is = absurd is
+none-at-exit P (Err y) e is = tt

@@ -1,18 +1,19 @@
 use Rattle.std.proofs.Common.{◌≡◌, ◌++◌, ℕ, List, OnOk, map, arith, subst, sym, ap, ◌∙◌}
 use Rattle.std.proofs.lemmas.Grind.{common_steps}
+use Rattle.std.proofs.lemmas.List.Elements.{All-same}
 use Rattle.guard_syntax.specs.Seen.{disj_list, see_disj}
 use Rattle.rule_names.specs.Pieces.{pieces_disjs}
 use Rattle.rule_meaning.specs.Fails.{loose_fails}
 use Rattle.rule_meaning.specs.Seeing.{world_of}
 use Rattle.rule_meaning.specs.Locations.{World}
-use Rattle.report_text.specs.SeenEntries.{see_entry}
+use Rattle.report_text.specs.SeenEntries.{IsShowable, see_entry}
 use Rattle.report_text.specs.declared.entry.Entry as code
 use Rattle.plain_evaluator.specs.States.{Grows, State, see_trees}
 use Rattle.plain_evaluator.proofs.Growing.{Grows-trans, answering-on, book-on, same-file, stands-on}
 use Rattle.guard_run.specs.Listed.{AreLinesOf, lines_in}
 use Rattle.guard_ends.specs.Reported.{Reported, if_fail, of_loose}
 use Rattle.guard_run.proofs.LineLists.{lines-kept}
-use Rattle.guard_run.proofs.Walks.{loose-one}
+use Rattle.guard_run.proofs.Walks.{loose-one, none-at-exit}
 use Rattle.guard_run.proofs.report.add_loose.Goals as goal
 
 pub entries_of_loose-requires-clause-placed : goal.entries_of_loose-requires-clause-placed
@@ -29,6 +30,19 @@ add-requires-clause-file c =
     let second : State = see_trees c.verdict_of_loose.new.trees in
     let third : State = see_trees c.entries_of_loose.new.trees in
     same-file first third (Grows-trans first second third c.in_ok-verdict.ensures.grows c.in_ok-entries.ensures.grows) ∙ c.requires.file
+
+pub add-requires-clause-shown : goal.add-requires-clause-shown
+add-requires-clause-shown c =
+    let third : State = see_trees c.entries_of_loose.new.trees in
+    All-same (λ (e : code.Entry). IsShowable third.known e.shown) c.deref.result.now c.in_ok-entries.entries.items c.deref.ensures.value
+    c.in_ok-entries.ensures.showable
+
+pub returns-in_err-verdict : goal.returns-in_err-verdict
+returns-in_err-verdict c answers obey before were = none-at-exit _ c.from_residual.result c.in_err-verdict.field-0.0 c.from_residual.ensures.1
+
+pub returns-in_err-entries : goal.returns-in_err-entries
+returns-in_err-entries c answers obey before were =
+    none-at-exit _ c.from_residual-in_err-entries.result c.in_err-entries.field-0.0 c.from_residual-in_err-entries.ensures.1
 
 pub returns : goal.returns
 returns c answers obey before were =

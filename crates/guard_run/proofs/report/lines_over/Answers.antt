@@ -7,7 +7,7 @@ use Rattle.rule_names.specs.Pieces.{pieces_disjs}
 use Rattle.rule_names.specs.Within.{StandsIn}
 use Rattle.plain_evaluator.specs.States.{see_trees}
 use Rattle.plain_evaluator.proofs.Growing.{book-on, same-file, stands-on}
-use Rattle.guard_run.proofs.Walks.{lines-all, loose-stands}
+use Rattle.guard_run.proofs.Walks.{lines-all, loose-stands, none-at-exit}
 use Rattle.guard_run.proofs.report.lines_over.Goals as goal
 
 pub rule_lines-requires-clause-rules : goal.rule_lines-requires-clause-rules
@@ -31,6 +31,13 @@ add_loose-requires-clause-file c =
 pub add_loose-requires-clause-book : goal.add_loose-requires-clause-book
 add_loose-requires-clause-book c =
     book-on (see_trees c.args.trees.now) (see_trees c.rule_lines.new.trees) c.in_ok-lines.ensures.grows c.args.book.now c.requires.book
+
+pub returns-in_err-lines : goal.returns-in_err-lines
+returns-in_err-lines c answers obey = none-at-exit _ c.from_residual.result c.in_err-lines.field-0.0 c.from_residual.ensures.1
+
+pub returns-in_err-add_loose : goal.returns-in_err-add_loose
+returns-in_err-add_loose c answers obey =
+    none-at-exit _ c.from_residual-in_err-add_loose.result c.in_err-add_loose.field-0.0 c.from_residual-in_err-add_loose.ensures.1
 
 pub returns : goal.returns
 returns c answers obey =

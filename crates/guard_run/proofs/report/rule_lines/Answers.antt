@@ -11,7 +11,7 @@ use Rattle.plain_evaluator.proofs.Growing.{Grows-refl, Grows-trans, answering-on
 use Rattle.guard_run.specs.Listed.{AreLinesOf, lines_in}
 use Rattle.guard_ends.specs.Reported.{Reported, of_rule}
 use Rattle.guard_run.proofs.LineLists.{lines-kept}
-use Rattle.guard_run.proofs.Walks.{rule-more, rule-stands}
+use Rattle.guard_run.proofs.Walks.{none-at-exit, rule-more, rule-stands}
 use Rattle.guard_run.proofs.report.rule_lines.Goals as goal
 
 pub add_rule-requires-clause-placed : goal.add_rule-requires-clause-placed
@@ -57,6 +57,14 @@ loop-rule-preserved c =
           c.in_ok-add_rule.ensures.lines answers obey before
           (subst (λ (ws : Reported → List ℕ). AreLinesOf ws c.loop-rule.lines before) (sym kept) (c.loop-rule.invariant.2 answers obey)))),
     )
+
+pub returns-in_err-add_rule : goal.returns-in_err-add_rule
+returns-in_err-add_rule c = record {
+  grows = Grows-trans (see_trees c.args.trees.now) (see_trees c.loop-rule.trees) (see_trees c.add_rule.new.trees) c.loop-rule.invariant.0
+      c.in_err-add_rule.ensures.grows;
+  count = none-at-exit _ c.from_residual.result c.in_err-add_rule.field-0.0 c.from_residual.ensures.1;
+  lines = λ answers obey. none-at-exit _ c.from_residual.result c.in_err-add_rule.field-0.0 c.from_residual.ensures.1;
+}
 
 pub returns-clause-lines : goal.returns-clause-lines
 returns-clause-lines c answers obey =
