@@ -27,6 +27,10 @@ store-starts s template file doc_is file_is made_is =
     ∙ ap (λ (f : RuleFile). record { template = template; file = file_of f; made = s.made }) file_is
     ∙ ap (λ (ms : List Made). record { template = template; file = file_of file; made = ms }) made_is
 
+-- one that knows of nothing made
+pub starts : (known : StoreModel) → known.made ≡ [] → known ≡ nothing_made known.template known.file
+starts known none = ap (λ (ms : List Made). record { template = known.template; file = known.file; made = ms }) none
+
 module _ (version : Version) (template : Forest) (file : File) (lines : List Line) where
   pub rejected-at : (start : StoreModel) (number : ℕ) → start ≡ nothing_made template file → IsFaultAt version start lines number → IsRejectedAt version template file lines number
   rejected-at start number is fault = inl (subst (λ (k : StoreModel). IsFaultAt version k lines number) is fault)

@@ -8,7 +8,7 @@ use Rattle.evidence_lines.specs.declared.line.Line.{Line}
 use Rattle.evidence_lines.specs.declared.line.LineKind.TheVariants as kind
 use Rattle.guard_syntax.specs.Syntax as sx
 use Rattle.guard_syntax.specs.declared.row.Verdict.{Verdict}
-use Rattle.guard_syntax.specs.declared.row.Verdict.TheVariants.{Pass}
+use Rattle.guard_syntax.specs.declared.row.Verdict.TheVariants.{Pass, Fail, Skip}
 use Rattle.rule_meaning.specs.StoreModel.{StoreModel}
 use Rattle.evidence_rules.specs.Follows.{Guarded, Under, UnderSome, conds_site}
 use Rattle.evidence_checker.specs.FirstCites.{IsGuard, IsSomeGuard}
@@ -24,6 +24,12 @@ module _ (known : StoreModel) (lines : List Line) (frame : ℕ) (Inner : List �
   pub decide-guarded : (said other : Verdict) (left : List ℕ) (r : Bool) → other ≡ said → MatchBool r (Guarded known lines said Inner left verdict) (Guarded known lines said Inner left verdict → ⊥)
       → MatchBool r (Guarded known lines other Inner left verdict) (Guarded known lines other Inner left verdict → ⊥)
   decide-guarded said other left r is decided = subst (λ (v : Verdict). MatchBool r (Guarded known lines v Inner left verdict) (Guarded known lines v Inner left verdict → ⊥)) (sym is) decided
+
+  pub decide-skipped : (said : Verdict) (left : List ℕ) (r : Bool) → (said ≡ Pass → ⊥) → MatchBool r ((left ≡ []) × (verdict ≡ Skip)) ((left ≡ []) × (verdict ≡ Skip) → ⊥)
+      → MatchBool r (Guarded known lines said Inner left verdict) (Guarded known lines said Inner left verdict → ⊥)
+  decide-skipped Pass left r other decided = absurd (other refl)
+  decide-skipped Fail left r other decided = decided
+  decide-skipped Skip left r other decided = decided
 
   pub decide-under : (conditions : sx.Conds) (cites : List ℕ) (said : Verdict) (left : List ℕ) (r : Bool) → IsGuard lines frame conditions cites said left
       → MatchBool r (Guarded known lines said Inner left verdict) (Guarded known lines said Inner left verdict → ⊥)

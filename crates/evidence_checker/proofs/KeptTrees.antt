@@ -1,18 +1,21 @@
 -- The rows of an answer whose trees are kept at a line, and its trees, one after another.
 use Rattle.std.proofs.Common.{◌≡◌, ℕ, zero, suc, ◌+◌, ◌<◌, ◌≤◌, Bool, true, false, ◌&&◌, nat_le, List, [], ◌∷◌, ◌++◌, length, map, get_or, take, Some, None, refl, sym, ap, ◌∙◌, arith, if◌then◌else◌}
-use Rattle.std.specs.Prelude.{◌==◌, slice_get}
-use Rattle.std.proofs.lemmas.Bool.{and_from}
+use Rattle.std.specs.List.{list_all}
+use Rattle.std.specs.Prelude.{◌==◌, not, slice_get}
+use Rattle.std.proofs.lemmas.Bool.{and_from, true≢false}
 use Rattle.std.proofs.lemmas.Bool.Decides.{nat_tests}
 use Rattle.std.proofs.lemmas.List.{append-nil, length-append, length-map, map-append, take_more}
 use Rattle.std.proofs.lemmas.List.Elements.{All-append, All-cons, All-head, All-nil, All-tail}
+use Rattle.std.proofs.lemmas.List.Sums.{AllPass-from_list_all}
 use Rattle.std.proofs.lemmas.Option.{get_or_from_slice_get, slice_get-get_or, slice_get_within}
 use Rattle.doc_values.specs.Tree.{Forest}
-use Rattle.guard_builtins.specs.Seen.{see_made}
+use Rattle.guard_builtins.specs.Seen.{is_plain, see_made}
 use Rattle.guard_builtins.specs.declared.made.Made as types
 use Rattle.guard_builtins.specs.declared.made.Made.TheVariants as code
 use Rattle.guard_syntax.specs.declared.row.Row.{Row}
 use Rattle.rule_meaning.specs.Functions.{MadeRow, New, Kept}
 use Rattle.rule_meaning.specs.StoreModel.{StoreModel, Made, made_at}
+use Rattle.rule_meaning.specs.Values.{has_pattern}
 use Rattle.value_compare.specs.Stores.{see_store}
 use Rattle.value_compare.specs.declared.store.Store.{Store}
 use Rattle.rule_meaning.specs.Seeing.{are_called, grown, rows_kept, trees_kept}
@@ -150,3 +153,12 @@ module _ (before now : Store) (line next : ℕ) (taken : List types.Made) (so : 
         at = omega (arith, one, so.at, length-append taken (m ∷ []));
         store = so.store ∙ ap (grown (see_store before)) (sym (ap (trees_kept line 0) all ∙ trees-more line 0 next seen (Kept r ∷ []) many ∙ append-nil (trees_kept line 0 seen)));
       }
+
+-- a new tree among rows without patterns has none
+pub tree-plain : (answer : List types.Made) (m : types.Made) (tree : Forest) (i : ℕ) → list_all is_plain answer ≡ true → i < length answer → m ≡ get_or answer i m → m ≡ code.Tree tree
+    → has_pattern tree ≡ false
+tree-plain answer m tree i plain within is one = by (has_pattern tree) (ap is_plain (sym one ∙ is) ∙ AllPass-from_list_all is_plain answer plain i m within)
+  where
+    by : (b : Bool) → not b ≡ true → b ≡ false
+    by true e = absurd (true≢false (sym e))
+    by false e = refl

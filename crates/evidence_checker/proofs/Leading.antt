@@ -1,5 +1,5 @@
 -- Lines that make nothing known lead from what is known to the same.
-use Rattle.std.proofs.Common.{◌≡◌, Bool, true, false, ap, sym, refl, List, [], MatchBool}
+use Rattle.std.proofs.Common.{◌≡◌, Bool, true, false, ap, sym, refl, List, [], MatchBool, IfOk, Result, Ok, Err}
 use Rattle.std.proofs.lemmas.Bool.{true≢false}
 use Rattle.std.proofs.lemmas.List.{append-nil}
 use Rattle.rule_meaning.specs.StoreModel.{StoreModel, Made}
@@ -35,3 +35,8 @@ module _ (Holds : List Made → Type 0) (known after : StoreModel) where
   pub stays-of : (b : Bool) → b ≡ false → Decided b Holds known after → Stays Holds known after
   stays-of true is leads = absurd (true≢false is)
   stays-of false is stays = stays
+
+-- of an answer, if there is one
+pub both-weaker : {X Y : Type 0} (r : Result X Y) (P Q R : X → Type 0) → ((x : X) → P x → Q x → R x) → IfOk r P → IfOk r Q → IfOk r R
+both-weaker (Ok x) P Q R join p q = join x p q
+both-weaker (Err e) P Q R join p q = tt

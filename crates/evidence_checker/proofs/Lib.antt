@@ -4,6 +4,7 @@ mod CallsFollow
 mod Decided
 mod FirstSaid
 mod FramesSaid
+mod Guards
 mod KeptTrees
 mod KnownBehind
 mod Leading
@@ -14,9 +15,12 @@ mod OneGiven
 mod PartForms
 mod PartKinds
 mod PartsKinds
+mod RowsPlaced
+mod RowsTested
 mod RuleVerdicts
 mod SaidOnce
 mod SameRows
+mod SetsAsked
 mod SitesPlaced
 mod SoundLines
 mod StepKinds
@@ -24,4 +28,5 @@ mod StepLines
 mod StepsSeen
 mod TypeLines
 mod UsesSaid
+mod VerdictLines
 mod VerdictsSaid

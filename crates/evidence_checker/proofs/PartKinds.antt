@@ -20,6 +20,7 @@ use Rattle.rule_names.specs.ReferenceGraph.{part_site}
 use Rattle.rule_meaning.specs.StoreModel.{StoreModel}
 use Rattle.evidence_rules.specs.CitedLines.{IsLine}
 use Rattle.evidence_rules.specs.Follows.{SaysVerdict, kind_of_part}
+use Rattle.evidence_checker.proofs.PartForms.{block-seen, call-seen, kinds-seen, refer-seen, test-seen, when-seen}
 
 module _ (known : StoreModel) (lines : List Line) where
   -- the line of a part is of this kind, and of this site
@@ -31,42 +32,24 @@ module _ (known : StoreModel) (lines : List Line) where
   about p q seen = record { kind_is = ap (λ (x : sx.Part). kind_of_part known lines x) seen; site_is = ap part_site seen }
 
   pub about-block : (p : Part) (site : ℕ) (any : Bool) (head : Query) (inner : Body) → p ≡ part.Block site any head inner → IsAbout p kind.Block site
-  about-block p site any head inner is = about p (sx.block site any (see_query head) (see_body inner)) (ap see_part is ∙ seen)
-    where
-      seen : see_part (part.Block site any head inner) ≡ sx.block site any (see_query head) (see_body inner)
-      seen = search (rules, the_lemmas)
+  about-block p site any head inner is = about p (sx.block site any (see_query head) (see_body inner)) (ap see_part is ∙ block-seen site any head inner)
 
   pub about-when : (p : Part) (site : ℕ) (cond : Conds) (inner : Body) → p ≡ part.When site cond inner → IsAbout p kind.When site
-  about-when p site cond inner is = about p (sx.guarded site (see_conds cond) (see_body inner)) (ap see_part is ∙ seen)
-    where
-      seen : see_part (part.When site cond inner) ≡ sx.guarded site (see_conds cond) (see_body inner)
-      seen = search (rules, the_lemmas)
+  about-when p site cond inner is = about p (sx.guarded site (see_conds cond) (see_body inner)) (ap see_part is ∙ when-seen site cond inner)
 
   pub about-kinds : (p : Part) (site : ℕ) (name : List ℕ) (cond : Option Conds) (inner : Body) → p ≡ part.Kinds site name cond inner → IsAbout p kind.Kinds site
-  about-kinds p site name cond inner is = about p (sx.kinds site name (see_opt_conds cond) (see_body inner)) (ap see_part is ∙ seen)
-    where
-      seen : see_part (part.Kinds site name cond inner) ≡ sx.kinds site name (see_opt_conds cond) (see_body inner)
-      seen = search (rules, the_lemmas)
+  about-kinds p site name cond inner is = about p (sx.kinds site name (see_opt_conds cond) (see_body inner)) (ap see_part is ∙ kinds-seen site name cond inner)
 
   pub about-test : (p : Part) (site : ℕ) (any : Bool) (left : Query) (op : Op) (negated : Bool) (right : Option Expr) (message : Option (List ℕ))
       → p ≡ part.Test site any left op negated right message → IsAbout p kind.Test site
-  about-test p site any left op negated right message is = about p (sx.test site any (see_query left) op negated (see_opt_expr right) message) (ap see_part is ∙ seen)
-    where
-      seen : see_part (part.Test site any left op negated right message) ≡ sx.test site any (see_query left) op negated (see_opt_expr right) message
-      seen = search (rules, the_lemmas)
+  about-test p site any left op negated right message is = about p (sx.test site any (see_query left) op negated (see_opt_expr right) message) (ap see_part is ∙ test-seen site any left op negated right message)
 
   pub about-refer : (p : Part) (site : ℕ) (negated : Bool) (name : List ℕ) (message : Option (List ℕ)) → p ≡ part.Refer site negated name message → IsAbout p kind.Refer site
-  about-refer p site negated name message is = about p (sx.refer site negated name message) (ap see_part is ∙ seen)
-    where
-      seen : see_part (part.Refer site negated name message) ≡ sx.refer site negated name message
-      seen = search (rules, the_lemmas)
+  about-refer p site negated name message is = about p (sx.refer site negated name message) (ap see_part is ∙ refer-seen site negated name message)
 
   pub about-call : (p : Part) (site : ℕ) (negated : Bool) (name : List ℕ) (args : Vec Expr Global) (message : Option (List ℕ)) → p ≡ part.Call site negated name args message
       → IsAbout p kind.Call site
-  about-call p site negated name args message is = about p (sx.call site negated name (expr_list (map see_expr args.items)) message) (ap see_part is ∙ seen)
-    where
-      seen : see_part (part.Call site negated name args message) ≡ sx.call site negated name (expr_list (map see_expr args.items)) message
-      seen = search (rules, the_lemmas)
+  about-call p site negated name args message is = about p (sx.call site negated name (expr_list (map see_expr args.items)) message) (ap see_part is ∙ call-seen site negated name args message)
 
   -- so what such a line says is what the part's line says
   pub said-about : (p : Part) (of : LineKind) (site frame number : ℕ) (r : Option Verdict) → IsAbout p of site

@@ -1,16 +1,22 @@
 -- Lines of the rows of steps: what they cite is one, and so is what they say.
 use Rattle.std.proofs.Common.{◌≡◌, ◌<◌, ◌≤◌, ◌-◌, ◌+◌, ℕ, zero, suc, Bool, true, false, refl, ap, sym, ◌∙◌, subst, arith, get_or, take, drop, List, [], ◌∷◌, ◌++◌, length, Option, Some, None, MatchBool, MatchOption, Bor}
+use Rattle.std.specs.Option.{option_map_or}
+use Rattle.std.specs.Prelude.{is_some, not, option_and_then, option_map}
+use Rattle.std.proofs.lemmas.Bool.{true≢false}
 use Rattle.std.proofs.lemmas.List.{take_all}
 use Rattle.evidence_lines.specs.declared.line.Line.{Line}
-use Rattle.guard_syntax.specs.Syntax.{Conds, Query, Step, this, var, key, index, every, items, splice, filter, keys}
+use Rattle.guard_syntax.specs.Syntax.{Conds, Expr, File, Query, Step, this, var, key, index, every, items, splice, filter, keys, with_expr}
 use Rattle.guard_syntax.specs.Named.{Named}
 use Rattle.guard_syntax.specs.declared.row.Ref.{Ref}
 use Rattle.guard_syntax.specs.declared.row.Row.{Row}
 use Rattle.guard_syntax.specs.declared.row.Verdict.{Verdict}
+use Rattle.guard_syntax.specs.declared.syntax.Op.{Op}
+use Rattle.rule_names.specs.Pieces.{OfStep, Piece, piece_at}
 use Rattle.rule_meaning.specs.StoreModel.{StoreModel}
-use Rattle.evidence_rules.specs.CitedLines.{GivesStep, GivesVariable, value_of}
-use Rattle.evidence_rules.specs.Follows.{FollowsCapture, FollowsFilter, FollowsStep, GivesBefore, GivesFurther, HasValue, SayEach, SaysCandidate}
-use Rattle.rule_meaning.specs.Places.{candidates_at, rows_at_step, step_in, steps_in}
+use Rattle.evidence_rules.specs.CitedLines.{GivesExpr, GivesStep, GivesVariable, value_of}
+use Rattle.evidence_rules.specs.Follows.{FollowsCapture, FollowsFilter, FollowsStep, GivesBefore, GivesFurther, GivesRight, HasValue, SayEach, SaysCandidate}
+use Rattle.rule_meaning.specs.Places.{IsStartAt, Placed, candidates_at, is_after_key, placed_in, placed_of, rows_at_step, step_in, steps_in}
+use Rattle.evidence_checker.specs.FirstCites.{GivesAlone}
 use Rattle.evidence_checker.proofs.StepsSeen.{NamesNothing}
 use Rattle.evidence_checker.proofs.OneGiven.{one-of-expr, one-of-variable, one-rows, one-there, one-verdict}
 
@@ -89,15 +95,35 @@ module _ (known : StoreModel) (lines : List Line) (Says : Ref → ℕ → Verdic
 module _ (known : StoreModel) (lines : List Line) (frame : ℕ) where
   -- ---- what a step names further
 
-  pub var-further : (s : Step) (n c : ℕ) (name : List ℕ) (cites : List ℕ) (r : Option (Bor (List Row))) → s ≡ var n name → cites ≡ c ∷ []
-      → AreGiven (GivesVariable known.file lines frame n c) r → AreGiven (GivesFurther known lines frame s cites) r
-  var-further s n c name cites r is one given =
-      subst (λ (t : Step). AreGiven (GivesFurther known lines frame t cites) r) (sym is) (subst (λ (cs : List ℕ). AreGiven (GivesFurther known lines frame (var n name) cs) r) (sym one) given)
+  -- one line gives what is named, if any
+  var-alone : (n : ℕ) (name : List ℕ) (cites : List ℕ) (r : Option (Bor (List Row))) → AreGiven (GivesAlone (GivesVariable known.file lines frame n) cites) r → AreGiven (GivesFurther known lines frame (var n name) cites) r
+  var-alone n name [] r given = given
+  var-alone n name (c ∷ []) r given = given
+  var-alone n name (c ∷ d ∷ cs) r given = given
 
-  pub splice-further : (s : Step) (n c : ℕ) (name : Named) (cites : List ℕ) (r : Option (Bor (List Row))) → s ≡ splice n name → cites ≡ c ∷ []
-      → AreGiven (GivesVariable known.file lines frame n c) r → AreGiven (GivesFurther known lines frame s cites) r
-  splice-further s n c name cites r is one given =
-      subst (λ (t : Step). AreGiven (GivesFurther known lines frame t cites) r) (sym is) (subst (λ (cs : List ℕ). AreGiven (GivesFurther known lines frame (splice n name) cs) r) (sym one) given)
+  splice-alone : (n : ℕ) (name : Named) (cites : List ℕ) (r : Option (Bor (List Row))) → AreGiven (GivesAlone (GivesVariable known.file lines frame n) cites) r → AreGiven (GivesFurther known lines frame (splice n name) cites) r
+  splice-alone n name [] r given = given
+  splice-alone n name (c ∷ []) r given = given
+  splice-alone n name (c ∷ d ∷ cs) r given = given
+
+  keys-alone : (n : ℕ) (capture : Option Named) (op : Op) (negated : Bool) (right : Expr) (cites : List ℕ) (r : Option (Bor (List Row)))
+      → AreGiven (GivesAlone (GivesExpr known.file lines frame right) cites) r → AreGiven (GivesFurther known lines frame (keys n capture op negated right) cites) r
+  keys-alone n capture op negated right [] r given = given
+  keys-alone n capture op negated right (c ∷ []) r given = given
+  keys-alone n capture op negated right (c ∷ d ∷ cs) r given = given
+
+  pub var-further : (s : Step) (n : ℕ) (name : List ℕ) (cites : List ℕ) (r : Option (Bor (List Row))) → s ≡ var n name
+      → AreGiven (GivesAlone (GivesVariable known.file lines frame n) cites) r → AreGiven (GivesFurther known lines frame s cites) r
+  var-further s n name cites r is given = subst (λ (t : Step). AreGiven (GivesFurther known lines frame t cites) r) (sym is) (var-alone n name cites r given)
+
+  pub splice-further : (s : Step) (n : ℕ) (name : Named) (cites : List ℕ) (r : Option (Bor (List Row))) → s ≡ splice n name
+      → AreGiven (GivesAlone (GivesVariable known.file lines frame n) cites) r → AreGiven (GivesFurther known lines frame s cites) r
+  splice-further s n name cites r is given = subst (λ (t : Step). AreGiven (GivesFurther known lines frame t cites) r) (sym is) (splice-alone n name cites r given)
+
+  pub keys-further : (s : Step) (n : ℕ) (capture : Option Named) (op : Op) (negated : Bool) (right : Expr) (cites : List ℕ) (r : Option (Bor (List Row))) → s ≡ keys n capture op negated right
+      → AreGiven (GivesAlone (GivesExpr known.file lines frame right) cites) r → AreGiven (GivesFurther known lines frame s cites) r
+  keys-further s n capture op negated right cites r is given =
+      subst (λ (t : Step). AreGiven (GivesFurther known lines frame t cites) r) (sym is) (keys-alone n capture op negated right cites r given)
 
   pub filter-further : (s : Step) (n : ℕ) (capture : Option Named) (conditions : Conds) → s ≡ filter n capture conditions → (cites : List ℕ) (rows : List Row) → GivesFurther known lines frame s cites rows → ⊥
   filter-further s n capture conditions is cites rows g = subst (λ (t : Step). GivesFurther known lines frame t cites rows) is g
@@ -128,6 +154,13 @@ module _ (known : StoreModel) (lines : List Line) (frame : ℕ) where
   one-further (every n) cites a b x y = x.1 ∙ sym y.1
   one-further (items n) cites a b x y = x.1 ∙ sym y.1
   one-further s cites a b x y = absurd x
+
+  -- ---- the right side of a test
+
+  pub right-alone : (right : Expr) (cites : List ℕ) (r : Option (Bor (List Row))) → AreGiven (GivesAlone (GivesExpr known.file lines frame right) cites) r → AreGiven (GivesRight known lines frame (with_expr right) cites) r
+  right-alone right [] r given = given
+  right-alone right (c ∷ []) r given = given
+  right-alone right (c ∷ d ∷ cs) r given = given
 
   -- ---- captured keys
 
@@ -181,6 +214,21 @@ module _ (known : StoreModel) (lines : List Line) (frame : ℕ) where
         let parts = before-parts i j c rest first last rows more same g in
         never rows (subst (λ (t : Step). GivesStep known.file lines frame t c rows) (one-there (step_in (steps_in q) j) parts.0 s parts.1 there) parts.2)
 
+    -- a start has none
+    no-start : (i : ℕ) → option_map_or (λ (at : Placed). at.first) (placed_in (steps_in q) (suc i)) false ≡ false
+    no-start i = by (step_in (steps_in q) (suc i))
+      where
+        by : (o : Option Step)
+            → option_map_or (λ (at : Placed). at.first)
+            (option_map (λ (s : Step). record { step = s; first = false; last = not (is_some (step_in (steps_in q) (suc (suc i)))); after_key = is_after_key (steps_in q) (suc i) }) o) false ≡ false
+        by None = refl
+        by (Some s) = refl
+
+    pub start-bare : (f : File) (site i : ℕ) (first : List ℕ) (rows : List Row) → piece_at f site ≡ Some (OfStep q i) → GivesBefore known lines frame q i first rows → IsStartAt f site → rows ≡ []
+    start-bare f site zero first rows there g start = g.1
+    start-bare f site (suc i) first rows there g start =
+        absurd (true≢false (sym start ∙ ap (λ (p : Option Piece). option_map_or (λ (at : Placed). at.first) (option_and_then placed_of p) false) there ∙ no-start i))
+
     -- ---- the rows that are due
 
     module _ (site i : ℕ) (current : Ref) (first last cites : List ℕ) (before : List Row) (has : HasValue known lines frame current) (parts : cites ≡ first ++ last)
@@ -197,6 +245,12 @@ module _ (known : StoreModel) (lines : List Line) (frame : ℕ) where
               let more : h.4 ≡ further = one-further s last h.4 further (subst (λ (cs : List ℕ). GivesFurther known lines frame s cs h.4) (sym same.0) h.8) given in
               h.9 ∙ ap (λ (v : Ref). rows_at_step known site v h.3 h.4 []) value ∙ ap (λ (rs : List Row). rows_at_step known site current rs h.4 []) (sym same.1)
               ∙ ap (λ (rs : List Row). rows_at_step known site current before rs []) more ∙ sym is
+
+      -- without what it names further
+      pub step-lacks : (s : Step) (rows : List Row) → ((further : List Row) → GivesFurther known lines frame s last further → ⊥) → FollowsStep known lines frame site q i s cites rows → ⊥
+      step-lacks s rows never h =
+          let same = one-before first h.1 last h.2 i before h.3 behind h.7 (sym parts ∙ h.6) in
+          never h.4 (subst (λ (cs : List ℕ). GivesFurther known lines frame s cs h.4) (sym same.0) h.8)
 
       -- each verdict is one
       one-said : (conditions : Conds) (vs : List Ref) (cs : List ℕ) (a b : List Verdict) → SayEach known lines (SaysCandidate known lines frame site conditions) vs cs a

@@ -245,9 +245,6 @@ pub no-items : (xs : List ℕ) → length xs ≡ 0 → xs ≡ []
 no-items [] none = refl
 no-items (x ∷ xs) none = absurd (omega arith)
 
-pub not-zero : (n : ℕ) → false ≡ (n == 0) → n ≡ 0 → ⊥
-not-zero n is none = grind (arith, nat_tests)
-
 -- ---- the verdicts of cited lines are the same whenever they are said
 
 same-behind : (stops : Bool) (Next : List ℕ → List Verdict → Type 0) (cs : List ℕ) (vs ws : List Verdict) → ((vs ws : List Verdict) → Next cs vs → Next cs ws → vs ≡ ws)
@@ -297,8 +294,18 @@ module _ (known : StoreModel) (lines : List Line) (frame : ℕ) (stop : Option V
       subst (λ (x : sx.Disj). MatchBool same (FollowsDisj known lines frame stop x cites verdict) (FollowsDisj known lines frame stop x cites verdict → ⊥)) seen
       (together same said verdict disjunction (SayParts known lines frame stop (part_list (map see_part ps)) cites) (same-parts known lines frame stop (part_list (map see_part ps)) cites) say is)
 
+pub disj-unsaid : (known : StoreModel) (lines : List Line) (frame : ℕ) (stop : Option Verdict) (cites : List ℕ) (verdict : Verdict) (d : Disj) (ps : List Part) → ps ≡ d.parts.items
+    → ((vs : List Verdict) → SayParts known lines frame stop (part_list (map see_part ps)) cites vs → ⊥) → FollowsDisj known lines frame stop (see_disj d) cites verdict → ⊥
+disj-unsaid known lines frame stop cites verdict d ps are never =
+    let seen : sx.disj d.site (part_list (map see_part ps)) ≡ see_disj d = ap (λ (xs : List Part). sx.disj d.site (part_list (map see_part xs))) are ∙ sym (disj-seen d) in
+    subst (λ (x : sx.Disj). FollowsDisj known lines frame stop x cites verdict → ⊥) seen (λ h. never h.0 h.1)
+
 -- the parts outside rules, where there are some, by the one line that is cited
-pub loose-said : (known : StoreModel) (lines : List Line) (frame : ℕ) (verdict : Verdict) (r : Bool) (ds : List Disj) (cites : List ℕ) → (length ds ≡ 0 → ⊥) → 1 ≤ length cites → length cites < 2
+pub loose-none : (known : StoreModel) (lines : List Line) (frame : ℕ) (verdict : Verdict) (ds : List Disj) (cites : List ℕ) → ds ≡ [] → FollowsLoose known lines frame (disj_list (map see_disj ds)) cites verdict → ⊥
+loose-none known lines frame verdict [] cites none h = h
+loose-none known lines frame verdict (d ∷ ds) cites none h = absurd cc
+
+pub loose-said : (known : StoreModel) (lines : List Line) (frame : ℕ) (verdict : Verdict) (r : Bool) (ds : List Disj) (cites : List ℕ) → (ds ≡ [] → ⊥) → 1 ≤ length cites → length cites < 2
     → MatchBool r (IsLine lines (get_or cites 0 0) kind.Conj frame 0 (says.Verdict verdict)) (IsLine lines (get_or cites 0 0) kind.Conj frame 0 (says.Verdict verdict) → ⊥)
     → MatchBool r (FollowsLoose known lines frame (disj_list (map see_disj ds)) cites verdict) (FollowsLoose known lines frame (disj_list (map see_disj ds)) cites verdict → ⊥)
 loose-said known lines frame verdict r [] cites some least most said = absurd (some refl)

@@ -1,5 +1,5 @@
 -- What the first of the lines that a line names says, and which are left behind it.
-use Rattle.std.specs.Prelude.{ℕ, ◌≡◌, List, [], ◌∷◌}
+use Rattle.std.specs.Prelude.{ℕ, ◌≡◌, List, [], ◌∷◌, Option, Some, None}
 use Rattle.evidence_lines.specs.declared.line.Line.{Line}
 use Rattle.evidence_lines.specs.declared.line.LineKind.TheVariants as kind
 use Rattle.evidence_lines.specs.declared.line.Outcome.TheVariants as says
@@ -12,6 +12,11 @@ use Rattle.guard_syntax.specs.declared.row.Verdict.TheVariants.{Pass, Fail}
 use Rattle.evidence_rules.specs.CitedLines.{IsLine}
 use Rattle.evidence_rules.specs.Follows.{conds_site}
 
+-- the site of conditions, if there are some
+abbrev pub opt_conds_site : OptConds → Option ℕ
+opt_conds_site no_conds = None
+opt_conds_site (with_conds conditions) = Some (conds_site conditions)
+
 module _ (lines : List Line) (frame : ℕ) where
   -- conditions have the first line
   abbrev pub IsGuard : Conds → (cites : List ℕ) → Verdict → (left : List ℕ) → Type 0
@@ -22,6 +27,11 @@ module _ (lines : List Line) (frame : ℕ) where
   abbrev pub IsSomeGuard : OptConds → (cites : List ℕ) → Verdict → (left : List ℕ) → Type 0
   IsSomeGuard no_conds cites said left = (said ≡ Pass) × (left ≡ cites)
   IsSomeGuard (with_conds conditions) cites said left = IsGuard conditions cites said left
+
+-- one line is cited, and gives the rows
+abbrev pub GivesAlone : ((number : ℕ) → List Row → Type 0) → (cites : List ℕ) → List Row → Type 0
+GivesAlone Gives (c ∷ []) rows = Gives c rows
+GivesAlone Gives cites rows = ⊥
 
 -- a row that was found has the first line; any other has none, and is FAIL
 abbrev pub SaysRow : (Ref → (number : ℕ) → Verdict → Type 0) → Row → (cites : List ℕ) → Verdict → (left : List ℕ) → Type 0

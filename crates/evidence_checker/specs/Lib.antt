@@ -3,3 +3,4 @@ pub mod Calls
 pub mod FirstCites
 pub mod Judging
 pub mod Kept
+pub mod TestedRows

@@ -2,37 +2,36 @@
 ghost use Rattle.std.specs.Prelude.{◌≡◌, List, [], ◌∷◌, ℕ, MatchBool, MatchOption};
 ghost use Rattle.evidence_lines.specs.declared.line.LineKind.TheVariants as kind;
 ghost use Rattle.evidence_lines.specs.declared.line.Outcome.TheVariants as says;
-ghost use Rattle.guard_syntax.specs.Seen.{see_body};
+ghost use Rattle.guard_syntax.specs.Syntax.{Body};
 ghost use Rattle.guard_syntax.specs.declared.row.Ref.{Ref};
 ghost use Rattle.guard_syntax.specs.declared.row.Verdict.{Verdict};
-ghost use Rattle.evidence_rules.specs.CitedLines.{IsLine};
+ghost use Rattle.evidence_rules.specs.CitedLines.{IsLine, body_site};
 ghost use Rattle.evidence_rules.specs.Follows.{FollowsBody, FollowsRowsOf, SaysBody, block_stop};
+ghost use Rattle.rule_meaning.specs.StoreModel.{StoreModel};
 ghost use Rattle.rule_meaning.specs.Verdicts.{block_verdict, conjunction, disjunction};
-ghost use Rattle.evidence_lookups.specs.Grounds.{known_of, lines_of, version_of};
 ghost use Rattle.evidence_checker.specs.FirstCites.{SaysRow};
 
 use crate::stops::{block_stop, is_stop};
-use evidence_lines::{Line, LineKind, Outcome};
+use evidence_lines::{Line, LineKind, Outcome, Version};
 use evidence_lookups::body_frames::framed_verdict;
-use evidence_lookups::line_context::LineContext;
 use evidence_lookups::lookup::{line_of, said, verdict_said};
-use guard_syntax::{Body, Row, Verdict};
+use guard_syntax::{Row, Verdict};
 
-/// Whether the verdict of a body in a frame of this one follows, from the one line that is cited.
+/// Whether the verdict of the body of a site, in a frame of this one, follows from the one line that is cited.
 pub(crate) fn body_follows(
-    context: &LineContext<'_, '_, '_>,
+    lines: &[Line],
     frame: u64,
-    body: &Body,
+    body: u32,
     cites: &[u64],
     verdict: Verdict,
 ) -> bool
-    ensures { MatchBool result
-        (FollowsBody (known_of context.now) (lines_of context.now) frame (see_body body.now) cites.now verdict)
-        (FollowsBody (known_of context.now) (lines_of context.now) frame (see_body body.now) cites.now verdict → ⊥) }
+    ensures { (known : StoreModel) → (b : Body) → body ≡ body_site b → MatchBool result
+        (FollowsBody known lines.now frame b cites.now verdict)
+        (FollowsBody known lines.now frame b cites.now verdict → ⊥) }
 {
     match cites {
         [number] => {
-            match said_within(context.lines, *number, frame, body.site, body.site) {
+            match said_within(lines, *number, frame, body, body) {
                 Some(said) => verdict == said,
                 None => false,
             }
@@ -74,26 +73,27 @@ fn is_frame_at(lines: &[Line], number: u64, frame: u64, site: u32) -> bool
     }
 }
 
-/// Whether the verdict of a body on rows follows: with `any` one of them has to hold, else each. A row that was found has
-/// one cite, up to the row that decides where evidence of this version stops there.
+/// Whether the verdict of the body of a site on rows follows: with `any` one of them has to hold, else each. A row that was
+/// found has one cite, up to the row that decides where evidence of this version stops there.
 pub(crate) fn body_follows_on(
-    context: &LineContext<'_, '_, '_>,
+    lines: &[Line],
+    version: Version,
     frame: u64,
     any: bool,
-    body: &Body,
+    body: u32,
     rows: &[Row],
     cites: &[u64],
     verdict: Verdict,
 ) -> bool
-    ensures { MatchBool result
-        (FollowsRowsOf (known_of context.now) (lines_of context.now) frame any (block_stop any (version_of context.now)) (see_body body.now) rows.now cites.now verdict)
-        (FollowsRowsOf (known_of context.now) (lines_of context.now) frame any (block_stop any (version_of context.now)) (see_body body.now) rows.now cites.now verdict → ⊥) }
+    ensures { (known : StoreModel) → (b : Body) → body ≡ body_site b → MatchBool result
+        (FollowsRowsOf known lines.now frame any (block_stop any version) b rows.now cites.now verdict)
+        (FollowsRowsOf known lines.now frame any (block_stop any version) b rows.now cites.now verdict → ⊥) }
 {
-    let stop = block_stop(any, context.version);
+    let stop = block_stop(any, version);
     let mut before = Verdict::Skip;
     let mut left = cites;
     for row in rows {
-        let Some(judged) = judged_row(context, frame, body, row, left) else {
+        let Some(judged) = judged_row(lines, frame, body, row, left) else {
             return false;
         };
         before = joined(any, before, judged.verdict);
@@ -125,15 +125,15 @@ struct JudgedRow<'c> {
 
 /// What the first cite says of a row that was found; any other row is FAIL, and has no cite.
 fn judged_row<'c>(
-    context: &LineContext<'_, '_, '_>,
+    lines: &[Line],
     frame: u64,
-    body: &Body,
+    body: u32,
     row: &Row,
     cites: &'c [u64],
 ) -> Option<JudgedRow<'c>>
-    ensures { MatchOption result
-        ((verdict : Verdict) → (left : List ℕ) → SaysRow (SaysBody (known_of context.now) (lines_of context.now) frame (see_body body.now)) row.now cites.entry.now verdict left → ⊥)
-        (λ judged. SaysRow (SaysBody (known_of context.now) (lines_of context.now) frame (see_body body.now)) row.now cites.entry.now judged.verdict judged.left.now) }
+    ensures { (known : StoreModel) → (b : Body) → body ≡ body_site b → MatchOption result
+        ((verdict : Verdict) → (left : List ℕ) → SaysRow (SaysBody known lines.now frame b) row.now cites.entry.now verdict left → ⊥)
+        (λ judged. SaysRow (SaysBody known lines.now frame b) row.now cites.entry.now judged.verdict judged.left.now) }
 {
     let Row::Found(value) = row else {
         return Some(JudgedRow {
@@ -141,8 +141,12 @@ fn judged_row<'c>(
             left: cites,
         });
     };
-    let (first, left) = cites.split_first()?;
-    let verdict = framed_verdict(context.lines, *first, frame, body.site, *value, body.site)?;
+    let Some((first, left)) = cites.split_first() else {
+        return None;
+    };
+    let Some(verdict) = framed_verdict(lines, *first, frame, body, *value, body) else {
+        return None;
+    };
     Some(JudgedRow { verdict, left })
 }
 

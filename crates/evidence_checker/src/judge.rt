@@ -50,21 +50,41 @@ pub fn check<'t, 's>(
     requires book { IsBookOf (file_of file.now) book.now }
     ensures { IfOk result (λ answer. IsAnswer evidence.now.version doc.now (file_of file.now) evidence.now.lines answer) }
 {
-    let lines = evidence.as_slice();
     let owners = Owners::new(alloc, file)?;
     let mut judged = Judged::new(alloc, file.raw().places.as_slice().len())?;
     let mut store = Store::new(alloc, doc, file);
+    judge_lines(alloc, evidence, &mut store, book, &owners, &mut judged)
+}
+
+/// Judges the lines of evidence, with a store in which nothing is made.
+fn judge_lines(
+    alloc: Global,
+    evidence: &Evidence,
+    store: &mut Store<'_, '_>,
+    book: &PatternBook,
+    owners: &Owners,
+    judged: &mut Judged,
+) -> Result<Answer, AllocError>
+    requires book { IsBookOf (see_store store.old).file book.now }
+    requires owners { AreOwners (see_store store.old).file owners.now }
+    requires judged { AreJudged [] judged.old.of.items }
+    requires sites { length judged.old.of.items ≡ length (see_store store.old).file.places }
+    requires made { (see_store store.old).made ≡ [] }
+    ensures { IfOk result (λ answer. IsAnswer evidence.now.version (see_store store.old).template (see_store store.old).file evidence.now.lines answer) }
+{
+    let lines = evidence.as_slice();
+    let file = store.file;
     match first_fault(
         alloc,
         evidence.version(),
-        &mut store,
+        store,
         book,
-        &owners,
-        &mut judged,
+        owners,
+        judged,
         lines,
     )? {
         Some(number) => Ok(Answer::Rejected(number)),
-        None => answer_of(alloc, file.raw(), &judged, lines.len() as u64),
+        None => answer_of(alloc, file.raw(), judged, lines.len() as u64),
     }
 }
 

@@ -6,6 +6,7 @@ mod bodies;
 mod calls;
 mod judge;
 mod line;
+mod one_cite;
 mod parts;
 mod reference_lines;
 mod row_equality;

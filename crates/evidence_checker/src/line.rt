@@ -58,7 +58,10 @@ pub(crate) fn line_follows(
     let Some(site) = line.site else {
         return Ok(false);
     };
-    placed_follows(
+    if !is_at_home(store.file, lines, frame, line.kind, site) {
+        return Ok(false);
+    }
+    outcome_follows(
         alloc, version, store, book, owners, judged, lines, line, frame, site,
     )
 }
@@ -92,41 +95,6 @@ fn is_root(outcome: &Outcome) -> bool
         }
         Outcome::Rows(_) | Outcome::Verdict(_) => false,
     }
-}
-
-/// Whether a line in a frame and of a site follows.
-fn placed_follows(
-    alloc: Global,
-    version: Version,
-    store: &mut Store<'_, '_>,
-    book: &PatternBook,
-    owners: &Owners,
-    judged: &Judged,
-    lines: &[Line],
-    line: &Line,
-    frame: u64,
-    site: u32,
-) -> Result<bool, AllocError>
-    requires frame { line.now.frame ≡ Some frame }
-    requires site { line.now.site ≡ Some site }
-    requires book { IsBookOf (see_store store.old).file book.now }
-    requires owners { AreOwners (see_store store.old).file owners.now }
-    requires judged { AreJudged lines.now judged.now.of.items }
-    requires sound { AreSound (see_store store.old) lines.now }
-    requires made { AreMadeWithin (length lines.now) (see_store store.old).made }
-    ensures follows { IfOk result (λ follows. MatchBool follows
-        (Leads (Follows version (see_store store.old) lines.now line.now) (see_store store.old) (see_store store.new))
-        (Stays (Follows version (see_store store.old) lines.now line.now) (see_store store.old) (see_store store.new))) }
-    ensures sound { IfOk result (λ follows. follows ≡ true → IsSound (see_store store.new) line.now) }
-    ensures made { IfOk result (λ follows. AreMadeWithin (suc (length lines.now)) (see_store store.new).made) }
-{
-    if !is_at_home(store.file, lines, frame, line.kind, site) {
-        return Ok(false);
-    }
-    let follows = outcome_follows(
-        alloc, version, store, book, owners, judged, lines, line, frame, site,
-    )?;
-    Ok(follows)
 }
 
 /// Whether the scope of a frame is the home of a site, of which there is a part.

@@ -1,21 +1,20 @@
 //! Lines of verdicts of single parts and of rules.
-ghost use Rattle.std.specs.Prelude.{◌≡◌, List, ℕ, IfOk, MatchBool, MatchOption, Some};
+ghost use Rattle.std.specs.Prelude.{◌≡◌, List, ℕ, IfOk, MatchBool, MatchOption};
 ghost use Rattle.evidence_lines.specs.declared.line.Line.{Line};
-ghost use Rattle.evidence_lines.specs.declared.line.LineKind.TheVariants as kind;
-ghost use Rattle.guard_syntax.specs.Seen.{see_body, see_conds, see_opt_conds, see_part, see_query, see_rule};
+ghost use Rattle.guard_syntax.specs.Seen.{see_body, see_opt_conds, see_part, see_query, see_rule};
+ghost use Rattle.guard_syntax.specs.Syntax as sx;
 ghost use Rattle.guard_syntax.specs.declared.row.Verdict.{Verdict};
-ghost use Rattle.rule_names.specs.Pieces.{OfRule};
-ghost use Rattle.evidence_rules.specs.Follows.{FollowsAtPart, FollowsBlock, FollowsBody, FollowsRule, FollowsTyped, FollowsVerdict, IsNewRule, Under, UnderSome, block_stop, kind_of_part};
+ghost use Rattle.evidence_rules.specs.CitedLines.{body_site};
+ghost use Rattle.evidence_rules.specs.Follows.{FollowsAtPart, FollowsBlock, FollowsBody, FollowsRule, FollowsTyped, UnderSome, block_stop, kind_of_part};
 ghost use Rattle.rule_meaning.specs.StoreModel.{StoreModel};
 ghost use Rattle.evidence_lookups.specs.Grounds.{known_of, lines_of, version_of};
-ghost use Rattle.evidence_checker.specs.FirstCites.{IsGuard, IsSomeGuard};
+ghost use Rattle.evidence_checker.specs.FirstCites.{IsSomeGuard, opt_conds_site};
 
 use crate::bodies::{body_follows, body_follows_on, ends_with};
 use crate::reference_lines::{call_follows, reference_follows};
 use crate::test_lines::test_follows;
-use evidence_lines::{Line, LineKind};
+use evidence_lines::{Line, LineKind, Version};
 use evidence_lookups::cited_rows::given_by_query;
-use evidence_lookups::frames::is_file_frame;
 use evidence_lookups::line_context::LineContext;
 use evidence_lookups::lookup::{rows_said, verdict_said};
 use guard_syntax::{Body, Conds, Part, Query, Rule, Verdict};
@@ -47,11 +46,15 @@ pub(crate) fn part_follows(
             ..
         } => Ok(block_follows(context, frame, *any, head, body, cites, verdict)),
         Part::When { cond, body, .. } => {
-            Ok(when_follows(context, frame, cond, body, cites, verdict))
+            let lines = context.lines;
+            Ok(guarded_follows(lines, frame, Some(cond.site), body.site, cites, verdict))
         }
-        Part::Kinds { cond, body, .. } => Ok(kinds_follows(
-            context, frame, site, cond, body, cites, verdict,
-        )),
+        Part::Kinds { cond, body, .. } => {
+            let lines = context.lines;
+            let version = context.version;
+            let cond = conds_site(cond);
+            Ok(kinds_follows(lines, version, frame, site, cond, body.site, cites, verdict))
+        }
         Part::Test {
             any,
             left,
@@ -62,8 +65,23 @@ pub(crate) fn part_follows(
         } => test_follows(
             alloc, context, frame, *any, left, *op, *not, right, cites, verdict,
         ),
-        Part::Refer { not, .. } => Ok(reference_follows(context, site, *not, cites, verdict)),
-        Part::Call { not, .. } => Ok(call_follows(context, frame, site, *not, cites, verdict)),
+        Part::Refer { not, .. } => Ok(reference_follows(
+            context.store.file,
+            context.lines,
+            site,
+            *not,
+            cites,
+            verdict,
+        )),
+        Part::Call { not, .. } => Ok(call_follows(
+            context.store.file,
+            context.lines,
+            frame,
+            site,
+            *not,
+            cites,
+            verdict,
+        )),
     }
 }
 
@@ -99,126 +117,117 @@ fn block_follows(
         return false;
     };
     match given_by_query(context.store.file, context.lines, frame, head, *first) {
-        Some(rows) => body_follows_on(context, frame, any, body, rows, others, verdict),
+        Some(rows) => {
+            let lines = context.lines;
+            let version = context.version;
+            body_follows_on(lines, version, frame, any, body.site, rows, others, verdict)
+        }
         None => false,
     }
 }
 
-/// Whether the line of a `when` block follows.
-fn when_follows(
-    context: &LineContext<'_, '_, '_>,
+/// Whether a verdict follows that the body of a site has under conditions, if there are some: of a `when` block, or of a
+/// rule.
+fn guarded_follows(
+    lines: &[Line],
     frame: u64,
-    cond: &Conds,
-    body: &Body,
+    cond: Option<u32>,
+    body: u32,
     cites: &[u64],
     verdict: Verdict,
 ) -> bool
-    ensures { MatchBool result
-        (Under (known_of context.now) (lines_of context.now) frame (see_conds cond.now) (FollowsBody (known_of context.now) (lines_of context.now) frame (see_body body.now)) cites.now verdict)
-        (Under (known_of context.now) (lines_of context.now) frame (see_conds cond.now) (FollowsBody (known_of context.now) (lines_of context.now) frame (see_body body.now)) cites.now verdict → ⊥) }
+    ensures { (known : StoreModel) → (conds : sx.OptConds) → (b : sx.Body) → cond ≡ opt_conds_site conds → body ≡ body_site b → MatchBool result
+        (UnderSome known lines.now frame conds (FollowsBody known lines.now frame b) cites.now verdict)
+        (UnderSome known lines.now frame conds (FollowsBody known lines.now frame b) cites.now verdict → ⊥) }
 {
-    let Some(guard) = conditions(context.lines, frame, cond, cites) else {
+    let Some(guard) = conditions(lines, frame, cond, cites) else {
         return false;
     };
     match guard.said {
-        Verdict::Pass => body_follows(context, frame, body, guard.left, verdict),
-        Verdict::Fail => ends_with(guard.left, Verdict::Skip, verdict),
-        Verdict::Skip => ends_with(guard.left, Verdict::Skip, verdict),
+        Verdict::Pass => body_follows(lines, frame, body, guard.left, verdict),
+        _ => ends_with(guard.left, Verdict::Skip, verdict),
     }
 }
 
 /// Whether the line of a type block follows.
 fn kinds_follows(
-    context: &LineContext<'_, '_, '_>,
+    lines: &[Line],
+    version: Version,
     frame: u64,
     site: u32,
-    cond: &Option<Conds>,
-    body: &Body,
+    cond: Option<u32>,
+    body: u32,
     cites: &[u64],
     verdict: Verdict,
 ) -> bool
-    ensures { MatchBool result
-        (UnderSome (known_of context.now) (lines_of context.now) frame (see_opt_conds cond.now) (FollowsTyped (known_of context.now) (lines_of context.now) frame site (see_body body.now)) cites.now verdict)
-        (UnderSome (known_of context.now) (lines_of context.now) frame (see_opt_conds cond.now) (FollowsTyped (known_of context.now) (lines_of context.now) frame site (see_body body.now)) cites.now verdict → ⊥) }
+    ensures { (known : StoreModel) → (conds : sx.OptConds) → (b : sx.Body) → cond ≡ opt_conds_site conds → body ≡ body_site b → MatchBool result
+        (UnderSome known lines.now frame conds (FollowsTyped known lines.now frame site b) cites.now verdict)
+        (UnderSome known lines.now frame conds (FollowsTyped known lines.now frame site b) cites.now verdict → ⊥) }
 {
-    let Some(guard) = some_conditions(context.lines, frame, cond, cites) else {
+    let Some(guard) = conditions(lines, frame, cond, cites) else {
         return false;
     };
     match guard.said {
-        Verdict::Pass => typed_follows(context, frame, site, body, guard.left, verdict),
-        Verdict::Fail => ends_with(guard.left, Verdict::Skip, verdict),
-        Verdict::Skip => ends_with(guard.left, Verdict::Skip, verdict),
+        Verdict::Pass => typed_follows(lines, version, frame, site, body, guard.left, verdict),
+        _ => ends_with(guard.left, Verdict::Skip, verdict),
     }
 }
 
 /// Whether the verdict of a type block's body on its rows follows.
 fn typed_follows(
-    context: &LineContext<'_, '_, '_>,
+    lines: &[Line],
+    version: Version,
     frame: u64,
     site: u32,
-    body: &Body,
+    body: u32,
     cites: &[u64],
     verdict: Verdict,
 ) -> bool
-    ensures { MatchBool result
-        (FollowsTyped (known_of context.now) (lines_of context.now) frame site (see_body body.now) cites.now verdict)
-        (FollowsTyped (known_of context.now) (lines_of context.now) frame site (see_body body.now) cites.now verdict → ⊥) }
+    ensures { (known : StoreModel) → (b : sx.Body) → body ≡ body_site b → MatchBool result
+        (FollowsTyped known lines.now frame site b cites.now verdict)
+        (FollowsTyped known lines.now frame site b cites.now verdict → ⊥) }
 {
     let Some((first, others)) = cites.split_first() else {
         return false;
     };
-    match rows_said(context.lines, *first, LineKind::Types, frame, site) {
-        Some(rows) => body_follows_on(context, frame, false, body, rows, others, verdict),
+    match rows_said(lines, *first, LineKind::Types, frame, site) {
+        Some(rows) => body_follows_on(lines, version, frame, false, body, rows, others, verdict),
         None => false,
     }
 }
 
-/// Whether the line of a rule follows; `new` is whether no earlier `rule` line has its site.
-pub(crate) fn rule_follows(
-    context: &LineContext<'_, '_, '_>,
-    new: bool,
-    frame: u64,
-    site: u32,
-    rule: &Rule,
-    cites: &[u64],
-    verdict: Verdict,
-) -> bool
-    requires new { MatchBool new (IsNewRule (known_of context.now) (lines_of context.now) site) (IsNewRule (known_of context.now) (lines_of context.now) site → ⊥) }
-    ensures { MatchBool result
-        (FollowsVerdict (version_of context.now) (known_of context.now) (lines_of context.now) frame site kind.Rule (Some (OfRule (see_rule rule.now))) cites.now verdict)
-        (FollowsVerdict (version_of context.now) (known_of context.now) (lines_of context.now) frame site kind.Rule (Some (OfRule (see_rule rule.now))) cites.now verdict → ⊥) }
-{
-    if !new {
-        return false;
-    }
-    if !is_file_frame(context, frame) {
-        return false;
-    }
-    is_rule_verdict(context, frame, rule, cites, verdict)
-}
-
 /// Whether the verdict of a rule follows: it has no parameters.
-fn is_rule_verdict(
-    context: &LineContext<'_, '_, '_>,
+pub(crate) fn rule_follows(
+    lines: &[Line],
     frame: u64,
     rule: &Rule,
     cites: &[u64],
     verdict: Verdict,
 ) -> bool
-    ensures { MatchBool result
-        (FollowsRule (known_of context.now) (lines_of context.now) frame (see_rule rule.now) cites.now verdict)
-        (FollowsRule (known_of context.now) (lines_of context.now) frame (see_rule rule.now) cites.now verdict → ⊥) }
+    ensures { (known : StoreModel) → MatchBool result
+        (FollowsRule known lines.now frame (see_rule rule.now) cites.now verdict)
+        (FollowsRule known lines.now frame (see_rule rule.now) cites.now verdict → ⊥) }
 {
     if !rule.params.as_slice().is_empty() {
         return false;
     }
-    let Some(guard) = some_conditions(context.lines, frame, &rule.cond, cites) else {
-        return false;
-    };
-    match guard.said {
-        Verdict::Pass => body_follows(context, frame, &rule.body, guard.left, verdict),
-        Verdict::Fail => ends_with(guard.left, Verdict::Skip, verdict),
-        Verdict::Skip => ends_with(guard.left, Verdict::Skip, verdict),
+    guarded_follows(
+        lines,
+        frame,
+        conds_site(&rule.cond),
+        rule.body.site,
+        cites,
+        verdict,
+    )
+}
+
+/// The site of conditions, if there are some.
+fn conds_site(cond: &Option<Conds>) -> Option<u32>
+    ensures { result ≡ opt_conds_site (see_opt_conds cond.now) }
+{
+    match cond {
+        Some(cond) => Some(cond.site),
+        None => None,
     }
 }
 
@@ -229,33 +238,28 @@ pub(crate) struct Guard<'c> {
     pub left: &'c [u64],
 }
 
-/// The line of conditions: the first cite.
-fn conditions<'c>(lines: &[Line], frame: u64, cond: &Conds, cites: &'c [u64]) -> Option<Guard<'c>>
-    ensures { MatchOption result
-        ((said : Verdict) → (left : List ℕ) → IsGuard lines.now frame (see_conds cond.now) cites.entry.now said left → ⊥)
-        (λ guard. IsGuard lines.now frame (see_conds cond.now) cites.entry.now guard.said guard.left.now) }
-{
-    let (first, left) = cites.split_first()?;
-    let said = verdict_said(lines, *first, LineKind::Conj, frame, cond.site)?;
-    Some(Guard { said, left })
-}
-
-/// That of conditions, if there are some; without any, all cites are left.
-fn some_conditions<'c>(
+/// The line of the conditions of a site: the first cite. Without conditions they count as PASS, and all cites are left.
+fn conditions<'c>(
     lines: &[Line],
     frame: u64,
-    cond: &Option<Conds>,
+    cond: Option<u32>,
     cites: &'c [u64],
 ) -> Option<Guard<'c>>
-    ensures { MatchOption result
-        ((said : Verdict) → (left : List ℕ) → IsSomeGuard lines.now frame (see_opt_conds cond.now) cites.entry.now said left → ⊥)
-        (λ guard. IsSomeGuard lines.now frame (see_opt_conds cond.now) cites.entry.now guard.said guard.left.now) }
+    ensures { (conds : sx.OptConds) → cond ≡ opt_conds_site conds → MatchOption result
+        ((said : Verdict) → (left : List ℕ) → IsSomeGuard lines.now frame conds cites.entry.now said left → ⊥)
+        (λ guard. IsSomeGuard lines.now frame conds cites.entry.now guard.said guard.left.now) }
 {
-    match cond {
-        Some(cond) => conditions(lines, frame, cond, cites),
-        None => Some(Guard {
+    let Some(site) = cond else {
+        return Some(Guard {
             said: Verdict::Pass,
             left: cites,
-        }),
-    }
+        });
+    };
+    let Some((first, left)) = cites.split_first() else {
+        return None;
+    };
+    let Some(said) = verdict_said(lines, *first, LineKind::Conj, frame, site) else {
+        return None;
+    };
+    Some(Guard { said, left })
 }

@@ -6,34 +6,36 @@ ghost use Rattle.guard_syntax.specs.Syntax.{Exprs, call, refer};
 ghost use Rattle.guard_syntax.specs.declared.row.Verdict.{Verdict};
 ghost use Rattle.evidence_rules.specs.CitedLines.{IsLine};
 ghost use Rattle.evidence_rules.specs.Follows.{FollowsCall, FollowsRefer};
+ghost use Rattle.rule_names.specs.Files.{file_of};
+ghost use Rattle.rule_meaning.specs.StoreModel.{StoreModel};
 ghost use Rattle.rule_meaning.specs.Verdicts as judged;
-ghost use Rattle.evidence_lookups.specs.Grounds.{known_of, lines_of};
 
 use crate::bodies::said_within;
 use evidence_lines::{Line, LineKind};
 use evidence_lookups::frames::called_body;
-use evidence_lookups::line_context::LineContext;
 use evidence_lookups::lookup::{line_of, verdict_said};
 use guard_syntax::Verdict;
+use rule_names::RuleFile;
 
 /// Whether the line of a reference follows, from the line of the rule that is named.
 pub(crate) fn reference_follows(
-    context: &LineContext<'_, '_, '_>,
+    file: &RuleFile,
+    lines: &[Line],
     site: u32,
     not: bool,
     cites: &[u64],
     verdict: Verdict,
 ) -> bool
-    ensures { (n : ℕ) → (name : List ℕ) → (message : Option (List ℕ)) → MatchBool result
-        (FollowsRefer (known_of context.now) (lines_of context.now) site (refer n not name message) cites.now verdict)
-        (FollowsRefer (known_of context.now) (lines_of context.now) site (refer n not name message) cites.now verdict → ⊥) }
+    ensures { (known : StoreModel) → known.file ≡ file_of file.now → (n : ℕ) → (name : List ℕ) → (message : Option (List ℕ)) → MatchBool result
+        (FollowsRefer known lines.now site (refer n not name message) cites.now verdict)
+        (FollowsRefer known lines.now site (refer n not name message) cites.now verdict → ⊥) }
 {
-    let Some(rule) = context.store.file.target(site) else {
+    let Some(rule) = file.target(site) else {
         return false;
     };
     match cites {
         [number] => {
-            match rule_said(context.lines, *number, rule) {
+            match rule_said(lines, *number, rule) {
                 Some(said) => verdict == referred(not, said),
                 None => false,
             }
@@ -54,23 +56,24 @@ fn rule_said(lines: &[Line], number: u64, site: u32) -> Option<Verdict>
 
 /// Whether the line of a call follows, from the line of the called body in the frame of the call.
 pub(crate) fn call_follows(
-    context: &LineContext<'_, '_, '_>,
+    file: &RuleFile,
+    lines: &[Line],
     frame: u64,
     site: u32,
     not: bool,
     cites: &[u64],
     verdict: Verdict,
 ) -> bool
-    ensures { (n : ℕ) → (name : List ℕ) → (args : Exprs) → (message : Option (List ℕ)) → MatchBool result
-        (FollowsCall (known_of context.now) (lines_of context.now) frame site (call n not name args message) cites.now verdict)
-        (FollowsCall (known_of context.now) (lines_of context.now) frame site (call n not name args message) cites.now verdict → ⊥) }
+    ensures { (known : StoreModel) → known.file ≡ file_of file.now → (n : ℕ) → (name : List ℕ) → (args : Exprs) → (message : Option (List ℕ)) → MatchBool result
+        (FollowsCall known lines.now frame site (call n not name args message) cites.now verdict)
+        (FollowsCall known lines.now frame site (call n not name args message) cites.now verdict → ⊥) }
 {
-    let Some(body) = called_body(context.store.file, site) else {
+    let Some(body) = called_body(file, site) else {
         return false;
     };
     match cites {
         [number] => {
-            match said_within(context.lines, *number, frame, site, body.site) {
+            match said_within(lines, *number, frame, site, body.site) {
                 Some(said) => verdict == exchanged(not, said),
                 None => false,
             }

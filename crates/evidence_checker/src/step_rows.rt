@@ -1,24 +1,27 @@
 //! Lines of the rows of steps.
-ghost use Rattle.std.specs.Prelude.{◌≡◌, ◌∷◌, ◌++◌, ℕ, [], List, Option, Some, true, false, IfOk, MatchBool, MatchOption};
+ghost use Rattle.std.specs.Prelude.{◌≡◌, ◌++◌, ℕ, List, Option, Some, true, false, IfOk, MatchBool, MatchOption};
 ghost use Rattle.std.specs.List.{list_all};
 ghost use Rattle.guard_syntax.specs.Named.{Named};
 ghost use Rattle.guard_syntax.specs.Seen.{see_conds, see_query, see_step};
 ghost use Rattle.guard_syntax.specs.Syntax.{filter};
 ghost use Rattle.guard_syntax.specs.declared.row.Row as row;
+ghost use Rattle.rule_names.specs.Files.{file_of};
 ghost use Rattle.rule_names.specs.Pieces.{OfStep, piece_at};
-ghost use Rattle.rule_meaning.specs.StoreModel.{is_known};
+ghost use Rattle.rule_meaning.specs.StoreModel.{StoreModel, is_known};
 ghost use Rattle.evidence_rules.specs.Follows.{FollowsAtStep, FollowsCapture, FollowsFilter, FollowsStep, GivesBefore, GivesFurther, IsLater};
 ghost use Rattle.rule_meaning.specs.Places.{is_filter, step_in, steps_in};
 ghost use Rattle.evidence_lookups.specs.Grounds.{file_in, known_of, lines_of};
 
+use crate::one_cite::{expr_cited, variable_cited};
 use crate::row_equality::same_rows;
 use crate::tried_candidates::tried_verdicts;
-use evidence_lines::LineKind;
-use evidence_lookups::cited_rows::{given_by_expr, given_by_step, given_by_variable};
+use evidence_lines::{Line, LineKind};
+use evidence_lookups::cited_rows::given_by_step;
 use evidence_lookups::line_context::LineContext;
 use evidence_lookups::lookup::value_of;
 use guard_syntax::{Conds, Query, Row, Step, StepForm};
 use query_steps::{candidates, captured, step as rows_due};
+use rule_names::RuleFile;
 use std::alloc::{AllocError, Global};
 
 /// Whether a line of the rows of a step follows: those that it gives, or the keys that it captures.
@@ -89,10 +92,17 @@ fn other_follows(
     let Some(current) = value_of(context.lines, frame) else {
         return Ok(false);
     };
-    let Some((before, last)) = rows_before(context, frame, query, index, cites) else {
+    let Some((before, last)) = rows_before(
+        context.store.file,
+        context.lines,
+        frame,
+        query,
+        index,
+        cites,
+    ) else {
         return Ok(false);
     };
-    let Some(further) = rows_further(context, frame, step, last) else {
+    let Some(further) = rows_further(context.store.file, context.lines, frame, step, last) else {
         return Ok(false);
     };
     let due = rows_due(
@@ -158,7 +168,14 @@ fn kept_follow(
     let Some(current) = value_of(context.lines, frame) else {
         return Ok(false);
     };
-    let Some((before, last)) = rows_before(context, frame, query, index, cites) else {
+    let Some((before, last)) = rows_before(
+        context.store.file,
+        context.lines,
+        frame,
+        query,
+        index,
+        cites,
+    ) else {
         return Ok(false);
     };
     let tried = candidates(alloc, context.store.file, site, before, context.store)?;
@@ -215,17 +232,16 @@ fn capture_follows(
 /// The rows of the step before the one of an index, which the first number cites, and the numbers behind it. A start has
 /// no rows before it, and no number.
 fn rows_before<'b>(
-    context: &LineContext<'b, '_, '_>,
+    file: &RuleFile,
+    lines: &'b [Line],
     frame: u64,
     query: &Query,
     index: usize,
     cites: &'b [u64],
 ) -> Option<(&'b [Row], &'b [u64])>
-    ensures { MatchOption result
-        ((first last : List ℕ) → (rows : List row.Row) → cites.entry.now ≡ first ++ last
-        → GivesBefore (known_of context.now) (lines_of context.now) frame (see_query query.now) index first rows → ⊥)
-        (λ found. (first : List ℕ) × (cites.entry.now ≡ first ++ found.1.now)
-        × GivesBefore (known_of context.now) (lines_of context.now) frame (see_query query.now) index first found.0.now) }
+    ensures { (known : StoreModel) → known.file ≡ file_of file.now → MatchOption result
+        ((first last : List ℕ) → (rows : List row.Row) → cites.entry.now ≡ first ++ last → GivesBefore known lines.entry.now frame (see_query query.now) index first rows → ⊥)
+        (λ found. (first : List ℕ) × (cites.entry.now ≡ first ++ found.1.now) × GivesBefore known lines.entry.now frame (see_query query.now) index first found.0.now) }
 {
     if index == 0 {
         return Some((&[], cites));
@@ -233,64 +249,35 @@ fn rows_before<'b>(
     let [number, last @ ..] = cites else {
         return None;
     };
-    let step = query.steps.get(index - 1)?;
-    let rows = given_by_step(context.store.file, context.lines, frame, step, *number)?;
+    let Some(step) = query.steps.get(index - 1) else {
+        return None;
+    };
+    let Some(rows) = given_by_step(file, lines, frame, step, *number) else {
+        return None;
+    };
     Some((rows, last))
 }
 
 /// The rows of what a step names further: of a variable, or of the right side of a key filter.
 fn rows_further<'b>(
-    context: &LineContext<'b, '_, '_>,
+    file: &RuleFile,
+    lines: &'b [Line],
     frame: u64,
     step: &Step,
     cites: &[u64],
 ) -> Option<&'b [Row]>
-    ensures { MatchOption result
-        ((rows : List row.Row) → GivesFurther (known_of context.now) (lines_of context.now) frame (see_step step.now) cites.now rows → ⊥)
-        (λ rows. GivesFurther (known_of context.now) (lines_of context.now) frame (see_step step.now) cites.now rows.now) }
+    ensures { (known : StoreModel) → known.file ≡ file_of file.now → MatchOption result
+        ((rows : List row.Row) → GivesFurther known lines.entry.now frame (see_step step.now) cites.now rows → ⊥)
+        (λ rows. GivesFurther known lines.entry.now frame (see_step step.now) cites.now rows.now) }
 {
     match &step.form {
-        StepForm::Var(_) => {
-            given_by_variable(
-                context.store.file,
-                context.lines,
-                frame,
-                step.site,
-                only(cites)?,
-            )
-        }
-        StepForm::Splice(_) => {
-            given_by_variable(
-                context.store.file,
-                context.lines,
-                frame,
-                step.site,
-                only(cites)?,
-            )
-        }
-        StepForm::Keys { right, .. } => {
-            given_by_expr(
-                context.store.file,
-                context.lines,
-                frame,
-                right,
-                only(cites)?,
-            )
-        }
+        StepForm::Var(_) => variable_cited(file, lines, frame, step.site, cites),
+        StepForm::Splice(_) => variable_cited(file, lines, frame, step.site, cites),
+        StepForm::Keys { right, .. } => expr_cited(file, lines, frame, right, cites),
         StepForm::Filter(..) => None,
         _ => match cites {
             [] => Some(&[]),
             _ => None,
         },
-    }
-}
-
-/// The number of one that is alone.
-fn only(cites: &[u64]) -> Option<u64>
-    ensures { MatchOption result ((number : ℕ) → cites.now ≡ number ∷ [] → ⊥) (λ number. cites.now ≡ number ∷ []) }
-{
-    match cites {
-        [number] => Some(*number),
-        _ => None,
     }
 }

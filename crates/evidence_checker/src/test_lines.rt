@@ -4,19 +4,24 @@ ghost use Rattle.std.specs.List.{list_all, list_any};
 ghost use Rattle.guard_syntax.specs.Seen.{see_opt_expr, see_query, see_step};
 ghost use Rattle.guard_syntax.specs.Syntax.{more_steps, no_steps, test};
 ghost use Rattle.guard_syntax.specs.declared.row.Row.{Row};
-ghost use Rattle.rule_meaning.specs.StoreModel.{is_known};
+ghost use Rattle.rule_names.specs.Files.{file_of};
+ghost use Rattle.rule_meaning.specs.StoreModel.{StoreModel, is_known};
 ghost use Rattle.evidence_rules.specs.Follows.{FollowsTest, GivesRight};
 ghost use Rattle.rule_meaning.specs.Keys.{passes};
 ghost use Rattle.rule_meaning.specs.SetTests as asked;
 ghost use Rattle.rule_meaning.specs.Verdicts as judged;
 ghost use Rattle.rule_meaning.specs.Verdicts.{set_verdict, test_verdict};
 ghost use Rattle.evidence_lookups.specs.Grounds.{known_of, lines_of};
+ghost use Rattle.evidence_checker.specs.TestedRows.{holds_for};
 
-use evidence_lookups::cited_rows::{given_by_expr, given_by_query};
+use crate::one_cite::expr_cited;
+use evidence_lines::Line;
+use evidence_lookups::cited_rows::given_by_query;
 use evidence_lookups::expression_lines::is_found;
 use evidence_lookups::line_context::LineContext;
 use guard_syntax::{Expr, Op, Query, Row, Step, StepForm, Verdict};
 use query_steps::row_passes;
+use rule_names::RuleFile;
 use std::alloc::{AllocError, Global};
 
 /// Whether the line of a test follows, from the rows of its left side and of its right side, if it has one.
@@ -42,7 +47,8 @@ pub(crate) fn test_follows(
     let Some(lefts) = given_by_query(context.store.file, context.lines, frame, left, *first) else {
         return Ok(false);
     };
-    let Some(rights) = given_at_right(context, frame, right, others) else {
+    let Some(rights) = given_at_right(context.store.file, context.lines, frame, right, others)
+    else {
         return Ok(false);
     };
     let said = test_of_rows(alloc, context, any, left, op, not, lefts, rights)?;
@@ -50,26 +56,28 @@ pub(crate) fn test_follows(
 }
 
 /// The rows of the right side of a test: of its one cite, if it has one.
-fn given_at_right<'g>(
-    context: &LineContext<'g, '_, '_>,
+fn given_at_right<'b>(
+    file: &RuleFile,
+    lines: &'b [Line],
     frame: u64,
     right: &Option<Expr>,
     cites: &[u64],
-) -> Option<&'g [Row]>
-    ensures { MatchOption result
-        ((rows : List Row) → GivesRight (known_of context.now) (lines_of context.now) frame (see_opt_expr right.now) cites.now rows → ⊥)
-        (λ rows. GivesRight (known_of context.now) (lines_of context.now) frame (see_opt_expr right.now) cites.now rows.now) }
+) -> Option<&'b [Row]>
+    ensures { (known : StoreModel) → known.file ≡ file_of file.now → MatchOption result
+        ((rows : List Row) → GivesRight known lines.entry.now frame (see_opt_expr right.now) cites.now rows → ⊥)
+        (λ rows. GivesRight known lines.entry.now frame (see_opt_expr right.now) cites.now rows.now) }
 {
-    match (right, cites) {
-        (None, []) => Some(&[]),
-        (Some(expr), [number]) => {
-            given_by_expr(context.store.file, context.lines, frame, expr, *number)
-        }
-        _ => None,
+    match right {
+        Some(expr) => expr_cited(file, lines, frame, expr, cites),
+        None => match cites {
+            [] => Some(&[]),
+            _ => None,
+        },
     }
 }
 
-/// The verdict of a test on rows. `empty` on a set looks at the rows together, any other test at each row.
+/// The verdict of a test on rows. `empty` on a set looks at the rows together, any other test at each row, and is SKIP where
+/// there is none.
 fn test_of_rows(
     alloc: Global,
     context: &LineContext<'_, '_, '_>,
@@ -87,10 +95,12 @@ fn test_of_rows(
         else test_verdict any (passes (known_of context.now) op not rights.now) lefts.now)) }
 {
     if is_set_test(op, left) {
-        Ok(verdict_of_set(not, lefts))
-    } else {
-        verdict_of_each(alloc, context, any, op, not, lefts, rights)
+        return Ok(verdict_of_set(not, lefts));
     }
+    if lefts.is_empty() {
+        return Ok(Verdict::Skip);
+    }
+    Ok(pass_if(holds_of_rows(alloc, context, any, op, not, lefts, rights)?))
 }
 
 /// Whether a test asks if a set is empty.
@@ -153,8 +163,8 @@ fn one_is_found(rows: &[Row]) -> bool
     rows.iter().any(|row| is_found(row))
 }
 
-/// The verdict of a test on left rows against right rows; with `some` one left row that passes is enough.
-fn verdict_of_each(
+/// Whether a test on left rows against right rows holds: with `some` one left row that passes is enough.
+fn holds_of_rows(
     alloc: Global,
     context: &LineContext<'_, '_, '_>,
     any: bool,
@@ -162,61 +172,19 @@ fn verdict_of_each(
     not: bool,
     lefts: &[Row],
     rights: &[Row],
-) -> Result<Verdict, AllocError>
-    requires lefts { list_all (is_known (known_of context.now)) lefts.now ≡ true }
-    requires rights { list_all (is_known (known_of context.now)) rights.now ≡ true }
-    ensures { IfOk result (λ v. v ≡ test_verdict any (passes (known_of context.now) op not rights.now) lefts.now) }
-{
-    if lefts.is_empty() {
-        return Ok(Verdict::Skip);
-    }
-    if any {
-        Ok(pass_if(one_passes(alloc, context, op, not, lefts, rights)?))
-    } else {
-        Ok(pass_if(all_pass(alloc, context, op, not, lefts, rights)?))
-    }
-}
-
-/// Whether a left row passes a test against right rows.
-fn one_passes(
-    alloc: Global,
-    context: &LineContext<'_, '_, '_>,
-    op: Op,
-    not: bool,
-    lefts: &[Row],
-    rights: &[Row],
 ) -> Result<bool, AllocError>
     requires lefts { list_all (is_known (known_of context.now)) lefts.now ≡ true }
     requires rights { list_all (is_known (known_of context.now)) rights.now ≡ true }
-    ensures { IfOk result (λ p. p ≡ list_any (passes (known_of context.now) op not rights.now) lefts.now) }
+    ensures { IfOk result (λ p. p ≡ holds_for any (passes (known_of context.now) op not rights.now) lefts.now) }
 {
     for left in lefts {
-        if row_passes(alloc, op, not, left, rights, context.store, context.book)? {
-            return Ok(true);
+        // With `some` a row that passes decides, else a row that fails.
+        let passes = row_passes(alloc, op, not, left, rights, context.store, context.book)?;
+        if passes == any {
+            return Ok(any);
         }
     }
-    Ok(false)
-}
-
-/// Whether each left row passes a test against right rows.
-fn all_pass(
-    alloc: Global,
-    context: &LineContext<'_, '_, '_>,
-    op: Op,
-    not: bool,
-    lefts: &[Row],
-    rights: &[Row],
-) -> Result<bool, AllocError>
-    requires lefts { list_all (is_known (known_of context.now)) lefts.now ≡ true }
-    requires rights { list_all (is_known (known_of context.now)) rights.now ≡ true }
-    ensures { IfOk result (λ p. p ≡ list_all (passes (known_of context.now) op not rights.now) lefts.now) }
-{
-    for left in lefts {
-        if !row_passes(alloc, op, not, left, rights, context.store, context.book)? {
-            return Ok(false);
-        }
-    }
-    Ok(true)
+    Ok(!any)
 }
 
 /// PASS where something holds.

@@ -4,18 +4,19 @@ ghost use Rattle.evidence_lines.specs.declared.line.LineKind.TheVariants as kind
 ghost use Rattle.evidence_lines.specs.declared.line.Outcome.TheVariants as says;
 ghost use Rattle.guard_syntax.specs.declared.row.Verdict.{Verdict};
 ghost use Rattle.guard_syntax.specs.Seen.{disj_list, part_list, see_disj, see_part};
-ghost use Rattle.rule_names.specs.Pieces.{OfFile, piece_at};
+ghost use Rattle.rule_names.specs.Pieces.{piece_at};
 ghost use Rattle.rule_names.specs.Seen.{see_piece};
 ghost use Rattle.rule_names.specs.ReferenceGraph.{part_site};
 ghost use Rattle.evidence_rules.specs.CitedLines.{IsLine};
-ghost use Rattle.evidence_rules.specs.Follows.{FollowsConj, FollowsDisj, FollowsLoose, FollowsVerdict, IsNewRule, SayDisjs, SayParts, SaysVerdict, conds_stop, disj_stop, kind_of_part};
+ghost use Rattle.evidence_rules.specs.Follows.{FollowsConj, FollowsDisj, FollowsLoose, FollowsVerdict, IsNewRule, SayDisjs, SayParts, SaysVerdict, kind_of_part};
+ghost use Rattle.rule_meaning.specs.StoreModel.{StoreModel};
 ghost use Rattle.rule_meaning.specs.Verdicts.{conjunction, disjunction};
 ghost use Rattle.evidence_lookups.specs.Grounds.{file_in, known_of, lines_of, version_of};
 
 use crate::bodies::{both, either};
 use crate::parts::{part_follows, rule_follows};
 use crate::stops::{conds_stop, disj_stop, is_stop};
-use evidence_lines::LineKind;
+use evidence_lines::{Line, LineKind};
 use evidence_lookups::frames::is_file_frame;
 use evidence_lookups::line_context::LineContext;
 use evidence_lookups::lookup::verdict_said;
@@ -47,11 +48,17 @@ pub(crate) fn verdict_follows(
         LineKind::Rule => Ok(rule_line_follows(context, new, frame, site, piece, cites, verdict)),
         LineKind::Conj => Ok(conj_line_follows(context, frame, site, piece, cites, verdict)),
         LineKind::Disj => Ok(disj_line_follows(context, frame, site, piece, cites, verdict)),
-        _ => part_line_follows(alloc, context, frame, site, kind, piece, cites, verdict),
+        _ => match piece {
+            Piece::Part(part) => {
+                part_follows(alloc, context, frame, site, kind, part, cites, verdict)
+            }
+            _ => Ok(false),
+        },
     }
 }
 
-/// Whether a `rule` line follows: of a rule, or of the parts outside rules, which have the file's site.
+/// Whether a `rule` line follows: of a rule, or of the parts outside rules, which have the file's site. It is the first of
+/// its site, in the frame of the file.
 fn rule_line_follows(
     context: &LineContext<'_, '_, '_>,
     new: bool,
@@ -66,9 +73,16 @@ fn rule_line_follows(
         (FollowsVerdict (version_of context.now) (known_of context.now) (lines_of context.now) frame site kind.Rule (Some (see_piece piece.entry)) cites.now verdict)
         (FollowsVerdict (version_of context.now) (known_of context.now) (lines_of context.now) frame site kind.Rule (Some (see_piece piece.entry)) cites.now verdict → ⊥) }
 {
+    if !new {
+        return false;
+    }
+    if !is_file_frame(context, frame) {
+        return false;
+    }
+    let loose = &context.store.file.raw.loose;
     match piece {
-        Piece::Rule(rule) => rule_follows(context, new, frame, site, rule, cites, verdict),
-        Piece::File => file_rule_follows(context, new, frame, site, cites, verdict),
+        Piece::Rule(rule) => rule_follows(context.lines, frame, rule, cites, verdict),
+        Piece::File => loose_follows(context.lines, frame, loose, cites, verdict),
         _ => false,
     }
 }
@@ -86,20 +100,17 @@ fn conj_line_follows(
         (FollowsVerdict (version_of context.now) (known_of context.now) (lines_of context.now) frame site kind.Conj (Some (see_piece piece.entry)) cites.now verdict)
         (FollowsVerdict (version_of context.now) (known_of context.now) (lines_of context.now) frame site kind.Conj (Some (see_piece piece.entry)) cites.now verdict → ⊥) }
 {
+    let lines = context.lines;
     match piece {
-        Piece::Body(body) => conj_follows(context, frame, None, &body.parts, cites, verdict),
+        Piece::Body(body) => conj_follows(lines, frame, None, &body.parts, cites, verdict),
         Piece::Conds(conds) => {
             let stop = conds_stop(context.version);
-            conj_follows(context, frame, stop, &conds.parts, cites, verdict)
+            conj_follows(lines, frame, stop, &conds.parts, cites, verdict)
         }
-        Piece::File => conj_follows(
-            context,
-            frame,
-            None,
-            &context.store.file.raw.loose,
-            cites,
-            verdict,
-        ),
+        Piece::File => {
+            let loose = &context.store.file.raw.loose;
+            conj_follows(lines, frame, None, loose, cites, verdict)
+        }
         _ => false,
     }
 }
@@ -118,86 +129,42 @@ fn disj_line_follows(
         (FollowsVerdict (version_of context.now) (known_of context.now) (lines_of context.now) frame site kind.Disj (Some (see_piece piece.entry)) cites.now verdict → ⊥) }
 {
     match piece {
-        Piece::Disj(disj) => disj_follows(context, frame, disj, cites, verdict),
+        Piece::Disj(disj) => {
+            let stop = disj_stop(context.version);
+            disj_follows(context.lines, frame, stop, disj, cites, verdict)
+        }
         _ => false,
     }
 }
 
-/// Whether a line of any other kind follows, which is of a part.
-fn part_line_follows(
-    alloc: Global,
-    context: &LineContext<'_, '_, '_>,
-    frame: u64,
-    site: u32,
-    kind: LineKind,
-    piece: Piece<'_>,
-    cites: &[u64],
-    verdict: Verdict,
-) -> Result<bool, AllocError>
-    requires rule { kind ≡ LineKind.Rule → ⊥ }
-    requires conj { kind ≡ LineKind.Conj → ⊥ }
-    requires disj { kind ≡ LineKind.Disj → ⊥ }
-    ensures { IfOk result (λ follows. MatchBool follows
-        (FollowsVerdict (version_of context.now) (known_of context.now) (lines_of context.now) frame site kind (Some (see_piece piece.entry)) cites.now verdict)
-        (FollowsVerdict (version_of context.now) (known_of context.now) (lines_of context.now) frame site kind (Some (see_piece piece.entry)) cites.now verdict → ⊥)) }
-{
-    match piece {
-        Piece::Part(part) => {
-            part_follows(alloc, context, frame, site, kind, part, cites, verdict)
-        }
-        _ => Ok(false),
-    }
-}
-
-/// Whether the `rule` line of the parts outside rules follows: it is the first of its site, in the frame of the file.
-fn file_rule_follows(
-    context: &LineContext<'_, '_, '_>,
-    new: bool,
-    frame: u64,
-    site: u32,
-    cites: &[u64],
-    verdict: Verdict,
-) -> bool
-    requires new { MatchBool new (IsNewRule (known_of context.now) (lines_of context.now) site) (IsNewRule (known_of context.now) (lines_of context.now) site → ⊥) }
-    ensures { MatchBool result
-        (FollowsVerdict (version_of context.now) (known_of context.now) (lines_of context.now) frame site kind.Rule (Some OfFile) cites.now verdict)
-        (FollowsVerdict (version_of context.now) (known_of context.now) (lines_of context.now) frame site kind.Rule (Some OfFile) cites.now verdict → ⊥) }
-{
-    if !new {
-        return false;
-    }
-    if !is_file_frame(context, frame) {
-        return false;
-    }
-    loose_follows(context, frame, cites, verdict)
-}
-
 /// Whether a line of the parts outside rules has the verdict of their conjunction, which it cites.
 fn loose_follows(
-    context: &LineContext<'_, '_, '_>,
+    lines: &[Line],
     frame: u64,
+    loose: &[Disj],
     cites: &[u64],
     verdict: Verdict,
 ) -> bool
-    ensures { MatchBool result
-        (FollowsLoose (known_of context.now) (lines_of context.now) frame (file_in context.now).loose cites.now verdict)
-        (FollowsLoose (known_of context.now) (lines_of context.now) frame (file_in context.now).loose cites.now verdict → ⊥) }
+    ensures { (known : StoreModel) → MatchBool result
+        (FollowsLoose known lines.now frame (disj_list (map see_disj loose.now)) cites.now verdict)
+        (FollowsLoose known lines.now frame (disj_list (map see_disj loose.now)) cites.now verdict → ⊥) }
 {
+    if loose.is_empty() {
+        return false;
+    }
     match cites {
-        [cite] => {
-            !context.store.file.raw.loose.is_empty() && is_said(context, *cite, frame, verdict)
-        }
+        [cite] => is_said(lines, *cite, frame, verdict),
         _ => false,
     }
 }
 
 /// Whether the `conj` line of the parts outside rules says a verdict.
-fn is_said(context: &LineContext<'_, '_, '_>, number: u64, frame: u64, verdict: Verdict) -> bool
+fn is_said(lines: &[Line], number: u64, frame: u64, verdict: Verdict) -> bool
     ensures { MatchBool result
-        (IsLine (lines_of context.now) number kind.Conj frame 0 (says.Verdict verdict))
-        (IsLine (lines_of context.now) number kind.Conj frame 0 (says.Verdict verdict) → ⊥) }
+        (IsLine lines.now number kind.Conj frame 0 (says.Verdict verdict))
+        (IsLine lines.now number kind.Conj frame 0 (says.Verdict verdict) → ⊥) }
 {
-    match verdict_said(context.lines, number, LineKind::Conj, frame, 0) {
+    match verdict_said(lines, number, LineKind::Conj, frame, 0) {
         Some(said) => said == verdict,
         None => false,
     }
@@ -205,38 +172,37 @@ fn is_said(context: &LineContext<'_, '_, '_>, number: u64, frame: u64, verdict: 
 
 /// Whether a verdict is the conjunction of what cited lines say of disjunctions, up to the one that decides.
 fn conj_follows(
-    context: &LineContext<'_, '_, '_>,
+    lines: &[Line],
     frame: u64,
     stop: Option<Verdict>,
     disjs: &[Disj],
     cites: &[u64],
     verdict: Verdict,
 ) -> bool
-    ensures { MatchBool result
-        (FollowsConj (known_of context.now) (lines_of context.now) frame stop (disj_list (map see_disj disjs.now)) cites.now verdict)
-        (FollowsConj (known_of context.now) (lines_of context.now) frame stop (disj_list (map see_disj disjs.now)) cites.now verdict → ⊥) }
+    ensures { (known : StoreModel) → MatchBool result
+        (FollowsConj known lines.now frame stop (disj_list (map see_disj disjs.now)) cites.now verdict)
+        (FollowsConj known lines.now frame stop (disj_list (map see_disj disjs.now)) cites.now verdict → ⊥) }
 {
-    match conjunction_said(context, frame, stop, disjs, cites) {
+    match conjunction_said(lines, frame, stop, disjs, cites) {
         Some(said) => is_same(said, verdict),
         None => false,
     }
 }
 
-/// Whether a verdict is the disjunction of what cited lines say of the parts of a disjunction, up to the one that decides
-/// where evidence of this version stops there.
+/// Whether a verdict is the disjunction of what cited lines say of the parts of a disjunction, up to the one that decides.
 fn disj_follows(
-    context: &LineContext<'_, '_, '_>,
+    lines: &[Line],
     frame: u64,
+    stop: Option<Verdict>,
     disj: &Disj,
     cites: &[u64],
     verdict: Verdict,
 ) -> bool
-    ensures { MatchBool result
-        (FollowsDisj (known_of context.now) (lines_of context.now) frame (disj_stop (version_of context.now)) (see_disj disj.now) cites.now verdict)
-        (FollowsDisj (known_of context.now) (lines_of context.now) frame (disj_stop (version_of context.now)) (see_disj disj.now) cites.now verdict → ⊥) }
+    ensures { (known : StoreModel) → MatchBool result
+        (FollowsDisj known lines.now frame stop (see_disj disj.now) cites.now verdict)
+        (FollowsDisj known lines.now frame stop (see_disj disj.now) cites.now verdict → ⊥) }
 {
-    let stop = disj_stop(context.version);
-    match disjunction_said(context, frame, stop, &disj.parts, cites) {
+    match disjunction_said(lines, frame, stop, &disj.parts, cites) {
         Some(said) => is_same(said, verdict),
         None => false,
     }
@@ -251,21 +217,21 @@ fn is_same(said: Verdict, verdict: Verdict) -> bool
 
 /// The conjunction of what cited lines say of disjunctions, one line for each up to the one that decides.
 fn conjunction_said(
-    context: &LineContext<'_, '_, '_>,
+    lines: &[Line],
     frame: u64,
     stop: Option<Verdict>,
     disjs: &[Disj],
     cites: &[u64],
 ) -> Option<Verdict>
-    ensures { MatchOption result
-        ((verdicts : List Verdict) → SayDisjs (known_of context.now) (lines_of context.now) frame stop (disj_list (map see_disj disjs.now)) cites.now verdicts → ⊥)
-        (λ verdict. (verdicts : List Verdict) × SayDisjs (known_of context.now) (lines_of context.now) frame stop (disj_list (map see_disj disjs.now)) cites.now verdicts × (verdict ≡ conjunction verdicts)) }
+    ensures { (known : StoreModel) → MatchOption result
+        ((verdicts : List Verdict) → SayDisjs known lines.now frame stop (disj_list (map see_disj disjs.now)) cites.now verdicts → ⊥)
+        (λ verdict. (verdicts : List Verdict) × SayDisjs known lines.now frame stop (disj_list (map see_disj disjs.now)) cites.now verdicts × (verdict ≡ conjunction verdicts)) }
 {
     let mut verdict = Verdict::Skip;
     let mut left = cites;
     for disj in disjs {
         let (cite, others) = left.split_first()?;
-        let said = verdict_said(context.lines, *cite, LineKind::Disj, frame, disj.site)?;
+        let said = verdict_said(lines, *cite, LineKind::Disj, frame, disj.site)?;
         verdict = both(verdict, said);
         left = others;
         if is_stop(stop, said) {
@@ -277,21 +243,21 @@ fn conjunction_said(
 
 /// The disjunction of what cited lines say of parts, one line for each up to the one that decides.
 fn disjunction_said(
-    context: &LineContext<'_, '_, '_>,
+    lines: &[Line],
     frame: u64,
     stop: Option<Verdict>,
     parts: &[Part],
     cites: &[u64],
 ) -> Option<Verdict>
-    ensures { MatchOption result
-        ((verdicts : List Verdict) → SayParts (known_of context.now) (lines_of context.now) frame stop (part_list (map see_part parts.now)) cites.now verdicts → ⊥)
-        (λ verdict. (verdicts : List Verdict) × SayParts (known_of context.now) (lines_of context.now) frame stop (part_list (map see_part parts.now)) cites.now verdicts × (verdict ≡ disjunction verdicts)) }
+    ensures { (known : StoreModel) → MatchOption result
+        ((verdicts : List Verdict) → SayParts known lines.now frame stop (part_list (map see_part parts.now)) cites.now verdicts → ⊥)
+        (λ verdict. (verdicts : List Verdict) × SayParts known lines.now frame stop (part_list (map see_part parts.now)) cites.now verdicts × (verdict ≡ disjunction verdicts)) }
 {
     let mut verdict = Verdict::Skip;
     let mut left = cites;
     for part in parts {
         let (cite, others) = left.split_first()?;
-        let said = said_of_part(context, *cite, frame, part)?;
+        let said = said_of_part(lines, *cite, frame, part)?;
         verdict = either(verdict, said);
         left = others;
         if is_stop(stop, said) {
@@ -312,17 +278,11 @@ fn at_end(left: &[u64], verdict: Verdict) -> Option<Verdict>
 }
 
 /// The verdict that the line of a number says of a part, where it is of the part's kind.
-fn said_of_part(
-    context: &LineContext<'_, '_, '_>,
-    number: u64,
-    frame: u64,
-    part: &Part,
-) -> Option<Verdict>
-    ensures { MatchOption result
-        ((verdict : Verdict) → SaysVerdict (known_of context.now) (lines_of context.now) (kind_of_part (known_of context.now) (lines_of context.now) (see_part part.now)) frame (part_site (see_part part.now)) number verdict → ⊥)
-        (λ verdict. SaysVerdict (known_of context.now) (lines_of context.now) (kind_of_part (known_of context.now) (lines_of context.now) (see_part part.now)) frame (part_site (see_part part.now)) number verdict) }
+fn said_of_part(lines: &[Line], number: u64, frame: u64, part: &Part) -> Option<Verdict>
+    ensures { (known : StoreModel) → MatchOption result
+        ((verdict : Verdict) → SaysVerdict known lines.now (kind_of_part known lines.now (see_part part.now)) frame (part_site (see_part part.now)) number verdict → ⊥)
+        (λ verdict. SaysVerdict known lines.now (kind_of_part known lines.now (see_part part.now)) frame (part_site (see_part part.now)) number verdict) }
 {
-    let lines = context.lines;
     match part {
         Part::Block { site, .. } => verdict_said(lines, number, LineKind::Block, frame, *site),
         Part::When { site, .. } => verdict_said(lines, number, LineKind::When, frame, *site),

@@ -1,42 +1,28 @@
-use Rattle.std.proofs.Common.{◌≡◌, refl, subst, sym, List, [], IfOk}
-use Rattle.evidence_lines.specs.declared.line.Line.{Line}
-use Rattle.evidence_lines.specs.declared.version.Version.{Version}
-use Rattle.guard_syntax.specs.Seen.{see_file}
-use Rattle.guard_syntax.specs.declared.syntax.RawFile.{RawFile}
+use Rattle.std.proofs.Common.{◌≡◌, IfOk, [], refl, subst, sym}
+use Rattle.rule_meaning.specs.StoreModel.{StoreModel}
 use Rattle.rule_names.specs.Files.{file_of}
+use Rattle.value_compare.specs.Books.{IsBookOf}
 use Rattle.value_compare.specs.Stores.{see_store}
-use Rattle.evidence_rules.specs.Follows.{AllFollow, nothing_made}
-use Rattle.evidence_rules.specs.Rejected.{IsRejectedAt}
+use Rattle.evidence_rules.specs.Follows.{nothing_made}
+use Rattle.evidence_lookups.specs.Owned.{AreOwners}
 use Rattle.evidence_checker.specs.Answered.{IsAnswer}
-use Rattle.evidence_checker.proofs.Answering.{fault-answered, none-follow, none-judged, store-starts}
+use Rattle.evidence_checker.proofs.Answering.{store-starts}
 use Rattle.evidence_checker.proofs.judge.check.Goals as goal
 
-pub returns-in-Some : goal.returns-in-Some
-returns-in-Some c =
-    let doc = c.args.doc.now in
-    let file = file_of c.args.file.now in
-    let lines = c.args.evidence.now.lines in
-    let rejected : IsRejectedAt c.version.result doc file lines c.in-Some.number =
-    fault-answered c.version.result doc file (see_store c.new-store.result)
-    (store-starts c.new-store.result doc c.args.file.now c.new-store.ensures.doc c.new-store.ensures.file c.new-store.ensures.made)
-    c.as_slice-lines.result.now lines c.as_slice-lines.ensures.lines c.first_fault.new.judged.of.items c.in_ok-number.field-0 c.in-Some.number c.in-Some.is c.in_ok-number.ensures in
-    subst (λ (v : Version). IsRejectedAt v doc file lines c.in-Some.number) c.version.ensures rejected
+pub judge_lines-requires-clause-book : goal.judge_lines-requires-clause-book
+judge_lines-requires-clause-book c =
+    subst (λ (k : StoreModel). IsBookOf k.file c.args.book.now)
+    (sym (store-starts c.new-store.result c.args.doc.now c.args.file.now c.new-store.ensures.doc c.new-store.ensures.file c.new-store.ensures.made)) c.requires.book
+
+pub judge_lines-requires-clause-owners : goal.judge_lines-requires-clause-owners
+judge_lines-requires-clause-owners c =
+    subst (λ (k : StoreModel). AreOwners k.file c.in_ok-owners.owners)
+    (sym (store-starts c.new-store.result c.args.doc.now c.args.file.now c.new-store.ensures.doc c.new-store.ensures.file c.new-store.ensures.made)) c.in_ok-owners.ensures
+
+pub judge_lines-requires-clause-made : goal.judge_lines-requires-clause-made
+judge_lines-requires-clause-made c = c.new-store.ensures.made
 
 pub returns : goal.returns
 returns c =
-    let doc = c.args.doc.now in
-    let file = file_of c.args.file.now in
-    let version = c.version.result in
-    let start = see_store c.new-store.result in
-    let start_is : start ≡ nothing_made doc file = store-starts c.new-store.result doc c.args.file.now c.new-store.ensures.doc c.new-store.ensures.file c.new-store.ensures.made in
-    let given = c.as_slice-lines.result.now in
-    let lines = c.args.evidence.now.lines in
-    let table = c.first_fault.new.judged.of.items in
-    let follow = none-follow version doc file start start_is given lines c.as_slice-lines.ensures.lines table c.in_ok-number.field-0 c.in-None.is c.in_ok-number.ensures in
-    let judged = none-judged version doc file start start_is given lines c.as_slice-lines.ensures.lines table c.in_ok-number.field-0 c.in-None.is c.in_ok-number.ensures in
-    let result = c.answer_of.result in
-    subst (λ (v : Version). IfOk result (λ answer. IsAnswer v doc file lines answer)) c.version.ensures
-    (subst (λ (ls : List Line). IfOk result (λ answer. IsAnswer version doc file ls answer)) c.as_slice-lines.ensures.lines
-    (subst (λ (raw : RawFile). IfOk result (λ answer. IsAnswer version doc (see_file raw) given answer)) c.raw-in-None.ensures
-    (c.answer_of.ensures version doc given refl judged
-    (subst (λ (raw : RawFile). AllFollow version (nothing_made doc (see_file raw)) [] given) (sym c.raw-in-None.ensures) follow))))
+    subst (λ (k : StoreModel). IfOk c.judge_lines.result (λ answer. IsAnswer c.args.evidence.now.version k.template k.file c.args.evidence.now.lines answer))
+    (store-starts c.new-store.result c.args.doc.now c.args.file.now c.new-store.ensures.doc c.new-store.ensures.file c.new-store.ensures.made) c.judge_lines.ensures

@@ -1,6 +1,8 @@
+use Rattle.std.proofs.Common.{sym}
 use Rattle.guard_syntax.specs.Seen.{see_body, see_query}
 use Rattle.evidence_rules.specs.Follows.{block_stop}
 use Rattle.evidence_lookups.specs.Grounds.{known_of, lines_of, version_of}
+use Rattle.evidence_lookups.proofs.PartsSeen.{body-site}
 use Rattle.evidence_checker.proofs.FirstSaid.{block-decided, block-never}
 use Rattle.evidence_checker.proofs.parts.block_follows.Goals as goal
 
@@ -12,4 +14,4 @@ returns-in-None c =
 pub returns-in-Some-given_by_query : goal.returns-in-Some-given_by_query
 returns-in-Some-given_by_query c =
     block-decided (lines_of c.args.context.now) c.args.frame c.in-Some.first.now c.args.cites.now c.in-Some.others.now c.in-Some.ensures.cases.0 (known_of c.args.context.now) c.args.verdict
-    (see_body c.args.body.now) c.args.any (block_stop c.args.any (version_of c.args.context.now)) (see_query c.args.head.now) c.in-Some-given_by_query.rows.now c.body_follows_on.result c.in-Some-given_by_query.ensures c.body_follows_on.ensures
+    (see_body c.args.body.now) c.args.any (block_stop c.args.any (version_of c.args.context.now)) (see_query c.args.head.now) c.in-Some-given_by_query.rows.now c.body_follows_on.result c.in-Some-given_by_query.ensures (c.body_follows_on.ensures (known_of c.args.context.now) (see_body c.args.body.now) (sym (body-site c.args.body.now)))

@@ -1,24 +1,18 @@
-use Rattle.guard_syntax.specs.Seen.{see_body, see_opt_conds}
-use Rattle.guard_syntax.specs.declared.row.Verdict.TheVariants.{Pass, Fail, Skip}
+use Rattle.guard_syntax.specs.declared.row.Verdict.TheVariants.{Pass}
 use Rattle.evidence_rules.specs.Follows.{FollowsTyped}
-use Rattle.evidence_lookups.specs.Grounds.{known_of, lines_of}
-use Rattle.evidence_checker.proofs.Decided.{decide-guarded, decide-under-some, never-under-some}
+use Rattle.evidence_checker.proofs.Decided.{decide-guarded, decide-skipped, decide-under-some, never-under-some}
 use Rattle.evidence_checker.proofs.parts.kinds_follows.Goals as goal
 
 pub returns-in_default : goal.returns-in_default
-returns-in_default c = never-under-some (known_of c.args.context.now) (lines_of c.args.context.now) c.args.frame (FollowsTyped (known_of c.args.context.now) (lines_of c.args.context.now) c.args.frame c.args.site (see_body c.args.body.now)) c.args.verdict (see_opt_conds c.args.cond.now) c.args.cites.now c.in_default.ensures
+returns-in_default c = λ known conds b conds_is site_is.
+    never-under-some known c.args.lines.now c.args.frame (FollowsTyped known c.args.lines.now c.args.frame c.args.site b) c.args.verdict conds c.args.cites.now (c.in_default.ensures conds conds_is)
 
 pub returns-in-Pass : goal.returns-in-Pass
-returns-in-Pass c =
-    decide-under-some (known_of c.args.context.now) (lines_of c.args.context.now) c.args.frame (FollowsTyped (known_of c.args.context.now) (lines_of c.args.context.now) c.args.frame c.args.site (see_body c.args.body.now)) c.args.verdict (see_opt_conds c.args.cond.now) c.args.cites.now c.in-Some.guard.said c.in-Some.guard.left.now c.typed_follows.result c.in-Some.ensures
-    (decide-guarded (known_of c.args.context.now) (lines_of c.args.context.now) c.args.frame (FollowsTyped (known_of c.args.context.now) (lines_of c.args.context.now) c.args.frame c.args.site (see_body c.args.body.now)) c.args.verdict Pass c.in-Some.guard.said c.in-Some.guard.left.now c.typed_follows.result c.in-Pass.is c.typed_follows.ensures)
+returns-in-Pass c = λ known conds b conds_is site_is.
+    decide-under-some known c.args.lines.now c.args.frame (FollowsTyped known c.args.lines.now c.args.frame c.args.site b) c.args.verdict conds c.args.cites.now c.in-Some.guard.said c.in-Some.guard.left.now c.typed_follows.result (c.in-Some.ensures conds conds_is)
+    (decide-guarded known c.args.lines.now c.args.frame (FollowsTyped known c.args.lines.now c.args.frame c.args.site b) c.args.verdict Pass c.in-Some.guard.said c.in-Some.guard.left.now c.typed_follows.result c.in-Pass.is (c.typed_follows.ensures known b site_is))
 
-pub returns-in-Fail : goal.returns-in-Fail
-returns-in-Fail c =
-    decide-under-some (known_of c.args.context.now) (lines_of c.args.context.now) c.args.frame (FollowsTyped (known_of c.args.context.now) (lines_of c.args.context.now) c.args.frame c.args.site (see_body c.args.body.now)) c.args.verdict (see_opt_conds c.args.cond.now) c.args.cites.now c.in-Some.guard.said c.in-Some.guard.left.now c.ends_with.result c.in-Some.ensures
-    (decide-guarded (known_of c.args.context.now) (lines_of c.args.context.now) c.args.frame (FollowsTyped (known_of c.args.context.now) (lines_of c.args.context.now) c.args.frame c.args.site (see_body c.args.body.now)) c.args.verdict Fail c.in-Some.guard.said c.in-Some.guard.left.now c.ends_with.result c.in-Fail.is c.ends_with.ensures)
-
-pub returns-in-Skip : goal.returns-in-Skip
-returns-in-Skip c =
-    decide-under-some (known_of c.args.context.now) (lines_of c.args.context.now) c.args.frame (FollowsTyped (known_of c.args.context.now) (lines_of c.args.context.now) c.args.frame c.args.site (see_body c.args.body.now)) c.args.verdict (see_opt_conds c.args.cond.now) c.args.cites.now c.in-Some.guard.said c.in-Some.guard.left.now c.ends_with-in-Skip.result c.in-Some.ensures
-    (decide-guarded (known_of c.args.context.now) (lines_of c.args.context.now) c.args.frame (FollowsTyped (known_of c.args.context.now) (lines_of c.args.context.now) c.args.frame c.args.site (see_body c.args.body.now)) c.args.verdict Skip c.in-Some.guard.said c.in-Some.guard.left.now c.ends_with-in-Skip.result c.in-Skip.is c.ends_with-in-Skip.ensures)
+pub returns-in_default-said : goal.returns-in_default-said
+returns-in_default-said c = λ known conds b conds_is site_is.
+    decide-under-some known c.args.lines.now c.args.frame (FollowsTyped known c.args.lines.now c.args.frame c.args.site b) c.args.verdict conds c.args.cites.now c.in-Some.guard.said c.in-Some.guard.left.now c.ends_with.result (c.in-Some.ensures conds conds_is)
+    (decide-skipped known c.args.lines.now c.args.frame (FollowsTyped known c.args.lines.now c.args.frame c.args.site b) c.args.verdict c.in-Some.guard.said c.in-Some.guard.left.now c.ends_with.result c.in_default-said.not-Pass c.ends_with.ensures)

@@ -1,8 +1,10 @@
-use Rattle.std.proofs.Common.{map, ap, sym, ◌∙◌}
+use Rattle.std.proofs.Common.{Some, map, ap, refl, sym, ◌∙◌}
 use Rattle.std.proofs.lemmas.Result.{IfOk-weaker}
 use Rattle.guard_syntax.specs.Seen.{expr_list, see_body, see_conds, see_expr, see_opt_conds, see_opt_expr, see_part, see_query}
 use Rattle.guard_syntax.specs.Syntax as sx
 use Rattle.evidence_lookups.specs.Grounds.{known_of, lines_of, version_of}
+use Rattle.evidence_lookups.proofs.PartsSeen.{body-site}
+use Rattle.evidence_checker.proofs.FirstSaid.{conds-site}
 use Rattle.evidence_checker.proofs.PartForms.{block-seen, call-seen, kind-other, kind-same, kinds-seen, part-decided, refer-seen, test-seen, when-seen}
 use Rattle.evidence_checker.proofs.PartsKinds.{other-kind}
 use Rattle.evidence_checker.proofs.parts.part_follows.Goals as goal
@@ -21,14 +23,14 @@ returns-in-Block c =
 pub returns-in-When : goal.returns-in-When
 returns-in-When c =
     part-decided (version_of c.args.context.now) (known_of c.args.context.now) (lines_of c.args.context.now) c.args.frame c.args.site c.args.cites.now c.args.verdict c.args.kind (see_part c.args.part.now)
-    (sx.guarded c.in-When.site (see_conds c.in-When.cond) (see_body c.in-When.body)) c.when_follows.result
-    (kind-same c.ne.result c.args.kind c.kind_of_part.result c.ne.ensures c.if-ne.false ∙ c.kind_of_part.ensures (known_of c.args.context.now) (lines_of c.args.context.now)) (ap see_part c.in-When.is ∙ when-seen c.in-When.site c.in-When.cond c.in-When.body) c.when_follows.ensures
+    (sx.guarded c.in-When.site (see_conds c.in-When.cond) (see_body c.in-When.body)) c.guarded_follows.result
+    (kind-same c.ne.result c.args.kind c.kind_of_part.result c.ne.ensures c.if-ne.false ∙ c.kind_of_part.ensures (known_of c.args.context.now) (lines_of c.args.context.now)) (ap see_part c.in-When.is ∙ when-seen c.in-When.site c.in-When.cond c.in-When.body) (c.guarded_follows.ensures (known_of c.args.context.now) (sx.with_conds (see_conds c.in-When.cond)) (see_body c.in-When.body) (ap Some (sym (conds-site c.in-When.cond))) (sym (body-site c.in-When.body)))
 
 pub returns-in-Kinds : goal.returns-in-Kinds
 returns-in-Kinds c =
     part-decided (version_of c.args.context.now) (known_of c.args.context.now) (lines_of c.args.context.now) c.args.frame c.args.site c.args.cites.now c.args.verdict c.args.kind (see_part c.args.part.now)
     (sx.kinds c.in-Kinds.site c.in-Kinds.name (see_opt_conds c.in-Kinds.cond) (see_body c.in-Kinds.body)) c.kinds_follows.result
-    (kind-same c.ne.result c.args.kind c.kind_of_part.result c.ne.ensures c.if-ne.false ∙ c.kind_of_part.ensures (known_of c.args.context.now) (lines_of c.args.context.now)) (ap see_part c.in-Kinds.is ∙ kinds-seen c.in-Kinds.site c.in-Kinds.name c.in-Kinds.cond c.in-Kinds.body) c.kinds_follows.ensures
+    (kind-same c.ne.result c.args.kind c.kind_of_part.result c.ne.ensures c.if-ne.false ∙ c.kind_of_part.ensures (known_of c.args.context.now) (lines_of c.args.context.now)) (ap see_part c.in-Kinds.is ∙ kinds-seen c.in-Kinds.site c.in-Kinds.name c.in-Kinds.cond c.in-Kinds.body) (c.kinds_follows.ensures (known_of c.args.context.now) (see_opt_conds c.in-Kinds.cond) (see_body c.in-Kinds.body) c.conds_site-cond.ensures (sym (body-site c.in-Kinds.body)))
 
 pub returns-in-Test : goal.returns-in-Test
 returns-in-Test c =
@@ -42,10 +44,10 @@ pub returns-in-Refer : goal.returns-in-Refer
 returns-in-Refer c =
     part-decided (version_of c.args.context.now) (known_of c.args.context.now) (lines_of c.args.context.now) c.args.frame c.args.site c.args.cites.now c.args.verdict c.args.kind (see_part c.args.part.now)
     (sx.refer c.in-Refer.site c.in-Refer.not c.in-Refer.name c.in-Refer.note) c.reference_follows.result
-    (kind-same c.ne.result c.args.kind c.kind_of_part.result c.ne.ensures c.if-ne.false ∙ c.kind_of_part.ensures (known_of c.args.context.now) (lines_of c.args.context.now)) (ap see_part c.in-Refer.is ∙ refer-seen c.in-Refer.site c.in-Refer.not c.in-Refer.name c.in-Refer.note) (c.reference_follows.ensures c.in-Refer.site c.in-Refer.name c.in-Refer.note)
+    (kind-same c.ne.result c.args.kind c.kind_of_part.result c.ne.ensures c.if-ne.false ∙ c.kind_of_part.ensures (known_of c.args.context.now) (lines_of c.args.context.now)) (ap see_part c.in-Refer.is ∙ refer-seen c.in-Refer.site c.in-Refer.not c.in-Refer.name c.in-Refer.note) (c.reference_follows.ensures (known_of c.args.context.now) refl c.in-Refer.site c.in-Refer.name c.in-Refer.note)
 
 pub returns-in-Call : goal.returns-in-Call
 returns-in-Call c =
     part-decided (version_of c.args.context.now) (known_of c.args.context.now) (lines_of c.args.context.now) c.args.frame c.args.site c.args.cites.now c.args.verdict c.args.kind (see_part c.args.part.now)
     (sx.call c.in-Call.site c.in-Call.not c.in-Call.name (expr_list (map see_expr c.in-Call.args.items)) c.in-Call.note) c.call_follows.result
-    (kind-same c.ne.result c.args.kind c.kind_of_part.result c.ne.ensures c.if-ne.false ∙ c.kind_of_part.ensures (known_of c.args.context.now) (lines_of c.args.context.now)) (ap see_part c.in-Call.is ∙ call-seen c.in-Call.site c.in-Call.not c.in-Call.name c.in-Call.args c.in-Call.note) (c.call_follows.ensures c.in-Call.site c.in-Call.name (expr_list (map see_expr c.in-Call.args.items)) c.in-Call.note)
+    (kind-same c.ne.result c.args.kind c.kind_of_part.result c.ne.ensures c.if-ne.false ∙ c.kind_of_part.ensures (known_of c.args.context.now) (lines_of c.args.context.now)) (ap see_part c.in-Call.is ∙ call-seen c.in-Call.site c.in-Call.not c.in-Call.name c.in-Call.args c.in-Call.note) (c.call_follows.ensures (known_of c.args.context.now) refl c.in-Call.site c.in-Call.name (expr_list (map see_expr c.in-Call.args.items)) c.in-Call.note)

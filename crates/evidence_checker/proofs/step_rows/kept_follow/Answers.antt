@@ -1,4 +1,5 @@
-use Rattle.std.proofs.Common.{◌≡◌, ℕ, [], ap, length, sym, subst, ◌∙◌, List, MatchOption, None, Option, Some, Vec, Global}
+use Rattle.std.proofs.Common.{◌≡◌, ℕ, [], ap, length, refl, sym, true≢false, subst, ◌∙◌, List, MatchOption, None, Option, Some, Vec, Global}
+use Rattle.std.proofs.lemmas.Option.{none-some}
 use Rattle.evidence_lines.specs.declared.line.Line.{Line}
 use Rattle.guard_syntax.specs.Seen.{see_conds, see_query}
 use Rattle.guard_syntax.specs.Syntax.{Conds}
@@ -10,7 +11,7 @@ use Rattle.rule_meaning.specs.Places.{candidates_at, rows_at_step}
 use Rattle.evidence_lookups.specs.Grounds.{file_in, known_of, lines_of}
 use Rattle.evidence_lookups.proofs.SaidKnown.{before-said-known, value-said-known}
 use Rattle.evidence_lookups.proofs.SitesWithin.{site-within}
-use Rattle.evidence_checker.proofs.StepLines.{filter-due, filter-lacks, none-taken, said-each, some-taken}
+use Rattle.evidence_checker.proofs.StepLines.{filter-due, filter-lacks, none-taken, said-each, some-taken, start-bare}
 use Rattle.evidence_checker.proofs.step_rows.kept_follow.Goals as goal
 
 -- one verdict for each value that is tried
@@ -29,17 +30,43 @@ module _ (known : StoreModel) (lines : List Line) (frame site : ℕ) (conditions
   some-said : (verdicts : Vec Verdict Global) → said ≡ Some verdicts → AreSaid → Said known lines frame site conditions values cites verdicts.items
   some-said verdicts is are = some-taken said verdicts _ (λ verdicts. Said known lines frame site conditions values cites verdicts.items) is are
 
+pub returns-in_default : goal.returns-in_default
+returns-in_default c = record { follows = λ h. none-some h.0 (c.in_default.ensures ∙ h.5); known = λ e. absurd (true≢false (sym e)) }
+
+pub returns-in_default-rows_before : goal.returns-in_default-rows_before
+returns-in_default-rows_before c = record {
+  follows = λ h. c.in_default-rows_before.ensures (known_of c.args.context.now) refl h.1 h.2 h.3 h.6 h.7;
+  known = λ e. absurd (true≢false (sym e));
+}
+
+pub returns-in_default-2-clause-known : goal.returns-in_default-2-clause-known
+returns-in_default-2-clause-known c = λ e. absurd (true≢false (sym e))
+
+pub candidates-requires-clause-file : goal.candidates-requires-clause-file
+candidates-requires-clause-file c = refl
+
+pub step-requires-clause-start : goal.step-requires-clause-start
+step-requires-clause-start c =
+    let b = c.in-Some-rows_before.ensures (known_of c.args.context.now) refl in
+    start-bare (known_of c.args.context.now) (lines_of c.args.context.now) c.args.frame (see_query c.args.query.now) (file_in c.args.context.now) c.args.site c.args.index b.0 c.in-Some-rows_before.before.now c.requires.placed b.2
+
+pub step-requires-clause-file : goal.step-requires-clause-file
+step-requires-clause-file c = refl
+
+pub step-requires-clause-book : goal.step-requires-clause-book
+step-requires-clause-book c = c.args.context.now.book_is
+
 pub candidates-requires-clause-site : goal.candidates-requires-clause-site
 candidates-requires-clause-site c = site-within (file_in c.args.context.now) c.args.site _ c.args.context.now.store.now.file.now.sites c.requires.placed
 
 pub candidates-requires-clause-known : goal.candidates-requires-clause-known
 candidates-requires-clause-known c =
-    let b = c.in-Some-rows_before.ensures in
+    let b = c.in-Some-rows_before.ensures (known_of c.args.context.now) refl in
     before-said-known (known_of c.args.context.now) (lines_of c.args.context.now) c.args.context.now.sound c.args.frame (see_query c.args.query.now) c.args.index b.0 c.in-Some-rows_before.before.now b.2
 
 pub returns-in_default-2-clause-follows : goal.returns-in_default-2-clause-follows
 returns-in_default-2-clause-follows c =
-    let b = c.in-Some-rows_before.ensures in
+    let b = c.in-Some-rows_before.ensures (known_of c.args.context.now) refl in
     let tried : c.in_ok-tried.tried.items ≡ candidates_at (known_of c.args.context.now) c.args.site c.in-Some-rows_before.before.now = c.in_ok-tried.ensures.candidates in
     filter-lacks (known_of c.args.context.now) (lines_of c.args.context.now) c.args.frame (see_query c.args.query.now) c.args.site c.args.index c.in-Some.current b.0 c.in-Some-rows_before.last.now c.args.cites.now c.in-Some-rows_before.before.now (sym c.in-Some.ensures) b.1 b.2
     (see_conds c.args.conditions.now) c.deref.result.now c.args.rows.now (c.deref.ensures.value ∙ tried)
@@ -59,12 +86,12 @@ step-requires-clause-current c = value-said-known (known_of c.args.context.now) 
 
 pub step-requires-clause-before : goal.step-requires-clause-before
 step-requires-clause-before c =
-    let b = c.in-Some-rows_before.ensures in
+    let b = c.in-Some-rows_before.ensures (known_of c.args.context.now) refl in
     before-said-known (known_of c.args.context.now) (lines_of c.args.context.now) c.args.context.now.sound c.args.frame (see_query c.args.query.now) c.args.index b.0 c.in-Some-rows_before.before.now b.2
 
 pub returns-clause-follows : goal.returns-clause-follows
 returns-clause-follows c =
-    let b = c.in-Some-rows_before.ensures in
+    let b = c.in-Some-rows_before.ensures (known_of c.args.context.now) refl in
     let tried : c.in_ok-tried.tried.items ≡ candidates_at (known_of c.args.context.now) c.args.site c.in-Some-rows_before.before.now = c.in_ok-tried.ensures.candidates in
     let due : c.in_ok-due.due.items ≡ rows_at_step (known_of c.args.context.now) c.args.site c.in-Some.current c.in-Some-rows_before.before.now [] c.deref-2.result.now = c.in_ok-due.ensures.rows in
     filter-due (known_of c.args.context.now) (lines_of c.args.context.now) c.args.frame (see_query c.args.query.now) c.args.site c.args.index c.in-Some.current b.0 c.in-Some-rows_before.last.now c.args.cites.now c.in-Some-rows_before.before.now (sym c.in-Some.ensures) b.1 b.2

@@ -1,11 +1,42 @@
-use Rattle.std.proofs.Common.{◌≡◌, [], sym, ◌∙◌}
+use Rattle.std.proofs.Common.{◌≡◌, [], refl, sym, ◌∙◌, true≢false}
+use Rattle.std.proofs.lemmas.Option.{none-some}
 use Rattle.guard_syntax.specs.Seen.{see_query, see_step}
 use Rattle.rule_meaning.specs.Places.{rows_at_step}
 use Rattle.evidence_lookups.specs.Grounds.{file_in, known_of, lines_of}
 use Rattle.evidence_lookups.proofs.SaidKnown.{before-said-known, further-said-known, value-said-known}
 use Rattle.evidence_lookups.proofs.SitesWithin.{site-within}
-use Rattle.evidence_checker.proofs.StepLines.{step-due}
+use Rattle.evidence_checker.proofs.StepLines.{start-bare, step-due, step-lacks}
 use Rattle.evidence_checker.proofs.step_rows.other_follows.Goals as goal
+
+pub returns-in_default : goal.returns-in_default
+returns-in_default c = record { follows = λ h. none-some h.0 (c.in_default.ensures ∙ h.5); known = λ e. absurd (true≢false (sym e)) }
+
+pub returns-in_default-rows_before : goal.returns-in_default-rows_before
+returns-in_default-rows_before c = record {
+  follows = λ h. c.in_default-rows_before.ensures (known_of c.args.context.now) refl h.1 h.2 h.3 h.6 h.7;
+  known = λ e. absurd (true≢false (sym e));
+}
+
+pub returns-in_default-rows_further : goal.returns-in_default-rows_further
+returns-in_default-rows_further c =
+    let b = c.in-Some-rows_before.ensures (known_of c.args.context.now) refl in
+    record {
+      follows =
+          step-lacks (known_of c.args.context.now) (lines_of c.args.context.now) c.args.frame (see_query c.args.query.now) c.args.site c.args.index c.in-Some.current b.0 c.in-Some-rows_before.last.now c.args.cites.now c.in-Some-rows_before.before.now (sym c.in-Some.ensures) b.1 b.2
+          (see_step c.args.step.now) c.args.rows.now (c.in_default-rows_further.ensures (known_of c.args.context.now) refl);
+      known = λ e. absurd (true≢false (sym e));
+    }
+
+pub step-requires-clause-start : goal.step-requires-clause-start
+step-requires-clause-start c =
+    let b = c.in-Some-rows_before.ensures (known_of c.args.context.now) refl in
+    start-bare (known_of c.args.context.now) (lines_of c.args.context.now) c.args.frame (see_query c.args.query.now) (file_in c.args.context.now) c.args.site c.args.index b.0 c.in-Some-rows_before.before.now c.requires.placed b.2
+
+pub step-requires-clause-file : goal.step-requires-clause-file
+step-requires-clause-file c = refl
+
+pub step-requires-clause-book : goal.step-requires-clause-book
+step-requires-clause-book c = c.args.context.now.book_is
 
 pub step-requires-clause-site : goal.step-requires-clause-site
 step-requires-clause-site c = site-within (file_in c.args.context.now) c.args.site _ c.args.context.now.store.now.file.now.sites c.requires.placed
@@ -15,16 +46,16 @@ step-requires-clause-current c = value-said-known (known_of c.args.context.now) 
 
 pub step-requires-clause-before : goal.step-requires-clause-before
 step-requires-clause-before c =
-    let b = c.in-Some-rows_before.ensures in
+    let b = c.in-Some-rows_before.ensures (known_of c.args.context.now) refl in
     before-said-known (known_of c.args.context.now) (lines_of c.args.context.now) c.args.context.now.sound c.args.frame (see_query c.args.query.now) c.args.index b.0 c.in-Some-rows_before.before.now b.2
 
 pub step-requires-clause-rows : goal.step-requires-clause-rows
 step-requires-clause-rows c =
-    further-said-known (known_of c.args.context.now) (lines_of c.args.context.now) c.args.context.now.sound c.args.frame (see_step c.args.step.now) c.in-Some-rows_before.last.now c.in-Some-rows_further.further.now c.in-Some-rows_further.ensures
+    further-said-known (known_of c.args.context.now) (lines_of c.args.context.now) c.args.context.now.sound c.args.frame (see_step c.args.step.now) c.in-Some-rows_before.last.now c.in-Some-rows_further.further.now (c.in-Some-rows_further.ensures (known_of c.args.context.now) refl)
 
 pub returns-clause-follows : goal.returns-clause-follows
 returns-clause-follows c =
-    let b = c.in-Some-rows_before.ensures in
+    let b = c.in-Some-rows_before.ensures (known_of c.args.context.now) refl in
     let due : c.in_ok-due.due.items ≡ rows_at_step (known_of c.args.context.now) c.args.site c.in-Some.current c.in-Some-rows_before.before.now c.in-Some-rows_further.further.now [] = c.in_ok-due.ensures.rows in
     step-due (known_of c.args.context.now) (lines_of c.args.context.now) c.args.frame (see_query c.args.query.now) c.args.site c.args.index c.in-Some.current b.0 c.in-Some-rows_before.last.now c.args.cites.now c.in-Some-rows_before.before.now (sym c.in-Some.ensures) b.1 b.2
-    (see_step c.args.step.now) c.in-Some-rows_further.further.now c.args.rows.now c.deref.result.now c.same_rows.result c.in-Some-rows_further.ensures (c.deref.ensures.value ∙ due) c.same_rows.ensures
+    (see_step c.args.step.now) c.in-Some-rows_further.further.now c.args.rows.now c.deref.result.now c.same_rows.result (c.in-Some-rows_further.ensures (known_of c.args.context.now) refl) (c.deref.ensures.value ∙ due) c.same_rows.ensures

@@ -1,18 +1,29 @@
+use Rattle.std.proofs.Common.{refl}
 use Rattle.guard_syntax.specs.Seen.{see_opt_expr, see_query}
 use Rattle.evidence_lookups.specs.Grounds.{known_of, lines_of}
 use Rattle.evidence_lookups.proofs.SaidKnown.{query-said-known, right-said-known}
 use Rattle.evidence_checker.proofs.Decided.{same-verdicts}
-use Rattle.evidence_checker.proofs.FirstSaid.{test-decided}
+use Rattle.evidence_checker.proofs.FirstSaid.{never-left, never-right, test-decided}
 use Rattle.evidence_checker.proofs.test_lines.test_follows.Goals as goal
+
+pub returns-in_default-given_by_query : goal.returns-in_default-given_by_query
+returns-in_default-given_by_query c =
+    λ n message. never-left (lines_of c.args.context.now) c.args.frame c.in-Some.first.now c.args.cites.now c.in-Some.others.now c.in-Some.ensures.cases.0 (known_of c.args.context.now) c.args.verdict
+    n c.args.any (see_query c.args.left.now) c.args.op c.args.not (see_opt_expr c.args.right.now) message c.in_default-given_by_query.ensures
+
+pub returns-in_default-given_at_right : goal.returns-in_default-given_at_right
+returns-in_default-given_at_right c =
+    λ n message. never-right (lines_of c.args.context.now) c.args.frame c.in-Some.first.now c.args.cites.now c.in-Some.others.now c.in-Some.ensures.cases.0 (known_of c.args.context.now) c.args.verdict
+    n c.args.any (see_query c.args.left.now) c.args.op c.args.not (see_opt_expr c.args.right.now) message (c.in_default-given_at_right.ensures (known_of c.args.context.now) refl)
 
 pub test_of_rows-requires : goal.test_of_rows-requires
 test_of_rows-requires c = record {
   lefts = query-said-known (known_of c.args.context.now) (lines_of c.args.context.now) c.args.context.now.sound c.args.frame (see_query c.args.left.now) c.in-Some.first.now c.in-Some-given_by_query.lefts.now c.in-Some-given_by_query.ensures;
-  rights = right-said-known (known_of c.args.context.now) (lines_of c.args.context.now) c.args.context.now.sound c.args.frame (see_opt_expr c.args.right.now) c.in-Some.others.now c.in-Some-given_at_right.rights.now c.in-Some-given_at_right.ensures;
+  rights = right-said-known (known_of c.args.context.now) (lines_of c.args.context.now) c.args.context.now.sound c.args.frame (see_opt_expr c.args.right.now) c.in-Some.others.now c.in-Some-given_at_right.rights.now (c.in-Some-given_at_right.ensures (known_of c.args.context.now) refl);
 }
 
 pub returns : goal.returns
 returns c =
     λ n message. test-decided (lines_of c.args.context.now) c.args.frame c.in-Some.first.now c.args.cites.now c.in-Some.others.now c.in-Some.ensures.cases.0 (known_of c.args.context.now) c.args.verdict
     n c.args.any (see_query c.args.left.now) c.args.op c.args.not (see_opt_expr c.args.right.now) message c.in-Some-given_by_query.lefts.now c.in-Some-given_at_right.rights.now c.in_ok-said.said c.eq.result
-    c.in-Some-given_by_query.ensures c.in-Some-given_at_right.ensures c.in_ok-said.ensures (same-verdicts c.eq.result c.args.verdict c.in_ok-said.said c.eq.ensures)
+    c.in-Some-given_by_query.ensures (c.in-Some-given_at_right.ensures (known_of c.args.context.now) refl) c.in_ok-said.ensures (same-verdicts c.eq.result c.args.verdict c.in_ok-said.said c.eq.ensures)

@@ -1,11 +1,12 @@
-use Rattle.std.proofs.Common.{◌∙◌}
-use Rattle.std.specs.Vec.{vec_len}
-use Rattle.evidence_lookups.specs.Grounds.{known_of, lines_of}
-use Rattle.evidence_checker.proofs.VerdictsSaid.{loose-said, not-zero}
+use Rattle.evidence_checker.proofs.RuleVerdicts.{is-none, is-some}
+use Rattle.evidence_checker.proofs.VerdictsSaid.{loose-none, loose-said}
 use Rattle.evidence_checker.proofs.verdicts.loose_follows.Goals as goal
 
-pub returns-then-not-is_empty : goal.returns-then-not-is_empty
-returns-then-not-is_empty c =
-    let loose = c.args.context.now.store.now.file.now.raw.loose in
-    loose-said (known_of c.args.context.now) (lines_of c.args.context.now) c.args.frame c.args.verdict c.is_said.result loose.items c.args.cites.now
-    (λ none. not-zero (vec_len loose) c.if-not-is_empty.ensures (loose.ok.0 ∙ none)) c.in-len1.len_at_least c.in-len1.len_below c.is_said.ensures
+pub returns-then-is_empty : goal.returns-then-is_empty
+returns-then-is_empty c = λ known.
+    loose-none known c.args.lines.now c.args.frame c.args.verdict c.args.loose.now c.args.cites.now (is-none c.args.loose.now c.is_empty.result c.is_empty.ensures c.if-is_empty.true)
+
+pub returns-in-len1 : goal.returns-in-len1
+returns-in-len1 c = λ known.
+    loose-said known c.args.lines.now c.args.frame c.args.verdict c.is_said.result c.args.loose.now c.args.cites.now (is-some c.args.loose.now c.is_empty.result c.is_empty.ensures c.if-is_empty.false)
+    c.in-len1.len_at_least c.in-len1.len_below c.is_said.ensures

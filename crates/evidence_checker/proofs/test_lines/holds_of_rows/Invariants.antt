@@ -1,0 +1,8 @@
+use Rattle.std.proofs.Common.{◌≡◌, drop}
+use Rattle.rule_meaning.specs.Keys.{passes}
+use Rattle.evidence_lookups.specs.Grounds.{known_of}
+use Rattle.evidence_checker.specs.TestedRows.{holds_for}
+use Rattle.evidence_checker.proofs.test_lines.holds_of_rows.Given as goal
+
+abbrev pub invariant-loop-left : goal.invariant-loop-left
+invariant-loop-left l = holds_for l.any (passes (known_of l.context) l.op l.not l.rights) l.lefts ≡ holds_for l.any (passes (known_of l.context) l.op l.not l.rights) (drop l.left-index l.lefts)

@@ -1,0 +1,15 @@
+use Rattle.std.proofs.Common.{Some, ap, refl, sym}
+use Rattle.evidence_lines.specs.declared.line.LineKind.TheVariants as kind
+use Rattle.guard_syntax.specs.Seen.{see_disj}
+use Rattle.rule_names.specs.Pieces.{OfDisj, Piece}
+use Rattle.rule_names.specs.Seen.{see_piece}
+use Rattle.evidence_lookups.specs.Grounds.{known_of, lines_of, version_of}
+use Rattle.evidence_checker.proofs.VerdictLines.{at-line, disj-judged}
+use Rattle.evidence_checker.proofs.verdicts.disj_line_follows.Goals as goal
+
+pub returns-in-Disj : goal.returns-in-Disj
+returns-in-Disj c =
+    at-line (version_of c.args.context.now) (known_of c.args.context.now) (lines_of c.args.context.now) c.args.frame c.args.site c.args.cites.now c.args.verdict kind.Disj kind.Disj (Some (see_piece c.args.piece)) (Some (OfDisj (see_disj c.in-Disj.disj.now)))
+    c.disj_follows.result refl (ap (λ (p : Piece). Some p) (sym (ap see_piece c.in-Disj.is)))
+    (disj-judged (version_of c.args.context.now) (known_of c.args.context.now) (lines_of c.args.context.now) c.args.frame c.args.site c.args.cites.now c.args.verdict (see_disj c.in-Disj.disj.now) c.disj_stop-stop.result c.disj_follows.result c.disj_stop-stop.ensures
+    (c.disj_follows.ensures (known_of c.args.context.now)))
