@@ -43,8 +43,10 @@ impl<'t> Frames<'t> {
         ensures { MatchOption result (filled_at (cells_in self.entry.now) cell ≡ None)
             (λ r. filled_at (cells_in self.entry.now) cell ≡ Some (record { cell = cell; line = r.0; rows = r.1.now })) }
     {
-        let remembered = self.cells.get(&cell)?;
-        Some((remembered.line, remembered.rows.as_slice()))
+        match self.cells.get(&cell) {
+            Some(remembered) => Some((remembered.line, remembered.rows.as_slice())),
+            None => None,
+        }
     }
 
     /// Fills an empty cell. Any other stays as it is.
@@ -55,12 +57,8 @@ impl<'t> Frames<'t> {
         ensures ok { OnOk result (cells_in self.new ≡ cells_in self.old ++ record { cell = cell; line = line; rows = rows.now } ∷ []) }
         ensures err { OnErr result (cells_in self.new ≡ cells_in self.old) }
     {
-        let mut remembered = Remembered {
-            line,
-            rows: Vec::new(self.alloc),
-        };
-        remembered.rows.extend_from_slice(rows)?;
-        self.cells.insert(cell, remembered)?;
+        let rows = rows.to_vec(self.alloc)?;
+        self.cells.insert(cell, Remembered { line, rows })?;
         Ok(())
     }
 }
