@@ -57,7 +57,7 @@ all-appended s es later fs gs none same e = e ∙ ap (λ (xs : List Entry). map 
 
 -- ---- for each element in turn
 
-element-more : {A : Type 0} (f : A → List fails.Entry) (before now later : List fails.Entry) (xs : List A) (i : ℕ) (d x : A) → i < length xs → x ≡ get_or xs i d
+pub element-more : {A : Type 0} (f : A → List fails.Entry) (before now later : List fails.Entry) (xs : List A) (i : ℕ) (d x : A) → i < length xs → x ≡ get_or xs i d
     → now ≡ before ++ flat_map f (take i xs) → later ≡ now ++ f x → later ≡ before ++ flat_map f (take (i + 1) xs)
 element-more f before now later xs i d x within is was more =
     more ∙ ap (λ es. es ++ f x) was ∙ flat_map_more f before (take i xs) x

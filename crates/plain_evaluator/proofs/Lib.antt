@@ -11,6 +11,7 @@ mod Keeping
 mod KnownAnswers
 mod Named
 mod Placed
+mod PushedEntries
 mod Ranks
 mod RowsInTurn
 mod Scopes

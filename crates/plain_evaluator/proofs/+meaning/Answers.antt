@@ -1,5 +1,6 @@
-use Rattle.std.proofs.Common.{◌≡◌, ◌∙◌, sym, ap, ap₂, subst, get_or, length, map, List, [], ◌∷◌, ◌+◌, ◌-◌, ◌++◌, nat_eq, refl, arith, false, Option, Some, None}
+use Rattle.std.proofs.Common.{◌≡◌, ℕ, suc, ◌<◌, ◌≤◌, ◌∙◌, sym, ap, ap₂, subst, get_or, length, map, List, [], ◌∷◌, ◌+◌, ◌-◌, ◌++◌, ◌^◌, Fits, w64, nat_eq, refl, arith, false, Option, Some, None}
 use Rattle.std.proofs.lemmas.Bool.{and_from}
+use borrow.Author.Tests.{ltb-true}
 use Rattle.std.proofs.lemmas.List.{map-append, take_all}
 use Rattle.std.proofs.lemmas.List.Folds.{list_all-append}
 use Rattle.std.proofs.lemmas.Result.{IfOk-weaker}
@@ -57,10 +58,26 @@ use Rattle.plain_evaluator.proofs.GrowingVerdicts.{current-location, framed, pas
 use Rattle.plain_evaluator.proofs.Judged.{of_disj, of_part, of_conds, of_row, one_of, disjs-end, parts-end, disj-judged, conds-judged, body-judged, opt_conds-judged, no-conds-judged, under, under-fail, under-skip, passed-under, skipped-under, block-judged, when-judged, within-judged, kinds-judged, set-judged, test-judged, sides-judged, refer-judged, call-judged, found-judged, missed-judged, at-judged, rule-judged}
 use Rattle.plain_evaluator.proofs.+meaning.Goals as goal
 
+-- what numbers say, apart from all else that is known where they stand
+no-longer : (n m : ℕ) → n ≡ m → n ≤ m
+no-longer n m is = omega (arith, is)
+
+as-suc : (n : ℕ) → n + 1 ≡ suc n
+as-suc n = omega arith
+
+next-within : (i n : ℕ) → i < n → i + 1 ≤ n
+next-within i n within = omega (arith, within)
+
+next-fits : (i len cap n : ℕ) → i < n → len ≡ n → len ≤ cap → cap < 2 ^ 63 → Fits w64 (i + 1)
+next-fits i len cap n within are room small = omega (arith, within, are, room, small)
+
+some-turn : (turns : ℕ) → (turns ≡ 0 → ⊥) → 1 ≤ turns
+some-turn turns some = omega (arith, some)
+
 pub rows::rows_of_query-rows_of_first-requires : goal.rows::rows_of_query-rows_of_first-requires
 rows::rows_of_query-rows_of_first-requires t c =
-    let o = owed-same (see_trees c.args.trees.now).known.file c.args.turns _ _ 0 1 t (same-among (pieces_query (see_query c.args.query.now))) (omega arith) c.decreases c.requires.placed in
-    (o.0, (o.1, (omega (arith, c.len.ensures, (out-Query c.args.query.now).steps.ok.0), (c.requires.book, c.requires.sound))))
+    let o = owed-same (see_trees c.args.trees.now).known.file c.args.turns _ _ 0 1 t (same-among (pieces_query (see_query c.args.query.now))) (ltb-true _ _ refl) c.decreases c.requires.placed in
+    (o.0, (o.1, (no-longer _ _ (c.len.ensures ∙ (out-Query c.args.query.now).steps.ok.0), (c.requires.book, c.requires.sound))))
 
 pub rows::rows_of_query-returns-clause-rows : goal.rows::rows_of_query-returns-clause-rows
 rows::rows_of_query-returns-clause-rows t c =
@@ -76,7 +93,7 @@ rows::rows_of_first-loop-index-init t c = (
 pub rows::rows_of_first-rows_behind-requires : goal.rows::rows_of_first-rows_behind-requires
 rows::rows_of_first-rows_behind-requires t c =
     let g = c.loop-index.invariant.0 in
-    let o = owed-on (see_trees c.args.trees.now) (see_trees c.loop-index.trees) g c.args.turns _ 3 t (owed-part (see_trees c.args.trees.now).known.file c.args.turns _ _ 3 0 t (step-in c.args.query.now c.first_steps-steps.result.now c.args.count c.loop-index.index c.index-steps-index.result c.first_steps-steps.ensures c.loop-index-test.true c.index-steps-index.is) (omega arith) c.decreases c.requires.placed) in
+    let o = owed-on (see_trees c.args.trees.now) (see_trees c.loop-index.trees) g c.args.turns _ 3 t (owed-part (see_trees c.args.trees.now).known.file c.args.turns _ _ 3 0 t (step-in c.args.query.now c.first_steps-steps.result.now c.args.count c.loop-index.index c.index-steps-index.result c.first_steps-steps.ensures c.loop-index-test.true c.index-steps-index.is) (ltb-true _ _ refl) c.decreases c.requires.placed) in
     (o.0, (o.1, (ap (list_all (is_known (see_trees c.loop-index.trees).known)) c.deref.ensures.value ∙ c.loop-index.invariant.2, (book-on (see_trees c.args.trees.now) (see_trees c.loop-index.trees) g _ c.requires.book, sound-on (see_trees c.args.trees.now) (see_trees c.loop-index.trees) g (see_env c.args.env.now) c.requires.sound))))
 
 pub rows::rows_of_first-loop-index-preserved : goal.rows::rows_of_first-loop-index-preserved
@@ -91,6 +108,10 @@ rows::rows_of_first-loop-index-preserved t c =
           (c.loop-index.invariant.1 answers is)),
       c.in_ok-rows-2.ensures.known,
     )
+
+pub rows::rows_of_first-returns-in_err-rows-2-clause-grows : goal.rows::rows_of_first-returns-in_err-rows-2-clause-grows
+rows::rows_of_first-returns-in_err-rows-2-clause-grows t c =
+    Grows-trans (see_trees c.args.trees.now) (see_trees c.loop-index.trees) (see_trees c.rows_behind.new.trees) c.loop-index.invariant.0 c.rows_behind.ensures.grows
 
 pub rows::rows_of_first-returns-clause-grows : goal.rows::rows_of_first-returns-clause-grows
 rows::rows_of_first-returns-clause-grows t c =
@@ -119,7 +140,7 @@ rows::rows_behind-filter_candidates-requires t c =
 
 pub rows::rows_behind-verdicts_of_conds-requires : goal.rows::rows_behind-verdicts_of_conds-requires
 rows::rows_behind-verdicts_of_conds-requires t c =
-    let o = owed-same (see_trees c.args.trees.now).known.file c.args.turns _ _ 1 3 t (filter-in c.args.step.now.form c.in-Filter.field-0 c.in-Filter.conds c.in-Filter.is) (omega arith) c.decreases c.requires.placed in
+    let o = owed-same (see_trees c.args.trees.now).known.file c.args.turns _ _ 1 3 t (filter-in c.args.step.now.form c.in-Filter.field-0 c.in-Filter.conds c.in-Filter.is) (ltb-true _ _ refl) c.decreases c.requires.placed in
     (o.0, (o.1, (ap (list_all (is_known_ref (see_trees c.args.trees.now).known)) c.deref.ensures.value ∙ c.in_ok-candidates-in-Filter.ensures.known, (c.requires.book, c.requires.sound))))
 
 pub rows::rows_behind-kept_rows-requires-clause-known : goal.rows::rows_behind-kept_rows-requires-clause-known
@@ -146,7 +167,7 @@ rows::rows_behind-returns-in_ok-verdicts-in-Filter-clause-known t c =
 
 pub rows::rows_behind-rows_of_expr-requires : goal.rows::rows_behind-rows_of_expr-requires
 rows::rows_behind-rows_of_expr-requires t c =
-    let o = owed-same (see_trees c.args.trees.now).known.file c.args.turns _ _ 2 3 t (keys-in c.args.step.now.form c.in-Keys.capture c.in-Keys.op c.in-Keys.not c.in-Keys.right c.in-Keys.is) (omega arith) c.decreases c.requires.placed in (o.0, (o.1, (c.requires.book, c.requires.sound)))
+    let o = owed-same (see_trees c.args.trees.now).known.file c.args.turns _ _ 2 3 t (keys-in c.args.step.now.form c.in-Keys.capture c.in-Keys.op c.in-Keys.not c.in-Keys.right c.in-Keys.is) (ltb-true _ _ refl) c.decreases c.requires.placed in (o.0, (o.1, (c.requires.book, c.requires.sound)))
 
 pub rows::rows_behind-rows_of_step-requires-clause-before : goal.rows::rows_behind-rows_of_step-requires-clause-before
 rows::rows_behind-rows_of_step-requires-clause-before t c =
@@ -176,7 +197,7 @@ rows::rows_behind-returns-in_ok-rights-in-Keys-clause-known t c =
 
 pub rows::rows_behind-rows_of_variable-requires : goal.rows::rows_behind-rows_of_variable-requires
 rows::rows_behind-rows_of_variable-requires t c =
-    (below-name (see_trees c.args.trees.now).known.file c.args.turns _ 1 3 t (omega arith) c.decreases, (c.requires.book, c.requires.sound))
+    (below-name (see_trees c.args.trees.now).known.file c.args.turns _ 1 3 t (ltb-true _ _ refl) c.decreases, (c.requires.book, c.requires.sound))
 
 pub rows::rows_behind-rows_of_step-requires-in-Var-clause-before : goal.rows::rows_behind-rows_of_step-requires-in-Var-clause-before
 rows::rows_behind-rows_of_step-requires-in-Var-clause-before t c =
@@ -206,7 +227,7 @@ rows::rows_behind-returns-in_ok-named-in-Var-clause-known t c =
 
 pub rows::rows_behind-rows_of_variable-requires-in-Splice : goal.rows::rows_behind-rows_of_variable-requires-in-Splice
 rows::rows_behind-rows_of_variable-requires-in-Splice t c =
-    (below-name (see_trees c.args.trees.now).known.file c.args.turns _ 1 3 t (omega arith) c.decreases, (c.requires.book, c.requires.sound))
+    (below-name (see_trees c.args.trees.now).known.file c.args.turns _ 1 3 t (ltb-true _ _ refl) c.decreases, (c.requires.book, c.requires.sound))
 
 pub rows::rows_behind-rows_of_step-requires-in-Splice-clause-before : goal.rows::rows_behind-rows_of_step-requires-in-Splice-clause-before
 rows::rows_behind-rows_of_step-requires-in-Splice-clause-before t c =
@@ -249,15 +270,15 @@ rows::rows_behind-returns-in_default t c =
 
 pub rows::rows_of_expr-rows_of_query-requires : goal.rows::rows_of_expr-rows_of_query-requires
 rows::rows_of_expr-rows_of_query-requires t c =
-    let o = owed-same (see_trees c.args.trees.now).known.file c.args.turns _ _ 1 2 t (asked-in c.args.expr.now c.in-Query.query c.in-Query.is) (omega arith) c.decreases c.requires.placed in (o.0, (o.1, (c.requires.book, c.requires.sound)))
+    let o = owed-same (see_trees c.args.trees.now).known.file c.args.turns _ _ 1 2 t (asked-in c.args.expr.now c.in-Query.query c.in-Query.is) (ltb-true _ _ refl) c.decreases c.requires.placed in (o.0, (o.1, (c.requires.book, c.requires.sound)))
 
 pub rows::rows_of_expr-rows_of_query-requires-in-Found : goal.rows::rows_of_expr-rows_of_query-requires-in-Found
 rows::rows_of_expr-rows_of_query-requires-in-Found t c =
-    let o = owed-part (see_trees c.args.trees.now).known.file c.args.turns _ _ 1 2 t (found-in c.args.expr.now c.in-Found.site c.in-Found.query c.in-Found.is) (omega arith) c.decreases c.requires.placed in (o.0, (o.1, (c.requires.book, c.requires.sound)))
+    let o = owed-part (see_trees c.args.trees.now).known.file c.args.turns _ _ 1 2 t (found-in c.args.expr.now c.in-Found.site c.in-Found.query c.in-Found.is) (ltb-true _ _ refl) c.decreases c.requires.placed in (o.0, (o.1, (c.requires.book, c.requires.sound)))
 
 pub rows::rows_of_expr-rows_of_call-requires : goal.rows::rows_of_expr-rows_of_call-requires
 rows::rows_of_expr-rows_of_call-requires t c =
-    let o = owed-same (see_trees c.args.trees.now).known.file c.args.turns _ _ 1 2 t (function-in c.args.expr.now c.in-Function.site c.in-Function.name c.in-Function.args c.deref.result.now c.in-Function.is c.deref.ensures.value) (omega arith) c.decreases c.requires.placed in (o.0, (o.1, (c.requires.book, c.requires.sound)))
+    let o = owed-same (see_trees c.args.trees.now).known.file c.args.turns _ _ 1 2 t (function-in c.args.expr.now c.in-Function.site c.in-Function.name c.in-Function.args c.deref.result.now c.in-Function.is c.deref.ensures.value) (ltb-true _ _ refl) c.decreases c.requires.placed in (o.0, (o.1, (c.requires.book, c.requires.sound)))
 
 pub rows::rows_of_expr-returns-in-Literal-clause-grows : goal.rows::rows_of_expr-returns-in-Literal-clause-grows
 rows::rows_of_expr-returns-in-Literal-clause-grows t c =
@@ -312,7 +333,7 @@ rows::rows_of_expr-returns-in_ok-rows-in-Found-clause-known t c =
 
 pub rows::rows_of_call-rows_of_args-requires : goal.rows::rows_of_call-rows_of_args-requires
 rows::rows_of_call-rows_of_args-requires t c =
-    let o = owed-part (see_trees c.args.trees.now).known.file c.args.turns _ _ 3 1 t (arguments-in c.args.site c.args.name.now (expr_list (map see_expr c.args.args.now))) (omega arith) c.decreases c.requires.placed in (o.0, (o.1, (c.requires.book, c.requires.sound)))
+    let o = owed-part (see_trees c.args.trees.now).known.file c.args.turns _ _ 3 1 t (arguments-in c.args.site c.args.name.now (expr_list (map see_expr c.args.args.now))) (ltb-true _ _ refl) c.decreases c.requires.placed in (o.0, (o.1, (c.requires.book, c.requires.sound)))
 
 pub rows::rows_of_call-call-requires-clause-count : goal.rows::rows_of_call-call-requires-clause-count
 rows::rows_of_call-call-requires-clause-count t c =
@@ -367,7 +388,7 @@ rows::rows_of_args-loop-arg-init t c =
 pub rows::rows_of_args-rows_of_expr-requires : goal.rows::rows_of_args-rows_of_expr-requires
 rows::rows_of_args-rows_of_expr-requires t c =
     let g = c.loop-arg.invariant.0 in
-    let o = owed-on (see_trees c.args.trees.now) (see_trees c.loop-arg.trees) g c.args.turns _ 2 t (owed-same (see_trees c.args.trees.now).known.file c.args.turns _ _ 2 3 t (expr-among c.args.args.now c.loop-arg.arg-index c.arg-item.result c.loop-arg-test.true c.arg-item.is) (omega arith) c.decreases c.requires.placed) in
+    let o = owed-on (see_trees c.args.trees.now) (see_trees c.loop-arg.trees) g c.args.turns _ 2 t (owed-same (see_trees c.args.trees.now).known.file c.args.turns _ _ 2 3 t (expr-among c.args.args.now c.loop-arg.arg-index c.arg-item.result c.loop-arg-test.true c.arg-item.is) (ltb-true _ _ refl) c.decreases c.requires.placed) in
     (o.0, (o.1, (book-on (see_trees c.args.trees.now) (see_trees c.loop-arg.trees) g _ c.requires.book, sound-on (see_trees c.args.trees.now) (see_trees c.loop-arg.trees) g (see_env c.args.env.now) c.requires.sound)))
 
 pub rows::rows_of_args-loop-arg-preserved : goal.rows::rows_of_args-loop-arg-preserved
@@ -383,6 +404,14 @@ rows::rows_of_args-loop-arg-preserved t c =
           ∙ and_from _ _ (args-on c.loop-arg.trees (see_trees c.rows_of_expr.new.trees) c.rows_of_expr.ensures.grows c.loop-arg.all.items c.loop-arg.invariant.2) (and_from _ _ c.in_ok-rows_of_expr.ensures.known refl)),
     )
 
+pub rows::rows_of_args-returns-in_err-rows_of_expr-clause-grows : goal.rows::rows_of_args-returns-in_err-rows_of_expr-clause-grows
+rows::rows_of_args-returns-in_err-rows_of_expr-clause-grows t c =
+    Grows-trans (see_trees c.args.trees.now) (see_trees c.loop-arg.trees) (see_trees c.rows_of_expr.new.trees) c.loop-arg.invariant.0 c.rows_of_expr.ensures.grows
+
+pub rows::rows_of_args-returns-in_err-push-clause-grows : goal.rows::rows_of_args-returns-in_err-push-clause-grows
+rows::rows_of_args-returns-in_err-push-clause-grows t c =
+    Grows-trans (see_trees c.args.trees.now) (see_trees c.loop-arg.trees) (see_trees c.rows_of_expr.new.trees) c.loop-arg.invariant.0 c.rows_of_expr.ensures.grows
+
 pub rows::rows_of_args-returns-clause-grows : goal.rows::rows_of_args-returns-clause-grows
 rows::rows_of_args-returns-clause-grows t c =
     c.loop-arg.invariant.0
@@ -397,7 +426,7 @@ rows::rows_of_args-returns-clause-known t c =
 
 pub rows::rows_of_side-rows_of_expr-requires : goal.rows::rows_of_side-rows_of_expr-requires
 rows::rows_of_side-rows_of_expr-requires t c =
-    let o = owed-same (see_trees c.args.trees.now).known.file c.args.turns _ _ 2 3 t (side-in c.args.side.now c.in-Some.expr c.in-Some.is) (omega arith) c.decreases c.requires.placed in (o.0, (o.1, (c.requires.book, c.requires.sound)))
+    let o = owed-same (see_trees c.args.trees.now).known.file c.args.turns _ _ 2 3 t (side-in c.args.side.now c.in-Some.expr c.in-Some.is) (ltb-true _ _ refl) c.decreases c.requires.placed in (o.0, (o.1, (c.requires.book, c.requires.sound)))
 
 pub rows::rows_of_side-returns-in-Some-clause-grows : goal.rows::rows_of_side-returns-in-Some-clause-grows
 rows::rows_of_side-returns-in-Some-clause-grows t c =
@@ -425,7 +454,7 @@ rows::rows_of_side-returns-in-None-clause-known t c =
 
 pub verdicts::verdict_of_disjs-verdict_of_parts-requires : goal.verdicts::verdict_of_disjs-verdict_of_parts-requires
 verdicts::verdict_of_disjs-verdict_of_parts-requires t c =
-    let o = owed-on (see_trees c.args.trees.now) (see_trees c.loop-disj.trees) c.loop-disj.invariant.0 c.args.turns _ 1 t (owed-part (see_trees c.args.trees.now).known.file c.args.turns _ _ 1 0 t (parts-in c.args.disjs.now c.loop-disj.disj-index c.disj-item.result c.deref.result.now c.loop-disj-test.true c.disj-item.is c.deref.ensures.value) (omega arith) c.decreases c.requires.placed) in
+    let o = owed-on (see_trees c.args.trees.now) (see_trees c.loop-disj.trees) c.loop-disj.invariant.0 c.args.turns _ 1 t (owed-part (see_trees c.args.trees.now).known.file c.args.turns _ _ 1 0 t (parts-in c.args.disjs.now c.loop-disj.disj-index c.disj-item.result c.deref.result.now c.loop-disj-test.true c.disj-item.is c.deref.ensures.value) (ltb-true _ _ refl) c.decreases c.requires.placed) in
     (o.0, (o.1, (book-on (see_trees c.args.trees.now) (see_trees c.loop-disj.trees) c.loop-disj.invariant.0 c.args.book.now c.requires.book, sound-on (see_trees c.args.trees.now) (see_trees c.loop-disj.trees) c.loop-disj.invariant.0 (see_env c.args.env.now) c.requires.sound)))
 
 pub verdicts::verdict_of_disjs-loop-disj-init : goal.verdicts::verdict_of_disjs-loop-disj-init
@@ -439,6 +468,10 @@ verdicts::verdict_of_disjs-loop-disj-preserved t c = (
       (meant-before c.args.trees.now (see_trees c.loop-disj.trees) c.loop-disj.invariant.0 (see_env c.args.env.now) c.requires.sound (λ w e. c.in_ok-verdict_of_parts.field-0 ≡ one_of w (unfolded w c.args.turns) e c.deref.result.now) c.in_ok-verdict_of_parts.ensures.verdict answers is ∙ disj-judged (world_in c.args.trees.now answers) (named_in c.args.trees.now answers c.args.turns) (scopes_in c.args.trees.now c.args.env.now) c.disj-item.result c.deref.result.now c.deref.ensures.value) c.both-verdict.ensures,
 )
 
+pub verdicts::verdict_of_disjs-returns-in_err-verdict_of_parts-clause-grows : goal.verdicts::verdict_of_disjs-returns-in_err-verdict_of_parts-clause-grows
+verdicts::verdict_of_disjs-returns-in_err-verdict_of_parts-clause-grows t c =
+    Grows-trans (see_trees c.args.trees.now) (see_trees c.loop-disj.trees) (see_trees c.verdict_of_parts.new.trees) c.loop-disj.invariant.0 c.verdict_of_parts.ensures.grows
+
 pub verdicts::verdict_of_disjs-returns-clause-grows : goal.verdicts::verdict_of_disjs-returns-clause-grows
 verdicts::verdict_of_disjs-returns-clause-grows t c =
     c.loop-disj.invariant.0
@@ -449,7 +482,7 @@ verdicts::verdict_of_disjs-returns-clause-verdict t c =
 
 pub verdicts::verdict_of_parts-verdict_of_part-requires : goal.verdicts::verdict_of_parts-verdict_of_part-requires
 verdicts::verdict_of_parts-verdict_of_part-requires t c =
-    let o = owed-on (see_trees c.args.trees.now) (see_trees c.loop-part.trees) c.loop-part.invariant.0 c.args.turns _ 0 t (owed-same (see_trees c.args.trees.now).known.file c.args.turns _ _ 0 1 t (part-among c.args.parts.now c.loop-part.part-index c.part-item.result c.loop-part-test.true c.part-item.is) (omega arith) c.decreases c.requires.placed) in
+    let o = owed-on (see_trees c.args.trees.now) (see_trees c.loop-part.trees) c.loop-part.invariant.0 c.args.turns _ 0 t (owed-same (see_trees c.args.trees.now).known.file c.args.turns _ _ 0 1 t (part-among c.args.parts.now c.loop-part.part-index c.part-item.result c.loop-part-test.true c.part-item.is) (ltb-true _ _ refl) c.decreases c.requires.placed) in
     (o.0, (o.1, (book-on (see_trees c.args.trees.now) (see_trees c.loop-part.trees) c.loop-part.invariant.0 c.args.book.now c.requires.book, sound-on (see_trees c.args.trees.now) (see_trees c.loop-part.trees) c.loop-part.invariant.0 (see_env c.args.env.now) c.requires.sound)))
 
 pub verdicts::verdict_of_parts-loop-part-init : goal.verdicts::verdict_of_parts-loop-part-init
@@ -463,6 +496,10 @@ verdicts::verdict_of_parts-loop-part-preserved t c = (
       (meant-before c.args.trees.now (see_trees c.loop-part.trees) c.loop-part.invariant.0 (see_env c.args.env.now) c.requires.sound (λ w e. c.in_ok-verdict_of_part.field-0 ≡ of_part w (unfolded w c.args.turns) e c.part-item.result) c.in_ok-verdict_of_part.ensures.verdict answers is) c.either-verdict.ensures,
 )
 
+pub verdicts::verdict_of_parts-returns-in_err-verdict_of_part-clause-grows : goal.verdicts::verdict_of_parts-returns-in_err-verdict_of_part-clause-grows
+verdicts::verdict_of_parts-returns-in_err-verdict_of_part-clause-grows t c =
+    Grows-trans (see_trees c.args.trees.now) (see_trees c.loop-part.trees) (see_trees c.verdict_of_part.new.trees) c.loop-part.invariant.0 c.verdict_of_part.ensures.grows
+
 pub verdicts::verdict_of_parts-returns-clause-grows : goal.verdicts::verdict_of_parts-returns-clause-grows
 verdicts::verdict_of_parts-returns-clause-grows t c =
     c.loop-part.invariant.0
@@ -473,7 +510,7 @@ verdicts::verdict_of_parts-returns-clause-verdict t c =
 
 pub verdicts::verdict_of_cond-verdict_of_conds-requires : goal.verdicts::verdict_of_cond-verdict_of_conds-requires
 verdicts::verdict_of_cond-verdict_of_conds-requires t c =
-    let o = owed-same (see_trees c.args.trees.now).known.file c.args.turns _ _ 0 1 t (opt_conds-in c.args.cond.now c.in-Some.conds c.in-Some.is) (omega arith) c.decreases c.requires.placed in (o.0, (o.1, (c.requires.book, c.requires.sound)))
+    let o = owed-same (see_trees c.args.trees.now).known.file c.args.turns _ _ 0 1 t (opt_conds-in c.args.cond.now c.in-Some.conds c.in-Some.is) (ltb-true _ _ refl) c.decreases c.requires.placed in (o.0, (o.1, (c.requires.book, c.requires.sound)))
 
 pub verdicts::verdict_of_cond-returns-in-Some-clause-grows : goal.verdicts::verdict_of_cond-returns-in-Some-clause-grows
 verdicts::verdict_of_cond-returns-in-Some-clause-grows t c =
@@ -493,7 +530,7 @@ verdicts::verdict_of_cond-returns-in-None-clause-verdict t c =
 
 pub verdicts::verdict_of_conds-verdict_of_disjs-requires : goal.verdicts::verdict_of_conds-verdict_of_disjs-requires
 verdicts::verdict_of_conds-verdict_of_disjs-requires t c =
-    let o = owed-part (see_trees c.args.trees.now).known.file c.args.turns _ _ 0 0 t (conds-in c.args.conds.now c.deref.result.now c.deref.ensures.value) (omega arith) c.decreases c.requires.placed in (o.0, (o.1, (c.requires.book, c.requires.sound)))
+    let o = owed-part (see_trees c.args.trees.now).known.file c.args.turns _ _ 0 0 t (conds-in c.args.conds.now c.deref.result.now c.deref.ensures.value) (ltb-true _ _ refl) c.decreases c.requires.placed in (o.0, (o.1, (c.requires.book, c.requires.sound)))
 
 pub verdicts::verdict_of_conds-returns-clause-grows : goal.verdicts::verdict_of_conds-returns-clause-grows
 verdicts::verdict_of_conds-returns-clause-grows t c =
@@ -505,7 +542,7 @@ verdicts::verdict_of_conds-returns-clause-verdict t c =
 
 pub verdicts::verdict_of_body-verdict_of_disjs-requires : goal.verdicts::verdict_of_body-verdict_of_disjs-requires
 verdicts::verdict_of_body-verdict_of_disjs-requires t c =
-    let o = owed-part (see_trees c.args.trees.now).known.file c.args.turns _ _ 0 0 t (body-in c.args.body.now c.deref.result.now c.deref.ensures.value) (omega arith) c.decreases c.requires.placed in (o.0, (o.1, (c.requires.book, c.requires.sound)))
+    let o = owed-part (see_trees c.args.trees.now).known.file c.args.turns _ _ 0 0 t (body-in c.args.body.now c.deref.result.now c.deref.ensures.value) (ltb-true _ _ refl) c.decreases c.requires.placed in (o.0, (o.1, (c.requires.book, c.requires.sound)))
 
 pub verdicts::verdict_of_body-returns-clause-grows : goal.verdicts::verdict_of_body-returns-clause-grows
 verdicts::verdict_of_body-returns-clause-grows t c =
@@ -517,7 +554,7 @@ verdicts::verdict_of_body-returns-clause-verdict t c =
 
 pub verdicts::verdicts_of_conds-verdict_of_conds-requires : goal.verdicts::verdicts_of_conds-verdict_of_conds-requires
 verdicts::verdicts_of_conds-verdict_of_conds-requires t c =
-    let o = owed-on (see_trees c.args.trees.now) (see_trees c.loop-value.trees) c.loop-value.invariant.0 c.args.turns _ 0 t (owed-same (see_trees c.args.trees.now).known.file c.args.turns _ _ 0 1 t (same-among (pieces_conds (see_conds c.args.conds.now))) (omega arith) c.decreases c.requires.placed) in
+    let o = owed-on (see_trees c.args.trees.now) (see_trees c.loop-value.trees) c.loop-value.invariant.0 c.args.turns _ 0 t (owed-same (see_trees c.args.trees.now).known.file c.args.turns _ _ 0 1 t (same-among (pieces_conds (see_conds c.args.conds.now))) (ltb-true _ _ refl) c.decreases c.requires.placed) in
     (o.0, (o.1, (book-on (see_trees c.args.trees.now) (see_trees c.loop-value.trees) c.loop-value.invariant.0 c.args.book.now c.requires.book, inner-sound (see_trees c.loop-value.trees).known _ _ (known-on (see_trees c.args.trees.now) (see_trees c.loop-value.trees) c.loop-value.invariant.0 (get_or c.args.values.now c.loop-value.value-index root_ref) (passes-at (is_known_ref (see_trees c.args.trees.now).known) c.args.values.now c.loop-value.value-index root_ref c.loop-value-test.true c.requires.known)) (sound-on (see_trees c.args.trees.now) (see_trees c.loop-value.trees) c.loop-value.invariant.0 (see_env c.args.env.now) c.requires.sound))))
 
 pub verdicts::verdicts_of_conds-loop-value-init : goal.verdicts::verdicts_of_conds-loop-value-init
@@ -533,6 +570,14 @@ verdicts::verdicts_of_conds-loop-value-preserved t c = (
       c.in_ok-push.ensures.items,
 )
 
+pub verdicts::verdicts_of_conds-returns-in_err-verdict_of_conds-clause-grows : goal.verdicts::verdicts_of_conds-returns-in_err-verdict_of_conds-clause-grows
+verdicts::verdicts_of_conds-returns-in_err-verdict_of_conds-clause-grows t c =
+    Grows-trans (see_trees c.args.trees.now) (see_trees c.loop-value.trees) (see_trees c.verdict_of_conds.new.trees) c.loop-value.invariant.0 c.verdict_of_conds.ensures.grows
+
+pub verdicts::verdicts_of_conds-returns-in_err-push-clause-grows : goal.verdicts::verdicts_of_conds-returns-in_err-push-clause-grows
+verdicts::verdicts_of_conds-returns-in_err-push-clause-grows t c =
+    Grows-trans (see_trees c.args.trees.now) (see_trees c.loop-value.trees) (see_trees c.verdict_of_conds.new.trees) c.loop-value.invariant.0 c.verdict_of_conds.ensures.grows
+
 pub verdicts::verdicts_of_conds-returns-clause-grows : goal.verdicts::verdicts_of_conds-returns-clause-grows
 verdicts::verdicts_of_conds-returns-clause-grows t c =
     c.loop-value.invariant.0
@@ -543,7 +588,7 @@ verdicts::verdicts_of_conds-returns-clause-verdicts t c =
 
 pub verdicts::verdict_of_block-verdict_of_body-requires : goal.verdicts::verdict_of_block-verdict_of_body-requires
 verdicts::verdict_of_block-verdict_of_body-requires t c =
-    let o = owed-on (see_trees c.args.trees.now) (see_trees c.loop-row.trees) c.loop-row.invariant.0 c.args.turns _ 0 t (owed-same (see_trees c.args.trees.now).known.file c.args.turns _ _ 0 1 t (same-among (pieces_body (see_body c.args.body.now))) (omega arith) c.decreases c.requires.placed) in
+    let o = owed-on (see_trees c.args.trees.now) (see_trees c.loop-row.trees) c.loop-row.invariant.0 c.args.turns _ 0 t (owed-same (see_trees c.args.trees.now).known.file c.args.turns _ _ 0 1 t (same-among (pieces_body (see_body c.args.body.now))) (ltb-true _ _ refl) c.decreases c.requires.placed) in
     (o.0, (o.1, (book-on (see_trees c.args.trees.now) (see_trees c.loop-row.trees) c.loop-row.invariant.0 c.args.book.now c.requires.book, inner-sound (see_trees c.loop-row.trees).known _ _ (known-on (see_trees c.args.trees.now) (see_trees c.loop-row.trees) c.loop-row.invariant.0 c.in-Found.value (ap (is_known (see_trees c.args.trees.now).known) (sym c.in-Found.is) ∙ passes-at (is_known (see_trees c.args.trees.now).known) c.args.rows.now c.loop-row.row-index _ c.loop-row-test.true c.requires.known)) (sound-on (see_trees c.args.trees.now) (see_trees c.loop-row.trees) c.loop-row.invariant.0 (see_env c.args.env.now) c.requires.sound))))
 
 pub verdicts::verdict_of_block-loop-row-init : goal.verdicts::verdict_of_block-loop-row-init
@@ -566,6 +611,14 @@ verdicts::verdict_of_block-loop-row-preserved t c = (
       c.in_ok-push-2.ensures.items,
 )
 
+pub verdicts::verdict_of_block-returns-in_err-verdict_of_body-clause-grows : goal.verdicts::verdict_of_block-returns-in_err-verdict_of_body-clause-grows
+verdicts::verdict_of_block-returns-in_err-verdict_of_body-clause-grows t c =
+    Grows-trans (see_trees c.args.trees.now) (see_trees c.loop-row.trees) (see_trees c.verdict_of_body.new.trees) c.loop-row.invariant.0 c.verdict_of_body.ensures.grows
+
+pub verdicts::verdict_of_block-returns-in_err-push-2-clause-grows : goal.verdicts::verdict_of_block-returns-in_err-push-2-clause-grows
+verdicts::verdict_of_block-returns-in_err-push-2-clause-grows t c =
+    Grows-trans (see_trees c.args.trees.now) (see_trees c.loop-row.trees) (see_trees c.verdict_of_body.new.trees) c.loop-row.invariant.0 c.verdict_of_body.ensures.grows
+
 pub verdicts::verdict_of_block-returns-clause-grows : goal.verdicts::verdict_of_block-returns-clause-grows
 verdicts::verdict_of_block-returns-clause-grows t c =
     c.loop-row.invariant.0
@@ -576,7 +629,7 @@ verdicts::verdict_of_block-returns-clause-verdict t c =
 
 pub verdicts::verdict_under-verdict_of_body-requires : goal.verdicts::verdict_under-verdict_of_body-requires
 verdicts::verdict_under-verdict_of_body-requires t c =
-    let o = owed-same (see_trees c.args.trees.now).known.file c.args.turns _ _ 0 1 t (same-among (pieces_body (see_body c.args.body.now))) (omega arith) c.decreases c.requires.placed in (o.0, (o.1, (c.requires.book, c.requires.sound)))
+    let o = owed-same (see_trees c.args.trees.now).known.file c.args.turns _ _ 0 1 t (same-among (pieces_body (see_body c.args.body.now))) (ltb-true _ _ refl) c.decreases c.requires.placed in (o.0, (o.1, (c.requires.book, c.requires.sound)))
 
 pub verdicts::verdict_under-returns-in-Pass-clause-grows : goal.verdicts::verdict_under-returns-in-Pass-clause-grows
 verdicts::verdict_under-returns-in-Pass-clause-grows t c =
@@ -604,7 +657,7 @@ verdicts::verdict_under-returns-in-Skip-clause-verdict t c =
 
 pub verdicts::verdict_of_kinds-verdict_of_cond-requires : goal.verdicts::verdict_of_kinds-verdict_of_cond-requires
 verdicts::verdict_of_kinds-verdict_of_cond-requires t c =
-    (below-first (see_trees c.args.trees.now).known.file c.args.turns (pieces_opt_conds (see_opt_conds c.args.cond.now)) (pieces_body (see_body c.args.body.now)) 1 2 t (omega arith) c.decreases, (c.requires.cond, (c.requires.book, c.requires.sound)))
+    (below-first (see_trees c.args.trees.now).known.file c.args.turns (pieces_opt_conds (see_opt_conds c.args.cond.now)) (pieces_body (see_body c.args.body.now)) 1 2 t (ltb-true _ _ refl) c.decreases, (c.requires.cond, (c.requires.book, c.requires.sound)))
 
 pub verdicts::verdict_of_kinds-type_rows-requires : goal.verdicts::verdict_of_kinds-type_rows-requires
 verdicts::verdict_of_kinds-type_rows-requires t c =
@@ -612,7 +665,7 @@ verdicts::verdict_of_kinds-type_rows-requires t c =
 
 pub verdicts::verdict_of_kinds-verdict_of_block-requires : goal.verdicts::verdict_of_kinds-verdict_of_block-requires
 verdicts::verdict_of_kinds-verdict_of_block-requires t c =
-    (below-on (see_trees c.args.trees.now) (see_trees c.verdict_of_cond.new.trees) c.in_ok-verdict_of_cond.ensures.grows c.args.turns (pieces_body (see_body c.args.body.now)) 1 t (below-second (see_trees c.args.trees.now).known.file c.args.turns (pieces_opt_conds (see_opt_conds c.args.cond.now)) (pieces_body (see_body c.args.body.now)) 1 2 t (omega arith) c.decreases), (stands-on (see_trees c.args.trees.now) (see_trees c.verdict_of_cond.new.trees) c.in_ok-verdict_of_cond.ensures.grows (pieces_body (see_body c.args.body.now)) c.requires.body, (ap (list_all (is_known (see_trees c.verdict_of_cond.new.trees).known)) c.deref.ensures.value ∙ c.in_ok-rows.ensures.known, (book-on (see_trees c.args.trees.now) (see_trees c.verdict_of_cond.new.trees) c.in_ok-verdict_of_cond.ensures.grows c.args.book.now c.requires.book, sound-on (see_trees c.args.trees.now) (see_trees c.verdict_of_cond.new.trees) c.in_ok-verdict_of_cond.ensures.grows (see_env c.args.env.now) c.requires.sound))))
+    (below-on (see_trees c.args.trees.now) (see_trees c.verdict_of_cond.new.trees) c.in_ok-verdict_of_cond.ensures.grows c.args.turns (pieces_body (see_body c.args.body.now)) 1 t (below-second (see_trees c.args.trees.now).known.file c.args.turns (pieces_opt_conds (see_opt_conds c.args.cond.now)) (pieces_body (see_body c.args.body.now)) 1 2 t (ltb-true _ _ refl) c.decreases), (stands-on (see_trees c.args.trees.now) (see_trees c.verdict_of_cond.new.trees) c.in_ok-verdict_of_cond.ensures.grows (pieces_body (see_body c.args.body.now)) c.requires.body, (ap (list_all (is_known (see_trees c.verdict_of_cond.new.trees).known)) c.deref.ensures.value ∙ c.in_ok-rows.ensures.known, (book-on (see_trees c.args.trees.now) (see_trees c.verdict_of_cond.new.trees) c.in_ok-verdict_of_cond.ensures.grows c.args.book.now c.requires.book, sound-on (see_trees c.args.trees.now) (see_trees c.verdict_of_cond.new.trees) c.in_ok-verdict_of_cond.ensures.grows (see_env c.args.env.now) c.requires.sound))))
 
 pub verdicts::verdict_of_kinds-returns-then-not-is_pass-clause-grows : goal.verdicts::verdict_of_kinds-returns-then-not-is_pass-clause-grows
 verdicts::verdict_of_kinds-returns-then-not-is_pass-clause-grows t c =
@@ -634,11 +687,11 @@ verdicts::verdict_of_kinds-returns-clause-verdict t c =
 
 pub verdicts::verdict_of_when-verdict_of_conds-requires : goal.verdicts::verdict_of_when-verdict_of_conds-requires
 verdicts::verdict_of_when-verdict_of_conds-requires t c =
-    (below-first (see_trees c.args.trees.now).known.file c.args.turns (pieces_conds (see_conds c.args.cond.now)) (pieces_body (see_body c.args.body.now)) 0 2 t (omega arith) c.decreases, (c.requires.cond, (c.requires.book, c.requires.sound)))
+    (below-first (see_trees c.args.trees.now).known.file c.args.turns (pieces_conds (see_conds c.args.cond.now)) (pieces_body (see_body c.args.body.now)) 0 2 t (ltb-true _ _ refl) c.decreases, (c.requires.cond, (c.requires.book, c.requires.sound)))
 
 pub verdicts::verdict_of_when-verdict_under-requires : goal.verdicts::verdict_of_when-verdict_under-requires
 verdicts::verdict_of_when-verdict_under-requires t c = (
-  below-on (see_trees c.args.trees.now) (see_trees c.verdict_of_conds.new.trees) c.in_ok-conditions.ensures.grows c.args.turns (pieces_body (see_body c.args.body.now)) 1 t (below-second (see_trees c.args.trees.now).known.file c.args.turns (pieces_conds (see_conds c.args.cond.now)) (pieces_body (see_body c.args.body.now)) 1 2 t (omega arith) c.decreases),
+  below-on (see_trees c.args.trees.now) (see_trees c.verdict_of_conds.new.trees) c.in_ok-conditions.ensures.grows c.args.turns (pieces_body (see_body c.args.body.now)) 1 t (below-second (see_trees c.args.trees.now).known.file c.args.turns (pieces_conds (see_conds c.args.cond.now)) (pieces_body (see_body c.args.body.now)) 1 2 t (ltb-true _ _ refl) c.decreases),
   (
     stands-on (see_trees c.args.trees.now) (see_trees c.verdict_of_conds.new.trees) c.in_ok-conditions.ensures.grows (pieces_body (see_body c.args.body.now)) c.requires.body,
     (
@@ -660,11 +713,11 @@ verdicts::verdict_of_when-returns-clause-verdict t c =
 
 pub verdicts::verdict_of_sides-rows_of_query-requires : goal.verdicts::verdict_of_sides-rows_of_query-requires
 verdicts::verdict_of_sides-rows_of_query-requires t c =
-    (below-first (see_trees c.args.trees.now).known.file c.args.turns (pieces_query (see_query c.args.left.now)) (pieces_opt_expr (see_opt_expr c.args.right.now)) 1 4 t (omega arith) c.decreases, (c.requires.left, (c.requires.book, c.requires.sound)))
+    (below-first (see_trees c.args.trees.now).known.file c.args.turns (pieces_query (see_query c.args.left.now)) (pieces_opt_expr (see_opt_expr c.args.right.now)) 1 4 t (ltb-true _ _ refl) c.decreases, (c.requires.left, (c.requires.book, c.requires.sound)))
 
 pub verdicts::verdict_of_sides-rows_of_side-requires : goal.verdicts::verdict_of_sides-rows_of_side-requires
 verdicts::verdict_of_sides-rows_of_side-requires t c =
-    (below-on (see_trees c.args.trees.now) (see_trees c.rows_of_query.new.trees) c.in_ok-lefts.ensures.grows c.args.turns (pieces_opt_expr (see_opt_expr c.args.right.now)) 3 t (below-second (see_trees c.args.trees.now).known.file c.args.turns (pieces_query (see_query c.args.left.now)) (pieces_opt_expr (see_opt_expr c.args.right.now)) 3 4 t (omega arith) c.decreases), (stands-on (see_trees c.args.trees.now) (see_trees c.rows_of_query.new.trees) c.in_ok-lefts.ensures.grows (pieces_opt_expr (see_opt_expr c.args.right.now)) c.requires.right, (book-on (see_trees c.args.trees.now) (see_trees c.rows_of_query.new.trees) c.in_ok-lefts.ensures.grows c.args.book.now c.requires.book, sound-on (see_trees c.args.trees.now) (see_trees c.rows_of_query.new.trees) c.in_ok-lefts.ensures.grows (see_env c.args.env.now) c.requires.sound)))
+    (below-on (see_trees c.args.trees.now) (see_trees c.rows_of_query.new.trees) c.in_ok-lefts.ensures.grows c.args.turns (pieces_opt_expr (see_opt_expr c.args.right.now)) 3 t (below-second (see_trees c.args.trees.now).known.file c.args.turns (pieces_query (see_query c.args.left.now)) (pieces_opt_expr (see_opt_expr c.args.right.now)) 3 4 t (ltb-true _ _ refl) c.decreases), (stands-on (see_trees c.args.trees.now) (see_trees c.rows_of_query.new.trees) c.in_ok-lefts.ensures.grows (pieces_opt_expr (see_opt_expr c.args.right.now)) c.requires.right, (book-on (see_trees c.args.trees.now) (see_trees c.rows_of_query.new.trees) c.in_ok-lefts.ensures.grows c.args.book.now c.requires.book, sound-on (see_trees c.args.trees.now) (see_trees c.rows_of_query.new.trees) c.in_ok-lefts.ensures.grows (see_env c.args.env.now) c.requires.sound)))
 
 pub verdicts::verdict_of_sides-verdict_of_test-requires-clause-lefts : goal.verdicts::verdict_of_sides-verdict_of_test-requires-clause-lefts
 verdicts::verdict_of_sides-verdict_of_test-requires-clause-lefts t c =
@@ -687,6 +740,10 @@ verdicts::verdict_of_sides-returns-then-is_set_test-clause-verdict t c =
     λ answers is. set-judged (world_in c.args.trees.now answers) (named_in c.args.trees.now answers c.args.turns) (scopes_in c.args.trees.now c.args.env.now) c.args.any c.args.left.now c.args.op c.args.not c.args.right.now c.is_set_test.result (map (see (see_trees c.rows_of_query.new.trees)) c.deref.result.now) c.verdict_of_set.result c.is_set_test.ensures c.if-is_set_test.true
     (ap (map (see (see_trees c.rows_of_query.new.trees))) c.deref.ensures.value ∙ c.in_ok-lefts.ensures.rows answers is) (c.verdict_of_set.ensures ∙ sets-seen (see_trees c.rows_of_query.new.trees).known (see_trees c.rows_of_query.new.trees).calls c.args.not c.deref.result.now)
 
+pub verdicts::verdict_of_sides-returns-in_err-rights-clause-grows : goal.verdicts::verdict_of_sides-returns-in_err-rights-clause-grows
+verdicts::verdict_of_sides-returns-in_err-rights-clause-grows t c =
+    Grows-trans (see_trees c.args.trees.now) (see_trees c.rows_of_query.new.trees) (see_trees c.rows_of_side.new.trees) c.in_ok-lefts.ensures.grows c.rows_of_side.ensures.grows
+
 pub verdicts::verdict_of_sides-returns-clause-grows : goal.verdicts::verdict_of_sides-returns-clause-grows
 verdicts::verdict_of_sides-returns-clause-grows t c =
     Grows-trans (see_trees c.args.trees.now) (see_trees c.rows_of_query.new.trees) (see_trees c.rows_of_side.new.trees) c.in_ok-lefts.ensures.grows c.in_ok-rights.ensures.grows
@@ -701,34 +758,34 @@ verdicts::verdict_of_sides-returns-clause-verdict t c =
 
 pub verdicts::verdict_of_part-rows_of_query-requires : goal.verdicts::verdict_of_part-rows_of_query-requires
 verdicts::verdict_of_part-rows_of_query-requires t c =
-    let o = owed-part (see_trees c.args.trees.now).known.file c.args.turns _ _ 1 0 t (block-in c.args.part.now c.in-Block.site c.in-Block.any c.in-Block.head c.in-Block.body c.in-Block.is).0 (omega arith) c.decreases c.requires.placed in (o.0, (o.1, (c.requires.book, c.requires.sound)))
+    let o = owed-part (see_trees c.args.trees.now).known.file c.args.turns _ _ 1 0 t (block-in c.args.part.now c.in-Block.site c.in-Block.any c.in-Block.head c.in-Block.body c.in-Block.is).0 (ltb-true _ _ refl) c.decreases c.requires.placed in (o.0, (o.1, (c.requires.book, c.requires.sound)))
 
 pub verdicts::verdict_of_part-verdict_of_block-requires : goal.verdicts::verdict_of_part-verdict_of_block-requires
 verdicts::verdict_of_part-verdict_of_block-requires t c =
-    let o = owed-on (see_trees c.args.trees.now) (see_trees c.rows_of_query.new.trees) c.in_ok-rows-in-Block.ensures.grows c.args.turns _ 1 t (owed-part (see_trees c.args.trees.now).known.file c.args.turns _ _ 1 0 t (block-in c.args.part.now c.in-Block.site c.in-Block.any c.in-Block.head c.in-Block.body c.in-Block.is).1 (omega arith) c.decreases c.requires.placed) in (o.0, (o.1, (ap (list_all (is_known (see_trees c.rows_of_query.new.trees).known)) c.deref.ensures.value ∙ c.in_ok-rows-in-Block.ensures.known, (book-on (see_trees c.args.trees.now) (see_trees c.rows_of_query.new.trees) c.in_ok-rows-in-Block.ensures.grows c.args.book.now c.requires.book, sound-on (see_trees c.args.trees.now) (see_trees c.rows_of_query.new.trees) c.in_ok-rows-in-Block.ensures.grows (see_env c.args.env.now) c.requires.sound))))
+    let o = owed-on (see_trees c.args.trees.now) (see_trees c.rows_of_query.new.trees) c.in_ok-rows-in-Block.ensures.grows c.args.turns _ 1 t (owed-part (see_trees c.args.trees.now).known.file c.args.turns _ _ 1 0 t (block-in c.args.part.now c.in-Block.site c.in-Block.any c.in-Block.head c.in-Block.body c.in-Block.is).1 (ltb-true _ _ refl) c.decreases c.requires.placed) in (o.0, (o.1, (ap (list_all (is_known (see_trees c.rows_of_query.new.trees).known)) c.deref.ensures.value ∙ c.in_ok-rows-in-Block.ensures.known, (book-on (see_trees c.args.trees.now) (see_trees c.rows_of_query.new.trees) c.in_ok-rows-in-Block.ensures.grows c.args.book.now c.requires.book, sound-on (see_trees c.args.trees.now) (see_trees c.rows_of_query.new.trees) c.in_ok-rows-in-Block.ensures.grows (see_env c.args.env.now) c.requires.sound))))
 
 pub verdicts::verdict_of_part-verdict_of_when-requires : goal.verdicts::verdict_of_part-verdict_of_when-requires
 verdicts::verdict_of_part-verdict_of_when-requires t c =
-    let o = owed-part (see_trees c.args.trees.now).known.file c.args.turns _ _ 2 0 t (when-in c.args.part.now c.in-When.site c.in-When.cond c.in-When.body c.in-When.is) (omega arith) c.decreases c.requires.placed in
+    let o = owed-part (see_trees c.args.trees.now).known.file c.args.turns _ _ 2 0 t (when-in c.args.part.now c.in-When.site c.in-When.cond c.in-When.body c.in-When.is) (ltb-true _ _ refl) c.decreases c.requires.placed in
     (o.0, (first-placed (see_trees c.args.trees.now).known.file (pieces_conds (see_conds c.in-When.cond)) (pieces_body (see_body c.in-When.body)) o.1, (second-placed (see_trees c.args.trees.now).known.file (pieces_conds (see_conds c.in-When.cond)) (pieces_body (see_body c.in-When.body)) o.1, (c.requires.book, c.requires.sound))))
 
 pub verdicts::verdict_of_part-verdict_of_kinds-requires : goal.verdicts::verdict_of_part-verdict_of_kinds-requires
 verdicts::verdict_of_part-verdict_of_kinds-requires t c =
-    let o = owed-part (see_trees c.args.trees.now).known.file c.args.turns _ _ 2 0 t (kinds-in c.args.part.now c.in-Kinds.site c.in-Kinds.name c.in-Kinds.cond c.in-Kinds.body c.in-Kinds.is) (omega arith) c.decreases c.requires.placed in
+    let o = owed-part (see_trees c.args.trees.now).known.file c.args.turns _ _ 2 0 t (kinds-in c.args.part.now c.in-Kinds.site c.in-Kinds.name c.in-Kinds.cond c.in-Kinds.body c.in-Kinds.is) (ltb-true _ _ refl) c.decreases c.requires.placed in
     (o.0, (first-placed (see_trees c.args.trees.now).known.file (pieces_opt_conds (see_opt_conds c.in-Kinds.cond)) (pieces_body (see_body c.in-Kinds.body)) o.1, (second-placed (see_trees c.args.trees.now).known.file (pieces_opt_conds (see_opt_conds c.in-Kinds.cond)) (pieces_body (see_body c.in-Kinds.body)) o.1, (c.requires.book, c.requires.sound))))
 
 pub verdicts::verdict_of_part-verdict_of_sides-requires : goal.verdicts::verdict_of_part-verdict_of_sides-requires
 verdicts::verdict_of_part-verdict_of_sides-requires t c =
-    let o = owed-part (see_trees c.args.trees.now).known.file c.args.turns _ _ 4 0 t (test-in c.args.part.now c.in-Test.site c.in-Test.any c.in-Test.left c.in-Test.op c.in-Test.not c.in-Test.right c.in-Test.note c.in-Test.is) (omega arith) c.decreases c.requires.placed in
+    let o = owed-part (see_trees c.args.trees.now).known.file c.args.turns _ _ 4 0 t (test-in c.args.part.now c.in-Test.site c.in-Test.any c.in-Test.left c.in-Test.op c.in-Test.not c.in-Test.right c.in-Test.note c.in-Test.is) (ltb-true _ _ refl) c.decreases c.requires.placed in
     (o.0, (first-placed (see_trees c.args.trees.now).known.file (pieces_query (see_query c.in-Test.left)) (pieces_opt_expr (see_opt_expr c.in-Test.right)) o.1, (second-placed (see_trees c.args.trees.now).known.file (pieces_query (see_query c.in-Test.left)) (pieces_opt_expr (see_opt_expr c.in-Test.right)) o.1, (c.requires.book, c.requires.sound))))
 
 pub verdicts::verdict_of_part-verdict_of_reference-requires : goal.verdicts::verdict_of_part-verdict_of_reference-requires
 verdicts::verdict_of_part-verdict_of_reference-requires t c =
-    (below-part (see_trees c.args.trees.now).known.file c.args.turns _ _ 0 0 t (refer-in c.args.part.now c.in-Refer.site c.in-Refer.not c.in-Refer.name c.in-Refer.note c.in-Refer.is) (omega arith) c.decreases, c.requires.book)
+    (below-part (see_trees c.args.trees.now).known.file c.args.turns _ _ 0 0 t (refer-in c.args.part.now c.in-Refer.site c.in-Refer.not c.in-Refer.name c.in-Refer.note c.in-Refer.is) (ltb-true _ _ refl) c.decreases, c.requires.book)
 
 pub verdicts::verdict_of_part-verdict_of_called-requires : goal.verdicts::verdict_of_part-verdict_of_called-requires
 verdicts::verdict_of_part-verdict_of_called-requires t c =
-    let o = owed-part (see_trees c.args.trees.now).known.file c.args.turns _ _ 0 0 t (subst (λ (es : List Expr). IsPart (pieces_exprs (expr_list (map see_expr es))) (pieces_part (see_part c.args.part.now))) (sym c.deref-in-Call.ensures.value) (call-in c.args.part.now c.in-Call.site c.in-Call.not c.in-Call.name c.in-Call.args c.in-Call.note c.in-Call.is)) (omega arith) c.decreases c.requires.placed in (o.0, (o.1, (c.requires.book, c.requires.sound)))
+    let o = owed-part (see_trees c.args.trees.now).known.file c.args.turns _ _ 0 0 t (subst (λ (es : List Expr). IsPart (pieces_exprs (expr_list (map see_expr es))) (pieces_part (see_part c.args.part.now))) (sym c.deref-in-Call.ensures.value) (call-in c.args.part.now c.in-Call.site c.in-Call.not c.in-Call.name c.in-Call.args c.in-Call.note c.in-Call.is)) (ltb-true _ _ refl) c.decreases c.requires.placed in (o.0, (o.1, (c.requires.book, c.requires.sound)))
 
 pub verdicts::verdict_of_part-returns-in_ok-rows-in-Block-clause-grows : goal.verdicts::verdict_of_part-returns-in_ok-rows-in-Block-clause-grows
 verdicts::verdict_of_part-returns-in_ok-rows-in-Block-clause-grows t c =
@@ -781,11 +838,11 @@ verdicts::verdict_of_part-returns-in_ok-called-in-Call-clause-verdict t c =
 
 pub verdicts::verdict_of_judged-verdict_of_cond-requires : goal.verdicts::verdict_of_judged-verdict_of_cond-requires
 verdicts::verdict_of_judged-verdict_of_cond-requires t c =
-    let o = owed-part (see_trees c.args.trees.now).known.file c.args.turns _ _ 1 0 t (rule-in c.args.rule.now).0 (omega arith) c.decreases c.requires.placed in (o.0, (o.1, (c.requires.book, (top-sound (see_trees c.args.trees.now).known (known-root (see_trees c.args.trees.now).known root_ref refl (IsTree-root (see_trees c.args.trees.now).known.template c.len-nodes.ensures.tree))))))
+    let o = owed-part (see_trees c.args.trees.now).known.file c.args.turns _ _ 1 0 t (rule-in c.args.rule.now).0 (ltb-true _ _ refl) c.decreases c.requires.placed in (o.0, (o.1, (c.requires.book, (top-sound (see_trees c.args.trees.now).known (known-root (see_trees c.args.trees.now).known root_ref refl (IsTree-root (see_trees c.args.trees.now).known.template c.len-nodes.ensures.tree))))))
 
 pub verdicts::verdict_of_judged-verdict_under-requires : goal.verdicts::verdict_of_judged-verdict_under-requires
 verdicts::verdict_of_judged-verdict_under-requires t c =
-    let o = owed-on (see_trees c.args.trees.now) (see_trees c.verdict_of_cond.new.trees) c.in_ok-conditions.ensures.grows c.args.turns _ 1 t (owed-part (see_trees c.args.trees.now).known.file c.args.turns _ _ 1 0 t (rule-in c.args.rule.now).1 (omega arith) c.decreases c.requires.placed) in (o.0, (o.1, (book-on (see_trees c.args.trees.now) (see_trees c.verdict_of_cond.new.trees) c.in_ok-conditions.ensures.grows c.args.book.now c.requires.book, sound-on (see_trees c.args.trees.now) (see_trees c.verdict_of_cond.new.trees) c.in_ok-conditions.ensures.grows _ (inner-sound (see_trees c.args.trees.now).known c.root.result _ (ap (is_known_ref (see_trees c.args.trees.now).known) c.root.ensures ∙ (known-root (see_trees c.args.trees.now).known root_ref refl (IsTree-root (see_trees c.args.trees.now).known.template c.len-nodes.ensures.tree))) (top-sound (see_trees c.args.trees.now).known (known-root (see_trees c.args.trees.now).known root_ref refl (IsTree-root (see_trees c.args.trees.now).known.template c.len-nodes.ensures.tree)))))))
+    let o = owed-on (see_trees c.args.trees.now) (see_trees c.verdict_of_cond.new.trees) c.in_ok-conditions.ensures.grows c.args.turns _ 1 t (owed-part (see_trees c.args.trees.now).known.file c.args.turns _ _ 1 0 t (rule-in c.args.rule.now).1 (ltb-true _ _ refl) c.decreases c.requires.placed) in (o.0, (o.1, (book-on (see_trees c.args.trees.now) (see_trees c.verdict_of_cond.new.trees) c.in_ok-conditions.ensures.grows c.args.book.now c.requires.book, sound-on (see_trees c.args.trees.now) (see_trees c.verdict_of_cond.new.trees) c.in_ok-conditions.ensures.grows _ (inner-sound (see_trees c.args.trees.now).known c.root.result _ (ap (is_known_ref (see_trees c.args.trees.now).known) c.root.ensures ∙ (known-root (see_trees c.args.trees.now).known root_ref refl (IsTree-root (see_trees c.args.trees.now).known.template c.len-nodes.ensures.tree))) (top-sound (see_trees c.args.trees.now).known (known-root (see_trees c.args.trees.now).known root_ref refl (IsTree-root (see_trees c.args.trees.now).known.template c.len-nodes.ensures.tree)))))))
 
 pub verdicts::verdict_of_judged-returns-clause-grows : goal.verdicts::verdict_of_judged-returns-clause-grows
 verdicts::verdict_of_judged-returns-clause-grows t c =
@@ -798,15 +855,15 @@ verdicts::verdict_of_judged-returns-clause-verdict t c =
 
 pub names::rows_of_variable-overflow_sub-turns : goal.names::rows_of_variable-overflow_sub-turns
 names::rows_of_variable-overflow_sub-turns t c =
-    omega (arith, c.if-turns-eq0.false)
+    some-turn _ c.if-turns-eq0.false
 
 pub names::rows_of_variable-overflow_sub-turns-in-Capture : goal.names::rows_of_variable-overflow_sub-turns-in-Capture
 names::rows_of_variable-overflow_sub-turns-in-Capture t c =
-    omega (arith, c.if-turns-eq0.false)
+    some-turn _ c.if-turns-eq0.false
 
 pub names::rows_of_variable-overflow_sub-turns-in-Param : goal.names::rows_of_variable-overflow_sub-turns-in-Param
 names::rows_of_variable-overflow_sub-turns-in-Param t c =
-    omega (arith, c.if-turns-eq0.false)
+    some-turn _ c.if-turns-eq0.false
 
 pub names::rows_of_variable-returns-then-turns-eq0-clause-grows : goal.names::rows_of_variable-returns-then-turns-eq0-clause-grows
 names::rows_of_variable-returns-then-turns-eq0-clause-grows t c =
@@ -834,7 +891,7 @@ names::rows_of_variable-returns-in_default-clause-known t c =
 
 pub names::rows_of_variable-rows_of_value-requires : goal.names::rows_of_variable-rows_of_value-requires
 names::rows_of_variable-rows_of_value-requires t c =
-    (below-turn (see_trees c.args.trees.now).known.file c.args.turns [] 0 1 t c.if-turns-eq0.false (omega arith) c.decreases, (c.requires.book, subst (IsSound (see_trees c.args.trees.now).known) (sym c.outwards.ensures) (outwards-sound (see_trees c.args.trees.now).known c.in-Value.up (see_env c.args.env.now) c.requires.sound)))
+    (below-turn (see_trees c.args.trees.now).known.file c.args.turns [] 0 1 t c.if-turns-eq0.false (ltb-true _ _ refl) c.decreases, (c.requires.book, subst (IsSound (see_trees c.args.trees.now).known) (sym c.outwards.ensures) (outwards-sound (see_trees c.args.trees.now).known c.in-Value.up (see_env c.args.env.now) c.requires.sound)))
 
 pub names::rows_of_variable-returns-in-Value-clause-grows : goal.names::rows_of_variable-returns-in-Value-clause-grows
 names::rows_of_variable-returns-in-Value-clause-grows t c =
@@ -851,7 +908,7 @@ names::rows_of_variable-returns-in-Value-clause-known t c =
 
 pub names::rows_of_variable-rows_of_capture-requires : goal.names::rows_of_variable-rows_of_capture-requires
 names::rows_of_variable-rows_of_capture-requires t c =
-    (below-turn (see_trees c.args.trees.now).known.file c.args.turns [] 0 1 t c.if-turns-eq0.false (omega arith) c.decreases, (c.requires.book, subst (IsSound (see_trees c.args.trees.now).known) (sym c.outwards-in-Capture.ensures) (outwards-sound (see_trees c.args.trees.now).known c.in-Capture.up (see_env c.args.env.now) c.requires.sound)))
+    (below-turn (see_trees c.args.trees.now).known.file c.args.turns [] 0 1 t c.if-turns-eq0.false (ltb-true _ _ refl) c.decreases, (c.requires.book, subst (IsSound (see_trees c.args.trees.now).known) (sym c.outwards-in-Capture.ensures) (outwards-sound (see_trees c.args.trees.now).known c.in-Capture.up (see_env c.args.env.now) c.requires.sound)))
 
 pub names::rows_of_variable-returns-in-Capture-clause-grows : goal.names::rows_of_variable-returns-in-Capture-clause-grows
 names::rows_of_variable-returns-in-Capture-clause-grows t c =
@@ -868,7 +925,7 @@ names::rows_of_variable-returns-in-Capture-clause-known t c =
 
 pub names::rows_of_variable-rows_of_argument-requires : goal.names::rows_of_variable-rows_of_argument-requires
 names::rows_of_variable-rows_of_argument-requires t c =
-    (below-turn (see_trees c.args.trees.now).known.file c.args.turns [] 0 1 t c.if-turns-eq0.false (omega arith) c.decreases, (c.requires.book, subst (IsSound (see_trees c.args.trees.now).known) (sym c.outwards-in-Param.ensures) (outwards-sound (see_trees c.args.trees.now).known c.in-Param.up (see_env c.args.env.now) c.requires.sound)))
+    (below-turn (see_trees c.args.trees.now).known.file c.args.turns [] 0 1 t c.if-turns-eq0.false (ltb-true _ _ refl) c.decreases, (c.requires.book, subst (IsSound (see_trees c.args.trees.now).known) (sym c.outwards-in-Param.ensures) (outwards-sound (see_trees c.args.trees.now).known c.in-Param.up (see_env c.args.env.now) c.requires.sound)))
 
 pub names::rows_of_variable-returns-in-Param-clause-grows : goal.names::rows_of_variable-returns-in-Param-clause-grows
 names::rows_of_variable-returns-in-Param-clause-grows t c =
@@ -885,11 +942,11 @@ names::rows_of_variable-returns-in-Param-clause-known t c =
 
 pub names::rows_of_value-rows_of_expr-requires : goal.names::rows_of_value-rows_of_expr-requires
 names::rows_of_value-rows_of_expr-requires t c =
-    let s = expr-stands (see_trees c.args.trees.now).known.file c.args.site c.in-Some.piece c.in-Expr.expr c.in-Some.ensures c.in-Expr.is in (owed-turn (see_trees c.args.trees.now).known.file c.args.turns _ [] 2 0 t s (omega arith) c.decreases, (s, (c.requires.book, c.requires.sound)))
+    let s = expr-stands (see_trees c.args.trees.now).known.file c.args.site c.in-Some.piece c.in-Expr.expr c.in-Some.ensures c.in-Expr.is in (owed-turn (see_trees c.args.trees.now).known.file c.args.turns _ [] 2 0 t s (ltb-true _ _ refl) c.decreases, (s, (c.requires.book, c.requires.sound)))
 
 pub names::rows_of_value-rows_of_query-requires : goal.names::rows_of_value-rows_of_query-requires
 names::rows_of_value-rows_of_query-requires t c =
-    let s = query-stands (see_trees c.args.trees.now).known.file c.args.site c.in-Some.piece c.in-Query.query c.in-Some.ensures c.in-Query.is in (owed-turn (see_trees c.args.trees.now).known.file c.args.turns _ [] 1 0 t s (omega arith) c.decreases, (s, (c.requires.book, c.requires.sound)))
+    let s = query-stands (see_trees c.args.trees.now).known.file c.args.site c.in-Some.piece c.in-Query.query c.in-Some.ensures c.in-Query.is in (owed-turn (see_trees c.args.trees.now).known.file c.args.turns _ [] 1 0 t s (ltb-true _ _ refl) c.decreases, (s, (c.requires.book, c.requires.sound)))
 
 pub names::rows_of_value-returns-in-Expr-clause-grows : goal.names::rows_of_value-returns-in-Expr-clause-grows
 names::rows_of_value-returns-in-Expr-clause-grows t c =
@@ -937,11 +994,12 @@ names::rows_of_value-returns-in_default-piece t c =
 
 pub names::rows_of_capture-overflow_add-index : goal.names::rows_of_capture-overflow_add-index
 names::rows_of_capture-overflow_add-index t c =
-    let steps = (out-Query c.in-Step.query.now).steps in omega (arith, (step-stands (see_trees c.args.trees.now).known.file c.args.site c.in-Some.piece c.in-Step.query c.in-Step.index c.in-Some.ensures c.in-Step.is).1, steps.ok.0, steps.ok.1, steps.small)
+    let steps = (out-Query c.in-Step.query.now).steps in
+    next-fits _ _ _ _ (step-stands (see_trees c.args.trees.now).known.file c.args.site c.in-Some.piece c.in-Step.query c.in-Step.index c.in-Some.ensures c.in-Step.is).1 steps.ok.0 steps.ok.1 steps.small
 
 pub names::rows_of_capture-rows_of_first-requires : goal.names::rows_of_capture-rows_of_first-requires
 names::rows_of_capture-rows_of_first-requires t c =
-    let s = (step-stands (see_trees c.args.trees.now).known.file c.args.site c.in-Some.piece c.in-Step.query c.in-Step.index c.in-Some.ensures c.in-Step.is) in (owed-turn (see_trees c.args.trees.now).known.file c.args.turns _ [] 0 0 t s.0 (omega arith) c.decreases, (s.0, (omega (arith, s.1), (c.requires.book, c.requires.sound))))
+    let s = (step-stands (see_trees c.args.trees.now).known.file c.args.site c.in-Some.piece c.in-Step.query c.in-Step.index c.in-Some.ensures c.in-Step.is) in (owed-turn (see_trees c.args.trees.now).known.file c.args.turns _ [] 0 0 t s.0 (ltb-true _ _ refl) c.decreases, (s.0, (next-within _ _ s.1, (c.requires.book, c.requires.sound))))
 
 pub names::rows_of_capture-captured-requires : goal.names::rows_of_capture-captured-requires
 names::rows_of_capture-captured-requires t c =
@@ -954,7 +1012,7 @@ names::rows_of_capture-returns-in_ok-rows-in-Step-clause-grows t c =
 pub names::rows_of_capture-returns-in_ok-rows-in-Step-clause-rows : goal.names::rows_of_capture-returns-in_ok-rows-in-Step-clause-rows
 names::rows_of_capture-returns-in_ok-rows-in-Step-clause-rows t c =
     λ answers is. IfOk-weaker c.captured.result _ _ (λ rows e. captures-given c.args.trees.now (see_trees c.rows_of_first.new.trees) c.rows_of_first.ensures.grows answers c.deref.result.now rows.items _
-    (ap (map (see (see_trees c.rows_of_first.new.trees))) c.deref.ensures.value ∙ c.in_ok-rows-in-Step.ensures.rows answers is ∙ first-rows (world_in c.args.trees.now answers) (named_in c.args.trees.now answers c.args.turns) (scopes_in c.args.trees.now c.args.env.now) c.in-Step.query.now _ c.in-Step.index (omega arith)) e
+    (ap (map (see (see_trees c.rows_of_first.new.trees))) c.deref.ensures.value ∙ c.in_ok-rows-in-Step.ensures.rows answers is ∙ first-rows (world_in c.args.trees.now answers) (named_in c.args.trees.now answers c.args.turns) (scopes_in c.args.trees.now c.args.env.now) c.in-Step.query.now _ c.in-Step.index (as-suc c.in-Step.index)) e
     ∙ step-value (world_in c.args.trees.now answers) (named_in c.args.trees.now answers c.args.turns) (scopes_in c.args.trees.now c.args.env.now) c.in-Some.piece c.in-Step.query c.in-Step.index _ c.in-Some.ensures c.in-Step.is) c.captured.ensures.rows
 
 pub names::rows_of_capture-returns-in_ok-rows-in-Step-clause-known : goal.names::rows_of_capture-returns-in_ok-rows-in-Step-clause-known
@@ -983,7 +1041,7 @@ names::rows_of_capture-returns-in_default-piece t c =
 
 pub names::rows_of_argument-rows_of_expr-requires : goal.names::rows_of_argument-rows_of_expr-requires
 names::rows_of_argument-rows_of_expr-requires t c =
-    let s = owed-argument (see_trees c.args.trees.now).known.file c.in-Called.args.now c.args.index c.in-Some.expr.now c.in-Some.ensures (called-is (see_trees c.args.trees.now).known c.args.env c.in-Called.current c.in-Called.args c.in-Called.caller c.in-Called.is c.requires.sound).0 in (owed-turn (see_trees c.args.trees.now).known.file c.args.turns _ [] 2 0 t s (omega arith) c.decreases, (s, (c.requires.book, (called-is (see_trees c.args.trees.now).known c.args.env c.in-Called.current c.in-Called.args c.in-Called.caller c.in-Called.is c.requires.sound).1)))
+    let s = owed-argument (see_trees c.args.trees.now).known.file c.in-Called.args.now c.args.index c.in-Some.expr.now c.in-Some.ensures (called-is (see_trees c.args.trees.now).known c.args.env c.in-Called.current c.in-Called.args c.in-Called.caller c.in-Called.is c.requires.sound).0 in (owed-turn (see_trees c.args.trees.now).known.file c.args.turns _ [] 2 0 t s (ltb-true _ _ refl) c.decreases, (s, (c.requires.book, (called-is (see_trees c.args.trees.now).known c.args.env c.in-Called.current c.in-Called.args c.in-Called.caller c.in-Called.is c.requires.sound).1)))
 
 pub names::rows_of_argument-returns-in-Some-clause-grows : goal.names::rows_of_argument-returns-in-Some-clause-grows
 names::rows_of_argument-returns-in-Some-clause-grows t c =
@@ -1035,11 +1093,11 @@ names::rows_of_argument-returns-in-Inner-clause-known t c =
 
 pub names::verdict_of_reference-overflow_sub-turns : goal.names::verdict_of_reference-overflow_sub-turns
 names::verdict_of_reference-overflow_sub-turns t c =
-    omega (arith, c.if-turns-eq0.false)
+    some-turn _ c.if-turns-eq0.false
 
 pub names::verdict_of_reference-verdict_of_judged-requires : goal.names::verdict_of_reference-verdict_of_judged-requires
 names::verdict_of_reference-verdict_of_judged-requires t c =
-    let s = (rule-stands (see_trees c.args.trees.now).known.file c.args.site (see_rule c.in-Some.rule.now) (sym c.named_rule.ensures ∙ ap rule_found c.in-Some.is)) in (owed-less (see_trees c.args.trees.now).known.file c.args.turns _ [] 0 0 t c.if-turns-eq0.false s (omega arith) c.decreases, (s, c.requires.book))
+    let s = (rule-stands (see_trees c.args.trees.now).known.file c.args.site (see_rule c.in-Some.rule.now) (sym c.named_rule.ensures ∙ ap rule_found c.in-Some.is)) in (owed-less (see_trees c.args.trees.now).known.file c.args.turns _ [] 0 0 t c.if-turns-eq0.false s (ltb-true _ _ refl) c.decreases, (s, c.requires.book))
 
 pub names::verdict_of_reference-returns-then-turns-eq0-clause-grows : goal.names::verdict_of_reference-returns-then-turns-eq0-clause-grows
 names::verdict_of_reference-returns-then-turns-eq0-clause-grows t c =
@@ -1067,12 +1125,12 @@ names::verdict_of_reference-returns-in-None-clause-verdict t c =
 
 pub names::verdict_of_called-overflow_sub-turns : goal.names::verdict_of_called-overflow_sub-turns
 names::verdict_of_called-overflow_sub-turns t c =
-    omega (arith, c.if-turns-eq0.false)
+    some-turn _ c.if-turns-eq0.false
 
 pub names::verdict_of_called-verdict_of_body-requires : goal.names::verdict_of_called-verdict_of_body-requires
 names::verdict_of_called-verdict_of_body-requires t c =
     let b = body-stands (see_trees c.args.trees.now).known.file c.in-Some.rule.now (rule-stands (see_trees c.args.trees.now).known.file c.args.site (see_rule c.in-Some.rule.now) (sym c.named_rule.ensures ∙ ap rule_found c.in-Some.is)) in
-    (owed-less (see_trees c.args.trees.now).known.file c.args.turns _ (pieces_exprs (expr_list (map see_expr c.args.args.now))) 0 0 t c.if-turns-eq0.false b (omega arith) c.decreases, (b, (c.requires.book, called-sound (see_trees c.args.trees.now).known _ _ _ (ap (is_known_ref (see_trees c.args.trees.now).known) c.current.ensures ∙ current-known (see_trees c.args.trees.now).known (see_env c.args.env.now) c.requires.sound) c.requires.placed c.requires.sound)))
+    (owed-less (see_trees c.args.trees.now).known.file c.args.turns _ (pieces_exprs (expr_list (map see_expr c.args.args.now))) 0 0 t c.if-turns-eq0.false b (ltb-true _ _ refl) c.decreases, (b, (c.requires.book, called-sound (see_trees c.args.trees.now).known _ _ _ (ap (is_known_ref (see_trees c.args.trees.now).known) c.current.ensures ∙ current-known (see_trees c.args.trees.now).known (see_env c.args.env.now) c.requires.sound) c.requires.placed c.requires.sound)))
 
 pub names::verdict_of_called-returns-then-turns-eq0-clause-grows : goal.names::verdict_of_called-returns-then-turns-eq0-clause-grows
 names::verdict_of_called-returns-then-turns-eq0-clause-grows t c =

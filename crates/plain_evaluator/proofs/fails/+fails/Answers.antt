@@ -43,6 +43,10 @@ push_disjs-loop-disj-preserved t c = (
   c.in_ok-push_failing_disj.ensures.showable,
 )
 
+pub push_disjs-returns-in_err-push_failing_disj-clause-grows : goal.push_disjs-returns-in_err-push_failing_disj-clause-grows
+push_disjs-returns-in_err-push_failing_disj-clause-grows t c =
+    Grows-trans (see_trees c.args.trees.now) (see_trees c.loop-disj.trees) (see_trees c.push_failing_disj.new.trees) c.loop-disj.invariant.0 c.push_failing_disj.ensures.grows
+
 pub push_disjs-returns-clause-grows : goal.push_disjs-returns-clause-grows
 push_disjs-returns-clause-grows t c =
     c.loop-disj.invariant.0
@@ -108,6 +112,10 @@ push_parts-loop-part-preserved t c = (
   walk-goes-on c.args.trees.now (see_trees c.loop-part.trees) c.loop-part.invariant.0 (see_env c.args.env.now) c.requires.sound (of_part c.args.turns) (see_entries (see_trees c.args.trees.now) c.args.into.now) (see_entries (see_trees c.loop-part.trees) c.loop-part.into) (see_entries (see_trees c.push_failing_part.new.trees) c.push_failing_part.new.into) c.args.parts.now c.loop-part.part-index c.part-item.result c.part-item.result c.loop-part-test.true c.part-item.is c.loop-part.invariant.1 c.in_ok-push_failing_part.ensures.entries,
   c.in_ok-push_failing_part.ensures.showable,
 )
+
+pub push_parts-returns-in_err-push_failing_part-clause-grows : goal.push_parts-returns-in_err-push_failing_part-clause-grows
+push_parts-returns-in_err-push_failing_part-clause-grows t c =
+    Grows-trans (see_trees c.args.trees.now) (see_trees c.loop-part.trees) (see_trees c.push_failing_part.new.trees) c.loop-part.invariant.0 c.push_failing_part.ensures.grows
 
 pub push_parts-returns-clause-grows : goal.push_parts-returns-clause-grows
 push_parts-returns-clause-grows t c =
@@ -287,6 +295,10 @@ push_rows-loop-row-preserved t c = (
   rows-go-on c.args.trees.now (see_trees c.loop-row.trees) c.loop-row.invariant.0 (see_env c.args.env.now) c.requires.sound (of_row c.args.turns c.args.part c.args.body.now) (see_entries (see_trees c.args.trees.now) c.args.into.now) (see_entries (see_trees c.loop-row.trees) c.loop-row.into) (see_entries (see_trees c.push_row.new.trees) c.push_row.new.into) c.args.rows.now c.loop-row.row-index (row.Found root_ref) c.loop-row-test.true c.requires.known c.loop-row.invariant.1 c.in_ok-push_row.ensures.entries,
   c.in_ok-push_row.ensures.showable,
 )
+
+pub push_rows-returns-in_err-push_row-clause-grows : goal.push_rows-returns-in_err-push_row-clause-grows
+push_rows-returns-in_err-push_row-clause-grows t c =
+    Grows-trans (see_trees c.args.trees.now) (see_trees c.loop-row.trees) (see_trees c.push_row.new.trees) c.loop-row.invariant.0 c.push_row.ensures.grows
 
 pub push_rows-returns-clause-grows : goal.push_rows-returns-clause-grows
 push_rows-returns-clause-grows t c =

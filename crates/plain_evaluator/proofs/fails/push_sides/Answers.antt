@@ -75,6 +75,10 @@ pub returns-then-is_set_test-clause-showable : goal.returns-then-is_set_test-cla
 returns-then-is_set_test-clause-showable c =
     c.push_set.ensures.showable
 
+pub returns-in_err-rights-clause-grows : goal.returns-in_err-rights-clause-grows
+returns-in_err-rights-clause-grows c =
+    Grows-trans (see_trees c.args.trees.now) (see_trees c.rows_of_query.new.trees) (see_trees c.rows_of_side.new.trees) c.in_ok-lefts.ensures.grows c.rows_of_side.ensures.grows
+
 pub returns-clause-grows : goal.returns-clause-grows
 returns-clause-grows c =
     Grows-trans (see_trees c.args.trees.now) (see_trees c.rows_of_query.new.trees) (see_trees c.rows_of_side.new.trees) c.in_ok-lefts.ensures.grows c.in_ok-rights.ensures.grows
