@@ -12,8 +12,8 @@ use Rattle.std.specs.Int.{bit_at}
 use Rattle.std.specs.List.{range_with_len}
 use lib.Lanes.{zip2, sel_l, mask_l, top, Each1}
 use Rattle.byte_lanes.specs.declared.set.TheConstants.{BITS}
-use Rattle.byte_lanes.specs.Members.{holds}
-use Rattle.byte_lanes.specs.Tables.{is_member, members}
+use Rattle.byte_lanes.specs.code.Members.{holds}
+use Rattle.byte_lanes.specs.code.Tables.{is_member, members}
 
 abbrev pub IsBlock : List ℕ → Type 0
 IsBlock v = (length v ≡ 16) × Each1 (Fits w8) v

@@ -5,7 +5,7 @@ use Rattle.std.proofs.lemmas.List.{map-append, append-nil, drop-map, drop-take, 
 use Rattle.std.proofs.lemmas.List.Elements.{filter-append}
 use Rattle.std.proofs.lemmas.Bool.{eq-eqb, ne_eqb}
 use Rattle.std.proofs.lemmas.Nat.{shr-shr, shr_le}
-use Rattle.byte_lanes.specs.LineStarts.{after_newlines}
+use Rattle.byte_lanes.specs.code.LineStarts.{after_newlines}
 use lib.Lanes.{chunk, mask_l}
 
 range_with_len-add : (a m n : ℕ) → range_with_len a (m + n) ≡ range_with_len a m ++ range_with_len (a + m) n

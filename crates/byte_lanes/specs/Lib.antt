@@ -1,3 +1,1 @@
-pub mod Members
-pub mod LineStarts
-pub mod Tables
+pub mod code

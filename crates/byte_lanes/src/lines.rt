@@ -1,6 +1,6 @@
 ghost use Rattle.std.specs.Prelude.{◌≡◌, ◌==◌, ◌+◌, ◌^◌, ◌<◌, ◌≤◌, ◌++◌, length, map, slice_range, IfOk, OnOk};
 ghost use Rattle.std.specs.Simd.Lanes.{mask_l};
-ghost use Rattle.byte_lanes.specs.LineStarts.{starts_of_lines, after_newlines};
+ghost use Rattle.byte_lanes.specs.code.LineStarts.{starts_of_lines, after_newlines};
 
 use crate::count::count_byte;
 use std::alloc::{AllocError, Global};

@@ -1,6 +1,6 @@
 ghost use Rattle.std.specs.Prelude.{◌≡◌, ℕ, ◌==◌, ◌||◌, [], map};
 ghost use Rattle.std.specs.Simd.Lanes.{mask_l};
-ghost use Rattle.byte_lanes.specs.Members.{holds};
+ghost use Rattle.byte_lanes.specs.code.Members.{holds};
 
 use std::marker::Model;
 use std::simd::prelude::*;
@@ -18,7 +18,7 @@ pub struct ByteSet {
 
 impl Model for ByteSet {
     ghost use Rattle.std.specs.Prelude.{ℕ, List};
-    ghost use Rattle.byte_lanes.specs.Tables.{members};
+    ghost use Rattle.byte_lanes.specs.code.Tables.{members};
 
     ghost Value = { List ℕ };
 

@@ -1,5 +1,5 @@
 ghost use Rattle.std.specs.Prelude.{◌≡◌, ℕ, ◌<◌, ◌≤◌, true, false, length, slice_index};
-ghost use Rattle.byte_lanes.specs.Members.{holds};
+ghost use Rattle.byte_lanes.specs.code.Members.{holds};
 
 use crate::set::ByteSet;
 use std::simd::prelude::*;

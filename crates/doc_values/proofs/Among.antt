@@ -5,8 +5,8 @@ use Rattle.std.proofs.lemmas.Bool.Decides.{nat_tests}
 use Rattle.std.proofs.lemmas.Bool.{cases_lt, cases_eq, lt-ltb, le-ltb}
 use Rattle.doc_values.specs.Tree.{Label, Forest, Nil, Node, size, count, key_is}
 use Rattle.doc_values.specs.Places.{find, first_kids, kids_at, child_place, key_place}
-use Rattle.doc_values.specs.Rows.{Row, rows}
-use Rattle.doc_values.specs.Index.{among, keyed}
+use Rattle.doc_values.specs.code.Rows.{Row, rows}
+use Rattle.doc_values.specs.code.Index.{among, keyed}
 
 abbrev pub row : ℕ → ℕ → ℕ → Label → Row
 row d u i l = record { depth = d; under = u; index = i; label = l }

@@ -6,9 +6,9 @@ use Rattle.std.proofs.lemmas.Bool.{cases_lt}
 use Rattle.doc_values.specs.declared.keys.KeyIndex.{KeyIndex}
 use Rattle.doc_values.specs.Tree.{Forest, Nil, Node, size, count, key_is}
 use Rattle.doc_values.specs.Places.{first_kids, kids_at, child_place, key_place}
-use Rattle.doc_values.specs.Rows.{Row, all_rows, tree_of}
-use Rattle.doc_values.specs.Keys.{number_of}
-use Rattle.doc_values.specs.Index.{among, keyed, tally, below, AreInOrder, AreStarts, IsIndexed}
+use Rattle.doc_values.specs.code.Rows.{Row, all_rows, tree_of}
+use Rattle.doc_values.specs.code.Keys.{number_of}
+use Rattle.doc_values.specs.code.Index.{among, keyed, tally, below, AreInOrder, AreStarts, IsIndexed}
 use Rattle.doc_values.proofs.Among.{length-rows, find_in, find_past}
 use Rattle.doc_values.proofs.Slots.{below-suc, below-le, below-all, slot-fits}
 use Rattle.doc_values.proofs.Standing.{IsRow, is_row, in_order, kids_counted, kids_keyed, is_child}

@@ -5,11 +5,11 @@ use Rattle.std.proofs.lemmas.List.{get_or_at}
 use Rattle.doc_values.specs.declared.node.Seat.{Seat}
 use Rattle.doc_values.specs.Tree.{Forest, Nil, Node, size, count, key_is, has_key}
 use Rattle.doc_values.specs.Unfinished.{Level, innermost, in_map}
-use Rattle.doc_values.specs.WellFormed.{IsPending}
+use Rattle.doc_values.specs.code.WellFormed.{IsPending}
 use Rattle.doc_values.specs.Places.{key_place}
-use Rattle.doc_values.specs.Rows.{Row, rows, Open, open_of, open_rows, inside}
-use Rattle.doc_values.specs.Index.{among, keyed, IsNewUnder, no_row}
-use Rattle.doc_values.specs.Kept.{Steps, seat_of}
+use Rattle.doc_values.specs.code.Rows.{Row, rows, Open, open_of, open_rows, inside}
+use Rattle.doc_values.specs.code.Index.{among, keyed, IsNewUnder, no_row}
+use Rattle.doc_values.specs.code.Kept.{Steps, seat_of}
 use Rattle.doc_values.proofs.Among.{row, IsApartFrom, among-append, among-no, among-none, among-here, tops, keyed-tops}
 use Rattle.doc_values.proofs.Steps.{length-open}
 

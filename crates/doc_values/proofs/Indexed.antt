@@ -9,9 +9,9 @@ use Rattle.std.proofs.lemmas.Bool.Decides.{nat_tests}
 use Rattle.std.proofs.lemmas.Slice.Eq.{bytes_eq-Decides}
 use Rattle.doc_values.specs.declared.keys.KeyIndex.{KeyIndex}
 use Rattle.doc_values.specs.Tree.{key_is}
-use Rattle.doc_values.specs.Rows.{Row}
-use Rattle.doc_values.specs.Keys.{number_of, IsApart, IsSame, Adds}
-use Rattle.doc_values.specs.Index.{among, keyed, AreKeys, IsNewUnder, AreNew, AreZero, IsArena}
+use Rattle.doc_values.specs.code.Rows.{Row}
+use Rattle.doc_values.specs.code.Keys.{number_of, IsApart, IsSame, Adds}
+use Rattle.doc_values.specs.code.Index.{among, keyed, AreKeys, IsNewUnder, AreNew, AreZero, IsArena}
 use Rattle.doc_values.proofs.Among.{among-append}
 
 -- the first that is there

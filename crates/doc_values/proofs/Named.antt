@@ -16,7 +16,7 @@ use Rattle.std.proofs.lemmas.Slice.Eq.{bytes_eq-Decides}
 use Rattle.std.proofs.lemmas.Bool.{true≢false}
 use Rattle.std.proofs.Math.Bool.{and-false}
 use Rattle.doc_values.specs.declared.keys.KeyIndex.{KeyIndex}
-use Rattle.doc_values.specs.Keys.{name_of, at_pair, at_name, number_of, IsApart, Names, Adds}
+use Rattle.doc_values.specs.code.Keys.{name_of, at_pair, at_name, number_of, IsApart, Names, Adds}
 
 -- a text that is borrowed
 abbrev cow : List ℕ → CowStr Global

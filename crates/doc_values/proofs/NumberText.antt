@@ -4,7 +4,7 @@ use Rattle.std.specs.Prelude.{if◌then◌else◌}
 use Rattle.std.proofs.lemmas.Bool.{true≢false}
 use Rattle.std.proofs.lemmas.Bool.Decides.{nat_tests}
 use Rattle.doc_values.specs.Number.{Parts, is_digit, AreDigits, IsWholePart, minus_text, fraction_text, IsPowerText, IsSpelled}
-use Rattle.doc_values.specs.Reading.{digits, behind, minus_of, behind_minus, behind_sign, point_of, fraction_of, behind_fraction, is_mark, mark_of, down_of, power_of, behind_power, tail_of, read, is_whole, is_filled, is_nil, is_number}
+use Rattle.doc_values.specs.code.Reading.{digits, behind, minus_of, behind_minus, behind_sign, point_of, fraction_of, behind_fraction, is_mark, mark_of, down_of, power_of, behind_power, tail_of, read, is_whole, is_filled, is_nil, is_number}
 
 -- a test is true or false
 tested : (b : Bool) → (b ≡ true) ⊎ (b ≡ false)

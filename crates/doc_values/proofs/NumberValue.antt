@@ -5,7 +5,7 @@ use Rattle.std.proofs.lemmas.Grind.{pow_more}
 use Rattle.std.proofs.Math.Nat.{pow-le-pow_right, mul-le-mul, mul_assoc}
 use Rattle.std.proofs.Math.Seq.{drop-cons}
 use Rattle.doc_values.specs.Number.{is_digit, AreDigits, number_behind}
-use Rattle.doc_values.specs.Reading.{cap, IsHeld}
+use Rattle.doc_values.specs.code.Reading.{cap, IsHeld}
 
 le_behind : (n : ℕ) (ds : List ℕ) → n ≤ number_behind n ds
 le_behind n [] = omega arith

@@ -5,7 +5,7 @@ use Rattle.doc_values.specs.declared.decimal.Num.{Num}
 use Rattle.doc_values.specs.declared.decimal.Num.TheVariants as num
 use Rattle.doc_values.specs.Decimal.{Decimal, IsNormal}
 use Rattle.doc_values.specs.Number.{Parts, number, number_behind, scaled, signed, IsStripped, IsDecimalOf, IsValue, IsNumber, AreDigits}
-use Rattle.doc_values.specs.Reading.{cap, IsHeld, read, is_number, behind_minus, tail_of}
+use Rattle.doc_values.specs.code.Reading.{cap, IsHeld, read, is_number, behind_minus, tail_of}
 use Rattle.doc_values.proofs.NumberText.{IsSpelled-read, read-IsSpelled, digits_are, fraction_are}
 use Rattle.doc_values.proofs.NumberValue.{number-append, one_power, times_more, IsHeld-nothing}
 use Rattle.doc_values.proofs.DecimalRange.{place, place-is, exponent_near, stripped-unique}

@@ -6,8 +6,8 @@ use Rattle.std.proofs.lemmas.List.{get_or-append_right, get_or_default}
 use Rattle.std.proofs.lemmas.Bool.{cases_lt, cases_eq, lt-ltb, le-ltb}
 use Rattle.doc_values.specs.Tree.{Label, Forest, Nil, Node, size, count}
 use Rattle.doc_values.specs.Places.{first_label, label_at, kids_at, child_place, key_place, Spot, spot_in, spot_of}
-use Rattle.doc_values.specs.Rows.{Row, rows, all_rows, above}
-use Rattle.doc_values.specs.Index.{among, keyed, tally, AreInOrder, no_row}
+use Rattle.doc_values.specs.code.Rows.{Row, rows, all_rows, above}
+use Rattle.doc_values.specs.code.Index.{among, keyed, tally, AreInOrder, no_row}
 use Rattle.doc_values.proofs.Among.{row, length-rows, same_nat, other_nat, among-here, among-under, tops, length-tops, keyed-tops, tops-at, find_in, find_past}
 use Rattle.doc_values.proofs.Slots.{length-among, at-among, among-there, before-less}
 

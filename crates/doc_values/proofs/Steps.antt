@@ -4,13 +4,13 @@ use Rattle.doc_values.specs.declared.kind.Kind.{Kind}
 use Rattle.doc_values.specs.declared.node.Seat.{Seat}
 use Rattle.doc_values.specs.Tree.{Label, Forest, Nil, Node, snoc, has_key, holds_values, has_text, size, count}
 use Rattle.doc_values.specs.Unfinished.{Level, Unfinished, with_value, with_open, open_kind, with_end, AwaitsValue, AwaitsKey, MayEnd}
-use Rattle.doc_values.specs.Rows.{Row, rows, all_rows, Open, nothing, entered, added, closed, closed_of, closed_to, placed_all, open_of, tree_of, open_rows, inside}
-use Rattle.doc_values.specs.Laws.{placed_all-append, closed_at, closed_to-same, closed_to-more, closed_to-length, closed_to-shorter, closed_to-twice}
+use Rattle.doc_values.specs.code.Rows.{Row, rows, all_rows, Open, nothing, entered, added, closed, closed_of, closed_to, placed_all, open_of, tree_of, open_rows, inside}
+use Rattle.doc_values.specs.code.Laws.{placed_all-append, closed_at, closed_to-same, closed_to-more, closed_to-length, closed_to-shorter, closed_to-twice}
 use Rattle.doc_values.proofs.Among.{row, length-rows}
 use Rattle.doc_values.proofs.WellFormed.{IsUnfinished-value, IsUnfinished-open, IsUnfinished-key, IsUnfinished-end}
-use Rattle.doc_values.specs.WellFormed.{IsUnfinished}
-use Rattle.doc_values.specs.Index.{row_of}
-use Rattle.doc_values.specs.Kept.{unfinished, Steps, seat_of, seats_of, Kept}
+use Rattle.doc_values.specs.code.WellFormed.{IsUnfinished}
+use Rattle.doc_values.specs.code.Index.{row_of}
+use Rattle.doc_values.specs.code.Kept.{unfinished, Steps, seat_of, seats_of, Kept}
 
 pub rows-snoc : (d u n i : ℕ) (f : Forest) (l : Label) (kids : Forest) → rows d u n i (snoc f l kids) ≡ rows d u n i f ++ (row d u (i + count f) l ∷ rows (suc d) (suc (n + size f)) (suc (n + size f)) 0 kids)
 rows-snoc d u n i Nil l kids =

@@ -4,8 +4,8 @@ use Rattle.std.proofs.lemmas.Bool.{true≢false}
 use Rattle.doc_values.specs.declared.kind.Kind.{Kind}
 use Rattle.doc_values.specs.Tree.{Label, Forest, Nil, Node, snoc, joined, has_key, is_map, holds_values, has_text, IsKeyed, AreValues, IsTree}
 use Rattle.doc_values.specs.Unfinished.{Level, Unfinished, start, with_value, with_open, open_kind, with_key, with_end, in_map, IsKeyThere, AwaitsValue, AwaitsKey, MayEnd, IsComplete}
-use Rattle.doc_values.specs.WellFormed.{IsPending, IsUnfinished}
-use Rattle.doc_values.specs.Laws.{joined-Nil, joined-snoc}
+use Rattle.doc_values.specs.code.WellFormed.{IsPending, IsUnfinished}
+use Rattle.doc_values.specs.code.Laws.{joined-Nil, joined-snoc}
 
 -- a value more at the end
 pub AreValues-snoc : (b : Bool) (before f : Forest) (l : Label) (kids : Forest) → AreValues b before f → IsKeyed b (joined before f) l.key → (has_text l.kind ≡ false → l.text ≡ []) → (holds_values l.kind ≡ false → kids ≡ Nil) → AreValues (is_map l.kind) Nil kids → AreValues b before (snoc f l kids)

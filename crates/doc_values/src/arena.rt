@@ -1,9 +1,9 @@
 //! The nodes of a tree that grows.
 ghost use Rattle.std.specs.Prelude.{◌≡◌, ℕ, ◌<◌, List, [], ◌∷◌, ◌++◌, length, slice_index_or, OnErr, OnOk, Option, None, vec_capacity, vec_len};
 ghost use Rattle.std.specs.Cow.{cow_str_bytes};
-ghost use Rattle.doc_values.specs.Texts.{key_text};
-ghost use Rattle.doc_values.specs.Rows.{Row};
-ghost use Rattle.doc_values.specs.Index.{among, keyed, IsNewUnder, no_row, row_of};
+ghost use Rattle.doc_values.specs.code.Texts.{key_text};
+ghost use Rattle.doc_values.specs.code.Rows.{Row};
+ghost use Rattle.doc_values.specs.code.Index.{among, keyed, IsNewUnder, no_row, row_of};
 
 use crate::keys::KeyIndex;
 use crate::kind::Kind;
@@ -29,9 +29,9 @@ pub struct Arena<'s> {
 impl<'s> Model for Arena<'s> {
     ghost use Rattle.std.specs.Prelude.{List};
     ghost use Rattle.std.specs.Coded.{coded_list};
-    ghost use Rattle.doc_values.specs.Rows.{Row};
-    ghost use Rattle.doc_values.specs.Codes.{row_code};
-    ghost use Rattle.doc_values.specs.Index.{IsArena};
+    ghost use Rattle.doc_values.specs.code.Rows.{Row};
+    ghost use Rattle.doc_values.specs.code.Codes.{row_code};
+    ghost use Rattle.doc_values.specs.code.Index.{IsArena};
 
     ghost Value = { List Row };
 

@@ -51,9 +51,9 @@ pub struct DocBuilder<'s> {
 
 impl<'s> Model for DocBuilder<'s> {
     ghost use Rattle.doc_values.specs.Unfinished.{Unfinished};
-    ghost use Rattle.doc_values.specs.Codes.{unfinished_code};
-    ghost use Rattle.doc_values.specs.Kept.{unfinished, Kept};
-    ghost use Rattle.doc_values.specs.Texts.{key_text};
+    ghost use Rattle.doc_values.specs.code.Codes.{unfinished_code};
+    ghost use Rattle.doc_values.specs.code.Kept.{unfinished, Kept};
+    ghost use Rattle.doc_values.specs.code.Texts.{key_text};
 
     ghost Value = { Unfinished };
 

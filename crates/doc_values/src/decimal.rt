@@ -15,7 +15,7 @@ pub struct Decimal {
 
 impl Model for Decimal {
     ghost use Rattle.doc_values.specs.Decimal.{Decimal, IsNormal};
-    ghost use Rattle.doc_values.specs.DecimalCode.{decimal_code};
+    ghost use Rattle.doc_values.specs.code.DecimalCode.{decimal_code};
 
     ghost Value = { Decimal };
 

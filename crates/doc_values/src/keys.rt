@@ -1,10 +1,10 @@
 //! The keys of the maps of a tree.
 ghost use Rattle.std.specs.Prelude.{◌≡◌, ℕ, List, [], ◌∷◌, ◌++◌, length, Option, Some, None, IfOk, OnOk, OnErr};
 ghost use Rattle.std.specs.Cow.{cow_str_bytes};
-ghost use Rattle.doc_values.specs.Keys.{number_of, IsApart, Names, IsSame, Adds};
-ghost use Rattle.doc_values.specs.Texts.{key_text};
-ghost use Rattle.doc_values.specs.Rows.{Row};
-ghost use Rattle.doc_values.specs.Index.{AreKeys, IsNewUnder};
+ghost use Rattle.doc_values.specs.code.Keys.{number_of, IsApart, Names, IsSame, Adds};
+ghost use Rattle.doc_values.specs.code.Texts.{key_text};
+ghost use Rattle.doc_values.specs.code.Rows.{Row};
+ghost use Rattle.doc_values.specs.code.Index.{AreKeys, IsNewUnder};
 
 use std::alloc::{AllocError, Global};
 use std::borrow::CowStr;

@@ -1,7 +1,7 @@
 //! A node of a tree as it is stored.
 ghost use Rattle.std.specs.Prelude.{◌≡◌, ℕ, Option, IfOk};
-ghost use Rattle.doc_values.specs.Texts.{key_text};
-ghost use Rattle.doc_values.specs.Rows.{above};
+ghost use Rattle.doc_values.specs.code.Texts.{key_text};
+ghost use Rattle.doc_values.specs.code.Rows.{above};
 
 use crate::stored::StoredKind;
 use std::alloc::{AllocError, Global};
@@ -37,9 +37,9 @@ pub struct Node<'s> {
 }
 
 impl<'s> Model for Node<'s> {
-    ghost use Rattle.doc_values.specs.Rows.{Row};
-    ghost use Rattle.doc_values.specs.Texts.{key_text};
-    ghost use Rattle.doc_values.specs.Stored.{kind_of};
+    ghost use Rattle.doc_values.specs.code.Rows.{Row};
+    ghost use Rattle.doc_values.specs.code.Texts.{key_text};
+    ghost use Rattle.doc_values.specs.code.Stored.{kind_of};
     ghost use Rattle.std.specs.Cow.{cow_str_bytes};
 
     ghost Value = { Row };

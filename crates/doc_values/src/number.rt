@@ -3,7 +3,7 @@ ghost use Rattle.std.specs.Prelude.{◌≡◌, ℕ, ◌+◌, ◌-◌, ◌*◌, �
 ghost use mir.Syntax.{w64};
 ghost use Rattle.doc_values.specs.Decimal.{Decimal, IsNormal};
 ghost use Rattle.doc_values.specs.Number.{IsNumber, is_digit, AreDigits, number, number_behind, signed, scaled, IsDecimalOf, IsValue};
-ghost use Rattle.doc_values.specs.Reading.{digits, behind, minus_of, behind_minus, behind_sign, point_of, fraction_of, behind_fraction, is_mark, mark_of, down_of, power_of, behind_power, read, is_whole, is_filled, is_nil, is_number, cap, IsHeld};
+ghost use Rattle.doc_values.specs.code.Reading.{digits, behind, minus_of, behind_minus, behind_sign, point_of, fraction_of, behind_fraction, is_mark, mark_of, down_of, power_of, behind_power, read, is_whole, is_filled, is_nil, is_number, cap, IsHeld};
 ghost use Rattle.doc_values.specs.declared.decimal.Num.{Num};
 
 use crate::decimal::{Decimal, LIMIT, Num};
@@ -25,7 +25,7 @@ struct Parts<'t> {
 
 impl<'t> Model for Parts<'t> {
     ghost use Rattle.doc_values.specs.Number.{Parts};
-    ghost use Rattle.doc_values.specs.Reading.{parts_code};
+    ghost use Rattle.doc_values.specs.code.Reading.{parts_code};
 
     ghost Value = { Parts };
 

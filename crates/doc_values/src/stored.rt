@@ -1,6 +1,6 @@
 //! Kinds as they are stored.
 ghost use Rattle.std.specs.Prelude.{◌≡◌, IfOk};
-ghost use Rattle.doc_values.specs.Stored.{kind_of};
+ghost use Rattle.doc_values.specs.code.Stored.{kind_of};
 
 use crate::decimal::{Decimal, Range};
 use crate::kind::Kind;

@@ -3,7 +3,7 @@ ghost use Rattle.std.specs.Prelude.{◌≡◌, ◌≤◌, List, length, IfOk};
 ghost use Rattle.guard_lexer.specs.Lexes as lex;
 ghost use Rattle.guard_lexer.specs.declared.token.Token.{Token};
 ghost use Rattle.guard_parser.specs.File.{Rules};
-ghost use Rattle.guard_syntax.specs.Seen.{see_file};
+ghost use Rattle.guard_syntax.specs.code.Seen.{see_file};
 ghost use Rattle.rule_meaning.specs.Functions.{text_tree};
 
 use doc_values::{Doc, DocBuilder, Kind};

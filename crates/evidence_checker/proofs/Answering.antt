@@ -3,21 +3,21 @@ use Rattle.std.proofs.Common.{◌≡◌, ℕ, suc, ap, sym, ◌∙◌, subst, in
 use Rattle.doc_values.specs.Tree.{Forest}
 use Rattle.evidence_lines.specs.declared.line.Line.{Line}
 use Rattle.evidence_lines.specs.declared.version.Version.{Version}
-use Rattle.guard_syntax.specs.Seen.{disj_list, see_disj, see_rule}
+use Rattle.guard_syntax.specs.code.Seen.{disj_list, see_disj, see_rule}
 use Rattle.guard_syntax.specs.Syntax.{Disjs, File}
 use Rattle.guard_syntax.specs.declared.syntax.Disj.{Disj as HeldDisj}
 use Rattle.guard_syntax.specs.declared.syntax.Rule.{Rule as BookCovers}
 use Rattle.guard_syntax.specs.declared.row.Verdict.{Verdict}
-use Rattle.rule_names.specs.Files.{file_of}
+use Rattle.rule_names.specs.code.Files.{file_of}
 use Rattle.rule_names.specs.declared.file.RuleFile.{RuleFile}
 use Rattle.rule_meaning.specs.StoreModel.{StoreModel, Made}
-use Rattle.value_compare.specs.Stores.{see_store}
+use Rattle.value_compare.specs.code.Stores.{see_store}
 use Rattle.value_compare.specs.declared.store.Store.{Store}
 use Rattle.evidence_rules.specs.Follows.{Accepts, AllFollow, nothing_made}
 use Rattle.evidence_rules.specs.RuleLines.{AreOfLoose, AreOfRules}
 use Rattle.evidence_rules.specs.Rejected.{IsRejectedAt}
-use Rattle.evidence_lookups.specs.JudgedSites.{AreJudged}
-use Rattle.evidence_checker.specs.Judging.{IsFaultAt, IsLooseWanting, IsRuleWanting, IsWanting}
+use Rattle.evidence_lookups.specs.code.JudgedSites.{AreJudged}
+use Rattle.evidence_checker.specs.code.Judging.{IsFaultAt, IsLooseWanting, IsRuleWanting, IsWanting}
 use Rattle.evidence_checker.proofs.RuleVerdicts.{loose-judged, not-all, rules-judged}
 
 -- what a new store knows

@@ -6,7 +6,7 @@ use Rattle.evidence_lines.specs.Lines.{line_of}
 use Rattle.evidence_lines.specs.declared.line.Line.{Line}
 use Rattle.evidence_lines.specs.declared.line.LineKind.{LineKind}
 use Rattle.evidence_lines.specs.declared.line.Outcome.TheVariants as says
-use Rattle.guard_syntax.specs.Seen.{expr_list, see_expr}
+use Rattle.guard_syntax.specs.code.Seen.{expr_list, see_expr}
 use Rattle.guard_syntax.specs.Syntax as sx
 use Rattle.guard_syntax.specs.declared.row.Row.{Row}
 use Rattle.guard_syntax.specs.declared.row.Row.TheVariants.{Found}
@@ -15,7 +15,7 @@ use Rattle.rule_names.specs.Uses.{count_exprs, expr_in}
 use Rattle.rule_meaning.specs.StoreModel.{StoreModel}
 use Rattle.evidence_rules.specs.CitedLines.{GiveArgs, GivesExpr, IsLine}
 use Rattle.rule_meaning.specs.Roots.{literal_ref}
-use Rattle.evidence_lookups.specs.Said.{AreSound}
+use Rattle.evidence_lookups.specs.code.Said.{AreSound}
 use Rattle.evidence_lookups.proofs.SaidKnown.{literal-said}
 
 module _ (file : sx.File) (lines : List Line) (frame : ℕ) where

@@ -10,10 +10,10 @@ use Rattle.std.proofs.lemmas.Slice.Eq.{bytes_eq-Decides}
 use Rattle.std.proofs.lemmas.Option.{MatchOption-at_none, MatchOption-at_some, none-some, same_Some}
 use Rattle.evidence_lines.specs.declared.line.Line.{Line}
 use Rattle.evidence_lines.specs.declared.line.LineKind.TheVariants as kind
-use Rattle.guard_builtins.specs.Seen.{see_made, see_rows}
+use Rattle.guard_builtins.specs.code.Seen.{see_made, see_rows}
 use Rattle.guard_builtins.specs.declared.made.Made as types
 use Rattle.guard_syntax.specs.Functions.{IsNamed, name_of}
-use Rattle.guard_syntax.specs.Seen.{expr_list, see_expr}
+use Rattle.guard_syntax.specs.code.Seen.{expr_list, see_expr}
 use Rattle.guard_syntax.specs.Syntax as sx
 use Rattle.guard_syntax.specs.declared.syntax.Expr.{Expr, the_lemmas}
 use Rattle.guard_syntax.specs.declared.syntax.Expr as expr
@@ -23,10 +23,10 @@ use Rattle.guard_syntax.specs.declared.row.Row.{Row}
 use Rattle.rule_names.specs.WellNamed.{WellNamed}
 use Rattle.rule_names.specs.Pieces.{AreInOrder, OfExpr, OfStep, Piece, piece_at, pieces_expr}
 use Rattle.rule_names.specs.Uses.{arity, function_named, functions}
-use Rattle.rule_names.specs.Within.{StandsIn}
+use Rattle.rule_names.specs.code.Within.{StandsIn}
 use Rattle.rule_names.proofs.Arguments.{named-none}
 use Rattle.rule_names.proofs.PiecesStand.{piece-stands}
-use Rattle.value_compare.specs.Books.{IsBookOf, has_text}
+use Rattle.value_compare.specs.code.Books.{IsBookOf, has_text}
 use Rattle.rule_meaning.specs.Functions.{Functions, MadeRow, argument, single_text}
 use Rattle.rule_meaning.specs.StoreModel.{StoreModel, Made, is_known}
 use Rattle.value_compare.proofs.OneAnswer.{answers-same}
@@ -35,9 +35,9 @@ use Rattle.evidence_rules.specs.Follows.{FollowsAtExpr, FollowsRows}
 use Rattle.rule_meaning.specs.Seeing.{grown, rows_kept, trees_kept}
 use Rattle.query_steps.proofs.KnownAnswers.{answer-known}
 use Rattle.query_steps.proofs.SeenAnswers.{answer-known as kept-known}
-use Rattle.evidence_lookups.specs.Said.{AreSound}
-use Rattle.evidence_checker.specs.Calls.{IsAnswered, IsCall, IsCallAt}
-use Rattle.evidence_checker.specs.Judging.{AreMadeWithin}
+use Rattle.evidence_lookups.specs.code.Said.{AreSound}
+use Rattle.evidence_checker.specs.code.Calls.{IsAnswered, IsCall, IsCallAt}
+use Rattle.evidence_checker.specs.code.Judging.{AreMadeWithin}
 use Rattle.evidence_checker.proofs.ArgumentsGiven.{args-literal, args-many, args-one}
 use Rattle.rule_names.proofs.FittingCalls.{arguments-counted}
 use Rattle.evidence_lookups.proofs.SaidKnown.{args-said-known}

@@ -11,7 +11,7 @@ use Rattle.guard_syntax.specs.declared.row.Verdict.{Verdict}
 use Rattle.guard_syntax.specs.declared.row.Verdict.TheVariants.{Pass, Fail, Skip}
 use Rattle.rule_meaning.specs.StoreModel.{StoreModel}
 use Rattle.evidence_rules.specs.Follows.{Guarded, Under, UnderSome, conds_site}
-use Rattle.evidence_checker.specs.FirstCites.{IsGuard, IsSomeGuard}
+use Rattle.evidence_checker.specs.code.FirstCites.{IsGuard, IsSomeGuard}
 use Rattle.evidence_checker.proofs.SaidOnce.{same-verdict}
 
 pub decide-given : {A : Type 0} (Gives Then : A → Type 0) (x : A) (r : Bool) → ((y : A) → Gives y → y ≡ x) → Gives x

@@ -3,7 +3,7 @@ use Rattle.std.proofs.Common.{◌≡◌, ℕ, List, [], ◌∷◌, Option, None,
 use Rattle.evidence_lines.specs.declared.line.Line.{Line}
 use Rattle.evidence_lines.specs.declared.line.LineKind.TheVariants as kind
 use Rattle.evidence_lines.specs.declared.line.Outcome.TheVariants as says
-use Rattle.guard_syntax.specs.Seen.{see_conds}
+use Rattle.guard_syntax.specs.code.Seen.{see_conds}
 use Rattle.guard_syntax.specs.Syntax as sx
 use Rattle.guard_syntax.specs.declared.row.Row.{Row}
 use Rattle.guard_syntax.specs.declared.row.Verdict.{Verdict}
@@ -15,7 +15,7 @@ use Rattle.evidence_rules.specs.Follows.{FollowsBlock, FollowsBody, FollowsRowsO
 use Rattle.rule_meaning.specs.Keys.{passes}
 use Rattle.rule_meaning.specs.SetTests.{is_empty_test, is_set}
 use Rattle.rule_meaning.specs.Verdicts.{set_verdict, test_verdict}
-use Rattle.evidence_checker.specs.FirstCites.{IsGuard}
+use Rattle.evidence_checker.specs.code.FirstCites.{IsGuard}
 use Rattle.evidence_checker.proofs.Decided.{decide-given}
 use Rattle.evidence_checker.proofs.SaidOnce.{same-query, same-right, same-rows}
 

@@ -9,7 +9,7 @@ use Rattle.guard_syntax.specs.declared.row.Verdict.{Verdict}
 use Rattle.guard_syntax.specs.declared.row.Verdict.TheVariants.{Pass}
 use Rattle.evidence_rules.specs.CitedLines.{IsLine}
 use Rattle.evidence_rules.specs.Follows.{conds_site}
-use Rattle.evidence_checker.specs.FirstCites.{IsGuard, IsSomeGuard, opt_conds_site}
+use Rattle.evidence_checker.specs.code.FirstCites.{IsGuard, IsSomeGuard, opt_conds_site}
 use Rattle.evidence_checker.proofs.FirstSaid.{guard-never, guard-said}
 
 module _ (lines : List Line) (frame : ℕ) (cond : Option ℕ) (cites : List ℕ) where

@@ -9,19 +9,19 @@ use Rattle.std.proofs.lemmas.List.Elements.{All-append, All-cons, All-head, All-
 use Rattle.std.proofs.lemmas.List.Sums.{AllPass-from_list_all}
 use Rattle.std.proofs.lemmas.Option.{get_or_from_slice_get, slice_get-get_or, slice_get_within}
 use Rattle.doc_values.specs.Tree.{Forest}
-use Rattle.guard_builtins.specs.Seen.{is_plain, see_made}
+use Rattle.guard_builtins.specs.code.Seen.{is_plain, see_made}
 use Rattle.guard_builtins.specs.declared.made.Made as types
 use Rattle.guard_builtins.specs.declared.made.Made.TheVariants as code
 use Rattle.guard_syntax.specs.declared.row.Row.{Row}
 use Rattle.rule_meaning.specs.Functions.{MadeRow, New, Kept}
 use Rattle.rule_meaning.specs.StoreModel.{StoreModel, Made, made_at}
 use Rattle.rule_meaning.specs.Values.{has_pattern}
-use Rattle.value_compare.specs.Stores.{see_store}
+use Rattle.value_compare.specs.code.Stores.{see_store}
 use Rattle.value_compare.specs.declared.store.Store.{Store}
 use Rattle.rule_meaning.specs.Seeing.{are_called, grown, rows_kept, trees_kept}
 use Rattle.query_steps.proofs.RowsKept.{rows-more, trees-more, rows-many, absent-behind, absent-later, grown-more, added}
-use Rattle.evidence_checker.specs.Kept.{row_kept}
-use Rattle.evidence_checker.specs.Judging.{AreMadeWithin}
+use Rattle.evidence_checker.specs.code.Kept.{row_kept}
+use Rattle.evidence_checker.specs.code.Judging.{AreMadeWithin}
 
 -- ---- one row more
 

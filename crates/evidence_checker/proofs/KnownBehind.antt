@@ -6,7 +6,7 @@ use Rattle.evidence_lines.specs.declared.version.Version.{Version}
 use Rattle.rule_meaning.specs.StoreModel.{StoreModel, Made}
 use Rattle.evidence_rules.specs.Follows.{AllFollow, Follows}
 use Rattle.rule_meaning.specs.Seeing.{grown}
-use Rattle.evidence_checker.specs.Judging.{IsKnownBehind, Leads}
+use Rattle.evidence_checker.specs.code.Judging.{IsKnownBehind, Leads}
 
 -- at the start
 pub behind-none : (version : Version) (start : StoreModel) → IsKnownBehind version start [] start

@@ -4,7 +4,7 @@ use Rattle.std.proofs.lemmas.Bool.{true≢false}
 use Rattle.std.proofs.lemmas.List.{append-nil}
 use Rattle.rule_meaning.specs.StoreModel.{StoreModel, Made}
 use Rattle.rule_meaning.specs.Seeing.{grown}
-use Rattle.evidence_checker.specs.Judging.{Leads, Stays}
+use Rattle.evidence_checker.specs.code.Judging.{Leads, Stays}
 
 pub grown-nothing : (known : StoreModel) → grown known [] ≡ known
 grown-nothing known = ap (λ (ms : List Made). record { template = known.template; file = known.file; made = ms }) (append-nil known.made)

@@ -9,7 +9,7 @@ use Rattle.evidence_lines.specs.declared.line.LineKind.TheVariants as kind
 use Rattle.evidence_lines.specs.declared.line.Outcome.{Outcome}
 use Rattle.evidence_lines.specs.declared.line.Outcome.TheVariants as says
 use Rattle.evidence_lines.specs.declared.version.Version.{Version}
-use Rattle.guard_syntax.specs.Seen.{see_file}
+use Rattle.guard_syntax.specs.code.Seen.{see_file}
 use Rattle.guard_syntax.specs.declared.syntax.RawFile.{RawFile}
 use Rattle.guard_syntax.specs.Syntax.{Expr, File, kinds, literal, function, found}
 use Rattle.guard_syntax.specs.declared.row.Ref.{Ref}
@@ -21,7 +21,7 @@ use Rattle.rule_meaning.specs.StoreModel.{StoreModel, Made, is_known_ref}
 use Rattle.evidence_rules.specs.CitedLines.{scope_of}
 use Rattle.evidence_rules.specs.Follows.{Follows, FollowsAtExpr, FollowsIn, FollowsRows, FollowsVerdict, IsFileLine, IsFrameOf, home_for}
 use Rattle.rule_meaning.specs.Roots.{literal_ref, root_ref}
-use Rattle.evidence_lookups.specs.Said.{IsSound, is_known_outcome}
+use Rattle.evidence_lookups.specs.code.Said.{IsSound, is_known_outcome}
 use Rattle.evidence_checker.proofs.Leading.{Decided, decided-alike, nothing-decided}
 use Rattle.evidence_checker.proofs.SitesPlaced.{placed-nowhere}
 

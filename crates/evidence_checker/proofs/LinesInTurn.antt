@@ -5,16 +5,16 @@ use Rattle.std.proofs.Math.Seq.{take-suc}
 use Rattle.evidence_lines.specs.Shapes.{HasShape}
 use Rattle.evidence_lines.specs.declared.line.Line.{Line}
 use Rattle.evidence_lines.specs.declared.version.Version.{Version}
-use Rattle.guard_syntax.specs.Seen.{see_file}
+use Rattle.guard_syntax.specs.code.Seen.{see_file}
 use Rattle.guard_syntax.specs.declared.row.Verdict.{Verdict}
 use Rattle.guard_syntax.specs.declared.syntax.RawFile.{RawFile}
 use Rattle.rule_names.specs.Pieces.{AreInOrder}
 use Rattle.rule_meaning.specs.StoreModel.{StoreModel, Made}
 use Rattle.evidence_rules.specs.Follows.{AllFollow, Follows}
 use Rattle.evidence_rules.proofs.FollowingShapes.{follows-shape}
-use Rattle.evidence_lookups.specs.JudgedSites.{AreJudged}
-use Rattle.evidence_lookups.specs.Said.{AreSound, IsSound}
-use Rattle.evidence_checker.specs.Judging.{AreMadeWithin, IsFaultAt, IsKnownBehind, Leads}
+use Rattle.evidence_lookups.specs.code.JudgedSites.{AreJudged}
+use Rattle.evidence_lookups.specs.code.Said.{AreSound, IsSound}
+use Rattle.evidence_checker.specs.code.Judging.{AreMadeWithin, IsFaultAt, IsKnownBehind, Leads}
 use Rattle.evidence_checker.proofs.KnownBehind.{all-follow, behind-more, stuck}
 use Rattle.evidence_checker.proofs.LinesFollowing.{sited-within}
 use Rattle.evidence_checker.proofs.SoundLines.{sound-behind}

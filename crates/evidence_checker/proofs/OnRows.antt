@@ -16,7 +16,7 @@ use Rattle.rule_meaning.specs.StoreModel.{StoreModel}
 use Rattle.evidence_rules.specs.CitedLines.{IsLine, body_site}
 use Rattle.evidence_rules.specs.Follows.{Behind, FollowsRowsOf, SayRows, SaysBody, block_stop, is_stop, missing_fails}
 use Rattle.rule_meaning.specs.Verdicts.{block_verdict}
-use Rattle.evidence_checker.specs.FirstCites.{SaysRow}
+use Rattle.evidence_checker.specs.code.FirstCites.{SaysRow}
 use Rattle.evidence_checker.proofs.SaidOnce.{same-body}
 
 -- a body on rows, behind rows that have a verdict already

@@ -8,7 +8,7 @@ use Rattle.guard_syntax.specs.declared.row.Row.{Row}
 use Rattle.guard_syntax.specs.declared.row.Verdict.{Verdict}
 use Rattle.guard_syntax.specs.declared.row.Verdict.TheVariants.{Skip}
 use Rattle.rule_meaning.specs.Verdicts.{pass_if, test_verdict}
-use Rattle.evidence_checker.specs.TestedRows.{holds_for}
+use Rattle.evidence_checker.specs.code.TestedRows.{holds_for}
 
 module _ (holds : Row → Bool) where
   decided : (any b : Bool) (row : Row) (rows : List Row) → b ≡ holds row → beq b any ≡ true → any ≡ holds_for any holds (row ∷ rows)

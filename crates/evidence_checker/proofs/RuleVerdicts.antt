@@ -5,7 +5,7 @@ use Rattle.std.proofs.lemmas.Bool.Decides.{nat_tests}
 use Rattle.std.proofs.lemmas.List.{drop_all, get_or-map, length-map, nil_from_length}
 use Rattle.evidence_lines.specs.declared.line.Line.{Line}
 use Rattle.evidence_lines.specs.declared.line.Outcome.TheVariants as says
-use Rattle.guard_syntax.specs.Seen.{disj_list, see_disj, see_rule}
+use Rattle.guard_syntax.specs.code.Seen.{disj_list, see_disj, see_rule}
 use Rattle.guard_syntax.specs.declared.syntax.Disj.{Disj as HeldDisj}
 use Rattle.guard_syntax.specs.declared.syntax.Rule.{Rule as BookCovers}
 use Rattle.guard_syntax.specs.Named.{Named}
@@ -14,8 +14,8 @@ use Rattle.guard_syntax.specs.declared.row.Verdict.{Verdict}
 use Rattle.rule_meaning.specs.StoreModel.{StoreModel}
 use Rattle.evidence_rules.specs.Follows.{IsJudged, IsLooseJudged, IsNewRule}
 use Rattle.evidence_rules.specs.RuleLines.{AreFrom, AreOfLoose, AreOfRules, IsSaidOf}
-use Rattle.evidence_lookups.specs.JudgedSites.{AreJudged, IsJudgedAs, IsUnjudged}
-use Rattle.evidence_checker.specs.Judging.{IsLooseWanting, IsRuleWanting, IsWanting}
+use Rattle.evidence_lookups.specs.code.JudgedSites.{AreJudged, IsJudgedAs, IsUnjudged}
+use Rattle.evidence_checker.specs.code.Judging.{IsLooseWanting, IsRuleWanting, IsWanting}
 
 -- a rule without parameters has the first verdict
 from-none : (params : List Named) (Is : Verdict → Type 0) (AreOthers : List Verdict → Type 0) (verdict : Verdict) (verdicts : List Verdict)

@@ -1,7 +1,7 @@
 -- Whether the rows of a query are a set, by its one step or none.
 use Rattle.std.proofs.Common.{◌≡◌, ◌≤◌, ◌<◌, ◌||◌, Bool, true, false, List, [], ◌∷◌, length, map, get_or, refl, ap, sym, ◌∙◌, arith}
 use Rattle.guard_syntax.specs.Syntax as sx
-use Rattle.guard_syntax.specs.Seen.{see_query, see_step, step_list}
+use Rattle.guard_syntax.specs.code.Seen.{see_query, see_step, step_list}
 use Rattle.guard_syntax.specs.declared.syntax.Query.{Query, out-Query}
 use Rattle.guard_syntax.specs.declared.syntax.Step.{Step}
 use Rattle.rule_meaning.specs.Places.{steps_in}

@@ -13,8 +13,8 @@ use Rattle.rule_meaning.specs.StoreModel.{StoreModel, Made, is_known, is_known_r
 use Rattle.rule_meaning.specs.Roots.{root_ref}
 use Rattle.rule_meaning.specs.Seeing.{grown}
 use Rattle.query_steps.proofs.SeenGrowth.{known-before, row-known-before}
-use Rattle.evidence_lookups.specs.Said.{AreSound, IsSound, is_known_outcome}
-use Rattle.evidence_checker.specs.Judging.{AreMadeWithin}
+use Rattle.evidence_lookups.specs.code.Said.{AreSound, IsSound, is_known_outcome}
+use Rattle.evidence_checker.specs.code.Judging.{AreMadeWithin}
 
 rows-on : (known : StoreModel) (more : List Made) (rows : List Row) → list_all (is_known known) rows ≡ true → list_all (is_known (grown known more)) rows ≡ true
 rows-on known more [] all = refl

@@ -16,7 +16,7 @@ use Rattle.rule_meaning.specs.StoreModel.{StoreModel}
 use Rattle.evidence_rules.specs.CitedLines.{GivesExpr, GivesStep, GivesVariable, value_of}
 use Rattle.evidence_rules.specs.Follows.{FollowsCapture, FollowsFilter, FollowsStep, GivesBefore, GivesFurther, GivesRight, HasValue, SayEach, SaysCandidate}
 use Rattle.rule_meaning.specs.Places.{IsStartAt, Placed, candidates_at, is_after_key, placed_in, placed_of, rows_at_step, step_in, steps_in}
-use Rattle.evidence_checker.specs.FirstCites.{GivesAlone}
+use Rattle.evidence_checker.specs.code.FirstCites.{GivesAlone}
 use Rattle.evidence_checker.proofs.StepsSeen.{NamesNothing}
 use Rattle.evidence_checker.proofs.OneGiven.{one-of-expr, one-of-variable, one-rows, one-there, one-verdict}
 

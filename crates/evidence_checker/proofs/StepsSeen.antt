@@ -1,7 +1,7 @@
 -- Steps by their forms.
 use Rattle.std.proofs.Common.{◌≡◌, ℕ, Bool, List, Option, false, refl, ap, sym, subst, ◌∙◌, rules}
 use Rattle.guard_syntax.specs.Syntax as sx
-use Rattle.guard_syntax.specs.Seen.{see_conds, see_expr, see_form, see_step}
+use Rattle.guard_syntax.specs.code.Seen.{see_conds, see_expr, see_form, see_step}
 use Rattle.guard_syntax.specs.Named.{Named}
 use Rattle.guard_syntax.specs.declared.syntax.Conds.{Conds, out-Conds}
 use Rattle.guard_syntax.specs.declared.syntax.Expr.{Expr}

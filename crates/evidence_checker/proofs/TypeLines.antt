@@ -3,7 +3,7 @@ use Rattle.std.proofs.Common.{◌≡◌, ℕ, Bool, true, false, refl, ap, sym, 
 use Rattle.evidence_lines.specs.declared.line.Line.{Line}
 use Rattle.evidence_lines.specs.declared.line.LineKind.{LineKind}
 use Rattle.evidence_lines.specs.declared.line.LineKind.TheVariants as kind
-use Rattle.guard_syntax.specs.Seen.{see_part}
+use Rattle.guard_syntax.specs.code.Seen.{see_part}
 use Rattle.guard_syntax.specs.Syntax.{Part, kinds}
 use Rattle.guard_syntax.specs.declared.row.Ref.{Ref}
 use Rattle.guard_syntax.specs.declared.row.Row.{Row}

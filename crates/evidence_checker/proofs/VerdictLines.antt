@@ -4,7 +4,7 @@ use Rattle.evidence_lines.specs.declared.line.Line.{Line}
 use Rattle.evidence_lines.specs.declared.line.LineKind.{LineKind}
 use Rattle.evidence_lines.specs.declared.line.LineKind.TheVariants as kind
 use Rattle.evidence_lines.specs.declared.version.Version.{Version}
-use Rattle.guard_syntax.specs.Seen.{disj_list, see_body, see_conds, see_disj}
+use Rattle.guard_syntax.specs.code.Seen.{disj_list, see_body, see_conds, see_disj}
 use Rattle.guard_syntax.specs.Syntax as sx
 use Rattle.guard_syntax.specs.declared.row.Verdict.{Verdict}
 use Rattle.guard_syntax.specs.declared.syntax.Body.{Body, out-Body, the_lemmas as body_lemmas}

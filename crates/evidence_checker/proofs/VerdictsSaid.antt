@@ -9,7 +9,7 @@ use Rattle.evidence_lines.specs.declared.line.LineKind.{LineKind}
 use Rattle.evidence_lines.specs.declared.line.LineKind.TheVariants as kind
 use Rattle.evidence_lines.specs.declared.line.Outcome.TheVariants as says
 use Rattle.guard_syntax.specs.Syntax as sx
-use Rattle.guard_syntax.specs.Seen.{disj_list, part_list, see_disj, see_part}
+use Rattle.guard_syntax.specs.code.Seen.{disj_list, part_list, see_disj, see_part}
 use Rattle.guard_syntax.specs.declared.row.Verdict.{Verdict}
 use Rattle.guard_syntax.specs.declared.row.Verdict.TheVariants.{Pass, Fail, Skip}
 use Rattle.guard_syntax.specs.declared.syntax.Disj.{Disj, the_lemmas}

@@ -1,6 +1,1 @@
-pub mod Answered
-pub mod Calls
-pub mod FirstCites
-pub mod Judging
-pub mod Kept
-pub mod TestedRows
+pub mod code

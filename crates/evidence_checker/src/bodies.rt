@@ -9,7 +9,7 @@ ghost use Rattle.evidence_rules.specs.CitedLines.{IsLine, body_site};
 ghost use Rattle.evidence_rules.specs.Follows.{FollowsBody, FollowsRowsOf, SaysBody, block_stop};
 ghost use Rattle.rule_meaning.specs.StoreModel.{StoreModel};
 ghost use Rattle.rule_meaning.specs.Verdicts.{block_verdict, conjunction, disjunction};
-ghost use Rattle.evidence_checker.specs.FirstCites.{SaysRow};
+ghost use Rattle.evidence_checker.specs.code.FirstCites.{SaysRow};
 
 use crate::stops::{block_stop, is_stop};
 use evidence_lines::{Line, LineKind, Outcome, Version};

@@ -3,19 +3,19 @@ ghost use Rattle.std.specs.Prelude.{◌≡◌, ◌^◌, ◌<◌, ◌≤◌, ◌+
 ghost use Rattle.doc_values.specs.Tree.{Forest};
 ghost use Rattle.evidence_lines.specs.declared.line.Line.{Line};
 ghost use Rattle.evidence_lines.specs.declared.version.Version.{Version};
-ghost use Rattle.guard_syntax.specs.Seen.{disj_list, see_disj, see_file, see_rule};
+ghost use Rattle.guard_syntax.specs.code.Seen.{disj_list, see_disj, see_file, see_rule};
 ghost use Rattle.guard_syntax.specs.Syntax.{Disjs};
 ghost use Rattle.guard_syntax.specs.declared.row.Verdict.{Verdict};
-ghost use Rattle.rule_names.specs.Files.{file_of};
-ghost use Rattle.value_compare.specs.Books.{IsBookOf};
-ghost use Rattle.value_compare.specs.Stores.{see_store};
+ghost use Rattle.rule_names.specs.code.Files.{file_of};
+ghost use Rattle.value_compare.specs.code.Books.{IsBookOf};
+ghost use Rattle.value_compare.specs.code.Stores.{see_store};
 ghost use Rattle.rule_meaning.specs.Values.{has_pattern};
 ghost use Rattle.evidence_rules.specs.Follows.{AllFollow, nothing_made};
 ghost use Rattle.evidence_rules.specs.RuleLines.{AreOfLoose, AreOfRules};
-ghost use Rattle.evidence_lookups.specs.JudgedSites.{AreJudged};
-ghost use Rattle.evidence_lookups.specs.Owned.{AreOwners};
-ghost use Rattle.evidence_checker.specs.Answered.{IsAnswer};
-ghost use Rattle.evidence_checker.specs.Judging.{IsFaultAt, IsLooseWanting, IsRuleWanting, IsWanting};
+ghost use Rattle.evidence_lookups.specs.code.JudgedSites.{AreJudged};
+ghost use Rattle.evidence_lookups.specs.code.Owned.{AreOwners};
+ghost use Rattle.evidence_checker.specs.code.Answered.{IsAnswer};
+ghost use Rattle.evidence_checker.specs.code.Judging.{IsFaultAt, IsLooseWanting, IsRuleWanting, IsWanting};
 
 use crate::line::line_follows;
 use doc_values::Doc;

@@ -2,18 +2,18 @@
 ghost use Rattle.std.specs.Prelude.{◌≡◌, ◌<◌, List, Some, true, suc, length, IfOk, MatchBool, []};
 ghost use Rattle.evidence_lines.specs.declared.line.LineKind.TheVariants as kind;
 ghost use Rattle.evidence_lines.specs.declared.line.Outcome.TheVariants as says;
-ghost use Rattle.rule_names.specs.Files.{file_of};
-ghost use Rattle.value_compare.specs.Books.{IsBookOf};
+ghost use Rattle.rule_names.specs.code.Files.{file_of};
+ghost use Rattle.value_compare.specs.code.Books.{IsBookOf};
 ghost use Rattle.rule_meaning.specs.StoreModel.{Made, is_known_ref};
-ghost use Rattle.value_compare.specs.Stores.{see_store};
+ghost use Rattle.value_compare.specs.code.Stores.{see_store};
 ghost use Rattle.evidence_rules.specs.CitedLines.{scope_of};
 ghost use Rattle.evidence_rules.specs.Follows.{Follows, FollowsIn, FollowsRows, IsFileLine, home_for};
 ghost use Rattle.rule_meaning.specs.Roots.{root_ref};
-ghost use Rattle.evidence_lookups.specs.Grounds.{file_in, known_of, lines_of, version_of};
-ghost use Rattle.evidence_lookups.specs.JudgedSites.{AreJudged};
-ghost use Rattle.evidence_lookups.specs.Said.{AreSound, IsSound, is_known_outcome};
-ghost use Rattle.evidence_lookups.specs.Owned.{AreOwners};
-ghost use Rattle.evidence_checker.specs.Judging.{AreMadeWithin, Leads, Stays};
+ghost use Rattle.evidence_lookups.specs.code.Grounds.{file_in, known_of, lines_of, version_of};
+ghost use Rattle.evidence_lookups.specs.code.JudgedSites.{AreJudged};
+ghost use Rattle.evidence_lookups.specs.code.Said.{AreSound, IsSound, is_known_outcome};
+ghost use Rattle.evidence_lookups.specs.code.Owned.{AreOwners};
+ghost use Rattle.evidence_checker.specs.code.Judging.{AreMadeWithin, Leads, Stays};
 
 use crate::calls::call_follows;
 use crate::rows::rows_follow;

@@ -1,10 +1,10 @@
 //! Rows that one cited line gives.
 ghost use Rattle.std.specs.Prelude.{List, MatchOption};
-ghost use Rattle.guard_syntax.specs.Seen.{see_expr};
+ghost use Rattle.guard_syntax.specs.code.Seen.{see_expr};
 ghost use Rattle.guard_syntax.specs.declared.row.Row.{Row};
-ghost use Rattle.rule_names.specs.Files.{file_of};
+ghost use Rattle.rule_names.specs.code.Files.{file_of};
 ghost use Rattle.evidence_rules.specs.CitedLines.{GivesExpr, GivesVariable};
-ghost use Rattle.evidence_checker.specs.FirstCites.{GivesAlone};
+ghost use Rattle.evidence_checker.specs.code.FirstCites.{GivesAlone};
 
 use evidence_lines::Line;
 use evidence_lookups::cited_rows::{given_by_expr, given_by_variable};

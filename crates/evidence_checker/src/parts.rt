@@ -1,14 +1,14 @@
 //! Lines of verdicts of single parts and of rules.
 ghost use Rattle.std.specs.Prelude.{◌≡◌, List, ℕ, IfOk, MatchBool, MatchOption};
 ghost use Rattle.evidence_lines.specs.declared.line.Line.{Line};
-ghost use Rattle.guard_syntax.specs.Seen.{see_body, see_opt_conds, see_part, see_query, see_rule};
+ghost use Rattle.guard_syntax.specs.code.Seen.{see_body, see_opt_conds, see_part, see_query, see_rule};
 ghost use Rattle.guard_syntax.specs.Syntax as sx;
 ghost use Rattle.guard_syntax.specs.declared.row.Verdict.{Verdict};
 ghost use Rattle.evidence_rules.specs.CitedLines.{body_site};
 ghost use Rattle.evidence_rules.specs.Follows.{FollowsAtPart, FollowsBlock, FollowsBody, FollowsRule, FollowsTyped, UnderSome, block_stop, kind_of_part};
 ghost use Rattle.rule_meaning.specs.StoreModel.{StoreModel};
-ghost use Rattle.evidence_lookups.specs.Grounds.{known_of, lines_of, version_of};
-ghost use Rattle.evidence_checker.specs.FirstCites.{IsSomeGuard, opt_conds_site};
+ghost use Rattle.evidence_lookups.specs.code.Grounds.{known_of, lines_of, version_of};
+ghost use Rattle.evidence_checker.specs.code.FirstCites.{IsSomeGuard, opt_conds_site};
 
 use crate::bodies::{body_follows, body_follows_on, ends_with};
 use crate::reference_lines::{call_follows, reference_follows};

@@ -1,11 +1,11 @@
 //! Lines of rows.
 ghost use Rattle.std.specs.Prelude.{◌≡◌, List, [], Some, true, IfOk, MatchBool};
 ghost use Rattle.std.specs.List.{list_all};
-ghost use Rattle.guard_syntax.specs.Seen.{see_part};
+ghost use Rattle.guard_syntax.specs.code.Seen.{see_part};
 ghost use Rattle.rule_names.specs.Pieces.{OfPart, piece_at};
 ghost use Rattle.rule_meaning.specs.StoreModel.{Made, is_known};
 ghost use Rattle.evidence_rules.specs.Follows.{FollowsRows};
-ghost use Rattle.evidence_lookups.specs.Grounds.{file_in, known_of, lines_of};
+ghost use Rattle.evidence_lookups.specs.code.Grounds.{file_in, known_of, lines_of};
 
 use crate::row_equality::same_rows;
 use crate::step_rows::step_follows;

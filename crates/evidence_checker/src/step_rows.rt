@@ -2,15 +2,15 @@
 ghost use Rattle.std.specs.Prelude.{◌≡◌, ◌++◌, ℕ, List, Option, Some, true, false, IfOk, MatchBool, MatchOption};
 ghost use Rattle.std.specs.List.{list_all};
 ghost use Rattle.guard_syntax.specs.Named.{Named};
-ghost use Rattle.guard_syntax.specs.Seen.{see_conds, see_query, see_step};
+ghost use Rattle.guard_syntax.specs.code.Seen.{see_conds, see_query, see_step};
 ghost use Rattle.guard_syntax.specs.Syntax.{filter};
 ghost use Rattle.guard_syntax.specs.declared.row.Row as row;
-ghost use Rattle.rule_names.specs.Files.{file_of};
+ghost use Rattle.rule_names.specs.code.Files.{file_of};
 ghost use Rattle.rule_names.specs.Pieces.{OfStep, piece_at};
 ghost use Rattle.rule_meaning.specs.StoreModel.{StoreModel, is_known};
 ghost use Rattle.evidence_rules.specs.Follows.{FollowsAtStep, FollowsCapture, FollowsFilter, FollowsStep, GivesBefore, GivesFurther, IsLater};
 ghost use Rattle.rule_meaning.specs.Places.{is_filter, step_in, steps_in};
-ghost use Rattle.evidence_lookups.specs.Grounds.{file_in, known_of, lines_of};
+ghost use Rattle.evidence_lookups.specs.code.Grounds.{file_in, known_of, lines_of};
 
 use crate::one_cite::{expr_cited, variable_cited};
 use crate::row_equality::same_rows;

@@ -1,18 +1,18 @@
 //! Lines of verdicts of tests.
 ghost use Rattle.std.specs.Prelude.{◌≡◌, ◌&&◌, true, List, Option, ℕ, IfOk, MatchBool, MatchOption, if◌then◌else◌};
 ghost use Rattle.std.specs.List.{list_all, list_any};
-ghost use Rattle.guard_syntax.specs.Seen.{see_opt_expr, see_query, see_step};
+ghost use Rattle.guard_syntax.specs.code.Seen.{see_opt_expr, see_query, see_step};
 ghost use Rattle.guard_syntax.specs.Syntax.{more_steps, no_steps, test};
 ghost use Rattle.guard_syntax.specs.declared.row.Row.{Row};
-ghost use Rattle.rule_names.specs.Files.{file_of};
+ghost use Rattle.rule_names.specs.code.Files.{file_of};
 ghost use Rattle.rule_meaning.specs.StoreModel.{StoreModel, is_known};
 ghost use Rattle.evidence_rules.specs.Follows.{FollowsTest, GivesRight};
 ghost use Rattle.rule_meaning.specs.Keys.{passes};
 ghost use Rattle.rule_meaning.specs.SetTests as asked;
 ghost use Rattle.rule_meaning.specs.Verdicts as judged;
 ghost use Rattle.rule_meaning.specs.Verdicts.{set_verdict, test_verdict};
-ghost use Rattle.evidence_lookups.specs.Grounds.{known_of, lines_of};
-ghost use Rattle.evidence_checker.specs.TestedRows.{holds_for};
+ghost use Rattle.evidence_lookups.specs.code.Grounds.{known_of, lines_of};
+ghost use Rattle.evidence_checker.specs.code.TestedRows.{holds_for};
 
 use crate::one_cite::expr_cited;
 use evidence_lines::Line;

@@ -1,6 +1,6 @@
 //! The verdicts of what a filter tries.
 ghost use Rattle.std.specs.Prelude.{◌≡◌, List, IfOk, MatchOption};
-ghost use Rattle.guard_syntax.specs.Seen.{see_conds};
+ghost use Rattle.guard_syntax.specs.code.Seen.{see_conds};
 ghost use Rattle.guard_syntax.specs.declared.row.Verdict as row;
 ghost use Rattle.rule_meaning.specs.StoreModel.{StoreModel};
 ghost use Rattle.evidence_rules.specs.Follows.{SayEach, SaysCandidate};

@@ -3,15 +3,15 @@ ghost use Rattle.std.specs.Prelude.{◌≡◌, [], List, Some, map, IfOk, MatchB
 ghost use Rattle.evidence_lines.specs.declared.line.LineKind.TheVariants as kind;
 ghost use Rattle.evidence_lines.specs.declared.line.Outcome.TheVariants as says;
 ghost use Rattle.guard_syntax.specs.declared.row.Verdict.{Verdict};
-ghost use Rattle.guard_syntax.specs.Seen.{disj_list, part_list, see_disj, see_part};
+ghost use Rattle.guard_syntax.specs.code.Seen.{disj_list, part_list, see_disj, see_part};
 ghost use Rattle.rule_names.specs.Pieces.{piece_at};
-ghost use Rattle.rule_names.specs.Seen.{see_piece};
+ghost use Rattle.rule_names.specs.code.Seen.{see_piece};
 ghost use Rattle.rule_names.specs.ReferenceGraph.{part_site};
 ghost use Rattle.evidence_rules.specs.CitedLines.{IsLine};
 ghost use Rattle.evidence_rules.specs.Follows.{FollowsConj, FollowsDisj, FollowsLoose, FollowsVerdict, IsNewRule, SayDisjs, SayParts, SaysVerdict, kind_of_part};
 ghost use Rattle.rule_meaning.specs.StoreModel.{StoreModel};
 ghost use Rattle.rule_meaning.specs.Verdicts.{conjunction, disjunction};
-ghost use Rattle.evidence_lookups.specs.Grounds.{file_in, known_of, lines_of, version_of};
+ghost use Rattle.evidence_lookups.specs.code.Grounds.{file_in, known_of, lines_of, version_of};
 
 use crate::bodies::{both, either};
 use crate::parts::{part_follows, rule_follows};

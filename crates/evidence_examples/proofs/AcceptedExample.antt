@@ -19,12 +19,12 @@ use Rattle.rule_meaning.specs.StoreModel.{Made}
 use Rattle.evidence_rules.specs.CitedLines.{IsLine}
 use Rattle.evidence_rules.specs.Follows.{Follows, FollowsIn, AllFollow, Accepts, IsJudged}
 use Rattle.rule_meaning.specs.Keys.{passes}
-use Rattle.evidence_rules.specs.Lean.{IsLean}
+use Rattle.evidence_rules.specs.code.Lean.{IsLean}
 use Rattle.rule_meaning.specs.Verdicts.{is_pass, test_verdict}
 use Rattle.rule_names.specs.ReferenceGraph.{step_site}
-use Rattle.evidence_examples.specs.GivenLines.{node, said, file_line}
+use Rattle.evidence_examples.specs.code.GivenLines.{node, said, file_line}
 use Rattle.evidence_examples.proofs.GivenLines.{is-line, Each, IsNoRule, new-rule, IsNumbered, IsUsed, lean-by}
-use Rattle.evidence_examples.specs.FailingRule.{template, rule, file, line_2, line_3, line_4, line_5, line_6, line_7, line_8, line_9, line_10, six_lines, all_lines, known, passes_line, other_cite}
+use Rattle.evidence_examples.specs.code.FailingRule.{template, rule, file, line_2, line_3, line_4, line_5, line_6, line_7, line_8, line_9, line_10, six_lines, all_lines, known, passes_line, other_cite}
 
 -- the sites are numbered as they should be
 pub ordered : AreInOrder file

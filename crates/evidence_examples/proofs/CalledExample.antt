@@ -11,9 +11,9 @@ use Rattle.evidence_lines.specs.Lines.{line_of}
 use Rattle.rule_names.specs.Uses.{expr_in}
 use Rattle.evidence_rules.specs.CitedLines.{GivesArgument, GivesExpr}
 use Rattle.evidence_rules.specs.Follows.{Follows, AllFollow}
-use Rattle.evidence_examples.specs.GivenLines.{node, file_line}
+use Rattle.evidence_examples.specs.code.GivenLines.{node, file_line}
 use Rattle.evidence_examples.proofs.GivenLines.{is-line, Each, IsNoRule, new-rule}
-use Rattle.evidence_examples.specs.OneCall.{need_body, first_arg, second_arg, args, rule, file, known, rows, text_row, all_lines, line, first}
+use Rattle.evidence_examples.specs.code.OneCall.{need_body, first_arg, second_arg, args, rule, file, known, rows, text_row, all_lines, line, first}
 
 -- the sites are numbered as they should be
 pub ordered : AreInOrder file

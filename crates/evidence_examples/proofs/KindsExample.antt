@@ -12,9 +12,9 @@ use Rattle.rule_names.specs.Pieces.{AreInOrder}
 use Rattle.rule_names.specs.declared.bind.Bind.TheVariants as bound
 use Rattle.rule_meaning.specs.Functions.{New, whole_tree}
 use Rattle.evidence_rules.specs.Follows.{Follows, AllFollow}
-use Rattle.evidence_examples.specs.GivenLines.{node, file_line}
+use Rattle.evidence_examples.specs.code.GivenLines.{node, file_line}
 use Rattle.evidence_examples.proofs.GivenLines.{is-line, Each, IsNoRule, new-rule, IsOtherRule, new-site}
-use Rattle.evidence_examples.specs.OtherKinds.{filter_conds, when_conds, rule_c, rule_d, file, known, counted, after, rows, literal_row, key_row, counted_row, all_lines, line, first}
+use Rattle.evidence_examples.specs.code.OtherKinds.{filter_conds, when_conds, rule_c, rule_d, file, known, counted, after, rows, literal_row, key_row, counted_row, all_lines, line, first}
 
 -- the sites are numbered as they should be
 pub ordered : AreInOrder file

@@ -1,6 +1,1 @@
-pub mod DecidedCondition
-pub mod FailingRule
-pub mod GivenLines
-pub mod OneCall
-pub mod OneVariable
-pub mod OtherKinds
+pub mod code

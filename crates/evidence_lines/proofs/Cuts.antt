@@ -7,7 +7,7 @@ use Rattle.std.proofs.lemmas.List.{take_at, take-append-drop, drop_more, get_or_
 use Rattle.std.proofs.lemmas.List.Sums.{position_or_len_is, fails_before_first}
 use Rattle.std.proofs.lemmas.List.Quantifiers.{position-Some}
 use Rattle.std.proofs.lemmas.Option.{none-some, some_pair_parts}
-use Rattle.evidence_lines.specs.Reading.{cut, cut_by, is_at}
+use Rattle.evidence_lines.specs.code.Reading.{cut, cut_by, is_at}
 
 -- ---- what an `Option` was made from
 

@@ -8,7 +8,7 @@ use Rattle.std.proofs.lemmas.Option.{none-some}
 use Rattle.std.proofs.lemmas.Slice.Eq.{bytes_eq-Decides}
 use Rattle.guard_syntax.specs.declared.row.Verdict.{Verdict}
 use Rattle.guard_syntax.specs.declared.row.Verdict.TheVariants.{Pass, Fail, Skip}
-use Rattle.evidence_lines.specs.Reading.{cites_in, count_in, if_placed, is_none_sign, kind_in, kinds, list_in, outcome_in, ref_in, row_in, verdict_in}
+use Rattle.evidence_lines.specs.code.Reading.{cites_in, count_in, if_placed, is_none_sign, kind_in, kinds, list_in, outcome_in, ref_in, row_in, verdict_in}
 use Rattle.evidence_lines.specs.Shapes.{IsCount, IsOutcomeBounded, IsRowBounded, sort_said}
 use Rattle.evidence_lines.specs.Spelling.{kind_text, list_text, optional_text, outcome_text, row_text, verdict_text}
 use Rattle.evidence_lines.specs.declared.line.LineKind.{LineKind}

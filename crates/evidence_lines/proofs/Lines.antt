@@ -2,7 +2,7 @@
 use Rattle.std.proofs.Common.{◌≡◌, ◌<◌, ◌^◌, ℕ, List, [], ◌∷◌, ◌++◌, Some, decimal, refl, sym, ap, subst, ◌∙◌, arith, option_map, option_and_then}
 use Rattle.std.proofs.lemmas.List.{append_assoc}
 use Rattle.std.proofs.lemmas.Option.{some_pair_parts, same_Some}
-use Rattle.evidence_lines.specs.Reading.{Parts, Placed, cites_in, count_in, cut, frame_part, if_placed, kind_in, kind_part, line_at, line_by, line_in, line_of_parts, outcome_by, outcome_in, parts_in, parts_of, place_in, placed_at, placed_by, placed_in, site_by, site_part}
+use Rattle.evidence_lines.specs.code.Reading.{Parts, Placed, cites_in, count_in, cut, frame_part, if_placed, kind_in, kind_part, line_at, line_by, line_in, line_of_parts, outcome_by, outcome_in, parts_in, parts_of, place_in, placed_at, placed_by, placed_in, site_by, site_part}
 use Rattle.evidence_lines.specs.Shapes.{IsCount, IsInFormat, IsPlace, is_placed, may_cite, sort_of}
 use Rattle.evidence_lines.specs.Spelling.{behind_space, fields_text, kind_text, line_text, list_text, optional_text, outcome_text}
 use Rattle.evidence_lines.specs.declared.line.Line.{Line}

@@ -6,7 +6,7 @@ use Rattle.std.proofs.lemmas.List.{append-nil, append_assoc, flat_map_more, take
 use Rattle.std.proofs.lemmas.List.Elements.{All-nil, All-cons, All-head, All-tail}
 use Rattle.std.proofs.lemmas.List.Splits.{slice_split_none, slice_split_at, join_with_byte-slice_split}
 use Rattle.std.proofs.lemmas.Slice.Eq.{bytes_eq-Decides}
-use Rattle.evidence_lines.specs.Reading.{all_in, cut, is_at, is_none_sign, items_in, list_in}
+use Rattle.evidence_lines.specs.code.Reading.{all_in, cut, is_at, is_none_sign, items_in, list_in}
 use Rattle.evidence_lines.specs.Spelling.{further_text, list_text}
 use Rattle.evidence_lines.proofs.Bounds.{From, from_append, from_lesser, from_flat_map, free_from}
 use Rattle.evidence_lines.proofs.Cuts.{Free, cut_missing, cut_some, chained, mapped}

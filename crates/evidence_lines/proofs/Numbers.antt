@@ -10,7 +10,7 @@ use Rattle.std.proofs.lemmas.List.{get_or_default}
 use Rattle.std.proofs.lemmas.Option.{cond_some, none-some}
 use Rattle.std.proofs.lemmas.Str.{digit_value_digit}
 use Rattle.std.proofs.lemmas.Str.Parse.{IsNumeralModel, numerals_by_value, digit_at, digits_value-take-le}
-use Rattle.evidence_lines.specs.Reading.{count_in, place_in, if_place, is_numeral, sized_in}
+use Rattle.evidence_lines.specs.code.Reading.{count_in, place_in, if_place, is_numeral, sized_in}
 use Rattle.evidence_lines.proofs.Bounds.{From}
 use Rattle.evidence_lines.proofs.Cuts.{Free, chained}
 

@@ -8,8 +8,8 @@ use Rattle.std.proofs.lemmas.List.Elements.{All-nil, All-push, All-head, All-tai
 use Rattle.std.proofs.lemmas.Bool.{both_ways}
 use Rattle.std.proofs.lemmas.Option.{none-some, some_pair_parts}
 use Rattle.evidence_lines.specs.Headers.{header}
-use Rattle.evidence_lines.specs.Memory.{HasLine}
-use Rattle.evidence_lines.specs.Reading.{cut, line_in}
+use Rattle.evidence_lines.specs.code.Memory.{HasLine}
+use Rattle.evidence_lines.specs.code.Reading.{cut, line_in}
 use Rattle.evidence_lines.specs.Shapes.{IsInFormat}
 use Rattle.evidence_lines.specs.Spelling.{fields_text, line_text}
 use Rattle.evidence_lines.specs.Text.{FailsBehind, IsEvidence, IsFault, IsRefused, LacksHeader, LacksLine, evidence_text}

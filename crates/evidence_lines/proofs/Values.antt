@@ -8,7 +8,7 @@ use Rattle.guard_syntax.specs.declared.row.Origin.TheVariants.{Template, Literal
 use Rattle.guard_syntax.specs.declared.row.Ref.{Ref}
 use Rattle.guard_syntax.specs.declared.row.Row.{Row}
 use Rattle.guard_syntax.specs.declared.row.Row.TheVariants.{Found, Missing, Unmade}
-use Rattle.evidence_lines.specs.Reading.{cut, count_in, place_in, ref_at, node_by, node_in, literal_in, made_by, made_in, ref_in, missing_in, row_in}
+use Rattle.evidence_lines.specs.code.Reading.{cut, count_in, place_in, ref_at, node_by, node_in, literal_in, made_by, made_in, ref_in, missing_in, row_in}
 use Rattle.evidence_lines.specs.Shapes.{IsCount, IsPlace, IsOriginBounded, IsRefBounded, IsRowBounded}
 use Rattle.evidence_lines.specs.Spelling.{origin_text, key_text, ref_text, row_text}
 use Rattle.evidence_lines.proofs.Bounds.{From, from_append, from_lesser}

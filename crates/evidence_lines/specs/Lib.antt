@@ -1,9 +1,7 @@
 pub mod Headers
 pub mod Lines
-pub mod Memory
-pub mod Reading
-pub mod Seen
 pub mod Shapes
 pub mod Spelling
 pub mod Text
 pub mod Versioned
+pub mod code

@@ -3,7 +3,7 @@ ghost use Rattle.std.specs.Prelude.{◌≡◌, ◌+◌, ◌*◌, ◌<◌, ◌^�
 ghost use Rattle.std.specs.Char.{is_ascii_digit};
 ghost use Rattle.std.specs.List.{list_all, position};
 ghost use Rattle.std.specs.Str.Parse.{digits_value};
-ghost use Rattle.evidence_lines.specs.Reading.{count_in, cut, is_at, is_none_sign, is_numeral, literal_in, made_in, missing_in, node_in, place_in, ref_in, row_in, sized_in, verdict_in};
+ghost use Rattle.evidence_lines.specs.code.Reading.{count_in, cut, is_at, is_none_sign, is_numeral, literal_in, made_in, missing_in, node_in, place_in, ref_in, row_in, sized_in, verdict_in};
 
 use guard_syntax::{Origin, Ref, Row, Verdict};
 

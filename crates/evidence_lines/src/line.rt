@@ -1,6 +1,6 @@
 //! A line of evidence.
 ghost use Rattle.std.specs.Prelude.{◌≡◌};
-ghost use Rattle.evidence_lines.specs.Reading.{kind_in};
+ghost use Rattle.evidence_lines.specs.code.Reading.{kind_in};
 ghost use Rattle.evidence_lines.specs.Shapes.{is_placed, may_cite, sort_of};
 ghost use Rattle.evidence_lines.specs.Spelling.{kind_text};
 

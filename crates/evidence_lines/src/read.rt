@@ -1,9 +1,9 @@
 //! Evidence, read from its bytes.
 ghost use Rattle.std.specs.Prelude.{◌≡◌, ◌⊎◌, ◌++◌, ℕ, List, IfErr, IfOk, MatchOption, MatchResult, option_map};
 ghost use Rattle.evidence_lines.specs.Headers.{header};
-ghost use Rattle.evidence_lines.specs.Memory.{HasLine};
-ghost use Rattle.evidence_lines.specs.Reading.{cites_in, count_in, if_placed, items_in, line_in, line_of_parts, list_in, outcome_in, parts_in, place_in, placed_in, row_in};
-ghost use Rattle.evidence_lines.specs.Seen.{fields_seen, placed_seen};
+ghost use Rattle.evidence_lines.specs.code.Memory.{HasLine};
+ghost use Rattle.evidence_lines.specs.code.Reading.{cites_in, count_in, if_placed, items_in, line_in, line_of_parts, list_in, outcome_in, parts_in, place_in, placed_in, row_in};
+ghost use Rattle.evidence_lines.specs.code.Seen.{fields_seen, placed_seen};
 ghost use Rattle.evidence_lines.specs.Shapes.{is_placed, may_cite, sort_of};
 ghost use Rattle.evidence_lines.specs.Text.{IsEvidence, IsFault, IsRefused};
 ghost use Rattle.evidence_lines.specs.declared.line.Line.{Line};

@@ -6,7 +6,7 @@ use Rattle.doc_values.specs.Tree.{Forest}
 use Rattle.evidence_lines.specs.declared.line.Line.{Line}
 use Rattle.evidence_lines.specs.declared.line.LineKind.{LineKind}
 use Rattle.evidence_lines.specs.declared.line.LineKind.TheVariants as kind
-use Rattle.guard_syntax.specs.Seen.{expr_list, see_expr, see_query}
+use Rattle.guard_syntax.specs.code.Seen.{expr_list, see_expr, see_query}
 use Rattle.guard_syntax.specs.Syntax as sx
 use Rattle.guard_syntax.specs.declared.row.Row.{Row}
 use Rattle.guard_syntax.specs.declared.row.Row.TheVariants.{Found}
@@ -16,7 +16,7 @@ use Rattle.guard_syntax.specs.declared.syntax.Query.{Query}
 use Rattle.rule_meaning.specs.StoreModel.{Made, StoreModel}
 use Rattle.rule_meaning.specs.Roots.{literal_ref}
 use Rattle.evidence_rules.specs.Follows.{FollowsAtExpr}
-use Rattle.evidence_lookups.specs.FoundRows.{AreFoundBy}
+use Rattle.evidence_lookups.specs.code.FoundRows.{AreFoundBy}
 
 literal-seen : (site : ℕ) (tree : Forest) → see_expr (expr.Literal site tree) ≡ sx.literal site tree
 literal-seen site tree = search (rules, the_lemmas)

@@ -8,7 +8,7 @@ use Rattle.std.proofs.lemmas.List.Elements.{All-filter}
 use Rattle.std.proofs.lemmas.List.Sums.{AllPass-from_list_all, list_all-from_AllPass}
 use Rattle.doc_values.specs.Tree.{Forest, IsTree, size}
 use Rattle.evidence_lines.specs.declared.line.Line.{Line}
-use Rattle.guard_syntax.specs.Seen.{see_expr}
+use Rattle.guard_syntax.specs.code.Seen.{see_expr}
 use Rattle.guard_syntax.specs.Syntax as sx
 use Rattle.guard_syntax.specs.declared.row.Row.{Row}
 use Rattle.guard_syntax.specs.declared.row.Row.TheVariants.{Found}
@@ -18,8 +18,8 @@ use Rattle.rule_names.specs.Pieces.{OfExpr, Piece, piece_at}
 use Rattle.rule_meaning.specs.StoreModel.{StoreModel, is_known, is_known_ref, literal_at, tree_of_piece}
 use Rattle.rule_meaning.specs.Roots.{literal_ref}
 use Rattle.rule_meaning.specs.Verdicts.{is_found}
-use Rattle.evidence_lookups.specs.FoundRows.{AreFoundBy}
-use Rattle.evidence_lookups.specs.Said.{AreSound}
+use Rattle.evidence_lookups.specs.code.FoundRows.{AreFoundBy}
+use Rattle.evidence_lookups.specs.code.Said.{AreSound}
 use Rattle.evidence_lookups.proofs.SaidKnown.{query-said-known}
 use Rattle.evidence_lookups.proofs.ValuesKnown.{tree-root}
 

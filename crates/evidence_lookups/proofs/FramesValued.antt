@@ -3,7 +3,7 @@ use Rattle.std.proofs.Common.{◌≡◌, ◌⊎◌, ℕ, Bool, true, false, List
 use Rattle.std.specs.Prelude.{slice_index_or}
 use Rattle.std.proofs.lemmas.Option.{none-some}
 use Rattle.evidence_lines.specs.declared.line.Line.{Line}
-use Rattle.guard_syntax.specs.Seen.{see_body}
+use Rattle.guard_syntax.specs.code.Seen.{see_body}
 use Rattle.guard_syntax.specs.Syntax as sx
 use Rattle.guard_syntax.specs.declared.row.Ref.{Ref}
 use Rattle.guard_syntax.specs.declared.syntax.Body.{Body, out-Body}
@@ -13,8 +13,8 @@ use Rattle.evidence_rules.specs.CitedLines.{args_of_part, scope_of_step, value_o
 use Rattle.evidence_rules.specs.Follows.{IsFrameOf, IsFrameOfPart, IsFrameOfStep}
 use Rattle.evidence_lookups.specs.declared.owners.Owner.{Owner}
 use Rattle.evidence_lookups.specs.declared.owners.Owners.{Owners}
-use Rattle.evidence_lookups.specs.Owned.{AreOwners, HasOwned, IsOwned, marks_of}
-use Rattle.evidence_lookups.specs.Said.{AreSound}
+use Rattle.evidence_lookups.specs.code.Owned.{AreOwners, HasOwned, IsOwned, marks_of}
+use Rattle.evidence_lookups.specs.code.Said.{AreSound}
 use Rattle.evidence_lookups.proofs.SaidKnown.{value-said-known}
 use Rattle.evidence_lookups.proofs.ValuesKnown.{owner-is, owner-not, root-known}
 use Rattle.doc_values.specs.Tree.{IsTree}

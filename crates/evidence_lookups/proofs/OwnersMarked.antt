@@ -8,16 +8,16 @@ use Rattle.std.proofs.lemmas.Option.{same_Some, none-some}
 use Rattle.evidence_lines.specs.declared.line.Line.{Line}
 use Rattle.guard_syntax.specs.Named.{Named}
 use Rattle.guard_syntax.specs.Syntax.{Body, File, Part, Rule, block, guarded, kinds}
-use Rattle.rule_names.specs.Marks.{IsMarked}
+use Rattle.rule_names.specs.code.Marks.{IsMarked}
 use Rattle.rule_names.specs.Pieces.{Piece, OfBody, OfPart, OfRule, piece_at, pieces_body, pieces_conds, pieces_opt_conds, pieces_query, AreInOrder}
-use Rattle.rule_names.specs.Within.{StandsIn}
+use Rattle.rule_names.specs.code.Within.{StandsIn}
 use Rattle.rule_meaning.specs.StoreModel.{StoreModel}
 use Rattle.evidence_rules.specs.CitedLines.{body_site}
 use Rattle.evidence_rules.specs.Follows.{IsBlockBody, IsRuleBody, IsWhenBody}
 use Rattle.evidence_lookups.specs.declared.owners.Owner.{Owner}
 use Rattle.evidence_lookups.specs.declared.owners.Owner.TheVariants as owner
 use Rattle.evidence_lookups.specs.declared.owners.Owners.{Owners}
-use Rattle.evidence_lookups.specs.Owned.{AreMarked, AreOwners, IsOwned, marks_upto, owned_by, plain_body, with_mark}
+use Rattle.evidence_lookups.specs.code.Owned.{AreMarked, AreOwners, IsOwned, marks_upto, owned_by, plain_body, with_mark}
 use Rattle.evidence_lookups.proofs.OwnersStand.{Own, behind, last-of, piece-owned, rule-stands}
 use Rattle.rule_names.proofs.PiecesFound.{piece-found}
 use Rattle.evidence_lookups.proofs.SitesFound.{body-found, rule-found}

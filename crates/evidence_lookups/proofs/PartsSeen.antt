@@ -1,7 +1,7 @@
 -- Parts of a rule file as the code finds them.
 use Rattle.std.proofs.Common.{◌≡◌, ℕ, ◌<◌, ◌≤◌, get_or, zero, suc, List, [], ◌∷◌, length, map, Some, None, refl, ap, sym, ◌∙◌, arith, rules}
 use Rattle.guard_syntax.specs.Syntax as sx
-use Rattle.guard_syntax.specs.Seen.{expr_list, see_body, see_expr, see_query, see_step, step_list}
+use Rattle.guard_syntax.specs.code.Seen.{expr_list, see_body, see_expr, see_query, see_step, step_list}
 use Rattle.guard_syntax.specs.declared.syntax.Body.{Body, out-Body, the_lemmas as body_lemmas}
 use Rattle.guard_syntax.specs.declared.syntax.Expr.{Expr}
 use Rattle.guard_syntax.specs.declared.syntax.Query.{Query, out-Query, the_lemmas as query_lemmas}

@@ -22,7 +22,7 @@ use Rattle.evidence_rules.specs.CitedLines.{GiveArgs, IsLine, GivesBound, GivesE
 use Rattle.evidence_rules.specs.Follows.{GivesBefore, GivesFurther, GivesRight}
 use Rattle.rule_meaning.specs.Roots.{literal_ref}
 use Rattle.evidence_rules.proofs.LinesBehind.{behind-first}
-use Rattle.evidence_lookups.specs.Said.{AreSound, IsSound, is_known_outcome}
+use Rattle.evidence_lookups.specs.code.Said.{AreSound, IsSound, is_known_outcome}
 
 line-got : (lines : List Line) (n : ℕ) (l : Line) → slice_get lines n ≡ Some l → (n < length lines) × (get_or lines n l ≡ l)
 line-got [] n l is = absurd (none-some l is)

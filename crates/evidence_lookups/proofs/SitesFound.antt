@@ -2,7 +2,7 @@
 use Rattle.std.proofs.Common.{◌≡◌, ◌++◌, Some, Contains}
 use Rattle.guard_syntax.specs.Syntax.{Body, File, Rule, body}
 use Rattle.rule_names.specs.Pieces.{OfBody, OfRule, piece_at, pieces_body, pieces_disjs, pieces_lets, pieces_opt_conds, AreInOrder}
-use Rattle.rule_names.specs.Within.{StandsIn}
+use Rattle.rule_names.specs.code.Within.{StandsIn}
 use Rattle.evidence_rules.specs.CitedLines.{body_site}
 use Rattle.evidence_lookups.proofs.OwnersStand.{rule-stands}
 use Rattle.rule_names.proofs.PiecesFound.{piece-found}

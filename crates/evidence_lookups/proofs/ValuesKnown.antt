@@ -4,7 +4,7 @@ use Rattle.std.specs.Prelude.{slice_index_or}
 use Rattle.std.proofs.lemmas.Bool.Decides.{nat_tests}
 use Rattle.doc_values.specs.Tree.{Forest, IsTree, Nil, Node, size}
 use Rattle.evidence_lines.specs.declared.line.Line.{Line}
-use Rattle.guard_syntax.specs.Seen.{see_body}
+use Rattle.guard_syntax.specs.code.Seen.{see_body}
 use Rattle.guard_syntax.specs.declared.row.Ref.{Ref}
 use Rattle.guard_syntax.specs.declared.syntax.Body.{Body, out-Body}
 use Rattle.rule_names.specs.Pieces.{OfBody, piece_at}
@@ -13,7 +13,7 @@ use Rattle.evidence_rules.specs.CitedLines.{body_site}
 use Rattle.rule_meaning.specs.Roots.{root_ref}
 use Rattle.evidence_lookups.specs.declared.owners.Owner.{Owner}
 use Rattle.evidence_lookups.specs.declared.owners.Owners.{Owners}
-use Rattle.evidence_lookups.specs.Owned.{AreOwners, IsOwned, marks_of}
+use Rattle.evidence_lookups.specs.code.Owned.{AreOwners, IsOwned, marks_of}
 use Rattle.evidence_lookups.proofs.PartsSeen.{body-site}
 
 -- a tree has a root

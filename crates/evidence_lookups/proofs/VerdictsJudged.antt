@@ -9,7 +9,7 @@ use Rattle.evidence_lines.specs.declared.line.LineKind.TheVariants as kind
 use Rattle.evidence_lines.specs.declared.line.Outcome.{Outcome}
 use Rattle.evidence_lines.specs.declared.line.Outcome.TheVariants as says
 use Rattle.guard_syntax.specs.declared.row.Verdict.{Verdict}
-use Rattle.evidence_lookups.specs.JudgedSites.{AreJudged, IsJudgedAs}
+use Rattle.evidence_lookups.specs.code.JudgedSites.{AreJudged, IsJudgedAs}
 use Rattle.evidence_lookups.proofs.LinesSaid.{HasFields, line-before, line-behind, line-last}
 
 -- one line more

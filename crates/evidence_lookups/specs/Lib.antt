@@ -1,5 +1,1 @@
-pub mod FoundRows
-pub mod Grounds
-pub mod JudgedSites
-pub mod Owned
-pub mod Said
+pub mod code

@@ -1,10 +1,10 @@
 //! Which rows the line of a number gives for a step, a query, an expression or a variable in a frame.
 ghost use Rattle.std.specs.Prelude.{◌≡◌, List, MatchOption};
 ghost use Rattle.evidence_lines.specs.declared.line.Line.{Line};
-ghost use Rattle.guard_syntax.specs.Seen.{see_expr, see_query, see_step};
+ghost use Rattle.guard_syntax.specs.code.Seen.{see_expr, see_query, see_step};
 ghost use Rattle.guard_syntax.specs.Syntax.{File};
 ghost use Rattle.guard_syntax.specs.declared.row.Row.{Row};
-ghost use Rattle.rule_names.specs.Files.{file_of};
+ghost use Rattle.rule_names.specs.code.Files.{file_of};
 ghost use Rattle.rule_names.specs.Pieces.{piece_at};
 ghost use Rattle.evidence_rules.specs.CitedLines.{GivesArgument, GivesExpr, GivesPiece, GivesQuery, GivesStep, GivesVariable, kind_of_step};
 

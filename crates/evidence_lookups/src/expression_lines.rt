@@ -1,15 +1,15 @@
 //! Lines of rows of expressions that stand alone: literals, and what a query found.
 ghost use Rattle.std.specs.Prelude.{◌≡◌, List, [], ◌∷◌, true, Some, filter, slice_get, MatchBool};
 ghost use Rattle.std.specs.List.{list_all};
-ghost use Rattle.guard_syntax.specs.Seen.{see_expr, see_query};
+ghost use Rattle.guard_syntax.specs.code.Seen.{see_expr, see_query};
 ghost use Rattle.guard_syntax.specs.declared.row.Row.TheVariants.{Found};
 ghost use Rattle.rule_names.specs.Pieces.{OfExpr, piece_at};
 ghost use Rattle.rule_meaning.specs.StoreModel.{Made, is_known};
 ghost use Rattle.evidence_rules.specs.Follows.{FollowsAtExpr};
 ghost use Rattle.rule_meaning.specs.Roots.{literal_ref};
 ghost use Rattle.rule_meaning.specs.Verdicts.{is_found};
-ghost use Rattle.evidence_lookups.specs.FoundRows.{AreFoundBy};
-ghost use Rattle.evidence_lookups.specs.Grounds.{file_in, known_of, lines_of};
+ghost use Rattle.evidence_lookups.specs.code.FoundRows.{AreFoundBy};
+ghost use Rattle.evidence_lookups.specs.code.Grounds.{file_in, known_of, lines_of};
 
 use crate::cited_rows::given_by_query;
 use crate::line_context::LineContext;

@@ -1,13 +1,13 @@
 //! Frames: the scopes for which they stand, and the frames around them.
 ghost use Rattle.std.specs.Prelude.{◌≡◌, ◌<◌, MatchBool, Some, is_some, length, map, option_and_then, option_map};
-ghost use Rattle.guard_syntax.specs.Seen.{expr_list, see_body, see_expr, see_part, see_query, see_step};
+ghost use Rattle.guard_syntax.specs.code.Seen.{expr_list, see_body, see_expr, see_part, see_query, see_step};
 ghost use Rattle.guard_syntax.specs.Syntax.{File};
-ghost use Rattle.rule_names.specs.Files.{file_of};
+ghost use Rattle.rule_names.specs.code.Files.{file_of};
 ghost use Rattle.rule_names.specs.Pieces.{piece_at};
 ghost use Rattle.evidence_rules.specs.CitedLines.{args_at, args_of_part, around_site, called_body, file_frame, outer_frame, outwards, scope_of, scope_of_part, scope_of_piece, scope_of_step};
 ghost use Rattle.evidence_rules.specs.Follows.{IsFileFrame, home_for, is_body};
 ghost use Rattle.rule_meaning.specs.Places.{step_in, steps_in};
-ghost use Rattle.evidence_lookups.specs.Grounds.{known_of, lines_of};
+ghost use Rattle.evidence_lookups.specs.code.Grounds.{known_of, lines_of};
 
 use crate::line_context::LineContext;
 use crate::lookup::line_of;

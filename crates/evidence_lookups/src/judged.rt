@@ -2,7 +2,7 @@
 ghost use Rattle.std.specs.Prelude.{◌≡◌, ◌++◌, ◌∷◌, ◌<◌, ℕ, List, [], IfOk, None, Some, length, slice_index_or};
 ghost use Rattle.evidence_lines.specs.Shapes.{HasShape};
 ghost use Rattle.evidence_lines.specs.declared.line.Line.{Line};
-ghost use Rattle.evidence_lookups.specs.JudgedSites.{AreJudged};
+ghost use Rattle.evidence_lookups.specs.code.JudgedSites.{AreJudged};
 
 use evidence_lines::{Line, LineKind, Outcome};
 use guard_syntax::Verdict;

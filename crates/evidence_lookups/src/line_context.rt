@@ -1,8 +1,8 @@
 //! What a line of evidence is judged over.
 ghost use Rattle.std.specs.Prelude.{◌≡◌};
-ghost use Rattle.value_compare.specs.Books.{IsBookOf};
-ghost use Rattle.value_compare.specs.Stores.{see_store};
-ghost use Rattle.evidence_lookups.specs.Said.{AreSound};
+ghost use Rattle.value_compare.specs.code.Books.{IsBookOf};
+ghost use Rattle.value_compare.specs.code.Stores.{see_store};
+ghost use Rattle.evidence_lookups.specs.code.Said.{AreSound};
 
 use evidence_lines::{Line, Version};
 use value_compare::{PatternBook, Store};

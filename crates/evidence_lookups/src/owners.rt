@@ -1,10 +1,10 @@
 //! Whose the bodies of a rule file are.
 ghost use Rattle.std.specs.Prelude.{◌≡◌, false, Some, length, option_map, slice_index_or, IfOk};
-ghost use Rattle.guard_syntax.specs.Seen.{see_part, see_rule};
-ghost use Rattle.rule_names.specs.Files.{file_of};
+ghost use Rattle.guard_syntax.specs.code.Seen.{see_part, see_rule};
+ghost use Rattle.rule_names.specs.code.Files.{file_of};
 ghost use Rattle.rule_names.specs.Pieces.{OfPart, OfRule, piece_at};
 ghost use Rattle.evidence_rules.specs.CitedLines.{body_site};
-ghost use Rattle.evidence_lookups.specs.Owned.{AreOwners, marks_of, marks_upto, owned_by, with_mark};
+ghost use Rattle.evidence_lookups.specs.code.Owned.{AreOwners, marks_of, marks_upto, owned_by, with_mark};
 
 use guard_syntax::{Part, Rule};
 use rule_names::{Piece, RuleFile};

@@ -1,6 +1,5 @@
 pub mod CitedLines
 pub mod Follows
-pub mod Judgement
-pub mod Lean
 pub mod Rejected
 pub mod RuleLines
+pub mod code

@@ -26,9 +26,9 @@ use Rattle.rule_meaning.specs.Environments.{Environment, Top, Inner, Called, cur
 use Rattle.rule_meaning.specs.Environments as location
 use Rattle.rule_meaning.specs.FunctionMeaning.{IsAnswering}
 use Rattle.rule_meaning.specs.Meaning.{Names}
-use Rattle.rule_meaning.specs.Fixpoint.{IsFixpoint}
+use Rattle.rule_meaning.specs.code.Fixpoint.{IsFixpoint}
 use Rattle.rule_meaning.specs.Locations.{Answers, Location, LocatedRow, World}
-use Rattle.evidence_rules.specs.Judgement.{FrameNames, Holds, HoldsAt, HoldsIn, line_sites, location_said}
+use Rattle.evidence_rules.specs.code.Judgement.{FrameNames, Holds, HoldsAt, HoldsIn, line_sites, location_said}
 use Rattle.evidence_truth.proofs.HeldLines.{AreHeld}
 use Rattle.evidence_truth.proofs.HeldRows.{is_held, is_held_ref}
 use Rattle.evidence_truth.proofs.HeldSeen.{rows-seen, location-seen}

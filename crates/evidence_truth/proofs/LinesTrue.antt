@@ -26,7 +26,7 @@ use Rattle.rule_meaning.specs.Seeing.{are_called, grown, world_of}
 use Rattle.rule_meaning.specs.Environments.{Environment, Top}
 use Rattle.rule_meaning.specs.FunctionMeaning.{IsAnswering}
 use Rattle.rule_meaning.specs.Meaning.{Names, disj_verdicts}
-use Rattle.rule_meaning.specs.Fixpoint.{IsFixpoint}
+use Rattle.rule_meaning.specs.code.Fixpoint.{IsFixpoint}
 use Rattle.rule_meaning.specs.NameMeaning.{loose_verdict, rule_by, rule_verdict}
 use Rattle.rule_meaning.specs.Locations.{Answers, World}
 use Rattle.rule_meaning.specs.Verdicts.{conjunction}
@@ -34,7 +34,7 @@ use Rattle.evidence_truth.proofs.FollowingKnown.{follows-called}
 use Rattle.evidence_rules.proofs.FollowingShapes.{follows-shape}
 use Rattle.evidence_rules.proofs.LinesBehind.{at-end, behind-first}
 use Rattle.evidence_rules.specs.RuleLines.{AreFrom, AreOfRules, IsSaidOf}
-use Rattle.evidence_rules.specs.Judgement.{FollowTo, Holds, HoldsAt, HoldsIn, line_sites, ruled_verdict, verdict_or_none, verdicts_of}
+use Rattle.evidence_rules.specs.code.Judgement.{FollowTo, Holds, HoldsAt, HoldsIn, line_sites, ruled_verdict, verdict_or_none, verdicts_of}
 use Rattle.evidence_truth.proofs.HeldLines.{follows-held, held-behind, is_held_outcome}
 use Rattle.evidence_truth.proofs.LinesSoFar.{Cut, Evidence, Framing, IsCurrent, IsFramed, Meant, Past, ValueFits, frame-names, last_store, store_of, value-current, world_for}
 use Rattle.evidence_truth.proofs.PiecesAt.{IsOrdered, ordered-by}

@@ -22,7 +22,7 @@ use Rattle.rule_meaning.specs.Environments as scopes
 use Rattle.rule_meaning.specs.Meaning.{rows_of, rows_of_args, rows_of_expr}
 use Rattle.rule_meaning.specs.NameMeaning.{argument_rows, bound_rows, captured_rows, parameter_rows, value_rows}
 use Rattle.rule_meaning.specs.Locations.{LocatedRow, World, Found}
-use Rattle.evidence_rules.specs.Judgement.{line_rows, line_sites, query_rows}
+use Rattle.evidence_rules.specs.code.Judgement.{line_rows, line_sites, query_rows}
 use Rattle.evidence_truth.proofs.HeldLines.{args-held as all-args-held, expr-held, is_held_outcome, variable-held}
 use Rattle.evidence_truth.proofs.HeldRows.{is_held}
 use Rattle.evidence_truth.proofs.LinesSoFar.{Evidence, Framing, Meant, Past, cited-in, file-frame, outwards-names, shown, store_of, world_for}

@@ -37,7 +37,7 @@ use Rattle.query_steps.proofs.FilterRows.{filtered-judged, passed_at}
 use Rattle.query_steps.proofs.SeenFilters.{passed-seen, types-seen}
 use Rattle.query_steps.proofs.SeenSteps.{captures-seen, given-seen, steps-seen}
 use Rattle.query_steps.proofs.LocatedAnswers.{answer-is}
-use Rattle.evidence_rules.specs.Judgement.{line_rows, line_sites, line_verdict, query_rows}
+use Rattle.evidence_rules.specs.code.Judgement.{line_rows, line_sites, line_verdict, query_rows}
 use Rattle.evidence_truth.proofs.HeldLines.{value-at}
 use Rattle.evidence_truth.proofs.HeldRows.{answer-held, candidates-held, is_held, is_held_ref}
 use Rattle.evidence_truth.proofs.HeldSeen.{answer-seen}

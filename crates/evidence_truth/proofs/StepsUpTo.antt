@@ -14,7 +14,7 @@ use Rattle.rule_meaning.specs.Environments.{Environment}
 use Rattle.rule_meaning.specs.Meaning.{Names, rows_at, rows_from}
 use Rattle.rule_meaning.specs.StepMeaning.{on_found}
 use Rattle.rule_meaning.specs.Locations.{LocatedRow, World}
-use Rattle.evidence_rules.specs.Judgement.{rows_up_to}
+use Rattle.evidence_rules.specs.code.Judgement.{rows_up_to}
 use Rattle.evidence_truth.proofs.PiecesAt.{Each, IsAt, parted}
 
 -- ---- the steps of a query by their sites

@@ -33,7 +33,7 @@ use Rattle.rule_meaning.specs.Locations.{Location, LocatedRow, World, root_locat
 use Rattle.rule_meaning.specs.Verdicts.{block_verdict, conjunction, exchanged, guarded_by, referred}
 use Rattle.query_steps.proofs.SeenSteps.{passes-seen}
 use Rattle.query_steps.proofs.SeenVerdicts.{sets-seen, tests-seen}
-use Rattle.evidence_rules.specs.Judgement.{line_rows, line_sites, line_verdict, ruled_verdict}
+use Rattle.evidence_rules.specs.code.Judgement.{line_rows, line_sites, line_verdict, ruled_verdict}
 use Rattle.evidence_truth.proofs.Decided.{AreDecidedAlike, alike-all, alike-block, alike-conds, alike-cons, alike-disj, alike-more}
 use Rattle.evidence_truth.proofs.HeldLines.{expr-held, query-held}
 use Rattle.evidence_truth.proofs.HeldRows.{is_held}

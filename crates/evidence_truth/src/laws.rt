@@ -12,11 +12,11 @@ ghost use Rattle.evidence_rules.specs.Follows.{AllFollow, nothing_made};
 ghost use Rattle.rule_meaning.specs.Seeing.{world_of};
 ghost use Rattle.rule_meaning.specs.FunctionMeaning.{IsAnswering};
 ghost use Rattle.rule_meaning.specs.Meaning.{Names};
-ghost use Rattle.rule_meaning.specs.Fixpoint.{IsFixpoint};
+ghost use Rattle.rule_meaning.specs.code.Fixpoint.{IsFixpoint};
 ghost use Rattle.rule_meaning.specs.NameMeaning.{rule_verdict, loose_verdict};
 ghost use Rattle.rule_meaning.specs.Locations.{Answers};
 ghost use Rattle.evidence_rules.specs.RuleLines.{AreOfRules, IsSaidOf};
-ghost use Rattle.evidence_rules.specs.Judgement.{FollowTo, Holds, verdicts_of};
+ghost use Rattle.evidence_rules.specs.code.Judgement.{FollowTo, Holds, verdicts_of};
 
 use meaning_laws::one_meaning_over_locations;
 

@@ -2,7 +2,7 @@
 use Rattle.std.proofs.Common.{◌≡◌, ℕ, zero, suc, ◌<◌, ◌≤◌, List, [], ◌∷◌, length, map, get_or, Vec, Global, Result, IfOk, refl, sym, ap, subst, ◌∙◌, arith}
 use Rattle.guard_syntax.specs.declared.row.Row.{Row}
 use Rattle.rule_meaning.specs.Functions.{MadeRow, argument}
-use Rattle.guard_builtins.specs.Seen.{see_made, see_rows}
+use Rattle.guard_builtins.specs.code.Seen.{see_made, see_rows}
 use Rattle.guard_builtins.specs.declared.made.Made.{Made}
 
 pub argument-is : (args : List (Vec Row Global)) (i : ℕ) (x : Vec Row Global) → i < length args → x ≡ get_or args i x → argument (map see_rows args) i ≡ x.items

@@ -10,7 +10,7 @@ use Rattle.rule_meaning.specs.Functions.{AreRows, ForText, IsParsed, IsPart, IsR
 use Rattle.rule_meaning.specs.StoreModel.{StoreModel, stands_for}
 use Rattle.rule_meaning.specs.Values.{Value, has_pattern}
 use Rattle.value_compare.proofs.Patternless.{json-plain}
-use Rattle.guard_builtins.specs.Seen.{gives, is_plain, replaces, see_made}
+use Rattle.guard_builtins.specs.code.Seen.{gives, is_plain, replaces, see_made}
 use Rattle.guard_builtins.specs.declared.change.Change.{Change}
 use Rattle.guard_builtins.specs.declared.change.Change.TheVariants as change
 use Rattle.guard_builtins.specs.declared.made.Made.{Made}

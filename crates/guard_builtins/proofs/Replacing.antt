@@ -6,7 +6,7 @@ use Rattle.guard_syntax.specs.declared.row.Row.TheVariants as row
 use Rattle.rule_meaning.specs.Functions.{AreRows, ForText, IsGiven, IsReplaced, IsReplacement, IsRow, IsRowFor, MadeRow, text_of}
 use Rattle.rule_meaning.specs.StoreModel.{StoreModel, stands_for}
 use Rattle.rule_meaning.specs.Values.{Value}
-use Rattle.guard_builtins.specs.Seen.{both, replaces, see_made}
+use Rattle.guard_builtins.specs.code.Seen.{both, replaces, see_made}
 use Rattle.guard_builtins.specs.declared.made.Made.{Made}
 use Rattle.guard_builtins.proofs.Rows.{rows-more}
 

@@ -7,7 +7,7 @@ use Rattle.guard_syntax.specs.declared.row.Row.{Row}
 use Rattle.rule_meaning.specs.Functions.{AreRows, IsRow, MadeRow}
 use Rattle.rule_meaning.specs.StoreModel.{StoreModel}
 use Rattle.rule_meaning.specs.Values.{Value}
-use Rattle.guard_builtins.specs.Seen.{see_made}
+use Rattle.guard_builtins.specs.code.Seen.{see_made}
 use Rattle.guard_builtins.specs.declared.made.Made.{Made}
 
 module _ (Gives : Value → Forest → Type 0) (k : StoreModel) (call : ℕ) where

@@ -2,8 +2,8 @@
 ghost use Rattle.std.specs.Prelude.{◌≡◌, ℤ, IfOk, MatchOption, option_map, string_bytes};
 ghost use Rattle.doc_values.specs.Decimal.{Decimal};
 ghost use Rattle.rule_meaning.specs.Functions.{IsBoolean, IsDecimalBy, IsDecoded, IsFloat, IsGiven, IsInt, IsJson, IsLower, IsPrinted, IsSubstring, IsUpper, IsWholeBy, printed_by, truth_by};
-ghost use Rattle.value_compare.specs.Views.{see_view};
-ghost use Rattle.guard_builtins.specs.Seen.{gives};
+ghost use Rattle.value_compare.specs.code.Views.{see_view};
+ghost use Rattle.guard_builtins.specs.code.Seen.{gives};
 
 use crate::numbers::{decimal_of, read_decimal, read_whole};
 use crate::printed::{decimal_text, truth_text, whole_text};

@@ -2,9 +2,9 @@
 ghost use Rattle.std.specs.Prelude.{◌≡◌, [], false, true, IfOk, IfSome, IsOk, map};
 ghost use Rattle.std.specs.List.{list_all};
 ghost use Rattle.rule_meaning.specs.Functions.{AreRows, IsBoolean, IsDecoded, IsFloat, IsInt, IsJson, IsLower, IsPrinted, IsRow, IsSubstring, IsUpper, counted, is_found, joined, joined_row, single_text, single_whole, texts_in};
-ghost use Rattle.value_compare.specs.Stores.{see_store};
+ghost use Rattle.value_compare.specs.code.Stores.{see_store};
 ghost use Rattle.rule_meaning.specs.Values.{has_pattern};
-ghost use Rattle.guard_builtins.specs.Seen.{gives, is_plain, see_made};
+ghost use Rattle.guard_builtins.specs.code.Seen.{gives, is_plain, see_made};
 
 use crate::change::{Change, given};
 use crate::made::{Made, new_or_missing, one_row};

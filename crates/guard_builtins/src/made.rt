@@ -3,7 +3,7 @@ ghost use Rattle.std.specs.Prelude.{◌≡◌, ◌∷◌, [], false, true, IfOk,
 ghost use Rattle.std.specs.List.{list_all};
 ghost use Rattle.rule_meaning.specs.Functions.{new_or_missing};
 ghost use Rattle.rule_meaning.specs.Values.{has_pattern};
-ghost use Rattle.guard_builtins.specs.Seen.{is_plain, see_made};
+ghost use Rattle.guard_builtins.specs.code.Seen.{is_plain, see_made};
 
 use doc_values::Doc;
 use guard_syntax::Row;

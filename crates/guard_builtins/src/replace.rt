@@ -1,11 +1,11 @@
 //! Texts with the matches of a pattern replaced.
 ghost use Rattle.std.specs.Prelude.{◌≡◌, [], true, IfOk, IfSome, IsOk, map, option_map};
 ghost use Rattle.std.specs.List.{list_all};
-ghost use Rattle.value_compare.specs.Books.{has_text};
+ghost use Rattle.value_compare.specs.code.Books.{has_text};
 ghost use Rattle.rule_meaning.specs.Functions.{AreRows, IsGiven, IsReplaced, IsRow, single_text};
-ghost use Rattle.value_compare.specs.Stores.{see_store};
-ghost use Rattle.value_compare.specs.Views.{see_view};
-ghost use Rattle.guard_builtins.specs.Seen.{both, is_plain, replaces, see_made, texts_of};
+ghost use Rattle.value_compare.specs.code.Stores.{see_store};
+ghost use Rattle.value_compare.specs.code.Views.{see_view};
+ghost use Rattle.guard_builtins.specs.code.Seen.{both, is_plain, replaces, see_made, texts_of};
 
 use crate::made::{Made, new_or_missing};
 use crate::trees::text_tree;

@@ -1,6 +1,6 @@
 ghost use Rattle.std.specs.Prelude.{◌≡◌, ◌≢◌, ◌≤◌, ◌++◌, ℕ, List, Some, length, take, IsErrOf, OnOk, OnErr, IsSomeAnd, option_map};
 ghost use Rattle.guard_io.specs.Outside.{one_more};
-ghost use Rattle.guard_io.specs.Memory.{content_of, content_or_empty, IsToFail};
+ghost use Rattle.guard_io.specs.code.Memory.{content_of, content_or_empty, IsToFail};
 
 use crate::files::{Files, LoadFault};
 

@@ -12,7 +12,7 @@ use Rattle.guard_syntax.specs.Named.{Named}
 use Rattle.guard_syntax.specs.Syntax.{File, Rule, Disjs, no_disjs, more_disjs}
 use Rattle.guard_syntax.specs.declared.row.Verdict.{Verdict}
 use Rattle.evidence_rules.specs.Follows.{AllFollow, nothing_made}
-use Rattle.evidence_rules.specs.Judgement as said
+use Rattle.evidence_rules.specs.code.Judgement as said
 use Rattle.rule_meaning.specs.Seeing.{world_of}
 use Rattle.rule_meaning.specs.FunctionMeaning.{IsAnswering}
 use Rattle.rule_meaning.specs.Locations.{Answers, World}

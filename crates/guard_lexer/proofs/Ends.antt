@@ -5,7 +5,7 @@ use Rattle.std.proofs.lemmas.Bool.{true≢false}
 use Rattle.std.proofs.lemmas.Option.{none-some}
 use Rattle.guard_lexer.specs.Bytes.{is_letter, is_word, Each}
 use Rattle.guard_lexer.specs.Forms.{AreParts, Closes, EndsNote}
-use Rattle.guard_lexer.specs.Reach.{run, in_name, typed, closing, note_end}
+use Rattle.guard_lexer.specs.code.Reach.{run, in_name, typed, closing, note_end}
 use Rattle.guard_lexer.proofs.Lists.{tested, same_byte, other_byte, is_byte, not_byte, on_true, on_false}
 use Rattle.guard_lexer.proofs.Reaches.{no_end}
 

@@ -12,8 +12,8 @@ use Rattle.guard_lexer.specs.declared.token.LexRefusal.TheVariants as r
 use Rattle.guard_lexer.specs.Bytes.{is_letter, is_word, is_white, Each}
 use Rattle.guard_lexer.specs.Forms.{AreParts, Closes, Form, Name, TypeName, Var, Str, Pat, Numeral, Note, Sign, HasForm, form_of, IsWorth}
 use Rattle.guard_lexer.specs.Lexes.{IsOpening, IsUnclosed, BeginsWord, IsToken, IsFault}
-use Rattle.guard_lexer.specs.Reach.{run, in_name, typed, var_reach, closing, opened, is_quote, is_blank, reach}
-use Rattle.guard_lexer.specs.Firsts.{IsFirst, word_kind, quote_kind}
+use Rattle.guard_lexer.specs.code.Reach.{run, in_name, typed, var_reach, closing, opened, is_quote, is_blank, reach}
+use Rattle.guard_lexer.specs.code.Firsts.{IsFirst, word_kind, quote_kind}
 use Rattle.guard_lexer.proofs.Lists.{tested, no_clash, same_byte, other_byte, head_is, tail_is, on_true, on_false}
 use Rattle.guard_lexer.proofs.Reaches.{below, closes_is, is_longest, no_form}
 use Rattle.guard_lexer.proofs.Ends.{has_items, name_form, run_each, run_size, closed_form}

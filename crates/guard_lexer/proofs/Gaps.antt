@@ -4,7 +4,7 @@ use Rattle.std.specs.Prelude.{◌==◌}
 use Rattle.std.proofs.lemmas.Bool.Decides.{nat_tests}
 use Rattle.guard_lexer.specs.Bytes.{is_white}
 use Rattle.guard_lexer.specs.Lexes.{IsGap, IsComment}
-use Rattle.guard_lexer.specs.Reach.{is_blank, goes, into, gap_reach}
+use Rattle.guard_lexer.specs.code.Reach.{is_blank, goes, into, gap_reach}
 use Rattle.guard_lexer.proofs.Lists.{tested, same_byte, other_byte, is_byte, not_byte, on_true, on_false}
 
 abbrev pub IsSolid : List ℕ → Type 0

@@ -3,7 +3,7 @@ use Rattle.std.proofs.Common.{◌≡◌, ℕ, ◌+◌, ◌≤◌, Bool, true, fa
 use Rattle.std.specs.Prelude.{◌==◌}
 use Rattle.std.proofs.lemmas.List.{drop-drop, length-drop}
 use Rattle.guard_lexer.specs.Bytes.{is_letter, is_word}
-use Rattle.guard_lexer.specs.Reach.{in_name, typed, name_step}
+use Rattle.guard_lexer.specs.code.Reach.{in_name, typed, name_step}
 use Rattle.guard_lexer.proofs.Lists.{tested}
 
 step_size : (xs : List ℕ) → in_name xs ≡ name_step xs + in_name (drop (name_step xs) xs)

@@ -13,8 +13,8 @@ use Rattle.guard_lexer.specs.declared.token.LexRefusal.TheVariants as r
 use Rattle.guard_lexer.specs.Bytes.{is_letter}
 use Rattle.guard_lexer.specs.Forms.{IsNumeral, Numeral, HasForm, form_of, IsWorth}
 use Rattle.guard_lexer.specs.Lexes.{IsUnclosed, BeginsWord, IsFigure, IsFault}
-use Rattle.guard_lexer.specs.Reach.{is_zero, is_quote, is_blank, begins_numeral, numeral_reach, reach}
-use Rattle.guard_lexer.specs.Firsts.{number_kind, begins_word, BeginsNumeral}
+use Rattle.guard_lexer.specs.code.Reach.{is_zero, is_quote, is_blank, begins_numeral, numeral_reach, reach}
+use Rattle.guard_lexer.specs.code.Firsts.{number_kind, begins_word, BeginsNumeral}
 use Rattle.guard_lexer.proofs.Lists.{no_clash}
 use Rattle.guard_lexer.proofs.NumeralForms.{NumeralForm, numeral_form}
 use Rattle.guard_lexer.proofs.Reaches.{is_longest}

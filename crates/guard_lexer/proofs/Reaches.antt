@@ -9,7 +9,7 @@ use Rattle.guard_lexer.specs.declared.token.Mark.TheVariants as m
 use Rattle.guard_lexer.specs.Bytes.{is_letter, is_word, Each}
 use Rattle.guard_lexer.specs.Forms.{IsName, AreParts, IsVar, Closes, IsStr, IsPat, EndsNote, IsNote, IsNumeral, mark_text, Form, Name, TypeName, Var, Str, Pat, Numeral, Note, Sign, HasForm}
 use Rattle.guard_lexer.specs.Lexes.{IsLongest}
-use Rattle.guard_lexer.specs.Reach.{run, in_name, closing, note_end, opened, sign_reach, is_single, is_doubled, begins_numeral, reach}
+use Rattle.guard_lexer.specs.code.Reach.{run, in_name, closing, note_end, opened, sign_reach, is_single, is_doubled, begins_numeral, reach}
 use Rattle.guard_lexer.proofs.Lists.{tested, same_byte, is_byte, not_byte}
 use Rattle.guard_lexer.proofs.Numerals.{numeral_le}
 

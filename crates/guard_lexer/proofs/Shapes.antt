@@ -10,8 +10,8 @@ use Rattle.guard_lexer.specs.declared.token.TokenKind.{TokenKind}
 use Rattle.guard_lexer.specs.declared.token.TokenKind.TheVariants as k
 use Rattle.guard_lexer.specs.Bytes.{is_letter, is_word, Each}
 use Rattle.guard_lexer.specs.Forms.{IsName, AreParts, Form, Name, TypeName, Var, Str, Pat, Numeral, Note, Sign, HasForm, form_of, IsWorth, mark_text}
-use Rattle.guard_lexer.specs.Reach.{typed, is_quote, begins_numeral}
-use Rattle.guard_lexer.specs.Firsts.{number_kind}
+use Rattle.guard_lexer.specs.code.Reach.{typed, is_quote, begins_numeral}
+use Rattle.guard_lexer.specs.code.Firsts.{number_kind}
 use Rattle.guard_lexer.proofs.Reaches.{numeral_class, no_numeral}
 use Rattle.guard_lexer.proofs.Values.{value_same}
 

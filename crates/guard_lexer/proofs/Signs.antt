@@ -7,8 +7,8 @@ use Rattle.guard_lexer.specs.declared.token.TokenKind.TheVariants as k
 use Rattle.guard_lexer.specs.declared.token.LexRefusal.TheVariants as r
 use Rattle.guard_lexer.specs.Forms.{EndsNote, mark_text, Name, TypeName, Var, Str, Pat, Numeral, Note, Sign}
 use Rattle.guard_lexer.specs.Lexes.{IsUnclosed, IsFault}
-use Rattle.guard_lexer.specs.Reach.{note_end, opened, is_single, is_doubled, single_reach, sign_reach, reach}
-use Rattle.guard_lexer.specs.Firsts.{IsOther}
+use Rattle.guard_lexer.specs.code.Reach.{note_end, opened, is_single, is_doubled, single_reach, sign_reach, reach}
+use Rattle.guard_lexer.specs.code.Firsts.{IsOther}
 use Rattle.guard_lexer.proofs.Lists.{tested, same_byte, other_byte, is_byte, not_byte, head_is, tail_is, on_true, on_false}
 use Rattle.guard_lexer.proofs.Reaches.{note_is}
 use Rattle.guard_lexer.proofs.Ends.{noted_form}

@@ -6,9 +6,9 @@ use Rattle.guard_lexer.specs.declared.token.LexRefusal.{LexRefusal}
 use Rattle.guard_lexer.specs.declared.token.LexRefusal.TheVariants as why
 use Rattle.guard_lexer.specs.Forms.{Form, HasForm, form_of}
 use Rattle.guard_lexer.specs.Lexes.{IsGap, IsFault, Takes, Ends, Reads, IsToken, is_dot}
-use Rattle.guard_lexer.specs.Memory.{HasToken}
-use Rattle.guard_lexer.specs.Reach.{is_blank, gap_reach}
-use Rattle.guard_lexer.specs.Firsts.{IsFirst, IsNext}
+use Rattle.guard_lexer.specs.code.Memory.{HasToken}
+use Rattle.guard_lexer.specs.code.Reach.{is_blank, gap_reach}
+use Rattle.guard_lexer.specs.code.Firsts.{IsFirst, IsNext}
 use Rattle.guard_lexer.proofs.Reaches.{some_form}
 use Rattle.guard_lexer.proofs.Gaps.{IsSolid, GapForm, gap_form}
 

@@ -12,7 +12,7 @@ use Rattle.guard_lexer.specs.declared.token.LexRefusal.TheVariants as r
 use Rattle.guard_lexer.specs.Bytes.{is_letter, is_white}
 use Rattle.guard_lexer.specs.Forms.{Form, Name, TypeName, Var, Str, Pat, Numeral, Note, Sign, HasForm, form_of, IsWorth}
 use Rattle.guard_lexer.specs.Lexes.{IsLongest, IsOpening, IsUnclosed, BeginsWord, IsToken, IsFigure, IsFault, IsGap, Takes, Ends, Reads, is_dot, Starts, IsTokenList, IsRefused}
-use Rattle.guard_lexer.specs.Reach.{is_blank, is_quote, is_single, is_doubled, single_reach, sign_reach, begins_numeral, reach, gap_reach, note_end, opened}
+use Rattle.guard_lexer.specs.code.Reach.{is_blank, is_quote, is_single, is_doubled, single_reach, sign_reach, begins_numeral, reach, gap_reach, note_end, opened}
 use Rattle.guard_lexer.proofs.Lists.{tested, no_clash, tail_is, same_front, on_false}
 use Rattle.guard_lexer.proofs.Reaches.{numeral_class, no_numeral, some_form, reach_le}
 use Rattle.guard_lexer.proofs.Gaps.{IsSolid, gap_is}

@@ -1,9 +1,9 @@
 //! Classes of bytes.
 ghost use Rattle.std.specs.Prelude.{◌≡◌};
 ghost use Rattle.doc_values.specs.Number.{is_digit};
-ghost use Rattle.doc_values.specs.Reading.{is_mark};
+ghost use Rattle.doc_values.specs.code.Reading.{is_mark};
 ghost use Rattle.guard_lexer.specs.Bytes.{is_letter, is_word, is_white};
-ghost use Rattle.guard_lexer.specs.Reach.{is_blank, is_quote, begins_numeral, is_plus_minus};
+ghost use Rattle.guard_lexer.specs.code.Reach.{is_blank, is_quote, begins_numeral, is_plus_minus};
 
 /// An ASCII letter or `_`.
 pub fn is_letter(byte: u8) -> bool

@@ -1,7 +1,7 @@
 //! How many bytes a name, a text, a note or a gap has.
 ghost use Rattle.std.specs.Prelude.{◌≡◌, ◌≤◌, ◌==◌, ◌||◌, ◌+◌, Bool, false, length, Option, IfSome};
 ghost use Rattle.guard_lexer.specs.Bytes.{is_word};
-ghost use Rattle.guard_lexer.specs.Reach.{run, in_name, typed, name_step, colon_step, second_step, var_reach, closing, note_end, goes, into, gap_reach};
+ghost use Rattle.guard_lexer.specs.code.Reach.{run, in_name, typed, name_step, colon_step, second_step, var_reach, closing, note_end, goes, into, gap_reach};
 
 use crate::byte::{is_blank, is_letter, is_word};
 

@@ -4,8 +4,8 @@ ghost use Rattle.doc_values.specs.Number.{IsNumber};
 ghost use Rattle.doc_values.specs.declared.decimal.Num.{Num};
 ghost use Rattle.guard_lexer.specs.Bytes.{is_letter};
 ghost use Rattle.guard_lexer.specs.Lexes.{IsUnclosed};
-ghost use Rattle.guard_lexer.specs.Reach.{is_blank, is_quote, sign_reach, single_reach};
-ghost use Rattle.guard_lexer.specs.Firsts.{IsFirst, word_kind, number_kind, quote_kind, begins_word, BeginsNumeral, IsSingle, IsDouble, IsOther};
+ghost use Rattle.guard_lexer.specs.code.Reach.{is_blank, is_quote, sign_reach, single_reach};
+ghost use Rattle.guard_lexer.specs.code.Firsts.{IsFirst, word_kind, number_kind, quote_kind, begins_word, BeginsNumeral, IsSingle, IsDouble, IsOther};
 
 use crate::byte::{begins_numeral, is_letter, is_quote, is_word};
 use crate::extent::{closing_len, name_len, note_len, var_len};

@@ -1,8 +1,8 @@
 //! The tokens of a text, one after the other.
 ghost use Rattle.std.specs.Prelude.{◌≡◌, ◌⊎◌, ◌+◌, ◌<◌, ◌≤◌, ◌^◌, ℕ, false, List, [], ◌∷◌, length, drop, Option, Some, None, Result, IfOk, IfErr, MatchOption, MatchResult};
 ghost use Rattle.guard_lexer.specs.Lexes.{Starts, Reads, IsTokenList, IsRefused, is_dot};
-ghost use Rattle.guard_lexer.specs.Memory.{HasToken, BeginsToken};
-ghost use Rattle.guard_lexer.specs.Firsts.{IsNext};
+ghost use Rattle.guard_lexer.specs.code.Memory.{HasToken, BeginsToken};
+ghost use Rattle.guard_lexer.specs.code.Firsts.{IsNext};
 
 use crate::extent::gap_len;
 use crate::first::{first_token, parted};

@@ -1,14 +1,14 @@
 -- One step of the code is one step of the reading.
 use Rattle.std.proofs.Common.{◌≡◌, ◌≢◌, ℕ, zero, suc, ◌+◌, ◌-◌, ◌<◌, ◌≤◌, max, Bool, cond, List, [], ◌∷◌, ◌++◌, refl, ap, sym, ◌∙◌, arith}
-use Rattle.guard_syntax.specs.Seen.{prepend}
+use Rattle.guard_syntax.specs.code.Seen.{prepend}
 use Rattle.guard_syntax.specs.Syntax as sx
 use Rattle.literal_parser.specs.Lexemes.{Lexeme}
 use Rattle.literal_parser.specs.Forms.{form}
 use Rattle.literal_parser.specs.States.{State}
-use Rattle.literal_parser.specs.Parser.{Outcome, Read, Fail, Parser, and_then, pure, choose}
-use Rattle.guard_parser.specs.Reading.{BodyItems, inners}
-use Rattle.literal_parser.specs.LiteralReading.{literal_of}
-use Rattle.guard_parser.specs.GrammarReads.{with_front, with_items}
+use Rattle.literal_parser.specs.code.Parser.{Outcome, Read, Fail, Parser, and_then, pure, choose}
+use Rattle.guard_parser.specs.code.Reading.{BodyItems, inners}
+use Rattle.literal_parser.specs.code.LiteralReading.{literal_of}
+use Rattle.guard_parser.specs.code.GrammarReads.{with_front, with_items}
 
 pub then_read : {A B : Type 0} {o : Outcome A} {a : A} {st : State} {seen : ℕ} (f : A → Parser B) {r : Outcome B} → o ≡ Read a st seen → f a st seen ≡ r → and_then o f ≡ r
 then_read f e h = ap (λ o. and_then o f) e ∙ h

@@ -7,13 +7,13 @@ use Rattle.guard_syntax.specs.Syntax.{Body, Lets, Let, Conds, OptConds, Disjs, D
 use Rattle.literal_parser.specs.Lexemes.{Lexeme}
 use Rattle.literal_parser.specs.Forms.{form, is_name, is_rule_name, is_any_name, is_type_name, is_var, is_index, is_note, is_lbrace, is_rbrace, is_lparen, is_rparen, is_lbracket, is_rbracket, is_comma, is_bar, is_dot, is_star, is_assign, is_equality, is_sign, is_let, is_rule, is_when, is_some_word, is_or, is_neg, is_keys, is_this, is_in, is_operator_word, is_key, is_first_key, is_start, is_r, is_constant, begins_query, begins_step, begins_cond, begins_part, is_literal, text_of, named_of, index_of, operator_of, sign_of, is_binary}
 use Rattle.literal_parser.specs.States.{State, Opens, Takes, Has}
-use Rattle.literal_parser.specs.Parser.{Parser}
+use Rattle.literal_parser.specs.code.Parser.{Parser}
 use Rattle.literal_parser.specs.Literal.{IsLiteral}
-use Rattle.literal_parser.specs.LiteralReading.{literal_of}
+use Rattle.literal_parser.specs.code.LiteralReading.{literal_of}
 use Rattle.guard_parser.specs.Grammar.{Sort, ALet, ARule, APart, Piece, of_sort, is_sort, body_sort, file_sort, IsFilled, InRow, IsCapture, IsNote, IsNeg, IsOperator, IsKeysOperator, IsAny, IsNot, IsNames, IsBody, AreLets, AreDisjs, IsLet, IsConds, IsDisjs, IsOptConds, IsDisj, IsOrs, IsPart, IsRight, IsQuery, IsStart, IsSteps, IsStep, IsExpr, IsExprs, IsMoreExprs, IsHead, IsRule, AreRules, IsContents}
-use Rattle.guard_parser.specs.Reading.{is_filled, Inner, named_bar, capture, note, neg, worded, operator, keys_operator, names, params, dotted, keyed, filtered, bracketed, step, steps, start_step, query_of, tree_expr, applied, asked_expr, expr_of, found_expr, value_of, more_exprs_of, exprs_of, right, tested, called, referred, ruled, judged, headed, cond_of, cond_part, ors, disj_of, disjs, conds_of, opt_conds, guarded_part, kinds_part, full_part, let_of, body_items, body_end, body_of, head, rule_of, file_items, contents, inners}
-use Rattle.literal_parser.specs.LiteralDepth.{deep_forest}
-use Rattle.guard_parser.specs.Depth.{deep_body, deep_lets, deep_let, deep_conds, deep_opt_conds, deep_disjs, deep_disj, deep_parts, deep_part, deep_query, deep_steps, deep_step, deep_expr, deep_opt_expr, deep_exprs, deep_rule, deep_rules}
+use Rattle.guard_parser.specs.code.Reading.{is_filled, Inner, named_bar, capture, note, neg, worded, operator, keys_operator, names, params, dotted, keyed, filtered, bracketed, step, steps, start_step, query_of, tree_expr, applied, asked_expr, expr_of, found_expr, value_of, more_exprs_of, exprs_of, right, tested, called, referred, ruled, judged, headed, cond_of, cond_part, ors, disj_of, disjs, conds_of, opt_conds, guarded_part, kinds_part, full_part, let_of, body_items, body_end, body_of, head, rule_of, file_items, contents, inners}
+use Rattle.literal_parser.specs.code.LiteralDepth.{deep_forest}
+use Rattle.guard_parser.specs.code.Depth.{deep_body, deep_lets, deep_let, deep_conds, deep_opt_conds, deep_disjs, deep_disj, deep_parts, deep_part, deep_query, deep_steps, deep_step, deep_expr, deep_opt_expr, deep_exprs, deep_rule, deep_rules}
 use Rattle.literal_parser.proofs.Combine.{Gives, gives, gives_then, gives_if}
 use Rattle.literal_parser.proofs.Apart.{apart, implied}
 use Rattle.guard_parser.proofs.Facts.{literal_named}

@@ -1,14 +1,14 @@
 -- A list of parts that is not empty, and what a stop says of what it stops in.
 use Rattle.std.proofs.Common.{◌≡◌, ℕ, true, List, [], ◌∷◌, map, length, refl, ap, ◌≢◌}
 use Rattle.std.specs.Prelude.{Err}
-use Rattle.guard_syntax.specs.Seen.{disj_list, see_disj}
+use Rattle.guard_syntax.specs.code.Seen.{disj_list, see_disj}
 use Rattle.guard_syntax.specs.declared.syntax.Disj.{Disj}
 use Rattle.literal_parser.specs.declared.cursor.Halt.{Halt}
 use Rattle.literal_parser.specs.declared.cursor.Halt.TheVariants.{Dead, NoMemory}
 use Rattle.literal_parser.specs.declared.token_cursor.Cursor.{Cursor}
-use Rattle.literal_parser.specs.Parser.{Outcome, Fail, Parser, and_then}
-use Rattle.guard_parser.specs.Reading.{is_filled}
-use Rattle.literal_parser.specs.Reads.{Reads}
+use Rattle.literal_parser.specs.code.Parser.{Outcome, Fail, Parser, and_then}
+use Rattle.guard_parser.specs.code.Reading.{is_filled}
+use Rattle.literal_parser.specs.code.Reads.{Reads}
 
 pub filled : (ds : List Disj) → length ds ≢ 0 → is_filled (disj_list (map see_disj ds)) ≡ true
 filled [] some = absurd (some refl)

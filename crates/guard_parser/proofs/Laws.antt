@@ -7,9 +7,9 @@ use Rattle.literal_parser.specs.Lexemes.{Lexeme, End, lexeme_of, ending, lexemes
 use Rattle.literal_parser.specs.Forms.{form, is_end}
 use Rattle.literal_parser.specs.States.{State, start}
 use Rattle.guard_parser.specs.Grammar.{IsContents}
-use Rattle.literal_parser.specs.Parser.{Outcome, Read, Fail}
-use Rattle.guard_parser.specs.Reading.{FileItems, whole_file, inners}
-use Rattle.guard_parser.specs.Depth.{deep_file}
+use Rattle.literal_parser.specs.code.Parser.{Outcome, Read, Fail}
+use Rattle.guard_parser.specs.code.Reading.{FileItems, whole_file, inners}
+use Rattle.guard_parser.specs.code.Depth.{deep_file}
 use Rattle.guard_parser.specs.File.{IsSpelledBy, IsSpelled, IsShallowTo, IsShallow, IsDeadEnd, MayGoOn, going_on}
 use Rattle.std.proofs.lemmas.Bool.{ltb-true, ltb-false}
 use Rattle.std.proofs.lemmas.List.{append-nil, get_or-take, length-append, length-map, length-take, take-map}

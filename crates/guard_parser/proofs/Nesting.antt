@@ -13,8 +13,8 @@ use Rattle.literal_parser.specs.Lexemes.{Word, Name, Reserved, TypeName, Var, St
 use Rattle.literal_parser.specs.Forms.{is_end, form, is_name, is_rule_name, is_any_name, is_type_name, is_var, is_index, is_note, is_lbrace, is_rbrace, is_lparen, is_rparen, is_lbracket, is_rbracket, is_comma, is_colon, is_bar, is_dot, is_star, is_assign, is_equality, is_sign, is_let, is_rule, is_when, is_some_word, is_or, is_neg, is_keys, is_this, is_in, is_operator_word, is_key, is_first_key, is_r, is_number, is_scalar, is_opening_end, is_closing_end, is_opening, is_closing}
 use Rattle.literal_parser.specs.States.{State, past, Opens}
 use Rattle.guard_parser.specs.File.{open_behind, open_before, IsShallowTo}
-use Rattle.literal_parser.specs.LiteralDepth.{deep_forest}
-use Rattle.guard_parser.specs.Depth.{deep_body, deep_lets, deep_let, deep_conds, deep_opt_conds, deep_disjs, deep_disj, deep_parts, deep_part, deep_query, deep_steps, deep_step, deep_expr, deep_opt_expr, deep_exprs, deep_rule, deep_rules, deep_file}
+use Rattle.literal_parser.specs.code.LiteralDepth.{deep_forest}
+use Rattle.guard_parser.specs.code.Depth.{deep_body, deep_lets, deep_let, deep_conds, deep_opt_conds, deep_disjs, deep_disj, deep_parts, deep_part, deep_query, deep_steps, deep_step, deep_expr, deep_opt_expr, deep_exprs, deep_rule, deep_rules, deep_file}
 use Rattle.literal_parser.specs.Literal.{constant_kind, scalar_kind, holder, IsLiteral, AreItems, AreMoreItems, AreEntries, AreMoreEntries, IsNode, IsEntry}
 use Rattle.guard_parser.specs.Grammar.{Sort, ALet, ARule, APart, Piece, is_sort, of_sort, body_sort, file_sort, InRow, IsCapture, IsNote, IsNeg, IsOperator, IsKeysOperator, IsAny, IsNot, IsNames, IsBody, AreLets, AreDisjs, IsLet, IsConds, IsDisjs, IsOptConds, IsDisj, IsOrs, IsPart, IsRight, IsQuery, IsStart, IsSteps, IsStep, IsExpr, IsExprs, IsMoreExprs, IsHead, IsRule, AreRules, IsContents}
 use Rattle.literal_parser.proofs.Apart.{always, apart, implied}

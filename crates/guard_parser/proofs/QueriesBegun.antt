@@ -5,8 +5,8 @@ use Rattle.guard_lexer.specs.declared.token.Token.{Token}
 use Rattle.guard_syntax.specs.Named.{Named}
 use Rattle.guard_syntax.specs.declared.syntax.Op.{Op}
 use Rattle.guard_syntax.specs.Syntax.{Body, Lets, Let, Conds, OptConds, Disjs, Disj, Parts, Part, Query, Steps, Step, Expr, OptExpr, Exprs, Rule, File, body, no_lets, more_lets, assign, conds, no_conds, with_conds, no_disjs, more_disjs, disj, no_parts, more_parts, block, guarded, kinds, test, refer, call, query, no_steps, more_steps, this, var, key, index, every, items, splice, filter, keys, literal, function, asked, found, no_expr, with_expr, no_exprs, more_exprs}
-use Rattle.guard_syntax.specs.Queries as sq
-use Rattle.guard_syntax.specs.Queries.{Begins, QueriesBegin, queries_body, queries_lets, queries_let, queries_conds, queries_opt_conds, queries_disjs, queries_disj, queries_parts, queries_part, queries_query, queries_steps, queries_step, queries_expr, queries_opt_expr, queries_exprs, queries_rule}
+use Rattle.guard_syntax.specs.code.Queries as sq
+use Rattle.guard_syntax.specs.code.Queries.{Begins, QueriesBegin, queries_body, queries_lets, queries_let, queries_conds, queries_opt_conds, queries_disjs, queries_disj, queries_parts, queries_part, queries_query, queries_steps, queries_step, queries_expr, queries_opt_expr, queries_exprs, queries_rule}
 use Rattle.literal_parser.specs.Lexemes.{Lexeme, lexemes}
 use Rattle.literal_parser.specs.States.{State, start}
 use Rattle.guard_parser.specs.Grammar.{Piece, IsBody, AreLets, AreDisjs, IsLet, IsConds, IsDisjs, IsOptConds, IsDisj, IsOrs, IsPart, IsRight, IsQuery, IsStart, IsSteps, IsStep, IsExpr, IsExprs, IsMoreExprs, IsHead, IsRule, AreRules, IsContents}

@@ -6,11 +6,11 @@ use Rattle.guard_syntax.specs.Syntax.{Disjs, Part, Query, no_conds, no_disjs, mo
 use Rattle.literal_parser.specs.Lexemes.{Lexeme}
 use Rattle.literal_parser.specs.Forms.{form, is_name, is_rule_name, is_any_name, is_type_name, is_var, is_index, is_note, is_lbrace, is_rbrace, is_lparen, is_rparen, is_lbracket, is_rbracket, is_comma, is_bar, is_dot, is_star, is_assign, is_equality, is_sign, is_let, is_rule, is_when, is_some_word, is_or, is_neg, is_keys, is_this, is_in, is_operator_word, is_key, is_first_key, is_start, is_plain, is_constant, begins_step, begins_cond, begins_part, leads, opens_range, is_literal, is_applied, text_of, named_of, index_of, operator_of, sign_of, is_binary}
 use Rattle.literal_parser.specs.States.{State, start, Rel, ◌⨾◌, Opens, Takes, Has}
-use Rattle.literal_parser.specs.Parser.{Parser, stop}
+use Rattle.literal_parser.specs.code.Parser.{Parser, stop}
 use Rattle.literal_parser.specs.Literal.{IsLiteral}
-use Rattle.literal_parser.specs.LiteralReading.{literal_of}
+use Rattle.literal_parser.specs.code.LiteralReading.{literal_of}
 use Rattle.guard_parser.specs.Grammar.{ALet, ARule, APart, Piece, of_sort, part_sort, body_sort, file_sort, IsFilled, InRow, IsCapture, IsNote, IsNeg, IsOperator, IsKeysOperator, IsAny, IsNot, IsNames, IsBody, AreLets, AreDisjs, IsLet, IsConds, IsDisjs, IsOptConds, IsDisj, IsOrs, IsPart, IsRight, IsQuery, IsStart, IsSteps, IsStep, IsExpr, IsExprs, IsMoreExprs, IsHead, IsRule, AreRules, IsContents}
-use Rattle.guard_parser.specs.Reading.{is_filled, BodyItems, FileItems, Inner, named_bar, capture, note, neg, worded, operator, keys_operator, names, params, dotted, keyed, filtered, bracketed, step, steps, start_step, query_of, tree_expr, applied, asked_expr, expr_of, found_expr, value_of, more_exprs_of, exprs_of, right, tested, called, referred, ruled, judged, headed, led_by_name, cond_of, cond_part, ors, disj_of, disjs, conds_of, opt_conds, guarded_part, kinds_part, full_part, let_of, body_items, body_end, body_of, head, rule_of, file_items, contents, inners}
+use Rattle.guard_parser.specs.code.Reading.{is_filled, BodyItems, FileItems, Inner, named_bar, capture, note, neg, worded, operator, keys_operator, names, params, dotted, keyed, filtered, bracketed, step, steps, start_step, query_of, tree_expr, applied, asked_expr, expr_of, found_expr, value_of, more_exprs_of, exprs_of, right, tested, called, referred, ruled, judged, headed, led_by_name, cond_of, cond_part, ors, disj_of, disjs, conds_of, opt_conds, guarded_part, kinds_part, full_part, let_of, body_items, body_end, body_of, head, rule_of, file_items, contents, inners}
 use Rattle.literal_parser.proofs.Steps.{opens_sound, takes_sound, has_sound, choose_sound, pair_sound, next_sound, third_sound}
 use Rattle.literal_parser.proofs.Combine.{Holds, Sound, done, failed, holds_then, holds_so, holds_if}
 use Rattle.guard_parser.proofs.Facts.{literal_range, literal_plain, literal_constant, literal_applied, literal_named, literal_other, applied_not, applied_other, led_by_start, led_by_next, led_by_third, unled_next, unled_third, capture_bar, capture_name}

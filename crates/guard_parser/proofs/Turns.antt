@@ -1,12 +1,12 @@
 -- What was read of a file before, in front of one item more.
 use Rattle.std.proofs.Common.{◌≡◌, ℕ, List, [], ◌∷◌, ◌++◌, refl, ap, sym, append_assoc}
 use Rattle.guard_syntax.specs.Syntax as sx
-use Rattle.guard_syntax.specs.Seen.{prepend}
+use Rattle.guard_syntax.specs.code.Seen.{prepend}
 use Rattle.guard_syntax.specs.Named.{Named}
-use Rattle.literal_parser.specs.Parser.{Outcome, Read, Fail, Parser, and_then, pure}
-use Rattle.guard_parser.specs.Reading as spec
+use Rattle.literal_parser.specs.code.Parser.{Outcome, Read, Fail, Parser, and_then, pure}
+use Rattle.guard_parser.specs.code.Reading as spec
 use Rattle.guard_parser.proofs.CodeSteps.{prepend-push}
-use Rattle.guard_parser.specs.FileReads.{before_names, before_items}
+use Rattle.guard_parser.specs.code.FileReads.{before_names, before_items}
 
 pub name_turn : (xs : List Named) (x : Named) (o : Outcome (List Named)) → before_names xs (and_then o (λ l. pure (x ∷ l))) ≡ before_names (xs ++ x ∷ []) o
 name_turn xs x (Read l st seen) = ap (λ z. Read z st seen) (sym (append_assoc xs (x ∷ []) l))

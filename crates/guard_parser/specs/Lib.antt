@@ -1,6 +1,3 @@
 pub mod Grammar
-pub mod Reading
-pub mod GrammarReads
-pub mod FileReads
-pub mod Depth
 pub mod File
+pub mod code

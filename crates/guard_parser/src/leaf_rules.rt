@@ -1,12 +1,12 @@
 //! The rules of the grammar that hold no other parts.
 ghost use Rattle.std.specs.Prelude.{◌≡◌, ◌≤◌, ℕ, Option, Some, None, map};
 ghost use Rattle.guard_syntax.specs.declared.syntax.Op.{Op};
-ghost use Rattle.guard_syntax.specs.Seen.{see_step, see_expr};
+ghost use Rattle.guard_syntax.specs.code.Seen.{see_step, see_expr};
 ghost use Rattle.literal_parser.specs.Forms.{leads, is_binary};
-ghost use Rattle.literal_parser.specs.TokenClasses.{wants};
-ghost use Rattle.literal_parser.specs.Reads.{Reads, itself, state_of, source};
-ghost use Rattle.guard_parser.specs.GrammarReads.{tree_expr_at, every_at, index_at, splice_at, key_at, name_at, behind_dot_at, dotted_at, items_at, closed_index_at, start_at, tree_at};
-ghost use Rattle.guard_parser.specs.Reading as spec;
+ghost use Rattle.literal_parser.specs.code.TokenClasses.{wants};
+ghost use Rattle.literal_parser.specs.code.Reads.{Reads, itself, state_of, source};
+ghost use Rattle.guard_parser.specs.code.GrammarReads.{tree_expr_at, every_at, index_at, splice_at, key_at, name_at, behind_dot_at, dotted_at, items_at, closed_index_at, start_at, tree_at};
+ghost use Rattle.guard_parser.specs.code.Reading as spec;
 
 use doc_values::Doc;
 use guard_syntax::{Expr, Name, Op, Step, StepForm, Text};
@@ -14,7 +14,7 @@ use literal_parser::literal::literal;
 use literal_parser::{Cursor, Halt, TokenTest, Tokens};
 use std::alloc::Global;
 
-#[tactic(auto, unfolding(crate::specs::Reading::named_bar))]
+#[tactic(auto, unfolding(crate::specs::code::Reading::named_bar))]
 fn named_bar(alloc: Global, tokens: Tokens<'_>, cursor: &mut Cursor) -> Result<Option<Name>, Halt>
     ensures { Reads itself (spec.named_bar (source tokens.entry) (state_of cursor.old) cursor.old.seen) result cursor.new }
 {
@@ -24,7 +24,7 @@ fn named_bar(alloc: Global, tokens: Tokens<'_>, cursor: &mut Cursor) -> Result<O
 }
 
 /// A name and a bar, or nothing.
-#[tactic(auto, unfolding(crate::specs::Reading::capture, literal_parser::specs::Parser::choose, literal_parser::specs::Parser::choose_next))]
+#[tactic(auto, unfolding(crate::specs::code::Reading::capture, literal_parser::specs::code::Parser::choose, literal_parser::specs::code::Parser::choose_next))]
 pub(crate) fn capture(
     alloc: Global,
     tokens: Tokens<'_>,
@@ -42,7 +42,7 @@ pub(crate) fn capture(
 }
 
 /// A note, or nothing.
-#[tactic(auto, unfolding(crate::specs::Reading::note, literal_parser::specs::Parser::choose))]
+#[tactic(auto, unfolding(crate::specs::code::Reading::note, literal_parser::specs::code::Parser::choose))]
 pub(crate) fn note(
     alloc: Global,
     tokens: Tokens<'_>,
@@ -58,7 +58,7 @@ pub(crate) fn note(
 }
 
 /// `!` or `not`, or nothing.
-#[tactic(auto, unfolding(crate::specs::Reading::neg, literal_parser::specs::Parser::choose))]
+#[tactic(auto, unfolding(crate::specs::code::Reading::neg, literal_parser::specs::code::Parser::choose))]
 fn neg(tokens: Tokens<'_>, cursor: &mut Cursor) -> Result<bool, Halt>
     ensures { Reads itself (spec.neg (source tokens.entry) (state_of cursor.old) cursor.old.seen) result cursor.new }
 {
@@ -70,7 +70,7 @@ fn neg(tokens: Tokens<'_>, cursor: &mut Cursor) -> Result<bool, Halt>
 }
 
 /// The word of an operator, negated or not.
-#[tactic(auto, unfolding(crate::specs::Reading::worded))]
+#[tactic(auto, unfolding(crate::specs::code::Reading::worded))]
 fn worded(tokens: Tokens<'_>, cursor: &mut Cursor, want: TokenTest) -> Result<(Op, bool), Halt>
     ensures { Reads itself (spec.worded (source tokens.entry) (wants want) (state_of cursor.old) cursor.old.seen) result cursor.new }
 {
@@ -80,7 +80,7 @@ fn worded(tokens: Tokens<'_>, cursor: &mut Cursor, want: TokenTest) -> Result<(O
 }
 
 /// The operator of a test.
-#[tactic(auto, unfolding(crate::specs::Reading::operator, literal_parser::specs::Parser::choose))]
+#[tactic(auto, unfolding(crate::specs::code::Reading::operator, literal_parser::specs::code::Parser::choose))]
 pub(crate) fn operator(tokens: Tokens<'_>, cursor: &mut Cursor) -> Result<(Op, bool), Halt>
     ensures { Reads itself (spec.operator (source tokens.entry) (state_of cursor.old) cursor.old.seen) result cursor.new }
 {
@@ -91,7 +91,7 @@ pub(crate) fn operator(tokens: Tokens<'_>, cursor: &mut Cursor) -> Result<(Op, b
 }
 
 /// The operator of a filter on keys.
-#[tactic(auto, unfolding(crate::specs::Reading::keys_operator, literal_parser::specs::Parser::choose))]
+#[tactic(auto, unfolding(crate::specs::code::Reading::keys_operator, literal_parser::specs::code::Parser::choose))]
 pub(crate) fn keys_operator(tokens: Tokens<'_>, cursor: &mut Cursor) -> Result<(Op, bool), Halt>
     ensures { Reads itself (spec.keys_operator (source tokens.entry) (state_of cursor.old) cursor.old.seen) result cursor.new }
 {
@@ -160,7 +160,7 @@ fn keyed_by(alloc: Global, tokens: Tokens<'_>, cursor: &mut Cursor, site: u32) -
     })
 }
 
-#[tactic(auto, unfolding(literal_parser::specs::Parser::choose))]
+#[tactic(auto, unfolding(literal_parser::specs::code::Parser::choose))]
 fn named(alloc: Global, tokens: Tokens<'_>, cursor: &mut Cursor, site: u32) -> Result<Step, Halt>
     ensures { Reads see_step (name_at tokens.entry site (state_of cursor.old) cursor.old.seen) result cursor.new }
 {
@@ -170,7 +170,7 @@ fn named(alloc: Global, tokens: Tokens<'_>, cursor: &mut Cursor, site: u32) -> R
     keyed_by(alloc, tokens, cursor, site)
 }
 
-#[tactic(auto, unfolding(literal_parser::specs::Parser::choose))]
+#[tactic(auto, unfolding(literal_parser::specs::code::Parser::choose))]
 fn behind_dot(
     alloc: Global,
     tokens: Tokens<'_>,
@@ -230,7 +230,7 @@ pub(crate) fn numbered_item(
 }
 
 /// The start of a query.
-#[tactic(auto, unfolding(literal_parser::specs::Parser::choose))]
+#[tactic(auto, unfolding(literal_parser::specs::code::Parser::choose))]
 pub(crate) fn start_step(
     alloc: Global,
     tokens: Tokens<'_>,
@@ -273,7 +273,7 @@ fn tree_inside(
 }
 
 /// A literal.
-#[tactic(auto, unfolding(crate::specs::Reading::tree_expr))]
+#[tactic(auto, unfolding(crate::specs::code::Reading::tree_expr))]
 pub(crate) fn tree_expr(
     alloc: Global,
     tokens: Tokens<'_>,

@@ -1,8 +1,8 @@
 //! Bodies, their parts and conditions. The grammar recurs through brackets alone, each time one level of depth less.
 ghost use Rattle.std.specs.Prelude.{◌≤◌, map};
-ghost use Rattle.guard_syntax.specs.Seen.{see_body, see_conds, see_disj, see_let, see_part, see_query, see_opt_conds, see_opt_expr};
-ghost use Rattle.literal_parser.specs.Reads.{Reads, state_of};
-ghost use Rattle.guard_parser.specs.GrammarReads.{see_disjs, see_items, see_parts, body_at, body_end_at, body_items_at, called_at, cond_at, cond_part_at, conds_at, disj_at, disjs_front_at, full_part_at, guarded_at, headed_at, inner_body_at, judged_at, kinds_at, led_at, led_by_name_at, let_at, opt_conds_at, ors_front_at, part_at, right_at, ruled_at, tested_at};
+ghost use Rattle.guard_syntax.specs.code.Seen.{see_body, see_conds, see_disj, see_let, see_part, see_query, see_opt_conds, see_opt_expr};
+ghost use Rattle.literal_parser.specs.code.Reads.{Reads, state_of};
+ghost use Rattle.guard_parser.specs.code.GrammarReads.{see_disjs, see_items, see_parts, body_at, body_end_at, body_items_at, called_at, cond_at, cond_part_at, conds_at, disj_at, disjs_front_at, full_part_at, guarded_at, headed_at, inner_body_at, judged_at, kinds_at, led_at, led_by_name_at, let_at, opt_conds_at, ors_front_at, part_at, right_at, ruled_at, tested_at};
 
 use crate::leaf_rules::{is_binary, lead_of, note, operator};
 use crate::read_query::{expr, exprs, query, value};
@@ -12,7 +12,7 @@ use std::alloc::Global;
 
 /// A body, one bracket deeper.
 #[cycle(grammar)]
-#[tactic(auto, unfolding(crate::specs::Reading::body_of))]
+#[tactic(auto, unfolding(crate::specs::code::Reading::body_of))]
 pub(crate) fn body(
     alloc: Global,
     tokens: Tokens<'_>,
@@ -29,7 +29,7 @@ pub(crate) fn body(
 }
 
 #[cycle(grammar)]
-#[tactic(auto, unfolding(crate::specs::Reading::body_of, crate::specs::Reading::body_end))]
+#[tactic(auto, unfolding(crate::specs::code::Reading::body_of, crate::specs::code::Reading::body_end))]
 fn body_of(
     alloc: Global,
     tokens: Tokens<'_>,
@@ -62,7 +62,7 @@ fn body_end(
 }
 
 #[cycle(grammar)]
-#[tactic(auto, unfolding(crate::specs::Reading::body_items, literal_parser::specs::Parser::choose))]
+#[tactic(auto, unfolding(crate::specs::code::Reading::body_items, literal_parser::specs::code::Parser::choose))]
 fn body_items(
     alloc: Global,
     tokens: Tokens<'_>,
@@ -95,7 +95,7 @@ fn body_items(
 
 /// `let name = value`
 #[cycle(grammar)]
-#[tactic(auto, unfolding(crate::specs::Reading::let_of))]
+#[tactic(auto, unfolding(crate::specs::code::Reading::let_of))]
 pub(crate) fn let_of(
     alloc: Global,
     tokens: Tokens<'_>,
@@ -115,7 +115,7 @@ pub(crate) fn let_of(
 
 /// Parts joined by `or`: those of a body, or conditions.
 #[cycle(grammar)]
-#[tactic(auto, unfolding(crate::specs::Reading::disj_of))]
+#[tactic(auto, unfolding(crate::specs::code::Reading::disj_of))]
 pub(crate) fn disj(
     alloc: Global,
     tokens: Tokens<'_>,
@@ -134,7 +134,7 @@ pub(crate) fn disj(
 }
 
 #[cycle(grammar)]
-#[tactic(auto, unfolding(crate::specs::Reading::ors, literal_parser::specs::Parser::choose))]
+#[tactic(auto, unfolding(crate::specs::code::Reading::ors, literal_parser::specs::code::Parser::choose))]
 fn ors(
     alloc: Global,
     tokens: Tokens<'_>,
@@ -176,7 +176,7 @@ fn part(
 }
 
 #[cycle(grammar)]
-#[tactic(auto, unfolding(crate::specs::Reading::cond_part))]
+#[tactic(auto, unfolding(crate::specs::code::Reading::cond_part))]
 fn cond_part(
     alloc: Global,
     tokens: Tokens<'_>,
@@ -191,7 +191,7 @@ fn cond_part(
 }
 
 #[cycle(grammar)]
-#[tactic(auto, unfolding(crate::specs::Reading::full_part, literal_parser::specs::Parser::choose))]
+#[tactic(auto, unfolding(crate::specs::code::Reading::full_part, literal_parser::specs::code::Parser::choose))]
 fn full_part(
     alloc: Global,
     tokens: Tokens<'_>,
@@ -212,7 +212,7 @@ fn full_part(
 }
 
 #[cycle(grammar)]
-#[tactic(auto, unfolding(crate::specs::Reading::guarded_part))]
+#[tactic(auto, unfolding(crate::specs::code::Reading::guarded_part))]
 fn guarded(
     alloc: Global,
     tokens: Tokens<'_>,
@@ -230,7 +230,7 @@ fn guarded(
 }
 
 #[cycle(grammar)]
-#[tactic(auto, unfolding(crate::specs::Reading::kinds_part))]
+#[tactic(auto, unfolding(crate::specs::code::Reading::kinds_part))]
 fn kinds(
     alloc: Global,
     tokens: Tokens<'_>,
@@ -254,7 +254,7 @@ fn kinds(
 
 /// `when` and conditions, or nothing.
 #[cycle(grammar)]
-#[tactic(auto, unfolding(crate::specs::Reading::opt_conds, literal_parser::specs::Parser::choose))]
+#[tactic(auto, unfolding(crate::specs::code::Reading::opt_conds, literal_parser::specs::code::Parser::choose))]
 pub(crate) fn opt_conds(
     alloc: Global,
     tokens: Tokens<'_>,
@@ -273,7 +273,7 @@ pub(crate) fn opt_conds(
 }
 
 #[cycle(grammar)]
-#[tactic(auto, unfolding(crate::specs::Reading::conds_of))]
+#[tactic(auto, unfolding(crate::specs::code::Reading::conds_of))]
 pub(crate) fn conds(
     alloc: Global,
     tokens: Tokens<'_>,
@@ -291,7 +291,7 @@ pub(crate) fn conds(
 }
 
 #[cycle(grammar)]
-#[tactic(auto, unfolding(crate::specs::Reading::disjs, literal_parser::specs::Parser::choose))]
+#[tactic(auto, unfolding(crate::specs::code::Reading::disjs, literal_parser::specs::code::Parser::choose))]
 fn disjs(
     alloc: Global,
     tokens: Tokens<'_>,
@@ -313,7 +313,7 @@ fn disjs(
 }
 
 #[cycle(grammar)]
-#[tactic(auto, unfolding(crate::specs::Reading::cond_of, literal_parser::specs::Parser::choose))]
+#[tactic(auto, unfolding(crate::specs::code::Reading::cond_of, literal_parser::specs::code::Parser::choose))]
 fn cond(
     alloc: Global,
     tokens: Tokens<'_>,
@@ -337,7 +337,7 @@ fn cond(
 }
 
 #[cycle(grammar)]
-#[tactic(auto, unfolding(literal_parser::specs::Parser::choose))]
+#[tactic(auto, unfolding(literal_parser::specs::code::Parser::choose))]
 fn led(
     alloc: Global,
     tokens: Tokens<'_>,
@@ -360,7 +360,7 @@ fn led(
 
 /// A name begins a query or is a rule's.
 #[cycle(grammar)]
-#[tactic(auto, unfolding(crate::specs::Reading::led_by_name, literal_parser::specs::Parser::choose_next, literal_parser::specs::Parser::choose_third))]
+#[tactic(auto, unfolding(crate::specs::code::Reading::led_by_name, literal_parser::specs::code::Parser::choose_next, literal_parser::specs::code::Parser::choose_third))]
 fn led_by_name(
     alloc: Global,
     tokens: Tokens<'_>,
@@ -385,7 +385,7 @@ fn led_by_name(
 }
 
 #[cycle(grammar)]
-#[tactic(auto, unfolding(crate::specs::Reading::headed))]
+#[tactic(auto, unfolding(crate::specs::code::Reading::headed))]
 fn headed(
     alloc: Global,
     tokens: Tokens<'_>,
@@ -403,7 +403,7 @@ fn headed(
 }
 
 #[cycle(grammar)]
-#[tactic(auto, unfolding(crate::specs::Reading::judged, literal_parser::specs::Parser::choose))]
+#[tactic(auto, unfolding(crate::specs::code::Reading::judged, literal_parser::specs::code::Parser::choose))]
 fn judged(
     alloc: Global,
     tokens: Tokens<'_>,
@@ -433,7 +433,7 @@ fn judged(
 }
 
 #[cycle(grammar)]
-#[tactic(auto, unfolding(crate::specs::Reading::tested))]
+#[tactic(auto, unfolding(crate::specs::code::Reading::tested))]
 fn tested(
     alloc: Global,
     tokens: Tokens<'_>,
@@ -461,7 +461,7 @@ fn tested(
 }
 
 #[cycle(grammar)]
-#[tactic(auto, unfolding(crate::specs::Reading::right))]
+#[tactic(auto, unfolding(crate::specs::code::Reading::right))]
 fn right(
     alloc: Global,
     tokens: Tokens<'_>,
@@ -480,7 +480,7 @@ fn right(
 }
 
 #[cycle(grammar)]
-#[tactic(auto, unfolding(crate::specs::Reading::ruled, crate::specs::Reading::referred, literal_parser::specs::Parser::choose))]
+#[tactic(auto, unfolding(crate::specs::code::Reading::ruled, crate::specs::code::Reading::referred, literal_parser::specs::code::Parser::choose))]
 fn ruled(
     alloc: Global,
     tokens: Tokens<'_>,
@@ -506,7 +506,7 @@ fn ruled(
 }
 
 #[cycle(grammar)]
-#[tactic(auto, unfolding(crate::specs::Reading::called))]
+#[tactic(auto, unfolding(crate::specs::code::Reading::called))]
 fn called(
     alloc: Global,
     tokens: Tokens<'_>,

@@ -1,8 +1,8 @@
 //! The grammar of a file: its lets, its rules and its parts.
 ghost use Rattle.std.specs.Prelude.{◌≡◌, ◌≤◌, map};
-ghost use Rattle.guard_syntax.specs.Seen.{see_rule};
-ghost use Rattle.literal_parser.specs.Reads.{Reads, state_of};
-ghost use Rattle.guard_parser.specs.FileReads.{see_head, see_file_items, before_names, before_items, names_at, params_at, head_at, rule_at, items_at, contents_at, whole_file_at};
+ghost use Rattle.guard_syntax.specs.code.Seen.{see_rule};
+ghost use Rattle.literal_parser.specs.code.Reads.{Reads, state_of};
+ghost use Rattle.guard_parser.specs.code.FileReads.{see_head, see_file_items, before_names, before_items, names_at, params_at, head_at, rule_at, items_at, contents_at, whole_file_at};
 
 use crate::items::FileItems;
 use crate::read::{body, disj, let_of, opt_conds};
@@ -11,7 +11,7 @@ use literal_parser::{Cursor, Halt, TokenTest, Tokens};
 use std::alloc::Global;
 
 /// Names behind commas, behind those that were found before.
-#[tactic(auto, unfolding(crate::specs::Reading::names, literal_parser::specs::Parser::choose))]
+#[tactic(auto, unfolding(crate::specs::code::Reading::names, literal_parser::specs::code::Parser::choose))]
 fn names(
     alloc: Global,
     tokens: Tokens<'_>,
@@ -32,7 +32,7 @@ fn names(
 }
 
 /// The parameters of a rule.
-#[tactic(auto, unfolding(crate::specs::Reading::params))]
+#[tactic(auto, unfolding(crate::specs::code::Reading::params))]
 fn params(alloc: Global, tokens: Tokens<'_>, cursor: &mut Cursor) -> Result<Vec<Name>, Halt>
     ensures { Reads (λ v. v.items) (params_at tokens.entry (state_of cursor.old) cursor.old.seen) result cursor.new }
 {
@@ -45,7 +45,7 @@ fn params(alloc: Global, tokens: Tokens<'_>, cursor: &mut Cursor) -> Result<Vec<
 }
 
 /// The parameters of a rule, or its conditions.
-#[tactic(auto, unfolding(crate::specs::Reading::head, literal_parser::specs::Parser::choose))]
+#[tactic(auto, unfolding(crate::specs::code::Reading::head, literal_parser::specs::code::Parser::choose))]
 fn head(
     alloc: Global,
     tokens: Tokens<'_>,
@@ -64,7 +64,7 @@ fn head(
 }
 
 /// A rule.
-#[tactic(auto, unfolding(crate::specs::Reading::rule_of))]
+#[tactic(auto, unfolding(crate::specs::code::Reading::rule_of))]
 fn rule(alloc: Global, tokens: Tokens<'_>, cursor: &mut Cursor, depth: usize) -> Result<Rule, Halt>
     requires room { depth ≤ 128 }
     ensures { Reads see_rule (rule_at tokens.entry depth (state_of cursor.old) cursor.old.seen) result cursor.new }
@@ -84,7 +84,7 @@ fn rule(alloc: Global, tokens: Tokens<'_>, cursor: &mut Cursor, depth: usize) ->
 }
 
 /// The lets, the rules and the parts of a file, up to what begins none.
-#[tactic(auto, unfolding(crate::specs::Reading::file_items, literal_parser::specs::Parser::choose))]
+#[tactic(auto, unfolding(crate::specs::code::Reading::file_items, literal_parser::specs::code::Parser::choose))]
 fn items(
     alloc: Global,
     tokens: Tokens<'_>,
@@ -121,7 +121,7 @@ fn items(
 }
 
 /// The same, with the site of the file before them.
-#[tactic(auto, unfolding(crate::specs::Reading::contents))]
+#[tactic(auto, unfolding(crate::specs::code::Reading::contents))]
 fn contents(
     alloc: Global,
     tokens: Tokens<'_>,
@@ -136,7 +136,7 @@ fn contents(
 }
 
 /// The contents of a file, and nothing behind them.
-#[tactic(auto, unfolding(crate::specs::Reading::whole_file, literal_parser::specs::Parser::choose))]
+#[tactic(auto, unfolding(crate::specs::code::Reading::whole_file, literal_parser::specs::code::Parser::choose))]
 pub(crate) fn whole_file(
     alloc: Global,
     tokens: Tokens<'_>,

@@ -1,9 +1,9 @@
 //! Queries and expressions. They lead back to conditions and to themselves through brackets alone, each time one level
 //! of depth less.
 ghost use Rattle.std.specs.Prelude.{◌≤◌, map};
-ghost use Rattle.guard_syntax.specs.Seen.{see_conds, see_query, see_step, see_expr};
-ghost use Rattle.literal_parser.specs.Reads.{Reads, state_of};
-ghost use Rattle.guard_parser.specs.GrammarReads.{see_exprs, see_steps, applied_at, asked_at, behind_bracket_at, bracketed_at, captured_at, expr_at, exprs_at, filtered_at, found_expr_at, inner_conds_at, inner_expr_at, inner_exprs_at, keyed_at, more_exprs_front_at, named_expr_at, query_at, step_at, steps_front_at, value_at};
+ghost use Rattle.guard_syntax.specs.code.Seen.{see_conds, see_query, see_step, see_expr};
+ghost use Rattle.literal_parser.specs.code.Reads.{Reads, state_of};
+ghost use Rattle.guard_parser.specs.code.GrammarReads.{see_exprs, see_steps, applied_at, asked_at, behind_bracket_at, bracketed_at, captured_at, expr_at, exprs_at, filtered_at, found_expr_at, inner_conds_at, inner_expr_at, inner_exprs_at, keyed_at, more_exprs_front_at, named_expr_at, query_at, step_at, steps_front_at, value_at};
 
 use crate::leaf_rules::{
     all_items, capture, dotted, keys_operator, numbered_item, start_step, tree_expr,
@@ -14,7 +14,7 @@ use literal_parser::{Cursor, Halt, TokenTest, Tokens};
 use std::alloc::Global;
 
 #[cycle(grammar)]
-#[tactic(auto, unfolding(crate::specs::Reading::query_of, crate::specs::Reading::start_step))]
+#[tactic(auto, unfolding(crate::specs::code::Reading::query_of, crate::specs::code::Reading::start_step))]
 pub(crate) fn query(
     alloc: Global,
     tokens: Tokens<'_>,
@@ -32,7 +32,7 @@ pub(crate) fn query(
 }
 
 #[cycle(grammar)]
-#[tactic(auto, unfolding(crate::specs::Reading::steps, literal_parser::specs::Parser::choose))]
+#[tactic(auto, unfolding(crate::specs::code::Reading::steps, literal_parser::specs::code::Parser::choose))]
 fn steps(
     alloc: Global,
     tokens: Tokens<'_>,
@@ -54,7 +54,7 @@ fn steps(
 }
 
 #[cycle(grammar)]
-#[tactic(auto, unfolding(crate::specs::Reading::step, crate::specs::Reading::dotted, literal_parser::specs::Parser::choose))]
+#[tactic(auto, unfolding(crate::specs::code::Reading::step, crate::specs::code::Reading::dotted, literal_parser::specs::code::Parser::choose))]
 fn step(alloc: Global, tokens: Tokens<'_>, cursor: &mut Cursor, depth: usize) -> Result<Step, Halt>
     requires room { depth ≤ 128 }
     ensures { Reads see_step (step_at tokens.entry depth (state_of cursor.old) cursor.old.seen) result cursor.new }
@@ -67,7 +67,7 @@ fn step(alloc: Global, tokens: Tokens<'_>, cursor: &mut Cursor, depth: usize) ->
 }
 
 #[cycle(grammar)]
-#[tactic(auto, unfolding(crate::specs::Reading::bracketed))]
+#[tactic(auto, unfolding(crate::specs::code::Reading::bracketed))]
 fn bracketed(
     alloc: Global,
     tokens: Tokens<'_>,
@@ -83,7 +83,7 @@ fn bracketed(
 }
 
 #[cycle(grammar)]
-#[tactic(auto, unfolding(literal_parser::specs::Parser::choose))]
+#[tactic(auto, unfolding(literal_parser::specs::code::Parser::choose))]
 fn behind_bracket(
     alloc: Global,
     tokens: Tokens<'_>,
@@ -104,7 +104,7 @@ fn behind_bracket(
 }
 
 #[cycle(grammar)]
-#[tactic(auto, unfolding(literal_parser::specs::Parser::choose))]
+#[tactic(auto, unfolding(literal_parser::specs::code::Parser::choose))]
 fn captured(
     alloc: Global,
     tokens: Tokens<'_>,
@@ -123,7 +123,7 @@ fn captured(
 }
 
 #[cycle(grammar)]
-#[tactic(auto, unfolding(crate::specs::Reading::keyed))]
+#[tactic(auto, unfolding(crate::specs::code::Reading::keyed))]
 fn keyed(
     alloc: Global,
     tokens: Tokens<'_>,
@@ -151,7 +151,7 @@ fn keyed(
 }
 
 #[cycle(grammar)]
-#[tactic(auto, unfolding(crate::specs::Reading::filtered))]
+#[tactic(auto, unfolding(crate::specs::code::Reading::filtered))]
 fn filtered(
     alloc: Global,
     tokens: Tokens<'_>,
@@ -206,7 +206,7 @@ fn expr_inside(
 }
 
 #[cycle(grammar)]
-#[tactic(auto, unfolding(crate::specs::Reading::expr_of, literal_parser::specs::Parser::choose))]
+#[tactic(auto, unfolding(crate::specs::code::Reading::expr_of, literal_parser::specs::code::Parser::choose))]
 pub(crate) fn expr(
     alloc: Global,
     tokens: Tokens<'_>,
@@ -227,7 +227,7 @@ pub(crate) fn expr(
 
 /// An expression that begins with a name or a keyword.
 #[cycle(grammar)]
-#[tactic(auto, unfolding(literal_parser::specs::Parser::choose, literal_parser::specs::Parser::choose_pair, literal_parser::specs::Parser::choose_next))]
+#[tactic(auto, unfolding(literal_parser::specs::code::Parser::choose, literal_parser::specs::code::Parser::choose_pair, literal_parser::specs::code::Parser::choose_next))]
 fn named_expr(
     alloc: Global,
     tokens: Tokens<'_>,
@@ -250,7 +250,7 @@ fn named_expr(
 }
 
 #[cycle(grammar)]
-#[tactic(auto, unfolding(crate::specs::Reading::asked_expr))]
+#[tactic(auto, unfolding(crate::specs::code::Reading::asked_expr))]
 fn asked(alloc: Global, tokens: Tokens<'_>, cursor: &mut Cursor, depth: usize) -> Result<Expr, Halt>
     requires room { depth ≤ 128 }
     ensures { Reads see_expr (asked_at tokens.entry depth (state_of cursor.old) cursor.old.seen) result cursor.new }
@@ -260,7 +260,7 @@ fn asked(alloc: Global, tokens: Tokens<'_>, cursor: &mut Cursor, depth: usize) -
 }
 
 #[cycle(grammar)]
-#[tactic(auto, unfolding(crate::specs::Reading::applied))]
+#[tactic(auto, unfolding(crate::specs::code::Reading::applied))]
 fn applied(
     alloc: Global,
     tokens: Tokens<'_>,
@@ -296,7 +296,7 @@ pub(crate) fn exprs(
 }
 
 #[cycle(grammar)]
-#[tactic(auto, unfolding(crate::specs::Reading::exprs_of))]
+#[tactic(auto, unfolding(crate::specs::code::Reading::exprs_of))]
 fn exprs_of(
     alloc: Global,
     tokens: Tokens<'_>,
@@ -312,7 +312,7 @@ fn exprs_of(
 }
 
 #[cycle(grammar)]
-#[tactic(auto, unfolding(crate::specs::Reading::more_exprs_of, literal_parser::specs::Parser::choose))]
+#[tactic(auto, unfolding(crate::specs::code::Reading::more_exprs_of, literal_parser::specs::code::Parser::choose))]
 fn more_exprs(
     alloc: Global,
     tokens: Tokens<'_>,
@@ -336,7 +336,7 @@ fn more_exprs(
 
 /// The right side of a let.
 #[cycle(grammar)]
-#[tactic(auto, unfolding(crate::specs::Reading::value_of, literal_parser::specs::Parser::choose, literal_parser::specs::Parser::choose_next))]
+#[tactic(auto, unfolding(crate::specs::code::Reading::value_of, literal_parser::specs::code::Parser::choose, literal_parser::specs::code::Parser::choose_next))]
 pub(crate) fn value(
     alloc: Global,
     tokens: Tokens<'_>,
@@ -356,7 +356,7 @@ pub(crate) fn value(
 }
 
 #[cycle(grammar)]
-#[tactic(auto, unfolding(crate::specs::Reading::found_expr))]
+#[tactic(auto, unfolding(crate::specs::code::Reading::found_expr))]
 fn found_expr(
     alloc: Global,
     tokens: Tokens<'_>,

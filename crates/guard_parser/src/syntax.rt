@@ -3,8 +3,8 @@ ghost use Rattle.std.specs.Prelude.{◌≡◌, ◌≤◌, ◌<◌, ℕ, List, le
 ghost use Rattle.guard_lexer.specs.Lexes.{IsTokenList};
 ghost use Rattle.guard_lexer.specs.declared.token.Token.{Token};
 ghost use Rattle.guard_syntax.specs.Syntax.{File};
-ghost use Rattle.guard_syntax.specs.Seen.{see_file};
-ghost use Rattle.guard_syntax.specs.Queries.{QueriesBegin};
+ghost use Rattle.guard_syntax.specs.code.Seen.{see_file};
+ghost use Rattle.guard_syntax.specs.code.Queries.{QueriesBegin};
 ghost use Rattle.guard_syntax.specs.Sites.{upto, sites_file};
 ghost use Rattle.guard_parser.specs.declared.refusal.ParseRefusal.TheVariants.{NestTooDeep};
 ghost use Rattle.guard_parser.specs.File.{Rules, IsSpelled, IsShallow, IsTooDeep, IsRefused};

@@ -6,7 +6,7 @@ use Rattle.guard_io.specs.Outside.{IsPrefix}
 use Rattle.guard_ends.specs.End.{Faults, IsReport, MaySay, MayWant, Took, TookAsDefined, is_defined, is_reported}
 use Rattle.guard_ends.specs.Lines.{memory_line}
 use Rattle.guard_ends.specs.Order.{Contents, EndOf, Ended}
-use Rattle.guard_run.specs.Writing.{Closed, Said, SaidMemory}
+use Rattle.guard_run.specs.code.Writing.{Closed, Said, SaidMemory}
 use Rattle.guard_ends.specs.declared.ends.End.{End}
 use Rattle.guard_ends.specs.declared.ends.End.TheVariants as end_is
 

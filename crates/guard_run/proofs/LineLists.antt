@@ -8,10 +8,10 @@ use Rattle.guard_io.specs.declared.memory_sinks.CleanSink.{CleanSink}
 use Rattle.guard_syntax.specs.Syntax.{File}
 use Rattle.guard_syntax.specs.declared.row.Verdict.{Verdict}
 use Rattle.rule_meaning.specs.Verdicts.{is_pass, is_fail, is_skip}
-use Rattle.plain_evaluator.specs.States.{Grows, State}
+use Rattle.plain_evaluator.specs.code.States.{Grows, State}
 use Rattle.guard_ends.specs.Drill.{fail_count}
 use Rattle.report_text.specs.RuleLines.{rule_line}
-use Rattle.guard_run.specs.Listed.{AreLinesOf, count_of, lines_as, lines_in}
+use Rattle.guard_run.specs.code.Listed.{AreLinesOf, count_of, lines_as, lines_in}
 use Rattle.guard_ends.specs.Reported.{Reported}
 use Rattle.guard_run.specs.declared.report.Form.{Form}
 use Rattle.guard_run.specs.declared.report.Form.TheVariants as form

@@ -8,7 +8,7 @@ use Rattle.guard_ends.specs.declared.ends.Refusal.{Refusal}
 use Rattle.guard_ends.specs.declared.ends.Which.{Which}
 use Rattle.guard_ends.specs.declared.ends.Which.TheVariants as file
 use Rattle.guard_ends.specs.declared.format.Format.{Format}
-use Rattle.guard_run.specs.Loading.{RefusesLength, RefusesText}
+use Rattle.guard_run.specs.code.Loading.{RefusesLength, RefusesText}
 
 -- no more than the limit came, though one byte more was asked for: that is all of it
 pub loaded-whole : (told : Option (List ℕ)) (held bytes : List ℕ) (limit : ℕ) → held ≡ []

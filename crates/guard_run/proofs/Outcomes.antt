@@ -10,9 +10,9 @@ use Rattle.guard_ends.specs.Report.{Reporting}
 use Rattle.guard_ends.specs.Reported.{verdicts_of}
 use Rattle.guard_ends.specs.declared.ends.End.{End}
 use Rattle.guard_ends.specs.declared.ends.End.TheVariants as end_is
-use Rattle.guard_run.specs.Outcome.{IsOutcome, IsOutcomeAt, ended}
-use Rattle.guard_run.specs.Refusals.{bytes_of, said}
-use Rattle.guard_run.specs.Stops.{IsStop, NoneRose, Rose}
+use Rattle.guard_run.specs.code.Outcome.{IsOutcome, IsOutcomeAt, ended}
+use Rattle.guard_run.specs.code.Refusals.{bytes_of, said}
+use Rattle.guard_run.specs.code.Stops.{IsStop, NoneRose, Rose}
 use Rattle.guard_run.specs.declared.done.Done.{Done}
 use Rattle.guard_run.specs.declared.stop.Stop.{Stop}
 use Rattle.guard_run.specs.declared.stop.Stop.TheVariants as stop

@@ -13,8 +13,8 @@ use Rattle.guard_ends.specs.declared.ends.Refusal.{Refusal}
 use Rattle.guard_ends.specs.declared.ends.Refusal.TheVariants.{At}
 use Rattle.guard_ends.specs.declared.ends.RefusalKind.{RefusalKind}
 use Rattle.guard_ends.specs.declared.ends.Which.{Which}
-use Rattle.guard_run.specs.Refusals.{IsRefusedAs}
-use Rattle.guard_run.specs.Stops.{IsPlaced, IsNotRead}
+use Rattle.guard_run.specs.code.Refusals.{IsRefusedAs}
+use Rattle.guard_run.specs.code.Stops.{IsPlaced, IsNotRead}
 use Rattle.guard_run.specs.declared.refused.Refused.{Refused}
 use Rattle.guard_run.specs.declared.stop.Stop.{Stop}
 use Rattle.guard_run.specs.declared.stop.Stop.TheVariants as stop

@@ -3,7 +3,7 @@ use Rattle.std.proofs.Common.{◌≡◌, ◌++◌, ℕ, List}
 use Rattle.std.specs.Prelude.{codes, decimal}
 use Rattle.rule_meaning.specs.Locations.{World}
 use Rattle.guard_ends.specs.Drill.{drill_report, verdict_line}
-use Rattle.guard_run.specs.Listed.{AreLinesOf}
+use Rattle.guard_run.specs.code.Listed.{AreLinesOf}
 use Rattle.guard_ends.specs.Report.{lines_of, report}
 use Rattle.guard_ends.specs.Reported.{reported}
 use Rattle.guard_run.specs.declared.report.Lines.{Lines}

@@ -1,16 +1,16 @@
 -- The stages of the order of work: what a stage comes to, the work over the files comes to.
 use Rattle.std.proofs.Common.{ℕ, List, Result, inl, inr, subst, string_bytes}
 use Rattle.guard_syntax.specs.Syntax.{File}
-use Rattle.rule_names.specs.Files.{file_of}
+use Rattle.rule_names.specs.code.Files.{file_of}
 use Rattle.guard_ends.specs.End.{Counts}
 use Rattle.guard_ends.specs.Inputs.{RefusesRules, format_of}
 use Rattle.guard_ends.specs.Order.{Contents, Inputs, Loading, LoadingTexts, OverFiles, Point, ReadingInputs, Refusing, Work}
 use Rattle.guard_ends.specs.declared.ends.Which.TheVariants as file
 use Rattle.guard_ends.specs.declared.format.Format.{Format}
-use Rattle.guard_run.specs.Inputs.{AreInputs, AreLoaded, ReadingTexts, inputs_of}
-use Rattle.guard_run.specs.Loading.{RefusesText}
-use Rattle.guard_run.specs.Outcome.{IsOutcome, IsOutcomeBy, IsStopBy}
-use Rattle.guard_run.specs.Stops.{IsStop, NoneRose, Rose}
+use Rattle.guard_run.specs.code.Inputs.{AreInputs, AreLoaded, ReadingTexts, inputs_of}
+use Rattle.guard_run.specs.code.Loading.{RefusesText}
+use Rattle.guard_run.specs.code.Outcome.{IsOutcome, IsOutcomeBy, IsStopBy}
+use Rattle.guard_run.specs.code.Stops.{IsStop, NoneRose, Rose}
 use Rattle.guard_run.specs.declared.done.Done.{Done}
 use Rattle.guard_run.specs.declared.inputs.Inputs as code
 use Rattle.guard_run.specs.declared.inputs.Texts.{Texts}

@@ -13,9 +13,9 @@ use Rattle.guard_syntax.specs.declared.syntax.Disj.{Disj}
 use Rattle.guard_syntax.specs.declared.syntax.Rule.{Rule}
 use Rattle.guard_syntax.specs.declared.row.Verdict.{Verdict}
 use Rattle.guard_syntax.specs.declared.row.Verdict.TheVariants as verdict
-use Rattle.guard_syntax.specs.Seen.{see_disj, see_rule, disj_list}
+use Rattle.guard_syntax.specs.code.Seen.{see_disj, see_rule, disj_list}
 use Rattle.rule_names.specs.Pieces.{OfFile, pieces_rules, pieces_rule, pieces_lets, pieces_disjs}
-use Rattle.rule_names.specs.Files.{file_of}
+use Rattle.rule_names.specs.code.Files.{file_of}
 use Rattle.rule_names.specs.declared.file.RuleFile.{RuleFile}
 use Rattle.value_compare.specs.declared.store.Store.{Store}
 use Rattle.rule_meaning.specs.Fails.{Entry, loose_fails, rule_fails}
@@ -23,15 +23,15 @@ use Rattle.rule_meaning.specs.Seeing.{world_of}
 use Rattle.rule_meaning.specs.Locations.{Answers, World}
 use Rattle.rule_meaning.specs.NameMeaning.{loose_verdict, rule_verdict}
 use Rattle.rule_meaning.specs.FunctionMeaning.{IsAnswering}
-use Rattle.plain_evaluator.specs.States.{Answering, Grows, State, see_trees}
+use Rattle.plain_evaluator.specs.code.States.{Answering, Grows, State, see_trees}
 use Rattle.plain_evaluator.proofs.Growing.{answering-on}
-use Rattle.guard_run.specs.Listed.{AreLinesOf, lines_as, lines_in}
+use Rattle.guard_run.specs.code.Listed.{AreLinesOf, lines_as, lines_in}
 use Rattle.guard_run.specs.declared.report.Lines.{Lines}
 use Rattle.guard_run.specs.declared.report.Source.{Source}
 use Rattle.plain_evaluator.specs.declared.trees.Trees.{Trees}
 use Rattle.guard_ends.specs.Reported.{Reported, of_loose, of_rule, if_fail, if_plain, reported, world_over}
 use Rattle.guard_run.proofs.LineLists.{lines-kept}
-use Rattle.rule_names.specs.Within.{IsAmong, StandsIn}
+use Rattle.rule_names.specs.code.Within.{IsAmong, StandsIn}
 use Rattle.rule_names.proofs.Among.{IsAmong-inner, IsAmong-last, IsAmong-first, IsAmong-behind}
 
 abbrev reported_as : List ℕ → Verdict → List Entry → Reported

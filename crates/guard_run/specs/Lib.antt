@@ -1,7 +1,1 @@
-pub mod Inputs
-pub mod Listed
-pub mod Loading
-pub mod Outcome
-pub mod Refusals
-pub mod Stops
-pub mod Writing
+pub mod code

@@ -1,14 +1,14 @@
 //! `check`: evidence is loaded and read, and judged line by line for rules and a template. Nothing is evaluated.
 ghost use Rattle.std.specs.Prelude.{◌≡◌, ◌≤◌, ℕ, List, [], length, IfOk, MatchResult};
-ghost use Rattle.rule_names.specs.Files.{file_of};
+ghost use Rattle.rule_names.specs.code.Files.{file_of};
 ghost use Rattle.report_text.specs.RuleLines.{reported_names};
 ghost use Rattle.guard_words.specs.Request.{check};
 ghost use Rattle.guard_ends.specs.Check.{accepted_text, rejected_text};
 ghost use Rattle.guard_ends.specs.Inputs.{IsProof, RefusesProof};
 ghost use Rattle.guard_ends.specs.Order.{Ending, IsChecked, OfEvidence, WorkOf};
-ghost use Rattle.guard_run.specs.Inputs.{ReadingTexts, inputs_of};
-ghost use Rattle.guard_run.specs.Outcome.{IsOutcome, IsOutcomeAt, IsOutcomeBy, ended};
-ghost use Rattle.guard_run.specs.Stops.{IsNotRead, NoneRose, Rose};
+ghost use Rattle.guard_run.specs.code.Inputs.{ReadingTexts, inputs_of};
+ghost use Rattle.guard_run.specs.code.Outcome.{IsOutcome, IsOutcomeAt, IsOutcomeBy, ended};
+ghost use Rattle.guard_run.specs.code.Stops.{IsNotRead, NoneRose, Rose};
 
 use crate::done::Done;
 use crate::inputs::{Inputs, Names, Texts};

@@ -3,9 +3,9 @@ ghost use Rattle.std.specs.Prelude.{◌≤◌, MatchResult};
 ghost use Rattle.guard_ends.specs.Drill.{drill_rules};
 ghost use Rattle.guard_ends.specs.Inputs.{RefusesRules};
 ghost use Rattle.guard_ends.specs.Order.{OfDrill};
-ghost use Rattle.guard_run.specs.Inputs.{AreOfDrill};
-ghost use Rattle.guard_run.specs.Outcome.{IsOutcomeAt};
-ghost use Rattle.guard_run.specs.Stops.{IsNotRead};
+ghost use Rattle.guard_run.specs.code.Inputs.{AreOfDrill};
+ghost use Rattle.guard_run.specs.code.Outcome.{IsOutcomeAt};
+ghost use Rattle.guard_run.specs.code.Stops.{IsNotRead};
 
 use crate::done::Done;
 use crate::inputs::Texts;

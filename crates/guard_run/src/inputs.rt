@@ -1,7 +1,7 @@
 //! The inputs of a judgement: rules and a template, by their names, then loaded, then read.
 ghost use Rattle.std.specs.Prelude.{◌≡◌, ◌≤◌, false, length, string_bytes};
-ghost use Rattle.rule_names.specs.Files.{file_of};
-ghost use Rattle.value_compare.specs.Books.{IsBookOf};
+ghost use Rattle.rule_names.specs.code.Files.{file_of};
+ghost use Rattle.value_compare.specs.code.Books.{IsBookOf};
 ghost use Rattle.rule_meaning.specs.Values.{has_pattern};
 
 use doc_values::Doc;

@@ -1,7 +1,7 @@
 //! Files are loaded: each by its name, and no further than one byte past its limit.
 ghost use Rattle.std.specs.Prelude.{◌≡◌, ◌≤◌, ◌<◌, ◌^◌, ℕ, List, MatchResult, length, string_bytes};
 ghost use Rattle.guard_ends.specs.Order.{IsContent};
-ghost use Rattle.guard_run.specs.Loading.{IsNotLoaded, RefusesLength, RefusesText, limit_of};
+ghost use Rattle.guard_run.specs.code.Loading.{IsNotLoaded, RefusesLength, RefusesText, limit_of};
 
 use crate::refused::{not_text, too_long};
 use crate::stop::Stop;

@@ -1,9 +1,9 @@
 //! The patterns of rules, which are made.
 ghost use Rattle.std.specs.Prelude.{◌≤◌, ℕ, List, MatchResult, string_bytes};
-ghost use Rattle.rule_names.specs.Files.{file_of};
-ghost use Rattle.value_compare.specs.Books.{IsBookOf};
+ghost use Rattle.rule_names.specs.code.Files.{file_of};
+ghost use Rattle.value_compare.specs.code.Books.{IsBookOf};
 ghost use Rattle.guard_ends.specs.Order.{AreRead};
-ghost use Rattle.guard_run.specs.Stops.{AreNotMade};
+ghost use Rattle.guard_run.specs.code.Stops.{AreNotMade};
 
 use crate::inputs::Rules;
 use crate::refused::refused_at;

@@ -1,9 +1,9 @@
 //! The inputs of a judgement are prepared: they are loaded, and then read.
 ghost use Rattle.std.specs.Prelude.{◌≡◌, ◌≤◌, ℕ, List, MatchResult};
 ghost use Rattle.guard_ends.specs.Order.{LoadingTexts, Refusing};
-ghost use Rattle.guard_run.specs.Inputs.{AreInputs, AreLoaded, ReadingTexts};
-ghost use Rattle.guard_run.specs.Loading.{RefusesText};
-ghost use Rattle.guard_run.specs.Stops.{IsStop, NoneRose, Rose};
+ghost use Rattle.guard_run.specs.code.Inputs.{AreInputs, AreLoaded, ReadingTexts};
+ghost use Rattle.guard_run.specs.code.Loading.{RefusesText};
+ghost use Rattle.guard_run.specs.code.Stops.{IsStop, NoneRose, Rose};
 
 use crate::inputs::{Inputs, Names, Texts};
 use crate::load::load_text;

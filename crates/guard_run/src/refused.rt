@@ -2,7 +2,7 @@
 ghost use Rattle.std.specs.Prelude.{◌≡◌, ◌≤◌, ℕ, List, Some, None, length, IfOk};
 ghost use Rattle.guard_ends.specs.Inputs.{json_kind, lex_kind, name_kind, name_said, of_yaml, parse_kind};
 ghost use Rattle.guard_ends.specs.Order.{refused};
-ghost use Rattle.guard_run.specs.Refusals.{said, IsRefusedAs};
+ghost use Rattle.guard_run.specs.code.Refusals.{said, IsRefusedAs};
 
 use crate::line::{evidence_line, named_line, placed_line, whole_line};
 use crate::written::Written;

@@ -1,12 +1,12 @@
 //! Rules: they are loaded, and read as tokens, syntax and names.
 ghost use Rattle.std.specs.Prelude.{◌≡◌, ◌≤◌, ℕ, List, MatchResult, length, string_bytes};
 ghost use Rattle.guard_lexer.specs.Lexes as lex;
-ghost use Rattle.guard_syntax.specs.Seen.{see_file};
-ghost use Rattle.rule_names.specs.Files.{file_of};
+ghost use Rattle.guard_syntax.specs.code.Seen.{see_file};
+ghost use Rattle.rule_names.specs.code.Files.{file_of};
 ghost use Rattle.guard_ends.specs.Inputs.{IsSyntax, IsRuleFile, RefusesRules};
 ghost use Rattle.guard_ends.specs.Order.{IsContent};
-ghost use Rattle.guard_run.specs.Loading.{IsNotLoaded};
-ghost use Rattle.guard_run.specs.Stops.{IsNotRead};
+ghost use Rattle.guard_run.specs.code.Loading.{IsNotLoaded};
+ghost use Rattle.guard_run.specs.code.Stops.{IsNotRead};
 
 use crate::inputs::Rules;
 use crate::load::load_text;

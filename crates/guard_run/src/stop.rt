@@ -1,6 +1,6 @@
 //! What stops the work of a call.
 ghost use Rattle.std.specs.Prelude.{◌≡◌, ◌≤◌, length};
-ghost use Rattle.guard_run.specs.Stops.{IsPlaced};
+ghost use Rattle.guard_run.specs.code.Stops.{IsPlaced};
 ghost use Rattle.guard_run.specs.declared.stop.Stop.TheVariants.{Memory};
 
 use crate::refused::{Refused, refused_at};

@@ -1,7 +1,7 @@
 //! Templates, which are read in the format that is asked for.
 ghost use Rattle.std.specs.Prelude.{◌≤◌, MatchResult, length};
 ghost use Rattle.guard_ends.specs.Inputs.{IsTemplate, RefusesTemplate};
-ghost use Rattle.guard_run.specs.Stops.{IsNotRead};
+ghost use Rattle.guard_run.specs.code.Stops.{IsNotRead};
 
 use crate::refused::{json_kind, yaml_refused};
 use crate::stop::{Stop, unread_at};

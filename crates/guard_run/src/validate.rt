@@ -2,11 +2,11 @@
 ghost use Rattle.std.specs.Prelude.{◌≡◌, ◌≤◌, ℕ, List, false, if◌then◌else◌};
 ghost use Rattle.guard_words.specs.Request.{validate};
 ghost use Rattle.guard_ends.specs.Order.{Ending, IsJudged, WorkOf};
-ghost use Rattle.guard_run.specs.Inputs.{ReadingTexts, inputs_of};
-ghost use Rattle.guard_run.specs.Listed.{report_in};
-ghost use Rattle.guard_run.specs.Outcome.{IsOutcome, IsOutcomeAt, IsOutcomeBy};
-ghost use Rattle.guard_run.specs.Refusals.{bytes_of};
-ghost use Rattle.guard_run.specs.Stops.{NoneRose, Rose};
+ghost use Rattle.guard_run.specs.code.Inputs.{ReadingTexts, inputs_of};
+ghost use Rattle.guard_run.specs.code.Listed.{report_in};
+ghost use Rattle.guard_run.specs.code.Outcome.{IsOutcome, IsOutcomeAt, IsOutcomeBy};
+ghost use Rattle.guard_run.specs.code.Refusals.{bytes_of};
+ghost use Rattle.guard_run.specs.code.Stops.{NoneRose, Rose};
 
 use crate::done::Done;
 use crate::inputs::{Inputs, Names, Texts};

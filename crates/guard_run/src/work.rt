@@ -2,7 +2,7 @@
 ghost use Rattle.std.specs.Prelude.{◌≡◌, ◌≤◌, ℕ, List, map, string_bytes};
 ghost use Rattle.guard_words.specs.Request.{asked, drill};
 ghost use Rattle.guard_ends.specs.Order.{ComesTo, WorkOf};
-ghost use Rattle.guard_run.specs.Outcome.{IsOutcomeBy};
+ghost use Rattle.guard_run.specs.code.Outcome.{IsOutcomeBy};
 
 use crate::check::run_check;
 use crate::done::Done;

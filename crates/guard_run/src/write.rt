@@ -4,8 +4,8 @@ ghost use Rattle.guard_io.specs.Outside.{FaultCounted};
 ghost use Rattle.guard_ends.specs.Lines.{read_fault_line};
 ghost use Rattle.guard_ends.specs.End.{Counts, Faults};
 ghost use Rattle.guard_ends.specs.Order.{ComesTo, Contents, EndOf};
-ghost use Rattle.guard_run.specs.Outcome.{IsOutcomeBy, IsStopBy, ended};
-ghost use Rattle.guard_run.specs.Writing.{Closed, Said, SaidMemory};
+ghost use Rattle.guard_run.specs.code.Outcome.{IsOutcomeBy, IsStopBy, ended};
+ghost use Rattle.guard_run.specs.code.Writing.{Closed, Said, SaidMemory};
 
 use crate::done::Done;
 use crate::refused::Refused;

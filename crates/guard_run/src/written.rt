@@ -1,6 +1,6 @@
 //! Texts that are written, on out or on err.
 ghost use Rattle.std.specs.Prelude.{◌≡◌};
-ghost use Rattle.guard_run.specs.Refusals.{bytes_of};
+ghost use Rattle.guard_run.specs.code.Refusals.{bytes_of};
 
 use arrayvec::ArrayString;
 

@@ -11,14 +11,14 @@ use Rattle.clap.specs.Simple.{subcommand_of}
 use Rattle.clap.specs.Takes.{takes}
 use Rattle.clap.specs.Walk.{Row as Found_row, first_of, one_of, rows_of}
 use Rattle.clap.specs.declared.parser.matches.Found.{Found}
-use Rattle.guard_words.specs.CommandLine.{guard_app}
+use Rattle.guard_words.specs.code.CommandLine.{guard_app}
 use Rattle.guard_words.specs.declared.table.Command.{Command}
 use Rattle.guard_words.specs.declared.table.Command.TheVariants.{Validate, Check, Drill}
 use Rattle.guard_words.specs.declared.table.Kind.{Kind}
 use Rattle.guard_words.specs.declared.table.Kind.TheVariants.{File, Count, Flag}
 use Rattle.guard_words.specs.Request.{Text, Use, Row, Asked, AsksFor, validate, check, drill, allows, kind_in, is_allowed, is_given, is_once, is_complete, value_in, options_of, name_of, requested, text_of}
-use Rattle.guard_words.specs.Memory.{NamesCommand}
-use Rattle.guard_words.specs.Reading.{command_in, parsed_in, after_name, if_complete, uses_in, HasValues, flag_among, is_true_text, IsFlagText}
+use Rattle.guard_words.specs.code.Memory.{NamesCommand}
+use Rattle.guard_words.specs.code.Reading.{command_in, parsed_in, after_name, if_complete, uses_in, HasValues, flag_among, is_true_text, IsFlagText}
 use Rattle.guard_words.proofs.SpellingLemmas.{is_plain_name, find_passes, Reads, reads, reads_gives, reads_once, gives_reads}
 use Rattle.guard_words.proofs.TakenWords.{request_taken, rows, has_value, has_flag, required_given}
 

@@ -13,7 +13,7 @@ use Rattle.clap.proofs.LexerLemmas.{name_and_value-at, name_and_value-without}
 use Rattle.guard_words.specs.declared.table.Kind.{Kind}
 use Rattle.guard_words.specs.declared.table.Kind.TheVariants.{File, Count, Flag}
 use Rattle.guard_words.specs.Request.{Text, Use, Row, Gives, nothing, alone, attached, apart, long, starts_with_hyphen, allows, kind_in, is_allowed, is_given, is_once}
-use Rattle.guard_words.specs.Reading.{Awaited, Next, with_kind, with_long, with_value, uses_in}
+use Rattle.guard_words.specs.code.Reading.{Awaited, Next, with_kind, with_long, with_value, uses_in}
 
 -- ---- tests
 

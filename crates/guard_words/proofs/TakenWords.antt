@@ -17,9 +17,9 @@ use Rattle.guard_words.specs.declared.table.Command.{Command}
 use Rattle.guard_words.specs.declared.table.Command.TheVariants.{Validate, Check, Drill}
 use Rattle.guard_words.specs.declared.table.Kind.{Kind}
 use Rattle.guard_words.specs.declared.table.Kind.TheVariants.{File, Count, Flag}
-use Rattle.guard_words.specs.CommandLine.{guard_app}
+use Rattle.guard_words.specs.code.CommandLine.{guard_app}
 use Rattle.guard_words.specs.Request.{Text, Use, Row, allows, kind_in, is_allowed, is_given, is_complete, value_in, options_of, name_of}
-use Rattle.guard_words.specs.Reading.{is_true_text, IsFlagText}
+use Rattle.guard_words.specs.code.Reading.{is_true_text, IsFlagText}
 use Rattle.guard_words.proofs.SpellingLemmas.{and_parts, find_passes, find_among, Reads}
 use Rattle.guard_words.proofs.WalkSteps.{flag_at, rules_for, made, made_as, leaf, row_for, text_of_value, all_taken, at_row-absent}
 

@@ -16,7 +16,7 @@ use Rattle.clap.specs.declared.builder.value_parser.Reading.{Reading}
 use Rattle.clap.specs.declared.parser.matches.ValueSource.TheVariants.{CommandLine}
 use Rattle.guard_words.specs.declared.table.Kind.{Kind}
 use Rattle.guard_words.specs.declared.table.Kind.TheVariants.{File, Count, Flag}
-use Rattle.guard_words.specs.CommandLine.{rule_for}
+use Rattle.guard_words.specs.code.CommandLine.{rule_for}
 use Rattle.guard_words.specs.Request.{Text, Use, Row, starts_with_hyphen, allows, kind_in, is_given}
 use Rattle.guard_words.proofs.SpellingLemmas.{row_of_kind, Reads, ends, flagged, valued, parted}
 

@@ -1,4 +1,2 @@
-pub mod CommandLine
-pub mod Memory
-pub mod Reading
 pub mod Request
+pub mod code

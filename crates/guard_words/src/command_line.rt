@@ -1,7 +1,7 @@
 ghost use Rattle.std.specs.Prelude.{◌≡◌, IfOk, false};
 ghost use Rattle.clap.specs.Words.{app_of, rule_of};
-ghost use Rattle.guard_words.specs.CommandLine.{StandsAs, guard_app, program, subcommand_app, rule_for};
-ghost use Rattle.guard_words.specs.Reading.{row_text};
+ghost use Rattle.guard_words.specs.code.CommandLine.{StandsAs, guard_app, program, subcommand_app, rule_for};
+ghost use Rattle.guard_words.specs.code.Reading.{row_text};
 
 use crate::table::{Command, Kind, OptionRow};
 use clap::{Arg, ArgAction};

@@ -3,8 +3,8 @@ ghost use Rattle.std.specs.List.{list_all, list_any};
 ghost use Rattle.std.specs.Str.{bytes_eq};
 ghost use Rattle.clap.specs.Lexer.{long_of, strip_byte, name_and_value};
 ghost use Rattle.guard_words.specs.Request.{allows, is_given, is_complete, options_of, starts_with_hyphen, Use};
-ghost use Rattle.guard_words.specs.Memory.{NamesCommand};
-ghost use Rattle.guard_words.specs.Reading.{Awaited, parsed_in, uses_in, with_word, use_texts, awaited_text};
+ghost use Rattle.guard_words.specs.code.Memory.{NamesCommand};
+ghost use Rattle.guard_words.specs.code.Reading.{Awaited, parsed_in, uses_in, with_word, use_texts, awaited_text};
 
 use crate::table::{Command, Kind, OptionRow};
 use crate::values::{count_of, is_file_name};

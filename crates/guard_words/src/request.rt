@@ -1,8 +1,8 @@
 ghost use Rattle.std.specs.Prelude.{◌≡◌, Some, None, IfOk, IsErrOf, is_some, map, string_bytes, codes, true, OnErr};
 ghost use Rattle.guard_words.specs.Request.{AsksFor, Asked, asked, allows, requested, text_of, validate, check, drill};
-ghost use Rattle.guard_words.specs.Memory.{NamesCommand};
-ghost use Rattle.guard_words.specs.Reading.{parsed_in, IsFlagText, HasValues, flag_among};
-ghost use Rattle.guard_words.specs.CommandLine.{guard_app};
+ghost use Rattle.guard_words.specs.code.Memory.{NamesCommand};
+ghost use Rattle.guard_words.specs.code.Reading.{parsed_in, IsFlagText, HasValues, flag_among};
+ghost use Rattle.guard_words.specs.code.CommandLine.{guard_app};
 ghost use Rattle.guard_words.specs.declared.table.Kind.TheVariants.{Count};
 ghost use Rattle.clap.specs.Words.{subcommand_rows_of, subcommand_of, first_value, found_of, one_text};
 

@@ -1,7 +1,7 @@
 ghost use Rattle.std.specs.Prelude.{◌≡◌, option_map, find, map};
 ghost use Rattle.std.specs.Str.{bytes_eq};
 ghost use Rattle.guard_words.specs.Request.{name_of, options_of, kind_in};
-ghost use Rattle.guard_words.specs.Reading.{command_in, row_text};
+ghost use Rattle.guard_words.specs.code.Reading.{command_in, row_text};
 
 /// What the first word asks `guard` to do.
 #[derive(Clone, Copy, Debug, PartialEq, Eq)]

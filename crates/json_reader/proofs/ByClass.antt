@@ -9,8 +9,8 @@ use Rattle.json_reader.specs.declared.stage.Stage.{Stage}
 use Rattle.json_reader.specs.declared.stage.Position.{Position}
 use Rattle.json_reader.specs.declared.refusal.JsonRefusal.{JsonRefusal}
 use Rattle.json_reader.specs.declared.refusal.JsonRefusal.TheVariants.{Syntax, DuplicateKey, NumberRange, TooDeep, NoMemory}
-use Rattle.json_reader.specs.Reading.{class_of, Phase, Stop, Go, value_next, key_or_end_next, key_next, colon_next, after_next, next, value_cause, from}
-use Rattle.json_reader.specs.Steps.{Fits, Gives, phase_of}
+use Rattle.json_reader.specs.code.Reading.{class_of, Phase, Stop, Go, value_next, key_or_end_next, key_next, colon_next, after_next, next, value_cause, from}
+use Rattle.json_reader.specs.code.Steps.{Fits, Gives, phase_of}
 use Rattle.json_reader.proofs.Walk.{from_class}
 
 -- the byte leads to a stage

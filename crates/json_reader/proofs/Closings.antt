@@ -11,7 +11,7 @@ use Rattle.json_reader.specs.declared.bytes.Class.{Class}
 use Rattle.json_reader.specs.declared.bytes.Class.TheVariants.{Space, CloseList}
 use Rattle.json_reader.specs.declared.number.NumberPart.{NumberPart}
 use Rattle.json_reader.specs.Json.{is_unescaped, Each, past, Chars, StandsFor, Collection, Object, Array, opening, closing, kind_of, AreDistinct, AreInRange, AreShallow}
-use Rattle.json_reader.specs.Reading.{class_of, Phase, AtValue, AtKeyOrEnd, AtItemOrEnd, AtKey, AtColon, After, InString, InWord, InNumber, Stop, Go, goes_on, keyless, value_next, item_or_end_next, value_cause, next, judged, judge, read}
+use Rattle.json_reader.specs.code.Reading.{class_of, Phase, AtValue, AtKeyOrEnd, AtItemOrEnd, AtKey, AtColon, After, InString, InWord, InNumber, Stop, Go, goes_on, keyless, value_next, item_or_end_next, value_cause, next, judged, judge, read}
 use Rattle.json_reader.proofs.Strings.{chars_read, plain_chars, no_chars}
 use Rattle.json_reader.proofs.Escapes.{Escaping, escaping_ends}
 use Rattle.json_reader.proofs.NumberTexts.{Held, held_spells, stands}

@@ -6,7 +6,7 @@ use Rattle.std.proofs.lemmas.Bool.{lt-ltb}
 use Rattle.doc_values.specs.declared.kind.Kind.{Kind}
 use Rattle.doc_values.specs.declared.kind.Kind.TheVariants as kind
 use Rattle.doc_values.specs.Tree.{Label, Forest, Nil, Node, snoc, joined, has_key, is_map, holds_values}
-use Rattle.doc_values.specs.Laws.{joined-Nil, joined-snoc}
+use Rattle.doc_values.specs.code.Laws.{joined-Nil, joined-snoc}
 use Rattle.doc_values.specs.Number.{Parts, IsSpelled}
 use Rattle.doc_values.specs.Unfinished.{Level, Unfinished, start, with_value, with_open, with_key, with_end}
 use Rattle.json_reader.specs.declared.bytes.Class.{Class}
@@ -15,8 +15,8 @@ use Rattle.json_reader.specs.declared.number.NumberPart.{NumberPart}
 use Rattle.json_reader.specs.declared.refusal.JsonRefusal.{JsonRefusal}
 use Rattle.json_reader.specs.declared.refusal.JsonRefusal.TheVariants.{Syntax, DuplicateKey, NumberRange, TooDeep}
 use Rattle.json_reader.specs.Json.{is_space, Each, past, Chars, IsSeparator, IsLead, Collection, Object, Array, opening, closing, kind_of, StandsFor, IsNamed, IsValue, Contents, Entries, byte_order_mark, IsFront, Shape, IsNew, AreDistinct, IsInRange, AreInRange, AreShallow, Json}
-use Rattle.json_reader.specs.Numbers.{number_kind, first_part, completes, part_next}
-use Rattle.json_reader.specs.Reading.{class_of, is_number_byte, Phase, AtValue, AtKeyOrEnd, AtItemOrEnd, AtKey, AtColon, After, InString, InNumber, Stop, Go, value_next, after_next, key_or_end_next, item_or_end_next, key_next, colon_next, next, value_cause, number_cause, cause, judged, judge, verdict}
+use Rattle.json_reader.specs.code.Numbers.{number_kind, first_part, completes, part_next}
+use Rattle.json_reader.specs.code.Reading.{class_of, is_number_byte, Phase, AtValue, AtKeyOrEnd, AtItemOrEnd, AtKey, AtColon, After, InString, InNumber, Stop, Go, value_next, after_next, key_or_end_next, item_or_end_next, key_next, colon_next, next, value_cause, number_cause, cause, judged, judge, verdict}
 use Rattle.json_reader.proofs.Spellings.{space_class, space_byte, comma_byte, close_byte, close_list_byte, past-append}
 use Rattle.json_reader.proofs.Front.{either, verdict_plain, verdict_marked}
 use Rattle.json_reader.proofs.Judged.{Verdicts, IsSign, Signs, NoSyntax}

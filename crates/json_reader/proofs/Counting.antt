@@ -11,9 +11,9 @@ use Rattle.json_reader.specs.declared.number.NumberPart.{NumberPart}
 use Rattle.json_reader.specs.declared.refusal.JsonRefusal.{JsonRefusal}
 use Rattle.json_reader.specs.declared.refusal.JsonRefusal.TheVariants.{Syntax, DuplicateKey, NumberRange, TooDeep, NoMemory}
 use Rattle.json_reader.specs.Json.{Chars, past, StandsFor, IsInRange, Collection, Object, Array, opening, kind_of, Shape, Json}
-use Rattle.json_reader.specs.Numbers.{number_kind, first_part, part_next, completes}
+use Rattle.json_reader.specs.code.Numbers.{number_kind, first_part, part_next, completes}
 use Rattle.json_reader.specs.Refusals.{Begins, ButDepth, ButRange, MayOpen, IsComplete, IsCounting}
-use Rattle.json_reader.specs.Reading.{class_of, begins_number, Phase, AtValue, AtKeyOrEnd, AtItemOrEnd, AtKey, After, InString, key_next, key_or_end_next, number_cause, cause, judged, judge, verdict}
+use Rattle.json_reader.specs.code.Reading.{class_of, begins_number, Phase, AtValue, AtKeyOrEnd, AtItemOrEnd, AtKey, After, InString, key_next, key_or_end_next, number_cause, cause, judged, judge, verdict}
 use Rattle.json_reader.proofs.Judged.{ok_judge}
 use Rattle.json_reader.proofs.Front.{either}
 use Rattle.json_reader.proofs.NumberBytes.{number_class, begins_ascii, BeginsNumber, begins_with_number}

@@ -3,7 +3,7 @@ use Rattle.std.proofs.Common.{◌≡◌, ℕ, ◌+◌, ◌-◌, ◌*◌, Bool, t
 use Rattle.std.specs.Prelude.{nat_eq, ◌&&◌, ◌||◌, not, encode_utf8}
 use Rattle.std.proofs.lemmas.Bool.Decides.{nat_tests}
 use Rattle.json_reader.specs.Json.{is_unescaped, is_hex, hex, is_unit, unit, is_high, is_low, opens_unit, escape, Chars}
-use Rattle.json_reader.specs.Reading.{Bad, Closed, Part, Whole, may_escape, escape_heard, heard}
+use Rattle.json_reader.specs.code.Reading.{Bad, Closed, Part, Whole, may_escape, escape_heard, heard}
 use Rattle.json_reader.proofs.Front.{either}
 use Rattle.json_reader.proofs.Strings.{both, both_true, no_chars, chars_cons, backslash_is}
 

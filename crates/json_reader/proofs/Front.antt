@@ -10,7 +10,7 @@ use Rattle.std.proofs.lemmas.Slice.Eq.{starts_is}
 use Rattle.std.proofs.lemmas.Bool.Decides.{Decides-eqb, nat_tests}
 use Rattle.json_reader.proofs.Judged.{Verdicts, NoSyntax}
 use Rattle.json_reader.specs.Json.{past, byte_order_mark, IsFront}
-use Rattle.json_reader.specs.Reading.{AtValue, goes_on, next, read, mark_len, tree_read, judge, behind_mark, verdict}
+use Rattle.json_reader.specs.code.Reading.{AtValue, goes_on, next, read, mark_len, tree_read, judge, behind_mark, verdict}
 
 pub either : (b : Bool) → (b ≡ true) ⊎ (b ≡ false)
 either true = inl refl

@@ -5,7 +5,7 @@ use Rattle.doc_values.specs.Tree.{Forest}
 use Rattle.doc_values.specs.Unfinished.{Unfinished}
 use Rattle.json_reader.specs.declared.refusal.JsonRefusal.{JsonRefusal}
 use Rattle.json_reader.specs.declared.refusal.JsonRefusal.TheVariants.{Syntax, DuplicateKey, NumberRange, TooDeep}
-use Rattle.json_reader.specs.Reading.{Phase, Next, Stop, Go, goes_on, next, cause, judged, ended, final, final_cause, judge, read}
+use Rattle.json_reader.specs.code.Reading.{Phase, Next, Stop, Go, goes_on, next, cause, judged, ended, final, final_cause, judge, read}
 
 -- a property of verdicts
 abbrev pub Verdicts : Type 1

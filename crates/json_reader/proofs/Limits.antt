@@ -5,15 +5,15 @@ use Rattle.std.proofs.lemmas.Bool.{ltb-true}
 use Rattle.doc_values.specs.declared.kind.Kind.{Kind}
 use Rattle.doc_values.specs.declared.kind.Kind.TheVariants as kind
 use Rattle.doc_values.specs.Tree.{Label, Forest, Nil, Node, snoc, joined, has_key, is_map, holds_values}
-use Rattle.doc_values.specs.Laws.{joined-Nil, joined-snoc}
+use Rattle.doc_values.specs.code.Laws.{joined-Nil, joined-snoc}
 use Rattle.doc_values.specs.Unfinished.{Level, Unfinished, start, with_value, with_open, with_key, with_end}
 use Rattle.json_reader.specs.declared.bytes.Class.{Class}
 use Rattle.json_reader.specs.declared.bytes.Class.TheVariants.{Space, Quote, Open, Close, OpenList, CloseList, Colon, Comma, Minus, Zero, Digit, LetterN, LetterT, LetterF}
 use Rattle.json_reader.specs.Json.{IsNew, StandsFor, AreDistinct, IsInRange, AreInRange, AreShallow, Json}
-use Rattle.json_reader.specs.Reading.{class_of, Phase, AtValue, AtKeyOrEnd, AtItemOrEnd, AtKey, AtColon, After, InString, InWord, InNumber, Stop, Go, keyless, value_next, by_form, after_next, key_or_end_next, item_or_end_next, word_on, word_next, key_next, colon_next, number_done, number_next, next, Heard, Bad, Closed, Part, Whole, heard, string_end, string_next, whole_tree, number_end, final, read, mark_len, tree_read}
+use Rattle.json_reader.specs.code.Reading.{class_of, Phase, AtValue, AtKeyOrEnd, AtItemOrEnd, AtKey, AtColon, After, InString, InWord, InNumber, Stop, Go, keyless, value_next, by_form, after_next, key_or_end_next, item_or_end_next, word_on, word_next, key_next, colon_next, number_done, number_next, next, Heard, Bad, Closed, Part, Whole, heard, string_end, string_next, whole_tree, number_end, final, read, mark_len, tree_read}
 use Rattle.json_reader.proofs.Spellings.{chosen}
 use Rattle.json_reader.specs.declared.number.NumberPart.{NumberPart}
-use Rattle.json_reader.specs.Numbers.{number_kind, first_part, part_next}
+use Rattle.json_reader.specs.code.Numbers.{number_kind, first_part, part_next}
 use Rattle.doc_values.specs.Number.{Parts}
 use Rattle.json_reader.proofs.NumberKinds.{number_sound}
 use Rattle.json_reader.proofs.Sound.{goes, number_goes, shape_read}

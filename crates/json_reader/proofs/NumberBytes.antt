@@ -4,7 +4,7 @@ use Rattle.std.proofs.lemmas.Bool.Decides.{nat_tests}
 use Rattle.doc_values.specs.Number.{is_digit, AreDigits, Parts, minus_text, IsWholePart, fraction_text, IsPowerText, IsSpelled}
 use Rattle.json_reader.specs.declared.bytes.Class.TheVariants.{Minus, Zero, Digit}
 use Rattle.json_reader.specs.Json.{is_space, Each}
-use Rattle.json_reader.specs.Reading.{class_of, is_number_byte, begins_number}
+use Rattle.json_reader.specs.code.Reading.{class_of, is_number_byte, begins_number}
 
 pub no_space : (b : ℕ) → is_space b ≡ true → is_number_byte b ≡ true → ⊥
 no_space b s h = grind (arith, nat_tests)

@@ -9,13 +9,13 @@ use Rattle.doc_values.specs.Decimal.{Decimal, IsNormal}
 use Rattle.doc_values.specs.declared.decimal.Num.{Num}
 use Rattle.doc_values.specs.declared.decimal.Num.TheVariants as num
 use Rattle.doc_values.specs.Number.{Parts, IsSpelled, IsNumber, number, signed, scaled, IsDecimalOf}
-use Rattle.doc_values.specs.Reading.{read, is_number, is_nil}
+use Rattle.doc_values.specs.code.Reading.{read, is_number, is_nil}
 use Rattle.doc_values.proofs.NumberText.{IsSpelled-read, read-IsSpelled}
 use Rattle.doc_values.proofs.DecimalRange.{stripped-unique}
 use Rattle.doc_values.proofs.NumberValue.{one_power, times_more, full_moved}
 use Rattle.json_reader.proofs.Front.{either}
 use Rattle.json_reader.specs.Json.{StandsFor, IsInRange}
-use Rattle.json_reader.specs.Numbers.{whole_of, strip, decimal_of, is_normal, whole_kind, parts_kind, number_kind}
+use Rattle.json_reader.specs.code.Numbers.{whole_of, strip, decimal_of, is_normal, whole_kind, parts_kind, number_kind}
 use Rattle.json_reader.proofs.Spellings.{chosen, whole_in_range, whole_read}
 
 tenth : (m : ℕ) → m % 10 ≡ 0 → m ≡ m / 10 * 10

@@ -6,8 +6,8 @@ use Rattle.doc_values.specs.Unfinished.{Unfinished, with_value}
 use Rattle.json_reader.specs.declared.number.NumberPart.{NumberPart}
 use Rattle.json_reader.specs.declared.refusal.JsonRefusal.TheVariants.{Syntax}
 use Rattle.json_reader.specs.Json.{past}
-use Rattle.json_reader.specs.Numbers.{number_kind, first_part, part_next, completes, run_parts}
-use Rattle.json_reader.specs.Reading.{class_of, begins_number, AtValue, After, InNumber, Go, value_next, after_next, number_done, number_next, number_end, next, number_cause, judged, ended, judge}
+use Rattle.json_reader.specs.code.Numbers.{number_kind, first_part, part_next, completes, run_parts}
+use Rattle.json_reader.specs.code.Reading.{class_of, begins_number, AtValue, After, InNumber, Go, value_next, after_next, number_done, number_next, number_end, next, number_cause, judged, ended, judge}
 use Rattle.json_reader.proofs.NumberBytes.{number_class}
 use Rattle.json_reader.proofs.Parts.{runs_first}
 

@@ -7,9 +7,9 @@ use Rattle.doc_values.specs.declared.kind.Kind.TheVariants as kind
 use Rattle.doc_values.specs.Number.{is_digit, AreDigits, number, Parts, minus_text, IsWholePart, fraction_text, IsPowerText, IsSpelled, signed}
 use Rattle.json_reader.specs.declared.number.NumberPart.{NumberPart}
 use Rattle.json_reader.specs.declared.number.NumberPart.TheVariants as part
-use Rattle.json_reader.specs.Numbers.{first_part, by_digit, by_point, by_exponent, part_next, completes, run_parts, decimal_of}
+use Rattle.json_reader.specs.code.Numbers.{first_part, by_digit, by_point, by_exponent, part_next, completes, run_parts, decimal_of}
 use Rattle.json_reader.specs.Json.{StandsFor}
-use Rattle.json_reader.specs.Reading.{begins_number}
+use Rattle.json_reader.specs.code.Reading.{begins_number}
 use Rattle.json_reader.proofs.Spellings.{chosen, digits_whole}
 use Rattle.json_reader.proofs.NumberKinds.{decimal_is}
 use Rattle.json_reader.proofs.Parts.{runs_first, zero_is}

@@ -5,9 +5,9 @@ use Rattle.std.proofs.lemmas.Bool.Decides.{nat_tests}
 use Rattle.doc_values.specs.Number.{is_digit, AreDigits, Parts, minus_text, IsWholePart, fraction_text, IsPowerText, IsSpelled}
 use Rattle.json_reader.specs.declared.number.NumberPart.{NumberPart}
 use Rattle.json_reader.specs.declared.number.NumberPart.TheVariants as part
-use Rattle.json_reader.specs.Numbers.{first_part, by_digit, by_point, by_exponent, part_next, part_then, completes, run_parts}
+use Rattle.json_reader.specs.code.Numbers.{first_part, by_digit, by_point, by_exponent, part_next, part_then, completes, run_parts}
 use Rattle.json_reader.specs.Json.{Each}
-use Rattle.json_reader.specs.Reading.{is_number_byte}
+use Rattle.json_reader.specs.code.Reading.{is_number_byte}
 use Rattle.json_reader.proofs.Front.{either}
 use Rattle.json_reader.proofs.Spellings.{chosen}
 

@@ -9,7 +9,7 @@ use Rattle.doc_values.specs.Unfinished.{Unfinished, start}
 use Rattle.json_reader.specs.declared.refusal.JsonRefusal.{JsonRefusal}
 use Rattle.json_reader.specs.declared.refusal.JsonRefusal.TheVariants.{Syntax}
 use Rattle.json_reader.specs.Json.{past, byte_order_mark, IsFront, Shape}
-use Rattle.json_reader.specs.Reading.{Phase, AtValue, Next, Stop, Go, next, cause, judged, ended, final, final_cause, judge, mark_stop, behind_mark, verdict}
+use Rattle.json_reader.specs.code.Reading.{Phase, AtValue, Next, Stop, Go, next, cause, judged, ended, final, final_cause, judge, mark_stop, behind_mark, verdict}
 use Rattle.json_reader.proofs.Spellings.{past-append, past-length}
 use Rattle.json_reader.proofs.Judged.{err_same, err_ok}
 use Rattle.json_reader.proofs.Front.{either, other_first, verdict_marked}

@@ -10,9 +10,9 @@ use Rattle.json_reader.specs.declared.bytes.Class.{Class}
 use Rattle.json_reader.specs.declared.bytes.Class.TheVariants.{Open, OpenList}
 use Rattle.json_reader.specs.declared.refusal.JsonRefusal.TheVariants.{Syntax, NoMemory}
 use Rattle.json_reader.specs.Json.{byte_order_mark, Shape}
-use Rattle.json_reader.specs.Numbers.{number_kind, completes}
+use Rattle.json_reader.specs.code.Numbers.{number_kind, completes}
 use Rattle.json_reader.specs.Refusals.{Begins, IsDead, IsLeastDead}
-use Rattle.json_reader.specs.Reading.{class_of, Phase, AtValue, AtKeyOrEnd, AtItemOrEnd, AtKey, AtColon, After, InString, InWord, InNumber, Heard, Closed, heard, value_cause, string_cause, number_cause, cause, judged, final_cause, judge, mark_stop, behind_mark, verdict}
+use Rattle.json_reader.specs.code.Reading.{class_of, Phase, AtValue, AtKeyOrEnd, AtItemOrEnd, AtKey, AtColon, After, InString, InWord, InNumber, Heard, Closed, heard, value_cause, string_cause, number_cause, cause, judged, final_cause, judge, mark_stop, behind_mark, verdict}
 use Rattle.json_reader.proofs.Judged.{err_same}
 use Rattle.json_reader.proofs.Front.{either}
 use Rattle.json_reader.proofs.Closings.{closing_of}

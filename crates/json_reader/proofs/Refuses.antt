@@ -7,7 +7,7 @@ use Rattle.json_reader.specs.declared.refusal.JsonRefusal.{JsonRefusal}
 use Rattle.json_reader.specs.declared.refusal.JsonRefusal.TheVariants.{Syntax, DuplicateKey, NumberRange, TooDeep, NoMemory}
 use Rattle.json_reader.specs.Json.{Json}
 use Rattle.json_reader.specs.Refusals.{DeepSign, KeySign, RangeSign, CountsAt, IsCounting, IsDead, IsLeastDead, IsRefused, place_of_refusal}
-use Rattle.json_reader.specs.Reading.{verdict}
+use Rattle.json_reader.specs.code.Reading.{verdict}
 use Rattle.json_reader.proofs.Judged.{err_same}
 use Rattle.json_reader.proofs.Front.{either}
 use Rattle.json_reader.proofs.Verdicts.{verdict_ok, verdict_err}

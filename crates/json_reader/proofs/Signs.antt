@@ -12,9 +12,9 @@ use Rattle.json_reader.specs.declared.number.NumberPart.{NumberPart}
 use Rattle.json_reader.specs.declared.refusal.JsonRefusal.{JsonRefusal}
 use Rattle.json_reader.specs.declared.refusal.JsonRefusal.TheVariants.{Syntax, DuplicateKey, NumberRange, TooDeep}
 use Rattle.json_reader.specs.Json.{IsInRange, Collection, Object, Array, opening, closing, kind_of, Shape, AreDistinct, AreInRange, AreShallow, Json}
-use Rattle.json_reader.specs.Numbers.{number_kind, first_part, part_next, completes, run_parts}
+use Rattle.json_reader.specs.code.Numbers.{number_kind, first_part, part_next, completes, run_parts}
 use Rattle.json_reader.specs.Refusals.{Begins, ButRange, ButKeys, IsComplete, DeepSign, KeySign, RangeSign, CountsAt, IsCounting}
-use Rattle.json_reader.specs.Reading.{class_of, Phase, AtValue, AtKeyOrEnd, AtItemOrEnd, AtKey, AtColon, After, InString, InWord, InNumber, Heard, Closed, heard, Stop, Go, keyless, value_next, item_or_end_next, string_end, string_next, number_next, next, value_cause, string_cause, number_cause, cause, final_cause, mark_stop, behind_mark, verdict}
+use Rattle.json_reader.specs.code.Reading.{class_of, Phase, AtValue, AtKeyOrEnd, AtItemOrEnd, AtKey, AtColon, After, InString, InWord, InNumber, Heard, Closed, heard, Stop, Go, keyless, value_next, item_or_end_next, string_end, string_next, number_next, next, value_cause, string_cause, number_cause, cause, final_cause, mark_stop, behind_mark, verdict}
 use Rattle.json_reader.proofs.Judged.{IsSign, err_same}
 use Rattle.json_reader.proofs.Spellings.{open_byte, open_list_byte}
 use Rattle.json_reader.proofs.Strings.{no_chars, Hears, hears}

@@ -4,7 +4,7 @@ use Rattle.std.specs.Prelude.{◌==◌, ◌||◌, not, nat_lt}
 use Rattle.std.specs.List.{list_any}
 use Rattle.std.proofs.lemmas.Bool.Decides.{nat_tests}
 use Rattle.std.proofs.lemmas.List.Folds.{list_any-append}
-use Rattle.byte_lanes.specs.Members.{holds}
+use Rattle.byte_lanes.specs.code.Members.{holds}
 use Rattle.json_reader.specs.Json.{is_unescaped}
 
 -- the bytes below one, in rising order

@@ -7,8 +7,8 @@ use Rattle.doc_values.specs.declared.kind.Kind.TheVariants as kind
 use Rattle.doc_values.specs.Number.{is_digit, AreDigits, number_behind, number, IsWholePart, signed}
 use Rattle.json_reader.specs.Json.{is_space, is_unescaped, past, IsInRange}
 use Rattle.json_reader.specs.declared.bytes.Class.TheVariants.{Space, Quote, Open, Close, OpenList, CloseList, Colon, Comma, Minus, Zero, Digit, LetterN, LetterT, LetterF}
-use Rattle.json_reader.specs.Reading.{class_of}
-use Rattle.json_reader.specs.Numbers.{whole_of}
+use Rattle.json_reader.specs.code.Reading.{class_of}
+use Rattle.json_reader.specs.code.Numbers.{whole_of}
 
 pub space_class : (b : ℕ) → is_space b ≡ true → class_of b ≡ Space
 space_class b h = rw h refl

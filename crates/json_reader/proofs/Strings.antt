@@ -4,7 +4,7 @@ use Rattle.std.specs.Prelude.{nat_eq, nat_le, ◌&&◌, ◌||◌, not, encode_ut
 use Rattle.std.proofs.lemmas.Bool.Decides.{nat_tests}
 use Rattle.doc_values.specs.Unfinished.{Unfinished}
 use Rattle.json_reader.specs.Json.{is_unescaped, Each, past, short_escape, is_hex, hex, is_unit, unit, is_high, is_low, opens_unit, escape, Character, IsCharacter, AreCharacters, spellings, meanings, Chars}
-use Rattle.json_reader.specs.Reading.{InString, Heard, Bad, Closed, Part, Whole, may_escape, escape_heard, heard, string_next, string_cause, judged, judge, read}
+use Rattle.json_reader.specs.code.Reading.{InString, Heard, Bad, Closed, Part, Whole, may_escape, escape_heard, heard, string_next, string_cause, judged, judge, read}
 use Rattle.json_reader.proofs.Judged.{given, read_judge}
 use Rattle.json_reader.proofs.Spellings.{unescaped_not_quote, past-append}
 

@@ -10,9 +10,9 @@ use Rattle.json_reader.specs.declared.bytes.Class.{Class}
 use Rattle.json_reader.specs.declared.bytes.Class.TheVariants.{Space, Quote, Open, Close, OpenList, CloseList, Colon, Comma, Minus, Zero, Digit, LetterN, LetterT, LetterF}
 use Rattle.json_reader.specs.declared.number.NumberPart.{NumberPart}
 use Rattle.json_reader.specs.Json.{Each, Chars, past, escape}
-use Rattle.json_reader.specs.Numbers.{number_kind, first_part, part_next, part_then, completes}
+use Rattle.json_reader.specs.code.Numbers.{number_kind, first_part, part_next, part_then, completes}
 use Rattle.json_reader.specs.Refusals.{MayOpen}
-use Rattle.json_reader.specs.Reading.{class_of, begins_number, Phase, AtValue, AtKeyOrEnd, AtItemOrEnd, AtKey, AtColon, After, InString, InWord, InNumber, Heard, Bad, Closed, Part, Whole, may_escape, escape_heard, heard, Next, Stop, Go, keyless, value_next, by_form, after_next, key_or_end_next, item_or_end_next, word_on, word_next, key_next, colon_next, number_done, number_next, string_end, string_next, string_cause, number_cause, next, cause, judged, judge, verdict}
+use Rattle.json_reader.specs.code.Reading.{class_of, begins_number, Phase, AtValue, AtKeyOrEnd, AtItemOrEnd, AtKey, AtColon, After, InString, InWord, InNumber, Heard, Bad, Closed, Part, Whole, may_escape, escape_heard, heard, Next, Stop, Go, keyless, value_next, by_form, after_next, key_or_end_next, item_or_end_next, word_on, word_next, key_next, colon_next, number_done, number_next, string_end, string_next, string_cause, number_cause, next, cause, judged, judge, verdict}
 use Rattle.json_reader.proofs.Spellings.{quote_byte, past-length}
 use Rattle.json_reader.proofs.Judged.{err_ok, ok_judge}
 use Rattle.json_reader.proofs.Strings.{no_chars, chars_cons, chars_join, Hears, hears, last_ascii}

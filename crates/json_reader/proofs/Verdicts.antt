@@ -9,8 +9,8 @@ use Rattle.json_reader.specs.declared.stage.Stage.TheVariants as stage
 use Rattle.json_reader.specs.declared.refusal.JsonRefusal.{JsonRefusal}
 use Rattle.json_reader.specs.declared.refusal.JsonRefusal.TheVariants.{Syntax, NoMemory}
 use Rattle.json_reader.specs.Json.{Json}
-use Rattle.json_reader.specs.Reading.{Phase, AtValue, After, ended, final, final_cause, judge, whole_tree, from, mark_len, mark_stop, behind_mark, verdict}
-use Rattle.json_reader.specs.Steps.{phase_of, Gives}
+use Rattle.json_reader.specs.code.Reading.{Phase, AtValue, After, ended, final, final_cause, judge, whole_tree, from, mark_len, mark_stop, behind_mark, verdict}
+use Rattle.json_reader.specs.code.Steps.{phase_of, Gives}
 use Rattle.json_reader.proofs.Judged.{err_ok, judge_ok}
 use Rattle.json_reader.proofs.Limits.{sound}
 use Rattle.json_reader.proofs.Complete.{complete}

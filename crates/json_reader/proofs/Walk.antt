@@ -22,10 +22,10 @@ use Rattle.json_reader.proofs.Strings.{plain_heard, last_ascii}
 use Rattle.json_reader.specs.declared.number.NumberPart.{NumberPart}
 use Rattle.json_reader.proofs.Parts.{runs_bytes, run_one}
 use Rattle.doc_values.specs.Tree.{Forest}
-use Rattle.json_reader.specs.Reading.{class_of, is_number_byte, begins_number, Phase, AtValue, AtItemOrEnd, AtColon, After, InString, InWord, InNumber, Next, Stop, Go, Bad, Closed, Part, Whole, may_escape, escape_heard, heard, string_next, keyless, value_next, item_or_end_next, word_on, next, value_cause, string_cause, number_cause, cause, judged, judge, from}
-use Rattle.json_reader.specs.Steps.{Reaches, Fails, is_mark, IsTextAt, Unclosed, Number, NoNumber, phase_of, Gives, Leads, IsPlain, kind_of}
-use Rattle.json_reader.specs.Refused.{refusal_of}
-use Rattle.json_reader.specs.Numbers.{first_part, part_next, part_then, completes, run_parts}
+use Rattle.json_reader.specs.code.Reading.{class_of, is_number_byte, begins_number, Phase, AtValue, AtItemOrEnd, AtColon, After, InString, InWord, InNumber, Next, Stop, Go, Bad, Closed, Part, Whole, may_escape, escape_heard, heard, string_next, keyless, value_next, item_or_end_next, word_on, next, value_cause, string_cause, number_cause, cause, judged, judge, from}
+use Rattle.json_reader.specs.code.Steps.{Reaches, Fails, is_mark, IsTextAt, Unclosed, Number, NoNumber, phase_of, Gives, Leads, IsPlain, kind_of}
+use Rattle.json_reader.specs.code.Refused.{refusal_of}
+use Rattle.json_reader.specs.code.Numbers.{first_part, part_next, part_then, completes, run_parts}
 use Rattle.json_reader.proofs.NumberKinds.{known_whole, known_fraction, known_none}
 use Rattle.json_reader.proofs.NumberBytes.{number_ascii, begins_ascii}
 use Rattle.json_reader.proofs.NumberRuns.{number_first, number_same, NoMore, number_ends, number_fails}

@@ -1,6 +1,6 @@
 //! Classes of bytes.
 ghost use Rattle.std.specs.Prelude.{◌≡◌};
-ghost use Rattle.json_reader.specs.Reading.{class_of, mark_len, mark_stop};
+ghost use Rattle.json_reader.specs.code.Reading.{class_of, mark_len, mark_stop};
 
 /// What a byte is, outside texts.
 #[derive(Clone, Copy)]

@@ -2,8 +2,8 @@
 ghost use Rattle.std.specs.Prelude.{◌≡◌, ◌+◌, ◌-◌, ◌<◌, ◌≤◌, length, true, false, Option, Some, None, MatchOption, MatchResult, encode_utf8, slice_index};
 ghost use Rattle.std.specs.Char.{IsScalar};
 ghost use Rattle.json_reader.specs.Json.{short_escape, is_hex, hex, is_unit, unit, is_high, is_low, opens_unit, escape};
-ghost use Rattle.json_reader.specs.Reading.{may_escape};
-ghost use Rattle.json_reader.specs.Steps.{Reaches, Fails, escape_two, escape_six, escape_twelve};
+ghost use Rattle.json_reader.specs.code.Reading.{may_escape};
+ghost use Rattle.json_reader.specs.code.Steps.{Reaches, Fails, escape_two, escape_six, escape_twelve};
 
 /// The character of a letter behind a backslash.
 fn short_escape(byte: u8) -> Option<char>

@@ -1,9 +1,9 @@
 //! Numbers.
 ghost use Rattle.std.specs.Prelude.{◌≡◌, ◌<◌, ◌≤◌, length, take, true, Some, None, IsErrOf, MatchResult, slice_index};
 ghost use Rattle.doc_values.specs.Number.{is_digit};
-ghost use Rattle.json_reader.specs.Numbers.{first_part, part_next, by_exponent, by_point, completes, run_parts};
-ghost use Rattle.json_reader.specs.Reading.{begins_number};
-ghost use Rattle.json_reader.specs.Steps.{Number, NoNumber, IsPlain, kind_of};
+ghost use Rattle.json_reader.specs.code.Numbers.{first_part, part_next, by_exponent, by_point, completes, run_parts};
+ghost use Rattle.json_reader.specs.code.Reading.{begins_number};
+ghost use Rattle.json_reader.specs.code.Steps.{Number, NoNumber, IsPlain, kind_of};
 
 use crate::refusal::JsonRefusal;
 use doc_values::{Kind, Num, read_number};

@@ -1,7 +1,7 @@
 //! A whole text, and what its trees and refusals have in common.
 ghost use Rattle.std.specs.Prelude.{◌≡◌, ◌≤◌, length, IsErrOf, MatchResult};
 ghost use Rattle.doc_values.specs.Tree.{Forest};
-ghost use Rattle.json_reader.specs.Memory.{HasBeginning};
+ghost use Rattle.json_reader.specs.code.Memory.{HasBeginning};
 ghost use Rattle.json_reader.specs.Json.{Json};
 ghost use Rattle.json_reader.specs.Refusals.{IsRefused, place_of_refusal};
 

@@ -27,7 +27,7 @@ pub enum JsonRefusal {
 
 impl From<BuildRefusal> for JsonRefusal {
     ghost use Rattle.std.specs.Prelude.{◌≡◌};
-    ghost use Rattle.json_reader.specs.Refused.{refusal_of};
+    ghost use Rattle.json_reader.specs.code.Refused.{refusal_of};
 
     ghost from_gives = { λ r e. e ≡ refusal_of r };
 

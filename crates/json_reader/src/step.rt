@@ -1,9 +1,9 @@
 //! One token at a time: what it adds to the tree, and what is awaited behind it.
 ghost use Rattle.std.specs.Prelude.{◌≡◌, ◌+◌, ◌<◌, ◌≤◌, length, [], true, false, None, IsErrOf, MatchResult, slice_index, ℕ};
-ghost use Rattle.json_reader.specs.Reading.{AtValue, AtKeyOrEnd, AtItemOrEnd, AtKey, AtColon, After, InString, InWord, begins_number, after_next, class_of};
-ghost use Rattle.json_reader.specs.Memory.{begins, HasEscape};
+ghost use Rattle.json_reader.specs.code.Reading.{AtValue, AtKeyOrEnd, AtItemOrEnd, AtKey, AtColon, After, InString, InWord, begins_number, after_next, class_of};
+ghost use Rattle.json_reader.specs.code.Memory.{begins, HasEscape};
 ghost use Rattle.json_reader.specs.declared.bytes.Class.TheVariants.{Comma};
-ghost use Rattle.json_reader.specs.Steps.{Gives, Leads, Fits, Number, IsRooted, IsPlain, form_of, open_next, end_next, phase_of};
+ghost use Rattle.json_reader.specs.code.Steps.{Gives, Leads, Fits, Number, IsRooted, IsPlain, form_of, open_next, end_next, phase_of};
 
 use crate::bytes::{Class, byte_class};
 use crate::number::number_at;

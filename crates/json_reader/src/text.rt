@@ -1,10 +1,10 @@
 //! Texts between quotation marks.
 ghost use Rattle.std.specs.Prelude.{ℕ, ◌≡◌, ◌-◌, ◌<◌, ◌≤◌, ◌⊎◌, length, not, true, false, IsErrOf, MatchResult, take, drop, slice_index, string_bytes};
 ghost use Rattle.std.specs.Cow.{cow_str_bytes};
-ghost use Rattle.byte_lanes.specs.Members.{holds};
-ghost use Rattle.json_reader.specs.Memory.{HasEscape};
+ghost use Rattle.byte_lanes.specs.code.Members.{holds};
+ghost use Rattle.json_reader.specs.code.Memory.{HasEscape};
 ghost use Rattle.json_reader.specs.Json.{is_unescaped, Each};
-ghost use Rattle.json_reader.specs.Steps.{Reaches, Fails, IsTextAt, Unclosed, is_mark};
+ghost use Rattle.json_reader.specs.code.Steps.{Reaches, Fails, IsTextAt, Unclosed, is_mark};
 
 use crate::escape::escape_at;
 use crate::refusal::JsonRefusal;

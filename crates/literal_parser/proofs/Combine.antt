@@ -1,7 +1,7 @@
 -- What holds of a parser's parts holds of the parser.
 use Rattle.std.proofs.Common.{◌≡◌, ℕ, Bool, true, false, cond, refl, sym, subst}
 use Rattle.literal_parser.specs.States.{State, Rel}
-use Rattle.literal_parser.specs.Parser.{Outcome, Read, Fail, Parser, and_then}
+use Rattle.literal_parser.specs.code.Parser.{Outcome, Read, Fail, Parser, and_then}
 
 -- ---- sound
 

@@ -7,7 +7,7 @@ use Rattle.std.proofs.lemmas.List.{length-append}
 use Rattle.literal_parser.specs.Lexemes.{Lexeme, Word}
 use Rattle.literal_parser.specs.Forms.{form, word_form}
 use Rattle.literal_parser.specs.States.{State}
-use Rattle.literal_parser.specs.Parser.{Outcome, Read, Fail, Parser, and_then, ◌>>=◌}
+use Rattle.literal_parser.specs.code.Parser.{Outcome, Read, Fail, Parser, and_then, ◌>>=◌}
 use Rattle.literal_parser.proofs.Combine.{Gives, gives_then}
 use Rattle.literal_parser.proofs.Apart.{always, implied}
 

@@ -3,7 +3,7 @@ use Rattle.std.proofs.Common.{◌≡◌, ◌⊎◌, inl, inr, ℕ, suc, ◌≤�
 use Rattle.literal_parser.specs.Lexemes.{Lexeme, Word}
 use Rattle.literal_parser.specs.Forms.{form, word_form}
 use Rattle.literal_parser.specs.States.{State, past}
-use Rattle.literal_parser.specs.Parser.{Outcome, Read, Fail, Parser, takes, has, choose, choose_next, choose_pair, choose_third}
+use Rattle.literal_parser.specs.code.Parser.{Outcome, Read, Fail, Parser, takes, has, choose, choose_next, choose_pair, choose_third}
 use Rattle.literal_parser.proofs.Combine.{Gives}
 use Rattle.literal_parser.proofs.Apart.{apart, implied}
 use Rattle.literal_parser.proofs.Steps.{by_next, by_pair}

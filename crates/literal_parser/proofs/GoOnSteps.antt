@@ -5,7 +5,7 @@ use Rattle.std.proofs.lemmas.Bool.Decides.{nat_tests}
 use Rattle.literal_parser.specs.Lexemes.{Lexeme, Word}
 use Rattle.literal_parser.specs.Forms.{form, word_form}
 use Rattle.literal_parser.specs.States.{State, past, opened, ranged}
-use Rattle.literal_parser.specs.Parser.{Outcome, Read, Fail, Parser, and_then, note_range, opens, takes, has, choose, choose_pair, choose_next, choose_third}
+use Rattle.literal_parser.specs.code.Parser.{Outcome, Read, Fail, Parser, and_then, note_range, opens, takes, has, choose, choose_pair, choose_next, choose_third}
 use Rattle.literal_parser.proofs.Combine.{Gives, gives}
 use Rattle.literal_parser.proofs.Apart.{apart, implied}
 use Rattle.literal_parser.proofs.Steps.{gives_opens, gives_takes, gives_has, gives_ranged, by, by_next, by_pair, by_third}

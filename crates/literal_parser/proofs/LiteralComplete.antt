@@ -6,10 +6,10 @@ use Rattle.doc_values.specs.declared.kind.Kind.TheVariants as kind
 use Rattle.literal_parser.specs.Lexemes.{Lexeme}
 use Rattle.literal_parser.specs.Forms.{form, is_lbrace, is_rbrace, is_lbracket, is_rbracket, is_comma, is_colon, is_r, is_number, is_key, is_scalar, is_opening_end, is_closing_end, is_square, opens_range, text_of, number_of}
 use Rattle.literal_parser.specs.States.{State, ◌⨾◌, Takes, Has, ranged}
-use Rattle.literal_parser.specs.Parser.{stop}
+use Rattle.literal_parser.specs.code.Parser.{stop}
 use Rattle.literal_parser.specs.Literal.{scalar, holder, is_mixed, IsRange, IsNode, IsEntry, AreItems, AreMoreItems, AreEntries, AreMoreEntries, IsLiteral}
-use Rattle.literal_parser.specs.LiteralReading.{bounds, range, list, map_of, node, more_items, items_of, valued, entry, more_entries, entries_of, within, literal_of}
-use Rattle.literal_parser.specs.LiteralDepth.{deep_forest}
+use Rattle.literal_parser.specs.code.LiteralReading.{bounds, range, list, map_of, node, more_items, items_of, valued, entry, more_entries, entries_of, within, literal_of}
+use Rattle.literal_parser.specs.code.LiteralDepth.{deep_forest}
 use Rattle.literal_parser.proofs.Combine.{Gives, gives, gives_then, gives_if}
 use Rattle.literal_parser.proofs.Apart.{apart}
 use Rattle.literal_parser.proofs.Steps.{place, here, gives_takes, gives_has, gives_ranged, by, by_pair}

@@ -10,9 +10,9 @@ use Rattle.guard_lexer.specs.declared.token.Mark.TheVariants as m
 use Rattle.literal_parser.specs.Lexemes.{Lexeme, Word, Name, Whole, Str, Sign}
 use Rattle.literal_parser.specs.Forms.{form, is_lbrace, is_rbrace, is_lbracket, is_rbracket, is_comma, is_colon, is_r, is_number, is_key, is_scalar, is_constant, is_opening_end, is_closing_end, is_square, opens_range, text_of, number_of}
 use Rattle.literal_parser.specs.States.{State, past, ranged}
-use Rattle.literal_parser.specs.Parser.{Read, Fail, Parser, and_then, ◌>>=◌, ◌>>◌, pure, stop, takes, has, choose_pair}
+use Rattle.literal_parser.specs.code.Parser.{Read, Fail, Parser, and_then, ◌>>=◌, ◌>>◌, pure, stop, takes, has, choose_pair}
 use Rattle.literal_parser.specs.Literal.{scalar, holder, is_mixed}
-use Rattle.literal_parser.specs.LiteralReading.{Tree, bounds, range, list, map_of, node, more_items, items_of, valued, entry, more_entries, entries_of, within, literal_of}
+use Rattle.literal_parser.specs.code.LiteralReading.{Tree, bounds, range, list, map_of, node, more_items, items_of, valued, entry, more_entries, entries_of, within, literal_of}
 use Rattle.literal_parser.proofs.Combine.{Gives, gives, gives_then}
 use Rattle.literal_parser.proofs.Steps.{gives_has, gives_ranged, by_pair}
 use Rattle.literal_parser.proofs.Apart.{implied}

@@ -4,9 +4,9 @@ use Rattle.doc_values.specs.Tree.{Forest, Nil, Node, snoc, has_key}
 use Rattle.doc_values.specs.declared.kind.Kind.TheVariants as kind
 use Rattle.literal_parser.specs.Lexemes.{Lexeme}
 use Rattle.literal_parser.specs.Forms.{form, is_lbrace, is_rbrace, is_lbracket, is_rbracket, is_comma, is_colon, is_r, is_number, is_key, is_scalar, is_opening_end, is_closing_end, is_square, opens_range, text_of, number_of}
-use Rattle.literal_parser.specs.Parser.{Parser}
+use Rattle.literal_parser.specs.code.Parser.{Parser}
 use Rattle.literal_parser.specs.Literal.{scalar, holder, is_mixed}
-use Rattle.literal_parser.specs.LiteralReading.{bounds, range, list, map_of, node, more_items, items_of, valued, entry, more_entries, entries_of, within, literal_of}
+use Rattle.literal_parser.specs.code.LiteralReading.{bounds, range, list, map_of, node, more_items, items_of, valued, entry, more_entries, entries_of, within, literal_of}
 use Rattle.literal_parser.proofs.Steps.{Local, alike_then, alike_if, pure_local, stop_local, takes_local, has_local, choose_local, pair_local, ranged_local}
 
 module _ (s w : ℕ → Lexeme) where

@@ -6,9 +6,9 @@ use Rattle.doc_values.specs.declared.kind.Kind.TheVariants as kind
 use Rattle.literal_parser.specs.Lexemes.{Lexeme}
 use Rattle.literal_parser.specs.Forms.{form, is_lbrace, is_rbrace, is_lbracket, is_rbracket, is_comma, is_colon, is_r, is_number, is_key, is_scalar, is_opening_end, is_closing_end, is_square, opens_range, text_of, number_of}
 use Rattle.literal_parser.specs.States.{State, Rel, ◌⨾◌, Takes, Has, ranged}
-use Rattle.literal_parser.specs.Parser.{Parser, stop}
+use Rattle.literal_parser.specs.code.Parser.{Parser, stop}
 use Rattle.literal_parser.specs.Literal.{scalar, holder, is_mixed, IsNode, IsEntry, AreItems, AreMoreItems, AreEntries, AreMoreEntries, IsLiteral}
-use Rattle.literal_parser.specs.LiteralReading.{Tree, bounds, range, list, map_of, node, more_items, items_of, valued, entry, more_entries, entries_of, within, literal_of}
+use Rattle.literal_parser.specs.code.LiteralReading.{Tree, bounds, range, list, map_of, node, more_items, items_of, valued, entry, more_entries, entries_of, within, literal_of}
 use Rattle.literal_parser.proofs.Combine.{Holds, Sound, done, failed, holds_then, holds_so, holds_if}
 use Rattle.literal_parser.proofs.Steps.{takes_sound, has_sound, choose_sound, pair_sound, ranged_sound}
 

@@ -3,7 +3,7 @@ use Rattle.std.proofs.Common.{◌≡◌, ◌≢◌, ℕ, suc, ◌+◌, ◌-◌, 
 use Rattle.std.specs.Prelude.{ℤ, codes, bytes_eq, Result, Ok, Err}
 use Rattle.std.specs.Result.{IsErrAnd}
 use Rattle.doc_values.specs.Tree.{Label, Forest, Nil, Node, snoc, joined, is_map}
-use Rattle.doc_values.specs.Laws.{joined-Nil, joined-snoc}
+use Rattle.doc_values.specs.code.Laws.{joined-Nil, joined-snoc}
 use Rattle.doc_values.specs.Unfinished.{Level, Unfinished, start, with_value, with_open, open_kind, with_key, with_end, innermost, in_map, IsKeyThere, MayHold, AwaitsValue, AwaitsKey, MayEnd}
 use Rattle.doc_values.specs.declared.kind.Kind.{Kind}
 use Rattle.doc_values.specs.declared.kind.Kind.TheVariants as kind
@@ -15,15 +15,15 @@ use Rattle.literal_parser.specs.declared.token_class.TokenClass.TheVariants as s
 use Rattle.literal_parser.specs.declared.cursor.Halt.{Halt}
 use Rattle.literal_parser.specs.declared.cursor.Halt.TheVariants.{Dead, NoMemory}
 use Rattle.literal_parser.specs.declared.token_cursor.Cursor.{Cursor}
-use Rattle.literal_parser.specs.Reads.{Reads}
+use Rattle.literal_parser.specs.code.Reads.{Reads}
 use Rattle.literal_parser.specs.Lexemes.{Lexeme, Word, Name, Reserved, TypeName, Var, Str, Pat, Whole, Fraction, Note, Sign, End}
 use Rattle.literal_parser.specs.Forms.{form, is_lbrace, is_rbrace, is_lbracket, is_rbracket, is_comma, is_r, is_scalar, is_index_number, magnitude, number_in, number_of, text_in}
-use Rattle.literal_parser.specs.TokenClasses.{shape_of, shape_in, name_shape, whole_shape}
+use Rattle.literal_parser.specs.code.TokenClasses.{shape_of, shape_in, name_shape, whole_shape}
 use Rattle.literal_parser.specs.States.{State}
-use Rattle.literal_parser.specs.Parser.{One, Outcome, Read, Fail, Parser, and_then, pure, takes, has, choose, choose_pair, note_range}
+use Rattle.literal_parser.specs.code.Parser.{One, Outcome, Read, Fail, Parser, and_then, pure, takes, has, choose, choose_pair, note_range}
 use Rattle.literal_parser.specs.Literal.{scalar_kind, scalar_text, scalar, holder, is_mixed}
-use Rattle.literal_parser.specs.LiteralReading.{Tree, bounds, range, list, map_of, node, more_items, items_of, entry, more_entries, entries_of, within, literal_of}
-use Rattle.literal_parser.specs.LiteralReads.{kind_of, is_quoted, Puts, with_tree, with_all, IsOpen, IsLevel}
+use Rattle.literal_parser.specs.code.LiteralReading.{Tree, bounds, range, list, map_of, node, more_items, items_of, entry, more_entries, entries_of, within, literal_of}
+use Rattle.literal_parser.specs.code.LiteralReads.{kind_of, is_quoted, Puts, with_tree, with_all, IsOpen, IsLevel}
 use Rattle.literal_parser.proofs.Takes.{has_of, has_none}
 
 -- ---- a value of one token

@@ -12,7 +12,7 @@ use Rattle.literal_parser.specs.declared.token_class.TokenTest.{TokenTest}
 use Rattle.literal_parser.specs.declared.token_class.TokenTest.TheVariants as w
 use Rattle.literal_parser.specs.Lexemes.{Lexeme, lexeme_of, lexemes, ending, Word, Name, Reserved, TypeName, Var, Str, Pat, Whole, Fraction, Note, Sign, End}
 use Rattle.literal_parser.specs.Forms.{form, is_r, is_opening_end, opens_range, word_form, name_form, whole_form, is_index_number, magnitude}
-use Rattle.literal_parser.specs.TokenClasses.{shape_form, wants, shape_of, shape_in, name_shape, whole_shape}
+use Rattle.literal_parser.specs.code.TokenClasses.{shape_form, wants, shape_of, shape_in, name_shape, whole_shape}
 
 pub at_token : (text : List ℕ) (tokens : List Token) (i : ℕ) (d : Token) → i < length tokens → lexemes text tokens i ≡ lexeme_of text (get_or tokens i d)
 at_token text tokens i d within = get_or-map (lexeme_of text) tokens i d (ending text) within

@@ -3,7 +3,7 @@ use Rattle.std.proofs.Common.{◌≡◌, ℕ, suc, ◌≤◌, Bool, true, false,
 use Rattle.literal_parser.specs.Lexemes.{Lexeme}
 use Rattle.literal_parser.specs.Forms.{form}
 use Rattle.literal_parser.specs.States.{State, past, opened, ranged, Opens, Takes, Has}
-use Rattle.literal_parser.specs.Parser.{Outcome, Read, Fail, Parser, One, and_then, note_range, opens, takes, has, choose, choose_pair, choose_next, choose_third}
+use Rattle.literal_parser.specs.code.Parser.{Outcome, Read, Fail, Parser, One, and_then, note_range, opens, takes, has, choose, choose_pair, choose_next, choose_third}
 use Rattle.literal_parser.proofs.Combine.{Holds, Sound, done, failed, holds_if, Gives, gives_if, horizon}
 
 -- ---- what is read is spelled so

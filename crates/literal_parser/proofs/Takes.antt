@@ -6,9 +6,9 @@ use Rattle.guard_syntax.specs.declared.syntax.Op.TheVariants as op
 use Rattle.literal_parser.specs.declared.token_class.TokenClass.TheVariants as sh
 use Rattle.literal_parser.specs.Lexemes.{Lexeme, Word, Name, Reserved, TypeName, Var, Str, Pat, Whole, Fraction, Note, Sign, End}
 use Rattle.literal_parser.specs.Forms.{form, word_form, whole_form, is_index, is_index_number, magnitude, whole_in, index_of, operator_in, operator_of, sign_in, sign_of}
-use Rattle.literal_parser.specs.TokenClasses.{shape_in, shape_of, name_shape, whole_shape, shape_operator, shape_sign, shape_index}
+use Rattle.literal_parser.specs.code.TokenClasses.{shape_in, shape_of, name_shape, whole_shape, shape_operator, shape_sign, shape_index}
 use Rattle.literal_parser.specs.States.{State, past}
-use Rattle.literal_parser.specs.Parser.{Outcome, Read, Fail, One, takes, has}
+use Rattle.literal_parser.specs.code.Parser.{Outcome, Read, Fail, One, takes, has}
 
 abbrev one : One
 one = tt

@@ -1,10 +1,5 @@
 pub mod Lexemes
 pub mod Forms
 pub mod States
-pub mod TokenClasses
 pub mod Literal
-pub mod Parser
-pub mod LiteralReading
-pub mod Reads
-pub mod LiteralReads
-pub mod LiteralDepth
+pub mod code

@@ -3,10 +3,10 @@ ghost use Rattle.std.specs.Prelude.{◌≡◌, ℕ, suc, max, IfOk};
 ghost use Rattle.guard_syntax.specs.declared.syntax.Op.{Op};
 ghost use Rattle.literal_parser.specs.Lexemes.{Lexeme};
 ghost use Rattle.literal_parser.specs.Forms.{form, is_end, is_index, is_number, is_square, opens_range, text_of, named_of, index_of, operator_of, sign_of, number_of};
-ghost use Rattle.literal_parser.specs.TokenClasses.{shape_form, shape_of, wants};
-ghost use Rattle.literal_parser.specs.Parser as spec;
-ghost use Rattle.literal_parser.specs.Parser.{Read};
-ghost use Rattle.literal_parser.specs.Reads.{Reads, itself, state_of, source};
+ghost use Rattle.literal_parser.specs.code.TokenClasses.{shape_form, shape_of, wants};
+ghost use Rattle.literal_parser.specs.code.Parser as spec;
+ghost use Rattle.literal_parser.specs.code.Parser.{Read};
+ghost use Rattle.literal_parser.specs.code.Reads.{Reads, itself, state_of, source};
 
 use crate::lexeme::{index_of, number_of, operator_of, sign_of, text_of};
 use crate::token_class::{TokenClass, TokenTest};
@@ -169,7 +169,7 @@ impl Cursor {
     }
 
     /// Begins a part, and answers its site.
-    #[tactic(auto, unfolding(crate::specs::Parser::opens))]
+    #[tactic(auto, unfolding(crate::specs::code::Parser::opens))]
     pub fn opens(&mut self, tokens: Tokens<'_>) -> Result<u32, Halt>
         ensures { Reads itself (spec.opens (source tokens.entry) (state_of self.old) self.old.seen) result self.new }
     {
@@ -182,7 +182,7 @@ impl Cursor {
     }
 
     /// Takes a token that is what is asked for.
-    #[tactic(auto, unfolding(crate::specs::Parser::takes))]
+    #[tactic(auto, unfolding(crate::specs::code::Parser::takes))]
     pub fn takes(&mut self, tokens: Tokens<'_>, want: TokenTest) -> Result<(), Halt>
         ensures { Reads (λ _. tt) (spec.takes (source tokens.entry) (wants want) (state_of self.old) self.old.seen) result self.new }
     {
@@ -274,7 +274,7 @@ impl Cursor {
     }
 
     /// A range that begins at a place has been read, with bounds of two kinds or of one.
-    #[tactic(auto, unfolding(crate::specs::Parser::note_range))]
+    #[tactic(auto, unfolding(crate::specs::code::Parser::note_range))]
     pub(crate) fn note_range(&mut self, unlike: bool, place: u32)
         ensures { spec.note_range unlike place (state_of self.old) self.old.seen ≡ Read tt (state_of self.new) self.new.seen }
     {

@@ -5,7 +5,7 @@ ghost use Rattle.guard_lexer.specs.declared.token.Token.{Token};
 ghost use Rattle.guard_lexer.specs.Bytes.{is_white};
 ghost use Rattle.literal_parser.specs.Lexemes.{lexeme_of, word_of, name_word, keyword_in, keyword_of, text_within, note_within, front_trimmed, back_trimmed};
 ghost use Rattle.literal_parser.specs.Forms.{text_in, text_of, number_in, keyword_operator, mark_operator};
-ghost use Rattle.literal_parser.specs.TokenClasses.{spelling, shape_in, shape_of, name_shape, whole_shape, shape_operator, shape_sign, shape_index};
+ghost use Rattle.literal_parser.specs.code.TokenClasses.{spelling, shape_in, shape_of, name_shape, whole_shape, shape_operator, shape_sign, shape_index};
 
 use crate::keyword::{KEYWORDS, Keyword};
 use crate::token_class::TokenClass;

@@ -4,12 +4,12 @@ ghost use Rattle.std.specs.Cow.{cow_str_bytes};
 ghost use Rattle.doc_values.specs.Tree.{Nil};
 ghost use Rattle.doc_values.specs.Unfinished.{AwaitsValue, MayEnd, open_kind, with_open, with_end};
 ghost use Rattle.literal_parser.specs.Lexemes.{Lexeme};
-ghost use Rattle.literal_parser.specs.TokenClasses.{wants};
-ghost use Rattle.literal_parser.specs.Parser as spec;
+ghost use Rattle.literal_parser.specs.code.TokenClasses.{wants};
+ghost use Rattle.literal_parser.specs.code.Parser as spec;
 ghost use Rattle.literal_parser.specs.Literal.{constant_kind, scalar_text, is_mixed as spec_is_mixed};
-ghost use Rattle.literal_parser.specs.LiteralReading.{bounds, literal_of};
-ghost use Rattle.literal_parser.specs.Reads.{Reads, itself, state_of, source};
-ghost use Rattle.literal_parser.specs.LiteralReads.{Puts, IsOpen, IsLevel, with_tree, with_all, kind_of, number_kind, is_quoted, scalar_at, range_at, list_at, map_at, node_at, items_at, more_items_at, entry_at, entries_at, more_entries_at};
+ghost use Rattle.literal_parser.specs.code.LiteralReading.{bounds, literal_of};
+ghost use Rattle.literal_parser.specs.code.Reads.{Reads, itself, state_of, source};
+ghost use Rattle.literal_parser.specs.code.LiteralReads.{Puts, IsOpen, IsLevel, with_tree, with_all, kind_of, number_kind, is_quoted, scalar_at, range_at, list_at, map_at, node_at, items_at, more_items_at, entry_at, entries_at, more_entries_at};
 
 use crate::cursor::Halt;
 use crate::keyword::Keyword;
@@ -37,7 +37,7 @@ pub fn literal(
 
 /// One value with what stands in it.
 #[cycle(literal)]
-#[tactic(auto, unfolding(crate::specs::LiteralReading::node, crate::specs::Parser::choose, crate::specs::Parser::choose_pair))]
+#[tactic(auto, unfolding(crate::specs::code::LiteralReading::node, crate::specs::code::Parser::choose, crate::specs::code::Parser::choose_pair))]
 fn node(
     alloc: Global,
     tokens: Tokens<'_>,
@@ -145,7 +145,7 @@ fn scalar_text(alloc: Global, tokens: Tokens<'_>, at: usize) -> Result<CowStr<'s
 }
 
 /// The bounds of a range.
-#[tactic(auto, unfolding(crate::specs::LiteralReading::bounds))]
+#[tactic(auto, unfolding(crate::specs::code::LiteralReading::bounds))]
 fn limits(tokens: Tokens<'_>, cursor: &mut Cursor) -> Result<Range, Halt>
     ensures { Reads itself (bounds (source tokens.entry) (state_of cursor.old) cursor.old.seen) result cursor.new }
 {
@@ -247,7 +247,7 @@ fn list(
 
 /// What stands in a list.
 #[cycle(literal)]
-#[tactic(auto, unfolding(crate::specs::LiteralReading::items_of, crate::specs::Parser::choose))]
+#[tactic(auto, unfolding(crate::specs::code::LiteralReading::items_of, crate::specs::code::Parser::choose))]
 fn items(
     alloc: Global,
     tokens: Tokens<'_>,
@@ -270,7 +270,7 @@ fn items(
 
 /// What stands behind an item of a list.
 #[cycle(literal)]
-#[tactic(auto, unfolding(crate::specs::LiteralReading::more_items, crate::specs::Parser::choose))]
+#[tactic(auto, unfolding(crate::specs::code::LiteralReading::more_items, crate::specs::code::Parser::choose))]
 fn more_items(
     alloc: Global,
     tokens: Tokens<'_>,
@@ -321,7 +321,7 @@ fn map(
 
 /// What stands in a map.
 #[cycle(literal)]
-#[tactic(auto, unfolding(crate::specs::LiteralReading::entries_of, crate::specs::Parser::choose))]
+#[tactic(auto, unfolding(crate::specs::code::LiteralReading::entries_of, crate::specs::code::Parser::choose))]
 fn entries(
     alloc: Global,
     tokens: Tokens<'_>,
@@ -345,7 +345,7 @@ fn entries(
 
 /// What stands behind an entry of a map.
 #[cycle(literal)]
-#[tactic(auto, unfolding(crate::specs::LiteralReading::more_entries, crate::specs::Parser::choose))]
+#[tactic(auto, unfolding(crate::specs::code::LiteralReading::more_entries, crate::specs::code::Parser::choose))]
 fn more_entries(
     alloc: Global,
     tokens: Tokens<'_>,
@@ -370,7 +370,7 @@ fn more_entries(
 
 /// An entry of a map, whose key no entry before has.
 #[cycle(literal)]
-#[tactic(auto, unfolding(crate::specs::LiteralReading::entry, crate::specs::LiteralReading::valued))]
+#[tactic(auto, unfolding(crate::specs::code::LiteralReading::entry, crate::specs::code::LiteralReading::valued))]
 fn entry(
     alloc: Global,
     tokens: Tokens<'_>,

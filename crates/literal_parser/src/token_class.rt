@@ -1,7 +1,7 @@
 //! What a token is to the grammar, and what the grammar asks of a token.
 ghost use Rattle.std.specs.Prelude.{◌≡◌, ◌&&◌, not};
 ghost use Rattle.literal_parser.specs.Forms.{mark_form, keyword_form};
-ghost use Rattle.literal_parser.specs.TokenClasses.{shape_form, wants, is_of_each};
+ghost use Rattle.literal_parser.specs.code.TokenClasses.{shape_form, wants, is_of_each};
 
 use crate::keyword::Keyword;
 use guard_lexer::Mark;

@@ -1,7 +1,7 @@
 //! The tokens of a text, and how far they have been read.
 ghost use Rattle.std.specs.Prelude.{◌≡◌, ◌≤◌, ◌^◌, ℕ, length, map};
 ghost use Rattle.literal_parser.specs.Lexemes.{lexeme_of};
-ghost use Rattle.literal_parser.specs.TokenClasses.{shape_of};
+ghost use Rattle.literal_parser.specs.code.TokenClasses.{shape_of};
 ghost use Rattle.guard_lexer.specs.declared.token.Token.{Token};
 
 use crate::token_class::TokenClass;

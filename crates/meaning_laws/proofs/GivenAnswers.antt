@@ -10,8 +10,8 @@ use Rattle.percent_encoding.specs.Percent.{percent_decode}
 use Rattle.json_reader.proofs.NumberKinds.{number_sound, known_whole, known_fraction}
 use Rattle.json_reader.proofs.Verdicts.{verdict_ok, verdict_err}
 use Rattle.json_reader.specs.Json.{Json, StandsFor, IsInRange}
-use Rattle.json_reader.specs.Numbers.{number_kind}
-use Rattle.json_reader.specs.Reading.{verdict}
+use Rattle.json_reader.specs.code.Numbers.{number_kind}
+use Rattle.json_reader.specs.code.Reading.{verdict}
 use Rattle.json_reader.specs.declared.refusal.JsonRefusal.{JsonRefusal}
 use Rattle.doc_values.specs.Decimal.{Decimal}
 use Rattle.doc_values.specs.Number.{IsNumber, IsSpelled, Parts}
@@ -24,7 +24,7 @@ use Rattle.guard_syntax.specs.declared.function.Function.{Function}
 use Rattle.guard_syntax.specs.declared.function.Function.TheVariants as function
 use Rattle.guard_syntax.specs.declared.row.Row.{Row}
 use Rattle.guard_syntax.specs.declared.row.Row.TheVariants as row
-use Rattle.meaning_laws.specs.Answered.{answered, answered_for, answered_row, cut, decimal_of_num, decimal_read, decoded, given_by, is_boundary, lowered, num_of, parsed, raised, replaced, signed, tree_if_ok, whole_of_num, whole_read}
+use Rattle.meaning_laws.specs.code.Answered.{answered, answered_for, answered_row, cut, decimal_of_num, decimal_read, decoded, given_by, is_boundary, lowered, num_of, parsed, raised, replaced, signed, tree_if_ok, whole_of_num, whole_read}
 use Rattle.rule_meaning.specs.PatternMatch.{pattern_in}
 use Rattle.rule_meaning.specs.Functions.{AreRows, ForText, Functions, Gives, IsDecimal, IsDecimalBy, IsGiven, IsParsed, IsPart, IsReplacement, IsRow, IsRowFor, IsSigned, IsUnescaped, IsWholeBy, argument, behind_plus, decimal_tree, printed_by, replaced_with, single_text, single_whole, text_of, text_tree, truth_by, truth_tree, whole_tree}
 use Rattle.rule_meaning.specs.StoreModel.{StoreModel, stands_for}

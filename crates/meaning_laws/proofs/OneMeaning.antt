@@ -9,8 +9,8 @@ use Rattle.rule_names.specs.Resolution.{bind_of, target_of}
 use Rattle.rule_names.specs.Pieces.{AreInOrder, piece_at}
 use Rattle.rule_meaning.specs.Environments.{Environment, Top}
 use Rattle.rule_meaning.specs.Meaning.{Names, disj_verdicts}
-use Rattle.rule_meaning.specs.Fixpoint.{IsFixpoint}
-use Rattle.meaning_laws.specs.Weights.{weight}
+use Rattle.rule_meaning.specs.code.Fixpoint.{IsFixpoint}
+use Rattle.meaning_laws.specs.code.Weights.{weight}
 use Rattle.rule_meaning.specs.Locations.{World}
 use Rattle.meaning_laws.proofs.Weighed.{piece-depth}
 use Rattle.rule_meaning.specs.NameMeaning.{unfolded, unfolded_once, rule_by, rule_verdict, loose_verdict}

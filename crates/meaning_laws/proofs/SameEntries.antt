@@ -19,8 +19,8 @@ use Rattle.rule_meaning.specs.NameMeaning.{unfolded}
 use Rattle.rule_meaning.specs.SetTests.{is_empty_test, is_set}
 use Rattle.rule_meaning.specs.StepMeaning.{passes, rows_of_type}
 use Rattle.rule_meaning.specs.Verdicts.{is_fail}
-use Rattle.meaning_laws.specs.Entries.{loose_fails_by, rule_fails_by}
-use Rattle.meaning_laws.specs.Weights.{weight}
+use Rattle.meaning_laws.specs.code.Entries.{loose_fails_by, rule_fails_by}
+use Rattle.meaning_laws.specs.code.Weights.{weight}
 use Rattle.meaning_laws.proofs.OneMeaning.{IsFine, shallow, stable, told}
 use Rattle.meaning_laws.proofs.SameParts.{Agree, body-same, disj-same, part-same, rows-same, side-same}
 use Rattle.meaning_laws.proofs.Weighed.{larger-first, larger-second}

@@ -16,7 +16,7 @@ use Rattle.rule_meaning.specs.StepMeaning.{candidates_of, found_step, on_found, 
 use Rattle.rule_meaning.specs.VerdictMeaning.{test_verdict, set_verdict, block_row}
 use Rattle.rule_meaning.specs.Locations.{Location, LocatedRow, Found, World, is_found}
 use Rattle.rule_meaning.specs.Verdicts.{is_pass, conjunction, disjunction, block_verdict, guarded_by, referred, exchanged}
-use Rattle.meaning_laws.specs.Weights.{weight}
+use Rattle.meaning_laws.specs.code.Weights.{weight}
 use Rattle.meaning_laws.proofs.Weighed.{larger-first, larger-second}
 
 -- two meanings of names say the same of each use that is not deeper than a number

@@ -14,7 +14,7 @@ use Rattle.rule_meaning.specs.Meaning.{Names, opt_conds_verdict, body_verdict}
 use Rattle.rule_meaning.specs.StepMeaning.{captured_row}
 use Rattle.rule_meaning.specs.NameMeaning.{value_rows, captured_rows, argument_rows, parameter_rows, bound_rows, rule_by, piece_verdict, target_verdict, piece_called, target_called, unfolded_once}
 use Rattle.rule_meaning.specs.Verdicts.{guarded_by}
-use Rattle.meaning_laws.specs.Weights.{weight}
+use Rattle.meaning_laws.specs.code.Weights.{weight}
 use Rattle.rule_meaning.specs.Locations.{World, root_location}
 use Rattle.meaning_laws.proofs.Weighed.{larger-first, larger-second}
 use Rattle.meaning_laws.proofs.WeighedParts.{outwards-weight}

@@ -2,7 +2,7 @@
 use Rattle.std.proofs.Common.{ℕ, zero, suc, ◌≤◌, arith, List}
 use Rattle.guard_syntax.specs.Syntax.{File}
 use Rattle.rule_meaning.specs.Environments.{Environment, Top, Inner, Called, outer_of, outwards}
-use Rattle.meaning_laws.specs.Weights.{weight}
+use Rattle.meaning_laws.specs.code.Weights.{weight}
 
 module _ (f : File) (depths : List ℕ) where
   outer-weight : (env : Environment) → weight f depths (outer_of env) ≤ weight f depths env

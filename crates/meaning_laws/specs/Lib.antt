@@ -1,3 +1,1 @@
-pub mod Answered
-pub mod Entries
-pub mod Weights
+pub mod code

@@ -3,7 +3,7 @@ ghost use Rattle.std.specs.Prelude.{◌≡◌, ℕ, List, IsSome};
 ghost use Rattle.guard_io.specs.Outside.{FaultCounted};
 ghost use Rattle.guard_syntax.specs.declared.function.Function.{Function};
 ghost use Rattle.guard_syntax.specs.declared.row.Row.{Row};
-ghost use Rattle.meaning_laws.specs.Answered.{answered};
+ghost use Rattle.meaning_laws.specs.code.Answered.{answered};
 ghost use Rattle.rule_meaning.specs.PatternMatch.{counted, pattern_in};
 ghost use Rattle.rule_meaning.specs.Functions.{Functions, MadeRow};
 ghost use Rattle.rule_meaning.specs.StoreModel.{StoreModel};

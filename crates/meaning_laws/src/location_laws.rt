@@ -9,12 +9,12 @@ ghost use Rattle.rule_names.specs.WellNamed.{WellNamed};
 ghost use Rattle.rule_meaning.specs.Fails.{body_fails, calls_by, loose_fails, rule_fails};
 ghost use Rattle.rule_meaning.specs.Environments.{Environment, Top};
 ghost use Rattle.rule_meaning.specs.Meaning.{Names, body_verdict, disj_verdicts};
-ghost use Rattle.rule_meaning.specs.Fixpoint.{IsFixpoint};
+ghost use Rattle.rule_meaning.specs.code.Fixpoint.{IsFixpoint};
 ghost use Rattle.rule_meaning.specs.NameMeaning.{unfolded, rule_by, rule_verdict, loose_verdict};
 ghost use Rattle.rule_meaning.specs.Locations.{World};
 ghost use Rattle.rule_meaning.specs.Verdicts.{conjunction};
-ghost use Rattle.meaning_laws.specs.Entries.{loose_fails_by, rule_fails_by};
-ghost use Rattle.meaning_laws.specs.Weights.{weight};
+ghost use Rattle.meaning_laws.specs.code.Entries.{loose_fails_by, rule_fails_by};
+ghost use Rattle.meaning_laws.specs.code.Weights.{weight};
 
 use rule_names::settled_depths;
 

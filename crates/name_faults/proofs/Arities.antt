@@ -10,9 +10,9 @@ use Rattle.std.specs.Str.{bytes_eq}
 use Rattle.std.proofs.lemmas.List.{drop_more}
 use Rattle.guard_syntax.specs.declared.syntax.Rule.{Rule}
 use Rattle.guard_syntax.specs.Syntax as sx
-use Rattle.guard_syntax.specs.Seen.{see_rule}
+use Rattle.guard_syntax.specs.code.Seen.{see_rule}
 use Rattle.rule_names.specs.Uses.{rule_named}
-use Rattle.name_faults.specs.Arities.{arity_named, AreArities}
+use Rattle.name_faults.specs.code.Arities.{arity_named, AreArities}
 use Rattle.name_faults.proofs.NameSets.{bytes_eq_sym}
 
 map_cond : (b : Bool) (r : sx.Rule) (o : Option sx.Rule)

@@ -10,7 +10,7 @@ use Rattle.std.proofs.lemmas.Slice.Eq.{bytes_eq-Decides}
 use Rattle.std.specs.Bool.{Decides}
 use Rattle.std.proofs.lemmas.Map.Text.{is_eq-slice_cmp}
 use Rattle.rule_names.specs.Duplicates.{is_among}
-pub use Rattle.name_faults.specs.NameSets.{IsNameSet}
+pub use Rattle.name_faults.specs.code.NameSets.{IsNameSet}
 
 pub bytes_eq_sym : (x y : List ℕ) → bytes_eq x y ≡ bytes_eq y x
 bytes_eq_sym x y = as_one (bytes_eq x y) (bytes_eq y x) (bytes_eq-Decides x y) (bytes_eq-Decides y x)

@@ -13,7 +13,7 @@ use Rattle.guard_syntax.specs.declared.syntax.StepForm.{StepForm}
 use Rattle.guard_syntax.specs.declared.syntax.Disj.{Disj}
 use Rattle.guard_syntax.specs.declared.syntax.Expr.{Expr}
 use Rattle.guard_syntax.specs.declared.syntax.Expr as expr
-use Rattle.guard_syntax.specs.Seen.{Form, see_step, see_form, see_disj, see_conds, see_opt_conds, see_part, see_query, see_expr, see_opt_expr, step_list, disj_list, expr_list}
+use Rattle.guard_syntax.specs.code.Seen.{Form, see_step, see_form, see_disj, see_conds, see_opt_conds, see_part, see_query, see_expr, see_opt_expr, step_list, disj_list, expr_list}
 use Rattle.rule_names.proofs.Shapes.{conds-seen, query-seen, step-seen, call-seen, function-seen}
 
 -- whatever is said of the syntax of these, by what it is seen as

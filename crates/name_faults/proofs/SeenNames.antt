@@ -6,7 +6,7 @@ use Rattle.guard_syntax.specs.Named.{Named}
 use Rattle.rule_names.specs.declared.name_kind.NameKind.{NameKind}
 use Rattle.rule_names.specs.Duplicates.{is_among, given_again, fault_of}
 use Rattle.rule_names.specs.Faults.{Fault, earlier, first_from}
-use Rattle.name_scopes.specs.Seen.{see_names}
+use Rattle.name_scopes.specs.code.Seen.{see_names}
 use Rattle.name_scopes.proofs.FirstFaults.{drop-next}
 
 -- names gathered from the items of a list, one item more

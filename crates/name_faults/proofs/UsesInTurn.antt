@@ -18,10 +18,10 @@ use Rattle.guard_syntax.specs.declared.syntax.Expr.{Expr}
 use Rattle.guard_syntax.specs.declared.syntax.Expr as expr
 use Rattle.std.specs.declared.vec.Vec.{Vec}
 use Rattle.std.specs.declared.alloc.Global.{Global}
-use Rattle.guard_syntax.specs.Seen.{see_step, see_disj, see_let, see_body, see_conds, see_opt_conds, see_part, see_query, see_rule, see_file, see_expr, see_opt_expr, step_list, disj_list, let_list, part_list, expr_list}
+use Rattle.guard_syntax.specs.code.Seen.{see_step, see_disj, see_let, see_body, see_conds, see_opt_conds, see_part, see_query, see_rule, see_file, see_expr, see_opt_expr, step_list, disj_list, let_list, part_list, expr_list}
 use Rattle.rule_names.specs.Scopes.{Given, given_body, given_conds, given_file}
 use Rattle.rule_names.specs.Faults.{Fault, earlier, first_from, first_of}
-use Rattle.name_faults.specs.Filters.{wrong_filter}
+use Rattle.name_faults.specs.code.Filters.{wrong_filter}
 use Rattle.rule_names.specs.Uses.{function_named, place_of, wrong_uses, wrong_rules, wrong_rule, wrong_body, wrong_lets, wrong_let, wrong_conds, wrong_opt_conds, wrong_disjs, wrong_disj, wrong_parts, wrong_part, wrong_query, wrong_steps, wrong_step, wrong_expr, wrong_opt_expr, wrong_exprs, wrong_function}
 use Rattle.rule_names.proofs.Shapes.{function-seen, let-seen, disj-seen, body-seen, conds-seen, query-seen, block-seen, when-seen, kinds-seen}
 

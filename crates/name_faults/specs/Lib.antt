@@ -1,4 +1,1 @@
-pub mod Arities
-pub mod Filters
-pub mod NameSets
-pub mod RuleArities
+pub mod code

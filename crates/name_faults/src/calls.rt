@@ -1,12 +1,12 @@
 //! Uses of names, each by itself: variables, references to rules, and calls of rules and of functions.
 ghost use Rattle.std.specs.Prelude.{◌≡◌, Some, [], map};
-ghost use Rattle.guard_syntax.specs.Seen.{expr_list, see_expr};
+ghost use Rattle.guard_syntax.specs.code.Seen.{expr_list, see_expr};
 ghost use Rattle.rule_names.specs.Faults.{earlier, first_from};
 ghost use Rattle.rule_names.specs.Scopes.{given_named};
-ghost use Rattle.name_scopes.specs.Seen.{see_best};
+ghost use Rattle.name_scopes.specs.code.Seen.{see_best};
 ghost use Rattle.rule_names.specs.Uses.{arity, count_exprs, expr_in, expr_site, function_named, is_text, place_of, rule_named, wrong_call, wrong_function, wrong_refer, wrong_text, wrong_texts, wrong_variable, is_text_tree};
-ghost use Rattle.name_scopes.specs.ScopeChains.{visible_in};
-ghost use Rattle.name_faults.specs.RuleArities.{rules_of, places_of};
+ghost use Rattle.name_scopes.specs.code.ScopeChains.{visible_in};
+ghost use Rattle.name_faults.specs.code.RuleArities.{rules_of, places_of};
 
 use crate::rule_arities::Walk;
 use doc_values::{Doc, Kind};

@@ -1,10 +1,10 @@
 //! Names that are given twice. Each scope's names are taken in order of place, and the first fault so far goes along.
 ghost use Rattle.std.specs.Prelude.{◌≡◌, ◌++◌, IfOk, [], ◌∷◌, map};
-ghost use Rattle.guard_syntax.specs.Seen.{see_file, see_let, see_rule, see_body, see_conds, see_opt_conds, see_disj, see_part, see_query, see_step, see_expr, see_opt_expr, let_list, disj_list, part_list, step_list, expr_list};
+ghost use Rattle.guard_syntax.specs.code.Seen.{see_file, see_let, see_rule, see_body, see_conds, see_opt_conds, see_disj, see_part, see_query, see_step, see_expr, see_opt_expr, let_list, disj_list, part_list, step_list, expr_list};
 ghost use Rattle.rule_names.specs.Duplicates.{duplicates, duplicate_names, duplicated, fault_of, given_again, rule_names};
 ghost use Rattle.rule_names.specs.Faults.{first_of, first_from};
 ghost use Rattle.rule_names.specs.Scopes.{given_conds, names_of, scopes_lets, scopes_body, scopes_conds, scopes_opt_conds, scopes_disjs, scopes_parts, scopes_part, scopes_query, scopes_steps, scopes_step, scopes_expr, scopes_opt_expr, scopes_exprs, scopes_rules};
-ghost use Rattle.name_scopes.specs.Seen.{see_best, see_given, see_names};
+ghost use Rattle.name_scopes.specs.code.Seen.{see_best, see_given, see_names};
 
 use guard_syntax::{
     Body, Conds, Disj, Expr, Let, Name, Part, Query, RawFile, Rule, Step, StepForm,

@@ -1,7 +1,7 @@
 //! What a walk over the uses of names has of its file.
 ghost use Rattle.std.specs.Prelude.{◌≡◌, IfOk, map};
-ghost use Rattle.guard_syntax.specs.Seen.{see_file, see_rule};
-ghost use Rattle.name_faults.specs.Arities.{arity_named, AreArities};
+ghost use Rattle.guard_syntax.specs.code.Seen.{see_file, see_rule};
+ghost use Rattle.name_faults.specs.code.Arities.{arity_named, AreArities};
 ghost use Rattle.rule_names.specs.Uses.{place_of};
 
 use guard_syntax::{RawFile, Rule};

@@ -1,13 +1,13 @@
 //! Names that are used. The walk goes over the syntax once, with the first of the faults until now, and with the scopes
 //! around a part, which lie on the stack.
 ghost use Rattle.std.specs.Prelude.{◌≡◌, [], IfOk, map};
-ghost use Rattle.guard_syntax.specs.Seen.{see_file, see_let, see_rule, see_body, see_conds, see_opt_conds, see_disj, see_part, see_query, see_step, see_expr, see_opt_expr, let_list, disj_list, part_list, expr_list};
+ghost use Rattle.guard_syntax.specs.code.Seen.{see_file, see_let, see_rule, see_body, see_conds, see_opt_conds, see_disj, see_part, see_query, see_step, see_expr, see_opt_expr, let_list, disj_list, part_list, expr_list};
 ghost use Rattle.rule_names.specs.Faults.{first_of, first_from};
-ghost use Rattle.name_faults.specs.Filters.{wrong_filter};
-ghost use Rattle.name_scopes.specs.Seen.{see_best};
+ghost use Rattle.name_faults.specs.code.Filters.{wrong_filter};
+ghost use Rattle.name_scopes.specs.code.Seen.{see_best};
 ghost use Rattle.rule_names.specs.Uses.{wrong_uses, wrong_rules, wrong_rule, wrong_body, wrong_lets, wrong_conds, wrong_opt_conds, wrong_disjs, wrong_parts, wrong_part, wrong_query, wrong_step, wrong_expr, wrong_opt_expr, wrong_exprs};
-ghost use Rattle.name_scopes.specs.ScopeChains.{visible_in};
-ghost use Rattle.name_faults.specs.RuleArities.{rules_of, places_of};
+ghost use Rattle.name_scopes.specs.code.ScopeChains.{visible_in};
+ghost use Rattle.name_faults.specs.code.RuleArities.{rules_of, places_of};
 
 use crate::calls::{wrong_call, wrong_function, wrong_reference, wrong_variable};
 use crate::rule_arities::Walk;

@@ -6,7 +6,7 @@ use Rattle.guard_syntax.specs.Syntax as sx
 use Rattle.guard_syntax.specs.declared.syntax.Body.{Body, out-Body}
 use Rattle.guard_syntax.specs.declared.syntax.Let.{Let}
 use Rattle.guard_syntax.specs.declared.syntax.Disj.{Disj}
-use Rattle.guard_syntax.specs.Seen.{see_let, see_disj, see_body, let_list, disj_list}
+use Rattle.guard_syntax.specs.code.Seen.{see_let, see_disj, see_body, let_list, disj_list}
 use Rattle.rule_names.specs.Resolution.{Linked, Scopes, links_body, links_lets, links_disjs}
 use Rattle.rule_names.specs.Scopes.{Given, given_body}
 use Rattle.rule_names.proofs.Shapes.{body-seen}

@@ -20,10 +20,10 @@ use Rattle.guard_syntax.specs.declared.syntax.Expr as expr
 use Rattle.std.specs.declared.vec.Vec.{Vec}
 use Rattle.std.specs.declared.alloc.Global.{Global}
 use Rattle.doc_values.specs.Tree.{Forest}
-use Rattle.guard_syntax.specs.Seen.{Form, see_step, see_form, see_disj, see_let, see_body, see_conds, see_opt_conds, see_part, see_query, see_rule, see_expr, see_opt_expr, step_list, disj_list, let_list, part_list, expr_list}
+use Rattle.guard_syntax.specs.code.Seen.{Form, see_step, see_form, see_disj, see_let, see_body, see_conds, see_opt_conds, see_part, see_query, see_rule, see_expr, see_opt_expr, step_list, disj_list, let_list, part_list, expr_list}
 use Rattle.guard_syntax.specs.Sites.{sites_part}
 use Rattle.rule_names.specs.EnclosingScopes.{Homed, with_home, with_homes, homes_rules, homes_rule, homes_body, homes_lets, homes_let, homes_conds, homes_opt_conds, homes_disjs, homes_disj, homes_parts, homes_part, homes_query, homes_steps, homes_step, homes_expr, homes_opt_expr, homes_exprs}
-use Rattle.rule_names.specs.IncreasingSites.{first_site}
+use Rattle.rule_names.specs.code.IncreasingSites.{first_site}
 use Rattle.rule_names.proofs.Shapes.{let-seen, disj-seen, body-seen, conds-seen, query-seen, step-seen, block-seen, when-seen, kinds-seen, call-seen, function-seen}
 use Rattle.name_scopes.proofs.ScopeShapes.{side-seen}
 

@@ -1,6 +1,6 @@
 //! The scope in which each part of a file stands, by the sites of the parts.
 ghost use Rattle.std.specs.Prelude.{◌≡◌, IfOk};
-ghost use Rattle.guard_syntax.specs.Seen.{see_file};
+ghost use Rattle.guard_syntax.specs.code.Seen.{see_file};
 ghost use Rattle.rule_names.specs.EnclosingScopes.{homes_of};
 
 mod walk;

@@ -1,7 +1,7 @@
 //! What the uses of names in a file mean, by their sites. They are gathered in the order in which their parts stand, and
 //! then set into a table.
 ghost use Rattle.std.specs.Prelude.{◌≡◌, ◌++◌, IfOk, None, length, replicate};
-ghost use Rattle.guard_syntax.specs.Seen.{see_file};
+ghost use Rattle.guard_syntax.specs.code.Seen.{see_file};
 ghost use Rattle.rule_names.specs.Resolution.{links_in, resolution_of, with_link, with_links};
 ghost use Rattle.rule_names.specs.Pieces.{AreInOrder};
 

@@ -10,8 +10,8 @@ use Rattle.std.proofs.lemmas.List.{drop_more}
 use Rattle.name_scopes.specs.declared.scopes.Given as scope
 use Rattle.rule_names.specs.declared.binder.Binder.{Binder}
 use Rattle.rule_names.specs.Scopes.{given_named, Given}
-use Rattle.name_scopes.specs.Seen.{see_given}
-use Rattle.name_scopes.specs.Binders.{binder_named, AreBinders}
+use Rattle.name_scopes.specs.code.Seen.{see_given}
+use Rattle.name_scopes.specs.code.Binders.{binder_named, AreBinders}
 use Rattle.name_scopes.proofs.RuleSites.{bytes_eq-sym, map-cond}
 
 abbrev seen : scope.Given → Given

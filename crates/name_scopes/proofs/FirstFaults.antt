@@ -13,7 +13,7 @@ use Rattle.rule_names.specs.Duplicates.{given_again, fault_of, duplicated}
 use Rattle.rule_names.specs.Faults.{Fault, earlier, first_from}
 use Rattle.name_scopes.specs.declared.scopes.Given as scope
 use Rattle.rule_names.specs.Scopes.{Given, names_of}
-use Rattle.name_scopes.specs.Seen.{see_best, see_given, see_names}
+use Rattle.name_scopes.specs.code.Seen.{see_best, see_given, see_names}
 
 pub first-append : (best : Option Fault) (xs ys : List Fault) → first_from best (xs ++ ys) ≡ first_from (first_from best xs) ys
 first-append best [] ys = refl

@@ -12,7 +12,7 @@ use Rattle.guard_syntax.specs.declared.syntax.Step.{Step}
 use Rattle.guard_syntax.specs.declared.syntax.Disj.{Disj}
 use Rattle.guard_syntax.specs.declared.syntax.Expr.{Expr}
 use Rattle.guard_syntax.specs.declared.syntax.Expr as expr
-use Rattle.guard_syntax.specs.Seen.{see_step, see_disj, see_conds, see_part, see_query, see_expr, step_list, disj_list, part_list, expr_list}
+use Rattle.guard_syntax.specs.code.Seen.{see_step, see_disj, see_conds, see_part, see_query, see_expr, step_list, disj_list, part_list, expr_list}
 use Rattle.rule_names.specs.Scopes.{Given, given_conds, given_disjs, given_disj, given_parts, given_part, given_query, given_steps, given_expr, given_exprs}
 use Rattle.rule_names.proofs.Shapes.{disj-seen, conds-seen, query-seen, function-seen}
 

@@ -3,7 +3,7 @@ use Rattle.std.proofs.Common.{◌≡◌, ℕ, ◌≤◌, ◌-◌, List, [], ◌�
 use Rattle.std.proofs.lemmas.List.{drop_all, take_all, append-nil, append_assoc, map-append, length-drop}
 use Rattle.name_scopes.specs.declared.scopes.Given as scope
 use Rattle.rule_names.specs.Scopes.{Given, by_place}
-use Rattle.name_scopes.specs.Seen.{see_given}
+use Rattle.name_scopes.specs.code.Seen.{see_given}
 
 by_place-nil : (names : List Given) → by_place names [] ≡ names
 by_place-nil [] = refl

@@ -14,7 +14,7 @@ use Rattle.guard_syntax.specs.declared.syntax.Part.{Part}
 use Rattle.guard_syntax.specs.declared.syntax.Part as part
 use Rattle.guard_syntax.specs.declared.syntax.Disj.{Disj}
 use Rattle.guard_syntax.specs.declared.syntax.Expr.{Expr}
-use Rattle.guard_syntax.specs.Seen.{see_file, see_rule, see_disj, see_let, see_body, see_conds, see_opt_conds, see_part, see_query, see_expr, see_opt_expr, disj_list, let_list, part_list}
+use Rattle.guard_syntax.specs.code.Seen.{see_file, see_rule, see_disj, see_let, see_body, see_conds, see_opt_conds, see_part, see_query, see_expr, see_opt_expr, disj_list, let_list, part_list}
 use Rattle.rule_names.specs.Scopes.{names_of, given_body, given_file, scopes_file, scopes_rules, scopes_body, scopes_lets, scopes_let, scopes_conds, scopes_opt_conds, scopes_disjs, scopes_disj, scopes_parts, scopes_part, scopes_query, scopes_expr, scopes_opt_expr}
 use Rattle.rule_names.proofs.Shapes.{let-seen, disj-seen, body-seen, block-seen, when-seen, kinds-seen}
 

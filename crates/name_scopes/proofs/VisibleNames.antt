@@ -8,10 +8,10 @@ use Rattle.std.proofs.lemmas.List.Folds.{find-append}
 use Rattle.name_scopes.specs.declared.scope_chain.ScopeChain.{ScopeChain, out-ScopeChain, the_lemmas}
 use Rattle.rule_names.specs.declared.binder.Binder.{Binder}
 use Rattle.rule_names.specs.Scopes.{Given, given_named}
-use Rattle.name_scopes.specs.Seen.{see_given}
-use Rattle.name_scopes.specs.Binders.{binder_named}
+use Rattle.name_scopes.specs.code.Seen.{see_given}
+use Rattle.name_scopes.specs.code.Binders.{binder_named}
 use Rattle.rule_names.specs.Resolution.{Meant, Scopes, here_or, meant_in, one_out}
-use Rattle.name_scopes.specs.ScopeChains.{scopes_in, visible_in}
+use Rattle.name_scopes.specs.code.ScopeChains.{scopes_in, visible_in}
 
 map_or : {X Y : Type 0} (f : X → Y) (x y : Option X) → option_map f (option_or x y) ≡ option_or (option_map f x) (option_map f y)
 map_or f None y = refl

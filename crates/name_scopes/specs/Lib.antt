@@ -1,4 +1,1 @@
-pub mod Binders
-pub mod ScopeChains
-pub mod RuleSites
-pub mod Seen
+pub mod code

@@ -1,7 +1,7 @@
 //! What gives each name of a scope.
 ghost use Rattle.std.specs.Prelude.{◌≡◌, IfOk};
-ghost use Rattle.name_scopes.specs.Binders.{AreBinders, binder_named};
-ghost use Rattle.name_scopes.specs.Seen.{see_given};
+ghost use Rattle.name_scopes.specs.code.Binders.{AreBinders, binder_named};
+ghost use Rattle.name_scopes.specs.code.Seen.{see_given};
 
 use crate::scopes::Given;
 use rule_names::Binder;

@@ -1,7 +1,7 @@
 //! What is the matter with a name, and which of several faults is answered.
 ghost use Rattle.std.specs.Prelude.{◌≡◌, ℕ, Bool, Some};
 ghost use Rattle.rule_names.specs.Faults.{rank, precedes, earlier};
-ghost use Rattle.name_scopes.specs.Seen.{see_wrong, see_best};
+ghost use Rattle.name_scopes.specs.code.Seen.{see_wrong, see_best};
 
 use rule_names::NameKind;
 

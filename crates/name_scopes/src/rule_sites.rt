@@ -1,7 +1,7 @@
 //! The site of each rule of a file, by its name.
 ghost use Rattle.std.specs.Prelude.{◌≡◌, IfOk, map};
-ghost use Rattle.guard_syntax.specs.Seen.{see_rule};
-ghost use Rattle.name_scopes.specs.RuleSites.{AreRuleSites};
+ghost use Rattle.guard_syntax.specs.code.Seen.{see_rule};
+ghost use Rattle.name_scopes.specs.code.RuleSites.{AreRuleSites};
 
 use guard_syntax::Rule;
 use std::alloc::{AllocError, Global};

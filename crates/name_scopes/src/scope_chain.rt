@@ -1,9 +1,9 @@
 //! What names mean where scopes stand in one another: the innermost scope that has a name says it.
 ghost use Rattle.std.specs.Prelude.{◌≡◌, ◌++◌, ◌∷◌, [], IfOk, Some, option_map};
-ghost use Rattle.name_scopes.specs.Binders.{binder_named};
+ghost use Rattle.name_scopes.specs.code.Binders.{binder_named};
 ghost use Rattle.rule_names.specs.Resolution.{meant_in, one_out};
-ghost use Rattle.name_scopes.specs.ScopeChains.{scopes_in, see_meant, visible_in};
-ghost use Rattle.name_scopes.specs.Seen.{see_given};
+ghost use Rattle.name_scopes.specs.code.ScopeChains.{scopes_in, see_meant, visible_in};
+ghost use Rattle.name_scopes.specs.code.Seen.{see_given};
 
 use crate::binders::Binders;
 use rule_names::Binder;

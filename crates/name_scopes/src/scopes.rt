@@ -1,9 +1,9 @@
 //! The names that scopes have, and what gives them: the file, each body and each filter is a scope. Lets and parts of a body are gathered
 //! apart, since the syntax keeps them apart, and merged by place.
 ghost use Rattle.std.specs.Prelude.{◌≡◌, ◌++◌, IfOk, map};
-ghost use Rattle.guard_syntax.specs.Seen.{see_file, see_let, see_rule, see_body, see_conds, see_opt_conds, see_disj, see_part, see_query, see_step, see_expr, see_opt_expr, let_list, disj_list, part_list, step_list, expr_list};
+ghost use Rattle.guard_syntax.specs.code.Seen.{see_file, see_let, see_rule, see_body, see_conds, see_opt_conds, see_disj, see_part, see_query, see_step, see_expr, see_opt_expr, let_list, disj_list, part_list, step_list, expr_list};
 ghost use Rattle.rule_names.specs.Scopes.{given_file, given_body, given_params, given_lets, given_conds, given_opt_conds, given_disjs, given_parts, given_part, given_query, given_steps, given_step, given_expr, given_opt_expr, given_exprs, given_rules, capture_if, by_place};
-ghost use Rattle.name_scopes.specs.Seen.{see_given};
+ghost use Rattle.name_scopes.specs.code.Seen.{see_given};
 
 use guard_syntax::{
     Body, Conds, Disj, Expr, Let, Name, Part, Query, RawFile, Rule, Step, StepForm,

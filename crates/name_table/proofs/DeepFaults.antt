@@ -7,7 +7,7 @@ use Rattle.guard_syntax.specs.declared.syntax.RawFile.{RawFile}
 use Rattle.guard_syntax.specs.declared.syntax.Let.{Let}
 use Rattle.guard_syntax.specs.declared.syntax.Rule.{Rule}
 use Rattle.guard_syntax.specs.declared.syntax.Disj.{Disj}
-use Rattle.guard_syntax.specs.Seen.{see_file, see_let, see_rule, see_disj, see_expr, let_list, disj_list}
+use Rattle.guard_syntax.specs.code.Seen.{see_file, see_let, see_rule, see_disj, see_expr, let_list, disj_list}
 use Rattle.rule_names.specs.declared.name_kind.NameKind.TheVariants.{TooDeep}
 use Rattle.rule_names.specs.Deep.{deep_fault, deep_items, default_limit, deep_if, deep_lets, deep_rules, deep_disjs}
 use Rattle.rule_names.specs.Depths.{capped, depth_limit, depth_expr, depth_rule, depth_disj, depths_of}

@@ -8,11 +8,11 @@ use Rattle.guard_syntax.specs.declared.syntax.RawFile.{RawFile}
 use Rattle.guard_syntax.specs.declared.syntax.Let.{Let}
 use Rattle.guard_syntax.specs.declared.syntax.Rule.{Rule}
 use Rattle.guard_syntax.specs.declared.syntax.Disj.{Disj}
-use Rattle.guard_syntax.specs.Seen.{see_file, see_let, see_rule, see_disj, let_list, disj_list}
+use Rattle.guard_syntax.specs.code.Seen.{see_file, see_let, see_rule, see_disj, let_list, disj_list}
 use Rattle.guard_syntax.specs.Sites.{upto}
 use Rattle.rule_names.specs.Depths.{larger, capped, depth_lets, depth_disjs, depth_rule, depth_piece, deepened}
-use Rattle.name_table.specs.Measured.{IsAmong, IsNotedAt, Measured}
-use Rattle.name_table.specs.Measures.{depth_items, depth_rules}
+use Rattle.name_table.specs.code.Measured.{IsAmong, IsNotedAt, Measured}
+use Rattle.name_table.specs.code.Measures.{depth_items, depth_rules}
 use Rattle.rule_names.specs.Pieces.{Piece, Sited, OfFile, AreInOrder, piece_in, piece_at, pieces_file, pieces_lets, pieces_rules, pieces_rule, pieces_disjs}
 use Rattle.rule_names.proofs.FileParts.{file_tied, file-has}
 use Rattle.name_table.proofs.Measuring.{same_or_not, measured-both, plain-site, items-next}

@@ -20,11 +20,11 @@ use Rattle.guard_syntax.specs.declared.syntax.Disj.{Disj}
 use Rattle.guard_syntax.specs.declared.syntax.Rule.{Rule}
 use Rattle.guard_syntax.specs.declared.syntax.Expr.{Expr}
 use Rattle.guard_syntax.specs.declared.syntax.Expr as expr
-use Rattle.guard_syntax.specs.Seen.{Form, see_step, see_form, see_disj, see_let, see_body, see_conds, see_opt_conds, see_part, see_query, see_rule, see_expr, see_opt_expr, step_list, disj_list, let_list, part_list, expr_list}
+use Rattle.guard_syntax.specs.code.Seen.{Form, see_step, see_form, see_disj, see_let, see_body, see_conds, see_opt_conds, see_part, see_query, see_rule, see_expr, see_opt_expr, step_list, disj_list, let_list, part_list, expr_list}
 use Rattle.rule_names.specs.Depths.{larger, capped, first_steps, depth_bound, depth_target, depth_body, depth_lets, depth_let, depth_conds, depth_opt_conds, depth_disjs, depth_disj, depth_parts, depth_part, depth_query, depth_steps, depth_step, depth_expr, depth_opt_expr, depth_exprs, depth_rule, depth_piece}
-use Rattle.rule_names.specs.Forms.{pieces_form}
+use Rattle.rule_names.specs.code.Forms.{pieces_form}
 use Rattle.rule_names.specs.Resolution.{bind_of, target_of}
-use Rattle.name_table.specs.Measured.{Measured, noted}
+use Rattle.name_table.specs.code.Measured.{Measured, noted}
 use Rattle.rule_names.specs.Pieces.{Sited, Piece, OfStep, OfQuery, OfRule, pieces_body, pieces_lets, pieces_let, pieces_conds, pieces_opt_conds, pieces_disjs, pieces_disj, pieces_parts, pieces_part, pieces_query, pieces_steps, pieces_step, pieces_expr, pieces_opt_expr, pieces_exprs, pieces_rule}
 use Rattle.rule_names.proofs.Capping.{capped-suc, capped-sum}
 use Rattle.name_table.proofs.Measuring.{measured-none, with-value, measured-deeper, measured-both, plain-site, noted-site, items-value, items-next}

@@ -5,7 +5,7 @@ use Rattle.std.proofs.lemmas.List.{append_assoc, append-nil, length-set, length-
 use Rattle.std.proofs.lemmas.Bool.Decides.{nat_tests}
 use Rattle.guard_syntax.specs.Syntax.{File}
 use Rattle.rule_names.specs.Depths.{larger, capped, depth_piece}
-use Rattle.name_table.specs.Measured.{IsAmong, IsNotedAt, Measured, noted}
+use Rattle.name_table.specs.code.Measured.{IsAmong, IsNotedAt, Measured, noted}
 use Rattle.rule_names.specs.Pieces.{Piece, Sited}
 use Rattle.rule_names.proofs.Capping.{capped-larger, capped-suc, larger-zero, zero-larger, larger-assoc}
 

@@ -4,8 +4,8 @@ use Rattle.std.proofs.Math.Seq.{drop-cons}
 use Rattle.std.proofs.lemmas.List.{drop_all, append-nil}
 use Rattle.guard_syntax.specs.declared.syntax.Rule.{Rule}
 use Rattle.guard_syntax.specs.declared.syntax.Disj.{Disj}
-use Rattle.guard_syntax.specs.Seen.{see_rule, see_disj, disj_list}
-use Rattle.rule_names.specs.Order.{plain_sites, site_if_plain, default_site}
+use Rattle.guard_syntax.specs.code.Seen.{see_rule, see_disj, disj_list}
+use Rattle.rule_names.specs.code.Order.{plain_sites, site_if_plain, default_site}
 
 drop_next : (rs : List Rule) (i : ℕ) (r : Rule) → i < length rs → r ≡ get_or rs i r → drop i rs ≡ r ∷ drop (i + 1) rs
 drop_next rs i r within is = rw (add-one, drop-cons rs i r within, ← is) refl

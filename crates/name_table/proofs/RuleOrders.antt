@@ -6,13 +6,13 @@ use Rattle.std.proofs.lemmas.List.Elements.{Contains-push, Contains-push_cases, 
 use Rattle.std.proofs.lemmas.List.Quantifiers.{all_pairs_push}
 use Rattle.guard_syntax.specs.Syntax.{File}
 use Rattle.rule_names.specs.Graphs.{IsOrder}
-use Rattle.rule_names.specs.Marks.{IsMarked}
-use Rattle.rule_names.specs.Order.{AreRulesInOrder, IsOrderOf, RuleReaches, default_site, plain_sites}
+use Rattle.rule_names.specs.code.Marks.{IsMarked}
+use Rattle.rule_names.specs.code.Order.{AreRulesInOrder, IsOrderOf, RuleReaches, default_site, plain_sites}
 use Rattle.rule_names.specs.Pieces.{AreInOrder}
 use Rattle.rule_names.specs.ReferenceGraph.{graph_of}
 use Rattle.rule_names.proofs.NameCycles.{nodes-of}
 use Rattle.rule_names.proofs.PlainRules.{apart-once, plain-once, plain-within, same-counts}
-use Rattle.name_table.specs.Picked.{IsInFront, ArePicked}
+use Rattle.name_table.specs.code.Picked.{IsInFront, ArePicked}
 use Rattle.reference_graph.proofs.Marking.{mark-here, mark-kept, mark-only, none-marked, not-in-none}
 use Rattle.reference_graph.proofs.OnCycle.{reach-before}
 

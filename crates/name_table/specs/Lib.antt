@@ -1,5 +1,1 @@
-pub mod Measured
-pub mod Measures
-pub mod Picked
-pub mod Refused
-pub mod Tables
+pub mod code

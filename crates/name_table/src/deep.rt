@@ -1,13 +1,13 @@
 //! Items of a file that are too deep.
 ghost use Rattle.std.specs.Prelude.{◌≡◌, ◌≤◌, IfOk, map};
-ghost use Rattle.guard_syntax.specs.Seen.{see_file, see_let, see_rule, see_disj, let_list, disj_list};
+ghost use Rattle.guard_syntax.specs.code.Seen.{see_file, see_let, see_rule, see_disj, let_list, disj_list};
 ghost use Rattle.rule_names.specs.Deep.{deep_fault, deep_if, deep_lets, deep_rules, deep_disjs};
 ghost use Rattle.rule_names.specs.Depths.{deepened, depth_limit, depths_of};
 ghost use Rattle.rule_names.specs.Faults.{first_from};
 ghost use Rattle.rule_names.specs.Resolution.{resolution_of};
-ghost use Rattle.name_table.specs.Measures.{file_of, known_of};
+ghost use Rattle.name_table.specs.code.Measures.{file_of, known_of};
 ghost use Rattle.rule_names.specs.Pieces.{AreInOrder};
-ghost use Rattle.name_scopes.specs.Seen.{see_best};
+ghost use Rattle.name_scopes.specs.code.Seen.{see_best};
 
 use crate::depths::{of_disj, of_expr, of_file, of_rule};
 use crate::measure::{DEPTH_LIMIT, Measure};

@@ -2,11 +2,11 @@
 #![tactic(auto)]
 
 ghost use Rattle.std.specs.Prelude.{map};
-ghost use Rattle.guard_syntax.specs.Seen.{see_rule, see_let, see_body, see_conds, see_opt_conds, see_disj, see_part, see_query, see_form, see_step, see_expr, see_opt_expr, let_list, disj_list, part_list, expr_list};
+ghost use Rattle.guard_syntax.specs.code.Seen.{see_rule, see_let, see_body, see_conds, see_opt_conds, see_disj, see_part, see_query, see_form, see_step, see_expr, see_opt_expr, let_list, disj_list, part_list, expr_list};
 ghost use Rattle.rule_names.specs.Depths.{depth_body, depth_lets, depth_conds, depth_opt_conds, depth_disjs, depth_disj, depth_parts, depth_part, depth_query, depth_step, depth_expr, depth_opt_expr, depth_exprs, depth_rule};
-ghost use Rattle.rule_names.specs.Forms.{pieces_form};
-ghost use Rattle.name_table.specs.Measured.{Measured};
-ghost use Rattle.name_table.specs.Measures.{file_of, known_of, depth_rules, depth_items};
+ghost use Rattle.rule_names.specs.code.Forms.{pieces_form};
+ghost use Rattle.name_table.specs.code.Measured.{Measured};
+ghost use Rattle.name_table.specs.code.Measures.{file_of, known_of, depth_rules, depth_items};
 ghost use Rattle.rule_names.specs.Pieces.{pieces_body, pieces_lets, pieces_conds, pieces_opt_conds, pieces_disjs, pieces_disj, pieces_parts, pieces_part, pieces_query, pieces_expr, pieces_opt_expr, pieces_exprs, pieces_rule, pieces_rules, pieces_file};
 
 use crate::measure::{Measure, deeper, deeper_by, larger, note};

@@ -1,10 +1,10 @@
 //! Depths, as far as those are known of what names mean. Each is counted up to one above the limit: all that is asked is
 //! whether it is above.
 ghost use Rattle.std.specs.Prelude.{◌≡◌, suc, ◌+◌};
-ghost use Rattle.guard_syntax.specs.Seen.{see_file};
+ghost use Rattle.guard_syntax.specs.code.Seen.{see_file};
 ghost use Rattle.rule_names.specs.Depths.{capped, depth_at, depth_bound, depth_target, larger};
 ghost use Rattle.rule_names.specs.Resolution.{bind_of, resolution_of, target_of};
-ghost use Rattle.name_table.specs.Measured.{noted};
+ghost use Rattle.name_table.specs.code.Measured.{noted};
 
 use guard_syntax::RawFile;
 use rule_names::{Bind, Link};

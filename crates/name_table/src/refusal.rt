@@ -1,7 +1,7 @@
 //! Why names are refused.
 ghost use Rattle.std.specs.Prelude.{◌≡◌};
-ghost use Rattle.name_scopes.specs.Seen.{see_wrong};
-ghost use Rattle.name_table.specs.Refused.{IsRefusalOf};
+ghost use Rattle.name_scopes.specs.code.Seen.{see_wrong};
+ghost use Rattle.name_table.specs.code.Refused.{IsRefusalOf};
 ghost use Rattle.name_table.specs.declared.refusal.NameRefusal.TheVariants.{NoMemory};
 
 use guard_syntax::Text;

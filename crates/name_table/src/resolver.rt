@@ -1,18 +1,18 @@
 //! Names are tested.
 ghost use Rattle.std.specs.Prelude.{◌≡◌, ◌<◌, ◌↔◌, ℕ, false, slice_index_or, IfOk, MatchResult};
 ghost use Rattle.std.specs.List.{All, Contains};
-ghost use Rattle.guard_syntax.specs.Queries.{QueriesBegin};
-ghost use Rattle.guard_syntax.specs.Seen.{see_file};
+ghost use Rattle.guard_syntax.specs.code.Queries.{QueriesBegin};
+ghost use Rattle.guard_syntax.specs.code.Seen.{see_file};
 ghost use Rattle.rule_names.specs.Cycles.{IsAcyclic};
-ghost use Rattle.rule_names.specs.Files.{file_of};
+ghost use Rattle.rule_names.specs.code.Files.{file_of};
 ghost use Rattle.rule_names.specs.Graphs.{IsOrder};
-ghost use Rattle.rule_names.specs.Marks.{IsMarked};
-ghost use Rattle.rule_names.specs.Order.{AreRulesInOrder, IsOrderOf, plain_sites};
+ghost use Rattle.rule_names.specs.code.Marks.{IsMarked};
+ghost use Rattle.rule_names.specs.code.Order.{AreRulesInOrder, IsOrderOf, plain_sites};
 ghost use Rattle.rule_names.specs.Pieces.{AreInOrder};
 ghost use Rattle.rule_names.specs.ReferenceGraph.{graph_of};
-ghost use Rattle.name_table.specs.Picked.{ArePicked};
-ghost use Rattle.name_table.specs.Refused.{IsNameRefusal};
-ghost use Rattle.name_table.specs.Tables.{AreTablesOf, IsTested};
+ghost use Rattle.name_table.specs.code.Picked.{ArePicked};
+ghost use Rattle.name_table.specs.code.Refused.{IsNameRefusal};
+ghost use Rattle.name_table.specs.code.Tables.{AreTablesOf, IsTested};
 
 use crate::deep::{depths_of, first_deep};
 use crate::refusal::{NameRefusal, refuse};

@@ -10,19 +10,19 @@ use Rattle.std.specs.declared.alloc.Global.{Global}
 use Rattle.std.specs.declared.vec.Vec.{Vec}
 use Rattle.guard_syntax.specs.declared.row.Row.{Row}
 use Rattle.rule_names.specs.Pieces.{Sited}
-use Rattle.rule_names.specs.Within.{StandsIn}
-use Rattle.value_compare.specs.Books.{IsBookOf}
+use Rattle.rule_names.specs.code.Within.{StandsIn}
+use Rattle.value_compare.specs.code.Books.{IsBookOf}
 use Rattle.rule_meaning.specs.StoreModel.{is_known}
-use Rattle.rule_meaning.specs.StoreEnvironments as scopes
+use Rattle.rule_meaning.specs.code.StoreEnvironments as scopes
 use Rattle.rule_meaning.specs.Fails as fails
 use Rattle.rule_meaning.specs.Seeing.{world_of}
 use Rattle.rule_meaning.specs.Environments.{Environment}
 use Rattle.rule_meaning.specs.Locations.{LocatedRow, World}
-use Rattle.report_text.specs.SeenEntries.{see_entry}
+use Rattle.report_text.specs.code.SeenEntries.{see_entry}
 use Rattle.report_text.specs.declared.entry.Entry.{Entry}
-use Rattle.plain_evaluator.specs.Entries.{AreShowable, see_entries}
-use Rattle.plain_evaluator.specs.Sound.{IsSound}
-use Rattle.plain_evaluator.specs.States.{Answering, Grows, State, see, see_trees, locations}
+use Rattle.plain_evaluator.specs.code.Entries.{AreShowable, see_entries}
+use Rattle.plain_evaluator.specs.code.Sound.{IsSound}
+use Rattle.plain_evaluator.specs.code.States.{Answering, Grows, State, see, see_trees, locations}
 use Rattle.plain_evaluator.specs.declared.trees.Trees.{Trees}
 use Rattle.plain_evaluator.proofs.Conjoined.{passes-at}
 use Rattle.plain_evaluator.proofs.Growing.{book-on, meant-before, owed-on, rows-as-before, sound-on}

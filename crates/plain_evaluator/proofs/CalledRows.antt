@@ -5,7 +5,7 @@ use Rattle.std.specs.declared.alloc.Global.{Global}
 use Rattle.std.proofs.Math.ListN.{get_or-map}
 use Rattle.std.proofs.lemmas.List.{length-map}
 use Rattle.doc_values.specs.Tree.{Forest}
-use Rattle.guard_builtins.specs.Seen.{see_rows}
+use Rattle.guard_builtins.specs.code.Seen.{see_rows}
 use Rattle.guard_syntax.specs.Syntax.{Expr, Exprs, literal, no_exprs, more_exprs}
 use Rattle.guard_syntax.specs.declared.row.Origin.{Origin}
 use Rattle.guard_syntax.specs.declared.row.Origin.TheVariants as origin
@@ -21,7 +21,7 @@ use Rattle.rule_meaning.specs.FunctionMeaning.{IsAnswering}
 use Rattle.rule_meaning.specs.Meaning.{Names, rows_of_args, rows_of_expr}
 use Rattle.rule_meaning.specs.Locations.{Answers, Found, Literal, Location, LocatedRow, World, literal_location}
 use Rattle.query_steps.proofs.LocatedAnswers.{answering}
-use Rattle.plain_evaluator.specs.States.{State, see, see_location_in, seen_rows}
+use Rattle.plain_evaluator.specs.code.States.{State, see, see_location_in, seen_rows}
 use Rattle.plain_evaluator.proofs.GivenRows.{args-seen}
 
 -- ---- as many as arguments

@@ -6,7 +6,7 @@ use Rattle.std.specs.Prelude.{option_and_then}
 use Rattle.std.specs.declared.alloc.Global.{Global}
 use Rattle.std.specs.declared.vec.Vec.{Vec}
 use Rattle.guard_syntax.specs.Syntax as sx
-use Rattle.guard_syntax.specs.Seen.{see_disj, see_body, see_part, see_query, see_expr, see_opt_expr, disj_list, part_list, expr_list}
+use Rattle.guard_syntax.specs.code.Seen.{see_disj, see_body, see_part, see_query, see_expr, see_opt_expr, disj_list, part_list, expr_list}
 use Rattle.guard_syntax.specs.declared.syntax.Op.{Op}
 use Rattle.guard_syntax.specs.declared.syntax.Body.{Body, out-Body}
 use Rattle.guard_syntax.specs.declared.syntax.Conds.{Conds}
@@ -31,8 +31,8 @@ use Rattle.rule_meaning.specs.StepMeaning.{passes, rows_of_type}
 use Rattle.rule_meaning.specs.NameMeaning.{unfolded}
 use Rattle.rule_meaning.specs.Locations.{Location, LocatedRow, Found, World, root_location}
 use Rattle.rule_meaning.specs.Verdicts.{is_fail}
-use Rattle.plain_evaluator.specs.Rules.{rule_of_piece, rule_to}
-use Rattle.plain_evaluator.specs.States.{State, see}
+use Rattle.plain_evaluator.specs.code.Rules.{rule_of_piece, rule_to}
+use Rattle.plain_evaluator.specs.code.States.{State, see}
 use Rattle.plain_evaluator.proofs.Placed.{disj-seen, body-seen, block-seen, when-seen, kinds-seen, test-seen, refer-seen, call-seen}
 use Rattle.plain_evaluator.proofs.Judged.{one_of, disj-judged}
 use Rattle.plain_evaluator.proofs.Ranks.{has-turn}

@@ -5,7 +5,7 @@ use Rattle.std.specs.declared.vec.Vec.{Vec}
 use Rattle.std.specs.declared.alloc.Global.{Global}
 use Rattle.std.proofs.lemmas.Bool.{and_from, and_parts}
 use Rattle.std.proofs.lemmas.List.{length-map}
-use Rattle.guard_builtins.specs.Seen.{see_rows}
+use Rattle.guard_builtins.specs.code.Seen.{see_rows}
 use Rattle.guard_syntax.specs.Syntax.{Step}
 use Rattle.guard_syntax.specs.declared.function.Function.{Function}
 use Rattle.guard_syntax.specs.declared.row.Ref.{Ref}
@@ -14,7 +14,7 @@ use Rattle.guard_syntax.specs.declared.row.Row.TheVariants as row
 use Rattle.guard_syntax.specs.declared.row.Verdict.{Verdict}
 use Rattle.rule_meaning.specs.Functions as table
 use Rattle.rule_meaning.specs.StoreModel.{is_known}
-use Rattle.rule_meaning.specs.StoreEnvironments as scopes
+use Rattle.rule_meaning.specs.code.StoreEnvironments as scopes
 use Rattle.rule_meaning.specs.Filters.{candidates_in, filtered}
 use Rattle.rule_meaning.specs.Keys.{captured_row}
 use Rattle.rule_meaning.specs.Seeing.{see_answer, world_of}
@@ -31,7 +31,7 @@ use Rattle.query_steps.proofs.SeenFunctions.{functions-seen}
 use Rattle.query_steps.proofs.SeenScopes.{current-seen}
 use Rattle.query_steps.proofs.SeenSteps.{captures-seen, given-seen, steps-seen}
 use Rattle.query_steps.proofs.LocatedAnswers.{answering, one-answer}
-use Rattle.plain_evaluator.specs.States.{Grows, State, are_known, see, see_location_in, see_trees, seen_rows, locations}
+use Rattle.plain_evaluator.specs.code.States.{Grows, State, are_known, see, see_location_in, see_trees, seen_rows, locations}
 use Rattle.plain_evaluator.specs.declared.trees.Trees.{Trees}
 use Rattle.plain_evaluator.proofs.Growing.{rows-as-before, rows-on, same-world}
 

@@ -7,13 +7,13 @@ use Rattle.guard_syntax.specs.Syntax.{File}
 use Rattle.guard_syntax.specs.declared.row.Ref.{Ref}
 use Rattle.guard_syntax.specs.declared.row.Row.{Row}
 use Rattle.rule_names.specs.Pieces.{Sited}
-use Rattle.rule_names.specs.Within.{StandsIn}
-use Rattle.value_compare.specs.Books.{IsBookOf}
+use Rattle.rule_names.specs.code.Within.{StandsIn}
+use Rattle.value_compare.specs.code.Books.{IsBookOf}
 use Rattle.rule_meaning.specs.StoreModel.{StoreModel, Made, is_known, is_known_ref}
-use Rattle.rule_meaning.specs.StoreEnvironments as scopes
+use Rattle.rule_meaning.specs.code.StoreEnvironments as scopes
 use Rattle.rule_meaning.specs.Roots.{root_ref}
 use Rattle.rule_meaning.specs.Seeing.{grown, world_of}
-use Rattle.rule_meaning.specs.SeeingEnvironments.{is_known_environment}
+use Rattle.rule_meaning.specs.code.SeeingEnvironments.{is_known_environment}
 use Rattle.rule_meaning.specs.Environments.{Environment}
 use Rattle.rule_meaning.specs.FunctionMeaning.{IsAnswering}
 use Rattle.rule_meaning.specs.Meaning.{Names}
@@ -21,9 +21,9 @@ use Rattle.rule_meaning.specs.NameMeaning.{unfolded}
 use Rattle.rule_meaning.specs.Locations.{Answers, World}
 use Rattle.query_steps.proofs.SeenGrowth.{known-before, row-known-before, rows-before}
 use Rattle.query_steps.proofs.SeenScopes.{environment-before}
-use Rattle.plain_evaluator.specs.Seen.{see_env}
-use Rattle.plain_evaluator.specs.Sound.{IsSound}
-use Rattle.plain_evaluator.specs.States.{Answering, Grows, State, see, see_trees, locations}
+use Rattle.plain_evaluator.specs.code.Seen.{see_env}
+use Rattle.plain_evaluator.specs.code.Sound.{IsSound}
+use Rattle.plain_evaluator.specs.code.States.{Answering, Grows, State, see, see_trees, locations}
 use Rattle.plain_evaluator.specs.declared.environment.Env.{Env}
 use Rattle.plain_evaluator.specs.declared.trees.Trees.{Trees}
 use Rattle.plain_evaluator.proofs.Ranks.{rank}

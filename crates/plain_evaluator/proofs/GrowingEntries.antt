@@ -10,11 +10,11 @@ use Rattle.rule_meaning.specs.Fails as fails
 use Rattle.rule_meaning.specs.Seeing.{grown, see_location}
 use Rattle.rule_meaning.specs.Locations as locations
 use Rattle.query_steps.proofs.SeenGrowth.{known-before, tree-kept}
-use Rattle.report_text.specs.SeenEntries.{IsShowable, is_made, see_entry, see_shown, see_word}
+use Rattle.report_text.specs.code.SeenEntries.{IsShowable, is_made, see_entry, see_shown, see_word}
 use Rattle.report_text.specs.declared.entry.Entry.{Entry}
 use Rattle.report_text.specs.declared.entry.Shown.{Shown}
 use Rattle.report_text.specs.declared.entry.Shown.TheVariants as shown
-use Rattle.plain_evaluator.specs.States.{State, Grows}
+use Rattle.plain_evaluator.specs.code.States.{State, Grows}
 
 -- ---- one entry
 

@@ -3,7 +3,7 @@ use Rattle.std.proofs.Common.{◌≡◌, ℕ, Bool, List, map, sym, ap, ap₂, �
 use Rattle.guard_syntax.specs.declared.row.Ref.{Ref}
 use Rattle.guard_syntax.specs.declared.row.Row.{Row}
 use Rattle.guard_syntax.specs.declared.syntax.Op.{Op}
-use Rattle.rule_meaning.specs.StoreEnvironments.{Environment, current_of}
+use Rattle.rule_meaning.specs.code.StoreEnvironments.{Environment, current_of}
 use Rattle.rule_meaning.specs.Keys.{passes}
 use Rattle.rule_meaning.specs.Kinds.{rows_of_type}
 use Rattle.rule_meaning.specs.Seeing.{world_of}
@@ -13,9 +13,9 @@ use Rattle.rule_meaning.specs.Locations.{Answers, Location, World}
 use Rattle.query_steps.proofs.SeenFilters.{types-seen}
 use Rattle.query_steps.proofs.SeenScopes.{current-seen}
 use Rattle.query_steps.proofs.SeenSteps.{passes-seen}
-use Rattle.plain_evaluator.specs.Seen.{see_env}
-use Rattle.plain_evaluator.specs.Sound.{IsSound}
-use Rattle.plain_evaluator.specs.States.{State, Grows, see, see_location_in, see_trees, locations}
+use Rattle.plain_evaluator.specs.code.Seen.{see_env}
+use Rattle.plain_evaluator.specs.code.Sound.{IsSound}
+use Rattle.plain_evaluator.specs.code.States.{State, Grows, see, see_location_in, see_trees, locations}
 use Rattle.plain_evaluator.specs.declared.environment.Env.{Env}
 use Rattle.plain_evaluator.specs.declared.environment.Env as env
 use Rattle.plain_evaluator.specs.declared.trees.Trees.{Trees}

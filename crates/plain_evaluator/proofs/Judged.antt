@@ -17,7 +17,7 @@ use Rattle.guard_syntax.specs.declared.row.Row.{Row}
 use Rattle.guard_syntax.specs.declared.row.Row.TheVariants as row
 use Rattle.guard_syntax.specs.declared.row.Verdict.{Verdict}
 use Rattle.guard_syntax.specs.declared.row.Verdict.TheVariants.{Pass, Fail, Skip}
-use Rattle.guard_syntax.specs.Seen.{see_rule, see_disj, see_body, see_conds, see_opt_conds, see_part, see_query, see_expr, see_opt_expr, disj_list, part_list, expr_list}
+use Rattle.guard_syntax.specs.code.Seen.{see_rule, see_disj, see_body, see_conds, see_opt_conds, see_part, see_query, see_expr, see_opt_expr, disj_list, part_list, expr_list}
 use Rattle.guard_syntax.specs.Syntax as sx
 use Rattle.rule_names.specs.Depths.{depth_limit}
 use Rattle.rule_meaning.specs.SetTests.{is_empty_test, is_set}
@@ -28,7 +28,7 @@ use Rattle.rule_meaning.specs.NameMeaning.{unfolded, rule_by, rule_verdict, loos
 use Rattle.rule_meaning.specs.VerdictMeaning.{block_row, set_verdict, test_verdict}
 use Rattle.rule_meaning.specs.Locations.{Location, LocatedRow, Found, World, root_location}
 use Rattle.rule_meaning.specs.Verdicts.{conjunction, disjunction, is_pass, block_verdict, guarded_by, referred, exchanged}
-use Rattle.plain_evaluator.specs.States.{State, see}
+use Rattle.plain_evaluator.specs.code.States.{State, see}
 use Rattle.plain_evaluator.proofs.Placed.{disj-seen, body-seen, conds-seen, block-seen, when-seen, kinds-seen, test-seen, refer-seen, call-seen}
 
 -- the verdict of a part and of a disjunction, and of conditions and of a body at a value or row in a scope of its own, as the code has them

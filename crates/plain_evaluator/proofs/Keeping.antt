@@ -12,23 +12,23 @@ use Rattle.std.proofs.lemmas.Bool.Decides.{nat_tests}
 use Rattle.std.proofs.lemmas.List.{append-nil, map-append}
 use Rattle.std.proofs.lemmas.List.Folds.{list_all-append}
 use Rattle.doc_values.specs.Tree.{Forest}
-use Rattle.guard_builtins.specs.Seen.{is_plain, see_made}
+use Rattle.guard_builtins.specs.code.Seen.{is_plain, see_made}
 use Rattle.guard_builtins.specs.declared.made.Made as types
 use Rattle.guard_builtins.specs.declared.made.Made.TheVariants as code
 use Rattle.guard_syntax.specs.declared.row.Origin.TheVariants as origin
 use Rattle.guard_syntax.specs.declared.row.Row.{Row}
 use Rattle.guard_syntax.specs.declared.row.Row.TheVariants as row
-use Rattle.guard_syntax.specs.Seen.{see_file}
+use Rattle.guard_syntax.specs.code.Seen.{see_file}
 use Rattle.rule_meaning.specs.Values.{has_pattern}
 use Rattle.rule_meaning.specs.Functions.{MadeRow, New, Kept}
 use Rattle.rule_meaning.specs.StoreModel.{StoreModel, Made, is_known, made_at}
-use Rattle.value_compare.specs.Stores.{see_store}
+use Rattle.value_compare.specs.code.Stores.{see_store}
 use Rattle.value_compare.specs.declared.store.Store.{Store}
 use Rattle.rule_meaning.specs.Seeing.{are_called, grown, is_known_answer, rows_kept, see_answer, see_row, trees_kept}
 use Rattle.rule_meaning.specs.Locations.{answered_row}
 use Rattle.query_steps.proofs.SeenAnswers.{answer-known, answer-seen, answer-called, next-free}
 use Rattle.query_steps.proofs.RowsKept.{rows-more, trees-more, rows-many, absent-behind, absent-later, grown-more, added}
-use Rattle.plain_evaluator.specs.States.{Grows, State, see}
+use Rattle.plain_evaluator.specs.code.States.{Grows, State, see}
 
 -- ---- what was kept so far of an answer
 

@@ -5,7 +5,7 @@ use Rattle.std.specs.Option.{option_map_or}
 use Rattle.std.specs.Borrow.{Bor}
 use Rattle.std.specs.List.{flat_map}
 use Rattle.guard_syntax.specs.Syntax as sx
-use Rattle.guard_syntax.specs.Seen.{see_step, see_query, see_expr, see_rule, see_body, step_list, expr_list}
+use Rattle.guard_syntax.specs.code.Seen.{see_step, see_query, see_expr, see_rule, see_body, step_list, expr_list}
 use Rattle.guard_syntax.specs.declared.syntax.Query.{Query, out-Query}
 use Rattle.guard_syntax.specs.declared.syntax.Step.{Step}
 use Rattle.guard_syntax.specs.declared.syntax.Expr.{Expr}
@@ -16,16 +16,16 @@ use Rattle.guard_syntax.specs.declared.row.Verdict.TheVariants.{Skip}
 use Rattle.rule_names.specs.declared.bind.Bind.{Bind}
 use Rattle.rule_names.specs.declared.piece.Piece as shape
 use Rattle.rule_names.specs.declared.piece.Piece.TheVariants as code
-use Rattle.rule_names.specs.Seen.{see_piece}
+use Rattle.rule_names.specs.code.Seen.{see_piece}
 use Rattle.rule_names.specs.Depths.{first_of_query, first_steps}
 use Rattle.rule_names.specs.Resolution.{bind_of, target_of}
 use Rattle.rule_names.specs.Pieces.{Piece, OfFile, OfLet, OfRule, OfBody, OfConds, OfDisj, OfPart, OfQuery, OfStep, OfExpr, piece_at, pieces_rule, pieces_expr, pieces_exprs, pieces_query, pieces_body, pieces_file}
 use Rattle.rule_names.specs.Uses.{expr_in}
-use Rattle.rule_names.specs.Within.{IsAmong, StandsIn}
+use Rattle.rule_names.specs.code.Within.{IsAmong, StandsIn}
 use Rattle.rule_names.proofs.Among.{IsAmong-inner, IsAmong-first, IsAmong-last}
 use Rattle.rule_names.proofs.PiecesStand.{piece-stands}
 use Rattle.rule_meaning.specs.StoreModel.{StoreModel}
-use Rattle.rule_meaning.specs.StoreEnvironments as scopes
+use Rattle.rule_meaning.specs.code.StoreEnvironments as scopes
 use Rattle.rule_meaning.specs.Environments.{Environment, Called, current_of}
 use Rattle.rule_meaning.specs.StepMeaning.{captured_row}
 use Rattle.rule_meaning.specs.Meaning.{Names, rows_of, rows_of_expr, rows_from, body_verdict}
@@ -33,11 +33,11 @@ use Rattle.rule_meaning.specs.NameMeaning.{unfolded, unfolded_once, value_rows, 
 use Rattle.rule_meaning.specs.Locations.{Found, LocatedRow, World}
 use Rattle.plain_evaluator.specs.declared.environment.Env.{Env}
 use Rattle.plain_evaluator.specs.declared.environment.Env as env
-use Rattle.plain_evaluator.specs.Seen.{see_env}
-use Rattle.plain_evaluator.specs.Sound.{IsSound}
-use Rattle.plain_evaluator.specs.Rules.{rule_of_piece, rule_to}
+use Rattle.plain_evaluator.specs.code.Seen.{see_env}
+use Rattle.plain_evaluator.specs.code.Sound.{IsSound}
+use Rattle.plain_evaluator.specs.code.Rules.{rule_of_piece, rule_to}
 use Rattle.plain_evaluator.proofs.Placed.{query-seen, rule-in}
-use Rattle.plain_evaluator.specs.States.{State, locations}
+use Rattle.plain_evaluator.specs.code.States.{State, locations}
 use Rattle.plain_evaluator.proofs.Scopes.{top-seen, inner-seen, called-seen}
 use Rattle.plain_evaluator.proofs.StepsWithin.{steps_in, count-listed, piece-within}
 use Rattle.plain_evaluator.proofs.Ranks.{has-turn}

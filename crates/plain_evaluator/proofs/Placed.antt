@@ -16,13 +16,13 @@ use Rattle.guard_syntax.specs.declared.syntax.Rule.{Rule}
 use Rattle.guard_syntax.specs.declared.syntax.Expr.{Expr}
 use Rattle.guard_syntax.specs.declared.syntax.Expr as expr
 use Rattle.doc_values.specs.Tree.{Forest}
-use Rattle.guard_syntax.specs.Seen.{see_rule, see_step, see_form, see_disj, see_let, see_body, see_conds, see_opt_conds, see_part, see_query, see_expr, see_opt_expr, step_list, disj_list, let_list, part_list, expr_list}
+use Rattle.guard_syntax.specs.code.Seen.{see_rule, see_step, see_form, see_disj, see_let, see_body, see_conds, see_opt_conds, see_part, see_query, see_expr, see_opt_expr, step_list, disj_list, let_list, part_list, expr_list}
 use Rattle.std.specs.declared.vec.Vec.{Vec}
 use Rattle.std.specs.declared.alloc.Global.{Global}
 use Rattle.rule_names.specs.Pieces.{Sited, OfStep, OfExpr, pieces_rule, pieces_body, pieces_lets, pieces_conds, pieces_opt_conds, pieces_disjs, pieces_disj, pieces_parts, pieces_part, pieces_query, pieces_steps, pieces_step, pieces_expr, pieces_exprs, pieces_opt_expr}
-use Rattle.rule_names.specs.Forms.{pieces_form}
+use Rattle.rule_names.specs.code.Forms.{pieces_form}
 use Rattle.rule_names.proofs.Shapes.{form-shaped}
-use Rattle.rule_names.specs.Within.{IsAmong, StandsIn}
+use Rattle.rule_names.specs.code.Within.{IsAmong, StandsIn}
 use Rattle.rule_names.proofs.Among.{IsAmong-inner, IsAmong-last, IsAmong-first}
 use Rattle.plain_evaluator.proofs.Ranks.{IsPart, part-behind, part-inner}
 

@@ -3,9 +3,9 @@ use Rattle.std.proofs.Common.{◌≡◌, List, [], ◌∷◌, ◌++◌, map, All
 use Rattle.std.proofs.lemmas.List.{map-append}
 use Rattle.std.proofs.lemmas.List.Elements.{All-push}
 use Rattle.rule_meaning.specs.Fails as fails
-use Rattle.report_text.specs.SeenEntries.{IsShowable, see_entry, see_shown, see_word}
+use Rattle.report_text.specs.code.SeenEntries.{IsShowable, see_entry, see_shown, see_word}
 use Rattle.report_text.specs.declared.entry.Entry.{Entry}
-use Rattle.plain_evaluator.specs.States.{State}
+use Rattle.plain_evaluator.specs.code.States.{State}
 
 module _ (s : State) (before after : List Entry) (e : Entry) (is : after ≡ before ++ e ∷ []) where
   pub pushed-seen : (f : fails.Shown) → see_shown s.known e.shown ≡ f → map (see_entry s.known) after ≡ map (see_entry s.known) before ++ record { shown = f; word = see_word e.word; part = e.part } ∷ []

@@ -3,7 +3,7 @@ use Rattle.std.proofs.Common.{◌≡◌, ℕ, suc, ◌+◌, ◌*◌, ◌-◌, �
 use Rattle.std.proofs.lemmas.List.{length-append}
 use Rattle.guard_syntax.specs.Syntax.{File}
 use Rattle.rule_names.specs.Pieces.{Sited, pieces_file}
-use Rattle.rule_names.specs.Within.{IsAmong, StandsIn}
+use Rattle.rule_names.specs.code.Within.{IsAmong, StandsIn}
 use Rattle.rule_names.proofs.Among.{IsAmong-inner, IsAmong-first, IsAmong-last, IsAmong-behind}
 
 -- a part of a part: its pieces stand among those of it, and are fewer

@@ -20,7 +20,7 @@ use Rattle.guard_syntax.specs.declared.syntax.Expr as expr
 use Rattle.guard_syntax.specs.declared.row.Ref.{Ref}
 use Rattle.guard_syntax.specs.declared.row.Row.{Row}
 use Rattle.guard_syntax.specs.declared.row.Row.TheVariants as row
-use Rattle.guard_syntax.specs.Seen.{Form, see_step, see_form, see_query, see_expr, see_opt_expr, step_list, expr_list}
+use Rattle.guard_syntax.specs.code.Seen.{Form, see_step, see_form, see_query, see_expr, see_opt_expr, step_list, expr_list}
 use Rattle.rule_names.specs.Uses.{function_named}
 use Rattle.rule_meaning.specs.StoreModel.{StoreModel, is_known, is_known_ref, literal_at}
 use Rattle.rule_meaning.specs.Places.{are_no_steps, is_key}

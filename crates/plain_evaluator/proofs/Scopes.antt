@@ -1,17 +1,17 @@
 -- Environments of the code, and what holds of the scopes in them.
 use Rattle.std.proofs.Common.{◌≡◌, ℕ, suc, zero, true, rules, refl, sym, ap, ◌∙◌, subst, List, map, Bor}
-use Rattle.guard_syntax.specs.Seen.{see_expr, expr_list}
+use Rattle.guard_syntax.specs.code.Seen.{see_expr, expr_list}
 use Rattle.guard_syntax.specs.declared.row.Ref.{Ref}
 use Rattle.guard_syntax.specs.declared.syntax.Expr.{Expr}
 use Rattle.rule_names.specs.Pieces.{pieces_exprs}
-use Rattle.rule_names.specs.Within.{StandsIn}
+use Rattle.rule_names.specs.code.Within.{StandsIn}
 use Rattle.rule_meaning.specs.StoreModel.{StoreModel, is_known_ref}
-use Rattle.rule_meaning.specs.StoreEnvironments.{Environment, Top, Inner, Called, current_of, outer_of, outwards}
+use Rattle.rule_meaning.specs.code.StoreEnvironments.{Environment, Top, Inner, Called, current_of, outer_of, outwards}
 use Rattle.rule_meaning.specs.Roots.{root_ref}
 use Rattle.plain_evaluator.specs.declared.environment.Env.{Env, the_lemmas}
 use Rattle.plain_evaluator.specs.declared.environment.Env as env
-use Rattle.plain_evaluator.specs.Seen.{see_env}
-use Rattle.plain_evaluator.specs.Sound.{IsSound}
+use Rattle.plain_evaluator.specs.code.Seen.{see_env}
+use Rattle.plain_evaluator.specs.code.Sound.{IsSound}
 
 pub top-seen : see_env env.Top ≡ Top
 top-seen = search (rules, the_lemmas)

@@ -3,7 +3,7 @@ use Rattle.std.proofs.Common.{◌≡◌, ℕ, [], ◌∷◌, refl, Some}
 use Rattle.doc_values.specs.Tree.{Forest}
 use Rattle.guard_syntax.specs.Syntax.{File, literal}
 use Rattle.rule_names.specs.Pieces.{OfExpr, piece_at, AreInOrder}
-use Rattle.rule_names.specs.Within.{StandsIn}
+use Rattle.rule_names.specs.code.Within.{StandsIn}
 use Rattle.rule_names.proofs.PiecesFound.{piece-found}
 use Rattle.rule_meaning.specs.StoreModel.{literal_at}
 

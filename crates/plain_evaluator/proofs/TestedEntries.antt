@@ -9,7 +9,7 @@ use Rattle.rule_meaning.specs.Seeing.{world_of}
 use Rattle.rule_meaning.specs.StepMeaning as location
 use Rattle.rule_meaning.specs.Locations.{Answers}
 use Rattle.query_steps.proofs.SeenSteps.{passes-seen}
-use Rattle.plain_evaluator.specs.States.{State, see}
+use Rattle.plain_evaluator.specs.code.States.{State, see}
 use Rattle.plain_evaluator.proofs.Appended.{element-more}
 
 -- the entries of a row of which a test is asked

@@ -1,5 +1,1 @@
-pub mod Entries
-pub mod Rules
-pub mod Seen
-pub mod Sound
-pub mod States
+pub mod code

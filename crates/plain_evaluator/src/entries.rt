@@ -1,14 +1,14 @@
 //! Entries of rows: what a test, a test of whole sets and a block show of the rows that they fail by.
 ghost use Rattle.std.specs.Prelude.{◌≡◌, ◌++◌, [], ◌∷◌, true, map, OnOk};
 ghost use Rattle.std.specs.List.{flat_map, list_all};
-ghost use Rattle.value_compare.specs.Books.{IsBookOf};
+ghost use Rattle.value_compare.specs.code.Books.{IsBookOf};
 ghost use Rattle.rule_meaning.specs.StoreModel.{is_known, is_known_ref};
 ghost use Rattle.rule_meaning.specs.Fails as fails;
 ghost use Rattle.rule_meaning.specs.Seeing.{call_at};
 ghost use Rattle.rule_meaning.specs.StepMeaning as steps;
-ghost use Rattle.report_text.specs.SeenEntries.{IsShowable, see_shown, see_word};
-ghost use Rattle.plain_evaluator.specs.Entries.{AreShowable, see_entries};
-ghost use Rattle.plain_evaluator.specs.States.{Answering, see, see_location_in, see_trees};
+ghost use Rattle.report_text.specs.code.SeenEntries.{IsShowable, see_shown, see_word};
+ghost use Rattle.plain_evaluator.specs.code.Entries.{AreShowable, see_entries};
+ghost use Rattle.plain_evaluator.specs.code.States.{Answering, see, see_location_in, see_trees};
 
 use crate::rows::is_found;
 use crate::trees::Trees;

@@ -1,8 +1,8 @@
 //! The scopes around a part, each with its current value.
 ghost use Rattle.std.specs.Prelude.{◌≡◌};
-ghost use Rattle.rule_meaning.specs.StoreEnvironments as scopes;
+ghost use Rattle.rule_meaning.specs.code.StoreEnvironments as scopes;
 ghost use Rattle.rule_meaning.specs.Roots.{root_ref};
-ghost use Rattle.plain_evaluator.specs.Seen.{see_env};
+ghost use Rattle.plain_evaluator.specs.code.Seen.{see_env};
 
 use guard_syntax::{Expr, Origin, Ref};
 

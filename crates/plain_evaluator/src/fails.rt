@@ -2,10 +2,10 @@
 //! parts of failing disjunctions have entries.
 ghost use Rattle.std.specs.Prelude.{◌≡◌, ◌++◌, ◌&&◌, true, [], ◌∷◌, map, IfOk, OnOk, if◌then◌else◌};
 ghost use Rattle.std.specs.List.{list_all, flat_map};
-ghost use Rattle.guard_syntax.specs.Seen.{see_rule, see_disj, see_part, see_body, see_expr, see_opt_expr, see_query, disj_list, expr_list, part_list};
+ghost use Rattle.guard_syntax.specs.code.Seen.{see_rule, see_disj, see_part, see_body, see_expr, see_opt_expr, see_query, disj_list, expr_list, part_list};
 ghost use Rattle.rule_names.specs.Pieces.{pieces_rule, pieces_disjs, pieces_disj, pieces_parts, pieces_part, pieces_body, pieces_exprs, pieces_opt_expr, pieces_query};
-ghost use Rattle.rule_names.specs.Within.{StandsIn};
-ghost use Rattle.value_compare.specs.Books.{IsBookOf};
+ghost use Rattle.rule_names.specs.code.Within.{StandsIn};
+ghost use Rattle.value_compare.specs.code.Books.{IsBookOf};
 ghost use Rattle.rule_meaning.specs.StoreModel.{is_known};
 ghost use Rattle.rule_meaning.specs.Fails as fails;
 ghost use Rattle.rule_meaning.specs.Fails.{calls_by, loose_fails, rule_fails};
@@ -15,10 +15,10 @@ ghost use Rattle.rule_meaning.specs.Meaning as meaning;
 ghost use Rattle.rule_meaning.specs.StepMeaning as steps;
 ghost use Rattle.rule_meaning.specs.NameMeaning.{unfolded};
 ghost use Rattle.rule_meaning.specs.Verdicts as judged;
-ghost use Rattle.plain_evaluator.specs.Entries.{AreShowable, see_entries};
-ghost use Rattle.plain_evaluator.specs.Seen.{see_env};
-ghost use Rattle.plain_evaluator.specs.Sound.{IsSound};
-ghost use Rattle.plain_evaluator.specs.States.{Answering, Grows, see, see_trees, locations};
+ghost use Rattle.plain_evaluator.specs.code.Entries.{AreShowable, see_entries};
+ghost use Rattle.plain_evaluator.specs.code.Seen.{see_env};
+ghost use Rattle.plain_evaluator.specs.code.Sound.{IsSound};
+ghost use Rattle.plain_evaluator.specs.code.States.{Answering, Grows, see, see_trees, locations};
 
 use crate::entries::{push_missing, push_set, push_test, push_value};
 use crate::environment::{Env, current, root};

@@ -1,11 +1,11 @@
 //! Keeping the trees that calls of functions make.
 ghost use Rattle.std.specs.Prelude.{◌≡◌, false, true, IfOk, map};
 ghost use Rattle.std.specs.List.{list_all};
-ghost use Rattle.guard_builtins.specs.Seen.{is_plain, see_made};
+ghost use Rattle.guard_builtins.specs.code.Seen.{is_plain, see_made};
 ghost use Rattle.rule_meaning.specs.StoreModel.{is_known};
 ghost use Rattle.rule_meaning.specs.Seeing.{is_known_answer, see_answer};
 ghost use Rattle.rule_meaning.specs.Locations.{answered_row};
-ghost use Rattle.plain_evaluator.specs.States.{Grows, see, see_trees};
+ghost use Rattle.plain_evaluator.specs.code.States.{Grows, see, see_trees};
 
 use crate::trees::Trees;
 use guard_builtins::Made;

@@ -3,18 +3,18 @@
 ghost use Rattle.std.specs.Prelude.{◌≡◌, true, map, None, Some, MatchOption, option_map, slice_get, IfOk};
 ghost use Rattle.std.specs.List.{list_all};
 ghost use Rattle.std.specs.Borrow.{Bor};
-ghost use Rattle.guard_syntax.specs.Seen.{see_expr, see_file, see_rule, expr_list};
+ghost use Rattle.guard_syntax.specs.code.Seen.{see_expr, see_file, see_rule, expr_list};
 ghost use Rattle.guard_syntax.specs.declared.syntax.Rule as code;
 ghost use Rattle.rule_names.specs.Pieces.{piece_at, pieces_exprs};
-ghost use Rattle.rule_names.specs.Within.{StandsIn};
-ghost use Rattle.value_compare.specs.Books.{IsBookOf};
+ghost use Rattle.rule_names.specs.code.Within.{StandsIn};
+ghost use Rattle.value_compare.specs.code.Books.{IsBookOf};
 ghost use Rattle.rule_meaning.specs.StoreModel.{is_known};
 ghost use Rattle.rule_meaning.specs.NameMeaning as turned;
 ghost use Rattle.rule_meaning.specs.NameMeaning.{unfolded};
-ghost use Rattle.plain_evaluator.specs.Rules.{rule_to};
-ghost use Rattle.plain_evaluator.specs.Seen.{see_env};
-ghost use Rattle.plain_evaluator.specs.Sound.{IsSound};
-ghost use Rattle.plain_evaluator.specs.States.{Answering, Grows, see, see_trees, locations};
+ghost use Rattle.plain_evaluator.specs.code.Rules.{rule_to};
+ghost use Rattle.plain_evaluator.specs.code.Seen.{see_env};
+ghost use Rattle.plain_evaluator.specs.code.Sound.{IsSound};
+ghost use Rattle.plain_evaluator.specs.code.States.{Answering, Grows, see, see_trees, locations};
 
 use crate::environment::{Env, current, outwards};
 use crate::rows::{rows_of_expr, rows_of_first, rows_of_query};

@@ -1,15 +1,15 @@
 //! The rows of queries and expressions over the syntax of a rule file.
 ghost use Rattle.std.specs.Prelude.{◌≡◌, ◌≤◌, true, false, [], ◌∷◌, filter, length, map, take, IfOk};
 ghost use Rattle.std.specs.List.{flat_map, list_all};
-ghost use Rattle.guard_syntax.specs.Seen.{see_query, see_step, see_form, see_expr, see_opt_expr, expr_list, step_list};
+ghost use Rattle.guard_syntax.specs.code.Seen.{see_query, see_step, see_form, see_expr, see_opt_expr, expr_list, step_list};
 ghost use Rattle.guard_syntax.specs.Syntax.{more_steps, no_steps};
 ghost use Rattle.guard_syntax.specs.Syntax as syntax;
 ghost use Rattle.guard_syntax.specs.declared.syntax.Query.{out-Query};
 ghost use Rattle.rule_names.specs.Pieces.{pieces_query, pieces_expr, pieces_exprs, pieces_opt_expr};
-ghost use Rattle.rule_names.specs.Forms.{pieces_form};
+ghost use Rattle.rule_names.specs.code.Forms.{pieces_form};
 ghost use Rattle.rule_names.specs.Uses.{function_named};
-ghost use Rattle.rule_names.specs.Within.{StandsIn};
-ghost use Rattle.value_compare.specs.Books.{IsBookOf};
+ghost use Rattle.rule_names.specs.code.Within.{StandsIn};
+ghost use Rattle.value_compare.specs.code.Books.{IsBookOf};
 ghost use Rattle.rule_meaning.specs.StoreModel.{is_known};
 ghost use Rattle.rule_meaning.specs.Places as places;
 ghost use Rattle.rule_meaning.specs.Roots.{literal_ref};
@@ -20,9 +20,9 @@ ghost use Rattle.rule_meaning.specs.StepMeaning as steps;
 ghost use Rattle.rule_meaning.specs.NameMeaning.{unfolded};
 ghost use Rattle.rule_meaning.specs.Locations as location;
 ghost use Rattle.rule_meaning.specs.Verdicts as verdicts;
-ghost use Rattle.plain_evaluator.specs.Seen.{see_env};
-ghost use Rattle.plain_evaluator.specs.Sound.{IsSound};
-ghost use Rattle.plain_evaluator.specs.States.{Answering, Grows, are_known, see, see_trees, seen_rows, locations};
+ghost use Rattle.plain_evaluator.specs.code.Seen.{see_env};
+ghost use Rattle.plain_evaluator.specs.code.Sound.{IsSound};
+ghost use Rattle.plain_evaluator.specs.code.States.{Answering, Grows, are_known, see, see_trees, seen_rows, locations};
 
 use crate::environment::{Env, current};
 use crate::names::rows_of_variable;

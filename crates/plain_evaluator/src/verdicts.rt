@@ -2,13 +2,13 @@
 //! verdict is known before its turn.
 ghost use Rattle.std.specs.Prelude.{◌≡◌, ◌&&◌, true, List, [], ◌∷◌, map, IfOk, if◌then◌else◌};
 ghost use Rattle.std.specs.List.{list_all, list_any};
-ghost use Rattle.guard_syntax.specs.Seen.{see_rule, see_disj, see_part, see_body, see_conds, see_opt_conds, see_opt_expr, see_query, disj_list, part_list};
+ghost use Rattle.guard_syntax.specs.code.Seen.{see_rule, see_disj, see_part, see_body, see_conds, see_opt_conds, see_opt_expr, see_query, disj_list, part_list};
 ghost use Rattle.rule_names.specs.Depths.{depth_limit};
 ghost use Rattle.rule_names.specs.Pieces.{pieces_rule, pieces_disjs, pieces_parts, pieces_part, pieces_body, pieces_conds, pieces_opt_conds, pieces_opt_expr, pieces_query};
-ghost use Rattle.rule_names.specs.Within.{StandsIn};
-ghost use Rattle.value_compare.specs.Books.{IsBookOf};
+ghost use Rattle.rule_names.specs.code.Within.{StandsIn};
+ghost use Rattle.value_compare.specs.code.Books.{IsBookOf};
 ghost use Rattle.rule_meaning.specs.StoreModel.{is_known, is_known_ref};
-ghost use Rattle.value_compare.specs.Stores.{see_store};
+ghost use Rattle.value_compare.specs.code.Stores.{see_store};
 ghost use Rattle.rule_meaning.specs.Keys.{passes};
 ghost use Rattle.rule_meaning.specs.SetTests as asked;
 ghost use Rattle.rule_meaning.specs.Environments.{Inner, current_of};
@@ -18,9 +18,9 @@ ghost use Rattle.rule_meaning.specs.NameMeaning.{unfolded, rule_by, rule_verdict
 ghost use Rattle.rule_meaning.specs.VerdictMeaning as seen;
 ghost use Rattle.rule_meaning.specs.Verdicts.{conjunction, disjunction, test_verdict, set_verdict, block_verdict, guarded_by};
 ghost use Rattle.rule_meaning.specs.Verdicts as judged;
-ghost use Rattle.plain_evaluator.specs.Seen.{see_env};
-ghost use Rattle.plain_evaluator.specs.Sound.{IsSound};
-ghost use Rattle.plain_evaluator.specs.States.{Answering, Grows, see, see_location_in, see_trees, locations};
+ghost use Rattle.plain_evaluator.specs.code.Seen.{see_env};
+ghost use Rattle.plain_evaluator.specs.code.Sound.{IsSound};
+ghost use Rattle.plain_evaluator.specs.code.States.{Answering, Grows, see, see_location_in, see_trees, locations};
 
 use crate::environment::{Env, current, root};
 use crate::names::{verdict_of_called, verdict_of_reference};

@@ -3,13 +3,13 @@ use Rattle.std.proofs.Common.{◌≡◌, ℕ, suc, ◌+◌, ◌≤◌, Bool, tru
 use Rattle.std.specs.Prelude.{◌==◌}
 use Rattle.std.proofs.lemmas.Bool.Decides.{nat_tests}
 use Rattle.doc_values.specs.Tree.{Forest}
-use Rattle.guard_syntax.specs.Seen.{see_file}
+use Rattle.guard_syntax.specs.code.Seen.{see_file}
 use Rattle.guard_syntax.specs.declared.row.Origin.TheVariants as origin
 use Rattle.guard_syntax.specs.declared.row.Row.{Row}
 use Rattle.guard_syntax.specs.declared.row.Row.TheVariants as row
 use Rattle.rule_meaning.specs.Functions.{MadeRow, New, Kept}
 use Rattle.rule_meaning.specs.StoreModel.{StoreModel, Made, made_at}
-use Rattle.value_compare.specs.Stores.{see_store}
+use Rattle.value_compare.specs.code.Stores.{see_store}
 use Rattle.value_compare.specs.declared.store.Store.{Store}
 use Rattle.rule_meaning.specs.Seeing.{grown, rows_kept, trees_kept}
 

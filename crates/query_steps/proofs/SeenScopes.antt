@@ -2,9 +2,9 @@
 use Rattle.std.proofs.Common.{◌≡◌, ℕ, zero, suc, true, List, ◌++◌, refl, ap, ◌∙◌}
 use Rattle.std.proofs.lemmas.Bool.{and_parts}
 use Rattle.rule_meaning.specs.StoreModel.{StoreModel, Made, is_known_ref}
-use Rattle.rule_meaning.specs.StoreEnvironments.{Environment, Top, Inner, Called, current_of, outer_of, outwards}
+use Rattle.rule_meaning.specs.code.StoreEnvironments.{Environment, Top, Inner, Called, current_of, outer_of, outwards}
 use Rattle.rule_meaning.specs.Seeing.{are_called, grown, see_location}
-use Rattle.rule_meaning.specs.SeeingEnvironments.{is_known_environment, see_environment}
+use Rattle.rule_meaning.specs.code.SeeingEnvironments.{is_known_environment, see_environment}
 use Rattle.rule_meaning.specs.Environments as location
 use Rattle.rule_meaning.specs.Locations.{Location}
 use Rattle.query_steps.proofs.SeenGrowth.{location-before}

@@ -1,7 +1,7 @@
 -- Sets: queries on which `empty` looks at the rows together.
 use Rattle.std.proofs.Common.{◌≡◌, ℕ, ◌-◌, ◌≤◌, ◌||◌, zero, suc, Bool, false, List, [], ◌∷◌, length, map, get_or, refl, ap, sym, ◌∙◌, arith, rules}
 use Rattle.guard_syntax.specs.Syntax as sx
-use Rattle.guard_syntax.specs.Seen.{see_query, see_step, step_list}
+use Rattle.guard_syntax.specs.code.Seen.{see_query, see_step, step_list}
 use Rattle.guard_syntax.specs.declared.syntax.Query.{Query, out-Query, the_lemmas as query_lemmas}
 use Rattle.guard_syntax.specs.declared.syntax.Step.{Step}
 use Rattle.rule_meaning.specs.SetTests.{ends_filtering, is_filtering, is_lone_variable, is_set}

@@ -21,9 +21,9 @@ use Rattle.guard_syntax.specs.declared.row.Row.TheVariants as row
 use Rattle.rule_names.specs.WellNamed.{WellNamed}
 use Rattle.rule_names.specs.Pieces.{AreInOrder, OfExpr, Piece, piece_at, pieces_expr, pieces_exprs, pieces_file}
 use Rattle.rule_names.specs.Uses.{expr_in, function_named, is_text_kind, is_text_tree}
-use Rattle.rule_names.specs.Within.{IsAmong, StandsIn}
+use Rattle.rule_names.specs.code.Within.{IsAmong, StandsIn}
 use Rattle.rule_names.proofs.Among.{IsAmong-behind, IsAmong-first, IsAmong-inner, IsAmong-last}
-use Rattle.value_compare.specs.Books.{has_text, IsBookOf}
+use Rattle.value_compare.specs.code.Books.{has_text, IsBookOf}
 use Rattle.rule_meaning.specs.Functions.{single_text, text_of}
 use Rattle.rule_meaning.specs.StoreModel.{StoreModel, tree_of_piece, value_in, value_or_key}
 use Rattle.rule_meaning.specs.Values.{is_text}

@@ -2,7 +2,7 @@
 ghost use Rattle.std.specs.Prelude.{◌≡◌, [], true, length, map, IfOk, IsOk};
 ghost use Rattle.std.specs.List.{filter, list_all, zip};
 ghost use Rattle.rule_meaning.specs.StoreModel.{is_known, is_known_ref};
-ghost use Rattle.value_compare.specs.Stores.{see_store};
+ghost use Rattle.value_compare.specs.code.Stores.{see_store};
 ghost use Rattle.rule_meaning.specs.Filters.{candidates_in, candidates_of, filtered};
 ghost use Rattle.rule_meaning.specs.Verdicts.{is_pass};
 

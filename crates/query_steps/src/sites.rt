@@ -1,12 +1,12 @@
 //! Steps and type blocks by their sites in a rule file.
 ghost use Rattle.std.specs.Prelude.{◌≡◌, ◌<◌, true, false, not, suc, is_some, length, map, Some, [], IfOk, IsOk};
 ghost use Rattle.std.specs.List.{list_all};
-ghost use Rattle.guard_syntax.specs.Seen.{see_step, step_list};
-ghost use Rattle.rule_names.specs.Files.{file_of};
-ghost use Rattle.value_compare.specs.Books.{IsBookOf};
+ghost use Rattle.guard_syntax.specs.code.Seen.{see_step, step_list};
+ghost use Rattle.rule_names.specs.code.Files.{file_of};
+ghost use Rattle.value_compare.specs.code.Books.{IsBookOf};
 ghost use Rattle.rule_meaning.specs.StoreModel.{is_known, is_known_ref};
-ghost use Rattle.value_compare.specs.Stores.{see_store};
-ghost use Rattle.query_steps.specs.Memory.{has_resources};
+ghost use Rattle.value_compare.specs.code.Stores.{see_store};
+ghost use Rattle.query_steps.specs.code.Memory.{has_resources};
 ghost use Rattle.rule_meaning.specs.Places.{IsFilterAt, IsStartAt, IsStepAt, IsTypeAt, candidates_at, is_after_key, is_filter, is_key, placed_in, rows_at_step, rows_at_type, step_at, step_in, type_at};
 
 use crate::filters::{filter_candidates, kept_rows};

@@ -1,11 +1,11 @@
 //! Steps other than filters, each on every row in order.
 ghost use Rattle.std.specs.Prelude.{◌≡◌, ◌++◌, ◌∷◌, [], true, if◌then◌else◌, option_and_then, map, filter, None, Some, IfOk, IsOk, MatchOption, OnOk};
 ghost use Rattle.std.specs.List.{flat_map, list_all};
-ghost use Rattle.guard_syntax.specs.Seen.{see_step};
+ghost use Rattle.guard_syntax.specs.code.Seen.{see_step};
 ghost use Rattle.guard_syntax.specs.declared.row.Row.TheVariants.{Found};
-ghost use Rattle.value_compare.specs.Books.{IsBookOf};
+ghost use Rattle.value_compare.specs.code.Books.{IsBookOf};
 ghost use Rattle.rule_meaning.specs.StoreModel.{is_known, is_known_ref, meant};
-ghost use Rattle.value_compare.specs.Stores.{see_store};
+ghost use Rattle.value_compare.specs.code.Stores.{see_store};
 ghost use Rattle.rule_meaning.specs.Keys.{keys_by, passes};
 ghost use Rattle.rule_meaning.specs.Reached.{entry, inside, key_of, value_for};
 ghost use Rattle.rule_meaning.specs.Steps.{each_inside, every_by, found_or_missing, found_step, items_by, key_in, on_found, splice_row};

@@ -7,9 +7,9 @@ use Rattle.guard_syntax.specs.declared.syntax.Body.{Body, out-Body}
 use Rattle.guard_syntax.specs.declared.syntax.Conds.{Conds, out-Conds}
 use Rattle.guard_syntax.specs.declared.syntax.Let.{Let}
 use Rattle.guard_syntax.specs.declared.syntax.Disj.{Disj}
-use Rattle.guard_syntax.specs.Seen.{see_let, see_disj, see_body, see_conds, let_list, disj_list}
+use Rattle.guard_syntax.specs.code.Seen.{see_let, see_disj, see_body, see_conds, let_list, disj_list}
 use Rattle.rule_names.specs.Scopes.{Given, given_body, given_conds}
-use Rattle.reference_cycles.specs.FilterEdges.{edges_of_filter}
+use Rattle.reference_cycles.specs.code.FilterEdges.{edges_of_filter}
 use Rattle.rule_names.specs.ReferenceGraph.{Edge, conds_site, to_each, value_sites, disj_sites, edges_of_body, edges_of_conds, edges_of_lets, edges_of_disjs}
 use Rattle.rule_names.proofs.Shapes.{body-seen, conds-seen}
 

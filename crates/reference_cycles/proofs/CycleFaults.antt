@@ -6,7 +6,7 @@ use Rattle.rule_names.specs.declared.name_kind.NameKind.{NameKind}
 use Rattle.rule_names.specs.Cycles.{IsFirstUse, IsCycle, given_text, use_place}
 use Rattle.rule_names.specs.Faults.{Fault}
 use Rattle.rule_names.specs.Graphs.{Graph, Names, Reaches, IsFirstOnCycle, NoneOnCycle}
-use Rattle.reference_graph.specs.Subgraphs.{IsLeast, IsPartUse}
+use Rattle.reference_graph.specs.code.Subgraphs.{IsLeast, IsPartUse}
 use Rattle.rule_names.specs.Pieces.{AreInOrder, piece_at}
 use Rattle.rule_names.specs.ReferenceGraph.{graph_of}
 use Rattle.reference_graph.proofs.PartUses.{cycle-used}

@@ -2,7 +2,7 @@
 use Rattle.std.proofs.Common.{◌≡◌, ℕ, ◌-◌, rules, List, [], ◌∷◌, map, length, Some, ap, sym, ◌∙◌, arith}
 use Rattle.std.specs.Prelude.{slice_get}
 use Rattle.guard_syntax.specs.declared.syntax.Step.{Step, the_lemmas}
-use Rattle.guard_syntax.specs.Seen.{see_step, step_list}
+use Rattle.guard_syntax.specs.code.Seen.{see_step, step_list}
 use Rattle.rule_names.specs.ReferenceGraph.{step_site, last_site, to_last, to_each}
 
 step_is : (s t : Step) → Some s ≡ Some t → s ≡ t

@@ -3,7 +3,7 @@ use Rattle.std.proofs.Common.{◌≡◌, ℕ, ◌+◌, ◌<◌, ◌≤◌, List,
 use Rattle.std.proofs.lemmas.List.{append-nil, append_assoc, drop_more, drop_all}
 use Rattle.guard_syntax.specs.Syntax as sx
 use Rattle.guard_syntax.specs.Sites.{sites_part, sites_expr}
-use Rattle.rule_names.specs.IncreasingSites.{first_site}
+use Rattle.rule_names.specs.code.IncreasingSites.{first_site}
 use Rattle.rule_names.specs.ReferenceGraph.{Edge, to_each, part_site}
 use Rattle.rule_names.specs.Uses.{expr_site, query_site}
 

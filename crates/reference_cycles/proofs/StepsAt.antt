@@ -1,6 +1,6 @@
 -- The step of an index, in the code's steps and in those of the syntax.
 use Rattle.std.proofs.Common.{◌≡◌, ℕ, zero, suc, ◌<◌, ◌≤◌, refl, ap, sym, arith, List, [], ◌∷◌, length, get_or, map, Some, None}
-use Rattle.guard_syntax.specs.Seen.{see_step, step_list}
+use Rattle.guard_syntax.specs.code.Seen.{see_step, step_list}
 use Rattle.guard_syntax.specs.declared.syntax.Step.{Step}
 use Rattle.rule_names.specs.Cycles.{step_of}
 

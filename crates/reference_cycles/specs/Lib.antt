@@ -1,2 +1,1 @@
-pub mod RuleIndexes
-pub mod FilterEdges
+pub mod code

@@ -1,11 +1,11 @@
 //! Rules and variables that reach themselves: which, and where it is answered.
 ghost use Rattle.std.specs.Prelude.{◌≡◌, ◌+◌, ◌-◌, ◌*◌, ◌<◌, ◌≤◌, ℕ, Some, IfOk, MatchOption, length, map};
-ghost use Rattle.guard_syntax.specs.Seen.{see_file, see_form, see_step, step_list};
+ghost use Rattle.guard_syntax.specs.code.Seen.{see_file, see_form, see_step, step_list};
 ghost use Rattle.rule_names.specs.Cycles.{IsAcyclic, IsRecursionFault, IsFirstUse, capture_in, given_text, place_in_piece, place_in_step, step_of, text_if, use_place};
 ghost use Rattle.rule_names.specs.Graphs.{Reaches};
 ghost use Rattle.rule_names.specs.Pieces.{AreInOrder, piece_at};
-ghost use Rattle.name_scopes.specs.Seen.{see_wrong};
-ghost use Rattle.rule_names.specs.Seen.{see_piece};
+ghost use Rattle.name_scopes.specs.code.Seen.{see_wrong};
+ghost use Rattle.rule_names.specs.code.Seen.{see_piece};
 ghost use Rattle.rule_names.specs.ReferenceGraph.{graph_of};
 
 use guard_syntax::{Name, RawFile, Step, StepForm};

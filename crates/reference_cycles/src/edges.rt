@@ -2,7 +2,7 @@
 //! up the graph.
 ghost use Rattle.std.specs.Prelude.{◌≡◌, ◌++◌, IfOk, length};
 ghost use Rattle.std.specs.Result.{OnOk};
-ghost use Rattle.guard_syntax.specs.Seen.{see_file};
+ghost use Rattle.guard_syntax.specs.code.Seen.{see_file};
 ghost use Rattle.rule_names.specs.ReferenceGraph.{graph_of, with_edge, with_edges, edges_of_file};
 
 mod leads;

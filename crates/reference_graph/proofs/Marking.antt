@@ -5,7 +5,7 @@ use Rattle.std.proofs.lemmas.List.{length-set, get_or-set_same, get_or-set_other
 use Rattle.std.proofs.lemmas.List.Sums.{sum_by-set}
 use Rattle.std.proofs.lemmas.List.Elements.{All-push, All-weaker, Contains-push, Contains-push_cases, Contains-append_left}
 use Rattle.std.proofs.lemmas.Bool.{cases_eq, cases_lt}
-use Rattle.rule_names.specs.Marks.{IsMarked, unmarked, Marks}
+use Rattle.rule_names.specs.code.Marks.{IsMarked, unmarked, Marks}
 
 pub not-in-none : (a : ℕ) → Contains {X = ℕ} [] a → ⊥
 not-in-none a h = let k = h.0 in let l : k < 0 = h.1 in absurd (omega arith)

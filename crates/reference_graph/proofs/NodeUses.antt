@@ -1,7 +1,7 @@
 -- What uses a node: what the reversed graph reaches from it.
 use Rattle.std.proofs.Common.{◌≡◌, ℕ, ◌⊎◌, ◌↔◌, inl, inr, Bool, List, get_or, Option, Some, None, MatchOption}
 use Rattle.rule_names.specs.Graphs.{Graph, Reaches, names, through, IsReverse, IsFirstOf, IsOfNone, Uses}
-use Rattle.rule_names.specs.Marks.{IsMarked}
+use Rattle.rule_names.specs.code.Marks.{IsMarked}
 use Rattle.reference_graph.proofs.Walks.{reaches-on}
 
 pub reached-back : {g back : Graph} {a b : ℕ} → IsReverse g back → Reaches g a b → Reaches back b a

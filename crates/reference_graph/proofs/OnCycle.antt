@@ -3,8 +3,8 @@ use Rattle.std.proofs.Common.{◌≡◌, ◌≢◌, ℕ, ◌<◌, inl, inr, Bool
 use Rattle.std.specs.List.{AllPairs, Contains}
 use Rattle.std.proofs.lemmas.List.{length-take, get_or-take, get_or_default}
 use Rattle.rule_names.specs.Graphs.{Graph, Names, Reaches, names, through, HasCycle, IsOrder}
-use Rattle.rule_names.specs.Marks.{IsMarked}
-use Rattle.reference_graph.specs.Ordering.{IsSettled, IsOnPath}
+use Rattle.rule_names.specs.code.Marks.{IsMarked}
+use Rattle.reference_graph.specs.code.Ordering.{IsSettled, IsOnPath}
 use Rattle.reference_graph.proofs.Marking.{not-in-none, marked-within}
 use Rattle.reference_graph.proofs.Walks.{names-from}
 

@@ -6,8 +6,8 @@ use Rattle.std.proofs.lemmas.List.{length-set, length-replicate, length_push, ge
 use Rattle.std.proofs.lemmas.List.Elements.{Contains-push, Contains-push_cases, Contains-append_left, Contains-get_or}
 use Rattle.std.proofs.lemmas.List.Quantifiers.{all_pairs_push}
 use Rattle.rule_names.specs.Graphs.{Graph, Names, Reaches, names, HasCycle}
-use Rattle.rule_names.specs.Marks.{IsMarked}
-use Rattle.reference_graph.specs.Ordering.{IsSettled, IsOnPath, AreMarkedFrom, IsFirstUnmarked}
+use Rattle.rule_names.specs.code.Marks.{IsMarked}
+use Rattle.reference_graph.specs.code.Ordering.{IsSettled, IsOnPath, AreMarkedFrom, IsFirstUnmarked}
 use Rattle.reference_graph.proofs.Marking.{not-in-none, none-marked, marked-within, mark-here, mark-kept, mark-only}
 use Rattle.reference_graph.proofs.Walks.{reaches-on}
 

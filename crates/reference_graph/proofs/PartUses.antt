@@ -3,8 +3,8 @@ use Rattle.std.proofs.Common.{ℕ, ◌<◌, ◌≤◌, ◌↔◌, inl, inr, Bool
 use Rattle.std.proofs.lemmas.Bool.{cases_lt}
 use Rattle.rule_names.specs.Cycles.{parts_only}
 use Rattle.rule_names.specs.Graphs.{Graph, Names, Reaches, names, through, IsReverse}
-use Rattle.rule_names.specs.Marks.{IsMarked}
-use Rattle.reference_graph.specs.Subgraphs.{IsLeast, IsSubgraph, IsPartUse, Leads, NoneBelow}
+use Rattle.rule_names.specs.code.Marks.{IsMarked}
+use Rattle.reference_graph.specs.code.Subgraphs.{IsLeast, IsSubgraph, IsPartUse, Leads, NoneBelow}
 use Rattle.reference_graph.proofs.SubgraphNodes.{subgraph-same, parts-only-subgraph}
 use Rattle.reference_graph.proofs.NodeUses.{mark-uses, use-marked}
 use Rattle.reference_graph.proofs.Walks.{reaches-on}

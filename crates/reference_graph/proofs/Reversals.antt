@@ -5,7 +5,7 @@ use Rattle.std.proofs.lemmas.Bool.{cases_lt}
 use Rattle.std.proofs.lemmas.List.{length-set, length-replicate, get_or-replicate, get_or_past}
 use Rattle.std.proofs.lemmas.List.Elements.{Contains-push, Contains-push_cases, Contains-append_left}
 use Rattle.rule_names.specs.Graphs.{Graph, Names, IsReverse}
-use Rattle.rule_names.specs.Marks.{NamesMore}
+use Rattle.rule_names.specs.code.Marks.{NamesMore}
 use Rattle.reference_graph.proofs.Marking.{not-in-none}
 use Rattle.reference_graph.proofs.Walks.{names-from}
 use Rattle.reference_graph.proofs.Additions.{named-after, names-kept, names-added}

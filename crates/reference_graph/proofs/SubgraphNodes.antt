@@ -8,7 +8,7 @@ use Rattle.std.proofs.lemmas.List.{length-set, length-map, length-replicate, get
 use Rattle.std.proofs.lemmas.List.Elements.{All-nil, All-cons, All-contains, All-contains_itself, All-filter, All-weaker, filter_passes, Contains-push, Contains-push_cases, Contains-append_left, Contains-append_right}
 use Rattle.rule_names.specs.Cycles.{parts_only}
 use Rattle.rule_names.specs.Graphs.{Graph, Names, Reaches, names, through}
-use Rattle.reference_graph.specs.Subgraphs.{IsSubgraph, NamesBelow}
+use Rattle.reference_graph.specs.code.Subgraphs.{IsSubgraph, NamesBelow}
 use Rattle.reference_graph.proofs.Marking.{not-in-none}
 use Rattle.reference_graph.proofs.Walks.{names-from}
 use Rattle.reference_graph.proofs.Reversals.{nothing-there}

@@ -5,7 +5,7 @@ use Rattle.std.proofs.lemmas.List.Elements.{All-contains, Contains-push, Contain
 use Rattle.std.proofs.lemmas.Bool.{cases_lt}
 use Rattle.std.proofs.lemmas.List.{length-replicate, get_or_past}
 use Rattle.rule_names.specs.Graphs.{Graph, IsGraph, Names, Reaches, names, through}
-use Rattle.rule_names.specs.Marks.{IsMarked, Marks}
+use Rattle.rule_names.specs.code.Marks.{IsMarked, Marks}
 use Rattle.reference_graph.proofs.Marking.{not-in-none, none-marked, marked-within}
 
 -- what a reached node names is reached

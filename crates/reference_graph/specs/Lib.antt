@@ -1,2 +1,1 @@
-pub mod Subgraphs
-pub mod Ordering
+pub mod code

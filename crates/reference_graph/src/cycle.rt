@@ -1,7 +1,7 @@
 //! Nodes that reach themselves.
 ghost use Rattle.std.specs.Prelude.{◌≡◌, ◌<◌, ◌≤◌, ◌↔◌, ℕ, IfOk, IsTrue, MatchOption, length};
 ghost use Rattle.rule_names.specs.Graphs.{IsFirstOnCycle, NoneOnCycle, Reaches};
-ghost use Rattle.rule_names.specs.Marks.{IsMarked};
+ghost use Rattle.rule_names.specs.code.Marks.{IsMarked};
 
 use crate::graph::Graph;
 use crate::ordering::{Outcome, walk_all};

@@ -2,8 +2,8 @@
 ghost use Rattle.std.specs.Prelude.{◌≡◌, ◌<◌, [], IfOk, MatchOption, MatchBool, length};
 ghost use Rattle.std.specs.List.{All};
 ghost use Rattle.rule_names.specs.Graphs.{HasCycle};
-ghost use Rattle.rule_names.specs.Marks.{IsMarked};
-ghost use Rattle.reference_graph.specs.Ordering.{AreMarkedFrom, IsFirstUnmarked, IsSettled, IsWalked, IsOutcome, Begins};
+ghost use Rattle.rule_names.specs.code.Marks.{IsMarked};
+ghost use Rattle.reference_graph.specs.code.Ordering.{AreMarkedFrom, IsFirstUnmarked, IsSettled, IsWalked, IsOutcome, Begins};
 
 use crate::graph::Graph;
 use crate::reach::no_marks;

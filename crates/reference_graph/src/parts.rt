@@ -1,8 +1,8 @@
 //! Nodes below a number stand for parts, the others for names: where a name is used in what it stands for.
 ghost use Rattle.std.specs.Prelude.{◌≡◌, ◌<◌, ◌≤◌, ◌↔◌, ℕ, [], IfOk, IsTrue, MatchOption, length, slice_index_or};
 ghost use Rattle.std.specs.List.{All};
-ghost use Rattle.rule_names.specs.Marks.{IsMarked};
-ghost use Rattle.reference_graph.specs.Subgraphs.{IsLeast, IsPartUse, Leads, NoneBelow};
+ghost use Rattle.rule_names.specs.code.Marks.{IsMarked};
+ghost use Rattle.reference_graph.specs.code.Subgraphs.{IsLeast, IsPartUse, Leads, NoneBelow};
 
 use crate::graph::Graph;
 use crate::reach::reached;

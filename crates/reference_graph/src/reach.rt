@@ -3,7 +3,7 @@ ghost use Rattle.std.specs.Prelude.{◌≡◌, ◌<◌, ℕ, false, length, IfOk
 ghost use Rattle.std.specs.List.{All};
 ghost use Rattle.std.specs.Result.{OnOk};
 ghost use Rattle.rule_names.specs.Graphs.{Reaches};
-ghost use Rattle.rule_names.specs.Marks.{IsMarked, Marks};
+ghost use Rattle.rule_names.specs.code.Marks.{IsMarked, Marks};
 
 use crate::graph::Graph;
 use std::alloc::{AllocError, Global};

@@ -3,7 +3,7 @@ ghost use Rattle.std.specs.Prelude.{◌≡◌, ◌<◌, ℕ, IfOk, length};
 ghost use Rattle.std.specs.List.{All};
 ghost use Rattle.std.specs.Result.{OnOk};
 ghost use Rattle.rule_names.specs.Graphs.{IsReverse};
-ghost use Rattle.rule_names.specs.Marks.{NamesMore};
+ghost use Rattle.rule_names.specs.code.Marks.{NamesMore};
 
 use crate::graph::Graph;
 use std::alloc::{AllocError, Global};

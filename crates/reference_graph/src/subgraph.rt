@@ -2,7 +2,7 @@
 ghost use Rattle.std.specs.Prelude.{◌≡◌, ◌<◌, IfOk, length};
 ghost use Rattle.std.specs.List.{All};
 ghost use Rattle.std.specs.Result.{OnOk};
-ghost use Rattle.reference_graph.specs.Subgraphs.{IsSubgraph, NamesBelow};
+ghost use Rattle.reference_graph.specs.code.Subgraphs.{IsSubgraph, NamesBelow};
 
 use crate::graph::Graph;
 use std::alloc::{AllocError, Global};

@@ -5,7 +5,7 @@ use Rattle.std.specs.List.Sorted.{IsPartitionPoint, IsPartitionedBy}
 use Rattle.std.proofs.lemmas.Bool.{eqb-false}
 use Rattle.std.proofs.lemmas.Bool.Decides.{nat_tests}
 use Rattle.std.proofs.lemmas.List.{get_or_append_left, get_or-append_right, get_or_default, get_or_push}
-use Rattle.byte_lanes.specs.LineStarts.{after_newlines, starts_of_lines}
+use Rattle.byte_lanes.specs.code.LineStarts.{after_newlines, starts_of_lines}
 use Rattle.byte_lanes.proofs.Places.{after_newlines-add, after_newlines-hit, after_newlines-miss}
 use Rattle.doc_values.specs.Position.{line_at, column_at}
 use Rattle.doc_values.proofs.Lines.{line-break, column-break, line-other, column-other}

@@ -3,13 +3,13 @@ ghost use Rattle.std.specs.Prelude.{◌≡◌, ◌≤◌, ◌++◌, [], ℕ, Lis
 ghost use Rattle.std.specs.Option.{ForSome};
 ghost use Rattle.doc_values.specs.Tree.{IsTree};
 ghost use Rattle.guard_io.specs.Outside.{FaultCounted, IsPrefix};
-ghost use Rattle.guard_syntax.specs.Seen.{see_part};
-ghost use Rattle.rule_names.specs.Files.{file_of};
+ghost use Rattle.guard_syntax.specs.code.Seen.{see_part};
+ghost use Rattle.rule_names.specs.code.Files.{file_of};
 ghost use Rattle.rule_names.specs.Pieces.{piece_at};
 ghost use Rattle.rule_meaning.specs.StoreModel.{is_known_ref};
-ghost use Rattle.value_compare.specs.Stores.{see_store};
+ghost use Rattle.value_compare.specs.code.Stores.{see_store};
 ghost use Rattle.report_text.specs.EntryLines.{cause_text, entry_line, node_text, note_of, note_of_part, shown_text, site_text, template_path, word_text};
-ghost use Rattle.report_text.specs.SeenEntries.{IsShowable, is_made, see_entry, see_shown, see_word, tree_for};
+ghost use Rattle.report_text.specs.code.SeenEntries.{IsShowable, is_made, see_entry, see_shown, see_word, tree_for};
 ghost use Rattle.rule_meaning.specs.Seeing.{see_origin};
 ghost use Rattle.report_text.specs.Messages.{note_text};
 ghost use Rattle.report_text.specs.Paths.{path_of};

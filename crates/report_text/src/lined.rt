@@ -1,6 +1,6 @@
 //! Texts with the places of their lines.
 ghost use Rattle.std.specs.Prelude.{◌≡◌, ◌+◌, ◌-◌, ◌≤◌, length, nat_le, slice_index_or, IfOk};
-ghost use Rattle.byte_lanes.specs.LineStarts.{starts_of_lines};
+ghost use Rattle.byte_lanes.specs.code.LineStarts.{starts_of_lines};
 ghost use Rattle.doc_values.specs.Position.{line_at, column_at};
 
 use byte_lanes::line_starts;

@@ -3,8 +3,8 @@ ghost use Rattle.std.specs.Prelude.{◌≡◌, ◌≤◌, ◌++◌, ℕ, List, S
 ghost use Rattle.std.specs.Option.{ForSome};
 ghost use Rattle.std.specs.List.{flat_map};
 ghost use Rattle.guard_io.specs.Outside.{FaultCounted, IsPrefix};
-ghost use Rattle.guard_syntax.specs.Seen.{disj_list, see_disj, see_rule};
-ghost use Rattle.rule_names.specs.Files.{file_of};
+ghost use Rattle.guard_syntax.specs.code.Seen.{disj_list, see_disj, see_rule};
+ghost use Rattle.rule_names.specs.code.Files.{file_of};
 ghost use Rattle.report_text.specs.RuleLines.{name_of_loose, name_of_rule, reported_names, rule_line, rule_lines, verdict_word};
 
 use crate::put::{ReportFault, put};

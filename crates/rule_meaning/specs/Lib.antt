@@ -1,7 +1,6 @@
 pub mod Environments
 pub mod Fails
 pub mod Filters
-pub mod Fixpoint
 pub mod FunctionMeaning
 pub mod Functions
 pub mod Keys
@@ -18,13 +17,11 @@ pub mod Reached
 pub mod Roots
 pub mod RowTests
 pub mod Seeing
-pub mod SeeingEnvironments
 pub mod SetTests
 pub mod StepMeaning
 pub mod Steps
-pub mod StoreCode
-pub mod StoreEnvironments
 pub mod StoreModel
 pub mod Values
 pub mod VerdictMeaning
 pub mod Verdicts
+pub mod code

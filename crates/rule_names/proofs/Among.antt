@@ -2,7 +2,7 @@
 use Rattle.std.proofs.Common.{◌≡◌, ◌++◌, List, [], ◌∷◌, refl, sym, ap, ◌∙◌, append_assoc}
 use Rattle.std.proofs.lemmas.List.{append-nil}
 use Rattle.rule_names.specs.Pieces.{Sited}
-use Rattle.rule_names.specs.Within.{IsAmong}
+use Rattle.rule_names.specs.code.Within.{IsAmong}
 
 pub IsAmong-inner : (some more all : List Sited) → IsAmong some more → IsAmong more all → IsAmong some all
 IsAmong-inner some more all (b, a, is) (before, after, is') = (

@@ -7,14 +7,14 @@ use Rattle.std.proofs.lemmas.Bool.Decides.{nat_tests}
 use Rattle.doc_values.specs.Tree.{Forest, Nil, Node, size, IsTree}
 use Rattle.doc_values.specs.Places.{label_at}
 use Rattle.guard_syntax.specs.Syntax as sx
-use Rattle.guard_syntax.specs.Seen.{expr_list, see_expr}
+use Rattle.guard_syntax.specs.code.Seen.{expr_list, see_expr}
 use Rattle.guard_syntax.specs.Functions.{name_of, IsNamed}
 use Rattle.guard_syntax.specs.declared.syntax.Expr.{Expr}
 use Rattle.guard_syntax.specs.declared.function.Function.{Function}
 use Rattle.guard_syntax.specs.declared.function.Function.TheVariants.{Count, JsonParse, RegexReplace, Join, ToLower, ToUpper, Substring, UrlDecode, ParseInt, ParseFloat, ParseBoolean, ParseString}
 use Rattle.guard_syntax.specs.Sites.{sites_expr}
 use Rattle.rule_names.specs.declared.name_kind.NameKind.TheVariants.{ArgCount, LiteralWanted}
-use Rattle.rule_names.specs.IncreasingSites.{first_site}
+use Rattle.rule_names.specs.code.IncreasingSites.{first_site}
 use Rattle.rule_names.specs.Uses.{arity, expr_site, wrong, wrong_call, wrong_function, wrong_text, wrong_texts, is_text, place_of, count_exprs, expr_in, function_named, functions, is_text_kind, is_text_tree}
 
 pub count-args : (xs : List Expr) → count_exprs (expr_list (map see_expr xs)) ≡ length xs

@@ -2,7 +2,7 @@
 use Rattle.std.proofs.Common.{◌≡◌, ℕ, zero, suc, ◌+◌, ◌≤◌, ◌<◌, refl, ap, sym, ◌∙◌, subst, arith, List, [], ◌∷◌, ◌++◌, length, get_or, None}
 use Rattle.std.specs.List.Sorted.{IsNonDecreasingBy}
 use Rattle.rule_names.specs.Pieces.{Sited, piece_in}
-use Rattle.rule_names.specs.IncreasingSites.{Increasing, IsIncreasing, first_site, IsLast, AllBehind}
+use Rattle.rule_names.specs.code.IncreasingSites.{Increasing, IsIncreasing, first_site, IsLast, AllBehind}
 use Rattle.rule_names.proofs.Increases.{past, past-more, past-none, below-none, front, back, rise}
 use Rattle.rule_names.proofs.Parts.{Ties, Begins, absent, above-first, increasing-first, not-first, not-second}
 

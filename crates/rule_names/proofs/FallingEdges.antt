@@ -8,7 +8,7 @@ use Rattle.rule_names.specs.Pieces.{AreInOrder, OfFile, pieces_file, pieces_body
 use Rattle.rule_names.specs.ReferenceGraph.{Edge, to_each, body_site, conds_site, value_sites, disj_site, disj_sites, part_site, part_sites, expr_sites, opt_conds_site, opt_expr_site, step_site, last_site, to_last, rule_node, to_binder, to_variable, to_rule, from_capture, to_before, edges_of_body, edges_of_lets, edges_of_let, edges_of_conds, edges_of_opt_conds, edges_of_disjs, edges_of_disj, edges_of_parts, edges_of_part, edges_of_query, edges_of_steps, edges_of_step, edges_of_expr, edges_of_opt_expr, edges_of_exprs, edges_of_rule, edges_of_rules, edges_of_file}
 use Rattle.rule_names.specs.Scopes.{Given, given_named, given_body, given_conds, given_file}
 use Rattle.rule_names.specs.Uses.{rule_named, query_site, expr_site}
-use Rattle.rule_names.specs.Within.{StandsIn}
+use Rattle.rule_names.specs.code.Within.{StandsIn}
 use Rattle.rule_names.proofs.PiecesStand.{IsAmong-whole}
 use Rattle.rule_names.proofs.Sizes.{size_body, size_lets, size_conds, size_opt_conds, size_disjs, size_disj, size_parts, size_part, size_query, size_steps, size_step, size_expr, size_opt_expr, size_exprs, size_at, step-some, first-stands, last-stands, behind-stands, body-size, conds-size, disj-size, part-size, query-size, expr-size, AreFrom, all-from, next-from, step-total, last-total}
 

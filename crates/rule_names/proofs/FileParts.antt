@@ -6,10 +6,10 @@ use Rattle.guard_syntax.specs.declared.syntax.Let.{Let}
 use Rattle.guard_syntax.specs.declared.syntax.Rule.{Rule}
 use Rattle.guard_syntax.specs.declared.syntax.Disj.{Disj}
 use Rattle.guard_syntax.specs.declared.syntax.RawFile.{RawFile}
-use Rattle.guard_syntax.specs.Seen.{see_disj, see_rule, see_let, see_body, see_opt_conds, see_file, disj_list, let_list}
+use Rattle.guard_syntax.specs.code.Seen.{see_disj, see_rule, see_let, see_body, see_opt_conds, see_file, disj_list, let_list}
 use Rattle.guard_syntax.specs.Sites.{merge, sites_body, sites_lets, sites_opt_conds, sites_disjs, sites_rule, sites_rules, sites_file}
 use Rattle.rule_names.specs.Pieces.{Sited, Piece, OfFile, OfRule, piece_in, pieces_body, pieces_lets, pieces_opt_conds, pieces_disjs, pieces_rule, pieces_rules, pieces_file, AreInOrder}
-use Rattle.rule_names.specs.IncreasingSites.{Increasing, IsIncreasing}
+use Rattle.rule_names.specs.code.IncreasingSites.{Increasing, IsIncreasing}
 use Rattle.rule_names.proofs.Increases.{times, upto-rises, upto-has}
 use Rattle.rule_names.proofs.Parts.{Ties, ties-cons, ties-merge, not-in, elsewhere, rise-behind, rise-front, rise-back, two-front, two-back, merged-first, merged-second, among-first, among-second, among-not-first, among-not-second}
 use Rattle.rule_names.proofs.Tied.{tied-body, tied-lets, tied-disjs, tied-opt_conds, tied-rules}

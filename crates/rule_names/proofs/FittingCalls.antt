@@ -13,7 +13,7 @@ use Rattle.rule_names.specs.WellNamed.{WellNamed}
 use Rattle.rule_names.specs.Pieces.{Piece, OfExpr, Sited, pieces_body, pieces_lets, pieces_let, pieces_conds, pieces_opt_conds, pieces_disjs, pieces_disj, pieces_parts, pieces_part, pieces_query, pieces_steps, pieces_step, pieces_expr, pieces_opt_expr, pieces_exprs, pieces_rule, pieces_rules, pieces_file}
 use Rattle.rule_names.specs.Scopes.{Given, given_file}
 use Rattle.rule_names.specs.Uses.{arity, count_exprs, expr_in, function_named, is_text_tree, place_of, wrong, wrong_body, wrong_conds, wrong_disj, wrong_disjs, wrong_expr, wrong_exprs, wrong_function, wrong_let, wrong_lets, wrong_opt_conds, wrong_opt_expr, wrong_part, wrong_parts, wrong_query, wrong_rule, wrong_rules, wrong_step, wrong_steps, wrong_text, wrong_uses}
-use Rattle.rule_names.specs.Within.{StandsIn}
+use Rattle.rule_names.specs.code.Within.{StandsIn}
 use Rattle.rule_names.proofs.Shallow.{neither, none-first}
 
 none-both : {A : Type 0} (xs ys : List A) → xs ++ ys ≡ [] → (xs ≡ []) × (ys ≡ [])

@@ -3,7 +3,7 @@ use Rattle.std.proofs.Common.{◌≡◌, ℕ, zero, suc, ◌+◌, ◌≤◌, ◌
 use Rattle.std.specs.Prelude.{◌==◌}
 use Rattle.std.proofs.lemmas.Bool.Decides.{nat_tests}
 use Rattle.guard_syntax.specs.Sites.{upto, before_each, merge}
-use Rattle.rule_names.specs.IncreasingSites.{Increasing, IsIncreasing}
+use Rattle.rule_names.specs.code.IncreasingSites.{Increasing, IsIncreasing}
 
 -- how often a number stands in a list
 abbrev pub times : ℕ → List ℕ → ℕ

@@ -8,10 +8,10 @@ use Rattle.guard_syntax.specs.declared.syntax.Part.{Part}
 use Rattle.guard_syntax.specs.declared.syntax.Step.{Step}
 use Rattle.guard_syntax.specs.declared.syntax.Disj.{Disj}
 use Rattle.guard_syntax.specs.declared.syntax.Expr.{Expr}
-use Rattle.guard_syntax.specs.Seen.{see_step, see_disj, see_rule, see_let, see_part, see_expr, step_list, disj_list, let_list, part_list, expr_list}
+use Rattle.guard_syntax.specs.code.Seen.{see_step, see_disj, see_rule, see_let, see_part, see_expr, step_list, disj_list, let_list, part_list, expr_list}
 use Rattle.guard_syntax.specs.Sites.{merge, sites_body, sites_lets, sites_let, sites_conds, sites_opt_conds, sites_disjs, sites_disj, sites_parts, sites_part, sites_query, sites_steps, sites_step, sites_expr, sites_opt_expr, sites_exprs, sites_rule, sites_rules}
 use Rattle.rule_names.specs.Pieces.{Sited, piece_in, pieces_lets, pieces_let, pieces_disjs, pieces_disj, pieces_parts, pieces_part, pieces_steps, pieces_step, pieces_expr, pieces_exprs, pieces_rule, pieces_rules}
-use Rattle.rule_names.specs.IncreasingSites.{IsIncreasing, first_site, IsLast, AllBehind}
+use Rattle.rule_names.specs.code.IncreasingSites.{IsIncreasing, first_site, IsLast, AllBehind}
 use Rattle.rule_names.proofs.Parts.{Begins, Ties}
 use Rattle.rule_names.proofs.Tied.{tied-let, tied-disj, tied-part, tied-step, tied-expr, tied-rule}
 use Rattle.rule_names.proofs.Behind.{all_sites, all_pieces, sorted, rises, chosen, none}

@@ -4,7 +4,7 @@ use Rattle.std.specs.Prelude.{◌==◌, find, option_map}
 use Rattle.std.proofs.lemmas.Bool.Decides.{nat_tests}
 use Rattle.guard_syntax.specs.Sites.{merge}
 use Rattle.rule_names.specs.Pieces.{Piece, Sited, piece_in}
-use Rattle.rule_names.specs.IncreasingSites.{Increasing, IsIncreasing, first_site}
+use Rattle.rule_names.specs.code.IncreasingSites.{Increasing, IsIncreasing, first_site}
 use Rattle.rule_names.proofs.Increases.{times, times-append, times-merge, below-none, past, past-none, once, front, back, apart, rise}
 
 -- how often a site stands among pieces

@@ -8,7 +8,7 @@ use Rattle.rule_names.specs.Pieces.{Sited, Piece, OfFile, piece_in, piece_at, pi
 use Rattle.rule_names.proofs.Increases.{times, once, upto-rises}
 use Rattle.rule_names.proofs.Parts.{Ties, hits, hits-append, no-hit, not-first, here, ties-cons, ties-merge}
 use Rattle.rule_names.proofs.Tied.{tied-lets, tied-rules, tied-disjs}
-use Rattle.rule_names.specs.Within.{StandsIn}
+use Rattle.rule_names.specs.code.Within.{StandsIn}
 
 -- the pieces of a file have its sites
 file-tied : (f : File) → Ties (pieces_file f) (sites_file f)

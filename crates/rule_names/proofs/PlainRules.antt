@@ -8,7 +8,7 @@ use Rattle.std.proofs.lemmas.List.Sums.{sum_by-cons}
 use Rattle.guard_syntax.specs.Named.{Named}
 use Rattle.guard_syntax.specs.Sites.{upto, merge, sites_lets, sites_disjs, sites_rule, sites_rules}
 use Rattle.guard_syntax.specs.Syntax.{Rule, File}
-use Rattle.rule_names.specs.Order.{plain_sites, site_if_plain}
+use Rattle.rule_names.specs.code.Order.{plain_sites, site_if_plain}
 use Rattle.rule_names.specs.Pieces.{AreInOrder}
 use Rattle.rule_names.proofs.Increases.{times, times-append, times-merge, once, upto-rises}
 

@@ -17,11 +17,11 @@ use Rattle.guard_syntax.specs.declared.syntax.Expr as expr
 use Rattle.guard_syntax.specs.declared.syntax.Expr.TheOpen.{StepForm-F}
 use Rattle.std.specs.declared.vec.Vec.{Vec}
 use Rattle.std.specs.declared.alloc.Global.{Global}
-use Rattle.guard_syntax.specs.Seen.{see_step, see_form, see_disj, see_let, see_body, see_conds, see_opt_conds, see_part, see_query, see_expr, FormLayer, form_step, step_list, disj_list, let_list, part_list, expr_list}
+use Rattle.guard_syntax.specs.code.Seen.{see_step, see_form, see_disj, see_let, see_body, see_conds, see_opt_conds, see_part, see_query, see_expr, FormLayer, form_step, step_list, disj_list, let_list, part_list, expr_list}
 use Rattle.guard_syntax.specs.Sites.{sites_body, sites_lets, sites_let, sites_conds, sites_opt_conds, sites_disjs, sites_disj, sites_parts, sites_part, sites_query, sites_steps, sites_step, sites_expr, sites_exprs}
 use Rattle.rule_names.specs.Pieces.{Sited, Piece, OfLet, OfDisj, OfStep, piece_in, pieces_body, pieces_lets, pieces_let, pieces_conds, pieces_opt_conds, pieces_disjs, pieces_disj, pieces_parts, pieces_part, pieces_query, pieces_steps, pieces_step, pieces_expr}
-use Rattle.rule_names.specs.Forms.{sites_form, pieces_form}
-use Rattle.rule_names.specs.IncreasingSites.{IsIncreasing, first_site}
+use Rattle.rule_names.specs.code.Forms.{sites_form, pieces_form}
+use Rattle.rule_names.specs.code.IncreasingSites.{IsIncreasing, first_site}
 use Rattle.rule_names.proofs.Parts.{here, elsewhere, in-first, in-second, not-first, not-second, rise-behind, rise-front, rise-back, rise-first, rise-second, two-front, two-back}
 use Rattle.rule_names.proofs.Tied.{tied-body, tied-lets, tied-disjs, tied-query, tied-conds, tied-opt_conds, tied-expr}
 use Rattle.rule_names.proofs.Lists.{begins-body, begins-expr}

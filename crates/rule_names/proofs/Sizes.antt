@@ -6,7 +6,7 @@ use Rattle.rule_names.specs.Depths.{first_steps}
 use Rattle.rule_names.specs.Pieces.{Piece, OfFile, OfLet, OfRule, OfBody, OfConds, OfDisj, OfPart, OfQuery, OfStep, OfExpr, Sited, piece_at, pieces_file, pieces_body, pieces_conds, pieces_disj, pieces_part, pieces_query, pieces_steps, pieces_step, pieces_expr, AreInOrder}
 use Rattle.rule_names.specs.ReferenceGraph.{body_site, conds_site, disj_site, part_site, step_site, last_site}
 use Rattle.rule_names.specs.Uses.{query_site, expr_site}
-use Rattle.rule_names.specs.Within.{StandsIn}
+use Rattle.rule_names.specs.code.Within.{StandsIn}
 use Rattle.rule_names.proofs.Among.{IsAmong-inner, IsAmong-first, IsAmong-last, IsAmong-behind}
 use Rattle.rule_names.proofs.PiecesFound.{piece-found}
 use Rattle.rule_names.proofs.PiecesStand.{IsAmong-whole}

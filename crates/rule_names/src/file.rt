@@ -1,15 +1,15 @@
 //! Rule files whose names are as they must be.
 ghost use Rattle.std.specs.Prelude.{◌≡◌, ◌<◌, ◌≤◌, ℕ, List, length, Some, option_map, slice_get};
-ghost use Rattle.guard_syntax.specs.Queries.{QueriesBegin};
-ghost use Rattle.guard_syntax.specs.Seen.{see_file};
-ghost use Rattle.rule_names.specs.Begun.{QueriesBegin-prop};
+ghost use Rattle.guard_syntax.specs.code.Queries.{QueriesBegin};
+ghost use Rattle.guard_syntax.specs.code.Seen.{see_file};
+ghost use Rattle.rule_names.specs.code.Begun.{QueriesBegin-prop};
 ghost use Rattle.rule_names.specs.Depths.{depth_at, depth_limit, depth_piece, depths_of};
 ghost use Rattle.rule_names.specs.EnclosingScopes.{home_of, homes_of};
 ghost use Rattle.rule_names.specs.Resolution.{bind_of, resolution_of, target_of};
 ghost use Rattle.rule_names.specs.WellNamed.{WellNamed};
-ghost use Rattle.rule_names.specs.Order.{IsOrderOf};
+ghost use Rattle.rule_names.specs.code.Order.{IsOrderOf};
 ghost use Rattle.rule_names.specs.Pieces.{piece_at, AreInOrder};
-ghost use Rattle.rule_names.specs.Seen.{see_piece};
+ghost use Rattle.rule_names.specs.code.Seen.{see_piece};
 
 use crate::bind::{Bind, Link};
 use crate::find::in_file;

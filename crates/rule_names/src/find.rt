@@ -1,12 +1,12 @@
 //! A part by its site. The edge goes from the file down to the part, at each list into the one sibling that begins last
 //! at or before the site: a part's sites begin with its own, and the next sibling's are all above them.
 ghost use Rattle.std.specs.Prelude.{◌≡◌, ◌++◌, ℕ, List, option_map, map};
-ghost use Rattle.guard_syntax.specs.Seen.{see_file, see_let, see_rule, see_body, see_conds, see_opt_conds, see_disj, see_part, see_query, see_form, see_expr, see_opt_expr, let_list, disj_list, part_list, expr_list};
+ghost use Rattle.guard_syntax.specs.code.Seen.{see_file, see_let, see_rule, see_body, see_conds, see_opt_conds, see_disj, see_part, see_query, see_form, see_expr, see_opt_expr, let_list, disj_list, part_list, expr_list};
 ghost use Rattle.guard_syntax.specs.Sites.{sites_file, sites_lets, sites_rule, sites_rules, sites_body, sites_conds, sites_opt_conds, sites_disjs, sites_part, sites_parts, sites_query, sites_expr, sites_exprs, sites_step, merge};
 ghost use Rattle.rule_names.specs.Pieces.{piece_in, pieces_file, pieces_lets, pieces_rule, pieces_rules, pieces_body, pieces_conds, pieces_opt_conds, pieces_disjs, pieces_part, pieces_parts, pieces_query, pieces_expr, pieces_exprs};
-ghost use Rattle.rule_names.specs.Forms.{sites_form, pieces_form};
-ghost use Rattle.rule_names.specs.IncreasingSites.{IsIncreasing};
-ghost use Rattle.rule_names.specs.Seen.{see_piece};
+ghost use Rattle.rule_names.specs.code.Forms.{sites_form, pieces_form};
+ghost use Rattle.rule_names.specs.code.IncreasingSites.{IsIncreasing};
+ghost use Rattle.rule_names.specs.code.Seen.{see_piece};
 
 use crate::piece::Piece;
 use crate::siblings::{HasSite, last_site, last_to};

@@ -1,9 +1,9 @@
 //! Parts that stand behind one another, by the sites at which they begin.
 ghost use Rattle.std.specs.Prelude.{◌≡◌, ◌≤◌, ℕ, List, MatchOption};
 ghost use Rattle.std.specs.List.Sorted.{IsNonDecreasingBy};
-ghost use Rattle.guard_syntax.specs.Seen.{see_let, see_rule, see_disj, see_part, see_step, see_expr};
+ghost use Rattle.guard_syntax.specs.code.Seen.{see_let, see_rule, see_disj, see_part, see_step, see_expr};
 ghost use Rattle.guard_syntax.specs.Sites.{sites_let, sites_rule, sites_disj, sites_part, sites_step, sites_expr};
-ghost use Rattle.rule_names.specs.IncreasingSites.{first_site, AllBehind, IsLast, IsLastSite};
+ghost use Rattle.rule_names.specs.code.IncreasingSites.{first_site, AllBehind, IsLast, IsLastSite};
 
 use guard_syntax::{Disj, Expr, Let, Part, Rule, Step};
 

@@ -4,7 +4,7 @@ use Rattle.std.specs.Prelude.{OnErr, OnOk}
 use Rattle.std.proofs.lemmas.Option.{same_Some, none-some}
 use Rattle.guard_syntax.specs.Syntax.{File}
 use Rattle.rule_names.specs.EnclosingScopes.{home_of}
-use Rattle.scope_frames.specs.Frames.{AreEntered, IsBefore, MayEnter, StandsFor, scope_of}
+use Rattle.scope_frames.specs.code.Frames.{AreEntered, IsBefore, MayEnter, StandsFor, scope_of}
 use Rattle.scope_frames.specs.declared.frame.Frame.{Frame}
 
 -- ---- lists

@@ -5,8 +5,8 @@ use Rattle.std.specs.Map.{lookup}
 use Rattle.std.specs.Option.{option_copied}
 use Rattle.std.proofs.lemmas.Bool.Decides.{nat_tests}
 use Rattle.std.proofs.lemmas.List.{map-append}
-use Rattle.scope_frames.specs.Cells.{Filled, filled_at, same_cell, same_slot}
-use Rattle.scope_frames.specs.Seen.{filled_of}
+use Rattle.scope_frames.specs.code.Cells.{Filled, filled_at, same_cell, same_slot}
+use Rattle.scope_frames.specs.code.Seen.{filled_of}
 use Rattle.scope_frames.specs.contracts.cell.CellPartialEq.TheImpl.{eq-value}
 use Rattle.scope_frames.specs.declared.cell.Cell.{Cell}
 use Rattle.scope_frames.specs.declared.cell.Slot.{Slot}

@@ -7,8 +7,8 @@ use Rattle.rule_names.specs.EnclosingScopes.{home_of}
 use Rattle.rule_names.specs.Pieces.{Piece, OfFile, OfLet, OfRule, OfBody, OfConds, OfDisj, OfPart, OfQuery, OfStep, OfExpr, piece_at}
 use Rattle.rule_meaning.specs.Places.{step_in, steps_in}
 use Rattle.evidence_rules.specs.CitedLines.{args_at, args_of_part, args_of_piece, body_site, called_body, scope_of_part, scope_of_piece, scope_of_step}
-use Rattle.scope_frames.specs.Frames.{AreEntered, IsBefore, MayEnter, StandsFor, outer_by, outer_of, outwards, past_parent, root_of, scope_under}
-use Rattle.scope_frames.specs.Scoping.{HasAround, scope_around}
+use Rattle.scope_frames.specs.code.Frames.{AreEntered, IsBefore, MayEnter, StandsFor, outer_by, outer_of, outwards, past_parent, root_of, scope_under}
+use Rattle.scope_frames.specs.code.Scoping.{HasAround, scope_around}
 use Rattle.scope_frames.specs.declared.frame.Frame.{Frame}
 use Rattle.scope_frames.proofs.EnteredFrames.{has-frame, stands-for}
 

@@ -21,7 +21,7 @@ use Rattle.rule_names.specs.Pieces.{AreInOrder, Piece, OfFile, OfLet, OfRule, Of
 use Rattle.rule_names.specs.Resolution.{Linked, Meant, Scopes, bind_of, bind_to, here_or, link_rule, link_variable, links_body, links_conds, links_disj, links_disjs, links_expr, links_exprs, links_in, links_let, links_lets, links_opt_conds, links_opt_expr, links_part, links_parts, links_query, links_rule, links_rules, links_step, links_steps, meant_in, one_out, resolution_of, rule_of, target_of, value_in, variable_of, with_link, with_links}
 use Rattle.rule_names.specs.Scopes.{Given, before_given, by_place, given_body, given_conds, given_disj, given_disjs, given_expr, given_exprs, given_file, given_let, given_lets, given_named, given_opt_conds, given_opt_expr, given_params, given_part, given_parts, given_query, given_rules, given_step, given_steps}
 use Rattle.rule_names.specs.Uses.{expr_site, rule_named}
-use Rattle.rule_names.specs.Within.{IsAmong}
+use Rattle.rule_names.specs.code.Within.{IsAmong}
 use Rattle.rule_meaning.specs.Places.{step_in, steps_in}
 use Rattle.evidence_rules.specs.CitedLines.{body_site}
 use Rattle.rule_names.proofs.Among.{IsAmong-inner, IsAmong-behind}
@@ -30,7 +30,7 @@ use Rattle.rule_names.proofs.Parts.{Ties, hits, hits-append, ties-cons, ties-mer
 use Rattle.rule_names.proofs.PiecesFound.{piece-found}
 use Rattle.rule_names.proofs.PiecesStand.{IsAmong-whole}
 use Rattle.rule_names.proofs.Tied.{tied-lets, tied-rules, tied-disjs}
-use Rattle.scope_frames.specs.Scoping.{Captures, HasAround, IsBound, IsCapture, IsGivenIn, IsValue, scope_around}
+use Rattle.scope_frames.specs.code.Scoping.{Captures, HasAround, IsBound, IsCapture, IsGivenIn, IsValue, scope_around}
 
 -- ---- what holds of each element
 

@@ -2,7 +2,7 @@
 use Rattle.std.proofs.Common.{◌≡◌, ℕ, suc, true, false, refl, sym, ap, ◌∙◌, slice_get, List, Option, Some, None, option_and_then, is_some}
 use Rattle.std.proofs.lemmas.Bool.{true≢false}
 use Rattle.guard_syntax.specs.Syntax.{Exprs, File}
-use Rattle.scope_frames.specs.Frames.{outer_by, outer_of, outwards, past_parent, root_of}
+use Rattle.scope_frames.specs.code.Frames.{outer_by, outer_of, outwards, past_parent, root_of}
 use Rattle.scope_frames.specs.declared.frame.Frame.{Frame}
 
 module _ (file : File) (frames : List Frame) where

@@ -1,5 +1,1 @@
-pub mod Cells
-pub mod Entering
-pub mod Frames
-pub mod Scoping
-pub mod Seen
+pub mod code

@@ -1,12 +1,12 @@
 //! Cells: which one the use of a name leads to, and what fills it.
 ghost use Rattle.std.specs.Prelude.{◌≡◌, ◌++◌, ◌∷◌, [], IsSome, MatchOption, None, OnErr, OnOk, Some};
 ghost use Rattle.rule_names.specs.EnclosingScopes.{home_of};
-ghost use Rattle.rule_names.specs.Files.{file_of};
+ghost use Rattle.rule_names.specs.code.Files.{file_of};
 ghost use Rattle.rule_names.specs.Resolution.{bind_of};
-ghost use Rattle.scope_frames.specs.Cells.{cell_of, filled_at, slot_of};
-ghost use Rattle.scope_frames.specs.Frames.{AreEntered, StandsFor};
-ghost use Rattle.scope_frames.specs.Scoping.{up_of};
-ghost use Rattle.scope_frames.specs.Seen.{cells_in};
+ghost use Rattle.scope_frames.specs.code.Cells.{cell_of, filled_at, slot_of};
+ghost use Rattle.scope_frames.specs.code.Frames.{AreEntered, StandsFor};
+ghost use Rattle.scope_frames.specs.code.Scoping.{up_of};
+ghost use Rattle.scope_frames.specs.code.Seen.{cells_in};
 
 use crate::cell::{Cell, Slot};
 use crate::frames::Frames;

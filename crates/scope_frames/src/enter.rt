@@ -1,9 +1,9 @@
 //! Frames that are entered.
 ghost use Rattle.std.specs.Prelude.{◌≡◌, ◌<◌, ◌++◌, ◌∷◌, ◌⊎◌, ℕ, [], length, IfOk, OnErr, OnOk, Some, option_map, slice_get, true};
-ghost use Rattle.rule_names.specs.Files.{file_of};
-ghost use Rattle.scope_frames.specs.Entering.{Enters};
-ghost use Rattle.scope_frames.specs.Frames.{AreEntered, MayEnter};
-ghost use Rattle.scope_frames.specs.Seen.{cells_in};
+ghost use Rattle.rule_names.specs.code.Files.{file_of};
+ghost use Rattle.scope_frames.specs.code.Entering.{Enters};
+ghost use Rattle.scope_frames.specs.code.Frames.{AreEntered, MayEnter};
+ghost use Rattle.scope_frames.specs.code.Seen.{cells_in};
 
 use crate::frame::Frame;
 use crate::frames::Frames;

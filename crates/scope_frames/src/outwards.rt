@@ -1,8 +1,8 @@
 //! The frames around a frame.
 ghost use Rattle.std.specs.Prelude.{◌≡◌, is_some, slice_get, suc};
-ghost use Rattle.rule_names.specs.Files.{file_of};
+ghost use Rattle.rule_names.specs.code.Files.{file_of};
 ghost use Rattle.evidence_rules.specs.CitedLines.{args_at};
-ghost use Rattle.scope_frames.specs.Frames.{outer_by, outer_of, outwards, root_of};
+ghost use Rattle.scope_frames.specs.code.Frames.{outer_by, outer_of, outwards, root_of};
 
 use crate::frame::Frame;
 use guard_syntax::Part;

@@ -18,8 +18,8 @@ use Rattle.doc_values.specs.Tree.{Forest}
 use Rattle.doc_values.proofs.Numbers.{IsNumber-unique}
 use Rattle.json_reader.specs.declared.refusal.JsonRefusal.{JsonRefusal}
 use Rattle.json_reader.specs.Json.{IsInRange, Json, StandsFor}
-use Rattle.json_reader.specs.Numbers.{number_kind}
-use Rattle.json_reader.specs.Reading.{verdict}
+use Rattle.json_reader.specs.code.Numbers.{number_kind}
+use Rattle.json_reader.specs.code.Reading.{verdict}
 use Rattle.json_reader.proofs.Limits.{unique}
 use Rattle.json_reader.proofs.NumberKinds.{number_sound, known_whole, known_fraction}
 use Rattle.json_reader.proofs.Verdicts.{verdict_ok, verdict_err}

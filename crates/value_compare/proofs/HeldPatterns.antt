@@ -12,8 +12,8 @@ use Rattle.doc_values.specs.Places.{find, first_label, first_kids}
 use Rattle.guard_syntax.specs.Sites.{upto}
 use Rattle.guard_syntax.specs.Syntax.{File, literal}
 use Rattle.rule_names.specs.Pieces.{Piece, OfExpr, piece_at}
-use Rattle.value_compare.specs.Books.{has_text, IsBookOf}
-use Rattle.value_compare.specs.BookCovers.{holds_if, holds_in, covers}
+use Rattle.value_compare.specs.code.Books.{has_text, IsBookOf}
+use Rattle.value_compare.specs.code.BookCovers.{holds_if, holds_in, covers}
 use Rattle.rule_meaning.specs.StoreModel.{tree_of_piece, literal_at}
 use Rattle.rule_meaning.specs.Patterns.{Written, written_if, is_sought, sought_text, patterns_in, patterns_of_piece, patterns_at}
 use Rattle.rule_meaning.specs.Values.{Value, value_of, value_at, values_in, is_pattern, has_pattern}

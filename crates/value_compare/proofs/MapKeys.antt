@@ -9,7 +9,7 @@ use Rattle.std.proofs.lemmas.Map.Keys.{IsDistinct-cons}
 use Rattle.std.proofs.lemmas.Map.Made.{length-le_from_is_member}
 use Rattle.std.proofs.lemmas.Slice.Eq.{bytes_eq-Decides}
 use Rattle.doc_values.specs.Tree.{Label, Forest, Nil, Node, count, snoc, has_key, key_is, IsKeyed, AreValues}
-use Rattle.value_compare.specs.Entries.{has_equal}
+use Rattle.value_compare.specs.code.Entries.{has_equal}
 use Rattle.rule_meaning.specs.Pairs.{entry_of, are_keys_among, same_entries, same_maps, equal, is_yes}
 use Rattle.rule_meaning.specs.Values.{Value, value_of}
 

@@ -9,7 +9,7 @@ use Rattle.std.proofs.lemmas.List.{get_or_append_left, get_or-append_right}
 use Rattle.doc_values.specs.Tree.{Label, Forest, Nil, Node, size, count}
 use Rattle.doc_values.specs.Places.{find, first_label, first_kids, label_at, kids_at, child_place}
 use Rattle.doc_values.proofs.Among.{find_in, find_past}
-use Rattle.value_compare.specs.Making.{written}
+use Rattle.value_compare.specs.code.Making.{written}
 use Rattle.rule_meaning.specs.Patterns.{patterns_in}
 use Rattle.rule_meaning.specs.Values.{Value, value_of, value_at, values_in, is_pattern, has_pattern}
 

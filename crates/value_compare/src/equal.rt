@@ -2,11 +2,11 @@
 ghost use Rattle.std.specs.Prelude.{◌≡◌, ℕ, Bool, true, false, List, IfOk, IsOk};
 ghost use Rattle.doc_values.specs.Places.{label_at, kids_at};
 ghost use Rattle.doc_values.specs.Tree.{Nil};
-ghost use Rattle.value_compare.specs.BookCovers.{holds_if, holds_in, covers, compares_pattern, may_find_entries, may_find_items};
+ghost use Rattle.value_compare.specs.code.BookCovers.{holds_if, holds_in, covers, compares_pattern, may_find_entries, may_find_items};
 ghost use Rattle.rule_meaning.specs.Pairs.{equal, equal_by, same_items, same_maps};
-ghost use Rattle.value_compare.specs.Entries.{has_equal, may_find_entry};
+ghost use Rattle.value_compare.specs.code.Entries.{has_equal, may_find_entry};
 ghost use Rattle.rule_meaning.specs.Values.{is_pattern, value_at, value_of_key};
-ghost use Rattle.value_compare.specs.Views.{see_view};
+ghost use Rattle.value_compare.specs.code.Views.{see_view};
 
 use crate::matchers::Matchers;
 use crate::range;

@@ -1,7 +1,7 @@
 //! A pattern with what finds it.
 ghost use Rattle.std.specs.Prelude.{◌≡◌, IfOk};
 ghost use Rattle.rule_meaning.specs.PatternMatch.{finds};
-ghost use Rattle.value_compare.specs.Matching.{IsMatcherOf};
+ghost use Rattle.value_compare.specs.code.Matching.{IsMatcherOf};
 
 use crate::pattern::Pattern;
 use regex::Matcher;

@@ -1,8 +1,8 @@
 //! The literals of a rule file.
 ghost use Rattle.std.specs.Prelude.{◌≡◌, ℕ, List, true, None, Some, MatchOption, IfSome};
-ghost use Rattle.guard_syntax.specs.Seen.{see_expr, see_file};
-ghost use Rattle.value_compare.specs.Books.{IsBookOf};
-ghost use Rattle.value_compare.specs.BookCovers.{holds_in};
+ghost use Rattle.guard_syntax.specs.code.Seen.{see_expr, see_file};
+ghost use Rattle.value_compare.specs.code.Books.{IsBookOf};
+ghost use Rattle.value_compare.specs.code.BookCovers.{holds_in};
 ghost use Rattle.rule_meaning.specs.StoreModel.{literal_at, tree_of_expr};
 
 use doc_values::Doc;

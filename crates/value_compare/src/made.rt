@@ -25,7 +25,7 @@ pub struct MadeTrees {
 impl Model for MadeTrees {
     ghost use Rattle.std.specs.Prelude.{◌≡◌, List, map, All, false};
     ghost use Rattle.std.specs.Coded.{coded_list};
-    ghost use Rattle.rule_meaning.specs.StoreCode.{made_code};
+    ghost use Rattle.rule_meaning.specs.code.StoreCode.{made_code};
     ghost use Rattle.rule_meaning.specs.StoreModel.{Made};
     ghost use Rattle.rule_meaning.specs.Values.{has_pattern};
 

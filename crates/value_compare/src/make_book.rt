@@ -3,11 +3,11 @@ ghost use Rattle.std.specs.Prelude.{◌≡◌, ◌∷◌, ◌++◌, ◌<◌, ◌
 ghost use Rattle.doc_values.specs.Places.{label_at};
 ghost use Rattle.doc_values.specs.Tree.{has_text};
 ghost use Rattle.guard_io.specs.Outside.{FaultCounted};
-ghost use Rattle.guard_syntax.specs.Seen.{see_file};
-ghost use Rattle.value_compare.specs.Books.{IsBookOf};
+ghost use Rattle.guard_syntax.specs.code.Seen.{see_file};
+ghost use Rattle.value_compare.specs.code.Books.{IsBookOf};
 ghost use Rattle.rule_meaning.specs.NextPattern.{IsNextPattern};
 ghost use Rattle.rule_meaning.specs.PatternMatch.{pattern_in};
-ghost use Rattle.value_compare.specs.Making.{AreRead, IsReadBook, Gains, IsNextOf, refusal_of, written};
+ghost use Rattle.value_compare.specs.code.Making.{AreRead, IsReadBook, Gains, IsNextOf, refusal_of, written};
 ghost use Rattle.rule_meaning.specs.Patterns.{is_sought, patterns_at, patterns_in, patterns_of, sought_text};
 
 use crate::book::PatternBook;

@@ -1,7 +1,7 @@
 //! What finds patterns in texts during one test of a row.
 ghost use Rattle.std.specs.Prelude.{◌≡◌, ℕ, true, IfOk, Some, nat_eq, slice_get};
 ghost use Rattle.indexmap.specs.IndexMap.{get};
-ghost use Rattle.value_compare.specs.Books.{has_text};
+ghost use Rattle.value_compare.specs.code.Books.{has_text};
 ghost use Rattle.rule_meaning.specs.PatternMatch.{finds};
 
 use crate::book::PatternBook;

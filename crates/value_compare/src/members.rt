@@ -2,11 +2,11 @@
 ghost use Rattle.std.specs.Prelude.{◌≡◌, true, false, map, IfOk, MatchOption};
 ghost use Rattle.std.specs.List.{list_all, list_any};
 ghost use Rattle.doc_values.specs.Places.{kids_at};
-ghost use Rattle.value_compare.specs.BookCovers.{holds_in, covers};
+ghost use Rattle.value_compare.specs.code.BookCovers.{holds_in, covers};
 ghost use Rattle.rule_meaning.specs.Pairs.{equal, is_no, is_yes, told};
 ghost use Rattle.rule_meaning.specs.RowTests.{is_in, is_member_of_some, is_not_in, is_some_right, member};
 ghost use Rattle.rule_meaning.specs.Values.{is_list, value_at, values_in};
-ghost use Rattle.value_compare.specs.Views.{see_view};
+ghost use Rattle.value_compare.specs.code.Views.{see_view};
 
 use crate::matchers::Matchers;
 use crate::pairs::pair_by;

@@ -3,7 +3,7 @@ ghost use Rattle.std.specs.Prelude.{◌≡◌};
 ghost use Rattle.std.specs.Option.{option_map_or};
 ghost use Rattle.guard_syntax.specs.declared.syntax.Op.{Op};
 ghost use Rattle.rule_meaning.specs.Pairs.{told, covers, ordered};
-ghost use Rattle.value_compare.specs.Views.{see_view};
+ghost use Rattle.value_compare.specs.code.Views.{see_view};
 
 use crate::view::View;
 use doc_values::Kind;

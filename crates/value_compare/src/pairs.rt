@@ -1,8 +1,8 @@
 //! Pairs of values.
 ghost use Rattle.std.specs.Prelude.{◌≡◌, true, false, IfOk, IsOk};
-ghost use Rattle.value_compare.specs.BookCovers.{covers, compares_pattern};
+ghost use Rattle.value_compare.specs.code.BookCovers.{covers, compares_pattern};
 ghost use Rattle.rule_meaning.specs.Pairs.{is_pair_operator, is_order, pair_of};
-ghost use Rattle.value_compare.specs.Views.{see_view};
+ghost use Rattle.value_compare.specs.code.Views.{see_view};
 
 use crate::book::PatternBook;
 use crate::equal::pair_equal;

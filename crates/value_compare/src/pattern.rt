@@ -1,7 +1,7 @@
 //! Patterns, which the crate of regular expressions reads, finds and replaces.
 ghost use Rattle.std.specs.Prelude.{◌≡◌, IfOk, IsSome};
 ghost use Rattle.rule_meaning.specs.PatternMatch.{pattern_in};
-ghost use Rattle.value_compare.specs.Matching.{IsMatcherOf, IsReplacerOf};
+ghost use Rattle.value_compare.specs.code.Matching.{IsMatcherOf, IsReplacerOf};
 
 use regex::{Matcher, Regex, Template};
 use std::alloc::{AllocError, Global};

@@ -1,7 +1,7 @@
 //! A pattern and a template, with what replaces the one by the other.
 ghost use Rattle.std.specs.Prelude.{◌≡◌, IfOk, Some, string_bytes};
 ghost use Rattle.rule_meaning.specs.Functions.{replaced_in};
-ghost use Rattle.value_compare.specs.Matching.{IsReplacerOf};
+ghost use Rattle.value_compare.specs.code.Matching.{IsReplacerOf};
 
 use crate::pattern::Pattern;
 use regex::{Matcher, Template};

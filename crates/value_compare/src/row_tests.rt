@@ -2,14 +2,14 @@
 ghost use Rattle.std.specs.Prelude.{◌≡◌, ℕ, List, [], IfSome, None, Some, true, false, map, IfOk, IsOk, MatchOption};
 ghost use Rattle.std.specs.List.{list_all, list_any};
 ghost use Rattle.std.specs.Option.{option_map_or};
-ghost use Rattle.guard_syntax.specs.Seen.{see_file};
-ghost use Rattle.value_compare.specs.Books.{IsBookOf};
-ghost use Rattle.value_compare.specs.BookCovers.{covers};
+ghost use Rattle.guard_syntax.specs.code.Seen.{see_file};
+ghost use Rattle.value_compare.specs.code.Books.{IsBookOf};
+ghost use Rattle.value_compare.specs.code.BookCovers.{covers};
 ghost use Rattle.rule_meaning.specs.StoreModel.{meant, is_known};
 ghost use Rattle.rule_meaning.specs.Pairs.{equal, is_no, is_order, is_yes, ordered};
 ghost use Rattle.rule_meaning.specs.RowTests.{binary, found_of, is_binary, is_some_right, row_test_of};
-ghost use Rattle.value_compare.specs.Stores.{see_store};
-ghost use Rattle.value_compare.specs.Views.{see_view};
+ghost use Rattle.value_compare.specs.code.Stores.{see_store};
+ghost use Rattle.value_compare.specs.code.Views.{see_view};
 
 use crate::book::PatternBook;
 use crate::matchers::Matchers;

@@ -1,6 +1,6 @@
 //! The literals from which calls read patterns.
 ghost use Rattle.std.specs.Prelude.{◌≡◌, ◌<◌, ◌||◌, ℕ, false, length, map, slice_index_or, IfOk, Some};
-ghost use Rattle.guard_syntax.specs.Seen.{expr_list, see_expr, see_file};
+ghost use Rattle.guard_syntax.specs.code.Seen.{expr_list, see_expr, see_file};
 ghost use Rattle.rule_names.specs.Uses.{expr_in};
 ghost use Rattle.rule_meaning.specs.Patterns.{is_site, is_sought, literal_site, sought_at, sought_by};
 

@@ -1,11 +1,11 @@
 //! What references into values stand for.
 ghost use Rattle.std.specs.Prelude.{◌≡◌, ◌++◌, ◌∷◌, ℕ, [], Option, None, Some, MatchOption, IfSome, OnOk, OnErr, List, true, false};
-ghost use Rattle.guard_syntax.specs.Seen.{see_file};
-ghost use Rattle.value_compare.specs.Books.{IsBookOf};
-ghost use Rattle.value_compare.specs.BookCovers.{holds_in, covers};
+ghost use Rattle.guard_syntax.specs.code.Seen.{see_file};
+ghost use Rattle.value_compare.specs.code.Books.{IsBookOf};
+ghost use Rattle.value_compare.specs.code.BookCovers.{holds_in, covers};
 ghost use Rattle.rule_meaning.specs.StoreModel.{made_at, stands_for, tree_of, value_in};
 ghost use Rattle.rule_meaning.specs.Values.{has_pattern};
-ghost use Rattle.value_compare.specs.Views.{IsSeenAt, IsSeenIn, see_view};
+ghost use Rattle.value_compare.specs.code.Views.{IsSeenAt, IsSeenIn, see_view};
 
 use crate::literals::literal;
 use crate::made::MadeTrees;

@@ -2,7 +2,7 @@
 ghost use Rattle.std.specs.Prelude.{◌≡◌, MatchOption, None, Some};
 ghost use Rattle.std.specs.Option.{option_map};
 ghost use Rattle.rule_meaning.specs.RowTests.{has_kind, is_empty, passes_found, passes_missing, unary};
-ghost use Rattle.value_compare.specs.Views.{see_view};
+ghost use Rattle.value_compare.specs.code.Views.{see_view};
 
 use crate::view::View;
 use doc_values::Kind;

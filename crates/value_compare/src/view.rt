@@ -1,7 +1,7 @@
 //! Values to look at.
 ghost use Rattle.std.specs.Prelude.{◌≡◌, true};
 ghost use Rattle.doc_values.specs.Tree.{has_text};
-ghost use Rattle.value_compare.specs.Views.{see_view};
+ghost use Rattle.value_compare.specs.code.Views.{see_view};
 
 use doc_values::{Cursor, Kind};
 

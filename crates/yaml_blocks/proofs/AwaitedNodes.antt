@@ -4,8 +4,8 @@ use Rattle.doc_values.specs.Unfinished.{Unfinished, AwaitsValue}
 use Rattle.yaml_blocks.specs.declared.ahead.Ahead.{Ahead}
 use Rattle.yaml_blocks.specs.declared.form.Form.{Form}
 use Rattle.yaml_blocks.specs.declared.stage.Stage.TheVariants as stage
-use Rattle.yaml_blocks.specs.Rest.{top}
-use Rattle.yaml_blocks.specs.Steps.{IsSeen, IsSmall, IsBehind, Nests, Fits, Awaited}
+use Rattle.yaml_blocks.specs.code.Rest.{top}
+use Rattle.yaml_blocks.specs.code.Steps.{IsSeen, IsSmall, IsBehind, Nests, Fits, Awaited}
 
 nested_small : (f : Form) (fs : List Form) → top fs ≡ f → Nests fs → IsSmall f
 nested_small f [] e n = subst IsSmall e tt

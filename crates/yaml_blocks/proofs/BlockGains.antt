@@ -28,10 +28,10 @@ use Rattle.yaml_blocks.specs.Nodes.{as_key, tag_name, tag_key, follows_get_att, 
 use Rattle.yaml_blocks.specs.Blocks.{block_sign, takes_scalar, takes_mapping, takes_sequence, takes_tag, tagged, column_in, last_place, ends_name, IsBare, IsKey}
 use Rattle.yaml_blocks.specs.Signs as sign
 use Rattle.yaml_blocks.specs.Signs.{Sign, ManyDocuments, DuplicateKey, TooDeep, Reading, Tree, Refused}
-use Rattle.yaml_blocks.specs.Refused.{of_build, of_sign}
+use Rattle.yaml_blocks.specs.code.Refused.{of_build, of_sign}
 use Rattle.yaml_blocks.specs.Yaml.{IsEnd, end_sign}
-use Rattle.yaml_blocks.specs.Rest.{top, Over, Inside, Ends, Enters, Awaits}
-use Rattle.yaml_blocks.specs.Steps.{IsPlaced, IsSeen, Agrees, Nests, LiesIn, IsSmall, IsBlock, IsBehind, IsSpelled, IsCalm, Open, Fits, Goes, Broke, Gives, Deep, NoKey, NoNode, Ended, HasKey, Missed, Finds, FindsKey, with_scalar, Holds, TagBegun, Opened, Completes, ends_before, is_dash, is_ending}
+use Rattle.yaml_blocks.specs.code.Rest.{top, Over, Inside, Ends, Enters, Awaits}
+use Rattle.yaml_blocks.specs.code.Steps.{IsPlaced, IsSeen, Agrees, Nests, LiesIn, IsSmall, IsBlock, IsBehind, IsSpelled, IsCalm, Open, Fits, Goes, Broke, Gives, Deep, NoKey, NoNode, Ended, HasKey, Missed, Finds, FindsKey, with_scalar, Holds, TagBegun, Opened, Completes, ends_before, is_dash, is_ending}
 use Rattle.yaml_blocks.proofs.Forms.{map_kind, inside, awaits_item, awaits_value}
 use Rattle.yaml_blocks.proofs.Gains.{parts, goes, memory_gives, told, untold, sign_gives, IsRoomFor, roomy, deep_gives, value_ends, ends_value, value_deep, deep_value, value_fits}
 use Rattle.yaml_blocks.proofs.LastValues.{last_done, value_last, missing_calm}

@@ -17,8 +17,8 @@ use Rattle.yaml_blocks.specs.Signs as sign
 use Rattle.yaml_blocks.specs.Signs.{Sign, ManyDocuments, DuplicateKey, TooDeep, Reach, To, Shows, Reading, Refused}
 use Rattle.yaml_blocks.specs.Blocks.{block_sign, takes_scalar, takes_mapping, takes_sequence, takes_tag, tagged, column_in, last_place, IsBare, IsKey, IsEntry, IsEntrySign, IsBlockNode}
 use Rattle.yaml_blocks.specs.Yaml.{IsNode, Spells}
-use Rattle.yaml_blocks.specs.Rest.{top, Inside, Ends, Enters, Follows, Awaits}
-use Rattle.yaml_blocks.specs.Steps.{IsBlock, NoKey, NoNode, is_ending, Missed, Failed}
+use Rattle.yaml_blocks.specs.code.Rest.{top, Inside, Ends, Enters, Follows, Awaits}
+use Rattle.yaml_blocks.specs.code.Steps.{IsBlock, NoKey, NoNode, is_ending, Missed, Failed}
 use Rattle.yaml_blocks.proofs.Rests.{none_some, same_sign, signed_word, no_scalar, no_documents, opened, at_node, Entry, entry_awaits, awaits_entry, entry_ends}
 use Rattle.yaml_blocks.proofs.Quiet.{AreQuiet, inside_at, quiet_none, no_key_at, no_key_dash, mapping_takes}
 use Rattle.yaml_blocks.proofs.KeyEnds.{key_end, key_divides}

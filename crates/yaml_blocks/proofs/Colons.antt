@@ -7,7 +7,7 @@ use Rattle.yaml_blocks.specs.declared.ahead.Ahead.{Ahead}
 use Rattle.yaml_blocks.specs.declared.ahead.Token.TheVariants.{Point}
 use Rattle.yaml_blocks.specs.Ahead.{ahead}
 use Rattle.yaml_blocks.specs.Flow.{ends_key, IsColon}
-use Rattle.yaml_blocks.specs.Steps.{IsSeen, IsPlaced}
+use Rattle.yaml_blocks.specs.code.Steps.{IsSeen, IsPlaced}
 
 abbrev Stood : List ℕ → Bool → ℕ → ℕ → Type 0
 Stood text quoted end p = IsColon text quoted end p × IsCharBoundary text p × (end ≤ p)

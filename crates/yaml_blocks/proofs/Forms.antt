@@ -4,8 +4,8 @@ use Rattle.doc_values.specs.Tree.{Forest, is_map}
 use Rattle.doc_values.specs.Unfinished.{Level, Unfinished, in_map, open_kind, IsKeyThere, AwaitsValue, AwaitsKey, MayEnd, MayHold}
 use Rattle.yaml_blocks.specs.declared.form.Form.{Form}
 use Rattle.yaml_blocks.specs.declared.form.Form.TheVariants.{Root, Flow}
-use Rattle.yaml_blocks.specs.Rest.{top}
-use Rattle.yaml_blocks.specs.Steps.{Agrees, has_keys}
+use Rattle.yaml_blocks.specs.code.Rest.{top}
+use Rattle.yaml_blocks.specs.code.Steps.{Agrees, has_keys}
 
 pub map_kind : (m : Bool) → is_map (open_kind m) ≡ m
 map_kind true = refl

@@ -28,9 +28,9 @@ use Rattle.yaml_blocks.specs.Nodes.{tag_name, tag_key, follows_get_att, is_dot, 
 use Rattle.yaml_blocks.specs.Signs as sign
 use Rattle.yaml_blocks.specs.Signs.{Sign, Tab, Directive, ManyDocuments, DuplicateKey, TooDeep, Reach, To, Shows, Reading, Refused}
 use Rattle.yaml_blocks.specs.Flow.{may_miss, may_tag, IsColon}
-use Rattle.yaml_blocks.specs.Refused.{of_build, of_sign}
-use Rattle.yaml_blocks.specs.Rest.{top, Ends, Enters, Follows, Awaits}
-use Rattle.yaml_blocks.specs.Steps.{IsPlaced, IsSeen, Rest, Agrees, LiesIn, Nests, IsFlow, Open, Fits, reached, Goes, Broke, Gives, Deep, Found, Missed, Finds, with_scalar, IsRoom, Holds, TagBegun, Opened, Closed, Completes, is_flow_ending}
+use Rattle.yaml_blocks.specs.code.Refused.{of_build, of_sign}
+use Rattle.yaml_blocks.specs.code.Rest.{top, Ends, Enters, Follows, Awaits}
+use Rattle.yaml_blocks.specs.code.Steps.{IsPlaced, IsSeen, Rest, Agrees, LiesIn, Nests, IsFlow, Open, Fits, reached, Goes, Broke, Gives, Deep, Found, Missed, Finds, with_scalar, IsRoom, Holds, TagBegun, Opened, Closed, Completes, is_flow_ending}
 use Rattle.yaml_blocks.proofs.Forms.{map_kind, flow_inside, awaits_value, may_end}
 use Rattle.yaml_blocks.proofs.LastValues.{scalar_calm, unnamed_calm, flow_calm}
 use Rattle.yaml_blocks.proofs.NameEnds.{bracket_unnamed}

@@ -8,14 +8,14 @@ use Rattle.yaml_scalars.specs.Lines.{Line, Outcome, Stands, Fails, Documents, li
 use Rattle.yaml_scalars.specs.Plain.{begins_plain, wrong_begin, plain_len, content, content_end, why, reason, first, plain_on}
 use Rattle.yaml_scalars.specs.Quoted.{Part, Closed, Open, Joined, Returned, Refused, line_part, behind_part, key_part, quoted_more, quoted_on}
 use Rattle.yaml_scalars.specs.Scalar.{scalar_at, plain_scalar, quoted_scalar, block_scalar, begins_quoted, is_first_column}
-use Rattle.yaml_scalars.specs.Walk.{line_at, behind}
+use Rattle.yaml_scalars.specs.code.Walk.{line_at, behind}
 use Rattle.yaml_scalars.proofs.Places.{lines_are, line_drop}
 use Rattle.yaml_blocks.specs.declared.ahead.Ahead.{Ahead}
 use Rattle.yaml_blocks.specs.declared.form.Form.{Form}
 use Rattle.yaml_blocks.specs.declared.form.Form.TheVariants.{Root, Flow, FlowTagged, Items, Entries, Tagged}
 use Rattle.yaml_blocks.specs.Ahead.{ahead, tab_token, token_at, mark_of, token_of, is_passed, is_tabbed, line_ahead, rest_ahead}
 use Rattle.yaml_blocks.specs.Nodes.{below, setting_of, as_key, starts_scalar, scalar_ahead}
-use Rattle.yaml_blocks.specs.Steps.{IsBlock}
+use Rattle.yaml_blocks.specs.code.Steps.{IsBlock}
 use Rattle.yaml_blocks.proofs.Looks.{first_rest}
 
 -- ---- where a line's rest is blank, the next token begins a line

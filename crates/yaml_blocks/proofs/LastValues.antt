@@ -9,8 +9,8 @@ use Rattle.yaml_blocks.specs.declared.form.Form.TheVariants.{Root, Flow, FlowTag
 use Rattle.yaml_blocks.specs.Ahead.{ahead}
 use Rattle.yaml_blocks.specs.Nodes.{is_tagged}
 use Rattle.yaml_blocks.specs.Blocks.{or_else, last_place, ends_name}
-use Rattle.yaml_blocks.specs.Rest.{top}
-use Rattle.yaml_blocks.specs.Steps.{IsBlock, IsFlow, IsSpelled, last_open, IsCalm, Lasts, with_scalar, is_ending}
+use Rattle.yaml_blocks.specs.code.Rest.{top}
+use Rattle.yaml_blocks.specs.code.Steps.{IsBlock, IsFlow, IsSpelled, last_open, IsCalm, Lasts, with_scalar, is_ending}
 
 some_first : (o z : Option ℕ) (p : ℕ) → or_else (or_else o (Some p)) z ≡ or_else o (Some p)
 some_first None z p = refl

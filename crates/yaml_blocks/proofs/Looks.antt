@@ -2,7 +2,7 @@
 use Rattle.std.proofs.Common.{◌≡◌, ℕ, ◌+◌, Bool, true, false, ◌||◌, ◌&&◌, not, cond, nat_lt, List, drop, length, refl, sym, ap, ◌∙◌, subst}
 use Rattle.std.proofs.lemmas.List.{drop-drop}
 use Rattle.yaml_scalars.specs.Lines.{lines, begins_with, is_white, is_blank, lead, indent, past_white, is_mark}
-use Rattle.yaml_scalars.specs.Walk.{line_at, behind}
+use Rattle.yaml_scalars.specs.code.Walk.{line_at, behind}
 use Rattle.yaml_scalars.proofs.Places.{lines_are, line_drop, lead_le}
 use Rattle.yaml_blocks.specs.declared.ahead.Token.TheVariants.{Tag, NoTag}
 use Rattle.yaml_blocks.specs.Ahead.{is_name, begins_letter, ends_tag, tag_token, tab_token, token_of, token_at, mark_of, has_return, is_passed, is_tabbed, content_ahead, line_ahead, rest_ahead}

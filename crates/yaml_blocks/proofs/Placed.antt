@@ -7,7 +7,7 @@ use Rattle.std.proofs.lemmas.Str.{IsCharBoundary-end, IsCharBoundary-after_ascii
 use Rattle.yaml_scalars.specs.Lines.{lines, begins_with, begins_break, is_white, lead, indent, past_white, is_mark, is_end}
 use Rattle.yaml_scalars.specs.Plain.{is_unsafe}
 use Rattle.yaml_scalars.specs.Scalar.{is_first_column}
-use Rattle.yaml_scalars.specs.Walk.{line_at, behind}
+use Rattle.yaml_scalars.specs.code.Walk.{line_at, behind}
 use Rattle.yaml_scalars.proofs.BlockLines.{spaces_boundary}
 use Rattle.yaml_scalars.proofs.LineParts.{line_get, lead_byte}
 use Rattle.yaml_scalars.proofs.Places.{line_fits, lead_le}
@@ -15,7 +15,7 @@ use Rattle.yaml_scalars.proofs.QuotedGoing.{white_ascii}
 use Rattle.yaml_blocks.specs.declared.ahead.Token.{Token}
 use Rattle.yaml_blocks.specs.declared.ahead.Token.TheVariants.{End, Dashes, Dots, Dash, Tag, NoTag, Opens, Closes, Comma, Point, Anchor, Percent, Tabbed, Stray, Other}
 use Rattle.yaml_blocks.specs.Ahead.{is_name, begins_letter, ends_tag, tag_token, tab_token, other_token, block_token, token_of, token_len, token_at, mark_of, is_passed, is_tabbed, content_ahead, line_ahead, rest_ahead, ahead}
-use Rattle.yaml_blocks.specs.Steps.{IsColumn, IsPlaced}
+use Rattle.yaml_blocks.specs.code.Steps.{IsColumn, IsPlaced}
 use Rattle.yaml_blocks.proofs.Looks.{white_rest, first_line, first_rest}
 
 -- white space in front of a line is ASCII

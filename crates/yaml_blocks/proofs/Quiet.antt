@@ -3,7 +3,7 @@ use Rattle.std.proofs.Common.{◌≡◌, ℕ, suc, ◌<◌, ◌≤◌, ◌⊎◌
 use Rattle.std.proofs.lemmas.Bool.{ltb-true}
 use Rattle.std.proofs.lemmas.Bool.Decides.{nat_tests}
 use Rattle.doc_values.specs.Tree.{Forest, Nil, Node, snoc}
-use Rattle.doc_values.specs.Laws.{joined-Nil}
+use Rattle.doc_values.specs.code.Laws.{joined-Nil}
 use Rattle.doc_values.specs.Unfinished.{Level}
 use Rattle.yaml_blocks.specs.declared.ahead.Ahead.{Ahead}
 use Rattle.yaml_blocks.specs.declared.ahead.Token.{Token}
@@ -15,8 +15,8 @@ use Rattle.yaml_blocks.specs.Nodes.{as_key, starts_scalar, node_sign}
 use Rattle.yaml_blocks.specs.Signs.{Sign, Reach, To, Reading, Refused}
 use Rattle.yaml_blocks.specs.Blocks.{takes_scalar, takes_mapping, takes_sequence, takes_tag}
 use Rattle.yaml_blocks.specs.Yaml.{Spells, IsEnd, late_sign, sign_behind, end_sign}
-use Rattle.yaml_blocks.specs.Rest.{top, Over, Inside, Ends}
-use Rattle.yaml_blocks.specs.Steps.{Agrees, Nests, IsBlock, NoKey, Missed, is_dash, is_ending, ends_before}
+use Rattle.yaml_blocks.specs.code.Rest.{top, Over, Inside, Ends}
+use Rattle.yaml_blocks.specs.code.Steps.{Agrees, Nests, IsBlock, NoKey, Missed, is_dash, is_ending, ends_before}
 use Rattle.yaml_blocks.proofs.Rests.{none_some, no_scalar, closes}
 
 -- all are blocks with a column below this

@@ -5,8 +5,8 @@ use Rattle.doc_values.specs.declared.builder.BuildRefusal.TheVariants as build
 use Rattle.doc_values.specs.Unfinished.{Unfinished}
 use Rattle.yaml_blocks.specs.declared.refusal.YamlRefusal.{YamlRefusal}
 use Rattle.yaml_blocks.specs.declared.refusal.YamlRefusal.TheVariants.{TooDeep}
-use Rattle.yaml_blocks.specs.Refused.{of_build}
-use Rattle.yaml_blocks.specs.Steps.{Deep}
+use Rattle.yaml_blocks.specs.code.Refused.{of_build}
+use Rattle.yaml_blocks.specs.code.Steps.{Deep}
 
 pub deep_of : (u : Unfinished) (at n : ℕ) (r : BuildRefusal) (e : YamlRefusal) → e ≡ of_build r → n ≡ at → (r ≡ build.NoMemory) ⊎ ((r ≡ build.TooDeep n) × (length u.outer ≡ 128)) → Deep u at e
 deep_of u at n r e h q (inl k) = inl (h ∙ ap of_build k)

@@ -4,7 +4,7 @@ use Rattle.std.proofs.Common.{◌≡◌, ℕ, suc, ◌<◌, ◌⊎◌, inl, inr,
 use Rattle.doc_values.specs.declared.kind.Kind.{Kind}
 use Rattle.doc_values.specs.declared.kind.Kind.TheVariants as kind
 use Rattle.doc_values.specs.Tree.{Label, Forest, Nil, Node, snoc, joined, has_key}
-use Rattle.doc_values.specs.Laws.{joined-Nil, joined-snoc}
+use Rattle.doc_values.specs.code.Laws.{joined-Nil, joined-snoc}
 use Rattle.doc_values.specs.Unfinished.{Level}
 use Rattle.yaml_scalars.specs.declared.scalar.Setting.{Setting}
 use Rattle.yaml_scalars.specs.Lines.{Stands, Fails, Documents}
@@ -19,8 +19,8 @@ use Rattle.yaml_blocks.specs.Flow.{may_miss, may_tag, ends_key, IsColon, IsFlowN
 use Rattle.yaml_blocks.specs.Yaml.{IsHead, IsTail, IsNode, Spells}
 use Rattle.yaml_blocks.specs.declared.form.Form.{Form}
 use Rattle.yaml_blocks.specs.declared.form.Form.TheVariants.{Root, Flow, FlowTagged, Items, Entries, Tagged}
-use Rattle.yaml_blocks.specs.Rest.{top, Ends, Enters, Follows, Awaits}
-use Rattle.yaml_blocks.specs.Steps.{IsFlow, LiesIn, Nests, is_flow_ending, Failed}
+use Rattle.yaml_blocks.specs.code.Rest.{top, Ends, Enters, Follows, Awaits}
+use Rattle.yaml_blocks.specs.code.Steps.{IsFlow, LiesIn, Nests, is_flow_ending, Failed}
 
 -- what tokens are no signs
 pub signed_word : (tagged : Bool) (at : ℕ) (t : Token) (s : Sign) → node_sign tagged at t ≡ Some s → starts_scalar t ≡ false

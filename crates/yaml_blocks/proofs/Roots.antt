@@ -22,12 +22,12 @@ use Rattle.yaml_blocks.specs.Ahead.{ahead}
 use Rattle.yaml_blocks.specs.Nodes.{leaf, starts_scalar, node_sign}
 use Rattle.yaml_blocks.specs.Blocks.{block_sign}
 use Rattle.yaml_blocks.specs.Answers.{IsSignOf, Refuses, Reads}
-use Rattle.yaml_blocks.specs.Refused.{of_sign}
+use Rattle.yaml_blocks.specs.code.Refused.{of_sign}
 use Rattle.yaml_blocks.specs.Signs as sign
 use Rattle.yaml_blocks.specs.Signs.{Sign, Tab, Directive, ManyDocuments, DuplicateKey, TooDeep, To, Shows, Reading, Tree, Refused, Then}
 use Rattle.yaml_blocks.specs.Yaml.{IsRoot, IsStart, is_content, sign_before, text_start, start_sign, IsYaml, Counts}
-use Rattle.yaml_blocks.specs.Rest.{Over, Ends, Awaits, Begins}
-use Rattle.yaml_blocks.specs.Steps.{Rest, Fits, reached, Broke, Gives, Goes, NoNode, Completes, is_ending}
+use Rattle.yaml_blocks.specs.code.Rest.{Over, Ends, Awaits, Begins}
+use Rattle.yaml_blocks.specs.code.Steps.{Rest, Fits, reached, Broke, Gives, Goes, NoNode, Completes, is_ending}
 use Rattle.yaml_blocks.proofs.Gains.{goes, memory_gives, told, untold}
 use Rattle.yaml_blocks.proofs.LastValues.{ending_calm}
 use Rattle.yaml_blocks.proofs.Quiet.{ending_word, ending_unsigned, end_ending, sign_ending}

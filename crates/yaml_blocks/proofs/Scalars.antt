@@ -19,8 +19,8 @@ use Rattle.yaml_scalars.specs.Scalar.{scalar_at, is_typed, HasKind, Answers, IsE
 use Rattle.yaml_blocks.specs.declared.ahead.Ahead.{Ahead}
 use Rattle.yaml_blocks.specs.declared.refusal.YamlRefusal.{YamlRefusal}
 use Rattle.yaml_blocks.specs.Nodes.{as_key, starts_scalar, scalar_ahead}
-use Rattle.yaml_blocks.specs.Refused.{of_scalar}
-use Rattle.yaml_blocks.specs.Steps.{Found, Missed, Failed, Finds, Holds, leaf_text}
+use Rattle.yaml_blocks.specs.code.Refused.{of_scalar}
+use Rattle.yaml_blocks.specs.code.Steps.{Found, Missed, Failed, Finds, Holds, leaf_text}
 
 fails_stands : (at j : ℕ) (t : List ℕ) → Fails at ≡ Stands t j → ⊥
 fails_stands at j t e = absurd (cc)

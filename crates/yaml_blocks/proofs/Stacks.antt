@@ -2,8 +2,8 @@
 use Rattle.std.proofs.Common.{◌≡◌, suc, ◌-◌, List, [], ◌∷◌, ◌++◌, length, refl, sym, ap, ◌∙◌, arith, Some}
 use Rattle.std.specs.Prelude.{slice_get}
 use Rattle.yaml_blocks.specs.declared.form.Form.{Form}
-use Rattle.yaml_blocks.specs.Rest.{top}
-use Rattle.yaml_blocks.specs.Steps.{stack_on, stack}
+use Rattle.yaml_blocks.specs.code.Rest.{top}
+use Rattle.yaml_blocks.specs.code.Steps.{stack_on, stack}
 
 pushed_on : (fs gs : List Form) (f : Form) → stack_on fs (gs ++ (f ∷ [])) ≡ f ∷ stack_on fs gs
 pushed_on fs [] f = refl

@@ -3,9 +3,6 @@ pub mod Answers
 pub mod Blocks
 pub mod Flow
 pub mod Nodes
-pub mod Refused
-pub mod Rest
 pub mod Signs
-pub mod Steps
 pub mod Yaml
-pub mod Memory
+pub mod code

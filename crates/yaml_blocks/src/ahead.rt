@@ -3,9 +3,9 @@ ghost use Rattle.std.specs.Prelude.{◌≡◌, ◌≤◌, ◌<◌, ◌+◌, ◌|
 ghost use Rattle.std.specs.Str.{IsCharBoundary};
 ghost use Rattle.yaml_scalars.specs.Lines.{lines, begins_with, is_end, is_mark, lead};
 ghost use Rattle.yaml_scalars.specs.Plain.{is_flow_mark, is_unsafe};
-ghost use Rattle.yaml_scalars.specs.Walk.{line_at};
+ghost use Rattle.yaml_scalars.specs.code.Walk.{line_at};
 ghost use Rattle.yaml_blocks.specs.Ahead.{is_letter, is_name, begins_letter, ends_tag, tag_token, other_token, block_token, tab_token, token_of, token_at, mark_of, has_return, is_passed, is_tabbed, content_ahead, line_ahead, rest_ahead, ahead};
-ghost use Rattle.yaml_blocks.specs.Steps.{IsSeen};
+ghost use Rattle.yaml_blocks.specs.code.Steps.{IsSeen};
 
 use yaml_scalars::lines::{
     ends_line, is_blank, is_end, is_first_column, is_mark, is_white, next_line, spaces, whites,

@@ -6,10 +6,10 @@ ghost use Rattle.doc_values.specs.Unfinished.{AwaitsValue};
 ghost use Rattle.yaml_blocks.specs.Ahead.{ahead};
 ghost use Rattle.yaml_blocks.specs.Nodes.{starts_scalar, is_tagged};
 ghost use Rattle.yaml_blocks.specs.Blocks.{block_sign, takes_scalar, takes_mapping, takes_sequence, takes_tag, tagged, column_in};
-ghost use Rattle.yaml_blocks.specs.Refused.{of_sign};
-ghost use Rattle.yaml_blocks.specs.Rest.{top, Inside, Ends, Awaits};
+ghost use Rattle.yaml_blocks.specs.code.Refused.{of_sign};
+ghost use Rattle.yaml_blocks.specs.code.Rest.{top, Inside, Ends, Awaits};
 ghost use Rattle.yaml_blocks.specs.Yaml.{IsEnd};
-ghost use Rattle.yaml_blocks.specs.Steps.{stack, IsSeen, IsBlock, IsBehind, IsSmall, HasKey, NoKey, Open, Fits, Awaited, IsCalm, NoNode, Gives, Ended, is_dash, ends_before};
+ghost use Rattle.yaml_blocks.specs.code.Steps.{stack, IsSeen, IsBlock, IsBehind, IsSmall, HasKey, NoKey, Open, Fits, Awaited, IsCalm, NoNode, Gives, Ended, is_dash, ends_before};
 
 use crate::ahead::{Ahead, Token, look};
 use crate::flow::open;

@@ -5,8 +5,8 @@ ghost use Rattle.doc_values.specs.Unfinished.{AwaitsValue, MayEnd};
 ghost use Rattle.yaml_scalars.specs.Scalar.{begins_quoted};
 ghost use Rattle.yaml_blocks.specs.Flow.{may_miss, may_tag, ends_key, IsColon};
 ghost use Rattle.yaml_blocks.specs.Nodes.{node_sign, is_tagged, is_marked};
-ghost use Rattle.yaml_blocks.specs.Rest.{top, Ends, Enters, Awaits};
-ghost use Rattle.yaml_blocks.specs.Steps.{stack, IsSeen, IsFlow, IsBehind, Open, Gives, Opened, Closed, is_flow_ending};
+ghost use Rattle.yaml_blocks.specs.code.Rest.{top, Ends, Enters, Awaits};
+ghost use Rattle.yaml_blocks.specs.code.Steps.{stack, IsSeen, IsFlow, IsBehind, Open, Gives, Opened, Closed, is_flow_ending};
 
 use crate::ahead::{Ahead, Token, look};
 use crate::form::Form;

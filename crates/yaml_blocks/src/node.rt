@@ -7,8 +7,8 @@ ghost use Rattle.doc_values.specs.Tree.{has_text};
 ghost use Rattle.doc_values.specs.Unfinished.{with_value, AwaitsValue};
 ghost use Rattle.yaml_blocks.specs.Ahead.{ahead};
 ghost use Rattle.yaml_blocks.specs.Nodes.{below, tag_name, tag_key, get_att, follows_get_att, is_dot, is_cut, ref_text, condition_text, setting_of, as_key, starts_scalar};
-ghost use Rattle.yaml_blocks.specs.Steps.{stack, has_keys, IsSmall, IsBehind, Finds, FindsKey, leaf_text, Paired, Holds, Begun, TagBegun, Completes};
-ghost use Rattle.yaml_blocks.specs.Rest.{top};
+ghost use Rattle.yaml_blocks.specs.code.Steps.{stack, has_keys, IsSmall, IsBehind, Finds, FindsKey, leaf_text, Paired, Holds, Begun, TagBegun, Completes};
+ghost use Rattle.yaml_blocks.specs.code.Rest.{top};
 
 use crate::ahead::{Ahead, Token, look};
 use crate::form::Form;

@@ -3,7 +3,7 @@ ghost use Rattle.std.specs.Prelude.{◌≡◌, ◌≤◌, length, true, false, N
 ghost use Rattle.std.specs.Str.{IsCharBoundary};
 ghost use Rattle.yaml_scalars.specs.Scalar.{begins_order_mark};
 ghost use Rattle.yaml_blocks.specs.Answers.{Reads, Refuses};
-ghost use Rattle.yaml_blocks.specs.Memory.{BeginsDocument};
+ghost use Rattle.yaml_blocks.specs.code.Memory.{BeginsDocument};
 ghost use Rattle.yaml_blocks.specs.Yaml.{IsStart, start_sign, text_start};
 
 use crate::ahead::{Token, look};

@@ -40,7 +40,7 @@ pub enum YamlRefusal {
 
 impl From<BuildRefusal> for YamlRefusal {
     ghost use Rattle.std.specs.Prelude.{◌≡◌};
-    ghost use Rattle.yaml_blocks.specs.Refused.{of_build};
+    ghost use Rattle.yaml_blocks.specs.code.Refused.{of_build};
 
     ghost from_gives = { λ r e. e ≡ of_build r };
 
@@ -55,7 +55,7 @@ impl From<BuildRefusal> for YamlRefusal {
 
 impl From<ScalarRefusal> for YamlRefusal {
     ghost use Rattle.std.specs.Prelude.{◌≡◌};
-    ghost use Rattle.yaml_blocks.specs.Refused.{of_scalar};
+    ghost use Rattle.yaml_blocks.specs.code.Refused.{of_scalar};
 
     ghost from_gives = { λ r e. e ≡ of_scalar r };
 

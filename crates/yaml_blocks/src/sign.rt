@@ -1,8 +1,8 @@
 //! The signs that tell why a text is no document, but for equal keys and depth.
 ghost use Rattle.std.specs.Prelude.{◌≡◌, ◌≤◌, ◌&&◌, not, length, true, false, None, Some, option_map, nat_eq, if◌then◌else◌, MatchOption};
 ghost use Rattle.yaml_blocks.specs.Nodes.{node_sign, is_tagged, is_marked};
-ghost use Rattle.yaml_blocks.specs.Refused.{of_sign};
-ghost use Rattle.yaml_blocks.specs.Steps.{IsSeen, is_ending};
+ghost use Rattle.yaml_blocks.specs.code.Refused.{of_sign};
+ghost use Rattle.yaml_blocks.specs.code.Steps.{IsSeen, is_ending};
 ghost use Rattle.yaml_blocks.specs.Yaml.{is_content, late_sign, end_sign, text_start, start_sign};
 
 use crate::ahead::{Ahead, Token, look};

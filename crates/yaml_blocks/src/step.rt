@@ -2,8 +2,8 @@
 ghost use Rattle.std.specs.Prelude.{◌≡◌, ◌≤◌, ◌*◌, ◌+◌, length, [], false, true};
 ghost use Rattle.std.specs.Str.{IsCharBoundary};
 ghost use Rattle.doc_values.specs.Unfinished.{start};
-ghost use Rattle.yaml_blocks.specs.Rest.{top, Ends, Enters, Awaits, Begins};
-ghost use Rattle.yaml_blocks.specs.Steps.{stack, Open, Rest, Fits, reached, Gives};
+ghost use Rattle.yaml_blocks.specs.code.Rest.{top, Ends, Enters, Awaits, Begins};
+ghost use Rattle.yaml_blocks.specs.code.Steps.{stack, Open, Rest, Fits, reached, Gives};
 
 use crate::ahead::look;
 use crate::form::Form;

@@ -5,8 +5,8 @@ use Rattle.yaml_scalars.specs.Lines.{Line, lines, begins_with, is_white, is_blan
 use Rattle.yaml_scalars.specs.Plain.{is_unsafe}
 use Rattle.yaml_scalars.specs.Block.{shown, widest}
 use Rattle.yaml_scalars.specs.Scalar.{is_first_column}
-use Rattle.yaml_laws.specs.Agreement.{end_shown}
-use Rattle.yaml_scalars.specs.Walk.{line_at}
+use Rattle.yaml_laws.specs.code.Agreement.{end_shown}
+use Rattle.yaml_scalars.specs.code.Walk.{line_at}
 use Rattle.yaml_laws.proofs.Agree.{Later, SplitAt, Shares, texts_share, drop_before, drop_size}
 use Rattle.yaml_laws.proofs.LineEnds.{AreOf, lines_of, mark_full, ends_alike}
 use Rattle.yaml_laws.proofs.PlainStays.{Parted, parted}
@@ -14,7 +14,7 @@ use Rattle.yaml_laws.proofs.QuotedLaw.{lead_all, lead_some}
 use Rattle.yaml_laws.proofs.ScalarLaw.{column_same}
 use Rattle.yaml_blocks.specs.declared.ahead.Token.TheVariants.{Dash, Tag, NoTag, Opens, Closes, Comma, Point}
 use Rattle.yaml_blocks.specs.Ahead.{is_name, begins_letter, ends_tag, tag_token, tab_token, other_token, block_token, token_of, token_at, mark_of, has_return, is_passed, content_ahead, line_ahead, rest_ahead, ahead}
-use Rattle.yaml_laws.specs.AheadSeen.{token_shown, first_return, content_shown, line_seen, rest_seen, ahead_seen}
+use Rattle.yaml_laws.specs.code.AheadSeen.{token_shown, first_return, content_shown, line_seen, rest_seen, ahead_seen}
 
 -- ---- a token
 

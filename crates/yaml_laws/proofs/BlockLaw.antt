@@ -7,7 +7,7 @@ use Rattle.yaml_scalars.specs.declared.scalar.Setting.{Setting}
 use Rattle.yaml_scalars.specs.Lines.{Line, Stands, Fails, begins_with, is_white, is_blank, is_mark, lead, indent}
 use Rattle.yaml_scalars.specs.Plain.{above_of}
 use Rattle.yaml_scalars.specs.Block.{Chomp, Header, Last, Inner, Nothing, Wide, Indented, header, header_fault, return_behind, is_content, taken_off, ending, content_more, blank_more, count_break, mark_len, may_end, shown, widest, inner_of, base_of, by_inner, by_digit, block_on}
-use Rattle.yaml_scalars.specs.Walk.{line_at, has_break, behind}
+use Rattle.yaml_scalars.specs.code.Walk.{line_at, has_break, behind}
 use Rattle.yaml_scalars.specs.Scalar.{block_scalar}
 use Rattle.yaml_scalars.proofs.Places.{lines_are}
 use Rattle.yaml_laws.proofs.Agree.{SameAhead, Later, SplitAt, Shares, Within, behind_later, texts_share, lines_within}

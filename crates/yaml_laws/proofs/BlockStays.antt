@@ -7,8 +7,8 @@ use Rattle.yaml_scalars.specs.declared.scalar.Setting.{Setting}
 use Rattle.yaml_scalars.specs.Lines.{Line, Stands, begins_with, is_blank, is_mark, indent, lines}
 use Rattle.yaml_scalars.specs.Plain.{above_of}
 use Rattle.yaml_scalars.specs.Block.{Chomp, Last, Inner, Nothing, Wide, Indented, is_content, ending, content_more, blank_more, count_break, shown, widest, inner_of, base_of, by_inner, by_digit, block_on}
-use Rattle.yaml_laws.specs.Agreement.{end_shown}
-use Rattle.yaml_scalars.specs.Walk.{line_at}
+use Rattle.yaml_laws.specs.code.Agreement.{end_shown}
+use Rattle.yaml_scalars.specs.code.Walk.{line_at}
 use Rattle.yaml_scalars.specs.Scalar.{block_scalar}
 use Rattle.yaml_laws.proofs.Agree.{Later, Shares, texts_share}
 use Rattle.yaml_scalars.proofs.BlockStates.{more_out, more_return}

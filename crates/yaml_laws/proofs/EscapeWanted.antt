@@ -5,7 +5,7 @@ use Rattle.std.proofs.lemmas.Bool.Decides.{nat_tests}
 use Rattle.yaml_scalars.specs.declared.escape.Wanted.{Wanted}
 use Rattle.yaml_scalars.specs.declared.escape.Wanted.TheVariants.{Character, FirstUnit, SecondUnit}
 use Rattle.yaml_scalars.specs.Quoted.{Number, Short, is_hex, hex, least, greatest, may_go_on, digits}
-use Rattle.yaml_laws.specs.Digits.{spelled, longest}
+use Rattle.yaml_laws.specs.code.Digits.{spelled, longest}
 
 hex_small : (b : ℕ) → is_hex b ≡ true → hex b ≤ 15
 hex_small b h = grind (arith, nat_tests, h)

@@ -5,8 +5,8 @@ use Rattle.std.proofs.lemmas.Bool.Decides.{nat_tests}
 use Rattle.std.proofs.lemmas.List.{drop-drop}
 use Rattle.yaml_scalars.specs.Lines.{Line, is_white, is_blank, is_mark, is_end, lines}
 use Rattle.yaml_scalars.specs.Block.{shown}
-use Rattle.yaml_laws.specs.Agreement.{end_shown}
-use Rattle.yaml_scalars.specs.Walk.{line_at, behind}
+use Rattle.yaml_laws.specs.code.Agreement.{end_shown}
+use Rattle.yaml_scalars.specs.code.Walk.{line_at, behind}
 use Rattle.yaml_scalars.proofs.Places.{lines_are}
 use Rattle.yaml_laws.proofs.Agree.{SameAhead, SplitAt}
 use Rattle.yaml_laws.proofs.BlockHeads.{cases}

@@ -2,8 +2,8 @@
 use Rattle.std.proofs.Common.{◌≡◌, ℕ, suc, ◌+◌, ◌<◌, Bool, true, false, List, [], ◌∷◌, ◌++◌, length, refl, sym, ap, ◌∙◌, arith, cond, subst}
 use Rattle.std.specs.Prelude.{nat_eq, ◌||◌, ◌&&◌}
 use Rattle.yaml_scalars.specs.Lines.{Line, Outcome, Stands, begins_with, ends_with, each, put, begun, lines}
-use Rattle.yaml_laws.specs.Refusals.{is_ascii}
-use Rattle.yaml_scalars.specs.Walk.{line_at, has_break, behind}
+use Rattle.yaml_laws.specs.code.Refusals.{is_ascii}
+use Rattle.yaml_scalars.specs.code.Walk.{line_at, has_break, behind}
 use Rattle.yaml_scalars.proofs.Places.{lines_are}
 
 -- lines with others behind them, the first of which goes on with the last

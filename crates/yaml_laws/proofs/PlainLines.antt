@@ -10,8 +10,8 @@ use Rattle.yaml_scalars.specs.declared.plain_line.Below.TheVariants.{Blank, Outs
 use Rattle.yaml_scalars.specs.Lines.{Line, Outcome, Stands, Fails, begins_with, is_white, is_space, is_blank, is_mark, is_cut_mark, lead, indent, past_white, each, fold, lines}
 use Rattle.yaml_scalars.specs.Plain.{above_of, plain_len, content, content_end, reason, content_at, inside, below, ends_on, joins, further, more, first, plain_on}
 use Rattle.yaml_scalars.specs.Block.{mark_len, may_end, shown}
-use Rattle.yaml_laws.specs.Agreement.{end_shown, shown_by, part_shown, line_shown, more_shown, plain_shown}
-use Rattle.yaml_scalars.specs.Walk.{line_at, has_break, behind}
+use Rattle.yaml_laws.specs.code.Agreement.{end_shown, shown_by, part_shown, line_shown, more_shown, plain_shown}
+use Rattle.yaml_scalars.specs.code.Walk.{line_at, has_break, behind}
 use Rattle.yaml_scalars.specs.Scalar.{is_first_column, plain_scalar}
 use Rattle.yaml_scalars.proofs.Places.{lines_are}
 use Rattle.yaml_laws.proofs.Agree.{Later, Shares, texts_share, drop_before, drop_size}

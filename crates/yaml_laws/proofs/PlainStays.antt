@@ -8,8 +8,8 @@ use Rattle.yaml_scalars.specs.declared.plain_line.Why.{Why}
 use Rattle.yaml_scalars.specs.declared.plain_line.Why.TheVariants.{Break, Return, Colon, Comment, Mark}
 use Rattle.yaml_scalars.specs.Lines.{Line, Stands, Fails, begins_with, begins_break, is_white, trimmed, each, lines}
 use Rattle.yaml_scalars.specs.Plain.{is_flow_mark, is_unsafe, begins_plain, wrong_begin, stops, plain_len, content, content_end, why, reason, more, first, plain_on}
-use Rattle.yaml_laws.specs.Agreement.{shown_by, stop_shown}
-use Rattle.yaml_scalars.specs.Walk.{line_at, has_break, behind}
+use Rattle.yaml_laws.specs.code.Agreement.{shown_by, stop_shown}
+use Rattle.yaml_scalars.specs.code.Walk.{line_at, has_break, behind}
 use Rattle.yaml_scalars.specs.Scalar.{is_first_column, plain_scalar}
 use Rattle.yaml_scalars.proofs.Places.{lines_are}
 use Rattle.yaml_laws.proofs.Agree.{drop_before, drop_size}

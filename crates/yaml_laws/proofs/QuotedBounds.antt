@@ -5,7 +5,7 @@ use Rattle.yaml_scalars.specs.declared.scalar.Setting.{Setting}
 use Rattle.yaml_scalars.specs.Lines.{Line, Fails, Documents, begins_with, is_white, is_blank, is_mark, is_cut_mark, lead, past_white}
 use Rattle.yaml_scalars.specs.Quoted.{Piece, Itself, Closes, Means, Joins, Returns, Wrong, Part, Closed, Open, Joined, Returned, Refused, piece, add_piece, line_part, gap, behind_part, key_part, quoted_more, quoted_on}
 use Rattle.yaml_scalars.specs.Scalar.{quoted_scalar}
-use Rattle.yaml_scalars.specs.Walk.{line_at, has_break, behind}
+use Rattle.yaml_scalars.specs.code.Walk.{line_at, has_break, behind}
 use Rattle.yaml_scalars.proofs.Places.{lines_are, lead_le}
 use Rattle.yaml_laws.proofs.Agree.{Later, Within, behind_later, lines_within}
 use Rattle.yaml_scalars.proofs.EscapeFits.{IsWithin, piece_within}

@@ -6,7 +6,7 @@ use Rattle.yaml_scalars.specs.declared.scalar.Setting.{Setting}
 use Rattle.yaml_scalars.specs.Lines.{Line, Outcome, Stands, Fails, Documents, begins_with, is_white, is_blank, is_mark, is_cut_mark, lead, past_white, lines}
 use Rattle.yaml_scalars.specs.Quoted.{Part, Closed, Open, Joined, Returned, Refused, line_part, gap, behind_part, key_part, quoted_more, quoted_on}
 use Rattle.yaml_scalars.specs.Scalar.{begins_quoted, quoted_scalar}
-use Rattle.yaml_scalars.specs.Walk.{line_at, has_break, behind}
+use Rattle.yaml_scalars.specs.code.Walk.{line_at, has_break, behind}
 use Rattle.yaml_scalars.proofs.Places.{lines_are}
 use Rattle.yaml_laws.proofs.Agree.{SameAhead, Later, SplitAt, Shares, behind_later, texts_share, drop_before, drop_size}
 use Rattle.yaml_laws.proofs.BlockHeads.{cases}

@@ -8,7 +8,7 @@ use Rattle.yaml_scalars.specs.declared.escape.Wanted.TheVariants.{Character, Fir
 use Rattle.yaml_scalars.specs.Lines.{Line, Outcome, Stands, Fails, Documents, begins_with, is_white, is_blank, is_mark, is_cut_mark, lead, past_white, lines, each}
 use Rattle.yaml_scalars.specs.Quoted.{Piece, Itself, Closes, Means, Joins, Returns, Wrong, Digits, Number, Short, is_high, digits, of_digits, of_low, of_pair, of_unit, letter, of_letter, escape, piece, Part, Closed, Open, Joined, Returned, Refused, line_part, gap, behind_part, key_part, quoted_more, quoted_on}
 use Rattle.yaml_scalars.specs.Scalar.{quoted_scalar}
-use Rattle.yaml_scalars.specs.Walk.{line_at, has_break, behind}
+use Rattle.yaml_scalars.specs.code.Walk.{line_at, has_break, behind}
 use Rattle.yaml_scalars.proofs.Places.{lines_are}
 use Rattle.yaml_laws.proofs.Agree.{IsReturn, SameAhead, Later, SplitAt, Shares, texts_share, drop_before, drop_size}
 use Rattle.yaml_laws.proofs.PlainLaw.{marked, dash, marks_end, mark_of, mark_made}

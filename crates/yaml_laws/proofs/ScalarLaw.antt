@@ -4,7 +4,7 @@ use Rattle.std.specs.Prelude.{nat_eq, nat_lt, ◌||◌, ◌&&◌, not, slice_ind
 use Rattle.std.proofs.lemmas.Bool.Decides.{nat_tests}
 use Rattle.yaml_scalars.specs.declared.scalar.Setting.{Setting}
 use Rattle.yaml_scalars.specs.Lines.{Line, Stands, Fails, begins_with, lines}
-use Rattle.yaml_scalars.specs.Walk.{line_at, has_break, behind}
+use Rattle.yaml_scalars.specs.code.Walk.{line_at, has_break, behind}
 use Rattle.yaml_scalars.specs.Plain.{plain_on}
 use Rattle.yaml_scalars.specs.Scalar.{begins_order_mark, is_first_column, begins_quoted, begins_block, plain_scalar, quoted_scalar, block_scalar, scalar_at}
 use Rattle.yaml_scalars.proofs.Places.{lines_are}

@@ -4,12 +4,12 @@ use Rattle.std.specs.Prelude.{nat_eq, ◌||◌, ◌&&◌}
 use Rattle.std.proofs.lemmas.Bool.Decides.{nat_tests}
 use Rattle.yaml_scalars.specs.declared.scalar.Setting.{Setting}
 use Rattle.yaml_scalars.specs.Lines.{Fails, begins_with, ends_with, each, lines}
-use Rattle.yaml_scalars.specs.Walk.{line_at, has_break, behind}
+use Rattle.yaml_scalars.specs.code.Walk.{line_at, has_break, behind}
 use Rattle.yaml_scalars.specs.Plain.{plain_on}
 use Rattle.yaml_scalars.specs.Quoted.{quoted_on}
 use Rattle.yaml_scalars.specs.Block.{block_on}
 use Rattle.yaml_scalars.specs.Scalar.{is_first_column, begins_quoted, begins_block, plain_scalar, quoted_scalar, block_scalar, scalar_at}
-use Rattle.yaml_laws.specs.Refusals.{is_ascii, IsShort}
+use Rattle.yaml_laws.specs.code.Refusals.{is_ascii, IsShort}
 use Rattle.yaml_scalars.proofs.Places.{lines_are}
 use Rattle.yaml_laws.proofs.Agree.{drop_before, drop_size}
 use Rattle.yaml_laws.proofs.Longer.{glue, rest_of, ended, cut, no_feed, IsRest, Ends, lines_more, lines_ended, lines_end, IsScalar}

@@ -3,8 +3,8 @@ use Rattle.std.proofs.Common.{◌≡◌, ℕ, ◌+◌, ◌≤◌, Bool, true, fa
 use Rattle.std.specs.Prelude.{nat_eq}
 use Rattle.yaml_scalars.specs.declared.scalar.Setting.{Setting}
 use Rattle.yaml_scalars.specs.Lines.{Stands, lines}
-use Rattle.yaml_laws.specs.Agreement.{end_shown, plain_shown, scalar_shown}
-use Rattle.yaml_scalars.specs.Walk.{line_at}
+use Rattle.yaml_laws.specs.code.Agreement.{end_shown, plain_shown, scalar_shown}
+use Rattle.yaml_scalars.specs.code.Walk.{line_at}
 use Rattle.yaml_scalars.specs.Scalar.{begins_quoted, begins_block, plain_scalar, quoted_scalar, block_scalar, scalar_at}
 use Rattle.yaml_laws.proofs.BlockStays.{block_stays}
 use Rattle.yaml_laws.proofs.PlainLines.{plain_stay}

@@ -6,7 +6,7 @@ use Rattle.std.proofs.lemmas.List.{take-append-drop}
 use Rattle.yaml_scalars.specs.declared.scalar.Setting.{Setting}
 use Rattle.yaml_scalars.specs.Lines.{Fails}
 use Rattle.yaml_scalars.specs.Scalar.{scalar_at}
-use Rattle.yaml_laws.specs.Refusals.{IsShort, IsSyntax}
+use Rattle.yaml_laws.specs.code.Refusals.{IsShort, IsSyntax}
 use Rattle.yaml_laws.proofs.ScalarLaw.{scalar_lower, scalar_upper, scalar_dead}
 use Rattle.yaml_laws.proofs.ScalarLonger.{scalar_short}
 

@@ -1,4 +1,1 @@
-pub mod Agreement
-pub mod AheadSeen
-pub mod Digits
-pub mod Refusals
+pub mod code

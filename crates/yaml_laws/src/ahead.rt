@@ -2,8 +2,8 @@
 ghost use Rattle.std.specs.Prelude.{ℕ, List, ◌≡◌, ◌≤◌, drop, false};
 ghost use Rattle.yaml_scalars.specs.Lines.{begins_with};
 ghost use Rattle.yaml_blocks.specs.Ahead.{ahead};
-ghost use Rattle.yaml_laws.specs.Agreement.{AgreesTo};
-ghost use Rattle.yaml_laws.specs.AheadSeen.{ahead_seen};
+ghost use Rattle.yaml_laws.specs.code.Agreement.{AgreesTo};
+ghost use Rattle.yaml_laws.specs.code.AheadSeen.{ahead_seen};
 
 /// What a place has ahead is the same in another text that agrees with this one through the byte that shows it, unless
 /// that byte is a carriage return, behind which a line feed may stand or not. The call itself does nothing.

@@ -2,7 +2,7 @@
 ghost use Rattle.std.specs.Prelude.{ℕ, List, ◌≡◌, ◌<◌, ◌≤◌, Some, true};
 ghost use Rattle.yaml_scalars.specs.declared.escape.Wanted.{Wanted};
 ghost use Rattle.yaml_scalars.specs.Quoted.{Number, may_go_on, digits};
-ghost use Rattle.yaml_laws.specs.Digits.{spelled, longest};
+ghost use Rattle.yaml_laws.specs.code.Digits.{spelled, longest};
 
 /// Digits are read exactly where they spell a number that is wanted: none of them is refused for what the number may still
 /// become. The call itself does nothing.

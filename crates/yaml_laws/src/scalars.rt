@@ -2,8 +2,8 @@
 ghost use Rattle.std.specs.Prelude.{ℕ, List, ◌≡◌, ◌<◌, ◌≤◌, length, drop, false};
 ghost use Rattle.yaml_scalars.specs.Lines.{Fails, Stands, begins_with};
 ghost use Rattle.yaml_scalars.specs.Scalar.{scalar_at};
-ghost use Rattle.yaml_laws.specs.Agreement.{AgreesTo, scalar_shown};
-ghost use Rattle.yaml_laws.specs.Refusals.{IsSyntax};
+ghost use Rattle.yaml_laws.specs.code.Agreement.{AgreesTo, scalar_shown};
+ghost use Rattle.yaml_laws.specs.code.Refusals.{IsSyntax};
 
 use yaml_scalars::Setting;
 

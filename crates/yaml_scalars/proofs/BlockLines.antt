@@ -7,9 +7,9 @@ use Rattle.std.proofs.lemmas.List.{get_or-drop, drop_all, take_all}
 use Rattle.std.specs.Str.{IsCharBoundary, IsUtf8}
 use Rattle.std.proofs.lemmas.Str.{IsCharBoundary-end, IsCharBoundary-before_ascii, IsCharBoundary-after_ascii}
 use Rattle.yaml_scalars.specs.Lines.{begins_with, begins_break, is_white, is_space, is_blank, is_mark, lead, indent, lines}
-use Rattle.yaml_scalars.specs.Walk.{line_at, behind}
+use Rattle.yaml_scalars.specs.code.Walk.{line_at, behind}
 use Rattle.yaml_scalars.specs.Block.{return_behind, header_fault, is_content, taken_off, same, mark_len, may_end, shown, Nothing, Wide, Indented, inner_of, widest, Last, joint}
-use Rattle.yaml_scalars.specs.BlockSteps.{text_more}
+use Rattle.yaml_scalars.specs.code.BlockSteps.{text_more}
 use Rattle.yaml_scalars.proofs.Places.{lines_are, line_front, line_fits, lead_le}
 use Rattle.yaml_scalars.proofs.LineParts.{part_is, line_get, lead_byte}
 

@@ -5,8 +5,8 @@ use Rattle.std.proofs.lemmas.Bool.Decides.{nat_tests}
 use Rattle.yaml_scalars.specs.declared.header.Header.{Header as Head}
 use Rattle.yaml_scalars.specs.Lines.{Line, Fails, begins_with, lines}
 use Rattle.yaml_scalars.specs.Block.{Header, header, header_fault, by_digit, block_on}
-use Rattle.yaml_scalars.specs.Walk.{line_at, has_break, behind}
-use Rattle.yaml_scalars.specs.BlockSteps.{chomp_seen, header_seen}
+use Rattle.yaml_scalars.specs.code.Walk.{line_at, has_break, behind}
+use Rattle.yaml_scalars.specs.code.BlockSteps.{chomp_seen, header_seen}
 use Rattle.yaml_scalars.proofs.Places.{lines_are}
 use Rattle.yaml_scalars.proofs.BlockLines.{moved, fault_from}
 

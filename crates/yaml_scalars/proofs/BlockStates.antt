@@ -4,8 +4,8 @@ use Rattle.yaml_scalars.specs.declared.header.Chomp.{Chomp as Chomping}
 use Rattle.yaml_scalars.specs.declared.block.Style.{Style}
 use Rattle.yaml_scalars.specs.Lines.{Line, Outcome, Stands, Fails, is_blank, indent, lines}
 use Rattle.yaml_scalars.specs.Block.{Chomp, Last, is_content, return_behind, taken_off, ending, count_break, content_more, blank_more, Nothing, inner_of, widest}
-use Rattle.yaml_scalars.specs.Walk.{line_at, has_break, behind}
-use Rattle.yaml_scalars.specs.BlockSteps.{chomp_seen, content_from, blank_from, text_more, last_more, count_more}
+use Rattle.yaml_scalars.specs.code.Walk.{line_at, has_break, behind}
+use Rattle.yaml_scalars.specs.code.BlockSteps.{chomp_seen, content_from, blank_from, text_more, last_more, count_more}
 use Rattle.yaml_scalars.proofs.Places.{lines_are}
 use Rattle.yaml_scalars.proofs.BlockLines.{moved, return_from, inner_blank}
 

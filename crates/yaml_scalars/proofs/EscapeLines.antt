@@ -5,7 +5,7 @@ use Rattle.std.proofs.lemmas.Bool.Decides.{nat_tests}
 use Rattle.yaml_scalars.specs.declared.escape.Wanted.{Wanted}
 use Rattle.yaml_scalars.specs.declared.escape.Wanted.TheVariants.{Character, FirstUnit, SecondUnit}
 use Rattle.yaml_scalars.specs.Lines.{begins_with, begins_break}
-use Rattle.yaml_scalars.specs.Walk.{line_at}
+use Rattle.yaml_scalars.specs.code.Walk.{line_at}
 use Rattle.yaml_scalars.specs.Quoted.{Piece, Digits, Number, Short, Means, Returns, Wrong, is_hex, hex, is_high, may_go_on, digits, of_digits, of_low, of_pair, of_unit, letter, of_letter, escape}
 use Rattle.yaml_scalars.proofs.Places.{line_drop}
 

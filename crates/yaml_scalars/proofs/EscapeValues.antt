@@ -6,7 +6,7 @@ use Rattle.std.proofs.lemmas.List.{drop-drop}
 use Rattle.yaml_scalars.specs.declared.escape.Meaning.{Meaning}
 use Rattle.yaml_scalars.specs.declared.escape.Wanted.TheVariants.{FirstUnit, SecondUnit}
 use Rattle.yaml_scalars.specs.Quoted.{Piece, Means, Number, is_high, is_low, is_character, digits, of_low, of_pair, of_unit, escape}
-use Rattle.yaml_scalars.specs.QuotedSteps.{IsMeaning}
+use Rattle.yaml_scalars.specs.code.QuotedSteps.{IsMeaning}
 use Rattle.yaml_scalars.proofs.EscapeDigits.{ahead}
 
 -- a meaning of a piece is one of an equal piece

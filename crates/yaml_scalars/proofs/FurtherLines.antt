@@ -11,9 +11,9 @@ use Rattle.yaml_scalars.specs.declared.plain_line.Why.TheVariants.{Break, Return
 use Rattle.yaml_scalars.specs.declared.plain_line.Below.{Below}
 use Rattle.yaml_scalars.specs.declared.plain_line.Below.TheVariants.{Blank, Outside, Further}
 use Rattle.yaml_scalars.specs.Lines.{Stands, Fails, begins_with, is_white, is_space, is_blank, is_mark, ends_with, lead, indent, past_white, lines, trimmed}
-use Rattle.yaml_scalars.specs.Walk.{line_at, behind}
+use Rattle.yaml_scalars.specs.code.Walk.{line_at, behind}
 use Rattle.yaml_scalars.specs.Plain.{above_of, stops, plain_len, content, why, reason, content_at, inside, below, joined, content_end, ends_on, stop_behind, return_shown, joins, further, more}
-use Rattle.yaml_scalars.specs.PlainSteps.{from, rest, EndsAtOnce, LiesBehind}
+use Rattle.yaml_scalars.specs.code.PlainSteps.{from, rest, EndsAtOnce, LiesBehind}
 use Rattle.yaml_scalars.proofs.Places.{lines_are, line_front, behind_drop, lead_le}
 use Rattle.yaml_scalars.proofs.LineParts.{part_is, line_get, lead_byte}
 

@@ -3,7 +3,7 @@ use Rattle.std.proofs.Common.{◌≡◌, ℕ, zero, suc, ◌+◌, ◌-◌, ◌<�
 use Rattle.std.specs.Prelude.{◌&&◌}
 use Rattle.std.proofs.lemmas.List.{drop-drop}
 use Rattle.yaml_scalars.specs.Lines.{begins_break, begins_with, is_mark, is_cut_mark, is_end, lead}
-use Rattle.yaml_scalars.specs.Walk.{begins_mark, line_at}
+use Rattle.yaml_scalars.specs.code.Walk.{begins_mark, line_at}
 use Rattle.yaml_scalars.proofs.Places.{line_drop, line_fits, mark_three, mark_parts, cut_parts}
 
 -- the rest of a line is the line of the place

@@ -2,7 +2,7 @@
 use Rattle.std.proofs.Common.{◌≡◌, ℕ, zero, suc, ◌+◌, ◌-◌, ◌<◌, ◌≤◌, Bool, true, false, List, [], ◌∷◌, length, take, drop, refl, sym, ap, ◌∙◌, arith, cond, length-drop}
 use Rattle.std.specs.Prelude.{nat_eq, ◌||◌, ◌&&◌}
 use Rattle.yaml_scalars.specs.Lines.{begins_with, begins_break, put, begun, lines, is_mark, is_cut_mark, is_end, lead}
-use Rattle.yaml_scalars.specs.Walk.{begins_mark, line_at, has_break, behind}
+use Rattle.yaml_scalars.specs.code.Walk.{begins_mark, line_at, has_break, behind}
 
 both : (p q : Bool) → (p && q) ≡ true → (p ≡ true) × (q ≡ true)
 both true true h = (refl, refl)

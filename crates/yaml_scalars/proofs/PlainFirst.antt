@@ -6,11 +6,11 @@ use Rattle.yaml_scalars.specs.declared.scalar.Setting.{Setting}
 use Rattle.yaml_scalars.specs.declared.plain_line.Why.{Why}
 use Rattle.yaml_scalars.specs.declared.plain_line.Why.TheVariants.{Break, Return, Colon, Comment, Mark}
 use Rattle.yaml_scalars.specs.Lines.{Outcome, Stands, Fails, is_white, is_mark, is_cut_mark, keep, trimmed}
-use Rattle.yaml_scalars.specs.Walk.{line_at, behind}
+use Rattle.yaml_scalars.specs.code.Walk.{line_at, behind}
 use Rattle.yaml_scalars.specs.Plain.{begins_plain, wrong_begin, stops, plain_len, content, content_end, why, reason, first, plain_on}
-use Rattle.yaml_scalars.specs.PlainSteps.{from}
+use Rattle.yaml_scalars.specs.code.PlainSteps.{from}
 use Rattle.yaml_scalars.specs.Scalar.{is_first_column, plain_scalar, IsEndOf}
-use Rattle.yaml_scalars.specs.Memory.{fills_line, is_break}
+use Rattle.yaml_scalars.specs.code.Memory.{fills_line, is_break}
 use Rattle.yaml_scalars.proofs.Places.{lines_are}
 use Rattle.yaml_scalars.proofs.FurtherLines.{reason_is, stands_same}
 

@@ -9,7 +9,7 @@ use Rattle.yaml_scalars.specs.declared.quoted.Step.TheVariants as step
 use Rattle.yaml_scalars.specs.declared.scalar.ScalarRefusal.{ScalarRefusal}
 use Rattle.yaml_scalars.specs.declared.scalar.ScalarRefusal.TheVariants as refusal
 use Rattle.yaml_scalars.specs.Lines.{Outcome, is_white}
-use Rattle.yaml_scalars.specs.QuotedSteps.{is_special, IsRefused, GoesOn, Steps}
+use Rattle.yaml_scalars.specs.code.QuotedSteps.{is_special, IsRefused, GoesOn, Steps}
 use Rattle.yaml_scalars.specs.Scalar.{Answers}
 
 refused_so : (o p : Outcome) (e : ScalarRefusal) → o ≡ p → IsRefused p e → IsRefused o e

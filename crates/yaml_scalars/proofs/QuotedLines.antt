@@ -5,8 +5,8 @@ use Rattle.std.proofs.lemmas.Bool.Decides.{nat_tests}
 use Rattle.std.proofs.lemmas.List.{drop-drop, get_or-drop}
 use Rattle.yaml_scalars.specs.Lines.{Outcome, Fails, Documents, begins_with, is_white, is_blank, is_mark, is_cut_mark, is_end, lead, past_white, each, lines}
 use Rattle.yaml_scalars.specs.Quoted.{line_part, behind_part, quoted_more, gap}
-use Rattle.yaml_scalars.specs.QuotedSteps.{from, past, below, lines_below}
-use Rattle.yaml_scalars.specs.Walk.{line_at, has_break, behind}
+use Rattle.yaml_scalars.specs.code.QuotedSteps.{from, past, below, lines_below}
+use Rattle.yaml_scalars.specs.code.Walk.{line_at, has_break, behind}
 use Rattle.yaml_scalars.proofs.Places.{lines_are, line_drop, behind_drop, lead_le}
 
 -- a text without a break is its line

@@ -6,8 +6,8 @@ use Rattle.std.proofs.Math.Seq.{take-append-add}
 use Rattle.std.proofs.lemmas.List.{append-nil, drop-drop, drop_all, get_or-drop}
 use Rattle.yaml_scalars.specs.Lines.{Stands, Fails, begins_with, begins_break, is_white, keep, trimmed, lines}
 use Rattle.yaml_scalars.specs.Quoted.{Piece, Itself, Closes, Means, Joins, Returns, Wrong, Closed, Open, Joined, Returned, Refused, escape, piece, add_piece, line_part, key_part, behind_part, quoted_more, quoted_on}
-use Rattle.yaml_scalars.specs.QuotedSteps.{is_special, comes_to, lines_below, from, past}
-use Rattle.yaml_scalars.specs.Walk.{line_at, has_break, behind}
+use Rattle.yaml_scalars.specs.code.QuotedSteps.{is_special, comes_to, lines_below, from, past}
+use Rattle.yaml_scalars.specs.code.Walk.{line_at, has_break, behind}
 use Rattle.yaml_scalars.specs.Scalar.{begins_quoted}
 use Rattle.yaml_scalars.proofs.EscapeDigits.{ahead}
 use Rattle.yaml_scalars.proofs.Places.{lines_are, line_drop, behind_drop}

@@ -7,7 +7,7 @@ use Rattle.doc_values.specs.Number.{is_digit, IsWholePart, IsNumber, minus_text,
 use Rattle.yaml_scalars.specs.Lines.{begins_with}
 use Rattle.doc_values.specs.declared.decimal.Num.TheVariants as num
 use Rattle.yaml_scalars.specs.Kinds.{IsSignedNumber, IsPlainKind}
-use Rattle.yaml_scalars.specs.KindSteps.{kind_of}
+use Rattle.yaml_scalars.specs.code.KindSteps.{kind_of}
 
 head_of : List ℕ → ℕ
 head_of [] = 0

@@ -4,9 +4,4 @@ pub mod Quoted
 pub mod Block
 pub mod Kinds
 pub mod Scalar
-pub mod Walk
-pub mod BlockSteps
-pub mod QuotedSteps
-pub mod KindSteps
-pub mod PlainSteps
-pub mod Memory
+pub mod code

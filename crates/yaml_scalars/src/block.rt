@@ -5,8 +5,8 @@ ghost use Rattle.std.specs.Cow.{cow_str_bytes};
 ghost use Rattle.yaml_scalars.specs.Lines.{is_blank, lines};
 ghost use Rattle.yaml_scalars.specs.Block.{is_content, taken_off, joint, ending, inner_of, widest, mark_len, may_end, shown, base_of, by_digit};
 ghost use Rattle.yaml_scalars.specs.Plain.{above_of};
-ghost use Rattle.yaml_scalars.specs.Walk.{line_at, has_break, behind};
-ghost use Rattle.yaml_scalars.specs.BlockSteps.{chomp_seen, last_seen, inner_seen, wide_at, content_from, blank_from, text_more, last_more, count_more};
+ghost use Rattle.yaml_scalars.specs.code.Walk.{line_at, has_break, behind};
+ghost use Rattle.yaml_scalars.specs.code.BlockSteps.{chomp_seen, last_seen, inner_seen, wide_at, content_from, blank_from, text_more, last_more, count_more};
 ghost use Rattle.yaml_scalars.specs.Scalar.{IsEndOf, Answers, block_scalar};
 
 use crate::header::{Chomp, Header, header_at, header_fault, return_behind};

@@ -1,8 +1,8 @@
 //! Escapes in double quotes.
 ghost use Rattle.std.specs.Prelude.{ℕ, ◌≡◌, ◌+◌, ◌-◌, ◌*◌, ◌^◌, ◌<◌, ◌≤◌, ◌⊎◌, length, drop, slice_index, true, false, Some, None, IfSome, MatchResult};
 ghost use Rattle.yaml_scalars.specs.Quoted.{is_hex, hex, digits, Number, Short, is_high, is_low, is_character, least, greatest, may_go_on, of_digits, of_low, of_pair, of_unit, letter, escape};
-ghost use Rattle.yaml_scalars.specs.QuotedSteps.{IsMeaning, Ends};
-ghost use Rattle.yaml_scalars.specs.Walk.{line_at};
+ghost use Rattle.yaml_scalars.specs.code.QuotedSteps.{IsMeaning, Ends};
+ghost use Rattle.yaml_scalars.specs.code.Walk.{line_at};
 
 use crate::lines::ends_line;
 

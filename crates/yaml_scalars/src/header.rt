@@ -1,8 +1,8 @@
 //! Headers of block scalars: a digit and a sign behind the indicator, white space and a comment.
 ghost use Rattle.std.specs.Prelude.{ℕ, ◌≡◌, ◌+◌, ◌<◌, ◌≤◌, length, drop, true, false, None, MatchOption};
 ghost use Rattle.yaml_scalars.specs.Block.{with_sign, with_digit, begins_digit, header, return_behind, header_fault};
-ghost use Rattle.yaml_scalars.specs.Walk.{line_at};
-ghost use Rattle.yaml_scalars.specs.BlockSteps.{header_seen};
+ghost use Rattle.yaml_scalars.specs.code.Walk.{line_at};
+ghost use Rattle.yaml_scalars.specs.code.BlockSteps.{header_seen};
 
 use crate::lines::ends_line;
 

@@ -4,7 +4,7 @@ ghost use Rattle.doc_values.specs.declared.decimal.Num.{Num};
 ghost use Rattle.doc_values.specs.declared.kind.Kind.{Kind};
 ghost use Rattle.yaml_scalars.specs.Lines.{begins_with};
 ghost use Rattle.yaml_scalars.specs.Kinds.{IsSignedNumber, IsPlainKind};
-ghost use Rattle.yaml_scalars.specs.KindSteps.{IsNoWord, kind_of, IsOfWord};
+ghost use Rattle.yaml_scalars.specs.code.KindSteps.{IsNoWord, kind_of, IsOfWord};
 
 use doc_values::{Kind, Num, read_number};
 

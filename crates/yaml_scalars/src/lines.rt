@@ -3,7 +3,7 @@
 ghost use Rattle.std.specs.Prelude.{ℕ, ◌≡◌, ◌+◌, ◌<◌, ◌≤◌, ◌∷◌, [], ◌++◌, ◌-◌, length, drop, slice_index, true, false, IfOk, MatchOption, string_bytes};
 ghost use Rattle.yaml_scalars.specs.Lines.{begins_with, is_space, is_white, lead, is_blank, is_end, is_mark, is_cut_mark, newlines, fold, lines};
 ghost use Rattle.yaml_scalars.specs.Scalar.{begins_order_mark, is_first_column};
-ghost use Rattle.yaml_scalars.specs.Walk.{ends_line, begins_mark, line_at, has_break, behind};
+ghost use Rattle.yaml_scalars.specs.code.Walk.{ends_line, begins_mark, line_at, has_break, behind};
 
 use std::alloc::AllocError;
 

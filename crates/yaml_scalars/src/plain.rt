@@ -3,11 +3,11 @@ ghost use Rattle.std.specs.Prelude.{ℕ, List, ◌≡◌, ◌+◌, ◌-◌, ◌<
 ghost use Rattle.std.specs.Str.{IsCharBoundary};
 ghost use Rattle.std.specs.Cow.{cow_str_bytes};
 ghost use Rattle.yaml_scalars.specs.Lines.{Stands, is_mark, is_cut_mark};
-ghost use Rattle.yaml_scalars.specs.Walk.{line_at};
+ghost use Rattle.yaml_scalars.specs.code.Walk.{line_at};
 ghost use Rattle.yaml_scalars.specs.Plain.{plain_len, joined, content_end, ends_on};
-ghost use Rattle.yaml_scalars.specs.PlainSteps.{from, rest, LiesBehind, IsRefusal};
+ghost use Rattle.yaml_scalars.specs.code.PlainSteps.{from, rest, LiesBehind, IsRefusal};
 ghost use Rattle.yaml_scalars.specs.Scalar.{IsEndOf, Answers, HasKind, is_first_column, plain_scalar};
-ghost use Rattle.yaml_scalars.specs.Memory.{fills_line};
+ghost use Rattle.yaml_scalars.specs.code.Memory.{fills_line};
 
 use crate::kind::plain_kind;
 use crate::lines::{is_cut_mark, is_first_column, is_mark, next_line, push_fold};

@@ -2,9 +2,9 @@
 ghost use Rattle.std.specs.Prelude.{ℕ, ◌≡◌, ◌+◌, ◌-◌, ◌<◌, ◌≤◌, ◌||◌, length, take, drop, slice_index, true, false, not};
 ghost use Rattle.std.specs.Str.{IsCharBoundary};
 ghost use Rattle.yaml_scalars.specs.Lines.{begins_with, indent, lead, is_white, trimmed};
-ghost use Rattle.yaml_scalars.specs.Walk.{line_at};
+ghost use Rattle.yaml_scalars.specs.code.Walk.{line_at};
 ghost use Rattle.yaml_scalars.specs.Plain.{is_flow_mark, is_indicator, is_doubtful, is_unsafe, begins_plain, wrong_begin, plain_len, why, return_shown, content_at, below, above_of};
-ghost use Rattle.yaml_scalars.specs.PlainSteps.{stops_at, EndsAtOnce};
+ghost use Rattle.yaml_scalars.specs.code.PlainSteps.{stops_at, EndsAtOnce};
 
 use crate::lines::{ends_line, is_blank, is_mark, is_white, spaces, whites};
 use crate::scalar::Setting;

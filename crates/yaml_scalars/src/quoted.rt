@@ -1,11 +1,11 @@
 //! Quoted scalars.
 ghost use Rattle.std.specs.Prelude.{ℕ, Bool, List, ◌≡◌, ◌+◌, ◌-◌, ◌<◌, ◌≤◌, ◌≤ℤ◌, ◌⊎◌, ◌||◌, ◌&&◌, ◌++◌, ◌∷◌, [], suc, if◌then◌else◌, length, drop, slice_index, string_bytes, nat_lt, pos, negsuc, IfOk, true, false, not};
-ghost use Rattle.byte_lanes.specs.Members.{holds};
+ghost use Rattle.byte_lanes.specs.code.Members.{holds};
 ghost use Rattle.yaml_scalars.specs.Lines.{Outcome, is_mark};
 ghost use Rattle.yaml_scalars.specs.Quoted.{piece, Closes, gap};
-ghost use Rattle.yaml_scalars.specs.QuotedSteps.{IsMeaning, Ends, is_special, from, past, below, GoesOn, Steps, IsRead};
+ghost use Rattle.yaml_scalars.specs.code.QuotedSteps.{IsMeaning, Ends, is_special, from, past, below, GoesOn, Steps, IsRead};
 ghost use Rattle.yaml_scalars.specs.Scalar.{IsEndOf, Answers, begins_quoted, quoted_scalar};
-ghost use Rattle.yaml_scalars.specs.Walk.{line_at, has_break};
+ghost use Rattle.yaml_scalars.specs.code.Walk.{line_at, has_break};
 
 use crate::escape::{Meaning, escape_at};
 use crate::lines::{

@@ -2,7 +2,7 @@
 ghost use Rattle.std.specs.Prelude.{◌≡◌, ◌⊎◌, ◌<◌, ◌≤◌, ◌≤ℤ◌, length, drop, slice_index, true, pos, negsuc, IfOk, IsErrOf};
 ghost use Rattle.std.specs.Str.{IsCharBoundary};
 ghost use Rattle.yaml_scalars.specs.Scalar.{IsEndOf, Answers, begins_quoted, begins_block, scalar_at, is_typed};
-ghost use Rattle.yaml_scalars.specs.Memory.{may_take};
+ghost use Rattle.yaml_scalars.specs.code.Memory.{may_take};
 
 use crate::block::read_block;
 use crate::plain::read_plain;

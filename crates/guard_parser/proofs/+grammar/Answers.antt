@@ -1,11 +1,11 @@
 use Rattle.guard_parser.proofs.CodeSteps.{then_read, saw, one_more, let_turn, part_turn, one_turn, deeper}
 use Rattle.guard_parser.proofs.Filled.{stopped, then_fail, filled}
 use Rattle.literal_parser.specs.Forms.{begins_part, is_let, is_neg, is_some_word, is_or, begins_cond, is_comma, begins_step}
-use Rattle.literal_parser.specs.Parser.{Fail, stop, Outcome}
-use Rattle.guard_parser.specs.Reading.{body_items, body_of, body_end, cond_of, ors, disjs, more_exprs_of, steps, inners}
-use Rattle.literal_parser.specs.Reads.{state_of, source, Reads}
-use Rattle.guard_parser.specs.GrammarReads.{with_items, body_items_at, see_items, let_at, disj_at, body_end_at, body_at, cond_at, led_at, with_front, ors_at, disjs_at, more_exprs_at, steps_at, see_exprs}
-use Rattle.guard_syntax.specs.Seen.{see_disj, see_let, see_body, see_part, see_expr, see_step, see_conds}
+use Rattle.literal_parser.specs.code.Parser.{Fail, stop, Outcome}
+use Rattle.guard_parser.specs.code.Reading.{body_items, body_of, body_end, cond_of, ors, disjs, more_exprs_of, steps, inners}
+use Rattle.literal_parser.specs.code.Reads.{state_of, source, Reads}
+use Rattle.guard_parser.specs.code.GrammarReads.{with_items, body_items_at, see_items, let_at, disj_at, body_end_at, body_at, cond_at, led_at, with_front, ors_at, disjs_at, more_exprs_at, steps_at, see_exprs}
+use Rattle.guard_syntax.specs.code.Seen.{see_disj, see_let, see_body, see_part, see_expr, see_step, see_conds}
 use Rattle.guard_syntax.specs.Syntax as sx
 use Rattle.std.proofs.Common.{◌≡◌, ℕ, ◌-◌, ◌+◌, ◌*◌, ◌<◌, true≢false, true, map, refl, ap, sym, ◌∙◌, subst, Bool, cond, length, ◌≢◌, arith, false}
 use Rattle.std.proofs.lemmas.List.{map-append}

@@ -1,6 +1,6 @@
-use Rattle.literal_parser.specs.Reads.{state_of}
-use Rattle.guard_parser.specs.GrammarReads.{with_items, body_items_at, ors_front_at, disjs_front_at, more_exprs_front_at, steps_front_at}
-use Rattle.guard_syntax.specs.Seen.{see_disj, see_let, see_part, see_expr, see_step}
+use Rattle.literal_parser.specs.code.Reads.{state_of}
+use Rattle.guard_parser.specs.code.GrammarReads.{with_items, body_items_at, ors_front_at, disjs_front_at, more_exprs_front_at, steps_front_at}
+use Rattle.guard_syntax.specs.code.Seen.{see_disj, see_let, see_part, see_expr, see_step}
 use Rattle.std.proofs.Common.{◌≡◌, ℕ, Bool, cond, map, ◌-◌, ◌+◌, ◌*◌}
 use Rattle.guard_parser.proofs.+grammar.Given as goal
 

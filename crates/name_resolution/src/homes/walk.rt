@@ -1,6 +1,6 @@
 //! The scope in which each part of a rule file stands, noted at the part's site. `home` is the site of the scope around.
 ghost use Rattle.std.specs.Prelude.{◌≡◌, map};
-ghost use Rattle.guard_syntax.specs.Seen.{see_file, see_let, see_rule, see_body, see_conds, see_opt_conds, see_disj, see_part, see_query, see_step, see_expr, see_opt_expr, let_list, disj_list, part_list, expr_list};
+ghost use Rattle.guard_syntax.specs.code.Seen.{see_file, see_let, see_rule, see_body, see_conds, see_opt_conds, see_disj, see_part, see_query, see_step, see_expr, see_opt_expr, let_list, disj_list, part_list, expr_list};
 ghost use Rattle.rule_names.specs.EnclosingScopes.{with_home, with_homes, homes_in, homes_rules, homes_body, homes_lets, homes_conds, homes_opt_conds, homes_disjs, homes_parts, homes_part, homes_query, homes_step, homes_expr, homes_opt_expr, homes_exprs};
 
 use guard_syntax::{Body, Conds, Disj, Expr, Let, Part, Query, RawFile, Rule, Step, StepForm};

@@ -1,9 +1,9 @@
 //! What a walk over the uses of names has to know of the whole file.
 ghost use Rattle.std.specs.Prelude.{◌≡◌, IfOk};
-ghost use Rattle.guard_syntax.specs.Seen.{see_file};
+ghost use Rattle.guard_syntax.specs.code.Seen.{see_file};
 ghost use Rattle.rule_names.specs.Resolution.{value_in};
 ghost use Rattle.rule_names.specs.Pieces.{piece_at, AreInOrder};
-ghost use Rattle.name_scopes.specs.RuleSites.{AreRuleSites, site_named};
+ghost use Rattle.name_scopes.specs.code.RuleSites.{AreRuleSites, site_named};
 
 use guard_syntax::RawFile;
 use name_scopes::rule_sites::sites_of;

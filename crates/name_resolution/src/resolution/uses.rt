@@ -1,8 +1,8 @@
 //! What the use of a name means.
 ghost use Rattle.std.specs.Prelude.{◌≡◌, ◌++◌, IfOk};
 ghost use Rattle.rule_names.specs.Resolution.{bind_to, link_rule, link_variable, meant_in};
-ghost use Rattle.name_scopes.specs.ScopeChains.{scopes_in};
-ghost use Rattle.name_resolution.specs.Sources.{file_in};
+ghost use Rattle.name_scopes.specs.code.ScopeChains.{scopes_in};
+ghost use Rattle.name_resolution.specs.code.Sources.{file_in};
 ghost use Rattle.rule_names.specs.Uses.{rule_named};
 
 use crate::resolution::sources::Sources;

@@ -1,10 +1,10 @@
 //! What the uses in each part of a rule file mean, in the order in which the parts stand.
 ghost use Rattle.std.specs.Prelude.{◌≡◌, ◌++◌, ◌∷◌, IfOk, map};
-ghost use Rattle.guard_syntax.specs.Seen.{see_let, see_rule, see_body, see_conds, see_opt_conds, see_disj, see_part, see_query, see_step, see_expr, see_opt_expr, let_list, disj_list, part_list, step_list, expr_list};
+ghost use Rattle.guard_syntax.specs.code.Seen.{see_let, see_rule, see_body, see_conds, see_opt_conds, see_disj, see_part, see_query, see_step, see_expr, see_opt_expr, let_list, disj_list, part_list, step_list, expr_list};
 ghost use Rattle.rule_names.specs.Resolution.{links_rules, links_rule, links_body, links_lets, links_let, links_conds, links_opt_conds, links_disjs, links_disj, links_parts, links_part, links_query, links_steps, links_step, links_expr, links_opt_expr, links_exprs};
-ghost use Rattle.name_scopes.specs.ScopeChains.{scopes_in};
+ghost use Rattle.name_scopes.specs.code.ScopeChains.{scopes_in};
 ghost use Rattle.rule_names.specs.Scopes.{given_conds};
-ghost use Rattle.name_resolution.specs.Sources.{file_in};
+ghost use Rattle.name_resolution.specs.code.Sources.{file_in};
 
 use crate::resolution::sources::Sources;
 use crate::resolution::uses::{Linked, link_rule, link_variable};

@@ -6,7 +6,7 @@ use Rattle.std.proofs.lemmas.List.Folds.{list_all-append}
 use Rattle.std.proofs.lemmas.Result.{IfOk-weaker}
 use Rattle.std.specs.List.{list_all, flat_map}
 use Rattle.std.specs.Prelude.{IfOk}
-use Rattle.guard_syntax.specs.Seen.{see_query, see_step, see_body, see_rule, see_conds, see_opt_conds, see_expr, see_part, see_opt_expr, expr_list, step_list}
+use Rattle.guard_syntax.specs.code.Seen.{see_query, see_step, see_body, see_rule, see_conds, see_opt_conds, see_expr, see_part, see_opt_expr, expr_list, step_list}
 use Rattle.guard_syntax.specs.Syntax as syntax
 use Rattle.guard_syntax.specs.declared.function.Function.{Function}
 use Rattle.guard_syntax.specs.declared.row.Ref.{Ref}
@@ -23,7 +23,7 @@ use Rattle.rule_names.proofs.Arguments.{named-none, named-some}
 use Rattle.rule_meaning.specs.Functions.{argument}
 use Rattle.rule_meaning.specs.StoreModel.{is_known, is_known_ref}
 use Rattle.rule_meaning.specs.Roots.{literal_ref, root_ref}
-use Rattle.rule_meaning.specs.StoreEnvironments as scopes
+use Rattle.rule_meaning.specs.code.StoreEnvironments as scopes
 use Rattle.rule_meaning.specs.Environments.{Environment, Inner, Called, current_of}
 use Rattle.rule_meaning.specs.FunctionMeaning.{IsAnswering}
 use Rattle.rule_meaning.specs.Meaning.{answered, rows_from, rows_at, rows_of_args, rows_of_expr, body_verdict, opt_conds_verdict, conds_verdict, rows_of_side}
@@ -36,10 +36,10 @@ use Rattle.rule_meaning.specs.Kinds.{rows_of_type}
 use Rattle.rule_meaning.specs.StepMeaning as location
 use Rattle.query_steps.proofs.SeenScopes.{current-seen, outwards-seen}
 use Rattle.query_steps.proofs.SeenVerdicts.{sets-seen, tests-seen}
-use Rattle.guard_builtins.specs.Seen.{see_made, see_rows}
-use Rattle.plain_evaluator.specs.Seen.{see_env}
-use Rattle.plain_evaluator.specs.Sound.{IsSound}
-use Rattle.plain_evaluator.specs.States.{are_known, see, see_location_in, see_trees, seen_rows, locations}
+use Rattle.guard_builtins.specs.code.Seen.{see_made, see_rows}
+use Rattle.plain_evaluator.specs.code.Seen.{see_env}
+use Rattle.plain_evaluator.specs.code.Sound.{IsSound}
+use Rattle.plain_evaluator.specs.code.States.{are_known, see, see_location_in, see_trees, seen_rows, locations}
 use Rattle.plain_evaluator.proofs.Conjoined.{mapped-more, conjunction-next, disjunction-next, mapped-through, passes-at}
 use Rattle.rule_names.proofs.FittingCalls.{arguments-counted}
 use Rattle.plain_evaluator.proofs.CalledRows.{many-args, literal-argument}

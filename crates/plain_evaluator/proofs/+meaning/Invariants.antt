@@ -1,8 +1,8 @@
 use Rattle.std.proofs.Common.{◌≡◌, ◌++◌, suc, [], ◌∷◌, true, false, map, take}
 use Rattle.std.specs.List.{list_all}
-use Rattle.guard_syntax.specs.Seen.{see_query, see_form, see_expr, see_opt_expr, see_rule, see_disj, see_part, see_body, see_conds, see_opt_conds, disj_list, part_list, step_list, expr_list, see_step}
+use Rattle.guard_syntax.specs.code.Seen.{see_query, see_form, see_expr, see_opt_expr, see_rule, see_disj, see_part, see_body, see_conds, see_opt_conds, disj_list, part_list, step_list, expr_list, see_step}
 use Rattle.guard_syntax.specs.Syntax.{function}
-use Rattle.rule_names.specs.Forms.{pieces_form}
+use Rattle.rule_names.specs.code.Forms.{pieces_form}
 use Rattle.rule_names.specs.Pieces.{pieces_query, pieces_expr, pieces_opt_expr, pieces_exprs, pieces_rule, pieces_disjs, pieces_parts, pieces_part, pieces_body, pieces_conds, pieces_opt_conds}
 use Rattle.rule_meaning.specs.StoreModel.{is_known}
 use Rattle.rule_meaning.specs.Environments.{current_of}
@@ -10,8 +10,8 @@ use Rattle.rule_meaning.specs.Meaning.{rows_from}
 use Rattle.rule_meaning.specs.NameMeaning.{unfolded}
 use Rattle.rule_meaning.specs.Locations.{Found}
 use Rattle.rule_meaning.specs.Verdicts.{conjunction, disjunction}
-use Rattle.plain_evaluator.specs.Seen.{see_env}
-use Rattle.plain_evaluator.specs.States.{Answering, Grows, are_known, see, see_trees, seen_rows, locations, see_location_in}
+use Rattle.plain_evaluator.specs.code.Seen.{see_env}
+use Rattle.plain_evaluator.specs.code.States.{Answering, Grows, are_known, see, see_trees, seen_rows, locations, see_location_in}
 use Rattle.plain_evaluator.proofs.Ranks.{rank}
 use Rattle.plain_evaluator.proofs.RowsInTurn.{left_from, of_expr}
 use Rattle.plain_evaluator.proofs.Judged.{of_disj, of_part, of_row, of_conds}

@@ -1,6 +1,6 @@
 //! Edges from one node to the parts in it.
 ghost use Rattle.std.specs.Prelude.{◌≡◌, ◌++◌, ◌∷◌, [], IfOk, map};
-ghost use Rattle.guard_syntax.specs.Seen.{see_let, see_opt_conds, see_disj, see_part, see_step, see_expr, see_opt_expr, let_list, disj_list, part_list, step_list, expr_list};
+ghost use Rattle.guard_syntax.specs.code.Seen.{see_let, see_opt_conds, see_disj, see_part, see_step, see_expr, see_opt_expr, let_list, disj_list, part_list, step_list, expr_list};
 ghost use Rattle.rule_names.specs.ReferenceGraph.{to_each, to_last, value_sites, disj_sites, part_sites, expr_sites, opt_conds_site, opt_expr_site};
 
 use guard_syntax::{Conds, Disj, Expr, Let, Part, Step};

@@ -1,7 +1,7 @@
 //! What a walk over a file has to know of the whole file.
 ghost use Rattle.std.specs.Prelude.{◌≡◌, IfOk, map};
-ghost use Rattle.guard_syntax.specs.Seen.{see_rule};
-ghost use Rattle.name_scopes.specs.RuleSites.{AreRuleSites, site_named};
+ghost use Rattle.guard_syntax.specs.code.Seen.{see_rule};
+ghost use Rattle.name_scopes.specs.code.RuleSites.{AreRuleSites, site_named};
 ghost use Rattle.rule_names.specs.ReferenceGraph.{rule_node, variable_node};
 
 use guard_syntax::Rule;

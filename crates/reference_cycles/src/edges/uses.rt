@@ -1,7 +1,7 @@
 //! Edges from uses to the names that they mean, and from a capture to its step.
 ghost use Rattle.std.specs.Prelude.{◌≡◌, ◌++◌, IfOk};
-ghost use Rattle.reference_cycles.specs.RuleIndexes.{rules_of};
-ghost use Rattle.name_scopes.specs.ScopeChains.{visible_in};
+ghost use Rattle.reference_cycles.specs.code.RuleIndexes.{rules_of};
+ghost use Rattle.name_scopes.specs.code.ScopeChains.{visible_in};
 ghost use Rattle.rule_names.specs.Uses.{rule_named};
 ghost use Rattle.rule_names.specs.Scopes.{given_named};
 ghost use Rattle.rule_names.specs.ReferenceGraph.{from_capture, to_before, to_binder, to_rule, to_variable};

@@ -1,9 +1,9 @@
 //! The edges of each part of a rule file, in the order in which the parts stand.
 ghost use Rattle.std.specs.Prelude.{◌≡◌, ◌++◌, IfOk, None, map};
-ghost use Rattle.guard_syntax.specs.Seen.{see_let, see_rule, see_body, see_conds, see_opt_conds, see_disj, see_part, see_query, see_step, see_expr, see_opt_expr, let_list, disj_list, part_list, step_list, expr_list};
-ghost use Rattle.reference_cycles.specs.RuleIndexes.{rules_of};
-ghost use Rattle.reference_cycles.specs.FilterEdges.{edges_of_filter};
-ghost use Rattle.name_scopes.specs.ScopeChains.{visible_in};
+ghost use Rattle.guard_syntax.specs.code.Seen.{see_let, see_rule, see_body, see_conds, see_opt_conds, see_disj, see_part, see_query, see_step, see_expr, see_opt_expr, let_list, disj_list, part_list, step_list, expr_list};
+ghost use Rattle.reference_cycles.specs.code.RuleIndexes.{rules_of};
+ghost use Rattle.reference_cycles.specs.code.FilterEdges.{edges_of_filter};
+ghost use Rattle.name_scopes.specs.code.ScopeChains.{visible_in};
 ghost use Rattle.rule_names.specs.ReferenceGraph.{edges_of_rules, edges_of_rule, edges_of_body, edges_of_lets, edges_of_let, edges_of_conds, edges_of_opt_conds, edges_of_disjs, edges_of_disj, edges_of_parts, edges_of_part, edges_of_query, edges_of_steps, edges_of_step, edges_of_expr, edges_of_opt_expr, edges_of_exprs};
 
 use crate::edges::leads::{

@@ -1,5 +1,5 @@
 use Rattle.std.proofs.Common.{◌≡◌, ◌+◌, ◌++◌, ◌∷◌, [], ap, sym, ◌∙◌, arith}
-use Rattle.byte_lanes.specs.LineStarts.{after_newlines}
+use Rattle.byte_lanes.specs.code.LineStarts.{after_newlines}
 use Rattle.byte_lanes.proofs.Places.{after_newlines-add, after_newlines-hit, after_newlines-miss}
 use Rattle.byte_lanes.proofs.lines.line_starts.Goals.{then-bytes-at-eq10+in_ok-push-2, else-bytes-at-eq10}
 use Rattle.byte_lanes.proofs.lines.line_starts.Goals as goal

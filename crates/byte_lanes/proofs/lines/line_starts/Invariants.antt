@@ -1,5 +1,5 @@
 use Rattle.std.proofs.Common.{◌≡◌, ◌≤◌, ◌-◌, ◌∷◌, length}
-use Rattle.byte_lanes.specs.LineStarts.{after_newlines}
+use Rattle.byte_lanes.specs.code.LineStarts.{after_newlines}
 use Rattle.byte_lanes.proofs.lines.line_starts.Given as goal
 
 abbrev pub invariant-loop-at : goal.invariant-loop-at

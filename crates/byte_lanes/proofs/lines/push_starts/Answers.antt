@@ -4,7 +4,7 @@ use lib.Count.{count_trailing_zeros}
 use Rattle.std.proofs.lemmas.List.{append_assoc, append-nil}
 use Rattle.std.proofs.lemmas.Nat.{shr-shr}
 use Rattle.std.proofs.lemmas.Simd.{none_from_empty_mask}
-use Rattle.byte_lanes.specs.LineStarts.{after_newlines}
+use Rattle.byte_lanes.specs.code.LineStarts.{after_newlines}
 use Rattle.byte_lanes.proofs.Blocks.{range-chunk, hit_within, hit_before, hit_found}
 use Rattle.byte_lanes.proofs.Places.{after_newlines-next, after_newlines-rest, mask_of_rest}
 use Rattle.byte_lanes.proofs.lines.push_starts.Goals as goal

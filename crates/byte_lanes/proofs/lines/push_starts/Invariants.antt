@@ -1,5 +1,5 @@
 use Rattle.std.proofs.Common.{◌≡◌, ◌≤◌, ◌+◌, ◌-◌, ◌==◌, ◌++◌, map}
-use Rattle.byte_lanes.specs.LineStarts.{after_newlines}
+use Rattle.byte_lanes.specs.code.LineStarts.{after_newlines}
 use lib.Lanes.{chunk, mask_l}
 use Rattle.byte_lanes.proofs.lines.push_starts.Given as goal
 

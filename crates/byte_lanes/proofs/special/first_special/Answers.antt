@@ -1,7 +1,7 @@
 use Rattle.std.proofs.Common.{arith, inl, inr, ◌∙◌, sym}
 use Rattle.std.proofs.lemmas.Bool.{cases_lt}
 use Rattle.std.proofs.lemmas.Simd.{none_from_empty_mask}
-use Rattle.byte_lanes.specs.Members.{holds}
+use Rattle.byte_lanes.specs.code.Members.{holds}
 use Rattle.byte_lanes.proofs.Blocks.{hit_within, hit_before, hit_found}
 use Rattle.byte_lanes.proofs.special.first_special.Goals as goal
 

@@ -1,5 +1,5 @@
 use Rattle.std.proofs.Common.{◌≡◌, ◌≤◌, ◌<◌, ◌-◌, ℕ, false, length, slice_index}
-use Rattle.byte_lanes.specs.Members.{holds}
+use Rattle.byte_lanes.specs.code.Members.{holds}
 use Rattle.byte_lanes.proofs.special.first_special.Given as goal
 
 abbrev pub invariant-loop-at : goal.invariant-loop-at

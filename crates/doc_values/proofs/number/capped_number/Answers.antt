@@ -1,6 +1,6 @@
 use Rattle.std.proofs.Common.{◌+◌, ◌<◌, length, drop, sym, ap, ◌∙◌, arith}
 use Rattle.doc_values.specs.Number.{number_behind}
-use Rattle.doc_values.specs.Reading.{cap}
+use Rattle.doc_values.specs.code.Reading.{cap}
 use Rattle.doc_values.proofs.NumberValue.{cap-behind, number-drop}
 use Rattle.doc_values.proofs.number.capped_number.Goals as goal
 

@@ -1,6 +1,6 @@
 use Rattle.std.proofs.Common.{◌≡◌, ◌^◌, ◌≤◌, drop}
 use Rattle.doc_values.specs.Number.{number, number_behind}
-use Rattle.doc_values.specs.Reading.{cap}
+use Rattle.doc_values.specs.code.Reading.{cap}
 use Rattle.doc_values.proofs.number.capped_number.Given as goal
 
 abbrev pub invariant-loop-byte : goal.invariant-loop-byte

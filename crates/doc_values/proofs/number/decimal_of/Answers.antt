@@ -1,7 +1,7 @@
 use Rattle.std.proofs.Common.{◌≡◌, ◌<◌, ◌^◌, ◌+◌, length, ap, subst, ◌∙◌, sym, arith, pos, ◌-ℤ◌, MatchOption}
 use Rattle.doc_values.specs.Decimal.{Decimal, IsNormal}
 use Rattle.doc_values.specs.Number.{Parts, number, IsDecimalOf}
-use Rattle.doc_values.specs.Reading.{cap}
+use Rattle.doc_values.specs.code.Reading.{cap}
 use Rattle.doc_values.proofs.Numbers.{held_digits, decimal_zero, held_last, decimal_answer}
 use Rattle.doc_values.proofs.DecimalRange.{place}
 use Rattle.doc_values.proofs.number.decimal_of.Goals as goal

@@ -1,5 +1,5 @@
 use Rattle.std.proofs.Common.{ap, ◌∙◌, sym}
-use Rattle.doc_values.specs.Reading.{is_number, read}
+use Rattle.doc_values.specs.code.Reading.{is_number, read}
 use Rattle.doc_values.proofs.Numbers.{number_answer, no_number, whole_digits_are}
 use Rattle.doc_values.proofs.number.read_number.Goals as goal
 

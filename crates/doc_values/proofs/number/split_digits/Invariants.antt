@@ -1,5 +1,5 @@
 use Rattle.std.proofs.Common.{length, ◌-◌, ◌≡◌, ◌++◌, ◌≤◌, take, drop}
-use Rattle.doc_values.specs.Reading.{digits, behind}
+use Rattle.doc_values.specs.code.Reading.{digits, behind}
 use Rattle.doc_values.proofs.number.split_digits.Given as goal
 
 abbrev pub invariant-loop-end : goal.invariant-loop-end

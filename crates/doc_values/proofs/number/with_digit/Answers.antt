@@ -1,5 +1,5 @@
 use Rattle.std.proofs.Common.{◌≡◌, ◌+◌, ◌*◌, arith, subst}
-use Rattle.doc_values.specs.Reading.{IsHeld}
+use Rattle.doc_values.specs.code.Reading.{IsHeld}
 use Rattle.doc_values.proofs.NumberValue.{IsHeld-zero, IsHeld-digit}
 use Rattle.doc_values.proofs.number.with_digit.Goals as goal
 

@@ -1,6 +1,6 @@
 use Rattle.std.proofs.Common.{◌≡◌, ℕ, ◌+◌, ◌≤◌, drop}
 use Rattle.doc_values.specs.Number.{AreDigits, number_behind}
-use Rattle.doc_values.specs.Reading.{IsHeld}
+use Rattle.doc_values.specs.code.Reading.{IsHeld}
 use Rattle.doc_values.proofs.number.with_digits.Given as goal
 
 abbrev pub invariant-loop-byte : goal.invariant-loop-byte

@@ -1,5 +1,5 @@
 use Rattle.std.proofs.Common.{None}
-use Rattle.guard_syntax.specs.Seen.{see_file}
+use Rattle.guard_syntax.specs.code.Seen.{see_file}
 use Rattle.engine_tests.proofs.worlds.file_of_syntax.Goals as goal
 
 pub resolve-requires-clause-sites : goal.resolve-requires-clause-sites

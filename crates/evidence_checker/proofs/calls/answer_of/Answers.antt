@@ -1,12 +1,12 @@
 use Rattle.std.proofs.Common.{List, length, map, ap, subst, sym, ◌∙◌}
 use Rattle.std.specs.declared.alloc.Global.{Global}
 use Rattle.std.specs.declared.vec.Vec.{Vec}
-use Rattle.guard_builtins.specs.Seen.{see_rows}
-use Rattle.guard_syntax.specs.Seen.{expr_list, see_expr}
+use Rattle.guard_builtins.specs.code.Seen.{see_rows}
+use Rattle.guard_syntax.specs.code.Seen.{expr_list, see_expr}
 use Rattle.guard_syntax.specs.declared.row.Row.{Row}
-use Rattle.rule_names.specs.Files.{file_of}
+use Rattle.rule_names.specs.code.Files.{file_of}
 use Rattle.evidence_rules.specs.CitedLines.{GiveArgs}
-use Rattle.value_compare.specs.Stores.{see_store}
+use Rattle.value_compare.specs.code.Stores.{see_store}
 use Rattle.evidence_checker.proofs.CallsFollow.{args-given, call-counted, call-pattern}
 use Rattle.evidence_checker.proofs.calls.answer_of.Goals as goal
 

@@ -1,8 +1,8 @@
 use Rattle.std.proofs.Common.{Some, map, ap, sym, ◌∙◌}
-use Rattle.guard_syntax.specs.Seen.{expr_list, see_expr}
+use Rattle.guard_syntax.specs.code.Seen.{expr_list, see_expr}
 use Rattle.rule_names.specs.declared.piece.Piece as code
-use Rattle.rule_names.specs.Files.{file_of}
-use Rattle.rule_names.specs.Seen.{see_piece}
+use Rattle.rule_names.specs.code.Files.{file_of}
+use Rattle.rule_names.specs.code.Seen.{see_piece}
 use Rattle.evidence_checker.specs.declared.calls.Called.{Called}
 use Rattle.evidence_checker.proofs.CallsFollow.{call-placed}
 use Rattle.evidence_checker.proofs.calls.call_at.Goals as goal

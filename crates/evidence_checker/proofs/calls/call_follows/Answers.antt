@@ -1,11 +1,11 @@
 use Rattle.std.proofs.Common.{◌≡◌, ℕ, ◌+◌, suc, add-one, List, length, map, ap, refl, sym, subst, ◌∙◌}
 use Rattle.std.specs.List.{list_all}
-use Rattle.guard_builtins.specs.Seen.{see_made}
+use Rattle.guard_builtins.specs.code.Seen.{see_made}
 use Rattle.guard_builtins.specs.declared.made.Made.{Made}
 use Rattle.rule_meaning.specs.StoreModel.{StoreModel, is_known}
-use Rattle.value_compare.specs.Stores.{see_store}
+use Rattle.value_compare.specs.code.Stores.{see_store}
 use Rattle.rule_meaning.specs.Seeing.{grown, rows_kept, trees_kept}
-use Rattle.evidence_checker.specs.Judging.{AreMadeWithin}
+use Rattle.evidence_checker.specs.code.Judging.{AreMadeWithin}
 use Rattle.evidence_checker.proofs.CallsFollow.{call-differs, call-follows, call-known, call-lacking, call-same, is-answered, is-unanswered}
 use Rattle.evidence_checker.proofs.KeptTrees.{free-behind, within-grown}
 use Rattle.evidence_checker.proofs.calls.call_follows.Goals as goal

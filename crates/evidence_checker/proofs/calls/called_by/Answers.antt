@@ -1,5 +1,5 @@
 use Rattle.std.proofs.Common.{map, ◌∙◌}
-use Rattle.guard_syntax.specs.Seen.{expr_list, see_expr}
+use Rattle.guard_syntax.specs.code.Seen.{expr_list, see_expr}
 use Rattle.evidence_checker.specs.declared.calls.Called.{Called}
 use Rattle.evidence_checker.proofs.CallsFollow.{call-none, call-unnamed}
 use Rattle.evidence_checker.proofs.calls.called_by.Goals as goal

@@ -1,8 +1,8 @@
 use Rattle.std.proofs.Common.{◌++◌, [], ◌∷◌, List, arith, map, ap, ◌∙◌}
 use Rattle.std.proofs.lemmas.List.{map-append}
-use Rattle.guard_builtins.specs.Seen.{see_rows}
+use Rattle.guard_builtins.specs.code.Seen.{see_rows}
 use Rattle.guard_syntax.specs.declared.row.Row.{Row}
-use Rattle.rule_names.specs.Files.{file_of}
+use Rattle.rule_names.specs.code.Files.{file_of}
 use Rattle.evidence_checker.proofs.ArgumentsGiven.{args-counted, args-lacking, args-next}
 use Rattle.evidence_checker.proofs.calls.rows_of_args.Goals as goal
 

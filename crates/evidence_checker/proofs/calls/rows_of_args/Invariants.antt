@@ -1,7 +1,7 @@
 use Rattle.std.proofs.Common.{map, take}
-use Rattle.guard_builtins.specs.Seen.{see_rows}
-use Rattle.guard_syntax.specs.Seen.{expr_list, see_expr}
-use Rattle.rule_names.specs.Files.{file_of}
+use Rattle.guard_builtins.specs.code.Seen.{see_rows}
+use Rattle.guard_syntax.specs.code.Seen.{expr_list, see_expr}
+use Rattle.rule_names.specs.code.Files.{file_of}
 use Rattle.evidence_rules.specs.CitedLines.{GiveArgs}
 use Rattle.evidence_checker.proofs.calls.rows_of_args.Given as goal
 

@@ -1,5 +1,5 @@
 use Rattle.std.proofs.Common.{◌+◌, suc, add-one, ap, ◌∙◌}
-use Rattle.guard_syntax.specs.Seen.{see_file}
+use Rattle.guard_syntax.specs.code.Seen.{see_file}
 use Rattle.evidence_checker.proofs.Answering.{answered-none, answered-some}
 use Rattle.evidence_checker.proofs.judge.answer_of.Goals as goal
 

@@ -1,11 +1,11 @@
 use Rattle.std.proofs.Common.{◌≡◌, IfOk, [], refl, subst, sym}
 use Rattle.rule_meaning.specs.StoreModel.{StoreModel}
-use Rattle.rule_names.specs.Files.{file_of}
-use Rattle.value_compare.specs.Books.{IsBookOf}
-use Rattle.value_compare.specs.Stores.{see_store}
+use Rattle.rule_names.specs.code.Files.{file_of}
+use Rattle.value_compare.specs.code.Books.{IsBookOf}
+use Rattle.value_compare.specs.code.Stores.{see_store}
 use Rattle.evidence_rules.specs.Follows.{nothing_made}
-use Rattle.evidence_lookups.specs.Owned.{AreOwners}
-use Rattle.evidence_checker.specs.Answered.{IsAnswer}
+use Rattle.evidence_lookups.specs.code.Owned.{AreOwners}
+use Rattle.evidence_checker.specs.code.Answered.{IsAnswer}
 use Rattle.evidence_checker.proofs.Answering.{store-starts}
 use Rattle.evidence_checker.proofs.judge.check.Goals as goal
 

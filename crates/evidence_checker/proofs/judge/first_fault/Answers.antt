@@ -1,11 +1,11 @@
 use Rattle.std.proofs.Common.{◌≡◌, ◌<◌, ap, sym, ◌∙◌, subst, arith, ℕ, List, length, refl}
 use Rattle.guard_syntax.specs.Syntax.{File}
 use Rattle.evidence_lines.specs.declared.line.Line.{Line}
-use Rattle.value_compare.specs.Stores.{see_store}
+use Rattle.value_compare.specs.code.Stores.{see_store}
 use Rattle.evidence_rules.specs.Follows.{Follows}
-use Rattle.evidence_lookups.specs.JudgedSites.{AreJudged}
-use Rattle.evidence_lookups.specs.Said.{AreSound}
-use Rattle.evidence_checker.specs.Judging.{AreMadeWithin, Leads, Stays}
+use Rattle.evidence_lookups.specs.code.JudgedSites.{AreJudged}
+use Rattle.evidence_lookups.specs.code.Said.{AreSound}
+use Rattle.evidence_checker.specs.code.Judging.{AreMadeWithin, Leads, Stays}
 use Rattle.evidence_checker.proofs.Leading.{leads-of, stays-of}
 use Rattle.evidence_checker.proofs.LinesInTurn.{all-behind, all-judged, counted, fault-here, file-on, judged-on, known-on, made-on, shape-here, site-here, sound-on}
 use Rattle.evidence_checker.proofs.judge.first_fault.Goals as goal

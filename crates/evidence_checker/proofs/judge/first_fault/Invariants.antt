@@ -1,8 +1,8 @@
 use Rattle.std.proofs.Common.{◌≡◌, ◌≤◌, length, take}
-use Rattle.value_compare.specs.Stores.{see_store}
-use Rattle.evidence_lookups.specs.JudgedSites.{AreJudged}
-use Rattle.evidence_lookups.specs.Said.{AreSound}
-use Rattle.evidence_checker.specs.Judging.{AreMadeWithin, IsKnownBehind}
+use Rattle.value_compare.specs.code.Stores.{see_store}
+use Rattle.evidence_lookups.specs.code.JudgedSites.{AreJudged}
+use Rattle.evidence_lookups.specs.code.Said.{AreSound}
+use Rattle.evidence_checker.specs.code.Judging.{AreMadeWithin, IsKnownBehind}
 use Rattle.evidence_checker.proofs.judge.first_fault.Given as goal
 
 abbrev pub invariant-loop-before : goal.invariant-loop-before

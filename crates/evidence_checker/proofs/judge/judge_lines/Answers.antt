@@ -1,12 +1,12 @@
 use Rattle.std.proofs.Common.{◌≡◌, refl, subst, sym, List, [], IfOk}
 use Rattle.evidence_lines.specs.declared.line.Line.{Line}
 use Rattle.evidence_lines.specs.declared.version.Version.{Version}
-use Rattle.guard_syntax.specs.Seen.{see_file}
+use Rattle.guard_syntax.specs.code.Seen.{see_file}
 use Rattle.guard_syntax.specs.declared.syntax.RawFile.{RawFile}
-use Rattle.value_compare.specs.Stores.{see_store}
+use Rattle.value_compare.specs.code.Stores.{see_store}
 use Rattle.evidence_rules.specs.Follows.{AllFollow, nothing_made}
 use Rattle.evidence_rules.specs.Rejected.{IsRejectedAt}
-use Rattle.evidence_checker.specs.Answered.{IsAnswer}
+use Rattle.evidence_checker.specs.code.Answered.{IsAnswer}
 use Rattle.evidence_checker.proofs.Answering.{fault-answered, none-follow, none-judged, starts}
 use Rattle.evidence_checker.proofs.judge.judge_lines.Goals as goal
 

@@ -4,9 +4,9 @@ use Rattle.std.proofs.lemmas.Result.{IfOk-weaker}
 use Rattle.evidence_lines.specs.declared.line.Outcome.TheVariants as says
 use Rattle.rule_names.specs.Pieces.{piece_at}
 use Rattle.rule_meaning.specs.StoreModel.{Made, is_known}
-use Rattle.value_compare.specs.Stores.{see_store}
+use Rattle.value_compare.specs.code.Stores.{see_store}
 use Rattle.evidence_rules.specs.Follows.{FollowsIn, FollowsRows}
-use Rattle.evidence_checker.specs.Judging.{AreMadeWithin}
+use Rattle.evidence_checker.specs.code.Judging.{AreMadeWithin}
 use Rattle.evidence_checker.proofs.Leading.{Decided}
 use Rattle.evidence_checker.proofs.LinesFollowing.{rows-decided}
 use Rattle.evidence_checker.proofs.SoundLines.{made-more}

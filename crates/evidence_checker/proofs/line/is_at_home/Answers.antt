@@ -1,7 +1,7 @@
 use Rattle.std.proofs.Common.{◌<◌, ℕ, List, ap, arith, length, subst, ◌∙◌}
 use Rattle.std.proofs.lemmas.Option.{none-some}
 use Rattle.guard_syntax.specs.declared.syntax.RawFile.{RawFile}
-use Rattle.rule_names.specs.Files.{file_of}
+use Rattle.rule_names.specs.code.Files.{file_of}
 use Rattle.evidence_rules.specs.CitedLines.{scope_of}
 use Rattle.evidence_rules.specs.Follows.{home_for}
 use Rattle.evidence_checker.proofs.SitesPlaced.{at-home}

@@ -1,8 +1,8 @@
 use Rattle.std.proofs.Common.{◌≡◌, true, refl, length}
 use Rattle.std.proofs.lemmas.Result.{IfOk-weaker}
-use Rattle.value_compare.specs.Stores.{see_store}
+use Rattle.value_compare.specs.code.Stores.{see_store}
 use Rattle.evidence_rules.specs.Follows.{Follows, FollowsIn}
-use Rattle.evidence_lookups.specs.Said.{IsSound, is_known_outcome}
+use Rattle.evidence_lookups.specs.code.Said.{IsSound, is_known_outcome}
 use Rattle.evidence_checker.proofs.Leading.{Decided, both-weaker}
 use Rattle.evidence_checker.proofs.LinesFollowing.{file-decided, file-sound, never-sited, not-home, placed-decided, placed-sound}
 use Rattle.evidence_checker.proofs.SoundLines.{made-more}

@@ -3,10 +3,10 @@ use Rattle.std.proofs.lemmas.Result.{IfOk-weaker}
 use Rattle.evidence_lines.specs.declared.line.Outcome.TheVariants as says
 use Rattle.guard_syntax.specs.declared.row.Row.{Row}
 use Rattle.rule_names.specs.Pieces.{piece_at}
-use Rattle.value_compare.specs.Stores.{see_store}
+use Rattle.value_compare.specs.code.Stores.{see_store}
 use Rattle.evidence_rules.specs.Follows.{FollowsIn, FollowsVerdict}
-use Rattle.evidence_lookups.specs.Said.{is_known_outcome}
-use Rattle.evidence_checker.specs.Judging.{AreMadeWithin}
+use Rattle.evidence_lookups.specs.code.Said.{is_known_outcome}
+use Rattle.evidence_checker.specs.code.Judging.{AreMadeWithin}
 use Rattle.evidence_checker.proofs.Leading.{Decided}
 use Rattle.evidence_checker.proofs.LinesFollowing.{known-as, said-as, value-decided, verdict-decided}
 use Rattle.evidence_checker.proofs.RuleVerdicts.{new-rule}

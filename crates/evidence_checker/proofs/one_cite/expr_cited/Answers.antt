@@ -1,8 +1,8 @@
 use Rattle.std.proofs.Common.{ℕ, List, subst, sym}
-use Rattle.guard_syntax.specs.Seen.{see_expr}
-use Rattle.rule_names.specs.Files.{file_of}
+use Rattle.guard_syntax.specs.code.Seen.{see_expr}
+use Rattle.rule_names.specs.code.Files.{file_of}
 use Rattle.evidence_rules.specs.CitedLines.{GivesExpr}
-use Rattle.evidence_checker.specs.FirstCites.{GivesAlone}
+use Rattle.evidence_checker.specs.code.FirstCites.{GivesAlone}
 use Rattle.evidence_checker.proofs.StepLines.{AreGiven, one-cite}
 use Rattle.evidence_checker.proofs.one_cite.expr_cited.Goals as goal
 

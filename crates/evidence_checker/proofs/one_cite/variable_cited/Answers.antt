@@ -1,7 +1,7 @@
 use Rattle.std.proofs.Common.{ℕ, List, subst, sym}
-use Rattle.rule_names.specs.Files.{file_of}
+use Rattle.rule_names.specs.code.Files.{file_of}
 use Rattle.evidence_rules.specs.CitedLines.{GivesVariable}
-use Rattle.evidence_checker.specs.FirstCites.{GivesAlone}
+use Rattle.evidence_checker.specs.code.FirstCites.{GivesAlone}
 use Rattle.evidence_checker.proofs.StepLines.{AreGiven, one-cite}
 use Rattle.evidence_checker.proofs.one_cite.variable_cited.Goals as goal
 

@@ -1,7 +1,7 @@
 use Rattle.std.proofs.Common.{sym}
-use Rattle.guard_syntax.specs.Seen.{see_body, see_query}
+use Rattle.guard_syntax.specs.code.Seen.{see_body, see_query}
 use Rattle.evidence_rules.specs.Follows.{block_stop}
-use Rattle.evidence_lookups.specs.Grounds.{known_of, lines_of, version_of}
+use Rattle.evidence_lookups.specs.code.Grounds.{known_of, lines_of, version_of}
 use Rattle.evidence_lookups.proofs.PartsSeen.{body-site}
 use Rattle.evidence_checker.proofs.FirstSaid.{block-decided, block-never}
 use Rattle.evidence_checker.proofs.parts.block_follows.Goals as goal

@@ -1,5 +1,5 @@
 use Rattle.std.proofs.Common.{sym}
-use Rattle.guard_syntax.specs.Seen.{see_body, see_opt_conds, see_rule}
+use Rattle.guard_syntax.specs.code.Seen.{see_body, see_opt_conds, see_rule}
 use Rattle.evidence_lookups.proofs.PartsSeen.{body-site}
 use Rattle.evidence_checker.proofs.Decided.{none-within}
 use Rattle.evidence_checker.proofs.FirstSaid.{rule-decided}

@@ -1,5 +1,5 @@
 use Rattle.std.proofs.Common.{ap, get_or, sym, ◌∙◌}
-use Rattle.guard_syntax.specs.Seen.{see_body}
+use Rattle.guard_syntax.specs.code.Seen.{see_body}
 use Rattle.guard_syntax.specs.Syntax.{File}
 use Rattle.guard_syntax.specs.declared.syntax.Body.{out-Body}
 use Rattle.evidence_rules.specs.CitedLines.{called_body}

@@ -1,12 +1,12 @@
 use Rattle.std.proofs.Common.{Option, Some, IfOk, MatchBool, ap, subst, sym, ◌∙◌}
 use Rattle.std.proofs.lemmas.Result.{IfOk-weaker}
-use Rattle.guard_syntax.specs.Seen.{see_query}
+use Rattle.guard_syntax.specs.code.Seen.{see_query}
 use Rattle.rule_names.specs.Pieces.{OfStep, Piece}
-use Rattle.rule_names.specs.Seen.{see_piece}
+use Rattle.rule_names.specs.code.Seen.{see_piece}
 use Rattle.rule_names.specs.declared.piece.Piece as code
 use Rattle.rule_meaning.specs.Places.{step_in, steps_in}
 use Rattle.evidence_rules.specs.Follows.{FollowsAtStep}
-use Rattle.evidence_lookups.specs.Grounds.{known_of, lines_of}
+use Rattle.evidence_lookups.specs.code.Grounds.{known_of, lines_of}
 use Rattle.evidence_checker.proofs.RowsPlaced.{Decides, step-placed}
 use Rattle.evidence_checker.proofs.rows.rows_follow.Goals as goal
 

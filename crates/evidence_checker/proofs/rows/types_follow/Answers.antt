@@ -1,7 +1,7 @@
 use Rattle.std.proofs.Common.{◌≡◌, sym, ◌∙◌}
-use Rattle.guard_syntax.specs.Seen.{see_part}
+use Rattle.guard_syntax.specs.code.Seen.{see_part}
 use Rattle.rule_meaning.specs.Places.{rows_at_type}
-use Rattle.evidence_lookups.specs.Grounds.{file_in, known_of, lines_of}
+use Rattle.evidence_lookups.specs.code.Grounds.{file_in, known_of, lines_of}
 use Rattle.evidence_lookups.proofs.SaidKnown.{value-said-known}
 use Rattle.evidence_lookups.proofs.SitesWithin.{site-within}
 use Rattle.evidence_checker.proofs.StepLines.{no-cites}

@@ -1,6 +1,6 @@
 use Rattle.std.proofs.Common.{get_or}
-use Rattle.guard_syntax.specs.Seen.{see_step}
-use Rattle.evidence_lookups.specs.Grounds.{known_of, lines_of}
+use Rattle.guard_syntax.specs.code.Seen.{see_step}
+use Rattle.evidence_lookups.specs.code.Grounds.{known_of, lines_of}
 use Rattle.evidence_lookups.proofs.SaidKnown.{rows-said-known}
 use Rattle.evidence_checker.proofs.StepLines.{capture-lacks, one-cite}
 use Rattle.evidence_checker.proofs.step_rows.capture_follows.Goals as goal

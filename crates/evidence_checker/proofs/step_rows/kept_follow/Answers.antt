@@ -1,14 +1,14 @@
 use Rattle.std.proofs.Common.{◌≡◌, ℕ, [], ap, length, refl, sym, true≢false, subst, ◌∙◌, List, MatchOption, None, Option, Some, Vec, Global}
 use Rattle.std.proofs.lemmas.Option.{none-some}
 use Rattle.evidence_lines.specs.declared.line.Line.{Line}
-use Rattle.guard_syntax.specs.Seen.{see_conds, see_query}
+use Rattle.guard_syntax.specs.code.Seen.{see_conds, see_query}
 use Rattle.guard_syntax.specs.Syntax.{Conds}
 use Rattle.guard_syntax.specs.declared.row.Ref.{Ref}
 use Rattle.guard_syntax.specs.declared.row.Verdict.{Verdict}
 use Rattle.rule_meaning.specs.StoreModel.{StoreModel}
 use Rattle.evidence_rules.specs.Follows.{SayEach, SaysCandidate}
 use Rattle.rule_meaning.specs.Places.{candidates_at, rows_at_step}
-use Rattle.evidence_lookups.specs.Grounds.{file_in, known_of, lines_of}
+use Rattle.evidence_lookups.specs.code.Grounds.{file_in, known_of, lines_of}
 use Rattle.evidence_lookups.proofs.SaidKnown.{before-said-known, value-said-known}
 use Rattle.evidence_lookups.proofs.SitesWithin.{site-within}
 use Rattle.evidence_checker.proofs.StepLines.{filter-due, filter-lacks, none-taken, said-each, some-taken, start-bare}

@@ -1,8 +1,8 @@
 use Rattle.std.proofs.Common.{◌≡◌, [], refl, sym, ◌∙◌, true≢false}
 use Rattle.std.proofs.lemmas.Option.{none-some}
-use Rattle.guard_syntax.specs.Seen.{see_query, see_step}
+use Rattle.guard_syntax.specs.code.Seen.{see_query, see_step}
 use Rattle.rule_meaning.specs.Places.{rows_at_step}
-use Rattle.evidence_lookups.specs.Grounds.{file_in, known_of, lines_of}
+use Rattle.evidence_lookups.specs.code.Grounds.{file_in, known_of, lines_of}
 use Rattle.evidence_lookups.proofs.SaidKnown.{before-said-known, further-said-known, value-said-known}
 use Rattle.evidence_lookups.proofs.SitesWithin.{site-within}
 use Rattle.evidence_checker.proofs.StepLines.{start-bare, step-due, step-lacks}

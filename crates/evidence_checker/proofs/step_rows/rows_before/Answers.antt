@@ -1,5 +1,5 @@
 use Rattle.std.proofs.Common.{◌≡◌, ◌-◌, [], ◌∷◌, drop, get_or, length, refl, sym, subst, suc, take, arith, ℕ, ◌∙◌}
-use Rattle.guard_syntax.specs.Seen.{see_query, see_step}
+use Rattle.guard_syntax.specs.code.Seen.{see_query, see_step}
 use Rattle.guard_syntax.specs.Syntax.{File}
 use Rattle.evidence_rules.specs.CitedLines.{GivesStep}
 use Rattle.evidence_rules.specs.Follows.{GivesBefore}

@@ -1,8 +1,8 @@
 use Rattle.std.proofs.Common.{◌≡◌, ap, arith, length, subst, sym}
-use Rattle.guard_syntax.specs.Seen.{see_conds, see_expr, see_step}
+use Rattle.guard_syntax.specs.code.Seen.{see_conds, see_expr, see_step}
 use Rattle.guard_syntax.specs.Syntax.{File}
 use Rattle.evidence_rules.specs.CitedLines.{GivesExpr, GivesVariable}
-use Rattle.evidence_checker.specs.FirstCites.{GivesAlone}
+use Rattle.evidence_checker.specs.code.FirstCites.{GivesAlone}
 use Rattle.evidence_checker.proofs.StepLines.{AreGiven, filter-further, further-nothing, keys-further, no-cites, nothing-further, splice-further, var-further}
 use Rattle.evidence_checker.proofs.StepsSeen.{filter-seen, keys-seen, nothing-seen, splice-seen, var-seen}
 use Rattle.evidence_checker.proofs.step_rows.rows_further.Goals as goal

@@ -1,9 +1,9 @@
 use Rattle.std.proofs.Common.{Some, ap, sym, true≢false, ◌∙◌}
 use Rattle.evidence_lines.specs.declared.line.LineKind.TheVariants as kind
-use Rattle.guard_syntax.specs.Seen.{see_conds, see_expr, see_query, see_step}
+use Rattle.guard_syntax.specs.code.Seen.{see_conds, see_expr, see_query, see_step}
 use Rattle.guard_syntax.specs.Syntax.{filter, keys}
 use Rattle.rule_meaning.specs.Places.{step_in, steps_in}
-use Rattle.evidence_lookups.specs.Grounds.{known_of, lines_of}
+use Rattle.evidence_lookups.specs.code.Grounds.{known_of, lines_of}
 use Rattle.evidence_lookups.proofs.PartsSeen.{no-step, step-there}
 use Rattle.evidence_checker.proofs.StepKinds.{at-kind, at-other, filter-else, keys-else, no-step-line, not-at, other-else, same-capture, same-step}
 use Rattle.evidence_checker.proofs.StepsSeen.{filter-seen, keys-seen, not-filter, other-seen}

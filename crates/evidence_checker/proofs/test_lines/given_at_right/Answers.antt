@@ -1,10 +1,10 @@
 use Rattle.std.proofs.Common.{Option, subst, sym}
-use Rattle.guard_syntax.specs.Seen.{see_expr, see_opt_expr}
+use Rattle.guard_syntax.specs.code.Seen.{see_expr, see_opt_expr}
 use Rattle.guard_syntax.specs.Syntax.{File}
 use Rattle.guard_syntax.specs.declared.syntax.Expr.{Expr}
 use Rattle.evidence_rules.specs.CitedLines.{GivesExpr}
 use Rattle.evidence_rules.specs.Follows.{GivesRight}
-use Rattle.evidence_checker.specs.FirstCites.{GivesAlone}
+use Rattle.evidence_checker.specs.code.FirstCites.{GivesAlone}
 use Rattle.evidence_checker.proofs.StepLines.{AreGiven, right-alone}
 use Rattle.evidence_checker.proofs.test_lines.given_at_right.Goals as goal
 

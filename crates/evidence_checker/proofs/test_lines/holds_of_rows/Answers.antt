@@ -2,7 +2,7 @@ use Rattle.std.proofs.Common.{refl}
 use Rattle.std.proofs.lemmas.List.Sums.{AllPass-from_list_all}
 use Rattle.rule_meaning.specs.Keys.{passes}
 use Rattle.rule_meaning.specs.StoreModel.{is_known}
-use Rattle.evidence_lookups.specs.Grounds.{known_of}
+use Rattle.evidence_lookups.specs.code.Grounds.{known_of}
 use Rattle.evidence_checker.proofs.RowsTested.{row-decides, row-leaves, rows-leave}
 use Rattle.evidence_checker.proofs.test_lines.holds_of_rows.Goals as goal
 

@@ -1,7 +1,7 @@
 use Rattle.std.proofs.Common.{◌≡◌, drop}
 use Rattle.rule_meaning.specs.Keys.{passes}
-use Rattle.evidence_lookups.specs.Grounds.{known_of}
-use Rattle.evidence_checker.specs.TestedRows.{holds_for}
+use Rattle.evidence_lookups.specs.code.Grounds.{known_of}
+use Rattle.evidence_checker.specs.code.TestedRows.{holds_for}
 use Rattle.evidence_checker.proofs.test_lines.holds_of_rows.Given as goal
 
 abbrev pub invariant-loop-left : goal.invariant-loop-left

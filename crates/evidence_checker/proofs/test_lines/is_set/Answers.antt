@@ -1,6 +1,6 @@
 use Rattle.std.proofs.Common.{sym, ◌∙◌}
 use Rattle.guard_syntax.specs.Syntax as sx
-use Rattle.guard_syntax.specs.Seen.{see_step}
+use Rattle.guard_syntax.specs.code.Seen.{see_step}
 use Rattle.rule_meaning.specs.SetTests.{is_filtering, is_lone_variable}
 use Rattle.query_steps.proofs.SetsSeen.{set-by-last}
 use Rattle.evidence_checker.proofs.SetsAsked.{by-first, by-second, set-by-none, set-by-one}

@@ -1,6 +1,6 @@
 use Rattle.std.proofs.Common.{refl}
-use Rattle.guard_syntax.specs.Seen.{see_opt_expr, see_query}
-use Rattle.evidence_lookups.specs.Grounds.{known_of, lines_of}
+use Rattle.guard_syntax.specs.code.Seen.{see_opt_expr, see_query}
+use Rattle.evidence_lookups.specs.code.Grounds.{known_of, lines_of}
 use Rattle.evidence_lookups.proofs.SaidKnown.{query-said-known, right-said-known}
 use Rattle.evidence_checker.proofs.Decided.{same-verdicts}
 use Rattle.evidence_checker.proofs.FirstSaid.{never-left, never-right, test-decided}

@@ -1,9 +1,9 @@
 use Rattle.std.proofs.Common.{◌&&◌, ◌∙◌}
-use Rattle.guard_syntax.specs.Seen.{see_query}
+use Rattle.guard_syntax.specs.code.Seen.{see_query}
 use Rattle.rule_meaning.specs.Keys.{passes}
 use Rattle.rule_meaning.specs.SetTests.{is_empty_test, is_set}
 use Rattle.rule_meaning.specs.Verdicts.{set_verdict, test_verdict}
-use Rattle.evidence_lookups.specs.Grounds.{known_of}
+use Rattle.evidence_lookups.specs.code.Grounds.{known_of}
 use Rattle.evidence_checker.proofs.RowsTested.{as-each, as-set, tested, untested}
 use Rattle.evidence_checker.proofs.RuleVerdicts.{is-none, is-some}
 use Rattle.evidence_checker.proofs.test_lines.test_of_rows.Goals as goal

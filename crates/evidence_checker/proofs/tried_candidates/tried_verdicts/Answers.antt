@@ -2,7 +2,7 @@ use Rattle.std.proofs.Common.{ℕ, List, arith, false, get_or, refl, subst, sym}
 use Rattle.evidence_lines.specs.declared.line.Line.{Line}
 use Rattle.evidence_lines.specs.declared.line.LineKind.TheVariants as kind
 use Rattle.evidence_lines.specs.declared.line.Outcome.TheVariants as says
-use Rattle.guard_syntax.specs.Seen.{see_conds}
+use Rattle.guard_syntax.specs.code.Seen.{see_conds}
 use Rattle.guard_syntax.specs.declared.row.Origin.TheVariants as origin
 use Rattle.guard_syntax.specs.declared.row.Ref.{Ref}
 use Rattle.guard_syntax.specs.declared.row.Verdict.{Verdict}

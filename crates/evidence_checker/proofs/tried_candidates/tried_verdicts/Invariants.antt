@@ -1,5 +1,5 @@
 use Rattle.std.proofs.Common.{take}
-use Rattle.guard_syntax.specs.Seen.{see_conds}
+use Rattle.guard_syntax.specs.code.Seen.{see_conds}
 use Rattle.rule_meaning.specs.StoreModel.{StoreModel}
 use Rattle.evidence_rules.specs.Follows.{SayEach, SaysCandidate}
 use Rattle.evidence_checker.proofs.tried_candidates.tried_verdicts.Given as goal

@@ -1,9 +1,9 @@
 use Rattle.std.proofs.Common.{Some, ap, refl, sym}
 use Rattle.evidence_lines.specs.declared.line.LineKind.TheVariants as kind
-use Rattle.guard_syntax.specs.Seen.{see_disj}
+use Rattle.guard_syntax.specs.code.Seen.{see_disj}
 use Rattle.rule_names.specs.Pieces.{OfDisj, Piece}
-use Rattle.rule_names.specs.Seen.{see_piece}
-use Rattle.evidence_lookups.specs.Grounds.{known_of, lines_of, version_of}
+use Rattle.rule_names.specs.code.Seen.{see_piece}
+use Rattle.evidence_lookups.specs.code.Grounds.{known_of, lines_of, version_of}
 use Rattle.evidence_checker.proofs.VerdictLines.{at-line, disj-judged}
 use Rattle.evidence_checker.proofs.verdicts.disj_line_follows.Goals as goal
 

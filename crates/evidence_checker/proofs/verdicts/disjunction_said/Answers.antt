@@ -1,5 +1,5 @@
 use Rattle.std.proofs.Common.{◌+◌, ◌≡◌, false, true, drop, sym}
-use Rattle.guard_syntax.specs.Seen.{see_part}
+use Rattle.guard_syntax.specs.code.Seen.{see_part}
 use Rattle.evidence_rules.specs.Follows.{is_stop}
 use Rattle.rule_meaning.specs.Verdicts.{disjunction}
 use Rattle.evidence_checker.proofs.VerdictsSaid.{LeftParts, SaysPart, parts-next, parts-last, disjunction-first, disjunction-one, disjunction-two, folded-first, folded-last, folded-next, folded-stop, folded-uncited, folded-unsaid, no-items}

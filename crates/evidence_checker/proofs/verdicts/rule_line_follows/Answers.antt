@@ -1,11 +1,11 @@
 use Rattle.std.proofs.Common.{List, Some, ap, refl, sym, map}
 use Rattle.evidence_lines.specs.declared.line.LineKind.TheVariants as kind
-use Rattle.guard_syntax.specs.Seen.{disj_list, see_disj, see_rule}
+use Rattle.guard_syntax.specs.code.Seen.{disj_list, see_disj, see_rule}
 use Rattle.guard_syntax.specs.declared.syntax.Disj.{Disj}
 use Rattle.rule_names.specs.Pieces.{OfFile, OfRule, Piece}
-use Rattle.rule_names.specs.Seen.{see_piece}
+use Rattle.rule_names.specs.code.Seen.{see_piece}
 use Rattle.evidence_rules.specs.Follows.{IsNewRule}
-use Rattle.evidence_lookups.specs.Grounds.{known_of, lines_of, version_of}
+use Rattle.evidence_lookups.specs.code.Grounds.{known_of, lines_of, version_of}
 use Rattle.evidence_checker.proofs.VerdictLines.{at-line, is-new, loose-judged, never-new, rule-framed, rule-judged, rule-new}
 use Rattle.evidence_checker.proofs.verdicts.rule_line_follows.Goals as goal
 

@@ -1,11 +1,11 @@
 use Rattle.std.proofs.Common.{Option, Some, ap, refl, subst, sym, ◌∙◌, MatchBool}
 use Rattle.std.proofs.lemmas.Result.{IfOk-weaker}
 use Rattle.evidence_lines.specs.declared.line.LineKind.TheVariants as kind
-use Rattle.guard_syntax.specs.Seen.{see_part}
+use Rattle.guard_syntax.specs.code.Seen.{see_part}
 use Rattle.rule_names.specs.Pieces.{OfPart, Piece, piece_at}
-use Rattle.rule_names.specs.Seen.{see_piece}
+use Rattle.rule_names.specs.code.Seen.{see_piece}
 use Rattle.evidence_rules.specs.Follows.{FollowsAtPart, FollowsVerdict}
-use Rattle.evidence_lookups.specs.Grounds.{file_in, known_of, lines_of, version_of}
+use Rattle.evidence_lookups.specs.code.Grounds.{file_in, known_of, lines_of, version_of}
 use Rattle.evidence_checker.proofs.VerdictLines.{Judges, at-line, none-judged, part-judged}
 use Rattle.evidence_checker.proofs.verdicts.verdict_follows.Goals as goal
 

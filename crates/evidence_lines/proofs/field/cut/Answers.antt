@@ -1,6 +1,6 @@
 use Rattle.std.proofs.Common.{ap, option_map}
 use Rattle.std.proofs.lemmas.List.{take_rest}
-use Rattle.evidence_lines.specs.Reading.{cut, cut_by}
+use Rattle.evidence_lines.specs.code.Reading.{cut, cut_by}
 use Rattle.evidence_lines.proofs.field.cut.Goals as goal
 
 pub returns-in_err-at-clause-parts : goal.returns-in_err-at-clause-parts

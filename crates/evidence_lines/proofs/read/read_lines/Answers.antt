@@ -1,7 +1,7 @@
 use Rattle.std.proofs.Common.{◌≡◌, ◌+◌, ◌++◌, Some, ap, arith, sym, ◌∙◌}
 use Rattle.std.proofs.lemmas.List.{length_push}
 use Rattle.std.proofs.lemmas.Result.{MatchResult-from_err}
-use Rattle.evidence_lines.specs.Reading.{line_in}
+use Rattle.evidence_lines.specs.code.Reading.{line_in}
 use Rattle.evidence_lines.specs.Headers.{header}
 use Rattle.evidence_lines.proofs.Texts.{fails_here, goes_on, has_line, lacks_line, lacks_newline, some_bytes}
 use Rattle.evidence_lines.proofs.read.read_lines.Goals as goal

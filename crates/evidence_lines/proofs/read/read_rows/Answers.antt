@@ -1,5 +1,5 @@
 use Rattle.std.proofs.Common.{◌≡◌, None, Some, sym, ◌∙◌}
-use Rattle.evidence_lines.specs.Reading.{items_in, row_in}
+use Rattle.evidence_lines.specs.code.Reading.{items_in, row_in}
 use Rattle.evidence_lines.proofs.Lists.{items_fail, items_last, items_last_fail, items_more}
 use Rattle.evidence_lines.proofs.read.read_rows.Goals as goal
 

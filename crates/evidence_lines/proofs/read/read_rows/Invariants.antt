@@ -1,5 +1,5 @@
 use Rattle.std.proofs.Common.{◌≡◌, ◌++◌, length, option_map}
-use Rattle.evidence_lines.specs.Reading.{items_in, row_in}
+use Rattle.evidence_lines.specs.code.Reading.{items_in, row_in}
 use Rattle.evidence_lines.proofs.read.read_rows.Given as goal
 
 abbrev pub invariant-items : goal.invariant-items

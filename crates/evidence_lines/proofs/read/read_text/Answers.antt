@@ -1,6 +1,6 @@
 use Rattle.std.proofs.Common.{◌≡◌, List, ℕ, inl, refl, subst}
 use Rattle.std.specs.Result.{IfErr}
-use Rattle.evidence_lines.specs.Memory.{HasLine}
+use Rattle.evidence_lines.specs.code.Memory.{HasLine}
 use Rattle.evidence_lines.specs.declared.refusal.EvidenceRefusal.TheVariants.{NoMemory}
 use Rattle.evidence_lines.specs.Text.{IsRefused}
 use Rattle.evidence_lines.proofs.Texts.{no_version}

@@ -1,6 +1,6 @@
 use Rattle.std.proofs.Common.{map, sym}
-use Rattle.guard_syntax.specs.Seen.{expr_list, see_expr}
-use Rattle.rule_names.specs.Files.{file_of}
+use Rattle.guard_syntax.specs.code.Seen.{expr_list, see_expr}
+use Rattle.rule_names.specs.code.Files.{file_of}
 use Rattle.evidence_lookups.proofs.PartsSeen.{argument-at, argument-past}
 use Rattle.evidence_lookups.proofs.RowsGiven.{argument-given, no-argument}
 use Rattle.evidence_lookups.proofs.cited_rows.given_by_argument.Goals as goal

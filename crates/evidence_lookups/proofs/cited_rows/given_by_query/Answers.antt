@@ -1,8 +1,8 @@
 use Rattle.std.proofs.Common.{List, map, ap, sym, ◌∙◌}
 use Rattle.guard_syntax.specs.Syntax as sx
-use Rattle.guard_syntax.specs.Seen.{see_query, see_step, step_list}
+use Rattle.guard_syntax.specs.code.Seen.{see_query, see_step, step_list}
 use Rattle.guard_syntax.specs.declared.syntax.Step.{Step}
-use Rattle.rule_names.specs.Files.{file_of}
+use Rattle.rule_names.specs.code.Files.{file_of}
 use Rattle.evidence_rules.specs.CitedLines.{last_step}
 use Rattle.evidence_lookups.proofs.PartsSeen.{steps-seen}
 use Rattle.evidence_lookups.proofs.RowsGiven.{last-got, none-given, query-given}

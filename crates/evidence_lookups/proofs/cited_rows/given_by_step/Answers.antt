@@ -1,6 +1,6 @@
 use Rattle.std.proofs.Common.{sym}
-use Rattle.guard_syntax.specs.Seen.{see_step}
-use Rattle.rule_names.specs.Files.{file_of}
+use Rattle.guard_syntax.specs.code.Seen.{see_step}
+use Rattle.rule_names.specs.code.Files.{file_of}
 use Rattle.evidence_lookups.proofs.PartsSeen.{step-site}
 use Rattle.evidence_lookups.proofs.RowsGiven.{step-given}
 use Rattle.evidence_lookups.proofs.cited_rows.given_by_step.Goals as goal

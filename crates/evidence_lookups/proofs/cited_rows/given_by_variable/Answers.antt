@@ -1,7 +1,7 @@
 use Rattle.std.proofs.Common.{Some, ◌∙◌, ap, sym}
 use Rattle.evidence_lines.specs.declared.line.LineKind.TheVariants as kind
 use Rattle.evidence_lines.specs.declared.line.Outcome.TheVariants as says
-use Rattle.rule_names.specs.Files.{file_of}
+use Rattle.rule_names.specs.code.Files.{file_of}
 use Rattle.rule_names.specs.Resolution.{bind_of}
 use Rattle.rule_names.specs.declared.bind.Bind.TheVariants as bound
 use Rattle.evidence_rules.specs.CitedLines.{GivesArgument, GivesBound, IsLine, outwards}

@@ -1,6 +1,6 @@
 use Rattle.std.proofs.Common.{sym, true≢false}
-use Rattle.guard_syntax.specs.Seen.{see_query}
-use Rattle.evidence_lookups.specs.Grounds.{known_of, lines_of}
+use Rattle.guard_syntax.specs.code.Seen.{see_query}
+use Rattle.evidence_lookups.specs.code.Grounds.{known_of, lines_of}
 use Rattle.evidence_lookups.proofs.ExprsFollow.{found-decided, found-other, function-other, literal-decided, literal-other, query-other}
 use Rattle.evidence_lookups.proofs.ExprsKnown.{found-known, literal-known}
 use Rattle.evidence_lookups.proofs.expression_lines.expr_follows.Goals as goal

@@ -1,6 +1,6 @@
 use Rattle.std.proofs.Common.{◌∙◌, sym}
 use Rattle.std.specs.Prelude.{option_and_then}
-use Rattle.rule_names.specs.Files.{file_of}
+use Rattle.rule_names.specs.code.Files.{file_of}
 use Rattle.evidence_rules.specs.CitedLines.{args_at}
 use Rattle.evidence_lookups.proofs.FramesAround.{around-call, around-other}
 use Rattle.evidence_lookups.proofs.frames.around_site.Goals as goal

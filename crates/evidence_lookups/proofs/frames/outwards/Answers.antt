@@ -1,5 +1,5 @@
 use Rattle.std.proofs.Common.{◌≡◌, ◌-◌, suc, ◌∙◌, arith}
-use Rattle.rule_names.specs.Files.{file_of}
+use Rattle.rule_names.specs.code.Files.{file_of}
 use Rattle.evidence_lookups.proofs.FramesAround.{outwards-on, outwards-off}
 use Rattle.evidence_lookups.proofs.frames.outwards.Goals as goal
 

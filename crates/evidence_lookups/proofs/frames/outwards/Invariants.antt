@@ -1,5 +1,5 @@
 use Rattle.std.proofs.Common.{◌≡◌}
-use Rattle.rule_names.specs.Files.{file_of}
+use Rattle.rule_names.specs.code.Files.{file_of}
 use Rattle.evidence_rules.specs.CitedLines.{outwards}
 use Rattle.evidence_lookups.proofs.frames.outwards.Given as goal
 

@@ -1,9 +1,9 @@
 use Rattle.std.proofs.Common.{Option, Some, ◌∙◌, ap, sym}
 use Rattle.std.specs.Prelude.{option_and_then}
 use Rattle.rule_names.specs.declared.piece.Piece as code
-use Rattle.rule_names.specs.Files.{file_of}
+use Rattle.rule_names.specs.code.Files.{file_of}
 use Rattle.rule_names.specs.Pieces.{Piece}
-use Rattle.rule_names.specs.Seen.{see_piece}
+use Rattle.rule_names.specs.code.Seen.{see_piece}
 use Rattle.evidence_rules.specs.CitedLines.{scope_of_piece}
 use Rattle.evidence_lookups.proofs.frames.scope_at.Goals as goal
 

@@ -1,6 +1,6 @@
 use Rattle.std.proofs.Common.{◌≡◌}
-use Rattle.rule_names.specs.Files.{file_of}
-use Rattle.evidence_lookups.specs.Owned.{marks_upto}
+use Rattle.rule_names.specs.code.Files.{file_of}
+use Rattle.evidence_lookups.specs.code.Owned.{marks_upto}
 use Rattle.evidence_lookups.proofs.owners.bodies_of.Given as goal
 
 abbrev pub invariant-loop-site : goal.invariant-loop-site

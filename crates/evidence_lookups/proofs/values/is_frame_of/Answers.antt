@@ -1,11 +1,11 @@
 use Rattle.std.proofs.Common.{◌≡◌, false, MatchBool, Some, ap, sym, ◌∙◌, true≢false}
-use Rattle.guard_syntax.specs.Seen.{see_body, see_part, see_query}
+use Rattle.guard_syntax.specs.code.Seen.{see_body, see_part, see_query}
 use Rattle.rule_names.specs.Pieces.{OfBody, OfPart, OfStep, piece_at}
-use Rattle.rule_names.specs.Seen.{see_piece}
+use Rattle.rule_names.specs.code.Seen.{see_piece}
 use Rattle.rule_names.specs.declared.piece.Piece as code
 use Rattle.rule_meaning.specs.Places.{step_in, steps_in}
 use Rattle.evidence_rules.specs.Follows.{IsFrameOfPart, IsFrameOfStep}
-use Rattle.evidence_lookups.specs.Grounds.{file_in, known_of, lines_of}
+use Rattle.evidence_lookups.specs.code.Grounds.{file_in, known_of, lines_of}
 use Rattle.evidence_lookups.proofs.FramesValued.{at-piece, call-valued, frame-known, no-call, no-filter, step-valued}
 use Rattle.evidence_lookups.proofs.values.is_frame_of.Goals as goal
 

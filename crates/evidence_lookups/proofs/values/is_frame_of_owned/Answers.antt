@@ -1,4 +1,4 @@
-use Rattle.evidence_lookups.specs.Grounds.{known_of, lines_of}
+use Rattle.evidence_lookups.specs.code.Grounds.{known_of, lines_of}
 use Rattle.evidence_lookups.specs.declared.owners.Owner.TheVariants as owner
 use Rattle.evidence_lookups.proofs.FramesValued.{known-test, not-owned, owned-valued}
 use Rattle.rule_meaning.specs.StoreModel.{is_known_ref}

@@ -9,7 +9,7 @@ use Rattle.evidence_rules.specs.Follows.{nothing_made}
 use Rattle.rule_meaning.specs.Seeing.{world_of}
 use Rattle.rule_meaning.specs.FunctionMeaning.{IsAnswering}
 use Rattle.rule_meaning.specs.Locations.{World}
-use Rattle.evidence_rules.specs.Judgement.{Holds, verdicts_of}
+use Rattle.evidence_rules.specs.code.Judgement.{Holds, verdicts_of}
 use Rattle.evidence_truth.proofs.LinesTrue.{accepted-are, file-kept, known-hold, line-at, loose-is, meant-by, rule-is, same-world, some-last}
 use Rattle.evidence_truth.proofs.PiecesAt.{ordered-by, sites-alone}
 use Rattle.evidence_truth.proofs.laws.lines_true.Goals as goal

@@ -1,8 +1,8 @@
 use Rattle.std.proofs.Common.{◌≡◌, ◌∙◌, ap, sym, subst, length, map, IfOk}
 use Rattle.rule_names.specs.Uses.{arity}
 use Rattle.rule_meaning.specs.Functions.{AreRows, Functions, IsReplaced, IsSubstring, single_text, single_whole}
-use Rattle.value_compare.specs.Stores.{see_store}
-use Rattle.guard_builtins.specs.Seen.{see_made, see_rows}
+use Rattle.value_compare.specs.code.Stores.{see_store}
+use Rattle.guard_builtins.specs.code.Seen.{see_made, see_rows}
 use Rattle.guard_builtins.proofs.CallArguments.{called-with-three}
 use Rattle.guard_builtins.proofs.calls.call.Goals as goal
 

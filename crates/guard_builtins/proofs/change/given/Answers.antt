@@ -1,7 +1,7 @@
 use Rattle.std.proofs.Common.{IfOk, subst, sym}
 use Rattle.rule_meaning.specs.Functions.{IsGiven}
-use Rattle.value_compare.specs.Views.{see_view}
-use Rattle.guard_builtins.specs.Seen.{gives}
+use Rattle.value_compare.specs.code.Views.{see_view}
+use Rattle.guard_builtins.specs.code.Seen.{gives}
 use Rattle.guard_builtins.proofs.change.given.Goals as goal
 
 pub returns-in-ParseInt : goal.returns-in-ParseInt

@@ -2,7 +2,7 @@ use Rattle.std.proofs.Common.{ap, map, option_map, string_bytes, sym, ◌∙◌}
 use Rattle.std.specs.List.{join_by}
 use Rattle.rule_meaning.specs.Functions.{single_text, texts_in}
 use Rattle.rule_meaning.specs.Values.{has_pattern}
-use Rattle.value_compare.specs.Stores.{see_store}
+use Rattle.value_compare.specs.code.Stores.{see_store}
 use Rattle.guard_builtins.proofs.Joins.{joined-is}
 use Rattle.guard_builtins.proofs.functions.joined.Goals as goal
 

@@ -1,6 +1,6 @@
 use Rattle.std.proofs.Common.{take}
-use Rattle.value_compare.specs.Stores.{see_store}
-use Rattle.guard_builtins.specs.Seen.{gives}
+use Rattle.value_compare.specs.code.Stores.{see_store}
+use Rattle.guard_builtins.specs.code.Seen.{gives}
 use Rattle.guard_builtins.proofs.Plain.{rows-plain}
 use Rattle.guard_builtins.proofs.Rows.{rows-more}
 use Rattle.guard_builtins.proofs.functions.rows_for.Goals as goal

@@ -1,7 +1,7 @@
 use Rattle.std.proofs.Common.{map, take}
 use Rattle.rule_meaning.specs.Functions.{AreRows}
-use Rattle.value_compare.specs.Stores.{see_store}
-use Rattle.guard_builtins.specs.Seen.{gives, see_made}
+use Rattle.value_compare.specs.code.Stores.{see_store}
+use Rattle.guard_builtins.specs.code.Seen.{gives, see_made}
 use Rattle.guard_builtins.proofs.functions.rows_for.Given as goal
 
 abbrev pub invariant-loop-row : goal.invariant-loop-row

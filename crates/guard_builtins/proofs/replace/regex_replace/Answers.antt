@@ -1,7 +1,7 @@
 use Rattle.std.proofs.Common.{option_map}
 use Rattle.rule_meaning.specs.Functions.{single_text}
-use Rattle.value_compare.specs.Stores.{see_store}
-use Rattle.guard_builtins.specs.Seen.{texts_of}
+use Rattle.value_compare.specs.code.Stores.{see_store}
+use Rattle.guard_builtins.specs.code.Seen.{texts_of}
 use Rattle.guard_builtins.proofs.Replacing.{result-replaced}
 use Rattle.guard_builtins.proofs.replace.regex_replace.Goals as goal
 

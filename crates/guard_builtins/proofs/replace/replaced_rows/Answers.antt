@@ -1,6 +1,6 @@
 use Rattle.std.proofs.Common.{option_map, take, ◌∙◌}
-use Rattle.value_compare.specs.Stores.{see_store}
-use Rattle.guard_builtins.specs.Seen.{texts_of}
+use Rattle.value_compare.specs.code.Stores.{see_store}
+use Rattle.guard_builtins.specs.code.Seen.{texts_of}
 use Rattle.guard_builtins.proofs.Plain.{replaced-plain}
 use Rattle.guard_builtins.proofs.Replacing.{replaced-more}
 use Rattle.guard_builtins.proofs.replace.replaced_rows.Goals as goal

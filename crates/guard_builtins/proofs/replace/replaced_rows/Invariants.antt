@@ -1,7 +1,7 @@
 use Rattle.std.proofs.Common.{◌≡◌, map, option_map, take}
 use Rattle.rule_meaning.specs.Functions.{AreRows}
-use Rattle.value_compare.specs.Stores.{see_store}
-use Rattle.guard_builtins.specs.Seen.{replaces, see_made, texts_of}
+use Rattle.value_compare.specs.code.Stores.{see_store}
+use Rattle.guard_builtins.specs.code.Seen.{replaces, see_made, texts_of}
 use Rattle.guard_builtins.proofs.replace.replaced_rows.Given as goal
 
 abbrev pub invariant-loop-row : goal.invariant-loop-row

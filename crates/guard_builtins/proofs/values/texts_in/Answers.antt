@@ -1,6 +1,6 @@
 use Rattle.std.proofs.Common.{◌∷◌, [], Some, ap, map, sym, ◌∙◌}
 use Rattle.std.proofs.lemmas.List.{map-append}
-use Rattle.value_compare.specs.Stores.{see_store}
+use Rattle.value_compare.specs.code.Stores.{see_store}
 use Rattle.guard_builtins.proofs.Joins.{texts-more, texts-none}
 use Rattle.guard_builtins.proofs.values.texts_in.Goals as goal
 

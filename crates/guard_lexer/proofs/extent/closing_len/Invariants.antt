@@ -1,6 +1,6 @@
 use Rattle.std.proofs.Common.{◌≡◌, ◌+◌, false, drop}
 use Rattle.std.specs.Prelude.{option_map}
-use Rattle.guard_lexer.specs.Reach.{closing}
+use Rattle.guard_lexer.specs.code.Reach.{closing}
 use Rattle.guard_lexer.proofs.extent.closing_len.Given as goal
 
 abbrev pub invariant-loop-at : goal.invariant-loop-at

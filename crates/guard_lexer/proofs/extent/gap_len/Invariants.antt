@@ -1,5 +1,5 @@
 use Rattle.std.proofs.Common.{◌≡◌, ◌+◌, false, drop}
-use Rattle.guard_lexer.specs.Reach.{gap_reach}
+use Rattle.guard_lexer.specs.code.Reach.{gap_reach}
 use Rattle.guard_lexer.proofs.extent.gap_len.Given as goal
 
 abbrev pub invariant-loop-at : goal.invariant-loop-at

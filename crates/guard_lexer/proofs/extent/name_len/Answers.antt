@@ -1,5 +1,5 @@
 use Rattle.std.proofs.Common.{ap, ◌∙◌}
-use Rattle.guard_lexer.specs.Reach.{name_step}
+use Rattle.guard_lexer.specs.code.Reach.{name_step}
 use Rattle.guard_lexer.proofs.NameSteps.{name_turn}
 use Rattle.guard_lexer.proofs.extent.name_len.Goals as goal
 

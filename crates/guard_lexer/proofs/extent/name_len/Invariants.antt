@@ -1,5 +1,5 @@
 use Rattle.std.proofs.Common.{◌≡◌, ◌+◌, ◌-◌, ◌≤◌, ◌||◌, length, drop}
-use Rattle.guard_lexer.specs.Reach.{in_name, typed}
+use Rattle.guard_lexer.specs.code.Reach.{in_name, typed}
 use Rattle.guard_lexer.proofs.extent.name_len.Given as goal
 
 abbrev pub invariant-loop-at : goal.invariant-loop-at

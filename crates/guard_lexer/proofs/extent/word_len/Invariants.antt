@@ -1,6 +1,6 @@
 use Rattle.std.proofs.Common.{◌≡◌, ◌+◌, drop}
 use Rattle.guard_lexer.specs.Bytes.{is_word}
-use Rattle.guard_lexer.specs.Reach.{run}
+use Rattle.guard_lexer.specs.code.Reach.{run}
 use Rattle.guard_lexer.proofs.extent.word_len.Given as goal
 
 abbrev pub invariant-loop-at : goal.invariant-loop-at

@@ -1,5 +1,5 @@
 use Rattle.std.proofs.Common.{◌∷◌, sym, subst}
-use Rattle.guard_lexer.specs.Firsts.{IsFirst}
+use Rattle.guard_lexer.specs.code.Firsts.{IsFirst}
 use Rattle.guard_lexer.proofs.first.first_token.Goals as goal
 
 pub returns-then-begins_numeral : goal.returns-then-begins_numeral

@@ -1,7 +1,7 @@
 use Rattle.std.proofs.Common.{◌∙◌, ap, subst, sym}
 use Rattle.std.specs.Prelude.{IsAscii}
 use Rattle.doc_values.specs.Number.{IsNumber}
-use Rattle.guard_lexer.specs.Firsts.{number_kind, begins_word}
+use Rattle.guard_lexer.specs.code.Firsts.{number_kind, begins_word}
 use Rattle.guard_lexer.proofs.Firsts.{is_first}
 use Rattle.guard_lexer.proofs.NumberFirsts.{front_bad, front_range, front_mixed, front_found, front_ascii}
 use Rattle.guard_lexer.proofs.first.number_at.Goals as goal

@@ -1,5 +1,5 @@
 use Rattle.std.proofs.Common.{◌∷◌, suc, ◌∙◌, sym, refl, arith}
-use Rattle.guard_lexer.specs.Firsts.{quote_kind}
+use Rattle.guard_lexer.specs.code.Firsts.{quote_kind}
 use Rattle.guard_lexer.proofs.Firsts.{is_first, quote_found, quote_open}
 use Rattle.guard_lexer.proofs.first.quoted_at.Goals as goal
 

@@ -1,5 +1,5 @@
 use Rattle.std.proofs.Common.{◌∷◌, [], sym, subst}
-use Rattle.guard_lexer.specs.Firsts.{IsFirst}
+use Rattle.guard_lexer.specs.code.Firsts.{IsFirst}
 use Rattle.guard_lexer.proofs.Signs.{none_alone}
 use Rattle.guard_lexer.proofs.first.sign_at.Goals as goal
 

@@ -1,6 +1,6 @@
 use Rattle.std.proofs.Common.{◌∷◌, ◌∙◌, arith}
 use Rattle.guard_lexer.specs.declared.token.TokenKind.TheVariants as k
-use Rattle.guard_lexer.specs.Reach.{var_reach}
+use Rattle.guard_lexer.specs.code.Reach.{var_reach}
 use Rattle.guard_lexer.proofs.Firsts.{is_first, var_found}
 use Rattle.guard_lexer.proofs.first.var_at.Goals as goal
 

@@ -1,6 +1,6 @@
 use Rattle.std.proofs.Common.{◌∷◌, suc, ap, ◌∙◌, arith}
-use Rattle.guard_lexer.specs.Firsts.{word_kind}
-use Rattle.guard_lexer.specs.Reach.{in_name, typed}
+use Rattle.guard_lexer.specs.code.Firsts.{word_kind}
+use Rattle.guard_lexer.specs.code.Reach.{in_name, typed}
 use Rattle.guard_lexer.proofs.Firsts.{is_first, word_found}
 use Rattle.guard_lexer.proofs.first.word_at.Goals as goal
 

@@ -1,6 +1,6 @@
 use Rattle.std.proofs.Common.{◌+◌, ◌∙◌, sym, subst, Ok}
 use Rattle.guard_lexer.specs.Lexes.{IsFault}
-use Rattle.guard_lexer.specs.Firsts.{IsFirst}
+use Rattle.guard_lexer.specs.code.Firsts.{IsFirst}
 use Rattle.guard_lexer.proofs.Steps.{gap_solid, next_none, next_fault, next_some}
 use Rattle.guard_lexer.proofs.lex.next_token.Goals as goal
 

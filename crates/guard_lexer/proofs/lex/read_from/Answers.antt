@@ -1,7 +1,7 @@
 use Rattle.std.proofs.Common.{◌-◌, ◌++◌, ◌∷◌, [], inr, sym, subst, arith, drop, Some, None, Ok}
 use Rattle.std.proofs.lemmas.List.{length-drop}
 use Rattle.guard_lexer.specs.Lexes.{Ends}
-use Rattle.guard_lexer.specs.Firsts.{IsNext}
+use Rattle.guard_lexer.specs.code.Firsts.{IsNext}
 use Rattle.guard_lexer.proofs.Steps.{GoesOn, GoesOn-more, GoesOn-end, begun, no_end}
 use Rattle.guard_lexer.proofs.lex.read_from.Goals as goal
 

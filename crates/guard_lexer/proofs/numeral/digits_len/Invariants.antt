@@ -1,6 +1,6 @@
 use Rattle.std.proofs.Common.{◌≡◌, ◌+◌, drop}
 use Rattle.doc_values.specs.Number.{is_digit}
-use Rattle.guard_lexer.specs.Reach.{run}
+use Rattle.guard_lexer.specs.code.Reach.{run}
 use Rattle.guard_lexer.proofs.numeral.digits_len.Given as goal
 
 abbrev pub invariant-loop-at : goal.invariant-loop-at

@@ -1,10 +1,10 @@
 use Rattle.std.proofs.Common.{◌≡◌, refl, subst, sym}
 use Rattle.guard_syntax.specs.Syntax as sx
-use Rattle.guard_syntax.specs.Seen.{see_step}
+use Rattle.guard_syntax.specs.code.Seen.{see_step}
 use Rattle.literal_parser.specs.Forms.{is_index, is_star}
-use Rattle.literal_parser.specs.Parser.{Outcome}
-use Rattle.literal_parser.specs.Reads.{Reads, source, state_of}
-use Rattle.guard_parser.specs.GrammarReads.{behind_dot_at, name_at}
+use Rattle.literal_parser.specs.code.Parser.{Outcome}
+use Rattle.literal_parser.specs.code.Reads.{Reads, source, state_of}
+use Rattle.guard_parser.specs.code.GrammarReads.{behind_dot_at, name_at}
 use Rattle.guard_parser.proofs.CodeSteps.{saw}
 use Rattle.guard_parser.proofs.leaf_rules.behind_dot.Goals as goal
 

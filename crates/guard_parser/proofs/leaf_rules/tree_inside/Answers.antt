@@ -1,7 +1,7 @@
 use Rattle.std.proofs.Common.{subst, sym}
 use Rattle.doc_values.specs.Tree.{Forest}
-use Rattle.literal_parser.specs.Parser.{Parser}
-use Rattle.literal_parser.specs.Reads.{Reads, itself, source, state_of}
+use Rattle.literal_parser.specs.code.Parser.{Parser}
+use Rattle.literal_parser.specs.code.Reads.{Reads, itself, source, state_of}
 use Rattle.guard_parser.proofs.CodeSteps.{tree_is}
 use Rattle.guard_parser.proofs.leaf_rules.tree_inside.Goals as goal
 

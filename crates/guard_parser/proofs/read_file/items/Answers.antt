@@ -1,13 +1,13 @@
 use Rattle.std.proofs.Common.{ℕ, true, List, ◌-◌, ◌+◌, map, refl, ap, sym, ◌∙◌}
 use Rattle.std.proofs.lemmas.List.{map-append, append-nil}
 use Rattle.guard_syntax.specs.Syntax.{Rule}
-use Rattle.guard_syntax.specs.Seen.{let_list, disj_list, see_let, see_rule, see_disj}
-use Rattle.literal_parser.specs.Parser.{Read}
+use Rattle.guard_syntax.specs.code.Seen.{let_list, disj_list, see_let, see_rule, see_disj}
+use Rattle.literal_parser.specs.code.Parser.{Read}
 use Rattle.literal_parser.specs.Forms.{is_let, is_rule, begins_part}
-use Rattle.guard_parser.specs.Reading.{file_items}
-use Rattle.literal_parser.specs.Reads.{source, state_of}
-use Rattle.guard_parser.specs.GrammarReads.{disj_at}
-use Rattle.guard_parser.specs.FileReads.{before_items, items_at, see_file_items}
+use Rattle.guard_parser.specs.code.Reading.{file_items}
+use Rattle.literal_parser.specs.code.Reads.{source, state_of}
+use Rattle.guard_parser.specs.code.GrammarReads.{disj_at}
+use Rattle.guard_parser.specs.code.FileReads.{before_items, items_at, see_file_items}
 use Rattle.guard_parser.proofs.CodeSteps.{then_read, saw, one_more}
 use Rattle.guard_parser.proofs.Filled.{stopped}
 use Rattle.guard_parser.proofs.Turns.{let_turn, rule_turn, part_turn, then_fail}

@@ -1,7 +1,7 @@
 use Rattle.std.proofs.Common.{◌≡◌, ◌-◌, map}
-use Rattle.guard_syntax.specs.Seen.{see_let, see_rule, see_disj}
-use Rattle.literal_parser.specs.Reads.{state_of}
-use Rattle.guard_parser.specs.FileReads.{before_items, items_at}
+use Rattle.guard_syntax.specs.code.Seen.{see_let, see_rule, see_disj}
+use Rattle.literal_parser.specs.code.Reads.{state_of}
+use Rattle.guard_parser.specs.code.FileReads.{before_items, items_at}
 use Rattle.guard_parser.proofs.read_file.items.Given as goal
 
 abbrev pub invariant-loop-turn : goal.invariant-loop-turn

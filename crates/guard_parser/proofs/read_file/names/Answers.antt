@@ -1,8 +1,8 @@
 use Rattle.std.proofs.Common.{ℕ, ◌-◌, ◌+◌, refl, ap, sym, ◌∙◌}
 use Rattle.literal_parser.specs.Forms.{is_comma}
-use Rattle.guard_parser.specs.Reading.{names}
-use Rattle.literal_parser.specs.Reads.{source, state_of}
-use Rattle.guard_parser.specs.FileReads.{before_names, names_at}
+use Rattle.guard_parser.specs.code.Reading.{names}
+use Rattle.literal_parser.specs.code.Reads.{source, state_of}
+use Rattle.guard_parser.specs.code.FileReads.{before_names, names_at}
 use Rattle.guard_parser.proofs.CodeSteps.{then_read, saw, one_more}
 use Rattle.guard_parser.proofs.Turns.{name_turn}
 use Rattle.guard_parser.proofs.read_file.names.Goals as goal

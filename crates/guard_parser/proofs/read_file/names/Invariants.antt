@@ -1,6 +1,6 @@
 use Rattle.std.proofs.Common.{◌≡◌, ◌-◌}
-use Rattle.literal_parser.specs.Reads.{state_of}
-use Rattle.guard_parser.specs.FileReads.{before_names, names_at}
+use Rattle.literal_parser.specs.code.Reads.{state_of}
+use Rattle.guard_parser.specs.code.FileReads.{before_names, names_at}
 use Rattle.guard_parser.proofs.read_file.names.Given as goal
 
 abbrev pub invariant-loop-turn : goal.invariant-loop-turn

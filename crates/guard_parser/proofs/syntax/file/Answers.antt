@@ -1,7 +1,7 @@
 use Rattle.std.proofs.Common.{◌≡◌, ap, sym, ◌∙◌, subst, arith, None, Err}
-use Rattle.literal_parser.specs.Parser.{Fail}
-use Rattle.literal_parser.specs.Reads.{Reads, source, state_of}
-use Rattle.guard_parser.specs.FileReads.{see_file_items, whole_file_at}
+use Rattle.literal_parser.specs.code.Parser.{Fail}
+use Rattle.literal_parser.specs.code.Reads.{Reads, source, state_of}
+use Rattle.guard_parser.specs.code.FileReads.{see_file_items, whole_file_at}
 use Rattle.guard_parser.specs.File.{IsSpelled, IsDeadEnd}
 use Rattle.guard_parser.proofs.Laws.{dead_end_at, read_is, file_of}
 use Rattle.guard_parser.proofs.syntax.file.Goals as goal

@@ -1,6 +1,6 @@
 use Rattle.std.proofs.Common.{◌≡◌, ◌∙◌, ◌++◌, ℕ, List, Some, ap, refl}
 use Rattle.std.proofs.lemmas.Option.{same_Some}
-use Rattle.rule_names.specs.Files.{file_of}
+use Rattle.rule_names.specs.code.Files.{file_of}
 use Rattle.report_text.specs.RuleLines.{reported_names, rule_lines}
 use Rattle.guard_run.proofs.check.accepted_text.Goals as goal
 

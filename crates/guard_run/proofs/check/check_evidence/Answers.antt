@@ -2,10 +2,10 @@ use Rattle.std.proofs.Common.{ℕ, List, inl, inr}
 use Rattle.guard_ends.specs.Inputs.{RefusesProof}
 use Rattle.guard_ends.specs.Order.{Contents, Ending, Ends, Inputs, IsChecked, Loading, OfEvidence, Point, Refusing, Work}
 use Rattle.guard_ends.specs.declared.ends.Which.TheVariants as file
-use Rattle.guard_run.specs.Inputs.{inputs_of}
-use Rattle.guard_run.specs.Loading.{RefusesLength}
-use Rattle.guard_run.specs.Outcome.{ended}
-use Rattle.guard_run.specs.Stops.{IsStop, NoneRose, Rose}
+use Rattle.guard_run.specs.code.Inputs.{inputs_of}
+use Rattle.guard_run.specs.code.Loading.{RefusesLength}
+use Rattle.guard_run.specs.code.Outcome.{ended}
+use Rattle.guard_run.specs.code.Stops.{IsStop, NoneRose, Rose}
 use Rattle.guard_run.specs.declared.done.Done.{Done}
 use Rattle.guard_run.proofs.Loads.{long-proof, refused-more}
 use Rattle.guard_run.proofs.Outcomes.{IsOutcome-more, IsStop-more, as-rose, at-exit, none-rose}

@@ -1,12 +1,12 @@
 use Rattle.std.proofs.Common.{◌≡◌, ◌∙◌, inl, inr, refl, subst, ap, length}
 use Rattle.evidence_rules.specs.RuleLines.{AreOfRules}
-use Rattle.evidence_checker.specs.Answered.{IsAnswer}
+use Rattle.evidence_checker.specs.code.Answered.{IsAnswer}
 use Rattle.evidence_rules.specs.Rejected.{IsRejectedAt}
-use Rattle.rule_names.specs.Files.{file_of}
+use Rattle.rule_names.specs.code.Files.{file_of}
 use Rattle.evidence_rules.specs.Follows.{Accepts}
 use Rattle.guard_ends.specs.Check.{accepted_text}
 use Rattle.guard_ends.specs.declared.ends.End.TheVariants as end_is
-use Rattle.guard_run.specs.Outcome.{ended}
+use Rattle.guard_run.specs.code.Outcome.{ended}
 use Rattle.guard_run.proofs.Closing.{reported_as}
 use Rattle.guard_run.proofs.VerdictCounts.{verdicts-counted}
 use Rattle.guard_run.proofs.check.check_lines.Goals as goal

@@ -1,7 +1,7 @@
 use Rattle.guard_ends.specs.Order.{Ends, Inputs, OfEvidence, Work}
-use Rattle.guard_run.specs.Inputs.{ReadingTexts}
-use Rattle.guard_run.specs.Outcome.{ended}
-use Rattle.guard_run.specs.Stops.{IsStop, Rose}
+use Rattle.guard_run.specs.code.Inputs.{ReadingTexts}
+use Rattle.guard_run.specs.code.Outcome.{ended}
+use Rattle.guard_run.specs.code.Stops.{IsStop, Rose}
 use Rattle.guard_run.specs.declared.done.Done.{Done}
 use Rattle.guard_run.proofs.Outcomes.{at-exit}
 use Rattle.guard_run.proofs.Stages.{inputs-done, inputs-stop}

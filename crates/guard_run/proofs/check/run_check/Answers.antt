@@ -3,9 +3,9 @@ use Rattle.guard_ends.specs.End.{Counts}
 use Rattle.guard_ends.specs.Order.{Contents, Ending, Ends, Inputs, IsChecked, OfEvidence, OverFiles, Point, Reading, Work}
 use Rattle.guard_ends.specs.Inputs.{IsProof, RefusesProof}
 use Rattle.guard_ends.specs.declared.ends.Which.TheVariants as file
-use Rattle.guard_run.specs.Inputs.{ReadingTexts, inputs_over}
-use Rattle.guard_run.specs.Outcome.{IsOutcome, IsStopBy, ended}
-use Rattle.guard_run.specs.Stops.{Rose}
+use Rattle.guard_run.specs.code.Inputs.{ReadingTexts, inputs_over}
+use Rattle.guard_run.specs.code.Outcome.{IsOutcome, IsStopBy, ended}
+use Rattle.guard_run.specs.code.Stops.{Rose}
 use Rattle.guard_run.specs.declared.done.Done.{Done}
 use Rattle.guard_run.specs.declared.inputs.Texts.{Texts}
 use Rattle.guard_run.specs.declared.stop.Stop.{Stop}

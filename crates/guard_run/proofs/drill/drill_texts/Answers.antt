@@ -1,11 +1,11 @@
 use Rattle.std.proofs.Common.{◌≤◌, ◌∙◌, ℕ, List, arith, length, refl, subst, sym}
 use Rattle.guard_drill.specs.DrillTexts.{template_text}
 use Rattle.guard_drill.proofs.TemplateLengths.{template-short}
-use Rattle.rule_names.specs.Files.{file_of}
+use Rattle.rule_names.specs.code.Files.{file_of}
 use Rattle.guard_ends.specs.Drill.{drill_rules}
 use Rattle.guard_ends.specs.Inputs.{IsRuleFile, RefusesRules}
-use Rattle.guard_run.specs.Inputs.{AreOfDrill}
-use Rattle.guard_run.specs.Stops.{IsNotRead}
+use Rattle.guard_run.specs.code.Inputs.{AreOfDrill}
+use Rattle.guard_run.specs.code.Stops.{IsNotRead}
 use Rattle.guard_run.specs.declared.inputs.Texts.{Texts}
 use Rattle.guard_run.specs.declared.stop.Stop.{Stop}
 use Rattle.guard_run.proofs.Outcomes.{at-exit}

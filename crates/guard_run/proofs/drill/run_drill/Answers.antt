@@ -1,15 +1,15 @@
 use Rattle.std.proofs.Common.{ℕ, List, inl, inr, arith, string_bytes, subst}
 use Rattle.guard_drill.specs.DrillTexts.{template_text}
 use Rattle.guard_syntax.specs.Syntax.{File}
-use Rattle.rule_names.specs.Files.{file_of}
+use Rattle.rule_names.specs.code.Files.{file_of}
 use Rattle.guard_ends.specs.Drill.{drill_report, drill_rules}
 use Rattle.guard_ends.specs.Inputs.{IsRuleFile, RefusesRules}
 use Rattle.guard_ends.specs.Order.{Ending, Ends, Inputs, IsJudged, Point, Reading, ReadingInputs, Refusing, Work}
 use Rattle.guard_ends.specs.declared.format.Format.{Format}
 use Rattle.guard_ends.specs.declared.format.Format.TheVariants.{Json}
-use Rattle.guard_run.specs.Inputs.{AreOfDrill, ReadingTexts}
-use Rattle.guard_run.specs.Outcome.{ended}
-use Rattle.guard_run.specs.Stops.{IsStop, NoneRose, Rose}
+use Rattle.guard_run.specs.code.Inputs.{AreOfDrill, ReadingTexts}
+use Rattle.guard_run.specs.code.Outcome.{ended}
+use Rattle.guard_run.specs.code.Stops.{IsStop, NoneRose, Rose}
 use Rattle.guard_run.specs.declared.done.Done.{Done}
 use Rattle.guard_run.specs.declared.inputs.Texts.{Texts}
 use Rattle.guard_run.proofs.Outcomes.{IsOutcome-more, IsStop-more, as-rose, at-exit, ended-outcome}

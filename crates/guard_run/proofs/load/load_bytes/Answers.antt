@@ -2,7 +2,7 @@ use Rattle.std.proofs.Common.{◌<◌, ◌≤◌, ℕ, List, Err, ap, arith, inl
 use Rattle.std.proofs.lemmas.Grind.{common_steps}
 use Rattle.guard_ends.specs.Order.{Ends, IsContent}
 use Rattle.guard_ends.specs.declared.ends.Refusal.TheVariants.{TooLong}
-use Rattle.guard_run.specs.Loading.{limit_of}
+use Rattle.guard_run.specs.code.Loading.{limit_of}
 use Rattle.guard_run.proofs.Loads.{loaded-whole, loaded-long}
 use Rattle.guard_run.proofs.load.load_bytes.Goals as goal
 

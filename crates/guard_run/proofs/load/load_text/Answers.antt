@@ -1,8 +1,8 @@
 use Rattle.std.proofs.Common.{◌≡◌, ◌≤◌, ℕ, List, true, false, ap, length, inl, inr, refl, string_bytes}
 use Rattle.guard_ends.specs.Order.{Ends, IsContent, Loading, Refusing}
 use Rattle.guard_ends.specs.declared.ends.Refusal.TheVariants.{NotText}
-use Rattle.guard_run.specs.Loading.{IsNotLoaded, RefusesLength, RefusesText, limit_of}
-use Rattle.guard_run.specs.Stops.{NoneRose, Rose}
+use Rattle.guard_run.specs.code.Loading.{IsNotLoaded, RefusesLength, RefusesText, limit_of}
+use Rattle.guard_run.specs.code.Stops.{NoneRose, Rose}
 use Rattle.guard_run.proofs.Loads.{refused-more}
 use Rattle.guard_run.proofs.Outcomes.{IsStop-more, as-rose, at-exit}
 use Rattle.guard_run.proofs.load.load_text.Goals as goal

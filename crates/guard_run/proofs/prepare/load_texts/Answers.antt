@@ -1,11 +1,11 @@
 use Rattle.std.proofs.Common.{ℕ, List, inr, string_bytes, subst}
-use Rattle.rule_names.specs.Files.{file_of}
+use Rattle.rule_names.specs.code.Files.{file_of}
 use Rattle.guard_ends.specs.Inputs.{RefusesRules}
 use Rattle.guard_ends.specs.Order.{IsContent, Loading, LoadingTexts, Refusing, Work}
 use Rattle.guard_ends.specs.declared.ends.Which.TheVariants as file
-use Rattle.guard_run.specs.Inputs.{AreLoaded}
-use Rattle.guard_run.specs.Loading.{RefusesText}
-use Rattle.guard_run.specs.Stops.{IsStop, NoneRose, Rose}
+use Rattle.guard_run.specs.code.Inputs.{AreLoaded}
+use Rattle.guard_run.specs.code.Loading.{RefusesText}
+use Rattle.guard_run.specs.code.Stops.{IsStop, NoneRose, Rose}
 use Rattle.guard_run.specs.declared.inputs.Texts.{Texts}
 use Rattle.guard_run.proofs.Loads.{loading-same}
 use Rattle.guard_run.proofs.Outcomes.{IsStop-more, as-rose, at-exit, rose-since}

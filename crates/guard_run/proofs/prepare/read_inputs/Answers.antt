@@ -1,9 +1,9 @@
 use Rattle.std.proofs.Common.{◌≤◌, ℕ, List, ap, inl, inr, length, string_bytes, subst, sym}
-use Rattle.rule_names.specs.Files.{file_of}
+use Rattle.rule_names.specs.code.Files.{file_of}
 use Rattle.guard_ends.specs.Inputs.{IsTemplate, RefusesTemplate}
 use Rattle.guard_ends.specs.Order.{Inputs, MakingPatterns, Refusing, Work}
-use Rattle.guard_run.specs.Inputs.{AreInputs, ReadingTexts}
-use Rattle.guard_run.specs.Stops.{IsNotRead, IsStop, NoneRose, Rose}
+use Rattle.guard_run.specs.code.Inputs.{AreInputs, ReadingTexts}
+use Rattle.guard_run.specs.code.Stops.{IsNotRead, IsStop, NoneRose, Rose}
 use Rattle.guard_run.specs.declared.inputs.Inputs as code
 use Rattle.guard_run.proofs.Outcomes.{IsStop-more, as-rose, at-exit, none-rose}
 use Rattle.guard_run.proofs.Plainness.{template-plain}

@@ -1,7 +1,7 @@
 use Rattle.std.proofs.Common.{Some, sym, subst}
 use Rattle.yaml_blocks.specs.declared.refusal.YamlRefusal.{YamlRefusal}
 use Rattle.guard_ends.specs.Inputs.{of_yaml}
-use Rattle.guard_run.specs.Refusals.{IsRefusedAs}
+use Rattle.guard_run.specs.code.Refusals.{IsRefusedAs}
 use Rattle.guard_run.proofs.refused.yaml_refused.Goals as goal
 
 pub returns-in-Unread : goal.returns-in-Unread

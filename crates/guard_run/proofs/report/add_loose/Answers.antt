@@ -1,16 +1,16 @@
 use Rattle.std.proofs.Common.{◌≡◌, ◌++◌, ℕ, List, OnOk, map, arith, subst, sym, ap, ◌∙◌}
 use Rattle.std.proofs.lemmas.Grind.{common_steps}
 use Rattle.std.proofs.lemmas.List.Elements.{All-same}
-use Rattle.guard_syntax.specs.Seen.{disj_list, see_disj}
+use Rattle.guard_syntax.specs.code.Seen.{disj_list, see_disj}
 use Rattle.rule_names.specs.Pieces.{pieces_disjs}
 use Rattle.rule_meaning.specs.Fails.{loose_fails}
 use Rattle.rule_meaning.specs.Seeing.{world_of}
 use Rattle.rule_meaning.specs.Locations.{World}
-use Rattle.report_text.specs.SeenEntries.{IsShowable, see_entry}
+use Rattle.report_text.specs.code.SeenEntries.{IsShowable, see_entry}
 use Rattle.report_text.specs.declared.entry.Entry as code
-use Rattle.plain_evaluator.specs.States.{Grows, State, see_trees}
+use Rattle.plain_evaluator.specs.code.States.{Grows, State, see_trees}
 use Rattle.plain_evaluator.proofs.Growing.{Grows-trans, answering-on, book-on, same-file, stands-on}
-use Rattle.guard_run.specs.Listed.{AreLinesOf, lines_in}
+use Rattle.guard_run.specs.code.Listed.{AreLinesOf, lines_in}
 use Rattle.guard_ends.specs.Reported.{Reported, if_fail, of_loose}
 use Rattle.guard_run.proofs.LineLists.{lines-kept}
 use Rattle.guard_run.proofs.Walks.{loose-one, none-at-exit}

@@ -1,6 +1,6 @@
 use Rattle.std.proofs.Common.{subst, sym}
 use Rattle.guard_syntax.specs.Syntax as sx
-use Rattle.value_compare.specs.Books.{IsBookOf}
+use Rattle.value_compare.specs.code.Books.{IsBookOf}
 use Rattle.guard_run.proofs.Walks.{lines-world, trees-file}
 use Rattle.guard_run.proofs.report.all_lines.Goals as goal
 

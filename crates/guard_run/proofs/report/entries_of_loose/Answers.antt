@@ -1,14 +1,14 @@
 use Rattle.std.proofs.Common.{◌≡◌, IfOk, [], map, subst, sym, ap, ◌∙◌}
 use Rattle.std.proofs.lemmas.List.Elements.{All-nil, All-same}
-use Rattle.guard_syntax.specs.Seen.{disj_list, see_disj}
+use Rattle.guard_syntax.specs.code.Seen.{disj_list, see_disj}
 use Rattle.guard_syntax.specs.declared.row.Verdict.{Verdict}
 use Rattle.rule_meaning.specs.Fails.{loose_fails}
 use Rattle.rule_meaning.specs.Seeing.{world_of}
 use Rattle.rule_meaning.specs.Locations.{World}
-use Rattle.report_text.specs.SeenEntries.{IsShowable, see_entry}
+use Rattle.report_text.specs.code.SeenEntries.{IsShowable, see_entry}
 use Rattle.report_text.specs.declared.entry.Entry.{Entry}
-use Rattle.plain_evaluator.specs.Entries.{see_entries}
-use Rattle.plain_evaluator.specs.States.{see_trees}
+use Rattle.plain_evaluator.specs.code.Entries.{see_entries}
+use Rattle.plain_evaluator.specs.code.States.{see_trees}
 use Rattle.plain_evaluator.proofs.Growing.{Grows-refl}
 use Rattle.guard_ends.specs.Reported.{if_fail}
 use Rattle.guard_run.proofs.Walks.{none-fail}

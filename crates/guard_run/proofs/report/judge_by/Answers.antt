@@ -1,5 +1,5 @@
 use Rattle.std.proofs.Common.{ap, ◌∙◌, nat_lt}
-use Rattle.rule_names.specs.Files.{file_of}
+use Rattle.rule_names.specs.code.Files.{file_of}
 use Rattle.rule_meaning.specs.Verdicts.{is_fail}
 use Rattle.guard_ends.specs.Reported.{verdicts_of, world_over}
 use Rattle.guard_run.proofs.Judging.{count_by-any}

@@ -2,10 +2,10 @@ use Rattle.std.proofs.Common.{◌≡◌, List, map, subst, ap, sym, ◌∙◌}
 use Rattle.guard_syntax.specs.Syntax as sx
 use Rattle.guard_syntax.specs.declared.syntax.Disj.{Disj}
 use Rattle.guard_syntax.specs.declared.syntax.Rule.{Rule}
-use Rattle.guard_syntax.specs.Seen.{see_disj, see_rule, disj_list}
+use Rattle.guard_syntax.specs.code.Seen.{see_disj, see_rule, disj_list}
 use Rattle.rule_names.specs.Pieces.{pieces_disjs}
-use Rattle.rule_names.specs.Within.{StandsIn}
-use Rattle.plain_evaluator.specs.States.{see_trees}
+use Rattle.rule_names.specs.code.Within.{StandsIn}
+use Rattle.plain_evaluator.specs.code.States.{see_trees}
 use Rattle.plain_evaluator.proofs.Growing.{book-on, same-file, stands-on}
 use Rattle.guard_run.proofs.Walks.{lines-all, loose-stands, none-at-exit}
 use Rattle.guard_run.proofs.report.lines_over.Goals as goal

@@ -1,8 +1,8 @@
 use Rattle.std.proofs.Common.{false, refl}
 use Rattle.guard_syntax.specs.declared.row.Origin.TheVariants.{Template}
-use Rattle.value_compare.specs.Stores.{see_store}
+use Rattle.value_compare.specs.code.Stores.{see_store}
 use Rattle.report_text.specs.EntryLines.{entry_line}
-use Rattle.report_text.specs.SeenEntries.{see_entry}
+use Rattle.report_text.specs.code.SeenEntries.{see_entry}
 use Rattle.report_text.specs.declared.entry.Entry.{Entry}
 use Rattle.report_text.specs.declared.entry.Shown.TheVariants as shown
 use Rattle.report_text.specs.declared.entry.Word.TheVariants as word

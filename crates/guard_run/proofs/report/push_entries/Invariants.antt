@@ -1,8 +1,8 @@
 use Rattle.std.proofs.Common.{◌≡◌, ◌++◌, map, take}
 use Rattle.std.specs.List.{flat_map}
-use Rattle.value_compare.specs.Stores.{see_store}
+use Rattle.value_compare.specs.code.Stores.{see_store}
 use Rattle.report_text.specs.EntryLines.{entry_line}
-use Rattle.report_text.specs.SeenEntries.{see_entry}
+use Rattle.report_text.specs.code.SeenEntries.{see_entry}
 use Rattle.guard_run.proofs.report.push_entries.Given as goal
 
 abbrev pub invariant-loop-entry : goal.invariant-loop-entry

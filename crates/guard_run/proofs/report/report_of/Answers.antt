@@ -2,7 +2,7 @@ use Rattle.std.proofs.Common.{◌≡◌, ◌++◌, IfOk, sym, subst}
 use Rattle.std.proofs.lemmas.Result.{IfOk-weaker}
 use Rattle.std.specs.Prelude.{codes, decimal}
 use Rattle.guard_ends.specs.Drill.{drill_report}
-use Rattle.guard_run.specs.Listed.{AreLinesOf, lines_as, report_in}
+use Rattle.guard_run.specs.code.Listed.{AreLinesOf, lines_as, report_in}
 use Rattle.guard_ends.specs.Report.{lines_of, report}
 use Rattle.guard_ends.specs.Reported.{reported}
 use Rattle.guard_run.specs.declared.report.Form.{Form}

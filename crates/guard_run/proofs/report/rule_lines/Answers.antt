@@ -1,14 +1,14 @@
 use Rattle.std.proofs.Common.{◌≡◌, ◌++◌, ℕ, List, map, take, arith, sym, ap, ◌∙◌, subst, refl}
 use Rattle.std.proofs.lemmas.List.{take_all}
 use Rattle.std.specs.List.{flat_map}
-use Rattle.guard_syntax.specs.Seen.{see_rule}
+use Rattle.guard_syntax.specs.code.Seen.{see_rule}
 use Rattle.guard_syntax.specs.Syntax as sx
 use Rattle.rule_names.specs.Pieces.{pieces_rule}
 use Rattle.rule_meaning.specs.Seeing.{world_of}
 use Rattle.rule_meaning.specs.Locations.{World}
-use Rattle.plain_evaluator.specs.States.{see_trees}
+use Rattle.plain_evaluator.specs.code.States.{see_trees}
 use Rattle.plain_evaluator.proofs.Growing.{Grows-refl, Grows-trans, answering-on, book-on, same-file, stands-on}
-use Rattle.guard_run.specs.Listed.{AreLinesOf, lines_in}
+use Rattle.guard_run.specs.code.Listed.{AreLinesOf, lines_in}
 use Rattle.guard_ends.specs.Reported.{Reported, of_rule}
 use Rattle.guard_run.proofs.LineLists.{lines-kept}
 use Rattle.guard_run.proofs.Walks.{none-at-exit, rule-more, rule-stands}

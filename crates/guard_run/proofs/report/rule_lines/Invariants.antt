@@ -1,8 +1,8 @@
 use Rattle.std.proofs.Common.{◌≤◌, map, take}
 use Rattle.std.specs.List.{flat_map}
-use Rattle.guard_syntax.specs.Seen.{see_rule}
-use Rattle.plain_evaluator.specs.States.{Answering, Grows, see_trees}
-use Rattle.guard_run.specs.Listed.{AreLinesOf, count_of, lines_in}
+use Rattle.guard_syntax.specs.code.Seen.{see_rule}
+use Rattle.plain_evaluator.specs.code.States.{Answering, Grows, see_trees}
+use Rattle.guard_run.specs.code.Listed.{AreLinesOf, count_of, lines_in}
 use Rattle.guard_ends.specs.Reported.{of_rule}
 use Rattle.guard_run.proofs.report.rule_lines.Given as goal
 

@@ -1,11 +1,11 @@
 use Rattle.std.proofs.Common.{ℕ, List, inr, string_bytes, subst, sym}
 use Rattle.std.proofs.lemmas.Result.{MatchResult-weaker}
-use Rattle.rule_names.specs.Files.{file_of}
+use Rattle.rule_names.specs.code.Files.{file_of}
 use Rattle.guard_ends.specs.Inputs.{IsRuleFile, RefusesRules}
 use Rattle.guard_ends.specs.Order.{IsContent, Loading, Refusing}
 use Rattle.guard_ends.specs.declared.ends.Which.TheVariants as file
-use Rattle.guard_run.specs.Loading.{IsNotLoaded, RefusesText}
-use Rattle.guard_run.specs.Stops.{NoneRose, Rose}
+use Rattle.guard_run.specs.code.Loading.{IsNotLoaded, RefusesText}
+use Rattle.guard_run.specs.code.Stops.{NoneRose, Rose}
 use Rattle.guard_run.specs.declared.inputs.Rules.{Rules}
 use Rattle.guard_run.proofs.Loads.{refused-more, text-rules}
 use Rattle.guard_run.proofs.Outcomes.{IsStop-more, as-rose, at-exit, none-rose}

@@ -1,6 +1,6 @@
 use Rattle.std.proofs.Common.{None, ap, inr, refl, subst}
-use Rattle.guard_syntax.specs.Seen.{see_file}
-use Rattle.name_table.specs.Refused.{IsNameRefusal}
+use Rattle.guard_syntax.specs.code.Seen.{see_file}
+use Rattle.name_table.specs.code.Refused.{IsNameRefusal}
 use Rattle.name_table.specs.declared.refusal.NameRefusal.TheVariants.{Bad}
 use Rattle.rule_names.specs.Faults.{Fault}
 use Rattle.guard_ends.specs.Inputs.{IsText, name_kind, name_said, rules_limit}

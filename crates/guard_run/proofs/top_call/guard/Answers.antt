@@ -1,6 +1,6 @@
 use Rattle.std.proofs.Common.{map, string_bytes, subst}
 use Rattle.guard_ends.specs.End.{Faults}
-use Rattle.guard_run.specs.Writing.{Closed}
+use Rattle.guard_run.specs.code.Writing.{Closed}
 use Rattle.guard_ends.specs.declared.ends.End.{End}
 use Rattle.guard_run.proofs.Closing.{defined-Closed}
 use Rattle.guard_run.proofs.top_call.guard.Given.{Over}

@@ -1,8 +1,8 @@
 use Rattle.guard_ends.specs.Order.{Ending, Ends, Inputs, IsJudged, Work}
-use Rattle.guard_run.specs.Inputs.{ReadingTexts}
-use Rattle.guard_run.specs.Listed.{report_in}
-use Rattle.guard_run.specs.Outcome.{ended}
-use Rattle.guard_run.specs.Stops.{IsStop, NoneRose, Rose}
+use Rattle.guard_run.specs.code.Inputs.{ReadingTexts}
+use Rattle.guard_run.specs.code.Listed.{report_in}
+use Rattle.guard_run.specs.code.Outcome.{ended}
+use Rattle.guard_run.specs.code.Stops.{IsStop, NoneRose, Rose}
 use Rattle.guard_run.specs.declared.done.Done.{Done}
 use Rattle.guard_run.proofs.Outcomes.{at-exit}
 use Rattle.guard_run.proofs.Stages.{inputs-done, inputs-stop}

@@ -3,9 +3,9 @@ use Rattle.rule_meaning.specs.FunctionMeaning.{IsAnswering}
 use Rattle.rule_meaning.specs.Locations.{Answers}
 use Rattle.guard_ends.specs.Order.{Inputs}
 use Rattle.guard_ends.specs.Reported.{world_over}
-use Rattle.guard_run.specs.Inputs.{inputs_of}
-use Rattle.guard_run.specs.Listed.{report_in}
-use Rattle.guard_run.specs.Outcome.{ended}
+use Rattle.guard_run.specs.code.Inputs.{inputs_of}
+use Rattle.guard_run.specs.code.Listed.{report_in}
+use Rattle.guard_run.specs.code.Outcome.{ended}
 use Rattle.guard_run.proofs.Outcomes.{judged-as}
 use Rattle.guard_run.proofs.validate.report_on.Goals as goal
 

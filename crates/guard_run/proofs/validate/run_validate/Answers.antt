@@ -1,8 +1,8 @@
 use Rattle.guard_ends.specs.End.{Counts}
 use Rattle.guard_ends.specs.Order.{Ending, Ends, Inputs, IsJudged, OverFiles, Work}
 use Rattle.guard_ends.specs.Report.{report}
-use Rattle.guard_run.specs.Outcome.{IsStopBy, ended}
-use Rattle.guard_run.specs.Stops.{NoneRose, Rose}
+use Rattle.guard_run.specs.code.Outcome.{IsStopBy, ended}
+use Rattle.guard_run.specs.code.Stops.{NoneRose, Rose}
 use Rattle.guard_run.specs.declared.done.Done.{Done}
 use Rattle.guard_run.proofs.Outcomes.{at-exit, none-rose}
 use Rattle.guard_run.proofs.Stages.{texts-done, texts-stop}

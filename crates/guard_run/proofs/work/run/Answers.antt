@@ -2,8 +2,8 @@ use Rattle.std.proofs.Common.{◌≡◌, ◌∙◌, ℕ, List, Result, ap, ap₂
 use Rattle.guard_words.specs.Request.{Asked, asked, check, drill, validate}
 use Rattle.guard_ends.specs.End.{Counts}
 use Rattle.guard_ends.specs.Order.{Contents, Ends, OfDrill, WorkOf, usage}
-use Rattle.guard_run.specs.Outcome.{IsOutcomeBy}
-use Rattle.guard_run.specs.Stops.{NoneRose, Rose}
+use Rattle.guard_run.specs.code.Outcome.{IsOutcomeBy}
+use Rattle.guard_run.specs.code.Stops.{NoneRose, Rose}
 use Rattle.guard_run.specs.declared.done.Done.{Done}
 use Rattle.guard_run.specs.declared.stop.Stop.{Stop}
 use Rattle.guard_run.proofs.Outcomes.{IsOutcome-more, none-rose}

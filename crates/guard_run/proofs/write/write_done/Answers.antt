@@ -5,7 +5,7 @@ use Rattle.guard_ends.specs.End.{Faults, Took, is_reported}
 use Rattle.guard_ends.specs.Lines.{write_fault_line}
 use Rattle.guard_ends.specs.declared.ends.End.TheVariants.{WriteFault}
 use Rattle.guard_ends.specs.declared.ends.Pipe.TheVariants.{Out}
-use Rattle.guard_run.specs.Refusals.{bytes_of}
+use Rattle.guard_run.specs.code.Refusals.{bytes_of}
 use Rattle.guard_run.proofs.Closing.{Took-front, Took-nothing, Closed-said, Closed-memory, Closed-defined, IsReport-as, reported_as, reported-defined}
 use Rattle.guard_run.proofs.write.write_done.Goals as goal
 

@@ -1,6 +1,6 @@
 use Rattle.std.proofs.Common.{subst}
 use Rattle.guard_ends.specs.Order.{ComesTo}
-use Rattle.guard_run.specs.Outcome.{IsOutcomeBy}
+use Rattle.guard_run.specs.code.Outcome.{IsOutcomeBy}
 use Rattle.guard_run.proofs.write.write_outcome.Goals as goal
 
 pub returns-in-Ok-clause-closed : goal.returns-in-Ok-clause-closed

@@ -5,7 +5,7 @@ use Rattle.std.specs.List.{fold}
 use Rattle.clap.specs.Simple.{App}
 use Rattle.guard_words.specs.declared.table.Command.{Command}
 use Rattle.guard_words.specs.declared.table.Command.TheVariants.{Validate, Check, Drill}
-use Rattle.guard_words.specs.CommandLine.{program, with_command}
+use Rattle.guard_words.specs.code.CommandLine.{program, with_command}
 use Rattle.guard_words.proofs.command_line.command_line.Goals as goal
 
 abbrev commands : List Command

@@ -1,7 +1,7 @@
 use Rattle.std.proofs.Common.{◌≡◌, take}
 use Rattle.std.specs.List.{fold}
 use Rattle.clap.specs.Simple.{app_of}
-use Rattle.guard_words.specs.CommandLine.{program, with_command}
+use Rattle.guard_words.specs.code.CommandLine.{program, with_command}
 use Rattle.guard_words.proofs.command_line.command_line.Given as goal
 
 abbrev pub invariant-loop-command : goal.invariant-loop-command

@@ -4,9 +4,9 @@ use Rattle.std.proofs.lemmas.List.Folds.{fold-map}
 use Rattle.std.proofs.lemmas.List.Sums.{fold_more}
 use Rattle.std.specs.List.{fold}
 use Rattle.clap.specs.Simple.{App, app_of, new_app, with_rule, with_subcommand}
-use Rattle.guard_words.specs.CommandLine.{rule_for, subcommand_app, with_options}
+use Rattle.guard_words.specs.code.CommandLine.{rule_for, subcommand_app, with_options}
 use Rattle.guard_words.specs.declared.table.OptionRow.{OptionRow}
-use Rattle.guard_words.specs.Reading.{row_text}
+use Rattle.guard_words.specs.code.Reading.{row_text}
 use Rattle.guard_words.specs.Request.{Row, name_of}
 use Rattle.guard_words.proofs.command_line.subcommand_of.Goals as goal
 

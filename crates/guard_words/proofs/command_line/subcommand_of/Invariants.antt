@@ -1,8 +1,8 @@
 use Rattle.std.proofs.Common.{◌≡◌, take}
 use Rattle.std.specs.List.{fold}
 use Rattle.clap.specs.Simple.{app_of, new_app, with_rule}
-use Rattle.guard_words.specs.CommandLine.{HasNoGlobals, rule_for}
-use Rattle.guard_words.specs.Reading.{row_text}
+use Rattle.guard_words.specs.code.CommandLine.{HasNoGlobals, rule_for}
+use Rattle.guard_words.specs.code.Reading.{row_text}
 use Rattle.guard_words.specs.Request.{name_of}
 use Rattle.guard_words.proofs.command_line.subcommand_of.Given as goal
 

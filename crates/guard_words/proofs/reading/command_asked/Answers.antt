@@ -1,7 +1,7 @@
 use Rattle.std.proofs.Common.{◌≡◌, ◌∷◌, Some, map, string_bytes, sym, ap, ◌∙◌}
 use Rattle.std.proofs.lemmas.Result.{MatchResult-from_err}
-use Rattle.guard_words.specs.Reading.{command_in}
-use Rattle.guard_words.specs.Memory.{NamesCommand}
+use Rattle.guard_words.specs.code.Reading.{command_in}
+use Rattle.guard_words.specs.code.Memory.{NamesCommand}
 use Rattle.guard_words.proofs.RequestLemmas.{named}
 use Rattle.guard_words.proofs.reading.command_asked.Goals as goal
 

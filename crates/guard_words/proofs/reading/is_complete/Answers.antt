@@ -1,7 +1,7 @@
 use Rattle.std.proofs.Common.{◌||◌, not, sym, ap, ◌∙◌}
 use Rattle.std.proofs.lemmas.List.Folds.{list_all-map}
 use Rattle.guard_words.specs.Request.{Row, is_complete, is_given}
-use Rattle.guard_words.specs.Reading.{row_text, use_texts}
+use Rattle.guard_words.specs.code.Reading.{row_text, use_texts}
 use Rattle.guard_words.proofs.reading.is_complete.Goals as goal
 
 pub returns : goal.returns

@@ -1,7 +1,7 @@
 use Rattle.std.proofs.Common.{◌∙◌}
 use Rattle.std.specs.Str.{bytes_eq}
 use Rattle.clap.proofs.WalkLemmas.{list_any-map}
-use Rattle.guard_words.specs.Reading.{use_text}
+use Rattle.guard_words.specs.code.Reading.{use_text}
 use Rattle.guard_words.proofs.reading.is_given.Goals as goal
 
 pub returns : goal.returns

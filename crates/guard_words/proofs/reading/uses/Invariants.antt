@@ -1,6 +1,6 @@
 use Rattle.std.proofs.Common.{◌≡◌, [], None, map, drop, string_bytes}
 use Rattle.guard_words.specs.Request.{options_of}
-use Rattle.guard_words.specs.Reading.{uses_in, use_texts, awaited_text}
+use Rattle.guard_words.specs.code.Reading.{uses_in, use_texts, awaited_text}
 use Rattle.guard_words.proofs.reading.uses.Given as goal
 
 abbrev pub invariant-loop-word : goal.invariant-loop-word

@@ -1,6 +1,6 @@
 use Rattle.std.proofs.Common.{subst}
 use Rattle.clap.specs.Words.{found_of}
-use Rattle.guard_words.specs.Reading.{HasValues}
+use Rattle.guard_words.specs.code.Reading.{HasValues}
 use Rattle.guard_words.proofs.request.answer.Goals as goal
 
 pub validate-requires : goal.validate-requires

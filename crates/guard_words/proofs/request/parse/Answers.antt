@@ -1,7 +1,7 @@
 use Rattle.std.proofs.Common.{◌≡◌, true, map, option_map, string_bytes, ap, sym, ◌∙◌}
 use Rattle.clap.specs.Words.{takes, app_of}
 use Rattle.guard_words.proofs.TakenWords.{some_of}
-use Rattle.guard_words.specs.Reading.{parsed_in}
+use Rattle.guard_words.specs.code.Reading.{parsed_in}
 use Rattle.guard_words.proofs.RequestLemmas.{must_take}
 use Rattle.guard_words.proofs.request.parse.Goals as goal
 

@@ -1,7 +1,7 @@
 use Rattle.std.proofs.Common.{◌≡◌, codes, inl, inr, ap}
 use Rattle.clap.specs.Words.{first_value, found_of}
 use Rattle.guard_words.specs.Request.{validate, text_of}
-use Rattle.guard_words.specs.Reading.{flag_among}
+use Rattle.guard_words.specs.code.Reading.{flag_among}
 use Rattle.guard_words.proofs.request.validate.Goals as goal
 
 pub returns-clause-ok : goal.returns-clause-ok

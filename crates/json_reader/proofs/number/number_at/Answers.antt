@@ -3,8 +3,8 @@ use Rattle.std.specs.Str.{IsCharBoundary}
 use Rattle.std.proofs.lemmas.Str.{IsCharBoundary-after_ascii}
 use Rattle.doc_values.specs.Number.{IsNumber}
 use Rattle.doc_values.specs.declared.kind.Kind.{Kind}
-use Rattle.json_reader.specs.Reading.{number_cause}
-use Rattle.json_reader.specs.Steps.{IsPlain, Number, NoNumber}
+use Rattle.json_reader.specs.code.Reading.{number_cause}
+use Rattle.json_reader.specs.code.Steps.{IsPlain, Number, NoNumber}
 use Rattle.json_reader.proofs.Walk.{NumberRun, number_found, number_none, number_some}
 use Rattle.json_reader.proofs.number.number_at.Goals as goal
 

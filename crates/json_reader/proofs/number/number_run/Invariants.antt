@@ -1,5 +1,5 @@
 use Rattle.std.proofs.Common.{◌≡◌, take, Some}
-use Rattle.json_reader.specs.Numbers.{run_parts}
+use Rattle.json_reader.specs.code.Numbers.{run_parts}
 use Rattle.json_reader.proofs.number.number_run.Given as goal
 
 abbrev pub invariant-loop-i : goal.invariant-loop-i

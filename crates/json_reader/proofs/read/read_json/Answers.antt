@@ -1,8 +1,8 @@
 use Rattle.std.proofs.Common.{◌≡◌, ◌≤◌, length, arith, sym, ◌∙◌, subst, ap, refl, Some, Err}
 use Rattle.doc_values.specs.Tree.{Forest}
 use Rattle.json_reader.specs.Json.{Json}
-use Rattle.json_reader.specs.Reading.{mark_stop}
-use Rattle.json_reader.specs.Steps.{phase_of}
+use Rattle.json_reader.specs.code.Reading.{mark_stop}
+use Rattle.json_reader.specs.code.Steps.{phase_of}
 use Rattle.json_reader.proofs.Verdicts.{mark_refused, refused, ends_well, ends_open, ends_early}
 use Rattle.json_reader.proofs.Refuses.{refuses}
 use Rattle.json_reader.specs.declared.refusal.JsonRefusal.TheVariants.{Syntax, NoMemory}

@@ -1,6 +1,6 @@
 use Rattle.std.proofs.Common.{◌≡◌, ◌-◌, ◌≤◌, length}
-use Rattle.json_reader.specs.Reading.{verdict, from}
-use Rattle.json_reader.specs.Steps.{phase_of, Fits}
+use Rattle.json_reader.specs.code.Reading.{verdict, from}
+use Rattle.json_reader.specs.code.Steps.{phase_of, Fits}
 use Rattle.json_reader.proofs.read.read_json.Given as goal
 
 abbrev pub invariant-loop-position : goal.invariant-loop-position

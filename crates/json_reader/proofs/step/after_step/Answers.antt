@@ -3,7 +3,7 @@ use Rattle.std.specs.Prelude.{Err}
 use Rattle.json_reader.specs.declared.stage.Stage.TheVariants as stage
 use Rattle.json_reader.specs.declared.refusal.JsonRefusal.TheVariants.{Syntax}
 use Rattle.json_reader.specs.declared.bytes.Class.TheVariants.{Comma, Close, CloseList}
-use Rattle.json_reader.specs.Reading.{class_of, After, after_next}
+use Rattle.json_reader.specs.code.Reading.{class_of, After, after_next}
 use Rattle.json_reader.proofs.Walk.{Gives-one, from_cause}
 use Rattle.json_reader.proofs.ByClass.{goes, after_stops}
 use Rattle.json_reader.proofs.step.after_step.Goals as goal

@@ -2,7 +2,7 @@ use Rattle.std.proofs.Common.{List, ℕ, get_or, ap, sym, ◌∙◌, refl}
 use Rattle.std.specs.Prelude.{Err}
 use Rattle.json_reader.specs.declared.stage.Stage.TheVariants as stage
 use Rattle.json_reader.specs.declared.refusal.JsonRefusal.TheVariants.{Syntax}
-use Rattle.json_reader.specs.Reading.{class_of, AtColon, colon_next}
+use Rattle.json_reader.specs.code.Reading.{class_of, AtColon, colon_next}
 use Rattle.json_reader.proofs.Walk.{from_cause}
 use Rattle.json_reader.proofs.ByClass.{goes, colon_stops}
 use Rattle.json_reader.proofs.step.colon_step.Goals as goal

@@ -2,7 +2,7 @@ use Rattle.std.proofs.Common.{List, ℕ, get_or, ap, sym, ◌∙◌}
 use Rattle.json_reader.specs.declared.bytes.Class.TheVariants.{CloseList}
 use Rattle.json_reader.specs.declared.stage.Stage.TheVariants as stage
 use Rattle.json_reader.specs.declared.refusal.JsonRefusal.TheVariants.{Syntax}
-use Rattle.json_reader.specs.Reading.{class_of, AtItemOrEnd, item_or_end_next, value_cause}
+use Rattle.json_reader.specs.code.Reading.{class_of, AtItemOrEnd, item_or_end_next, value_cause}
 use Rattle.json_reader.proofs.Walk.{Gives-one, item_gives}
 use Rattle.json_reader.proofs.ByClass.{goes}
 use Rattle.json_reader.proofs.step.item_or_end_step.Goals as goal

@@ -3,7 +3,7 @@ use Rattle.std.specs.Prelude.{Err}
 use Rattle.json_reader.specs.declared.stage.Stage.TheVariants as stage
 use Rattle.json_reader.specs.declared.refusal.JsonRefusal.TheVariants.{Syntax}
 use Rattle.json_reader.specs.declared.bytes.Class.TheVariants.{Close}
-use Rattle.json_reader.specs.Reading.{class_of, AtKeyOrEnd, InString, key_or_end_next}
+use Rattle.json_reader.specs.code.Reading.{class_of, AtKeyOrEnd, InString, key_or_end_next}
 use Rattle.json_reader.proofs.Walk.{Gives-one, from_cause}
 use Rattle.json_reader.proofs.ByClass.{goes, gives_on, key_or_end_stops, quote_is}
 use Rattle.json_reader.proofs.step.key_or_end_step.Goals as goal

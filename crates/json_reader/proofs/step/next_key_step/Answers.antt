@@ -2,7 +2,7 @@ use Rattle.std.proofs.Common.{List, [], true, ℕ, get_or, ap, sym, ◌∙◌, r
 use Rattle.std.specs.Prelude.{Err}
 use Rattle.json_reader.specs.declared.stage.Stage.TheVariants as stage
 use Rattle.json_reader.specs.declared.refusal.JsonRefusal.TheVariants.{Syntax}
-use Rattle.json_reader.specs.Reading.{class_of, AtKey, InString, key_next}
+use Rattle.json_reader.specs.code.Reading.{class_of, AtKey, InString, key_next}
 use Rattle.json_reader.proofs.Walk.{from_cause}
 use Rattle.json_reader.proofs.ByClass.{goes, gives_on, key_stops, quote_is}
 use Rattle.json_reader.proofs.step.next_key_step.Goals as goal

@@ -1,6 +1,6 @@
 use Rattle.std.proofs.Common.{sym, subst}
 use Rattle.json_reader.specs.declared.stage.Stage.{Stage}
-use Rattle.json_reader.specs.Steps.{Fits, Gives, phase_of}
+use Rattle.json_reader.specs.code.Steps.{Fits, Gives, phase_of}
 use Rattle.json_reader.proofs.step.step.Goals as goal
 
 pub value_step-requires-clause-fits : goal.value_step-requires-clause-fits

@@ -3,9 +3,9 @@ use Rattle.std.specs.Prelude.{Err}
 use Rattle.doc_values.specs.declared.kind.Kind.TheVariants as kind
 use Rattle.json_reader.specs.declared.stage.Stage.TheVariants as stage
 use Rattle.json_reader.specs.declared.refusal.JsonRefusal.TheVariants.{Syntax, TooDeep}
-use Rattle.json_reader.specs.Memory.{begins}
-use Rattle.json_reader.specs.Reading.{class_of, AtValue, InString, InWord, value_next, value_cause}
-use Rattle.json_reader.specs.Steps.{Gives, open_next}
+use Rattle.json_reader.specs.code.Memory.{begins}
+use Rattle.json_reader.specs.code.Reading.{class_of, AtValue, InString, InWord, value_next, value_cause}
+use Rattle.json_reader.specs.code.Steps.{Gives, open_next}
 use Rattle.json_reader.proofs.Walk.{Gives-one, from_cause}
 use Rattle.json_reader.proofs.ByClass.{goes, gives_on, value_stops, quote_is}
 use Rattle.json_reader.proofs.step.value_step.Goals as goal

@@ -2,7 +2,7 @@ use Rattle.std.proofs.Common.{◌≡◌, ℕ, List, ◌+◌, ◌-◌, ◌<◌, �
 use Rattle.std.specs.Prelude.{encode_utf8}
 use Rattle.std.specs.Str.{IsCharBoundary}
 use Rattle.std.proofs.lemmas.Str.{IsCharBoundary-after_ascii, IsCharBoundary-before_ascii}
-use Rattle.json_reader.specs.Steps.{Reaches, Fails}
+use Rattle.json_reader.specs.code.Steps.{Reaches, Fails}
 use Rattle.json_reader.proofs.Walk.{reaches_self, reaches_on, text_fails, mark_ascii}
 use Rattle.json_reader.proofs.text.decoded_at.Goals as goal
 

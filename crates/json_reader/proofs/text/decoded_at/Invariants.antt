@@ -1,6 +1,6 @@
 use Rattle.std.proofs.Common.{length, ◌-◌, ◌≤◌}
 use Rattle.std.specs.Str.{IsCharBoundary}
-use Rattle.json_reader.specs.Steps.{Reaches}
+use Rattle.json_reader.specs.code.Steps.{Reaches}
 use Rattle.json_reader.proofs.text.decoded_at.Given as goal
 
 abbrev pub invariant-loop-at : goal.invariant-loop-at

@@ -5,7 +5,7 @@ use Rattle.std.specs.Str.{bytes_eq}
 use Rattle.literal_parser.specs.declared.keyword.Keyword.{Keyword}
 use Rattle.literal_parser.specs.declared.keyword.Keyword.TheVariants as kw
 use Rattle.literal_parser.specs.Lexemes.{keyword_in}
-use Rattle.literal_parser.specs.TokenClasses.{spelling}
+use Rattle.literal_parser.specs.code.TokenClasses.{spelling}
 use Rattle.literal_parser.proofs.lexeme.keyword_among.Goals as goal
 
 abbrev Row : Type 0

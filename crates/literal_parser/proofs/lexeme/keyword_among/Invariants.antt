@@ -1,6 +1,6 @@
 use Rattle.std.proofs.Common.{◌≡◌, map, drop}
 use Rattle.literal_parser.specs.Lexemes.{keyword_in}
-use Rattle.literal_parser.specs.TokenClasses.{spelling}
+use Rattle.literal_parser.specs.code.TokenClasses.{spelling}
 use Rattle.literal_parser.proofs.lexeme.keyword_among.Given as goal
 
 abbrev pub invariant-loop-row : goal.invariant-loop-row

@@ -3,7 +3,7 @@ use Rattle.std.proofs.lemmas.List.{map_more, take_all}
 use Rattle.guard_lexer.specs.declared.token.Token.{Token}
 use Rattle.literal_parser.specs.declared.token_class.TokenClass.{TokenClass}
 use Rattle.literal_parser.specs.Lexemes.{lexeme_of}
-use Rattle.literal_parser.specs.TokenClasses.{shape_of}
+use Rattle.literal_parser.specs.code.TokenClasses.{shape_of}
 use Rattle.literal_parser.proofs.lexeme.shapes_of.Goals as goal
 
 -- over any shape of a token, so that none is computed

@@ -1,7 +1,7 @@
 use Rattle.std.proofs.Common.{◌≡◌, map, take}
 use Rattle.guard_lexer.specs.declared.token.Token.{Token}
 use Rattle.literal_parser.specs.Lexemes.{lexeme_of}
-use Rattle.literal_parser.specs.TokenClasses.{shape_of}
+use Rattle.literal_parser.specs.code.TokenClasses.{shape_of}
 use Rattle.literal_parser.proofs.lexeme.shapes_of.Given as goal
 
 abbrev pub invariant-loop-token : goal.invariant-loop-token

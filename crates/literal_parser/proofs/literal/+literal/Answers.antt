@@ -1,14 +1,14 @@
 use Rattle.std.proofs.Common.{◌-◌, true, false, refl, ap, sym, ◌∙◌, subst}
 use Rattle.doc_values.specs.Tree.{Nil, Node, snoc}
-use Rattle.doc_values.specs.Laws.{joined-Nil}
+use Rattle.doc_values.specs.code.Laws.{joined-Nil}
 use Rattle.doc_values.specs.Unfinished.{Unfinished}
 use Rattle.doc_values.specs.declared.kind.Kind.TheVariants as kind
 use Rattle.literal_parser.specs.Forms.{is_scalar, is_lbracket, is_rbracket, is_lbrace, is_rbrace, is_r, opens_range}
 use Rattle.literal_parser.specs.Literal.{holder}
-use Rattle.literal_parser.specs.LiteralReading.{items_of, node}
-use Rattle.literal_parser.specs.Parser.{takes}
-use Rattle.literal_parser.specs.Reads.{state_of, source}
-use Rattle.literal_parser.specs.LiteralReads.{Puts, with_tree, with_all, list_at, map_at, items_at, entries_at, more_items_at, more_entries_at}
+use Rattle.literal_parser.specs.code.LiteralReading.{items_of, node}
+use Rattle.literal_parser.specs.code.Parser.{takes}
+use Rattle.literal_parser.specs.code.Reads.{state_of, source}
+use Rattle.literal_parser.specs.code.LiteralReads.{Puts, with_tree, with_all, list_at, map_at, items_at, entries_at, more_items_at, more_entries_at}
 use Rattle.literal_parser.proofs.LiteralSteps.{halted_read, halted_put, saw, saw_pair, list_failed, list_unread, list_open, list_closed, list_read, map_failed, map_unread, map_open, map_closed, map_read, held, all-one, collected, one_more_done, behind, behind-none, less_none, items_turn, items_end, items_first, entries_turn, entries_end, entries_first}
 use Rattle.literal_parser.proofs.literal.+literal.Goals as goal
 

@@ -1,8 +1,8 @@
 use Rattle.std.proofs.Common.{◌≡◌, ◌+◌, ◌-◌, ◌*◌}
 use Rattle.doc_values.specs.Tree.{Forest, joined}
-use Rattle.literal_parser.specs.Parser.{and_then, pure}
-use Rattle.literal_parser.specs.Reads.{state_of}
-use Rattle.literal_parser.specs.LiteralReads.{IsLevel, more_items_at, more_entries_at}
+use Rattle.literal_parser.specs.code.Parser.{and_then, pure}
+use Rattle.literal_parser.specs.code.Reads.{state_of}
+use Rattle.literal_parser.specs.code.LiteralReads.{IsLevel, more_items_at, more_entries_at}
 use Rattle.literal_parser.proofs.literal.+literal.Given as goal
 
 abbrev pub decreases-list : goal.decreases-list

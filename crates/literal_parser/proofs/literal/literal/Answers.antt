@@ -1,4 +1,4 @@
-use Rattle.literal_parser.specs.Reads.{state_of, source}
+use Rattle.literal_parser.specs.code.Reads.{state_of, source}
 use Rattle.literal_parser.proofs.LiteralSteps.{literal_read}
 use Rattle.literal_parser.proofs.literal.literal.Goals as goal
 

@@ -1,7 +1,7 @@
 use Rattle.doc_values.specs.Tree.{Nil}
 use Rattle.doc_values.specs.declared.kind.Kind.TheVariants as kind
 use Rattle.literal_parser.specs.Literal.{holder}
-use Rattle.literal_parser.specs.Reads.{state_of, source}
+use Rattle.literal_parser.specs.code.Reads.{state_of, source}
 use Rattle.literal_parser.proofs.LiteralSteps.{range_read, put_limits}
 use Rattle.literal_parser.proofs.literal.range.Goals as goal
 

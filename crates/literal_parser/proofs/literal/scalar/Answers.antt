@@ -1,6 +1,6 @@
 use Rattle.doc_values.specs.Tree.{Nil}
 use Rattle.literal_parser.specs.Literal.{scalar}
-use Rattle.literal_parser.specs.Reads.{state_of, source}
+use Rattle.literal_parser.specs.code.Reads.{state_of, source}
 use Rattle.literal_parser.proofs.LiteralSteps.{scalar_read, put_scalar, kind_told}
 use Rattle.literal_parser.proofs.literal.scalar.Goals as goal
 

@@ -1,10 +1,10 @@
 use Rattle.std.proofs.Common.{◌∙◌, sym, ap}
 use Rattle.rule_names.specs.Faults.{first_from}
-use Rattle.name_scopes.specs.Seen.{see_best}
+use Rattle.name_scopes.specs.code.Seen.{see_best}
 use Rattle.rule_names.specs.declared.name_kind.NameKind.TheVariants.{ArgCount}
 use Rattle.rule_names.specs.Uses.{wrong}
-use Rattle.name_faults.specs.Arities.{arity_named}
-use Rattle.name_faults.specs.RuleArities.{rules_of, places_of}
+use Rattle.name_faults.specs.code.Arities.{arity_named}
+use Rattle.name_faults.specs.code.RuleArities.{rules_of, places_of}
 use Rattle.rule_names.proofs.Arguments.{count-args, call-good, call-other}
 use Rattle.name_faults.proofs.calls.wrong_call.Goals as goal
 

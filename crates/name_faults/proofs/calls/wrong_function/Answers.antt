@@ -1,10 +1,10 @@
 use Rattle.std.proofs.Common.{◌≡◌, ◌∙◌, sym, ap, map, ◌++◌, Some, None}
-use Rattle.guard_syntax.specs.Seen.{expr_list, see_expr}
+use Rattle.guard_syntax.specs.code.Seen.{expr_list, see_expr}
 use Rattle.rule_names.specs.Faults.{first_from}
-use Rattle.name_scopes.specs.Seen.{see_best}
+use Rattle.name_scopes.specs.code.Seen.{see_best}
 use Rattle.rule_names.specs.declared.name_kind.NameKind.TheVariants.{ArgCount, UnknownFunction}
 use Rattle.rule_names.specs.Uses.{wrong, wrong_function, wrong_texts, function_named, place_of}
-use Rattle.name_faults.specs.RuleArities.{rules_of, places_of}
+use Rattle.name_faults.specs.code.RuleArities.{rules_of, places_of}
 use Rattle.rule_names.proofs.Arguments.{count-args, named-none, named-some, function-good, function-other}
 use Rattle.name_faults.proofs.calls.wrong_function.Goals as goal
 

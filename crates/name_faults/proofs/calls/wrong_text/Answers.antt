@@ -1,10 +1,10 @@
 use Rattle.std.proofs.Common.{◌∙◌, sym, ap}
-use Rattle.guard_syntax.specs.Seen.{see_expr}
+use Rattle.guard_syntax.specs.code.Seen.{see_expr}
 use Rattle.rule_names.specs.Faults.{first_from}
-use Rattle.name_scopes.specs.Seen.{see_best}
+use Rattle.name_scopes.specs.code.Seen.{see_best}
 use Rattle.rule_names.specs.Uses.{wrong, wrong_text, place_of}
 use Rattle.rule_names.specs.declared.name_kind.NameKind.TheVariants.{LiteralWanted}
-use Rattle.name_faults.specs.RuleArities.{rules_of, places_of}
+use Rattle.name_faults.specs.code.RuleArities.{rules_of, places_of}
 use Rattle.rule_names.proofs.Arguments.{args-none, args-some, site-first, text-good, text-other}
 use Rattle.name_faults.proofs.calls.wrong_text.Goals as goal
 

@@ -8,11 +8,11 @@ use Rattle.guard_syntax.specs.declared.syntax.Part.{Part}
 use Rattle.guard_syntax.specs.declared.syntax.Step.{Step}
 use Rattle.guard_syntax.specs.declared.syntax.Expr.{Expr}
 use Rattle.guard_syntax.specs.Named.{Named}
-use Rattle.guard_syntax.specs.Seen.{see_let, see_step, see_disj, see_part, see_query, see_body, see_conds, see_opt_conds, see_expr, see_opt_expr, let_list, step_list, disj_list, part_list, expr_list}
+use Rattle.guard_syntax.specs.code.Seen.{see_let, see_step, see_disj, see_part, see_query, see_body, see_conds, see_opt_conds, see_expr, see_opt_expr, let_list, step_list, disj_list, part_list, expr_list}
 use Rattle.rule_names.specs.Duplicates.{duplicated}
 use Rattle.rule_names.specs.Faults.{first_from}
 use Rattle.rule_names.specs.Scopes.{names_of, given_body, given_conds, scopes_lets, scopes_let, scopes_steps, scopes_step, scopes_disjs, scopes_disj, scopes_parts, scopes_part, scopes_exprs, scopes_expr, scopes_opt_expr, scopes_query, scopes_body, scopes_conds, scopes_opt_conds}
-use Rattle.name_scopes.specs.Seen.{see_best}
+use Rattle.name_scopes.specs.code.Seen.{see_best}
 use Rattle.name_scopes.proofs.FirstFaults.{first-then, last-then, own-scope, more-parts}
 use Rattle.name_scopes.proofs.ScopeShapes.{let-scopes, disj-scopes, body-scopes, block-scopes, when-scopes, kinds-scopes, test-scopes}
 use Rattle.name_faults.proofs.ScopeParts.{of-conds, of-query, of-call, of-refer, of-function, of-asked, of-found, of-some-conds, of-some-expr}

@@ -1,9 +1,9 @@
 use Rattle.std.proofs.Common.{◌≡◌, drop, map}
-use Rattle.guard_syntax.specs.Seen.{see_let, see_step, see_disj, see_part, see_expr, let_list, step_list, disj_list, part_list, expr_list}
+use Rattle.guard_syntax.specs.code.Seen.{see_let, see_step, see_disj, see_part, see_expr, let_list, step_list, disj_list, part_list, expr_list}
 use Rattle.rule_names.specs.Duplicates.{duplicated}
 use Rattle.rule_names.specs.Faults.{first_from}
 use Rattle.rule_names.specs.Scopes.{scopes_lets, scopes_steps, scopes_disjs, scopes_parts, scopes_exprs}
-use Rattle.name_scopes.specs.Seen.{see_best}
+use Rattle.name_scopes.specs.code.Seen.{see_best}
 use Rattle.name_faults.proofs.duplicates.+scopes.Given as goal
 
 abbrev pub invariant-in_steps-loop-step : goal.invariant-in_steps-loop-step

@@ -1,5 +1,5 @@
 use Rattle.std.proofs.Common.{◌≡◌, ◌+◌, List, [], ℕ, take, drop, sym, subst, Some}
-use Rattle.name_scopes.specs.Seen.{see_best, see_wrong}
+use Rattle.name_scopes.specs.code.Seen.{see_best, see_wrong}
 use Rattle.name_faults.proofs.NameSets.{IsNameSet, set-more, name-old, name-new}
 use Rattle.name_faults.proofs.SeenNames.{texts_of, texts-next, first_left, again-new, again-old}
 use Rattle.name_faults.proofs.duplicates.first_again.Goals as goal

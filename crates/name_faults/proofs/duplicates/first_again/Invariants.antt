@@ -1,7 +1,7 @@
 use Rattle.std.proofs.Common.{◌≡◌, [], take, drop, map}
 use Rattle.rule_names.specs.Duplicates.{given_again, fault_of}
 use Rattle.rule_names.specs.Faults.{first_from}
-use Rattle.name_scopes.specs.Seen.{see_best, see_names}
+use Rattle.name_scopes.specs.code.Seen.{see_best, see_names}
 use Rattle.name_faults.proofs.NameSets.{IsNameSet}
 use Rattle.name_faults.proofs.SeenNames.{texts_of}
 use Rattle.name_faults.proofs.duplicates.first_again.Given as goal

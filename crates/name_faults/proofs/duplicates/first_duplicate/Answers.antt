@@ -2,12 +2,12 @@ use Rattle.std.proofs.Common.{◌≡◌, List, [], None, Option, map, ap, sym, �
 use Rattle.std.specs.Borrow.{Bor}
 use Rattle.std.proofs.lemmas.Result.{IfOk-weaker}
 use Rattle.guard_syntax.specs.Named.{Named}
-use Rattle.guard_syntax.specs.Seen.{see_file, see_rule}
+use Rattle.guard_syntax.specs.code.Seen.{see_file, see_rule}
 use Rattle.guard_syntax.specs.declared.syntax.Rule.{Rule}
 use Rattle.rule_names.specs.declared.name_kind.NameKind.TheVariants.{DuplicateRule}
 use Rattle.rule_names.specs.Duplicates.{duplicates, duplicate_rules, duplicate_names, given_again, fault_of, rule_names}
 use Rattle.rule_names.specs.Faults.{Fault, first_from, first_of}
-use Rattle.name_scopes.specs.Seen.{see_best, see_names}
+use Rattle.name_scopes.specs.code.Seen.{see_best, see_names}
 use Rattle.name_scopes.proofs.FirstFaults.{first-append}
 use Rattle.name_faults.proofs.duplicates.first_duplicate.Goals as goal
 

@@ -2,11 +2,11 @@ use Rattle.std.proofs.Common.{List, ◌++◌, map, ap, sym, ◌∙◌}
 use Rattle.std.proofs.lemmas.List.{append_assoc}
 use Rattle.guard_syntax.specs.Named.{Named}
 use Rattle.guard_syntax.specs.declared.syntax.Rule.{Rule}
-use Rattle.guard_syntax.specs.Seen.{see_rule, see_body, see_opt_conds}
+use Rattle.guard_syntax.specs.code.Seen.{see_rule, see_body, see_opt_conds}
 use Rattle.rule_names.specs.Duplicates.{duplicated}
 use Rattle.rule_names.specs.Faults.{first_from}
 use Rattle.rule_names.specs.Scopes.{scopes_body, scopes_opt_conds, scopes_rules}
-use Rattle.name_scopes.specs.Seen.{see_best}
+use Rattle.name_scopes.specs.code.Seen.{see_best}
 use Rattle.name_scopes.proofs.FirstFaults.{first-then, more-parts}
 use Rattle.name_faults.proofs.duplicates.in_rules.Goals as goal
 

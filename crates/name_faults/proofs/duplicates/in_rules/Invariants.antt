@@ -1,9 +1,9 @@
 use Rattle.std.proofs.Common.{◌≡◌, drop, map}
-use Rattle.guard_syntax.specs.Seen.{see_rule}
+use Rattle.guard_syntax.specs.code.Seen.{see_rule}
 use Rattle.rule_names.specs.Duplicates.{duplicated}
 use Rattle.rule_names.specs.Faults.{first_from}
 use Rattle.rule_names.specs.Scopes.{scopes_rules}
-use Rattle.name_scopes.specs.Seen.{see_best}
+use Rattle.name_scopes.specs.code.Seen.{see_best}
 use Rattle.name_faults.proofs.duplicates.in_rules.Given as goal
 
 abbrev pub invariant-loop-rule : goal.invariant-loop-rule

@@ -1,5 +1,5 @@
 use Rattle.rule_names.specs.Scopes.{names_of}
-use Rattle.name_scopes.specs.Seen.{see_best, see_given}
+use Rattle.name_scopes.specs.code.Seen.{see_best, see_given}
 use Rattle.name_scopes.proofs.FirstFaults.{own-names}
 use Rattle.name_faults.proofs.duplicates.in_scope.Goals as goal
 

@@ -1,7 +1,7 @@
 use Rattle.std.proofs.Common.{[], ◌∷◌, ◌++◌, map}
-use Rattle.guard_syntax.specs.Seen.{see_file, see_let, see_rule, see_disj, let_list, disj_list}
+use Rattle.guard_syntax.specs.code.Seen.{see_file, see_let, see_rule, see_disj, let_list, disj_list}
 use Rattle.rule_names.specs.Scopes.{names_of, given_file, scopes_file, scopes_lets, scopes_rules, scopes_disjs}
-use Rattle.name_scopes.specs.Seen.{see_best}
+use Rattle.name_scopes.specs.code.Seen.{see_best}
 use Rattle.name_scopes.proofs.FirstFaults.{first-then, last-then, own-scope}
 use Rattle.name_scopes.proofs.ScopeShapes.{file-scopes}
 use Rattle.name_faults.proofs.duplicates.in_scopes.Goals as goal

@@ -1,7 +1,7 @@
 use Rattle.std.proofs.Common.{List, refl}
 use Rattle.name_scopes.specs.declared.scopes.Given as scope
 use Rattle.rule_names.specs.Scopes.{names_of}
-use Rattle.name_scopes.specs.Seen.{see_given}
+use Rattle.name_scopes.specs.code.Seen.{see_given}
 use Rattle.name_faults.proofs.SeenNames.{names-next, names-end}
 use Rattle.name_faults.proofs.duplicates.names_of.Goals as goal
 

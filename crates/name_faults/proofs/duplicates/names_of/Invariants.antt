@@ -1,6 +1,6 @@
 use Rattle.std.proofs.Common.{◌≡◌, ◌++◌, drop}
 use Rattle.rule_names.specs.Scopes.{names_of}
-use Rattle.name_scopes.specs.Seen.{see_given, see_names}
+use Rattle.name_scopes.specs.code.Seen.{see_given, see_names}
 use Rattle.name_faults.proofs.duplicates.names_of.Given as goal
 
 abbrev pub invariant-loop-one : goal.invariant-loop-one

@@ -1,5 +1,5 @@
 use Rattle.std.proofs.Common.{List, map, refl}
-use Rattle.guard_syntax.specs.Seen.{see_rule}
+use Rattle.guard_syntax.specs.code.Seen.{see_rule}
 use Rattle.guard_syntax.specs.declared.syntax.Rule.{Rule}
 use Rattle.rule_names.specs.Duplicates.{rule_names}
 use Rattle.name_faults.proofs.SeenNames.{names-next, names-end}

@@ -1,6 +1,6 @@
 use Rattle.std.proofs.Common.{drop, map}
-use Rattle.guard_syntax.specs.Seen.{see_rule}
-use Rattle.name_faults.specs.Arities.{AreArities}
+use Rattle.guard_syntax.specs.code.Seen.{see_rule}
+use Rattle.name_faults.specs.code.Arities.{AreArities}
 use Rattle.name_faults.proofs.rule_arities.arities_of.Given as goal
 
 abbrev pub invariant-loop-index : goal.invariant-loop-index

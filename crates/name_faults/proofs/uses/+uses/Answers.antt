@@ -2,7 +2,7 @@ use Rattle.std.proofs.Common.{◌∙◌, ap, rules, Some, None}
 use Rattle.std.proofs.lemmas.Result.{IfOk-weaker}
 use Rattle.std.proofs.Common.{◌++◌}
 use Rattle.guard_syntax.specs.Syntax as sx
-use Rattle.guard_syntax.specs.Seen.{see_conds, see_expr}
+use Rattle.guard_syntax.specs.code.Seen.{see_conds, see_expr}
 use Rattle.guard_syntax.specs.declared.syntax.Body.{the_lemmas}
 use Rattle.guard_syntax.specs.declared.syntax.StepForm as form
 use Rattle.rule_names.specs.Faults.{first_from}
@@ -10,9 +10,9 @@ use Rattle.rule_names.specs.Uses.{wrong_opt_conds, wrong_part, wrong_step, wrong
 use Rattle.std.specs.declared.vec.Vec.{Vec}
 use Rattle.std.specs.declared.alloc.Global.{Global}
 use Rattle.name_scopes.specs.declared.scopes.Given.{Given}
-use Rattle.name_scopes.specs.Seen.{see_best, see_given}
-use Rattle.name_scopes.specs.ScopeChains.{visible_in}
-use Rattle.name_faults.specs.RuleArities.{rules_of, places_of}
+use Rattle.name_scopes.specs.code.Seen.{see_best, see_given}
+use Rattle.name_scopes.specs.code.ScopeChains.{visible_in}
+use Rattle.name_faults.specs.code.RuleArities.{rules_of, places_of}
 use Rattle.name_faults.proofs.UsesInTurn.{lets-next, lets-end, disjs-next, disjs-end, parts-next, parts-end, steps-next, steps-end, exprs-next, exprs-end, query-steps, block-wrong, when-wrong, kinds-wrong, test-wrong, function-wrong, body-wrong, filter-wrong}
 use Rattle.name_faults.proofs.ScopeParts.{of-conds, of-step, of-refer, of-asked, of-found, of-some-conds, of-some-expr}
 use Rattle.name_faults.proofs.uses.+uses.Goals as goal

@@ -1,10 +1,10 @@
 use Rattle.std.proofs.Common.{◌≡◌, drop}
-use Rattle.guard_syntax.specs.Seen.{see_query}
+use Rattle.guard_syntax.specs.code.Seen.{see_query}
 use Rattle.rule_names.specs.Faults.{first_from}
-use Rattle.name_scopes.specs.Seen.{see_best}
+use Rattle.name_scopes.specs.code.Seen.{see_best}
 use Rattle.rule_names.specs.Uses.{wrong_query}
-use Rattle.name_scopes.specs.ScopeChains.{visible_in}
-use Rattle.name_faults.specs.RuleArities.{rules_of, places_of}
+use Rattle.name_scopes.specs.code.ScopeChains.{visible_in}
+use Rattle.name_faults.specs.code.RuleArities.{rules_of, places_of}
 use Rattle.name_faults.proofs.UsesInTurn.{of_lets, of_disjs, of_parts, of_steps, of_exprs}
 use Rattle.name_faults.proofs.uses.+uses.Given as goal
 

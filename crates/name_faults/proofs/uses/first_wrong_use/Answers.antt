@@ -3,13 +3,13 @@ use Rattle.std.proofs.lemmas.Result.{IfOk-weaker}
 use Rattle.std.specs.declared.vec.Vec.{Vec}
 use Rattle.std.specs.declared.alloc.Global.{Global}
 use Rattle.name_scopes.specs.declared.scopes.Given.{Given}
-use Rattle.guard_syntax.specs.Seen.{see_file}
+use Rattle.guard_syntax.specs.code.Seen.{see_file}
 use Rattle.guard_syntax.specs.declared.syntax.RawFile.{RawFile}
 use Rattle.rule_names.specs.Faults.{first_of}
 use Rattle.rule_names.specs.Scopes.{given_file}
-use Rattle.name_scopes.specs.Seen.{see_best, see_given}
+use Rattle.name_scopes.specs.code.Seen.{see_best, see_given}
 use Rattle.rule_names.specs.Uses.{wrong_uses}
-use Rattle.name_scopes.specs.ScopeChains.{visible_in}
+use Rattle.name_scopes.specs.code.ScopeChains.{visible_in}
 use Rattle.name_faults.proofs.UsesInTurn.{file-wrong}
 use Rattle.name_faults.proofs.uses.first_wrong_use.Goals as goal
 

@@ -1,8 +1,8 @@
 use Rattle.std.proofs.Common.{◌∙◌}
 use Rattle.std.proofs.lemmas.Result.{IfOk-weaker}
-use Rattle.name_scopes.specs.Seen.{see_best}
-use Rattle.name_scopes.specs.ScopeChains.{visible_in}
-use Rattle.name_faults.specs.RuleArities.{rules_of, places_of}
+use Rattle.name_scopes.specs.code.Seen.{see_best}
+use Rattle.name_scopes.specs.code.ScopeChains.{visible_in}
+use Rattle.name_faults.specs.code.RuleArities.{rules_of, places_of}
 use Rattle.name_faults.proofs.UsesInTurn.{rule-wrong}
 use Rattle.name_faults.proofs.uses.in_rule.Goals as goal
 

@@ -1,8 +1,8 @@
 use Rattle.std.proofs.Common.{◌≡◌, drop}
 use Rattle.rule_names.specs.Faults.{first_from}
-use Rattle.name_scopes.specs.Seen.{see_best}
-use Rattle.name_scopes.specs.ScopeChains.{visible_in}
-use Rattle.name_faults.specs.RuleArities.{rules_of, places_of}
+use Rattle.name_scopes.specs.code.Seen.{see_best}
+use Rattle.name_scopes.specs.code.ScopeChains.{visible_in}
+use Rattle.name_faults.specs.code.RuleArities.{rules_of, places_of}
 use Rattle.name_faults.proofs.UsesInTurn.{of_rules}
 use Rattle.name_faults.proofs.uses.in_rules.Given as goal
 

@@ -1,6 +1,6 @@
 use Rattle.std.proofs.Common.{sym, ap, ◌∙◌, Option}
 use Rattle.std.specs.Prelude.{option_map}
-use Rattle.name_scopes.specs.ScopeChains.{see_meant}
+use Rattle.name_scopes.specs.code.ScopeChains.{see_meant}
 use Rattle.name_scopes.specs.declared.scope_chain.Meant.{Meant}
 use Rattle.name_scopes.proofs.VisibleNames.{nowhere}
 use Rattle.name_scopes.proofs.scope_chain.+nearest.Goals as goal

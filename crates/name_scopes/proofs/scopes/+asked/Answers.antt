@@ -1,11 +1,11 @@
 use Rattle.std.proofs.Common.{refl, sym, ap, ◌∙◌, ◌++◌, rules, List}
 use Rattle.std.proofs.lemmas.List.{append-nil}
 use Rattle.std.proofs.lemmas.Result.{IfOk-weaker}
-use Rattle.guard_syntax.specs.Seen.{see_step, see_expr}
+use Rattle.guard_syntax.specs.code.Seen.{see_step, see_expr}
 use Rattle.guard_syntax.specs.Syntax as sx
 use Rattle.guard_syntax.specs.declared.syntax.Body.{the_lemmas}
 use Rattle.rule_names.specs.Scopes.{Given, given_step, given_expr}
-use Rattle.name_scopes.specs.Seen.{see_given}
+use Rattle.name_scopes.specs.code.Seen.{see_given}
 use Rattle.name_scopes.proofs.GivenInTurn.{next, end, of_steps, of_exprs, query-given, expr-given, function-given, asked-given, found-given}
 use Rattle.name_scopes.proofs.scopes.+asked.Goals as goal
 

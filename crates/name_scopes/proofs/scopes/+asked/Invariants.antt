@@ -1,7 +1,7 @@
 use Rattle.std.proofs.Common.{◌≡◌, ◌++◌, drop, map}
-use Rattle.guard_syntax.specs.Seen.{see_step, see_expr, step_list, expr_list}
+use Rattle.guard_syntax.specs.code.Seen.{see_step, see_expr, step_list, expr_list}
 use Rattle.rule_names.specs.Scopes.{given_steps, given_exprs}
-use Rattle.name_scopes.specs.Seen.{see_given}
+use Rattle.name_scopes.specs.code.Seen.{see_given}
 use Rattle.name_scopes.proofs.scopes.+asked.Given as goal
 
 abbrev pub invariant-gather_steps-loop-step : goal.invariant-gather_steps-loop-step

@@ -1,12 +1,12 @@
 use Rattle.std.proofs.Common.{refl, sym, ap, ◌∙◌, ◌++◌, rules, List}
 use Rattle.std.proofs.lemmas.List.{append-nil}
 use Rattle.std.proofs.lemmas.Result.{IfOk-weaker}
-use Rattle.guard_syntax.specs.Seen.{see_disj, see_part, see_opt_conds}
+use Rattle.guard_syntax.specs.code.Seen.{see_disj, see_part, see_opt_conds}
 use Rattle.guard_syntax.specs.Syntax as sx
 use Rattle.guard_syntax.specs.declared.syntax.Body.{the_lemmas}
 use Rattle.rule_names.specs.Scopes.{Given, given_disj, given_part, given_opt_conds}
 use Rattle.rule_names.proofs.Shapes.{block-seen, when-seen, kinds-seen, call-seen}
-use Rattle.name_scopes.specs.Seen.{see_given}
+use Rattle.name_scopes.specs.code.Seen.{see_given}
 use Rattle.name_scopes.proofs.GivenInTurn.{next, end, of_disjs, of_parts, of_exprs, conds-given, disj-given, part-given}
 use Rattle.name_scopes.proofs.scopes.+joined.Goals as goal
 

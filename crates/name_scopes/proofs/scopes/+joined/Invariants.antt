@@ -1,7 +1,7 @@
 use Rattle.std.proofs.Common.{◌≡◌, ◌++◌, drop, map}
-use Rattle.guard_syntax.specs.Seen.{see_disj, see_part, disj_list, part_list}
+use Rattle.guard_syntax.specs.code.Seen.{see_disj, see_part, disj_list, part_list}
 use Rattle.rule_names.specs.Scopes.{given_disjs, given_parts}
-use Rattle.name_scopes.specs.Seen.{see_given}
+use Rattle.name_scopes.specs.code.Seen.{see_given}
 use Rattle.name_scopes.proofs.scopes.+joined.Given as goal
 
 abbrev pub invariant-gather_disjs-loop-disj : goal.invariant-gather_disjs-loop-disj

@@ -1,6 +1,6 @@
 use Rattle.std.proofs.Common.{◌≡◌, ◌++◌, drop}
 use Rattle.rule_names.specs.Scopes.{given_params}
-use Rattle.name_scopes.specs.Seen.{see_given}
+use Rattle.name_scopes.specs.code.Seen.{see_given}
 use Rattle.name_scopes.proofs.scopes.add_params.Given as goal
 
 abbrev pub invariant-loop-index : goal.invariant-loop-index

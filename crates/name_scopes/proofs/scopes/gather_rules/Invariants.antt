@@ -1,7 +1,7 @@
 use Rattle.std.proofs.Common.{◌≡◌, ◌++◌, drop, map}
-use Rattle.guard_syntax.specs.Seen.{see_rule}
+use Rattle.guard_syntax.specs.code.Seen.{see_rule}
 use Rattle.rule_names.specs.Scopes.{given_rules}
-use Rattle.name_scopes.specs.Seen.{see_given}
+use Rattle.name_scopes.specs.code.Seen.{see_given}
 use Rattle.name_scopes.proofs.scopes.gather_rules.Given as goal
 
 abbrev pub invariant-loop-rule : goal.invariant-loop-rule

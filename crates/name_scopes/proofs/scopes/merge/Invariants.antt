@@ -1,7 +1,7 @@
 use Rattle.std.proofs.Common.{◌≡◌, ◌++◌, ◌+◌, ◌-◌, drop, length}
 use Rattle.std.specs.Prelude.{◌≤◌}
 use Rattle.rule_names.specs.Scopes.{by_place}
-use Rattle.name_scopes.specs.Seen.{see_given}
+use Rattle.name_scopes.specs.code.Seen.{see_given}
 use Rattle.name_scopes.proofs.scopes.merge.Given as goal
 
 abbrev pub invariant-loop-left : goal.invariant-loop-left

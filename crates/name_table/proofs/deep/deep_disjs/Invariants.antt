@@ -1,7 +1,7 @@
 use Rattle.std.proofs.Common.{◌≡◌, drop}
 use Rattle.rule_names.specs.Faults.{first_from}
-use Rattle.name_table.specs.Measures.{file_of, known_of}
-use Rattle.name_scopes.specs.Seen.{see_best}
+use Rattle.name_table.specs.code.Measures.{file_of, known_of}
+use Rattle.name_scopes.specs.code.Seen.{see_best}
 use Rattle.name_table.proofs.DeepFaults.{of_disjs}
 use Rattle.name_table.proofs.deep.deep_disjs.Given as goal
 

@@ -1,6 +1,6 @@
 use Rattle.std.proofs.Common.{arith}
-use Rattle.name_table.specs.Measures.{file_of, known_of}
-use Rattle.name_scopes.specs.Seen.{see_best}
+use Rattle.name_table.specs.code.Measures.{file_of, known_of}
+use Rattle.name_scopes.specs.code.Seen.{see_best}
 use Rattle.name_table.proofs.DeepFaults.{lets-next, lets-end}
 use Rattle.name_table.proofs.deep.deep_lets.Goals as goal
 

@@ -1,6 +1,6 @@
 use Rattle.std.proofs.Common.{◌∙◌, List, add-one, ap, length, replicate, sym, ℕ}
 use Rattle.std.specs.Cmp.Lexicographic.{same_text}
-use Rattle.guard_syntax.specs.Seen.{see_file}
+use Rattle.guard_syntax.specs.code.Seen.{see_file}
 use Rattle.rule_names.specs.Depths.{deepened, deepened_by}
 use Rattle.rule_names.proofs.Settled.{stopped, done}
 use Rattle.name_table.proofs.deep.depths_of.Goals as goal

@@ -1,4 +1,4 @@
-use Rattle.name_scopes.specs.Seen.{see_best, see_wrong}
+use Rattle.name_scopes.specs.code.Seen.{see_best, see_wrong}
 use Rattle.name_table.proofs.DeepFaults.{deep-default, deep-item}
 use Rattle.name_table.proofs.deep.first_deep.Goals as goal
 

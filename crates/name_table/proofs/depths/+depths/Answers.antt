@@ -1,11 +1,11 @@
 use Rattle.std.proofs.Common.{refl, sym, subst, arith, rules}
-use Rattle.guard_syntax.specs.Seen.{see_query, see_opt_conds, see_opt_expr}
+use Rattle.guard_syntax.specs.code.Seen.{see_query, see_opt_conds, see_opt_expr}
 use Rattle.guard_syntax.specs.Syntax as sx
 use Rattle.guard_syntax.specs.declared.syntax.Body.{the_lemmas}
 use Rattle.guard_syntax.specs.declared.syntax.StepForm as form
 use Rattle.rule_names.specs.Depths.{depth_opt_conds, depth_opt_expr}
-use Rattle.name_table.specs.Measured.{Measured}
-use Rattle.name_table.specs.Measures.{file_of, known_of}
+use Rattle.name_table.specs.code.Measured.{Measured}
+use Rattle.name_table.specs.code.Measures.{file_of, known_of}
 use Rattle.rule_names.specs.Pieces.{pieces_opt_conds, pieces_opt_expr}
 use Rattle.name_table.proofs.Measuring.{measured-none}
 use Rattle.name_table.proofs.MeasuredParts.{OfLets, OfDisjs, OfParts, OfExprs, OfSteps, all-walked, lets-next, disjs-next, parts-next, exprs-next, steps-next, disj-measured, conds-measured, body-measured, query-measured, quiet-step, var-step, splice-step, filter-step, keys-step, block-measured, when-measured, kinds-measured, test-measured, refer-measured, call-measured, literal-measured, function-measured, query-expr, found-measured}

@@ -1,8 +1,8 @@
 use Rattle.std.proofs.Common.{map, take}
-use Rattle.guard_syntax.specs.Seen.{see_let, see_query, see_step, see_disj, see_part, see_expr, let_list, step_list, disj_list, part_list, expr_list}
+use Rattle.guard_syntax.specs.code.Seen.{see_let, see_query, see_step, see_disj, see_part, see_expr, let_list, step_list, disj_list, part_list, expr_list}
 use Rattle.rule_names.specs.Depths.{depth_lets, depth_disjs, depth_parts, depth_exprs, depth_steps}
-use Rattle.name_table.specs.Measured.{Measured}
-use Rattle.name_table.specs.Measures.{file_of, known_of}
+use Rattle.name_table.specs.code.Measured.{Measured}
+use Rattle.name_table.specs.code.Measures.{file_of, known_of}
 use Rattle.rule_names.specs.Pieces.{pieces_lets, pieces_disjs, pieces_parts, pieces_exprs, pieces_steps}
 use Rattle.name_table.proofs.depths.+depths.Given as goal
 

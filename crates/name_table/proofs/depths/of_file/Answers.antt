@@ -1,4 +1,4 @@
-use Rattle.name_table.specs.Measures.{known_of}
+use Rattle.name_table.specs.code.Measures.{known_of}
 use Rattle.name_table.proofs.DeepTables.{file-walked}
 use Rattle.name_table.proofs.depths.of_file.Goals as goal
 

@@ -1,4 +1,4 @@
-use Rattle.name_table.specs.Measures.{file_of, known_of}
+use Rattle.name_table.specs.code.Measures.{file_of, known_of}
 use Rattle.name_table.proofs.MeasuredParts.{rule-measured}
 use Rattle.name_table.proofs.depths.of_rule.Goals as goal
 

@@ -1,8 +1,8 @@
 use Rattle.std.proofs.Common.{List, arith, map}
-use Rattle.guard_syntax.specs.Seen.{see_rule}
+use Rattle.guard_syntax.specs.code.Seen.{see_rule}
 use Rattle.guard_syntax.specs.declared.syntax.Rule.{Rule}
-use Rattle.name_table.specs.Measured.{Measured}
-use Rattle.name_table.specs.Measures.{depth_rules, file_of, known_of}
+use Rattle.name_table.specs.code.Measured.{Measured}
+use Rattle.name_table.specs.code.Measures.{depth_rules, file_of, known_of}
 use Rattle.rule_names.specs.Pieces.{pieces_rules}
 use Rattle.name_table.proofs.DeepTables.{rules-next}
 use Rattle.name_table.proofs.Measuring.{measured-none}

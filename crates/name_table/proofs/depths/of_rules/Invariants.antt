@@ -1,7 +1,7 @@
 use Rattle.std.proofs.Common.{map, take}
-use Rattle.guard_syntax.specs.Seen.{see_rule}
-use Rattle.name_table.specs.Measured.{Measured}
-use Rattle.name_table.specs.Measures.{depth_rules, file_of, known_of}
+use Rattle.guard_syntax.specs.code.Seen.{see_rule}
+use Rattle.name_table.specs.code.Measured.{Measured}
+use Rattle.name_table.specs.code.Measures.{depth_rules, file_of, known_of}
 use Rattle.rule_names.specs.Pieces.{pieces_rules}
 use Rattle.name_table.proofs.depths.of_rules.Given as goal
 

@@ -1,7 +1,7 @@
 use Rattle.std.proofs.Common.{◌∙◌, ap, sym, arith, ℕ, List, ◌++◌}
 use Rattle.std.proofs.lemmas.List.{append-nil}
 use Rattle.std.proofs.lemmas.Grind.{common_steps}
-use Rattle.guard_syntax.specs.Seen.{see_file}
+use Rattle.guard_syntax.specs.code.Seen.{see_file}
 use Rattle.name_table.proofs.PlainSites.{no-default, with-default}
 use Rattle.name_table.proofs.RuleOrders.{with-last}
 use Rattle.name_table.proofs.resolver.judged_sites.Goals as goal

@@ -1,5 +1,5 @@
 use Rattle.std.proofs.Common.{subst, ℕ, List}
-use Rattle.guard_syntax.specs.Seen.{see_file}
+use Rattle.guard_syntax.specs.code.Seen.{see_file}
 use Rattle.rule_names.specs.Graphs.{HasCycle}
 use Rattle.rule_names.proofs.NameCycles.{no-cycle}
 use Rattle.name_table.proofs.resolver.ordered_nodes.Goals as goal

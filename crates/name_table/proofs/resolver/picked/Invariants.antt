@@ -1,5 +1,5 @@
 use Rattle.std.proofs.Common.{take}
-use Rattle.name_table.specs.Picked.{ArePicked}
+use Rattle.name_table.specs.code.Picked.{ArePicked}
 use Rattle.name_table.proofs.resolver.picked.Given as goal
 
 abbrev pub invariant-loop-node : goal.invariant-loop-node

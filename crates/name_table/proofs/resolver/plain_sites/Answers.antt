@@ -1,7 +1,7 @@
 use Rattle.std.proofs.Common.{[], drop, map, sym, ◌∙◌}
 use Rattle.std.proofs.lemmas.List.{append-nil}
-use Rattle.guard_syntax.specs.Seen.{see_rule}
-use Rattle.rule_names.specs.Order.{plain_sites}
+use Rattle.guard_syntax.specs.code.Seen.{see_rule}
+use Rattle.rule_names.specs.code.Order.{plain_sites}
 use Rattle.name_table.proofs.PlainSites.{plain-end, gathered}
 use Rattle.name_table.proofs.resolver.plain_sites.Goals as goal
 

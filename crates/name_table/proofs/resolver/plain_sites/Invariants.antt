@@ -1,6 +1,6 @@
 use Rattle.std.proofs.Common.{◌≡◌, ◌++◌, drop, map}
-use Rattle.guard_syntax.specs.Seen.{see_rule}
-use Rattle.rule_names.specs.Order.{plain_sites}
+use Rattle.guard_syntax.specs.code.Seen.{see_rule}
+use Rattle.rule_names.specs.code.Order.{plain_sites}
 use Rattle.name_table.proofs.resolver.plain_sites.Given as goal
 
 abbrev pub invariant-loop-rule : goal.invariant-loop-rule

@@ -2,12 +2,12 @@ use Rattle.std.proofs.Common.{◌≡◌, ◌*◌, ◌/◌, ◌<◌, ◌∙◌, s
 use Rattle.std.specs.List.{Contains}
 use Rattle.std.proofs.lemmas.List.Elements.{Contains-get_or}
 use Rattle.std.proofs.lemmas.Result.{IfOk-weaker}
-use Rattle.guard_syntax.specs.Seen.{see_file}
+use Rattle.guard_syntax.specs.code.Seen.{see_file}
 use Rattle.rule_names.specs.Graphs.{IsOrder}
-use Rattle.rule_names.specs.Order.{plain_sites}
+use Rattle.rule_names.specs.code.Order.{plain_sites}
 use Rattle.rule_names.proofs.NameCycles.{nodes-of}
 use Rattle.rule_names.proofs.PlainRules.{plain-within}
-use Rattle.name_table.specs.Picked.{ArePicked}
+use Rattle.name_table.specs.code.Picked.{ArePicked}
 use Rattle.name_table.proofs.RuleOrders.{AreMarksAt, rules-ordered}
 use Rattle.name_table.proofs.resolver.rules_in_order.Goals as goal
 

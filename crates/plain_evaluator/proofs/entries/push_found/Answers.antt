@@ -4,8 +4,8 @@ use Rattle.guard_syntax.specs.declared.row.Row.TheVariants as row
 use Rattle.rule_meaning.specs.Fails.{found_row}
 use Rattle.rule_meaning.specs.Roots.{root_ref}
 use Rattle.rule_meaning.specs.StoreModel.{is_known}
-use Rattle.plain_evaluator.specs.Entries.{see_entries}
-use Rattle.plain_evaluator.specs.States.{see, see_trees}
+use Rattle.plain_evaluator.specs.code.Entries.{see_entries}
+use Rattle.plain_evaluator.specs.code.States.{see, see_trees}
 use Rattle.plain_evaluator.proofs.Appended.{element-more, rows-end, walk-starts}
 use Rattle.plain_evaluator.proofs.Conjoined.{passes-at}
 use Rattle.plain_evaluator.proofs.entries.push_found.Goals as goal

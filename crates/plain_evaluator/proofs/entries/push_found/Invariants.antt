@@ -1,8 +1,8 @@
 use Rattle.std.proofs.Common.{◌≡◌, ◌++◌, take}
 use Rattle.std.specs.List.{flat_map}
 use Rattle.rule_meaning.specs.Fails.{found_row}
-use Rattle.plain_evaluator.specs.Entries.{AreShowable, see_entries}
-use Rattle.plain_evaluator.specs.States.{see, see_trees}
+use Rattle.plain_evaluator.specs.code.Entries.{AreShowable, see_entries}
+use Rattle.plain_evaluator.specs.code.States.{see, see_trees}
 use Rattle.plain_evaluator.proofs.entries.push_found.Given as goal
 
 abbrev pub invariant-loop-row : goal.invariant-loop-row

@@ -5,8 +5,8 @@ use Rattle.guard_syntax.specs.declared.row.Row.TheVariants as row
 use Rattle.rule_meaning.specs.Fails.{Entry}
 use Rattle.rule_meaning.specs.Roots.{root_ref}
 use Rattle.rule_meaning.specs.StoreModel.{is_known}
-use Rattle.plain_evaluator.specs.Entries.{see_entries}
-use Rattle.plain_evaluator.specs.States.{see_trees}
+use Rattle.plain_evaluator.specs.code.Entries.{see_entries}
+use Rattle.plain_evaluator.specs.code.States.{see_trees}
 use Rattle.plain_evaluator.proofs.Appended.{walk-starts}
 use Rattle.plain_evaluator.proofs.Conjoined.{passes-at}
 use Rattle.plain_evaluator.proofs.TestedEntries.{entries_by_test, passed-more, tested-more, tests-seen}

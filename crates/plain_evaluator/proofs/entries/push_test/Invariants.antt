@@ -1,7 +1,7 @@
 use Rattle.std.proofs.Common.{◌≡◌, ◌++◌, take}
 use Rattle.std.specs.List.{flat_map}
-use Rattle.plain_evaluator.specs.Entries.{AreShowable, see_entries}
-use Rattle.plain_evaluator.specs.States.{see_trees}
+use Rattle.plain_evaluator.specs.code.Entries.{AreShowable, see_entries}
+use Rattle.plain_evaluator.specs.code.States.{see_trees}
 use Rattle.plain_evaluator.proofs.TestedEntries.{entries_by_test}
 use Rattle.plain_evaluator.proofs.entries.push_test.Given as goal
 

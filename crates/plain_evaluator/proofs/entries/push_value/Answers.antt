@@ -1,6 +1,6 @@
 use Rattle.rule_meaning.specs.Fails.{OfValue}
 use Rattle.report_text.specs.declared.entry.Entry.{Entry}
-use Rattle.plain_evaluator.specs.States.{see_location_in, see_trees}
+use Rattle.plain_evaluator.specs.code.States.{see_location_in, see_trees}
 use Rattle.plain_evaluator.proofs.PushedEntries.{pushed-seen, pushed-showable}
 use Rattle.plain_evaluator.proofs.entries.push_value.Goals as goal
 

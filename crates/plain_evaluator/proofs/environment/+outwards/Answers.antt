@@ -1,6 +1,6 @@
 use Rattle.std.proofs.Common.{sym, ap, ◌∙◌}
-use Rattle.rule_meaning.specs.StoreEnvironments.{outer_of}
-use Rattle.plain_evaluator.specs.Seen.{see_env}
+use Rattle.rule_meaning.specs.code.StoreEnvironments.{outer_of}
+use Rattle.plain_evaluator.specs.code.Seen.{see_env}
 use Rattle.plain_evaluator.proofs.Scopes.{top-seen, called-seen, past-outwards}
 use Rattle.plain_evaluator.proofs.environment.+outwards.Goals as goal
 

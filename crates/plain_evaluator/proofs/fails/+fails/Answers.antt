@@ -1,6 +1,6 @@
 use Rattle.std.proofs.Common.{◌∙◌, sym, ap, ap₂, subst, map, List, get_or, refl, arith}
 use Rattle.std.specs.List.{list_all}
-use Rattle.guard_syntax.specs.Seen.{see_query, see_body, see_rule, see_expr, see_part, see_opt_expr, expr_list}
+use Rattle.guard_syntax.specs.code.Seen.{see_query, see_body, see_rule, see_expr, see_part, see_opt_expr, expr_list}
 use Rattle.guard_syntax.specs.declared.row.Row.{Row}
 use Rattle.guard_syntax.specs.declared.row.Row.TheVariants as row
 use Rattle.guard_syntax.specs.declared.syntax.Expr.{Expr}
@@ -12,9 +12,9 @@ use Rattle.rule_meaning.specs.Roots.{root_ref}
 use Rattle.rule_meaning.specs.Environments.{Inner, Called}
 use Rattle.rule_meaning.specs.Meaning.{body_verdict, part_verdict}
 use Rattle.rule_meaning.specs.NameMeaning.{unfolded}
-use Rattle.plain_evaluator.specs.Entries.{see_entries}
-use Rattle.plain_evaluator.specs.Seen.{see_env}
-use Rattle.plain_evaluator.specs.States.{see, see_location_in, see_trees, locations}
+use Rattle.plain_evaluator.specs.code.Entries.{see_entries}
+use Rattle.plain_evaluator.specs.code.Seen.{see_env}
+use Rattle.plain_evaluator.specs.code.States.{see, see_location_in, see_trees, locations}
 use Rattle.plain_evaluator.proofs.Appended.{as-appended, behind, none-behind, owed-later, rows-end, rows-go-on, shown-on, walk-ends, walk-goes-on, walk-starts}
 use Rattle.plain_evaluator.proofs.Conjoined.{passes-at}
 use Rattle.plain_evaluator.proofs.Failing.{block-listed, body-called, body-listed, call-listed, called-listed, disj-listed, disj-passed, disjs-listed, fails-where, found-listed, kinds-listed, missed-listed, negated-listed, nothing-called, of_body, of_disj, of_part, of_parts, of_row, of_rows, out-of-turns, parts-listed, passes-where, refer-listed, sides-listed, when-listed}

@@ -1,10 +1,10 @@
 use Rattle.std.proofs.Common.{◌≡◌, ◌++◌, map, take}
 use Rattle.std.specs.List.{flat_map}
-use Rattle.guard_syntax.specs.Seen.{see_disj, see_part, see_body, see_expr, disj_list, part_list, expr_list}
+use Rattle.guard_syntax.specs.code.Seen.{see_disj, see_part, see_body, see_expr, disj_list, part_list, expr_list}
 use Rattle.rule_names.specs.Pieces.{pieces_disjs, pieces_disj, pieces_parts, pieces_part, pieces_body, pieces_exprs}
-use Rattle.plain_evaluator.specs.Entries.{AreShowable, see_entries}
-use Rattle.plain_evaluator.specs.Seen.{see_env}
-use Rattle.plain_evaluator.specs.States.{Answering, Grows, see, see_trees, locations}
+use Rattle.plain_evaluator.specs.code.Entries.{AreShowable, see_entries}
+use Rattle.plain_evaluator.specs.code.Seen.{see_env}
+use Rattle.plain_evaluator.specs.code.States.{Answering, Grows, see, see_trees, locations}
 use Rattle.plain_evaluator.proofs.Failing.{of_disj, of_part, of_row}
 use Rattle.plain_evaluator.proofs.Ranks.{rank}
 use Rattle.plain_evaluator.proofs.fails.+fails.Given as goal

@@ -1,7 +1,7 @@
 use Rattle.std.proofs.Common.{refl, ap, map}
-use Rattle.guard_syntax.specs.Seen.{see_disj, disj_list}
+use Rattle.guard_syntax.specs.code.Seen.{see_disj, disj_list}
 use Rattle.rule_meaning.specs.Roots.{root_ref}
-use Rattle.plain_evaluator.specs.States.{see_trees, locations}
+use Rattle.plain_evaluator.specs.code.States.{see_trees, locations}
 use Rattle.plain_evaluator.proofs.Appended.{all-appended}
 use Rattle.plain_evaluator.proofs.Failing.{loose-most}
 use Rattle.plain_evaluator.proofs.Growing.{world_in}

@@ -1,9 +1,9 @@
 use Rattle.std.proofs.Common.{◌∙◌, refl, ap, ap₂}
-use Rattle.guard_syntax.specs.Seen.{see_rule}
+use Rattle.guard_syntax.specs.code.Seen.{see_rule}
 use Rattle.rule_meaning.specs.StoreModel.{is_known_ref}
 use Rattle.rule_meaning.specs.Roots.{root_ref}
 use Rattle.rule_meaning.specs.Environments.{Inner}
-use Rattle.plain_evaluator.specs.States.{see_location_in, see_trees, locations}
+use Rattle.plain_evaluator.specs.code.States.{see_location_in, see_trees, locations}
 use Rattle.plain_evaluator.proofs.Appended.{all-appended}
 use Rattle.plain_evaluator.proofs.Failing.{rule-most}
 use Rattle.plain_evaluator.proofs.Growing.{world_in}

@@ -4,13 +4,13 @@ use Rattle.rule_meaning.specs.Fails.{set_fails, test_fails}
 use Rattle.rule_meaning.specs.Meaning.{rows_of_side}
 use Rattle.rule_meaning.specs.StepMeaning.{passes}
 use Rattle.rule_meaning.specs.NameMeaning.{unfolded}
-use Rattle.guard_syntax.specs.Seen.{see_opt_expr}
+use Rattle.guard_syntax.specs.code.Seen.{see_opt_expr}
 use Rattle.rule_meaning.specs.StoreModel.{is_known, is_known_ref}
-use Rattle.rule_meaning.specs.StoreEnvironments.{current_of}
+use Rattle.rule_meaning.specs.code.StoreEnvironments.{current_of}
 use Rattle.rule_meaning.specs.Environments as around
-use Rattle.plain_evaluator.specs.Entries.{see_entries}
-use Rattle.plain_evaluator.specs.Seen.{see_env}
-use Rattle.plain_evaluator.specs.States.{see, see_location_in, see_trees}
+use Rattle.plain_evaluator.specs.code.Entries.{see_entries}
+use Rattle.plain_evaluator.specs.code.Seen.{see_env}
+use Rattle.plain_evaluator.specs.code.States.{see, see_location_in, see_trees}
 use Rattle.plain_evaluator.proofs.Appended.{as-appended, behind, shown-on}
 use Rattle.plain_evaluator.proofs.Failing.{set-listed, test-listed}
 use Rattle.plain_evaluator.proofs.Growing.{Grows-trans, book-on, known-on, meant-before, rows-as-before, rows-on, scopes_in, sound-on, stands-on, locations-as-before, world_in}

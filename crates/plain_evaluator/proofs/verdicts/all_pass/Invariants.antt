@@ -1,6 +1,6 @@
 use Rattle.std.proofs.Common.{◌≡◌, drop}
 use Rattle.std.specs.List.{list_all}
-use Rattle.value_compare.specs.Stores.{see_store}
+use Rattle.value_compare.specs.code.Stores.{see_store}
 use Rattle.rule_meaning.specs.Keys.{passes}
 use Rattle.plain_evaluator.proofs.verdicts.all_pass.Given as goal
 

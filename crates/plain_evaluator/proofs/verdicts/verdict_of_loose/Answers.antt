@@ -1,9 +1,9 @@
 use Rattle.std.proofs.Common.{refl, ap, map}
 use Rattle.std.proofs.lemmas.Result.{IfOk-weaker}
-use Rattle.guard_syntax.specs.Seen.{see_disj, disj_list}
+use Rattle.guard_syntax.specs.code.Seen.{see_disj, disj_list}
 use Rattle.rule_meaning.specs.Roots.{root_ref}
 use Rattle.rule_meaning.specs.Seeing.{world_of}
-use Rattle.plain_evaluator.specs.States.{see_trees, locations}
+use Rattle.plain_evaluator.specs.code.States.{see_trees, locations}
 use Rattle.plain_evaluator.proofs.Judged.{loose-most}
 use Rattle.plain_evaluator.proofs.RowsInTurn.{IsTree-root, known-root}
 use Rattle.plain_evaluator.proofs.Scopes.{top-seen, top-sound}

@@ -1,7 +1,7 @@
 use Rattle.std.proofs.lemmas.Result.{IfOk-weaker}
-use Rattle.guard_syntax.specs.Seen.{see_rule}
+use Rattle.guard_syntax.specs.code.Seen.{see_rule}
 use Rattle.rule_meaning.specs.Seeing.{world_of}
-use Rattle.plain_evaluator.specs.States.{see_trees}
+use Rattle.plain_evaluator.specs.code.States.{see_trees}
 use Rattle.plain_evaluator.proofs.Judged.{rule-most}
 use Rattle.plain_evaluator.proofs.verdicts.verdict_of_rule.Goals as goal
 

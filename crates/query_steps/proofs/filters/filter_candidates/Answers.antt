@@ -4,7 +4,7 @@ use Rattle.query_steps.proofs.FilterWalks.{tried-found, tried-other, lost-row, k
 use Rattle.std.specs.List.{list_all}
 use Rattle.guard_syntax.specs.declared.row.Ref.{Ref}
 use Rattle.rule_meaning.specs.StoreModel.{is_known_ref}
-use Rattle.value_compare.specs.Stores.{see_store}
+use Rattle.value_compare.specs.code.Stores.{see_store}
 use Rattle.query_steps.proofs.filters.filter_candidates.Goals as goal
 use Rattle.query_steps.proofs.filters.filter_candidates.Goals.{in-Found+in_ok-tried+in_ok-extend_from_slice, in_default}
 

@@ -5,8 +5,8 @@ use Rattle.guard_syntax.specs.declared.row.Ref.{Ref}
 use Rattle.guard_syntax.specs.declared.row.Row.{Row}
 use Rattle.guard_syntax.specs.declared.syntax.Step.{Step}
 use Rattle.rule_meaning.specs.StoreModel.{StoreModel}
-use Rattle.rule_names.specs.Files.{file_of}
-use Rattle.value_compare.specs.Stores.{see_store}
+use Rattle.rule_names.specs.code.Files.{file_of}
+use Rattle.value_compare.specs.code.Stores.{see_store}
 use Rattle.rule_meaning.specs.Filters.{candidates_in}
 use Rattle.rule_meaning.specs.Places.{IsFilterAt, candidates_at, is_after_key, placed_in, step_at}
 use Rattle.query_steps.proofs.StepPlaces.{candidates-at, item-at, steps_of}

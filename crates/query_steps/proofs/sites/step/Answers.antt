@@ -2,11 +2,11 @@ use Rattle.std.proofs.Common.{◌≡◌, ◌∷◌, [], List, Bool, length, ap, 
 use Rattle.std.proofs.lemmas.Result.{IfOk-weaker}
 use Rattle.std.specs.List.{flat_map}
 use Rattle.std.specs.declared.alloc.AllocError.{AllocError}
-use Rattle.guard_syntax.specs.Seen.{see_step}
+use Rattle.guard_syntax.specs.code.Seen.{see_step}
 use Rattle.guard_syntax.specs.Syntax as sx
 use Rattle.guard_syntax.specs.declared.row.Row.{Row}
 use Rattle.guard_syntax.specs.declared.row.Row.TheVariants.{Found}
-use Rattle.value_compare.specs.Stores.{see_store}
+use Rattle.value_compare.specs.code.Stores.{see_store}
 use Rattle.rule_meaning.specs.Filters.{candidates_in, filtered}
 use Rattle.rule_meaning.specs.Places.{IsStartAt, rows_at_step, step_at}
 use Rattle.rule_meaning.specs.Steps.{found_step, on_found}

@@ -1,4 +1,4 @@
-use Rattle.rule_names.specs.Files.{file_of}
+use Rattle.rule_names.specs.code.Files.{file_of}
 use Rattle.query_steps.proofs.StepPlaces.{steps-within}
 use Rattle.query_steps.proofs.sites.step_of.Goals as goal
 

@@ -1,5 +1,5 @@
 use Rattle.std.proofs.Common.{◌≤◌, ap, List, ℕ, length, arith, refl}
-use Rattle.guard_syntax.specs.Seen.{see_file}
+use Rattle.guard_syntax.specs.code.Seen.{see_file}
 use Rattle.reference_cycles.proofs.CycleFaults.{used, first-use}
 use Rattle.reference_graph.proofs.OnCycle.{reach-from}
 use Rattle.reference_cycles.proofs.cycles.cycle_of.Goals as goal

@@ -1,7 +1,7 @@
 use Rattle.std.proofs.Common.{◌≡◌, ◌*◌, ◌/◌, inl, inr, arith, length}
-use Rattle.guard_syntax.specs.Seen.{see_file}
+use Rattle.guard_syntax.specs.code.Seen.{see_file}
 use Rattle.rule_names.specs.ReferenceGraph.{graph_of}
-use Rattle.name_scopes.specs.Seen.{see_wrong}
+use Rattle.name_scopes.specs.code.Seen.{see_wrong}
 use Rattle.rule_names.specs.declared.name_kind.NameKind.TheVariants.{RecursiveRule, RecursiveVariable}
 use Rattle.reference_cycles.proofs.CycleFaults.{graph-size, none-on, fault-of, none-in-halves}
 use Rattle.reference_cycles.proofs.cycles.first_cycle.Goals as goal

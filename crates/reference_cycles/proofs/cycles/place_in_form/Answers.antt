@@ -1,5 +1,5 @@
 use Rattle.std.proofs.Common.{◌≡◌, ℕ, Some, refl, sym, ap, ◌∙◌, rules}
-use Rattle.guard_syntax.specs.Seen.{Form, see_form}
+use Rattle.guard_syntax.specs.code.Seen.{Form, see_form}
 use Rattle.guard_syntax.specs.Syntax as sx
 use Rattle.guard_syntax.specs.declared.syntax.StepForm.{StepForm}
 use Rattle.guard_syntax.specs.declared.syntax.StepForm as form

@@ -2,8 +2,8 @@ use Rattle.std.proofs.Common.{◌<◌, ◌∙◌, ap, sym, subst, ℕ, Bool, tru
 use Rattle.std.proofs.lemmas.List.{get_or_read}
 use Rattle.std.proofs.lemmas.List.Elements.{Contains-get_or}
 use Rattle.rule_names.specs.Graphs.{Names}
-use Rattle.rule_names.specs.Marks.{IsMarked}
-use Rattle.reference_graph.specs.Ordering.{AreMarkedFrom, IsFirstUnmarked, IsOnPath}
+use Rattle.rule_names.specs.code.Marks.{IsMarked}
+use Rattle.reference_graph.specs.code.Ordering.{AreMarkedFrom, IsFirstUnmarked, IsOnPath}
 use Rattle.reference_graph.proofs.Marking.{not-in-none, mark-here, mark-kept, mark-counts}
 use Rattle.reference_graph.proofs.Walks.{targets-below}
 use Rattle.reference_graph.proofs.Orderings.{path-down, path-next, path-done, last-within, last-undone, leads-on, cycle-met, targets-done, passed-more, settled-more}

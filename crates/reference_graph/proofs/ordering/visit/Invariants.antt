@@ -1,6 +1,6 @@
 use Rattle.std.proofs.Common.{◌+◌, ◌*◌, vec_len}
-use Rattle.rule_names.specs.Marks.{unmarked}
-use Rattle.reference_graph.specs.Ordering.{IsWalked, Begins}
+use Rattle.rule_names.specs.code.Marks.{unmarked}
+use Rattle.reference_graph.specs.code.Ordering.{IsWalked, Begins}
 use Rattle.reference_graph.proofs.ordering.visit.Given as goal
 
 abbrev pub invariant-loop-node : goal.invariant-loop-node

@@ -1,6 +1,6 @@
 use Rattle.std.proofs.Common.{◌<◌, arith}
 use borrow.Author.Count.{below_more}
-use Rattle.rule_names.specs.Marks.{IsMarked}
+use Rattle.rule_names.specs.code.Marks.{IsMarked}
 use Rattle.reference_graph.proofs.OnCycle.{settled-no-cycle, walk-ordered}
 use Rattle.reference_graph.proofs.ordering.walk_all.Goals as goal
 

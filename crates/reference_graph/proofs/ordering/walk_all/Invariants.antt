@@ -1,6 +1,6 @@
 use Rattle.std.proofs.Common.{ℕ, ◌<◌, []}
-use Rattle.rule_names.specs.Marks.{IsMarked}
-use Rattle.reference_graph.specs.Ordering.{IsWalked}
+use Rattle.rule_names.specs.code.Marks.{IsMarked}
+use Rattle.reference_graph.specs.code.Ordering.{IsWalked}
 use Rattle.reference_graph.proofs.ordering.walk_all.Given as goal
 
 abbrev pub invariant-loop-root : goal.invariant-loop-root

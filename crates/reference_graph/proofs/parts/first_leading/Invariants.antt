@@ -1,6 +1,6 @@
 use Rattle.std.proofs.Common.{get_or, []}
-use Rattle.rule_names.specs.Marks.{IsMarked}
-use Rattle.reference_graph.specs.Subgraphs.{Leads, NoneBelow}
+use Rattle.rule_names.specs.code.Marks.{IsMarked}
+use Rattle.reference_graph.specs.code.Subgraphs.{Leads, NoneBelow}
 use Rattle.reference_graph.proofs.parts.first_leading.Given as goal
 
 abbrev pub invariant-loop-part : goal.invariant-loop-part

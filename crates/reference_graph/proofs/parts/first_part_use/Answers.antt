@@ -1,6 +1,6 @@
 use Rattle.std.proofs.Common.{get_or, []}
-use Rattle.rule_names.specs.Marks.{IsMarked}
-use Rattle.reference_graph.specs.Subgraphs.{IsPartUse, Leads}
+use Rattle.rule_names.specs.code.Marks.{IsMarked}
+use Rattle.reference_graph.specs.code.Subgraphs.{IsPartUse, Leads}
 use Rattle.reference_graph.proofs.PartUses.{least-same, marked-use, use-is-marked}
 use Rattle.reference_graph.proofs.parts.first_part_use.Goals as goal
 

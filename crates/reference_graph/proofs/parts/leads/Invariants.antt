@@ -1,5 +1,5 @@
 use Rattle.std.proofs.Common.{◌≡◌, ℕ, ◌<◌, ◌≤◌, ◌⊎◌, get_or}
-use Rattle.rule_names.specs.Marks.{IsMarked}
+use Rattle.rule_names.specs.code.Marks.{IsMarked}
 use Rattle.reference_graph.proofs.parts.leads.Given as goal
 
 abbrev pub invariant-loop-target : goal.invariant-loop-target

@@ -1,5 +1,5 @@
 use Rattle.std.proofs.Common.{take}
-use Rattle.rule_names.specs.Marks.{Marks}
+use Rattle.rule_names.specs.code.Marks.{Marks}
 use Rattle.reference_graph.proofs.reach.mark.Given as goal
 
 abbrev pub invariant-loop-target : goal.invariant-loop-target

@@ -1,5 +1,5 @@
 use Rattle.std.proofs.Common.{◌+◌, vec_len}
-use Rattle.rule_names.specs.Marks.{unmarked}
+use Rattle.rule_names.specs.code.Marks.{unmarked}
 use Rattle.reference_graph.proofs.Walks.{IsWalk}
 use Rattle.reference_graph.proofs.reach.reached.Given as goal
 

@@ -1,5 +1,5 @@
 use Rattle.std.proofs.Common.{take}
-use Rattle.rule_names.specs.Marks.{NamesMore}
+use Rattle.rule_names.specs.code.Marks.{NamesMore}
 use Rattle.reference_graph.proofs.reversal.add_to_each.Given as goal
 
 abbrev pub invariant-loop-target : goal.invariant-loop-target

@@ -1,5 +1,5 @@
 use Rattle.std.proofs.Common.{take}
-use Rattle.reference_graph.specs.Subgraphs.{NamesBelow}
+use Rattle.reference_graph.specs.code.Subgraphs.{NamesBelow}
 use Rattle.reference_graph.proofs.subgraph.add_below.Given as goal
 
 abbrev pub invariant-loop-target : goal.invariant-loop-target

@@ -1,6 +1,6 @@
 use Rattle.std.proofs.Common.{◌≡◌, ◌+◌, ◌≤◌, ◌++◌, ℕ, List, length, map, take, drop, ap, sym, ◌∙◌, arith, length-append, length-drop}
 use Rattle.std.proofs.lemmas.List.{take_all}
-use Rattle.guard_syntax.specs.Seen.{disj_list, see_disj, see_rule}
+use Rattle.guard_syntax.specs.code.Seen.{disj_list, see_disj, see_rule}
 use Rattle.guard_syntax.specs.declared.syntax.Rule.{Rule}
 use Rattle.report_text.specs.RuleLines.{name_of_loose, name_of_rule, rule_lines}
 use Rattle.report_text.proofs.RuleNames.{names, names-more, names-fit, rule_lines-append, verdicts-behind}

@@ -1,6 +1,6 @@
 use Rattle.std.proofs.Common.{◌≡◌, drop, length, map, take}
 use Rattle.std.specs.List.{flat_map}
-use Rattle.guard_syntax.specs.Seen.{see_rule}
+use Rattle.guard_syntax.specs.code.Seen.{see_rule}
 use Rattle.report_text.specs.RuleLines.{name_of_rule, rule_lines}
 use Rattle.report_text.proofs.rules.lines_of.Given as goal
 

@@ -1,6 +1,6 @@
 use Rattle.std.proofs.Common.{◌≡◌, ◌<◌, ◌++◌, ◌∷◌, [], ℕ, List, OnOk, length, map, codes, ap, sym, ◌∙◌, subst, arith}
 use Rattle.std.proofs.lemmas.Grind.{common_steps}
-use Rattle.guard_syntax.specs.Seen.{disj_list, see_disj}
+use Rattle.guard_syntax.specs.code.Seen.{disj_list, see_disj}
 use Rattle.report_text.specs.RuleLines.{name_of_loose, rule_lines}
 use Rattle.guard_syntax.specs.declared.row.Verdict.TheVariants.{Pass}
 use Rattle.report_text.proofs.RuleNames.{loose-named, first-line}

@@ -1,16 +1,16 @@
 use Rattle.std.proofs.Common.{◌≡◌, ℕ, ap, sym, ◌∙◌, subst, arith, rules, refl, List, [], ◌∷◌, map, get_or, Option, Some}
 use Rattle.guard_syntax.specs.Syntax as sx
-use Rattle.guard_syntax.specs.Seen.{Form, see_query, see_conds, see_form, see_expr, see_opt_conds, expr_list}
+use Rattle.guard_syntax.specs.code.Seen.{Form, see_query, see_conds, see_form, see_expr, see_opt_conds, expr_list}
 use Rattle.guard_syntax.specs.Sites.{sites_opt_conds}
 use Rattle.guard_syntax.specs.declared.syntax.Conds.{Conds, the_lemmas}
 use Rattle.guard_syntax.specs.declared.syntax.Step.{Step}
 use Rattle.guard_syntax.specs.declared.syntax.StepForm.{StepForm}
 use Rattle.guard_syntax.specs.declared.syntax.StepForm as form
 use Rattle.guard_syntax.specs.declared.syntax.Expr.{Expr}
-use Rattle.rule_names.specs.Forms.{pieces_form}
+use Rattle.rule_names.specs.code.Forms.{pieces_form}
 use Rattle.rule_names.specs.Pieces.{Sited, OfExpr, piece_in, pieces_opt_conds, pieces_expr, pieces_exprs}
 use Rattle.rule_names.proofs.Parts.{here, elsewhere}
-use Rattle.rule_names.specs.IncreasingSites.{IsIncreasing}
+use Rattle.rule_names.specs.code.IncreasingSites.{IsIncreasing}
 use Rattle.rule_names.proofs.Lists.{lets-sorted, lets-rise, lets-chosen, lets-none, disjs-sorted, disjs-rise, disjs-chosen, disjs-none, parts-sorted, parts-rise, parts-chosen, parts-none, exprs-sorted, exprs-rise, exprs-chosen, exprs-none, steps-sorted, steps-rise, steps-chosen, steps-none}
 use Rattle.rule_names.proofs.Shapes.{let-here, let-inner, let-rise, disj-here, disj-inner, disj-rise, conds-rise, body-lets-rise, body-parts-rise, body-in-lets, body-not-lets, body-in-parts, body-not-parts, block-rise, block-head, block-body, when-rise, when-conds, when-body, kinds-rise, kinds-conds, kinds-body, test-rise, test-left, test-right, call-rise, function-rise, query-rise, query-inner, function-seen, step-here, step-inner, step-rise}
 use Rattle.rule_names.proofs.find.+find.Goals as goal

@@ -1,9 +1,9 @@
 use Rattle.std.proofs.Common.{ap, sym, ◌∙◌, subst, Option}
-use Rattle.guard_syntax.specs.Seen.{see_opt_conds}
+use Rattle.guard_syntax.specs.code.Seen.{see_opt_conds}
 use Rattle.guard_syntax.specs.Sites.{sites_opt_conds}
 use Rattle.guard_syntax.specs.declared.syntax.Conds.{Conds}
 use Rattle.rule_names.specs.Pieces.{piece_in, pieces_opt_conds}
-use Rattle.rule_names.specs.IncreasingSites.{IsIncreasing}
+use Rattle.rule_names.specs.code.IncreasingSites.{IsIncreasing}
 use Rattle.rule_names.proofs.FileParts.{rule-conds-rise, rule-body-rise, rule-conds, rule-body}
 use Rattle.rule_names.proofs.find.in_rule.Goals as goal
 

@@ -1,5 +1,5 @@
 use Rattle.std.proofs.Common.{◌≡◌, ◌-◌, suc, ◌∙◌, arith}
-use Rattle.rule_names.specs.Files.{file_of}
+use Rattle.rule_names.specs.code.Files.{file_of}
 use Rattle.scope_frames.proofs.OutwardSteps.{outwards-on, outwards-off}
 use Rattle.scope_frames.proofs.outwards.outwards.Goals as goal
 

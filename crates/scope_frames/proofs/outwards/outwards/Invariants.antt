@@ -1,6 +1,6 @@
 use Rattle.std.proofs.Common.{◌≡◌}
-use Rattle.rule_names.specs.Files.{file_of}
-use Rattle.scope_frames.specs.Frames.{outwards}
+use Rattle.rule_names.specs.code.Files.{file_of}
+use Rattle.scope_frames.specs.code.Frames.{outwards}
 use Rattle.scope_frames.proofs.outwards.outwards.Given as goal
 
 abbrev pub invariant-loop-left : goal.invariant-loop-left

@@ -1,5 +1,5 @@
 use Rattle.std.proofs.Common.{◌≡◌, suc}
-use Rattle.scope_frames.specs.Frames.{root_of}
+use Rattle.scope_frames.specs.code.Frames.{root_of}
 use Rattle.scope_frames.proofs.outwards.root.Given as goal
 
 abbrev pub invariant-loop-frame : goal.invariant-loop-frame

@@ -1,6 +1,6 @@
 use Rattle.std.proofs.Common.{◌≤◌, ◌<◌, length, ap, arith, ◌∙◌}
 use Rattle.std.specs.Prelude.{option_and_then}
-use Rattle.guard_syntax.specs.Seen.{see_file, see_expr}
+use Rattle.guard_syntax.specs.code.Seen.{see_file, see_expr}
 use Rattle.rule_meaning.specs.StoreModel.{tree_of_piece, tree_of_expr}
 use Rattle.value_compare.proofs.Beyond.{beyond}
 use Rattle.value_compare.proofs.HeldPatterns.{held_some}

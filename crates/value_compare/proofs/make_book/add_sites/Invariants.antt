@@ -1,8 +1,8 @@
 use Rattle.std.proofs.Common.{ℕ, ◌≤◌, List}
 use Rattle.std.specs.List.{flat_map}
-use Rattle.guard_syntax.specs.Seen.{see_file}
+use Rattle.guard_syntax.specs.code.Seen.{see_file}
 use Rattle.guard_syntax.specs.Sites.{upto}
-use Rattle.value_compare.specs.Making.{AreRead, IsReadBook, Gains}
+use Rattle.value_compare.specs.code.Making.{AreRead, IsReadBook, Gains}
 use Rattle.rule_meaning.specs.Patterns.{patterns_at}
 use Rattle.value_compare.proofs.make_book.add_sites.Given as goal
 

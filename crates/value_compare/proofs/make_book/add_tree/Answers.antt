@@ -2,7 +2,7 @@ use Rattle.std.proofs.Common.{◌≡◌, ◌<◌, ◌++◌, sym, ap, ◌∙◌, 
 use Rattle.std.proofs.lemmas.Result.{err_from_is_err_and}  -- what the exit of a `?` returns
 use Rattle.doc_values.specs.Places.{label_at}
 use Rattle.doc_values.specs.Tree.{Label, Forest, size}
-use Rattle.value_compare.specs.Making.{written}
+use Rattle.value_compare.specs.code.Making.{written}
 use Rattle.value_compare.proofs.Making.{gains-none, gains-append, same-gains, read-none, read-append, same-read, next-node, rose-later, written_before, written_before-none, written_before-more, written_before-all}
 use Rattle.value_compare.proofs.make_book.add_tree.Goals as goal
 

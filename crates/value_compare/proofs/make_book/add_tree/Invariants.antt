@@ -1,5 +1,5 @@
 use Rattle.std.proofs.Common.{ℕ, ◌≤◌, List}
-use Rattle.value_compare.specs.Making.{AreRead, IsReadBook, Gains}
+use Rattle.value_compare.specs.code.Making.{AreRead, IsReadBook, Gains}
 use Rattle.value_compare.proofs.Making.{written_before}
 use Rattle.value_compare.proofs.make_book.add_tree.Given as goal
 

@@ -3,7 +3,7 @@ use Rattle.std.specs.List.{list_all}
 use Rattle.doc_values.specs.Places.{kids_at}
 use Rattle.rule_meaning.specs.RowTests.{is_member_of_some}
 use Rattle.rule_meaning.specs.Values.{values_in}
-use Rattle.value_compare.specs.Views.{see_view}
+use Rattle.value_compare.specs.code.Views.{see_view}
 use Rattle.value_compare.proofs.members.are_members.Given as goal
 
 abbrev pub invariant-loop-i : goal.invariant-loop-i

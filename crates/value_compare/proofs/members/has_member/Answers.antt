@@ -3,7 +3,7 @@ use Rattle.doc_values.specs.Places.{kids_at}
 use Rattle.doc_values.specs.Tree.{count, Forest}
 use Rattle.rule_meaning.specs.RowTests.{is_member_of_some}
 use Rattle.rule_meaning.specs.Values.{value_at, values_in}
-use Rattle.value_compare.specs.Views.{see_view}
+use Rattle.value_compare.specs.code.Views.{see_view}
 use Rattle.value_compare.proofs.Items.{item-is, item_within}
 use Rattle.value_compare.proofs.Nodes.{length-values_in}
 use Rattle.value_compare.proofs.Walks.{any_hit, any_more, any_end}

@@ -3,7 +3,7 @@ use Rattle.std.specs.List.{list_all}
 use Rattle.rule_meaning.specs.Pairs.{is_no}
 use Rattle.rule_meaning.specs.RowTests.{member}
 use Rattle.rule_meaning.specs.Values.{Value}
-use Rattle.value_compare.specs.Views.{see_view}
+use Rattle.value_compare.specs.code.Views.{see_view}
 use Rattle.value_compare.proofs.members.is_outside_each.Given as goal
 
 abbrev pub invariant-loop-right : goal.invariant-loop-right

@@ -1,7 +1,7 @@
 use Rattle.std.proofs.Common.{map, sym, ap, ◌∙◌}
 use Rattle.rule_meaning.specs.Pairs.{equal, is_no}
 use Rattle.rule_meaning.specs.Values.{Value}
-use Rattle.value_compare.specs.Views.{see_view}
+use Rattle.value_compare.specs.code.Views.{see_view}
 use Rattle.value_compare.proofs.AnswerKinds.{not_no}
 use Rattle.value_compare.proofs.Walks.{all_hit, all_more, seen_at, seen_within}
 use Rattle.value_compare.proofs.row_tests.differs_from_each.Goals as goal

@@ -2,7 +2,7 @@ use Rattle.std.proofs.Common.{◌≡◌, true, map, take}
 use Rattle.std.specs.List.{list_all}
 use Rattle.rule_meaning.specs.Pairs.{equal, is_no}
 use Rattle.rule_meaning.specs.Values.{Value}
-use Rattle.value_compare.specs.Views.{see_view}
+use Rattle.value_compare.specs.code.Views.{see_view}
 use Rattle.value_compare.proofs.row_tests.differs_from_each.Given as goal
 
 abbrev pub invariant-loop-right : goal.invariant-loop-right

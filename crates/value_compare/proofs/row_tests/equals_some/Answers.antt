@@ -1,7 +1,7 @@
 use Rattle.std.proofs.Common.{map, sym, ap, ◌∙◌}
 use Rattle.rule_meaning.specs.Pairs.{equal, is_yes}
 use Rattle.rule_meaning.specs.Values.{Value}
-use Rattle.value_compare.specs.Views.{see_view}
+use Rattle.value_compare.specs.code.Views.{see_view}
 use Rattle.value_compare.proofs.AnswerKinds.{not_yes}
 use Rattle.value_compare.proofs.Walks.{any_hit, any_more, seen_at, seen_within}
 use Rattle.value_compare.proofs.row_tests.equals_some.Goals as goal

@@ -2,7 +2,7 @@ use Rattle.std.proofs.Common.{◌≡◌, false, map, take}
 use Rattle.std.specs.List.{list_any}
 use Rattle.rule_meaning.specs.Pairs.{equal, is_yes}
 use Rattle.rule_meaning.specs.Values.{Value}
-use Rattle.value_compare.specs.Views.{see_view}
+use Rattle.value_compare.specs.code.Views.{see_view}
 use Rattle.value_compare.proofs.row_tests.equals_some.Given as goal
 
 abbrev pub invariant-loop-right : goal.invariant-loop-right

@@ -1,8 +1,8 @@
 use Rattle.std.proofs.Common.{◌≡◌, ◌++◌, ◌∷◌, [], ap, map, ◌∙◌, Vec, Global}
 use Rattle.std.specs.List.{list_all}
-use Rattle.value_compare.specs.BookCovers.{covers}
-use Rattle.value_compare.specs.Stores.{see_store}
-use Rattle.value_compare.specs.Views.{see_view}
+use Rattle.value_compare.specs.code.BookCovers.{covers}
+use Rattle.value_compare.specs.code.Stores.{see_store}
+use Rattle.value_compare.specs.code.Views.{see_view}
 use Rattle.value_compare.specs.declared.view.View.{View}
 use Rattle.value_compare.proofs.FoundRows.{more-missing, more-found, more-held}
 use Rattle.value_compare.proofs.row_tests.found_rows.Goals as goal

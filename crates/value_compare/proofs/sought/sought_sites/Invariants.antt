@@ -1,6 +1,6 @@
 use Rattle.std.proofs.Common.{◌≡◌, ◌<◌, ℕ, false, length, get_or}
 use Rattle.std.specs.List.{list_any}
-use Rattle.guard_syntax.specs.Seen.{see_file}
+use Rattle.guard_syntax.specs.code.Seen.{see_file}
 use Rattle.guard_syntax.specs.Sites.{upto}
 use Rattle.rule_meaning.specs.Patterns.{is_site, sought_at}
 use Rattle.value_compare.proofs.sought.sought_sites.Given as goal

@@ -1,6 +1,6 @@
 use Rattle.std.proofs.Common.{ap, ◌∙◌}
 use Rattle.doc_values.specs.Tree.{Forest}
-use Rattle.value_compare.specs.BookCovers.{covers}
+use Rattle.value_compare.specs.code.BookCovers.{covers}
 use Rattle.rule_meaning.specs.Values.{value_at}
 use Rattle.value_compare.proofs.HeldPatterns.{held-at}
 use Rattle.value_compare.proofs.store.view_in.Goals as goal

@@ -1,5 +1,5 @@
 use Rattle.std.proofs.Common.{sym, ap, ◌∙◌, drop, ◌+◌, true}
-use Rattle.yaml_scalars.specs.Walk.{line_at}
+use Rattle.yaml_scalars.specs.code.Walk.{line_at}
 use Rattle.yaml_blocks.specs.declared.ahead.Token.{Token}
 use Rattle.yaml_scalars.specs.Lines.{past_white}
 use Rattle.yaml_blocks.specs.Ahead.{token_at, tab_token}

@@ -1,7 +1,7 @@
 use Rattle.std.proofs.Common.{◌≡◌, ◌+◌, ◌≤◌, drop}
 use Rattle.yaml_scalars.specs.Lines.{lead}
 use Rattle.yaml_blocks.specs.Ahead.{is_name}
-use Rattle.yaml_scalars.specs.Walk.{line_at}
+use Rattle.yaml_scalars.specs.code.Walk.{line_at}
 use Rattle.yaml_blocks.proofs.ahead.name_len.Given as goal
 
 abbrev pub invariant-loop-i : goal.invariant-loop-i

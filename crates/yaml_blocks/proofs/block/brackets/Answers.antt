@@ -1,4 +1,4 @@
-use Rattle.yaml_blocks.specs.Steps.{stack}
+use Rattle.yaml_blocks.specs.code.Steps.{stack}
 use Rattle.yaml_blocks.proofs.BlockGains.{brackets_gives, spot}
 use Rattle.yaml_blocks.proofs.block.brackets.Goals as goal
 

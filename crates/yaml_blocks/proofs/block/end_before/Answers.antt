@@ -1,8 +1,8 @@
 use Rattle.std.proofs.Common.{List, sym, ap, subst, ◌∙◌}
 use Rattle.yaml_blocks.specs.declared.form.Form.{Form}
-use Rattle.yaml_blocks.specs.Rest.{top}
+use Rattle.yaml_blocks.specs.code.Rest.{top}
 use Rattle.doc_values.specs.Unfinished.{with_end}
-use Rattle.yaml_blocks.specs.Steps.{stack, ends_before, Lasts}
+use Rattle.yaml_blocks.specs.code.Steps.{stack, ends_before, Lasts}
 use Rattle.yaml_blocks.proofs.Stacks.{stack_grown}
 use Rattle.yaml_blocks.proofs.LastValues.{ended_lasts, then_lasts}
 use Rattle.yaml_blocks.proofs.BlockGains.{ended_one, ended_alike, then_alike}

@@ -1,6 +1,6 @@
 use Rattle.std.proofs.Common.{◌≡◌, ℕ, List, false, length}
 use Rattle.yaml_blocks.specs.Ahead.{ahead}
-use Rattle.yaml_blocks.specs.Steps.{stack, Lasts}
+use Rattle.yaml_blocks.specs.code.Steps.{stack, Lasts}
 use Rattle.yaml_blocks.proofs.BlockGains.{Alike, Stands}
 use Rattle.yaml_blocks.proofs.block.end_before.Given as goal
 

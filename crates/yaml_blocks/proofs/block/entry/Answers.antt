@@ -6,7 +6,7 @@ use Rattle.doc_values.specs.Tree.{has_key}
 use Rattle.yaml_blocks.specs.declared.form.Form.TheVariants.{Entries}
 use Rattle.yaml_blocks.specs.declared.stage.Stage.TheVariants as stage
 use Rattle.yaml_blocks.specs.Nodes.{as_key}
-use Rattle.yaml_blocks.specs.Steps.{stack, Gives}
+use Rattle.yaml_blocks.specs.code.Steps.{stack, Gives}
 use Rattle.yaml_blocks.proofs.Forms.{awaits_key}
 use Rattle.yaml_blocks.proofs.Gains.{found_key}
 use Rattle.yaml_blocks.proofs.BlockGains.{Behind, nothing_follows, entry_deep, entry_signed_gives, entry_missed, entry_goes, entry_refused, no_colon}

@@ -1,4 +1,4 @@
-use Rattle.yaml_blocks.specs.Steps.{stack}
+use Rattle.yaml_blocks.specs.code.Steps.{stack}
 use Rattle.yaml_blocks.proofs.BlockGains.{root_none}
 use Rattle.yaml_blocks.proofs.block.head.Goals as goal
 

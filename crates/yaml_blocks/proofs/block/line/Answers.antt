@@ -1,7 +1,7 @@
 use Rattle.std.proofs.Common.{List, ◌+◌, ◌*◌, arith, subst}
 use Rattle.yaml_blocks.specs.declared.form.Form.{Form}
-use Rattle.yaml_blocks.specs.Rest.{Ends}
-use Rattle.yaml_blocks.specs.Steps.{stack, Gives}
+use Rattle.yaml_blocks.specs.code.Rest.{Ends}
+use Rattle.yaml_blocks.specs.code.Steps.{stack, Gives}
 use Rattle.yaml_blocks.proofs.Gains.{gives_from}
 use Rattle.yaml_blocks.proofs.Quiet.{line_quiet}
 use Rattle.yaml_blocks.proofs.Roots.{not_true}

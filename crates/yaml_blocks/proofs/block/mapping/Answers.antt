@@ -3,7 +3,7 @@ use Rattle.std.specs.Cow.{cow_str_bytes}
 use Rattle.doc_values.specs.Unfinished.{with_key}
 use Rattle.yaml_blocks.specs.declared.form.Form.TheVariants.{Entries}
 use Rattle.yaml_blocks.specs.declared.stage.Stage.TheVariants as stage
-use Rattle.yaml_blocks.specs.Steps.{stack}
+use Rattle.yaml_blocks.specs.code.Steps.{stack}
 use Rattle.yaml_blocks.proofs.BlockGains.{mapping_goes, mapping_refused, spot}
 use Rattle.yaml_blocks.proofs.AwaitedNodes.{column_before, small_form, small_place, value_awaited}
 use Rattle.yaml_blocks.proofs.block.mapping.Goals as goal

@@ -1,4 +1,4 @@
-use Rattle.yaml_blocks.specs.Steps.{stack}
+use Rattle.yaml_blocks.specs.code.Steps.{stack}
 use Rattle.yaml_blocks.proofs.BlockGains.{missing_gives, no_root, spot}
 use Rattle.yaml_blocks.proofs.block.missing.Goals as goal
 

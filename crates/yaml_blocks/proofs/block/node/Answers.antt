@@ -1,5 +1,5 @@
 use Rattle.std.proofs.Common.{◌+◌, ◌*◌}
-use Rattle.yaml_blocks.specs.Steps.{stack}
+use Rattle.yaml_blocks.specs.code.Steps.{stack}
 use Rattle.yaml_blocks.proofs.BlockGains.{node_signed_gives, spot}
 use Rattle.yaml_blocks.proofs.block.node.Goals as goal
 

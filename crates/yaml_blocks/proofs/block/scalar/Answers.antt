@@ -1,4 +1,4 @@
-use Rattle.yaml_blocks.specs.Steps.{stack}
+use Rattle.yaml_blocks.specs.code.Steps.{stack}
 use Rattle.yaml_blocks.proofs.BlockGains.{scalar_gives, spot}
 use Rattle.yaml_blocks.proofs.AwaitedNodes.{place_behind, small_form, value_awaited}
 use Rattle.yaml_blocks.proofs.block.scalar.Goals as goal

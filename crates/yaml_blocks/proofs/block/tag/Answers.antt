@@ -1,5 +1,5 @@
 use Rattle.std.proofs.Common.{false}
-use Rattle.yaml_blocks.specs.Steps.{stack}
+use Rattle.yaml_blocks.specs.code.Steps.{stack}
 use Rattle.yaml_blocks.proofs.Gains.{tag_cut}
 use Rattle.yaml_blocks.proofs.BlockGains.{tag_gives, spot}
 use Rattle.yaml_blocks.proofs.AwaitedNodes.{small_form}

@@ -1,8 +1,8 @@
 use Rattle.std.proofs.Common.{List, sym, ap, subst, ◌∙◌, ◌+◌, ◌*◌}
 use Rattle.std.specs.Prelude.{Ok}
 use Rattle.yaml_blocks.specs.declared.form.Form.{Form}
-use Rattle.yaml_blocks.specs.Rest.{top}
-use Rattle.yaml_blocks.specs.Steps.{stack, Ended}
+use Rattle.yaml_blocks.specs.code.Rest.{top}
+use Rattle.yaml_blocks.specs.code.Steps.{stack, Ended}
 use Rattle.yaml_blocks.proofs.BlockGains.{spot, tag_again_gives, no_tag_again}
 use Rattle.yaml_blocks.proofs.block.tag_again.Goals as goal
 

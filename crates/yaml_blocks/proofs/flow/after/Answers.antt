@@ -1,6 +1,6 @@
 use Rattle.std.proofs.Common.{refl, sym, ◌∙◌}
 use Rattle.yaml_blocks.specs.declared.stage.Stage.TheVariants as stage
-use Rattle.yaml_blocks.specs.Steps.{stack}
+use Rattle.yaml_blocks.specs.code.Steps.{stack}
 use Rattle.yaml_blocks.proofs.Gains.{closed_after_gives, comma_gives, marked_after_gives, none_follows}
 use Rattle.yaml_blocks.proofs.flow.after.Goals as goal
 

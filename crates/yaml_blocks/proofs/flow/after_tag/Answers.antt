@@ -1,7 +1,7 @@
 use Rattle.std.proofs.Common.{List, ap, ◌∙◌}
 use Rattle.yaml_blocks.specs.declared.form.Form.{Form}
-use Rattle.yaml_blocks.specs.Rest.{top}
-use Rattle.yaml_blocks.specs.Steps.{stack}
+use Rattle.yaml_blocks.specs.code.Rest.{top}
+use Rattle.yaml_blocks.specs.code.Steps.{stack}
 use Rattle.yaml_blocks.proofs.Stacks.{stack_grown}
 use Rattle.yaml_blocks.proofs.Gains.{tag_may_end, tag_popped, tag_gives}
 use Rattle.yaml_blocks.proofs.flow.after_tag.Goals as goal

@@ -2,8 +2,8 @@ use Rattle.std.proofs.Common.{List, ◌+◌, ◌*◌, sym, ap, subst, ◌∙◌}
 use Rattle.yaml_blocks.specs.declared.ahead.Token.TheVariants.{Closes}
 use Rattle.yaml_blocks.specs.declared.form.Form.TheVariants.{Flow}
 use Rattle.yaml_blocks.specs.declared.form.Form.{Form}
-use Rattle.yaml_blocks.specs.Rest.{Enters}
-use Rattle.yaml_blocks.specs.Steps.{stack, Gives}
+use Rattle.yaml_blocks.specs.code.Rest.{Enters}
+use Rattle.yaml_blocks.specs.code.Steps.{stack, Gives}
 use Rattle.yaml_blocks.proofs.Gains.{closed_entry_gives, marked_entry_gives, item_gives}
 use Rattle.yaml_blocks.proofs.flow.entry.Goals as goal
 

@@ -6,9 +6,9 @@ use Rattle.doc_values.specs.Tree.{has_key}
 use Rattle.yaml_scalars.specs.Scalar.{begins_quoted}
 use Rattle.yaml_blocks.specs.declared.stage.Stage.TheVariants as stage
 use Rattle.yaml_blocks.specs.Flow.{IsColon}
-use Rattle.yaml_blocks.specs.Rest.{Enters}
+use Rattle.yaml_blocks.specs.code.Rest.{Enters}
 use Rattle.yaml_blocks.specs.Nodes.{as_key}
-use Rattle.yaml_blocks.specs.Steps.{stack, Gives}
+use Rattle.yaml_blocks.specs.code.Steps.{stack, Gives}
 use Rattle.yaml_blocks.specs.declared.form.Form.TheVariants.{Flow}
 use Rattle.yaml_blocks.proofs.Forms.{awaits_key}
 use Rattle.yaml_blocks.proofs.Gains.{key_gives, key_signed_gives, find_refused, found_key, no_colon, key_refused}

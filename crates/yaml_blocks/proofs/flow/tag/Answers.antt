@@ -1,5 +1,5 @@
 use Rattle.std.proofs.Common.{true}
-use Rattle.yaml_blocks.specs.Steps.{stack}
+use Rattle.yaml_blocks.specs.code.Steps.{stack}
 use Rattle.yaml_blocks.proofs.Gains.{flow_spot, flow_tag_gives, tag_cut, tag_flow}
 use Rattle.yaml_blocks.proofs.flow.tag.Goals as goal
 

@@ -1,6 +1,6 @@
 use Rattle.std.proofs.Common.{sym, ◌∙◌, arith, ◌+◌, ◌*◌}
-use Rattle.yaml_blocks.specs.Rest.{Awaits}
-use Rattle.yaml_blocks.specs.Steps.{stack}
+use Rattle.yaml_blocks.specs.code.Rest.{Awaits}
+use Rattle.yaml_blocks.specs.code.Steps.{stack}
 use Rattle.yaml_blocks.proofs.Gains.{flow_spot, null_gives, sooner}
 use Rattle.yaml_blocks.proofs.flow.value.Goals as goal
 

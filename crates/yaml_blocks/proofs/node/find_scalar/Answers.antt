@@ -1,7 +1,7 @@
 use Rattle.std.proofs.Common.{◌≡◌, length, inl, inr, refl, arith, sym, subst, ◌∙◌}
 use Rattle.std.specs.Prelude.{Err}
 use Rattle.yaml_blocks.specs.declared.refusal.YamlRefusal.{YamlRefusal}
-use Rattle.yaml_blocks.specs.Steps.{Finds}
+use Rattle.yaml_blocks.specs.code.Steps.{Finds}
 use Rattle.yaml_blocks.proofs.Scalars.{failed_other, failed_end, finds_scalar, finds_none}
 use Rattle.yaml_blocks.proofs.node.find_scalar.Goals as goal
 

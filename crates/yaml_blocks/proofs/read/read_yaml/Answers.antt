@@ -2,7 +2,7 @@ use Rattle.std.proofs.Common.{sym, ap, subst, List, []}
 use Rattle.doc_values.specs.Tree.{Forest}
 use Rattle.yaml_blocks.specs.declared.form.Form.{Form}
 use Rattle.yaml_blocks.specs.Answers.{Reads}
-use Rattle.yaml_blocks.specs.Steps.{stack, Rest, reached}
+use Rattle.yaml_blocks.specs.code.Steps.{stack, Rest, reached}
 use Rattle.yaml_blocks.proofs.Roots.{root_same, whole_tree, whole_complete, root_refused, refuses}
 use Rattle.yaml_blocks.proofs.read.read_yaml.Goals as goal
 

@@ -1,6 +1,6 @@
 use Rattle.std.proofs.Common.{◌+◌, ◌-◌, ◌*◌, length}
 use Rattle.std.specs.Str.{IsCharBoundary}
-use Rattle.yaml_blocks.specs.Steps.{stack, Fits, reached}
+use Rattle.yaml_blocks.specs.code.Steps.{stack, Fits, reached}
 use Rattle.yaml_blocks.proofs.Roots.{Same}
 use Rattle.yaml_blocks.proofs.read.read_yaml.Given as goal
 

@@ -1,6 +1,6 @@
 use Rattle.std.proofs.Common.{sym, subst}
 use Rattle.yaml_blocks.specs.declared.stage.Stage.{Stage}
-use Rattle.yaml_blocks.specs.Steps.{stack, Rest, Fits, reached, Gives}
+use Rattle.yaml_blocks.specs.code.Steps.{stack, Rest, Fits, reached, Gives}
 use Rattle.yaml_blocks.proofs.step.step.Goals as goal
 
 pub entry-requires-clause-fits : goal.entry-requires-clause-fits

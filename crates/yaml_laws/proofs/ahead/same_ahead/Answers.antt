@@ -2,7 +2,7 @@ use Rattle.std.proofs.Common.{◌≡◌, ◌≤◌, ◌∷◌, length, drop, fal
 use Rattle.yaml_scalars.specs.Lines.{begins_with}
 use Rattle.yaml_laws.proofs.PlainDead.{drop_whole}
 use Rattle.yaml_blocks.specs.Ahead.{ahead}
-use Rattle.yaml_laws.specs.AheadSeen.{ahead_seen}
+use Rattle.yaml_laws.specs.code.AheadSeen.{ahead_seen}
 use Rattle.yaml_laws.proofs.AheadStays.{ahead_stays}
 use Rattle.yaml_laws.proofs.ahead.same_ahead.Goals as goal
 

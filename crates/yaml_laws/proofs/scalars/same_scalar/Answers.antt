@@ -1,6 +1,6 @@
 use Rattle.std.proofs.Common.{◌≡◌, ◌≤◌, ◌∷◌, length, drop, false, sym, ap, ◌∙◌, subst}
 use Rattle.yaml_scalars.specs.Lines.{begins_with}
-use Rattle.yaml_laws.specs.Agreement.{scalar_shown}
+use Rattle.yaml_laws.specs.code.Agreement.{scalar_shown}
 use Rattle.yaml_scalars.specs.Scalar.{scalar_at}
 use Rattle.yaml_laws.proofs.PlainDead.{drop_whole}
 use Rattle.yaml_laws.proofs.ScalarStays.{scalar_stays}

@@ -1,8 +1,8 @@
 use Rattle.std.proofs.Common.{◌≡◌, ℕ, List, ◌+◌, ◌<◌, ◌++◌, length, get_or, drop, arith, subst, sym, ◌∙◌, ap}
 use Rattle.std.specs.Prelude.{string_bytes}
 use Rattle.yaml_scalars.specs.Lines.{is_white}
-use Rattle.yaml_scalars.specs.Walk.{line_at}
-use Rattle.yaml_scalars.specs.BlockSteps.{last_seen}
+use Rattle.yaml_scalars.specs.code.Walk.{line_at}
+use Rattle.yaml_scalars.specs.code.BlockSteps.{last_seen}
 use Rattle.yaml_scalars.proofs.BlockLines.{line_all, line_head, line_boundary, text_added}
 use Rattle.yaml_scalars.proofs.block.add_line.Goals as goal
 

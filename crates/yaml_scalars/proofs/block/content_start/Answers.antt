@@ -1,6 +1,6 @@
 use Rattle.std.proofs.Common.{◌≡◌, ℕ, List, ◌+◌, length, drop, arith, subst, ◌∙◌, ap}
 use Rattle.yaml_scalars.specs.Lines.{is_space, lead}
-use Rattle.yaml_scalars.specs.Walk.{line_at}
+use Rattle.yaml_scalars.specs.code.Walk.{line_at}
 use Rattle.yaml_scalars.proofs.Places.{lead_le}
 use Rattle.yaml_scalars.proofs.BlockLines.{part_in, part_out, line_length, line_over, spaces_boundary, line_boundary}
 use Rattle.yaml_scalars.proofs.block.content_start.Goals as goal

@@ -2,7 +2,7 @@ use Rattle.std.proofs.Common.{◌≡◌, ℕ, List, [], ◌-◌, ◌≤◌, ◌+
 use Rattle.std.specs.Prelude.{Option}
 use Rattle.yaml_scalars.specs.Lines.{is_blank, lines}
 use Rattle.yaml_scalars.specs.Block.{Chomp, Last, ending}
-use Rattle.yaml_scalars.specs.Walk.{line_at, has_break, behind}
+use Rattle.yaml_scalars.specs.code.Walk.{line_at, has_break, behind}
 use Rattle.yaml_scalars.proofs.BlockLines.{after_feed}
 use Rattle.yaml_scalars.proofs.BlockStates.{blank_out, blank_next, blank_last, stands_same}
 use Rattle.yaml_scalars.proofs.block.read_blanks.Goals as goal

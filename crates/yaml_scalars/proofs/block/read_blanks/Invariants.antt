@@ -1,7 +1,7 @@
 use Rattle.std.proofs.Common.{◌≡◌, ◌+◌, ◌-◌, ◌≤◌, length, None, []}
 use Rattle.std.specs.Prelude.{string_bytes}
 use Rattle.std.specs.Str.{IsCharBoundary}
-use Rattle.yaml_scalars.specs.BlockSteps.{blank_from, last_seen}
+use Rattle.yaml_scalars.specs.code.BlockSteps.{blank_from, last_seen}
 use Rattle.yaml_scalars.proofs.block.read_blanks.Given as goal
 
 abbrev pub invariant-loop-place : goal.invariant-loop-place

@@ -3,8 +3,8 @@ use Rattle.std.proofs.lemmas.Int.{to_z-of_z}
 use Rattle.std.specs.Prelude.{nat_eq}
 use Rattle.yaml_scalars.specs.Lines.{Outcome, Fails, lines}
 use Rattle.yaml_scalars.specs.Block.{header, header_fault, by_digit}
-use Rattle.yaml_scalars.specs.Walk.{line_at, has_break, behind}
-use Rattle.yaml_scalars.specs.BlockSteps.{chomp_seen, header_seen}
+use Rattle.yaml_scalars.specs.code.Walk.{line_at, has_break, behind}
+use Rattle.yaml_scalars.specs.code.BlockSteps.{chomp_seen, header_seen}
 use Rattle.yaml_scalars.specs.Scalar.{Answers}
 use Rattle.yaml_scalars.proofs.BlockLines.{after_feed}
 use Rattle.yaml_scalars.proofs.BlockScalars.{block_fault, block_none, block_lines}

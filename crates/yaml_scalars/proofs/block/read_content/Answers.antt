@@ -4,8 +4,8 @@ use Rattle.std.specs.Str.{IsCharBoundary}
 use Rattle.std.proofs.lemmas.Str.{IsCharBoundary-end}
 use Rattle.yaml_scalars.specs.Lines.{lines}
 use Rattle.yaml_scalars.specs.Block.{is_content, return_behind}
-use Rattle.yaml_scalars.specs.Walk.{line_at, has_break, behind}
-use Rattle.yaml_scalars.specs.BlockSteps.{last_seen}
+use Rattle.yaml_scalars.specs.code.Walk.{line_at, has_break, behind}
+use Rattle.yaml_scalars.specs.code.BlockSteps.{last_seen}
 use Rattle.yaml_scalars.proofs.BlockLines.{after_feed}
 use Rattle.yaml_scalars.proofs.BlockStates.{content_out, content_return, content_next, content_last, stands_same}
 use Rattle.yaml_scalars.proofs.block.read_content.Goals as goal

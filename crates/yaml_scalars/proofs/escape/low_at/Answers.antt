@@ -1,7 +1,7 @@
 use Rattle.std.proofs.Common.{◌≡◌, ℕ, suc, ◌+◌, ◌-◌, ◌*◌, arith, refl, subst, sym, ap, ◌∙◌}
 use Rattle.std.specs.Prelude.{encode_utf8}
 use Rattle.yaml_scalars.specs.Quoted.{Means, Wrong, of_low}
-use Rattle.yaml_scalars.specs.QuotedSteps.{IsMeaning}
+use Rattle.yaml_scalars.specs.code.QuotedSteps.{IsMeaning}
 use Rattle.yaml_scalars.proofs.EscapeValues.{meaning_so}
 use Rattle.yaml_scalars.proofs.escape.low_at.Goals as goal
 

@@ -1,6 +1,6 @@
 use Rattle.std.proofs.Common.{◌≡◌, ◌≤◌, drop, false}
 use Rattle.yaml_scalars.specs.Block.{header_fault}
-use Rattle.yaml_scalars.specs.Walk.{line_at}
+use Rattle.yaml_scalars.specs.code.Walk.{line_at}
 use Rattle.yaml_scalars.proofs.header.header_fault.Given as goal
 
 abbrev pub invariant-loop-i : goal.invariant-loop-i

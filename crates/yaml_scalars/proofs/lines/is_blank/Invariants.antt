@@ -1,6 +1,6 @@
 use Rattle.std.proofs.Common.{◌≡◌, drop}
 use Rattle.yaml_scalars.specs.Lines.{is_blank}
-use Rattle.yaml_scalars.specs.Walk.{line_at}
+use Rattle.yaml_scalars.specs.code.Walk.{line_at}
 use Rattle.yaml_scalars.proofs.lines.is_blank.Given as goal
 
 abbrev pub invariant-loop-i : goal.invariant-loop-i

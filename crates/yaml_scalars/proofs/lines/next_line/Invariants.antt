@@ -1,5 +1,5 @@
 use Rattle.std.proofs.Common.{◌≡◌, ◌≤◌, drop}
-use Rattle.yaml_scalars.specs.Walk.{has_break, behind}
+use Rattle.yaml_scalars.specs.code.Walk.{has_break, behind}
 use Rattle.yaml_scalars.proofs.lines.next_line.Given as goal
 
 abbrev pub invariant-loop-i : goal.invariant-loop-i

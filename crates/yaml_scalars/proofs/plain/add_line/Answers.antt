@@ -2,9 +2,9 @@ use Rattle.std.proofs.Common.{◌≡◌, ℕ, List, ◌+◌, drop, false, subst,
 use Rattle.std.specs.Prelude.{string_bytes}
 use Rattle.yaml_scalars.specs.declared.plain_line.Why.TheVariants.{Break, Return, Colon, Comment, Mark}
 use Rattle.yaml_scalars.specs.Lines.{Fails}
-use Rattle.yaml_scalars.specs.Walk.{line_at}
+use Rattle.yaml_scalars.specs.code.Walk.{line_at}
 use Rattle.yaml_scalars.specs.Plain.{plain_len, why, return_shown}
-use Rattle.yaml_scalars.specs.PlainSteps.{from, rest}
+use Rattle.yaml_scalars.specs.code.PlainSteps.{from, rest}
 use Rattle.yaml_scalars.proofs.FurtherLines.{not_true, not_false, line_return, line_key, line_break, line_comment, line_colon, line_mark, ends_same}
 use Rattle.yaml_scalars.proofs.plain.add_line.Goals as goal
 

@@ -1,5 +1,5 @@
 use Rattle.std.proofs.Common.{ℕ, List, Some, sym, subst}
-use Rattle.yaml_scalars.specs.PlainSteps.{LiesBehind}
+use Rattle.yaml_scalars.specs.code.PlainSteps.{LiesBehind}
 use Rattle.yaml_scalars.specs.Scalar.{IsEndOf}
 use Rattle.yaml_scalars.proofs.plain.goes_on.Goals as goal
 

@@ -1,7 +1,7 @@
 use Rattle.std.proofs.Common.{◌+◌, ◌≤◌, length, drop, arith, rules, sym, ◌∙◌, ap, add-one}
 use Rattle.yaml_scalars.specs.declared.plain_line.Below.TheVariants.{Blank, Outside}
-use Rattle.yaml_scalars.specs.Walk.{line_at}
-use Rattle.yaml_scalars.specs.PlainSteps.{from}
+use Rattle.yaml_scalars.specs.code.Walk.{line_at}
+use Rattle.yaml_scalars.specs.code.PlainSteps.{from}
 use Rattle.yaml_scalars.proofs.LineParts.{line_within}
 use Rattle.yaml_scalars.proofs.FurtherLines.{from_below, from_further, rest_ends, skip_le, byte_before}
 use Rattle.yaml_scalars.proofs.plain.next_content.Goals as goal

@@ -1,5 +1,5 @@
 use Rattle.std.proofs.Common.{◌≡◌, ◌-◌, ◌≤◌, ℕ, List, length}
-use Rattle.yaml_scalars.specs.PlainSteps.{from}
+use Rattle.yaml_scalars.specs.code.PlainSteps.{from}
 use Rattle.yaml_scalars.proofs.plain.next_content.Given as goal
 
 abbrev pub invariant-loop-start : goal.invariant-loop-start

@@ -1,6 +1,6 @@
 use Rattle.std.proofs.Common.{arith, ap, subst, ◌∙◌}
 use Rattle.std.specs.Prelude.{string_bytes}
-use Rattle.yaml_scalars.specs.PlainSteps.{rest, LiesBehind}
+use Rattle.yaml_scalars.specs.code.PlainSteps.{rest, LiesBehind}
 use Rattle.yaml_scalars.proofs.FurtherLines.{lies_before}
 use Rattle.yaml_scalars.proofs.plain.read_lines.Goals as goal
 

@@ -1,6 +1,6 @@
 use Rattle.std.proofs.Common.{◌≡◌, ℕ}
 use Rattle.std.specs.Prelude.{string_bytes}
-use Rattle.yaml_scalars.specs.PlainSteps.{rest, LiesBehind}
+use Rattle.yaml_scalars.specs.code.PlainSteps.{rest, LiesBehind}
 use Rattle.yaml_scalars.specs.Scalar.{IsEndOf}
 use Rattle.yaml_scalars.proofs.FurtherLines.{left}
 use Rattle.yaml_scalars.proofs.plain.read_lines.Given as goal

@@ -3,7 +3,7 @@ use Rattle.std.specs.Prelude.{◌||◌, ◌&&◌, not, slice_index}
 use Rattle.std.specs.Cow.{cow_str_bytes}
 use Rattle.yaml_scalars.specs.declared.plain_line.Why.TheVariants.{Break, Return}
 use Rattle.yaml_scalars.specs.Lines.{Fails, is_mark, is_cut_mark, trimmed}
-use Rattle.yaml_scalars.specs.Walk.{line_at}
+use Rattle.yaml_scalars.specs.code.Walk.{line_at}
 use Rattle.yaml_scalars.specs.Plain.{begins_plain, wrong_begin, plain_len, why}
 use Rattle.yaml_scalars.specs.Scalar.{is_first_column, IsEndOf, Answers, HasKind}
 use Rattle.yaml_scalars.proofs.LineParts.{slice_length}

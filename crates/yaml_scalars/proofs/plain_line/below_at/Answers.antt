@@ -1,6 +1,6 @@
 use Rattle.std.proofs.Common.{◌≡◌, ◌+◌, ◌≤◌, drop, true, false, arith, sym, ◌∙◌}
 use Rattle.yaml_scalars.specs.Lines.{begins_with}
-use Rattle.yaml_scalars.specs.Walk.{line_at}
+use Rattle.yaml_scalars.specs.code.Walk.{line_at}
 use Rattle.yaml_scalars.specs.Plain.{above_of}
 use Rattle.yaml_scalars.proofs.FurtherLines.{below_inside, inside_flow, inside_tab, inside_is}
 use Rattle.yaml_scalars.proofs.plain_line.below_at.Goals as goal

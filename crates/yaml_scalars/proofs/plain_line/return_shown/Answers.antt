@@ -3,7 +3,7 @@ use Rattle.std.specs.Prelude.{nat_eq}
 use Rattle.std.proofs.lemmas.Bool.Decides.{nat_tests}
 use Rattle.yaml_scalars.specs.Lines.{ends_with}
 use Rattle.yaml_scalars.specs.Plain.{plain_len}
-use Rattle.yaml_scalars.specs.Walk.{line_at}
+use Rattle.yaml_scalars.specs.code.Walk.{line_at}
 use Rattle.yaml_scalars.proofs.FurtherLines.{plain_le, shown_before, shown_behind, last_byte}
 use Rattle.yaml_scalars.proofs.plain_line.return_shown.Goals.{else-not-flow-via-then-not-flow+then-begin-stop+else-bytes-stop-eq58, else-not-flow-via-then-not-flow+else-begin-stop, else-not-flow-via-else-not-flow}
 use Rattle.yaml_scalars.proofs.plain_line.return_shown.Goals as goal

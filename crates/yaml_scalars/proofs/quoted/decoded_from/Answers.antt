@@ -2,7 +2,7 @@ use Rattle.std.proofs.Common.{◌≡◌, length, arith, sym, subst, ◌∙◌}
 use Rattle.std.specs.Prelude.{string_bytes, Ok}
 use Rattle.yaml_scalars.specs.declared.quoted.Step.{Step}
 use Rattle.yaml_scalars.specs.Lines.{Outcome}
-use Rattle.yaml_scalars.specs.QuotedSteps.{from, Steps, IsRefused}
+use Rattle.yaml_scalars.specs.code.QuotedSteps.{from, Steps, IsRefused}
 use Rattle.yaml_scalars.proofs.QuotedRuns.{from_end}
 use Rattle.yaml_scalars.proofs.quoted.decoded_from.Goals as goal
 

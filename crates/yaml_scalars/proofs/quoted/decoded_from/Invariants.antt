@@ -1,6 +1,6 @@
 use Rattle.std.proofs.Common.{◌≡◌, ◌-◌, ◌<◌, ◌≤◌, [], length, get_or}
 use Rattle.std.specs.Prelude.{string_bytes}
-use Rattle.yaml_scalars.specs.QuotedSteps.{from}
+use Rattle.yaml_scalars.specs.code.QuotedSteps.{from}
 use Rattle.yaml_scalars.proofs.quoted.decoded_from.Given as goal
 
 abbrev pub invariant-loop-at : goal.invariant-loop-at

@@ -1,6 +1,6 @@
 use Rattle.std.proofs.Common.{◌+◌, ◌<◌, false, arith, sym, ap₂, ◌∙◌}
 use Rattle.std.specs.Prelude.{string_bytes}
-use Rattle.yaml_scalars.specs.QuotedSteps.{from}
+use Rattle.yaml_scalars.specs.code.QuotedSteps.{from}
 use Rattle.yaml_scalars.proofs.QuotedLines.{below_blank, below_end, below_mark, below_cut, below_text, ascii_before}
 use Rattle.yaml_scalars.proofs.quoted.read_below.Goals as goal
 

@@ -1,6 +1,6 @@
 use Rattle.std.proofs.Common.{ℕ, ◌≡◌, ◌-◌, ◌≤◌, length, get_or}
 use Rattle.std.specs.Prelude.{string_bytes}
-use Rattle.yaml_scalars.specs.QuotedSteps.{below}
+use Rattle.yaml_scalars.specs.code.QuotedSteps.{below}
 use Rattle.yaml_scalars.proofs.quoted.read_below.Given as goal
 
 abbrev pub invariant-loop-start : goal.invariant-loop-start

@@ -1,6 +1,6 @@
 use Rattle.std.proofs.Common.{◌-◌, ◌≤◌, arith, sym, subst}
 use Rattle.std.specs.Prelude.{string_bytes}
-use Rattle.yaml_scalars.specs.QuotedSteps.{below, GoesOn}
+use Rattle.yaml_scalars.specs.code.QuotedSteps.{below, GoesOn}
 use Rattle.yaml_scalars.proofs.QuotedLines.{past_key, past_end, past_next}
 use Rattle.yaml_scalars.proofs.QuotedGoing.{goes_so}
 use Rattle.yaml_scalars.proofs.quoted.read_break.Goals as goal

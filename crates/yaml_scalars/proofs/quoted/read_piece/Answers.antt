@@ -2,7 +2,7 @@ use Rattle.std.proofs.Common.{◌≡◌, ℕ, List, true, false, ◌+◌, ◌-�
 use Rattle.std.specs.Prelude.{string_bytes, encode_utf8}
 use Rattle.std.specs.Str.{IsCharBoundary}
 use Rattle.yaml_scalars.specs.Lines.{Stands, Fails}
-use Rattle.yaml_scalars.specs.QuotedSteps.{from, past, IsRefused, Steps}
+use Rattle.yaml_scalars.specs.code.QuotedSteps.{from, past, IsRefused, Steps}
 use Rattle.yaml_scalars.proofs.EscapeFits.{means_fits}
 use Rattle.yaml_scalars.proofs.QuotedGoing.{steps_so, special_ascii, cut_behind, cut_before}
 use Rattle.yaml_scalars.proofs.QuotedRuns.{from_break, from_closes, from_means, from_joins, from_returns, from_wrong}

@@ -2,8 +2,8 @@ use Rattle.std.proofs.Common.{◌≡◌, ℕ, List, [], ◌+◌, ◌-◌, ◌≤
 use Rattle.std.specs.Str.{IsCharBoundary}
 use Rattle.yaml_scalars.specs.Lines.{Stands}
 use Rattle.yaml_scalars.specs.Quoted.{piece}
-use Rattle.yaml_scalars.specs.QuotedSteps.{from}
-use Rattle.yaml_scalars.specs.Walk.{line_at}
+use Rattle.yaml_scalars.specs.code.QuotedSteps.{from}
+use Rattle.yaml_scalars.specs.code.Walk.{line_at}
 use Rattle.yaml_scalars.proofs.QuotedGoing.{cut_behind, cut_before, quote_ascii, answers_refused}
 use Rattle.yaml_scalars.proofs.QuotedRuns.{quote_is, quote_ahead, quoted_begins, from_closes}
 use Rattle.yaml_scalars.proofs.quoted.read_quoted.Goals as goal

@@ -1,5 +1,5 @@
 use Rattle.std.proofs.Common.{◌≡◌, ℕ, take}
-use Rattle.byte_lanes.specs.Members.{holds}
+use Rattle.byte_lanes.specs.code.Members.{holds}
 use Rattle.byte_lanes.proofs.set.ByteSet.of.Given as goal
 
 abbrev pub invariant-loop-byte : goal.invariant-loop-byte

@@ -1,8 +1,8 @@
 use Rattle.std.proofs.Common.{◌≡◌, ◌<◌, List, length, refl, sym, subst, ap, arith}
 use Rattle.std.specs.Cow.{cow_str_bytes}
-use Rattle.doc_values.specs.Rows.{Row}
-use Rattle.doc_values.specs.Index.{row_of, IsNewUnder}
-use Rattle.doc_values.specs.Texts.{key_text}
+use Rattle.doc_values.specs.code.Rows.{Row}
+use Rattle.doc_values.specs.code.Index.{row_of, IsNewUnder}
+use Rattle.doc_values.specs.code.Texts.{key_text}
 use Rattle.doc_values.proofs.Indexed.{IsArena-more}
 use Rattle.doc_values.proofs.arena.Arena.put.Goals as goal
 

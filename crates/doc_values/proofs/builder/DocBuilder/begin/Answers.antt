@@ -1,8 +1,8 @@
 use Rattle.std.proofs.Common.{◌<◌, List, [], ◌∷◌, ◌++◌, length, ap, sym, ◌∙◌, subst, arith}
-use Rattle.doc_values.specs.Rows.{Row}
+use Rattle.doc_values.specs.code.Rows.{Row}
 use Rattle.doc_values.specs.Unfinished.{Unfinished, with_open, open_kind}
-use Rattle.doc_values.specs.Index.{row_of}
-use Rattle.doc_values.specs.Texts.{key_text}
+use Rattle.doc_values.specs.code.Index.{row_of}
+use Rattle.doc_values.specs.code.Texts.{key_text}
 use Rattle.doc_values.proofs.Steps.{Kept-open, unfinished-open, index_small}
 use Rattle.doc_values.proofs.Finding.{new_under}
 use Rattle.doc_values.proofs.builder.DocBuilder.begin.Goals as goal

@@ -1,7 +1,7 @@
 use Rattle.std.proofs.Common.{◌≡◌, [], ◌∷◌, ◌++◌, sym, ap, ◌∙◌, subst, None}
 use Rattle.doc_values.specs.Unfinished.{with_end, Unfinished}
-use Rattle.doc_values.specs.Kept.{Kept, unfinished}
-use Rattle.doc_values.specs.Texts.{key_text}
+use Rattle.doc_values.specs.code.Kept.{Kept, unfinished}
+use Rattle.doc_values.specs.code.Texts.{key_text}
 use Rattle.doc_values.proofs.Steps.{Kept-end}
 use Rattle.doc_values.proofs.builder.DocBuilder.end.Goals as goal
 

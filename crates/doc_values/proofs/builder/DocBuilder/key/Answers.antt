@@ -2,8 +2,8 @@ use Rattle.std.proofs.Common.{◌≡◌, false, sym, ap, ◌∙◌, refl, List, 
 use Rattle.std.specs.Prelude.{is_some}
 use Rattle.std.specs.Cow.{cow_str_bytes}
 use Rattle.doc_values.specs.Tree.{has_key}
-use Rattle.doc_values.specs.Rows.{open_of}
-use Rattle.doc_values.specs.Index.{among, keyed}
+use Rattle.doc_values.specs.code.Rows.{open_of}
+use Rattle.doc_values.specs.code.Index.{among, keyed}
 use Rattle.doc_values.specs.Unfinished.{with_key, Unfinished}
 use Rattle.doc_values.proofs.Steps.{Kept-key}
 use Rattle.doc_values.proofs.Finding.{key_found}

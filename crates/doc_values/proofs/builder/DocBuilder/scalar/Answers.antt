@@ -1,8 +1,8 @@
 use Rattle.std.proofs.Common.{◌<◌, List, length, ap, ◌∙◌, subst, arith}
 use Rattle.std.specs.Cow.{cow_str_bytes}
-use Rattle.doc_values.specs.Rows.{Row}
+use Rattle.doc_values.specs.code.Rows.{Row}
 use Rattle.doc_values.specs.Unfinished.{with_value}
-use Rattle.doc_values.specs.Texts.{key_text}
+use Rattle.doc_values.specs.code.Texts.{key_text}
 use Rattle.doc_values.proofs.Steps.{Kept-value, unfinished-value, index_small}
 use Rattle.doc_values.proofs.Finding.{new_under}
 use Rattle.doc_values.proofs.builder.DocBuilder.scalar.Goals as goal

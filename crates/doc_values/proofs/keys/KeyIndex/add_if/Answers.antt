@@ -1,7 +1,7 @@
 use Rattle.std.proofs.Common.{ap, subst, ◌∙◌}
 use Rattle.std.specs.Cow.{cow_str_bytes}
-use Rattle.doc_values.specs.Index.{IsNewUnder}
-use Rattle.doc_values.specs.Texts.{key_text}
+use Rattle.doc_values.specs.code.Index.{IsNewUnder}
+use Rattle.doc_values.specs.code.Texts.{key_text}
 use Rattle.doc_values.proofs.Indexed.{AreKeys-plain, AreKeys-keyed}
 use Rattle.doc_values.proofs.keys.KeyIndex.add_if.Goals as goal
 

@@ -5,7 +5,7 @@ use Rattle.std.specs.Cow.{cow_str_bytes}
 use Rattle.std.specs.String.{string_bytes}
 use Rattle.std.specs.declared.borrow.CowStr.TheVariants.{Owned}
 use Rattle.doc_values.specs.declared.keys.KeyIndex.{KeyIndex}
-use Rattle.doc_values.specs.Keys.{name_of}
+use Rattle.doc_values.specs.code.Keys.{name_of}
 use Rattle.doc_values.proofs.Named.{IsNewName, Names-new, IsApart-new, names_after, one_longer}
 use Rattle.doc_values.proofs.keys.KeyIndex.name.Goals as goal
 

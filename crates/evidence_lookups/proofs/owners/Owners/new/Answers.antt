@@ -1,4 +1,4 @@
-use Rattle.rule_names.specs.Files.{file_of}
+use Rattle.rule_names.specs.code.Files.{file_of}
 use Rattle.evidence_lookups.proofs.OwnersMarked.{all-marked}
 use Rattle.evidence_lookups.proofs.owners.Owners.new.Goals as goal
 

@@ -1,14 +1,14 @@
 use Rattle.std.proofs.Common.{◌≡◌, ◌++◌, [], List, ℕ, arith, refl, sym, ap, ◌∙◌, length, map}
 use Rattle.std.specs.List.{flat_map}
 use Rattle.std.proofs.lemmas.List.{append-nil, length-map}
-use Rattle.value_compare.specs.Stores.{see_store}
+use Rattle.value_compare.specs.code.Stores.{see_store}
 use Rattle.rule_meaning.specs.StoreModel.{StoreModel}
 use Rattle.rule_meaning.specs.Fails.{Entry}
 use Rattle.report_text.specs.EntryLines.{entry_line}
 use Rattle.report_text.specs.RuleLines.{rule_line}
-use Rattle.report_text.specs.SeenEntries.{see_entry}
+use Rattle.report_text.specs.code.SeenEntries.{see_entry}
 use Rattle.guard_ends.specs.Reported.{Reported}
-use Rattle.guard_run.specs.Listed.{lines_as, lines_in}
+use Rattle.guard_run.specs.code.Listed.{lines_as, lines_in}
 use Rattle.guard_run.specs.declared.report.Form.{Form}
 use Rattle.guard_run.specs.declared.report.Lines.{Lines}
 use Rattle.guard_run.proofs.LineLists.{line-alone, one-more_line}

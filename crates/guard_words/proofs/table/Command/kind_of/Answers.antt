@@ -3,7 +3,7 @@ use Rattle.std.specs.Str.{bytes_eq}
 use Rattle.clap.proofs.WalkLemmas.{find-map}
 use Rattle.guard_words.specs.declared.table.OptionRow.{OptionRow}
 use Rattle.guard_words.specs.Request.{Row, kind_in}
-use Rattle.guard_words.specs.Reading.{row_text}
+use Rattle.guard_words.specs.code.Reading.{row_text}
 use Rattle.guard_words.proofs.table.Command.kind_of.Goals as goal
 
 same_kind : (o : Option OptionRow) → option_map (λ r. r.kind) o ≡ option_map (λ (r : Row). r.kind) (option_map row_text o)

@@ -1,7 +1,7 @@
 use Rattle.std.proofs.Common.{ap, ◌∙◌}
 use Rattle.literal_parser.specs.Forms.{is_index, index_of}
-use Rattle.literal_parser.specs.TokenClasses.{shape_index}
-use Rattle.literal_parser.specs.Reads.{state_of, source}
+use Rattle.literal_parser.specs.code.TokenClasses.{shape_index}
+use Rattle.literal_parser.specs.code.Reads.{state_of, source}
 use Rattle.literal_parser.proofs.Takes.{has_of, passed, index_told}
 use Rattle.literal_parser.proofs.token_cursor.Cursor.has_index.Goals as goal
 

@@ -1,8 +1,8 @@
 use Rattle.std.proofs.Common.{ℕ, List, ap, ◌∙◌}
 use Rattle.guard_syntax.specs.Named.{Named}
 use Rattle.literal_parser.specs.Forms.{named_of, text_of}
-use Rattle.literal_parser.specs.TokenClasses.{wants}
-use Rattle.literal_parser.specs.Reads.{state_of, source}
+use Rattle.literal_parser.specs.code.TokenClasses.{wants}
+use Rattle.literal_parser.specs.code.Reads.{state_of, source}
 use Rattle.literal_parser.proofs.Takes.{has_of}
 use Rattle.literal_parser.proofs.token_cursor.Cursor.has_name.Goals as goal
 

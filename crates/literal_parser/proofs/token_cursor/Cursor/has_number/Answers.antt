@@ -1,5 +1,5 @@
 use Rattle.literal_parser.specs.Forms.{is_number, number_of}
-use Rattle.literal_parser.specs.Reads.{state_of, source}
+use Rattle.literal_parser.specs.code.Reads.{state_of, source}
 use Rattle.literal_parser.proofs.Takes.{has_of}
 use Rattle.literal_parser.proofs.token_cursor.Cursor.has_number.Goals as goal
 

@@ -1,8 +1,8 @@
 use Rattle.std.proofs.Common.{ap, ◌∙◌}
 use Rattle.literal_parser.specs.Forms.{operator_of}
-use Rattle.literal_parser.specs.TokenClasses.{wants, shape_operator}
+use Rattle.literal_parser.specs.code.TokenClasses.{wants, shape_operator}
 use Rattle.literal_parser.proofs.Takes.{operator_told}
-use Rattle.literal_parser.specs.Reads.{state_of, source}
+use Rattle.literal_parser.specs.code.Reads.{state_of, source}
 use Rattle.literal_parser.proofs.Takes.{has_of}
 use Rattle.literal_parser.proofs.token_cursor.Cursor.has_operator.Goals as goal
 

@@ -1,8 +1,8 @@
 use Rattle.std.proofs.Common.{ap, ◌∙◌}
 use Rattle.literal_parser.specs.Forms.{sign_of}
-use Rattle.literal_parser.specs.TokenClasses.{wants, shape_sign}
+use Rattle.literal_parser.specs.code.TokenClasses.{wants, shape_sign}
 use Rattle.literal_parser.proofs.Takes.{sign_told}
-use Rattle.literal_parser.specs.Reads.{state_of, source}
+use Rattle.literal_parser.specs.code.Reads.{state_of, source}
 use Rattle.literal_parser.proofs.Takes.{has_of}
 use Rattle.literal_parser.proofs.token_cursor.Cursor.has_sign.Goals as goal
 

@@ -1,8 +1,8 @@
 use Rattle.literal_parser.specs.Lexemes.{Lexeme}
 use Rattle.literal_parser.specs.Forms.{form, is_square}
-use Rattle.literal_parser.specs.TokenClasses.{wants}
+use Rattle.literal_parser.specs.code.TokenClasses.{wants}
 use Rattle.literal_parser.proofs.Places.{told}
-use Rattle.literal_parser.specs.Reads.{state_of, source}
+use Rattle.literal_parser.specs.code.Reads.{state_of, source}
 use Rattle.literal_parser.proofs.Takes.{has_of}
 use Rattle.literal_parser.proofs.token_cursor.Cursor.has_square.Goals as goal
 

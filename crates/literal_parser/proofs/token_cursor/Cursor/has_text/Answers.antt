@@ -1,6 +1,6 @@
 use Rattle.literal_parser.specs.Forms.{text_of}
-use Rattle.literal_parser.specs.TokenClasses.{wants}
-use Rattle.literal_parser.specs.Reads.{state_of, source}
+use Rattle.literal_parser.specs.code.TokenClasses.{wants}
+use Rattle.literal_parser.specs.code.Reads.{state_of, source}
 use Rattle.literal_parser.proofs.Takes.{has_of}
 use Rattle.literal_parser.proofs.token_cursor.Cursor.has_text.Goals as goal
 

@@ -1,5 +1,5 @@
 use Rattle.literal_parser.specs.Forms.{is_end}
-use Rattle.literal_parser.specs.Reads.{source}
+use Rattle.literal_parser.specs.code.Reads.{source}
 use Rattle.literal_parser.proofs.Places.{told}
 use Rattle.literal_parser.proofs.token_cursor.Cursor.sees_end.Goals as goal
 

@@ -1,7 +1,7 @@
 use Rattle.std.proofs.Common.{◌≡◌, ℕ, suc, ◌+◌, ap, ◌∙◌, arith}
-use Rattle.literal_parser.specs.TokenClasses.{wants}
-use Rattle.literal_parser.specs.TokenClasses.{shape_of}
-use Rattle.literal_parser.specs.Reads.{source}
+use Rattle.literal_parser.specs.code.TokenClasses.{wants}
+use Rattle.literal_parser.specs.code.TokenClasses.{shape_of}
+use Rattle.literal_parser.specs.code.Reads.{source}
 use Rattle.literal_parser.proofs.Places.{told}
 use Rattle.literal_parser.proofs.token_cursor.Cursor.sees_next.Goals as goal
 

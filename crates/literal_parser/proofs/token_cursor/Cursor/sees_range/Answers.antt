@@ -1,7 +1,7 @@
 use Rattle.std.proofs.Common.{◌≡◌, ℕ, suc, ◌+◌, ap, sym, refl, ◌∙◌, arith}
 use Rattle.literal_parser.specs.Forms.{is_r, is_opening_end}
-use Rattle.literal_parser.specs.TokenClasses.{shape_of}
-use Rattle.literal_parser.specs.Reads.{source}
+use Rattle.literal_parser.specs.code.TokenClasses.{shape_of}
+use Rattle.literal_parser.specs.code.Reads.{source}
 use Rattle.literal_parser.proofs.Places.{told, no_r, no_bracket, by_places}
 use Rattle.literal_parser.proofs.token_cursor.Cursor.sees_range.Goals as goal
 

@@ -1,6 +1,6 @@
 use Rattle.std.proofs.Common.{◌≡◌, sym, ◌∙◌, ap, arith}
 use Rattle.literal_parser.specs.States.{State}
-use Rattle.literal_parser.specs.Reads.{source}
+use Rattle.literal_parser.specs.code.Reads.{source}
 use Rattle.literal_parser.proofs.Places.{within_tokens}
 use Rattle.literal_parser.proofs.token_cursor.Cursor.takes.Goals as goal
 

@@ -1,7 +1,7 @@
 use Rattle.std.proofs.Common.{ap, sym, ◌∙◌, get_or}
 use Rattle.std.specs.Prelude.{slice_range}
 use Rattle.literal_parser.specs.Forms.{number_of}
-use Rattle.literal_parser.specs.Reads.{source}
+use Rattle.literal_parser.specs.code.Reads.{source}
 use Rattle.literal_parser.proofs.Places.{at_token, at_end}
 use Rattle.literal_parser.proofs.token_cursor.Tokens.number.Goals as goal
 

@@ -1,4 +1,4 @@
-use Rattle.literal_parser.specs.Reads.{source}
+use Rattle.literal_parser.specs.code.Reads.{source}
 use Rattle.literal_parser.proofs.Places.{at_shape, past_shapes}
 use Rattle.literal_parser.proofs.token_cursor.Tokens.shape.Goals as goal
 

@@ -1,7 +1,7 @@
 use Rattle.std.proofs.Common.{IfOk, ap, sym, subst, ◌≡◌, ◌∙◌}
 use Rattle.literal_parser.specs.Lexemes.{Lexeme}
 use Rattle.literal_parser.specs.Forms.{text_of}
-use Rattle.literal_parser.specs.Reads.{source}
+use Rattle.literal_parser.specs.code.Reads.{source}
 use Rattle.literal_parser.proofs.Places.{at_token, at_end}
 use Rattle.literal_parser.proofs.token_cursor.Tokens.text.Goals as goal
 

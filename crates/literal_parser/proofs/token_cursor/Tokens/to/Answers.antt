@@ -1,6 +1,6 @@
 use Rattle.std.proofs.Common.{ap, sym}
 use Rattle.literal_parser.specs.Lexemes.{Lexeme}
-use Rattle.literal_parser.specs.Reads.{source}
+use Rattle.literal_parser.specs.code.Reads.{source}
 use Rattle.literal_parser.proofs.Places.{at_token, at_end}
 use Rattle.literal_parser.proofs.token_cursor.Tokens.to.Goals as goal
 

@@ -1,6 +1,6 @@
 use Rattle.std.proofs.Common.{refl, sym, ap, ◌∙◌, rules}
 use Rattle.guard_syntax.specs.Syntax as sx
-use Rattle.guard_syntax.specs.Seen.{see_part, see_step, see_expr, see_opt_conds, see_opt_expr}
+use Rattle.guard_syntax.specs.code.Seen.{see_part, see_step, see_expr, see_opt_conds, see_opt_expr}
 use Rattle.guard_syntax.specs.declared.syntax.Body.{the_lemmas}
 use Rattle.guard_syntax.specs.declared.syntax.StepForm as form
 use Rattle.rule_names.specs.EnclosingScopes.{with_homes, homes_part, homes_step, homes_expr, homes_opt_conds, homes_opt_expr}

@@ -3,9 +3,9 @@ use Rattle.std.proofs.lemmas.Result.{IfOk-weaker}
 use Rattle.std.specs.declared.vec.Vec.{Vec}
 use Rattle.std.specs.declared.alloc.Global.{Global}
 use Rattle.name_scopes.specs.declared.scopes.Given as scope
-use Rattle.name_scopes.specs.ScopeChains.{scopes_in}
-use Rattle.name_scopes.specs.Seen.{see_given}
-use Rattle.name_resolution.specs.Sources.{file_in}
+use Rattle.name_scopes.specs.code.ScopeChains.{scopes_in}
+use Rattle.name_scopes.specs.code.Seen.{see_given}
+use Rattle.name_resolution.specs.code.Sources.{file_in}
 use Rattle.name_resolution.proofs.BodyLinks.{body-links}
 use Rattle.name_resolution.proofs.resolution.walk.+links.Goals as goal
 

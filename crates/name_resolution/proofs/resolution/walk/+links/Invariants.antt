@@ -1,7 +1,7 @@
 use Rattle.std.proofs.Common.{◌≡◌, ◌++◌, drop, map}
-use Rattle.guard_syntax.specs.Seen.{see_let, see_disj, see_part, see_expr, see_step, let_list, disj_list, part_list, expr_list, step_list}
-use Rattle.name_resolution.specs.Sources.{file_in}
-use Rattle.name_scopes.specs.ScopeChains.{scopes_in}
+use Rattle.guard_syntax.specs.code.Seen.{see_let, see_disj, see_part, see_expr, see_step, let_list, disj_list, part_list, expr_list, step_list}
+use Rattle.name_resolution.specs.code.Sources.{file_in}
+use Rattle.name_scopes.specs.code.ScopeChains.{scopes_in}
 use Rattle.rule_names.specs.Resolution.{links_lets, links_disjs, links_parts, links_exprs, links_steps}
 use Rattle.name_resolution.proofs.resolution.walk.+links.Given as goal
 

@@ -1,7 +1,7 @@
 use Rattle.std.proofs.Common.{◌≡◌, ◌++◌, drop, map}
-use Rattle.guard_syntax.specs.Seen.{see_rule}
-use Rattle.name_resolution.specs.Sources.{file_in}
-use Rattle.name_scopes.specs.ScopeChains.{scopes_in}
+use Rattle.guard_syntax.specs.code.Seen.{see_rule}
+use Rattle.name_resolution.specs.code.Sources.{file_in}
+use Rattle.name_scopes.specs.code.ScopeChains.{scopes_in}
 use Rattle.rule_names.specs.Resolution.{links_rules}
 use Rattle.name_resolution.proofs.resolution.walk.in_rules.Given as goal
 

@@ -5,7 +5,7 @@ use Rattle.std.specs.Vec.Iter.{into_iter_items}
 use Rattle.guard_builtins.specs.declared.made.Made.{Made}
 use Rattle.guard_syntax.specs.declared.row.Ref.{Ref}
 use Rattle.guard_syntax.specs.declared.row.Row.TheVariants.{Found}
-use Rattle.value_compare.specs.Stores.{see_store}
+use Rattle.value_compare.specs.code.Stores.{see_store}
 use Rattle.plain_evaluator.proofs.Keeping.{kept-none, place-free, kept-tree, kept-row, kept-grows, added-grows, same-grows, last-line, whole-known, whole-seen, called-more, called-kept, same-calls, taken-front, plain-next, plain-tree, whole-taken}
 use Rattle.plain_evaluator.proofs.trees.Trees.keep.Goals as goal
 

@@ -1,5 +1,5 @@
 use Rattle.std.proofs.Common.{refl, List, map, ap, sym}
-use Rattle.guard_syntax.specs.Seen.{see_disj, disj_list}
+use Rattle.guard_syntax.specs.code.Seen.{see_disj, disj_list}
 use Rattle.guard_syntax.specs.declared.syntax.Disj.{Disj}
 use Rattle.rule_names.specs.ReferenceGraph.{disj_site, disj_sites}
 use Rattle.rule_names.proofs.Shapes.{disj-seen}

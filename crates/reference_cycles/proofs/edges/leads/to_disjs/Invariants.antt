@@ -1,5 +1,5 @@
 use Rattle.std.proofs.Common.{◌≡◌, ◌++◌, drop, map}
-use Rattle.guard_syntax.specs.Seen.{see_disj, disj_list}
+use Rattle.guard_syntax.specs.code.Seen.{see_disj, disj_list}
 use Rattle.rule_names.specs.ReferenceGraph.{to_each, disj_sites}
 use Rattle.reference_cycles.proofs.edges.leads.to_disjs.Given as goal
 

@@ -1,5 +1,5 @@
 use Rattle.std.proofs.Common.{refl, List, map, ◌∙◌}
-use Rattle.guard_syntax.specs.Seen.{see_expr, expr_list}
+use Rattle.guard_syntax.specs.code.Seen.{see_expr, expr_list}
 use Rattle.guard_syntax.specs.declared.syntax.Expr.{Expr}
 use Rattle.rule_names.specs.ReferenceGraph.{expr_sites}
 use Rattle.rule_names.specs.Uses.{expr_site}

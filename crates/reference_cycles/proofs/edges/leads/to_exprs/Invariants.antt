@@ -1,5 +1,5 @@
 use Rattle.std.proofs.Common.{◌≡◌, ◌++◌, drop, map}
-use Rattle.guard_syntax.specs.Seen.{see_expr, expr_list}
+use Rattle.guard_syntax.specs.code.Seen.{see_expr, expr_list}
 use Rattle.rule_names.specs.ReferenceGraph.{to_each, expr_sites}
 use Rattle.reference_cycles.proofs.edges.leads.to_exprs.Given as goal
 

@@ -1,5 +1,5 @@
 use Rattle.std.proofs.Common.{refl, List, map, ◌∙◌}
-use Rattle.guard_syntax.specs.Seen.{see_part, part_list}
+use Rattle.guard_syntax.specs.code.Seen.{see_part, part_list}
 use Rattle.guard_syntax.specs.declared.syntax.Part.{Part}
 use Rattle.rule_names.specs.ReferenceGraph.{part_site, part_sites}
 use Rattle.reference_cycles.proofs.LeadsInTurn.{next, end, part-begins}

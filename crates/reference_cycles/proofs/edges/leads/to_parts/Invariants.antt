@@ -1,5 +1,5 @@
 use Rattle.std.proofs.Common.{◌≡◌, ◌++◌, drop, map}
-use Rattle.guard_syntax.specs.Seen.{see_part, part_list}
+use Rattle.guard_syntax.specs.code.Seen.{see_part, part_list}
 use Rattle.rule_names.specs.ReferenceGraph.{to_each, part_sites}
 use Rattle.reference_cycles.proofs.edges.leads.to_parts.Given as goal
 

@@ -1,5 +1,5 @@
 use Rattle.std.proofs.Common.{refl, List, map, ◌∙◌, ap, sym}
-use Rattle.guard_syntax.specs.Seen.{see_let, see_expr, let_list}
+use Rattle.guard_syntax.specs.code.Seen.{see_let, see_expr, let_list}
 use Rattle.guard_syntax.specs.declared.syntax.Let.{Let}
 use Rattle.rule_names.specs.ReferenceGraph.{value_site, value_sites}
 use Rattle.rule_names.proofs.Shapes.{let-seen}

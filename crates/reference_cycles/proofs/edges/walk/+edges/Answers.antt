@@ -3,9 +3,9 @@ use Rattle.std.proofs.lemmas.Result.{IfOk-weaker}
 use Rattle.std.specs.declared.vec.Vec.{Vec}
 use Rattle.std.specs.declared.alloc.Global.{Global}
 use Rattle.name_scopes.specs.declared.scopes.Given as scope
-use Rattle.reference_cycles.specs.RuleIndexes.{rules_of}
-use Rattle.name_scopes.specs.ScopeChains.{visible_in}
-use Rattle.name_scopes.specs.Seen.{see_given}
+use Rattle.reference_cycles.specs.code.RuleIndexes.{rules_of}
+use Rattle.name_scopes.specs.code.ScopeChains.{visible_in}
+use Rattle.name_scopes.specs.code.Seen.{see_given}
 use Rattle.reference_cycles.proofs.BodyEdges.{body-edges, filter-edges}
 use Rattle.reference_cycles.proofs.edges.walk.+edges.Goals as goal
 

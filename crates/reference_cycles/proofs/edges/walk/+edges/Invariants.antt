@@ -1,7 +1,7 @@
 use Rattle.std.proofs.Common.{◌≡◌, ◌++◌, drop, map, None}
-use Rattle.guard_syntax.specs.Seen.{see_let, see_disj, see_part, see_expr, see_step, let_list, disj_list, part_list, expr_list, step_list}
-use Rattle.reference_cycles.specs.RuleIndexes.{rules_of}
-use Rattle.name_scopes.specs.ScopeChains.{visible_in}
+use Rattle.guard_syntax.specs.code.Seen.{see_let, see_disj, see_part, see_expr, see_step, let_list, disj_list, part_list, expr_list, step_list}
+use Rattle.reference_cycles.specs.code.RuleIndexes.{rules_of}
+use Rattle.name_scopes.specs.code.ScopeChains.{visible_in}
 use Rattle.rule_names.specs.ReferenceGraph.{edges_of_lets, edges_of_disjs, edges_of_parts, edges_of_exprs, edges_of_steps}
 use Rattle.reference_cycles.proofs.edges.walk.+edges.Given as goal
 

@@ -1,7 +1,7 @@
 use Rattle.std.proofs.Common.{◌≡◌, ◌++◌, drop, map}
-use Rattle.guard_syntax.specs.Seen.{see_rule}
-use Rattle.reference_cycles.specs.RuleIndexes.{rules_of}
-use Rattle.name_scopes.specs.ScopeChains.{visible_in}
+use Rattle.guard_syntax.specs.code.Seen.{see_rule}
+use Rattle.reference_cycles.specs.code.RuleIndexes.{rules_of}
+use Rattle.name_scopes.specs.code.ScopeChains.{visible_in}
 use Rattle.rule_names.specs.ReferenceGraph.{edges_of_rules}
 use Rattle.reference_cycles.proofs.edges.walk.in_rules.Given as goal
 

@@ -1,6 +1,6 @@
 use Rattle.std.proofs.Common.{◌≤◌, ◌∙◌, ap, sym, subst, ℕ, List, ◌<◌, length}
 use Rattle.std.specs.Prelude.{slice_index_or}
-use Rattle.guard_syntax.specs.Seen.{see_file}
+use Rattle.guard_syntax.specs.code.Seen.{see_file}
 use Rattle.rule_names.specs.Depths.{depth_limit}
 use Rattle.rule_names.proofs.DepthTables.{depth-each, depth-most, depth-of-piece}
 use Rattle.rule_names.proofs.file.RuleFile.depth.Goals as goal

@@ -1,6 +1,6 @@
 use Rattle.std.proofs.Common.{sym, subst, ℕ, List}
-use Rattle.guard_syntax.specs.Seen.{see_file}
-use Rattle.rule_names.specs.Order.{IsOrderOf}
+use Rattle.guard_syntax.specs.code.Seen.{see_file}
+use Rattle.rule_names.specs.code.Order.{IsOrderOf}
 use Rattle.rule_names.proofs.file.RuleFile.order.Goals as goal
 
 pub returns : goal.returns

@@ -1,5 +1,5 @@
 use Rattle.std.proofs.Common.{◌≡◌, ◌++◌, ◌∷◌, []}
-use Rattle.rule_names.specs.Files.{file_of}
+use Rattle.rule_names.specs.code.Files.{file_of}
 use Rattle.scope_frames.specs.declared.frame.Frame.{Frame}
 use Rattle.scope_frames.proofs.EnteredFrames.{either, entered-after}
 use Rattle.scope_frames.proofs.frames.Frames.enter.Goals as goal

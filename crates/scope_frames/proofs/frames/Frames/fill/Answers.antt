@@ -1,7 +1,7 @@
 use Rattle.std.proofs.Common.{◌∙◌, ◌++◌, ◌∷◌, [], ap, List}
 use Rattle.indexmap.proofs.CallerLemmas.{insert_entry-new}
 use Rattle.guard_syntax.specs.declared.row.Row.{Row}
-use Rattle.scope_frames.specs.Seen.{cells_in}
+use Rattle.scope_frames.specs.code.Seen.{cells_in}
 use Rattle.scope_frames.specs.contracts.cell.CellPartialEq.TheImpl.{eq-value}
 use Rattle.scope_frames.specs.declared.remembered.Remembered.{Remembered}
 use Rattle.scope_frames.proofs.FilledCells.{filled-more, lookup-empty}

@@ -1,8 +1,8 @@
 use Rattle.std.proofs.Common.{◌∙◌, sym, ap₂, ℕ, List}
 use Rattle.std.proofs.lemmas.Option.{none-some}
 use Rattle.rule_names.specs.EnclosingScopes.{home_of}
-use Rattle.rule_names.specs.Files.{file_of}
-use Rattle.scope_frames.specs.Frames.{outwards}
+use Rattle.rule_names.specs.code.Files.{file_of}
+use Rattle.scope_frames.specs.code.Frames.{outwards}
 use Rattle.scope_frames.specs.declared.frame.Frame.{Frame}
 use Rattle.scope_frames.proofs.FramesAround.{so-many-out}
 use Rattle.scope_frames.proofs.NamesBound.{names-bound}

@@ -1,0 +1,6 @@
+-- What serves the code and its proofs alone: nobody has to believe it.
+pub mod FoundRows
+pub mod Grounds
+pub mod JudgedSites
+pub mod Owned
+pub mod Said

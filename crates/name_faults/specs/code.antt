@@ -1,0 +1,5 @@
+-- What serves the code and its proofs alone: nobody has to believe it.
+pub mod Arities
+pub mod Filters
+pub mod NameSets
+pub mod RuleArities

@@ -1,0 +1,5 @@
+-- What serves the code and its proofs alone: nobody has to believe it.
+pub mod Memory
+pub mod Refused
+pub mod Rest
+pub mod Steps

@@ -1,0 +1,5 @@
+-- What serves the code and its proofs alone: nobody has to believe it.
+pub mod Agreement
+pub mod AheadSeen
+pub mod Digits
+pub mod Refusals
