@@ -1,10 +1,9 @@
 //! What came of a call, held against what is wanted.
 use crate::case::{Case, WantedOut};
 use crate::run::Ran;
+use itoa::Buffer;
 use std::alloc::{AllocError, Global};
 use std::borrow::CowSlice;
-use std::io;
-use std::io::Write;
 
 /// What the lines of entries in a report begin with.
 const ENTRY_MARK: &[u8] = b"  ";
@@ -25,32 +24,46 @@ pub enum Difference<'a> {
 }
 
 impl Difference<'_> {
-    /// Prints what was wanted and what came.
-    pub fn print<W: Write>(&self, lines: &mut W) -> io::Result<()> {
+    /// Appends what was wanted and what came.
+    pub fn append(&self, lines: &mut Vec<u8>) -> Result<(), AllocError> {
         match self {
             Difference::Status { wanted, came } => {
-                writeln!(lines, "wanted status {wanted}")?;
-                writeln!(lines, "came status {came}")
+                let (mut first, mut second) = (Buffer::new(), Buffer::new());
+                append_line(lines, &["wanted status ", first.format(*wanted)])?;
+                append_line(lines, &["came status ", second.format(*came)])
             }
             Difference::Lines { sink, wanted, came } => {
-                writeln!(lines, "wanted {sink}")?;
-                print_lines(wanted, lines)?;
-                match came.last() {
-                    None | Some(b'\n') => writeln!(lines, "came {sink}")?,
-                    Some(_) => writeln!(lines, "came {sink}, without a newline at the end")?,
-                }
-                print_lines(came, lines)
+                append_line(lines, &["wanted ", *sink])?;
+                append_text(lines, wanted)?;
+                append_line(lines, &["came ", *sink, note_on_end(came)])?;
+                append_text(lines, came)
             }
         }
     }
 }
 
-/// Prints lines, with a newline behind the last.
-fn print_lines<W: Write>(text: &[u8], lines: &mut W) -> io::Result<()> {
-    lines.write_all(text)?;
+/// What is said of a text whose last line has no newline.
+fn note_on_end(text: &[u8]) -> &'static str {
+    match text.last() {
+        None | Some(b'\n') => "",
+        Some(_) => ", without a newline at the end",
+    }
+}
+
+/// Appends a line that is put together of these pieces.
+pub fn append_line(lines: &mut Vec<u8>, pieces: &[&str]) -> Result<(), AllocError> {
+    for piece in pieces {
+        lines.extend_from_slice(piece.as_bytes())?;
+    }
+    lines.extend_from_slice(b"\n")
+}
+
+/// Appends a text, with a newline behind its last line.
+fn append_text(lines: &mut Vec<u8>, text: &[u8]) -> Result<(), AllocError> {
+    lines.extend_from_slice(text)?;
     match text.last() {
         None | Some(b'\n') => Ok(()),
-        Some(_) => lines.write_all(b"\n"),
+        Some(_) => lines.extend_from_slice(b"\n"),
     }
 }
 

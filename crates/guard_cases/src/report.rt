@@ -1,13 +1,12 @@
-//! A table run: its cases in order, and what is printed of them.
+//! A table run: its cases in order, and what is told of them.
 use crate::case::Case;
-use crate::compare::{differences, judged_out};
-use crate::refusal::TableRefusal;
+use crate::compare::{append_line, differences, judged_out};
+use crate::refusal::{Misfit, TableRefusal};
 use crate::run::{Ran, run_case};
 use crate::table::read_table;
 use guard_io::{Files, LoadFault};
-use std::alloc::Global;
-use std::io;
-use std::io::Write;
+use itoa::Buffer;
+use std::alloc::{AllocError, Global};
 
 /// How many bytes a table may have; what stands behind them is not read.
 const TABLE_LIMIT: u64 = 1 << 28;
@@ -26,66 +25,71 @@ struct Tally {
     differ: u64,
 }
 
-/// Loads a table, runs its cases and prints what came of them.
-pub fn run_table<F: Files, W: Write>(
+/// Loads a table, runs its cases and appends what came of them.
+pub fn run_table<F: Files>(
     alloc: Global,
     files: &mut F,
     name: &str,
-    lines: &mut W,
-) -> io::Result<Verdict> {
+    lines: &mut Vec<u8>,
+) -> Result<Verdict, AllocError> {
     let mut table = Vec::new(alloc);
     match files.load(name, TABLE_LIMIT, &mut table) {
         Ok(()) => run_loaded(alloc, name, &table, lines),
         Err(LoadFault::Failed) => {
-            writeln!(lines, "{name}: not read")?;
+            append_line(lines, &[name, ": not read"])?;
             Ok(Verdict::Differ)
         }
-        Err(LoadFault::Memory) => print_refusal(name, TableRefusal::NoMemory, lines),
+        Err(LoadFault::Memory) => Err(AllocError),
     }
 }
 
-fn run_loaded<W: Write>(
+fn run_loaded(
     alloc: Global,
     name: &str,
     table: &[u8],
-    lines: &mut W,
-) -> io::Result<Verdict> {
+    lines: &mut Vec<u8>,
+) -> Result<Verdict, AllocError> {
     match read_table(alloc, table) {
-        Ok(cases) => print_tally(name, run_cases(alloc, name, &cases, lines)?, lines),
-        Err(refusal) => print_refusal(name, refusal, lines),
+        Ok(cases) => append_tally(name, run_cases(alloc, name, &cases, lines)?, lines),
+        Err(TableRefusal::Unfit { line, misfit }) => append_refusal(name, line, misfit, lines),
+        Err(TableRefusal::NoMemory) => Err(AllocError),
     }
 }
 
-fn print_refusal<W: Write>(
+fn append_refusal(
     name: &str,
-    refusal: TableRefusal,
-    lines: &mut W,
-) -> io::Result<Verdict> {
-    match refusal {
-        TableRefusal::Unfit { line, misfit } => writeln!(lines, "{name}:{line}: {misfit}")?,
-        TableRefusal::NoMemory => writeln!(lines, "{name}: {refusal}")?,
-    }
+    line: u64,
+    misfit: Misfit,
+    lines: &mut Vec<u8>,
+) -> Result<Verdict, AllocError> {
+    let mut number = Buffer::new();
+    append_line(
+        lines,
+        &[name, ":", number.format(line), ": ", misfit.name()],
+    )?;
     Ok(Verdict::Differ)
 }
 
-fn print_tally<W: Write>(name: &str, tally: Tally, lines: &mut W) -> io::Result<Verdict> {
-    let Tally { agree, differ } = tally;
-    if differ == 0 {
-        writeln!(lines, "{name} {agree} agree")?;
+fn append_tally(name: &str, tally: Tally, lines: &mut Vec<u8>) -> Result<Verdict, AllocError> {
+    let (mut first, mut second) = (Buffer::new(), Buffer::new());
+    let agree = first.format(tally.agree);
+    if tally.differ == 0 {
+        append_line(lines, &[name, " ", agree, " agree"])?;
         Ok(Verdict::Agree)
     } else {
-        writeln!(lines, "{name} {agree} agree {differ} differ")?;
+        let differ = second.format(tally.differ);
+        append_line(lines, &[name, " ", agree, " agree ", differ, " differ"])?;
         Ok(Verdict::Differ)
     }
 }
 
-/// Runs cases in order, and prints those that differ.
-fn run_cases<W: Write>(
+/// Runs cases in order, and tells of those that differ.
+fn run_cases(
     alloc: Global,
     table: &str,
     cases: &[Case<'_>],
-    lines: &mut W,
-) -> io::Result<Tally> {
+    lines: &mut Vec<u8>,
+) -> Result<Tally, AllocError> {
     let mut tally = Tally {
         agree: 0,
         differ: 0,
@@ -93,7 +97,7 @@ fn run_cases<W: Write>(
     let mut before = Vec::new(alloc);
     for case in cases {
         let ran = run_case(alloc, case, &before)?;
-        match print_case(alloc, table, case, &ran, lines)? {
+        match judge_case(table, case, &ran, lines)? {
             Verdict::Agree => tally.agree = tally.agree.saturating_add(1),
             Verdict::Differ => tally.differ = tally.differ.saturating_add(1),
         }
@@ -102,23 +106,21 @@ fn run_cases<W: Write>(
     Ok(tally)
 }
 
-/// Prints in what a case differs, if in anything.
-fn print_case<W: Write>(
-    alloc: Global,
+/// Appends in what a case differs, if in anything.
+fn judge_case(
     table: &str,
     case: &Case<'_>,
     ran: &Ran,
-    lines: &mut W,
-) -> io::Result<Verdict> {
-    let judged = judged_out(alloc, case.out, &ran.out)?;
+    lines: &mut Vec<u8>,
+) -> Result<Verdict, AllocError> {
+    let judged = judged_out(*lines.allocator(), case.out, &ran.out)?;
     let mut verdict = Verdict::Agree;
     for difference in differences(case, ran, &judged).iter().flatten() {
         if verdict == Verdict::Agree {
-            let name = case.name;
-            writeln!(lines, "{table}: {name}")?;
+            append_line(lines, &[table, ": ", case.name])?;
             verdict = Verdict::Differ;
         }
-        difference.print(lines)?;
+        difference.append(lines)?;
     }
     Ok(verdict)
 }
