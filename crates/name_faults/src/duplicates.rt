@@ -123,8 +123,7 @@ fn in_filter<'f>(
 ) -> Result<Option<Wrong<'f>>, AllocError>
     ensures { IfOk result (λ found. see_best found ≡ first_from (see_best best.entry) (duplicated (names_of (given_conds (see_conds conds.entry.now)) ∷ scopes_conds (see_conds conds.entry.now)))) }
 {
-    let names = filter_names(alloc, conds)?;
-    let best = in_scope(alloc, &names, best)?;
+    let best = in_scope(alloc, &filter_names(alloc, conds)?, best)?;
     in_conds(alloc, conds, best)
 }
 
@@ -262,8 +261,7 @@ fn in_body<'f>(
 ) -> Result<Option<Wrong<'f>>, AllocError>
     ensures { IfOk result (λ found. see_best found ≡ first_from (see_best best.entry) (duplicated (scopes_body params.entry.now (see_body body.entry.now)))) }
 {
-    let names = body_names(alloc, params, body)?;
-    let best = in_scope(alloc, &names, best)?;
+    let best = in_scope(alloc, &body_names(alloc, params, body)?, best)?;
     let best = in_lets(alloc, &body.lets, best)?;
     in_disjs(alloc, &body.parts, best)
 }
@@ -333,8 +331,7 @@ fn in_scopes<'f>(
 ) -> Result<Option<Wrong<'f>>, AllocError>
     ensures { IfOk result (λ found. see_best found ≡ first_from (see_best best.entry) (duplicate_names (see_file file.entry.now))) }
 {
-    let names = file_names(alloc, file)?;
-    let best = in_scope(alloc, &names, best)?;
+    let best = in_scope(alloc, &file_names(alloc, file)?, best)?;
     let best = in_lets(alloc, &file.lets, best)?;
     let best = in_rules(alloc, &file.rules, best)?;
     in_disjs(alloc, &file.loose, best)

@@ -4,7 +4,8 @@ ghost use Rattle.std.specs.Prelude.{◌≡◌, [], IfOk, map};
 ghost use Rattle.guard_syntax.specs.code.Seen.{see_file, see_let, see_rule, see_body, see_conds, see_opt_conds, see_disj, see_part, see_query, see_step, see_expr, see_opt_expr, let_list, disj_list, part_list, expr_list};
 ghost use Rattle.rule_names.specs.Faults.{first_of, first_from};
 ghost use Rattle.name_faults.specs.code.Filters.{wrong_filter};
-ghost use Rattle.name_scopes.specs.code.Seen.{see_best};
+ghost use Rattle.rule_names.specs.Scopes.{given_file};
+ghost use Rattle.name_scopes.specs.code.Seen.{see_best, see_given};
 ghost use Rattle.rule_names.specs.Uses.{wrong_uses, wrong_rules, wrong_rule, wrong_body, wrong_lets, wrong_conds, wrong_opt_conds, wrong_disjs, wrong_parts, wrong_part, wrong_query, wrong_step, wrong_expr, wrong_opt_expr, wrong_exprs};
 ghost use Rattle.name_scopes.specs.code.ScopeChains.{visible_in};
 ghost use Rattle.name_faults.specs.code.RuleArities.{rules_of, places_of};
@@ -290,8 +291,17 @@ pub fn first_wrong_use<'f>(
 {
     let walk = Walk::new(alloc, file)?;
     let own = Binders::new(alloc, file_names(alloc, file)?)?;
-    let scope = ScopeChain::outermost(&own);
-    let best = in_lets(&walk, &file.lets, &scope, None)?;
-    let best = in_rules(&walk, &file.rules, &scope, best)?;
-    in_disjs(&walk, &file.loose, &scope, best)
+    in_file(&walk, &own)
+}
+
+/// The same, where the names of the file are known.
+fn in_file<'f>(walk: &Walk<'f>, own: &Binders<'f>) -> Result<Option<Wrong<'f>>, AllocError>
+    requires { see_given own.now.names.items ≡ given_file (see_file walk.now.file.now) }
+    ensures { IfOk result (λ found. see_best found ≡ first_of (wrong_uses (see_file walk.now.file.now))) }
+{
+    let file = walk.file;
+    let scope = ScopeChain::outermost(own);
+    let best = in_lets(walk, &file.lets, &scope, None)?;
+    let best = in_rules(walk, &file.rules, &scope, best)?;
+    in_disjs(walk, &file.loose, &scope, best)
 }

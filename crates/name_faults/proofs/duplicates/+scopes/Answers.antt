@@ -25,7 +25,7 @@ in_body-returns t c =
     let lets = scopes_lets (let_list (map see_let c.deref-2.result.now)) in
     let parts = scopes_disjs (disj_list (map see_disj c.deref-3.result.now)) in
     let best = see_best c.args.best in
-    let own = own-scope best (see_best c.in_ok-best.best) c.deref.result.now c.in_ok-names.names.items (given_body c.args.params.now body) c.deref.ensures.value c.in_ok-names.ensures c.in_ok-best.ensures in
+    let own = own-scope best (see_best c.in_ok-best.best) c.deref.result.now c.in_ok-body_names.field-0.items (given_body c.args.params.now body) c.deref.ensures.value c.in_ok-body_names.ensures c.in_ok-best.ensures in
     let first = first-then best (see_best c.in_ok-best.best) (see_best c.in_ok-best-2.best) (names ∷ []) lets own c.in_ok-best-2.ensures in
     last-then c.in_disjs.result best (see_best c.in_ok-best-2.best) (names ∷ lets) parts (scopes_body c.args.params.now body)
     (body-scopes c.args.params.now c.args.body.now c.deref-2.result.now c.deref-3.result.now c.deref-2.ensures.value c.deref-3.ensures.value) first c.in_disjs.ensures
@@ -48,7 +48,7 @@ in_filter-returns t c =
     let conds = see_conds c.args.conds.now in
     let names = names_of (given_conds conds) in
     let best = see_best c.args.best in
-    let own = own-scope best (see_best c.in_ok-best.best) c.deref.result.now c.in_ok-names.names.items (given_conds conds) c.deref.ensures.value c.in_ok-names.ensures c.in_ok-best.ensures in
+    let own = own-scope best (see_best c.in_ok-best.best) c.deref.result.now c.in_ok-filter_names.field-0.items (given_conds conds) c.deref.ensures.value c.in_ok-filter_names.ensures c.in_ok-best.ensures in
     last-then c.in_conds.result best (see_best c.in_ok-best.best) (names ∷ []) (scopes_conds conds) (names ∷ scopes_conds conds) refl own c.in_conds.ensures
 
 pub in_lets-loop-given-preserved : goal.in_lets-loop-given-preserved

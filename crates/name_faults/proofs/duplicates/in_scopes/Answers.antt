@@ -17,7 +17,7 @@ returns c =
     let one = see_best c.in_ok-best.best in
     let two = see_best c.in_ok-best-2.best in
     let three = see_best c.in_ok-best-3.best in
-    let own = own-scope best one c.deref.result.now c.in_ok-names.names.items (given_file file) c.deref.ensures.value c.in_ok-names.ensures c.in_ok-best.ensures in
+    let own = own-scope best one c.deref.result.now c.in_ok-file_names.field-0.items (given_file file) c.deref.ensures.value c.in_ok-file_names.ensures c.in_ok-best.ensures in
     let in_lets = first-then best one two (names ∷ []) lets own c.in_ok-best-2.ensures in
     let in_rules = first-then best two three (names ∷ lets) rules in_lets c.in_ok-best-3.ensures in
     last-then c.in_disjs.result best three ((names ∷ lets) ++ rules) loose (scopes_file file)
