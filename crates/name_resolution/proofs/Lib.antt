@@ -1,2 +1,2 @@
-mod BodyLinks
+mod LinksInTurn
 mod HomesInTurn

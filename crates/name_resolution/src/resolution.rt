@@ -4,6 +4,9 @@ ghost use Rattle.std.specs.Prelude.{◌≡◌, ◌++◌, IfOk, None, length, rep
 ghost use Rattle.guard_syntax.specs.code.Seen.{see_file};
 ghost use Rattle.rule_names.specs.Resolution.{links_in, resolution_of, with_link, with_links};
 ghost use Rattle.rule_names.specs.Pieces.{AreInOrder};
+ghost use Rattle.rule_names.specs.Scopes.{given_file};
+ghost use Rattle.name_scopes.specs.code.Seen.{see_given};
+ghost use Rattle.name_resolution.specs.code.Sources.{file_in};
 
 mod sources;
 mod uses;
@@ -17,7 +20,7 @@ use rule_names::Link;
 use sources::Sources;
 use std::alloc::{AllocError, Global};
 use uses::Linked;
-use walk::{in_disjs, in_lets, in_rules};
+use walk::in_file;
 
 /// The uses in a file, each with what it means, in the order in which their parts stand.
 fn links_in(alloc: Global, file: &RawFile) -> Result<Vec<Linked>, AllocError>
@@ -26,11 +29,17 @@ fn links_in(alloc: Global, file: &RawFile) -> Result<Vec<Linked>, AllocError>
 {
     let sources = Sources::new(alloc, file)?;
     let own = Binders::new(alloc, file_names(alloc, file)?)?;
-    let chain = ScopeChain::outermost(&own);
-    let mut links: Vec<Linked> = Vec::new(alloc);
-    in_lets(&sources, &file.lets, &chain, &mut links)?;
-    in_rules(&sources, &file.rules, &chain, &mut links)?;
-    in_disjs(&sources, &file.loose, &chain, &mut links)?;
+    links_among(&sources, &own)
+}
+
+/// The same, where the names of the file are known.
+fn links_among<'f>(sources: &Sources<'f>, own: &Binders<'f>) -> Result<Vec<Linked>, AllocError>
+    requires { see_given own.now.names.items ≡ given_file (file_in sources.now) }
+    ensures { IfOk result (λ links. links.items ≡ links_in (file_in sources.now)) }
+{
+    let chain = ScopeChain::outermost(own);
+    let mut links: Vec<Linked> = Vec::new(sources.alloc);
+    in_file(sources, &chain, &mut links)?;
     Ok(links)
 }
 

@@ -1,9 +1,10 @@
 //! What the uses in each part of a rule file mean, in the order in which the parts stand.
 ghost use Rattle.std.specs.Prelude.{◌≡◌, ◌++◌, ◌∷◌, IfOk, map};
-ghost use Rattle.guard_syntax.specs.code.Seen.{see_let, see_rule, see_body, see_conds, see_opt_conds, see_disj, see_part, see_query, see_step, see_expr, see_opt_expr, let_list, disj_list, part_list, step_list, expr_list};
-ghost use Rattle.rule_names.specs.Resolution.{links_rules, links_rule, links_body, links_lets, links_let, links_conds, links_opt_conds, links_disjs, links_disj, links_parts, links_part, links_query, links_steps, links_step, links_expr, links_opt_expr, links_exprs};
+ghost use Rattle.guard_syntax.specs.code.Seen.{see_let, see_rule, see_body, see_conds, see_opt_conds, see_disj, see_part, see_query, see_step, see_expr, see_opt_expr, let_list, disj_list, part_list, expr_list};
+ghost use Rattle.rule_names.specs.Resolution.{links_rules, links_body, links_lets, links_conds, links_opt_conds, links_disjs, links_parts, links_part, links_query, links_step, links_expr, links_opt_expr, links_exprs};
 ghost use Rattle.name_scopes.specs.code.ScopeChains.{scopes_in};
 ghost use Rattle.rule_names.specs.Scopes.{given_conds};
+ghost use Rattle.name_resolution.specs.code.FileLinks.{items_links};
 ghost use Rattle.name_resolution.specs.code.Sources.{file_in};
 
 use crate::resolution::sources::Sources;
@@ -33,7 +34,7 @@ fn in_body<'f>(
 
 /// Links the uses in lets.
 #[cycle(links)]
-pub(crate) fn in_lets<'f>(
+fn in_lets<'f>(
     sources: &Sources<'f>,
     lets: &'f [Let],
     chain: &ScopeChain<'f, '_>,
@@ -42,35 +43,9 @@ pub(crate) fn in_lets<'f>(
     ensures { IfOk result (λ _. links.new.items ≡ links.old.items ++ links_lets (file_in sources.now) (scopes_in chain.now) (let_list (map see_let lets.entry.now))) }
 {
     for given in lets {
-        in_let(sources, given, chain, links)?;
+        in_expr(sources, &given.value, chain, links)?;
     }
     Ok(())
-}
-
-/// Links the uses in a let.
-#[cycle(links)]
-fn in_let<'f>(
-    sources: &Sources<'f>,
-    given: &'f Let,
-    chain: &ScopeChain<'f, '_>,
-    links: &mut Vec<Linked>,
-) -> Result<(), AllocError>
-    ensures { IfOk result (λ _. links.new.items ≡ links.old.items ++ links_let (file_in sources.now) (scopes_in chain.now) (see_let given.entry.now)) }
-{
-    in_expr(sources, &given.value, chain, links)
-}
-
-/// Links the uses in conditions.
-#[cycle(links)]
-fn in_conds<'f>(
-    sources: &Sources<'f>,
-    conds: &'f Conds,
-    chain: &ScopeChain<'f, '_>,
-    links: &mut Vec<Linked>,
-) -> Result<(), AllocError>
-    ensures { IfOk result (λ _. links.new.items ≡ links.old.items ++ links_conds (file_in sources.now) (scopes_in chain.now) (see_conds conds.entry.now)) }
-{
-    in_disjs(sources, &conds.parts, chain, links)
 }
 
 /// Links the uses in conditions, if there are any.
@@ -84,14 +59,14 @@ fn in_opt_conds<'f>(
     ensures { IfOk result (λ _. links.new.items ≡ links.old.items ++ links_opt_conds (file_in sources.now) (scopes_in chain.now) (see_opt_conds conds.entry.now)) }
 {
     match conds {
-        Some(conds) => in_conds(sources, conds, chain, links),
+        Some(conds) => in_disjs(sources, &conds.parts, chain, links),
         None => Ok(()),
     }
 }
 
 /// Links the uses in disjunctions.
 #[cycle(links)]
-pub(crate) fn in_disjs<'f>(
+fn in_disjs<'f>(
     sources: &Sources<'f>,
     disjs: &'f [Disj],
     chain: &ScopeChain<'f, '_>,
@@ -100,22 +75,9 @@ pub(crate) fn in_disjs<'f>(
     ensures { IfOk result (λ _. links.new.items ≡ links.old.items ++ links_disjs (file_in sources.now) (scopes_in chain.now) (disj_list (map see_disj disjs.entry.now))) }
 {
     for disj in disjs {
-        in_disj(sources, disj, chain, links)?;
+        in_parts(sources, &disj.parts, chain, links)?;
     }
     Ok(())
-}
-
-/// Links the uses in a disjunction.
-#[cycle(links)]
-fn in_disj<'f>(
-    sources: &Sources<'f>,
-    disj: &'f Disj,
-    chain: &ScopeChain<'f, '_>,
-    links: &mut Vec<Linked>,
-) -> Result<(), AllocError>
-    ensures { IfOk result (λ _. links.new.items ≡ links.old.items ++ links_disj (file_in sources.now) (scopes_in chain.now) (see_disj disj.entry.now)) }
-{
-    in_parts(sources, &disj.parts, chain, links)
 }
 
 /// Links the uses in parts that are joined by `or`.
@@ -134,6 +96,7 @@ fn in_parts<'f>(
     Ok(())
 }
 
+/// Links the uses in a part.
 #[cycle(links)]
 fn in_part<'f>(
     sources: &Sources<'f>,
@@ -149,7 +112,7 @@ fn in_part<'f>(
             in_body(sources, &[], body, chain, links)
         }
         Part::When { cond, body, .. } => {
-            in_conds(sources, cond, chain, links)?;
+            in_disjs(sources, &cond.parts, chain, links)?;
             in_body(sources, &[], body, chain, links)
         }
         Part::Kinds { cond, body, .. } => {
@@ -183,20 +146,7 @@ fn in_query<'f>(
 ) -> Result<(), AllocError>
     ensures { IfOk result (λ _. links.new.items ≡ links.old.items ++ links_query (file_in sources.now) (scopes_in chain.now) (see_query query.entry.now)) }
 {
-    in_steps(sources, &query.steps, chain, links)
-}
-
-/// Links the uses in the steps of a query.
-#[cycle(links)]
-fn in_steps<'f>(
-    sources: &Sources<'f>,
-    steps: &'f [Step],
-    chain: &ScopeChain<'f, '_>,
-    links: &mut Vec<Linked>,
-) -> Result<(), AllocError>
-    ensures { IfOk result (λ _. links.new.items ≡ links.old.items ++ links_steps (file_in sources.now) (scopes_in chain.now) (step_list (map see_step steps.entry.now))) }
-{
-    for step in steps {
+    for step in &query.steps {
         in_step(sources, step, chain, links)?;
     }
     Ok(())
@@ -237,7 +187,7 @@ fn in_filter<'f>(
 {
     let own = Binders::new(sources.alloc, filter_names(sources.alloc, conds)?)?;
     let inner = ScopeChain::inside(&own, &*outer);
-    in_conds(sources, conds, &inner, links)
+    in_disjs(sources, &conds.parts, &inner, links)
 }
 
 /// Links the uses in an expression.
@@ -290,21 +240,8 @@ fn in_exprs<'f>(
     Ok(())
 }
 
-/// Links the uses in a rule.
-fn in_rule<'f>(
-    sources: &Sources<'f>,
-    rule: &'f Rule,
-    chain: &ScopeChain<'f, '_>,
-    links: &mut Vec<Linked>,
-) -> Result<(), AllocError>
-    ensures { IfOk result (λ _. links.new.items ≡ links.old.items ++ links_rule (file_in sources.now) (scopes_in chain.now) (see_rule rule.entry.now)) }
-{
-    in_opt_conds(sources, &rule.cond, chain, links)?;
-    in_body(sources, rule.params.as_slice(), &rule.body, chain, links)
-}
-
 /// Links the uses in rules.
-pub(crate) fn in_rules<'f>(
+fn in_rules<'f>(
     sources: &Sources<'f>,
     rules: &'f [Rule],
     chain: &ScopeChain<'f, '_>,
@@ -313,7 +250,22 @@ pub(crate) fn in_rules<'f>(
     ensures { IfOk result (λ _. links.new.items ≡ links.old.items ++ links_rules (file_in sources.now) (scopes_in chain.now) (map see_rule rules.entry.now)) }
 {
     for rule in rules {
-        in_rule(sources, rule, chain, links)?;
+        in_opt_conds(sources, &rule.cond, chain, links)?;
+        in_body(sources, rule.params.as_slice(), &rule.body, chain, links)?;
     }
     Ok(())
+}
+
+/// Links the uses in a file, whose names are those of the scope around its items.
+pub(crate) fn in_file<'f>(
+    sources: &Sources<'f>,
+    chain: &ScopeChain<'f, '_>,
+    links: &mut Vec<Linked>,
+) -> Result<(), AllocError>
+    ensures { IfOk result (λ _. links.new.items ≡ links.old.items ++ items_links (file_in sources.now) (scopes_in chain.now)) }
+{
+    let file = sources.file;
+    in_lets(sources, &file.lets, chain, links)?;
+    in_rules(sources, &file.rules, chain, links)?;
+    in_disjs(sources, &file.loose, chain, links)
 }
