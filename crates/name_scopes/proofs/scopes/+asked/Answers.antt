@@ -1,12 +1,13 @@
 use Rattle.std.proofs.Common.{refl, sym, ap, ◌∙◌, ◌++◌, rules, List}
 use Rattle.std.proofs.lemmas.List.{append-nil}
 use Rattle.std.proofs.lemmas.Result.{IfOk-weaker}
-use Rattle.guard_syntax.specs.code.Seen.{see_step, see_expr}
+use Rattle.guard_syntax.specs.code.Seen.{see_conds, see_step, see_expr}
 use Rattle.guard_syntax.specs.Syntax as sx
 use Rattle.guard_syntax.specs.declared.syntax.Body.{the_lemmas}
+use Rattle.guard_syntax.specs.declared.syntax.StepForm as form
 use Rattle.rule_names.specs.Scopes.{Given, given_step, given_expr}
 use Rattle.name_scopes.specs.code.Seen.{see_given}
-use Rattle.name_scopes.proofs.GivenInTurn.{next, end, of_steps, of_exprs, query-given, expr-given, function-given, asked-given, found-given}
+use Rattle.name_scopes.proofs.GivenInTurn.{next, end, of_steps, of_exprs, query-given, expr-given, function-given, asked-given, found-given, form-given, keys-given}
 use Rattle.name_scopes.proofs.scopes.+asked.Goals as goal
 
 pub gather_query-returns : goal.gather_query-returns
@@ -46,3 +47,13 @@ gather_expr-returns-in-Query t c =
 pub gather_expr-returns-in-Found : goal.gather_expr-returns-in-Found
 gather_expr-returns-in-Found t c =
     IfOk-weaker c.gather_query-in-Found.result _ _ (λ _ e. e ∙ ap (λ (l : List Given). see_given c.args.names.now.items ++ l) (found-given c.args.expr.now c.in-Found.site c.in-Found.query c.in-Found.is)) c.gather_query-in-Found.ensures
+
+pub gather_step-returns-in-Filter : goal.gather_step-returns-in-Filter
+gather_step-returns-in-Filter t c =
+    IfOk-weaker c.gather_capture.result _ _ (λ _ e. e ∙ form-given (see_given c.args.names.now.items) c.args.step.now (form.Filter c.in-Filter.capture c.in-Filter.field-1) (λ n. sx.filter n c.in-Filter.capture (see_conds c.in-Filter.field-1))
+    c.in-Filter.is (search (rules, the_lemmas))) c.gather_capture.ensures
+
+pub gather_step-returns-in_ok-gather_capture-in-Keys : goal.gather_step-returns-in_ok-gather_capture-in-Keys
+gather_step-returns-in_ok-gather_capture-in-Keys t c =
+    IfOk-weaker c.gather_expr.result _ _ (λ _ e. e ∙ keys-given (see_given c.args.names.now.items) (see_given c.gather_capture-in-Keys.new.names.items) c.args.step.now c.in-Keys.capture c.in-Keys.op c.in-Keys.not c.in-Keys.right
+    (form.Keys c.in-Keys.capture c.in-Keys.op c.in-Keys.not c.in-Keys.right) c.in-Keys.is (search (rules, the_lemmas)) c.in_ok-gather_capture-in-Keys.ensures) c.gather_expr.ensures

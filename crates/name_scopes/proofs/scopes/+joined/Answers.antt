@@ -7,7 +7,7 @@ use Rattle.guard_syntax.specs.declared.syntax.Body.{the_lemmas}
 use Rattle.rule_names.specs.Scopes.{Given, given_disj, given_part, given_opt_conds}
 use Rattle.rule_names.proofs.Shapes.{block-seen, when-seen, kinds-seen, call-seen}
 use Rattle.name_scopes.specs.code.Seen.{see_given}
-use Rattle.name_scopes.proofs.GivenInTurn.{next, end, of_disjs, of_parts, of_exprs, conds-given, disj-given, part-given}
+use Rattle.name_scopes.proofs.GivenInTurn.{next, end, of_disjs, of_parts, of_exprs, conds-given, disj-given, part-given, test-given}
 use Rattle.name_scopes.proofs.scopes.+joined.Goals as goal
 
 pub gather_conds-returns : goal.gather_conds-returns
@@ -63,3 +63,8 @@ pub gather_part-returns-in-Call : goal.gather_part-returns-in-Call
 gather_part-returns-in-Call t c =
     IfOk-weaker c.gather_exprs.result _ _ (λ _ e. e ∙ ap (λ (l : List Given). see_given c.args.names.now.items ++ l)
     (ap of_exprs c.deref.ensures.value ∙ part-given c.args.part.now _ (ap see_part c.in-Call.is ∙ call-seen c.in-Call.site c.in-Call.not c.in-Call.name c.in-Call.args c.in-Call.note))) c.gather_exprs.ensures
+
+pub gather_part-returns-in_ok-gather_query-in-Test : goal.gather_part-returns-in_ok-gather_query-in-Test
+gather_part-returns-in_ok-gather_query-in-Test t c =
+    IfOk-weaker c.gather_side.result _ _ (λ _ e. e ∙ test-given (see_given c.args.names.now.items) (see_given c.gather_query-in-Test.new.names.items) c.args.part.now c.in-Test.site c.in-Test.any c.in-Test.left c.in-Test.op c.in-Test.not c.in-Test.right c.in-Test.note
+    c.in-Test.is c.in_ok-gather_query-in-Test.ensures) c.gather_side.ensures
