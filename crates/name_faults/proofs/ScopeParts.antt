@@ -1,7 +1,8 @@
 -- The scopes and the wrong uses in a part, where they are those of one thing in it.
-use Rattle.std.proofs.Common.{◌≡◌, ℕ, Bool, List, Option, map, sym, ap, ◌∙◌, rules}
+use Rattle.std.proofs.Common.{◌≡◌, ℕ, Bool, List, [], Option, Some, None, map, refl, sym, ap, ◌∙◌, rules}
 use Rattle.std.specs.declared.vec.Vec.{Vec}
 use Rattle.std.specs.declared.alloc.Global.{Global}
+use Rattle.doc_values.specs.Tree.{Forest}
 use Rattle.guard_syntax.specs.Syntax as sx
 use Rattle.guard_syntax.specs.declared.syntax.Body.{the_lemmas}
 use Rattle.guard_syntax.specs.declared.syntax.Conds.{Conds, out-Conds}
@@ -14,6 +15,8 @@ use Rattle.guard_syntax.specs.declared.syntax.Disj.{Disj}
 use Rattle.guard_syntax.specs.declared.syntax.Expr.{Expr}
 use Rattle.guard_syntax.specs.declared.syntax.Expr as expr
 use Rattle.guard_syntax.specs.code.Seen.{Form, see_step, see_form, see_disj, see_conds, see_opt_conds, see_part, see_query, see_expr, see_opt_expr, step_list, disj_list, expr_list}
+use Rattle.rule_names.specs.Scopes.{Given}
+use Rattle.rule_names.specs.Uses.{wrong_variable}
 use Rattle.rule_names.proofs.Shapes.{conds-seen, query-seen, step-seen, call-seen, function-seen}
 
 -- whatever is said of the syntax of these, by what it is seen as
@@ -43,6 +46,9 @@ module _ {Y : Type 0} where
   of-function say x site name args es is are =
       ap (λ (l : List Expr). say (sx.function site name (expr_list (map see_expr l)))) are ∙ ap say (sym (ap see_expr is ∙ function-seen site name args))
 
+  pub of-literal : (say : sx.Expr → Y) (x e : Expr) (site : ℕ) (tree : Forest) → x ≡ e → see_expr e ≡ sx.literal site tree → say (sx.literal site tree) ≡ say (see_expr x)
+  of-literal say x e site tree is seen = ap say (sym (ap see_expr is ∙ seen))
+
   pub of-asked : (say : sx.Expr → Y) (x : Expr) (q : Query) → x ≡ expr.Query q → say (sx.asked (see_query q)) ≡ say (see_expr x)
   of-asked say x q is = ap say (sym (ap see_expr is ∙ seen))
     where
@@ -60,3 +66,8 @@ module _ {Y : Type 0} where
 
   pub of-some-expr : (say : sx.OptExpr → Y) (o p : Option Expr) → o ≡ p → say (see_opt_expr p) ≡ say (see_opt_expr o)
   of-some-expr say o p is = ap (λ (x : Option Expr). say (see_opt_expr x)) (sym is)
+
+-- what is the matter with a variable has nothing to do with rules and places
+pub of-any-file : (rules : List sx.Rule) (places : List ℕ) (given : Option Given) (name : List ℕ) (at : ℕ) → wrong_variable [] [] given name at ≡ wrong_variable rules places given name at
+of-any-file rules places None name at = refl
+of-any-file rules places (Some g) name at = refl

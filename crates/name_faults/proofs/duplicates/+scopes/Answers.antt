@@ -1,4 +1,4 @@
-use Rattle.std.proofs.Common.{ap, sym, ◌∙◌, refl, List, [], ◌∷◌, map, Some, None}
+use Rattle.std.proofs.Common.{ap, sym, ◌∙◌, refl, rules, List, [], ◌∷◌, map, Some, None}
 use Rattle.std.proofs.lemmas.List.{drop_all}
 use Rattle.std.proofs.lemmas.Result.{IfOk-weaker}
 use Rattle.guard_syntax.specs.Syntax as sx
@@ -6,7 +6,10 @@ use Rattle.guard_syntax.specs.declared.syntax.Let.{Let}
 use Rattle.guard_syntax.specs.declared.syntax.Disj.{Disj}
 use Rattle.guard_syntax.specs.declared.syntax.Part.{Part}
 use Rattle.guard_syntax.specs.declared.syntax.Step.{Step}
+use Rattle.guard_syntax.specs.declared.syntax.Body.{the_lemmas}
 use Rattle.guard_syntax.specs.declared.syntax.Expr.{Expr}
+use Rattle.guard_syntax.specs.declared.syntax.Expr as expr
+use Rattle.guard_syntax.specs.declared.syntax.StepForm as form
 use Rattle.guard_syntax.specs.Named.{Named}
 use Rattle.guard_syntax.specs.code.Seen.{see_let, see_step, see_disj, see_part, see_query, see_body, see_conds, see_opt_conds, see_expr, see_opt_expr, let_list, step_list, disj_list, part_list, expr_list}
 use Rattle.rule_names.specs.Duplicates.{duplicated}
@@ -15,7 +18,7 @@ use Rattle.rule_names.specs.Scopes.{names_of, given_body, given_conds, scopes_le
 use Rattle.name_scopes.specs.code.Seen.{see_best}
 use Rattle.name_scopes.proofs.FirstFaults.{first-then, last-then, own-scope, more-parts}
 use Rattle.name_scopes.proofs.ScopeShapes.{let-scopes, disj-scopes, body-scopes, block-scopes, when-scopes, kinds-scopes, test-scopes}
-use Rattle.name_faults.proofs.ScopeParts.{of-conds, of-query, of-call, of-refer, of-function, of-asked, of-found, of-some-conds, of-some-expr}
+use Rattle.name_faults.proofs.ScopeParts.{of-conds, of-query, of-step, of-call, of-refer, of-function, of-literal, of-asked, of-found, of-some-conds, of-some-expr}
 use Rattle.name_faults.proofs.duplicates.+scopes.Goals as goal
 
 pub in_body-returns : goal.in_body-returns
@@ -137,3 +140,12 @@ in_disjs-returns t c = ap (λ (xs : List Disj). first_from (see_best c.loop-disj
 
 pub in_parts-returns : goal.in_parts-returns
 in_parts-returns t c = ap (λ (xs : List Part). first_from (see_best c.loop-part.best) (duplicated (scopes_parts (part_list (map see_part xs))))) (sym (drop_all c.loop-part.part-index c.args.parts.now c.loop-part-test.false)) ∙ c.loop-part.invariant
+
+pub in_step-returns-in-Filter : goal.in_step-returns-in-Filter
+in_step-returns-in-Filter t c = IfOk-weaker c.in_filter.result _ _ (λ found e. e ∙ of-step (λ (y : sx.Step). first_from (see_best c.args.best) (duplicated (scopes_step y))) c.args.step.now (form.Filter c.in-Filter.field-0 c.in-Filter.conds) (λ n. sx.filter n c.in-Filter.field-0 (see_conds c.in-Filter.conds)) c.in-Filter.is (search (rules, the_lemmas))) c.in_filter.ensures
+
+pub in_step-returns-in-Keys : goal.in_step-returns-in-Keys
+in_step-returns-in-Keys t c = IfOk-weaker c.in_expr.result _ _ (λ found e. e ∙ of-step (λ (y : sx.Step). first_from (see_best c.args.best) (duplicated (scopes_step y))) c.args.step.now (form.Keys c.in-Keys.capture c.in-Keys.op c.in-Keys.not c.in-Keys.right) (λ n. sx.keys n c.in-Keys.capture c.in-Keys.op c.in-Keys.not (see_expr c.in-Keys.right)) c.in-Keys.is (search (rules, the_lemmas))) c.in_expr.ensures
+
+pub in_expr-returns-in-Literal : goal.in_expr-returns-in-Literal
+in_expr-returns-in-Literal t c = of-literal (λ (y : sx.Expr). first_from (see_best c.args.best) (duplicated (scopes_expr y))) c.args.expr.now (expr.Literal c.in-Literal.site c.in-Literal.tree) c.in-Literal.site c.in-Literal.tree c.in-Literal.is (search (rules, the_lemmas))

@@ -1,12 +1,14 @@
-use Rattle.std.proofs.Common.{◌∙◌, ap, rules, Some, None}
+use Rattle.std.proofs.Common.{◌∙◌, ap, rules, List, ℕ, Some, None}
 use Rattle.std.proofs.lemmas.Result.{IfOk-weaker}
 use Rattle.std.proofs.Common.{◌++◌}
 use Rattle.guard_syntax.specs.Syntax as sx
 use Rattle.guard_syntax.specs.code.Seen.{see_conds, see_expr}
 use Rattle.guard_syntax.specs.declared.syntax.Body.{the_lemmas}
+use Rattle.guard_syntax.specs.declared.syntax.Expr as expr
 use Rattle.guard_syntax.specs.declared.syntax.StepForm as form
 use Rattle.rule_names.specs.Faults.{first_from}
-use Rattle.rule_names.specs.Uses.{wrong_opt_conds, wrong_part, wrong_step, wrong_expr, wrong_opt_expr}
+use Rattle.rule_names.specs.Scopes.{given_named}
+use Rattle.rule_names.specs.Uses.{wrong_variable, wrong_opt_conds, wrong_part, wrong_step, wrong_expr, wrong_opt_expr}
 use Rattle.std.specs.declared.vec.Vec.{Vec}
 use Rattle.std.specs.declared.alloc.Global.{Global}
 use Rattle.name_scopes.specs.declared.scopes.Given.{Given}
@@ -14,7 +16,7 @@ use Rattle.name_scopes.specs.code.Seen.{see_best, see_given}
 use Rattle.name_scopes.specs.code.ScopeChains.{visible_in}
 use Rattle.name_faults.specs.code.RuleArities.{rules_of, places_of}
 use Rattle.name_faults.proofs.UsesInTurn.{lets-next, lets-end, disjs-next, disjs-end, parts-next, parts-end, steps-next, steps-end, exprs-next, exprs-end, query-steps, block-wrong, when-wrong, kinds-wrong, test-wrong, function-wrong, body-wrong, filter-wrong}
-use Rattle.name_faults.proofs.ScopeParts.{of-conds, of-step, of-refer, of-asked, of-found, of-some-conds, of-some-expr}
+use Rattle.name_faults.proofs.ScopeParts.{of-any-file, of-conds, of-step, of-refer, of-literal, of-asked, of-found, of-some-conds, of-some-expr}
 use Rattle.name_faults.proofs.uses.+uses.Goals as goal
 
 pub in_body-returns : goal.in_body-returns
@@ -129,3 +131,24 @@ in_query-returns t c = steps-end (rules_of c.args.walk.now) (places_of c.args.wa
 
 pub in_query-loop-step-init : goal.in_query-loop-step-init
 in_query-loop-step-init t c = ap (first_from (see_best c.args.best)) (query-steps (rules_of c.args.walk.now) (places_of c.args.walk.now) (visible_in c.args.scope.now) c.args.query.now c.deref-step-items.result.now c.deref-step-items.ensures.value)
+
+pub in_step-returns-in-Var : goal.in_step-returns-in-Var
+in_step-returns-in-Var t c =
+    c.wrong_variable.ensures
+    ∙ ap (first_from (see_best c.args.best))
+    (of-any-file (rules_of c.args.walk.now) (places_of c.args.walk.now) (given_named (visible_in c.args.scope.now) c.as_str.result.now) c.as_str.result.now c.place-at.result
+    ∙ ap (λ (l : List ℕ). wrong_variable (rules_of c.args.walk.now) (places_of c.args.walk.now) (given_named (visible_in c.args.scope.now) l) l c.place-at.result) c.as_str.ensures
+    ∙ ap (λ (n : ℕ). wrong_variable (rules_of c.args.walk.now) (places_of c.args.walk.now) (given_named (visible_in c.args.scope.now) c.in-Var.name) c.in-Var.name n) c.place-at.ensures)
+    ∙ of-step (λ (y : sx.Step). first_from (see_best c.args.best) (wrong_step (rules_of c.args.walk.now) (places_of c.args.walk.now) (visible_in c.args.scope.now) y)) c.args.step.now (form.Var c.in-Var.name) (λ n. sx.var n c.in-Var.name) c.in-Var.is (search (rules, the_lemmas))
+
+pub in_step-returns-in-Splice : goal.in_step-returns-in-Splice
+in_step-returns-in-Splice t c =
+    c.wrong_variable-in-Splice.ensures
+    ∙ ap (first_from (see_best c.args.best))
+    (of-any-file (rules_of c.args.walk.now) (places_of c.args.walk.now) (given_named (visible_in c.args.scope.now) c.as_str-in-Splice.result.now) c.as_str-in-Splice.result.now c.at.result
+    ∙ ap (λ (l : List ℕ). wrong_variable (rules_of c.args.walk.now) (places_of c.args.walk.now) (given_named (visible_in c.args.scope.now) l) l c.at.result) c.as_str-in-Splice.ensures
+    ∙ ap (λ (n : ℕ). wrong_variable (rules_of c.args.walk.now) (places_of c.args.walk.now) (given_named (visible_in c.args.scope.now) c.in-Splice.name.text) c.in-Splice.name.text n) c.at.ensures)
+    ∙ of-step (λ (y : sx.Step). first_from (see_best c.args.best) (wrong_step (rules_of c.args.walk.now) (places_of c.args.walk.now) (visible_in c.args.scope.now) y)) c.args.step.now (form.Splice c.in-Splice.name) (λ n. sx.splice n c.in-Splice.name) c.in-Splice.is (search (rules, the_lemmas))
+
+pub in_expr-returns-in-Literal : goal.in_expr-returns-in-Literal
+in_expr-returns-in-Literal t c = of-literal (λ (y : sx.Expr). first_from (see_best c.args.best) (wrong_expr (rules_of c.args.walk.now) (places_of c.args.walk.now) (visible_in c.args.scope.now) y)) c.args.expr.now (expr.Literal c.in-Literal.site c.in-Literal.tree) c.in-Literal.site c.in-Literal.tree c.in-Literal.is (search (rules, the_lemmas))
