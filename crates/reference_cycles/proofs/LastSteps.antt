@@ -8,8 +8,8 @@ use Rattle.rule_names.specs.ReferenceGraph.{step_site, last_site, to_last, to_ea
 step_is : (s t : Step) → Some s ≡ Some t → s ≡ t
 step_is s t e = cc
 
-site_seen : (s : Step) → step_site (see_step s) ≡ s.site
-site_seen s = search (rules, the_lemmas)
+pub site-seen : (s : Step) → step_site (see_step s) ≡ s.site
+site-seen s = search (rules, the_lemmas)
 
 last_of : (x : Step) (xs : List Step) (s : Step) → Some s ≡ slice_get (x ∷ xs) (length xs) → last_site (step_site (see_step x)) (step_list (map see_step xs)) ≡ step_site (see_step s)
 last_of x [] s is = ap (λ (t : Step). step_site (see_step t)) (sym (step_is s x is))
@@ -19,4 +19,4 @@ pub last-step : (n : ℕ) (xs : List Step) (s : Step) → Some s ≡ slice_get x
 last-step n [] s is = absurd cc
 last-step n (x ∷ xs) s is =
     let at : length (x ∷ xs) - 1 ≡ length xs = omega arith in
-    ap (λ (site : ℕ). to_each n (site ∷ [])) (sym (last_of x xs s (is ∙ ap (λ (i : ℕ). slice_get (x ∷ xs) i) at) ∙ site_seen s))
+    ap (λ (site : ℕ). to_each n (site ∷ [])) (sym (last_of x xs s (is ∙ ap (λ (i : ℕ). slice_get (x ∷ xs) i) at) ∙ site-seen s))

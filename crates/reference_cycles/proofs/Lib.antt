@@ -4,3 +4,4 @@ mod StepsAt
 mod CycleFaults
 mod LastSteps
 mod BodyEdges
+mod EdgesInTurn

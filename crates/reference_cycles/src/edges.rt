@@ -3,9 +3,13 @@
 ghost use Rattle.std.specs.Prelude.{◌≡◌, ◌++◌, IfOk, length};
 ghost use Rattle.std.specs.Result.{OnOk};
 ghost use Rattle.guard_syntax.specs.code.Seen.{see_file};
+ghost use Rattle.name_scopes.specs.code.Seen.{see_given};
+ghost use Rattle.reference_cycles.specs.code.RuleIndexes.{rules_of};
+ghost use Rattle.rule_names.specs.Scopes.{given_file};
 ghost use Rattle.rule_names.specs.ReferenceGraph.{graph_of, with_edge, with_edges, edges_of_file};
 
 mod leads;
+mod parts;
 mod rule_index;
 mod uses;
 mod walk;
@@ -18,7 +22,7 @@ use name_scopes::scopes::file_names;
 use reference_graph::Graph;
 use rule_index::RuleIndex;
 use std::alloc::{AllocError, Global};
-use walk::{in_disjs, in_lets, in_rules};
+use walk::in_file;
 
 /// The edges of a file, in the order in which their parts stand.
 fn edges_of(alloc: Global, file: &RawFile, count: u32) -> Result<Vec<Edge>, AllocError>
@@ -27,11 +31,23 @@ fn edges_of(alloc: Global, file: &RawFile, count: u32) -> Result<Vec<Edge>, Allo
 {
     let rule_index = RuleIndex::new(alloc, &file.rules, count)?;
     let own = Binders::new(alloc, file_names(alloc, file)?)?;
-    let chain = ScopeChain::outermost(&own);
-    let mut edges: Vec<Edge> = Vec::new(alloc);
-    in_lets(&rule_index, &file.lets, &chain, &mut edges)?;
-    in_rules(&rule_index, &file.rules, &chain, &mut edges)?;
-    in_disjs(&rule_index, &file.loose, &chain, &mut edges)?;
+    edges_among(&rule_index, file, &own)
+}
+
+/// The same, where the rules and the names of the file are known.
+fn edges_among<'f>(
+    rule_index: &RuleIndex<'f>,
+    file: &'f RawFile,
+    own: &Binders<'f>,
+) -> Result<Vec<Edge>, AllocError>
+    requires rules { rules_of rule_index.now ≡ (see_file file.now).rules }
+    requires count { rule_index.now.count ≡ length (see_file file.now).places }
+    requires names { see_given own.now.names.items ≡ given_file (see_file file.now) }
+    ensures { IfOk result (λ edges. edges.items ≡ edges_of_file (see_file file.entry.now)) }
+{
+    let chain = ScopeChain::outermost(own);
+    let mut edges: Vec<Edge> = Vec::new(rule_index.alloc);
+    in_file(rule_index, file, &chain, &mut edges)?;
     Ok(edges)
 }
 

@@ -1,17 +1,21 @@
 //! The edges of each part of a rule file, in the order in which the parts stand.
-ghost use Rattle.std.specs.Prelude.{◌≡◌, ◌++◌, IfOk, None, map};
-ghost use Rattle.guard_syntax.specs.code.Seen.{see_let, see_rule, see_body, see_conds, see_opt_conds, see_disj, see_part, see_query, see_step, see_expr, see_opt_expr, let_list, disj_list, part_list, step_list, expr_list};
+ghost use Rattle.std.specs.Prelude.{◌≡◌, ◌++◌, IfOk, map};
+ghost use Rattle.guard_syntax.specs.code.Seen.{see_file, see_let, see_rule, see_body, see_conds, see_opt_conds, see_disj, see_part, see_query, see_step, see_expr, see_opt_expr, let_list, disj_list, part_list, expr_list};
 ghost use Rattle.reference_cycles.specs.code.RuleIndexes.{rules_of};
+ghost use Rattle.reference_cycles.specs.code.FileEdges.{items_edges};
 ghost use Rattle.reference_cycles.specs.code.FilterEdges.{edges_of_filter};
 ghost use Rattle.name_scopes.specs.code.ScopeChains.{visible_in};
-ghost use Rattle.rule_names.specs.ReferenceGraph.{edges_of_rules, edges_of_rule, edges_of_body, edges_of_lets, edges_of_let, edges_of_conds, edges_of_opt_conds, edges_of_disjs, edges_of_disj, edges_of_parts, edges_of_part, edges_of_query, edges_of_steps, edges_of_step, edges_of_expr, edges_of_opt_expr, edges_of_exprs};
+ghost use Rattle.rule_names.specs.ReferenceGraph.{edges_of_rules, edges_of_rule, edges_of_body, edges_of_lets, edges_of_conds, edges_of_opt_conds, edges_of_disjs, edges_of_parts, edges_of_part, edges_of_query, edges_of_step, edges_of_expr, edges_of_opt_expr, edges_of_exprs};
 
 use crate::edges::leads::{
-    Edge, to_disjs, to_exprs, to_last, to_opt_conds, to_opt_expr, to_parts, to_site, to_values,
+    Edge, to_disjs, to_exprs, to_last, to_opt_conds, to_parts, to_site, to_values,
 };
+use crate::edges::parts::from_part;
 use crate::edges::rule_index::RuleIndex;
-use crate::edges::uses::{from_capture, to_before, to_rule, to_variable};
-use guard_syntax::{Body, Conds, Disj, Expr, Let, Name, Part, Query, Rule, Step, StepForm};
+use crate::edges::uses::{from_capture, to_before, to_variable};
+use guard_syntax::{
+    Body, Conds, Disj, Expr, Let, Name, Part, Query, RawFile, Rule, Step, StepForm,
+};
 use name_scopes::binders::Binders;
 use name_scopes::scope_chain::ScopeChain;
 use name_scopes::scopes::{body_names, filter_names};
@@ -42,7 +46,7 @@ fn in_body<'f>(
 
 /// Adds the edges of lets.
 #[cycle(edges)]
-pub(crate) fn in_lets<'f>(
+fn in_lets<'f>(
     rule_index: &RuleIndex<'f>,
     lets: &'f [Let],
     chain: &ScopeChain<'f, '_>,
@@ -51,27 +55,14 @@ pub(crate) fn in_lets<'f>(
     ensures { IfOk result (λ _. edges.new.items ≡ edges.old.items ++ edges_of_lets (rules_of rule_index.now) rule_index.now.count (visible_in chain.now) (let_list (map see_let lets.entry.now))) }
 {
     for given in lets {
-        in_let(rule_index, given, chain, edges)?;
+        to_site(
+            rule_index.variable_node(given.site),
+            given.value.site(),
+            edges,
+        )?;
+        in_expr(rule_index, &given.value, chain, edges)?;
     }
     Ok(())
-}
-
-/// Adds the edges of a let.
-#[cycle(edges)]
-fn in_let<'f>(
-    rule_index: &RuleIndex<'f>,
-    given: &'f Let,
-    chain: &ScopeChain<'f, '_>,
-    edges: &mut Vec<Edge>,
-) -> Result<(), AllocError>
-    ensures { IfOk result (λ _. edges.new.items ≡ edges.old.items ++ edges_of_let (rules_of rule_index.now) rule_index.now.count (visible_in chain.now) (see_let given.entry.now)) }
-{
-    to_site(
-        rule_index.variable_node(given.site),
-        given.value.site(),
-        edges,
-    )?;
-    in_expr(rule_index, &given.value, chain, edges)
 }
 
 /// Adds the edges of conditions.
@@ -106,7 +97,7 @@ fn in_opt_conds<'f>(
 
 /// Adds the edges of disjunctions.
 #[cycle(edges)]
-pub(crate) fn in_disjs<'f>(
+fn in_disjs<'f>(
     rule_index: &RuleIndex<'f>,
     disjs: &'f [Disj],
     chain: &ScopeChain<'f, '_>,
@@ -115,23 +106,10 @@ pub(crate) fn in_disjs<'f>(
     ensures { IfOk result (λ _. edges.new.items ≡ edges.old.items ++ edges_of_disjs (rules_of rule_index.now) rule_index.now.count (visible_in chain.now) (disj_list (map see_disj disjs.entry.now))) }
 {
     for disj in disjs {
-        in_disj(rule_index, disj, chain, edges)?;
+        to_parts(disj.site as u64, &disj.parts, edges)?;
+        in_parts(rule_index, &disj.parts, chain, edges)?;
     }
     Ok(())
-}
-
-/// Adds the edges of a disjunction.
-#[cycle(edges)]
-fn in_disj<'f>(
-    rule_index: &RuleIndex<'f>,
-    disj: &'f Disj,
-    chain: &ScopeChain<'f, '_>,
-    edges: &mut Vec<Edge>,
-) -> Result<(), AllocError>
-    ensures { IfOk result (λ _. edges.new.items ≡ edges.old.items ++ edges_of_disj (rules_of rule_index.now) rule_index.now.count (visible_in chain.now) (see_disj disj.entry.now)) }
-{
-    to_parts(disj.site as u64, &disj.parts, edges)?;
-    in_parts(rule_index, &disj.parts, chain, edges)
 }
 
 /// Adds the edges of parts that are joined by `or`.
@@ -150,6 +128,7 @@ fn in_parts<'f>(
     Ok(())
 }
 
+/// Adds the edges of a part.
 #[cycle(edges)]
 fn in_part<'f>(
     rule_index: &RuleIndex<'f>,
@@ -159,57 +138,26 @@ fn in_part<'f>(
 ) -> Result<(), AllocError>
     ensures { IfOk result (λ _. edges.new.items ≡ edges.old.items ++ edges_of_part (rules_of rule_index.now) rule_index.now.count (visible_in chain.now) (see_part part.entry.now)) }
 {
+    from_part(rule_index, part, edges)?;
     match part {
-        Part::Block {
-            site,
-            head,
-            body,
-            ..
-        } => {
-            to_site(*site as u64, head.site, edges)?;
-            to_site(*site as u64, body.site, edges)?;
+        Part::Block { head, body, .. } => {
             in_query(rule_index, head, chain, edges)?;
             in_body(rule_index, &[], body, chain, edges)
         }
-        Part::When { site, cond, body } => {
-            to_site(*site as u64, cond.site, edges)?;
-            to_site(*site as u64, body.site, edges)?;
+        Part::When { cond, body, .. } => {
             in_conds(rule_index, cond, chain, edges)?;
             in_body(rule_index, &[], body, chain, edges)
         }
-        Part::Kinds {
-            site,
-            cond,
-            body,
-            ..
-        } => {
-            to_opt_conds(*site as u64, cond, edges)?;
-            to_site(*site as u64, body.site, edges)?;
+        Part::Kinds { cond, body, .. } => {
             in_opt_conds(rule_index, cond, chain, edges)?;
             in_body(rule_index, &[], body, chain, edges)
         }
-        Part::Test {
-            site,
-            left,
-            right,
-            ..
-        } => {
-            to_site(*site as u64, left.site, edges)?;
-            to_opt_expr(*site as u64, right, edges)?;
+        Part::Test { left, right, .. } => {
             in_query(rule_index, left, chain, edges)?;
             in_opt_expr(rule_index, right, chain, edges)
         }
-        Part::Refer { site, name, .. } => to_rule(rule_index, *site, name.as_str(), edges),
-        Part::Call {
-            site,
-            name,
-            args,
-            ..
-        } => {
-            to_rule(rule_index, *site, name.as_str(), edges)?;
-            to_exprs(*site as u64, args, edges)?;
-            in_exprs(rule_index, args, chain, edges)
-        }
+        Part::Refer { .. } => Ok(()),
+        Part::Call { args, .. } => in_exprs(rule_index, args, chain, edges),
     }
 }
 
@@ -224,21 +172,8 @@ fn in_query<'f>(
     ensures { IfOk result (λ _. edges.new.items ≡ edges.old.items ++ edges_of_query (rules_of rule_index.now) rule_index.now.count (visible_in chain.now) (see_query query.entry.now)) }
 {
     to_last(query.site, &query.steps, edges)?;
-    in_steps(rule_index, &query.steps, chain, edges)
-}
-
-/// Adds the edges of the steps of a query.
-#[cycle(edges)]
-fn in_steps<'f>(
-    rule_index: &RuleIndex<'f>,
-    steps: &'f [Step],
-    chain: &ScopeChain<'f, '_>,
-    edges: &mut Vec<Edge>,
-) -> Result<(), AllocError>
-    ensures { IfOk result (λ _. edges.new.items ≡ edges.old.items ++ edges_of_steps (rules_of rule_index.now) rule_index.now.count (visible_in chain.now) None (step_list (map see_step steps.entry.now))) }
-{
     let mut before = None;
-    for step in steps {
+    for step in &query.steps {
         to_before(rule_index, step.site, before, edges)?;
         in_step(rule_index, step, chain, edges)?;
         before = Some(step.site);
@@ -366,7 +301,7 @@ fn in_rule<'f>(
 }
 
 /// Adds the edges of rules.
-pub(crate) fn in_rules<'f>(
+fn in_rules<'f>(
     rule_index: &RuleIndex<'f>,
     rules: &'f [Rule],
     chain: &ScopeChain<'f, '_>,
@@ -378,4 +313,18 @@ pub(crate) fn in_rules<'f>(
         in_rule(rule_index, rule, chain, edges)?;
     }
     Ok(())
+}
+
+/// Adds the edges of what stands in a file.
+pub(crate) fn in_file<'f>(
+    rule_index: &RuleIndex<'f>,
+    file: &'f RawFile,
+    chain: &ScopeChain<'f, '_>,
+    edges: &mut Vec<Edge>,
+) -> Result<(), AllocError>
+    ensures { IfOk result (λ _. edges.new.items ≡ edges.old.items ++ items_edges (rules_of rule_index.now) rule_index.now.count (visible_in chain.now) (see_file file.entry.now)) }
+{
+    in_lets(rule_index, &file.lets, chain, edges)?;
+    in_rules(rule_index, &file.rules, chain, edges)?;
+    in_disjs(rule_index, &file.loose, chain, edges)
 }
