@@ -1,9 +1,9 @@
 //! Names that are given twice. Each scope's names are taken in order of place, and the first fault so far goes along.
 ghost use Rattle.std.specs.Prelude.{◌≡◌, ◌++◌, IfOk, [], ◌∷◌, map};
-ghost use Rattle.guard_syntax.specs.code.Seen.{see_file, see_let, see_rule, see_body, see_conds, see_opt_conds, see_disj, see_part, see_query, see_step, see_expr, see_opt_expr, let_list, disj_list, part_list, step_list, expr_list};
+ghost use Rattle.guard_syntax.specs.code.Seen.{see_file, see_let, see_rule, see_body, see_conds, see_opt_conds, see_disj, see_part, see_query, see_step, see_expr, see_opt_expr, let_list, disj_list, part_list, expr_list};
 ghost use Rattle.rule_names.specs.Duplicates.{duplicates, duplicate_names, duplicated, fault_of, given_again, rule_names};
 ghost use Rattle.rule_names.specs.Faults.{first_of, first_from};
-ghost use Rattle.rule_names.specs.Scopes.{given_conds, names_of, scopes_lets, scopes_body, scopes_conds, scopes_opt_conds, scopes_disjs, scopes_parts, scopes_part, scopes_query, scopes_steps, scopes_step, scopes_expr, scopes_opt_expr, scopes_exprs, scopes_rules};
+ghost use Rattle.rule_names.specs.Scopes.{given_conds, names_of, scopes_lets, scopes_body, scopes_conds, scopes_opt_conds, scopes_disjs, scopes_parts, scopes_part, scopes_query, scopes_step, scopes_expr, scopes_opt_expr, scopes_exprs, scopes_rules};
 ghost use Rattle.name_scopes.specs.code.Seen.{see_best, see_given, see_names};
 
 use guard_syntax::{
@@ -73,20 +73,8 @@ fn in_query<'f>(
 ) -> Result<Option<Wrong<'f>>, AllocError>
     ensures { IfOk result (λ found. see_best found ≡ first_from (see_best best.entry) (duplicated (scopes_query (see_query query.entry.now)))) }
 {
-    in_steps(alloc, &query.steps, best)
-}
-
-/// The first duplicate in steps.
-#[cycle(scopes)]
-fn in_steps<'f>(
-    alloc: Global,
-    steps: &'f [Step],
-    best: Option<Wrong<'f>>,
-) -> Result<Option<Wrong<'f>>, AllocError>
-    ensures { IfOk result (λ found. see_best found ≡ first_from (see_best best.entry) (duplicated (scopes_steps (step_list (map see_step steps.entry.now))))) }
-{
     let mut best = best;
-    for step in steps {
+    for step in &query.steps {
         best = in_step(alloc, step, best)?;
     }
     Ok(best)
@@ -124,7 +112,7 @@ fn in_filter<'f>(
     ensures { IfOk result (λ found. see_best found ≡ first_from (see_best best.entry) (duplicated (names_of (given_conds (see_conds conds.entry.now)) ∷ scopes_conds (see_conds conds.entry.now)))) }
 {
     let best = in_scope(alloc, &filter_names(alloc, conds)?, best)?;
-    in_conds(alloc, conds, best)
+    in_disjs(alloc, &conds.parts, best)
 }
 
 /// The first duplicate in an expression.
@@ -176,18 +164,6 @@ fn in_lets<'f>(
     Ok(best)
 }
 
-/// The first duplicate in conditions, without their own names.
-#[cycle(scopes)]
-fn in_conds<'f>(
-    alloc: Global,
-    conds: &'f Conds,
-    best: Option<Wrong<'f>>,
-) -> Result<Option<Wrong<'f>>, AllocError>
-    ensures { IfOk result (λ found. see_best found ≡ first_from (see_best best.entry) (duplicated (scopes_conds (see_conds conds.entry.now)))) }
-{
-    in_disjs(alloc, &conds.parts, best)
-}
-
 /// The first duplicate in disjunctions.
 #[cycle(scopes)]
 fn in_disjs<'f>(
@@ -235,7 +211,7 @@ fn in_part<'f>(
             in_body(alloc, &[], body, best)
         }
         Part::When { cond, body, .. } => {
-            let best = in_conds(alloc, cond, best)?;
+            let best = in_disjs(alloc, &cond.parts, best)?;
             in_body(alloc, &[], body, best)
         }
         Part::Kinds { cond, body, .. } => {
@@ -291,7 +267,7 @@ fn in_some_conds<'f>(
     ensures { IfOk result (λ found. see_best found ≡ first_from (see_best best.entry) (duplicated (scopes_opt_conds (see_opt_conds conds.entry.now)))) }
 {
     match conds {
-        Some(conds) => in_conds(alloc, conds, best),
+        Some(conds) => in_disjs(alloc, &conds.parts, best),
         None => Ok(best),
     }
 }

@@ -6,7 +6,7 @@ ghost use Rattle.rule_names.specs.Faults.{first_of, first_from};
 ghost use Rattle.name_faults.specs.code.Filters.{wrong_filter};
 ghost use Rattle.rule_names.specs.Scopes.{given_file};
 ghost use Rattle.name_scopes.specs.code.Seen.{see_best, see_given};
-ghost use Rattle.rule_names.specs.Uses.{wrong_uses, wrong_rules, wrong_rule, wrong_body, wrong_lets, wrong_conds, wrong_opt_conds, wrong_disjs, wrong_parts, wrong_part, wrong_query, wrong_step, wrong_expr, wrong_opt_expr, wrong_exprs};
+ghost use Rattle.rule_names.specs.Uses.{wrong_uses, wrong_rules, wrong_body, wrong_lets, wrong_conds, wrong_opt_conds, wrong_disjs, wrong_parts, wrong_part, wrong_query, wrong_step, wrong_expr, wrong_opt_expr, wrong_exprs};
 ghost use Rattle.name_scopes.specs.code.ScopeChains.{visible_in};
 ghost use Rattle.name_faults.specs.code.RuleArities.{rules_of, places_of};
 
@@ -264,22 +264,10 @@ fn in_rules<'f>(
     ensures { IfOk result (λ found. see_best found ≡ first_from (see_best best.entry) (wrong_rules (rules_of walk.now) (places_of walk.now) (visible_in scope.now) (map see_rule rules.entry.now))) }
 {
     for rule in rules {
-        best = in_rule(walk, rule, scope, best)?;
+        best = in_opt_conds(walk, &rule.cond, scope, best)?;
+        best = in_body(walk, &rule.body, rule.params.as_slice(), scope, best)?;
     }
     Ok(best)
-}
-
-/// The first of the faults until now and those in a rule.
-fn in_rule<'f>(
-    walk: &Walk<'f>,
-    rule: &'f Rule,
-    scope: &ScopeChain<'f, '_>,
-    best: Option<Wrong<'f>>,
-) -> Result<Option<Wrong<'f>>, AllocError>
-    ensures { IfOk result (λ found. see_best found ≡ first_from (see_best best.entry) (wrong_rule (rules_of walk.now) (places_of walk.now) (visible_in scope.now) (see_rule rule.entry.now))) }
-{
-    let best = in_opt_conds(walk, &rule.cond, scope, best)?;
-    in_body(walk, &rule.body, rule.params.as_slice(), scope, best)
 }
 
 /// The first fault of a name that is used.

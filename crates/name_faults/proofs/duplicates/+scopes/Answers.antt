@@ -52,7 +52,8 @@ in_filter-returns t c =
     let names = names_of (given_conds conds) in
     let best = see_best c.args.best in
     let own = own-scope best (see_best c.in_ok-best.best) c.deref.result.now c.in_ok-filter_names.field-0.items (given_conds conds) c.deref.ensures.value c.in_ok-filter_names.ensures c.in_ok-best.ensures in
-    last-then c.in_conds.result best (see_best c.in_ok-best.best) (names ∷ []) (scopes_conds conds) (names ∷ scopes_conds conds) refl own c.in_conds.ensures
+    last-then c.in_disjs.result best (see_best c.in_ok-best.best) (names ∷ []) (scopes_disjs (disj_list (map see_disj c.deref-2.result.now))) (names ∷ scopes_conds conds)
+    (ap (λ (l : List (List Named)). names ∷ l) (sym (of-conds (λ (y : sx.Conds). scopes_conds y) c.args.conds.now c.deref-2.result.now c.deref-2.ensures.value))) own c.in_disjs.ensures
 
 pub in_lets-loop-given-preserved : goal.in_lets-loop-given-preserved
 in_lets-loop-given-preserved t c =
@@ -69,7 +70,8 @@ in_part-returns-in_ok-best-in-Block t c =
 pub in_part-returns-in_ok-best-in-When : goal.in_part-returns-in_ok-best-in-When
 in_part-returns-in_ok-best-in-When t c =
     last-then c.in_body-in-When.result (see_best c.args.best) (see_best c.in_ok-best-in-When.best) (scopes_conds (see_conds c.in-When.cond)) (scopes_body [] (see_body c.in-When.body)) (scopes_part (see_part c.args.part.now))
-    (when-scopes c.args.part.now c.in-When.site c.in-When.cond c.in-When.body c.in-When.is) c.in_ok-best-in-When.ensures c.in_body-in-When.ensures
+    (when-scopes c.args.part.now c.in-When.site c.in-When.cond c.in-When.body c.in-When.is)
+    (c.in_ok-best-in-When.ensures ∙ of-conds (λ (y : sx.Conds). first_from (see_best c.args.best) (duplicated (scopes_conds y))) c.in-When.cond c.deref.result.now c.deref.ensures.value) c.in_body-in-When.ensures
 
 pub in_part-returns-in_ok-best-in-Kinds : goal.in_part-returns-in_ok-best-in-Kinds
 in_part-returns-in_ok-best-in-Kinds t c =
@@ -87,17 +89,11 @@ in_parts-loop-part-preserved t c =
     c.args.parts.now c.loop-part.part-index c.part-item.result (see_best c.loop-part.best) (see_best c.in_ok-best.best) _ c.loop-part-test.true c.part-item.is
     c.in_ok-best.ensures c.loop-part.invariant
 
-pub in_steps-loop-step-preserved : goal.in_steps-loop-step-preserved
-in_steps-loop-step-preserved t c =
+pub in_query-loop-step-preserved : goal.in_query-loop-step-preserved
+in_query-loop-step-preserved t c =
     more-parts (λ (xs : List Step). scopes_steps (step_list (map see_step xs))) (λ (x : Step). scopes_step (see_step x)) (λ x xs. refl)
-    c.args.steps.now c.loop-step.step-index c.step-item.result (see_best c.loop-step.best) (see_best c.in_ok-best.best) _ c.loop-step-test.true c.step-item.is
+    c.deref-step-items.result.now c.loop-step.step-index c.step-item.result (see_best c.loop-step.best) (see_best c.in_ok-best.best) _ c.loop-step-test.true c.step-item.is
     c.in_ok-best.ensures c.loop-step.invariant
-
-pub in_conds-returns : goal.in_conds-returns
-in_conds-returns t c = IfOk-weaker c.in_disjs.result _ _ (λ found e. e ∙ of-conds (λ (y : sx.Conds). first_from (see_best c.args.best) (duplicated (scopes_conds y))) c.args.conds.now c.deref.result.now c.deref.ensures.value) c.in_disjs.ensures
-
-pub in_query-returns : goal.in_query-returns
-in_query-returns t c = IfOk-weaker c.in_steps.result _ _ (λ found e. e ∙ of-query (λ (y : sx.Query). first_from (see_best c.args.best) (duplicated (scopes_query y))) c.args.query.now c.deref.result.now c.deref.ensures.value) c.in_steps.ensures
 
 pub in_expr-returns-in-Function : goal.in_expr-returns-in-Function
 in_expr-returns-in-Function t c = IfOk-weaker c.in_exprs.result _ _ (λ found e. e ∙ of-function (λ (y : sx.Expr). first_from (see_best c.args.best) (duplicated (scopes_expr y))) c.args.expr.now c.in-Function.site c.in-Function.name c.in-Function.args c.deref.result.now c.in-Function.is c.deref.ensures.value) c.in_exprs.ensures
@@ -112,7 +108,7 @@ pub in_part-returns-in-Refer : goal.in_part-returns-in-Refer
 in_part-returns-in-Refer t c = of-refer (λ (y : sx.Part). first_from (see_best c.args.best) (duplicated (scopes_part y))) c.args.part.now c.in-Refer.site c.in-Refer.not c.in-Refer.name c.in-Refer.note c.in-Refer.is
 
 pub in_part-returns-in-Call : goal.in_part-returns-in-Call
-in_part-returns-in-Call t c = IfOk-weaker c.in_exprs.result _ _ (λ found e. e ∙ of-call (λ (y : sx.Part). first_from (see_best c.args.best) (duplicated (scopes_part y))) c.args.part.now c.in-Call.site c.in-Call.not c.in-Call.name c.in-Call.args c.in-Call.note c.deref.result.now c.in-Call.is c.deref.ensures.value) c.in_exprs.ensures
+in_part-returns-in-Call t c = IfOk-weaker c.in_exprs.result _ _ (λ found e. e ∙ of-call (λ (y : sx.Part). first_from (see_best c.args.best) (duplicated (scopes_part y))) c.args.part.now c.in-Call.site c.in-Call.not c.in-Call.name c.in-Call.args c.in-Call.note c.deref-in-Call.result.now c.in-Call.is c.deref-in-Call.ensures.value) c.in_exprs.ensures
 
 pub in_side-returns-in-Some : goal.in_side-returns-in-Some
 in_side-returns-in-Some t c = IfOk-weaker c.in_expr.result _ _ (λ found e. e ∙ of-some-expr (λ (y : sx.OptExpr). first_from (see_best c.args.best) (duplicated (scopes_opt_expr y))) c.args.side.now (Some c.in-Some.expr) c.in-Some.is) c.in_expr.ensures
@@ -121,13 +117,13 @@ pub in_side-returns-in-None : goal.in_side-returns-in-None
 in_side-returns-in-None t c = of-some-expr (λ (y : sx.OptExpr). first_from (see_best c.args.best) (duplicated (scopes_opt_expr y))) c.args.side.now None c.in-None.is
 
 pub in_some_conds-returns-in-Some : goal.in_some_conds-returns-in-Some
-in_some_conds-returns-in-Some t c = IfOk-weaker c.in_conds.result _ _ (λ found e. e ∙ of-some-conds (λ (y : sx.OptConds). first_from (see_best c.args.best) (duplicated (scopes_opt_conds y))) c.args.conds.now (Some c.in-Some.conds) c.in-Some.is) c.in_conds.ensures
+in_some_conds-returns-in-Some t c = IfOk-weaker c.in_disjs.result _ _ (λ found e. e ∙ of-conds (λ (y : sx.Conds). first_from (see_best c.args.best) (duplicated (scopes_opt_conds (sx.with_conds y)))) c.in-Some.conds c.deref.result.now c.deref.ensures.value ∙ of-some-conds (λ (y : sx.OptConds). first_from (see_best c.args.best) (duplicated (scopes_opt_conds y))) c.args.conds.now (Some c.in-Some.conds) c.in-Some.is) c.in_disjs.ensures
 
 pub in_some_conds-returns-in-None : goal.in_some_conds-returns-in-None
 in_some_conds-returns-in-None t c = of-some-conds (λ (y : sx.OptConds). first_from (see_best c.args.best) (duplicated (scopes_opt_conds y))) c.args.conds.now None c.in-None.is
 
-pub in_steps-returns : goal.in_steps-returns
-in_steps-returns t c = ap (λ (xs : List Step). first_from (see_best c.loop-step.best) (duplicated (scopes_steps (step_list (map see_step xs))))) (sym (drop_all c.loop-step.step-index c.args.steps.now c.loop-step-test.false)) ∙ c.loop-step.invariant
+pub in_query-returns : goal.in_query-returns
+in_query-returns t c = ap (λ (xs : List Step). first_from (see_best c.loop-step.best) (duplicated (scopes_steps (step_list (map see_step xs))))) (sym (drop_all c.loop-step.step-index c.deref-step-items.result.now c.loop-step-test.false)) ∙ c.loop-step.invariant
 
 pub in_exprs-returns : goal.in_exprs-returns
 in_exprs-returns t c = ap (λ (xs : List Expr). first_from (see_best c.loop-expr.best) (duplicated (scopes_exprs (expr_list (map see_expr xs))))) (sym (drop_all c.loop-expr.expr-index c.args.exprs.now c.loop-expr-test.false)) ∙ c.loop-expr.invariant
@@ -149,3 +145,6 @@ in_step-returns-in-Keys t c = IfOk-weaker c.in_expr.result _ _ (λ found e. e �
 
 pub in_expr-returns-in-Literal : goal.in_expr-returns-in-Literal
 in_expr-returns-in-Literal t c = of-literal (λ (y : sx.Expr). first_from (see_best c.args.best) (duplicated (scopes_expr y))) c.args.expr.now (expr.Literal c.in-Literal.site c.in-Literal.tree) c.in-Literal.site c.in-Literal.tree c.in-Literal.is (search (rules, the_lemmas))
+
+pub in_query-loop-step-init : goal.in_query-loop-step-init
+in_query-loop-step-init t c = of-query (λ (y : sx.Query). first_from (see_best c.args.best) (duplicated (scopes_query y))) c.args.query.now c.deref-step-items.result.now c.deref-step-items.ensures.value
