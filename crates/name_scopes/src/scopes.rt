@@ -1,13 +1,11 @@
 //! The names that scopes have, and what gives them: the file, each body and each filter is a scope. Lets and parts of a body are gathered
 //! apart, since the syntax keeps them apart, and merged by place.
 ghost use Rattle.std.specs.Prelude.{◌≡◌, ◌++◌, IfOk, map};
-ghost use Rattle.guard_syntax.specs.code.Seen.{see_file, see_let, see_rule, see_body, see_conds, see_opt_conds, see_disj, see_part, see_query, see_step, see_expr, see_opt_expr, let_list, disj_list, part_list, step_list, expr_list};
-ghost use Rattle.rule_names.specs.Scopes.{given_file, given_body, given_params, given_lets, given_conds, given_opt_conds, given_disjs, given_parts, given_part, given_query, given_steps, given_step, given_expr, given_opt_expr, given_exprs, given_rules, capture_if, by_place};
+ghost use Rattle.guard_syntax.specs.code.Seen.{see_file, see_let, see_rule, see_body, see_conds, see_opt_conds, see_disj, see_part, see_step, see_expr, see_opt_expr, let_list, disj_list, part_list, step_list, expr_list};
+ghost use Rattle.rule_names.specs.Scopes.{given_file, given_body, given_params, given_lets, given_conds, given_opt_conds, given_disjs, given_parts, given_part, given_steps, given_step, given_expr, given_opt_expr, given_exprs, given_rules, capture_if, by_place};
 ghost use Rattle.name_scopes.specs.code.Seen.{see_given};
 
-use guard_syntax::{
-    Body, Conds, Disj, Expr, Let, Name, Part, Query, RawFile, Rule, Step, StepForm,
-};
+use guard_syntax::{Body, Conds, Disj, Expr, Let, Name, Part, RawFile, Rule, Step, StepForm};
 use rule_names::Binder;
 use std::alloc::{AllocError, Global};
 
@@ -36,14 +34,6 @@ fn gather_capture<'f>(
         }
         None => Ok(()),
     }
-}
-
-/// Adds the names that a query gives.
-#[cycle(asked)]
-fn gather_query<'f>(query: &'f Query, names: &mut Vec<Given<'f>>) -> Result<(), AllocError>
-    ensures { IfOk result (λ _. see_given names.new.items ≡ see_given names.old.items ++ given_query (see_query query.entry.now)) }
-{
-    gather_steps(&query.steps, names)
 }
 
 /// Adds the names that steps give.
@@ -86,8 +76,8 @@ fn gather_expr<'f>(expr: &'f Expr, names: &mut Vec<Given<'f>>) -> Result<(), All
     match expr {
         Expr::Literal { .. } => Ok(()),
         Expr::Function { args, .. } => gather_exprs(args, names),
-        Expr::Query(query) => gather_query(query, names),
-        Expr::Found { query, .. } => gather_query(query, names),
+        Expr::Query(query) => gather_steps(&query.steps, names),
+        Expr::Found { query, .. } => gather_steps(&query.steps, names),
     }
 }
 
@@ -126,14 +116,6 @@ fn gather_lets<'f>(lets: &'f [Let], names: &mut Vec<Given<'f>>) -> Result<(), Al
     Ok(())
 }
 
-/// Adds the names that conditions give.
-#[cycle(joined)]
-fn gather_conds<'f>(conds: &'f Conds, names: &mut Vec<Given<'f>>) -> Result<(), AllocError>
-    ensures { IfOk result (λ _. see_given names.new.items ≡ see_given names.old.items ++ given_conds (see_conds conds.entry.now)) }
-{
-    gather_disjs(&conds.parts, names)
-}
-
 /// Adds the names that conditions give, if there are any.
 #[cycle(joined)]
 fn gather_some_conds<'f>(
@@ -143,7 +125,7 @@ fn gather_some_conds<'f>(
     ensures { IfOk result (λ _. see_given names.new.items ≡ see_given names.old.items ++ given_opt_conds (see_opt_conds conds.entry.now)) }
 {
     match conds {
-        Some(conds) => gather_conds(conds, names),
+        Some(conds) => gather_disjs(&conds.parts, names),
         None => Ok(()),
     }
 }
@@ -176,11 +158,11 @@ fn gather_part<'f>(part: &'f Part, names: &mut Vec<Given<'f>>) -> Result<(), All
     ensures { IfOk result (λ _. see_given names.new.items ≡ see_given names.old.items ++ given_part (see_part part.entry.now)) }
 {
     match part {
-        Part::Block { head, .. } => gather_query(head, names),
-        Part::When { cond, .. } => gather_conds(cond, names),
+        Part::Block { head, .. } => gather_steps(&head.steps, names),
+        Part::When { cond, .. } => gather_disjs(&cond.parts, names),
         Part::Kinds { cond, .. } => gather_some_conds(cond, names),
         Part::Test { left, right, .. } => {
-            gather_query(left, names)?;
+            gather_steps(&left.steps, names)?;
             gather_side(right, names)
         }
         Part::Refer { .. } => Ok(()),
@@ -258,7 +240,7 @@ pub fn filter_names<'f>(alloc: Global, conds: &'f Conds) -> Result<Vec<Given<'f>
     ensures { IfOk result (λ names. see_given names.items ≡ given_conds (see_conds conds.entry.now)) }
 {
     let mut names: Vec<Given<'f>> = Vec::new(alloc);
-    gather_conds(conds, &mut names)?;
+    gather_disjs(&conds.parts, &mut names)?;
     Ok(names)
 }
 

@@ -10,10 +10,6 @@ use Rattle.name_scopes.specs.code.Seen.{see_given}
 use Rattle.name_scopes.proofs.GivenInTurn.{next, end, of_steps, of_exprs, query-given, expr-given, function-given, asked-given, found-given, form-given, keys-given}
 use Rattle.name_scopes.proofs.scopes.+asked.Goals as goal
 
-pub gather_query-returns : goal.gather_query-returns
-gather_query-returns t c =
-    IfOk-weaker c.gather_steps.result _ _ (λ _ e. e ∙ ap (λ (l : List Given). see_given c.args.names.now.items ++ l) (query-given c.args.query.now c.deref.result.now c.deref.ensures.value)) c.gather_steps.ensures
-
 pub gather_steps-loop-step-preserved : goal.gather_steps-loop-step-preserved
 gather_steps-loop-step-preserved t c =
     next of_steps (λ y. given_step (see_step y)) (λ y ys. refl) c.args.steps.now c.loop-step.step-index c.step-item.result _ (see_given c.loop-step.names.items) (see_given c.gather_step.new.names.items)
@@ -42,11 +38,11 @@ gather_expr-returns-in-Function t c =
 
 pub gather_expr-returns-in-Query : goal.gather_expr-returns-in-Query
 gather_expr-returns-in-Query t c =
-    IfOk-weaker c.gather_query.result _ _ (λ _ e. e ∙ ap (λ (l : List Given). see_given c.args.names.now.items ++ l) (asked-given c.args.expr.now c.in-Query.query c.in-Query.is)) c.gather_query.ensures
+    IfOk-weaker c.gather_steps.result _ _ (λ _ e. e ∙ ap (λ (l : List Given). see_given c.args.names.now.items ++ l) (query-given c.in-Query.query c.deref-in-Query.result.now c.deref-in-Query.ensures.value ∙ asked-given c.args.expr.now c.in-Query.query c.in-Query.is)) c.gather_steps.ensures
 
 pub gather_expr-returns-in-Found : goal.gather_expr-returns-in-Found
 gather_expr-returns-in-Found t c =
-    IfOk-weaker c.gather_query-in-Found.result _ _ (λ _ e. e ∙ ap (λ (l : List Given). see_given c.args.names.now.items ++ l) (found-given c.args.expr.now c.in-Found.site c.in-Found.query c.in-Found.is)) c.gather_query-in-Found.ensures
+    IfOk-weaker c.gather_steps-in-Found.result _ _ (λ _ e. e ∙ ap (λ (l : List Given). see_given c.args.names.now.items ++ l) (query-given c.in-Found.query c.deref-in-Found.result.now c.deref-in-Found.ensures.value ∙ found-given c.args.expr.now c.in-Found.site c.in-Found.query c.in-Found.is)) c.gather_steps-in-Found.ensures
 
 pub gather_step-returns-in-Filter : goal.gather_step-returns-in-Filter
 gather_step-returns-in-Filter t c =
