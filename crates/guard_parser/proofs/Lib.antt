@@ -16,6 +16,8 @@ pub mod Opened
 pub mod Turns
 pub mod Count
 pub mod CodeSteps
-pub mod Filled
+pub mod BodySteps
+pub mod SeenForms
+pub mod Leads
 pub mod GoOnGrammar
 pub mod GoOnFile

@@ -2,4 +2,5 @@
 pub mod Depth
 pub mod FileReads
 pub mod GrammarReads
+pub mod Leads
 pub mod Reading

@@ -1,5 +1,8 @@
 //! What stands among each other in a file.
+ghost use Rattle.std.specs.Prelude.{◌≡◌, ◌++◌, ◌∷◌, [], IfErr, OnOk};
+
 use guard_syntax::{Disj, Let, Rule};
+use literal_parser::Halt;
 
 /// The lets, the rules and the parts of a file.
 #[derive(Drop)]
@@ -7,4 +10,15 @@ pub(crate) struct FileItems {
     pub(crate) lets: Vec<Let>,
     pub(crate) rules: Vec<Rule>,
     pub(crate) loose: Vec<Disj>,
+}
+
+/// Adds an item behind those that were found before.
+pub(crate) fn add<T: Drop>(found: &mut Vec<T>, item: T) -> Result<(), Halt>
+    ensures added { OnOk result (found.new.items ≡ found.old.items ++ (item ∷ [])) }
+    ensures refused { IfErr result (λ e. e ≡ Halt.NoMemory) }
+{
+    match found.push(item) {
+        Ok(()) => Ok(()),
+        Err(_) => Err(Halt::NoMemory),
+    }
 }

@@ -1,30 +1,20 @@
 //! The rules of the grammar that hold no other parts.
-ghost use Rattle.std.specs.Prelude.{◌≡◌, ◌≤◌, ℕ, Option, Some, None, map};
+ghost use Rattle.std.specs.Prelude.{◌≡◌, ◌≤◌};
 ghost use Rattle.guard_syntax.specs.declared.syntax.Op.{Op};
 ghost use Rattle.guard_syntax.specs.code.Seen.{see_step, see_expr};
-ghost use Rattle.literal_parser.specs.Forms.{leads, is_binary};
+ghost use Rattle.literal_parser.specs.Forms.{is_binary};
 ghost use Rattle.literal_parser.specs.code.TokenClasses.{wants};
 ghost use Rattle.literal_parser.specs.code.Reads.{Reads, itself, state_of, source};
-ghost use Rattle.guard_parser.specs.code.GrammarReads.{tree_expr_at, every_at, index_at, splice_at, key_at, name_at, behind_dot_at, dotted_at, items_at, closed_index_at, start_at, tree_at};
+ghost use Rattle.guard_parser.specs.code.GrammarReads.{tree_expr_at, dotted_at, items_at, closed_index_at, start_at};
 ghost use Rattle.guard_parser.specs.code.Reading as spec;
 
-use doc_values::Doc;
 use guard_syntax::{Expr, Name, Op, Step, StepForm, Text};
 use literal_parser::literal::literal;
 use literal_parser::{Cursor, Halt, TokenTest, Tokens};
 use std::alloc::Global;
 
-#[tactic(auto, unfolding(crate::specs::code::Reading::named_bar))]
-fn named_bar(alloc: Global, tokens: Tokens<'_>, cursor: &mut Cursor) -> Result<Option<Name>, Halt>
-    ensures { Reads itself (spec.named_bar (source tokens.entry) (state_of cursor.old) cursor.old.seen) result cursor.new }
-{
-    let name = cursor.has_name(alloc, tokens, TokenTest::Name)?;
-    cursor.takes(tokens, TokenTest::Bar)?;
-    Ok(Some(name))
-}
-
 /// A name and a bar, or nothing.
-#[tactic(auto, unfolding(crate::specs::code::Reading::capture, literal_parser::specs::code::Parser::choose, literal_parser::specs::code::Parser::choose_next))]
+#[tactic(auto, unfolding(crate::specs::code::Reading::capture, crate::specs::code::Reading::named_bar, literal_parser::specs::code::Parser::choose, literal_parser::specs::code::Parser::choose_next))]
 pub(crate) fn capture(
     alloc: Global,
     tokens: Tokens<'_>,
@@ -38,7 +28,9 @@ pub(crate) fn capture(
     if !cursor.sees_next(tokens, TokenTest::Bar) {
         return Ok(None);
     }
-    named_bar(alloc, tokens, cursor)
+    let name = cursor.has_name(alloc, tokens, TokenTest::Name)?;
+    cursor.takes(tokens, TokenTest::Bar)?;
+    Ok(Some(name))
 }
 
 /// A note, or nothing.
@@ -108,87 +100,8 @@ pub(crate) fn is_binary(op: Op) -> bool
     matches!(op, Op::Eq | Op::Lt | Op::Le | Op::Gt | Op::Ge | Op::Within)
 }
 
-/// What stands behind a name that begins a query, where blocks may stand or not.
-pub(crate) fn lead_of(full: bool) -> TokenTest
-    ensures { (n : ℕ) → wants result n ≡ leads full n }
-{
-    if full {
-        TokenTest::PartLead
-    } else {
-        TokenTest::CondLead
-    }
-}
-
-/// `.*`
-fn every(tokens: Tokens<'_>, cursor: &mut Cursor, site: u32) -> Result<Step, Halt>
-    ensures { Reads see_step (every_at tokens.entry site (state_of cursor.old) cursor.old.seen) result cursor.new }
-{
-    cursor.takes(tokens, TokenTest::Star)?;
-    Ok(Step {
-        site,
-        form: StepForm::Every,
-    })
-}
-
-fn numbered(tokens: Tokens<'_>, cursor: &mut Cursor, site: u32) -> Result<Step, Halt>
-    ensures { Reads see_step (index_at tokens.entry site (state_of cursor.old) cursor.old.seen) result cursor.new }
-{
-    let index = cursor.has_index(tokens)?;
-    Ok(Step {
-        site,
-        form: StepForm::Index(index),
-    })
-}
-
-fn spliced(alloc: Global, tokens: Tokens<'_>, cursor: &mut Cursor, site: u32) -> Result<Step, Halt>
-    ensures { Reads see_step (splice_at tokens.entry site (state_of cursor.old) cursor.old.seen) result cursor.new }
-{
-    let name = cursor.has_name(alloc, tokens, TokenTest::Var)?;
-    Ok(Step {
-        site,
-        form: StepForm::Splice(name),
-    })
-}
-
-fn keyed_by(alloc: Global, tokens: Tokens<'_>, cursor: &mut Cursor, site: u32) -> Result<Step, Halt>
-    ensures { Reads see_step (key_at tokens.entry site (state_of cursor.old) cursor.old.seen) result cursor.new }
-{
-    let name = cursor.has_text(alloc, tokens, TokenTest::Key)?;
-    Ok(Step {
-        site,
-        form: StepForm::Key(name),
-    })
-}
-
-#[tactic(auto, unfolding(literal_parser::specs::code::Parser::choose))]
-fn named(alloc: Global, tokens: Tokens<'_>, cursor: &mut Cursor, site: u32) -> Result<Step, Halt>
-    ensures { Reads see_step (name_at tokens.entry site (state_of cursor.old) cursor.old.seen) result cursor.new }
-{
-    if cursor.sees(tokens, TokenTest::Var) {
-        return spliced(alloc, tokens, cursor, site);
-    }
-    keyed_by(alloc, tokens, cursor, site)
-}
-
-#[tactic(auto, unfolding(literal_parser::specs::code::Parser::choose))]
-fn behind_dot(
-    alloc: Global,
-    tokens: Tokens<'_>,
-    cursor: &mut Cursor,
-    site: u32,
-) -> Result<Step, Halt>
-    ensures { Reads see_step (behind_dot_at tokens.entry site (state_of cursor.old) cursor.old.seen) result cursor.new }
-{
-    if cursor.sees(tokens, TokenTest::Star) {
-        return every(tokens, cursor, site);
-    }
-    if cursor.sees(tokens, TokenTest::Index) {
-        return numbered(tokens, cursor, site);
-    }
-    named(alloc, tokens, cursor, site)
-}
-
 /// A step behind a dot.
+#[tactic(auto, unfolding(crate::specs::code::Reading::dotted, literal_parser::specs::code::Parser::choose))]
 pub(crate) fn dotted(
     alloc: Global,
     tokens: Tokens<'_>,
@@ -198,7 +111,32 @@ pub(crate) fn dotted(
     ensures { Reads see_step (dotted_at tokens.entry site (state_of cursor.old) cursor.old.seen) result cursor.new }
 {
     cursor.takes(tokens, TokenTest::Dot)?;
-    behind_dot(alloc, tokens, cursor, site)
+    if cursor.sees(tokens, TokenTest::Star) {
+        cursor.takes(tokens, TokenTest::Star)?;
+        return Ok(Step {
+            site,
+            form: StepForm::Every,
+        });
+    }
+    if cursor.sees(tokens, TokenTest::Index) {
+        let index = cursor.has_index(tokens)?;
+        return Ok(Step {
+            site,
+            form: StepForm::Index(index),
+        });
+    }
+    if cursor.sees(tokens, TokenTest::Var) {
+        let name = cursor.has_name(alloc, tokens, TokenTest::Var)?;
+        return Ok(Step {
+            site,
+            form: StepForm::Splice(name),
+        });
+    }
+    let name = cursor.has_text(alloc, tokens, TokenTest::Key)?;
+    Ok(Step {
+        site,
+        form: StepForm::Key(name),
+    })
 }
 
 /// `[*]`, behind its bracket.
@@ -260,18 +198,6 @@ pub(crate) fn start_step(
     })
 }
 
-fn tree_inside(
-    alloc: Global,
-    tokens: Tokens<'_>,
-    cursor: &mut Cursor,
-    depth: usize,
-) -> Result<Doc<'static>, Halt>
-    requires room { depth ≤ 128 }
-    ensures { Reads itself (tree_at tokens.entry depth (state_of cursor.old) cursor.old.seen) result cursor.new }
-{
-    literal(alloc, tokens, cursor, depth)
-}
-
 /// A literal.
 #[tactic(auto, unfolding(crate::specs::code::Reading::tree_expr))]
 pub(crate) fn tree_expr(
@@ -284,6 +210,6 @@ pub(crate) fn tree_expr(
     ensures { Reads see_expr (tree_expr_at tokens.entry depth (state_of cursor.old) cursor.old.seen) result cursor.new }
 {
     let site = cursor.opens(tokens)?;
-    let tree = tree_inside(alloc, tokens, cursor, depth)?;
+    let tree = literal(alloc, tokens, cursor, depth)?;
     Ok(Expr::Literal { site, tree })
 }

@@ -4,9 +4,11 @@
 #![tactic(auto)]
 
 mod items;
+mod lead;
 mod leaf_rules;
 mod nest;
 mod read;
+mod read_condition;
 mod read_file;
 mod read_query;
 mod refusal;

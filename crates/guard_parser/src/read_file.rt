@@ -1,35 +1,15 @@
 //! The grammar of a file: its lets, its rules and its parts.
-ghost use Rattle.std.specs.Prelude.{◌≡◌, ◌≤◌, map};
+ghost use Rattle.std.specs.Prelude.{◌≡◌, ◌≤◌, []};
 ghost use Rattle.guard_syntax.specs.code.Seen.{see_rule};
 ghost use Rattle.literal_parser.specs.code.Reads.{Reads, state_of};
-ghost use Rattle.guard_parser.specs.code.FileReads.{see_head, see_file_items, before_names, before_items, names_at, params_at, head_at, rule_at, items_at, contents_at, whole_file_at};
+ghost use Rattle.guard_parser.specs.code.FileReads.{see_head, see_file_items, closed_names_at, params_at, head_at, rule_at, items_at, whole_file_at};
 
-use crate::items::FileItems;
-use crate::read::{body, disj, let_of, opt_conds};
+use crate::items::{FileItems, add};
+use crate::read::{body, disj, let_of};
+use crate::read_condition::opt_conds;
 use guard_syntax::{Conds, Name, Names, Rule};
 use literal_parser::{Cursor, Halt, TokenTest, Tokens};
 use std::alloc::Global;
-
-/// Names behind commas, behind those that were found before.
-#[tactic(auto, unfolding(crate::specs::code::Reading::names, literal_parser::specs::code::Parser::choose))]
-fn names(
-    alloc: Global,
-    tokens: Tokens<'_>,
-    cursor: &mut Cursor,
-    found: Vec<Name>,
-) -> Result<Vec<Name>, Halt>
-    ensures { Reads (λ v. v.items) (before_names found.items (names_at tokens.entry tokens.entry.turns (state_of cursor.old) cursor.old.seen)) result cursor.new }
-{
-    let mut found = found;
-    for _turn in 0..tokens.turns {
-        if !cursor.sees(tokens, TokenTest::Comma) {
-            return Ok(found);
-        }
-        cursor.takes(tokens, TokenTest::Comma)?;
-        found.push(cursor.has_name(alloc, tokens, TokenTest::Name)?)?;
-    }
-    Err(Halt::Dead(cursor.seen))
-}
 
 /// The parameters of a rule.
 #[tactic(auto, unfolding(crate::specs::code::Reading::params))]
@@ -38,10 +18,30 @@ fn params(alloc: Global, tokens: Tokens<'_>, cursor: &mut Cursor) -> Result<Vec<
 {
     cursor.takes(tokens, TokenTest::LParen)?;
     let mut found = Vec::new(alloc);
-    found.push(cursor.has_name(alloc, tokens, TokenTest::Name)?)?;
-    let found = names(alloc, tokens, cursor, found)?;
-    cursor.takes(tokens, TokenTest::RParen)?;
+    add_names(alloc, tokens, cursor, &mut found)?;
     Ok(found)
+}
+
+/// One name or more, up to their parenthesis.
+#[tactic(auto, unfolding(crate::specs::code::Reading::names, literal_parser::specs::code::Parser::choose))]
+fn add_names(
+    alloc: Global,
+    tokens: Tokens<'_>,
+    cursor: &mut Cursor,
+    found: &mut Vec<Name>,
+) -> Result<(), Halt>
+    requires none { found.old.items ≡ [] }
+    ensures { Reads (λ _. found.new.items) (closed_names_at tokens.entry (state_of cursor.old) cursor.old.seen) result cursor.new }
+{
+    add(found, cursor.has_name(alloc, tokens, TokenTest::Name)?)?;
+    for _turn in 0..tokens.turns {
+        if !cursor.sees(tokens, TokenTest::Comma) {
+            return cursor.takes(tokens, TokenTest::RParen);
+        }
+        cursor.takes(tokens, TokenTest::Comma)?;
+        add(found, cursor.has_name(alloc, tokens, TokenTest::Name)?)?;
+    }
+    Err(Halt::Dead(cursor.seen))
 }
 
 /// The parameters of a rule, or its conditions.
@@ -85,58 +85,38 @@ fn rule(alloc: Global, tokens: Tokens<'_>, cursor: &mut Cursor, depth: usize) ->
 
 /// The lets, the rules and the parts of a file, up to what begins none.
 #[tactic(auto, unfolding(crate::specs::code::Reading::file_items, literal_parser::specs::code::Parser::choose))]
-fn items(
+fn add_items(
     alloc: Global,
     tokens: Tokens<'_>,
     cursor: &mut Cursor,
     depth: usize,
-) -> Result<FileItems, Halt>
+    found: &mut FileItems,
+) -> Result<(), Halt>
     requires room { depth ≤ 128 }
-    ensures { Reads see_file_items (items_at tokens.entry depth tokens.entry.turns (state_of cursor.old) cursor.old.seen) result cursor.new }
+    requires no_lets { found.old.lets.items ≡ [] }
+    requires no_rules { found.old.rules.items ≡ [] }
+    requires no_parts { found.old.loose.items ≡ [] }
+    ensures { Reads (λ _. see_file_items found.new) (items_at tokens.entry depth tokens.entry.turns (state_of cursor.old) cursor.old.seen) result cursor.new }
 {
-    let mut found = FileItems {
-        lets: Vec::new(alloc),
-        rules: Vec::new(alloc),
-        loose: Vec::new(alloc),
-    };
     for _turn in 0..tokens.turns {
         if cursor.sees(tokens, TokenTest::Let) {
-            found.lets.push(let_of(alloc, tokens, cursor, depth)?)?;
+            add(&mut found.lets, let_of(alloc, tokens, cursor, depth)?)?;
             continue;
         }
         if cursor.sees(tokens, TokenTest::Rule) {
-            found.rules.push(rule(alloc, tokens, cursor, depth)?)?;
+            add(&mut found.rules, rule(alloc, tokens, cursor, depth)?)?;
             continue;
         }
         if !cursor.sees(tokens, TokenTest::Part) {
-            return Ok(found);
+            return Ok(());
         }
-        let part = match disj(alloc, tokens, cursor, depth, true) {
-            Ok(part) => part,
-            Err(halt) => return Err(halt),
-        };
-        found.loose.push(part)?;
+        add(&mut found.loose, disj(alloc, tokens, cursor, depth)?)?;
     }
     Err(Halt::Dead(cursor.seen))
 }
 
-/// The same, with the site of the file before them.
-#[tactic(auto, unfolding(crate::specs::code::Reading::contents))]
-fn contents(
-    alloc: Global,
-    tokens: Tokens<'_>,
-    cursor: &mut Cursor,
-    depth: usize,
-) -> Result<FileItems, Halt>
-    requires room { depth ≤ 128 }
-    ensures { Reads see_file_items (contents_at tokens.entry depth (state_of cursor.old) cursor.old.seen) result cursor.new }
-{
-    cursor.opens(tokens)?;
-    items(alloc, tokens, cursor, depth)
-}
-
-/// The contents of a file, and nothing behind them.
-#[tactic(auto, unfolding(crate::specs::code::Reading::whole_file, literal_parser::specs::code::Parser::choose))]
+/// The contents of a file, with its site before them and nothing behind them.
+#[tactic(auto, unfolding(crate::specs::code::Reading::whole_file, crate::specs::code::Reading::contents, literal_parser::specs::code::Parser::choose))]
 pub(crate) fn whole_file(
     alloc: Global,
     tokens: Tokens<'_>,
@@ -146,7 +126,13 @@ pub(crate) fn whole_file(
     requires room { depth ≤ 128 }
     ensures { Reads see_file_items (whole_file_at tokens.entry depth (state_of cursor.old) cursor.old.seen) result cursor.new }
 {
-    let found = contents(alloc, tokens, cursor, depth)?;
+    cursor.opens(tokens)?;
+    let mut found = FileItems {
+        lets: Vec::new(alloc),
+        rules: Vec::new(alloc),
+        loose: Vec::new(alloc),
+    };
+    add_items(alloc, tokens, cursor, depth, &mut found)?;
     if cursor.sees_end(tokens) {
         return Ok(found);
     }

@@ -1,12 +1,13 @@
 -- The readers of a file over the tokens of a text, and what they read as it is seen.
-use Rattle.std.specs.Prelude.{ℕ, List, ◌++◌, map, Option}
+use Rattle.std.specs.Prelude.{ℕ, List, ◌∷◌, ◌++◌, map, Option}
 use Rattle.guard_syntax.specs.Named.{Named}
 use Rattle.guard_syntax.specs.declared.syntax.Conds.{Conds}
 use Rattle.guard_syntax.specs.Syntax as sx
 use Rattle.guard_syntax.specs.code.Seen.{prepend, let_list, disj_list, see_let, see_disj, see_rule, see_opt_conds}
 use Rattle.literal_parser.specs.declared.token_cursor.Tokens.{Tokens}
 use Rattle.guard_parser.specs.declared.items.FileItems.{FileItems}
-use Rattle.literal_parser.specs.code.Parser.{Outcome, Parser, and_then, pure}
+use Rattle.literal_parser.specs.code.Parser.{Outcome, Parser, and_then, ◌>>=◌, ◌>>◌, pure, has, takes}
+use Rattle.literal_parser.specs.Forms.{is_name, is_rparen, named_of}
 use Rattle.guard_parser.specs.code.Reading as spec
 use Rattle.literal_parser.specs.code.Reads.{source}
 use Rattle.guard_parser.specs.code.GrammarReads.{inner}
@@ -19,10 +20,10 @@ see_file_items x = (let_list (map see_let x.lets.items), map see_rule x.rules.it
 abbrev pub see_head : List Named × Option Conds → List Named × sx.OptConds
 see_head x = (x.0, see_opt_conds x.1)
 
--- what was read before, in front of what is read
-abbrev pub before_names : List Named → Outcome (List Named) → Outcome (List Named)
-before_names front r = and_then r (λ more. pure (front ++ more))
+abbrev pub put : Named → List Named → List Named
+put name names = name ∷ names
 
+-- what was read before, in front of what is read
 abbrev pub before_items : List sx.Let → List sx.Rule → List sx.Disj → Outcome spec.FileItems → Outcome spec.FileItems
 before_items lets rules parts r = and_then r (λ x. pure (prepend sx.more_lets lets x.0, rules ++ x.1, prepend sx.more_disjs parts x.2))
 
@@ -31,6 +32,13 @@ before_items lets rules parts r = and_then r (λ x. pure (prepend sx.more_lets l
 module _ (tokens : Tokens) where
   abbrev pub names_at : ℕ → Parser (List Named)
   names_at = spec.names (source tokens) tokens.turns
+
+  -- one name or more, up to their parenthesis
+  abbrev pub closed_names : List Named → Parser (List Named)
+  closed_names names = takes (source tokens) is_rparen >> pure names
+
+  abbrev pub closed_names_at : Parser (List Named)
+  closed_names_at = has (source tokens) is_name named_of >>= (λ name. names_at tokens.turns >>= (λ more. closed_names (name ∷ more)))
 
   abbrev pub params_at : Parser (List Named)
   params_at = spec.params (source tokens) tokens.turns
@@ -44,9 +52,6 @@ module _ (tokens : Tokens) where
 
     abbrev pub items_at : ℕ → Parser spec.FileItems
     items_at = spec.file_items (source tokens) tokens.turns (inner tokens depth)
-
-    abbrev pub contents_at : Parser spec.FileItems
-    contents_at = spec.contents (source tokens) tokens.turns (inner tokens depth)
 
     abbrev pub whole_file_at : Parser spec.FileItems
     whole_file_at = spec.whole_file (source tokens) tokens.turns (inner tokens depth)

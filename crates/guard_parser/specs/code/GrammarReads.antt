@@ -1,9 +1,7 @@
 -- The rules of the grammar over the tokens of a text, and what they read as it is seen.
-use Rattle.std.specs.Prelude.{ℕ, Bool, false, List, Option, map, if◌then◌else◌}
+use Rattle.std.specs.Prelude.{ℕ, Bool, true, List, map, if◌then◌else◌}
 use Rattle.std.specs.Global.{Vec}
-use Rattle.literal_parser.specs.Forms.{is_lparen, is_constant, is_dot, is_first_key, is_index, is_key, is_keys, is_name, is_rbrace, is_rbracket, is_star, is_start, is_this, is_var, opens_range, index_of, named_of, text_of}
-use Rattle.doc_values.specs.Tree.{Forest}
-use Rattle.guard_syntax.specs.Named.{Named}
+use Rattle.literal_parser.specs.Forms.{is_lparen, is_dot, is_first_key, is_index, is_key, is_keys, is_rbrace, is_rparen, is_rbracket, is_star, is_this, is_var, index_of, named_of, text_of}
 use Rattle.guard_syntax.specs.declared.syntax.Op.{Op}
 use Rattle.guard_syntax.specs.Syntax as sx
 use Rattle.guard_syntax.specs.code.Seen.{prepend, let_list, disj_list, part_list, step_list, expr_list, see_let, see_disj, see_part, see_step, see_expr}
@@ -14,12 +12,12 @@ use Rattle.guard_syntax.specs.declared.syntax.Step.{Step}
 use Rattle.guard_syntax.specs.declared.syntax.Expr.{Expr}
 use Rattle.literal_parser.specs.declared.token_cursor.Tokens.{Tokens}
 use Rattle.literal_parser.specs.code.Reads.{source}
-use Rattle.literal_parser.specs.code.Parser.{Outcome, Parser, and_then, ◌>>=◌, ◌>>◌, pure, stop, opens, takes, has, choose, choose_pair, choose_next}
+use Rattle.literal_parser.specs.code.Parser.{Outcome, Parser, and_then, ◌>>=◌, ◌>>◌, pure, stop, opens, takes, has, choose}
 use Rattle.guard_parser.specs.code.Reading as spec
 
--- items in front of the list that is read
-abbrev pub with_front : {X L : Type 0} → (X → L → L) → List X → Outcome L → Outcome L
-with_front more front r = and_then r (λ l. pure (prepend more front l))
+-- a reader goes on with the list that is read, behind items
+abbrev pub listed : {X L A : Type 0} → (X → L → L) → (L → Parser A) → List X → Outcome L → Outcome A
+listed more next front r = and_then r (λ l. next (prepend more front l))
 
 -- ---- what vectors hold
 
@@ -35,12 +33,19 @@ see_steps ps = step_list (map see_step ps.items)
 abbrev pub see_exprs : Vec Expr → sx.Exprs
 see_exprs es = expr_list (map see_expr es.items)
 
-abbrev pub see_items : Vec Let × Vec Disj → spec.BodyItems
-see_items p = (let_list (map see_let p.0.items), disj_list (map see_disj p.1.items))
+abbrev pub see_items : Vec Let → Vec Disj → spec.BodyItems
+see_items ls ds = (let_list (map see_let ls.items), disj_list (map see_disj ds.items))
 
--- lets and parts in front of those that are read
-abbrev pub with_items : List sx.Let → List sx.Disj → Outcome spec.BodyItems → Outcome spec.BodyItems
-with_items ls ds r = and_then r (λ p. pure (prepend sx.more_lets ls p.0, prepend sx.more_disjs ds p.1))
+-- a reader goes on with the lets and parts that are read, behind others
+abbrev pub gathered : {A : Type 0} → (spec.BodyItems → Parser A) → List sx.Let → List sx.Disj → Outcome spec.BodyItems → Outcome A
+gathered next ls ds r = and_then r (λ p. next (prepend sx.more_lets ls p.0, prepend sx.more_disjs ds p.1))
+
+-- what is read of a filter on keys
+abbrev pub KeyTest : Type 0
+KeyTest = (Op × Bool) × sx.Expr
+
+abbrev pub see_key_test : (Op × Bool) × Expr → KeyTest
+see_key_test t = (t.0, see_expr t.1)
 
 -- ---- the rules of the grammar over the tokens of a text, with brackets no deeper than a number
 
@@ -49,26 +54,11 @@ inner tokens depth = spec.inners (source tokens) tokens.turns depth
 
 -- parts of the rules for steps and starts, which hold no brackets
 module _ (tokens : Tokens) where
-  abbrev pub every_at : ℕ → Parser sx.Step
-  every_at n = takes (source tokens) is_star >> pure (sx.every n)
-
-  abbrev pub index_at : ℕ → Parser sx.Step
-  index_at n = has (source tokens) is_index index_of >>= (λ i. pure (sx.index n i))
-
-  abbrev pub splice_at : ℕ → Parser sx.Step
-  splice_at n = has (source tokens) is_var named_of >>= (λ name. pure (sx.splice n name))
-
-  abbrev pub key_at : ℕ → Parser sx.Step
-  key_at n = has (source tokens) is_key text_of >>= (λ name. pure (sx.key n name))
-
-  abbrev pub name_at : ℕ → Parser sx.Step
-  name_at n = choose (source tokens) is_var (splice_at n) (key_at n)
-
-  abbrev pub behind_dot_at : ℕ → Parser sx.Step
-  behind_dot_at n = choose (source tokens) is_star (every_at n) (choose (source tokens) is_index (index_at n) (name_at n))
-
   abbrev pub dotted_at : ℕ → Parser sx.Step
-  dotted_at n = takes (source tokens) is_dot >> behind_dot_at n
+  dotted_at n = takes (source tokens) is_dot >> choose (source tokens) is_star (takes (source tokens) is_star >> pure (sx.every n))
+      (choose (source tokens) is_index (has (source tokens) is_index index_of >>= (λ i. pure (sx.index n i)))
+      (choose (source tokens) is_var (has (source tokens) is_var named_of >>= (λ name. pure (sx.splice n name)))
+      (has (source tokens) is_key text_of >>= (λ name. pure (sx.key n name)))))
 
   abbrev pub start_at : Parser sx.Step
   start_at = opens (source tokens) >>= (λ n. choose (source tokens) is_this (takes (source tokens) is_this >> pure (sx.this n))
@@ -81,27 +71,18 @@ module _ (tokens : Tokens) where
   abbrev pub closed_index_at : ℕ → Parser sx.Step
   closed_index_at n = has (source tokens) is_index index_of >>= (λ i. takes (source tokens) is_rbracket >> pure (sx.index n i))
 
-  abbrev pub body_end_at : ℕ → spec.BodyItems → Parser sx.Body
-  body_end_at n found = takes (source tokens) is_rbrace >> pure (sx.body n found.0 found.1)
-
 module _ (tokens : Tokens) (depth : ℕ) where
   abbrev pub inner_body_at : Parser sx.Body
   inner_body_at = (inner tokens depth).body
 
-  abbrev pub inner_conds_at : Parser sx.Conds
-  inner_conds_at = (inner tokens depth).conds
-
-  abbrev pub inner_expr_at : Parser sx.Expr
-  inner_expr_at = (inner tokens depth).expr
-
-  abbrev pub inner_exprs_at : Parser sx.Exprs
-  inner_exprs_at = (inner tokens depth).exprs
-
-  abbrev pub body_at : Parser sx.Body
-  body_at = spec.body_of (source tokens) tokens.turns (inner tokens depth)
-
   abbrev pub body_items_at : ℕ → Parser spec.BodyItems
   body_items_at = spec.body_items (source tokens) tokens.turns (inner tokens depth)
+
+  abbrev pub closed_body_at : spec.BodyItems → Parser spec.BodyItems
+  closed_body_at found = if spec.is_filled found.1 then takes (source tokens) is_rbrace >> pure found else stop
+
+  abbrev pub closed_items_at : Parser spec.BodyItems
+  closed_items_at = body_items_at tokens.turns >>= closed_body_at
 
   abbrev pub let_at : Parser sx.Let
   let_at = spec.let_of (source tokens) tokens.turns (inner tokens depth)
@@ -112,17 +93,26 @@ module _ (tokens : Tokens) (depth : ℕ) where
   abbrev pub full_part_at : Parser sx.Part
   full_part_at = spec.full_part (source tokens) tokens.turns (inner tokens depth)
 
-  abbrev pub part_at : Bool → Parser sx.Part
-  part_at full = if full then full_part_at else cond_part_at
+  -- parts of a body joined by `or`
+  abbrev pub disj_at : Parser sx.Disj
+  disj_at = spec.disj_of (source tokens) tokens.turns (inner tokens depth) full_part_at
 
-  abbrev pub disj_at : Bool → Parser sx.Disj
-  disj_at full = spec.disj_of (source tokens) tokens.turns (inner tokens depth) (part_at full)
+  abbrev pub ors_at : ℕ → Parser sx.Parts
+  ors_at = spec.ors (source tokens) tokens.turns (inner tokens depth) full_part_at
 
-  abbrev pub ors_at : Bool → ℕ → Parser sx.Parts
-  ors_at full = spec.ors (source tokens) tokens.turns (inner tokens depth) (part_at full)
+  -- conditions joined by `or`
+  abbrev pub alternatives_at : Parser sx.Disj
+  alternatives_at = spec.disj_of (source tokens) tokens.turns (inner tokens depth) cond_part_at
 
-  abbrev pub ors_front_at : Bool → List sx.Part → ℕ → Parser sx.Parts
-  ors_front_at full front k = λ st seen. with_front sx.more_parts front (ors_at full k st seen)
+  abbrev pub more_alternatives_at : ℕ → Parser sx.Parts
+  more_alternatives_at = spec.ors (source tokens) tokens.turns (inner tokens depth) cond_part_at
+
+  -- the lists with their first items, which there have to be; of bodies and arguments up to what closes them
+  abbrev pub some_parts_at : Parser sx.Parts
+  some_parts_at = full_part_at >>= (λ p. ors_at tokens.turns >>= (λ ps. pure (sx.more_parts p ps)))
+
+  abbrev pub some_conditions_at : Parser sx.Parts
+  some_conditions_at = cond_part_at >>= (λ p. more_alternatives_at tokens.turns >>= (λ ps. pure (sx.more_parts p ps)))
 
   abbrev pub guarded_at : ℕ → Parser sx.Part
   guarded_at = spec.guarded_part (source tokens) tokens.turns (inner tokens depth)
@@ -139,20 +129,11 @@ module _ (tokens : Tokens) (depth : ℕ) where
   abbrev pub disjs_at : ℕ → Parser sx.Disjs
   disjs_at = spec.disjs (source tokens) tokens.turns (inner tokens depth)
 
-  abbrev pub disjs_front_at : List sx.Disj → ℕ → Parser sx.Disjs
-  disjs_front_at front k = λ st seen. with_front sx.more_disjs front (disjs_at k st seen)
+  abbrev pub some_disjs_at : Parser sx.Disjs
+  some_disjs_at = alternatives_at >>= (λ d. disjs_at tokens.turns >>= (λ ds. pure (sx.more_disjs d ds)))
 
-  abbrev pub cond_at : Bool → ℕ → Parser sx.Part
-  cond_at = spec.cond_of (source tokens) tokens.turns (inner tokens depth)
-
-  abbrev pub led_by_name_at : Bool → ℕ → Parser sx.Part
-  led_by_name_at = spec.led_by_name (source tokens) tokens.turns (inner tokens depth)
-
-  abbrev pub headed_at : Bool → ℕ → Bool → Parser sx.Part
-  headed_at = spec.headed (source tokens) tokens.turns (inner tokens depth)
-
-  abbrev pub judged_at : Bool → ℕ → Bool → sx.Query → Parser sx.Part
-  judged_at = spec.judged (source tokens) tokens.turns (inner tokens depth)
+  abbrev pub headed_at : ℕ → Bool → Parser sx.Part
+  headed_at = spec.headed (source tokens) tokens.turns (inner tokens depth) true
 
   abbrev pub tested_at : ℕ → Bool → sx.Query → Parser sx.Part
   tested_at = spec.tested (source tokens) tokens.turns (inner tokens depth)
@@ -160,11 +141,12 @@ module _ (tokens : Tokens) (depth : ℕ) where
   abbrev pub right_at : Op → Parser sx.OptExpr
   right_at = spec.right (source tokens) tokens.turns (inner tokens depth)
 
-  abbrev pub ruled_at : ℕ → Bool → Parser sx.Part
-  ruled_at = spec.ruled (source tokens) tokens.turns (inner tokens depth)
-
+  -- the name of a rule that has arguments, behind its name
   abbrev pub called_at : ℕ → Bool → List ℕ → Parser sx.Part
   called_at = spec.called (source tokens) tokens.turns (inner tokens depth)
+
+  abbrev pub ruled_at : ℕ → Bool → Parser sx.Part
+  ruled_at = spec.ruled (source tokens) tokens.turns (inner tokens depth)
 
   abbrev pub query_at : Parser sx.Query
   query_at = spec.query_of (source tokens) tokens.turns (inner tokens depth)
@@ -172,61 +154,38 @@ module _ (tokens : Tokens) (depth : ℕ) where
   abbrev pub steps_at : ℕ → Parser sx.Steps
   steps_at = spec.steps (source tokens) tokens.turns (inner tokens depth)
 
-  abbrev pub steps_front_at : List sx.Step → ℕ → Parser sx.Steps
-  steps_front_at front k = λ st seen. with_front sx.more_steps front (steps_at k st seen)
-
   abbrev pub step_at : Parser sx.Step
   step_at = spec.step (source tokens) tokens.turns (inner tokens depth)
 
-  abbrev pub bracketed_at : ℕ → Parser sx.Step
-  bracketed_at = spec.bracketed (source tokens) tokens.turns (inner tokens depth)
+  abbrev pub some_steps_at : Parser sx.Steps
+  some_steps_at = spec.start_step (source tokens) tokens.turns (inner tokens depth) >>= (λ p. steps_at tokens.turns >>= (λ ps. pure (sx.more_steps p ps)))
 
-  abbrev pub keyed_at : ℕ → Option Named → Parser sx.Step
-  keyed_at = spec.keyed (source tokens) tokens.turns (inner tokens depth)
+  abbrev pub key_test_at : Parser KeyTest
+  key_test_at = takes (source tokens) is_keys >> (spec.keys_operator (source tokens) >>= (λ t. (inner tokens depth).expr >>= (λ e. takes (source tokens) is_rbracket >> pure (t, e))))
 
-  abbrev pub filtered_at : ℕ → Option Named → Parser sx.Step
-  filtered_at = spec.filtered (source tokens) tokens.turns (inner tokens depth)
+  abbrev pub filter_at : Parser sx.Conds
+  filter_at = (inner tokens depth).conds >>= (λ c. takes (source tokens) is_rbracket >> pure c)
 
   abbrev pub expr_at : Parser sx.Expr
   expr_at = spec.expr_of (source tokens) tokens.turns (inner tokens depth)
 
-  abbrev pub tree_at : Parser Forest
-  tree_at = (inner tokens depth).tree
-
   abbrev pub tree_expr_at : Parser sx.Expr
   tree_expr_at = spec.tree_expr (source tokens) tokens.turns (inner tokens depth)
-
-  abbrev pub asked_at : Parser sx.Expr
-  asked_at = spec.asked_expr (source tokens) tokens.turns (inner tokens depth)
 
   abbrev pub applied_at : Parser sx.Expr
   applied_at = spec.applied (source tokens) tokens.turns (inner tokens depth)
 
-  abbrev pub named_expr_at : Parser sx.Expr
-  named_expr_at = choose_pair (source tokens) opens_range tree_expr_at
-      (choose_next (source tokens) is_lparen applied_at (choose (source tokens) is_constant tree_expr_at asked_at))
-
-  abbrev pub exprs_at : Parser sx.Exprs
-  exprs_at = spec.exprs_of (source tokens) tokens.turns (inner tokens depth)
-
   abbrev pub more_exprs_at : ℕ → Parser sx.Exprs
   more_exprs_at = spec.more_exprs_of (source tokens) tokens.turns (inner tokens depth)
-
-  abbrev pub more_exprs_front_at : List sx.Expr → ℕ → Parser sx.Exprs
-  more_exprs_front_at front k = λ st seen. with_front sx.more_exprs front (more_exprs_at k st seen)
 
   abbrev pub value_at : Parser sx.Expr
   value_at = spec.value_of (source tokens) tokens.turns (inner tokens depth)
 
-  abbrev pub found_expr_at : Parser sx.Expr
-  found_expr_at = spec.found_expr (source tokens) tokens.turns (inner tokens depth)
+  abbrev pub closed_exprs : sx.Exprs → Parser sx.Exprs
+  closed_exprs es = takes (source tokens) is_rparen >> pure es
 
-  -- parts of the rules for conditions, steps in brackets and bodies
-  abbrev pub led_at : Bool → ℕ → Parser sx.Part
-  led_at full n = choose (source tokens) is_name (led_by_name_at full n) (choose (source tokens) is_start (headed_at full n false) stop)
+  abbrev pub closed_exprs_at : Parser sx.Exprs
+  closed_exprs_at = expr_at >>= (λ e. more_exprs_at tokens.turns >>= (λ es. closed_exprs (sx.more_exprs e es)))
 
-  abbrev pub captured_at : ℕ → Parser sx.Step
-  captured_at n = spec.capture (source tokens) >>= (λ name. choose (source tokens) is_keys (keyed_at n name) (filtered_at n name))
-
-  abbrev pub behind_bracket_at : ℕ → Parser sx.Step
-  behind_bracket_at n = choose (source tokens) is_star (items_at tokens n) (choose (source tokens) is_index (closed_index_at tokens n) (captured_at n))
+  abbrev pub arguments_at : Parser sx.Exprs
+  arguments_at = takes (source tokens) is_lparen >> ((inner tokens depth).exprs >>= closed_exprs)

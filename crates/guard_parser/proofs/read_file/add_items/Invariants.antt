@@ -2,7 +2,7 @@ use Rattle.std.proofs.Common.{◌≡◌, ◌-◌, map}
 use Rattle.guard_syntax.specs.code.Seen.{see_let, see_rule, see_disj}
 use Rattle.literal_parser.specs.code.Reads.{state_of}
 use Rattle.guard_parser.specs.code.FileReads.{before_items, items_at}
-use Rattle.guard_parser.proofs.read_file.items.Given as goal
+use Rattle.guard_parser.proofs.read_file.add_items.Given as goal
 
 abbrev pub invariant-loop-turn : goal.invariant-loop-turn
 invariant-loop-turn l =

@@ -1,0 +1,271 @@
+use Rattle.std.proofs.Common.{◌≡◌, ℕ, true, map, refl, ap, sym, ◌∙◌, ◌-◌, ◌+◌, ◌++◌, ◌≢◌, length, arith, [], ◌∷◌}
+use Rattle.std.proofs.lemmas.List.{map-append}
+use Rattle.guard_syntax.specs.Syntax as sx
+use Rattle.guard_syntax.specs.code.Seen.{see_body, see_conds, see_opt_conds, see_disj, see_let, see_part, see_query}
+use Rattle.literal_parser.specs.Forms.{begins_part, is_let, is_or, is_lbrace, is_rbrace, is_when, is_type_name, leads}
+use Rattle.literal_parser.specs.code.Parser.{One, Read, pure, and_then, opens, takes}
+use Rattle.literal_parser.specs.code.Reads.{source, state_of}
+use Rattle.guard_parser.specs.declared.lead.Lead.{Lead}
+use Rattle.guard_parser.specs.code.Leads.{lead_of, led_by}
+use Rattle.guard_parser.specs.code.Reading as spec
+use Rattle.guard_parser.specs.code.Reading.{BodyItems, ors, disj_of, full_part, body_of, body_items, guarded_part, kinds_part, headed, judged}
+use Rattle.guard_parser.specs.code.GrammarReads.{see_items, see_parts, inner_body_at, body_items_at, closed_items_at, closed_body_at, let_at, disj_at, ors_at, some_parts_at, full_part_at, guarded_at, kinds_at, headed_at, ruled_at, tested_at, conds_at, opt_conds_at, query_at}
+use Rattle.guard_parser.proofs.CodeSteps.{then_read, then_fail, saw, handed, halted, halted_by, both, closed_by, list_begun, list_more, list_ended, list_failed, list_spent, deeper}
+use Rattle.guard_parser.proofs.BodySteps.{closes, items_begun, lets_more, parts_more, items_ended, items_failed, items_spent, none_filled, some_filled}
+use Rattle.guard_parser.proofs.Leads.{condition_led}
+use Rattle.guard_parser.proofs.SeenForms.{disj-made, body-made, guarded-made, kinds-made, block-made}
+use Rattle.guard_parser.proofs.read.+bodies.Goals as goal
+
+pub add_parts-loop-turn-init : goal.add_parts-loop-turn-init
+unfolding ors
+add_parts-loop-turn-init t c =
+    list_begun sx.more_parts pure _ _ (λ (k : ℕ). ors_at c.args.tokens c.args.depth k) c.args.tokens.turns (some_parts_at c.args.tokens c.args.depth (state_of c.args.cursor.now) c.args.cursor.now.seen) (state_of c.part.new.cursor) c.part.new.cursor.seen
+    (then_read _ c.in_ok-part.ensures refl) (ap (map see_part) (c.in_ok-add.ensures.added ∙ ap (λ xs. xs ++ c.in_ok-part.field-0 ∷ []) c.requires.none))
+
+pub add_parts-loop-turn-preserved : goal.add_parts-loop-turn-preserved
+unfolding ors
+add_parts-loop-turn-preserved t c =
+    list_more sx.more_parts pure (map see_part c.loop-turn.found.items) (λ (k : ℕ). ors_at c.args.tokens c.args.depth k) c.args.tokens.turns c.loop-turn._turn (some_parts_at c.args.tokens c.args.depth (state_of c.args.cursor.now) c.args.cursor.now.seen) (state_of c.loop-turn.cursor) c.loop-turn.cursor.seen c.loop-turn.invariant _ _ (state_of c.part-in-loop-turn.new.cursor) c.part-in-loop-turn.new.cursor.seen c.loop-turn-test.true
+    (saw (source c.args.tokens) is_or _ _ (state_of c.loop-turn.cursor) c.loop-turn.cursor.seen c.sees.ensures.token c.if-not-sees.false c.sees.ensures.state c.sees.ensures.seen (then_read _ c.in_ok-takes.ensures (then_read _ c.in_ok-part-2.ensures refl)))
+    (ap (map see_part) c.in_ok-add-2.ensures.added ∙ map-append see_part c.loop-turn.found.items _)
+
+pub add_parts-returns-then-not-sees : goal.add_parts-returns-then-not-sees
+unfolding ors
+add_parts-returns-then-not-sees t c =
+    list_ended sx.more_parts pure (map see_part c.loop-turn.found.items) (λ (k : ℕ). ors_at c.args.tokens c.args.depth k) c.args.tokens.turns c.loop-turn._turn (some_parts_at c.args.tokens c.args.depth (state_of c.args.cursor.now) c.args.cursor.now.seen) (state_of c.loop-turn.cursor) c.loop-turn.cursor.seen c.loop-turn.invariant sx.no_parts (state_of c.sees.new.self) c.sees.new.self.seen c.loop-turn-test.true
+    (saw (source c.args.tokens) is_or _ _ (state_of c.loop-turn.cursor) c.loop-turn.cursor.seen c.sees.ensures.token c.if-not-sees.true c.sees.ensures.state c.sees.ensures.seen refl)
+
+pub add_parts-returns : goal.add_parts-returns
+unfolding ors
+add_parts-returns t c =
+    list_spent sx.more_parts pure (map see_part c.loop-turn.found.items) (λ (k : ℕ). ors_at c.args.tokens c.args.depth k) c.args.tokens.turns c.loop-turn._turn (some_parts_at c.args.tokens c.args.depth (state_of c.args.cursor.now) c.args.cursor.now.seen) (state_of c.loop-turn.cursor) c.loop-turn.cursor.seen c.loop-turn.invariant c.loop-turn-test.false refl
+
+pub add_parts-returns-in_err-part : goal.add_parts-returns-in_err-part
+unfolding ors
+add_parts-returns-in_err-part t c =
+    halted see_part (λ _. see_parts c.args.found.now) (full_part_at c.args.tokens c.args.depth (state_of c.args.cursor.now) c.args.cursor.now.seen)
+    _ (some_parts_at c.args.tokens c.args.depth (state_of c.args.cursor.now) c.args.cursor.now.seen) c.from_residual.result c.in_err-part.field-0.0 c.part.new.cursor c.part.new.cursor c.from_residual.ensures.1
+    (refl) c.in_err-part.ensures
+
+pub add_parts-returns-in_err-part-2 : goal.add_parts-returns-in_err-part-2
+unfolding ors
+add_parts-returns-in_err-part-2 t c =
+    halted_by see_part (λ _. see_parts c.loop-turn.found) (full_part_at c.args.tokens c.args.depth (state_of c.takes.new.self) c.takes.new.self.seen)
+    (some_parts_at c.args.tokens c.args.depth (state_of c.args.cursor.now) c.args.cursor.now.seen) c.from_residual-in_err-part-2.result c.in_err-part-2.field-0.0 c.part-in-loop-turn.new.cursor c.part-in-loop-turn.new.cursor c.from_residual-in_err-part-2.ensures.1
+    (λ k e. list_failed sx.more_parts pure (map see_part c.loop-turn.found.items) (λ (k : ℕ). ors_at c.args.tokens c.args.depth k) c.args.tokens.turns c.loop-turn._turn (some_parts_at c.args.tokens c.args.depth (state_of c.args.cursor.now) c.args.cursor.now.seen) (state_of c.loop-turn.cursor) c.loop-turn.cursor.seen c.loop-turn.invariant k c.loop-turn-test.true
+    (saw (source c.args.tokens) is_or _ _ (state_of c.loop-turn.cursor) c.loop-turn.cursor.seen c.sees.ensures.token c.if-not-sees.false c.sees.ensures.state c.sees.ensures.seen (then_read _ c.in_ok-takes.ensures (then_fail _ e)))) c.in_err-part-2.ensures
+
+pub add_parts-returns-in_err-takes : goal.add_parts-returns-in_err-takes
+unfolding ors
+add_parts-returns-in_err-takes t c =
+    halted_by (λ (x : One). x) (λ _. see_parts c.loop-turn.found) (takes (source c.args.tokens) is_or (state_of c.sees.new.self) c.sees.new.self.seen)
+    (some_parts_at c.args.tokens c.args.depth (state_of c.args.cursor.now) c.args.cursor.now.seen) c.from_residual-in_err-takes.result c.in_err-takes.field-0.0 c.takes.new.self c.takes.new.self c.from_residual-in_err-takes.ensures.1
+    (λ k e. list_failed sx.more_parts pure (map see_part c.loop-turn.found.items) (λ (k : ℕ). ors_at c.args.tokens c.args.depth k) c.args.tokens.turns c.loop-turn._turn (some_parts_at c.args.tokens c.args.depth (state_of c.args.cursor.now) c.args.cursor.now.seen) (state_of c.loop-turn.cursor) c.loop-turn.cursor.seen c.loop-turn.invariant k c.loop-turn-test.true
+    (saw (source c.args.tokens) is_or _ _ (state_of c.loop-turn.cursor) c.loop-turn.cursor.seen c.sees.ensures.token c.if-not-sees.false c.sees.ensures.state c.sees.ensures.seen (then_fail _ e))) c.in_err-takes.ensures
+
+pub disj-returns : goal.disj-returns
+unfolding disj_of
+disj-returns t c =
+    then_read _ c.in_ok-site.ensures (both (ors_at c.args.tokens c.args.depth c.args.tokens.turns) sx.more_parts (λ (xs : sx.Parts). pure (sx.disj c.in_ok-site.site xs)) (full_part_at c.args.tokens c.args.depth (state_of c.opens.new.self) c.opens.new.self.seen)) ∙ ap (λ o. and_then o (λ (xs : sx.Parts). pure (sx.disj c.in_ok-site.site xs))) c.in_ok-add_parts.ensures
+    ∙ sym (ap (λ (q : sx.Disj). Read q (state_of c.add_parts.new.cursor) c.add_parts.new.cursor.seen) (disj-made c.in_ok-site.site c.add_parts.new.found))
+
+pub disj-returns-in_err-add_parts : goal.disj-returns-in_err-add_parts
+unfolding disj_of
+disj-returns-in_err-add_parts t c =
+    halted (λ (x : One). see_parts c.add_parts.new.found) see_disj (some_parts_at c.args.tokens c.args.depth (state_of c.opens.new.self) c.opens.new.self.seen)
+    (λ (xs : sx.Parts). pure (sx.disj c.in_ok-site.site xs)) (disj_at c.args.tokens c.args.depth (state_of c.args.cursor.now) c.args.cursor.now.seen) c.from_residual-in_err-add_parts.result c.in_err-add_parts.field-0.0 c.add_parts.new.cursor c.add_parts.new.cursor c.from_residual-in_err-add_parts.ensures.1
+    (then_read _ c.in_ok-site.ensures (both (ors_at c.args.tokens c.args.depth c.args.tokens.turns) sx.more_parts (λ (xs : sx.Parts). pure (sx.disj c.in_ok-site.site xs)) (full_part_at c.args.tokens c.args.depth (state_of c.opens.new.self) c.opens.new.self.seen))) c.in_err-add_parts.ensures
+
+pub disj-returns-in_err-site : goal.disj-returns-in_err-site
+unfolding disj_of
+disj-returns-in_err-site t c =
+    halted (λ (x : ℕ). x) see_disj (opens (source c.args.tokens) (state_of c.args.cursor.now) c.args.cursor.now.seen)
+    _ (disj_at c.args.tokens c.args.depth (state_of c.args.cursor.now) c.args.cursor.now.seen) c.from_residual.result c.in_err-site.field-0.0 c.opens.new.self c.opens.new.self c.from_residual.ensures.1
+    (refl) c.in_err-site.ensures
+
+pub part-returns-in_err-site : goal.part-returns-in_err-site
+unfolding full_part
+part-returns-in_err-site t c =
+    halted (λ (x : ℕ). x) see_part (opens (source c.args.tokens) (state_of c.args.cursor.now) c.args.cursor.now.seen)
+    _ (full_part_at c.args.tokens c.args.depth (state_of c.args.cursor.now) c.args.cursor.now.seen) c.from_residual.result c.in_err-site.field-0.0 c.opens.new.self c.opens.new.self c.from_residual.ensures.1
+    (refl) c.in_err-site.ensures
+
+pub part-returns-then-sees : goal.part-returns-then-sees
+unfolding full_part
+part-returns-then-sees t c =
+    handed see_part (full_part_at c.args.tokens c.args.depth (state_of c.args.cursor.now) c.args.cursor.now.seen) (guarded_at c.args.tokens c.args.depth c.in_ok-site.site (state_of c.sees.new.self) c.sees.new.self.seen) c.guarded.result c.guarded.new.cursor
+    (then_read _ c.in_ok-site.ensures (saw (source c.args.tokens) is_when _ _ (state_of c.opens.new.self) c.opens.new.self.seen c.sees.ensures.token c.if-sees.true c.sees.ensures.state c.sees.ensures.seen refl)) c.guarded.ensures
+
+pub part-returns-then-sees-2 : goal.part-returns-then-sees-2
+unfolding full_part
+part-returns-then-sees-2 t c =
+    handed see_part (full_part_at c.args.tokens c.args.depth (state_of c.args.cursor.now) c.args.cursor.now.seen) (kinds_at c.args.tokens c.args.depth c.in_ok-site.site (state_of c.sees-2.new.self) c.sees-2.new.self.seen) c.kinds.result c.kinds.new.cursor
+    (then_read _ c.in_ok-site.ensures (saw (source c.args.tokens) is_when _ _ (state_of c.opens.new.self) c.opens.new.self.seen c.sees.ensures.token c.if-sees.false c.sees.ensures.state c.sees.ensures.seen (saw (source c.args.tokens) is_type_name _ _ (state_of c.sees.new.self) c.sees.new.self.seen c.sees-2.ensures.token c.if-sees-2.true c.sees-2.ensures.state c.sees-2.ensures.seen refl))) c.kinds.ensures
+
+pub part-returns-in_err-any : goal.part-returns-in_err-any
+unfolding full_part
+part-returns-in_err-any t c =
+    halted (λ (x : Lead). x) see_part (lead_of (source c.args.tokens) (leads true) (state_of c.sees-2.new.self) c.sees-2.new.self.seen)
+    (led_by (source c.args.tokens) c.args.tokens.turns (spec.inners (source c.args.tokens) c.args.tokens.turns c.args.depth) true c.in_ok-site.site) (full_part_at c.args.tokens c.args.depth (state_of c.args.cursor.now) c.args.cursor.now.seen) c.from_residual-in_err-any.result c.in_err-any.field-0.0 c.lead_of.new.cursor c.lead_of.new.cursor c.from_residual-in_err-any.ensures.1
+    (then_read _ c.in_ok-site.ensures (saw (source c.args.tokens) is_when _ _ (state_of c.opens.new.self) c.opens.new.self.seen c.sees.ensures.token c.if-sees.false c.sees.ensures.state c.sees.ensures.seen (saw (source c.args.tokens) is_type_name _ _ (state_of c.sees.new.self) c.sees.new.self.seen c.sees-2.ensures.token c.if-sees-2.false c.sees-2.ensures.state c.sees-2.ensures.seen (condition_led (source c.args.tokens) c.args.tokens.turns (spec.inners (source c.args.tokens) c.args.tokens.turns c.args.depth) true c.in_ok-site.site (state_of c.sees-2.new.self) c.sees-2.new.self.seen)))) c.in_err-any.ensures
+
+pub part-returns-in-Query : goal.part-returns-in-Query
+unfolding full_part
+part-returns-in-Query t c =
+    handed see_part (full_part_at c.args.tokens c.args.depth (state_of c.args.cursor.now) c.args.cursor.now.seen) (headed_at c.args.tokens c.args.depth c.in_ok-site.site c.in-Query.any (state_of c.lead_of.new.cursor) c.lead_of.new.cursor.seen) c.headed.result c.headed.new.cursor
+    (then_read _ c.in_ok-site.ensures (saw (source c.args.tokens) is_when _ _ (state_of c.opens.new.self) c.opens.new.self.seen c.sees.ensures.token c.if-sees.false c.sees.ensures.state c.sees.ensures.seen (saw (source c.args.tokens) is_type_name _ _ (state_of c.sees.new.self) c.sees.new.self.seen c.sees-2.ensures.token c.if-sees-2.false c.sees-2.ensures.state c.sees-2.ensures.seen (condition_led (source c.args.tokens) c.args.tokens.turns (spec.inners (source c.args.tokens) c.args.tokens.turns c.args.depth) true c.in_ok-site.site (state_of c.sees-2.new.self) c.sees-2.new.self.seen))) ∙ ap (λ o. and_then o (led_by (source c.args.tokens) c.args.tokens.turns (spec.inners (source c.args.tokens) c.args.tokens.turns c.args.depth) true c.in_ok-site.site)) c.in_ok-any.ensures ∙ ap (λ (l : Lead). (led_by (source c.args.tokens) c.args.tokens.turns (spec.inners (source c.args.tokens) c.args.tokens.turns c.args.depth) true c.in_ok-site.site) l (state_of c.lead_of.new.cursor) c.lead_of.new.cursor.seen) c.in-Query.is) c.headed.ensures
+
+pub part-returns-in-Rule : goal.part-returns-in-Rule
+unfolding full_part
+part-returns-in-Rule t c =
+    handed see_part (full_part_at c.args.tokens c.args.depth (state_of c.args.cursor.now) c.args.cursor.now.seen) (ruled_at c.args.tokens c.args.depth c.in_ok-site.site c.in-Rule.not (state_of c.lead_of.new.cursor) c.lead_of.new.cursor.seen) c.ruled.result c.ruled.new.cursor
+    (then_read _ c.in_ok-site.ensures (saw (source c.args.tokens) is_when _ _ (state_of c.opens.new.self) c.opens.new.self.seen c.sees.ensures.token c.if-sees.false c.sees.ensures.state c.sees.ensures.seen (saw (source c.args.tokens) is_type_name _ _ (state_of c.sees.new.self) c.sees.new.self.seen c.sees-2.ensures.token c.if-sees-2.false c.sees-2.ensures.state c.sees-2.ensures.seen (condition_led (source c.args.tokens) c.args.tokens.turns (spec.inners (source c.args.tokens) c.args.tokens.turns c.args.depth) true c.in_ok-site.site (state_of c.sees-2.new.self) c.sees-2.new.self.seen))) ∙ ap (λ o. and_then o (led_by (source c.args.tokens) c.args.tokens.turns (spec.inners (source c.args.tokens) c.args.tokens.turns c.args.depth) true c.in_ok-site.site)) c.in_ok-any.ensures ∙ ap (λ (l : Lead). (led_by (source c.args.tokens) c.args.tokens.turns (spec.inners (source c.args.tokens) c.args.tokens.turns c.args.depth) true c.in_ok-site.site) l (state_of c.lead_of.new.cursor) c.lead_of.new.cursor.seen) c.in-Rule.is) c.ruled.ensures
+
+pub body-returns-then-depth-eq0 : goal.body-returns-then-depth-eq0
+body-returns-then-depth-eq0 t c =
+    ap (λ (n : ℕ). (spec.inners (source c.args.tokens) c.args.tokens.turns n).body (state_of c.args.cursor.now) c.args.cursor.now.seen) c.if-depth-eq0.true
+
+pub body-returns-in_err-site : goal.body-returns-in_err-site
+unfolding body_of
+body-returns-in_err-site t c =
+    halted (λ (x : ℕ). x) see_body (opens (source c.args.tokens) (state_of c.args.cursor.now) c.args.cursor.now.seen)
+    _ (inner_body_at c.args.tokens c.args.depth (state_of c.args.cursor.now) c.args.cursor.now.seen) c.from_residual.result c.in_err-site.field-0.0 c.opens.new.self c.opens.new.self c.from_residual.ensures.1
+    (ap (λ (n : ℕ). (spec.inners (source c.args.tokens) c.args.tokens.turns n).body (state_of c.args.cursor.now) c.args.cursor.now.seen) (deeper c.args.depth c.if-depth-eq0.false)) c.in_err-site.ensures
+
+pub body-returns-in_err-takes : goal.body-returns-in_err-takes
+unfolding body_of
+body-returns-in_err-takes t c =
+    halted (λ (x : One). x) see_body (takes (source c.args.tokens) is_lbrace (state_of c.opens.new.self) c.opens.new.self.seen)
+    _ (inner_body_at c.args.tokens c.args.depth (state_of c.args.cursor.now) c.args.cursor.now.seen) c.from_residual-in_err-takes.result c.in_err-takes.field-0.0 c.takes.new.self c.takes.new.self c.from_residual-in_err-takes.ensures.1
+    (ap (λ (n : ℕ). (spec.inners (source c.args.tokens) c.args.tokens.turns n).body (state_of c.args.cursor.now) c.args.cursor.now.seen) (deeper c.args.depth c.if-depth-eq0.false) ∙ then_read _ c.in_ok-site.ensures refl) c.in_err-takes.ensures
+
+pub body-returns-in_err-add_items : goal.body-returns-in_err-add_items
+unfolding body_of
+body-returns-in_err-add_items t c =
+    halted (λ (x : One). see_items c.add_items.new.lets c.add_items.new.parts) see_body (closed_items_at c.args.tokens (c.args.depth - 1) (state_of c.takes.new.self) c.takes.new.self.seen)
+    (λ (p : BodyItems). pure (sx.body c.in_ok-site.site p.0 p.1)) (inner_body_at c.args.tokens c.args.depth (state_of c.args.cursor.now) c.args.cursor.now.seen) c.from_residual-in_err-add_items.result c.in_err-add_items.field-0.0 c.add_items.new.cursor c.add_items.new.cursor c.from_residual-in_err-add_items.ensures.1
+    (ap (λ (n : ℕ). (spec.inners (source c.args.tokens) c.args.tokens.turns n).body (state_of c.args.cursor.now) c.args.cursor.now.seen) (deeper c.args.depth c.if-depth-eq0.false) ∙ then_read _ c.in_ok-site.ensures (then_read _ c.in_ok-takes.ensures (closes c.args.tokens (c.args.depth - 1) c.in_ok-site.site (body_items_at c.args.tokens (c.args.depth - 1) c.args.tokens.turns (state_of c.takes.new.self) c.takes.new.self.seen)))) c.in_err-add_items.ensures
+
+pub body-returns : goal.body-returns
+unfolding body_of
+body-returns t c =
+    ap (λ (n : ℕ). (spec.inners (source c.args.tokens) c.args.tokens.turns n).body (state_of c.args.cursor.now) c.args.cursor.now.seen) (deeper c.args.depth c.if-depth-eq0.false) ∙ then_read _ c.in_ok-site.ensures (then_read _ c.in_ok-takes.ensures (closes c.args.tokens (c.args.depth - 1) c.in_ok-site.site (body_items_at c.args.tokens (c.args.depth - 1) c.args.tokens.turns (state_of c.takes.new.self) c.takes.new.self.seen))) ∙ ap (λ o. and_then o (λ (p : BodyItems). pure (sx.body c.in_ok-site.site p.0 p.1))) c.in_ok-add_items.ensures
+    ∙ sym (ap (λ (q : sx.Body). Read q (state_of c.add_items.new.cursor) c.add_items.new.cursor.seen) (body-made c.in_ok-site.site c.add_items.new.lets c.add_items.new.parts))
+
+pub add_items-loop-turn-init : goal.add_items-loop-turn-init
+unfolding body_items
+add_items-loop-turn-init t c =
+    items_begun (closed_body_at c.args.tokens c.args.depth) (map see_let c.args.lets.now.items) (map see_disj c.args.parts.now.items) (λ (k : ℕ). body_items_at c.args.tokens c.args.depth k) c.args.tokens.turns (closed_items_at c.args.tokens c.args.depth (state_of c.args.cursor.now) c.args.cursor.now.seen) (state_of c.args.cursor.now) c.args.cursor.now.seen refl (ap (map see_let) c.requires.no_lets) (ap (map see_disj) c.requires.no_parts)
+
+pub add_items-loop-turn-preserved-then-sees : goal.add_items-loop-turn-preserved-then-sees
+unfolding body_items
+add_items-loop-turn-preserved-then-sees t c =
+    lets_more (closed_body_at c.args.tokens c.args.depth) (map see_let c.loop-turn.lets.items) (map see_disj c.loop-turn.parts.items) (λ (k : ℕ). body_items_at c.args.tokens c.args.depth k) c.args.tokens.turns c.loop-turn._turn (closed_items_at c.args.tokens c.args.depth (state_of c.args.cursor.now) c.args.cursor.now.seen) (state_of c.loop-turn.cursor) c.loop-turn.cursor.seen c.loop-turn.invariant _ _ (state_of c.let_of.new.cursor) c.let_of.new.cursor.seen c.loop-turn-test.true
+    (saw (source c.args.tokens) is_let _ _ (state_of c.loop-turn.cursor) c.loop-turn.cursor.seen c.sees.ensures.token c.if-sees.true c.sees.ensures.state c.sees.ensures.seen (then_read _ c.in_ok-let_of.ensures refl))
+    (ap (map see_let) c.in_ok-add.ensures.added ∙ map-append see_let c.loop-turn.lets.items _)
+
+pub add_items-loop-turn-preserved : goal.add_items-loop-turn-preserved
+unfolding body_items
+add_items-loop-turn-preserved t c =
+    parts_more (closed_body_at c.args.tokens c.args.depth) (map see_let c.loop-turn.lets.items) (map see_disj c.loop-turn.parts.items) (λ (k : ℕ). body_items_at c.args.tokens c.args.depth k) c.args.tokens.turns c.loop-turn._turn (closed_items_at c.args.tokens c.args.depth (state_of c.args.cursor.now) c.args.cursor.now.seen) (state_of c.loop-turn.cursor) c.loop-turn.cursor.seen c.loop-turn.invariant _ _ (state_of c.disj.new.cursor) c.disj.new.cursor.seen c.loop-turn-test.true
+    (saw (source c.args.tokens) is_let _ _ (state_of c.loop-turn.cursor) c.loop-turn.cursor.seen c.sees.ensures.token c.if-sees.false c.sees.ensures.state c.sees.ensures.seen (saw (source c.args.tokens) begins_part _ _ (state_of c.sees.new.self) c.sees.new.self.seen c.sees-in-loop-turn.ensures.token c.if-not-sees.false c.sees-in-loop-turn.ensures.state c.sees-in-loop-turn.ensures.seen (then_read _ c.in_ok-disj.ensures refl)))
+    (ap (map see_disj) c.in_ok-add-2.ensures.added ∙ map-append see_disj c.loop-turn.parts.items _)
+
+pub add_items-returns-then-is_empty : goal.add_items-returns-then-is_empty
+unfolding body_items
+add_items-returns-then-is_empty t c =
+    let none : length c.loop-turn.parts.items ≡ 0 = grind (arith, c.is_empty.ensures, c.if-is_empty.true) in
+    items_ended (closed_body_at c.args.tokens c.args.depth) (map see_let c.loop-turn.lets.items) (map see_disj c.loop-turn.parts.items) (λ (k : ℕ). body_items_at c.args.tokens c.args.depth k) c.args.tokens.turns c.loop-turn._turn (closed_items_at c.args.tokens c.args.depth (state_of c.args.cursor.now) c.args.cursor.now.seen) (state_of c.loop-turn.cursor) c.loop-turn.cursor.seen c.loop-turn.invariant (state_of c.sees-in-loop-turn.new.self) c.sees-in-loop-turn.new.self.seen c.loop-turn-test.true (saw (source c.args.tokens) is_let _ _ (state_of c.loop-turn.cursor) c.loop-turn.cursor.seen c.sees.ensures.token c.if-sees.false c.sees.ensures.state c.sees.ensures.seen (saw (source c.args.tokens) begins_part _ _ (state_of c.sees.new.self) c.sees.new.self.seen c.sees-in-loop-turn.ensures.token c.if-not-sees.true c.sees-in-loop-turn.ensures.state c.sees-in-loop-turn.ensures.seen refl)) ∙ none_filled c.args.tokens c.args.depth c.loop-turn.lets.items c.loop-turn.parts.items (state_of c.sees-in-loop-turn.new.self) c.sees-in-loop-turn.new.self.seen none
+
+pub add_items-returns-then-not-sees : goal.add_items-returns-then-not-sees
+unfolding body_items
+add_items-returns-then-not-sees t c =
+    let some : length c.loop-turn.parts.items ≢ 0 = grind (arith, c.is_empty.ensures, c.if-is_empty.false) in
+    handed (λ _. see_items c.loop-turn.lets c.loop-turn.parts) (closed_items_at c.args.tokens c.args.depth (state_of c.args.cursor.now) c.args.cursor.now.seen) (and_then (takes (source c.args.tokens) is_rbrace (state_of c.sees-in-loop-turn.new.self) c.sees-in-loop-turn.new.self.seen) (λ _. pure (see_items c.loop-turn.lets c.loop-turn.parts))) c.takes.result c.takes.new.self
+    (items_ended (closed_body_at c.args.tokens c.args.depth) (map see_let c.loop-turn.lets.items) (map see_disj c.loop-turn.parts.items) (λ (k : ℕ). body_items_at c.args.tokens c.args.depth k) c.args.tokens.turns c.loop-turn._turn (closed_items_at c.args.tokens c.args.depth (state_of c.args.cursor.now) c.args.cursor.now.seen) (state_of c.loop-turn.cursor) c.loop-turn.cursor.seen c.loop-turn.invariant (state_of c.sees-in-loop-turn.new.self) c.sees-in-loop-turn.new.self.seen c.loop-turn-test.true (saw (source c.args.tokens) is_let _ _ (state_of c.loop-turn.cursor) c.loop-turn.cursor.seen c.sees.ensures.token c.if-sees.false c.sees.ensures.state c.sees.ensures.seen (saw (source c.args.tokens) begins_part _ _ (state_of c.sees.new.self) c.sees.new.self.seen c.sees-in-loop-turn.ensures.token c.if-not-sees.true c.sees-in-loop-turn.ensures.state c.sees-in-loop-turn.ensures.seen refl)) ∙ some_filled c.args.tokens c.args.depth c.loop-turn.lets.items c.loop-turn.parts.items (state_of c.sees-in-loop-turn.new.self) c.sees-in-loop-turn.new.self.seen some)
+    (closed_by (see_items c.loop-turn.lets c.loop-turn.parts) (takes (source c.args.tokens) is_rbrace (state_of c.sees-in-loop-turn.new.self) c.sees-in-loop-turn.new.self.seen) c.takes.result c.takes.new.self c.takes.ensures)
+
+pub add_items-returns : goal.add_items-returns
+unfolding body_items
+add_items-returns t c =
+    items_spent (closed_body_at c.args.tokens c.args.depth) (map see_let c.loop-turn.lets.items) (map see_disj c.loop-turn.parts.items) (λ (k : ℕ). body_items_at c.args.tokens c.args.depth k) c.args.tokens.turns c.loop-turn._turn (closed_items_at c.args.tokens c.args.depth (state_of c.args.cursor.now) c.args.cursor.now.seen) (state_of c.loop-turn.cursor) c.loop-turn.cursor.seen c.loop-turn.invariant c.loop-turn-test.false refl
+
+pub add_items-returns-in_err-let_of : goal.add_items-returns-in_err-let_of
+unfolding body_items
+add_items-returns-in_err-let_of t c =
+    halted_by see_let (λ _. see_items c.loop-turn.lets c.loop-turn.parts) (let_at c.args.tokens c.args.depth (state_of c.sees.new.self) c.sees.new.self.seen)
+    (closed_items_at c.args.tokens c.args.depth (state_of c.args.cursor.now) c.args.cursor.now.seen) c.from_residual.result c.in_err-let_of.field-0.0 c.let_of.new.cursor c.let_of.new.cursor c.from_residual.ensures.1
+    (λ k e. items_failed (closed_body_at c.args.tokens c.args.depth) (map see_let c.loop-turn.lets.items) (map see_disj c.loop-turn.parts.items) (λ (k : ℕ). body_items_at c.args.tokens c.args.depth k) c.args.tokens.turns c.loop-turn._turn (closed_items_at c.args.tokens c.args.depth (state_of c.args.cursor.now) c.args.cursor.now.seen) (state_of c.loop-turn.cursor) c.loop-turn.cursor.seen c.loop-turn.invariant k c.loop-turn-test.true (saw (source c.args.tokens) is_let _ _ (state_of c.loop-turn.cursor) c.loop-turn.cursor.seen c.sees.ensures.token c.if-sees.true c.sees.ensures.state c.sees.ensures.seen (then_fail _ e))) c.in_err-let_of.ensures
+
+pub add_items-returns-in_err-disj : goal.add_items-returns-in_err-disj
+unfolding body_items
+add_items-returns-in_err-disj t c =
+    halted_by see_disj (λ _. see_items c.loop-turn.lets c.loop-turn.parts) (disj_at c.args.tokens c.args.depth (state_of c.sees-in-loop-turn.new.self) c.sees-in-loop-turn.new.self.seen)
+    (closed_items_at c.args.tokens c.args.depth (state_of c.args.cursor.now) c.args.cursor.now.seen) c.from_residual-in_err-disj.result c.in_err-disj.field-0.0 c.disj.new.cursor c.disj.new.cursor c.from_residual-in_err-disj.ensures.1
+    (λ k e. items_failed (closed_body_at c.args.tokens c.args.depth) (map see_let c.loop-turn.lets.items) (map see_disj c.loop-turn.parts.items) (λ (k : ℕ). body_items_at c.args.tokens c.args.depth k) c.args.tokens.turns c.loop-turn._turn (closed_items_at c.args.tokens c.args.depth (state_of c.args.cursor.now) c.args.cursor.now.seen) (state_of c.loop-turn.cursor) c.loop-turn.cursor.seen c.loop-turn.invariant k c.loop-turn-test.true (saw (source c.args.tokens) is_let _ _ (state_of c.loop-turn.cursor) c.loop-turn.cursor.seen c.sees.ensures.token c.if-sees.false c.sees.ensures.state c.sees.ensures.seen (saw (source c.args.tokens) begins_part _ _ (state_of c.sees.new.self) c.sees.new.self.seen c.sees-in-loop-turn.ensures.token c.if-not-sees.false c.sees-in-loop-turn.ensures.state c.sees-in-loop-turn.ensures.seen (then_fail _ e)))) c.in_err-disj.ensures
+
+pub guarded-returns-in_err-cond : goal.guarded-returns-in_err-cond
+unfolding guarded_part
+guarded-returns-in_err-cond t c =
+    halted see_conds see_part (conds_at c.args.tokens c.args.depth (state_of c.takes.new.self) c.takes.new.self.seen)
+    _ (guarded_at c.args.tokens c.args.depth c.args.site (state_of c.args.cursor.now) c.args.cursor.now.seen) c.from_residual-in_err-cond.result c.in_err-cond.field-0.0 c.conds.new.cursor c.conds.new.cursor c.from_residual-in_err-cond.ensures.1
+    (then_read _ c.in_ok-takes.ensures refl) c.in_err-cond.ensures
+
+pub guarded-returns-in_err-body : goal.guarded-returns-in_err-body
+unfolding guarded_part
+guarded-returns-in_err-body t c =
+    halted see_body see_part (inner_body_at c.args.tokens c.args.depth (state_of c.conds.new.cursor) c.conds.new.cursor.seen)
+    _ (guarded_at c.args.tokens c.args.depth c.args.site (state_of c.args.cursor.now) c.args.cursor.now.seen) c.from_residual-in_err-body.result c.in_err-body.field-0.0 c.body.new.cursor c.body.new.cursor c.from_residual-in_err-body.ensures.1
+    (then_read _ c.in_ok-takes.ensures (then_read _ c.in_ok-cond.ensures refl)) c.in_err-body.ensures
+
+pub guarded-returns : goal.guarded-returns
+unfolding guarded_part
+guarded-returns t c =
+    then_read _ c.in_ok-takes.ensures (then_read _ c.in_ok-cond.ensures (then_read _ c.in_ok-body.ensures refl))
+    ∙ sym (ap (λ (q : sx.Part). Read q (state_of c.body.new.cursor) c.body.new.cursor.seen) (guarded-made c.args.site c.in_ok-cond.cond c.in_ok-body.body))
+
+pub kinds-returns-in_err-cond : goal.kinds-returns-in_err-cond
+unfolding kinds_part
+kinds-returns-in_err-cond t c =
+    halted see_opt_conds see_part (opt_conds_at c.args.tokens c.args.depth (state_of c.has_text.new.self) c.has_text.new.self.seen)
+    _ (kinds_at c.args.tokens c.args.depth c.args.site (state_of c.args.cursor.now) c.args.cursor.now.seen) c.from_residual-in_err-cond.result c.in_err-cond.field-0.0 c.opt_conds.new.cursor c.opt_conds.new.cursor c.from_residual-in_err-cond.ensures.1
+    (then_read _ c.in_ok-name.ensures refl) c.in_err-cond.ensures
+
+pub kinds-returns-in_err-body : goal.kinds-returns-in_err-body
+unfolding kinds_part
+kinds-returns-in_err-body t c =
+    halted see_body see_part (inner_body_at c.args.tokens c.args.depth (state_of c.opt_conds.new.cursor) c.opt_conds.new.cursor.seen)
+    _ (kinds_at c.args.tokens c.args.depth c.args.site (state_of c.args.cursor.now) c.args.cursor.now.seen) c.from_residual-in_err-body.result c.in_err-body.field-0.0 c.body.new.cursor c.body.new.cursor c.from_residual-in_err-body.ensures.1
+    (then_read _ c.in_ok-name.ensures (then_read _ c.in_ok-cond.ensures refl)) c.in_err-body.ensures
+
+pub kinds-returns : goal.kinds-returns
+unfolding kinds_part
+kinds-returns t c =
+    then_read _ c.in_ok-name.ensures (then_read _ c.in_ok-cond.ensures (then_read _ c.in_ok-body.ensures refl))
+    ∙ sym (ap (λ (q : sx.Part). Read q (state_of c.body.new.cursor) c.body.new.cursor.seen) (kinds-made c.args.site c.in_ok-name.name c.in_ok-cond.cond c.in_ok-body.body))
+
+pub headed-returns-in_err-head : goal.headed-returns-in_err-head
+unfolding headed judged
+headed-returns-in_err-head t c =
+    halted see_query see_part (query_at c.args.tokens c.args.depth (state_of c.args.cursor.now) c.args.cursor.now.seen)
+    _ (headed_at c.args.tokens c.args.depth c.args.site c.args.any (state_of c.args.cursor.now) c.args.cursor.now.seen) c.from_residual.result c.in_err-head.field-0.0 c.query.new.cursor c.query.new.cursor c.from_residual.ensures.1
+    (refl) c.in_err-head.ensures
+
+pub headed-returns-then-not-sees : goal.headed-returns-then-not-sees
+unfolding headed judged
+headed-returns-then-not-sees t c =
+    handed see_part (headed_at c.args.tokens c.args.depth c.args.site c.args.any (state_of c.args.cursor.now) c.args.cursor.now.seen) (tested_at c.args.tokens c.args.depth c.args.site c.args.any (see_query c.in_ok-head.head) (state_of c.sees.new.self) c.sees.new.self.seen) c.tested.result c.tested.new.cursor
+    (then_read _ c.in_ok-head.ensures (saw (source c.args.tokens) is_lbrace _ _ (state_of c.query.new.cursor) c.query.new.cursor.seen c.sees.ensures.token c.if-not-sees.true c.sees.ensures.state c.sees.ensures.seen refl)) c.tested.ensures
+
+pub headed-returns-in_err-body : goal.headed-returns-in_err-body
+unfolding headed judged
+headed-returns-in_err-body t c =
+    halted see_body see_part (inner_body_at c.args.tokens c.args.depth (state_of c.sees.new.self) c.sees.new.self.seen)
+    _ (headed_at c.args.tokens c.args.depth c.args.site c.args.any (state_of c.args.cursor.now) c.args.cursor.now.seen) c.from_residual-in_err-body.result c.in_err-body.field-0.0 c.body.new.cursor c.body.new.cursor c.from_residual-in_err-body.ensures.1
+    (then_read _ c.in_ok-head.ensures (saw (source c.args.tokens) is_lbrace _ _ (state_of c.query.new.cursor) c.query.new.cursor.seen c.sees.ensures.token c.if-not-sees.false c.sees.ensures.state c.sees.ensures.seen refl)) c.in_err-body.ensures
+
+pub headed-returns : goal.headed-returns
+unfolding headed judged
+headed-returns t c =
+    then_read _ c.in_ok-head.ensures (saw (source c.args.tokens) is_lbrace _ _ (state_of c.query.new.cursor) c.query.new.cursor.seen c.sees.ensures.token c.if-not-sees.false c.sees.ensures.state c.sees.ensures.seen (then_read _ c.in_ok-body.ensures refl))
+    ∙ sym (ap (λ (q : sx.Part). Read q (state_of c.body.new.cursor) c.body.new.cursor.seen) (block-made c.args.site c.args.any c.in_ok-head.head c.in_ok-body.body))

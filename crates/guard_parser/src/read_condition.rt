@@ -1,0 +1,239 @@
+//! Conditions, and the tests and the names of rules in them and in bodies. They recur through brackets alone, each time one
+//! level of depth less.
+ghost use Rattle.std.specs.Prelude.{◌≡◌, ◌≤◌, []};
+ghost use Rattle.guard_syntax.specs.code.Seen.{see_conds, see_disj, see_part, see_query, see_opt_conds, see_opt_expr};
+ghost use Rattle.literal_parser.specs.code.Reads.{Reads, state_of};
+ghost use Rattle.guard_parser.specs.code.GrammarReads.{see_disjs, see_parts, alternatives_at, called_at, cond_part_at, conds_at, some_conditions_at, some_disjs_at, opt_conds_at, right_at, ruled_at, tested_at};
+
+use crate::items::add;
+use crate::lead::{Lead, lead_of};
+use crate::leaf_rules::{is_binary, note, operator};
+use crate::read_query::{expr, exprs, query};
+use guard_syntax::{Conds, Disj, Expr, Op, Part, Query, Text};
+use literal_parser::{Cursor, Halt, TokenTest, Tokens};
+use std::alloc::Global;
+
+/// `when` and conditions, or nothing.
+#[tactic(auto, unfolding(crate::specs::code::Reading::opt_conds, literal_parser::specs::code::Parser::choose))]
+pub(crate) fn opt_conds(
+    alloc: Global,
+    tokens: Tokens<'_>,
+    cursor: &mut Cursor,
+    depth: usize,
+) -> Result<Option<Conds>, Halt>
+    requires room { depth ≤ 128 }
+    ensures { Reads see_opt_conds (opt_conds_at tokens.entry depth (state_of cursor.old) cursor.old.seen) result cursor.new }
+{
+    if !cursor.sees(tokens, TokenTest::When) {
+        return Ok(None);
+    }
+    cursor.takes(tokens, TokenTest::When)?;
+    let found = conds(alloc, tokens, cursor, depth)?;
+    Ok(Some(found))
+}
+
+/// Conditions, one behind the other.
+#[cycle(conditions)]
+#[tactic(auto, unfolding(crate::specs::code::Reading::conds_of))]
+pub(crate) fn conds(
+    alloc: Global,
+    tokens: Tokens<'_>,
+    cursor: &mut Cursor,
+    depth: usize,
+) -> Result<Conds, Halt>
+    requires room { depth ≤ 128 }
+    ensures { Reads see_conds (conds_at tokens.entry depth (state_of cursor.old) cursor.old.seen) result cursor.new }
+{
+    let site = cursor.opens(tokens)?;
+    let mut parts = Vec::new(alloc);
+    add_disjs(alloc, tokens, cursor, depth, &mut parts)?;
+    Ok(Conds { site, parts })
+}
+
+/// One line of alternatives or more.
+#[cycle(conditions)]
+#[tactic(auto, unfolding(crate::specs::code::Reading::disjs, literal_parser::specs::code::Parser::choose))]
+fn add_disjs(
+    alloc: Global,
+    tokens: Tokens<'_>,
+    cursor: &mut Cursor,
+    depth: usize,
+    found: &mut Vec<Disj>,
+) -> Result<(), Halt>
+    requires room { depth ≤ 128 }
+    requires none { found.old.items ≡ [] }
+    ensures { Reads (λ _. see_disjs found.new) (some_disjs_at tokens.entry depth (state_of cursor.old) cursor.old.seen) result cursor.new }
+{
+    add(found, alternatives(alloc, tokens, cursor, depth)?)?;
+    for _turn in 0..tokens.turns {
+        if !cursor.sees(tokens, TokenTest::Cond) {
+            return Ok(());
+        }
+        add(found, alternatives(alloc, tokens, cursor, depth)?)?;
+    }
+    Err(Halt::Dead(cursor.seen))
+}
+
+/// Conditions joined by `or`.
+#[cycle(conditions)]
+#[tactic(auto, unfolding(crate::specs::code::Reading::disj_of))]
+fn alternatives(
+    alloc: Global,
+    tokens: Tokens<'_>,
+    cursor: &mut Cursor,
+    depth: usize,
+) -> Result<Disj, Halt>
+    requires room { depth ≤ 128 }
+    ensures { Reads see_disj (alternatives_at tokens.entry depth (state_of cursor.old) cursor.old.seen) result cursor.new }
+{
+    let site = cursor.opens(tokens)?;
+    let mut parts = Vec::new(alloc);
+    add_conditions(alloc, tokens, cursor, depth, &mut parts)?;
+    Ok(Disj { site, parts })
+}
+
+#[cycle(conditions)]
+#[tactic(auto, unfolding(crate::specs::code::Reading::ors, literal_parser::specs::code::Parser::choose))]
+fn add_conditions(
+    alloc: Global,
+    tokens: Tokens<'_>,
+    cursor: &mut Cursor,
+    depth: usize,
+    found: &mut Vec<Part>,
+) -> Result<(), Halt>
+    requires room { depth ≤ 128 }
+    requires none { found.old.items ≡ [] }
+    ensures { Reads (λ _. see_parts found.new) (some_conditions_at tokens.entry depth (state_of cursor.old) cursor.old.seen) result cursor.new }
+{
+    add(found, condition(alloc, tokens, cursor, depth)?)?;
+    for _turn in 0..tokens.turns {
+        if !cursor.sees(tokens, TokenTest::Or) {
+            return Ok(());
+        }
+        cursor.takes(tokens, TokenTest::Or)?;
+        add(found, condition(alloc, tokens, cursor, depth)?)?;
+    }
+    Err(Halt::Dead(cursor.seen))
+}
+
+#[cycle(conditions)]
+#[tactic(auto, unfolding(crate::specs::code::Reading::cond_part))]
+fn condition(
+    alloc: Global,
+    tokens: Tokens<'_>,
+    cursor: &mut Cursor,
+    depth: usize,
+) -> Result<Part, Halt>
+    requires room { depth ≤ 128 }
+    ensures { Reads see_part (cond_part_at tokens.entry depth (state_of cursor.old) cursor.old.seen) result cursor.new }
+{
+    let site = cursor.opens(tokens)?;
+    match lead_of(tokens, cursor, TokenTest::CondLead)? {
+        Lead::Query { any } => {
+            let left = query(alloc, tokens, cursor, depth)?;
+            tested(alloc, tokens, cursor, depth, site, any, left)
+        }
+        Lead::Rule { not } => ruled(alloc, tokens, cursor, depth, site, not),
+    }
+}
+
+/// A test of the values of a query.
+#[cycle(conditions)]
+#[tactic(auto, unfolding(crate::specs::code::Reading::tested))]
+pub(crate) fn tested(
+    alloc: Global,
+    tokens: Tokens<'_>,
+    cursor: &mut Cursor,
+    depth: usize,
+    site: u32,
+    any: bool,
+    left: Query,
+) -> Result<Part, Halt>
+    requires room { depth ≤ 128 }
+    ensures { Reads see_part (tested_at tokens.entry depth site any (see_query left) (state_of cursor.old) cursor.old.seen) result cursor.new }
+{
+    let (op, not) = operator(tokens, cursor)?;
+    let right = right(alloc, tokens, cursor, depth, op)?;
+    let note = note(alloc, tokens, cursor)?;
+    Ok(Part::Test {
+        site,
+        any,
+        left,
+        op,
+        not,
+        right,
+        note,
+    })
+}
+
+/// What stands at the right of a test, where its operator has a right side.
+#[cycle(conditions)]
+#[tactic(auto, unfolding(crate::specs::code::Reading::right))]
+fn right(
+    alloc: Global,
+    tokens: Tokens<'_>,
+    cursor: &mut Cursor,
+    depth: usize,
+    op: Op,
+) -> Result<Option<Expr>, Halt>
+    requires room { depth ≤ 128 }
+    ensures { Reads see_opt_expr (right_at tokens.entry depth op (state_of cursor.old) cursor.old.seen) result cursor.new }
+{
+    if !is_binary(op) {
+        return Ok(None);
+    }
+    let found = expr(alloc, tokens, cursor, depth)?;
+    Ok(Some(found))
+}
+
+/// The name of a rule, with arguments or without.
+#[cycle(conditions)]
+#[tactic(auto, unfolding(crate::specs::code::Reading::ruled, crate::specs::code::Reading::referred, literal_parser::specs::code::Parser::choose))]
+pub(crate) fn ruled(
+    alloc: Global,
+    tokens: Tokens<'_>,
+    cursor: &mut Cursor,
+    depth: usize,
+    site: u32,
+    not: bool,
+) -> Result<Part, Halt>
+    requires room { depth ≤ 128 }
+    ensures { Reads see_part (ruled_at tokens.entry depth site not (state_of cursor.old) cursor.old.seen) result cursor.new }
+{
+    let name = cursor.has_text(alloc, tokens, TokenTest::Name)?;
+    if cursor.sees(tokens, TokenTest::LParen) {
+        return called(alloc, tokens, cursor, depth, site, not, name);
+    }
+    let note = note(alloc, tokens, cursor)?;
+    Ok(Part::Refer {
+        site,
+        not,
+        name,
+        note,
+    })
+}
+
+#[cycle(conditions)]
+#[tactic(auto, unfolding(crate::specs::code::Reading::called))]
+fn called(
+    alloc: Global,
+    tokens: Tokens<'_>,
+    cursor: &mut Cursor,
+    depth: usize,
+    site: u32,
+    not: bool,
+    name: Text,
+) -> Result<Part, Halt>
+    requires room { depth ≤ 128 }
+    ensures { Reads see_part (called_at tokens.entry depth site not name (state_of cursor.old) cursor.old.seen) result cursor.new }
+{
+    let args = exprs(alloc, tokens, cursor, depth)?;
+    let note = note(alloc, tokens, cursor)?;
+    Ok(Part::Call {
+        site,
+        not,
+        name,
+        args,
+        note,
+    })
+}
