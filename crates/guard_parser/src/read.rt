@@ -105,6 +105,7 @@ pub(crate) fn disj(
     Ok(Disj { site, parts })
 }
 
+/// One part or more, with `or` between them.
 #[cycle(bodies)]
 #[tactic(auto, unfolding(crate::specs::code::Reading::ors, literal_parser::specs::code::Parser::choose))]
 fn add_parts(
@@ -129,6 +130,7 @@ fn add_parts(
     Err(Halt::Dead(cursor.seen))
 }
 
+/// A part of a body.
 #[cycle(bodies)]
 #[tactic(auto, unfolding(crate::specs::code::Reading::full_part, literal_parser::specs::code::Parser::choose))]
 fn part(alloc: Global, tokens: Tokens<'_>, cursor: &mut Cursor, depth: usize) -> Result<Part, Halt>

@@ -32,7 +32,7 @@ pub(crate) fn opt_conds(
     Ok(Some(found))
 }
 
-/// Conditions, one behind the other.
+/// Conditions: all have to hold.
 #[cycle(conditions)]
 #[tactic(auto, unfolding(crate::specs::code::Reading::conds_of))]
 pub(crate) fn conds(
@@ -50,7 +50,7 @@ pub(crate) fn conds(
     Ok(Conds { site, parts })
 }
 
-/// One line of alternatives or more.
+/// Conditions joined by `or`, one time or more, one behind the other.
 #[cycle(conditions)]
 #[tactic(auto, unfolding(crate::specs::code::Reading::disjs, literal_parser::specs::code::Parser::choose))]
 fn add_disjs(
@@ -92,6 +92,7 @@ fn alternatives(
     Ok(Disj { site, parts })
 }
 
+/// One condition or more, with `or` between them.
 #[cycle(conditions)]
 #[tactic(auto, unfolding(crate::specs::code::Reading::ors, literal_parser::specs::code::Parser::choose))]
 fn add_conditions(
@@ -116,6 +117,7 @@ fn add_conditions(
     Err(Halt::Dead(cursor.seen))
 }
 
+/// A condition: a test, or the name of a rule.
 #[cycle(conditions)]
 #[tactic(auto, unfolding(crate::specs::code::Reading::cond_part))]
 fn condition(
@@ -213,6 +215,7 @@ pub(crate) fn ruled(
     })
 }
 
+/// The arguments of a rule that was named, and the note behind them.
 #[cycle(conditions)]
 #[tactic(auto, unfolding(crate::specs::code::Reading::called))]
 fn called(

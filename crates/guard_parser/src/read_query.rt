@@ -35,6 +35,7 @@ pub(crate) fn value(
     Ok(Expr::Found { site, query })
 }
 
+/// A query: its start and its steps.
 #[cycle(conditions)]
 #[tactic(auto, unfolding(crate::specs::code::Reading::query_of))]
 pub(crate) fn query(
@@ -76,6 +77,7 @@ fn add_steps(
     Err(Halt::Dead(cursor.seen))
 }
 
+/// A step of a query, behind a dot or in brackets.
 #[cycle(conditions)]
 #[tactic(auto, unfolding(crate::specs::code::Reading::step, crate::specs::code::Reading::dotted, crate::specs::code::Reading::bracketed, crate::specs::code::Reading::keyed, crate::specs::code::Reading::filtered, literal_parser::specs::code::Parser::choose))]
 fn step(alloc: Global, tokens: Tokens<'_>, cursor: &mut Cursor, depth: usize) -> Result<Step, Halt>
@@ -153,6 +155,7 @@ fn filter(
     Ok(conds)
 }
 
+/// An expression: a literal, a function or a query.
 #[cycle(conditions)]
 #[tactic(auto, unfolding(crate::specs::code::Reading::asked_expr))]
 pub(crate) fn expr(
