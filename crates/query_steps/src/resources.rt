@@ -8,6 +8,7 @@ ghost use Rattle.rule_meaning.specs.Reached.{value_for};
 ghost use Rattle.query_steps.specs.code.Memory.{has_resources};
 
 use crate::reached::{entry_of, inside_of, kind_of};
+use crate::steps::push_if;
 use doc_values::Kind;
 use guard_syntax::{Ref, Row};
 use std::alloc::{AllocError, Global};
@@ -46,11 +47,11 @@ fn typed_rows(
 ) -> Result<Vec<Row>, AllocError>
     ensures { IfOk result (λ rows. rows.items ≡ map Row.Found (filter (has_type (see_store store.now) name.now) values.now)) }
 {
-    values
-        .iter()
-        .filter(|value| has_type(**value, name, store))
-        .map(|value| Row::Found(*value))
-        .collect(alloc)
+    let mut rows = Vec::new(alloc);
+    for value in values {
+        push_if(has_type(*value, name, store), *value, &mut rows)?;
+    }
+    Ok(rows)
 }
 
 /// Whether a value is a map whose `Type` is the name.

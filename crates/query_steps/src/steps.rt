@@ -276,7 +276,7 @@ fn push_passing(
 }
 
 /// Adds a value that was found, where it passes.
-fn push_if(passes: bool, value: Ref, into: &mut Vec<Row>) -> Result<(), AllocError>
+pub(crate) fn push_if(passes: bool, value: Ref, into: &mut Vec<Row>) -> Result<(), AllocError>
     ensures { OnOk result (into.new.items ≡ into.old.items ++ (if passes then Found value ∷ [] else [])) }
 {
     if passes {
