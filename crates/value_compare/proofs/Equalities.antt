@@ -1,9 +1,9 @@
 -- Equality of lists and maps by their items and entries in turn, and of values by their kinds.
-use Rattle.std.proofs.Common.{◌≡◌, ◌≢◌, ℕ, zero, suc, ◌+◌, ◌<◌, Bool, true, false, List, Option, Some, None, refl, sym, ap, ap₂, subst, ◌∙◌, arith}
+use Rattle.std.proofs.Common.{◌≡◌, ◌≢◌, ℕ, zero, suc, ◌+◌, ◌<◌, Bool, true, false, List, Option, Some, None, Result, Ok, Err, IfOk, refl, sym, ap, ap₂, subst, ◌∙◌, arith}
 use Rattle.std.specs.Prelude.{◌&&◌}
 use Rattle.std.specs.Option.{option_map_or}
 use Rattle.std.proofs.lemmas.Bool.{or_parts}
-use Rattle.doc_values.specs.Tree.{Label, Forest, Nil, Node, count, key_is}
+use Rattle.doc_values.specs.Tree.{Label, Forest, Nil, Node, count, has_text, holds_values, key_is}
 use Rattle.doc_values.specs.Places.{first_label}
 use Rattle.doc_values.specs.declared.kind.Kind.{Kind}
 use Rattle.doc_values.specs.declared.kind.Kind.TheVariants as kind
@@ -58,10 +58,25 @@ entries_end f g i h = ap (λ x. same_entries x g) (index_end f i (omega arith))
 
 -- Kinds.
 
+-- a kind that is none of a text, a pattern, a list or a map has no text, and nothing stands in its values
+pub leaf_kind : (k : Kind) → (k ≡ kind.Text → ⊥) → (k ≡ kind.Pattern → ⊥) → (k ≡ kind.List → ⊥) → (k ≡ kind.Map → ⊥) → (has_text k ≡ false) × (holds_values k ≡ false)
+leaf_kind kind.Null text pattern list map = (refl, refl)
+leaf_kind (kind.Truth b) text pattern list map = (refl, refl)
+leaf_kind (kind.Whole n) text pattern list map = (refl, refl)
+leaf_kind (kind.Fraction d) text pattern list map = (refl, refl)
+leaf_kind kind.Text text pattern list map = absurd (text refl)
+leaf_kind kind.List text pattern list map = absurd (list refl)
+leaf_kind kind.Map text pattern list map = absurd (map refl)
+leaf_kind kind.Pattern text pattern list map = absurd (pattern refl)
+leaf_kind (kind.Limits r) text pattern list map = (refl, refl)
+
 pub by_kind : (l r : Value) (left right : Kind) (a : PairAnswer) → left ≡ l.kind → right ≡ r.kind → ((lists maps : Bool) (lt rt : List ℕ) → equal_by lists maps left lt right rt ≡ a) → a ≡ equal l r
 by_kind l r left right a is_left is_right tells =
     sym (tells (same_items l.contents r.contents) (same_maps l.contents r.contents) l.text r.text)
     ∙ ap₂ (λ m n. equal_by (same_items l.contents r.contents) (same_maps l.contents r.contents) m l.text n r.text) is_left is_right
+
+pub of_kind : (left code right : Kind) (a : PairAnswer) → left ≡ code → ((lists maps : Bool) (lt rt : List ℕ) → equal_by lists maps code lt right rt ≡ a) → (lists maps : Bool) (lt rt : List ℕ) → equal_by lists maps left lt right rt ≡ a
+of_kind left code right a is tells = λ lists maps lt rt. ap (λ k. equal_by lists maps k lt right rt) is ∙ tells lists maps lt rt
 
 texts_alone : (lists maps others other_maps : Bool) (right : Kind) (lt rt : List ℕ) → equal_by lists maps kind.Text lt right rt ≡ equal_by others other_maps kind.Text lt right rt
 texts_alone lists maps others other_maps kind.Null lt rt = refl
@@ -143,8 +158,13 @@ entry_held book (Node l kids rest) (Some k) v h e = by_test (entry_held book res
     by_test later false is = later (rw is at e)
 
 -- what an entry of a key says
-pub has_equal_at : (key : Option (List ℕ)) (k : List ℕ) (v other : Value) (g : Forest) (a : PairAnswer) (said : Bool) → key ≡ Some k → entry_of g (Some k) ≡ Some other → a ≡ equal v other → said ≡ is_yes a → said ≡ has_equal key v g
-has_equal_at key k v other g a said is found tells is_yes_of = is_yes_of ∙ ap is_yes tells ∙ sym (rw (is, found) refl)
+has_equal_at : (key : Option (List ℕ)) (k : List ℕ) (v other : Value) (g : Forest) (a : PairAnswer) → key ≡ Some k → entry_of g (Some k) ≡ Some other → a ≡ equal v other → is_yes a ≡ has_equal key v g
+has_equal_at key k v other g a is found tells = ap is_yes tells ∙ sym (rw (is, found) refl)
+
+pub has_equal-told : {E : Type 0} (r : Result PairAnswer E) (key : Option (List ℕ)) (k : List ℕ) (v other : Value) (g : Forest) → key ≡ Some k → entry_of g (Some k) ≡ Some other
+    → IfOk r (λ a. a ≡ equal v other) → IfOk r (λ a. is_yes a ≡ has_equal key v g)
+has_equal-told (Ok a) key k v other g is found tells = has_equal_at key k v other g a is found tells
+has_equal-told (Err e) key k v other g is found tells = tt
 
 pub no_entry_of : (key : Option (List ℕ)) (v : Value) (g : Forest) → entry_of g key ≡ None → false ≡ has_equal key v g
 no_entry_of key v g none = rw none refl

@@ -1,6 +1,6 @@
 -- A book that is made pattern by pattern: what it gained, and which pattern comes next.
-use Rattle.std.proofs.Common.{◌≡◌, ℕ, zero, suc, ◌+◌, ◌-◌, ◌<◌, ◌≤◌, Bool, true, false, List, [], ◌∷◌, ◌++◌, length, take, drop, get_or, Option, Some, None, refl, sym, ap, subst, ◌∙◌, inl, inr, arith, append_assoc, add-one}
-use Rattle.std.specs.Prelude.{◌||◌, IsSome, option_and_then}
+use Rattle.std.proofs.Common.{◌≡◌, ℕ, zero, suc, ◌+◌, ◌-◌, ◌<◌, ◌≤◌, Bool, true, false, List, [], ◌∷◌, ◌++◌, length, take, drop, get_or, Option, Some, None, Ok, refl, sym, ap, subst, ◌∙◌, inl, inr, arith, append_assoc, add-one}
+use Rattle.std.specs.Prelude.{◌||◌, IsErrOf, IsSome, option_and_then}
 use Rattle.std.specs.List.{list_any, flat_map}
 use Rattle.std.specs.Option.{option_map_or}
 use Rattle.std.specs.Str.{bytes_eq}
@@ -88,6 +88,13 @@ pub next-one : (ws : List Written) (text : List ℕ) (at : ℕ) → ws ≡ recor
 next-one ws text at is = ([], [], is, λ k d h. absurd (omega arith))
 
 -- ---- faults
+
+-- what was made is no refusal
+pub made-no_refusal : {T E : Type 0} (x : T) (e : E) → IsErrOf (Ok x) e → ⊥
+made-no_refusal x e is = cc
+
+pub no_less : {n : ℕ} → n ≤ n
+no_less = omega arith
 
 pub rose-later : (old mid new : ℕ) → old ≤ mid → FaultCounted mid new → FaultCounted old new
 rose-later old mid new kept (inl rose) = inl (omega arith)

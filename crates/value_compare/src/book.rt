@@ -77,6 +77,6 @@ impl PatternBook {
         ensures template { IfOk result (λ r. r.template.now ≡ template.entry.now) }
     {
         let (_, found) = self.find_full(pattern);
-        Replacer::new(alloc, found, template)
+        found.replacer(alloc, template)
     }
 }

@@ -1,9 +1,9 @@
 //! Equality of values.
 ghost use Rattle.std.specs.Prelude.{◌≡◌, ℕ, Bool, true, false, List, IfOk, IsOk};
 ghost use Rattle.doc_values.specs.Places.{label_at, kids_at};
-ghost use Rattle.doc_values.specs.Tree.{Nil};
+ghost use Rattle.doc_values.specs.Tree.{Nil, has_text, holds_values};
 ghost use Rattle.value_compare.specs.code.BookCovers.{holds_if, holds_in, covers, compares_pattern, may_find_entries, may_find_items};
-ghost use Rattle.rule_meaning.specs.Pairs.{equal, equal_by, same_items, same_maps};
+ghost use Rattle.rule_meaning.specs.Pairs.{equal, equal_by, is_yes, same_items, same_maps, told};
 ghost use Rattle.value_compare.specs.code.Entries.{has_equal, may_find_entry};
 ghost use Rattle.rule_meaning.specs.Values.{is_pattern, value_at, value_of_key};
 ghost use Rattle.value_compare.specs.code.Views.{see_view};
@@ -57,6 +57,21 @@ fn pair_decimal(left: Decimal, right: Kind) -> PairAnswer
     }
 }
 
+/// A value that has no text, and in which nothing stands, and a value.
+fn pair_leaf(left: Kind, right: Kind) -> PairAnswer
+    requires text { has_text left ≡ false }
+    requires values { holds_values left ≡ false }
+    ensures { (lists maps : Bool) (lt rt : List ℕ) → equal_by lists maps left lt right rt ≡ result }
+{
+    match left {
+        Kind::Null => pair_null(right),
+        Kind::Truth(truth) => pair_truth(truth, right),
+        Kind::Whole(number) => pair_whole(number, right),
+        Kind::Fraction(number) => pair_decimal(number, right),
+        _ => PairAnswer::Apart,
+    }
+}
+
 /// A text and a value.
 fn pair_text(
     matchers: &mut Matchers<'_>,
@@ -88,91 +103,88 @@ fn pair_values(
     ensures no_memory { compares_pattern (value_at left.entry.doc.now left.entry.id) (value_at right.entry.doc.now right.entry.id) ≡ false → IsOk result }
 {
     match left.kind() {
-        Kind::Null => Ok(pair_null(right.kind())),
-        Kind::Truth(truth) => Ok(pair_truth(truth, right.kind())),
-        Kind::Whole(number) => Ok(pair_whole(number, right.kind())),
-        Kind::Fraction(number) => Ok(pair_decimal(number, right.kind())),
         Kind::Text => pair_text(matchers, left.text(), View::At(right)),
+        Kind::Pattern => Ok(PairAnswer::Apart),
         Kind::List => match right.kind() {
-            Kind::List => Ok(PairAnswer::told(are_items_equal(matchers, left, right)?)),
+            Kind::List => pair_items(matchers, left, right),
             _ => Ok(PairAnswer::Apart),
         },
         Kind::Map => match right.kind() {
-            Kind::Map => Ok(PairAnswer::told(are_entries_equal(matchers, left, right)?)),
+            Kind::Map => pair_entries(matchers, left, right),
             _ => Ok(PairAnswer::Apart),
         },
-        Kind::Pattern | Kind::Limits(_) => Ok(PairAnswer::Apart),
+        kind => Ok(pair_leaf(kind, right.kind())),
     }
 }
 
-/// Whether two lists have as many items, each equal to the one at its index.
+/// Two lists: they are equal if they have as many items, each equal to the one at its index.
 #[cycle(equal)]
-fn are_items_equal(
+fn pair_items(
     matchers: &mut Matchers<'_>,
     left: Cursor<'_, '_>,
     right: Cursor<'_, '_>,
-) -> Result<bool, AllocError>
+) -> Result<PairAnswer, AllocError>
     requires held { holds_in matchers.old.book.now (kids_at right.doc.now right.id) ≡ true }
-    ensures answer { IfOk result (λ same. same ≡ same_items (kids_at left.entry.doc.now left.entry.id) (kids_at right.entry.doc.now right.entry.id)) }
+    ensures answer { IfOk result (λ a. a ≡ told (same_items (kids_at left.entry.doc.now left.entry.id) (kids_at right.entry.doc.now right.entry.id))) }
     ensures kept { matchers.new.book.now ≡ matchers.old.book.now }
     ensures no_memory { may_find_items (kids_at left.entry.doc.now left.entry.id) (kids_at right.entry.doc.now right.entry.id) ≡ false → IsOk result }
 {
     if left.len() != right.len() {
-        return Ok(false);
+        return Ok(PairAnswer::No);
     }
     for i in 0..left.len() {
         if !pair_values(matchers, left.child(i), right.child(i))?.is_yes() {
-            return Ok(false);
+            return Ok(PairAnswer::No);
         }
     }
-    Ok(true)
+    Ok(PairAnswer::Yes)
 }
 
-/// Whether two maps have the same keys, and equal values at each.
+/// Two maps: they are equal if they have the same keys, and equal values at each.
 #[cycle(equal)]
-fn are_entries_equal(
+fn pair_entries(
     matchers: &mut Matchers<'_>,
     left: Cursor<'_, '_>,
     right: Cursor<'_, '_>,
-) -> Result<bool, AllocError>
+) -> Result<PairAnswer, AllocError>
     requires left { (label_at left.doc.now left.id).kind ≡ Kind.Map }
     requires right { (label_at right.doc.now right.id).kind ≡ Kind.Map }
     requires held { holds_in matchers.old.book.now (kids_at right.doc.now right.id) ≡ true }
-    ensures answer { IfOk result (λ same. same ≡ same_maps (kids_at left.entry.doc.now left.entry.id) (kids_at right.entry.doc.now right.entry.id)) }
+    ensures answer { IfOk result (λ a. a ≡ told (same_maps (kids_at left.entry.doc.now left.entry.id) (kids_at right.entry.doc.now right.entry.id))) }
     ensures kept { matchers.new.book.now ≡ matchers.old.book.now }
     ensures no_memory { may_find_entries (kids_at left.entry.doc.now left.entry.id) (kids_at right.entry.doc.now right.entry.id) ≡ false → IsOk result }
 {
     // Keys of a map are distinct, as `len` says of each tree: so where there are as many entries, one direction is enough.
     let _nodes = (left.doc.len(), right.doc.len());
     if left.len() != right.len() {
-        return Ok(false);
+        return Ok(PairAnswer::No);
     }
     for i in 0..left.len() {
-        if !is_entry_equal(matchers, left.child(i), right)? {
-            return Ok(false);
+        if !pair_entry(matchers, left.child(i), right)?.is_yes() {
+            return Ok(PairAnswer::No);
         }
     }
-    Ok(true)
+    Ok(PairAnswer::Yes)
 }
 
-/// Whether a map has an entry of the key of another map's entry, equal to it.
+/// An entry of a map and another map: `Yes` if that has an entry of the key, equal to it.
 #[cycle(equal)]
-fn is_entry_equal(
+fn pair_entry(
     matchers: &mut Matchers<'_>,
     entry: Cursor<'_, '_>,
     right: Cursor<'_, '_>,
-) -> Result<bool, AllocError>
+) -> Result<PairAnswer, AllocError>
     requires held { holds_in matchers.old.book.now (kids_at right.doc.now right.id) ≡ true }
-    ensures answer { IfOk result (λ same. same ≡ has_equal (label_at entry.entry.doc.now entry.entry.id).key (value_at entry.entry.doc.now entry.entry.id) (kids_at right.entry.doc.now right.entry.id)) }
+    ensures answer { IfOk result (λ a. is_yes a ≡ has_equal (label_at entry.entry.doc.now entry.entry.id).key (value_at entry.entry.doc.now entry.entry.id) (kids_at right.entry.doc.now right.entry.id)) }
     ensures kept { matchers.new.book.now ≡ matchers.old.book.now }
     ensures no_memory { may_find_entry (label_at entry.entry.doc.now entry.entry.id).key (value_at entry.entry.doc.now entry.entry.id) (kids_at right.entry.doc.now right.entry.id) ≡ false → IsOk result }
 {
     let Some(key) = entry.key() else {
-        return Ok(false);
+        return Ok(PairAnswer::No);
     };
     match right.get(key) {
-        Some(other) => Ok(pair_values(matchers, entry, other)?.is_yes()),
-        None => Ok(false),
+        Some(other) => pair_values(matchers, entry, other),
+        None => Ok(PairAnswer::No),
     }
 }
 

@@ -20,7 +20,7 @@ use std::alloc::Global;
 
 /// Why the patterns of a rule file were not made: the first that was not, by the byte offset of the slash or quote that
 /// opens it.
-#[derive(Clone, Copy, Debug, PartialEq, Eq)]
+#[derive(Clone, Copy)]
 pub enum BookRefusal {
     /// The text is no pattern, or nests deeper than 250 levels.
     BadPattern(u32),

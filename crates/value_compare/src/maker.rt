@@ -9,7 +9,7 @@ use regex::{Error, Regex};
 use std::alloc::Global;
 
 /// Why a pattern was not made.
-#[derive(Clone, Copy, Debug, PartialEq, Eq)]
+#[derive(Clone, Copy)]
 pub enum PatternFault {
     /// The text is no pattern, or nests deeper than 250 levels.
     Syntax,
@@ -51,7 +51,7 @@ fn read_pattern(alloc: Global, text: &str) -> Result<Pattern, PatternFault>
 
 /// Makes patterns by the crate of regular expressions; it counts the patterns that were too large. A text that is no
 /// pattern is never counted.
-#[derive(Debug, Drop)]
+#[derive(Drop)]
 pub struct RegexMaker {
     pub faults: u64,
 }
@@ -77,7 +77,7 @@ impl PatternMaker for RegexMaker {
 }
 
 /// Answers that a pattern is too large at the calls of these numbers, from 0, and else makes patterns as `RegexMaker` does.
-#[derive(Debug, Drop)]
+#[derive(Drop)]
 pub struct ScriptMaker {
     pub failing: Vec<u64>,
     pub calls: u64,

@@ -8,11 +8,10 @@ ghost use Rattle.rule_meaning.specs.RowTests.{is_in, is_member_of_some, is_not_i
 ghost use Rattle.rule_meaning.specs.Values.{is_list, value_at, values_in};
 ghost use Rattle.value_compare.specs.code.Views.{see_view};
 
+use crate::equal::pair_equal;
 use crate::matchers::Matchers;
-use crate::pairs::pair_by;
 use crate::view::View;
 use doc_values::{Cursor, Kind};
-use guard_syntax::Op;
 use rule_meaning::PairAnswer;
 use std::alloc::AllocError;
 
@@ -79,7 +78,7 @@ fn member(
     ensures kept { matchers.new.book.now ≡ matchers.old.book.now }
 {
     match list_of(right) {
-        None => pair_by(matchers, Op::Eq, left, right),
+        None => pair_equal(matchers, left, right),
         Some(list) => item_equal(matchers, left, list),
     }
 }
@@ -96,7 +95,7 @@ fn item_equal(
 {
     for i in 0..list.len() {
         let item = View::At(list.child(i));
-        match pair_by(matchers, Op::Eq, left, item)? {
+        match pair_equal(matchers, left, item)? {
             PairAnswer::Yes => return Ok(PairAnswer::Yes),
             PairAnswer::No | PairAnswer::Apart => {}
         }

@@ -27,25 +27,8 @@ pub fn pair(
     ensures no_memory { compares_pattern (see_view left.entry) (see_view right.entry) ≡ false → IsOk result }
     ensures no_memory_of_order { is_order op ≡ true → IsOk result }
 {
-    pair_by(&mut Matchers::new(alloc, book), op, left, right)
-}
-
-/// The same, with what finds the patterns of a book.
-pub(crate) fn pair_by(
-    matchers: &mut Matchers<'_>,
-    op: Op,
-    left: View<'_, '_>,
-    right: View<'_, '_>,
-) -> Result<PairAnswer, AllocError>
-    requires op { is_pair_operator op ≡ true }
-    requires held { covers matchers.old.book.now (see_view right) ≡ true }
-    ensures answer { IfOk result (λ a. a ≡ pair_of op (see_view left.entry) (see_view right.entry)) }
-    ensures kept { matchers.new.book.now ≡ matchers.old.book.now }
-    ensures no_memory { compares_pattern (see_view left.entry) (see_view right.entry) ≡ false → IsOk result }
-    ensures no_memory_of_order { is_order op ≡ true → IsOk result }
-{
     match op {
-        Op::Eq => pair_equal(matchers, left, right),
+        Op::Eq => pair_equal(&mut Matchers::new(alloc, book), left, right),
         _ => Ok(pair_order(op, left, right)),
     }
 }

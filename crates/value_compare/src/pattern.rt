@@ -1,8 +1,9 @@
 //! Patterns, which the crate of regular expressions reads, finds and replaces.
 ghost use Rattle.std.specs.Prelude.{◌≡◌, IfOk, IsSome};
 ghost use Rattle.rule_meaning.specs.PatternMatch.{pattern_in};
-ghost use Rattle.value_compare.specs.code.Matching.{IsMatcherOf, IsReplacerOf};
+ghost use Rattle.value_compare.specs.code.Matching.{IsMatcherOf};
 
+use crate::replacer::Replacer;
 use regex::{Matcher, Regex, Template};
 use std::alloc::{AllocError, Global};
 use std::marker::Model;
@@ -46,16 +47,22 @@ impl Pattern {
         self.regex.matcher(alloc)
     }
 
-    /// What finds the pattern in texts, and a template read for it.
+    /// What replaces each match of the pattern by what a template says.
     pub(crate) fn replacer<'b>(
         &'b self,
         alloc: Global,
-        template: &str,
-    ) -> Result<(Matcher<'b>, Template), AllocError>
-        ensures { IfOk result (λ r. IsReplacerOf self.entry.now template.now r.0 r.1) }
+        template: &'b str,
+    ) -> Result<Replacer<'b>, AllocError>
+        ensures pattern { IfOk result (λ r. r.pattern.now ≡ self.entry.now) }
+        ensures template { IfOk result (λ r. r.template.now ≡ template.entry.now) }
     {
         let read = Template::new(alloc, self.regex.capture_names(), template)?;
         let matcher = self.regex.matcher(alloc)?;
-        Ok((matcher, read))
+        Ok(Replacer {
+            pattern: self,
+            template,
+            matcher,
+            read,
+        })
     }
 }

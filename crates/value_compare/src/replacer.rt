@@ -13,30 +13,12 @@ use std::alloc::{AllocError, Global};
 pub struct Replacer<'b> {
     pub pattern: &'b Pattern,
     pub template: &'b str,
-    matcher: Matcher<'b>,
-    read: Template,
+    pub(crate) matcher: Matcher<'b>,
+    pub(crate) read: Template,
     ghost fits: { IsReplacerOf pattern.now template.now matcher read },
 }
 
 impl<'b> Replacer<'b> {
-    /// Makes what replaces each match of a pattern by what a template says.
-    pub(crate) fn new(
-        alloc: Global,
-        pattern: &'b Pattern,
-        template: &'b str,
-    ) -> Result<Replacer<'b>, AllocError>
-        ensures pattern { IfOk result (λ r. r.pattern.now ≡ pattern.entry.now) }
-        ensures template { IfOk result (λ r. r.template.now ≡ template.entry.now) }
-    {
-        let (matcher, read) = pattern.replacer(alloc, template)?;
-        Ok(Replacer {
-            pattern,
-            template,
-            matcher,
-            read,
-        })
-    }
-
     /// A text with each match replaced.
     pub fn replaced(&mut self, alloc: Global, text: &str) -> Result<String, AllocError>
         ensures replaced { IfOk result (λ out. replaced_in self.old.pattern.now self.old.template.now text.now ≡ Some (string_bytes out)) }

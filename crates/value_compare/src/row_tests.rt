@@ -12,10 +12,10 @@ ghost use Rattle.value_compare.specs.code.Stores.{see_store};
 ghost use Rattle.value_compare.specs.code.Views.{see_view};
 
 use crate::book::PatternBook;
+use crate::equal::pair_equal;
 use crate::matchers::Matchers;
 use crate::members::{outside, within};
 use crate::order::pair_order;
-use crate::pairs::pair_by;
 use crate::store::Store;
 use crate::unary::unary_test;
 use crate::view::View;
@@ -163,7 +163,7 @@ fn equals_some(
     ensures { IfOk result (λ b. b ≡ list_any (λ r. is_yes (equal (see_view left.entry) r)) (map see_view rights.entry.now)) }
 {
     for right in rights {
-        match pair_by(matchers, Op::Eq, left, *right)? {
+        match pair_equal(matchers, left, *right)? {
             PairAnswer::Yes => return Ok(true),
             PairAnswer::No | PairAnswer::Apart => {}
         }
@@ -181,7 +181,7 @@ fn differs_from_each(
     ensures { IfOk result (λ b. b ≡ list_all (λ r. is_no (equal (see_view left.entry) r)) (map see_view rights.entry.now)) }
 {
     for right in rights {
-        match pair_by(matchers, Op::Eq, left, *right)? {
+        match pair_equal(matchers, left, *right)? {
             PairAnswer::No => {}
             PairAnswer::Yes | PairAnswer::Apart => return Ok(false),
         }

@@ -1,6 +1,6 @@
-use Rattle.std.proofs.Common.{◌≡◌, ◌++◌, ◌∷◌, [], true, sym, ap, ◌∙◌, arith}
+use Rattle.std.proofs.Common.{◌≡◌, ◌++◌, ◌∷◌, [], true, sym, ap, ◌∙◌}
 use Rattle.value_compare.specs.code.Books.{has_text}
-use Rattle.value_compare.proofs.Making.{gains-present, gains-added, read-added}
+use Rattle.value_compare.proofs.Making.{gains-present, gains-added, made-no_refusal, no_less, read-added}
 use Rattle.value_compare.proofs.make_book.add_text.Goals as goal
 
 pub returns-then-has : goal.returns-then-has
@@ -10,9 +10,9 @@ returns-then-has g c =
       gains = gains-present c.args.book.now c.args.text.now c.args.at there;
       read = c.requires c.args.text.now there;
       book = c.requires;
-      bad = λ place is. absurd cc;
-      refused = λ place is. absurd cc;
-      kept = λ other. omega arith;
+      bad = λ place is. absurd (made-no_refusal _ _ is);
+      refused = λ place is. absurd (made-no_refusal _ _ is);
+      kept = λ other. no_less;
     }
 
 pub returns-in-Ok-insert : goal.returns-in-Ok-insert
@@ -23,7 +23,7 @@ returns-in-Ok-insert g c =
       gains = gains-added c.args.book.now c.insert.new.self c.args.text.now c.args.at put;
       read = read;
       book = read-added c.args.book.now c.insert.new.self c.args.text.now put c.requires read;
-      bad = λ place is. absurd cc;
-      refused = λ place is. absurd cc;
+      bad = λ place is. absurd (made-no_refusal _ _ is);
+      refused = λ place is. absurd (made-no_refusal _ _ is);
       kept = c.make.ensures.kept;
     }
