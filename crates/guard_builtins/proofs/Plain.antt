@@ -10,7 +10,7 @@ use Rattle.rule_meaning.specs.Functions.{AreRows, ForText, IsParsed, IsPart, IsR
 use Rattle.rule_meaning.specs.StoreModel.{StoreModel, stands_for}
 use Rattle.rule_meaning.specs.Values.{Value, has_pattern}
 use Rattle.value_compare.proofs.Patternless.{json-plain}
-use Rattle.guard_builtins.specs.code.Seen.{gives, is_plain, replaces, see_made}
+use Rattle.guard_builtins.specs.code.Seen.{ByFunction, ByNothing, ByTexts, Changing, changes, gives, is_plain, see_made}
 use Rattle.guard_builtins.specs.declared.change.Change.{Change}
 use Rattle.guard_builtins.specs.declared.change.Change.TheVariants as change
 use Rattle.guard_builtins.specs.declared.made.Made.{Made}
@@ -47,9 +47,10 @@ new-plain : (m : Made) (tree : Forest) → has_pattern tree ≡ false → see_ma
 new-plain (made.Tree other) tree plain h = let same : other ≡ tree = cc in ap (λ t. not (has_pattern t)) same ∙ ap not plain
 new-plain (made.Kept row) tree plain h = refl
 
-replaces-plain : (texts : Option (List ℕ × List ℕ)) (v : Value) (tree : Forest) → replaces texts v tree → has_pattern tree ≡ false
-replaces-plain None v tree h = absurd h
-replaces-plain (Some texts) v tree h = text-plain (IsReplacement (Some texts.0) (Some texts.1)) (λ text t is. ap has_pattern is.2) (text_of v) tree h
+changes-plain : (c : Changing) (v : Value) (tree : Forest) → changes c v tree → has_pattern tree ≡ false
+changes-plain (ByFunction f) v tree h = gives-plain f v tree h
+changes-plain (ByTexts pattern template) v tree h = text-plain (IsReplacement (Some pattern) (Some template)) (λ text t is. ap has_pattern is.2) (text_of v) tree h
+changes-plain ByNothing v tree h = absurd h
 
 module _ (G : Value → Forest → Type 0) (plain : (v : Value) (tree : Forest) → G v tree → has_pattern tree ≡ false) (k : StoreModel) (call : ℕ) where
   value-plain : (o : Option Value) (m : Made) → IsRowFor G call o (see_made m) → is_plain m ≡ true
@@ -68,10 +69,6 @@ module _ (G : Value → Forest → Type 0) (plain : (v : Value) (tree : Forest) 
   rows-without (r ∷ rows) [] h = absurd h
   rows-without (r ∷ rows) (m ∷ ms) h = and_from _ _ (row-plain r m h.0) (rows-without rows ms h.1)
 
--- the rows that a function of one value after another gives
-pub rows-plain : (f : Change) (k : StoreModel) (call : ℕ) (rows : List Row) (ms : List Made) → AreRows (gives f) k call rows (map see_made ms) → list_all is_plain ms ≡ true
-rows-plain f k call rows ms h = rows-without (gives f) (gives-plain f) k call rows ms h
-
--- and those that replacing gives
-pub replaced-plain : (texts : Option (List ℕ × List ℕ)) (k : StoreModel) (call : ℕ) (rows : List Row) (ms : List Made) → AreRows (replaces texts) k call rows (map see_made ms) → list_all is_plain ms ≡ true
-replaced-plain texts k call rows ms h = rows-without (replaces texts) (replaces-plain texts) k call rows ms h
+-- the rows that a change of one value after another gives
+pub rows-plain : (c : Changing) (k : StoreModel) (call : ℕ) (rows : List Row) (ms : List Made) → AreRows (changes c) k call rows (map see_made ms) → list_all is_plain ms ≡ true
+rows-plain c k call rows ms h = rows-without (changes c) (changes-plain c) k call rows ms h

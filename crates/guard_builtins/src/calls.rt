@@ -8,10 +8,8 @@ ghost use Rattle.value_compare.specs.code.Stores.{see_store};
 ghost use Rattle.guard_builtins.specs.code.Memory.{is_by_row};
 ghost use Rattle.guard_builtins.specs.code.Seen.{is_plain, see_made, see_rows};
 
-use crate::functions::{
-    count, join, json_parse, parse_boolean, parse_float, parse_int, parse_string, substring,
-    to_lower, to_upper, url_decode,
-};
+use crate::change::Change;
+use crate::functions::{count, join, rows_for, substring};
 use crate::made::Made;
 use crate::replace::regex_replace;
 use guard_syntax::{Function, Row};
@@ -36,20 +34,21 @@ pub fn call(
     ensures plain { IfOk result (λ made. list_all is_plain made.items ≡ true) }
     ensures no_memory { is_by_row function ≡ true → argument (map see_rows args.now) 0 ≡ [] → IsOk result }
 {
+    let rows = args[0].as_slice();
     match function {
-        Function::Count => count(alloc, &args[0]),
-        Function::JsonParse => json_parse(alloc, site, &args[0], store),
+        Function::Count => count(alloc, rows),
+        Function::JsonParse => rows_for(alloc, Change::JsonParse, site, rows, store),
         Function::RegexReplace => {
-            regex_replace(alloc, site, &args[0], &args[1], &args[2], store, book)
+            regex_replace(alloc, site, rows, &args[1], &args[2], store, book)
         }
-        Function::Join => join(alloc, site, &args[0], &args[1], store),
-        Function::ToLower => to_lower(alloc, site, &args[0], store),
-        Function::ToUpper => to_upper(alloc, site, &args[0], store),
-        Function::Substring => substring(alloc, site, &args[0], &args[1], &args[2], store),
-        Function::UrlDecode => url_decode(alloc, site, &args[0], store),
-        Function::ParseInt => parse_int(alloc, site, &args[0], store),
-        Function::ParseFloat => parse_float(alloc, site, &args[0], store),
-        Function::ParseBoolean => parse_boolean(alloc, site, &args[0], store),
-        Function::ParseString => parse_string(alloc, site, &args[0], store),
+        Function::Join => join(alloc, site, rows, &args[1], store),
+        Function::ToLower => rows_for(alloc, Change::ToLower, site, rows, store),
+        Function::ToUpper => rows_for(alloc, Change::ToUpper, site, rows, store),
+        Function::Substring => substring(alloc, site, rows, &args[1], &args[2], store),
+        Function::UrlDecode => rows_for(alloc, Change::UrlDecode, site, rows, store),
+        Function::ParseInt => rows_for(alloc, Change::ParseInt, site, rows, store),
+        Function::ParseFloat => rows_for(alloc, Change::ParseFloat, site, rows, store),
+        Function::ParseBoolean => rows_for(alloc, Change::ParseBoolean, site, rows, store),
+        Function::ParseString => rows_for(alloc, Change::ParseString, site, rows, store),
     }
 }

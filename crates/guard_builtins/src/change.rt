@@ -1,9 +1,9 @@
 //! What each function makes of one value.
-ghost use Rattle.std.specs.Prelude.{◌≡◌, ℤ, IfOk, MatchOption, option_map, string_bytes};
+ghost use Rattle.std.specs.Prelude.{◌≡◌, ℤ, IfOk, None, MatchOption, option_map, string_bytes};
 ghost use Rattle.doc_values.specs.Decimal.{Decimal};
 ghost use Rattle.rule_meaning.specs.Functions.{IsBoolean, IsDecimalBy, IsDecoded, IsFloat, IsGiven, IsInt, IsJson, IsLower, IsPrinted, IsSubstring, IsUpper, IsWholeBy, printed_by, truth_by};
 ghost use Rattle.value_compare.specs.code.Views.{see_view};
-ghost use Rattle.guard_builtins.specs.code.Seen.{gives};
+ghost use Rattle.guard_builtins.specs.code.Seen.{ByFunction, ByNothing, Changing, changes, gives};
 
 use crate::numbers::{decimal_of, read_decimal, read_whole};
 use crate::printed::{decimal_text, truth_text, whole_text};
@@ -17,20 +17,77 @@ use value_compare::View;
 /// A function of one value after another, with its further arguments.
 #[derive(Clone, Copy)]
 pub(crate) enum Change {
+    /// The tree of a text of at most 8 MiB that RFC 8259 accepts.
     JsonParse,
+    /// A text with its ASCII letters in lower case.
     ToLower,
+    /// A text with its ASCII letters in upper case.
     ToUpper,
-    /// From the first index up to the second, each where it is a single whole number.
+    /// The bytes of a text from the first index up to the second, each where it is a single whole number. They have to be
+    /// in order and within the text, and each where a character begins or the text ends.
     Substring(Option<i64>, Option<i64>),
+    /// A text with its percent escapes decoded, if that is UTF-8. A plus stays.
     UrlDecode,
+    /// A whole number itself, and that of a text of an optional sign and a whole number text in range.
     ParseInt,
+    /// A decimal itself, a whole number below 10^18 in size as a decimal, and the same of a text of an optional sign and a
+    /// number text.
     ParseFloat,
+    /// A truth value itself, and that of a text `true` or `false` in any ASCII case.
     ParseBoolean,
+    /// A text itself, and a whole number, a decimal or a truth value as it is printed.
     ParseString,
 }
 
+/// What is made of one value after another.
+pub(crate) trait ValueChange {
+    ghost changing: { Self → Changing };
+
+    /// The tree that is given for a value, if the change applies.
+    fn given(
+        &mut self,
+        alloc: Global,
+        value: View<'_, '_>,
+    ) -> Result<Option<Doc<'static>>, AllocError>
+        ensures given { IfOk result (IsGiven (changes (changing self.old) (see_view value.entry))) }
+        ensures kept { changing self.new ≡ changing self.old };
+}
+
+impl ValueChange for Change {
+    ghost changing = { λ change. ByFunction change };
+
+    fn given(
+        &mut self,
+        alloc: Global,
+        value: View<'_, '_>,
+    ) -> Result<Option<Doc<'static>>, AllocError>
+        ensures given { IfOk result (IsGiven (gives self.old (see_view value.entry))) }
+        ensures kept { self.new ≡ self.old }
+    {
+        given(alloc, *self, value)
+    }
+}
+
+/// The change of no value.
+#[derive(Clone, Copy)]
+pub(crate) struct NoChange;
+
+impl ValueChange for NoChange {
+    ghost changing = { λ change. ByNothing };
+
+    fn given(
+        &mut self,
+        _alloc: Global,
+        _value: View<'_, '_>,
+    ) -> Result<Option<Doc<'static>>, AllocError>
+        ensures { IfOk result (λ tree. tree ≡ None) }
+    {
+        Ok(None)
+    }
+}
+
 /// The tree that a function gives for a value, if it applies.
-pub(crate) fn given(
+fn given(
     alloc: Global,
     change: Change,
     value: View<'_, '_>,

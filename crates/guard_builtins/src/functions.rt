@@ -1,12 +1,12 @@
 //! The functions on lists of rows. Those that answer a row for each row of an argument take no memory where it has none.
 ghost use Rattle.std.specs.Prelude.{◌≡◌, [], false, true, IfOk, IfSome, IsOk, map};
 ghost use Rattle.std.specs.List.{list_all};
-ghost use Rattle.rule_meaning.specs.Functions.{AreRows, IsBoolean, IsDecoded, IsFloat, IsInt, IsJson, IsLower, IsPrinted, IsRow, IsSubstring, IsUpper, counted, is_found, joined, joined_row, single_text, single_whole, texts_in};
+ghost use Rattle.rule_meaning.specs.Functions.{AreRows, IsRow, IsSubstring, counted, is_found, joined, joined_row, single_text, single_whole, texts_in};
 ghost use Rattle.value_compare.specs.code.Stores.{see_store};
 ghost use Rattle.rule_meaning.specs.Values.{has_pattern};
-ghost use Rattle.guard_builtins.specs.code.Seen.{gives, is_plain, see_made};
+ghost use Rattle.guard_builtins.specs.code.Seen.{changes, is_plain, see_made};
 
-use crate::change::{Change, given};
+use crate::change::{Change, ValueChange};
 use crate::made::{Made, new_or_missing, one_row};
 use crate::trees::{plain_tree, text_tree};
 use crate::values::{single_text, single_whole, texts_in};
@@ -65,83 +65,42 @@ fn joined(
 }
 
 /// A row of the answer for a row of the first argument: a missing one stays as it is.
-fn row_for(
+fn row_for<C: ValueChange>(
     alloc: Global,
-    change: Change,
+    change: &mut C,
     site: u32,
     row: &Row,
     store: &Store<'_, '_>,
 ) -> Result<Made, AllocError>
-    ensures { IfOk result (λ made. IsRow (gives change) (see_store store.now) site row.now (see_made made)) }
+    ensures row { IfOk result (λ made. IsRow (changes (C.changing change.old)) (see_store store.now) site row.now (see_made made)) }
+    ensures kept { C.changing change.new ≡ C.changing change.old }
 {
     match row {
         Row::Found(value) => match store.view(*value) {
             None => Ok(new_or_missing(site, None)),
-            Some(view) => Ok(new_or_missing(site, given(alloc, change, view)?)),
+            Some(view) => Ok(new_or_missing(site, change.given(alloc, view)?)),
         },
         Row::Missing { .. } | Row::Unmade { .. } => Ok(Made::Kept(*row)),
     }
 }
 
 /// A row of the answer for each row of the first argument. Where there is none, no memory is taken.
-fn rows_for(
+pub(crate) fn rows_for<C: ValueChange + Drop>(
     alloc: Global,
-    change: Change,
+    mut change: C,
     site: u32,
     rows: &[Row],
     store: &Store<'_, '_>,
 ) -> Result<Vec<Made>, AllocError>
-    ensures rows { IfOk result (λ made. AreRows (gives change) (see_store store.now) site rows.now (map see_made made.items)) }
+    ensures rows { IfOk result (λ made. AreRows (changes (C.changing change)) (see_store store.now) site rows.now (map see_made made.items)) }
     ensures plain { IfOk result (λ made. list_all is_plain made.items ≡ true) }
     ensures no_memory { rows.now ≡ [] → IsOk result }
 {
     let mut made = Vec::new(alloc);
     for row in rows {
-        made.push(row_for(alloc, change, site, row, store)?)?;
+        made.push(row_for(alloc, &mut change, site, row, store)?)?;
     }
     Ok(made)
-}
-
-/// `json_parse`: the tree of a text of at most 8 MiB that RFC 8259 accepts.
-pub fn json_parse(
-    alloc: Global,
-    site: u32,
-    rows: &[Row],
-    store: &Store<'_, '_>,
-) -> Result<Vec<Made>, AllocError>
-    ensures rows { IfOk result (λ made. AreRows IsJson (see_store store.now) site rows.now (map see_made made.items)) }
-    ensures plain { IfOk result (λ made. list_all is_plain made.items ≡ true) }
-    ensures no_memory { rows.now ≡ [] → IsOk result }
-{
-    rows_for(alloc, Change::JsonParse, site, rows, store)
-}
-
-/// `to_lower`: a text with its ASCII letters in lower case.
-pub fn to_lower(
-    alloc: Global,
-    site: u32,
-    rows: &[Row],
-    store: &Store<'_, '_>,
-) -> Result<Vec<Made>, AllocError>
-    ensures rows { IfOk result (λ made. AreRows IsLower (see_store store.now) site rows.now (map see_made made.items)) }
-    ensures plain { IfOk result (λ made. list_all is_plain made.items ≡ true) }
-    ensures no_memory { rows.now ≡ [] → IsOk result }
-{
-    rows_for(alloc, Change::ToLower, site, rows, store)
-}
-
-/// `to_upper`: a text with its ASCII letters in upper case.
-pub fn to_upper(
-    alloc: Global,
-    site: u32,
-    rows: &[Row],
-    store: &Store<'_, '_>,
-) -> Result<Vec<Made>, AllocError>
-    ensures rows { IfOk result (λ made. AreRows IsUpper (see_store store.now) site rows.now (map see_made made.items)) }
-    ensures plain { IfOk result (λ made. list_all is_plain made.items ≡ true) }
-    ensures no_memory { rows.now ≡ [] → IsOk result }
-{
-    rows_for(alloc, Change::ToUpper, site, rows, store)
 }
 
 /// `substring`: the bytes of a text from one index up to another. Both have to be single whole numbers, in order and
@@ -160,75 +119,4 @@ pub fn substring(
 {
     let change = Change::Substring(single_whole(from, store), single_whole(to, store));
     rows_for(alloc, change, site, rows, store)
-}
-
-/// `url_decode`: a text with its percent escapes decoded, if that is UTF-8. A plus stays.
-pub fn url_decode(
-    alloc: Global,
-    site: u32,
-    rows: &[Row],
-    store: &Store<'_, '_>,
-) -> Result<Vec<Made>, AllocError>
-    ensures rows { IfOk result (λ made. AreRows IsDecoded (see_store store.now) site rows.now (map see_made made.items)) }
-    ensures plain { IfOk result (λ made. list_all is_plain made.items ≡ true) }
-    ensures no_memory { rows.now ≡ [] → IsOk result }
-{
-    rows_for(alloc, Change::UrlDecode, site, rows, store)
-}
-
-/// `parse_int`: a whole number itself, and that of a text of an optional sign and a whole number text in range.
-pub fn parse_int(
-    alloc: Global,
-    site: u32,
-    rows: &[Row],
-    store: &Store<'_, '_>,
-) -> Result<Vec<Made>, AllocError>
-    ensures rows { IfOk result (λ made. AreRows IsInt (see_store store.now) site rows.now (map see_made made.items)) }
-    ensures plain { IfOk result (λ made. list_all is_plain made.items ≡ true) }
-    ensures no_memory { rows.now ≡ [] → IsOk result }
-{
-    rows_for(alloc, Change::ParseInt, site, rows, store)
-}
-
-/// `parse_float`: a decimal itself, a whole number below 10^18 in size as a decimal, and the same of a text of an optional
-/// sign and a number text.
-pub fn parse_float(
-    alloc: Global,
-    site: u32,
-    rows: &[Row],
-    store: &Store<'_, '_>,
-) -> Result<Vec<Made>, AllocError>
-    ensures rows { IfOk result (λ made. AreRows IsFloat (see_store store.now) site rows.now (map see_made made.items)) }
-    ensures plain { IfOk result (λ made. list_all is_plain made.items ≡ true) }
-    ensures no_memory { rows.now ≡ [] → IsOk result }
-{
-    rows_for(alloc, Change::ParseFloat, site, rows, store)
-}
-
-/// `parse_boolean`: a truth value itself, and that of a text `true` or `false` in any ASCII case.
-pub fn parse_boolean(
-    alloc: Global,
-    site: u32,
-    rows: &[Row],
-    store: &Store<'_, '_>,
-) -> Result<Vec<Made>, AllocError>
-    ensures rows { IfOk result (λ made. AreRows IsBoolean (see_store store.now) site rows.now (map see_made made.items)) }
-    ensures plain { IfOk result (λ made. list_all is_plain made.items ≡ true) }
-    ensures no_memory { rows.now ≡ [] → IsOk result }
-{
-    rows_for(alloc, Change::ParseBoolean, site, rows, store)
-}
-
-/// `parse_string`: a text itself, and a whole number, a decimal or a truth value as it is printed.
-pub fn parse_string(
-    alloc: Global,
-    site: u32,
-    rows: &[Row],
-    store: &Store<'_, '_>,
-) -> Result<Vec<Made>, AllocError>
-    ensures rows { IfOk result (λ made. AreRows IsPrinted (see_store store.now) site rows.now (map see_made made.items)) }
-    ensures plain { IfOk result (λ made. list_all is_plain made.items ≡ true) }
-    ensures no_memory { rows.now ≡ [] → IsOk result }
-{
-    rows_for(alloc, Change::ParseString, site, rows, store)
 }

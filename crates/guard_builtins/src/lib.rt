@@ -15,9 +15,6 @@ mod trees;
 mod values;
 
 pub use calls::call;
-pub use functions::{
-    count, join, json_parse, parse_boolean, parse_float, parse_int, parse_string, substring,
-    to_lower, to_upper, url_decode,
-};
+pub use functions::{count, join, substring};
 pub use made::Made;
 pub use replace::regex_replace;

@@ -2,12 +2,14 @@
 ghost use Rattle.std.specs.Prelude.{◌≡◌, [], true, IfOk, IfSome, IsOk, map, option_map};
 ghost use Rattle.std.specs.List.{list_all};
 ghost use Rattle.value_compare.specs.code.Books.{has_text};
-ghost use Rattle.rule_meaning.specs.Functions.{AreRows, IsGiven, IsReplaced, IsRow, single_text};
+ghost use Rattle.rule_meaning.specs.Functions.{AreRows, IsGiven, IsReplaced, single_text};
 ghost use Rattle.value_compare.specs.code.Stores.{see_store};
 ghost use Rattle.value_compare.specs.code.Views.{see_view};
-ghost use Rattle.guard_builtins.specs.code.Seen.{both, is_plain, replaces, see_made, texts_of};
+ghost use Rattle.guard_builtins.specs.code.Seen.{ByTexts, both, changes, is_plain, see_made};
 
-use crate::made::{Made, new_or_missing};
+use crate::change::{NoChange, ValueChange};
+use crate::functions::rows_for;
+use crate::made::Made;
 use crate::trees::text_tree;
 use crate::values::{single_text, text_of};
 use doc_values::Doc;
@@ -34,78 +36,43 @@ pub fn regex_replace(
     if rows.is_empty() {
         return Ok(Vec::new(alloc));
     }
-    let mut replacer = replacer(alloc, pattern, template, store, book)?;
-    replaced_rows(alloc, &mut replacer, site, rows, store)
+    let Some((pattern, template)) = texts(pattern, template, store) else {
+        return rows_for(alloc, NoChange, site, rows, store);
+    };
+    let replacer = book.replacer(alloc, pattern, template)?;
+    rows_for(alloc, replacer, site, rows, store)
 }
 
-/// What replaces, where pattern and template are single texts.
-fn replacer<'v>(
-    alloc: Global,
+/// The texts of pattern and template, where both are single texts.
+fn texts<'v>(
     pattern: &[Row],
     template: &[Row],
     store: &'v Store<'_, '_>,
-    book: &'v PatternBook,
-) -> Result<Option<Replacer<'v>>, AllocError>
-    requires { IfSome (single_text (see_store store.now) pattern.now) (λ text. has_text book.now text ≡ true) }
-    ensures { IfOk result (λ replacer. option_map texts_of replacer ≡ both (single_text (see_store store.entry.now) pattern.now) (single_text (see_store store.entry.now) template.now)) }
+) -> Option<(&'v str, &'v str)>
+    ensures { option_map (λ texts. (texts.0.now, texts.1.now)) result ≡ both (single_text (see_store store.entry.now) pattern.now) (single_text (see_store store.entry.now) template.now) }
 {
     match (single_text(pattern, store), single_text(template, store)) {
-        (Some(pattern), Some(template)) => Ok(Some(book.replacer(alloc, pattern, template)?)),
-        _ => Ok(None),
+        (Some(pattern), Some(template)) => Some((pattern, template)),
+        _ => None,
     }
 }
 
-/// A row of the answer for each row of the first argument.
-fn replaced_rows(
-    alloc: Global,
-    replacer: &mut Option<Replacer<'_>>,
-    site: u32,
-    rows: &[Row],
-    store: &Store<'_, '_>,
-) -> Result<Vec<Made>, AllocError>
-    ensures rows { IfOk result (λ made. AreRows (replaces (option_map texts_of replacer.old)) (see_store store.now) site rows.now (map see_made made.items)) }
-    ensures plain { IfOk result (λ made. list_all is_plain made.items ≡ true) }
-{
-    let mut made = Vec::new(alloc);
-    for row in rows {
-        made.push(replaced_row(alloc, replacer, site, row, store)?)?;
-    }
-    Ok(made)
-}
+impl<'b> ValueChange for Replacer<'b> {
+    ghost changing = { λ replacer. ByTexts replacer.pattern.now replacer.template.now };
 
-/// A row of the answer for a row of the first argument: a missing one stays as it is.
-fn replaced_row(
-    alloc: Global,
-    replacer: &mut Option<Replacer<'_>>,
-    site: u32,
-    row: &Row,
-    store: &Store<'_, '_>,
-) -> Result<Made, AllocError>
-    ensures row { IfOk result (λ made. IsRow (replaces (option_map texts_of replacer.old)) (see_store store.now) site row.now (see_made made)) }
-    ensures kept { option_map texts_of replacer.new ≡ option_map texts_of replacer.old }
-{
-    match row {
-        Row::Found(value) => match store.view(*value) {
-            None => Ok(new_or_missing(site, None)),
-            Some(view) => Ok(new_or_missing(site, replaced(alloc, replacer, view)?)),
-        },
-        Row::Missing { .. } | Row::Unmade { .. } => Ok(Made::Kept(*row)),
-    }
-}
-
-/// The tree of a text with the matches replaced, if there is what replaces them.
-fn replaced(
-    alloc: Global,
-    replacer: &mut Option<Replacer<'_>>,
-    value: View<'_, '_>,
-) -> Result<Option<Doc<'static>>, AllocError>
-    ensures tree { IfOk result (IsGiven (replaces (option_map texts_of replacer.old) (see_view value.entry))) }
-    ensures kept { option_map texts_of replacer.new ≡ option_map texts_of replacer.old }
-{
-    match (replacer, text_of(value)) {
-        (Some(replacer), Some(text)) => {
-            Ok(Some(text_tree(alloc, replacer.replaced(alloc, text)?)?))
+    /// The tree of a text with the matches replaced.
+    fn given(
+        &mut self,
+        alloc: Global,
+        value: View<'_, '_>,
+    ) -> Result<Option<Doc<'static>>, AllocError>
+        ensures given { IfOk result (IsGiven (changes (ByTexts self.old.pattern.now self.old.template.now) (see_view value.entry))) }
+        ensures pattern { self.new.pattern.now ≡ self.old.pattern.now }
+        ensures template { self.new.template.now ≡ self.old.template.now }
+    {
+        match text_of(value) {
+            None => Ok(None),
+            Some(text) => Ok(Some(text_tree(alloc, self.replaced(alloc, text)?)?)),
         }
-        _ => Ok(None),
     }
 }

@@ -5,7 +5,6 @@ use Rattle.doc_values.specs.Tree.{Forest}
 use Rattle.guard_syntax.specs.declared.row.Row.{Row}
 use Rattle.rule_meaning.specs.Functions.{MadeRow, New, Kept, IsJson, IsLower, IsReplaced, IsUpper, IsSubstring, IsDecoded, IsInt, IsFloat, IsBoolean, IsPrinted}
 use Rattle.rule_meaning.specs.Values.{Value, has_pattern}
-use Rattle.value_compare.specs.declared.replacer.Replacer.{Replacer}
 use Rattle.guard_builtins.specs.declared.change.Change.{Change}
 use Rattle.guard_builtins.specs.declared.change.Change.TheVariants as change
 use Rattle.guard_builtins.specs.declared.made.Made.{Made}
@@ -36,16 +35,18 @@ gives change.ParseString v tree = IsPrinted v tree
 abbrev pub see_rows : Vec Row Global → List Row
 see_rows rows = rows.items
 
--- the texts of the pattern and the template by which it is replaced
-abbrev pub texts_of : Replacer → List ℕ × List ℕ
-texts_of r = (r.pattern.now, r.template.now)
+-- what is made of one value after another: what a function says, what replacing a pattern by a template says, or nothing
+pub data Changing : Type 0 where
+  ByFunction : Change → Changing
+  ByTexts : (pattern template : List ℕ) → Changing
+  ByNothing : Changing
+
+abbrev pub changes : Changing → Value → Forest → Type 0
+changes (ByFunction change) v tree = gives change v tree
+changes (ByTexts pattern template) v tree = IsReplaced (Some pattern) (Some template) v tree
+changes ByNothing v tree = ⊥
 
 -- two texts, where there are both
 abbrev pub both : Option (List ℕ) → Option (List ℕ) → Option (List ℕ × List ℕ)
 both (Some pattern) (Some template) = Some (pattern, template)
 both _ _ = None
-
--- what replacing by two texts, where there are both, gives for one value
-abbrev pub replaces : Option (List ℕ × List ℕ) → Value → Forest → Type 0
-replaces (Some texts) v tree = IsReplaced (Some texts.0) (Some texts.1) v tree
-replaces None v tree = ⊥

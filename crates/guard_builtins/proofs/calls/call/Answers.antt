@@ -12,8 +12,8 @@ returns-in-RegexReplace-clause-rows c =
     let three : length c.args.args.now ≡ 3 = c.requires.count ∙ ap arity c.in-RegexReplace.is in
     subst (λ f. IfOk c.regex_replace.result (λ made. Functions k f c.args.site (map see_rows c.args.args.now) (map see_made made.items))) (sym c.in-RegexReplace.is)
     (called-with-three c.regex_replace.result (λ rows pattern template made. AreRows (IsReplaced (single_text k pattern) (single_text k template)) k c.args.site rows made) c.args.args.now
-    c.index-args-0-in-RegexReplace.result c.index-args-1.result c.index-args-2.result c.deref-in-RegexReplace.result.now c.deref-in-RegexReplace-2.result.now c.deref-in-RegexReplace-3.result.now three
-    c.index-args-0-in-RegexReplace.is c.index-args-1.is c.index-args-2.is c.deref-in-RegexReplace.ensures.value c.deref-in-RegexReplace-2.ensures.value c.deref-in-RegexReplace-3.ensures.value
+    c.index-args-0.result c.index-args-1.result c.index-args-2.result c.as_slice-rows.result.now c.deref.result.now c.deref-in-RegexReplace.result.now three
+    c.index-args-0.is c.index-args-1.is c.index-args-2.is c.as_slice-rows.ensures.value c.deref.ensures.value c.deref-in-RegexReplace.ensures.value
     c.regex_replace.ensures.rows)
 
 pub returns-in-Substring-clause-rows : goal.returns-in-Substring-clause-rows
@@ -22,6 +22,6 @@ returns-in-Substring-clause-rows c =
     let three : length c.args.args.now ≡ 3 = c.requires.count ∙ ap arity c.in-Substring.is in
     subst (λ f. IfOk c.substring.result (λ made. Functions k f c.args.site (map see_rows c.args.args.now) (map see_made made.items))) (sym c.in-Substring.is)
     (called-with-three c.substring.result (λ rows from to made. AreRows (IsSubstring (single_whole k from) (single_whole k to)) k c.args.site rows made) c.args.args.now
-    c.index-args-0-in-Substring.result c.index-args-1-in-Substring.result c.index-args-2-in-Substring.result c.deref-in-Substring.result.now c.deref-in-Substring-2.result.now c.deref-in-Substring-3.result.now three
-    c.index-args-0-in-Substring.is c.index-args-1-in-Substring.is c.index-args-2-in-Substring.is c.deref-in-Substring.ensures.value c.deref-in-Substring-2.ensures.value c.deref-in-Substring-3.ensures.value
+    c.index-args-0.result c.index-args-1-in-Substring.result c.index-args-2-in-Substring.result c.as_slice-rows.result.now c.deref-in-Substring.result.now c.deref-in-Substring-2.result.now three
+    c.index-args-0.is c.index-args-1-in-Substring.is c.index-args-2-in-Substring.is c.as_slice-rows.ensures.value c.deref-in-Substring.ensures.value c.deref-in-Substring-2.ensures.value
     c.substring.ensures.rows)

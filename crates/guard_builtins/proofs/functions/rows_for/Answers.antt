@@ -1,14 +1,15 @@
-use Rattle.std.proofs.Common.{take}
+use Rattle.std.proofs.Common.{take, ◌∙◌}
 use Rattle.value_compare.specs.code.Stores.{see_store}
-use Rattle.guard_builtins.specs.code.Seen.{gives}
 use Rattle.guard_builtins.proofs.Plain.{rows-plain}
 use Rattle.guard_builtins.proofs.Rows.{rows-more}
 use Rattle.guard_builtins.proofs.functions.rows_for.Goals as goal
 
 pub loop-row-preserved : goal.loop-row-preserved
-loop-row-preserved c =
-    rows-more (gives c.args.change) (see_store c.args.store.now) c.args.site c.args.rows.now c.loop-row.row-index _ c.loop-row.made.items c.push.new.self.items c.in_ok-row_for.field-0
-    c.loop-row-test.true c.in_ok-push.ensures.items c.in_ok-row_for.ensures c.loop-row.invariant
+loop-row-preserved g c = record {
+  rows = rows-more (g.C.ValueChange.changing c.loop-row.change) (g.C.ValueChange.changing c.args.change) (see_store c.args.store.now) c.args.site c.args.rows.now c.loop-row.row-index _ c.loop-row.made.items c.push.new.self.items c.in_ok-row_for.field-0
+      c.loop-row.invariant.kept c.loop-row-test.true c.in_ok-push.ensures.items c.in_ok-row_for.ensures.row c.loop-row.invariant.rows;
+  kept = c.row_for.ensures.kept ∙ c.loop-row.invariant.kept;
+}
 
 pub returns-clause-plain : goal.returns-clause-plain
-returns-clause-plain c = rows-plain c.args.change (see_store c.args.store.now) c.args.site (take c.loop-row.row-index c.args.rows.now) c.loop-row.made.items c.loop-row.invariant
+returns-clause-plain g c = rows-plain (g.C.ValueChange.changing c.args.change) (see_store c.args.store.now) c.args.site (take c.loop-row.row-index c.args.rows.now) c.loop-row.made.items c.loop-row.invariant.rows
