@@ -35,20 +35,21 @@ pub fn call(
     ensures no_memory { is_by_row function ≡ true → argument (map see_rows args.now) 0 ≡ [] → IsOk result }
 {
     let rows = args[0].as_slice();
-    match function {
-        Function::Count => count(alloc, rows),
-        Function::JsonParse => rows_for(alloc, Change::JsonParse, site, rows, store),
+    let change = match function {
+        Function::Count => return count(alloc, rows),
+        Function::Join => return join(alloc, site, rows, &args[1], store),
         Function::RegexReplace => {
-            regex_replace(alloc, site, rows, &args[1], &args[2], store, book)
+            return regex_replace(alloc, site, rows, &args[1], &args[2], store, book);
         }
-        Function::Join => join(alloc, site, rows, &args[1], store),
-        Function::ToLower => rows_for(alloc, Change::ToLower, site, rows, store),
-        Function::ToUpper => rows_for(alloc, Change::ToUpper, site, rows, store),
-        Function::Substring => substring(alloc, site, rows, &args[1], &args[2], store),
-        Function::UrlDecode => rows_for(alloc, Change::UrlDecode, site, rows, store),
-        Function::ParseInt => rows_for(alloc, Change::ParseInt, site, rows, store),
-        Function::ParseFloat => rows_for(alloc, Change::ParseFloat, site, rows, store),
-        Function::ParseBoolean => rows_for(alloc, Change::ParseBoolean, site, rows, store),
-        Function::ParseString => rows_for(alloc, Change::ParseString, site, rows, store),
-    }
+        Function::Substring => return substring(alloc, site, rows, &args[1], &args[2], store),
+        Function::JsonParse => Change::JsonParse,
+        Function::ToLower => Change::ToLower,
+        Function::ToUpper => Change::ToUpper,
+        Function::UrlDecode => Change::UrlDecode,
+        Function::ParseInt => Change::ParseInt,
+        Function::ParseFloat => Change::ParseFloat,
+        Function::ParseBoolean => Change::ParseBoolean,
+        Function::ParseString => Change::ParseString,
+    };
+    rows_for(alloc, change, site, rows, store)
 }
