@@ -35,7 +35,7 @@ pub fn call(
     ensures no_memory { is_by_row function ≡ true → argument (map see_rows args.now) 0 ≡ [] → IsOk result }
 {
     let rows = args[0].as_slice();
-    let change = match function {
+    let mut change = match function {
         Function::Count => return count(alloc, rows),
         Function::Join => return join(alloc, site, rows, &args[1], store),
         Function::RegexReplace => {
@@ -51,5 +51,5 @@ pub fn call(
         Function::ParseBoolean => Change::ParseBoolean,
         Function::ParseString => Change::ParseString,
     };
-    rows_for(alloc, change, site, rows, store)
+    rows_for(alloc, &mut change, site, rows, store)
 }

@@ -85,20 +85,20 @@ fn row_for<C: ValueChange>(
 }
 
 /// A row of the answer for each row of the first argument. Where there is none, no memory is taken.
-pub(crate) fn rows_for<C: ValueChange + Drop>(
+pub(crate) fn rows_for<C: ValueChange>(
     alloc: Global,
-    mut change: C,
+    change: &mut C,
     site: u32,
     rows: &[Row],
     store: &Store<'_, '_>,
 ) -> Result<Vec<Made>, AllocError>
-    ensures rows { IfOk result (λ made. AreRows (changes (C.changing change)) (see_store store.now) site rows.now (map see_made made.items)) }
+    ensures rows { IfOk result (λ made. AreRows (changes (C.changing change.old)) (see_store store.now) site rows.now (map see_made made.items)) }
     ensures plain { IfOk result (λ made. list_all is_plain made.items ≡ true) }
     ensures no_memory { rows.now ≡ [] → IsOk result }
 {
     let mut made = Vec::new(alloc);
     for row in rows {
-        made.push(row_for(alloc, &mut change, site, row, store)?)?;
+        made.push(row_for(alloc, change, site, row, store)?)?;
     }
     Ok(made)
 }
@@ -117,6 +117,6 @@ pub fn substring(
     ensures plain { IfOk result (λ made. list_all is_plain made.items ≡ true) }
     ensures no_memory { rows.now ≡ [] → IsOk result }
 {
-    let change = Change::Substring(single_whole(from, store), single_whole(to, store));
-    rows_for(alloc, change, site, rows, store)
+    let mut change = Change::Substring(single_whole(from, store), single_whole(to, store));
+    rows_for(alloc, &mut change, site, rows, store)
 }

@@ -37,10 +37,10 @@ pub fn regex_replace(
         return Ok(Vec::new(alloc));
     }
     let Some((pattern, template)) = texts(pattern, template, store) else {
-        return rows_for(alloc, NoChange, site, rows, store);
+        return rows_for(alloc, &mut NoChange, site, rows, store);
     };
-    let replacer = book.replacer(alloc, pattern, template)?;
-    rows_for(alloc, replacer, site, rows, store)
+    let mut replacer = book.replacer(alloc, pattern, template)?;
+    rows_for(alloc, &mut replacer, site, rows, store)
 }
 
 /// The texts of pattern and template, where both are single texts.
