@@ -4,7 +4,7 @@ ghost use Rattle.guard_words.specs.Request.{name_of, options_of, kind_in};
 ghost use Rattle.guard_words.specs.code.Reading.{command_in, row_text};
 
 /// What the first word asks `guard` to do.
-#[derive(Clone, Copy, Debug, PartialEq, Eq)]
+#[derive(Clone, Copy, PartialEq, Eq)]
 pub(crate) enum Command {
     Validate,
     Check,
@@ -12,7 +12,7 @@ pub(crate) enum Command {
 }
 
 /// What stands behind an option: the name of a file, a count, or nothing.
-#[derive(Clone, Copy, Debug, PartialEq, Eq)]
+#[derive(Clone, Copy, PartialEq, Eq)]
 pub(crate) enum Kind {
     File,
     Count,

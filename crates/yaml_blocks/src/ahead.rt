@@ -12,7 +12,7 @@ use yaml_scalars::lines::{
 };
 
 /// A token of a document, but for scalars.
-#[derive(Clone, Copy, Debug)]
+#[derive(Clone, Copy)]
 pub enum Token {
     /// The text's end.
     End,
@@ -45,7 +45,7 @@ pub enum Token {
 }
 
 /// What is ahead of a place.
-#[derive(Clone, Copy, Debug)]
+#[derive(Clone, Copy)]
 pub(crate) struct Ahead {
     pub(crate) token: Token,
     /// Whether it begins a line.

@@ -1,7 +1,7 @@
 //! What nodes stand in.
 
 /// What a node stands in: the innermost open collection, if one is open.
-#[derive(Clone, Copy, Debug)]
+#[derive(Clone, Copy)]
 pub(crate) enum Form {
     /// No collection: the node is the root.
     Root,

@@ -20,7 +20,7 @@ use std::borrow::CowStr;
 use yaml_scalars::{Scalar, Setting, read_scalar};
 
 /// A key outside of flow.
-#[derive(Debug, Drop)]
+#[derive(Drop)]
 pub(crate) struct Key<'s> {
     pub(crate) text: CowStr<'s>,
     /// The place behind its colon.

@@ -1,7 +1,7 @@
 //! Where reading stands.
 
 /// What may stand at a place.
-#[derive(Clone, Copy, Debug)]
+#[derive(Clone, Copy)]
 pub(crate) enum Stage {
     /// An entry in brackets or the closing one: behind the opening one, or behind a comma.
     Entry,
@@ -14,7 +14,7 @@ pub(crate) enum Stage {
 }
 
 /// A stage and a byte offset.
-#[derive(Clone, Copy, Debug)]
+#[derive(Clone, Copy)]
 pub(crate) struct Position {
     pub(crate) stage: Stage,
     pub(crate) at: usize,

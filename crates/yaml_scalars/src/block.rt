@@ -20,7 +20,7 @@ use std::alloc::{AllocError, Global};
 use std::borrow::CowStr;
 
 /// How the lines of a block scalar become its text.
-#[derive(Clone, Copy, Debug)]
+#[derive(Clone, Copy)]
 struct Style {
     folded: bool,
     chomp: Chomp,
@@ -29,7 +29,7 @@ struct Style {
 }
 
 /// The last line of a block scalar that is not empty.
-#[derive(Clone, Copy, Debug)]
+#[derive(Clone, Copy)]
 struct Last {
     /// Whether it begins with white space.
     white: bool,
@@ -38,7 +38,7 @@ struct Last {
 }
 
 /// What is read of a block scalar.
-#[derive(Debug, Drop)]
+#[derive(Drop)]
 struct Reading {
     text: String,
     last: Option<Last>,
@@ -47,7 +47,7 @@ struct Reading {
 }
 
 /// The indentation of the content, by its lines.
-#[derive(Clone, Copy, Debug)]
+#[derive(Clone, Copy)]
 enum Inner {
     /// There are only blank lines.
     Nothing,

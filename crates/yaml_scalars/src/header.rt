@@ -7,7 +7,7 @@ ghost use Rattle.yaml_scalars.specs.code.BlockSteps.{header_seen};
 use crate::lines::ends_line;
 
 /// What is kept of the line breaks at the end of a block scalar.
-#[derive(Clone, Copy, Debug)]
+#[derive(Clone, Copy)]
 pub(crate) enum Chomp {
     /// One, if there is one.
     Clip,
@@ -18,7 +18,7 @@ pub(crate) enum Chomp {
 }
 
 /// The header of a block scalar, up to a place.
-#[derive(Clone, Copy, Debug)]
+#[derive(Clone, Copy)]
 pub(crate) struct Header {
     pub(crate) digit: Option<u8>,
     pub(crate) chomp: Chomp,

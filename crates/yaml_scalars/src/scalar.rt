@@ -5,7 +5,7 @@ use std::borrow::CowStr;
 use thiserror::Error;
 
 /// What a scalar stands in.
-#[derive(Clone, Copy, Debug, PartialEq, Eq)]
+#[derive(Clone, Copy, PartialEq, Eq)]
 pub struct Setting {
     /// The indentation of the parent, -1 at the top.
     pub parent: i32,
@@ -16,7 +16,7 @@ pub struct Setting {
 }
 
 /// A scalar that was read.
-#[derive(Debug, Drop)]
+#[derive(Drop)]
 pub struct Scalar<'s> {
     /// The kind of a plain scalar that is no key, by its text; else `Text`.
     pub kind: Kind,
