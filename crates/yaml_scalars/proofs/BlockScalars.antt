@@ -2,6 +2,7 @@
 use Rattle.std.proofs.Common.{◌≡◌, ℕ, suc, ◌+◌, ◌-◌, ◌<◌, ◌≤◌, ◌⊎◌, Bool, true, false, List, [], ◌∷◌, length, get_or, drop, refl, sym, ap, ◌∙◌, arith, cond, Option, Some, None, drop-cons}
 use Rattle.std.specs.Prelude.{ℤ, nat_eq, ◌||◌, ◌&&◌}
 use Rattle.std.proofs.lemmas.Bool.Decides.{nat_tests}
+use Rattle.std.proofs.lemmas.Option.{none-some, same_Some}
 use Rattle.yaml_scalars.specs.declared.header.Header.{Header as Head}
 use Rattle.yaml_scalars.specs.Lines.{Line, Fails, begins_with, lines}
 use Rattle.yaml_scalars.specs.Block.{Header, header, header_fault, by_digit, block_on}
@@ -45,10 +46,10 @@ pub block_fault : (parent : ℤ) (text : List ℕ) (at : ℕ) (h : Head) (n : �
     → block_on parent (length text) (lines at (drop at text)) ≡ Fails n
 block_fault parent text at h n l i e w k f = ap (block_on parent (length text)) (lines_are at (drop at text)) ∙ by_fault (header_fault false 0 (line_at (drop h.end text))) refl (sym (fault_of h.end (line_at (drop h.end text))) ∙ f) where
   by_fault : (o : Option ℕ) → header_fault false 0 (line_at (drop h.end text)) ≡ o → moved h.end o ≡ Some n → block_on parent (length text) (line_of text at ∷ behind at (drop at text)) ≡ Fails n
-  by_fault None g m = absurd (cc)
+  by_fault None g m = absurd (none-some _ m)
   by_fault (Some j) g m =
       let first : length (line_at (drop at text)) ≡ suc (length (line_at (drop (at + 1) text))) = ap (λ (t : List ℕ). length t) (first_byte text at l i) in
-      let p : h.end + j ≡ n = cc in
+      let p : h.end + j ≡ n = same_Some _ _ m in
       let q : at + (length (line_at (drop at text)) - length (line_at (drop h.end text))) + j ≡ n = omega (arith, first, k, p, w) in
       on_fault parent (length text) (line_of text at) (behind at (drop at text)) (header_seen text h) j (header_is text at h l i e) g ∙ ap Fails q
 

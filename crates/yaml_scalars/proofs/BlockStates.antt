@@ -1,5 +1,6 @@
 -- A block scalar over the lines from a place on, one line more.
 use Rattle.std.proofs.Common.{◌≡◌, ℕ, suc, ◌+◌, Bool, true, false, List, [], ◌∷◌, ◌++◌, length, drop, refl, sym, ap, ◌∙◌, arith, cond, Option, Some, None}
+use Rattle.std.proofs.lemmas.Option.{none-some}
 use Rattle.yaml_scalars.specs.declared.header.Chomp.{Chomp as Chomping}
 use Rattle.yaml_scalars.specs.declared.block.Style.{Style}
 use Rattle.yaml_scalars.specs.Lines.{Line, Outcome, Stands, Fails, is_blank, indent, lines}
@@ -47,7 +48,7 @@ content_line s bytes place text last e part h r t = ap (λ ls. content_more s.fo
   by_return : (o : Option ℕ) → return_behind 0 (line_at (drop place bytes)) ≡ o → moved place o ≡ None → content_more s.folded (chomp_seen s.chomp) s.inner (length bytes) (line_of bytes place ∷ behind place (drop place bytes)) text last e
       ≡ content_more s.folded (chomp_seen s.chomp) s.inner (length bytes) (behind place (drop place bytes)) (text_more s.folded last e text part) (last_more last (has_break (drop place bytes)) part) (count_more e (has_break (drop place bytes)) part)
   by_return None g k = more_line s.folded (chomp_seen s.chomp) s.inner (length bytes) (line_of bytes place) (behind place (drop place bytes)) text last e part h g (sym t)
-  by_return (Some m) g k = absurd (cc)
+  by_return (Some m) g k = absurd (none-some _ (sym k))
 
 -- a line with a break, as it is added
 pub content_next : (s : Style) (bytes : List ℕ) (place next : ℕ) (text : List ℕ) (last : Option Last) (e : ℕ) (part text1 : List ℕ) (last1 : Option Last) (e1 : ℕ) → is_content s.inner (line_at (drop place bytes)) ≡ true → return_behind place (line_at (drop place bytes)) ≡ None → part ≡ taken_off s.inner (line_at (drop place bytes))

@@ -34,13 +34,16 @@ digits_line w (suc k) n c (x ∷ xs) = by_break (begins_break x xs) (λ h. break
   by_break false f h = ap (λ d. cond (is_hex x && may_go_on w k (n * 16 + hex x)) d (Short c)) h
 
 -- digits that spell a number are there
+short_number : (c m : ℕ) → Short c ≡ Number m → ⊥
+short_number c m h = cc
+
 pub digits_long : (w : Wanted) (k n c m : ℕ) (xs : List ℕ) → digits w k n c xs ≡ Number m → k ≤ length xs
 digits_long w zero n c m xs h = omega arith
-digits_long w (suc k) n c m [] h = absurd (cc)
+digits_long w (suc k) n c m [] h = absurd (short_number c m h)
 digits_long w (suc k) n c m (x ∷ xs) h = by_digit (is_hex x && may_go_on w k (n * 16 + hex x)) h (λ e. digits_long w k (n * 16 + hex x) (suc c) m xs e) where
   by_digit : (q : Bool) → cond q (digits w k (n * 16 + hex x) (suc c) xs) (Short c) ≡ Number m → (digits w k (n * 16 + hex x) (suc c) xs ≡ Number m → k ≤ length xs) → suc k ≤ suc (length xs)
   by_digit true e f = let l = f e in omega arith
-  by_digit false e f = absurd (cc)
+  by_digit false e f = absurd (short_number c m e)
 
 pair_line : (high : ℕ) (xs : List ℕ) → of_pair high (line_at xs) ≡ of_pair high xs
 pair_line high [] = refl

@@ -1,11 +1,11 @@
 -- What the digits of an escape mean.
-use Rattle.std.proofs.Common.{◌≡◌, ℕ, ◌+◌, ◌-◌, ◌*◌, ◌^◌, ◌<◌, true, false, List, ◌∷◌, length, drop, get_or, sym, ap, ap₂, subst, ◌∙◌, arith, cond}
-use Rattle.std.specs.Prelude.{not, encode_utf8}
+use Rattle.std.proofs.Common.{◌≡◌, ℕ, ◌+◌, ◌-◌, ◌*◌, ◌^◌, ◌<◌, Bool, true, false, Option, List, refl, ◌∷◌, length, drop, get_or, sym, ap, ap₂, subst, ◌∙◌, arith, cond}
+use Rattle.std.specs.Prelude.{not, nat_eq, encode_utf8}
 use Rattle.std.proofs.lemmas.Bool.Decides.{nat_tests}
 use Rattle.std.proofs.lemmas.List.{drop-drop}
 use Rattle.yaml_scalars.specs.declared.escape.Meaning.{Meaning}
 use Rattle.yaml_scalars.specs.declared.escape.Wanted.TheVariants.{FirstUnit, SecondUnit}
-use Rattle.yaml_scalars.specs.Quoted.{Piece, Means, Number, is_high, is_low, is_character, digits, of_low, of_pair, of_unit, escape}
+use Rattle.yaml_scalars.specs.Quoted.{Piece, Means, Number, is_high, is_low, is_character, digits, of_low, of_pair, of_unit, of_letter, letter, escape}
 use Rattle.yaml_scalars.specs.code.QuotedSteps.{IsMeaning}
 use Rattle.yaml_scalars.proofs.EscapeDigits.{ahead}
 
@@ -36,9 +36,29 @@ unit_high n more e = ap (λ q. cond q (of_pair n more) (Means 5 (encode_utf8 n))
 pub unit_single : (n : ℕ) (more : List ℕ) → is_high n ≡ false → of_unit (Number n) more ≡ Means 5 (encode_utf8 n)
 unit_single n more e = ap (λ q. cond q (of_pair n more) (Means 5 (encode_utf8 n))) e
 
+-- what is ahead, by its first byte
+pub byte_ahead : (bytes : List ℕ) (at b : ℕ) → at < length bytes → get_or bytes at 0 ≡ b → escape (drop at bytes) ≡ escape (b ∷ drop (at + 1) bytes)
+byte_ahead bytes at b l h = ap escape (ahead bytes at l ∙ ap (λ x. x ∷ drop (at + 1) bytes) h)
+
+by_letter : (p q r s : Bool) (a b c d e : Piece) → p ≡ false → q ≡ false → r ≡ false → s ≡ false → cond p a (cond q b (cond r c (cond s d e))) ≡ e
+by_letter p q r s a b c d e hp hq hr hs =
+    ap (λ x. cond x a (cond q b (cond r c (cond s d e)))) hp ∙ ap (λ x. cond x b (cond r c (cond s d e))) hq ∙ ap (λ x. cond x c (cond s d e)) hr ∙ ap (λ x. cond x d e) hs
+
+differs : (a b : ℕ) → (a ≡ b → ⊥) → nat_eq a b ≡ false
+differs a b h = grind (arith, nat_tests)
+
+-- a byte is ahead that says its character alone, or none
+pub letter_ahead : (bytes : List ℕ) (at : ℕ) (o : Option ℕ) → at < length bytes → (get_or bytes at 0 ≡ 13 → ⊥) → (get_or bytes at 0 ≡ 120 → ⊥) → (get_or bytes at 0 ≡ 117 → ⊥) → (get_or bytes at 0 ≡ 85 → ⊥)
+    → o ≡ letter (get_or bytes at 0) → escape (drop at bytes) ≡ of_letter o
+letter_ahead bytes at o l returns x small_u large_u h =
+    let b = get_or bytes at 0 in
+    byte_ahead bytes at b l refl
+    ∙ by_letter (nat_eq b 13) (nat_eq b 120) (nat_eq b 117) (nat_eq b 85) _ _ _ _ (of_letter (letter b)) (differs b 13 returns) (differs b 120 x) (differs b 117 small_u) (differs b 85 large_u)
+    ∙ ap of_letter (sym h)
+
 -- the letter `u` is ahead
 pub unit_ahead : (bytes : List ℕ) (at : ℕ) → at < length bytes → get_or bytes at 0 ≡ 117 → escape (drop at bytes) ≡ of_unit (digits FirstUnit 4 0 1 (drop (at + 1) bytes)) (drop (at + 5) bytes)
 unit_ahead bytes at l h =
     let e : at + 1 + 4 ≡ at + 5 = omega arith in
-    ap escape (ahead bytes at l ∙ ap (λ b. b ∷ drop (at + 1) bytes) h)
+    byte_ahead bytes at 117 l h
     ∙ ap (of_unit (digits FirstUnit 4 0 1 (drop (at + 1) bytes))) (drop-drop 4 (at + 1) bytes ∙ ap (λ k. drop k bytes) e)

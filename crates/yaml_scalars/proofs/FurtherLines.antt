@@ -1,5 +1,5 @@
 -- The further lines of a plain scalar.
-use Rattle.std.proofs.Common.{◌≡◌, ℕ, zero, suc, ◌+◌, ◌-◌, ◌<◌, ◌≤◌, ◌⊎◌, Bool, true, false, List, [], ◌∷◌, ◌++◌, Option, Some, None, length, take, drop, get_or, refl, sym, ap, inl, inr, ◌∙◌, arith, cond, get_or-drop, append_assoc}
+use Rattle.std.proofs.Common.{◌≡◌, ℕ, zero, suc, ◌+◌, ◌-◌, ◌<◌, ◌≤◌, ◌⊎◌, Bool, true, false, List, [], ◌∷◌, ◌++◌, Option, Some, None, Result, Ok, Err, IfOk, length, take, drop, get_or, refl, sym, ap, inl, inr, ◌∙◌, arith, cond, get_or-drop, append_assoc}
 use Rattle.std.specs.Prelude.{nat_eq, nat_lt, ◌||◌, ◌&&◌, not}
 use Rattle.std.proofs.lemmas.Bool.Decides.{nat_tests}
 use Rattle.std.proofs.lemmas.Bool.{le-ltb}
@@ -225,6 +225,11 @@ lies_before bytes a b (Some l) h g = (omega (arith, h, g.0), g.1, g.2)
 
 pub ends_same : (s : Setting) (bytes : List ℕ) (l : FurtherLine) (t : List ℕ) (e : ℕ) (next : Option FurtherLine) (u : List ℕ) (f : ℕ) → rest s bytes (Some l) t e ≡ ends_on s.flow (line_at (drop l.begin bytes)) l.begin t e l.blanks → ends_on s.flow (line_at (drop l.begin bytes)) l.begin t e l.blanks ≡ Stands u f → next ≡ None → rest s bytes (Some l) t e ≡ rest s bytes next u f
 ends_same s bytes l t e next u f a b n = a ∙ b ∙ sym (ap (λ n. rest s bytes n u f) n)
+
+-- two facts about the value of a call
+pub on_ok_both : {T E : Type 0} (r : Result T E) (A B C : Type 0) → IfOk r (λ _. A) → IfOk r (λ _. B) → (A → B → C) → IfOk r (λ _. C)
+on_ok_both (Ok x) A B C a b f = f a b
+on_ok_both (Err e) A B C a b f = tt
 
 pub not_true : (q : Bool) → not q ≡ true → q ≡ false
 not_true false h = refl

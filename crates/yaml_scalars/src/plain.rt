@@ -122,8 +122,7 @@ fn end_on(
     if stop == line.begin {
         return Ok(());
     }
-    push_content(text, line, stop, flow, reading)?;
-    Ok(())
+    push_content(text, line, stop, flow, reading)
 }
 
 /// Adds a further line to a scalar.
@@ -145,21 +144,21 @@ fn add_line(
     match why_at(bytes, stop) {
         Why::Return => {
             let shown = return_shown(bytes, line.begin, stop, setting.flow);
-            return Err(ScalarRefusal::Syntax(shown as u32));
+            Err(ScalarRefusal::Syntax(shown as u32))
         }
         Why::Break => {
             push_content(text, line, stop, setting.flow, reading)?;
             reading.next = next_content(bytes, stop, setting);
+            Ok(())
         }
         Why::Comment => {
-            push_content(text, line, stop, setting.flow, reading)?;
             reading.next = None;
+            push_content(text, line, stop, setting.flow, reading)
         }
-        Why::Colon if !setting.flow => return Err(ScalarRefusal::Syntax(stop as u32 + 1)),
-        Why::Colon => end_on(text, line, stop, setting.flow, reading)?,
-        Why::Mark => end_on(text, line, stop, setting.flow, reading)?,
+        Why::Colon if !setting.flow => Err(ScalarRefusal::Syntax(stop as u32 + 1)),
+        Why::Colon => end_on(text, line, stop, setting.flow, reading),
+        Why::Mark => end_on(text, line, stop, setting.flow, reading),
     }
-    Ok(())
 }
 
 /// Reads a scalar over its further lines.

@@ -5,7 +5,7 @@ use std::borrow::CowStr;
 use thiserror::Error;
 
 /// What a scalar stands in.
-#[derive(Clone, Copy, PartialEq, Eq)]
+#[derive(Clone, Copy)]
 pub struct Setting {
     /// The indentation of the parent, -1 at the top.
     pub parent: i32,

@@ -1,4 +1,5 @@
-use Rattle.std.proofs.Common.{◌≡◌, ℕ, List, ◌+◌, ◌<◌, ◌++◌, length, get_or, drop, arith, subst, sym, ◌∙◌, ap}
+use Rattle.std.proofs.lemmas.Grind.{common_steps}
+use Rattle.std.proofs.Common.{◌≡◌, ℕ, List, ◌+◌, ◌<◌, ◌++◌, length, get_or, drop, arith, subst, sym, ◌∙◌, ap, rules}
 use Rattle.std.specs.Prelude.{string_bytes}
 use Rattle.yaml_scalars.specs.Lines.{is_white}
 use Rattle.yaml_scalars.specs.code.Walk.{line_at}
@@ -20,3 +21,9 @@ pub range-requires-clause-end_boundary : goal.range-requires-clause-end_boundary
 range-requires-clause-end_boundary c =
     let end : c.line_end-end.result ≡ c.args.begin + length (line_at (drop c.args.begin c.args.text.now)) = subst (λ (t : List ℕ). c.line_end-end.result ≡ c.args.begin + length (line_at (drop c.args.begin t))) c.as_bytes-bytes.ensures.value c.line_end-end.ensures.end in
     line_boundary c.args.text.now c.args.begin c.line_end-end.result c.requires.begin.0 end
+
+pub returns-clause-last : goal.returns-clause-last
+returns-clause-last c = grind (arith, common_steps)
+
+pub returns-clause-empties : goal.returns-clause-empties
+returns-clause-empties c = grind (arith, common_steps)

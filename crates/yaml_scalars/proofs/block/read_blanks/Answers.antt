@@ -1,3 +1,4 @@
+use Rattle.std.proofs.lemmas.Grind.{common_steps}
 use Rattle.std.proofs.Common.{◌≡◌, ℕ, List, [], ◌-◌, ◌≤◌, ◌++◌, length, get_or, drop, arith, subst, sym, ◌∙◌, ap, true, false, None}
 use Rattle.std.specs.Prelude.{Option}
 use Rattle.yaml_scalars.specs.Lines.{is_blank, lines}
@@ -41,3 +42,9 @@ loop-place-preserved c =
     let within : next ≤ length text = subst (λ (b : List ℕ). next ≤ length b) v c.in-Some.ensures.2 in
     let feed : get_or text (next - 1) 0 ≡ 10 = subst (λ (b : List ℕ). get_or b (next - 1) 0 ≡ 10) v c.in-Some.ensures.3 in
     (omega (arith, c.loop-place.invariant.0, c.in-Some.ensures.1), within, after_feed text next c.utf8.text (omega (arith, c.in-Some.ensures.1)) within feed, omega (arith, c.loop-place.invariant.3, c.in-Some.ensures.1), c.loop-place.invariant.4, c.loop-place.invariant.5, c.loop-place.invariant.6 ∙ blank_next c.args.chomp text place next c.loop-place.reading.empties h n k)
+
+pub returns-in-None-clause-end : goal.returns-in-None-clause-end
+returns-in-None-clause-end c = grind (arith, common_steps)
+
+pub returns-then-not-is_blank-clause-end : goal.returns-then-not-is_blank-clause-end
+returns-then-not-is_blank-clause-end c = grind (arith, common_steps)

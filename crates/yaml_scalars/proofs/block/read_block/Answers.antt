@@ -1,3 +1,4 @@
+use Rattle.std.proofs.lemmas.Grind.{common_steps}
 use Rattle.std.proofs.Common.{◌≡◌, ℕ, List, ◌+◌, ◌-◌, ◌≤◌, length, get_or, drop, arith, subst, sym, ◌∙◌, ap, true, false, Some, None, rules, ℤ, FitsSigned, w32}
 use Rattle.std.proofs.lemmas.Int.{to_z-of_z}
 use Rattle.std.specs.Prelude.{nat_eq}
@@ -59,3 +60,12 @@ returns-in-Some-next_line-clause-answer c =
 
 pub returns-in-Some-next_line-clause-memory : goal.returns-in-Some-next_line-clause-memory
 returns-in-Some-next_line-clause-memory c want = subst (λ (b : List ℕ). has_break (drop c.args.at b) ≡ true) c.as_bytes-bytes.ensures.value c.in-Some-next_line.ensures.0
+
+pub read_lines-requires-clause-high : goal.read_lines-requires-clause-high
+read_lines-requires-clause-high c = grind (arith, common_steps)
+
+pub read_lines-requires-clause-low : goal.read_lines-requires-clause-low
+read_lines-requires-clause-low c = grind (arith, common_steps)
+
+pub returns-in-Some-next_line-clause-end : goal.returns-in-Some-next_line-clause-end
+returns-in-Some-next_line-clause-end c = grind (arith, common_steps)

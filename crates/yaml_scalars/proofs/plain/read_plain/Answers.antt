@@ -1,3 +1,4 @@
+use Rattle.std.proofs.lemmas.Grind.{common_steps}
 use Rattle.std.proofs.Common.{◌≡◌, ℕ, List, ◌+◌, ◌-◌, ◌<◌, ◌≤◌, true, false, length, take, drop, arith, refl, subst, sym, ◌∙◌, ap}
 use Rattle.std.specs.Prelude.{◌||◌, ◌&&◌, not, slice_index}
 use Rattle.std.specs.Cow.{cow_str_bytes}
@@ -11,6 +12,9 @@ use Rattle.yaml_scalars.proofs.FurtherLines.{content_is, not_true, not_false, st
 use Rattle.yaml_scalars.proofs.PlainFirst.{plain_mark, plain_wrong, plain_first, first_return, first_break, first_stands, line_filled, content_some, end_of}
 use Rattle.yaml_scalars.proofs.plain.read_plain.Goals.{in_default-via-in-Break+else-not-setting, in_default-via-in_default}
 use Rattle.yaml_scalars.proofs.plain.read_plain.Goals as goal
+
+break_apart : Break ≡ Return → ⊥
+break_apart e = cc
 
 pub returns-then-is_mark_at-clause-answer : goal.returns-then-is_mark_at-clause-answer
 returns-then-is_mark_at-clause-answer c =
@@ -101,7 +105,7 @@ returns-in_default-clause-answer c =
     let fits : end ≤ length text = omega (arith, within, c.trim_end-end.ensures.to) in
     let size = slice_length text (take (end - at) (drop at text)) at end c.trim_end-end.ensures.from fits refl in
     let w = subst (λ (t : List ℕ). c.why_at.result ≡ why (line_at (drop stop t))) v c.why_at.ensures in
-    let r : c.why_at.result ≡ Return → ⊥ = λ h. elim c.in_default.branch [ in_default-via-in-Break+else-not-setting x ↦ absurd (let y : Break ≡ Return = sym x.in-Break.is ∙ h in cc) | in_default-via-in_default x ↦ x.in_default.not-Return h ] in
+    let r : c.why_at.result ≡ Return → ⊥ = λ h. elim c.in_default.branch [ in_default-via-in-Break+else-not-setting x ↦ absurd (break_apart (sym x.in-Break.is ∙ h)) | in_default-via-in_default x ↦ x.in_default.not-Return h ] in
     let k : c.why_at.result ≡ Break → c.args.setting.one_line ≡ true = λ h. elim c.in_default.branch [ in_default-via-in-Break+else-not-setting x ↦ not_false c.args.setting.one_line x.if-not-setting.false | in_default-via-in_default x ↦ absurd (x.in_default.not-Break h) ] in
     let o = plain_first c.args.setting text at stop c.why_at.result m b e w ∙ first_stands c.args.setting text at c.why_at.result (take (end - at) (drop at text)) end r k slice size in
     (o ∙ stands_same (take (end - at) (drop at text)) (cow_str_bytes c.scalar.result.text) end c.scalar.result.end (c.scalar.ensures.text ∙ c.range.ensures.value) c.scalar.ensures.end, subst (λ t. HasKind (not c.args.setting.one_line) t c.scalar.result.kind) (sym c.scalar.ensures.text) c.scalar.ensures.kind)

@@ -1,3 +1,4 @@
+use Rattle.std.proofs.lemmas.Grind.{common_steps}
 use Rattle.std.proofs.Common.{◌≡◌, ℕ, List, true, false, ◌+◌, ◌-◌, ◌<◌, ◌≤◌, ◌++◌, length, take, drop, get_or, arith, sym, subst, ap, ◌∙◌}
 use Rattle.std.specs.Prelude.{string_bytes, encode_utf8}
 use Rattle.std.specs.Str.{IsCharBoundary}
@@ -157,3 +158,6 @@ pub meaning_at-requires-clause-special : goal.meaning_at-requires-clause-special
 meaning_at-requires-clause-special c =
     let more = c.ends_line.ensures.more c.if-ends_line.false in
     sym (c.requires.specials (get_or c.as_bytes-bytes.result.now c.first_special-stop.result 0)) ∙ c.first_special-stop.ensures.found more.0
+
+pub read_break-requires-in-Joins-clause-within : goal.read_break-requires-in-Joins-clause-within
+read_break-requires-in-Joins-clause-within c = grind (arith, common_steps)
