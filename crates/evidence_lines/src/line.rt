@@ -8,7 +8,7 @@ use guard_syntax::{Ref, Row, Verdict};
 use std::marker::Model;
 
 /// What a line is about.
-#[derive(Clone, Copy, Debug, PartialEq, Eq)]
+#[derive(Clone, Copy, PartialEq, Eq)]
 pub enum LineKind {
     /// The template's root, in the frame of the file.
     File,
@@ -51,7 +51,7 @@ pub enum LineKind {
 }
 
 /// What a line can say.
-#[derive(Clone, Copy, Debug, PartialEq, Eq)]
+#[derive(Clone, Copy)]
 pub enum Sort {
     Value,
     Rows,
@@ -164,7 +164,7 @@ impl LineKind {
 }
 
 /// The numbers of lines that a line cites, in order. Contracts see a list.
-#[derive(Debug, Drop)]
+#[derive(Drop)]
 pub struct Cites {
     items: Vec<u64>,
 }
@@ -201,7 +201,7 @@ impl Cites {
 }
 
 /// The rows that a line says, in order. Contracts see a list.
-#[derive(Debug, Drop)]
+#[derive(Drop)]
 pub struct Rows {
     items: Vec<Row>,
 }
@@ -239,7 +239,7 @@ impl Rows {
 }
 
 /// What a line says.
-#[derive(Debug, Drop)]
+#[derive(Drop)]
 pub enum Outcome {
     /// The current value of a frame.
     Value(Ref),
@@ -249,7 +249,7 @@ pub enum Outcome {
 
 /// A line of evidence. Lines are numbered from 1; a frame is the number of the line of kind `File` or `Frame` that names
 /// it, and a site that of a part of the rule file.
-#[derive(Debug, Drop)]
+#[derive(Drop)]
 pub struct Line {
     pub kind: LineKind,
     pub frame: Option<u64>,

@@ -3,7 +3,7 @@ use std::alloc::AllocError;
 use thiserror::Error;
 
 /// Why bytes are no evidence.
-#[derive(Clone, Copy, Debug, PartialEq, Eq, Error)]
+#[derive(Clone, Copy, Debug, Error)]
 pub enum EvidenceRefusal {
     /// The number of the first line that is not in the format. The header is 0, and the line behind it 1.
     #[error("a line that is none of evidence")]

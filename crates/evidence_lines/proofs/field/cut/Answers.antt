@@ -1,4 +1,5 @@
-use Rattle.std.proofs.Common.{ap, option_map}
+use Rattle.std.proofs.lemmas.Grind.{common_steps}
+use Rattle.std.proofs.Common.{ap, option_map, arith}
 use Rattle.std.proofs.lemmas.List.{take_rest}
 use Rattle.evidence_lines.specs.code.Reading.{cut, cut_by}
 use Rattle.evidence_lines.proofs.field.cut.Goals as goal
@@ -10,3 +11,6 @@ returns-in_err-at-clause-parts c = rw c.from_residual.ensures (ap (option_map (c
 pub returns-clause-parts : goal.returns-clause-parts
 unfolding cut
 returns-clause-parts c = rw take_rest (ap (option_map (cut_by c.args.bytes.now)) c.in_ok-at.ensures.first)
+
+pub slice_bounds-result-end : goal.slice_bounds-result-end
+slice_bounds-result-end c = grind (arith, common_steps)

@@ -1,3 +1,4 @@
+use Rattle.std.proofs.lemmas.Grind.{common_steps}
 use Rattle.std.proofs.Common.{arith, ap, take_all, ◌∙◌}
 use Rattle.std.specs.Str.Parse.{digits_value}
 use Rattle.evidence_lines.proofs.Numbers.{one_more, sized, sum_too_great, ten_too_great}
@@ -26,3 +27,6 @@ pub returns : goal.returns
 returns c =
     sized c.args.digits.now c.loop-digit.number
     (c.loop-digit.invariant.0 ∙ ap (digits_value 10) (take_all c.loop-digit.digit-index c.args.digits.now (omega arith))) c.loop-digit.invariant.1
+
+pub overflow_sub-digit : goal.overflow_sub-digit
+overflow_sub-digit c = grind (arith, common_steps)

@@ -1,3 +1,4 @@
+use Rattle.std.proofs.lemmas.Grind.{common_steps}
 use Rattle.std.proofs.Common.{◌≡◌, ◌+◌, ◌++◌, Some, ap, arith, sym, ◌∙◌}
 use Rattle.std.proofs.lemmas.List.{length_push}
 use Rattle.std.proofs.lemmas.Result.{MatchResult-from_err}
@@ -37,3 +38,18 @@ returns-in_err-line-clause-memory c =
 pub returns-in-Err-clause-memory : goal.returns-in-Err-clause-memory
 returns-in-Err-clause-memory c =
     λ _. has_line (header c.args.version ++ c.args.bytes.now) c.args.version c.lines.rest.now c.in-Some.fields.now c.in-Some.after.now c.lines.lines.items c.lines.invariant.read (sym c.in-Some.ensures.parts)
+
+pub lines-init : goal.lines-init
+lines-init c = grind (arith, common_steps)
+
+pub lines-smaller : goal.lines-smaller
+lines-smaller c = grind (arith, common_steps)
+
+pub returns-clause-lines : goal.returns-clause-lines
+returns-clause-lines c = grind (arith, common_steps)
+
+pub returns-in_default-2-clause-memory : goal.returns-in_default-2-clause-memory
+returns-in_default-2-clause-memory c = grind (arith, common_steps)
+
+pub returns-in_default-clause-memory : goal.returns-in_default-clause-memory
+returns-in_default-clause-memory c = grind (arith, common_steps)

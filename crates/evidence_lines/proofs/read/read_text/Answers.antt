@@ -1,4 +1,5 @@
-use Rattle.std.proofs.Common.{◌≡◌, List, ℕ, inl, refl, subst}
+use Rattle.std.proofs.lemmas.Grind.{common_steps}
+use Rattle.std.proofs.Common.{◌≡◌, List, ℕ, inl, refl, subst, arith}
 use Rattle.std.specs.Result.{IfErr}
 use Rattle.evidence_lines.specs.code.Memory.{HasLine}
 use Rattle.evidence_lines.specs.declared.refusal.EvidenceRefusal.TheVariants.{NoMemory}
@@ -18,3 +19,9 @@ returns-in-Some-clause-memory c =
 
 pub returns-in-None-behind_header-clause-refusal : goal.returns-in-None-behind_header-clause-refusal
 returns-in-None-behind_header-clause-refusal c = inl (refl, no_version c.args.bytes.now c.in-None.ensures c.in-None-behind_header.ensures)
+
+pub returns-in-Some-behind_header-clause-memory : goal.returns-in-Some-behind_header-clause-memory
+returns-in-Some-behind_header-clause-memory c = grind (arith, common_steps)
+
+pub returns-in-Some-behind_header-clause-refusal : goal.returns-in-Some-behind_header-clause-refusal
+returns-in-Some-behind_header-clause-refusal c = grind (arith, common_steps)
