@@ -1,5 +1,6 @@
 -- The count of a drill that words ask for is at most 100,000. By the first use of its option.
 use Rattle.std.proofs.Common.{◌≡◌, ◌≤◌, ◌&&◌, ◌||◌, ℕ, Bool, true, false, List, [], ◌∷◌, Option, Some, None, cond, find, option_and_then, is_some, refl, sym, subst, arith, codes, nat_le}
+use Rattle.std.proofs.lemmas.Bool.{true≢false}
 use Rattle.std.proofs.lemmas.Bool.Decides.{nat_tests}
 use Rattle.std.proofs.lemmas.Slice.Eq.{bytes_eq-Decides}
 use Rattle.std.specs.List.{list_all}
@@ -23,7 +24,7 @@ count_low text is = by_tests (is_numeral text && nat_le (digits_value 10 text) 1
     by_tests false e some = absurd cc
 
 value_low : (value : Option Text) → is_allowed (options_of Drill) (codes "count", value) ≡ true → digits_value 10 (text_of value) ≤ 100000
-value_low None is = absurd cc
+value_low None is = absurd (true≢false (sym is))
 value_low (Some text) is = count_low text is
 
 uses_low : (uses : List Use) → list_all (is_allowed (options_of Drill)) uses ≡ true → is_given (codes "count") uses ≡ true

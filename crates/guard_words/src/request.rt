@@ -34,7 +34,7 @@ pub enum Request {
 }
 
 /// Why there is no request.
-#[derive(Clone, Copy, Debug, PartialEq, Eq)]
+#[derive(Clone, Copy)]
 pub enum WordsRefusal {
     /// The words make no request.
     Usage,

@@ -4,7 +4,7 @@ ghost use Rattle.guard_words.specs.Request.{name_of, options_of, kind_in};
 ghost use Rattle.guard_words.specs.code.Reading.{command_in, row_text};
 
 /// What the first word asks `guard` to do.
-#[derive(Clone, Copy, PartialEq, Eq)]
+#[derive(Clone, Copy)]
 pub(crate) enum Command {
     Validate,
     Check,

@@ -1,4 +1,5 @@
-use Rattle.std.proofs.Common.{◌≡◌, ◌∷◌, Some, map, string_bytes, sym, ap, ◌∙◌}
+use Rattle.std.proofs.lemmas.Grind.{common_steps}
+use Rattle.std.proofs.Common.{◌≡◌, ◌∷◌, Some, map, string_bytes, sym, ap, ◌∙◌, arith}
 use Rattle.std.proofs.lemmas.Result.{MatchResult-from_err}
 use Rattle.guard_words.specs.code.Reading.{command_in}
 use Rattle.guard_words.specs.code.Memory.{NamesCommand}
@@ -13,3 +14,6 @@ returns-in_err-uses-clause-memory c =
     let parts : map string_bytes c.args.words.now ≡ first ∷ rest = ap (map string_bytes) c.in-Some.ensures.cases.0 in
     let names : NamesCommand (map string_bytes c.args.words.now) = (c.in-Some-named.command, rest, parts ∙ ap (λ w. w ∷ rest) (named first c.in-Some-named.command is)) in
     MatchResult-from_err c.from_residual.result _ _ c.from_residual.ensures.0 (λ _. names)
+
+pub returns-in_default-clause-command : goal.returns-in_default-clause-command
+returns-in_default-clause-command c = grind (arith, common_steps)

@@ -4,7 +4,6 @@ use Rattle.std.proofs.lemmas.Result.{IfOk-weaker}
 use Rattle.clap.specs.Words.{found_of, subcommand_rows_of}
 use Rattle.guard_words.specs.Request.{Text, AsksFor, Asked, asked}
 use Rattle.guard_words.specs.code.Memory.{NamesCommand}
-use Rattle.guard_words.specs.code.Reading.{parsed_in}
 use Rattle.guard_words.specs.declared.request.Request.{Request}
 use Rattle.guard_words.specs.declared.request.WordsRefusal.{WordsRefusal}
 use Rattle.guard_words.specs.declared.request.WordsRefusal.TheVariants.{Usage, NoMemory}
