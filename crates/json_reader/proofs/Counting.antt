@@ -6,7 +6,7 @@ use Rattle.doc_values.specs.declared.kind.Kind.TheVariants as kind
 use Rattle.doc_values.specs.Number.{Parts, IsSpelled}
 use Rattle.doc_values.specs.Tree.{Forest, has_key}
 use Rattle.doc_values.specs.Unfinished.{Unfinished, with_value, with_open, with_key}
-use Rattle.json_reader.specs.declared.bytes.Class.TheVariants.{Space, CloseList, Minus, Zero, Digit}
+use Rattle.json_reader.specs.declared.bytes.Class.TheVariants.{Space, Quote, Open, OpenList, CloseList, Minus, Zero, Digit}
 use Rattle.json_reader.specs.declared.number.NumberPart.{NumberPart}
 use Rattle.json_reader.specs.declared.refusal.JsonRefusal.{JsonRefusal}
 use Rattle.json_reader.specs.declared.refusal.JsonRefusal.TheVariants.{Syntax, DuplicateKey, NumberRange, TooDeep, NoMemory}
@@ -59,13 +59,19 @@ begins_json : (front more : List ℕ) (v : Forest) → verdict (front ++ more) �
 begins_json front more v h = (more, v, verdict_ok (front ++ more) v h)
 
 -- a bracket too many
+open_apart : (Open ≡ Space → ⊥) × (Open ≡ CloseList → ⊥)
+open_apart = (λ e. cc, λ e. cc)
+
+list_apart : (OpenList ≡ Space → ⊥) × (OpenList ≡ CloseList → ⊥)
+list_apart = (λ e. cc, λ e. cc)
+
 open_no_space : (o : Collection) → class_of (opening o) ≡ Space → ⊥
-open_no_space Object e = cc
-open_no_space Array e = cc
+open_no_space Object e = open_apart.0 e
+open_no_space Array e = list_apart.0 e
 
 open_no_end : (o : Collection) → class_of (opening o) ≡ CloseList → ⊥
-open_no_end Object e = cc
-open_no_end Array e = cc
+open_no_end Object e = open_apart.1 e
+open_no_end Array e = list_apart.1 e
 
 open_no_mark : (o : Collection) → opening o ≡ 239 → ⊥
 open_no_mark Object e = omega (arith, e)
@@ -105,11 +111,14 @@ deep_verdict before rest o m (more, tree, (p, d, g)) never =
     ]
 
 -- a key again
+quote_apart : (Quote ≡ Space → ⊥) × (Quote ≡ CloseList → ⊥)
+quote_apart = (λ e. cc, λ e. cc)
+
 quote_no_space : class_of 34 ≡ Space → ⊥
-quote_no_space e = cc
+quote_no_space e = quote_apart.0 e
 
 quote_no_end : class_of 34 ≡ CloseList → ⊥
-quote_no_end e = cc
+quote_no_end e = quote_apart.1 e
 
 pub quote_no_mark : ◌≡◌ {A = ℕ} 34 239 → ⊥
 quote_no_mark e = cc

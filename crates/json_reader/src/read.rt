@@ -1,7 +1,9 @@
 //! A whole text, and what its trees and refusals have in common.
-ghost use Rattle.std.specs.Prelude.{◌≡◌, ◌≤◌, length, IsErrOf, MatchResult};
+ghost use Rattle.std.specs.Prelude.{◌≡◌, ◌≤◌, None, length, IfErr, IfOk, IsErrOf, MatchResult};
 ghost use Rattle.doc_values.specs.Tree.{Forest};
+ghost use Rattle.doc_values.specs.Unfinished.{IsComplete, start};
 ghost use Rattle.json_reader.specs.code.Memory.{HasBeginning};
+ghost use Rattle.json_reader.specs.code.Reading.{mark_stop};
 ghost use Rattle.json_reader.specs.Json.{Json};
 ghost use Rattle.json_reader.specs.Refusals.{IsRefused, place_of_refusal};
 
@@ -27,12 +29,30 @@ pub fn read_json<'s>(alloc: Global, text: &'s str) -> Result<Doc<'s>, JsonRefusa
     }
     let texts = Texts::new(alloc);
     let mut builder = DocBuilder::new(alloc);
+    read_tokens(&texts, text, &mut builder)?;
+    Ok(builder.finish())
+}
+
+/// Reads the tokens of a text, and adds to the tree what they say.
+fn read_tokens<'s>(
+    texts: &Texts,
+    text: &'s str,
+    builder: &mut DocBuilder<'s>,
+) -> Result<(), JsonRefusal>
+    requires small { length text.now ≤ 8388608 }
+    requires unmarked { mark_stop text.now ≡ None }
+    requires begun { builder.old ≡ start }
+    ensures complete { IfOk result (λ _. IsComplete builder.new) }
+    ensures tree { IfOk result (λ _. Json text.now builder.new.done) }
+    ensures refusal { IfErr result (λ e. (e ≡ JsonRefusal.NoMemory → ⊥) → IsRefused text.now e) }
+    ensures memory { IsErrOf result JsonRefusal.NoMemory → HasBeginning text.now }
+{
     let mut position = Position {
         at: front_len(text.as_bytes()),
         stage: Stage::Value,
     };
     while position.at < text.len() {
-        match step(&texts, text, position, &mut builder) {
+        match step(texts, text, position, builder) {
             Err(refusal) => return Err(refusal),
             Ok(next) => position = next,
         }
@@ -40,7 +60,7 @@ pub fn read_json<'s>(alloc: Global, text: &'s str) -> Result<Doc<'s>, JsonRefusa
     match position.stage {
         Stage::After => {
             if builder.depth() == 0 {
-                Ok(builder.finish())
+                Ok(())
             } else {
                 Err(JsonRefusal::Syntax(text.len() as u32))
             }

@@ -4,7 +4,7 @@ use std::alloc::AllocError;
 use thiserror::Error;
 
 /// Why a text is refused.
-#[derive(Clone, Copy, Debug, PartialEq, Eq, Error)]
+#[derive(Clone, Copy, Debug, Error)]
 pub enum JsonRefusal {
     /// No text of JSON's grammar, whatever its keys, numbers and depth, begins with the bytes up to and with this place,
     /// the least such one; where there is none the text ends too early, and it is its length. It comes where none of the

@@ -1,3 +1,4 @@
+use Rattle.std.proofs.lemmas.Grind.{common_steps}
 use Rattle.std.proofs.Common.{◌≡◌, ℕ, List, ◌+◌, ◌-◌, ◌<◌, length, get_or, refl, arith, subst, sym, ap, Bool, None}
 use Rattle.std.specs.Str.{IsCharBoundary}
 use Rattle.std.proofs.lemmas.Str.{IsCharBoundary-after_ascii}
@@ -46,3 +47,15 @@ returns-else-completes-clause-number c =
     let run : NumberRun c.args.text.now c.args.at end c.number_run-len.result.1 = number_found c.as_bytes-bytes.result.now c.args.text.now c.args.at len _ c.first_part.result c.number_run-len.result.1 v refl c.first_part.ensures c.requires.within c.requires.begins c.number_run-len.ensures.within c.number_run-len.ensures.run c.number_run-len.ensures.most in
     let none = number_none c.args.text.now c.args.at end c.number_run-len.result.1 c.completes.result run c.completes.ensures (λ n i. c.in-None.ensures n (subst (λ (t : List ℕ). IsNumber t n) (sym c.range.ensures.value) i)) in
     subst (λ (q : Bool). NoNumber c.args.text.now c.args.at (number_cause end q None c.args.at)) c.if-completes.false none
+
+pub range-requires-clause-start_boundary : goal.range-requires-clause-start_boundary
+range-requires-clause-start_boundary c = grind (arith, common_steps)
+
+pub returns-else-completes-clause-no_memory : goal.returns-else-completes-clause-no_memory
+returns-else-completes-clause-no_memory c = grind (arith, common_steps)
+
+pub returns-in-Some-clause-no_memory : goal.returns-in-Some-clause-no_memory
+returns-in-Some-clause-no_memory c = grind (arith, common_steps)
+
+pub returns-then-completes-clause-no_memory : goal.returns-then-completes-clause-no_memory
+returns-then-completes-clause-no_memory c = grind (arith, common_steps)

@@ -1,4 +1,5 @@
-use Rattle.std.proofs.Common.{List, ℕ, get_or, ap, sym, ◌∙◌}
+use Rattle.std.proofs.lemmas.Grind.{common_steps}
+use Rattle.std.proofs.Common.{List, ℕ, get_or, ap, sym, ◌∙◌, arith}
 use Rattle.json_reader.specs.declared.bytes.Class.TheVariants.{CloseList}
 use Rattle.json_reader.specs.declared.stage.Stage.TheVariants as stage
 use Rattle.json_reader.specs.declared.refusal.JsonRefusal.TheVariants.{Syntax}
@@ -27,3 +28,6 @@ returns-in-CloseList-clause-gives c =
     let u = c.args.builder.now in
     let class = c.byte_class.ensures ∙ ap (λ (t : List ℕ). class_of (get_or t c.args.at 0)) c.as_bytes.ensures.value in
     Gives-one text at AtItemOrEnd u c.end_step.new.builder (item_or_end_next at u (get_or text at 0) CloseList) (Syntax at) c.end_step.result c.requires.within (ap (item_or_end_next at u (get_or text at 0)) (sym class ∙ c.in-CloseList.is)) (ap (value_cause at) (sym class ∙ c.in-CloseList.is)) c.end_step.ensures.leads
+
+pub value_step-requires : goal.value_step-requires
+value_step-requires c = grind (arith, common_steps)

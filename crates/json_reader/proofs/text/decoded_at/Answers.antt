@@ -1,3 +1,4 @@
+use Rattle.std.proofs.lemmas.Grind.{common_steps}
 use Rattle.std.proofs.Common.{◌≡◌, ℕ, List, ◌+◌, ◌-◌, ◌<◌, ◌≤◌, length, get_or, take, drop, arith, subst, sym, ◌∙◌, ap, ◌++◌, inr, refl}
 use Rattle.std.specs.Prelude.{encode_utf8}
 use Rattle.std.specs.Str.{IsCharBoundary}
@@ -56,3 +57,30 @@ range-requires-clause-end_boundary c =
     let end = c.in-Ok.end in
     let e = c.in-Ok.ensures in
     subst (λ (t : List ℕ). IsCharBoundary t end) c.as_bytes-bytes.ensures.value (IsCharBoundary-before_ascii bytes end e.1 (mark_ascii (get_or bytes end 0) e.3))
+
+pub escape_at-requires-clause-backslash : goal.escape_at-requires-clause-backslash
+escape_at-requires-clause-backslash c = grind (arith, common_steps)
+
+pub loop-at-smaller : goal.loop-at-smaller
+loop-at-smaller c = grind (arith, common_steps)
+
+pub range-requires-clause-start_boundary : goal.range-requires-clause-start_boundary
+range-requires-clause-start_boundary c = grind (arith, common_steps)
+
+pub returns : goal.returns
+returns c = grind (arith, common_steps)
+
+pub returns-then-bytes-end-eq34 : goal.returns-then-bytes-end-eq34
+returns-then-bytes-end-eq34 c = grind (arith, common_steps)
+
+pub bounds-bytes-end : goal.bounds-bytes-end
+bounds-bytes-end c = grind (arith, common_steps)
+
+pub escape_at-requires-clause-within : goal.escape_at-requires-clause-within
+escape_at-requires-clause-within c = grind (arith, common_steps)
+
+pub overflow_add-result : goal.overflow_add-result
+overflow_add-result c = grind (arith, common_steps)
+
+pub overflow_cast-result-in-Err-escape_at : goal.overflow_cast-result-in-Err-escape_at
+overflow_cast-result-in-Err-escape_at c = grind (arith, common_steps)

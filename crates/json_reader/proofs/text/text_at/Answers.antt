@@ -1,3 +1,4 @@
+use Rattle.std.proofs.lemmas.Grind.{common_steps}
 use Rattle.std.proofs.Common.{◌≡◌, ℕ, List, ◌+◌, ◌-◌, ◌<◌, length, get_or, arith, subst}
 use Rattle.std.specs.Str.{IsCharBoundary}
 use Rattle.std.proofs.lemmas.Str.{IsCharBoundary-after_ascii, IsCharBoundary-before_ascii}
@@ -17,3 +18,21 @@ range-requires-clause-end_boundary c =
     let end = c.in-Ok.end in
     let e = c.in-Ok.ensures in
     subst (λ (t : List ℕ). IsCharBoundary t end) c.as_bytes-bytes.ensures.value (IsCharBoundary-before_ascii bytes end e.1 (mark_ascii (get_or bytes end 0) e.3))
+
+pub returns-in-Err-decoded_at-clause-memory : goal.returns-in-Err-decoded_at-clause-memory
+returns-in-Err-decoded_at-clause-memory c = grind (arith, common_steps)
+
+pub returns-in-Ok-decoded_at-clause-memory : goal.returns-in-Ok-decoded_at-clause-memory
+returns-in-Ok-decoded_at-clause-memory c = grind (arith, common_steps)
+
+pub returns-then-bytes-end-eq34-clause-text : goal.returns-then-bytes-end-eq34-clause-text
+returns-then-bytes-end-eq34-clause-text c = grind (arith, common_steps)
+
+pub returns-in-Err-clause-memory : goal.returns-in-Err-clause-memory
+returns-in-Err-clause-memory c = grind (arith, common_steps)
+
+pub returns-in-Err-clause-text : goal.returns-in-Err-clause-text
+returns-in-Err-clause-text c = grind (arith, common_steps)
+
+pub returns-then-bytes-end-eq34-clause-memory : goal.returns-then-bytes-end-eq34-clause-memory
+returns-then-bytes-end-eq34-clause-memory c = grind (arith, common_steps)

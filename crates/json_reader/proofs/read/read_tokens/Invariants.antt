@@ -1,7 +1,7 @@
 use Rattle.std.proofs.Common.{◌≡◌, ◌-◌, ◌≤◌, length}
 use Rattle.json_reader.specs.code.Reading.{verdict, from}
 use Rattle.json_reader.specs.code.Steps.{phase_of, Fits}
-use Rattle.json_reader.proofs.read.read_json.Given as goal
+use Rattle.json_reader.proofs.read.read_tokens.Given as goal
 
 abbrev pub invariant-loop-position : goal.invariant-loop-position
 invariant-loop-position l = (from l.text l.position.at (phase_of l.position.stage) l.builder ≡ verdict l.text) × Fits l.position.stage l.builder × (l.position.at ≤ length l.text)
