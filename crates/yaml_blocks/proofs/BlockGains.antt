@@ -32,7 +32,7 @@ use Rattle.yaml_blocks.specs.code.Refused.{of_build, of_sign}
 use Rattle.yaml_blocks.specs.Yaml.{IsEnd, end_sign}
 use Rattle.yaml_blocks.specs.code.Rest.{top, Over, Inside, Ends, Enters, Awaits}
 use Rattle.yaml_blocks.specs.code.Steps.{IsPlaced, IsSeen, Agrees, Nests, LiesIn, IsSmall, IsBlock, IsBehind, IsSpelled, IsCalm, Open, Fits, Goes, Broke, Gives, Deep, NoKey, NoNode, Ended, HasKey, Missed, Finds, FindsKey, with_scalar, Holds, TagBegun, Opened, Completes, ends_before, is_dash, is_ending}
-use Rattle.yaml_blocks.proofs.Forms.{map_kind, inside, awaits_item, awaits_value}
+use Rattle.yaml_blocks.proofs.Forms.{apart_items, apart_entries, apart_tagged, map_kind, inside, awaits_item, awaits_value}
 use Rattle.yaml_blocks.proofs.Gains.{parts, goes, memory_gives, told, untold, sign_gives, IsRoomFor, roomy, deep_gives, value_ends, ends_value, value_deep, deep_value, value_fits}
 use Rattle.yaml_blocks.proofs.LastValues.{last_done, value_last, missing_calm}
 use Rattle.yaml_blocks.proofs.NameEnds.{tag_named, dash_unnamed, colon_unnamed}
@@ -135,7 +135,7 @@ module _ (text : List ℕ) (fs : List Form) (u : Unfinished) (f : Form) (at : �
       let one : token_len (ahead text false at).token ≡ 1 = ap token_len t in
       goes text (Awaiting text fs u at) (2 * at + 1) gs (Items (column_in f (ahead text false at)) ∷ fs) w (with_open kind.List (ahead text false at).at u) p stage.Value (ahead text false at).behind es ej eg ew
       (λ v. ((λ h. roomy (length u.outer) (FirstItem v) (v ≡ Refused (TooDeep (ahead text false at).at)) d (room_sequence v h)), (λ h. sequence_awaits text fs u.outer f sp.2 sp.3 u.done u.key at v t tk d h)))
-      (((refl, sp.4.0), (subst (λ g. LiesIn (Items (column_in f (ahead text false at))) g) (sym sp.2) st.0, omega (arith, st.1, sp.1.1.0, sp.0), sp.4.1)), (λ e. absurd (cc)), refl, omega (arith, st.1, sp.1.3, one), dash_unnamed text false at t)
+      (((refl, sp.4.0), (subst (λ g. LiesIn (Items (column_in f (ahead text false at))) g) (sym sp.2) st.0, omega (arith, st.1, sp.1.1.0, sp.0), sp.4.1)), apart_items _, refl, omega (arith, st.1, sp.1.3, one), dash_unnamed text false at t)
       sp.1.2 (omega (arith, sp.1.0, sp.1.3, one))
 
 pub sequence_goes : (text : List ℕ) (fs gs : List Form) (u w : Unfinished) (f : Form) (at : ℕ) (next : Ahead) (p : Position) → next ≡ ahead text false at → Spot text fs u f at next → next.token ≡ Dash → takes_sequence f next ≡ true
@@ -229,7 +229,7 @@ module _ (text : List ℕ) (fs : List Form) (u : Unfinished) (f : Form) (at len 
       let name : List ℕ = tag_key (tag_name text (ahead text false at).at (ahead text false at).behind) in
       goes text (Awaiting text fs u at) (2 * at + 1) gs (tagged f (ahead text false at) ∷ fs) w (with_key name (with_open kind.Map (ahead text false at).at u)) p stage.Value (ahead text false at).behind es ej eg ew
       (λ v. ((λ h. roomy (length u.outer) (FirstBehind v) (v ≡ Refused (TooDeep (ahead text false at).at)) d (room_tag v h)), (λ h. tag_awaits text fs u.outer f sp.2 sp.3 u.done u.key at v len t tk d h)))
-      (((refl, sp.4.0), (subst (λ g. LiesIn (tagged f (ahead text false at)) g) (sym sp.2) l.0, l.1, sp.4.1)), (λ e. absurd (cc)), (name, refl), omega (arith, sp.1.3, some), tag_named text false at len t)
+      (((refl, sp.4.0), (subst (λ g. LiesIn (tagged f (ahead text false at)) g) (sym sp.2) l.0, l.1, sp.4.1)), apart_tagged _ _ _, (name, refl), omega (arith, sp.1.3, some), tag_named text false at len t)
       sp.1.2 (omega (arith, sp.1.0, sp.1.3, some))
 
   tag_node : (gs : List Form) (w : Unfinished) (r : Result Position YamlRefusal) → TagBegun text (tagged f (ahead text false at)) (ahead text false at) fs u gs w r → Gives text (Awaiting text fs u at) (2 * at + 1) gs w r
@@ -427,7 +427,7 @@ item_node text m done at p (pl, fr) n col t es ej fs x xs a ns =
     let near : (ahead text false at).column ≤ (ahead text false at).at = pl.4.0 fr in
     goes text (Ends text (Items m ∷ fs) (x ∷ xs) done at) (2 * at + 2) (Items m ∷ fs) (Items m ∷ fs) (parts (x ∷ xs) done None) (parts (x ∷ xs) done None) p stage.Value (ahead text false at).behind es ej refl refl
     (λ v. ((λ h. ends_item text m fs x xs done at v (item_quiet text (ahead text false at) fs m ns (omega (arith, col)) t) n h), (λ h. item_ends text m fs x xs done at v t fr col h)))
-    ((a, ns), (λ e. absurd (cc)), awaits_item (Items m) (Items m ∷ fs) (parts (x ∷ xs) done None) refl (λ e. absurd (cc)) refl a refl, omega (arith, near, col, pl.3, one), dash_unnamed text false at t) pl.2 (omega (arith, pl.0, pl.3, one))
+    ((a, ns), apart_items m, awaits_item (Items m) (Items m ∷ fs) (parts (x ∷ xs) done None) refl (λ e. absurd (cc)) refl a refl, omega (arith, near, col, pl.3, one), dash_unnamed text false at t) pl.2 (omega (arith, pl.0, pl.3, one))
 
 pub item_goes : (text : List ℕ) (m : ℕ) (fs : List Form) (u : Unfinished) (at : ℕ) (next : Ahead) (p : Position) → IsSeen text false at next → next.fresh ≡ true → Inside text at → top fs ≡ Items m → Open fs u → u.key ≡ None
     → next.column ≡ m → next.token ≡ Dash → p.stage ≡ stage.Value → p.at ≡ next.behind → Goes text (Behind text fs u at) (2 * at + 2) fs u p
@@ -461,7 +461,7 @@ entry_node : (text : List ℕ) (m : ℕ) (done : Forest) (at q : ℕ) (t : List 
 entry_node text m done at q t w p (pl, fr) n col k far b new es ej fs x xs a ns ew =
     goes text (Ends text (Entries m ∷ fs) (x ∷ xs) done at) (2 * at + 2) (Entries m ∷ fs) (Entries m ∷ fs) w (parts (x ∷ xs) done (Some t)) p stage.Value q es ej refl ew
     (λ v. ((λ h. ends_entry text m fs x xs done at v t q (entry_around text m fs (ahead text false at) ns col) n k new h), (λ h. key_ends text m fs x xs done at v t q k fr col new h)))
-    ((a, ns), (λ e. absurd (cc)), awaits_value (Entries m) (Entries m ∷ fs) (x ∷ xs) done t refl (λ e. absurd (cc)) refl a, tt, ap (ends_name text) k.4 ∙ colon_unnamed text false k.0 true k.3) b (omega (arith, pl.0, far))
+    ((a, ns), apart_entries m, awaits_value (Entries m) (Entries m ∷ fs) (x ∷ xs) done t refl (λ e. absurd (cc)) refl a, tt, ap (ends_name text) k.4 ∙ colon_unnamed text false k.0 true k.3) b (omega (arith, pl.0, far))
 
 pub entry_goes : (text : List ℕ) (m : ℕ) (fs : List Form) (u w : Unfinished) (at q : ℕ) (next : Ahead) (t : List ℕ) (p : Position) → IsSeen text false at next → next.fresh ≡ true → Inside text at → top fs ≡ Entries m → Open fs u
     → next.column ≡ m → IsKey text next t q → next.at < q → IsCharBoundary text q → has_key u.done t ≡ false → p.stage ≡ stage.Value → p.at ≡ q → w ≡ with_key t u → Goes text (Behind text fs u at) (2 * at + 2) fs w p

@@ -3,7 +3,7 @@ use Rattle.std.proofs.Common.{◌≡◌, ℕ, ◌<◌, Bool, true, false, List, 
 use Rattle.doc_values.specs.Tree.{Forest, is_map}
 use Rattle.doc_values.specs.Unfinished.{Level, Unfinished, in_map, open_kind, IsKeyThere, AwaitsValue, AwaitsKey, MayEnd, MayHold}
 use Rattle.yaml_blocks.specs.declared.form.Form.{Form}
-use Rattle.yaml_blocks.specs.declared.form.Form.TheVariants.{Root, Flow}
+use Rattle.yaml_blocks.specs.declared.form.Form.TheVariants.{Root, Flow, FlowTagged, Items, Entries, Tagged}
 use Rattle.yaml_blocks.specs.code.Rest.{top}
 use Rattle.yaml_blocks.specs.code.Steps.{Agrees, has_keys}
 
@@ -43,3 +43,22 @@ awaits_key f fs u e n m a k = (in_map_of f fs u.outer e n a ∙ m, k)
 
 pub may_end : (f : Form) (fs : List Form) (u : Unfinished) → top fs ≡ f → (f ≡ Root → ⊥) → Agrees fs u.outer → u.key ≡ None → MayEnd u
 may_end f fs u e n a k = (open_any f fs u.outer e n a, k)
+
+-- the forms that are no list between flow brackets
+pub apart_root : Root ≡ Flow false → ⊥
+apart_root e = cc
+
+pub apart_map : Flow true ≡ Flow false → ⊥
+apart_map e = cc
+
+pub apart_flow_tagged : (m : ℕ) → FlowTagged m ≡ Flow false → ⊥
+apart_flow_tagged m e = cc
+
+pub apart_items : (m : ℕ) → Items m ≡ Flow false → ⊥
+apart_items m e = cc
+
+pub apart_entries : (m : ℕ) → Entries m ≡ Flow false → ⊥
+apart_entries m e = cc
+
+pub apart_tagged : (at above : ℕ) (shares : Bool) → Tagged at above shares ≡ Flow false → ⊥
+apart_tagged at above shares e = cc

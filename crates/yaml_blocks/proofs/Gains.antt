@@ -31,7 +31,7 @@ use Rattle.yaml_blocks.specs.Flow.{may_miss, may_tag, IsColon}
 use Rattle.yaml_blocks.specs.code.Refused.{of_build, of_sign}
 use Rattle.yaml_blocks.specs.code.Rest.{top, Ends, Enters, Follows, Awaits}
 use Rattle.yaml_blocks.specs.code.Steps.{IsPlaced, IsSeen, Rest, Agrees, LiesIn, Nests, IsFlow, Open, Fits, reached, Goes, Broke, Gives, Deep, Found, Missed, Finds, with_scalar, IsRoom, Holds, TagBegun, Opened, Closed, Completes, is_flow_ending}
-use Rattle.yaml_blocks.proofs.Forms.{map_kind, flow_inside, awaits_value, may_end}
+use Rattle.yaml_blocks.proofs.Forms.{apart_map, apart_flow_tagged, map_kind, flow_inside, awaits_value, may_end}
 use Rattle.yaml_blocks.proofs.LastValues.{scalar_calm, unnamed_calm, flow_calm}
 use Rattle.yaml_blocks.proofs.NameEnds.{bracket_unnamed}
 use Rattle.yaml_blocks.proofs.Scalars.{key_single}
@@ -177,7 +177,7 @@ module _ (text : List ℕ) (fs : List Form) (u : Unfinished) (f : Form) (at len 
       let name : List ℕ = tag_key (tag_name text (ahead text true at).at (ahead text true at).behind) in
       goes text (FlowAwaiting text fs u at) (2 * at + 2) gs (FlowTagged (ahead text true at).at ∷ fs) w (with_key name (with_open kind.Map (ahead text true at).at u)) p stage.Value (ahead text true at).behind es ej eg ew
       (λ v. ((λ h. roomy (length u.outer) (FirstBehind v) (v ≡ Refused (TooDeep (ahead text true at).at)) d (room_tag v h)), (λ h. tag_awaits text fs u.outer f sp.1 sp.2 sp.3.1 u.done u.key at v len c mt d h)))
-      (((refl, sp.3.0), (subst (LiesIn (FlowTagged (ahead text true at).at)) (sym sp.1) (tag_lies (ahead text true at).at f mt), tt, sp.3.1)), (λ e. absurd (cc)), (name, refl), omega (arith, sp.0.3, some), tt)
+      (((refl, sp.3.0), (subst (LiesIn (FlowTagged (ahead text true at).at)) (sym sp.1) (tag_lies (ahead text true at).at f mt), tt, sp.3.1)), apart_flow_tagged _, (name, refl), omega (arith, sp.0.3, some), tt)
       sp.0.2 (omega (arith, sp.0.0, sp.0.3, some))
 
   tag_node : (gs : List Form) (w : Unfinished) (r : Result Position YamlRefusal) → TagBegun text (FlowTagged (ahead text true at).at) (ahead text true at) fs u gs w r → Gives text (FlowAwaiting text fs u at) (2 * at + 2) gs w r
@@ -460,7 +460,7 @@ key_node : (text : List ℕ) (done : Forest) (at place end : ℕ) (t : List ℕ)
 key_node text done at place end t w p open_ st lt le b col new es ej fs x xs a ns ew =
     goes text (Enters text (Flow true ∷ fs) (x ∷ xs) done at) (2 * at + 2) (Flow true ∷ fs) (Flow true ∷ fs) w (parts (x ∷ xs) done (Some t)) p stage.Value place es ej refl ew
     (λ v. ((λ h. enters_key text true fs x xs done at v t end place refl open_ st new col h), (λ h. key_enters text true fs x xs done at v t end place refl st new col h)))
-    ((a, ns), (λ e. absurd (cc)), awaits_value (Flow true) (Flow true ∷ fs) (x ∷ xs) done t refl (λ e. absurd (cc)) refl a, tt, tt) b (omega (arith, lt, le))
+    ((a, ns), apart_map, awaits_value (Flow true) (Flow true ∷ fs) (x ∷ xs) done t refl (λ e. absurd (cc)) refl a, tt, tt) b (omega (arith, lt, le))
 
 pub key_gives : (text : List ℕ) (fs : List Form) (u w : Unfinished) (at place end : ℕ) (next : Ahead) (t : List ℕ) (k : Kind) (p : Position) → IsSeen text true at next → (next.token ≡ Closes true → ⊥) → top fs ≡ Flow true → Open fs u
     → Found text (as_key true) next t k end → end ≤ place → IsCharBoundary text place → IsColon text (begins_quoted (drop next.at text)) end place

@@ -151,15 +151,24 @@ marked_plain (b ∷ bs) h = by_break (begins_break b bs) where
   by_break true = refl
   by_break false = is_one (nat_eq b 124) (nat_eq b 62) (byte_is b 124) (byte_is b 62) h
 
+fails_stands : (n : ℕ) (t : List ℕ) (e : ℕ) → Fails n ≡ Stands t e → ⊥
+fails_stands n t e h = cc
+
+stands_documents : (t : List ℕ) (e p : ℕ) → Documents p ≡ Stands t e → ⊥
+stands_documents t e p h = cc
+
+same_end : (t u : List ℕ) (e j : ℕ) → Stands t j ≡ Stands u e → j ≡ e
+same_end t u e j h = cc
+
 marked_none : (text : List ℕ) (at : ℕ) (t : List ℕ) (e : ℕ) → (begins_with 124 (drop at text) || begins_with 62 (drop at text)) ≡ true → plain_scalar (as_key false) text at ≡ Stands t e → ⊥
 marked_none text at t e m k = by_tests (is_first_column text at && (is_mark bytes || is_cut_mark bytes)) (begins_plain false bytes) (marked_plain (drop at text) m) (sym (ap (plain_on (as_key false) (is_first_column text at)) (lines_are at (drop at text))) ∙ k) where
   bytes : List ℕ
   bytes = line_at (drop at text)
 
   by_tests : (m b : Bool) → b ≡ false → cond m (Fails (at + 3)) (cond b (first (as_key false) (reason false bytes) at bytes (behind at (drop at text))) (Fails (wrong_begin at bytes))) ≡ Stands t e → ⊥
-  by_tests true b h f = absurd (cc)
-  by_tests false false h f = absurd (cc)
-  by_tests false true h f = absurd (cc)
+  by_tests true b h f = fails_stands _ t e f
+  by_tests false false h f = fails_stands _ t e f
+  by_tests false true h f = true≢false h
 
 node_end : (p : ℤ) (text : List ℕ) (at : ℕ) (t : List ℕ) (e : ℕ) (o : Outcome) → scalar_at (as_key false) text at ≡ Stands t e → (ahead text false e).fresh ≡ false → scalar_at (as_node p) text at ≡ o → StandsTo e o
 node_end p text at t e o k stale h = by_form (begins_quoted (drop at text)) (begins_with 124 (drop at text) || begins_with 62 (drop at text)) refl k h where
@@ -180,20 +189,20 @@ Undivided text a s = (t : List ℕ) (e j : ℕ) → scalar_ahead text (as_key fa
 ahead_end : (p : ℤ) (text : List ℕ) (a : Ahead) → BlockAlike text a (as_node p)
 ahead_end p text a t u e j k stale h = by_start (starts_scalar a.token) k h where
   same : StandsTo e (Stands u j) → j ≡ e
-  same (x, h) = cc
+  same (x, h) = same_end u x e j h
 
   by_start : (q : Bool) → cond q (scalar_at (as_key false) text a.at) (Fails a.at) ≡ Stands t e → cond q (scalar_at (as_node p) text a.at) (Fails a.at) ≡ Stands u j → j ≡ e
   by_start true f g = same (node_end p text a.at t e (Stands u j) f stale g)
-  by_start false f g = absurd (cc)
+  by_start false f g = absurd (fails_stands a.at t e f)
 
 ahead_single : (p : ℤ) (text : List ℕ) (a : Ahead) → Undivided text a (as_node p)
 ahead_single p text a t e j k stale h = by_start (starts_scalar a.token) k h where
   wrong : StandsTo e (Documents j) → ⊥
-  wrong (x, h) = absurd (cc)
+  wrong (x, h) = stands_documents x e j h
 
   by_start : (q : Bool) → cond q (scalar_at (as_key false) text a.at) (Fails a.at) ≡ Stands t e → cond q (scalar_at (as_node p) text a.at) (Fails a.at) ≡ Documents j → ⊥
   by_start true f g = wrong (node_end p text a.at t e (Documents j) f stale g)
-  by_start false f g = absurd (cc)
+  by_start false f g = fails_stands a.at t e f
 
 pub key_end : (text : List ℕ) (a : Ahead) (f : Form) → IsBlock f → BlockAlike text a (setting_of f)
 key_end text a Root b = ahead_end (negsuc 0) text a

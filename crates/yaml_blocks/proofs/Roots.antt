@@ -28,6 +28,7 @@ use Rattle.yaml_blocks.specs.Signs.{Sign, Tab, Directive, ManyDocuments, Duplica
 use Rattle.yaml_blocks.specs.Yaml.{IsRoot, IsStart, is_content, sign_before, text_start, start_sign, IsYaml, Counts}
 use Rattle.yaml_blocks.specs.code.Rest.{Over, Ends, Awaits, Begins}
 use Rattle.yaml_blocks.specs.code.Steps.{Rest, Fits, reached, Broke, Gives, Goes, NoNode, Completes, is_ending}
+use Rattle.yaml_blocks.proofs.Forms.{apart_root}
 use Rattle.yaml_blocks.proofs.Gains.{goes, memory_gives, told, untold}
 use Rattle.yaml_blocks.proofs.LastValues.{ending_calm}
 use Rattle.yaml_blocks.proofs.Quiet.{ending_word, ending_unsigned, end_ending, sign_ending}
@@ -78,7 +79,7 @@ node_begins text i v (l, kids, Shows s, h, d) = (l, kids, Shows s, inr h, d)
 
 root_node : (text : List ℕ) (w : Unfinished) (at : ℕ) (p : Position) → is_ending (ahead text false at).token ≡ false → IsCharBoundary text at → w ≡ start → p.stage ≡ stage.Value → p.at ≡ at → Goes text (Begins text at) 0 [] w p
 root_node text w at p n b ew es ej =
-    goes text (Begins text at) 0 [] [] w start p stage.Value at es ej refl ew (λ v. ((λ h. begins_node text at v n h), (λ h. node_begins text at v h))) ((tt, tt), (λ e. absurd (cc)), (refl, refl), tt, tt) b (omega arith)
+    goes text (Begins text at) 0 [] [] w start p stage.Value at es ej refl ew (λ v. ((λ h. begins_node text at v n h), (λ h. node_begins text at v h))) ((tt, tt), apart_root, (refl, refl), tt, tt) b (omega arith)
 
 pub root_goes : (text : List ℕ) (w : Unfinished) (at : ℕ) (next : Ahead) (p : Position) → next ≡ ahead text false at → is_ending next.token ≡ false → IsCharBoundary text at → w ≡ start → p.stage ≡ stage.Value → p.at ≡ at
     → Goes text (Begins text at) 0 [] w p
@@ -202,17 +203,19 @@ start_refused text r e =
       by_sign (DuplicateKey at) h = h
       by_sign (TooDeep at) h = h
 
+-- no sign is want of memory
+solid_sign : (s : Sign) → of_sign s ≡ refusal.NoMemory → ⊥
+solid_sign (Tab at) h = cc
+solid_sign (sign.Anchor at) h = cc
+solid_sign (sign.Tag at) h = cc
+solid_sign (Directive at) h = cc
+solid_sign (ManyDocuments at) h = cc
+solid_sign (DuplicateKey at) h = cc
+solid_sign (TooDeep at) h = cc
+
 -- it is no want of memory
 pub start_solid : (text : List ℕ) (r : YamlRefusal) → Some r ≡ option_map of_sign (start_sign text) → r ≡ refusal.NoMemory → ⊥
-start_solid text r e n = let t = told (start_sign text) r e in by_sign t.0 (t.2 ∙ n) where
-  by_sign : (s : Sign) → of_sign s ≡ refusal.NoMemory → ⊥
-  by_sign (Tab at) h = cc
-  by_sign (sign.Anchor at) h = cc
-  by_sign (sign.Tag at) h = cc
-  by_sign (Directive at) h = cc
-  by_sign (ManyDocuments at) h = cc
-  by_sign (DuplicateKey at) h = cc
-  by_sign (TooDeep at) h = cc
+start_solid text r e n = let t = told (start_sign text) r e in solid_sign t.0 (t.2 ∙ n)
 
 pub marked_refused : (text : List ℕ) (at behind : ℕ) (next after : Ahead) → at ≡ text_start text → next ≡ ahead text false at → behind ≡ next.behind → after ≡ ahead text false behind → next.token ≡ Dashes → after.fresh ≡ false
     → None ≡ option_map of_sign (start_sign text) → Refuses text refusal.Unread

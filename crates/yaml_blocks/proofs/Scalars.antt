@@ -1,5 +1,5 @@
 -- Which scalar stands at a token, and its kind.
-use Rattle.std.proofs.Common.{◌≡◌, ℕ, suc, ◌+◌, inl, inr, Bool, true, false, ◌||◌, ◌&&◌, not, cond, List, [], ◌∷◌, drop, length, refl, sym, ap, ◌∙◌, subst, arith, nat_eq}
+use Rattle.std.proofs.Common.{◌≡◌, ℕ, suc, ◌+◌, inl, inr, Bool, true, false, ◌||◌, ◌&&◌, not, cond, List, [], ◌∷◌, drop, length, refl, sym, ap, ◌∙◌, subst, arith, nat_eq, true≢false}
 use Rattle.std.specs.Prelude.{Ok, Err}
 use Rattle.std.specs.Cow.{cow_str_bytes}
 use Rattle.std.proofs.lemmas.List.{drop_all}
@@ -12,7 +12,7 @@ use Rattle.yaml_scalars.specs.declared.scalar.Setting.{Setting}
 use Rattle.yaml_scalars.specs.declared.scalar.ScalarRefusal.{ScalarRefusal}
 use Rattle.yaml_scalars.specs.declared.scalar.ScalarRefusal.TheVariants as refusal
 use Rattle.yaml_scalars.specs.Block.{block_on}
-use Rattle.yaml_scalars.specs.Lines.{Line, Stands, Fails, Documents, lines, begins_with, is_mark, is_cut_mark}
+use Rattle.yaml_scalars.specs.Lines.{Line, Outcome, Stands, Fails, Documents, lines, begins_with, is_mark, is_cut_mark}
 use Rattle.yaml_scalars.specs.Plain.{begins_plain, wrong_begin, plain_len, why, reason, first, plain_on}
 use Rattle.yaml_scalars.specs.Quoted.{Part, Closed, Open, Joined, Returned, Refused, line_part, key_part, quoted_on}
 use Rattle.yaml_scalars.specs.Scalar.{scalar_at, is_typed, HasKind, Answers, IsEndOf, begins_quoted, begins_block, is_first_column}
@@ -86,11 +86,20 @@ finds_none text s a (refusal.Syntax at) e h =
 finds_none text s a (refusal.ManyDocuments at) e h = inr (inr (at, refl, starts_at text s a e ∙ h))
 
 -- a key has no mark in it, whatever it ends by: a carriage return, a colon, a comment, another byte or the line's end
+-- whether it shows that there are many documents
+abbrev is_documents : Outcome → Bool
+is_documents (Stands text end) = false
+is_documents (Fails at) = false
+is_documents (Documents at) = true
+
+none_of_documents : (o : Outcome) (p : ℕ) → o ≡ Documents p → is_documents o ≡ false → ⊥
+none_of_documents o p h e = true≢false (sym (ap is_documents h) ∙ e)
+
 key_byte : (flow q r c : Bool) (at : ℕ) (bytes : List ℕ) (ls : List Line) (p : ℕ) → first (as_key flow) (cond q (why (13 ∷ [])) (cond r (why (58 ∷ [])) (cond c (why (35 ∷ [])) (why (0 ∷ []))))) at bytes ls ≡ Documents p → ⊥
-key_byte flow true r c at bytes ls p h = absurd (cc)
-key_byte flow false true c at bytes ls p h = absurd (cc)
-key_byte flow false false true at bytes ls p h = absurd (cc)
-key_byte flow false false false at bytes ls p h = absurd (cc)
+key_byte flow true r c at bytes ls p h = none_of_documents _ p h refl
+key_byte flow false true c at bytes ls p h = none_of_documents _ p h refl
+key_byte flow false false true at bytes ls p h = none_of_documents _ p h refl
+key_byte flow false false false at bytes ls p h = none_of_documents _ p h refl
 
 key_rest : (flow : Bool) (rest : List ℕ) (at : ℕ) (bytes : List ℕ) (ls : List Line) (p : ℕ) → first (as_key flow) (why rest) at bytes ls ≡ Documents p → ⊥
 key_rest flow [] at bytes ls p h = absurd (cc)

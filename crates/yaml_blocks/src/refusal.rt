@@ -5,7 +5,7 @@ use thiserror::Error;
 use yaml_scalars::ScalarRefusal;
 
 /// Why a text is refused as a document.
-#[derive(Clone, Copy, Debug, PartialEq, Eq, Error)]
+#[derive(Clone, Copy, Debug, Error)]
 pub enum YamlRefusal {
     /// The text is no document of the profile. It comes where none of the refusals below counts.
     #[error("the text is not YAML in the part that is read")]

@@ -1,4 +1,5 @@
-use Rattle.std.proofs.Common.{sym, ap, ◌∙◌, length}
+use Rattle.std.proofs.lemmas.Grind.{common_steps}
+use Rattle.std.proofs.Common.{sym, ap, ◌∙◌, length, arith}
 use Rattle.yaml_blocks.specs.Ahead.{line_ahead}
 use Rattle.yaml_blocks.proofs.Looks.{marked, filled, below_passed}
 use Rattle.yaml_blocks.proofs.ahead.line_ahead.Goals as goal
@@ -21,3 +22,9 @@ loop-at-preserved c =
 pub returns-in-None : goal.returns-in-None
 returns-in-None c = c.token_at.ensures ∙ sym (ap (line_ahead c.args.flow (length c.args.bytes.now)) c.in-None.ensures.0)
     ∙ sym (below_passed c.args.bytes.now c.args.flow c.loop-at.at (sym c.is_mark.ensures ∙ c.if-is_mark.false) (sym c.is_passed.ensures ∙ c.if-not-is_passed.false)) ∙ c.loop-at.invariant.0
+
+pub mark_ahead-requires-clause-within : goal.mark_ahead-requires-clause-within
+mark_ahead-requires-clause-within c = grind (arith, common_steps)
+
+pub token_at-requires-clause-within : goal.token_at-requires-clause-within
+token_at-requires-clause-within c = grind (arith, common_steps)

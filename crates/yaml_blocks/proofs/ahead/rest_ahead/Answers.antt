@@ -1,4 +1,5 @@
-use Rattle.std.proofs.Common.{sym, ap, ◌∙◌, length, ◌+◌, false}
+use Rattle.std.proofs.lemmas.Grind.{common_steps}
+use Rattle.std.proofs.Common.{sym, ap, ◌∙◌, length, ◌+◌, false, arith}
 use Rattle.yaml_blocks.specs.declared.ahead.Token.{Token}
 use Rattle.yaml_blocks.specs.Ahead.{token_at, line_ahead}
 use Rattle.yaml_blocks.proofs.Looks.{rest_filled, rest_passed, white_token}
@@ -17,3 +18,9 @@ returns-in-Some c =
 pub returns-in-None : goal.returns-in-None
 returns-in-None c = c.token_at-in-None.ensures ∙ sym (ap (line_ahead c.args.flow (length c.args.bytes.now)) c.in-None.ensures.0)
     ∙ sym (rest_passed c.args.bytes.now c.args.flow c.args.start (sym c.is_passed.ensures ∙ c.if-not-is_passed.false))
+
+pub token_at-requires-clause-within : goal.token_at-requires-clause-within
+token_at-requires-clause-within c = grind (arith, common_steps)
+
+pub token_at-requires-in-None-clause-within : goal.token_at-requires-in-None-clause-within
+token_at-requires-in-None-clause-within c = grind (arith, common_steps)

@@ -1,4 +1,4 @@
-use Rattle.std.proofs.Common.{◌+◌, ◌*◌}
+use Rattle.std.proofs.Common.{◌+◌, ◌*◌, refl}
 use Rattle.yaml_blocks.specs.code.Steps.{stack}
 use Rattle.yaml_blocks.proofs.BlockGains.{signed_gives, no_sign_inside}
 use Rattle.yaml_blocks.proofs.block.after.Goals as goal
@@ -10,3 +10,6 @@ returns-in-Some c =
 
 pub line-requires-clause-inside : goal.line-requires-clause-inside
 line-requires-clause-inside c = no_sign_inside c.args.text.now c.args.at (c.is_document_end.ensures.no c.if-is_document_end.false) c.in-None.ensures
+
+pub end_all-requires-clause-end : goal.end_all-requires-clause-end
+end_all-requires-clause-end c = c.if-is_document_end.ensures.yes refl

@@ -1,4 +1,5 @@
-use Rattle.std.proofs.Common.{List, sym, ap, subst, ◌∙◌}
+use Rattle.std.proofs.lemmas.Grind.{common_steps}
+use Rattle.std.proofs.Common.{List, sym, ap, subst, ◌∙◌, arith}
 use Rattle.yaml_blocks.specs.declared.form.Form.{Form}
 use Rattle.yaml_blocks.specs.code.Rest.{top}
 use Rattle.doc_values.specs.Unfinished.{with_end}
@@ -20,3 +21,6 @@ loop-next-preserved c =
       (λ text i n. then_alike text i (stack c.args.forms.now.items) old gs c.args.builder.now c.loop-next.builder c.end.new.self (c.loop-next.invariant.2 text i n)
           (ended_alike text i c.in-Some.field-0 old gs c.loop-next.builder c.end.new.self c.args.next n e c.in-Ok.ensures.ok s h)),
     )
+
+pub returns : goal.returns
+returns c = grind (arith, common_steps)

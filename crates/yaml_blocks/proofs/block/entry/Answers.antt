@@ -1,3 +1,4 @@
+use Rattle.std.proofs.lemmas.Grind.{common_steps}
 use Rattle.std.proofs.Common.{◌≡◌, ◌⊎◌, true, false, refl, sym, subst, arith, ◌+◌, ◌*◌}
 use Rattle.std.specs.Prelude.{Err}
 use Rattle.std.specs.Cow.{cow_str_bytes}
@@ -61,3 +62,9 @@ pub returns-in-Some : goal.returns-in-Some
 returns-in-Some c =
     let fs = stack c.args.forms.now in
     entry_signed_gives c.args.text.now c.args.column (2 * c.args.at + 2) fs fs c.args.builder.now c.args.builder.now c.args.at c.args.next c.in-Some.refusal c.requires.seen c.requires.fresh c.requires.inside c.requires.form c.requires.open c.if-next-column.false c.in-Some.ensures
+
+pub colon_behind-requires-clause-boundary : goal.colon_behind-requires-clause-boundary
+colon_behind-requires-clause-boundary c = grind (arith, common_steps)
+
+pub find_scalar-requires-clause-boundary : goal.find_scalar-requires-clause-boundary
+find_scalar-requires-clause-boundary c = grind (arith, common_steps)

@@ -1,3 +1,4 @@
+use Rattle.std.proofs.lemmas.Grind.{common_steps}
 use Rattle.std.proofs.Common.{List, ◌+◌, ◌*◌, arith, subst}
 use Rattle.yaml_blocks.specs.declared.form.Form.{Form}
 use Rattle.yaml_blocks.specs.code.Rest.{Ends}
@@ -24,3 +25,12 @@ returns-in-Ok c =
     let ended = c.in-Ok.ensures text at c.requires.seen.0 in
     gives_from text (Ends text (stack c.args.forms.now.items) u.outer u.done at) (Ends text gs w.outer w.done at) (2 * at + 2) (2 * at + 2) gs c.head.new.builder c.head.result ended.0 (omega arith)
     (subst (λ (x : List Form). Gives text (Ends text (stack x) w.outer w.done at) (2 * at + 2) (stack x) c.head.new.builder c.head.result) c.deref-in-Ok.ensures.value c.head.ensures)
+
+pub head-requires-clause-block : goal.head-requires-clause-block
+head-requires-clause-block c = grind (arith, common_steps)
+
+pub head-requires-clause-open : goal.head-requires-clause-open
+head-requires-clause-open c = grind (arith, common_steps)
+
+pub returns-in-Err : goal.returns-in-Err
+returns-in-Err c = grind (arith, common_steps)

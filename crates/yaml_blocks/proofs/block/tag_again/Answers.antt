@@ -1,4 +1,5 @@
-use Rattle.std.proofs.Common.{List, sym, ap, subst, ◌∙◌, ◌+◌, ◌*◌}
+use Rattle.std.proofs.lemmas.Grind.{common_steps}
+use Rattle.std.proofs.Common.{List, sym, ap, subst, ◌∙◌, ◌+◌, ◌*◌, arith}
 use Rattle.std.specs.Prelude.{Ok}
 use Rattle.yaml_blocks.specs.declared.form.Form.{Form}
 use Rattle.yaml_blocks.specs.code.Rest.{top}
@@ -41,3 +42,12 @@ returns c =
       c.requires.unsigned,
       subst (λ z. Ended text fs z next c.args.at gs w (Ok tt)) c.in-Ok.ensures.2 (c.in-Ok-end_before.ensures text c.args.at c.requires.awaited.seen.0),
     ) (λ h. c.is_entry_column.ensures.no c.if-is_entry_column.false (found ∙ h))
+
+pub end_before-requires-clause-block : goal.end_before-requires-clause-block
+end_before-requires-clause-block c = grind (arith, common_steps)
+
+pub end_before-requires-clause-open : goal.end_before-requires-clause-open
+end_before-requires-clause-open c = grind (arith, common_steps)
+
+pub returns-in-Err-end_before : goal.returns-in-Err-end_before
+returns-in-Err-end_before c = grind (arith, common_steps)

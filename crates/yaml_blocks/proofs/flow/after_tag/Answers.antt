@@ -1,4 +1,5 @@
-use Rattle.std.proofs.Common.{List, ap, ◌∙◌}
+use Rattle.std.proofs.lemmas.Grind.{common_steps}
+use Rattle.std.proofs.Common.{List, ap, ◌∙◌, arith}
 use Rattle.yaml_blocks.specs.declared.form.Form.{Form}
 use Rattle.yaml_blocks.specs.code.Rest.{top}
 use Rattle.yaml_blocks.specs.code.Steps.{stack}
@@ -27,3 +28,6 @@ returns c =
     let e = stack_grown c.args.forms.now.items c.pop.new.self.items c.in-Some.field-0 c.in-Some.ensures.items in
     tag_gives c.args.text.now c.args.place (stack c.args.forms.now.items) (stack c.pop.new.self.items) (stack c.after.new.forms.items) c.args.builder.now c.end.new.self c.after.new.builder c.args.at c.after.result
     (c.in-Some.field-0, e, c.requires.form, c.requires.open) c.in-Ok.ensures.ok c.after.ensures
+
+pub after-requires-clause-boundary : goal.after-requires-clause-boundary
+after-requires-clause-boundary c = grind (arith, common_steps)

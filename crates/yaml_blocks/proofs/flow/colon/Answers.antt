@@ -1,4 +1,5 @@
-use Rattle.std.proofs.Common.{sym, ◌∙◌}
+use Rattle.std.proofs.lemmas.Grind.{common_steps}
+use Rattle.std.proofs.Common.{sym, ◌∙◌, arith}
 use Rattle.yaml_blocks.proofs.Colons.{colon_behind, colon_missing, no_colon_there}
 use Rattle.yaml_blocks.proofs.flow.colon.Goals as goal
 
@@ -10,3 +11,6 @@ returns-then-may_follow c = colon_behind c.args.text.now c.args.quoted c.args.en
 
 pub returns-in_default : goal.returns-in_default
 returns-in_default c = no_colon_there c.args.text.now c.args.quoted c.args.end c.look-next.result c.look-next.ensures.0 c.in_default.not-Point (sym c.ends_key.ensures ∙ c.if-ends_key.false)
+
+pub returns-else-may_follow : goal.returns-else-may_follow
+returns-else-may_follow c = grind (arith, common_steps)

@@ -1,4 +1,5 @@
-use Rattle.std.proofs.Common.{List, ◌+◌, ◌*◌, sym, ap, subst, ◌∙◌}
+use Rattle.std.proofs.lemmas.Grind.{common_steps}
+use Rattle.std.proofs.Common.{List, ◌+◌, ◌*◌, sym, ap, subst, ◌∙◌, arith}
 use Rattle.yaml_blocks.specs.declared.ahead.Token.TheVariants.{Closes}
 use Rattle.yaml_blocks.specs.declared.form.Form.TheVariants.{Flow}
 use Rattle.yaml_blocks.specs.declared.form.Form.{Form}
@@ -27,3 +28,12 @@ returns-then-map c =
     let at = c.args.at in
     let u = c.args.builder.now in
     subst (λ (x : List Form). Gives text (Enters text (stack x) u.outer u.done at) (2 * at + 2) (stack x) c.key.new.builder c.key.result) c.deref.ensures.value c.key.ensures
+
+pub key-requires-clause-open : goal.key-requires-clause-open
+key-requires-clause-open c = grind (arith, common_steps)
+
+pub key-requires-clause-there : goal.key-requires-clause-there
+key-requires-clause-there c = grind (arith, common_steps)
+
+pub node-requires-clause-awaited : goal.node-requires-clause-awaited
+node-requires-clause-awaited c = grind (arith, common_steps)

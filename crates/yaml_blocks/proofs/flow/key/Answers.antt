@@ -1,4 +1,5 @@
-use Rattle.std.proofs.Common.{◌≡◌, ◌⊎◌, List, ℕ, drop, sym, ap, ◌∙◌, refl, subst, Bool, true, ◌+◌, ◌*◌}
+use Rattle.std.proofs.lemmas.Grind.{common_steps}
+use Rattle.std.proofs.Common.{◌≡◌, ◌⊎◌, List, ℕ, drop, sym, ap, ◌∙◌, refl, subst, Bool, true, ◌+◌, ◌*◌, arith}
 use Rattle.std.specs.Prelude.{Err}
 use Rattle.std.specs.Cow.{cow_str_bytes}
 use Rattle.doc_values.specs.declared.builder.BuildRefusal.TheVariants as build
@@ -56,3 +57,6 @@ pub returns-in-Some : goal.returns-in-Some
 returns-in-Some c =
     let fs = stack c.args.forms.now in
     key_signed_gives c.args.text.now (2 * c.args.at + 2) fs fs c.args.builder.now c.args.builder.now c.args.at c.args.next c.in-Some.refusal c.requires.seen.0 c.requires.there c.requires.unmarked c.requires.form c.requires.open c.in-Some.ensures
+
+pub colon-requires-clause-boundary : goal.colon-requires-clause-boundary
+colon-requires-clause-boundary c = grind (arith, common_steps)

@@ -1,4 +1,5 @@
-use Rattle.std.proofs.Common.{◌+◌, ◌*◌}
+use Rattle.std.proofs.lemmas.Grind.{common_steps}
+use Rattle.std.proofs.Common.{◌+◌, ◌*◌, arith}
 use Rattle.yaml_blocks.specs.code.Steps.{stack}
 use Rattle.yaml_blocks.proofs.Gains.{flow_spot, flow_signed_gives, tag_allowed, opened_gives, holds_gives}
 use Rattle.yaml_blocks.proofs.flow.node.Goals as goal
@@ -29,3 +30,6 @@ returns-in_default c =
     let u = c.args.builder.now in
     holds_gives text fs u c.take_scalar.new.builder c.args.form c.is_tagged.result c.args.at c.args.next c.take_scalar.result c.requires.seen.0
     (flow_spot text fs u c.args.form c.args.at c.args.next c.requires.seen c.requires.form c.requires.flow c.requires.open) c.in_default.not-Opens c.in_default.not-Tag c.is_tagged.ensures c.in-None.ensures c.requires.there c.take_scalar.ensures
+
+pub take_scalar-requires : goal.take_scalar-requires
+take_scalar-requires c = grind (arith, common_steps)

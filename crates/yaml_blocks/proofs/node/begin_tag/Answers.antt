@@ -1,4 +1,5 @@
-use Rattle.std.proofs.Common.{List, ℕ, ap, ◌∙◌, refl}
+use Rattle.std.proofs.lemmas.Grind.{common_steps}
+use Rattle.std.proofs.Common.{List, ℕ, ap, ◌∙◌, refl, arith}
 use Rattle.std.specs.Cow.{cow_str_bytes}
 use Rattle.doc_values.specs.declared.kind.Kind.TheVariants as kind
 use Rattle.doc_values.specs.Unfinished.{with_key, with_open, open_kind}
@@ -10,3 +11,6 @@ returns-in-Ok-key c =
     let b = c.in-Ok-begin.ensures in
     let map = b.1 ∙ ap (λ k. with_open (open_kind k) c.args.next.at u) c.requires.keys in
     (refl, refl, b.0, c.in-Ok-key.ensures.ok.0 ∙ ap (with_key (cow_str_bytes c.in-Ok.key)) map ∙ ap (λ (t : List ℕ). with_key t (with_open kind.Map c.args.next.at u)) c.in-Ok.ensures, b.2)
+
+pub returns-in-Err-key : goal.returns-in-Err-key
+returns-in-Err-key c = grind (arith, common_steps)

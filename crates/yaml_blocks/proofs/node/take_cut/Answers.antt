@@ -1,3 +1,5 @@
+use Rattle.std.proofs.Common.{arith}
+use Rattle.std.proofs.lemmas.Grind.{common_steps}
 use Rattle.std.specs.Cow.{cow_str_bytes}
 use Rattle.yaml_scalars.specs.Scalar.{is_typed}
 use Rattle.yaml_blocks.proofs.Scalars.{scalar_kind, holds_none}
@@ -15,3 +17,9 @@ scalar-requires-clause-plain c =
 
 pub returns-in-Err : goal.returns-in-Err
 returns-in-Err c = holds_none c.args.text.now c.args.setting c.args.cuts c.args.next c.args.builder.now c.args.builder.now c.in-Err.refusal c.in-Err.ensures
+
+pub returns-in-Err-scalar : goal.returns-in-Err-scalar
+returns-in-Err-scalar c = grind (arith, common_steps)
+
+pub returns-in-Ok-scalar : goal.returns-in-Ok-scalar
+returns-in-Ok-scalar c = grind (arith, common_steps)

@@ -1,4 +1,5 @@
-use Rattle.std.proofs.Common.{sym, ap, subst, List, []}
+use Rattle.std.proofs.lemmas.Grind.{common_steps}
+use Rattle.std.proofs.Common.{sym, ap, subst, List, [], arith}
 use Rattle.doc_values.specs.Tree.{Forest}
 use Rattle.yaml_blocks.specs.declared.form.Form.{Form}
 use Rattle.yaml_blocks.specs.Answers.{Reads}
@@ -40,3 +41,9 @@ returns-in-Err-root-clause-memory c want = (c.in-Ok.ensures.start.2, (c.in-Ok.st
 
 pub returns-in-Err-step-clause-memory : goal.returns-in-Err-step-clause-memory
 returns-in-Err-step-clause-memory c want = (c.in-Ok.ensures.start.2, (c.in-Ok.start, c.in-Ok.ensures.start.0))
+
+pub step-requires-clause-boundary : goal.step-requires-clause-boundary
+step-requires-clause-boundary c = grind (arith, common_steps)
+
+pub step-requires-clause-open : goal.step-requires-clause-open
+step-requires-clause-open c = grind (arith, common_steps)
