@@ -1,5 +1,5 @@
 use Rattle.std.proofs.lemmas.Grind.{common_steps}
-use Rattle.std.proofs.Common.{◌+◌, ◌<◌, length, arith, rules}
+use Rattle.std.proofs.Common.{◌+◌, ◌<◌, length, arith}
 use Rattle.yaml_scalars.proofs.EscapeValues.{meaning_so, pair_is}
 use Rattle.yaml_scalars.proofs.escape.pair_at.Goals as goal
 

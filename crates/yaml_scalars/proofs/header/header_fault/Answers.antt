@@ -1,5 +1,5 @@
 use Rattle.std.proofs.lemmas.Grind.{common_steps}
-use Rattle.std.proofs.Common.{◌∙◌, sym, rules, arith}
+use Rattle.std.proofs.Common.{◌∙◌, sym, arith}
 use Rattle.yaml_scalars.proofs.BlockLines.{comment_on}
 use Rattle.yaml_scalars.proofs.header.header_fault.Goals as goal
 

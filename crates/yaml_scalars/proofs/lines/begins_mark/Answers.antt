@@ -1,5 +1,5 @@
 use Rattle.std.proofs.lemmas.Grind.{common_steps}
-use Rattle.std.proofs.Common.{sym, rules, arith}
+use Rattle.std.proofs.Common.{sym, arith}
 use Rattle.yaml_scalars.proofs.Places.{mark_short}
 use Rattle.yaml_scalars.proofs.lines.begins_mark.Goals as goal
 

@@ -1,5 +1,4 @@
-use Rattle.std.proofs.lemmas.Grind.{common_steps}
-use Rattle.std.proofs.Common.{◌≡◌, ℕ, List, ◌+◌, drop, false, subst, sym, ap, ◌∙◌, ◌<◌, ◌≤◌, length, get_or, rules, arith}
+use Rattle.std.proofs.Common.{◌≡◌, ℕ, List, ◌+◌, drop, false, subst, sym, ap, ◌∙◌, ◌<◌, ◌≤◌, length, get_or}
 use Rattle.std.specs.Prelude.{string_bytes}
 use Rattle.yaml_scalars.specs.declared.plain_line.Why.TheVariants.{Break, Return, Colon, Comment, Mark}
 use Rattle.yaml_scalars.specs.Lines.{Fails}
@@ -46,8 +45,8 @@ returns-in-Comment-clause-ok c =
     let text = string_bytes c.push_content-in-Comment.new.reading.text in
     let end = c.push_content-in-Comment.new.reading.end in
     on_ok_both c.push_content-in-Comment.result _ _ _ c.push_content-in-Comment.ensures.text c.push_content-in-Comment.ensures.end (λ a b.
-        line_comment c.args.setting c.args.text.now c.args.line stop (string_bytes c.args.reading.now.text) c.args.reading.now.end text end e w a b
-        ∙ sym (ap (λ n. rest c.args.setting c.args.text.now n text end) c.push_content-in-Comment.ensures.next))
+    line_comment c.args.setting c.args.text.now c.args.line stop (string_bytes c.args.reading.now.text) c.args.reading.now.end text end e w a b
+    ∙ sym (ap (λ n. rest c.args.setting c.args.text.now n text end) c.push_content-in-Comment.ensures.next))
 
 pub returns-in-Colon-2-clause-ok : goal.returns-in-Colon-2-clause-ok
 returns-in-Colon-2-clause-ok c =
