@@ -1,3 +1,4 @@
+use Rattle.std.proofs.lemmas.Grind.{common_steps}
 use Rattle.std.proofs.Common.{◌+◌, ◌<◌, length, drop, sym, ap, ◌∙◌, arith}
 use Rattle.doc_values.specs.Number.{number_behind}
 use Rattle.doc_values.specs.code.Reading.{cap}
@@ -9,3 +10,6 @@ loop-byte-preserved c =
     let s = c.capped_step-n.ensures in
     let l : c.loop-byte.byte-index < length c.args.digits.now = omega arith in
     (ap (λ x. cap (number_behind x (drop (c.loop-byte.byte-index + 1) c.args.digits.now))) s ∙ cap-behind _ (drop (c.loop-byte.byte-index + 1) c.args.digits.now) ∙ ap cap (sym (number-drop c.loop-byte.n c.loop-byte.byte-index c.args.digits.now l)) ∙ c.loop-byte.invariant.0, omega arith)
+
+pub returns : goal.returns
+returns c = grind (arith, common_steps)

@@ -1,3 +1,4 @@
+use Rattle.std.proofs.lemmas.Grind.{common_steps}
 use Rattle.std.proofs.Common.{◌≡◌, ◌<◌, ◌^◌, ◌+◌, length, ap, subst, ◌∙◌, sym, arith, pos, ◌-ℤ◌, MatchOption}
 use Rattle.doc_values.specs.Decimal.{Decimal, IsNormal}
 use Rattle.doc_values.specs.Number.{Parts, number, IsDecimalOf}
@@ -49,3 +50,6 @@ returns-else-parts c =
     let at : pos (z + c.capped_number-power.result) -ℤ pos (length c.parts.inside.fraction.now) ≡ place c.parts.inside.down (cap (number c.parts.inside.power.now)) (length c.parts.inside.fraction.now) z = ap (λ e. pos (z + e) -ℤ pos (length c.parts.inside.fraction.now)) c.capped_number-power.ensures ∙ ap (λ q. place q (cap (number c.parts.inside.power.now)) (length c.parts.inside.fraction.now) z) (sym c.if-parts.false) in
     let a = decimal_answer p c.with_digits-held.result.kept z (z + c.capped_number-power.result) (length c.parts.inside.fraction.now) c.shifted-else-parts.result h (omega arith) long (omega arith) at c.shifted-else-parts.ensures in
     subst (λ (q : Parts). MatchOption c.shifted-else-parts.result ((d : Decimal) → IsDecimalOf q d → IsNormal d → ⊥) (λ d. IsDecimalOf q d × IsNormal d)) c.parts.view_is a
+
+pub with_digits-held-requires-clause-digits : goal.with_digits-held-requires-clause-digits
+with_digits-held-requires-clause-digits c = grind (arith, common_steps)

@@ -1,3 +1,4 @@
+use Rattle.std.proofs.lemmas.Grind.{common_steps}
 use Rattle.std.proofs.Common.{◌^◌, arith}
 use Rattle.doc_values.proofs.NumberValue.{high_power, times_more}
 use Rattle.doc_values.proofs.number.raised.Goals as goal
@@ -7,3 +8,6 @@ returns-then-by-ge18 c =
     let far = high_power c.args.by (omega arith) in
     let more = times_more c.args.kept (10 ^ c.args.by) (omega arith) in
     omega arith
+
+pub of-requires : goal.of-requires
+of-requires c = grind (arith, common_steps)

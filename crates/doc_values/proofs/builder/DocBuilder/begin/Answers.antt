@@ -1,3 +1,4 @@
+use Rattle.std.proofs.lemmas.Grind.{common_steps}
 use Rattle.std.proofs.Common.{◌<◌, List, [], ◌∷◌, ◌++◌, length, ap, sym, ◌∙◌, subst, arith}
 use Rattle.doc_values.specs.code.Rows.{Row}
 use Rattle.doc_values.specs.Unfinished.{Unfinished, with_open, open_kind}
@@ -30,3 +31,21 @@ returns-clause-ok c =
     let shallow = c.self.invariant.formed.shallow in
     let n : length c.args.self.now.outer < 128 = omega arith in
     (rw (c.in_ok-put.ensures.ok, c.in_ok-put.ensures.taken, c.collection-kind.ensures) (unfinished-open b.seat b.arena (open_kind c.args.map) c.args.at (key_text b.key) c.self.invariant.steps ∙ v), n)
+
+pub invariant_of-self : goal.invariant_of-self
+invariant_of-self c = grind (arith, common_steps)
+
+pub invariant_of-self-in_err-put : goal.invariant_of-self-in_err-put
+invariant_of-self-in_err-put c = grind (arith, common_steps)
+
+pub overflow_add-self : goal.overflow_add-self
+overflow_add-self c = grind (arith, common_steps)
+
+pub overflow_add-self-2 : goal.overflow_add-self-2
+overflow_add-self-2 c = grind (arith, common_steps)
+
+pub push_reserved-requires : goal.push_reserved-requires
+push_reserved-requires c = grind (arith, common_steps)
+
+pub returns-clause-no_memory_where_deep : goal.returns-clause-no_memory_where_deep
+returns-clause-no_memory_where_deep c = grind (arith, common_steps)

@@ -1,3 +1,4 @@
+use Rattle.std.proofs.lemmas.Grind.{common_steps}
 use Rattle.std.proofs.Common.{◌<◌, List, length, ap, ◌∙◌, subst, arith}
 use Rattle.std.specs.Cow.{cow_str_bytes}
 use Rattle.doc_values.specs.code.Rows.{Row}
@@ -24,3 +25,6 @@ returns-clause-ok c =
     let b = c.self.inside in
     let v = ap (with_value c.args.kind (cow_str_bytes c.args.text) c.args.at) c.self.view_is in
     rw (c.in_ok-put.ensures.ok, c.in_ok-put.ensures.taken) (unfinished-value b.seat b.arena c.args.kind (cow_str_bytes c.args.text) c.args.at (key_text b.key) c.self.invariant.steps ∙ v)
+
+pub invariant_of-self : goal.invariant_of-self
+invariant_of-self c = grind (arith, common_steps)

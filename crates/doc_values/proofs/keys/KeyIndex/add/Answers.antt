@@ -1,4 +1,5 @@
-use Rattle.std.proofs.Common.{refl}
+use Rattle.std.proofs.lemmas.Grind.{common_steps}
+use Rattle.std.proofs.Common.{refl, arith}
 use Rattle.std.specs.Cow.{cow_str_bytes}
 use Rattle.doc_values.specs.declared.keys.KeyIndex.{KeyIndex}
 use Rattle.doc_values.proofs.Named.{IsNewPair, IsApart-pair, Adds-pair, pairs_after}
@@ -27,3 +28,6 @@ returns-in-Ok-clause-ok c =
       long = refl;
     } in
     Adds-pair c.args.self.now mid new k c.args.under c.in_ok-name.name c.args.number c.in_ok-name.ensures.ok c.name.ensures.apart is_new
+
+pub returns-in-Err-clause-apart : goal.returns-in-Err-clause-apart
+returns-in-Err-clause-apart c = grind (arith, common_steps)

@@ -1,4 +1,5 @@
-use Rattle.std.proofs.Common.{◌≡◌, List, ℕ, cond, Some, None, sym, ap, ◌∙◌, refl}
+use Rattle.std.proofs.lemmas.Grind.{common_steps}
+use Rattle.std.proofs.Common.{◌≡◌, List, ℕ, cond, Some, None, sym, ap, ◌∙◌, refl, arith}
 use Rattle.std.specs.Option.{option_copied}
 use Rattle.std.specs.Str.{bytes_eq}
 use Rattle.std.specs.Cow.{cow_str_bytes}
@@ -29,3 +30,6 @@ returns-clause-apart c = IsApart-new c.args.self.now (record { names = c.insert.
 
 pub returns-clause-ok : goal.returns-clause-ok
 returns-clause-ok c = Names-new c.args.self.now (record { names = c.insert.new.self; places = c.args.self.now.places; alloc = c.args.self.now.alloc }) (cow_str_bytes c.args.key.now) c.len-count.result c.requires (is_new c)
+
+pub returns-in-Err-clause-err : goal.returns-in-Err-clause-err
+returns-in-Err-clause-err c = grind (arith, common_steps)
