@@ -1,4 +1,5 @@
 pub mod Decimal
+pub mod Limits
 pub mod Number
 pub mod Tree
 pub mod Unfinished

@@ -5,13 +5,10 @@ ghost use Rattle.doc_values.specs.Tree.{Forest};
 ghost use Rattle.rule_meaning.specs.Functions.{IsGiven, IsParsed, IsPart, IsUnescaped, text_tree, truth_in};
 
 use crate::trees::text_tree;
-use doc_values::Doc;
+use doc_values::{Doc, TEMPLATE_LIMIT};
 use json_reader::{JsonRefusal, read_json};
 use percent_encoding::{DecodeError, percent_decode};
 use std::alloc::{AllocError, Global};
-
-/// The most bytes of a text that is read as JSON.
-const JSON: usize = 8388608;
 
 /// The truth value of `true` and `false`, in any ASCII case.
 pub(crate) fn truth_in(text: &str) -> Option<bool>
@@ -30,7 +27,7 @@ pub(crate) fn truth_in(text: &str) -> Option<bool>
 pub(crate) fn parsed(alloc: Global, text: &str) -> Result<Option<Doc<'static>>, AllocError>
     ensures { IfOk result (IsGiven (IsParsed text.now)) }
 {
-    if JSON < text.len() {
+    if TEMPLATE_LIMIT < text.len() {
         return Ok(None);
     }
     match read_json(alloc, text) {

@@ -3,6 +3,7 @@
 -- in rules may be one of several.
 use Rattle.std.specs.Prelude.{ℕ, ◌<◌, ◌≤◌, ◌≡◌, ◌⊎◌, List, Option, Some, None, IsUtf8, codes, length, nat_eq, if◌then◌else◌}
 use Rattle.std.specs.List.{ends_with}
+use Rattle.doc_values.specs.Limits.{evidence_limit, rules_limit, template_limit}
 use Rattle.doc_values.specs.Tree.{Forest}
 use Rattle.evidence_lines.specs.Text.{IsEvidence, IsFault}
 use Rattle.evidence_lines.specs.Versioned.{Versioned}
@@ -46,16 +47,6 @@ IsTooLong limit bytes = limit < length bytes
 -- no more bytes, but no text
 abbrev pub IsNoText : ℕ → List ℕ → Type 0
 IsNoText limit bytes = (length bytes ≤ limit) × (IsUtf8 bytes → ⊥)
-
--- a template has at most 8 MiB, rules have at most 1 MiB, and evidence has at most 256 MiB
-abbrev pub template_limit : ℕ
-template_limit = 8388608
-
-abbrev pub rules_limit : ℕ
-rules_limit = 1048576
-
-abbrev pub proof_limit : ℕ
-proof_limit = 268435456
 
 -- Templates.
 
@@ -186,11 +177,11 @@ RefusesRules bytes _ = ⊥
 
 -- bytes that are evidence of a version and its lines
 pub record IsProof (bytes : List ℕ) (evidence : Versioned) : Type 0 where
-  pub within : length bytes ≤ proof_limit
+  pub within : length bytes ≤ evidence_limit
   pub read : IsEvidence bytes evidence.version evidence.lines
 
 -- why evidence with these bytes is refused: they are too many, or a line is not in the format
 abbrev pub RefusesProof : List ℕ → Refusal → Type 0
-RefusesProof bytes (TooLong file.Proof) = IsTooLong proof_limit bytes
-RefusesProof bytes (EvidenceSyntax number) = (length bytes ≤ proof_limit) × IsFault bytes number
+RefusesProof bytes (TooLong file.Proof) = IsTooLong evidence_limit bytes
+RefusesProof bytes (EvidenceSyntax number) = (length bytes ≤ evidence_limit) × IsFault bytes number
 RefusesProof bytes _ = ⊥

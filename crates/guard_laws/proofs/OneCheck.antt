@@ -1,5 +1,6 @@
 -- Evidence is judged in one way, where its bytes have one list of lines or one fault.
 use Rattle.std.proofs.Common.{◌≡◌, ◌⊎◌, ◌≤◌, ◌<◌, ℕ, zero, suc, refl, sym, ap, ap₂, ◌∙◌, subst, inl, inr, arith, List, [], ◌∷◌, ◌++◌, Some, length, take}
+use Rattle.doc_values.specs.Limits.{evidence_limit}
 use Rattle.doc_values.specs.Tree.{Forest}
 use Rattle.evidence_rules.specs.Rejected.{IsRejectedAt}
 use Rattle.evidence_lines.specs.Text.{IsEvidence, IsFault}
@@ -12,7 +13,7 @@ use Rattle.rule_meaning.specs.StoreModel.{StoreModel}
 use Rattle.evidence_rules.specs.Follows.{Accepts, AllFollow, nothing_made}
 use Rattle.rule_meaning.specs.Seeing.{grown}
 use Rattle.guard_ends.specs.Check.{accepted_text, rejected_text}
-use Rattle.guard_ends.specs.Inputs.{IsProof, IsTooLong, RefusesProof, proof_limit}
+use Rattle.guard_ends.specs.Inputs.{IsProof, IsTooLong, RefusesProof}
 use Rattle.guard_ends.specs.Order.{Contents, Ended, Ending, Ends, Inputs, IsChecked, OfEvidence, Reading, Work}
 use Rattle.guard_ends.specs.declared.ends.End.TheVariants as end_is
 use Rattle.guard_ends.specs.declared.ends.Refusal.{Refusal}
@@ -96,8 +97,8 @@ pub record EvidenceLaws (bytes : List ℕ) : Type 0 where
 
 abbrev ProofWhy : List ℕ → Refusal → Type 0
 ProofWhy bytes r =
-    ((r ≡ TooLong file.Proof) × IsTooLong proof_limit bytes)
-    ⊎ ((n : ℕ) × (r ≡ EvidenceSyntax n) × (length bytes ≤ proof_limit) × IsFault bytes n)
+    ((r ≡ TooLong file.Proof) × IsTooLong evidence_limit bytes)
+    ⊎ ((n : ℕ) × (r ≡ EvidenceSyntax n) × (length bytes ≤ evidence_limit) × IsFault bytes n)
 
 proof-why : (bytes : List ℕ) (r : Refusal) → RefusesProof bytes r → ProofWhy bytes r
 proof-why bytes DataUnread h = absurd h
@@ -108,7 +109,7 @@ proof-why bytes (NotText which) h = absurd h
 proof-why bytes (EvidenceSyntax n) h = inr (n, refl, h.0, h.1)
 proof-why bytes (At which kind at name) h = absurd h
 
-long-apart : (bytes : List ℕ) → IsTooLong proof_limit bytes → length bytes ≤ proof_limit → ⊥
+long-apart : (bytes : List ℕ) → IsTooLong evidence_limit bytes → length bytes ≤ evidence_limit → ⊥
 long-apart bytes long within = omega arith
 
 module _ (bytes : List ℕ) (laws : EvidenceLaws bytes) where

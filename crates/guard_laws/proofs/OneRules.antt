@@ -1,10 +1,11 @@
 -- Rules have one reading or one refusal, but for the place of Syntax. By the cases of the refusals.
 use Rattle.std.proofs.Common.{◌≡◌, ◌⊎◌, ◌≤◌, ℕ, List, length, Option, None, arith, inl, inr, refl, sym, ap, ◌∙◌, subst}
+use Rattle.doc_values.specs.Limits.{rules_limit}
 use Rattle.guard_syntax.specs.Syntax.{File}
 use Rattle.rule_names.specs.Faults.{Fault}
 use Rattle.rule_names.specs.WellNamed.{WellNamed, IsNameFault}
 use Rattle.guard_laws.proofs.OneFault.{one-fault, fault-apart}
-use Rattle.guard_ends.specs.Inputs.{IsText, IsTooLong, IsNoText, IsSyntax, IsRuleFile, RefusesText, RefusesNames, RefusesRules, name_kind, name_said, rules_limit}
+use Rattle.guard_ends.specs.Inputs.{IsText, IsTooLong, IsNoText, IsSyntax, IsRuleFile, RefusesText, RefusesNames, RefusesRules, name_kind, name_said}
 use Rattle.guard_ends.specs.declared.ends.Refusal.{Refusal}
 use Rattle.guard_ends.specs.declared.ends.Refusal.TheVariants.{DataUnread, TooLong, NotText, EvidenceSyntax, At}
 use Rattle.guard_ends.specs.declared.ends.RefusalKind.{RefusalKind}

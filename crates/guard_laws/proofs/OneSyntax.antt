@@ -4,6 +4,7 @@ use Rattle.std.proofs.Common.{◌≡◌, ◌⊎◌, ◌<◌, ◌≤◌, ℕ, Lis
 use Rattle.std.proofs.lemmas.Bool.{cases_lt, cases_order}
 use Rattle.std.proofs.lemmas.List.{length-map, get_or_past}
 use Rattle.std.proofs.lemmas.Option.{none-some, some_pair_parts}
+use Rattle.doc_values.specs.Limits.{rules_limit}
 use Rattle.guard_lexer.specs.Lexes as lex
 use Rattle.guard_lexer.specs.declared.token.Token.{Token}
 use Rattle.guard_lexer.specs.declared.token.LexRefusal.{LexRefusal}
@@ -73,7 +74,7 @@ deep-one text tokens at place (i, opens, deep, before, is) (j, opens', deep', be
 
 -- Syntax. The text is short, so that its own tokens are among those of which a dead end speaks.
 
-dead-apart : (text : List ℕ) (tokens : List Token) (at : ℕ) (f : File) (mixed : Option ℕ) → length text ≤ 1048576 → lex.IsTokenList text tokens
+dead-apart : (text : List ℕ) (tokens : List Token) (at : ℕ) (f : File) (mixed : Option ℕ) → length text ≤ rules_limit → lex.IsTokenList text tokens
     → IsDeadEnd text tokens at → IsSpelled text tokens f mixed → ⊥
 dead-apart text tokens at f mixed short listed (shallow, (k, is, none)) spelled =
     none text tokens f mixed (omega (arith, few_tokens text tokens listed)) (λ i _. refl) shallow spelled
@@ -96,7 +97,7 @@ range-one : OneSyntax → (text : List ℕ) (tokens : List Token) (at place : �
 range-one law text tokens at place (shallow, (f, spelled)) (shallow', (g, spelled')) =
     let same : Some at ≡ Some place = (law text tokens f g (Some at) (Some place) spelled spelled').1 in cc
 
-why-alike : OneSyntax → (text : List ℕ) (tokens : List Token) (kind : RefusalKind) (at : ℕ) (other : RefusalKind) (place : ℕ) → length text ≤ 1048576
+why-alike : OneSyntax → (text : List ℕ) (tokens : List Token) (kind : RefusalKind) (at : ℕ) (other : RefusalKind) (place : ℕ) → length text ≤ rules_limit
     → lex.IsTokenList text tokens → SyntaxWhy text tokens kind at → SyntaxWhy text tokens other place → AreAlike kind at other place
 why-alike law text tokens kind at other place short listed (inl (k, deep)) (inl (k', deep')) = inl (k ∙ sym k', deep-one text tokens at place deep deep')
 why-alike law text tokens kind at other place short listed (inl (k, deep)) (inr (inl (k', dead))) = absurd (deep-apart text tokens at deep dead.0)
@@ -112,7 +113,7 @@ why-alike law text tokens kind at other place short listed (inr (inr (k, range))
     inl (k ∙ sym k', range-one law text tokens at place range range')
 
 -- what is refused so has no syntax
-why-apart : OneSyntax → (text : List ℕ) (tokens : List Token) (kind : RefusalKind) (at : ℕ) (f : File) → length text ≤ 1048576 → lex.IsTokenList text tokens
+why-apart : OneSyntax → (text : List ℕ) (tokens : List Token) (kind : RefusalKind) (at : ℕ) (f : File) → length text ≤ rules_limit → lex.IsTokenList text tokens
     → SyntaxWhy text tokens kind at → Rules text tokens f → ⊥
 why-apart law text tokens kind at f short listed (inl (k, deep)) spelled = deep-apart text tokens at deep spelled.0
 why-apart law text tokens kind at f short listed (inr (inl (k, dead))) spelled = dead-apart text tokens at f None short listed dead spelled.1
@@ -126,7 +127,7 @@ syntax-one law text f g (ts, listed, spelled) (us, listed', spelled') =
     let same : us ≡ ts = tokens-one text us ts listed' listed in
     (law text ts f g None None spelled.1 (subst (λ (ws : List Token). Rules text ws g) same spelled').1).0
 
-pub text-alike : OneSyntax → (text : List ℕ) (kind : RefusalKind) (at : ℕ) (other : RefusalKind) (place : ℕ) → length text ≤ 1048576
+pub text-alike : OneSyntax → (text : List ℕ) (kind : RefusalKind) (at : ℕ) (other : RefusalKind) (place : ℕ) → length text ≤ rules_limit
     → RefusesText text kind at → RefusesText text other place → AreAlike kind at other place
 text-alike law text kind at other place short (inl h) (inl h') = lex-alike text kind at other place h h'
 text-alike law text kind at other place short (inl (r, named, h)) (inr (us, listed, h')) = absurd (tokens-apart text us r listed h)
@@ -136,7 +137,7 @@ text-alike law text kind at other place short (inr (ts, listed, h)) (inr (us, li
     why-alike law text ts kind at other place short listed (syntax-why text ts kind at h)
     (syntax-why text ts other place (subst (λ (ws : List Token). RefusesSyntax text ws other place) same h'))
 
-pub text-apart : OneSyntax → (text : List ℕ) (kind : RefusalKind) (at : ℕ) (f : File) → length text ≤ 1048576 → RefusesText text kind at → IsSyntax text f → ⊥
+pub text-apart : OneSyntax → (text : List ℕ) (kind : RefusalKind) (at : ℕ) (f : File) → length text ≤ rules_limit → RefusesText text kind at → IsSyntax text f → ⊥
 text-apart law text kind at f short (inl (r, named, h)) (us, listed, spelled) = tokens-apart text us r listed h
 text-apart law text kind at f short (inr (ts, listed, h)) (us, listed', spelled) =
     let same : us ≡ ts = tokens-one text us ts listed' listed in

@@ -1,10 +1,11 @@
 -- A template has one tree or one refusal in its format, where its text has. By the cases of the refusals.
 use Rattle.std.proofs.Common.{◌≡◌, ◌≤◌, ℕ, List, length, arith, inl, inr, sym, ap, ◌∙◌, IsUtf8}
+use Rattle.doc_values.specs.Limits.{template_limit}
 use Rattle.doc_values.specs.Tree.{Forest}
 use Rattle.guard_syntax.specs.Syntax.{File}
 use Rattle.rule_meaning.specs.Locations.{Answers}
 use Rattle.query_steps.proofs.LocatedAnswers.{one-answering}
-use Rattle.guard_ends.specs.Inputs.{IsTooLong, IsTemplate, RefusesTemplate, template_limit}
+use Rattle.guard_ends.specs.Inputs.{IsTooLong, IsTemplate, RefusesTemplate}
 use Rattle.guard_ends.specs.Order.{AreRead, Ended, Ends, Inputs, IsJudged, MakingPatterns, ReadingInputs, Work, judged}
 use Rattle.guard_ends.specs.Report.{Reporting}
 use Rattle.guard_ends.specs.Reported.{world_over}

@@ -1,5 +1,6 @@
 //! The tokens of a text, one after the other.
 ghost use Rattle.std.specs.Prelude.{◌≡◌, ◌⊎◌, ◌+◌, ◌<◌, ◌≤◌, ◌^◌, ℕ, false, List, [], ◌∷◌, length, drop, Option, Some, None, Result, IfOk, IfErr, MatchOption, MatchResult};
+ghost use Rattle.doc_values.specs.Limits.{rules_limit};
 ghost use Rattle.guard_lexer.specs.Lexes.{Starts, Reads, IsTokenList, IsRefused, is_dot};
 ghost use Rattle.guard_lexer.specs.code.Memory.{HasToken, BeginsToken};
 ghost use Rattle.guard_lexer.specs.code.Firsts.{IsNext};
@@ -94,7 +95,7 @@ fn read_from(alloc: Global, bytes: &[u8], start: u32) -> Result<Vec<Token>, LexR
 /// start is passed over and counts in them. Takes time linear in the text, but that it reads the digits of a number and
 /// the bytes of a name a few times. Each token takes memory, and nothing else does.
 pub fn tokens(alloc: Global, text: &str) -> Result<Vec<Token>, LexRefusal>
-    requires room { length text.now ≤ 1048576 }
+    requires room { length text.now ≤ rules_limit }
     ensures tokens { IfOk result (λ v. IsTokenList text.now v.items) }
     ensures refusal { IfErr result (λ r. (r ≡ LexRefusal.NoMemory) ⊎ IsRefused text.now r) }
     ensures memory { IfErr result (λ r. r ≡ LexRefusal.NoMemory → BeginsToken text.now) }

@@ -15,6 +15,7 @@ use Rattle.std.proofs.lemmas.Bool.{ltb-true, ltb-false}
 use Rattle.std.proofs.lemmas.List.{append-nil, get_or-take, length-append, length-map, length-take, take-map}
 use Rattle.std.proofs.Math.ListN.{get_or-append, get_or-eq_default}
 use Rattle.std.proofs.Math.Seq.{get_or-append_seam}
+use Rattle.doc_values.specs.Limits.{rules_limit}
 use Rattle.literal_parser.proofs.Places.{at_end}
 use Rattle.literal_parser.proofs.GoOn.{Spells, only}
 use Rattle.guard_parser.proofs.GoOnFile.{goes_on}
@@ -155,10 +156,10 @@ before_goes text tokens turns depth k room many e = by_outcome (reading (lexemes
   by_outcome (Read x m seen) f = whole_goes text (take k tokens) (file_of x m.places) m.mixed (read_is text (take k tokens) turns depth x m seen f)
   by_outcome (Fail i) f = by_place i f (nat_lt i (length (take k tokens))) refl
 
-dead_end : (text : List ℕ) (tokens : List Token) (turns depth k : ℕ) → 1048576 < turns → length tokens ≤ 1048576 → 128 ≤ suc depth
+dead_end : (text : List ℕ) (tokens : List Token) (turns depth k : ℕ) → rules_limit < turns → length tokens ≤ rules_limit → 128 ≤ suc depth
     → reading (lexemes text tokens) turns (suc depth) ≡ Fail k → IsShallow text tokens → IsDeadEnd text tokens (lexemes text tokens k).from
 dead_end text tokens turns depth k room few deep e shallow = (shallow, (k, (refl, before_goes text tokens turns (suc depth) k (omega arith) (omega arith) e), λ other more f mixed small agree flat spelled. helper other more f mixed small agree flat spelled)) where
-  helper : (other : List ℕ) (more : List Token) (f : File) (mixed : Option ℕ) → length more ≤ 1048576 → ((i : ℕ) → i ≤ k → lexemes other more i ≡ lexemes text tokens i)
+  helper : (other : List ℕ) (more : List Token) (f : File) (mixed : Option ℕ) → length more ≤ rules_limit → ((i : ℕ) → i ≤ k → lexemes other more i ≡ lexemes text tokens i)
       → IsShallow other more → IsSpelled other more f mixed → ⊥
   helper other more f mixed small agree flat (b, h, at, places, first) =
       let local = whole_local (lexemes text tokens) (lexemes other more) turns (suc depth) in
@@ -167,7 +168,7 @@ dead_end text tokens turns depth k room few deep e shallow = (shallow, (k, (refl
       let room_left = contents_shallow (lexemes other more) f.lets f.rules f.loose start b h (subst (λ n. IsShallowTo (lexemes other more) n) (sym at) flat) in
       none_given k same (whole_gives (lexemes other more) turns depth f.lets f.rules f.loose b (omega arith) (omega arith) h (is_there (lexemes other more) (length more) b at (ends_there other more)))
 
-pub dead_end_at : (text : List ℕ) (tokens : List Token) (turns depth k : ℕ) → 1048576 < turns → length tokens ≤ 1048576 → 128 ≤ depth
+pub dead_end_at : (text : List ℕ) (tokens : List Token) (turns depth k : ℕ) → rules_limit < turns → length tokens ≤ rules_limit → 128 ≤ depth
     → reading (lexemes text tokens) turns depth ≡ Fail k → IsShallow text tokens → IsDeadEnd text tokens (lexemes text tokens k).from
 dead_end_at text tokens turns zero k room few deep e shallow = absurd (omega arith)
 dead_end_at text tokens turns (suc depth) k room few deep e shallow = dead_end text tokens turns depth k room few deep e shallow

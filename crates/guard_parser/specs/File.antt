@@ -1,5 +1,6 @@
 -- What the tokens of a text spell, and why they spell nothing.
 use Rattle.std.specs.Prelude.{◌≡◌, ℕ, zero, suc, pred, true, ◌<◌, ◌≤◌, ◌+◌, List, ◌++◌, length, map, take, slice_index_or, Option, Some, None, if◌then◌else◌}
+use Rattle.doc_values.specs.Limits.{rules_limit}
 use Rattle.guard_lexer.specs.declared.token.Token.{Token}
 use Rattle.guard_syntax.specs.Syntax.{File}
 use Rattle.guard_parser.specs.declared.refusal.ParseRefusal.{ParseRefusal}
@@ -62,7 +63,7 @@ MayGoOn text tokens = (more : List Lexeme) × (f : File) × (mixed : Option ℕ)
 -- whatever tokens, of whatever text, begin with the lexemes up to it and with it, they spell none
 abbrev pub IsDeadEnd : List ℕ → List Token → ℕ → Type 0
 IsDeadEnd text tokens at = IsShallow text tokens × ((k : ℕ) × ((at ≡ (lexemes text tokens k).from) × MayGoOn text (take k tokens))
-    × ((other : List ℕ) (more : List Token) (f : File) (mixed : Option ℕ) → length more ≤ 1048576 → ((i : ℕ) → i ≤ k → lexemes other more i ≡ lexemes text tokens i)
+    × ((other : List ℕ) (more : List Token) (f : File) (mixed : Option ℕ) → length more ≤ rules_limit → ((i : ℕ) → i ≤ k → lexemes other more i ≡ lexemes text tokens i)
     → IsShallow other more → IsSpelled other more f mixed → ⊥))
 
 -- why tokens spell no rule file

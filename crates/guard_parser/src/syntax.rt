@@ -1,5 +1,6 @@
 //! The syntax of a rule file.
 ghost use Rattle.std.specs.Prelude.{◌≡◌, ◌≤◌, ◌<◌, ℕ, List, length, IfOk, IfErr, IsErrOf, Option};
+ghost use Rattle.doc_values.specs.Limits.{rules_limit};
 ghost use Rattle.guard_lexer.specs.Lexes.{IsTokenList};
 ghost use Rattle.guard_lexer.specs.declared.token.Token.{Token};
 ghost use Rattle.guard_syntax.specs.Syntax.{File};
@@ -12,17 +13,18 @@ ghost use Rattle.guard_parser.specs.File.{Rules, IsSpelled, IsShallow, IsTooDeep
 use crate::nest::{MOST_OPEN, first_too_deep};
 use crate::read_file::whole_file;
 use crate::refusal::ParseRefusal;
+use doc_values::RULES_LIMIT;
 use guard_lexer::Token;
 use guard_syntax::{Places, RawFile};
 use literal_parser::{Cursor, Halt, Tokens, shapes_of};
 use std::alloc::Global;
 
 /// No rule file has more tokens.
-const MOST_TOKENS: usize = 1048576;
+const MOST_TOKENS: usize = RULES_LIMIT;
 
 /// The file that tokens spell, in which no more brackets are open at once than the depth.
 fn file(alloc: Global, tokens: Tokens<'_>, depth: usize) -> Result<RawFile, ParseRefusal>
-    requires turns { 1048576 < tokens.turns }
+    requires turns { rules_limit < tokens.turns }
     requires deep { depth ≡ 128 }
     requires shallow { IsShallow tokens.text.now tokens.items.now }
     ensures ok { IfOk result (λ f. Rules tokens.entry.text.now tokens.entry.items.now (see_file f)) }
@@ -53,7 +55,7 @@ fn file(alloc: Global, tokens: Tokens<'_>, depth: usize) -> Result<RawFile, Pars
 
 /// The syntax that the tokens of a text spell. The tokens are those of the text.
 pub fn parse(alloc: Global, text: &str, tokens: &[Token]) -> Result<RawFile, ParseRefusal>
-    requires short { length text.now ≤ 1048576 }
+    requires short { length text.now ≤ rules_limit }
     requires tokens { IsTokenList text.now tokens.now }
     ensures ok { IfOk result (λ f. Rules text.now tokens.now (see_file f)) }
     ensures refusal { IfErr result (λ r. IsRefused text.now tokens.now r) }

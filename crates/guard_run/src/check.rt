@@ -1,5 +1,6 @@
 //! `check`: evidence is loaded and read, and judged line by line for rules and a template. Nothing is evaluated.
 ghost use Rattle.std.specs.Prelude.{◌≡◌, ◌≤◌, ℕ, List, [], length, IfOk, MatchResult};
+ghost use Rattle.doc_values.specs.Limits.{evidence_limit};
 ghost use Rattle.rule_names.specs.code.Files.{file_of};
 ghost use Rattle.report_text.specs.RuleLines.{reported_names};
 ghost use Rattle.guard_words.specs.Request.{check};
@@ -84,7 +85,7 @@ fn check_evidence<F: Files>(
 
 /// The lines of the bytes of evidence, which are no more than it may have.
 fn lines_of(alloc: Global, bytes: Vec<u8>) -> Result<Evidence, Stop>
-    requires { length bytes.items ≤ 268435456 }
+    requires { length bytes.items ≤ evidence_limit }
     ensures { MatchResult result (λ evidence. IsProof bytes.items evidence) (IsNotRead RefusesProof bytes.items) }
 {
     match read_evidence(alloc, &bytes) {

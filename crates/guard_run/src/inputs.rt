@@ -1,5 +1,6 @@
 //! The inputs of a judgement: rules and a template, by their names, then loaded, then read.
 ghost use Rattle.std.specs.Prelude.{◌≡◌, ◌≤◌, false, length, string_bytes};
+ghost use Rattle.doc_values.specs.Limits.{rules_limit, template_limit};
 ghost use Rattle.rule_names.specs.code.Files.{file_of};
 ghost use Rattle.value_compare.specs.code.Books.{IsBookOf};
 ghost use Rattle.rule_meaning.specs.Values.{has_pattern};
@@ -21,7 +22,7 @@ pub(crate) struct Names<'r, 't> {
 pub(crate) struct Rules {
     pub text: String,
     pub file: RuleFile,
-    pub ghost short: { length (string_bytes text) ≤ 1048576 },
+    pub ghost short: { length (string_bytes text) ≤ rules_limit },
 }
 
 /// Rules that were read, and the text of a template, with the format in which it is to be read.
@@ -30,7 +31,7 @@ pub(crate) struct Texts {
     pub rules: Rules,
     pub template: String,
     pub format: Format,
-    pub ghost short: { length (string_bytes template) ≤ 8388608 },
+    pub ghost short: { length (string_bytes template) ≤ template_limit },
 }
 
 /// Rules, and a template with its text, that are read, and the patterns of the rules, which are made.
@@ -40,7 +41,7 @@ pub(crate) struct Inputs<'r, 't> {
     pub template: &'t str,
     pub tree: Doc<'t>,
     pub book: PatternBook,
-    pub ghost short: { length template.now ≤ 8388608 },
+    pub ghost short: { length template.now ≤ template_limit },
     pub ghost plain: { has_pattern tree ≡ false },
     pub ghost made: { IsBookOf (file_of rules.now.file) book },
 }

@@ -1,6 +1,7 @@
 //! The lines of refusals, and of evidence that is rejected. They stand on the stack, so that none wants memory, but for those
 //! that end with a name of the rules, which may be as long as the rules are.
 ghost use Rattle.std.specs.Prelude.{◌≡◌, ◌+◌, ◌≤◌, ◌++◌, Some, codes, length, decimal, string_bytes, IfOk};
+ghost use Rattle.doc_values.specs.Limits.{template_limit};
 ghost use Rattle.arrayvec.specs.ArrayString.{array_string_len};
 ghost use Rattle.doc_values.specs.Position.{line_at, column_at};
 ghost use Rattle.guard_ends.specs.Check.{rejected_text};
@@ -31,7 +32,7 @@ pub(crate) fn whole_line(which: Which, name: &str) -> Short
 
 /// The line of a refusal at a byte offset of a file. An offset past its bytes stands for their end.
 pub(crate) fn placed_line(which: Which, kind: RefusalKind, at: u32, bytes: &[u8]) -> Short
-    requires { length bytes.now ≤ 8388608 }
+    requires { length bytes.now ≤ template_limit }
     ensures { result.bytes ≡ placed_line which bytes.now at (kind_word kind) }
 {
     let mut line = line_start(which, kind, at, bytes);
@@ -41,7 +42,7 @@ pub(crate) fn placed_line(which: Which, kind: RefusalKind, at: u32, bytes: &[u8]
 
 /// The line up to the refusal's kind, and the kind.
 fn line_start(which: Which, kind: RefusalKind, at: u32, bytes: &[u8]) -> Short
-    requires { length bytes.now ≤ 8388608 }
+    requires { length bytes.now ≤ template_limit }
     ensures start { result.bytes ≡ codes "guard: " ++ file_word which ++ codes " " ++ decimal (line_at bytes.now at) ++ codes ":"
         ++ decimal (column_at bytes.now at) ++ codes ": " ++ kind_word kind }
     ensures short { array_string_len result ≤ 53 }
@@ -90,7 +91,7 @@ pub(crate) fn named_line(
     at: u32,
     bytes: &[u8],
 ) -> Result<String, AllocError>
-    requires { length bytes.now ≤ 8388608 }
+    requires { length bytes.now ≤ template_limit }
     ensures { IfOk result (λ line. string_bytes line
         ≡ placed_line which bytes.now at (kind_word kind ++ name_part (Some name.now))) }
 {
@@ -104,7 +105,7 @@ pub(crate) fn named_line(
 
 /// The line and the column of a byte offset, those of the end where it is past the bytes.
 fn place_in(bytes: &[u8], at: u32) -> (u32, u32)
-    requires { length bytes.now ≤ 8388608 }
+    requires { length bytes.now ≤ template_limit }
     ensures line { result.0 ≡ line_at bytes.now at }
     ensures column { result.1 ≡ column_at bytes.now at }
 {

@@ -5,6 +5,7 @@ ghost use Rattle.guard_run.specs.code.Loading.{IsNotLoaded, RefusesLength, Refus
 
 use crate::refused::{not_text, too_long};
 use crate::stop::Stop;
+use doc_values::{EVIDENCE_LIMIT, RULES_LIMIT, TEMPLATE_LIMIT};
 use guard_ends::Which;
 use guard_io::{Files, LoadFault};
 use std::alloc::Global;
@@ -15,9 +16,9 @@ fn limit_of(which: Which) -> u64
     ensures small { result < 2 ^ 32 }
 {
     match which {
-        Which::Rules => 1_048_576,
-        Which::Template => 8_388_608,
-        Which::Proof => 268_435_456,
+        Which::Rules => RULES_LIMIT as u64,
+        Which::Template => TEMPLATE_LIMIT as u64,
+        Which::Proof => EVIDENCE_LIMIT as u64,
     }
 }
 

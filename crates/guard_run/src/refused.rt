@@ -1,5 +1,6 @@
 //! Refusals with their lines.
 ghost use Rattle.std.specs.Prelude.{◌≡◌, ◌≤◌, ℕ, List, Some, None, length, IfOk};
+ghost use Rattle.doc_values.specs.Limits.{template_limit};
 ghost use Rattle.guard_ends.specs.Inputs.{json_kind, lex_kind, name_kind, name_said, of_yaml, parse_kind};
 ghost use Rattle.guard_ends.specs.Order.{refused};
 ghost use Rattle.guard_run.specs.code.Refusals.{said, IsRefusedAs};
@@ -64,7 +65,7 @@ pub(crate) fn not_text(which: Which) -> Refused
 
 /// A file with these bytes, refused at a byte offset.
 pub(crate) fn refused_at(which: Which, kind: RefusalKind, at: u32, bytes: &[u8]) -> Refused
-    requires { length bytes.now ≤ 8388608 }
+    requires { length bytes.now ≤ template_limit }
     ensures { said result ≡ refused bytes.now (Refusal.At which kind at None) }
 {
     Refused {
@@ -87,7 +88,7 @@ pub(crate) fn refused_name(
     at: u32,
     bytes: &[u8],
 ) -> Result<Refused, AllocError>
-    requires { length bytes.now ≤ 8388608 }
+    requires { length bytes.now ≤ template_limit }
     ensures { IfOk result (λ r. said r ≡ refused bytes.now (Refusal.At Which.Rules (name_kind kind) at (name_said kind name))) }
 {
     let named = name_said(kind, name);
@@ -186,7 +187,7 @@ pub(crate) fn json_kind(refusal: JsonRefusal) -> Option<(RefusalKind, u32)>
 
 /// A template with this text, refused by a refusal of YAML. Want of memory is none.
 pub(crate) fn yaml_refused(refusal: YamlRefusal, text: &str) -> Option<Refused>
-    requires { length text.now ≤ 8388608 }
+    requires { length text.now ≤ template_limit }
     ensures { IsRefusedAs (of_yaml refusal) text.now result }
 {
     match refusal {
@@ -204,7 +205,7 @@ pub(crate) fn yaml_refused(refusal: YamlRefusal, text: &str) -> Option<Refused>
 
 /// A template with this text, refused at a byte offset.
 fn data_at(kind: RefusalKind, at: u32, text: &str) -> Refused
-    requires { length text.now ≤ 8388608 }
+    requires { length text.now ≤ template_limit }
     ensures { said result ≡ refused text.now (Refusal.At Which.Template kind at None) }
 {
     refused_at(Which::Template, kind, at, text.as_bytes())

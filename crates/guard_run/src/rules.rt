@@ -1,5 +1,6 @@
 //! Rules: they are loaded, and read as tokens, syntax and names.
 ghost use Rattle.std.specs.Prelude.{◌≡◌, ◌≤◌, ℕ, List, MatchResult, length, string_bytes};
+ghost use Rattle.doc_values.specs.Limits.{rules_limit};
 ghost use Rattle.guard_lexer.specs.Lexes as lex;
 ghost use Rattle.guard_syntax.specs.code.Seen.{see_file};
 ghost use Rattle.rule_names.specs.code.Files.{file_of};
@@ -35,7 +36,7 @@ pub(crate) fn load_rules<F: Files>(alloc: Global, name: &str, files: &mut F) -> 
 
 /// Reads the text of a rule file, which is no longer than rules may be.
 pub(crate) fn read_rules(alloc: Global, text: String) -> Result<Rules, Stop>
-    requires { length (string_bytes text) ≤ 1048576 }
+    requires { length (string_bytes text) ≤ rules_limit }
     ensures { MatchResult result (λ rules. (string_bytes rules.text ≡ string_bytes text) × IsRuleFile (string_bytes text) (file_of rules.file))
         (IsNotRead RefusesRules (string_bytes text)) }
 {
@@ -45,7 +46,7 @@ pub(crate) fn read_rules(alloc: Global, text: String) -> Result<Rules, Stop>
 
 /// The rules of a text, which is no longer than rules may be.
 fn rules_of(alloc: Global, text: &str) -> Result<RuleFile, Stop>
-    requires { length text.now ≤ 1048576 }
+    requires { length text.now ≤ rules_limit }
     ensures { MatchResult result (λ rules. IsRuleFile text.now (file_of rules)) (IsNotRead RefusesRules text.now) }
 {
     match tokens(alloc, text) {
@@ -56,7 +57,7 @@ fn rules_of(alloc: Global, text: &str) -> Result<RuleFile, Stop>
 
 /// The rules of the tokens of a text.
 fn rules_of_tokens(alloc: Global, text: &str, tokens: &[Token]) -> Result<RuleFile, Stop>
-    requires short { length text.now ≤ 1048576 }
+    requires short { length text.now ≤ rules_limit }
     requires tokens { lex.IsTokenList text.now tokens.now }
     ensures { MatchResult result (λ rules. IsRuleFile text.now (file_of rules)) (IsNotRead RefusesRules text.now) }
 {
@@ -68,7 +69,7 @@ fn rules_of_tokens(alloc: Global, text: &str, tokens: &[Token]) -> Result<RuleFi
 
 /// The rules of the syntax of a text.
 fn rules_of_syntax(alloc: Global, text: &str, raw: RawFile) -> Result<RuleFile, Stop>
-    requires short { length text.now ≤ 1048576 }
+    requires short { length text.now ≤ rules_limit }
     requires syntax { IsSyntax text.now (see_file raw) }
     ensures { MatchResult result (λ rules. IsRuleFile text.now (file_of rules)) (IsNotRead RefusesRules text.now) }
 {

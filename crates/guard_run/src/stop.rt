@@ -1,5 +1,6 @@
 //! What stops the work of a call.
 ghost use Rattle.std.specs.Prelude.{◌≡◌, ◌≤◌, length};
+ghost use Rattle.doc_values.specs.Limits.{template_limit};
 ghost use Rattle.guard_run.specs.code.Stops.{IsPlaced};
 ghost use Rattle.guard_run.specs.declared.stop.Stop.TheVariants.{Memory};
 
@@ -32,7 +33,7 @@ impl From<AllocError> for Stop {
 
 /// What comes of a refusal of a text, by its kind and its place; of want of memory where it has none.
 pub(crate) fn unread_at(which: Which, placed: Option<(RefusalKind, u32)>, text: &str) -> Stop
-    requires { length text.now ≤ 8388608 }
+    requires { length text.now ≤ template_limit }
     ensures { IsPlaced which placed text.now result }
 {
     match placed {

@@ -1,5 +1,6 @@
 //! Templates, which are read in the format that is asked for.
 ghost use Rattle.std.specs.Prelude.{◌≤◌, MatchResult, length};
+ghost use Rattle.doc_values.specs.Limits.{template_limit};
 ghost use Rattle.guard_ends.specs.Inputs.{IsTemplate, RefusesTemplate};
 ghost use Rattle.guard_run.specs.code.Stops.{IsNotRead};
 
@@ -13,7 +14,7 @@ use yaml_blocks::read_yaml;
 
 /// The tree of a text in a format, which is no longer than a template may be.
 pub(crate) fn read_template(alloc: Global, format: Format, text: &str) -> Result<Doc<'_>, Stop>
-    requires { length text.now ≤ 8388608 }
+    requires { length text.now ≤ template_limit }
     ensures { MatchResult result (λ tree. IsTemplate format text.entry.now tree)
         (IsNotRead (RefusesTemplate format) text.entry.now) }
 {
@@ -25,7 +26,7 @@ pub(crate) fn read_template(alloc: Global, format: Format, text: &str) -> Result
 
 /// The tree of a text of YAML.
 fn read_as_yaml(alloc: Global, text: &str) -> Result<Doc<'_>, Stop>
-    requires { length text.now ≤ 8388608 }
+    requires { length text.now ≤ template_limit }
     ensures { MatchResult result (λ tree. IsTemplate Format.Yaml text.entry.now tree)
         (IsNotRead (RefusesTemplate Format.Yaml) text.entry.now) }
 {
@@ -40,7 +41,7 @@ fn read_as_yaml(alloc: Global, text: &str) -> Result<Doc<'_>, Stop>
 
 /// The tree of a text of JSON.
 fn read_as_json(alloc: Global, text: &str) -> Result<Doc<'_>, Stop>
-    requires { length text.now ≤ 8388608 }
+    requires { length text.now ≤ template_limit }
     ensures { MatchResult result (λ tree. IsTemplate Format.Json text.entry.now tree)
         (IsNotRead (RefusesTemplate Format.Json) text.entry.now) }
 {

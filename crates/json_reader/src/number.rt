@@ -1,5 +1,6 @@
 //! Numbers.
 ghost use Rattle.std.specs.Prelude.{◌≡◌, ◌<◌, ◌≤◌, length, take, true, Some, None, IsErrOf, MatchResult, slice_index};
+ghost use Rattle.doc_values.specs.Limits.{template_limit};
 ghost use Rattle.doc_values.specs.Number.{is_digit};
 ghost use Rattle.json_reader.specs.code.Numbers.{first_part, part_next, by_exponent, by_point, completes, run_parts};
 ghost use Rattle.json_reader.specs.code.Reading.{begins_number};
@@ -120,7 +121,7 @@ fn kind_of(number: Num) -> Kind
 /// The number at a place, and the place behind it; a refusal where its bytes are no number text, or it is out of range.
 pub(crate) fn number_at(text: &str, at: usize) -> Result<(Kind, usize), JsonRefusal>
     requires within { at < length text.now }
-    requires small { length text.now ≤ 8388608 }
+    requires small { length text.now ≤ template_limit }
     requires begins { begins_number (slice_index text.now at) ≡ true }
     ensures number { MatchResult result (λ r. (at < r.1) × (r.1 ≤ length text.now) × IsPlain r.0 × Number text.now at r.0 r.1) (λ e. NoNumber text.now at e) }
     ensures no_memory { ¬ IsErrOf result JsonRefusal.NoMemory }

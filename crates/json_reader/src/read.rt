@@ -1,5 +1,6 @@
 //! A whole text, and what its trees and refusals have in common.
 ghost use Rattle.std.specs.Prelude.{◌≡◌, ◌≤◌, None, length, IfErr, IfOk, IsErrOf, MatchResult};
+ghost use Rattle.doc_values.specs.Limits.{template_limit};
 ghost use Rattle.doc_values.specs.Tree.{Forest};
 ghost use Rattle.doc_values.specs.Unfinished.{IsComplete, start};
 ghost use Rattle.json_reader.specs.code.Memory.{HasBeginning};
@@ -19,7 +20,7 @@ use std::alloc::Global;
 /// `NoMemory`, which says nothing of the text, has the place of its cause. A text in which no byte may begin a value takes
 /// no memory.
 pub fn read_json<'s>(alloc: Global, text: &'s str) -> Result<Doc<'s>, JsonRefusal>
-    requires { length text.now ≤ 8388608 }
+    requires { length text.now ≤ template_limit }
     ensures answer { MatchResult result (λ d. Json text.now d) (λ e. (e ≡ JsonRefusal.NoMemory → ⊥) → IsRefused text.now e) }
     ensures memory { IsErrOf result JsonRefusal.NoMemory → HasBeginning text.now }
 {
@@ -39,7 +40,7 @@ fn read_tokens<'s>(
     text: &'s str,
     builder: &mut DocBuilder<'s>,
 ) -> Result<(), JsonRefusal>
-    requires small { length text.now ≤ 8388608 }
+    requires small { length text.now ≤ template_limit }
     requires unmarked { mark_stop text.now ≡ None }
     requires begun { builder.old ≡ start }
     ensures complete { IfOk result (λ _. IsComplete builder.new) }

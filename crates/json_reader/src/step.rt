@@ -1,5 +1,6 @@
 //! One token at a time: what it adds to the tree, and what is awaited behind it.
 ghost use Rattle.std.specs.Prelude.{◌≡◌, ◌+◌, ◌<◌, ◌≤◌, length, [], true, false, None, IsErrOf, MatchResult, slice_index, ℕ};
+ghost use Rattle.doc_values.specs.Limits.{template_limit};
 ghost use Rattle.json_reader.specs.code.Reading.{AtValue, AtKeyOrEnd, AtItemOrEnd, AtKey, AtColon, After, InString, InWord, begins_number, after_next, class_of};
 ghost use Rattle.json_reader.specs.code.Memory.{begins, HasEscape};
 ghost use Rattle.json_reader.specs.declared.bytes.Class.TheVariants.{Comma};
@@ -15,7 +16,7 @@ use std::borrow::CowStr;
 
 /// An offset in a text of at most 8 MiB.
 fn offset(i: usize) -> u32
-    requires { i ≤ 8388608 }
+    requires { i ≤ template_limit }
     ensures { result ≡ i }
 {
     i as u32
@@ -29,7 +30,7 @@ pub(crate) fn step<'s>(
     builder: &mut DocBuilder<'s>,
 ) -> Result<Position, JsonRefusal>
     requires within { position.at < length text.now }
-    requires small { length text.now ≤ 8388608 }
+    requires small { length text.now ≤ template_limit }
     requires fits { Fits position.stage builder.old }
     ensures gives { Gives text.now position.at (phase_of position.stage) builder.old builder.new result }
     ensures memory { IsErrOf result JsonRefusal.NoMemory → begins (class_of (slice_index text.now position.at)) ≡ true }
@@ -53,7 +54,7 @@ fn value_step<'s>(
     builder: &mut DocBuilder<'s>,
 ) -> Result<Position, JsonRefusal>
     requires within { at < length text.now }
-    requires small { length text.now ≤ 8388608 }
+    requires small { length text.now ≤ template_limit }
     requires fits { Fits Stage.Value builder.old }
     ensures gives { Gives text.now at AtValue builder.old builder.new result }
     ensures memory { IsErrOf result JsonRefusal.NoMemory → begins (class_of (slice_index text.now at)) ≡ true }
@@ -83,7 +84,7 @@ fn key_or_end_step<'s>(
     builder: &mut DocBuilder<'s>,
 ) -> Result<Position, JsonRefusal>
     requires within { at < length text.now }
-    requires small { length text.now ≤ 8388608 }
+    requires small { length text.now ≤ template_limit }
     requires fits { Fits Stage.KeyOrEnd builder.old }
     ensures gives { Gives text.now at AtKeyOrEnd builder.old builder.new result }
     ensures memory { IsErrOf result JsonRefusal.NoMemory → begins (class_of (slice_index text.now at)) ≡ true }
@@ -107,7 +108,7 @@ fn item_or_end_step<'s>(
     builder: &mut DocBuilder<'s>,
 ) -> Result<Position, JsonRefusal>
     requires within { at < length text.now }
-    requires small { length text.now ≤ 8388608 }
+    requires small { length text.now ≤ template_limit }
     requires fits { Fits Stage.ItemOrEnd builder.old }
     ensures gives { Gives text.now at AtItemOrEnd builder.old builder.new result }
     ensures memory { IsErrOf result JsonRefusal.NoMemory → begins (class_of (slice_index text.now at)) ≡ true }
@@ -130,7 +131,7 @@ fn next_key_step<'s>(
     builder: &mut DocBuilder<'s>,
 ) -> Result<Position, JsonRefusal>
     requires within { at < length text.now }
-    requires small { length text.now ≤ 8388608 }
+    requires small { length text.now ≤ template_limit }
     requires fits { Fits Stage.Key builder.old }
     ensures gives { Gives text.now at AtKey builder.old builder.new result }
     ensures memory { IsErrOf result JsonRefusal.NoMemory → begins (class_of (slice_index text.now at)) ≡ true }
@@ -148,7 +149,7 @@ fn next_key_step<'s>(
 /// Behind a key.
 fn colon_step(text: &str, at: usize, builder: &DocBuilder) -> Result<Position, JsonRefusal>
     requires within { at < length text.now }
-    requires small { length text.now ≤ 8388608 }
+    requires small { length text.now ≤ template_limit }
     requires fits { Fits Stage.Colon builder.now }
     ensures gives { Gives text.now at AtColon builder.now builder.now result }
     ensures no_memory { ¬ IsErrOf result JsonRefusal.NoMemory }
@@ -169,7 +170,7 @@ fn colon_step(text: &str, at: usize, builder: &DocBuilder) -> Result<Position, J
 /// Behind a value.
 fn after_step(text: &str, at: usize, builder: &mut DocBuilder) -> Result<Position, JsonRefusal>
     requires within { at < length text.now }
-    requires small { length text.now ≤ 8388608 }
+    requires small { length text.now ≤ template_limit }
     requires fits { Fits Stage.After builder.old }
     ensures gives { Gives text.now at After builder.old builder.new result }
     ensures no_memory { ¬ IsErrOf result JsonRefusal.NoMemory }
@@ -194,7 +195,7 @@ fn text_step<'s>(
     builder: &mut DocBuilder<'s>,
 ) -> Result<Position, JsonRefusal>
     requires within { at < length text.now }
-    requires small { length text.now ≤ 8388608 }
+    requires small { length text.now ≤ template_limit }
     requires quote { slice_index text.now at ≡ 34 }
     requires fits { Fits Stage.Value builder.old }
     ensures { Gives text.now (at + 1) (InString false [] [] at) builder.old builder.new result }
@@ -219,7 +220,7 @@ fn key_step<'s>(
     builder: &mut DocBuilder<'s>,
 ) -> Result<Position, JsonRefusal>
     requires within { at < length text.now }
-    requires small { length text.now ≤ 8388608 }
+    requires small { length text.now ≤ template_limit }
     requires quote { slice_index text.now at ≡ 34 }
     requires fits { Fits Stage.Key builder.old }
     ensures gives { Gives text.now (at + 1) (InString true [] [] at) builder.old builder.new result }
@@ -240,7 +241,7 @@ fn key_step<'s>(
 /// The number at a place is a value.
 fn number_step(text: &str, at: usize, builder: &mut DocBuilder) -> Result<Position, JsonRefusal>
     requires within { at < length text.now }
-    requires small { length text.now ≤ 8388608 }
+    requires small { length text.now ≤ template_limit }
     requires begins { begins_number (slice_index text.now at) ≡ true }
     requires fits { Fits Stage.Value builder.old }
     ensures gives { Gives text.now at AtValue builder.old builder.new result }
@@ -267,7 +268,7 @@ fn word_step(
     builder: &mut DocBuilder,
 ) -> Result<Position, JsonRefusal>
     requires within { at < length bytes.now }
-    requires small { length bytes.now ≤ 8388608 }
+    requires small { length bytes.now ≤ template_limit }
     requires some { 0 < length rest.now }
     requires plain { IsPlain kind }
     requires fits { Fits Stage.Value builder.old }
@@ -291,7 +292,7 @@ fn word_step(
 
 /// A map or a list begins.
 fn open_step(at: usize, map: bool, builder: &mut DocBuilder) -> Result<Position, JsonRefusal>
-    requires small { at < 8388608 }
+    requires small { at < template_limit }
     requires fits { Fits Stage.Value builder.old }
     ensures leads { Leads at (open_next map at builder.old) (JsonRefusal.TooDeep at) builder.new result }
     ensures no_memory_where_deep { length builder.old.outer ≡ 128 → IsErrOf result (JsonRefusal.TooDeep at) }
@@ -320,7 +321,7 @@ fn innermost_is_map(builder: &DocBuilder) -> Option<bool>
 
 /// The innermost collection ends, if it is of this form.
 fn end_step(at: usize, map: bool, builder: &mut DocBuilder) -> Result<Position, JsonRefusal>
-    requires small { at < 8388608 }
+    requires small { at < template_limit }
     requires rooted { IsRooted builder.old.outer }
     requires key { builder.old.key ≡ None }
     ensures leads { Leads at (end_next map builder.old) (JsonRefusal.Syntax at) builder.new result }
@@ -343,7 +344,7 @@ fn end_step(at: usize, map: bool, builder: &mut DocBuilder) -> Result<Position, 
 
 /// Another entry comes, if a collection is open.
 fn comma_step(at: usize, builder: &DocBuilder) -> Result<Position, JsonRefusal>
-    requires small { at < 8388608 }
+    requires small { at < template_limit }
     requires fits { Fits Stage.After builder.now }
     ensures leads { Leads at (after_next builder.now Comma) (JsonRefusal.Syntax at) builder.now result }
     ensures no_memory { ¬ IsErrOf result JsonRefusal.NoMemory }

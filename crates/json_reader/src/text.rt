@@ -1,6 +1,7 @@
 //! Texts between quotation marks.
 ghost use Rattle.std.specs.Prelude.{ℕ, ◌≡◌, ◌-◌, ◌<◌, ◌≤◌, ◌⊎◌, length, not, true, false, IsErrOf, MatchResult, take, drop, slice_index, string_bytes};
 ghost use Rattle.std.specs.Cow.{cow_str_bytes};
+ghost use Rattle.doc_values.specs.Limits.{template_limit};
 ghost use Rattle.byte_lanes.specs.code.Members.{holds};
 ghost use Rattle.json_reader.specs.code.Memory.{HasEscape};
 ghost use Rattle.json_reader.specs.Json.{is_unescaped, Each};
@@ -72,7 +73,7 @@ pub(crate) fn text_at<'s>(
 ) -> Result<(CowStr<'s>, usize), JsonRefusal>
     requires inside { 0 < start }
     requires within { start ≤ length text.now }
-    requires small { length text.now ≤ 8388608 }
+    requires small { length text.now ≤ template_limit }
     requires quote { slice_index text.now (start - 1) ≡ 34 }
     ensures text { MatchResult result (λ r. IsTextAt text.now start (cow_str_bytes r.0) r.1) (λ e. (e ≡ JsonRefusal.NoMemory) ⊎ ((j : ℕ) × (e ≡ JsonRefusal.Syntax j) × Unclosed text.now start j)) }
     ensures memory { IsErrOf result JsonRefusal.NoMemory → HasEscape text.now }
@@ -96,7 +97,7 @@ pub(crate) fn text_at<'s>(
 fn decoded_at(texts: &Texts, text: &str, start: usize) -> Result<(String, usize), JsonRefusal>
     requires inside { 0 < start }
     requires within { start ≤ length text.now }
-    requires small { length text.now ≤ 8388608 }
+    requires small { length text.now ≤ template_limit }
     requires quote { slice_index text.now (start - 1) ≡ 34 }
     ensures { MatchResult result (λ r. IsTextAt text.now start (string_bytes r.0) r.1) (λ e. (e ≡ JsonRefusal.NoMemory) ⊎ ((j : ℕ) × (e ≡ JsonRefusal.Syntax j) × Unclosed text.now start j)) }
 {

@@ -1,5 +1,6 @@
 //! The lines of entries: places at the borders of lines and past a text, and sinks with each room.
 use crate::worlds::{file_of, template_of};
+use doc_values::RULES_LIMIT;
 use guard_io::MemSink;
 use report_text::{Entry, ReportFault, Shown, Word, write_entry};
 use rule_names::RuleFile;
@@ -26,7 +27,7 @@ fn write(
 ) -> Result<Result<(), ReportFault>, AllocError> {
     let template = template_of(alloc, "a")?;
     let store = Store::new(alloc, &template, file);
-    if 1048576 < text.len() {
+    if RULES_LIMIT < text.len() {
         return Err(AllocError);
     }
     Ok(write_entry(alloc, file, text, "", &store, &CALL, sink))

@@ -1,11 +1,12 @@
 //! Texts of rules: the span of each token.
+use doc_values::RULES_LIMIT;
 use guard_lexer::{Token, tokens};
 use std::alloc::Global;
 use std::test::Fail;
 
 /// The tokens of a text that is short enough; `None` where it has none.
 fn read(alloc: Global, text: &str) -> Option<Vec<Token>> {
-    if 1048576 < text.len() {
+    if RULES_LIMIT < text.len() {
         return None;
     }
     match tokens(alloc, text) {

@@ -2,7 +2,7 @@
 //! place of a refusal, none of which a report tells. The rows of plain scalars stand here.
 use crate::scalars::Wanted::{Lent, Made, Refused};
 use crate::{block_scalars, quoted};
-use doc_values::Kind;
+use doc_values::{Kind, TEMPLATE_LIMIT};
 use std::alloc::Global;
 use std::borrow::CowStr;
 use std::test::Fail;
@@ -56,10 +56,10 @@ fn read<'s>(
     at: usize,
     setting: Setting,
 ) -> Result<Scalar<'s>, ScalarRefusal> {
-    if text.len() <= at || 8388608 < text.len() || !text.is_char_boundary(at) {
+    if text.len() <= at || TEMPLATE_LIMIT < text.len() || !text.is_char_boundary(at) {
         return Err(ScalarRefusal::NoMemory);
     }
-    if setting.parent < -1 || 8388608 < setting.parent {
+    if setting.parent < -1 || setting.parent > TEMPLATE_LIMIT as i32 {
         return Err(ScalarRefusal::NoMemory);
     }
     read_scalar(alloc, text, at, setting)

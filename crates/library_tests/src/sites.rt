@@ -1,4 +1,5 @@
 //! Texts of rules: the place of each site.
+use doc_values::RULES_LIMIT;
 use guard_lexer::tokens;
 use guard_parser::parse;
 use std::alloc::Global;
@@ -47,7 +48,7 @@ const SITES: &[(&str, &[u32])] = &[
 
 /// Whether a text spells a file whose sites have these places.
 fn has_sites(alloc: Global, text: &str, places: &[u32]) -> bool {
-    if 1048576 < text.len() {
+    if RULES_LIMIT < text.len() {
         return false;
     }
     match tokens(alloc, text) {

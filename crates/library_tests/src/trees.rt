@@ -1,5 +1,5 @@
 //! A tree of JSON by the calls of a cursor, and two laws that only speak of definitions.
-use doc_values::{Cursor, Doc, Kind};
+use doc_values::{Cursor, Doc, Kind, TEMPLATE_LIMIT};
 use json_reader::{place_within, read_json};
 use std::alloc::Global;
 use std::test::Fail;
@@ -77,7 +77,7 @@ const NODES: &[Node] = &[
 
 /// The tree of a text, which outlives it.
 fn tree_of(alloc: Global, text: &str) -> Result<Doc<'static>, Fail> {
-    if 8388608 < text.len() {
+    if TEMPLATE_LIMIT < text.len() {
         return Err(Fail::from("too long"));
     }
     match read_json(alloc, text) {

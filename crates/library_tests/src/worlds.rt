@@ -1,12 +1,13 @@
 //! What the calls of these tests are made over: rule files, and a template that is a text alone.
 ghost use Rattle.std.specs.Prelude.{◌≡◌, ◌≤◌, List, length, IfOk};
+ghost use Rattle.doc_values.specs.Limits.{rules_limit};
 ghost use Rattle.guard_lexer.specs.Lexes as lex;
 ghost use Rattle.guard_lexer.specs.declared.token.Token.{Token};
 ghost use Rattle.guard_parser.specs.File.{Rules};
 ghost use Rattle.guard_syntax.specs.code.Seen.{see_file};
 ghost use Rattle.rule_meaning.specs.Functions.{text_tree};
 
-use doc_values::{Doc, DocBuilder, Kind};
+use doc_values::{Doc, DocBuilder, Kind, RULES_LIMIT};
 use guard_lexer::{Token, tokens};
 use guard_parser::{parse, queries_begin, sites_in_order};
 use guard_syntax::RawFile;
@@ -18,7 +19,7 @@ use std::test::Fail;
 
 /// The rule file of a text of these tests.
 pub(crate) fn file_of(alloc: Global, text: &'static str) -> Result<RuleFile, Fail> {
-    if 1048576 < text.len() {
+    if RULES_LIMIT < text.len() {
         return Err(Fail::from("too long"));
     }
     match tokens(alloc, text) {
@@ -29,7 +30,7 @@ pub(crate) fn file_of(alloc: Global, text: &'static str) -> Result<RuleFile, Fai
 
 /// The rule file of the tokens of a text.
 fn file_of_tokens(alloc: Global, text: &'static str, tokens: &[Token]) -> Result<RuleFile, Fail>
-    requires short { length text.now ≤ 1048576 }
+    requires short { length text.now ≤ rules_limit }
     requires tokens { lex.IsTokenList text.now tokens.now }
 {
     match parse(alloc, text, tokens) {

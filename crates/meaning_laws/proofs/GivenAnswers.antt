@@ -14,6 +14,7 @@ use Rattle.json_reader.specs.code.Numbers.{number_kind}
 use Rattle.json_reader.specs.code.Reading.{verdict}
 use Rattle.json_reader.specs.declared.refusal.JsonRefusal.{JsonRefusal}
 use Rattle.doc_values.specs.Decimal.{Decimal}
+use Rattle.doc_values.specs.Limits.{template_limit}
 use Rattle.doc_values.specs.Number.{IsNumber, IsSpelled, Parts}
 use Rattle.doc_values.specs.Tree.{Forest}
 use Rattle.doc_values.specs.declared.decimal.Num.{Num}
@@ -48,9 +49,9 @@ of_verdict text limit true (Err refusal) within is = λ tree json. verdict_err t
 of_verdict text limit false r past is = λ tree json. let within = json.0 in absurd (grind (arith, nat_tests, past, within))
 
 parsed-given : (text : List ℕ) → IsGiven (IsParsed text) (parsed text)
-parsed-given text = from (parsed text) (of_verdict text 8388608 (nat_le (length text) 8388608) (verdict text) refl refl)
+parsed-given text = from (parsed text) (of_verdict text template_limit (nat_le (length text) template_limit) (verdict text) refl refl)
   where
-    from : (q : Option Forest) → IsGiven (λ tree. (length text ≤ 8388608) × Json text tree) q → IsGiven (IsParsed text) q
+    from : (q : Option Forest) → IsGiven (λ tree. (length text ≤ template_limit) × Json text tree) q → IsGiven (IsParsed text) q
     from None none = none
     from (Some tree) is = is
 

@@ -1,6 +1,7 @@
 //! The lines of entries.
 ghost use Rattle.std.specs.Prelude.{◌≡◌, ◌≤◌, ◌++◌, [], ℕ, List, None, Some, true, false, MatchOption, IsErrOf, IsSome, OnOk, OnErr, IfOk, length, slice_index_or};
 ghost use Rattle.std.specs.Option.{ForSome};
+ghost use Rattle.doc_values.specs.Limits.{rules_limit, template_limit};
 ghost use Rattle.doc_values.specs.Tree.{IsTree};
 ghost use Rattle.guard_io.specs.Outside.{FaultCounted, IsPrefix};
 ghost use Rattle.guard_syntax.specs.code.Seen.{see_part};
@@ -42,8 +43,8 @@ pub fn write_entry<S: Sink>(
 ) -> Result<(), ReportFault>
     requires file { (see_store store.now).file ≡ file_of file.now }
     requires shown { IsShowable (see_store store.now) entry.now.shown }
-    requires rules { length rules_text.now ≤ 1048576 }
-    requires template { length template_text.now ≤ 8388608 }
+    requires rules { length rules_text.now ≤ rules_limit }
+    requires template { length template_text.now ≤ template_limit }
     ensures ok { OnOk result (ForSome (S.told sink.old) (λ held.
         S.told sink.new ≡ Some (held ++ entry_line (see_store store.now).file (see_store store.now).template rules_text.now template_text.now (see_entry (see_store store.now) entry.now)))) }
     ensures err { OnErr result (ForSome (S.told sink.old) (λ held. (front : List ℕ)

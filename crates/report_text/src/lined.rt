@@ -1,5 +1,6 @@
 //! Texts with the places of their lines.
 ghost use Rattle.std.specs.Prelude.{◌≡◌, ◌+◌, ◌-◌, ◌≤◌, length, nat_le, slice_index_or, IfOk};
+ghost use Rattle.doc_values.specs.Limits.{template_limit};
 ghost use Rattle.byte_lanes.specs.code.LineStarts.{starts_of_lines};
 ghost use Rattle.doc_values.specs.Position.{line_at, column_at};
 
@@ -12,13 +13,13 @@ pub struct Lined<'t> {
     pub text: &'t str,
     starts: Vec<u32>,
     pub ghost lines: { starts.items ≡ starts_of_lines text.now },
-    pub ghost small: { length text.now ≤ 8388608 },
+    pub ghost small: { length text.now ≤ template_limit },
 }
 
 impl<'t> Lined<'t> {
     /// Finds the lines of a text.
     pub fn new(alloc: Global, text: &'t str) -> Result<Lined<'t>, AllocError>
-        requires { length text.now ≤ 8388608 }
+        requires { length text.now ≤ template_limit }
         ensures { IfOk result (λ lined. lined.text.now ≡ text.entry.now) }
     {
         let starts = line_starts(alloc, text.as_bytes())?;

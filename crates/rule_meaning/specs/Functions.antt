@@ -15,6 +15,7 @@ use Rattle.doc_values.specs.declared.kind.Kind.TheVariants as kind
 use Rattle.doc_values.specs.declared.decimal.Num.{Num}
 use Rattle.doc_values.specs.declared.decimal.Num.TheVariants as num
 use Rattle.doc_values.specs.Decimal.{Decimal}
+use Rattle.doc_values.specs.Limits.{template_limit}
 use Rattle.doc_values.specs.Number.{IsNumber, minus_text}
 use Rattle.doc_values.specs.Tree.{Forest, Nil, Node}
 use Rattle.json_reader.specs.Json.{Json}
@@ -91,7 +92,7 @@ ForText Gives (Some text) tree = Gives text tree
 
 -- the tree of a text of at most 8 MiB that JSON accepts, its places those in the text
 abbrev pub IsParsed : List ℕ → Forest → Type 0
-IsParsed text tree = (length text ≤ 8388608) × Json text tree
+IsParsed text tree = (length text ≤ template_limit) × Json text tree
 
 abbrev pub IsJson : Value → Forest → Type 0
 IsJson v tree = ForText IsParsed (text_of v) tree

@@ -16,6 +16,7 @@ use Rattle.doc_values.specs.Decimal.{Decimal}
 use Rattle.doc_values.specs.Number.{IsNumber, IsSpelled, Parts}
 use Rattle.doc_values.specs.Tree.{Forest}
 use Rattle.doc_values.proofs.Numbers.{IsNumber-unique}
+use Rattle.doc_values.specs.Limits.{template_limit}
 use Rattle.json_reader.specs.declared.refusal.JsonRefusal.{JsonRefusal}
 use Rattle.json_reader.specs.Json.{IsInRange, Json, StandsFor}
 use Rattle.json_reader.specs.code.Numbers.{number_kind}
@@ -57,7 +58,7 @@ module _ (limit : ℕ) (text : List ℕ) where
   read-told true within (Err e) is = (None, λ tree h. verdict_err text e is tree h.1)
 
 parsed-told : (text : List ℕ) → IsTold (IsParsed text)
-parsed-told text = read-told 8388608 text (nat_le (length text) 8388608) refl (verdict text) refl
+parsed-told text = read-told template_limit text (nat_le (length text) template_limit) refl (verdict text) refl
 
 parsed-one : (text : List ℕ) → IsOne (IsParsed text)
 parsed-one text a b x y = unique text a b x.1 y.1

@@ -1,5 +1,6 @@
 -- What is known of a node that is awaited outside of flow, by its form and what is ahead of it.
 use Rattle.std.proofs.Common.{◌≡◌, ℕ, ◌+◌, ◌≤◌, Bool, true, false, List, [], ◌∷◌, length, refl, subst, arith}
+use Rattle.doc_values.specs.Limits.{template_limit}
 use Rattle.doc_values.specs.Unfinished.{Unfinished, AwaitsValue}
 use Rattle.yaml_blocks.specs.declared.ahead.Ahead.{Ahead}
 use Rattle.yaml_blocks.specs.declared.form.Form.{Form}
@@ -34,7 +35,7 @@ module _ (text : List ℕ) (fs : List Form) (u : Unfinished) (f : Form) (i : ℕ
   pub small_form : IsSmall f
   small_form = nested_small f fs w.form (fits_nested text fs u i w.fits)
 
-  pub small_place : a.at ≤ 8388608
+  pub small_place : a.at ≤ template_limit
   small_place = let within = seen_place text i a w.seen in let small = w.small in omega (arith, within, small)
 
   pub column_before : a.column ≤ a.at

@@ -4,6 +4,7 @@ use Rattle.std.proofs.lemmas.Bool.{ltb-true, lt-ltb, cases_lt}
 use Rattle.std.proofs.lemmas.Bool.Decides.{nat_tests}
 use Rattle.std.specs.Prelude.{Result, Ok, Err, option_map, MatchOption}
 use Rattle.std.specs.Str.{IsCharBoundary}
+use Rattle.doc_values.specs.Limits.{template_limit}
 use Rattle.doc_values.specs.declared.builder.BuildRefusal.{BuildRefusal}
 use Rattle.doc_values.specs.declared.builder.BuildRefusal.TheVariants as build
 use Rattle.doc_values.specs.declared.kind.Kind.TheVariants as kind
@@ -102,9 +103,9 @@ abbrev pub Awaiting : List ℕ → List Form → Unfinished → ℕ → Reading 
 Awaiting text fs u at v = Awaits text fs u.outer u.done u.key at v
 
 abbrev pub Spot : List ℕ → List Form → Unfinished → Form → ℕ → Ahead → Type 0
-Spot text fs u f at a = (length text ≤ 8388608) × IsPlaced text at a × (top fs ≡ f) × IsBlock f × Open fs u × IsBehind f at × IsSpelled text f at
+Spot text fs u f at a = (length text ≤ template_limit) × IsPlaced text at a × (top fs ≡ f) × IsBlock f × Open fs u × IsBehind f at × IsSpelled text f at
 
-pub spot : (text : List ℕ) (fs : List Form) (u : Unfinished) (f : Form) (at : ℕ) (a : Ahead) → length text ≤ 8388608 → IsSeen text false at a → top fs ≡ f → IsBlock f → Fits text stage.Value fs u at → Spot text fs u f at a
+pub spot : (text : List ℕ) (fs : List Form) (u : Unfinished) (f : Form) (at : ℕ) (a : Ahead) → length text ≤ template_limit → IsSeen text false at a → top fs ≡ f → IsBlock f → Fits text stage.Value fs u at → Spot text fs u f at a
 spot text fs u f at a s (e, p) t b (o, n, w, l, k) = (s, p, t, b, o, subst (λ g. IsBehind g at) t l, subst (λ g. IsSpelled text g at) t k)
 
 -- where another collection begins, and its first node is awaited

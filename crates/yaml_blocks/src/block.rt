@@ -2,6 +2,7 @@
 ghost use Rattle.std.specs.Prelude.{◌≡◌, ℕ, List, ◌+◌, ◌*◌, ◌≤◌, length, true, false, None, Some, option_map, MatchOption};
 ghost use Rattle.std.specs.Cow.{cow_str_bytes};
 ghost use Rattle.std.specs.Str.{IsCharBoundary};
+ghost use Rattle.doc_values.specs.Limits.{template_limit};
 ghost use Rattle.doc_values.specs.Unfinished.{AwaitsValue};
 ghost use Rattle.yaml_blocks.specs.Ahead.{ahead};
 ghost use Rattle.yaml_blocks.specs.Nodes.{starts_scalar, is_tagged};
@@ -54,7 +55,7 @@ fn takes_scalar(form: Form, next: Ahead) -> bool
 
 /// The sign where a node may begin, if one stands there.
 fn block_sign(form: Form, next: Ahead) -> Option<YamlRefusal>
-    requires { next.at ≤ 8388608 }
+    requires { next.at ≤ template_limit }
     ensures { MatchOption result (block_sign form next ≡ None) (λ e. Some e ≡ option_map of_sign (block_sign form next)) }
 {
     if takes_scalar(form, next) {
@@ -133,7 +134,7 @@ fn takes_mapping(form: Form, next: Ahead) -> bool
 
 /// Whether a sequence may begin at a token.
 fn takes_sequence(form: Form, next: Ahead) -> bool
-    requires { next.column ≤ 8388608 }
+    requires { next.column ≤ template_limit }
     ensures { result ≡ takes_sequence form next }
 {
     match form {
@@ -151,7 +152,7 @@ fn takes_sequence(form: Form, next: Ahead) -> bool
 
 /// The column of a collection that begins at a token.
 fn column_in(form: Form, next: Ahead) -> usize
-    requires small { next.at ≤ 8388608 }
+    requires small { next.at ≤ template_limit }
     requires form { IsSmall form }
     requires column { next.column ≤ next.at }
     ensures { result ≡ column_in form next }
@@ -453,7 +454,7 @@ pub(crate) fn node<'s>(
     forms: &mut Vec<Form>,
     builder: &mut DocBuilder<'s>,
 ) -> Result<Position, YamlRefusal>
-    requires small { length text.now ≤ 8388608 }
+    requires small { length text.now ≤ template_limit }
     requires boundary { IsCharBoundary text.now at }
     requires form { top (stack forms.old.items) ≡ form }
     requires block { IsBlock form }
@@ -528,7 +529,7 @@ fn entry<'s>(
     forms: &[Form],
     builder: &mut DocBuilder<'s>,
 ) -> Result<Position, YamlRefusal>
-    requires small { length text.now ≤ 8388608 }
+    requires small { length text.now ≤ template_limit }
     requires seen { IsSeen text.now false at next }
     requires fresh { next.fresh ≡ true }
     requires inside { Inside text.now at }
@@ -578,7 +579,7 @@ fn head<'s>(
     forms: &[Form],
     builder: &mut DocBuilder<'s>,
 ) -> Result<Position, YamlRefusal>
-    requires small { length text.now ≤ 8388608 }
+    requires small { length text.now ≤ template_limit }
     requires seen { IsSeen text.now false at next }
     requires fresh { next.fresh ≡ true }
     requires inside { Inside text.now at }
@@ -609,7 +610,7 @@ fn line<'s>(
     forms: &mut Vec<Form>,
     builder: &mut DocBuilder<'s>,
 ) -> Result<Position, YamlRefusal>
-    requires small { length text.now ≤ 8388608 }
+    requires small { length text.now ≤ template_limit }
     requires seen { IsSeen text.now false at next }
     requires inside { Inside text.now at }
     requires block { IsBlock (top (stack forms.old.items)) }
@@ -655,7 +656,7 @@ fn end_all(
 
 /// Whether nothing stands behind a place.
 fn is_text_end(text: &str, at: usize) -> bool
-    requires small { length text.now ≤ 8388608 }
+    requires small { length text.now ≤ template_limit }
     requires boundary { IsCharBoundary text.now at }
     ensures yes { result ≡ true → (ahead text.now false at).token ≡ Token.End }
     ensures no { result ≡ false → (ahead text.now false at).token ≡ Token.End → ⊥ }
@@ -668,7 +669,7 @@ fn is_text_end(text: &str, at: usize) -> bool
 
 /// Whether the document ends at a token.
 fn is_document_end(text: &str, at: usize, next: Ahead) -> bool
-    requires small { length text.now ≤ 8388608 }
+    requires small { length text.now ≤ template_limit }
     requires seen { IsSeen text.now false at next }
     ensures yes { result ≡ true → IsEnd text.now at }
     ensures no { result ≡ false → IsEnd text.now at → ⊥ }
@@ -688,7 +689,7 @@ pub(crate) fn after<'s>(
     forms: &mut Vec<Form>,
     builder: &mut DocBuilder<'s>,
 ) -> Result<Position, YamlRefusal>
-    requires small { length text.now ≤ 8388608 }
+    requires small { length text.now ≤ template_limit }
     requires boundary { IsCharBoundary text.now at }
     requires block { IsBlock (top (stack forms.old.items)) }
     requires open { Open (stack forms.old.items) builder.old }

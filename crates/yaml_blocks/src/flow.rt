@@ -1,6 +1,7 @@
 //! What stands between brackets: one token at a time, what it adds to the tree, and what may follow it.
 ghost use Rattle.std.specs.Prelude.{◌≡◌, ℕ, Bool, ◌+◌, ◌*◌, ◌<◌, ◌≤◌, ◌||◌, length, drop, [], ◌∷◌, true, false, Some, None, MatchOption};
 ghost use Rattle.std.specs.Str.{IsCharBoundary};
+ghost use Rattle.doc_values.specs.Limits.{template_limit};
 ghost use Rattle.doc_values.specs.Unfinished.{AwaitsValue, MayEnd};
 ghost use Rattle.yaml_scalars.specs.Scalar.{begins_quoted};
 ghost use Rattle.yaml_blocks.specs.Flow.{may_miss, may_tag, ends_key, IsColon};
@@ -58,7 +59,7 @@ pub(crate) fn open(
     forms: &mut Vec<Form>,
     builder: &mut DocBuilder,
 ) -> Result<Position, YamlRefusal>
-    requires small { next.at ≤ 8388608 }
+    requires small { next.at ≤ template_limit }
     requires awaited { AwaitsValue builder.old }
     ensures { Opened map next (stack forms.old.items) builder.old (stack forms.new.items) builder.new result }
 {
@@ -82,7 +83,7 @@ fn tag<'s>(
     forms: &mut Vec<Form>,
     builder: &mut DocBuilder<'s>,
 ) -> Result<Position, YamlRefusal>
-    requires small { length text.now ≤ 8388608 }
+    requires small { length text.now ≤ template_limit }
     requires seen { IsSeen text.now true at next }
     requires tag { next.token ≡ Token.Tag len }
     requires form { top (stack forms.old.items) ≡ form }
@@ -111,7 +112,7 @@ fn node<'s>(
     forms: &mut Vec<Form>,
     builder: &mut DocBuilder<'s>,
 ) -> Result<Position, YamlRefusal>
-    requires small { length text.now ≤ 8388608 }
+    requires small { length text.now ≤ template_limit }
     requires seen { IsSeen text.now true at next }
     requires there { may_miss form ≡ true → is_flow_ending next.token ≡ false }
     requires form { top (stack forms.old.items) ≡ form }
@@ -171,7 +172,7 @@ fn is_flow_ending(token: Token) -> bool
 
 /// Where the value of a key stands whose end is at a place: behind a colon, or there where none is.
 fn colon(text: &str, end: usize, quoted: bool) -> Option<usize>
-    requires small { length text.now ≤ 8388608 }
+    requires small { length text.now ≤ template_limit }
     requires boundary { IsCharBoundary text.now end }
     ensures { MatchOption result ((p : ℕ) → IsColon text.now quoted end p → ⊥) (λ p. IsColon text.now quoted end p × IsCharBoundary text.now p × (end ≤ p)) }
 {
@@ -200,7 +201,7 @@ fn key<'s>(
     forms: &[Form],
     builder: &mut DocBuilder<'s>,
 ) -> Result<Position, YamlRefusal>
-    requires small { length text.now ≤ 8388608 }
+    requires small { length text.now ≤ template_limit }
     requires seen { IsSeen text.now true at next }
     requires there { next.token ≡ Token.Closes true → ⊥ }
     requires unmarked { is_marked next.token ≡ false }
@@ -244,7 +245,7 @@ pub(crate) fn entry<'s>(
     forms: &mut Vec<Form>,
     builder: &mut DocBuilder<'s>,
 ) -> Result<Position, YamlRefusal>
-    requires small { length text.now ≤ 8388608 }
+    requires small { length text.now ≤ template_limit }
     requires boundary { IsCharBoundary text.now at }
     requires form { top (stack forms.old.items) ≡ Form.Flow map }
     requires open { Open (stack forms.old.items) builder.old }
@@ -282,7 +283,7 @@ pub(crate) fn value<'s>(
     forms: &mut Vec<Form>,
     builder: &mut DocBuilder<'s>,
 ) -> Result<Position, YamlRefusal>
-    requires small { length text.now ≤ 8388608 }
+    requires small { length text.now ≤ template_limit }
     requires boundary { IsCharBoundary text.now at }
     requires form { top (stack forms.old.items) ≡ form }
     requires flow { IsFlow form }
@@ -307,7 +308,7 @@ pub(crate) fn after(
     forms: &mut Vec<Form>,
     builder: &mut DocBuilder,
 ) -> Result<Position, YamlRefusal>
-    requires small { length text.now ≤ 8388608 }
+    requires small { length text.now ≤ template_limit }
     requires boundary { IsCharBoundary text.now at }
     requires form { top (stack forms.old.items) ≡ Form.Flow map }
     requires open { Open (stack forms.old.items) builder.old }
@@ -338,7 +339,7 @@ pub(crate) fn after_tag(
     forms: &mut Vec<Form>,
     builder: &mut DocBuilder,
 ) -> Result<Position, YamlRefusal>
-    requires small { length text.now ≤ 8388608 }
+    requires small { length text.now ≤ template_limit }
     requires boundary { IsCharBoundary text.now at }
     requires form { top (stack forms.old.items) ≡ Form.FlowTagged place }
     requires open { Open (stack forms.old.items) builder.old }

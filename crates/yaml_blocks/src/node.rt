@@ -3,6 +3,7 @@ ghost use Rattle.std.specs.Prelude.{◌≡◌, ℕ, ◌+◌, ◌<◌, ◌≤◌,
 ghost use Rattle.std.specs.Cow.{cow_str_bytes};
 ghost use Rattle.std.specs.List.{position_or_len, before_first, after_first};
 ghost use Rattle.std.specs.Str.{IsCharBoundary, bytes_eq};
+ghost use Rattle.doc_values.specs.Limits.{template_limit};
 ghost use Rattle.doc_values.specs.Tree.{has_text};
 ghost use Rattle.doc_values.specs.Unfinished.{with_value, AwaitsValue};
 ghost use Rattle.yaml_blocks.specs.Ahead.{ahead};
@@ -29,7 +30,7 @@ pub(crate) struct Key<'s> {
 
 /// The indentation of the parent of a block's nodes.
 fn parent(column: usize) -> i32
-    requires { column ≤ 8388608 }
+    requires { column ≤ template_limit }
     ensures { result ≡ pos column }
 {
     column as i32
@@ -40,7 +41,7 @@ fn below(above: usize) -> i32
     requires { above ≤ 8388609 }
     ensures is { result ≡ below above }
     ensures low { negsuc 0 ≤ℤ result }
-    ensures high { result ≤ℤ pos 8388608 }
+    ensures high { result ≤ℤ pos template_limit }
 {
     if above == 0 {
         return -1;
@@ -53,7 +54,7 @@ fn setting_of(form: Form) -> Setting
     requires { IsSmall form }
     ensures is { result ≡ setting_of form }
     ensures low { negsuc 0 ≤ℤ result.parent }
-    ensures high { result.parent ≤ℤ pos 8388608 }
+    ensures high { result.parent ≤ℤ pos template_limit }
 {
     match form {
         Form::Root => Setting {
@@ -125,7 +126,7 @@ pub(crate) fn begin(
     forms: &mut Vec<Form>,
     builder: &mut DocBuilder,
 ) -> Result<(), YamlRefusal>
-    requires small { next.at ≤ 8388608 }
+    requires small { next.at ≤ template_limit }
     requires awaited { AwaitsValue builder.old }
     ensures { Begun form next (stack forms.old.items) builder.old (stack forms.new.items) builder.new result }
 {
@@ -150,7 +151,7 @@ pub(crate) fn innermost(forms: &[Form]) -> Form
 
 /// An offset in a text of at most 8 MiB.
 pub(crate) fn offset(i: usize) -> u32
-    requires { i ≤ 8388608 }
+    requires { i ≤ template_limit }
     ensures { result ≡ i }
 {
     i as u32
@@ -174,10 +175,10 @@ pub(crate) fn find_scalar<'s>(
     next: Ahead,
     setting: Setting,
 ) -> Result<Scalar<'s>, YamlRefusal>
-    requires small { length text.now ≤ 8388608 }
+    requires small { length text.now ≤ template_limit }
     requires boundary { IsCharBoundary text.now next.at }
     requires low { negsuc 0 ≤ℤ setting.parent }
-    requires high { setting.parent ≤ℤ pos 8388608 }
+    requires high { setting.parent ≤ℤ pos template_limit }
     ensures { Finds text.now setting next result }
 {
     if !starts_scalar(next.token) {
@@ -257,7 +258,7 @@ fn take_pair<'s>(
     end: usize,
     builder: &mut DocBuilder<'s>,
 ) -> Result<Position, YamlRefusal>
-    requires small { place ≤ 8388608 }
+    requires small { place ≤ template_limit }
     requires awaited { AwaitsValue builder.old }
     ensures { Paired (cow_str_bytes first.entry) (cow_str_bytes second.entry) place end builder.old builder.new result }
 {
@@ -291,10 +292,10 @@ fn take_cut<'s>(
     cuts: bool,
     builder: &mut DocBuilder<'s>,
 ) -> Result<Position, YamlRefusal>
-    requires small { length text.now ≤ 8388608 }
+    requires small { length text.now ≤ template_limit }
     requires boundary { IsCharBoundary text.now next.at }
     requires low { negsuc 0 ≤ℤ setting.parent }
-    requires high { setting.parent ≤ℤ pos 8388608 }
+    requires high { setting.parent ≤ℤ pos template_limit }
     requires awaited { AwaitsValue builder.old }
     ensures { Holds text.now setting cuts next builder.old builder.new result }
 {
@@ -331,7 +332,7 @@ pub(crate) fn take_scalar<'s>(
     next: Ahead,
     builder: &mut DocBuilder<'s>,
 ) -> Result<Position, YamlRefusal>
-    requires small { length text.now ≤ 8388608 }
+    requires small { length text.now ≤ template_limit }
     requires within { at ≤ length text.now }
     requires boundary { IsCharBoundary text.now next.at }
     requires form { IsSmall form }
@@ -349,7 +350,7 @@ pub(crate) fn take_null(
     at: usize,
     builder: &mut DocBuilder,
 ) -> Result<Position, YamlRefusal>
-    requires small { place ≤ 8388608 }
+    requires small { place ≤ template_limit }
     requires awaited { AwaitsValue builder.old }
     ensures { Completes at (with_value Kind.Null [] place builder.old) builder.new result }
 {
@@ -364,7 +365,7 @@ pub(crate) fn take_null(
 
 /// The place behind the colon of a key outside of flow whose end is at a place, if there is one.
 pub(crate) fn colon_behind(text: &str, end: usize) -> Option<usize>
-    requires small { length text.now ≤ 8388608 }
+    requires small { length text.now ≤ template_limit }
     requires boundary { IsCharBoundary text.now end }
     ensures { MatchOption result (((ahead text.now false end).fresh ≡ false) → ((ahead text.now false end).token ≡ Token.Point true) → ⊥) (λ p. ((ahead text.now false end).fresh ≡ false) × ((ahead text.now false end).token ≡ Token.Point true) × (p ≡ (ahead text.now false end).behind) × IsCharBoundary text.now p × (end ≤ p)) }
 {
@@ -384,7 +385,7 @@ pub(crate) fn find_key<'s>(
     text: &'s str,
     next: Ahead,
 ) -> Result<Option<Key<'s>>, YamlRefusal>
-    requires small { length text.now ≤ 8388608 }
+    requires small { length text.now ≤ template_limit }
     requires boundary { IsCharBoundary text.now next.at }
     ensures { FindsKey text.now next result }
 {
@@ -470,7 +471,7 @@ pub(crate) fn begin_tag<'s>(
     forms: &mut Vec<Form>,
     builder: &mut DocBuilder<'s>,
 ) -> Result<Position, YamlRefusal>
-    requires small { next.at ≤ 8388608 }
+    requires small { next.at ≤ template_limit }
     requires order { next.at < next.behind }
     requires first { IsCharBoundary text.now (next.at + 1) }
     requires last { IsCharBoundary text.now next.behind }

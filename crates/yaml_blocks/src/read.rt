@@ -1,6 +1,7 @@
 //! A whole text.
 ghost use Rattle.std.specs.Prelude.{◌≡◌, ◌≤◌, length, true, false, None, IsErrOf, MatchResult};
 ghost use Rattle.std.specs.Str.{IsCharBoundary};
+ghost use Rattle.doc_values.specs.Limits.{template_limit};
 ghost use Rattle.yaml_scalars.specs.Scalar.{begins_order_mark};
 ghost use Rattle.yaml_blocks.specs.Answers.{Reads, Refuses};
 ghost use Rattle.yaml_blocks.specs.code.Memory.{BeginsDocument};
@@ -17,7 +18,7 @@ use std::alloc::Global;
 /// The tree of a YAML text of at most 8 MiB that is one document, the only one. `NoMemory` says no more of the text than that
 /// a document begins: what is refused in front of one takes no memory.
 pub fn read_yaml<'s>(alloc: Global, text: &'s str) -> Result<Doc<'s>, YamlRefusal>
-    requires { length text.now ≤ 8388608 }
+    requires { length text.now ≤ template_limit }
     ensures answer { MatchResult result (λ d. Reads text.now d) (λ e. Refuses text.now e) }
     ensures memory { IsErrOf result YamlRefusal.NoMemory → BeginsDocument text.now }
 {
@@ -71,7 +72,7 @@ fn text_start(text: &str) -> usize
 
 /// Where the document begins: behind a line `---`, if there is one.
 fn document_start(text: &str) -> Result<usize, YamlRefusal>
-    requires { length text.now ≤ 8388608 }
+    requires { length text.now ≤ template_limit }
     ensures start { MatchResult result (λ start. IsStart text.now start × IsCharBoundary text.now start × (start_sign text.now ≡ None)) (λ e. Refuses text.now e) }
     ensures no_memory { ¬ IsErrOf result YamlRefusal.NoMemory }
 {

@@ -1,5 +1,6 @@
 //! The signs that tell why a text is no document, but for equal keys and depth.
 ghost use Rattle.std.specs.Prelude.{◌≡◌, ◌≤◌, ◌&&◌, not, length, true, false, None, Some, option_map, nat_eq, if◌then◌else◌, MatchOption};
+ghost use Rattle.doc_values.specs.Limits.{template_limit};
 ghost use Rattle.yaml_blocks.specs.Nodes.{node_sign, is_tagged, is_marked};
 ghost use Rattle.yaml_blocks.specs.code.Refused.{of_sign};
 ghost use Rattle.yaml_blocks.specs.code.Steps.{IsSeen, is_ending};
@@ -22,7 +23,7 @@ fn is_content(token: Token) -> bool
 
 /// The sign that a token is where a node or a key may begin, if it is one; `tagged` behind a tag.
 pub(crate) fn node_sign(tagged: bool, next: Ahead) -> Option<YamlRefusal>
-    requires { next.at ≤ 8388608 }
+    requires { next.at ≤ template_limit }
     ensures { MatchOption result (node_sign tagged next.at next.token ≡ None) (λ e. Some e ≡ option_map of_sign (node_sign tagged next.at next.token)) }
 {
     match next.token {
@@ -78,8 +79,8 @@ fn late_place(mark: usize, next: Ahead) -> usize
 
 /// The sign that a token behind a mark is, if it is one.
 fn late_sign(mark: usize, next: Ahead) -> Option<YamlRefusal>
-    requires small { next.at ≤ 8388608 }
-    requires mark { mark ≤ 8388608 }
+    requires small { next.at ≤ template_limit }
+    requires mark { mark ≤ template_limit }
     ensures { result ≡ option_map of_sign (late_sign mark next next.token) }
 {
     match next.token {
@@ -91,7 +92,7 @@ fn late_sign(mark: usize, next: Ahead) -> Option<YamlRefusal>
 
 /// The sign that stands behind the root, if one does.
 pub(crate) fn end_sign(text: &str, at: usize, next: Ahead) -> Option<YamlRefusal>
-    requires small { length text.now ≤ 8388608 }
+    requires small { length text.now ≤ template_limit }
     requires seen { IsSeen text.now false at next }
     ensures { result ≡ option_map of_sign (end_sign text.now at) }
 {
@@ -119,7 +120,7 @@ fn is_first(next: Ahead) -> bool
 
 /// The sign that stands in front of the document, if one does.
 pub(crate) fn start_sign(text: &str, next: Ahead) -> Option<YamlRefusal>
-    requires small { length text.now ≤ 8388608 }
+    requires small { length text.now ≤ template_limit }
     requires seen { IsSeen text.now false (text_start text.now) next }
     ensures { result ≡ option_map of_sign (start_sign text.now) }
 {

@@ -1,6 +1,7 @@
 //! One token of a document at a time, by where reading stands.
 ghost use Rattle.std.specs.Prelude.{◌≡◌, ◌≤◌, ◌*◌, ◌+◌, length, [], false, true};
 ghost use Rattle.std.specs.Str.{IsCharBoundary};
+ghost use Rattle.doc_values.specs.Limits.{template_limit};
 ghost use Rattle.doc_values.specs.Unfinished.{start};
 ghost use Rattle.yaml_blocks.specs.code.Rest.{top, Ends, Enters, Awaits, Begins};
 ghost use Rattle.yaml_blocks.specs.code.Steps.{stack, Open, Rest, Fits, reached, Gives};
@@ -23,7 +24,7 @@ fn entry<'s>(
     forms: &mut Vec<Form>,
     builder: &mut DocBuilder<'s>,
 ) -> Result<Position, YamlRefusal>
-    requires small { length text.now ≤ 8388608 }
+    requires small { length text.now ≤ template_limit }
     requires boundary { IsCharBoundary text.now at }
     requires fits { Fits text.now Stage.Entry (stack forms.old.items) builder.old at }
     ensures { Gives text.now (Enters text.now (stack forms.old.items) builder.old.outer builder.old.done at) (2 * at + 2) (stack forms.new.items) builder.new result }
@@ -42,7 +43,7 @@ fn value<'s>(
     forms: &mut Vec<Form>,
     builder: &mut DocBuilder<'s>,
 ) -> Result<Position, YamlRefusal>
-    requires small { length text.now ≤ 8388608 }
+    requires small { length text.now ≤ template_limit }
     requires boundary { IsCharBoundary text.now at }
     requires fits { Fits text.now Stage.Value (stack forms.old.items) builder.old at }
     ensures { Gives text.now (Awaits text.now (stack forms.old.items) builder.old.outer builder.old.done builder.old.key at) (2 * at + 1) (stack forms.new.items) builder.new result }
@@ -64,7 +65,7 @@ fn after<'s>(
     forms: &mut Vec<Form>,
     builder: &mut DocBuilder<'s>,
 ) -> Result<Position, YamlRefusal>
-    requires small { length text.now ≤ 8388608 }
+    requires small { length text.now ≤ template_limit }
     requires boundary { IsCharBoundary text.now at }
     requires fits { Fits text.now Stage.After (stack forms.old.items) builder.old at }
     ensures { Gives text.now (Ends text.now (stack forms.old.items) builder.old.outer builder.old.done at) (2 * at + 2) (stack forms.new.items) builder.new result }
@@ -84,7 +85,7 @@ pub(crate) fn step<'s>(
     forms: &mut Vec<Form>,
     builder: &mut DocBuilder<'s>,
 ) -> Result<Position, YamlRefusal>
-    requires small { length text.now ≤ 8388608 }
+    requires small { length text.now ≤ template_limit }
     requires boundary { IsCharBoundary text.now position.at }
     requires open { position.stage ≡ Stage.Whole → ⊥ }
     requires fits { Fits text.now position.stage (stack forms.old.items) builder.old position.at }
@@ -100,7 +101,7 @@ pub(crate) fn step<'s>(
 
 /// Where the root stands, or that there is none.
 pub(crate) fn root(text: &str, at: usize, builder: &mut DocBuilder) -> Result<Position, YamlRefusal>
-    requires small { length text.now ≤ 8388608 }
+    requires small { length text.now ≤ template_limit }
     requires boundary { IsCharBoundary text.now at }
     requires fits { builder.old ≡ start }
     ensures { Gives text.now (Begins text.now at) 0 [] builder.new result }

@@ -1,6 +1,7 @@
 -- Files that are loaded, or are not.
 use Rattle.std.specs.Prelude.{ℕ, ◌≡◌, ◌⊎◌, List}
-use Rattle.guard_ends.specs.Inputs.{IsNoText, IsTooLong, proof_limit, rules_limit, template_limit}
+use Rattle.doc_values.specs.Limits.{evidence_limit, rules_limit, template_limit}
+use Rattle.guard_ends.specs.Inputs.{IsNoText, IsTooLong}
 use Rattle.guard_ends.specs.Order.{Contents, Loading, Refusing}
 use Rattle.guard_ends.specs.declared.ends.Refusal.{Refusal}
 use Rattle.guard_ends.specs.declared.ends.Refusal.TheVariants.{NotText, TooLong}
@@ -13,7 +14,7 @@ use Rattle.guard_run.specs.declared.stop.Stop.{Stop}
 abbrev pub limit_of : Which → ℕ
 limit_of file.Rules = rules_limit
 limit_of file.Template = template_limit
-limit_of file.Proof = proof_limit
+limit_of file.Proof = evidence_limit
 
 -- a file is refused for its length
 abbrev pub RefusesLength : Which → List ℕ → Refusal → Type 0

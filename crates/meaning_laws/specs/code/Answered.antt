@@ -8,6 +8,7 @@ use Rattle.doc_values.specs.declared.kind.Kind.TheVariants as kind
 use Rattle.doc_values.specs.declared.decimal.Num.{Num}
 use Rattle.doc_values.specs.declared.decimal.Num.TheVariants as num
 use Rattle.doc_values.specs.Decimal.{Decimal}
+use Rattle.doc_values.specs.Limits.{template_limit}
 use Rattle.doc_values.specs.Tree.{Forest}
 use Rattle.json_reader.specs.code.Numbers.{number_kind}
 use Rattle.json_reader.specs.code.Reading.{verdict}
@@ -26,7 +27,7 @@ tree_if_ok (Ok tree) = Some tree
 tree_if_ok (Err refusal) = None
 
 abbrev pub parsed : List ℕ → Option Forest
-parsed text = if nat_le (length text) 8388608 then tree_if_ok (verdict text) else None
+parsed text = if nat_le (length text) template_limit then tree_if_ok (verdict text) else None
 
 abbrev pub lowered : List ℕ → Option Forest
 lowered text = Some (text_tree (map to_ascii_lowercase text))

@@ -3,6 +3,7 @@ use Rattle.std.specs.Prelude.{ℕ, suc, ◌+◌, ◌*◌, ◌<◌, ◌≤◌, �
 use Rattle.std.specs.Str.{IsCharBoundary}
 use Rattle.std.specs.Cow.{cow_str_bytes}
 use Rattle.std.specs.List.{before_first, after_first}
+use Rattle.doc_values.specs.Limits.{template_limit}
 use Rattle.doc_values.specs.declared.kind.Kind.{Kind}
 use Rattle.doc_values.specs.declared.kind.Kind.TheVariants as kind
 use Rattle.doc_values.specs.Tree.{Forest, is_map, has_text}
@@ -107,8 +108,8 @@ abbrev pub IsSmall : Form → Type 0
 IsSmall Root = Unit {0}
 IsSmall (Flow map) = Unit {0}
 IsSmall (FlowTagged at) = Unit {0}
-IsSmall (Items m) = m ≤ 8388608
-IsSmall (Entries m) = m ≤ 8388608
+IsSmall (Items m) = m ≤ template_limit
+IsSmall (Entries m) = m ≤ template_limit
 IsSmall (Tagged at above shares) = above ≤ 8388609
 
 abbrev pub Nests : List Form → Type 0
@@ -214,7 +215,7 @@ Fits text stage.Whole fs u i = u.outer ≡ []
 
 -- a node outside of flow is awaited at a place, in a form, and what is ahead of it was seen
 pub record Awaited (text : List ℕ) (fs : List Form) (u : Unfinished) (f : Form) (i : ℕ) (a : Ahead) : Type 0 where
-  pub small : length text ≤ 8388608
+  pub small : length text ≤ template_limit
   pub boundary : IsCharBoundary text i
   pub seen : IsSeen text false i a
   pub form : top fs ≡ f

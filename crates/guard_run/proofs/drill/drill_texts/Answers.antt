@@ -1,4 +1,5 @@
 use Rattle.std.proofs.Common.{◌≤◌, ◌∙◌, ℕ, List, arith, length, refl, subst, sym}
+use Rattle.doc_values.specs.Limits.{template_limit}
 use Rattle.guard_drill.specs.DrillTexts.{template_text}
 use Rattle.guard_drill.proofs.TemplateLengths.{template-short}
 use Rattle.rule_names.specs.code.Files.{file_of}
@@ -14,7 +15,7 @@ use Rattle.guard_run.proofs.drill.drill_texts.Goals as goal
 pub invariant_of-result : goal.invariant_of-result
 invariant_of-result c =
     let short : length (template_text c.args.count) ≤ 5000000 = template-short c.args.count c.requires in
-    record { short = subst (λ (b : List ℕ). length b ≤ 8388608) (sym c.in_ok-template.ensures) (omega (arith, short)) }
+    record { short = subst (λ (b : List ℕ). length b ≤ template_limit) (sym c.in_ok-template.ensures) (omega (arith, short)) }
 
 pub returns-in_err-rules : goal.returns-in_err-rules
 returns-in_err-rules c =

@@ -1,4 +1,5 @@
 use Rattle.std.proofs.Common.{◌≤◌, ℕ, List, ap, inl, inr, length, string_bytes, subst, sym}
+use Rattle.doc_values.specs.Limits.{template_limit}
 use Rattle.rule_names.specs.code.Files.{file_of}
 use Rattle.guard_ends.specs.Inputs.{IsTemplate, RefusesTemplate}
 use Rattle.guard_ends.specs.Order.{Inputs, MakingPatterns, Refusing, Work}
@@ -10,11 +11,11 @@ use Rattle.guard_run.proofs.Plainness.{template-plain}
 use Rattle.guard_run.proofs.prepare.read_inputs.Goals as goal
 
 pub read_template-requires : goal.read_template-requires
-read_template-requires g c = subst (λ (b : List ℕ). length b ≤ 8388608) (sym c.as_str-template.ensures.value) c.args.texts.now.short
+read_template-requires g c = subst (λ (b : List ℕ). length b ≤ template_limit) (sym c.as_str-template.ensures.value) c.args.texts.now.short
 
 pub invariant_of-result : goal.invariant_of-result
 invariant_of-result g c = record {
-  short = subst (λ (b : List ℕ). length b ≤ 8388608) (sym c.as_str-template.ensures.value) c.args.texts.now.short;
+  short = subst (λ (b : List ℕ). length b ≤ template_limit) (sym c.as_str-template.ensures.value) c.args.texts.now.short;
   plain = template-plain c.args.texts.now.format c.as_str-template.result.now c.in_ok-tree.tree c.in_ok-tree.ensures;
   made = c.in_ok-book.ensures.made.1;
 }

@@ -1,9 +1,10 @@
 use Rattle.std.proofs.Common.{None, ap, inr, refl, subst}
+use Rattle.doc_values.specs.Limits.{rules_limit}
 use Rattle.guard_syntax.specs.code.Seen.{see_file}
 use Rattle.name_table.specs.code.Refused.{IsNameRefusal}
 use Rattle.name_table.specs.declared.refusal.NameRefusal.TheVariants.{Bad}
 use Rattle.rule_names.specs.Faults.{Fault}
-use Rattle.guard_ends.specs.Inputs.{IsText, name_kind, name_said, rules_limit}
+use Rattle.guard_ends.specs.Inputs.{IsText, name_kind, name_said}
 use Rattle.guard_ends.specs.Order.{Ends}
 use Rattle.guard_ends.specs.declared.ends.Refusal.TheVariants.{At}
 use Rattle.guard_ends.specs.declared.ends.Which.TheVariants as file

@@ -1,5 +1,6 @@
 use Rattle.std.proofs.Common.{inl, inr, refl, sym, ◌∙◌}
-use Rattle.guard_ends.specs.Inputs.{IsText, RefusesRules, rules_limit}
+use Rattle.doc_values.specs.Limits.{rules_limit}
+use Rattle.guard_ends.specs.Inputs.{IsText, RefusesRules}
 use Rattle.guard_ends.specs.declared.ends.Which.TheVariants as file
 use Rattle.guard_run.proofs.Refusing.{placed-not_read}
 use Rattle.guard_run.proofs.rules.rules_of_tokens.Goals as goal

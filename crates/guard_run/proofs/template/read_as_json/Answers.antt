@@ -1,5 +1,6 @@
 use Rattle.std.proofs.Common.{inr, refl, sym, ◌∙◌}
-use Rattle.guard_ends.specs.Inputs.{IsText, RefusesTemplate, template_limit}
+use Rattle.doc_values.specs.Limits.{template_limit}
+use Rattle.guard_ends.specs.Inputs.{IsText, RefusesTemplate}
 use Rattle.guard_ends.specs.declared.ends.Which.TheVariants as file
 use Rattle.guard_ends.specs.declared.format.Format.TheVariants as format
 use Rattle.guard_run.proofs.Refusing.{json-why, placed-not_read}

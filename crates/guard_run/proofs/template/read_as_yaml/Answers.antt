@@ -1,5 +1,6 @@
 use Rattle.std.proofs.Common.{inr}
-use Rattle.guard_ends.specs.Inputs.{IsText, RefusesTemplate, of_yaml, template_limit}
+use Rattle.doc_values.specs.Limits.{template_limit}
+use Rattle.guard_ends.specs.Inputs.{IsText, RefusesTemplate, of_yaml}
 use Rattle.guard_ends.specs.declared.format.Format.TheVariants as format
 use Rattle.guard_run.proofs.Refusing.{refused-not_read}
 use Rattle.guard_run.proofs.template.read_as_yaml.Goals as goal

@@ -1,5 +1,6 @@
 use Rattle.std.proofs.Common.{◌≡◌, ◌+◌, ◌≤◌, ℕ, Bool, true, false, List, length, refl, arith}
 use Rattle.std.proofs.lemmas.Grind.{common_steps}
+use Rattle.doc_values.specs.Limits.{template_limit}
 use Rattle.yaml_blocks.specs.declared.ahead.Ahead.{Ahead}
 use Rattle.yaml_blocks.specs.code.Steps.{IsPlaced}
 use Rattle.yaml_blocks.proofs.block.node_at.Goals as goal
@@ -38,9 +39,9 @@ pub returns-in_default : goal.returns-in_default
 returns-in_default c = grind (arith, common_steps)
 
 -- a column is no further than the text is long
-column_small : (text : List ℕ) (i : ℕ) (a : Ahead) → length text ≤ 8388608 → IsPlaced text i a → a.column ≤ 8388608
+column_small : (text : List ℕ) (i : ℕ) (a : Ahead) → length text ≤ template_limit → IsPlaced text i a → a.column ≤ template_limit
 column_small text i a small placed = by_fresh a.fresh refl where
-  by_fresh : (q : Bool) → a.fresh ≡ q → a.column ≤ 8388608
+  by_fresh : (q : Bool) → a.fresh ≡ q → a.column ≤ template_limit
   by_fresh true e = let l : a.column ≤ a.at = placed.4.0 e in let m : a.at ≤ length text = placed.1.0 in omega arith
   by_fresh false e = let l : a.at ≡ i + a.column = placed.4.1 e in let m : a.at ≤ length text = placed.1.0 in omega arith
 
