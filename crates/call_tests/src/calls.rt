@@ -2,7 +2,6 @@
 use guard_io::{MemFiles, MemSink};
 use guard_run::{End, Pipe, Which, guard};
 use std::alloc::{AllocError, Global};
-use std::test::Fail;
 use value_compare::ScriptMaker;
 
 /// More room than any output takes.
@@ -13,7 +12,7 @@ pub(crate) const RULES: &[u8] = b"rule r { Resources.B.Properties.BucketName exi
 pub(crate) const NAMED: &[u8] =
     br#"{"Resources":{"B":{"Type":"AWS::S3::Bucket","Properties":{"BucketName":"x"}}}}"#;
 
-pub(crate) const PASSED: &str = "rule r PASS\ntotal 1 PASS 0 FAIL 0 SKIP\n";
+pub(crate) const PASSED: &[u8] = b"rule r PASS\ntotal 1 PASS 0 FAIL 0 SKIP\n";
 
 /// What is given to a call: the words, the contents of the files, and where it is to fail.
 #[derive(Clone, Copy)]
@@ -30,9 +29,16 @@ pub(crate) struct Given<'a> {
     pub err_room: u64,
 }
 
-/// The rules and the template above.
+/// The words of a validation, and those of a check.
+pub(crate) const VALIDATE: &[&str] = &["validate", "--rules", "r.guard", "--data", "d.json"];
+
+pub(crate) const CHECK: &[&str] = &[
+    "check", "--rules", "r.guard", "--data", "d.json", "--proof", "e",
+];
+
+/// A validation of the rules and the template above.
 pub(crate) const FIRST: Given<'static> = Given {
-    words: &["validate", "--rules", "r.guard", "--data", "d.json"],
+    words: VALIDATE,
     rules: RULES,
     data: NAMED,
     proof: b"",
@@ -44,55 +50,33 @@ pub(crate) const FIRST: Given<'static> = Given {
 
 /// A check of evidence that is empty.
 pub(crate) const CHECKED: Given<'static> = Given {
-    words: &[
-        "check", "--rules", "r.guard", "--data", "d.json", "--proof", "e",
-    ],
+    words: CHECK,
     ..FIRST
 };
 
-/// What a call is to end with: the end by its word, its status, and what out and err are to take.
+/// What a call is to end with.
 #[derive(Clone, Copy)]
-pub(crate) struct Wanted {
-    pub end: &'static str,
-    pub status: u8,
-    pub out: &'static [u8],
-    pub err: &'static [u8],
+pub(crate) enum Wanted {
+    /// The one rule passes.
+    Passed,
+    /// The evidence is rejected, with this on out.
+    Rejected(&'static [u8]),
+    /// A text is refused, with this on err.
+    Refused(&'static [u8]),
+    /// A device fails: the end by its word, and what out and err take.
+    Failed(&'static str, &'static [u8], &'static [u8]),
 }
 
-pub(crate) const JUDGED_PASS: Wanted = Wanted {
-    end: "passed",
-    status: 0,
-    out: b"rule r PASS\ntotal 1 PASS 0 FAIL 0 SKIP\n",
-    err: b"",
-};
-
-/// A refusal with this line.
-pub(crate) const fn refused(line: &'static [u8]) -> Wanted {
-    Wanted {
-        end: "refused",
-        status: 5,
-        out: b"",
-        err: line,
+impl Wanted {
+    /// The end by its word, its status, and what out and err are to take.
+    fn parts(&self) -> (&'static str, u8, &'static [u8], &'static [u8]) {
+        match self {
+            Wanted::Passed => ("passed", 0, PASSED, b""),
+            Wanted::Rejected(line) => ("rejected", 19, *line, b""),
+            Wanted::Refused(line) => ("refused", 5, b"", *line),
+            Wanted::Failed(end, out, err) => (*end, 6, *out, *err),
+        }
     }
-}
-
-/// A file, a sink or a pattern that fails, with what out and err take.
-pub(crate) const fn failed(end: &'static str, out: &'static [u8], err: &'static [u8]) -> Wanted {
-    Wanted {
-        end,
-        status: 6,
-        out,
-        err,
-    }
-}
-
-/// A call, what it is to end with, and how many files it is to load and patterns to ask for, where that is looked at.
-#[derive(Clone, Copy)]
-pub(crate) struct Row {
-    pub given: Given<'static>,
-    pub wanted: Wanted,
-    pub loads: Option<u64>,
-    pub made: Option<u64>,
 }
 
 /// How a call ended.
@@ -105,32 +89,23 @@ pub(crate) struct Ran {
     pub made: u64,
 }
 
-/// Refuses rows that do not come out as wanted, by what the first was to end with.
-pub(crate) fn expect_all(alloc: Global, rows: &[Row]) -> Result<(), Fail> {
-    for row in rows {
-        if !comes_out(alloc, row)? {
-            return Err(Fail::from(row.wanted.end));
-        }
-    }
-    Ok(())
+/// Whether a call ended so.
+pub(crate) fn is_end(ran: &Ran, wanted: &Wanted) -> bool {
+    let (end, status, out, err) = wanted.parts();
+    word(&ran.end) == end
+        && ran.end.status() == status
+        && ran.out.as_slice() == out
+        && ran.err.as_slice() == err
 }
 
 /// Whether a call comes out as wanted.
-fn comes_out(alloc: Global, row: &Row) -> Result<bool, AllocError> {
-    let ran = call(alloc, &row.given)?;
-    Ok(
-        is_end(&ran, &row.wanted)
-            && row.loads.unwrap_or(ran.loads) == ran.loads
-            && row.made.unwrap_or(ran.made) == ran.made,
-    )
-}
-
-/// Whether a call ended so.
-pub(crate) fn is_end(ran: &Ran, wanted: &Wanted) -> bool {
-    word(&ran.end) == wanted.end
-        && ran.end.status() == wanted.status
-        && ran.out.as_slice() == wanted.out
-        && ran.err.as_slice() == wanted.err
+pub(crate) fn comes_out(
+    alloc: Global,
+    given: &Given<'_>,
+    wanted: &Wanted,
+) -> Result<bool, AllocError> {
+    let ran = call(alloc, given)?;
+    Ok(is_end(&ran, wanted))
 }
 
 /// Runs a call.

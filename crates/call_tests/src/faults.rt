@@ -1,117 +1,116 @@
 //! Loads, patterns and pieces that fail, each at its turn, and want of memory.
-use crate::calls::{
-    AMPLE, CHECKED, FIRST, Given, JUDGED_PASS, PASSED, Row, Wanted, call, expect_all, failed,
-    is_end, word,
-};
+use crate::calls::Wanted::{Failed, Passed, Rejected};
+use crate::calls::{AMPLE, CHECKED, FIRST, Given, PASSED, Wanted, call, comes_out, is_end, word};
 use guard_run::End;
 use std::alloc::{AllocError, Global};
 use std::test::Fail;
 
-/// A row of which the counts are not looked at.
-const fn row(given: Given<'static>, wanted: Wanted) -> Row {
-    Row {
-        given,
-        wanted,
-        loads: None,
-        made: None,
-    }
-}
-
-/// The first call with these loads failing, and this room of out and of err.
-const fn failing(failing: &'static [u64], out_room: u64, err_room: u64) -> Given<'static> {
-    Given {
-        failing,
-        out_room,
-        err_room,
-        ..FIRST
-    }
-}
-
-const FAULTS: &[Row] = &[
-    row(
-        failing(&[0], AMPLE, AMPLE),
-        failed("rules not read", b"", b"guard: cannot read rules\n"),
+/// The loads that fail in a validation, the room of out and of err, and what comes of it.
+const FAULTS: &[(&[u64], u64, u64, Wanted)] = &[
+    (
+        &[0],
+        AMPLE,
+        AMPLE,
+        Failed("rules not read", b"", b"guard: cannot read rules\n"),
     ),
-    row(
-        failing(&[1], AMPLE, AMPLE),
-        failed("template not read", b"", b"guard: cannot read data\n"),
+    (
+        &[1],
+        AMPLE,
+        AMPLE,
+        Failed("template not read", b"", b"guard: cannot read data\n"),
     ),
-    row(failing(&[2], AMPLE, AMPLE), JUDGED_PASS),
-    row(failing(&[0], AMPLE, 0), failed("err not written", b"", b"")),
-    row(
-        failing(&[1], AMPLE, 7),
-        failed("err not written", b"", b"guard: "),
+    (&[2], AMPLE, AMPLE, Passed),
+    (&[0], AMPLE, 0, Failed("err not written", b"", b"")),
+    (&[1], AMPLE, 7, Failed("err not written", b"", b"guard: ")),
+    (
+        &[],
+        4,
+        AMPLE,
+        Failed("out not written", b"rule", b"guard: cannot write out\n"),
     ),
-    row(
-        failing(&[], 4, AMPLE),
-        failed("out not written", b"rule", b"guard: cannot write out\n"),
+    (
+        &[],
+        4,
+        23,
+        Failed("err not written", b"rule", b"guard: cannot write out"),
     ),
-    row(
-        failing(&[], 4, 23),
-        failed("err not written", b"rule", b"guard: cannot write out"),
-    ),
-    row(failing(&[], 39, 0), JUDGED_PASS),
+    (&[], 39, 0, Passed),
 ];
 
 #[test]
 fn tells_each_fault(rt: HostRuntime) -> Result<(), Fail> {
-    expect_all(rt.alloc(), FAULTS)
-}
-
-/// A check of evidence without lines, for a rule with a pattern.
-const fn checking(
-    failing: &'static [u64],
-    refusing: &'static [u64],
-    out_room: u64,
-    err_room: u64,
-) -> Given<'static> {
-    Given {
-        rules: b"rule r { A == /a/ }",
-        data: b"{}",
-        proof: b"guard-evidence 1\n",
-        failing,
-        refusing,
-        out_room,
-        err_room,
-        ..CHECKED
+    for (failing, out_room, err_room, wanted) in FAULTS {
+        let given = Given {
+            failing: *failing,
+            out_room: *out_room,
+            err_room: *err_room,
+            ..FIRST
+        };
+        if !comes_out(rt.alloc(), &given, wanted)? {
+            return Err(Fail::from("a fault of a validation"));
+        }
     }
+    Ok(())
 }
 
-const FAULTS_OF_A_CHECK: &[Row] = &[
-    row(
-        checking(&[2], &[], AMPLE, AMPLE),
-        failed("proof not read", b"", b"guard: cannot read proof\n"),
+/// The loads that fail in a check, the calls for a pattern that do, the room of out and of err, and what comes of it.
+const FAULTS_OF_A_CHECK: &[(&[u64], &[u64], u64, u64, Wanted)] = &[
+    (
+        &[2],
+        &[],
+        AMPLE,
+        AMPLE,
+        Failed("proof not read", b"", b"guard: cannot read proof\n"),
     ),
-    row(
-        checking(&[1], &[], AMPLE, AMPLE),
-        failed("template not read", b"", b"guard: cannot read data\n"),
+    (
+        &[1],
+        &[],
+        AMPLE,
+        AMPLE,
+        Failed("template not read", b"", b"guard: cannot read data\n"),
     ),
-    row(
-        checking(&[2], &[], AMPLE, 7),
-        failed("err not written", b"", b"guard: "),
+    (
+        &[2],
+        &[],
+        AMPLE,
+        7,
+        Failed("err not written", b"", b"guard: "),
     ),
-    row(
-        checking(&[2], &[0], AMPLE, AMPLE),
-        failed("pattern not made", b"", b"guard: pattern refused\n"),
+    (
+        &[2],
+        &[0],
+        AMPLE,
+        AMPLE,
+        Failed("pattern not made", b"", b"guard: pattern refused\n"),
     ),
-    row(
-        checking(&[], &[], 4, AMPLE),
-        failed("out not written", b"reje", b"guard: cannot write out\n"),
+    (
+        &[],
+        &[],
+        4,
+        AMPLE,
+        Failed("out not written", b"reje", b"guard: cannot write out\n"),
     ),
-    row(
-        checking(&[], &[], AMPLE, 0),
-        Wanted {
-            end: "rejected",
-            status: 19,
-            out: b"rejected 1\n",
-            err: b"",
-        },
-    ),
+    (&[], &[], AMPLE, 0, Rejected(b"rejected 1\n")),
 ];
 
 #[test]
 fn tells_each_fault_of_a_check(rt: HostRuntime) -> Result<(), Fail> {
-    expect_all(rt.alloc(), FAULTS_OF_A_CHECK)
+    for (failing, refusing, out_room, err_room, wanted) in FAULTS_OF_A_CHECK {
+        let given = Given {
+            rules: b"rule r { A == /a/ }",
+            data: b"{}",
+            proof: b"guard-evidence 1\n",
+            failing: *failing,
+            refusing: *refusing,
+            out_room: *out_room,
+            err_room: *err_room,
+            ..CHECKED
+        };
+        if !comes_out(rt.alloc(), &given, wanted)? {
+            return Err(Fail::from("a fault of a check"));
+        }
+    }
+    Ok(())
 }
 
 /// Whether out is cut where there is no more room, and err says so.
@@ -124,7 +123,7 @@ fn is_cut(alloc: Global, room: usize) -> Result<bool, AllocError> {
     Ok(
         word(&ran.end) == "out not written"
             && ran.out.len() == room
-            && PASSED.as_bytes().starts_with(&ran.out)
+            && PASSED.starts_with(&ran.out)
             && ran.err.as_slice() == b"guard: cannot write out\n".as_slice(),
     )
 }
@@ -179,10 +178,9 @@ fn ends_as_defined_or_by_want_of_memory(rt: HostRuntime) -> Result<(), Fail> {
     };
     let is_well = match &ran.end {
         End::Memory => {
-            PASSED.as_bytes().starts_with(&ran.out)
-                && b"guard: memory\n".as_slice().starts_with(&ran.err)
+            PASSED.starts_with(&ran.out) && b"guard: memory\n".as_slice().starts_with(&ran.err)
         }
-        _ => is_end(&ran, &JUDGED_PASS),
+        _ => is_end(&ran, &Passed),
     };
     if is_well {
         Ok(())

@@ -1,8 +1,7 @@
 //! In which order the work is done: how many files are loaded, and how many patterns are made, where something is refused or
 //! fails.
-use crate::calls::{
-    CHECKED, FIRST, Given, JUDGED_PASS, Row, Wanted, call, expect_all, failed, refused,
-};
+use crate::calls::Wanted::{Failed, Passed, Refused};
+use crate::calls::{CHECK, CHECKED, FIRST, Given, VALIDATE, Wanted, call, is_end};
 use std::alloc::{AllocError, Global};
 use std::test::Fail;
 
@@ -11,132 +10,114 @@ const REPLACED: &[u8] = b"let x = regex_replace(A, 'a', 'b') rule r { %x == 'b' 
 
 const SMALL: &[u8] = br#"{"A":"a"}"#;
 
-const NOT_MADE: Wanted = failed("pattern not made", b"", b"guard: pattern refused\n");
+const NOT_MADE: Wanted = Failed("pattern not made", b"", b"guard: pattern refused\n");
 
-const BAD: Wanted = refused(b"guard: rules 1:15: BadPattern\n");
+const BAD: Wanted = Refused(b"guard: rules 1:15: BadPattern\n");
 
-/// Rules and a template, of which the calls for a pattern with these numbers fail; what comes of it, and how many patterns are
-/// asked for.
-const fn patterns(
-    rules: &'static [u8],
-    data: &'static [u8],
-    refusing: &'static [u64],
-    wanted: Wanted,
-    made: u64,
-) -> Row {
-    Row {
-        given: Given {
-            rules,
-            data,
-            refusing,
-            ..FIRST
-        },
-        wanted,
-        loads: None,
-        made: Some(made),
-    }
-}
-
-const PATTERNS: &[Row] = &[
-    patterns(b"rule r { A == /(/ }", b"{}", &[], BAD, 1),
-    patterns(
+/// Rules and a template, the calls for a pattern that fail, what comes of it, and how many patterns are asked for.
+const PATTERNS: &[(&[u8], &[u8], &[u64], Wanted, u64)] = &[
+    (b"rule r { A == /(/ }", b"{}", &[], BAD, 1),
+    (
         b"rule r { A == /(/ }",
         b"{",
         &[],
-        refused(b"guard: data 1:2: Syntax\n"),
+        Refused(b"guard: data 1:2: Syntax\n"),
         0,
     ),
-    patterns(
+    (
         b"rule r { A == /a/ A == /(/ }",
         b"{}",
         &[],
-        refused(b"guard: rules 1:24: BadPattern\n"),
+        Refused(b"guard: rules 1:24: BadPattern\n"),
         2,
     ),
-    patterns(b"rule r { A == /(/ A == /)/ }", b"{}", &[], BAD, 1),
-    patterns(
+    (b"rule r { A == /(/ A == /)/ }", b"{}", &[], BAD, 1),
+    (
         b"rule r { A IN ['x', /(/] }",
         b"{}",
         &[],
-        refused(b"guard: rules 1:21: BadPattern\n"),
+        Refused(b"guard: rules 1:21: BadPattern\n"),
         1,
     ),
-    patterns(b"rule r { A == /a/ }", SMALL, &[], JUDGED_PASS, 1),
-    patterns(b"rule r { A == /a/ }", SMALL, &[0], NOT_MADE, 1),
-    patterns(b"rule r { A == /a/ A == /b/ }", b"{}", &[1], NOT_MADE, 2),
-    patterns(b"rule r { A == /a/ A == /(/ }", b"{}", &[0], NOT_MADE, 1),
+    (b"rule r { A == /a/ }", SMALL, &[], Passed, 1),
+    (b"rule r { A == /a/ }", SMALL, &[0], NOT_MADE, 1),
+    (b"rule r { A == /a/ A == /b/ }", b"{}", &[1], NOT_MADE, 2),
+    (b"rule r { A == /a/ A == /(/ }", b"{}", &[0], NOT_MADE, 1),
     // A text that stands there twice is made once.
-    patterns(b"rule r { A == /a/ A == /a/ }", SMALL, &[1], JUDGED_PASS, 1),
-    patterns(b"rule r { A exists }", SMALL, &[0], JUDGED_PASS, 0),
+    (b"rule r { A == /a/ A == /a/ }", SMALL, &[1], Passed, 1),
+    (b"rule r { A exists }", SMALL, &[0], Passed, 0),
     // The pattern of a call is made, and no other text of one.
-    patterns(REPLACED, SMALL, &[], JUDGED_PASS, 1),
-    patterns(REPLACED, SMALL, &[0], NOT_MADE, 1),
-    patterns(
+    (REPLACED, SMALL, &[], Passed, 1),
+    (REPLACED, SMALL, &[0], NOT_MADE, 1),
+    (
         b"let x = regex_replace(A, '(', 'b') rule r { %x == /)/ }",
         b"{}",
         &[],
-        refused(b"guard: rules 1:26: BadPattern\n"),
+        Refused(b"guard: rules 1:26: BadPattern\n"),
         1,
     ),
-    patterns(
+    (
         b"let x = regex_replace(A, 'a', '(') rule r { %x == '(' }",
         SMALL,
         &[],
-        JUDGED_PASS,
+        Passed,
         1,
     ),
-    patterns(
+    (
         b"let x = join(A, '(') rule r { %x == 'a' }",
         SMALL,
         &[0],
-        JUDGED_PASS,
+        Passed,
         0,
     ),
 ];
 
+/// Whether a call comes out as wanted, and asks for so many patterns.
+fn asks_for(
+    alloc: Global,
+    given: &Given<'_>,
+    wanted: &Wanted,
+    made: u64,
+) -> Result<bool, AllocError> {
+    let ran = call(alloc, given)?;
+    Ok(is_end(&ran, wanted) && ran.made == made)
+}
+
 #[test]
 fn makes_patterns_once_the_template_is_read(rt: HostRuntime) -> Result<(), Fail> {
-    expect_all(rt.alloc(), PATTERNS)
-}
-
-/// Rules and a template beside evidence that is refused too; what comes of them, how many files are loaded, and how many
-/// patterns are asked for.
-const fn loads(
-    rules: &'static [u8],
-    data: &'static [u8],
-    line: &'static [u8],
-    loads: u64,
-    made: u64,
-) -> Row {
-    Row {
-        given: Given {
-            rules,
-            data,
-            ..CHECKED
-        },
-        wanted: refused(line),
-        loads: Some(loads),
-        made: Some(made),
+    for (rules, data, refusing, wanted, made) in PATTERNS {
+        let given = Given {
+            rules: *rules,
+            data: *data,
+            refusing: *refusing,
+            ..FIRST
+        };
+        if !asks_for(rt.alloc(), &given, wanted, *made)? {
+            return Err(Fail::from("a pattern"));
+        }
     }
+    Ok(())
 }
 
-const LOADS: &[Row] = &[
-    loads(b"\xff", b"{}", b"guard: rules: NotText\n", 1, 0),
-    loads(
+/// Rules and a template beside evidence that is refused too, the line on err, how many files are loaded, and how many
+/// patterns are asked for.
+const LOADS: &[(&[u8], &[u8], &[u8], u64, u64)] = &[
+    (b"\xff", b"{}", b"guard: rules: NotText\n", 1, 0),
+    (
         b"rule r { A exists }",
         b"{",
         b"guard: data 1:2: Syntax\n",
         2,
         0,
     ),
-    loads(
+    (
         b"rule r { A == /(/ }",
         b"{}",
         b"guard: rules 1:15: BadPattern\n",
         2,
         1,
     ),
-    loads(
+    (
         b"rule r { A == /a/ }",
         b"{}",
         b"guard: proof line 0: EvidenceSyntax\n",
@@ -145,16 +126,38 @@ const LOADS: &[Row] = &[
     ),
 ];
 
+/// Whether a call is refused with this line, and has loaded so many files and asked for so many patterns.
+fn stops_after(
+    alloc: Global,
+    given: &Given<'_>,
+    line: &'static [u8],
+    loads: u64,
+    made: u64,
+) -> Result<bool, AllocError> {
+    let ran = call(alloc, given)?;
+    Ok(is_end(&ran, &Refused(line)) && ran.loads == loads && ran.made == made)
+}
+
 #[test]
 fn loads_evidence_last(rt: HostRuntime) -> Result<(), Fail> {
-    expect_all(rt.alloc(), LOADS)
+    for (rules, data, line, loads, made) in LOADS {
+        let given = Given {
+            rules: *rules,
+            data: *data,
+            ..CHECKED
+        };
+        if !stops_after(rt.alloc(), &given, *line, *loads, *made)? {
+            return Err(Fail::from("a load"));
+        }
+    }
+    Ok(())
 }
 
 /// Words, the status, and how many files are loaded. No pattern is made.
 const WORDS: &[(&[&str], u8, u64)] = &[
-    (FIRST.words, 0, 2),
+    (VALIDATE, 0, 2),
     (&["validate", "--data", "d.json", "--rules=r.guard"], 0, 2),
-    (CHECKED.words, 5, 3),
+    (CHECK, 5, 3),
     (
         &["validate", "--rules=r.guard", "--data=d.json", "--evidence"],
         2,

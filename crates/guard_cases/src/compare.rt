@@ -1,7 +1,6 @@
 //! What came of a call, held against what is wanted.
 use crate::case::{Case, WantedOut};
 use crate::run::Ran;
-use itoa::Buffer;
 use std::alloc::{AllocError, Global};
 use std::borrow::CowSlice;
 
@@ -26,16 +25,17 @@ pub enum Difference<'a> {
 impl Difference<'_> {
     /// Appends what was wanted and what came.
     pub fn append(&self, lines: &mut Vec<u8>) -> Result<(), AllocError> {
+        let alloc = *lines.allocator();
         match self {
-            Difference::Status { wanted, came } => {
-                let (mut first, mut second) = (Buffer::new(), Buffer::new());
-                append_line(lines, &["wanted status ", first.format(*wanted)])?;
-                append_line(lines, &["came status ", second.format(*came)])
-            }
+            Difference::Status { wanted, came } => append(
+                lines,
+                format!(in alloc; "wanted status {wanted}\ncame status {came}\n")?,
+            ),
             Difference::Lines { sink, wanted, came } => {
-                append_line(lines, &["wanted ", *sink])?;
+                append(lines, format!(in alloc; "wanted {sink}\n")?)?;
                 append_text(lines, wanted)?;
-                append_line(lines, &["came ", *sink, note_on_end(came)])?;
+                let note = note_on_end(came);
+                append(lines, format!(in alloc; "came {sink}{note}\n")?)?;
                 append_text(lines, came)
             }
         }
@@ -50,12 +50,9 @@ fn note_on_end(text: &[u8]) -> &'static str {
     }
 }
 
-/// Appends a line that is put together of these pieces.
-pub fn append_line(lines: &mut Vec<u8>, pieces: &[&str]) -> Result<(), AllocError> {
-    for piece in pieces {
-        lines.extend_from_slice(piece.as_bytes())?;
-    }
-    lines.extend_from_slice(b"\n")
+/// Appends lines.
+pub fn append(lines: &mut Vec<u8>, more: String) -> Result<(), AllocError> {
+    lines.extend_from_slice(more.as_bytes())
 }
 
 /// Appends a text, with a newline behind its last line.

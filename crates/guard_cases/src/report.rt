@@ -1,11 +1,10 @@
 //! A table run: its cases in order, and what is told of them.
 use crate::case::Case;
-use crate::compare::{append_line, differences, judged_out};
+use crate::compare::{append, differences, judged_out};
 use crate::refusal::{Misfit, TableRefusal};
 use crate::run::{Ran, run_case};
 use crate::table::read_table;
 use guard_io::{Files, LoadFault};
-use itoa::Buffer;
 use std::alloc::{AllocError, Global};
 
 /// How many bytes a table may have; what stands behind them is not read.
@@ -36,7 +35,7 @@ pub fn run_table<F: Files>(
     match files.load(name, TABLE_LIMIT, &mut table) {
         Ok(()) => run_loaded(alloc, name, &table, lines),
         Err(LoadFault::Failed) => {
-            append_line(lines, &[name, ": not read"])?;
+            append(lines, format!(in alloc; "{name}: not read\n")?)?;
             Ok(Verdict::Differ)
         }
         Err(LoadFault::Memory) => Err(AllocError),
@@ -62,23 +61,27 @@ fn append_refusal(
     misfit: Misfit,
     lines: &mut Vec<u8>,
 ) -> Result<Verdict, AllocError> {
-    let mut number = Buffer::new();
-    append_line(
+    let word = misfit.name();
+    append(
         lines,
-        &[name, ":", number.format(line), ": ", misfit.name()],
+        format!(in *lines.allocator(); "{name}:{line}: {word}\n")?,
     )?;
     Ok(Verdict::Differ)
 }
 
 fn append_tally(name: &str, tally: Tally, lines: &mut Vec<u8>) -> Result<Verdict, AllocError> {
-    let (mut first, mut second) = (Buffer::new(), Buffer::new());
-    let agree = first.format(tally.agree);
-    if tally.differ == 0 {
-        append_line(lines, &[name, " ", agree, " agree"])?;
+    let Tally { agree, differ } = tally;
+    if differ == 0 {
+        append(
+            lines,
+            format!(in *lines.allocator(); "{name} {agree} agree\n")?,
+        )?;
         Ok(Verdict::Agree)
     } else {
-        let differ = second.format(tally.differ);
-        append_line(lines, &[name, " ", agree, " agree ", differ, " differ"])?;
+        append(
+            lines,
+            format!(in *lines.allocator(); "{name} {agree} agree {differ} differ\n")?,
+        )?;
         Ok(Verdict::Differ)
     }
 }
@@ -117,7 +120,8 @@ fn judge_case(
     let mut verdict = Verdict::Agree;
     for difference in differences(case, ran, &judged).iter().flatten() {
         if verdict == Verdict::Agree {
-            append_line(lines, &[table, ": ", case.name])?;
+            let name = case.name;
+            append(lines, format!(in *lines.allocator(); "{table}: {name}\n")?)?;
             verdict = Verdict::Differ;
         }
         difference.append(lines)?;
