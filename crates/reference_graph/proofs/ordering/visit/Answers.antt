@@ -1,3 +1,4 @@
+use Rattle.std.proofs.lemmas.Grind.{common_steps}
 use Rattle.std.proofs.Common.{◌<◌, ◌∙◌, ap, sym, subst, ℕ, Bool, true, false, List, [], ◌∷◌, ◌++◌, length, get_or, set, arith, true≢false}
 use Rattle.std.proofs.lemmas.List.{get_or_read}
 use Rattle.std.proofs.lemmas.List.Elements.{Contains-get_or}
@@ -168,3 +169,12 @@ loop-node-preserved c =
         kept = λ a h. mark-kept begun t a within (c.loop-node.invariant.begins.kept a h);
       };
     })
+
+pub index_mut-requires-in-Some-2 : goal.index_mut-requires-in-Some-2
+index_mut-requires-in-Some-2 c = grind (arith, common_steps)
+
+pub overflow_cast-node-in-Some : goal.overflow_cast-node-in-Some
+overflow_cast-node-in-Some c = grind (arith, common_steps)
+
+pub returns : goal.returns
+returns c = grind (arith, common_steps)

@@ -1,3 +1,4 @@
+use Rattle.std.proofs.lemmas.Grind.{common_steps}
 use Rattle.std.proofs.Common.{◌<◌, arith}
 use borrow.Author.Count.{below_more}
 use Rattle.rule_names.specs.code.Marks.{IsMarked}
@@ -23,3 +24,6 @@ returns c =
     let end = c.loop-root-test.false in
     walk-ordered c.args.graph.now walk.begun.items walk.done.items walk.next.items walk.order.items c.loop-root.invariant.walked.settled c.loop-root.invariant.walked.on_path
     (λ a l. let below : a < c.loop-root.root = omega (arith, c.count-root-end.ensures.count) in c.loop-root.invariant.begun a below)
+
+pub loop-root-preserved-then-index : goal.loop-root-preserved-then-index
+loop-root-preserved-then-index c = grind (arith, common_steps)

@@ -1,4 +1,5 @@
-use Rattle.std.proofs.Common.{◌≡◌, ◌<◌, ◌∙◌, sym, subst, ℕ, false, get_or, take, length}
+use Rattle.std.proofs.lemmas.Grind.{common_steps}
+use Rattle.std.proofs.Common.{◌≡◌, ◌<◌, ◌∙◌, sym, subst, ℕ, false, get_or, take, length, arith}
 use Rattle.std.proofs.lemmas.List.{take_more, get_or_read}
 use Rattle.reference_graph.proofs.Marking.{Marks-none, Marks-seen, Marks-new}
 use Rattle.reference_graph.proofs.reach.mark.Goals as goal
@@ -25,3 +26,6 @@ loop-target-preserved c =
       | else-not-index w ↦ rw (w.marks-is, w.pending-is, more)
           (Marks-seen (take i targets) old before marks pending t c.loop-target.invariant (sym read ∙ w.if-not-index.false))
     ]
+
+pub returns : goal.returns
+returns c = grind (arith, common_steps)

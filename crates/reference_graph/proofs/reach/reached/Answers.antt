@@ -1,3 +1,4 @@
+use Rattle.std.proofs.lemmas.Grind.{common_steps}
 use Rattle.std.proofs.Common.{◌∙◌, ap, false, List, Bool, length, arith}
 use Rattle.std.proofs.lemmas.List.{length-replicate, nil_from_length}
 use Rattle.reference_graph.proofs.Walks.{targets-within, waiting-within, walk-start, walk-next, walk-end}
@@ -33,3 +34,6 @@ pub returns-clause-reached : goal.returns-clause-reached
 returns-clause-reached c =
     walk-end c.args.graph.now c.args.from c.loop-node.marks.items c.loop-node.pending.items c.loop-node.invariant
     (nil_from_length c.loop-node.pending.items (let none = c.in_default.ensures.cases in omega (arith, c.loop-node.pending.ok.0)))
+
+pub targets-requires-in-Some : goal.targets-requires-in-Some
+targets-requires-in-Some c = grind (arith, common_steps)

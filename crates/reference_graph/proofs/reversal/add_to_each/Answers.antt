@@ -1,4 +1,5 @@
-use Rattle.std.proofs.Common.{◌<◌, sym, subst, ℕ, get_or, take, length}
+use Rattle.std.proofs.lemmas.Grind.{common_steps}
+use Rattle.std.proofs.Common.{◌<◌, sym, subst, ℕ, get_or, take, length, arith}
 use Rattle.std.proofs.lemmas.List.{take_more}
 use Rattle.reference_graph.proofs.Reversals.{names-no-more, names-one-more}
 use Rattle.reference_graph.proofs.reversal.add_to_each.Goals as goal
@@ -21,3 +22,6 @@ loop-target-preserved c =
     let within : t < length c.loop-target.back = subst (λ (n : ℕ). t < n) (sym c.loop-target.invariant.same_nodes) (c.requires.within i 0 c.loop-target-test.true) in
     rw (c.in_ok-add.ensures.added, take_more targets i 0 c.loop-target-test.true)
     (names-one-more c.args.back.now c.loop-target.back (take i targets) c.args.node t within c.loop-target.invariant)
+
+pub returns : goal.returns
+returns c = grind (arith, common_steps)

@@ -1,4 +1,5 @@
-use Rattle.std.proofs.Common.{◌<◌, sym, subst, ℕ, get_or, take, length}
+use Rattle.std.proofs.lemmas.Grind.{common_steps}
+use Rattle.std.proofs.Common.{◌<◌, sym, subst, ℕ, get_or, take, length, arith}
 use Rattle.std.proofs.lemmas.List.{take_more}
 use Rattle.reference_graph.proofs.SubgraphNodes.{below-none, below-skip, below-add}
 use Rattle.reference_graph.proofs.subgraph.add_below.Goals as goal
@@ -27,3 +28,6 @@ loop-target-preserved c =
     let within : c.args.node < length c.loop-target.subgraph = subst (λ (n : ℕ). c.args.node < n) (sym c.loop-target.invariant.same_nodes) c.requires.node in
     rw (c.in_ok-add.ensures.added, take_more targets i 0 c.loop-target-test.true)
     (below-add c.args.subgraph.now c.loop-target.subgraph c.args.node (take i targets) c.args.bound (get_or targets i 0) c.loop-target.invariant c.if-target-bound.false within)
+
+pub returns : goal.returns
+returns c = grind (arith, common_steps)

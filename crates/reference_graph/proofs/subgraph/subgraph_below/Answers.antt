@@ -1,3 +1,4 @@
+use Rattle.std.proofs.lemmas.Grind.{common_steps}
 use Rattle.std.proofs.Common.{length, arith}
 use Rattle.reference_graph.proofs.Walks.{targets-below}
 use Rattle.reference_graph.proofs.SubgraphNodes.{subgraph_below-more, subgraph_below-all}
@@ -16,3 +17,6 @@ pub returns : goal.returns
 returns c =
     subgraph_below-all c.args.graph.now c.args.bound c.loop-node.node c.loop-node.subgraph c.loop-node.invariant
     (let end = c.loop-node-test.false in omega (arith, c.count-node-end.ensures.count))
+
+pub loop-node-init : goal.loop-node-init
+loop-node-init c = grind (arith, common_steps)

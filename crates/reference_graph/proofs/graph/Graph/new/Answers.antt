@@ -1,0 +1,12 @@
+use Rattle.std.proofs.Common.{arith}
+use Rattle.std.proofs.lemmas.Grind.{common_steps}
+use Rattle.reference_graph.proofs.graph.Graph.new.Goals as goal
+
+pub invariant_of-result : goal.invariant_of-result
+invariant_of-result c = grind (arith, common_steps)
+
+pub loop-preserved : goal.loop-preserved
+loop-preserved c = grind (arith, common_steps)
+
+pub returns : goal.returns
+returns c = grind (arith, common_steps)
