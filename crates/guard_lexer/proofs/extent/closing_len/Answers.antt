@@ -1,0 +1,12 @@
+use Rattle.std.proofs.Common.{arith}
+use Rattle.std.proofs.lemmas.Grind.{common_steps}
+use Rattle.guard_lexer.proofs.extent.closing_len.Goals as goal
+
+pub loop-at-preserved : goal.loop-at-preserved
+loop-at-preserved c = grind (arith, common_steps)
+
+pub returns-clause-reach : goal.returns-clause-reach
+returns-clause-reach c = grind (arith, common_steps)
+
+pub returns-then-not-behind-clause-reach : goal.returns-then-not-behind-clause-reach
+returns-then-not-behind-clause-reach c = grind (arith, common_steps)
