@@ -1,4 +1,5 @@
-use Rattle.std.proofs.Common.{take, drop, ◌++◌, append_assoc, ◌∙◌, ap, take-append-drop}
+use Rattle.std.proofs.lemmas.Grind.{common_steps}
+use Rattle.std.proofs.Common.{take, drop, ◌++◌, append_assoc, ◌∙◌, ap, take-append-drop, arith}
 use Rattle.std.proofs.lemmas.List.{take_rest}
 use Rattle.std.proofs.KnownBytes.{Appends-trans}
 use Rattle.guard_io.proofs.real_sink.write_whole.Goals as goal
@@ -14,3 +15,6 @@ loop-rest-preserved g c =
           ∙ ap (λ all. front ++ all) (take-append-drop taken rest) ∙ c.loop-rest.invariant.1,
       Appends-trans _ _ _ _ _ c.loop-rest.invariant.2 c.in-Ok.ensures.bytes,
     )
+
+pub returns-clause-whole : goal.returns-clause-whole
+returns-clause-whole c = grind (arith, common_steps)
