@@ -1,3 +1,4 @@
+use Rattle.std.proofs.lemmas.Grind.{common_steps}
 use Rattle.std.proofs.Common.{◌≡◌, ◌+◌, ◌++◌, ◌∷◌, [], ap, sym, ◌∙◌, arith}
 use Rattle.byte_lanes.specs.code.LineStarts.{after_newlines}
 use Rattle.byte_lanes.proofs.Places.{after_newlines-add, after_newlines-hit, after_newlines-miss}
@@ -29,3 +30,6 @@ loop-at-2-preserved c =
             ∙ ap (λ r. 0 ∷ r) (sym (after_newlines-miss bytes at w.if-bytes-at-eq10.false))
       ],
     )
+
+pub overflow_add-count_byte : goal.overflow_add-count_byte
+overflow_add-count_byte c = grind (arith, common_steps)
