@@ -1,3 +1,4 @@
+use Rattle.std.proofs.lemmas.Grind.{common_steps}
 use Rattle.std.proofs.Common.{◌≡◌, ◌≤◌, ◌++◌, List, [], length, ap, sym, ◌∙◌, arith, true≢false, vec_capacity, vec_len, Vec, Global}
 use Rattle.query_steps.proofs.EmptyLists.{none-tried}
 use Rattle.query_steps.proofs.FilterWalks.{tried-found, tried-other, lost-row, known-refs}
@@ -40,3 +41,9 @@ returns-in_err-extend_from_slice-clause-no_memory c none =
     let added : length c.deref.result.now ≡ 0 = ap length (c.deref.ensures.value ∙ mine) in
     let room : vec_len c.loop-row.refs ≤ vec_capacity c.loop-row.refs = c.loop-row.refs.ok.1 in
     absurd (omega (arith, c.in_err-extend_from_slice.ensures.full, added, room))
+
+pub candidates_at-requires : goal.candidates_at-requires
+candidates_at-requires c = grind (arith, common_steps)
+
+pub returns-clause-candidates : goal.returns-clause-candidates
+returns-clause-candidates c = grind (arith, common_steps)

@@ -1,3 +1,4 @@
+use Rattle.std.proofs.lemmas.Grind.{common_steps}
 use Rattle.std.proofs.Common.{◌≡◌, ◌++◌, ◌+◌, ◌-◌, List, length, take, drop, ap, sym, ◌∙◌, arith, Bor, Vec, Global}
 use Rattle.std.proofs.lemmas.List.Sums.{AllPass-from_list_all}
 use Rattle.guard_syntax.specs.declared.row.Row.{Row}
@@ -59,3 +60,12 @@ loop-row-preserved c = elim c.match-row.branch [
         known = known-row k c.args.before.now c.loop-row.row-index _ c.loop-row.rows.items c.match-row.rows.items c.loop-row-test.true put c.loop-row.invariant.known c.requires.known;
       }
 ]
+
+pub returns-clause-rows : goal.returns-clause-rows
+returns-clause-rows c = grind (arith, common_steps)
+
+pub slice_bounds-left-count : goal.slice_bounds-left-count
+slice_bounds-left-count c = grind (arith, common_steps)
+
+pub slice_bounds-left-start : goal.slice_bounds-left-start
+slice_bounds-left-start c = grind (arith, common_steps)

@@ -1,4 +1,5 @@
-use Rattle.std.proofs.Common.{ap, sym, ◌∙◌, true≢false}
+use Rattle.std.proofs.lemmas.Grind.{common_steps}
+use Rattle.std.proofs.Common.{ap, sym, ◌∙◌, true≢false, arith}
 use Rattle.std.specs.List.{flat_map, list_all}
 use Rattle.std.proofs.lemmas.List.{take_all}
 use Rattle.rule_meaning.specs.StoreModel.{is_known}
@@ -23,3 +24,6 @@ returns-clause-known c =
 pub returns-in_err-push_captured-clause-no_memory : goal.returns-in_err-push_captured-clause-no_memory
 returns-in_err-push_captured-clause-no_memory c none =
     absurd (true≢false (sym (c.in_err-push_captured.ensures.no_memory (item-empty (captured_row (see_store c.args.store.now)) c.args.rows.now c.loop-row.row-index _ c.loop-row-test.true none))))
+
+pub returns-clause-rows : goal.returns-clause-rows
+returns-clause-rows c = grind (arith, common_steps)

@@ -1,4 +1,5 @@
-use Rattle.std.proofs.Common.{◌∙◌, ap}
+use Rattle.std.proofs.lemmas.Grind.{common_steps}
+use Rattle.std.proofs.Common.{◌∙◌, ap, arith}
 use Rattle.std.proofs.lemmas.List.Sums.{AllPass-from_list_all}
 use Rattle.guard_syntax.specs.declared.row.Ref.{Ref}
 use Rattle.guard_syntax.specs.declared.row.Row.TheVariants.{Found}
@@ -23,3 +24,6 @@ loop-entry-preserved c =
     let k = see_store c.args.store.now in
     kept-more (λ (r : Ref). passes k c.args.op c.args.not c.args.rights.now (Found (key_of r))) c.args.entries.now c.loop-entry.entry-index _ c.args.into.now.items c.loop-entry.into.items c.push_if.new.into.items
     c.in_ok-passes.passes c.loop-entry-test.true (c.in_ok-passes.ensures.answer ∙ ap (λ (r : Ref). passes k c.args.op c.args.not c.args.rights.now (Found r)) c.key_of.ensures) c.loop-entry.invariant c.in_ok-push_if.ensures
+
+pub returns : goal.returns
+returns c = grind (arith, common_steps)

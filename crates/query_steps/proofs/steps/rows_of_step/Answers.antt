@@ -1,3 +1,4 @@
+use Rattle.std.proofs.lemmas.Grind.{common_steps}
 use Rattle.std.proofs.Common.{length, ap, ◌∙◌, arith}
 use Rattle.std.specs.List.{flat_map, list_all}
 use Rattle.std.proofs.lemmas.List.{take_all}
@@ -24,3 +25,6 @@ returns-clause-known c =
     let given = on_found (found_step k c.args.last c.args.rows.now step) in
     ap (list_all (is_known k)) (c.loop-row.invariant ∙ ap (flat_map given) (take_all c.loop-row.row-index c.args.before.now c.loop-row-test.false))
     ∙ rows-known k c.args.last c.args.rows.now c.requires.rows step c.args.before.now c.requires.before
+
+pub returns-clause-rows : goal.returns-clause-rows
+returns-clause-rows c = grind (arith, common_steps)
