@@ -1,4 +1,5 @@
-use Rattle.std.proofs.Common.{◌≡◌, ◌∙◌, ap, sym, subst, length, map, IfOk}
+use Rattle.std.proofs.lemmas.Grind.{common_steps}
+use Rattle.std.proofs.Common.{◌≡◌, ◌∙◌, ap, sym, subst, length, map, IfOk, arith}
 use Rattle.rule_names.specs.Uses.{arity}
 use Rattle.rule_meaning.specs.Functions.{AreRows, Functions, IsReplaced, IsSubstring, single_text, single_whole}
 use Rattle.value_compare.specs.code.Stores.{see_store}
@@ -49,3 +50,12 @@ returns-clause-rows c =
 pub returns-clause-no_memory : goal.returns-clause-no_memory
 returns-clause-no_memory c by_row none =
     c.rows_for.ensures.no_memory (first-argument c.args.function c.args.args.now c.index-args-0.result c.as_slice-rows.result.now c.requires.count c.index-args-0.is c.as_slice-rows.ensures.value ∙ none)
+
+pub regex_replace-requires : goal.regex_replace-requires
+regex_replace-requires c = grind (arith, common_steps)
+
+pub returns-in-Count-clause-rows : goal.returns-in-Count-clause-rows
+returns-in-Count-clause-rows c = grind (arith, common_steps)
+
+pub returns-in-RegexReplace-clause-no_memory : goal.returns-in-RegexReplace-clause-no_memory
+returns-in-RegexReplace-clause-no_memory c = grind (arith, common_steps)

@@ -1,4 +1,5 @@
-use Rattle.std.proofs.Common.{take, ◌∙◌}
+use Rattle.std.proofs.lemmas.Grind.{common_steps}
+use Rattle.std.proofs.Common.{take, ◌∙◌, arith}
 use Rattle.value_compare.specs.code.Stores.{see_store}
 use Rattle.guard_builtins.proofs.Plain.{rows-plain}
 use Rattle.guard_builtins.proofs.Rows.{rows-more}

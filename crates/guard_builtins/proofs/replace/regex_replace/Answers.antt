@@ -1,3 +1,5 @@
+use Rattle.std.proofs.Common.{arith}
+use Rattle.std.proofs.lemmas.Grind.{common_steps}
 use Rattle.rule_meaning.specs.Functions.{single_text}
 use Rattle.value_compare.specs.code.Stores.{see_store}
 use Rattle.guard_builtins.proofs.Replacing.{nothing-replaced, pattern-there, texts-replaced}
@@ -19,3 +21,6 @@ returns-clause-rows c =
     texts-replaced c.rows_for-2.result (single_text k c.args.pattern.now) (single_text k c.args.template.now) c.in-Some.pattern.now c.in-Some.template.now
     c.in_ok-replacer.replacer.pattern.now c.in_ok-replacer.replacer.template.now k c.args.site c.args.rows.now c.in-Some.ensures
     c.in_ok-replacer.ensures.pattern c.in_ok-replacer.ensures.template c.rows_for-2.ensures.rows
+
+pub returns-then-is_empty-clause-rows : goal.returns-then-is_empty-clause-rows
+returns-then-is_empty-clause-rows c = grind (arith, common_steps)

@@ -1,4 +1,5 @@
-use Rattle.std.proofs.Common.{◌∷◌, [], Some, ap, map, sym, ◌∙◌}
+use Rattle.std.proofs.lemmas.Grind.{common_steps}
+use Rattle.std.proofs.Common.{◌∷◌, [], Some, ap, map, sym, ◌∙◌, arith}
 use Rattle.std.proofs.lemmas.List.{map-append}
 use Rattle.value_compare.specs.code.Stores.{see_store}
 use Rattle.guard_builtins.proofs.Joins.{texts-more, texts-none}
@@ -12,3 +13,6 @@ loop-row-preserved c =
     texts-more (see_store c.args.store.now) c.args.rows.now c.loop-row.row-index _ c.loop-row-test.true (map (λ text. text.now) c.loop-row.texts.items) c.in-Some.text.now
     (sym c.in-Some.ensures) c.loop-row.invariant
     ∙ ap Some (sym (ap (map (λ text. text.now)) c.in_ok-push-in-Some.ensures.items ∙ map-append (λ text. text.now) c.loop-row.texts.items (c.in-Some.text ∷ [])))
+
+pub returns : goal.returns
+returns c = grind (arith, common_steps)
