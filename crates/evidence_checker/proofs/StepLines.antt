@@ -14,7 +14,7 @@ use Rattle.guard_syntax.specs.declared.syntax.Op.{Op}
 use Rattle.rule_names.specs.Pieces.{OfStep, Piece, piece_at}
 use Rattle.rule_meaning.specs.StoreModel.{StoreModel}
 use Rattle.evidence_rules.specs.CitedLines.{GivesExpr, GivesStep, GivesVariable, value_of}
-use Rattle.evidence_rules.specs.Follows.{FollowsCapture, FollowsFilter, FollowsStep, GivesBefore, GivesFurther, GivesRight, HasValue, SayEach, SaysCandidate}
+use Rattle.evidence_rules.specs.Follows.{FollowsCapture, FollowsFilter, FollowsStep, GivesBefore, GivesFurther, GivesRight, HasValue, IsLater, SayEach, SaysCandidate}
 use Rattle.rule_meaning.specs.Places.{IsStartAt, Placed, candidates_at, is_after_key, placed_in, placed_of, rows_at_step, step_in, steps_in}
 use Rattle.evidence_checker.specs.code.FirstCites.{GivesAlone}
 use Rattle.evidence_checker.proofs.StepsSeen.{NamesNothing}
@@ -41,6 +41,20 @@ none-taken r P Q is m = subst (λ (o : Option _). MatchOption o P Q) is m
 
 pub some-taken : {A : Type 0} (r : Option A) (x : A) (P : Type 0) (Q : A → Type 0) → r ≡ Some x → MatchOption r P Q → Q x
 some-taken r x P Q is m = subst (λ (o : Option _). MatchOption o P Q) is m
+
+-- no filter stands at the start of a query
+pub never-start : (i : ℕ) (Follows : Type 0) → i ≡ 0 → IsLater i × Follows → ⊥
+never-start zero Follows is both = both.0
+never-start (suc i) Follows is both = absurd (omega (arith, is))
+
+pub never-later : (i : ℕ) (Follows : Type 0) → (Follows → ⊥) → IsLater i × Follows → ⊥
+never-later i Follows never both = never both.1
+
+-- behind the start it is judged by what follows
+pub later-judged : (i : ℕ) (b : Bool) (Follows : Type 0) → (i ≡ 0 → ⊥) → IsJudgedSo b Follows → IsJudgedSo b (IsLater i × Follows)
+later-judged zero b Follows later judges = absurd (later refl)
+later-judged (suc i) true Follows later follows = (tt, follows)
+later-judged (suc i) false Follows later never = λ both. never both.1
 
 -- the first of some numbers
 pub first-of : (cites : List ℕ) → 1 ≤ length cites → cites ≡ (get_or cites 0 0 ∷ []) ++ take (length cites - 1) (drop 1 cites)

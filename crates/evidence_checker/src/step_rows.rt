@@ -141,30 +141,6 @@ fn filter_follows(
     if index == 0 {
         return Ok(false);
     }
-    kept_follow(
-        alloc, context, frame, site, query, index, conditions, cites, rows,
-    )
-}
-
-/// Whether the rows are those that the filter keeps.
-fn kept_follow(
-    alloc: Global,
-    context: &LineContext<'_, '_, '_>,
-    frame: u64,
-    site: u32,
-    query: &Query,
-    index: usize,
-    conditions: &Conds,
-    cites: &[u64],
-    rows: &[Row],
-) -> Result<bool, AllocError>
-    requires placed { piece_at (file_in context.now) site ≡ Some (OfStep (see_query query.now) index) }
-    requires filter { (n : ℕ) × (capture : Option Named) × (step_in (steps_in (see_query query.now)) index ≡ Some (filter n capture (see_conds conditions.now))) }
-    ensures follows { IfOk result (λ follows. MatchBool follows
-        (FollowsFilter (known_of context.now) (lines_of context.now) frame site (see_query query.now) index (see_conds conditions.now) cites.now rows.now)
-        (FollowsFilter (known_of context.now) (lines_of context.now) frame site (see_query query.now) index (see_conds conditions.now) cites.now rows.now → ⊥)) }
-    ensures known { IfOk result (λ follows. follows ≡ true → list_all (is_known (known_of context.now)) rows.now ≡ true) }
-{
     let Some(current) = value_of(context.lines, frame) else {
         return Ok(false);
     };

@@ -6,13 +6,13 @@ use Rattle.guard_syntax.specs.Syntax.{Conds}
 use Rattle.guard_syntax.specs.declared.row.Ref.{Ref}
 use Rattle.guard_syntax.specs.declared.row.Verdict.{Verdict}
 use Rattle.rule_meaning.specs.StoreModel.{StoreModel}
-use Rattle.evidence_rules.specs.Follows.{SayEach, SaysCandidate}
+use Rattle.evidence_rules.specs.Follows.{FollowsFilter, SayEach, SaysCandidate}
 use Rattle.rule_meaning.specs.Places.{candidates_at, rows_at_step}
 use Rattle.evidence_lookups.specs.code.Grounds.{file_in, known_of, lines_of}
 use Rattle.evidence_lookups.proofs.SaidKnown.{before-said-known, value-said-known}
 use Rattle.evidence_lookups.proofs.SitesWithin.{site-within}
-use Rattle.evidence_checker.proofs.StepLines.{filter-due, filter-lacks, none-taken, said-each, some-taken, start-bare}
-use Rattle.evidence_checker.proofs.step_rows.kept_follow.Goals as goal
+use Rattle.evidence_checker.proofs.StepLines.{filter-due, filter-lacks, later-judged, never-later, never-start, none-taken, said-each, some-taken, start-bare}
+use Rattle.evidence_checker.proofs.step_rows.filter_follows.Goals as goal
 
 -- one verdict for each value that is tried
 abbrev Said : StoreModel → List Line → (frame site : ℕ) → Conds → List Ref → (cites : List ℕ) → List Verdict → Type 0
@@ -30,12 +30,21 @@ module _ (known : StoreModel) (lines : List Line) (frame site : ℕ) (conditions
   some-said : (verdicts : Vec Verdict Global) → said ≡ Some verdicts → AreSaid → Said known lines frame site conditions values cites verdicts.items
   some-said verdicts is are = some-taken said verdicts _ (λ verdicts. Said known lines frame site conditions values cites verdicts.items) is are
 
+pub returns-then-index-eq0 : goal.returns-then-index-eq0
+returns-then-index-eq0 c = record {
+  follows = never-start c.args.index (FollowsFilter (known_of c.args.context.now) (lines_of c.args.context.now) c.args.frame c.args.site (see_query c.args.query.now) c.args.index (see_conds c.args.conditions.now) c.args.cites.now c.args.rows.now) c.if-index-eq0.true;
+  known = λ e. absurd (true≢false (sym e));
+}
+
 pub returns-in_default : goal.returns-in_default
-returns-in_default c = record { follows = λ h. none-some h.0 (c.in_default.ensures ∙ h.5); known = λ e. absurd (true≢false (sym e)) }
+returns-in_default c = record {
+  follows = never-later c.args.index (FollowsFilter (known_of c.args.context.now) (lines_of c.args.context.now) c.args.frame c.args.site (see_query c.args.query.now) c.args.index (see_conds c.args.conditions.now) c.args.cites.now c.args.rows.now) (λ h. none-some h.0 (c.in_default.ensures ∙ h.5));
+  known = λ e. absurd (true≢false (sym e));
+}
 
 pub returns-in_default-rows_before : goal.returns-in_default-rows_before
 returns-in_default-rows_before c = record {
-  follows = λ h. c.in_default-rows_before.ensures (known_of c.args.context.now) refl h.1 h.2 h.3 h.6 h.7;
+  follows = never-later c.args.index (FollowsFilter (known_of c.args.context.now) (lines_of c.args.context.now) c.args.frame c.args.site (see_query c.args.query.now) c.args.index (see_conds c.args.conditions.now) c.args.cites.now c.args.rows.now) (λ h. c.in_default-rows_before.ensures (known_of c.args.context.now) refl h.1 h.2 h.3 h.6 h.7);
   known = λ e. absurd (true≢false (sym e));
 }
 
@@ -68,9 +77,10 @@ pub returns-in_default-2-clause-follows : goal.returns-in_default-2-clause-follo
 returns-in_default-2-clause-follows c =
     let b = c.in-Some-rows_before.ensures (known_of c.args.context.now) refl in
     let tried : c.in_ok-tried.tried.items ≡ candidates_at (known_of c.args.context.now) c.args.site c.in-Some-rows_before.before.now = c.in_ok-tried.ensures.candidates in
-    filter-lacks (known_of c.args.context.now) (lines_of c.args.context.now) c.args.frame (see_query c.args.query.now) c.args.site c.args.index c.in-Some.current b.0 c.in-Some-rows_before.last.now c.args.cites.now c.in-Some-rows_before.before.now (sym c.in-Some.ensures) b.1 b.2
+    never-later c.args.index (FollowsFilter (known_of c.args.context.now) (lines_of c.args.context.now) c.args.frame c.args.site (see_query c.args.query.now) c.args.index (see_conds c.args.conditions.now) c.args.cites.now c.args.rows.now)
+    (filter-lacks (known_of c.args.context.now) (lines_of c.args.context.now) c.args.frame (see_query c.args.query.now) c.args.site c.args.index c.in-Some.current b.0 c.in-Some-rows_before.last.now c.args.cites.now c.in-Some-rows_before.before.now (sym c.in-Some.ensures) b.1 b.2
     (see_conds c.args.conditions.now) c.deref.result.now c.args.rows.now (c.deref.ensures.value ∙ tried)
-    (none-said (known_of c.args.context.now) (lines_of c.args.context.now) c.args.frame c.args.site (see_conds c.args.conditions.now) c.deref.result.now c.in-Some-rows_before.last.now c.in_ok-verdicts.field-0 c.in_default-2.is (c.in_ok-verdicts.ensures (known_of c.args.context.now)))
+    (none-said (known_of c.args.context.now) (lines_of c.args.context.now) c.args.frame c.args.site (see_conds c.args.conditions.now) c.deref.result.now c.in-Some-rows_before.last.now c.in_ok-verdicts.field-0 c.in_default-2.is (c.in_ok-verdicts.ensures (known_of c.args.context.now))))
 
 pub step-requires-clause-site : goal.step-requires-clause-site
 step-requires-clause-site c = site-within (file_in c.args.context.now) c.args.site _ c.args.context.now.store.now.file.now.sites c.requires.placed
@@ -94,8 +104,9 @@ returns-clause-follows c =
     let b = c.in-Some-rows_before.ensures (known_of c.args.context.now) refl in
     let tried : c.in_ok-tried.tried.items ≡ candidates_at (known_of c.args.context.now) c.args.site c.in-Some-rows_before.before.now = c.in_ok-tried.ensures.candidates in
     let due : c.in_ok-due.due.items ≡ rows_at_step (known_of c.args.context.now) c.args.site c.in-Some.current c.in-Some-rows_before.before.now [] c.deref-2.result.now = c.in_ok-due.ensures.rows in
-    filter-due (known_of c.args.context.now) (lines_of c.args.context.now) c.args.frame (see_query c.args.query.now) c.args.site c.args.index c.in-Some.current b.0 c.in-Some-rows_before.last.now c.args.cites.now c.in-Some-rows_before.before.now (sym c.in-Some.ensures) b.1 b.2
+    later-judged c.args.index c.same_rows.result (FollowsFilter (known_of c.args.context.now) (lines_of c.args.context.now) c.args.frame c.args.site (see_query c.args.query.now) c.args.index (see_conds c.args.conditions.now) c.args.cites.now c.args.rows.now) c.if-index-eq0.false
+    (filter-due (known_of c.args.context.now) (lines_of c.args.context.now) c.args.frame (see_query c.args.query.now) c.args.site c.args.index c.in-Some.current b.0 c.in-Some-rows_before.last.now c.args.cites.now c.in-Some-rows_before.before.now (sym c.in-Some.ensures) b.1 b.2
     (see_conds c.args.conditions.now) c.deref.result.now c.deref-2.result.now c.args.rows.now c.deref-3.result.now c.same_rows.result (c.deref.ensures.value ∙ tried)
     (subst (λ (verdicts : List Verdict). Said (known_of c.args.context.now) (lines_of c.args.context.now) c.args.frame c.args.site (see_conds c.args.conditions.now) c.deref.result.now c.in-Some-rows_before.last.now verdicts) (sym c.deref-2.ensures.value)
     (some-said (known_of c.args.context.now) (lines_of c.args.context.now) c.args.frame c.args.site (see_conds c.args.conditions.now) c.deref.result.now c.in-Some-rows_before.last.now c.in_ok-verdicts.field-0 c.in-Some-2.verdicts c.in-Some-2.is (c.in_ok-verdicts.ensures (known_of c.args.context.now))))
-    (c.deref-3.ensures.value ∙ due) c.same_rows.ensures
+    (c.deref-3.ensures.value ∙ due) c.same_rows.ensures)
