@@ -1,3 +1,4 @@
+use Rattle.std.proofs.lemmas.Grind.{common_steps}
 use Rattle.std.proofs.Common.{◌-◌, get_or, take, ap, sym, ◌∙◌, arith}
 use Rattle.literal_parser.specs.Lexemes.{back_trimmed}
 use Rattle.literal_parser.proofs.Texts.{back_white, back_solid, one_longer}
@@ -20,3 +21,6 @@ returns-else-is_white c =
     one_longer bytes len c.loop-len-test.true c.loop-len.invariant.1
     ∙ sym (ap back_trimmed (one_longer bytes len c.loop-len-test.true c.loop-len.invariant.1) ∙ back_solid (take (len - 1) bytes) (get_or bytes (len - 1) 0) (sym c.is_white.ensures ∙ c.if-is_white.false))
     ∙ c.loop-len.invariant.0
+
+pub loop-len-init : goal.loop-len-init
+loop-len-init c = grind (arith, common_steps)

@@ -1,3 +1,5 @@
+use Rattle.std.proofs.Common.{arith}
+use Rattle.std.proofs.lemmas.Grind.{common_steps}
 use Rattle.doc_values.specs.Tree.{Nil}
 use Rattle.doc_values.specs.declared.kind.Kind.TheVariants as kind
 use Rattle.literal_parser.specs.Literal.{holder}
@@ -15,3 +17,6 @@ returns-in-Ok-clause-reads c =
           c.in_ok-takes.ensures c.in_ok-limits.ensures c.note_range.ensures c.is_mixed.ensures c.from-from.ensures,
       put_limits c.args.builder.now c.scalar.new.self (kind.Limits c.in_ok-limits.limits) c.from-from.result x c.in-Ok.ensures.ok c.from-from.ensures,
     )
+
+pub returns-in-Ok-clause-level : goal.returns-in-Ok-clause-level
+returns-in-Ok-clause-level c = grind (arith, common_steps)

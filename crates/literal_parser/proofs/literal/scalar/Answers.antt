@@ -1,3 +1,5 @@
+use Rattle.std.proofs.Common.{arith}
+use Rattle.std.proofs.lemmas.Grind.{common_steps}
 use Rattle.doc_values.specs.Tree.{Nil}
 use Rattle.literal_parser.specs.Literal.{scalar}
 use Rattle.literal_parser.specs.code.Reads.{state_of, source}
@@ -12,3 +14,6 @@ returns-in-Ok-clause-reads c =
       put_scalar c.args.builder.now c.scalar.new.self c.kind_of-kind.result _ c.from.result x c.in-Ok.ensures.ok
           (kind_told x c.shape.result c.number.result c.kind_of-kind.result c.kind_of-kind.ensures c.shape.ensures c.number.ensures) c.in_ok-text.ensures c.from.ensures,
     )
+
+pub returns-in-Ok-clause-level : goal.returns-in-Ok-clause-level
+returns-in-Ok-clause-level c = grind (arith, common_steps)

@@ -1,4 +1,5 @@
-use Rattle.std.proofs.Common.{ap, ◌∙◌}
+use Rattle.std.proofs.lemmas.Grind.{common_steps}
+use Rattle.std.proofs.Common.{ap, ◌∙◌, arith}
 use Rattle.literal_parser.specs.Forms.{is_index, index_of}
 use Rattle.literal_parser.specs.code.TokenClasses.{shape_index}
 use Rattle.literal_parser.specs.code.Reads.{state_of, source}

@@ -1,4 +1,5 @@
-use Rattle.std.proofs.Common.{ℕ, List, ap, ◌∙◌}
+use Rattle.std.proofs.lemmas.Grind.{common_steps}
+use Rattle.std.proofs.Common.{ℕ, List, ap, ◌∙◌, arith}
 use Rattle.guard_syntax.specs.Named.{Named}
 use Rattle.literal_parser.specs.Forms.{named_of, text_of}
 use Rattle.literal_parser.specs.code.TokenClasses.{wants}

@@ -1,4 +1,5 @@
-use Rattle.std.proofs.Common.{ap, ◌∙◌}
+use Rattle.std.proofs.lemmas.Grind.{common_steps}
+use Rattle.std.proofs.Common.{ap, ◌∙◌, arith}
 use Rattle.literal_parser.specs.Forms.{operator_of}
 use Rattle.literal_parser.specs.code.TokenClasses.{wants, shape_operator}
 use Rattle.literal_parser.proofs.Takes.{operator_told}

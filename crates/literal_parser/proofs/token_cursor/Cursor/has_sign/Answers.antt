@@ -1,4 +1,5 @@
-use Rattle.std.proofs.Common.{ap, ◌∙◌}
+use Rattle.std.proofs.lemmas.Grind.{common_steps}
+use Rattle.std.proofs.Common.{ap, ◌∙◌, arith}
 use Rattle.literal_parser.specs.Forms.{sign_of}
 use Rattle.literal_parser.specs.code.TokenClasses.{wants, shape_sign}
 use Rattle.literal_parser.proofs.Takes.{sign_told}

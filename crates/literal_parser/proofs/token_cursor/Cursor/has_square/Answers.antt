@@ -1,3 +1,5 @@
+use Rattle.std.proofs.Common.{arith}
+use Rattle.std.proofs.lemmas.Grind.{common_steps}
 use Rattle.literal_parser.specs.Lexemes.{Lexeme}
 use Rattle.literal_parser.specs.Forms.{form, is_square}
 use Rattle.literal_parser.specs.code.TokenClasses.{wants}

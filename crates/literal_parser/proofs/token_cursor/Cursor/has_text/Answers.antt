@@ -1,3 +1,5 @@
+use Rattle.std.proofs.Common.{arith}
+use Rattle.std.proofs.lemmas.Grind.{common_steps}
 use Rattle.literal_parser.specs.Forms.{text_of}
 use Rattle.literal_parser.specs.code.TokenClasses.{wants}
 use Rattle.literal_parser.specs.code.Reads.{state_of, source}
