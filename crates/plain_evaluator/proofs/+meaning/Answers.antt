@@ -21,15 +21,16 @@ use Rattle.rule_names.specs.Uses.{function_named}
 use Rattle.rule_names.specs.declared.bind.Bind.TheVariants.{Value, Capture, Param}
 use Rattle.rule_names.proofs.Arguments.{named-none, named-some}
 use Rattle.rule_meaning.specs.Functions.{argument}
+use Rattle.rule_meaning.specs.Seeing.{see_answer}
 use Rattle.rule_meaning.specs.StoreModel.{is_known, is_known_ref}
 use Rattle.rule_meaning.specs.Roots.{literal_ref, root_ref}
 use Rattle.rule_meaning.specs.code.StoreEnvironments as scopes
-use Rattle.rule_meaning.specs.Environments.{Environment, Inner, Called, current_of}
+use Rattle.rule_meaning.specs.Environments.{Environment, Top, Inner, Called, current_of}
 use Rattle.rule_meaning.specs.FunctionMeaning.{IsAnswering}
-use Rattle.rule_meaning.specs.Meaning.{answered, rows_from, rows_at, rows_of_args, rows_of_expr, body_verdict, opt_conds_verdict, conds_verdict, rows_of_side}
+use Rattle.rule_meaning.specs.Meaning.{answered, rows_of, rows_from, rows_at, rows_of_args, rows_of_expr, body_verdict, opt_conds_verdict, conds_verdict, rows_of_side}
 use Rattle.rule_meaning.specs.StepMeaning.{on_found}
-use Rattle.rule_meaning.specs.NameMeaning.{unfolded, value_rows, captured_rows, parameter_rows}
-use Rattle.rule_meaning.specs.Locations.{Answers, answered_row, Found, Location, LocatedRow, World}
+use Rattle.rule_meaning.specs.NameMeaning.{unfolded, rule_by, value_rows, captured_rows, parameter_rows}
+use Rattle.rule_meaning.specs.Locations.{Answers, answered_row, Found, Location, root_location, LocatedRow, World}
 use Rattle.rule_meaning.specs.Verdicts.{is_found, block_verdict, conjunction, guarded_by}
 use Rattle.rule_meaning.specs.Keys.{passes}
 use Rattle.rule_meaning.specs.Kinds.{rows_of_type}
@@ -38,8 +39,10 @@ use Rattle.query_steps.proofs.SeenScopes.{current-seen, outwards-seen}
 use Rattle.query_steps.proofs.SeenVerdicts.{sets-seen, tests-seen}
 use Rattle.guard_builtins.specs.code.Seen.{see_made, see_rows}
 use Rattle.plain_evaluator.specs.code.Seen.{see_env}
+use Rattle.plain_evaluator.specs.declared.environment.Env as env
+use Rattle.plain_evaluator.specs.declared.trees.Trees.{Trees}
 use Rattle.plain_evaluator.specs.code.Sound.{IsSound}
-use Rattle.plain_evaluator.specs.code.States.{are_known, see, see_location_in, see_trees, seen_rows, locations}
+use Rattle.plain_evaluator.specs.code.States.{State, Answering, Grows, are_known, see, see_location_in, see_trees, seen_rows, locations}
 use Rattle.plain_evaluator.proofs.Conjoined.{mapped-more, conjunction-next, disjunction-next, mapped-through, passes-at}
 use Rattle.rule_names.proofs.FittingCalls.{arguments-counted}
 use Rattle.plain_evaluator.proofs.CalledRows.{many-args, literal-argument}
@@ -55,7 +58,7 @@ use Rattle.plain_evaluator.proofs.Scopes.{current-known, outwards-sound, called-
 use Rattle.query_steps.proofs.SoughtTexts.{pattern-held}
 use Rattle.plain_evaluator.proofs.Standing.{literal-found}
 use Rattle.plain_evaluator.proofs.GrowingVerdicts.{current-location, framed, passes-on, types-on}
-use Rattle.plain_evaluator.proofs.Judged.{of_disj, of_part, of_conds, of_row, one_of, disjs-end, parts-end, disj-judged, conds-judged, body-judged, opt_conds-judged, no-conds-judged, under, under-fail, under-skip, passed-under, skipped-under, block-judged, when-judged, within-judged, kinds-judged, set-judged, test-judged, sides-judged, refer-judged, call-judged, found-judged, missed-judged, at-judged, rule-judged}
+use Rattle.plain_evaluator.proofs.Judged.{of_disj, all_of, of_part, of_conds, of_row, one_of, disjs-end, parts-end, disj-judged, conds-judged, body-judged, opt_conds-judged, no-conds-judged, under, under-fail, under-skip, passed-under, skipped-under, block-judged, when-judged, within-judged, kinds-judged, set-judged, test-judged, sides-judged, refer-judged, call-judged, found-judged, missed-judged, at-judged, rule-judged}
 use Rattle.plain_evaluator.proofs.+meaning.Goals as goal
 
 -- what numbers say, apart from all else that is known where they stand
@@ -73,6 +76,16 @@ next-fits i len cap n within are room small = omega (arith, within, are, room, s
 
 some-turn : (turns : ℕ) → (turns ≡ 0 → ⊥) → 1 ≤ turns
 some-turn turns some = omega (arith, some)
+
+-- what something is said to be, said in another way
+further : {A : Type 0} (x y z : A) → y ≡ z → x ≡ y → x ≡ z
+further x y z on is = is ∙ on
+
+-- what a call in one more scope gives, said of that scope as it is seen
+in-frame : (t : Trees) (after : State) → Grows (see_trees t) after → (frame : scopes.Environment) (inner : Environment) (Holds : World → Environment → Type 0) → IsSound (see_trees t).known frame
+    → locations (see_trees t) frame ≡ inner → Answering after (λ w. Holds w (locations after frame)) → Answering (see_trees t) (λ w. Holds w inner)
+in-frame t after grows frame inner Holds sound seen all =
+    subst (λ (e : Environment). Answering (see_trees t) (λ w. Holds w e)) seen (meant-before t after grows frame sound Holds all)
 
 pub rows::rows_of_query-rows_of_first-requires : goal.rows::rows_of_query-rows_of_first-requires
 rows::rows_of_query-rows_of_first-requires t c =
@@ -372,10 +385,10 @@ rows::rows_of_call-returns-clause-grows t c =
 
 pub rows::rows_of_call-returns-clause-rows : goal.rows::rows_of_call-returns-clause-rows
 rows::rows_of_call-returns-clause-rows t c =
-    λ answers is. IfOk-weaker c.keep.result _ _ (λ rows e. e
-    ∙ ap (map (answered_row c.args.site)) (call-answered (see_trees c.rows_of_args.new.trees) answers (subst IsAnswering (sym (same-world (see_trees c.args.trees.now) (see_trees c.rows_of_args.new.trees) c.rows_of_args.ensures.grows answers)) is) c.in-Some.function c.args.site c.deref.result.now (map see_made c.in_ok-made.made.items) c.in_ok-made.ensures.rows
+    λ answers is. IfOk-weaker c.keep.result _ _ (λ rows e. further (map (see (see_trees c.keep.new.self)) rows.items) (map (answered_row c.args.site) (map (see_answer (see_trees c.rows_of_args.new.trees).known (see_trees c.rows_of_args.new.trees).calls) (map see_made c.in_ok-made.made.items))) _
+    (ap (map (answered_row c.args.site)) (call-answered (see_trees c.rows_of_args.new.trees) answers (subst IsAnswering (sym (same-world (see_trees c.args.trees.now) (see_trees c.rows_of_args.new.trees) c.rows_of_args.ensures.grows answers)) is) c.in-Some.function c.args.site c.deref.result.now (map see_made c.in_ok-made.made.items) c.in_ok-made.ensures.rows
     ∙ ap (answers c.in-Some.function c.args.site) (ap (map (seen_rows (see_trees c.rows_of_args.new.trees))) c.deref.ensures.value ∙ c.in_ok-rows.ensures.rows answers is))
-    ∙ sym (ap (λ (o : Option Function). answered (world_in c.args.trees.now answers) c.args.site o (rows_of_args (world_in c.args.trees.now answers) (named_in c.args.trees.now answers c.args.turns) (scopes_in c.args.trees.now c.args.env.now) (expr_list (map see_expr c.args.args.now)))) (ap function_named (sym c.as_str.ensures) ∙ named-some c.as_str.result.now c.in-Some.function c.in-Some.ensures))) c.keep.ensures.rows
+    ∙ sym (ap (λ (o : Option Function). answered (world_in c.args.trees.now answers) c.args.site o (rows_of_args (world_in c.args.trees.now answers) (named_in c.args.trees.now answers c.args.turns) (scopes_in c.args.trees.now c.args.env.now) (expr_list (map see_expr c.args.args.now)))) (ap function_named (sym c.as_str.ensures) ∙ named-some c.as_str.result.now c.in-Some.function c.in-Some.ensures))) e) c.keep.ensures.rows
 
 pub rows::rows_of_call-returns-clause-known : goal.rows::rows_of_call-returns-clause-known
 rows::rows_of_call-returns-clause-known t c =
@@ -518,7 +531,7 @@ verdicts::verdict_of_cond-returns-in-Some-clause-grows t c =
 
 pub verdicts::verdict_of_cond-returns-in-Some-clause-verdict : goal.verdicts::verdict_of_cond-returns-in-Some-clause-verdict
 verdicts::verdict_of_cond-returns-in-Some-clause-verdict t c =
-    λ answers is. IfOk-weaker c.verdict_of_conds.result _ _ (λ v e. e ∙ opt_conds-judged (world_in c.args.trees.now answers) (named_in c.args.trees.now answers c.args.turns) (scopes_in c.args.trees.now c.args.env.now) c.args.cond.now c.in-Some.conds c.in-Some.is) (c.verdict_of_conds.ensures.verdict answers is)
+    λ answers is. IfOk-weaker c.verdict_of_conds.result _ _ (λ v e. further v (conds_verdict (world_in c.args.trees.now answers) (named_in c.args.trees.now answers c.args.turns) (scopes_in c.args.trees.now c.args.env.now) (see_conds c.in-Some.conds)) _ (opt_conds-judged (world_in c.args.trees.now answers) (named_in c.args.trees.now answers c.args.turns) (scopes_in c.args.trees.now c.args.env.now) c.args.cond.now c.in-Some.conds c.in-Some.is) e) (c.verdict_of_conds.ensures.verdict answers is)
 
 pub verdicts::verdict_of_cond-returns-in-None-clause-grows : goal.verdicts::verdict_of_cond-returns-in-None-clause-grows
 verdicts::verdict_of_cond-returns-in-None-clause-grows t c =
@@ -538,7 +551,7 @@ verdicts::verdict_of_conds-returns-clause-grows t c =
 
 pub verdicts::verdict_of_conds-returns-clause-verdict : goal.verdicts::verdict_of_conds-returns-clause-verdict
 verdicts::verdict_of_conds-returns-clause-verdict t c =
-    λ answers is. IfOk-weaker c.verdict_of_disjs.result _ _ (λ v e. e ∙ conds-judged (world_in c.args.trees.now answers) (named_in c.args.trees.now answers c.args.turns) (scopes_in c.args.trees.now c.args.env.now) c.args.conds.now c.deref.result.now c.deref.ensures.value) (c.verdict_of_disjs.ensures.verdict answers is)
+    λ answers is. IfOk-weaker c.verdict_of_disjs.result _ _ (λ v e. further v (all_of (world_in c.args.trees.now answers) (named_in c.args.trees.now answers c.args.turns) (scopes_in c.args.trees.now c.args.env.now) c.deref.result.now) _ (conds-judged (world_in c.args.trees.now answers) (named_in c.args.trees.now answers c.args.turns) (scopes_in c.args.trees.now c.args.env.now) c.args.conds.now c.deref.result.now c.deref.ensures.value) e) (c.verdict_of_disjs.ensures.verdict answers is)
 
 pub verdicts::verdict_of_body-verdict_of_disjs-requires : goal.verdicts::verdict_of_body-verdict_of_disjs-requires
 verdicts::verdict_of_body-verdict_of_disjs-requires t c =
@@ -550,7 +563,7 @@ verdicts::verdict_of_body-returns-clause-grows t c =
 
 pub verdicts::verdict_of_body-returns-clause-verdict : goal.verdicts::verdict_of_body-returns-clause-verdict
 verdicts::verdict_of_body-returns-clause-verdict t c =
-    λ answers is. IfOk-weaker c.verdict_of_disjs.result _ _ (λ v e. e ∙ body-judged (world_in c.args.trees.now answers) (named_in c.args.trees.now answers c.args.turns) (scopes_in c.args.trees.now c.args.env.now) c.args.body.now c.deref.result.now c.deref.ensures.value) (c.verdict_of_disjs.ensures.verdict answers is)
+    λ answers is. IfOk-weaker c.verdict_of_disjs.result _ _ (λ v e. further v (all_of (world_in c.args.trees.now answers) (named_in c.args.trees.now answers c.args.turns) (scopes_in c.args.trees.now c.args.env.now) c.deref.result.now) _ (body-judged (world_in c.args.trees.now answers) (named_in c.args.trees.now answers c.args.turns) (scopes_in c.args.trees.now c.args.env.now) c.args.body.now c.deref.result.now c.deref.ensures.value) e) (c.verdict_of_disjs.ensures.verdict answers is)
 
 pub verdicts::verdicts_of_conds-verdict_of_conds-requires : goal.verdicts::verdicts_of_conds-verdict_of_conds-requires
 verdicts::verdicts_of_conds-verdict_of_conds-requires t c =
@@ -637,7 +650,7 @@ verdicts::verdict_under-returns-in-Pass-clause-grows t c =
 
 pub verdicts::verdict_under-returns-in-Pass-clause-verdict : goal.verdicts::verdict_under-returns-in-Pass-clause-verdict
 verdicts::verdict_under-returns-in-Pass-clause-verdict t c =
-    λ answers is. IfOk-weaker c.verdict_of_body.result _ _ (λ v e. e ∙ under c.args.conditions (body_verdict (world_in c.args.trees.now answers) (named_in c.args.trees.now answers c.args.turns) (scopes_in c.args.trees.now c.args.env.now) (see_body c.args.body.now)) c.in-Pass.is) (c.verdict_of_body.ensures.verdict answers is)
+    λ answers is. IfOk-weaker c.verdict_of_body.result _ _ (λ v e. further v (body_verdict (world_in c.args.trees.now answers) (named_in c.args.trees.now answers c.args.turns) (scopes_in c.args.trees.now c.args.env.now) (see_body c.args.body.now)) _ (under c.args.conditions (body_verdict (world_in c.args.trees.now answers) (named_in c.args.trees.now answers c.args.turns) (scopes_in c.args.trees.now c.args.env.now) (see_body c.args.body.now)) c.in-Pass.is) e) (c.verdict_of_body.ensures.verdict answers is)
 
 pub verdicts::verdict_under-returns-in-Fail-clause-grows : goal.verdicts::verdict_under-returns-in-Fail-clause-grows
 verdicts::verdict_under-returns-in-Fail-clause-grows t c =
@@ -707,9 +720,11 @@ verdicts::verdict_of_when-returns-clause-grows t c =
 
 pub verdicts::verdict_of_when-returns-clause-verdict : goal.verdicts::verdict_of_when-returns-clause-verdict
 verdicts::verdict_of_when-returns-clause-verdict t c =
-    λ answers is. IfOk-weaker c.verdict_under.result _ _ (λ v e. within-judged (world_in c.args.trees.now answers) (named_in c.args.trees.now answers c.args.turns) (scopes_in c.args.trees.now c.args.env.now) _ c.args.cond.now c.args.body.now c.in_ok-conditions.conditions v
-    (framed (see_trees c.args.trees.now) c.current.result _ ∙ ap (λ r. Inner r (scopes_in c.args.trees.now c.args.env.now)) (ap (see_location_in (see_trees c.args.trees.now)) c.current.ensures ∙ current-location (see_trees c.args.trees.now) (see_env c.args.env.now))) (c.in_ok-conditions.ensures.verdict answers is) e)
-    (meant-before c.args.trees.now (see_trees c.verdict_of_conds.new.trees) c.in_ok-conditions.ensures.grows _ (inner-sound (see_trees c.args.trees.now).known c.current.result _ (ap (is_known_ref (see_trees c.args.trees.now).known) c.current.ensures ∙ current-known (see_trees c.args.trees.now).known (see_env c.args.env.now) c.requires.sound) c.requires.sound) (λ w e. IfOk c.verdict_under.result (λ v. v ≡ guarded_by c.in_ok-conditions.conditions (body_verdict w (unfolded w c.args.turns) e (see_body c.args.body.now)))) c.verdict_under.ensures.verdict answers is)
+    λ answers is. IfOk-weaker c.verdict_under.result _ _ (λ v e. within-judged (world_in c.args.trees.now answers) (named_in c.args.trees.now answers c.args.turns) (scopes_in c.args.trees.now c.args.env.now) (Inner (current_of (scopes_in c.args.trees.now c.args.env.now)) (scopes_in c.args.trees.now c.args.env.now)) c.args.cond.now c.args.body.now c.in_ok-conditions.conditions v refl (c.in_ok-conditions.ensures.verdict answers is) e)
+    (in-frame c.args.trees.now (see_trees c.verdict_of_conds.new.trees) c.in_ok-conditions.ensures.grows _ (Inner (current_of (scopes_in c.args.trees.now c.args.env.now)) (scopes_in c.args.trees.now c.args.env.now)) (λ w e. IfOk c.verdict_under.result (λ v. v ≡ guarded_by c.in_ok-conditions.conditions (body_verdict w (unfolded w c.args.turns) e (see_body c.args.body.now))))
+    (inner-sound (see_trees c.args.trees.now).known c.current.result _ (ap (is_known_ref (see_trees c.args.trees.now).known) c.current.ensures ∙ current-known (see_trees c.args.trees.now).known (see_env c.args.env.now) c.requires.sound) c.requires.sound)
+    (framed (see_trees c.args.trees.now) c.current.result _ ∙ ap (λ r. Inner r (scopes_in c.args.trees.now c.args.env.now)) (ap (see_location_in (see_trees c.args.trees.now)) c.current.ensures ∙ current-location (see_trees c.args.trees.now) (see_env c.args.env.now)))
+    c.verdict_under.ensures.verdict answers is)
 
 pub verdicts::verdict_of_sides-rows_of_query-requires : goal.verdicts::verdict_of_sides-rows_of_query-requires
 verdicts::verdict_of_sides-rows_of_query-requires t c =
@@ -850,8 +865,11 @@ verdicts::verdict_of_judged-returns-clause-grows t c =
 
 pub verdicts::verdict_of_judged-returns-clause-verdict : goal.verdicts::verdict_of_judged-returns-clause-verdict
 verdicts::verdict_of_judged-returns-clause-verdict t c =
-    λ answers is. IfOk-weaker c.verdict_under.result _ _ (λ v e. rule-judged (world_in c.args.trees.now answers) (named_in c.args.trees.now answers c.args.turns) c.args.rule.now _ _ c.in_ok-conditions.conditions v (ap (locations (see_trees c.args.trees.now)) top-seen) (framed (see_trees c.args.trees.now) c.root.result _ ∙ ap₂ Inner (ap (see_location_in (see_trees c.args.trees.now)) c.root.ensures) (ap (locations (see_trees c.args.trees.now)) top-seen)) (c.in_ok-conditions.ensures.verdict answers is) e)
-    (meant-before c.args.trees.now (see_trees c.verdict_of_cond.new.trees) c.in_ok-conditions.ensures.grows _ (inner-sound (see_trees c.args.trees.now).known c.root.result _ (ap (is_known_ref (see_trees c.args.trees.now).known) c.root.ensures ∙ (known-root (see_trees c.args.trees.now).known root_ref refl (IsTree-root (see_trees c.args.trees.now).known.template c.len-nodes.ensures.tree))) (top-sound (see_trees c.args.trees.now).known (known-root (see_trees c.args.trees.now).known root_ref refl (IsTree-root (see_trees c.args.trees.now).known.template c.len-nodes.ensures.tree)))) (λ w e. IfOk c.verdict_under.result (λ v. v ≡ guarded_by c.in_ok-conditions.conditions (body_verdict w (unfolded w c.args.turns) e (see_body c.args.rule.now.body)))) c.verdict_under.ensures.verdict answers is)
+    λ answers is. IfOk-weaker c.verdict_under.result _ _ (λ v e. rule-judged (world_in c.args.trees.now answers) (named_in c.args.trees.now answers c.args.turns) c.args.rule.now _ (Inner root_location Top) c.in_ok-conditions.conditions v (ap (locations (see_trees c.args.trees.now)) top-seen) refl (c.in_ok-conditions.ensures.verdict answers is) e)
+    (in-frame c.args.trees.now (see_trees c.verdict_of_cond.new.trees) c.in_ok-conditions.ensures.grows _ (Inner root_location Top) (λ w e. IfOk c.verdict_under.result (λ v. v ≡ guarded_by c.in_ok-conditions.conditions (body_verdict w (unfolded w c.args.turns) e (see_body c.args.rule.now.body))))
+    (inner-sound (see_trees c.args.trees.now).known c.root.result _ (ap (is_known_ref (see_trees c.args.trees.now).known) c.root.ensures ∙ (known-root (see_trees c.args.trees.now).known root_ref refl (IsTree-root (see_trees c.args.trees.now).known.template c.len-nodes.ensures.tree))) (top-sound (see_trees c.args.trees.now).known (known-root (see_trees c.args.trees.now).known root_ref refl (IsTree-root (see_trees c.args.trees.now).known.template c.len-nodes.ensures.tree))))
+    (framed (see_trees c.args.trees.now) c.root.result _ ∙ ap₂ Inner (ap (see_location_in (see_trees c.args.trees.now)) c.root.ensures) (ap (locations (see_trees c.args.trees.now)) top-seen))
+    c.verdict_under.ensures.verdict answers is)
 
 pub names::rows_of_variable-overflow_sub-turns : goal.names::rows_of_variable-overflow_sub-turns
 names::rows_of_variable-overflow_sub-turns t c =
@@ -954,7 +972,7 @@ names::rows_of_value-returns-in-Expr-clause-grows t c =
 
 pub names::rows_of_value-returns-in-Expr-clause-rows : goal.names::rows_of_value-returns-in-Expr-clause-rows
 names::rows_of_value-returns-in-Expr-clause-rows t c =
-    λ answers is. IfOk-weaker c.rows_of_expr.result _ _ (λ rows e. e ∙ expr-value (world_in c.args.trees.now answers) (named_in c.args.trees.now answers c.args.turns) (scopes_in c.args.trees.now c.args.env.now) c.in-Some.piece c.in-Expr.expr _ c.in-Some.ensures c.in-Expr.is) (c.rows_of_expr.ensures.rows answers is)
+    λ answers is. IfOk-weaker c.rows_of_expr.result _ _ (λ rows e. further (map (see (see_trees c.rows_of_expr.new.trees)) rows.items) (rows_of_expr (world_in c.args.trees.now answers) (named_in c.args.trees.now answers c.args.turns) (scopes_in c.args.trees.now c.args.env.now) (see_expr c.in-Expr.expr.now)) _ (expr-value (world_in c.args.trees.now answers) (named_in c.args.trees.now answers c.args.turns) (scopes_in c.args.trees.now c.args.env.now) c.in-Some.piece c.in-Expr.expr (piece_at (see_trees c.args.trees.now).known.file c.args.site) c.in-Some.ensures c.in-Expr.is) e) (c.rows_of_expr.ensures.rows answers is)
 
 pub names::rows_of_value-returns-in-Expr-clause-known : goal.names::rows_of_value-returns-in-Expr-clause-known
 names::rows_of_value-returns-in-Expr-clause-known t c =
@@ -966,7 +984,7 @@ names::rows_of_value-returns-in-Query-clause-grows t c =
 
 pub names::rows_of_value-returns-in-Query-clause-rows : goal.names::rows_of_value-returns-in-Query-clause-rows
 names::rows_of_value-returns-in-Query-clause-rows t c =
-    λ answers is. IfOk-weaker c.rows_of_query.result _ _ (λ rows e. e ∙ query-value (world_in c.args.trees.now answers) (named_in c.args.trees.now answers c.args.turns) (scopes_in c.args.trees.now c.args.env.now) c.in-Some.piece c.in-Query.query _ c.in-Some.ensures c.in-Query.is) (c.rows_of_query.ensures.rows answers is)
+    λ answers is. IfOk-weaker c.rows_of_query.result _ _ (λ rows e. further (map (see (see_trees c.rows_of_query.new.trees)) rows.items) (rows_of (world_in c.args.trees.now answers) (named_in c.args.trees.now answers c.args.turns) (scopes_in c.args.trees.now c.args.env.now) (see_query c.in-Query.query.now)) _ (query-value (world_in c.args.trees.now answers) (named_in c.args.trees.now answers c.args.turns) (scopes_in c.args.trees.now c.args.env.now) c.in-Some.piece c.in-Query.query (piece_at (see_trees c.args.trees.now).known.file c.args.site) c.in-Some.ensures c.in-Query.is) e) (c.rows_of_query.ensures.rows answers is)
 
 pub names::rows_of_value-returns-in-Query-clause-known : goal.names::rows_of_value-returns-in-Query-clause-known
 names::rows_of_value-returns-in-Query-clause-known t c =
@@ -1049,7 +1067,7 @@ names::rows_of_argument-returns-in-Some-clause-grows t c =
 
 pub names::rows_of_argument-returns-in-Some-clause-rows : goal.names::rows_of_argument-returns-in-Some-clause-rows
 names::rows_of_argument-returns-in-Some-clause-rows t c =
-    λ answers is. IfOk-weaker c.rows_of_expr.result _ _ (λ rows e. e ∙ argument-rows-at (world_in c.args.trees.now answers) (named_in c.args.trees.now answers c.args.turns) (see_trees c.args.trees.now) c.args.env c.in-Called.current c.in-Called.args c.in-Called.caller c.args.index c.in-Some.expr.now c.in-Called.is c.in-Some.ensures) (c.rows_of_expr.ensures.rows answers is)
+    λ answers is. IfOk-weaker c.rows_of_expr.result _ _ (λ rows e. further (map (see (see_trees c.rows_of_expr.new.trees)) rows.items) (rows_of_expr (world_in c.args.trees.now answers) (named_in c.args.trees.now answers c.args.turns) (scopes_in c.args.trees.now c.in-Called.caller.now) (see_expr c.in-Some.expr.now)) _ (argument-rows-at (world_in c.args.trees.now answers) (named_in c.args.trees.now answers c.args.turns) (see_trees c.args.trees.now) c.args.env c.in-Called.current c.in-Called.args c.in-Called.caller c.args.index c.in-Some.expr.now c.in-Called.is c.in-Some.ensures) e) (c.rows_of_expr.ensures.rows answers is)
 
 pub names::rows_of_argument-returns-in-Some-clause-known : goal.names::rows_of_argument-returns-in-Some-clause-known
 names::rows_of_argument-returns-in-Some-clause-known t c =
@@ -1113,7 +1131,7 @@ names::verdict_of_reference-returns-in-Some-clause-grows t c =
 
 pub names::verdict_of_reference-returns-in-Some-clause-verdict : goal.names::verdict_of_reference-returns-in-Some-clause-verdict
 names::verdict_of_reference-returns-in-Some-clause-verdict t c =
-    λ answers is. IfOk-weaker c.verdict_of_judged.result _ _ (λ v e. e ∙ refers-to (world_in c.args.trees.now answers) c.args.turns c.args.site (see_rule c.in-Some.rule.now) c.if-turns-eq0.false (sym c.named_rule.ensures ∙ ap rule_found c.in-Some.is)) (c.verdict_of_judged.ensures.verdict answers is)
+    λ answers is. IfOk-weaker c.verdict_of_judged.result _ _ (λ v e. further v (rule_by (world_in c.args.trees.now answers) (named_in c.args.trees.now answers (c.args.turns - 1)) (see_rule c.in-Some.rule.now)) _ (refers-to (world_in c.args.trees.now answers) c.args.turns c.args.site (see_rule c.in-Some.rule.now) c.if-turns-eq0.false (sym c.named_rule.ensures ∙ ap rule_found c.in-Some.is)) e) (c.verdict_of_judged.ensures.verdict answers is)
 
 pub names::verdict_of_reference-returns-in-None-clause-grows : goal.names::verdict_of_reference-returns-in-None-clause-grows
 names::verdict_of_reference-returns-in-None-clause-grows t c =
@@ -1146,10 +1164,10 @@ names::verdict_of_called-returns-in-Some-clause-grows t c =
 
 pub names::verdict_of_called-returns-in-Some-clause-verdict : goal.names::verdict_of_called-returns-in-Some-clause-verdict
 names::verdict_of_called-returns-in-Some-clause-verdict t c =
-    λ answers is. IfOk-weaker c.verdict_of_body.result _ _ (λ v e. e
-    ∙ ap (λ (i : scopes.Environment). body_verdict (world_in c.args.trees.now answers) (named_in c.args.trees.now answers (c.args.turns - 1)) (locations (see_trees c.args.trees.now) i) (see_body c.in-Some.rule.now.body)) (called-seen _ _ _ ∙ ap (λ (r : Ref). scopes.Called r (expr_list (map see_expr c.args.args.now)) (see_env c.args.env.now)) c.current.ensures)
+    λ answers is. IfOk-weaker c.verdict_of_body.result _ _ (λ v e. further v (body_verdict (world_in c.args.trees.now answers) (named_in c.args.trees.now answers (c.args.turns - 1)) (scopes_in c.args.trees.now (env.Called c.current.result c.args.args c.args.env)) (see_body c.in-Some.rule.now.body)) _
+    (ap (λ (i : scopes.Environment). body_verdict (world_in c.args.trees.now answers) (named_in c.args.trees.now answers (c.args.turns - 1)) (locations (see_trees c.args.trees.now) i) (see_body c.in-Some.rule.now.body)) (called-seen c.current.result c.args.args c.args.env ∙ ap (λ (r : Ref). scopes.Called r (expr_list (map see_expr c.args.args.now)) (see_env c.args.env.now)) c.current.ensures)
     ∙ ap (λ (v : Location). body_verdict (world_in c.args.trees.now answers) (named_in c.args.trees.now answers (c.args.turns - 1)) (Called v (expr_list (map see_expr c.args.args.now)) (scopes_in c.args.trees.now c.args.env.now)) (see_body c.in-Some.rule.now.body)) (sym (current-seen (see_trees c.args.trees.now).known (see_trees c.args.trees.now).calls (see_env c.args.env.now)))
-    ∙ calls (world_in c.args.trees.now answers) c.args.turns c.args.site (scopes_in c.args.trees.now c.args.env.now) (expr_list (map see_expr c.args.args.now)) (see_rule c.in-Some.rule.now) c.if-turns-eq0.false (sym c.named_rule.ensures ∙ ap rule_found c.in-Some.is)) (c.verdict_of_body.ensures.verdict answers is)
+    ∙ calls (world_in c.args.trees.now answers) c.args.turns c.args.site (scopes_in c.args.trees.now c.args.env.now) (expr_list (map see_expr c.args.args.now)) (see_rule c.in-Some.rule.now) c.if-turns-eq0.false (sym c.named_rule.ensures ∙ ap rule_found c.in-Some.is)) e) (c.verdict_of_body.ensures.verdict answers is)
 
 pub names::verdict_of_called-returns-in-None-clause-grows : goal.names::verdict_of_called-returns-in-None-clause-grows
 names::verdict_of_called-returns-in-None-clause-grows t c =
