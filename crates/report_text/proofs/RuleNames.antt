@@ -1,13 +1,14 @@
 -- The names that are reported, and their lines, rule by rule.
-use Rattle.std.proofs.Common.{◌≡◌, ◌+◌, ◌<◌, ◌≤◌, ℕ, List, [], ◌∷◌, ◌++◌, length, map, take, drop, get_or, codes, refl, sym, ap, ◌∙◌, arith, append_assoc, append-nil, length-append}
+use Rattle.std.proofs.Common.{◌≡◌, ◌+◌, ◌-◌, ◌<◌, ◌≤◌, ℕ, List, [], ◌∷◌, ◌++◌, length, map, take, drop, get_or, codes, refl, sym, ap, ap₂, ◌∙◌, arith, append_assoc, append-nil, length-append, length-drop}
 use Rattle.std.specs.List.{flat_map}
-use Rattle.std.proofs.lemmas.List.{take_more, map-append, flat_map_more, take-append-drop}
+use Rattle.std.proofs.lemmas.List.{take_all, take_more, map-append, flat_map_more, take-append-drop}
 use Rattle.std.proofs.lemmas.Grind.{flat_map-append}
-use Rattle.guard_syntax.specs.code.Seen.{disj_list, see_disj, see_rule}
+use Rattle.guard_syntax.specs.code.Seen.{disj_list, see_disj, see_file, see_rule}
 use Rattle.guard_syntax.specs.declared.row.Verdict.{Verdict}
 use Rattle.guard_syntax.specs.declared.syntax.Disj.{Disj}
+use Rattle.guard_syntax.specs.declared.syntax.RawFile.{RawFile}
 use Rattle.guard_syntax.specs.declared.syntax.Rule.{Rule}
-use Rattle.report_text.specs.RuleLines.{name_of_loose, name_of_rule, rule_line, rule_lines}
+use Rattle.report_text.specs.RuleLines.{name_of_loose, name_of_rule, reported_names, rule_line, rule_lines}
 
 -- the names of rules as the code has them
 abbrev pub names : List Rule → List (List ℕ)
@@ -33,6 +34,21 @@ names-fit rs i r within is =
     let all : length (names rs) ≡ length (names (take (i + 1) rs)) + length (names (drop (i + 1) rs)) =
     ap (λ (t : List (List ℕ)). length t) whole ∙ length-append (names (take (i + 1) rs)) (names (drop (i + 1) rs)) in
     omega arith
+
+-- behind all rules as many verdicts are left as the parts outside have names
+pub loose-fit : (rs : List Rule) (i : ℕ) (loose : List (List ℕ)) (vs left : List Verdict) → length rs ≤ i → left ≡ drop (length (names (take i rs))) vs
+    → length vs ≡ length (names rs ++ loose) → length loose ≤ length left
+loose-fit rs i loose vs left past is all =
+    let whole : length (names (take i rs)) ≡ length (names rs) = ap (λ (t : List Rule). length (names t)) (take_all i rs past) in
+    let rest : length left ≡ length vs - length (names (take i rs)) = ap (λ (t : List Verdict). length t) is ∙ length-drop (length (names (take i rs))) vs in
+    let both : length (names rs ++ loose) ≡ length (names rs) + length loose = length-append (names rs) loose in
+    omega arith
+
+-- the names of a file as the code holds it
+pub names-seen : (raw held : RawFile) (rs : List Rule) (ds : List Disj) → raw ≡ held → rs ≡ raw.rules.items → ds ≡ raw.loose.items
+    → names rs ++ name_of_loose (disj_list (map see_disj ds)) ≡ reported_names (see_file held)
+names-seen raw held rs ds is rules loose =
+    ap₂ (λ (r : List Rule) (d : List Disj). names r ++ name_of_loose (disj_list (map see_disj d))) rules loose ∙ ap (λ (r : RawFile). reported_names (see_file r)) is
 
 -- where parts stand outside rules, `default` is reported
 pub loose-named : (ds : List Disj) → (length ds ≡ 0 → ⊥) → name_of_loose (disj_list (map see_disj ds)) ≡ codes "default" ∷ []

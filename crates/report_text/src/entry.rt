@@ -2,7 +2,7 @@
 use guard_syntax::Ref;
 
 /// The word under which something is shown.
-#[derive(Clone, Copy, Debug, PartialEq, Eq)]
+#[derive(Clone, Copy)]
 pub enum Word {
     /// A value that did not pass a test.
     Value,
@@ -17,7 +17,7 @@ pub enum Word {
 }
 
 /// What is shown of a template, of the rules or of what calls made.
-#[derive(Clone, Copy, Debug, PartialEq, Eq)]
+#[derive(Clone, Copy)]
 pub enum Shown {
     /// A value of the template or of a literal, or a key there.
     Value(Ref),
@@ -28,7 +28,7 @@ pub enum Shown {
 }
 
 /// One thing by which a part of a rule file fails, by the part's site.
-#[derive(Clone, Copy, Debug, PartialEq, Eq)]
+#[derive(Clone, Copy)]
 pub struct Entry {
     pub shown: Shown,
     pub word: Word,

@@ -8,7 +8,7 @@ use byte_lanes::line_starts;
 use std::alloc::{AllocError, Global};
 
 /// A text of at most 8 MiB, and where its lines begin: so a place in it is found by halves, and not by a scan.
-#[derive(Debug, Drop)]
+#[derive(Drop)]
 pub struct Lined<'t> {
     pub text: &'t str,
     starts: Vec<u32>,

@@ -3,7 +3,7 @@ use Rattle.std.proofs.lemmas.List.{take_all}
 use Rattle.guard_syntax.specs.code.Seen.{disj_list, see_disj, see_rule}
 use Rattle.guard_syntax.specs.declared.syntax.Rule.{Rule}
 use Rattle.report_text.specs.RuleLines.{name_of_loose, name_of_rule, rule_lines}
-use Rattle.report_text.proofs.RuleNames.{names, names-more, names-fit, rule_lines-append, verdicts-behind}
+use Rattle.report_text.proofs.RuleNames.{names, names-more, names-fit, loose-fit, rule_lines-append, verdicts-behind}
 use Rattle.report_text.proofs.rules.lines_of.Goals as goal
 
 pub push_rule-requires : goal.push_rule-requires
@@ -46,3 +46,7 @@ returns c =
     ∙ ap (λ vs. rule_lines (names (take i rules)) c.args.verdicts.now ++ rule_lines loose vs) c.loop-rule.invariant.left
     ∙ sym (rule_lines-append (names (take i rules)) loose c.args.verdicts.now)
     ∙ ap (λ ns. rule_lines (ns ++ loose) c.args.verdicts.now) all
+
+pub push_loose-requires : goal.push_loose-requires
+push_loose-requires c =
+    loose-fit c.args.rules.now c.loop-rule.rule-index (name_of_loose (disj_list (map see_disj c.args.loose.now))) c.args.verdicts.now c.loop-rule.left.now c.loop-rule-test.false c.loop-rule.invariant.left c.requires
