@@ -1,5 +1,5 @@
 -- Verdicts in a row, one more.
-use Rattle.std.proofs.Common.{◌≡◌, ℕ, ◌+◌, ◌<◌, ◌++◌, ◌||◌, ◌&&◌, List, [], ◌∷◌, length, map, take, get_or, Bool, true, false, zero, suc, arith, ap₂, refl, sym, ap, ◌∙◌, if◌then◌else◌}
+use Rattle.std.proofs.Common.{◌≡◌, ℕ, ◌+◌, ◌<◌, ◌++◌, ◌||◌, ◌&&◌, List, [], ◌∷◌, length, map, take, drop, drop-cons, add-one, get_or, Bool, true, false, zero, suc, arith, ap₂, refl, sym, ap, ◌∙◌, if◌then◌else◌}
 use Rattle.std.proofs.lemmas.List.{take_more, map_more, map-append}
 use Rattle.std.proofs.lemmas.List.Folds.{list_any-append}
 use Rattle.std.proofs.lemmas.Simd.{map-map}
@@ -78,3 +78,27 @@ pub passes-at : {A : Type 0} (p : A → Bool) (xs : List A) (i : ℕ) (d : A) �
 passes-at p [] i d within all = absurd (omega arith)
 passes-at p (x ∷ xs) zero d within all = (both-true (p x) (list_all p xs) all).0
 passes-at p (x ∷ xs) (suc i) d within all = passes-at p xs i d (omega arith) (both-true (p x) (list_all p xs) all).1
+
+-- Whether all of a list pass, or one of it does, by those from a place on: one further.
+module _ {A : Type 0} (p : A → Bool) (xs : List A) (i : ℕ) (d : A) (whole one : Bool) (within : i < length xs) (judged : one ≡ p (get_or xs i d)) where
+  all-from : list_all p (drop i xs) ≡ (one && list_all p (drop (i + 1) xs))
+  all-from =
+      ap (list_all p) (drop-cons xs i d within) ∙ ap (λ q. q && list_all p (drop (suc i) xs)) (sym judged)
+      ∙ ap (λ n. one && list_all p (drop n xs)) (sym (add-one i))
+
+  any-from : list_any p (drop i xs) ≡ (one || list_any p (drop (i + 1) xs))
+  any-from =
+      ap (list_any p) (drop-cons xs i d within) ∙ ap (λ q. q || list_any p (drop (suc i) xs)) (sym judged)
+      ∙ ap (λ n. one || list_any p (drop n xs)) (sym (add-one i))
+
+  pub all-further : one ≡ true → whole ≡ list_all p (drop i xs) → whole ≡ list_all p (drop (i + 1) xs)
+  all-further holds is = is ∙ all-from ∙ ap (λ q. q && list_all p (drop (i + 1) xs)) holds
+
+  pub all-but-one : one ≡ false → whole ≡ list_all p (drop i xs) → false ≡ whole
+  all-but-one fails is = sym (is ∙ all-from ∙ ap (λ q. q && list_all p (drop (i + 1) xs)) fails)
+
+  pub any-further : one ≡ false → whole ≡ list_any p (drop i xs) → whole ≡ list_any p (drop (i + 1) xs)
+  any-further fails is = is ∙ any-from ∙ ap (λ q. q || list_any p (drop (i + 1) xs)) fails
+
+  pub any-found : one ≡ true → whole ≡ list_any p (drop i xs) → true ≡ whole
+  any-found holds is = sym (is ∙ any-from ∙ ap (λ q. q || list_any p (drop (i + 1) xs)) holds)
