@@ -1,3 +1,10 @@
+mod DrillEnd
+mod DrillNames
+mod DrillRules
+mod DrillSyntax
+mod DrillTemplate
+mod DrillTokens
+mod FoundTokens
 mod MeantVerdicts
 mod OneCheck
 mod OneEnd
@@ -9,3 +16,4 @@ mod OneSyntax
 mod OneTemplate
 mod OneText
 mod OneVerdict
+mod RankedGraphs

@@ -87,6 +87,12 @@ pub accepted-ends : (rules : File) (template : Forest) (evidence : Versioned) (e
 accepted-ends rules template evidence e accepts (inl (verdicts, accepted, are, is)) = ap (λ (x : Ended). x.how) is
 accepted-ends rules template evidence e accepts (inr (n, rejected, is)) = absurd (rejected-apart evidence.version template rules evidence.lines n accepts rejected)
 
+-- and none but such are accepted
+pub accepted-only : (rules : File) (template : Forest) (evidence : Versioned) (e : Ended)
+    → IsChecked rules template evidence e → e.how ≡ end_is.Accepted → Accepts evidence.version template rules evidence.lines
+accepted-only rules template evidence e (inl (verdicts, accepted, are, is)) how = accepted
+accepted-only rules template evidence e (inr (n, rejected, is)) how = let other : e.how ≡ end_is.Rejected n = ap (λ (x : Ended). x.how) is in absurd cc
+
 -- ---- bytes have lines or a refusal
 
 -- what the laws of the reader of evidence say of bytes

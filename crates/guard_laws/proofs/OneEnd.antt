@@ -108,3 +108,12 @@ module _ (law : OneSyntax) (count : ℕ) (one : OneTemplate (template_text count
       (λ rules. inputs-one Json drill_rules rules (template_text count) one Judges
       (λ inputs. ending-one (IsJudged (drill_report count) inputs) (judged-one (drill_report count) inputs))) e other
       (ending-is Reads_drill e came) (ending-is Reads_drill other came')
+
+  -- and where its rules, its template and the patterns are read, its end is that of the template judged
+  pub drill-goes : (read : File) (tree : Forest) → IsRuleFile drill_rules read → IsTemplate Json (template_text count) tree → AreRead read
+      → (e : Ended) → OfDrill count (Ends e)
+      → IsJudged (drill_report count) (record { source = drill_rules; rules = read; template = template_text count; tree = tree }) e
+  drill-goes read tree whole whole' all e came =
+      ending-is (IsJudged (drill_report count) (record { source = drill_rules; rules = read; template = template_text count; tree = tree })) e
+      (inputs-go Json drill_rules read (template_text count) one Judges tree whole' all e
+      (rules-go law drill_rules Over read whole e (ending-is Reads_drill e came)))

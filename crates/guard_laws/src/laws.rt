@@ -1,6 +1,7 @@
 //! The laws. The bodies cite other laws and do nothing else; a law is kept by a contract.
-ghost use Rattle.std.specs.Prelude.{◌≡◌, ℕ, List, Some, false};
-ghost use Rattle.doc_values.specs.Tree.{Forest};
+ghost use Rattle.std.specs.Prelude.{◌≡◌, ◌≤◌, ◌⊎◌, ℕ, List, Some, false};
+ghost use Rattle.doc_values.specs.Tree.{Forest, Label, Nil, Node};
+ghost use Rattle.doc_values.specs.declared.kind.Kind.TheVariants as kind;
 ghost use Rattle.evidence_lines.specs.Versioned.{Versioned};
 ghost use Rattle.evidence_rules.specs.Follows.{Accepts};
 ghost use Rattle.guard_drill.specs.DrillTexts.{template_text};
@@ -9,10 +10,10 @@ ghost use Rattle.guard_words.specs.Request.{AsksFor, check, drill, validate};
 ghost use Rattle.rule_meaning.specs.FunctionMeaning.{IsAnswering};
 ghost use Rattle.rule_meaning.specs.Locations.{Answers};
 ghost use Rattle.guard_ends.specs.Check.{accepted_text};
-ghost use Rattle.guard_ends.specs.Drill.{drill_rules};
+ghost use Rattle.guard_ends.specs.Drill.{drill_report, drill_rules};
 ghost use Rattle.guard_ends.specs.End.{AreSame};
 ghost use Rattle.guard_ends.specs.Inputs.{IsProof, IsRuleFile, IsTemplate, RefusesTemplate, format_of};
-ghost use Rattle.guard_ends.specs.Order.{AreRead, Contents, EndOf, Ended, IsChecked, IsJudged};
+ghost use Rattle.guard_ends.specs.Order.{AreRead, ComesTo, Contents, EndOf, Ended, Ends, IsChecked, IsJudged, Point};
 ghost use Rattle.guard_ends.specs.Report.{report};
 ghost use Rattle.guard_ends.specs.Reported.{verdicts_of, world_over};
 ghost use Rattle.guard_ends.specs.declared.ends.End.TheVariants as end_is;
@@ -23,6 +24,7 @@ use evidence_lines::one_text;
 use evidence_truth::lines_true;
 use guard_parser::{one_syntax, sites_in_order};
 use json_reader::{one_refusal, one_tree, refused_apart};
+use query_steps::one_answer_over_locations;
 use std::str;
 
 /// The law that a call has one end: where the words ask for files whose contents are told, two ends that the definition gives
@@ -41,14 +43,37 @@ pub fn only_end(rules: &[u8], template: &[u8], evidence: &[u8])
     one_text();
 }
 
-/// The law that a drill has one end in the same sense, whatever the files hold: by the text of its template.
-pub fn only_drill(template: &[u8])
-    ensures { (words : List (List ℕ)) (told : Contents) (count : ℕ) (e other : Ended)
-        → AsksFor words (drill count) → template.now ≡ template_text count
-        → EndOf words told e → EndOf words told other → AreSame drill_rules e other }
+/// The law that the texts of a drill are read: its rules are a rule file, and its template is JSON, a map, for each count that
+/// words can tell.
+pub fn drill_is_read()
+    ensures rules { (rules : File) × IsRuleFile drill_rules rules }
+    ensures template { (count : ℕ) → count ≤ 100000
+        → (root : Label) × (kids : Forest) × (root.kind ≡ kind.Map) × IsTemplate Format.Json (template_text count) (Node root kids Nil) }
+{}
+
+/// The law that a drill is judged, whatever the files hold: it comes to nothing but an end, and that is Passed or Failed, as its
+/// template is judged by its rules; so it is never refused.
+pub fn drill_is_judged()
+    ensures ends { (words : List (List ℕ)) (told : Contents) (count : ℕ) (e : Ended)
+        → AsksFor words (drill count) → EndOf words told e → (e.how ≡ end_is.Passed) ⊎ (e.how ≡ end_is.Failed) }
+    ensures judged { (words : List (List ℕ)) (told : Contents) (count : ℕ) (rules : File) (tree : Forest) (e : Ended)
+        → AsksFor words (drill count) → IsRuleFile drill_rules rules → IsTemplate Format.Json (template_text count) tree
+        → EndOf words told e
+        → IsJudged (drill_report count) (record { source = drill_rules; rules = rules; template = template_text count; tree = tree }) e }
+    ensures points { (words : List (List ℕ)) (told : Contents) (count : ℕ) (p : Point)
+        → AsksFor words (drill count) → ComesTo words told p → (e : Ended) × (p ≡ Ends e) }
 {
     one_syntax();
-    only_template(template);
+}
+
+/// The law that a drill has one end, and no other, whatever the files hold.
+pub fn only_drill()
+    ensures some { (words : List (List ℕ)) (told : Contents) (count : ℕ) → AsksFor words (drill count) → (e : Ended) × EndOf words told e }
+    ensures one { (words : List (List ℕ)) (told : Contents) (count : ℕ) (e other : Ended)
+        → AsksFor words (drill count) → EndOf words told e → EndOf words told other → e ≡ other }
+{
+    one_syntax();
+    one_answer_over_locations();
 }
 
 /// The law of completeness: where the words ask for `validate` of two files, whose contents are told, and these are a rule file
@@ -76,14 +101,19 @@ pub fn accepted_is_checked(rules: &[u8], template: &[u8], evidence: &[u8])
     one_text();
 }
 
-/// The law that evidence which is to be accepted is accepted: where, besides, each line follows and each rule has the line of its
-/// verdict, each end that the definition gives is Accepted.
+/// The law that evidence which is to be accepted is accepted, and no other: where, besides, each line follows and each rule has
+/// the line of its verdict, each end that the definition gives is Accepted, and only there.
 pub fn following_is_accepted(rules: &[u8], template: &[u8], evidence: &[u8])
-    ensures { (words : List (List ℕ)) (told : Contents) (r t p : List ℕ) (file : File) (tree : Forest) (lines : Versioned) (e : Ended)
+    ensures accepted { (words : List (List ℕ)) (told : Contents) (r t p : List ℕ) (file : File) (tree : Forest) (lines : Versioned) (e : Ended)
         → AsksFor words (check r t p) → told r ≡ Some rules.now → told t ≡ Some template.now → told p ≡ Some evidence.now
         → IsRuleFile rules.now file → IsTemplate (format_of t) template.now tree → AreRead file
         → IsProof evidence.now lines → Accepts lines.version tree file lines.lines
         → EndOf words told e → e.how ≡ end_is.Accepted }
+    ensures only { (words : List (List ℕ)) (told : Contents) (r t p : List ℕ) (file : File) (tree : Forest) (lines : Versioned) (e : Ended)
+        → AsksFor words (check r t p) → told r ≡ Some rules.now → told t ≡ Some template.now → told p ≡ Some evidence.now
+        → IsRuleFile rules.now file → IsTemplate (format_of t) template.now tree → AreRead file
+        → IsProof evidence.now lines → EndOf words told e
+        → e.how ≡ end_is.Accepted → Accepts lines.version tree file lines.lines }
 {
     accepted_is_checked(rules, template, evidence);
 }

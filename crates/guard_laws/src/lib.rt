@@ -1,11 +1,11 @@
 //! Laws over the end of a call of `guard`, which `guard_ends` defines: it has one end, a template that is accepted is
-//! judged, evidence that is accepted is true. They are calls that do nothing, whose contracts are the laws; no program
+//! judged, evidence that is accepted is true, a drill is judged. They are calls that do nothing, whose contracts are the laws; no program
 //! calls them.
 #![tactic(auto)]
 
 mod laws;
 
 pub use laws::{
-    accepted_is_checked, accepted_is_judged, accepted_is_true, following_is_accepted, only_drill,
-    only_end,
+    accepted_is_checked, accepted_is_judged, accepted_is_true, drill_is_judged, drill_is_read,
+    following_is_accepted, only_drill, only_end,
 };
