@@ -14,6 +14,7 @@ use Rattle.guard_drill.proofs.TemplateLengths.{template-short}
 use Rattle.guard_syntax.specs.Syntax.{File}
 use Rattle.json_reader.proofs.Limits.{unique}
 use Rattle.json_reader.proofs.Refuses.{no_tree, same_refusal}
+use Rattle.json_reader.proofs.Strings.{both}
 use Rattle.rule_meaning.specs.FunctionMeaning.{IsAnswering}
 use Rattle.rule_meaning.specs.Locations.{Answers}
 use Rattle.rule_meaning.specs.Patterns.{patterns_of}
@@ -41,10 +42,6 @@ use Rattle.guard_laws.proofs.OneText.{text-one}
 abbrev is-ascii : List ℕ → Bool
 is-ascii [] = true
 is-ascii (b ∷ bytes) = nat_lt b 128 && is-ascii bytes
-
-both : (a b : Bool) → (a && b) ≡ true → (a ≡ true) × (b ≡ true)
-both true b e = (refl, e)
-both false b e = absurd cc
 
 ascii : (bytes : List ℕ) → is-ascii bytes ≡ true → IsAscii bytes
 ascii [] e = IsAscii-nil

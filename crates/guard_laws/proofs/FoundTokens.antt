@@ -1,7 +1,7 @@
 -- Tokens that a test finds in bytes stand there: names, variables, texts in single quotes, marks, and numbers of one digit; no
 -- other tokens are found. By induction on the tokens.
 use Rattle.std.proofs.Common.{◌≡◌, ◌+◌, ◌-◌, ◌≤◌, ◌&&◌, ℕ, suc, Bool, true, false, not, List, [], ◌∷◌, ◌++◌, length, take, drop, Option, Some, None, Ok, pos, negsuc, arith, refl, sym, ap, ◌∙◌, subst}
-use Rattle.std.specs.Prelude.{◌==◌, if◌then◌else◌}
+use Rattle.std.specs.Prelude.{◌==◌}
 use Rattle.std.specs.Str.{bytes_eq}
 use Rattle.std.proofs.lemmas.Bool.Decides.{nat_tests}
 use Rattle.std.proofs.lemmas.List.{take-append-drop}
@@ -21,10 +21,7 @@ use Rattle.guard_lexer.proofs.Firsts.{Found, found, is_first, not_open, quote_fo
 use Rattle.guard_lexer.proofs.Lists.{is_byte, no_clash, same_byte}
 use Rattle.guard_lexer.proofs.NumberFirsts.{front_found}
 use Rattle.guard_lexer.proofs.Steps.{next_none, next_some}
-
-both : (a b : Bool) → (a && b) ≡ true → (a ≡ true) × (b ≡ true)
-both true b e = (refl, e)
-both false b e = absurd cc
+use Rattle.json_reader.proofs.Strings.{both}
 
 is-false : (b : Bool) → not b ≡ true → b ≡ false
 is-false true e = absurd cc
@@ -66,12 +63,7 @@ name-found dot n b bytes e =
     let letter = both (is_letter b) _ e in
     let rest = both (not (typed bytes)) (n == suc (in_name bytes)) letter.1 in
     subst (λ size. Found dot k.Name (b ∷ bytes) size) (sym (same_byte n (suc (in_name bytes)) rest.1))
-    (subst (λ (v : Bool). Found dot (if v then k.TypeName else k.Name) (b ∷ bytes) (suc (in_name bytes))) (is-false (typed bytes) rest.0)
-    (word-kind (typed bytes) (word_found dot b bytes letter.0)))
-  where
-    word-kind : (v : Bool) → Found dot (word_kind v) (b ∷ bytes) (suc (in_name bytes)) → Found dot (if v then k.TypeName else k.Name) (b ∷ bytes) (suc (in_name bytes))
-    word-kind true f = f
-    word-kind false f = f
+    (subst (λ v. Found dot (word_kind v) (b ∷ bytes) (suc (in_name bytes))) (is-false (typed bytes) rest.0) (word_found dot b bytes letter.0))
 
 variable-found : (dot : Bool) (n b : ℕ) (bytes : List ℕ) → is-found dot k.Var n b bytes ≡ true → Found dot k.Var (b ∷ bytes) n
 variable-found dot n b bytes e =

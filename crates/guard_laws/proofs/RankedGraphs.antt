@@ -1,8 +1,9 @@
 -- In a graph in which each node leads to nodes of a lesser rank, no node reaches itself. By induction on the way.
-use Rattle.std.proofs.Common.{◌≡◌, ◌+◌, ◌<◌, ◌&&◌, ℕ, zero, suc, Bool, true, false, List, [], ◌∷◌, length, get_or, arith, refl, sym, subst}
+use Rattle.std.proofs.Common.{◌≡◌, ◌+◌, ◌<◌, ◌&&◌, ℕ, zero, suc, Bool, true, List, [], ◌∷◌, length, get_or, arith, sym, subst}
 use Rattle.std.specs.Prelude.{nat_lt}
 use Rattle.std.specs.List.{Contains}
 use Rattle.std.proofs.lemmas.Bool.{ltb-true}
+use Rattle.json_reader.proofs.Strings.{both}
 use Rattle.rule_names.specs.Graphs.{Graph, Names, NoneOnCycle, Reaches, names, through}
 
 module _ (rank : ℕ → ℕ) where
@@ -15,10 +16,6 @@ module _ (rank : ℕ → ℕ) where
   abbrev pub is-ranked : ℕ → Graph → Bool
   is-ranked a [] = true
   is-ranked a (row ∷ rows) = is-above a row && is-ranked (suc a) rows
-
-  both : (a b : Bool) → (a && b) ≡ true → (a ≡ true) × (b ≡ true)
-  both true b e = (refl, e)
-  both false b e = absurd cc
 
   above-each : (a : ℕ) (bs : List ℕ) → is-above a bs ≡ true → (b i : ℕ) → i < length bs → get_or bs i b ≡ b → rank b < rank a
   above-each a [] e b i within is = absurd (omega arith)
