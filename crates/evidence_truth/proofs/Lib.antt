@@ -1,5 +1,8 @@
 mod Decided
+mod FailsOfLines
+mod FailsTrue
 mod FollowingKnown
+mod HeldFails
 mod HeldLines
 mod HeldRows
 mod HeldSeen

@@ -54,7 +54,7 @@ line-in xs ys zs split zero l is = absurd (none-some l is)
 line-in xs ys zs split (suc n) l is =
     ap (λ (ls : List Line). line_of ls (suc n)) (sym split) ∙ behind-first (xs ++ ys) n ∙ front xs ys n l (sym (behind-first xs n) ∙ is)
 
-no-line : (number : ℕ) (l : Line) → line_of [] number ≡ Some l → ⊥
+pub no-line : (number : ℕ) (l : Line) → line_of [] number ≡ Some l → ⊥
 no-line zero l is = none-some l is
 no-line (suc n) l is = none-some l (sym (behind-first [] n) ∙ is)
 
@@ -135,7 +135,7 @@ module _ (e : Evidence) (meant : Meant e) (made : List Made) (before : List Line
 -- ---- all lines
 
 -- the trees behind those that are there
-later-trees : (version : Version) (template : Forest) (file : File) (made : List Made) (before rest : List Line) (last : StoreModel) → FollowTo version (record { template = template; file = file; made = made }) before rest last
+pub later-trees : (version : Version) (template : Forest) (file : File) (made : List Made) (before rest : List Line) (last : StoreModel) → FollowTo version (record { template = template; file = file; made = made }) before rest last
     → (later : List Made) × (last ≡ record { template = template; file = file; made = made ++ later })
 later-trees version template file made before [] last follow = ([], sym follow ∙ ap (λ (trees : List Made). record { template = template; file = file; made = trees }) (sym (append-nil made)))
 later-trees version template file made before (line ∷ rest) last (more, follows, others) =
@@ -146,7 +146,7 @@ module _ (e : Evidence) (meant : Meant e) where
   abbrev pub HoldsOf : Line → Type 0
   HoldsOf l = Holds (last_store e) e.lines (world_for e) e.names l
 
-  one-more : (made : List Made) (before rest : List Line) (line : Line) (more : List Made) → before ++ line ∷ rest ≡ e.lines → Past e made before → Follows e.version (store_of e made) before line more
+  pub one-more : (made : List Made) (before rest : List Line) (line : Line) (more : List Made) → before ++ line ∷ rest ≡ e.lines → Past e made before → Follows e.version (store_of e made) before line more
       → FollowTo e.version (store_of e (made ++ more)) (before ++ line ∷ []) rest (last_store e) → Past e (made ++ more) (before ++ line ∷ [])
   one-more made before rest line more split past follows others =
       let behind = later-trees e.version e.template e.file (made ++ more) (before ++ line ∷ []) rest (last_store e) others in

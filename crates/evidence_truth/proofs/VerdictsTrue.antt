@@ -47,10 +47,10 @@ use Rattle.evidence_truth.proofs.StepsTrue.{conds-at}
 -- ---- parts at their sites
 
 module _ (e : Evidence) where
-  body-at : (b : Body) → Each (IsAt e.file) (pieces_body b) → piece_at e.file (body_site b) ≡ Some (OfBody b)
+  pub body-at : (b : Body) → Each (IsAt e.file) (pieces_body b) → piece_at e.file (body_site b) ≡ Some (OfBody b)
   body-at (body n lets ds) placed = placed.0
 
-  part-at : (p : Part) → Each (IsAt e.file) (pieces_part p) → piece_at e.file (part_site p) ≡ Some (OfPart p)
+  pub part-at : (p : Part) → Each (IsAt e.file) (pieces_part p) → piece_at e.file (part_site p) ≡ Some (OfPart p)
   part-at (block n any q b) placed = placed.0
   part-at (guarded n c b) placed = placed.0
   part-at (kinds n name c b) placed = placed.0
@@ -139,13 +139,13 @@ module _ (e : Evidence) (meant : Meant e) (made : List Made) (before : List Line
 
   -- ---- lines that are cited
 
-  verdict-given : (number : ℕ) (of : LineKind) (frame site : ℕ) (verdict : Verdict) (env : Environment) (p : Piece) (given : Verdict) → SaysVerdict known before of frame site number verdict
+  pub verdict-given : (number : ℕ) (of : LineKind) (frame site : ℕ) (verdict : Verdict) (env : Environment) (p : Piece) (given : Verdict) → SaysVerdict known before of frame site number verdict
       → Framing e frame env → piece_at e.file site ≡ Some p → line_verdict world e.names env of (Some p) ≡ Some given → given ≡ verdict
   verdict-given number of frame site verdict env p given is framing there says_given =
       same_Some given verdict
       (sym says_given ∙ ap (line_verdict world e.names env of) (sym there) ∙ cited-in e made before past number of frame site (says.Verdict verdict) env is framing)
 
-  line-of-part : (env : Environment) (p : Part) → line_verdict world e.names env (kind_of_part known before p) (Some (OfPart p)) ≡ Some (part_verdict world e.names env p)
+  pub line-of-part : (env : Environment) (p : Part) → line_verdict world e.names env (kind_of_part known before p) (Some (OfPart p)) ≡ Some (part_verdict world e.names env p)
   line-of-part env (block n any q b) = refl
   line-of-part env (guarded n c b) = refl
   line-of-part env (kinds n name c b) = refl
@@ -183,7 +183,7 @@ module _ (e : Evidence) (meant : Meant e) (made : List Made) (before : List Line
   -- ---- bodies in frames
 
   -- the value of a frame fits the part of its site
-  frame-value : (at frame site : ℕ) (v : Ref) → IsLine before at kind.Frame frame site (says.Value v) → ValueFits e frame (piece_at e.file site) v
+  pub frame-value : (at frame site : ℕ) (v : Ref) → IsLine before at kind.Frame frame site (says.Value v) → ValueFits e frame (piece_at e.file site) v
   frame-value at frame site v is = by (subst (λ (k : LineKind). IsFramed e is.line k) is.kind_is (past.framed at is.line is.stands))
     where
       by : IsFramed e is.line kind.Frame → ValueFits e frame (piece_at e.file site) v
@@ -194,7 +194,7 @@ module _ (e : Evidence) (meant : Meant e) (made : List Made) (before : List Line
           subst (λ (x : Ref). ValueFits e frame (piece_at e.file site) x) value
           (subst (λ (n : ℕ). ValueFits e frame (piece_at e.file n) w) same (subst (λ (n : ℕ). ValueFits e n (piece_at e.file s) w) frames fits))
 
-  body-given : (frame : ℕ) (env : Environment) (b : Body) (v : Ref) (number : ℕ) (verdict : Verdict) → Framing e frame env → Each (IsAt e.file) (pieces_body b)
+  pub body-given : (frame : ℕ) (env : Environment) (b : Body) (v : Ref) (number : ℕ) (verdict : Verdict) → Framing e frame env → Each (IsAt e.file) (pieces_body b)
       → SaysBody known before frame b v number verdict → body_verdict world e.names (Inner (seen e v) env) b ≡ verdict
   body-given frame env b v number verdict framing placed (at, is, says_verdict) =
       let there : piece_at e.file (body_site b) ≡ Some (OfBody b) = body-at e b placed in
@@ -202,7 +202,7 @@ module _ (e : Evidence) (meant : Meant e) (made : List Made) (before : List Line
       let inner : Framing e at (Inner (seen e v) env) = (frame, body_site b, v, in-all e made before past at kind.Frame frame (body_site b) (says.Value v) is, none, refl, framing) in
       verdict-given number kind.Conj at (body_site b) verdict (Inner (seen e v) env) (OfBody b) (body_verdict world e.names (Inner (seen e v) env) b) says_verdict inner there refl
 
-  body-value : (frame : ℕ) (b : Body) (v : Ref) (number : ℕ) (verdict : Verdict) → Each (IsAt e.file) (pieces_body b) → SaysBody known before frame b v number verdict
+  pub body-value : (frame : ℕ) (b : Body) (v : Ref) (number : ℕ) (verdict : Verdict) → Each (IsAt e.file) (pieces_body b) → SaysBody known before frame b v number verdict
       → ValueFits e frame (Some (OfBody b)) v
   body-value frame b v number verdict placed (at, is, says_verdict) =
       subst (λ (p : Option Piece). ValueFits e frame p v) (body-at e b placed) (frame-value at frame (body_site b) v is)
@@ -256,7 +256,7 @@ module _ (e : Evidence) (meant : Meant e) (made : List Made) (before : List Line
 
   -- ---- tests
 
-  right-given : (frame : ℕ) (env : Environment) (right : OptExpr) (cites : List ℕ) (rows : List Row) → Framing e frame env → Each (IsAt e.file) (pieces_opt_expr right)
+  pub right-given : (frame : ℕ) (env : Environment) (right : OptExpr) (cites : List ℕ) (rows : List Row) → Framing e frame env → Each (IsAt e.file) (pieces_opt_expr right)
       → GivesRight known before frame right cites rows → (rows_of_side world e.names env right ≡ map (shown e) rows) × (list_all (is_held known) rows ≡ true)
   right-given frame env no_expr [] rows framing placed h = (ap (map (shown e)) (sym h), ap (list_all (is_held known)) h)
   right-given frame env (with_expr x) (c ∷ []) rows framing placed h = (expr-given e meant made before past frame env x c rows framing placed h, expr-held known before past.held frame x c rows h)
@@ -298,7 +298,7 @@ module _ (e : Evidence) (meant : Meant e) (made : List Made) (before : List Line
   refer-true frame site env p cites verdict there h = absurd h
 
   -- the body that a call names
-  called-is : (env : Environment) (args : Exprs) (t : Option ℕ) (b : Body) → option_and_then (λ rule. option_and_then body_of_rule (piece_at e.file rule)) t ≡ Some b
+  pub called-is : (env : Environment) (args : Exprs) (t : Option ℕ) (b : Body) → option_and_then (λ rule. option_and_then body_of_rule (piece_at e.file rule)) t ≡ Some b
       → (target_called world e.names env args t ≡ body_verdict world e.names (Called (current_of env) args env) b) × Each (IsAt e.file) (pieces_body b)
   called-is env args None b is = absurd (none-some b is)
   called-is env args (Some m) b is = by (piece_at e.file m) refl is
@@ -378,7 +378,7 @@ module _ (e : Evidence) (meant : Meant e) (made : List Made) (before : List Line
 
   -- ---- rules
 
-  file-framing : (frame : ℕ) → IsFileFrame known before frame → Framing e frame Top
+  pub file-framing : (frame : ℕ) → IsFileFrame known before frame → Framing e frame Top
   file-framing frame (l, stands, file) = (l, past.stand frame l stands, file)
 
   rule-body : (frame site : ℕ) (r : Rule) (verdict : Verdict) → Framing e frame Top → piece_at e.file site ≡ Some (OfRule r) → Each (IsAt e.file) (pieces_body r.body)

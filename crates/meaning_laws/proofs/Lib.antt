@@ -1,5 +1,6 @@
 mod FailingParts
 mod GivenAnswers
+mod OneFailing
 mod OneMeaning
 mod SameEntries
 mod SameParts

@@ -137,12 +137,12 @@ module _ (world : World) (depths : List ℕ) (k : ℕ) (a b : Names) (same : Agr
     target-entries env args None h = refl
     target-entries env args (Some site) h = let e = told site in piece-entries env args (piece_at world.file site) (omega (arith, e, h))
 
-    calls-entries : AgreeOnCalls world depths (suc k) (unfold_fails world a c) (unfold_fails world b d)
+    pub calls-entries : AgreeOnCalls world depths (suc k) (unfold_fails world a c) (unfold_fails world b d)
     calls-entries = record { entries = λ env site args h. target-entries env args (target_of world.file site) (omega (arith, h)) }
 
 module _ (world : World) (depths : List ℕ) (told : (site : ℕ) → depth_piece world.file depths (piece_at world.file site) ≤ depth_at world.file depths site) where
   -- further unfoldings change nothing
-  steady : (n m : ℕ) → n ≤ m → AgreeOnCalls world depths n (calls_by world n) (calls_by world m)
+  pub steady : (n m : ℕ) → n ≤ m → AgreeOnCalls world depths n (calls_by world n) (calls_by world m)
   steady zero m h = record { entries = λ env site args more. absurd (omega (arith, more)) }
   steady (suc n) zero h = absurd (omega (arith, h))
   steady (suc n) (suc m) h =

@@ -7,5 +7,6 @@ pub mod location_laws;
 
 pub use function_laws::{one_answer, refused_is_pattern};
 pub use location_laws::{
-    failing_has_entries, one_meaning_over_locations, unfoldings_suffice_over_locations,
+    failing_has_entries, one_failing_over_locations, one_meaning_over_locations,
+    unfoldings_suffice_over_locations,
 };

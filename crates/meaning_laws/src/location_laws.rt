@@ -6,14 +6,14 @@ ghost use Rattle.guard_syntax.specs.declared.row.Verdict.TheVariants.{Fail};
 ghost use Rattle.rule_names.specs.Depths.{depth_body, depth_limit, depths_of};
 ghost use Rattle.rule_names.specs.Pieces.{AreInOrder};
 ghost use Rattle.rule_names.specs.WellNamed.{WellNamed};
-ghost use Rattle.rule_meaning.specs.Fails.{body_fails, calls_by, loose_fails, rule_fails};
+ghost use Rattle.rule_meaning.specs.Fails.{Calls, body_fails, calls_by, loose_fails, rule_fails};
 ghost use Rattle.rule_meaning.specs.Environments.{Environment, Top};
 ghost use Rattle.rule_meaning.specs.Meaning.{Names, body_verdict, disj_verdicts};
 ghost use Rattle.rule_meaning.specs.code.Fixpoint.{IsFixpoint};
 ghost use Rattle.rule_meaning.specs.NameMeaning.{unfolded, rule_by, rule_verdict, loose_verdict};
 ghost use Rattle.rule_meaning.specs.Locations.{World};
 ghost use Rattle.rule_meaning.specs.Verdicts.{conjunction};
-ghost use Rattle.meaning_laws.specs.code.Entries.{loose_fails_by, rule_fails_by};
+ghost use Rattle.meaning_laws.specs.code.Entries.{IsCallsFixpoint, loose_fails_by, loose_fails_with, rule_fails_by, rule_fails_with};
 ghost use Rattle.meaning_laws.specs.code.Weights.{weight};
 
 use rule_names::settled_depths;
@@ -46,6 +46,21 @@ pub fn one_meaning_over_locations()
         → map (rule_by world names) world.file.rules ≡ map (rule_verdict world) world.file.rules }
     ensures loose { (world : World) (names : Names) → AreInOrder world.file → WellNamed world.file → IsFixpoint world names
         → conjunction (disj_verdicts world names Top world.file.loose) ≡ loose_verdict world world.file.loose }
+{
+    settled_depths();
+}
+
+/// The law that there is one way to fail over locations: whatever meaning of names obeys the tables, some entries of calls do too, and by
+/// any that do, the rules of a file and the parts outside them fail by the same entries.
+pub fn one_failing_over_locations()
+    ensures some { (world : World) (names : Names) → AreInOrder world.file → WellNamed world.file → IsFixpoint world names
+        → (calls : Calls) × IsCallsFixpoint world names calls }
+    ensures rules { (world : World) (names : Names) (calls : Calls) → AreInOrder world.file → WellNamed world.file
+        → IsFixpoint world names → IsCallsFixpoint world names calls
+        → map (rule_fails_with world names calls) world.file.rules ≡ map (rule_fails world) world.file.rules }
+    ensures loose { (world : World) (names : Names) (calls : Calls) → AreInOrder world.file → WellNamed world.file
+        → IsFixpoint world names → IsCallsFixpoint world names calls
+        → loose_fails_with world names calls world.file.loose ≡ loose_fails world world.file.loose }
 {
     settled_depths();
 }
