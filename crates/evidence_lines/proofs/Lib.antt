@@ -4,5 +4,6 @@ pub mod Fields
 pub mod Lines
 pub mod Lists
 pub mod Numbers
+pub mod Scans
 pub mod Texts
 pub mod Values

@@ -5,14 +5,16 @@ ghost use Rattle.std.specs.List.{list_all, position};
 ghost use Rattle.std.specs.Str.Parse.{digits_value};
 ghost use Rattle.evidence_lines.specs.code.Reading.{count_in, cut, is_at, is_none_sign, is_numeral, literal_in, made_in, missing_in, node_in, place_in, ref_in, row_in, sized_in, verdict_in};
 
+use byte_lanes::{ByteSet, first_special};
 use guard_syntax::{Origin, Ref, Row, Verdict};
 
-/// The index of the first separator.
+/// The index of the first separator, found a block of bytes at a time.
 fn index_of(bytes: &[u8], separator: u8) -> Option<usize>
     ensures first { result ≡ position (is_at separator) bytes.now }
     ensures within { IfSome result (λ at. at < length bytes.now) }
 {
-    bytes.iter().position(|byte| *byte == separator)
+    let at = first_special(bytes, 0, &ByteSet::of(&[separator]));
+    if at < bytes.len() { Some(at) } else { None }
 }
 
 /// The bytes in front of the first separator, and those behind it.
@@ -21,6 +23,22 @@ pub(crate) fn cut(bytes: &[u8], separator: u8) -> Option<(&[u8], &[u8])>
     ensures shorter { IfSome result (λ p. length p.0.now + length p.1.now + 1 ≡ length bytes.entry.now) }
 {
     let at = index_of(bytes, separator)?;
+    Some((&bytes[..at], &bytes[at + 1..]))
+}
+
+/// The index of the first separator of a value, which has few bytes.
+fn value_index_of(bytes: &[u8], separator: u8) -> Option<usize>
+    ensures first { result ≡ position (is_at separator) bytes.now }
+    ensures within { IfSome result (λ at. at < length bytes.now) }
+{
+    bytes.iter().position(|byte| *byte == separator)
+}
+
+/// The bytes of a value in front of the first separator, and those behind it.
+fn cut_value(bytes: &[u8], separator: u8) -> Option<(&[u8], &[u8])>
+    ensures { option_map (λ p. (p.0.now, p.1.now)) result ≡ cut separator bytes.entry.now }
+{
+    let at = value_index_of(bytes, separator)?;
     Some((&bytes[..at], &bytes[at + 1..]))
 }
 
@@ -85,7 +103,7 @@ pub(crate) fn read_place(bytes: &[u8]) -> Option<u32>
 fn read_node(origin: Origin, bytes: &[u8]) -> Option<Ref>
     ensures { result ≡ node_in origin bytes.now }
 {
-    match cut(bytes, b'k') {
+    match cut_value(bytes, b'k') {
         None => Some(Ref {
             origin,
             node: read_place(bytes)?,
@@ -104,7 +122,7 @@ fn read_node(origin: Origin, bytes: &[u8]) -> Option<Ref>
 fn read_literal(bytes: &[u8]) -> Option<Ref>
     ensures { result ≡ literal_in (cut 46 bytes.now) }
 {
-    let (site, node) = cut(bytes, b'.')?;
+    let (site, node) = cut_value(bytes, b'.')?;
     read_node(Origin::Literal(read_place(site)?), node)
 }
 
@@ -112,8 +130,8 @@ fn read_literal(bytes: &[u8]) -> Option<Ref>
 fn read_made(bytes: &[u8]) -> Option<Ref>
     ensures { result ≡ made_in (cut 46 bytes.now) }
 {
-    let (line, rest) = cut(bytes, b'.')?;
-    let (row, node) = cut(rest, b'.')?;
+    let (line, rest) = cut_value(bytes, b'.')?;
+    let (row, node) = cut_value(rest, b'.')?;
     let line = read_count(line)?;
     let row = read_count(row)?;
     read_node(Origin::Made { line, row }, node)
@@ -135,7 +153,7 @@ pub(crate) fn read_ref(bytes: &[u8]) -> Option<Ref>
 fn read_missing(bytes: &[u8]) -> Option<Row>
     ensures { result ≡ missing_in (cut 58 bytes.now) }
 {
-    let (step, value) = cut(bytes, b':')?;
+    let (step, value) = cut_value(bytes, b':')?;
     let step = read_place(step)?;
     let value = read_ref(value)?;
     Some(Row::Missing { value, step })

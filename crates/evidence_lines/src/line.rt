@@ -58,27 +58,27 @@ pub enum Sort {
     Verdict,
 }
 
-/// Every kind, in the order of the format.
+/// Every kind, those of most lines first.
 const KINDS: [LineKind; 19] = [
-    LineKind::File,
+    LineKind::Step,
+    LineKind::Test,
+    LineKind::Disj,
+    LineKind::Conj,
     LineKind::Frame,
     LineKind::Literal,
-    LineKind::Found,
-    LineKind::Fn,
-    LineKind::Step,
+    LineKind::Rule,
     LineKind::Filter,
+    LineKind::Block,
+    LineKind::When,
+    LineKind::Call,
+    LineKind::Fn,
     LineKind::Keys,
     LineKind::Capture,
     LineKind::Types,
-    LineKind::Test,
-    LineKind::Refer,
-    LineKind::Call,
-    LineKind::Disj,
-    LineKind::Conj,
-    LineKind::When,
-    LineKind::Block,
     LineKind::Kinds,
-    LineKind::Rule,
+    LineKind::Refer,
+    LineKind::Found,
+    LineKind::File,
 ];
 
 impl LineKind {

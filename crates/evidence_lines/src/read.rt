@@ -1,8 +1,8 @@
 //! Evidence, read from its bytes.
-ghost use Rattle.std.specs.Prelude.{◌≡◌, ◌⊎◌, ◌++◌, ℕ, List, IfErr, IfOk, MatchOption, MatchResult, option_map};
+ghost use Rattle.std.specs.Prelude.{◌≡◌, ◌≢◌, ◌<◌, ◌≤◌, ◌+◌, ◌⊎◌, ◌++◌, [], ℕ, List, None, length, IfErr, IfOk, OnErr, MatchOption, MatchResult, option_map};
 ghost use Rattle.evidence_lines.specs.Headers.{header};
 ghost use Rattle.evidence_lines.specs.code.Memory.{HasLine};
-ghost use Rattle.evidence_lines.specs.code.Reading.{cites_in, count_in, if_placed, items_in, line_in, line_of_parts, list_in, outcome_in, parts_in, place_in, placed_in, row_in};
+ghost use Rattle.evidence_lines.specs.code.Reading.{cites_in, count_in, cut, if_placed, items_in, line_in, line_of_parts, list_in, outcome_in, parts_in, place_in, placed_in, row_in};
 ghost use Rattle.evidence_lines.specs.code.Seen.{fields_seen, placed_seen};
 ghost use Rattle.evidence_lines.specs.Shapes.{is_placed, may_cite, sort_of};
 ghost use Rattle.evidence_lines.specs.Text.{IsEvidence, IsFault, IsRefused};
@@ -14,6 +14,7 @@ use crate::field::{cut, is_none_sign, read_count, read_place, read_ref, read_row
 use crate::line::{Cites, Line, LineKind, Outcome, Rows, Sort};
 use crate::refusal::EvidenceRefusal;
 use crate::version::Version;
+use byte_lanes::count_byte;
 use guard_syntax::Row;
 use std::alloc::{AllocError, Global};
 
@@ -89,11 +90,19 @@ fn read_placed(fields: &Fields<'_>) -> Option<Placed>
     Some(Placed { kind, frame, site })
 }
 
+/// How many items with commas between them there can be, where the shortest takes so many bytes with its comma.
+fn most_items(bytes: &[u8], least: usize) -> usize
+    requires { 0 < least }
+    ensures { result ≤ length bytes.now + 1 }
+{
+    count_byte(bytes, b',').min(bytes.len() / least) + 1
+}
+
 /// Numbers with commas between them.
 fn read_counts(alloc: Global, bytes: &[u8]) -> Result<Option<Vec<u64>>, AllocError>
     ensures { IfOk result (λ o. option_map (λ v. v.items) o ≡ items_in count_in bytes.now) }
 {
-    let mut counts = Vec::new(alloc);
+    let mut counts = Vec::with_capacity(alloc, most_items(bytes, 2))?;
     let mut rest = bytes;
     'items: while let Some((item, after)) = cut(rest, b',') {
         let Some(count) = read_count(item) else {
@@ -113,7 +122,7 @@ fn read_counts(alloc: Global, bytes: &[u8]) -> Result<Option<Vec<u64>>, AllocErr
 fn read_rows(alloc: Global, bytes: &[u8]) -> Result<Option<Vec<Row>>, AllocError>
     ensures { IfOk result (λ o. option_map (λ v. v.items) o ≡ items_in row_in bytes.now) }
 {
-    let mut rows = Vec::new(alloc);
+    let mut rows = Vec::with_capacity(alloc, most_items(bytes, 3))?;
     let mut rest = bytes;
     'items: while let Some((item, after)) = cut(rest, b',') {
         let Some(row) = read_row(item) else {
@@ -212,13 +221,22 @@ fn behind_header(version: Version, bytes: &[u8]) -> Option<&[u8]>
     bytes.strip_prefix(version.header().as_bytes())
 }
 
+/// No lines, and room for as many as the bytes can hold. The shortest has 11 bytes with its newline, so that a text of
+/// newlines alone takes no more room than one of lines.
+fn room_for_lines(alloc: Global, bytes: &[u8]) -> Result<Vec<Line>, AllocError>
+    ensures empty { IfOk result (λ lines. lines.items ≡ []) }
+    ensures memory { OnErr result (cut 10 bytes.now ≢ None) }
+{
+    Vec::with_capacity(alloc, count_byte(bytes, b'\n').min(bytes.len() / 11))
+}
+
 /// The lines of bytes that stand behind the header of a version.
 fn read_lines(alloc: Global, version: Version, bytes: &[u8]) -> Result<Evidence, EvidenceRefusal>
     ensures lines { IfOk result (λ e. IsEvidence (header version ++ bytes.now) e.version e.lines) }
     ensures refusal { IfErr result (λ r. IsRefused (header version ++ bytes.now) r) }
     ensures memory { IfErr result (λ r. r ≡ EvidenceRefusal.NoMemory → HasLine (header version ++ bytes.now)) }
 {
-    let mut lines = Vec::new(alloc);
+    let mut lines = room_for_lines(alloc, bytes)?;
     let mut number: u64 = 0;
     let mut rest = bytes;
     'lines: while !rest.is_empty() {

@@ -131,8 +131,8 @@ list_in item_in bytes = if is_none_sign bytes then Some [] else items_in item_in
 
 abbrev pub kinds : List LineKind
 kinds =
-    kind.File ∷ kind.Frame ∷ kind.Literal ∷ kind.Found ∷ kind.Fn ∷ kind.Step ∷ kind.Filter ∷ kind.Keys ∷ kind.Capture ∷ kind.Types
-    ∷ kind.Test ∷ kind.Refer ∷ kind.Call ∷ kind.Disj ∷ kind.Conj ∷ kind.When ∷ kind.Block ∷ kind.Kinds ∷ kind.Rule ∷ []
+    kind.Step ∷ kind.Test ∷ kind.Disj ∷ kind.Conj ∷ kind.Frame ∷ kind.Literal ∷ kind.Rule ∷ kind.Filter ∷ kind.Block ∷ kind.When
+    ∷ kind.Call ∷ kind.Fn ∷ kind.Keys ∷ kind.Capture ∷ kind.Types ∷ kind.Kinds ∷ kind.Refer ∷ kind.Found ∷ kind.File ∷ []
 
 -- the kind of this name
 abbrev pub kind_in : List ℕ → Option LineKind

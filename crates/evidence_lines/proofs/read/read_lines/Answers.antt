@@ -4,6 +4,7 @@ use Rattle.std.proofs.lemmas.List.{length_push}
 use Rattle.std.proofs.lemmas.Result.{MatchResult-from_err}
 use Rattle.evidence_lines.specs.code.Reading.{line_in}
 use Rattle.evidence_lines.specs.Headers.{header}
+use Rattle.evidence_lines.proofs.Scans.{has_newline}
 use Rattle.evidence_lines.proofs.Texts.{fails_here, goes_on, has_line, lacks_line, lacks_newline, some_bytes}
 use Rattle.evidence_lines.proofs.read.read_lines.Goals as goal
 
@@ -33,6 +34,11 @@ lines-preserved c =
 pub returns-in_err-line-clause-memory : goal.returns-in_err-line-clause-memory
 returns-in_err-line-clause-memory c =
     let has = has_line (header c.args.version ++ c.args.bytes.now) c.args.version c.lines.rest.now c.in-Some.fields.now c.in-Some.after.now c.lines.lines.items c.lines.invariant.read (sym c.in-Some.ensures.parts) in
+    MatchResult-from_err c.from_residual-in_err-line.result _ _ c.from_residual-in_err-line.ensures.0 (λ _ _. has)
+
+pub returns-in_err-lines-clause-memory : goal.returns-in_err-lines-clause-memory
+returns-in_err-lines-clause-memory c =
+    let has = has_newline c.args.bytes.now c.args.version c.in_err-lines.ensures.memory in
     MatchResult-from_err c.from_residual.result _ _ c.from_residual.ensures.0 (λ _ _. has)
 
 pub returns-in-Err-clause-memory : goal.returns-in-Err-clause-memory

@@ -1,0 +1,7 @@
+use Rattle.std.proofs.Common.{arith}
+use Rattle.evidence_lines.proofs.Scans.{wants_room}
+use Rattle.evidence_lines.proofs.read.room_for_lines.Goals as goal
+
+pub returns-clause-memory : goal.returns-clause-memory
+returns-clause-memory c =
+    wants_room c.with_capacity.result c.args.bytes.now c.min.result (omega (arith, c.min.ensures, c.count_byte.ensures)) c.with_capacity.ensures.succeeds
