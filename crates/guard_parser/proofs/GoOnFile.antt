@@ -260,6 +260,7 @@ module _ (s : ℕ → Lexeme) (n : ℕ) (ends : form (s n) ≡ 0) (turns : ℕ) 
   inners_live : (d e : ℕ) → d < e → grammar.AllLive s n ends turns room (inners s turns d) (λ w. inners w turns e)
   inners_live d zero less = absurd (omega arith)
   inners_live zero (suc e) less = record {
+    roomy = λ w. refl;
     tree = λ floor. literal_live s n ends turns room zero (suc e) less;
     constant = λ floor. literal_near s n ends turns room zero (suc e) less past_expr;
     body = λ floor. record { lives = λ st seen above inside tight. single.stop_at s n ends true (clear (only (Sign m.LBrace))) (clear any) _ st seen tight; starts = body_start (λ w. inners w turns e) };
@@ -274,6 +275,7 @@ module _ (s : ℕ → Lexeme) (n : ℕ) (ends : form (s n) ≡ 0) (turns : ℕ) 
     };
   }
   inners_live (suc d) (suc e) less = let all = inners_live d e (omega arith) in let i = inners s turns d in let j : (ℕ → Lexeme) → Inner = λ w. inners w turns e in record {
+    roomy = λ w. refl;
     tree = λ floor. literal_live s n ends turns room (suc d) (suc e) less;
     constant = λ floor. literal_near s n ends turns room (suc d) (suc e) less past_expr;
     body = λ floor. body_live i j all;

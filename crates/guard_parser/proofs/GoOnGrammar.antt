@@ -10,8 +10,9 @@ use Rattle.literal_parser.specs.declared.keyword.Keyword.TheVariants as kw
 use Rattle.literal_parser.specs.Lexemes.{Lexeme, Word, Name, Reserved, TypeName, Var, Note, Sign, End}
 use Rattle.literal_parser.specs.Forms.{form, word_form, is_name, is_rule_name, is_any_name, is_type_name, is_var, is_index, is_note, is_lbrace, is_lparen, is_rparen, is_lbracket, is_rbracket, is_comma, is_bar, is_dot, is_star, is_assign, is_equality, is_sign, is_let, is_rule, is_when, is_some_word, is_or, is_neg, is_keys, is_this, is_in, is_operator_word, is_key, is_first_key, is_start, is_plain, is_constant, is_r, is_opening_end, begins_query, begins_step, begins_cond, begins_part, leads, opens_range, text_of, named_of, index_of, operator_of, sign_of, is_binary}
 use Rattle.literal_parser.specs.States.{State, past, opened}
-use Rattle.literal_parser.specs.code.Parser.{Read, Fail, Parser, and_then, ◌>>=◌, ◌>>◌, pure, stop, opens, takes, choose, choose_pair, choose_next, choose_third}
-use Rattle.guard_parser.specs.code.Reading.{Inner, named_bar, capture, note, neg, worded, operator, keys_operator, names, params, dotted, keyed, filtered, bracketed, step, steps, start_step, query_of, tree_expr, applied, asked_expr, expr_of, found_expr, value_of, more_exprs_of, exprs_of, right, tested, called, referred, ruled, judged, headed, led_by_name, cond_of, cond_part, ors, disj_of, disjs, conds_of, opt_conds, guarded_part, kinds_part, full_part, let_of, body_items, head, rule_of, file_items, contents}
+use Rattle.literal_parser.specs.code.Parser.{Outcome, Read, Fail, Parser, and_then, ◌>>=◌, ◌>>◌, pure, stop, opens, takes, choose, choose_pair, choose_next, choose_third}
+use Rattle.guard_parser.specs.code.Reading.{Inner, named_bar, capture, note, neg, worded, operator, keys_operator, names, params, dotted, keyed, filtered, bracketed, step, steps, start_step, query_of, tree_expr, applied, asked_expr, expr_of, found_expr, value_of, more_exprs_of, exprs_of, right, tested, called, referred, ruled, judged, headed, led_by_name, cond_of, cond_part, ors, disj_of, disjs, conds_of, opt_conds, guarded_part, kinds_part, bodied, full_part, let_of, body_items, head, rule_of, file_items, contents}
+use Rattle.guard_parser.proofs.Rooms.{roomy_reads, full_stops}
 use Rattle.literal_parser.proofs.Combine.{gives, gives_then}
 use Rattle.literal_parser.proofs.Apart.{apart, implied, denied}
 use Rattle.literal_parser.proofs.Steps.{gives_opens, gives_has, by_next, by_pair, by_third}
@@ -213,6 +214,7 @@ module _ (s : ℕ → Lexeme) (n : ℕ) (ends : form (s n) ≡ 0) where
 
     -- the readers of what stands in brackets, over the lexemes and over those that go on
     pub record AllLive (i : Inner) (j : (ℕ → Lexeme) → Inner) : Type 0 where
+      pub roomy : (w : ℕ → Lexeme) → (j w).roomy ≡ true
       pub tree : (floor : ℕ) → go.Live s n floor true (clear (only nought)) (clear any) i.tree (λ w. (j w).tree)
       pub constant : (floor : ℕ) → go.Live s n floor true (record { near = is_constant; next = past_expr; here = only nought }) (clear past_expr) i.tree (λ w. (j w).tree)
       pub body : (floor : ℕ) → go.Live s n floor true (clear (only (Sign m.LBrace))) (clear any) i.body (λ w. (j w).body)
@@ -693,10 +695,23 @@ module _ (s : ℕ → Lexeme) (n : ℕ) (ends : form (s n) ≡ 0) where
       block_live : {A : Type 0} {floor : ℕ} {h : ℕ → Bool} {p : Parser A} {q : (ℕ → Lexeme) → Parser A} → go.Live s n floor true (clear h) (clear any) p q → go.Live s n floor true (clear h) (ending_part (past_part true)) p q
       block_live {h = h} x = side.sided s n ends {from = clear h} {to = clear any} refl refl (sub_same h) refl refl refl x
 
+      -- where no bracket may open in the lexemes, nothing is read; in those that go on one more may
+      bodied_live : {A : Type 0} {floor : ℕ} {h : ℕ → Bool} {to : Side} {p : Parser A} {q : (ℕ → Lexeme) → Parser A} → go.Live s n floor true (clear h) to p q → go.Live s n floor true (clear h) to (bodied s turns i p) (λ w. bodied w turns (j w) (q w))
+      bodied_live {A} {floor} {h} {to} {p} {q} x = by i.roomy refl where
+        same : (w : ℕ → Lexeme) (st : State) (seen : ℕ) → bodied w turns (j w) (q w) st seen ≡ q w st seen
+        same w st seen = roomy_reads w turns (j w) (q w) st seen (all.roomy w)
+
+        by : (v : Bool) → i.roomy ≡ v → go.Live s n floor true (clear h) to (bodied s turns i p) (λ w. bodied w turns (j w) (q w))
+        by true e = side.same_live s n ends (λ st seen. roomy_reads s turns i p st seen e) same x
+        by false e = record {
+          lives = λ st seen above inside tight. subst (λ (o : Outcome A). go.LivesAt s n true (clear h) to o (λ w. bodied w turns (j w) (q w)) st) (sym (full_stops s turns i p st seen e)) (single.stop_at s n ends true (clear h) to _ st seen tight);
+          starts = side.same_starts s n ends same x.starts;
+        }
+
       pub full_part_live : (floor : ℕ) → go.Live s n floor true heading (ending_part (past_part true)) (full_part s turns i) (λ w. full_part w turns (j w))
       unfolding full_part
-      full_part_live floor = then s n ends (opens_live s n ends) (λ k. side.or_near s n ends {h = only when_word} is_when refl refl refl (block_live (guarded_live k))
-          (side.or_near s n ends {h = only type_word} is_type_name refl refl refl (block_live (kinds_live k)) (cond_live true k))) refl
+      full_part_live floor = then s n ends (opens_live s n ends) (λ k. side.or_near s n ends {h = only when_word} is_when refl refl refl (block_live (bodied_live (guarded_live k)))
+          (side.or_near s n ends {h = only type_word} is_type_name refl refl refl (block_live (bodied_live (kinds_live k))) (cond_live true k))) refl
 
       pub let_live : {floor : ℕ} → go.Live s n floor true (clear (only let_word)) (clear past_expr) (let_of s turns i) (λ w. let_of w turns (j w))
       unfolding let_of

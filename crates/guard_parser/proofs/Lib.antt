@@ -1,5 +1,6 @@
 pub mod Facts
 pub mod Grows
+pub mod Rooms
 pub mod Sound
 pub mod Local
 pub mod Examples

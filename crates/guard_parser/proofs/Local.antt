@@ -1,5 +1,5 @@
 -- What is read depends on the lexemes that were looked at, and on no others: over lexemes that agree so far the outcome is the same.
-use Rattle.std.proofs.Common.{ℕ, zero, suc, Bool, true, false, List, Option}
+use Rattle.std.proofs.Common.{◌≡◌, refl, ℕ, zero, suc, Bool, true, false, List, Option}
 use Rattle.guard_syntax.specs.Named.{Named}
 use Rattle.guard_syntax.specs.declared.syntax.Op.{Op}
 use Rattle.guard_syntax.specs.Syntax.{Part, Query}
@@ -8,6 +8,7 @@ use Rattle.literal_parser.specs.Forms.{is_name, is_rule_name, is_any_name, is_ty
 use Rattle.literal_parser.specs.code.Parser.{Parser}
 use Rattle.guard_parser.specs.code.Reading.{BodyItems, Inner, is_filled, named_bar, capture, note, neg, worded, operator, keys_operator, names, params, dotted, keyed, filtered, bracketed, step, steps, start_step, query_of, tree_expr, applied, asked_expr, expr_of, found_expr, value_of, more_exprs_of, exprs_of, right, tested, called, referred, ruled, judged, headed, led_by_name, cond_of, cond_part, ors, disj_of, disjs, conds_of, opt_conds, guarded_part, kinds_part, full_part, let_of, body_items, body_end, body_of, head, rule_of, file_items, contents, inners}
 use Rattle.literal_parser.proofs.Steps.{Local, alike_then, alike_if, pure_local, stop_local, opens_local, takes_local, has_local, choose_local, pair_local, next_local, third_local}
+use Rattle.guard_parser.proofs.Rooms.{bodied_local}
 
 module _ (s w : ℕ → Lexeme) where
   -- ---- what does not nest
@@ -55,6 +56,7 @@ module _ (s w : ℕ → Lexeme) where
 
     -- the readers of what stands in brackets, over both
     pub record AllLocal (i j : Inner) : Type 0 where
+      pub roomy : i.roomy ≡ j.roomy
       pub tree : Local s w i.tree j.tree
       pub body : Local s w i.body j.body
       pub conds : Local s w i.conds j.conds
@@ -235,7 +237,8 @@ module _ (s w : ℕ → Lexeme) where
 
       full_part_local : Local s w (full_part s turns i) (full_part w turns j)
       unfolding full_part
-      full_part_local st seen = alike_then s w _ _ (opens_local s w st seen) (λ n a sn. choose_local s w is_when _ _ _ _ (guarded_local n) (choose_local s w is_type_name _ _ _ _ (kinds_local n) (cond_local true n)) a sn)
+      full_part_local st seen = alike_then s w _ _ (opens_local s w st seen) (λ n a sn. choose_local s w is_when _ _ _ _ (bodied_local s w turns i j _ _ all.roomy (guarded_local n))
+          (choose_local s w is_type_name _ _ _ _ (bodied_local s w turns i j _ _ all.roomy (kinds_local n)) (cond_local true n)) a sn)
 
       let_local : Local s w (let_of s turns i) (let_of w turns j)
       unfolding let_of
@@ -289,8 +292,9 @@ module _ (s w : ℕ → Lexeme) where
     -- given the same of literals
     module _ (trees : (depth : ℕ) → Local s w (inners s turns depth).tree (inners w turns depth).tree) where
       pub inners_local : (depth : ℕ) → AllLocal (inners s turns depth) (inners w turns depth)
-      inners_local zero = record { tree = trees zero; body = λ st seen. stop_local s w seen; conds = λ st seen. stop_local s w seen; expr = λ st seen. stop_local s w seen; exprs = λ st seen. stop_local s w seen }
+      inners_local zero = record { roomy = refl; tree = trees zero; body = λ st seen. stop_local s w seen; conds = λ st seen. stop_local s w seen; expr = λ st seen. stop_local s w seen; exprs = λ st seen. stop_local s w seen }
       inners_local (suc depth) = let all = inners_local depth in record {
+        roomy = refl;
         tree = trees (suc depth);
         body = body_local _ _ all;
         conds = conds_local _ _ all;

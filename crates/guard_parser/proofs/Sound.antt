@@ -14,6 +14,7 @@ use Rattle.guard_parser.specs.code.Reading.{is_filled, BodyItems, FileItems, Inn
 use Rattle.literal_parser.proofs.Steps.{opens_sound, takes_sound, has_sound, choose_sound, pair_sound, next_sound, third_sound}
 use Rattle.literal_parser.proofs.Combine.{Holds, Sound, done, failed, holds_then, holds_so, holds_if}
 use Rattle.guard_parser.proofs.Facts.{literal_range, literal_plain, literal_constant, literal_applied, literal_named, literal_other, applied_not, applied_other, led_by_start, led_by_next, led_by_third, unled_next, unled_third, capture_bar, capture_name}
+use Rattle.guard_parser.proofs.Rooms.{bodied_sound}
 
 module _ (s : ℕ → Lexeme) where
   -- ---- what does not recurse
@@ -299,8 +300,8 @@ module _ (s : ℕ → Lexeme) where
       full_part_sound : Sound (full_part s turns inner) (IsPart s true)
       unfolding full_part
       full_part_sound st seen = holds_then (opens_sound s st seen) (λ n a sn o. choose_sound s is_when _ _ _ _
-          (λ is. guarded_sound n st a _ o)
-          (λ is. choose_sound s is_type_name _ _ _ _ (λ is. kinds_sound n st a _ o) (λ is. cond_sound true n st a _ o)))
+          (λ is. bodied_sound s turns inner _ a _ (guarded_sound n st a _ o))
+          (λ is. choose_sound s is_type_name _ _ _ _ (λ is. bodied_sound s turns inner _ a _ (kinds_sound n st a _ o)) (λ is. cond_sound true n st a _ o)))
 
       let_sound : Sound (let_of s turns inner) (IsLet s)
       unfolding let_of

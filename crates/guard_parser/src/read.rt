@@ -130,7 +130,7 @@ fn add_parts(
     Err(Halt::Dead(cursor.seen))
 }
 
-/// A part of a body.
+/// A part of a body. Where no bracket more may open, a word that needs one goes no further.
 #[cycle(bodies)]
 #[tactic(auto, unfolding(crate::specs::code::Reading::full_part, literal_parser::specs::code::Parser::choose))]
 fn part(alloc: Global, tokens: Tokens<'_>, cursor: &mut Cursor, depth: usize) -> Result<Part, Halt>
@@ -139,9 +139,15 @@ fn part(alloc: Global, tokens: Tokens<'_>, cursor: &mut Cursor, depth: usize) ->
 {
     let site = cursor.opens(tokens)?;
     if cursor.sees(tokens, TokenTest::When) {
+        if depth == 0 {
+            return Err(Halt::Dead(cursor.seen));
+        }
         return guarded(alloc, tokens, cursor, depth, site);
     }
     if cursor.sees(tokens, TokenTest::TypeName) {
+        if depth == 0 {
+            return Err(Halt::Dead(cursor.seen));
+        }
         return kinds(alloc, tokens, cursor, depth, site);
     }
     match lead_of(tokens, cursor, TokenTest::PartLead)? {

@@ -4,6 +4,8 @@ pub mod Steps
 pub mod Places
 pub mod Takes
 pub mod Texts
+pub mod Cuts
+pub mod Spans
 pub mod LiteralSound
 pub mod LiteralGrows
 pub mod LiteralLocal

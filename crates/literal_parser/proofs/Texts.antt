@@ -56,7 +56,7 @@ back_solid (y ∷ xs) x e =
 
 -- ---- quotes
 
-second_is : (a b q : ℕ) → (a == 92 && b == q) ≡ true → b ≡ q
+pub second_is : (a b q : ℕ) → (a == 92 && b == q) ≡ true → b ≡ q
 second_is a b q e = by_first (a == 92) e where
   by_first : (c : Bool) → (c && b == q) ≡ true → b ≡ q
   by_first true h = eqb-true b q h

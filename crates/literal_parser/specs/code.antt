@@ -1,4 +1,5 @@
 -- What serves the code and its proofs alone: nobody has to believe it.
+pub mod Cuts
 pub mod LiteralDepth
 pub mod LiteralReading
 pub mod LiteralReads

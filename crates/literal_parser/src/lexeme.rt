@@ -1,10 +1,11 @@
 //! What the text of a token means.
-ghost use Rattle.std.specs.Prelude.{◌≡◌, ◌≤◌, ◌<◌, ◌+◌, ◌==◌, ◌&&◌, ℕ, List, length, slice_index, map, take, drop, slice_range, string_bytes, IfOk};
+ghost use Rattle.std.specs.Prelude.{◌≡◌, ◌≤◌, ◌<◌, ◌+◌, ◌-◌, ◌==◌, ◌&&◌, ℕ, List, length, slice_index, map, take, drop, slice_range, string_bytes, IfOk};
 ghost use Rattle.doc_values.specs.declared.decimal.Num.{Num};
 ghost use Rattle.guard_lexer.specs.declared.token.Token.{Token};
 ghost use Rattle.guard_lexer.specs.Bytes.{is_white};
 ghost use Rattle.literal_parser.specs.Lexemes.{lexeme_of, word_of, name_word, keyword_in, keyword_of, text_within, note_within, front_trimmed, back_trimmed};
 ghost use Rattle.literal_parser.specs.Forms.{text_in, text_of, number_in, keyword_operator, mark_operator};
+ghost use Rattle.literal_parser.specs.code.Cuts.{IsCut, IsEdged, IsFramed, IsTokenIn, AreTokensIn};
 ghost use Rattle.literal_parser.specs.code.TokenClasses.{spelling, shape_in, shape_of, name_shape, whole_shape, shape_operator, shape_sign, shape_index};
 
 use crate::keyword::{KEYWORDS, Keyword};
@@ -63,44 +64,40 @@ fn whole_shape(n: i64) -> TokenClass
     }
 }
 
-/// The part of a text between two byte offsets.
-fn part_of(text: &str, from: usize, to: usize) -> Result<&str, AllocError>
-    ensures { IfOk result (λ part. part.now ≡ slice_range text.now from to) }
+/// The part of a text that a token is.
+fn part_of(text: &str, token: Token) -> &str
+    requires { IsCut text.now token.from token.to }
+    ensures { result.now ≡ slice_range text.now token.from token.to }
 {
-    match text.get(from..to) {
-        Some(part) => Ok(part),
-        None => Err(AllocError),
-    }
+    &text[token.from as usize..token.to as usize]
 }
 
 /// What a token of a text is to the grammar.
-fn shape_of(text: &str, token: Token) -> Result<TokenClass, AllocError>
-    ensures { IfOk result (λ shape. shape ≡ shape_of (lexeme_of text.now token)) }
+fn shape_of(text: &str, token: Token) -> TokenClass
+    requires { IsTokenIn text.now token }
+    ensures { result ≡ shape_of (lexeme_of text.now token) }
 {
     match token.kind {
-        TokenKind::Name => match part_of(text, token.from as usize, token.to as usize) {
-            Ok(name) => Ok(name_shape(name)),
-            Err(e) => Err(e),
-        },
-        TokenKind::TypeName => Ok(TokenClass::TypeName),
-        TokenKind::Var => Ok(TokenClass::Var),
-        TokenKind::Str => Ok(TokenClass::Str),
-        TokenKind::Pat => Ok(TokenClass::Pat),
-        TokenKind::Whole(n) => Ok(whole_shape(n)),
-        TokenKind::Fraction(_) => Ok(TokenClass::Fraction),
-        TokenKind::Note => Ok(TokenClass::Note),
-        TokenKind::Mark(mark) => Ok(TokenClass::Sign(mark)),
+        TokenKind::Name => name_shape(part_of(text, token)),
+        TokenKind::TypeName => TokenClass::TypeName,
+        TokenKind::Var => TokenClass::Var,
+        TokenKind::Str => TokenClass::Str,
+        TokenKind::Pat => TokenClass::Pat,
+        TokenKind::Whole(n) => whole_shape(n),
+        TokenKind::Fraction(_) => TokenClass::Fraction,
+        TokenKind::Note => TokenClass::Note,
+        TokenKind::Mark(mark) => TokenClass::Sign(mark),
     }
 }
 
 /// What each token of a text is to the grammar.
 pub fn shapes_of(alloc: Global, text: &str, tokens: &[Token]) -> Result<Vec<TokenClass>, AllocError>
+    requires { AreTokensIn text.now tokens.now }
     ensures { IfOk result (λ shapes. shapes.items ≡ map (λ (t : Token). shape_of (lexeme_of text.now t)) tokens.now) }
 {
     let mut shapes = Vec::with_capacity(alloc, tokens.len())?;
     for token in tokens {
-        let shape = shape_of(text, *token)?;
-        match shapes.push(shape) {
+        match shapes.push(shape_of(text, *token)) {
             Ok(()) => {}
             Err(_) => return Err(AllocError),
         }
@@ -121,26 +118,24 @@ fn is_escape(bytes: &[u8], at: usize, quote: u8) -> bool
 
 /// A text or pattern, with its quotes, as it is meant.
 fn unquoted(alloc: Global, part: &str) -> Result<String, AllocError>
+    requires { IsEdged part.now }
     ensures { IfOk result (λ text. string_bytes text ≡ text_within part.now) }
 {
     let bytes = part.as_bytes();
     let mut text = String::new(alloc);
-    if bytes.is_empty() {
-        return Ok(text);
-    }
     let quote = bytes[0];
     let mut start = 1;
     let mut at = 1;
     while at + 1 < bytes.len() {
         if is_escape(bytes, at, quote) {
-            text.push_str(part_of(part, start, at)?)?;
+            text.push_str(&part[start..at])?;
             start = at + 1;
             at += 2;
         } else {
             at += 1;
         }
     }
-    text.push_str(part_of(part, start, at)?)?;
+    text.push_str(&part[start..at])?;
     Ok(text)
 }
 
@@ -152,7 +147,9 @@ fn is_white(byte: u8) -> bool
 
 /// How much white space is in front.
 fn white_len(bytes: &[u8]) -> usize
-    ensures { drop result bytes.now ≡ front_trimmed bytes.now }
+    ensures rest { drop result bytes.now ≡ front_trimmed bytes.now }
+    ensures within { result ≤ length bytes.now }
+    ensures last { 0 < result → slice_index bytes.now (result - 1) < 128 }
 {
     for (at, byte) in bytes.iter().enumerate() {
         if !is_white(*byte) {
@@ -164,7 +161,9 @@ fn white_len(bytes: &[u8]) -> usize
 
 /// How much is left without the white space at the end.
 fn solid_len(bytes: &[u8]) -> usize
-    ensures { take result bytes.now ≡ back_trimmed bytes.now }
+    ensures front { take result bytes.now ≡ back_trimmed bytes.now }
+    ensures within { result ≤ length bytes.now }
+    ensures next { result < length bytes.now → slice_index bytes.now result < 128 }
 {
     let mut len = bytes.len();
     while len > 0 && is_white(bytes[len - 1]) {
@@ -173,35 +172,56 @@ fn solid_len(bytes: &[u8]) -> usize
     len
 }
 
-/// What a note says: what stands between its signs, without white space at both ends.
-fn note_of(alloc: Global, part: &str) -> Result<String, AllocError>
-    ensures { IfOk result (λ text. string_bytes text ≡ note_within part.now) }
+fn front_trimmed(text: &str) -> &str
+    ensures { result.now ≡ front_trimmed text.now }
 {
-    let within = part_of(part, 2, part.len().saturating_sub(2))?;
-    let behind = part_of(within, white_len(within.as_bytes()), within.len())?;
-    String::from_str(alloc, part_of(behind, 0, solid_len(behind.as_bytes()))?)
+    &text[white_len(text.as_bytes())..]
 }
 
-/// What a token of a kind says, whose part of the text this is.
-fn meant(alloc: Global, kind: TokenKind, part: &str) -> Result<String, AllocError>
-    ensures { IfOk result (λ text. string_bytes text ≡ text_in (word_of kind part.now)) }
+fn back_trimmed(text: &str) -> &str
+    ensures { result.now ≡ back_trimmed text.now }
 {
-    match kind {
-        TokenKind::Name => String::from_str(alloc, part),
-        TokenKind::TypeName => String::from_str(alloc, part),
-        TokenKind::Var => String::from_str(alloc, part_of(part, 1, part.len())?),
-        TokenKind::Str | TokenKind::Pat => unquoted(alloc, part),
-        TokenKind::Note => note_of(alloc, part),
+    &text[..solid_len(text.as_bytes())]
+}
+
+/// What a note says: what stands between its signs, without white space at both ends.
+fn note_of(alloc: Global, part: &str) -> Result<String, AllocError>
+    requires { IsFramed part.now }
+    ensures { IfOk result (λ text. string_bytes text ≡ note_within part.now) }
+{
+    let within = &part[2..part.len() - 2];
+    String::from_str(alloc, back_trimmed(front_trimmed(within)))
+}
+
+/// The name of a variable, behind its `%`.
+fn variable_of(part: &str) -> &str
+    requires { IsEdged part.now }
+    ensures { result.now ≡ slice_range part.now 1 (length part.now) }
+{
+    &part[1..part.len()]
+}
+
+/// What a token of a text says.
+fn meant(alloc: Global, text: &str, token: Token) -> Result<String, AllocError>
+    requires { IsTokenIn text.now token }
+    ensures { IfOk result (λ said. string_bytes said ≡ text_of (lexeme_of text.now token)) }
+{
+    match token.kind {
+        TokenKind::Name => String::from_str(alloc, part_of(text, token)),
+        TokenKind::TypeName => String::from_str(alloc, part_of(text, token)),
+        TokenKind::Var => String::from_str(alloc, variable_of(part_of(text, token))),
+        TokenKind::Str | TokenKind::Pat => unquoted(alloc, part_of(text, token)),
+        TokenKind::Note => note_of(alloc, part_of(text, token)),
         _ => Ok(String::new(alloc)),
     }
 }
 
 /// What a token of a text says: a name, a variable without its `%`, a text, a pattern or a note as it is meant.
 pub(crate) fn text_of(alloc: Global, text: &str, token: Token) -> Result<Text, AllocError>
+    requires { IsTokenIn text.now token }
     ensures { IfOk result (λ found. found ≡ text_of (lexeme_of text.now token)) }
 {
-    let part = part_of(text, token.from as usize, token.to as usize)?;
-    Ok(Text::new(meant(alloc, token.kind, part)?))
+    Ok(Text::new(meant(alloc, text, token)?))
 }
 
 /// The number of a token of a text; 0 where it is none.

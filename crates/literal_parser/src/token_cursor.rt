@@ -1,6 +1,7 @@
 //! The tokens of a text, and how far they have been read.
 ghost use Rattle.std.specs.Prelude.{◌≡◌, ◌≤◌, ◌^◌, ℕ, length, map};
 ghost use Rattle.literal_parser.specs.Lexemes.{lexeme_of};
+ghost use Rattle.literal_parser.specs.code.Cuts.{AreTokensIn};
 ghost use Rattle.literal_parser.specs.code.TokenClasses.{shape_of};
 ghost use Rattle.guard_lexer.specs.declared.token.Token.{Token};
 
@@ -16,6 +17,7 @@ pub struct Tokens<'t> {
     pub turns: usize,
     pub ghost small: { length text.now ≤ 2 ^ 20 },
     pub ghost short: { length items.now ≤ 2 ^ 20 },
+    pub ghost cut: { AreTokensIn text.now items.now },
     pub ghost shaped: { shapes.now ≡ map (λ (t : Token). shape_of (lexeme_of text.now t)) items.now },
 }
 

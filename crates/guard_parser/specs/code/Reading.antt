@@ -21,8 +21,9 @@ BodyItems = Lets × Disjs
 abbrev pub FileItems : Type 0
 FileItems = Lets × List Rule × Disjs
 
--- readers of a literal at this depth of brackets, and of what stands in brackets one deeper
+-- whether one bracket more may open; readers of a literal at this depth of brackets, and of what stands in brackets one deeper
 pub record Inner : Type 0 where
+  pub roomy : Bool
   pub tree : Parser Forest
   pub body : Parser Body
   pub conds : Parser Conds
@@ -270,10 +271,14 @@ module _ (s : ℕ → Lexeme) where
         b ← inner.body
         pure (kinds n name c b)
 
+      -- what has a body, where a bracket may open
+      unfoldable pub bodied : {A : Type 0} → Parser A → Parser A
+      bodied p = if inner.roomy then p else stop
+
       unfoldable pub full_part : Parser Part
       full_part = do
         n ← opens s
-        choose s is_when (guarded_part n) (choose s is_type_name (kinds_part n) (cond_of true n))
+        choose s is_when (bodied (guarded_part n)) (choose s is_type_name (bodied (kinds_part n)) (cond_of true n))
 
       unfoldable pub let_of : Parser Let
       let_of = do
@@ -334,6 +339,6 @@ module _ (s : ℕ → Lexeme) where
 
     -- with brackets nested no deeper than the number
     abbrev pub inners : ℕ → Inner
-    inners zero = record { tree = literal_of s turns zero; body = stop; conds = stop; expr = stop; exprs = stop }
+    inners zero = record { roomy = false; tree = literal_of s turns zero; body = stop; conds = stop; expr = stop; exprs = stop }
     inners (suc depth) = let i = inners depth in
-        record { tree = literal_of s turns (suc depth); body = body_of i; conds = conds_of i; expr = expr_of i; exprs = exprs_of i }
+        record { roomy = true; tree = literal_of s turns (suc depth); body = body_of i; conds = conds_of i; expr = expr_of i; exprs = exprs_of i }

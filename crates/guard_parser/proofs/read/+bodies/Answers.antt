@@ -9,10 +9,11 @@ use Rattle.guard_parser.specs.declared.lead.Lead.{Lead}
 use Rattle.guard_parser.specs.code.Leads.{lead_of, led_by}
 use Rattle.guard_parser.specs.code.Reading as spec
 use Rattle.guard_parser.specs.code.Reading.{BodyItems, ors, disj_of, full_part, body_of, body_items, guarded_part, kinds_part, headed, judged}
-use Rattle.guard_parser.specs.code.GrammarReads.{see_items, see_parts, inner_body_at, body_items_at, closed_items_at, closed_body_at, let_at, disj_at, ors_at, some_parts_at, full_part_at, guarded_at, kinds_at, headed_at, ruled_at, tested_at, conds_at, opt_conds_at, query_at}
+use Rattle.guard_parser.specs.code.GrammarReads.{inner, see_items, see_parts, inner_body_at, body_items_at, closed_items_at, closed_body_at, let_at, disj_at, ors_at, some_parts_at, full_part_at, guarded_at, kinds_at, headed_at, ruled_at, tested_at, conds_at, opt_conds_at, query_at}
 use Rattle.guard_parser.proofs.CodeSteps.{then_read, then_fail, saw, handed, halted, halted_by, both, closed_by, list_begun, list_more, list_ended, list_failed, list_spent, deeper}
 use Rattle.guard_parser.proofs.BodySteps.{closes, items_begun, lets_more, parts_more, items_ended, items_failed, items_spent, none_filled, some_filled}
 use Rattle.guard_parser.proofs.Leads.{condition_led}
+use Rattle.guard_parser.proofs.Rooms.{roomy_reads, full_stops, room_left, no_room}
 use Rattle.guard_parser.proofs.SeenForms.{disj-made, body-made, guarded-made, kinds-made, block-made}
 use Rattle.guard_parser.proofs.read.+bodies.Goals as goal
 
@@ -90,17 +91,27 @@ part-returns-in_err-site t c =
     _ (full_part_at c.args.tokens c.args.depth (state_of c.args.cursor.now) c.args.cursor.now.seen) c.from_residual.result c.in_err-site.field-0.0 c.opens.new.self c.opens.new.self c.from_residual.ensures.1
     (refl) c.in_err-site.ensures
 
+pub part-returns-then-depth-eq0 : goal.part-returns-then-depth-eq0
+unfolding full_part
+part-returns-then-depth-eq0 t c =
+    then_read _ c.in_ok-site.ensures (saw (source c.args.tokens) is_when _ _ (state_of c.opens.new.self) c.opens.new.self.seen c.sees.ensures.token c.if-sees.true c.sees.ensures.state c.sees.ensures.seen (full_stops (source c.args.tokens) c.args.tokens.turns (inner c.args.tokens c.args.depth) (guarded_at c.args.tokens c.args.depth c.in_ok-site.site) (state_of c.sees.new.self) c.sees.new.self.seen (no_room (source c.args.tokens) c.args.tokens.turns c.args.depth c.if-depth-eq0.true)))
+
 pub part-returns-then-sees : goal.part-returns-then-sees
 unfolding full_part
 part-returns-then-sees t c =
     handed see_part (full_part_at c.args.tokens c.args.depth (state_of c.args.cursor.now) c.args.cursor.now.seen) (guarded_at c.args.tokens c.args.depth c.in_ok-site.site (state_of c.sees.new.self) c.sees.new.self.seen) c.guarded.result c.guarded.new.cursor
-    (then_read _ c.in_ok-site.ensures (saw (source c.args.tokens) is_when _ _ (state_of c.opens.new.self) c.opens.new.self.seen c.sees.ensures.token c.if-sees.true c.sees.ensures.state c.sees.ensures.seen refl)) c.guarded.ensures
+    (then_read _ c.in_ok-site.ensures (saw (source c.args.tokens) is_when _ _ (state_of c.opens.new.self) c.opens.new.self.seen c.sees.ensures.token c.if-sees.true c.sees.ensures.state c.sees.ensures.seen (roomy_reads (source c.args.tokens) c.args.tokens.turns (inner c.args.tokens c.args.depth) (guarded_at c.args.tokens c.args.depth c.in_ok-site.site) (state_of c.sees.new.self) c.sees.new.self.seen (room_left (source c.args.tokens) c.args.tokens.turns c.args.depth c.if-depth-eq0.false)))) c.guarded.ensures
+
+pub part-returns-then-depth-eq0-2 : goal.part-returns-then-depth-eq0-2
+unfolding full_part
+part-returns-then-depth-eq0-2 t c =
+    then_read _ c.in_ok-site.ensures (saw (source c.args.tokens) is_when _ _ (state_of c.opens.new.self) c.opens.new.self.seen c.sees.ensures.token c.if-sees.false c.sees.ensures.state c.sees.ensures.seen (saw (source c.args.tokens) is_type_name _ _ (state_of c.sees.new.self) c.sees.new.self.seen c.sees-2.ensures.token c.if-sees-2.true c.sees-2.ensures.state c.sees-2.ensures.seen (full_stops (source c.args.tokens) c.args.tokens.turns (inner c.args.tokens c.args.depth) (kinds_at c.args.tokens c.args.depth c.in_ok-site.site) (state_of c.sees-2.new.self) c.sees-2.new.self.seen (no_room (source c.args.tokens) c.args.tokens.turns c.args.depth c.if-depth-eq0-2.true))))
 
 pub part-returns-then-sees-2 : goal.part-returns-then-sees-2
 unfolding full_part
 part-returns-then-sees-2 t c =
     handed see_part (full_part_at c.args.tokens c.args.depth (state_of c.args.cursor.now) c.args.cursor.now.seen) (kinds_at c.args.tokens c.args.depth c.in_ok-site.site (state_of c.sees-2.new.self) c.sees-2.new.self.seen) c.kinds.result c.kinds.new.cursor
-    (then_read _ c.in_ok-site.ensures (saw (source c.args.tokens) is_when _ _ (state_of c.opens.new.self) c.opens.new.self.seen c.sees.ensures.token c.if-sees.false c.sees.ensures.state c.sees.ensures.seen (saw (source c.args.tokens) is_type_name _ _ (state_of c.sees.new.self) c.sees.new.self.seen c.sees-2.ensures.token c.if-sees-2.true c.sees-2.ensures.state c.sees-2.ensures.seen refl))) c.kinds.ensures
+    (then_read _ c.in_ok-site.ensures (saw (source c.args.tokens) is_when _ _ (state_of c.opens.new.self) c.opens.new.self.seen c.sees.ensures.token c.if-sees.false c.sees.ensures.state c.sees.ensures.seen (saw (source c.args.tokens) is_type_name _ _ (state_of c.sees.new.self) c.sees.new.self.seen c.sees-2.ensures.token c.if-sees-2.true c.sees-2.ensures.state c.sees-2.ensures.seen (roomy_reads (source c.args.tokens) c.args.tokens.turns (inner c.args.tokens c.args.depth) (kinds_at c.args.tokens c.args.depth c.in_ok-site.site) (state_of c.sees-2.new.self) c.sees-2.new.self.seen (room_left (source c.args.tokens) c.args.tokens.turns c.args.depth c.if-depth-eq0-2.false))))) c.kinds.ensures
 
 pub part-returns-in_err-any : goal.part-returns-in_err-any
 unfolding full_part

@@ -1,10 +1,11 @@
 use Rattle.std.proofs.Common.{ℕ, [], ◌∷◌, ◌++◌, ◌+◌, ◌-◌, refl, ap, ◌∙◌}
-use Rattle.literal_parser.specs.Forms.{is_comma, is_rparen}
-use Rattle.literal_parser.specs.code.Parser.{pure, and_then, takes}
+use Rattle.guard_syntax.specs.Named.{Named}
+use Rattle.literal_parser.specs.Forms.{is_comma, is_name, is_rparen, named_of}
+use Rattle.literal_parser.specs.code.Parser.{One, pure, and_then, takes, has}
 use Rattle.literal_parser.specs.code.Reads.{source, state_of}
 use Rattle.guard_parser.specs.code.Reading.{names}
 use Rattle.guard_parser.specs.code.FileReads.{put, names_at, closed_names, closed_names_at}
-use Rattle.guard_parser.proofs.CodeSteps.{then_read, saw, handed, closed_by, list_begun, list_more, list_ended, list_spent}
+use Rattle.guard_parser.proofs.CodeSteps.{then_read, then_fail, saw, handed, halted_by, closed_by, list_begun, list_more, list_ended, list_failed, list_spent}
 use Rattle.guard_parser.proofs.Turns.{put_all}
 use Rattle.guard_parser.proofs.read_file.add_names.Goals as goal
 
@@ -32,3 +33,19 @@ pub returns : goal.returns
 unfolding names
 returns c =
     list_spent put (closed_names c.args.tokens) c.loop-turn.found.items (λ (k : ℕ). names_at c.args.tokens k) c.args.tokens.turns c.loop-turn._turn (closed_names_at c.args.tokens (state_of c.args.cursor.now) c.args.cursor.now.seen) (state_of c.loop-turn.cursor) c.loop-turn.cursor.seen c.loop-turn.invariant c.loop-turn-test.false refl
+
+pub returns-in_err-takes : goal.returns-in_err-takes
+unfolding names
+returns-in_err-takes c =
+    halted_by (λ (x : One). x) (λ _. c.loop-turn.found.items) (takes (source c.args.tokens) is_comma (state_of c.sees.new.self) c.sees.new.self.seen)
+    (closed_names_at c.args.tokens (state_of c.args.cursor.now) c.args.cursor.now.seen) c.from_residual-in_err-takes.result c.in_err-takes.field-0.0 c.takes-in-loop-turn.new.self c.takes-in-loop-turn.new.self c.from_residual-in_err-takes.ensures.1
+    (λ k e. list_failed put (closed_names c.args.tokens) c.loop-turn.found.items (λ (k : ℕ). names_at c.args.tokens k) c.args.tokens.turns c.loop-turn._turn (closed_names_at c.args.tokens (state_of c.args.cursor.now) c.args.cursor.now.seen) (state_of c.loop-turn.cursor) c.loop-turn.cursor.seen c.loop-turn.invariant k c.loop-turn-test.true
+    (saw (source c.args.tokens) is_comma _ _ (state_of c.loop-turn.cursor) c.loop-turn.cursor.seen c.sees.ensures.token c.if-not-sees.false c.sees.ensures.state c.sees.ensures.seen (then_fail _ e))) c.in_err-takes.ensures
+
+pub returns-in_err-has_name-2 : goal.returns-in_err-has_name-2
+unfolding names
+returns-in_err-has_name-2 c =
+    halted_by (λ (x : Named). x) (λ _. c.loop-turn.found.items) (has (source c.args.tokens) is_name named_of (state_of c.takes-in-loop-turn.new.self) c.takes-in-loop-turn.new.self.seen)
+    (closed_names_at c.args.tokens (state_of c.args.cursor.now) c.args.cursor.now.seen) c.from_residual-in_err-has_name-2.result c.in_err-has_name-2.field-0.0 c.has_name-in-loop-turn.new.self c.has_name-in-loop-turn.new.self c.from_residual-in_err-has_name-2.ensures.1
+    (λ k e. list_failed put (closed_names c.args.tokens) c.loop-turn.found.items (λ (k : ℕ). names_at c.args.tokens k) c.args.tokens.turns c.loop-turn._turn (closed_names_at c.args.tokens (state_of c.args.cursor.now) c.args.cursor.now.seen) (state_of c.loop-turn.cursor) c.loop-turn.cursor.seen c.loop-turn.invariant k c.loop-turn-test.true
+    (saw (source c.args.tokens) is_comma _ _ (state_of c.loop-turn.cursor) c.loop-turn.cursor.seen c.sees.ensures.token c.if-not-sees.false c.sees.ensures.state c.sees.ensures.seen (then_read _ c.in_ok-takes.ensures (then_fail _ e)))) c.in_err-has_name-2.ensures

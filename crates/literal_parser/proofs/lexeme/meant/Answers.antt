@@ -1,18 +1,29 @@
-use Rattle.std.proofs.Common.{◌≡◌, ℕ, List, refl, sym, subst}
-use Rattle.std.specs.Prelude.{Option, Some, None, IfOk, string_bytes}
-use Rattle.guard_lexer.specs.declared.token.TokenKind.{TokenKind}
-use Rattle.literal_parser.specs.declared.keyword.Keyword.{Keyword}
-use Rattle.literal_parser.specs.Lexemes.{keyword_of, name_word, word_of}
-use Rattle.literal_parser.specs.Forms.{text_in}
+use Rattle.std.proofs.Common.{refl, subst, sym}
+use Rattle.guard_lexer.specs.declared.token.TokenKind.TheVariants as k
+use Rattle.literal_parser.specs.code.Cuts.{IsEdged, IsFramed}
+use Rattle.literal_parser.proofs.Cuts.{said_cut, said_edged, quoted_cut, quoted_edged}
 use Rattle.literal_parser.proofs.lexeme.meant.Goals as goal
 
--- a name says its bytes, be it a keyword or not
-name_says : (keyword : Option Keyword) (name : List ℕ) → name ≡ text_in (name_word keyword name)
-name_says None name = refl
-name_says (Some keyword) name = refl
+pub part_of-requires : goal.part_of-requires
+part_of-requires c = said_cut c.args.text.now c.args.token k.Name c.utf8.text c.requires c.in-Name.is refl
 
-pub returns-in-Name : goal.returns-in-Name
-returns-in-Name c =
-    let part = c.args.part.now in
-    subst (λ (kind : TokenKind). IfOk c.from_str.result (λ text. string_bytes text ≡ text_in (word_of kind part))) (sym c.in-Name.is)
-    (subst (λ (t : List ℕ). IfOk c.from_str.result (λ text. string_bytes text ≡ t)) (name_says (keyword_of part) part) c.from_str.ensures.ok)
+pub part_of-requires-in-TypeName : goal.part_of-requires-in-TypeName
+part_of-requires-in-TypeName c = said_cut c.args.text.now c.args.token k.TypeName c.utf8.text c.requires c.in-TypeName.is refl
+
+pub part_of-requires-in-Var : goal.part_of-requires-in-Var
+part_of-requires-in-Var c = said_cut c.args.text.now c.args.token k.Var c.utf8.text c.requires c.in-Var.is refl
+
+pub variable_of-requires : goal.variable_of-requires
+variable_of-requires c = subst IsEdged (sym c.part_of-in-Var.ensures) (said_edged c.args.text.now c.args.token k.Var c.requires c.in-Var.is refl)
+
+pub part_of-requires-in-Str : goal.part_of-requires-in-Str
+part_of-requires-in-Str c = quoted_cut c.args.text.now c.args.token c.utf8.text c.requires c.in-Str.is
+
+pub unquoted-requires : goal.unquoted-requires
+unquoted-requires c = subst IsEdged (sym c.part_of-in-Str.ensures) (quoted_edged c.args.text.now c.args.token c.requires c.in-Str.is)
+
+pub part_of-requires-in-Note : goal.part_of-requires-in-Note
+part_of-requires-in-Note c = said_cut c.args.text.now c.args.token k.Note c.utf8.text c.requires c.in-Note.is refl
+
+pub note_of-requires : goal.note_of-requires
+note_of-requires c = subst IsFramed (sym c.part_of-in-Note.ensures) (c.requires.signs c.in-Note.is)

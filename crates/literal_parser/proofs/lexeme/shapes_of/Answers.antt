@@ -1,8 +1,9 @@
-use Rattle.std.proofs.Common.{◌≡◌, ℕ, ◌<◌, ◌≤◌, ◌+◌, List, [], ◌∷◌, ◌++◌, length, get_or, map, take, ap, sym, ◌∙◌}
+use Rattle.std.proofs.Common.{◌≡◌, ℕ, ◌<◌, ◌≤◌, ◌+◌, List, [], ◌∷◌, ◌++◌, length, get_or, map, take, ap, sym, ◌∙◌, subst}
 use Rattle.std.proofs.lemmas.List.{map_more, take_all}
 use Rattle.guard_lexer.specs.declared.token.Token.{Token}
 use Rattle.literal_parser.specs.declared.token_class.TokenClass.{TokenClass}
 use Rattle.literal_parser.specs.Lexemes.{lexeme_of}
+use Rattle.literal_parser.specs.code.Cuts.{IsTokenIn}
 use Rattle.literal_parser.specs.code.TokenClasses.{shape_of}
 use Rattle.literal_parser.proofs.lexeme.shapes_of.Goals as goal
 
@@ -19,7 +20,7 @@ module _ (f : Token → TokenClass) (tokens : List Token) (i : ℕ) (shapes : Li
 pub loop-token-preserved : goal.loop-token-preserved
 loop-token-preserved c =
     one_more (λ (t : Token). shape_of (lexeme_of c.args.text.now t)) c.args.tokens.now c.loop-token.token-index c.loop-token.shapes.items c.loop-token.invariant
-    c.token-item.result c.in_ok-shape.shape c.push.new.self.items c.loop-token-test.true c.token-item.is c.in_ok-shape.ensures c.in-Ok.ensures.items
+    c.token-item.result c.shape_of.result c.push.new.self.items c.loop-token-test.true c.token-item.is c.shape_of.ensures c.in-Ok.ensures.items
 
 pub loop-token-init : goal.loop-token-init
 loop-token-init c = c.in_ok-shapes.ensures.items
@@ -28,3 +29,6 @@ pub returns : goal.returns
 returns c =
     no_more (λ (t : Token). shape_of (lexeme_of c.args.text.now t)) c.args.tokens.now c.loop-token.token-index c.loop-token.shapes.items c.loop-token.invariant
     c.loop-token-test.false
+
+pub shape_of-requires-in-loop-token : goal.shape_of-requires-in-loop-token
+shape_of-requires-in-loop-token c = subst (λ (t : Token). IsTokenIn c.args.text.now t) (sym c.token-item.is) (c.requires c.loop-token.token-index c.token-item.result c.loop-token-test.true)

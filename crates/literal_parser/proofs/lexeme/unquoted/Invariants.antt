@@ -1,5 +1,6 @@
 use Rattle.std.proofs.Common.{◌≡◌, ◌≤◌, ◌-◌, ◌++◌, length, drop}
 use Rattle.std.specs.Prelude.{slice_range, string_bytes}
+use Rattle.std.specs.Str.{IsCharBoundary}
 use Rattle.literal_parser.specs.Lexemes.{unquoted}
 use Rattle.literal_parser.proofs.lexeme.unquoted.Given as goal
 
@@ -9,6 +10,7 @@ invariant-loop-at l = record {
   begun : 1 ≤ l.start;
   below : l.start ≤ l.at;
   within : l.at ≤ length l.bytes;
+  cut : IsCharBoundary l.bytes l.start;
 }
 
 abbrev pub decreases-loop-at : goal.decreases-loop-at

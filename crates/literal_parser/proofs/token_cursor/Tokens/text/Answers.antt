@@ -13,3 +13,6 @@ returns-then-at-self c = subst (λ (x : Lexeme). IfOk c.text_of.result (λ found
 pub returns-else-at-self : goal.returns-else-at-self
 unfolding source
 returns-else-at-self c = c.new-else-at-self.ensures ∙ c.new.ensures.bytes ∙ ap text_of (sym (at_end c.args.self.text.now c.args.self.items.now c.args.at c.if-at-self.false))
+
+pub text_of-requires : goal.text_of-requires
+text_of-requires c = c.args.self.cut c.args.at c.index-self-at.result c.if-at-self.true
