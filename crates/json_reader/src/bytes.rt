@@ -1,5 +1,6 @@
 //! Classes of bytes.
-ghost use Rattle.std.specs.Prelude.{◌≡◌};
+ghost use Rattle.std.specs.Prelude.{ℕ, ◌≡◌, ◌<◌, ◌≤◌, length, true, false, slice_index};
+ghost use Rattle.json_reader.specs.Json.{is_space};
 ghost use Rattle.json_reader.specs.code.Reading.{class_of, mark_len, mark_stop};
 
 /// What a byte is, outside texts.
@@ -43,6 +44,30 @@ pub(crate) fn byte_class(byte: u8) -> Class
         b'1'..=b'9' => Class::Digit,
         _ => Class::Other,
     }
+}
+
+fn is_space(byte: u8) -> bool
+    ensures { result ≡ is_space byte }
+{
+    byte == b' ' || byte == b'\t' || byte == b'\n' || byte == b'\r'
+}
+
+/// The place behind the white space from a place on.
+pub(crate) fn space_end(bytes: &[u8], at: usize) -> usize
+    requires { at ≤ length bytes.now }
+    ensures from { at ≤ result }
+    ensures within { result ≤ length bytes.now }
+    ensures space { (k : ℕ) → at ≤ k → k < result → is_space (slice_index bytes.now k) ≡ true }
+    ensures most { result < length bytes.now → is_space (slice_index bytes.now result) ≡ false }
+{
+    let mut end = at;
+    while end < bytes.len() {
+        if !is_space(bytes[end]) {
+            return end;
+        }
+        end += 1;
+    }
+    end
 }
 
 /// How many bytes of a byte order mark stand in front.

@@ -8,7 +8,7 @@ ghost use Rattle.json_reader.specs.code.Reading.{mark_stop};
 ghost use Rattle.json_reader.specs.Json.{Json};
 ghost use Rattle.json_reader.specs.Refusals.{IsRefused, place_of_refusal};
 
-use crate::bytes::{front_len, mark_stop};
+use crate::bytes::{front_len, mark_stop, space_end};
 use crate::refusal::JsonRefusal;
 use crate::stage::{Position, Stage};
 use crate::step::step;
@@ -48,14 +48,20 @@ fn read_tokens<'s>(
     ensures refusal { IfErr result (λ e. (e ≡ JsonRefusal.NoMemory → ⊥) → IsRefused text.now e) }
     ensures memory { IsErrOf result JsonRefusal.NoMemory → HasBeginning text.now }
 {
+    let bytes = text.as_bytes();
     let mut position = Position {
-        at: front_len(text.as_bytes()),
+        at: space_end(bytes, front_len(bytes)),
         stage: Stage::Value,
     };
     while position.at < text.len() {
         match step(texts, text, position, builder) {
             Err(refusal) => return Err(refusal),
-            Ok(next) => position = next,
+            Ok(next) => {
+                position = Position {
+                    at: space_end(bytes, next.at),
+                    stage: next.stage,
+                }
+            }
         }
     }
     match position.stage {

@@ -1,6 +1,7 @@
 //! One token at a time: what it adds to the tree, and what is awaited behind it.
 ghost use Rattle.std.specs.Prelude.{◌≡◌, ◌+◌, ◌<◌, ◌≤◌, length, [], true, false, None, IsErrOf, MatchResult, slice_index, ℕ};
 ghost use Rattle.doc_values.specs.Limits.{template_limit};
+ghost use Rattle.json_reader.specs.Json.{is_space};
 ghost use Rattle.json_reader.specs.code.Reading.{AtValue, AtKeyOrEnd, AtItemOrEnd, AtKey, AtColon, After, InString, InWord, begins_number, after_next, class_of};
 ghost use Rattle.json_reader.specs.code.Memory.{begins, HasEscape};
 ghost use Rattle.json_reader.specs.declared.bytes.Class.TheVariants.{Comma};
@@ -22,7 +23,7 @@ fn offset(i: usize) -> u32
     i as u32
 }
 
-/// The next token, whatever is awaited.
+/// The token that begins at a place, whatever is awaited.
 pub(crate) fn step<'s>(
     texts: &Texts,
     text: &'s str,
@@ -30,6 +31,7 @@ pub(crate) fn step<'s>(
     builder: &mut DocBuilder<'s>,
 ) -> Result<Position, JsonRefusal>
     requires within { position.at < length text.now }
+    requires token { is_space (slice_index text.now position.at) ≡ false }
     requires small { length text.now ≤ template_limit }
     requires fits { Fits position.stage builder.old }
     ensures gives { Gives text.now position.at (phase_of position.stage) builder.old builder.new result }
@@ -54,6 +56,7 @@ fn value_step<'s>(
     builder: &mut DocBuilder<'s>,
 ) -> Result<Position, JsonRefusal>
     requires within { at < length text.now }
+    requires token { is_space (slice_index text.now at) ≡ false }
     requires small { length text.now ≤ template_limit }
     requires fits { Fits Stage.Value builder.old }
     ensures gives { Gives text.now at AtValue builder.old builder.new result }
@@ -61,10 +64,6 @@ fn value_step<'s>(
 {
     let bytes = text.as_bytes();
     match byte_class(bytes[at]) {
-        Class::Space => Ok(Position {
-            at: at + 1,
-            stage: Stage::Value,
-        }),
         Class::Quote => text_step(texts, text, at, builder),
         Class::Open => open_step(at, true, builder),
         Class::OpenList => open_step(at, false, builder),
@@ -84,16 +83,13 @@ fn key_or_end_step<'s>(
     builder: &mut DocBuilder<'s>,
 ) -> Result<Position, JsonRefusal>
     requires within { at < length text.now }
+    requires token { is_space (slice_index text.now at) ≡ false }
     requires small { length text.now ≤ template_limit }
     requires fits { Fits Stage.KeyOrEnd builder.old }
     ensures gives { Gives text.now at AtKeyOrEnd builder.old builder.new result }
     ensures memory { IsErrOf result JsonRefusal.NoMemory → begins (class_of (slice_index text.now at)) ≡ true }
 {
     match byte_class(text.as_bytes()[at]) {
-        Class::Space => Ok(Position {
-            at: at + 1,
-            stage: Stage::KeyOrEnd,
-        }),
         Class::Quote => key_step(texts, text, at, builder),
         Class::Close => end_step(at, true, builder),
         _ => Err(JsonRefusal::Syntax(offset(at))),
@@ -108,16 +104,13 @@ fn item_or_end_step<'s>(
     builder: &mut DocBuilder<'s>,
 ) -> Result<Position, JsonRefusal>
     requires within { at < length text.now }
+    requires token { is_space (slice_index text.now at) ≡ false }
     requires small { length text.now ≤ template_limit }
     requires fits { Fits Stage.ItemOrEnd builder.old }
     ensures gives { Gives text.now at AtItemOrEnd builder.old builder.new result }
     ensures memory { IsErrOf result JsonRefusal.NoMemory → begins (class_of (slice_index text.now at)) ≡ true }
 {
     match byte_class(text.as_bytes()[at]) {
-        Class::Space => Ok(Position {
-            at: at + 1,
-            stage: Stage::ItemOrEnd,
-        }),
         Class::CloseList => end_step(at, false, builder),
         _ => value_step(texts, text, at, builder),
     }
@@ -131,16 +124,13 @@ fn next_key_step<'s>(
     builder: &mut DocBuilder<'s>,
 ) -> Result<Position, JsonRefusal>
     requires within { at < length text.now }
+    requires token { is_space (slice_index text.now at) ≡ false }
     requires small { length text.now ≤ template_limit }
     requires fits { Fits Stage.Key builder.old }
     ensures gives { Gives text.now at AtKey builder.old builder.new result }
     ensures memory { IsErrOf result JsonRefusal.NoMemory → begins (class_of (slice_index text.now at)) ≡ true }
 {
     match byte_class(text.as_bytes()[at]) {
-        Class::Space => Ok(Position {
-            at: at + 1,
-            stage: Stage::Key,
-        }),
         Class::Quote => key_step(texts, text, at, builder),
         _ => Err(JsonRefusal::Syntax(offset(at))),
     }
@@ -149,16 +139,13 @@ fn next_key_step<'s>(
 /// Behind a key.
 fn colon_step(text: &str, at: usize, builder: &DocBuilder) -> Result<Position, JsonRefusal>
     requires within { at < length text.now }
+    requires token { is_space (slice_index text.now at) ≡ false }
     requires small { length text.now ≤ template_limit }
     requires fits { Fits Stage.Colon builder.now }
     ensures gives { Gives text.now at AtColon builder.now builder.now result }
     ensures no_memory { ¬ IsErrOf result JsonRefusal.NoMemory }
 {
     match byte_class(text.as_bytes()[at]) {
-        Class::Space => Ok(Position {
-            at: at + 1,
-            stage: Stage::Colon,
-        }),
         Class::Colon => Ok(Position {
             at: at + 1,
             stage: Stage::Value,
@@ -170,16 +157,13 @@ fn colon_step(text: &str, at: usize, builder: &DocBuilder) -> Result<Position, J
 /// Behind a value.
 fn after_step(text: &str, at: usize, builder: &mut DocBuilder) -> Result<Position, JsonRefusal>
     requires within { at < length text.now }
+    requires token { is_space (slice_index text.now at) ≡ false }
     requires small { length text.now ≤ template_limit }
     requires fits { Fits Stage.After builder.old }
     ensures gives { Gives text.now at After builder.old builder.new result }
     ensures no_memory { ¬ IsErrOf result JsonRefusal.NoMemory }
 {
     match byte_class(text.as_bytes()[at]) {
-        Class::Space => Ok(Position {
-            at: at + 1,
-            stage: Stage::After,
-        }),
         Class::Comma => comma_step(at, builder),
         Class::Close => end_step(at, true, builder),
         Class::CloseList => end_step(at, false, builder),

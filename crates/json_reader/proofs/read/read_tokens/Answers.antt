@@ -1,5 +1,9 @@
-use Rattle.std.proofs.Common.{◌≡◌, ◌≤◌, ℕ, length, arith, sym, ◌∙◌, ap, Result, Err}
-use Rattle.json_reader.specs.code.Steps.{phase_of}
+use Rattle.std.proofs.Common.{◌≡◌, ◌<◌, ◌≤◌, ℕ, false, List, length, get_or, arith, refl, sym, subst, ◌∙◌, ap, Result, Err}
+use Rattle.json_reader.specs.Json.{is_space}
+use Rattle.json_reader.specs.declared.stage.Stage.TheVariants as stage
+use Rattle.json_reader.specs.code.Reading.{AtValue, mark_len, behind_mark, from}
+use Rattle.json_reader.specs.code.Steps.{Fits, phase_of}
+use Rattle.json_reader.proofs.ByClass.{skipped_in}
 use Rattle.json_reader.proofs.Verdicts.{refused, ends_well, ends_open, ends_early}
 use Rattle.json_reader.proofs.Refuses.{refuses}
 use Rattle.json_reader.specs.declared.refusal.JsonRefusal.{JsonRefusal}
@@ -41,5 +45,31 @@ returns-in-Err-clause-refusal c = λ n. refuses c.args.text.now c.in-Err.refusal
 pub returns-in-Err-clause-memory : goal.returns-in-Err-clause-memory
 returns-in-Err-clause-memory c = λ h. (c.loop-position.position.at, c.loop-position-test.true, c.in-Err.ensures.memory (ap Err (same_refusal c.in-Err.refusal NoMemory h)))
 
+pub loop-position-init : goal.loop-position-init
+loop-position-init c =
+    let text = c.args.text.now in
+    let bytes = c.as_bytes-bytes.result.now in
+    let same = c.as_bytes-bytes.ensures.value in
+    let place = c.space_end.result in
+    let e = c.space_end.ensures in
+    let begun = c.requires.begun in
+    let whole = ap (λ n. from text n AtValue c.args.builder.now) (c.front_len.ensures ∙ ap mark_len same) ∙ ap (from text (mark_len text) AtValue) begun ∙ sym (ap (behind_mark text) c.requires.unmarked) in (
+      sym (skipped_in text bytes c.front_len.result place stage.Value c.args.builder.now same e.from e.within e.space) ∙ whole,
+      subst (Fits stage.Value) (sym begun) (record { rooted = tt; awaits = (refl, refl) }),
+      subst (λ (t : List ℕ). place ≤ length t) same e.within,
+      subst (λ (t : List ℕ). place < length t → is_space (get_or t place 0) ≡ false) same e.most,
+    )
+
 pub loop-position-preserved : goal.loop-position-preserved
-loop-position-preserved c = let g = c.in-Ok.ensures.gives in (sym g.2 ∙ c.loop-position.invariant.0, g.3, g.1)
+loop-position-preserved c =
+    let text = c.args.text.now in
+    let bytes = c.as_bytes-bytes.result.now in
+    let same = c.as_bytes-bytes.ensures.value in
+    let place = c.space_end-in-Ok.result in
+    let e = c.space_end-in-Ok.ensures in
+    let g = c.in-Ok.ensures.gives in (
+      sym (skipped_in text bytes c.in-Ok.next.at place c.in-Ok.next.stage c.step.new.builder same e.from e.within e.space) ∙ sym g.2 ∙ c.loop-position.invariant.0,
+      g.3,
+      subst (λ (t : List ℕ). place ≤ length t) same e.within,
+      subst (λ (t : List ℕ). place < length t → is_space (get_or t place 0) ≡ false) same e.most,
+    )

@@ -1,18 +1,11 @@
 use Rattle.std.proofs.Common.{List, ℕ, get_or, ap, sym, ◌∙◌, refl}
 use Rattle.std.specs.Prelude.{Err}
-use Rattle.json_reader.specs.declared.stage.Stage.TheVariants as stage
 use Rattle.json_reader.specs.declared.refusal.JsonRefusal.TheVariants.{Syntax}
 use Rattle.json_reader.specs.declared.bytes.Class.TheVariants.{Comma, Close, CloseList}
 use Rattle.json_reader.specs.code.Reading.{class_of, After, after_next}
 use Rattle.json_reader.proofs.Walk.{Gives-one, from_cause}
-use Rattle.json_reader.proofs.ByClass.{goes, after_stops}
+use Rattle.json_reader.proofs.ByClass.{after_stops, not_space}
 use Rattle.json_reader.proofs.step.after_step.Goals as goal
-
-pub returns-in-Space-clause-gives : goal.returns-in-Space-clause-gives
-returns-in-Space-clause-gives c =
-    let u = c.args.builder.now in
-    let class = c.byte_class.ensures ∙ ap (λ (t : List ℕ). class_of (get_or t c.args.at 0)) c.as_bytes.ensures.value in
-    goes c.args.text.now c.args.at After stage.After u u c.requires.within (ap (after_next u) (sym class ∙ c.in-Space.is)) c.requires.fits
 
 pub returns-in-Comma-clause-gives : goal.returns-in-Comma-clause-gives
 returns-in-Comma-clause-gives c =
@@ -35,4 +28,4 @@ returns-in-CloseList-clause-gives c =
 pub returns-in_default-clause-gives : goal.returns-in_default-clause-gives
 returns-in_default-clause-gives c =
     let class = c.byte_class.ensures ∙ ap (λ (t : List ℕ). class_of (get_or t c.args.at 0)) c.as_bytes.ensures.value in
-    from_cause c.args.text.now c.args.at After c.args.builder.now (Syntax c.args.at) c.requires.within (after_stops (class_of (get_or c.args.text.now c.args.at 0)) c.args.builder.now (λ h. c.in_default.not-Space (class ∙ h)) (λ h. c.in_default.not-Comma (class ∙ h)) (λ h. c.in_default.not-Close (class ∙ h)) (λ h. c.in_default.not-CloseList (class ∙ h))) refl ∙ ap (λ n. Err (Syntax n)) (sym c.offset.ensures)
+    from_cause c.args.text.now c.args.at After c.args.builder.now (Syntax c.args.at) c.requires.within (after_stops (class_of (get_or c.args.text.now c.args.at 0)) c.args.builder.now (not_space (get_or c.args.text.now c.args.at 0) c.requires.token) (λ h. c.in_default.not-Comma (class ∙ h)) (λ h. c.in_default.not-Close (class ∙ h)) (λ h. c.in_default.not-CloseList (class ∙ h))) refl ∙ ap (λ n. Err (Syntax n)) (sym c.offset.ensures)

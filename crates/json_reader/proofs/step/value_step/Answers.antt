@@ -1,22 +1,13 @@
 use Rattle.std.proofs.Common.{List, [], ◌∷◌, ℕ, ◌+◌, true, false, get_or, ap, sym, subst, ◌∙◌}
 use Rattle.std.specs.Prelude.{Err}
 use Rattle.doc_values.specs.declared.kind.Kind.TheVariants as kind
-use Rattle.json_reader.specs.declared.stage.Stage.TheVariants as stage
 use Rattle.json_reader.specs.declared.refusal.JsonRefusal.TheVariants.{Syntax, TooDeep}
 use Rattle.json_reader.specs.code.Memory.{begins}
 use Rattle.json_reader.specs.code.Reading.{class_of, AtValue, InString, InWord, value_next, value_cause}
 use Rattle.json_reader.specs.code.Steps.{Gives, open_next}
 use Rattle.json_reader.proofs.Walk.{Gives-one, from_cause}
-use Rattle.json_reader.proofs.ByClass.{goes, gives_on, value_stops, quote_is}
+use Rattle.json_reader.proofs.ByClass.{gives_on, not_space, value_stops, quote_is}
 use Rattle.json_reader.proofs.step.value_step.Goals as goal
-
-pub returns-in-Space-clause-gives : goal.returns-in-Space-clause-gives
-returns-in-Space-clause-gives c =
-    let text = c.args.text.now in
-    let at = c.args.at in
-    let u = c.args.builder.now in
-    let class = c.byte_class.ensures ∙ ap (λ (t : List ℕ). class_of (get_or t c.args.at 0)) c.as_bytes-bytes.ensures.value in
-    goes text at AtValue stage.Value u u c.requires.within (ap (value_next at u (get_or text at 0)) (sym class ∙ c.in-Space.is)) c.requires.fits
 
 pub text_step-requires-clause-quote : goal.text_step-requires-clause-quote
 text_step-requires-clause-quote c =
@@ -110,5 +101,5 @@ returns-in_default-clause-gives c =
     let at = c.args.at in
     let u = c.args.builder.now in
     let class = c.byte_class.ensures ∙ ap (λ (t : List ℕ). class_of (get_or t c.args.at 0)) c.as_bytes-bytes.ensures.value in
-    let stops = value_stops (class_of (get_or text at 0)) at u (get_or text at 0) (λ h. c.in_default.not-Space (class ∙ h)) (λ h. c.in_default.not-Quote (class ∙ h)) (λ h. c.in_default.not-Open (class ∙ h)) (λ h. c.in_default.not-OpenList (class ∙ h)) (λ h. c.in_default.not-LetterN (class ∙ h)) (λ h. c.in_default.not-LetterT (class ∙ h)) (λ h. c.in_default.not-LetterF (class ∙ h)) (λ h. c.in_default.not-Minus (class ∙ h)) (λ h. c.in_default.not-Zero (class ∙ h)) (λ h. c.in_default.not-Digit (class ∙ h)) in
+    let stops = value_stops (class_of (get_or text at 0)) at u (get_or text at 0) (not_space (get_or c.args.text.now c.args.at 0) c.requires.token) (λ h. c.in_default.not-Quote (class ∙ h)) (λ h. c.in_default.not-Open (class ∙ h)) (λ h. c.in_default.not-OpenList (class ∙ h)) (λ h. c.in_default.not-LetterN (class ∙ h)) (λ h. c.in_default.not-LetterT (class ∙ h)) (λ h. c.in_default.not-LetterF (class ∙ h)) (λ h. c.in_default.not-Minus (class ∙ h)) (λ h. c.in_default.not-Zero (class ∙ h)) (λ h. c.in_default.not-Digit (class ∙ h)) in
     from_cause text at AtValue u (Syntax at) c.requires.within stops.0 stops.1 ∙ ap (λ n. Err (Syntax n)) (sym c.offset.ensures)
