@@ -1,0 +1,12 @@
+mod AddedLines
+mod BesideTables
+mod EmptyEngine
+mod EnteredLines
+mod Evaluating
+mod FrameEnvironments
+mod FramesSaid
+mod Named
+mod PartTables
+mod SaidStays
+mod SiteTables
+mod Tables

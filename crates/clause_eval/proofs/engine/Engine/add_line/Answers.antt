@@ -1,0 +1,16 @@
+use Rattle.std.proofs.Common.{◌∙◌}
+use Rattle.std.proofs.lemmas.Grind.{merely}
+use Rattle.value_compare.specs.code.Stores.{see_store}
+use Rattle.clause_eval.proofs.EmptyEngine.{pushed-follows}
+use Rattle.clause_eval.proofs.engine.Engine.add_line.Goals as goal
+
+pub invariant_of-self : goal.invariant_of-self
+invariant_of-self c = record {
+  frames_over = c.args.self.now.frames_over;
+  store_over = c.args.self.now.store_over;
+  book_is = c.args.self.now.book_is;
+  tables = c.args.self.now.tables;
+  version = c.push.ensures.version ∙ c.args.self.now.version;
+  follows = merely (pushed-follows c.push.result (see_store c.args.self.now.store) c.args.self.now.evidence c.push.new.self c.args.line c.requires.before c.requires.follows
+      c.push.ensures.added c.push.ensures.kept);
+}

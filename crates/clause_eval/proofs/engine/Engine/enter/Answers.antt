@@ -1,0 +1,47 @@
+use Rattle.std.proofs.Common.{◌<◌, ◌≤◌, ◌∷◌, ◌++◌, [], ap, refl, sym, subst, ◌∙◌, ℕ, length, arith, slice_get}
+use Rattle.rule_names.specs.code.Files.{file_of}
+use Rattle.scope_frames.specs.code.Frames.{AreEntered}
+use Rattle.scope_frames.specs.declared.frame.Frame.{Frame}
+use Rattle.clause_eval.specs.code.Beside.{beside_in}
+use Rattle.clause_eval.specs.code.Engines.{lines_in, part_in, see_engine}
+use Rattle.clause_eval.proofs.EnteredLines.{enter-follows, enter-frame, enter-has, enter-known, found-entered, is-first-entered, is-new, may-framed, new-alone, new-number, same-frames, was-there}
+use Rattle.clause_eval.proofs.PartTables.{part-more}
+use Rattle.clause_eval.proofs.engine.Engine.enter.Goals as goal
+
+pub returns-then-number-len : goal.returns-then-number-len
+returns-then-number-len c =
+    let s = see_engine c.args.self.now in
+    let frame : Frame = record { parent = c.args.parent; site = c.args.site; current = c.args.current } in
+    let less : c.in_ok-number.number < length s.framed = subst (λ (n : ℕ). c.in_ok-number.number < n) (c.len.ensures ∙ c.args.self.now.framed.ok.0) c.if-number-len.true in
+    let same = was-there s.frames c.enter.new.self.entered.keys frame c.in_ok-number.number (length s.framed) c.requires.whole.counted c.in_ok-number.ensures.entered less in
+    found-entered s _ c.requires.whole (same-frames s _ refl same refl refl refl refl refl) frame c.in_ok-number.number
+    (sym (ap (λ fs. slice_get fs c.in_ok-number.number) same) ∙ c.in_ok-number.ensures.entered.0)
+
+pub frame_line-line-requires : goal.frame_line-line-requires
+frame_line-line-requires c = may-framed (see_engine c.args.self.now) c.requires.whole c.args.parent c.args.site c.requires.scope
+
+pub add_line-requires-clause-follows : goal.add_line-requires-clause-follows
+add_line-requires-clause-follows c =
+    enter-follows (see_engine c.args.self.now) c.requires.whole c.args.site c.args.current c.frame_line-line.result c.args.parent c.requires.scope c.requires.value c.frame_line-line.ensures
+
+pub returns : goal.returns
+returns c =
+    let s = see_engine c.args.self.now in
+    let frame : Frame = record { parent = c.args.parent; site = c.args.site; current = c.args.current } in
+    let over = c.args.self.now.frames_over ∙ sym c.args.self.now.store_over in
+    let beyond : length s.framed ≤ c.in_ok-number.number = subst (λ (n : ℕ). n ≤ c.in_ok-number.number) (c.len.ensures ∙ c.args.self.now.framed.ok.0) c.if-number-len.false in
+    let past : c.in_ok-number.number < length s.framed → ⊥ = λ less. omega (arith, less, beyond) in
+    let more = is-new s.frames c.enter.new.self.entered.keys frame c.in_ok-number.number (length s.framed) c.requires.whole.counted c.in_ok-number.ensures.entered past in
+    is-first-entered s _ c.requires.whole frame c.frame_line-line.result c.in_ok-number.number
+    (enter-follows s c.requires.whole c.args.site c.args.current c.frame_line-line.result c.args.parent c.requires.scope c.requires.value c.frame_line-line.ensures)
+    (enter-known s c.requires.whole c.args.site c.args.current c.frame_line-line.result c.args.parent c.requires.value c.frame_line-line.ensures)
+    (enter-frame s c.requires.whole c.args.site c.args.current c.frame_line-line.result c.args.parent c.frame_line-line.ensures)
+    (enter-has s c.requires.whole c.args.site c.args.current c.frame_line-line.result c.args.parent c.requires.value c.frame_line-line.ensures)
+    (subst (λ fs. AreEntered s.known.file fs) more
+    (subst (λ f. AreEntered (file_of f) c.enter.new.self.entered.keys) over (c.enter.ensures.sound (subst (λ f. AreEntered (file_of f) s.frames) (sym over) c.requires.whole.entered))))
+    (new-alone s.frames c.enter.new.self.entered.keys frame c.in_ok-number.number (length s.framed) c.requires.whole.counted c.in_ok-number.ensures.entered past)
+    (new-number s.frames c.enter.new.self.entered.keys frame c.in_ok-number.number (length s.framed) c.requires.whole.counted c.in_ok-number.ensures.entered past)
+    c.add_line.ensures.store (c.add_line.ensures.frames ∙ more) c.in_ok-line.ensures.added.0
+    (c.in_ok-push-2.ensures.items ∙ ap (λ ns. ns ++ c.in_ok-line.line ∷ []) c.add_line.ensures.framed ∙ ap (λ n. s.framed ++ n ∷ []) c.in_ok-line.ensures.added.1)
+    (λ n m. ap (λ ps. part_in ps n m) (c.add_line.ensures.parts ∙ c.in_ok-push.ensures.items) ∙ part-more c.args.self.now.parts.items c.new.result c.new.ensures.lines n m)
+    (λ n m. ap (λ b. beside_in b.entries n m) c.add_line.ensures.beside) (λ m. ap (λ t. lines_in t m) c.add_line.ensures.rules)

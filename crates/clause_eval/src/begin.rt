@@ -1,0 +1,47 @@
+//! An engine at its beginning.
+ghost use Rattle.std.specs.Prelude.{◌≡◌, false};
+ghost use Rattle.rule_names.specs.code.Files.{file_of};
+ghost use Rattle.rule_meaning.specs.Values.{has_pattern};
+ghost use Rattle.value_compare.specs.code.Books.{IsBookOf};
+ghost use Rattle.clause_eval.specs.code.Engines.{see_engine};
+ghost use Rattle.clause_eval.specs.code.States.{IsWhole};
+
+use crate::engine::Engine;
+use crate::site_lines::SiteLines;
+use doc_values::Doc;
+use evidence_lines::{Evidence, Version};
+use indexmap::IndexMap;
+use rule_names::RuleFile;
+use scope_frames::Frames;
+use std::alloc::Global;
+use value_compare::{PatternBook, Store};
+
+impl<'t, 's> Engine<'t, 's> {
+    /// An engine over a rule file and a template, with the patterns of the file. It has evaluated nothing, and writes
+    /// evidence of version 2. It takes no memory.
+    pub fn new(
+        alloc: Global,
+        file: &'t RuleFile,
+        doc: &'t Doc<'s>,
+        book: &'t PatternBook,
+    ) -> Engine<'t, 's>
+        requires plain { has_pattern doc.now ≡ false }
+        requires book { IsBookOf (file_of file.now) book.now }
+        ensures file { (see_engine result).known.file ≡ file_of file.entry.now }
+        ensures template { (see_engine result).known.template ≡ doc.entry.now }
+        ensures whole { IsWhole (see_engine result) }
+    {
+        Engine {
+            alloc,
+            file,
+            book,
+            frames: Frames::new(alloc, file),
+            store: Store::new(alloc, doc, file),
+            evidence: Evidence::new(alloc, Version::Two),
+            framed: Vec::new(alloc),
+            parts: Vec::new(alloc),
+            beside: IndexMap::new(alloc),
+            rules: SiteLines::new(alloc, 0),
+        }
+    }
+}

@@ -1,0 +1,89 @@
+//! Frames that are entered, each with its line.
+ghost use Rattle.std.specs.Prelude.{◌≡◌, IfOk, None};
+ghost use Rattle.rule_meaning.specs.Roots.{root_ref};
+ghost use Rattle.scope_frames.specs.code.Frames.{MayEnter};
+ghost use Rattle.clause_eval.specs.code.Engines.{see_engine};
+ghost use Rattle.clause_eval.specs.code.Entered.{Enters, IsFramed, IsLineFor, MayHaveValue};
+ghost use Rattle.clause_eval.specs.code.States.{IsWhole};
+
+use crate::engine::Engine;
+use crate::site_lines::SiteLines;
+use evidence_lines::{Cites, Line, LineKind, Outcome};
+use guard_syntax::{Origin, Ref};
+use std::alloc::AllocError;
+
+impl<'t, 's> Engine<'t, 's> {
+    /// The frame of the file.
+    pub fn enter_file(&mut self) -> Result<u64, AllocError>
+        requires { IsWhole (see_engine self.old) }
+        ensures { IfOk result (λ number. Enters (see_engine self.old) (see_engine self.new) None 0 root_ref number) }
+    {
+        // A tree has a root, as `len` says: the current value of the file is known.
+        let _nodes = self.store.doc.len();
+        self.enter(None, 0, root())
+    }
+
+    /// The frame of a scope with a current value, in the frame around it. One that is entered for the first time has its
+    /// line behind the others.
+    pub fn enter(&mut self, parent: Option<u64>, site: u32, current: Ref) -> Result<u64, AllocError>
+        requires whole { IsWhole (see_engine self.old) }
+        requires scope { MayEnter (see_engine self.old).known.file (see_engine self.old).frames parent site }
+        requires value { MayHaveValue (see_engine self.old) parent site current }
+        ensures { IfOk result (λ number. Enters (see_engine self.old) (see_engine self.new) parent site current number) }
+    {
+        let number = self.frames.enter(parent, site, current)?;
+        if number < self.framed.len() as u64 {
+            return Ok(number);
+        }
+        let first = self.first_site(site);
+        self.parts.push(SiteLines::new(self.alloc, first))?;
+        let line = self.frame_line(parent, site, current);
+        let line = self.add_line(line)?;
+        self.framed.push(line)?;
+        Ok(number)
+    }
+
+    /// A site in front of the parts of the scope that is entered at a site: a called body stands behind its rule.
+    fn first_site(&self, site: u32) -> u32 {
+        match self.file.target(site) {
+            Some(rule) => rule,
+            None => site,
+        }
+    }
+
+    /// The line of a frame. It takes no memory.
+    fn frame_line(&self, parent: Option<u64>, site: u32, current: Ref) -> Line
+        requires { IsFramed self.now.framed.items parent }
+        ensures { IsLineFor self.now.framed.items parent site current result }
+    {
+        let cites = Cites::new(Vec::new(self.alloc));
+        let outcome = Outcome::Value(current);
+        match parent {
+            None => Line {
+                kind: LineKind::File,
+                frame: None,
+                site: None,
+                cites,
+                outcome,
+            },
+            Some(parent) => Line {
+                kind: LineKind::Frame,
+                frame: Some(self.line_of_frame(parent)),
+                site: Some(site),
+                cites,
+                outcome,
+            },
+        }
+    }
+}
+
+/// The root of the template, which is the current value of the file.
+fn root() -> Ref
+    ensures { result ≡ root_ref }
+{
+    Ref {
+        origin: Origin::Template,
+        node: 0,
+        key: false,
+    }
+}

@@ -1,0 +1,188 @@
+//! The lines of an engine: what they say, and how one is added.
+ghost use Rattle.std.specs.Prelude.{◌≡◌, ◌++◌, ◌∷◌, ◌<◌, ℕ, [], length, List, Some, None, IfOk, slice_get, suc};
+ghost use Rattle.evidence_lines.specs.declared.version.Version.TheVariants.{Two};
+ghost use Rattle.evidence_lines.specs.declared.line.LineKind.{LineKind};
+ghost use Rattle.evidence_lines.specs.declared.line.LineKind.TheVariants as kind;
+ghost use Rattle.evidence_lines.specs.declared.line.Outcome.TheVariants as says;
+ghost use Rattle.guard_syntax.specs.declared.row.Row.{Row};
+ghost use Rattle.guard_syntax.specs.declared.row.Verdict.{Verdict};
+ghost use Rattle.rule_names.specs.Pieces.{piece_at};
+ghost use Rattle.value_compare.specs.code.Stores.{see_store};
+ghost use Rattle.evidence_rules.specs.CitedLines.{IsLine};
+ghost use Rattle.evidence_rules.specs.Follows.{Follows};
+ghost use Rattle.clause_eval.specs.code.Adding.{Added, Adds, line_for};
+ghost use Rattle.clause_eval.specs.code.Engines.{see_engine};
+ghost use Rattle.clause_eval.specs.code.Kinds.{kind_beside, own_kind};
+ghost use Rattle.clause_eval.specs.code.States.{FollowUp, IsWhole};
+
+use crate::engine::Engine;
+use crate::place::Place;
+use evidence_lines::{Cites, Line, LineKind, Outcome};
+use guard_syntax::{Row, Verdict};
+use std::alloc::AllocError;
+
+impl<'t, 's> Engine<'t, 's> {
+    /// The line of a frame.
+    pub fn line_of_frame(&self, frame: u64) -> u64
+        requires { frame < length self.now.framed.items }
+        ensures { slice_get self.now.framed.items frame ≡ Some result }
+    {
+        self.framed.as_slice()[frame as usize]
+    }
+
+    /// The line of the part of a site in a frame, if it was evaluated there.
+    pub fn found(&self, frame: u64, site: u32) -> Option<u64>
+        ensures { result ≡ (see_engine self.now).parts frame site }
+    {
+        self.parts.get(frame as usize)?.get(site)
+    }
+
+    /// The line of what the step of a site captures in a frame, or of the rows of the type block of a site.
+    pub fn found_beside(&self, frame: u64, site: u32) -> Option<u64>
+        ensures { result ≡ (see_engine self.now).beside frame site }
+    {
+        match self.beside.get(&Place { frame, site }) {
+            Some(line) => Some(*line),
+            None => None,
+        }
+    }
+
+    /// The line of the rule of a site, if it was judged.
+    pub fn found_rule(&self, site: u32) -> Option<u64>
+        ensures { result ≡ (see_engine self.now).rules site }
+    {
+        self.rules.get(site)
+    }
+
+    /// The rows that a line says.
+    pub fn rows_said(&self, line: u64) -> &[Row]
+        requires { (of : LineKind) × (frame site : ℕ) × (rows : List Row) × IsLine self.now.evidence.lines line of frame site (says.Rows rows) }
+        ensures { (of : LineKind) (frame site : ℕ) (rows : List Row) → IsLine self.entry.now.evidence.lines line of frame site (says.Rows rows) → result.now ≡ rows }
+    {
+        let Some(line) = self.evidence.get(line) else {
+            unreachable!()
+        };
+        match &line.outcome {
+            Outcome::Rows(rows) => rows.as_slice(),
+            Outcome::Value(_) | Outcome::Verdict(_) => unreachable!(),
+        }
+    }
+
+    /// The verdict that a line says.
+    pub fn verdict_said(&self, line: u64) -> Verdict
+        requires { (of : LineKind) × (frame site : ℕ) × (verdict : Verdict) × IsLine self.now.evidence.lines line of frame site (says.Verdict verdict) }
+        ensures { (of : LineKind) (frame site : ℕ) (verdict : Verdict) → IsLine self.now.evidence.lines line of frame site (says.Verdict verdict) → result ≡ verdict }
+    {
+        let Some(line) = self.evidence.get(line) else {
+            unreachable!()
+        };
+        match &line.outcome {
+            Outcome::Verdict(verdict) => *verdict,
+            Outcome::Value(_) | Outcome::Rows(_) => unreachable!(),
+        }
+    }
+
+    /// Adds the line of the part of a site in a frame, which has none yet, and answers its number.
+    pub fn add(
+        &mut self,
+        frame: u64,
+        site: u32,
+        kind: LineKind,
+        cites: Vec<u64>,
+        outcome: Outcome,
+    ) -> Result<u64, AllocError>
+        requires whole { IsWhole (see_engine self.old) }
+        requires kind { own_kind (piece_at (see_engine self.old).known.file site) ≡ Some kind }
+        requires adds { Adds (see_engine self.old) frame site kind cites.items outcome }
+        requires new { (see_engine self.old).parts frame site ≡ None }
+        ensures { IfOk result (λ number. Added (see_engine self.old) (see_engine self.new) frame site kind cites.items outcome number) }
+    {
+        let line = self.line_in(frame, site, kind, cites, outcome);
+        let number = self.add_line(line)?;
+        self.parts[frame as usize].set(site, number)?;
+        Ok(number)
+    }
+
+    /// Adds the line of what the step of a site captures in a frame, or of the rows of the type block of a site, which has
+    /// none yet, and answers its number.
+    pub fn add_beside(
+        &mut self,
+        frame: u64,
+        site: u32,
+        kind: LineKind,
+        cites: Vec<u64>,
+        outcome: Outcome,
+    ) -> Result<u64, AllocError>
+        requires whole { IsWhole (see_engine self.old) }
+        requires kind { kind_beside (piece_at (see_engine self.old).known.file site) ≡ Some kind }
+        requires adds { Adds (see_engine self.old) frame site kind cites.items outcome }
+        requires new { (see_engine self.old).beside frame site ≡ None }
+        ensures { IfOk result (λ number. Added (see_engine self.old) (see_engine self.new) frame site kind cites.items outcome number) }
+    {
+        let line = self.line_in(frame, site, kind, cites, outcome);
+        let number = self.add_line(line)?;
+        self.beside.insert(Place { frame, site }, number)?;
+        Ok(number)
+    }
+
+    /// Adds the line of the rule of a site, which has none yet, and answers its number.
+    pub fn add_rule(
+        &mut self,
+        frame: u64,
+        site: u32,
+        cites: Vec<u64>,
+        verdict: Verdict,
+    ) -> Result<u64, AllocError>
+        requires whole { IsWhole (see_engine self.old) }
+        requires adds { Adds (see_engine self.old) frame site kind.Rule cites.items (says.Verdict verdict) }
+        requires new { (see_engine self.old).rules site ≡ None }
+        ensures { IfOk result (λ number. Added (see_engine self.old) (see_engine self.new) frame site kind.Rule cites.items (says.Verdict verdict) number) }
+    {
+        let line = self.line_in(
+            frame,
+            site,
+            LineKind::Rule,
+            cites,
+            Outcome::Verdict(verdict),
+        );
+        let number = self.add_line(line)?;
+        self.rules.set(site, number)?;
+        Ok(number)
+    }
+
+    /// The line of a site in a frame. It takes no memory.
+    fn line_in(
+        &self,
+        frame: u64,
+        site: u32,
+        kind: LineKind,
+        cites: Vec<u64>,
+        outcome: Outcome,
+    ) -> Line
+        requires { frame < length self.now.framed.items }
+        ensures { (at : ℕ) → slice_get self.now.framed.items frame ≡ Some at → result ≡ line_for at site kind cites.items outcome }
+    {
+        Line {
+            kind,
+            frame: Some(self.line_of_frame(frame)),
+            site: Some(site),
+            cites: Cites::new(cites),
+            outcome,
+        }
+    }
+
+    /// Adds a line that follows behind the others.
+    pub(crate) fn add_line(&mut self, line: Line) -> Result<u64, AllocError>
+        requires before { FollowUp (see_store self.old.store) self.old.evidence.lines }
+        requires follows { Follows Two (see_store self.old.store) self.old.evidence.lines line [] }
+        ensures added { IfOk result (λ number. (self.new.evidence.lines ≡ self.old.evidence.lines ++ line ∷ []) × (number ≡ suc (length self.old.evidence.lines))) }
+        ensures store { see_store self.new.store ≡ see_store self.old.store }
+        ensures frames { self.new.frames.entered.keys ≡ self.old.frames.entered.keys }
+        ensures framed { self.new.framed.items ≡ self.old.framed.items }
+        ensures parts { self.new.parts.items ≡ self.old.parts.items }
+        ensures beside { self.new.beside ≡ self.old.beside }
+        ensures rules { self.new.rules ≡ self.old.rules }
+    {
+        self.evidence.push(line)
+    }
+}

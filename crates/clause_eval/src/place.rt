@@ -1,0 +1,8 @@
+//! Where a line beside that of a part stands.
+
+/// A frame by its number, and a site.
+#[derive(Clone, Copy, Debug, PartialEq, Eq, Hash)]
+pub struct Place {
+    pub frame: u64,
+    pub site: u32,
+}
