@@ -1,3 +1,4 @@
+pub mod Ascii
 pub mod Bounds
 pub mod Cuts
 pub mod Fields

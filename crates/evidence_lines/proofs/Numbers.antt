@@ -139,8 +139,11 @@ digits_from (c ∷ ds) digits =
     let parts = and_parts (is_ascii_digit c) (list_all is_ascii_digit ds) digits in
     and_from _ _ (and_parts _ _ parts.0).0 (digits_from ds parts.1)
 
+pub decimal_digits : (n : ℕ) → n < 2 ^ 64 → list_all is_ascii_digit (decimal n) ≡ true
+decimal_digits n small = digits_decimal own n small
+
 pub decimal_from : (n : ℕ) → n < 2 ^ 64 → From 48 (decimal n)
-decimal_from n small = digits_from (decimal n) (digits_decimal own n small)
+decimal_from n small = digits_from (decimal n) (decimal_digits n small)
 
 -- a byte that is no digit does not stand in a number
 pub decimal_free : (s n : ℕ) → (s < 48) ⊎ (57 < s) → n < 2 ^ 64 → Free s (decimal n)

@@ -14,7 +14,7 @@ use crate::field::{cut, is_none_sign, read_count, read_place, read_ref, read_row
 use crate::line::{Cites, Line, LineKind, Outcome, Rows, Sort};
 use crate::refusal::EvidenceRefusal;
 use crate::version::Version;
-use byte_lanes::count_byte;
+use byte_lanes::{count_byte, is_ascii};
 use guard_syntax::Row;
 use std::alloc::{AllocError, Global};
 
@@ -185,6 +185,9 @@ fn read_outcome(alloc: Global, sort: Sort, bytes: &[u8]) -> Result<Option<Outcom
 fn read_line(alloc: Global, bytes: &[u8]) -> Result<Option<Line>, AllocError>
     ensures { IfOk result (λ o. o ≡ line_in bytes.now) }
 {
+    if !is_ascii(bytes) {
+        return Ok(None);
+    }
     match fields_of(bytes) {
         None => Ok(None),
         Some(fields) => read_fields(alloc, &fields),
