@@ -24,7 +24,7 @@ use Rattle.yaml_blocks.specs.declared.node.Key.{Key}
 use Rattle.yaml_blocks.specs.declared.refusal.YamlRefusal.{YamlRefusal}
 use Rattle.yaml_blocks.specs.declared.refusal.YamlRefusal.TheVariants as refusal
 use Rattle.yaml_blocks.specs.Ahead.{token_len, ahead}
-use Rattle.yaml_blocks.specs.Nodes.{tag_name, tag_key, is_dot, is_cut, starts_scalar, scalar_ahead}
+use Rattle.yaml_blocks.specs.Nodes.{tag_name, tag_key, follows_get_att, setting_of, as_key, is_dot, is_cut, starts_scalar, scalar_ahead}
 use Rattle.yaml_blocks.specs.Signs as sign
 use Rattle.yaml_blocks.specs.Signs.{Sign, Tab, Directive, ManyDocuments, DuplicateKey, TooDeep, Reading, Tree, Refused}
 use Rattle.yaml_blocks.specs.Blocks.{takes_scalar, takes_sequence, takes_tag, or_else, last_place, ends_name, IsBare, IsKey}
@@ -215,7 +215,7 @@ Fits text stage.Whole fs u i = u.outer ≡ []
 
 -- a node outside of flow is awaited at a place, in a form, and what is ahead of it was seen
 pub record Awaited (text : List ℕ) (fs : List Form) (u : Unfinished) (f : Form) (i : ℕ) (a : Ahead) : Type 0 where
-  pub small : length text ≤ template_limit
+  pub small : a.at ≤ template_limit
   pub boundary : IsCharBoundary text i
   pub seen : IsSeen text false i a
   pub form : top fs ≡ f
@@ -295,6 +295,29 @@ abbrev pub FindsKey : List ℕ → Ahead → Result (Option Key) YamlRefusal →
 FindsKey text a (Ok None) = NoKey text a
 FindsKey text a (Ok (Some k)) = HasKey text a k
 FindsKey text a (Err e) = e ≡ refusal.NoMemory
+
+-- ---- texts in which the same is ahead
+
+-- what stands at a token in a text as a scalar of a setting stands there in another
+pub record SameScalar (text other : List ℕ) (s : Setting) (a : Ahead) : Type 0 where
+  pub scalar : scalar_ahead other s a ≡ scalar_ahead text s a
+  pub typed : is_typed s other a.at ≡ is_typed s text a.at
+  pub last : (t : List ℕ) (j : ℕ) → scalar_ahead text s a ≡ Stands t j → IsCharBoundary text j → IsCharBoundary other j
+
+-- so does a key outside of flow, and the same is behind it
+pub record SameKey (text other : List ℕ) (a : Ahead) : Type 0 where
+  pub scalar : SameScalar text other (as_key false) a
+  pub behind : (t : List ℕ) (j : ℕ) → scalar_ahead text (as_key false) a ≡ Stands t j → ahead other false j ≡ ahead text false j
+  pub last : (t : List ℕ) (j : ℕ) → scalar_ahead text (as_key false) a ≡ Stands t j → IsCharBoundary text (ahead text false j).behind → IsCharBoundary other (ahead text false j).behind
+
+-- whatever node may begin at a token of a text begins there in another
+pub record SameNode (text other : List ℕ) (f : Form) (i : ℕ) (a : Ahead) : Type 0 where
+  pub name : tag_name other a.at a.behind ≡ tag_name text a.at a.behind
+  pub cuts : follows_get_att other f i ≡ follows_get_att text f i
+  pub scalar : SameScalar text other (setting_of f) a
+  pub key : SameKey text other a
+
+-- ---- parts again
 
 -- a further collection was refused: there was no memory, or there are 128
 abbrev pub Deep : Unfinished → ℕ → YamlRefusal → Type 0

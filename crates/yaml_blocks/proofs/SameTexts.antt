@@ -1,0 +1,79 @@
+-- Texts in which the same is ahead: what stands in one stands in the other. By the cases of what the reader finds.
+use Rattle.std.proofs.Common.{◌≡◌, ℕ, List, inl, inr, refl, sym, ap, ◌∙◌, subst}
+use Rattle.std.specs.Prelude.{Result, Ok, Err, Bool}
+use Rattle.std.specs.Cow.{cow_str_bytes}
+use Rattle.std.specs.Str.{IsCharBoundary}
+use Rattle.doc_values.specs.declared.kind.Kind.{Kind}
+use Rattle.doc_values.specs.declared.kind.Kind.TheVariants as kind
+use Rattle.doc_values.specs.Unfinished.{Unfinished, with_open, with_key}
+use Rattle.yaml_scalars.specs.declared.scalar.Setting.{Setting}
+use Rattle.yaml_scalars.specs.Scalar.{HasKind}
+use Rattle.yaml_blocks.specs.declared.ahead.Ahead.{Ahead}
+use Rattle.yaml_blocks.specs.declared.form.Form.{Form}
+use Rattle.yaml_blocks.specs.declared.node.Key.{Key}
+use Rattle.yaml_blocks.specs.declared.stage.Position.{Position}
+use Rattle.yaml_blocks.specs.declared.refusal.YamlRefusal.{YamlRefusal}
+use Rattle.yaml_blocks.specs.Nodes.{tag_name, tag_key}
+use Rattle.yaml_blocks.specs.Blocks.{IsKey}
+use Rattle.yaml_blocks.specs.code.Steps.{SameScalar, SameKey, SameNode, Found, Failed, Divides, Finds, Holds, NoKey, HasKey, TagBegun}
+
+-- ---- scalars
+
+module _ (text other : List ℕ) (s : Setting) (a : Ahead) (m : SameScalar text other s a) where
+  pub found_same : (t : List ℕ) (k : Kind) (j : ℕ) → Found text s a t k j → Found other s a t k j
+  found_same t k j (st, hk, lt, b) = (m.scalar ∙ st, subst (λ q. HasKind q t k) (sym m.typed) hk, lt, m.last t j st b)
+
+  pub failed_same : Failed text s a → Failed other s a
+  failed_same (n, d) = ((λ t j h. n t j (sym m.scalar ∙ h)), (λ p h. d p (sym m.scalar ∙ h)))
+
+  divides_same : (e : YamlRefusal) → Divides text s a e → Divides other s a e
+  divides_same e (p, h, d) = (p, h, m.scalar ∙ d)
+
+  pub holds_same : (cuts : Bool) (u w : Unfinished) (r : Result Position YamlRefusal) → Holds text s cuts a u w r → Holds other s cuts a u w r
+  holds_same cuts u w (Ok p) (t, k, f, es, ew, room) = (t, k, found_same t k p.at f, es, ew, room)
+  holds_same cuts u w (Err e) (inl h) = inl h
+  holds_same cuts u w (Err e) (inr (inl (h, f))) = inr (inl (h, failed_same f))
+  holds_same cuts u w (Err e) (inr (inr (inl d))) = inr (inr (inl (divides_same e d)))
+  holds_same cuts u w (Err e) (inr (inr (inr (t, k, j, f, c, h, d)))) = inr (inr (inr (t, k, j, found_same t k j f, c, h, d)))
+
+  pub finds_same : (e : YamlRefusal) → Finds text s a (Err e) → Finds other s a (Err e)
+  finds_same e (inl h) = inl h
+  finds_same e (inr (inl (h, f))) = inr (inl (h, failed_same f))
+  finds_same e (inr (inr d)) = inr (inr (divides_same e d))
+
+-- ---- keys
+
+module _ (text other : List ℕ) (a : Ahead) (m : SameKey text other a) where
+  key_there : (t : List ℕ) (p : ℕ) → IsKey text a t p → IsKey other a t p
+  key_there t p (e, st, f, tk, b) =
+      let h = m.behind t e st in
+      (e, m.scalar.scalar ∙ st, ap (λ (x : Ahead). x.fresh) h ∙ f, ap (λ (x : Ahead). x.token) h ∙ tk, b ∙ sym (ap (λ (x : Ahead). x.behind) h))
+
+  key_here : (t : List ℕ) (p : ℕ) → IsKey other a t p → IsKey text a t p
+  key_here t p (e, st, f, tk, b) =
+      let st2 = sym m.scalar.scalar ∙ st in
+      let h = m.behind t e st2 in
+      (e, st2, sym (ap (λ (x : Ahead). x.fresh) h) ∙ f, sym (ap (λ (x : Ahead). x.token) h) ∙ tk, b ∙ ap (λ (x : Ahead). x.behind) h)
+
+  key_last : (t : List ℕ) (p : ℕ) → IsKey text a t p → IsCharBoundary text p → IsCharBoundary other p
+  key_last t p (e, st, f, tk, b) c = subst (IsCharBoundary other) (sym b) (m.last t e st (subst (IsCharBoundary text) b c))
+
+  pub has_key_same : (k : Key) → HasKey text a k → HasKey other a k
+  has_key_same k (h, b, l) = (key_there (cow_str_bytes k.text) k.behind h, key_last (cow_str_bytes k.text) k.behind h b, l)
+
+  pub no_key_same : NoKey text a → NoKey other a
+  no_key_same n = λ t p h. n t p (key_here t p h)
+
+-- ---- tags
+
+pub tag_same : (text other : List ℕ) (f : Form) (a : Ahead) (fs gs : List Form) (u w : Unfinished) (r : Result Position YamlRefusal) → tag_name other a.at a.behind ≡ tag_name text a.at a.behind → TagBegun text f a fs u gs w r → TagBegun other f a fs u gs w r
+tag_same text other f a fs gs u w (Ok p) n (es, ej, eg, ew, d) = (es, ej, eg, subst (λ t. w ≡ with_key (tag_key t) (with_open kind.Map a.at u)) (sym n) ew, d)
+tag_same text other f a fs gs u w (Err e) n h = h
+
+-- ---- a text itself
+
+pub same_key : (text : List ℕ) (a : Ahead) → SameKey text text a
+same_key text a = record { scalar = record { scalar = refl; typed = refl; last = λ t j h b. b }; behind = λ t j h. refl; last = λ t j h b. b }
+
+pub same_node : (text : List ℕ) (f : Form) (i : ℕ) (a : Ahead) → SameNode text text f i a
+same_node text f i a = record { name = refl; cuts = refl; scalar = record { scalar = refl; typed = refl; last = λ t j h b. b }; key = same_key text a }
