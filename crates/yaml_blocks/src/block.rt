@@ -10,7 +10,7 @@ ghost use Rattle.yaml_blocks.specs.Blocks.{block_sign, takes_scalar, takes_mappi
 ghost use Rattle.yaml_blocks.specs.code.Refused.{of_sign};
 ghost use Rattle.yaml_blocks.specs.code.Rest.{top, Inside, Ends, Awaits};
 ghost use Rattle.yaml_blocks.specs.Yaml.{IsEnd};
-ghost use Rattle.yaml_blocks.specs.code.Steps.{stack, IsSeen, IsBlock, IsBehind, IsSmall, HasKey, NoKey, Open, Fits, Awaited, SameKey, SameNode, IsCalm, NoNode, Gives, Ended, is_dash, ends_before};
+ghost use Rattle.yaml_blocks.specs.code.Steps.{stack, IsSeen, IsBlock, IsBehind, IsSmall, HasKey, NoKey, Open, Fits, Awaited, SameKey, SameNode, SameEnd, IsCalm, NoNode, Gives, Ended, is_dash, ends_before};
 
 use crate::ahead::{Ahead, Token, look};
 use crate::flow::open;
@@ -462,7 +462,7 @@ pub(crate) fn node<'s>(
     requires form { top (stack forms.old.items) ≡ form }
     requires block { IsBlock form }
     requires fits { Fits text.now Stage.Value (stack forms.old.items) builder.old at }
-    ensures { Gives text.now (Awaits text.now (stack forms.old.items) builder.old.outer builder.old.done builder.old.key at) (2 * at + 1) (stack forms.new.items) builder.new result }
+    ensures { (other : List ℕ) → Awaited other (stack forms.old.items) builder.old form at (ahead text.now false at) → SameNode text.now other form at (ahead text.now false at) → Gives other (Awaits other (stack forms.old.items) builder.old.outer builder.old.done builder.old.key at) (2 * at + 1) (stack forms.new.items) builder.new result }
 {
     let next = look(text, false, at);
     match block_sign(form, next) {
@@ -686,7 +686,7 @@ pub(crate) fn after<'s>(
     requires open { Open (stack forms.old.items) builder.old }
     requires calm { IsCalm text.now builder.old at }
     requires awaited { builder.old.key ≡ None }
-    ensures { Gives text.now (Ends text.now (stack forms.old.items) builder.old.outer builder.old.done at) (2 * at + 2) (stack forms.new.items) builder.new result }
+    ensures { (other : List ℕ) → SameEnd text.now other at → IsSeen other false at (ahead text.now false at) → IsCharBoundary other at → IsCalm other builder.old at → SameKey text.now other (ahead text.now false at) → Gives other (Ends other (stack forms.old.items) builder.old.outer builder.old.done at) (2 * at + 2) (stack forms.new.items) builder.new result }
 {
     let next = look(text, false, at);
     if is_document_end(text, at, next) {

@@ -1,5 +1,5 @@
 -- What each part of the reader gives, said by what may still follow. No public clause names this file.
-use Rattle.std.specs.Prelude.{ℕ, suc, ◌+◌, ◌*◌, ◌<◌, ◌≤◌, ◌≡◌, ◌⊎◌, Bool, true, false, List, [], ◌∷◌, length, Option, None, Some, Result, Ok, Err, if◌then◌else◌, nat_lt, nat_eq, not, ◌||◌, ◌&&◌}
+use Rattle.std.specs.Prelude.{ℕ, suc, ◌+◌, ◌*◌, ◌<◌, ◌≤◌, ◌≡◌, ◌⊎◌, Bool, true, false, List, [], ◌∷◌, length, Option, None, Some, Result, Ok, Err, if◌then◌else◌, nat_lt, nat_eq, not, ◌||◌, ◌&&◌, drop}
 use Rattle.std.specs.Str.{IsCharBoundary}
 use Rattle.std.specs.Cow.{cow_str_bytes}
 use Rattle.std.specs.List.{before_first, after_first}
@@ -11,7 +11,7 @@ use Rattle.doc_values.specs.Unfinished.{Level, Unfinished, with_value, with_open
 use Rattle.yaml_scalars.specs.declared.scalar.Scalar.{Scalar}
 use Rattle.yaml_scalars.specs.declared.scalar.Setting.{Setting}
 use Rattle.yaml_scalars.specs.Lines.{Stands, Documents}
-use Rattle.yaml_scalars.specs.Scalar.{is_typed, HasKind}
+use Rattle.yaml_scalars.specs.Scalar.{begins_quoted, is_typed, HasKind}
 use Rattle.yaml_blocks.specs.declared.ahead.Ahead.{Ahead}
 use Rattle.yaml_blocks.specs.declared.ahead.Token.{Token}
 use Rattle.yaml_blocks.specs.declared.ahead.Token.TheVariants.{End, Dashes, Dots, Dash, Tag, Opens, Closes, Comma, Tabbed}
@@ -317,7 +317,25 @@ pub record SameNode (text other : List ℕ) (f : Form) (i : ℕ) (a : Ahead) : T
   pub scalar : SameScalar text other (setting_of f) a
   pub key : SameKey text other a
 
--- ---- parts again
+-- whatever node may begin at a token in flow
+pub record SameFlowNode (text other : List ℕ) (f : Form) (i : ℕ) (a : Ahead) : Type 0 where
+  pub name : tag_name other a.at a.behind ≡ tag_name text a.at a.behind
+  pub cuts : follows_get_att other f i ≡ follows_get_att text f i
+  pub scalar : SameScalar text other (setting_of f) a
+
+-- a key in flow, and the same is behind it
+pub record SameFlowKey (text other : List ℕ) (a : Ahead) : Type 0 where
+  pub scalar : SameScalar text other (as_key true) a
+  pub quoted : begins_quoted (drop a.at other) ≡ begins_quoted (drop a.at text)
+  pub behind : (t : List ℕ) (j : ℕ) → scalar_ahead text (as_key true) a ≡ Stands t j → ahead other true j ≡ ahead text true j
+  pub last : (t : List ℕ) (j : ℕ) → scalar_ahead text (as_key true) a ≡ Stands t j → IsCharBoundary text (ahead text true j).behind → IsCharBoundary other (ahead text true j).behind
+
+-- the same is ahead of the document's end, and behind a line `...` there
+pub record SameEnd (text other : List ℕ) (i : ℕ) : Type 0 where
+  pub here : ahead other false i ≡ ahead text false i
+  pub further : (ahead text false i).token ≡ Dots → ahead other false (ahead text false i).behind ≡ ahead text false (ahead text false i).behind
+
+-- ---- collections that begin and end
 
 -- a further collection was refused: there was no memory, or there are 128
 abbrev pub Deep : Unfinished → ℕ → YamlRefusal → Type 0
