@@ -2,7 +2,7 @@
 use Rattle.std.proofs.Common.{◌≡◌, ℕ, List, true, false, drop, inl, inr, refl, sym, ap, ◌∙◌, subst}
 use Rattle.std.specs.Prelude.{Result, Ok, Err, Bool}
 use Rattle.std.specs.Cow.{cow_str_bytes}
-use Rattle.std.specs.Str.{IsCharBoundary}
+use Rattle.std.specs.Str.{IsCharBoundary, IsUtf8}
 use Rattle.doc_values.specs.declared.kind.Kind.{Kind}
 use Rattle.doc_values.specs.declared.kind.Kind.TheVariants as kind
 use Rattle.doc_values.specs.Unfinished.{Unfinished, with_open, with_key}
@@ -14,6 +14,9 @@ use Rattle.yaml_blocks.specs.declared.ahead.Token.{Token}
 use Rattle.yaml_blocks.specs.declared.ahead.Token.TheVariants.{End, Dashes, Dots, Dash, Tag, NoTag, Opens, Closes, Comma, Point, Anchor, Percent, Tabbed, Stray, Other}
 use Rattle.yaml_blocks.specs.declared.form.Form.{Form}
 use Rattle.yaml_blocks.specs.declared.node.Key.{Key}
+use Rattle.yaml_blocks.specs.declared.form.Form.TheVariants.{Flow}
+use Rattle.yaml_blocks.specs.declared.stage.Stage.{Stage}
+use Rattle.yaml_blocks.specs.declared.stage.Stage.TheVariants as stage
 use Rattle.yaml_blocks.specs.declared.stage.Position.{Position}
 use Rattle.yaml_blocks.specs.declared.refusal.YamlRefusal.{YamlRefusal}
 use Rattle.yaml_blocks.specs.Ahead.{ahead}
@@ -21,7 +24,8 @@ use Rattle.yaml_blocks.specs.Nodes.{tag_name, tag_key, as_key, scalar_ahead}
 use Rattle.yaml_blocks.specs.Flow.{ends_key, IsColon}
 use Rattle.yaml_blocks.specs.Blocks.{IsKey}
 use Rattle.yaml_blocks.specs.Yaml.{IsEnd, sign_behind, end_sign}
-use Rattle.yaml_blocks.specs.code.Steps.{SameScalar, SameKey, SameNode, SameFlowNode, SameFlowKey, SameEnd, Found, Failed, Divides, Finds, Holds, NoKey, HasKey, TagBegun}
+use Rattle.yaml_blocks.specs.code.Steps.{IsPlaced, IsSeen, SameScalar, SameKey, SameNode, SameFlowNode, SameFlowKey, SameEnd, SameStep, Found, Failed, Divides, Finds, Holds, NoKey, HasKey, TagBegun}
+use Rattle.yaml_blocks.proofs.Placed.{placed}
 
 -- ---- scalars
 
@@ -144,3 +148,14 @@ same_flow_key text a = record { scalar = record { scalar = refl; typed = refl; l
 
 pub same_end : (text : List ℕ) (i : ℕ) → SameEnd text text i
 same_end text i = record { here = refl; further = λ h. refl }
+
+pub same_step : (text : List ℕ) (s : Stage) (f : Form) (i : ℕ) → SameStep text text s f i
+same_step text stage.Entry f i = (refl, same_flow_key text (ahead text true i), same_flow_node text (Flow false) i (ahead text true i))
+same_step text stage.Value f i = ((λ h. (refl, same_flow_node text f i (ahead text true i))), (λ h. (refl, same_node text f i (ahead text false i))))
+same_step text stage.After f i = ((λ h. refl), (λ h. (same_end text i, same_key text (ahead text false i))))
+same_step text stage.Whole f i = tt
+
+-- ---- what is seen in another text
+
+pub seen_alike : (text other : List ℕ) (flow : Bool) (i : ℕ) → IsUtf8 other → IsCharBoundary other i → ahead other flow i ≡ ahead text flow i → IsSeen other flow i (ahead text flow i)
+seen_alike text other flow i u b e = (sym e, subst (λ (a : Ahead). IsPlaced other i a) e (placed other flow i u b))

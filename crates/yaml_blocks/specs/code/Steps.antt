@@ -335,6 +335,14 @@ pub record SameEnd (text other : List ℕ) (i : ℕ) : Type 0 where
   pub here : ahead other false i ≡ ahead text false i
   pub further : (ahead text false i).token ≡ Dots → ahead other false (ahead text false i).behind ≡ ahead text false (ahead text false i).behind
 
+-- whatever is read next, where reading stands in a form
+abbrev pub SameStep : List ℕ → List ℕ → Stage → Form → ℕ → Type 0
+SameStep text other stage.Entry f i = (ahead other true i ≡ ahead text true i) × SameFlowKey text other (ahead text true i) × SameFlowNode text other (Flow false) i (ahead text true i)
+SameStep text other stage.Value f i =
+    (IsFlow f → (ahead other true i ≡ ahead text true i) × SameFlowNode text other f i (ahead text true i)) × (IsBlock f → (ahead other false i ≡ ahead text false i) × SameNode text other f i (ahead text false i))
+SameStep text other stage.After f i = (IsFlow f → ahead other true i ≡ ahead text true i) × (IsBlock f → SameEnd text other i × SameKey text other (ahead text false i))
+SameStep text other stage.Whole f i = Unit {0}
+
 -- ---- collections that begin and end
 
 -- a further collection was refused: there was no memory, or there are 128

@@ -1,12 +1,6 @@
-use Rattle.std.proofs.Common.{true, false, refl}
-use Rattle.yaml_blocks.specs.declared.form.Form.TheVariants.{Flow}
-use Rattle.yaml_blocks.specs.Ahead.{ahead}
-use Rattle.yaml_blocks.proofs.Placed.{placed}
-use Rattle.yaml_blocks.proofs.SameTexts.{same_flow_key, same_flow_node}
+use Rattle.std.proofs.Common.{true}
+use Rattle.yaml_blocks.proofs.SameTexts.{seen_alike}
 use Rattle.yaml_blocks.proofs.step.entry.Goals as goal
 
 pub returns : goal.returns
-returns c =
-    let text = c.args.text.now in
-    let at = c.args.at in
-    c.entry.ensures text (refl, placed text true at c.utf8.text c.requires.boundary) (same_flow_key text (ahead text true at)) (same_flow_node text (Flow false) at (ahead text true at))
+returns c = λ other utf8 cut fits same. c.entry.ensures other (seen_alike c.args.text.now other true c.args.at utf8 cut same.0) same.1 same.2
