@@ -12,7 +12,7 @@ nested_small : (f : Form) (fs : List Form) → top fs ≡ f → Nests fs → IsS
 nested_small f [] e n = subst IsSmall e tt
 nested_small f (g ∷ fs) e n = subst IsSmall e n.1
 
-seen_place : (text : List ℕ) (i : ℕ) (a : Ahead) → IsSeen text false i a → a.at ≤ length text
+pub seen_place : (text : List ℕ) (i : ℕ) (a : Ahead) → IsSeen text false i a → a.at ≤ length text
 seen_place text i a (e, (p, b, d, s, column, first)) = b.0
 
 by_fresh : (b : Bool) (i at column : ℕ) → (b ≡ true → column ≤ at) → (b ≡ false → at ≡ i + column) → column ≤ at
@@ -31,12 +31,16 @@ fits_behind text fs u i (o, n, w, l, k) = l
 fits_nested : (text : List ℕ) (fs : List Form) (u : Unfinished) (i : ℕ) → Fits text stage.Value fs u i → Nests fs
 fits_nested text fs u i (o, n, w, l, k) = o.1
 
+-- what is ahead of a place of a short text stands near
+pub seen_near : (text : List ℕ) (i : ℕ) (a : Ahead) → length text ≤ template_limit → IsSeen text false i a → a.at ≤ template_limit
+seen_near text i a small seen = let within = seen_place text i a seen in omega (arith, within, small)
+
 module _ (text : List ℕ) (fs : List Form) (u : Unfinished) (f : Form) (i : ℕ) (a : Ahead) (w : Awaited text fs u f i a) where
   pub small_form : IsSmall f
   small_form = nested_small f fs w.form (fits_nested text fs u i w.fits)
 
   pub small_place : a.at ≤ template_limit
-  small_place = let within = seen_place text i a w.seen in let small = w.small in omega (arith, within, small)
+  small_place = w.small
 
   pub column_before : a.column ≤ a.at
   column_before = seen_column text i a w.seen

@@ -32,7 +32,7 @@ use Rattle.yaml_blocks.specs.Signs.{Sign, ManyDocuments, DuplicateKey, TooDeep, 
 use Rattle.yaml_blocks.specs.code.Refused.{of_build, of_sign}
 use Rattle.yaml_blocks.specs.Yaml.{IsEnd, end_sign}
 use Rattle.yaml_blocks.specs.code.Rest.{top, Over, Inside, Ends, Enters, Awaits}
-use Rattle.yaml_blocks.specs.code.Steps.{IsPlaced, IsSeen, Agrees, Nests, LiesIn, IsSmall, IsBlock, IsBehind, IsSpelled, IsCalm, Open, Fits, Goes, Broke, Gives, Deep, NoKey, NoNode, Ended, HasKey, Missed, Finds, FindsKey, with_scalar, Holds, TagBegun, Opened, Completes, ends_before, is_dash, is_ending}
+use Rattle.yaml_blocks.specs.code.Steps.{IsPlaced, IsSeen, Agrees, Nests, LiesIn, IsSmall, IsBlock, IsBehind, IsSpelled, IsCalm, Open, Fits, Goes, Broke, Gives, Deep, NoKey, NoNode, Ended, HasKey, Missed, Finds, FindsKey, with_scalar, Holds, TagBegun, Opened, Completes, ends_before, is_dash, is_ending, Awaited}
 use Rattle.yaml_blocks.proofs.Forms.{apart_items, apart_entries, apart_tagged, map_kind, inside, awaits_item, awaits_value}
 use Rattle.yaml_blocks.proofs.Gains.{parts, goes, memory_gives, told, untold, sign_gives, IsRoomFor, roomy, deep_gives, value_ends, ends_value, value_deep, deep_value, value_fits}
 use Rattle.yaml_blocks.proofs.LastValues.{last_done, value_last, missing_calm}
@@ -103,10 +103,13 @@ abbrev pub Awaiting : List ℕ → List Form → Unfinished → ℕ → Reading 
 Awaiting text fs u at v = Awaits text fs u.outer u.done u.key at v
 
 abbrev pub Spot : List ℕ → List Form → Unfinished → Form → ℕ → Ahead → Type 0
-Spot text fs u f at a = (length text ≤ template_limit) × IsPlaced text at a × (top fs ≡ f) × IsBlock f × Open fs u × IsBehind f at × IsSpelled text f at
+Spot text fs u f at a = (a.at ≤ template_limit) × IsPlaced text at a × (top fs ≡ f) × IsBlock f × Open fs u × IsBehind f at × IsSpelled text f at
 
-pub spot : (text : List ℕ) (fs : List Form) (u : Unfinished) (f : Form) (at : ℕ) (a : Ahead) → length text ≤ template_limit → IsSeen text false at a → top fs ≡ f → IsBlock f → Fits text stage.Value fs u at → Spot text fs u f at a
+pub spot : (text : List ℕ) (fs : List Form) (u : Unfinished) (f : Form) (at : ℕ) (a : Ahead) → a.at ≤ template_limit → IsSeen text false at a → top fs ≡ f → IsBlock f → Fits text stage.Value fs u at → Spot text fs u f at a
 spot text fs u f at a s (e, p) t b (o, n, w, l, k) = (s, p, t, b, o, subst (λ g. IsBehind g at) t l, subst (λ g. IsSpelled text g at) t k)
+
+pub spot_of : (text : List ℕ) (fs : List Form) (u : Unfinished) (f : Form) (at : ℕ) (a : Ahead) → Awaited text fs u f at a → Spot text fs u f at a
+spot_of text fs u f at a w = spot text fs u f at a w.small w.seen w.form w.block w.fits
 
 -- where another collection begins, and its first node is awaited
 abbrev pub First : List ℕ → List Form → Unfinished → ℕ → Form → Bool → Option (List ℕ) → ℕ → Reading → Type 0
@@ -136,7 +139,7 @@ module _ (text : List ℕ) (fs : List Form) (u : Unfinished) (f : Form) (at : �
       let one : token_len (ahead text false at).token ≡ 1 = ap token_len t in
       goes text (Awaiting text fs u at) (2 * at + 1) gs (Items (column_in f (ahead text false at)) ∷ fs) w (with_open kind.List (ahead text false at).at u) p stage.Value (ahead text false at).behind es ej eg ew
       (λ v. ((λ h. roomy (length u.outer) (FirstItem v) (v ≡ Refused (TooDeep (ahead text false at).at)) d (room_sequence v h)), (λ h. sequence_awaits text fs u.outer f sp.2 sp.3 u.done u.key at v t tk d h)))
-      (((refl, sp.4.0), (subst (λ g. LiesIn (Items (column_in f (ahead text false at))) g) (sym sp.2) st.0, omega (arith, st.1, sp.1.1.0, sp.0), sp.4.1)), apart_items _, refl, omega (arith, st.1, sp.1.3, one), dash_unnamed text false at t)
+      (((refl, sp.4.0), (subst (λ g. LiesIn (Items (column_in f (ahead text false at))) g) (sym sp.2) st.0, omega (arith, st.1, sp.0), sp.4.1)), apart_items _, refl, omega (arith, st.1, sp.1.3, one), dash_unnamed text false at t)
       sp.1.2 (omega (arith, sp.1.0, sp.1.3, one))
 
 pub sequence_goes : (text : List ℕ) (fs gs : List Form) (u w : Unfinished) (f : Form) (at : ℕ) (next : Ahead) (p : Position) → next ≡ ahead text false at → Spot text fs u f at next → next.token ≡ Dash → takes_sequence f next ≡ true
@@ -182,7 +185,7 @@ module _ (text : List ℕ) (fs : List Form) (u : Unfinished) (f : Form) (at : �
       let st = mapping_stood f at (ahead text false at) sp.3 sp.5 sp.1.4 tk in
       goes text (Awaiting text fs u at) (2 * at + 1) gs (Entries (column_in f (ahead text false at)) ∷ fs) w (with_key t (with_open kind.Map (ahead text false at).at u)) p stage.Value q es ej eg ew
       (λ v. ((λ h. roomy (length u.outer) (FirstEntry v) (v ≡ Refused (TooDeep (ahead text false at).at)) d (room_mapping v h)), (λ h. mapping_awaits text fs u.outer f sp.2 sp.3 u.done u.key at v t q k tk d h)))
-      (((refl, sp.4.0), (subst (λ g. LiesIn (Entries (column_in f (ahead text false at))) g) (sym sp.2) st.0, omega (arith, st.1, sp.1.1.0, sp.0), sp.4.1)), (λ e. absurd (cc)), (t, refl), tt, ap (ends_name text) k.4 ∙ colon_unnamed text false k.0 true k.3)
+      (((refl, sp.4.0), (subst (λ g. LiesIn (Entries (column_in f (ahead text false at))) g) (sym sp.2) st.0, omega (arith, st.1, sp.0), sp.4.1)), (λ e. absurd (cc)), (t, refl), tt, ap (ends_name text) k.4 ∙ colon_unnamed text false k.0 true k.3)
       b (omega (arith, far))
 
 pub mapping_goes : (text : List ℕ) (fs gs : List Form) (u w : Unfinished) (f : Form) (at q : ℕ) (next : Ahead) (t : List ℕ) (p : Position) → next ≡ ahead text false at → Spot text fs u f at next → IsKey text next t q → takes_mapping f next ≡ true

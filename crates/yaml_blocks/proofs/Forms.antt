@@ -5,7 +5,7 @@ use Rattle.doc_values.specs.Unfinished.{Level, Unfinished, in_map, open_kind, Is
 use Rattle.yaml_blocks.specs.declared.form.Form.{Form}
 use Rattle.yaml_blocks.specs.declared.form.Form.TheVariants.{Root, Flow, FlowTagged, Items, Entries, Tagged}
 use Rattle.yaml_blocks.specs.code.Rest.{top}
-use Rattle.yaml_blocks.specs.code.Steps.{Agrees, has_keys}
+use Rattle.yaml_blocks.specs.code.Steps.{Agrees, IsBlock, has_keys}
 
 pub map_kind : (m : Bool) → is_map (open_kind m) ≡ m
 map_kind true = refl
@@ -62,3 +62,12 @@ apart_entries m e = cc
 
 pub apart_tagged : (at above : ℕ) (shares : Bool) → Tagged at above shares ≡ Flow false → ⊥
 apart_tagged at above shares e = cc
+
+-- what is no form of flow is one outside of it
+pub block_of : (f : Form) → ((m : Bool) → f ≡ Flow m → ⊥) → ((at : ℕ) → f ≡ FlowTagged at → ⊥) → IsBlock f
+block_of Root n t = tt
+block_of (Flow m) n t = n m refl
+block_of (FlowTagged at) n t = t at refl
+block_of (Items m) n t = tt
+block_of (Entries m) n t = tt
+block_of (Tagged at above shares) n t = tt

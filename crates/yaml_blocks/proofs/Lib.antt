@@ -11,6 +11,7 @@ mod Placed
 mod Quiet
 mod Refusals
 mod Rests
+mod SameTexts
 mod Roots
 mod Scalars
 mod Stacks

@@ -10,7 +10,7 @@ ghost use Rattle.yaml_blocks.specs.Blocks.{block_sign, takes_scalar, takes_mappi
 ghost use Rattle.yaml_blocks.specs.code.Refused.{of_sign};
 ghost use Rattle.yaml_blocks.specs.code.Rest.{top, Inside, Ends, Awaits};
 ghost use Rattle.yaml_blocks.specs.Yaml.{IsEnd};
-ghost use Rattle.yaml_blocks.specs.code.Steps.{stack, IsSeen, IsBlock, IsBehind, IsSmall, HasKey, NoKey, Open, Fits, Awaited, IsCalm, NoNode, Gives, Ended, is_dash, ends_before};
+ghost use Rattle.yaml_blocks.specs.code.Steps.{stack, IsSeen, IsBlock, IsBehind, IsSmall, HasKey, NoKey, Open, Fits, Awaited, SameKey, SameNode, SameEnd, IsCalm, NoNode, Gives, Ended, is_dash, ends_before};
 
 use crate::ahead::{Ahead, Token, look};
 use crate::flow::open;
@@ -190,7 +190,7 @@ fn sequence(
     requires awaited { Awaited text.now (stack forms.old.items) builder.old form at next }
     requires dash { next.token ≡ Token.Dash }
     requires takes { takes_sequence form next ≡ true }
-    ensures { Gives text.now (Awaits text.now (stack forms.old.items) builder.old.outer builder.old.done builder.old.key at) (2 * at + 1) (stack forms.new.items) builder.new result }
+    ensures { (other : List ℕ) → Awaited other (stack forms.old.items) builder.old form at next → SameNode text.now other form at next → Gives other (Awaits other (stack forms.old.items) builder.old.outer builder.old.done builder.old.key at) (2 * at + 1) (stack forms.new.items) builder.new result }
 {
     let column = column_in(form, next);
     match begin(Form::Items { column }, next, forms, builder) {
@@ -215,7 +215,7 @@ fn mapping<'s>(
     requires awaited { Awaited text.now (stack forms.old.items) builder.old form at next }
     requires key { HasKey text.now next key }
     requires takes { takes_mapping form next ≡ true }
-    ensures { Gives text.now (Awaits text.now (stack forms.old.items) builder.old.outer builder.old.done builder.old.key at) (2 * at + 1) (stack forms.new.items) builder.new result }
+    ensures { (other : List ℕ) → Awaited other (stack forms.old.items) builder.old form at next → SameNode text.now other form at next → Gives other (Awaits other (stack forms.old.items) builder.old.outer builder.old.done builder.old.key at) (2 * at + 1) (stack forms.new.items) builder.new result }
 {
     let Key { text: name, behind } = key;
     let column = column_in(form, next);
@@ -245,7 +245,7 @@ fn tag<'s>(
     requires awaited { Awaited text.now (stack forms.old.items) builder.old form at next }
     requires tag { next.token ≡ Token.Tag len }
     requires takes { takes_tag form next ≡ true }
-    ensures { Gives text.now (Awaits text.now (stack forms.old.items) builder.old.outer builder.old.done builder.old.key at) (2 * at + 1) (stack forms.new.items) builder.new result }
+    ensures { (other : List ℕ) → Awaited other (stack forms.old.items) builder.old form at next → SameNode text.now other form at next → Gives other (Awaits other (stack forms.old.items) builder.old.outer builder.old.done builder.old.key at) (2 * at + 1) (stack forms.new.items) builder.new result }
 {
     begin_tag(alloc, text, tagged(form, next), next, forms, builder)
 }
@@ -260,11 +260,12 @@ fn scalar<'s>(
     forms: &[Form],
     builder: &mut DocBuilder<'s>,
 ) -> Result<Position, YamlRefusal>
+    requires small { length text.now ≤ template_limit }
     requires awaited { Awaited text.now (stack forms.now) builder.old form at next }
     requires starts { starts_scalar next.token ≡ true }
     requires takes { takes_scalar form next ≡ true }
     requires no_key { takes_mapping form next ≡ true → NoKey text.now next }
-    ensures { Gives text.now (Awaits text.now (stack forms.now) builder.old.outer builder.old.done builder.old.key at) (2 * at + 1) (stack forms.now) builder.new result }
+    ensures { (other : List ℕ) → Awaited other (stack forms.now) builder.old form at next → SameNode text.now other form at next → Gives other (Awaits other (stack forms.now) builder.old.outer builder.old.done builder.old.key at) (2 * at + 1) (stack forms.now) builder.new result }
 {
     take_scalar(alloc, text, at, form, next, builder)
 }
@@ -279,10 +280,11 @@ fn content<'s>(
     forms: &mut Vec<Form>,
     builder: &mut DocBuilder<'s>,
 ) -> Result<Position, YamlRefusal>
+    requires small { length text.now ≤ template_limit }
     requires awaited { Awaited text.now (stack forms.old.items) builder.old form at next }
     requires starts { starts_scalar next.token ≡ true }
     requires takes { takes_scalar form next ≡ true }
-    ensures { Gives text.now (Awaits text.now (stack forms.old.items) builder.old.outer builder.old.done builder.old.key at) (2 * at + 1) (stack forms.new.items) builder.new result }
+    ensures { (other : List ℕ) → Awaited other (stack forms.old.items) builder.old form at next → SameNode text.now other form at next → Gives other (Awaits other (stack forms.old.items) builder.old.outer builder.old.done builder.old.key at) (2 * at + 1) (stack forms.new.items) builder.new result }
 {
     if !takes_mapping(form, next) {
         return scalar(alloc, text, at, form, next, forms, builder);
@@ -307,7 +309,7 @@ fn missing(
     requires none { NoNode form next }
     requires unsigned { block_sign form next ≡ None }
     requires once { is_tagged form ≡ true → (len : ℕ) → next.token ≡ Token.Tag len → ⊥ }
-    ensures { Gives text.now (Awaits text.now (stack forms.now) builder.old.outer builder.old.done builder.old.key at) (2 * at + 1) (stack forms.now) builder.new result }
+    ensures { (other : List ℕ) → Awaited other (stack forms.now) builder.old form at next → SameNode text.now other form at next → Gives other (Awaits other (stack forms.now) builder.old.outer builder.old.done builder.old.key at) (2 * at + 1) (stack forms.now) builder.new result }
 {
     match form {
         Form::Root => Err(YamlRefusal::Unread),
@@ -341,7 +343,7 @@ fn tag_again(
     requires tagged { is_tagged form ≡ true }
     requires none { NoNode form next }
     requires unsigned { block_sign form next ≡ None }
-    ensures { Gives text.now (Awaits text.now (stack forms.old.items) builder.old.outer builder.old.done builder.old.key at) (2 * at + 1) (stack forms.new.items) builder.new result }
+    ensures { (other : List ℕ) → Awaited other (stack forms.old.items) builder.old form at next → SameNode text.now other form at next → Gives other (Awaits other (stack forms.old.items) builder.old.outer builder.old.done builder.old.key at) (2 * at + 1) (stack forms.new.items) builder.new result }
 {
     match take_null(at, at, builder) {
         Err(refusal) => return Err(refusal),
@@ -371,7 +373,7 @@ fn late_tag(
     requires tag { next.token ≡ Token.Tag len }
     requires none { NoNode form next }
     requires unsigned { block_sign form next ≡ None }
-    ensures { Gives text.now (Awaits text.now (stack forms.old.items) builder.old.outer builder.old.done builder.old.key at) (2 * at + 1) (stack forms.new.items) builder.new result }
+    ensures { (other : List ℕ) → Awaited other (stack forms.old.items) builder.old form at next → SameNode text.now other form at next → Gives other (Awaits other (stack forms.old.items) builder.old.outer builder.old.done builder.old.key at) (2 * at + 1) (stack forms.new.items) builder.new result }
 {
     if is_tagged(form) {
         tag_again(text, at, form, len, next, forms, builder)
@@ -393,7 +395,7 @@ fn brackets(
     requires awaited { Awaited text.now (stack forms.old.items) builder.old form at next }
     requires opens { next.token ≡ Token.Opens map }
     requires takes { takes_scalar form next ≡ true }
-    ensures { Gives text.now (Awaits text.now (stack forms.old.items) builder.old.outer builder.old.done builder.old.key at) (2 * at + 1) (stack forms.new.items) builder.new result }
+    ensures { (other : List ℕ) → Awaited other (stack forms.old.items) builder.old form at next → SameNode text.now other form at next → Gives other (Awaits other (stack forms.old.items) builder.old.outer builder.old.done builder.old.key at) (2 * at + 1) (stack forms.new.items) builder.new result }
 {
     open(map, next, forms, builder)
 }
@@ -408,9 +410,10 @@ fn node_at<'s>(
     forms: &mut Vec<Form>,
     builder: &mut DocBuilder<'s>,
 ) -> Result<Position, YamlRefusal>
+    requires small { length text.now ≤ template_limit }
     requires awaited { Awaited text.now (stack forms.old.items) builder.old form at next }
     requires unsigned { block_sign form next ≡ None }
-    ensures { Gives text.now (Awaits text.now (stack forms.old.items) builder.old.outer builder.old.done builder.old.key at) (2 * at + 1) (stack forms.new.items) builder.new result }
+    ensures { (other : List ℕ) → Awaited other (stack forms.old.items) builder.old form at next → SameNode text.now other form at next → Gives other (Awaits other (stack forms.old.items) builder.old.outer builder.old.done builder.old.key at) (2 * at + 1) (stack forms.new.items) builder.new result }
 {
     match next.token {
         Token::Dash => {
@@ -459,7 +462,7 @@ pub(crate) fn node<'s>(
     requires form { top (stack forms.old.items) ≡ form }
     requires block { IsBlock form }
     requires fits { Fits text.now Stage.Value (stack forms.old.items) builder.old at }
-    ensures { Gives text.now (Awaits text.now (stack forms.old.items) builder.old.outer builder.old.done builder.old.key at) (2 * at + 1) (stack forms.new.items) builder.new result }
+    ensures { (other : List ℕ) → Awaited other (stack forms.old.items) builder.old form at (ahead text.now false at) → SameNode text.now other form at (ahead text.now false at) → Gives other (Awaits other (stack forms.old.items) builder.old.outer builder.old.done builder.old.key at) (2 * at + 1) (stack forms.new.items) builder.new result }
 {
     let next = look(text, false, at);
     match block_sign(form, next) {
@@ -491,21 +494,18 @@ fn end_before(
 
 /// Another item of a sequence.
 fn item(
-    text: &str,
     at: usize,
     column: usize,
     next: Ahead,
     forms: &[Form],
     builder: &DocBuilder,
 ) -> Result<Position, YamlRefusal>
-    requires seen { IsSeen text.now false at next }
     requires fresh { next.fresh ≡ true }
-    requires inside { Inside text.now at }
     requires form { top (stack forms.now) ≡ Form.Items column }
     requires stays { ends_before (Form.Items column) next ≡ false }
     requires open { Open (stack forms.now) builder.now }
     requires awaited { builder.now.key ≡ None }
-    ensures { Gives text.now (Ends text.now (stack forms.now) builder.now.outer builder.now.done at) (2 * at + 2) (stack forms.now) builder.now result }
+    ensures { (other : List ℕ) → IsSeen other false at next → Inside other at → Gives other (Ends other (stack forms.now) builder.now.outer builder.now.done at) (2 * at + 2) (stack forms.now) builder.now result }
 {
     if next.column != column {
         return Err(YamlRefusal::Unread);
@@ -532,13 +532,11 @@ fn entry<'s>(
     requires small { length text.now ≤ template_limit }
     requires seen { IsSeen text.now false at next }
     requires fresh { next.fresh ≡ true }
-    requires inside { Inside text.now at }
     requires form { top (stack forms.now) ≡ Form.Entries column }
     requires stays { ends_before (Form.Entries column) next ≡ false }
     requires open { Open (stack forms.now) builder.old }
-    requires calm { IsCalm text.now builder.old at }
     requires awaited { builder.old.key ≡ None }
-    ensures { Gives text.now (Ends text.now (stack forms.now) builder.old.outer builder.old.done at) (2 * at + 2) (stack forms.now) builder.new result }
+    ensures { (other : List ℕ) → IsSeen other false at next → Inside other at → IsCalm other builder.old at → SameKey text.now other next → Gives other (Ends other (stack forms.now) builder.old.outer builder.old.done at) (2 * at + 2) (stack forms.now) builder.new result }
 {
     if next.column != column {
         return Err(YamlRefusal::Unread);
@@ -582,17 +580,15 @@ fn head<'s>(
     requires small { length text.now ≤ template_limit }
     requires seen { IsSeen text.now false at next }
     requires fresh { next.fresh ≡ true }
-    requires inside { Inside text.now at }
     requires form { top (stack forms.now) ≡ form }
     requires block { IsBlock form }
     requires stays { ends_before form next ≡ false }
     requires open { Open (stack forms.now) builder.old }
-    requires calm { IsCalm text.now builder.old at }
     requires awaited { builder.old.key ≡ None }
-    ensures { Gives text.now (Ends text.now (stack forms.now) builder.old.outer builder.old.done at) (2 * at + 2) (stack forms.now) builder.new result }
+    ensures { (other : List ℕ) → IsSeen other false at next → Inside other at → IsCalm other builder.old at → SameKey text.now other next → Gives other (Ends other (stack forms.now) builder.old.outer builder.old.done at) (2 * at + 2) (stack forms.now) builder.new result }
 {
     match form {
-        Form::Items { column } => item(text, at, column, next, forms, builder),
+        Form::Items { column } => item(at, column, next, forms, builder),
         Form::Entries { column } => entry(alloc, text, at, column, next, forms, builder),
         Form::Root => Err(YamlRefusal::Unread),
         Form::Flow { map: _ } => unreachable!(),
@@ -612,12 +608,10 @@ fn line<'s>(
 ) -> Result<Position, YamlRefusal>
     requires small { length text.now ≤ template_limit }
     requires seen { IsSeen text.now false at next }
-    requires inside { Inside text.now at }
     requires block { IsBlock (top (stack forms.old.items)) }
     requires open { Open (stack forms.old.items) builder.old }
-    requires calm { IsCalm text.now builder.old at }
     requires awaited { builder.old.key ≡ None }
-    ensures { Gives text.now (Ends text.now (stack forms.old.items) builder.old.outer builder.old.done at) (2 * at + 2) (stack forms.new.items) builder.new result }
+    ensures { (other : List ℕ) → IsSeen other false at next → Inside other at → IsCalm other builder.old at → SameKey text.now other next → Gives other (Ends other (stack forms.old.items) builder.old.outer builder.old.done at) (2 * at + 2) (stack forms.new.items) builder.new result }
 {
     if !next.fresh {
         return Err(YamlRefusal::Unread);
@@ -630,17 +624,14 @@ fn line<'s>(
 
 /// All collections end with the document.
 fn end_all(
-    text: &str,
     at: usize,
     forms: &mut Vec<Form>,
     builder: &mut DocBuilder,
 ) -> Result<Position, YamlRefusal>
-    requires boundary { IsCharBoundary text.now at }
-    requires end { IsEnd text.now at }
     requires block { IsBlock (top (stack forms.old.items)) }
     requires open { Open (stack forms.old.items) builder.old }
     requires awaited { builder.old.key ≡ None }
-    ensures { Gives text.now (Ends text.now (stack forms.old.items) builder.old.outer builder.old.done at) (2 * at + 2) (stack forms.new.items) builder.new result }
+    ensures { (other : List ℕ) → IsEnd other at → IsCharBoundary other at → Gives other (Ends other (stack forms.old.items) builder.old.outer builder.old.done at) (2 * at + 2) (stack forms.new.items) builder.new result }
 {
     while let Some(_) = forms.pop() {
         match builder.end() {
@@ -695,11 +686,11 @@ pub(crate) fn after<'s>(
     requires open { Open (stack forms.old.items) builder.old }
     requires calm { IsCalm text.now builder.old at }
     requires awaited { builder.old.key ≡ None }
-    ensures { Gives text.now (Ends text.now (stack forms.old.items) builder.old.outer builder.old.done at) (2 * at + 2) (stack forms.new.items) builder.new result }
+    ensures { (other : List ℕ) → SameEnd text.now other at → IsSeen other false at (ahead text.now false at) → IsCharBoundary other at → IsCalm other builder.old at → SameKey text.now other (ahead text.now false at) → Gives other (Ends other (stack forms.old.items) builder.old.outer builder.old.done at) (2 * at + 2) (stack forms.new.items) builder.new result }
 {
     let next = look(text, false, at);
     if is_document_end(text, at, next) {
-        return end_all(text, at, forms, builder);
+        return end_all(at, forms, builder);
     }
     match end_sign(text, at, next) {
         Some(refusal) => Err(refusal),

@@ -1,13 +1,14 @@
 //! What stands between brackets: one token at a time, what it adds to the tree, and what may follow it.
-ghost use Rattle.std.specs.Prelude.{◌≡◌, ℕ, Bool, ◌+◌, ◌*◌, ◌<◌, ◌≤◌, ◌||◌, length, drop, [], ◌∷◌, true, false, Some, None, MatchOption};
+ghost use Rattle.std.specs.Prelude.{◌≡◌, ℕ, List, Bool, ◌+◌, ◌*◌, ◌<◌, ◌≤◌, ◌||◌, length, drop, [], ◌∷◌, true, false, Some, None, MatchOption};
 ghost use Rattle.std.specs.Str.{IsCharBoundary};
 ghost use Rattle.doc_values.specs.Limits.{template_limit};
 ghost use Rattle.doc_values.specs.Unfinished.{AwaitsValue, MayEnd};
 ghost use Rattle.yaml_scalars.specs.Scalar.{begins_quoted};
 ghost use Rattle.yaml_blocks.specs.Flow.{may_miss, may_tag, ends_key, IsColon};
-ghost use Rattle.yaml_blocks.specs.Nodes.{node_sign, is_tagged, is_marked};
+ghost use Rattle.yaml_blocks.specs.Ahead.{ahead};
+ghost use Rattle.yaml_blocks.specs.Nodes.{tag_name, node_sign, is_tagged, is_marked};
 ghost use Rattle.yaml_blocks.specs.code.Rest.{top, Ends, Enters, Awaits};
-ghost use Rattle.yaml_blocks.specs.code.Steps.{stack, IsSeen, IsFlow, IsBehind, Open, Gives, Opened, Closed, is_flow_ending};
+ghost use Rattle.yaml_blocks.specs.code.Steps.{stack, IsSeen, SameFlowNode, SameFlowKey, IsFlow, IsBehind, Open, Gives, Opened, Closed, is_flow_ending};
 
 use crate::ahead::{Ahead, Token, look};
 use crate::form::Form;
@@ -90,7 +91,7 @@ fn tag<'s>(
     requires takes { may_tag form ≡ true }
     requires open { Open (stack forms.old.items) builder.old }
     requires awaited { AwaitsValue builder.old }
-    ensures { Gives text.now (Awaits text.now (stack forms.old.items) builder.old.outer builder.old.done builder.old.key at) (2 * at + 2) (stack forms.new.items) builder.new result }
+    ensures { (other : List ℕ) → IsSeen other true at next → tag_name other next.at next.behind ≡ tag_name text.now next.at next.behind → Gives other (Awaits other (stack forms.old.items) builder.old.outer builder.old.done builder.old.key at) (2 * at + 2) (stack forms.new.items) builder.new result }
 {
     begin_tag(
         alloc,
@@ -120,7 +121,7 @@ fn node<'s>(
     requires behind { IsBehind form at }
     requires open { Open (stack forms.old.items) builder.old }
     requires awaited { AwaitsValue builder.old }
-    ensures { Gives text.now (Awaits text.now (stack forms.old.items) builder.old.outer builder.old.done builder.old.key at) (2 * at + 2) (stack forms.new.items) builder.new result }
+    ensures { (other : List ℕ) → IsSeen other true at next → SameFlowNode text.now other form at next → Gives other (Awaits other (stack forms.old.items) builder.old.outer builder.old.done builder.old.key at) (2 * at + 2) (stack forms.new.items) builder.new result }
 {
     match node_sign(is_tagged(form), next) {
         Some(refusal) => return Err(refusal),
@@ -208,7 +209,7 @@ fn key<'s>(
     requires form { top (stack forms.now) ≡ Form.Flow true }
     requires open { Open (stack forms.now) builder.old }
     requires awaited { builder.old.key ≡ None }
-    ensures { Gives text.now (Enters text.now (stack forms.now) builder.old.outer builder.old.done at) (2 * at + 2) (stack forms.now) builder.new result }
+    ensures { (other : List ℕ) → IsSeen other true at next → SameFlowKey text.now other next → Gives other (Enters other (stack forms.now) builder.old.outer builder.old.done at) (2 * at + 2) (stack forms.now) builder.new result }
 {
     match node_sign(false, next) {
         Some(refusal) => return Err(refusal),
@@ -250,7 +251,7 @@ pub(crate) fn entry<'s>(
     requires form { top (stack forms.old.items) ≡ Form.Flow map }
     requires open { Open (stack forms.old.items) builder.old }
     requires awaited { builder.old.key ≡ None }
-    ensures { Gives text.now (Enters text.now (stack forms.old.items) builder.old.outer builder.old.done at) (2 * at + 2) (stack forms.new.items) builder.new result }
+    ensures { (other : List ℕ) → IsSeen other true at (ahead text.now true at) → SameFlowKey text.now other (ahead text.now true at) → SameFlowNode text.now other (Form.Flow false) at (ahead text.now true at) → Gives other (Enters other (stack forms.old.items) builder.old.outer builder.old.done at) (2 * at + 2) (stack forms.new.items) builder.new result }
 {
     let next = look(text, true, at);
     if closes(next.token, map) {
@@ -291,7 +292,7 @@ pub(crate) fn value<'s>(
     requires misses { may_miss form ≡ true }
     requires open { Open (stack forms.old.items) builder.old }
     requires awaited { AwaitsValue builder.old }
-    ensures { Gives text.now (Awaits text.now (stack forms.old.items) builder.old.outer builder.old.done builder.old.key at) (2 * at + 1) (stack forms.new.items) builder.new result }
+    ensures { (other : List ℕ) → IsSeen other true at (ahead text.now true at) → IsCharBoundary other at → SameFlowNode text.now other form at (ahead text.now true at) → Gives other (Awaits other (stack forms.old.items) builder.old.outer builder.old.done builder.old.key at) (2 * at + 1) (stack forms.new.items) builder.new result }
 {
     let next = look(text, true, at);
     if is_flow_ending(next.token) {
@@ -313,7 +314,7 @@ pub(crate) fn after(
     requires form { top (stack forms.old.items) ≡ Form.Flow map }
     requires open { Open (stack forms.old.items) builder.old }
     requires awaited { builder.old.key ≡ None }
-    ensures { Gives text.now (Ends text.now (stack forms.old.items) builder.old.outer builder.old.done at) (2 * at + 2) (stack forms.new.items) builder.new result }
+    ensures { (other : List ℕ) → IsSeen other true at (ahead text.now true at) → Gives other (Ends other (stack forms.old.items) builder.old.outer builder.old.done at) (2 * at + 2) (stack forms.new.items) builder.new result }
 {
     let next = look(text, true, at);
     if closes(next.token, map) {
@@ -344,7 +345,7 @@ pub(crate) fn after_tag(
     requires form { top (stack forms.old.items) ≡ Form.FlowTagged place }
     requires open { Open (stack forms.old.items) builder.old }
     requires awaited { builder.old.key ≡ None }
-    ensures { Gives text.now (Ends text.now (stack forms.old.items) builder.old.outer builder.old.done at) (2 * at + 2) (stack forms.new.items) builder.new result }
+    ensures { (other : List ℕ) → IsSeen other true at (ahead text.now true at) → Gives other (Ends other (stack forms.old.items) builder.old.outer builder.old.done at) (2 * at + 2) (stack forms.new.items) builder.new result }
 {
     let Some(_) = forms.pop() else { unreachable!() };
     match builder.end() {

@@ -1,10 +1,10 @@
 //! One token of a document at a time, by where reading stands.
-ghost use Rattle.std.specs.Prelude.{◌≡◌, ◌≤◌, ◌*◌, ◌+◌, length, [], false, true};
-ghost use Rattle.std.specs.Str.{IsCharBoundary};
+ghost use Rattle.std.specs.Prelude.{ℕ, List, ◌≡◌, ◌≤◌, ◌*◌, ◌+◌, length, [], false, true};
+ghost use Rattle.std.specs.Str.{IsCharBoundary, IsUtf8};
 ghost use Rattle.doc_values.specs.Limits.{template_limit};
 ghost use Rattle.doc_values.specs.Unfinished.{start};
 ghost use Rattle.yaml_blocks.specs.code.Rest.{top, Ends, Enters, Awaits, Begins};
-ghost use Rattle.yaml_blocks.specs.code.Steps.{stack, Open, Rest, Fits, reached, Gives};
+ghost use Rattle.yaml_blocks.specs.code.Steps.{stack, Open, Rest, Fits, SameStep, reached, Gives};
 
 use crate::ahead::look;
 use crate::form::Form;
@@ -27,7 +27,7 @@ fn entry<'s>(
     requires small { length text.now ≤ template_limit }
     requires boundary { IsCharBoundary text.now at }
     requires fits { Fits text.now Stage.Entry (stack forms.old.items) builder.old at }
-    ensures { Gives text.now (Enters text.now (stack forms.old.items) builder.old.outer builder.old.done at) (2 * at + 2) (stack forms.new.items) builder.new result }
+    ensures { (other : List ℕ) → IsUtf8 other → IsCharBoundary other at → Fits other Stage.Entry (stack forms.old.items) builder.old at → SameStep text.now other Stage.Entry (top (stack forms.old.items)) at → Gives other (Enters other (stack forms.old.items) builder.old.outer builder.old.done at) (2 * at + 2) (stack forms.new.items) builder.new result }
 {
     match innermost(forms) {
         Form::Flow { map } => flow::entry(alloc, text, at, map, forms, builder),
@@ -46,7 +46,7 @@ fn value<'s>(
     requires small { length text.now ≤ template_limit }
     requires boundary { IsCharBoundary text.now at }
     requires fits { Fits text.now Stage.Value (stack forms.old.items) builder.old at }
-    ensures { Gives text.now (Awaits text.now (stack forms.old.items) builder.old.outer builder.old.done builder.old.key at) (2 * at + 1) (stack forms.new.items) builder.new result }
+    ensures { (other : List ℕ) → IsUtf8 other → IsCharBoundary other at → Fits other Stage.Value (stack forms.old.items) builder.old at → SameStep text.now other Stage.Value (top (stack forms.old.items)) at → Gives other (Awaits other (stack forms.old.items) builder.old.outer builder.old.done builder.old.key at) (2 * at + 1) (stack forms.new.items) builder.new result }
 {
     let form = innermost(forms);
     match form {
@@ -68,7 +68,7 @@ fn after<'s>(
     requires small { length text.now ≤ template_limit }
     requires boundary { IsCharBoundary text.now at }
     requires fits { Fits text.now Stage.After (stack forms.old.items) builder.old at }
-    ensures { Gives text.now (Ends text.now (stack forms.old.items) builder.old.outer builder.old.done at) (2 * at + 2) (stack forms.new.items) builder.new result }
+    ensures { (other : List ℕ) → IsUtf8 other → IsCharBoundary other at → Fits other Stage.After (stack forms.old.items) builder.old at → SameStep text.now other Stage.After (top (stack forms.old.items)) at → Gives other (Ends other (stack forms.old.items) builder.old.outer builder.old.done at) (2 * at + 2) (stack forms.new.items) builder.new result }
 {
     match innermost(forms) {
         Form::Flow { map } => flow::after(text, at, map, forms, builder),
@@ -89,7 +89,7 @@ pub(crate) fn step<'s>(
     requires boundary { IsCharBoundary text.now position.at }
     requires open { position.stage ≡ Stage.Whole → ⊥ }
     requires fits { Fits text.now position.stage (stack forms.old.items) builder.old position.at }
-    ensures { Gives text.now (Rest text.now position.stage (stack forms.old.items) builder.old position.at) (reached position.stage position.at) (stack forms.new.items) builder.new result }
+    ensures { (other : List ℕ) → IsUtf8 other → IsCharBoundary other position.at → Fits other position.stage (stack forms.old.items) builder.old position.at → SameStep text.now other position.stage (top (stack forms.old.items)) position.at → Gives other (Rest other position.stage (stack forms.old.items) builder.old position.at) (reached position.stage position.at) (stack forms.new.items) builder.new result }
 {
     match position.stage {
         Stage::Entry => entry(alloc, text, position.at, forms, builder),

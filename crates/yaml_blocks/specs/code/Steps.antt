@@ -1,5 +1,5 @@
 -- What each part of the reader gives, said by what may still follow. No public clause names this file.
-use Rattle.std.specs.Prelude.{ℕ, suc, ◌+◌, ◌*◌, ◌<◌, ◌≤◌, ◌≡◌, ◌⊎◌, Bool, true, false, List, [], ◌∷◌, length, Option, None, Some, Result, Ok, Err, if◌then◌else◌, nat_lt, nat_eq, not, ◌||◌, ◌&&◌}
+use Rattle.std.specs.Prelude.{ℕ, suc, ◌+◌, ◌*◌, ◌<◌, ◌≤◌, ◌≡◌, ◌⊎◌, Bool, true, false, List, [], ◌∷◌, length, Option, None, Some, Result, Ok, Err, if◌then◌else◌, nat_lt, nat_eq, not, ◌||◌, ◌&&◌, drop}
 use Rattle.std.specs.Str.{IsCharBoundary}
 use Rattle.std.specs.Cow.{cow_str_bytes}
 use Rattle.std.specs.List.{before_first, after_first}
@@ -11,7 +11,7 @@ use Rattle.doc_values.specs.Unfinished.{Level, Unfinished, with_value, with_open
 use Rattle.yaml_scalars.specs.declared.scalar.Scalar.{Scalar}
 use Rattle.yaml_scalars.specs.declared.scalar.Setting.{Setting}
 use Rattle.yaml_scalars.specs.Lines.{Stands, Documents}
-use Rattle.yaml_scalars.specs.Scalar.{is_typed, HasKind}
+use Rattle.yaml_scalars.specs.Scalar.{begins_quoted, is_typed, HasKind}
 use Rattle.yaml_blocks.specs.declared.ahead.Ahead.{Ahead}
 use Rattle.yaml_blocks.specs.declared.ahead.Token.{Token}
 use Rattle.yaml_blocks.specs.declared.ahead.Token.TheVariants.{End, Dashes, Dots, Dash, Tag, Opens, Closes, Comma, Tabbed}
@@ -24,7 +24,7 @@ use Rattle.yaml_blocks.specs.declared.node.Key.{Key}
 use Rattle.yaml_blocks.specs.declared.refusal.YamlRefusal.{YamlRefusal}
 use Rattle.yaml_blocks.specs.declared.refusal.YamlRefusal.TheVariants as refusal
 use Rattle.yaml_blocks.specs.Ahead.{token_len, ahead}
-use Rattle.yaml_blocks.specs.Nodes.{tag_name, tag_key, is_dot, is_cut, starts_scalar, scalar_ahead}
+use Rattle.yaml_blocks.specs.Nodes.{tag_name, tag_key, follows_get_att, setting_of, as_key, is_dot, is_cut, starts_scalar, scalar_ahead}
 use Rattle.yaml_blocks.specs.Signs as sign
 use Rattle.yaml_blocks.specs.Signs.{Sign, Tab, Directive, ManyDocuments, DuplicateKey, TooDeep, Reading, Tree, Refused}
 use Rattle.yaml_blocks.specs.Blocks.{takes_scalar, takes_sequence, takes_tag, or_else, last_place, ends_name, IsBare, IsKey}
@@ -215,7 +215,7 @@ Fits text stage.Whole fs u i = u.outer ≡ []
 
 -- a node outside of flow is awaited at a place, in a form, and what is ahead of it was seen
 pub record Awaited (text : List ℕ) (fs : List Form) (u : Unfinished) (f : Form) (i : ℕ) (a : Ahead) : Type 0 where
-  pub small : length text ≤ template_limit
+  pub small : a.at ≤ template_limit
   pub boundary : IsCharBoundary text i
   pub seen : IsSeen text false i a
   pub form : top fs ≡ f
@@ -295,6 +295,55 @@ abbrev pub FindsKey : List ℕ → Ahead → Result (Option Key) YamlRefusal →
 FindsKey text a (Ok None) = NoKey text a
 FindsKey text a (Ok (Some k)) = HasKey text a k
 FindsKey text a (Err e) = e ≡ refusal.NoMemory
+
+-- ---- texts in which the same is ahead
+
+-- what stands at a token in a text as a scalar of a setting stands there in another
+pub record SameScalar (text other : List ℕ) (s : Setting) (a : Ahead) : Type 0 where
+  pub scalar : scalar_ahead other s a ≡ scalar_ahead text s a
+  pub typed : is_typed s other a.at ≡ is_typed s text a.at
+  pub last : (t : List ℕ) (j : ℕ) → scalar_ahead text s a ≡ Stands t j → IsCharBoundary text j → IsCharBoundary other j
+
+-- so does a key outside of flow, and the same is behind it
+pub record SameKey (text other : List ℕ) (a : Ahead) : Type 0 where
+  pub scalar : SameScalar text other (as_key false) a
+  pub behind : (t : List ℕ) (j : ℕ) → scalar_ahead text (as_key false) a ≡ Stands t j → ahead other false j ≡ ahead text false j
+  pub last : (t : List ℕ) (j : ℕ) → scalar_ahead text (as_key false) a ≡ Stands t j → IsCharBoundary text (ahead text false j).behind → IsCharBoundary other (ahead text false j).behind
+
+-- whatever node may begin at a token of a text begins there in another
+pub record SameNode (text other : List ℕ) (f : Form) (i : ℕ) (a : Ahead) : Type 0 where
+  pub name : tag_name other a.at a.behind ≡ tag_name text a.at a.behind
+  pub cuts : follows_get_att other f i ≡ follows_get_att text f i
+  pub scalar : SameScalar text other (setting_of f) a
+  pub key : SameKey text other a
+
+-- whatever node may begin at a token in flow
+pub record SameFlowNode (text other : List ℕ) (f : Form) (i : ℕ) (a : Ahead) : Type 0 where
+  pub name : tag_name other a.at a.behind ≡ tag_name text a.at a.behind
+  pub cuts : follows_get_att other f i ≡ follows_get_att text f i
+  pub scalar : SameScalar text other (setting_of f) a
+
+-- a key in flow, and the same is behind it
+pub record SameFlowKey (text other : List ℕ) (a : Ahead) : Type 0 where
+  pub scalar : SameScalar text other (as_key true) a
+  pub quoted : begins_quoted (drop a.at other) ≡ begins_quoted (drop a.at text)
+  pub behind : (t : List ℕ) (j : ℕ) → scalar_ahead text (as_key true) a ≡ Stands t j → ahead other true j ≡ ahead text true j
+  pub last : (t : List ℕ) (j : ℕ) → scalar_ahead text (as_key true) a ≡ Stands t j → IsCharBoundary text (ahead text true j).behind → IsCharBoundary other (ahead text true j).behind
+
+-- the same is ahead of the document's end, and behind a line `...` there
+pub record SameEnd (text other : List ℕ) (i : ℕ) : Type 0 where
+  pub here : ahead other false i ≡ ahead text false i
+  pub further : (ahead text false i).token ≡ Dots → ahead other false (ahead text false i).behind ≡ ahead text false (ahead text false i).behind
+
+-- whatever is read next, where reading stands in a form
+abbrev pub SameStep : List ℕ → List ℕ → Stage → Form → ℕ → Type 0
+SameStep text other stage.Entry f i = (ahead other true i ≡ ahead text true i) × SameFlowKey text other (ahead text true i) × SameFlowNode text other (Flow false) i (ahead text true i)
+SameStep text other stage.Value f i =
+    (IsFlow f → (ahead other true i ≡ ahead text true i) × SameFlowNode text other f i (ahead text true i)) × (IsBlock f → (ahead other false i ≡ ahead text false i) × SameNode text other f i (ahead text false i))
+SameStep text other stage.After f i = (IsFlow f → ahead other true i ≡ ahead text true i) × (IsBlock f → SameEnd text other i × SameKey text other (ahead text false i))
+SameStep text other stage.Whole f i = Unit {0}
+
+-- ---- collections that begin and end
 
 -- a further collection was refused: there was no memory, or there are 128
 abbrev pub Deep : Unfinished → ℕ → YamlRefusal → Type 0

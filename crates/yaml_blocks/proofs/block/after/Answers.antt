@@ -1,15 +1,24 @@
-use Rattle.std.proofs.Common.{◌+◌, ◌*◌, refl}
-use Rattle.yaml_blocks.specs.code.Steps.{stack}
+use Rattle.std.proofs.Common.{◌+◌, ◌*◌, false, refl, sym, ap, ◌∙◌, subst}
+use Rattle.std.specs.Prelude.{option_map}
+use Rattle.yaml_blocks.specs.declared.ahead.Ahead.{Ahead}
+use Rattle.yaml_blocks.specs.code.Refused.{of_sign}
+use Rattle.yaml_blocks.specs.code.Steps.{stack, IsSeen, SameKey}
 use Rattle.yaml_blocks.proofs.BlockGains.{signed_gives, no_sign_inside}
+use Rattle.yaml_blocks.proofs.SameTexts.{sign_same, end_there, end_here}
 use Rattle.yaml_blocks.proofs.block.after.Goals as goal
 
 pub returns-in-Some : goal.returns-in-Some
-returns-in-Some c =
+returns-in-Some c = λ text same seen cut calm key.
     let fs = stack c.args.forms.now.items in
-    signed_gives c.args.text.now (2 * c.args.at + 2) fs fs c.args.builder.now c.args.builder.now c.args.at c.in-Some.refusal c.requires.block c.requires.open c.in-Some.ensures
+    signed_gives text (2 * c.args.at + 2) fs fs c.args.builder.now c.args.builder.now c.args.at c.in-Some.refusal c.requires.block c.requires.open
+    (c.in-Some.ensures ∙ sym (ap (option_map of_sign) (sign_same c.args.text.now text c.args.at same)))
 
-pub line-requires-clause-inside : goal.line-requires-clause-inside
-line-requires-clause-inside c = no_sign_inside c.args.text.now c.args.at (c.is_document_end.ensures.no c.if-is_document_end.false) c.in-None.ensures
+pub returns-in-None : goal.returns-in-None
+returns-in-None c = λ text same seen cut calm key.
+    let this = c.args.text.now in
+    c.line.ensures text (subst (λ (a : Ahead). IsSeen text false c.args.at a) (sym c.look-next.ensures.0) seen)
+    (no_sign_inside text c.args.at (λ e. c.is_document_end.ensures.no c.if-is_document_end.false (end_here this text c.args.at same e)) (c.in-None.ensures ∙ sym (ap (option_map of_sign) (sign_same this text c.args.at same)))) calm
+    (subst (λ (a : Ahead). SameKey this text a) (sym c.look-next.ensures.0) key)
 
-pub end_all-requires-clause-end : goal.end_all-requires-clause-end
-end_all-requires-clause-end c = c.if-is_document_end.ensures.yes refl
+pub returns-then-is_document_end : goal.returns-then-is_document_end
+returns-then-is_document_end c = λ text same seen cut calm key. c.end_all.ensures text (end_there c.args.text.now text c.args.at same (c.if-is_document_end.ensures.yes refl)) cut

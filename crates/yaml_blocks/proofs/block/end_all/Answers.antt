@@ -15,6 +15,6 @@ loop-builder-preserved c =
     let gs = stack c.pop.new.self.items in
     let s = c.loop-builder.invariant.0 in (
       ended_one c.in-Some.field-0 old gs c.loop-builder.builder c.end.new.self e c.in-Ok.ensures.ok s,
-      then_alike c.args.text.now c.args.at (stack c.args.forms.now.items) old gs c.args.builder.now c.loop-builder.builder c.end.new.self c.loop-builder.invariant.1
-          (closed_alike c.args.text.now c.args.at c.in-Some.field-0 old gs c.loop-builder.builder c.end.new.self c.requires.end e c.in-Ok.ensures.ok s),
+      (λ other end. then_alike other c.args.at (stack c.args.forms.now.items) old gs c.args.builder.now c.loop-builder.builder c.end.new.self (c.loop-builder.invariant.1 other end)
+          (closed_alike other c.args.at c.in-Some.field-0 old gs c.loop-builder.builder c.end.new.self end e c.in-Ok.ensures.ok s)),
     )

@@ -7,61 +7,67 @@ use Rattle.doc_values.specs.Tree.{has_key}
 use Rattle.yaml_blocks.specs.declared.form.Form.TheVariants.{Entries}
 use Rattle.yaml_blocks.specs.declared.stage.Stage.TheVariants as stage
 use Rattle.yaml_blocks.specs.Nodes.{as_key}
-use Rattle.yaml_blocks.specs.code.Steps.{stack, Gives}
+use Rattle.yaml_blocks.specs.declared.ahead.Ahead.{Ahead}
+use Rattle.yaml_blocks.specs.declared.ahead.Token.TheVariants.{Point}
+use Rattle.yaml_blocks.specs.code.Steps.{stack, Gives, SameScalar}
 use Rattle.yaml_blocks.proofs.Forms.{awaits_key}
 use Rattle.yaml_blocks.proofs.Gains.{found_key}
+use Rattle.yaml_blocks.proofs.SameTexts.{found_same, finds_same, has_key_same}
 use Rattle.yaml_blocks.proofs.BlockGains.{Behind, nothing_follows, entry_deep, entry_signed_gives, entry_missed, entry_goes, entry_refused, no_colon}
 use Rattle.yaml_blocks.proofs.block.entry.Goals as goal
 
 pub returns-then-next-column : goal.returns-then-next-column
-returns-then-next-column c =
-    let text = c.args.text.now in
+returns-then-next-column c = λ text seen inside calm same.
     let fs = stack c.args.forms.now in
-    nothing_follows text fs c.args.builder.now c.args.at c.args.next c.requires.seen.0 c.requires.inside (entry_deep text fs c.args.column c.args.next c.requires.open.1 c.requires.form c.requires.stays c.if-next-column.true)
+    nothing_follows text fs c.args.builder.now c.args.at c.args.next seen.0 inside (entry_deep text fs c.args.column c.args.next c.requires.open.1 c.requires.form c.requires.stays c.if-next-column.true)
 
 pub returns-in-Err : goal.returns-in-Err
-returns-in-Err c =
-    entry_missed c.args.text.now c.args.column (stack c.args.forms.now) c.args.builder.now c.args.builder.now c.args.at c.args.next c.as_key.result c.in-Err.refusal c.as_key.ensures c.requires.seen.0 c.requires.inside c.requires.form c.requires.open
-    c.if-next-column.false c.requires.calm c.in-None.ensures c.in-Err.ensures
+returns-in-Err c = λ text seen inside calm same.
+    entry_missed text c.args.column (stack c.args.forms.now) c.args.builder.now c.args.builder.now c.args.at c.args.next c.as_key.result c.in-Err.refusal c.as_key.ensures seen.0 inside c.requires.form c.requires.open
+    c.if-next-column.false calm c.in-None.ensures (finds_same c.args.text.now text c.as_key.result c.args.next (subst (λ z. SameScalar c.args.text.now text z c.args.next) (sym c.as_key.ensures) same.scalar) c.in-Err.refusal c.in-Err.ensures)
 
 pub key-requires : goal.key-requires
 key-requires c = record { awaited = awaits_key (Entries c.args.column) (stack c.args.forms.now) c.args.builder.now c.requires.form (λ e. absurd (cc)) refl c.requires.open.0 c.requires.awaited }
 
 pub returns-in-Some-colon_behind : goal.returns-in-Some-colon_behind
-returns-in-Some-colon_behind c =
-    let text = c.args.text.now in
+returns-in-Some-colon_behind c = λ text seen inside calm same.
+    let this = c.args.text.now in
     let words = cow_str_bytes c.in-Ok.scalar.text in
     let end = c.in-Ok.scalar.end in
     let behind = c.in-Some-colon_behind.behind in
-    let f = found_key text c.as_key.result (as_key false) c.args.next words c.in-Ok.scalar.kind end c.as_key.ensures c.in-Ok.ensures in
+    let g = found_key this c.as_key.result (as_key false) c.args.next words c.in-Ok.scalar.kind end c.as_key.ensures c.in-Ok.ensures in
+    let f = found_same this text (as_key false) c.args.next same.scalar words c.in-Ok.scalar.kind end g in
     let h = c.in-Some-colon_behind.ensures in
+    let there = has_key_same this text c.args.next same (record { text = c.in-Ok.scalar.text; behind = behind }) ((end, g.0, h.0, h.1, h.2), h.3, omega (arith, g.2, h.4)) in
     let k = c.in-Ok-key.ensures.ok in
-    entry_goes text c.args.column (stack c.args.forms.now) c.args.builder.now c.key.new.self c.args.at behind c.args.next words (record { stage = stage.Value; at = behind }) c.requires.seen c.requires.fresh c.requires.inside c.requires.form
-    c.requires.open c.if-next-column.false (end, f.0, h.0, h.1, h.2) (omega (arith, f.2, h.4)) h.3 k.1 refl refl k.0
+    entry_goes text c.args.column (stack c.args.forms.now) c.args.builder.now c.key.new.self c.args.at behind c.args.next words (record { stage = stage.Value; at = behind }) seen c.requires.fresh inside c.requires.form
+    c.requires.open c.if-next-column.false there.0 there.2 there.1 k.1 refl refl k.0
 
 pub returns-in-None-colon_behind : goal.returns-in-None-colon_behind
-returns-in-None-colon_behind c =
-    let text = c.args.text.now in
+returns-in-None-colon_behind c = λ text seen inside calm same.
+    let this = c.args.text.now in
     let words = cow_str_bytes c.in-Ok.scalar.text in
-    let f = found_key text c.as_key.result (as_key false) c.args.next words c.in-Ok.scalar.kind c.in-Ok.scalar.end c.as_key.ensures c.in-Ok.ensures in
-    no_colon text c.args.column (stack c.args.forms.now) c.args.builder.now c.args.at c.in-Ok.scalar.end c.args.next words c.requires.seen.0 c.requires.inside c.requires.form c.requires.open c.if-next-column.false f.0 c.in-Ok-key.ensures.ok.1
-    c.in-None-colon_behind.ensures
+    let g = found_key this c.as_key.result (as_key false) c.args.next words c.in-Ok.scalar.kind c.in-Ok.scalar.end c.as_key.ensures c.in-Ok.ensures in
+    let f = found_same this text (as_key false) c.args.next same.scalar words c.in-Ok.scalar.kind c.in-Ok.scalar.end g in
+    no_colon text c.args.column (stack c.args.forms.now) c.args.builder.now c.args.at c.in-Ok.scalar.end c.args.next words seen.0 inside c.requires.form c.requires.open c.if-next-column.false f.0 c.in-Ok-key.ensures.ok.1
+    (subst (λ (x : Ahead). x.fresh ≡ false → x.token ≡ Point true → ⊥) (sym (same.behind words c.in-Ok.scalar.end g.0)) c.in-None-colon_behind.ensures)
 
 pub returns-in-Err-key : goal.returns-in-Err-key
-returns-in-Err-key c =
-    let text = c.args.text.now in
+returns-in-Err-key c = λ text seen inside calm same.
+    let this = c.args.text.now in
     let fs = stack c.args.forms.now in
     let u = c.args.builder.now in
     let words = cow_str_bytes c.in-Ok.scalar.text in
-    let f = found_key text c.as_key.result (as_key false) c.args.next words c.in-Ok.scalar.kind c.in-Ok.scalar.end c.as_key.ensures c.in-Ok.ensures in
+    let g = found_key this c.as_key.result (as_key false) c.args.next words c.in-Ok.scalar.kind c.in-Ok.scalar.end c.as_key.ensures c.in-Ok.ensures in
+    let f = found_same this text (as_key false) c.args.next same.scalar words c.in-Ok.scalar.kind c.in-Ok.scalar.end g in
     subst (λ e. Gives text (Behind text fs u c.args.at) (2 * c.args.at + 2) fs c.key.new.self (Err e)) (sym c.from.ensures)
-    (entry_refused text c.args.column fs u c.key.new.self c.args.at c.in-Ok.scalar.end c.args.next words c.in-Err-key.refusal c.requires.seen c.requires.fresh c.requires.inside c.requires.form c.requires.open c.if-next-column.false f.0
+    (entry_refused text c.args.column fs u c.key.new.self c.args.at c.in-Ok.scalar.end c.args.next words c.in-Err-key.refusal seen c.requires.fresh inside c.requires.form c.requires.open c.if-next-column.false f.0
     (subst (λ n. (c.in-Err-key.refusal ≡ build.NoMemory) ⊎ ((c.in-Err-key.refusal ≡ build.DuplicateKey n) × (has_key u.done words ≡ true))) c.offset.ensures c.in-Err-key.ensures.refused))
 
 pub returns-in-Some : goal.returns-in-Some
-returns-in-Some c =
+returns-in-Some c = λ text seen inside calm same.
     let fs = stack c.args.forms.now in
-    entry_signed_gives c.args.text.now c.args.column (2 * c.args.at + 2) fs fs c.args.builder.now c.args.builder.now c.args.at c.args.next c.in-Some.refusal c.requires.seen c.requires.fresh c.requires.inside c.requires.form c.requires.open c.if-next-column.false c.in-Some.ensures
+    entry_signed_gives text c.args.column (2 * c.args.at + 2) fs fs c.args.builder.now c.args.builder.now c.args.at c.args.next c.in-Some.refusal seen c.requires.fresh inside c.requires.form c.requires.open c.if-next-column.false c.in-Some.ensures
 
 pub colon_behind-requires-clause-boundary : goal.colon_behind-requires-clause-boundary
 colon_behind-requires-clause-boundary c = grind (arith, common_steps)

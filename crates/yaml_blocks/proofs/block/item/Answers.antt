@@ -5,14 +5,13 @@ use Rattle.yaml_blocks.proofs.BlockGains.{nothing_follows, item_deep, item_stays
 use Rattle.yaml_blocks.proofs.block.item.Goals as goal
 
 pub returns-then-next-column : goal.returns-then-next-column
-returns-then-next-column c =
-    let text = c.args.text.now in
+returns-then-next-column c = λ text seen inside.
     let fs = stack c.args.forms.now in
-    nothing_follows text fs c.args.builder.now c.args.at c.args.next c.requires.seen.0 c.requires.inside (item_deep text fs c.args.column c.args.next c.requires.open.1 c.requires.form c.requires.stays c.if-next-column.true)
+    nothing_follows text fs c.args.builder.now c.args.at c.args.next seen.0 inside (item_deep text fs c.args.column c.args.next c.requires.open.1 c.requires.form c.requires.stays c.if-next-column.true)
 
 pub returns-in-Dash : goal.returns-in-Dash
-returns-in-Dash c =
-    item_goes c.args.text.now c.args.column (stack c.args.forms.now) c.args.builder.now c.args.at c.args.next (record { stage = stage.Value; at = c.args.next.behind }) c.requires.seen c.requires.fresh c.requires.inside c.requires.form c.requires.open c.requires.awaited
+returns-in-Dash c = λ text seen inside.
+    item_goes text c.args.column (stack c.args.forms.now) c.args.builder.now c.args.at c.args.next (record { stage = stage.Value; at = c.args.next.behind }) seen c.requires.fresh inside c.requires.form c.requires.open c.requires.awaited
     c.if-next-column.false c.in-Dash.is refl refl
 
 pub returns-in_default : goal.returns-in_default

@@ -1,15 +1,19 @@
-use Rattle.yaml_blocks.specs.code.Steps.{stack}
-use Rattle.yaml_blocks.proofs.BlockGains.{scalar_gives, spot}
+use Rattle.std.proofs.Common.{sym, subst}
+use Rattle.yaml_blocks.specs.Nodes.{follows_get_att, setting_of}
+use Rattle.yaml_blocks.specs.code.Steps.{stack, Holds}
+use Rattle.yaml_blocks.proofs.BlockGains.{scalar_gives, spot_of}
+use Rattle.yaml_blocks.proofs.SameTexts.{holds_same, no_key_same}
 use Rattle.yaml_blocks.proofs.AwaitedNodes.{place_behind, small_form, value_awaited}
 use Rattle.yaml_blocks.proofs.block.scalar.Goals as goal
 
 pub returns : goal.returns
-returns c =
-    let text = c.args.text.now in
+returns c = λ text w same.
     let fs = stack c.args.forms.now in
     let u = c.args.builder.now in
-    scalar_gives text fs u c.take_scalar.new.builder c.args.form c.args.at c.args.next c.take_scalar.result c.requires.awaited.seen.0
-    (spot text fs u c.args.form c.args.at c.args.next c.requires.awaited.small c.requires.awaited.seen c.requires.awaited.form c.requires.awaited.block c.requires.awaited.fits) c.requires.starts c.requires.takes c.requires.no_key c.take_scalar.ensures
+    scalar_gives text fs u c.take_scalar.new.builder c.args.form c.args.at c.args.next c.take_scalar.result w.seen.0
+    (spot_of text fs u c.args.form c.args.at c.args.next w) c.requires.starts c.requires.takes (λ h. no_key_same c.args.text.now text c.args.next same.key (c.requires.no_key h))
+    (subst (λ q. Holds text (setting_of c.args.form) q c.args.next u c.take_scalar.new.builder c.take_scalar.result) (sym same.cuts)
+    (holds_same c.args.text.now text (setting_of c.args.form) c.args.next same.scalar (follows_get_att c.args.text.now c.args.form c.args.at) u c.take_scalar.new.builder c.take_scalar.result c.take_scalar.ensures))
 
 pub take_scalar-requires-clause-form : goal.take_scalar-requires-clause-form
 take_scalar-requires-clause-form c = small_form c.args.text.now (stack c.args.forms.now) c.args.builder.now c.args.form c.args.at c.args.next c.requires.awaited

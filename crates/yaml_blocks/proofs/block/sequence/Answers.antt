@@ -2,27 +2,25 @@ use Rattle.std.proofs.Common.{◌∷◌, ap, ◌∙◌, refl}
 use Rattle.yaml_blocks.specs.declared.form.Form.TheVariants.{Items}
 use Rattle.yaml_blocks.specs.declared.stage.Stage.TheVariants as stage
 use Rattle.yaml_blocks.specs.code.Steps.{stack}
-use Rattle.yaml_blocks.proofs.BlockGains.{sequence_goes, sequence_refused, spot}
+use Rattle.yaml_blocks.proofs.BlockGains.{sequence_goes, sequence_refused, spot_of}
 use Rattle.yaml_blocks.proofs.AwaitedNodes.{column_before, small_form, small_place, value_awaited}
 use Rattle.yaml_blocks.proofs.block.sequence.Goals as goal
 
 pub returns-in-Ok : goal.returns-in-Ok
-returns-in-Ok c =
-    let text = c.args.text.now in
+returns-in-Ok c = λ text w same.
     let fs = stack c.args.forms.now.items in
     let u = c.args.builder.now in
     let b = c.in-Ok.ensures in
-    sequence_goes text fs (stack c.begin.new.forms.items) u c.begin.new.builder c.args.form c.args.at c.args.next (record { stage = stage.Value; at = c.args.next.behind }) c.requires.awaited.seen.0
-    (spot text fs u c.args.form c.args.at c.args.next c.requires.awaited.small c.requires.awaited.seen c.requires.awaited.form c.requires.awaited.block c.requires.awaited.fits) c.requires.dash c.requires.takes
+    sequence_goes text fs (stack c.begin.new.forms.items) u c.begin.new.builder c.args.form c.args.at c.args.next (record { stage = stage.Value; at = c.args.next.behind }) w.seen.0
+    (spot_of text fs u c.args.form c.args.at c.args.next w) c.requires.dash c.requires.takes
     (b.0 ∙ ap (λ n. Items n ∷ fs) c.column_in-column.ensures) b.1 b.2 refl refl
 
 pub returns-in-Err : goal.returns-in-Err
-returns-in-Err c =
-    let text = c.args.text.now in
+returns-in-Err c = λ text w same.
     let fs = stack c.args.forms.now.items in
     let u = c.args.builder.now in
-    sequence_refused text fs (stack c.begin.new.forms.items) u c.begin.new.builder c.args.form c.args.at c.args.next c.in-Err.refusal c.requires.awaited.seen.0
-    (spot text fs u c.args.form c.args.at c.args.next c.requires.awaited.small c.requires.awaited.seen c.requires.awaited.form c.requires.awaited.block c.requires.awaited.fits) c.requires.dash c.requires.takes c.in-Err.ensures
+    sequence_refused text fs (stack c.begin.new.forms.items) u c.begin.new.builder c.args.form c.args.at c.args.next c.in-Err.refusal w.seen.0
+    (spot_of text fs u c.args.form c.args.at c.args.next w) c.requires.dash c.requires.takes c.in-Err.ensures
 
 pub column_in-column-requires-clause-small : goal.column_in-column-requires-clause-small
 column_in-column-requires-clause-small c = small_place c.args.text.now (stack c.args.forms.now.items) c.args.builder.now c.args.form c.args.at c.args.next c.requires.awaited

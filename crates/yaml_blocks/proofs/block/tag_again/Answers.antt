@@ -2,45 +2,44 @@ use Rattle.std.proofs.lemmas.Grind.{common_steps}
 use Rattle.std.proofs.Common.{List, sym, ap, subst, ◌∙◌, ◌+◌, ◌*◌, arith}
 use Rattle.std.specs.Prelude.{Ok}
 use Rattle.yaml_blocks.specs.declared.form.Form.{Form}
-use Rattle.yaml_blocks.specs.code.Rest.{top}
+use Rattle.yaml_blocks.specs.code.Rest.{top, Awaits}
 use Rattle.yaml_blocks.specs.code.Steps.{stack, Ended}
-use Rattle.yaml_blocks.proofs.BlockGains.{spot, tag_again_gives, no_tag_again}
+use Rattle.yaml_blocks.proofs.Gains.{memory_gives}
+use Rattle.yaml_blocks.proofs.BlockGains.{spot_of, tag_again_gives, no_tag_again}
 use Rattle.yaml_blocks.proofs.block.tag_again.Goals as goal
 
 pub returns-then-is_entry_column : goal.returns-then-is_entry_column
-returns-then-is_entry_column c =
-    let text = c.args.text.now in
+returns-then-is_entry_column c = λ text v same.
     let fs = stack c.args.forms.now.items in
     let gs = stack c.end_before.new.forms.items in
     let u = c.args.builder.now in
     let w = c.end_before.new.builder in
     let next = c.args.next in
     let found = c.innermost.ensures ∙ ap (λ (x : List Form). top (stack x)) c.deref.ensures.value in
-    tag_again_gives text (2 * c.args.at + 1) fs gs u w c.args.form c.args.at c.args.len c.offset.result next c.requires.awaited.seen.0 (
-      spot text fs u c.args.form c.args.at next c.requires.awaited.small c.requires.awaited.seen c.requires.awaited.form c.requires.awaited.block c.requires.awaited.fits,
+    tag_again_gives text (2 * c.args.at + 1) fs gs u w c.args.form c.args.at c.args.len c.offset.result next v.seen.0 (
+      spot_of text fs u c.args.form c.args.at next v,
       c.requires.tag,
       c.requires.tagged,
       c.requires.none,
       c.requires.unsigned,
-      subst (λ z. Ended text fs z next c.args.at gs w (Ok tt)) c.in-Ok.ensures.2 (c.in-Ok-end_before.ensures text c.args.at c.requires.awaited.seen.0),
+      subst (λ z. Ended text fs z next c.args.at gs w (Ok tt)) c.in-Ok.ensures.2 (c.in-Ok-end_before.ensures text c.args.at v.seen.0),
     ) c.offset.ensures (sym found ∙ c.is_entry_column.ensures.yes c.if-is_entry_column.true)
 
 pub returns : goal.returns
-returns c =
-    let text = c.args.text.now in
+returns c = λ text v same.
     let fs = stack c.args.forms.now.items in
     let gs = stack c.end_before.new.forms.items in
     let u = c.args.builder.now in
     let w = c.end_before.new.builder in
     let next = c.args.next in
     let found = c.innermost.ensures ∙ ap (λ (x : List Form). top (stack x)) c.deref.ensures.value in
-    no_tag_again text fs gs u w c.args.form c.args.at c.args.len next c.requires.awaited.seen.0 (
-      spot text fs u c.args.form c.args.at next c.requires.awaited.small c.requires.awaited.seen c.requires.awaited.form c.requires.awaited.block c.requires.awaited.fits,
+    no_tag_again text fs gs u w c.args.form c.args.at c.args.len next v.seen.0 (
+      spot_of text fs u c.args.form c.args.at next v,
       c.requires.tag,
       c.requires.tagged,
       c.requires.none,
       c.requires.unsigned,
-      subst (λ z. Ended text fs z next c.args.at gs w (Ok tt)) c.in-Ok.ensures.2 (c.in-Ok-end_before.ensures text c.args.at c.requires.awaited.seen.0),
+      subst (λ z. Ended text fs z next c.args.at gs w (Ok tt)) c.in-Ok.ensures.2 (c.in-Ok-end_before.ensures text c.args.at v.seen.0),
     ) (λ h. c.is_entry_column.ensures.no c.if-is_entry_column.false (found ∙ h))
 
 pub end_before-requires-clause-block : goal.end_before-requires-clause-block
@@ -50,4 +49,7 @@ pub end_before-requires-clause-open : goal.end_before-requires-clause-open
 end_before-requires-clause-open c = grind (arith, common_steps)
 
 pub returns-in-Err-end_before : goal.returns-in-Err-end_before
-returns-in-Err-end_before c = grind (arith, common_steps)
+returns-in-Err-end_before c = λ text v same.
+    let u = c.args.builder.now in
+    let fs = stack c.args.forms.now.items in
+    memory_gives text (Awaits text fs u.outer u.done u.key c.args.at) (2 * c.args.at + 1) (stack c.end_before.new.forms.items) c.end_before.new.builder c.in-Err-end_before.refusal (c.in-Err-end_before.ensures text c.args.at v.seen.0)

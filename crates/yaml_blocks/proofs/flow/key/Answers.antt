@@ -1,62 +1,67 @@
 use Rattle.std.proofs.lemmas.Grind.{common_steps}
-use Rattle.std.proofs.Common.{◌≡◌, ◌⊎◌, List, ℕ, drop, sym, ap, ◌∙◌, refl, subst, Bool, true, ◌+◌, ◌*◌, arith}
+use Rattle.std.proofs.Common.{◌≡◌, ◌⊎◌, List, ℕ, drop, sym, ap, ◌∙◌, refl, subst, true, ◌+◌, ◌*◌, arith}
 use Rattle.std.specs.Prelude.{Err}
 use Rattle.std.specs.Cow.{cow_str_bytes}
 use Rattle.doc_values.specs.declared.builder.BuildRefusal.TheVariants as build
 use Rattle.doc_values.specs.Tree.{has_key}
 use Rattle.yaml_scalars.specs.Scalar.{begins_quoted}
 use Rattle.yaml_blocks.specs.declared.stage.Stage.TheVariants as stage
-use Rattle.yaml_blocks.specs.Flow.{IsColon}
 use Rattle.yaml_blocks.specs.code.Rest.{Enters}
 use Rattle.yaml_blocks.specs.Nodes.{as_key}
-use Rattle.yaml_blocks.specs.code.Steps.{stack, Gives}
+use Rattle.yaml_blocks.specs.code.Steps.{stack, Gives, SameScalar}
 use Rattle.yaml_blocks.specs.declared.form.Form.TheVariants.{Flow}
 use Rattle.yaml_blocks.proofs.Forms.{awaits_key}
+use Rattle.yaml_blocks.proofs.SameTexts.{found_same, finds_same, colon_there, colon_here, colon_last}
 use Rattle.yaml_blocks.proofs.Gains.{key_gives, key_signed_gives, find_refused, found_key, no_colon, key_refused}
 use Rattle.yaml_blocks.proofs.flow.key.Goals as goal
 
 pub returns-in-Err : goal.returns-in-Err
-returns-in-Err c = find_refused c.args.text.now (stack c.args.forms.now) c.args.builder.now c.args.builder.now c.args.at c.args.next c.as_key.result c.in-Err.refusal c.as_key.ensures c.requires.seen.0 c.requires.there c.in-None.ensures c.requires.unmarked c.requires.form c.requires.open c.in-Err.ensures
+returns-in-Err c = λ text seen same. find_refused text (stack c.args.forms.now) c.args.builder.now c.args.builder.now c.args.at c.args.next c.as_key.result c.in-Err.refusal c.as_key.ensures seen.0 c.requires.there c.in-None.ensures c.requires.unmarked c.requires.form c.requires.open
+    (finds_same c.args.text.now text c.as_key.result c.args.next (subst (λ z. SameScalar c.args.text.now text z c.args.next) (sym c.as_key.ensures) same.scalar) c.in-Err.refusal c.in-Err.ensures)
 
 pub returns-in-None-colon : goal.returns-in-None-colon
-returns-in-None-colon c =
-    let text = c.args.text.now in
+returns-in-None-colon c = λ text seen same.
+    let this = c.args.text.now in
     let words = cow_str_bytes c.in-Ok.scalar.text in
-    let quoted : c.is_quoted.result ≡ begins_quoted (drop c.args.next.at text) = c.is_quoted.ensures ∙ ap (λ (t : List ℕ). begins_quoted (drop c.args.next.at t)) c.as_bytes.ensures.value in
-    let f = found_key text c.as_key.result (as_key true) c.args.next words c.in-Ok.scalar.kind c.in-Ok.scalar.end c.as_key.ensures c.in-Ok.ensures in
-    no_colon text (stack c.args.forms.now) c.args.builder.now.outer c.args.builder.now.done c.args.at c.in-Ok.scalar.end c.args.next words c.requires.seen.0 c.requires.there c.requires.form c.requires.open.0 f.0 c.in-Ok-key.ensures.ok.1
-    (λ p h. c.in-None-colon.ensures p (subst (λ (q : Bool). IsColon text q c.in-Ok.scalar.end p) (sym quoted) h))
+    let quoted : c.is_quoted.result ≡ begins_quoted (drop c.args.next.at this) = c.is_quoted.ensures ∙ ap (λ (t : List ℕ). begins_quoted (drop c.args.next.at t)) c.as_bytes.ensures.value in
+    let g = found_key this c.as_key.result (as_key true) c.args.next words c.in-Ok.scalar.kind c.in-Ok.scalar.end c.as_key.ensures c.in-Ok.ensures in
+    let f = found_same this text (as_key true) c.args.next same.scalar words c.in-Ok.scalar.kind c.in-Ok.scalar.end g in
+    no_colon text (stack c.args.forms.now) c.args.builder.now.outer c.args.builder.now.done c.args.at c.in-Ok.scalar.end c.args.next words seen.0 c.requires.there c.requires.form c.requires.open.0 f.0 c.in-Ok-key.ensures.ok.1
+    (λ p h. c.in-None-colon.ensures p (colon_here this text c.args.next same words c.in-Ok.scalar.end g.0 c.is_quoted.result p quoted h))
 
 pub returns-in-Some-colon : goal.returns-in-Some-colon
-returns-in-Some-colon c =
-    let text = c.args.text.now in
+returns-in-Some-colon c = λ text seen same.
+    let this = c.args.text.now in
     let words = cow_str_bytes c.in-Ok.scalar.text in
     let place = c.in-Some-colon.place in
-    let quoted : c.is_quoted.result ≡ begins_quoted (drop c.args.next.at text) = c.is_quoted.ensures ∙ ap (λ (t : List ℕ). begins_quoted (drop c.args.next.at t)) c.as_bytes.ensures.value in
-    let f = found_key text c.as_key.result (as_key true) c.args.next words c.in-Ok.scalar.kind c.in-Ok.scalar.end c.as_key.ensures c.in-Ok.ensures in
+    let quoted : c.is_quoted.result ≡ begins_quoted (drop c.args.next.at this) = c.is_quoted.ensures ∙ ap (λ (t : List ℕ). begins_quoted (drop c.args.next.at t)) c.as_bytes.ensures.value in
+    let g = found_key this c.as_key.result (as_key true) c.args.next words c.in-Ok.scalar.kind c.in-Ok.scalar.end c.as_key.ensures c.in-Ok.ensures in
+    let f = found_same this text (as_key true) c.args.next same.scalar words c.in-Ok.scalar.kind c.in-Ok.scalar.end g in
     let h = c.in-Some-colon.ensures in
     let k = c.in-Ok-key.ensures in
-    key_gives text (stack c.args.forms.now) c.args.builder.now c.key.new.self c.args.at place c.in-Ok.scalar.end c.args.next words c.in-Ok.scalar.kind (record { stage = stage.Value; at = place }) c.requires.seen c.requires.there c.requires.form c.requires.open
-    f h.2 h.1 (subst (λ (q : Bool). IsColon text q c.in-Ok.scalar.end place) quoted h.0) k.ok.1 refl refl k.ok.0
+    key_gives text (stack c.args.forms.now) c.args.builder.now c.key.new.self c.args.at place c.in-Ok.scalar.end c.args.next words c.in-Ok.scalar.kind (record { stage = stage.Value; at = place }) seen c.requires.there c.requires.form c.requires.open
+    f h.2 (colon_last this text c.args.next same words c.in-Ok.scalar.end g.0 c.is_quoted.result place h.0 h.1 f.3)
+    (colon_there this text c.args.next same words c.in-Ok.scalar.end g.0 c.is_quoted.result place quoted h.0) k.ok.1 refl refl k.ok.0
 
 pub returns-in-Err-key : goal.returns-in-Err-key
-returns-in-Err-key c =
-    let text = c.args.text.now in
+returns-in-Err-key c = λ text seen same.
+    let this = c.args.text.now in
     let words = cow_str_bytes c.in-Ok.scalar.text in
     let u = c.args.builder.now in
-    let f = found_key text c.as_key.result (as_key true) c.args.next words c.in-Ok.scalar.kind c.in-Ok.scalar.end c.as_key.ensures c.in-Ok.ensures in
+    let g = found_key this c.as_key.result (as_key true) c.args.next words c.in-Ok.scalar.kind c.in-Ok.scalar.end c.as_key.ensures c.in-Ok.ensures in
+    let f = found_same this text (as_key true) c.args.next same.scalar words c.in-Ok.scalar.kind c.in-Ok.scalar.end g in
     let k = c.in-Err-key.ensures in
     subst (λ e. Gives text (Enters text (stack c.args.forms.now) u.outer u.done c.args.at) (2 * c.args.at + 2) (stack c.args.forms.now) c.key.new.self (Err e)) (sym c.from.ensures)
-    (key_refused text (stack c.args.forms.now) u c.key.new.self c.args.at c.in-Ok.scalar.end c.args.next words c.in-Err-key.refusal c.requires.seen.0 c.requires.there c.requires.form c.requires.open f.0
+    (key_refused text (stack c.args.forms.now) u c.key.new.self c.args.at c.in-Ok.scalar.end c.args.next words c.in-Err-key.refusal seen.0 c.requires.there c.requires.form c.requires.open f.0
     (subst (λ n. (c.in-Err-key.refusal ≡ build.NoMemory) ⊎ ((c.in-Err-key.refusal ≡ build.DuplicateKey n) × (has_key u.done words ≡ true))) c.offset.ensures k.refused))
 
 pub key-requires : goal.key-requires
 key-requires c = record { awaited = awaits_key (Flow true) (stack c.args.forms.now) c.args.builder.now c.requires.form (λ e. absurd (cc)) refl c.requires.open.0 c.requires.awaited }
 
 pub returns-in-Some : goal.returns-in-Some
-returns-in-Some c =
+returns-in-Some c = λ text seen same.
     let fs = stack c.args.forms.now in
-    key_signed_gives c.args.text.now (2 * c.args.at + 2) fs fs c.args.builder.now c.args.builder.now c.args.at c.args.next c.in-Some.refusal c.requires.seen.0 c.requires.there c.requires.unmarked c.requires.form c.requires.open c.in-Some.ensures
+    key_signed_gives text (2 * c.args.at + 2) fs fs c.args.builder.now c.args.builder.now c.args.at c.args.next c.in-Some.refusal seen.0 c.requires.there c.requires.unmarked c.requires.form c.requires.open c.in-Some.ensures
 
 pub colon-requires-clause-boundary : goal.colon-requires-clause-boundary
 colon-requires-clause-boundary c = grind (arith, common_steps)

@@ -1,5 +1,7 @@
 use Rattle.std.proofs.Common.{true}
 use Rattle.yaml_blocks.specs.code.Steps.{stack}
+use Rattle.yaml_blocks.specs.declared.form.Form.TheVariants.{FlowTagged}
+use Rattle.yaml_blocks.proofs.SameTexts.{tag_same}
 use Rattle.yaml_blocks.proofs.Gains.{flow_spot, flow_tag_gives, tag_cut, tag_flow}
 use Rattle.yaml_blocks.proofs.flow.tag.Goals as goal
 
@@ -7,9 +9,9 @@ pub begin_tag-requires-clause-first : goal.begin_tag-requires-clause-first
 begin_tag-requires-clause-first c = tag_cut c.args.text.now true c.args.at c.args.len c.args.next c.requires.seen c.requires.tag
 
 pub returns : goal.returns
-returns c =
-    let text = c.args.text.now in
+returns c = λ text seen name.
     let fs = stack c.args.forms.now.items in
     let u = c.args.builder.now in
-    flow_tag_gives text fs (stack c.begin_tag.new.forms.items) u c.begin_tag.new.builder c.args.form c.args.at c.args.len c.args.next c.begin_tag.result c.requires.seen.0
-    (flow_spot text fs u c.args.form c.args.at c.args.next c.requires.seen c.requires.form (tag_flow c.args.form c.requires.takes) c.requires.open) c.requires.tag c.requires.takes c.begin_tag.ensures
+    flow_tag_gives text fs (stack c.begin_tag.new.forms.items) u c.begin_tag.new.builder c.args.form c.args.at c.args.len c.args.next c.begin_tag.result seen.0
+    (flow_spot text fs u c.args.form c.args.at c.args.next seen c.requires.form (tag_flow c.args.form c.requires.takes) c.requires.open) c.requires.tag c.requires.takes
+    (tag_same c.args.text.now text (FlowTagged c.args.next.at) c.args.next fs (stack c.begin_tag.new.forms.items) u c.begin_tag.new.builder c.begin_tag.result name c.begin_tag.ensures)

@@ -1,10 +1,12 @@
 use Rattle.std.proofs.lemmas.Grind.{common_steps}
-use Rattle.std.proofs.Common.{sym, ap, subst, List, [], arith}
+use Rattle.std.proofs.Common.{sym, ap, subst, List, [], length, arith}
 use Rattle.doc_values.specs.Tree.{Forest}
 use Rattle.yaml_blocks.specs.declared.form.Form.{Form}
 use Rattle.yaml_blocks.specs.Answers.{Reads}
 use Rattle.yaml_blocks.specs.code.Steps.{stack, Rest, reached}
-use Rattle.yaml_blocks.proofs.Roots.{root_same, whole_tree, whole_complete, root_refused, refuses}
+use Rattle.yaml_blocks.specs.code.Rest.{top}
+use Rattle.yaml_blocks.proofs.SameTexts.{same_step}
+use Rattle.yaml_blocks.proofs.Roots.{nearer, root_same, whole_tree, whole_complete, root_refused, refuses}
 use Rattle.yaml_blocks.proofs.read.read_yaml.Goals as goal
 
 pub returns-in-Err-root-clause-answer : goal.returns-in-Err-root-clause-answer
@@ -16,14 +18,16 @@ loop-alloc-init c =
 
 pub loop-alloc-preserved : goal.loop-alloc-preserved
 loop-alloc-preserved c =
-    let g = c.in-Ok-step.ensures in
     let i = c.loop-alloc.invariant in
+    let p = c.loop-alloc.position in
+    let g = c.in-Ok-step.ensures c.args.text.now c.utf8.text i.2 i.1 (same_step c.args.text.now p.stage (top (stack c.loop-alloc.forms.items)) p.at) in
     ((λ v. ((λ h. (g.0 v).0 ((i.0 v).0 h)), (λ h. (i.0 v).1 ((g.0 v).1 h)))), g.1, g.2)
 
 pub returns-in-Err-step-clause-answer : goal.returns-in-Err-step-clause-answer
 returns-in-Err-step-clause-answer c =
     let p = c.loop-alloc.position in
-    refuses c.args.text.now (Rest c.args.text.now p.stage (stack c.loop-alloc.forms.items) c.loop-alloc.builder p.at) (reached p.stage p.at) (stack c.step.new.forms.items) c.step.new.builder c.in-Err-step.refusal c.loop-alloc.invariant.0 c.in-Err-step.ensures
+    refuses c.args.text.now (Rest c.args.text.now p.stage (stack c.loop-alloc.forms.items) c.loop-alloc.builder p.at) (reached p.stage p.at) (stack c.step.new.forms.items) c.step.new.builder c.in-Err-step.refusal c.loop-alloc.invariant.0
+    (c.in-Err-step.ensures c.args.text.now c.utf8.text c.loop-alloc.invariant.2 c.loop-alloc.invariant.1 (same_step c.args.text.now p.stage (top (stack c.loop-alloc.forms.items)) p.at))
 
 pub finish-requires : goal.finish-requires
 finish-requires c =
@@ -47,3 +51,11 @@ step-requires-clause-boundary c = grind (arith, common_steps)
 
 pub step-requires-clause-open : goal.step-requires-clause-open
 step-requires-clause-open c = grind (arith, common_steps)
+
+pub loop-alloc-smaller : goal.loop-alloc-smaller
+loop-alloc-smaller c =
+    let i = c.loop-alloc.invariant in
+    let p = c.loop-alloc.position in
+    let next = c.in-Ok-step.next in
+    let g = c.in-Ok-step.ensures c.args.text.now c.utf8.text i.2 i.1 (same_step c.args.text.now p.stage (top (stack c.loop-alloc.forms.items)) p.at) in
+    nearer p.stage next.stage p.at next.at (length c.args.text.now) g.2.0 g.3
