@@ -1,8 +1,11 @@
 -- How a call ends: the status of each end, when a fault or want of memory may come in place of the end that the order of work
 -- gives, and what out and err took.
-use Rattle.std.specs.Prelude.{ℕ, ◌≡◌, ◌++◌, ◌⊎◌, List, [], Option, Some, None, Bool, true, false}
+use Rattle.std.specs.Prelude.{ℕ, ◌≡◌, ◌++◌, ◌⊎◌, List, take, [], Option, Some, None, Bool, true, false}
 use Rattle.std.specs.Option.{ForSome}
 use Rattle.guard_io.specs.Outside.{IsPrefix, FaultCounted}
+use Rattle.guard_lexer.specs.Lexes.{IsTokenList}
+use Rattle.guard_lexer.specs.declared.token.Token.{Token}
+use Rattle.guard_parser.specs.File.{GoesOnPastLimits}
 use Rattle.guard_ends.specs.Lines.{read_fault_line, pattern_line, write_fault_line, memory_line}
 use Rattle.guard_ends.specs.Order.{ComesTo, Contents, EndOf, Ended, Loads, Makes, refused}
 use Rattle.guard_ends.specs.declared.ends.End.{End}
@@ -125,8 +128,12 @@ TookOfMemory words told before after out out' err err' =
 
 -- Two ends of one call.
 
--- they are equal, or both refuse rules with these bytes as Syntax, each at a place of its own
+-- some of the tokens of a text go on only past the limits of rule files
+abbrev pub GoesPastLimits : List ℕ → Type 0
+GoesPastLimits text = (tokens : List Token) × IsTokenList text tokens × ((k : ℕ) × GoesOnPastLimits text (take k tokens))
+
+-- they are equal, or both refuse rules with these bytes as Syntax, each at a place of its own, and the rules go on only past the limits
 abbrev pub AreSame : List ℕ → Ended → Ended → Type 0
 AreSame rules e other =
     (e ≡ other)
-    ⊎ ((at : ℕ) × (place : ℕ) × (e ≡ refused rules (At file.Rules Syntax at None)) × (other ≡ refused rules (At file.Rules Syntax place None)))
+    ⊎ ((at : ℕ) × (place : ℕ) × (e ≡ refused rules (At file.Rules Syntax at None)) × (other ≡ refused rules (At file.Rules Syntax place None)) × GoesPastLimits rules)

@@ -1,4 +1,4 @@
--- A call has one end, but for the place of Syntax in the rules. By the cases of the order of work.
+-- A call has one end, but for the place of Syntax in rules that go on only past the limits. By the cases of the order of work.
 use Rattle.std.proofs.Common.{◌≡◌, ℕ, List, Some, inl, inr, sym, ◌∙◌, ap, subst}
 use Rattle.doc_values.specs.Tree.{Forest}
 use Rattle.guard_drill.specs.DrillTexts.{template_text}
@@ -32,9 +32,9 @@ work-asked words told request asked p (inr (none, usage)) = absurd (none request
 
 -- ---- rules
 
-refused-same : (bytes : List ℕ) (e other : Ended) → (r q : Refusal) → e ≡ refused bytes r → other ≡ refused bytes q → AreAlikeRefusals r q → AreSame bytes e other
+refused-same : (bytes : List ℕ) (e other : Ended) → (r q : Refusal) → e ≡ refused bytes r → other ≡ refused bytes q → AreAlikeRefusals bytes r q → AreSame bytes e other
 refused-same bytes e other r q is is' (inl same) = inl (is ∙ (ap (refused bytes) same ∙ sym is'))
-refused-same bytes e other r q is is' (inr (at, place, same, same')) = inr (at, place, is ∙ ap (refused bytes) same, is' ∙ ap (refused bytes) same')
+refused-same bytes e other r q is is' (inr (at, place, same, same', past)) = inr (at, place, is ∙ ap (refused bytes) same, is' ∙ ap (refused bytes) same', past)
 
 module _ (law : OneSyntax) (rules : List ℕ) (GoesOn : File → Work) where
   -- where the work behind the rules has one end, so has the work with them

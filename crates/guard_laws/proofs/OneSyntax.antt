@@ -1,5 +1,5 @@
 -- A text has one list of tokens or one refusal of its tokens, and these one syntax or one refusal of it, but for the place
--- of Syntax. By the laws of the lexer and of the parser.
+-- of Syntax past the limits. By the laws of the lexer and of the parser.
 use Rattle.std.proofs.Common.{◌≡◌, ◌⊎◌, ◌<◌, ◌≤◌, ℕ, List, length, map, Option, Some, None, Result, Ok, Err, true, false, arith, inl, inr, refl, sym, ap, subst, ◌∙◌}
 use Rattle.std.proofs.lemmas.Bool.{cases_lt, cases_order}
 use Rattle.std.proofs.lemmas.List.{length-map, get_or_past}
@@ -13,16 +13,18 @@ use Rattle.guard_lexer.proofs.Unique.{only_tokens, only_refusal}
 use Rattle.guard_syntax.specs.Syntax.{File}
 use Rattle.literal_parser.specs.Forms.{form, is_opening}
 use Rattle.literal_parser.specs.Lexemes.{lexemes, lexeme_of, ending}
-use Rattle.guard_parser.specs.File.{Rules, IsSpelled, IsShallow, IsTooDeep, IsDeadEnd, IsBadRange, open_before}
+use Rattle.guard_parser.specs.File.{Rules, IsSpelledBy, IsSpelled, IsShallowTo, IsShallow, IsTooDeep, IsDeadEnd, IsBadRange, open_before}
 use Rattle.guard_parser.specs.declared.refusal.ParseRefusal.TheVariants as parse_refusal
 use Rattle.guard_parser.proofs.Count.{few_tokens}
+use Rattle.guard_parser.proofs.Laws.{one_dead_end_is}
 use Rattle.guard_ends.specs.declared.ends.RefusalKind.{RefusalKind}
 use Rattle.guard_ends.specs.declared.ends.RefusalKind.TheVariants.{NestTooDeep, Syntax, BadRange}
+use Rattle.guard_ends.specs.End.{GoesPastLimits}
 use Rattle.guard_ends.specs.Inputs.{IsSyntax, RefusesTokens, RefusesSyntax, RefusesText, lex_kind}
 
--- the same kind and place, or Syntax twice
-abbrev pub AreAlike : (kind : RefusalKind) (at : ℕ) (other : RefusalKind) (place : ℕ) → Type 0
-AreAlike kind at other place = ((kind ≡ other) × (at ≡ place)) ⊎ ((kind ≡ Syntax) × (other ≡ Syntax))
+-- the same kind and place, or Syntax twice where the text goes on only past the limits
+abbrev pub AreAlike : (text : List ℕ) (kind : RefusalKind) (at : ℕ) (other : RefusalKind) (place : ℕ) → Type 0
+AreAlike text kind at other place = ((kind ≡ other) × (at ≡ place)) ⊎ ((kind ≡ Syntax) × (other ≡ Syntax) × GoesPastLimits text)
 
 -- the law of the parser
 abbrev pub OneSyntax : Type 0
@@ -43,7 +45,7 @@ tokens-refused text q r (at, bytes, starts, reads) other =
     let read : Result (List Token) LexRefusal = Err q in only_refusal (λ (v : List Token). v) read text at bytes starts tt (inr reads) r other
 
 lex-alike : (text : List ℕ) (kind : RefusalKind) (at : ℕ) (other : RefusalKind) (place : ℕ) → RefusesTokens text kind at → RefusesTokens text other place
-    → AreAlike kind at other place
+    → AreAlike text kind at other place
 lex-alike text kind at other place (r, named, h) (q, named', h') =
     elim (tokens-refused text r q h h') [
       | inl none ↦ absurd (none-some (kind, at) (sym (ap lex_kind none) ∙ named))
@@ -77,7 +79,10 @@ deep-one text tokens at place (i, opens, deep, before, is) (j, opens', deep', be
 dead-apart : (text : List ℕ) (tokens : List Token) (at : ℕ) (f : File) (mixed : Option ℕ) → length text ≤ rules_limit → lex.IsTokenList text tokens
     → IsDeadEnd text tokens at → IsSpelled text tokens f mixed → ⊥
 dead-apart text tokens at f mixed short listed (shallow, (k, is, none)) spelled =
-    none text tokens f mixed (omega (arith, few_tokens text tokens listed)) (λ i _. refl) shallow spelled
+    let s = lexemes text tokens in
+    let same : length tokens ≡ length (map (lexeme_of text) tokens) = sym (length-map tokens (lexeme_of text)) in
+    none (map (lexeme_of text) tokens) (ending text) f mixed refl (λ i _. refl) (subst (λ n. IsSpelledBy s n f mixed) same spelled)
+    (omega (arith, few_tokens text tokens listed), subst (λ n. IsShallowTo s n) same shallow)
 
 -- why the parser refuses, by the kind
 abbrev pub SyntaxWhy : List ℕ → List Token → RefusalKind → ℕ → Type 0
@@ -98,12 +103,16 @@ range-one law text tokens at place (shallow, (f, spelled)) (shallow', (g, spelle
     let same : Some at ≡ Some place = (law text tokens f g (Some at) (Some place) spelled spelled').1 in cc
 
 why-alike : OneSyntax → (text : List ℕ) (tokens : List Token) (kind : RefusalKind) (at : ℕ) (other : RefusalKind) (place : ℕ) → length text ≤ rules_limit
-    → lex.IsTokenList text tokens → SyntaxWhy text tokens kind at → SyntaxWhy text tokens other place → AreAlike kind at other place
+    → lex.IsTokenList text tokens → SyntaxWhy text tokens kind at → SyntaxWhy text tokens other place → AreAlike text kind at other place
 why-alike law text tokens kind at other place short listed (inl (k, deep)) (inl (k', deep')) = inl (k ∙ sym k', deep-one text tokens at place deep deep')
 why-alike law text tokens kind at other place short listed (inl (k, deep)) (inr (inl (k', dead))) = absurd (deep-apart text tokens at deep dead.0)
 why-alike law text tokens kind at other place short listed (inl (k, deep)) (inr (inr (k', range))) = absurd (deep-apart text tokens at deep range.0)
 why-alike law text tokens kind at other place short listed (inr (inl (k, dead))) (inl (k', deep)) = absurd (deep-apart text tokens place deep dead.0)
-why-alike law text tokens kind at other place short listed (inr (inl (k, dead))) (inr (inl (k', dead'))) = inr (k, k')
+why-alike law text tokens kind at other place short listed (inr (inl (k, dead))) (inr (inl (k', dead'))) =
+    elim (one_dead_end_is text tokens at place dead dead') [
+      | inl same ↦ inl (k ∙ sym k', same)
+      | inr past ↦ inr (k, k', (tokens, listed, past))
+    ]
 why-alike law text tokens kind at other place short listed (inr (inl (k, dead))) (inr (inr (k', (shallow, (f, spelled))))) =
     absurd (dead-apart text tokens at f (Some place) short listed dead spelled)
 why-alike law text tokens kind at other place short listed (inr (inr (k, range))) (inl (k', deep)) = absurd (deep-apart text tokens place deep range.0)
@@ -128,7 +137,7 @@ syntax-one law text f g (ts, listed, spelled) (us, listed', spelled') =
     (law text ts f g None None spelled.1 (subst (λ (ws : List Token). Rules text ws g) same spelled').1).0
 
 pub text-alike : OneSyntax → (text : List ℕ) (kind : RefusalKind) (at : ℕ) (other : RefusalKind) (place : ℕ) → length text ≤ rules_limit
-    → RefusesText text kind at → RefusesText text other place → AreAlike kind at other place
+    → RefusesText text kind at → RefusesText text other place → AreAlike text kind at other place
 text-alike law text kind at other place short (inl h) (inl h') = lex-alike text kind at other place h h'
 text-alike law text kind at other place short (inl (r, named, h)) (inr (us, listed, h')) = absurd (tokens-apart text us r listed h)
 text-alike law text kind at other place short (inr (ts, listed, h)) (inl (r, named, h')) = absurd (tokens-apart text ts r listed h')

@@ -28,8 +28,8 @@ use query_steps::one_answer_over_locations;
 use std::str;
 
 /// The law that a call has one end: where the words ask for files whose contents are told, two ends that the definition gives
-/// are equal, or both refuse the rules as Syntax, each at a place of its own. A clause for each command. The body does nothing;
-/// a law is kept by a contract.
+/// are equal, or both refuse the rules as Syntax, each at a place of its own, and the rules go on only past the limits of rule
+/// files. A clause for each command. The body does nothing; a law is kept by a contract.
 pub fn only_end(rules: &[u8], template: &[u8], evidence: &[u8])
     ensures validated { (words : List (List ℕ)) (told : Contents) (r t : List ℕ) (e other : Ended)
         → AsksFor words (validate r t false) → told r ≡ Some rules.now → told t ≡ Some template.now

@@ -1,5 +1,5 @@
 -- What is read of a file is its one syntax, and where nothing is read no file goes on.
-use Rattle.std.proofs.Common.{◌≡◌, ℕ, zero, suc, ◌≤◌, ◌<◌, max, true, refl, sym, ap, ◌∙◌, subst, arith, List, [], ◌∷◌, ◌++◌, ◌+◌, length, map, take, slice_index_or, append_assoc, nat_lt, Bool, false, Option}
+use Rattle.std.proofs.Common.{◌≡◌, ◌⊎◌, inl, inr, ℕ, zero, suc, ◌≤◌, ◌<◌, max, true, refl, sym, ap, ◌∙◌, subst, arith, List, [], ◌∷◌, ◌++◌, ◌+◌, length, map, take, slice_index_or, append_assoc, nat_lt, Bool, false, Option}
 use Rattle.guard_lexer.specs.declared.token.Token.{Token}
 use Rattle.guard_syntax.specs.Syntax.{Lets, Disjs, Rule, File}
 use Rattle.guard_syntax.specs.Sites.{upto, sites_file}
@@ -10,8 +10,8 @@ use Rattle.guard_parser.specs.Grammar.{IsContents}
 use Rattle.literal_parser.specs.code.Parser.{Outcome, Read, Fail}
 use Rattle.guard_parser.specs.code.Reading.{FileItems, whole_file, inners}
 use Rattle.guard_parser.specs.code.Depth.{deep_file}
-use Rattle.guard_parser.specs.File.{IsSpelledBy, IsSpelled, IsShallowTo, IsShallow, IsDeadEnd, MayGoOn, going_on}
-use Rattle.std.proofs.lemmas.Bool.{ltb-true, ltb-false}
+use Rattle.guard_parser.specs.File.{IsSpelledBy, IsSpelled, IsShallowTo, IsShallow, IsDeadEnd, IsWithinLimits, MayGoOn, GoesOnPastLimits, going_on, listed}
+use Rattle.std.proofs.lemmas.Bool.{ltb-true, ltb-false, cases_order}
 use Rattle.std.proofs.lemmas.List.{append-nil, get_or-take, length-append, length-map, length-take, take-map}
 use Rattle.std.proofs.Math.ListN.{get_or-append, get_or-eq_default}
 use Rattle.std.proofs.Math.Seq.{get_or-append_seam}
@@ -158,20 +158,60 @@ before_goes text tokens turns depth k room many e = by_outcome (reading (lexemes
 
 dead_end : (text : List ℕ) (tokens : List Token) (turns depth k : ℕ) → rules_limit < turns → length tokens ≤ rules_limit → 128 ≤ suc depth
     → reading (lexemes text tokens) turns (suc depth) ≡ Fail k → IsShallow text tokens → IsDeadEnd text tokens (lexemes text tokens k).from
-dead_end text tokens turns depth k room few deep e shallow = (shallow, (k, (refl, before_goes text tokens turns (suc depth) k (omega arith) (omega arith) e), λ other more f mixed small agree flat spelled. helper other more f mixed small agree flat spelled)) where
-  helper : (other : List ℕ) (more : List Token) (f : File) (mixed : Option ℕ) → length more ≤ rules_limit → ((i : ℕ) → i ≤ k → lexemes other more i ≡ lexemes text tokens i)
-      → IsShallow other more → IsSpelled other more f mixed → ⊥
-  helper other more f mixed small agree flat (b, h, at, places, first) =
-      let local = whole_local (lexemes text tokens) (lexemes other more) turns (suc depth) in
-      let end = ap (λ r. horizon r) e in
-      let same : reading (lexemes other more) turns (suc depth) ≡ Fail k = local.same (λ i less. agree i (omega arith)) ∙ e in
-      let room_left = contents_shallow (lexemes other more) f.lets f.rules f.loose start b h (subst (λ n. IsShallowTo (lexemes other more) n) (sym at) flat) in
-      none_given k same (whole_gives (lexemes other more) turns depth f.lets f.rules f.loose b (omega arith) (omega arith) h (is_there (lexemes other more) (length more) b at (ends_there other more)))
+dead_end text tokens turns depth k room few deep e shallow = (shallow, (k, (refl, before_goes text tokens turns (suc depth) k (omega arith) (omega arith) e), λ xs end f mixed ends agree spelled limits. helper xs end f mixed ends agree spelled limits)) where
+  helper : (xs : List Lexeme) (end : Lexeme) (f : File) (mixed : Option ℕ) → is_end (form end) ≡ true → ((i : ℕ) → i ≤ k → listed xs end i ≡ lexemes text tokens i)
+      → IsSpelledBy (listed xs end) (length xs) f mixed → IsWithinLimits (listed xs end) (length xs) → ⊥
+  helper xs end f mixed ends agree (b, h, at, places, first) (small, flat) =
+      let w = listed xs end in
+      let local = whole_local (lexemes text tokens) w turns (suc depth) in
+      let last = ap (λ r. horizon r) e in
+      let same : reading w turns (suc depth) ≡ Fail k = local.same (λ i less. agree i (omega arith)) ∙ e in
+      let room_left = contents_shallow w f.lets f.rules f.loose start b h (subst (λ n. IsShallowTo w n) (sym at) flat) in
+      let there : is_end (form (w (length xs))) ≡ true = ap (λ (x : Lexeme). is_end (form x)) (get_or-eq_default xs end (omega arith)) ∙ ends in
+      none_given k same (whole_gives w turns depth f.lets f.rules f.loose b (omega arith) (omega arith) h (is_there w (length xs) b at there))
 
 pub dead_end_at : (text : List ℕ) (tokens : List Token) (turns depth k : ℕ) → rules_limit < turns → length tokens ≤ rules_limit → 128 ≤ depth
     → reading (lexemes text tokens) turns depth ≡ Fail k → IsShallow text tokens → IsDeadEnd text tokens (lexemes text tokens k).from
 dead_end_at text tokens turns zero k room few deep e shallow = absurd (omega arith)
 dead_end_at text tokens turns (suc depth) k room few deep e shallow = dead_end text tokens turns depth k room few deep e shallow
+
+-- ---- dead ends
+
+-- the first of two dead ends that differ lets the tokens before the second go on only past the limits
+past_limits : (text : List ℕ) (tokens : List Token) (k j : ℕ) → k < j → k < length tokens → MayGoOn text (take j tokens)
+    → ((xs : List Lexeme) (end : Lexeme) (f : File) (mixed : Option ℕ) → is_end (form end) ≡ true → ((i : ℕ) → i ≤ k → listed xs end i ≡ lexemes text tokens i)
+    → IsSpelledBy (listed xs end) (length xs) f mixed → IsWithinLimits (listed xs end) (length xs) → ⊥)
+    → GoesOnPastLimits text (take j tokens)
+past_limits text tokens k j less inside goes none = (goes, helper) where
+  helper : (more : List Lexeme) (f : File) (mixed : Option ℕ) → IsSpelledBy (going_on text (take j tokens) more) (length (take j tokens) + length more) f mixed
+      → IsWithinLimits (going_on text (take j tokens) more) (length (take j tokens) + length more) → ⊥
+  helper more f mixed spelled limits =
+      let front = map (lexeme_of text) (take j tokens) in
+      let w = going_on text (take j tokens) more in
+      let long : length front ≡ length (take j tokens) = length-map (take j tokens) (lexeme_of text) in
+      let size : length (take j tokens) + length more ≡ length (front ++ more) = omega (arith, length-append front more) in
+      none (front ++ more) (ending text) f mixed refl
+      (λ i low. let within : i < length (take j tokens) = omega (arith, length-take j tokens) in get_or-append front more (ending text) i (omega arith) ∙ before_is text tokens j i within)
+      (subst (λ n. IsSpelledBy w n f mixed) size spelled) (subst (λ n. IsWithinLimits w n) size limits)
+
+pub one_dead_end_is : (text : List ℕ) (tokens : List Token) (a b : ℕ) → IsDeadEnd text tokens a → IsDeadEnd text tokens b
+    → (a ≡ b) ⊎ ((k : ℕ) × GoesOnPastLimits text (take k tokens))
+one_dead_end_is text tokens a b (shallow, (k, (is, goes), none)) (flat, (j, (there, others), never)) = apart (cases_order k j) where
+  same : (i l : ℕ) → length tokens ≤ i → i < l → (lexemes text tokens i).from ≡ (lexemes text tokens l).from
+  same i l far less = ap (λ (x : Lexeme). x.from) (at_end text tokens i far ∙ sym (at_end text tokens l (omega arith)))
+
+  first : k < j → (v : Bool) → nat_lt k (length tokens) ≡ v → (a ≡ b) ⊎ ((i : ℕ) × GoesOnPastLimits text (take i tokens))
+  first less true e = inr (j, past_limits text tokens k j less (ltb-true k (length tokens) e) others none)
+  first less false e = inl (is ∙ same k j (ltb-false k (length tokens) e) less ∙ sym there)
+
+  second : j < k → (v : Bool) → nat_lt j (length tokens) ≡ v → (a ≡ b) ⊎ ((i : ℕ) × GoesOnPastLimits text (take i tokens))
+  second less true e = inr (k, past_limits text tokens j k less (ltb-true j (length tokens) e) goes never)
+  second less false e = inl (is ∙ sym (same j k (ltb-false j (length tokens) e) less) ∙ sym there)
+
+  apart : (k ≡ j) ⊎ ((k < j) ⊎ (j < k)) → (a ≡ b) ⊎ ((i : ℕ) × GoesOnPastLimits text (take i tokens))
+  apart (inl e) = inl (is ∙ ap (λ i. (lexemes text tokens i).from) e ∙ sym there)
+  apart (inr (inl less)) = first less (nat_lt k (length tokens)) refl
+  apart (inr (inr less)) = second less (nat_lt j (length tokens)) refl
 
 -- ---- one syntax
 

@@ -6,7 +6,7 @@ use Rattle.guard_syntax.specs.Syntax.{File}
 use Rattle.guard_parser.specs.declared.refusal.ParseRefusal.{ParseRefusal}
 use Rattle.guard_parser.specs.declared.refusal.ParseRefusal.TheVariants as r
 use Rattle.literal_parser.specs.Lexemes.{Lexeme, lexeme_of, ending, lexemes}
-use Rattle.literal_parser.specs.Forms.{form, is_opening, is_closing}
+use Rattle.literal_parser.specs.Forms.{form, is_end, is_opening, is_closing}
 use Rattle.literal_parser.specs.States.{State, start}
 use Rattle.guard_parser.specs.Grammar.{IsContents}
 
@@ -51,20 +51,33 @@ Rules text tokens f = IsShallow text tokens × IsSpelled text tokens f None
 abbrev pub IsBadRange : List ℕ → List Token → ℕ → Type 0
 IsBadRange text tokens at = IsShallow text tokens × ((f : File) × IsSpelled text tokens f (Some at))
 
+-- lexemes in a row, and an end behind them
+abbrev pub listed : List Lexeme → Lexeme → ℕ → Lexeme
+listed xs end i = slice_index_or xs i end
+
 -- the lexemes of a text's tokens, and some more in place of its end
 abbrev pub going_on : List ℕ → List Token → List Lexeme → ℕ → Lexeme
-going_on text tokens more i = slice_index_or (map (lexeme_of text) tokens ++ more) i (ending text)
+going_on text tokens more = listed (map (lexeme_of text) tokens ++ more) (ending text)
+
+-- so many lexemes keep within the limits of rule files
+abbrev pub IsWithinLimits : (ℕ → Lexeme) → ℕ → Type 0
+IsWithinLimits s n = (n ≤ rules_limit) × IsShallowTo s n
 
 -- the tokens and some lexemes more spell a file, however deep the brackets nest in it
 abbrev pub MayGoOn : List ℕ → List Token → Type 0
 MayGoOn text tokens = (more : List Lexeme) × (f : File) × (mixed : Option ℕ) × IsSpelledBy (going_on text tokens more) (length tokens + length more) f mixed
 
+-- but none that keeps within the limits
+abbrev pub GoesOnPastLimits : List ℕ → List Token → Type 0
+GoesOnPastLimits text tokens = MayGoOn text tokens × ((more : List Lexeme) (f : File) (mixed : Option ℕ) → IsSpelledBy (going_on text tokens more) (length tokens + length more) f mixed
+    → IsWithinLimits (going_on text tokens more) (length tokens + length more) → ⊥)
+
 -- the first lexeme, or the end of the text, with which no file goes on, at this byte offset: the tokens before it and some lexemes more spell a file;
--- whatever tokens, of whatever text, begin with the lexemes up to it and with it, they spell none
+-- whatever lexemes, with an end behind them, begin with those up to it and with it, they spell none within the limits
 abbrev pub IsDeadEnd : List ℕ → List Token → ℕ → Type 0
 IsDeadEnd text tokens at = IsShallow text tokens × ((k : ℕ) × ((at ≡ (lexemes text tokens k).from) × MayGoOn text (take k tokens))
-    × ((other : List ℕ) (more : List Token) (f : File) (mixed : Option ℕ) → length more ≤ rules_limit → ((i : ℕ) → i ≤ k → lexemes other more i ≡ lexemes text tokens i)
-    → IsShallow other more → IsSpelled other more f mixed → ⊥))
+    × ((xs : List Lexeme) (end : Lexeme) (f : File) (mixed : Option ℕ) → is_end (form end) ≡ true → ((i : ℕ) → i ≤ k → listed xs end i ≡ lexemes text tokens i)
+    → IsSpelledBy (listed xs end) (length xs) f mixed → IsWithinLimits (listed xs end) (length xs) → ⊥))
 
 -- why tokens spell no rule file
 abbrev pub IsRefused : List ℕ → List Token → ParseRefusal → Type 0

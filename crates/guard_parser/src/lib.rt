@@ -15,4 +15,4 @@ mod refusal;
 mod syntax;
 
 pub use refusal::ParseRefusal;
-pub use syntax::{one_syntax, parse, queries_begin, sites_in_order};
+pub use syntax::{one_dead_end, one_syntax, parse, queries_begin, sites_in_order};
