@@ -9,7 +9,7 @@ use Rattle.evidence_checker.proofs.verdicts.disj_line_follows.Goals as goal
 
 pub returns-in-Disj : goal.returns-in-Disj
 returns-in-Disj c =
-    at-line (version_of c.args.context.now) (known_of c.args.context.now) (lines_of c.args.context.now) c.args.frame c.args.site c.args.cites.now c.args.verdict kind.Disj kind.Disj (Some (see_piece c.args.piece)) (Some (OfDisj (see_disj c.in-Disj.disj.now)))
+    at-line (version_of c.args.context.now) (known_of c.args.context.now) (lines_of c.args.context.now) c.args.line.frame c.args.line.site c.args.line.cites.now c.args.verdict kind.Disj kind.Disj (Some (see_piece c.args.piece)) (Some (OfDisj (see_disj c.in-Disj.disj.now)))
     c.disj_follows.result refl (ap (λ (p : Piece). Some p) (sym (ap see_piece c.in-Disj.is)))
-    (disj-judged (version_of c.args.context.now) (known_of c.args.context.now) (lines_of c.args.context.now) c.args.frame c.args.site c.args.cites.now c.args.verdict (see_disj c.in-Disj.disj.now) c.disj_stop-stop.result c.disj_follows.result c.disj_stop-stop.ensures
+    (disj-judged (version_of c.args.context.now) (known_of c.args.context.now) (lines_of c.args.context.now) c.args.line.frame c.args.line.site c.args.line.cites.now c.args.verdict (see_disj c.in-Disj.disj.now) c.disj_stop-stop.result c.disj_follows.result c.disj_stop-stop.ensures
     (c.disj_follows.ensures (known_of c.args.context.now)))
