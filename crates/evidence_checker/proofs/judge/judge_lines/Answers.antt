@@ -1,10 +1,11 @@
-use Rattle.std.proofs.Common.{◌≡◌, ◌<◌, ◌+◌, add-one, ap, sym, ◌∙◌, subst, arith, ℕ, List, [], length, refl, IfOk}
+use Rattle.std.proofs.Common.{◌≡◌, ◌<◌, ◌≤◌, ◌+◌, add-one, ap, sym, ◌∙◌, subst, arith, ℕ, List, [], length, refl, IfOk}
+use Rattle.std.proofs.lemmas.List.Elements.{All-nil}
 use Rattle.guard_syntax.specs.Syntax.{File}
 use Rattle.guard_syntax.specs.code.Seen.{see_file}
 use Rattle.guard_syntax.specs.declared.syntax.RawFile.{RawFile}
 use Rattle.evidence_lines.specs.declared.line.Line.{Line}
 use Rattle.evidence_lines.specs.declared.version.Version.{Version}
-use Rattle.rule_meaning.specs.StoreModel.{StoreModel}
+use Rattle.rule_meaning.specs.StoreModel.{Made, StoreModel}
 use Rattle.value_compare.specs.code.Books.{IsBookOf}
 use Rattle.value_compare.specs.code.Stores.{see_store}
 use Rattle.evidence_rules.specs.Follows.{AllFollow, Follows, nothing_made}
@@ -15,10 +16,24 @@ use Rattle.evidence_lookups.specs.code.Said.{AreMadeWithin, AreSound, IsSound}
 use Rattle.evidence_checker.specs.code.Answered.{IsAnswer}
 use Rattle.evidence_checker.proofs.Answering.{rejected-at, starts}
 use Rattle.evidence_checker.proofs.KeptTrees.{free-behind}
+use Rattle.evidence_checker.proofs.KnownBehind.{behind-none}
 use Rattle.evidence_checker.proofs.Leading.{made-of, none-made}
 use Rattle.evidence_checker.proofs.LinesInTurn.{all-behind, all-judged, counted, fault-here, file-on, judged-on, known-on, leads-here, made-on, shape-here, site-here, sound-here, sound-on}
 use Rattle.evidence_checker.proofs.RuleVerdicts.{noted}
 use Rattle.evidence_checker.proofs.judge.judge_lines.Goals as goal
+
+pub loop-before-init : goal.loop-before-init
+loop-before-init c =
+    let start = see_store c.args.store.now in
+    record {
+      index = omega arith;
+      file = refl;
+      behind = behind-none c.version-written.result start;
+      judged = c.in_ok-judged.ensures.judged;
+      sites = c.in_ok-judged.ensures.sites ∙ ap (λ (xs : List ℕ). length xs) (c.as_slice.ensures ∙ ap (λ (raw : RawFile). raw.places) c.raw-syntax.ensures);
+      sound = All-nil (IsSound start);
+      made = subst (AreMadeWithin 0) (sym c.requires.made) (All-nil (λ (m : Made). m.line ≤ 0));
+    }
 
 pub invariant_of-context : goal.invariant_of-context
 invariant_of-context c = record {

@@ -7,7 +7,7 @@ use Rattle.rule_names.specs.code.Seen.{see_piece}
 use Rattle.evidence_rules.specs.Follows.{IsNewRule}
 use Rattle.evidence_lookups.specs.code.Grounds.{known_of, lines_of, version_of}
 use Rattle.evidence_checker.proofs.RuleVerdicts.{new-rule}
-use Rattle.evidence_checker.proofs.VerdictLines.{at-line, is-new, loose-judged, never-new, rule-framed, rule-judged, rule-new}
+use Rattle.evidence_checker.proofs.VerdictLines.{other-rule, at-line, is-new, loose-judged, never-new, rule-framed, rule-judged, rule-new}
 use Rattle.evidence_checker.proofs.verdicts.rule_line_follows.Goals as goal
 
 pub returns-then-not-new : goal.returns-then-not-new
@@ -33,3 +33,6 @@ returns-in-File c =
     (loose-judged (version_of c.args.context.now) (known_of c.args.context.now) (lines_of c.args.context.now) c.args.line.frame c.args.line.site c.args.line.cites.now c.args.verdict
     c.if-not-is_file_frame.ensures (is-new c.is_none-new.result (IsNewRule (known_of c.args.context.now) (lines_of c.args.context.now) c.args.line.site) c.if-not-new.false (new-rule (known_of c.args.context.now) (lines_of c.args.context.now) c.args.context.now.judged.now.of.items c.args.line.site c.verdict.result c.is_none-new.result c.verdict.ensures c.is_none-new.ensures c.args.context.now.judged_are)) (disj_list (map see_disj c.deref.result.now))
     c.loose_follows.result (ap (λ (xs : List Disj). disj_list (map see_disj xs)) (sym c.deref.ensures.value)) (c.loose_follows.ensures (known_of c.args.context.now)))
+
+pub returns-in_default : goal.returns-in_default
+returns-in_default c = other-rule (version_of c.args.context.now) (known_of c.args.context.now) (lines_of c.args.context.now) c.args.line.frame c.args.line.site c.args.line.cites.now c.args.verdict c.args.piece c.in_default.not-Rule c.in_default.not-File

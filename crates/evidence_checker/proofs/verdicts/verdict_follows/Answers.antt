@@ -6,7 +6,7 @@ use Rattle.rule_names.specs.Pieces.{OfPart, Piece, piece_at}
 use Rattle.rule_names.specs.code.Seen.{see_piece}
 use Rattle.evidence_rules.specs.Follows.{FollowsAtPart, FollowsVerdict}
 use Rattle.evidence_lookups.specs.code.Grounds.{file_in, known_of, lines_of, version_of}
-use Rattle.evidence_checker.proofs.VerdictLines.{Judges, at-line, none-judged, part-judged}
+use Rattle.evidence_checker.proofs.VerdictLines.{other-part, Judges, at-line, none-judged, part-judged}
 use Rattle.evidence_checker.proofs.verdicts.verdict_follows.Goals as goal
 
 pub returns-in_default : goal.returns-in_default
@@ -38,3 +38,8 @@ returns-in-Part c =
     (λ b decided. at-line (version_of c.args.context.now) (known_of c.args.context.now) (lines_of c.args.context.now) c.args.line.frame c.args.line.site c.args.line.cites.now c.args.verdict c.args.line.kind c.args.line.kind (piece_at (file_in c.args.context.now) c.args.line.site)
     (Some (OfPart (see_part c.in-Part.part.now))) b refl (ap (λ (p : Piece). Some p) (sym (ap see_piece c.in-Part.is)) ∙ c.in-Some.ensures)
     (part-judged (version_of c.args.context.now) (known_of c.args.context.now) (lines_of c.args.context.now) c.args.line.frame c.args.line.site c.args.line.cites.now c.args.verdict c.args.line.kind (see_part c.in-Part.part.now) b decided)) c.part_follows.ensures
+
+pub returns-in_default-piece : goal.returns-in_default-piece
+returns-in_default-piece c =
+    subst (λ (p : Option Piece). FollowsVerdict (version_of c.args.context.now) (known_of c.args.context.now) (lines_of c.args.context.now) c.args.line.frame c.args.line.site c.args.line.kind p c.args.line.cites.now c.args.verdict → ⊥)
+    c.in-Some.ensures (other-part (version_of c.args.context.now) (known_of c.args.context.now) (lines_of c.args.context.now) c.args.line.frame c.args.line.site c.args.line.cites.now c.args.verdict c.args.line.kind c.in-Some.piece c.in_default-kind.not-Rule c.in_default-kind.not-Conj c.in_default-kind.not-Disj c.in_default-piece.not-Part)
