@@ -16,7 +16,6 @@ use Rattle.value_compare.specs.declared.store.Store.{Store}
 use Rattle.evidence_rules.specs.Follows.{Accepts, AllFollow, nothing_made}
 use Rattle.evidence_rules.specs.RuleLines.{AreOfLoose, AreOfRules}
 use Rattle.evidence_rules.specs.Rejected.{IsRejectedAt}
-use Rattle.evidence_lookups.specs.code.JudgedSites.{AreJudged}
 use Rattle.evidence_checker.specs.code.Judging.{IsFaultAt, IsLooseWanting, IsRuleWanting, IsWanting}
 use Rattle.evidence_checker.proofs.RuleVerdicts.{loose-judged, not-all, rules-judged}
 
@@ -88,19 +87,3 @@ module _ {V : Type 0} (items : V → List Verdict) (lines : List Line) where
 
     pub answered-none : (o : Option V) (number : ℕ) → o ≡ None → number ≡ suc (length lines) → AllFollow version (nothing_made template file) [] lines → AreOfFile o → IsRejectedAt version template file lines number
     answered-none o number is number_is follow found = rejected-behind version template file lines number number_is follow (subst AreOfFile is found)
-
--- ---- and where a line does not follow
-
-module _ (version : Version) (template : Forest) (file : File) (start : StoreModel) (start_is : start ≡ nothing_made template file) (given lines : List Line) (given_is : given ≡ lines) (table : List (Option Verdict)) where
-  abbrev pub IsFound : Option ℕ → Type 0
-  IsFound o = MatchOption o (AllFollow version start [] given × AreJudged given table) (λ number. IsFaultAt version start given number)
-
-  pub fault-answered : (o : Option ℕ) (number : ℕ) → o ≡ Some number → IsFound o → IsRejectedAt version template file lines number
-  fault-answered o number is found =
-      rejected-at version template file lines start number start_is (subst (λ (ls : List Line). IsFaultAt version start ls number) given_is (subst IsFound is found))
-
-  pub none-follow : (o : Option ℕ) → o ≡ None → IsFound o → AllFollow version (nothing_made template file) [] given
-  none-follow o is found = let both = subst IsFound is found in subst (λ (k : StoreModel). AllFollow version k [] given) start_is both.0
-
-  pub none-judged : (o : Option ℕ) → o ≡ None → IsFound o → AreJudged given table
-  none-judged o is found = let both = subst IsFound is found in both.1

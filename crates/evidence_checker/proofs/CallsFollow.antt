@@ -35,9 +35,8 @@ use Rattle.evidence_rules.specs.Follows.{FollowsAtExpr, FollowsRows}
 use Rattle.rule_meaning.specs.Seeing.{grown, rows_kept, trees_kept}
 use Rattle.query_steps.proofs.KnownAnswers.{answer-known}
 use Rattle.query_steps.proofs.SeenAnswers.{answer-known as kept-known}
-use Rattle.evidence_lookups.specs.code.Said.{AreSound}
+use Rattle.evidence_lookups.specs.code.Said.{AreMadeWithin, AreSound}
 use Rattle.evidence_checker.specs.code.Calls.{IsAnswered, IsCall, IsCallAt}
-use Rattle.evidence_checker.specs.code.Judging.{AreMadeWithin}
 use Rattle.evidence_checker.proofs.ArgumentsGiven.{args-literal, args-many, args-one}
 use Rattle.rule_names.proofs.FittingCalls.{arguments-counted}
 use Rattle.evidence_lookups.proofs.SaidKnown.{args-said-known}

@@ -21,7 +21,7 @@ use Rattle.value_compare.specs.declared.store.Store.{Store}
 use Rattle.rule_meaning.specs.Seeing.{are_called, grown, rows_kept, trees_kept}
 use Rattle.query_steps.proofs.RowsKept.{rows-more, trees-more, rows-many, absent-behind, absent-later, grown-more, added}
 use Rattle.evidence_checker.specs.code.Kept.{row_kept}
-use Rattle.evidence_checker.specs.code.Judging.{AreMadeWithin}
+use Rattle.evidence_lookups.specs.code.Said.{AreMadeWithin}
 
 -- ---- one row more
 

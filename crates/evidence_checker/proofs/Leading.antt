@@ -1,42 +1,50 @@
--- Lines that make nothing known lead from what is known to the same.
-use Rattle.std.proofs.Common.{◌≡◌, Bool, true, false, ap, sym, refl, List, [], MatchBool, IfOk, Result, Ok, Err}
+-- What a line makes known: of lines that make nothing known, by the answer, and of two that hold of the same trees.
+use Rattle.std.proofs.Common.{◌≡◌, Bool, true, false, ap, sym, subst, ◌∙◌, List, [], MatchBool, MatchOption, Option, Some, None, Vec, Global}
+use Rattle.std.specs.List.{list_all}
 use Rattle.std.proofs.lemmas.Bool.{true≢false}
 use Rattle.std.proofs.lemmas.List.{append-nil}
+use Rattle.evidence_lines.specs.declared.line.Line.{Line}
+use Rattle.guard_builtins.specs.code.Seen.{is_plain}
+use Rattle.guard_builtins.specs.declared.made.Made as types
 use Rattle.rule_meaning.specs.StoreModel.{StoreModel, Made}
 use Rattle.rule_meaning.specs.Seeing.{grown}
-use Rattle.evidence_checker.specs.code.Judging.{Leads, Stays}
+use Rattle.evidence_checker.specs.code.Makes.{IsMade, Makes, trees_of}
 
 pub grown-nothing : (known : StoreModel) → grown known [] ≡ known
 grown-nothing known = ap (λ (ms : List Made). record { template = known.template; file = known.file; made = ms }) (append-nil known.made)
 
-abbrev pub Decided : Bool → (List Made → Type 0) → (known after : StoreModel) → Type 0
-Decided b Holds known after = MatchBool b (Leads Holds known after) (Stays Holds known after)
+module _ (known : StoreModel) (lines : List Line) (Holds : List Made → Type 0) (Then : StoreModel → Type 0) where
+  -- where it is told whether a line follows, and it makes nothing known
+  pub nothing-made : (b : Bool) (found : Option (Vec types.Made Global)) → MatchOption found (b ≡ false) (λ answer. (b ≡ true) × (answer.items ≡ []))
+      → ((other : List Made) → Holds other → other ≡ []) → MatchBool b (Holds []) ((more : List Made) → Holds more → ⊥) → (b ≡ true → Then known) → IsMade known lines Holds Then found
+  nothing-made true None is only holds so = absurd (true≢false is)
+  nothing-made false None is only never so = never
+  nothing-made true (Some answer) is only holds so =
+      let none : trees_of lines answer.items ≡ [] = ap (trees_of lines) is.1 in
+      record {
+        holds = subst Holds (sym none) holds;
+        only = λ other h. only other h ∙ sym none;
+        so = subst Then (sym (ap (grown known) none ∙ grown-nothing known)) (so is.0);
+        plain = ap (list_all is_plain) is.1;
+      }
+  nothing-made false (Some answer) is only never so = absurd (true≢false (sym is.0))
 
-module _ (Holds : List Made → Type 0) (known : StoreModel) where
-  pub nothing-leads : Holds [] → ((other : List Made) → Holds other → other ≡ []) → Leads Holds known known
-  nothing-leads holds only = ([], holds, sym (grown-nothing known), only)
+  -- by the answer
+  pub made-of : (found : Option (Vec types.Made Global)) (answer : Vec types.Made Global) → found ≡ Some answer → IsMade known lines Holds Then found → Makes known lines Holds Then answer.items
+  made-of found answer is made = subst (IsMade known lines Holds Then) is made
 
-  pub nothing-decided : (b : Bool) → ((other : List Made) → Holds other → other ≡ []) → MatchBool b (Holds []) ((more : List Made) → Holds more → ⊥) → Decided b Holds known known
-  nothing-decided true only holds = nothing-leads holds only
-  nothing-decided false only never = (never, refl)
+  pub none-made : (found : Option (Vec types.Made Global)) → found ≡ None → IsMade known lines Holds Then found → (more : List Made) → Holds more → ⊥
+  none-made found none made = subst (IsMade known lines Holds Then) none made
 
--- what holds of the same trees leads and stays alike
-module _ (Holds Other : List Made → Type 0) (there : (more : List Made) → Holds more → Other more) (back : (more : List Made) → Other more → Holds more) where
-  pub decided-alike : (b : Bool) (known after : StoreModel) → Decided b Holds known after → Decided b Other known after
-  decided-alike true known after leads = (leads.0, there leads.0 leads.1, leads.2, λ other holds. leads.3 other (back other holds))
-  decided-alike false known after stays = ((λ more holds. stays.0 more (back more holds)), stays.1)
-
--- by the answer
-module _ (Holds : List Made → Type 0) (known after : StoreModel) where
-  pub leads-of : (b : Bool) → b ≡ true → Decided b Holds known after → Leads Holds known after
-  leads-of true holds_is leads = leads
-  leads-of false holds_is stays = absurd (true≢false (sym holds_is))
-
-  pub stays-of : (b : Bool) → b ≡ false → Decided b Holds known after → Stays Holds known after
-  stays-of true is leads = absurd (true≢false is)
-  stays-of false is stays = stays
-
--- of an answer, if there is one
-pub both-weaker : {X Y : Type 0} (r : Result X Y) (P Q R : X → Type 0) → ((x : X) → P x → Q x → R x) → IfOk r P → IfOk r Q → IfOk r R
-both-weaker (Ok x) P Q R join p q = join x p q
-both-weaker (Err e) P Q R join p q = tt
+-- what holds of the same trees makes the same known
+module _ (known : StoreModel) (lines : List Line) (Holds Other : List Made → Type 0) (Then Next : StoreModel → Type 0)
+    (there : (more : List Made) → Holds more → Other more) (back : (more : List Made) → Other more → Holds more)
+    (so : (more : List Made) → Holds more → Then (grown known more) → Next (grown known more)) where
+  pub made-alike : (found : Option (Vec types.Made Global)) → IsMade known lines Holds Then found → IsMade known lines Other Next found
+  made-alike None never = λ more h. never more (back more h)
+  made-alike (Some answer) made = record {
+    holds = there (trees_of lines answer.items) made.holds;
+    only = λ other h. made.only other (back other h);
+    so = so (trees_of lines answer.items) made.holds made.so;
+    plain = made.plain;
+  }

@@ -1,5 +1,6 @@
 -- What a line that follows says and makes known, by its kind.
-use Rattle.std.proofs.Common.{◌≡◌, ◌⊎◌, ℕ, ◌<◌, ◌≤◌, nat_lt, arith, refl, sym, ap, ◌∙◌, subst, inl, inr, Bool, true, false, MatchBool, List, [], ◌∷◌, length, Option, Some, None}
+use Rattle.std.proofs.Common.{◌≡◌, ◌⊎◌, ℕ, ◌<◌, ◌≤◌, nat_lt, arith, refl, sym, ap, ◌∙◌, subst, inl, inr, Bool, true, false, MatchBool, MatchOption, List, [], ◌∷◌, length, Option, Some, None, Vec, Global}
+use Rattle.std.specs.List.{list_all}
 use Rattle.std.proofs.lemmas.Bool.{true≢false}
 use Rattle.std.proofs.lemmas.Bool.Decides.{nat_tests}
 use Rattle.std.proofs.lemmas.Option.{same_Some, none-some}
@@ -17,12 +18,15 @@ use Rattle.guard_syntax.specs.declared.row.Row.{Row}
 use Rattle.guard_syntax.specs.declared.row.Row.TheVariants.{Found}
 use Rattle.guard_syntax.specs.declared.row.Verdict.{Verdict}
 use Rattle.rule_names.specs.Pieces.{AreInOrder, Piece, OfExpr, OfPart, OfStep, piece_at}
-use Rattle.rule_meaning.specs.StoreModel.{StoreModel, Made, is_known_ref}
+use Rattle.guard_builtins.specs.declared.made.Made as types
+use Rattle.rule_meaning.specs.Seeing.{grown}
+use Rattle.rule_meaning.specs.StoreModel.{StoreModel, Made, is_known, is_known_ref}
 use Rattle.evidence_rules.specs.CitedLines.{scope_of}
 use Rattle.evidence_rules.specs.Follows.{Follows, FollowsAtExpr, FollowsIn, FollowsRows, FollowsVerdict, IsFileLine, IsFrameOf, home_for}
 use Rattle.rule_meaning.specs.Roots.{literal_ref, root_ref}
 use Rattle.evidence_lookups.specs.code.Said.{IsSound, is_known_outcome}
-use Rattle.evidence_checker.proofs.Leading.{Decided, decided-alike, nothing-decided}
+use Rattle.evidence_checker.specs.code.Makes.{IsMade}
+use Rattle.evidence_checker.proofs.Leading.{made-alike, nothing-made}
 use Rattle.evidence_checker.proofs.SitesPlaced.{placed-nowhere}
 
 module _ (version : Version) (known : StoreModel) (lines : List Line) (frame site : ℕ) where
@@ -72,27 +76,59 @@ module _ (version : Version) (known : StoreModel) (lines : List Line) (frame sit
   pub rows-only : (of : LineKind) (cites : List ℕ) (rows : List Row) (more : List Made) → (of ≡ kind.Fn → ⊥) → FollowsIn version known lines frame site of cites (says.Rows rows) more → more ≡ []
   rows-only of cites rows more other h = rows-plain of (piece_at known.file site) cites rows more other (rows-of of cites rows more h)
 
-  pub rows-decided : (of : LineKind) (cites : List ℕ) (rows : List Row) (b : Bool) → (of ≡ kind.Fn → ⊥)
+  abbrev pub InRows : (of : LineKind) (cites : List ℕ) (rows : List Row) → List Made → Type 0
+  InRows of cites rows more = FollowsIn version known lines frame site of cites (says.Rows rows) more
+
+  -- what is told, with whether a line follows, of the rows of a call: none
+  abbrev pub Told : Bool → Option (Vec types.Made Global) → Type 0
+  Told b kept = MatchOption kept (b ≡ false) (λ answer. (b ≡ true) × (answer.items ≡ []))
+
+  abbrev pub AreKnown : Outcome → StoreModel → Type 0
+  AreKnown outcome after = is_known_outcome after outcome ≡ true
+
+  rows-told : (of : LineKind) (cites : List ℕ) (rows : List Row) (b : Bool)
       → MatchBool b (FollowsRows known lines frame site of (piece_at known.file site) cites rows [])
       ((more : List Made) → FollowsRows known lines frame site of (piece_at known.file site) cites rows more → ⊥)
-      → Decided b (FollowsIn version known lines frame site of cites (says.Rows rows)) known known
-  rows-decided of cites rows true other holds =
-      nothing-decided (FollowsIn version known lines frame site of cites (says.Rows rows)) known true (λ more h. rows-only of cites rows more other h) (rows-in of cites rows [] holds)
-  rows-decided of cites rows false other never =
-      nothing-decided (FollowsIn version known lines frame site of cites (says.Rows rows)) known false (λ more h. rows-only of cites rows more other h) (λ more h. never more (rows-of of cites rows more h))
+      → MatchBool b (InRows of cites rows []) ((more : List Made) → InRows of cites rows more → ⊥)
+  rows-told of cites rows true holds = rows-in of cites rows [] holds
+  rows-told of cites rows false never = λ more h. never more (rows-of of cites rows more h)
 
-  pub verdict-decided : (of : LineKind) (cites : List ℕ) (verdict : Verdict) (b : Bool)
+  pub rows-made : (of : LineKind) (cites : List ℕ) (rows : List Row) (b : Bool) (kept : Option (Vec types.Made Global)) → (of ≡ kind.Fn → ⊥) → Told b kept
+      → MatchBool b (FollowsRows known lines frame site of (piece_at known.file site) cites rows [])
+      ((more : List Made) → FollowsRows known lines frame site of (piece_at known.file site) cites rows more → ⊥)
+      → (b ≡ true → list_all (is_known known) rows ≡ true) → IsMade known lines (InRows of cites rows) (AreKnown (says.Rows rows)) kept
+  rows-made of cites rows b kept other told decided are =
+      nothing-made known lines (InRows of cites rows) (AreKnown (says.Rows rows)) b kept told (λ more h. rows-only of cites rows more other h) (rows-told of cites rows b decided) are
+
+  pub call-made : (of : LineKind) (cites : List ℕ) (rows : List Row) (kept : Option (Vec types.Made Global)) → of ≡ kind.Fn
+      → IsMade known lines (FollowsRows known lines frame site kind.Fn (piece_at known.file site) cites rows) (λ after. list_all (is_known after) rows ≡ true) kept
+      → IsMade known lines (InRows of cites rows) (AreKnown (says.Rows rows)) kept
+  call-made of cites rows kept is made = subst (λ (k : LineKind). IsMade known lines (InRows k cites rows) (AreKnown (says.Rows rows)) kept) (sym is) made
+
+  verdict-told : (of : LineKind) (cites : List ℕ) (verdict : Verdict) (b : Bool)
       → MatchBool b (FollowsVerdict version known lines frame site of (piece_at known.file site) cites verdict) (FollowsVerdict version known lines frame site of (piece_at known.file site) cites verdict → ⊥)
-      → Decided b (FollowsIn version known lines frame site of cites (says.Verdict verdict)) known known
-  verdict-decided of cites verdict true holds =
-      nothing-decided (FollowsIn version known lines frame site of cites (says.Verdict verdict)) known true (λ more h. (verdict-of of cites verdict more h).1) (verdict-in of cites verdict holds)
-  verdict-decided of cites verdict false never =
-      nothing-decided (FollowsIn version known lines frame site of cites (says.Verdict verdict)) known false (λ more h. (verdict-of of cites verdict more h).1) (λ more h. never (verdict-of of cites verdict more h).0)
+      → MatchBool b (FollowsIn version known lines frame site of cites (says.Verdict verdict) []) ((more : List Made) → FollowsIn version known lines frame site of cites (says.Verdict verdict) more → ⊥)
+  verdict-told of cites verdict true holds = verdict-in of cites verdict holds
+  verdict-told of cites verdict false never = λ more h. never (verdict-of of cites verdict more h).0
 
-  pub value-decided : (of : LineKind) (cites : List ℕ) (v : Ref) (b : Bool)
+  pub verdict-made : (of : LineKind) (cites : List ℕ) (verdict : Verdict) (b : Bool) (kept : Option (Vec types.Made Global)) → Told b kept
+      → MatchBool b (FollowsVerdict version known lines frame site of (piece_at known.file site) cites verdict) (FollowsVerdict version known lines frame site of (piece_at known.file site) cites verdict → ⊥)
+      → IsMade known lines (FollowsIn version known lines frame site of cites (says.Verdict verdict)) (AreKnown (says.Verdict verdict)) kept
+  verdict-made of cites verdict b kept told decided =
+      nothing-made known lines (FollowsIn version known lines frame site of cites (says.Verdict verdict)) (AreKnown (says.Verdict verdict)) b kept told
+      (λ more h. (verdict-of of cites verdict more h).1) (verdict-told of cites verdict b decided) (λ e. refl)
+
+  pub value-made : (of : LineKind) (cites : List ℕ) (v : Ref) (b : Bool) (kept : Option (Vec types.Made Global)) → Told b kept
       → MatchBool b (FollowsIn version known lines frame site of cites (says.Value v) []) ((more : List Made) → FollowsIn version known lines frame site of cites (says.Value v) more → ⊥)
-      → Decided b (FollowsIn version known lines frame site of cites (says.Value v)) known known
-  value-decided of cites v b holds = nothing-decided (FollowsIn version known lines frame site of cites (says.Value v)) known b (λ more h. (value-of of cites v more h).3) holds
+      → (b ≡ true → is_known_ref known v ≡ true) → IsMade known lines (FollowsIn version known lines frame site of cites (says.Value v)) (AreKnown (says.Value v)) kept
+  value-made of cites v b kept told holds is =
+      nothing-made known lines (FollowsIn version known lines frame site of cites (says.Value v)) (AreKnown (says.Value v)) b kept told (λ more h. (value-of of cites v more h).3) holds is
+
+  -- an outcome is one of these
+  pub said-as : (of : LineKind) (cites : List ℕ) (outcome said : Outcome) (kept : Option (Vec types.Made Global)) → outcome ≡ said
+      → IsMade known lines (FollowsIn version known lines frame site of cites said) (AreKnown said) kept → IsMade known lines (FollowsIn version known lines frame site of cites outcome) (AreKnown outcome) kept
+  said-as of cites outcome said kept is made =
+      subst (λ (o : Outcome). IsMade known lines (FollowsIn version known lines frame site of cites o) (AreKnown o) kept) (sym is) made
 
   -- ---- a site of no part
 
@@ -168,10 +204,6 @@ module _ (version : Version) (known : StoreModel) (lines : List Line) (line : Li
   ]
 
   -- one without a frame is judged by whether it is the `file` line
-  pub file-decided : line.frame ≡ None → (b : Bool) → MatchBool b (IsFileLine known [] line) (IsFileLine known [] line → ⊥) → Decided b (Follows version known lines line) known known
-  file-decided none true file = nothing-decided (Follows version known lines line) known true (λ other h. (file-only none other h).1) (inl (file, refl))
-  file-decided none false never = nothing-decided (Follows version known lines line) known false (λ other h. (file-only none other h).1) (λ more h. never (file-only none more h).0)
-
   pub file-sound : (b : Bool) → MatchBool b (IsFileLine known [] line) (IsFileLine known [] line → ⊥) → is_known_ref known root_ref ≡ true → b ≡ true → IsSound known line
   file-sound true file root is = record {
     known_is = ap (is_known_outcome known) file.4 ∙ root;
@@ -179,23 +211,37 @@ module _ (version : Version) (known : StoreModel) (lines : List Line) (line : Li
   }
   file-sound false never root is = absurd (true≢false (sym is))
 
+  file-told : line.frame ≡ None → (b : Bool) → MatchBool b (IsFileLine known [] line) (IsFileLine known [] line → ⊥)
+      → MatchBool b (Follows version known lines line []) ((more : List Made) → Follows version known lines line more → ⊥)
+  file-told none true file = inl (file, refl)
+  file-told none false never = λ more h. never (file-only none more h).0
+
+  pub file-made : (b : Bool) (kept : Option (Vec types.Made Global)) → MatchOption kept (b ≡ false) (λ answer. (b ≡ true) × (answer.items ≡ [])) → line.frame ≡ None
+      → MatchBool b (IsFileLine known [] line) (IsFileLine known [] line → ⊥) → is_known_ref known root_ref ≡ true
+      → IsMade known lines (Follows version known lines line) (λ (k : StoreModel). IsSound k line) kept
+  file-made b kept told none decided root =
+      nothing-made known lines (Follows version known lines line) (λ (k : StoreModel). IsSound k line) b kept told (λ other h. (file-only none other h).1) (file-told none b decided) (file-sound b decided root)
+
   -- and one in a frame and of a site by what it says there
   module _ (frame site : ℕ) (frame_is : line.frame ≡ Some frame) (site_is : line.site ≡ Some site) where
     abbrev SaidThere : List Made → Type 0
     SaidThere more = FollowsIn version known lines frame site line.kind line.cites line.outcome more
 
-    pub placed-decided : (b : Bool) (after : StoreModel) → scope_of known.file lines frame ≡ Some (home_for known.file line.kind site) → Decided b SaidThere known after → Decided b (Follows version known lines line) known after
-    placed-decided b after home decided =
-        decided-alike SaidThere (Follows version known lines line) (λ more h. placed frame site frame_is site_is more (home, h)) (λ more h. (placed-of frame site frame_is site_is more h).1) b known after decided
-
-    pub placed-sound : (b : Bool) (after : StoreModel) → Decided b SaidThere known after → (b ≡ true → is_known_outcome after line.outcome ≡ true) → b ≡ true → IsSound after line
-    placed-sound true after leads known_is is = record {
-      known_is = known_is is;
+    placed-sound : (more : List Made) → SaidThere more → is_known_outcome (grown known more) line.outcome ≡ true → IsSound (grown known more) line
+    placed-sound more h known_is = record {
+      known_is = known_is;
       literal_is = λ s kind_is s_is.
-          literal-said version known lines frame site line.kind line.cites line.outcome leads.0 kind_is leads.1
+          literal-said version known lines frame site line.kind line.cites line.outcome more kind_is h
           ∙ ap (λ (n : ℕ). says.Rows (Found (literal_ref n) ∷ [])) (same_Some site s (sym site_is ∙ s_is));
     }
-    placed-sound false after stays known_is is = absurd (true≢false (sym is))
+
+    pub placed-made : (cites : List ℕ) (kept : Option (Vec types.Made Global)) → cites ≡ line.cites → scope_of known.file lines frame ≡ Some (home_for known.file line.kind site)
+        → IsMade known lines (FollowsIn version known lines frame site line.kind cites line.outcome) (λ (k : StoreModel). is_known_outcome k line.outcome ≡ true) kept
+        → IsMade known lines (Follows version known lines line) (λ (k : StoreModel). IsSound k line) kept
+    placed-made cites kept are home made =
+        made-alike known lines SaidThere (Follows version known lines line) (λ (k : StoreModel). is_known_outcome k line.outcome ≡ true) (λ (k : StoreModel). IsSound k line)
+        (λ more h. placed frame site frame_is site_is more (home, h)) (λ more h. (placed-of frame site frame_is site_is more h).1) placed-sound kept
+        (subst (λ (cs : List ℕ). IsMade known lines (FollowsIn version known lines frame site line.kind cs line.outcome) (λ (k : StoreModel). is_known_outcome k line.outcome ≡ true) kept) are made)
 
 -- ---- a site that has a place
 
@@ -230,14 +276,3 @@ module _ (version : Version) (f : RawFile) (ordered : AreInOrder (see_file f)) (
   not-home frame site frame_is site_is never more h =
       let there = placed-of version known lines line frame site frame_is site_is more h in
       never (sited-within site more h site_is) (subst (λ (x : File). scope_of x lines frame ≡ Some (home_for x line.kind site)) file_is there.0)
-
--- ---- what the code passes on
-
-module _ (version : Version) (known after : StoreModel) (lines : List Line) (frame site : ℕ) (of : LineKind) (cites given : List ℕ) (outcome said : Outcome) (given_is : given ≡ cites) (is : outcome ≡ said) where
-  pub said-as : (b : Bool) → Decided b (FollowsIn version known lines frame site of given said) known after → Decided b (FollowsIn version known lines frame site of cites outcome) known after
-  said-as b decided =
-      subst (λ (o : Outcome). Decided b (FollowsIn version known lines frame site of cites o) known after) (sym is)
-      (subst (λ (cs : List ℕ). Decided b (FollowsIn version known lines frame site of cs said) known after) given_is decided)
-
-  pub known-as : (b : Bool) → (b ≡ true → is_known_outcome after said ≡ true) → b ≡ true → is_known_outcome after outcome ≡ true
-  known-as b known_is e = ap (is_known_outcome after) is ∙ known_is e

@@ -1,5 +1,5 @@
 -- What holds behind one line more, where it follows.
-use Rattle.std.proofs.Common.{◌≡◌, ℕ, suc, ◌+◌, ◌<◌, ◌≤◌, sym, ap, ◌∙◌, subst, arith, add-one, List, [], ◌∷◌, ◌++◌, length, take, get_or, Option, Some}
+use Rattle.std.proofs.Common.{◌≡◌, ℕ, suc, ◌+◌, ◌<◌, ◌≤◌, sym, ap, ◌∙◌, subst, arith, add-one, List, [], ◌∷◌, ◌++◌, length, map, take, get_or, Option, Some}
 use Rattle.std.proofs.lemmas.List.{length-take-le, take_all}
 use Rattle.std.proofs.Math.Seq.{take-suc}
 use Rattle.evidence_lines.specs.Shapes.{HasShape}
@@ -9,12 +9,17 @@ use Rattle.guard_syntax.specs.code.Seen.{see_file}
 use Rattle.guard_syntax.specs.declared.row.Verdict.{Verdict}
 use Rattle.guard_syntax.specs.declared.syntax.RawFile.{RawFile}
 use Rattle.rule_names.specs.Pieces.{AreInOrder}
-use Rattle.rule_meaning.specs.StoreModel.{StoreModel, Made}
+use Rattle.guard_builtins.specs.code.Seen.{see_made}
+use Rattle.guard_builtins.specs.declared.made.Made as types
+use Rattle.rule_meaning.specs.Seeing.{grown, trees_kept}
+use Rattle.rule_meaning.specs.StoreModel.{Made, StoreModel}
 use Rattle.evidence_rules.specs.Follows.{AllFollow, Follows}
 use Rattle.evidence_rules.proofs.FollowingShapes.{follows-shape}
 use Rattle.evidence_lookups.specs.code.JudgedSites.{AreJudged}
-use Rattle.evidence_lookups.specs.code.Said.{AreSound, IsSound}
-use Rattle.evidence_checker.specs.code.Judging.{AreMadeWithin, IsFaultAt, IsKnownBehind, Leads}
+use Rattle.evidence_lookups.specs.code.Said.{AreMadeWithin, AreSound, IsSound}
+use Rattle.evidence_checker.specs.code.Judging.{IsFaultAt, IsKnownBehind, Leads}
+use Rattle.evidence_checker.specs.code.Makes.{Makes, trees_of}
+use Rattle.evidence_checker.proofs.KeptTrees.{within-grown}
 use Rattle.evidence_checker.proofs.KnownBehind.{all-follow, behind-more, stuck}
 use Rattle.evidence_checker.proofs.LinesFollowing.{sited-within}
 use Rattle.evidence_checker.proofs.SoundLines.{sound-behind}
@@ -62,8 +67,22 @@ module _ (lines seen : List Line) (before : ℕ) (line : Line) (within : before 
       pub site-here : (f : RawFile) → AreInOrder (see_file f) → known.file ≡ see_file f → (site : ℕ) → line.site ≡ Some site → site < length f.places
       site-here f ordered file_is site site_is = sited-within version f ordered known file_is seen line site leads.0 leads.1 site_is
 
-  pub made-on : (made : List Made) → AreMadeWithin (suc (length seen)) made → AreMadeWithin (before + 1) made
-  made-on made all = subst (λ (n : ℕ). AreMadeWithin n made) (ap suc counted ∙ sym (add-one before)) all
+  -- what is known once the answer of the line is kept
+  module _ (known after : StoreModel) (answer : List types.Made) (kept : after ≡ grown known (trees_kept (before + 1) 0 (map see_made answer))) where
+    pub made-on : AreMadeWithin before known.made → AreMadeWithin (before + 1) after.made
+    made-on early =
+        subst (λ (k : StoreModel). AreMadeWithin (before + 1) k.made) (sym kept)
+        (subst (λ (n : ℕ). AreMadeWithin n (grown known (trees_kept n 0 (map see_made answer))).made) (sym (add-one before)) (within-grown before known (map see_made answer) early))
+
+    grown-here : after ≡ grown known (trees_of seen answer)
+    grown-here = kept ∙ ap (λ (n : ℕ). grown known (trees_kept n 0 (map see_made answer))) (add-one before ∙ ap suc (sym counted))
+
+    module _ (version : Version) (made : Makes known seen (Follows version known seen line) (λ (k : StoreModel). IsSound k line) answer) where
+      pub leads-here : Leads (Follows version known seen line) known after
+      leads-here = (trees_of seen answer, made.holds, grown-here, made.only)
+
+      pub sound-here : IsSound after line
+      sound-here = subst (λ (k : StoreModel). IsSound k line) (sym grown-here) made.so
 
 -- behind the last
 pub all-behind : (version : Version) (start known : StoreModel) (lines : List Line) (before : ℕ) → length lines ≤ before → IsKnownBehind version start (take before lines) known → AllFollow version start [] lines

@@ -1,5 +1,5 @@
 -- The kind of a part's line and its site, by the part of the code.
-use Rattle.std.proofs.Common.{◌≡◌, ℕ, Bool, List, map, Option, None, Some, MatchOption, ap, sym, subst, ◌∙◌, rules}
+use Rattle.std.proofs.Common.{◌≡◌, ℕ, Bool, List, map, Option, None, Some, MatchOption, ap, sym, subst, ◌∙◌}
 use Rattle.std.specs.declared.vec.Vec.{Vec}
 use Rattle.std.specs.declared.alloc.Global.{Global}
 use Rattle.evidence_lines.specs.declared.line.Line.{Line}
@@ -9,7 +9,7 @@ use Rattle.evidence_lines.specs.declared.line.Outcome.TheVariants as says
 use Rattle.guard_syntax.specs.Syntax as sx
 use Rattle.guard_syntax.specs.code.Seen.{expr_list, see_body, see_conds, see_expr, see_opt_conds, see_opt_expr, see_part, see_query}
 use Rattle.guard_syntax.specs.declared.row.Verdict.{Verdict}
-use Rattle.guard_syntax.specs.declared.syntax.Body.{Body, the_lemmas}
+use Rattle.guard_syntax.specs.declared.syntax.Body.{Body}
 use Rattle.guard_syntax.specs.declared.syntax.Conds.{Conds}
 use Rattle.guard_syntax.specs.declared.syntax.Expr.{Expr}
 use Rattle.guard_syntax.specs.declared.syntax.Op.{Op}

@@ -1,5 +1,5 @@
 -- Lines of rows, by the piece of their site.
-use Rattle.std.proofs.Common.{◌≡◌, ℕ, Bool, true, false, List, [], Option, Some, refl, subst, MatchBool}
+use Rattle.std.proofs.Common.{ℕ, Bool, true, false, List, [], Option, Some, refl, MatchBool}
 use Rattle.evidence_lines.specs.declared.line.Line.{Line}
 use Rattle.evidence_lines.specs.declared.line.LineKind.{LineKind}
 use Rattle.guard_syntax.specs.Syntax.{Query}

@@ -1,5 +1,5 @@
 -- The verdicts of the rules of a file, one after another, and whether one is new.
-use Rattle.std.proofs.Common.{◌≡◌, ℕ, zero, suc, refl, sym, ap, ◌∙◌, subst, inl, inr, arith, Contains, get_or, List, [], ◌∷◌, ◌++◌, length, map, drop, drop-cons, add-one, append_assoc, ◌<◌, ◌≤◌, ◌+◌, ◌==◌, Bool, true, false, Option, Some, None, is_some, not, MatchBool}
+use Rattle.std.proofs.Common.{◌≡◌, ◌↔◌, ℕ, zero, suc, refl, sym, ap, ◌∙◌, subst, inl, inr, arith, Contains, get_or, List, [], ◌∷◌, ◌++◌, length, map, drop, drop-cons, add-one, append_assoc, ◌<◌, ◌≤◌, ◌+◌, ◌==◌, Bool, true, false, Option, Some, None, is_some, not, MatchBool}
 use Rattle.std.proofs.lemmas.Bool.{true≢false}
 use Rattle.std.proofs.lemmas.Bool.Decides.{nat_tests}
 use Rattle.std.proofs.lemmas.List.{drop_all, get_or-map, length-map, nil_from_length}
@@ -14,7 +14,7 @@ use Rattle.guard_syntax.specs.declared.row.Verdict.{Verdict}
 use Rattle.rule_meaning.specs.StoreModel.{StoreModel}
 use Rattle.evidence_rules.specs.Follows.{IsJudged, IsLooseJudged, IsNewRule}
 use Rattle.evidence_rules.specs.RuleLines.{AreFrom, AreOfLoose, AreOfRules, IsSaidOf}
-use Rattle.evidence_lookups.specs.code.JudgedSites.{AreJudged, IsJudgedAs, IsUnjudged}
+use Rattle.evidence_lookups.specs.code.JudgedSites.{AreJudged, AreNoted, IsJudgedAs, IsUnjudged}
 use Rattle.evidence_checker.specs.code.Judging.{IsLooseWanting, IsRuleWanting, IsWanting}
 
 -- a rule without parameters has the first verdict
@@ -144,13 +144,19 @@ is-none xs b is holds_is = nil_from_length xs (let test : (length xs == 0) ≡ t
 pub is-some : {X : Type 0} (xs : List X) (b : Bool) → b ≡ (length xs == 0) → b ≡ false → xs ≡ [] → ⊥
 is-some {X = X} xs b is fails none = true≢false (sym (is ∙ ap (λ (ys : List X). length ys == 0) none) ∙ fails)
 
+-- the sites that have a verdict
+noted-at : (lines : List Line) (site : ℕ) (o : Option Verdict) → IsJudgedAs lines site o → (is_some o ≡ false) ↔ IsUnjudged lines site
+noted-at lines site None none = ((λ e. none), (λ u. refl))
+noted-at lines site (Some verdict) said = ((λ e. absurd (true≢false e)), (λ none. absurd (none said.0 said.1 (says.Verdict verdict) said.2)))
+
+pub noted : (lines : List Line) (table : List (Option Verdict)) → AreJudged lines table → AreNoted lines table
+noted lines table judged site = noted-at lines site (get_or table site None) (judged site)
+
 -- whether a site is new, by the table
 pub new-rule : (known : StoreModel) (lines : List Line) (table : List (Option Verdict)) (site : ℕ) (o : Option Verdict) (b : Bool) → o ≡ get_or table site None → is_some o ≡ not b
-    → AreJudged lines table → MatchBool b (IsNewRule known lines site) (IsNewRule known lines site → ⊥)
-new-rule known lines table site o b is test judged = by o b test (subst (IsJudgedAs lines site) (sym is) (judged site))
+    → AreNoted lines table → MatchBool b (IsNewRule known lines site) (IsNewRule known lines site → ⊥)
+new-rule known lines table site o b is test noted = by b (ap (λ (p : Option Verdict). is_some p) (sym is) ∙ test)
   where
-    by : (p : Option Verdict) (v : Bool) → is_some p ≡ not v → IsJudgedAs lines site p → MatchBool v (IsNewRule known lines site) (IsNewRule known lines site → ⊥)
-    by None true there none = none
-    by None false there none = absurd (true≢false (sym there))
-    by (Some verdict) true there said = absurd (true≢false there)
-    by (Some verdict) false there said = λ new. new said.0 said.1 (says.Verdict verdict) said.2
+    by : (v : Bool) → is_some (get_or table site None) ≡ not v → MatchBool v (IsNewRule known lines site) (IsNewRule known lines site → ⊥)
+    by true test = (noted site).0 test
+    by false test = λ new. true≢false (sym test ∙ (noted site).1 new)

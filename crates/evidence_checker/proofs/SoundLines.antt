@@ -1,5 +1,5 @@
--- Lines whose values are known stay so, and so does what was made within a number of lines.
-use Rattle.std.proofs.Common.{◌≡◌, ℕ, suc, ◌<◌, nat_lt, ◌≤◌, true, refl, sym, subst, arith, List, [], ◌∷◌, ◌++◌}
+-- Lines whose values are known stay so where more is known, and the root is known.
+use Rattle.std.proofs.Common.{◌≡◌, ◌<◌, nat_lt, true, refl, sym, subst, arith, List, [], ◌∷◌, ◌++◌}
 use Rattle.std.specs.List.{list_all}
 use Rattle.std.proofs.lemmas.Bool.{and_from, and_parts}
 use Rattle.std.proofs.lemmas.Bool.Decides.{nat_tests}
@@ -14,7 +14,6 @@ use Rattle.rule_meaning.specs.Roots.{root_ref}
 use Rattle.rule_meaning.specs.Seeing.{grown}
 use Rattle.query_steps.proofs.SeenGrowth.{known-before, row-known-before}
 use Rattle.evidence_lookups.specs.code.Said.{AreSound, IsSound, is_known_outcome}
-use Rattle.evidence_checker.specs.code.Judging.{AreMadeWithin}
 
 rows-on : (known : StoreModel) (more : List Made) (rows : List Row) → list_all (is_known known) rows ≡ true → list_all (is_known (grown known more)) rows ≡ true
 rows-on known more [] all = refl
@@ -35,10 +34,6 @@ pub sound-behind : (known after : StoreModel) (more : List Made) (lines : List L
 sound-behind known after more lines line grows sound new =
     All-push (IsSound after) lines line
     (subst (λ (k : StoreModel). AreSound k lines) (sym grows) (All-weaker (IsSound known) (IsSound (grown known more)) (sound-on known more) lines sound)) new
-
--- one line more
-pub made-more : (number : ℕ) (made : List Made) → AreMadeWithin number made → AreMadeWithin (suc number) made
-made-more number made within = All-weaker (λ (m : Made). m.line ≤ number) (λ (m : Made). m.line ≤ suc number) (λ m le. omega (arith, le)) made within
 
 -- the root of a template that has one
 pub root-known : (known : StoreModel) → 0 < size known.template → is_known_ref known root_ref ≡ true

@@ -1,5 +1,5 @@
 -- Lines of verdicts, by the kind of the line and the piece of its site.
-use Rattle.std.proofs.Common.{◌≡◌, ℕ, Bool, true, false, List, Option, Some, None, map, refl, ap, sym, ◌∙◌, subst, rules, MatchBool}
+use Rattle.std.proofs.Common.{◌≡◌, ℕ, Bor, refl, Bool, true, false, List, Option, Some, None, map, ap, sym, ◌∙◌, subst, rules, MatchBool}
 use Rattle.evidence_lines.specs.declared.line.Line.{Line}
 use Rattle.evidence_lines.specs.declared.line.LineKind.{LineKind}
 use Rattle.evidence_lines.specs.declared.line.LineKind.TheVariants as kind
@@ -10,7 +10,12 @@ use Rattle.guard_syntax.specs.declared.row.Verdict.{Verdict}
 use Rattle.guard_syntax.specs.declared.syntax.Body.{Body, out-Body, the_lemmas as body_lemmas}
 use Rattle.guard_syntax.specs.declared.syntax.Conds.{Conds, out-Conds, the_lemmas as conds_lemmas}
 use Rattle.guard_syntax.specs.declared.syntax.Disj.{Disj}
+use Rattle.guard_syntax.specs.declared.syntax.Part.{Part}
+use Rattle.guard_syntax.specs.declared.syntax.Rule.{Rule}
 use Rattle.rule_names.specs.Pieces.{OfBody, OfConds, OfDisj, OfFile, OfPart, OfRule, Piece}
+use Rattle.rule_names.specs.code.Seen.{see_piece}
+use Rattle.rule_names.specs.declared.piece.Piece as shape
+use Rattle.rule_names.specs.declared.piece.Piece.TheVariants as code
 use Rattle.rule_meaning.specs.StoreModel.{StoreModel}
 use Rattle.evidence_rules.specs.Follows.{FollowsAtPart, FollowsConj, FollowsDisj, FollowsLoose, FollowsRule, FollowsVerdict, IsFileFrame, IsNewRule, conds_stop, disj_stop}
 
@@ -114,3 +119,29 @@ module _ (version : Version) (known : StoreModel) (lines : List Line) (frame sit
   none-judged kind.Conj h = h
   none-judged kind.Disj h = h
   none-judged of h = h
+
+  -- ---- no line of a kind stands at any other piece
+
+  pub other-rule : (p : shape.Piece) → ((r : Bor Rule) → p ≡ code.Rule r → ⊥) → (p ≡ code.File → ⊥) → FollowsVerdict version known lines frame site kind.Rule (Some (see_piece p)) cites verdict → ⊥
+  other-rule (code.Rule r) not_rule not_file h = not_rule r refl
+  other-rule code.File not_rule not_file h = not_file refl
+  other-rule p not_rule not_file h = h
+
+  pub other-conj : (p : shape.Piece) → ((b : Bor Body) → p ≡ code.Body b → ⊥) → ((cs : Bor Conds) → p ≡ code.Conds cs → ⊥) → (p ≡ code.File → ⊥)
+      → FollowsVerdict version known lines frame site kind.Conj (Some (see_piece p)) cites verdict → ⊥
+  other-conj (code.Body b) not_body not_conds not_file h = not_body b refl
+  other-conj (code.Conds cs) not_body not_conds not_file h = not_conds cs refl
+  other-conj code.File not_body not_conds not_file h = not_file refl
+  other-conj p not_body not_conds not_file h = h
+
+  pub other-disj : (p : shape.Piece) → ((d : Bor Disj) → p ≡ code.Disj d → ⊥) → FollowsVerdict version known lines frame site kind.Disj (Some (see_piece p)) cites verdict → ⊥
+  other-disj (code.Disj d) not_disj h = not_disj d refl
+  other-disj p not_disj h = h
+
+  pub other-part : (of : LineKind) (p : shape.Piece) → (of ≡ kind.Rule → ⊥) → (of ≡ kind.Conj → ⊥) → (of ≡ kind.Disj → ⊥) → ((x : Bor Part) → p ≡ code.Part x → ⊥)
+      → FollowsVerdict version known lines frame site of (Some (see_piece p)) cites verdict → ⊥
+  other-part kind.Rule p not_rule not_conj not_disj not_part h = not_rule refl
+  other-part kind.Conj p not_rule not_conj not_disj not_part h = not_conj refl
+  other-part kind.Disj p not_rule not_conj not_disj not_part h = not_disj refl
+  other-part of (code.Part x) not_rule not_conj not_disj not_part h = not_part x refl
+  other-part of p not_rule not_conj not_disj not_part h = h

@@ -4,4 +4,5 @@ pub mod Calls
 pub mod FirstCites
 pub mod Judging
 pub mod Kept
+pub mod Makes
 pub mod TestedRows

@@ -13,7 +13,7 @@ ghost use Rattle.evidence_checker.specs.code.FirstCites.{SaysRow};
 
 use crate::stops::{block_stop, is_stop};
 use evidence_lines::{Line, LineKind, Outcome, Version};
-use evidence_lookups::body_frames::framed_verdict;
+use evidence_lookups::body_frames::{ValueFrame, framed_verdict};
 use evidence_lookups::lookup::{line_of, said, verdict_said};
 use guard_syntax::{Row, Verdict};
 
@@ -73,30 +73,36 @@ fn is_frame_at(lines: &[Line], number: u64, frame: u64, site: u32) -> bool
     }
 }
 
-/// Whether the verdict of the body of a site on rows follows: with `any` one of them has to hold, else each. A row that was
-/// found has one cite, up to the row that decides where evidence of this version stops there.
+/// A body that is judged on rows, in a frame of a row's value for each: with `any` one of them has to hold, else each.
+#[derive(Clone, Copy)]
+pub(crate) struct RowsBody {
+    pub frame: u64,
+    pub site: u32,
+    pub any: bool,
+    pub version: Version,
+}
+
+/// Whether the verdict of a body on rows follows. A row that was found has one cite, up to the row that decides where
+/// evidence of this version stops there.
 pub(crate) fn body_follows_on(
     lines: &[Line],
-    version: Version,
-    frame: u64,
-    any: bool,
-    body: u32,
+    body: RowsBody,
     rows: &[Row],
     cites: &[u64],
     verdict: Verdict,
 ) -> bool
-    ensures { (known : StoreModel) → (b : Body) → body ≡ body_site b → MatchBool result
-        (FollowsRowsOf known lines.now frame any (block_stop any version) b rows.now cites.now verdict)
-        (FollowsRowsOf known lines.now frame any (block_stop any version) b rows.now cites.now verdict → ⊥) }
+    ensures { (known : StoreModel) → (b : Body) → body.site ≡ body_site b → MatchBool result
+        (FollowsRowsOf known lines.now body.frame body.any (block_stop body.any body.version) b rows.now cites.now verdict)
+        (FollowsRowsOf known lines.now body.frame body.any (block_stop body.any body.version) b rows.now cites.now verdict → ⊥) }
 {
-    let stop = block_stop(any, version);
+    let stop = block_stop(body.any, body.version);
     let mut before = Verdict::Skip;
     let mut left = cites;
     for row in rows {
-        let Some(judged) = judged_row(lines, frame, body, row, left) else {
+        let Some(judged) = judged_row(lines, body.frame, body.site, row, left) else {
             return false;
         };
-        before = joined(any, before, judged.verdict);
+        before = joined(body.any, before, judged.verdict);
         left = judged.left;
         if is_stop(stop, judged.verdict) {
             // The rows behind, found or not, change nothing.
@@ -144,7 +150,12 @@ fn judged_row<'c>(
     let Some((first, left)) = cites.split_first() else {
         return None;
     };
-    let Some(verdict) = framed_verdict(lines, *first, frame, body, *value, body) else {
+    let within = ValueFrame {
+        frame,
+        site: body,
+        value: *value,
+    };
+    let Some(verdict) = framed_verdict(lines, *first, within, body) else {
         return None;
     };
     Some(JudgedRow { verdict, left })

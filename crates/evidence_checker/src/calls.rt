@@ -1,5 +1,5 @@
-//! Lines of rows of calls: a call that follows makes its new trees known.
-ghost use Rattle.std.specs.Prelude.{◌≡◌, ℕ, List, true, suc, length, map, None, IfOk, IfSome, OnOk, MatchBool, MatchOption};
+//! Lines of rows of calls, and the trees that they make.
+ghost use Rattle.std.specs.Prelude.{◌≡◌, ℕ, List, true, map, None, IfOk, IfSome, OnOk, MatchBool, MatchOption};
 ghost use Rattle.std.specs.List.{list_all};
 ghost use Rattle.evidence_lines.specs.declared.line.LineKind.TheVariants as kind;
 ghost use Rattle.guard_builtins.specs.code.Seen.{is_plain, see_made, see_rows};
@@ -7,87 +7,72 @@ ghost use Rattle.guard_syntax.specs.code.Seen.{expr_list, see_expr};
 ghost use Rattle.guard_syntax.specs.Syntax.{Exprs};
 ghost use Rattle.rule_names.specs.code.Files.{file_of};
 ghost use Rattle.rule_names.specs.Pieces.{piece_at};
-ghost use Rattle.value_compare.specs.code.Books.{IsBookOf};
 ghost use Rattle.rule_meaning.specs.Functions.{MadeRow};
-ghost use Rattle.rule_meaning.specs.StoreModel as known;
 ghost use Rattle.rule_meaning.specs.StoreModel.{is_known, made_at};
 ghost use Rattle.value_compare.specs.code.Stores.{see_store};
 ghost use Rattle.evidence_rules.specs.CitedLines.{GiveArgs};
 ghost use Rattle.evidence_rules.specs.Follows.{FollowsRows};
 ghost use Rattle.rule_meaning.specs.Seeing.{grown, rows_kept, trees_kept};
-ghost use Rattle.evidence_lookups.specs.code.Said.{AreSound};
+ghost use Rattle.evidence_lookups.specs.code.Grounds.{file_in, known_of, lines_of};
 ghost use Rattle.evidence_checker.specs.code.Calls.{IsAnswered, IsCall, IsCallAt};
 ghost use Rattle.evidence_checker.specs.code.Kept.{row_kept};
-ghost use Rattle.evidence_checker.specs.code.Judging.{AreMadeWithin};
+ghost use Rattle.evidence_checker.specs.code.Makes.{IsMade};
 
 use evidence_lines::Line;
 use evidence_lookups::cited_rows::given_by_expr;
 use evidence_lookups::expression_lines::stands_at;
+use evidence_lookups::line_context::{LineContext, SitedLine};
 use guard_builtins::{Made, call};
 use guard_syntax::{Expr, Function, Origin, Ref, Row};
 use rule_names::{Piece, RuleFile};
 use std::alloc::{AllocError, Global};
-use value_compare::{PatternBook, Store};
+use value_compare::Store;
 
-/// Whether the line of a call's rows follows; where it does, the store holds the new trees of the answer behind those that
-/// it held, at the number of this line. Elsewhere it is as it was.
+/// What the line of a call's rows makes, where it follows: the answer of the call, whose rows it says.
 pub(crate) fn call_follows(
-    alloc: Global,
-    store: &mut Store<'_, '_>,
-    book: &PatternBook,
-    lines: &[Line],
-    frame: u64,
-    site: u32,
-    cites: &[u64],
+    context: &LineContext<'_, '_, '_>,
+    line: SitedLine<'_>,
     rows: &[Row],
-) -> Result<bool, AllocError>
-    requires book { IsBookOf (see_store store.old).file book.now }
-    requires sound { AreSound (see_store store.old) lines.now }
-    requires made { AreMadeWithin (length lines.now) (see_store store.old).made }
-    ensures follows { IfOk result (λ follows. MatchBool follows
-        ((more : List known.Made) × FollowsRows (see_store store.old) lines.now frame site kind.Fn (piece_at (see_store store.old).file site) cites.now rows.now more
-        × (see_store store.new ≡ grown (see_store store.old) more)
-        × ((other : List known.Made) → FollowsRows (see_store store.old) lines.now frame site kind.Fn (piece_at (see_store store.old).file site) cites.now rows.now other → other ≡ more))
-        (((more : List known.Made) → FollowsRows (see_store store.old) lines.now frame site kind.Fn (piece_at (see_store store.old).file site) cites.now rows.now more → ⊥)
-        × (see_store store.new ≡ see_store store.old))) }
-    ensures made { IfOk result (λ follows. AreMadeWithin (suc (length lines.now)) (see_store store.new).made) }
-    ensures known { IfOk result (λ follows. follows ≡ true → list_all (is_known (see_store store.new)) rows.now ≡ true) }
+) -> Result<Option<Vec<Made>>, AllocError>
+    ensures { IfOk result (IsMade (known_of context.now) (lines_of context.now)
+        (FollowsRows (known_of context.now) (lines_of context.now) line.entry.frame line.entry.site kind.Fn (piece_at (file_in context.now) line.entry.site) line.entry.cites.now rows.now)
+        (λ after. list_all (is_known after) rows.now ≡ true)) }
 {
-    let Some(answer) = answer_of(alloc, store, book, lines, frame, site, cites)? else {
-        return Ok(false);
+    let Some(answer) = answer_of(context, line)? else {
+        return Ok(None);
     };
-    let line = lines.len() as u64 + 1;
-    if !are_kept(line, &answer, rows) {
-        return Ok(false);
+    let number = context.lines.len() as u64 + 1;
+    if !are_kept(number, &answer, rows) {
+        return Ok(None);
     }
-    keep(store, line, answer)?;
-    Ok(true)
+    Ok(Some(answer))
 }
 
-/// What the call of a site answers by the lines that it cites, one for each argument.
+/// What the call of a line's site answers by the lines that it cites, one for each argument.
 fn answer_of(
-    alloc: Global,
-    store: &Store<'_, '_>,
-    book: &PatternBook,
-    lines: &[Line],
-    frame: u64,
-    site: u32,
-    cites: &[u64],
+    context: &LineContext<'_, '_, '_>,
+    line: SitedLine<'_>,
 ) -> Result<Option<Vec<Made>>, AllocError>
-    requires book { IsBookOf (see_store store.now).file book.now }
-    requires sound { AreSound (see_store store.now) lines.now }
     ensures answer { IfOk result (λ found. MatchOption found
-        ((answer : List MadeRow) → IsAnswered (see_store store.now) lines.now frame site cites.now answer → ⊥)
-        (λ answer. IsAnswered (see_store store.now) lines.now frame site cites.now (map see_made answer.items))) }
+        ((answer : List MadeRow) → IsAnswered (known_of context.now) (lines_of context.now) line.entry.frame line.entry.site line.entry.cites.now answer → ⊥)
+        (λ answer. IsAnswered (known_of context.now) (lines_of context.now) line.entry.frame line.entry.site line.entry.cites.now (map see_made answer.items))) }
     ensures plain { IfOk result (λ found. IfSome found (λ answer. list_all is_plain answer.items ≡ true)) }
 {
-    let Some(called) = call_at(store.file, site) else {
+    let file = context.store.file;
+    let Some(called) = call_at(file, line.site) else {
         return Ok(None);
     };
-    let Some(given) = rows_of_args(alloc, store.file, lines, frame, called.args, cites)? else {
+    let Some(given) = rows_of_args(context.alloc, file, context.lines, line, called.args)? else {
         return Ok(None);
     };
-    let answer = call(alloc, called.function, site, &given, store, book)?;
+    let answer = call(
+        context.alloc,
+        called.function,
+        line.site,
+        &given,
+        context.store,
+        context.book,
+    )?;
     Ok(Some(answer))
 }
 
@@ -133,20 +118,20 @@ fn rows_of_args(
     alloc: Global,
     file: &RuleFile,
     lines: &[Line],
-    frame: u64,
+    line: SitedLine<'_>,
     args: &[Expr],
-    cites: &[u64],
 ) -> Result<Option<Vec<Vec<Row>>>, AllocError>
     ensures { IfOk result (λ given. MatchOption given
-        ((all : List (List Row)) → GiveArgs (file_of file.now) lines.now frame (expr_list (map see_expr args.now)) cites.now all → ⊥)
-        (λ all. GiveArgs (file_of file.now) lines.now frame (expr_list (map see_expr args.now)) cites.now (map see_rows all.items))) }
+        ((all : List (List Row)) → GiveArgs (file_of file.now) lines.now line.entry.frame (expr_list (map see_expr args.now)) line.entry.cites.now all → ⊥)
+        (λ all. GiveArgs (file_of file.now) lines.now line.entry.frame (expr_list (map see_expr args.now)) line.entry.cites.now (map see_rows all.items))) }
 {
+    let cites = line.cites;
     if args.len() != cites.len() {
         return Ok(None);
     }
     let mut all = Vec::new(alloc);
     for (at, arg) in args.iter().enumerate() {
-        let Some(rows) = given_by_expr(file, lines, frame, arg, cites[at]) else {
+        let Some(rows) = given_by_expr(file, lines, line.frame, arg, cites[at]) else {
             return Ok(None);
         };
         all.push(rows.to_vec(alloc)?)?;
@@ -184,7 +169,11 @@ fn row_kept(line: u64, at: u64, made: &Made) -> Row
 }
 
 /// Adds the new trees of an answer at a line that has none, each at its row of the answer.
-fn keep(store: &mut Store<'_, '_>, line: u64, answer: Vec<Made>) -> Result<(), AllocError>
+pub(crate) fn keep(
+    store: &mut Store<'_, '_>,
+    line: u64,
+    answer: Vec<Made>,
+) -> Result<(), AllocError>
     requires free { (row : ℕ) → made_at (see_store store.old).made line row ≡ None }
     requires plain { list_all is_plain answer.items ≡ true }
     ensures { OnOk result (see_store store.new ≡ grown (see_store store.old) (trees_kept line 0 (map see_made answer.items))) }

@@ -15,12 +15,14 @@ ghost use Rattle.evidence_rules.specs.RuleLines.{AreOfLoose, AreOfRules};
 ghost use Rattle.evidence_lookups.specs.code.JudgedSites.{AreJudged};
 ghost use Rattle.evidence_lookups.specs.code.Owned.{AreOwners};
 ghost use Rattle.evidence_checker.specs.code.Answered.{IsAnswer};
-ghost use Rattle.evidence_checker.specs.code.Judging.{IsFaultAt, IsLooseWanting, IsRuleWanting, IsWanting};
+ghost use Rattle.evidence_checker.specs.code.Judging.{IsLooseWanting, IsRuleWanting, IsWanting};
 
+use crate::calls::keep;
 use crate::line::line_follows;
 use doc_values::Doc;
 use evidence_lines::{Evidence, Line, Version};
 use evidence_lookups::judged::Judged;
+use evidence_lookups::line_context::LineContext;
 use evidence_lookups::owners::Owners;
 use guard_syntax::{Disj, RawFile, Rule, Verdict};
 use rule_names::RuleFile;
@@ -51,41 +53,45 @@ pub fn check<'t, 's>(
     ensures { IfOk result (λ answer. IsAnswer evidence.now.version doc.now (file_of file.now) evidence.now.lines answer) }
 {
     let owners = Owners::new(alloc, file)?;
-    let mut judged = Judged::new(alloc, file.raw().places.as_slice().len())?;
     let mut store = Store::new(alloc, doc, file);
-    judge_lines(alloc, evidence, &mut store, book, &owners, &mut judged)
+    judge_lines(alloc, &mut store, book, &owners, evidence)
 }
 
-/// Judges the lines of evidence, with a store in which nothing is made.
+/// Judges the lines of evidence, each over those before it, with a store in which nothing is made. What calls make is added
+/// to the store here, a line at a time.
 fn judge_lines(
     alloc: Global,
-    evidence: &Evidence,
     store: &mut Store<'_, '_>,
     book: &PatternBook,
     owners: &Owners,
-    judged: &mut Judged,
+    evidence: &Evidence,
 ) -> Result<Answer, AllocError>
     requires book { IsBookOf (see_store store.old).file book.now }
     requires owners { AreOwners (see_store store.old).file owners.now }
-    requires judged { AreJudged [] judged.old.of.items }
-    requires sites { length judged.old.of.items ≡ length (see_store store.old).file.places }
     requires made { (see_store store.old).made ≡ [] }
     ensures { IfOk result (λ answer. IsAnswer evidence.now.version (see_store store.old).template (see_store store.old).file evidence.now.lines answer) }
 {
     let lines = evidence.as_slice();
-    let file = store.file;
-    match first_fault(
-        alloc,
-        evidence.version(),
-        store,
-        book,
-        owners,
-        judged,
-        lines,
-    )? {
-        Some(number) => Ok(Answer::Rejected(number)),
-        None => answer_of(alloc, file.raw(), judged, lines.len() as u64),
+    let written = evidence.version();
+    let syntax = store.file.raw();
+    let mut judged = Judged::new(alloc, syntax.places.as_slice().len())?;
+    for (before, line) in lines.iter().enumerate() {
+        let context = LineContext {
+            alloc,
+            version: written,
+            store,
+            book,
+            owners,
+            judged: &judged,
+            lines: first_lines(lines, before),
+        };
+        let Some(answer) = line_follows(&context, line)? else {
+            return Ok(Answer::Rejected(before as u64 + 1));
+        };
+        keep(store, before as u64 + 1, answer)?;
+        judged.note(line);
     }
+    answer_of(alloc, syntax, &judged, lines.len() as u64)
 }
 
 /// The answer where each of so many lines follows, by what their `rule` lines say.
@@ -104,43 +110,6 @@ fn answer_of(
         Some(verdicts) => Ok(Answer::Accepted(verdicts)),
         None => Ok(Answer::Rejected(count + 1)),
     }
-}
-
-/// The number of the first line that does not follow, if there is one; else the table has the verdicts of all `rule` lines.
-fn first_fault(
-    alloc: Global,
-    version: Version,
-    store: &mut Store<'_, '_>,
-    book: &PatternBook,
-    owners: &Owners,
-    judged: &mut Judged,
-    lines: &[Line],
-) -> Result<Option<u64>, AllocError>
-    requires book { IsBookOf (see_store store.old).file book.now }
-    requires owners { AreOwners (see_store store.old).file owners.now }
-    requires judged { AreJudged [] judged.old.of.items }
-    requires sites { length judged.old.of.items ≡ length (see_store store.old).file.places }
-    requires made { (see_store store.old).made ≡ [] }
-    ensures { IfOk result (λ fault. MatchOption fault
-        (AllFollow version (see_store store.old) [] lines.now × AreJudged lines.now judged.new.of.items)
-        (λ number. IsFaultAt version (see_store store.old) lines.now number)) }
-{
-    for (before, line) in lines.iter().enumerate() {
-        if !line_follows(
-            alloc,
-            version,
-            store,
-            book,
-            owners,
-            judged,
-            first_lines(lines, before),
-            line,
-        )? {
-            return Ok(Some(before as u64 + 1));
-        }
-        judged.note(line);
-    }
-    Ok(None)
 }
 
 /// The first lines, as many as `count`.

@@ -1,69 +1,64 @@
 //! Whether a line of evidence follows from those before it.
-ghost use Rattle.std.specs.Prelude.{◌≡◌, ◌<◌, List, Some, true, suc, length, IfOk, MatchBool, []};
-ghost use Rattle.evidence_lines.specs.declared.line.LineKind.TheVariants as kind;
+ghost use Rattle.std.specs.Prelude.{◌≡◌, ◌<◌, List, Some, true, false, length, IfOk, MatchBool, MatchOption, []};
 ghost use Rattle.evidence_lines.specs.declared.line.Outcome.TheVariants as says;
 ghost use Rattle.rule_names.specs.code.Files.{file_of};
-ghost use Rattle.value_compare.specs.code.Books.{IsBookOf};
-ghost use Rattle.rule_meaning.specs.StoreModel.{Made, is_known_ref};
+ghost use Rattle.rule_meaning.specs.StoreModel as known;
+ghost use Rattle.rule_meaning.specs.StoreModel.{is_known_ref};
 ghost use Rattle.value_compare.specs.code.Stores.{see_store};
 ghost use Rattle.evidence_rules.specs.CitedLines.{scope_of};
-ghost use Rattle.evidence_rules.specs.Follows.{Follows, FollowsIn, FollowsRows, IsFileLine, home_for};
+ghost use Rattle.evidence_rules.specs.Follows.{Follows, FollowsIn, IsFileLine, home_for};
 ghost use Rattle.rule_meaning.specs.Roots.{root_ref};
-ghost use Rattle.evidence_lookups.specs.code.Grounds.{file_in, known_of, lines_of, version_of};
-ghost use Rattle.evidence_lookups.specs.code.JudgedSites.{AreJudged};
-ghost use Rattle.evidence_lookups.specs.code.Said.{AreSound, IsSound, is_known_outcome};
-ghost use Rattle.evidence_lookups.specs.code.Owned.{AreOwners};
-ghost use Rattle.evidence_checker.specs.code.Judging.{AreMadeWithin, Leads, Stays};
+ghost use Rattle.evidence_lookups.specs.code.Grounds.{known_of, lines_of, version_of};
+ghost use Rattle.evidence_lookups.specs.code.Said.{IsSound, is_known_outcome};
+ghost use Rattle.evidence_checker.specs.code.Makes.{IsMade};
 
 use crate::calls::call_follows;
 use crate::rows::rows_follow;
 use crate::verdicts::verdict_follows;
-use evidence_lines::{Line, LineKind, Outcome, Version};
+use evidence_lines::{Line, LineKind, Outcome};
 use evidence_lookups::frames::{home_for, scope_of};
-use evidence_lookups::judged::Judged;
-use evidence_lookups::line_context::LineContext;
-use evidence_lookups::owners::Owners;
+use evidence_lookups::line_context::{LineContext, SitedLine};
 use evidence_lookups::values::is_frame_of;
+use guard_builtins::Made;
 use guard_syntax::{Origin, Ref, Row};
 use rule_names::RuleFile;
 use std::alloc::{AllocError, Global};
-use value_compare::{PatternBook, Store};
+use value_compare::Store;
 
-/// Whether a line follows from those before it; where it does, the store holds the trees that it makes known, and elsewhere it
-/// is as it was.
+/// What a line makes known where it follows from those before it: the rows that a call answers, and of any other line none.
 pub(crate) fn line_follows(
-    alloc: Global,
-    version: Version,
-    store: &mut Store<'_, '_>,
-    book: &PatternBook,
-    owners: &Owners,
-    judged: &Judged,
-    lines: &[Line],
+    context: &LineContext<'_, '_, '_>,
     line: &Line,
-) -> Result<bool, AllocError>
-    requires book { IsBookOf (see_store store.old).file book.now }
-    requires owners { AreOwners (see_store store.old).file owners.now }
-    requires judged { AreJudged lines.now judged.now.of.items }
-    requires sound { AreSound (see_store store.old) lines.now }
-    requires made { AreMadeWithin (length lines.now) (see_store store.old).made }
-    ensures follows { IfOk result (λ follows. MatchBool follows
-        (Leads (Follows version (see_store store.old) lines.now line.now) (see_store store.old) (see_store store.new))
-        (Stays (Follows version (see_store store.old) lines.now line.now) (see_store store.old) (see_store store.new))) }
-    ensures sound { IfOk result (λ follows. follows ≡ true → IsSound (see_store store.new) line.now) }
-    ensures made { IfOk result (λ follows. AreMadeWithin (suc (length lines.now)) (see_store store.new).made) }
+) -> Result<Option<Vec<Made>>, AllocError>
+    ensures { IfOk result (IsMade (known_of context.now) (lines_of context.now)
+        (Follows (version_of context.now) (known_of context.now) (lines_of context.now) line.now)
+        (λ after. IsSound after line.now)) }
 {
     let Some(frame) = line.frame else {
-        return Ok(is_file_line(store, line));
+        let follows = is_file_line(context.store, line);
+        return Ok(making_nothing(context.alloc, follows));
     };
     let Some(site) = line.site else {
-        return Ok(false);
+        return Ok(None);
     };
-    if !is_at_home(store.file, lines, frame, line.kind, site) {
-        return Ok(false);
+    let cites = line.cites.as_slice();
+    let placed = SitedLine {
+        frame,
+        site,
+        kind: line.kind,
+        cites,
+    };
+    if !is_at_home(context.store.file, context.lines, placed) {
+        return Ok(None);
     }
-    outcome_follows(
-        alloc, version, store, book, owners, judged, lines, line, frame, site,
-    )
+    outcome_follows(context, placed, &line.outcome)
+}
+
+/// No rows of a call, where a line follows that is of no call.
+fn making_nothing(alloc: Global, follows: bool) -> Option<Vec<Made>>
+    ensures { MatchOption result (follows ≡ false) (λ answer. (follows ≡ true) × (answer.items ≡ [])) }
+{
+    if follows { Some(Vec::new(alloc)) } else { None }
 }
 
 /// Whether a line is the `file` line. The root of the template, which it says, is known.
@@ -98,131 +93,74 @@ fn is_root(outcome: &Outcome) -> bool
 }
 
 /// Whether the scope of a frame is the home of a site, of which there is a part.
-fn is_at_home(file: &RuleFile, lines: &[Line], frame: u64, kind: LineKind, site: u32) -> bool
+fn is_at_home(file: &RuleFile, lines: &[Line], line: SitedLine<'_>) -> bool
     ensures { MatchBool result
-        ((site < length (file_of file.now).places) × (scope_of (file_of file.now) lines.now frame ≡ Some (home_for (file_of file.now) kind site)))
-        (site < length (file_of file.now).places → scope_of (file_of file.now) lines.now frame ≡ Some (home_for (file_of file.now) kind site) → ⊥) }
+        ((line.entry.site < length (file_of file.now).places) × (scope_of (file_of file.now) lines.now line.entry.frame ≡ Some (home_for (file_of file.now) line.entry.kind line.entry.site)))
+        (line.entry.site < length (file_of file.now).places → scope_of (file_of file.now) lines.now line.entry.frame ≡ Some (home_for (file_of file.now) line.entry.kind line.entry.site) → ⊥) }
 {
+    let site = line.site;
     if site as usize >= file.raw().places.as_slice().len() {
         return false;
     }
-    match scope_of(file, lines, frame) {
-        Some(scope) => scope == home_for(file, kind, site),
+    match scope_of(file, lines, line.frame) {
+        Some(scope) => scope == home_for(file, line.kind, site),
         None => false,
     }
 }
 
-/// Whether a line in a frame and of a site, which is at home there, may say what it says.
+/// What a line in a frame and of a site, which is at home there, makes known where it may say what it says.
 fn outcome_follows(
-    alloc: Global,
-    version: Version,
-    store: &mut Store<'_, '_>,
-    book: &PatternBook,
-    owners: &Owners,
-    judged: &Judged,
-    lines: &[Line],
-    line: &Line,
-    frame: u64,
-    site: u32,
-) -> Result<bool, AllocError>
-    requires book { IsBookOf (see_store store.old).file book.now }
-    requires owners { AreOwners (see_store store.old).file owners.now }
-    requires judged { AreJudged lines.now judged.now.of.items }
-    requires sound { AreSound (see_store store.old) lines.now }
-    requires made { AreMadeWithin (length lines.now) (see_store store.old).made }
-    ensures follows { IfOk result (λ follows. MatchBool follows
-        (Leads (FollowsIn version (see_store store.old) lines.now frame site line.now.kind line.now.cites line.now.outcome) (see_store store.old) (see_store store.new))
-        (Stays (FollowsIn version (see_store store.old) lines.now frame site line.now.kind line.now.cites line.now.outcome) (see_store store.old) (see_store store.new))) }
-    ensures known { IfOk result (λ follows. follows ≡ true → is_known_outcome (see_store store.new) line.now.outcome ≡ true) }
-    ensures made { IfOk result (λ follows. AreMadeWithin (suc (length lines.now)) (see_store store.new).made) }
+    context: &LineContext<'_, '_, '_>,
+    line: SitedLine<'_>,
+    outcome: &Outcome,
+) -> Result<Option<Vec<Made>>, AllocError>
+    ensures { IfOk result (IsMade (known_of context.now) (lines_of context.now)
+        (FollowsIn (version_of context.now) (known_of context.now) (lines_of context.now) line.entry.frame line.entry.site line.entry.kind line.entry.cites.now outcome.now)
+        (λ after. is_known_outcome after outcome.now ≡ true)) }
 {
-    let cites = line.cites.as_slice();
-    match &line.outcome {
+    match outcome {
         Outcome::Value(value) => {
-            let context = LineContext {
-                version,
-                store,
-                book,
-                lines,
-            };
-            Ok(value_follows(&context, owners, frame, site, line.kind, cites, *value))
+            let follows = value_follows(context, line, *value);
+            Ok(making_nothing(context.alloc, follows))
         }
-        Outcome::Rows(rows) => {
-            let rows = rows.as_slice();
-            all_rows_follow(
-                alloc, version, store, book, lines, frame, site, line.kind, cites, rows,
-            )
-        }
+        Outcome::Rows(rows) => all_rows_follow(context, line, rows.as_slice()),
         Outcome::Verdict(verdict) => {
-            let context = LineContext {
-                version,
-                store,
-                book,
-                lines,
-            };
-            let new = judged.verdict(site).is_none();
-            verdict_follows(
-                alloc, &context, new, frame, site, line.kind, cites, *verdict,
-            )
+            let follows = verdict_follows(context, line, *verdict)?;
+            Ok(making_nothing(context.alloc, follows))
         }
     }
 }
 
 /// Whether a line of a value follows: that of a frame, which cites none.
-fn value_follows(
-    context: &LineContext<'_, '_, '_>,
-    owners: &Owners,
-    frame: u64,
-    site: u32,
-    kind: LineKind,
-    cites: &[u64],
-    value: Ref,
-) -> bool
-    requires owners { AreOwners (file_in context.now) owners.now }
+fn value_follows(context: &LineContext<'_, '_, '_>, line: SitedLine<'_>, value: Ref) -> bool
     ensures follows { MatchBool result
-        (FollowsIn (version_of context.now) (known_of context.now) (lines_of context.now) frame site kind cites.now (says.Value value) [])
-        ((more : List Made) → FollowsIn (version_of context.now) (known_of context.now) (lines_of context.now) frame site kind cites.now (says.Value value) more → ⊥) }
+        (FollowsIn (version_of context.now) (known_of context.now) (lines_of context.now) line.entry.frame line.entry.site line.entry.kind line.entry.cites.now (says.Value value) [])
+        ((more : List known.Made) → FollowsIn (version_of context.now) (known_of context.now) (lines_of context.now) line.entry.frame line.entry.site line.entry.kind line.entry.cites.now (says.Value value) more → ⊥) }
     ensures known { result ≡ true → is_known_ref (known_of context.now) value ≡ true }
 {
-    match kind {
-        LineKind::Frame => cites.is_empty() && is_frame_of(context, owners, frame, site, value),
+    match line.kind {
+        LineKind::Frame => {
+            line.cites.is_empty() && is_frame_of(context, line.frame, line.site, value)
+        }
         _ => false,
     }
 }
 
-/// Whether a line of rows follows, of whatever kind; where it does, the store holds the trees that it makes known, and
-/// elsewhere it is as it was.
+/// What a line of rows makes known where it follows, of whatever kind.
 fn all_rows_follow(
-    alloc: Global,
-    version: Version,
-    store: &mut Store<'_, '_>,
-    book: &PatternBook,
-    lines: &[Line],
-    frame: u64,
-    site: u32,
-    kind: LineKind,
-    cites: &[u64],
+    context: &LineContext<'_, '_, '_>,
+    line: SitedLine<'_>,
     rows: &[Row],
-) -> Result<bool, AllocError>
-    requires book { IsBookOf (see_store store.old).file book.now }
-    requires sound { AreSound (see_store store.old) lines.now }
-    requires made { AreMadeWithin (length lines.now) (see_store store.old).made }
-    ensures follows { IfOk result (λ follows. MatchBool follows
-        (Leads (FollowsIn version (see_store store.old) lines.now frame site kind cites.now (says.Rows rows.now)) (see_store store.old) (see_store store.new))
-        (Stays (FollowsIn version (see_store store.old) lines.now frame site kind cites.now (says.Rows rows.now)) (see_store store.old) (see_store store.new))) }
-    ensures known { IfOk result (λ follows. follows ≡ true → is_known_outcome (see_store store.new) (says.Rows rows.now) ≡ true) }
-    ensures made { IfOk result (λ follows. AreMadeWithin (suc (length lines.now)) (see_store store.new).made) }
+) -> Result<Option<Vec<Made>>, AllocError>
+    ensures { IfOk result (IsMade (known_of context.now) (lines_of context.now)
+        (FollowsIn (version_of context.now) (known_of context.now) (lines_of context.now) line.entry.frame line.entry.site line.entry.kind line.entry.cites.now (says.Rows rows.now))
+        (λ after. is_known_outcome after (says.Rows rows.now) ≡ true)) }
 {
-    match kind {
-        LineKind::Fn => call_follows(alloc, store, book, lines, frame, site, cites, rows),
+    match line.kind {
+        LineKind::Fn => call_follows(context, line, rows),
         _ => {
-            let context = LineContext {
-                version,
-                store,
-                book,
-                lines,
-            };
-            rows_follow(alloc, &context, frame, site, kind, cites, rows)
+            let follows = rows_follow(context, line, rows)?;
+            Ok(making_nothing(context.alloc, follows))
         }
     }
 }

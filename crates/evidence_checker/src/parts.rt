@@ -1,7 +1,7 @@
 //! Lines of verdicts of single parts and of rules.
 ghost use Rattle.std.specs.Prelude.{◌≡◌, List, ℕ, IfOk, MatchBool, MatchOption};
 ghost use Rattle.evidence_lines.specs.declared.line.Line.{Line};
-ghost use Rattle.guard_syntax.specs.code.Seen.{see_body, see_opt_conds, see_part, see_query, see_rule};
+ghost use Rattle.guard_syntax.specs.code.Seen.{see_opt_conds, see_part, see_query, see_rule};
 ghost use Rattle.guard_syntax.specs.Syntax as sx;
 ghost use Rattle.guard_syntax.specs.declared.row.Verdict.{Verdict};
 ghost use Rattle.evidence_rules.specs.CitedLines.{body_site};
@@ -10,32 +10,28 @@ ghost use Rattle.rule_meaning.specs.StoreModel.{StoreModel};
 ghost use Rattle.evidence_lookups.specs.code.Grounds.{known_of, lines_of, version_of};
 ghost use Rattle.evidence_checker.specs.code.FirstCites.{IsSomeGuard, opt_conds_site};
 
-use crate::bodies::{body_follows, body_follows_on, ends_with};
+use crate::bodies::{RowsBody, body_follows, body_follows_on, ends_with};
 use crate::reference_lines::{call_follows, reference_follows};
-use crate::test_lines::test_follows;
+use crate::test_lines::{AskedTest, test_follows};
 use evidence_lines::{Line, LineKind, Version};
 use evidence_lookups::cited_rows::given_by_query;
-use evidence_lookups::line_context::LineContext;
+use evidence_lookups::line_context::{LineContext, SitedLine};
 use evidence_lookups::lookup::{rows_said, verdict_said};
-use guard_syntax::{Body, Conds, Part, Query, Rule, Verdict};
-use std::alloc::{AllocError, Global};
+use guard_syntax::{Conds, Part, Query, Rule, Verdict};
+use std::alloc::AllocError;
 
 /// Whether a line of the verdict of a part follows: a test, a reference, a call, a `when` block, a block or a type block.
 pub(crate) fn part_follows(
-    alloc: Global,
     context: &LineContext<'_, '_, '_>,
-    frame: u64,
-    site: u32,
-    kind: LineKind,
+    line: SitedLine<'_>,
     part: &Part,
-    cites: &[u64],
     verdict: Verdict,
 ) -> Result<bool, AllocError>
     ensures { IfOk result (λ follows. MatchBool follows
-        (FollowsAtPart (version_of context.now) (known_of context.now) (lines_of context.now) frame site kind (see_part part.now) cites.now verdict)
-        (FollowsAtPart (version_of context.now) (known_of context.now) (lines_of context.now) frame site kind (see_part part.now) cites.now verdict → ⊥)) }
+        (FollowsAtPart (version_of context.now) (known_of context.now) (lines_of context.now) line.entry.frame line.entry.site line.entry.kind (see_part part.now) line.entry.cites.now verdict)
+        (FollowsAtPart (version_of context.now) (known_of context.now) (lines_of context.now) line.entry.frame line.entry.site line.entry.kind (see_part part.now) line.entry.cites.now verdict → ⊥)) }
 {
-    if kind != kind_of_part(part) {
+    if line.kind != kind_of_part(part) {
         return Ok(false);
     }
     match part {
@@ -44,16 +40,29 @@ pub(crate) fn part_follows(
             head,
             body,
             ..
-        } => Ok(block_follows(context, frame, *any, head, body, cites, verdict)),
+        } => {
+            let on_rows = RowsBody {
+                frame: line.frame,
+                site: body.site,
+                any: *any,
+                version: context.version,
+            };
+            Ok(block_follows(context, head, on_rows, line.cites, verdict))
+        }
         Part::When { cond, body, .. } => {
-            let lines = context.lines;
-            Ok(guarded_follows(lines, frame, Some(cond.site), body.site, cites, verdict))
+            let guarded = GuardedBody {
+                cond: Some(cond.site),
+                body: body.site,
+            };
+            Ok(guarded_follows(context.lines, line.frame, guarded, line.cites, verdict))
         }
         Part::Kinds { cond, body, .. } => {
-            let lines = context.lines;
-            let version = context.version;
             let cond = conds_site(cond);
-            Ok(kinds_follows(lines, version, frame, site, cond, body.site, cites, verdict))
+            let guarded = GuardedBody {
+                cond,
+                body: body.site,
+            };
+            Ok(kinds_follows(context.lines, line, guarded, verdict))
         }
         Part::Test {
             any,
@@ -62,26 +71,24 @@ pub(crate) fn part_follows(
             not,
             right,
             ..
-        } => test_follows(
-            alloc, context, frame, *any, left, *op, *not, right, cites, verdict,
-        ),
-        Part::Refer { not, .. } => Ok(reference_follows(
-            context.store.file,
-            context.lines,
-            site,
-            *not,
-            cites,
-            verdict,
-        )),
-        Part::Call { not, .. } => Ok(call_follows(
-            context.store.file,
-            context.lines,
-            frame,
-            site,
-            *not,
-            cites,
-            verdict,
-        )),
+        } => {
+            let asked = AskedTest {
+                any: *any,
+                left,
+                op: *op,
+                not: *not,
+                right,
+            };
+            test_follows(context, line, asked, verdict)
+        }
+        Part::Refer { not, .. } => {
+            let file = context.store.file;
+            Ok(reference_follows(file, context.lines, line, *not, verdict))
+        }
+        Part::Call { not, .. } => {
+            let file = context.store.file;
+            Ok(call_follows(file, context.lines, line, *not, verdict))
+        }
     }
 }
 
@@ -102,49 +109,48 @@ fn kind_of_part(part: &Part) -> LineKind
 /// Whether the line of a block follows.
 fn block_follows(
     context: &LineContext<'_, '_, '_>,
-    frame: u64,
-    any: bool,
     head: &Query,
-    body: &Body,
+    body: RowsBody,
     cites: &[u64],
     verdict: Verdict,
 ) -> bool
-    ensures { MatchBool result
-        (FollowsBlock (known_of context.now) (lines_of context.now) frame any (block_stop any (version_of context.now)) (see_query head.now) (see_body body.now) cites.now verdict)
-        (FollowsBlock (known_of context.now) (lines_of context.now) frame any (block_stop any (version_of context.now)) (see_query head.now) (see_body body.now) cites.now verdict → ⊥) }
+    ensures { (b : sx.Body) → body.site ≡ body_site b → MatchBool result
+        (FollowsBlock (known_of context.now) (lines_of context.now) body.frame body.any (block_stop body.any body.version) (see_query head.now) b cites.now verdict)
+        (FollowsBlock (known_of context.now) (lines_of context.now) body.frame body.any (block_stop body.any body.version) (see_query head.now) b cites.now verdict → ⊥) }
 {
     let Some((first, others)) = cites.split_first() else {
         return false;
     };
-    match given_by_query(context.store.file, context.lines, frame, head, *first) {
-        Some(rows) => {
-            let lines = context.lines;
-            let version = context.version;
-            body_follows_on(lines, version, frame, any, body.site, rows, others, verdict)
-        }
+    match given_by_query(context.store.file, context.lines, body.frame, head, *first) {
+        Some(rows) => body_follows_on(context.lines, body, rows, others, verdict),
         None => false,
     }
 }
 
-/// Whether a verdict follows that the body of a site has under conditions, if there are some: of a `when` block, or of a
-/// rule.
+/// A body under conditions, if there are some, by their sites.
+#[derive(Clone, Copy)]
+struct GuardedBody {
+    cond: Option<u32>,
+    body: u32,
+}
+
+/// Whether a verdict follows that a body has under conditions: of a `when` block, or of a rule.
 fn guarded_follows(
     lines: &[Line],
     frame: u64,
-    cond: Option<u32>,
-    body: u32,
+    guarded: GuardedBody,
     cites: &[u64],
     verdict: Verdict,
 ) -> bool
-    ensures { (known : StoreModel) → (conds : sx.OptConds) → (b : sx.Body) → cond ≡ opt_conds_site conds → body ≡ body_site b → MatchBool result
+    ensures { (known : StoreModel) → (conds : sx.OptConds) → (b : sx.Body) → guarded.cond ≡ opt_conds_site conds → guarded.body ≡ body_site b → MatchBool result
         (UnderSome known lines.now frame conds (FollowsBody known lines.now frame b) cites.now verdict)
         (UnderSome known lines.now frame conds (FollowsBody known lines.now frame b) cites.now verdict → ⊥) }
 {
-    let Some(guard) = conditions(lines, frame, cond, cites) else {
+    let Some(guard) = conditions(lines, frame, guarded.cond, cites) else {
         return false;
     };
     match guard.said {
-        Verdict::Pass => body_follows(lines, frame, body, guard.left, verdict),
+        Verdict::Pass => body_follows(lines, frame, guarded.body, guard.left, verdict),
         _ => ends_with(guard.left, Verdict::Skip, verdict),
     }
 }
@@ -152,46 +158,47 @@ fn guarded_follows(
 /// Whether the line of a type block follows.
 fn kinds_follows(
     lines: &[Line],
-    version: Version,
-    frame: u64,
-    site: u32,
-    cond: Option<u32>,
-    body: u32,
-    cites: &[u64],
+    line: SitedLine<'_>,
+    guarded: GuardedBody,
     verdict: Verdict,
 ) -> bool
-    ensures { (known : StoreModel) → (conds : sx.OptConds) → (b : sx.Body) → cond ≡ opt_conds_site conds → body ≡ body_site b → MatchBool result
-        (UnderSome known lines.now frame conds (FollowsTyped known lines.now frame site b) cites.now verdict)
-        (UnderSome known lines.now frame conds (FollowsTyped known lines.now frame site b) cites.now verdict → ⊥) }
+    ensures { (known : StoreModel) → (conds : sx.OptConds) → (b : sx.Body) → guarded.cond ≡ opt_conds_site conds → guarded.body ≡ body_site b → MatchBool result
+        (UnderSome known lines.now line.entry.frame conds (FollowsTyped known lines.now line.entry.frame line.entry.site b) line.entry.cites.now verdict)
+        (UnderSome known lines.now line.entry.frame conds (FollowsTyped known lines.now line.entry.frame line.entry.site b) line.entry.cites.now verdict → ⊥) }
 {
-    let Some(guard) = conditions(lines, frame, cond, cites) else {
+    let Some(guard) = conditions(lines, line.frame, guarded.cond, line.cites) else {
         return false;
     };
     match guard.said {
-        Verdict::Pass => typed_follows(lines, version, frame, site, body, guard.left, verdict),
+        Verdict::Pass => typed_follows(lines, line, guarded.body, guard.left, verdict),
         _ => ends_with(guard.left, Verdict::Skip, verdict),
     }
 }
 
-/// Whether the verdict of a type block's body on its rows follows.
+/// Whether the verdict of a type block's body on its rows follows, from the cites behind that of its conditions.
 fn typed_follows(
     lines: &[Line],
-    version: Version,
-    frame: u64,
-    site: u32,
+    line: SitedLine<'_>,
     body: u32,
     cites: &[u64],
     verdict: Verdict,
 ) -> bool
     ensures { (known : StoreModel) → (b : sx.Body) → body ≡ body_site b → MatchBool result
-        (FollowsTyped known lines.now frame site b cites.now verdict)
-        (FollowsTyped known lines.now frame site b cites.now verdict → ⊥) }
+        (FollowsTyped known lines.now line.entry.frame line.entry.site b cites.now verdict)
+        (FollowsTyped known lines.now line.entry.frame line.entry.site b cites.now verdict → ⊥) }
 {
     let Some((first, others)) = cites.split_first() else {
         return false;
     };
-    match rows_said(lines, *first, LineKind::Types, frame, site) {
-        Some(rows) => body_follows_on(lines, version, frame, false, body, rows, others, verdict),
+    // Nothing decides a type block, in either version.
+    let on_rows = RowsBody {
+        frame: line.frame,
+        site: body,
+        any: false,
+        version: Version::One,
+    };
+    match rows_said(lines, *first, LineKind::Types, line.frame, line.site) {
+        Some(rows) => body_follows_on(lines, on_rows, rows, others, verdict),
         None => false,
     }
 }
@@ -211,14 +218,12 @@ pub(crate) fn rule_follows(
     if !rule.params.as_slice().is_empty() {
         return false;
     }
-    guarded_follows(
-        lines,
-        frame,
-        conds_site(&rule.cond),
-        rule.body.site,
-        cites,
-        verdict,
-    )
+    let cond = conds_site(&rule.cond);
+    let guarded = GuardedBody {
+        cond,
+        body: rule.body.site,
+    };
+    guarded_follows(lines, frame, guarded, cites, verdict)
 }
 
 /// The site of conditions, if there are some.

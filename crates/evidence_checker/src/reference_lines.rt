@@ -13,6 +13,7 @@ ghost use Rattle.rule_meaning.specs.Verdicts as judged;
 use crate::bodies::said_within;
 use evidence_lines::{Line, LineKind};
 use evidence_lookups::frames::called_body;
+use evidence_lookups::line_context::SitedLine;
 use evidence_lookups::lookup::{line_of, verdict_said};
 use guard_syntax::Verdict;
 use rule_names::RuleFile;
@@ -21,19 +22,18 @@ use rule_names::RuleFile;
 pub(crate) fn reference_follows(
     file: &RuleFile,
     lines: &[Line],
-    site: u32,
+    line: SitedLine<'_>,
     not: bool,
-    cites: &[u64],
     verdict: Verdict,
 ) -> bool
     ensures { (known : StoreModel) → known.file ≡ file_of file.now → (n : ℕ) → (name : List ℕ) → (message : Option (List ℕ)) → MatchBool result
-        (FollowsRefer known lines.now site (refer n not name message) cites.now verdict)
-        (FollowsRefer known lines.now site (refer n not name message) cites.now verdict → ⊥) }
+        (FollowsRefer known lines.now line.entry.site (refer n not name message) line.entry.cites.now verdict)
+        (FollowsRefer known lines.now line.entry.site (refer n not name message) line.entry.cites.now verdict → ⊥) }
 {
-    let Some(rule) = file.target(site) else {
+    let Some(rule) = file.target(line.site) else {
         return false;
     };
-    match cites {
+    match line.cites {
         [number] => {
             match rule_said(lines, *number, rule) {
                 Some(said) => verdict == referred(not, said),
@@ -58,22 +58,20 @@ fn rule_said(lines: &[Line], number: u64, site: u32) -> Option<Verdict>
 pub(crate) fn call_follows(
     file: &RuleFile,
     lines: &[Line],
-    frame: u64,
-    site: u32,
+    line: SitedLine<'_>,
     not: bool,
-    cites: &[u64],
     verdict: Verdict,
 ) -> bool
     ensures { (known : StoreModel) → known.file ≡ file_of file.now → (n : ℕ) → (name : List ℕ) → (args : Exprs) → (message : Option (List ℕ)) → MatchBool result
-        (FollowsCall known lines.now frame site (call n not name args message) cites.now verdict)
-        (FollowsCall known lines.now frame site (call n not name args message) cites.now verdict → ⊥) }
+        (FollowsCall known lines.now line.entry.frame line.entry.site (call n not name args message) line.entry.cites.now verdict)
+        (FollowsCall known lines.now line.entry.frame line.entry.site (call n not name args message) line.entry.cites.now verdict → ⊥) }
 {
-    let Some(body) = called_body(file, site) else {
+    let Some(body) = called_body(file, line.site) else {
         return false;
     };
-    match cites {
+    match line.cites {
         [number] => {
-            match said_within(lines, *number, frame, site, body.site) {
+            match said_within(lines, *number, line.frame, line.site, body.site) {
                 Some(said) => verdict == exchanged(not, said),
                 None => false,
             }

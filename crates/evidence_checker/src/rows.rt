@@ -11,61 +11,47 @@ use crate::row_equality::same_rows;
 use crate::step_rows::step_follows;
 use evidence_lines::LineKind;
 use evidence_lookups::expression_lines::expr_follows;
-use evidence_lookups::line_context::LineContext;
+use evidence_lookups::line_context::{LineContext, SitedLine};
 use evidence_lookups::lookup::value_of;
 use guard_syntax::{Part, Row};
 use query_steps::kinds;
 use rule_names::Piece;
-use std::alloc::{AllocError, Global};
+use std::alloc::AllocError;
 
 /// Whether a line of rows follows, of any kind but that of a call.
 pub(crate) fn rows_follow(
-    alloc: Global,
     context: &LineContext<'_, '_, '_>,
-    frame: u64,
-    site: u32,
-    kind: LineKind,
-    cites: &[u64],
+    line: SitedLine<'_>,
     rows: &[Row],
 ) -> Result<bool, AllocError>
-    requires other { kind ≡ LineKind.Fn → ⊥ }
+    requires other { line.kind ≡ LineKind.Fn → ⊥ }
     ensures follows { IfOk result (λ follows. MatchBool follows
-        (FollowsRows (known_of context.now) (lines_of context.now) frame site kind (piece_at (file_in context.now) site) cites.now rows.now [])
-        ((more : List Made) → FollowsRows (known_of context.now) (lines_of context.now) frame site kind (piece_at (file_in context.now) site) cites.now rows.now more → ⊥)) }
+        (FollowsRows (known_of context.now) (lines_of context.now) line.entry.frame line.entry.site line.entry.kind (piece_at (file_in context.now) line.entry.site) line.entry.cites.now rows.now [])
+        ((more : List Made) → FollowsRows (known_of context.now) (lines_of context.now) line.entry.frame line.entry.site line.entry.kind (piece_at (file_in context.now) line.entry.site) line.entry.cites.now rows.now more → ⊥)) }
     ensures known { IfOk result (λ follows. follows ≡ true → list_all (is_known (known_of context.now)) rows.now ≡ true) }
 {
-    match context.store.file.find(site) {
-        Some(Piece::Expr(expr)) => {
-            Ok(expr_follows(context, frame, site, kind, expr, cites, rows))
-        }
-        Some(Piece::Step { query, index }) => step_follows(
-            alloc, context, frame, site, kind, query, index, cites, rows,
-        ),
-        Some(Piece::Part(part)) => {
-            types_follow(alloc, context, frame, site, kind, part, cites, rows)
-        }
+    match context.store.file.find(line.site) {
+        Some(Piece::Expr(expr)) => Ok(expr_follows(context, line, expr, rows)),
+        Some(Piece::Step { query, index }) => step_follows(context, line, query, index, rows),
+        Some(Piece::Part(part)) => types_follow(context, line, part, rows),
         _ => Ok(false),
     }
 }
 
 /// Whether a line of the rows of a part follows: only a type block has rows.
 fn types_follow(
-    alloc: Global,
     context: &LineContext<'_, '_, '_>,
-    frame: u64,
-    site: u32,
-    kind: LineKind,
+    line: SitedLine<'_>,
     part: &Part,
-    cites: &[u64],
     rows: &[Row],
 ) -> Result<bool, AllocError>
-    requires placed { piece_at (file_in context.now) site ≡ Some (OfPart (see_part part.now)) }
+    requires placed { piece_at (file_in context.now) line.site ≡ Some (OfPart (see_part part.now)) }
     ensures follows { IfOk result (λ follows. MatchBool follows
-        (FollowsRows (known_of context.now) (lines_of context.now) frame site kind (Some (OfPart (see_part part.now))) cites.now rows.now [])
-        ((more : List Made) → FollowsRows (known_of context.now) (lines_of context.now) frame site kind (Some (OfPart (see_part part.now))) cites.now rows.now more → ⊥)) }
+        (FollowsRows (known_of context.now) (lines_of context.now) line.entry.frame line.entry.site line.entry.kind (Some (OfPart (see_part part.now))) line.entry.cites.now rows.now [])
+        ((more : List Made) → FollowsRows (known_of context.now) (lines_of context.now) line.entry.frame line.entry.site line.entry.kind (Some (OfPart (see_part part.now))) line.entry.cites.now rows.now more → ⊥)) }
     ensures known { IfOk result (λ follows. follows ≡ true → list_all (is_known (known_of context.now)) rows.now ≡ true) }
 {
-    match kind {
+    match line.kind {
         LineKind::Types => {}
         _ => return Ok(false),
     }
@@ -73,12 +59,18 @@ fn types_follow(
         Part::Kinds { .. } => {}
         _ => return Ok(false),
     }
-    let [] = cites else {
+    let [] = line.cites else {
         return Ok(false);
     };
-    let Some(current) = value_of(context.lines, frame) else {
+    let Some(current) = value_of(context.lines, line.frame) else {
         return Ok(false);
     };
-    let due = kinds(alloc, context.store.file, site, current, context.store)?;
+    let due = kinds(
+        context.alloc,
+        context.store.file,
+        line.site,
+        current,
+        context.store,
+    )?;
     Ok(same_rows(rows, &due))
 }

@@ -17,98 +17,87 @@ use crate::row_equality::same_rows;
 use crate::tried_candidates::tried_verdicts;
 use evidence_lines::{Line, LineKind};
 use evidence_lookups::cited_rows::given_by_step;
-use evidence_lookups::line_context::LineContext;
+use evidence_lookups::line_context::{LineContext, SitedLine};
 use evidence_lookups::lookup::value_of;
 use guard_syntax::{Conds, Query, Row, Step, StepForm};
 use query_steps::{candidates, captured, step as rows_due};
 use rule_names::RuleFile;
-use std::alloc::{AllocError, Global};
+use std::alloc::AllocError;
 
 /// Whether a line of the rows of a step follows: those that it gives, or the keys that it captures.
 pub(crate) fn step_follows(
-    alloc: Global,
     context: &LineContext<'_, '_, '_>,
-    frame: u64,
-    site: u32,
-    kind: LineKind,
+    line: SitedLine<'_>,
     query: &Query,
     index: usize,
-    cites: &[u64],
     rows: &[Row],
 ) -> Result<bool, AllocError>
-    requires placed { piece_at (file_in context.now) site ≡ Some (OfStep (see_query query.now) index) }
+    requires placed { piece_at (file_in context.now) line.site ≡ Some (OfStep (see_query query.now) index) }
     ensures follows { IfOk result (λ follows. MatchBool follows
-        (FollowsAtStep (known_of context.now) (lines_of context.now) frame site kind (see_query query.now) index (step_in (steps_in (see_query query.now)) index) cites.now rows.now)
-        (FollowsAtStep (known_of context.now) (lines_of context.now) frame site kind (see_query query.now) index (step_in (steps_in (see_query query.now)) index) cites.now rows.now → ⊥)) }
+        (FollowsAtStep (known_of context.now) (lines_of context.now) line.entry.frame line.entry.site line.entry.kind (see_query query.now) index (step_in (steps_in (see_query query.now)) index) line.entry.cites.now rows.now)
+        (FollowsAtStep (known_of context.now) (lines_of context.now) line.entry.frame line.entry.site line.entry.kind (see_query query.now) index (step_in (steps_in (see_query query.now)) index) line.entry.cites.now rows.now → ⊥)) }
     ensures known { IfOk result (λ follows. follows ≡ true → list_all (is_known (known_of context.now)) rows.now ≡ true) }
 {
     let Some(step) = query.steps.get(index) else {
         return Ok(false);
     };
+    let at = IndexedStep { query, index, step };
     match &step.form {
-        StepForm::Filter(_, conditions) => match kind {
-            LineKind::Filter => filter_follows(
-                alloc, context, frame, site, query, index, conditions, cites, rows,
-            ),
-            LineKind::Capture => capture_follows(alloc, context, frame, step, cites, rows),
+        StepForm::Filter(_, conditions) => match line.kind {
+            LineKind::Filter => filter_follows(context, line, at, conditions, rows),
+            LineKind::Capture => capture_follows(context, line, step, rows),
             _ => Ok(false),
         },
-        StepForm::Keys { .. } => match kind {
-            LineKind::Keys => other_follows(
-                alloc, context, frame, site, query, index, step, cites, rows,
-            ),
-            LineKind::Capture => capture_follows(alloc, context, frame, step, cites, rows),
+        StepForm::Keys { .. } => match line.kind {
+            LineKind::Keys => other_follows(context, line, at, rows),
+            LineKind::Capture => capture_follows(context, line, step, rows),
             _ => Ok(false),
         },
-        _ => match kind {
-            LineKind::Step => other_follows(
-                alloc, context, frame, site, query, index, step, cites, rows,
-            ),
+        _ => match line.kind {
+            LineKind::Step => other_follows(context, line, at, rows),
             _ => Ok(false),
         },
     }
 }
 
+/// The step of an index of a query.
+#[derive(Clone, Copy)]
+struct IndexedStep<'q> {
+    query: &'q Query,
+    index: usize,
+    step: &'q Step,
+}
+
 /// Whether the rows of a step that is no filter follow.
 fn other_follows(
-    alloc: Global,
     context: &LineContext<'_, '_, '_>,
-    frame: u64,
-    site: u32,
-    query: &Query,
-    index: usize,
-    step: &Step,
-    cites: &[u64],
+    line: SitedLine<'_>,
+    at: IndexedStep<'_>,
     rows: &[Row],
 ) -> Result<bool, AllocError>
-    requires placed { piece_at (file_in context.now) site ≡ Some (OfStep (see_query query.now) index) }
-    requires step { step_in (steps_in (see_query query.now)) index ≡ Some (see_step step.now) }
-    requires other { is_filter (see_step step.now) ≡ false }
+    requires placed { piece_at (file_in context.now) line.site ≡ Some (OfStep (see_query at.query.now) at.index) }
+    requires step { step_in (steps_in (see_query at.query.now)) at.index ≡ Some (see_step at.step.now) }
+    requires other { is_filter (see_step at.step.now) ≡ false }
     ensures follows { IfOk result (λ follows. MatchBool follows
-        (FollowsStep (known_of context.now) (lines_of context.now) frame site (see_query query.now) index (see_step step.now) cites.now rows.now)
-        (FollowsStep (known_of context.now) (lines_of context.now) frame site (see_query query.now) index (see_step step.now) cites.now rows.now → ⊥)) }
+        (FollowsStep (known_of context.now) (lines_of context.now) line.entry.frame line.entry.site (see_query at.entry.query.now) at.entry.index (see_step at.entry.step.now) line.entry.cites.now rows.now)
+        (FollowsStep (known_of context.now) (lines_of context.now) line.entry.frame line.entry.site (see_query at.entry.query.now) at.entry.index (see_step at.entry.step.now) line.entry.cites.now rows.now → ⊥)) }
     ensures known { IfOk result (λ follows. follows ≡ true → list_all (is_known (known_of context.now)) rows.now ≡ true) }
 {
-    let Some(current) = value_of(context.lines, frame) else {
+    let file = context.store.file;
+    let lines = context.lines;
+    let Some(current) = value_of(lines, line.frame) else {
         return Ok(false);
     };
-    let Some((before, last)) = rows_before(
-        context.store.file,
-        context.lines,
-        frame,
-        query,
-        index,
-        cites,
-    ) else {
+    let Some((before, last)) = rows_before(file, lines, line, at.query, at.index) else {
         return Ok(false);
     };
-    let Some(further) = rows_further(context.store.file, context.lines, frame, step, last) else {
+    let Some(further) = rows_further(file, lines, line.frame, at.step, last) else {
         return Ok(false);
     };
     let due = rows_due(
-        alloc,
-        context.store.file,
-        site,
+        context.alloc,
+        file,
+        line.site,
         current,
         before,
         further,
@@ -121,56 +110,45 @@ fn other_follows(
 
 /// Whether the rows of the filter of an index, which has these conditions, follow: none stands at the start of a query.
 fn filter_follows(
-    alloc: Global,
     context: &LineContext<'_, '_, '_>,
-    frame: u64,
-    site: u32,
-    query: &Query,
-    index: usize,
+    line: SitedLine<'_>,
+    at: IndexedStep<'_>,
     conditions: &Conds,
-    cites: &[u64],
     rows: &[Row],
 ) -> Result<bool, AllocError>
-    requires placed { piece_at (file_in context.now) site ≡ Some (OfStep (see_query query.now) index) }
-    requires filter { (n : ℕ) × (capture : Option Named) × (step_in (steps_in (see_query query.now)) index ≡ Some (filter n capture (see_conds conditions.now))) }
+    requires placed { piece_at (file_in context.now) line.site ≡ Some (OfStep (see_query at.query.now) at.index) }
+    requires filter { (n : ℕ) × (capture : Option Named) × (step_in (steps_in (see_query at.query.now)) at.index ≡ Some (filter n capture (see_conds conditions.now))) }
     ensures follows { IfOk result (λ follows. MatchBool follows
-        (IsLater index × FollowsFilter (known_of context.now) (lines_of context.now) frame site (see_query query.now) index (see_conds conditions.now) cites.now rows.now)
-        (IsLater index × FollowsFilter (known_of context.now) (lines_of context.now) frame site (see_query query.now) index (see_conds conditions.now) cites.now rows.now → ⊥)) }
+        (IsLater at.entry.index × FollowsFilter (known_of context.now) (lines_of context.now) line.entry.frame line.entry.site (see_query at.entry.query.now) at.entry.index (see_conds conditions.now) line.entry.cites.now rows.now)
+        (IsLater at.entry.index × FollowsFilter (known_of context.now) (lines_of context.now) line.entry.frame line.entry.site (see_query at.entry.query.now) at.entry.index (see_conds conditions.now) line.entry.cites.now rows.now → ⊥)) }
     ensures known { IfOk result (λ follows. follows ≡ true → list_all (is_known (known_of context.now)) rows.now ≡ true) }
 {
+    let index = at.index;
     if index == 0 {
         return Ok(false);
     }
-    let Some(current) = value_of(context.lines, frame) else {
+    let file = context.store.file;
+    let lines = context.lines;
+    let Some(current) = value_of(lines, line.frame) else {
         return Ok(false);
     };
-    let Some((before, last)) = rows_before(
-        context.store.file,
-        context.lines,
-        frame,
-        query,
-        index,
-        cites,
-    ) else {
+    let Some((before, last)) = rows_before(file, lines, line, at.query, index) else {
         return Ok(false);
     };
-    let tried = candidates(alloc, context.store.file, site, before, context.store)?;
-    let Some(verdicts) = tried_verdicts(
-        alloc,
-        context.lines,
-        frame,
-        site,
-        conditions,
-        &tried,
-        last,
-    )?
-    else {
+    let tried = candidates(context.alloc, file, line.site, before, context.store)?;
+    let judges = SitedLine {
+        frame: line.frame,
+        site: line.site,
+        kind: line.kind,
+        cites: last,
+    };
+    let Some(verdicts) = tried_verdicts(context.alloc, lines, judges, conditions, &tried)? else {
         return Ok(false);
     };
     let due = rows_due(
-        alloc,
-        context.store.file,
-        site,
+        context.alloc,
+        file,
+        line.site,
         current,
         before,
         &[],
@@ -183,25 +161,24 @@ fn filter_follows(
 
 /// Whether the keys that a filter or key filter captures follow.
 fn capture_follows(
-    alloc: Global,
     context: &LineContext<'_, '_, '_>,
-    frame: u64,
+    line: SitedLine<'_>,
     step: &Step,
-    cites: &[u64],
     rows: &[Row],
 ) -> Result<bool, AllocError>
     ensures follows { IfOk result (λ follows. MatchBool follows
-        (FollowsCapture (known_of context.now) (lines_of context.now) frame (see_step step.now) cites.now rows.now)
-        (FollowsCapture (known_of context.now) (lines_of context.now) frame (see_step step.now) cites.now rows.now → ⊥)) }
+        (FollowsCapture (known_of context.now) (lines_of context.now) line.entry.frame (see_step step.now) line.entry.cites.now rows.now)
+        (FollowsCapture (known_of context.now) (lines_of context.now) line.entry.frame (see_step step.now) line.entry.cites.now rows.now → ⊥)) }
     ensures known { IfOk result (λ follows. follows ≡ true → list_all (is_known (known_of context.now)) rows.now ≡ true) }
 {
-    let [number] = cites else {
+    let [number] = line.cites else {
         return Ok(false);
     };
-    let Some(kept) = given_by_step(context.store.file, context.lines, frame, step, *number) else {
+    let file = context.store.file;
+    let Some(kept) = given_by_step(file, context.lines, line.frame, step, *number) else {
         return Ok(false);
     };
-    let due = captured(alloc, kept, context.store)?;
+    let due = captured(context.alloc, kept, context.store)?;
     Ok(same_rows(rows, &due))
 }
 
@@ -210,15 +187,15 @@ fn capture_follows(
 fn rows_before<'b>(
     file: &RuleFile,
     lines: &'b [Line],
-    frame: u64,
+    line: SitedLine<'b>,
     query: &Query,
     index: usize,
-    cites: &'b [u64],
 ) -> Option<(&'b [Row], &'b [u64])>
     ensures { (known : StoreModel) → known.file ≡ file_of file.now → MatchOption result
-        ((first last : List ℕ) → (rows : List row.Row) → cites.entry.now ≡ first ++ last → GivesBefore known lines.entry.now frame (see_query query.now) index first rows → ⊥)
-        (λ found. (first : List ℕ) × (cites.entry.now ≡ first ++ found.1.now) × GivesBefore known lines.entry.now frame (see_query query.now) index first found.0.now) }
+        ((first last : List ℕ) → (rows : List row.Row) → line.entry.cites.now ≡ first ++ last → GivesBefore known lines.entry.now line.entry.frame (see_query query.now) index first rows → ⊥)
+        (λ found. (first : List ℕ) × (line.entry.cites.now ≡ first ++ found.1.now) × GivesBefore known lines.entry.now line.entry.frame (see_query query.now) index first found.0.now) }
 {
+    let cites = line.cites;
     if index == 0 {
         return Some((&[], cites));
     }
@@ -228,7 +205,7 @@ fn rows_before<'b>(
     let Some(step) = query.steps.get(index - 1) else {
         return None;
     };
-    let Some(rows) = given_by_step(file, lines, frame, step, *number) else {
+    let Some(rows) = given_by_step(file, lines, line.frame, step, *number) else {
         return None;
     };
     Some((rows, last))

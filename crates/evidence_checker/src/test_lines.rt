@@ -18,40 +18,44 @@ use crate::one_cite::expr_cited;
 use evidence_lines::Line;
 use evidence_lookups::cited_rows::given_by_query;
 use evidence_lookups::expression_lines::is_found;
-use evidence_lookups::line_context::LineContext;
+use evidence_lookups::line_context::{LineContext, SitedLine};
 use guard_syntax::{Expr, Op, Query, Row, Step, StepForm, Verdict};
 use query_steps::row_passes;
 use rule_names::RuleFile;
-use std::alloc::{AllocError, Global};
+use std::alloc::AllocError;
+
+/// What a test asks.
+#[derive(Clone, Copy)]
+pub(crate) struct AskedTest<'p> {
+    pub any: bool,
+    pub left: &'p Query,
+    pub op: Op,
+    pub not: bool,
+    pub right: &'p Option<Expr>,
+}
 
 /// Whether the line of a test follows, from the rows of its left side and of its right side, if it has one.
 pub(crate) fn test_follows(
-    alloc: Global,
     context: &LineContext<'_, '_, '_>,
-    frame: u64,
-    any: bool,
-    left: &Query,
-    op: Op,
-    not: bool,
-    right: &Option<Expr>,
-    cites: &[u64],
+    line: SitedLine<'_>,
+    asks: AskedTest<'_>,
     verdict: Verdict,
 ) -> Result<bool, AllocError>
     ensures { (n : ℕ) → (message : Option (List ℕ)) → IfOk result (λ follows. MatchBool follows
-        (FollowsTest (known_of context.now) (lines_of context.now) frame (test n any (see_query left.now) op not (see_opt_expr right.now) message) cites.now verdict)
-        (FollowsTest (known_of context.now) (lines_of context.now) frame (test n any (see_query left.now) op not (see_opt_expr right.now) message) cites.now verdict → ⊥)) }
+        (FollowsTest (known_of context.now) (lines_of context.now) line.entry.frame (test n asks.entry.any (see_query asks.entry.left.now) asks.entry.op asks.entry.not (see_opt_expr asks.entry.right.now) message) line.entry.cites.now verdict)
+        (FollowsTest (known_of context.now) (lines_of context.now) line.entry.frame (test n asks.entry.any (see_query asks.entry.left.now) asks.entry.op asks.entry.not (see_opt_expr asks.entry.right.now) message) line.entry.cites.now verdict → ⊥)) }
 {
-    let Some((first, others)) = cites.split_first() else {
+    let Some((first, others)) = line.cites.split_first() else {
         return Ok(false);
     };
-    let Some(lefts) = given_by_query(context.store.file, context.lines, frame, left, *first) else {
+    let file = context.store.file;
+    let Some(lefts) = given_by_query(file, context.lines, line.frame, asks.left, *first) else {
         return Ok(false);
     };
-    let Some(rights) = given_at_right(context.store.file, context.lines, frame, right, others)
-    else {
+    let Some(rights) = given_at_right(file, context.lines, line.frame, asks.right, others) else {
         return Ok(false);
     };
-    let said = test_of_rows(alloc, context, any, left, op, not, lefts, rights)?;
+    let said = test_of_rows(context, asks, lefts, rights)?;
     Ok(verdict == said)
 }
 
@@ -79,28 +83,24 @@ fn given_at_right<'b>(
 /// The verdict of a test on rows. `empty` on a set looks at the rows together, any other test at each row, and is SKIP where
 /// there is none.
 fn test_of_rows(
-    alloc: Global,
     context: &LineContext<'_, '_, '_>,
-    any: bool,
-    left: &Query,
-    op: Op,
-    not: bool,
+    asks: AskedTest<'_>,
     lefts: &[Row],
     rights: &[Row],
 ) -> Result<Verdict, AllocError>
     requires lefts { list_all (is_known (known_of context.now)) lefts.now ≡ true }
     requires rights { list_all (is_known (known_of context.now)) rights.now ≡ true }
-    ensures { IfOk result (λ v. v ≡ (if asked.is_empty_test op && asked.is_set (see_query left.now)
-        then set_verdict not lefts.now
-        else test_verdict any (passes (known_of context.now) op not rights.now) lefts.now)) }
+    ensures { IfOk result (λ v. v ≡ (if asked.is_empty_test asks.entry.op && asked.is_set (see_query asks.entry.left.now)
+        then set_verdict asks.entry.not lefts.now
+        else test_verdict asks.entry.any (passes (known_of context.now) asks.entry.op asks.entry.not rights.now) lefts.now)) }
 {
-    if is_set_test(op, left) {
-        return Ok(verdict_of_set(not, lefts));
+    if is_set_test(asks.op, asks.left) {
+        return Ok(verdict_of_set(asks.not, lefts));
     }
     if lefts.is_empty() {
         return Ok(Verdict::Skip);
     }
-    Ok(pass_if(holds_of_rows(alloc, context, any, op, not, lefts, rights)?))
+    Ok(pass_if(holds_of_rows(context, asks, lefts, rights)?))
 }
 
 /// Whether a test asks if a set is empty.
@@ -165,21 +165,27 @@ fn one_is_found(rows: &[Row]) -> bool
 
 /// Whether a test on left rows against right rows holds: with `some` one left row that passes is enough.
 fn holds_of_rows(
-    alloc: Global,
     context: &LineContext<'_, '_, '_>,
-    any: bool,
-    op: Op,
-    not: bool,
+    asks: AskedTest<'_>,
     lefts: &[Row],
     rights: &[Row],
 ) -> Result<bool, AllocError>
     requires lefts { list_all (is_known (known_of context.now)) lefts.now ≡ true }
     requires rights { list_all (is_known (known_of context.now)) rights.now ≡ true }
-    ensures { IfOk result (λ p. p ≡ holds_for any (passes (known_of context.now) op not rights.now) lefts.now) }
+    ensures { IfOk result (λ p. p ≡ holds_for asks.entry.any (passes (known_of context.now) asks.entry.op asks.entry.not rights.now) lefts.now) }
 {
+    let any = asks.any;
     for left in lefts {
         // With `some` a row that passes decides, else a row that fails.
-        let passes = row_passes(alloc, op, not, left, rights, context.store, context.book)?;
+        let passes = row_passes(
+            context.alloc,
+            asks.op,
+            asks.not,
+            left,
+            rights,
+            context.store,
+            context.book,
+        )?;
         if passes == any {
             return Ok(any);
         }

@@ -6,31 +6,35 @@ ghost use Rattle.rule_meaning.specs.StoreModel.{StoreModel};
 ghost use Rattle.evidence_rules.specs.Follows.{SayEach, SaysCandidate};
 
 use evidence_lines::Line;
-use evidence_lookups::body_frames::framed_verdict;
+use evidence_lookups::body_frames::{ValueFrame, framed_verdict};
+use evidence_lookups::line_context::SitedLine;
 use guard_syntax::{Conds, Ref, Verdict};
 use std::alloc::{AllocError, Global};
 
-/// The verdict of the conditions of the filter of a site for each value, if there is one line for each, in order.
+/// The verdict of the conditions of a line's filter for each value, if the line cites one line for each, in order.
 pub(crate) fn tried_verdicts(
     alloc: Global,
     lines: &[Line],
-    frame: u64,
-    site: u32,
+    line: SitedLine<'_>,
     conditions: &Conds,
     values: &[Ref],
-    cites: &[u64],
 ) -> Result<Option<Vec<Verdict>>, AllocError>
     ensures { (known : StoreModel) → IfOk result (λ said. MatchOption said
-        ((verdicts : List row.Verdict) → SayEach known lines.now (SaysCandidate known lines.now frame site (see_conds conditions.now)) values.now cites.now verdicts → ⊥)
-        (λ verdicts. SayEach known lines.now (SaysCandidate known lines.now frame site (see_conds conditions.now)) values.now cites.now verdicts.items)) }
+        ((verdicts : List row.Verdict) → SayEach known lines.now (SaysCandidate known lines.now line.entry.frame line.entry.site (see_conds conditions.now)) values.now line.entry.cites.now verdicts → ⊥)
+        (λ verdicts. SayEach known lines.now (SaysCandidate known lines.now line.entry.frame line.entry.site (see_conds conditions.now)) values.now line.entry.cites.now verdicts.items)) }
 {
+    let cites = line.cites;
     let mut verdicts = Vec::new(alloc);
     if values.len() != cites.len() {
         return Ok(None);
     }
     for (i, value) in values.iter().enumerate() {
-        let Some(verdict) = framed_verdict(lines, cites[i], frame, site, *value, conditions.site)
-        else {
+        let within = ValueFrame {
+            frame: line.frame,
+            site: line.site,
+            value: *value,
+        };
+        let Some(verdict) = framed_verdict(lines, cites[i], within, conditions.site) else {
             return Ok(None);
         };
         verdicts.push(verdict)?;

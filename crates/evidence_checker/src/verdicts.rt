@@ -8,7 +8,7 @@ ghost use Rattle.rule_names.specs.Pieces.{piece_at};
 ghost use Rattle.rule_names.specs.code.Seen.{see_piece};
 ghost use Rattle.rule_names.specs.ReferenceGraph.{part_site};
 ghost use Rattle.evidence_rules.specs.CitedLines.{IsLine};
-ghost use Rattle.evidence_rules.specs.Follows.{FollowsConj, FollowsDisj, FollowsLoose, FollowsVerdict, IsNewRule, SayDisjs, SayParts, SaysVerdict, kind_of_part};
+ghost use Rattle.evidence_rules.specs.Follows.{FollowsConj, FollowsDisj, FollowsLoose, FollowsVerdict, SayDisjs, SayParts, SaysVerdict, kind_of_part};
 ghost use Rattle.rule_meaning.specs.StoreModel.{StoreModel};
 ghost use Rattle.rule_meaning.specs.Verdicts.{conjunction, disjunction};
 ghost use Rattle.evidence_lookups.specs.code.Grounds.{file_in, known_of, lines_of, version_of};
@@ -18,40 +18,31 @@ use crate::parts::{part_follows, rule_follows};
 use crate::stops::{conds_stop, disj_stop, is_stop};
 use evidence_lines::{Line, LineKind};
 use evidence_lookups::frames::is_file_frame;
-use evidence_lookups::line_context::LineContext;
+use evidence_lookups::line_context::{LineContext, SitedLine};
 use evidence_lookups::lookup::verdict_said;
 use guard_syntax::{Disj, Part, Verdict};
 use rule_names::Piece;
-use std::alloc::{AllocError, Global};
+use std::alloc::AllocError;
 
-/// Whether a line of a verdict follows; `new` is whether no earlier `rule` line has its site, and is asked for at `rule`
-/// lines alone.
+/// Whether a line of a verdict follows.
 pub(crate) fn verdict_follows(
-    alloc: Global,
     context: &LineContext<'_, '_, '_>,
-    new: bool,
-    frame: u64,
-    site: u32,
-    kind: LineKind,
-    cites: &[u64],
+    line: SitedLine<'_>,
     verdict: Verdict,
 ) -> Result<bool, AllocError>
-    requires new { kind ≡ LineKind.Rule → MatchBool new (IsNewRule (known_of context.now) (lines_of context.now) site) (IsNewRule (known_of context.now) (lines_of context.now) site → ⊥) }
     ensures { IfOk result (λ follows. MatchBool follows
-        (FollowsVerdict (version_of context.now) (known_of context.now) (lines_of context.now) frame site kind (piece_at (file_in context.now) site) cites.now verdict)
-        (FollowsVerdict (version_of context.now) (known_of context.now) (lines_of context.now) frame site kind (piece_at (file_in context.now) site) cites.now verdict → ⊥)) }
+        (FollowsVerdict (version_of context.now) (known_of context.now) (lines_of context.now) line.entry.frame line.entry.site line.entry.kind (piece_at (file_in context.now) line.entry.site) line.entry.cites.now verdict)
+        (FollowsVerdict (version_of context.now) (known_of context.now) (lines_of context.now) line.entry.frame line.entry.site line.entry.kind (piece_at (file_in context.now) line.entry.site) line.entry.cites.now verdict → ⊥)) }
 {
-    let Some(piece) = context.store.file.find(site) else {
+    let Some(piece) = context.store.file.find(line.site) else {
         return Ok(false);
     };
-    match kind {
-        LineKind::Rule => Ok(rule_line_follows(context, new, frame, site, piece, cites, verdict)),
-        LineKind::Conj => Ok(conj_line_follows(context, frame, site, piece, cites, verdict)),
-        LineKind::Disj => Ok(disj_line_follows(context, frame, site, piece, cites, verdict)),
+    match line.kind {
+        LineKind::Rule => Ok(rule_line_follows(context, line, piece, verdict)),
+        LineKind::Conj => Ok(conj_line_follows(context, line, piece, verdict)),
+        LineKind::Disj => Ok(disj_line_follows(context, line, piece, verdict)),
         _ => match piece {
-            Piece::Part(part) => {
-                part_follows(alloc, context, frame, site, kind, part, cites, verdict)
-            }
+            Piece::Part(part) => part_follows(context, line, part, verdict),
             _ => Ok(false),
         },
     }
@@ -61,28 +52,25 @@ pub(crate) fn verdict_follows(
 /// its site, in the frame of the file.
 fn rule_line_follows(
     context: &LineContext<'_, '_, '_>,
-    new: bool,
-    frame: u64,
-    site: u32,
+    line: SitedLine<'_>,
     piece: Piece<'_>,
-    cites: &[u64],
     verdict: Verdict,
 ) -> bool
-    requires new { MatchBool new (IsNewRule (known_of context.now) (lines_of context.now) site) (IsNewRule (known_of context.now) (lines_of context.now) site → ⊥) }
     ensures { MatchBool result
-        (FollowsVerdict (version_of context.now) (known_of context.now) (lines_of context.now) frame site kind.Rule (Some (see_piece piece.entry)) cites.now verdict)
-        (FollowsVerdict (version_of context.now) (known_of context.now) (lines_of context.now) frame site kind.Rule (Some (see_piece piece.entry)) cites.now verdict → ⊥) }
+        (FollowsVerdict (version_of context.now) (known_of context.now) (lines_of context.now) line.entry.frame line.entry.site kind.Rule (Some (see_piece piece.entry)) line.entry.cites.now verdict)
+        (FollowsVerdict (version_of context.now) (known_of context.now) (lines_of context.now) line.entry.frame line.entry.site kind.Rule (Some (see_piece piece.entry)) line.entry.cites.now verdict → ⊥) }
 {
+    let new = context.judged.verdict(line.site).is_none();
     if !new {
         return false;
     }
-    if !is_file_frame(context, frame) {
+    if !is_file_frame(context, line.frame) {
         return false;
     }
     let loose = &context.store.file.raw.loose;
     match piece {
-        Piece::Rule(rule) => rule_follows(context.lines, frame, rule, cites, verdict),
-        Piece::File => loose_follows(context.lines, frame, loose, cites, verdict),
+        Piece::Rule(rule) => rule_follows(context.lines, line.frame, rule, line.cites, verdict),
+        Piece::File => loose_follows(context.lines, line.frame, loose, line.cites, verdict),
         _ => false,
     }
 }
@@ -90,26 +78,24 @@ fn rule_line_follows(
 /// Whether a `conj` line follows: of a body, of conditions, or of the parts outside rules.
 fn conj_line_follows(
     context: &LineContext<'_, '_, '_>,
-    frame: u64,
-    site: u32,
+    line: SitedLine<'_>,
     piece: Piece<'_>,
-    cites: &[u64],
     verdict: Verdict,
 ) -> bool
     ensures { MatchBool result
-        (FollowsVerdict (version_of context.now) (known_of context.now) (lines_of context.now) frame site kind.Conj (Some (see_piece piece.entry)) cites.now verdict)
-        (FollowsVerdict (version_of context.now) (known_of context.now) (lines_of context.now) frame site kind.Conj (Some (see_piece piece.entry)) cites.now verdict → ⊥) }
+        (FollowsVerdict (version_of context.now) (known_of context.now) (lines_of context.now) line.entry.frame line.entry.site kind.Conj (Some (see_piece piece.entry)) line.entry.cites.now verdict)
+        (FollowsVerdict (version_of context.now) (known_of context.now) (lines_of context.now) line.entry.frame line.entry.site kind.Conj (Some (see_piece piece.entry)) line.entry.cites.now verdict → ⊥) }
 {
     let lines = context.lines;
     match piece {
-        Piece::Body(body) => conj_follows(lines, frame, None, &body.parts, cites, verdict),
+        Piece::Body(body) => conj_follows(lines, line, None, &body.parts, verdict),
         Piece::Conds(conds) => {
             let stop = conds_stop(context.version);
-            conj_follows(lines, frame, stop, &conds.parts, cites, verdict)
+            conj_follows(lines, line, stop, &conds.parts, verdict)
         }
         Piece::File => {
             let loose = &context.store.file.raw.loose;
-            conj_follows(lines, frame, None, loose, cites, verdict)
+            conj_follows(lines, line, None, loose, verdict)
         }
         _ => false,
     }
@@ -118,20 +104,18 @@ fn conj_line_follows(
 /// Whether a `disj` line follows.
 fn disj_line_follows(
     context: &LineContext<'_, '_, '_>,
-    frame: u64,
-    site: u32,
+    line: SitedLine<'_>,
     piece: Piece<'_>,
-    cites: &[u64],
     verdict: Verdict,
 ) -> bool
     ensures { MatchBool result
-        (FollowsVerdict (version_of context.now) (known_of context.now) (lines_of context.now) frame site kind.Disj (Some (see_piece piece.entry)) cites.now verdict)
-        (FollowsVerdict (version_of context.now) (known_of context.now) (lines_of context.now) frame site kind.Disj (Some (see_piece piece.entry)) cites.now verdict → ⊥) }
+        (FollowsVerdict (version_of context.now) (known_of context.now) (lines_of context.now) line.entry.frame line.entry.site kind.Disj (Some (see_piece piece.entry)) line.entry.cites.now verdict)
+        (FollowsVerdict (version_of context.now) (known_of context.now) (lines_of context.now) line.entry.frame line.entry.site kind.Disj (Some (see_piece piece.entry)) line.entry.cites.now verdict → ⊥) }
 {
     match piece {
         Piece::Disj(disj) => {
             let stop = disj_stop(context.version);
-            disj_follows(context.lines, frame, stop, disj, cites, verdict)
+            disj_follows(context.lines, line, stop, disj, verdict)
         }
         _ => false,
     }
@@ -173,17 +157,16 @@ fn is_said(lines: &[Line], number: u64, frame: u64, verdict: Verdict) -> bool
 /// Whether a verdict is the conjunction of what cited lines say of disjunctions, up to the one that decides.
 fn conj_follows(
     lines: &[Line],
-    frame: u64,
+    line: SitedLine<'_>,
     stop: Option<Verdict>,
     disjs: &[Disj],
-    cites: &[u64],
     verdict: Verdict,
 ) -> bool
     ensures { (known : StoreModel) → MatchBool result
-        (FollowsConj known lines.now frame stop (disj_list (map see_disj disjs.now)) cites.now verdict)
-        (FollowsConj known lines.now frame stop (disj_list (map see_disj disjs.now)) cites.now verdict → ⊥) }
+        (FollowsConj known lines.now line.entry.frame stop (disj_list (map see_disj disjs.now)) line.entry.cites.now verdict)
+        (FollowsConj known lines.now line.entry.frame stop (disj_list (map see_disj disjs.now)) line.entry.cites.now verdict → ⊥) }
 {
-    match conjunction_said(lines, frame, stop, disjs, cites) {
+    match conjunction_said(lines, line.frame, stop, disjs, line.cites) {
         Some(said) => is_same(said, verdict),
         None => false,
     }
@@ -192,17 +175,16 @@ fn conj_follows(
 /// Whether a verdict is the disjunction of what cited lines say of the parts of a disjunction, up to the one that decides.
 fn disj_follows(
     lines: &[Line],
-    frame: u64,
+    line: SitedLine<'_>,
     stop: Option<Verdict>,
     disj: &Disj,
-    cites: &[u64],
     verdict: Verdict,
 ) -> bool
     ensures { (known : StoreModel) → MatchBool result
-        (FollowsDisj known lines.now frame stop (see_disj disj.now) cites.now verdict)
-        (FollowsDisj known lines.now frame stop (see_disj disj.now) cites.now verdict → ⊥) }
+        (FollowsDisj known lines.now line.entry.frame stop (see_disj disj.now) line.entry.cites.now verdict)
+        (FollowsDisj known lines.now line.entry.frame stop (see_disj disj.now) line.entry.cites.now verdict → ⊥) }
 {
-    match disjunction_said(lines, frame, stop, &disj.parts, cites) {
+    match disjunction_said(lines, line.frame, stop, &disj.parts, line.cites) {
         Some(said) => is_same(said, verdict),
         None => false,
     }

@@ -13,7 +13,7 @@ use Rattle.evidence_rules.specs.CitedLines.{args_of_part, scope_of_step, value_o
 use Rattle.evidence_rules.specs.Follows.{IsFrameOf, IsFrameOfPart, IsFrameOfStep}
 use Rattle.evidence_lookups.specs.declared.owners.Owner.{Owner}
 use Rattle.evidence_lookups.specs.declared.owners.Owners.{Owners}
-use Rattle.evidence_lookups.specs.code.Owned.{AreOwners, HasOwned, IsOwned, marks_of}
+use Rattle.evidence_lookups.specs.code.Owned.{MarkOwned, HasOwned, IsOwned, marks_of}
 use Rattle.evidence_lookups.specs.code.Said.{AreSound}
 use Rattle.evidence_lookups.proofs.SaidKnown.{value-said-known}
 use Rattle.evidence_lookups.proofs.ValuesKnown.{owner-is, owner-not, root-known}
@@ -25,7 +25,7 @@ known-test false known is = λ there. true≢false (sym (is ∙ there))
 
 -- ---- bodies, by whose they are
 
-module _ (known : StoreModel) (lines : List Line) (owners : Owners) (o : Owner) (site : ℕ) (b : Body) (owns : Bool) (are : AreOwners known.file owners)
+module _ (known : StoreModel) (lines : List Line) (owners : Owners) (o : Owner) (site : ℕ) (b : Body) (owns : Bool) (are : MarkOwned known.file owners)
     (placed : piece_at known.file site ≡ Some (OfBody (see_body b))) (marked : owns ≡ slice_index_or (marks_of owners o) (out-Body b).site false) (frame : ℕ) (v : Ref) where
   pub not-owned : owns ≡ false → IsOwned known lines o (see_body b) × HasOwned known lines o frame v → ⊥
   not-owned fails h = owner-not known lines owners o site b owns are placed marked fails h.0

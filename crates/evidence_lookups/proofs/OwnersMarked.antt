@@ -17,7 +17,7 @@ use Rattle.evidence_rules.specs.Follows.{IsBlockBody, IsRuleBody, IsWhenBody}
 use Rattle.evidence_lookups.specs.declared.owners.Owner.{Owner}
 use Rattle.evidence_lookups.specs.declared.owners.Owner.TheVariants as owner
 use Rattle.evidence_lookups.specs.declared.owners.Owners.{Owners}
-use Rattle.evidence_lookups.specs.code.Owned.{AreMarked, AreOwners, IsOwned, marks_upto, owned_by, plain_body, with_mark}
+use Rattle.evidence_lookups.specs.code.Owned.{AreMarked, AreOwners, MarkOwned, IsOwned, marks_upto, owned_by, plain_body, with_mark}
 use Rattle.evidence_lookups.proofs.OwnersStand.{Own, behind, last-of, piece-owned, rule-stands}
 use Rattle.rule_names.proofs.PiecesFound.{piece-found}
 use Rattle.evidence_lookups.proofs.SitesFound.{body-found, rule-found}
@@ -191,12 +191,16 @@ are-marked f o order known lines site b same there =
     subst (λ (g : File). AreInOrder g → piece_at g site ≡ Some (OfBody b) → IsMarked (marks_upto g o (length g.places)) (body_site b) ↔ IsOwned known lines o b) same
     (λ order there. marks-just known lines order o site b there) order there
 
--- so do the tables of all three
-pub all-marked : (f : File) (owners : Owners) → AreInOrder f → owners.rules.items ≡ marks_upto f owner.Rule (length f.places) → owners.whens.items ≡ marks_upto f owner.When (length f.places)
+-- the tables of a file, by those of each owner
+pub tables : (f : File) (owners : Owners) → owners.rules.items ≡ marks_upto f owner.Rule (length f.places) → owners.whens.items ≡ marks_upto f owner.When (length f.places)
     → owners.blocks.items ≡ marks_upto f owner.Block (length f.places) → AreOwners f owners
-all-marked f owners order rules whens blocks owner.Rule = subst (AreMarked f owner.Rule) (sym rules) (are-marked f owner.Rule order)
-all-marked f owners order rules whens blocks owner.When = subst (AreMarked f owner.When) (sym whens) (are-marked f owner.When order)
-all-marked f owners order rules whens blocks owner.Block = subst (AreMarked f owner.Block) (sym blocks) (are-marked f owner.Block order)
+tables f owners rules whens blocks owner.Rule = rules
+tables f owners rules whens blocks owner.When = whens
+tables f owners rules whens blocks owner.Block = blocks
+
+-- they mark just the bodies that the owners have
+pub all-marked : (f : File) (owners : Owners) → AreInOrder f → AreOwners f owners → MarkOwned f owners
+all-marked f owners order tables o = subst (AreMarked f o) (sym (tables o)) (are-marked f o order)
 
 -- the marks of one site more
 pub marks-next : (f : File) (o : Owner) (k : ℕ) (marks new : List Bool) (x : Option ℕ) → new ≡ with_mark marks x → x ≡ option_map body_site (owned_by o (piece_at f k)) → marks ≡ marks_upto f o k

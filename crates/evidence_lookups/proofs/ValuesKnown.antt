@@ -13,7 +13,7 @@ use Rattle.evidence_rules.specs.CitedLines.{body_site}
 use Rattle.rule_meaning.specs.Roots.{root_ref}
 use Rattle.evidence_lookups.specs.declared.owners.Owner.{Owner}
 use Rattle.evidence_lookups.specs.declared.owners.Owners.{Owners}
-use Rattle.evidence_lookups.specs.code.Owned.{AreOwners, IsOwned, marks_of}
+use Rattle.evidence_lookups.specs.code.Owned.{MarkOwned, IsOwned, marks_of}
 use Rattle.evidence_lookups.proofs.PartsSeen.{body-site}
 
 -- a tree has a root
@@ -29,7 +29,7 @@ root-known known v is tree =
 
 -- ---- whose a body is, by the tables
 
-module _ (known : StoreModel) (lines : List Line) (owners : Owners) (o : Owner) (site : ℕ) (b : Body) (owns : Bool) (are : AreOwners known.file owners)
+module _ (known : StoreModel) (lines : List Line) (owners : Owners) (o : Owner) (site : ℕ) (b : Body) (owns : Bool) (are : MarkOwned known.file owners)
     (placed : piece_at known.file site ≡ Some (OfBody (see_body b))) (marked : owns ≡ slice_index_or (marks_of owners o) (out-Body b).site false) where
   mark-is : owns ≡ slice_index_or (marks_of owners o) (body_site (see_body b)) false
   mark-is = marked ∙ ap (λ (n : ℕ). slice_index_or (marks_of owners o) n false) (sym (body-site b))

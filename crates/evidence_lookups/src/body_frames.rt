@@ -9,22 +9,22 @@ use crate::lookup::{is_frame, line_of, verdict_said};
 use evidence_lines::{Line, LineKind};
 use guard_syntax::{Ref, Verdict};
 
-/// The verdict that the `conj` line of a number says of a site, where its frame is one of a value, of a scope's site and in
-/// a frame.
-pub fn framed_verdict(
-    lines: &[Line],
-    number: u64,
-    frame: u64,
-    scope: u32,
-    value: Ref,
-    site: u32,
-) -> Option<Verdict>
+/// A frame of a site, in a frame, with a value.
+#[derive(Clone, Copy)]
+pub struct ValueFrame {
+    pub frame: u64,
+    pub site: u32,
+    pub value: Ref,
+}
+
+/// The verdict that the `conj` line of a number says of a site, where it stands in such a frame.
+pub fn framed_verdict(lines: &[Line], number: u64, within: ValueFrame, site: u32) -> Option<Verdict>
     ensures { MatchOption result
-        ((at : ℕ) → (verdict : Verdict) → IsLine lines.now at kind.Frame frame scope (says.Value value) → IsLine lines.now number kind.Conj at site (says.Verdict verdict) → ⊥)
-        (λ verdict. (at : ℕ) × IsLine lines.now at kind.Frame frame scope (says.Value value) × IsLine lines.now number kind.Conj at site (says.Verdict verdict)) }
+        ((at : ℕ) → (verdict : Verdict) → IsLine lines.now at kind.Frame within.frame within.site (says.Value within.value) → IsLine lines.now number kind.Conj at site (says.Verdict verdict) → ⊥)
+        (λ verdict. (at : ℕ) × IsLine lines.now at kind.Frame within.frame within.site (says.Value within.value) × IsLine lines.now number kind.Conj at site (says.Verdict verdict)) }
 {
     let at = line_of(lines, number)?.frame?;
-    if is_frame(lines, at, frame, scope, value) {
+    if is_frame(lines, at, within.frame, within.site, within.value) {
         verdict_said(lines, number, LineKind::Conj, at, site)
     } else {
         None

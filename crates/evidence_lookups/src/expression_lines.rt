@@ -12,38 +12,35 @@ ghost use Rattle.evidence_lookups.specs.code.FoundRows.{AreFoundBy};
 ghost use Rattle.evidence_lookups.specs.code.Grounds.{file_in, known_of, lines_of};
 
 use crate::cited_rows::given_by_query;
-use crate::line_context::LineContext;
+use crate::line_context::{LineContext, SitedLine};
 use evidence_lines::LineKind;
 use guard_syntax::{Expr, Origin, Query, Ref, Row};
 
 /// Whether a line of the rows of a literal or of a `some` query follows.
 pub fn expr_follows(
     context: &LineContext<'_, '_, '_>,
-    frame: u64,
-    site: u32,
-    kind: LineKind,
+    line: SitedLine<'_>,
     expr: &Expr,
-    cites: &[u64],
     rows: &[Row],
 ) -> bool
-    requires other { kind ≡ LineKind.Fn → ⊥ }
-    requires placed { piece_at (file_in context.now) site ≡ Some (OfExpr (see_expr expr.now)) }
+    requires other { line.kind ≡ LineKind.Fn → ⊥ }
+    requires placed { piece_at (file_in context.now) line.site ≡ Some (OfExpr (see_expr expr.now)) }
     ensures follows { MatchBool result
-        (FollowsAtExpr (known_of context.now) (lines_of context.now) frame site kind (see_expr expr.now) cites.now rows.now [])
-        ((more : List Made) → FollowsAtExpr (known_of context.now) (lines_of context.now) frame site kind (see_expr expr.now) cites.now rows.now more → ⊥) }
+        (FollowsAtExpr (known_of context.now) (lines_of context.now) line.entry.frame line.entry.site line.entry.kind (see_expr expr.now) line.entry.cites.now rows.now [])
+        ((more : List Made) → FollowsAtExpr (known_of context.now) (lines_of context.now) line.entry.frame line.entry.site line.entry.kind (see_expr expr.now) line.entry.cites.now rows.now more → ⊥) }
     ensures known { result ≡ true → list_all (is_known (known_of context.now)) rows.now ≡ true }
 {
     match expr {
         Expr::Literal { tree, .. } => {
             // A tree has a root, as `len` says.
             let _nodes = tree.len();
-            match kind {
-                LineKind::Literal => is_literal(site, cites, rows),
+            match line.kind {
+                LineKind::Literal => is_literal(line.site, line.cites, rows),
                 _ => false,
             }
         }
-        Expr::Found { query, .. } => match kind {
-            LineKind::Found => is_found_by(context, frame, query, cites, rows),
+        Expr::Found { query, .. } => match line.kind {
+            LineKind::Found => is_found_by(context, line.frame, query, line.cites, rows),
             _ => false,
         },
         Expr::Function { .. } => false,

@@ -1,20 +1,41 @@
-//! What a line of evidence is judged over.
-ghost use Rattle.std.specs.Prelude.{◌≡◌};
+//! What a line of evidence is judged over, and a line in its frame.
+ghost use Rattle.std.specs.Prelude.{◌≡◌, length};
 ghost use Rattle.value_compare.specs.code.Books.{IsBookOf};
 ghost use Rattle.value_compare.specs.code.Stores.{see_store};
-ghost use Rattle.evidence_lookups.specs.code.Said.{AreSound};
+ghost use Rattle.evidence_lookups.specs.code.JudgedSites.{AreNoted};
+ghost use Rattle.evidence_lookups.specs.code.Owned.{AreOwners};
+ghost use Rattle.evidence_lookups.specs.code.Said.{AreMadeWithin, AreSound};
 
-use evidence_lines::{Line, Version};
+use crate::judged::Judged;
+use crate::owners::Owners;
+use evidence_lines::{Line, LineKind, Version};
+use std::alloc::Global;
 use value_compare::{PatternBook, Store};
 
-/// The version of the evidence, the rules with the trees that references point into, the patterns, and the lines before,
-/// each of which follows.
+/// What a line is judged over, which judging it does not change: the version of the evidence, the rules with the trees that
+/// references point into, the patterns, whose the bodies are, and the lines before, each of which follows, with what their
+/// `rule` lines say.
 #[derive(Clone, Copy)]
 pub struct LineContext<'g, 't, 's> {
+    pub alloc: Global,
     pub version: Version,
     pub store: &'g Store<'t, 's>,
     pub book: &'g PatternBook,
+    pub owners: &'g Owners,
+    pub judged: &'g Judged,
     pub lines: &'g [Line],
     pub ghost book_is: { IsBookOf (see_store store.now).file book.now },
+    pub ghost owners_are: { AreOwners (see_store store.now).file owners.now },
+    pub ghost judged_are: { AreNoted lines.now judged.now.of.items },
     pub ghost sound: { AreSound (see_store store.now) lines.now },
+    pub ghost within: { AreMadeWithin (length lines.now) (see_store store.now).made },
+}
+
+/// A line in a frame and of a site, but for what it says.
+#[derive(Clone, Copy)]
+pub struct SitedLine<'l> {
+    pub frame: u64,
+    pub site: u32,
+    pub kind: LineKind,
+    pub cites: &'l [u64],
 }

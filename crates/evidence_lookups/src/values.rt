@@ -1,5 +1,5 @@
 //! The values of frames.
-ghost use Rattle.std.specs.Prelude.{◌≡◌, true, Some, MatchBool};
+ghost use Rattle.std.specs.Prelude.{◌≡◌, ℕ, true, Some, MatchBool};
 ghost use Rattle.guard_syntax.specs.code.Seen.{see_body};
 ghost use Rattle.rule_names.specs.Pieces.{OfBody, piece_at};
 ghost use Rattle.rule_meaning.specs.StoreModel.{is_known_ref};
@@ -8,12 +8,12 @@ ghost use Rattle.value_compare.specs.code.Stores.{see_store};
 ghost use Rattle.evidence_rules.specs.CitedLines.{value_of};
 ghost use Rattle.evidence_rules.specs.Follows.{IsFrameOf};
 ghost use Rattle.evidence_lookups.specs.code.Grounds.{file_in, known_of, lines_of};
-ghost use Rattle.evidence_lookups.specs.code.Owned.{AreOwners, HasOwned, IsOwned};
+ghost use Rattle.evidence_lookups.specs.code.Owned.{HasOwned, IsOwned};
 
 use crate::frames::{args_of_part, scope_of_step};
 use crate::line_context::LineContext;
 use crate::lookup::value_of;
-use crate::owners::{Owner, Owners};
+use crate::owners::Owner;
 use evidence_lines::Line;
 use guard_syntax::{Body, Origin, Ref};
 use rule_names::Piece;
@@ -21,14 +21,7 @@ use value_compare::Store;
 
 /// Whether a frame in a frame may have a value, by its site: that of a filter's candidate any, and that of a call the value
 /// of the frame around it.
-pub fn is_frame_of(
-    context: &LineContext<'_, '_, '_>,
-    owners: &Owners,
-    frame: u64,
-    site: u32,
-    value: Ref,
-) -> bool
-    requires owners { AreOwners (file_in context.now) owners.now }
+pub fn is_frame_of(context: &LineContext<'_, '_, '_>, frame: u64, site: u32, value: Ref) -> bool
     ensures follows { MatchBool result
         (IsFrameOf (known_of context.now) (lines_of context.now) frame (piece_at (file_in context.now) site) value)
         (IsFrameOf (known_of context.now) (lines_of context.now) frame (piece_at (file_in context.now) site) value → ⊥) }
@@ -37,7 +30,7 @@ pub fn is_frame_of(
     // A tree has a root, as `len` says.
     let _nodes = context.store.doc.len();
     match context.store.file.find(site) {
-        Some(Piece::Body(body)) => is_frame_of_body(context, owners, frame, site, body, value),
+        Some(Piece::Body(body)) => is_frame_of_body(context, frame, site, body, value),
         Some(Piece::Step { query, index }) => match scope_of_step(site, query, index) {
             Some(_) => is_known(context.store, value),
             None => false,
@@ -53,45 +46,40 @@ pub fn is_frame_of(
 /// Whether the frame of a body may have a value, by the one that the body belongs to.
 fn is_frame_of_body(
     context: &LineContext<'_, '_, '_>,
-    owners: &Owners,
     frame: u64,
     site: u32,
     body: &Body,
     value: Ref,
 ) -> bool
-    requires owners { AreOwners (file_in context.now) owners.now }
     requires placed { piece_at (file_in context.now) site ≡ Some (OfBody (see_body body.now)) }
     ensures { MatchBool result
         (IsFrameOf (known_of context.now) (lines_of context.now) frame (Some (OfBody (see_body body.now))) value)
         (IsFrameOf (known_of context.now) (lines_of context.now) frame (Some (OfBody (see_body body.now))) value → ⊥) }
 {
-    if is_frame_of_owned(context, owners, Owner::Rule, frame, site, body, value) {
+    if is_frame_of_owned(context, Owner::Rule, frame, body, value) {
         return true;
     }
-    if is_frame_of_owned(context, owners, Owner::When, frame, site, body, value) {
+    if is_frame_of_owned(context, Owner::When, frame, body, value) {
         return true;
     }
-    is_frame_of_owned(context, owners, Owner::Block, frame, site, body, value)
+    is_frame_of_owned(context, Owner::Block, frame, body, value)
 }
 
 /// Whether a body has such an owner and its frame may have a value: that of a rule's body the root of the template, that of
 /// a `when` block the value of the frame around it, and that of a block or a type block any.
 fn is_frame_of_owned(
     context: &LineContext<'_, '_, '_>,
-    owners: &Owners,
     owner: Owner,
     frame: u64,
-    site: u32,
     body: &Body,
     value: Ref,
 ) -> bool
-    requires owners { AreOwners (file_in context.now) owners.now }
-    requires placed { piece_at (file_in context.now) site ≡ Some (OfBody (see_body body.now)) }
+    requires placed { (site : ℕ) × (piece_at (file_in context.now) site ≡ Some (OfBody (see_body body.now))) }
     ensures { MatchBool result
         (IsOwned (known_of context.now) (lines_of context.now) owner (see_body body.now) × HasOwned (known_of context.now) (lines_of context.now) owner frame value)
         (IsOwned (known_of context.now) (lines_of context.now) owner (see_body body.now) × HasOwned (known_of context.now) (lines_of context.now) owner frame value → ⊥) }
 {
-    if !owners.owns(owner, body.site) {
+    if !context.owners.owns(owner, body.site) {
         return false;
     }
     match owner {

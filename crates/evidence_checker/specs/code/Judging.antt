@@ -1,5 +1,5 @@
--- What is kept from line to line: what is known, and by which lines trees were made. The first line that does not follow, and verdicts that are wanting.
-use Rattle.std.specs.Prelude.{ℕ, ◌≡◌, ◌≤◌, ◌⊎◌, All, Contains, suc, List, [], ◌++◌, length, take}
+-- What is known from line to line, the first line that does not follow, and verdicts that are wanting.
+use Rattle.std.specs.Prelude.{ℕ, ◌≡◌, ◌≤◌, ◌⊎◌, Contains, suc, List, [], ◌++◌, length, take}
 use Rattle.evidence_lines.specs.declared.line.Line.{Line}
 use Rattle.evidence_lines.specs.declared.version.Version.{Version}
 use Rattle.guard_syntax.specs.Syntax.{Rule, Disjs, no_disjs, more_disjs}
@@ -12,10 +12,6 @@ use Rattle.evidence_lookups.specs.code.JudgedSites.{IsUnjudged}
 abbrev pub Leads : (List Made → Type 0) → (known after : StoreModel) → Type 0
 Leads Holds known after = (more : List Made) × Holds more × (after ≡ grown known more) × ((other : List Made) → Holds other → other ≡ more)
 
--- it holds of no trees, and what is known is as it was
-abbrev pub Stays : (List Made → Type 0) → (known after : StoreModel) → Type 0
-Stays Holds known after = ((more : List Made) → Holds more → ⊥) × (after ≡ known)
-
 -- this is known behind lines that follow: whatever lines come behind them, they follow from the start where they follow from here
 abbrev pub IsKnownBehind : Version → (start : StoreModel) → List Line → StoreModel → Type 0
 IsKnownBehind version start lines known =
@@ -27,10 +23,6 @@ abbrev pub IsFaultAt : Version → (start : StoreModel) → List Line → ℕ �
 IsFaultAt version start lines number =
     (before : ℕ) × (number ≡ suc before) × (number ≤ length lines) × AllFollow version start [] (take before lines)
     × (AllFollow version start [] (take number lines) → ⊥)
-
--- each tree was made by one of so many lines
-abbrev pub AreMadeWithin : ℕ → List Made → Type 0
-AreMadeWithin number made = All (λ (m : Made). m.line ≤ number) made
 
 -- a rule without parameters has no line
 abbrev pub IsRuleWanting : List Line → List Rule → Type 0

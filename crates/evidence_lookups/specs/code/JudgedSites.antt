@@ -1,5 +1,5 @@
 -- What `rule` lines say of each site, as a table by sites.
-use Rattle.std.specs.Prelude.{ℕ, List, Option, Some, None, slice_index_or}
+use Rattle.std.specs.Prelude.{ℕ, ◌≡◌, ◌↔◌, false, is_some, List, Option, Some, None, slice_index_or}
 use Rattle.evidence_lines.specs.declared.line.Line.{Line}
 use Rattle.evidence_lines.specs.declared.line.LineKind.TheVariants as kind
 use Rattle.evidence_lines.specs.declared.line.Outcome.{Outcome}
@@ -19,3 +19,7 @@ IsJudgedAs lines site (Some verdict) = IsSaidOf lines site verdict
 -- a table has the verdicts of the `rule` lines at their sites, and of other sites none
 abbrev pub AreJudged : List Line → List (Option Verdict) → Type 0
 AreJudged lines table = (site : ℕ) → IsJudgedAs lines site (slice_index_or table site None)
+
+-- so it has one of just the sites that have a `rule` line
+abbrev pub AreNoted : List Line → List (Option Verdict) → Type 0
+AreNoted lines table = (site : ℕ) → (is_some (slice_index_or table site None) ≡ false) ↔ IsUnjudged lines site

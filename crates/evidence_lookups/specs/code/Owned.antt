@@ -38,8 +38,8 @@ AreMarked file o marks =
     (known : StoreModel) (lines : List Line) (site : ℕ) (b : Body) → known.file ≡ file → piece_at file site ≡ Some (OfBody b) → IsMarked marks (body_site b) ↔ IsOwned known lines o b
 
 -- so does each table
-abbrev pub AreOwners : File → Owners → Type 0
-AreOwners file owners = (o : Owner) → AreMarked file o (marks_of owners o)
+abbrev pub MarkOwned : File → Owners → Type 0
+MarkOwned file owners = (o : Owner) → AreMarked file o (marks_of owners o)
 
 -- ---- how a table is made
 
@@ -64,3 +64,7 @@ with_mark marks (Some site) = if nat_lt site (length marks) then slice_set marks
 abbrev pub marks_upto : File → Owner → ℕ → List Bool
 marks_upto file o zero = replicate (length file.places) false
 marks_upto file o (suc n) = with_mark (marks_upto file o n) (option_map body_site (owned_by o (piece_at file n)))
+
+-- the tables of a file: of each owner, by the pieces of all sites
+abbrev pub AreOwners : File → Owners → Type 0
+AreOwners file owners = (o : Owner) → marks_of owners o ≡ marks_upto file o (length file.places)

@@ -1,12 +1,12 @@
 -- What the lines before may be relied on for, once each of them follows.
-use Rattle.std.specs.Prelude.{ℕ, ◌≡◌, Bool, true, List, [], ◌∷◌, All, Some}
+use Rattle.std.specs.Prelude.{ℕ, ◌≡◌, ◌≤◌, Bool, true, List, [], ◌∷◌, All, Some}
 use Rattle.std.specs.List.{list_all}
 use Rattle.evidence_lines.specs.declared.line.Line.{Line}
 use Rattle.evidence_lines.specs.declared.line.LineKind.TheVariants as kind
 use Rattle.evidence_lines.specs.declared.line.Outcome.{Outcome}
 use Rattle.evidence_lines.specs.declared.line.Outcome.TheVariants as says
 use Rattle.guard_syntax.specs.declared.row.Row.TheVariants.{Found}
-use Rattle.rule_meaning.specs.StoreModel.{StoreModel, is_known, is_known_ref}
+use Rattle.rule_meaning.specs.StoreModel.{StoreModel, Made, is_known, is_known_ref}
 use Rattle.rule_meaning.specs.Roots.{literal_ref}
 
 -- the store knows all that is said
@@ -22,3 +22,7 @@ pub record IsSound (known : StoreModel) (line : Line) : Type 0 where
 
 abbrev pub AreSound : StoreModel → List Line → Type 0
 AreSound known lines = All (IsSound known) lines
+
+-- each tree was made by one of so many lines
+abbrev pub AreMadeWithin : ℕ → List Made → Type 0
+AreMadeWithin number made = All (λ (m : Made). m.line ≤ number) made

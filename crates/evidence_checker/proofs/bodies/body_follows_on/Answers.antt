@@ -6,39 +6,39 @@ use Rattle.evidence_checker.proofs.bodies.body_follows_on.Goals as goal
 
 pub returns-in_default : goal.returns-in_default
 returns-in_default c =
-    λ known b site_is f. never-row known c.args.lines.now c.args.frame c.args.any c.args.version b c.args.rows.now c.loop-row.row-index _
+    λ known b site_is f. never-row known c.args.lines.now c.args.body.frame c.args.body.any c.args.body.version b c.args.rows.now c.loop-row.row-index _
     c.loop-row-test.true c.loop-row.left.now c.loop-row.before c.args.verdict (c.in_default.ensures known b site_is) (c.loop-row.invariant.on known b site_is f)
 
 pub loop-row-init : goal.loop-row-init
 loop-row-init c = record {
-  on = λ known b site_is. on-first known c.args.lines.now c.args.frame c.args.any c.args.version b c.args.rows.now c.args.cites.now c.args.verdict;
-  back = λ known b site_is. back-first known c.args.lines.now c.args.frame c.args.any c.args.version b c.args.rows.now c.args.cites.now c.args.verdict;
+  on = λ known b site_is. on-first known c.args.lines.now c.args.body.frame c.args.body.any c.args.body.version b c.args.rows.now c.args.cites.now c.args.verdict;
+  back = λ known b site_is. back-first known c.args.lines.now c.args.body.frame c.args.body.any c.args.body.version b c.args.rows.now c.args.cites.now c.args.verdict;
 }
 
 pub returns-then-is_stop : goal.returns-then-is_stop
 returns-then-is_stop c =
     let w = c.in-Some.judged.verdict in
-    let stops : is_stop (block_stop c.args.any c.args.version) w ≡ true =
+    let stops : is_stop (block_stop c.args.body.any c.args.body.version) w ≡ true =
     ap (λ (s : Option Verdict). is_stop s w) (sym c.block_stop-stop.ensures) ∙ sym c.if-is_stop.ensures in
-    λ known b site_is. decide-stop known c.args.lines.now c.args.frame c.args.any c.args.version b c.args.rows.now c.loop-row.row-index _
+    λ known b site_is. decide-stop known c.args.lines.now c.args.body.frame c.args.body.any c.args.body.version b c.args.rows.now c.loop-row.row-index _
     c.loop-row-test.true c.loop-row.left.now c.loop-row.before c.args.verdict w c.joined-before.result c.in-Some.judged.left.now (c.in-Some.ensures known b site_is) c.joined-before.ensures
     c.args.rows.now c.args.cites.now c.ends_with.result stops (c.loop-row.invariant.on known b site_is) (c.loop-row.invariant.back known b site_is) c.ends_with.ensures
 
 pub loop-row-preserved : goal.loop-row-preserved
 loop-row-preserved c =
     let w = c.in-Some.judged.verdict in
-    let goes : is_stop (block_stop c.args.any c.args.version) w ≡ false =
+    let goes : is_stop (block_stop c.args.body.any c.args.body.version) w ≡ false =
     ap (λ (s : Option Verdict). is_stop s w) (sym c.block_stop-stop.ensures) ∙ sym c.if-is_stop.ensures in
     record {
-      on = λ known b site_is f. on-row known c.args.lines.now c.args.frame c.args.any c.args.version b c.args.rows.now c.loop-row.row-index _
+      on = λ known b site_is f. on-row known c.args.lines.now c.args.body.frame c.args.body.any c.args.body.version b c.args.rows.now c.loop-row.row-index _
           c.loop-row-test.true c.loop-row.left.now c.loop-row.before c.args.verdict w c.joined-before.result c.in-Some.judged.left.now (c.in-Some.ensures known b site_is) c.joined-before.ensures goes
           (c.loop-row.invariant.on known b site_is f);
-      back = λ known b site_is f. c.loop-row.invariant.back known b site_is (back-row known c.args.lines.now c.args.frame c.args.any c.args.version b
+      back = λ known b site_is f. c.loop-row.invariant.back known b site_is (back-row known c.args.lines.now c.args.body.frame c.args.body.any c.args.body.version b
           c.args.rows.now c.loop-row.row-index _ c.loop-row-test.true c.loop-row.left.now c.loop-row.before c.args.verdict w c.joined-before.result c.in-Some.judged.left.now (c.in-Some.ensures known b site_is)
           c.joined-before.ensures goes f);
     }
 
 pub returns : goal.returns
 returns c =
-    λ known b site_is. decide-end known c.args.lines.now c.args.frame c.args.any c.args.version b c.args.rows.now c.args.rows.now c.loop-row.row-index
+    λ known b site_is. decide-end known c.args.lines.now c.args.body.frame c.args.body.any c.args.body.version b c.args.rows.now c.args.rows.now c.loop-row.row-index
     c.loop-row.left.now c.args.cites.now c.loop-row.before c.args.verdict c.ends_with-2.result c.loop-row-test.false (c.loop-row.invariant.on known b site_is) (c.loop-row.invariant.back known b site_is) c.ends_with-2.ensures

@@ -7,15 +7,15 @@ use Rattle.evidence_checker.proofs.ArgumentsGiven.{args-counted, args-lacking, a
 use Rattle.evidence_checker.proofs.calls.rows_of_args.Goals as goal
 
 pub returns-then-args-cites : goal.returns-then-args-cites
-returns-then-args-cites c = λ all h. let many = args-counted (file_of c.args.file.now) c.args.lines.now c.args.frame c.args.args.now c.args.cites.now all h in absurd (omega (arith, c.if-args-cites.true, many))
+returns-then-args-cites c = λ all h. let many = args-counted (file_of c.args.file.now) c.args.lines.now c.args.line.frame c.args.args.now c.args.line.cites.now all h in absurd (omega (arith, c.if-args-cites.true, many))
 
 pub returns-in_default : goal.returns-in_default
 returns-in_default c =
-    args-lacking (file_of c.args.file.now) c.args.lines.now c.args.frame c.args.args.now c.args.cites.now c.loop-at.at c.index-args-at.result (omega arith) c.index-args-at.is c.in_default.ensures
+    args-lacking (file_of c.args.file.now) c.args.lines.now c.args.line.frame c.args.args.now c.args.line.cites.now c.loop-at.at c.index-args-at.result (omega arith) c.index-args-at.is c.in_default.ensures
 
 pub loop-at-preserved : goal.loop-at-preserved
 loop-at-preserved c =
-    args-next (file_of c.args.file.now) c.args.lines.now c.args.frame c.args.args.now c.args.cites.now c.loop-at.at c.index-args-at.result (omega arith) (omega (arith, c.if-args-cites.false)) c.index-args-at.is
+    args-next (file_of c.args.file.now) c.args.lines.now c.args.line.frame c.args.args.now c.args.line.cites.now c.loop-at.at c.index-args-at.result (omega arith) (omega (arith, c.if-args-cites.false)) c.index-args-at.is
     (map see_rows c.loop-at.all.items) (map see_rows c.push.new.self.items) c.in-Some.rows.now c.loop-at.invariant c.in-Some.ensures
     (ap (map see_rows) c.in_ok-push.ensures.items ∙ map-append see_rows c.loop-at.all.items (c.in_ok-to_vec.field-0 ∷ [])
     ∙ ap (λ (rows : List Row). map see_rows c.loop-at.all.items ++ rows ∷ []) (c.in_ok-to_vec.ensures.items_if_clones_equal (λ x y h. h)))

@@ -6,4 +6,4 @@ use Rattle.evidence_rules.specs.CitedLines.{GiveArgs}
 use Rattle.evidence_checker.proofs.calls.rows_of_args.Given as goal
 
 abbrev pub invariant-loop-at : goal.invariant-loop-at
-invariant-loop-at l = GiveArgs (file_of l.file) l.lines l.frame (expr_list (map see_expr (take l.at l.args))) (take l.at l.cites) (map see_rows l.all.items)
+invariant-loop-at l = GiveArgs (file_of l.file) l.lines l.fn.line.frame (expr_list (map see_expr (take l.at l.args))) (take l.at l.fn.line.cites.now) (map see_rows l.all.items)

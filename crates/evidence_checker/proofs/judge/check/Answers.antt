@@ -1,9 +1,6 @@
-use Rattle.std.proofs.Common.{◌≡◌, IfOk, [], refl, subst, sym}
+use Rattle.std.proofs.Common.{IfOk, subst, sym}
 use Rattle.rule_meaning.specs.StoreModel.{StoreModel}
-use Rattle.rule_names.specs.code.Files.{file_of}
 use Rattle.value_compare.specs.code.Books.{IsBookOf}
-use Rattle.value_compare.specs.code.Stores.{see_store}
-use Rattle.evidence_rules.specs.Follows.{nothing_made}
 use Rattle.evidence_lookups.specs.code.Owned.{AreOwners}
 use Rattle.evidence_checker.specs.code.Answered.{IsAnswer}
 use Rattle.evidence_checker.proofs.Answering.{store-starts}

@@ -1,42 +1,133 @@
-use Rattle.std.proofs.Common.{◌≡◌, refl, subst, sym, List, [], IfOk}
-use Rattle.evidence_lines.specs.declared.line.Line.{Line}
-use Rattle.evidence_lines.specs.declared.version.Version.{Version}
+use Rattle.std.proofs.Common.{◌≡◌, ◌<◌, ◌≤◌, ◌+◌, add-one, ap, sym, ◌∙◌, subst, arith, ℕ, List, [], length, refl, IfOk}
+use Rattle.std.proofs.lemmas.List.Elements.{All-nil}
+use Rattle.guard_syntax.specs.Syntax.{File}
 use Rattle.guard_syntax.specs.code.Seen.{see_file}
 use Rattle.guard_syntax.specs.declared.syntax.RawFile.{RawFile}
+use Rattle.evidence_lines.specs.declared.line.Line.{Line}
+use Rattle.evidence_lines.specs.declared.version.Version.{Version}
+use Rattle.rule_meaning.specs.StoreModel.{Made, StoreModel}
+use Rattle.value_compare.specs.code.Books.{IsBookOf}
 use Rattle.value_compare.specs.code.Stores.{see_store}
-use Rattle.evidence_rules.specs.Follows.{AllFollow, nothing_made}
+use Rattle.evidence_rules.specs.Follows.{AllFollow, Follows, nothing_made}
 use Rattle.evidence_rules.specs.Rejected.{IsRejectedAt}
+use Rattle.evidence_lookups.specs.code.JudgedSites.{AreJudged}
+use Rattle.evidence_lookups.specs.code.Owned.{AreOwners}
+use Rattle.evidence_lookups.specs.code.Said.{AreMadeWithin, AreSound, IsSound}
 use Rattle.evidence_checker.specs.code.Answered.{IsAnswer}
-use Rattle.evidence_checker.proofs.Answering.{fault-answered, none-follow, none-judged, starts}
+use Rattle.evidence_checker.proofs.Answering.{rejected-at, starts}
+use Rattle.evidence_checker.proofs.KeptTrees.{free-behind}
+use Rattle.evidence_checker.proofs.KnownBehind.{behind-none}
+use Rattle.evidence_checker.proofs.Leading.{made-of, none-made}
+use Rattle.evidence_checker.proofs.LinesInTurn.{all-behind, all-judged, counted, fault-here, file-on, judged-on, known-on, leads-here, made-on, shape-here, site-here, sound-here, sound-on}
+use Rattle.evidence_checker.proofs.RuleVerdicts.{noted}
 use Rattle.evidence_checker.proofs.judge.judge_lines.Goals as goal
 
-pub returns-in-Some : goal.returns-in-Some
-returns-in-Some c =
+pub loop-before-init : goal.loop-before-init
+loop-before-init c =
     let start = see_store c.args.store.now in
-    let doc = start.template in
-    let file = start.file in
-    let start_is : start ≡ nothing_made doc file = starts start c.requires.made in
-    let lines = c.args.evidence.now.lines in
-    let rejected : IsRejectedAt c.version.result doc file lines c.in-Some.number =
-    fault-answered c.version.result doc file start start_is
-    c.as_slice-lines.result.now lines c.as_slice-lines.ensures.lines c.first_fault.new.judged.of.items c.in_ok-number.field-0 c.in-Some.number c.in-Some.is c.in_ok-number.ensures in
-    subst (λ (v : Version). IsRejectedAt v doc file lines c.in-Some.number) c.version.ensures rejected
+    record {
+      index = omega arith;
+      file = refl;
+      behind = behind-none c.version-written.result start;
+      judged = c.in_ok-judged.ensures.judged;
+      sites = c.in_ok-judged.ensures.sites ∙ ap (λ (xs : List ℕ). length xs) (c.as_slice.ensures ∙ ap (λ (raw : RawFile). raw.places) c.raw-syntax.ensures);
+      sound = All-nil (IsSound start);
+      made = subst (AreMadeWithin 0) (sym c.requires.made) (All-nil (λ (m : Made). m.line ≤ 0));
+    }
 
-pub returns-in-None : goal.returns-in-None
-returns-in-None c =
+pub invariant_of-context : goal.invariant_of-context
+invariant_of-context c = record {
+  book_is = subst (λ (f : File). IsBookOf f c.args.book.now) (sym c.loop-before.invariant.file) c.requires.book;
+  owners_are = subst (λ (f : File). AreOwners f c.args.owners.now) (sym c.loop-before.invariant.file) c.requires.owners;
+  judged_are = noted c.first_lines.result.now c.loop-before.judged.of.items (subst (λ (ls : List Line). AreJudged ls c.loop-before.judged.of.items) (sym c.first_lines.ensures) c.loop-before.invariant.judged);
+  sound = subst (λ (ls : List Line). AreSound (see_store c.loop-before.store) ls) (sym c.first_lines.ensures) c.loop-before.invariant.sound;
+  within = subst (λ (n : ℕ). AreMadeWithin n c.loop-before.store.made) (sym (counted c.as_slice-lines.result.now c.first_lines.result.now c.loop-before.before c.index-lines-before.result c.loop-before-test.true c.index-lines-before.is c.first_lines.ensures)) c.loop-before.invariant.made;
+}
+
+pub returns-in_default : goal.returns-in_default
+returns-in_default c =
+    let start = see_store c.args.store.now in
+    let known = see_store c.loop-before.store in
+    let seen = c.first_lines.result.now in
+    let line = c.index-lines-before.result in
+    let version = c.version-written.result in
+    let number = c.loop-before.before + 1 in
+    let never = none-made known seen (Follows version known seen line) (λ (k : StoreModel). IsSound k line) c.in_ok-answer.field-0 c.in_default.is c.in_ok-answer.ensures in
+    subst (λ (v : Version). IsRejectedAt v start.template start.file c.args.evidence.now.lines number) c.version-written.ensures
+    (subst (λ (ls : List Line). IsRejectedAt version start.template start.file ls number) c.as_slice-lines.ensures.lines
+    (rejected-at version start.template start.file c.as_slice-lines.result.now start number (starts start c.requires.made)
+    (fault-here c.as_slice-lines.result.now c.first_lines.result.now c.loop-before.before c.index-lines-before.result c.loop-before-test.true c.index-lines-before.is c.first_lines.ensures version start known c.loop-before.invariant.behind never)))
+
+pub keep-requires : goal.keep-requires
+keep-requires c =
+    let known = see_store c.loop-before.store in
+    let seen = c.first_lines.result.now in
+    let line = c.index-lines-before.result in
+    let made = made-of known seen (Follows c.version-written.result known seen line) (λ (k : StoreModel). IsSound k line) c.in_ok-answer.field-0 c.in-Some.answer c.in-Some.is c.in_ok-answer.ensures in
+    record {
+      free = λ row. free-behind c.loop-before.before c.loop-before.store.made (c.loop-before.before + 1) row (add-one c.loop-before.before) c.loop-before.invariant.made;
+      plain = made.plain;
+    }
+
+pub note-requires : goal.note-requires
+note-requires c =
+    let start = see_store c.args.store.now in
+    let known = see_store c.loop-before.store in
+    let after = see_store c.keep.new.store in
+    let seen = c.first_lines.result.now in
+    let line = c.index-lines-before.result in
+    let version = c.version-written.result in
+    let made = made-of known seen (Follows version known seen line) (λ (k : StoreModel). IsSound k line) c.in_ok-answer.field-0 c.in-Some.answer c.in-Some.is c.in_ok-answer.ensures in
+    let leads = leads-here c.as_slice-lines.result.now c.first_lines.result.now c.loop-before.before c.index-lines-before.result c.loop-before-test.true c.index-lines-before.is c.first_lines.ensures known after c.in-Some.answer.items c.in_ok-keep.ensures version made in
+    record {
+      shape = shape-here c.as_slice-lines.result.now c.first_lines.result.now c.loop-before.before c.index-lines-before.result c.loop-before-test.true c.index-lines-before.is c.first_lines.ensures version start known c.loop-before.invariant.behind after leads;
+      site = λ site site_is.
+          subst (λ (n : ℕ). site < n) (sym c.loop-before.invariant.sites)
+          (site-here c.as_slice-lines.result.now c.first_lines.result.now c.loop-before.before c.index-lines-before.result c.loop-before-test.true c.index-lines-before.is c.first_lines.ensures version start known c.loop-before.invariant.behind after leads c.loop-before.store.file.now.raw c.loop-before.store.file.now.sites refl site site_is);
+    }
+
+pub loop-before-preserved : goal.loop-before-preserved
+loop-before-preserved c =
+    let start = see_store c.args.store.now in
+    let known = see_store c.loop-before.store in
+    let after = see_store c.keep.new.store in
+    let lines = c.as_slice-lines.result.now in
+    let seen = c.first_lines.result.now in
+    let before = c.loop-before.before in
+    let line = c.index-lines-before.result in
+    let within : before < length lines = c.loop-before-test.true in
+    let version = c.version-written.result in
+    let made = made-of known seen (Follows version known seen line) (λ (k : StoreModel). IsSound k line) c.in_ok-answer.field-0 c.in-Some.answer c.in-Some.is c.in_ok-answer.ensures in
+    let leads = leads-here c.as_slice-lines.result.now c.first_lines.result.now c.loop-before.before c.index-lines-before.result c.loop-before-test.true c.index-lines-before.is c.first_lines.ensures known after c.in-Some.answer.items c.in_ok-keep.ensures version made in
+    let file_is : after.file ≡ known.file = file-on c.as_slice-lines.result.now c.first_lines.result.now c.loop-before.before c.index-lines-before.result c.loop-before-test.true c.index-lines-before.is c.first_lines.ensures version start known c.loop-before.invariant.behind after leads in
+    record {
+      index = omega (arith, within);
+      file = file_is ∙ c.loop-before.invariant.file;
+      behind = known-on c.as_slice-lines.result.now c.first_lines.result.now c.loop-before.before c.index-lines-before.result c.loop-before-test.true c.index-lines-before.is c.first_lines.ensures version start known c.loop-before.invariant.behind after leads;
+      judged =
+          judged-on c.as_slice-lines.result.now c.first_lines.result.now c.loop-before.before c.index-lines-before.result c.loop-before-test.true c.index-lines-before.is c.first_lines.ensures version start known c.loop-before.invariant.behind after leads c.note.new.self.of.items
+          (c.note.ensures.judged seen (subst (λ (ls : List Line). AreJudged ls c.loop-before.judged.of.items) (sym c.first_lines.ensures) c.loop-before.invariant.judged));
+      sites = c.note.ensures.sites ∙ c.loop-before.invariant.sites ∙ ap (λ (f : File). length f.places) (sym file_is);
+      sound =
+          sound-on c.as_slice-lines.result.now c.first_lines.result.now c.loop-before.before c.index-lines-before.result c.loop-before-test.true c.index-lines-before.is c.first_lines.ensures version start known c.loop-before.invariant.behind after leads c.loop-before.invariant.sound
+          (sound-here c.as_slice-lines.result.now c.first_lines.result.now c.loop-before.before c.index-lines-before.result c.loop-before-test.true c.index-lines-before.is c.first_lines.ensures known after c.in-Some.answer.items c.in_ok-keep.ensures version made);
+      made = made-on c.as_slice-lines.result.now c.first_lines.result.now c.loop-before.before c.index-lines-before.result c.loop-before-test.true c.index-lines-before.is c.first_lines.ensures known after c.in-Some.answer.items c.in_ok-keep.ensures c.loop-before.invariant.made;
+    }
+
+pub returns : goal.returns
+returns c =
     let start = see_store c.args.store.now in
     let doc = start.template in
     let file = start.file in
-    let start_is : start ≡ nothing_made doc file = starts start c.requires.made in
-    let version = c.version.result in
+    let version = c.version-written.result in
     let given = c.as_slice-lines.result.now in
     let lines = c.args.evidence.now.lines in
-    let table = c.first_fault.new.judged.of.items in
-    let follow = none-follow version doc file start start_is given lines c.as_slice-lines.ensures.lines table c.in_ok-number.field-0 c.in-None.is c.in_ok-number.ensures in
-    let judged = none-judged version doc file start start_is given lines c.as_slice-lines.ensures.lines table c.in_ok-number.field-0 c.in-None.is c.in_ok-number.ensures in
     let result = c.answer_of.result in
-    subst (λ (v : Version). IfOk result (λ answer. IsAnswer v doc file lines answer)) c.version.ensures
+    let follow = subst (λ (k : StoreModel). AllFollow version k [] given) (starts start c.requires.made)
+    (all-behind version start (see_store c.loop-before.store) given c.loop-before.before c.loop-before-test.false c.loop-before.invariant.behind) in
+    let judged = all-judged given c.loop-before.before c.loop-before.judged.of.items c.loop-before-test.false c.loop-before.invariant.judged in
+    subst (λ (v : Version). IfOk result (λ answer. IsAnswer v doc file lines answer)) c.version-written.ensures
     (subst (λ (ls : List Line). IfOk result (λ answer. IsAnswer version doc file ls answer)) c.as_slice-lines.ensures.lines
-    (subst (λ (raw : RawFile). IfOk result (λ answer. IsAnswer version doc (see_file raw) given answer)) c.raw.ensures
+    (subst (λ (raw : RawFile). IfOk result (λ answer. IsAnswer version doc (see_file raw) given answer)) c.raw-syntax.ensures
     (c.answer_of.ensures version doc given refl judged
-    (subst (λ (raw : RawFile). AllFollow version (nothing_made doc (see_file raw)) [] given) (sym c.raw.ensures) follow))))
+    (subst (λ (raw : RawFile). AllFollow version (nothing_made doc (see_file raw)) [] given) (sym c.raw-syntax.ensures) follow))))

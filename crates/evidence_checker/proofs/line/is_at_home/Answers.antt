@@ -14,9 +14,9 @@ returns-then-site-as_slice c = λ within same.
 
 pub returns-in-Some : goal.returns-in-Some
 returns-in-Some c =
-    at-home (scope_of (file_of c.args.file.now) c.args.lines.now c.args.frame) c.in-Some.scope c.home_for.result (home_for (file_of c.args.file.now) c.args.kind c.args.site)
-    (c.args.site < length c.args.file.now.raw.places)
-    (subst (λ (xs : List ℕ). c.args.site < length xs) (c.as_slice.ensures ∙ ap (λ (r : RawFile). r.places) c.raw.ensures) c.if-site-as_slice.false) c.in-Some.ensures c.home_for.ensures
+    at-home (scope_of (file_of c.args.file.now) c.args.lines.now c.args.line.frame) c.in-Some.scope c.home_for.result (home_for (file_of c.args.file.now) c.args.line.kind c.args.line.site)
+    (c.args.line.site < length c.args.file.now.raw.places)
+    (subst (λ (xs : List ℕ). c.args.line.site < length xs) (c.as_slice.ensures ∙ ap (λ (r : RawFile). r.places) c.raw.ensures) c.if-site-as_slice.false) c.in-Some.ensures c.home_for.ensures
 
 pub returns-in-None : goal.returns-in-None
 returns-in-None c = λ within same. none-some _ (c.in-None.ensures ∙ same)

@@ -1,17 +1,15 @@
-use Rattle.std.proofs.Common.{sym}
-use Rattle.guard_syntax.specs.code.Seen.{see_body, see_query}
+use Rattle.guard_syntax.specs.code.Seen.{see_query}
 use Rattle.evidence_rules.specs.Follows.{block_stop}
-use Rattle.evidence_lookups.specs.code.Grounds.{known_of, lines_of, version_of}
-use Rattle.evidence_lookups.proofs.PartsSeen.{body-site}
+use Rattle.evidence_lookups.specs.code.Grounds.{known_of, lines_of}
 use Rattle.evidence_checker.proofs.FirstSaid.{block-decided, block-never}
 use Rattle.evidence_checker.proofs.parts.block_follows.Goals as goal
 
 pub returns-in-None : goal.returns-in-None
-returns-in-None c =
-    block-never (lines_of c.args.context.now) c.args.frame c.in-Some.first.now c.args.cites.now c.in-Some.others.now c.in-Some.ensures.cases.0 (known_of c.args.context.now) c.args.verdict
-    (see_body c.args.body.now) c.args.any (block_stop c.args.any (version_of c.args.context.now)) (see_query c.args.head.now) c.in-None.ensures
+returns-in-None c = λ b site_is.
+    block-never (lines_of c.args.context.now) c.args.body.frame c.in-Some.first.now c.args.cites.now c.in-Some.others.now c.in-Some.ensures.cases.0 (known_of c.args.context.now) c.args.verdict
+    b c.args.body.any (block_stop c.args.body.any c.args.body.version) (see_query c.args.head.now) c.in-None.ensures
 
 pub returns-in-Some-given_by_query : goal.returns-in-Some-given_by_query
-returns-in-Some-given_by_query c =
-    block-decided (lines_of c.args.context.now) c.args.frame c.in-Some.first.now c.args.cites.now c.in-Some.others.now c.in-Some.ensures.cases.0 (known_of c.args.context.now) c.args.verdict
-    (see_body c.args.body.now) c.args.any (block_stop c.args.any (version_of c.args.context.now)) (see_query c.args.head.now) c.in-Some-given_by_query.rows.now c.body_follows_on.result c.in-Some-given_by_query.ensures (c.body_follows_on.ensures (known_of c.args.context.now) (see_body c.args.body.now) (sym (body-site c.args.body.now)))
+returns-in-Some-given_by_query c = λ b site_is.
+    block-decided (lines_of c.args.context.now) c.args.body.frame c.in-Some.first.now c.args.cites.now c.in-Some.others.now c.in-Some.ensures.cases.0 (known_of c.args.context.now) c.args.verdict
+    b c.args.body.any (block_stop c.args.body.any c.args.body.version) (see_query c.args.head.now) c.in-Some-given_by_query.rows.now c.body_follows_on.result c.in-Some-given_by_query.ensures (c.body_follows_on.ensures (known_of c.args.context.now) b site_is)

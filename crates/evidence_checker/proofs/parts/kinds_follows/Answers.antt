@@ -5,14 +5,14 @@ use Rattle.evidence_checker.proofs.parts.kinds_follows.Goals as goal
 
 pub returns-in_default : goal.returns-in_default
 returns-in_default c = λ known conds b conds_is site_is.
-    never-under-some known c.args.lines.now c.args.frame (FollowsTyped known c.args.lines.now c.args.frame c.args.site b) c.args.verdict conds c.args.cites.now (c.in_default.ensures conds conds_is)
+    never-under-some known c.args.lines.now c.args.line.frame (FollowsTyped known c.args.lines.now c.args.line.frame c.args.line.site b) c.args.verdict conds c.args.line.cites.now (c.in_default.ensures conds conds_is)
 
 pub returns-in-Pass : goal.returns-in-Pass
 returns-in-Pass c = λ known conds b conds_is site_is.
-    decide-under-some known c.args.lines.now c.args.frame (FollowsTyped known c.args.lines.now c.args.frame c.args.site b) c.args.verdict conds c.args.cites.now c.in-Some.guard.said c.in-Some.guard.left.now c.typed_follows.result (c.in-Some.ensures conds conds_is)
-    (decide-guarded known c.args.lines.now c.args.frame (FollowsTyped known c.args.lines.now c.args.frame c.args.site b) c.args.verdict Pass c.in-Some.guard.said c.in-Some.guard.left.now c.typed_follows.result c.in-Pass.is (c.typed_follows.ensures known b site_is))
+    decide-under-some known c.args.lines.now c.args.line.frame (FollowsTyped known c.args.lines.now c.args.line.frame c.args.line.site b) c.args.verdict conds c.args.line.cites.now c.in-Some.guard.said c.in-Some.guard.left.now c.typed_follows.result (c.in-Some.ensures conds conds_is)
+    (decide-guarded known c.args.lines.now c.args.line.frame (FollowsTyped known c.args.lines.now c.args.line.frame c.args.line.site b) c.args.verdict Pass c.in-Some.guard.said c.in-Some.guard.left.now c.typed_follows.result c.in-Pass.is (c.typed_follows.ensures known b site_is))
 
 pub returns-in_default-said : goal.returns-in_default-said
 returns-in_default-said c = λ known conds b conds_is site_is.
-    decide-under-some known c.args.lines.now c.args.frame (FollowsTyped known c.args.lines.now c.args.frame c.args.site b) c.args.verdict conds c.args.cites.now c.in-Some.guard.said c.in-Some.guard.left.now c.ends_with.result (c.in-Some.ensures conds conds_is)
-    (decide-skipped known c.args.lines.now c.args.frame (FollowsTyped known c.args.lines.now c.args.frame c.args.site b) c.args.verdict c.in-Some.guard.said c.in-Some.guard.left.now c.ends_with.result c.in_default-said.not-Pass c.ends_with.ensures)
+    decide-under-some known c.args.lines.now c.args.line.frame (FollowsTyped known c.args.lines.now c.args.line.frame c.args.line.site b) c.args.verdict conds c.args.line.cites.now c.in-Some.guard.said c.in-Some.guard.left.now c.ends_with.result (c.in-Some.ensures conds conds_is)
+    (decide-skipped known c.args.lines.now c.args.line.frame (FollowsTyped known c.args.lines.now c.args.line.frame c.args.line.site b) c.args.verdict c.in-Some.guard.said c.in-Some.guard.left.now c.ends_with.result c.in_default-said.not-Pass c.ends_with.ensures)

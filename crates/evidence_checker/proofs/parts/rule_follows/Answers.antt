@@ -9,4 +9,4 @@ pub returns : goal.returns
 returns c = λ known.
     rule-decided known c.args.lines.now c.args.frame (see_rule c.args.rule.now) c.args.cites.now c.args.verdict c.guarded_follows.result
     (none-within c.as_slice.result.now c.args.rule.now.params c.as_slice.ensures c.if-not-is_empty.ensures)
-    (c.guarded_follows.ensures known (see_opt_conds c.args.rule.now.cond) (see_body c.args.rule.now.body) c.conds_site.ensures (sym (body-site c.args.rule.now.body)))
+    (c.guarded_follows.ensures known (see_opt_conds c.args.rule.now.cond) (see_body c.args.rule.now.body) c.conds_site-cond.ensures (sym (body-site c.args.rule.now.body)))

@@ -11,13 +11,13 @@ use Rattle.evidence_checker.proofs.reference_lines.call_follows.Goals as goal
 
 pub returns-in-None : goal.returns-in-None
 returns-in-None c =
-    λ known file_is n name args message. call-never known c.args.lines.now c.args.frame (get_or c.args.cites.now 0 0) c.args.cites.now c.args.verdict
-    (one-cite c.args.cites.now c.in-len1.len_at_least c.in-len1.len_below) c.args.site n c.args.not name message args
-    (see_body c.in-Some.body.now) (out-Body c.in-Some.body.now).site (ap (λ (f : File). called_body f c.args.site) file_is ∙ sym c.in-Some.ensures) (sym (body-site c.in-Some.body.now)) c.in-None.ensures
+    λ known file_is n name args message. call-never known c.args.lines.now c.args.line.frame (get_or c.args.line.cites.now 0 0) c.args.line.cites.now c.args.verdict
+    (one-cite c.args.line.cites.now c.in-len1.len_at_least c.in-len1.len_below) c.args.line.site n c.args.not name message args
+    (see_body c.in-Some.body.now) (out-Body c.in-Some.body.now).site (ap (λ (f : File). called_body f c.args.line.site) file_is ∙ sym c.in-Some.ensures) (sym (body-site c.in-Some.body.now)) c.in-None.ensures
 
 pub returns-in-Some-said_within : goal.returns-in-Some-said_within
 returns-in-Some-said_within c =
-    λ known file_is n name args message. call-decided known c.args.lines.now c.args.frame (get_or c.args.cites.now 0 0) c.args.cites.now c.args.verdict
-    (one-cite c.args.cites.now c.in-len1.len_at_least c.in-len1.len_below) c.args.site n c.args.not name message args
-    (see_body c.in-Some.body.now) (out-Body c.in-Some.body.now).site (ap (λ (f : File). called_body f c.args.site) file_is ∙ sym c.in-Some.ensures) (sym (body-site c.in-Some.body.now))
+    λ known file_is n name args message. call-decided known c.args.lines.now c.args.line.frame (get_or c.args.line.cites.now 0 0) c.args.line.cites.now c.args.verdict
+    (one-cite c.args.line.cites.now c.in-len1.len_at_least c.in-len1.len_below) c.args.line.site n c.args.not name message args
+    (see_body c.in-Some.body.now) (out-Body c.in-Some.body.now).site (ap (λ (f : File). called_body f c.args.line.site) file_is ∙ sym c.in-Some.ensures) (sym (body-site c.in-Some.body.now))
     c.in-Some-said_within.said c.exchanged.result c.eq.result c.in-Some-said_within.ensures c.exchanged.ensures (same-verdicts c.eq.result c.args.verdict c.exchanged.result c.eq.ensures)

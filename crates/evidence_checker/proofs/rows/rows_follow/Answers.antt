@@ -16,7 +16,7 @@ expr_follows-requires-clause-placed c = sym (ap (λ (p : code.Piece). Some (see_
 pub returns-in-Some-Expr : goal.returns-in-Some-Expr
 returns-in-Some-Expr c = record {
   follows =
-      subst (λ (p : Option Piece). Decides (known_of c.args.context.now) (lines_of c.args.context.now) c.args.frame c.args.site c.args.kind c.args.cites.now c.args.rows.now p c.expr_follows.result)
+      subst (λ (p : Option Piece). Decides (known_of c.args.context.now) (lines_of c.args.context.now) c.args.line.frame c.args.line.site c.args.line.kind c.args.line.cites.now c.args.rows.now p c.expr_follows.result)
       (ap (λ (p : code.Piece). Some (see_piece p)) (sym c.in-Some-Expr.field-0-is) ∙ c.in-Some-Expr.ensures) c.expr_follows.ensures.follows;
   known = c.expr_follows.ensures.known;
 }
@@ -28,14 +28,14 @@ pub returns-in-Some-Step : goal.returns-in-Some-Step
 returns-in-Some-Step c =
     let q = see_query c.in-Some-Step.query.now in
     let i = c.in-Some-Step.index in
-    let Follows : Type 0 = FollowsAtStep (known_of c.args.context.now) (lines_of c.args.context.now) c.args.frame c.args.site c.args.kind q i (step_in (steps_in q) i) c.args.cites.now c.args.rows.now in
+    let Follows : Type 0 = FollowsAtStep (known_of c.args.context.now) (lines_of c.args.context.now) c.args.line.frame c.args.line.site c.args.line.kind q i (step_in (steps_in q) i) c.args.line.cites.now c.args.rows.now in
     record {
       follows =
-          subst (λ (p : Option Piece). IfOk c.step_follows.result (λ b. Decides (known_of c.args.context.now) (lines_of c.args.context.now) c.args.frame c.args.site c.args.kind c.args.cites.now c.args.rows.now p b))
+          subst (λ (p : Option Piece). IfOk c.step_follows.result (λ b. Decides (known_of c.args.context.now) (lines_of c.args.context.now) c.args.line.frame c.args.line.site c.args.line.kind c.args.line.cites.now c.args.rows.now p b))
           (ap (λ (p : code.Piece). Some (see_piece p)) (sym c.in-Some-Step.field-0-is) ∙ c.in-Some-Step.ensures)
           (IfOk-weaker c.step_follows.result (λ b. MatchBool b Follows (Follows → ⊥))
-          (λ b. Decides (known_of c.args.context.now) (lines_of c.args.context.now) c.args.frame c.args.site c.args.kind c.args.cites.now c.args.rows.now (Some (OfStep q i)) b)
-          (λ b decided. step-placed (known_of c.args.context.now) (lines_of c.args.context.now) c.args.frame c.args.site c.args.kind c.args.cites.now c.args.rows.now q i b decided)
+          (λ b. Decides (known_of c.args.context.now) (lines_of c.args.context.now) c.args.line.frame c.args.line.site c.args.line.kind c.args.line.cites.now c.args.rows.now (Some (OfStep q i)) b)
+          (λ b decided. step-placed (known_of c.args.context.now) (lines_of c.args.context.now) c.args.line.frame c.args.line.site c.args.line.kind c.args.line.cites.now c.args.rows.now q i b decided)
           c.step_follows.ensures.follows);
       known = c.step_follows.ensures.known;
     }
@@ -46,7 +46,7 @@ types_follow-requires c = record { placed = sym (ap (λ (p : code.Piece). Some (
 pub returns-in-Some-Part : goal.returns-in-Some-Part
 returns-in-Some-Part c = record {
   follows =
-      subst (λ (p : Option Piece). IfOk c.types_follow.result (λ b. Decides (known_of c.args.context.now) (lines_of c.args.context.now) c.args.frame c.args.site c.args.kind c.args.cites.now c.args.rows.now p b))
+      subst (λ (p : Option Piece). IfOk c.types_follow.result (λ b. Decides (known_of c.args.context.now) (lines_of c.args.context.now) c.args.line.frame c.args.line.site c.args.line.kind c.args.line.cites.now c.args.rows.now p b))
       (ap (λ (p : code.Piece). Some (see_piece p)) (sym c.in-Some-Part.field-0-is) ∙ c.in-Some-Part.ensures) c.types_follow.ensures.follows;
   known = c.types_follow.ensures.known;
 }

@@ -9,14 +9,14 @@ use Rattle.evidence_checker.proofs.TypeLines.{kinds-seen, types-due}
 use Rattle.evidence_checker.proofs.rows.types_follow.Goals as goal
 
 pub kinds-requires-clause-site : goal.kinds-requires-clause-site
-kinds-requires-clause-site c = site-within (file_in c.args.context.now) c.args.site _ c.args.context.now.store.now.file.now.sites c.requires.placed
+kinds-requires-clause-site c = site-within (file_in c.args.context.now) c.args.line.site _ c.args.context.now.store.now.file.now.sites c.requires.placed
 
 pub kinds-requires-clause-current : goal.kinds-requires-clause-current
-kinds-requires-clause-current c = value-said-known (known_of c.args.context.now) (lines_of c.args.context.now) c.args.context.now.sound c.args.frame c.in-Some.current (sym c.in-Some.ensures)
+kinds-requires-clause-current c = value-said-known (known_of c.args.context.now) (lines_of c.args.context.now) c.args.context.now.sound c.args.line.frame c.in-Some.current (sym c.in-Some.ensures)
 
 pub returns-clause-follows : goal.returns-clause-follows
 returns-clause-follows c =
-    let due : c.in_ok-due.due.items ≡ rows_at_type (known_of c.args.context.now) c.args.site c.in-Some.current = c.in_ok-due.ensures.rows in
-    types-due (known_of c.args.context.now) (lines_of c.args.context.now) c.args.frame c.args.site c.args.cites.now c.in-Some.current (sym c.in-Some.ensures) (no-cites c.args.cites.now c.in-empty.len_below)
-    c.args.kind (see_part c.args.part.now) c.args.rows.now c.deref.result.now c.same_rows.result c.in-Types.is (kinds-seen c.args.part.now c.in-Kinds.site c.in-Kinds.name c.in-Kinds.cond c.in-Kinds.body c.in-Kinds.is)
+    let due : c.in_ok-due.due.items ≡ rows_at_type (known_of c.args.context.now) c.args.line.site c.in-Some.current = c.in_ok-due.ensures.rows in
+    types-due (known_of c.args.context.now) (lines_of c.args.context.now) c.args.line.frame c.args.line.site c.args.line.cites.now c.in-Some.current (sym c.in-Some.ensures) (no-cites c.args.line.cites.now c.in-empty.len_below)
+    c.args.line.kind (see_part c.args.part.now) c.args.rows.now c.deref.result.now c.same_rows.result c.in-Types.is (kinds-seen c.args.part.now c.in-Kinds.site c.in-Kinds.name c.in-Kinds.cond c.in-Kinds.body c.in-Kinds.is)
     (c.deref.ensures.value ∙ due) c.same_rows.ensures

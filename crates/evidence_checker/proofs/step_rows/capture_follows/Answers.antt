@@ -7,8 +7,8 @@ use Rattle.evidence_checker.proofs.step_rows.capture_follows.Goals as goal
 
 pub returns-in_default-given_by_step-clause-follows : goal.returns-in_default-given_by_step-clause-follows
 returns-in_default-given_by_step-clause-follows c =
-    capture-lacks (known_of c.args.context.now) (lines_of c.args.context.now) c.args.frame (see_step c.args.step.now) (get_or c.args.cites.now 0 0) c.args.cites.now c.args.rows.now
-    (one-cite c.args.cites.now c.in-len1.len_at_least c.in-len1.len_below) c.in_default-given_by_step.ensures
+    capture-lacks (known_of c.args.context.now) (lines_of c.args.context.now) c.args.line.frame (see_step c.args.step.now) (get_or c.args.line.cites.now 0 0) c.args.line.cites.now c.args.rows.now
+    (one-cite c.args.line.cites.now c.in-len1.len_at_least c.in-len1.len_below) c.in_default-given_by_step.ensures
 
 pub captured-requires : goal.captured-requires
 captured-requires c = record {

@@ -32,19 +32,19 @@ module _ (known : StoreModel) (lines : List Line) (frame site : ℕ) (conditions
 
 pub returns-then-index-eq0 : goal.returns-then-index-eq0
 returns-then-index-eq0 c = record {
-  follows = never-start c.args.index (FollowsFilter (known_of c.args.context.now) (lines_of c.args.context.now) c.args.frame c.args.site (see_query c.args.query.now) c.args.index (see_conds c.args.conditions.now) c.args.cites.now c.args.rows.now) c.if-index-eq0.true;
+  follows = never-start c.args.at.index (FollowsFilter (known_of c.args.context.now) (lines_of c.args.context.now) c.args.line.frame c.args.line.site (see_query c.args.at.query.now) c.args.at.index (see_conds c.args.conditions.now) c.args.line.cites.now c.args.rows.now) c.if-index-eq0.true;
   known = λ e. absurd (true≢false (sym e));
 }
 
 pub returns-in_default : goal.returns-in_default
 returns-in_default c = record {
-  follows = never-later c.args.index (FollowsFilter (known_of c.args.context.now) (lines_of c.args.context.now) c.args.frame c.args.site (see_query c.args.query.now) c.args.index (see_conds c.args.conditions.now) c.args.cites.now c.args.rows.now) (λ h. none-some h.0 (c.in_default.ensures ∙ h.5));
+  follows = never-later c.args.at.index (FollowsFilter (known_of c.args.context.now) (lines_of c.args.context.now) c.args.line.frame c.args.line.site (see_query c.args.at.query.now) c.args.at.index (see_conds c.args.conditions.now) c.args.line.cites.now c.args.rows.now) (λ h. none-some h.0 (c.in_default.ensures ∙ h.5));
   known = λ e. absurd (true≢false (sym e));
 }
 
 pub returns-in_default-rows_before : goal.returns-in_default-rows_before
 returns-in_default-rows_before c = record {
-  follows = never-later c.args.index (FollowsFilter (known_of c.args.context.now) (lines_of c.args.context.now) c.args.frame c.args.site (see_query c.args.query.now) c.args.index (see_conds c.args.conditions.now) c.args.cites.now c.args.rows.now) (λ h. c.in_default-rows_before.ensures (known_of c.args.context.now) refl h.1 h.2 h.3 h.6 h.7);
+  follows = never-later c.args.at.index (FollowsFilter (known_of c.args.context.now) (lines_of c.args.context.now) c.args.line.frame c.args.line.site (see_query c.args.at.query.now) c.args.at.index (see_conds c.args.conditions.now) c.args.line.cites.now c.args.rows.now) (λ h. c.in_default-rows_before.ensures (known_of c.args.context.now) refl h.1 h.2 h.3 h.6 h.7);
   known = λ e. absurd (true≢false (sym e));
 }
 
@@ -57,7 +57,7 @@ candidates-requires-clause-file c = refl
 pub step-requires-clause-start : goal.step-requires-clause-start
 step-requires-clause-start c =
     let b = c.in-Some-rows_before.ensures (known_of c.args.context.now) refl in
-    start-bare (known_of c.args.context.now) (lines_of c.args.context.now) c.args.frame (see_query c.args.query.now) (file_in c.args.context.now) c.args.site c.args.index b.0 c.in-Some-rows_before.before.now c.requires.placed b.2
+    start-bare (known_of c.args.context.now) (lines_of c.args.context.now) c.args.line.frame (see_query c.args.at.query.now) (file_in c.args.context.now) c.args.line.site c.args.at.index b.0 c.in-Some-rows_before.before.now c.requires.placed b.2
 
 pub step-requires-clause-file : goal.step-requires-clause-file
 step-requires-clause-file c = refl
@@ -66,47 +66,47 @@ pub step-requires-clause-book : goal.step-requires-clause-book
 step-requires-clause-book c = c.args.context.now.book_is
 
 pub candidates-requires-clause-site : goal.candidates-requires-clause-site
-candidates-requires-clause-site c = site-within (file_in c.args.context.now) c.args.site _ c.args.context.now.store.now.file.now.sites c.requires.placed
+candidates-requires-clause-site c = site-within (file_in c.args.context.now) c.args.line.site _ c.args.context.now.store.now.file.now.sites c.requires.placed
 
 pub candidates-requires-clause-known : goal.candidates-requires-clause-known
 candidates-requires-clause-known c =
     let b = c.in-Some-rows_before.ensures (known_of c.args.context.now) refl in
-    before-said-known (known_of c.args.context.now) (lines_of c.args.context.now) c.args.context.now.sound c.args.frame (see_query c.args.query.now) c.args.index b.0 c.in-Some-rows_before.before.now b.2
+    before-said-known (known_of c.args.context.now) (lines_of c.args.context.now) c.args.context.now.sound c.args.line.frame (see_query c.args.at.query.now) c.args.at.index b.0 c.in-Some-rows_before.before.now b.2
 
 pub returns-in_default-2-clause-follows : goal.returns-in_default-2-clause-follows
 returns-in_default-2-clause-follows c =
     let b = c.in-Some-rows_before.ensures (known_of c.args.context.now) refl in
-    let tried : c.in_ok-tried.tried.items ≡ candidates_at (known_of c.args.context.now) c.args.site c.in-Some-rows_before.before.now = c.in_ok-tried.ensures.candidates in
-    never-later c.args.index (FollowsFilter (known_of c.args.context.now) (lines_of c.args.context.now) c.args.frame c.args.site (see_query c.args.query.now) c.args.index (see_conds c.args.conditions.now) c.args.cites.now c.args.rows.now)
-    (filter-lacks (known_of c.args.context.now) (lines_of c.args.context.now) c.args.frame (see_query c.args.query.now) c.args.site c.args.index c.in-Some.current b.0 c.in-Some-rows_before.last.now c.args.cites.now c.in-Some-rows_before.before.now (sym c.in-Some.ensures) b.1 b.2
+    let tried : c.in_ok-tried.tried.items ≡ candidates_at (known_of c.args.context.now) c.args.line.site c.in-Some-rows_before.before.now = c.in_ok-tried.ensures.candidates in
+    never-later c.args.at.index (FollowsFilter (known_of c.args.context.now) (lines_of c.args.context.now) c.args.line.frame c.args.line.site (see_query c.args.at.query.now) c.args.at.index (see_conds c.args.conditions.now) c.args.line.cites.now c.args.rows.now)
+    (filter-lacks (known_of c.args.context.now) (lines_of c.args.context.now) c.args.line.frame (see_query c.args.at.query.now) c.args.line.site c.args.at.index c.in-Some.current b.0 c.in-Some-rows_before.last.now c.args.line.cites.now c.in-Some-rows_before.before.now (sym c.in-Some.ensures) b.1 b.2
     (see_conds c.args.conditions.now) c.deref.result.now c.args.rows.now (c.deref.ensures.value ∙ tried)
-    (none-said (known_of c.args.context.now) (lines_of c.args.context.now) c.args.frame c.args.site (see_conds c.args.conditions.now) c.deref.result.now c.in-Some-rows_before.last.now c.in_ok-verdicts.field-0 c.in_default-2.is (c.in_ok-verdicts.ensures (known_of c.args.context.now))))
+    (none-said (known_of c.args.context.now) (lines_of c.args.context.now) c.args.line.frame c.args.line.site (see_conds c.args.conditions.now) c.deref.result.now c.in-Some-rows_before.last.now c.in_ok-verdicts.field-0 c.in_default-2.is (c.in_ok-verdicts.ensures (known_of c.args.context.now))))
 
 pub step-requires-clause-site : goal.step-requires-clause-site
-step-requires-clause-site c = site-within (file_in c.args.context.now) c.args.site _ c.args.context.now.store.now.file.now.sites c.requires.placed
+step-requires-clause-site c = site-within (file_in c.args.context.now) c.args.line.site _ c.args.context.now.store.now.file.now.sites c.requires.placed
 
 pub step-requires-clause-verdicts : goal.step-requires-clause-verdicts
 step-requires-clause-verdicts c =
-    let tried : c.in_ok-tried.tried.items ≡ candidates_at (known_of c.args.context.now) c.args.site c.in-Some-rows_before.before.now = c.in_ok-tried.ensures.candidates in
-    ap length c.deref-2.ensures.value ∙ (said-each (known_of c.args.context.now) (lines_of c.args.context.now) (SaysCandidate (known_of c.args.context.now) (lines_of c.args.context.now) c.args.frame c.args.site (see_conds c.args.conditions.now)) c.deref.result.now c.in-Some-rows_before.last.now c.in-Some-2.verdicts.items
-    (some-said (known_of c.args.context.now) (lines_of c.args.context.now) c.args.frame c.args.site (see_conds c.args.conditions.now) c.deref.result.now c.in-Some-rows_before.last.now c.in_ok-verdicts.field-0 c.in-Some-2.verdicts c.in-Some-2.is (c.in_ok-verdicts.ensures (known_of c.args.context.now)))).1 ∙ ap length (c.deref.ensures.value ∙ tried)
+    let tried : c.in_ok-tried.tried.items ≡ candidates_at (known_of c.args.context.now) c.args.line.site c.in-Some-rows_before.before.now = c.in_ok-tried.ensures.candidates in
+    ap length c.deref-2.ensures.value ∙ (said-each (known_of c.args.context.now) (lines_of c.args.context.now) (SaysCandidate (known_of c.args.context.now) (lines_of c.args.context.now) c.args.line.frame c.args.line.site (see_conds c.args.conditions.now)) c.deref.result.now c.in-Some-rows_before.last.now c.in-Some-2.verdicts.items
+    (some-said (known_of c.args.context.now) (lines_of c.args.context.now) c.args.line.frame c.args.line.site (see_conds c.args.conditions.now) c.deref.result.now c.in-Some-rows_before.last.now c.in_ok-verdicts.field-0 c.in-Some-2.verdicts c.in-Some-2.is (c.in_ok-verdicts.ensures (known_of c.args.context.now)))).1 ∙ ap length (c.deref.ensures.value ∙ tried)
 
 pub step-requires-clause-current : goal.step-requires-clause-current
-step-requires-clause-current c = value-said-known (known_of c.args.context.now) (lines_of c.args.context.now) c.args.context.now.sound c.args.frame c.in-Some.current (sym c.in-Some.ensures)
+step-requires-clause-current c = value-said-known (known_of c.args.context.now) (lines_of c.args.context.now) c.args.context.now.sound c.args.line.frame c.in-Some.current (sym c.in-Some.ensures)
 
 pub step-requires-clause-before : goal.step-requires-clause-before
 step-requires-clause-before c =
     let b = c.in-Some-rows_before.ensures (known_of c.args.context.now) refl in
-    before-said-known (known_of c.args.context.now) (lines_of c.args.context.now) c.args.context.now.sound c.args.frame (see_query c.args.query.now) c.args.index b.0 c.in-Some-rows_before.before.now b.2
+    before-said-known (known_of c.args.context.now) (lines_of c.args.context.now) c.args.context.now.sound c.args.line.frame (see_query c.args.at.query.now) c.args.at.index b.0 c.in-Some-rows_before.before.now b.2
 
 pub returns-clause-follows : goal.returns-clause-follows
 returns-clause-follows c =
     let b = c.in-Some-rows_before.ensures (known_of c.args.context.now) refl in
-    let tried : c.in_ok-tried.tried.items ≡ candidates_at (known_of c.args.context.now) c.args.site c.in-Some-rows_before.before.now = c.in_ok-tried.ensures.candidates in
-    let due : c.in_ok-due.due.items ≡ rows_at_step (known_of c.args.context.now) c.args.site c.in-Some.current c.in-Some-rows_before.before.now [] c.deref-2.result.now = c.in_ok-due.ensures.rows in
-    later-judged c.args.index c.same_rows.result (FollowsFilter (known_of c.args.context.now) (lines_of c.args.context.now) c.args.frame c.args.site (see_query c.args.query.now) c.args.index (see_conds c.args.conditions.now) c.args.cites.now c.args.rows.now) c.if-index-eq0.false
-    (filter-due (known_of c.args.context.now) (lines_of c.args.context.now) c.args.frame (see_query c.args.query.now) c.args.site c.args.index c.in-Some.current b.0 c.in-Some-rows_before.last.now c.args.cites.now c.in-Some-rows_before.before.now (sym c.in-Some.ensures) b.1 b.2
+    let tried : c.in_ok-tried.tried.items ≡ candidates_at (known_of c.args.context.now) c.args.line.site c.in-Some-rows_before.before.now = c.in_ok-tried.ensures.candidates in
+    let due : c.in_ok-due.due.items ≡ rows_at_step (known_of c.args.context.now) c.args.line.site c.in-Some.current c.in-Some-rows_before.before.now [] c.deref-2.result.now = c.in_ok-due.ensures.rows in
+    later-judged c.args.at.index c.same_rows.result (FollowsFilter (known_of c.args.context.now) (lines_of c.args.context.now) c.args.line.frame c.args.line.site (see_query c.args.at.query.now) c.args.at.index (see_conds c.args.conditions.now) c.args.line.cites.now c.args.rows.now) c.if-index-eq0.false
+    (filter-due (known_of c.args.context.now) (lines_of c.args.context.now) c.args.line.frame (see_query c.args.at.query.now) c.args.line.site c.args.at.index c.in-Some.current b.0 c.in-Some-rows_before.last.now c.args.line.cites.now c.in-Some-rows_before.before.now (sym c.in-Some.ensures) b.1 b.2
     (see_conds c.args.conditions.now) c.deref.result.now c.deref-2.result.now c.args.rows.now c.deref-3.result.now c.same_rows.result (c.deref.ensures.value ∙ tried)
-    (subst (λ (verdicts : List Verdict). Said (known_of c.args.context.now) (lines_of c.args.context.now) c.args.frame c.args.site (see_conds c.args.conditions.now) c.deref.result.now c.in-Some-rows_before.last.now verdicts) (sym c.deref-2.ensures.value)
-    (some-said (known_of c.args.context.now) (lines_of c.args.context.now) c.args.frame c.args.site (see_conds c.args.conditions.now) c.deref.result.now c.in-Some-rows_before.last.now c.in_ok-verdicts.field-0 c.in-Some-2.verdicts c.in-Some-2.is (c.in_ok-verdicts.ensures (known_of c.args.context.now))))
+    (subst (λ (verdicts : List Verdict). Said (known_of c.args.context.now) (lines_of c.args.context.now) c.args.line.frame c.args.line.site (see_conds c.args.conditions.now) c.deref.result.now c.in-Some-rows_before.last.now verdicts) (sym c.deref-2.ensures.value)
+    (some-said (known_of c.args.context.now) (lines_of c.args.context.now) c.args.line.frame c.args.line.site (see_conds c.args.conditions.now) c.deref.result.now c.in-Some-rows_before.last.now c.in_ok-verdicts.field-0 c.in-Some-2.verdicts c.in-Some-2.is (c.in_ok-verdicts.ensures (known_of c.args.context.now))))
     (c.deref-3.ensures.value ∙ due) c.same_rows.ensures)

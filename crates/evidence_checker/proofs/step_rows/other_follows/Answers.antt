@@ -22,15 +22,15 @@ returns-in_default-rows_further c =
     let b = c.in-Some-rows_before.ensures (known_of c.args.context.now) refl in
     record {
       follows =
-          step-lacks (known_of c.args.context.now) (lines_of c.args.context.now) c.args.frame (see_query c.args.query.now) c.args.site c.args.index c.in-Some.current b.0 c.in-Some-rows_before.last.now c.args.cites.now c.in-Some-rows_before.before.now (sym c.in-Some.ensures) b.1 b.2
-          (see_step c.args.step.now) c.args.rows.now (c.in_default-rows_further.ensures (known_of c.args.context.now) refl);
+          step-lacks (known_of c.args.context.now) (lines_of c.args.context.now) c.args.line.frame (see_query c.args.at.query.now) c.args.line.site c.args.at.index c.in-Some.current b.0 c.in-Some-rows_before.last.now c.args.line.cites.now c.in-Some-rows_before.before.now (sym c.in-Some.ensures) b.1 b.2
+          (see_step c.args.at.step.now) c.args.rows.now (c.in_default-rows_further.ensures (known_of c.args.context.now) refl);
       known = λ e. absurd (true≢false (sym e));
     }
 
 pub step-requires-clause-start : goal.step-requires-clause-start
 step-requires-clause-start c =
     let b = c.in-Some-rows_before.ensures (known_of c.args.context.now) refl in
-    start-bare (known_of c.args.context.now) (lines_of c.args.context.now) c.args.frame (see_query c.args.query.now) (file_in c.args.context.now) c.args.site c.args.index b.0 c.in-Some-rows_before.before.now c.requires.placed b.2
+    start-bare (known_of c.args.context.now) (lines_of c.args.context.now) c.args.line.frame (see_query c.args.at.query.now) (file_in c.args.context.now) c.args.line.site c.args.at.index b.0 c.in-Some-rows_before.before.now c.requires.placed b.2
 
 pub step-requires-clause-file : goal.step-requires-clause-file
 step-requires-clause-file c = refl
@@ -39,23 +39,23 @@ pub step-requires-clause-book : goal.step-requires-clause-book
 step-requires-clause-book c = c.args.context.now.book_is
 
 pub step-requires-clause-site : goal.step-requires-clause-site
-step-requires-clause-site c = site-within (file_in c.args.context.now) c.args.site _ c.args.context.now.store.now.file.now.sites c.requires.placed
+step-requires-clause-site c = site-within (file_in c.args.context.now) c.args.line.site _ c.args.context.now.store.now.file.now.sites c.requires.placed
 
 pub step-requires-clause-current : goal.step-requires-clause-current
-step-requires-clause-current c = value-said-known (known_of c.args.context.now) (lines_of c.args.context.now) c.args.context.now.sound c.args.frame c.in-Some.current (sym c.in-Some.ensures)
+step-requires-clause-current c = value-said-known (known_of c.args.context.now) (lines_of c.args.context.now) c.args.context.now.sound c.args.line.frame c.in-Some.current (sym c.in-Some.ensures)
 
 pub step-requires-clause-before : goal.step-requires-clause-before
 step-requires-clause-before c =
     let b = c.in-Some-rows_before.ensures (known_of c.args.context.now) refl in
-    before-said-known (known_of c.args.context.now) (lines_of c.args.context.now) c.args.context.now.sound c.args.frame (see_query c.args.query.now) c.args.index b.0 c.in-Some-rows_before.before.now b.2
+    before-said-known (known_of c.args.context.now) (lines_of c.args.context.now) c.args.context.now.sound c.args.line.frame (see_query c.args.at.query.now) c.args.at.index b.0 c.in-Some-rows_before.before.now b.2
 
 pub step-requires-clause-rows : goal.step-requires-clause-rows
 step-requires-clause-rows c =
-    further-said-known (known_of c.args.context.now) (lines_of c.args.context.now) c.args.context.now.sound c.args.frame (see_step c.args.step.now) c.in-Some-rows_before.last.now c.in-Some-rows_further.further.now (c.in-Some-rows_further.ensures (known_of c.args.context.now) refl)
+    further-said-known (known_of c.args.context.now) (lines_of c.args.context.now) c.args.context.now.sound c.args.line.frame (see_step c.args.at.step.now) c.in-Some-rows_before.last.now c.in-Some-rows_further.further.now (c.in-Some-rows_further.ensures (known_of c.args.context.now) refl)
 
 pub returns-clause-follows : goal.returns-clause-follows
 returns-clause-follows c =
     let b = c.in-Some-rows_before.ensures (known_of c.args.context.now) refl in
-    let due : c.in_ok-due.due.items ≡ rows_at_step (known_of c.args.context.now) c.args.site c.in-Some.current c.in-Some-rows_before.before.now c.in-Some-rows_further.further.now [] = c.in_ok-due.ensures.rows in
-    step-due (known_of c.args.context.now) (lines_of c.args.context.now) c.args.frame (see_query c.args.query.now) c.args.site c.args.index c.in-Some.current b.0 c.in-Some-rows_before.last.now c.args.cites.now c.in-Some-rows_before.before.now (sym c.in-Some.ensures) b.1 b.2
-    (see_step c.args.step.now) c.in-Some-rows_further.further.now c.args.rows.now c.deref.result.now c.same_rows.result (c.in-Some-rows_further.ensures (known_of c.args.context.now) refl) (c.deref.ensures.value ∙ due) c.same_rows.ensures
+    let due : c.in_ok-due.due.items ≡ rows_at_step (known_of c.args.context.now) c.args.line.site c.in-Some.current c.in-Some-rows_before.before.now c.in-Some-rows_further.further.now [] = c.in_ok-due.ensures.rows in
+    step-due (known_of c.args.context.now) (lines_of c.args.context.now) c.args.line.frame (see_query c.args.at.query.now) c.args.line.site c.args.at.index c.in-Some.current b.0 c.in-Some-rows_before.last.now c.args.line.cites.now c.in-Some-rows_before.before.now (sym c.in-Some.ensures) b.1 b.2
+    (see_step c.args.at.step.now) c.in-Some-rows_further.further.now c.args.rows.now c.deref.result.now c.same_rows.result (c.in-Some-rows_further.ensures (known_of c.args.context.now) refl) (c.deref.ensures.value ∙ due) c.same_rows.ensures

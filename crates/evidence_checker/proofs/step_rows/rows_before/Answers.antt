@@ -9,29 +9,29 @@ use Rattle.evidence_checker.proofs.step_rows.rows_before.Goals as goal
 
 pub returns-then-index-eq0 : goal.returns-then-index-eq0
 returns-then-index-eq0 c = λ known file_is.
-    ([], refl, subst (λ (n : ℕ). GivesBefore known c.args.lines.now c.args.frame (see_query c.args.query.now) n [] []) (sym c.if-index-eq0.true) (refl, refl))
+    ([], refl, subst (λ (n : ℕ). GivesBefore known c.args.lines.now c.args.line.frame (see_query c.args.query.now) n [] []) (sym c.if-index-eq0.true) (refl, refl))
 
 pub returns-in_default-get : goal.returns-in_default-get
 returns-in_default-get c = λ known file_is first last rows parts.
     let more : c.args.index ≡ suc (c.args.index - 1) = omega (arith, c.if-index-eq0.false) in
-    no-step-before known c.args.lines.now c.args.frame (see_query c.args.query.now) c.args.index (c.args.index - 1) (get_or c.args.cites.now 0 0)
-    (take (length c.args.cites.now - 1) (drop 1 c.args.cites.now)) first last rows more (sym (first-of c.args.cites.now c.in-len1-up.len_at_least) ∙ parts)
+    no-step-before known c.args.lines.now c.args.line.frame (see_query c.args.query.now) c.args.index (c.args.index - 1) (get_or c.args.line.cites.now 0 0)
+    (take (length c.args.line.cites.now - 1) (drop 1 c.args.line.cites.now)) first last rows more (sym (first-of c.args.line.cites.now c.in-len1-up.len_at_least) ∙ parts)
     (no-step c.args.query.now (c.args.index - 1) c.deref.result.now c.deref.ensures.value c.in_default-get.ensures.lookup.3)
 
 pub returns-in_default-given_by_step : goal.returns-in_default-given_by_step
 returns-in_default-given_by_step c = λ known file_is first last rows parts.
     let more : c.args.index ≡ suc (c.args.index - 1) = omega (arith, c.if-index-eq0.false) in
-    no-rows-before known c.args.lines.now c.args.frame (see_query c.args.query.now) c.args.index (c.args.index - 1) (get_or c.args.cites.now 0 0)
-    (take (length c.args.cites.now - 1) (drop 1 c.args.cites.now)) first last rows (see_step c.in-Some.step.now) more (sym (first-of c.args.cites.now c.in-len1-up.len_at_least) ∙ parts)
+    no-rows-before known c.args.lines.now c.args.line.frame (see_query c.args.query.now) c.args.index (c.args.index - 1) (get_or c.args.line.cites.now 0 0)
+    (take (length c.args.line.cites.now - 1) (drop 1 c.args.line.cites.now)) first last rows (see_step c.in-Some.step.now) more (sym (first-of c.args.line.cites.now c.in-len1-up.len_at_least) ∙ parts)
     (step-there c.args.query.now (c.args.index - 1) c.deref.result.now c.in-Some.step.now c.deref.ensures.value c.in-Some.ensures.lookup.3.0 c.in-Some.ensures.lookup.1)
-    (λ given g. c.in_default-given_by_step.ensures given (subst (λ (f : File). GivesStep f c.args.lines.now c.args.frame (see_step c.in-Some.step.now) (get_or c.args.cites.now 0 0) given) file_is g))
+    (λ given g. c.in_default-given_by_step.ensures given (subst (λ (f : File). GivesStep f c.args.lines.now c.args.line.frame (see_step c.in-Some.step.now) (get_or c.args.line.cites.now 0 0) given) file_is g))
 
 pub returns : goal.returns
 returns c = λ known file_is.
     let more : c.args.index ≡ suc (c.args.index - 1) = omega (arith, c.if-index-eq0.false) in (
-      get_or c.args.cites.now 0 0 ∷ [],
-      first-of c.args.cites.now c.in-len1-up.len_at_least,
-      before-given known c.args.lines.now c.args.frame (see_query c.args.query.now) c.args.index (c.args.index - 1) (get_or c.args.cites.now 0 0) (see_step c.in-Some.step.now) c.in-Some-given_by_step.rows.now more
+      get_or c.args.line.cites.now 0 0 ∷ [],
+      first-of c.args.line.cites.now c.in-len1-up.len_at_least,
+      before-given known c.args.lines.now c.args.line.frame (see_query c.args.query.now) c.args.index (c.args.index - 1) (get_or c.args.line.cites.now 0 0) (see_step c.in-Some.step.now) c.in-Some-given_by_step.rows.now more
           (step-there c.args.query.now (c.args.index - 1) c.deref.result.now c.in-Some.step.now c.deref.ensures.value c.in-Some.ensures.lookup.3.0 c.in-Some.ensures.lookup.1)
-          (subst (λ (f : File). GivesStep f c.args.lines.now c.args.frame (see_step c.in-Some.step.now) (get_or c.args.cites.now 0 0) c.in-Some-given_by_step.rows.now) (sym file_is) c.in-Some-given_by_step.ensures),
+          (subst (λ (f : File). GivesStep f c.args.lines.now c.args.line.frame (see_step c.in-Some.step.now) (get_or c.args.line.cites.now 0 0) c.in-Some-given_by_step.rows.now) (sym file_is) c.in-Some-given_by_step.ensures),
     )

@@ -14,7 +14,7 @@ returns-in_default-clause-follows c =
     let k = known_of c.args.context.now in
     let ls = lines_of c.args.context.now in
     let q = see_query c.args.query.now in
-    no-step-line k ls c.args.frame c.args.site q c.args.index c.args.cites.now c.args.rows.now c.args.kind (step_in (steps_in q) c.args.index) (no-step c.args.query.now c.args.index c.deref.result.now c.deref.ensures.value c.in_default.ensures.lookup.3)
+    no-step-line k ls c.args.line.frame c.args.line.site q c.args.index c.args.line.cites.now c.args.rows.now c.args.line.kind (step_in (steps_in q) c.args.index) (no-step c.args.query.now c.args.index c.deref.result.now c.deref.ensures.value c.in_default.ensures.lookup.3)
 
 pub filter_follows-requires-clause-filter : goal.filter_follows-requires-clause-filter
 filter_follows-requires-clause-filter c =
@@ -41,7 +41,7 @@ returns-in-Filter-kind-clause-follows c =
     let there = step-there c.args.query.now c.args.index c.deref.result.now c.in-Some.step.now c.deref.ensures.value c.in-Some.ensures.lookup.3.0 c.in-Some.ensures.lookup.1 in
     let seen = filter-seen c.in-Some.step.now c.in-Filter.field-0 c.in-Filter.conditions c.in-Filter.is in
     let filtering = filter c.in-Some.step.now.site c.in-Filter.field-0 (see_conds c.in-Filter.conditions) in
-    at-kind k ls c.args.frame c.args.site q c.args.index c.args.cites.now c.args.rows.now c.filter_follows.result c.args.kind kind.Filter (step_in (steps_in q) c.args.index) filtering c.in-Filter-kind.is (there ∙ ap Some seen) c.filter_follows.ensures.follows
+    at-kind k ls c.args.line.frame c.args.line.site q c.args.index c.args.line.cites.now c.args.rows.now c.filter_follows.result c.args.line.kind kind.Filter (step_in (steps_in q) c.args.index) filtering c.in-Filter-kind.is (there ∙ ap Some seen) c.filter_follows.ensures.follows
 
 pub returns-in-Capture-clause-follows : goal.returns-in-Capture-clause-follows
 returns-in-Capture-clause-follows c =
@@ -52,8 +52,8 @@ returns-in-Capture-clause-follows c =
     let there = step-there c.args.query.now c.args.index c.deref.result.now c.in-Some.step.now c.deref.ensures.value c.in-Some.ensures.lookup.3.0 c.in-Some.ensures.lookup.1 in
     let seen = filter-seen c.in-Some.step.now c.in-Filter.field-0 c.in-Filter.conditions c.in-Filter.is in
     let filtering = filter c.in-Some.step.now.site c.in-Filter.field-0 (see_conds c.in-Filter.conditions) in
-    at-kind k ls c.args.frame c.args.site q c.args.index c.args.cites.now c.args.rows.now c.capture_follows.result c.args.kind kind.Capture (step_in (steps_in q) c.args.index) filtering c.in-Capture.is (there ∙ ap Some seen)
-    (same-capture k ls c.args.frame c.args.site q c.args.index c.args.cites.now c.args.rows.now c.capture_follows.result s filtering seen c.capture_follows.ensures.follows)
+    at-kind k ls c.args.line.frame c.args.line.site q c.args.index c.args.line.cites.now c.args.rows.now c.capture_follows.result c.args.line.kind kind.Capture (step_in (steps_in q) c.args.index) filtering c.in-Capture.is (there ∙ ap Some seen)
+    (same-capture k ls c.args.line.frame c.args.line.site q c.args.index c.args.line.cites.now c.args.rows.now c.capture_follows.result s filtering seen c.capture_follows.ensures.follows)
 
 pub returns-in_default-kind : goal.returns-in_default-kind
 returns-in_default-kind c =
@@ -64,8 +64,8 @@ returns-in_default-kind c =
     let seen = filter-seen c.in-Some.step.now c.in-Filter.field-0 c.in-Filter.conditions c.in-Filter.is in
     let filtering = filter c.in-Some.step.now.site c.in-Filter.field-0 (see_conds c.in-Filter.conditions) in
     record {
-      follows = not-at k ls c.args.frame c.args.site q c.args.index c.args.cites.now c.args.rows.now c.args.kind (step_in (steps_in q) c.args.index) filtering (there ∙ ap Some seen)
-          (filter-else k ls c.args.frame c.args.site q c.args.index c.args.cites.now c.args.rows.now c.args.kind c.in-Some.step.now.site c.in-Filter.field-0 (see_conds c.in-Filter.conditions) c.in_default-kind.not-Filter c.in_default-kind.not-Capture);
+      follows = not-at k ls c.args.line.frame c.args.line.site q c.args.index c.args.line.cites.now c.args.rows.now c.args.line.kind (step_in (steps_in q) c.args.index) filtering (there ∙ ap Some seen)
+          (filter-else k ls c.args.line.frame c.args.line.site q c.args.index c.args.line.cites.now c.args.rows.now c.args.line.kind c.in-Some.step.now.site c.in-Filter.field-0 (see_conds c.in-Filter.conditions) c.in_default-kind.not-Filter c.in_default-kind.not-Capture);
       known = λ e. absurd (true≢false (sym e));
     }
 
@@ -78,8 +78,8 @@ returns-in-Keys-kind-clause-follows c =
     let there = step-there c.args.query.now c.args.index c.deref.result.now c.in-Some.step.now c.deref.ensures.value c.in-Some.ensures.lookup.3.0 c.in-Some.ensures.lookup.1 in
     let seen = keys-seen c.in-Some.step.now c.in-Keys.capture c.in-Keys.op c.in-Keys.not c.in-Keys.right c.in-Keys.is in
     let keyed = keys c.in-Some.step.now.site c.in-Keys.capture c.in-Keys.op c.in-Keys.not (see_expr c.in-Keys.right) in
-    at-kind k ls c.args.frame c.args.site q c.args.index c.args.cites.now c.args.rows.now c.other_follows.result c.args.kind kind.Keys (step_in (steps_in q) c.args.index) keyed c.in-Keys-kind.is (there ∙ ap Some seen)
-    (same-step k ls c.args.frame c.args.site q c.args.index c.args.cites.now c.args.rows.now c.other_follows.result s keyed seen c.other_follows.ensures.follows)
+    at-kind k ls c.args.line.frame c.args.line.site q c.args.index c.args.line.cites.now c.args.rows.now c.other_follows.result c.args.line.kind kind.Keys (step_in (steps_in q) c.args.index) keyed c.in-Keys-kind.is (there ∙ ap Some seen)
+    (same-step k ls c.args.line.frame c.args.line.site q c.args.index c.args.line.cites.now c.args.rows.now c.other_follows.result s keyed seen c.other_follows.ensures.follows)
 
 pub returns-in-Capture-kind-clause-follows : goal.returns-in-Capture-kind-clause-follows
 returns-in-Capture-kind-clause-follows c =
@@ -90,8 +90,8 @@ returns-in-Capture-kind-clause-follows c =
     let there = step-there c.args.query.now c.args.index c.deref.result.now c.in-Some.step.now c.deref.ensures.value c.in-Some.ensures.lookup.3.0 c.in-Some.ensures.lookup.1 in
     let seen = keys-seen c.in-Some.step.now c.in-Keys.capture c.in-Keys.op c.in-Keys.not c.in-Keys.right c.in-Keys.is in
     let keyed = keys c.in-Some.step.now.site c.in-Keys.capture c.in-Keys.op c.in-Keys.not (see_expr c.in-Keys.right) in
-    at-kind k ls c.args.frame c.args.site q c.args.index c.args.cites.now c.args.rows.now c.capture_follows-in-Capture-kind.result c.args.kind kind.Capture (step_in (steps_in q) c.args.index) keyed c.in-Capture-kind.is (there ∙ ap Some seen)
-    (same-capture k ls c.args.frame c.args.site q c.args.index c.args.cites.now c.args.rows.now c.capture_follows-in-Capture-kind.result s keyed seen c.capture_follows-in-Capture-kind.ensures.follows)
+    at-kind k ls c.args.line.frame c.args.line.site q c.args.index c.args.line.cites.now c.args.rows.now c.capture_follows-in-Capture-kind.result c.args.line.kind kind.Capture (step_in (steps_in q) c.args.index) keyed c.in-Capture-kind.is (there ∙ ap Some seen)
+    (same-capture k ls c.args.line.frame c.args.line.site q c.args.index c.args.line.cites.now c.args.rows.now c.capture_follows-in-Capture-kind.result s keyed seen c.capture_follows-in-Capture-kind.ensures.follows)
 
 pub returns-in_default-kind-2 : goal.returns-in_default-kind-2
 returns-in_default-kind-2 c =
@@ -102,8 +102,8 @@ returns-in_default-kind-2 c =
     let seen = keys-seen c.in-Some.step.now c.in-Keys.capture c.in-Keys.op c.in-Keys.not c.in-Keys.right c.in-Keys.is in
     let keyed = keys c.in-Some.step.now.site c.in-Keys.capture c.in-Keys.op c.in-Keys.not (see_expr c.in-Keys.right) in
     record {
-      follows = not-at k ls c.args.frame c.args.site q c.args.index c.args.cites.now c.args.rows.now c.args.kind (step_in (steps_in q) c.args.index) keyed (there ∙ ap Some seen)
-          (keys-else k ls c.args.frame c.args.site q c.args.index c.args.cites.now c.args.rows.now c.args.kind c.in-Some.step.now.site c.in-Keys.capture c.in-Keys.op c.in-Keys.not (see_expr c.in-Keys.right) c.in_default-kind-2.not-Keys c.in_default-kind-2.not-Capture);
+      follows = not-at k ls c.args.line.frame c.args.line.site q c.args.index c.args.line.cites.now c.args.rows.now c.args.line.kind (step_in (steps_in q) c.args.index) keyed (there ∙ ap Some seen)
+          (keys-else k ls c.args.line.frame c.args.line.site q c.args.index c.args.line.cites.now c.args.rows.now c.args.line.kind c.in-Some.step.now.site c.in-Keys.capture c.in-Keys.op c.in-Keys.not (see_expr c.in-Keys.right) c.in_default-kind-2.not-Keys c.in_default-kind-2.not-Capture);
       known = λ e. absurd (true≢false (sym e));
     }
 
@@ -116,7 +116,7 @@ returns-in-Step c =
     let there = step-there c.args.query.now c.args.index c.deref.result.now c.in-Some.step.now c.deref.ensures.value c.in-Some.ensures.lookup.3.0 c.in-Some.ensures.lookup.1 in
     let other = other-seen c.in-Some.step.now c.in_default-form.not-Filter c.in_default-form.not-Keys in
     record {
-      follows = at-kind k ls c.args.frame c.args.site q c.args.index c.args.cites.now c.args.rows.now c.other_follows-in-Step.result c.args.kind kind.Step (step_in (steps_in q) c.args.index) s c.in-Step.is there (at-other k ls c.args.frame c.args.site q c.args.index c.args.cites.now c.args.rows.now c.other_follows-in-Step.result s other c.other_follows-in-Step.ensures.follows);
+      follows = at-kind k ls c.args.line.frame c.args.line.site q c.args.index c.args.line.cites.now c.args.rows.now c.other_follows-in-Step.result c.args.line.kind kind.Step (step_in (steps_in q) c.args.index) s c.in-Step.is there (at-other k ls c.args.line.frame c.args.line.site q c.args.index c.args.line.cites.now c.args.rows.now c.other_follows-in-Step.result s other c.other_follows-in-Step.ensures.follows);
       known = c.other_follows-in-Step.ensures.known;
     }
 
@@ -129,6 +129,6 @@ returns-in_default-kind-3 c =
     let there = step-there c.args.query.now c.args.index c.deref.result.now c.in-Some.step.now c.deref.ensures.value c.in-Some.ensures.lookup.3.0 c.in-Some.ensures.lookup.1 in
     let other = other-seen c.in-Some.step.now c.in_default-form.not-Filter c.in_default-form.not-Keys in
     record {
-      follows = not-at k ls c.args.frame c.args.site q c.args.index c.args.cites.now c.args.rows.now c.args.kind (step_in (steps_in q) c.args.index) s there (other-else k ls c.args.frame c.args.site q c.args.index c.args.cites.now c.args.rows.now c.args.kind s c.in_default-kind-3.not-Step other);
+      follows = not-at k ls c.args.line.frame c.args.line.site q c.args.index c.args.line.cites.now c.args.rows.now c.args.line.kind (step_in (steps_in q) c.args.index) s there (other-else k ls c.args.line.frame c.args.line.site q c.args.index c.args.line.cites.now c.args.rows.now c.args.line.kind s c.in_default-kind-3.not-Step other);
       known = λ e. absurd (true≢false (sym e));
     }

@@ -18,14 +18,14 @@ row_passes-requires c = record {
 
 pub returns-then-passes-any : goal.returns-then-passes-any
 returns-then-passes-any c =
-    row-decides (passes (known_of c.args.context.now) c.args.op c.args.not c.args.rights.now) c.args.any c.args.lefts.now c.loop-left.left-index c.loop-left.invariant c.in_ok-passes.passes _ c.loop-left-test.true
+    row-decides (passes (known_of c.args.context.now) c.args.asks.op c.args.asks.not c.args.rights.now) c.args.asks.any c.args.lefts.now c.loop-left.left-index c.loop-left.invariant c.in_ok-passes.passes _ c.loop-left-test.true
     c.in_ok-passes.ensures.answer c.if-passes-any.true
 
 pub loop-left-preserved : goal.loop-left-preserved
 loop-left-preserved c =
-    row-leaves (passes (known_of c.args.context.now) c.args.op c.args.not c.args.rights.now) c.args.any c.args.lefts.now c.loop-left.left-index c.loop-left.invariant c.in_ok-passes.passes _ c.loop-left-test.true
+    row-leaves (passes (known_of c.args.context.now) c.args.asks.op c.args.asks.not c.args.rights.now) c.args.asks.any c.args.lefts.now c.loop-left.left-index c.loop-left.invariant c.in_ok-passes.passes _ c.loop-left-test.true
     c.in_ok-passes.ensures.answer c.if-passes-any.false
 
 pub returns : goal.returns
 returns c =
-    rows-leave (passes (known_of c.args.context.now) c.args.op c.args.not c.args.rights.now) c.args.any c.args.lefts.now c.loop-left.left-index c.loop-left.invariant c.loop-left-test.false
+    rows-leave (passes (known_of c.args.context.now) c.args.asks.op c.args.asks.not c.args.rights.now) c.args.asks.any c.args.lefts.now c.loop-left.left-index c.loop-left.invariant c.loop-left-test.false

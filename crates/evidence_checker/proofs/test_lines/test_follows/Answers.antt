@@ -8,22 +8,22 @@ use Rattle.evidence_checker.proofs.test_lines.test_follows.Goals as goal
 
 pub returns-in_default-given_by_query : goal.returns-in_default-given_by_query
 returns-in_default-given_by_query c =
-    λ n message. never-left (lines_of c.args.context.now) c.args.frame c.in-Some.first.now c.args.cites.now c.in-Some.others.now c.in-Some.ensures.cases.0 (known_of c.args.context.now) c.args.verdict
-    n c.args.any (see_query c.args.left.now) c.args.op c.args.not (see_opt_expr c.args.right.now) message c.in_default-given_by_query.ensures
+    λ n message. never-left (lines_of c.args.context.now) c.args.line.frame c.in-Some.first.now c.args.line.cites.now c.in-Some.others.now c.in-Some.ensures.cases.0 (known_of c.args.context.now) c.args.verdict
+    n c.args.asks.any (see_query c.args.asks.left.now) c.args.asks.op c.args.asks.not (see_opt_expr c.args.asks.right.now) message c.in_default-given_by_query.ensures
 
 pub returns-in_default-given_at_right : goal.returns-in_default-given_at_right
 returns-in_default-given_at_right c =
-    λ n message. never-right (lines_of c.args.context.now) c.args.frame c.in-Some.first.now c.args.cites.now c.in-Some.others.now c.in-Some.ensures.cases.0 (known_of c.args.context.now) c.args.verdict
-    n c.args.any (see_query c.args.left.now) c.args.op c.args.not (see_opt_expr c.args.right.now) message (c.in_default-given_at_right.ensures (known_of c.args.context.now) refl)
+    λ n message. never-right (lines_of c.args.context.now) c.args.line.frame c.in-Some.first.now c.args.line.cites.now c.in-Some.others.now c.in-Some.ensures.cases.0 (known_of c.args.context.now) c.args.verdict
+    n c.args.asks.any (see_query c.args.asks.left.now) c.args.asks.op c.args.asks.not (see_opt_expr c.args.asks.right.now) message (c.in_default-given_at_right.ensures (known_of c.args.context.now) refl)
 
 pub test_of_rows-requires : goal.test_of_rows-requires
 test_of_rows-requires c = record {
-  lefts = query-said-known (known_of c.args.context.now) (lines_of c.args.context.now) c.args.context.now.sound c.args.frame (see_query c.args.left.now) c.in-Some.first.now c.in-Some-given_by_query.lefts.now c.in-Some-given_by_query.ensures;
-  rights = right-said-known (known_of c.args.context.now) (lines_of c.args.context.now) c.args.context.now.sound c.args.frame (see_opt_expr c.args.right.now) c.in-Some.others.now c.in-Some-given_at_right.rights.now (c.in-Some-given_at_right.ensures (known_of c.args.context.now) refl);
+  lefts = query-said-known (known_of c.args.context.now) (lines_of c.args.context.now) c.args.context.now.sound c.args.line.frame (see_query c.args.asks.left.now) c.in-Some.first.now c.in-Some-given_by_query.lefts.now c.in-Some-given_by_query.ensures;
+  rights = right-said-known (known_of c.args.context.now) (lines_of c.args.context.now) c.args.context.now.sound c.args.line.frame (see_opt_expr c.args.asks.right.now) c.in-Some.others.now c.in-Some-given_at_right.rights.now (c.in-Some-given_at_right.ensures (known_of c.args.context.now) refl);
 }
 
 pub returns : goal.returns
 returns c =
-    λ n message. test-decided (lines_of c.args.context.now) c.args.frame c.in-Some.first.now c.args.cites.now c.in-Some.others.now c.in-Some.ensures.cases.0 (known_of c.args.context.now) c.args.verdict
-    n c.args.any (see_query c.args.left.now) c.args.op c.args.not (see_opt_expr c.args.right.now) message c.in-Some-given_by_query.lefts.now c.in-Some-given_at_right.rights.now c.in_ok-said.said c.eq.result
+    λ n message. test-decided (lines_of c.args.context.now) c.args.line.frame c.in-Some.first.now c.args.line.cites.now c.in-Some.others.now c.in-Some.ensures.cases.0 (known_of c.args.context.now) c.args.verdict
+    n c.args.asks.any (see_query c.args.asks.left.now) c.args.asks.op c.args.asks.not (see_opt_expr c.args.asks.right.now) message c.in-Some-given_by_query.lefts.now c.in-Some-given_at_right.rights.now c.in_ok-said.said c.eq.result
     c.in-Some-given_by_query.ensures (c.in-Some-given_at_right.ensures (known_of c.args.context.now) refl) c.in_ok-said.ensures (same-verdicts c.eq.result c.args.verdict c.in_ok-said.said c.eq.ensures)

@@ -16,7 +16,7 @@ use Rattle.evidence_checker.proofs.tried_candidates.tried_verdicts.Goals as goal
 
 pub returns-then-values-cites : goal.returns-then-values-cites
 returns-then-values-cites c = λ known verdicts all.
-    let long = (said-each known c.args.lines.now (SaysCandidate known c.args.lines.now c.args.frame c.args.site (see_conds c.args.conditions.now)) c.args.values.now c.args.cites.now verdicts all).0 in
+    let long = (said-each known c.args.lines.now (SaysCandidate known c.args.lines.now c.args.line.frame c.args.line.site (see_conds c.args.conditions.now)) c.args.values.now c.args.line.cites.now verdicts all).0 in
     omega (arith, long)
 
 -- the value and the number of an index
@@ -32,17 +32,17 @@ said-so known lines frame site number conditions v w (at, there, is) =
 
 pub returns-in_default : goal.returns-in_default
 returns-in_default c = λ known verdicts all.
-    let said = said-at known c.args.lines.now (SaysCandidate known c.args.lines.now c.args.frame c.args.site (see_conds c.args.conditions.now)) c.args.values.now c.args.cites.now verdicts c.loop-i.i
+    let said = said-at known c.args.lines.now (SaysCandidate known c.args.lines.now c.args.line.frame c.args.line.site (see_conds c.args.conditions.now)) c.args.values.now c.args.line.cites.now verdicts c.loop-i.i
     (value_of c.args.values.now c.loop-i.i) (record { origin = origin.Template; node = 0; key = false }) c.loop-i-test.true refl all in
     c.in_default.ensures said.1.0 said.0 said.1.1
-    (subst (λ (n : ℕ). IsLine c.args.lines.now (get_or c.args.cites.now c.loop-i.i 0) kind.Conj said.1.0 n (says.Verdict said.0)) (conds-site c.args.conditions.now) said.1.2)
+    (subst (λ (n : ℕ). IsLine c.args.lines.now (get_or c.args.line.cites.now c.loop-i.i 0) kind.Conj said.1.0 n (says.Verdict said.0)) (conds-site c.args.conditions.now) said.1.2)
 
 pub loop-i-preserved : goal.loop-i-preserved
 loop-i-preserved c = λ known.
-    said-more known c.args.lines.now (SaysCandidate known c.args.lines.now c.args.frame c.args.site (see_conds c.args.conditions.now)) c.args.values.now c.args.cites.now c.loop-i.verdicts.items c.push.new.self.items c.loop-i.i
+    said-more known c.args.lines.now (SaysCandidate known c.args.lines.now c.args.line.frame c.args.line.site (see_conds c.args.conditions.now)) c.args.values.now c.args.line.cites.now c.loop-i.verdicts.items c.push.new.self.items c.loop-i.i
     (value_of c.args.values.now c.loop-i.i) (record { origin = origin.Template; node = 0; key = false }) c.in-Some.verdict c.loop-i-test.true c.if-values-cites.false refl c.in_ok-push.ensures.items (c.loop-i.invariant known)
-    (said-so known c.args.lines.now c.args.frame c.args.site (get_or c.args.cites.now c.loop-i.i 0) c.args.conditions.now (value_of c.args.values.now c.loop-i.i) c.in-Some.verdict c.in-Some.ensures)
+    (said-so known c.args.lines.now c.args.line.frame c.args.line.site (get_or c.args.line.cites.now c.loop-i.i 0) c.args.conditions.now (value_of c.args.values.now c.loop-i.i) c.in-Some.verdict c.in-Some.ensures)
 
 pub returns : goal.returns
 returns c = λ known.
-    said-all known c.args.lines.now (SaysCandidate known c.args.lines.now c.args.frame c.args.site (see_conds c.args.conditions.now)) c.args.values.now c.args.cites.now c.loop-i.verdicts.items c.loop-i.i (omega arith) (omega arith) (c.loop-i.invariant known)
+    said-all known c.args.lines.now (SaysCandidate known c.args.lines.now c.args.line.frame c.args.line.site (see_conds c.args.conditions.now)) c.args.values.now c.args.line.cites.now c.loop-i.verdicts.items c.loop-i.i (omega arith) (omega arith) (c.loop-i.invariant known)

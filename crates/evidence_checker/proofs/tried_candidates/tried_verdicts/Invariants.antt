@@ -5,4 +5,4 @@ use Rattle.evidence_rules.specs.Follows.{SayEach, SaysCandidate}
 use Rattle.evidence_checker.proofs.tried_candidates.tried_verdicts.Given as goal
 
 abbrev pub invariant-loop-i : goal.invariant-loop-i
-invariant-loop-i l = (known : StoreModel) → SayEach known l.lines (SaysCandidate known l.lines l.frame l.site (see_conds l.conditions)) (take l.i l.values) (take l.i l.cites) l.verdicts.items
+invariant-loop-i l = (known : StoreModel) → SayEach known l.lines (SaysCandidate known l.lines l.fn.line.frame l.fn.line.site (see_conds l.conditions)) (take l.i l.values) (take l.i l.fn.line.cites.now) l.verdicts.items

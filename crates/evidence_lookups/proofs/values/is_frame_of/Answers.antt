@@ -9,8 +9,8 @@ use Rattle.evidence_lookups.specs.code.Grounds.{file_in, known_of, lines_of}
 use Rattle.evidence_lookups.proofs.FramesValued.{at-piece, call-valued, frame-known, no-call, no-filter, step-valued}
 use Rattle.evidence_lookups.proofs.values.is_frame_of.Goals as goal
 
-pub is_frame_of_body-requires-clause-placed : goal.is_frame_of_body-requires-clause-placed
-is_frame_of_body-requires-clause-placed c = sym (ap (λ (p : code.Piece). Some (see_piece p)) (sym c.in-Some-Body.field-0-is) ∙ c.in-Some-Body.ensures)
+pub is_frame_of_body-requires : goal.is_frame_of_body-requires
+is_frame_of_body-requires c = record { placed = sym (ap (λ (p : code.Piece). Some (see_piece p)) (sym c.in-Some-Body.field-0-is) ∙ c.in-Some-Body.ensures) }
 
 pub returns-in-Some-Body : goal.returns-in-Some-Body
 returns-in-Some-Body c =

@@ -1,8 +1,7 @@
 use Rattle.rule_names.specs.code.Files.{file_of}
-use Rattle.evidence_lookups.proofs.OwnersMarked.{all-marked}
+use Rattle.evidence_lookups.proofs.OwnersMarked.{tables}
 use Rattle.evidence_lookups.proofs.owners.Owners.new.Goals as goal
 
 pub returns : goal.returns
 returns c =
-    all-marked (file_of c.args.file.now) (record { rules = c.in_ok-rules.rules; whens = c.in_ok-whens.whens; blocks = c.in_ok-blocks.blocks }) c.args.file.now.sites
-    c.in_ok-rules.ensures c.in_ok-whens.ensures c.in_ok-blocks.ensures
+    tables (file_of c.args.file.now) (record { rules = c.in_ok-rules.rules; whens = c.in_ok-whens.whens; blocks = c.in_ok-blocks.blocks }) c.in_ok-rules.ensures c.in_ok-whens.ensures c.in_ok-blocks.ensures

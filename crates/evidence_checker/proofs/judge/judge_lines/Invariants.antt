@@ -1,15 +1,15 @@
 use Rattle.std.proofs.Common.{◌≡◌, ◌≤◌, length, take}
 use Rattle.value_compare.specs.code.Stores.{see_store}
 use Rattle.evidence_lookups.specs.code.JudgedSites.{AreJudged}
-use Rattle.evidence_lookups.specs.code.Said.{AreSound}
-use Rattle.evidence_checker.specs.code.Judging.{AreMadeWithin, IsKnownBehind}
-use Rattle.evidence_checker.proofs.judge.first_fault.Given as goal
+use Rattle.evidence_lookups.specs.code.Said.{AreMadeWithin, AreSound}
+use Rattle.evidence_checker.specs.code.Judging.{IsKnownBehind}
+use Rattle.evidence_checker.proofs.judge.judge_lines.Given as goal
 
 abbrev pub invariant-loop-before : goal.invariant-loop-before
 invariant-loop-before l = record {
   index : l.before ≤ length l.lines;
   file : (see_store l.store).file ≡ (see_store l.initial.store).file;
-  behind : IsKnownBehind l.version (see_store l.initial.store) (take l.before l.lines) (see_store l.store);
+  behind : IsKnownBehind l.written (see_store l.initial.store) (take l.before l.lines) (see_store l.store);
   judged : AreJudged (take l.before l.lines) l.judged.of.items;
   sites : length l.judged.of.items ≡ length (see_store l.store).file.places;
   sound : AreSound (see_store l.store) (take l.before l.lines);
