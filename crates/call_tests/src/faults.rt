@@ -34,6 +34,7 @@ const FAULTS: &[(&[u64], u64, u64, Wanted)] = &[
         23,
         Failed("err not written", b"rule", b"guard: cannot write out"),
     ),
+    (&[], 0, 0, Failed("err not written", b"", b"")),
     (&[], 39, 0, Passed),
 ];
 
@@ -165,6 +166,25 @@ fn tells_err_with_too_little_room_for_a_refusal(rt: HostRuntime) -> Result<(), F
         }
     }
     Ok(())
+}
+
+/// The usage line is cut where there is no more room.
+#[test]
+fn tells_err_with_too_little_room_for_the_usage_line(rt: HostRuntime) -> Result<(), Fail> {
+    let given = Given {
+        words: &[],
+        err_room: 5,
+        ..FIRST
+    };
+    if comes_out(
+        rt.alloc(),
+        &given,
+        &Failed("err not written", b"", b"usage"),
+    )? {
+        Ok(())
+    } else {
+        Err(Fail::from("usage"))
+    }
 }
 
 /// With memory at hand the call ends as defined. Where an allocation is refused, as `rt try --test --fail-alloc N` does,
