@@ -5,7 +5,7 @@ use Rattle.std.specs.Prelude.{is_some, not, option_and_then, option_map}
 use Rattle.std.proofs.lemmas.Bool.{true≢false}
 use Rattle.std.proofs.lemmas.List.{take_all}
 use Rattle.evidence_lines.specs.declared.line.Line.{Line}
-use Rattle.guard_syntax.specs.Syntax.{Conds, Expr, File, Query, Step, this, var, key, index, every, items, splice, filter, keys, with_expr}
+use Rattle.guard_syntax.specs.Syntax.{Conds, Expr, File, Query, Step, this, var, key, index, every, items, splice, filter, keys, with_expr, no_expr}
 use Rattle.guard_syntax.specs.Named.{Named}
 use Rattle.guard_syntax.specs.declared.row.Ref.{Ref}
 use Rattle.guard_syntax.specs.declared.row.Row.{Row}
@@ -305,3 +305,31 @@ module _ (known : StoreModel) (lines : List Line) (frame : ℕ) where
           never h.4 (subst (λ (vs : List Ref). SayEach known lines (SaysCandidate known lines frame site conditions) vs last h.4) (sym values)
           (subst (λ (rs : List Row). SayEach known lines (SaysCandidate known lines frame site conditions) (candidates_at known site rs) last h.4) (sym same.1)
           (subst (λ (cs : List ℕ). SayEach known lines (SaysCandidate known lines frame site conditions) (candidates_at known site h.3) cs h.4) (sym same.0) h.8)))
+
+-- ---- cites that are too few or too many
+
+module _ (known : StoreModel) (lines : List Line) (frame : ℕ) where
+  pub capture-uncited : (step : Step) (cites : List ℕ) (rows : List Row) → length cites < 1 → FollowsCapture known lines frame step cites rows → ⊥
+  capture-uncited step [] rows short h = h
+  capture-uncited step (c ∷ cites) rows short h = absurd (omega (arith, short))
+
+  pub capture-many : (step : Step) (cites : List ℕ) (rows : List Row) → 2 ≤ length cites → FollowsCapture known lines frame step cites rows → ⊥
+  capture-many step [] rows many h = h
+  capture-many step (c ∷ []) rows many h = absurd (omega (arith, many))
+  capture-many step (c ∷ d ∷ cites) rows many h = h
+
+  pub uncited-before : (q : Query) (i : ℕ) (cites first last : List ℕ) (rows : List Row) → (i ≡ 0 → ⊥) → length cites < 1 → cites ≡ first ++ last → GivesBefore known lines frame q i first rows → ⊥
+  uncited-before q zero cites first last rows later short parts h = later refl
+  uncited-before q (suc i) cites [] last rows later short parts h = h
+  uncited-before q (suc i) cites (c ∷ first) last rows later short parts h =
+      let long : length cites ≡ suc (length (first ++ last)) = ap length parts in
+      absurd (omega (arith, short, long))
+
+  -- of the right side of a test that has none
+  pub right-bare : (cites : List ℕ) → length cites < 1 → GivesRight known lines frame no_expr cites []
+  right-bare [] short = refl
+  right-bare (c ∷ cites) short = absurd (omega (arith, short))
+
+  pub right-cited : (cites : List ℕ) → 1 ≤ length cites → (rows : List Row) → GivesRight known lines frame no_expr cites rows → ⊥
+  right-cited [] many rows h = absurd (omega (arith, many))
+  right-cited (c ∷ cites) many rows h = h

@@ -1,5 +1,5 @@
 -- Verdicts that follow from one line: of a body, of a reference and of a call.
-use Rattle.std.proofs.Common.{◌≡◌, ℕ, List, [], ◌∷◌, Option, Some, true, false, Bool, ap, sym, subst, ◌∙◌, MatchBool}
+use Rattle.std.proofs.Common.{◌≡◌, ℕ, List, [], ◌∷◌, Option, Some, true, false, Bool, ap, sym, subst, ◌∙◌, MatchBool, length, ◌<◌, ◌≤◌, arith}
 use Rattle.evidence_lines.specs.declared.line.Line.{Line}
 use Rattle.evidence_lines.specs.declared.line.LineKind.TheVariants as kind
 use Rattle.evidence_lines.specs.declared.line.Outcome.TheVariants as says
@@ -82,3 +82,14 @@ module _ (known : StoreModel) (lines : List Line) (frame number : ℕ) (cites : 
       refer-decided said answer false is answers other =
           λ f. let g = refer-taken f in
           other (g.3 ∙ ap (referred negated) (same-verdict lines number kind.Rule g.0 is.0 rule g.1 said g.2 is.1) ∙ sym answers)
+
+-- a call whose cites are too few or too many
+module _ (known : StoreModel) (lines : List Line) (frame site n : ℕ) (not : Bool) (name : List ℕ) (args : sx.Exprs) (message : Option (List ℕ)) (verdict : Verdict) where
+  pub call-uncited : (cites : List ℕ) → length cites < 1 → FollowsCall known lines frame site (sx.call n not name args message) cites verdict → ⊥
+  call-uncited [] short h = h
+  call-uncited (c ∷ cites) short h = absurd (omega (arith, short))
+
+  pub call-many : (cites : List ℕ) → 2 ≤ length cites → FollowsCall known lines frame site (sx.call n not name args message) cites verdict → ⊥
+  call-many [] many h = h
+  call-many (c ∷ []) many h = absurd (omega (arith, many))
+  call-many (c ∷ d ∷ cites) many h = h

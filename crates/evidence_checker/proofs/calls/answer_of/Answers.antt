@@ -27,3 +27,16 @@ call-requires-clause-pattern c =
     let there = subst (λ (all : List (Vec Row Global)). GiveArgs (file_of c.args.context.now.store.now.file.now) (lines_of c.args.context.now) c.args.line.frame es c.args.line.cites.now (map see_rows all)) (sym c.deref.ensures.value) gives in
     call-pattern (known_of c.args.context.now) c.args.line.site c.in-Some.called.function es c.args.context.now.store.now.file.now.sites c.args.context.now.store.now.file.now.named c.in-Some.ensures c.args.context.now.book.now c.args.context.now.book_is (lines_of c.args.context.now) c.args.context.now.sound
     c.args.line.frame c.args.line.cites.now (map see_rows c.deref.result.now) there
+
+pub returns-clause-answer : goal.returns-clause-answer
+returns-clause-answer c =
+    let es = expr_list (map see_expr c.in-Some.called.args.now) in
+    let gives = args-given (file_of c.args.context.now.store.now.file.now) (lines_of c.args.context.now) c.args.line.frame es c.args.line.cites.now c.in_ok-given.field-0 c.in_ok-given.ensures c.in-Some-2.given c.in-Some-2.is in
+    record {
+      called = c.in-Some.called.function;
+      args = es;
+      given = map see_rows c.deref.result.now;
+      stands = c.in-Some.ensures;
+      gives = subst (λ (all : List (Vec Row Global)). GiveArgs (file_of c.args.context.now.store.now.file.now) (lines_of c.args.context.now) c.args.line.frame es c.args.line.cites.now (map see_rows all)) (sym c.deref.ensures.value) gives;
+      answers = c.in_ok-answer.ensures.rows;
+    }

@@ -1,5 +1,8 @@
-use Rattle.std.proofs.Common.{◌++◌, [], ◌∷◌, List, arith, map, ap, ◌∙◌}
-use Rattle.std.proofs.lemmas.List.{map-append}
+use Rattle.evidence_rules.specs.CitedLines.{GiveArgs}
+use Rattle.guard_syntax.specs.declared.syntax.Expr.{Expr}
+use Rattle.guard_syntax.specs.code.Seen.{expr_list, see_expr}
+use Rattle.std.proofs.Common.{◌++◌, [], ◌∷◌, List, arith, map, ap, ◌∙◌, take, subst, ℕ, length, ◌≤◌}
+use Rattle.std.proofs.lemmas.List.{map-append, take_all}
 use Rattle.guard_builtins.specs.code.Seen.{see_rows}
 use Rattle.guard_syntax.specs.declared.row.Row.{Row}
 use Rattle.rule_names.specs.code.Files.{file_of}
@@ -19,3 +22,11 @@ loop-at-preserved c =
     (map see_rows c.loop-at.all.items) (map see_rows c.push.new.self.items) c.in-Some.rows.now c.loop-at.invariant c.in-Some.ensures
     (ap (map see_rows) c.in_ok-push.ensures.items ∙ map-append see_rows c.loop-at.all.items (c.in_ok-to_vec.field-0 ∷ [])
     ∙ ap (λ (rows : List Row). map see_rows c.loop-at.all.items ++ rows ∷ []) (c.in_ok-to_vec.ensures.items_if_clones_equal (λ x y h. h)))
+
+pub returns : goal.returns
+returns c =
+    let past : length c.args.line.cites.now ≤ c.loop-at.at = omega (arith, c.if-args-cites.false, c.loop-at-test.false) in
+    subst (λ (es : List Expr). GiveArgs (file_of c.args.file.now) c.args.lines.now c.args.line.frame (expr_list (map see_expr es)) c.args.line.cites.now (map see_rows c.loop-at.all.items))
+    (take_all c.loop-at.at c.args.args.now c.loop-at-test.false)
+    (subst (λ (cs : List ℕ). GiveArgs (file_of c.args.file.now) c.args.lines.now c.args.line.frame (expr_list (map see_expr (take c.loop-at.at c.args.args.now))) cs (map see_rows c.loop-at.all.items))
+    (take_all c.loop-at.at c.args.line.cites.now past) c.loop-at.invariant)

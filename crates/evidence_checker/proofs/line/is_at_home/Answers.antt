@@ -20,3 +20,6 @@ returns-in-Some c =
 
 pub returns-in-None : goal.returns-in-None
 returns-in-None c = λ within same. none-some _ (c.in-None.ensures ∙ same)
+
+pub home_for-requires : goal.home_for-requires
+home_for-requires c = subst (λ (xs : List ℕ). c.args.line.site < length xs) (c.as_slice.ensures ∙ ap (λ (r : RawFile). r.places) c.raw.ensures) c.if-site-as_slice.false

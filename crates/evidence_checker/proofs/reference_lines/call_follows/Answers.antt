@@ -6,7 +6,7 @@ use Rattle.evidence_rules.specs.CitedLines.{called_body}
 use Rattle.evidence_lookups.proofs.PartsSeen.{body-site}
 use Rattle.evidence_checker.proofs.Decided.{same-verdicts}
 use Rattle.evidence_checker.proofs.FramesSaid.{one-cite}
-use Rattle.evidence_checker.proofs.UsesSaid.{call-decided, call-never}
+use Rattle.evidence_checker.proofs.UsesSaid.{call-decided, call-never, call-many, call-uncited}
 use Rattle.evidence_checker.proofs.reference_lines.call_follows.Goals as goal
 
 pub returns-in-None : goal.returns-in-None
@@ -21,3 +21,11 @@ returns-in-Some-said_within c =
     (one-cite c.args.line.cites.now c.in-len1.len_at_least c.in-len1.len_below) c.args.line.site n c.args.not name message args
     (see_body c.in-Some.body.now) (out-Body c.in-Some.body.now).site (ap (λ (f : File). called_body f c.args.line.site) file_is ∙ sym c.in-Some.ensures) (sym (body-site c.in-Some.body.now))
     c.in-Some-said_within.said c.exchanged.result c.eq.result c.in-Some-said_within.ensures c.exchanged.ensures (same-verdicts c.eq.result c.args.verdict c.exchanged.result c.eq.ensures)
+
+pub returns-in_default-cites : goal.returns-in_default-cites
+returns-in_default-cites c = λ known file_is n name args message.
+    call-uncited known c.args.lines.now c.args.line.frame c.args.line.site n c.args.not name args message c.args.verdict c.args.line.cites.now c.in_default-cites.len_below
+
+pub returns-in_default-cites-2 : goal.returns-in_default-cites-2
+returns-in_default-cites-2 c = λ known file_is n name args message.
+    call-many known c.args.lines.now c.args.line.frame c.args.line.site n c.args.not name args message c.args.verdict c.args.line.cites.now c.in_default-cites.len_at_least

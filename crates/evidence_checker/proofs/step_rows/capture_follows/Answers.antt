@@ -2,7 +2,7 @@ use Rattle.std.proofs.Common.{get_or}
 use Rattle.guard_syntax.specs.code.Seen.{see_step}
 use Rattle.evidence_lookups.specs.code.Grounds.{known_of, lines_of}
 use Rattle.evidence_lookups.proofs.SaidKnown.{rows-said-known}
-use Rattle.evidence_checker.proofs.StepLines.{capture-lacks, one-cite}
+use Rattle.evidence_checker.proofs.StepLines.{capture-lacks, one-cite, capture-many, capture-uncited}
 use Rattle.evidence_checker.proofs.step_rows.capture_follows.Goals as goal
 
 pub returns-in_default-given_by_step-clause-follows : goal.returns-in_default-given_by_step-clause-follows
@@ -14,3 +14,9 @@ pub captured-requires : goal.captured-requires
 captured-requires c = record {
   known = rows-said-known (known_of c.args.context.now) (lines_of c.args.context.now) c.args.context.now.sound _ _ _ _ c.in-Some.kept.now c.in-Some.ensures;
 }
+
+pub returns-in_default-clause-follows : goal.returns-in_default-clause-follows
+returns-in_default-clause-follows c = capture-uncited (known_of c.args.context.now) (lines_of c.args.context.now) c.args.line.frame (see_step c.args.step.now) c.args.line.cites.now c.args.rows.now c.in_default.len_below
+
+pub returns-in_default-2-clause-follows : goal.returns-in_default-2-clause-follows
+returns-in_default-2-clause-follows c = capture-many (known_of c.args.context.now) (lines_of c.args.context.now) c.args.line.frame (see_step c.args.step.now) c.args.line.cites.now c.args.rows.now c.in_default.len_at_least

@@ -4,7 +4,7 @@ use Rattle.guard_syntax.specs.Syntax.{File}
 use Rattle.evidence_rules.specs.CitedLines.{GivesStep}
 use Rattle.evidence_rules.specs.Follows.{GivesBefore}
 use Rattle.evidence_lookups.proofs.PartsSeen.{no-step, step-there}
-use Rattle.evidence_checker.proofs.StepLines.{before-given, first-of, no-rows-before, no-step-before}
+use Rattle.evidence_checker.proofs.StepLines.{before-given, first-of, no-rows-before, no-step-before, uncited-before}
 use Rattle.evidence_checker.proofs.step_rows.rows_before.Goals as goal
 
 pub returns-then-index-eq0 : goal.returns-then-index-eq0
@@ -35,3 +35,7 @@ returns c = λ known file_is.
           (step-there c.args.query.now (c.args.index - 1) c.deref.result.now c.in-Some.step.now c.deref.ensures.value c.in-Some.ensures.lookup.3.0 c.in-Some.ensures.lookup.1)
           (subst (λ (f : File). GivesStep f c.args.lines.now c.args.line.frame (see_step c.in-Some.step.now) (get_or c.args.line.cites.now 0 0) c.in-Some-given_by_step.rows.now) (sym file_is) c.in-Some-given_by_step.ensures),
     )
+
+pub returns-in_default : goal.returns-in_default
+returns-in_default c = λ known file_is first last rows parts.
+    uncited-before known c.args.lines.now c.args.line.frame (see_query c.args.query.now) c.args.index c.args.line.cites.now first last rows c.if-index-eq0.false c.in_default.len_below parts

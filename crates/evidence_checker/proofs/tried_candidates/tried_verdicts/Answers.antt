@@ -1,4 +1,4 @@
-use Rattle.std.proofs.Common.{ℕ, List, arith, false, get_or, refl, subst, sym}
+use Rattle.std.proofs.Common.{ℕ, List, arith, false, get_or, refl, subst, sym, []}
 use Rattle.evidence_lines.specs.declared.line.Line.{Line}
 use Rattle.evidence_lines.specs.declared.line.LineKind.TheVariants as kind
 use Rattle.evidence_lines.specs.declared.line.Outcome.TheVariants as says
@@ -9,7 +9,7 @@ use Rattle.guard_syntax.specs.declared.row.Verdict.{Verdict}
 use Rattle.guard_syntax.specs.declared.syntax.Conds.{Conds, out-Conds}
 use Rattle.rule_meaning.specs.StoreModel.{StoreModel}
 use Rattle.evidence_rules.specs.CitedLines.{IsLine}
-use Rattle.evidence_rules.specs.Follows.{SaysCandidate}
+use Rattle.evidence_rules.specs.Follows.{SaysCandidate, SayEach}
 use Rattle.evidence_checker.proofs.StepLines.{said-all, said-at, said-each, said-more}
 use Rattle.evidence_checker.proofs.StepsSeen.{conds-site}
 use Rattle.evidence_checker.proofs.tried_candidates.tried_verdicts.Goals as goal
@@ -46,3 +46,8 @@ loop-i-preserved c = λ known.
 pub returns : goal.returns
 returns c = λ known.
     said-all known c.args.lines.now (SaysCandidate known c.args.lines.now c.args.line.frame c.args.line.site (see_conds c.args.conditions.now)) c.args.values.now c.args.line.cites.now c.loop-i.verdicts.items c.loop-i.i (omega arith) (omega arith) (c.loop-i.invariant known)
+
+pub loop-i-init : goal.loop-i-init
+loop-i-init c = λ known.
+    subst (λ (ws : List Verdict). SayEach known c.args.lines.now (SaysCandidate known c.args.lines.now c.args.line.frame c.args.line.site (see_conds c.args.conditions.now)) [] [] ws)
+    (sym c.new-verdicts.ensures.items) tt
