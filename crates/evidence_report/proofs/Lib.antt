@@ -1,0 +1,11 @@
+mod Appending
+mod Counting
+mod EarlierCites
+mod KnownRows
+mod LeadEntries
+mod LoopLeads
+mod SitesOfLines
+mod TakenTexts
+mod TestParts
+mod ToldEntries
+mod WrittenLeads

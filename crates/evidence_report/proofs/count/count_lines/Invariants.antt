@@ -1,0 +1,10 @@
+use Rattle.std.proofs.Common.{◌≡◌, length}
+use Rattle.evidence_lookups.specs.code.Grounds.{known_of, lines_of}
+use Rattle.evidence_report.specs.code.Counts.{AreCounts}
+use Rattle.evidence_report.proofs.count.count_lines.Given as goal
+
+abbrev pub invariant-loop-line : goal.invariant-loop-line
+invariant-loop-line l = record {
+  size : length l.counts.items ≡ l.line-index;
+  are : AreCounts (known_of l.context) (lines_of l.context) l.counts.items;
+}

@@ -1,0 +1,25 @@
+-- What `rule` lines of evidence fail by, by the meaning of rules.
+use Rattle.std.specs.Prelude.{ℕ, ◌≡◌, List, [], Contains}
+use Rattle.evidence_lines.specs.declared.line.Line.{Line}
+use Rattle.evidence_lines.specs.declared.line.LineKind.TheVariants as kind
+use Rattle.evidence_lines.specs.declared.line.Outcome.TheVariants as says
+use Rattle.evidence_lines.specs.declared.version.Version.{Version}
+use Rattle.guard_syntax.specs.Syntax.{Rule}
+use Rattle.guard_syntax.specs.declared.row.Verdict.TheVariants.{Fail}
+use Rattle.rule_meaning.specs.Fails.{Entry, loose_fails, rule_fails}
+use Rattle.rule_meaning.specs.Locations.{World}
+use Rattle.rule_meaning.specs.StoreModel.{StoreModel}
+use Rattle.evidence_rules.specs.CitedLines.{IsLine}
+use Rattle.evidence_rules.specs.Follows.{AllFollow, nothing_made}
+use Rattle.evidence_rules.specs.code.Judgement.{FollowTo}
+use Rattle.evidence_truth.specs.code.HeldTrees.{HoldsTrees}
+
+-- where the line of a number is that of a rule and says FAIL, these are the entries by which the rule fails; and so of the parts outside rules
+pub record AreFailsOf (world : World) (lines : List Line) (number : ℕ) (entries : List Entry) : Type 0 where
+  pub rule : (r : Rule) (frame : ℕ) → Contains world.file.rules r → IsLine lines number kind.Rule frame r.site (says.Verdict Fail) → entries ≡ rule_fails world r
+  pub loose : (frame : ℕ) → IsLine lines number kind.Rule frame 0 (says.Verdict Fail) → entries ≡ loose_fails world world.file.loose
+
+-- lines that follow over the template and the file of a store, which holds the trees that they make
+pub record AreHeldLines (version : Version) (held : StoreModel) (lines : List Line) : Type 0 where
+  pub follow : AllFollow version (nothing_made held.template held.file) [] lines
+  pub trees : (known : StoreModel) → FollowTo version (nothing_made held.template held.file) [] lines known → HoldsTrees held known

@@ -1,0 +1,111 @@
+//! What lines that are cited say: whether one says FAIL, the rows that one gives, and the value of a frame.
+ghost use Rattle.std.specs.Prelude.{◌≡◌, Some, true};
+ghost use Rattle.guard_syntax.specs.code.Seen.{see_opt_conds};
+ghost use Rattle.rule_meaning.specs.Roots.{root_ref};
+ghost use Rattle.rule_meaning.specs.StoreModel.{StoreModel, is_known_ref};
+ghost use Rattle.evidence_lookups.specs.code.Grounds.{known_of, lines_of};
+ghost use Rattle.evidence_truth.specs.code.LineFails.{behind_conds, is_failing, rows_cited, rows_in, rows_of_line, says_fail};
+ghost use Rattle.evidence_report.specs.code.Leads.{current_ref};
+
+use evidence_lines::{Line, Outcome};
+use evidence_lookups::line_context::LineContext;
+use evidence_lookups::lookup::{line_of, value_of};
+use guard_syntax::{Conds, Origin, Ref, Row, Verdict};
+
+/// Whether the line of a number says FAIL.
+pub(crate) fn is_failing(lines: &[Line], number: u64) -> bool
+    ensures { (known : StoreModel) → result ≡ is_failing known lines.now number }
+{
+    match line_of(lines, number) {
+        Some(line) => says_fail(&line.outcome),
+        None => false,
+    }
+}
+
+/// Whether a line says FAIL.
+fn says_fail(outcome: &Outcome) -> bool
+    ensures { result ≡ says_fail outcome.now }
+{
+    match outcome {
+        Outcome::Verdict(Verdict::Fail) => true,
+        Outcome::Verdict(Verdict::Pass) => false,
+        Outcome::Verdict(Verdict::Skip) => false,
+        Outcome::Value(_) => false,
+        Outcome::Rows(_) => false,
+    }
+}
+
+/// The rows that the line of a number says; none where it says no rows.
+pub(crate) fn rows_of_line(lines: &[Line], number: u64) -> &[Row]
+    ensures { (known : StoreModel) → result.now ≡ rows_of_line known lines.entry.now number }
+{
+    match line_of(lines, number) {
+        Some(line) => rows_in(&line.outcome),
+        None => &[],
+    }
+}
+
+/// The rows of what a line says.
+fn rows_in(outcome: &Outcome) -> &[Row]
+    ensures { result.now ≡ rows_in outcome.entry.now }
+{
+    match outcome {
+        Outcome::Rows(rows) => rows.as_slice(),
+        Outcome::Value(_) => &[],
+        Outcome::Verdict(_) => &[],
+    }
+}
+
+/// The rows of the cite of an index; none where there is no such cite.
+pub(crate) fn rows_cited<'b>(lines: &'b [Line], cites: &[u64], index: usize) -> &'b [Row]
+    ensures { (known : StoreModel) → result.now ≡ rows_cited known lines.entry.now cites.now index }
+{
+    match cites.get(index) {
+        Some(cite) => rows_of_line(lines, *cite),
+        None => &[],
+    }
+}
+
+/// The cites of a type block behind that of its conditions, if it has some.
+pub(crate) fn behind_conds<'c>(conditions: &Option<Conds>, cites: &'c [u64]) -> &'c [u64]
+    ensures { result.now ≡ behind_conds (see_opt_conds conditions.now) cites.entry.now }
+{
+    match conditions {
+        None => cites,
+        Some(_) => match cites {
+            [] => cites,
+            [_, rest @ ..] => rest,
+        },
+    }
+}
+
+/// The value of a frame, and the root of the template where there is none.
+pub(crate) fn current_ref(context: &LineContext<'_, '_, '_>, frame: Option<u64>) -> Ref
+    ensures value { result ≡ current_ref (known_of context.now) (lines_of context.now) frame }
+    ensures known { is_known_ref (known_of context.now) result ≡ true }
+{
+    // A tree has a root, as `len` says.
+    let _nodes = context.store.doc.len();
+    match frame {
+        Some(frame) => value_or_root(context.lines, frame),
+        None => root(),
+    }
+}
+
+/// The value of a frame, and the root where there is none.
+fn value_or_root(lines: &[Line], frame: u64) -> Ref
+    ensures { (known : StoreModel) → result ≡ current_ref known lines.now (Some frame) }
+{
+    value_of(lines, frame).unwrap_or(root())
+}
+
+/// The root of the template.
+fn root() -> Ref
+    ensures { result ≡ root_ref }
+{
+    Ref {
+        origin: Origin::Template,
+        node: 0,
+        key: false,
+    }
+}
