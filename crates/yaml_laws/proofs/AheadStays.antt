@@ -1,7 +1,7 @@
 -- What a place has ahead is the same in each text that agrees with this one through the byte that shows it.
 use Rattle.std.proofs.Common.{◌≡◌, ℕ, zero, suc, ◌+◌, ◌<◌, ◌≤◌, inl, inr, Bool, true, false, ◌||◌, ◌&&◌, not, cond, nat_eq, nat_lt, arith, List, [], ◌∷◌, ◌++◌, drop, length, refl, sym, ap, ◌∙◌, subst, true≢false, append_assoc, length-append}
 use Rattle.std.proofs.lemmas.Bool.Decides.{nat_tests}
-use Rattle.yaml_scalars.specs.Lines.{Line, lines, begins_with, is_white, is_blank, lead, indent, past_white, is_mark, is_end}
+use Rattle.yaml_scalars.specs.Lines.{Line, lines, begins_with, begins_break, is_white, is_blank, lead, indent, past_white, is_mark, is_end}
 use Rattle.yaml_scalars.specs.Plain.{is_unsafe}
 use Rattle.yaml_scalars.specs.Block.{shown, widest}
 use Rattle.yaml_scalars.specs.Scalar.{is_first_column}
@@ -274,7 +274,7 @@ line_later size p (l ∷ ls) z w = by_tests (is_mark l.bytes) (is_passed true l.
   by_tests false true h = h
   by_tests false false h = let a = w.0 in omega (arith, a)
 
-module _ (before rest other : List ℕ) (b : ℕ) (feed : nat_eq b 13 ≡ false) (flow : Bool) where
+module _ (before rest other : List ℕ) (b : ℕ) (feed : begins_break b rest ≡ begins_break b other) (flow : Bool) where
   abbrev old : List ℕ
   old = before ++ (b ∷ rest)
 

@@ -1,4 +1,5 @@
 mod Agree
+mod AgreeLess
 mod AheadStays
 mod BlockHeads
 mod BlockLaw

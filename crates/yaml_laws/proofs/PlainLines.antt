@@ -7,7 +7,7 @@ use Rattle.yaml_scalars.specs.declared.plain_line.Why.{Why}
 use Rattle.yaml_scalars.specs.declared.plain_line.Why.TheVariants.{Break, Return, Colon, Comment, Mark}
 use Rattle.yaml_scalars.specs.declared.plain_line.Below.{Below}
 use Rattle.yaml_scalars.specs.declared.plain_line.Below.TheVariants.{Blank, Outside, Further}
-use Rattle.yaml_scalars.specs.Lines.{Line, Outcome, Stands, Fails, begins_with, is_white, is_space, is_blank, is_mark, is_cut_mark, lead, indent, past_white, each, fold, lines}
+use Rattle.yaml_scalars.specs.Lines.{Line, Outcome, Stands, Fails, begins_with, begins_break, is_white, is_space, is_blank, is_mark, is_cut_mark, lead, indent, past_white, each, fold, lines}
 use Rattle.yaml_scalars.specs.Plain.{above_of, plain_len, content, content_end, reason, content_at, inside, below, ends_on, joins, further, more, first, plain_on}
 use Rattle.yaml_scalars.specs.Block.{mark_len, may_end, shown}
 use Rattle.yaml_laws.specs.code.Agreement.{end_shown, shown_by, part_shown, line_shown, more_shown, plain_shown}
@@ -215,7 +215,7 @@ module _ (s : Setting) (at p : ℕ) (g : List ℕ) (b : ℕ) (l m u v : List ℕ
 
 -- ---- lines below the first
 
-module _ (before rest other : List ℕ) (b : ℕ) (feed : nat_eq b 13 ≡ false) where
+module _ (before rest other : List ℕ) (b : ℕ) (feed : begins_break b rest ≡ begins_break b other) where
   abbrev old : List ℕ
   old = before ++ (b ∷ rest)
 

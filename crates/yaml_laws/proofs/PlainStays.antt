@@ -18,7 +18,7 @@ use Rattle.yaml_laws.proofs.PlainLaw.{marked, dash}
 use Rattle.yaml_laws.proofs.QuotedStays.{mark_front}
 use Rattle.yaml_laws.proofs.ScalarLaw.{column_same}
 
--- ---- the lines of two texts that have bytes in common and then the same byte, which is no carriage return
+-- ---- the lines of two texts that have bytes in common and then the same byte, at which a break begins in both or in neither
 
 abbrev pub Parted : List ℕ → ℕ → List ℕ → List ℕ → Type 0
 Parted g b l m = ((l ≡ m) × (length l ≤ length g)) ⊎ ((u v : List ℕ) × (l ≡ g ++ (b ∷ u)) × (m ≡ g ++ (b ∷ v)))
@@ -27,11 +27,12 @@ feed_same : (g : List ℕ) (b : ℕ) (u v : List ℕ) → begins_with 10 (g ++ (
 feed_same [] b u v = refl
 feed_same (d ∷ g) b u v = refl
 
-pub parted : (g : List ℕ) (b : ℕ) (u v : List ℕ) → nat_eq b 13 ≡ false → Parted g b (line_at (g ++ (b ∷ u))) (line_at (g ++ (b ∷ v)))
-parted [] b u v n = by_break (nat_eq b 10) (nat_eq b 13) n where
-  by_break : (p q : Bool) → q ≡ false → Parted [] b (cond (p || (q && begins_with 10 u)) [] (b ∷ line_at u)) (cond (p || (q && begins_with 10 v)) [] (b ∷ line_at v))
-  by_break true q e = inl (refl, omega arith)
-  by_break false true e = absurd (true≢false e)
+pub parted : (g : List ℕ) (b : ℕ) (u v : List ℕ) → begins_break b u ≡ begins_break b v → Parted g b (line_at (g ++ (b ∷ u))) (line_at (g ++ (b ∷ v)))
+parted [] b u v n = by_break (begins_break b u) (begins_break b v) n where
+  by_break : (p q : Bool) → p ≡ q → Parted [] b (cond p [] (b ∷ line_at u)) (cond q [] (b ∷ line_at v))
+  by_break true true e = inl (refl, omega arith)
+  by_break true false e = absurd (true≢false e)
+  by_break false true e = absurd (true≢false (sym e))
   by_break false false e = inr (line_at u, line_at v, refl, refl)
 parted (c ∷ g) b u v n = by_break (begins_break c (g ++ (b ∷ u))) (begins_break c (g ++ (b ∷ v))) (ap (λ q. nat_eq c 10 || (nat_eq c 13 && q)) (feed_same g b u v)) (parted g b u v n) where
   by_break : (p q : Bool) → p ≡ q → Parted g b (line_at (g ++ (b ∷ u))) (line_at (g ++ (b ∷ v))) → Parted (c ∷ g) b (cond p [] (c ∷ line_at (g ++ (b ∷ u)))) (cond q [] (c ∷ line_at (g ++ (b ∷ v))))
@@ -197,8 +198,8 @@ line_stays s fresh at g b l m q r ls ms t e (inr (u, v, el, em)) one near h =
       unmarked true f low in_l in_m k = ap marked in_m ∙ marks_same s.flow f u v low (sym (ap marked in_l) ∙ k)
       unmarked false f low in_l in_m k = refl
 
--- texts that agree so far, where the byte behind is no carriage return
-pub plain_stays : (s : Setting) (before rest more : List ℕ) (b at : ℕ) (t : List ℕ) (e : ℕ) → at ≤ length before → nat_eq b 13 ≡ false → (reason s.flow (line_at (drop at (before ++ (b ∷ rest)))) ≡ Break → s.one_line ≡ true) → stop_shown s.flow at (line_at (drop at (before ++ (b ∷ rest)))) ≤ length before
+-- texts that agree so far, where a break begins at the byte behind in both or in neither
+pub plain_stays : (s : Setting) (before rest more : List ℕ) (b at : ℕ) (t : List ℕ) (e : ℕ) → at ≤ length before → begins_break b rest ≡ begins_break b more → (reason s.flow (line_at (drop at (before ++ (b ∷ rest)))) ≡ Break → s.one_line ≡ true) → stop_shown s.flow at (line_at (drop at (before ++ (b ∷ rest)))) ≤ length before
     → plain_scalar s (before ++ (b ∷ rest)) at ≡ Stands t e → plain_scalar s (before ++ (b ∷ more)) at ≡ Stands t e
 plain_stays s before rest more b at t e low n one near h =
     let text : List ℕ = before ++ (b ∷ rest) in

@@ -1,8 +1,7 @@
 -- Where a scalar stands, each text that agrees with this one through the byte that shows its end has the same scalar there.
 use Rattle.std.proofs.Common.{◌≡◌, ℕ, ◌+◌, ◌≤◌, Bool, true, false, List, ◌∷◌, ◌++◌, length, drop, sym, ap, ◌∙◌, cond}
-use Rattle.std.specs.Prelude.{nat_eq}
 use Rattle.yaml_scalars.specs.declared.scalar.Setting.{Setting}
-use Rattle.yaml_scalars.specs.Lines.{Stands, lines}
+use Rattle.yaml_scalars.specs.Lines.{Stands, begins_break, lines}
 use Rattle.yaml_laws.specs.code.Agreement.{end_shown, plain_shown, scalar_shown}
 use Rattle.yaml_scalars.specs.code.Walk.{line_at}
 use Rattle.yaml_scalars.specs.Scalar.{begins_quoted, begins_block, plain_scalar, quoted_scalar, block_scalar, scalar_at}
@@ -11,7 +10,7 @@ use Rattle.yaml_laws.proofs.PlainLines.{plain_stay}
 use Rattle.yaml_laws.proofs.QuotedStays.{quoted_stays}
 use Rattle.yaml_laws.proofs.ScalarLaw.{quoted_same, block_same}
 
-pub scalar_stays : (s : Setting) (before rest more : List ℕ) (b at : ℕ) (t : List ℕ) (e : ℕ) → at ≤ length before → nat_eq b 13 ≡ false → scalar_shown s (before ++ (b ∷ rest)) at e ≤ length before → scalar_at s (before ++ (b ∷ rest)) at ≡ Stands t e → scalar_at s (before ++ (b ∷ more)) at ≡ Stands t e
+pub scalar_stays : (s : Setting) (before rest more : List ℕ) (b at : ℕ) (t : List ℕ) (e : ℕ) → at ≤ length before → begins_break b rest ≡ begins_break b more → scalar_shown s (before ++ (b ∷ rest)) at e ≤ length before → scalar_at s (before ++ (b ∷ rest)) at ≡ Stands t e → scalar_at s (before ++ (b ∷ more)) at ≡ Stands t e
 scalar_stays s before rest more b at t e low feed near h =
     ap (λ q. cond q (quoted_scalar s (before ++ (b ∷ more)) at) (cond (begins_block s (drop at (before ++ (b ∷ more)))) (block_scalar s (before ++ (b ∷ more)) at) (plain_scalar s (before ++ (b ∷ more)) at))) (sym (quoted_same before b rest more at low))
     ∙ ap (λ q. cond (begins_quoted (drop at (before ++ (b ∷ rest)))) (quoted_scalar s (before ++ (b ∷ more)) at) (cond q (block_scalar s (before ++ (b ∷ more)) at) (plain_scalar s (before ++ (b ∷ more)) at))) (sym (block_same s before b rest more at low))

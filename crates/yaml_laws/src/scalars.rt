@@ -1,6 +1,7 @@
 //! Scalars: the places of refusals, and texts that begin alike.
-ghost use Rattle.std.specs.Prelude.{ℕ, List, ◌≡◌, ◌<◌, ◌≤◌, length, drop, false};
-ghost use Rattle.yaml_scalars.specs.Lines.{Fails, Stands, begins_with};
+ghost use Rattle.std.specs.Prelude.{ℕ, List, ◌≡◌, ◌<◌, ◌≤◌, length, drop};
+ghost use Rattle.yaml_scalars.specs.Lines.{Fails, Stands};
+ghost use Rattle.yaml_scalars.specs.code.Walk.{ends_line};
 ghost use Rattle.yaml_scalars.specs.Scalar.{scalar_at};
 ghost use Rattle.yaml_laws.specs.code.Agreement.{AgreesTo, scalar_shown};
 ghost use Rattle.yaml_laws.specs.code.Refusals.{IsSyntax};
@@ -15,8 +16,8 @@ pub fn syntax_place(text: &str, at: usize, setting: Setting)
 {}
 
 /// Where a scalar stands, another text that agrees with this one through the byte that shows the scalar's end has the same
-/// scalar there, unless that byte is a carriage return, behind which a line feed may stand or not. The call itself does
-/// nothing.
+/// scalar there, where a break begins with that byte in both or in neither: behind a carriage return a line feed may stand
+/// or not. The call itself does nothing.
 pub fn same_scalar(text: &str, at: usize, setting: Setting)
-    ensures { (other scalar : List ℕ) (place end : ℕ) → AgreesTo place text.now other → begins_with 13 (drop place text.now) ≡ false → at ≤ place → scalar_shown setting text.now at end ≤ place → scalar_at setting text.now at ≡ Stands scalar end → scalar_at setting other at ≡ Stands scalar end }
+    ensures { (other scalar : List ℕ) (place end : ℕ) → AgreesTo place text.now other → ends_line (drop place text.now) ≡ ends_line (drop place other) → at ≤ place → scalar_shown setting text.now at end ≤ place → scalar_at setting text.now at ≡ Stands scalar end → scalar_at setting other at ≡ Stands scalar end }
 {}

@@ -1,6 +1,5 @@
-use Rattle.std.proofs.Common.{◌≡◌, ◌≤◌, ◌∷◌, length, drop, false, sym, ap, ◌∙◌, subst}
-use Rattle.yaml_scalars.specs.Lines.{begins_with}
-use Rattle.yaml_laws.proofs.PlainDead.{drop_whole}
+use Rattle.std.proofs.Common.{◌≡◌, ◌≤◌, ◌∷◌, length, sym, ap, ◌∙◌, subst}
+use Rattle.yaml_laws.proofs.AgreeLess.{breaks_alike}
 use Rattle.yaml_blocks.specs.Ahead.{ahead}
 use Rattle.yaml_laws.specs.code.AheadSeen.{ahead_seen}
 use Rattle.yaml_laws.proofs.AheadStays.{ahead_stays}
@@ -13,7 +12,5 @@ returns c = λ other place (before, behind, more, b, whole, also, size) feed low
     let l = subst (λ n. at ≤ n) (sym size) low in
     let m = subst (λ n. ahead_seen c.args.text.now at ≤ n) (sym size) near in
     let m2 = subst (λ t. ahead_seen t at ≤ length before) whole m in
-    let f = subst (λ n. begins_with 13 (drop n c.args.text.now) ≡ false) (sym size) feed in
-    let f2 = subst (λ t. begins_with 13 (drop (length before) t) ≡ false) whole f in
-    let f3 = subst (λ t. begins_with 13 t ≡ false) (drop_whole before (b ∷ behind)) f2 in
-    ap (λ t. ahead t flow at) also ∙ ahead_stays before behind more b f3 flow at l m2 ∙ sym (ap (λ t. ahead t flow at) whole)
+    let f = breaks_alike before behind more b c.args.text.now other place whole also size feed in
+    ap (λ t. ahead t flow at) also ∙ ahead_stays before behind more b f flow at l m2 ∙ sym (ap (λ t. ahead t flow at) whole)
