@@ -1,5 +1,5 @@
 -- Texts that agree through a place agree through each before it, where a break begins in both or in neither.
-use Rattle.std.proofs.Common.{◌≡◌, ℕ, zero, suc, ◌+◌, ◌<◌, ◌≤◌, Bool, true, false, List, [], ◌∷◌, ◌++◌, length, drop, refl, sym, ap, ◌∙◌, arith, append_assoc, length-append}
+use Rattle.std.proofs.Common.{◌≡◌, ℕ, zero, suc, ◌<◌, false, List, [], ◌∷◌, ◌++◌, length, drop, refl, sym, ap, ◌∙◌, arith, append_assoc}
 use Rattle.std.specs.Prelude.{nat_eq, ◌||◌, ◌&&◌}
 use Rattle.yaml_scalars.specs.Lines.{begins_with, begins_break}
 use Rattle.yaml_scalars.specs.code.Walk.{ends_line}

@@ -131,7 +131,7 @@ lead_return (x ∷ xs) = by_byte (is_white x) refl (lead_return xs) where
     by_return false i = omega (arith, r)
   by_byte false e r = omega arith
 
-lead_content : (fresh : Bool) (xs : List ℕ) → lead is_white xs ≤ content_shown fresh xs
+pub lead_content : (fresh : Bool) (xs : List ℕ) → lead is_white xs ≤ content_shown fresh xs
 lead_content fresh xs = by_comment ((fresh || nat_lt 0 (lead is_white xs)) && begins_with 35 (past_white xs)) where
   by_comment : (q : Bool) → lead is_white xs ≤ cond q (first_return xs) (lead is_white xs + token_shown (past_white xs))
   by_comment true = lead_return xs
@@ -260,13 +260,13 @@ module _ (fresh : Bool) (g : List ℕ) (b : ℕ) (l m u v : List ℕ) (el : l �
 
 -- ---- the lines
 
-widest_first : (a b n : ℕ) → widest a b ≤ n → (a ≤ n) × (b ≤ n)
+pub widest_first : (a b n : ℕ) → widest a b ≤ n → (a ≤ n) × (b ≤ n)
 widest_first a b n h = by_less (nat_lt a b) (λ e. grind (arith, nat_tests, e)) (λ e. grind (arith, nat_tests, e)) h where
   by_less : (q : Bool) → (q ≡ true → a < b) → (q ≡ false → b ≤ a) → cond q b a ≤ n → (a ≤ n) × (b ≤ n)
   by_less true f g h = let l = f refl in (omega (arith, l, h), h)
   by_less false f g h = let l = g refl in (h, omega (arith, l, h))
 
-line_later : (size p : ℕ) (ls : List Line) → p < size → Later p ls → p < line_seen size ls
+pub line_later : (size p : ℕ) (ls : List Line) → p < size → Later p ls → p < line_seen size ls
 line_later size p [] z w = z
 line_later size p (l ∷ ls) z w = by_tests (is_mark l.bytes) (is_passed true l.bytes) (line_later size p ls z w.1) where
   by_tests : (q r : Bool) → p < line_seen size ls → p < cond q (l.at + 4) (cond r (line_seen size ls) (l.at + widest (shown l.bytes) (content_shown true l.bytes)))

@@ -1,5 +1,6 @@
 mod Agree
 mod AgreeLess
+mod AheadOrder
 mod AheadStays
 mod BlockHeads
 mod BlockLaw

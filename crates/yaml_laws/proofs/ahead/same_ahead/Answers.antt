@@ -1,4 +1,4 @@
-use Rattle.std.proofs.Common.{◌≡◌, ◌≤◌, ◌∷◌, length, sym, ap, ◌∙◌, subst}
+use Rattle.std.proofs.Common.{◌≤◌, length, sym, ap, ◌∙◌, subst}
 use Rattle.yaml_laws.proofs.AgreeLess.{breaks_alike}
 use Rattle.yaml_blocks.specs.Ahead.{ahead}
 use Rattle.yaml_laws.specs.code.AheadSeen.{ahead_seen}

@@ -1,4 +1,4 @@
-use Rattle.std.proofs.Common.{◌≡◌, ◌≤◌, ◌∷◌, length, sym, ap, ◌∙◌, subst}
+use Rattle.std.proofs.Common.{◌≤◌, length, sym, ap, ◌∙◌, subst}
 use Rattle.yaml_laws.specs.code.Agreement.{scalar_shown}
 use Rattle.yaml_scalars.specs.Scalar.{scalar_at}
 use Rattle.yaml_laws.proofs.AgreeLess.{breaks_alike}
