@@ -233,7 +233,7 @@ seen_next text flow i t e m l w = let a = seen_behind text flow i t e m l in let
 
 -- ---- a line `---` or `...`: behind its three bytes stands white space or its end, so what is ahead there is shown behind them
 
-line_rest : (n : ℕ) (ys : List ℕ) → n ≤ length (line_at ys) → line_at (drop n ys) ≡ drop n (line_at ys)
+pub line_rest : (n : ℕ) (ys : List ℕ) → n ≤ length (line_at ys) → line_at (drop n ys) ≡ drop n (line_at ys)
 line_rest zero ys l = refl
 line_rest (suc n) [] l = absurd (omega (arith, l))
 line_rest (suc n) (b ∷ ys) l = by_break (begins_break b ys) l (λ m. line_rest n ys m) where

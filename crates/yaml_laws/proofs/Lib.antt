@@ -11,11 +11,13 @@ mod EscapeLonger
 mod EscapeWanted
 mod Examples
 mod LineEnds
+mod LineTails
 mod Longer
 mod PlainDead
 mod PlainLaw
 mod PlainLines
 mod PlainLonger
+mod PlainOrder
 mod PlainShown
 mod PlainStays
 mod QuotedAlike
