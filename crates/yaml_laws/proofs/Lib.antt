@@ -29,5 +29,6 @@ mod QuotedLonger
 mod QuotedStays
 mod ScalarLaw
 mod ScalarLonger
+mod ScalarOrder
 mod ScalarStays
 mod SyntaxLaw
