@@ -128,7 +128,7 @@ content_reach flow fresh xs l = by_comment (fresh || nat_lt 0 (lead is_white xs)
   by_comment true false e = let z = token_reach flow (past_white xs) l in omega (arith, z)
   by_comment false q e = let z = token_reach flow (past_white xs) l in omega (arith, z)
 
-widest_less : (a b n : ℕ) → a ≤ n → b ≤ n → widest a b ≤ n
+pub widest_less : (a b n : ℕ) → a ≤ n → b ≤ n → widest a b ≤ n
 widest_less a b n h k = by_less (nat_lt a b) where
   by_less : (q : Bool) → cond q b a ≤ n
   by_less true = k

@@ -27,6 +27,7 @@ mod QuotedEnds
 mod QuotedLaw
 mod QuotedLonger
 mod QuotedStays
+mod ScalarAhead
 mod ScalarLaw
 mod ScalarLonger
 mod ScalarOrder

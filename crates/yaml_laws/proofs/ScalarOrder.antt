@@ -1,7 +1,6 @@
 -- The byte that shows the end of a scalar stands not behind the one that shows what the place of that end has ahead. By induction over lines.
-use Rattle.std.proofs.Common.{◌≡◌, ℕ, zero, suc, ◌+◌, ◌-◌, ◌<◌, ◌≤◌, Bool, true, false, ◌||◌, ◌&&◌, cond, nat_eq, arith, List, [], ◌∷◌, drop, length, get_or, refl, sym, ap, ◌∙◌, subst, true≢false, length-drop, Option, Some, None}
+use Rattle.std.proofs.Common.{◌≡◌, ℕ, suc, ◌+◌, ◌-◌, ◌≤◌, Bool, true, false, ◌||◌, ◌&&◌, cond, nat_eq, arith, List, [], ◌∷◌, drop, length, get_or, refl, sym, ap, ◌∙◌, subst, length-drop, Option, Some, None}
 use Rattle.std.specs.Prelude.{ℤ, slice_index}
-use Rattle.std.proofs.lemmas.Bool.Decides.{nat_tests}
 use Rattle.std.proofs.lemmas.List.{drop-drop, get_or-drop}
 use Rattle.yaml_scalars.specs.declared.scalar.Setting.{Setting}
 use Rattle.yaml_scalars.specs.Lines.{Line, Stands, lines, begins_with, is_blank}
@@ -22,7 +21,7 @@ use Rattle.yaml_laws.proofs.PlainOrder.{line_ends, plain_seen}
 
 -- ---- lines that begin at a first column
 
-abbrev Fresh : List ℕ → List Line → Type 0
+abbrev pub Fresh : List ℕ → List Line → Type 0
 Fresh text [] = Unit {0}
 Fresh text (l ∷ ls) = (is_first_column text l.at ≡ true) × Fresh text ls
 
@@ -36,7 +35,7 @@ behind_feed text rest b at e h =
     let there : get_or text (suc at - 1) 0 ≡ b = (let n : suc at - 1 ≡ at + 0 = omega arith in ap (λ k. get_or text k 0) n) ∙ sym (get_or-drop at text 0 0) ∙ ap (λ t. get_or t 0 0) (sym e) in
     third (nat_eq (suc at) 0) (nat_eq (suc at) 3 && begins_order_mark text) (nat_eq (slice_index text (suc at - 1)) 10) (ap (λ c. nat_eq c 10) there ∙ h)
 
-behind_fresh : (text rest : List ℕ) (at : ℕ) → rest ≡ drop at text → Fresh text (behind at rest)
+pub behind_fresh : (text rest : List ℕ) (at : ℕ) → rest ≡ drop at text → Fresh text (behind at rest)
 behind_fresh text [] at e = tt
 behind_fresh text (b ∷ rest) at e = by_feed (nat_eq b 10) refl (behind_fresh text rest (suc at) next) where
   next : rest ≡ drop (suc at) text
@@ -48,7 +47,7 @@ behind_fresh text (b ∷ rest) at e = by_feed (nat_eq b 10) refl (behind_fresh t
 
 -- ---- block scalars
 
-first_bytes : (text : List ℕ) (l : Line) (ls : List Line) → lines l.at (drop l.at text) ≡ l ∷ ls → line_at (drop l.at text) ≡ l.bytes
+pub first_bytes : (text : List ℕ) (l : Line) (ls : List Line) → lines l.at (drop l.at text) ≡ l ∷ ls → line_at (drop l.at text) ≡ l.bytes
 first_bytes text l ls is = first_of (record { at = l.at; bytes = line_at (drop l.at text); broken = has_break (drop l.at text) }) l (behind l.at (drop l.at text)) ls (sym (lines_are l.at (drop l.at text)) ∙ is) where
   first_of : (l m : Line) (ls ms : List Line) → l ∷ ls ≡ m ∷ ms → l.bytes ≡ m.bytes
   first_of l m ls ms h = let e : l ≡ m = cc in ap (λ (x : Line). x.bytes) e
