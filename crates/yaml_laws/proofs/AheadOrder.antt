@@ -241,7 +241,7 @@ line_rest (suc n) (b ∷ ys) l = by_break (begins_break b ys) l (λ m. line_rest
   by_break true l h = absurd (omega (arith, l))
   by_break false l h = h (omega (arith, l))
 
-mark_parts : (xs : List ℕ) → is_mark xs ≡ true → (3 ≤ length xs) × (is_end (drop 3 xs) ≡ true)
+pub mark_parts : (xs : List ℕ) → is_mark xs ≡ true → (3 ≤ length xs) × (is_end (drop 3 xs) ≡ true)
 mark_parts [] h = absurd (true≢false (sym h))
 mark_parts (a ∷ []) h = absurd (true≢false (sym h))
 mark_parts (a ∷ b ∷ []) h = absurd (true≢false (sym h))

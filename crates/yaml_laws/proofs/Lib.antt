@@ -10,6 +10,7 @@ mod BlockStays
 mod EscapeLonger
 mod EscapeWanted
 mod Examples
+mod FirstBytes
 mod LineEnds
 mod LineTails
 mod Longer

@@ -43,7 +43,7 @@ content_least fresh xs c z extra e (inr (n, m)) = by_comment (fresh || nat_lt 0 
   by_comment true false i = let k = colon in omega (arith, n, k)
   by_comment false false i = let k = colon in omega (arith, n, k)
 
-mark_lead : (xs : List ℕ) → is_mark xs ≡ true → lead is_white xs ≡ 0
+pub mark_lead : (xs : List ℕ) → is_mark xs ≡ true → lead is_white xs ≡ 0
 mark_lead [] h = refl
 mark_lead (a ∷ []) h = absurd (true≢false (sym h))
 mark_lead (a ∷ b ∷ []) h = absurd (true≢false (sym h))
@@ -129,7 +129,7 @@ stop_black flow white (b ∷ bs) c z e = by_stop (stops flow white b bs) refl e 
       ap is_white (sym same) ∙ by_tests (nat_eq b 58) (nat_eq b 35) (is_flow_mark b) (nat_eq b 13) (is_unsafe flow bs) refl refl refl refl s
   by_stop false s e r = r e
 
-lead_whole : (w : List ℕ) (c : ℕ) (z : List ℕ) → is_blank w ≡ true → is_white c ≡ false → lead is_white (w ++ (c ∷ z)) ≡ length w
+pub lead_whole : (w : List ℕ) (c : ℕ) (z : List ℕ) → is_blank w ≡ true → is_white c ≡ false → lead is_white (w ++ (c ∷ z)) ≡ length w
 lead_whole [] c z h n = ap (λ q. cond q (suc (lead is_white z)) 0) n
 lead_whole (b ∷ w) c z h n = by_white (is_white b) h (λ g. lead_whole w c z g n) where
   by_white : (q : Bool) → cond q (is_blank w) false ≡ true → (is_blank w ≡ true → lead is_white (w ++ (c ∷ z)) ≡ length w) → cond q (suc (lead is_white (w ++ (c ∷ z)))) 0 ≡ suc (length w)
