@@ -128,7 +128,7 @@ content_reach flow fresh xs l = by_comment (fresh || nat_lt 0 (lead is_white xs)
   by_comment true false e = let z = token_reach flow (past_white xs) l in omega (arith, z)
   by_comment false q e = let z = token_reach flow (past_white xs) l in omega (arith, z)
 
-widest_less : (a b n : ℕ) → a ≤ n → b ≤ n → widest a b ≤ n
+pub widest_less : (a b n : ℕ) → a ≤ n → b ≤ n → widest a b ≤ n
 widest_less a b n h k = by_less (nat_lt a b) where
   by_less : (q : Bool) → cond q b a ≤ n
   by_less true = k
@@ -233,7 +233,7 @@ seen_next text flow i t e m l w = let a = seen_behind text flow i t e m l in let
 
 -- ---- a line `---` or `...`: behind its three bytes stands white space or its end, so what is ahead there is shown behind them
 
-line_rest : (n : ℕ) (ys : List ℕ) → n ≤ length (line_at ys) → line_at (drop n ys) ≡ drop n (line_at ys)
+pub line_rest : (n : ℕ) (ys : List ℕ) → n ≤ length (line_at ys) → line_at (drop n ys) ≡ drop n (line_at ys)
 line_rest zero ys l = refl
 line_rest (suc n) [] l = absurd (omega (arith, l))
 line_rest (suc n) (b ∷ ys) l = by_break (begins_break b ys) l (λ m. line_rest n ys m) where
@@ -241,7 +241,7 @@ line_rest (suc n) (b ∷ ys) l = by_break (begins_break b ys) l (λ m. line_rest
   by_break true l h = absurd (omega (arith, l))
   by_break false l h = h (omega (arith, l))
 
-mark_parts : (xs : List ℕ) → is_mark xs ≡ true → (3 ≤ length xs) × (is_end (drop 3 xs) ≡ true)
+pub mark_parts : (xs : List ℕ) → is_mark xs ≡ true → (3 ≤ length xs) × (is_end (drop 3 xs) ≡ true)
 mark_parts [] h = absurd (true≢false (sym h))
 mark_parts (a ∷ []) h = absurd (true≢false (sym h))
 mark_parts (a ∷ b ∷ []) h = absurd (true≢false (sym h))

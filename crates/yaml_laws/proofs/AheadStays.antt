@@ -284,7 +284,7 @@ module _ (before rest other : List ℕ) (b : ℕ) (feed : begins_break b rest �
   abbrev place : ℕ
   place = length before
 
-  lines_part : (at : ℕ) (l m : List ℕ) → at ≤ place → l ≡ line_at (drop at old) → m ≡ line_at (drop at new) → Parted (drop at before) b l m
+  pub lines_part : (at : ℕ) (l m : List ℕ) → at ≤ place → l ≡ line_at (drop at old) → m ≡ line_at (drop at new) → Parted (drop at before) b l m
   lines_part at l m low e f =
       let p = parted (drop at before) b rest other feed in
       let p2 = subst (λ z. Parted (drop at before) b z (line_at (drop at before ++ (b ∷ other)))) (sym (e ∙ ap line_at (drop_before at before (b ∷ rest) low))) p in

@@ -10,12 +10,15 @@ mod BlockStays
 mod EscapeLonger
 mod EscapeWanted
 mod Examples
+mod FirstBytes
 mod LineEnds
+mod LineTails
 mod Longer
 mod PlainDead
 mod PlainLaw
 mod PlainLines
 mod PlainLonger
+mod PlainOrder
 mod PlainShown
 mod PlainStays
 mod QuotedAlike
@@ -25,7 +28,9 @@ mod QuotedEnds
 mod QuotedLaw
 mod QuotedLonger
 mod QuotedStays
+mod ScalarAhead
 mod ScalarLaw
 mod ScalarLonger
+mod ScalarOrder
 mod ScalarStays
 mod SyntaxLaw

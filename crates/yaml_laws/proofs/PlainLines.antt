@@ -80,7 +80,7 @@ no_tab (x ∷ xs) h = by_byte (nat_eq x 32) (nat_eq x 9) refl h (λ g. no_tab xs
   by_byte false true e h r = absurd (true≢false (sym e ∙ h))
   by_byte false false e h r = refl
 
-further_parts : (s : Setting) (xs : List ℕ) (n : ℕ) → below s xs ≡ Further n → (n ≡ lead is_white xs) × (is_mark xs ≡ false)
+pub further_parts : (s : Setting) (xs : List ℕ) (n : ℕ) → below s xs ≡ Further n → (n ≡ lead is_white xs) × (is_mark xs ≡ false)
 further_parts s xs n h = by_tests (is_blank xs) (is_mark xs) s.flow (begins_with 35 (past_white xs)) (nat_lt (indent xs) (above_of s.parent)) (begins_with 9 (drop (indent xs) xs)) refl (begins_with 35 (drop (indent xs) xs)) h where
   by_tests : (b m w c a t : Bool) → begins_with 9 (drop (indent xs) xs) ≡ t → (d : Bool)
       → cond b Blank (cond m Outside (cond w (cond c Outside (Further (lead is_white xs))) (cond (a || t) Outside (cond d Outside (Further (indent xs)))))) ≡ Further n → (n ≡ lead is_white xs) × (m ≡ false)
