@@ -14,6 +14,7 @@ mod FirstBytes
 mod LineEnds
 mod LineTails
 mod Longer
+mod PlainClosed
 mod PlainDead
 mod PlainLaw
 mod PlainLines

@@ -40,7 +40,7 @@ lead_in q (c ∷ f) u l = by_byte (q c) l (λ m. lead_in q f u m) where
   by_byte true l r = ap suc (r (omega (arith, l)))
   by_byte false l r = refl
 
-begins_in : (k n : ℕ) (f u : List ℕ) → n < length f → begins_with k (drop n (f ++ u)) ≡ begins_with k (drop n f)
+pub begins_in : (k n : ℕ) (f u : List ℕ) → n < length f → begins_with k (drop n (f ++ u)) ≡ begins_with k (drop n f)
 begins_in k n [] u l = absurd (omega (arith, l))
 begins_in k zero (c ∷ f) u l = refl
 begins_in k (suc n) (c ∷ f) u l = begins_in k n f u (omega (arith, l))
