@@ -1,3 +1,4 @@
 pub mod Blocks
+mod Controls
 pub mod LookUps
 pub mod Places

@@ -7,12 +7,14 @@
 #![tactic(auto)]
 
 mod ascii;
+mod control;
 mod count;
 mod lines;
 mod set;
 mod special;
 
 pub use ascii::is_ascii;
+pub use control::first_control_or;
 pub use count::count_byte;
 pub use lines::line_starts;
 pub use set::ByteSet;
