@@ -3,7 +3,6 @@ pub mod Judged
 pub mod Front
 pub mod Strings
 pub mod Units
-pub mod Specials
 pub mod NumberKinds
 pub mod Parts
 pub mod NumberBytes
@@ -24,3 +23,4 @@ pub mod Signs
 pub mod Places
 pub mod Refuses
 pub mod Examples
+mod Unescaped

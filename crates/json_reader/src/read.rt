@@ -12,7 +12,6 @@ use crate::bytes::{front_len, mark_stop, space_end};
 use crate::refusal::JsonRefusal;
 use crate::stage::{Position, Stage};
 use crate::step::step;
-use crate::text::Texts;
 use doc_values::{Doc, DocBuilder};
 use std::alloc::Global;
 
@@ -28,15 +27,14 @@ pub fn read_json<'s>(alloc: Global, text: &'s str) -> Result<Doc<'s>, JsonRefusa
         Some(stop) => return Err(JsonRefusal::Syntax(stop)),
         None => {}
     }
-    let texts = Texts::new(alloc);
     let mut builder = DocBuilder::new(alloc);
-    read_tokens(&texts, text, &mut builder)?;
+    read_tokens(alloc, text, &mut builder)?;
     Ok(builder.finish())
 }
 
 /// Reads the tokens of a text, and adds to the tree what they say.
 fn read_tokens<'s>(
-    texts: &Texts,
+    alloc: Global,
     text: &'s str,
     builder: &mut DocBuilder<'s>,
 ) -> Result<(), JsonRefusal>
@@ -54,7 +52,7 @@ fn read_tokens<'s>(
         stage: Stage::Value,
     };
     while position.at < text.len() {
-        match step(texts, text, position, builder) {
+        match step(alloc, text, position, builder) {
             Err(refusal) => return Err(refusal),
             Ok(next) => {
                 position = Position {

@@ -11,8 +11,9 @@ use crate::bytes::{Class, byte_class};
 use crate::number::number_at;
 use crate::refusal::JsonRefusal;
 use crate::stage::{Position, Stage};
-use crate::text::{Texts, text_at};
+use crate::text::text_at;
 use doc_values::{DocBuilder, Kind};
+use std::alloc::Global;
 use std::borrow::CowStr;
 
 /// An offset in a text of at most 8 MiB.
@@ -25,7 +26,7 @@ fn offset(i: usize) -> u32
 
 /// The token that begins at a place, whatever is awaited.
 pub(crate) fn step<'s>(
-    texts: &Texts,
+    alloc: Global,
     text: &'s str,
     position: Position,
     builder: &mut DocBuilder<'s>,
@@ -39,10 +40,10 @@ pub(crate) fn step<'s>(
 {
     let at = position.at;
     match position.stage {
-        Stage::Value => value_step(texts, text, at, builder),
-        Stage::KeyOrEnd => key_or_end_step(texts, text, at, builder),
-        Stage::ItemOrEnd => item_or_end_step(texts, text, at, builder),
-        Stage::Key => next_key_step(texts, text, at, builder),
+        Stage::Value => value_step(alloc, text, at, builder),
+        Stage::KeyOrEnd => key_or_end_step(alloc, text, at, builder),
+        Stage::ItemOrEnd => item_or_end_step(alloc, text, at, builder),
+        Stage::Key => next_key_step(alloc, text, at, builder),
         Stage::Colon => colon_step(text, at, builder),
         Stage::After => after_step(text, at, builder),
     }
@@ -50,7 +51,7 @@ pub(crate) fn step<'s>(
 
 /// Where a value is awaited.
 fn value_step<'s>(
-    texts: &Texts,
+    alloc: Global,
     text: &'s str,
     at: usize,
     builder: &mut DocBuilder<'s>,
@@ -64,7 +65,7 @@ fn value_step<'s>(
 {
     let bytes = text.as_bytes();
     match byte_class(bytes[at]) {
-        Class::Quote => text_step(texts, text, at, builder),
+        Class::Quote => text_step(alloc, text, at, builder),
         Class::Open => open_step(at, true, builder),
         Class::OpenList => open_step(at, false, builder),
         Class::LetterN => word_step(bytes, at, b"ull", Kind::Null, builder),
@@ -77,7 +78,7 @@ fn value_step<'s>(
 
 /// Behind the opening bracket of a map.
 fn key_or_end_step<'s>(
-    texts: &Texts,
+    alloc: Global,
     text: &'s str,
     at: usize,
     builder: &mut DocBuilder<'s>,
@@ -90,7 +91,7 @@ fn key_or_end_step<'s>(
     ensures memory { IsErrOf result JsonRefusal.NoMemory → begins (class_of (slice_index text.now at)) ≡ true }
 {
     match byte_class(text.as_bytes()[at]) {
-        Class::Quote => key_step(texts, text, at, builder),
+        Class::Quote => key_step(alloc, text, at, builder),
         Class::Close => end_step(at, true, builder),
         _ => Err(JsonRefusal::Syntax(offset(at))),
     }
@@ -98,7 +99,7 @@ fn key_or_end_step<'s>(
 
 /// Behind the opening bracket of a list.
 fn item_or_end_step<'s>(
-    texts: &Texts,
+    alloc: Global,
     text: &'s str,
     at: usize,
     builder: &mut DocBuilder<'s>,
@@ -112,13 +113,13 @@ fn item_or_end_step<'s>(
 {
     match byte_class(text.as_bytes()[at]) {
         Class::CloseList => end_step(at, false, builder),
-        _ => value_step(texts, text, at, builder),
+        _ => value_step(alloc, text, at, builder),
     }
 }
 
 /// Behind a comma in a map.
 fn next_key_step<'s>(
-    texts: &Texts,
+    alloc: Global,
     text: &'s str,
     at: usize,
     builder: &mut DocBuilder<'s>,
@@ -131,7 +132,7 @@ fn next_key_step<'s>(
     ensures memory { IsErrOf result JsonRefusal.NoMemory → begins (class_of (slice_index text.now at)) ≡ true }
 {
     match byte_class(text.as_bytes()[at]) {
-        Class::Quote => key_step(texts, text, at, builder),
+        Class::Quote => key_step(alloc, text, at, builder),
         _ => Err(JsonRefusal::Syntax(offset(at))),
     }
 }
@@ -173,7 +174,7 @@ fn after_step(text: &str, at: usize, builder: &mut DocBuilder) -> Result<Positio
 
 /// A text is a value.
 fn text_step<'s>(
-    texts: &Texts,
+    alloc: Global,
     text: &'s str,
     at: usize,
     builder: &mut DocBuilder<'s>,
@@ -184,7 +185,7 @@ fn text_step<'s>(
     requires fits { Fits Stage.Value builder.old }
     ensures { Gives text.now (at + 1) (InString false [] [] at) builder.old builder.new result }
 {
-    match text_at(texts, text, at + 1) {
+    match text_at(alloc, text, at + 1) {
         Err(refusal) => Err(refusal),
         Ok((content, end)) => {
             builder.scalar(Kind::Text, content, offset(at))?;
@@ -198,7 +199,7 @@ fn text_step<'s>(
 
 /// A text is a key.
 fn key_step<'s>(
-    texts: &Texts,
+    alloc: Global,
     text: &'s str,
     at: usize,
     builder: &mut DocBuilder<'s>,
@@ -210,7 +211,7 @@ fn key_step<'s>(
     ensures gives { Gives text.now (at + 1) (InString true [] [] at) builder.old builder.new result }
     ensures memory { IsErrOf result JsonRefusal.NoMemory → HasEscape text.now }
 {
-    match text_at(texts, text, at + 1) {
+    match text_at(alloc, text, at + 1) {
         Err(refusal) => Err(refusal),
         Ok((content, end)) => match builder.key(content, offset(at)) {
             Ok(()) => Ok(Position {

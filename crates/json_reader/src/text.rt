@@ -1,44 +1,26 @@
 //! Texts between quotation marks.
-ghost use Rattle.std.specs.Prelude.{ℕ, ◌≡◌, ◌-◌, ◌<◌, ◌≤◌, ◌⊎◌, length, not, true, false, IsErrOf, MatchResult, take, drop, slice_index, string_bytes};
+ghost use Rattle.std.specs.Prelude.{ℕ, ◌≡◌, ◌-◌, ◌<◌, ◌≤◌, ◌⊎◌, length, true, false, IsErrOf, MatchResult, take, drop, slice_index, string_bytes};
 ghost use Rattle.std.specs.Cow.{cow_str_bytes};
 ghost use Rattle.doc_values.specs.Limits.{template_limit};
-ghost use Rattle.byte_lanes.specs.code.Members.{holds};
 ghost use Rattle.json_reader.specs.code.Memory.{HasEscape};
 ghost use Rattle.json_reader.specs.Json.{is_unescaped, Each};
 ghost use Rattle.json_reader.specs.code.Steps.{Reaches, Fails, IsTextAt, Unclosed, is_mark};
 
 use crate::escape::escape_at;
 use crate::refusal::JsonRefusal;
-use byte_lanes::{ByteSet, first_special};
+use byte_lanes::first_control_or;
 use std::alloc::Global;
 use std::borrow::CowStr;
 
-/// What reads texts: the memory for those with escapes, and the bytes that stand in none for themselves.
-#[derive(Drop)]
-pub(crate) struct Texts {
-    alloc: Global,
-    special: ByteSet,
-    ghost right: { (b : ℕ) → holds special b ≡ not (is_unescaped b) },
-}
-
-impl Texts {
-    pub(crate) fn new(alloc: Global) -> Texts {
-        let special = ByteSet::of(
-            b"\"\\\x00\x01\x02\x03\x04\x05\x06\x07\x08\x09\x0a\x0b\x0c\x0d\x0e\x0f\x10\x11\x12\x13\x14\x15\x16\x17\x18\x19\x1a\x1b\x1c\x1d\x1e\x1f",
-        );
-        Texts { alloc, special }
-    }
-
-    /// The place behind the bytes from a place on that stand for themselves.
-    fn plain_end(&self, bytes: &[u8], at: usize) -> usize
-        requires { at ≤ length bytes.now }
-        ensures from { at ≤ result }
-        ensures within { result ≤ length bytes.now }
-        ensures plain { Each is_unescaped (take (result - at) (drop at bytes.now)) }
-        ensures most { result < length bytes.now → is_unescaped (slice_index bytes.now result) ≡ false }
-    {
-        first_special(bytes, at, &self.special)
-    }
+/// The place behind the bytes from a place on that stand for themselves.
+fn plain_end(bytes: &[u8], at: usize) -> usize
+    requires { at ≤ length bytes.now }
+    ensures from { at ≤ result }
+    ensures within { result ≤ length bytes.now }
+    ensures plain { Each is_unescaped (take (result - at) (drop at bytes.now)) }
+    ensures most { result < length bytes.now → is_unescaped (slice_index bytes.now result) ≡ false }
+{
+    first_control_or(bytes, at, b'"', b'\\')
 }
 
 /// Whether a byte ends a run of bytes that stand for themselves, and may stand in a text.
@@ -50,11 +32,11 @@ fn is_mark(byte: u8) -> bool
 
 /// The place of the quotation mark or backslash behind bytes that stand for themselves; else the place of a byte that
 /// belongs in no text, or the end.
-fn run_end(texts: &Texts, bytes: &[u8], at: usize) -> Result<usize, usize>
+fn run_end(bytes: &[u8], at: usize) -> Result<usize, usize>
     requires within { at ≤ length bytes.now }
     ensures { MatchResult result (λ end. (at ≤ end) × (end < length bytes.now) × Reaches bytes.now at (take (end - at) (drop at bytes.now)) end × (is_mark (slice_index bytes.now end) ≡ true)) (λ j. Fails bytes.now at j) }
 {
-    let end = texts.plain_end(bytes, at);
+    let end = plain_end(bytes, at);
     if end == bytes.len() {
         return Err(end);
     }
@@ -67,7 +49,7 @@ fn run_end(texts: &Texts, bytes: &[u8], at: usize) -> Result<usize, usize>
 /// The text from the place behind a quotation mark up to the one that ends it, and the place behind that. It is borrowed
 /// where it has no escapes.
 pub(crate) fn text_at<'s>(
-    texts: &Texts,
+    alloc: Global,
     text: &'s str,
     start: usize,
 ) -> Result<(CowStr<'s>, usize), JsonRefusal>
@@ -79,13 +61,13 @@ pub(crate) fn text_at<'s>(
     ensures memory { IsErrOf result JsonRefusal.NoMemory → HasEscape text.now }
 {
     let bytes = text.as_bytes();
-    match run_end(texts, bytes, start) {
+    match run_end(bytes, start) {
         Err(stop) => Err(JsonRefusal::Syntax(stop as u32)),
         Ok(end) => {
             if bytes[end] == b'"' {
                 return Ok((CowStr::Borrowed(&text[start..end]), end + 1));
             }
-            match decoded_at(texts, text, start) {
+            match decoded_at(alloc, text, start) {
                 Ok((decoded, end)) => Ok((CowStr::Owned(decoded), end)),
                 Err(refusal) => Err(refusal),
             }
@@ -94,7 +76,7 @@ pub(crate) fn text_at<'s>(
 }
 
 /// The same for a text with escapes.
-fn decoded_at(texts: &Texts, text: &str, start: usize) -> Result<(String, usize), JsonRefusal>
+fn decoded_at(alloc: Global, text: &str, start: usize) -> Result<(String, usize), JsonRefusal>
     requires inside { 0 < start }
     requires within { start ≤ length text.now }
     requires small { length text.now ≤ template_limit }
@@ -102,10 +84,10 @@ fn decoded_at(texts: &Texts, text: &str, start: usize) -> Result<(String, usize)
     ensures { MatchResult result (λ r. IsTextAt text.now start (string_bytes r.0) r.1) (λ e. (e ≡ JsonRefusal.NoMemory) ⊎ ((j : ℕ) × (e ≡ JsonRefusal.Syntax j) × Unclosed text.now start j)) }
 {
     let bytes = text.as_bytes();
-    let mut decoded = String::new(texts.alloc);
+    let mut decoded = String::new(alloc);
     let mut at = start;
     while at < bytes.len() {
-        match run_end(texts, bytes, at) {
+        match run_end(bytes, at) {
             Err(stop) => return Err(JsonRefusal::Syntax(stop as u32)),
             Ok(end) => {
                 decoded.push_str(&text[at..end])?;
