@@ -1,23 +1,23 @@
 //! How many entries lines fail by: a count for each line, made of those of the lines before. So a line that many lead to is
 //! counted once.
-ghost use Rattle.std.specs.Prelude.{◌≡◌, ◌<◌, ◌^◌, ◌-◌, suc, List, true, map, IfOk, length, min};
+ghost use Rattle.std.specs.Prelude.{◌≡◌, suc, List, map, IfOk, length};
 ghost use Rattle.std.specs.List.{flat_map};
 ghost use Rattle.evidence_lines.specs.declared.line.Line.{Line};
 ghost use Rattle.evidence_lookups.specs.code.Grounds.{known_of, lines_of};
-ghost use Rattle.evidence_truth.specs.code.LineFails.{is_failing, line_fails};
+ghost use Rattle.evidence_truth.specs.code.LineFails.{line_fails};
 ghost use Rattle.rule_meaning.specs.FunctionMeaning.{IsAnswering};
 ghost use Rattle.rule_meaning.specs.Locations.{Answers};
 ghost use Rattle.rule_meaning.specs.Seeing.{call_at, world_of};
 ghost use Rattle.rule_meaning.specs.StoreModel.{StoreModel};
-ghost use Rattle.evidence_report.specs.code.Counts.{AreCounts, AreFailCounts, counted};
+ghost use Rattle.evidence_report.specs.code.Counts.{AreCounts, count_of, counted};
 ghost use Rattle.evidence_report.specs.code.Leads.{AreBelow, CitesFall, IsBelow, entries_behind, see_lead};
-ghost use Rattle.evidence_report.specs.code.RuleEntries.{AreHeldLines};
+ghost use Rattle.evidence_report.specs.code.RuleEntries.{AreHeldLines, AreTold};
 
 use crate::cited::is_failing;
+use crate::laws::rules_told;
 use crate::lead::Lead;
 use crate::leads::leads_of;
 use evidence_lookups::line_context::LineContext;
-use evidence_truth::{entries_told, lines_true};
 use std::alloc::{AllocError, Global};
 
 /// How many entries each line fails by that says FAIL, in the order of the lines, a count standing still at the last of 64
@@ -25,11 +25,12 @@ use std::alloc::{AllocError, Global};
 /// few.
 pub fn fail_counts(alloc: Global, context: &LineContext<'_, '_, '_>) -> Result<Vec<u64>, AllocError>
     requires { AreHeldLines context.now.version (known_of context.now) (lines_of context.now) }
-    ensures { (answers : Answers) → IsAnswering (world_of (known_of context.now) answers)
-        → IfOk result (λ counts. AreFailCounts (known_of context.now) (world_of (known_of context.now) answers) (lines_of context.now) counts.items) }
+    ensures all { IfOk result (λ counts. length counts.items ≡ length (lines_of context.now)) }
+    ensures counts { IfOk result (λ counts. AreCounts (known_of context.now) (lines_of context.now) counts.items) }
+    ensures meaning { (answers : Answers) → IsAnswering (world_of (known_of context.now) answers)
+        → AreTold (world_of (known_of context.now) answers) (known_of context.now) (lines_of context.now) }
 {
-    lines_true();
-    entries_told();
+    rules_told();
     count_lines(alloc, context)
 }
 
@@ -55,8 +56,7 @@ fn count_next(
 ) -> Result<u64, AllocError>
     requires falls { CitesFall (lines_of context.now) }
     requires counts { AreCounts (known_of context.now) (lines_of context.now) counts.now }
-    ensures { IfOk result (λ n. is_failing (known_of context.now) (lines_of context.now) (suc (length counts.now)) ≡ true
-        → n ≡ counted (line_fails (known_of context.now) (lines_of context.now) (suc (length counts.now)) (suc (length counts.now)))) }
+    ensures { IfOk result (λ n. n ≡ count_of (known_of context.now) (lines_of context.now) (suc (length counts.now))) }
 {
     let number = counts.len() as u64 + 1;
     if !is_failing(context.lines, number) {

@@ -298,8 +298,8 @@ fn push_found_row<'c>(
 {
     match cites {
         [] => Ok(cites),
-        [cite, rest @ ..] => {
-            push_cite(context, *cite, into)?;
+        [first, rest @ ..] => {
+            push_cite(context, *first, into)?;
             Ok(rest)
         }
     }

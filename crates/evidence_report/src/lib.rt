@@ -6,6 +6,7 @@
 mod cited;
 pub mod count;
 pub mod fails;
+mod laws;
 mod lead;
 mod leads;
 mod rows;

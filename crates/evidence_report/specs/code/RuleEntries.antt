@@ -13,11 +13,16 @@ use Rattle.evidence_rules.specs.CitedLines.{IsLine}
 use Rattle.evidence_rules.specs.Follows.{AllFollow, nothing_made}
 use Rattle.evidence_rules.specs.code.Judgement.{FollowTo}
 use Rattle.evidence_truth.specs.code.HeldTrees.{HoldsTrees}
+use Rattle.evidence_truth.specs.code.LineFails.{line_fails}
 
 -- where the line of a number is that of a rule and says FAIL, these are the entries by which the rule fails; and so of the parts outside rules
 pub record AreFailsOf (world : World) (lines : List Line) (number : ℕ) (entries : List Entry) : Type 0 where
   pub rule : (r : Rule) (frame : ℕ) → Contains world.file.rules r → IsLine lines number kind.Rule frame r.site (says.Verdict Fail) → entries ≡ rule_fails world r
   pub loose : (frame : ℕ) → IsLine lines number kind.Rule frame 0 (says.Verdict Fail) → entries ≡ loose_fails world world.file.loose
+
+-- `rule` lines lead to these entries, whichever of them say FAIL
+abbrev pub AreTold : World → StoreModel → List Line → Type 0
+AreTold world held lines = (number : ℕ) → AreFailsOf world lines number (line_fails held lines number number)
 
 -- lines that follow over the template and the file of a store, which holds the trees that they make
 pub record AreHeldLines (version : Version) (held : StoreModel) (lines : List Line) : Type 0 where

@@ -1,5 +1,7 @@
-use Rattle.std.proofs.Common.{◌≡◌, ◌+◌, ◌-◌, ◌^◌, suc, length, min, arith}
+use Rattle.std.proofs.Common.{◌≡◌, ℕ, ◌+◌, ◌-◌, ◌^◌, suc, length, min, arith}
+use Rattle.evidence_truth.specs.code.LineFails.{line_fails}
 use Rattle.evidence_report.specs.code.Counts.{counted}
+use Rattle.evidence_report.specs.code.Leads.{entries_behind, see_lead}
 use Rattle.evidence_report.proofs.Counting.{all_behind, below-lead, count-more}
 use Rattle.evidence_report.proofs.WrittenLeads.{past_lead}
 use Rattle.evidence_report.proofs.count.count_leads.Goals as goal
@@ -10,7 +12,7 @@ loop-lead-preserved c =
     record {
       small = omega (arith, more);
       owes = λ known lines are below.
-          count-more known lines c.args.leads.now c.loop-lead.lead-index past_lead (counted (all_behind known lines c.args.leads.now)) c.loop-lead.count c.count_lead.result c.saturating_add-count.result
+          count-more (entries_behind (λ (n : ℕ). line_fails known lines n n)) (see_lead known) c.args.leads.now c.loop-lead.lead-index past_lead (counted (all_behind known lines c.args.leads.now)) c.loop-lead.count c.count_lead.result c.saturating_add-count.result
           c.loop-lead-test.true
           (c.count_lead.ensures known lines are (below-lead known lines (suc (length c.args.counts.now)) c.args.leads.now c.loop-lead.lead-index past_lead c.loop-lead-test.true below)) more
           (c.loop-lead.invariant.owes known lines are below);
