@@ -4,6 +4,7 @@
 //! and builds trees of `doc_values`.
 #![tactic(auto)]
 
+mod agreement;
 mod ahead;
 mod block;
 mod flow;
@@ -15,6 +16,7 @@ mod sign;
 mod stage;
 mod step;
 
+pub use agreement::same_ahead;
 pub use ahead::Token;
 pub use read::read_yaml;
 pub use refusal::YamlRefusal;

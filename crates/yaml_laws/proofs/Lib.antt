@@ -1,37 +1,30 @@
-mod Agree
-mod AgreeLess
-mod AheadOrder
-mod AheadStays
-mod BlockHeads
-mod BlockLaw
+pub mod Agree
+pub mod AgreeLess
+pub mod BlockHeads
+pub mod BlockLaw
 mod BlockLonger
-mod BlockShown
+pub mod BlockShown
 mod BlockStays
 mod EscapeLonger
 mod EscapeWanted
 mod Examples
-mod FirstBytes
-mod LineEnds
-mod LineTails
+pub mod LineEnds
 mod Longer
 mod PlainClosed
-mod PlainDead
-mod PlainLaw
-mod PlainLines
+pub mod PlainDead
+pub mod PlainLaw
+pub mod PlainLines
 mod PlainLonger
-mod PlainOrder
 mod PlainShown
-mod PlainStays
+pub mod PlainStays
 mod QuotedAlike
 mod QuotedBounds
 mod QuotedDead
 mod QuotedEnds
-mod QuotedLaw
+pub mod QuotedLaw
 mod QuotedLonger
 mod QuotedStays
-mod ScalarAhead
-mod ScalarLaw
+pub mod ScalarLaw
 mod ScalarLonger
-mod ScalarOrder
 mod ScalarStays
 mod SyntaxLaw

@@ -21,10 +21,9 @@ use Rattle.yaml_laws.proofs.Longer.{glue, rest_of, no_feed, lines_more}
 use Rattle.yaml_laws.proofs.PlainDead.{drop_whole}
 use Rattle.yaml_laws.proofs.PlainLines.{begins_in, further_parts}
 use Rattle.yaml_laws.proofs.PlainLaw.{marked}
-use Rattle.yaml_laws.proofs.PlainOrder.{lead_whole}
 use Rattle.yaml_laws.proofs.PlainStays.{opens_stands, made}
 use Rattle.yaml_laws.proofs.ScalarLaw.{column_same}
-use Rattle.yaml_laws.proofs.QuotedLaw.{lead_some}
+use Rattle.yaml_laws.proofs.QuotedLaw.{lead_whole, lead_some}
 
 -- whether the last of the lines is a mark
 abbrev pub last_mark : List Line → Bool

@@ -23,6 +23,13 @@ lead_all (b ∷ f) x h = by_white (is_white b) h (λ e. lead_all f x e) where
   by_white true e r = let l = r e in omega arith
   by_white false e r = absurd (cc)
 
+pub lead_whole : (w : List ℕ) (c : ℕ) (z : List ℕ) → is_blank w ≡ true → is_white c ≡ false → lead is_white (w ++ (c ∷ z)) ≡ length w
+lead_whole [] c z h n = ap (λ q. cond q (suc (lead is_white z)) 0) n
+lead_whole (b ∷ w) c z h n = by_white (is_white b) h (λ g. lead_whole w c z g n) where
+  by_white : (q : Bool) → cond q (is_blank w) false ≡ true → (is_blank w ≡ true → lead is_white (w ++ (c ∷ z)) ≡ length w) → cond q (suc (lead is_white (w ++ (c ∷ z)))) 0 ≡ suc (length w)
+  by_white true h r = ap suc (r h)
+  by_white false h r = absurd (true≢false (sym h))
+
 pub lead_some : (f x : List ℕ) → is_blank f ≡ false → (lead is_white (f ++ x) ≡ lead is_white f) × (lead is_white f ≤ length f) × (is_blank (f ++ x) ≡ false)
 lead_some [] x h = absurd (cc)
 lead_some (b ∷ f) x h = by_white (is_white b) h (λ e. lead_some f x e) where

@@ -1,5 +1,4 @@
 -- What serves the code and its proofs alone: nobody has to believe it.
 pub mod Agreement
-pub mod AheadSeen
 pub mod Digits
 pub mod Refusals

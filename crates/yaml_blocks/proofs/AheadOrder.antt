@@ -10,12 +10,12 @@ use Rattle.yaml_scalars.proofs.Places.{lines_are}
 use Rattle.yaml_laws.proofs.Agree.{Later, lines_later, behind_later}
 use Rattle.yaml_laws.proofs.BlockShown.{spaces_less}
 use Rattle.yaml_laws.proofs.LineEnds.{AreOf, lines_of}
-use Rattle.yaml_laws.proofs.AheadStays.{lead_content, line_later, widest_first}
+use Rattle.yaml_blocks.proofs.AheadStays.{lead_content, line_later, widest_first}
 use Rattle.yaml_blocks.specs.declared.ahead.Token.{Token}
 use Rattle.yaml_blocks.specs.declared.ahead.Token.TheVariants.{Dashes, Dots, Dash, Tag, NoTag, Point, Tabbed, Stray, Other}
 use Rattle.yaml_blocks.specs.Ahead.{token_len, is_name, begins_letter, ends_tag, tag_token, tab_token, is_tabbed, other_token, block_token, token_of, token_at, mark_of, has_return, is_passed, content_ahead, line_ahead, rest_ahead, ahead}
 use Rattle.yaml_blocks.specs.Nodes.{is_marked}
-use Rattle.yaml_laws.specs.code.AheadSeen.{token_shown, first_return, content_shown, line_seen, rest_seen, ahead_seen}
+use Rattle.yaml_blocks.specs.code.AheadSeen.{token_shown, first_return, content_shown, line_seen, rest_seen, ahead_seen}
 
 -- ---- a token with a length is shown within it
 

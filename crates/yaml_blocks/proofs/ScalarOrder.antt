@@ -12,12 +12,12 @@ use Rattle.yaml_scalars.proofs.Places.{lines_are}
 use Rattle.yaml_scalars.proofs.BlockStates.{more_out, more_return}
 use Rattle.yaml_scalars.proofs.BlockScalars.{on_fault, on_none, on_lines}
 use Rattle.yaml_laws.specs.code.Agreement.{end_shown, plain_shown, scalar_shown}
-use Rattle.yaml_laws.specs.code.AheadSeen.{line_seen, rest_seen, ahead_seen}
+use Rattle.yaml_blocks.specs.code.AheadSeen.{line_seen, rest_seen, ahead_seen}
 use Rattle.yaml_laws.proofs.Agree.{Within, lines_within}
-use Rattle.yaml_laws.proofs.AheadOrder.{seen_least}
+use Rattle.yaml_blocks.proofs.AheadOrder.{seen_least}
 use Rattle.yaml_laws.proofs.BlockLaw.{fails_not, content_cases, head_of, block_cases}
-use Rattle.yaml_laws.proofs.LineTails.{Tails, IsTail, tails_of, tail_is, later_least}
-use Rattle.yaml_laws.proofs.PlainOrder.{line_ends, plain_seen}
+use Rattle.yaml_blocks.proofs.LineTails.{Tails, IsTail, tails_of, tail_is, later_least}
+use Rattle.yaml_blocks.proofs.PlainOrder.{line_ends, plain_seen}
 
 -- ---- lines that begin at a first column
 

@@ -1,9 +1,9 @@
 use Rattle.std.proofs.Common.{◌≤◌, length, sym, ap, ◌∙◌, subst}
 use Rattle.yaml_laws.proofs.AgreeLess.{breaks_alike}
 use Rattle.yaml_blocks.specs.Ahead.{ahead}
-use Rattle.yaml_laws.specs.code.AheadSeen.{ahead_seen}
-use Rattle.yaml_laws.proofs.AheadStays.{ahead_stays}
-use Rattle.yaml_laws.proofs.ahead.same_ahead.Goals as goal
+use Rattle.yaml_blocks.specs.code.AheadSeen.{ahead_seen}
+use Rattle.yaml_blocks.proofs.AheadStays.{ahead_stays}
+use Rattle.yaml_blocks.proofs.agreement.same_ahead.Goals as goal
 
 pub returns : goal.returns
 returns c = λ other place (before, behind, more, b, whole, also, size) feed low near.

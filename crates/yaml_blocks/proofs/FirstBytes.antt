@@ -7,14 +7,15 @@ use Rattle.yaml_scalars.specs.code.Walk.{line_at, ends_line}
 use Rattle.yaml_laws.specs.code.Agreement.{AgreesTo}
 use Rattle.yaml_laws.proofs.AgreeLess.{breaks_alike}
 use Rattle.yaml_laws.proofs.Agree.{Later, Shares, texts_share, drop_size}
-use Rattle.yaml_laws.proofs.AheadOrder.{mark_parts}
-use Rattle.yaml_laws.proofs.AheadStays.{lines_part}
+use Rattle.yaml_blocks.proofs.AheadOrder.{mark_parts}
+use Rattle.yaml_blocks.proofs.AheadStays.{lines_part}
 use Rattle.yaml_laws.proofs.BlockHeads.{cases}
 use Rattle.yaml_laws.proofs.BlockShown.{blank_less, spaces_less}
 use Rattle.yaml_laws.proofs.LineEnds.{AreOf, lines_of}
 use Rattle.yaml_laws.proofs.PlainDead.{drop_whole}
-use Rattle.yaml_laws.proofs.PlainOrder.{mark_lead, lead_whole}
+use Rattle.yaml_blocks.proofs.PlainOrder.{mark_lead}
 use Rattle.yaml_laws.proofs.PlainStays.{Parted}
+use Rattle.yaml_laws.proofs.QuotedLaw.{lead_whole}
 use Rattle.yaml_laws.proofs.ScalarLaw.{column_same}
 use Rattle.yaml_blocks.specs.declared.ahead.Token.{Token}
 use Rattle.yaml_blocks.specs.declared.ahead.Token.TheVariants.{Dashes, Dots}

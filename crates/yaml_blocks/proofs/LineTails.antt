@@ -7,9 +7,9 @@ use Rattle.yaml_scalars.specs.Block.{shown, widest}
 use Rattle.yaml_scalars.specs.Scalar.{is_first_column}
 use Rattle.yaml_scalars.specs.code.Walk.{line_at, has_break, behind}
 use Rattle.yaml_scalars.proofs.Places.{lines_are}
-use Rattle.yaml_laws.specs.code.AheadSeen.{content_shown, line_seen, rest_seen, ahead_seen}
+use Rattle.yaml_blocks.specs.code.AheadSeen.{content_shown, line_seen, rest_seen, ahead_seen}
 use Rattle.yaml_laws.proofs.Agree.{Later, behind_later}
-use Rattle.yaml_laws.proofs.AheadOrder.{line_rest}
+use Rattle.yaml_blocks.proofs.AheadOrder.{line_rest}
 use Rattle.yaml_blocks.specs.Ahead.{is_passed}
 
 -- each line and those behind it are what the text has at the line's place

@@ -15,15 +15,16 @@ use Rattle.yaml_scalars.specs.code.Walk.{line_at, has_break, behind}
 use Rattle.yaml_scalars.proofs.Places.{lines_are}
 use Rattle.yaml_scalars.proofs.FurtherLines.{skip_le, plain_le}
 use Rattle.yaml_laws.specs.code.Agreement.{end_shown, shown_by, part_shown, line_shown, more_shown, plain_shown}
-use Rattle.yaml_laws.specs.code.AheadSeen.{token_shown, first_return, content_shown, line_seen, rest_seen, ahead_seen}
+use Rattle.yaml_blocks.specs.code.AheadSeen.{token_shown, first_return, content_shown, line_seen, rest_seen, ahead_seen}
 use Rattle.yaml_laws.proofs.Agree.{Within, lines_within}
-use Rattle.yaml_laws.proofs.LineTails.{Tails, IsTail, tail_is, later_least, tails_of, inner_line, seen_from_lines}
-use Rattle.yaml_laws.proofs.AheadStays.{lead_content, widest_first}
+use Rattle.yaml_blocks.proofs.LineTails.{Tails, IsTail, tail_is, later_least, tails_of, inner_line, seen_from_lines}
+use Rattle.yaml_blocks.proofs.AheadStays.{lead_content, widest_first}
 use Rattle.yaml_laws.proofs.BlockLaw.{shown_fits}
 use Rattle.yaml_laws.proofs.LineEnds.{mark_full}
 use Rattle.yaml_laws.proofs.PlainDead.{drop_whole}
 use Rattle.yaml_laws.proofs.PlainLines.{further_parts}
 use Rattle.yaml_laws.proofs.PlainStays.{opens_stands}
+use Rattle.yaml_laws.proofs.QuotedLaw.{lead_whole}
 use Rattle.yaml_blocks.specs.Ahead.{has_return, is_passed}
 
 -- ---- how far a line is looked at
@@ -128,13 +129,6 @@ stop_black flow white (b ∷ bs) c z e = by_stop (stops flow white b bs) refl e 
       let same : b ≡ c = cc in
       ap is_white (sym same) ∙ by_tests (nat_eq b 58) (nat_eq b 35) (is_flow_mark b) (nat_eq b 13) (is_unsafe flow bs) refl refl refl refl s
   by_stop false s e r = r e
-
-pub lead_whole : (w : List ℕ) (c : ℕ) (z : List ℕ) → is_blank w ≡ true → is_white c ≡ false → lead is_white (w ++ (c ∷ z)) ≡ length w
-lead_whole [] c z h n = ap (λ q. cond q (suc (lead is_white z)) 0) n
-lead_whole (b ∷ w) c z h n = by_white (is_white b) h (λ g. lead_whole w c z g n) where
-  by_white : (q : Bool) → cond q (is_blank w) false ≡ true → (is_blank w ≡ true → lead is_white (w ++ (c ∷ z)) ≡ length w) → cond q (suc (lead is_white (w ++ (c ∷ z)))) 0 ≡ suc (length w)
-  by_white true h r = ap suc (r h)
-  by_white false h r = absurd (true≢false (sym h))
 
 -- behind the content stands white space, and then the line's end or the byte that ends it
 abbrev Behind : Bool → List ℕ → List ℕ → Type 0

@@ -14,7 +14,7 @@ use Rattle.yaml_laws.proofs.QuotedLaw.{lead_all, lead_some}
 use Rattle.yaml_laws.proofs.ScalarLaw.{column_same}
 use Rattle.yaml_blocks.specs.declared.ahead.Token.TheVariants.{Dash, Tag, NoTag, Opens, Closes, Comma, Point}
 use Rattle.yaml_blocks.specs.Ahead.{is_name, begins_letter, ends_tag, tag_token, tab_token, other_token, block_token, token_of, token_at, mark_of, has_return, is_passed, content_ahead, line_ahead, rest_ahead, ahead}
-use Rattle.yaml_laws.specs.code.AheadSeen.{token_shown, first_return, content_shown, line_seen, rest_seen, ahead_seen}
+use Rattle.yaml_blocks.specs.code.AheadSeen.{token_shown, first_return, content_shown, line_seen, rest_seen, ahead_seen}
 
 -- ---- a token
 

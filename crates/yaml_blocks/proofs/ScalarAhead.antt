@@ -12,13 +12,13 @@ use Rattle.yaml_scalars.specs.Block.{same, mark_len, may_end, shown, widest}
 use Rattle.yaml_scalars.specs.Scalar.{is_first_column, plain_scalar, quoted_scalar, block_scalar, scalar_at}
 use Rattle.yaml_scalars.specs.code.Walk.{line_at, has_break, behind}
 use Rattle.yaml_scalars.proofs.Places.{lines_are}
-use Rattle.yaml_laws.specs.code.AheadSeen.{token_shown, first_return, content_shown, line_seen, rest_seen, ahead_seen}
+use Rattle.yaml_blocks.specs.code.AheadSeen.{token_shown, first_return, content_shown, line_seen, rest_seen, ahead_seen}
 use Rattle.yaml_laws.proofs.Agree.{Later, Within, lines_within}
-use Rattle.yaml_laws.proofs.AheadOrder.{widest_less}
-use Rattle.yaml_laws.proofs.LineTails.{Tails, IsTail, tails_of, tail_is}
+use Rattle.yaml_blocks.proofs.AheadOrder.{widest_less}
+use Rattle.yaml_blocks.proofs.LineTails.{Tails, IsTail, tails_of, tail_is}
 use Rattle.yaml_laws.proofs.PlainLaw.{dash, marked}
 use Rattle.yaml_laws.proofs.PlainStays.{dashes_long, opens_stands}
-use Rattle.yaml_laws.proofs.ScalarOrder.{Fresh, first_bytes, behind_fresh}
+use Rattle.yaml_blocks.proofs.ScalarOrder.{Fresh, first_bytes, behind_fresh}
 use Rattle.yaml_blocks.specs.declared.ahead.Token.TheVariants.{Dashes, Dots, Tag, NoTag, Tabbed, Stray}
 use Rattle.yaml_blocks.specs.Ahead.{is_name, begins_letter, ends_tag, tab_token, is_tabbed, token_of, token_at, mark_of, is_passed, content_ahead, line_ahead, rest_ahead, ahead}
 use Rattle.yaml_blocks.specs.Nodes.{starts_scalar}
