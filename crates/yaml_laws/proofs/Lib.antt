@@ -12,6 +12,7 @@ pub mod LineEnds
 mod Longer
 mod PlainClosed
 pub mod PlainDead
+mod PlainFollowed
 pub mod PlainLaw
 pub mod PlainLines
 mod PlainLonger
@@ -21,9 +22,12 @@ mod QuotedAlike
 mod QuotedBounds
 mod QuotedDead
 mod QuotedEnds
+mod QuotedFollowed
 pub mod QuotedLaw
 mod QuotedLonger
 mod QuotedStays
+mod ScalarEnds
+mod ScalarFollowed
 pub mod ScalarLaw
 mod ScalarLonger
 mod ScalarStays

@@ -61,9 +61,43 @@ lines_glued at (b ∷ xs) y h =
         by_return true = ap (begun at) g ∙ begun_glue at (lines (suc at) xs) fs
         by_return false = ap (put at b) g ∙ put_glue at b (lines (suc at) xs) fs
 
+-- a carriage return and a line feed do not meet
+return_glued : (b : ℕ) (xs y : List ℕ) → (ends_with 13 (b ∷ xs) && begins_with 10 y) ≡ false → (nat_eq b 13 && begins_with 10 (xs ++ y)) ≡ (nat_eq b 13 && begins_with 10 xs)
+return_glued b [] y h = h ∙ none (nat_eq b 13) where
+  none : (q : Bool) → false ≡ (q && false)
+  none true = refl
+  none false = refl
+return_glued b (c ∷ xs) y h = refl
+
+pub lines_apart : (at : ℕ) (xs y : List ℕ) → (ends_with 13 xs && begins_with 10 y) ≡ false → lines at (xs ++ y) ≡ glue (lines at xs) (lines (at + length xs) y)
+lines_apart at [] y h =
+    let n : at ≡ at + 0 = omega arith in
+    ap (λ k. lines k y) n ∙ lines_are (at + 0) y ∙ ap (λ (k : ℕ). record { at = k; bytes = line_at y; broken = has_break y } ∷ behind (at + 0) y) (sym n) ∙ ap (glue (lines at [])) (sym (lines_are (at + 0) y))
+lines_apart at (b ∷ xs) y h =
+    let n : suc at + length xs ≡ at + suc (length xs) = omega arith in
+    by_break (nat_eq b 10) (nat_eq b 13 && begins_with 10 (xs ++ y)) (nat_eq b 13 && begins_with 10 xs) (return_glued b xs y h) (lines_apart (suc at) xs y (further xs h) ∙ ap (λ k. glue (lines (suc at) xs) (lines k y)) n) where
+      fs : List Line
+      fs = lines (at + suc (length xs)) y
+
+      further : (xs : List ℕ) → (ends_with 13 (b ∷ xs) && begins_with 10 y) ≡ false → (ends_with 13 xs && begins_with 10 y) ≡ false
+      further [] h = refl
+      further (c ∷ xs) h = h
+
+      by_break : (p q r : Bool) → q ≡ r → lines (suc at) (xs ++ y) ≡ glue (lines (suc at) xs) fs
+          → cond p (feed_of at ∷ lines (suc at) (xs ++ y)) (cond q (begun at (lines (suc at) (xs ++ y))) (put at b (lines (suc at) (xs ++ y)))) ≡ glue (cond p (feed_of at ∷ lines (suc at) xs) (cond r (begun at (lines (suc at) xs)) (put at b (lines (suc at) xs)))) fs
+      by_break true q r e g = ap (λ ls. feed_of at ∷ ls) g ∙ glue_cons (feed_of at) (suc at) xs fs
+      by_break false true true e g = ap (begun at) g ∙ begun_glue at (lines (suc at) xs) fs
+      by_break false false false e g = ap (put at b) g ∙ put_glue at b (lines (suc at) xs) fs
+      by_break false true false e g = absurd (cc)
+      by_break false false true e g = absurd (cc)
+
 -- a scalar stands
 abbrev pub IsScalar : Outcome → Type 0
 IsScalar o = (t : List ℕ) × (e : ℕ) × (o ≡ Stands t e)
+
+-- and ends at a place
+abbrev pub StandsTo : ℕ → Outcome → Type 0
+StandsTo e o = (t : List ℕ) × (o ≡ Stands t e)
 
 -- bytes with no line feed are one line
 abbrev pub no_feed : List ℕ → Bool

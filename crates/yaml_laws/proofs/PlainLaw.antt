@@ -33,13 +33,13 @@ abbrev pub opens : Setting → ℕ → List ℕ → List Line → Bool → Bool 
 opens s at xs ls mark begins = cond mark (Fails (at + 3)) (cond begins (first s (reason s.flow xs) at xs ls) (Fails (wrong_begin at xs)))
 
 -- in the ways that a first line fails: as a mark, at what begins no scalar, or as above
-abbrev FirstFails : Setting → Bool → ℕ → List ℕ → List Line → ℕ → Type 0
+abbrev pub FirstFails : Setting → Bool → ℕ → List ℕ → List Line → ℕ → Type 0
 FirstFails s fresh at xs ls p =
     (((fresh && marked xs) ≡ true) × (p ≡ at + 3))
     ⊎ (((begins_plain s.flow xs ≡ false) × (p ≡ wrong_begin at xs))
     ⊎ ((begins_plain s.flow xs ≡ true) × (((reason s.flow xs ≡ Return) × (p ≡ at + plain_len s.flow false xs + 1)) ⊎ (more s ls (content s.flow xs) (content_end s.flow xs at) 0 ≡ Fails p))))
 
-opens_fails : (s : Setting) (fresh : Bool) (at : ℕ) (xs : List ℕ) (ls : List Line) (p : ℕ) → opens s at xs ls (fresh && marked xs) (begins_plain s.flow xs) ≡ Fails p → FirstFails s fresh at xs ls p
+pub opens_fails : (s : Setting) (fresh : Bool) (at : ℕ) (xs : List ℕ) (ls : List Line) (p : ℕ) → opens s at xs ls (fresh && marked xs) (begins_plain s.flow xs) ≡ Fails p → FirstFails s fresh at xs ls p
 opens_fails s fresh at xs ls p h = by_tests (fresh && marked xs) (begins_plain s.flow xs) refl refl h where
   by_tests : (m b : Bool) → (fresh && marked xs) ≡ m → begins_plain s.flow xs ≡ b → opens s at xs ls m b ≡ Fails p → FirstFails s fresh at xs ls p
   by_tests true b e f h = inl (e, sym (fails_same _ p h))

@@ -2,15 +2,16 @@
 use Rattle.std.proofs.Common.{◌≡◌, ℕ, zero, suc, ◌+◌, ◌<◌, ◌≤◌, ◌⊎◌, Bool, true, false, List, [], ◌∷◌, ◌++◌, length, take, drop, refl, sym, ap, inl, inr, ◌∙◌, arith, cond, subst, append_assoc, append-nil, length-append}
 use Rattle.std.specs.Prelude.{nat_eq, nat_lt, not, ◌||◌, ◌&&◌}
 use Rattle.std.proofs.lemmas.Bool.Decides.{nat_tests}
+use Rattle.std.proofs.lemmas.List.{take_all}
 use Rattle.yaml_scalars.specs.declared.scalar.Setting.{Setting}
 use Rattle.yaml_scalars.specs.declared.plain_line.Why.{Why}
 use Rattle.yaml_scalars.specs.declared.plain_line.Why.TheVariants.{Break, Return, Colon, Comment, Mark}
 use Rattle.yaml_scalars.specs.declared.plain_line.Below.{Below}
 use Rattle.yaml_scalars.specs.declared.plain_line.Below.TheVariants.{Blank, Outside, Further}
-use Rattle.yaml_scalars.specs.Lines.{Line, Outcome, Stands, Fails, begins_with, ends_with, is_white, is_space, is_blank, is_mark, each, lead, indent, past_white}
-use Rattle.yaml_scalars.specs.Plain.{above_of, is_doubtful, begins_plain, wrong_begin, stops, plain_len, content, content_end, why, reason, content_at, inside, below, joined, ends_on, return_shown, joins, further, first, more, plain_on}
-use Rattle.yaml_laws.proofs.Agree.{drop_before}
-use Rattle.yaml_laws.proofs.Longer.{glue, rest_of, last_line, ended, cut, Ends, ends_last, IsScalar}
+use Rattle.yaml_scalars.specs.Lines.{Line, Outcome, Stands, Fails, begins_with, ends_with, is_white, is_space, is_blank, is_mark, lead, indent, past_white, keep, trimmed}
+use Rattle.yaml_scalars.specs.Plain.{above_of, is_flow_mark, is_unsafe, is_doubtful, begins_plain, wrong_begin, stops, plain_len, content, content_end, why, reason, content_at, inside, below, joined, ends_on, return_shown, joins, further, first, more, plain_on}
+use Rattle.yaml_laws.proofs.Agree.{drop_before, drop_size}
+use Rattle.yaml_laws.proofs.Longer.{glue, rest_of, last_line, ended, cut, Ends, ends_last, IsScalar, StandsTo}
 use Rattle.yaml_laws.proofs.BlockHeads.{cases}
 use Rattle.yaml_laws.proofs.BlockShown.{blank_less, lead_ended, spaces_less}
 use Rattle.yaml_scalars.proofs.FurtherLines.{below_inside, skip_le}
@@ -206,7 +207,20 @@ more_returned s place r (l ∷ m ∷ ks) t e k x h = by_below (below s l.bytes) 
 abbrev letter : ℕ → Line
 letter at = rest_of at (97 ∷ [])
 
-last_colon : (s : Setting) (size at n : ℕ) (f t : List ℕ) (e k : ℕ) → at + length f ≡ size → below s f ≡ Further n → Colons s.flow (reason s.flow (drop n f)) (drop n f) (at + n) size → IsScalar (further s (below s (f ++ (97 ∷ []))) at (f ++ (97 ∷ [])) t e k (more s []))
+-- a line whose last byte is no white space, of which all is content
+trimmed_last : (g : List ℕ) (b : ℕ) → is_white b ≡ false → trimmed (g ++ (b ∷ [])) ≡ g ++ (b ∷ [])
+trimmed_last [] b w = ap (λ q. cond q [] (b ∷ [])) w
+trimmed_last (x ∷ g) b w = ap (keep x) (trimmed_last g b w) ∙ some g where
+  some : (g : List ℕ) → keep x (g ++ (b ∷ [])) ≡ x ∷ (g ++ (b ∷ []))
+  some [] = refl
+  some (y ∷ g) = refl
+
+whole_end : (flow : Bool) (at : ℕ) (g : List ℕ) (b : ℕ) → is_white b ≡ false → plain_len flow false (g ++ (b ∷ [])) ≡ length (g ++ (b ∷ [])) → content_end flow (g ++ (b ∷ [])) at ≡ at + length (g ++ (b ∷ []))
+whole_end flow at g b w l =
+    let xs = g ++ (b ∷ []) in
+    ap (λ k. at + length (trimmed (take k (g ++ (b ∷ []))))) l ∙ ap (λ (y : List ℕ). at + length (trimmed y)) (take_all (length (g ++ (b ∷ []))) (g ++ (b ∷ [])) (omega arith)) ∙ ap (λ (y : List ℕ). at + length y) (trimmed_last g b w)
+
+last_colon : (s : Setting) (size at n : ℕ) (f t : List ℕ) (e k : ℕ) → at + length f ≡ size → below s f ≡ Further n → Colons s.flow (reason s.flow (drop n f)) (drop n f) (at + n) size → StandsTo (suc size) (further s (below s (f ++ (97 ∷ []))) at (f ++ (97 ∷ [])) t e k (more s []))
 last_colon s size at n f t e k end b c =
     let d = fail_parts s.flow f n (skip_le s f n b) (inr (c.0, c.1)) in
     let a = d.0 in
@@ -224,19 +238,28 @@ last_colon s size at n f t e k end b c =
     let is : below s (a ++ (58 ∷ 97 ∷ [])) ≡ Further n = below_front s a 58 (97 ∷ []) [] (shown_colon 58 refl) ∙ ap (below s) (sym whole) ∙ b in
     let short : plain_len s.flow false (drop n a ++ (58 ∷ [])) ≡ length (drop n a) = ap (λ y. plain_len s.flow false (drop n a ++ (y ∷ []))) (sym dot) ∙ ap (λ y. plain_len s.flow false (drop n a ++ (q ∷ y))) (sym none) ∙ d.7 in
     let part : drop n (a ++ (58 ∷ 97 ∷ [])) ≡ drop n a ++ (58 ∷ 97 ∷ []) = drop_before n a (58 ∷ 97 ∷ []) within in
-    let breaks : reason s.flow (drop n (a ++ (58 ∷ 97 ∷ []))) ≡ Break = ap (reason s.flow) part ∙ goes_on s.flow (drop n a) c.1 short in
-    subst (λ y. IsScalar (further s (below s y) at y t e k (more s []))) (sym new)
-    (subst (λ w. IsScalar (further s w at (a ++ (58 ∷ 97 ∷ [])) t e k (more s []))) (sym is)
-    (subst (λ w. IsScalar (joins s.flow w (drop n (a ++ (58 ∷ 97 ∷ []))) (at + n) t e k (more s []))) (sym breaks) (_, _, refl))) where
+    let goes = goes_on s.flow (drop n a) c.1 short in
+    let breaks : reason s.flow (drop n (a ++ (58 ∷ 97 ∷ []))) ≡ Break = ap (reason s.flow) part ∙ goes.1 in
+    let two : drop n a ++ (58 ∷ 97 ∷ []) ≡ (drop n a ++ (58 ∷ [])) ++ (97 ∷ []) = sym (append_assoc (drop n a) (58 ∷ []) (97 ∷ [])) in
+    let full : length ((drop n a ++ (58 ∷ [])) ++ (97 ∷ [])) ≡ length (drop n a) + 2 = ap (λ (y : List ℕ). length y) (sym two) ∙ length-append (drop n a) (58 ∷ 97 ∷ []) in
+    let all : plain_len s.flow false ((drop n a ++ (58 ∷ [])) ++ (97 ∷ [])) ≡ length ((drop n a ++ (58 ∷ [])) ++ (97 ∷ [])) = ap (plain_len s.flow false) (sym two) ∙ goes.0 ∙ sym full in
+    let last = whole_end s.flow (at + n) (drop n a ++ (58 ∷ [])) 97 refl all in
+    let rest = drop_size n a within in
+    let ends : content_end s.flow (drop n (a ++ (58 ∷ 97 ∷ []))) (at + n) ≡ suc size =
+    ap (λ (y : List ℕ). content_end s.flow y (at + n)) (part ∙ two) ∙ last ∙ (let r : at + n + length ((drop n a ++ (58 ∷ [])) ++ (97 ∷ [])) ≡ suc size = omega (arith, full, rest, sizes, long, end, ap (λ (y : List ℕ). length y) none) in r) in
+    subst (λ y. StandsTo (suc size) (further s (below s y) at y t e k (more s []))) (sym new)
+    (subst (λ w. StandsTo (suc size) (further s w at (a ++ (58 ∷ 97 ∷ [])) t e k (more s []))) (sym is)
+    (subst (λ w. StandsTo (suc size) (joins s.flow w (drop n (a ++ (58 ∷ 97 ∷ []))) (at + n) t e k (more s []))) (sym breaks)
+    (joined s.flow (drop n (a ++ (58 ∷ 97 ∷ []))) t k, ap (Stands (joined s.flow (drop n (a ++ (58 ∷ 97 ∷ []))) t k)) ends))) where
       empty : (z : List ℕ) → length z ≡ 0 → z ≡ []
       empty [] h = refl
       empty (y ∷ z) h = absurd (omega (arith, h))
 
-      goes_on : (flow : Bool) (g : List ℕ) → flow ≡ false → plain_len flow false (g ++ (58 ∷ [])) ≡ length g → reason flow (g ++ (58 ∷ 97 ∷ [])) ≡ Break
+      goes_on : (flow : Bool) (g : List ℕ) → flow ≡ false → plain_len flow false (g ++ (58 ∷ [])) ≡ length g → (plain_len flow false (g ++ (58 ∷ 97 ∷ [])) ≡ length g + 2) × (reason flow (g ++ (58 ∷ 97 ∷ [])) ≡ Break)
       goes_on true g o h = absurd (cc)
       goes_on false g o h =
           let l : plain_len false false (g ++ (58 ∷ 97 ∷ [])) ≡ length g + 2 = len_front false false g 58 [] (97 ∷ []) false (λ w. colon_stops w (97 ∷ [])) h in
-          ap (λ j. why (drop j (g ++ (58 ∷ 97 ∷ [])))) l ∙ ap why (past g) where
+          (l, ap (λ j. why (drop j (g ++ (58 ∷ 97 ∷ [])))) l ∙ ap why (past g)) where
             past : (g : List ℕ) → drop (length g + 2) (g ++ (58 ∷ 97 ∷ [])) ≡ []
             past [] = refl
             past (x ∷ g) = let e : suc (length g) + 2 ≡ suc (length g + 2) = omega arith in ap (λ j. drop j (x ∷ (g ++ (58 ∷ 97 ∷ [])))) e ∙ past g
@@ -255,10 +278,10 @@ no_last_return s size at n f end r le w (inr p) =
       alone a [] h = ends_last a
       alone a (y ∷ z) h = absurd (omega (arith, h))
 
-more_longer : (s : Setting) (size : ℕ) (ls : List Line) (t : List ℕ) (e k : ℕ) → Ends size false ls → more s ls t e k ≡ Fails size → IsScalar (more s (glue ls (letter size ∷ [])) t e k)
+more_longer : (s : Setting) (size : ℕ) (ls : List Line) (t : List ℕ) (e k : ℕ) → Ends size false ls → more s ls t e k ≡ Fails size → StandsTo (suc size) (more s (glue ls (letter size ∷ [])) t e k)
 more_longer s size [] t e k x h = absurd x
 more_longer s size (l ∷ []) t e k (x, y, z) h = by_below (below s l.bytes) refl h where
-  by_below : (w : Below) → below s l.bytes ≡ w → further s w l.at l.bytes t e k (more s []) ≡ Fails size → IsScalar (further s (below s (l.bytes ++ (97 ∷ []))) l.at (l.bytes ++ (97 ∷ [])) t e k (more s []))
+  by_below : (w : Below) → below s l.bytes ≡ w → further s w l.at l.bytes t e k (more s []) ≡ Fails size → StandsTo (suc size) (further s (below s (l.bytes ++ (97 ∷ []))) l.at (l.bytes ++ (97 ∷ [])) t e k (more s []))
   by_below Blank i h = absurd (cc)
   by_below Outside i h = absurd (cc)
   by_below (Further n) i h = elim (joins_cases s.flow (reason s.flow (drop n l.bytes)) (drop n l.bytes) (l.at + n) t e k size (more s []) h) [
@@ -273,11 +296,11 @@ more_longer s size (l ∷ m ∷ ls) t e k (x, y, z) h = by_below (below s l.byte
   new = glue (m ∷ ls) (letter size ∷ [])
 
   by_below : (w : Below) → below s l.bytes ≡ w → further s w l.at l.bytes t e k (more s (m ∷ ls)) ≡ Fails size
-      → ((u : List ℕ) (v w : ℕ) → more s (m ∷ ls) u v w ≡ Fails size → IsScalar (more s new u v w)) → IsScalar (further s (below s l.bytes) l.at l.bytes t e k (more s new))
-  by_below Blank i h f = subst (λ w. IsScalar (further s w l.at l.bytes t e k (more s new))) (sym i) (f t e (suc k) h)
+      → ((u : List ℕ) (v w : ℕ) → more s (m ∷ ls) u v w ≡ Fails size → StandsTo (suc size) (more s new u v w)) → StandsTo (suc size) (further s (below s l.bytes) l.at l.bytes t e k (more s new))
+  by_below Blank i h f = subst (λ w. StandsTo (suc size) (further s w l.at l.bytes t e k (more s new))) (sym i) (f t e (suc k) h)
   by_below Outside i h f = absurd (cc)
-  by_below (Further n) i h f = subst (λ w. IsScalar (further s w l.at l.bytes t e k (more s new))) (sym i) (elim (joins_cases s.flow (reason s.flow (drop n l.bytes)) (drop n l.bytes) (l.at + n) t e k size (more s (m ∷ ls)) h) [
-    | inl g ↦ (let z = f _ _ _ g.0 in (z.0, z.1, g.1 (more s new) ∙ z.2))
+  by_below (Further n) i h f = subst (λ w. StandsTo (suc size) (further s w l.at l.bytes t e k (more s new))) (sym i) (elim (joins_cases s.flow (reason s.flow (drop n l.bytes)) (drop n l.bytes) (l.at + n) t e k size (more s (m ∷ ls)) h) [
+    | inl g ↦ (let z = f _ _ _ g.0 in (z.0, g.1 (more s new) ∙ z.1))
     | inr g ↦ absurd (before_end s size l.at n l.bytes i x g)
   ])
 
@@ -303,6 +326,9 @@ first_stands s Return at xs ls r n = absurd (r refl)
 first_stands s Colon at xs ls r n = (_, _, refl)
 first_stands s Comment at xs ls r n = (_, _, refl)
 first_stands s Mark at xs ls r n = (_, _, refl)
+
+opens_is : (s : Setting) (fresh : Bool) (at : ℕ) (xs : List ℕ) (ls : List Line) → (fresh && marked xs) ≡ false → begins_plain s.flow xs ≡ true → opens s at xs ls (fresh && marked xs) (begins_plain s.flow xs) ≡ first s (reason s.flow xs) at xs ls
+opens_is s fresh at xs ls m b = ap (λ q. opens s at xs ls q (begins_plain s.flow xs)) m ∙ ap (opens s at xs ls false) b
 
 opens_stands : (s : Setting) (fresh : Bool) (at : ℕ) (xs : List ℕ) (ls : List Line) → (fresh && marked xs) ≡ false → begins_plain s.flow xs ≡ true → IsScalar (first s (reason s.flow xs) at xs ls) → IsScalar (opens s at xs ls (fresh && marked xs) (begins_plain s.flow xs))
 opens_stands s fresh at xs ls m b h = (h.0, h.1, ap (λ q. opens s at xs ls q (begins_plain s.flow xs)) m ∙ ap (opens s at xs ls false) b ∙ h.2)
@@ -358,9 +384,9 @@ plain_first_returned s fresh place at f false true x y end h = elim (first_cases
 ]
 
 -- a first line that is not the last
-plain_below : (s : Setting) (fresh : Bool) (p : ℕ) (l : Line) (ls ms : List Line) → l.at + length l.bytes < p → ((t : List ℕ) (e : ℕ) → more s ls t e 0 ≡ Fails p → IsScalar (more s ms t e 0)) → plain_on s fresh (l ∷ ls) ≡ Fails p → IsScalar (plain_on s fresh (l ∷ ms))
-plain_below s fresh p l ls ms less below h = by_tests (fresh && marked l.bytes) (begins_plain s.flow l.bytes) refl refl h where
-  by_tests : (m b : Bool) → (fresh && marked l.bytes) ≡ m → begins_plain s.flow l.bytes ≡ b → opens s l.at l.bytes ls m b ≡ Fails p → IsScalar (opens s l.at l.bytes ms (fresh && marked l.bytes) (begins_plain s.flow l.bytes))
+plain_below : (P : Outcome → Type 0) (s : Setting) (fresh : Bool) (p : ℕ) (l : Line) (ls ms : List Line) → l.at + length l.bytes < p → ((t : List ℕ) (e : ℕ) → more s ls t e 0 ≡ Fails p → P (more s ms t e 0)) → plain_on s fresh (l ∷ ls) ≡ Fails p → P (plain_on s fresh (l ∷ ms))
+plain_below P s fresh p l ls ms less below h = by_tests (fresh && marked l.bytes) (begins_plain s.flow l.bytes) refl refl h where
+  by_tests : (m b : Bool) → (fresh && marked l.bytes) ≡ m → begins_plain s.flow l.bytes ≡ b → opens s l.at l.bytes ls m b ≡ Fails p → P (opens s l.at l.bytes ms (fresh && marked l.bytes) (begins_plain s.flow l.bytes))
   by_tests true b x y h = absurd (let q = fails_same _ p h in let k = mark_length l.bytes (second fresh (marked l.bytes) x) in omega (arith, q, k, less)) where
     second : (q r : Bool) → (q && r) ≡ true → r ≡ true
     second true r h = h
@@ -368,7 +394,7 @@ plain_below s fresh p l ls ms less below h = by_tests (fresh && marked l.bytes) 
   by_tests false false x y h = absurd (let q = fails_same _ p h in let k = wrong_to l.at l.bytes in omega (arith, q, k, less))
   by_tests false true x y h = elim (first_cases s (reason s.flow l.bytes) l.at l.bytes ls p h) [
     | inl r ↦ absurd (let k = fail_within s.flow l.bytes 0 (omega arith) (inl r.0) in let q = r.1 in omega (arith, k, q, less))
-    | inr r ↦ (let z = below _ _ r.0 in opens_stands s fresh l.at l.bytes ms x y (z.0, z.1, r.1 ms ∙ z.2))
+    | inr r ↦ subst P (sym (opens_is s fresh l.at l.bytes ms x y ∙ r.1 ms)) (below _ _ r.0)
   ]
 
 pub plain_returned : (s : Setting) (fresh : Bool) (place : ℕ) (r : Bool) (ks : List Line) → Ends place r ks → plain_on s fresh (cut ks place) ≡ Fails (suc place) → IsScalar (plain_on s fresh (glue ks (ended place [])))
@@ -377,36 +403,70 @@ plain_returned s fresh place r (l ∷ []) x h =
     subst (λ (b : List ℕ). IsScalar (opens s l.at b (last_line place ∷ []) (fresh && marked b) (begins_plain s.flow b))) (sym (append-nil l.bytes))
     (plain_first_returned s fresh place l.at l.bytes (fresh && marked (l.bytes ++ (13 ∷ []))) (begins_plain s.flow (l.bytes ++ (13 ∷ []))) refl refl x.0 h)
 plain_returned s fresh place r (l ∷ m ∷ ks) x h =
-    plain_below s fresh (suc place) l (cut (m ∷ ks) place) (glue (m ∷ ks) (ended place [])) (let y = x.0 in omega (arith, y)) (λ t e g. more_returned s place r (m ∷ ks) t e 0 x.2 g) h
+    plain_below IsScalar s fresh (suc place) l (cut (m ∷ ks) place) (glue (m ∷ ks) (ended place [])) (let y = x.0 in omega (arith, y)) (λ t e g. more_returned s place r (m ∷ ks) t e 0 x.2 g) h
 
--- bytes without a carriage return
-abbrev no_return : ℕ → Bool
-no_return b = not (nat_eq b 13)
+-- a byte that ends no plain scalar
+safe_goes : (flow white : Bool) (b : ℕ) (bs : List ℕ) → is_unsafe flow bs ≡ false → nat_eq b 35 ≡ false → is_flow_mark b ≡ false → nat_eq b 13 ≡ false → stops flow white b bs ≡ false
+safe_goes flow white b bs u x y z = by_tests (nat_eq b 58) (is_unsafe flow bs) (nat_eq b 35) white flow (is_flow_mark b) (nat_eq b 13) u x y z where
+  by_tests : (p u q w f r s : Bool) → u ≡ false → q ≡ false → r ≡ false → s ≡ false → ((((p && u) || (q && w)) || (f && r)) || s) ≡ false
+  by_tests p true q w f r s a b c d = absurd (cc)
+  by_tests p false true w f r s a b c d = absurd (cc)
+  by_tests p false false w f true s a b c d = absurd (cc)
+  by_tests p false false w f false true a b c d = absurd (cc)
+  by_tests true false false w true false false a b c d = refl
+  by_tests true false false w false false false a b c d = refl
+  by_tests false false false w true false false a b c d = refl
+  by_tests false false false w false false false a b c d = refl
 
-never_returns : (flow white : Bool) (xs : List ℕ) → each no_return xs ≡ true → why (drop (plain_len flow white xs) xs) ≡ Return → ⊥
-never_returns flow white [] h e = cc
-never_returns flow white (b ∷ xs) h e = by_stop (stops flow white b xs) (no_return b) refl h e (λ g i. never_returns flow (is_white b) xs g i) where
-  by_stop : (p q : Bool) → no_return b ≡ q → cond q (each no_return xs) false ≡ true → why (drop (cond p 0 (suc (plain_len flow (is_white b) xs))) (b ∷ xs)) ≡ Return → (each no_return xs ≡ true → why (drop (plain_len flow (is_white b) xs) xs) ≡ Return → ⊥) → ⊥
-  by_stop p false n h e r = cc
-  by_stop true true n h e r = let m : b ≡ 13 = why_return b xs e in let z : false ≡ true = sym (ap no_return m) ∙ n in cc
-  by_stop false true n h e r = r h e
+safe_next : (flow : Bool) (b : ℕ) (bs : List ℕ) → is_white b ≡ false → is_flow_mark b ≡ false → is_unsafe flow (b ∷ bs) ≡ false
+safe_next flow b bs x y = by_tests (is_white b) flow (is_flow_mark b) x y where
+  by_tests : (p f q : Bool) → p ≡ false → q ≡ false → (p || (f && q)) ≡ false
+  by_tests true f q a b = absurd (cc)
+  by_tests false f true a b = absurd (cc)
+  by_tests false true false a b = refl
+  by_tests false false false a b = refl
 
-letter_stands : (s : Setting) (fresh : Bool) (at : ℕ) (xs : List ℕ) → marked xs ≡ false → begins_plain s.flow xs ≡ true → each no_return xs ≡ true → IsScalar (opens s at xs [] (fresh && marked xs) (begins_plain s.flow xs))
-letter_stands s fresh at xs m b n = opens_stands s fresh at xs [] (ap (λ q. fresh && q) m ∙ none fresh) b (first_stands s (reason s.flow xs) at xs [] (never_returns s.flow false xs n) (λ t e. (t, e, refl))) where
-  none : (q : Bool) → (q && false) ≡ false
-  none true = refl
-  none false = refl
+-- a letter that ends the text
+letter_goes : (flow white : Bool) → plain_len flow white (97 ∷ []) ≡ 1
+letter_goes true white = refl
+letter_goes false white = refl
 
-mark_letter : (s : Setting) (fresh : Bool) (at : ℕ) (f : List ℕ) → marked f ≡ true → length f ≡ 3 → IsScalar (opens s at (f ++ (97 ∷ [])) [] (fresh && marked (f ++ (97 ∷ []))) (begins_plain s.flow (f ++ (97 ∷ []))))
+goes_more : (flow white : Bool) (b n : ℕ) (bs : List ℕ) → stops flow white b bs ≡ false → plain_len flow (is_white b) bs ≡ n → plain_len flow white (b ∷ bs) ≡ suc n
+goes_more flow white b n bs s l = ap (λ q. cond q 0 (suc (plain_len flow (is_white b) bs))) s ∙ ap suc l
+
+letter_stands : (s : Setting) (fresh : Bool) (at : ℕ) (g : List ℕ) → marked (g ++ (97 ∷ [])) ≡ false → begins_plain s.flow (g ++ (97 ∷ [])) ≡ true → plain_len s.flow false (g ++ (97 ∷ [])) ≡ length (g ++ (97 ∷ []))
+    → StandsTo (at + length (g ++ (97 ∷ []))) (opens s at (g ++ (97 ∷ [])) [] (fresh && marked (g ++ (97 ∷ []))) (begins_plain s.flow (g ++ (97 ∷ []))))
+letter_stands s fresh at g m b l =
+    let xs = g ++ (97 ∷ []) in
+    let breaks : reason s.flow (g ++ (97 ∷ [])) ≡ Break = ap (λ k. why (drop k (g ++ (97 ∷ [])))) l ∙ ap why (past (g ++ (97 ∷ []))) in
+    let end = whole_end s.flow at g 97 refl l in
+    (content s.flow (g ++ (97 ∷ [])), opens_is s fresh at (g ++ (97 ∷ [])) [] (ap (λ q. fresh && q) m ∙ none fresh) b ∙ ap (λ w. first s w at (g ++ (97 ∷ [])) []) breaks ∙ alone s.one_line ∙ ap (Stands (content s.flow (g ++ (97 ∷ [])))) end) where
+      none : (q : Bool) → (q && false) ≡ false
+      none true = refl
+      none false = refl
+
+      past : (xs : List ℕ) → drop (length xs) xs ≡ []
+      past [] = refl
+      past (x ∷ xs) = past xs
+
+      alone : (q : Bool) → cond q (Stands (content s.flow (g ++ (97 ∷ []))) (content_end s.flow (g ++ (97 ∷ [])) at)) (Stands (content s.flow (g ++ (97 ∷ []))) (content_end s.flow (g ++ (97 ∷ [])) at)) ≡ Stands (content s.flow (g ++ (97 ∷ []))) (content_end s.flow (g ++ (97 ∷ [])) at)
+      alone true = refl
+      alone false = refl
+
+mark_letter : (s : Setting) (fresh : Bool) (at : ℕ) (f : List ℕ) → marked f ≡ true → length f ≡ 3 → StandsTo (at + length (f ++ (97 ∷ []))) (opens s at (f ++ (97 ∷ [])) [] (fresh && marked (f ++ (97 ∷ []))) (begins_plain s.flow (f ++ (97 ∷ []))))
 mark_letter s fresh at f h l =
     let m = mark_of f h in
     let sizes = ap (λ (t : List ℕ). length t) m.4 in
     let none : m.3 ≡ [] = empty m.3 (omega (arith, sizes, l)) in
-    let whole : f ++ (97 ∷ []) ≡ m.0 ∷ m.1 ∷ m.2 ∷ 97 ∷ [] = ap (λ t. t ++ (97 ∷ [])) m.4 ∙ ap (λ t. m.0 ∷ m.1 ∷ m.2 ∷ (t ++ (97 ∷ []))) none in
-    subst (λ t. IsScalar (opens s at t [] (fresh && marked t) (begins_plain s.flow t))) (sym whole) (letter_stands s fresh at (m.0 ∷ m.1 ∷ m.2 ∷ 97 ∷ []) (plain_mark m.0 m.1 m.2) (begins s.flow m.0 m.1 m.2 m.5 m.6) (returns m.0 m.1 m.2 m.5 m.6 m.7)) where
+    let whole : f ≡ m.0 ∷ m.1 ∷ m.2 ∷ [] = m.4 ∙ ap (λ t. m.0 ∷ m.1 ∷ m.2 ∷ t) none in
+    subst (λ t. StandsTo (at + length (t ++ (97 ∷ []))) (opens s at (t ++ (97 ∷ [])) [] (fresh && marked (t ++ (97 ∷ []))) (begins_plain s.flow (t ++ (97 ∷ []))))) (sym whole)
+    (letter_stands s fresh at (m.0 ∷ m.1 ∷ m.2 ∷ []) (plain_mark m.0 m.1 m.2) (begins s.flow m.0 m.1 m.2 m.5 m.6) (goes s.flow m.0 m.1 m.2 m.5 (same_dash m.0 m.1 m.5 m.6) (same_dash m.0 m.2 m.5 m.7))) where
       empty : (z : List ℕ) → length z ≡ 0 → z ≡ []
       empty [] h = refl
       empty (y ∷ z) h = absurd (omega (arith, h))
+
+      same_dash : (a b : ℕ) → dash a ≡ true → nat_eq a b ≡ true → dash b ≡ true
+      same_dash a b h e = let s : b ≡ a = grind (arith, nat_tests, e) in ap dash s ∙ h
 
       plain_mark : (a b c : ℕ) → marked (a ∷ b ∷ c ∷ 97 ∷ []) ≡ false
       plain_mark a b c = by_tests (dash a) (nat_eq a b) (nat_eq a c) where
@@ -420,23 +480,52 @@ mark_letter s fresh at f h l =
       begins true a b c d e = grind (arith, nat_tests, d, e)
       begins false a b c d e = grind (arith, nat_tests, d, e)
 
-      returns : (a b c : ℕ) → dash a ≡ true → nat_eq a b ≡ true → nat_eq a c ≡ true → each no_return (a ∷ b ∷ c ∷ 97 ∷ []) ≡ true
-      returns a b c d e f = grind (arith, nat_tests, d, e, f)
+      dash_white : (a : ℕ) → dash a ≡ true → is_white a ≡ false
+      dash_white a d = grind (arith, nat_tests, d)
+
+      dash_flow : (a : ℕ) → dash a ≡ true → is_flow_mark a ≡ false
+      dash_flow a d = grind (arith, nat_tests, d)
+
+      dash_comment : (a : ℕ) → dash a ≡ true → nat_eq a 35 ≡ false
+      dash_comment a d = grind (arith, nat_tests, d)
+
+      dash_return : (a : ℕ) → dash a ≡ true → nat_eq a 13 ≡ false
+      dash_return a d = grind (arith, nat_tests, d)
+
+      dash_goes : (flow white : Bool) (a : ℕ) (bs : List ℕ) → dash a ≡ true → is_unsafe flow bs ≡ false → stops flow white a bs ≡ false
+      dash_goes flow white a bs d u = safe_goes flow white a bs u (dash_comment a d) (dash_flow a d) (dash_return a d)
+
+      goes : (flow : Bool) (a b c : ℕ) → dash a ≡ true → dash b ≡ true → dash c ≡ true → plain_len flow false (a ∷ b ∷ c ∷ 97 ∷ []) ≡ 4
+      goes flow a b c d e f =
+          goes_more flow false a 3 (b ∷ c ∷ 97 ∷ []) (dash_goes flow false a (b ∷ c ∷ 97 ∷ []) d (safe_next flow b (c ∷ 97 ∷ []) (dash_white b e) (dash_flow b e)))
+          (goes_more flow (is_white a) b 2 (c ∷ 97 ∷ []) (dash_goes flow (is_white a) b (c ∷ 97 ∷ []) e (safe_next flow c (97 ∷ []) (dash_white c f) (dash_flow c f)))
+          (goes_more flow (is_white b) c 1 (97 ∷ []) (dash_goes flow (is_white b) c (97 ∷ []) f (safe_next flow 97 [] refl refl)) (letter_goes flow (is_white c))))
 
 plain_first_longer : (s : Setting) (fresh : Bool) (size at : ℕ) (f : List ℕ) (m b : Bool) → (fresh && marked f) ≡ m → begins_plain s.flow f ≡ b → at + length f ≡ size → at < size → (ends_with 13 f ≡ true → false ≡ true) → opens s at f [] m b ≡ Fails size
-    → IsScalar (opens s at (f ++ (97 ∷ [])) [] (fresh && marked (f ++ (97 ∷ []))) (begins_plain s.flow (f ++ (97 ∷ []))))
-plain_first_longer s fresh size at f true b x y end low r h = let p = fails_same _ size h in mark_letter s fresh at f (second fresh (marked f) x) (omega (arith, p, end)) where
-  second : (q r : Bool) → (q && r) ≡ true → r ≡ true
-  second true r h = h
-  second false r h = absurd (cc)
+    → StandsTo (suc size) (opens s at (f ++ (97 ∷ [])) [] (fresh && marked (f ++ (97 ∷ []))) (begins_plain s.flow (f ++ (97 ∷ []))))
+plain_first_longer s fresh size at f true b x y end low r h = let p = fails_same _ size h in
+    let long : at + length (f ++ (97 ∷ [])) ≡ suc size = omega (arith, end, length-append f (97 ∷ [])) in
+    subst (λ k. StandsTo k (opens s at (f ++ (97 ∷ [])) [] (fresh && marked (f ++ (97 ∷ []))) (begins_plain s.flow (f ++ (97 ∷ []))))) long (mark_letter s fresh at f (second fresh (marked f) x) (omega (arith, p, end))) where
+      second : (q r : Bool) → (q && r) ≡ true → r ≡ true
+      second true r h = h
+      second false r h = absurd (cc)
 plain_first_longer s fresh size at [] false false x y end low r h = absurd (omega (arith, end, low))
 plain_first_longer s fresh size at (c ∷ []) false false x y end low r h = by_doubt (is_doubtful c) refl (fails_same _ size h) where
-  by_doubt : (d : Bool) → is_doubtful c ≡ d → cond d (suc at) at ≡ size → IsScalar (opens s at (c ∷ 97 ∷ []) [] (fresh && marked (c ∷ 97 ∷ [])) (begins_plain s.flow (c ∷ 97 ∷ [])))
+  by_doubt : (d : Bool) → is_doubtful c ≡ d → cond d (suc at) at ≡ size → StandsTo (suc size) (opens s at (c ∷ 97 ∷ []) [] (fresh && marked (c ∷ 97 ∷ [])) (begins_plain s.flow (c ∷ 97 ∷ [])))
   by_doubt false d p = absurd (omega (arith, p, low))
-  by_doubt true d p = letter_stands s fresh at (c ∷ 97 ∷ []) refl (begins s.flow) (grind (arith, nat_tests, d)) where
-    begins : (flow : Bool) → begins_plain flow (c ∷ 97 ∷ []) ≡ true
-    begins true = grind (arith, nat_tests, d)
-    begins false = grind (arith, nat_tests, d)
+  by_doubt true d p =
+      let long : at + 2 ≡ suc size = omega (arith, p) in
+      subst (λ k. StandsTo k (opens s at (c ∷ 97 ∷ []) [] (fresh && marked (c ∷ 97 ∷ [])) (begins_plain s.flow (c ∷ 97 ∷ [])))) long (letter_stands s fresh at (c ∷ []) refl (begins s.flow) (goes s.flow)) where
+        begins : (flow : Bool) → begins_plain flow (c ∷ 97 ∷ []) ≡ true
+        begins true = grind (arith, nat_tests, d)
+        begins false = grind (arith, nat_tests, d)
+
+        goes : (flow : Bool) → plain_len flow false (c ∷ 97 ∷ []) ≡ 2
+        goes flow =
+            let x : nat_eq c 35 ≡ false = grind (arith, nat_tests, d) in
+            let y : is_flow_mark c ≡ false = grind (arith, nat_tests, d) in
+            let z : nat_eq c 13 ≡ false = grind (arith, nat_tests, d) in
+            goes_more flow false c 1 (97 ∷ []) (safe_goes flow false c (97 ∷ []) (safe_next flow 97 [] refl refl) x y z) (letter_goes flow (is_white c))
 plain_first_longer s fresh size at (c ∷ g ∷ f) false false x y end low r h = absurd (let p = fails_same _ size h in let w = wrong_first (is_doubtful c) in omega (arith, p, end, w)) where
   wrong_first : (d : Bool) → cond d (suc at) at ≤ suc at
   wrong_first true = omega arith
@@ -446,6 +535,6 @@ plain_first_longer s fresh size at f false true x y end low r h = absurd (elim (
   | inr w ↦ not_stands _ _ size w.0
 ])
 
-pub plain_longer : (s : Setting) (fresh : Bool) (size : ℕ) (l : Line) (ls : List Line) → l.at < size → Ends size false (l ∷ ls) → plain_on s fresh (l ∷ ls) ≡ Fails size → IsScalar (plain_on s fresh (glue (l ∷ ls) (letter size ∷ [])))
+pub plain_longer : (s : Setting) (fresh : Bool) (size : ℕ) (l : Line) (ls : List Line) → l.at < size → Ends size false (l ∷ ls) → plain_on s fresh (l ∷ ls) ≡ Fails size → StandsTo (suc size) (plain_on s fresh (glue (l ∷ ls) (letter size ∷ [])))
 plain_longer s fresh size l [] low (x, y, z) h = plain_first_longer s fresh size l.at l.bytes (fresh && marked l.bytes) (begins_plain s.flow l.bytes) refl refl x low z h
-plain_longer s fresh size l (m ∷ ls) low (x, y, z) h = plain_below s fresh size l (m ∷ ls) (glue (m ∷ ls) (letter size ∷ [])) x (λ t e g. more_longer s size (m ∷ ls) t e 0 z g) h
+plain_longer s fresh size l (m ∷ ls) low (x, y, z) h = plain_below (StandsTo (suc size)) s fresh size l (m ∷ ls) (glue (m ∷ ls) (letter size ∷ [])) x (λ t e g. more_longer s size (m ∷ ls) t e 0 z g) h

@@ -6,7 +6,7 @@ use Rattle.yaml_scalars.specs.Lines.{Line, Outcome, Fails, is_white, is_blank, i
 use Rattle.yaml_scalars.specs.Quoted.{Part, Closed, Open, Joined, Returned, Refused, line_part, gap, behind_part, key_part, quoted_more, quoted_on}
 use Rattle.yaml_laws.proofs.Agree.{drop_before}
 use Rattle.yaml_scalars.proofs.Places.{lead_le}
-use Rattle.yaml_laws.proofs.Longer.{glue, joint, rest_of, ended, cut, Ends, ends_more, IsScalar}
+use Rattle.yaml_laws.proofs.Longer.{glue, joint, rest_of, ended, cut, Ends, ends_more, IsScalar, StandsTo}
 use Rattle.yaml_laws.proofs.BlockHeads.{cases}
 use Rattle.yaml_laws.proofs.BlockShown.{lead_ended}
 use Rattle.yaml_laws.proofs.BlockLonger.{nonblank_return}
@@ -43,7 +43,7 @@ no_mark at place f c s = cases (is_mark f) (λ m. absurd (found m)) (λ m. m) wh
       let long = lt_true (length (f ++ (13 ∷ []))) (omega (arith, w, length-append f (13 ∷ []))) in
       let z : true ≡ false = sym (ap (λ q. q && (false || nat_lt 3 (length (f ++ (13 ∷ []))))) is ∙ long) ∙ s in cc
 
-returned_line : (quote other place at : ℕ) → IsQuote quote → (f text : List ℕ) (j : Bool) (k : ℕ) → is_mark f ≡ false → is_cut_mark f ≡ false → IsGoing (part_of quote at f (text ++ gap j k)) → IsScalar (quoted_more quote other (record { at = at; bytes = f; broken = true } ∷ rest_of (suc (suc place)) (quote ∷ []) ∷ []) text j k)
+returned_line : (quote other place at : ℕ) → IsQuote quote → (f text : List ℕ) (j : Bool) (k : ℕ) → is_mark f ≡ false → is_cut_mark f ≡ false → IsGoing (part_of quote at f (text ++ gap j k)) → StandsTo (suc (suc (suc place) + 0)) (quoted_more quote other (record { at = at; bytes = f; broken = true } ∷ rest_of (suc (suc place)) (quote ∷ []) ∷ []) text j k)
 returned_line quote other place at q f text j k m c going =
     let l : Line = record { at = at; bytes = f; broken = true } in
     let ms = rest_of (suc (suc place)) (quote ∷ []) ∷ [] in
@@ -51,13 +51,13 @@ returned_line quote other place at q f text j k m c going =
     let tested : (b : Bool) → is_blank f ≡ b → quoted_more quote other (l ∷ ms) text j k ≡ below_by quote other l ms text j k false false b r = λ b e.
     ap (λ p. below_by quote other l ms text j k (p && (true || nat_lt 3 (length f))) (is_cut_mark f) (is_blank f) r) m ∙ ap (λ p. below_by quote other l ms text j k false p (is_blank f) r) c ∙ ap (λ p. below_by quote other l ms text j k false false p r) e in
     cases (is_blank f)
-    (λ b. let s = close_line quote other (suc (suc place)) text j (suc k) q in (s.0, s.1, tested true b ∙ s.2))
-    (λ b. let s = going_stands r (λ i t. quoted_more quote other ms t i 0) going (λ i t. close_line quote other (suc (suc place)) t i 0 q) in (s.0, s.1, tested false b ∙ s.2))
+    (λ b. let s = close_line quote other (suc (suc place)) text j (suc k) q in (s.0, tested true b ∙ s.1))
+    (λ b. let s = going_stands (StandsTo (suc (suc (suc place) + 0))) r (λ i t. quoted_more quote other ms t i 0) going (λ i t. close_line quote other (suc (suc place)) t i 0 q) in (s.0, tested false b ∙ s.1))
 
-returned_more : (quote : ℕ) → IsQuote quote → (size other place : ℕ) (r : Bool) (ks : List Line) (text : List ℕ) (j : Bool) (k : ℕ) → Ends place r ks → quoted_more quote size (cut ks place) text j k ≡ Fails (suc place) → IsScalar (quoted_more quote other (glue ks (ended place (quote ∷ []))) text j k)
+returned_more : (quote : ℕ) → IsQuote quote → (size other place : ℕ) (r : Bool) (ks : List Line) (text : List ℕ) (j : Bool) (k : ℕ) → Ends place r ks → quoted_more quote size (cut ks place) text j k ≡ Fails (suc place) → StandsTo (suc (suc (suc place) + 0)) (quoted_more quote other (glue ks (ended place (quote ∷ []))) text j k)
 returned_more quote q size other place r [] text j k x h = absurd x
 returned_more quote q size other place r (l ∷ []) text j k (x, y, z) h =
-    subst (λ (b : List ℕ). IsScalar (quoted_more quote other (record { at = l.at; bytes = b; broken = true } ∷ rest_of (suc (suc place)) (quote ∷ []) ∷ []) text j k)) (sym (append-nil l.bytes))
+    subst (λ (b : List ℕ). StandsTo (suc (suc (suc place) + 0)) (quoted_more quote other (record { at = l.at; bytes = b; broken = true } ∷ rest_of (suc (suc place)) (quote ∷ []) ∷ []) text j k)) (sym (append-nil l.bytes))
     (by_tests (starts old) (is_cut_mark xs) (is_blank xs) refl refl refl h) where
       f : List ℕ
       f = l.bytes
@@ -84,7 +84,7 @@ returned_more quote q size other place r (l ∷ []) text j k (x, y, z) h =
       part = ap (λ m. line_part quote (l.at + m) 0 T (length T) (drop m xs)) (lead_ended is_white f [] refl) ∙ ap (line_part quote (l.at + n) 0 T (length T)) (drop_before n f (13 ∷ []) (lead_le is_white f))
 
       New : Type 0
-      New = IsScalar (quoted_more quote other (record { at = l.at; bytes = f; broken = true } ∷ rest_of (suc (suc place)) (quote ∷ []) ∷ []) text j k)
+      New = StandsTo (suc (suc (suc place) + 0)) (quoted_more quote other (record { at = l.at; bytes = f; broken = true } ∷ rest_of (suc (suc place)) (quote ∷ []) ∷ []) text j k)
 
       by_part : (p : Part) → line_part quote (l.at + n) 0 T (length T) (g ++ (13 ∷ [])) ≡ p → Cut place p (part_of quote l.at f T) → behind_part p (λ i t. quoted_more quote size [] t i 0) ≡ Fails (suc place) → IsGoing (part_of quote l.at f T)
       by_part (Closed t e) i c h = absurd (cc)
@@ -109,7 +109,7 @@ returned_more quote q size other place r (l ∷ m ∷ ks) text j k (x, y, z) h =
   new = glue (m ∷ ks) (ended place (quote ∷ []))
 
   Next : Type 0
-  Next = (u : List ℕ) (i : Bool) (n : ℕ) → quoted_more quote size (cut (m ∷ ks) place) u i n ≡ Fails (suc place) → IsScalar (quoted_more quote other new u i n)
+  Next = (u : List ℕ) (i : Bool) (n : ℕ) → quoted_more quote size (cut (m ∷ ks) place) u i n ≡ Fails (suc place) → StandsTo (suc (suc (suc place) + 0)) (quoted_more quote other new u i n)
 
   between : IsBetween (l.at + lead is_white l.bytes + 0) (l.at + lead is_white l.bytes + length (past_white l.bytes)) (part_of quote l.at l.bytes T)
   between = part_between quote (l.at + lead is_white l.bytes) 0 T (length T) (past_white l.bytes)
@@ -120,13 +120,13 @@ returned_more quote q size other place r (l ∷ m ∷ ks) text j k (x, y, z) h =
   tested : (s c b : Bool) → starts l ≡ s → is_cut_mark l.bytes ≡ c → is_blank l.bytes ≡ b → quoted_more quote other (l ∷ new) text j k ≡ below_by quote other l new text j k s c b (part_of quote l.at l.bytes T)
   tested s c b i e f = ap (λ q. below_by quote other l new text j k q (is_cut_mark l.bytes) (is_blank l.bytes) (part_of quote l.at l.bytes T)) i ∙ ap (λ q. below_by quote other l new text j k s q (is_blank l.bytes) (part_of quote l.at l.bytes T)) e ∙ ap (λ q. below_by quote other l new text j k s c q (part_of quote l.at l.bytes T)) f
 
-  by_tests : (s c b : Bool) → starts l ≡ s → is_cut_mark l.bytes ≡ c → is_blank l.bytes ≡ b → below_by quote size l (cut (m ∷ ks) place) text j k s c b (part_of quote l.at l.bytes T) ≡ Fails (suc place) → Next → IsScalar (quoted_more quote other (l ∷ new) text j k)
+  by_tests : (s c b : Bool) → starts l ≡ s → is_cut_mark l.bytes ≡ c → is_blank l.bytes ≡ b → below_by quote size l (cut (m ∷ ks) place) text j k s c b (part_of quote l.at l.bytes T) ≡ Fails (suc place) → Next → StandsTo (suc (suc (suc place) + 0)) (quoted_more quote other (l ∷ new) text j k)
   by_tests true c b i e f h next = absurd (cc)
   by_tests false true b i e f h next = absurd (let p : l.at + 3 ≡ suc place = cc in let w = cut_length l.bytes e in omega (arith, p, w, x))
-  by_tests false false true i e f h next = let s = next text j (suc k) h in (s.0, s.1, tested false false true i e f ∙ s.2)
+  by_tests false false true i e f h next = let s = next text j (suc k) h in (s.0, tested false false true i e f ∙ s.1)
   by_tests false false false i e f h next =
       part_cases (part_of quote l.at l.bytes T) (λ i t. quoted_more quote size (cut (m ∷ ks) place) t i 0) (suc place) h
-      (λ a t g back. let s = back (λ i t. quoted_more quote other new t i 0) (next t a 0 g) in (s.0, s.1, tested false false false i e f ∙ s.2))
+      (λ a t g back. let s = next t a 0 g in (s.0, tested false false false i e f ∙ back (λ i t. quoted_more quote other new t i 0) ∙ s.1))
       (λ a r p. absurd (let w = subst (λ r. IsBetween (l.at + lead is_white l.bytes + 0) (l.at + lead is_white l.bytes + length (past_white l.bytes)) r) r between in let v = w.1 in let u = fits in omega (arith, v, u, p)))
       (λ r. absurd (let w = subst (λ r. IsBetween (l.at + lead is_white l.bytes + 0) (l.at + lead is_white l.bytes + length (past_white l.bytes)) r) r between in let v = w.1 in let u = fits in omega (arith, v, u)))
 
@@ -194,13 +194,13 @@ on_longer one size at c f b (m ∷ ls) (x, y, z) h = by_key one h where
   by_key true h = absurd (key_early part (suc at + 0) (suc at + length f) (at + suc (length f)) size h between (omega (arith, x)) (omega (arith, x)))
   by_key false h =
       part_cases part (λ j t. quoted_more quote size (m ∷ ls) t j 0) size h
-      (λ a t g back. let r = more_longer quote (is_quote c f) size (m ∷ ls) t a 0 z g in (r.0, r.1, λ other. back (λ j t. quoted_more quote other (glue (m ∷ ls) (rest_of size (r.0 ++ (quote ∷ [])) ∷ [])) t j 0) (r.2 other)))
+      (λ a t g back. let r = more_longer quote (is_quote c f) size (m ∷ ls) t a 0 z g in (r.0, r.1, λ other. let s = r.2 other in (s.0, s.1, back (λ j t. quoted_more quote other (glue (m ∷ ls) (rest_of size (r.0 ++ (quote ∷ [])) ∷ [])) t j 0) ∙ s.2)))
       (λ a r p. absurd (let w = subst (λ r. IsBetween (suc at + 0) (suc at + length f) r) r between in let v = w.1 in omega (arith, v, x, p)))
       (λ r. absurd (let w = subst (λ r. IsBetween (suc at + 0) (suc at + length f) r) r between in let v = w.1 in omega (arith, v, x)))
 
-pub on_returned : (one : Bool) (size other place at c : ℕ) (r : Bool) (f : List ℕ) (b : Bool) (ks : List Line) → Ends place r (first_of at c f b ∷ ks) → quoted_on one size (cut (first_of at c f b ∷ ks) place) ≡ Fails (suc place) → IsScalar (quoted_on one other (glue (first_of at c f b ∷ ks) (ended place (quote_of (c ∷ f) ∷ []))))
+pub on_returned : (one : Bool) (size other place at c : ℕ) (r : Bool) (f : List ℕ) (b : Bool) (ks : List Line) → Ends place r (first_of at c f b ∷ ks) → quoted_on one size (cut (first_of at c f b ∷ ks) place) ≡ Fails (suc place) → StandsTo (suc (suc (suc place) + 0)) (quoted_on one other (glue (first_of at c f b ∷ ks) (ended place (quote_of (c ∷ f) ∷ []))))
 on_returned one size other place at c r f b [] (x, y, z) h =
-    subst (λ (t : List ℕ). IsScalar (quoted_on one other (first_of at c t true ∷ rest_of (suc (suc place)) (quote_of (c ∷ f) ∷ []) ∷ []))) (sym (append-nil f)) (by_key one h) where
+    subst (λ (t : List ℕ). StandsTo (suc (suc (suc place) + 0)) (quoted_on one other (first_of at c t true ∷ rest_of (suc (suc place)) (quote_of (c ∷ f) ∷ []) ∷ []))) (sym (append-nil f)) (by_key one h) where
       quote : ℕ
       quote = quote_of (c ∷ f)
 
@@ -236,9 +236,9 @@ on_returned one size other place at c r f b [] (x, y, z) h =
       goes (Returned a) k h = let e : suc a ≡ suc place = cc in k (omega (arith, e))
       goes (Refused a) k h = absurd (let e : a ≡ suc place = cc in omega (arith, e, k))
 
-      by_key : (one : Bool) → comes one old (at + suc (length (f ++ (13 ∷ [])))) (λ j t. quoted_more quote size [] t j 0) ≡ Fails (suc place) → IsScalar (comes one part (at + suc (length f)) (λ j t. quoted_more quote other ms t j 0))
+      by_key : (one : Bool) → comes one old (at + suc (length (f ++ (13 ∷ [])))) (λ j t. quoted_more quote size [] t j 0) ≡ Fails (suc place) → StandsTo (suc (suc (suc place) + 0)) (comes one part (at + suc (length f)) (λ j t. quoted_more quote other ms t j 0))
       by_key true h = absurd (not_key old between cutp h)
-      by_key false h = going_stands part (λ j t. quoted_more quote other ms t j 0) (goes old cutp h) (λ j t. close_line quote other (suc (suc place)) t j 0 (is_quote c f))
+      by_key false h = going_stands (StandsTo (suc (suc (suc place) + 0))) part (λ j t. quoted_more quote other ms t j 0) (goes old cutp h) (λ j t. close_line quote other (suc (suc place)) t j 0 (is_quote c f))
 on_returned one size other place at c r f b (m ∷ ks) (x, y, z) h = by_key one h where
   quote : ℕ
   quote = quote_of (c ∷ f)
@@ -252,10 +252,10 @@ on_returned one size other place at c r f b (m ∷ ks) (x, y, z) h = by_key one 
   between : IsBetween (suc at + 0) (suc at + length f) part
   between = part_between quote (suc at) 0 [] 0 f
 
-  by_key : (one : Bool) → comes one part (at + suc (length f)) (λ j t. quoted_more quote size (cut (m ∷ ks) place) t j 0) ≡ Fails (suc place) → IsScalar (comes one part (at + suc (length f)) (λ j t. quoted_more quote other new t j 0))
+  by_key : (one : Bool) → comes one part (at + suc (length f)) (λ j t. quoted_more quote size (cut (m ∷ ks) place) t j 0) ≡ Fails (suc place) → StandsTo (suc (suc (suc place) + 0)) (comes one part (at + suc (length f)) (λ j t. quoted_more quote other new t j 0))
   by_key true h = absurd (key_early part (suc at + 0) (suc at + length f) (at + suc (length f)) (suc place) h between (omega (arith, x)) (omega (arith, x)))
   by_key false h =
       part_cases part (λ j t. quoted_more quote size (cut (m ∷ ks) place) t j 0) (suc place) h
-      (λ a t g back. back (λ j t. quoted_more quote other new t j 0) (returned_more quote (is_quote c f) size other place r (m ∷ ks) t a 0 z g))
+      (λ a t g back. let s = returned_more quote (is_quote c f) size other place r (m ∷ ks) t a 0 z g in (s.0, back (λ j t. quoted_more quote other new t j 0) ∙ s.1))
       (λ a r p. absurd (let w = subst (λ r. IsBetween (suc at + 0) (suc at + length f) r) r between in let v = w.1 in omega (arith, v, x, p)))
       (λ r. absurd (let w = subst (λ r. IsBetween (suc at + 0) (suc at + length f) r) r between in let v = w.1 in omega (arith, v, x)))

@@ -6,7 +6,7 @@ use Rattle.yaml_scalars.specs.Lines.{Line, Outcome, Fails, Documents, begins_wit
 use Rattle.yaml_scalars.specs.Quoted.{Piece, Itself, Closes, Means, Joins, Returns, Wrong, Part, Closed, Open, Joined, Returned, Refused, piece, add_piece, line_part, gap, behind_part, quoted_more}
 use Rattle.yaml_laws.proofs.Agree.{drop_before}
 use Rattle.yaml_scalars.proofs.Places.{lead_le}
-use Rattle.yaml_laws.proofs.Longer.{glue, joint, rest_of, Ends, ends_more, IsScalar}
+use Rattle.yaml_laws.proofs.Longer.{glue, joint, rest_of, Ends, ends_more, IsScalar, StandsTo}
 use Rattle.yaml_laws.proofs.BlockHeads.{cases}
 use Rattle.yaml_laws.proofs.PlainShown.{blank_front}
 use Rattle.yaml_scalars.proofs.EscapeFits.{IsWithin, piece_within}
@@ -226,7 +226,7 @@ fit_white c h = grind (arith, nat_tests, h)
 fit_return : (c : ℕ) → is_fit c ≡ true → nat_eq c 13 ≡ false
 fit_return c h = grind (arith, nat_tests, h)
 
-mark_fit : (f : List ℕ) (c : ℕ) (v : List ℕ) → is_fit c ≡ true → is_mark (f ++ (c ∷ v)) ≡ true → (is_mark f ≡ true) × (3 < length f)
+pub mark_fit : (f : List ℕ) (c : ℕ) (v : List ℕ) → is_fit c ≡ true → is_mark (f ++ (c ∷ v)) ≡ true → (is_mark f ≡ true) × (3 < length f)
 mark_fit [] c [] i h = absurd (cc)
 mark_fit [] c (d ∷ []) i h = absurd (cc)
 mark_fit [] c (d ∷ e ∷ v) i h = absurd (no_first c (nat_eq c d && (nat_eq c e && is_end v)) i h) where
@@ -247,7 +247,7 @@ mark_fit (a ∷ b ∷ d ∷ []) c v i h = absurd (no_end (nat_eq a 45 || nat_eq 
   no_end false q r w e h = cc
 mark_fit (a ∷ b ∷ d ∷ e ∷ f) c v i h = (h, omega arith)
 
-cut_fit : (f : List ℕ) (c : ℕ) (v : List ℕ) → is_fit c ≡ true → is_cut_mark (f ++ (c ∷ v)) ≡ true → is_cut_mark f ≡ true
+pub cut_fit : (f : List ℕ) (c : ℕ) (v : List ℕ) → is_fit c ≡ true → is_cut_mark (f ++ (c ∷ v)) ≡ true → is_cut_mark f ≡ true
 cut_fit [] c [] i h = absurd (cc)
 cut_fit [] c (d ∷ []) i h = absurd (cc)
 cut_fit [] c (d ∷ e ∷ v) i h = absurd (no_first c (nat_eq c d && (nat_eq c e && begins_with 13 v)) i h) where
@@ -283,25 +283,25 @@ below_by quote size l ls text j k s c b r = cond s (Documents l.at) (cond c (Fai
 pub closed_stands : (r : Part) (next : Bool → List ℕ → Outcome) → IsClosed r → IsScalar (behind_part r next)
 closed_stands r next (t, e, h) = (t, e, ap (λ r. behind_part r next) h)
 
-pub going_stands : (r : Part) (next : Bool → List ℕ → Outcome) → IsGoing r → ((i : Bool) (t : List ℕ) → IsScalar (next i t)) → IsScalar (behind_part r next)
-going_stands (Closed t e) next g n = absurd g
-going_stands (Open t) next g n = n false t
-going_stands (Joined t) next g n = n true t
-going_stands (Returned r) next g n = absurd g
-going_stands (Refused r) next g n = absurd g
+pub going_stands : (P : Outcome → Type 0) (r : Part) (next : Bool → List ℕ → Outcome) → IsGoing r → ((i : Bool) (t : List ℕ) → P (next i t)) → P (behind_part r next)
+going_stands P (Closed t e) next g n = absurd g
+going_stands P (Open t) next g n = n false t
+going_stands P (Joined t) next g n = n true t
+going_stands P (Returned r) next g n = absurd g
+going_stands P (Refused r) next g n = absurd g
 
 -- the lines behind it fail, or it fails itself
-pub part_cases : {A : Type 0} (r : Part) (next : Bool → List ℕ → Outcome) (p : ℕ) → behind_part r next ≡ Fails p → ((i : Bool) (t : List ℕ) → next i t ≡ Fails p → ((other : Bool → List ℕ → Outcome) → IsScalar (other i t) → IsScalar (behind_part r other)) → A) → ((a : ℕ) → r ≡ Returned a → suc a ≡ p → A) → (r ≡ Refused p → A) → A
+pub part_cases : {A : Type 0} (r : Part) (next : Bool → List ℕ → Outcome) (p : ℕ) → behind_part r next ≡ Fails p → ((i : Bool) (t : List ℕ) → next i t ≡ Fails p → ((other : Bool → List ℕ → Outcome) → behind_part r other ≡ other i t) → A) → ((a : ℕ) → r ≡ Returned a → suc a ≡ p → A) → (r ≡ Refused p → A) → A
 part_cases (Closed t e) next p h f g i = absurd (cc)
-part_cases (Open t) next p h f g i = f false t h (λ other s. s)
-part_cases (Joined t) next p h f g i = f true t h (λ other s. s)
+part_cases (Open t) next p h f g i = f false t h (λ other. refl)
+part_cases (Joined t) next p h f g i = f true t h (λ other. refl)
 part_cases (Returned a) next p h f g i = g a refl (let e : suc a ≡ p = cc in e)
 part_cases (Refused a) next p h f g i = i (let e : a ≡ p = cc in ap Refused e)
 
 -- a quotation mark on a line of its own
-pub close_line : (quote size at : ℕ) (text : List ℕ) (j : Bool) (k : ℕ) → IsQuote quote → IsScalar (quoted_more quote size (rest_of at (quote ∷ []) ∷ []) text j k)
-close_line quote size at text j k (inl e) = subst (λ q. IsScalar (quoted_more q size (rest_of at (q ∷ []) ∷ []) text j k)) (sym e) (_, _, refl)
-close_line quote size at text j k (inr e) = subst (λ q. IsScalar (quoted_more q size (rest_of at (q ∷ []) ∷ []) text j k)) (sym e) (_, _, refl)
+pub close_line : (quote size at : ℕ) (text : List ℕ) (j : Bool) (k : ℕ) → IsQuote quote → StandsTo (suc (at + 0)) (quoted_more quote size (rest_of at (quote ∷ []) ∷ []) text j k)
+close_line quote size at text j k (inl e) = subst (λ q. StandsTo (suc (at + 0)) (quoted_more q size (rest_of at (q ∷ []) ∷ []) text j k)) (sym e) (_, refl)
+close_line quote size at text j k (inr e) = subst (λ q. StandsTo (suc (at + 0)) (quoted_more q size (rest_of at (q ∷ []) ∷ []) text j k)) (sym e) (_, refl)
 
 abbrev pub LongerBy : ℕ → ℕ → List Line → (ℕ → List Line → Outcome) → Type 0
 LongerBy quote size ls F = (w : List ℕ) × AllFit w × ((other : ℕ) → IsScalar (F other (glue ls (rest_of size (w ++ (quote ∷ [])) ∷ []))))
@@ -424,8 +424,8 @@ more_longer quote q size (l ∷ m ∷ ls) text j k (x, y, z) h = by_tests (start
         r.1,
         λ other.
             let ms = glue (m ∷ ls) (rest_of size (r.0 ++ (quote ∷ [])) ∷ []) in
-            let s = back (λ i t. quoted_more quote other ms t i 0) (r.2 other) in
-            (s.0, s.1, tested other ms false false false i e f ∙ s.2),
+            let s = r.2 other in
+            (s.0, s.1, tested other ms false false false i e f ∙ back (λ i t. quoted_more quote other ms t i 0) ∙ s.2),
       ))
       (λ a r p. absurd (let w = subst (λ r. IsBetween (l.at + lead is_white l.bytes + 0) (l.at + lead is_white l.bytes + length (past_white l.bytes)) r) r between in let v = w.1 in let u = fits in omega (arith, v, u, p)))
       (λ r. absurd (let w = subst (λ r. IsBetween (l.at + lead is_white l.bytes + 0) (l.at + lead is_white l.bytes + length (past_white l.bytes)) r) r between in let v = w.1 in let u = fits in omega (arith, v, u)))

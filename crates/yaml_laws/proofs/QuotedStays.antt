@@ -19,7 +19,7 @@ use Rattle.yaml_laws.proofs.QuotedLaw.{lead_all, lead_some, part_of, starts, com
 -- ---- a line's part
 
 -- it ends behind what was passed over
-closed_behind : (quote at skip : ℕ) (text : List ℕ) (kept : ℕ) (bs t : List ℕ) (e : ℕ) → line_part quote at skip text kept bs ≡ Closed t e → at + skip < e
+pub closed_behind : (quote at skip : ℕ) (text : List ℕ) (kept : ℕ) (bs t : List ℕ) (e : ℕ) → line_part quote at skip text kept bs ≡ Closed t e → at + skip < e
 closed_behind quote at skip text kept [] t e h = absurd (cc)
 closed_behind quote at (suc n) text kept (b ∷ bs) t e h = let r = closed_behind quote (suc at) n text kept bs t e h in omega (arith, r)
 closed_behind quote at zero text kept (b ∷ bs) t e h = by_piece (piece quote b bs) h (λ n x k g. closed_behind quote (suc at) n x k bs t e g) where
@@ -84,30 +84,38 @@ escape_goes (b ∷ xs) =
     (goes_cond (nat_eq b 117) unit (cond (nat_eq b 85) eight others) (unit_goes (digits FirstUnit 4 0 1 xs) (drop 4 xs))
     (goes_cond (nat_eq b 85) eight others (digits_go 9 (digits Character 8 0 1 xs)) (letter_goes (letter b)))))
 
--- and the same byte closes where the same stands behind it
-closes_same : (quote c : ℕ) (xs ys : List ℕ) → begins_with 39 xs ≡ begins_with 39 ys → piece quote c xs ≡ Closes → piece quote c ys ≡ Closes
+-- and the same byte closes where no quote stands behind it
+closes_same : (quote c : ℕ) (xs ys : List ℕ) → (begins_with 39 xs ≡ false → begins_with 39 ys ≡ false) → piece quote c xs ≡ Closes → piece quote c ys ≡ Closes
 closes_same quote c xs ys e h = by_tests (nat_eq c 13) (nat_eq quote 34) (nat_eq c 34) (nat_eq c 92) (nat_eq c 39) h where
+  by_quote : (q : Bool) → begins_with 39 xs ≡ q → cond q (Means 1 (39 ∷ [])) Closes ≡ Closes → cond (begins_with 39 ys) (Means 1 (39 ∷ [])) Closes ≡ Closes
+  by_quote true i h = absurd (cc)
+  by_quote false i h = ap (λ q. cond q (Means 1 (39 ∷ [])) Closes) (e i)
+
   by_tests : (r q d s g : Bool) → cond r (Returns 0) (cond q (cond d Closes (cond s (escape xs) Itself)) (cond g (cond (begins_with 39 xs) (Means 1 (39 ∷ [])) Closes) Itself)) ≡ Closes
       → cond r (Returns 0) (cond q (cond d Closes (cond s (escape ys) Itself)) (cond g (cond (begins_with 39 ys) (Means 1 (39 ∷ [])) Closes) Itself)) ≡ Closes
   by_tests true q d s g h = absurd (cc)
   by_tests false true true s g h = refl
   by_tests false true false true g h = absurd (subst Goes h (escape_goes xs))
   by_tests false true false false g h = absurd (cc)
-  by_tests false false d s true h = ap (λ q. cond q (Means 1 (39 ∷ [])) Closes) (sym e) ∙ h
+  by_tests false false d s true h = by_quote (begins_with 39 xs) refl h
   by_tests false false d s false h = absurd (cc)
 
-begins_ahead : (f x y : List ℕ) → SameAhead x y → begins_with 39 (f ++ x) ≡ begins_with 39 (f ++ y)
-begins_ahead [] x y (inl (b, u, v, ex, ey)) = ap (begins_with 39) ex ∙ sym (ap (begins_with 39) ey)
-begins_ahead [] x y (inr (rx, ry)) = none x rx ∙ sym (none y ry) where
+begins_ahead : (x y : List ℕ) → SameAhead x y → begins_with 39 x ≡ begins_with 39 y
+begins_ahead x y (inl (b, u, v, ex, ey)) = ap (begins_with 39) ex ∙ sym (ap (begins_with 39) ey)
+begins_ahead x y (inr (rx, ry)) = none x rx ∙ sym (none y ry) where
   none : (z : List ℕ) → IsReturn z → begins_with 39 z ≡ false
   none [] r = refl
   none (c ∷ z) r = ap (λ c. nat_eq c 39) r
-begins_ahead (d ∷ f) x y s = refl
 
-pub part_stays : (quote : ℕ) (f x y : List ℕ) (at skip : ℕ) (text : List ℕ) (kept p : ℕ) (t : List ℕ) (e : ℕ) → SameAhead x y → at + length f ≡ p → e ≤ p → line_part quote at skip text kept (f ++ x) ≡ Closed t e → line_part quote at skip text kept (f ++ y) ≡ Closed t e
-part_stays quote [] x y at skip text kept p t e s size l h = let b = closed_behind quote at skip text kept x t e h in absurd (omega (arith, b, size, l))
-part_stays quote (c ∷ f) x y at (suc n) text kept p t e s size l h = part_stays quote f x y (suc at) n text kept p t e s (omega (arith, size)) l h
-part_stays quote (c ∷ f) x y at zero text kept p t e s size l h = by_piece (piece quote c (f ++ x)) refl h (λ n z k g. part_stays quote f x y (suc at) n z k p t e s (omega (arith, size)) l g) where
+begins_front : (f x y : List ℕ) → (begins_with 39 x ≡ false → begins_with 39 y ≡ false) → begins_with 39 (f ++ x) ≡ false → begins_with 39 (f ++ y) ≡ false
+begins_front [] x y s h = s h
+begins_front (d ∷ f) x y s h = h
+
+-- a part that closes within a front, with other bytes behind that, where no quote follows
+pub part_like : (quote : ℕ) (f x y : List ℕ) (at skip : ℕ) (text : List ℕ) (kept p : ℕ) (t : List ℕ) (e : ℕ) → (begins_with 39 x ≡ false → begins_with 39 y ≡ false) → at + length f ≡ p → e ≤ p → line_part quote at skip text kept (f ++ x) ≡ Closed t e → line_part quote at skip text kept (f ++ y) ≡ Closed t e
+part_like quote [] x y at skip text kept p t e s size l h = let b = closed_behind quote at skip text kept x t e h in absurd (omega (arith, b, size, l))
+part_like quote (c ∷ f) x y at (suc n) text kept p t e s size l h = part_like quote f x y (suc at) n text kept p t e s (omega (arith, size)) l h
+part_like quote (c ∷ f) x y at zero text kept p t e s size l h = by_piece (piece quote c (f ++ x)) refl h (λ n z k g. part_like quote f x y (suc at) n z k p t e s (omega (arith, size)) l g) where
   other : (r : Piece) → piece quote c (f ++ x) ≡ r → (IsFar (length f) r → ⊥) → piece quote c (f ++ y) ≡ r
   other r w near = elim (piece_alike quote c f x y) [ inl g ↦ sym g ∙ w | inr far ↦ absurd (near (subst (λ z. IsFar (length f) z) w far)) ]
 
@@ -121,7 +129,7 @@ part_stays quote (c ∷ f) x y at zero text kept p t e s size l h = by_piece (pi
       → ((n : ℕ) (z : List ℕ) (k : ℕ) → line_part quote (suc at) n z k (f ++ x) ≡ Closed t e → line_part quote (suc at) n z k (f ++ y) ≡ Closed t e)
       → went quote c at text kept (f ++ y) (piece quote c (f ++ y)) ≡ Closed t e
   by_piece Itself w g next = ap (went quote c at text kept (f ++ y)) (other Itself w (λ far. far)) ∙ by_white (is_white c) g next
-  by_piece Closes w g next = ap (went quote c at text kept (f ++ y)) (closes_same quote c (f ++ x) (f ++ y) (begins_ahead f x y s) w) ∙ g
+  by_piece Closes w g next = ap (went quote c at text kept (f ++ y)) (closes_same quote c (f ++ x) (f ++ y) (begins_front f x y s) w) ∙ g
   by_piece (Means taken z) w g next =
       let b = closed_behind quote (suc at) taken (text ++ z) (length (text ++ z)) (f ++ x) t e g in
       ap (went quote c at text kept (f ++ y)) (other (Means taken z) w (λ far. absurd (omega (arith, far, b, size, l)))) ∙ next taken (text ++ z) (length (text ++ z)) g
@@ -200,7 +208,7 @@ front_of (d ∷ g ∷ n ∷ o ∷ f) x y r a b c e h i j k =
 pub mark_front : (f x y : List ℕ) → marked (f ++ y) ≡ true → (each dash f ≡ true) ⊎ ((marked (f ++ x) ≡ true) × (3 < length f))
 mark_front f x y h = let k = mark_of (f ++ y) h in front_of f x y k.3 k.0 k.1 k.2 k.4 k.5 k.6 k.7 k.8
 
-no_long_mark : (l : Line) → starts l ≡ false → is_cut_mark l.bytes ≡ false → marked l.bytes ≡ true → 3 < length l.bytes → ⊥
+pub no_long_mark : (l : Line) → starts l ≡ false → is_cut_mark l.bytes ≡ false → marked l.bytes ≡ true → 3 < length l.bytes → ⊥
 no_long_mark l s c m n = by_mark (is_mark l.bytes) (is_cut_mark l.bytes) s c m where
   by_mark : (q d : Bool) → (q && (l.broken || nat_lt 3 (length l.bytes))) ≡ false → d ≡ false → (q || d) ≡ true → ⊥
   by_mark true d h i j = by_break l.broken (nat_lt 3 (length l.bytes)) (lt-ltb 3 (length l.bytes) n) h where
@@ -209,7 +217,7 @@ no_long_mark l s c m n = by_mark (is_mark l.bytes) (is_cut_mark l.bytes) s c m w
     by_break false k e h = true≢false (sym e ∙ h)
   by_mark false d h i j = true≢false (sym j ∙ i)
 
-unmarked : (m : Line) → marked m.bytes ≡ false → (starts m ≡ false) × (is_cut_mark m.bytes ≡ false)
+pub unmarked : (m : Line) → marked m.bytes ≡ false → (starts m ≡ false) × (is_cut_mark m.bytes ≡ false)
 unmarked m h = by_mark (is_mark m.bytes) (is_cut_mark m.bytes) h where
   by_mark : (q d : Bool) → (q || d) ≡ false → ((q && (m.broken || nat_lt 3 (length m.bytes))) ≡ false) × (d ≡ false)
   by_mark true d h = absurd (true≢false h)
@@ -217,8 +225,9 @@ unmarked m h = by_mark (is_mark m.bytes) (is_cut_mark m.bytes) h where
 
 -- ---- lines below the first
 
-split_stays : (quote p at : ℕ) (l m : List ℕ) (text t : List ℕ) (e : ℕ) → SplitAt p at l m → (marked l ≡ true → 3 < length l → ⊥) → e ≤ p → part_of quote at l text ≡ Closed t e → (is_blank m ≡ false) × (marked m ≡ false) × (part_of quote at m text ≡ Closed t e)
-split_stays quote p at l m text t e (f, x, y, el, em, place, s) long near h = by_front (is_blank f) refl where
+pub split_like : (quote p at : ℕ) (l m f x y : List ℕ) (text t : List ℕ) (e : ℕ) → l ≡ f ++ x → m ≡ f ++ y → at + length f ≡ p → (begins_with 39 x ≡ false → begins_with 39 y ≡ false) → (marked l ≡ true → 3 < length l → ⊥) → e ≤ p → part_of quote at l text ≡ Closed t e
+    → (is_blank m ≡ false) × (marked m ≡ false) × (part_of quote at m text ≡ Closed t e)
+split_like quote p at l m f x y text t e el em place s long near h = by_front (is_blank f) refl where
   by_front : (q : Bool) → is_blank f ≡ q → (is_blank m ≡ false) × (marked m ≡ false) × (part_of quote at m text ≡ Closed t e)
   by_front true w =
       let k = lead_all f x w in
@@ -235,7 +244,7 @@ split_stays quote p at l m text t e (f, x, y, el, em, place, s) long near h = by
       ap (λ z. part_of quote at z text) em ∙ ap (λ k. line_part quote (at + k) 0 text (length text) (drop k (f ++ y))) b.0 ∙ ap (line_part quote (at + n) 0 text (length text)) (drop_before n f y b.1) in
       let size : at + n + length (drop n f) ≡ p = let z = drop_size n f a.1 in omega (arith, z, place) in
       let here : line_part quote (at + n) 0 text (length text) (drop n f ++ x) ≡ Closed t e = sym in_l ∙ h in
-      (ap is_blank em ∙ b.2, ap marked em ∙ by_mark n size here (marked (f ++ y)) refl, in_m ∙ part_stays quote (drop n f) x y (at + n) 0 text (length text) p t e s size near here) where
+      (ap is_blank em ∙ b.2, ap marked em ∙ by_mark n size here (marked (f ++ y)) refl, in_m ∙ part_like quote (drop n f) x y (at + n) 0 text (length text) p t e s size near here) where
         by_mark : (n : ℕ) → at + n + length (drop n f) ≡ p → line_part quote (at + n) 0 text (length text) (drop n f ++ x) ≡ Closed t e → (q : Bool) → marked (f ++ y) ≡ q → marked (f ++ y) ≡ false
         by_mark n size here false k = k
         by_mark n size here true k = elim (mark_front f x y k) [
@@ -243,8 +252,11 @@ split_stays quote p at l m text t e (f, x, y, el, em, place, s) long near h = by
           | inr d ↦ absurd (long (ap marked el ∙ d.0) (let z = ap (λ (t : List ℕ). length t) el in let w = d.1 in omega (arith, z, w, length-append f x)))
         ]
 
+split_stays : (quote p at : ℕ) (l m : List ℕ) (text t : List ℕ) (e : ℕ) → SplitAt p at l m → (marked l ≡ true → 3 < length l → ⊥) → e ≤ p → part_of quote at l text ≡ Closed t e → (is_blank m ≡ false) × (marked m ≡ false) × (part_of quote at m text ≡ Closed t e)
+split_stays quote p at l m text t e (f, x, y, el, em, place, s) long near h = split_like quote p at l m f x y text t e el em place (λ n. sym (begins_ahead x y s) ∙ n) long near h
+
 -- a scalar that goes on over lines behind a place ends behind it
-stands_later : (quote size q : ℕ) (ls : List Line) (text : List ℕ) (j : Bool) (k : ℕ) (t : List ℕ) (e : ℕ) → Later q ls → quoted_more quote size ls text j k ≡ Stands t e → q < e
+pub stands_later : (quote size q : ℕ) (ls : List Line) (text : List ℕ) (j : Bool) (k : ℕ) (t : List ℕ) (e : ℕ) → Later q ls → quoted_more quote size ls text j k ≡ Stands t e → q < e
 stands_later quote size q [] text j k t e a h = absurd (cc)
 stands_later quote size q (l ∷ ls) text j k t e a h = by_line (starts l) (is_cut_mark l.bytes) (is_blank l.bytes) (λ u i n g. stands_later quote size q ls u i n t e a.1 g) h where
   by_part : (r : Part) → part_of quote l.at l.bytes (text ++ gap j k) ≡ r → ((u : List ℕ) (i : Bool) (n : ℕ) → quoted_more quote size ls u i n ≡ Stands t e → q < e) → behind_part r (λ i u. quoted_more quote size ls u i 0) ≡ Stands t e → q < e
@@ -324,7 +336,7 @@ more_stays quote p size other (l ∷ ls) (m ∷ ms) text j k t e near sh h = by_
 
 -- ---- from its first line on
 
-same_part : (one : Bool) (r : Part) (over over2 : ℕ) (t : List ℕ) (e : ℕ) (next other : Bool → List ℕ → Outcome) → ((j : Bool) (u : List ℕ) → next j u ≡ Stands t e → other j u ≡ Stands t e) → comes one r over next ≡ Stands t e → comes one r over2 other ≡ Stands t e
+pub same_part : (one : Bool) (r : Part) (over over2 : ℕ) (t : List ℕ) (e : ℕ) (next other : Bool → List ℕ → Outcome) → ((j : Bool) (u : List ℕ) → next j u ≡ Stands t e → other j u ≡ Stands t e) → comes one r over next ≡ Stands t e → comes one r over2 other ≡ Stands t e
 same_part true (Closed u end) over over2 t e next other f a = a
 same_part true (Open u) over over2 t e next other f a = absurd (cc)
 same_part true (Joined u) over over2 t e next other f a = absurd (cc)
@@ -337,7 +349,7 @@ same_part false (Returned r) over over2 t e next other f a = absurd (cc)
 same_part false (Refused r) over over2 t e next other f a = absurd (cc)
 
 -- where what follows lies behind the place, the part closes
-shut_part : (one : Bool) (r : Part) (over : ℕ) (t : List ℕ) (e : ℕ) (next : Bool → List ℕ → Outcome) → ((j : Bool) (u : List ℕ) → next j u ≡ Stands t e → ⊥) → comes one r over next ≡ Stands t e → r ≡ Closed t e
+pub shut_part : (one : Bool) (r : Part) (over : ℕ) (t : List ℕ) (e : ℕ) (next : Bool → List ℕ → Outcome) → ((j : Bool) (u : List ℕ) → next j u ≡ Stands t e → ⊥) → comes one r over next ≡ Stands t e → r ≡ Closed t e
 shut_part true (Closed u end) over t e next f a =
     let x : u ≡ t = cc in
     let y : end ≡ e = cc in
@@ -355,7 +367,7 @@ shut_part false (Joined u) over t e next f a = absurd (f true u a)
 shut_part false (Returned r) over t e next f a = absurd (cc)
 shut_part false (Refused r) over t e next f a = absurd (cc)
 
-closed_comes : (one : Bool) (r : Part) (over : ℕ) (t : List ℕ) (e : ℕ) (next : Bool → List ℕ → Outcome) → r ≡ Closed t e → comes one r over next ≡ Stands t e
+pub closed_comes : (one : Bool) (r : Part) (over : ℕ) (t : List ℕ) (e : ℕ) (next : Bool → List ℕ → Outcome) → r ≡ Closed t e → comes one r over next ≡ Stands t e
 closed_comes true r over t e next h = ap (λ r. key_part r over) h
 closed_comes false r over t e next h = ap (λ r. behind_part r next) h
 
@@ -383,7 +395,7 @@ on_stays one p size other l m ls ms t e near (inr (inl (at, (f, x, y, el, em, pl
       by_front (c ∷ f) n d =
           let quote : ℕ = cond (nat_eq c 34) 34 39 in
           let r = shut_part one (line_part quote (suc l.at) 0 [] 0 (f ++ x)) (l.at + suc (length (f ++ x))) t e (λ j u. quoted_more quote size ls u j 0) (λ j u a. none quote j u a) d in
-          let z : line_part quote (suc l.at) 0 [] 0 (f ++ y) ≡ Closed t e = part_stays quote f x y (suc l.at) 0 [] 0 p t e s (omega (arith, n)) near r in
+          let z : line_part quote (suc l.at) 0 [] 0 (f ++ y) ≡ Closed t e = part_like quote f x y (suc l.at) 0 [] 0 p t e (λ n. sym (begins_ahead x y s) ∙ n) (omega (arith, n)) near r in
           closed_comes one (line_part quote (suc m.at) 0 [] 0 (f ++ y)) (m.at + suc (length (f ++ y))) t e (λ j u. quoted_more quote other ms u j 0) (subst (λ a. line_part quote (suc a) 0 [] 0 (f ++ y) ≡ Closed t e) at z)
 
 -- texts that agree up to a place, not before the scalar's end, and with the byte there have the same quoted scalar

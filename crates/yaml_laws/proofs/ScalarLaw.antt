@@ -35,6 +35,27 @@ column_same before b rest more at l =
     ap (λ q. (nat_eq at 0 || q) || nat_eq (slice_index (before ++ (b ∷ rest)) (at - 1)) 10) (mark_same before b rest more at l)
     ∙ ap (λ n. (nat_eq at 0 || (nat_eq at 3 && begins_order_mark (before ++ (b ∷ more)))) || nat_eq n 10) (get_same before b rest more (at - 1) (omega (arith, l)))
 
+-- in a longer text
+get_longer : (text y : List ℕ) (i : ℕ) → i < length text → get_or (text ++ y) i 0 ≡ get_or text i 0
+get_longer [] y i l = absurd (omega arith)
+get_longer (x ∷ text) y zero l = refl
+get_longer (x ∷ text) y (suc i) l = get_longer text y i (omega arith)
+
+mark_longer : (text y : List ℕ) (at : ℕ) → at ≤ length text → (nat_eq at 3 && begins_order_mark (text ++ y)) ≡ (nat_eq at 3 && begins_order_mark text)
+mark_longer [] y at l = no_three at (begins_order_mark y) false (omega arith)
+mark_longer (x ∷ []) y at l = no_three at (begins_order_mark (x ∷ y)) false (omega arith)
+mark_longer (x ∷ z ∷ []) y at l = no_three at (begins_order_mark (x ∷ z ∷ y)) false (omega arith)
+mark_longer (x ∷ z ∷ w ∷ text) y at l = refl
+
+pub column_longer : (text y : List ℕ) (at : ℕ) → at ≤ length text → is_first_column (text ++ y) at ≡ is_first_column text at
+column_longer text y zero l = refl
+column_longer text y (suc i) l =
+    let n : suc i - 1 ≡ i = omega arith in
+    ap (λ q. (nat_eq (suc i) 0 || q) || nat_eq (slice_index (text ++ y) (suc i - 1)) 10) (mark_longer text y (suc i) l)
+    ∙ ap (λ k. (nat_eq (suc i) 0 || (nat_eq (suc i) 3 && begins_order_mark text)) || nat_eq (get_or (text ++ y) k 0) 10) n
+    ∙ ap (λ b. (nat_eq (suc i) 0 || (nat_eq (suc i) 3 && begins_order_mark text)) || nat_eq b 10) (get_longer text y i (omega (arith, l)))
+    ∙ sym (ap (λ k. (nat_eq (suc i) 0 || (nat_eq (suc i) 3 && begins_order_mark text)) || nat_eq (get_or text k 0) 10) n)
+
 -- plain scalars
 abbrev first_of : ℕ → List ℕ → Line
 first_of at xs = record { at = at; bytes = line_at xs; broken = has_break xs }

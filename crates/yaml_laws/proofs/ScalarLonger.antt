@@ -12,7 +12,7 @@ use Rattle.yaml_scalars.specs.Scalar.{is_first_column, begins_quoted, begins_blo
 use Rattle.yaml_laws.specs.code.Refusals.{is_ascii, IsShort}
 use Rattle.yaml_scalars.proofs.Places.{lines_are}
 use Rattle.yaml_laws.proofs.Agree.{drop_before, drop_size}
-use Rattle.yaml_laws.proofs.Longer.{glue, rest_of, ended, cut, no_feed, IsRest, Ends, lines_more, lines_ended, lines_end, IsScalar}
+use Rattle.yaml_laws.proofs.Longer.{glue, rest_of, ended, cut, no_feed, IsRest, Ends, lines_more, lines_ended, lines_end, IsScalar, StandsTo}
 use Rattle.yaml_laws.proofs.BlockLonger.{block_returned, block_longer}
 use Rattle.yaml_laws.proofs.PlainLonger.{plain_returned, plain_longer}
 use Rattle.yaml_laws.proofs.EscapeLonger.{is_fit, AllFit}
@@ -100,10 +100,10 @@ module _ (s : Setting) (before : List ℕ) (b at : ℕ) (l : at ≤ length befor
 
   -- the last byte is a carriage return: a line feed makes a break of it
   module _ (e : b ≡ 13) where
-    place : ℕ
+    pub place : ℕ
     place = at + length front
 
-    at_end : length text ≡ suc place
+    pub at_end : length text ≡ suc place
     unfolding place
     at_end = let x = size_text in let y = size_front in omega (arith, x, y)
 
@@ -131,7 +131,8 @@ module _ (s : Setting) (before : List ℕ) (b at : ℕ) (l : at ≤ length befor
         let r = block_returned s.parent (length text) other place (ends_with 13 front) (lines at front) ends (sym (ap (block_on s.parent (length text)) old_lines) ∙ h ∙ ap Fails at_end) in
         (r.0, r.1, ap (block_on s.parent other) (new_lines [] refl) ∙ r.2)
 
-    quoted_cut : begins_quoted (drop at text) ≡ true → quoted_scalar s text at ≡ Fails (length text) → (w : List ℕ) × IsRest w × IsScalar (quoted_scalar s (new (10 ∷ w)) at)
+    -- a quotation mark on the next line ends it
+    pub quoted_cut : begins_quoted (drop at text) ≡ true → quoted_scalar s text at ≡ Fails (length text) → (q : ℕ) × IsRest (q ∷ []) × StandsTo (suc (suc (suc place) + 0)) (quoted_scalar s (new (10 ∷ q ∷ [])) at)
     quoted_cut q h =
         let first = quoted_first front (sym (ap begins_quoted (dropped [])) ∙ q) (ap (λ c. nat_eq c 13) e) in
         let c = first.0 in
@@ -143,19 +144,19 @@ module _ (s : Setting) (before : List ℕ) (b at : ℕ) (l : at ≤ length befor
         let other = length (new (10 ∷ w)) in
         let fails : quoted_on s.one_line (length text) (cut (l1 ∷ ks) place) ≡ Fails (suc place) = ap (λ ls. quoted_on s.one_line (length text) (cut ls place)) (sym first.2) ∙ sym (ap (quoted_on s.one_line (length text)) old_lines) ∙ h ∙ ap Fails at_end in
         let r = on_returned s.one_line (length text) other place at c (ends_with 13 front) f (has_break front) ks (subst (λ ls. Ends place (ends_with 13 front) ls) first.2 ends) fails in
-        (w, rest, (r.0, r.1, ap (quoted_on s.one_line other) (new_lines w rest.0 ∙ ap (λ ls. glue ls (ended place w)) first.2) ∙ r.2))
+        (quote_of (c ∷ f), rest, (r.0, ap (quoted_on s.one_line other) (new_lines w rest.0 ∙ ap (λ ls. glue ls (ended place w)) first.2) ∙ r.1))
 
     returned : (q r : Bool) → begins_quoted (drop at text) ≡ q → begins_block s (drop at text) ≡ r → cond q (quoted_scalar s text at) (cond r (block_scalar s text at) (plain_scalar s text at)) ≡ Fails (length text) → IsShort s text at
-    returned true r x y h = let z = quoted_cut x h in short (10 ∷ z.0) true r x y z.1.1 z.2
+    returned true r x y h = let z = quoted_cut x h in short (10 ∷ z.0 ∷ []) true r x y z.1.1 (z.2.0, suc (suc (suc place) + 0), z.2.1)
     returned false true x y h = short (10 ∷ []) false true x y refl (block_cut h)
     returned false false x y h = short (10 ∷ []) false false x y refl (plain_cut h)
 
   -- it is none
   module _ (e : nat_eq b 13 ≡ false) where
-    size : ℕ
+    pub size : ℕ
     size = at + length last
 
-    at_last : length text ≡ size
+    pub at_last : length text ≡ size
     unfolding size
     at_last = let x = size_text in let y = size_last in omega (arith, x, y)
 
@@ -179,14 +180,17 @@ module _ (s : Setting) (before : List ℕ) (b at : ℕ) (l : at ≤ length befor
     unfolding size
     break_lines = ap (lines at) (dropped (13 ∷ 10 ∷ []) ∙ sym (append_assoc front (b ∷ []) (13 ∷ 10 ∷ []))) ∙ lines_ended at last [] refl
 
-    plain_more : plain_scalar s text at ≡ Fails (length text) → IsScalar (plain_scalar s (new (97 ∷ [])) at)
+    pub plain_letter : plain_scalar s text at ≡ Fails (length text) → StandsTo (suc size) (plain_scalar s (new (97 ∷ [])) at)
     unfolding size
-    plain_more h =
+    plain_letter h =
         let q = is_first_column text at in
         let is = lines_are at last in
         let low : at < size = (let x = size_last in omega (arith, x, l)) in
         let r = plain_longer s q size (record { at = at; bytes = line_at last; broken = has_break last }) (behind at last) low (subst (λ ls. Ends size false ls) is ends_here) (sym (ap (plain_on s q) (text_lines ∙ is)) ∙ h ∙ ap Fails at_last) in
-        (r.0, r.1, ap (λ p. plain_on s p (lines at (drop at (new (97 ∷ []))))) (sym (column_same before b [] (97 ∷ []) at l)) ∙ ap (plain_on s q) (longer_lines (97 ∷ []) refl ∙ ap (λ ls. glue ls (rest_of size (97 ∷ []) ∷ [])) is) ∙ r.2)
+        (r.0, ap (λ p. plain_on s p (lines at (drop at (new (97 ∷ []))))) (sym (column_same before b [] (97 ∷ []) at l)) ∙ ap (plain_on s q) (longer_lines (97 ∷ []) refl ∙ ap (λ ls. glue ls (rest_of size (97 ∷ []) ∷ [])) is) ∙ r.1)
+
+    plain_more : plain_scalar s text at ≡ Fails (length text) → IsScalar (plain_scalar s (new (97 ∷ [])) at)
+    plain_more h = let r = plain_letter h in (r.0, suc size, r.1)
 
     block_more : begins_quoted (drop at text) ≡ false → begins_block s (drop at text) ≡ true → block_scalar s text at ≡ Fails (length text) → IsShort s text at
     block_more x y h = elim (block_longer s.parent size (length text) (lines at last) ends_here (sym (ap (block_on s.parent (length text)) text_lines) ∙ h ∙ ap Fails at_last)) [
@@ -194,7 +198,7 @@ module _ (s : Setting) (before : List ℕ) (b at : ℕ) (l : at ≤ length befor
       | inr r ↦ (let z = r (length (new (13 ∷ 10 ∷ []))) in short (13 ∷ 10 ∷ []) false true x y refl (z.0, z.1, ap (block_on s.parent (length (new (13 ∷ 10 ∷ [])))) break_lines ∙ z.2))
     ]
 
-    quoted_more_at : begins_quoted (drop at text) ≡ true → quoted_scalar s text at ≡ Fails (length text) → (w : List ℕ) × IsRest w × IsScalar (quoted_scalar s (new w) at)
+    pub quoted_more_at : begins_quoted (drop at text) ≡ true → quoted_scalar s text at ≡ Fails (length text) → (w : List ℕ) × IsRest w × IsScalar (quoted_scalar s (new w) at)
     quoted_more_at q h =
         let first = quoted_whole last (sym (ap begins_quoted (dropped [])) ∙ q) in
         let c = first.0 in

@@ -11,7 +11,7 @@ use Rattle.yaml_laws.proofs.ScalarLaw.{scalar_lower, scalar_upper, scalar_dead}
 use Rattle.yaml_laws.proofs.ScalarLonger.{scalar_short}
 
 -- a text that is not empty, by its last byte
-last_of : (x : ℕ) (xs : List ℕ) → (before : List ℕ) × (b : ℕ) × (x ∷ xs ≡ before ++ (b ∷ []))
+pub last_of : (x : ℕ) (xs : List ℕ) → (before : List ℕ) × (b : ℕ) × (x ∷ xs ≡ before ++ (b ∷ []))
 last_of x [] = ([], x, refl)
 last_of x (y ∷ xs) = let r = last_of y xs in (x ∷ r.0, r.1, ap (λ t. x ∷ t) r.2)
 

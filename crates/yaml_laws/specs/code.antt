@@ -1,4 +1,5 @@
 -- What serves the code and its proofs alone: nobody has to believe it.
 pub mod Agreement
 pub mod Digits
+pub mod Endings
 pub mod Refusals

@@ -1,10 +1,11 @@
 //! Laws over the definitions of `yaml_scalars`: calls that do nothing, whose contracts are the laws. No program calls them.
-//! `specs/code/Agreement` says which texts are the same so far, `specs/code/Refusals` what a place of a refusal is, and
-//! `specs/code/Digits` what number digits spell. `proofs/Examples` has what the definitions say of small texts.
+//! `specs/code/Agreement` says which texts are the same so far, `specs/code/Refusals` what a place of a refusal is,
+//! `specs/code/Endings` how a text's lines end, and `specs/code/Digits` what number digits spell. `proofs/Examples` has what
+//! the definitions say of small texts.
 #![tactic(auto)]
 
 mod escape;
 mod scalars;
 
 pub use escape::wanted_digits;
-pub use scalars::{same_scalar, syntax_place};
+pub use scalars::{flow_followed, key_followed, same_scalar, scalar_ended, syntax_place};

@@ -17,6 +17,10 @@ is_ascii b = nat_lt b 128
 abbrev pub IsShort : Setting → List ℕ → ℕ → Type 0
 IsShort s text at = (more scalar : List ℕ) × (end : ℕ) × (each is_ascii more ≡ true) × (scalar_at s (text ++ more) at ≡ Stands scalar end)
 
+-- with some more bytes of ASCII behind it, a scalar of the setting at `at` ends with them
+abbrev pub IsEndedBy : Setting → List ℕ → ℕ → Type 0
+IsEndedBy s text at = (more scalar : List ℕ) × (each is_ascii more ≡ true) × (scalar_at s (text ++ more) at ≡ Stands scalar (length (text ++ more)))
+
 -- a place of a refusal: such a one, or the length of a text that ends too early
 abbrev pub IsSyntax : Setting → List ℕ → ℕ → ℕ → Type 0
 IsSyntax s text at place = IsDead s text at place ⊎ ((place ≡ length text) × IsShort s text at)
