@@ -24,3 +24,8 @@ mod Scalars
 mod Stacks
 pub mod TreeInduction
 pub mod AwaitedNodes
+mod Completions
+mod AheadEnds
+mod ScalarFails
+mod AheadClosed
+mod AheadStrays

@@ -91,7 +91,7 @@ same_split a (suc n) (b ∷ bs) d = by_byte (nat_eq b a) refl (same_split a n bs
       (b ∷ f, u, ap (λ t. b ∷ t) i, ap (λ q. cond q (each dash f) false) (ap dash n ∙ d) ∙ j, ap suc k)
   by_byte false e r = ([], b ∷ bs, refl, refl, refl)
 
-mark_split : (b : ℕ) (bs : List ℕ) → dash b ≡ true → (f u : List ℕ) × (b ∷ bs ≡ f ++ u) × (each dash f ≡ true) × (length f ≡ suc (same b 2 bs))
+pub mark_split : (b : ℕ) (bs : List ℕ) → dash b ≡ true → (f u : List ℕ) × (b ∷ bs ≡ f ++ u) × (each dash f ≡ true) × (length f ≡ suc (same b 2 bs))
 mark_split b bs d = let (f, u, i, j, k) = same_split b 2 bs d in (b ∷ f, u, ap (λ t. b ∷ t) i, ap (λ q. cond q (each dash f) false) d ∙ j, ap suc k)
 
 content_front : (flow : Bool) (b : ℕ) (bs : List ℕ) → dash b ≡ true → suc (same b 2 bs) ≤ length (content flow (b ∷ bs))
@@ -106,21 +106,21 @@ content_front flow b bs d =
 
 -- ---- a token at which a scalar may begin
 
-return_scalar : (flow : Bool) (xs : List ℕ) → begins_with 13 xs ≡ true → starts_scalar (token_of flow xs) ≡ false
+pub return_scalar : (flow : Bool) (xs : List ℕ) → begins_with 13 xs ≡ true → starts_scalar (token_of flow xs) ≡ false
 return_scalar flow [] h = absurd (true≢false (sym h))
 return_scalar flow (c ∷ xs) h = let e : c ≡ 13 = grind (arith, nat_tests, h) in ap (λ c. starts_scalar (token_of flow (c ∷ xs))) e ∙ by_flow flow where
   by_flow : (flow : Bool) → starts_scalar (token_of flow (13 ∷ xs)) ≡ false
   by_flow true = refl
   by_flow false = refl
 
-comment_scalar : (flow : Bool) (xs : List ℕ) → begins_with 35 xs ≡ true → starts_scalar (token_of flow xs) ≡ false
+pub comment_scalar : (flow : Bool) (xs : List ℕ) → begins_with 35 xs ≡ true → starts_scalar (token_of flow xs) ≡ false
 comment_scalar flow [] h = absurd (true≢false (sym h))
 comment_scalar flow (c ∷ xs) h = let e : c ≡ 35 = grind (arith, nat_tests, h) in ap (λ c. starts_scalar (token_of flow (c ∷ xs))) e ∙ by_flow flow where
   by_flow : (flow : Bool) → starts_scalar (token_of flow (35 ∷ xs)) ≡ false
   by_flow true = refl
   by_flow false = refl
 
-name_scalar : (flow : Bool) (bs : List ℕ) → starts_scalar (token_of flow (33 ∷ bs)) ≡ false
+pub name_scalar : (flow : Bool) (bs : List ℕ) → starts_scalar (token_of flow (33 ∷ bs)) ≡ false
 name_scalar flow bs = by_flow flow where
   by_tag : (q : Bool) (n : ℕ) → starts_scalar (cond q (Tag n) NoTag) ≡ false
   by_tag true n = refl
@@ -149,7 +149,7 @@ content_one flow fresh xs h = by_comment (fresh || nat_lt 0 (lead is_white xs)) 
 
 -- ---- the bytes that a line shares with a mark
 
-no_mark : (flow : Bool) (xs : List ℕ) → mark_len xs ≡ 0 → starts_scalar (token_of flow (past_white xs)) ≡ true → shown xs ≤ lead is_white xs
+pub no_mark : (flow : Bool) (xs : List ℕ) → mark_len xs ≡ 0 → starts_scalar (token_of flow (past_white xs)) ≡ true → shown xs ≤ lead is_white xs
 no_mark flow xs m h = by_return (begins_with 13 (drop (lead is_white xs + mark_len xs) xs)) refl where
   by_return : (q : Bool) → begins_with 13 (drop (lead is_white xs + mark_len xs) xs) ≡ q → cond (q && may_end (mark_len xs)) (suc (lead is_white xs + mark_len xs)) (lead is_white xs + mark_len xs) ≤ lead is_white xs
   by_return true e =
@@ -170,7 +170,7 @@ cut_here b (c ∷ g ∷ rest) d s r = by_bytes (nat_eq c b) (nat_eq g b) refl re
   by_bytes true false i j s = absurd (omega (arith, s))
   by_bytes false q i j s = absurd (omega (arith, s))
 
-marked_shown : (b : ℕ) (bs : List ℕ) (n : ℕ) → dash b ≡ true → marked (b ∷ bs) ≡ false → suc (same b 2 bs) ≤ n → shown (b ∷ bs) ≤ n
+pub marked_shown : (b : ℕ) (bs : List ℕ) (n : ℕ) → dash b ≡ true → marked (b ∷ bs) ≡ false → suc (same b 2 bs) ≤ n → shown (b ∷ bs) ≤ n
 marked_shown b bs n d m l = by_return (begins_with 13 (drop (lead is_white (b ∷ bs) + mark_len (b ∷ bs)) (b ∷ bs))) (may_end (mark_len (b ∷ bs))) refl refl where
   white : lead is_white (b ∷ bs) ≡ 0
   white = let w : is_white b ≡ false = grind (arith, nat_tests, d) in ap (λ q. cond q (suc (lead is_white bs)) 0) w
@@ -196,7 +196,7 @@ marked_shown b bs n d m l = by_return (begins_with 13 (drop (lead is_white (b �
 
 -- ---- a line at which a scalar stands
 
-begins_line : (k c : ℕ) (z ys : List ℕ) → line_at ys ≡ c ∷ z → begins_with k ys ≡ nat_eq c k
+pub begins_line : (k c : ℕ) (z ys : List ℕ) → line_at ys ≡ c ∷ z → begins_with k ys ≡ nat_eq c k
 begins_line k c z [] h = absurd (cc)
 begins_line k c z (y ∷ ys) h = by_break (begins_break y ys) h where
   by_break : (q : Bool) → cond q [] (y ∷ line_at ys) ≡ c ∷ z → nat_eq y k ≡ nat_eq c k
@@ -302,7 +302,7 @@ module _ (s : Setting) (text : List ℕ) (flow : Bool) (t : List ℕ) (e : ℕ) 
     by_test true a b c = line_scalar ls o w f a b c
     by_test false a b c = let z = content_one flow false l.bytes a in omega (arith, z, b)
 
-abbrev line_of : List ℕ → ℕ → Line
+abbrev pub line_of : List ℕ → ℕ → Line
 line_of text i = record { at = i; bytes = line_at (drop i text); broken = has_break (drop i text) }
 
 -- what is ahead, and then what is ahead behind a scalar there

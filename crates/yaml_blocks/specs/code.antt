@@ -1,5 +1,6 @@
 -- What serves the code and its proofs alone: nobody has to believe it.
 pub mod AheadSeen
+pub mod Closers
 pub mod Memory
 pub mod Refused
 pub mod Rest

@@ -7,6 +7,8 @@
 mod agreement;
 mod ahead;
 mod block;
+mod breaking;
+mod ending;
 mod flow;
 mod form;
 mod node;
@@ -18,5 +20,6 @@ mod step;
 
 pub use agreement::same_ahead;
 pub use ahead::Token;
+pub use ending::{closed_ahead, end_ahead, failing_ahead};
 pub use read::read_yaml;
 pub use refusal::YamlRefusal;

@@ -5,12 +5,12 @@ pub mod BlockLaw
 mod BlockLonger
 pub mod BlockShown
 mod BlockStays
-mod EscapeLonger
+pub mod EscapeLonger
 mod EscapeWanted
 mod Examples
 pub mod LineEnds
-mod Longer
-mod PlainClosed
+pub mod Longer
+pub mod PlainClosed
 pub mod PlainDead
 mod PlainFollowed
 pub mod PlainLaw
@@ -24,10 +24,10 @@ mod QuotedDead
 mod QuotedEnds
 mod QuotedFollowed
 pub mod QuotedLaw
-mod QuotedLonger
+pub mod QuotedLonger
 mod QuotedStays
 mod ScalarEnds
-mod ScalarFollowed
+pub mod ScalarFollowed
 pub mod ScalarLaw
 mod ScalarLonger
 mod ScalarStays
