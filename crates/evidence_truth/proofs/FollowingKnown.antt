@@ -28,7 +28,8 @@ use Rattle.rule_meaning.specs.Functions.{MadeRow}
 use Rattle.rule_meaning.specs.StoreModel.{StoreModel, Made, is_known, is_known_ref, literal_at, tree_of_piece}
 use Rattle.evidence_rules.specs.CitedLines.{IsLine, GivesBound, GivesExpr, GivesPiece, GivesQuery, GivesVariable, GiveArgs, value_said}
 use Rattle.rule_meaning.specs.Filters.{candidates_by, candidates_of, filtered, kept}
-use Rattle.evidence_rules.specs.Follows.{AllFollow, Follows, FollowsAtExpr, FollowsAtStep, FollowsCapture, FollowsFilter, FollowsIn, FollowsRows, FollowsStep, GivesBefore, GivesFurther, HasValue, IsFrameOf, IsFrameOfStep}
+use Rattle.evidence_rules.specs.Follows.{Follows, FollowsAtExpr, FollowsAtStep, FollowsCapture, FollowsFilter, FollowsIn, FollowsRows, FollowsStep, GivesBefore, GivesFurther, HasValue, IsFrameOf, IsFrameOfStep}
+use Rattle.evidence_rules.specs.code.Judgement.{FollowTo}
 use Rattle.rule_meaning.specs.Kinds.{has_type, rows_of_type, typed_in}
 use Rattle.rule_meaning.specs.Places.{Placed, before_step, is_filter, rows_at_step, rows_at_type, step_at, step_in, step_rows, steps_in, type_at}
 use Rattle.rule_meaning.specs.Reached.{entry, inside, value_for}
@@ -43,15 +44,7 @@ use Rattle.query_steps.proofs.KnownRows.{filter-all, keys-captured, rows-known}
 use Rattle.evidence_rules.proofs.LinesBehind.{at-end, behind-first}
 use Rattle.query_steps.proofs.SeenAnswers.{answer-called, answer-known as kept-answer}
 use Rattle.query_steps.proofs.SeenGrowth.{known-before, row-known-before}
-
--- each value that a line says is known
-abbrev pub outcome_known : StoreModel → Outcome → Bool
-outcome_known known (says.Value v) = is_known_ref known v
-outcome_known known (says.Rows rows) = list_all (is_known known) rows
-outcome_known known (says.Verdict verdict) = true
-
-abbrev pub AreKnown : StoreModel → List Line → Type 0
-AreKnown known lines = (number : ℕ) (l : Line) → line_of lines number ≡ Some l → outcome_known known l.outcome ≡ true
+use Rattle.evidence_truth.specs.code.KnownLines.{AreKnown, is_known_outcome}
 
 -- ---- what is known stays known
 
@@ -61,7 +54,7 @@ rows-before known more (r ∷ rows) all =
     let both = and_parts (is_known known r) (list_all (is_known known) rows) all in
     and_from _ _ (row-known-before known more r both.0) (rows-before known more rows both.1)
 
-pub outcome-before : (known : StoreModel) (more : List Made) (outcome : Outcome) → outcome_known known outcome ≡ true → outcome_known (grown known more) outcome ≡ true
+pub outcome-before : (known : StoreModel) (more : List Made) (outcome : Outcome) → is_known_outcome known outcome ≡ true → is_known_outcome (grown known more) outcome ≡ true
 outcome-before known more (says.Value v) is = known-before known more v is
 outcome-before known more (says.Rows rows) is = rows-before known more rows is
 outcome-before known more (says.Verdict verdict) is = refl
@@ -138,12 +131,12 @@ module _ (known : StoreModel) (current : Ref) (before further : List Row) (verdi
 
 module _ (known : StoreModel) (lines : List Line) (old : AreKnown known lines) where
   rows-at : (number : ℕ) (of : LineKind) (frame site : ℕ) (rows : List Row) → IsLine lines number of frame site (says.Rows rows) → list_all (is_known known) rows ≡ true
-  rows-at number of frame site rows is = subst (λ (o : Outcome). outcome_known known o ≡ true) is.outcome_is (old number is.line is.stands)
+  rows-at number of frame site rows is = subst (λ (o : Outcome). is_known_outcome known o ≡ true) is.outcome_is (old number is.line is.stands)
 
   value-at : (frame : ℕ) (v : Ref) → HasValue known lines frame v → is_known_ref known v ≡ true
   value-at frame v has = by (line_of lines frame) refl has
     where
-      said : (o : Outcome) → value_said o ≡ Some v → outcome_known known o ≡ true → is_known_ref known v ≡ true
+      said : (o : Outcome) → value_said o ≡ Some v → is_known_outcome known o ≡ true → is_known_ref known v ≡ true
       said (says.Value w) is here = subst (λ (u : Ref). is_known_ref known u ≡ true) (same_Some w v is) here
       said (says.Rows rows) is here = absurd (none-some v is)
       said (says.Verdict verdict) is here = absurd (none-some v is)
@@ -269,28 +262,28 @@ module _ (known : StoreModel) (lines : List Line) (old : AreKnown known lines) w
     frame-known frame piece v h = absurd h
 
     at-line : (version : Version) (frame site : ℕ) (of : LineKind) (cites : List ℕ) (outcome : Outcome) (more : List Made) → FollowsIn version known lines frame site of cites outcome more
-        → outcome_known (grown known more) outcome ≡ true
+        → is_known_outcome (grown known more) outcome ≡ true
     at-line version frame site kind.Frame cites (says.Value v) more h = known-before known more v (frame-known frame (piece_at known.file site) v h.1)
     at-line version frame site of cites (says.Rows rows) more h = at-rows frame site of (piece_at known.file site) cites rows more refl h
     at-line version frame site of cites (says.Verdict verdict) more h = refl
     at-line version frame site of cites outcome more h = absurd h
 
     -- each value that a line names is known once the trees are there that it makes known
-    pub follows-known : (version : Version) (line : Line) (more : List Made) → Follows version known lines line more → outcome_known (grown known more) line.outcome ≡ true
+    pub follows-known : (version : Version) (line : Line) (more : List Made) → Follows version known lines line more → is_known_outcome (grown known more) line.outcome ≡ true
     follows-known version line more follows = elim follows [
-      | inl (q, none) ↦ outcome-before known more line.outcome (ap (outcome_known known) q.4 ∙ root)
+      | inl (q, none) ↦ outcome-before known more line.outcome (ap (is_known_outcome known) q.4 ∙ root)
       | inr (frame, site, frame_is, site_is, home, h) ↦ at-line version frame site line.kind line.cites line.outcome more h
     ]
 
 -- ---- all lines
 
-pub known-behind : (known : StoreModel) (more : List Made) (lines : List Line) (line : Line) → AreKnown known lines → outcome_known (grown known more) line.outcome ≡ true
+pub known-behind : (known : StoreModel) (more : List Made) (lines : List Line) (line : Line) → AreKnown known lines → is_known_outcome (grown known more) line.outcome ≡ true
     → AreKnown (grown known more) (lines ++ line ∷ [])
 known-behind known more lines line old new zero l stands = absurd (none-some l stands)
 known-behind known more lines line old new (suc n) l stands =
     elim (at-end lines line n l (sym (behind-first (lines ++ line ∷ []) n) ∙ stands)) [
       | inl there ↦ outcome-before known more l.outcome (old (suc n) l (behind-first lines n ∙ there))
-      | inr same ↦ subst (λ (x : Line). outcome_known (grown known more) x.outcome ≡ true) same new
+      | inr same ↦ subst (λ (x : Line). is_known_outcome (grown known more) x.outcome ≡ true) same new
     ]
 
 -- trees are those of some answer, kept at the number behind lines
@@ -331,18 +324,17 @@ follows-called version known lines line more calls site counted called follows =
     ap (λ (trees : List Made). are_called (calls ++ site ∷ []) (grown known trees).made) kept_trees.1
     ∙ subst (λ (n : ℕ). are_called (calls ++ site ∷ []) (grown known (trees_kept (suc n) 0 kept_trees.0)).made ≡ true) counted (answer-called known calls site called kept_trees.0)
 
--- the values of all lines are known where they follow
-pub all-known : (version : Version) (known : StoreModel) (calls : List ℕ) (before rest : List Line) → is_known_ref known root_ref ≡ true
+-- the last store knows the values of all lines where they follow
+pub lines-known : (version : Version) (known : StoreModel) (calls : List ℕ) (before rest : List Line) (last : StoreModel) → is_known_ref known root_ref ≡ true
     → ((site : ℕ) (tree : Forest) → literal_at known.file site ≡ Some tree → is_known_ref known (literal_ref site) ≡ true)
-    → length calls ≡ length before → are_called calls known.made ≡ true → AreKnown known before → AllFollow version known before rest
-    → (made : List Made) × AreKnown (record { template = known.template; file = known.file; made = made }) (before ++ rest)
-all-known version known calls before [] root literals counted called old follow = (known.made, subst (AreKnown known) (sym (append-nil before)) old)
-all-known version known calls before (line ∷ rest) root literals counted called old follow =
+    → length calls ≡ length before → are_called calls known.made ≡ true → AreKnown known before → FollowTo version known before rest last → AreKnown last (before ++ rest)
+lines-known version known calls before [] last root literals counted called old follow =
+    subst (λ (k : StoreModel). AreKnown k (before ++ [])) follow (subst (AreKnown known) (sym (append-nil before)) old)
+lines-known version known calls before (line ∷ rest) last root literals counted called old follow =
     let more = follow.0 in
     let new = follows-known known before old root literals calls counted called version line more follow.1 in
     let longer : length (calls ++ 0 ∷ []) ≡ length (before ++ line ∷ []) = length-append calls (0 ∷ []) ∙ ap (λ (n : ℕ). n + 1) counted ∙ sym (length-append before (line ∷ [])) in
-    let all = all-known version (grown known more) (calls ++ 0 ∷ []) (before ++ line ∷ []) rest
-    (known-before known more root_ref root)
-    (λ site tree there. known-before known more (literal_ref site) (literals site tree there))
-    longer (follows-called version known before line more calls 0 counted called follow.1) (known-behind known more before line old new) follow.2 in
-    (all.0, subst (AreKnown (record { template = known.template; file = known.file; made = all.0 })) (append_assoc before (line ∷ []) rest) all.1)
+    subst (AreKnown last) (append_assoc before (line ∷ []) rest)
+    (lines-known version (grown known more) (calls ++ 0 ∷ []) (before ++ line ∷ []) rest last (known-before known more root_ref root)
+    (λ site tree there. known-before known more (literal_ref site) (literals site tree there)) longer (follows-called version known before line more calls 0 counted called follow.1)
+    (known-behind known more before line old new) follow.2)

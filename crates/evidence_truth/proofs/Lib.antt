@@ -6,6 +6,7 @@ mod HeldFails
 mod HeldLines
 mod HeldRows
 mod HeldSeen
+mod KnownHeld
 mod LinesSoFar
 mod LinesTrue
 mod OneOwner

@@ -1,7 +1,7 @@
-//! The laws that accepted evidence is true and tells entries. The bodies cite other laws and do nothing else; a law is kept by a
+//! The laws that accepted evidence is true, tells entries, and speaks of values that exist. The bodies cite other laws and do nothing else; a law is kept by a
 //! contract.
 ghost use Rattle.std.specs.Prelude.{◌≡◌, ◌≤◌, ℕ, List, [], ◌∷◌, All, Contains};
-ghost use Rattle.doc_values.specs.Tree.{Forest};
+ghost use Rattle.doc_values.specs.Tree.{Forest, IsTree};
 ghost use Rattle.evidence_lines.specs.declared.line.Line.{Line};
 ghost use Rattle.evidence_lines.specs.declared.line.LineKind.TheVariants as kind;
 ghost use Rattle.evidence_lines.specs.declared.line.Outcome.TheVariants as says;
@@ -24,6 +24,7 @@ ghost use Rattle.rule_meaning.specs.Locations.{Answers};
 ghost use Rattle.evidence_rules.specs.RuleLines.{AreOfRules, IsSaidOf};
 ghost use Rattle.evidence_rules.specs.code.Judgement.{FollowTo, Holds, verdicts_of};
 ghost use Rattle.evidence_truth.specs.code.HeldTrees.{HoldsTrees};
+ghost use Rattle.evidence_truth.specs.code.KnownLines.{AreKnown, AreTrees};
 ghost use Rattle.evidence_truth.specs.code.LineFails.{line_fails};
 
 use meaning_laws::{one_failing_over_locations, one_meaning_over_locations};
@@ -79,3 +80,12 @@ pub fn entries_told()
     one_meaning_over_locations();
     one_failing_over_locations();
 }
+
+/// The law that what lines say is known, in each version: where each line follows from those before it, over a template and a
+/// file whose literals are trees, each value that a line says exists, for any store that holds the trees of the lines.
+pub fn lines_known()
+    ensures { (file : File) (version : Version) (template : Forest) (lines : List Line) (known held : StoreModel)
+        → IsTree template → AreTrees file
+        → FollowTo version (nothing_made template file) [] lines known → HoldsTrees held known
+        → AreKnown held lines }
+{}
