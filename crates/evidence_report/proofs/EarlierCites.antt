@@ -30,7 +30,7 @@ within-list [] n l is = absurd (none-some l is)
 within-list (x ∷ ls) zero l is = omega arith
 within-list (x ∷ ls) (suc n) l is = let h = within-list ls n l is in omega (arith, h)
 
-number-within : (ls : List Line) (number : ℕ) (l : Line) → line_of ls number ≡ Some l → number ≤ length ls
+pub number-within : (ls : List Line) (number : ℕ) (l : Line) → line_of ls number ≡ Some l → number ≤ length ls
 number-within ls zero l is = omega arith
 number-within ls (suc n) l is = let h = within-list ls n l (sym (behind-first ls n) ∙ is) in omega (arith, h)
 

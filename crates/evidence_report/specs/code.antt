@@ -2,4 +2,6 @@
 pub mod Counts
 pub mod Leads
 pub mod RuleEntries
+pub mod RuleTables
+pub mod VerdictLines
 pub mod Written

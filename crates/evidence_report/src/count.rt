@@ -35,7 +35,10 @@ pub fn fail_counts(alloc: Global, context: &LineContext<'_, '_, '_>) -> Result<V
 }
 
 /// The counts of all lines.
-fn count_lines(alloc: Global, context: &LineContext<'_, '_, '_>) -> Result<Vec<u64>, AllocError>
+pub(crate) fn count_lines(
+    alloc: Global,
+    context: &LineContext<'_, '_, '_>,
+) -> Result<Vec<u64>, AllocError>
     requires { CitesFall (lines_of context.now) }
     ensures all { IfOk result (λ counts. length counts.items ≡ length (lines_of context.now)) }
     ensures counts { IfOk result (λ counts. AreCounts (known_of context.now) (lines_of context.now) counts.items) }
@@ -92,7 +95,7 @@ fn count_lead(lead: &Lead, counts: &[u64]) -> u64
 }
 
 /// The count of the line of a number; 0 where it is not counted.
-fn count_at(counts: &[u64], number: u64) -> u64
+pub(crate) fn count_at(counts: &[u64], number: u64) -> u64
     ensures { result ≡ call_at counts.now number }
 {
     if number == 0 {

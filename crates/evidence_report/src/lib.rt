@@ -1,6 +1,7 @@
-//! What rules fail by, listed from evidence that was accepted: the cites of lines that say FAIL are followed, and no rule is
-//! evaluated. The crate stands on the law that lines tell entries (`evidence_truth`), on the look-ups of lines and on
-//! `report_text`, which writes what it is given; of evaluators it knows nothing.
+//! The report on a template, and what rules fail by, from evidence that was accepted: verdicts are those of `rule` lines, the
+//! cites of lines that say FAIL are followed, and no rule is evaluated. The crate stands on the law that lines tell entries
+//! (`evidence_truth`), on the look-ups of lines, on `report_text`, which writes what it is given, and on the definition of the
+//! report (`guard_ends`); of evaluators it knows nothing.
 #![tactic(auto)]
 
 mod cited;
@@ -9,10 +10,15 @@ pub mod fails;
 mod laws;
 mod lead;
 mod leads;
+pub mod report;
 mod rows;
+mod rule_lines;
 mod shown;
+mod tally;
+mod verdict_lines;
 pub mod write;
 
 pub use count::fail_counts;
 pub use fails::write_fails;
+pub use report::{count_fails, write_report};
 pub use write::Page;

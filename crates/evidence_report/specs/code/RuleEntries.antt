@@ -10,7 +10,7 @@ use Rattle.rule_meaning.specs.Fails.{Entry, loose_fails, rule_fails}
 use Rattle.rule_meaning.specs.Locations.{World}
 use Rattle.rule_meaning.specs.StoreModel.{StoreModel}
 use Rattle.evidence_rules.specs.CitedLines.{IsLine}
-use Rattle.evidence_rules.specs.Follows.{AllFollow, nothing_made}
+use Rattle.evidence_rules.specs.Follows.{Accepts, AllFollow, nothing_made}
 use Rattle.evidence_rules.specs.code.Judgement.{FollowTo}
 use Rattle.evidence_truth.specs.code.HeldTrees.{HoldsTrees}
 use Rattle.evidence_truth.specs.code.LineFails.{line_fails}
@@ -27,4 +27,9 @@ AreTold world held lines = (number : ℕ) → AreFailsOf world lines number (lin
 -- lines that follow over the template and the file of a store, which holds the trees that they make
 pub record AreHeldLines (version : Version) (held : StoreModel) (lines : List Line) : Type 0 where
   pub follow : AllFollow version (nothing_made held.template held.file) [] lines
+  pub trees : (known : StoreModel) → FollowTo version (nothing_made held.template held.file) [] lines known → HoldsTrees held known
+
+-- so evidence that is accepted: no verdict is wanting either
+pub record IsAccepted (version : Version) (held : StoreModel) (lines : List Line) : Type 0 where
+  pub accepts : Accepts version held.template held.file lines
   pub trees : (known : StoreModel) → FollowTo version (nothing_made held.template held.file) [] lines known → HoldsTrees held known

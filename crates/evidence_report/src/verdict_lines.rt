@@ -1,0 +1,132 @@
+//! The verdicts that are reported, listed from evidence: of each rule without parameters, and of the parts outside rules.
+ghost use Rattle.std.specs.Prelude.{◌≡◌, ◌∷◌, [], None, Some, true, is_some, length, Contains, IfOk, OnOk, map, List, slice_index_or};
+ghost use Rattle.std.specs.List.{flat_map};
+ghost use Rattle.evidence_lines.specs.declared.line.Line.{Line};
+ghost use Rattle.guard_syntax.specs.code.Seen.{disj_list, see_disj, see_file, see_rule};
+ghost use Rattle.rule_meaning.specs.FunctionMeaning.{IsAnswering};
+ghost use Rattle.rule_meaning.specs.Locations.{Answers};
+ghost use Rattle.rule_meaning.specs.Seeing.{world_of};
+ghost use Rattle.rule_meaning.specs.StoreModel.{StoreModel};
+ghost use Rattle.evidence_lookups.specs.code.Grounds.{file_in, known_of, lines_of};
+ghost use Rattle.guard_ends.specs.Reported.{of_loose, of_rule, reported};
+ghost use Rattle.evidence_report.specs.code.RuleEntries.{IsAccepted};
+ghost use Rattle.evidence_report.specs.code.RuleTables.{AreRuleLines};
+ghost use Rattle.evidence_report.specs.declared.rule_lines.RuleLine.{RuleLine};
+ghost use Rattle.evidence_report.specs.code.VerdictLines.{AreSaid, Lists, reported_by, see_verdict};
+
+use crate::laws::rules_told;
+use crate::rule_lines::{RuleLine, line_at, rule_lines};
+use evidence_lookups::line_context::LineContext;
+use guard_syntax::{Disj, RawFile, Rule};
+use std::alloc::{AllocError, Global};
+
+/// A verdict under its name, by its `rule` line.
+#[derive(Clone, Copy)]
+pub(crate) struct VerdictLine<'f> {
+    pub name: &'f str,
+    pub line: RuleLine,
+}
+
+/// The verdicts of a file, that of the store, that are reported, in their order.
+pub(crate) fn verdict_lines<'f>(
+    alloc: Global,
+    context: &LineContext<'_, '_, '_>,
+    file: &'f RawFile,
+) -> Result<Vec<VerdictLine<'f>>, AllocError>
+    requires lines { IsAccepted context.now.version (known_of context.now) (lines_of context.now) }
+    requires file { file_in context.now ≡ see_file file.now }
+    ensures verdicts { (answers : Answers) → IsAnswering (world_of (known_of context.now) answers)
+        → IfOk result (λ all. map (see_verdict (known_of context.now) (lines_of context.now)) all.items ≡ reported (world_of (known_of context.now) answers)) }
+    ensures said { IfOk result (λ all. AreSaid (lines_of context.now) all.items) }
+{
+    let table = rule_lines(alloc, context)?;
+    let mut all: Vec<VerdictLine<'f>> = Vec::new(alloc);
+    list_rules(context, &table, &file.rules, &mut all)?;
+    list_loose(context, &table, &file.loose, &mut all)?;
+    Ok(all)
+}
+
+/// Appends the verdicts of rules, by the table of their lines.
+fn list_rules<'f>(
+    context: &LineContext<'_, '_, '_>,
+    table: &[Option<RuleLine>],
+    rules: &'f [Rule],
+    into: &mut Vec<VerdictLine<'f>>,
+) -> Result<(), AllocError>
+    requires lines { IsAccepted context.now.version (known_of context.now) (lines_of context.now) }
+    requires table { AreRuleLines (lines_of context.now) table.now }
+    requires sites { length table.now ≡ length (file_in context.now).places }
+    requires rules { (file_in context.now).rules ≡ map see_rule rules.now }
+    ensures verdicts { (answers : Answers) → IsAnswering (world_of (known_of context.now) answers)
+        → OnOk result (Lists (known_of context.now) (lines_of context.now) into.old.items into.new.items (flat_map (of_rule (world_of (known_of context.now) answers)) (file_in context.now).rules)) }
+    ensures said { OnOk result (AreSaid (lines_of context.now) into.old.items → AreSaid (lines_of context.now) into.new.items) }
+{
+    for rule in rules {
+        list_rule(context, table, rule, into)?;
+    }
+    Ok(())
+}
+
+/// Appends the verdict of a rule, unless it has parameters.
+fn list_rule<'f>(
+    context: &LineContext<'_, '_, '_>,
+    table: &[Option<RuleLine>],
+    rule: &'f Rule,
+    into: &mut Vec<VerdictLine<'f>>,
+) -> Result<(), AllocError>
+    requires lines { IsAccepted context.now.version (known_of context.now) (lines_of context.now) }
+    requires table { AreRuleLines (lines_of context.now) table.now }
+    requires sites { length table.now ≡ length (file_in context.now).places }
+    requires rule { Contains (file_in context.now).rules (see_rule rule.now) }
+    ensures verdicts { (answers : Answers) → IsAnswering (world_of (known_of context.now) answers)
+        → OnOk result (Lists (known_of context.now) (lines_of context.now) into.old.items into.new.items (of_rule (world_of (known_of context.now) answers) (see_rule rule.entry.now))) }
+    ensures said { OnOk result (AreSaid (lines_of context.now) into.old.items → AreSaid (lines_of context.now) into.new.items) }
+{
+    if !rule.params.as_slice().is_empty() {
+        return Ok(());
+    }
+    rules_told();
+    list_line(table, rule.name.as_str(), rule.site, into)
+}
+
+/// Appends the verdict of the parts outside rules, if there are some.
+fn list_loose(
+    context: &LineContext<'_, '_, '_>,
+    table: &[Option<RuleLine>],
+    parts: &[Disj],
+    into: &mut Vec<VerdictLine<'_>>,
+) -> Result<(), AllocError>
+    requires lines { IsAccepted context.now.version (known_of context.now) (lines_of context.now) }
+    requires table { AreRuleLines (lines_of context.now) table.now }
+    requires sites { length table.now ≡ length (file_in context.now).places }
+    requires parts { (file_in context.now).loose ≡ disj_list (map see_disj parts.now) }
+    ensures verdicts { (answers : Answers) → IsAnswering (world_of (known_of context.now) answers)
+        → OnOk result (Lists (known_of context.now) (lines_of context.now) into.old.items into.new.items (of_loose (world_of (known_of context.now) answers) (file_in context.now).loose)) }
+    ensures said { OnOk result (AreSaid (lines_of context.now) into.old.items → AreSaid (lines_of context.now) into.new.items) }
+{
+    if parts.is_empty() {
+        return Ok(());
+    }
+    rules_told();
+    list_line(table, "default", 0, into)
+}
+
+/// Appends the verdict of the line that a table has at a site, under a name.
+fn list_line<'f>(
+    table: &[Option<RuleLine>],
+    name: &'f str,
+    site: u32,
+    into: &mut Vec<VerdictLine<'f>>,
+) -> Result<(), AllocError>
+    requires { is_some (slice_index_or table.now site None) ≡ true }
+    ensures verdict { (known : StoreModel) → (lines : List Line) → (r : RuleLine) → slice_index_or table.now site None ≡ Some r
+        → OnOk result (Lists known lines into.old.items into.new.items (reported_by known lines name.entry.now r ∷ [])) }
+    ensures said { (lines : List Line) → AreRuleLines lines table.now → OnOk result (AreSaid lines into.old.items → AreSaid lines into.new.items) }
+{
+    let Some(line) = line_at(table, site) else {
+        // Each verdict that is reported has its line.
+        unreachable!()
+    };
+    into.push(VerdictLine { name, line })?;
+    Ok(())
+}
