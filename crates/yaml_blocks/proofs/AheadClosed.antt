@@ -1,21 +1,20 @@
 -- What a place in flow has ahead, where that is neither the text's end nor a mark, is the same where the last line goes on with a closing bracket. By induction over lines.
 use Rattle.std.proofs.Common.{◌≡◌, ℕ, suc, ◌+◌, ◌<◌, ◌≤◌, Bool, true, false, ◌||◌, ◌&&◌, not, cond, nat_eq, nat_lt, arith, List, [], ◌∷◌, ◌++◌, drop, length, refl, sym, ap, ◌∙◌, subst, true≢false, length-drop}
 use Rattle.std.proofs.lemmas.Bool.Decides.{nat_tests}
-use Rattle.yaml_scalars.specs.Lines.{Line, lines, begins_with, is_white, is_blank, lead, past_white, indent, is_mark, is_end}
+use Rattle.yaml_scalars.specs.Lines.{Line, lines, begins_with, is_white, is_blank, lead, past_white, is_mark}
 use Rattle.yaml_scalars.specs.Plain.{is_flow_mark, is_unsafe}
 use Rattle.yaml_scalars.specs.Scalar.{is_first_column}
 use Rattle.yaml_scalars.specs.code.Walk.{line_at, has_break, behind}
 use Rattle.yaml_scalars.proofs.Places.{lines_are, lead_le}
 use Rattle.yaml_laws.proofs.Agree.{drop_before}
 use Rattle.yaml_laws.proofs.BlockShown.{blank_less}
-use Rattle.yaml_laws.proofs.Longer.{glue, joint, rest_of, no_feed, lines_more}
-use Rattle.yaml_laws.proofs.PlainClosed.{unsafe_more, mark_more, not_white}
+use Rattle.yaml_laws.proofs.Longer.{glue, rest_of, no_feed, lines_more}
+use Rattle.yaml_laws.proofs.PlainClosed.{unsafe_more, mark_more}
 use Rattle.yaml_laws.proofs.QuotedLaw.{lead_some}
 use Rattle.yaml_laws.proofs.ScalarFollowed.{feed_none}
 use Rattle.yaml_laws.proofs.ScalarLaw.{column_longer}
 use Rattle.yaml_blocks.proofs.ScalarFails.{not_blank}
 use Rattle.yaml_blocks.specs.code.Closers.{is_closer, IsFirm}
-use Rattle.yaml_blocks.specs.declared.ahead.Token.{Token}
 use Rattle.yaml_blocks.specs.declared.ahead.Token.TheVariants.{Dashes, Dots, Tag, NoTag, Opens, Closes, Comma, Point}
 use Rattle.yaml_blocks.specs.Ahead.{is_letter, is_name, begins_letter, ends_tag, tag_token, other_token, token_of, token_at, mark_of, has_return, is_passed, content_ahead, line_ahead, rest_ahead, ahead}
 

@@ -1,6 +1,6 @@
 -- Where reading stands at a text's end, or has nothing ahead and the text ends in a line feed, a closing bracket for each open
 -- flow collection makes a document of the text. By induction on the open collections.
-use Rattle.std.proofs.Common.{◌≡◌, ℕ, suc, ◌+◌, ◌≤◌, inl, inr, Bool, true, false, List, [], ◌∷◌, ◌++◌, Option, None, drop, length, refl, sym, ap, ◌∙◌, arith, cond, subst, append_assoc, length-append}
+use Rattle.std.proofs.Common.{◌≡◌, ℕ, suc, ◌+◌, ◌≤◌, ◌⊎◌, inl, inr, Bool, true, false, List, [], ◌∷◌, ◌++◌, Option, None, drop, length, refl, sym, ap, ◌∙◌, arith, cond, subst, append_assoc, length-append}
 use Rattle.std.proofs.lemmas.List.{append-nil}
 use Rattle.doc_values.specs.declared.kind.Kind.TheVariants as kind
 use Rattle.doc_values.specs.Tree.{Forest, Nil, Node, snoc, joined}
@@ -10,10 +10,10 @@ use Rattle.yaml_scalars.specs.Scalar.{is_first_column}
 use Rattle.yaml_scalars.specs.code.Walk.{line_at, has_break, behind}
 use Rattle.yaml_scalars.proofs.Places.{lines_are}
 use Rattle.yaml_blocks.specs.declared.ahead.Ahead.{Ahead}
-use Rattle.yaml_blocks.specs.declared.ahead.Token.TheVariants.{End, Closes}
+use Rattle.yaml_blocks.specs.declared.ahead.Token.TheVariants.{End, Closes, Stray}
 use Rattle.yaml_blocks.specs.declared.form.Form.{Form}
 use Rattle.yaml_blocks.specs.declared.form.Form.TheVariants.{Root, Flow, FlowTagged, Items, Entries, Tagged}
-use Rattle.yaml_blocks.specs.Ahead.{token_at, mark_of, is_passed, content_ahead, line_ahead, rest_ahead, ahead}
+use Rattle.yaml_blocks.specs.Ahead.{token_at, mark_of, line_ahead, rest_ahead, ahead}
 use Rattle.yaml_blocks.specs.Nodes.{leaf}
 use Rattle.yaml_blocks.specs.declared.stage.Stage.{Stage}
 use Rattle.yaml_blocks.specs.declared.stage.Stage.TheVariants as stage
@@ -21,8 +21,10 @@ use Rattle.yaml_blocks.specs.Signs.{Reading, Tree, Refused, Reach, To, Then}
 use Rattle.yaml_blocks.specs.Yaml.{IsNode, Spells}
 use Rattle.yaml_blocks.specs.code.Rest.{top, Ends, Enters, Awaits, Begins}
 use Rattle.yaml_blocks.specs.code.Steps.{Agrees, Nests, Rest, Fits}
+use Rattle.yaml_blocks.specs.code.AheadSeen.{ahead_seen}
 use Rattle.yaml_blocks.specs.code.Closers.{closer, closers, IsSpent}
-use Rattle.yaml_blocks.proofs.AheadEnds.{end_flows, over_text}
+use Rattle.yaml_blocks.proofs.AheadEnds.{end_feed, end_flows, over_text}
+use Rattle.yaml_blocks.proofs.AheadStrays.{stray_feed}
 use Rattle.std.proofs.Math.Seq.{drop-append_seam}
 
 -- ---- what is ahead behind the text
@@ -91,7 +93,7 @@ abbrev pub IsOver : List ℕ → ℕ → Type 0
 IsOver text i = ((m : Bool) (w : List ℕ) → IsCloser m (length text) (ahead (text ++ (closer m ∷ w)) true i)) × ((ahead (text ++ []) false i).token ≡ End)
 
 -- so at the text's end
-over_end : (text : List ℕ) → IsOver text (length text)
+pub over_end : (text : List ℕ) → IsOver text (length text)
 over_end text = (λ m w. closer_ahead text w m, end_ahead text)
 
 -- and where nothing is ahead of it, and the text ends in a line feed
@@ -193,3 +195,12 @@ closes_rest text other s fs u i e r f = by_stage s r f where
 pub over_of : (text : List ℕ) (i : ℕ) → IsSpent text i → IsOver text i
 over_of text i (inl e) = subst (λ n. IsOver text n) (sym e) (over_end text)
 over_of text i (inr (before, e, low, h)) = subst (λ t. IsOver t i) (sym e) (over_feed before i low (sym (ap (λ t. (ahead t false i).token) e) ∙ h))
+
+-- with a line feed behind the text
+pub spent_feed : (text : List ℕ) (flow : Bool) (i : ℕ) → i ≤ length text → ((ahead text flow i).token ≡ End) ⊎ (((ahead text flow i).token ≡ Stray) × (ahead_seen text i ≡ length text)) → IsSpent (text ++ (10 ∷ [])) i
+spent_feed text flow i low (inl h) = inr (text, refl, low, end_flows flow false (text ++ (10 ∷ [])) i (end_feed text flow i low h))
+spent_feed text flow i low (inr h) = inr (text, refl, low, end_flows flow false (text ++ (10 ∷ [])) i (stray_feed text flow i low h.0 h.1))
+
+-- where the root may stand and nothing is ahead, it is null
+pub root_null : (text : List ℕ) (i : ℕ) → (ahead text false i).token ≡ End → (tree : Forest) × Begins text i (Tree tree)
+root_null text i h = let l = leaf kind.Null [] None (length text) in (Node l Nil Nil, (l, Nil, To i, inl (refl, refl, refl), inl (inl h, refl)))

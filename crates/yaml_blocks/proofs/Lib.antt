@@ -29,3 +29,6 @@ mod AheadEnds
 mod ScalarFails
 mod AheadClosed
 mod AheadStrays
+mod AheadLonger
+mod Continuations
+mod LetterKinds

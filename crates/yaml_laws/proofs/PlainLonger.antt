@@ -8,10 +8,10 @@ use Rattle.yaml_scalars.specs.declared.plain_line.Why.{Why}
 use Rattle.yaml_scalars.specs.declared.plain_line.Why.TheVariants.{Break, Return, Colon, Comment, Mark}
 use Rattle.yaml_scalars.specs.declared.plain_line.Below.{Below}
 use Rattle.yaml_scalars.specs.declared.plain_line.Below.TheVariants.{Blank, Outside, Further}
-use Rattle.yaml_scalars.specs.Lines.{Line, Outcome, Stands, Fails, begins_with, ends_with, is_white, is_space, is_blank, is_mark, lead, indent, past_white, keep, trimmed}
+use Rattle.yaml_scalars.specs.Lines.{Line, Outcome, Stands, Fails, begins_with, ends_with, is_white, is_space, is_blank, is_mark, lead, indent, past_white, keep, trimmed, fold}
 use Rattle.yaml_scalars.specs.Plain.{above_of, is_flow_mark, is_unsafe, is_doubtful, begins_plain, wrong_begin, stops, plain_len, content, content_end, why, reason, content_at, inside, below, joined, ends_on, return_shown, joins, further, first, more, plain_on}
 use Rattle.yaml_laws.proofs.Agree.{drop_before, drop_size}
-use Rattle.yaml_laws.proofs.Longer.{glue, rest_of, last_line, ended, cut, Ends, ends_last, IsScalar, StandsTo}
+use Rattle.yaml_laws.proofs.Longer.{glue, rest_of, last_line, ended, cut, Ends, ends_last, IsScalar}
 use Rattle.yaml_laws.proofs.BlockHeads.{cases}
 use Rattle.yaml_laws.proofs.BlockShown.{blank_less, lead_ended, spaces_less}
 use Rattle.yaml_scalars.proofs.FurtherLines.{below_inside, skip_le}
@@ -215,12 +215,14 @@ trimmed_last (x ∷ g) b w = ap (keep x) (trimmed_last g b w) ∙ some g where
   some [] = refl
   some (y ∷ g) = refl
 
-whole_end : (flow : Bool) (at : ℕ) (g : List ℕ) (b : ℕ) → is_white b ≡ false → plain_len flow false (g ++ (b ∷ [])) ≡ length (g ++ (b ∷ [])) → content_end flow (g ++ (b ∷ [])) at ≡ at + length (g ++ (b ∷ []))
-whole_end flow at g b w l =
-    let xs = g ++ (b ∷ []) in
-    ap (λ k. at + length (trimmed (take k (g ++ (b ∷ []))))) l ∙ ap (λ (y : List ℕ). at + length (trimmed y)) (take_all (length (g ++ (b ∷ []))) (g ++ (b ∷ [])) (omega arith)) ∙ ap (λ (y : List ℕ). at + length y) (trimmed_last g b w)
+whole_content : (flow : Bool) (g : List ℕ) (b : ℕ) → is_white b ≡ false → plain_len flow false (g ++ (b ∷ [])) ≡ length (g ++ (b ∷ [])) → content flow (g ++ (b ∷ [])) ≡ g ++ (b ∷ [])
+whole_content flow g b w l = ap (λ k. trimmed (take k (g ++ (b ∷ [])))) l ∙ ap trimmed (take_all (length (g ++ (b ∷ []))) (g ++ (b ∷ [])) (omega arith)) ∙ trimmed_last g b w
 
-last_colon : (s : Setting) (size at n : ℕ) (f t : List ℕ) (e k : ℕ) → at + length f ≡ size → below s f ≡ Further n → Colons s.flow (reason s.flow (drop n f)) (drop n f) (at + n) size → StandsTo (suc size) (further s (below s (f ++ (97 ∷ []))) at (f ++ (97 ∷ [])) t e k (more s []))
+-- a scalar whose text ends in the letter stands, up to a place
+abbrev pub Lettered : ℕ → Outcome → Type 0
+Lettered e o = (g : List ℕ) × (o ≡ Stands (g ++ (97 ∷ [])) e)
+
+last_colon : (s : Setting) (size at n : ℕ) (f t : List ℕ) (e k : ℕ) → at + length f ≡ size → below s f ≡ Further n → Colons s.flow (reason s.flow (drop n f)) (drop n f) (at + n) size → Lettered (suc size) (further s (below s (f ++ (97 ∷ []))) at (f ++ (97 ∷ [])) t e k (more s []))
 last_colon s size at n f t e k end b c =
     let d = fail_parts s.flow f n (skip_le s f n b) (inr (c.0, c.1)) in
     let a = d.0 in
@@ -243,14 +245,18 @@ last_colon s size at n f t e k end b c =
     let two : drop n a ++ (58 ∷ 97 ∷ []) ≡ (drop n a ++ (58 ∷ [])) ++ (97 ∷ []) = sym (append_assoc (drop n a) (58 ∷ []) (97 ∷ [])) in
     let full : length ((drop n a ++ (58 ∷ [])) ++ (97 ∷ [])) ≡ length (drop n a) + 2 = ap (λ (y : List ℕ). length y) (sym two) ∙ length-append (drop n a) (58 ∷ 97 ∷ []) in
     let all : plain_len s.flow false ((drop n a ++ (58 ∷ [])) ++ (97 ∷ [])) ≡ length ((drop n a ++ (58 ∷ [])) ++ (97 ∷ [])) = ap (plain_len s.flow false) (sym two) ∙ goes.0 ∙ sym full in
-    let last = whole_end s.flow (at + n) (drop n a ++ (58 ∷ [])) 97 refl all in
+    let same = whole_content s.flow (drop n a ++ (58 ∷ [])) 97 refl all in
     let rest = drop_size n a within in
+    let is_part : drop n (a ++ (58 ∷ 97 ∷ [])) ≡ (drop n a ++ (58 ∷ [])) ++ (97 ∷ []) = part ∙ two in
+    let content_is : content s.flow (drop n (a ++ (58 ∷ 97 ∷ []))) ≡ (drop n a ++ (58 ∷ [])) ++ (97 ∷ []) = ap (content s.flow) is_part ∙ same in
     let ends : content_end s.flow (drop n (a ++ (58 ∷ 97 ∷ []))) (at + n) ≡ suc size =
-    ap (λ (y : List ℕ). content_end s.flow y (at + n)) (part ∙ two) ∙ last ∙ (let r : at + n + length ((drop n a ++ (58 ∷ [])) ++ (97 ∷ [])) ≡ suc size = omega (arith, full, rest, sizes, long, end, ap (λ (y : List ℕ). length y) none) in r) in
-    subst (λ y. StandsTo (suc size) (further s (below s y) at y t e k (more s []))) (sym new)
-    (subst (λ w. StandsTo (suc size) (further s w at (a ++ (58 ∷ 97 ∷ [])) t e k (more s []))) (sym is)
-    (subst (λ w. StandsTo (suc size) (joins s.flow w (drop n (a ++ (58 ∷ 97 ∷ []))) (at + n) t e k (more s []))) (sym breaks)
-    (joined s.flow (drop n (a ++ (58 ∷ 97 ∷ []))) t k, ap (Stands (joined s.flow (drop n (a ++ (58 ∷ 97 ∷ []))) t k)) ends))) where
+    ap (λ (y : List ℕ). at + n + length y) content_is ∙ (let r : at + n + length ((drop n a ++ (58 ∷ [])) ++ (97 ∷ [])) ≡ suc size = omega (arith, full, rest, sizes, long, end, ap (λ (y : List ℕ). length y) none) in r) in
+    let text_is : joined s.flow (drop n (a ++ (58 ∷ 97 ∷ []))) t k ≡ (t ++ (fold k ++ (drop n a ++ (58 ∷ [])))) ++ (97 ∷ []) =
+    ap (λ y. t ++ (fold k ++ y)) content_is ∙ ap (λ y. t ++ y) (sym (append_assoc (fold k) (drop n a ++ (58 ∷ [])) (97 ∷ []))) ∙ sym (append_assoc t (fold k ++ (drop n a ++ (58 ∷ []))) (97 ∷ [])) in
+    subst (λ y. Lettered (suc size) (further s (below s y) at y t e k (more s []))) (sym new)
+    (subst (λ w. Lettered (suc size) (further s w at (a ++ (58 ∷ 97 ∷ [])) t e k (more s []))) (sym is)
+    (subst (λ w. Lettered (suc size) (joins s.flow w (drop n (a ++ (58 ∷ 97 ∷ []))) (at + n) t e k (more s []))) (sym breaks)
+    (t ++ (fold k ++ (drop n a ++ (58 ∷ []))), ap (λ y. Stands y (content_end s.flow (drop n (a ++ (58 ∷ 97 ∷ []))) (at + n))) text_is ∙ ap (Stands ((t ++ (fold k ++ (drop n a ++ (58 ∷ [])))) ++ (97 ∷ []))) ends))) where
       empty : (z : List ℕ) → length z ≡ 0 → z ≡ []
       empty [] h = refl
       empty (y ∷ z) h = absurd (omega (arith, h))
@@ -278,10 +284,10 @@ no_last_return s size at n f end r le w (inr p) =
       alone a [] h = ends_last a
       alone a (y ∷ z) h = absurd (omega (arith, h))
 
-more_longer : (s : Setting) (size : ℕ) (ls : List Line) (t : List ℕ) (e k : ℕ) → Ends size false ls → more s ls t e k ≡ Fails size → StandsTo (suc size) (more s (glue ls (letter size ∷ [])) t e k)
+more_longer : (s : Setting) (size : ℕ) (ls : List Line) (t : List ℕ) (e k : ℕ) → Ends size false ls → more s ls t e k ≡ Fails size → Lettered (suc size) (more s (glue ls (letter size ∷ [])) t e k)
 more_longer s size [] t e k x h = absurd x
 more_longer s size (l ∷ []) t e k (x, y, z) h = by_below (below s l.bytes) refl h where
-  by_below : (w : Below) → below s l.bytes ≡ w → further s w l.at l.bytes t e k (more s []) ≡ Fails size → StandsTo (suc size) (further s (below s (l.bytes ++ (97 ∷ []))) l.at (l.bytes ++ (97 ∷ [])) t e k (more s []))
+  by_below : (w : Below) → below s l.bytes ≡ w → further s w l.at l.bytes t e k (more s []) ≡ Fails size → Lettered (suc size) (further s (below s (l.bytes ++ (97 ∷ []))) l.at (l.bytes ++ (97 ∷ [])) t e k (more s []))
   by_below Blank i h = absurd (cc)
   by_below Outside i h = absurd (cc)
   by_below (Further n) i h = elim (joins_cases s.flow (reason s.flow (drop n l.bytes)) (drop n l.bytes) (l.at + n) t e k size (more s []) h) [
@@ -296,10 +302,10 @@ more_longer s size (l ∷ m ∷ ls) t e k (x, y, z) h = by_below (below s l.byte
   new = glue (m ∷ ls) (letter size ∷ [])
 
   by_below : (w : Below) → below s l.bytes ≡ w → further s w l.at l.bytes t e k (more s (m ∷ ls)) ≡ Fails size
-      → ((u : List ℕ) (v w : ℕ) → more s (m ∷ ls) u v w ≡ Fails size → StandsTo (suc size) (more s new u v w)) → StandsTo (suc size) (further s (below s l.bytes) l.at l.bytes t e k (more s new))
-  by_below Blank i h f = subst (λ w. StandsTo (suc size) (further s w l.at l.bytes t e k (more s new))) (sym i) (f t e (suc k) h)
+      → ((u : List ℕ) (v w : ℕ) → more s (m ∷ ls) u v w ≡ Fails size → Lettered (suc size) (more s new u v w)) → Lettered (suc size) (further s (below s l.bytes) l.at l.bytes t e k (more s new))
+  by_below Blank i h f = subst (λ w. Lettered (suc size) (further s w l.at l.bytes t e k (more s new))) (sym i) (f t e (suc k) h)
   by_below Outside i h f = absurd (cc)
-  by_below (Further n) i h f = subst (λ w. StandsTo (suc size) (further s w l.at l.bytes t e k (more s new))) (sym i) (elim (joins_cases s.flow (reason s.flow (drop n l.bytes)) (drop n l.bytes) (l.at + n) t e k size (more s (m ∷ ls)) h) [
+  by_below (Further n) i h f = subst (λ w. Lettered (suc size) (further s w l.at l.bytes t e k (more s new))) (sym i) (elim (joins_cases s.flow (reason s.flow (drop n l.bytes)) (drop n l.bytes) (l.at + n) t e k size (more s (m ∷ ls)) h) [
     | inl g ↦ (let z = f _ _ _ g.0 in (z.0, g.1 (more s new) ∙ z.1))
     | inr g ↦ absurd (before_end s size l.at n l.bytes i x g)
   ])
@@ -435,12 +441,13 @@ goes_more : (flow white : Bool) (b n : ℕ) (bs : List ℕ) → stops flow white
 goes_more flow white b n bs s l = ap (λ q. cond q 0 (suc (plain_len flow (is_white b) bs))) s ∙ ap suc l
 
 letter_stands : (s : Setting) (fresh : Bool) (at : ℕ) (g : List ℕ) → marked (g ++ (97 ∷ [])) ≡ false → begins_plain s.flow (g ++ (97 ∷ [])) ≡ true → plain_len s.flow false (g ++ (97 ∷ [])) ≡ length (g ++ (97 ∷ []))
-    → StandsTo (at + length (g ++ (97 ∷ []))) (opens s at (g ++ (97 ∷ [])) [] (fresh && marked (g ++ (97 ∷ []))) (begins_plain s.flow (g ++ (97 ∷ []))))
+    → Lettered (at + length (g ++ (97 ∷ []))) (opens s at (g ++ (97 ∷ [])) [] (fresh && marked (g ++ (97 ∷ []))) (begins_plain s.flow (g ++ (97 ∷ []))))
 letter_stands s fresh at g m b l =
-    let xs = g ++ (97 ∷ []) in
     let breaks : reason s.flow (g ++ (97 ∷ [])) ≡ Break = ap (λ k. why (drop k (g ++ (97 ∷ [])))) l ∙ ap why (past (g ++ (97 ∷ []))) in
-    let end = whole_end s.flow at g 97 refl l in
-    (content s.flow (g ++ (97 ∷ [])), opens_is s fresh at (g ++ (97 ∷ [])) [] (ap (λ q. fresh && q) m ∙ none fresh) b ∙ ap (λ w. first s w at (g ++ (97 ∷ [])) []) breaks ∙ alone s.one_line ∙ ap (Stands (content s.flow (g ++ (97 ∷ [])))) end) where
+    let same = whole_content s.flow g 97 refl l in (
+      g,
+      opens_is s fresh at (g ++ (97 ∷ [])) [] (ap (λ q. fresh && q) m ∙ none fresh) b ∙ ap (λ w. first s w at (g ++ (97 ∷ [])) []) breaks ∙ alone s.one_line ∙ ap (λ (y : List ℕ). Stands y (at + length y)) same,
+    ) where
       none : (q : Bool) → (q && false) ≡ false
       none true = refl
       none false = refl
@@ -453,13 +460,13 @@ letter_stands s fresh at g m b l =
       alone true = refl
       alone false = refl
 
-mark_letter : (s : Setting) (fresh : Bool) (at : ℕ) (f : List ℕ) → marked f ≡ true → length f ≡ 3 → StandsTo (at + length (f ++ (97 ∷ []))) (opens s at (f ++ (97 ∷ [])) [] (fresh && marked (f ++ (97 ∷ []))) (begins_plain s.flow (f ++ (97 ∷ []))))
+mark_letter : (s : Setting) (fresh : Bool) (at : ℕ) (f : List ℕ) → marked f ≡ true → length f ≡ 3 → Lettered (at + length (f ++ (97 ∷ []))) (opens s at (f ++ (97 ∷ [])) [] (fresh && marked (f ++ (97 ∷ []))) (begins_plain s.flow (f ++ (97 ∷ []))))
 mark_letter s fresh at f h l =
     let m = mark_of f h in
     let sizes = ap (λ (t : List ℕ). length t) m.4 in
     let none : m.3 ≡ [] = empty m.3 (omega (arith, sizes, l)) in
     let whole : f ≡ m.0 ∷ m.1 ∷ m.2 ∷ [] = m.4 ∙ ap (λ t. m.0 ∷ m.1 ∷ m.2 ∷ t) none in
-    subst (λ t. StandsTo (at + length (t ++ (97 ∷ []))) (opens s at (t ++ (97 ∷ [])) [] (fresh && marked (t ++ (97 ∷ []))) (begins_plain s.flow (t ++ (97 ∷ []))))) (sym whole)
+    subst (λ t. Lettered (at + length (t ++ (97 ∷ []))) (opens s at (t ++ (97 ∷ [])) [] (fresh && marked (t ++ (97 ∷ []))) (begins_plain s.flow (t ++ (97 ∷ []))))) (sym whole)
     (letter_stands s fresh at (m.0 ∷ m.1 ∷ m.2 ∷ []) (plain_mark m.0 m.1 m.2) (begins s.flow m.0 m.1 m.2 m.5 m.6) (goes s.flow m.0 m.1 m.2 m.5 (same_dash m.0 m.1 m.5 m.6) (same_dash m.0 m.2 m.5 m.7))) where
       empty : (z : List ℕ) → length z ≡ 0 → z ≡ []
       empty [] h = refl
@@ -502,20 +509,20 @@ mark_letter s fresh at f h l =
           (goes_more flow (is_white b) c 1 (97 ∷ []) (dash_goes flow (is_white b) c (97 ∷ []) f (safe_next flow 97 [] refl refl)) (letter_goes flow (is_white c))))
 
 plain_first_longer : (s : Setting) (fresh : Bool) (size at : ℕ) (f : List ℕ) (m b : Bool) → (fresh && marked f) ≡ m → begins_plain s.flow f ≡ b → at + length f ≡ size → at < size → (ends_with 13 f ≡ true → false ≡ true) → opens s at f [] m b ≡ Fails size
-    → StandsTo (suc size) (opens s at (f ++ (97 ∷ [])) [] (fresh && marked (f ++ (97 ∷ []))) (begins_plain s.flow (f ++ (97 ∷ []))))
+    → Lettered (suc size) (opens s at (f ++ (97 ∷ [])) [] (fresh && marked (f ++ (97 ∷ []))) (begins_plain s.flow (f ++ (97 ∷ []))))
 plain_first_longer s fresh size at f true b x y end low r h = let p = fails_same _ size h in
     let long : at + length (f ++ (97 ∷ [])) ≡ suc size = omega (arith, end, length-append f (97 ∷ [])) in
-    subst (λ k. StandsTo k (opens s at (f ++ (97 ∷ [])) [] (fresh && marked (f ++ (97 ∷ []))) (begins_plain s.flow (f ++ (97 ∷ []))))) long (mark_letter s fresh at f (second fresh (marked f) x) (omega (arith, p, end))) where
+    subst (λ k. Lettered k (opens s at (f ++ (97 ∷ [])) [] (fresh && marked (f ++ (97 ∷ []))) (begins_plain s.flow (f ++ (97 ∷ []))))) long (mark_letter s fresh at f (second fresh (marked f) x) (omega (arith, p, end))) where
       second : (q r : Bool) → (q && r) ≡ true → r ≡ true
       second true r h = h
       second false r h = absurd (cc)
 plain_first_longer s fresh size at [] false false x y end low r h = absurd (omega (arith, end, low))
 plain_first_longer s fresh size at (c ∷ []) false false x y end low r h = by_doubt (is_doubtful c) refl (fails_same _ size h) where
-  by_doubt : (d : Bool) → is_doubtful c ≡ d → cond d (suc at) at ≡ size → StandsTo (suc size) (opens s at (c ∷ 97 ∷ []) [] (fresh && marked (c ∷ 97 ∷ [])) (begins_plain s.flow (c ∷ 97 ∷ [])))
+  by_doubt : (d : Bool) → is_doubtful c ≡ d → cond d (suc at) at ≡ size → Lettered (suc size) (opens s at (c ∷ 97 ∷ []) [] (fresh && marked (c ∷ 97 ∷ [])) (begins_plain s.flow (c ∷ 97 ∷ [])))
   by_doubt false d p = absurd (omega (arith, p, low))
   by_doubt true d p =
       let long : at + 2 ≡ suc size = omega (arith, p) in
-      subst (λ k. StandsTo k (opens s at (c ∷ 97 ∷ []) [] (fresh && marked (c ∷ 97 ∷ [])) (begins_plain s.flow (c ∷ 97 ∷ [])))) long (letter_stands s fresh at (c ∷ []) refl (begins s.flow) (goes s.flow)) where
+      subst (λ k. Lettered k (opens s at (c ∷ 97 ∷ []) [] (fresh && marked (c ∷ 97 ∷ [])) (begins_plain s.flow (c ∷ 97 ∷ [])))) long (letter_stands s fresh at (c ∷ []) refl (begins s.flow) (goes s.flow)) where
         begins : (flow : Bool) → begins_plain flow (c ∷ 97 ∷ []) ≡ true
         begins true = grind (arith, nat_tests, d)
         begins false = grind (arith, nat_tests, d)
@@ -535,6 +542,6 @@ plain_first_longer s fresh size at f false true x y end low r h = absurd (elim (
   | inr w ↦ not_stands _ _ size w.0
 ])
 
-pub plain_longer : (s : Setting) (fresh : Bool) (size : ℕ) (l : Line) (ls : List Line) → l.at < size → Ends size false (l ∷ ls) → plain_on s fresh (l ∷ ls) ≡ Fails size → StandsTo (suc size) (plain_on s fresh (glue (l ∷ ls) (letter size ∷ [])))
+pub plain_longer : (s : Setting) (fresh : Bool) (size : ℕ) (l : Line) (ls : List Line) → l.at < size → Ends size false (l ∷ ls) → plain_on s fresh (l ∷ ls) ≡ Fails size → Lettered (suc size) (plain_on s fresh (glue (l ∷ ls) (letter size ∷ [])))
 plain_longer s fresh size l [] low (x, y, z) h = plain_first_longer s fresh size l.at l.bytes (fresh && marked l.bytes) (begins_plain s.flow l.bytes) refl refl x low z h
-plain_longer s fresh size l (m ∷ ls) low (x, y, z) h = plain_below (StandsTo (suc size)) s fresh size l (m ∷ ls) (glue (m ∷ ls) (letter size ∷ [])) x (λ t e g. more_longer s size (m ∷ ls) t e 0 z g) h
+plain_longer s fresh size l (m ∷ ls) low (x, y, z) h = plain_below (Lettered (suc size)) s fresh size l (m ∷ ls) (glue (m ∷ ls) (letter size ∷ [])) x (λ t e g. more_longer s size (m ∷ ls) t e 0 z g) h

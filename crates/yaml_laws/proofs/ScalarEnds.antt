@@ -62,6 +62,11 @@ quoted_ends s before w b at p t e low one fails h =
     let r = quoted_followed s (before ++ (b ∷ take n w)) (drop n w) [] at t e (let z = length-append before (b ∷ take n w) in omega (arith, z, low)) (omega (arith, end)) (λ z. refl) apart (none_meets (ends_with 13 (drop at (before ++ (b ∷ take n w))))) (ap (λ z. quoted_scalar s z at) whole ∙ h) in
     (n, ap (λ z. quoted_scalar s z at) (sym (append-nil (before ++ (b ∷ take n w)))) ∙ r ∙ ap (Stands t) (sym end))
 
+letter_last : (g : List ℕ) → ends_with 97 (g ++ (97 ∷ [])) ≡ true
+letter_last [] = refl
+letter_last (c ∷ []) = refl
+letter_last (c ∷ d ∷ g) = letter_last (d ∷ g)
+
 -- ---- the text by its last byte
 
 step_on : (before w : List ℕ) (b : ℕ) → (before ++ (b ∷ [])) ++ w ≡ before ++ (b ∷ w)
@@ -76,8 +81,8 @@ module _ (s : Setting) (before : List ℕ) (b at : ℕ) (l : at ≤ length befor
 
   -- the same kind of scalar, with these bytes
   completed : (w t : List ℕ) → each is_ascii w ≡ true → (begins_quoted (drop at text) ≡ true → quoted_scalar s (before ++ (b ∷ w)) at ≡ Stands t (length (before ++ (b ∷ w)))) → (begins_quoted (drop at text) ≡ false → plain_scalar s (before ++ (b ∷ w)) at ≡ Stands t (length (before ++ (b ∷ w))))
-      → begins_block s (drop at text) ≡ false → IsEndedBy s text at
-  completed w t a f g n =
+      → begins_block s (drop at text) ≡ false → (begins_quoted (drop at text) ≡ true) ⊎ (ends_with 97 t ≡ true) → IsEndedBy s text at
+  completed w t a f g n d =
       let is = step_on before w b in
       let size = ap (λ (z : List ℕ). length z) is in (
         w,
@@ -87,6 +92,7 @@ module _ (s : Setting) (before : List ℕ) (b at : ℕ) (l : at ≤ length befor
             (λ q z. ap (λ z. quoted_scalar s z at) is ∙ f q ∙ ap (Stands t) (sym size))
             (λ q r z. absurd (true≢false (sym r ∙ n)))
             (λ q r z. ap (λ z. plain_scalar s z at) is ∙ g q ∙ ap (Stands t) (sym size)) refl,
+        d,
       )
 
   quoted_done : begins_quoted (drop at text) ≡ true → begins_block s (drop at text) ≡ false → quoted_scalar s text at ≡ Fails (length text) → IsEndedBy s text at
@@ -95,20 +101,20 @@ module _ (s : Setting) (before : List ℕ) (b at : ℕ) (l : at ≤ length befor
     by_byte false e =
         let z = quoted_more_at s before b at l e q h in
         let v = quoted_ends s before z.0 b at (length text) z.2.0 z.2.1 l z.1.0 h z.2.2 in
-        completed (take v.0 z.0) z.2.0 (each_take v.0 z.0 z.1.1) (λ x. v.1) (λ x. absurd (true≢false (sym q ∙ x))) n
+        completed (take v.0 z.0) z.2.0 (each_take v.0 z.0 z.1.1) (λ x. v.1) (λ x. absurd (true≢false (sym q ∙ x))) n (inl q)
     by_byte true e =
         let is : b ≡ 13 = grind (arith, nat_tests, e) in
         let z = quoted_cut s before b at l is q h in
         let there = at_end s before b at l is in
         let size : length (before ++ (b ∷ 10 ∷ z.0 ∷ [])) ≡ suc (suc (suc (place s before b at l is)) + 0) = let x = length-append before (b ∷ 10 ∷ z.0 ∷ []) in let y = length-append before (b ∷ []) in omega (arith, x, y, there) in
-        completed (10 ∷ z.0 ∷ []) z.2.0 z.1.1 (λ x. z.2.1 ∙ ap (Stands z.2.0) (sym size)) (λ x. absurd (true≢false (sym q ∙ x))) n
+        completed (10 ∷ z.0 ∷ []) z.2.0 z.1.1 (λ x. z.2.1 ∙ ap (Stands z.2.0) (sym size)) (λ x. absurd (true≢false (sym q ∙ x))) n (inl q)
 
   plain_done : begins_quoted (drop at text) ≡ false → begins_block s (drop at text) ≡ false → nat_eq b 13 ≡ false → plain_scalar s text at ≡ Fails (length text) → IsEndedBy s text at
   plain_done q n e h =
       let z = plain_letter s before b at l e h in
       let there = at_last s before b at l e in
       let long : length (before ++ (b ∷ 97 ∷ [])) ≡ suc (size s before b at l e) = let x = length-append before (b ∷ 97 ∷ []) in let y = length-append before (b ∷ []) in omega (arith, x, y, there) in
-      completed (97 ∷ []) z.0 refl (λ x. absurd (true≢false (sym x ∙ q))) (λ x. z.1 ∙ ap (Stands z.0) (sym long)) n
+      completed (97 ∷ []) (z.0 ++ (97 ∷ [])) refl (λ x. absurd (true≢false (sym x ∙ q))) (λ x. z.1 ∙ ap (Stands (z.0 ++ (97 ∷ []))) (sym long)) n (inr (letter_last z.0))
 
   ended : begins_block s (drop at text) ≡ false → (begins_quoted (drop at text) ≡ true) ⊎ (nat_eq b 13 ≡ false) → scalar_at s text at ≡ Fails (length text) → IsEndedBy s text at
   ended n d h = by_kind (begins_quoted (drop at text)) refl d (sym (ap (λ r. cond (begins_quoted (drop at text)) (quoted_scalar s text at) (cond r (block_scalar s text at) (plain_scalar s text at))) n) ∙ h) where

@@ -14,7 +14,7 @@ use Rattle.yaml_scalars.proofs.Places.{lines_are}
 use Rattle.yaml_laws.proofs.Agree.{drop_before, drop_size}
 use Rattle.yaml_laws.proofs.Longer.{glue, rest_of, ended, cut, no_feed, IsRest, Ends, lines_more, lines_ended, lines_end, IsScalar, StandsTo}
 use Rattle.yaml_laws.proofs.BlockLonger.{block_returned, block_longer}
-use Rattle.yaml_laws.proofs.PlainLonger.{plain_returned, plain_longer}
+use Rattle.yaml_laws.proofs.PlainLonger.{Lettered, plain_returned, plain_longer}
 use Rattle.yaml_laws.proofs.EscapeLonger.{is_fit, AllFit}
 use Rattle.yaml_laws.proofs.QuotedLaw.{quote_of}
 use Rattle.yaml_laws.proofs.QuotedLonger.{quote_fit}
@@ -180,7 +180,7 @@ module _ (s : Setting) (before : List ℕ) (b at : ℕ) (l : at ≤ length befor
     unfolding size
     break_lines = ap (lines at) (dropped (13 ∷ 10 ∷ []) ∙ sym (append_assoc front (b ∷ []) (13 ∷ 10 ∷ []))) ∙ lines_ended at last [] refl
 
-    pub plain_letter : plain_scalar s text at ≡ Fails (length text) → StandsTo (suc size) (plain_scalar s (new (97 ∷ [])) at)
+    pub plain_letter : plain_scalar s text at ≡ Fails (length text) → Lettered (suc size) (plain_scalar s (new (97 ∷ [])) at)
     unfolding size
     plain_letter h =
         let q = is_first_column text at in
@@ -190,7 +190,7 @@ module _ (s : Setting) (before : List ℕ) (b at : ℕ) (l : at ≤ length befor
         (r.0, ap (λ p. plain_on s p (lines at (drop at (new (97 ∷ []))))) (sym (column_same before b [] (97 ∷ []) at l)) ∙ ap (plain_on s q) (longer_lines (97 ∷ []) refl ∙ ap (λ ls. glue ls (rest_of size (97 ∷ []) ∷ [])) is) ∙ r.1)
 
     plain_more : plain_scalar s text at ≡ Fails (length text) → IsScalar (plain_scalar s (new (97 ∷ [])) at)
-    plain_more h = let r = plain_letter h in (r.0, suc size, r.1)
+    plain_more h = let r = plain_letter h in (r.0 ++ (97 ∷ []), suc size, r.1)
 
     block_more : begins_quoted (drop at text) ≡ false → begins_block s (drop at text) ≡ true → block_scalar s text at ≡ Fails (length text) → IsShort s text at
     block_more x y h = elim (block_longer s.parent size (length text) (lines at last) ends_here (sym (ap (block_on s.parent (length text)) text_lines) ∙ h ∙ ap Fails at_last)) [

@@ -39,7 +39,7 @@ pub fn flow_followed(text: &str, at: usize, setting: Setting)
 {}
 
 /// Where a quoted scalar, or a plain one whose text does not end in a carriage return, fails at the text's length, some more
-/// bytes of ASCII complete it so that it ends with them. The call itself does nothing.
+/// bytes of ASCII complete it so that it ends with them, and the text of a plain one in a letter. The call itself does nothing.
 pub fn scalar_ended(text: &str, at: usize, setting: Setting)
     requires { at < length text.now }
     ensures { begins_block setting (drop at text.now) ≡ false → (begins_quoted (drop at text.now) ≡ true) ⊎ (ends_with 13 text.now ≡ false) → scalar_at setting text.now at ≡ Fails (length text.now) → IsEndedBy setting text.now at }

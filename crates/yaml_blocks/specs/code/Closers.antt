@@ -1,10 +1,13 @@
 -- What makes a document of a text that breaks off.
 use Rattle.std.specs.Prelude.{ℕ, ◌≡◌, ◌⊎◌, ◌≤◌, Bool, true, false, List, [], ◌∷◌, ◌++◌, ◌||◌, length, nat_eq}
+use Rattle.yaml_blocks.specs.declared.ahead.Ahead.{Ahead}
 use Rattle.yaml_blocks.specs.declared.ahead.Token.{Token}
 use Rattle.yaml_blocks.specs.declared.ahead.Token.TheVariants.{End, Dashes, Dots}
 use Rattle.yaml_blocks.specs.declared.form.Form.{Form}
 use Rattle.yaml_blocks.specs.declared.form.Form.TheVariants.{Root, Flow, FlowTagged, Items, Entries, Tagged}
 use Rattle.yaml_blocks.specs.Ahead.{ahead}
+use Rattle.yaml_blocks.specs.Blocks.{takes_scalar}
+use Rattle.yaml_blocks.specs.code.Steps.{IsBlock}
 
 -- the bracket that closes a map or a list
 abbrev pub closer : Bool → ℕ
@@ -34,3 +37,16 @@ IsFirm End = ⊥
 IsFirm Dashes = ⊥
 IsFirm Dots = ⊥
 IsFirm _ = Unit {0}
+
+-- whether a form lies in brackets
+abbrev pub in_flow : Form → Bool
+in_flow Root = false
+in_flow (Flow map) = true
+in_flow (FlowTagged at) = true
+in_flow (Items m) = false
+in_flow (Entries m) = false
+in_flow (Tagged at above shares) = false
+
+-- a scalar may begin at a token, as its place tells; in flow any place does
+abbrev pub MayBegin : Form → Ahead → Type 0
+MayBegin f a = IsBlock f → takes_scalar f a ≡ true

@@ -1,8 +1,8 @@
 -- Where it shows that no scalar stands at a place, said by what texts agree with a text.
-use Rattle.std.specs.Prelude.{ℕ, ◌≡◌, ◌⊎◌, Bool, true, List, ◌∷◌, ◌++◌, length, nat_lt}
+use Rattle.std.specs.Prelude.{ℕ, ◌≡◌, ◌⊎◌, Bool, true, List, ◌∷◌, ◌++◌, length, drop, nat_lt}
 use Rattle.yaml_scalars.specs.declared.scalar.Setting.{Setting}
-use Rattle.yaml_scalars.specs.Lines.{Stands, each}
-use Rattle.yaml_scalars.specs.Scalar.{scalar_at}
+use Rattle.yaml_scalars.specs.Lines.{Stands, ends_with, each}
+use Rattle.yaml_scalars.specs.Scalar.{begins_quoted, scalar_at}
 
 -- no text that agrees with this one up to a place and with the byte there has a scalar of the setting at `at`
 abbrev pub IsDead : Setting → List ℕ → ℕ → ℕ → Type 0
@@ -17,9 +17,11 @@ is_ascii b = nat_lt b 128
 abbrev pub IsShort : Setting → List ℕ → ℕ → Type 0
 IsShort s text at = (more scalar : List ℕ) × (end : ℕ) × (each is_ascii more ≡ true) × (scalar_at s (text ++ more) at ≡ Stands scalar end)
 
--- with some more bytes of ASCII behind it, a scalar of the setting at `at` ends with them
+-- with some more bytes of ASCII behind it, a scalar of the setting at `at` ends with them; the text of a plain one ends in the letter a
 abbrev pub IsEndedBy : Setting → List ℕ → ℕ → Type 0
-IsEndedBy s text at = (more scalar : List ℕ) × (each is_ascii more ≡ true) × (scalar_at s (text ++ more) at ≡ Stands scalar (length (text ++ more)))
+IsEndedBy s text at =
+    (more scalar : List ℕ) × (each is_ascii more ≡ true) × (scalar_at s (text ++ more) at ≡ Stands scalar (length (text ++ more)))
+    × ((begins_quoted (drop at text) ≡ true) ⊎ (ends_with 97 scalar ≡ true))
 
 -- a place of a refusal: such a one, or the length of a text that ends too early
 abbrev pub IsSyntax : Setting → List ℕ → ℕ → ℕ → Type 0
