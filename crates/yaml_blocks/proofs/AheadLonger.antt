@@ -84,10 +84,10 @@ module _ (c : ℕ) (tail : List ℕ) (fit : is_fit c ≡ true) (flow : Bool) whe
   -- ---- the last line
 
   module _ (xs : List ℕ) (full : is_blank xs ≡ false) where
-    white : lead is_white (xs ++ (c ∷ tail)) ≡ lead is_white xs
+    pub white : lead is_white (xs ++ (c ∷ tail)) ≡ lead is_white xs
     white = lead_stop is_white c tail xs no_white
 
-    rest : past_white (xs ++ (c ∷ tail)) ≡ past_white xs ++ (c ∷ tail)
+    pub rest : past_white (xs ++ (c ∷ tail)) ≡ past_white xs ++ (c ∷ tail)
     rest = ap (λ n. drop n (xs ++ (c ∷ tail))) white ∙ drop_before (lead is_white xs) xs (c ∷ tail) (lead_le is_white xs)
 
     some : 0 < length (past_white xs)
@@ -96,7 +96,7 @@ module _ (c : ℕ) (tail : List ℕ) (fit : is_fit c ≡ true) (flow : Bool) whe
     begins : starts_scalar (token_of flow (past_white xs)) ≡ true → starts_scalar (token_of flow (past_white (xs ++ (c ∷ tail)))) ≡ true
     begins h = ap (λ t. starts_scalar (token_of flow t)) rest ∙ token_begins flow (past_white xs) c tail some h
 
-    kept : (fresh : Bool) → is_passed fresh xs ≡ false → is_passed fresh (xs ++ (c ∷ tail)) ≡ false
+    pub kept : (fresh : Bool) → is_passed fresh xs ≡ false → is_passed fresh (xs ++ (c ∷ tail)) ≡ false
     kept fresh h =
         ap (λ q. q || ((fresh || nat_lt 0 (lead is_white (xs ++ (c ∷ tail)))) && (begins_with 35 (past_white (xs ++ (c ∷ tail))) && not (has_return (xs ++ (c ∷ tail)))))) (lead_some xs (c ∷ tail) full).2
         ∙ ap (λ n. (fresh || nat_lt 0 n) && (begins_with 35 (past_white (xs ++ (c ∷ tail))) && not (has_return (xs ++ (c ∷ tail))))) white
@@ -109,7 +109,7 @@ module _ (c : ℕ) (tail : List ℕ) (fit : is_fit c ≡ true) (flow : Bool) whe
           by_tests false true false s t e f h = refl
           by_tests false false r s t e f h = refl
 
-    tabbed : is_tabbed flow (xs ++ (c ∷ tail)) ≡ is_tabbed flow xs
+    pub tabbed : is_tabbed flow (xs ++ (c ∷ tail)) ≡ is_tabbed flow xs
     tabbed = ap (λ n. not flow && nat_lt n (lead is_white (xs ++ (c ∷ tail)))) (lead_stop is_space c tail xs no_space) ∙ ap (λ n. not flow && nat_lt (indent xs) n) white
 
     at_token : (fresh : Bool) (at : ℕ) → starts_scalar (token_of flow (past_white xs)) ≡ true
@@ -130,7 +130,7 @@ module _ (c : ℕ) (tail : List ℕ) (fit : is_fit c ≡ true) (flow : Bool) whe
       by_tab false true e h = absurd (true≢false e)
       by_tab false false e h = at_token true at h
 
-  unmarked : (xs : List ℕ) → is_mark xs ≡ false → is_mark (xs ++ (c ∷ tail)) ≡ false
+  pub unmarked : (xs : List ℕ) → is_mark xs ≡ false → is_mark (xs ++ (c ∷ tail)) ≡ false
   unmarked xs h = by_mark (is_mark (xs ++ (c ∷ tail))) refl where
     by_mark : (q : Bool) → is_mark (xs ++ (c ∷ tail)) ≡ q → q ≡ false
     by_mark true e = absurd (true≢false (sym (mark_fit xs c tail fit e).0 ∙ h))

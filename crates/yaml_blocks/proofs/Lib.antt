@@ -32,3 +32,4 @@ mod AheadStrays
 mod AheadLonger
 mod Continuations
 mod LetterKinds
+mod Dashes

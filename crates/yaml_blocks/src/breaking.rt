@@ -6,12 +6,13 @@ ghost use Rattle.doc_values.specs.declared.kind.Kind.{Kind};
 ghost use Rattle.doc_values.specs.declared.kind.Kind.TheVariants.{Text};
 ghost use Rattle.yaml_scalars.specs.Lines.{Stands, ends_with, is_blank};
 ghost use Rattle.yaml_scalars.specs.Scalar.{HasKind, is_first_column, is_typed};
-ghost use Rattle.yaml_blocks.specs.declared.ahead.Token.TheVariants.{End, Stray};
+ghost use Rattle.yaml_blocks.specs.declared.ahead.Token.TheVariants.{Dash, End, Stray};
 ghost use Rattle.yaml_blocks.specs.declared.form.Form.{Form};
 ghost use Rattle.yaml_blocks.specs.declared.form.Form.TheVariants.{Entries, Root};
 ghost use Rattle.yaml_blocks.specs.declared.stage.Stage.{Stage};
 ghost use Rattle.yaml_blocks.specs.declared.stage.Stage.TheVariants.{Value};
 ghost use Rattle.yaml_blocks.specs.Ahead.{ahead};
+ghost use Rattle.yaml_blocks.specs.Blocks.{takes_scalar};
 ghost use Rattle.yaml_blocks.specs.Nodes.{as_key, follows_get_att, is_cut, scalar_ahead, setting_of};
 ghost use Rattle.yaml_blocks.specs.Signs.{Tree};
 ghost use Rattle.yaml_blocks.specs.Yaml.{IsEnd};
@@ -50,4 +51,10 @@ pub(crate) fn scalar_completes(text: &str)
 /// has stands there with nothing but white space behind it. The call itself does nothing.
 pub(crate) fn colon_completes(text: &str)
     ensures { (column : ℕ) (fs : List Form) (x : Level) (xs : List Level) (done : Forest) (at end : ℕ) (key : List ℕ) → at ≤ length text.now → (ahead text.now false at).fresh ≡ true → (ahead text.now false at).column ≡ column → scalar_ahead text.now (as_key false) (ahead text.now false at) ≡ Stands key end → (ahead text.now false at).at < end → end ≤ length text.now → is_blank (drop end text.now) ≡ true → is_first_column text.now end ≡ false → has_key done key ≡ false → Agrees (Entries column ∷ fs) (x ∷ xs) → Nests (Entries column ∷ fs) → (tree : Forest) × Ends (text.now ++ (58 ∷ [])) (Entries column ∷ fs) (x ∷ xs) done at (Tree tree) }
+{}
+
+/// Where a value of a block may stand and a sequence may not, a letter behind a `-` that ends the text makes a document of it.
+/// The call itself does nothing.
+pub(crate) fn dash_completes(text: &str)
+    ensures { (fs : List Form) (outer : List Level) (done : Forest) (key : Option (List ℕ)) (at : ℕ) → at ≤ length text.now → IsBlock (top fs) → takes_scalar (top fs) (ahead text.now false at) ≡ true → (ahead text.now false at).token ≡ Dash → drop (ahead text.now false at).at text.now ≡ 45 ∷ [] → Agrees fs outer → Nests fs → (tree : Forest) × Awaits (text.now ++ (97 ∷ [])) fs outer done key at (Tree tree) }
 {}
