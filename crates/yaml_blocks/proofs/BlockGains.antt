@@ -7,6 +7,7 @@ use Rattle.std.specs.Str.{IsCharBoundary}
 use Rattle.doc_values.specs.Limits.{template_limit}
 use Rattle.doc_values.specs.declared.builder.BuildRefusal.{BuildRefusal}
 use Rattle.doc_values.specs.declared.builder.BuildRefusal.TheVariants as build
+use Rattle.doc_values.specs.declared.kind.Kind.{Kind}
 use Rattle.doc_values.specs.declared.kind.Kind.TheVariants as kind
 use Rattle.doc_values.specs.Tree.{Forest, Nil, has_key}
 use Rattle.doc_values.specs.Unfinished.{Level, Unfinished, with_value, with_open, with_key, with_end, open_kind, MayEnd}
@@ -32,7 +33,7 @@ use Rattle.yaml_blocks.specs.Signs.{Sign, ManyDocuments, DuplicateKey, TooDeep, 
 use Rattle.yaml_blocks.specs.code.Refused.{of_build, of_sign}
 use Rattle.yaml_blocks.specs.Yaml.{IsEnd, end_sign}
 use Rattle.yaml_blocks.specs.code.Rest.{top, Over, Inside, Ends, Enters, Awaits}
-use Rattle.yaml_blocks.specs.code.Steps.{IsPlaced, IsSeen, Agrees, Nests, LiesIn, IsSmall, IsBlock, IsBehind, IsSpelled, IsCalm, Open, Fits, Goes, Broke, Gives, Deep, NoKey, NoNode, Ended, HasKey, Missed, Finds, FindsKey, with_scalar, Holds, TagBegun, Opened, Completes, ends_before, is_dash, is_ending, Awaited}
+use Rattle.yaml_blocks.specs.code.Steps.{IsPlaced, IsSeen, Agrees, Nests, LiesIn, IsSmall, IsBlock, IsBehind, IsSpelled, IsCalm, Open, Fits, Goes, Broke, Gives, Deep, NoKey, EndsKey, NoNode, Ended, HasKey, Missed, Finds, FindsKey, with_scalar, Holds, TagBegun, Opened, Completes, ends_before, is_dash, is_ending, Awaited, Found}
 use Rattle.yaml_blocks.proofs.Forms.{apart_items, apart_entries, apart_tagged, map_kind, inside, awaits_item, awaits_value}
 use Rattle.yaml_blocks.proofs.Gains.{parts, goes, memory_gives, told, untold, sign_gives, IsRoomFor, roomy, deep_gives, value_ends, ends_value, value_deep, deep_value, value_fits}
 use Rattle.yaml_blocks.proofs.LastValues.{last_done, value_last, missing_calm}
@@ -637,8 +638,14 @@ whole_goes text at fs gs u w p b e h a eg es ej =
 pub found_none : (text : List ℕ) (a : Ahead) (o : Option Key) → o ≡ None → FindsKey text a (Ok o) → NoKey text a
 found_none text a o e h = subst (λ z. FindsKey text a (Ok z)) e h
 
-pub found_some : (text : List ℕ) (a : Ahead) (o : Option Key) (k : Key) → o ≡ Some k → FindsKey text a (Ok o) → HasKey text a k
+pub found_some : (text : List ℕ) (a : Ahead) (o : Option Key) (k : Key) → o ≡ Some k → FindsKey text a (Ok o) → HasKey text a k × EndsKey text a
 found_some text a o k e h = subst (λ z. FindsKey text a (Ok z)) e h
+
+key_end_is : (t u : List ℕ) (e j : ℕ) → Spans t e ≡ Spans u j → e ≡ j
+key_end_is t u e j h = cc
+
+pub ends_key : (text : List ℕ) (a : Ahead) (t : List ℕ) (k : Kind) (e : ℕ) → Found text (as_key false) a t k e → EndsKey text a
+ends_key text a t k e (st, hk, low, cut) = λ u j h. subst (λ n. (a.at < n) × IsCharBoundary text n) (key_end_is t u e j (sym st ∙ h)) (low, cut)
 
 -- nothing follows the root but the document's end
 pub root_none : (text : List ℕ) (fs : List Form) (u : Unfinished) (at : ℕ) (f : Form) → top fs ≡ f → f ≡ Root → Open fs u → Inside text at → (v : Reading) → Behind text fs u at v → ⊥

@@ -5,7 +5,8 @@ use Rattle.doc_values.specs.Unfinished.{Level, Unfinished, in_map, open_kind, Is
 use Rattle.yaml_blocks.specs.declared.form.Form.{Form}
 use Rattle.yaml_blocks.specs.declared.form.Form.TheVariants.{Root, Flow, FlowTagged, Items, Entries, Tagged}
 use Rattle.yaml_blocks.specs.code.Rest.{top}
-use Rattle.yaml_blocks.specs.code.Steps.{Agrees, IsBlock, has_keys}
+use Rattle.yaml_blocks.specs.Flow.{may_miss}
+use Rattle.yaml_blocks.specs.code.Steps.{Agrees, IsBlock, IsFlow, has_keys}
 
 pub map_kind : (m : Bool) → is_map (open_kind m) ≡ m
 map_kind true = refl
@@ -71,3 +72,13 @@ block_of (FlowTagged at) n t = t at refl
 block_of (Items m) n t = tt
 block_of (Entries m) n t = tt
 block_of (Tagged at above shares) n t = tt
+
+-- in flow a node may be missing, but for one of a list
+pub flow_misses : (f : Form) → IsFlow f → (f ≡ Flow false → ⊥) → may_miss f ≡ true
+flow_misses Root w n = absurd w
+flow_misses (Flow true) w n = refl
+flow_misses (Flow false) w n = absurd (n refl)
+flow_misses (FlowTagged at) w n = refl
+flow_misses (Items m) w n = absurd w
+flow_misses (Entries m) w n = absurd w
+flow_misses (Tagged at above shares) w n = absurd w

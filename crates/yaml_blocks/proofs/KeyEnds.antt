@@ -20,7 +20,7 @@ use Rattle.yaml_blocks.proofs.Looks.{first_rest}
 
 -- ---- where a line's rest is blank, the next token begins a line
 
-line_fresh : (flow : Bool) (size : ℕ) (ls : List Line) → (line_ahead flow size ls).fresh ≡ true
+pub line_fresh : (flow : Bool) (size : ℕ) (ls : List Line) → (line_ahead flow size ls).fresh ≡ true
 line_fresh flow size [] = refl
 line_fresh flow size (l ∷ ls) = by_tests (is_mark l.bytes) (is_passed true l.bytes) (is_tabbed flow l.bytes) (line_fresh flow size ls) where
   by_tests : (p q r : Bool) → (line_ahead flow size ls).fresh ≡ true

@@ -1,14 +1,17 @@
+mod AheadColons
 mod AheadOrder
 mod AheadStays
 mod BlockGains
 mod BlockRests
 mod Colons
 mod FirstBytes
+mod Fixed
 mod Forms
 mod Gains
 mod KeyEnds
 mod LastValues
 mod LineTails
+mod Lives
 mod Looks
 mod NameEnds
 mod Placed
@@ -22,6 +25,7 @@ mod ScalarAhead
 mod ScalarOrder
 mod Scalars
 mod Stacks
+mod Twins
 pub mod TreeInduction
 pub mod AwaitedNodes
 mod Completions

@@ -44,7 +44,7 @@ ending_free a e = unsigned_block Root a (ending_unsigned false a.at a.token e)
 null_over : (text : List ℕ) (l : Label) (kids : Forest) (i : ℕ) (v : Reading) → l ≡ leaf kind.Null [] None (length text) → kids ≡ Nil → Over text (Node l kids Nil) i v → Over text (Node (leaf kind.Null [] None (length text)) Nil Nil) i v
 null_over text l kids i v el ek w = subst (λ g. Over text (Node g Nil Nil) i v) el (subst (λ g. Over text (Node l g Nil) i v) ek w)
 
-begins_missing : (text : List ℕ) (i : ℕ) (v : Reading) → is_ending (ahead text false i).token ≡ true → Begins text i v → Ends text [] [] (Node (leaf kind.Null [] None (length text)) Nil Nil) i v
+pub begins_missing : (text : List ℕ) (i : ℕ) (v : Reading) → is_ending (ahead text false i).token ≡ true → Begins text i v → Ends text [] [] (Node (leaf kind.Null [] None (length text)) Nil Nil) i v
 begins_missing text i v e (l, kids, r, inl (el, ek, er), en) = null_over text l kids i v el ek (subst (λ z. Then z (λ j. Over text (Node l kids Nil) j v) (λ s. v ≡ Refused s)) er en)
 begins_missing text i v e (l, kids, To j, inr n, en) = absurd (root_missing text [] [] Nil None i v refl (ending_none (ahead text false i) e) (ending_free (ahead text false i) e) (l, kids, To j, n, en))
 begins_missing text i v e (l, kids, Shows s, inr n, d) = absurd (root_missing text [] [] Nil None i v refl (ending_none (ahead text false i) e) (ending_free (ahead text false i) e) (l, kids, Shows s, n, d))
@@ -67,7 +67,7 @@ over_ending : (text : List ℕ) (g : Forest) (i : ℕ) (v : Reading) → Over te
 over_ending text g i v (inl (e, h)) = end_ending text i e
 over_ending text g i v (inr (s, e, h)) = sign_ending text i s e
 
-begins_node : (text : List ℕ) (i : ℕ) (v : Reading) → is_ending (ahead text false i).token ≡ false → Begins text i v → Awaits text [] [] Nil None i v
+pub begins_node : (text : List ℕ) (i : ℕ) (v : Reading) → is_ending (ahead text false i).token ≡ false → Begins text i v → Awaits text [] [] Nil None i v
 begins_node text i v n (l, kids, r, inl (el, ek, er), en) =
     absurd (true≢false (sym (over_ending text (Node l kids Nil) i v (subst (λ z. Then z (λ j. Over text (Node l kids Nil) j v) (λ s. v ≡ Refused s)) er en)) ∙ n))
 begins_node text i v n (l, kids, To j, inr h, en) = (l, kids, To j, h, en)

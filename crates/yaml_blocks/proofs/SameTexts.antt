@@ -88,7 +88,7 @@ module _ (text other : List ℕ) (a : Ahead) (m : SameFlowKey text other a) (t :
   colon_here q p h c = colon_alike other text q e p (sym (m.behind t e st)) (subst (λ z. IsColon other z e p) (m.quoted ∙ sym h) c)
 
   pub colon_last : (q : Bool) (p : ℕ) → IsColon text q e p → IsCharBoundary text p → IsCharBoundary other e → IsCharBoundary other p
-  colon_last q p (inl (l, k, s, b)) c d = subst (IsCharBoundary other) (sym b) (m.last t e st (subst (IsCharBoundary text) b c))
+  colon_last q p (inl (l, k, s, b)) c d = subst (IsCharBoundary other) (sym b) (m.last t e l st k (subst (IsCharBoundary text) b c))
   colon_last q p (inr (k, b)) c d = subst (IsCharBoundary other) (sym b) d
 
 -- ---- the document's end
@@ -138,19 +138,19 @@ pub same_key : (text : List ℕ) (a : Ahead) → SameKey text text a
 same_key text a = record { scalar = record { scalar = refl; typed = refl; last = λ t j h b. b }; behind = λ t j h. refl; last = λ t j h b. b }
 
 pub same_node : (text : List ℕ) (f : Form) (i : ℕ) (a : Ahead) → SameNode text text f i a
-same_node text f i a = record { name = refl; cuts = refl; scalar = record { scalar = refl; typed = refl; last = λ t j h b. b }; key = same_key text a }
+same_node text f i a = record { name = λ len h e. refl; cuts = refl; scalar = λ h n. record { scalar = refl; typed = refl; last = λ t j k b. b }; none = λ h n. n; key = λ h k there. there }
 
 pub same_flow_node : (text : List ℕ) (f : Form) (i : ℕ) (a : Ahead) → SameFlowNode text text f i a
-same_flow_node text f i a = record { name = refl; cuts = refl; scalar = record { scalar = refl; typed = refl; last = λ t j h b. b } }
+same_flow_node text f i a = record { name = λ len e. refl; cuts = refl; scalar = record { scalar = refl; typed = refl; last = λ t j h b. b } }
 
 pub same_flow_key : (text : List ℕ) (a : Ahead) → SameFlowKey text text a
-same_flow_key text a = record { scalar = record { scalar = refl; typed = refl; last = λ t j h b. b }; quoted = refl; behind = λ t j h. refl; last = λ t j h b. b }
+same_flow_key text a = record { scalar = record { scalar = refl; typed = refl; last = λ t j h b. b }; quoted = refl; behind = λ t j h. refl; last = λ t j loose h z b. b }
 
 pub same_end : (text : List ℕ) (i : ℕ) → SameEnd text text i
 same_end text i = record { here = refl; further = λ h. refl }
 
 pub same_step : (text : List ℕ) (s : Stage) (f : Form) (i : ℕ) → SameStep text text s f i
-same_step text stage.Entry f i = (refl, same_flow_key text (ahead text true i), same_flow_node text (Flow false) i (ahead text true i))
+same_step text stage.Entry f i = (refl, (λ h. same_flow_key text (ahead text true i)), (λ h. same_flow_node text (Flow false) i (ahead text true i)))
 same_step text stage.Value f i = ((λ h. (refl, same_flow_node text f i (ahead text true i))), (λ h. (refl, same_node text f i (ahead text false i))))
 same_step text stage.After f i = ((λ h. refl), (λ h. (same_end text i, same_key text (ahead text false i))))
 same_step text stage.Whole f i = tt

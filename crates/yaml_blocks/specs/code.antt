@@ -5,3 +5,4 @@ pub mod Memory
 pub mod Refused
 pub mod Rest
 pub mod Steps
+pub mod Twins

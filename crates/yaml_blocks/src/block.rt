@@ -1,5 +1,5 @@
 //! Block sequences and block mappings: one entry or node at a time, what it adds to the tree, and what may follow it.
-ghost use Rattle.std.specs.Prelude.{◌≡◌, ℕ, List, ◌+◌, ◌*◌, ◌≤◌, length, true, false, None, Some, option_map, MatchOption};
+ghost use Rattle.std.specs.Prelude.{◌≡◌, ℕ, List, ◌+◌, ◌*◌, ◌≤◌, length, true, false, None, Some, option_map, MatchOption, IfOk};
 ghost use Rattle.std.specs.Cow.{cow_str_bytes};
 ghost use Rattle.std.specs.Str.{IsCharBoundary};
 ghost use Rattle.doc_values.specs.Limits.{template_limit};
@@ -10,7 +10,8 @@ ghost use Rattle.yaml_blocks.specs.Blocks.{block_sign, takes_scalar, takes_mappi
 ghost use Rattle.yaml_blocks.specs.code.Refused.{of_sign};
 ghost use Rattle.yaml_blocks.specs.code.Rest.{top, Inside, Ends, Awaits};
 ghost use Rattle.yaml_blocks.specs.Yaml.{IsEnd};
-ghost use Rattle.yaml_blocks.specs.code.Steps.{stack, IsSeen, IsBlock, IsBehind, IsSmall, HasKey, NoKey, Open, Fits, Awaited, SameKey, SameNode, SameEnd, IsCalm, NoNode, Gives, Ended, is_dash, ends_before};
+ghost use Rattle.yaml_blocks.specs.code.Twins.{FixesNode, FixesEnd};
+ghost use Rattle.yaml_blocks.specs.code.Steps.{stack, IsSeen, IsBlock, IsBehind, IsSmall, HasKey, NoKey, EndsKey, Open, Fits, Awaited, SameKey, SameNode, SameEnd, IsCalm, NoNode, Gives, Ended, is_dash, ends_before};
 
 use crate::ahead::{Ahead, Token, look};
 use crate::flow::open;
@@ -190,7 +191,8 @@ fn sequence(
     requires awaited { Awaited text.now (stack forms.old.items) builder.old form at next }
     requires dash { next.token ≡ Token.Dash }
     requires takes { takes_sequence form next ≡ true }
-    ensures { (other : List ℕ) → Awaited other (stack forms.old.items) builder.old form at next → SameNode text.now other form at next → Gives other (Awaits other (stack forms.old.items) builder.old.outer builder.old.done builder.old.key at) (2 * at + 1) (stack forms.new.items) builder.new result }
+    ensures gives { (other : List ℕ) → Awaited other (stack forms.old.items) builder.old form at next → SameNode text.now other form at next → Gives other (Awaits other (stack forms.old.items) builder.old.outer builder.old.done builder.old.key at) (2 * at + 1) (stack forms.new.items) builder.new result }
+    ensures fixes { FixesNode text.now form at next result }
 {
     let column = column_in(form, next);
     match begin(Form::Items { column }, next, forms, builder) {
@@ -215,7 +217,9 @@ fn mapping<'s>(
     requires awaited { Awaited text.now (stack forms.old.items) builder.old form at next }
     requires key { HasKey text.now next key }
     requires takes { takes_mapping form next ≡ true }
-    ensures { (other : List ℕ) → Awaited other (stack forms.old.items) builder.old form at next → SameNode text.now other form at next → Gives other (Awaits other (stack forms.old.items) builder.old.outer builder.old.done builder.old.key at) (2 * at + 1) (stack forms.new.items) builder.new result }
+    requires ends { EndsKey text.now next }
+    ensures gives { (other : List ℕ) → Awaited other (stack forms.old.items) builder.old form at next → SameNode text.now other form at next → Gives other (Awaits other (stack forms.old.items) builder.old.outer builder.old.done builder.old.key at) (2 * at + 1) (stack forms.new.items) builder.new result }
+    ensures fixes { FixesNode text.now form at next result }
 {
     let Key { text: name, behind } = key;
     let column = column_in(form, next);
@@ -245,7 +249,8 @@ fn tag<'s>(
     requires awaited { Awaited text.now (stack forms.old.items) builder.old form at next }
     requires tag { next.token ≡ Token.Tag len }
     requires takes { takes_tag form next ≡ true }
-    ensures { (other : List ℕ) → Awaited other (stack forms.old.items) builder.old form at next → SameNode text.now other form at next → Gives other (Awaits other (stack forms.old.items) builder.old.outer builder.old.done builder.old.key at) (2 * at + 1) (stack forms.new.items) builder.new result }
+    ensures gives { (other : List ℕ) → Awaited other (stack forms.old.items) builder.old form at next → SameNode text.now other form at next → Gives other (Awaits other (stack forms.old.items) builder.old.outer builder.old.done builder.old.key at) (2 * at + 1) (stack forms.new.items) builder.new result }
+    ensures fixes { FixesNode text.now form at next result }
 {
     begin_tag(alloc, text, tagged(form, next), next, forms, builder)
 }
@@ -265,7 +270,8 @@ fn scalar<'s>(
     requires starts { starts_scalar next.token ≡ true }
     requires takes { takes_scalar form next ≡ true }
     requires no_key { takes_mapping form next ≡ true → NoKey text.now next }
-    ensures { (other : List ℕ) → Awaited other (stack forms.now) builder.old form at next → SameNode text.now other form at next → Gives other (Awaits other (stack forms.now) builder.old.outer builder.old.done builder.old.key at) (2 * at + 1) (stack forms.now) builder.new result }
+    ensures gives { (other : List ℕ) → Awaited other (stack forms.now) builder.old form at next → SameNode text.now other form at next → Gives other (Awaits other (stack forms.now) builder.old.outer builder.old.done builder.old.key at) (2 * at + 1) (stack forms.now) builder.new result }
+    ensures fixes { FixesNode text.now form at next result }
 {
     take_scalar(alloc, text, at, form, next, builder)
 }
@@ -284,7 +290,8 @@ fn content<'s>(
     requires awaited { Awaited text.now (stack forms.old.items) builder.old form at next }
     requires starts { starts_scalar next.token ≡ true }
     requires takes { takes_scalar form next ≡ true }
-    ensures { (other : List ℕ) → Awaited other (stack forms.old.items) builder.old form at next → SameNode text.now other form at next → Gives other (Awaits other (stack forms.old.items) builder.old.outer builder.old.done builder.old.key at) (2 * at + 1) (stack forms.new.items) builder.new result }
+    ensures gives { (other : List ℕ) → Awaited other (stack forms.old.items) builder.old form at next → SameNode text.now other form at next → Gives other (Awaits other (stack forms.old.items) builder.old.outer builder.old.done builder.old.key at) (2 * at + 1) (stack forms.new.items) builder.new result }
+    ensures fixes { FixesNode text.now form at next result }
 {
     if !takes_mapping(form, next) {
         return scalar(alloc, text, at, form, next, forms, builder);
@@ -309,7 +316,8 @@ fn missing(
     requires none { NoNode form next }
     requires unsigned { block_sign form next ≡ None }
     requires once { is_tagged form ≡ true → (len : ℕ) → next.token ≡ Token.Tag len → ⊥ }
-    ensures { (other : List ℕ) → Awaited other (stack forms.now) builder.old form at next → SameNode text.now other form at next → Gives other (Awaits other (stack forms.now) builder.old.outer builder.old.done builder.old.key at) (2 * at + 1) (stack forms.now) builder.new result }
+    ensures gives { (other : List ℕ) → Awaited other (stack forms.now) builder.old form at next → SameNode text.now other form at next → Gives other (Awaits other (stack forms.now) builder.old.outer builder.old.done builder.old.key at) (2 * at + 1) (stack forms.now) builder.new result }
+    ensures fixes { FixesNode text.now form at next result }
 {
     match form {
         Form::Root => Err(YamlRefusal::Unread),
@@ -343,7 +351,8 @@ fn tag_again(
     requires tagged { is_tagged form ≡ true }
     requires none { NoNode form next }
     requires unsigned { block_sign form next ≡ None }
-    ensures { (other : List ℕ) → Awaited other (stack forms.old.items) builder.old form at next → SameNode text.now other form at next → Gives other (Awaits other (stack forms.old.items) builder.old.outer builder.old.done builder.old.key at) (2 * at + 1) (stack forms.new.items) builder.new result }
+    ensures gives { (other : List ℕ) → Awaited other (stack forms.old.items) builder.old form at next → SameNode text.now other form at next → Gives other (Awaits other (stack forms.old.items) builder.old.outer builder.old.done builder.old.key at) (2 * at + 1) (stack forms.new.items) builder.new result }
+    ensures fixes { FixesNode text.now form at next result }
 {
     match take_null(at, at, builder) {
         Err(refusal) => return Err(refusal),
@@ -373,7 +382,8 @@ fn late_tag(
     requires tag { next.token ≡ Token.Tag len }
     requires none { NoNode form next }
     requires unsigned { block_sign form next ≡ None }
-    ensures { (other : List ℕ) → Awaited other (stack forms.old.items) builder.old form at next → SameNode text.now other form at next → Gives other (Awaits other (stack forms.old.items) builder.old.outer builder.old.done builder.old.key at) (2 * at + 1) (stack forms.new.items) builder.new result }
+    ensures gives { (other : List ℕ) → Awaited other (stack forms.old.items) builder.old form at next → SameNode text.now other form at next → Gives other (Awaits other (stack forms.old.items) builder.old.outer builder.old.done builder.old.key at) (2 * at + 1) (stack forms.new.items) builder.new result }
+    ensures fixes { FixesNode text.now form at next result }
 {
     if is_tagged(form) {
         tag_again(text, at, form, len, next, forms, builder)
@@ -395,7 +405,8 @@ fn brackets(
     requires awaited { Awaited text.now (stack forms.old.items) builder.old form at next }
     requires opens { next.token ≡ Token.Opens map }
     requires takes { takes_scalar form next ≡ true }
-    ensures { (other : List ℕ) → Awaited other (stack forms.old.items) builder.old form at next → SameNode text.now other form at next → Gives other (Awaits other (stack forms.old.items) builder.old.outer builder.old.done builder.old.key at) (2 * at + 1) (stack forms.new.items) builder.new result }
+    ensures gives { (other : List ℕ) → Awaited other (stack forms.old.items) builder.old form at next → SameNode text.now other form at next → Gives other (Awaits other (stack forms.old.items) builder.old.outer builder.old.done builder.old.key at) (2 * at + 1) (stack forms.new.items) builder.new result }
+    ensures fixes { FixesNode text.now form at next result }
 {
     open(map, next, forms, builder)
 }
@@ -413,7 +424,8 @@ fn node_at<'s>(
     requires small { length text.now ≤ template_limit }
     requires awaited { Awaited text.now (stack forms.old.items) builder.old form at next }
     requires unsigned { block_sign form next ≡ None }
-    ensures { (other : List ℕ) → Awaited other (stack forms.old.items) builder.old form at next → SameNode text.now other form at next → Gives other (Awaits other (stack forms.old.items) builder.old.outer builder.old.done builder.old.key at) (2 * at + 1) (stack forms.new.items) builder.new result }
+    ensures gives { (other : List ℕ) → Awaited other (stack forms.old.items) builder.old form at next → SameNode text.now other form at next → Gives other (Awaits other (stack forms.old.items) builder.old.outer builder.old.done builder.old.key at) (2 * at + 1) (stack forms.new.items) builder.new result }
+    ensures fixes { FixesNode text.now form at next result }
 {
     match next.token {
         Token::Dash => {
@@ -462,7 +474,8 @@ pub(crate) fn node<'s>(
     requires form { top (stack forms.old.items) ≡ form }
     requires block { IsBlock form }
     requires fits { Fits text.now Stage.Value (stack forms.old.items) builder.old at }
-    ensures { (other : List ℕ) → Awaited other (stack forms.old.items) builder.old form at (ahead text.now false at) → SameNode text.now other form at (ahead text.now false at) → Gives other (Awaits other (stack forms.old.items) builder.old.outer builder.old.done builder.old.key at) (2 * at + 1) (stack forms.new.items) builder.new result }
+    ensures gives { (other : List ℕ) → Awaited other (stack forms.old.items) builder.old form at (ahead text.now false at) → SameNode text.now other form at (ahead text.now false at) → Gives other (Awaits other (stack forms.old.items) builder.old.outer builder.old.done builder.old.key at) (2 * at + 1) (stack forms.new.items) builder.new result }
+    ensures fixes { FixesNode text.now form at (ahead text.now false at) result }
 {
     let next = look(text, false, at);
     match block_sign(form, next) {
@@ -505,7 +518,8 @@ fn item(
     requires stays { ends_before (Form.Items column) next ≡ false }
     requires open { Open (stack forms.now) builder.now }
     requires awaited { builder.now.key ≡ None }
-    ensures { (other : List ℕ) → IsSeen other false at next → Inside other at → Gives other (Ends other (stack forms.now) builder.now.outer builder.now.done at) (2 * at + 2) (stack forms.now) builder.now result }
+    ensures gives { (other : List ℕ) → IsSeen other false at next → Inside other at → Gives other (Ends other (stack forms.now) builder.now.outer builder.now.done at) (2 * at + 2) (stack forms.now) builder.now result }
+    ensures fixes { (text : List ℕ) → IsSeen text false at next → IsCharBoundary text at → FixesEnd text at next result }
 {
     if next.column != column {
         return Err(YamlRefusal::Unread);
@@ -536,7 +550,9 @@ fn entry<'s>(
     requires stays { ends_before (Form.Entries column) next ≡ false }
     requires open { Open (stack forms.now) builder.old }
     requires awaited { builder.old.key ≡ None }
-    ensures { (other : List ℕ) → IsSeen other false at next → Inside other at → IsCalm other builder.old at → SameKey text.now other next → Gives other (Ends other (stack forms.now) builder.old.outer builder.old.done at) (2 * at + 2) (stack forms.now) builder.new result }
+    requires boundary { IsCharBoundary text.now at }
+    ensures gives { (other : List ℕ) → IsSeen other false at next → Inside other at → IsCalm other builder.old at → SameKey text.now other next → Gives other (Ends other (stack forms.now) builder.old.outer builder.old.done at) (2 * at + 2) (stack forms.now) builder.new result }
+    ensures fixes { FixesEnd text.now at next result }
 {
     if next.column != column {
         return Err(YamlRefusal::Unread);
@@ -585,7 +601,9 @@ fn head<'s>(
     requires stays { ends_before form next ≡ false }
     requires open { Open (stack forms.now) builder.old }
     requires awaited { builder.old.key ≡ None }
-    ensures { (other : List ℕ) → IsSeen other false at next → Inside other at → IsCalm other builder.old at → SameKey text.now other next → Gives other (Ends other (stack forms.now) builder.old.outer builder.old.done at) (2 * at + 2) (stack forms.now) builder.new result }
+    requires boundary { IsCharBoundary text.now at }
+    ensures gives { (other : List ℕ) → IsSeen other false at next → Inside other at → IsCalm other builder.old at → SameKey text.now other next → Gives other (Ends other (stack forms.now) builder.old.outer builder.old.done at) (2 * at + 2) (stack forms.now) builder.new result }
+    ensures fixes { FixesEnd text.now at next result }
 {
     match form {
         Form::Items { column } => item(at, column, next, forms, builder),
@@ -611,7 +629,9 @@ fn line<'s>(
     requires block { IsBlock (top (stack forms.old.items)) }
     requires open { Open (stack forms.old.items) builder.old }
     requires awaited { builder.old.key ≡ None }
-    ensures { (other : List ℕ) → IsSeen other false at next → Inside other at → IsCalm other builder.old at → SameKey text.now other next → Gives other (Ends other (stack forms.old.items) builder.old.outer builder.old.done at) (2 * at + 2) (stack forms.new.items) builder.new result }
+    requires boundary { IsCharBoundary text.now at }
+    ensures gives { (other : List ℕ) → IsSeen other false at next → Inside other at → IsCalm other builder.old at → SameKey text.now other next → Gives other (Ends other (stack forms.old.items) builder.old.outer builder.old.done at) (2 * at + 2) (stack forms.new.items) builder.new result }
+    ensures fixes { FixesEnd text.now at next result }
 {
     if !next.fresh {
         return Err(YamlRefusal::Unread);
@@ -631,7 +651,8 @@ fn end_all(
     requires block { IsBlock (top (stack forms.old.items)) }
     requires open { Open (stack forms.old.items) builder.old }
     requires awaited { builder.old.key ≡ None }
-    ensures { (other : List ℕ) → IsEnd other at → IsCharBoundary other at → Gives other (Ends other (stack forms.old.items) builder.old.outer builder.old.done at) (2 * at + 2) (stack forms.new.items) builder.new result }
+    ensures gives { (other : List ℕ) → IsEnd other at → IsCharBoundary other at → Gives other (Ends other (stack forms.old.items) builder.old.outer builder.old.done at) (2 * at + 2) (stack forms.new.items) builder.new result }
+    ensures whole { IfOk result (λ p. p.stage ≡ Stage.Whole) }
 {
     while let Some(_) = forms.pop() {
         match builder.end() {
@@ -686,7 +707,8 @@ pub(crate) fn after<'s>(
     requires open { Open (stack forms.old.items) builder.old }
     requires calm { IsCalm text.now builder.old at }
     requires awaited { builder.old.key ≡ None }
-    ensures { (other : List ℕ) → SameEnd text.now other at → IsSeen other false at (ahead text.now false at) → IsCharBoundary other at → IsCalm other builder.old at → SameKey text.now other (ahead text.now false at) → Gives other (Ends other (stack forms.old.items) builder.old.outer builder.old.done at) (2 * at + 2) (stack forms.new.items) builder.new result }
+    ensures gives { (other : List ℕ) → SameEnd text.now other at → IsSeen other false at (ahead text.now false at) → IsCharBoundary other at → IsCalm other builder.old at → SameKey text.now other (ahead text.now false at) → Gives other (Ends other (stack forms.old.items) builder.old.outer builder.old.done at) (2 * at + 2) (stack forms.new.items) builder.new result }
+    ensures fixes { FixesEnd text.now at (ahead text.now false at) result }
 {
     let next = look(text, false, at);
     if is_document_end(text, at, next) {

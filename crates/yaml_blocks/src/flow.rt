@@ -8,6 +8,7 @@ ghost use Rattle.yaml_blocks.specs.Flow.{may_miss, may_tag, ends_key, IsColon};
 ghost use Rattle.yaml_blocks.specs.Ahead.{ahead};
 ghost use Rattle.yaml_blocks.specs.Nodes.{tag_name, node_sign, is_tagged, is_marked};
 ghost use Rattle.yaml_blocks.specs.code.Rest.{top, Ends, Enters, Awaits};
+ghost use Rattle.yaml_blocks.specs.code.Twins.{FixesFlowNode, FixesFlowKey, FixesEntry, FixesSeen};
 ghost use Rattle.yaml_blocks.specs.code.Steps.{stack, IsSeen, SameFlowNode, SameFlowKey, IsFlow, IsBehind, Open, Gives, Opened, Closed, is_flow_ending};
 
 use crate::ahead::{Ahead, Token, look};
@@ -91,7 +92,10 @@ fn tag<'s>(
     requires takes { may_tag form ≡ true }
     requires open { Open (stack forms.old.items) builder.old }
     requires awaited { AwaitsValue builder.old }
-    ensures { (other : List ℕ) → IsSeen other true at next → tag_name other next.at next.behind ≡ tag_name text.now next.at next.behind → Gives other (Awaits other (stack forms.old.items) builder.old.outer builder.old.done builder.old.key at) (2 * at + 2) (stack forms.new.items) builder.new result }
+    requires boundary { IsCharBoundary text.now at }
+    requires behind { IsBehind form at }
+    ensures gives { (other : List ℕ) → IsSeen other true at next → tag_name other next.at next.behind ≡ tag_name text.now next.at next.behind → Gives other (Awaits other (stack forms.old.items) builder.old.outer builder.old.done builder.old.key at) (2 * at + 2) (stack forms.new.items) builder.new result }
+    ensures fixes { FixesFlowNode text.now form at next result }
 {
     begin_tag(
         alloc,
@@ -121,7 +125,9 @@ fn node<'s>(
     requires behind { IsBehind form at }
     requires open { Open (stack forms.old.items) builder.old }
     requires awaited { AwaitsValue builder.old }
-    ensures { (other : List ℕ) → IsSeen other true at next → SameFlowNode text.now other form at next → Gives other (Awaits other (stack forms.old.items) builder.old.outer builder.old.done builder.old.key at) (2 * at + 2) (stack forms.new.items) builder.new result }
+    requires boundary { IsCharBoundary text.now at }
+    ensures gives { (other : List ℕ) → IsSeen other true at next → SameFlowNode text.now other form at next → Gives other (Awaits other (stack forms.old.items) builder.old.outer builder.old.done builder.old.key at) (2 * at + 2) (stack forms.new.items) builder.new result }
+    ensures fixes { FixesFlowNode text.now form at next result }
 {
     match node_sign(is_tagged(form), next) {
         Some(refusal) => return Err(refusal),
@@ -209,7 +215,9 @@ fn key<'s>(
     requires form { top (stack forms.now) ≡ Form.Flow true }
     requires open { Open (stack forms.now) builder.old }
     requires awaited { builder.old.key ≡ None }
-    ensures { (other : List ℕ) → IsSeen other true at next → SameFlowKey text.now other next → Gives other (Enters other (stack forms.now) builder.old.outer builder.old.done at) (2 * at + 2) (stack forms.now) builder.new result }
+    requires boundary { IsCharBoundary text.now at }
+    ensures gives { (other : List ℕ) → IsSeen other true at next → SameFlowKey text.now other next → Gives other (Enters other (stack forms.now) builder.old.outer builder.old.done at) (2 * at + 2) (stack forms.now) builder.new result }
+    ensures fixes { FixesFlowKey text.now at next result }
 {
     match node_sign(false, next) {
         Some(refusal) => return Err(refusal),
@@ -251,7 +259,8 @@ pub(crate) fn entry<'s>(
     requires form { top (stack forms.old.items) ≡ Form.Flow map }
     requires open { Open (stack forms.old.items) builder.old }
     requires awaited { builder.old.key ≡ None }
-    ensures { (other : List ℕ) → IsSeen other true at (ahead text.now true at) → SameFlowKey text.now other (ahead text.now true at) → SameFlowNode text.now other (Form.Flow false) at (ahead text.now true at) → Gives other (Enters other (stack forms.old.items) builder.old.outer builder.old.done at) (2 * at + 2) (stack forms.new.items) builder.new result }
+    ensures gives { (other : List ℕ) → IsSeen other true at (ahead text.now true at) → (map ≡ true → SameFlowKey text.now other (ahead text.now true at)) → (map ≡ false → SameFlowNode text.now other (Form.Flow false) at (ahead text.now true at)) → Gives other (Enters other (stack forms.old.items) builder.old.outer builder.old.done at) (2 * at + 2) (stack forms.new.items) builder.new result }
+    ensures fixes { FixesEntry text.now map at (ahead text.now true at) result }
 {
     let next = look(text, true, at);
     if closes(next.token, map) {
@@ -292,7 +301,8 @@ pub(crate) fn value<'s>(
     requires misses { may_miss form ≡ true }
     requires open { Open (stack forms.old.items) builder.old }
     requires awaited { AwaitsValue builder.old }
-    ensures { (other : List ℕ) → IsSeen other true at (ahead text.now true at) → IsCharBoundary other at → SameFlowNode text.now other form at (ahead text.now true at) → Gives other (Awaits other (stack forms.old.items) builder.old.outer builder.old.done builder.old.key at) (2 * at + 1) (stack forms.new.items) builder.new result }
+    ensures gives { (other : List ℕ) → IsSeen other true at (ahead text.now true at) → IsCharBoundary other at → SameFlowNode text.now other form at (ahead text.now true at) → Gives other (Awaits other (stack forms.old.items) builder.old.outer builder.old.done builder.old.key at) (2 * at + 1) (stack forms.new.items) builder.new result }
+    ensures fixes { FixesFlowNode text.now form at (ahead text.now true at) result }
 {
     let next = look(text, true, at);
     if is_flow_ending(next.token) {
@@ -314,7 +324,8 @@ pub(crate) fn after(
     requires form { top (stack forms.old.items) ≡ Form.Flow map }
     requires open { Open (stack forms.old.items) builder.old }
     requires awaited { builder.old.key ≡ None }
-    ensures { (other : List ℕ) → IsSeen other true at (ahead text.now true at) → Gives other (Ends other (stack forms.old.items) builder.old.outer builder.old.done at) (2 * at + 2) (stack forms.new.items) builder.new result }
+    ensures gives { (other : List ℕ) → IsSeen other true at (ahead text.now true at) → Gives other (Ends other (stack forms.old.items) builder.old.outer builder.old.done at) (2 * at + 2) (stack forms.new.items) builder.new result }
+    ensures fixes { FixesSeen text.now at result }
 {
     let next = look(text, true, at);
     if closes(next.token, map) {
@@ -345,7 +356,8 @@ pub(crate) fn after_tag(
     requires form { top (stack forms.old.items) ≡ Form.FlowTagged place }
     requires open { Open (stack forms.old.items) builder.old }
     requires awaited { builder.old.key ≡ None }
-    ensures { (other : List ℕ) → IsSeen other true at (ahead text.now true at) → Gives other (Ends other (stack forms.old.items) builder.old.outer builder.old.done at) (2 * at + 2) (stack forms.new.items) builder.new result }
+    ensures gives { (other : List ℕ) → IsSeen other true at (ahead text.now true at) → Gives other (Ends other (stack forms.old.items) builder.old.outer builder.old.done at) (2 * at + 2) (stack forms.new.items) builder.new result }
+    ensures fixes { FixesSeen text.now at result }
 {
     let Some(_) = forms.pop() else { unreachable!() };
     match builder.end() {

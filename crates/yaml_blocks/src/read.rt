@@ -1,10 +1,11 @@
 //! A whole text.
-ghost use Rattle.std.specs.Prelude.{◌≡◌, ◌≤◌, length, true, false, None, IsErrOf, MatchResult};
+ghost use Rattle.std.specs.Prelude.{◌≡◌, ◌≤◌, length, true, false, None, IsErrOf, IfOk, MatchResult};
 ghost use Rattle.std.specs.Str.{IsCharBoundary};
 ghost use Rattle.doc_values.specs.Limits.{template_limit};
 ghost use Rattle.yaml_scalars.specs.Scalar.{begins_order_mark};
 ghost use Rattle.yaml_blocks.specs.Answers.{Reads, Refuses};
 ghost use Rattle.yaml_blocks.specs.code.Memory.{BeginsDocument};
+ghost use Rattle.yaml_blocks.specs.code.Twins.{FixesStart};
 ghost use Rattle.yaml_blocks.specs.Yaml.{IsStart, start_sign, text_start};
 
 use crate::ahead::{Token, look};
@@ -74,6 +75,7 @@ fn text_start(text: &str) -> usize
 fn document_start(text: &str) -> Result<usize, YamlRefusal>
     requires { length text.now ≤ template_limit }
     ensures start { MatchResult result (λ start. IsStart text.now start × IsCharBoundary text.now start × (start_sign text.now ≡ None)) (λ e. Refuses text.now e) }
+    ensures fixes { IfOk result (λ start. FixesStart text.now start) }
     ensures no_memory { ¬ IsErrOf result YamlRefusal.NoMemory }
 {
     let at = text_start(text);

@@ -4,7 +4,8 @@ ghost use Rattle.std.specs.Str.{IsCharBoundary, IsUtf8};
 ghost use Rattle.doc_values.specs.Limits.{template_limit};
 ghost use Rattle.doc_values.specs.Unfinished.{start};
 ghost use Rattle.yaml_blocks.specs.code.Rest.{top, Ends, Enters, Awaits, Begins};
-ghost use Rattle.yaml_blocks.specs.code.Steps.{stack, Open, Rest, Fits, SameStep, reached, Gives};
+ghost use Rattle.yaml_blocks.specs.code.Twins.{FixesStep, FixesRoot};
+ghost use Rattle.yaml_blocks.specs.code.Steps.{stack, IsBlock, IsFlow, Open, Rest, Fits, SameStep, reached, Gives};
 
 use crate::ahead::look;
 use crate::form::Form;
@@ -27,11 +28,27 @@ fn entry<'s>(
     requires small { length text.now ≤ template_limit }
     requires boundary { IsCharBoundary text.now at }
     requires fits { Fits text.now Stage.Entry (stack forms.old.items) builder.old at }
-    ensures { (other : List ℕ) → IsUtf8 other → IsCharBoundary other at → Fits other Stage.Entry (stack forms.old.items) builder.old at → SameStep text.now other Stage.Entry (top (stack forms.old.items)) at → Gives other (Enters other (stack forms.old.items) builder.old.outer builder.old.done at) (2 * at + 2) (stack forms.new.items) builder.new result }
+    ensures gives { (other : List ℕ) → IsUtf8 other → IsCharBoundary other at → Fits other Stage.Entry (stack forms.old.items) builder.old at → SameStep text.now other Stage.Entry (top (stack forms.old.items)) at → Gives other (Enters other (stack forms.old.items) builder.old.outer builder.old.done at) (2 * at + 2) (stack forms.new.items) builder.new result }
+    ensures fixes { FixesStep text.now Stage.Entry (top (stack forms.old.items)) at result }
 {
     match innermost(forms) {
         Form::Flow { map } => flow::entry(alloc, text, at, map, forms, builder),
         _ => unreachable!(),
+    }
+}
+
+/// Whether a node in a form stands in flow.
+fn is_flow(form: Form) -> bool
+    ensures yes { result ≡ true → IsFlow form }
+    ensures no { result ≡ false → IsBlock form }
+{
+    match form {
+        Form::Flow { map: _ } => true,
+        Form::FlowTagged { at: _ } => true,
+        Form::Root => false,
+        Form::Items { column: _ } => false,
+        Form::Entries { column: _ } => false,
+        Form::Tagged { .. } => false,
     }
 }
 
@@ -46,15 +63,14 @@ fn value<'s>(
     requires small { length text.now ≤ template_limit }
     requires boundary { IsCharBoundary text.now at }
     requires fits { Fits text.now Stage.Value (stack forms.old.items) builder.old at }
-    ensures { (other : List ℕ) → IsUtf8 other → IsCharBoundary other at → Fits other Stage.Value (stack forms.old.items) builder.old at → SameStep text.now other Stage.Value (top (stack forms.old.items)) at → Gives other (Awaits other (stack forms.old.items) builder.old.outer builder.old.done builder.old.key at) (2 * at + 1) (stack forms.new.items) builder.new result }
+    ensures gives { (other : List ℕ) → IsUtf8 other → IsCharBoundary other at → Fits other Stage.Value (stack forms.old.items) builder.old at → SameStep text.now other Stage.Value (top (stack forms.old.items)) at → Gives other (Awaits other (stack forms.old.items) builder.old.outer builder.old.done builder.old.key at) (2 * at + 1) (stack forms.new.items) builder.new result }
+    ensures fixes { FixesStep text.now Stage.Value (top (stack forms.old.items)) at result }
 {
     let form = innermost(forms);
-    match form {
-        Form::Flow { map: true } => flow::value(alloc, text, at, form, forms, builder),
-        Form::FlowTagged { at: _ } => flow::value(alloc, text, at, form, forms, builder),
-        Form::Flow { map: false } => unreachable!(),
-        _ => block::node(alloc, text, at, form, forms, builder),
+    if is_flow(form) {
+        return flow::value(alloc, text, at, form, forms, builder);
     }
+    block::node(alloc, text, at, form, forms, builder)
 }
 
 /// What follows a complete node.
@@ -68,7 +84,8 @@ fn after<'s>(
     requires small { length text.now ≤ template_limit }
     requires boundary { IsCharBoundary text.now at }
     requires fits { Fits text.now Stage.After (stack forms.old.items) builder.old at }
-    ensures { (other : List ℕ) → IsUtf8 other → IsCharBoundary other at → Fits other Stage.After (stack forms.old.items) builder.old at → SameStep text.now other Stage.After (top (stack forms.old.items)) at → Gives other (Ends other (stack forms.old.items) builder.old.outer builder.old.done at) (2 * at + 2) (stack forms.new.items) builder.new result }
+    ensures gives { (other : List ℕ) → IsUtf8 other → IsCharBoundary other at → Fits other Stage.After (stack forms.old.items) builder.old at → SameStep text.now other Stage.After (top (stack forms.old.items)) at → Gives other (Ends other (stack forms.old.items) builder.old.outer builder.old.done at) (2 * at + 2) (stack forms.new.items) builder.new result }
+    ensures fixes { FixesStep text.now Stage.After (top (stack forms.old.items)) at result }
 {
     match innermost(forms) {
         Form::Flow { map } => flow::after(text, at, map, forms, builder),
@@ -89,7 +106,8 @@ pub(crate) fn step<'s>(
     requires boundary { IsCharBoundary text.now position.at }
     requires open { position.stage ≡ Stage.Whole → ⊥ }
     requires fits { Fits text.now position.stage (stack forms.old.items) builder.old position.at }
-    ensures { (other : List ℕ) → IsUtf8 other → IsCharBoundary other position.at → Fits other position.stage (stack forms.old.items) builder.old position.at → SameStep text.now other position.stage (top (stack forms.old.items)) position.at → Gives other (Rest other position.stage (stack forms.old.items) builder.old position.at) (reached position.stage position.at) (stack forms.new.items) builder.new result }
+    ensures gives { (other : List ℕ) → IsUtf8 other → IsCharBoundary other position.at → Fits other position.stage (stack forms.old.items) builder.old position.at → SameStep text.now other position.stage (top (stack forms.old.items)) position.at → Gives other (Rest other position.stage (stack forms.old.items) builder.old position.at) (reached position.stage position.at) (stack forms.new.items) builder.new result }
+    ensures fixes { FixesStep text.now position.stage (top (stack forms.old.items)) position.at result }
 {
     match position.stage {
         Stage::Entry => entry(alloc, text, position.at, forms, builder),
@@ -104,7 +122,8 @@ pub(crate) fn root(text: &str, at: usize, builder: &mut DocBuilder) -> Result<Po
     requires small { length text.now ≤ template_limit }
     requires boundary { IsCharBoundary text.now at }
     requires fits { builder.old ≡ start }
-    ensures { Gives text.now (Begins text.now at) 0 [] builder.new result }
+    ensures gives { Gives text.now (Begins text.now at) 0 [] builder.new result }
+    ensures fixes { FixesRoot text.now at builder.new result }
 {
     if is_ending(look(text, false, at).token) {
         return take_null(text.len(), at, builder);

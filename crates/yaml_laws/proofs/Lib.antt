@@ -30,5 +30,5 @@ mod ScalarEnds
 pub mod ScalarFollowed
 pub mod ScalarLaw
 mod ScalarLonger
-mod ScalarStays
+pub mod ScalarStays
 mod SyntaxLaw

@@ -14,7 +14,7 @@ use Rattle.yaml_scalars.specs.Lines.{Stands, Documents}
 use Rattle.yaml_scalars.specs.Scalar.{begins_quoted, is_typed, HasKind}
 use Rattle.yaml_blocks.specs.declared.ahead.Ahead.{Ahead}
 use Rattle.yaml_blocks.specs.declared.ahead.Token.{Token}
-use Rattle.yaml_blocks.specs.declared.ahead.Token.TheVariants.{End, Dashes, Dots, Dash, Tag, Opens, Closes, Comma, Tabbed}
+use Rattle.yaml_blocks.specs.declared.ahead.Token.TheVariants.{End, Dashes, Dots, Dash, Tag, Opens, Closes, Comma, Point, Tabbed}
 use Rattle.yaml_blocks.specs.declared.form.Form.{Form}
 use Rattle.yaml_blocks.specs.declared.form.Form.TheVariants.{Root, Flow, FlowTagged, Items, Entries, Tagged}
 use Rattle.yaml_blocks.specs.declared.stage.Stage.{Stage}
@@ -27,7 +27,7 @@ use Rattle.yaml_blocks.specs.Ahead.{token_len, ahead}
 use Rattle.yaml_blocks.specs.Nodes.{tag_name, tag_key, follows_get_att, setting_of, as_key, is_dot, is_cut, starts_scalar, scalar_ahead}
 use Rattle.yaml_blocks.specs.Signs as sign
 use Rattle.yaml_blocks.specs.Signs.{Sign, Tab, Directive, ManyDocuments, DuplicateKey, TooDeep, Reading, Tree, Refused}
-use Rattle.yaml_blocks.specs.Blocks.{takes_scalar, takes_sequence, takes_tag, or_else, last_place, ends_name, IsBare, IsKey}
+use Rattle.yaml_blocks.specs.Blocks.{takes_scalar, takes_mapping, takes_sequence, takes_tag, or_else, last_place, ends_name, IsBare, IsKey}
 use Rattle.yaml_blocks.specs.code.Rest.{top, Ends, Enters, Awaits}
 
 -- the forms of the open collections, the innermost last, as a list of which it is the first
@@ -291,9 +291,13 @@ NoKey text a = (t : List ℕ) (p : ℕ) → IsKey text a t p → ⊥
 abbrev pub HasKey : List ℕ → Ahead → Key → Type 0
 HasKey text a k = IsKey text a (cow_str_bytes k.text) k.behind × IsCharBoundary text k.behind × (a.at < k.behind)
 
+-- what is read as a key ends behind its first byte
+abbrev pub EndsKey : List ℕ → Ahead → Type 0
+EndsKey text a = (t : List ℕ) (j : ℕ) → scalar_ahead text (as_key false) a ≡ Stands t j → (a.at < j) × IsCharBoundary text j
+
 abbrev pub FindsKey : List ℕ → Ahead → Result (Option Key) YamlRefusal → Type 0
 FindsKey text a (Ok None) = NoKey text a
-FindsKey text a (Ok (Some k)) = HasKey text a k
+FindsKey text a (Ok (Some k)) = HasKey text a k × EndsKey text a
 FindsKey text a (Err e) = e ≡ refusal.NoMemory
 
 -- ---- texts in which the same is ahead
@@ -310,16 +314,18 @@ pub record SameKey (text other : List ℕ) (a : Ahead) : Type 0 where
   pub behind : (t : List ℕ) (j : ℕ) → scalar_ahead text (as_key false) a ≡ Stands t j → ahead other false j ≡ ahead text false j
   pub last : (t : List ℕ) (j : ℕ) → scalar_ahead text (as_key false) a ≡ Stands t j → IsCharBoundary text (ahead text false j).behind → IsCharBoundary other (ahead text false j).behind
 
--- whatever node may begin at a token of a text begins there in another
+-- whatever node begins at a token of a text begins there in another: a tag, a scalar where no key stands, or a key where one
+-- does
 pub record SameNode (text other : List ℕ) (f : Form) (i : ℕ) (a : Ahead) : Type 0 where
-  pub name : tag_name other a.at a.behind ≡ tag_name text a.at a.behind
+  pub name : (len : ℕ) → takes_tag f a ≡ true → a.token ≡ Tag len → tag_name other a.at a.behind ≡ tag_name text a.at a.behind
   pub cuts : follows_get_att other f i ≡ follows_get_att text f i
-  pub scalar : SameScalar text other (setting_of f) a
-  pub key : SameKey text other a
+  pub scalar : takes_scalar f a ≡ true → (takes_mapping f a ≡ true → NoKey text a) → SameScalar text other (setting_of f) a
+  pub none : takes_mapping f a ≡ true → NoKey text a → NoKey other a
+  pub key : takes_mapping f a ≡ true → (k : Key) → HasKey text a k → HasKey other a k
 
--- whatever node may begin at a token in flow
+-- whatever node begins at a token in flow
 pub record SameFlowNode (text other : List ℕ) (f : Form) (i : ℕ) (a : Ahead) : Type 0 where
-  pub name : tag_name other a.at a.behind ≡ tag_name text a.at a.behind
+  pub name : (len : ℕ) → a.token ≡ Tag len → tag_name other a.at a.behind ≡ tag_name text a.at a.behind
   pub cuts : follows_get_att other f i ≡ follows_get_att text f i
   pub scalar : SameScalar text other (setting_of f) a
 
@@ -328,7 +334,7 @@ pub record SameFlowKey (text other : List ℕ) (a : Ahead) : Type 0 where
   pub scalar : SameScalar text other (as_key true) a
   pub quoted : begins_quoted (drop a.at other) ≡ begins_quoted (drop a.at text)
   pub behind : (t : List ℕ) (j : ℕ) → scalar_ahead text (as_key true) a ≡ Stands t j → ahead other true j ≡ ahead text true j
-  pub last : (t : List ℕ) (j : ℕ) → scalar_ahead text (as_key true) a ≡ Stands t j → IsCharBoundary text (ahead text true j).behind → IsCharBoundary other (ahead text true j).behind
+  pub last : (t : List ℕ) (j : ℕ) (loose : Bool) → scalar_ahead text (as_key true) a ≡ Stands t j → (ahead text true j).token ≡ Point loose → IsCharBoundary text (ahead text true j).behind → IsCharBoundary other (ahead text true j).behind
 
 -- the same is ahead of the document's end, and behind a line `...` there
 pub record SameEnd (text other : List ℕ) (i : ℕ) : Type 0 where
@@ -337,7 +343,7 @@ pub record SameEnd (text other : List ℕ) (i : ℕ) : Type 0 where
 
 -- whatever is read next, where reading stands in a form
 abbrev pub SameStep : List ℕ → List ℕ → Stage → Form → ℕ → Type 0
-SameStep text other stage.Entry f i = (ahead other true i ≡ ahead text true i) × SameFlowKey text other (ahead text true i) × SameFlowNode text other (Flow false) i (ahead text true i)
+SameStep text other stage.Entry f i = (ahead other true i ≡ ahead text true i) × (f ≡ Flow true → SameFlowKey text other (ahead text true i)) × (f ≡ Flow false → SameFlowNode text other (Flow false) i (ahead text true i))
 SameStep text other stage.Value f i =
     (IsFlow f → (ahead other true i ≡ ahead text true i) × SameFlowNode text other f i (ahead text true i)) × (IsBlock f → (ahead other false i ≡ ahead text false i) × SameNode text other f i (ahead text false i))
 SameStep text other stage.After f i = (IsFlow f → ahead other true i ≡ ahead text true i) × (IsBlock f → SameEnd text other i × SameKey text other (ahead text false i))

@@ -5,20 +5,29 @@ use Rattle.yaml_blocks.specs.code.Refused.{of_sign}
 use Rattle.yaml_blocks.specs.code.Steps.{stack, IsSeen, SameKey}
 use Rattle.yaml_blocks.proofs.BlockGains.{signed_gives, no_sign_inside}
 use Rattle.yaml_blocks.proofs.SameTexts.{sign_same, end_there, end_here}
+use Rattle.yaml_blocks.proofs.Fixed.{whole_fixes}
+use Rattle.yaml_blocks.specs.code.Twins.{FixesEnd}
+use Rattle.yaml_blocks.specs.Ahead.{ahead}
 use Rattle.yaml_blocks.proofs.block.after.Goals as goal
 
-pub returns-in-Some : goal.returns-in-Some
-returns-in-Some c = λ text same seen cut calm key.
+pub returns-in-Some-clause-gives : goal.returns-in-Some-clause-gives
+returns-in-Some-clause-gives c = λ text same seen cut calm key.
     let fs = stack c.args.forms.now.items in
     signed_gives text (2 * c.args.at + 2) fs fs c.args.builder.now c.args.builder.now c.args.at c.in-Some.refusal c.requires.block c.requires.open
     (c.in-Some.ensures ∙ sym (ap (option_map of_sign) (sign_same c.args.text.now text c.args.at same)))
 
-pub returns-in-None : goal.returns-in-None
-returns-in-None c = λ text same seen cut calm key.
+pub returns-in-None-clause-gives : goal.returns-in-None-clause-gives
+returns-in-None-clause-gives c = λ text same seen cut calm key.
     let this = c.args.text.now in
-    c.line.ensures text (subst (λ (a : Ahead). IsSeen text false c.args.at a) (sym c.look-next.ensures.0) seen)
+    c.line.ensures.gives text (subst (λ (a : Ahead). IsSeen text false c.args.at a) (sym c.look-next.ensures.0) seen)
     (no_sign_inside text c.args.at (λ e. c.is_document_end.ensures.no c.if-is_document_end.false (end_here this text c.args.at same e)) (c.in-None.ensures ∙ sym (ap (option_map of_sign) (sign_same this text c.args.at same)))) calm
     (subst (λ (a : Ahead). SameKey this text a) (sym c.look-next.ensures.0) key)
 
-pub returns-then-is_document_end : goal.returns-then-is_document_end
-returns-then-is_document_end c = λ text same seen cut calm key. c.end_all.ensures text (end_there c.args.text.now text c.args.at same (c.if-is_document_end.ensures.yes refl)) cut
+pub returns-then-is_document_end-clause-gives : goal.returns-then-is_document_end-clause-gives
+returns-then-is_document_end-clause-gives c = λ text same seen cut calm key. c.end_all.ensures.gives text (end_there c.args.text.now text c.args.at same (c.if-is_document_end.ensures.yes refl)) cut
+
+pub returns-in-None-clause-fixes : goal.returns-in-None-clause-fixes
+returns-in-None-clause-fixes c = subst (λ (a : Ahead). FixesEnd c.args.text.now c.args.at a c.line.result) c.look-next.ensures.0 c.line.ensures.fixes
+
+pub returns-then-is_document_end-clause-fixes : goal.returns-then-is_document_end-clause-fixes
+returns-then-is_document_end-clause-fixes c = whole_fixes c.args.text.now c.args.at (ahead c.args.text.now false c.args.at) c.end_all.result c.end_all.ensures.whole

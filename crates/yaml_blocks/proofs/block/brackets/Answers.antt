@@ -1,10 +1,15 @@
 use Rattle.yaml_blocks.specs.code.Steps.{stack}
 use Rattle.yaml_blocks.proofs.BlockGains.{brackets_gives, spot_of}
+use Rattle.yaml_blocks.proofs.Fixed.{opens_fixes}
+use Rattle.yaml_blocks.proofs.AwaitedNodes.{place_behind}
 use Rattle.yaml_blocks.proofs.block.brackets.Goals as goal
 
-pub returns : goal.returns
-returns c = λ text w same.
+pub returns-clause-gives : goal.returns-clause-gives
+returns-clause-gives c = λ text w same.
     let fs = stack c.args.forms.now.items in
     let u = c.args.builder.now in
     brackets_gives text fs (stack c.open.new.forms.items) u c.open.new.builder c.args.form c.args.at c.args.map c.args.next c.open.result w.seen.0
     (spot_of text fs u c.args.form c.args.at c.args.next w) c.requires.opens c.requires.takes c.open.ensures
+
+pub returns-clause-fixes : goal.returns-clause-fixes
+returns-clause-fixes c = opens_fixes c.args.text.now c.args.form c.args.at c.args.map c.args.next (stack c.args.forms.now.items) (stack c.open.new.forms.items) c.args.builder.now c.open.new.builder c.open.result c.requires.awaited.seen c.requires.awaited.boundary (place_behind c.args.text.now (stack c.args.forms.now.items) c.args.builder.now c.args.form c.args.at c.args.next c.requires.awaited) c.requires.opens c.open.ensures

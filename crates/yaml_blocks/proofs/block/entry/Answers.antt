@@ -14,23 +14,24 @@ use Rattle.yaml_blocks.proofs.Forms.{awaits_key}
 use Rattle.yaml_blocks.proofs.Gains.{found_key}
 use Rattle.yaml_blocks.proofs.SameTexts.{found_same, finds_same, has_key_same}
 use Rattle.yaml_blocks.proofs.BlockGains.{Behind, nothing_follows, entry_deep, entry_signed_gives, entry_missed, entry_goes, entry_refused, no_colon}
+use Rattle.yaml_blocks.proofs.Fixed.{entry_fixes}
 use Rattle.yaml_blocks.proofs.block.entry.Goals as goal
 
-pub returns-then-next-column : goal.returns-then-next-column
-returns-then-next-column c = λ text seen inside calm same.
+pub returns-then-next-column-clause-gives : goal.returns-then-next-column-clause-gives
+returns-then-next-column-clause-gives c = λ text seen inside calm same.
     let fs = stack c.args.forms.now in
     nothing_follows text fs c.args.builder.now c.args.at c.args.next seen.0 inside (entry_deep text fs c.args.column c.args.next c.requires.open.1 c.requires.form c.requires.stays c.if-next-column.true)
 
-pub returns-in-Err : goal.returns-in-Err
-returns-in-Err c = λ text seen inside calm same.
+pub returns-in-Err-clause-gives : goal.returns-in-Err-clause-gives
+returns-in-Err-clause-gives c = λ text seen inside calm same.
     entry_missed text c.args.column (stack c.args.forms.now) c.args.builder.now c.args.builder.now c.args.at c.args.next c.as_key.result c.in-Err.refusal c.as_key.ensures seen.0 inside c.requires.form c.requires.open
     c.if-next-column.false calm c.in-None.ensures (finds_same c.args.text.now text c.as_key.result c.args.next (subst (λ z. SameScalar c.args.text.now text z c.args.next) (sym c.as_key.ensures) same.scalar) c.in-Err.refusal c.in-Err.ensures)
 
 pub key-requires : goal.key-requires
 key-requires c = record { awaited = awaits_key (Entries c.args.column) (stack c.args.forms.now) c.args.builder.now c.requires.form (λ e. absurd (cc)) refl c.requires.open.0 c.requires.awaited }
 
-pub returns-in-Some-colon_behind : goal.returns-in-Some-colon_behind
-returns-in-Some-colon_behind c = λ text seen inside calm same.
+pub returns-in-Some-colon_behind-clause-gives : goal.returns-in-Some-colon_behind-clause-gives
+returns-in-Some-colon_behind-clause-gives c = λ text seen inside calm same.
     let this = c.args.text.now in
     let words = cow_str_bytes c.in-Ok.scalar.text in
     let end = c.in-Ok.scalar.end in
@@ -43,8 +44,8 @@ returns-in-Some-colon_behind c = λ text seen inside calm same.
     entry_goes text c.args.column (stack c.args.forms.now) c.args.builder.now c.key.new.self c.args.at behind c.args.next words (record { stage = stage.Value; at = behind }) seen c.requires.fresh inside c.requires.form
     c.requires.open c.if-next-column.false there.0 there.2 there.1 k.1 refl refl k.0
 
-pub returns-in-None-colon_behind : goal.returns-in-None-colon_behind
-returns-in-None-colon_behind c = λ text seen inside calm same.
+pub returns-in-None-colon_behind-clause-gives : goal.returns-in-None-colon_behind-clause-gives
+returns-in-None-colon_behind-clause-gives c = λ text seen inside calm same.
     let this = c.args.text.now in
     let words = cow_str_bytes c.in-Ok.scalar.text in
     let g = found_key this c.as_key.result (as_key false) c.args.next words c.in-Ok.scalar.kind c.in-Ok.scalar.end c.as_key.ensures c.in-Ok.ensures in
@@ -52,8 +53,8 @@ returns-in-None-colon_behind c = λ text seen inside calm same.
     no_colon text c.args.column (stack c.args.forms.now) c.args.builder.now c.args.at c.in-Ok.scalar.end c.args.next words seen.0 inside c.requires.form c.requires.open c.if-next-column.false f.0 c.in-Ok-key.ensures.ok.1
     (subst (λ (x : Ahead). x.fresh ≡ false → x.token ≡ Point true → ⊥) (sym (same.behind words c.in-Ok.scalar.end g.0)) c.in-None-colon_behind.ensures)
 
-pub returns-in-Err-key : goal.returns-in-Err-key
-returns-in-Err-key c = λ text seen inside calm same.
+pub returns-in-Err-key-clause-gives : goal.returns-in-Err-key-clause-gives
+returns-in-Err-key-clause-gives c = λ text seen inside calm same.
     let this = c.args.text.now in
     let fs = stack c.args.forms.now in
     let u = c.args.builder.now in
@@ -64,8 +65,8 @@ returns-in-Err-key c = λ text seen inside calm same.
     (entry_refused text c.args.column fs u c.key.new.self c.args.at c.in-Ok.scalar.end c.args.next words c.in-Err-key.refusal seen c.requires.fresh inside c.requires.form c.requires.open c.if-next-column.false f.0
     (subst (λ n. (c.in-Err-key.refusal ≡ build.NoMemory) ⊎ ((c.in-Err-key.refusal ≡ build.DuplicateKey n) × (has_key u.done words ≡ true))) c.offset.ensures c.in-Err-key.ensures.refused))
 
-pub returns-in-Some : goal.returns-in-Some
-returns-in-Some c = λ text seen inside calm same.
+pub returns-in-Some-clause-gives : goal.returns-in-Some-clause-gives
+returns-in-Some-clause-gives c = λ text seen inside calm same.
     let fs = stack c.args.forms.now in
     entry_signed_gives text c.args.column (2 * c.args.at + 2) fs fs c.args.builder.now c.args.builder.now c.args.at c.args.next c.in-Some.refusal seen c.requires.fresh inside c.requires.form c.requires.open c.if-next-column.false c.in-Some.ensures
 
@@ -74,3 +75,13 @@ colon_behind-requires-clause-boundary c = grind (arith, common_steps)
 
 pub find_scalar-requires-clause-boundary : goal.find_scalar-requires-clause-boundary
 find_scalar-requires-clause-boundary c = grind (arith, common_steps)
+
+pub returns-in-Some-colon_behind-clause-fixes : goal.returns-in-Some-colon_behind-clause-fixes
+returns-in-Some-colon_behind-clause-fixes c =
+    let this = c.args.text.now in
+    let words = cow_str_bytes c.in-Ok.scalar.text in
+    let end = c.in-Ok.scalar.end in
+    let behind = c.in-Some-colon_behind.behind in
+    let g = found_key this c.as_key.result (as_key false) c.args.next words c.in-Ok.scalar.kind end c.as_key.ensures c.in-Ok.ensures in
+    let h = c.in-Some-colon_behind.ensures in
+    entry_fixes this c.args.at c.args.next words behind end (record { stage = stage.Value; at = behind }) c.requires.seen c.requires.boundary g.0 h.1 h.2 g.2 g.3 h.3 refl

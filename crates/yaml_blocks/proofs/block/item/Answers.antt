@@ -2,17 +2,24 @@ use Rattle.std.proofs.Common.{refl}
 use Rattle.yaml_blocks.specs.declared.stage.Stage.TheVariants as stage
 use Rattle.yaml_blocks.specs.code.Steps.{stack}
 use Rattle.yaml_blocks.proofs.BlockGains.{nothing_follows, item_deep, item_stays, item_goes}
+use Rattle.yaml_blocks.proofs.Fixed.{item_fixes}
 use Rattle.yaml_blocks.proofs.block.item.Goals as goal
 
-pub returns-then-next-column : goal.returns-then-next-column
-returns-then-next-column c = λ text seen inside.
+pub returns-then-next-column-clause-gives : goal.returns-then-next-column-clause-gives
+returns-then-next-column-clause-gives c = λ text seen inside.
     let fs = stack c.args.forms.now in
     nothing_follows text fs c.args.builder.now c.args.at c.args.next seen.0 inside (item_deep text fs c.args.column c.args.next c.requires.open.1 c.requires.form c.requires.stays c.if-next-column.true)
 
-pub returns-in-Dash : goal.returns-in-Dash
-returns-in-Dash c = λ text seen inside.
+pub returns-in-Dash-clause-gives : goal.returns-in-Dash-clause-gives
+returns-in-Dash-clause-gives c = λ text seen inside.
     item_goes text c.args.column (stack c.args.forms.now) c.args.builder.now c.args.at c.args.next (record { stage = stage.Value; at = c.args.next.behind }) seen c.requires.fresh inside c.requires.form c.requires.open c.requires.awaited
     c.if-next-column.false c.in-Dash.is refl refl
 
-pub returns-in_default : goal.returns-in_default
-returns-in_default c = absurd (item_stays c.args.column c.args.next c.requires.stays c.if-next-column.false c.in_default.not-Dash)
+pub returns-in_default-clause-gives : goal.returns-in_default-clause-gives
+returns-in_default-clause-gives c = absurd (item_stays c.args.column c.args.next c.requires.stays c.if-next-column.false c.in_default.not-Dash)
+
+pub returns-in-Dash-clause-fixes : goal.returns-in-Dash-clause-fixes
+returns-in-Dash-clause-fixes c = λ text seen cut. item_fixes text c.args.at c.args.next seen cut c.in-Dash.is (record { stage = stage.Value; at = c.args.next.behind }) refl
+
+pub returns-in_default-clause-fixes : goal.returns-in_default-clause-fixes
+returns-in_default-clause-fixes c = absurd (item_stays c.args.column c.args.next c.requires.stays c.if-next-column.false c.in_default.not-Dash)

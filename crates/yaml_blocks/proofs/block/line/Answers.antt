@@ -10,20 +10,20 @@ use Rattle.yaml_blocks.proofs.Roots.{not_true}
 use Rattle.yaml_blocks.proofs.BlockGains.{nothing_follows}
 use Rattle.yaml_blocks.proofs.block.line.Goals as goal
 
-pub returns-then-not-next : goal.returns-then-not-next
-returns-then-not-next c = λ text seen inside calm same.
+pub returns-then-not-next-clause-gives : goal.returns-then-not-next-clause-gives
+returns-then-not-next-clause-gives c = λ text seen inside calm same.
     let fs = stack c.args.forms.now.items in
     nothing_follows text fs c.args.builder.now c.args.at c.args.next seen.0 inside (line_quiet text c.args.next fs c.requires.open.1 c.requires.block (not_true c.args.next.fresh c.if-not-next.true))
 
-pub returns-in-Ok : goal.returns-in-Ok
-returns-in-Ok c = λ text seen inside calm same.
+pub returns-in-Ok-clause-gives : goal.returns-in-Ok-clause-gives
+returns-in-Ok-clause-gives c = λ text seen inside calm same.
     let at = c.args.at in
     let u = c.args.builder.now in
     let w = c.end_before.new.builder in
     let gs = stack c.end_before.new.forms.items in
     let ended = c.in-Ok.ensures text at seen.0 in
     gives_from text (Ends text (stack c.args.forms.now.items) u.outer u.done at) (Ends text gs w.outer w.done at) (2 * at + 2) (2 * at + 2) gs c.head.new.builder c.head.result ended.0 (omega arith)
-    (subst (λ (x : List Form). Gives text (Ends text (stack x) w.outer w.done at) (2 * at + 2) (stack x) c.head.new.builder c.head.result) c.deref-in-Ok.ensures.value (c.head.ensures text seen inside (lasts_calm text u w at ended.5 calm) same))
+    (subst (λ (x : List Form). Gives text (Ends text (stack x) w.outer w.done at) (2 * at + 2) (stack x) c.head.new.builder c.head.result) c.deref-in-Ok.ensures.value (c.head.ensures.gives text seen inside (lasts_calm text u w at ended.5 calm) same))
 
 pub head-requires-clause-block : goal.head-requires-clause-block
 head-requires-clause-block c = grind (arith, common_steps)
@@ -31,5 +31,5 @@ head-requires-clause-block c = grind (arith, common_steps)
 pub head-requires-clause-open : goal.head-requires-clause-open
 head-requires-clause-open c = grind (arith, common_steps)
 
-pub returns-in-Err : goal.returns-in-Err
-returns-in-Err c = λ text seen inside calm same. memory_gives text (Ends text (stack c.args.forms.now.items) c.args.builder.now.outer c.args.builder.now.done c.args.at) (2 * c.args.at + 2) (stack c.end_before.new.forms.items) c.end_before.new.builder c.in-Err.refusal (c.in-Err.ensures text c.args.at seen.0)
+pub returns-in-Err-clause-gives : goal.returns-in-Err-clause-gives
+returns-in-Err-clause-gives c = λ text seen inside calm same. memory_gives text (Ends text (stack c.args.forms.now.items) c.args.builder.now.outer c.args.builder.now.done c.args.at) (2 * c.args.at + 2) (stack c.end_before.new.forms.items) c.end_before.new.builder c.in-Err.refusal (c.in-Err.ensures text c.args.at seen.0)

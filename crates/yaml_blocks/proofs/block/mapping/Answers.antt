@@ -5,28 +5,28 @@ use Rattle.yaml_blocks.specs.declared.form.Form.TheVariants.{Entries}
 use Rattle.yaml_blocks.specs.declared.stage.Stage.TheVariants as stage
 use Rattle.yaml_blocks.specs.code.Steps.{stack}
 use Rattle.yaml_blocks.proofs.BlockGains.{mapping_goes, mapping_refused, spot_of}
-use Rattle.yaml_blocks.proofs.SameTexts.{has_key_same}
-use Rattle.yaml_blocks.proofs.AwaitedNodes.{column_before, small_form, small_place, value_awaited}
+use Rattle.yaml_blocks.proofs.AwaitedNodes.{column_before, small_form, small_place, value_awaited, place_behind}
+use Rattle.yaml_blocks.proofs.Fixed.{key_fixes}
 use Rattle.yaml_blocks.proofs.block.mapping.Goals as goal
 
-pub returns-in-Ok-key : goal.returns-in-Ok-key
-returns-in-Ok-key c = λ text w same.
+pub returns-in-Ok-key-clause-gives : goal.returns-in-Ok-key-clause-gives
+returns-in-Ok-key-clause-gives c = λ text w same.
     let fs = stack c.args.forms.now.items in
     let u = c.args.builder.now in
     let words = cow_str_bytes c.args.key.text in
     let b = c.in-Ok.ensures in
-    let k = has_key_same c.args.text.now text c.args.next same.key c.args.key c.requires.key in
+    let k = same.key c.requires.takes c.args.key c.requires.key in
     mapping_goes text fs (stack c.begin.new.forms.items) u c.key.new.self c.args.form c.args.at c.args.key.behind c.args.next words (record { stage = stage.Value; at = c.args.key.behind }) w.seen.0
     (spot_of text fs u c.args.form c.args.at c.args.next w) k.0 c.requires.takes k.2 k.1
     (b.0 ∙ ap (λ n. Entries n ∷ fs) c.column_in-column.ensures) (c.in-Ok-key.ensures.ok.0 ∙ ap (with_key words) b.1) b.2 refl refl
 
-pub returns-in-Err : goal.returns-in-Err
-returns-in-Err c = λ text w same.
+pub returns-in-Err-clause-gives : goal.returns-in-Err-clause-gives
+returns-in-Err-clause-gives c = λ text w same.
     let fs = stack c.args.forms.now.items in
     let u = c.args.builder.now in
     let words = cow_str_bytes c.args.key.text in
     mapping_refused text fs (stack c.begin.new.forms.items) u c.begin.new.builder c.args.form c.args.at c.args.key.behind c.args.next words c.in-Err.refusal w.seen.0
-    (spot_of text fs u c.args.form c.args.at c.args.next w) (has_key_same c.args.text.now text c.args.next same.key c.args.key c.requires.key).0 c.requires.takes c.in-Err.ensures
+    (spot_of text fs u c.args.form c.args.at c.args.next w) (same.key c.requires.takes c.args.key c.requires.key).0 c.requires.takes c.in-Err.ensures
 
 pub column_in-column-requires-clause-small : goal.column_in-column-requires-clause-small
 column_in-column-requires-clause-small c = small_place c.args.text.now (stack c.args.forms.now.items) c.args.builder.now c.args.form c.args.at c.args.next c.requires.awaited
@@ -45,3 +45,6 @@ begin-requires-clause-awaited c = value_awaited c.args.text.now (stack c.args.fo
 
 pub offset-requires : goal.offset-requires
 offset-requires c = small_place c.args.text.now (stack c.args.forms.now.items) c.args.builder.now c.args.form c.args.at c.args.next c.requires.awaited
+
+pub returns-in-Ok-key-clause-fixes : goal.returns-in-Ok-key-clause-fixes
+returns-in-Ok-key-clause-fixes c = key_fixes c.args.text.now c.args.form c.args.at c.args.next c.args.key (record { stage = stage.Value; at = c.args.key.behind }) c.requires.awaited.seen c.requires.awaited.boundary (place_behind c.args.text.now (stack c.args.forms.now.items) c.args.builder.now c.args.form c.args.at c.args.next c.requires.awaited) c.requires.takes c.requires.key c.requires.ends refl

@@ -1,14 +1,18 @@
-use Rattle.std.proofs.Common.{arith}
+use Rattle.doc_values.specs.declared.kind.Kind.TheVariants as kind
+use Rattle.std.proofs.Common.{arith, []}
 use Rattle.std.proofs.lemmas.Grind.{common_steps}
 use Rattle.yaml_blocks.specs.code.Steps.{stack}
 use Rattle.yaml_blocks.proofs.BlockGains.{missing_gives, no_root, spot_of}
+use Rattle.yaml_blocks.proofs.Fixed.{missing_fixes}
+use Rattle.yaml_blocks.proofs.AwaitedNodes.{place_behind}
+use Rattle.doc_values.specs.Unfinished.{with_value}
 use Rattle.yaml_blocks.proofs.block.missing.Goals as goal
 
-pub returns-in-Root : goal.returns-in-Root
-returns-in-Root c = λ text w same. no_root text (stack c.args.forms.now) c.args.builder.now c.args.at c.args.next c.args.form w.seen.0 w.form c.in-Root.is c.requires.none c.requires.unsigned
+pub returns-in-Root-clause-gives : goal.returns-in-Root-clause-gives
+returns-in-Root-clause-gives c = λ text w same. no_root text (stack c.args.forms.now) c.args.builder.now c.args.at c.args.next c.args.form w.seen.0 w.form c.in-Root.is c.requires.none c.requires.unsigned
 
-pub returns-in_default : goal.returns-in_default
-returns-in_default c = λ text w same.
+pub returns-in_default-clause-gives : goal.returns-in_default-clause-gives
+returns-in_default-clause-gives c = λ text w same.
     let fs = stack c.args.forms.now in
     let u = c.args.builder.now in
     missing_gives text fs u c.take_null.new.builder c.args.form c.args.at c.args.next c.take_null.result w.seen.0 w.boundary
@@ -16,3 +20,6 @@ returns-in_default c = λ text w same.
 
 pub take_null-requires : goal.take_null-requires
 take_null-requires c = grind (arith, common_steps)
+
+pub returns-in_default-clause-fixes : goal.returns-in_default-clause-fixes
+returns-in_default-clause-fixes c = missing_fixes c.args.text.now c.args.form c.args.at c.args.next (with_value kind.Null [] c.args.at c.args.builder.now) c.take_null.new.builder c.take_null.result c.requires.awaited.seen c.requires.awaited.boundary (place_behind c.args.text.now (stack c.args.forms.now) c.args.builder.now c.args.form c.args.at c.args.next c.requires.awaited) c.requires.none c.take_null.ensures

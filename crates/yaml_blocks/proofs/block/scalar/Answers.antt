@@ -2,18 +2,19 @@ use Rattle.std.proofs.Common.{sym, subst}
 use Rattle.yaml_blocks.specs.Nodes.{follows_get_att, setting_of}
 use Rattle.yaml_blocks.specs.code.Steps.{stack, Holds}
 use Rattle.yaml_blocks.proofs.BlockGains.{scalar_gives, spot_of}
-use Rattle.yaml_blocks.proofs.SameTexts.{holds_same, no_key_same}
+use Rattle.yaml_blocks.proofs.SameTexts.{holds_same}
 use Rattle.yaml_blocks.proofs.AwaitedNodes.{place_behind, small_form, value_awaited}
+use Rattle.yaml_blocks.proofs.Fixed.{scalar_fixes}
 use Rattle.yaml_blocks.proofs.block.scalar.Goals as goal
 
-pub returns : goal.returns
-returns c = λ text w same.
+pub returns-clause-gives : goal.returns-clause-gives
+returns-clause-gives c = λ text w same.
     let fs = stack c.args.forms.now in
     let u = c.args.builder.now in
     scalar_gives text fs u c.take_scalar.new.builder c.args.form c.args.at c.args.next c.take_scalar.result w.seen.0
-    (spot_of text fs u c.args.form c.args.at c.args.next w) c.requires.starts c.requires.takes (λ h. no_key_same c.args.text.now text c.args.next same.key (c.requires.no_key h))
+    (spot_of text fs u c.args.form c.args.at c.args.next w) c.requires.starts c.requires.takes (λ h. same.none h (c.requires.no_key h))
     (subst (λ q. Holds text (setting_of c.args.form) q c.args.next u c.take_scalar.new.builder c.take_scalar.result) (sym same.cuts)
-    (holds_same c.args.text.now text (setting_of c.args.form) c.args.next same.scalar (follows_get_att c.args.text.now c.args.form c.args.at) u c.take_scalar.new.builder c.take_scalar.result c.take_scalar.ensures))
+    (holds_same c.args.text.now text (setting_of c.args.form) c.args.next (same.scalar c.requires.takes c.requires.no_key) (follows_get_att c.args.text.now c.args.form c.args.at) u c.take_scalar.new.builder c.take_scalar.result c.take_scalar.ensures))
 
 pub take_scalar-requires-clause-form : goal.take_scalar-requires-clause-form
 take_scalar-requires-clause-form c = small_form c.args.text.now (stack c.args.forms.now) c.args.builder.now c.args.form c.args.at c.args.next c.requires.awaited
@@ -23,3 +24,6 @@ take_scalar-requires-clause-behind c = place_behind c.args.text.now (stack c.arg
 
 pub take_scalar-requires-clause-awaited : goal.take_scalar-requires-clause-awaited
 take_scalar-requires-clause-awaited c = value_awaited c.args.text.now (stack c.args.forms.now) c.args.builder.now c.args.form c.args.at c.args.next c.requires.awaited
+
+pub returns-clause-fixes : goal.returns-clause-fixes
+returns-clause-fixes c = scalar_fixes c.args.text.now c.args.form c.args.at c.args.next (follows_get_att c.args.text.now c.args.form c.args.at) c.args.builder.now c.take_scalar.new.builder c.take_scalar.result c.utf8.text c.requires.awaited.seen c.requires.awaited.boundary (place_behind c.args.text.now (stack c.args.forms.now) c.args.builder.now c.args.form c.args.at c.args.next c.requires.awaited) c.requires.awaited.block c.requires.no_key c.take_scalar.ensures

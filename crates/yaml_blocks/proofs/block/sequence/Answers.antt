@@ -3,11 +3,12 @@ use Rattle.yaml_blocks.specs.declared.form.Form.TheVariants.{Items}
 use Rattle.yaml_blocks.specs.declared.stage.Stage.TheVariants as stage
 use Rattle.yaml_blocks.specs.code.Steps.{stack}
 use Rattle.yaml_blocks.proofs.BlockGains.{sequence_goes, sequence_refused, spot_of}
-use Rattle.yaml_blocks.proofs.AwaitedNodes.{column_before, small_form, small_place, value_awaited}
+use Rattle.yaml_blocks.proofs.AwaitedNodes.{column_before, small_form, small_place, value_awaited, place_behind}
+use Rattle.yaml_blocks.proofs.Fixed.{dash_fixes}
 use Rattle.yaml_blocks.proofs.block.sequence.Goals as goal
 
-pub returns-in-Ok : goal.returns-in-Ok
-returns-in-Ok c = λ text w same.
+pub returns-in-Ok-clause-gives : goal.returns-in-Ok-clause-gives
+returns-in-Ok-clause-gives c = λ text w same.
     let fs = stack c.args.forms.now.items in
     let u = c.args.builder.now in
     let b = c.in-Ok.ensures in
@@ -15,8 +16,8 @@ returns-in-Ok c = λ text w same.
     (spot_of text fs u c.args.form c.args.at c.args.next w) c.requires.dash c.requires.takes
     (b.0 ∙ ap (λ n. Items n ∷ fs) c.column_in-column.ensures) b.1 b.2 refl refl
 
-pub returns-in-Err : goal.returns-in-Err
-returns-in-Err c = λ text w same.
+pub returns-in-Err-clause-gives : goal.returns-in-Err-clause-gives
+returns-in-Err-clause-gives c = λ text w same.
     let fs = stack c.args.forms.now.items in
     let u = c.args.builder.now in
     sequence_refused text fs (stack c.begin.new.forms.items) u c.begin.new.builder c.args.form c.args.at c.args.next c.in-Err.refusal w.seen.0
@@ -36,3 +37,6 @@ begin-requires-clause-small c = small_place c.args.text.now (stack c.args.forms.
 
 pub begin-requires-clause-awaited : goal.begin-requires-clause-awaited
 begin-requires-clause-awaited c = value_awaited c.args.text.now (stack c.args.forms.now.items) c.args.builder.now c.args.form c.args.at c.args.next c.requires.awaited
+
+pub returns-in-Ok-clause-fixes : goal.returns-in-Ok-clause-fixes
+returns-in-Ok-clause-fixes c = dash_fixes c.args.text.now c.args.form c.args.at c.args.next c.requires.awaited.seen c.requires.awaited.boundary (place_behind c.args.text.now (stack c.args.forms.now.items) c.args.builder.now c.args.form c.args.at c.args.next c.requires.awaited) c.requires.dash (record { stage = stage.Value; at = c.args.next.behind }) refl

@@ -3,19 +3,23 @@ use Rattle.yaml_blocks.specs.code.Steps.{stack}
 use Rattle.yaml_blocks.proofs.Gains.{tag_cut}
 use Rattle.yaml_blocks.proofs.BlockGains.{tag_gives, spot_of}
 use Rattle.yaml_blocks.proofs.SameTexts.{tag_same}
-use Rattle.yaml_blocks.proofs.AwaitedNodes.{small_form}
+use Rattle.yaml_blocks.proofs.AwaitedNodes.{small_form, place_behind}
+use Rattle.yaml_blocks.proofs.Fixed.{tag_fixes}
 use Rattle.yaml_blocks.proofs.block.tag.Goals as goal
 
 pub begin_tag-requires-clause-first : goal.begin_tag-requires-clause-first
 begin_tag-requires-clause-first c = tag_cut c.args.text.now false c.args.at c.args.len c.args.next c.requires.awaited.seen c.requires.tag
 
-pub returns : goal.returns
-returns c = λ text w same.
+pub returns-clause-gives : goal.returns-clause-gives
+returns-clause-gives c = λ text w same.
     let fs = stack c.args.forms.now.items in
     let u = c.args.builder.now in
     tag_gives text fs (stack c.begin_tag.new.forms.items) u c.begin_tag.new.builder c.args.form c.tagged.result c.args.at c.args.len c.args.next c.begin_tag.result w.seen.0
     (spot_of text fs u c.args.form c.args.at c.args.next w) c.requires.tag c.requires.takes c.tagged.ensures
-    (tag_same c.args.text.now text c.tagged.result c.args.next fs (stack c.begin_tag.new.forms.items) u c.begin_tag.new.builder c.begin_tag.result same.name c.begin_tag.ensures)
+    (tag_same c.args.text.now text c.tagged.result c.args.next fs (stack c.begin_tag.new.forms.items) u c.begin_tag.new.builder c.begin_tag.result (same.name c.args.len c.requires.takes c.requires.tag) c.begin_tag.ensures)
 
 pub tagged-requires : goal.tagged-requires
 tagged-requires c = small_form c.args.text.now (stack c.args.forms.now.items) c.args.builder.now c.args.form c.args.at c.args.next c.requires.awaited
+
+pub returns-clause-fixes : goal.returns-clause-fixes
+returns-clause-fixes c = tag_fixes c.args.text.now c.args.form c.tagged.result c.args.at c.args.len c.args.next (stack c.args.forms.now.items) (stack c.begin_tag.new.forms.items) c.args.builder.now c.begin_tag.new.builder c.begin_tag.result c.requires.awaited.seen c.requires.awaited.boundary (place_behind c.args.text.now (stack c.args.forms.now.items) c.args.builder.now c.args.form c.args.at c.args.next c.requires.awaited) c.requires.tag c.begin_tag.ensures

@@ -8,8 +8,8 @@ use Rattle.yaml_blocks.proofs.Gains.{memory_gives}
 use Rattle.yaml_blocks.proofs.BlockGains.{spot_of, tag_again_gives, no_tag_again}
 use Rattle.yaml_blocks.proofs.block.tag_again.Goals as goal
 
-pub returns-then-is_entry_column : goal.returns-then-is_entry_column
-returns-then-is_entry_column c = λ text v same.
+pub returns-then-is_entry_column-clause-gives : goal.returns-then-is_entry_column-clause-gives
+returns-then-is_entry_column-clause-gives c = λ text v same.
     let fs = stack c.args.forms.now.items in
     let gs = stack c.end_before.new.forms.items in
     let u = c.args.builder.now in
@@ -25,8 +25,8 @@ returns-then-is_entry_column c = λ text v same.
       subst (λ z. Ended text fs z next c.args.at gs w (Ok tt)) c.in-Ok.ensures.2 (c.in-Ok-end_before.ensures text c.args.at v.seen.0),
     ) c.offset.ensures (sym found ∙ c.is_entry_column.ensures.yes c.if-is_entry_column.true)
 
-pub returns : goal.returns
-returns c = λ text v same.
+pub returns-clause-gives : goal.returns-clause-gives
+returns-clause-gives c = λ text v same.
     let fs = stack c.args.forms.now.items in
     let gs = stack c.end_before.new.forms.items in
     let u = c.args.builder.now in
@@ -48,8 +48,8 @@ end_before-requires-clause-block c = grind (arith, common_steps)
 pub end_before-requires-clause-open : goal.end_before-requires-clause-open
 end_before-requires-clause-open c = grind (arith, common_steps)
 
-pub returns-in-Err-end_before : goal.returns-in-Err-end_before
-returns-in-Err-end_before c = λ text v same.
+pub returns-in-Err-end_before-clause-gives : goal.returns-in-Err-end_before-clause-gives
+returns-in-Err-end_before-clause-gives c = λ text v same.
     let u = c.args.builder.now in
     let fs = stack c.args.forms.now.items in
     memory_gives text (Awaits text fs u.outer u.done u.key c.args.at) (2 * c.args.at + 1) (stack c.end_before.new.forms.items) c.end_before.new.builder c.in-Err-end_before.refusal (c.in-Err-end_before.ensures text c.args.at v.seen.0)

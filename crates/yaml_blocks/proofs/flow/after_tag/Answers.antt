@@ -23,11 +23,11 @@ unreachable-requires-in_default-innermost c =
     let p = tag_popped c.args.place (stack c.args.forms.now.items) (stack c.pop.new.self.items) c.args.builder.now c.end.new.self (c.in-Some.field-0, e, c.requires.form, c.requires.open) c.in-Ok.ensures.ok in
     c.in_default-innermost.not-Flow p.2.0 (c.innermost.ensures ∙ ap (λ (x : List Form). top (stack x)) c.deref.ensures.value ∙ p.2.1)
 
-pub returns : goal.returns
-returns c = λ text seen.
+pub returns-clause-gives : goal.returns-clause-gives
+returns-clause-gives c = λ text seen.
     let e = stack_grown c.args.forms.now.items c.pop.new.self.items c.in-Some.field-0 c.in-Some.ensures.items in
     tag_gives text c.args.place (stack c.args.forms.now.items) (stack c.pop.new.self.items) (stack c.after.new.forms.items) c.args.builder.now c.end.new.self c.after.new.builder c.args.at c.after.result
-    (c.in-Some.field-0, e, c.requires.form, c.requires.open) c.in-Ok.ensures.ok (c.after.ensures text seen)
+    (c.in-Some.field-0, e, c.requires.form, c.requires.open) c.in-Ok.ensures.ok (c.after.ensures.gives text seen)
 
 pub after-requires-clause-boundary : goal.after-requires-clause-boundary
 after-requires-clause-boundary c = grind (arith, common_steps)

@@ -7,32 +7,34 @@ use Rattle.yaml_blocks.specs.declared.form.Form.{Form}
 use Rattle.yaml_blocks.specs.code.Rest.{Enters}
 use Rattle.yaml_blocks.specs.code.Steps.{stack, Gives, IsSeen, SameFlowNode, SameFlowKey}
 use Rattle.yaml_blocks.proofs.Gains.{closed_entry_gives, marked_entry_gives, item_gives}
+use Rattle.yaml_blocks.proofs.Fixed.{closed_fixes, node_entry_fixes, key_entry_fixes}
+use Rattle.yaml_blocks.specs.code.Twins.{FixesEntry}
 use Rattle.yaml_blocks.proofs.flow.entry.Goals as goal
 
-pub returns-then-closes : goal.returns-then-closes
-returns-then-closes c = λ text seen key node.
+pub returns-then-closes-clause-gives : goal.returns-then-closes-clause-gives
+returns-then-closes-clause-gives c = λ text seen key node.
     let now = subst (λ (a : Ahead). IsSeen text true c.args.at a) (sym c.look-next.ensures.0) seen in
     closed_entry_gives text c.args.map (stack c.args.forms.now.items) (stack c.close.new.forms.items) c.args.builder.now c.close.new.builder c.args.at c.look-next.result c.close.result now (c.closes.ensures.yes c.if-closes.true) c.requires.form
     c.requires.open c.close.ensures
 
-pub returns-else-map : goal.returns-else-map
-returns-else-map c = λ text seen key node.
+pub returns-else-map-clause-gives : goal.returns-else-map-clause-gives
+returns-else-map-clause-gives c = λ text seen key node.
     let now = subst (λ (a : Ahead). IsSeen text true c.args.at a) (sym c.look-next.ensures.0) seen in
     item_gives text (stack c.args.forms.now.items) (stack c.node.new.forms.items) c.args.builder.now c.node.new.builder c.args.at c.look-next.result c.node.result now.0 (c.requires.form ∙ ap Flow c.if-map.false) c.requires.open
     (λ h. c.closes.ensures.no c.if-closes.false (h ∙ ap Closes (sym c.if-map.false))) (sym c.is_marked.ensures ∙ c.if-is_marked.false) c.requires.awaited
-    (c.node.ensures text now (subst (λ (a : Ahead). SameFlowNode c.args.text.now text (Flow false) c.args.at a) (sym c.look-next.ensures.0) node))
+    (c.node.ensures.gives text now (subst (λ (a : Ahead). SameFlowNode c.args.text.now text (Flow false) c.args.at a) (sym c.look-next.ensures.0) (node c.if-map.false)))
 
-pub returns-then-is_marked : goal.returns-then-is_marked
-returns-then-is_marked c = λ text seen key node.
+pub returns-then-is_marked-clause-gives : goal.returns-then-is_marked-clause-gives
+returns-then-is_marked-clause-gives c = λ text seen key node.
     let now = subst (λ (a : Ahead). IsSeen text true c.args.at a) (sym c.look-next.ensures.0) seen in
     marked_entry_gives text c.args.map (stack c.args.forms.now.items) c.args.builder.now c.args.at c.offset.result c.look-next.result now.0 c.offset.ensures (sym c.is_marked.ensures ∙ c.if-is_marked.true) c.requires.form c.requires.open
 
-pub returns-then-map : goal.returns-then-map
-returns-then-map c = λ text seen key node.
+pub returns-then-map-clause-gives : goal.returns-then-map-clause-gives
+returns-then-map-clause-gives c = λ text seen key node.
     let now = subst (λ (a : Ahead). IsSeen text true c.args.at a) (sym c.look-next.ensures.0) seen in
     let at = c.args.at in
     let u = c.args.builder.now in
-    subst (λ (x : List Form). Gives text (Enters text (stack x) u.outer u.done at) (2 * at + 2) (stack x) c.key.new.builder c.key.result) c.deref.ensures.value (c.key.ensures text now (subst (λ (a : Ahead). SameFlowKey c.args.text.now text a) (sym c.look-next.ensures.0) key))
+    subst (λ (x : List Form). Gives text (Enters text (stack x) u.outer u.done at) (2 * at + 2) (stack x) c.key.new.builder c.key.result) c.deref.ensures.value (c.key.ensures.gives text now (subst (λ (a : Ahead). SameFlowKey c.args.text.now text a) (sym c.look-next.ensures.0) (key c.if-map.true)))
 
 pub key-requires-clause-open : goal.key-requires-clause-open
 key-requires-clause-open c = grind (arith, common_steps)
@@ -42,3 +44,12 @@ key-requires-clause-there c = grind (arith, common_steps)
 
 pub node-requires-clause-awaited : goal.node-requires-clause-awaited
 node-requires-clause-awaited c = grind (arith, common_steps)
+
+pub returns-then-closes-clause-fixes : goal.returns-then-closes-clause-fixes
+returns-then-closes-clause-fixes c = subst (λ (a : Ahead). FixesEntry c.args.text.now c.args.map c.args.at a c.close.result) c.look-next.ensures.0 (closed_fixes c.args.text.now c.args.at c.args.map c.look-next.result (stack c.args.forms.now.items) (stack c.close.new.forms.items) c.args.builder.now c.close.new.builder c.close.result c.look-next.ensures c.requires.boundary (c.closes.ensures.yes c.if-closes.true) c.close.ensures)
+
+pub returns-else-map-clause-fixes : goal.returns-else-map-clause-fixes
+returns-else-map-clause-fixes c = subst (λ (a : Ahead). FixesEntry c.args.text.now c.args.map c.args.at a c.node.result) c.look-next.ensures.0 (node_entry_fixes c.args.text.now c.args.at c.look-next.result c.args.map c.node.result c.if-map.false c.node.ensures.fixes)
+
+pub returns-then-map-clause-fixes : goal.returns-then-map-clause-fixes
+returns-then-map-clause-fixes c = subst (λ (a : Ahead). FixesEntry c.args.text.now c.args.map c.args.at a c.key.result) c.look-next.ensures.0 (key_entry_fixes c.args.text.now c.args.at c.look-next.result c.args.map c.key.result c.if-map.true c.key.ensures.fixes)

@@ -13,14 +13,15 @@ use Rattle.yaml_blocks.specs.declared.form.Form.TheVariants.{Flow}
 use Rattle.yaml_blocks.proofs.Forms.{awaits_key}
 use Rattle.yaml_blocks.proofs.SameTexts.{found_same, finds_same, colon_there, colon_here, colon_last}
 use Rattle.yaml_blocks.proofs.Gains.{key_gives, key_signed_gives, find_refused, found_key, no_colon, key_refused}
+use Rattle.yaml_blocks.proofs.Fixed.{flow_key_fixes}
 use Rattle.yaml_blocks.proofs.flow.key.Goals as goal
 
-pub returns-in-Err : goal.returns-in-Err
-returns-in-Err c = λ text seen same. find_refused text (stack c.args.forms.now) c.args.builder.now c.args.builder.now c.args.at c.args.next c.as_key.result c.in-Err.refusal c.as_key.ensures seen.0 c.requires.there c.in-None.ensures c.requires.unmarked c.requires.form c.requires.open
+pub returns-in-Err-clause-gives : goal.returns-in-Err-clause-gives
+returns-in-Err-clause-gives c = λ text seen same. find_refused text (stack c.args.forms.now) c.args.builder.now c.args.builder.now c.args.at c.args.next c.as_key.result c.in-Err.refusal c.as_key.ensures seen.0 c.requires.there c.in-None.ensures c.requires.unmarked c.requires.form c.requires.open
     (finds_same c.args.text.now text c.as_key.result c.args.next (subst (λ z. SameScalar c.args.text.now text z c.args.next) (sym c.as_key.ensures) same.scalar) c.in-Err.refusal c.in-Err.ensures)
 
-pub returns-in-None-colon : goal.returns-in-None-colon
-returns-in-None-colon c = λ text seen same.
+pub returns-in-None-colon-clause-gives : goal.returns-in-None-colon-clause-gives
+returns-in-None-colon-clause-gives c = λ text seen same.
     let this = c.args.text.now in
     let words = cow_str_bytes c.in-Ok.scalar.text in
     let quoted : c.is_quoted.result ≡ begins_quoted (drop c.args.next.at this) = c.is_quoted.ensures ∙ ap (λ (t : List ℕ). begins_quoted (drop c.args.next.at t)) c.as_bytes.ensures.value in
@@ -29,8 +30,8 @@ returns-in-None-colon c = λ text seen same.
     no_colon text (stack c.args.forms.now) c.args.builder.now.outer c.args.builder.now.done c.args.at c.in-Ok.scalar.end c.args.next words seen.0 c.requires.there c.requires.form c.requires.open.0 f.0 c.in-Ok-key.ensures.ok.1
     (λ p h. c.in-None-colon.ensures p (colon_here this text c.args.next same words c.in-Ok.scalar.end g.0 c.is_quoted.result p quoted h))
 
-pub returns-in-Some-colon : goal.returns-in-Some-colon
-returns-in-Some-colon c = λ text seen same.
+pub returns-in-Some-colon-clause-gives : goal.returns-in-Some-colon-clause-gives
+returns-in-Some-colon-clause-gives c = λ text seen same.
     let this = c.args.text.now in
     let words = cow_str_bytes c.in-Ok.scalar.text in
     let place = c.in-Some-colon.place in
@@ -43,8 +44,8 @@ returns-in-Some-colon c = λ text seen same.
     f h.2 (colon_last this text c.args.next same words c.in-Ok.scalar.end g.0 c.is_quoted.result place h.0 h.1 f.3)
     (colon_there this text c.args.next same words c.in-Ok.scalar.end g.0 c.is_quoted.result place quoted h.0) k.ok.1 refl refl k.ok.0
 
-pub returns-in-Err-key : goal.returns-in-Err-key
-returns-in-Err-key c = λ text seen same.
+pub returns-in-Err-key-clause-gives : goal.returns-in-Err-key-clause-gives
+returns-in-Err-key-clause-gives c = λ text seen same.
     let this = c.args.text.now in
     let words = cow_str_bytes c.in-Ok.scalar.text in
     let u = c.args.builder.now in
@@ -58,10 +59,20 @@ returns-in-Err-key c = λ text seen same.
 pub key-requires : goal.key-requires
 key-requires c = record { awaited = awaits_key (Flow true) (stack c.args.forms.now) c.args.builder.now c.requires.form (λ e. absurd (cc)) refl c.requires.open.0 c.requires.awaited }
 
-pub returns-in-Some : goal.returns-in-Some
-returns-in-Some c = λ text seen same.
+pub returns-in-Some-clause-gives : goal.returns-in-Some-clause-gives
+returns-in-Some-clause-gives c = λ text seen same.
     let fs = stack c.args.forms.now in
     key_signed_gives text (2 * c.args.at + 2) fs fs c.args.builder.now c.args.builder.now c.args.at c.args.next c.in-Some.refusal seen.0 c.requires.there c.requires.unmarked c.requires.form c.requires.open c.in-Some.ensures
 
 pub colon-requires-clause-boundary : goal.colon-requires-clause-boundary
 colon-requires-clause-boundary c = grind (arith, common_steps)
+
+pub returns-in-Some-colon-clause-fixes : goal.returns-in-Some-colon-clause-fixes
+returns-in-Some-colon-clause-fixes c =
+    let this = c.args.text.now in
+    let words = cow_str_bytes c.in-Ok.scalar.text in
+    let end = c.in-Ok.scalar.end in
+    let place = c.in-Some-colon.place in
+    let g = found_key this c.as_key.result (as_key true) c.args.next words c.in-Ok.scalar.kind end c.as_key.ensures c.in-Ok.ensures in
+    let h = c.in-Some-colon.ensures in
+    flow_key_fixes this c.args.at c.args.next c.is_quoted.result words place end (record { stage = stage.Value; at = place }) c.requires.seen c.requires.boundary g.0 g.2 g.3 h.0 h.1 refl

@@ -4,17 +4,18 @@ use Rattle.yaml_blocks.specs.code.Steps.{stack, Holds}
 use Rattle.yaml_blocks.specs.Nodes.{follows_get_att, setting_of}
 use Rattle.yaml_blocks.proofs.SameTexts.{holds_same}
 use Rattle.yaml_blocks.proofs.Gains.{flow_spot, flow_signed_gives, tag_allowed, opened_gives, holds_gives}
+use Rattle.yaml_blocks.proofs.Fixed.{flow_opens_fixes, flow_scalar_fixes}
 use Rattle.yaml_blocks.proofs.flow.node.Goals as goal
 
-pub returns-in-Some : goal.returns-in-Some
-returns-in-Some c = λ text seen same.
+pub returns-in-Some-clause-gives : goal.returns-in-Some-clause-gives
+returns-in-Some-clause-gives c = λ text seen same.
     let fs = stack c.args.forms.now.items in
     let u = c.args.builder.now in
     flow_signed_gives text (2 * c.args.at + 2) fs fs u u c.args.form c.is_tagged.result c.args.at c.args.next c.in-Some.refusal seen.0
     (flow_spot text fs u c.args.form c.args.at c.args.next seen c.requires.form c.requires.flow c.requires.open) c.is_tagged.ensures c.in-Some.ensures
 
-pub returns-in-Opens : goal.returns-in-Opens
-returns-in-Opens c = λ text seen same.
+pub returns-in-Opens-clause-gives : goal.returns-in-Opens-clause-gives
+returns-in-Opens-clause-gives c = λ text seen same.
     let fs = stack c.args.forms.now.items in
     let u = c.args.builder.now in
     opened_gives text fs (stack c.open.new.forms.items) u c.open.new.builder c.args.form c.args.at c.args.next c.in-Opens.map c.open.result seen.0
@@ -23,8 +24,8 @@ returns-in-Opens c = λ text seen same.
 pub tag-requires-clause-takes : goal.tag-requires-clause-takes
 tag-requires-clause-takes c = tag_allowed c.args.form c.is_tagged.result c.args.next.at c.in-Tag.len c.args.next.token c.requires.flow c.is_tagged.ensures c.in-Tag.is c.in-None.ensures
 
-pub returns-in_default : goal.returns-in_default
-returns-in_default c = λ text seen same.
+pub returns-in_default-clause-gives : goal.returns-in_default-clause-gives
+returns-in_default-clause-gives c = λ text seen same.
     let fs = stack c.args.forms.now.items in
     let u = c.args.builder.now in
     holds_gives text fs u c.take_scalar.new.builder c.args.form c.is_tagged.result c.args.at c.args.next c.take_scalar.result seen.0
@@ -35,5 +36,11 @@ returns-in_default c = λ text seen same.
 pub take_scalar-requires : goal.take_scalar-requires
 take_scalar-requires c = grind (arith, common_steps)
 
-pub returns-in-Tag : goal.returns-in-Tag
-returns-in-Tag c = λ text seen same. c.tag.ensures text seen same.name
+pub returns-in-Tag-clause-gives : goal.returns-in-Tag-clause-gives
+returns-in-Tag-clause-gives c = λ text seen same. c.tag.ensures.gives text seen (same.name c.in-Tag.len c.in-Tag.is)
+
+pub returns-in-Opens-clause-fixes : goal.returns-in-Opens-clause-fixes
+returns-in-Opens-clause-fixes c = flow_opens_fixes c.args.text.now c.args.form c.args.at c.in-Opens.map c.args.next (stack c.args.forms.now.items) (stack c.open.new.forms.items) c.args.builder.now c.open.new.builder c.open.result c.requires.seen c.requires.boundary c.requires.behind c.in-Opens.is c.open.ensures
+
+pub returns-in_default-clause-fixes : goal.returns-in_default-clause-fixes
+returns-in_default-clause-fixes c = flow_scalar_fixes c.args.text.now c.args.form c.args.at c.args.next (follows_get_att c.args.text.now c.args.form c.args.at) c.args.builder.now c.take_scalar.new.builder c.take_scalar.result c.requires.seen c.requires.boundary c.requires.behind c.take_scalar.ensures

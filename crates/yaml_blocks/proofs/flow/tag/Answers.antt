@@ -3,15 +3,19 @@ use Rattle.yaml_blocks.specs.code.Steps.{stack}
 use Rattle.yaml_blocks.specs.declared.form.Form.TheVariants.{FlowTagged}
 use Rattle.yaml_blocks.proofs.SameTexts.{tag_same}
 use Rattle.yaml_blocks.proofs.Gains.{flow_spot, flow_tag_gives, tag_cut, tag_flow}
+use Rattle.yaml_blocks.proofs.Fixed.{flow_tag_fixes}
 use Rattle.yaml_blocks.proofs.flow.tag.Goals as goal
 
 pub begin_tag-requires-clause-first : goal.begin_tag-requires-clause-first
 begin_tag-requires-clause-first c = tag_cut c.args.text.now true c.args.at c.args.len c.args.next c.requires.seen c.requires.tag
 
-pub returns : goal.returns
-returns c = λ text seen name.
+pub returns-clause-gives : goal.returns-clause-gives
+returns-clause-gives c = λ text seen name.
     let fs = stack c.args.forms.now.items in
     let u = c.args.builder.now in
     flow_tag_gives text fs (stack c.begin_tag.new.forms.items) u c.begin_tag.new.builder c.args.form c.args.at c.args.len c.args.next c.begin_tag.result seen.0
     (flow_spot text fs u c.args.form c.args.at c.args.next seen c.requires.form (tag_flow c.args.form c.requires.takes) c.requires.open) c.requires.tag c.requires.takes
     (tag_same c.args.text.now text (FlowTagged c.args.next.at) c.args.next fs (stack c.begin_tag.new.forms.items) u c.begin_tag.new.builder c.begin_tag.result name c.begin_tag.ensures)
+
+pub returns-clause-fixes : goal.returns-clause-fixes
+returns-clause-fixes c = flow_tag_fixes c.args.text.now c.args.form (FlowTagged c.args.next.at) c.args.at c.args.len c.args.next (stack c.args.forms.now.items) (stack c.begin_tag.new.forms.items) c.args.builder.now c.begin_tag.new.builder c.begin_tag.result c.requires.seen c.requires.boundary c.requires.behind c.requires.tag c.begin_tag.ensures

@@ -3,6 +3,7 @@ use Rattle.yaml_blocks.proofs.Gains.{seen_behind, untold}
 use Rattle.yaml_blocks.proofs.Roots.{start_refused, start_solid, marked_refused, starts_behind, starts_there}
 use Rattle.yaml_blocks.specs.declared.refusal.YamlRefusal.TheVariants.{NoMemory}
 use Rattle.yaml_blocks.specs.Yaml.{start_sign}
+use Rattle.yaml_blocks.proofs.Lives.{fixed_behind, fixed_there}
 use Rattle.yaml_blocks.proofs.read.document_start.Goals as goal
 
 pub returns-in-Some-clause-start : goal.returns-in-Some-clause-start
@@ -30,3 +31,14 @@ returns-in_default-clause-start c =
 
 pub returns-in-Some-clause-no_memory : goal.returns-in-Some-clause-no_memory
 returns-in-Some-clause-no_memory c want = let same : c.in-Some.refusal ≡ NoMemory = cc in start_solid c.args.text.now c.in-Some.refusal c.in-Some.ensures same
+
+pub returns-then-look-clause-fixes : goal.returns-then-look-clause-fixes
+returns-then-look-clause-fixes c =
+    let text = c.args.text.now in
+    let next = c.look-next.result in
+    fixed_behind text c.text_start-at.result next.behind next c.look.result c.text_start-at.ensures.is c.text_start-at.ensures.boundary c.look-next.ensures.0 refl (seen_behind text false c.text_start-at.result next c.look-next.ensures) c.look.ensures.0 c.in-Dashes.is c.if-look.true
+
+pub returns-in_default-clause-fixes : goal.returns-in_default-clause-fixes
+returns-in_default-clause-fixes c =
+    let text = c.args.text.now in
+    fixed_there text c.text_start-at.result c.look-next.result c.text_start-at.ensures.is c.text_start-at.ensures.boundary c.look-next.ensures.0 c.in_default.not-Dashes

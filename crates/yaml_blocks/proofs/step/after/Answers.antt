@@ -4,25 +4,43 @@ use Rattle.yaml_blocks.specs.code.Rest.{top}
 use Rattle.yaml_blocks.specs.code.Steps.{stack, IsFlow, IsBlock}
 use Rattle.yaml_blocks.proofs.Forms.{block_of}
 use Rattle.yaml_blocks.proofs.SameTexts.{seen_alike}
+use Rattle.yaml_blocks.proofs.Fixed.{after_step, flow_after_step}
+use Rattle.yaml_blocks.specs.code.Twins.{FixesStep}
+use Rattle.yaml_blocks.specs.declared.stage.Stage.TheVariants as stage
 use Rattle.yaml_blocks.proofs.step.after.Goals as goal
 
-pub returns-in-Flow : goal.returns-in-Flow
-returns-in-Flow c = λ other utf8 cut fits same.
+pub returns-in-Flow-clause-gives : goal.returns-in-Flow-clause-gives
+returns-in-Flow-clause-gives c = λ other utf8 cut fits same.
     let found = c.innermost.ensures ∙ ap (λ (x : List Form). top (stack x)) c.deref.ensures.value in
     let flow = subst IsFlow (sym c.in-Flow.is ∙ found) tt in
-    c.after.ensures other (seen_alike c.args.text.now other true c.args.at utf8 cut (same.0 flow))
+    c.after.ensures.gives other (seen_alike c.args.text.now other true c.args.at utf8 cut (same.0 flow))
 
-pub returns-in-FlowTagged : goal.returns-in-FlowTagged
-returns-in-FlowTagged c = λ other utf8 cut fits same.
+pub returns-in-FlowTagged-clause-gives : goal.returns-in-FlowTagged-clause-gives
+returns-in-FlowTagged-clause-gives c = λ other utf8 cut fits same.
     let found = c.innermost.ensures ∙ ap (λ (x : List Form). top (stack x)) c.deref.ensures.value in
     let flow = subst IsFlow (sym c.in-FlowTagged.is ∙ found) tt in
-    c.after_tag.ensures other (seen_alike c.args.text.now other true c.args.at utf8 cut (same.0 flow))
+    c.after_tag.ensures.gives other (seen_alike c.args.text.now other true c.args.at utf8 cut (same.0 flow))
 
-pub returns-in_default : goal.returns-in_default
-returns-in_default c = λ other utf8 cut fits same.
+pub returns-in_default-clause-gives : goal.returns-in_default-clause-gives
+returns-in_default-clause-gives c = λ other utf8 cut fits same.
     let text = c.args.text.now in
     let at = c.args.at in
     let found = c.innermost.ensures ∙ ap (λ (x : List Form). top (stack x)) c.deref.ensures.value in
     let block = subst IsBlock found (block_of c.innermost.result c.in_default.not-Flow c.in_default.not-FlowTagged) in
     let alike = same.1 block in
-    c.after-in_default.ensures other alike.0 (seen_alike text other false at utf8 cut alike.0.here) cut (fits.2 block) alike.1
+    c.after-in_default.ensures.gives other alike.0 (seen_alike text other false at utf8 cut alike.0.here) cut (fits.2 block) alike.1
+
+pub returns-in-Flow-clause-fixes : goal.returns-in-Flow-clause-fixes
+returns-in-Flow-clause-fixes c =
+    let found = c.innermost.ensures ∙ ap (λ (x : List Form). top (stack x)) c.deref.ensures.value in
+    subst (λ (f : Form). FixesStep c.args.text.now stage.After f c.args.at c.after.result) found (flow_after_step c.args.text.now c.innermost.result c.args.at c.after.result (subst IsFlow (sym c.in-Flow.is) tt) c.requires.boundary c.after.ensures.fixes)
+
+pub returns-in-FlowTagged-clause-fixes : goal.returns-in-FlowTagged-clause-fixes
+returns-in-FlowTagged-clause-fixes c =
+    let found = c.innermost.ensures ∙ ap (λ (x : List Form). top (stack x)) c.deref.ensures.value in
+    subst (λ (f : Form). FixesStep c.args.text.now stage.After f c.args.at c.after_tag.result) found (flow_after_step c.args.text.now c.innermost.result c.args.at c.after_tag.result (subst IsFlow (sym c.in-FlowTagged.is) tt) c.requires.boundary c.after_tag.ensures.fixes)
+
+pub returns-in_default-clause-fixes : goal.returns-in_default-clause-fixes
+returns-in_default-clause-fixes c =
+    let found = c.innermost.ensures ∙ ap (λ (x : List Form). top (stack x)) c.deref.ensures.value in
+    subst (λ (f : Form). FixesStep c.args.text.now stage.After f c.args.at c.after-in_default.result) found (after_step c.args.text.now c.innermost.result c.args.at c.after-in_default.result (block_of c.innermost.result c.in_default.not-Flow c.in_default.not-FlowTagged) c.after-in_default.ensures.fixes)

@@ -1,6 +1,18 @@
-use Rattle.std.proofs.Common.{true}
+use Rattle.std.proofs.Common.{true, List, sym, ap, ◌∙◌}
+use Rattle.yaml_blocks.specs.declared.form.Form.{Form}
+use Rattle.yaml_blocks.specs.declared.form.Form.TheVariants.{Flow}
+use Rattle.yaml_blocks.specs.code.Rest.{top}
+use Rattle.yaml_blocks.specs.code.Steps.{stack}
 use Rattle.yaml_blocks.proofs.SameTexts.{seen_alike}
+use Rattle.yaml_blocks.proofs.Fixed.{entry_step}
 use Rattle.yaml_blocks.proofs.step.entry.Goals as goal
 
-pub returns : goal.returns
-returns c = λ other utf8 cut fits same. c.entry.ensures other (seen_alike c.args.text.now other true c.args.at utf8 cut same.0) same.1 same.2
+pub returns-clause-gives : goal.returns-clause-gives
+returns-clause-gives c = λ other utf8 cut fits same.
+    let form = sym (c.innermost.ensures ∙ ap (λ (x : List Form). top (stack x)) c.deref.ensures.value) ∙ c.in-Flow.is in
+    c.entry.ensures.gives other (seen_alike c.args.text.now other true c.args.at utf8 cut same.0) (λ h. same.1 (form ∙ ap Flow h)) (λ h. same.2 (form ∙ ap Flow h))
+
+pub returns-clause-fixes : goal.returns-clause-fixes
+returns-clause-fixes c =
+    let form = sym (c.innermost.ensures ∙ ap (λ (x : List Form). top (stack x)) c.deref.ensures.value) ∙ c.in-Flow.is in
+    entry_step c.args.text.now (top (stack c.args.forms.now.items)) c.args.at c.in-Flow.map c.entry.result form c.requires.boundary c.entry.ensures.fixes

@@ -3,31 +3,41 @@ use Rattle.std.specs.Str.{IsCharBoundary, IsUtf8}
 use Rattle.yaml_blocks.specs.declared.stage.Stage.{Stage}
 use Rattle.yaml_blocks.specs.code.Rest.{top}
 use Rattle.yaml_blocks.specs.code.Steps.{stack, Rest, Fits, SameStep, reached, Gives}
+use Rattle.yaml_blocks.specs.code.Twins.{FixesStep}
 use Rattle.yaml_blocks.proofs.step.step.Goals as goal
 
 pub entry-requires-clause-fits : goal.entry-requires-clause-fits
 entry-requires-clause-fits c = subst (λ (s : Stage). Fits c.args.text.now s (stack c.args.forms.now.items) c.args.builder.now c.args.position.at) c.in-Entry.is c.requires.fits
 
-pub returns-in-Entry : goal.returns-in-Entry
-returns-in-Entry c =
+pub returns-in-Entry-clause-gives : goal.returns-in-Entry-clause-gives
+returns-in-Entry-clause-gives c =
     let text = c.args.text.now in
     let at = c.args.position.at in
-    subst (λ (s : Stage). (other : List ℕ) → IsUtf8 other → IsCharBoundary other at → Fits other s (stack c.args.forms.now.items) c.args.builder.now at → SameStep text other s (top (stack c.args.forms.now.items)) at → Gives other (Rest other s (stack c.args.forms.now.items) c.args.builder.now at) (reached s at) (stack c.entry.new.forms.items) c.entry.new.builder c.entry.result) (sym c.in-Entry.is) c.entry.ensures
+    subst (λ (s : Stage). (other : List ℕ) → IsUtf8 other → IsCharBoundary other at → Fits other s (stack c.args.forms.now.items) c.args.builder.now at → SameStep text other s (top (stack c.args.forms.now.items)) at → Gives other (Rest other s (stack c.args.forms.now.items) c.args.builder.now at) (reached s at) (stack c.entry.new.forms.items) c.entry.new.builder c.entry.result) (sym c.in-Entry.is) c.entry.ensures.gives
 
 pub value-requires-clause-fits : goal.value-requires-clause-fits
 value-requires-clause-fits c = subst (λ (s : Stage). Fits c.args.text.now s (stack c.args.forms.now.items) c.args.builder.now c.args.position.at) c.in-Value.is c.requires.fits
 
-pub returns-in-Value : goal.returns-in-Value
-returns-in-Value c =
+pub returns-in-Value-clause-gives : goal.returns-in-Value-clause-gives
+returns-in-Value-clause-gives c =
     let text = c.args.text.now in
     let at = c.args.position.at in
-    subst (λ (s : Stage). (other : List ℕ) → IsUtf8 other → IsCharBoundary other at → Fits other s (stack c.args.forms.now.items) c.args.builder.now at → SameStep text other s (top (stack c.args.forms.now.items)) at → Gives other (Rest other s (stack c.args.forms.now.items) c.args.builder.now at) (reached s at) (stack c.value.new.forms.items) c.value.new.builder c.value.result) (sym c.in-Value.is) c.value.ensures
+    subst (λ (s : Stage). (other : List ℕ) → IsUtf8 other → IsCharBoundary other at → Fits other s (stack c.args.forms.now.items) c.args.builder.now at → SameStep text other s (top (stack c.args.forms.now.items)) at → Gives other (Rest other s (stack c.args.forms.now.items) c.args.builder.now at) (reached s at) (stack c.value.new.forms.items) c.value.new.builder c.value.result) (sym c.in-Value.is) c.value.ensures.gives
 
 pub after-requires-clause-fits : goal.after-requires-clause-fits
 after-requires-clause-fits c = subst (λ (s : Stage). Fits c.args.text.now s (stack c.args.forms.now.items) c.args.builder.now c.args.position.at) c.in-After.is c.requires.fits
 
-pub returns-in-After : goal.returns-in-After
-returns-in-After c =
+pub returns-in-After-clause-gives : goal.returns-in-After-clause-gives
+returns-in-After-clause-gives c =
     let text = c.args.text.now in
     let at = c.args.position.at in
-    subst (λ (s : Stage). (other : List ℕ) → IsUtf8 other → IsCharBoundary other at → Fits other s (stack c.args.forms.now.items) c.args.builder.now at → SameStep text other s (top (stack c.args.forms.now.items)) at → Gives other (Rest other s (stack c.args.forms.now.items) c.args.builder.now at) (reached s at) (stack c.after.new.forms.items) c.after.new.builder c.after.result) (sym c.in-After.is) c.after.ensures
+    subst (λ (s : Stage). (other : List ℕ) → IsUtf8 other → IsCharBoundary other at → Fits other s (stack c.args.forms.now.items) c.args.builder.now at → SameStep text other s (top (stack c.args.forms.now.items)) at → Gives other (Rest other s (stack c.args.forms.now.items) c.args.builder.now at) (reached s at) (stack c.after.new.forms.items) c.after.new.builder c.after.result) (sym c.in-After.is) c.after.ensures.gives
+
+pub returns-in-Entry-clause-fixes : goal.returns-in-Entry-clause-fixes
+returns-in-Entry-clause-fixes c = subst (λ (s : Stage). FixesStep c.args.text.now s (top (stack c.args.forms.now.items)) c.args.position.at c.entry.result) (sym c.in-Entry.is) c.entry.ensures.fixes
+
+pub returns-in-Value-clause-fixes : goal.returns-in-Value-clause-fixes
+returns-in-Value-clause-fixes c = subst (λ (s : Stage). FixesStep c.args.text.now s (top (stack c.args.forms.now.items)) c.args.position.at c.value.result) (sym c.in-Value.is) c.value.ensures.fixes
+
+pub returns-in-After-clause-fixes : goal.returns-in-After-clause-fixes
+returns-in-After-clause-fixes c = subst (λ (s : Stage). FixesStep c.args.text.now s (top (stack c.args.forms.now.items)) c.args.position.at c.after.result) (sym c.in-After.is) c.after.ensures.fixes

@@ -1,42 +1,53 @@
-use Rattle.std.proofs.Common.{List, true, false, refl, sym, ap, ◌∙◌, subst, arith}
-use Rattle.std.proofs.lemmas.Grind.{common_steps}
+use Rattle.std.proofs.Common.{true, false, List, refl, sym, ap, subst, ◌∙◌}
 use Rattle.yaml_blocks.specs.declared.form.Form.{Form}
 use Rattle.yaml_blocks.specs.declared.stage.Stage.TheVariants as stage
 use Rattle.yaml_blocks.specs.Ahead.{ahead}
 use Rattle.yaml_blocks.specs.code.Rest.{top}
-use Rattle.yaml_blocks.specs.code.Steps.{stack, IsSeen, IsFlow, IsBlock, SameStep}
+use Rattle.yaml_blocks.specs.code.Steps.{stack, IsSeen, IsBehind, SameStep}
+use Rattle.yaml_blocks.specs.code.Twins.{FixesStep}
 use Rattle.yaml_blocks.proofs.AwaitedNodes.{seen_near}
+use Rattle.yaml_blocks.proofs.Fixed.{value_step, flow_value_step}
+use Rattle.yaml_blocks.proofs.Forms.{flow_misses}
 use Rattle.yaml_blocks.proofs.Placed.{placed}
 use Rattle.yaml_blocks.proofs.SameTexts.{seen_alike}
 use Rattle.yaml_blocks.proofs.step.value.Goals as goal
 
-pub node-requires : goal.node-requires
-node-requires c = grind (arith, common_steps)
+pub value-requires-clause-misses : goal.value-requires-clause-misses
+value-requires-clause-misses c =
+    let found = c.innermost-form.ensures ∙ ap (λ (x : List Form). top (stack x)) c.deref.ensures.value in
+    flow_misses c.innermost-form.result (c.is_flow.ensures.yes c.if-is_flow.true) (λ e. c.requires.fits.1 (sym found ∙ e))
 
-pub returns-in-Flow-true : goal.returns-in-Flow-true
-returns-in-Flow-true c = λ other utf8 cut fits same.
+pub value-requires-clause-behind : goal.value-requires-clause-behind
+value-requires-clause-behind c =
+    let found = c.innermost-form.ensures ∙ ap (λ (x : List Form). top (stack x)) c.deref.ensures.value in
+    subst (λ (f : Form). IsBehind f c.args.at) (sym found) c.requires.fits.3
+
+pub returns-then-is_flow-clause-gives : goal.returns-then-is_flow-clause-gives
+returns-then-is_flow-clause-gives c = λ other utf8 cut fits same.
     let text = c.args.text.now in
     let at = c.args.at in
     let found = c.innermost-form.ensures ∙ ap (λ (x : List Form). top (stack x)) c.deref.ensures.value in
-    let alike = (subst (λ (f : Form). SameStep text other stage.Value f at) (sym found ∙ c.in-Flow-true.is) same).0 tt in
-    c.value.ensures other (seen_alike text other true at utf8 cut alike.0) cut alike.1
+    let alike = (subst (λ (f : Form). SameStep text other stage.Value f at) (sym found) same).0 (c.is_flow.ensures.yes c.if-is_flow.true) in
+    c.value.ensures.gives other (seen_alike text other true at utf8 cut alike.0) cut alike.1
 
-pub returns-in-FlowTagged : goal.returns-in-FlowTagged
-returns-in-FlowTagged c = λ other utf8 cut fits same.
-    let text = c.args.text.now in
-    let at = c.args.at in
-    let found = c.innermost-form.ensures ∙ ap (λ (x : List Form). top (stack x)) c.deref.ensures.value in
-    let alike = (subst (λ (f : Form). SameStep text other stage.Value f at) (sym found) same).0 (subst IsFlow (sym c.in-FlowTagged.is) tt) in
-    c.value-in-FlowTagged.ensures other (seen_alike text other true at utf8 cut alike.0) cut alike.1
-
-pub returns-in_default : goal.returns-in_default
-returns-in_default c = λ other utf8 cut fits same.
+pub returns-clause-gives : goal.returns-clause-gives
+returns-clause-gives c = λ other utf8 cut fits same.
     let text = c.args.text.now in
     let at = c.args.at in
     let found = c.innermost-form.ensures ∙ ap (λ (x : List Form). top (stack x)) c.deref.ensures.value in
     let seen : IsSeen text false at (ahead text false at) = (refl, placed text false at c.utf8.text c.requires.boundary) in
-    let block : IsBlock c.innermost-form.result = grind (arith, common_steps) in
+    let block = c.is_flow.ensures.no c.if-is_flow.false in
     let alike = (subst (λ (f : Form). SameStep text other stage.Value f at) (sym found) same).1 block in
-    c.node.ensures other (
+    c.node.ensures.gives other (
     record { small = seen_near text at (ahead text false at) c.requires.small seen; boundary = cut; seen = seen_alike text other false at utf8 cut alike.0; form = sym found; block = block; fits = fits }
     ) alike.1
+
+pub returns-then-is_flow-clause-fixes : goal.returns-then-is_flow-clause-fixes
+returns-then-is_flow-clause-fixes c =
+    let found = c.innermost-form.ensures ∙ ap (λ (x : List Form). top (stack x)) c.deref.ensures.value in
+    subst (λ (f : Form). FixesStep c.args.text.now stage.Value f c.args.at c.value.result) found (flow_value_step c.args.text.now c.innermost-form.result c.args.at c.value.result (c.is_flow.ensures.yes c.if-is_flow.true) c.requires.boundary c.value.ensures.fixes)
+
+pub returns-clause-fixes : goal.returns-clause-fixes
+returns-clause-fixes c =
+    let found = c.innermost-form.ensures ∙ ap (λ (x : List Form). top (stack x)) c.deref.ensures.value in
+    subst (λ (f : Form). FixesStep c.args.text.now stage.Value f c.args.at c.node.result) found (value_step c.args.text.now c.innermost-form.result c.args.at c.node.result (c.is_flow.ensures.no c.if-is_flow.false) c.requires.boundary c.node.ensures.fixes)

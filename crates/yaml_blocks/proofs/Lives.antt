@@ -1,0 +1,105 @@
+-- Where a document is one of a text that is the same as far as is looked at, something may follow there too. By the steps of the reader.
+use Rattle.std.proofs.Common.{◌≡◌, ℕ, ◌≤◌, inl, inr, true, false, List, [], length, refl, sym, ap, ◌∙◌, subst, arith, if◌then◌else◌}
+use Rattle.std.specs.Prelude.{Result, Ok, Err}
+use Rattle.std.specs.Str.{IsCharBoundary}
+use Rattle.doc_values.specs.declared.kind.Kind.TheVariants as kind
+use Rattle.doc_values.specs.Tree.{Forest}
+use Rattle.doc_values.specs.Unfinished.{Unfinished, start, with_value}
+use Rattle.yaml_blocks.specs.declared.ahead.Ahead.{Ahead}
+use Rattle.yaml_blocks.specs.declared.ahead.Token.TheVariants.{Dashes}
+use Rattle.yaml_blocks.specs.declared.form.Form.{Form}
+use Rattle.yaml_blocks.specs.declared.stage.Stage.{Stage}
+use Rattle.yaml_blocks.specs.declared.stage.Stage.TheVariants as stage
+use Rattle.yaml_blocks.specs.declared.stage.Position.{Position}
+use Rattle.yaml_blocks.specs.declared.refusal.YamlRefusal.{YamlRefusal}
+use Rattle.yaml_blocks.specs.Ahead.{ahead}
+use Rattle.yaml_blocks.specs.Nodes.{is_marked}
+use Rattle.yaml_blocks.specs.Signs.{Tree, To}
+use Rattle.yaml_blocks.specs.Yaml.{IsRoot, IsStart, IsYaml, text_start}
+use Rattle.yaml_blocks.specs.code.AheadSeen.{ahead_seen}
+use Rattle.yaml_blocks.specs.code.Rest.{top, Over, Begins}
+use Rattle.yaml_blocks.specs.code.Steps.{Rest, Fits, SameStep, Goes, Completes, is_ending, reached}
+use Rattle.yaml_blocks.specs.code.Twins.{IsTwin, Alive, FixesStart, FixesRoot, FixesStep}
+use Rattle.yaml_blocks.proofs.AheadOrder.{seen_least, seen_mark}
+use Rattle.yaml_blocks.proofs.Forms.{apart_root}
+use Rattle.yaml_blocks.proofs.LastValues.{ending_calm}
+use Rattle.yaml_blocks.proofs.Roots.{begins_missing, begins_node, one_start}
+use Rattle.yaml_blocks.proofs.Twins.{twin_within, twin_cut, twin_ahead}
+
+-- ---- where the document begins
+
+same_start : (text : List ℕ) (place : ℕ) (other : List ℕ) → IsTwin text place other → text_start other ≡ text_start text
+same_start text place other m = ap (λ q. if q then 3 else 0) m.marks
+
+pub fixed_behind : (text : List ℕ) (at behind : ℕ) (next after : Ahead) → at ≡ text_start text → IsCharBoundary text at → next ≡ ahead text false at → behind ≡ next.behind → IsCharBoundary text behind → after ≡ ahead text false behind → next.token ≡ Dashes → after.fresh ≡ true
+    → FixesStart text behind
+fixed_behind text at behind next after ea ca en eb cb ef d f = λ place other m near.
+    let first : next ≡ ahead text false (text_start text) = en ∙ ap (ahead text false) ea in
+    let from = seen_mark text false at place (subst (λ (a : Ahead). is_marked a.token ≡ true) en (ap is_marked d)) (twin_within text place other m) (subst (λ n. ahead_seen text n ≤ place) (eb ∙ ap (λ (a : Ahead). a.behind) en) near) in
+    let here : ahead other false (text_start other) ≡ ahead text false (text_start text) = ap (ahead other false) (same_start text place other m ∙ sym ea) ∙ twin_ahead text place other m false at ca.0 from ∙ ap (ahead text false) ea in
+    let over : ahead other false behind ≡ ahead text false behind = twin_ahead text place other m false behind cb.0 near in
+    let least = seen_least text behind cb.0 in (
+      inl (ap (λ (a : Ahead). a.token) here ∙ ap (λ (a : Ahead). a.token) (sym first) ∙ d, eb ∙ ap (λ (a : Ahead). a.behind) first ∙ ap (λ (a : Ahead). a.behind) (sym here), ap (λ (a : Ahead). a.fresh) over ∙ ap (λ (a : Ahead). a.fresh) (sym ef) ∙ f),
+      twin_cut text place other m behind (omega (arith, least, near)) cb,
+    )
+
+pub fixed_there : (text : List ℕ) (at : ℕ) (next : Ahead) → at ≡ text_start text → IsCharBoundary text at → next ≡ ahead text false at → (next.token ≡ Dashes → ⊥) → FixesStart text at
+fixed_there text at next ea ca en n = λ place other m near.
+    let here : ahead other false (text_start other) ≡ ahead text false at = ap (ahead other false) (same_start text place other m ∙ sym ea) ∙ twin_ahead text place other m false at ca.0 near in
+    let least = seen_least text at ca.0 in
+    (inr ((λ d. n (ap (λ (a : Ahead). a.token) en ∙ ap (λ (a : Ahead). a.token) (sym here) ∙ d)), ea ∙ sym (same_start text place other m)), twin_cut text place other m at (omega (arith, least, near)) ca)
+
+-- ---- the root
+
+alive_at : (other : List ℕ) (P : Forest → Type 0) (w u : Unfinished) (p : Position) (s : Stage) (at : ℕ) → p.stage ≡ s → p.at ≡ at → w ≡ u → ((t : Forest) → P t → (g : Forest) × Rest other s [] u at (Tree g)) → Fits other s [] u at → IsCharBoundary other at → Alive other P [] w p
+alive_at other P w u p s at es ej ew h f b =
+    subst (λ z. ((t : Forest) → P t → (g : Forest) × Rest other z [] w p.at (Tree g)) × Fits other z [] w p.at × IsCharBoundary other p.at) (sym es)
+    (subst (λ z. ((t : Forest) → P t → (g : Forest) × Rest other s [] w z (Tree g)) × Fits other s [] w z × IsCharBoundary other z) (sym ej)
+    (subst (λ z. ((t : Forest) → P t → (g : Forest) × Rest other s [] z at (Tree g)) × Fits other s [] z at × IsCharBoundary other at) (sym ew) (h, f, b)))
+
+ended_tree : (text : List ℕ) (d g : Forest) (i : ℕ) (t : Forest) → Over text d i (Tree t) → Over text g i (Tree g)
+ended_tree text d g i t (inl (e, h)) = inl (e, refl)
+ended_tree text d g i t (inr (s, e, h)) = absurd (cc)
+
+pub null_fixed : (text : List ℕ) (at : ℕ) (next : Ahead) (u w : Unfinished) (r : Result Position YamlRefusal) → u ≡ start → next ≡ ahead text false at → IsCharBoundary text at → is_ending next.token ≡ true → Completes at (with_value kind.Null [] (length text) u) w r → FixesRoot text at w r
+null_fixed text at next u w (Err e) s en b c h = tt
+null_fixed text at next u w (Ok p) s en b c (es, ej, ew) = λ place other m near.
+    let far : ahead_seen text at ≤ place = subst (λ n. ahead_seen text n ≤ place) ej near in
+    let here : ahead other false at ≡ ahead text false at = twin_ahead text place other m false at b.0 far in
+    let there : is_ending (ahead other false at).token ≡ true = ap (λ (a : Ahead). is_ending a.token) (here ∙ sym en) ∙ c in
+    let v : Unfinished = with_value kind.Null [] (length text) start in (
+      far,
+      (λ cut. alive_at other (λ t. Begins other at (Tree t)) w v p stage.After at es ej (ew ∙ ap (with_value kind.Null [] (length text)) s)
+          (λ t g. (v.done, ended_tree other _ v.done at t (begins_missing other at (Tree t) there g))) ((tt, tt), refl, (λ k. ending_calm other v at there)) cut),
+    )
+
+pub root_fixed : (text : List ℕ) (at : ℕ) (next : Ahead) (w : Unfinished) (p : Position) → w ≡ start → next ≡ ahead text false at → IsCharBoundary text at → is_ending next.token ≡ false → p.stage ≡ stage.Value → p.at ≡ at → FixesRoot text at w (Ok p)
+root_fixed text at next w p ew en b n es ej = λ place other m near.
+    let far : ahead_seen text at ≤ place = subst (λ n. ahead_seen text n ≤ place) ej near in
+    let here : ahead other false at ≡ ahead text false at = twin_ahead text place other m false at b.0 far in
+    let there : is_ending (ahead other false at).token ≡ false = ap (λ (a : Ahead). is_ending a.token) (here ∙ sym en) ∙ n in
+    (far, (λ cut. alive_at other (λ t. Begins other at (Tree t)) w start p stage.Value at es ej ew (λ t g. (t, begins_node other at (Tree t) there g)) ((tt, tt), apart_root, (refl, refl), tt, tt) cut))
+
+-- ---- the whole text
+
+-- where a document is one of a text that is the same as far as the place of reading is looked at, something may follow in it there
+abbrev pub Lives : List ℕ → Position → List Form → Unfinished → Type 0
+Lives text p fs u = (p.stage ≡ stage.Whole → ⊥) → (place : ℕ) (other : List ℕ) → IsTwin text place other → ahead_seen text p.at ≤ place → Alive other (IsYaml other) fs u p
+
+yaml_begins : (other : List ℕ) (i : ℕ) (t : Forest) → IsStart other i → IsYaml other t → Begins other i (Tree t)
+yaml_begins other i t s (l, kids, i2, j, s2, r, e, h) = (l, kids, To j, subst (λ n. IsRoot other l kids n (To j)) (one_start other i2 i s2 s) r, inl (e, ap Tree h))
+
+pub lives_first : (text : List ℕ) (i : ℕ) (fs : List Form) (w : Unfinished) (p : Position) → FixesStart text i → FixesRoot text i w (Ok p) → fs ≡ [] → Lives text p fs w
+lives_first text i fs w p s r e = λ goes place other m near.
+    let g = r place other m near in
+    let b = s place other m g.0 in
+    let a = g.1 b.1 in
+    subst (λ z. Alive other (IsYaml other) z w p) (sym e) ((λ t h. a.0 t (yaml_begins other i t b.0 h)), a.1, a.2)
+
+pub lives_next : (text : List ℕ) (p q : Position) (fs gs : List Form) (u w : Unfinished) → Lives text p fs u → (p.stage ≡ stage.Whole → ⊥) → FixesStep text p.stage (top fs) p.at (Ok q)
+    → ((other : List ℕ) → (place : ℕ) → IsTwin text place other → IsCharBoundary other p.at → Fits other p.stage fs u p.at → SameStep text other p.stage (top fs) p.at → Goes other (Rest other p.stage fs u p.at) (reached p.stage p.at) gs w q) → Lives text q gs w
+lives_next text p q fs gs u w lives open_ fixes gives = λ goes place other m near.
+    let s = fixes goes place other m near in
+    let a = lives open_ place other m s.0 in
+    let g = gives other place m a.2 a.1 s.1 in
+    ((λ t h. let x = a.0 t h in (x.0, (g.0 (Tree x.0)).0 x.1)), g.1, g.2)

@@ -1,0 +1,68 @@
+-- What the bytes that were looked at fix: it is so in each text that has them too.
+use Rattle.std.specs.Prelude.{ℕ, ◌≡◌, ◌≤◌, Bool, true, false, List, [], Result, Ok, Err, IsUtf8, drop}
+use Rattle.std.specs.Str.{IsCharBoundary}
+use Rattle.doc_values.specs.Tree.{Forest}
+use Rattle.doc_values.specs.Unfinished.{Unfinished}
+use Rattle.yaml_scalars.specs.Scalar.{begins_order_mark}
+use Rattle.yaml_scalars.specs.code.Walk.{ends_line}
+use Rattle.yaml_laws.specs.code.Agreement.{AgreesTo}
+use Rattle.yaml_blocks.specs.declared.ahead.Ahead.{Ahead}
+use Rattle.yaml_blocks.specs.declared.form.Form.{Form}
+use Rattle.yaml_blocks.specs.declared.form.Form.TheVariants.{Flow}
+use Rattle.yaml_blocks.specs.declared.stage.Stage.{Stage}
+use Rattle.yaml_blocks.specs.declared.stage.Stage.TheVariants as stage
+use Rattle.yaml_blocks.specs.declared.stage.Position.{Position}
+use Rattle.yaml_blocks.specs.declared.refusal.YamlRefusal.{YamlRefusal}
+use Rattle.yaml_blocks.specs.Signs.{Tree}
+use Rattle.yaml_blocks.specs.Yaml.{IsStart}
+use Rattle.yaml_blocks.specs.code.AheadSeen.{ahead_seen}
+use Rattle.yaml_blocks.specs.code.Rest.{Begins}
+use Rattle.yaml_blocks.specs.code.Steps.{Rest, Fits, SameNode, SameFlowNode, SameFlowKey, SameKey, SameEnd, SameStep}
+
+-- another text is the same up to a place and with the byte there; in both, or in neither, a break begins with that byte, and a
+-- byte order mark stands in front
+pub record IsTwin (text : List ℕ) (place : ℕ) (other : List ℕ) : Type 0 where
+  pub utf8 : IsUtf8 other
+  pub marks : begins_order_mark other ≡ begins_order_mark text
+  pub agrees : AgreesTo place text other
+  pub breaks : ends_line (drop place text) ≡ ends_line (drop place other)
+
+-- where reading goes on at a place: what holds of each text that is the same as far as this place is looked at
+abbrev pub Fixes : List ℕ → (ℕ → List ℕ → Type 0) → Result Position YamlRefusal → Type 0
+Fixes text holds (Ok p) = (p.stage ≡ stage.Whole → ⊥) → (place : ℕ) (other : List ℕ) → IsTwin text place other → ahead_seen text p.at ≤ place → holds place other
+Fixes text holds (Err e) = Unit {0}
+
+-- the place that was read is looked at too, and what was found there is there
+abbrev pub FixesNode : List ℕ → Form → ℕ → Ahead → Result Position YamlRefusal → Type 0
+FixesNode text f i a r = Fixes text (λ place other. (ahead_seen text i ≤ place) × SameNode text other f i a) r
+
+abbrev pub FixesFlowNode : List ℕ → Form → ℕ → Ahead → Result Position YamlRefusal → Type 0
+FixesFlowNode text f i a r = Fixes text (λ place other. (ahead_seen text i ≤ place) × SameFlowNode text other f i a) r
+
+abbrev pub FixesFlowKey : List ℕ → ℕ → Ahead → Result Position YamlRefusal → Type 0
+FixesFlowKey text i a r = Fixes text (λ place other. (ahead_seen text i ≤ place) × SameFlowKey text other a) r
+
+abbrev pub FixesEntry : List ℕ → Bool → ℕ → Ahead → Result Position YamlRefusal → Type 0
+FixesEntry text map i a r = Fixes text (λ place other. (ahead_seen text i ≤ place) × (map ≡ true → SameFlowKey text other a) × (map ≡ false → SameFlowNode text other (Flow false) i a)) r
+
+abbrev pub FixesEnd : List ℕ → ℕ → Ahead → Result Position YamlRefusal → Type 0
+FixesEnd text i a r = Fixes text (λ place other. (ahead_seen text i ≤ place) × SameEnd text other i × SameKey text other a) r
+
+abbrev pub FixesSeen : List ℕ → ℕ → Result Position YamlRefusal → Type 0
+FixesSeen text i r = Fixes text (λ place other. ahead_seen text i ≤ place) r
+
+abbrev pub FixesStep : List ℕ → Stage → Form → ℕ → Result Position YamlRefusal → Type 0
+FixesStep text s f i r = Fixes text (λ place other. (ahead_seen text i ≤ place) × SameStep text other s f i) r
+
+-- where a document is one, something may follow
+abbrev pub Alive : List ℕ → (Forest → Type 0) → List Form → Unfinished → Position → Type 0
+Alive other P fs w p = ((t : Forest) → P t → (g : Forest) × Rest other p.stage fs w p.at (Tree g)) × Fits other p.stage fs w p.at × IsCharBoundary other p.at
+
+-- the document begins at a place
+abbrev pub FixesStart : List ℕ → ℕ → Type 0
+FixesStart text start = (place : ℕ) (other : List ℕ) → IsTwin text place other → ahead_seen text start ≤ place → IsStart other start × IsCharBoundary other start
+
+-- where it does, its root may follow
+abbrev pub FixesRoot : List ℕ → ℕ → Unfinished → Result Position YamlRefusal → Type 0
+FixesRoot text i w (Ok p) = (place : ℕ) (other : List ℕ) → IsTwin text place other → ahead_seen text p.at ≤ place → (ahead_seen text i ≤ place) × (IsCharBoundary other i → Alive other (λ t. Begins other i (Tree t)) [] w p)
+FixesRoot text i w (Err e) = Unit {0}
