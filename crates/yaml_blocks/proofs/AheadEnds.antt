@@ -151,7 +151,7 @@ module _ (flow : Bool) (size most : ℕ) (y : List ℕ) where
       ap (rest_ahead flow most) (lines_are at (xs ++ (10 ∷ y))) ∙ passes_rest flow most new (behind at (xs ++ (10 ∷ y))) (ap (is_passed false) same ∙ o) ∙ from_behind at xs below
 
 -- behind a line feed begins a line
-seam_get : (before y : List ℕ) (b : ℕ) → get_or (before ++ (b ∷ y)) (length before) 0 ≡ b
+pub seam_get : (before y : List ℕ) (b : ℕ) → get_or (before ++ (b ∷ y)) (length before) 0 ≡ b
 seam_get [] y b = refl
 seam_get (x ∷ before) y b = seam_get before y b
 

@@ -137,7 +137,7 @@ module _ (text : List ℕ) where
     by_test false h e = absurd (alone l m ls (tail_is text l (m ∷ ls) o.0 w.0) e)
 
   -- a text and a longer one
-  dash_longer : (i : ℕ) → i ≤ length text → (ahead text false i).token ≡ Dash → drop (ahead text false i).at text ≡ 45 ∷ [] → BothBegin (ahead text false i) (ahead (text ++ (97 ∷ [])) false i)
+  pub dash_longer : (i : ℕ) → i ≤ length text → (ahead text false i).token ≡ Dash → drop (ahead text false i).at text ≡ 45 ∷ [] → BothBegin (ahead text false i) (ahead (text ++ (97 ∷ [])) false i)
   dash_longer i low h e =
       let xs = drop i text in
       let l : Line = record { at = i; bytes = line_at xs; broken = has_break xs } in

@@ -37,3 +37,4 @@ mod AheadLonger
 mod Continuations
 mod LetterKinds
 mod Dashes
+mod DashKeys

@@ -17,7 +17,7 @@ ghost use Rattle.yaml_blocks.specs.Nodes.{as_key, follows_get_att, is_cut, scala
 ghost use Rattle.yaml_blocks.specs.Signs.{Tree};
 ghost use Rattle.yaml_blocks.specs.Yaml.{IsEnd};
 ghost use Rattle.yaml_blocks.specs.code.AheadSeen.{ahead_seen};
-ghost use Rattle.yaml_blocks.specs.code.Closers.{closers, in_flow, IsSpent, MayBegin};
+ghost use Rattle.yaml_blocks.specs.code.Closers.{closers, in_flow, IsSpent, letters, MayBegin};
 ghost use Rattle.yaml_blocks.specs.code.Rest.{Awaits, Begins, Ends, top};
 ghost use Rattle.yaml_blocks.specs.code.Steps.{Agrees, Fits, IsBlock, Nests, Rest};
 
@@ -57,4 +57,10 @@ pub(crate) fn colon_completes(text: &str)
 /// The call itself does nothing.
 pub(crate) fn dash_completes(text: &str)
     ensures { (fs : List Form) (outer : List Level) (done : Forest) (key : Option (List ℕ)) (at : ℕ) → at ≤ length text.now → IsBlock (top fs) → takes_scalar (top fs) (ahead text.now false at) ≡ true → (ahead text.now false at).token ≡ Dash → drop (ahead text.now false at).at text.now ≡ 45 ∷ [] → Agrees fs outer → Nests fs → (tree : Forest) × Awaits (text.now ++ (97 ∷ [])) fs outer done key at (Tree tree) }
+{}
+
+/// Where another entry of a block mapping may stand, a `-` that ends the text makes a document of it with so many letters and a
+/// colon behind, that no key before is the same. The call itself does nothing.
+pub(crate) fn dash_key_completes(text: &str)
+    ensures { (column : ℕ) (fs : List Form) (x : Level) (xs : List Level) (done : Forest) (at : ℕ) → at ≤ length text.now → (ahead text.now false at).fresh ≡ true → (ahead text.now false at).column ≡ column → (ahead text.now false at).token ≡ Dash → drop (ahead text.now false at).at text.now ≡ 45 ∷ [] → Agrees (Entries column ∷ fs) (x ∷ xs) → Nests (Entries column ∷ fs) → (count : ℕ) × (tree : Forest) × Ends ((text.now ++ letters count) ++ (58 ∷ [])) (Entries column ∷ fs) (x ∷ xs) done at (Tree tree) }
 {}

@@ -1,5 +1,5 @@
 -- What makes a document of a text that breaks off.
-use Rattle.std.specs.Prelude.{ℕ, ◌≡◌, ◌⊎◌, ◌≤◌, Bool, true, false, List, [], ◌∷◌, ◌++◌, ◌||◌, length, nat_eq}
+use Rattle.std.specs.Prelude.{ℕ, zero, suc, ◌≡◌, ◌⊎◌, ◌≤◌, Bool, true, false, List, [], ◌∷◌, ◌++◌, ◌||◌, length, nat_eq}
 use Rattle.yaml_blocks.specs.declared.ahead.Ahead.{Ahead}
 use Rattle.yaml_blocks.specs.declared.ahead.Token.{Token}
 use Rattle.yaml_blocks.specs.declared.ahead.Token.TheVariants.{End, Dashes, Dots}
@@ -50,3 +50,8 @@ in_flow (Tagged at above shares) = false
 -- a scalar may begin at a token, as its place tells; in flow any place does
 abbrev pub MayBegin : Form → Ahead → Type 0
 MayBegin f a = IsBlock f → takes_scalar f a ≡ true
+
+-- so many letters a
+abbrev pub letters : ℕ → List ℕ
+letters zero = []
+letters (suc n) = 97 ∷ letters n
