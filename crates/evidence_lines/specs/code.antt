@@ -1,4 +1,5 @@
 -- What serves the code and its proofs alone: nobody has to believe it.
+pub mod Held
 pub mod Memory
 pub mod Reading
 pub mod Seen

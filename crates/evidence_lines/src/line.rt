@@ -1,5 +1,5 @@
 //! A line of evidence.
-ghost use Rattle.std.specs.Prelude.{◌≡◌};
+ghost use Rattle.std.specs.Prelude.{◌≡◌, ◌∷◌, []};
 ghost use Rattle.evidence_lines.specs.code.Reading.{kind_in};
 ghost use Rattle.evidence_lines.specs.Shapes.{is_placed, may_cite, sort_of};
 ghost use Rattle.evidence_lines.specs.Spelling.{kind_text};
@@ -163,10 +163,17 @@ impl LineKind {
     }
 }
 
-/// The numbers of lines that a line cites, in order. Contracts see a list.
+/// The numbers of lines that a line cites, in order. Contracts see a list. Most lines cite one, which is held in place.
 #[derive(Drop)]
 pub struct Cites {
-    items: Vec<u64>,
+    held: HeldCites,
+}
+
+/// Numbers as they are held.
+#[derive(Drop)]
+enum HeldCites {
+    One([u64; 1]),
+    Any(Vec<u64>),
 }
 
 impl Model for Cites {
@@ -174,29 +181,41 @@ impl Model for Cites {
 
     ghost Value = { List ℕ };
 
-    ghost view = { λ c. c.items.items };
+    ghost use Rattle.evidence_lines.specs.code.Held.{cites_held};
+
+    ghost view = { λ c. cites_held c.held };
 }
 
 impl Cites {
+    /// One number. It takes no memory.
+    pub fn one(cite: u64) -> Cites
+        ensures { result ≡ cite ∷ [] }
+    {
+        Cites {
+            held: HeldCites::One([cite]),
+        }
+    }
+
     /// The numbers of a vector.
     pub fn new(items: Vec<u64>) -> Cites
         ensures { result ≡ items.items }
     {
-        Cites { items }
+        match items.as_slice() {
+            [cite] => Cites::one(*cite),
+            _ => Cites {
+                held: HeldCites::Any(items),
+            },
+        }
     }
 
     /// The numbers themselves.
     pub fn as_slice(&self) -> &[u64]
         ensures { result.now ≡ self.now }
     {
-        &self.items
-    }
-
-    /// The vector that they were made from. It takes no memory.
-    pub fn into_vec(self) -> Vec<u64>
-        ensures { result.items ≡ self }
-    {
-        self.items
+        match &self.held {
+            HeldCites::One(cite) => cite.as_slice(),
+            HeldCites::Any(cites) => cites.as_slice(),
+        }
     }
 }
 

@@ -148,10 +148,22 @@ fn read_cites(alloc: Global, may_cite: bool, bytes: &[u8]) -> Result<Option<Cite
     if !may_cite {
         return Ok(None);
     }
+    if cut(bytes, b',').is_none() {
+        return Ok(read_one_cite(bytes));
+    }
     match read_counts(alloc, bytes)? {
         None => Ok(None),
         Some(counts) => Ok(Some(Cites::new(counts))),
     }
+}
+
+/// The number that a line cites, which is its only one.
+fn read_one_cite(bytes: &[u8]) -> Option<Cites>
+    requires { cut 44 bytes.now ≡ None }
+    ensures { result ≡ items_in count_in bytes.now }
+{
+    let cite = read_count(bytes)?;
+    Some(Cites::one(cite))
 }
 
 /// The rows that a line says.
