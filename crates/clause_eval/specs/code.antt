@@ -1,5 +1,6 @@
 -- What serves the code and its proofs alone: nobody has to believe it.
 pub mod Adding
+pub mod Answers
 pub mod Beside
 pub mod Engines
 pub mod Entered
@@ -7,6 +8,7 @@ pub mod Environments
 pub mod Evaluated
 pub mod Falling
 pub mod FoundLines
+pub mod Inside
 pub mod Kinds
 pub mod Leaning
 pub mod Lines

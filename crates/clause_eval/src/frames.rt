@@ -1,5 +1,5 @@
 //! Frames that are entered, each with its line.
-ghost use Rattle.std.specs.Prelude.{◌≡◌, IfOk, None};
+ghost use Rattle.std.specs.Prelude.{◌≡◌, ◌<◌, IfOk, None, Some, length, option_map, slice_get};
 ghost use Rattle.rule_meaning.specs.Roots.{root_ref};
 ghost use Rattle.scope_frames.specs.code.Frames.{MayEnter};
 ghost use Rattle.clause_eval.specs.code.Engines.{see_engine};
@@ -41,6 +41,14 @@ impl<'t, 's> Engine<'t, 's> {
         let line = self.add_line(line)?;
         self.framed.push(line)?;
         Ok(number)
+    }
+
+    /// The current value of a frame.
+    pub fn current(&self, frame: u64) -> Ref
+        requires { frame < length (see_engine self.now).frames }
+        ensures { option_map (λ f. f.current) (slice_get (see_engine self.now).frames frame) ≡ Some result }
+    {
+        self.frames.current(frame)
     }
 
     /// A site in front of the parts of the scope that is entered at a site: a called body stands behind its rule.

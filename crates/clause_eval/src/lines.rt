@@ -151,7 +151,7 @@ impl<'t, 's> Engine<'t, 's> {
     }
 
     /// The line of a site in a frame. It takes no memory.
-    fn line_in(
+    pub(crate) fn line_in(
         &self,
         frame: u64,
         site: u32,

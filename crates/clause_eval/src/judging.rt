@@ -1,0 +1,301 @@
+//! Verdicts by what they are made of: of tests on rows, of disjunctions and conjunctions, of references and calls.
+ghost use Rattle.std.specs.Prelude.{◌≡◌, ◌&&◌, true, [], ◌∷◌, IfOk, filter};
+ghost use Rattle.std.specs.List.{list_all, list_any};
+ghost use Rattle.guard_syntax.specs.code.Seen.{see_part, see_query, see_step};
+ghost use Rattle.rule_names.specs.ReferenceGraph.{part_site};
+ghost use Rattle.evidence_rules.specs.Follows.{is_stop};
+ghost use Rattle.guard_syntax.specs.Syntax.{more_steps, no_steps};
+ghost use Rattle.value_compare.specs.code.Books.{IsBookOf};
+ghost use Rattle.value_compare.specs.code.Stores.{see_store};
+ghost use Rattle.rule_meaning.specs.StoreModel.{is_known};
+ghost use Rattle.rule_meaning.specs.Keys.{passes};
+ghost use Rattle.rule_meaning.specs.SetTests as asked;
+ghost use Rattle.rule_meaning.specs.Verdicts.{block_verdict, conjunction, disjunction, test_verdict, set_verdict};
+ghost use Rattle.rule_meaning.specs.Verdicts as judged;
+
+use guard_syntax::{Op, Part, Query, Row, Step, StepForm, Verdict};
+use query_steps::row_passes;
+use std::alloc::{AllocError, Global};
+use value_compare::{PatternBook, Store};
+
+/// The conjunction of two verdicts.
+pub(crate) fn both(earlier: Verdict, later: Verdict) -> Verdict
+    ensures { result ≡ conjunction (earlier ∷ later ∷ []) }
+{
+    match (earlier, later) {
+        (Verdict::Fail, _) | (_, Verdict::Fail) => Verdict::Fail,
+        (Verdict::Pass, _) | (_, Verdict::Pass) => Verdict::Pass,
+        (Verdict::Skip, Verdict::Skip) => Verdict::Skip,
+    }
+}
+
+/// The disjunction of two verdicts.
+pub(crate) fn either(earlier: Verdict, later: Verdict) -> Verdict
+    ensures { result ≡ disjunction (earlier ∷ later ∷ []) }
+{
+    match (earlier, later) {
+        (Verdict::Pass, _) | (_, Verdict::Pass) => Verdict::Pass,
+        (Verdict::Fail, _) | (_, Verdict::Fail) => Verdict::Fail,
+        (Verdict::Skip, Verdict::Skip) => Verdict::Skip,
+    }
+}
+
+/// The verdict of a block over two rows: the conjunction of two verdicts, with `some` the disjunction.
+pub(crate) fn joined(any: bool, earlier: Verdict, later: Verdict) -> Verdict
+    ensures { result ≡ block_verdict any (earlier ∷ later ∷ []) }
+{
+    if any {
+        either(earlier, later)
+    } else {
+        both(earlier, later)
+    }
+}
+
+/// Whether a block needs no further line of its body where this is its verdict so far.
+pub(crate) fn is_decided(any: bool, verdict: Verdict) -> bool
+    ensures { result ≡ (any && judged.is_pass verdict) }
+{
+    if any { is_pass(verdict) } else { false }
+}
+
+/// Whether a verdict is PASS.
+pub(crate) fn is_pass(verdict: Verdict) -> bool
+    ensures { result ≡ judged.is_pass verdict }
+{
+    match verdict {
+        Verdict::Pass => true,
+        Verdict::Fail => false,
+        Verdict::Skip => false,
+    }
+}
+
+/// Whether a verdict is FAIL.
+pub(crate) fn is_fail(verdict: Verdict) -> bool
+    ensures { result ≡ judged.is_fail verdict }
+{
+    match verdict {
+        Verdict::Pass => false,
+        Verdict::Fail => true,
+        Verdict::Skip => false,
+    }
+}
+
+/// Whether a test asks if a set is empty.
+pub(crate) fn is_set_test(op: Op, left: &Query) -> bool
+    ensures { result ≡ (asked.is_empty_test op && asked.is_set (see_query left.now)) }
+{
+    match op {
+        Op::Empty => is_set(left),
+        _ => false,
+    }
+}
+
+/// The verdict of a test whether a set is empty: it is where no row was found.
+pub(crate) fn verdict_of_set(not: bool, rows: &[Row]) -> Verdict
+    ensures { result ≡ set_verdict not rows.now }
+{
+    if not {
+        pass_if(one_is_found(rows))
+    } else {
+        pass_if(!one_is_found(rows))
+    }
+}
+
+/// Whether something was found at one of the rows.
+pub(crate) fn one_is_found(rows: &[Row]) -> bool
+    ensures { result ≡ list_any judged.is_found rows.now }
+{
+    rows.iter().any(|row| is_found(row))
+}
+
+/// The verdict of a test on left rows against right rows; with `some` one left row that passes is enough.
+pub(crate) fn verdict_of_test(
+    alloc: Global,
+    any: bool,
+    op: Op,
+    not: bool,
+    lefts: &[Row],
+    rights: &[Row],
+    store: &Store<'_, '_>,
+    book: &PatternBook,
+) -> Result<Verdict, AllocError>
+    requires lefts { list_all (is_known (see_store store.now)) lefts.now ≡ true }
+    requires rights { list_all (is_known (see_store store.now)) rights.now ≡ true }
+    requires book { IsBookOf (see_store store.now).file book.now }
+    ensures { IfOk result (λ v. v ≡ test_verdict any (passes (see_store store.now) op not rights.now) lefts.now) }
+{
+    if lefts.is_empty() {
+        return Ok(Verdict::Skip);
+    }
+    if any {
+        Ok(pass_if(one_passes(alloc, op, not, lefts, rights, store, book)?))
+    } else {
+        Ok(pass_if(all_pass(alloc, op, not, lefts, rights, store, book)?))
+    }
+}
+
+/// Whether a left row passes a test against right rows.
+pub(crate) fn one_passes(
+    alloc: Global,
+    op: Op,
+    not: bool,
+    lefts: &[Row],
+    rights: &[Row],
+    store: &Store<'_, '_>,
+    book: &PatternBook,
+) -> Result<bool, AllocError>
+    requires lefts { list_all (is_known (see_store store.now)) lefts.now ≡ true }
+    requires rights { list_all (is_known (see_store store.now)) rights.now ≡ true }
+    requires book { IsBookOf (see_store store.now).file book.now }
+    ensures { IfOk result (λ p. p ≡ list_any (passes (see_store store.now) op not rights.now) lefts.now) }
+{
+    for left in lefts {
+        if row_passes(alloc, op, not, left, rights, store, book)? {
+            return Ok(true);
+        }
+    }
+    Ok(false)
+}
+
+/// Whether each left row passes a test against right rows.
+pub(crate) fn all_pass(
+    alloc: Global,
+    op: Op,
+    not: bool,
+    lefts: &[Row],
+    rights: &[Row],
+    store: &Store<'_, '_>,
+    book: &PatternBook,
+) -> Result<bool, AllocError>
+    requires lefts { list_all (is_known (see_store store.now)) lefts.now ≡ true }
+    requires rights { list_all (is_known (see_store store.now)) rights.now ≡ true }
+    requires book { IsBookOf (see_store store.now).file book.now }
+    ensures { IfOk result (λ p. p ≡ list_all (passes (see_store store.now) op not rights.now) lefts.now) }
+{
+    for left in lefts {
+        if !row_passes(alloc, op, not, left, rights, store, book)? {
+            return Ok(false);
+        }
+    }
+    Ok(true)
+}
+
+/// PASS where something holds.
+pub(crate) fn pass_if(holds: bool) -> Verdict
+    ensures { result ≡ judged.pass_if holds }
+{
+    if holds { Verdict::Pass } else { Verdict::Fail }
+}
+
+/// The verdict of a reference: PASS where its rule is PASS and else FAIL; with `not` the opposite.
+pub(crate) fn refer_to(not: bool, rule: Verdict) -> Verdict
+    ensures { result ≡ judged.referred not rule }
+{
+    if not {
+        pass_if(!is_pass(rule))
+    } else {
+        pass_if(is_pass(rule))
+    }
+}
+
+/// The verdict of a call: that of the called body; with `not` PASS and FAIL are exchanged.
+pub(crate) fn exchange(not: bool, called: Verdict) -> Verdict
+    ensures { result ≡ judged.exchanged not called }
+{
+    match (not, called) {
+        (true, Verdict::Pass) => Verdict::Fail,
+        (true, Verdict::Fail) => Verdict::Pass,
+        (true, Verdict::Skip) => Verdict::Skip,
+        (false, _) => called,
+    }
+}
+
+/// Whether something was found at a row.
+pub(crate) fn is_found(row: &Row) -> bool
+    ensures { result ≡ judged.is_found row.now }
+{
+    match row {
+        Row::Found(_) => true,
+        Row::Missing { .. } => false,
+        Row::Unmade { .. } => false,
+    }
+}
+
+/// Whether the rows of a query are a set: it ends in a filter or a key filter, or is a variable alone.
+pub(crate) fn is_set(query: &Query) -> bool
+    ensures { result ≡ asked.is_set (see_query query.now) }
+{
+    match query.steps.as_slice() {
+        [] => false,
+        [step] => is_filtering(step) || is_variable(step),
+        [.., last] => is_filtering(last),
+    }
+}
+
+/// Whether a step is a filter or a key filter.
+pub(crate) fn is_filtering(step: &Step) -> bool
+    ensures { result ≡ asked.is_filtering (see_step step.now) }
+{
+    match &step.form {
+        StepForm::Filter(_, _) => true,
+        StepForm::Keys { .. } => true,
+        _ => false,
+    }
+}
+
+/// Whether a step is a variable.
+pub(crate) fn is_variable(step: &Step) -> bool
+    ensures { result ≡ asked.is_lone_variable (more_steps (see_step step.now) no_steps) }
+{
+    match &step.form {
+        StepForm::Var(_) => true,
+        _ => false,
+    }
+}
+
+/// The rows at which something was found.
+pub(crate) fn found_rows(alloc: Global, rows: &[Row]) -> Result<Vec<Row>, AllocError>
+    ensures { IfOk result (λ found. found.items ≡ filter judged.is_found rows.now) }
+{
+    rows.iter()
+        .copied()
+        .filter(|row| is_found(row))
+        .collect(alloc)
+}
+
+/// Whether a verdict is the one that decides, if one does.
+pub(crate) fn is_stop(stop: Option<Verdict>, verdict: Verdict) -> bool
+    ensures { result ≡ is_stop stop verdict }
+{
+    match stop {
+        None => false,
+        Some(Verdict::Pass) => is_pass(verdict),
+        Some(Verdict::Fail) => is_fail(verdict),
+        Some(Verdict::Skip) => is_skip(verdict),
+    }
+}
+
+/// Whether a verdict is SKIP.
+fn is_skip(verdict: Verdict) -> bool
+    ensures { result ≡ judged.is_skip verdict }
+{
+    match verdict {
+        Verdict::Pass => false,
+        Verdict::Fail => false,
+        Verdict::Skip => true,
+    }
+}
+
+/// The site of a part.
+pub(crate) fn site_of(part: &Part) -> u32
+    ensures { result ≡ part_site (see_part part.now) }
+{
+    match part {
+        Part::Block { site, .. } => *site,
+        Part::When { site, .. } => *site,
+        Part::Kinds { site, .. } => *site,
+        Part::Test { site, .. } => *site,
+        Part::Refer { site, .. } => *site,
+        Part::Call { site, .. } => *site,
+    }
+}

@@ -1,0 +1,56 @@
+//! Lines of literals.
+ghost use Rattle.std.specs.Prelude.{◌≡◌, IfOk};
+ghost use Rattle.evidence_lines.specs.declared.line.LineKind.TheVariants as kind;
+ghost use Rattle.guard_syntax.specs.code.Seen.{see_expr};
+ghost use Rattle.guard_syntax.specs.Syntax as syntax;
+ghost use Rattle.rule_names.specs.Pieces.{OfExpr};
+ghost use Rattle.rule_meaning.specs.Roots.{literal_ref};
+ghost use Rattle.clause_eval.specs.code.Answers.{AnswersRows, StandsIn};
+ghost use Rattle.clause_eval.specs.code.Engines.{see_engine};
+ghost use Rattle.clause_eval.specs.code.States.{IsWhole};
+
+use crate::engine::Engine;
+use doc_values::Doc;
+use evidence_lines::{LineKind, Outcome, Rows};
+use guard_syntax::{Origin, Ref, Row};
+use std::alloc::AllocError;
+
+impl<'t, 's> Engine<'t, 's> {
+    /// The line of a literal.
+    pub(crate) fn literal(
+        &mut self,
+        frame: u64,
+        site: u32,
+        tree: &Doc<'static>,
+    ) -> Result<u64, AllocError>
+        requires whole { IsWhole (see_engine self.old) }
+        requires stands { StandsIn (see_engine self.old) frame (site, OfExpr (syntax.literal site tree.now)) }
+        ensures { IfOk result (λ number. AnswersRows (see_engine self.old) (see_engine self.new) frame kind.Literal site number) }
+    {
+        if let Some(line) = self.found(frame, site) {
+            return Ok(line);
+        }
+        // A tree has a root, as `len` says: the literal is known.
+        let _nodes = tree.len();
+        let mut rows = Vec::new(self.alloc);
+        rows.push(Row::Found(root_of_literal(site)))?;
+        self.add(
+            frame,
+            site,
+            LineKind::Literal,
+            Vec::new(self.alloc),
+            Outcome::Rows(Rows::new(rows)),
+        )
+    }
+}
+
+/// The root of the literal of a site.
+fn root_of_literal(site: u32) -> Ref
+    ensures { result ≡ literal_ref site }
+{
+    Ref {
+        origin: Origin::Literal(site),
+        node: 0,
+        key: false,
+    }
+}
