@@ -4,6 +4,7 @@ mod AddsRows
 mod BesideTables
 mod BodiesApart
 mod Callees
+mod CallsAdded
 mod Conjoined
 mod EmptyEngine
 mod EnteredLines
@@ -12,10 +13,14 @@ mod Falls
 mod Finished
 mod FrameEnvironments
 mod FramesSaid
+mod FunctionsNamed
+mod KeptTrees
 mod KnownLines
+mod MadeTrees
 mod Named
 mod PartTables
 mod PartsAdded
+mod RowsListed
 mod RowsRead
 mod SaidStays
 mod Shaped

@@ -5,6 +5,7 @@
 
 mod adds;
 mod begin;
+mod calls;
 pub mod engine;
 pub mod frames;
 mod judging;

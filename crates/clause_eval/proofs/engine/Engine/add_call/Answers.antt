@@ -1,0 +1,90 @@
+use Rattle.std.proofs.Common.{◌≡◌, ◌∙◌, ◌+◌, ◌<◌, ◌≤◌, ◌++◌, arith, refl, sym, ap, subst, ℕ, suc, List, [], ◌∷◌, length, length-append, length-set, map, None}
+use Rattle.std.proofs.lemmas.Grind.{merely}
+use Rattle.std.proofs.lemmas.Option.{slice_get_within}
+use Rattle.evidence_lines.specs.declared.line.Line.{Line}
+use Rattle.evidence_lines.specs.declared.line.LineKind.TheVariants as kind
+use Rattle.evidence_lines.specs.declared.line.Outcome.TheVariants as says
+use Rattle.guard_builtins.specs.code.Seen.{see_made}
+use Rattle.guard_syntax.specs.declared.row.Row.{Row}
+use Rattle.rule_meaning.specs.Seeing.{grown, rows_kept, trees_kept}
+use Rattle.rule_meaning.specs.StoreModel.{made_at}
+use Rattle.value_compare.specs.code.Stores.{see_store}
+use Rattle.clause_eval.specs.code.Adding.{line_for}
+use Rattle.clause_eval.specs.code.Answers.{AreGiven, IsAnswerOf}
+use Rattle.clause_eval.specs.code.Engines.{see_engine}
+use Rattle.clause_eval.proofs.CallsAdded.{is-call-added, pushed-call, still-more}
+use Rattle.clause_eval.proofs.MadeTrees.{none-kept}
+use Rattle.clause_eval.proofs.PartTables.{part-set, part-stays, table-there}
+use Rattle.clause_eval.proofs.engine.Engine.add_call.Goals as goal
+
+pub answer-requires-clause-given : goal.answer-requires-clause-given
+answer-requires-clause-given c =
+    (c.requires.given.0, subst (λ (cs : List ℕ). AreGiven (see_engine c.args.self.now) c.args.frame c.args.site c.requires.given.0 cs) (sym c.deref.ensures.value) c.requires.given.1)
+
+pub keep-requires-clause-free : goal.keep-requires-clause-free
+keep-requires-clause-free c row =
+    let s = see_engine c.args.self.now in
+    let at : suc (length s.lines) ≡ length c.as_slice.result.now + 1 = omega (arith, ap length c.as_slice.ensures.lines) in
+    subst (λ (n : ℕ). made_at s.known.made n row ≡ None) at (none-kept s c.requires.whole row)
+
+pub invariant_of-self : goal.invariant_of-self
+invariant_of-self c = record {
+  frames_over = c.args.self.now.frames_over;
+  store_over = c.keep.ensures.file ∙ c.args.self.now.store_over;
+  book_is = c.args.self.now.book_is;
+  tables = c.args.self.now.tables;
+  version = c.args.self.now.version;
+  follows = merely (still-more (see_engine c.args.self.now) c.requires.whole (see_store c.keep.new.store) c.keep.ensures.more.0 c.keep.ensures.more.1);
+}
+
+pub line_in-line-requires : goal.line_in-line-requires
+line_in-line-requires c = slice_get_within c.args.self.now.framed.items c.args.frame c.in_ok-answer.ensures.answer.at c.in_ok-answer.ensures.answer.framed
+
+pub index_mut-requires : goal.index_mut-requires
+index_mut-requires c =
+    let named = slice_get_within c.args.self.now.framed.items c.args.frame c.in_ok-answer.ensures.answer.at c.in_ok-answer.ensures.answer.framed in
+    omega (arith, named, c.args.self.now.tables, c.args.self.now.parts.ok.0)
+
+pub invariant_of-self-2-clause-store_over : goal.invariant_of-self-2-clause-store_over
+invariant_of-self-2-clause-store_over c = c.keep.ensures.file ∙ c.args.self.now.store_over
+
+pub invariant_of-self-2-clause-tables : goal.invariant_of-self-2-clause-tables
+invariant_of-self-2-clause-tables c =
+    subst (λ (n : ℕ). length c.args.self.now.framed.items ≤ n) (sym (length-set c.args.self.now.parts.items c.args.frame c.set.new.self)) c.args.self.now.tables
+
+pub invariant_of-self-2-clause-version : goal.invariant_of-self-2-clause-version
+invariant_of-self-2-clause-version c = c.push.ensures.version ∙ c.args.self.now.version
+
+pub invariant_of-self-2-clause-follows : goal.invariant_of-self-2-clause-follows
+invariant_of-self-2-clause-follows c =
+    let s = see_engine c.args.self.now in
+    let answer = map see_made c.in_ok-answer.answer.items in
+    let is : IsAnswerOf s c.args.frame c.args.site c.args.cites.items answer =
+    subst (λ (cs : List ℕ). IsAnswerOf s c.args.frame c.args.site cs answer) c.deref.ensures.value c.in_ok-answer.ensures.answer in
+    let at : length c.as_slice.result.now + 1 ≡ suc (length s.lines) = omega (arith, ap length c.as_slice.ensures.lines) in
+    let rows : c.new.result ≡ rows_kept (suc (length s.lines)) 0 answer = c.new.ensures ∙ c.in_ok-rows.ensures.rows ∙ ap (λ (n : ℕ). rows_kept n 0 answer) at in
+    merely (pushed-call s c.requires.whole c.args.frame c.args.site c.args.cites.items answer is c.push.result (see_store c.keep.new.store) c.args.self.now.evidence c.push.new.self c.line_in-line.result
+    refl (c.line_in-line.ensures is.at is.framed ∙ ap (λ (rs : List Row). line_for is.at c.args.site kind.Fn c.args.cites.items (says.Rows rs)) rows)
+    (c.in_ok-rows.ensures.trees ∙ ap (λ (n : ℕ). grown s.known (trees_kept n 0 answer)) at) c.push.ensures.added c.push.ensures.kept)
+
+pub returns : goal.returns
+returns c =
+    let s = see_engine c.args.self.now in
+    let answer = map see_made c.in_ok-answer.answer.items in
+    let is : IsAnswerOf s c.args.frame c.args.site c.args.cites.items answer =
+    subst (λ (cs : List ℕ). IsAnswerOf s c.args.frame c.args.site cs answer) c.deref.ensures.value c.in_ok-answer.ensures.answer in
+    let at : length c.as_slice.result.now + 1 ≡ suc (length s.lines) = omega (arith, ap length c.as_slice.ensures.lines) in
+    let rows : c.new.result ≡ rows_kept (suc (length s.lines)) 0 answer = c.new.ensures ∙ c.in_ok-rows.ensures.rows ∙ ap (λ (n : ℕ). rows_kept n 0 answer) at in
+    let named = slice_get_within s.framed c.args.frame is.at is.framed in
+    let within : c.args.frame < length c.args.self.now.parts.items = omega (arith, named, c.args.self.now.tables) in
+    let there = table-there c.args.self.now.parts.items c.args.frame c.index_mut.result.now within c.index_mut.ensures.value in
+    let number : c.in_ok-number.number ≡ suc (length s.lines) =
+    omega (arith, c.in_ok-number.ensures.added.1, ap length c.in_ok-number.ensures.added.0, length-append s.lines (c.line_in-line.result ∷ [])) in (
+      c.new.result,
+      is-call-added s c.requires.whole c.args.frame c.args.site c.args.cites.items answer is _ c.in_ok-number.number c.new.result rows c.requires.new
+          (c.in_ok-rows.ensures.trees ∙ ap (λ (n : ℕ). grown s.known (trees_kept n 0 answer)) at) refl
+          (c.in_ok-number.ensures.added.0 ∙ ap (λ (l : Line). s.lines ++ l ∷ []) (c.line_in-line.ensures is.at is.framed)) refl number
+          (part-set c.args.self.now.parts.items c.args.frame c.args.site c.in_ok-number.number c.index_mut.result.now c.set.new.self there c.in_ok-set.ensures.ok)
+          (λ n m other. part-stays c.args.self.now.parts.items c.args.frame c.args.site c.in_ok-number.number c.index_mut.result.now c.set.new.self there c.in_ok-set.ensures.ok n m other)
+          (λ n m. refl) (λ m. refl),
+    )
