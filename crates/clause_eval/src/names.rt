@@ -1,0 +1,97 @@
+//! Lines of what variables mean.
+ghost use Rattle.std.specs.Prelude.{◌≡◌, IfOk};
+ghost use Rattle.clause_eval.specs.code.Answers.{AnswersArgument, AnswersCapture, AnswersPiece, AnswersVariable, IsCapturing, IsLetValue, IsParameter, IsUse, argument_bound};
+ghost use Rattle.clause_eval.specs.code.Engines.{see_engine};
+ghost use Rattle.clause_eval.specs.code.States.{IsWhole};
+
+use crate::engine::Engine;
+use guard_syntax::Part;
+use rule_names::Piece;
+use scope_frames::Slot;
+use std::alloc::AllocError;
+
+impl<'t, 's> Engine<'t, 's> {
+    /// The line of what the variable means that is used at a site.
+    #[cycle(evaluation)]
+    pub(crate) fn variable(&mut self, frame: u64, site: u32) -> Result<u64, AllocError>
+        requires whole { IsWhole (see_engine self.old) }
+        requires used { IsUse (see_engine self.old) frame site }
+        ensures { IfOk result (λ number. AnswersVariable (see_engine self.old) (see_engine self.new) frame site number) }
+    {
+        let cell = self.frames.lookup(frame, site);
+        match cell.slot {
+            Slot::Let(value) => self.value(cell.frame, value),
+            Slot::Capture(step) => self.capture(cell.frame, step),
+            Slot::Param(index) => self.argument(cell.frame, index),
+        }
+    }
+
+    /// The line of the expression of a let, by its site.
+    #[cycle(evaluation)]
+    fn value(&mut self, frame: u64, site: u32) -> Result<u64, AllocError>
+        requires whole { IsWhole (see_engine self.old) }
+        requires stands { IsLetValue (see_engine self.old) frame site }
+        ensures { IfOk result (λ number. AnswersPiece (see_engine self.old) (see_engine self.new) frame site number) }
+    {
+        let file = self.file;
+        let Some(piece) = file.find(site) else {
+            unreachable!()
+        };
+        match piece {
+            Piece::Expr(expr) => self.expression(frame, expr),
+            Piece::Query(query) => self.query(frame, query),
+            _ => unreachable!(),
+        }
+    }
+
+    /// The line of what a step captures, by its site.
+    #[cycle(evaluation)]
+    fn capture(&mut self, frame: u64, site: u32) -> Result<u64, AllocError>
+        requires whole { IsWhole (see_engine self.old) }
+        requires stands { IsCapturing (see_engine self.old) frame site }
+        ensures { IfOk result (λ number. AnswersCapture (see_engine self.old) (see_engine self.new) frame site number) }
+    {
+        if let Some(line) = self.found_beside(frame, site) {
+            return Ok(line);
+        }
+        let file = self.file;
+        let Some(piece) = file.find(site) else {
+            unreachable!()
+        };
+        match piece {
+            Piece::Step { query, index } => {
+                let line = self.steps(frame, query, index)?;
+                self.add_capture(frame, site, line)
+            }
+            _ => unreachable!(),
+        }
+    }
+
+    /// The line of the argument of an index, in the frame in which the call stands.
+    #[cycle(evaluation)]
+    fn argument(&mut self, frame: u64, index: u32) -> Result<u64, AllocError>
+        requires whole { IsWhole (see_engine self.old) }
+        requires stands { IsParameter (see_engine self.old) frame index }
+        ensures { IfOk result (λ number. AnswersArgument (see_engine self.old) (see_engine self.new) frame (argument_bound (see_engine self.old) frame index) index number) }
+    {
+        let entered = self.frames.entered.as_slice()[frame as usize];
+        let Some(caller) = entered.parent else {
+            unreachable!()
+        };
+        let file = self.file;
+        let Some(piece) = file.find(entered.site) else {
+            unreachable!()
+        };
+        let Piece::Part(part) = piece else {
+            unreachable!()
+        };
+        match part {
+            Part::Call { args, .. } => self.expression(caller, &args[index as usize]),
+            Part::Block { .. } => unreachable!(),
+            Part::When { .. } => unreachable!(),
+            Part::Kinds { .. } => unreachable!(),
+            Part::Test { .. } => unreachable!(),
+            Part::Refer { .. } => unreachable!(),
+        }
+    }
+}

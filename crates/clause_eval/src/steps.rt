@@ -1,0 +1,102 @@
+//! Lines of the steps of queries.
+ghost use Rattle.std.specs.Prelude.{◌≡◌, ◌<◌, ℕ, length, IfOk, None, true};
+ghost use Rattle.std.specs.List.{list_all};
+ghost use Rattle.guard_syntax.specs.code.Seen.{see_conds, see_query};
+ghost use Rattle.guard_syntax.specs.declared.syntax.Query.{out-Query};
+ghost use Rattle.rule_meaning.specs.StoreModel.{is_known_ref};
+ghost use Rattle.clause_eval.specs.code.Answers.{AnswersCandidates, AnswersFilter, AnswersStepBehind, GivesBeforeSite, GivesStepBefore, IsFilter, LacksStep, StandsUpTo};
+ghost use Rattle.clause_eval.specs.code.Engines.{see_engine};
+ghost use Rattle.clause_eval.specs.code.States.{IsWhole};
+
+use crate::engine::Engine;
+use crate::said::Judged;
+use evidence_lines::LineKind;
+use guard_syntax::{Conds, Query, Ref, StepForm};
+use query_steps::candidates;
+use std::alloc::AllocError;
+
+impl<'t, 's> Engine<'t, 's> {
+    /// The line of a step that has none yet, behind that of the step before it.
+    #[cycle(evaluation)]
+    pub(crate) fn step(
+        &mut self,
+        frame: u64,
+        query: &'t Query,
+        index: usize,
+        before: Option<u64>,
+    ) -> Result<u64, AllocError>
+        requires whole { IsWhole (see_engine self.old) }
+        requires stands { StandsUpTo (see_engine self.old) frame (see_query query.now) index }
+        requires index { index < length (out-Query query.now).steps.items }
+        requires new { LacksStep (see_engine self.old) frame (see_query query.now) index }
+        requires before { GivesStepBefore (see_engine self.old) frame (see_query query.now) index before }
+        ensures { IfOk result (λ number. AnswersStepBehind (see_engine self.old) (see_engine self.new) frame (see_query query.now) index before number) }
+    {
+        let step = &query.steps[index];
+        match &step.form {
+            StepForm::Filter(_, conds) => match before {
+                Some(before) => self.filter(frame, step.site, conds, before),
+                None => unreachable!(),
+            },
+            StepForm::Keys { right, .. } => {
+                let further = self.expression(frame, right)?;
+                self.add_step(LineKind::Keys, frame, step.site, before, Some(further))
+            }
+            StepForm::Var(_) => {
+                let further = self.variable(frame, step.site)?;
+                self.add_step(LineKind::Step, frame, step.site, before, Some(further))
+            }
+            StepForm::Splice(_) => {
+                let further = self.variable(frame, step.site)?;
+                self.add_step(LineKind::Step, frame, step.site, before, Some(further))
+            }
+            _ => self.add_step(LineKind::Step, frame, step.site, before, None),
+        }
+    }
+
+    /// The line of a filter: its conditions are judged for each candidate in a frame of its own.
+    #[cycle(evaluation)]
+    fn filter(
+        &mut self,
+        frame: u64,
+        site: u32,
+        conds: &'t Conds,
+        before: u64,
+    ) -> Result<u64, AllocError>
+        requires whole { IsWhole (see_engine self.old) }
+        requires stands { IsFilter (see_engine self.old) frame site (see_conds conds.now) }
+        requires new { (see_engine self.old).parts frame site ≡ None }
+        requires before { GivesBeforeSite (see_engine self.old) frame site before }
+        ensures { IfOk result (λ number. AnswersFilter (see_engine self.old) (see_engine self.new) frame site before number) }
+    {
+        let said = self.rows_said(before);
+        let tried = candidates(self.alloc, self.file, site, said, &self.store)?;
+        let judged = self.judge_candidates(frame, site, conds, &tried)?;
+        self.add_filter(frame, site, before, judged)
+    }
+
+    /// The lines of the conditions of a filter for its candidates, each in a frame of its own.
+    #[cycle(evaluation)]
+    fn judge_candidates(
+        &mut self,
+        frame: u64,
+        site: u32,
+        conds: &'t Conds,
+        tried: &[Ref],
+    ) -> Result<Judged, AllocError>
+        requires whole { IsWhole (see_engine self.old) }
+        requires stands { IsFilter (see_engine self.old) frame site (see_conds conds.now) }
+        requires known { list_all (is_known_ref (see_engine self.old).known) tried.now ≡ true }
+        ensures { IfOk result (λ judged. AnswersCandidates (see_engine self.old) (see_engine self.new) frame site (see_conds conds.now) tried.now judged.lines.items judged.verdicts.items) }
+    {
+        let mut lines = Vec::new(self.alloc);
+        let mut verdicts = Vec::new(self.alloc);
+        for candidate in tried {
+            let inner = self.enter(Some(frame), site, *candidate)?;
+            let said = self.conditions(inner, conds)?;
+            lines.push(said.line)?;
+            verdicts.push(said.verdict)?;
+        }
+        Ok(Judged { lines, verdicts })
+    }
+}
