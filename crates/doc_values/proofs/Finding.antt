@@ -1,6 +1,6 @@
 -- What the rows of an unfinished tree say of its innermost collection.
 use Rattle.std.proofs.Common.{◌≡◌, ℕ, suc, ◌+◌, ◌-◌, ◌<◌, Bool, true, false, List, [], ◌∷◌, ◌++◌, length, get_or, refl, sym, ap, inr, ◌∙◌, arith, Option, None, Some}
-use Rattle.std.specs.Prelude.{is_some, ◌||◌, if◌then◌else◌}
+use Rattle.std.specs.Prelude.{is_some, not, ◌||◌, if◌then◌else◌}
 use Rattle.std.proofs.lemmas.List.{get_or_at}
 use Rattle.doc_values.specs.declared.node.Seat.{Seat}
 use Rattle.doc_values.specs.Tree.{Forest, Nil, Node, size, count, key_is, has_key}
@@ -108,3 +108,11 @@ inner_none s rs w e = none_of (open_of s.depth rs).outer (w.depth ∙ e)
     none_of : (v : List Level) → length v ≡ 0 → None ≡ innermost v
     none_of [] h = refl
     none_of (x ∷ v) h = absurd (omega arith)
+
+pub not_false : (b : Bool) → false ≡ not b → b ≡ true
+not_false true e = refl
+not_false false e = absurd cc
+
+pub not_true : (b : Bool) → true ≡ not b → b ≡ false
+not_true true e = absurd cc
+not_true false e = refl

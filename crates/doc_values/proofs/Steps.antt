@@ -10,7 +10,8 @@ use Rattle.doc_values.proofs.Among.{row, length-rows}
 use Rattle.doc_values.proofs.WellFormed.{IsUnfinished-value, IsUnfinished-open, IsUnfinished-key, IsUnfinished-end}
 use Rattle.doc_values.specs.code.WellFormed.{IsUnfinished}
 use Rattle.doc_values.specs.code.Index.{row_of}
-use Rattle.doc_values.specs.code.Kept.{unfinished, Steps, seat_of, seats_of, Kept}
+use Rattle.doc_values.specs.code.Growth.{Awaited, Growth, key_of, IsFor}
+use Rattle.doc_values.specs.code.Kept.{unfinished, Steps, seat_of, seats_of, Kept, IsGrowing}
 
 pub rows-snoc : (d u n i : ℕ) (f : Forest) (l : Label) (kids : Forest) → rows d u n i (snoc f l kids) ≡ rows d u n i f ++ (row d u (i + count f) l ∷ rows (suc d) (suc (n + size f)) (suc (n + size f)) 0 kids)
 rows-snoc d u n i Nil l kids =
@@ -256,3 +257,14 @@ index_small s rs next w =
     let long : inside o.outer + size o.done ≡ length rs = sym (length-open o.outer o.done) ∙ ap (λ (t : List Row). length t) w.whole in
     let c = count_le o.done in
     omega arith
+
+-- what a builder keeps of a tree that grows
+pub IsGrowing-of : (seats : List Seat) (s : Seat) (g : Growth) (rs : List Row) (key : Option Awaited) → g.rows ≡ rs → g.key ≡ key → Kept seats s rs (key_of key) → IsFor s.under key → IsGrowing seats s g
+IsGrowing-of seats s g rs key e f k a = record {
+  kept = subst (λ (t : List Row). Kept seats s t (key_of g.key)) (sym e) (subst (λ (o : Option Awaited). Kept seats s rs (key_of o)) (sym f) k);
+  awaited = subst (IsFor s.under) (sym f) a;
+}
+
+pub no_key : (key : Option Awaited) → key_of key ≡ None → key ≡ None
+no_key None e = refl
+no_key (Some k) e = absurd cc

@@ -45,23 +45,21 @@ pub struct DocBuilder<'s> {
     seats: Vec<Seat>,
     /// Where the next value stands.
     seat: Seat,
-    /// The key that awaits its value.
-    key: Option<CowStr<'s>>,
 }
 
 impl<'s> Model for DocBuilder<'s> {
     ghost use Rattle.doc_values.specs.Unfinished.{Unfinished};
     ghost use Rattle.doc_values.specs.code.Codes.{unfinished_code};
-    ghost use Rattle.doc_values.specs.code.Kept.{unfinished, Kept};
-    ghost use Rattle.doc_values.specs.code.Texts.{key_text};
+    ghost use Rattle.doc_values.specs.code.Kept.{unfinished, IsGrowing};
+    ghost use Rattle.doc_values.specs.code.Growth.{key_of};
 
     ghost Value = { Unfinished };
 
     ghost coded = { unfinished_code };
 
-    ghost view = { λ b. unfinished b.seat.depth b.arena (key_text b.key) };
+    ghost view = { λ b. unfinished b.seat.depth b.arena.rows (key_of b.arena.key) };
 
-    ghost invariant = { λ b. Kept b.seats.items b.seat b.arena (key_text b.key) };
+    ghost invariant = { λ b. IsGrowing b.seats.items b.seat b.arena };
 }
 
 impl<'s> DocBuilder<'s> {
@@ -77,7 +75,6 @@ impl<'s> DocBuilder<'s> {
                 under: 0,
                 index: 0,
             },
-            key: None,
         }
     }
 
@@ -107,7 +104,7 @@ impl<'s> DocBuilder<'s> {
         ensures refused { IfErr result (λ e. e ≡ BuildRefusal.NoMemory) }
         ensures kept { OnErr result (self.new ≡ self.old) }
     {
-        self.arena.put(self.seat, kind, text, &mut self.key, at)?;
+        self.arena.put(self.seat, kind, text, at)?;
         self.seat.index += 1;
         Ok(())
     }
@@ -126,8 +123,7 @@ impl<'s> DocBuilder<'s> {
         self.seats.reserve(1)?;
         let number = self.arena.len();
         let kind = collection(map);
-        self.arena
-            .put(self.seat, kind, CowStr::Borrowed(""), &mut self.key, at)?;
+        self.arena.put(self.seat, kind, CowStr::Borrowed(""), at)?;
         let seat = self.seat;
         self.seats.push_reserved(Seat {
             depth: seat.depth,
@@ -150,10 +146,9 @@ impl<'s> DocBuilder<'s> {
         ensures no_memory { IfErr result (λ e. e ≡ BuildRefusal.DuplicateKey at) }
         ensures kept { OnErr result (self.new ≡ self.old) }
     {
-        if self.arena.find(self.seat.under, text.as_str()).is_some() {
+        if !self.arena.await_key(self.seat.under, text) {
             return Err(BuildRefusal::DuplicateKey(at));
         }
-        self.key = Some(text);
         Ok(())
     }
 
@@ -182,7 +177,6 @@ impl<'s> DocBuilder<'s> {
             arena,
             seats: _,
             seat: _,
-            key: _,
         } = self;
         Doc::of(arena)
     }

@@ -20,7 +20,7 @@ impl<'t, 's> Cursor<'t, 's> {
         ensures { result ≡ (label_at self.now.doc.now self.now.id).kind }
     {
         let node = self.doc.node(self.id);
-        node.kind.kind()
+        node.content.kind()
     }
 
     /// The offset of its first byte.
@@ -37,18 +37,14 @@ impl<'t, 's> Cursor<'t, 's> {
         ensures { result.now ≡ (label_at self.now.doc.now self.now.id).text }
     {
         let node = self.doc.node(self.id);
-        node.text.as_str()
+        node.content.text()
     }
 
     /// Its key, if it is an entry of a map.
     pub fn key(&self) -> Option<&'t str>
         ensures { MatchOption result ((label_at self.now.doc.now self.now.id).key ≡ None) (λ k. (label_at self.now.doc.now self.now.id).key ≡ Some k.now) }
     {
-        let node = self.doc.node(self.id);
-        match &node.key {
-            None => None,
-            Some(key) => Some(key.as_str()),
-        }
+        self.doc.key_at(self.id)
     }
 
     /// The collection that it stands in.
@@ -69,7 +65,7 @@ impl<'t, 's> Cursor<'t, 's> {
         let node = self.doc.node(self.id);
         match node.seat.above() {
             None => None,
-            Some(id) => match self.doc.node(id).kind.kind() {
+            Some(id) => match self.doc.node(id).content.kind() {
                 Kind::List => Some(node.seat.index),
                 _ => None,
             },

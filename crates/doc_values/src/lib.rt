@@ -6,16 +6,18 @@
 
 mod arena;
 pub mod builder;
+mod content;
 pub mod cursor;
 pub mod decimal;
 pub mod doc;
-mod keys;
 pub mod kind;
 pub mod limits;
+mod names;
 mod node;
 mod number;
 pub mod position;
-mod stored;
+mod uses;
+mod wide;
 
 pub use builder::{BuildRefusal, DocBuilder};
 pub use cursor::Cursor;

@@ -1,11 +1,9 @@
 //! A node of a tree as it is stored.
 ghost use Rattle.std.specs.Prelude.{◌≡◌, ℕ, Option, IfOk};
-ghost use Rattle.doc_values.specs.code.Texts.{key_text};
 ghost use Rattle.doc_values.specs.code.Rows.{above};
 
-use crate::stored::StoredKind;
+use crate::content::Content;
 use std::alloc::{AllocError, Global};
-use std::borrow::CowStr;
 use std::marker::Model;
 
 /// Where a node stands: how many nodes it stands in, the number behind the innermost of them (0 where it stands in
@@ -26,25 +24,22 @@ impl Seat {
     }
 }
 
-/// A value but for what stands in it, and where it stands.
+/// A value but for what stands in it, and where it stands. Its key is the number of a name.
 #[derive(Drop)]
 pub struct Node<'s> {
     pub seat: Seat,
     pub at: u32,
-    pub kind: StoredKind,
-    pub text: CowStr<'s>,
-    pub key: Option<CowStr<'s>>,
+    pub name: Option<u32>,
+    pub content: Content<'s>,
 }
 
 impl<'s> Model for Node<'s> {
-    ghost use Rattle.doc_values.specs.code.Rows.{Row};
-    ghost use Rattle.doc_values.specs.code.Texts.{key_text};
-    ghost use Rattle.doc_values.specs.code.Stored.{kind_of};
-    ghost use Rattle.std.specs.Cow.{cow_str_bytes};
+    ghost use Rattle.doc_values.specs.code.Entries.{Entry};
+    ghost use Rattle.doc_values.specs.code.Stored.{kind_of, text_of};
 
-    ghost Value = { Row };
+    ghost Value = { Entry };
 
-    ghost view = { λ n. record { depth = n.seat.depth; under = n.seat.under; index = n.seat.index; label = record { kind = kind_of n.kind; text = cow_str_bytes n.text; key = key_text n.key; at = n.at } } };
+    ghost view = { λ n. record { depth = n.seat.depth; under = n.seat.under; index = n.seat.index; kind = kind_of n.content; text = text_of n.content; name = n.name; at = n.at } };
 }
 
 impl<'s> Node<'s> {
@@ -54,29 +49,16 @@ impl<'s> Node<'s> {
     {
         let Node {
             seat,
-            kind,
-            text,
-            key,
             at,
+            name,
+            content,
         } = self;
-        let text = CowStr::Owned(text.into_owned(alloc)?);
-        let key = detach_key(key, alloc)?;
+        let content = content.detach(alloc)?;
         Ok(Node {
             seat,
-            kind,
-            text,
-            key,
             at,
+            name,
+            content,
         })
-    }
-}
-
-/// A key with a text of its own.
-fn detach_key(key: Option<CowStr>, alloc: Global) -> Result<Option<CowStr<'static>>, AllocError>
-    ensures { IfOk result (λ k. key_text k ≡ key_text key.entry) }
-{
-    match key {
-        None => Ok(None),
-        Some(text) => Ok(Some(CowStr::Owned(text.into_owned(alloc)?))),
     }
 }

@@ -5,6 +5,7 @@ use Rattle.doc_values.specs.Tree.{Forest, count}
 use Rattle.doc_values.specs.Unfinished.{Level, Unfinished}
 use Rattle.doc_values.specs.code.WellFormed.{IsUnfinished}
 use Rattle.doc_values.specs.code.Rows.{Row, Open, open_of, open_rows, inside}
+use Rattle.doc_values.specs.code.Growth.{Growth, key_of, IsFor}
 
 -- the unfinished tree whose nodes are these, with d open collections
 abbrev pub unfinished : ℕ → List Row → Option (List ℕ) → Unfinished
@@ -30,3 +31,8 @@ pub record Kept (seats : List Seat) (seat : Seat) (rs : List Row) (key : Option 
   pub next : seat_of (open_of seat.depth rs).outer (open_of seat.depth rs).done ≡ seat
   pub formed : IsUnfinished (unfinished seat.depth rs key)
   pub small : length rs < 4294967295
+
+-- and the key that awaits its value will stand where the next value stands
+pub record IsGrowing (seats : List Seat) (seat : Seat) (g : Growth) : Type 0 where
+  pub kept : Kept seats seat g.rows (key_of g.key)
+  pub awaited : IsFor seat.under g.key

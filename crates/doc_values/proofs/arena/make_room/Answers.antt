@@ -13,3 +13,6 @@ returns-clause-slot c = grind (arith, common_steps)
 
 pub returns-clause-start : goal.returns-clause-start
 returns-clause-start c = grind (arith, common_steps)
+
+pub returns-clause-link : goal.returns-clause-link
+returns-clause-link c = grind (arith, common_steps)

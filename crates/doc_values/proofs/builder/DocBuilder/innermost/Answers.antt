@@ -4,10 +4,11 @@ use Rattle.doc_values.proofs.Finding.{inner_kind}
 use Rattle.doc_values.proofs.builder.DocBuilder.innermost.Goals as goal
 
 pub kind-requires : goal.kind-requires
-kind-requires c = let b = c.self.inside in let h = c.if-self-eq0.false in (inner_kind b.seat b.arena c.self.invariant.next c.self.invariant.steps (omega arith)).0
+kind-requires c = let b = c.self.inside in let k = c.self.invariant.kept in let h = c.if-self-eq0.false in (inner_kind b.seat b.arena.rows k.next k.steps (omega arith)).0
 
 pub returns : goal.returns
 returns c =
     let b = c.self.inside in
+    let k = c.self.invariant.kept in
     let h = c.if-self-eq0.false in
-    ap Some c.kind.ensures ∙ (inner_kind b.seat b.arena c.self.invariant.next c.self.invariant.steps (omega arith)).1 ∙ ap (λ (u : Unfinished). innermost u.outer) c.self.view_is
+    ap Some c.kind.ensures ∙ (inner_kind b.seat b.arena.rows k.next k.steps (omega arith)).1 ∙ ap (λ (u : Unfinished). innermost u.outer) c.self.view_is
