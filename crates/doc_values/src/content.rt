@@ -10,7 +10,8 @@ use std::alloc::{AllocError, Global};
 use std::borrow::CowStr;
 
 /// A kind with its text in a node. What takes more room than all the rest and is rare stands apart: texts with escapes,
-/// patterns and ranges.
+/// patterns and ranges. A pattern is owned: behind a box the borrow checker shortens no lifetime, and a tree of its own texts
+/// has to stand where one that borrows may.
 #[derive(Drop)]
 pub enum Content<'s> {
     Null,
@@ -21,7 +22,7 @@ pub enum Content<'s> {
     OwnedText(Box<String>),
     List,
     Map,
-    Pattern(Box<CowStr<'s>>),
+    Pattern(Box<String>),
     Limits(Box<Range>),
 }
 
@@ -40,7 +41,7 @@ impl<'s> Content<'s> {
             Kind::Text => Content::of_text(alloc, text)?,
             Kind::List => Content::List,
             Kind::Map => Content::Map,
-            Kind::Pattern => Content::Pattern(Box::new(alloc, text)?),
+            Kind::Pattern => Content::Pattern(Box::new(alloc, text.into_owned(alloc)?)?),
             Kind::Limits(range) => Content::Limits(Box::new(alloc, range)?),
         })
     }
@@ -101,10 +102,7 @@ impl<'s> Content<'s> {
             Content::OwnedText(text) => Content::OwnedText(text),
             Content::List => Content::List,
             Content::Map => Content::Map,
-            Content::Pattern(text) => {
-                let text = String::from_str(alloc, text.as_str())?;
-                Content::Pattern(Box::new(alloc, CowStr::Owned(text))?)
-            }
+            Content::Pattern(text) => Content::Pattern(text),
             Content::Limits(range) => Content::Limits(range),
         })
     }

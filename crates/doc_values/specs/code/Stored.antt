@@ -21,5 +21,5 @@ kind_of (content.Limits r) = kind.Limits r.value
 abbrev pub text_of : Content → List ℕ
 text_of (content.Text t) = t.now
 text_of (content.OwnedText t) = string_bytes t.value
-text_of (content.Pattern t) = cow_str_bytes t.value
+text_of (content.Pattern t) = string_bytes t.value
 text_of _ = []
