@@ -14,7 +14,7 @@ use Rattle.yaml_blocks.specs.Ahead.{is_name, begins_letter, ends_tag, tag_token,
 
 -- ---- a line that is not passed over has a token
 
-abbrev IsSome : Token → Type 0
+abbrev pub IsSome : Token → Type 0
 IsSome End = ⊥
 IsSome _ = Unit {0}
 

@@ -25,7 +25,7 @@ use Rattle.yaml_blocks.specs.Nodes.{starts_scalar}
 abbrev pub BothBegin : Ahead → Ahead → Type 0
 BothBegin a b = (b.at ≡ a.at) × (b.fresh ≡ a.fresh) × (b.column ≡ a.column) × (starts_scalar b.token ≡ true)
 
-both_same : (a : Ahead) → starts_scalar a.token ≡ true → BothBegin a a
+pub both_same : (a : Ahead) → starts_scalar a.token ≡ true → BothBegin a a
 both_same a h = (refl, refl, refl, h)
 
 -- ---- a token
@@ -44,7 +44,7 @@ dash_begins false [] c y h = absurd (true≢false (sym h))
 dash_begins false (b ∷ bs) c y h = h
 
 -- any other byte tells it alone
-byte_tells : (flow : Bool) (b : ℕ) (x y : List ℕ) → nat_eq b 33 ≡ false → nat_eq b 45 ≡ false → nat_eq b 58 ≡ false → token_of flow (b ∷ x) ≡ token_of flow (b ∷ y)
+pub byte_tells : (flow : Bool) (b : ℕ) (x y : List ℕ) → nat_eq b 33 ≡ false → nat_eq b 45 ≡ false → nat_eq b 58 ≡ false → token_of flow (b ∷ x) ≡ token_of flow (b ∷ y)
 byte_tells flow b x y e f g = by_flow flow where
   by_flow : (flow : Bool) → token_of flow (b ∷ x) ≡ token_of flow (b ∷ y)
   by_flow true = by_tests (nat_eq b 58) (nat_eq b 33) g e where

@@ -71,7 +71,7 @@ closer_ahead text w m = by_column (is_first_column whole n) where
   by_column true = subst (IsCloser m n) (sym (ap (line_ahead true (length whole)) ls ∙ closer_line m n (length whole) (line_at w) (has_break w) (behind n (closer m ∷ w)))) (closer_of m n true)
   by_column false = subst (IsCloser m n) (sym (ap (rest_ahead true (length whole)) ls ∙ closer_rest m n (length whole) (line_at w) (has_break w) (behind n (closer m ∷ w)))) (closer_of m n false)
 
-end_ahead : (text : List ℕ) → (ahead (text ++ []) false (length text)).token ≡ End
+pub end_ahead : (text : List ℕ) → (ahead (text ++ []) false (length text)).token ≡ End
 end_ahead text = by_column (is_first_column (text ++ []) (length text)) where
   n : ℕ
   n = length text
@@ -114,14 +114,14 @@ over_feed before i low h = (λ m w. subst (IsCloser m (length text)) (sym (moved
 abbrev pub Closed : (Forest → ℕ → Reading → Type 0) → Forest → ℕ → Type 0
 Closed E done i = (tree : Forest) × E done i (Tree tree)
 
-step_on : (text w : List ℕ) (c : ℕ) → (text ++ (c ∷ [])) ++ w ≡ text ++ (c ∷ w)
+pub step_on : (text w : List ℕ) (c : ℕ) → (text ++ (c ∷ [])) ++ w ≡ text ++ (c ∷ w)
 step_on text w c = append_assoc text (c ∷ []) w
 
-step_len : (text : List ℕ) (c : ℕ) → length (text ++ (c ∷ [])) ≡ suc (length text)
+pub step_len : (text : List ℕ) (c : ℕ) → length (text ++ (c ∷ [])) ≡ suc (length text)
 step_len text c = length-append text (c ∷ []) ∙ omega arith
 
 -- the bracket of a flow collection, behind its entries or behind nothing
-flow_tail : (text w : List ℕ) (i : ℕ) (m first : Bool) (done : Forest) → IsOver text i → (j : ℕ) × (j ≡ suc (length text)) × Spells (text ++ (closer m ∷ w)) Nil (Flow m) 0 first done i (To j)
+pub flow_tail : (text w : List ℕ) (i : ℕ) (m first : Bool) (done : Forest) → IsOver text i → (j : ℕ) × (j ≡ suc (length text)) × Spells (text ++ (closer m ∷ w)) Nil (Flow m) 0 first done i (To j)
 flow_tail text w i m first done over =
     let c = over.0 m w in
     let j = (ahead (text ++ (closer m ∷ w)) true i).behind in
@@ -167,7 +167,7 @@ closes_entry (Entries n ∷ fs) (x ∷ xs) done text i e a o (m, t) = absurd (cc
 closes_entry (Tagged at ab sh ∷ fs) (x ∷ xs) done text i e a o (m, t) = absurd (cc)
 
 -- where the value of a `-`, a key or a tag may stand, it is null
-null_node : (text : List ℕ) (f : Form) (d : ℕ) (key : Option (List ℕ)) (i : ℕ) → (f ≡ Root → ⊥) → (f ≡ Flow false → ⊥) → IsNode text (Spells text Nil) f d key (leaf kind.Null [] key i) Nil i (To i)
+pub null_node : (text : List ℕ) (f : Form) (d : ℕ) (key : Option (List ℕ)) (i : ℕ) → (f ≡ Root → ⊥) → (f ≡ Flow false → ⊥) → IsNode text (Spells text Nil) f d key (leaf kind.Null [] key i) Nil i (To i)
 null_node text Root d key i r h = absurd (r refl)
 null_node text (Flow true) d key i r h = inl (refl, (refl, refl, refl))
 null_node text (Flow false) d key i r h = absurd (h refl)

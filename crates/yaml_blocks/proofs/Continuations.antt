@@ -31,7 +31,7 @@ use Rattle.yaml_blocks.proofs.Looks.{passed_other}
 
 -- ---- outside of flow no bracket is open
 
-block_below : (f : Form) (g : Form) → IsBlock f → LiesIn f g → IsBlock g
+pub block_below : (f : Form) (g : Form) → IsBlock f → LiesIn f g → IsBlock g
 block_below Root g b l = absurd l
 block_below (Flow m) g b l = absurd b
 block_below (FlowTagged at) g b l = absurd b

@@ -30,6 +30,7 @@ pub mod TreeInduction
 pub mod AwaitedNodes
 mod Completions
 mod AheadEnds
+mod AheadFed
 mod ScalarFails
 mod AheadClosed
 mod AheadStrays
@@ -38,3 +39,9 @@ mod Continuations
 mod LetterKinds
 mod Dashes
 mod DashKeys
+mod Values
+mod FlowKeys
+mod Openings
+mod Breaks
+mod DotEnds
+mod Entries

@@ -1,7 +1,7 @@
 //! What a place has ahead, in a text and in longer ones.
 ghost use Rattle.std.specs.Prelude.{ℕ, List, [], ◌∷◌, ◌++◌, ◌≡◌, ◌≤◌, true, false, suc, length, drop};
 ghost use Rattle.yaml_scalars.specs.declared.scalar.Setting.{Setting};
-ghost use Rattle.yaml_scalars.specs.Lines.{Fails, is_cut_mark};
+ghost use Rattle.yaml_scalars.specs.Lines.{Fails, ends_with, is_cut_mark};
 ghost use Rattle.yaml_scalars.specs.Scalar.{scalar_at};
 ghost use Rattle.yaml_scalars.specs.code.Walk.{has_break, line_at};
 ghost use Rattle.yaml_blocks.specs.declared.ahead.Token.TheVariants.{End, Stray};
@@ -32,4 +32,13 @@ pub fn closed_ahead(text: &str, at: usize)
 pub fn failing_ahead(text: &str, flow: bool, at: usize)
     requires { at ≤ length text.now }
     ensures { (setting : Setting) (place : ℕ) → starts_scalar (ahead text.now flow at).token ≡ true → scalar_at setting text.now (ahead text.now flow at).at ≡ Fails place → is_cut_mark (line_at (drop (ahead text.now flow at).at text.now)) ≡ false → ahead_seen text.now at ≤ place }
+{}
+
+/// What a place has ahead, where that is not the text's end, it has ahead with a break behind the text. The call itself does
+/// nothing.
+pub fn fed_ahead(text: &str, flow: bool, at: usize)
+    requires { at ≤ length text.now }
+    ensures broken { (more : List ℕ) → ((ahead text.now flow at).token ≡ End → ⊥) → ahead (text.now ++ (13 ∷ 10 ∷ more)) flow at ≡ ahead text.now flow at }
+    ensures feed { (more : List ℕ) → ends_with 13 text.now ≡ false → ((ahead text.now flow at).token ≡ End → ⊥) → ahead (text.now ++ (10 ∷ more)) flow at ≡ ahead text.now flow at }
+    ensures end { (ahead text.now flow at).token ≡ End → (ahead (text.now ++ (13 ∷ 10 ∷ [])) flow at).token ≡ End }
 {}

@@ -20,6 +20,6 @@ mod step;
 
 pub use agreement::same_ahead;
 pub use ahead::Token;
-pub use ending::{closed_ahead, end_ahead, failing_ahead};
+pub use ending::{closed_ahead, end_ahead, failing_ahead, fed_ahead};
 pub use read::read_yaml;
 pub use refusal::YamlRefusal;

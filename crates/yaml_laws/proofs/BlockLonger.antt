@@ -31,7 +31,7 @@ empty_digit : (folded : Bool) (parent : ℤ) (chomp : Chomp) (size at : ℕ) (di
 empty_digit folded parent chomp size at (Some d) = empty_content folded chomp (base_of parent + d) size at [] None 0
 empty_digit folded parent chomp size at None = blank_all chomp size (rest_of at [] ∷ []) 0
 
-late_of : (n : ℕ) (o : Option ℕ) (m : ℕ) → o ≡ Some m → n ≤ m → IsLate n o
+pub late_of : (n : ℕ) (o : Option ℕ) (m : ℕ) → o ≡ Some m → n ≤ m → IsLate n o
 late_of n o m e l = subst (λ o. IsLate n o) (sym e) l
 
 content_returned : (folded : Bool) (chomp : Chomp) (inner size other place : ℕ) (r : Bool) (ks : List Line) (text : List ℕ) (last : Option Last) (e : ℕ) → Ends place r ks → content_more folded chomp inner size (cut ks place) text last e ≡ Fails (suc place) → IsScalar (content_more folded chomp inner other (glue ks (ended place [])) text last e)
@@ -70,7 +70,7 @@ nonblank_return f = blank_not (f ++ (13 ∷ [])) (let a = lead_ended is_white f 
 first_mark : (above w : ℕ) (l : Line) → is_mark l.bytes ≡ true → first above w l ≡ Nothing
 first_mark above w l h = ap (λ q. cond (q || nat_lt (indent l.bytes) above) Nothing (cond (nat_lt (indent l.bytes) w) (Wide (l.at + shown l.bytes)) (Indented (indent l.bytes)))) h
 
-first_same : (above w i : ℕ) (l m : Line) → is_mark m.bytes ≡ false → indent m.bytes ≡ indent l.bytes → first above w l ≡ Indented i → first above w m ≡ Indented i
+pub first_same : (above w i : ℕ) (l m : Line) → is_mark m.bytes ≡ false → indent m.bytes ≡ indent l.bytes → first above w l ≡ Indented i → first above w m ≡ Indented i
 first_same above w i l m n e h =
     let f = first_in above w i l h in
     ap (λ q. cond (q || nat_lt (indent m.bytes) above) Nothing (cond (nat_lt (indent m.bytes) w) (Wide (m.at + shown m.bytes)) (Indented (indent m.bytes)))) n
@@ -104,7 +104,7 @@ mark_first : (f : List ℕ) → 0 < mark_len f → lead is_white f ≡ 0
 mark_first [] h = refl
 mark_first (b ∷ f) h = cases (nat_eq b 45 || nat_eq b 46) (λ e. let n : is_white b ≡ false = grind (arith, nat_tests, e) in ap (λ q. cond q (suc (lead is_white f)) 0) n) (λ e. absurd (let z : mark_len (b ∷ f) ≡ 0 = ap (λ q. cond q (suc (same b 2 f)) 0) e in omega (arith, h, z)))
 
-shown_return : (f : List ℕ) → is_blank f ≡ false → shown (f ++ (13 ∷ [])) ≡ suc (length f) → is_mark f ≡ true
+pub shown_return : (f : List ℕ) → is_blank f ≡ false → shown (f ++ (13 ∷ [])) ≡ suc (length f) → is_mark f ≡ true
 shown_return f b h =
     let white = lead_ended is_white f [] refl in
     let mark = mark_ended f [] in
@@ -174,7 +174,7 @@ header_stands parent other place l h =
     let s = empty_digit (begins_with 62 new.bytes) parent (head_of new.bytes).chomp other (suc (suc place)) (head_of new.bytes).digit in
     (s.0, s.1, on_lines parent other new (last_line place ∷ []) (head_of new.bytes) refl (ap (λ (t : List ℕ). header_fault false 0 (head_of t).rest) (append-nil l.bytes) ∙ h) refl ∙ s.2)
 
-early : (parent : ℤ) (size p : ℕ) (l : Line) (ls : List Line) (n : ℕ) → header_fault false 0 (head_of l.bytes).rest ≡ Some n → block_on parent size (l ∷ ls) ≡ Fails p → p ≤ l.at + length l.bytes
+pub early : (parent : ℤ) (size p : ℕ) (l : Line) (ls : List Line) (n : ℕ) → header_fault false 0 (head_of l.bytes).rest ≡ Some n → block_on parent size (l ∷ ls) ≡ Fails p → p ≤ l.at + length l.bytes
 early parent size p l ls n e h =
     let k = fails_at _ p (sym (on_fault parent size l ls (head_of l.bytes) n refl e) ∙ h) in
     let f = head_fault l.at n l.bytes e in
@@ -183,9 +183,9 @@ early parent size p l ls n e h =
     let d = length-drop 1 l.bytes in
     omega (arith, k, v, z, d)
 
-pub block_returned : (parent : ℤ) (size other place : ℕ) (r : Bool) (ks : List Line) → Ends place r ks → block_on parent size (cut ks place) ≡ Fails (suc place) → IsScalar (block_on parent other (glue ks (ended place [])))
-block_returned parent size other place r [] x h = absurd x
-block_returned parent size other place r (l ∷ []) x h = header_stands parent other place l (by_bytes l.bytes refl) where
+-- a header that a carriage return ends, and nothing behind it
+pub header_returned : (parent : ℤ) (size place : ℕ) (r : Bool) (l : Line) → Ends place r (l ∷ []) → block_on parent size (cut (l ∷ []) place) ≡ Fails (suc place) → header_fault false 0 (head_of l.bytes).rest ≡ None
+header_returned parent size place r l x h = by_bytes l.bytes refl where
   old : Line
   old = joint l (rest_of place (13 ∷ []))
 
@@ -204,6 +204,10 @@ block_returned parent size other place r (l ∷ []) x h = header_stands parent o
   by_bytes : (t : List ℕ) → l.bytes ≡ t → header_fault false 0 (head_of l.bytes).rest ≡ None
   by_bytes [] e = ap (λ (t : List ℕ). header_fault false 0 (head_of t).rest) e
   by_bytes (c ∷ f) e = head_none l.at l.bytes (ap (λ (t : List ℕ). head (suc l.at) (drop 1 t)) e ∙ head_faults.last (suc l.at) f (late c f e))
+
+pub block_returned : (parent : ℤ) (size other place : ℕ) (r : Bool) (ks : List Line) → Ends place r ks → block_on parent size (cut ks place) ≡ Fails (suc place) → IsScalar (block_on parent other (glue ks (ended place [])))
+block_returned parent size other place r [] x h = absurd x
+block_returned parent size other place r (l ∷ []) x h = header_stands parent other place l (header_returned parent size place r l x h)
 block_returned parent size other place r (l ∷ m ∷ ks) (x, y, z) h =
     block_cases l
     (λ n e. absurd (let k = early parent size (suc place) l (cut (m ∷ ks) place) n e h in omega (arith, k, x)))
@@ -296,13 +300,12 @@ digit_longer folded parent chomp size most None ls x h = by_in (inner_of (above_
   by_in (Wide at) e h = let v = wide_longer (above_of parent) 0 size ls x (e ∙ ap Wide (fails_at at size h)) in (v.0, v.1, λ other. nothing_stands folded parent chomp other (glue ls (rest_of size v.0 ∷ [])) v.2)
   by_in (Indented i) e h = absurd (content_not folded chomp i size most ls [] None 0 x h)
 
--- by more bytes, or by a break behind the header
-pub block_longer : (parent : ℤ) (size most : ℕ) (ls : List Line) → Ends size false ls → block_on parent most ls ≡ Fails size → LongerLines (block_on parent) size ls ⊎ ((other : ℕ) → IsScalar (block_on parent other (glue ls (ended size []))))
-block_longer parent size most [] x h = absurd x
-block_longer parent size most (l ∷ []) (x, y, z) h =
+-- a header that the text ends
+pub header_ended : (parent : ℤ) (size most : ℕ) (l : Line) → Ends size false (l ∷ []) → block_on parent most (l ∷ []) ≡ Fails size → header_fault false 0 (head_of l.bytes).rest ≡ None
+header_ended parent size most l (x, y, z) h =
     block_cases l
     (λ n e. absurd (let i = head_fault l.at n l.bytes e in let j = fails_at _ size (sym (on_fault parent most l [] (head_of l.bytes) n refl e) ∙ h) in edge n i.0 j i.1))
-    (λ e b. inr (λ other. header_stands parent other size l e))
+    (λ e b. e)
     (λ e b. absurd (let k : false ≡ true = sym y ∙ b in cc)) where
       edge : (n : ℕ) → head (suc l.at) (drop 1 l.bytes) ≡ Some (l.at + (length l.bytes - length (head_of l.bytes).rest) + n) → l.at + (length l.bytes - length (head_of l.bytes).rest) + n ≡ size → 0 < length l.bytes → ⊥
       edge n i j k =
@@ -314,6 +317,11 @@ block_longer parent size most (l ∷ []) (x, y, z) h =
             behind_first [] h = h
             behind_first (b ∷ []) h = absurd (cc)
             behind_first (b ∷ c ∷ xs) h = h
+
+-- by more bytes, or by a break behind the header
+pub block_longer : (parent : ℤ) (size most : ℕ) (ls : List Line) → Ends size false ls → block_on parent most ls ≡ Fails size → LongerLines (block_on parent) size ls ⊎ ((other : ℕ) → IsScalar (block_on parent other (glue ls (ended size []))))
+block_longer parent size most [] x h = absurd x
+block_longer parent size most (l ∷ []) x h = inr (λ other. header_stands parent other size l (header_ended parent size most l x h))
 block_longer parent size most (l ∷ m ∷ ls) (x, y, z) h =
     block_cases l
     (λ n e. absurd (let k = early parent most size l (m ∷ ls) n e h in omega (arith, k, x)))

@@ -1,5 +1,6 @@
 pub mod Agree
 pub mod AgreeLess
+pub mod BlockFed
 pub mod BlockHeads
 pub mod BlockLaw
 mod BlockLonger
@@ -8,14 +9,19 @@ mod BlockStays
 pub mod EscapeLonger
 mod EscapeWanted
 mod Examples
+pub mod KeyLines
+pub mod KeyReturned
 pub mod LineEnds
 pub mod Longer
 pub mod PlainClosed
 pub mod PlainDead
+mod PlainEnds
+pub mod PlainFed
 mod PlainFollowed
 pub mod PlainLaw
 pub mod PlainLines
 mod PlainLonger
+pub mod PlainPointed
 mod PlainShown
 pub mod PlainStays
 mod QuotedAlike
@@ -26,7 +32,7 @@ mod QuotedFollowed
 pub mod QuotedLaw
 pub mod QuotedLonger
 mod QuotedStays
-mod ScalarEnds
+pub mod ScalarEnds
 pub mod ScalarFollowed
 pub mod ScalarLaw
 mod ScalarLonger

@@ -177,7 +177,7 @@ feed_ahead [] h = absurd (cc)
 feed_ahead (x ∷ xs) h = ap (λ q. q || has_break xs) h
 
 -- with no line behind it, a line is the text
-behind_none : (at : ℕ) (xs : List ℕ) → behind at xs ≡ [] → (has_break xs ≡ false) × (line_at xs ≡ xs)
+pub behind_none : (at : ℕ) (xs : List ℕ) → behind at xs ≡ [] → (has_break xs ≡ false) × (line_at xs ≡ xs)
 behind_none at [] h = (refl, refl)
 behind_none at (b ∷ xs) h = by_feed (nat_eq b 10) (nat_eq b 13) (begins_with 10 xs) h (λ g. behind_none (suc at) xs g) (λ g. feed_ahead xs g) where
   by_feed : (p q r : Bool) → cond p (lines (suc at) xs) (behind (suc at) xs) ≡ [] → (behind (suc at) xs ≡ [] → (has_break xs ≡ false) × (line_at xs ≡ xs)) → (r ≡ true → has_break xs ≡ true)

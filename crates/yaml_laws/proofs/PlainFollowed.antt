@@ -28,7 +28,7 @@ keep_le b n [] l = by_white (is_white b) where
   by_white true = omega arith
   by_white false = omega arith
 
-trimmed_le : (bs : List ℕ) → length (trimmed bs) ≤ length bs
+pub trimmed_le : (bs : List ℕ) → length (trimmed bs) ≤ length bs
 trimmed_le [] = omega arith
 trimmed_le (b ∷ bs) = keep_le b (length bs) (trimmed bs) (trimmed_le bs)
 
@@ -49,7 +49,7 @@ one_line (suc n) (b ∷ xs) l h = by_break (begins_break b xs) l (λ m. one_line
   by_break false m r = ap (λ t. b ∷ t) (r (omega (arith, m)))
 
 -- and nothing ends the scalar on it
-white_goes : (flow white : Bool) (b : ℕ) (bs : List ℕ) → is_white b ≡ true → stops flow white b bs ≡ false
+pub white_goes : (flow white : Bool) (b : ℕ) (bs : List ℕ) → is_white b ≡ true → stops flow white b bs ≡ false
 white_goes flow white b bs h =
     let x : nat_eq b 58 ≡ false = grind (arith, nat_tests, h) in
     let y : nat_eq b 35 ≡ false = grind (arith, nat_tests, h) in

@@ -20,16 +20,16 @@ use Rattle.yaml_laws.proofs.PlainShown.{shown_colon, below_front, fail_parts, fa
 use Rattle.yaml_laws.proofs.PlainLaw.{marked, opens, dash, marks_end, mark_of, mark_made, mark_length, may_begin, bare, bare_return, wrong_to}
 
 -- a further line: the scalar goes on, whatever follows, or fails at a carriage return or a colon
-abbrev Goes : Bool → Why → List ℕ → ℕ → List ℕ → ℕ → ℕ → ℕ → (List ℕ → ℕ → ℕ → Outcome) → Type 0
+abbrev pub Goes : Bool → Why → List ℕ → ℕ → List ℕ → ℕ → ℕ → ℕ → (List ℕ → ℕ → ℕ → Outcome) → Type 0
 Goes flow w part at t e k p next = (next (joined flow part t k) (content_end flow part at) 0 ≡ Fails p) × ((other : List ℕ → ℕ → ℕ → Outcome) → joins flow w part at t e k other ≡ other (joined flow part t k) (content_end flow part at) 0)
 
-abbrev Returns : Bool → Why → List ℕ → ℕ → ℕ → Type 0
+abbrev pub Returns : Bool → Why → List ℕ → ℕ → ℕ → Type 0
 Returns flow w part at p = (w ≡ Return) × (return_shown flow part at ≡ p)
 
-abbrev Colons : Bool → Why → List ℕ → ℕ → ℕ → Type 0
+abbrev pub Colons : Bool → Why → List ℕ → ℕ → ℕ → Type 0
 Colons flow w part at p = (w ≡ Colon) × (flow ≡ false) × (at + plain_len flow false part + 1 ≡ p)
 
-joins_cases : (flow : Bool) (w : Why) (part : List ℕ) (at : ℕ) (t : List ℕ) (e k p : ℕ) (next : List ℕ → ℕ → ℕ → Outcome) → joins flow w part at t e k next ≡ Fails p → Goes flow w part at t e k p next ⊎ (Returns flow w part at p ⊎ Colons flow w part at p)
+pub joins_cases : (flow : Bool) (w : Why) (part : List ℕ) (at : ℕ) (t : List ℕ) (e k p : ℕ) (next : List ℕ → ℕ → ℕ → Outcome) → joins flow w part at t e k next ≡ Fails p → Goes flow w part at t e k p next ⊎ (Returns flow w part at p ⊎ Colons flow w part at p)
 joins_cases flow Break part at t e k p next h = inl (h, λ other. refl)
 joins_cases flow Return part at t e k p next h = inr (inl (refl, fails_same _ p h))
 joins_cases true Colon part at t e k p next h = absurd (ends_fails true part t at e k p h)
@@ -37,7 +37,7 @@ joins_cases false Colon part at t e k p next h = inr (inr (refl, refl, fails_sam
 joins_cases flow Comment part at t e k p next h = absurd (cc)
 joins_cases flow Mark part at t e k p next h = absurd (ends_fails flow part t at e k p h)
 
-shown_cases : (flow : Bool) (part : List ℕ) (at p : ℕ) → return_shown flow part at ≡ p → (at + plain_len flow false part ≡ p) ⊎ ((at + plain_len flow false part + 1 ≡ p) × ((not flow && ends_with 58 (take (plain_len flow false part) part)) ≡ false))
+pub shown_cases : (flow : Bool) (part : List ℕ) (at p : ℕ) → return_shown flow part at ≡ p → (at + plain_len flow false part ≡ p) ⊎ ((at + plain_len flow false part + 1 ≡ p) × ((not flow && ends_with 58 (take (plain_len flow false part) part)) ≡ false))
 shown_cases flow part at p h = by_test (not flow && ends_with 58 (take (plain_len flow false part) part)) h where
   by_test : (q : Bool) → cond q (at + plain_len flow false part) (at + plain_len flow false part + 1) ≡ p → (at + plain_len flow false part ≡ p) ⊎ ((at + plain_len flow false part + 1 ≡ p) × (q ≡ false))
   by_test true h = inl h
@@ -61,7 +61,7 @@ join_stands flow Mark part at t e k next r c n = ends_stands flow part at t e k
 empty_more : (s : Setting) (at : ℕ) (t : List ℕ) (e k : ℕ) → IsScalar (more s (rest_of at [] ∷ []) t e k)
 empty_more s at t e k = (t, e, refl)
 
-not_stands : (t : List ℕ) (e p : ℕ) → Stands t e ≡ Fails p → ⊥
+pub not_stands : (t : List ℕ) (e p : ℕ) → Stands t e ≡ Fails p → ⊥
 not_stands t e p h = cc
 
 -- bytes that go on up to a carriage return hold none, and no colon before white space
@@ -102,7 +102,7 @@ begins_ended k n [] l = absurd (omega (arith, l))
 begins_ended k zero (x ∷ f) l = refl
 begins_ended k (suc n) (x ∷ f) l = begins_ended k n f (omega (arith, l))
 
-inside_ended : (s : Setting) (f : List ℕ) → is_blank f ≡ false → inside s (f ++ (13 ∷ [])) ≡ inside s f
+pub inside_ended : (s : Setting) (f : List ℕ) → is_blank f ≡ false → inside s (f ++ (13 ∷ [])) ≡ inside s f
 inside_ended s f b = by_flow s.flow where
   xs : List ℕ
   xs = f ++ (13 ∷ [])
@@ -128,7 +128,7 @@ inside_ended s f b = by_flow s.flow where
       ∙ ap (λ q. cond (nat_lt (indent f) (above_of s.parent) || q) Outside (content_at (indent xs) (drop (indent xs) xs))) (begins_ended 9 (indent f) f l)
       ∙ ap (λ o. cond (nat_lt (indent f) (above_of s.parent) || begins_with 9 (drop (indent f) f)) Outside o) (same (indent xs) (indent f) space l)
 
-further_inside : (s : Setting) (xs : List ℕ) (n : ℕ) → below s xs ≡ Further n → inside s xs ≡ Further n
+pub further_inside : (s : Setting) (xs : List ℕ) (n : ℕ) → below s xs ≡ Further n → inside s xs ≡ Further n
 further_inside s xs n h = by_tests (is_blank xs) (is_mark xs) h where
   by_tests : (p q : Bool) → cond p Blank (cond q Outside (inside s xs)) ≡ Further n → inside s xs ≡ Further n
   by_tests true q h = absurd (cc)
@@ -180,7 +180,7 @@ last_returned s place at f t e k size h = cases (is_blank f) blank (λ b. cases 
   by_below b m (Further n) i h = last_further s place at n f t e k size i b m h
 
 -- a line that is not the last does not fail at the text's end
-before_end : (s : Setting) (p at n : ℕ) (xs : List ℕ) → below s xs ≡ Further n → at + length xs < p → Returns s.flow (reason s.flow (drop n xs)) (drop n xs) (at + n) p ⊎ Colons s.flow (reason s.flow (drop n xs)) (drop n xs) (at + n) p → ⊥
+pub before_end : (s : Setting) (p at n : ℕ) (xs : List ℕ) → below s xs ≡ Further n → at + length xs < p → Returns s.flow (reason s.flow (drop n xs)) (drop n xs) (at + n) p ⊎ Colons s.flow (reason s.flow (drop n xs)) (drop n xs) (at + n) p → ⊥
 before_end s p at n xs b l (inl r) =
     let w = fail_within s.flow xs n (skip_le s xs n b) (inl r.0) in
     elim (shown_cases s.flow (drop n xs) (at + n) p r.1) [ inl q ↦ omega (arith, q, w, l) | inr q ↦ (let z = q.0 in omega (arith, z, w, l)) ]
@@ -215,7 +215,7 @@ trimmed_last (x ∷ g) b w = ap (keep x) (trimmed_last g b w) ∙ some g where
   some [] = refl
   some (y ∷ g) = refl
 
-whole_content : (flow : Bool) (g : List ℕ) (b : ℕ) → is_white b ≡ false → plain_len flow false (g ++ (b ∷ [])) ≡ length (g ++ (b ∷ [])) → content flow (g ++ (b ∷ [])) ≡ g ++ (b ∷ [])
+pub whole_content : (flow : Bool) (g : List ℕ) (b : ℕ) → is_white b ≡ false → plain_len flow false (g ++ (b ∷ [])) ≡ length (g ++ (b ∷ [])) → content flow (g ++ (b ∷ [])) ≡ g ++ (b ∷ [])
 whole_content flow g b w l = ap (λ k. trimmed (take k (g ++ (b ∷ [])))) l ∙ ap trimmed (take_all (length (g ++ (b ∷ []))) (g ++ (b ∷ [])) (omega arith)) ∙ trimmed_last g b w
 
 -- a scalar whose text ends in the letter stands, up to a place
@@ -311,7 +311,7 @@ more_longer s size (l ∷ m ∷ ls) t e k (x, y, z) h = by_below (below s l.byte
   ])
 
 -- the first line
-first_cases : (s : Setting) (w : Why) (at : ℕ) (xs : List ℕ) (ls : List Line) (p : ℕ) → first s w at xs ls ≡ Fails p
+pub first_cases : (s : Setting) (w : Why) (at : ℕ) (xs : List ℕ) (ls : List Line) (p : ℕ) → first s w at xs ls ≡ Fails p
     → ((w ≡ Return) × (at + plain_len s.flow false xs + 1 ≡ p)) ⊎ ((more s ls (content s.flow xs) (content_end s.flow xs at) 0 ≡ Fails p) × ((other : List Line) → first s w at xs other ≡ more s other (content s.flow xs) (content_end s.flow xs at) 0))
 first_cases s Break at xs ls p h = by_line s.one_line refl h where
   by_line : (q : Bool) → s.one_line ≡ q → cond q (Stands (content s.flow xs) (content_end s.flow xs at)) (more s ls (content s.flow xs) (content_end s.flow xs at) 0) ≡ Fails p
@@ -333,7 +333,7 @@ first_stands s Colon at xs ls r n = (_, _, refl)
 first_stands s Comment at xs ls r n = (_, _, refl)
 first_stands s Mark at xs ls r n = (_, _, refl)
 
-opens_is : (s : Setting) (fresh : Bool) (at : ℕ) (xs : List ℕ) (ls : List Line) → (fresh && marked xs) ≡ false → begins_plain s.flow xs ≡ true → opens s at xs ls (fresh && marked xs) (begins_plain s.flow xs) ≡ first s (reason s.flow xs) at xs ls
+pub opens_is : (s : Setting) (fresh : Bool) (at : ℕ) (xs : List ℕ) (ls : List Line) → (fresh && marked xs) ≡ false → begins_plain s.flow xs ≡ true → opens s at xs ls (fresh && marked xs) (begins_plain s.flow xs) ≡ first s (reason s.flow xs) at xs ls
 opens_is s fresh at xs ls m b = ap (λ q. opens s at xs ls q (begins_plain s.flow xs)) m ∙ ap (opens s at xs ls false) b
 
 opens_stands : (s : Setting) (fresh : Bool) (at : ℕ) (xs : List ℕ) (ls : List Line) → (fresh && marked xs) ≡ false → begins_plain s.flow xs ≡ true → IsScalar (first s (reason s.flow xs) at xs ls) → IsScalar (opens s at xs ls (fresh && marked xs) (begins_plain s.flow xs))
@@ -347,7 +347,7 @@ mark_longer f h =
       ends [] h = refl
       ends (d ∷ r) h = h
 
-begins_less : (flow : Bool) (f : List ℕ) → begins_plain flow (f ++ (13 ∷ [])) ≡ true → begins_plain flow f ≡ true
+pub begins_less : (flow : Bool) (f : List ℕ) → begins_plain flow (f ++ (13 ∷ [])) ≡ true → begins_plain flow f ≡ true
 begins_less flow [] h = absurd (cc)
 begins_less flow (b ∷ []) h = firm (may_begin b) (is_doubtful b) (bare flow (13 ∷ [])) (bare flow []) (bare_return flow 13 [] refl) h where
   firm : (x d u v : Bool) → u ≡ true → (x && (not d || not u)) ≡ true → (x && (not d || not v)) ≡ true
@@ -357,14 +357,14 @@ begins_less flow (b ∷ []) h = firm (may_begin b) (is_doubtful b) (bare flow (1
   firm false d u v e h = absurd (cc)
 begins_less flow (b ∷ c ∷ f) h = h
 
-mark_less : (fresh : Bool) (f : List ℕ) → (fresh && marked (f ++ (13 ∷ []))) ≡ false → (fresh && marked f) ≡ false
+pub mark_less : (fresh : Bool) (f : List ℕ) → (fresh && marked (f ++ (13 ∷ []))) ≡ false → (fresh && marked f) ≡ false
 mark_less false f h = refl
 mark_less true f h = cases (marked f) (λ m. absurd (let z : true ≡ false = sym (mark_longer f m) ∙ h in cc)) (λ m. m)
 
 two_not : (a b : ℕ) → marked (a ∷ b ∷ 13 ∷ []) ≡ false
 two_not a b = grind (arith, nat_tests)
 
-not_three : (fresh : Bool) (f : List ℕ) → length f ≡ 2 → (fresh && marked (f ++ (13 ∷ []))) ≡ true → ⊥
+pub not_three : (fresh : Bool) (f : List ℕ) → length f ≡ 2 → (fresh && marked (f ++ (13 ∷ []))) ≡ true → ⊥
 not_three fresh [] l h = omega (arith, l)
 not_three fresh (a ∷ []) l h = omega (arith, l)
 not_three fresh (a ∷ b ∷ []) l h = by_fresh fresh h where
@@ -373,7 +373,7 @@ not_three fresh (a ∷ b ∷ []) l h = by_fresh fresh h where
   by_fresh false h = cc
 not_three fresh (a ∷ b ∷ c ∷ f) l h = omega (arith, l)
 
-wrong_early : (at : ℕ) (f : List ℕ) → wrong_begin at (f ++ (13 ∷ [])) < suc (at + length f)
+pub wrong_early : (at : ℕ) (f : List ℕ) → wrong_begin at (f ++ (13 ∷ [])) < suc (at + length f)
 wrong_early at [] = omega arith
 wrong_early at (b ∷ f) = by_doubt (is_doubtful b) where
   by_doubt : (d : Bool) → cond d (suc at) at < suc (at + suc (length f))
@@ -390,7 +390,7 @@ plain_first_returned s fresh place at f false true x y end h = elim (first_cases
 ]
 
 -- a first line that is not the last
-plain_below : (P : Outcome → Type 0) (s : Setting) (fresh : Bool) (p : ℕ) (l : Line) (ls ms : List Line) → l.at + length l.bytes < p → ((t : List ℕ) (e : ℕ) → more s ls t e 0 ≡ Fails p → P (more s ms t e 0)) → plain_on s fresh (l ∷ ls) ≡ Fails p → P (plain_on s fresh (l ∷ ms))
+pub plain_below : (P : Outcome → Type 0) (s : Setting) (fresh : Bool) (p : ℕ) (l : Line) (ls ms : List Line) → l.at + length l.bytes < p → ((t : List ℕ) (e : ℕ) → more s ls t e 0 ≡ Fails p → P (more s ms t e 0)) → plain_on s fresh (l ∷ ls) ≡ Fails p → P (plain_on s fresh (l ∷ ms))
 plain_below P s fresh p l ls ms less below h = by_tests (fresh && marked l.bytes) (begins_plain s.flow l.bytes) refl refl h where
   by_tests : (m b : Bool) → (fresh && marked l.bytes) ≡ m → begins_plain s.flow l.bytes ≡ b → opens s l.at l.bytes ls m b ≡ Fails p → P (opens s l.at l.bytes ms (fresh && marked l.bytes) (begins_plain s.flow l.bytes))
   by_tests true b x y h = absurd (let q = fails_same _ p h in let k = mark_length l.bytes (second fresh (marked l.bytes) x) in omega (arith, q, k, less)) where
@@ -433,7 +433,7 @@ safe_next flow b bs x y = by_tests (is_white b) flow (is_flow_mark b) x y where
   by_tests false false false a b = refl
 
 -- a letter that ends the text
-letter_goes : (flow white : Bool) → plain_len flow white (97 ∷ []) ≡ 1
+pub letter_goes : (flow white : Bool) → plain_len flow white (97 ∷ []) ≡ 1
 letter_goes true white = refl
 letter_goes false white = refl
 

@@ -10,6 +10,7 @@ use Rattle.yaml_laws.specs.code.Endings.{last_mark}
 use Rattle.yaml_laws.proofs.Agree.{drop_before}
 use Rattle.yaml_laws.proofs.Longer.{no_feed}
 use Rattle.yaml_laws.proofs.PlainClosed.{plain_closed}
+use Rattle.yaml_laws.proofs.PlainEnds.{plain_unmarked}
 use Rattle.yaml_laws.proofs.PlainFollowed.{plain_keyed}
 use Rattle.yaml_laws.proofs.QuotedFollowed.{IsApart, quoted_followed}
 
@@ -22,13 +23,13 @@ begins_longer k (x ∷ xs) y l = refl
 some_ahead : (text : List ℕ) (at : ℕ) → at < length text → 0 < length (drop at text)
 some_ahead text at l = omega (arith, l, length-drop at text)
 
-quoted_longer : (text y : List ℕ) (at : ℕ) → at < length text → begins_quoted (drop at (text ++ y)) ≡ begins_quoted (drop at text)
+pub quoted_longer : (text y : List ℕ) (at : ℕ) → at < length text → begins_quoted (drop at (text ++ y)) ≡ begins_quoted (drop at text)
 quoted_longer text y at l =
     let xs = drop at text in
     let some = some_ahead text at l in
     ap begins_quoted (drop_before at text y (omega (arith, l))) ∙ ap (λ q. q || begins_with 39 (drop at text ++ y)) (begins_longer 34 (drop at text) y some) ∙ ap (λ q. begins_with 34 (drop at text) || q) (begins_longer 39 (drop at text) y some)
 
-block_longer : (s : Setting) (text y : List ℕ) (at : ℕ) → at < length text → begins_block s (drop at (text ++ y)) ≡ begins_block s (drop at text)
+pub block_longer : (s : Setting) (text y : List ℕ) (at : ℕ) → at < length text → begins_block s (drop at (text ++ y)) ≡ begins_block s (drop at text)
 block_longer s text y at l =
     let some = some_ahead text at l in
     ap (begins_block s) (drop_before at text y (omega (arith, l))) ∙ ap (λ q. not (s.flow || s.one_line) && (q || begins_with 62 (drop at text ++ y))) (begins_longer 124 (drop at text) y some)
@@ -94,3 +95,17 @@ flow_followed s text c tail at t e flow mark one low near last h =
     (λ q g. quoted_longer_text s text (c ∷ tail) at t e (omega (arith, low)) near quote apart g)
     (λ q b g. absurd (no_flow_block s (drop at text) flow b))
     (λ q b g. ap (λ w. plain_scalar w (text ++ (c ∷ tail)) at) is ∙ plain_closed c tail mark s.parent s.one_line text at t e (feed_none tail one) (omega (arith, low)) last (sym (ap (λ w. plain_scalar w text at) is) ∙ g)) h
+
+-- one that ends with the text
+pub flow_closed : (s : Setting) (text : List ℕ) (c : ℕ) (tail : List ℕ) (at : ℕ) (t : List ℕ) → s.flow ≡ true → is_flow_mark c ≡ true → has_break tail ≡ false → at < length text → scalar_at s text at ≡ Stands t (length text) → scalar_at s (text ++ (c ∷ tail)) at ≡ Stands t (length text)
+flow_closed s text c tail at t flow mark one low h =
+    let is = in_flow s flow in
+    let quote : nat_eq c 39 ≡ false = grind (arith, nat_tests, mark) in
+    let feed : nat_eq c 10 ≡ false = grind (arith, nat_tests, mark) in
+    let apart : (ends_with 13 (drop at text) && nat_eq c 10) ≡ false = ap (λ q. ends_with 13 (drop at text) && q) feed ∙ none_meets (ends_with 13 (drop at text)) in
+    kind_longer s text (c ∷ tail) at (Stands t (length text)) (Stands t (length text)) low
+    (λ q g. quoted_longer_text s text (c ∷ tail) at t (length text) (omega (arith, low)) (omega arith) quote apart g)
+    (λ q b g. absurd (no_flow_block s (drop at text) flow b))
+    (λ q b g.
+    let last = plain_unmarked s text at t (omega (arith, low)) g in
+    ap (λ w. plain_scalar w (text ++ (c ∷ tail)) at) is ∙ plain_closed c tail mark s.parent s.one_line text at t (length text) (feed_none tail one) (omega (arith, low)) last (sym (ap (λ w. plain_scalar w text at) is) ∙ g)) h

@@ -17,7 +17,7 @@ use Rattle.yaml_laws.proofs.BlockLonger.{block_returned, block_longer}
 use Rattle.yaml_laws.proofs.PlainLonger.{Lettered, plain_returned, plain_longer}
 use Rattle.yaml_laws.proofs.EscapeLonger.{is_fit, AllFit}
 use Rattle.yaml_laws.proofs.QuotedLaw.{quote_of}
-use Rattle.yaml_laws.proofs.QuotedLonger.{quote_fit}
+use Rattle.yaml_laws.proofs.QuotedLonger.{quote_fit, head_fit}
 use Rattle.yaml_laws.proofs.QuotedEnds.{first_of, is_quote, on_longer, on_returned}
 use Rattle.yaml_laws.proofs.ScalarLaw.{column_same, quoted_same, block_same}
 
@@ -43,6 +43,10 @@ rest_append (b ∷ v) w h g = by_byte (nat_eq b 10) (is_ascii b) h (λ i. rest_a
 
 quote_rest : (c : ℕ) (f : List ℕ) → IsRest (quote_of (c ∷ f) ∷ [])
 quote_rest c f = fit_rest (quote_of (c ∷ f) ∷ []) (ap (λ q. cond q true false) (quote_fit (quote_of (c ∷ f)) (is_quote c f)))
+
+-- the first of them is no white space, no part of a break and no part of a mark
+abbrev pub FitHead : List ℕ → Type 0
+FitHead w = (c : ℕ) × (v : List ℕ) × (w ≡ c ∷ v) × (is_fit c ≡ true)
 
 -- texts that begin with one, which has a last byte
 module _ (s : Setting) (before : List ℕ) (b at : ℕ) (l : at ≤ length before) where
@@ -198,7 +202,7 @@ module _ (s : Setting) (before : List ℕ) (b at : ℕ) (l : at ≤ length befor
       | inr r ↦ (let z = r (length (new (13 ∷ 10 ∷ []))) in short (13 ∷ 10 ∷ []) false true x y refl (z.0, z.1, ap (block_on s.parent (length (new (13 ∷ 10 ∷ [])))) break_lines ∙ z.2))
     ]
 
-    pub quoted_more_at : begins_quoted (drop at text) ≡ true → quoted_scalar s text at ≡ Fails (length text) → (w : List ℕ) × IsRest w × IsScalar (quoted_scalar s (new w) at)
+    pub quoted_more_at : begins_quoted (drop at text) ≡ true → quoted_scalar s text at ≡ Fails (length text) → (w : List ℕ) × IsRest w × IsScalar (quoted_scalar s (new w) at) × FitHead w
     quoted_more_at q h =
         let first = quoted_whole last (sym (ap begins_quoted (dropped [])) ∙ q) in
         let c = first.0 in
@@ -210,7 +214,7 @@ module _ (s : Setting) (before : List ℕ) (b at : ℕ) (l : at ≤ length befor
         let w = r.0 ++ (quote_of (c ∷ f) ∷ []) in
         let rest = rest_append r.0 (quote_of (c ∷ f) ∷ []) (fit_rest r.0 r.1) (quote_rest c f) in
         let z = r.2 (length (new w)) in
-        (w, rest, (z.0, z.1, ap (quoted_on s.one_line (length (new w))) (longer_lines w rest.0 ∙ ap (λ ls. glue ls (rest_of size w ∷ [])) first.2) ∙ z.2))
+        (w, rest, (z.0, z.1, ap (quoted_on s.one_line (length (new w))) (longer_lines w rest.0 ∙ ap (λ ls. glue ls (rest_of size w ∷ [])) first.2) ∙ z.2), head_fit (quote_of (c ∷ f)) r.0 (is_quote c f) r.1)
 
     longer : (q r : Bool) → begins_quoted (drop at text) ≡ q → begins_block s (drop at text) ≡ r → cond q (quoted_scalar s text at) (cond r (block_scalar s text at) (plain_scalar s text at)) ≡ Fails (length text) → IsShort s text at
     longer true r x y h = let z = quoted_more_at x h in short z.0 true r x y z.1.1 z.2

@@ -8,4 +8,7 @@ mod escape;
 mod scalars;
 
 pub use escape::wanted_digits;
-pub use scalars::{flow_followed, key_followed, same_scalar, scalar_ended, syntax_place};
+pub use scalars::{
+    block_fed, flow_closed, flow_followed, header_ended, key_fed, key_followed, key_returned,
+    same_scalar, scalar_ended, scalar_fed, scalar_pointed, syntax_place,
+};

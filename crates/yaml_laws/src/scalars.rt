@@ -1,11 +1,11 @@
 //! Scalars: the places of refusals, and texts that begin alike.
-ghost use Rattle.std.specs.Prelude.{ℕ, List, ◌∷◌, ◌++◌, ◌≡◌, ◌⊎◌, ◌<◌, ◌≤◌, true, false, length, drop};
+ghost use Rattle.std.specs.Prelude.{ℕ, List, [], ◌∷◌, ◌++◌, ◌≡◌, ◌⊎◌, ◌<◌, ◌≤◌, ◌+◌, true, false, length, drop};
 ghost use Rattle.yaml_scalars.specs.Lines.{Fails, Stands, ends_with, is_blank};
 ghost use Rattle.yaml_scalars.specs.Plain.{is_flow_mark, is_unsafe};
 ghost use Rattle.yaml_scalars.specs.code.Walk.{ends_line, line_at, has_break, behind};
 ghost use Rattle.yaml_scalars.specs.Scalar.{begins_block, begins_quoted, scalar_at};
 ghost use Rattle.yaml_laws.specs.code.Agreement.{AgreesTo, scalar_shown};
-ghost use Rattle.yaml_laws.specs.code.Endings.{last_mark};
+ghost use Rattle.yaml_laws.specs.code.Endings.{last_mark, further_line, IsKeyEnd};
 ghost use Rattle.yaml_laws.specs.code.Refusals.{IsEndedBy, IsSyntax};
 
 use yaml_scalars::Setting;
@@ -38,9 +38,59 @@ pub fn flow_followed(text: &str, at: usize, setting: Setting)
     ensures { (mark : ℕ) (more scalar : List ℕ) (end : ℕ) → setting.flow ≡ true → is_flow_mark mark ≡ true → has_break more ≡ false → end ≤ length text.now → last_mark (behind at (drop at text.now)) ≡ false → scalar_at setting text.now at ≡ Stands scalar end → scalar_at setting (text.now ++ (mark ∷ more)) at ≡ Stands scalar end }
 {}
 
+/// A scalar in flow that ends with the text stands where behind the text stands more of the last line that begins with a
+/// bracket or a comma. The call itself does nothing.
+pub fn flow_closed(text: &str, at: usize, setting: Setting)
+    requires { at < length text.now }
+    ensures { (mark : ℕ) (more scalar : List ℕ) → setting.flow ≡ true → is_flow_mark mark ≡ true → has_break more ≡ false → scalar_at setting text.now at ≡ Stands scalar (length text.now) → scalar_at setting (text.now ++ (mark ∷ more)) at ≡ Stands scalar (length text.now) }
+{}
+
 /// Where a quoted scalar, or a plain one whose text does not end in a carriage return, fails at the text's length, some more
 /// bytes of ASCII complete it so that it ends with them, and the text of a plain one in a letter. The call itself does nothing.
 pub fn scalar_ended(text: &str, at: usize, setting: Setting)
     requires { at < length text.now }
     ensures { begins_block setting (drop at text.now) ≡ false → (begins_quoted (drop at text.now) ≡ true) ⊎ (ends_with 13 text.now ≡ false) → scalar_at setting text.now at ≡ Fails (length text.now) → IsEndedBy setting text.now at }
+{}
+
+/// Where a plain scalar that is no key fails behind a carriage return that ends the text, a line feed and a further line
+/// complete it so that it ends with the text, in the letter a, unless a colon stands in front of the carriage return or the
+/// three bytes of a mark begin its line. The call itself does nothing.
+pub fn scalar_fed(front: &str, at: usize, setting: Setting)
+    requires { at ≤ length front.now }
+    ensures { setting.one_line ≡ false → begins_quoted (drop at (front.now ++ (13 ∷ []))) ≡ false → begins_block setting (drop at (front.now ++ (13 ∷ []))) ≡ false → ends_with 58 front.now ≡ false → last_mark (behind at (drop at front.now)) ≡ false → scalar_at setting (front.now ++ (13 ∷ [])) at ≡ Fails (length (front.now ++ (13 ∷ []))) → (scalar : List ℕ) × (scalar_at setting (front.now ++ (13 ∷ 10 ∷ further_line setting)) at ≡ Stands (scalar ++ (97 ∷ [])) (length (front.now ++ (13 ∷ 10 ∷ further_line setting)))) }
+{}
+
+/// Where a plain scalar on one line ends at a colon that ends the text, with nothing but white space between, a letter behind
+/// the colon makes the scalar end with the text, in that letter. The call itself does nothing.
+pub fn scalar_pointed(front: &str, at: usize, setting: Setting)
+    requires { at ≤ length front.now }
+    ensures { (scalar : List ℕ) (size : ℕ) → has_break (drop at front.now) ≡ false → begins_quoted (drop at (front.now ++ (58 ∷ []))) ≡ false → begins_block setting (drop at (front.now ++ (58 ∷ []))) ≡ false → at + size ≤ length front.now → is_blank (drop (at + size) front.now) ≡ true → scalar_at setting (front.now ++ (58 ∷ [])) at ≡ Stands scalar (at + size) → (longer : List ℕ) × (scalar_at setting (front.now ++ (58 ∷ 97 ∷ [])) at ≡ Stands (longer ++ (97 ∷ [])) (length (front.now ++ (58 ∷ 97 ∷ [])))) }
+{}
+
+/// Where a block scalar fails behind a carriage return that ends the text, a line feed completes it so that it ends with the
+/// text, unless the three bytes of a mark stand before the carriage return. The call itself does nothing.
+pub fn block_fed(front: &str, at: usize, setting: Setting)
+    requires { at ≤ length front.now }
+    ensures { begins_quoted (drop at (front.now ++ (13 ∷ []))) ≡ false → begins_block setting (drop at (front.now ++ (13 ∷ []))) ≡ true → last_mark (behind at (drop at front.now)) ≡ false → scalar_at setting (front.now ++ (13 ∷ [])) at ≡ Fails (length (front.now ++ (13 ∷ []))) → (scalar : List ℕ) × (scalar_at setting (front.now ++ (13 ∷ 10 ∷ [])) at ≡ Stands scalar (length (front.now ++ (13 ∷ 10 ∷ [])))) }
+{}
+
+/// Where a block scalar fails at the text's end in its header, and no carriage return ends the text, a break completes it so
+/// that it ends with the text. The call itself does nothing.
+pub fn header_ended(text: &str, at: usize, setting: Setting)
+    requires { at < length text.now }
+    ensures { begins_quoted (drop at text.now) ≡ false → begins_block setting (drop at text.now) ≡ true → ends_with 13 (drop at text.now) ≡ false → has_break (drop at text.now) ≡ false → scalar_at setting text.now at ≡ Fails (length text.now) → (scalar : List ℕ) × (scalar_at setting (text.now ++ (13 ∷ 10 ∷ [])) at ≡ Stands scalar (length (text.now ++ (13 ∷ 10 ∷ [])))) }
+{}
+
+/// A key is told by its line: a break behind the text changes none, and no key that fails. The call itself does nothing.
+pub fn key_fed(text: &str, at: usize, setting: Setting)
+    requires { at < length text.now }
+    ensures feed { (more : List ℕ) → setting.one_line ≡ true → ends_with 13 text.now ≡ false → scalar_at setting (text.now ++ (10 ∷ more)) at ≡ scalar_at setting text.now at }
+    ensures broken { (more : List ℕ) → setting.one_line ≡ true → scalar_at setting (text.now ++ (13 ∷ 10 ∷ more)) at ≡ scalar_at setting text.now at }
+{}
+
+/// Where a plain key fails behind a carriage return that ends the text, it stands without the carriage return, with nothing but
+/// white space behind it, or with a colon behind that. The call itself does nothing.
+pub fn key_returned(front: &str, at: usize, setting: Setting)
+    requires { at < length front.now }
+    ensures { setting.one_line ≡ true → begins_quoted (drop at (front.now ++ (13 ∷ []))) ≡ false → scalar_at setting (front.now ++ (13 ∷ [])) at ≡ Fails (length (front.now ++ (13 ∷ []))) → (scalar : List ℕ) × (size : ℕ) × (scalar_at setting front.now at ≡ Stands scalar (at + size)) × (at + size ≤ length front.now) × IsKeyEnd (drop (at + size) front.now) }
 {}
