@@ -1,14 +1,15 @@
 -- What is spelled so is read so: the choices by the lexemes ahead, given what the chosen reader gives.
-use Rattle.std.proofs.Common.{◌≡◌, ℕ, suc, Bool, true, false, cond, ◌&&◌, refl, sym, ◌∙◌, true≢false}
+use Rattle.std.proofs.Common.{◌≡◌, ℕ, suc, Bool, true, false, cond, ◌&&◌, refl, sym, ◌∙◌, subst, true≢false}
 use Rattle.guard_syntax.specs.Syntax.{Expr, Part}
 use Rattle.literal_parser.specs.Lexemes.{Lexeme}
-use Rattle.literal_parser.specs.Forms.{form, is_name, is_any_name, is_lparen, is_plain, is_constant, is_some_word, is_start, is_neg, is_operator_word, opens_range, is_literal, is_applied, leads, is_led}
+use Rattle.literal_parser.specs.Forms.{form, is_name, is_any_name, is_lparen, is_plain, is_constant, is_function_word, is_some_word, is_start, is_neg, is_operator_word, opens_range, is_literal, is_applied, begins_query, leads, is_led}
 use Rattle.literal_parser.specs.States.{State}
 use Rattle.literal_parser.specs.code.Parser.{Parser, choose, choose_pair, choose_next, choose_third}
-use Rattle.guard_parser.specs.code.Reading.{Inner, tree_expr, applied, asked_expr, expr_of, found_expr, value_of, headed, ruled, led_by_name, cond_of}
+use Rattle.guard_parser.specs.code.Reading.{Inner, tree_expr, applied, asked_expr, named_expr, expr_of, found_expr, value_of, headed, ruled, led_by_name, cond_of}
 use Rattle.literal_parser.proofs.Combine.{Gives}
 use Rattle.literal_parser.proofs.Apart.{apart, implied}
-use Rattle.guard_parser.proofs.Facts.{literal_range, literal_plain, literal_constant, literal_applied, literal_named, literal_other, led_by_next, led_by_third, unled_next, unled_third}
+use Rattle.guard_parser.proofs.Rooms.{roomy_reads}
+use Rattle.guard_parser.proofs.Facts.{literal_range, literal_plain, literal_constant, literal_applied, literal_named, literal_other, literal_word, led_by_next, led_by_third, unled_next, unled_third}
 
 -- no test answers both
 pub contrary : {v : Bool} → v ≡ true → v ≡ false → ⊥
@@ -52,29 +53,29 @@ module _ (s : ℕ → Lexeme) where
 
     pub literal_chosen : (x : Expr) (a b : State) (seen : ℕ) → is_literal (s a.at) (s (suc a.at)) ≡ true
         → ((n : ℕ) → Gives (tree_expr s turns i a n) x b) → Gives (expr_of s turns i a seen) x b
-    unfolding expr_of
-    literal_chosen x a b seen e h = pick is_any_name _ _ a seen
+    unfolding expr_of named_expr
+    literal_chosen x a b seen e h = pick is_function_word _ _ a seen (λ word n. absurd (contrary e (literal_word (s a.at) (s (suc a.at)) word))) (λ word n. pick is_any_name _ _ a n
         (λ name n. pick_pair opens_range _ _ a n (λ r m. h m) (λ r m. pick_next is_lparen _ _ a m
         (λ l k. absurd (contrary e (literal_applied (s a.at) (s (suc a.at)) name r l)))
         (λ l k. pick is_constant _ _ a k (λ c j. h j) (λ c j. absurd (contrary e (literal_named (s a.at) (s (suc a.at)) name r c))))))
-        (λ name n. pick is_plain _ _ a n (λ p m. h m) (λ p m. absurd (contrary e (literal_other (s a.at) (s (suc a.at)) name p))))
+        (λ name n. pick is_plain _ _ a n (λ p m. h m) (λ p m. absurd (contrary e (literal_other (s a.at) (s (suc a.at)) name p)))))
 
-    pub applied_chosen : (x : Expr) (a b : State) (seen : ℕ) → is_literal (s a.at) (s (suc a.at)) ≡ false → is_any_name (form (s a.at)) ≡ true → is_lparen (form (s (suc a.at))) ≡ true
+    pub applied_chosen : (x : Expr) (a b : State) (seen : ℕ) → i.roomy ≡ true → is_literal (s a.at) (s (suc a.at)) ≡ false → is_any_name (form (s a.at)) ≡ true → is_lparen (form (s (suc a.at))) ≡ true
         → ((n : ℕ) → Gives (applied s turns i a n) x b) → Gives (expr_of s turns i a seen) x b
-    unfolding expr_of
-    applied_chosen x a b seen e f g h = pick is_any_name _ _ a seen
+    unfolding expr_of named_expr
+    applied_chosen x a b seen room e f g h = pick is_function_word _ _ a seen (λ word n. subst (λ o. Gives o x b) (sym (roomy_reads s turns i (applied s turns i) a n room)) (h n)) (λ word n. pick is_any_name _ _ a n
         (λ name n. pick_pair opens_range _ _ a n (λ r m. absurd (contrary (literal_range (s a.at) (s (suc a.at)) r) e)) (λ r m. pick_next is_lparen _ _ a m
         (λ l k. h k) (λ l k. absurd (contrary g l))))
-        (λ name n. absurd (contrary f name))
+        (λ name n. absurd (contrary f name)))
 
-    pub asked_chosen : (x : Expr) (a b : State) (seen : ℕ) → is_literal (s a.at) (s (suc a.at)) ≡ false → is_applied (s a.at) (s (suc a.at)) ≡ false
+    pub asked_chosen : (x : Expr) (a b : State) (seen : ℕ) → begins_query (form (s a.at)) ≡ true → is_literal (s a.at) (s (suc a.at)) ≡ false → is_applied (s a.at) (s (suc a.at)) ≡ false
         → ((n : ℕ) → Gives (asked_expr s turns i a n) x b) → Gives (expr_of s turns i a seen) x b
-    unfolding expr_of
-    asked_chosen x a b seen e f h = pick is_any_name _ _ a seen
+    unfolding expr_of named_expr
+    asked_chosen x a b seen asks e f h = pick is_function_word _ _ a seen (λ word n. absurd (contrary asks (apart is_function_word begins_query (s a.at) refl word))) (λ word n. pick is_any_name _ _ a n
         (λ name n. pick_pair opens_range _ _ a n (λ r m. absurd (contrary (literal_range (s a.at) (s (suc a.at)) r) e)) (λ r m. pick_next is_lparen _ _ a m
         (λ l k. absurd (contrary (and_true _ _ name l) f))
         (λ l k. pick is_constant _ _ a k (λ c j. absurd (contrary (literal_constant (s a.at) (s (suc a.at)) c l) e)) (λ c j. h j))))
-        (λ name n. pick is_plain _ _ a n (λ p m. absurd (contrary (literal_plain (s a.at) (s (suc a.at)) p) e)) (λ p m. h m))
+        (λ name n. pick is_plain _ _ a n (λ p m. absurd (contrary (literal_plain (s a.at) (s (suc a.at)) p) e)) (λ p m. h m)))
 
     -- behind a let's `=`: `some` and a query, unless the word is a function's name
     pub found_chosen : (x : Expr) (a b : State) (seen : ℕ) → is_applied (s a.at) (s (suc a.at)) ≡ false → is_some_word (form (s a.at)) ≡ true

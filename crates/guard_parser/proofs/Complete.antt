@@ -550,12 +550,12 @@ module _ (s : ℕ → Lexeme) where
           let paren = subst (λ m. is_lparen (form (s m)) ≡ true) (place f.2) g.0 in
           let behind = subst (λ m. is_lparen (form (s (suc m))) ≡ true) (place o.1) paren in
           lone_chosen turns (inners s turns (suc depth)) lone _ a z seen (λ w. behind) (λ sn.
-          applied_chosen s turns (inners s turns (suc depth)) _ a z sn e (subst (λ m. is_any_name (form (s m)) ≡ true) (place o.1) f.0) behind (λ sn.
+          applied_chosen s turns (inners s turns (suc depth)) _ a z sn refl e (subst (λ m. is_any_name (form (s m)) ≡ true) (place o.1) f.0) behind (λ sn.
           gives_then _ (gives_opens s n a b sn o) (λ sn. gives_then _ (gives_has s is_any_name text_of name b c sn f) (λ sn. gives_then _ (gives_takes s is_lparen c d sn g) (λ sn.
           gives_then _ (exprs_give depth es d l sn (omega arith) (omega arith) h) (λ sn. gives_then _ (gives_takes s is_rparen l z sn i) (λ sn. gives)))))))
       expr_gives depth lone (asked q) a z seen deep end (e, (f, g)) =
           lone_chosen turns (inners s turns depth) lone _ a z seen (λ w. absurd (contrary w (apart begins_query is_some_word (s a.at) refl (query_begins q a z g)))) (λ sn.
-          asked_chosen s turns (inners s turns depth) _ a z sn e f (λ sn. gives_then _ (query_gives depth q a z sn deep end g) (λ sn. gives)))
+          asked_chosen s turns (inners s turns depth) _ a z sn (query_begins q a z g) e f (λ sn. gives_then _ (query_gives depth q a z sn deep end g) (λ sn. gives)))
       expr_gives depth false (found n q) a z seen deep end (v, h) = absurd cc
       expr_gives depth true (found n q) a z seen deep end (v, (e, (b, o, (c, f, g)))) =
           found_chosen s turns (inners s turns depth) _ a z seen e (subst (λ m. is_some_word (form (s m)) ≡ true) (place o.1) f.0) (λ sn.

@@ -1,7 +1,7 @@
 -- What the tests of lexemes in a row say together.
 use Rattle.std.proofs.Common.{◌≡◌, Bool, true, false, not, ◌&&◌, ◌||◌, refl}
 use Rattle.literal_parser.specs.Lexemes.{Lexeme}
-use Rattle.literal_parser.specs.Forms.{form, is_name, is_any_name, is_lparen, is_plain, is_constant, is_r, is_start, is_neg, is_operator_word, opens_range, is_literal, is_applied, leads, goes_on, is_led}
+use Rattle.literal_parser.specs.Forms.{form, is_name, is_any_name, is_lparen, is_plain, is_constant, is_function_word, is_r, is_start, is_neg, is_operator_word, opens_range, is_literal, is_applied, leads, goes_on, is_led}
 use Rattle.literal_parser.proofs.Apart.{apart, denied}
 
 -- ---- literals, calls and queries: plain, range, constant, parenthesis
@@ -46,6 +46,10 @@ literal_named x y e f g = by_none (is_plain (form x)) (opens_range x y) (is_cons
 pub literal_other : (x y : Lexeme) → is_any_name (form x) ≡ false → is_plain (form x) ≡ false → is_literal x y ≡ false
 literal_other x y e f = by_none (is_plain (form x)) (opens_range x y) (is_constant (form x)) (is_lparen (form y)) f
     (no_range (is_r (form x)) _ (denied is_r is_any_name x refl e)) (denied is_constant is_any_name x refl e)
+
+pub literal_word : (x y : Lexeme) → is_function_word (form x) ≡ true → is_literal x y ≡ false
+literal_word x y e = by_none (is_plain (form x)) (opens_range x y) (is_constant (form x)) (is_lparen (form y)) (apart is_function_word is_plain x refl e)
+    (no_range (is_r (form x)) _ (apart is_function_word is_r x refl e)) (apart is_function_word is_constant x refl e)
 
 pub applied_not : (x y : Lexeme) → is_lparen (form y) ≡ false → is_applied x y ≡ false
 applied_not x y e = helper (is_any_name (form x)) (is_lparen (form y)) e where

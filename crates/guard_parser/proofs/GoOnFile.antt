@@ -4,7 +4,7 @@ use Rattle.std.proofs.lemmas.Bool.Decides.{nat_tests}
 use Rattle.guard_lexer.specs.declared.token.Mark.TheVariants as m
 use Rattle.guard_syntax.specs.Syntax.{Body, Part, no_lets, more_lets, no_disjs, more_disjs, conds, disj, more_parts, no_parts, refer}
 use Rattle.literal_parser.specs.Lexemes.{Lexeme, Sign, End}
-use Rattle.literal_parser.specs.Forms.{form, is_end, is_name, is_neg, is_note, is_or, is_lbrace, is_rbrace, is_lparen, is_comma, is_let, is_some_word, is_when, is_type_name, is_any_name, is_plain, begins_cond, begins_part, leads, text_of}
+use Rattle.literal_parser.specs.Forms.{form, is_end, is_name, is_neg, is_note, is_or, is_lbrace, is_rbrace, is_lparen, is_comma, is_let, is_some_word, is_when, is_type_name, is_any_name, is_function_word, is_plain, begins_cond, begins_part, leads, text_of}
 use Rattle.literal_parser.specs.States.{State, past, opened, start}
 use Rattle.literal_parser.specs.code.Parser.{Outcome, Read, Fail, Parser, and_then, ◌>>=◌, ◌>>◌, pure, stop, opens, takes, choose}
 use Rattle.guard_parser.specs.code.Reading.{BodyItems, FileItems, Inner, is_filled, note, ruled, referred, led_by_name, cond_of, cond_part, ors, disjs, conds_of, tree_expr, expr_of, more_exprs_of, exprs_of, let_of, full_part, disj_of, body_items, body_end, body_of, contents, whole_file, inners}
@@ -12,9 +12,11 @@ use Rattle.literal_parser.proofs.Combine.{Gives, gives, gives_then, horizon}
 use Rattle.literal_parser.proofs.Apart.{apart, implied}
 use Rattle.literal_parser.proofs.Steps.{gives_opens, gives_has, by, by_next}
 use Rattle.literal_parser.proofs.GoOn as go
-use Rattle.literal_parser.proofs.GoOn.{any, only, Sub, Disjoint, Side, clear, sub_any, sub_same}
+use Rattle.literal_parser.specs.Brackets.{open_before, IsShallowTo}
+use Rattle.literal_parser.proofs.Levels.{Sub, Disjoint, stays_level, stands_at, stands_agreed}
+use Rattle.literal_parser.proofs.GoOn.{any, only, Side, clear, sub_any, sub_same}
 use Rattle.literal_parser.proofs.GoOnSteps as single
-use Rattle.literal_parser.proofs.GoOnSteps.{then, takes_live, pure_live, opens_live, first_starts}
+use Rattle.literal_parser.proofs.GoOnSteps.{then, closes_live, up_live, pure_live, opens_live, first_starts}
 use Rattle.literal_parser.proofs.GoOnSides as side
 use Rattle.guard_parser.proofs.GoOnGrammar as grammar
 use Rattle.guard_parser.proofs.GoOnGrammar.{named, not_word, let_word, quiet, past_expr, past_part, ending_part, filtering}
@@ -94,17 +96,18 @@ module _ (w : ℕ → Lexeme) (turns : ℕ) (inner : Inner) where
   body_same st seen = then_same (opens w st seen) _ _ (λ k a sn. then_same (takes w is_lbrace a sn) _ _ (λ u b sn. filled_same turns b sn (body_end w turns inner k)))
 
 module _ (s : ℕ → Lexeme) (n : ℕ) (ends : form (s n) ≡ 0) (turns : ℕ) (room : n < turns) (many : 1 < turns) where
-  module _ (i : Inner) (j : (ℕ → Lexeme) → Inner) (all : grammar.AllLive s n ends turns room i j) where
-    part_case : (k floor : ℕ) → n < k + suc floor → 0 < k → go.Live s n floor true (clear (only not_word)) (clear (only (Sign m.RBrace)))
+  -- contents at a level, and the body that holds them, one below
+  module _ (l : ℕ) (i : Inner) (j : (ℕ → Lexeme) → Inner) (all : grammar.AllLive s n ends turns room l i j) where
+    part_case : (k floor : ℕ) → n < k + suc floor → 0 < k → go.Live s n l l floor true (clear (only not_word)) (clear (only (Sign m.RBrace)))
         (parted s turns i k) (λ w. parted w turns (j w) k)
-    part_case k floor left some = then s n ends (grammar.calm s n ends (grammar.item_live s n ends turns room i j all true _ _ (grammar.full_part_live s n ends turns room i j all)))
-        (λ d. then s n ends (grammar.body_items_live s n ends turns room i j all k _ (omega arith) some) (λ more. pure_live s n ends _) refl) refl
+    part_case k floor left some = then s n ends (grammar.calm s n ends (grammar.item_live s n ends turns room l i j all true _ _ (grammar.full_part_live s n ends turns room l i j all)))
+        (λ d. then s n ends (grammar.body_items_live s n ends turns room l i j all k _ (omega arith) some) (λ more. pure_live s n ends _) refl) refl
 
-    filled_live : (k floor : ℕ) → suc n < k + floor → 1 < k → go.Live s n floor true (clear (only not_word)) (clear (only (Sign m.RBrace))) (filled s turns i k) (λ w. filled w turns (j w) k)
+    filled_live : (k floor : ℕ) → suc n < k + floor → 1 < k → go.Live s n l l floor true (clear (only not_word)) (clear (only (Sign m.RBrace))) (filled s turns i k) (λ w. filled w turns (j w) k)
     unfolding filled
     filled_live zero floor left some = absurd (omega arith)
     filled_live (suc k) floor left some = side.or_end_more s n ends {h = only let_word} 1 is_let k floor (omega arith) refl refl refl
-        (λ m left some. then s n ends (grammar.let_live s n ends turns room i j all) (λ l. then s n ends (filled_live k _ (omega arith) some) (λ more. pure_live s n ends _) refl) refl)
+        (λ m left some. then s n ends (grammar.let_live s n ends turns room l i j all) (λ l. then s n ends (filled_live k _ (omega arith) some) (λ more. pure_live s n ends _) refl) refl)
         (record {
           lives = λ st seen above inside tight. single.choose_strict_at s n ends {v = true} {h = only not_word} {g = any} begins_part _ _ _ _ st seen inside refl
               (λ is less. (part_case k st.at (omega arith) (omega arith)).lives st _ (omega arith) inside (go.tight_at s n (λ x. false) st seen inside tight))
@@ -112,88 +115,69 @@ module _ (s : ℕ → Lexeme) (n : ℕ) (ends : form (s n) ≡ 0) (turns : ℕ) 
           starts = first_starts s n ends begins_part _ _ refl (part_case k n (omega arith) (omega arith)).starts;
         })
 
-    body_end_live : {floor : ℕ} (k : ℕ) (contained : BodyItems) → go.Live s n floor true (clear (only (Sign m.RBrace))) (clear any) (body_end s turns i k contained) (λ w. body_end w turns (j w) k contained)
+  module _ (l : ℕ) (place : l < 128) (i : Inner) (j : (ℕ → Lexeme) → Inner) (all : grammar.AllLive s n ends turns room (suc l) i j) where
+    body_end_live : {floor : ℕ} (k : ℕ) (contained : BodyItems) → go.Live s n (suc l) l floor true (clear (only (Sign m.RBrace))) (clear any) (body_end s turns i k contained) (λ w. body_end w turns (j w) k contained)
     unfolding body_end
-    body_end_live k contained = then s n ends (takes_live s n ends is_rbrace (Sign m.RBrace) any refl refl) (λ u. pure_live s n ends _) refl
+    body_end_live k contained = then s n ends (closes_live s n ends is_rbrace (Sign m.RBrace) any refl refl refl) (λ u. pure_live s n ends _) refl
 
-    filled_body_live : {floor : ℕ} → go.Live s n floor true (clear (only (Sign m.LBrace))) (clear any) (body_filled s turns i) (λ w. body_filled w turns (j w))
+    filled_body_live : {floor : ℕ} → go.Live s n l l floor true (clear (only (Sign m.LBrace))) (clear any) (body_filled s turns i) (λ w. body_filled w turns (j w))
     unfolding body_filled
-    filled_body_live = then s n ends (opens_live s n ends) (λ k. then s n ends (takes_live s n ends is_lbrace (Sign m.LBrace) any refl refl) (λ u.
-        then s n ends (filled_live turns _ (omega arith) many) (λ contained. body_end_live k contained) refl) refl) refl
+    filled_body_live = then s n ends (opens_live s n ends) (λ k. then s n ends (up_live s n ends is_lbrace (Sign m.LBrace) any refl refl refl place) (λ u.
+        then s n ends (filled_live (suc l) i j all turns _ (omega arith) many) (λ contained. body_end_live k contained) refl) refl) refl
 
-    body_live : {floor : ℕ} → go.Live s n floor true (clear (only (Sign m.LBrace))) (clear any) (body_of s turns i) (λ w. body_of w turns (j w))
+    body_live : {floor : ℕ} → go.Live s n l l floor true (clear (only (Sign m.LBrace))) (clear any) (body_of s turns i) (λ w. body_of w turns (j w))
     body_live = side.same_live s n ends (body_same s turns i) (λ w. body_same w turns (j w)) filled_body_live
 
   -- ---- what stands in brackets can begin behind the end, whatever stands in brackets in it
 
-  module _ (j : (ℕ → Lexeme) → Inner) where
-    note_start : (f : ℕ → Bool) → Disjoint f is_note → go.Starts s n f f note
+  module _ (l : ℕ) (j : (ℕ → Lexeme) → Inner) where
+    note_start : (f : ℕ → Bool) → Disjoint f is_note → go.Starts s n l l f f note
     unfolding note
     note_start f clears = single.second_starts s n ends is_note _ _ clears (single.pure_starts s n ends _ f)
 
-    ruled_start : (f : ℕ → Bool) (k : ℕ) (negated : Bool) → Disjoint f is_note → Disjoint f is_lparen → go.Starts s n (only named) f (λ w. ruled w turns (j w) k negated)
+    ruled_start : (f : ℕ → Bool) (k : ℕ) (negated : Bool) → Disjoint f is_note → Disjoint f is_lparen → go.Starts s n l l (only named) f (λ w. ruled w turns (j w) k negated)
     unfolding ruled referred
-    ruled_start f k negated clears open_clears = single.then_starts s n ends (single.has_starts s n ends is_name text_of named any refl)
-        (λ name. single.second_starts s n ends is_lparen _ _ open_clears (single.then_starts s n ends {l = f} (note_start f clears) (λ message. single.pure_starts s n ends _ f) (sub_same f))) (sub_any f)
+    ruled_start f k negated clears open_clears = single.then_starts s n ends (single.has_starts s n ends is_name text_of named any refl refl)
+        (λ name. single.second_starts s n ends is_lparen _ _ open_clears (single.then_starts s n ends {k = f} (note_start f clears) (λ message. single.pure_starts s n ends _ f) (sub_same f))) (sub_any f)
 
-    cond_start : (full : Bool) (f : ℕ → Bool) (k : ℕ) → Disjoint f is_note → Disjoint f is_lparen → go.Starts s n (only not_word) f (λ w. cond_of w turns (j w) full k)
+    cond_start : (full : Bool) (f : ℕ → Bool) (k : ℕ) → Disjoint f is_note → Disjoint f is_lparen → go.Starts s n l l (only not_word) f (λ w. cond_of w turns (j w) full k)
     unfolding cond_of
-    cond_start full f k clears open_clears = single.second_starts s n ends is_some_word _ _ refl (single.first_starts s n ends is_neg _ _ refl (single.then_starts s n ends (single.takes_starts s n ends is_neg not_word any refl) (λ u. ruled_start f k true clears open_clears) refl))
+    cond_start full f k clears open_clears = single.second_starts s n ends is_some_word _ _ refl (single.first_starts s n ends is_neg _ _ refl (single.then_starts s n ends (single.takes_starts s n ends is_neg not_word any refl refl) (λ u. ruled_start f k true clears open_clears) refl))
 
-    full_part_start : (f : ℕ → Bool) → Disjoint f is_note → Disjoint f is_lparen → go.Starts s n (only not_word) f (λ w. full_part w turns (j w))
-    unfolding full_part
-    full_part_start f clears open_clears = single.then_starts s n ends (single.opens_starts s n ends (only not_word)) (λ k. single.second_starts s n ends is_when _ _ refl (single.second_starts s n ends is_type_name _ _ refl (cond_start true f k clears open_clears))) refl
-
-    cond_part_start : (f : ℕ → Bool) → Disjoint f is_note → Disjoint f is_lparen → go.Starts s n (only not_word) f (λ w. cond_part w turns (j w))
+    cond_part_start : (f : ℕ → Bool) → Disjoint f is_note → Disjoint f is_lparen → go.Starts s n l l (only not_word) f (λ w. cond_part w turns (j w))
     unfolding cond_part
     cond_part_start f clears open_clears = single.then_starts s n ends (single.opens_starts s n ends (only not_word)) (λ k. cond_start false f k clears open_clears) refl
 
-    ors_start : (part : (ℕ → Lexeme) → Parser Part) (f : ℕ → Bool) (k : ℕ) → 0 < k → Disjoint f is_or → go.Starts s n f f (λ w. ors w turns (j w) (part w) k)
+    ors_start : (part : (ℕ → Lexeme) → Parser Part) (f : ℕ → Bool) (k : ℕ) → 0 < k → Disjoint f is_or → go.Starts s n l l f f (λ w. ors w turns (j w) (part w) k)
     unfolding ors
     ors_start part f zero some clears = absurd (omega arith)
     ors_start part f (suc k) some clears = single.second_starts s n ends is_or _ _ clears (single.pure_starts s n ends _ f)
 
-    disj_start : (part : (ℕ → Lexeme) → Parser Part) (f : ℕ → Bool) → Disjoint f is_or → go.Starts s n (only not_word) f part → go.Starts s n (only not_word) f (λ w. disj_of w turns (j w) (part w))
+    disj_start : (part : (ℕ → Lexeme) → Parser Part) (f : ℕ → Bool) → Disjoint f is_or → go.Starts s n l l (only not_word) f part → go.Starts s n l l (only not_word) f (λ w. disj_of w turns (j w) (part w))
     unfolding disj_of
-    disj_start part f clears start = single.then_starts s n ends (single.opens_starts s n ends (only not_word)) (λ k. single.then_starts s n ends start (λ p. single.then_starts s n ends {l = f} (ors_start part f turns (omega arith) clears) (λ ps. single.pure_starts s n ends _ f) (sub_same f)) (sub_same f)) refl
+    disj_start part f clears start = single.then_starts s n ends (single.opens_starts s n ends (only not_word)) (λ k. single.then_starts s n ends start (λ p. single.then_starts s n ends {k = f} (ors_start part f turns (omega arith) clears) (λ ps. single.pure_starts s n ends _ f) (sub_same f)) (sub_same f)) refl
 
-    disjs_start : (k : ℕ) → 0 < k → go.Starts s n (past_part false) (past_part false) (λ w. disjs w turns (j w) k)
+    disjs_start : (k : ℕ) → 0 < k → go.Starts s n l l (past_part false) (past_part false) (λ w. disjs w turns (j w) k)
     unfolding disjs
     disjs_start zero some = absurd (omega arith)
     disjs_start (suc k) some = single.second_starts s n ends begins_cond _ _ refl (single.pure_starts s n ends _ (past_part false))
 
-    conds_start : go.Starts s n (only not_word) (past_part false) (λ w. conds_of w turns (j w))
+    conds_start : go.Starts s n l l (only not_word) (past_part false) (λ w. conds_of w turns (j w))
     unfolding conds_of
     conds_start = single.then_starts s n ends (single.opens_starts s n ends (only not_word)) (λ k. single.then_starts s n ends (disj_start (λ w. cond_part w turns (j w)) (past_part false) refl (cond_part_start (past_part false) refl refl)) (λ d.
         single.then_starts s n ends (disjs_start turns (omega arith)) (λ ds. single.pure_starts s n ends _ (past_part false)) refl) refl) refl
 
-    items_start : (k : ℕ) → 0 < k → go.Starts s n (only (Sign m.RBrace)) (only (Sign m.RBrace)) (λ w. body_items w turns (j w) k)
-    unfolding body_items
-    items_start zero some = absurd (omega arith)
-    items_start (suc k) some = single.second_starts s n ends is_let _ _ refl (single.second_starts s n ends begins_part _ _ refl (single.pure_starts s n ends _ (only (Sign m.RBrace))))
-
-    filled_start : (k : ℕ) → 1 < k → go.Starts s n (only not_word) (only (Sign m.RBrace)) (λ w. filled w turns (j w) k)
-    unfolding filled
-    filled_start zero some = absurd (omega arith)
-    filled_start (suc k) some = single.second_starts s n ends is_let _ _ refl (single.first_starts s n ends begins_part _ _ refl (single.then_starts s n ends (disj_start (λ w. full_part w turns (j w)) (only (Sign m.RBrace)) refl (full_part_start (only (Sign m.RBrace)) refl refl))
-        (λ d. single.then_starts s n ends (items_start k (omega arith)) (λ more. single.pure_starts s n ends _ (only (Sign m.RBrace))) refl) refl))
-
-    body_start : go.Starts s n (only (Sign m.LBrace)) any (λ w. body_of w turns (j w))
-    unfolding body_filled body_end
-    body_start = side.same_starts s n ends (λ w. body_same w turns (j w)) (single.then_starts s n ends (single.opens_starts s n ends (only (Sign m.LBrace))) (λ k. single.then_starts s n ends (single.takes_starts s n ends is_lbrace (Sign m.LBrace) any refl) (λ u.
-        single.then_starts s n ends (filled_start turns many) (λ contained. single.then_starts s n ends (single.takes_starts s n ends is_rbrace (Sign m.RBrace) any refl) (λ u. single.pure_starts s n ends _ any) refl) refl) refl) refl)
-
-    module _ (tree_start : go.Starts s n (only nought) any (λ w. (j w).tree)) where
-      expr_start : go.Starts s n (only nought) any (λ w. expr_of w turns (j w))
+    module _ (tree_start : go.Starts s n l l (only nought) any (λ w. (j w).tree)) where
+      expr_start : go.Starts s n l l (only nought) any (λ w. expr_of w turns (j w))
       unfolding expr_of tree_expr
-      expr_start = single.second_starts s n ends is_any_name _ _ refl (single.first_starts s n ends is_plain _ _ refl (single.then_starts s n ends (single.opens_starts s n ends (only nought)) (λ k. single.then_starts s n ends tree_start (λ t. single.pure_starts s n ends _ any) refl) refl))
+      expr_start = single.second_starts s n ends is_function_word _ _ refl (single.second_starts s n ends is_any_name _ _ refl (single.first_starts s n ends is_plain _ _ refl (single.then_starts s n ends (single.opens_starts s n ends (only nought)) (λ k. single.then_starts s n ends tree_start (λ t. single.pure_starts s n ends _ any) refl) refl)))
 
-      more_exprs_start : (k : ℕ) → 0 < k → go.Starts s n (only (Sign m.RParen)) (only (Sign m.RParen)) (λ w. more_exprs_of w turns (j w) k)
+      more_exprs_start : (k : ℕ) → 0 < k → go.Starts s n l l (only (Sign m.RParen)) (only (Sign m.RParen)) (λ w. more_exprs_of w turns (j w) k)
       unfolding more_exprs_of
       more_exprs_start zero some = absurd (omega arith)
       more_exprs_start (suc k) some = single.second_starts s n ends is_comma _ _ refl (single.pure_starts s n ends _ (only (Sign m.RParen)))
 
-      exprs_start : go.Starts s n (only nought) (only (Sign m.RParen)) (λ w. exprs_of w turns (j w))
+      exprs_start : go.Starts s n l l (only nought) (only (Sign m.RParen)) (λ w. exprs_of w turns (j w))
       unfolding exprs_of
       exprs_start = single.then_starts s n ends expr_start (λ e. single.then_starts s n ends (more_exprs_start turns (omega arith)) (λ es. single.pure_starts s n ends _ (only (Sign m.RParen))) refl) refl
 
@@ -229,83 +213,92 @@ module _ (s : ℕ → Lexeme) (n : ℕ) (ends : form (s n) ≡ 0) (turns : ℕ) 
         (λ sn. gives_then _ (lone_ors w _ turns (past c) sn (omega arith) shut) (λ sn. gives))))
         (λ sn. gives_then _ (lone_disjs w turns (past c) sn (omega arith) shut) (λ sn. gives)))
 
-  -- ---- at each depth: where s nests no deeper than a number, what goes on nests one deeper
+  -- ---- at each depth: where s nests no deeper than a number, what goes on is read one deeper, and opens no bracket too deep
 
-  lone_live : {floor : ℕ} (e : ℕ) → go.Live s n floor true filtering (clear (past_part false)) stop (λ w. conds_of w turns (inners w turns e))
-  lone_live e = record {
+  lone_live : {floor : ℕ} (e l : ℕ) → go.Live s n l l floor true filtering (clear (past_part false)) stop (λ w. conds_of w turns (inners w turns e))
+  lone_live e l = record {
     lives = λ st seen above inside tight. record { lives = λ far less. mended st (near st less (tight far)) };
-    starts = conds_start (λ w. inners w turns e);
+    starts = conds_start l (λ w. inners w turns e);
   } where
     near : (st : State) → st.at < n → (st.at ≡ n) ⊎ go.Hangs s n is_name st → go.Hangs s n is_name st
     near st less (inl same) = absurd (omega arith)
     near st less (inr h) = h
 
-    mended : (st : State) → go.Hangs s n is_name st → go.Mended s n filtering (clear (past_part false)) (λ w. conds_of w turns (inners w turns e)) st
+    mended : (st : State) → go.Hangs s n is_name st → go.Mended s n l l filtering (clear (past_part false)) (λ w. conds_of w turns (inners w turns e)) st
     mended st (last, is) = let p = (s st.at).from in record {
       more = [];
       value = _;
       last = past (opened p (opened p (opened p st)));
       ends = omega arith;
+      flows = λ shallow level w agree spells. stands_at w l n (suc st.at) (sym last)
+          (stands_agreed s w n agree l n (omega arith) shallow (subst (λ i. open_before s i ≡ l) last (stays_level is_name l refl (s st.at) is (open_before s st.at) level)));
       goes = λ w agree spells meets.
           let here : w st.at ≡ s st.at = agree st.at (omega arith) in (
             (λ same. absurd (omega arith), λ h. ap (λ i. quiet (form (w i))) (sym last) ∙ implied (past_part false) quiet (w (suc st.at)) refl meets.0),
-            λ k. lone_conds (λ w. inners w turns e) w p (text_of (s st.at)) st k (ap (λ x. is_name (form x)) here ∙ is) (ap (λ (x : Lexeme). x.from) here) (ap text_of here) meets.0,
+            λ k. lone_conds l (λ w. inners w turns e) w p (text_of (s st.at)) st k (ap (λ x. is_name (form x)) here ∙ is) (ap (λ (x : Lexeme). x.from) here) (ap text_of here) meets.0,
           );
     }
 
-  tree_start : (e : ℕ) → go.Starts s n (only nought) any (λ w. (inners w turns e).tree)
-  tree_start zero = literal_start s n ends turns room zero
-  tree_start (suc e) = literal_start s n ends turns room (suc e)
+  tree_start : (e l : ℕ) → go.Starts s n l l (only nought) any (λ w. (inners w turns e).tree)
+  tree_start zero l = literal_start s n ends turns room zero
+  tree_start (suc e) l = literal_start s n ends turns room (suc e)
 
-  inners_live : (d e : ℕ) → d < e → grammar.AllLive s n ends turns room (inners s turns d) (λ w. inners w turns e)
-  inners_live d zero less = absurd (omega arith)
-  inners_live zero (suc e) less = record {
+  -- so many brackets are open, and so many more may open in s
+  inners_live : (d e l : ℕ) → d < e → l + d ≡ 128 → grammar.AllLive s n ends turns room l (inners s turns d) (λ w. inners w turns e)
+  inners_live d zero l less all = absurd (omega arith)
+  inners_live zero (suc e) l less all = record {
     roomy = λ w. refl;
-    tree = λ floor. literal_live s n ends turns room zero (suc e) less;
-    constant = λ floor. literal_near s n ends turns room zero (suc e) less past_expr;
-    body = λ floor. record { lives = λ st seen above inside tight. single.stop_at s n ends true (clear (only (Sign m.LBrace))) (clear any) _ st seen tight; starts = body_start (λ w. inners w turns e) };
-    conds = λ floor. lone_live e;
+    place = λ e. absurd (true≢false (sym e));
+    tree = λ floor. literal_live s n ends turns room zero (suc e) l less all;
+    constant = λ floor. literal_near s n ends turns room zero (suc e) l less all past_expr;
+    shut = λ e st seen. refl;
+    body = λ e. absurd (true≢false (sym e));
+    conds = λ floor. lone_live e (suc l);
     expr = λ floor. record {
       lives = λ st seen above inside tight. single.stop_at s n ends true (clear (only nought)) (clear past_expr) _ st seen tight;
-      starts = side.starts_sided s n ends refl refl (expr_start (λ w. inners w turns e) (tree_start e));
+      starts = side.starts_sided s n ends refl refl (expr_start (suc l) (λ w. inners w turns e) (tree_start e (suc l)));
     };
     exprs = λ floor. record {
       lives = λ st seen above inside tight. single.stop_at s n ends true (clear (only nought)) (clear (only (Sign m.RParen))) _ st seen tight;
-      starts = exprs_start (λ w. inners w turns e) (tree_start e);
+      starts = exprs_start (suc l) (λ w. inners w turns e) (tree_start e (suc l));
     };
   }
-  inners_live (suc d) (suc e) less = let all = inners_live d e (omega arith) in let i = inners s turns d in let j : (ℕ → Lexeme) → Inner = λ w. inners w turns e in record {
+  inners_live (suc d) (suc e) l less all = let inner = inners_live d e (suc l) (omega arith) (omega arith) in let i = inners s turns d in let j : (ℕ → Lexeme) → Inner = λ w. inners w turns e in record {
     roomy = λ w. refl;
-    tree = λ floor. literal_live s n ends turns room (suc d) (suc e) less;
-    constant = λ floor. literal_near s n ends turns room (suc d) (suc e) less past_expr;
-    body = λ floor. body_live i j all;
-    conds = λ floor. grammar.conds_live s n ends turns room i j all;
-    expr = λ floor. grammar.expr_live s n ends turns room i j all;
-    exprs = λ floor. grammar.exprs_live s n ends turns room i j all;
+    place = λ e. omega arith;
+    tree = λ floor. literal_live s n ends turns room (suc d) (suc e) l less all;
+    constant = λ floor. literal_near s n ends turns room (suc d) (suc e) l less all past_expr;
+    shut = λ e. absurd (true≢false e);
+    body = λ e floor. body_live l (omega arith) i j inner;
+    conds = λ floor. grammar.conds_live s n ends turns room (suc l) i j inner;
+    expr = λ floor. grammar.expr_live s n ends turns room (suc l) i j inner;
+    exprs = λ floor. grammar.exprs_live s n ends turns room (suc l) i j inner;
   }
 
   -- ---- the file
 
-  -- with these lexemes behind the end, a file is read
+  -- with these lexemes behind the end, a file is read, and no bracket opens too deep
   pub record Goes (depth : ℕ) : Type 0 where
     pub more : List Lexeme
     pub value : FileItems
     pub last : State
     pub stops : last.at ≡ n + length more
+    pub flat : (w : ℕ → Lexeme) → go.Agree s n w → go.Spells s n w n more → IsShallowTo w last.at
     pub goes : (w : ℕ → Lexeme) → go.Agree s n w → go.Spells s n w n more → go.Meets s n (only End) w last.at → (k : ℕ) → Gives (contents w turns (inners w turns depth) start k) value last
 
-  pub goes_on : (depth k : ℕ) → whole_file s turns (inners s turns depth) start 0 ≡ Fail k → n ≤ k → Goes (suc depth)
+  pub goes_on : (d k : ℕ) → suc d ≡ 128 → IsShallowTo s n → whole_file s turns (inners s turns (suc d)) start 0 ≡ Fail k → n ≤ k → Goes (suc (suc d))
   unfolding whole_file choose
-  goes_on depth k failed far = by_outcome (contents s turns (inners s turns depth) start 0) (live.lives start 0 (omega arith) (omega arith) (λ end. inl (omega arith))).lives failed where
-    live : go.Live s n 0 false (clear (only End)) (clear (only End)) (contents s turns (inners s turns depth)) (λ w. contents w turns (inners w turns (suc depth)))
-    live = grammar.contents_live s n ends turns room (inners s turns depth) (λ w. inners w turns (suc depth)) (inners_live depth (suc depth) (omega arith))
+  goes_on d k deep shallow failed far = by_outcome (contents s turns (inners s turns (suc d)) start 0) (live.lives start 0 (omega arith) (omega arith) (λ end. inl (omega arith))).lives failed where
+    live : go.Live s n 0 0 0 false (clear (only End)) (clear (only End)) (contents s turns (inners s turns (suc d))) (λ w. contents w turns (inners w turns (suc (suc d))))
+    live = grammar.contents_live s n ends turns room 0 (inners s turns (suc d)) (λ w. inners w turns (suc (suc d))) (inners_live (suc d) (suc (suc d)) 0 (omega arith) (omega arith)) refl
 
-    from_start : (v : Bool) → nat_eq n 0 ≡ v → (n ≤ k → 0 < n → go.Mended s n (clear (only End)) (clear (only End)) (λ w. contents w turns (inners w turns (suc depth))) start) → Goes (suc depth)
+    from_start : (v : Bool) → nat_eq n 0 ≡ v → (n ≤ k → 0 < n → go.Mended s n 0 0 (clear (only End)) (clear (only End)) (λ w. contents w turns (inners w turns (suc (suc d)))) start) → Goes (suc (suc d))
     from_start true e mended = let none : n ≡ 0 = grind (arith, nat_tests) in let b = live.starts start (omega arith) in record {
       more = b.more;
       value = b.value;
       last = b.last;
       stops = let l = b.ends in omega arith;
+      flat = λ w agree spells. (b.flows w (subst (λ i. go.Spells s n w i b.more) none spells) (λ i less. absurd (omega arith), refl)).0;
       goes = λ w agree spells meets. (b.goes w (subst (λ i. go.Spells s n w i b.more) none spells) meets).1;
     }
     from_start false e mended = let m = mended far (let some : 0 < n = grind (arith, nat_tests) in some) in record {
@@ -313,6 +306,7 @@ module _ (s : ℕ → Lexeme) (n : ℕ) (ends : form (s n) ≡ 0) (turns : ℕ) 
       value = m.value;
       last = m.last;
       stops = m.ends;
+      flat = λ w agree spells. (m.flows shallow refl w agree spells).0;
       goes = λ w agree spells meets. (m.goes w agree spells meets).1;
     }
 
@@ -324,7 +318,7 @@ module _ (s : ℕ → Lexeme) (n : ℕ) (ends : form (s n) ≡ 0) (turns : ℕ) 
       late true same = true≢false (sym (ap (λ i. is_end (form (s i))) (let e : m.at ≡ n = grind (arith, nat_tests) in e) ∙ ap is_end ends) ∙ miss)
       late false other = side.far_not s n ends m seen (let l : m.at < n = grind (arith, nat_tests) in l) tight (let place : max seen m.at ≡ k = ap (λ (o : Outcome FileItems). horizon o) e in let l : m.at < n = grind (arith, nat_tests) in grind arith)
 
-    by_outcome : (o : Outcome FileItems) → go.Outlived s n false (clear (only End)) (clear (only End)) (λ w. contents w turns (inners w turns (suc depth))) start o
-        → and_then o (λ x. λ st seen. (cond {A = Parser FileItems} (is_end (form (s st.at))) (pure x) stop) st (max seen st.at)) ≡ Fail k → Goes (suc depth)
+    by_outcome : (o : Outcome FileItems) → go.Outlived s n 0 0 false (clear (only End)) (clear (only End)) (λ w. contents w turns (inners w turns (suc (suc d)))) start o
+        → and_then o (λ x. λ st seen. (cond {A = Parser FileItems} (is_end (form (s st.at))) (pure x) stop) st (max seen st.at)) ≡ Fail k → Goes (suc (suc d))
     by_outcome (Read x m seen) kept e = absurd (at_end x m seen (is_end (form (s m.at))) refl kept.within kept.tight e)
     by_outcome (Fail i) mended e = from_start (nat_eq n 0) refl (λ far less. mended (let same : i ≡ k = ap (λ (o : Outcome FileItems). horizon o) e in omega arith) less)

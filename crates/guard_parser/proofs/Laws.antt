@@ -10,13 +10,15 @@ use Rattle.guard_parser.specs.Grammar.{IsContents}
 use Rattle.literal_parser.specs.code.Parser.{Outcome, Read, Fail}
 use Rattle.guard_parser.specs.code.Reading.{FileItems, whole_file, inners}
 use Rattle.guard_parser.specs.code.Depth.{deep_file}
-use Rattle.guard_parser.specs.File.{IsSpelledBy, IsSpelled, IsShallowTo, IsShallow, IsDeadEnd, IsWithinLimits, MayGoOn, GoesOnPastLimits, going_on, listed}
+use Rattle.literal_parser.specs.Brackets.{IsShallowTo}
+use Rattle.guard_parser.specs.File.{IsSpelledBy, IsSpelled, IsShallow, IsDeadEnd, MayGoOn, going_on, listed}
 use Rattle.std.proofs.lemmas.Bool.{ltb-true, ltb-false, cases_order}
 use Rattle.std.proofs.lemmas.List.{append-nil, get_or-take, length-append, length-map, length-take, take-map}
 use Rattle.std.proofs.Math.ListN.{get_or-append, get_or-eq_default}
 use Rattle.std.proofs.Math.Seq.{get_or-append_seam}
 use Rattle.doc_values.specs.Limits.{rules_limit}
 use Rattle.literal_parser.proofs.Places.{at_end}
+use Rattle.literal_parser.proofs.Levels.{stands_agreed}
 use Rattle.literal_parser.proofs.GoOn.{Spells, only}
 use Rattle.guard_parser.proofs.GoOnFile.{goes_on}
 use Rattle.literal_parser.proofs.Combine.{Holds, holds_then, done, failed, Gives, gives, gives_then, horizon}
@@ -25,6 +27,9 @@ use Rattle.literal_parser.proofs.LiteralSound.{literal_sound}
 use Rattle.literal_parser.proofs.LiteralLocal.{literal_local}
 use Rattle.literal_parser.proofs.LiteralGrows.{literal_grows}
 use Rattle.literal_parser.proofs.LiteralComplete.{literal_gives}
+use Rattle.literal_parser.proofs.Steady.{AreSteady, steady_then, choose_steady, pure_steady, stop_steady}
+use Rattle.literal_parser.proofs.LiteralSteady.{literal_steady}
+use Rattle.guard_parser.proofs.Steady.{inners_steady, contents_steady}
 use Rattle.guard_parser.proofs.Sound.{file_sound}
 use Rattle.guard_parser.proofs.Local.{inners_local, contents_local}
 use Rattle.guard_parser.proofs.Complete.{contents_gives}
@@ -59,6 +64,17 @@ whole_local : (s w : ℕ → Lexeme) (turns depth : ℕ) → Alike s w 0 (readin
 unfolding whole_file
 whole_local s w turns depth = alike_then s w _ _ (contents_local s w turns _ _ (inners_local s w turns (trees_local s w turns) depth) start 0)
     (λ x m sn. choose_local s w is_end _ _ _ _ (λ m sn. pure_local s w _ m sn) (λ m sn. stop_local s w sn) m sn)
+
+-- over lexemes that end, any number of turns above theirs reads the same
+module _ (s : ℕ → Lexeme) (n : ℕ) (ends : form (s n) ≡ 0) (turns larger : ℕ) (enough : n < turns) (plenty : n < larger) where
+  trees_steady : (depth : ℕ) → AreSteady s n ends true (inners s turns depth).tree (inners s larger depth).tree
+  trees_steady zero = literal_steady s n ends turns larger enough plenty zero
+  trees_steady (suc depth) = literal_steady s n ends turns larger enough plenty (suc depth)
+
+  whole_steady : (depth : ℕ) → reading s turns depth ≡ reading s larger depth
+  unfolding whole_file
+  whole_steady depth = (steady_then s n ends {u = false} _ _ (contents_steady s n ends turns larger enough plenty _ _ (inners_steady s n ends turns larger enough plenty trees_steady depth) start 0 (omega arith))
+      (λ x m sn near far. choose_steady s n ends {v = false} {u = false} is_end _ _ _ _ (λ m sn near. pure_steady s n ends _ m sn near) (λ m sn near. stop_steady s n ends sn) m sn near)).same
 
 -- ---- what is read
 
@@ -103,20 +119,20 @@ given_held : {A : Type 0} {r : Outcome A} {x : A} {m : State} (R : A → State �
 given_held {r = Read a st seen} {m = m} R g h = subst (λ y. R y m) g.given.0 (subst (λ z. R a z) g.given.1 h.held)
 given_held {r = Fail k} R g h = absurd g.given
 
-ends_early : (text : List ℕ) (tokens : List Token) (turns depth k : ℕ) → length tokens < turns → 1 < turns → reading (lexemes text tokens) turns depth ≡ Fail k → length tokens ≤ k → MayGoOn text tokens
-ends_early text tokens turns depth k room many e far =
+ends_early : (text : List ℕ) (tokens : List Token) (turns d k : ℕ) → suc d ≡ 128 → IsShallow text tokens → length tokens < turns → 1 < turns → reading (lexemes text tokens) turns (suc d) ≡ Fail k → length tokens ≤ k → MayGoOn text tokens
+ends_early text tokens turns d k deep shallow room many e far =
     let s = lexemes text tokens in let n = length tokens in
     let front = map (lexeme_of text) tokens in
     let long : length front ≡ n = length-map tokens (lexeme_of text) in
     let stop : s n ≡ ending text = at_end text tokens n (omega arith) in
-    let g = goes_on s n (ap form stop) turns room many depth k e far in
+    let g = goes_on s n (ap form stop) turns room many d k deep shallow e far in
     let w = going_on text tokens g.more in
     let agree : (i : ℕ) → i < n → w i ≡ s i = λ i less. get_or-append front g.more (ending text) i (omega arith) in
     let spells : Spells s n w n g.more = subst (λ i. Spells s n w i g.more) long (spells_behind s n front g.more (ending text)) in
     let last : w g.last.at ≡ ending text = get_or-eq_default (front ++ g.more) (ending text) (let l = g.stops in omega (arith, length-append front g.more)) in
     let given = g.goes w agree spells (ap (λ x. only End (form x)) last, ap (λ (x : Lexeme). x.from) (last ∙ sym stop)) 0 in
-    let held = given_held (λ x m. IsContents w x.0 x.1 x.2 start m) given (file_sound w turns (λ d. literal_sound w turns d) (suc depth) 0) in
-    (g.more, file_of g.value g.last.places, g.last.mixed, (g.last, held, g.stops, refl, refl))
+    let held = given_held (λ x m. IsContents w x.0 x.1 x.2 start m) given (file_sound w turns (λ d. literal_sound w turns d) (suc (suc d)) 0) in
+    (g.more, file_of g.value g.last.places, g.last.mixed, (g.last, held, g.stops, refl, refl), subst (λ m. IsShallowTo w m) g.stops (g.flat w agree spells))
 
 -- ---- what stands before the last place that was looked at may go on
 
@@ -130,86 +146,90 @@ before_is : (text : List ℕ) (tokens : List Token) (k i : ℕ) → i < length (
 before_is text tokens k i less = ap (λ (xs : List Lexeme). slice_index_or xs i (ending text)) (sym (take-map (lexeme_of text) k tokens))
     ∙ get_or-take k (map (lexeme_of text) tokens) i (ending text) (omega (arith, short_take k tokens))
 
-whole_goes : (text : List ℕ) (tokens : List Token) (f : File) (mixed : Option ℕ) → IsSpelled text tokens f mixed → MayGoOn text tokens
-whole_goes text tokens f mixed h = (
-  [],
-  f,
-  mixed,
-  subst (λ (xs : List Lexeme). IsSpelledBy (λ i. slice_index_or xs i (ending text)) (length tokens + 0) f mixed) (sym (append-nil (map (lexeme_of text) tokens)))
-      (subst (λ i. IsSpelledBy (lexemes text tokens) i f mixed) (let e : length tokens ≡ length tokens + 0 = omega arith in e) h),
-)
+whole_goes : (text : List ℕ) (tokens : List Token) (f : File) (mixed : Option ℕ) → IsShallow text tokens → IsSpelled text tokens f mixed → MayGoOn text tokens
+whole_goes text tokens f mixed shallow h =
+    let both = subst (λ (xs : List Lexeme). IsSpelledBy (λ i. slice_index_or xs i (ending text)) (length tokens + 0) f mixed × IsShallowTo (λ i. slice_index_or xs i (ending text)) (length tokens + 0))
+    (sym (append-nil (map (lexeme_of text) tokens)))
+    (subst (λ i. IsSpelledBy (lexemes text tokens) i f mixed × IsShallowTo (lexemes text tokens) i) (let e : length tokens ≡ length tokens + 0 = omega arith in e) (h, shallow)) in
+    ([], f, mixed, both.0, both.1)
 
-before_goes : (text : List ℕ) (tokens : List Token) (turns depth k : ℕ) → length tokens < turns → 1 < turns → reading (lexemes text tokens) turns depth ≡ Fail k → MayGoOn text (take k tokens)
-before_goes text tokens turns depth k room many e = by_outcome (reading (lexemes text (take k tokens)) turns depth) refl where
-  by_place : (i : ℕ) → reading (lexemes text (take k tokens)) turns depth ≡ Fail i → (v : Bool) → nat_lt i (length (take k tokens)) ≡ v → MayGoOn text (take k tokens)
+shallow_take : (text : List ℕ) (tokens : List Token) (k : ℕ) → IsShallow text tokens → IsShallow text (take k tokens)
+shallow_take text tokens k shallow =
+    (stands_agreed (lexemes text tokens) (lexemes text (take k tokens)) (length (take k tokens)) (before_is text tokens k) _ (length (take k tokens)) (omega arith)
+    (λ i less. shallow i (let l = shorter_take k tokens in omega arith)) refl).0
+
+before_goes : (text : List ℕ) (tokens : List Token) (turns d k : ℕ) → suc d ≡ 128 → IsShallow text tokens → length tokens < turns → 1 < turns → reading (lexemes text tokens) turns (suc d) ≡ Fail k
+    → MayGoOn text (take k tokens)
+before_goes text tokens turns d k deep shallow room many e = by_outcome (reading (lexemes text (take k tokens)) turns (suc d)) refl where
+  by_place : (i : ℕ) → reading (lexemes text (take k tokens)) turns (suc d) ≡ Fail i → (v : Bool) → nat_lt i (length (take k tokens)) ≡ v → MayGoOn text (take k tokens)
   by_place i f true is =
       let less : i < length (take k tokens) = ltb-true i (length (take k tokens)) is in
-      let local = whole_local (lexemes text (take k tokens)) (lexemes text tokens) turns depth in
-      let end : horizon (reading (lexemes text (take k tokens)) turns depth) ≡ i = ap (λ r. horizon r) f in
-      let same : reading (lexemes text tokens) turns depth ≡ Fail i = local.same (λ j low. sym (before_is text tokens k j (omega arith))) ∙ f in
+      let local = whole_local (lexemes text (take k tokens)) (lexemes text tokens) turns (suc d) in
+      let end : horizon (reading (lexemes text (take k tokens)) turns (suc d)) ≡ i = ap (λ r. horizon r) f in
+      let same : reading (lexemes text tokens) turns (suc d) ≡ Fail i = local.same (λ j low. sym (before_is text tokens k j (omega arith))) ∙ f in
       let place : i ≡ k = sym (ap (λ r. horizon r) same) ∙ ap (λ r. horizon r) e in
       absurd (omega (arith, short_take k tokens))
   by_place i f false is =
-      let far : length (take k tokens) ≤ i = ltb-false i (length (take k tokens)) is in ends_early text (take k tokens) turns depth i (omega (arith, shorter_take k tokens)) many f far
+      let far : length (take k tokens) ≤ i = ltb-false i (length (take k tokens)) is in
+      ends_early text (take k tokens) turns d i deep (shallow_take text tokens k shallow) (omega (arith, shorter_take k tokens)) many f far
 
-  by_outcome : (o : Outcome FileItems) → reading (lexemes text (take k tokens)) turns depth ≡ o → MayGoOn text (take k tokens)
-  by_outcome (Read x m seen) f = whole_goes text (take k tokens) (file_of x m.places) m.mixed (read_is text (take k tokens) turns depth x m seen f)
+  by_outcome : (o : Outcome FileItems) → reading (lexemes text (take k tokens)) turns (suc d) ≡ o → MayGoOn text (take k tokens)
+  by_outcome (Read x m seen) f = whole_goes text (take k tokens) (file_of x m.places) m.mixed (shallow_take text tokens k shallow) (read_is text (take k tokens) turns (suc d) x m seen f)
   by_outcome (Fail i) f = by_place i f (nat_lt i (length (take k tokens))) refl
 
-dead_end : (text : List ℕ) (tokens : List Token) (turns depth k : ℕ) → rules_limit < turns → length tokens ≤ rules_limit → 128 ≤ suc depth
+dead_end : (text : List ℕ) (tokens : List Token) (turns depth k : ℕ) → length tokens < turns → 1 < turns → suc depth ≡ 128
     → reading (lexemes text tokens) turns (suc depth) ≡ Fail k → IsShallow text tokens → IsDeadEnd text tokens (lexemes text tokens k).from
-dead_end text tokens turns depth k room few deep e shallow = (shallow, (k, (refl, before_goes text tokens turns (suc depth) k (omega arith) (omega arith) e), λ xs end f mixed ends agree spelled limits. helper xs end f mixed ends agree spelled limits)) where
+dead_end text tokens turns depth k room many deep e shallow = (shallow, (k, (refl, before_goes text tokens turns depth k deep shallow room many e), λ xs end f mixed ends agree spelled flat. helper xs end f mixed ends agree spelled flat)) where
   helper : (xs : List Lexeme) (end : Lexeme) (f : File) (mixed : Option ℕ) → is_end (form end) ≡ true → ((i : ℕ) → i ≤ k → listed xs end i ≡ lexemes text tokens i)
-      → IsSpelledBy (listed xs end) (length xs) f mixed → IsWithinLimits (listed xs end) (length xs) → ⊥
-  helper xs end f mixed ends agree (b, h, at, places, first) (small, flat) =
-      let w = listed xs end in
-      let local = whole_local (lexemes text tokens) w turns (suc depth) in
-      let last = ap (λ r. horizon r) e in
-      let same : reading w turns (suc depth) ≡ Fail k = local.same (λ i less. agree i (omega arith)) ∙ e in
+      → IsSpelledBy (listed xs end) (length xs) f mixed → IsShallowTo (listed xs end) (length xs) → ⊥
+  helper xs end f mixed ends agree (b, h, at, places, first) flat =
+      let s = lexemes text tokens in let n = length tokens in let w = listed xs end in
+      let larger = turns + suc (length xs) in
+      let stop : s n ≡ ending text = at_end text tokens n (omega arith) in
+      let more : reading s larger (suc depth) ≡ Fail k = sym (whole_steady s n (ap form stop) turns larger room (omega arith) (suc depth)) ∙ e in
+      let local = whole_local s w larger (suc depth) in
+      let last = ap (λ r. horizon r) more in
+      let same : reading w larger (suc depth) ≡ Fail k = local.same (λ i less. agree i (omega arith)) ∙ more in
       let room_left = contents_shallow w f.lets f.rules f.loose start b h (subst (λ n. IsShallowTo w n) (sym at) flat) in
       let there : is_end (form (w (length xs))) ≡ true = ap (λ (x : Lexeme). is_end (form x)) (get_or-eq_default xs end (omega arith)) ∙ ends in
-      none_given k same (whole_gives w turns depth f.lets f.rules f.loose b (omega arith) (omega arith) h (is_there w (length xs) b at there))
+      none_given k same (whole_gives w larger depth f.lets f.rules f.loose b (omega arith) (omega arith) h (is_there w (length xs) b at there))
 
-pub dead_end_at : (text : List ℕ) (tokens : List Token) (turns depth k : ℕ) → rules_limit < turns → length tokens ≤ rules_limit → 128 ≤ depth
+pub dead_end_at : (text : List ℕ) (tokens : List Token) (turns depth k : ℕ) → rules_limit < turns → length tokens ≤ rules_limit → depth ≡ 128
     → reading (lexemes text tokens) turns depth ≡ Fail k → IsShallow text tokens → IsDeadEnd text tokens (lexemes text tokens k).from
 dead_end_at text tokens turns zero k room few deep e shallow = absurd (omega arith)
-dead_end_at text tokens turns (suc depth) k room few deep e shallow = dead_end text tokens turns depth k room few deep e shallow
+dead_end_at text tokens turns (suc depth) k room few deep e shallow = dead_end text tokens turns depth k (omega arith) (omega arith) deep e shallow
 
 -- ---- dead ends
 
--- the first of two dead ends that differ lets the tokens before the second go on only past the limits
-past_limits : (text : List ℕ) (tokens : List Token) (k j : ℕ) → k < j → k < length tokens → MayGoOn text (take j tokens)
+-- no token before a dead end is one
+passed_over : (text : List ℕ) (tokens : List Token) (k j : ℕ) → k < j → k < length tokens → MayGoOn text (take j tokens)
     → ((xs : List Lexeme) (end : Lexeme) (f : File) (mixed : Option ℕ) → is_end (form end) ≡ true → ((i : ℕ) → i ≤ k → listed xs end i ≡ lexemes text tokens i)
-    → IsSpelledBy (listed xs end) (length xs) f mixed → IsWithinLimits (listed xs end) (length xs) → ⊥)
-    → GoesOnPastLimits text (take j tokens)
-past_limits text tokens k j less inside goes none = (goes, helper) where
-  helper : (more : List Lexeme) (f : File) (mixed : Option ℕ) → IsSpelledBy (going_on text (take j tokens) more) (length (take j tokens) + length more) f mixed
-      → IsWithinLimits (going_on text (take j tokens) more) (length (take j tokens) + length more) → ⊥
-  helper more f mixed spelled limits =
-      let front = map (lexeme_of text) (take j tokens) in
-      let w = going_on text (take j tokens) more in
-      let long : length front ≡ length (take j tokens) = length-map (take j tokens) (lexeme_of text) in
-      let size : length (take j tokens) + length more ≡ length (front ++ more) = omega (arith, length-append front more) in
-      none (front ++ more) (ending text) f mixed refl
-      (λ i low. let within : i < length (take j tokens) = omega (arith, length-take j tokens) in get_or-append front more (ending text) i (omega arith) ∙ before_is text tokens j i within)
-      (subst (λ n. IsSpelledBy w n f mixed) size spelled) (subst (λ n. IsWithinLimits w n) size limits)
+    → IsSpelledBy (listed xs end) (length xs) f mixed → IsShallowTo (listed xs end) (length xs) → ⊥)
+    → ⊥
+passed_over text tokens k j less inside (more, f, mixed, spelled, shallow) none =
+    let front = map (lexeme_of text) (take j tokens) in
+    let w = going_on text (take j tokens) more in
+    let long : length front ≡ length (take j tokens) = length-map (take j tokens) (lexeme_of text) in
+    let size : length (take j tokens) + length more ≡ length (front ++ more) = omega (arith, length-append front more) in
+    none (front ++ more) (ending text) f mixed refl
+    (λ i low. let within : i < length (take j tokens) = omega (arith, length-take j tokens) in get_or-append front more (ending text) i (omega arith) ∙ before_is text tokens j i within)
+    (subst (λ n. IsSpelledBy w n f mixed) size spelled) (subst (λ n. IsShallowTo w n) size shallow)
 
-pub one_dead_end_is : (text : List ℕ) (tokens : List Token) (a b : ℕ) → IsDeadEnd text tokens a → IsDeadEnd text tokens b
-    → (a ≡ b) ⊎ ((k : ℕ) × GoesOnPastLimits text (take k tokens))
+pub one_dead_end_is : (text : List ℕ) (tokens : List Token) (a b : ℕ) → IsDeadEnd text tokens a → IsDeadEnd text tokens b → a ≡ b
 one_dead_end_is text tokens a b (shallow, (k, (is, goes), none)) (flat, (j, (there, others), never)) = apart (cases_order k j) where
   same : (i l : ℕ) → length tokens ≤ i → i < l → (lexemes text tokens i).from ≡ (lexemes text tokens l).from
   same i l far less = ap (λ (x : Lexeme). x.from) (at_end text tokens i far ∙ sym (at_end text tokens l (omega arith)))
 
-  first : k < j → (v : Bool) → nat_lt k (length tokens) ≡ v → (a ≡ b) ⊎ ((i : ℕ) × GoesOnPastLimits text (take i tokens))
-  first less true e = inr (j, past_limits text tokens k j less (ltb-true k (length tokens) e) others none)
-  first less false e = inl (is ∙ same k j (ltb-false k (length tokens) e) less ∙ sym there)
+  first : k < j → (v : Bool) → nat_lt k (length tokens) ≡ v → a ≡ b
+  first less true e = absurd (passed_over text tokens k j less (ltb-true k (length tokens) e) others none)
+  first less false e = is ∙ same k j (ltb-false k (length tokens) e) less ∙ sym there
 
-  second : j < k → (v : Bool) → nat_lt j (length tokens) ≡ v → (a ≡ b) ⊎ ((i : ℕ) × GoesOnPastLimits text (take i tokens))
-  second less true e = inr (k, past_limits text tokens j k less (ltb-true j (length tokens) e) goes never)
-  second less false e = inl (is ∙ sym (same j k (ltb-false j (length tokens) e) less) ∙ sym there)
+  second : j < k → (v : Bool) → nat_lt j (length tokens) ≡ v → a ≡ b
+  second less true e = absurd (passed_over text tokens j k less (ltb-true j (length tokens) e) goes never)
+  second less false e = is ∙ sym (same j k (ltb-false j (length tokens) e) less) ∙ sym there
 
-  apart : (k ≡ j) ⊎ ((k < j) ⊎ (j < k)) → (a ≡ b) ⊎ ((i : ℕ) × GoesOnPastLimits text (take i tokens))
-  apart (inl e) = inl (is ∙ ap (λ i. (lexemes text tokens i).from) e ∙ sym there)
+  apart : (k ≡ j) ⊎ ((k < j) ⊎ (j < k)) → a ≡ b
+  apart (inl e) = is ∙ ap (λ i. (lexemes text tokens i).from) e ∙ sym there
   apart (inr (inl less)) = first less (nat_lt k (length tokens)) refl
   apart (inr (inr less)) = second less (nat_lt j (length tokens)) refl
 

@@ -4,7 +4,7 @@ use Rattle.literal_parser.specs.Lexemes.{Lexeme}
 use Rattle.literal_parser.specs.Forms.{form, leads}
 use Rattle.literal_parser.specs.States.{State}
 use Rattle.literal_parser.specs.code.Parser.{Outcome, Read, Fail, Parser, and_then, pure, choose, choose_pair, choose_next, choose_third}
-use Rattle.guard_parser.specs.code.Reading.{Inner, cond_of, led_by_name, expr_of}
+use Rattle.guard_parser.specs.code.Reading.{Inner, cond_of, led_by_name, named_expr, expr_of}
 use Rattle.guard_parser.specs.declared.lead.Lead.TheVariants as lead
 use Rattle.guard_parser.specs.code.Leads.{lead_by_name, lead_of, expr_form, led_by, expr_by}
 
@@ -50,7 +50,7 @@ module _ (s : ℕ → Lexeme) where
         (chosen (led_by s turns i full n) _ _ _ _ _ (named_led full n) (chosen (led_by s turns i full n) _ _ _ _ _ (λ st seen. refl) (λ st seen. refl))))
 
     pub expr_formed : (st : State) (seen : ℕ) → expr_of s turns i st seen ≡ and_then (expr_form s st seen) (expr_by s turns i)
-    unfolding expr_of expr_form
-    expr_formed = chosen (expr_by s turns i) _ _ _ _ _
+    unfolding expr_of named_expr expr_form
+    expr_formed = chosen (expr_by s turns i) _ _ _ _ _ (λ st seen. refl) (chosen (expr_by s turns i) _ _ _ _ _
         (chosen_pair (expr_by s turns i) _ _ _ _ _ (λ st seen. refl) (chosen_next (expr_by s turns i) _ _ _ _ _ (λ st seen. refl) (chosen (expr_by s turns i) _ _ _ _ _ (λ st seen. refl) (λ st seen. refl))))
-        (chosen (expr_by s turns i) _ _ _ _ _ (λ st seen. refl) (λ st seen. refl))
+        (chosen (expr_by s turns i) _ _ _ _ _ (λ st seen. refl) (λ st seen. refl)))

@@ -22,3 +22,4 @@ pub mod SeenForms
 pub mod Leads
 pub mod GoOnGrammar
 pub mod GoOnFile
+pub mod Steady

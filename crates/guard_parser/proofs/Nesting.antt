@@ -1,7 +1,7 @@
 -- In what the lexemes spell, brackets nest no deeper than so many are open.
 use Rattle.std.proofs.Common.{◌≡◌, ℕ, zero, suc, pred, max, ◌+◌, ◌≤◌, ◌<◌, Bool, true, false, cond, not, ◌&&◌, ◌||◌, refl, ap, sym, ◌∙◌, subst, arith, List, [], ◌∷◌, Option, Some, None, inl, inr, true≢false, nat_eq}
 use Rattle.std.proofs.lemmas.Bool.Decides.{nat_tests}
-use Rattle.doc_values.specs.Tree.{Label, Forest, Nil, Node, snoc, holds_values}
+use Rattle.doc_values.specs.Tree.{Label, Forest, Nil, Node, snoc}
 use Rattle.doc_values.specs.declared.kind.Kind.{Kind}
 use Rattle.doc_values.specs.declared.kind.Kind.TheVariants as kind
 use Rattle.guard_syntax.specs.Named.{Named}
@@ -12,8 +12,8 @@ use Rattle.literal_parser.specs.declared.keyword.Keyword.TheVariants as kw
 use Rattle.literal_parser.specs.Lexemes.{Word, Name, Reserved, TypeName, Var, Str, Pat, Whole, Fraction, Note, Sign, End, Lexeme}
 use Rattle.literal_parser.specs.Forms.{is_end, form, is_name, is_rule_name, is_any_name, is_type_name, is_var, is_index, is_note, is_lbrace, is_rbrace, is_lparen, is_rparen, is_lbracket, is_rbracket, is_comma, is_colon, is_bar, is_dot, is_star, is_assign, is_equality, is_sign, is_let, is_rule, is_when, is_some_word, is_or, is_neg, is_keys, is_this, is_in, is_operator_word, is_key, is_first_key, is_r, is_number, is_scalar, is_opening_end, is_closing_end, is_opening, is_closing}
 use Rattle.literal_parser.specs.States.{State, past, Opens}
-use Rattle.guard_parser.specs.File.{open_behind, open_before, IsShallowTo}
-use Rattle.literal_parser.specs.code.LiteralDepth.{deep_forest}
+use Rattle.literal_parser.specs.Brackets.{open_behind, open_before, IsShallowTo}
+use Rattle.literal_parser.specs.code.LiteralDepth.{is_bracketed, deep_forest}
 use Rattle.guard_parser.specs.code.Depth.{deep_body, deep_lets, deep_let, deep_conds, deep_opt_conds, deep_disjs, deep_disj, deep_parts, deep_part, deep_query, deep_steps, deep_step, deep_expr, deep_opt_expr, deep_exprs, deep_rule, deep_rules, deep_file}
 use Rattle.literal_parser.specs.Literal.{constant_kind, scalar_kind, holder, IsLiteral, AreItems, AreMoreItems, AreEntries, AreMoreEntries, IsNode, IsEntry}
 use Rattle.guard_parser.specs.Grammar.{Sort, ALet, ARule, APart, Piece, is_sort, of_sort, body_sort, file_sort, InRow, IsCapture, IsNote, IsNeg, IsOperator, IsKeysOperator, IsAny, IsNot, IsNames, IsBody, AreLets, AreDisjs, IsLet, IsConds, IsDisjs, IsOptConds, IsDisj, IsOrs, IsPart, IsRight, IsQuery, IsStart, IsSteps, IsStep, IsExpr, IsExprs, IsMoreExprs, IsHead, IsRule, AreRules, IsContents}
@@ -171,7 +171,7 @@ module _ (s : ℕ → Lexeme) where
 
   -- ---- literals
 
-  constant_holds : (k : Keyword) → holds_values (constant_kind k) ≡ false
+  constant_holds : (k : Keyword) → is_bracketed (constant_kind k) ≡ false
   constant_holds kw.Let = refl
   constant_holds kw.Rule = refl
   constant_holds kw.True = refl
@@ -194,7 +194,7 @@ module _ (s : ℕ → Lexeme) where
   constant_holds kw.IsFloat = refl
   constant_holds kw.IsNull = refl
 
-  scalar_holds : (w : Word) → holds_values (scalar_kind w) ≡ false
+  scalar_holds : (w : Word) → is_bracketed (scalar_kind w) ≡ false
   scalar_holds (Name name) = refl
   scalar_holds (Reserved k name) = constant_holds k
   scalar_holds (TypeName name) = refl
@@ -208,15 +208,15 @@ module _ (s : ℕ → Lexeme) where
   scalar_holds End = refl
 
   abbrev deep_node : Label → Forest → ℕ
-  deep_node l kids = cond (holds_values l.kind) (suc (deep_forest kids)) 0
+  deep_node l kids = cond (is_bracketed l.kind) (suc (deep_forest kids)) 0
 
-  shallow_node : (l m : Label) (kids : Forest) → l ≡ m → holds_values m.kind ≡ false → deep_node l kids ≡ 0
+  shallow_node : (l m : Label) (kids : Forest) → l ≡ m → is_bracketed m.kind ≡ false → deep_node l kids ≡ 0
   shallow_node l m kids e h = ap (λ (z : Label). deep_node z kids) e ∙ ap (λ v. cond v (suc (deep_forest kids)) 0) h
 
-  level_zero : {a b : State} (l m : Label) (kids : Forest) → l ≡ m → holds_values m.kind ≡ false → Balanced a b 0 → Balanced a b (deep_node l kids)
+  level_zero : {a b : State} (l m : Label) (kids : Forest) → l ≡ m → is_bracketed m.kind ≡ false → Balanced a b 0 → Balanced a b (deep_node l kids)
   level_zero {a = a} {b = b} l m kids e h x = subst (λ k. Balanced a b k) (sym (shallow_node l m kids e h)) x
 
-  deep_holder : (k : Kind) (name : Option (List ℕ)) (x : Lexeme) (l : Label) (kids : Forest) → holds_values k ≡ true → l ≡ holder k name x → deep_node l kids ≡ suc (deep_forest kids)
+  deep_holder : (k : Kind) (name : Option (List ℕ)) (x : Lexeme) (l : Label) (kids : Forest) → is_bracketed k ≡ true → l ≡ holder k name x → deep_node l kids ≡ suc (deep_forest kids)
   deep_holder k name x l kids h e = ap (λ (z : Label). deep_node z kids) e ∙ ap (λ v. cond v (suc (deep_forest kids)) 0) h
 
   abbrev Nests : (State → State → Type 0) → ℕ → Type 0
@@ -226,7 +226,7 @@ module _ (s : ℕ → Lexeme) where
       → Nests (IsNode s name l kids I E) (deep_node l kids)
   node_nests name l kids I E i e a b (inl h) = level_zero l _ kids h.1.1 (scalar_holds (s a.at).word) (flat (plain is_scalar a b refl refl h.1.0 h.1.2))
   node_nests name l kids I E i e a b (inr (inl (r, k, h, (c, (p, (c1, f1, (c2, f2, (c3, f3, (c4, f4, (c5, f5, f6)))))), d)))) =
-      level_zero l _ kids h refl (lower (omega arith) (behind (still c b (ap (λ (z : State). z.at) d)) (before (plain is_r a c1 refl refl f1.0 f1.1)
+      subst (λ k. Balanced a b k) (sym (deep_holder (kind.Limits r) name (s a.at) l kids refl h)) (subst (λ t. Balanced a b (suc (deep_forest t))) (sym k) (behind (still c b (ap (λ (z : State). z.at) d)) (before (plain is_r a c1 refl refl f1.0 f1.1)
       (inside {k = 0} (implied is_opening_end is_opening (s c1.at) refl f2.0) f2.2
       (flat (both (plain is_number c2 c3 refl refl f3.0 f3.2) (both (plain is_comma c3 c4 refl refl f4.0 f4.1) (plain is_number c4 c5 refl refl f5.0 f5.2))))
       (implied is_closing_end is_closing (s c5.at) refl f6.0) f6.2))))

@@ -4,7 +4,8 @@ use Rattle.std.proofs.lemmas.Bool.Decides.{nat_tests}
 use Rattle.guard_lexer.specs.declared.token.Token.{Token}
 use Rattle.literal_parser.specs.Lexemes.{Lexeme, lexeme_of, lexemes}
 use Rattle.literal_parser.specs.Forms.{form, is_opening}
-use Rattle.guard_parser.specs.File.{open_behind, open_before, IsShallowTo, IsTooDeep}
+use Rattle.literal_parser.specs.Brackets.{open_behind, open_before, IsShallowTo}
+use Rattle.guard_parser.specs.File.{IsTooDeep}
 use Rattle.guard_parser.proofs.Nesting.{bounded}
 use Rattle.guard_parser.proofs.TokenForms.{lexeme_there}
 

@@ -4,16 +4,16 @@ use Rattle.guard_syntax.specs.Named.{Named}
 use Rattle.guard_syntax.specs.declared.syntax.Op.{Op}
 use Rattle.guard_syntax.specs.Syntax.{Disjs, Part, Query, no_conds, no_disjs, more_disjs}
 use Rattle.literal_parser.specs.Lexemes.{Lexeme}
-use Rattle.literal_parser.specs.Forms.{form, is_name, is_rule_name, is_any_name, is_type_name, is_var, is_index, is_note, is_lbrace, is_rbrace, is_lparen, is_rparen, is_lbracket, is_rbracket, is_comma, is_bar, is_dot, is_star, is_assign, is_equality, is_sign, is_let, is_rule, is_when, is_some_word, is_or, is_neg, is_keys, is_this, is_in, is_operator_word, is_key, is_first_key, is_start, is_plain, is_constant, begins_step, begins_cond, begins_part, leads, opens_range, is_literal, is_applied, text_of, named_of, index_of, operator_of, sign_of, is_binary}
+use Rattle.literal_parser.specs.Forms.{form, is_name, is_rule_name, is_any_name, is_type_name, is_var, is_index, is_note, is_lbrace, is_rbrace, is_lparen, is_rparen, is_lbracket, is_rbracket, is_comma, is_bar, is_dot, is_star, is_assign, is_equality, is_sign, is_let, is_rule, is_when, is_some_word, is_or, is_neg, is_keys, is_this, is_in, is_operator_word, is_key, is_first_key, is_start, is_plain, is_constant, is_function_word, begins_step, begins_cond, begins_part, leads, opens_range, is_literal, is_applied, text_of, named_of, index_of, operator_of, sign_of, is_binary}
 use Rattle.literal_parser.specs.States.{State, start, Rel, ◌⨾◌, Opens, Takes, Has}
 use Rattle.literal_parser.specs.code.Parser.{Parser, stop}
 use Rattle.literal_parser.specs.Literal.{IsLiteral}
 use Rattle.literal_parser.specs.code.LiteralReading.{literal_of}
 use Rattle.guard_parser.specs.Grammar.{ALet, ARule, APart, Piece, of_sort, part_sort, body_sort, file_sort, IsFilled, InRow, IsCapture, IsNote, IsNeg, IsOperator, IsKeysOperator, IsAny, IsNot, IsNames, IsBody, AreLets, AreDisjs, IsLet, IsConds, IsDisjs, IsOptConds, IsDisj, IsOrs, IsPart, IsRight, IsQuery, IsStart, IsSteps, IsStep, IsExpr, IsExprs, IsMoreExprs, IsHead, IsRule, AreRules, IsContents}
-use Rattle.guard_parser.specs.code.Reading.{is_filled, BodyItems, FileItems, Inner, named_bar, capture, note, neg, worded, operator, keys_operator, names, params, dotted, keyed, filtered, bracketed, step, steps, start_step, query_of, tree_expr, applied, asked_expr, expr_of, found_expr, value_of, more_exprs_of, exprs_of, right, tested, called, referred, ruled, judged, headed, led_by_name, cond_of, cond_part, ors, disj_of, disjs, conds_of, opt_conds, guarded_part, kinds_part, full_part, let_of, body_items, body_end, body_of, head, rule_of, file_items, contents, inners}
+use Rattle.guard_parser.specs.code.Reading.{is_filled, BodyItems, FileItems, Inner, named_bar, capture, note, neg, worded, operator, keys_operator, names, params, dotted, keyed, filtered, bracketed, step, steps, start_step, query_of, tree_expr, applied, asked_expr, named_expr, expr_of, found_expr, value_of, more_exprs_of, exprs_of, right, tested, called, referred, ruled, judged, headed, led_by_name, cond_of, cond_part, ors, disj_of, disjs, conds_of, opt_conds, guarded_part, kinds_part, full_part, let_of, body_items, body_end, body_of, head, rule_of, file_items, contents, inners}
 use Rattle.literal_parser.proofs.Steps.{opens_sound, takes_sound, has_sound, choose_sound, pair_sound, next_sound, third_sound}
 use Rattle.literal_parser.proofs.Combine.{Holds, Sound, done, failed, holds_then, holds_so, holds_if}
-use Rattle.guard_parser.proofs.Facts.{literal_range, literal_plain, literal_constant, literal_applied, literal_named, literal_other, applied_not, applied_other, led_by_start, led_by_next, led_by_third, unled_next, unled_third, capture_bar, capture_name}
+use Rattle.guard_parser.proofs.Facts.{literal_range, literal_plain, literal_constant, literal_applied, literal_named, literal_other, literal_word, applied_not, applied_other, led_by_start, led_by_next, led_by_third, unled_next, unled_third, capture_bar, capture_name}
 use Rattle.guard_parser.proofs.Rooms.{bodied_sound}
 
 module _ (s : ℕ → Lexeme) where
@@ -146,8 +146,10 @@ module _ (s : ℕ → Lexeme) where
       asked_sound lone st seen is isnt = holds_then (query_sound st seen) (λ q m sn e. done {R = λ e m. IsExpr s lone e st m} (is, (isnt, e)))
 
       expr_sound : (lone : Bool) → Sound (expr_of s turns inner) (IsExpr s lone)
-      unfolding expr_of
-      expr_sound lone st seen = choose_sound s is_any_name _ _ _ _
+      unfolding expr_of named_expr
+      expr_sound lone st seen = choose_sound s is_function_word _ _ _ _
+          (λ word. bodied_sound s turns inner _ _ _ (applied_sound lone st _ (literal_word (s st.at) (s (suc st.at)) word)))
+          (λ word. choose_sound s is_any_name _ _ _ _
           (λ any. pair_sound s opens_range _ _ _ _
           (λ range. tree_sound lone st _ (literal_range (s st.at) (s (suc st.at)) range))
           (λ range. next_sound s is_lparen _ _ _ _
@@ -157,7 +159,7 @@ module _ (s : ℕ → Lexeme) where
           (λ is. asked_sound lone st _ (literal_named (s st.at) (s (suc st.at)) any range is) (applied_not (s st.at) (s (suc st.at)) paren)))))
           (λ any. choose_sound s is_plain _ _ _ _
           (λ is. tree_sound lone st _ (literal_plain (s st.at) (s (suc st.at)) is))
-          (λ is. asked_sound lone st _ (literal_other (s st.at) (s (suc st.at)) any is) (applied_other (s st.at) (s (suc st.at)) any)))
+          (λ is. asked_sound lone st _ (literal_other (s st.at) (s (suc st.at)) any is) (applied_other (s st.at) (s (suc st.at)) any))))
 
       found_sound : (st : State) (seen : ℕ) → is_applied (s st.at) (s (suc st.at)) ≡ false → Holds (found_expr s turns inner st seen) (λ e m. IsExpr s true e st m)
       unfolding found_expr

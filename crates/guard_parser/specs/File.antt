@@ -1,12 +1,12 @@
 -- What the tokens of a text spell, and why they spell nothing.
-use Rattle.std.specs.Prelude.{◌≡◌, ℕ, zero, suc, pred, true, ◌<◌, ◌≤◌, ◌+◌, List, ◌++◌, length, map, take, slice_index_or, Option, Some, None, if◌then◌else◌}
-use Rattle.doc_values.specs.Limits.{rules_limit}
+use Rattle.std.specs.Prelude.{◌≡◌, ℕ, true, ◌≤◌, ◌+◌, List, ◌++◌, length, map, take, slice_index_or, Option, Some, None}
 use Rattle.guard_lexer.specs.declared.token.Token.{Token}
 use Rattle.guard_syntax.specs.Syntax.{File}
 use Rattle.guard_parser.specs.declared.refusal.ParseRefusal.{ParseRefusal}
 use Rattle.guard_parser.specs.declared.refusal.ParseRefusal.TheVariants as r
 use Rattle.literal_parser.specs.Lexemes.{Lexeme, lexeme_of, ending, lexemes}
-use Rattle.literal_parser.specs.Forms.{form, is_end, is_opening, is_closing}
+use Rattle.literal_parser.specs.Forms.{form, is_end, is_opening}
+use Rattle.literal_parser.specs.Brackets.{open_before, IsShallowTo}
 use Rattle.literal_parser.specs.States.{State, start}
 use Rattle.guard_parser.specs.Grammar.{IsContents}
 
@@ -19,19 +19,6 @@ abbrev pub IsSpelled : List ℕ → List Token → File → Option ℕ → Type 
 IsSpelled text tokens f mixed = IsSpelledBy (lexemes text tokens) (length tokens) f mixed
 
 -- ---- brackets
-
--- how many brackets are open behind a lexeme, whatever their kinds
-abbrev pub open_behind : ℕ → ℕ → ℕ
-open_behind n open_count = if is_opening n then suc open_count else (if is_closing n then pred open_count else open_count)
-
--- how many are open before a place
-abbrev pub open_before : (ℕ → Lexeme) → ℕ → ℕ
-open_before s zero = 0
-open_before s (suc i) = open_behind (form (s i)) (open_before s i)
-
--- no bracket before a place opens while 128 are open
-abbrev pub IsShallowTo : (ℕ → Lexeme) → ℕ → Type 0
-IsShallowTo s n = (i : ℕ) → i < n → is_opening (form (s i)) ≡ true → open_before s i < 128
 
 -- a bracket opens while 128 are open: the first such one, at a byte offset
 abbrev pub IsTooDeep : List ℕ → List Token → ℕ → Type 0
@@ -59,25 +46,17 @@ listed xs end i = slice_index_or xs i end
 abbrev pub going_on : List ℕ → List Token → List Lexeme → ℕ → Lexeme
 going_on text tokens more = listed (map (lexeme_of text) tokens ++ more) (ending text)
 
--- so many lexemes keep within the limits of rule files
-abbrev pub IsWithinLimits : (ℕ → Lexeme) → ℕ → Type 0
-IsWithinLimits s n = (n ≤ rules_limit) × IsShallowTo s n
-
--- the tokens and some lexemes more spell a file, however deep the brackets nest in it
+-- the tokens and some lexemes more spell a file in which no bracket opens while 128 are open
 abbrev pub MayGoOn : List ℕ → List Token → Type 0
 MayGoOn text tokens = (more : List Lexeme) × (f : File) × (mixed : Option ℕ) × IsSpelledBy (going_on text tokens more) (length tokens + length more) f mixed
-
--- but none that keeps within the limits
-abbrev pub GoesOnPastLimits : List ℕ → List Token → Type 0
-GoesOnPastLimits text tokens = MayGoOn text tokens × ((more : List Lexeme) (f : File) (mixed : Option ℕ) → IsSpelledBy (going_on text tokens more) (length tokens + length more) f mixed
-    → IsWithinLimits (going_on text tokens more) (length tokens + length more) → ⊥)
+    × IsShallowTo (going_on text tokens more) (length tokens + length more)
 
 -- the first lexeme, or the end of the text, with which no file goes on, at this byte offset: the tokens before it and some lexemes more spell a file;
--- whatever lexemes, with an end behind them, begin with those up to it and with it, they spell none within the limits
+-- whatever lexemes, with an end behind them, begin with those up to it and with it, they spell none in which no bracket opens while 128 are open
 abbrev pub IsDeadEnd : List ℕ → List Token → ℕ → Type 0
 IsDeadEnd text tokens at = IsShallow text tokens × ((k : ℕ) × ((at ≡ (lexemes text tokens k).from) × MayGoOn text (take k tokens))
     × ((xs : List Lexeme) (end : Lexeme) (f : File) (mixed : Option ℕ) → is_end (form end) ≡ true → ((i : ℕ) → i ≤ k → listed xs end i ≡ lexemes text tokens i)
-    → IsSpelledBy (listed xs end) (length xs) f mixed → IsWithinLimits (listed xs end) (length xs) → ⊥))
+    → IsSpelledBy (listed xs end) (length xs) f mixed → IsShallowTo (listed xs end) (length xs) → ⊥))
 
 -- why tokens spell no rule file
 abbrev pub IsRefused : List ℕ → List Token → ParseRefusal → Type 0

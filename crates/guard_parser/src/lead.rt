@@ -19,6 +19,8 @@ pub(crate) enum Lead {
 /// What an expression is, by how it begins.
 #[derive(Clone, Copy)]
 pub(crate) enum ExprForm {
+    /// With a keyword that can only be the name of a function.
+    Word,
     Literal,
     Function,
     Query,
@@ -73,6 +75,9 @@ pub(crate) fn lead_of(
 pub(crate) fn expr_form(tokens: Tokens<'_>, cursor: &mut Cursor) -> ExprForm
     ensures { spec.expr_form (source tokens.entry) (state_of cursor.old) cursor.old.seen ≡ Read result (state_of cursor.new) cursor.new.seen }
 {
+    if cursor.sees(tokens, TokenTest::FunctionWord) {
+        return ExprForm::Word;
+    }
     if !cursor.sees(tokens, TokenTest::AnyName) {
         if cursor.sees(tokens, TokenTest::Plain) {
             return ExprForm::Literal;

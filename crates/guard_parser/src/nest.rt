@@ -2,7 +2,8 @@
 ghost use Rattle.std.specs.Prelude.{◌≡◌, ◌≤◌, ℕ, List, MatchOption};
 ghost use Rattle.literal_parser.specs.Lexemes.{lexeme_of};
 ghost use Rattle.literal_parser.specs.Forms.{form, is_opening, is_closing};
-ghost use Rattle.guard_parser.specs.File.{open_behind, IsShallow, IsTooDeep};
+ghost use Rattle.literal_parser.specs.Brackets.{open_behind};
+ghost use Rattle.guard_parser.specs.File.{IsShallow, IsTooDeep};
 
 use guard_lexer::{Mark, Token, TokenKind};
 

@@ -168,6 +168,12 @@ pub(crate) fn expr(
     ensures { Reads see_expr (expr_at tokens.entry depth (state_of cursor.old) cursor.old.seen) result cursor.new }
 {
     match expr_form(tokens, cursor) {
+        ExprForm::Word => {
+            if depth == 0 {
+                return Err(Halt::Dead(cursor.seen));
+            }
+            applied(alloc, tokens, cursor, depth)
+        }
         ExprForm::Literal => tree_expr(alloc, tokens, cursor, depth),
         ExprForm::Function => applied(alloc, tokens, cursor, depth),
         ExprForm::Query => Ok(Expr::Query(query(alloc, tokens, cursor, depth)?)),

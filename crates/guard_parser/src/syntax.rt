@@ -1,5 +1,5 @@
 //! The syntax of a rule file.
-ghost use Rattle.std.specs.Prelude.{◌≡◌, ◌⊎◌, ◌≤◌, ◌<◌, ℕ, List, length, take, IfOk, IfErr, IsErrOf, Option};
+ghost use Rattle.std.specs.Prelude.{◌≡◌, ◌≤◌, ◌<◌, ℕ, List, length, IfOk, IfErr, IsErrOf, Option};
 ghost use Rattle.doc_values.specs.Limits.{rules_limit};
 ghost use Rattle.guard_lexer.specs.Lexes.{IsTokenList};
 ghost use Rattle.guard_lexer.specs.declared.token.Token.{Token};
@@ -8,7 +8,7 @@ ghost use Rattle.guard_syntax.specs.code.Seen.{see_file};
 ghost use Rattle.guard_syntax.specs.code.Queries.{QueriesBegin};
 ghost use Rattle.guard_syntax.specs.Sites.{upto, sites_file};
 ghost use Rattle.guard_parser.specs.declared.refusal.ParseRefusal.TheVariants.{NestTooDeep};
-ghost use Rattle.guard_parser.specs.File.{Rules, IsSpelled, IsShallow, IsTooDeep, IsDeadEnd, IsRefused, GoesOnPastLimits};
+ghost use Rattle.guard_parser.specs.File.{Rules, IsSpelled, IsShallow, IsTooDeep, IsDeadEnd, IsRefused};
 
 use crate::nest::{MOST_OPEN, first_too_deep};
 use crate::read_file::whole_file;
@@ -93,7 +93,7 @@ pub fn queries_begin()
     ensures { (text : List ℕ) (tokens : List Token) (f : File) (p : Option ℕ) → IsSpelled text tokens f p → QueriesBegin f }
 {}
 
-/// Where the tokens of a text have two dead ends, some of the tokens go on only past the limits of rule files.
+/// The tokens of a text have one dead end at most.
 pub fn one_dead_end()
-    ensures { (text : List ℕ) (tokens : List Token) (a b : ℕ) → IsDeadEnd text tokens a → IsDeadEnd text tokens b → (a ≡ b) ⊎ ((k : ℕ) × GoesOnPastLimits text (take k tokens)) }
+    ensures { (text : List ℕ) (tokens : List Token) (a b : ℕ) → IsDeadEnd text tokens a → IsDeadEnd text tokens b → a ≡ b }
 {}

@@ -9,7 +9,9 @@ use Rattle.literal_parser.specs.Forms.{form, word_form}
 use Rattle.literal_parser.specs.States.{State}
 use Rattle.literal_parser.specs.code.Parser.{Outcome, Read, Fail, Parser, and_then, ◌>>=◌}
 use Rattle.literal_parser.proofs.Combine.{Gives, gives_then}
+use Rattle.literal_parser.specs.Brackets.{open_before, IsShallowTo}
 use Rattle.literal_parser.proofs.Apart.{always, implied}
+use Rattle.literal_parser.proofs.Levels.{Sub, Stands, stands_agreed}
 
 -- ---- classes of forms
 
@@ -21,13 +23,6 @@ none x = false
 
 abbrev pub only : Word → ℕ → Bool
 only word x = x == word_form word
-
--- a lexeme that passes f passes g; and none passes both: the proofs are `refl`
-abbrev pub Sub : (ℕ → Bool) → (ℕ → Bool) → Type 0
-Sub f g = always (λ x. not (f x) || g x) 64 ≡ true
-
-abbrev pub Disjoint : (ℕ → Bool) → (ℕ → Bool) → Type 0
-Disjoint f g = always (λ x. not (f x && g x)) 64 ≡ true
 
 -- what is asked of the lexeme behind the end, where a reader is there, and where it is one before and the last lexeme passes `near`
 pub record Side : Type 0 where
@@ -122,44 +117,50 @@ module _ (s : ℕ → Lexeme) (n : ℕ) where
   abbrev pub Fits : Side → (ℕ → Lexeme) → State → Type 0
   Fits side w st = (st.at ≡ n → Meets side.here w n) × (Hangs side.near st → side.next (form (w n)) ≡ true)
 
-  -- what is read of s is read of all lexemes that are as s before the end, and fit behind it
-  pub record Kept {A : Type 0} (strict : Bool) (from to : Side) (q : (ℕ → Lexeme) → Parser A) (st : State) (a : A) (b : State) (seen : ℕ) : Type 0 where
+  -- what is read of s is read of all lexemes that are as s before the end, and fit behind it; from so many open brackets it leads to so many
+  pub record Kept {A : Type 0} (l r : ℕ) (strict : Bool) (from to : Side) (q : (ℕ → Lexeme) → Parser A) (st : State) (a : A) (b : State) (seen : ℕ) : Type 0 where
     pub within : b.at ≤ n
     pub grows : Passes strict st.at b.at
     pub tight : Tight to.near b seen
+    pub level : open_before s st.at ≡ l → open_before s b.at ≡ r
     pub stays : (w : ℕ → Lexeme) → Agree w → Fits to w b → Fits from w st × ((k : ℕ) → Gives (q w st k) a b)
 
-  -- with these lexemes behind the end, and what fits behind them, something is read
-  pub record Mended {A : Type 0} (from to : Side) (q : (ℕ → Lexeme) → Parser A) (st : State) : Type 0 where
+  -- with these lexemes behind the end, and what fits behind them, something is read, and no bracket opens too deep
+  pub record Mended {A : Type 0} (l r : ℕ) (from to : Side) (q : (ℕ → Lexeme) → Parser A) (st : State) : Type 0 where
     pub more : List Lexeme
     pub value : A
     pub last : State
     pub ends : last.at ≡ n + length more
+    pub flows : IsShallowTo s n → open_before s st.at ≡ l → (w : ℕ → Lexeme) → Agree w → Spells w n more → Stands w r last.at
     pub goes : (w : ℕ → Lexeme) → Agree w → Spells w n more → Meets to.here w last.at → Fits from w st × ((k : ℕ) → Gives (q w st k) value last)
 
-  abbrev pub Outlived : {A : Type 0} → Bool → Side → Side → ((ℕ → Lexeme) → Parser A) → State → Outcome A → Type 0
-  Outlived strict from to q st (Read a b seen) = Kept strict from to q st a b seen
-  Outlived strict from to q st (Fail k) = n ≤ k → st.at < n → Mended from to q st
+  abbrev pub Outlived : {A : Type 0} → (l r : ℕ) → Bool → Side → Side → ((ℕ → Lexeme) → Parser A) → State → Outcome A → Type 0
+  Outlived l r strict from to q st (Read a b seen) = Kept l r strict from to q st a b seen
+  Outlived l r strict from to q st (Fail k) = n ≤ k → st.at < n → Mended l r from to q st
 
   -- what was read of s stays so; where nothing was read and the end was looked at, some lexemes more let the reader read
-  pub record LivesAt {A : Type 0} (strict : Bool) (from to : Side) (r : Outcome A) (q : (ℕ → Lexeme) → Parser A) (st : State) : Type 0 where
-    pub lives : Outlived strict from to q st r
+  pub record LivesAt {A : Type 0} (l m : ℕ) (strict : Bool) (from to : Side) (r : Outcome A) (q : (ℕ → Lexeme) → Parser A) (st : State) : Type 0 where
+    pub lives : Outlived l m strict from to q st r
 
-  -- from the end on, some lexemes let the reader read
-  pub record Begun {A : Type 0} (h f : ℕ → Bool) (q : (ℕ → Lexeme) → Parser A) (st : State) : Type 0 where
+  -- from the end on, some lexemes let the reader read, and no bracket opens too deep
+  pub record Begun {A : Type 0} (l r : ℕ) (h f : ℕ → Bool) (q : (ℕ → Lexeme) → Parser A) (st : State) : Type 0 where
     pub more : List Lexeme
     pub value : A
     pub last : State
     pub ends : last.at ≡ st.at + length more
+    pub flows : (w : ℕ → Lexeme) → Spells w st.at more → Stands w l st.at → Stands w r last.at
     pub goes : (w : ℕ → Lexeme) → Spells w st.at more → Meets f w last.at → Meets h w st.at × ((k : ℕ) → Gives (q w st k) value last)
 
-  abbrev pub Starts : {A : Type 0} → (ℕ → Bool) → (ℕ → Bool) → ((ℕ → Lexeme) → Parser A) → Type 0
-  Starts h f q = (st : State) → n ≤ st.at → Begun h f q st
+  abbrev pub Starts : {A : Type 0} → (l r : ℕ) → (ℕ → Bool) → (ℕ → Bool) → ((ℕ → Lexeme) → Parser A) → Type 0
+  Starts l r h f q = (st : State) → n ≤ st.at → Begun l r h f q st
 
   -- so from a place on: whatever was read before
-  pub record Live {A : Type 0} (floor : ℕ) (strict : Bool) (from to : Side) (p : Parser A) (q : (ℕ → Lexeme) → Parser A) : Type 0 where
-    pub lives : (st : State) (seen : ℕ) → floor ≤ st.at → st.at ≤ n → Tight from.near st seen → LivesAt strict from to (p st seen) q st
-    pub starts : Starts from.here to.here q
+  abbrev pub Lives : {A : Type 0} → (l r floor : ℕ) → Bool → Side → Side → Parser A → ((ℕ → Lexeme) → Parser A) → Type 0
+  Lives l r floor strict from to p q = (st : State) (seen : ℕ) → floor ≤ st.at → st.at ≤ n → Tight from.near st seen → LivesAt l r strict from to (p st seen) q st
+
+  pub record Live {A : Type 0} (l r floor : ℕ) (strict : Bool) (from to : Side) (p : Parser A) (q : (ℕ → Lexeme) → Parser A) : Type 0 where
+    pub lives : Lives l r floor strict from to p q
+    pub starts : Starts l r from.here to.here q
 
   -- ---- small facts
 
@@ -202,53 +203,58 @@ module _ (s : ℕ → Lexeme) (n : ℕ) where
 
   -- ---- one reader behind the other
 
-  pub mended_behind : {A B : Type 0} {v : Bool} {from mid to : Side} {q : (ℕ → Lexeme) → Parser A} (g : A → (ℕ → Lexeme) → Parser B) {st : State} {a : A} {b : State} {seen : ℕ}
-      → Kept v from mid q st a b seen → b.at ≡ n → Begun mid.here to.here (g a) b → Mended from to (λ w. q w >>= (λ x. g x w)) st
-  mended_behind {mid = mid} {to = to} g {a = a} {b = b} kept e begun = record {
+  pub mended_behind : {A B : Type 0} {l m r : ℕ} {v : Bool} {from mid to : Side} {q : (ℕ → Lexeme) → Parser A} (g : A → (ℕ → Lexeme) → Parser B) {st : State} {a : A} {b : State} {seen : ℕ}
+      → Kept l m v from mid q st a b seen → b.at ≡ n → Begun m r mid.here to.here (g a) b → Mended l r from to (λ w. q w >>= (λ x. g x w)) st
+  mended_behind {m = m} {mid = mid} {to = to} g {a = a} {b = b} kept e begun = record {
     more = begun.more;
     value = begun.value;
     last = begun.last;
     ends = let l = begun.ends in omega arith;
+    flows = λ shallow level w agree spells. begun.flows w (subst (λ i. Spells w i begun.more) (sym e) spells) (stands_agreed s w n agree m b.at kept.within shallow (kept.level level));
     goes = λ w agree spells meets.
         let y = begun.goes w (subst (λ i. Spells w i begun.more) (sym e) spells) meets in
         let x = kept.stays w agree (λ l. subst (λ i. Meets mid.here w i) e y.0, λ l. absurd (let one = l.0 in omega arith)) in
         (x.0, λ k. gives_then _ (x.1 k) (λ sn. y.1 sn));
   }
 
-  pub lives_behind : {A B : Type 0} {v u : Bool} {from mid to : Side} {q : (ℕ → Lexeme) → Parser A} (g : A → (ℕ → Lexeme) → Parser B) {st : State} {a : A} {b : State} {seen : ℕ} (r : Outcome B)
-      → Kept v from mid q st a b seen → LivesAt u mid to r (g a) b → (n ≤ b.at → Begun mid.here to.here (g a) b) → LivesAt (v || u) from to r (λ w. q w >>= (λ x. g x w)) st
+  pub lives_behind : {A B : Type 0} {l m r : ℕ} {v u : Bool} {from mid to : Side} {q : (ℕ → Lexeme) → Parser A} (g : A → (ℕ → Lexeme) → Parser B) {st : State} {a : A} {b : State} {seen : ℕ} (o : Outcome B)
+      → Kept l m v from mid q st a b seen → LivesAt m r u mid to o (g a) b → (n ≤ b.at → Begun m r mid.here to.here (g a) b) → LivesAt l r (v || u) from to o (λ w. q w >>= (λ x. g x w)) st
   lives_behind {v = v} {u = u} g {st = st} {b = b} (Read c d seen) kept h begun = record {
     lives = let x = h.lives in record {
       within = x.within;
       grows = passes_both v u st.at b.at d.at kept.grows x.grows;
       tight = x.tight;
+      level = λ e. x.level (kept.level e);
       stays = λ w agree fits. let z = x.stays w agree fits in let y = kept.stays w agree z.0 in (y.0, λ k. gives_then _ (y.1 k) (λ sn. z.1 sn));
     };
   }
-  lives_behind {from = from} {to = to} {q = q} g {st = st} {b = b} (Fail k) kept h begun = record { lives = λ far inside. helper far (nat_eq b.at n) refl } where
-    helper : n ≤ k → (e : Bool) → nat_eq b.at n ≡ e → Mended from to (λ w. q w >>= (λ x. g x w)) st
+  lives_behind {l = l} {r = r} {from = from} {to = to} {q = q} g {st = st} {b = b} (Fail k) kept h begun = record { lives = λ far inside. helper far (nat_eq b.at n) refl } where
+    helper : n ≤ k → (e : Bool) → nat_eq b.at n ≡ e → Mended l r from to (λ w. q w >>= (λ x. g x w)) st
     helper far true e = mended_behind g kept (let same : b.at ≡ n = grind (arith, nat_tests) in same) (begun (let same : n ≤ b.at = grind (arith, nat_tests) in same))
     helper far false e = let before : b.at < n = let x = kept.within in grind (arith, nat_tests) in let m = h.lives far before in record {
       more = m.more;
       value = m.value;
       last = m.last;
       ends = m.ends;
+      flows = λ shallow level. m.flows shallow (kept.level level);
       goes = λ w agree spells meets. let z = m.goes w agree spells meets in let y = kept.stays w agree z.0 in (y.0, λ i. gives_then _ (y.1 i) (λ sn. z.1 sn));
     }
 
-  pub lives_then : {A B : Type 0} {v u : Bool} {from mid to : Side} {r : Outcome A} {q : (ℕ → Lexeme) → Parser A} {f : A → Parser B} (g : A → (ℕ → Lexeme) → Parser B) {st : State}
-      → LivesAt v from mid r q st
-      → ((a : A) (b : State) (seen : ℕ) → b.at ≤ n → Passes v st.at b.at → Tight mid.near b seen → LivesAt u mid to (f a b seen) (g a) b)
-      → ((a : A) (b : State) → n ≤ b.at → Begun mid.here to.here (g a) b)
-      → LivesAt (v || u) from to (and_then r f) (λ w. q w >>= (λ x. g x w)) st
-  lives_then {r = Read a b seen} g h k o = let x = h.lives in lives_behind g _ x (k a b seen x.within x.grows x.tight) (o a b)
-  lives_then {mid = mid} {r = Fail seen} g h k o = record {
+  pub lives_then : {A B : Type 0} {l m r : ℕ} {v u : Bool} {from mid to : Side} {o : Outcome A} {q : (ℕ → Lexeme) → Parser A} {f : A → Parser B} (g : A → (ℕ → Lexeme) → Parser B) {st : State}
+      → LivesAt l m v from mid o q st
+      → ((a : A) (b : State) (seen : ℕ) → b.at ≤ n → Passes v st.at b.at → Tight mid.near b seen → LivesAt m r u mid to (f a b seen) (g a) b)
+      → ((a : A) (b : State) → n ≤ b.at → Begun m r mid.here to.here (g a) b)
+      → LivesAt l r (v || u) from to (and_then o f) (λ w. q w >>= (λ x. g x w)) st
+  lives_then {o = Read a b seen} g h k begun = let x = h.lives in lives_behind g _ x (k a b seen x.within x.grows x.tight) (begun a b)
+  lives_then {mid = mid} {o = Fail seen} g h k begin = record {
     lives = λ far inside. let m = h.lives far inside in
-        let begun = o m.value m.last (let l = m.ends in omega arith) in record {
+        let begun = begin m.value m.last (let l = m.ends in omega arith) in record {
           more = m.more ++ begun.more;
           value = begun.value;
           last = begun.last;
           ends = let x = m.ends in let y = begun.ends in omega (arith, length-append m.more begun.more);
+          flows = λ shallow level w agree spells. begun.flows w (subst (λ i. Spells w i begun.more) (sym m.ends) (spells_second w n m.more begun.more spells))
+              (m.flows shallow level w agree (spells_first w n m.more begun.more spells));
           goes = λ w agree spells meets.
               let y = begun.goes w (subst (λ i. Spells w i begun.more) (sym m.ends) (spells_second w n m.more begun.more spells)) meets in
               let x = m.goes w agree (spells_first w n m.more begun.more spells) y.0 in
@@ -256,14 +262,16 @@ module _ (s : ℕ → Lexeme) (n : ℕ) where
         };
   }
 
-  pub starts_then : {A B : Type 0} {h f to : ℕ → Bool} {q : (ℕ → Lexeme) → Parser A} (g : A → (ℕ → Lexeme) → Parser B) (st : State)
-      → Begun h f q st → ((a : A) (b : State) → n ≤ b.at → Begun f to (g a) b) → n ≤ st.at → Begun h to (λ w. q w >>= (λ x. g x w)) st
+  pub starts_then : {A B : Type 0} {l m r : ℕ} {h f to : ℕ → Bool} {q : (ℕ → Lexeme) → Parser A} (g : A → (ℕ → Lexeme) → Parser B) (st : State)
+      → Begun l m h f q st → ((a : A) (b : State) → n ≤ b.at → Begun m r f to (g a) b) → n ≤ st.at → Begun l r h to (λ w. q w >>= (λ x. g x w)) st
   starts_then g st first second late =
       let begun = second first.value first.last (let l = first.ends in omega arith) in record {
         more = first.more ++ begun.more;
         value = begun.value;
         last = begun.last;
         ends = let x = first.ends in let y = begun.ends in omega (arith, length-append first.more begun.more);
+        flows = λ w spells stands. begun.flows w (subst (λ i. Spells w i begun.more) (sym first.ends) (spells_second w st.at first.more begun.more spells))
+            (first.flows w (spells_first w st.at first.more begun.more spells) stands);
         goes = λ w spells meets.
             let y = begun.goes w (subst (λ i. Spells w i begun.more) (sym first.ends) (spells_second w st.at first.more begun.more spells)) meets in
             let x = first.goes w (spells_first w st.at first.more begun.more spells) y.0 in

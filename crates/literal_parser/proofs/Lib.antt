@@ -11,7 +11,10 @@ pub mod LiteralGrows
 pub mod LiteralLocal
 pub mod LiteralComplete
 pub mod LiteralSteps
+pub mod Levels
 pub mod GoOn
 pub mod GoOnSteps
 pub mod GoOnSides
 pub mod LiteralGoOn
+pub mod Steady
+pub mod LiteralSteady

@@ -17,12 +17,12 @@ use Rattle.literal_parser.specs.declared.cursor.Halt.TheVariants.{Dead, NoMemory
 use Rattle.literal_parser.specs.declared.token_cursor.Cursor.{Cursor}
 use Rattle.literal_parser.specs.code.Reads.{Reads}
 use Rattle.literal_parser.specs.Lexemes.{Lexeme, Word, Name, Reserved, TypeName, Var, Str, Pat, Whole, Fraction, Note, Sign, End}
-use Rattle.literal_parser.specs.Forms.{form, is_lbrace, is_rbrace, is_lbracket, is_rbracket, is_comma, is_r, is_scalar, is_index_number, magnitude, number_in, number_of, text_in}
+use Rattle.literal_parser.specs.Forms.{form, is_lbrace, is_rbrace, is_lbracket, is_rbracket, is_comma, is_r, is_scalar, is_index_number, opens_range, magnitude, number_in, number_of, text_in}
 use Rattle.literal_parser.specs.code.TokenClasses.{shape_of, shape_in, name_shape, whole_shape}
 use Rattle.literal_parser.specs.States.{State}
-use Rattle.literal_parser.specs.code.Parser.{One, Outcome, Read, Fail, Parser, and_then, pure, takes, has, choose, choose_pair, note_range}
+use Rattle.literal_parser.specs.code.Parser.{One, Outcome, Read, Fail, Parser, and_then, pure, stop, takes, has, choose, choose_pair, note_range}
 use Rattle.literal_parser.specs.Literal.{scalar_kind, scalar_text, scalar, holder, is_mixed}
-use Rattle.literal_parser.specs.code.LiteralReading.{Tree, bounds, range, list, map_of, node, more_items, items_of, entry, more_entries, entries_of, within, literal_of}
+use Rattle.literal_parser.specs.code.LiteralReading.{Tree, has_room, bounds, range, bounded, list, map_of, node, more_items, items_of, entry, more_entries, entries_of, within, literal_of}
 use Rattle.literal_parser.specs.code.LiteralReads.{kind_of, is_quoted, Puts, with_tree, with_all, IsOpen, IsLevel}
 use Rattle.literal_parser.proofs.Takes.{has_of, has_none}
 
@@ -156,102 +156,112 @@ pub deeper : (n : ℕ) → n ≢ 0 → n ≡ suc (n - 1)
 deeper n some = omega arith
 
 module _ (s : ℕ → Lexeme) (turns : ℕ) where
-  pub list_failed : (depth : ℕ) (name : Option (List ℕ)) (st : State) (seen k : ℕ) → takes s is_lbracket st seen ≡ Fail k → list s turns (within s turns depth).0 (within s turns depth).1 name st seen ≡ Fail k
+  -- an `r` where no bracket may open, and where one may
+  pub bounded_shut : (depth : ℕ) (name : Option (List ℕ)) (st : State) (seen : ℕ) → depth ≡ 0 → bounded s turns (has_room depth) (within s turns depth).0 (within s turns depth).1 name st seen ≡ Fail seen
+  unfolding bounded
+  bounded_shut depth name st seen none = ap (λ (d : ℕ). (cond {A = Parser Tree} (has_room d) (choose_pair s opens_range (range s name) stop) stop) st seen) none
+
+  pub bounded_open : {r : Outcome Tree} (depth : ℕ) (name : Option (List ℕ)) (st : State) (seen : ℕ) → depth ≢ 0 → choose_pair s opens_range (range s name) stop st seen ≡ r
+      → bounded s turns (has_room depth) (within s turns depth).0 (within s turns depth).1 name st seen ≡ r
+  unfolding bounded
+  bounded_open depth name st seen some e = ap (λ (d : ℕ). (cond {A = Parser Tree} (has_room d) (choose_pair s opens_range (range s name) stop) stop) st seen) (deeper depth some) ∙ e
+
+  pub list_failed : (depth : ℕ) (name : Option (List ℕ)) (st : State) (seen k : ℕ) → takes s is_lbracket st seen ≡ Fail k → list s turns (has_room depth) (within s turns depth).0 (within s turns depth).1 name st seen ≡ Fail k
   unfolding list
   list_failed depth name st seen k e = then_fail _ (has_none s is_lbracket (holder kind.List name) st seen k e)
 
   pub list_closed : (depth : ℕ) (name : Option (List ℕ)) (st st1 : State) (seen seen1 : ℕ) → depth ≡ 0 → takes s is_lbracket st seen ≡ Read tt st1 seen1
-      → list s turns (within s turns depth).0 (within s turns depth).1 name st seen ≡ Fail seen1
+      → list s turns (has_room depth) (within s turns depth).0 (within s turns depth).1 name st seen ≡ Fail seen1
   unfolding list
-  list_closed depth name st st1 seen seen1 none e = subst (λ d. list s turns (within s turns d).0 (within s turns d).1 name st seen ≡ Fail seen1) (sym none)
+  list_closed depth name st st1 seen seen1 none e = subst (λ d. list s turns (has_room d) (within s turns d).0 (within s turns d).1 name st seen ≡ Fail seen1) (sym none)
       (then_read _ (has_of s is_lbracket (holder kind.List name) _ st st1 seen seen1 e refl) refl)
 
   list_read_in : (d : ℕ) (name : Option (List ℕ)) (kids : Forest) (st st1 st2 st3 : State) (seen seen1 seen2 seen3 : ℕ) → takes s is_lbracket st seen ≡ Read tt st1 seen1
-      → items_of s turns (within s turns d).0 (within s turns d).1 st1 seen1 ≡ Read kids st2 seen2 → takes s is_rbracket st2 seen2 ≡ Read tt st3 seen3
-      → list s turns (within s turns (suc d)).0 (within s turns (suc d)).1 name st seen ≡ Read (holder kind.List name (s st.at), kids) st3 seen3
+      → items_of s turns (has_room d) (within s turns d).0 (within s turns d).1 st1 seen1 ≡ Read kids st2 seen2 → takes s is_rbracket st2 seen2 ≡ Read tt st3 seen3
+      → list s turns (has_room (suc d)) (within s turns (suc d)).0 (within s turns (suc d)).1 name st seen ≡ Read (holder kind.List name (s st.at), kids) st3 seen3
   unfolding list
   list_read_in d name kids st st1 st2 st3 seen seen1 seen2 seen3 e f g =
       then_read _ (has_of s is_lbracket (holder kind.List name) _ st st1 seen seen1 e refl) (then_read _ f (then_read _ g refl))
 
   pub list_read : (depth : ℕ) (name : Option (List ℕ)) (kids : Forest) (st st1 st2 st3 : State) (seen seen1 seen2 seen3 : ℕ) → depth ≢ 0 → takes s is_lbracket st seen ≡ Read tt st1 seen1
-      → items_of s turns (within s turns (depth - 1)).0 (within s turns (depth - 1)).1 st1 seen1 ≡ Read kids st2 seen2 → takes s is_rbracket st2 seen2 ≡ Read tt st3 seen3
-      → list s turns (within s turns depth).0 (within s turns depth).1 name st seen ≡ Read (holder kind.List name (s st.at), kids) st3 seen3
+      → items_of s turns (has_room (depth - 1)) (within s turns (depth - 1)).0 (within s turns (depth - 1)).1 st1 seen1 ≡ Read kids st2 seen2 → takes s is_rbracket st2 seen2 ≡ Read tt st3 seen3
+      → list s turns (has_room depth) (within s turns depth).0 (within s turns depth).1 name st seen ≡ Read (holder kind.List name (s st.at), kids) st3 seen3
   list_read depth name kids st st1 st2 st3 seen seen1 seen2 seen3 some e f g =
-      subst (λ d. list s turns (within s turns d).0 (within s turns d).1 name st seen ≡ Read (holder kind.List name (s st.at), kids) st3 seen3) (sym (deeper depth some))
+      subst (λ d. list s turns (has_room d) (within s turns d).0 (within s turns d).1 name st seen ≡ Read (holder kind.List name (s st.at), kids) st3 seen3) (sym (deeper depth some))
       (list_read_in (depth - 1) name kids st st1 st2 st3 seen seen1 seen2 seen3 e f g)
 
   list_unread_in : (d : ℕ) (name : Option (List ℕ)) (st st1 : State) (seen seen1 k : ℕ) → takes s is_lbracket st seen ≡ Read tt st1 seen1
-      → items_of s turns (within s turns d).0 (within s turns d).1 st1 seen1 ≡ Fail k
-      → list s turns (within s turns (suc d)).0 (within s turns (suc d)).1 name st seen ≡ Fail k
+      → items_of s turns (has_room d) (within s turns d).0 (within s turns d).1 st1 seen1 ≡ Fail k
+      → list s turns (has_room (suc d)) (within s turns (suc d)).0 (within s turns (suc d)).1 name st seen ≡ Fail k
   unfolding list
   list_unread_in d name st st1 seen seen1 k e f = then_read _ (has_of s is_lbracket (holder kind.List name) _ st st1 seen seen1 e refl) (then_fail _ f)
 
   pub list_unread : (depth : ℕ) (name : Option (List ℕ)) (st st1 : State) (seen seen1 k : ℕ) → depth ≢ 0 → takes s is_lbracket st seen ≡ Read tt st1 seen1
-      → items_of s turns (within s turns (depth - 1)).0 (within s turns (depth - 1)).1 st1 seen1 ≡ Fail k
-      → list s turns (within s turns depth).0 (within s turns depth).1 name st seen ≡ Fail k
-  list_unread depth name st st1 seen seen1 k some e f = subst (λ d. list s turns (within s turns d).0 (within s turns d).1 name st seen ≡ Fail k) (sym (deeper depth some))
+      → items_of s turns (has_room (depth - 1)) (within s turns (depth - 1)).0 (within s turns (depth - 1)).1 st1 seen1 ≡ Fail k
+      → list s turns (has_room depth) (within s turns depth).0 (within s turns depth).1 name st seen ≡ Fail k
+  list_unread depth name st st1 seen seen1 k some e f = subst (λ d. list s turns (has_room d) (within s turns d).0 (within s turns d).1 name st seen ≡ Fail k) (sym (deeper depth some))
       (list_unread_in (depth - 1) name st st1 seen seen1 k e f)
 
   list_open_in : (d : ℕ) (name : Option (List ℕ)) (kids : Forest) (st st1 st2 : State) (seen seen1 seen2 k : ℕ) → takes s is_lbracket st seen ≡ Read tt st1 seen1
-      → items_of s turns (within s turns d).0 (within s turns d).1 st1 seen1 ≡ Read kids st2 seen2 → takes s is_rbracket st2 seen2 ≡ Fail k
-      → list s turns (within s turns (suc d)).0 (within s turns (suc d)).1 name st seen ≡ Fail k
+      → items_of s turns (has_room d) (within s turns d).0 (within s turns d).1 st1 seen1 ≡ Read kids st2 seen2 → takes s is_rbracket st2 seen2 ≡ Fail k
+      → list s turns (has_room (suc d)) (within s turns (suc d)).0 (within s turns (suc d)).1 name st seen ≡ Fail k
   unfolding list
   list_open_in d name kids st st1 st2 seen seen1 seen2 k e f g =
       then_read _ (has_of s is_lbracket (holder kind.List name) _ st st1 seen seen1 e refl) (then_read _ f (then_fail _ g))
 
   pub list_open : (depth : ℕ) (name : Option (List ℕ)) (kids : Forest) (st st1 st2 : State) (seen seen1 seen2 k : ℕ) → depth ≢ 0 → takes s is_lbracket st seen ≡ Read tt st1 seen1
-      → items_of s turns (within s turns (depth - 1)).0 (within s turns (depth - 1)).1 st1 seen1 ≡ Read kids st2 seen2 → takes s is_rbracket st2 seen2 ≡ Fail k
-      → list s turns (within s turns depth).0 (within s turns depth).1 name st seen ≡ Fail k
-  list_open depth name kids st st1 st2 seen seen1 seen2 k some e f g = subst (λ d. list s turns (within s turns d).0 (within s turns d).1 name st seen ≡ Fail k) (sym (deeper depth some))
+      → items_of s turns (has_room (depth - 1)) (within s turns (depth - 1)).0 (within s turns (depth - 1)).1 st1 seen1 ≡ Read kids st2 seen2 → takes s is_rbracket st2 seen2 ≡ Fail k
+      → list s turns (has_room depth) (within s turns depth).0 (within s turns depth).1 name st seen ≡ Fail k
+  list_open depth name kids st st1 st2 seen seen1 seen2 k some e f g = subst (λ d. list s turns (has_room d) (within s turns d).0 (within s turns d).1 name st seen ≡ Fail k) (sym (deeper depth some))
       (list_open_in (depth - 1) name kids st st1 st2 seen seen1 seen2 k e f g)
 
-  pub map_failed : (depth : ℕ) (name : Option (List ℕ)) (st : State) (seen k : ℕ) → takes s is_lbrace st seen ≡ Fail k → map_of s turns (within s turns depth).0 (within s turns depth).1 name st seen ≡ Fail k
+  pub map_failed : (depth : ℕ) (name : Option (List ℕ)) (st : State) (seen k : ℕ) → takes s is_lbrace st seen ≡ Fail k → map_of s turns (has_room depth) (within s turns depth).0 (within s turns depth).1 name st seen ≡ Fail k
   unfolding map_of
   map_failed depth name st seen k e = then_fail _ (has_none s is_lbrace (holder kind.Map name) st seen k e)
 
   pub map_closed : (depth : ℕ) (name : Option (List ℕ)) (st st1 : State) (seen seen1 : ℕ) → depth ≡ 0 → takes s is_lbrace st seen ≡ Read tt st1 seen1
-      → map_of s turns (within s turns depth).0 (within s turns depth).1 name st seen ≡ Fail seen1
+      → map_of s turns (has_room depth) (within s turns depth).0 (within s turns depth).1 name st seen ≡ Fail seen1
   unfolding map_of
-  map_closed depth name st st1 seen seen1 none e = subst (λ d. map_of s turns (within s turns d).0 (within s turns d).1 name st seen ≡ Fail seen1) (sym none)
+  map_closed depth name st st1 seen seen1 none e = subst (λ d. map_of s turns (has_room d) (within s turns d).0 (within s turns d).1 name st seen ≡ Fail seen1) (sym none)
       (then_read _ (has_of s is_lbrace (holder kind.Map name) _ st st1 seen seen1 e refl) refl)
 
   map_read_in : (d : ℕ) (name : Option (List ℕ)) (kids : Forest) (st st1 st2 st3 : State) (seen seen1 seen2 seen3 : ℕ) → takes s is_lbrace st seen ≡ Read tt st1 seen1
-      → entries_of s turns (within s turns d).0 (within s turns d).1 st1 seen1 ≡ Read kids st2 seen2 → takes s is_rbrace st2 seen2 ≡ Read tt st3 seen3
-      → map_of s turns (within s turns (suc d)).0 (within s turns (suc d)).1 name st seen ≡ Read (holder kind.Map name (s st.at), kids) st3 seen3
+      → entries_of s turns (has_room d) (within s turns d).0 (within s turns d).1 st1 seen1 ≡ Read kids st2 seen2 → takes s is_rbrace st2 seen2 ≡ Read tt st3 seen3
+      → map_of s turns (has_room (suc d)) (within s turns (suc d)).0 (within s turns (suc d)).1 name st seen ≡ Read (holder kind.Map name (s st.at), kids) st3 seen3
   unfolding map_of
   map_read_in d name kids st st1 st2 st3 seen seen1 seen2 seen3 e f g =
       then_read _ (has_of s is_lbrace (holder kind.Map name) _ st st1 seen seen1 e refl) (then_read _ f (then_read _ g refl))
 
   pub map_read : (depth : ℕ) (name : Option (List ℕ)) (kids : Forest) (st st1 st2 st3 : State) (seen seen1 seen2 seen3 : ℕ) → depth ≢ 0 → takes s is_lbrace st seen ≡ Read tt st1 seen1
-      → entries_of s turns (within s turns (depth - 1)).0 (within s turns (depth - 1)).1 st1 seen1 ≡ Read kids st2 seen2 → takes s is_rbrace st2 seen2 ≡ Read tt st3 seen3
-      → map_of s turns (within s turns depth).0 (within s turns depth).1 name st seen ≡ Read (holder kind.Map name (s st.at), kids) st3 seen3
+      → entries_of s turns (has_room (depth - 1)) (within s turns (depth - 1)).0 (within s turns (depth - 1)).1 st1 seen1 ≡ Read kids st2 seen2 → takes s is_rbrace st2 seen2 ≡ Read tt st3 seen3
+      → map_of s turns (has_room depth) (within s turns depth).0 (within s turns depth).1 name st seen ≡ Read (holder kind.Map name (s st.at), kids) st3 seen3
   map_read depth name kids st st1 st2 st3 seen seen1 seen2 seen3 some e f g =
-      subst (λ d. map_of s turns (within s turns d).0 (within s turns d).1 name st seen ≡ Read (holder kind.Map name (s st.at), kids) st3 seen3) (sym (deeper depth some))
+      subst (λ d. map_of s turns (has_room d) (within s turns d).0 (within s turns d).1 name st seen ≡ Read (holder kind.Map name (s st.at), kids) st3 seen3) (sym (deeper depth some))
       (map_read_in (depth - 1) name kids st st1 st2 st3 seen seen1 seen2 seen3 e f g)
 
   map_unread_in : (d : ℕ) (name : Option (List ℕ)) (st st1 : State) (seen seen1 k : ℕ) → takes s is_lbrace st seen ≡ Read tt st1 seen1
-      → entries_of s turns (within s turns d).0 (within s turns d).1 st1 seen1 ≡ Fail k
-      → map_of s turns (within s turns (suc d)).0 (within s turns (suc d)).1 name st seen ≡ Fail k
+      → entries_of s turns (has_room d) (within s turns d).0 (within s turns d).1 st1 seen1 ≡ Fail k
+      → map_of s turns (has_room (suc d)) (within s turns (suc d)).0 (within s turns (suc d)).1 name st seen ≡ Fail k
   unfolding map_of
   map_unread_in d name st st1 seen seen1 k e f = then_read _ (has_of s is_lbrace (holder kind.Map name) _ st st1 seen seen1 e refl) (then_fail _ f)
 
   pub map_unread : (depth : ℕ) (name : Option (List ℕ)) (st st1 : State) (seen seen1 k : ℕ) → depth ≢ 0 → takes s is_lbrace st seen ≡ Read tt st1 seen1
-      → entries_of s turns (within s turns (depth - 1)).0 (within s turns (depth - 1)).1 st1 seen1 ≡ Fail k
-      → map_of s turns (within s turns depth).0 (within s turns depth).1 name st seen ≡ Fail k
-  map_unread depth name st st1 seen seen1 k some e f = subst (λ d. map_of s turns (within s turns d).0 (within s turns d).1 name st seen ≡ Fail k) (sym (deeper depth some))
+      → entries_of s turns (has_room (depth - 1)) (within s turns (depth - 1)).0 (within s turns (depth - 1)).1 st1 seen1 ≡ Fail k
+      → map_of s turns (has_room depth) (within s turns depth).0 (within s turns depth).1 name st seen ≡ Fail k
+  map_unread depth name st st1 seen seen1 k some e f = subst (λ d. map_of s turns (has_room d) (within s turns d).0 (within s turns d).1 name st seen ≡ Fail k) (sym (deeper depth some))
       (map_unread_in (depth - 1) name st st1 seen seen1 k e f)
 
   map_open_in : (d : ℕ) (name : Option (List ℕ)) (kids : Forest) (st st1 st2 : State) (seen seen1 seen2 k : ℕ) → takes s is_lbrace st seen ≡ Read tt st1 seen1
-      → entries_of s turns (within s turns d).0 (within s turns d).1 st1 seen1 ≡ Read kids st2 seen2 → takes s is_rbrace st2 seen2 ≡ Fail k
-      → map_of s turns (within s turns (suc d)).0 (within s turns (suc d)).1 name st seen ≡ Fail k
+      → entries_of s turns (has_room d) (within s turns d).0 (within s turns d).1 st1 seen1 ≡ Read kids st2 seen2 → takes s is_rbrace st2 seen2 ≡ Fail k
+      → map_of s turns (has_room (suc d)) (within s turns (suc d)).0 (within s turns (suc d)).1 name st seen ≡ Fail k
   unfolding map_of
   map_open_in d name kids st st1 st2 seen seen1 seen2 k e f g =
       then_read _ (has_of s is_lbrace (holder kind.Map name) _ st st1 seen seen1 e refl) (then_read _ f (then_fail _ g))
 
   pub map_open : (depth : ℕ) (name : Option (List ℕ)) (kids : Forest) (st st1 st2 : State) (seen seen1 seen2 k : ℕ) → depth ≢ 0 → takes s is_lbrace st seen ≡ Read tt st1 seen1
-      → entries_of s turns (within s turns (depth - 1)).0 (within s turns (depth - 1)).1 st1 seen1 ≡ Read kids st2 seen2 → takes s is_rbrace st2 seen2 ≡ Fail k
-      → map_of s turns (within s turns depth).0 (within s turns depth).1 name st seen ≡ Fail k
-  map_open depth name kids st st1 st2 seen seen1 seen2 k some e f g = subst (λ d. map_of s turns (within s turns d).0 (within s turns d).1 name st seen ≡ Fail k) (sym (deeper depth some))
+      → entries_of s turns (has_room (depth - 1)) (within s turns (depth - 1)).0 (within s turns (depth - 1)).1 st1 seen1 ≡ Read kids st2 seen2 → takes s is_rbrace st2 seen2 ≡ Fail k
+      → map_of s turns (has_room depth) (within s turns depth).0 (within s turns depth).1 name st seen ≡ Fail k
+  map_open depth name kids st st1 st2 seen seen1 seen2 k some e f g = subst (λ d. map_of s turns (has_room d) (within s turns d).0 (within s turns d).1 name st seen ≡ Fail k) (sym (deeper depth some))
       (map_open_in (depth - 1) name kids st st1 st2 seen seen1 seen2 k e f g)
 
 -- what was read in brackets, put behind what the unfinished tree held
@@ -297,58 +307,58 @@ less_none n = omega arith
 one_less : (n i : ℕ) → i < n → n - i ≡ suc (n - (i + 1))
 one_less n i below = omega arith
 
-module _ (s : ℕ → Lexeme) (turns : ℕ) (p q : Parser Forest) where
+module _ (s : ℕ → Lexeme) (turns : ℕ) (room : Bool) (p q : Parser Forest) where
   pub items_turn : (n i : ℕ) (found : Forest) (x : Tree) (name : Option (List ℕ)) (v : Bool) (total : Outcome Forest) (st st1 st2 st3 : State) (seen seen1 seen2 seen3 : ℕ) → i < n
-      → total ≡ behind found (more_items s turns p q (n - i) st seen) → v ≡ is_comma (form (s st.at)) → v ≡ true → st1 ≡ st → seen1 ≡ max seen st.at
-      → takes s is_comma st1 seen1 ≡ Read tt st2 seen2 → name ≡ None → node s turns p q name st2 seen2 ≡ Read x st3 seen3
-      → total ≡ behind (snoc found x.0 x.1) (more_items s turns p q (n - (i + 1)) st3 seen3)
+      → total ≡ behind found (more_items s turns room p q (n - i) st seen) → v ≡ is_comma (form (s st.at)) → v ≡ true → st1 ≡ st → seen1 ≡ max seen st.at
+      → takes s is_comma st1 seen1 ≡ Read tt st2 seen2 → name ≡ None → node s turns room p q name st2 seen2 ≡ Read x st3 seen3
+      → total ≡ behind (snoc found x.0 x.1) (more_items s turns room p q (n - (i + 1)) st3 seen3)
   unfolding more_items
   items_turn n i found x name v total st st1 st2 st3 seen seen1 seen2 seen3 below e sees is here far taking none read =
-      e ∙ ap (λ k. behind found (more_items s turns p q k st seen)) (one_less n i below)
-      ∙ ap (behind found) (saw s is_comma _ _ st seen sees is here far (then_read _ taking (then_read _ (ap (λ k. node s turns p q k st2 seen2) (sym none) ∙ read) refl)))
-      ∙ one_turn found x (more_items s turns p q (n - (i + 1)) st3 seen3)
+      e ∙ ap (λ k. behind found (more_items s turns room p q k st seen)) (one_less n i below)
+      ∙ ap (behind found) (saw s is_comma _ _ st seen sees is here far (then_read _ taking (then_read _ (ap (λ k. node s turns room p q k st2 seen2) (sym none) ∙ read) refl)))
+      ∙ one_turn found x (more_items s turns room p q (n - (i + 1)) st3 seen3)
 
   pub items_end : (n i : ℕ) (found : Forest) (v : Bool) (total : Outcome Forest) (st st1 : State) (seen seen1 : ℕ) → i < n
-      → total ≡ behind found (more_items s turns p q (n - i) st seen) → v ≡ is_comma (form (s st.at)) → v ≡ false → st1 ≡ st → seen1 ≡ max seen st.at
+      → total ≡ behind found (more_items s turns room p q (n - i) st seen) → v ≡ is_comma (form (s st.at)) → v ≡ false → st1 ≡ st → seen1 ≡ max seen st.at
       → total ≡ Read found st1 seen1
   unfolding more_items
   items_end n i found v total st st1 seen seen1 below e sees is here far =
-      e ∙ ap (λ k. behind found (more_items s turns p q k st seen)) (one_less n i below)
+      e ∙ ap (λ k. behind found (more_items s turns room p q k st seen)) (one_less n i below)
       ∙ ap (behind found) (saw s is_comma _ _ st seen sees is here far refl) ∙ ap (λ f. Read f st1 seen1) (joined-Nil found)
 
   pub items_first : (name : Option (List ℕ)) (x : Tree) (rest : Forest) (v : Bool) (st st1 st2 st3 : State) (seen seen1 seen2 seen3 : ℕ) → v ≡ is_rbracket (form (s st.at)) → v ≡ false → st1 ≡ st → seen1 ≡ max seen st.at
-      → name ≡ None → node s turns p q name st1 seen1 ≡ Read x st2 seen2 → more_items s turns p q turns st2 seen2 ≡ Read rest st3 seen3
-      → items_of s turns p q st seen ≡ Read (Node x.0 x.1 rest) st3 seen3
+      → name ≡ None → node s turns room p q name st1 seen1 ≡ Read x st2 seen2 → more_items s turns room p q turns st2 seen2 ≡ Read rest st3 seen3
+      → items_of s turns room p q st seen ≡ Read (Node x.0 x.1 rest) st3 seen3
   unfolding items_of
   items_first name x rest v st st1 st2 st3 seen seen1 seen2 seen3 sees is here far none read more =
-      saw s is_rbracket _ _ st seen sees is here far (then_read _ (ap (λ k. node s turns p q k st1 seen1) (sym none) ∙ read) (then_read _ more refl))
+      saw s is_rbracket _ _ st seen sees is here far (then_read _ (ap (λ k. node s turns room p q k st1 seen1) (sym none) ∙ read) (then_read _ more refl))
 
   pub entries_turn : (n i : ℕ) (found before after : Forest) (x : Tree) (v : Bool) (total : Outcome Forest) (st st1 st2 st3 : State) (seen seen1 seen2 seen3 : ℕ) → i < n
-      → total ≡ behind found (more_entries s turns p q (n - i) before st seen) → v ≡ is_comma (form (s st.at)) → v ≡ true → st1 ≡ st → seen1 ≡ max seen st.at
-      → takes s is_comma st1 seen1 ≡ Read tt st2 seen2 → entry s turns p q before st2 seen2 ≡ Read x st3 seen3 → after ≡ snoc before x.0 x.1
-      → total ≡ behind (snoc found x.0 x.1) (more_entries s turns p q (n - (i + 1)) after st3 seen3)
+      → total ≡ behind found (more_entries s turns room p q (n - i) before st seen) → v ≡ is_comma (form (s st.at)) → v ≡ true → st1 ≡ st → seen1 ≡ max seen st.at
+      → takes s is_comma st1 seen1 ≡ Read tt st2 seen2 → entry s turns room p q before st2 seen2 ≡ Read x st3 seen3 → after ≡ snoc before x.0 x.1
+      → total ≡ behind (snoc found x.0 x.1) (more_entries s turns room p q (n - (i + 1)) after st3 seen3)
   unfolding more_entries
   entries_turn n i found before after x v total st st1 st2 st3 seen seen1 seen2 seen3 below e sees is here far taking read next =
-      e ∙ ap (λ k. behind found (more_entries s turns p q k before st seen)) (one_less n i below)
+      e ∙ ap (λ k. behind found (more_entries s turns room p q k before st seen)) (one_less n i below)
       ∙ ap (behind found) (saw s is_comma _ _ st seen sees is here far (then_read _ taking (then_read _ read refl)))
-      ∙ one_turn found x (more_entries s turns p q (n - (i + 1)) (snoc before x.0 x.1) st3 seen3)
-      ∙ ap (λ f. behind (snoc found x.0 x.1) (more_entries s turns p q (n - (i + 1)) f st3 seen3)) (sym next)
+      ∙ one_turn found x (more_entries s turns room p q (n - (i + 1)) (snoc before x.0 x.1) st3 seen3)
+      ∙ ap (λ f. behind (snoc found x.0 x.1) (more_entries s turns room p q (n - (i + 1)) f st3 seen3)) (sym next)
 
   pub entries_end : (n i : ℕ) (found before : Forest) (v : Bool) (total : Outcome Forest) (st st1 : State) (seen seen1 : ℕ) → i < n
-      → total ≡ behind found (more_entries s turns p q (n - i) before st seen) → v ≡ is_comma (form (s st.at)) → v ≡ false → st1 ≡ st → seen1 ≡ max seen st.at
+      → total ≡ behind found (more_entries s turns room p q (n - i) before st seen) → v ≡ is_comma (form (s st.at)) → v ≡ false → st1 ≡ st → seen1 ≡ max seen st.at
       → total ≡ Read found st1 seen1
   unfolding more_entries
   entries_end n i found before v total st st1 seen seen1 below e sees is here far =
-      e ∙ ap (λ k. behind found (more_entries s turns p q k before st seen)) (one_less n i below)
+      e ∙ ap (λ k. behind found (more_entries s turns room p q k before st seen)) (one_less n i below)
       ∙ ap (behind found) (saw s is_comma _ _ st seen sees is here far refl) ∙ ap (λ f. Read f st1 seen1) (joined-Nil found)
 
   pub entries_first : (before after : Forest) (x : Tree) (rest : Forest) (v : Bool) (st st1 st2 st3 : State) (seen seen1 seen2 seen3 : ℕ) → v ≡ is_rbrace (form (s st.at)) → v ≡ false → st1 ≡ st → seen1 ≡ max seen st.at
-      → before ≡ Nil → entry s turns p q before st1 seen1 ≡ Read x st2 seen2 → after ≡ snoc before x.0 x.1 → more_entries s turns p q turns after st2 seen2 ≡ Read rest st3 seen3
-      → entries_of s turns p q st seen ≡ Read (Node x.0 x.1 rest) st3 seen3
+      → before ≡ Nil → entry s turns room p q before st1 seen1 ≡ Read x st2 seen2 → after ≡ snoc before x.0 x.1 → more_entries s turns room p q turns after st2 seen2 ≡ Read rest st3 seen3
+      → entries_of s turns room p q st seen ≡ Read (Node x.0 x.1 rest) st3 seen3
   unfolding entries_of
   entries_first before after x rest v st st1 st2 st3 seen seen1 seen2 seen3 sees is here far none read next more =
-      saw s is_rbrace _ _ st seen sees is here far (then_read _ (ap (λ f. entry s turns p q f st1 seen1) (sym none) ∙ read)
-      (then_read _ (ap (λ f. more_entries s turns p q turns f st2 seen2) (ap (λ f. snoc f x.0 x.1) (sym none) ∙ sym next) ∙ more) refl))
+      saw s is_rbrace _ _ st seen sees is here far (then_read _ (ap (λ f. entry s turns room p q f st1 seen1) (sym none) ∙ read)
+      (then_read _ (ap (λ f. more_entries s turns room p q turns f st2 seen2) (ap (λ f. snoc f x.0 x.1) (sym none) ∙ sym next) ∙ more) refl))
 
 -- ---- where a value or a key may come
 
@@ -387,17 +397,17 @@ level_open map u v h e = (ap innermost e.0 ∙ h.0, e.1)
 -- ---- the whole
 
 module _ (s : ℕ → Lexeme) (turns depth : ℕ) where
-  whole_read : (x : Tree) (name : Option (List ℕ)) (st m : State) (seen k : ℕ) → name ≡ None → node s turns (within s turns depth).0 (within s turns depth).1 name st seen ≡ Read x m k
+  whole_read : (x : Tree) (name : Option (List ℕ)) (st m : State) (seen k : ℕ) → name ≡ None → node s turns (has_room depth) (within s turns depth).0 (within s turns depth).1 name st seen ≡ Read x m k
       → literal_of s turns depth st seen ≡ Read (Node x.0 x.1 Nil) m k
   unfolding literal_of
-  whole_read x name st m seen k none e = then_read _ (ap (λ n. node s turns (within s turns depth).0 (within s turns depth).1 n st seen) (sym none) ∙ e) refl
+  whole_read x name st m seen k none e = then_read _ (ap (λ n. node s turns (has_room depth) (within s turns depth).0 (within s turns depth).1 n st seen) (sym none) ∙ e) refl
 
-  pub literal_read : (u v : Unfinished) (d : Forest) (x : Tree) (st m : State) (seen k : ℕ) → u ≡ start → node s turns (within s turns depth).0 (within s turns depth).1 u.key st seen ≡ Read x m k
+  pub literal_read : (u v : Unfinished) (d : Forest) (x : Tree) (st m : State) (seen k : ℕ) → u ≡ start → node s turns (has_room depth) (within s turns depth).0 (within s turns depth).1 u.key st seen ≡ Read x m k
       → v ≡ with_tree u x → d ≡ v.done → literal_of s turns depth st seen ≡ Read d m k
   literal_read u v d x st m seen k none e f g = whole_read x u.key st m seen k (ap (λ (w : Unfinished). w.key) none) e
       ∙ ap (λ t. Read t m k) (sym (g ∙ ap (λ (w : Unfinished). w.done) f ∙ ap (λ (w : Unfinished). snoc w.done x.0 x.1) none))
 
-  pub literal_unread : (u : Unfinished) (st : State) (seen k : ℕ) → u ≡ start → node s turns (within s turns depth).0 (within s turns depth).1 u.key st seen ≡ Fail k → literal_of s turns depth st seen ≡ Fail k
+  pub literal_unread : (u : Unfinished) (st : State) (seen k : ℕ) → u ≡ start → node s turns (has_room depth) (within s turns depth).0 (within s turns depth).1 u.key st seen ≡ Fail k → literal_of s turns depth st seen ≡ Fail k
   unfolding literal_of
   literal_unread u st seen k none e =
-      then_fail _ (ap (λ (w : Unfinished). node s turns (within s turns depth).0 (within s turns depth).1 w.key st seen) (sym none) ∙ e)
+      then_fail _ (ap (λ (w : Unfinished). node s turns (has_room depth) (within s turns depth).0 (within s turns depth).1 w.key st seen) (sym none) ∙ e)

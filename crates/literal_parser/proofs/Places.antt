@@ -120,6 +120,7 @@ none_at_end w.Part = refl
 none_at_end w.CondLead = refl
 none_at_end w.PartLead = refl
 none_at_end w.Constant = refl
+none_at_end w.FunctionWord = refl
 none_at_end w.Scalar = refl
 none_at_end w.Plain = refl
 none_at_end w.OpeningEnd = refl

@@ -228,6 +228,10 @@ begins_part n = begins_cond n || (is_when n || is_type_name n)
 abbrev pub is_constant : ℕ → Bool
 is_constant n = nat_le 32 n && nat_le n 34
 
+-- a keyword that begins no literal and no query, and so can only be a function's name where an expression may stand
+abbrev pub is_function_word : ℕ → Bool
+is_function_word n = is_any_name n && not (is_name n || (is_this n || is_constant n))
+
 abbrev pub is_scalar : ℕ → Bool
 is_scalar n = is_str n || (n == 5 || (is_number n || is_constant n))
 

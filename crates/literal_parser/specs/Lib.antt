@@ -1,5 +1,6 @@
 pub mod Lexemes
 pub mod Forms
+pub mod Brackets
 pub mod States
 pub mod Literal
 pub mod code

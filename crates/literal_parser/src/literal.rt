@@ -37,7 +37,7 @@ pub fn literal(
 
 /// One value with what stands in it.
 #[cycle(literal)]
-#[tactic(auto, unfolding(crate::specs::code::LiteralReading::node, crate::specs::code::Parser::choose, crate::specs::code::Parser::choose_pair))]
+#[tactic(auto, unfolding(crate::specs::code::LiteralReading::node, crate::specs::code::LiteralReading::bounded, crate::specs::code::Parser::choose, crate::specs::code::Parser::choose_pair))]
 fn node(
     alloc: Global,
     tokens: Tokens<'_>,
@@ -60,6 +60,9 @@ fn node(
         return map(alloc, tokens, cursor, builder, depth);
     }
     if !cursor.sees(tokens, TokenTest::R) {
+        return Err(Halt::Dead(cursor.seen));
+    }
+    if depth == 0 {
         return Err(Halt::Dead(cursor.seen));
     }
     if !cursor.sees_range(tokens) {

@@ -92,6 +92,8 @@ pub enum TokenTest {
     PartLead,
     /// `true`, `false`, `null`
     Constant,
+    /// A keyword that can only be the name of a function where an expression may stand.
+    FunctionWord,
     /// A literal of one token.
     Scalar,
     /// What begins a literal and is no name.
@@ -256,16 +258,25 @@ impl TokenTest {
         ensures { result ≡ (wants self (keyword_form keyword) && not (is_of_each self)) }
     {
         match keyword {
-            Keyword::Let => matches!(self, TokenTest::Let),
-            Keyword::Rule => matches!(self, TokenTest::Rule),
+            Keyword::Let => matches!(self, TokenTest::Let | TokenTest::FunctionWord),
+            Keyword::Rule => matches!(self, TokenTest::Rule | TokenTest::FunctionWord),
             Keyword::True | Keyword::False | Keyword::Null => {
                 matches!(self, TokenTest::Constant | TokenTest::Scalar)
             }
-            Keyword::When => matches!(self, TokenTest::When | TokenTest::Part),
-            Keyword::Some => matches!(self, TokenTest::Some | TokenTest::Cond | TokenTest::Part),
-            Keyword::Or => matches!(self, TokenTest::Or),
-            Keyword::Not => matches!(self, TokenTest::Neg | TokenTest::Cond | TokenTest::Part),
-            Keyword::Keys => matches!(self, TokenTest::Keys),
+            Keyword::When => matches!(
+                self,
+                TokenTest::When | TokenTest::Part | TokenTest::FunctionWord
+            ),
+            Keyword::Some => matches!(
+                self,
+                TokenTest::Some | TokenTest::Cond | TokenTest::Part | TokenTest::FunctionWord
+            ),
+            Keyword::Or => matches!(self, TokenTest::Or | TokenTest::FunctionWord),
+            Keyword::Not => matches!(
+                self,
+                TokenTest::Neg | TokenTest::Cond | TokenTest::Part | TokenTest::FunctionWord
+            ),
+            Keyword::Keys => matches!(self, TokenTest::Keys | TokenTest::FunctionWord),
             Keyword::This => matches!(
                 self,
                 TokenTest::This | TokenTest::Start | TokenTest::Cond | TokenTest::Part
@@ -289,7 +300,10 @@ impl TokenTest {
     {
         matches!(
             self,
-            TokenTest::Operator | TokenTest::CondLead | TokenTest::PartLead
+            TokenTest::Operator
+                | TokenTest::CondLead
+                | TokenTest::PartLead
+                | TokenTest::FunctionWord
         )
     }
 }

@@ -13,6 +13,7 @@ use Rattle.guard_parser.specs.code.Reading.{disjs, ors, steps, more_exprs_of, ex
 use Rattle.guard_parser.specs.code.GrammarReads.{KeyTest, inner, see_disjs, see_parts, see_steps, see_exprs, see_key_test, alternatives_at, more_alternatives_at, cond_part_at, conds_at, disjs_at, dotted_at, items_at, closed_index_at, query_at, step_at, steps_at, expr_at, tree_expr_at, more_exprs_at, some_disjs_at, some_conditions_at, some_steps_at, closed_exprs_at, closed_exprs, arguments_at, ruled_at, tested_at, called_at, applied_at, filter_at, key_test_at}
 use Rattle.guard_parser.proofs.CodeSteps.{then_read, then_fail, saw, handed, halted, halted_by, both, then_closed, then_enclosed, then_tested, closed_by, list_begun, list_more, list_ended, list_failed, list_spent, deeper}
 use Rattle.guard_parser.proofs.Leads.{condition_led, expr_formed}
+use Rattle.guard_parser.proofs.Rooms.{roomy_reads, full_stops, room_left, no_room}
 use Rattle.guard_parser.proofs.SeenForms.{conds-made, disj-made, query-made, call-made, function-made, asked-made, keys-made, filter-made}
 use Rattle.guard_parser.proofs.+conditions.Goals as goal
 
@@ -369,10 +370,23 @@ read_query::expr-returns-in-Literal t c =
     handed see_expr (expr_at c.args.tokens c.args.depth (state_of c.args.cursor.now) c.args.cursor.now.seen) (tree_expr_at c.args.tokens c.args.depth (state_of c.expr_form.new.cursor) c.expr_form.new.cursor.seen) c.tree_expr.result c.tree_expr.new.cursor
     (expr_formed (source c.args.tokens) c.args.tokens.turns (spec.inners (source c.args.tokens) c.args.tokens.turns c.args.depth) (state_of c.args.cursor.now) c.args.cursor.now.seen ∙ then_read (expr_by (source c.args.tokens) c.args.tokens.turns (spec.inners (source c.args.tokens) c.args.tokens.turns c.args.depth)) c.expr_form.ensures (ap (λ (k : ExprForm). (expr_by (source c.args.tokens) c.args.tokens.turns (spec.inners (source c.args.tokens) c.args.tokens.turns c.args.depth)) k (state_of c.expr_form.new.cursor) c.expr_form.new.cursor.seen) c.in-Literal.is)) c.tree_expr.ensures
 
+pub read_query::expr-returns-then-depth-eq0 : goal.read_query::expr-returns-then-depth-eq0
+read_query::expr-returns-then-depth-eq0 t c =
+    let s = source c.args.tokens in let turns = c.args.tokens.turns in let inner_at = spec.inners s turns c.args.depth in
+    expr_formed s turns inner_at (state_of c.args.cursor.now) c.args.cursor.now.seen ∙ then_read (expr_by s turns inner_at) c.expr_form.ensures (ap (λ (k : ExprForm). (expr_by s turns inner_at) k (state_of c.expr_form.new.cursor) c.expr_form.new.cursor.seen) c.in-Word.is
+    ∙ full_stops s turns inner_at (applied_at c.args.tokens c.args.depth) (state_of c.expr_form.new.cursor) c.expr_form.new.cursor.seen (no_room s turns c.args.depth c.if-depth-eq0.true))
+
+pub read_query::expr-returns-else-depth-eq0 : goal.read_query::expr-returns-else-depth-eq0
+read_query::expr-returns-else-depth-eq0 t c =
+    let s = source c.args.tokens in let turns = c.args.tokens.turns in let inner_at = spec.inners s turns c.args.depth in
+    handed see_expr (expr_at c.args.tokens c.args.depth (state_of c.args.cursor.now) c.args.cursor.now.seen) (applied_at c.args.tokens c.args.depth (state_of c.expr_form.new.cursor) c.expr_form.new.cursor.seen) c.applied.result c.applied.new.cursor
+    (expr_formed s turns inner_at (state_of c.args.cursor.now) c.args.cursor.now.seen ∙ then_read (expr_by s turns inner_at) c.expr_form.ensures (ap (λ (k : ExprForm). (expr_by s turns inner_at) k (state_of c.expr_form.new.cursor) c.expr_form.new.cursor.seen) c.in-Word.is
+    ∙ roomy_reads s turns inner_at (applied_at c.args.tokens c.args.depth) (state_of c.expr_form.new.cursor) c.expr_form.new.cursor.seen (room_left s turns c.args.depth c.if-depth-eq0.false))) c.applied.ensures
+
 pub read_query::expr-returns-in-Function : goal.read_query::expr-returns-in-Function
 read_query::expr-returns-in-Function t c =
-    handed see_expr (expr_at c.args.tokens c.args.depth (state_of c.args.cursor.now) c.args.cursor.now.seen) (applied_at c.args.tokens c.args.depth (state_of c.expr_form.new.cursor) c.expr_form.new.cursor.seen) c.applied.result c.applied.new.cursor
-    (expr_formed (source c.args.tokens) c.args.tokens.turns (spec.inners (source c.args.tokens) c.args.tokens.turns c.args.depth) (state_of c.args.cursor.now) c.args.cursor.now.seen ∙ then_read (expr_by (source c.args.tokens) c.args.tokens.turns (spec.inners (source c.args.tokens) c.args.tokens.turns c.args.depth)) c.expr_form.ensures (ap (λ (k : ExprForm). (expr_by (source c.args.tokens) c.args.tokens.turns (spec.inners (source c.args.tokens) c.args.tokens.turns c.args.depth)) k (state_of c.expr_form.new.cursor) c.expr_form.new.cursor.seen) c.in-Function.is)) c.applied.ensures
+    handed see_expr (expr_at c.args.tokens c.args.depth (state_of c.args.cursor.now) c.args.cursor.now.seen) (applied_at c.args.tokens c.args.depth (state_of c.expr_form.new.cursor) c.expr_form.new.cursor.seen) c.applied-in-Function.result c.applied-in-Function.new.cursor
+    (expr_formed (source c.args.tokens) c.args.tokens.turns (spec.inners (source c.args.tokens) c.args.tokens.turns c.args.depth) (state_of c.args.cursor.now) c.args.cursor.now.seen ∙ then_read (expr_by (source c.args.tokens) c.args.tokens.turns (spec.inners (source c.args.tokens) c.args.tokens.turns c.args.depth)) c.expr_form.ensures (ap (λ (k : ExprForm). (expr_by (source c.args.tokens) c.args.tokens.turns (spec.inners (source c.args.tokens) c.args.tokens.turns c.args.depth)) k (state_of c.expr_form.new.cursor) c.expr_form.new.cursor.seen) c.in-Function.is)) c.applied-in-Function.ensures
 
 pub read_query::expr-returns-in_err-query-in-Query : goal.read_query::expr-returns-in_err-query-in-Query
 unfolding asked_expr

@@ -3,13 +3,13 @@
 use Rattle.std.specs.Prelude.{ℕ, Bool, true, false}
 use Rattle.guard_syntax.specs.Syntax.{Expr, Part}
 use Rattle.literal_parser.specs.Lexemes.{Lexeme}
-use Rattle.literal_parser.specs.Forms.{is_any_name, is_constant, is_lparen, is_name, is_neg, is_operator_word, is_plain, is_some_word, is_start, opens_range}
+use Rattle.literal_parser.specs.Forms.{is_any_name, is_constant, is_function_word, is_lparen, is_name, is_neg, is_operator_word, is_plain, is_some_word, is_start, opens_range}
 use Rattle.literal_parser.specs.code.Parser.{Parser, ◌>>=◌, ◌>>◌, pure, stop, takes, choose, choose_pair, choose_next, choose_third}
 use Rattle.guard_parser.specs.declared.lead.Lead.{Lead}
 use Rattle.guard_parser.specs.declared.lead.Lead.TheVariants as lead
 use Rattle.guard_parser.specs.declared.lead.ExprForm.{ExprForm}
 use Rattle.guard_parser.specs.declared.lead.ExprForm.TheVariants as form
-use Rattle.guard_parser.specs.code.Reading.{Inner, headed, ruled, tree_expr, applied, asked_expr}
+use Rattle.guard_parser.specs.code.Reading.{Inner, bodied, headed, ruled, tree_expr, applied, asked_expr}
 
 module _ (s : ℕ → Lexeme) where
   -- the lead of a condition that begins with a name: such a token behind it says that it begins a query
@@ -25,9 +25,9 @@ module _ (s : ℕ → Lexeme) where
 
   -- what an expression is
   unfoldable pub expr_form : Parser ExprForm
-  expr_form = choose s is_any_name
+  expr_form = choose s is_function_word (pure form.Word) (choose s is_any_name
       (choose_pair s opens_range (pure form.Literal) (choose_next s is_lparen (pure form.Function) (choose s is_constant (pure form.Literal) (pure form.Query))))
-      (choose s is_plain (pure form.Literal) (pure form.Query))
+      (choose s is_plain (pure form.Literal) (pure form.Query)))
 
   module _ (turns : ℕ) (inner : Inner) where
     -- a condition behind its lead
@@ -37,6 +37,7 @@ module _ (s : ℕ → Lexeme) where
 
     -- an expression of a form
     abbrev pub expr_by : ExprForm → Parser Expr
+    expr_by form.Word = bodied s turns inner (applied s turns inner)
     expr_by form.Literal = tree_expr s turns inner
     expr_by form.Function = applied s turns inner
     expr_by form.Query = asked_expr s turns inner

@@ -5,7 +5,7 @@ use Rattle.guard_syntax.specs.Named.{Named}
 use Rattle.guard_syntax.specs.declared.syntax.Op.{Op}
 use Rattle.guard_syntax.specs.Syntax.{Body, Lets, Let, Conds, OptConds, Disjs, Disj, Parts, Part, Query, Steps, Step, Expr, OptExpr, Exprs, Rule, body, no_lets, more_lets, assign, conds, no_conds, with_conds, no_disjs, more_disjs, disj, no_parts, more_parts, block, guarded, kinds, test, refer, call, query, no_steps, more_steps, this, var, key, index, every, items, splice, filter, keys, literal, function, asked, found, no_expr, with_expr, no_exprs, more_exprs}
 use Rattle.literal_parser.specs.Lexemes.{Lexeme}
-use Rattle.literal_parser.specs.Forms.{is_end, is_name, is_rule_name, is_any_name, is_type_name, is_var, is_index, is_note, is_lbrace, is_rbrace, is_lparen, is_rparen, is_lbracket, is_rbracket, is_comma, is_bar, is_dot, is_star, is_assign, is_equality, is_sign, is_let, is_rule, is_when, is_some_word, is_or, is_neg, is_keys, is_this, is_in, is_operator_word, is_key, is_first_key, is_start, is_plain, is_constant, begins_step, begins_cond, begins_part, leads, opens_range, text_of, named_of, index_of, operator_of, sign_of, is_binary}
+use Rattle.literal_parser.specs.Forms.{is_end, is_name, is_rule_name, is_any_name, is_type_name, is_var, is_index, is_note, is_lbrace, is_rbrace, is_lparen, is_rparen, is_lbracket, is_rbracket, is_comma, is_bar, is_dot, is_star, is_assign, is_equality, is_sign, is_let, is_rule, is_when, is_some_word, is_or, is_neg, is_keys, is_this, is_in, is_operator_word, is_key, is_first_key, is_start, is_plain, is_constant, is_function_word, begins_step, begins_cond, begins_part, leads, opens_range, text_of, named_of, index_of, operator_of, sign_of, is_binary}
 use Rattle.literal_parser.specs.code.Parser.{Parser, ◌>>=◌, ◌>>◌, pure, stop, opens, takes, has, choose, choose_pair, choose_next, choose_third}
 use Rattle.literal_parser.specs.code.LiteralReading.{literal_of}
 
@@ -73,6 +73,10 @@ module _ (s : ℕ → Lexeme) where
       pure (name ∷ more)
 
     module _ (inner : Inner) where
+      -- what wants a bracket, where one may open
+      unfoldable pub bodied : {A : Type 0} → Parser A → Parser A
+      bodied p = if inner.roomy then p else stop
+
       -- ---- queries
 
       unfoldable pub dotted : ℕ → Parser Step
@@ -149,10 +153,12 @@ module _ (s : ℕ → Lexeme) where
         q ← query_of
         pure (asked q)
 
+      -- an expression that begins with a name, or with a keyword that has another use than a function's name
+      unfoldable pub named_expr : Parser Expr
+      named_expr = choose_pair s opens_range tree_expr (choose_next s is_lparen applied (choose s is_constant tree_expr asked_expr))
+
       unfoldable pub expr_of : Parser Expr
-      expr_of = choose s is_any_name
-          (choose_pair s opens_range tree_expr (choose_next s is_lparen applied (choose s is_constant tree_expr asked_expr)))
-          (choose s is_plain tree_expr asked_expr)
+      expr_of = choose s is_function_word (bodied applied) (choose s is_any_name named_expr (choose s is_plain tree_expr asked_expr))
 
       unfoldable pub found_expr : Parser Expr
       found_expr = do
@@ -270,10 +276,6 @@ module _ (s : ℕ → Lexeme) where
         c ← opt_conds
         b ← inner.body
         pure (kinds n name c b)
-
-      -- what has a body, where a bracket may open
-      unfoldable pub bodied : {A : Type 0} → Parser A → Parser A
-      bodied p = if inner.roomy then p else stop
 
       unfoldable pub full_part : Parser Part
       full_part = do

@@ -16,7 +16,7 @@ use Rattle.literal_parser.specs.Forms.{is_scalar}
 use Rattle.literal_parser.specs.Literal.{scalar, constant_kind}
 use Rattle.literal_parser.specs.code.Parser.{Outcome, Read, Fail, Parser, ◌>>=◌, pure, has}
 use Rattle.literal_parser.specs.code.LiteralReading as spec
-use Rattle.literal_parser.specs.code.LiteralReading.{Tree}
+use Rattle.literal_parser.specs.code.LiteralReading.{Tree, has_room}
 use Rattle.literal_parser.specs.code.Reads.{state_of, source}
 
 -- a value behind the complete ones
@@ -80,25 +80,25 @@ module _ (tokens : Tokens) where
     inner_entries = (spec.within (source tokens) tokens.turns depth).1
 
     abbrev pub list_at : Option (List ℕ) → Parser Tree
-    list_at = spec.list (source tokens) tokens.turns inner_items inner_entries
+    list_at = spec.list (source tokens) tokens.turns (has_room depth) inner_items inner_entries
 
     abbrev pub map_at : Option (List ℕ) → Parser Tree
-    map_at = spec.map_of (source tokens) tokens.turns inner_items inner_entries
+    map_at = spec.map_of (source tokens) tokens.turns (has_room depth) inner_items inner_entries
 
     abbrev pub node_at : Option (List ℕ) → Parser Tree
-    node_at = spec.node (source tokens) tokens.turns inner_items inner_entries
+    node_at = spec.node (source tokens) tokens.turns (has_room depth) inner_items inner_entries
 
     abbrev pub items_at : Parser Forest
-    items_at = spec.items_of (source tokens) tokens.turns inner_items inner_entries
+    items_at = spec.items_of (source tokens) tokens.turns (has_room depth) inner_items inner_entries
 
     abbrev pub more_items_at : ℕ → Parser Forest
-    more_items_at = spec.more_items (source tokens) tokens.turns inner_items inner_entries
+    more_items_at = spec.more_items (source tokens) tokens.turns (has_room depth) inner_items inner_entries
 
     abbrev pub entry_at : Forest → Parser Tree
-    entry_at = spec.entry (source tokens) tokens.turns inner_items inner_entries
+    entry_at = spec.entry (source tokens) tokens.turns (has_room depth) inner_items inner_entries
 
     abbrev pub entries_at : Parser Forest
-    entries_at = spec.entries_of (source tokens) tokens.turns inner_items inner_entries
+    entries_at = spec.entries_of (source tokens) tokens.turns (has_room depth) inner_items inner_entries
 
     abbrev pub more_entries_at : ℕ → Forest → Parser Forest
-    more_entries_at = spec.more_entries (source tokens) tokens.turns inner_items inner_entries
+    more_entries_at = spec.more_entries (source tokens) tokens.turns (has_room depth) inner_items inner_entries

@@ -9,7 +9,7 @@ use Rattle.literal_parser.specs.declared.token_class.TokenClass.TheVariants as s
 use Rattle.literal_parser.specs.declared.token_class.TokenTest.{TokenTest}
 use Rattle.literal_parser.specs.declared.token_class.TokenTest.TheVariants as w
 use Rattle.literal_parser.specs.Lexemes.{Lexeme, Word, Name, Reserved, TypeName, Var, Str, Pat, Whole, Fraction, Note, Sign, End}
-use Rattle.literal_parser.specs.Forms.{is_index_number, magnitude, keyword_operator, mark_operator, mark_form, keyword_form, is_name, is_rule_name, is_any_name, is_r, is_type_name, is_var, is_index, is_number, is_note, is_lbrace, is_rbrace, is_lparen, is_rparen, is_lbracket, is_rbracket, is_comma, is_bar, is_dot, is_star, is_colon, is_assign, is_equality, is_sign, is_let, is_rule, is_when, is_some_word, is_or, is_neg, is_keys, is_this, is_in, is_operator_word, is_key, is_first_key, is_start, begins_step, begins_cond, begins_part, is_constant, is_scalar, is_plain, is_opening_end, is_closing_end, is_square, leads}
+use Rattle.literal_parser.specs.Forms.{is_index_number, magnitude, keyword_operator, mark_operator, mark_form, keyword_form, is_name, is_rule_name, is_any_name, is_r, is_type_name, is_var, is_index, is_number, is_note, is_lbrace, is_rbrace, is_lparen, is_rparen, is_lbracket, is_rbracket, is_comma, is_bar, is_dot, is_star, is_colon, is_assign, is_equality, is_sign, is_let, is_rule, is_when, is_some_word, is_or, is_neg, is_keys, is_this, is_in, is_operator_word, is_key, is_first_key, is_start, begins_step, begins_cond, begins_part, is_constant, is_function_word, is_scalar, is_plain, is_opening_end, is_closing_end, is_square, leads}
 
 -- a row of the code's table of keywords, as one of the definition's
 abbrev pub spelling : Bor (List ℕ) × Keyword → List ℕ × Keyword
@@ -111,6 +111,7 @@ wants w.Part = begins_part
 wants w.CondLead = leads false
 wants w.PartLead = leads true
 wants w.Constant = is_constant
+wants w.FunctionWord = is_function_word
 wants w.Scalar = is_scalar
 wants w.Plain = is_plain
 wants w.OpeningEnd = is_opening_end

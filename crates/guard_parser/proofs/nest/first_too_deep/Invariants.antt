@@ -1,6 +1,6 @@
 use Rattle.std.proofs.Common.{◌≡◌, ℕ, List, ◌≤◌}
 use Rattle.literal_parser.specs.Lexemes.{lexemes}
-use Rattle.guard_parser.specs.File.{open_before, IsShallowTo}
+use Rattle.literal_parser.specs.Brackets.{open_before, IsShallowTo}
 use Rattle.guard_parser.proofs.nest.first_too_deep.Given as goal
 
 abbrev pub invariant-loop-token : goal.invariant-loop-token

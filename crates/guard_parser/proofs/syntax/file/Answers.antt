@@ -13,8 +13,7 @@ returns-in-Err-Dead-clause-refusal c =
     let halt : whole_file_at c.args.tokens c.args.depth (record { at = 0; places = c.new.result.items; mixed = None }) 0 ≡ Fail c.in-Err-Dead.last =
     subst (λ h. Reads see_file_items (whole_file_at c.args.tokens c.args.depth (record { at = 0; places = c.new.result.items; mixed = None }) 0) (Err h) c.whole_file.new.cursor) c.in-Err-Dead.field-0-is c.in-Err-Dead.ensures in
     let begun = ap (λ ps. whole_file_at c.args.tokens c.args.depth (record { at = 0; places = ps; mixed = None }) 0) (sym c.new.ensures.items) ∙ halt in
-    let deep = c.requires.deep in
-    subst (λ p. IsDeadEnd text items p) (sym c.from.ensures) (dead_end_at text items c.args.tokens.turns c.args.depth c.in-Err-Dead.last c.requires.turns (let few = c.args.tokens.short in omega arith) (omega arith) begun c.requires.shallow)
+    subst (λ p. IsDeadEnd text items p) (sym c.from.ensures) (dead_end_at text items c.args.tokens.turns c.args.depth c.in-Err-Dead.last c.requires.turns (let few = c.args.tokens.short in omega arith) c.requires.deep begun c.requires.shallow)
 
 pub returns-in-Some-clause-refusal : goal.returns-in-Some-clause-refusal
 unfolding source

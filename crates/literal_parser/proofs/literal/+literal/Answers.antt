@@ -5,11 +5,11 @@ use Rattle.doc_values.specs.Unfinished.{Unfinished}
 use Rattle.doc_values.specs.declared.kind.Kind.TheVariants as kind
 use Rattle.literal_parser.specs.Forms.{is_scalar, is_lbracket, is_rbracket, is_lbrace, is_rbrace, is_r, opens_range}
 use Rattle.literal_parser.specs.Literal.{holder}
-use Rattle.literal_parser.specs.code.LiteralReading.{items_of, node}
+use Rattle.literal_parser.specs.code.LiteralReading.{items_of, bounded, node}
 use Rattle.literal_parser.specs.code.Parser.{takes}
 use Rattle.literal_parser.specs.code.Reads.{state_of, source}
 use Rattle.literal_parser.specs.code.LiteralReads.{Puts, with_tree, with_all, list_at, map_at, items_at, entries_at, more_items_at, more_entries_at}
-use Rattle.literal_parser.proofs.LiteralSteps.{halted_read, halted_put, saw, saw_pair, list_failed, list_unread, list_open, list_closed, list_read, map_failed, map_unread, map_open, map_closed, map_read, held, all-one, collected, one_more_done, behind, behind-none, less_none, items_turn, items_end, items_first, entries_turn, entries_end, entries_first}
+use Rattle.literal_parser.proofs.LiteralSteps.{halted_read, halted_put, saw, saw_pair, bounded_shut, bounded_open, list_failed, list_unread, list_open, list_closed, list_read, map_failed, map_unread, map_open, map_closed, map_read, held, all-one, collected, one_more_done, behind, behind-none, less_none, items_turn, items_end, items_first, entries_turn, entries_end, entries_first}
 use Rattle.literal_parser.proofs.literal.+literal.Goals as goal
 
 pub list-returns-then-depth-eq0-clause-reads : goal.list-returns-then-depth-eq0-clause-reads
@@ -54,7 +54,7 @@ pub items-returns-clause-reads : goal.items-returns-clause-reads
 items-returns-clause-reads t c =
     let r = c.in_ok-node.ensures.reads in let m = c.in_ok-more_items.ensures.reads in (
       Node r.0.0 r.0.1 m.0,
-      items_first (source c.args.tokens) c.args.tokens.turns _ _ c.args.builder.now.key r.0 m.0 c.sees.result
+      items_first (source c.args.tokens) c.args.tokens.turns _ _ _ c.args.builder.now.key r.0 m.0 c.sees.result
           (state_of c.args.cursor.now) (state_of c.sees.new.self) (state_of c.node.new.cursor) (state_of c.more_items.new.cursor)
           c.args.cursor.now.seen c.sees.new.self.seen c.node.new.cursor.seen c.more_items.new.cursor.seen
           c.sees.ensures.token c.if-sees.false c.sees.ensures.state c.sees.ensures.seen c.requires.opened.1 r.1 m.1,
@@ -75,7 +75,7 @@ pub more_items-returns-then-not-sees-clause-reads : goal.more_items-returns-then
 more_items-returns-then-not-sees-clause-reads t c =
     let i = c.loop-turn.invariant in (
       i.1.0,
-      items_end (source c.args.tokens) c.args.tokens.turns _ _ c.args.tokens.turns c.loop-turn._turn i.1.0 c.sees.result _
+      items_end (source c.args.tokens) c.args.tokens.turns _ _ _ c.args.tokens.turns c.loop-turn._turn i.1.0 c.sees.result _
           (state_of c.loop-turn.cursor) (state_of c.sees.new.self) c.loop-turn.cursor.seen c.sees.new.self.seen
           c.loop-turn-test.true i.1.1 c.sees.ensures.token c.if-not-sees.true c.sees.ensures.state c.sees.ensures.seen,
       collected c.args.builder.now c.loop-turn.builder i.1.0 i.0 i.1.2,
@@ -87,7 +87,7 @@ more_items-loop-turn-preserved t c =
       (c.in_ok-node.ensures.level.0 ∙ i.0.0, c.in_ok-node.ensures.level.1),
       (
         snoc i.1.0 r.0.0 r.0.1,
-        items_turn (source c.args.tokens) c.args.tokens.turns _ _ c.args.tokens.turns c.loop-turn._turn i.1.0 r.0 c.loop-turn.builder.key c.sees.result _
+        items_turn (source c.args.tokens) c.args.tokens.turns _ _ _ c.args.tokens.turns c.loop-turn._turn i.1.0 r.0 c.loop-turn.builder.key c.sees.result _
             (state_of c.loop-turn.cursor) (state_of c.sees.new.self) (state_of c.takes.new.self) (state_of c.node.new.cursor)
             c.loop-turn.cursor.seen c.sees.new.self.seen c.takes.new.self.seen c.node.new.cursor.seen
             c.loop-turn-test.true i.1.1 c.sees.ensures.token c.if-not-sees.false c.sees.ensures.state c.sees.ensures.seen c.in_ok-takes.ensures i.0.1 r.1,
@@ -99,7 +99,7 @@ pub entries-returns-clause-reads : goal.entries-returns-clause-reads
 entries-returns-clause-reads t c =
     let r = c.in_ok-entry.ensures.reads in let m = c.in_ok-more_entries.ensures.reads in (
       Node r.0.0 r.0.1 m.0,
-      entries_first (source c.args.tokens) c.args.tokens.turns _ _ c.args.builder.now.done c.entry.new.builder.done r.0 m.0 c.sees.result
+      entries_first (source c.args.tokens) c.args.tokens.turns _ _ _ c.args.builder.now.done c.entry.new.builder.done r.0 m.0 c.sees.result
           (state_of c.args.cursor.now) (state_of c.sees.new.self) (state_of c.entry.new.cursor) (state_of c.more_entries.new.cursor)
           c.args.cursor.now.seen c.sees.new.self.seen c.entry.new.cursor.seen c.more_entries.new.cursor.seen
           c.sees.ensures.token c.if-sees.false c.sees.ensures.state c.sees.ensures.seen c.requires.none r.1 (ap (λ (u : Unfinished). u.done) r.2) m.1,
@@ -120,7 +120,7 @@ pub more_entries-returns-then-not-sees-clause-reads : goal.more_entries-returns-
 more_entries-returns-then-not-sees-clause-reads t c =
     let i = c.loop-turn.invariant in (
       i.1.0,
-      entries_end (source c.args.tokens) c.args.tokens.turns _ _ c.args.tokens.turns c.loop-turn._turn i.1.0 c.loop-turn.builder.done c.sees.result _
+      entries_end (source c.args.tokens) c.args.tokens.turns _ _ _ c.args.tokens.turns c.loop-turn._turn i.1.0 c.loop-turn.builder.done c.sees.result _
           (state_of c.loop-turn.cursor) (state_of c.sees.new.self) c.loop-turn.cursor.seen c.sees.new.self.seen
           c.loop-turn-test.true i.1.1 c.sees.ensures.token c.if-not-sees.true c.sees.ensures.state c.sees.ensures.seen,
       collected c.args.builder.now c.loop-turn.builder i.1.0 i.0 i.1.2,
@@ -132,7 +132,7 @@ more_entries-loop-turn-preserved t c =
       (c.in_ok-entry.ensures.level.0 ∙ i.0.0, c.in_ok-entry.ensures.level.1),
       (
         snoc i.1.0 r.0.0 r.0.1,
-        entries_turn (source c.args.tokens) c.args.tokens.turns _ _ c.args.tokens.turns c.loop-turn._turn i.1.0 c.loop-turn.builder.done c.entry.new.builder.done r.0 c.sees.result _
+        entries_turn (source c.args.tokens) c.args.tokens.turns _ _ _ c.args.tokens.turns c.loop-turn._turn i.1.0 c.loop-turn.builder.done c.entry.new.builder.done r.0 c.sees.result _
             (state_of c.loop-turn.cursor) (state_of c.sees.new.self) (state_of c.takes.new.self) (state_of c.entry.new.cursor)
             c.loop-turn.cursor.seen c.sees.new.self.seen c.takes.new.self.seen c.entry.new.cursor.seen
             c.loop-turn-test.true i.1.1 c.sees.ensures.token c.if-not-sees.false c.sees.ensures.state c.sees.ensures.seen c.in_ok-takes.ensures r.1 (ap (λ (u : Unfinished). u.done) r.2),
@@ -148,24 +148,35 @@ node-returns-then-not-sees-clause-reads t c = let s = source c.args.tokens in
     (saw s is_lbrace _ _ _ _ c.sees-3.ensures.token c.if-sees-3.false c.sees-3.ensures.state c.sees-3.ensures.seen
     (saw s is_r _ _ _ _ c.sees-4.ensures.token c.if-not-sees.true c.sees-4.ensures.state c.sees-4.ensures.seen refl)))
 
+pub node-returns-then-depth-eq0-clause-reads : goal.node-returns-then-depth-eq0-clause-reads
+unfolding node bounded
+node-returns-then-depth-eq0-clause-reads t c = let s = source c.args.tokens in
+    saw s is_scalar _ _ _ _ c.sees.ensures.token c.if-sees.false c.sees.ensures.state c.sees.ensures.seen
+    (saw s is_lbracket _ _ _ _ c.sees-2.ensures.token c.if-sees-2.false c.sees-2.ensures.state c.sees-2.ensures.seen
+    (saw s is_lbrace _ _ _ _ c.sees-3.ensures.token c.if-sees-3.false c.sees-3.ensures.state c.sees-3.ensures.seen
+    (saw s is_r _ _ _ _ c.sees-4.ensures.token c.if-not-sees.false c.sees-4.ensures.state c.sees-4.ensures.seen
+    (bounded_shut s c.args.tokens.turns c.args.depth c.args.builder.now.key _ _ c.if-depth-eq0.true))))
+
 pub node-returns-then-not-sees_range-clause-reads : goal.node-returns-then-not-sees_range-clause-reads
-unfolding node
+unfolding node bounded
 node-returns-then-not-sees_range-clause-reads t c = let s = source c.args.tokens in
     saw s is_scalar _ _ _ _ c.sees.ensures.token c.if-sees.false c.sees.ensures.state c.sees.ensures.seen
     (saw s is_lbracket _ _ _ _ c.sees-2.ensures.token c.if-sees-2.false c.sees-2.ensures.state c.sees-2.ensures.seen
     (saw s is_lbrace _ _ _ _ c.sees-3.ensures.token c.if-sees-3.false c.sees-3.ensures.state c.sees-3.ensures.seen
     (saw s is_r _ _ _ _ c.sees-4.ensures.token c.if-not-sees.false c.sees-4.ensures.state c.sees-4.ensures.seen
-    (saw_pair s opens_range _ _ _ _ c.sees_range.ensures.token c.if-not-sees_range.true c.sees_range.ensures.state c.sees_range.ensures.seen refl))))
+    (bounded_open s c.args.tokens.turns c.args.depth c.args.builder.now.key _ _ c.if-depth-eq0.false
+    (saw_pair s opens_range _ _ _ _ c.sees_range.ensures.token c.if-not-sees_range.true c.sees_range.ensures.state c.sees_range.ensures.seen refl)))))
 
 pub node-returns-clause-reads : goal.node-returns-clause-reads
-unfolding node
+unfolding node bounded
 node-returns-clause-reads t c = let s = source c.args.tokens in
     subst (λ o. Puts (with_tree c.args.builder.now) o c.range.result c.range.new.builder c.range.new.cursor)
     (sym (saw s is_scalar _ _ _ _ c.sees.ensures.token c.if-sees.false c.sees.ensures.state c.sees.ensures.seen
     (saw s is_lbracket _ _ _ _ c.sees-2.ensures.token c.if-sees-2.false c.sees-2.ensures.state c.sees-2.ensures.seen
     (saw s is_lbrace _ _ _ _ c.sees-3.ensures.token c.if-sees-3.false c.sees-3.ensures.state c.sees-3.ensures.seen
     (saw s is_r _ _ _ _ c.sees-4.ensures.token c.if-not-sees.false c.sees-4.ensures.state c.sees-4.ensures.seen
-    (saw_pair s opens_range _ _ _ _ c.sees_range.ensures.token c.if-not-sees_range.false c.sees_range.ensures.state c.sees_range.ensures.seen refl))))))
+    (bounded_open s c.args.tokens.turns c.args.depth c.args.builder.now.key _ _ c.if-depth-eq0.false
+    (saw_pair s opens_range _ _ _ _ c.sees_range.ensures.token c.if-not-sees_range.false c.sees_range.ensures.state c.sees_range.ensures.seen refl)))))))
     c.range.ensures.reads
 
 pub list-returns-in_err-takes-clause-reads : goal.list-returns-in_err-takes-clause-reads
