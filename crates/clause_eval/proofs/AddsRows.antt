@@ -1,34 +1,28 @@
 -- Lines of rows follow by what the lines that they cite say: a case for each kind.
-use Rattle.std.proofs.Common.{◌≡◌, ◌<◌, ℕ, true, refl, sym, ap, ◌∙◌, subst, arith, slice_get, List, [], ◌∷◌, ◌++◌, Option, Some, None, option_and_then}
+use Rattle.std.proofs.Common.{◌≡◌, ℕ, true, refl, sym, ap, ◌∙◌, subst, arith, List, [], ◌∷◌, Option, Some, option_and_then}
 use Rattle.std.specs.Prelude.{◌&&◌, nat_lt}
 use Rattle.std.specs.List.{list_all}
 use Rattle.std.proofs.lemmas.Bool.Decides.{nat_tests}
-use Rattle.doc_values.specs.Tree.{Forest, IsTree, Nil, Node, size}
-use Rattle.evidence_lines.specs.declared.line.LineKind.{LineKind}
+use Rattle.doc_values.specs.Tree.{Forest, IsTree, size}
 use Rattle.evidence_lines.specs.declared.line.LineKind.TheVariants as kind
 use Rattle.evidence_lines.specs.declared.line.Outcome.TheVariants as says
-use Rattle.evidence_lines.specs.declared.version.Version.TheVariants.{Two}
 use Rattle.guard_syntax.specs.Syntax.{literal}
-use Rattle.guard_syntax.specs.declared.row.Ref.{Ref}
 use Rattle.guard_syntax.specs.declared.row.Row.{Row}
 use Rattle.guard_syntax.specs.declared.row.Row.TheVariants.{Found}
 use Rattle.rule_names.specs.EnclosingScopes.{home_of}
-use Rattle.rule_names.specs.Pieces.{OfExpr, Piece, piece_at}
+use Rattle.rule_names.specs.Pieces.{OfExpr, Piece}
 use Rattle.rule_meaning.specs.Roots.{literal_ref}
 use Rattle.rule_meaning.specs.StoreModel.{StoreModel, is_known, is_known_ref, literal_at, tree_of_piece}
-use Rattle.evidence_rules.specs.Follows.{FollowsIn, FollowsRows, home_for}
+use Rattle.evidence_rules.specs.Follows.{FollowsRows}
 use Rattle.clause_eval.specs.code.Adding.{Adds}
 use Rattle.clause_eval.specs.code.Answers.{StandsIn}
-use Rattle.clause_eval.specs.code.States.{IsWhole, State, is_known_outcome}
+use Rattle.clause_eval.specs.code.States.{IsWhole, State}
+use Rattle.clause_eval.proofs.EnteredLines.{IsTree-root}
 use Rattle.clause_eval.proofs.Finished.{adds-in}
-
-tree-root : (tree : Forest) → IsTree tree → 0 < size tree
-tree-root Nil one = absurd (omega (arith, one.one))
-tree-root (Node l kids rest) one = omega arith
 
 known-literal : (k : StoreModel) (site : ℕ) (tree : Forest) → literal_at k.file site ≡ Some tree → IsTree tree → is_known_ref k (literal_ref site) ≡ true
 known-literal k site tree there one =
-    let root = tree-root tree one in
+    let root = IsTree-root tree one in
     let inside : nat_lt 0 (size tree) ≡ true = grind (arith, nat_tests) in
     rw (there, inside) refl
 

@@ -1,7 +1,6 @@
 -- Lines of bodies: a body is judged in a frame of its own, where a value is current, and answers there what it asks for in the frame around; and the loop over the rows of a block.
-use Rattle.std.proofs.Common.{◌≡◌, ◌<◌, ◌≤◌, ◌+◌, ◌&&◌, ℕ, zero, suc, Bool, true, false, refl, sym, ap, ◌∙◌, subst, arith, slice_get, List, [], ◌∷◌, ◌++◌, length, map, take, get_or, Option, Some, None, is_some, option_and_then}
+use Rattle.std.proofs.Common.{◌≡◌, ◌<◌, ◌≤◌, ◌+◌, ◌&&◌, ℕ, zero, suc, Bool, true, false, refl, sym, ap, ◌∙◌, subst, arith, List, [], ◌∷◌, ◌++◌, length, map, take, get_or, Some, None, option_and_then}
 use Rattle.std.specs.List.{list_all}
-use Rattle.std.specs.Prelude.{IsSome}
 use Rattle.std.proofs.lemmas.Bool.{and_parts}
 use Rattle.evidence_lines.specs.declared.line.LineKind.TheVariants as kind
 use Rattle.evidence_lines.specs.declared.line.Outcome.TheVariants as says
@@ -21,19 +20,18 @@ use Rattle.rule_names.proofs.Shapes.{body-seen}
 use Rattle.rule_meaning.specs.StoreModel.{StoreModel, is_known, is_known_ref}
 use Rattle.rule_meaning.specs.Verdicts.{block_verdict, is_found, is_pass}
 use Rattle.query_steps.proofs.SeenGrowth.{known-before}
-use Rattle.evidence_rules.specs.CitedLines.{args_at, args_of_piece, body_site, scope_of_piece}
-use Rattle.evidence_rules.specs.Follows.{IsBlockBody, SaysBody}
+use Rattle.evidence_rules.specs.CitedLines.{args_of_piece, body_site, scope_of_piece}
+use Rattle.evidence_rules.specs.Follows.{IsBlockBody}
 use Rattle.scope_frames.specs.code.Frames.{IsPlain, MayEnter}
 use Rattle.scope_frames.specs.code.Scoping.{scope_at}
-use Rattle.scope_frames.specs.declared.frame.Frame.{Frame}
 use Rattle.scope_frames.proofs.EnteredFrames.{has-frame}
-use Rattle.clause_eval.specs.code.Answers.{Answers, AnswersBodies, AnswersBody, AnswersVerdict, IsBodyIn, IsBodyOfRows, IsConjunction, StandsIn, StandsWithin, above}
+use Rattle.clause_eval.specs.code.Answers.{AnswersBodies, AnswersBody, AnswersVerdict, IsBodyIn, IsBodyOfRows, IsConjunction, StandsIn, StandsWithin, above}
 use Rattle.clause_eval.specs.code.Entered.{Enters, MayHaveValue}
-use Rattle.clause_eval.specs.code.Evaluated.{Evaluates}
 use Rattle.clause_eval.specs.code.Falling.{height, height_at, load_at, place_of}
 use Rattle.clause_eval.specs.code.Inside.{body_sited}
 use Rattle.clause_eval.specs.code.States.{IsWhole, State}
 use Rattle.clause_eval.proofs.BodyValues.{block-value}
+use Rattle.clause_eval.proofs.Elements.{some-there}
 use Rattle.clause_eval.proofs.Evaluating.{Evaluates-none, same-file, same-height}
 use Rattle.clause_eval.proofs.Finished.{line-there}
 use Rattle.clause_eval.proofs.InTurn.{SaidFor, entered-answer}
@@ -54,9 +52,6 @@ body-conjoined s frame b ds are stands =
     (subst (λ (x : sx.Body). StandsWithin s frame (body_site x) (body_sited x)) seen stands)
 
 -- it may be entered
-some-there : {X : Type 0} (o : Option X) (x : X) → o ≡ Some x → IsSome o
-some-there o x is = ap is_some is
-
 pub body-enters : (s : State) (frame n : ℕ) (x : sx.Body) (v : Ref) → body_site x ≡ n → IsBodyIn s frame x v
     → MayEnter s.known.file s.frames (Some frame) n × MayHaveValue s (Some frame) n v
 body-enters s frame n x v at held =

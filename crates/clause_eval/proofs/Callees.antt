@@ -1,6 +1,5 @@
 -- What references and calls lead to is there: the line of a rule that a reference names, and the body that a call enters, which is less deep with the arguments of the call.
-use Rattle.std.proofs.Common.{◌≡◌, ℕ, ◌+◌, ◌<◌, Bool, ap, ◌∙◌, arith, List, Option, Some, option_and_then, option_map, is_some}
-use Rattle.std.specs.Prelude.{IsSome}
+use Rattle.std.proofs.Common.{◌≡◌, ℕ, ◌+◌, ◌<◌, Bool, ap, ◌∙◌, arith, List, Option, Some, option_and_then, option_map}
 use Rattle.evidence_lines.specs.declared.line.LineKind.TheVariants as kind
 use Rattle.evidence_lines.specs.declared.line.Outcome.TheVariants as says
 use Rattle.guard_syntax.specs.Syntax.{Body, Exprs, call, refer}
@@ -17,11 +16,9 @@ use Rattle.clause_eval.specs.code.Answers.{StandsIn}
 use Rattle.clause_eval.specs.code.Falling.{depth_of}
 use Rattle.clause_eval.specs.code.States.{IsWhole, State}
 use Rattle.clause_eval.proofs.BodiesApart.{body-at, plain-else}
+use Rattle.clause_eval.proofs.Elements.{some-there}
 use Rattle.clause_eval.proofs.Falls.{called-falls, referred-falls}
 use Rattle.clause_eval.proofs.Shaped.{rule-verdict}
-
-some-there : {X : Type 0} (o : Option X) (x : X) → o ≡ Some x → IsSome o
-some-there o x is = ap is_some is
 
 module _ (s : State) (whole : IsWhole s) (well : WellNamed s.known.file) (ordered : AreInOrder s.known.file) (frame site : ℕ) where
   -- the line of the rule that a reference names

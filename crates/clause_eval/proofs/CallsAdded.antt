@@ -1,6 +1,6 @@
 -- The line of the call of a function: what the call asks for is there, and the line that says what it answers follows and keeps whatever holds of an engine, with the trees that it
 -- makes known.
-use Rattle.std.proofs.Common.{◌≡◌, ◌<◌, ℕ, zero, suc, Bool, true, false, cond, refl, sym, ap, ap₂, ◌∙◌, subst, inl, inr, List, [], ◌∷◌, ◌++◌, length, map, append-nil, get_or, Option, Some, None, option_and_then, slice_get, true≢false, Result, Ok, Err}
+use Rattle.std.proofs.Common.{◌≡◌, ℕ, zero, suc, Bool, true, false, cond, refl, sym, ap, ap₂, ◌∙◌, subst, inl, inr, List, [], ◌∷◌, ◌++◌, length, map, append-nil, get_or, Option, Some, None, true≢false, Result, Ok, Err}
 use Rattle.std.specs.Prelude.{IfOk, IfSome, OnErr, find}
 use Rattle.std.specs.declared.alloc.AllocError.{AllocError}
 use Rattle.evidence_lines.specs.Versioned.{Versioned}
@@ -28,8 +28,7 @@ use Rattle.guard_syntax.specs.declared.function.Function.{Function}
 use Rattle.guard_syntax.specs.declared.function.Function.TheVariants.{RegexReplace}
 use Rattle.guard_syntax.specs.declared.row.Row.{Row}
 use Rattle.guard_syntax.specs.declared.row.Row.TheVariants.{Found}
-use Rattle.rule_names.specs.EnclosingScopes.{home_of}
-use Rattle.rule_names.specs.Pieces.{AreInOrder, OfExpr, Piece, piece_at, pieces_expr}
+use Rattle.rule_names.specs.Pieces.{AreInOrder, OfExpr, piece_at, pieces_expr}
 use Rattle.rule_names.specs.Uses.{arity, count_exprs, expr_in, function_named, functions}
 use Rattle.rule_names.specs.WellNamed.{WellNamed}
 use Rattle.rule_names.specs.code.Within.{StandsIn as IsIn}
@@ -38,7 +37,7 @@ use Rattle.rule_names.proofs.PiecesStand.{piece-stands}
 use Rattle.rule_names.proofs.Shapes.{function-seen}
 use Rattle.rule_meaning.specs.Functions.{Functions, MadeRow, argument, single_text}
 use Rattle.rule_meaning.specs.Roots.{literal_ref}
-use Rattle.rule_meaning.specs.Seeing.{grown, is_known_answer, rows_kept, trees_kept}
+use Rattle.rule_meaning.specs.Seeing.{grown, rows_kept, trees_kept}
 use Rattle.rule_meaning.specs.StoreModel.{StoreModel, Made, is_known}
 use Rattle.value_compare.specs.code.Books.{IsBookOf, has_text}
 use Rattle.query_steps.proofs.KnownAnswers.{answer-known}
@@ -49,9 +48,9 @@ use Rattle.evidence_rules.specs.Follows.{Follows, nothing_made}
 use Rattle.evidence_rules.specs.code.Judgement.{FollowTo}
 use Rattle.scope_frames.specs.declared.frame.Frame.{Frame}
 use Rattle.clause_eval.specs.code.Adding.{Added, line_for}
-use Rattle.clause_eval.specs.code.Answers.{AreGiven, IsAnswerOf, SayRowsOf, StandsIn}
+use Rattle.clause_eval.specs.code.Answers.{AreGiven, IsAnswerOf, SayRowsOf}
 use Rattle.clause_eval.specs.code.Kinds.{is_frame, kind_beside, own_kind}
-use Rattle.clause_eval.specs.code.States.{Grows, IsWhole, State, StillFollows, is_known_outcome}
+use Rattle.clause_eval.specs.code.States.{IsWhole, State, StillFollows, is_known_outcome}
 use Rattle.clause_eval.proofs.AddedLines.{not-beside, own-not-rule, same-known}
 use Rattle.clause_eval.proofs.AddsLines.{call-follows}
 use Rattle.clause_eval.proofs.FramesSaid.{AreFramed-stays}

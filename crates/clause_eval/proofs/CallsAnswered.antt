@@ -1,9 +1,8 @@
 -- Lines of calls of rules and of tests; and a part as it is handed on to the function of its kind.
-use Rattle.std.proofs.Common.{◌≡◌, ◌<◌, ◌≤◌, ◌+◌, ℕ, suc, Bool, refl, sym, ap, ◌∙◌, subst, arith, slice_get, List, [], ◌∷◌, length, map, Contains, Option, Some, None, is_some, option_map}
+use Rattle.std.proofs.Common.{◌≡◌, ◌<◌, ◌+◌, ℕ, Bool, refl, sym, ap, ◌∙◌, subst, arith, slice_get, List, [], ◌∷◌, length, map, Some, None, is_some, option_map}
 use Rattle.std.specs.Prelude.{IsSome}
 use Rattle.std.proofs.lemmas.Option.{same_Some}
 use Rattle.evidence_lines.specs.Shapes.{sort_of}
-use Rattle.evidence_lines.specs.declared.line.LineKind.{LineKind}
 use Rattle.evidence_lines.specs.declared.line.LineKind.TheVariants as kind
 use Rattle.evidence_lines.specs.declared.line.Outcome.TheVariants as says
 use Rattle.evidence_lines.specs.declared.line.Sort.TheVariants as sort
@@ -15,7 +14,6 @@ use Rattle.guard_syntax.specs.declared.row.Row.{Row}
 use Rattle.guard_syntax.specs.declared.row.Verdict.{Verdict}
 use Rattle.guard_syntax.specs.declared.syntax.Body.{Body, out-Body}
 use Rattle.guard_syntax.specs.declared.syntax.Disj.{Disj}
-use Rattle.guard_syntax.specs.declared.syntax.Op.{Op}
 use Rattle.rule_names.specs.EnclosingScopes.{home_of}
 use Rattle.rule_names.specs.Depths.{depth_body, depth_exprs, depth_part, depths_of}
 use Rattle.rule_names.specs.Pieces.{AreInOrder, OfBody, OfPart, Sited, piece_at}
@@ -28,9 +26,8 @@ use Rattle.scope_frames.specs.code.Frames.{MayEnter}
 use Rattle.scope_frames.specs.declared.frame.Frame.{Frame}
 use Rattle.scope_frames.proofs.EnteredFrames.{has-frame}
 use Rattle.clause_eval.specs.code.Adding.{Added, Adds}
-use Rattle.clause_eval.specs.code.Answers.{Answers, AnswersExpr, AnswersQuery, AnswersVerdict, GivesRowsOf, GivesSide, HasSides, IsConjunction, IsRuleCall, IsTest, StandsIn, StandsPart, StandsWithin, above, both_cites}
+use Rattle.clause_eval.specs.code.Answers.{Answers, AnswersExpr, AnswersQuery, AnswersVerdict, GivesSide, HasSides, IsConjunction, IsRuleCall, IsTest, StandsIn, StandsPart, above, both_cites}
 use Rattle.clause_eval.specs.code.Entered.{Enters, MayHaveValue}
-use Rattle.clause_eval.specs.code.Evaluated.{Evaluates}
 use Rattle.clause_eval.specs.code.Falling.{height_at}
 use Rattle.clause_eval.specs.code.Inside.{AreInside, IsInside, expr_sited, inner_of_part, opt_expr_sited, query_sited}
 use Rattle.clause_eval.specs.code.Kinds.{kind_of_part, own_kind}
@@ -43,7 +40,7 @@ use Rattle.clause_eval.proofs.Evaluating.{Evaluates-none, Evaluates-under, same-
 use Rattle.clause_eval.proofs.InTurn.{SaidFor, entered-answer, said-next}
 use Rattle.clause_eval.proofs.Insides.{body-own, insides}
 use Rattle.clause_eval.proofs.Lower.{called-lower}
-use Rattle.clause_eval.proofs.PartsAnswered.{current-is, inner-asked-for, inner-under, part-answer, part-finished, part-kind, part-new, part-now, part-there}
+use Rattle.clause_eval.proofs.PartsAnswered.{current-is, inner-asked-for, inner-under, part-finished, part-kind, part-new, part-now, part-there}
 use Rattle.clause_eval.proofs.Ranks.{rank-below, rank_in}
 use Rattle.clause_eval.proofs.SaidLater.{query-later}
 use Rattle.clause_eval.proofs.Standing.{called-stands}

@@ -15,6 +15,7 @@ use Rattle.evidence_rules.specs.Follows.{Follows, nothing_made}
 use Rattle.evidence_rules.specs.code.Judgement.{FollowTo}
 use Rattle.scope_frames.specs.declared.frame.Frame.{Frame}
 use Rattle.clause_eval.specs.code.Kinds.{kind_beside, own_kind}
+use Rattle.clause_eval.specs.code.Ruling.{Rests}
 use Rattle.clause_eval.specs.code.States.{FollowUp, HasJust, IsWhole, State, StillFollows, is_known_outcome}
 use Rattle.clause_eval.proofs.AddedLines.{follow-more, same-known}
 use Rattle.clause_eval.proofs.SaidStays.{line-within}
@@ -55,6 +56,10 @@ module _ (s : State) (made : s.known.made ≡ []) (lines : s.lines ≡ []) (fram
       whole = λ m number at outcome is. absurd (gone number is.line is.stands);
     };
   }
+
+  -- nothing is to be named
+  pub nothing-rests : Rests s
+  nothing-rests = record { whole = nothing-whole; named = λ number l e other. absurd (gone number l e) }
 
 -- ---- what holds whatever comes
 

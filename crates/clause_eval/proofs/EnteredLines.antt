@@ -1,5 +1,5 @@
 -- A frame that is entered for the first time keeps whatever holds of an engine, with its line.
-use Rattle.std.proofs.Common.{◌≡◌, ◌<◌, ◌≤◌, ℕ, suc, true, refl, sym, ap, ap₂, ◌∙◌, subst, inl, inr, arith, slice_get, List, [], ◌∷◌, ◌++◌, length, Contains, Option, Some, None, true≢false}
+use Rattle.std.proofs.Common.{◌≡◌, ◌<◌, ◌≤◌, ℕ, suc, true, refl, sym, ap, ap₂, ◌∙◌, subst, inl, inr, arith, slice_get, List, [], ◌∷◌, ◌++◌, length, Option, Some, None, true≢false}
 use Rattle.std.specs.Prelude.{nat_lt}
 use Rattle.std.proofs.lemmas.Bool.Decides.{nat_tests}
 use Rattle.doc_values.specs.Tree.{Forest, IsTree, Nil, Node, size}
@@ -25,6 +25,7 @@ use Rattle.clause_eval.specs.code.Kinds.{is_frame, kind_beside, own_kind}
 use Rattle.clause_eval.specs.code.Lines.{HasLine}
 use Rattle.clause_eval.specs.code.States.{Grows, HasJust, HasRules, IsWhole, State, is_known_outcome}
 use Rattle.clause_eval.proofs.AddedLines.{beside-plain, beside-is, follow-more, own-is, own-plain, same-known}
+use Rattle.clause_eval.proofs.Elements.{none-among}
 use Rattle.clause_eval.proofs.Evaluating.{Evaluates-found}
 use Rattle.clause_eval.proofs.FrameEnvironments.{frame-at}
 use Rattle.clause_eval.proofs.FramesSaid.{AreFramed-pushed, counted-more, frame-numbered, has-line, name-earlier, stands-said}
@@ -181,9 +182,6 @@ module _ (s : State) (whole : IsWhole s) (frame : Frame) (line : Line) (follows 
       rules = same_rules;
     };
   }
-    where
-      none-among : (n : ℕ) → Contains [] n → ⊥
-      none-among n (k, within, is_it) = absurd (omega (arith, within))
 
 -- ---- the line of a frame
 
@@ -312,7 +310,7 @@ module _ (before after : List Frame) (frame : Frame) (number count : ℕ) (count
   new-alone past n e = enters.1 n (ap (λ (fs : List Frame). slice_get fs n) (is-new past) ∙ e)
 
 -- a tree has a root, so that of the template is known
-IsTree-root : (tree : Forest) → IsTree tree → 0 < size tree
+pub IsTree-root : (tree : Forest) → IsTree tree → 0 < size tree
 IsTree-root Nil one = absurd (omega (arith, one.one))
 IsTree-root (Node l kids rest) one = omega arith
 

@@ -1,6 +1,5 @@
 -- A part that was found, or whose line was added at the end: what its evaluation answers. And what its line asks for, by what follows in its frame.
-use Rattle.std.proofs.Common.{◌≡◌, ◌⊎◌, ◌<◌, ◌≤◌, ℕ, suc, true, refl, sym, ap, ◌∙◌, subst, inr, arith, slice_get, List, [], ◌∷◌, ◌++◌, length, Contains, Option, Some, None}
-use Rattle.std.proofs.lemmas.Option.{same_Some, slice_get_within}
+use Rattle.std.proofs.Common.{◌≡◌, ◌⊎◌, ◌<◌, ◌≤◌, ℕ, true, refl, sym, ap, ◌∙◌, subst, inr, arith, slice_get, List, [], ◌∷◌, ◌++◌, length, Contains, Some}
 use Rattle.evidence_lines.specs.Shapes.{sort_of}
 use Rattle.evidence_lines.specs.declared.line.Line.{Line}
 use Rattle.evidence_lines.specs.declared.line.LineKind.{LineKind}
@@ -10,7 +9,6 @@ use Rattle.evidence_lines.specs.declared.line.Sort.TheVariants as sort
 use Rattle.evidence_lines.specs.declared.version.Version.TheVariants.{Two}
 use Rattle.guard_syntax.specs.declared.row.Row.{Row}
 use Rattle.guard_syntax.specs.declared.row.Verdict.{Verdict}
-use Rattle.rule_names.specs.EnclosingScopes.{home_of}
 use Rattle.rule_names.specs.Pieces.{Sited, piece_at}
 use Rattle.evidence_rules.specs.CitedLines.{IsLine}
 use Rattle.evidence_rules.specs.Follows.{FollowsIn, home_for}
@@ -19,9 +17,9 @@ use Rattle.scope_frames.proofs.EnteredFrames.{has-frame}
 use Rattle.clause_eval.specs.code.Adding.{Added, Adds, line_for}
 use Rattle.clause_eval.specs.code.Answers.{Answers, AnswersRows, AnswersVerdict, StandsWithin, above}
 use Rattle.clause_eval.specs.code.Evaluated.{Evaluates}
-use Rattle.clause_eval.specs.code.Falling.{height_at}
 use Rattle.clause_eval.specs.code.Kinds.{own_kind}
-use Rattle.clause_eval.specs.code.States.{Grows, IsWhole, State, is_known_outcome}
+use Rattle.clause_eval.specs.code.States.{IsWhole, State, is_known_outcome}
+use Rattle.clause_eval.proofs.Elements.{none-among}
 use Rattle.clause_eval.proofs.Evaluating.{Evaluates-added, Evaluates-found, Evaluates-none, same-file}
 use Rattle.clause_eval.proofs.FramesSaid.{stands-said}
 use Rattle.clause_eval.proofs.SaidStays.{IsLine-pushed, kept-ahead}
@@ -102,9 +100,6 @@ pub leaf-answer : (a c : State) → IsWhole a → (frame scope : ℕ) (part : Si
     → Answers a c (above a frame part.0) frame number (λ at. IsLine c.lines number of at part.0 outcome)
 leaf-answer a c whole frame scope part stands of cites outcome number kind_is added =
     added-answer a a c whole frame scope part stands of cites outcome number 0 [] kind_is (omega arith) (Evaluates-none a 0 whole) added (λ n behind among. absurd (none-among n among))
-  where
-    none-among : (n : ℕ) → Contains [] n → ⊥
-    none-among n (k, within, is) = absurd (omega (arith, within))
 
 -- a line that says rows
 pub rows-told : (a c : State) (frame site number : ℕ) (of : LineKind) (rows : List Row)

@@ -1,5 +1,5 @@
 -- The line of a frame is named by each line in it: so a frame that was entered is named once something was evaluated in it.
-use Rattle.std.proofs.Common.{◌≡◌, ◌⊎◌, ◌<◌, ◌≤◌, ℕ, zero, suc, refl, sym, ap, ◌∙◌, subst, inl, inr, arith, List, [], ◌∷◌, ◌++◌, length, Contains, Option, Some, None}
+use Rattle.std.proofs.Common.{ℕ, subst, inl, inr, arith, List, [], ◌∷◌, ◌++◌, length, Option}
 use Rattle.std.proofs.lemmas.List.Elements.{Contains-append_cases}
 use Rattle.evidence_lines.specs.declared.line.Line.{Line}
 use Rattle.evidence_lines.specs.declared.line.LineKind.{LineKind}
@@ -12,6 +12,7 @@ use Rattle.clause_eval.specs.code.Evaluated.{Evaluates}
 use Rattle.clause_eval.specs.code.Entered.{Enters}
 use Rattle.clause_eval.specs.code.Leaning.{AreNamedBut, IsNamed}
 use Rattle.clause_eval.specs.code.States.{IsWhole, State}
+use Rattle.clause_eval.proofs.Elements.{one-among}
 use Rattle.clause_eval.proofs.Evaluating.{Evaluates-then, Evaluates-under}
 use Rattle.clause_eval.proofs.FramesSaid.{name-earlier}
 
@@ -24,16 +25,12 @@ frame-named s whole number at site of outcome is = (
   inr (inl is.frame_is),
 )
 
-this-only : (m n : ℕ) → Contains (m ∷ []) n → m ≡ n
-this-only m n (zero, within, is) = is
-this-only m n (suc k, within, is) = absurd (omega (arith, within))
-
 -- what is named need not be told
 pub but-named : (b : ℕ) (lines : List Line) (number : ℕ) (but : List ℕ) → IsNamed lines number → AreNamedBut b lines (number ∷ [] ++ but) → AreNamedBut b lines but
 but-named b lines number but named are n behind within = elim (are n behind within) [
   | inl it ↦ inl it
   | inr among ↦ elim (Contains-append_cases (number ∷ []) but n among) [
-    | inl this ↦ inl (subst (IsNamed lines) (this-only number n this) named)
+    | inl this ↦ inl (subst (IsNamed lines) (one-among number n this) named)
     | inr other ↦ inr other
   ]
 ]

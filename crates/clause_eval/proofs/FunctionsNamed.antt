@@ -1,5 +1,5 @@
 -- In a file that is well named the name of each call of a function is that of one: nothing is the matter with a call, by induction over the syntax.
-use Rattle.std.proofs.Common.{◌≡◌, ℕ, suc, Bool, true, false, List, [], ◌∷◌, ◌++◌, Option, Some, None, refl, subst}
+use Rattle.std.proofs.Common.{◌≡◌, ℕ, suc, List, [], ◌∷◌, ◌++◌, Option, Some, None, refl, subst}
 use Rattle.guard_syntax.specs.Named.{Named}
 use Rattle.guard_syntax.specs.Syntax.{Body, Lets, Let, Conds, OptConds, Disjs, Disj, Parts, Part, Query, Steps, Step, Expr, OptExpr, Exprs, Rule, File, body, no_lets, more_lets, assign, conds, no_conds, with_conds, no_disjs, more_disjs, disj, no_parts, more_parts, block, guarded, kinds, test, refer, call, query, no_steps, more_steps, this, var, key, index, every, items, splice, filter, keys, literal, function, asked, found, no_expr, with_expr, no_exprs, more_exprs}
 use Rattle.guard_syntax.specs.declared.function.Function.{Function}
@@ -8,13 +8,10 @@ use Rattle.rule_names.specs.Duplicates.{duplicates}
 use Rattle.rule_names.specs.WellNamed.{WellNamed}
 use Rattle.rule_names.specs.Pieces.{Piece, OfExpr, Sited, pieces_body, pieces_lets, pieces_let, pieces_conds, pieces_opt_conds, pieces_disjs, pieces_disj, pieces_parts, pieces_part, pieces_query, pieces_steps, pieces_step, pieces_expr, pieces_opt_expr, pieces_exprs, pieces_rule, pieces_rules, pieces_file}
 use Rattle.rule_names.specs.Scopes.{Given, given_file}
-use Rattle.rule_names.specs.Uses.{function_named, place_of, wrong, wrong_body, wrong_conds, wrong_disj, wrong_disjs, wrong_expr, wrong_exprs, wrong_function, wrong_let, wrong_lets, wrong_opt_conds, wrong_opt_expr, wrong_part, wrong_parts, wrong_query, wrong_rule, wrong_rules, wrong_step, wrong_steps, wrong_uses}
+use Rattle.rule_names.specs.Uses.{function_named, place_of, wrong_body, wrong_conds, wrong_disj, wrong_disjs, wrong_expr, wrong_exprs, wrong_function, wrong_let, wrong_lets, wrong_opt_conds, wrong_opt_expr, wrong_part, wrong_parts, wrong_query, wrong_rule, wrong_rules, wrong_step, wrong_steps, wrong_uses}
 use Rattle.rule_names.specs.code.Within.{StandsIn}
 use Rattle.rule_names.proofs.Shallow.{neither, none-first}
-
-none-both : {A : Type 0} (xs ys : List A) → xs ++ ys ≡ [] → (xs ≡ []) × (ys ≡ [])
-none-both [] ys none = (refl, none)
-none-both (x ∷ xs) ys none = absurd cc
+use Rattle.clause_eval.proofs.Elements.{none-both}
 
 module _ (rules : List Rule) (places : List ℕ) where
   -- nothing is the matter with a call of a function

@@ -1,5 +1,5 @@
 -- Heights: of a part behind another that is no deeper, of any part whose load is less, and of a later step; and what falls from one function to the next.
-use Rattle.std.proofs.Common.{◌≡◌, ℕ, zero, suc, ◌+◌, ◌*◌, ◌-◌, ◌<◌, ◌≤◌, sym, ap, subst, arith, mul-le-mul_right, List, length, Option, Some, None}
+use Rattle.std.proofs.Common.{◌≡◌, ℕ, suc, ◌+◌, ◌*◌, ◌-◌, ◌<◌, ◌≤◌, sym, subst, arith, mul-le-mul_right, length, Option, Some, None}
 use Rattle.guard_syntax.specs.Syntax.{File}
 use Rattle.rule_names.specs.Pieces.{Piece, OfFile, OfLet, OfRule, OfBody, OfConds, OfDisj, OfPart, OfQuery, OfStep, OfExpr}
 use Rattle.clause_eval.specs.code.Falling.{height, place_of}

@@ -565,7 +565,7 @@ module _ (f : sx.File) (order : AreInOrder f) where
   each-homed before [] are = tt
   each-homed before (h ∷ hs) are = (home-found h.0 h.1 before hs are, each-homed (before ++ h ∷ []) hs (are ∙ sym (append_assoc before (h ∷ []) hs)))
 
-  file-home : home_of f 0 ≡ 0
+  pub file-home : home_of f 0 ≡ 0
   file-home =
       let one : 1 + counts 0 (homes_in f) ≤ 1 = counted-once 0 in
       home-kept 0 (homes_in f) (replicate (length f.places) 0) (omega (arith, one)) ∙ no-home (length f.places)

@@ -10,9 +10,10 @@ mod CallsAdded
 mod CallsAnswered
 mod CandidatesAnswered
 mod Conjoined
+mod Elements
 mod EmptyEngine
 mod EnteredLines
-mod Evaluating
+pub mod Evaluating
 mod Falls
 mod Finished
 mod FrameEnvironments
@@ -26,7 +27,7 @@ mod Insides
 mod KeptTrees
 mod KnownLines
 mod Lower
-mod MadeTrees
+pub mod MadeTrees
 mod Named
 mod NamesAnswered
 mod NamesFall
@@ -42,11 +43,12 @@ mod RowsAnswered
 mod RowsInTurn
 mod RowsListed
 mod RowsRead
+mod RulesAnswered
+pub mod RulesJudged
 mod SaidInOrder
 mod SaidLater
-mod SaidStays
-mod Shaped
-mod SiteTables
+pub mod SaidStays
+pub mod Shaped
 mod SitesOwn
 mod SitesWithin
 mod Standing

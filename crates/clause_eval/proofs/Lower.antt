@@ -1,6 +1,6 @@
 -- What is evaluated for a part is lower than it: a part in it, in the same frame or in one that was entered for it; a part whose load is less, in any frame; and an earlier step
 -- of a query. The one state is that of the part, the other a later one.
-use Rattle.std.proofs.Common.{◌≡◌, ℕ, suc, ◌+◌, ◌-◌, ◌<◌, ◌≤◌, Bool, sym, ap, ◌∙◌, inl, inr, arith, List, length, Option, Some, option_and_then}
+use Rattle.std.proofs.Common.{◌≡◌, ℕ, suc, ◌+◌, ◌-◌, ◌<◌, ◌≤◌, Bool, sym, ap, ◌∙◌, arith, List, length, Option, Some, option_and_then}
 use Rattle.guard_syntax.specs.Named.{Named}
 use Rattle.guard_syntax.specs.Syntax.{Body, Conds, Exprs, File, Query, Step, call, filter}
 use Rattle.guard_syntax.specs.declared.row.Ref.{Ref}

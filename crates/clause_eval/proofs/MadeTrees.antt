@@ -1,6 +1,6 @@
 -- The trees that lines make known are those of answers, each kept at the number of its line: so none is kept at a later number, and rows of an answer that is kept at the
 -- next line are known. By the lines in turn, and the cases of one that follows.
-use Rattle.std.proofs.Common.{◌≡◌, ℕ, zero, suc, ◌+◌, Bool, true, refl, sym, ap, ◌∙◌, subst, inl, inr, arith, List, [], ◌∷◌, ◌++◌, length, length-append, Option, Some, None, slice_get}
+use Rattle.std.proofs.Common.{◌≡◌, ℕ, zero, suc, ◌+◌, true, refl, sym, ap, ◌∙◌, subst, inl, inr, arith, List, [], ◌∷◌, ◌++◌, length, length-append, Option, Some, None, slice_get}
 use Rattle.std.specs.List.{list_all}
 use Rattle.std.proofs.lemmas.Option.{none-some, same_Some}
 use Rattle.evidence_lines.specs.Lines.{line_of}
@@ -11,7 +11,7 @@ use Rattle.evidence_lines.specs.declared.line.Outcome.{Outcome}
 use Rattle.evidence_lines.specs.declared.line.Outcome.TheVariants as says
 use Rattle.evidence_lines.specs.declared.version.Version.{Version}
 use Rattle.evidence_lines.specs.declared.version.Version.TheVariants.{Two}
-use Rattle.guard_syntax.specs.Syntax.{Expr, File, Part, Query, Step, found, function, kinds, literal}
+use Rattle.guard_syntax.specs.Syntax.{Expr, File, Query, Step, found, function, kinds, literal}
 use Rattle.guard_syntax.specs.declared.row.Row.{Row}
 use Rattle.guard_syntax.specs.declared.row.Row.TheVariants.{Found}
 use Rattle.rule_names.specs.Pieces.{OfExpr, OfPart, OfStep, Piece, piece_at}
@@ -68,7 +68,7 @@ follows-called version known lines line more calls counted called follows =
 -- ---- all lines
 
 -- a number for each line
-abbrev IsCalled : (many : ℕ) → StoreModel → Type 0
+abbrev pub IsCalled : (many : ℕ) → StoreModel → Type 0
 IsCalled many known = (calls : List ℕ) × (length calls ≡ many) × (are_called calls known.made ≡ true)
 
 all-called : (version : Version) (known : StoreModel) (calls : List ℕ) (before lines : List Line) (last : StoreModel) → length calls ≡ length before → are_called calls known.made ≡ true
@@ -83,7 +83,7 @@ all-called version known calls before (line ∷ lines) last counted called (more
     (it.0, it.1 ∙ many, it.2)
 
 module _ (s : State) (whole : IsWhole s) where
-  called : IsCalled (length s.lines) s.known
+  pub called : IsCalled (length s.lines) s.known
   called =
       let none : 0 + length s.lines ≡ length s.lines = omega arith in
       subst (λ (n : ℕ). IsCalled n s.known) none (all-called Two (nothing_made s.known.template s.known.file) [] [] s.lines s.known refl refl whole.follow)

@@ -1,12 +1,13 @@
 -- Lines that later ones name: what is named stays named, and how the list of those that are still to be named changes, by where a line stands among those before and those behind.
-use Rattle.std.proofs.Common.{◌≡◌, ◌⊎◌, ◌≤◌, ◌<◌, ℕ, zero, suc, subst, inl, inr, arith, List, [], ◌∷◌, ◌++◌, length, length-append, Some, Contains}
+use Rattle.std.proofs.Common.{◌≡◌, ◌⊎◌, ◌≤◌, ◌<◌, ℕ, suc, subst, inl, inr, arith, List, [], ◌∷◌, ◌++◌, length, length-append, Some, Contains}
 use Rattle.std.proofs.lemmas.Bool.{cases_lt}
 use Rattle.std.proofs.lemmas.List.Elements.{Contains-append_cases, Contains-append_left, Contains-append_right}
 use Rattle.evidence_lines.specs.Lines.{line_of}
 use Rattle.evidence_lines.specs.declared.line.Line.{Line}
 use Rattle.evidence_lines.specs.declared.line.LineKind.TheVariants as kind
-use Rattle.evidence_rules.specs.code.Lean.{LineNames}
+use Rattle.evidence_rules.specs.Lean.{LineNames}
 use Rattle.clause_eval.specs.code.Leaning.{AreNamedBut, IsNamed}
+use Rattle.clause_eval.proofs.Elements.{one-among}
 use Rattle.clause_eval.proofs.SaidStays.{line-pushed, line-within, line_of-stays}
 
 -- ---- one line
@@ -22,10 +23,6 @@ IsNamed-pushed lines line number within names = (suc (length lines), line, omega
 
 only-this : (m n : ℕ) → m ≡ n → Contains (m ∷ []) n
 only-this m n same = (0, omega arith, same)
-
-this-only : (m n : ℕ) → Contains (m ∷ []) n → m ≡ n
-this-only m n (zero, within, is) = is
-this-only m n (suc k, within, is) = absurd (omega (arith, within))
 
 -- ---- lines that are named but for some
 
@@ -53,7 +50,7 @@ but-behind b lines early but old are = but-others b lines (early ++ but) but are
     ]
 
 pub but-first : (b : ℕ) (lines : List Line) (number : ℕ) (but : List ℕ) → number ≤ b → AreNamedBut b lines (number ∷ but) → AreNamedBut b lines but
-but-first b lines number but low are = but-behind b lines (number ∷ []) but (λ n among. subst (λ (m : ℕ). m ≤ b) (this-only number n among) low) are
+but-first b lines number but low are = but-behind b lines (number ∷ []) but (λ n among. subst (λ (m : ℕ). m ≤ b) (one-among number n among) low) are
 
 -- behind more lines, fewer are asked for
 pub named-behind : (b c : ℕ) (lines : List Line) (but : List ℕ) → b ≤ c → AreNamedBut b lines but → AreNamedBut c lines but

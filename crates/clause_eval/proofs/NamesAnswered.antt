@@ -1,12 +1,12 @@
 -- What the use of a variable answers, by the name that it means: the expression of a let, what a step captures, or an argument of the call whose frame the scope's frame is.
-use Rattle.std.proofs.Common.{◌≡◌, ℕ, zero, suc, ◌++◌, ◌*◌, ◌<◌, ◌≤◌, refl, sym, ap, ◌∙◌, subst, inl, inr, arith, slice_get, List, [], ◌∷◌, length, get_or, map, Contains, Option, Some, None, option_and_then, option_map}
+use Rattle.std.proofs.Common.{◌≡◌, ℕ, zero, suc, ◌++◌, ◌*◌, ◌<◌, ◌≤◌, refl, sym, ap, ◌∙◌, subst, inl, inr, arith, slice_get, List, [], ◌∷◌, length, get_or, map, Option, Some, None, option_and_then, option_map}
 use Rattle.std.specs.Option.{option_map_or}
 use Rattle.std.specs.Prelude.{IsSome}
 use Rattle.std.proofs.lemmas.Option.{none-some, same_Some}
 use Rattle.evidence_lines.specs.declared.line.Line.{Line}
 use Rattle.evidence_lines.specs.declared.line.LineKind.TheVariants as kind
 use Rattle.evidence_lines.specs.declared.line.Outcome.TheVariants as says
-use Rattle.guard_syntax.specs.Syntax.{Expr, Exprs, File, Query, Step, call, more_exprs, no_exprs, splice, var}
+use Rattle.guard_syntax.specs.Syntax.{Expr, Exprs, File, Query, Step, splice, var}
 use Rattle.guard_syntax.specs.code.Seen.{expr_list, see_expr, see_query, see_step, step_list}
 use Rattle.guard_syntax.specs.declared.row.Ref.{Ref}
 use Rattle.guard_syntax.specs.declared.row.Row.{Row}
@@ -27,13 +27,12 @@ use Rattle.rule_meaning.specs.Places.{step_in, steps_in}
 use Rattle.evidence_rules.specs.CitedLines.{GivesPiece, IsLine, args_at}
 use Rattle.scope_frames.specs.code.Cells.{cell_by, cell_of, slot_of}
 use Rattle.scope_frames.specs.code.Frames.{outwards}
-use Rattle.scope_frames.specs.code.Scoping.{Captures, IsValue, up_of}
+use Rattle.scope_frames.specs.code.Scoping.{up_of}
 use Rattle.scope_frames.specs.declared.cell.Cell.{Cell}
-use Rattle.scope_frames.specs.declared.cell.Slot.{Slot}
 use Rattle.scope_frames.specs.declared.cell.Slot.TheVariants as slot
 use Rattle.scope_frames.specs.declared.frame.Frame.{Frame}
 use Rattle.clause_eval.specs.code.Adding.{Added, line_for}
-use Rattle.clause_eval.specs.code.Answers.{Answers, AnswersArgument, AnswersCapture, AnswersExpr, AnswersPiece, AnswersQuery, AnswersStepAt, AnswersVariable, GivesStepAt, IsCapturing, IsLetValue, IsParameter, IsUse, StandsIn, StandsUpTo, above, argument_bound, bound_of}
+use Rattle.clause_eval.specs.code.Answers.{AnswersArgument, AnswersCapture, AnswersExpr, AnswersPiece, AnswersQuery, AnswersStepAt, AnswersVariable, GivesStepAt, IsCapturing, IsLetValue, IsParameter, IsUse, StandsIn, StandsUpTo, above, argument_bound, bound_of}
 use Rattle.clause_eval.specs.code.Evaluated.{Evaluates}
 use Rattle.clause_eval.specs.code.Falling.{above_step, height_at, height_beside}
 use Rattle.clause_eval.specs.code.Inside.{expr_sited, query_sited}

@@ -1,5 +1,5 @@
 -- The frame of a call as it is read, and the arguments of the call.
-use Rattle.std.proofs.Common.{◌≡◌, ℕ, zero, suc, Bool, refl, sym, ap, ◌∙◌, slice_get, List, [], ◌∷◌, map, Option, Some, None, Bor, get_or}
+use Rattle.std.proofs.Common.{◌≡◌, ℕ, zero, suc, Bool, sym, ap, ◌∙◌, slice_get, List, [], ◌∷◌, map, Option, Some, None, Bor, get_or}
 use Rattle.std.specs.Option.{option_and_then}
 use Rattle.std.specs.declared.alloc.Global.{Global}
 use Rattle.std.specs.declared.vec.Vec.{Vec}

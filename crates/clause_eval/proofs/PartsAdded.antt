@@ -1,5 +1,5 @@
 -- The lines of tests, of references and of the rows of type blocks that may be added: what they are made of is there and known, and each follows.
-use Rattle.std.proofs.Common.{◌≡◌, ◌<◌, ◌≤◌, ◌⊎◌, ℕ, suc, Bool, true, refl, sym, ap, ◌∙◌, subst, arith, slice_get, List, [], ◌∷◌, length, Contains, Option, Some, None, is_some, option_and_then, option_map, Result, Ok, Err}
+use Rattle.std.proofs.Common.{◌≡◌, ◌<◌, ℕ, suc, Bool, true, refl, sym, ap, ◌∙◌, subst, arith, slice_get, List, [], ◌∷◌, length, Option, Some, None, is_some, option_and_then, option_map, Result, Ok, Err}
 use Rattle.std.specs.Prelude.{IfOk, OnOk}
 use Rattle.std.specs.List.{list_all}
 use Rattle.std.specs.declared.alloc.AllocError.{AllocError}
@@ -7,7 +7,7 @@ use Rattle.std.proofs.lemmas.Option.{same_Some}
 use Rattle.evidence_lines.specs.declared.line.LineKind.{LineKind}
 use Rattle.evidence_lines.specs.declared.line.LineKind.TheVariants as kind
 use Rattle.evidence_lines.specs.declared.line.Outcome.TheVariants as says
-use Rattle.guard_syntax.specs.Syntax.{Body, OptConds, Part, kinds, refer, test}
+use Rattle.guard_syntax.specs.Syntax.{Body, OptConds, Part, refer, test}
 use Rattle.guard_syntax.specs.declared.row.Ref.{Ref}
 use Rattle.guard_syntax.specs.declared.row.Row.{Row}
 use Rattle.guard_syntax.specs.declared.row.Verdict.{Verdict}
@@ -22,14 +22,15 @@ use Rattle.rule_meaning.specs.Verdicts.{referred}
 use Rattle.evidence_rules.specs.CitedLines.{IsLine}
 use Rattle.scope_frames.specs.declared.frame.Frame.{Frame}
 use Rattle.clause_eval.specs.code.Adding.{Added, Adds}
-use Rattle.clause_eval.specs.code.Answers.{Answers, AnswersVerdict, HasRows, HasSides, IsKinds, IsReference, IsSomeTest, IsTestVerdict, SaysRows, StandsIn, above, both_cites}
+use Rattle.clause_eval.specs.code.Answers.{Answers, AnswersVerdict, HasRows, HasSides, IsKinds, IsReference, IsSomeTest, IsTestVerdict, SaysRows, above, both_cites}
 use Rattle.clause_eval.specs.code.Evaluated.{Evaluates}
-use Rattle.clause_eval.specs.code.Falling.{above_step, height_at, height_beside}
+use Rattle.clause_eval.specs.code.Falling.{above_step, height_at}
 use Rattle.clause_eval.specs.code.Kinds.{kind_beside, own_kind}
 use Rattle.clause_eval.specs.code.States.{IsWhole, State}
 use Rattle.clause_eval.proofs.AddedLines.{not-own}
 use Rattle.clause_eval.proofs.AddsLines.{adds-reference, adds-test, adds-types}
 use Rattle.clause_eval.proofs.Callees.{rule-there}
+use Rattle.clause_eval.proofs.Elements.{none-among}
 use Rattle.clause_eval.proofs.Evaluating.{Evaluates-beside, Evaluates-found, Evaluates-none}
 use Rattle.clause_eval.proofs.Finished.{added-frame, added-line, leaf-answer, line-there}
 use Rattle.clause_eval.proofs.KnownLines.{query-known, right-known}
@@ -153,9 +154,6 @@ module _ (s : State) (whole : IsWhole s) (frame site : ℕ) (stands : IsTypeBloc
     framed = added-frame s c frame site number kind.Types cites (says.Rows rows) added;
     says = (rows, added-line s c frame site number kind.Types cites (says.Rows rows) added);
   }
-    where
-      none-among : (n : ℕ) → Contains [] n → ⊥
-      none-among n (k, within, is) = absurd (omega (arith, within))
 
   -- the lines of parts stay
   pub types-parts : (c : State) (r : Result ℕ AllocError) (cites : List ℕ) (rows : List Row)

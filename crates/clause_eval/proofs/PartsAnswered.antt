@@ -1,7 +1,6 @@
 -- Lines of parts by their kinds: what each asks of the parts in it, what its line asks for behind theirs, and what is answered then.
-use Rattle.std.proofs.Common.{◌≡◌, ◌<◌, ◌≤◌, ◌+◌, ℕ, suc, Bool, true, false, refl, sym, ap, ◌∙◌, subst, arith, slice_get, List, [], ◌∷◌, ◌++◌, length, map, Contains, Option, Some, None, option_map}
+use Rattle.std.proofs.Common.{◌≡◌, ◌<◌, ◌≤◌, ◌+◌, ℕ, Bool, true, false, refl, sym, ap, ◌∙◌, subst, arith, slice_get, List, [], ◌∷◌, ◌++◌, length, Contains, Some, None, option_map}
 use Rattle.std.specs.List.{list_all}
-use Rattle.std.specs.Prelude.{IsSome}
 use Rattle.std.proofs.lemmas.Option.{same_Some}
 use Rattle.evidence_lines.specs.declared.line.Line.{Line}
 use Rattle.evidence_lines.specs.declared.line.LineKind.{LineKind}
@@ -9,13 +8,13 @@ use Rattle.evidence_lines.specs.declared.line.LineKind.TheVariants as kind
 use Rattle.evidence_lines.specs.declared.line.Outcome.TheVariants as says
 use Rattle.evidence_lines.specs.declared.version.Version.TheVariants.{Two}
 use Rattle.guard_syntax.specs.Syntax as sx
-use Rattle.guard_syntax.specs.Syntax.{File, block, call, guarded, kinds, no_conds, test, with_conds, no_expr, with_expr}
+use Rattle.guard_syntax.specs.Syntax.{File, block, guarded, kinds, no_conds, with_conds}
 use Rattle.guard_syntax.specs.declared.row.Ref.{Ref}
 use Rattle.guard_syntax.specs.declared.row.Row.{Row}
 use Rattle.guard_syntax.specs.declared.row.Verdict.{Verdict}
 use Rattle.guard_syntax.specs.declared.row.Verdict.TheVariants.{Skip}
 use Rattle.rule_names.specs.EnclosingScopes.{home_of}
-use Rattle.rule_names.specs.Pieces.{AreInOrder, OfBody, OfPart, Sited, piece_at}
+use Rattle.rule_names.specs.Pieces.{AreInOrder, OfPart, Sited, piece_at}
 use Rattle.rule_names.specs.ReferenceGraph.{part_site}
 use Rattle.rule_names.specs.Uses.{query_site}
 use Rattle.rule_meaning.specs.StoreModel.{is_known}
@@ -41,9 +40,9 @@ use Rattle.clause_eval.proofs.InTurn.{SaidFor, said-next}
 use Rattle.clause_eval.proofs.Insides.{insides}
 use Rattle.clause_eval.proofs.KnownLines.{query-known, rows-known}
 use Rattle.clause_eval.proofs.Ranks.{rank-on, rank_in}
-use Rattle.clause_eval.proofs.SaidLater.{line-later, query-later, verdict-later}
+use Rattle.clause_eval.proofs.SaidLater.{line-later, query-later}
 use Rattle.clause_eval.proofs.VariablesSaid.{framed-later}
-use Rattle.clause_eval.proofs.VerdictsAnswered.{frame-known, home-still, judged-answer, kind-still, new-still, part-asked, part-owed, part-stands, part-under, stands-still}
+use Rattle.clause_eval.proofs.VerdictsAnswered.{frame-known, home-still, judged-answer, kind-still, new-still, part-asked, part-under, stands-still}
 
 -- ---- one evaluated, and lines said for one behind it
 

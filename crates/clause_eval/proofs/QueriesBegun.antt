@@ -1,5 +1,5 @@
 -- Each query that stands in a file has a first step, which is a start, where all queries of the file begin: by the syntax of the file.
-use Rattle.std.proofs.Common.{◌≡◌, ℕ, zero, suc, ◌<◌, subst, inl, inr, arith, List, [], ◌∷◌, ◌++◌, length, Contains, Some, refl}
+use Rattle.std.proofs.Common.{◌≡◌, ℕ, suc, subst, inl, inr, arith, List, [], ◌∷◌, ◌++◌, Contains, Some, refl}
 use Rattle.std.specs.List.{flat_map}
 use Rattle.std.proofs.lemmas.List.Elements.{All-contains, Contains-append_left, Contains-append_right, Contains-get_or}
 use Rattle.guard_syntax.specs.Syntax.{Body, Conds, Disj, Disjs, Expr, Exprs, File, Let, Lets, OptConds, OptExpr, Part, Parts, Query, Rule, Step, Steps, asked, assign, block, body, call, conds, disj, every, filter, found, function, guarded, index, items, key, keys, kinds, literal, more_disjs, more_exprs, more_lets, more_parts, more_steps, no_conds, no_disjs, no_expr, no_exprs, no_lets, no_parts, no_steps, query, refer, splice, test, this, var, with_conds, with_expr}

@@ -1,5 +1,5 @@
 -- The ranks of what is evaluated for a part: what is lower has a lesser rank, and where a function hands the same part on, the one that it calls.
-use Rattle.std.proofs.Common.{◌≡◌, ℕ, suc, ◌*◌, ◌<◌, ◌≤◌, arith}
+use Rattle.std.proofs.Common.{◌≡◌, ℕ, ◌<◌, ◌≤◌, arith}
 use Rattle.std.specs.Option.{option_map_or}
 use Rattle.guard_syntax.specs.Syntax.{Query}
 use Rattle.rule_names.specs.ReferenceGraph.{step_site}

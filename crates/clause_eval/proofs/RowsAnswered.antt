@@ -1,15 +1,14 @@
 -- What expressions, calls of functions and queries answer, by what is evaluated for them.
-use Rattle.std.proofs.Common.{◌≡◌, ℕ, zero, suc, ◌+◌, ◌<◌, ◌≤◌, Bool, true, false, refl, sym, ap, ap₂, ◌∙◌, subst, arith, List, [], ◌∷◌, length, map, take, get_or, filter, Some, None, ◌&&◌, ◌++◌, if◌then◌else◌}
+use Rattle.std.proofs.Common.{◌≡◌, ℕ, zero, suc, ◌+◌, ◌<◌, ◌≤◌, Bool, true, false, refl, sym, ap, ◌∙◌, subst, arith, List, [], ◌∷◌, length, map, take, get_or, filter, Some, None, ◌&&◌, ◌++◌, if◌then◌else◌}
 use Rattle.std.specs.List.{list_all}
 use Rattle.std.specs.declared.alloc.Global.{Global}
 use Rattle.std.specs.declared.vec.Vec.{Vec}
 use Rattle.std.proofs.lemmas.Bool.{and_from}
 use Rattle.std.proofs.lemmas.List.{take_all}
 use Rattle.evidence_lines.specs.declared.line.Line.{Line}
-use Rattle.evidence_lines.specs.declared.line.LineKind.{LineKind}
 use Rattle.evidence_lines.specs.declared.line.LineKind.TheVariants as kind
 use Rattle.evidence_lines.specs.declared.line.Outcome.TheVariants as says
-use Rattle.guard_syntax.specs.Syntax.{Expr, Exprs, File, Query, Step, Steps, found, function, more_steps, no_steps, query}
+use Rattle.guard_syntax.specs.Syntax.{Expr, File, Query, Step, found, function, query}
 use Rattle.guard_syntax.specs.code.Queries.{Begins}
 use Rattle.guard_syntax.specs.code.Seen.{expr_list, see_expr, see_query, see_step, step_list}
 use Rattle.guard_syntax.specs.declared.row.Row.{Row}
@@ -25,17 +24,16 @@ use Rattle.rule_names.proofs.Shapes.{function-seen, query-seen}
 use Rattle.rule_meaning.specs.Places.{step_in, steps_in}
 use Rattle.rule_meaning.specs.StoreModel.{is_known}
 use Rattle.rule_meaning.specs.Verdicts.{is_found}
-use Rattle.evidence_rules.specs.CitedLines.{GiveArgs, GivesExpr, GivesQuery, GivesStep, IsLine, last_step}
+use Rattle.evidence_rules.specs.CitedLines.{GiveArgs, GivesQuery, GivesStep, last_step}
 use Rattle.clause_eval.specs.code.Adding.{Added, Adds}
-use Rattle.clause_eval.specs.code.Answers.{Answers, AnswersArgs, AnswersExpr, AnswersQuery, AnswersRows, AnswersStepAt, AreGiven, IsCall, SaysRows, StandsIn, StandsUpTo, above}
-use Rattle.clause_eval.specs.code.Evaluated.{Evaluates}
+use Rattle.clause_eval.specs.code.Answers.{AnswersArgs, AnswersExpr, AnswersQuery, AnswersRows, AnswersStepAt, AreGiven, IsCall, SaysRows, StandsIn, StandsUpTo, above}
 use Rattle.clause_eval.specs.code.Falling.{height_at}
-use Rattle.clause_eval.specs.code.Inside.{IsInside, expr_sited, exprs_sited, query_sited}
+use Rattle.clause_eval.specs.code.Inside.{IsInside, expr_sited, query_sited}
 use Rattle.clause_eval.specs.code.States.{IsWhole, State}
 use Rattle.clause_eval.proofs.AddsLines.{adds-found}
 use Rattle.clause_eval.proofs.Evaluating.{Evaluates-none, Evaluates-under}
 use Rattle.clause_eval.proofs.Finished.{added-answer, line-there, rows-told}
-use Rattle.clause_eval.proofs.InPart.{absent-still, all-cited, in-frame, lower-first, lower-inside, stands-first, stands-inside, stands-still}
+use Rattle.clause_eval.proofs.InPart.{absent-still, all-cited, lower-first, lower-inside, stands-first, stands-inside, stands-still}
 use Rattle.clause_eval.proofs.InTurn.{SaidFor, args-next}
 use Rattle.clause_eval.proofs.Insides.{expr-at, insides}
 use Rattle.clause_eval.proofs.KnownLines.{query-known}

@@ -1,8 +1,8 @@
 -- What gives the rows of a part is a line that says them, by the cases of what gives.
-use Rattle.std.proofs.Common.{◌≡◌, ℕ, zero, suc, refl, sym, ap, ◌∙◌, subst, slice_get, List, [], ◌∷◌, Option, Some, None}
+use Rattle.std.proofs.Common.{◌≡◌, ℕ, zero, suc, refl, sym, ◌∙◌, subst, slice_get, List, [], ◌∷◌, Option, Some, None}
 use Rattle.std.proofs.lemmas.Option.{none-some, same_Some}
 use Rattle.evidence_lines.specs.declared.line.Line.{Line}
-use Rattle.guard_syntax.specs.Syntax.{Expr, Exprs, File, OptExpr, Query, Step, asked, every, filter, found, function, index, items, key, keys, literal, more_exprs, no_expr, no_exprs, query, splice, this, var, with_expr}
+use Rattle.guard_syntax.specs.Syntax.{Expr, Exprs, File, OptExpr, Query, Step, asked, every, found, function, index, items, key, keys, literal, more_exprs, no_expr, no_exprs, query, splice, this, var, with_expr}
 use Rattle.guard_syntax.specs.declared.row.Row.{Row}
 use Rattle.rule_names.specs.declared.bind.Bind.{Bind}
 use Rattle.rule_names.specs.declared.bind.Bind.TheVariants.{Value, Capture, Param}

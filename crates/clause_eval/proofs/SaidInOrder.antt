@@ -1,19 +1,16 @@
 -- Lines that say verdicts in order: one more of them, all where none decides, and the first that decides, behind which no other is cited. By the lists in turn.
-use Rattle.std.proofs.Common.{◌≡◌, ◌⊎◌, ℕ, Bool, true, false, refl, sym, ap, ◌∙◌, subst, List, [], ◌∷◌, ◌++◌, Option, Some, None, true≢false}
-use Rattle.std.specs.Prelude.{◌||◌}
-use Rattle.std.specs.List.{list_any}
+use Rattle.std.proofs.Common.{◌≡◌, ℕ, Bool, true, false, refl, sym, subst, List, [], ◌∷◌, ◌++◌, Option, None}
 use Rattle.evidence_lines.specs.declared.line.Line.{Line}
 use Rattle.evidence_lines.specs.declared.line.LineKind.TheVariants as kind
-use Rattle.guard_syntax.specs.Syntax.{Disj, Part, disj, more_disjs, more_parts, no_disjs, no_parts}
+use Rattle.guard_syntax.specs.Syntax.{Disj, Part, disj}
 use Rattle.guard_syntax.specs.code.Seen.{disj_list, part_list}
 use Rattle.guard_syntax.specs.declared.row.Ref.{Ref}
 use Rattle.guard_syntax.specs.declared.row.Row.{Row}
 use Rattle.guard_syntax.specs.declared.row.Row.TheVariants.{Found, Missing, Unmade}
 use Rattle.guard_syntax.specs.declared.row.Verdict.{Verdict}
-use Rattle.guard_syntax.specs.declared.row.Verdict.TheVariants.{Fail}
 use Rattle.rule_names.specs.ReferenceGraph.{disj_site, part_site}
 use Rattle.rule_meaning.specs.StoreModel.{StoreModel}
-use Rattle.evidence_rules.specs.Follows.{Behind, SayDisjs, SayEach, SayParts, SayRows, SaysVerdict, is_stop, kind_of_part, missing_fails}
+use Rattle.evidence_rules.specs.Follows.{Behind, SayDisjs, SayEach, SayParts, SayRows, SaysVerdict, is_stop, kind_of_part}
 
 -- ---- no verdict decides
 

@@ -1,5 +1,5 @@
 -- Lines that follow have the fields of their kinds, so what is found by a site says rows or a verdict, as its kind says.
-use Rattle.std.proofs.Common.{◌≡◌, ℕ, zero, suc, refl, sym, ap, ◌∙◌, subst, slice_get, List, [], ◌∷◌, ◌++◌, Option, Some, None}
+use Rattle.std.proofs.Common.{◌≡◌, ℕ, zero, suc, refl, sym, ap, ◌∙◌, subst, slice_get, List, [], ◌∷◌, ◌++◌, Some}
 use Rattle.std.proofs.lemmas.Option.{same_Some, none-some}
 use Rattle.evidence_lines.specs.Lines.{line_of}
 use Rattle.evidence_lines.specs.Shapes.{HasShape, sort_of, sort_said}
@@ -8,13 +8,12 @@ use Rattle.evidence_lines.specs.declared.line.LineKind.{LineKind}
 use Rattle.evidence_lines.specs.declared.line.LineKind.TheVariants as kind
 use Rattle.evidence_lines.specs.declared.line.Outcome.{Outcome}
 use Rattle.evidence_lines.specs.declared.line.Outcome.TheVariants as says
-use Rattle.evidence_lines.specs.declared.line.Sort.{Sort}
 use Rattle.evidence_lines.specs.declared.line.Sort.TheVariants as sort
 use Rattle.evidence_lines.specs.declared.version.Version.{Version}
 use Rattle.evidence_lines.specs.declared.version.Version.TheVariants.{Two}
 use Rattle.guard_syntax.specs.declared.row.Row.{Row}
 use Rattle.guard_syntax.specs.declared.row.Verdict.{Verdict}
-use Rattle.rule_names.specs.Pieces.{Piece, piece_at}
+use Rattle.rule_names.specs.Pieces.{piece_at}
 use Rattle.rule_meaning.specs.Seeing.{grown}
 use Rattle.rule_meaning.specs.StoreModel.{StoreModel}
 use Rattle.evidence_rules.specs.CitedLines.{IsLine}

@@ -1,6 +1,6 @@
 -- The line of a step that may be added: what its rows are made of is there and known, and its line follows.
-use Rattle.std.proofs.Common.{◌≡◌, ◌<◌, ℕ, zero, suc, Bool, true, false, refl, sym, ap, ap₂, ◌∙◌, subst, slice_get, List, [], ◌∷◌, ◌++◌, length, Option, Some, None, is_some, option_and_then, option_map}
-use Rattle.std.specs.Prelude.{IsSome, not}
+use Rattle.std.proofs.Common.{◌≡◌, ◌<◌, ℕ, zero, suc, true, false, refl, sym, ap, ap₂, ◌∙◌, subst, slice_get, List, [], ◌∷◌, ◌++◌, length, Option, Some, None, is_some, option_and_then, option_map}
+use Rattle.std.specs.Prelude.{not}
 use Rattle.std.specs.List.{flat_map, list_all}
 use Rattle.std.specs.Option.{option_map_or}
 use Rattle.std.proofs.lemmas.Bool.{true≢false}
@@ -8,24 +8,23 @@ use Rattle.std.proofs.lemmas.Option.{same_Some, slice_get_within}
 use Rattle.evidence_lines.specs.declared.line.LineKind.{LineKind}
 use Rattle.evidence_lines.specs.declared.line.LineKind.TheVariants as kind
 use Rattle.evidence_lines.specs.declared.line.Outcome.TheVariants as says
-use Rattle.guard_syntax.specs.Named.{Named}
-use Rattle.guard_syntax.specs.Syntax.{Conds, File, Query, Step, every, filter, index, items, key, keys, splice, this, var}
+use Rattle.guard_syntax.specs.Syntax.{File, Query, Step, every, filter, index, items, key, keys, splice, this, var}
 use Rattle.guard_syntax.specs.declared.row.Ref.{Ref}
 use Rattle.guard_syntax.specs.declared.row.Row.{Row}
 use Rattle.guard_syntax.specs.declared.row.Verdict.{Verdict}
 use Rattle.rule_names.specs.EnclosingScopes.{home_of}
-use Rattle.rule_names.specs.Pieces.{OfStep, Piece, piece_at}
+use Rattle.rule_names.specs.Pieces.{OfStep, piece_at}
 use Rattle.rule_meaning.specs.Keys.{captured_row}
-use Rattle.rule_meaning.specs.Places.{IsFilterAt, IsStartAt, IsStepAt, Placed, candidates_at, is_after_key, is_filter, is_first, placed_of, rows_at_step, step_at, step_candidates, step_in, steps_in}
+use Rattle.rule_meaning.specs.Places.{IsStartAt, IsStepAt, Placed, candidates_at, is_after_key, is_filter, is_first, placed_of, rows_at_step, step_at, step_candidates, step_in, steps_in}
 use Rattle.rule_meaning.specs.StoreModel.{StoreModel, is_known, is_known_ref}
 use Rattle.evidence_rules.specs.CitedLines.{GivesStep}
-use Rattle.evidence_rules.specs.Follows.{GivesBefore, IsLater, SayEach, SaysCandidate}
+use Rattle.evidence_rules.specs.Follows.{GivesBefore, IsLater, SayEach}
 use Rattle.scope_frames.specs.code.Frames.{StandsFor}
 use Rattle.scope_frames.specs.code.Scoping.{Captures}
 use Rattle.scope_frames.specs.declared.frame.Frame.{Frame}
 use Rattle.scope_frames.proofs.EnteredFrames.{has-frame}
 use Rattle.clause_eval.specs.code.Adding.{Adds}
-use Rattle.clause_eval.specs.code.Answers.{AreJudged, GivesRowsBefore, GivesStepAt, HasRows, IsCapturing, IsStepWith, SaysRows, StandsIn, both_cites}
+use Rattle.clause_eval.specs.code.Answers.{AreJudged, GivesStepAt, HasRows, IsCapturing, IsStepWith, SaysRows, both_cites}
 use Rattle.clause_eval.specs.code.Kinds.{kind_of_step, own_kind}
 use Rattle.clause_eval.specs.code.States.{IsWhole, State}
 use Rattle.clause_eval.proofs.AddsLines.{adds-capture, adds-captured-keys, adds-filter, adds-step}

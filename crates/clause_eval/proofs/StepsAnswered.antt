@@ -1,6 +1,6 @@
 -- What a step answers, by the step before it and by what it names further: a filter, a key filter, a variable, a splice, and any other.
-use Rattle.std.proofs.Common.{◌≡◌, ℕ, zero, suc, ◌⊎◌, ◌<◌, ◌≤◌, Bool, true, false, refl, sym, ap, ◌∙◌, subst, inl, inr, arith, rules, slice_get, List, [], ◌∷◌, ◌++◌, ◌+◌, length, map, Contains, Option, Some, None, option_map, if◌then◌else◌, length-append, unwrap_or}
-use Rattle.std.specs.List.{flat_map, list_all}
+use Rattle.std.proofs.Common.{◌≡◌, ℕ, zero, suc, ◌<◌, ◌≤◌, Bool, true, false, refl, sym, ap, ◌∙◌, subst, inl, inr, arith, rules, List, [], ◌∷◌, ◌++◌, ◌+◌, length, map, Contains, Option, Some, None, option_map, if◌then◌else◌, length-append, unwrap_or}
+use Rattle.std.specs.List.{list_all}
 use Rattle.std.specs.Option.{option_map_or}
 use Rattle.std.specs.Prelude.{is_some, not, option_and_then}
 use Rattle.std.proofs.lemmas.Bool.{and_from, and_parts}
@@ -13,7 +13,7 @@ use Rattle.evidence_lines.specs.declared.line.Outcome.{Outcome}
 use Rattle.evidence_lines.specs.declared.line.Outcome.TheVariants as says
 use Rattle.guard_syntax.specs.Named.{Named}
 use Rattle.guard_syntax.specs.Syntax.{Conds, Expr, File, Query, Step, every, filter, index, items, key, keys, splice, this, var}
-use Rattle.guard_syntax.specs.code.Queries.{Begins, IsStart, QueriesBegin}
+use Rattle.guard_syntax.specs.code.Queries.{IsStart, QueriesBegin}
 use Rattle.guard_syntax.specs.code.Seen.{see_conds, see_expr, see_form, see_query, see_step}
 use Rattle.guard_syntax.specs.declared.row.Ref.{Ref}
 use Rattle.guard_syntax.specs.declared.row.Row.{Row}
@@ -27,33 +27,32 @@ use Rattle.guard_syntax.specs.declared.syntax.Query as code_query
 use Rattle.guard_syntax.specs.declared.syntax.Step as item
 use Rattle.guard_syntax.specs.declared.syntax.StepForm.{StepForm}
 use Rattle.guard_syntax.specs.declared.syntax.StepForm as form
-use Rattle.rule_names.specs.Depths.{depth_expr, depth_query, depths_of, first_of_query}
+use Rattle.rule_names.specs.Depths.{depths_of}
 use Rattle.rule_names.specs.EnclosingScopes.{home_of}
 use Rattle.rule_names.specs.Pieces.{AreInOrder, OfStep, Piece, Sited, piece_at}
 use Rattle.rule_names.specs.ReferenceGraph.{step_site}
 use Rattle.rule_names.proofs.Shapes.{step-seen}
-use Rattle.rule_meaning.specs.Filters.{candidates_by, candidates_in, candidates_of, row_candidates}
+use Rattle.rule_meaning.specs.Filters.{candidates_by, candidates_in, row_candidates}
 use Rattle.rule_meaning.specs.Places.{IsFilterAt, Placed, candidates_at, is_after_key, is_filter, is_first, placed_of, step_at, step_candidates, step_in, steps_in}
 use Rattle.rule_meaning.specs.Reached.{no_value, node_beside, numbers, value_for}
 use Rattle.rule_meaning.specs.Seeing.{grown}
-use Rattle.rule_meaning.specs.StoreModel.{Made, StoreModel, is_known, is_known_ref, stands_for}
+use Rattle.rule_meaning.specs.StoreModel.{Made, StoreModel, is_known, is_known_ref}
 use Rattle.rule_meaning.specs.Values.{Value}
 use Rattle.query_steps.proofs.SeenGrowth.{known-before, stands-before}
 use Rattle.evidence_rules.specs.CitedLines.{GivesStep, IsLine}
 use Rattle.evidence_rules.specs.Follows.{GivesFurther, SayEach, SaysCandidate}
 use Rattle.clause_eval.specs.code.Adding.{Added, line_for}
-use Rattle.clause_eval.specs.code.Answers.{Answers, AnswersCandidates, AnswersExpr, AnswersFilter, AnswersRows, AnswersStep, AnswersStepBehind, AnswersVariable, AreJudged, FurtherStep, GivesBeforeSite, GivesRowsBefore, GivesStepBefore, IsFilter, IsStepWith, IsUse, LacksStep, SaysRows, StandsIn, StandsUpTo, above, both_cites}
+use Rattle.clause_eval.specs.code.Answers.{Answers, AnswersCandidates, AnswersExpr, AnswersFilter, AnswersStep, AnswersStepBehind, AnswersVariable, AreJudged, FurtherStep, GivesBeforeSite, GivesStepBefore, IsFilter, IsStepWith, IsUse, LacksStep, SaysRows, StandsIn, StandsUpTo, above, both_cites}
 use Rattle.clause_eval.specs.code.Evaluated.{Evaluates}
 use Rattle.clause_eval.specs.code.Falling.{height_at}
-use Rattle.clause_eval.specs.code.Inside.{IsInside, expr_sited, scope_in, scope_in_step}
+use Rattle.clause_eval.specs.code.Inside.{IsInside, expr_sited, scope_in_step}
 use Rattle.clause_eval.specs.code.Kinds.{kind_of_step}
 use Rattle.clause_eval.specs.code.Leaning.{IsNamed}
-use Rattle.clause_eval.specs.code.PartDepths.{depth_in}
 use Rattle.clause_eval.specs.code.States.{Grows, IsWhole, State}
-use Rattle.clause_eval.proofs.Evaluating.{Evaluates-none, Grows-none, same-file}
+use Rattle.clause_eval.proofs.Evaluating.{Grows-none, same-file}
 use Rattle.clause_eval.proofs.Falls.{right-falls}
 use Rattle.clause_eval.proofs.Finished.{added-answer, line-there, rows-told}
-use Rattle.clause_eval.proofs.InPart.{absent-still, all-cited, in-frame, stands-first, stands-still}
+use Rattle.clause_eval.proofs.InPart.{absent-still, in-frame, stands-first, stands-still}
 use Rattle.clause_eval.proofs.Insides.{filter-seen, keys-seen, parts-of-keys, step-own}
 use Rattle.clause_eval.proofs.KnownLines.{step-known}
 use Rattle.clause_eval.proofs.Lower.{shallower-lower}

@@ -1,5 +1,5 @@
 -- Which steps of a query have lines: where one is found, it is the line of that step; and going down one by one, those behind have none.
-use Rattle.std.proofs.Common.{◌≡◌, ℕ, suc, ◌-◌, ◌<◌, ◌≤◌, refl, sym, ap, ◌∙◌, subst, inl, inr, arith, Option, Some, None, option_map}
+use Rattle.std.proofs.Common.{◌≡◌, ℕ, suc, ◌-◌, ◌≤◌, refl, sym, ap, ◌∙◌, subst, inl, inr, arith, Some, None, option_map}
 use Rattle.std.proofs.lemmas.Bool.{cases_lt}
 use Rattle.std.proofs.lemmas.Option.{same_Some}
 use Rattle.evidence_lines.specs.Shapes.{sort_of}
@@ -7,7 +7,7 @@ use Rattle.evidence_lines.specs.declared.line.Sort.TheVariants as sort
 use Rattle.guard_syntax.specs.Syntax.{Query, Step, every, filter, index, items, key, keys, splice, this, var}
 use Rattle.guard_syntax.specs.code.Seen.{see_step}
 use Rattle.guard_syntax.specs.declared.syntax.Step as item
-use Rattle.rule_names.specs.Pieces.{AreInOrder, OfQuery, OfStep, piece_at}
+use Rattle.rule_names.specs.Pieces.{AreInOrder, OfQuery, piece_at}
 use Rattle.rule_names.specs.ReferenceGraph.{step_site}
 use Rattle.rule_names.specs.Uses.{query_site}
 use Rattle.rule_meaning.specs.Places.{step_in, steps_in}

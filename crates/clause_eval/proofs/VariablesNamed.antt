@@ -1,6 +1,6 @@
 -- Each variable that is used in a well-named file means something: by induction over the syntax some scope around its use has the name. Each use has its own site, so the table of
 -- meanings says so there.
-use Rattle.std.proofs.Common.{◌≡◌, ℕ, suc, ◌≤◌, ◌<◌, Bool, true, false, cond, refl, sym, ap, ◌∙◌, subst, arith, true≢false, List, [], ◌∷◌, ◌++◌, length, replicate, nat_eq, Option, Some, None, option_and_then, is_some}
+use Rattle.std.proofs.Common.{◌≡◌, ℕ, suc, ◌≤◌, Bool, true, false, cond, refl, sym, ap, subst, arith, true≢false, List, [], ◌∷◌, ◌++◌, length, replicate, Option, Some, None, option_and_then, is_some}
 use Rattle.std.specs.Prelude.{◌==◌, IsSome, find, option_map, slice_index_or}
 use Rattle.std.specs.Str.{bytes_eq}
 use Rattle.std.proofs.lemmas.Bool.Decides.{nat_tests}
@@ -19,15 +19,12 @@ use Rattle.rule_names.proofs.Parts.{hits, hits-append}
 use Rattle.rule_names.proofs.Shallow.{neither, none-first}
 use Rattle.rule_meaning.specs.Places.{step_in, steps_in}
 use Rattle.scope_frames.proofs.NamesBound.{Each, all-there, each-apart, each-both, inside, same-links, visits, visits-append}
+use Rattle.clause_eval.proofs.Elements.{none-both}
 use Rattle.clause_eval.proofs.Insides.{first-from, rest-from, steps_from}
 
 -- ---- lists
 
 -- nothing is the matter with lists that are joined
-none-both : {A : Type 0} (xs ys : List A) → xs ++ ys ≡ [] → (xs ≡ []) × (ys ≡ [])
-none-both [] ys none = (refl, none)
-none-both (x ∷ xs) ys none = absurd cc
-
 -- what is found at a site is one of the pieces
 pub found-one : (P : Sited → Type 0) (ss : List Sited) (n : ℕ) (p : Piece) → Each P ss → piece_in ss n ≡ Some p → P (n, p)
 found-one P [] n p h e = absurd (none-some p e)

@@ -1,6 +1,6 @@
 -- Lines of verdicts: what one says that was found; what one asks for that is added behind the lines of what was evaluated for its part, and what is answered then; what a part
 -- in a part asks for. And the lines of conjunctions and disjunctions, with the loops that evaluate what is in them.
-use Rattle.std.proofs.Common.{◌≡◌, ◌<◌, ◌≤◌, ◌+◌, ◌-◌, ℕ, suc, Bool, true, false, refl, sym, ap, ◌∙◌, subst, inl, arith, slice_get, List, [], ◌∷◌, ◌++◌, length, map, take, get_or, Contains, Option, Some, None}
+use Rattle.std.proofs.Common.{◌≡◌, ◌<◌, ◌≤◌, ◌+◌, ◌-◌, ℕ, true, false, refl, sym, ap, ◌∙◌, subst, inl, arith, slice_get, List, [], ◌∷◌, ◌++◌, length, map, take, get_or, Contains, Option, Some, None}
 use Rattle.std.specs.Prelude.{if◌then◌else◌}
 use Rattle.std.proofs.lemmas.Option.{slice_get_within}
 use Rattle.evidence_lines.specs.Shapes.{sort_of}
@@ -8,7 +8,6 @@ use Rattle.evidence_lines.specs.declared.line.LineKind.{LineKind}
 use Rattle.evidence_lines.specs.declared.line.LineKind.TheVariants as kind
 use Rattle.evidence_lines.specs.declared.line.Outcome.TheVariants as says
 use Rattle.evidence_lines.specs.declared.line.Sort.TheVariants as sort
-use Rattle.evidence_lines.specs.declared.version.Version.TheVariants.{Two}
 use Rattle.guard_syntax.specs.Syntax as sx
 use Rattle.guard_syntax.specs.Syntax.{File, body, conds, disj}
 use Rattle.guard_syntax.specs.code.Seen.{disj_list, part_list, see_conds, see_disj, see_part}
@@ -23,7 +22,7 @@ use Rattle.rule_names.specs.ReferenceGraph.{disj_site, part_site}
 use Rattle.rule_names.proofs.Shapes.{conds-seen, disj-seen}
 use Rattle.rule_meaning.specs.Verdicts.{conjunction, disjunction}
 use Rattle.evidence_rules.specs.CitedLines.{IsLine}
-use Rattle.evidence_rules.specs.Follows.{SayDisjs, SayParts, conds_site, home_for, is_body, is_stop}
+use Rattle.evidence_rules.specs.Follows.{SayDisjs, conds_site, home_for, is_body, is_stop}
 use Rattle.evidence_rules.specs.Follows as cited
 use Rattle.scope_frames.specs.code.Frames.{StandsFor}
 use Rattle.scope_frames.proofs.EnteredFrames.{has-frame}
@@ -42,7 +41,7 @@ use Rattle.clause_eval.proofs.Insides.{conds-own, disj-at, disj-own, insides, pa
 use Rattle.clause_eval.proofs.Lower.{IsHigh, inner-lower}
 use Rattle.clause_eval.proofs.Ranks.{rank-below, rank-on, rank_in}
 use Rattle.clause_eval.proofs.Standing.{inner-stands}
-use Rattle.clause_eval.proofs.VerdictsInTurn.{DisjsSaid, DisjsSoFar, PartsSaid, PartsSoFar, disjs-end, disjs-next, disjs-none, disjs-stopped, parts-end, parts-next, parts-none, parts-stopped}
+use Rattle.clause_eval.proofs.VerdictsInTurn.{DisjsSoFar, PartsSaid, PartsSoFar, disjs-next, disjs-none, disjs-stopped, parts-end, parts-next, parts-none, parts-stopped}
 
 -- ---- a part
 

@@ -13,4 +13,5 @@ pub mod Kinds
 pub mod Leaning
 pub mod Lines
 pub mod PartDepths
+pub mod Ruling
 pub mod States

@@ -4,6 +4,7 @@ ghost use Rattle.rule_names.specs.code.Files.{file_of};
 ghost use Rattle.rule_meaning.specs.Values.{has_pattern};
 ghost use Rattle.value_compare.specs.code.Books.{IsBookOf};
 ghost use Rattle.clause_eval.specs.code.Engines.{see_engine};
+ghost use Rattle.clause_eval.specs.code.Ruling.{Rests};
 ghost use Rattle.clause_eval.specs.code.States.{IsWhole};
 
 use crate::engine::Engine;
@@ -30,6 +31,7 @@ impl<'t, 's> Engine<'t, 's> {
         ensures file { (see_engine result).known.file ≡ file_of file.entry.now }
         ensures template { (see_engine result).known.template ≡ doc.entry.now }
         ensures whole { IsWhole (see_engine result) }
+        ensures rests { Rests (see_engine result) }
     {
         Engine {
             alloc,

@@ -99,13 +99,15 @@ fn keep(
     let mut rows = Vec::new(alloc);
     for made in answer {
         let row = rows.len() as u64;
-        match made {
-            Made::Tree(tree) => {
-                store.add(line, row, tree)?;
-                rows.push(Row::Found(root_at(line, row)))?;
+        let tree = match made {
+            Made::Tree(tree) => tree,
+            Made::Kept(kept) => {
+                rows.push(kept)?;
+                continue;
             }
-            Made::Kept(kept) => rows.push(kept)?,
-        }
+        };
+        store.add(line, row, tree)?;
+        rows.push(Row::Found(root_at(line, row)))?;
     }
     Ok(rows)
 }

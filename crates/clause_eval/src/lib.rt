@@ -14,6 +14,7 @@ mod literals;
 mod names;
 pub mod place;
 mod rows;
+mod rules;
 pub mod said;
 pub mod site_lines;
 mod steps;

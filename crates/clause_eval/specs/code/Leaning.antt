@@ -2,7 +2,7 @@
 use Rattle.std.specs.Prelude.{ℕ, ◌≡◌, ◌<◌, ◌≤◌, ◌⊎◌, List, Contains, Some, length}
 use Rattle.evidence_lines.specs.Lines.{line_of}
 use Rattle.evidence_lines.specs.declared.line.Line.{Line}
-use Rattle.evidence_rules.specs.code.Lean.{LineNames}
+use Rattle.evidence_rules.specs.Lean.{LineNames}
 
 -- the line of a number is named by a later one
 abbrev pub IsNamed : List Line → ℕ → Type 0

@@ -22,21 +22,21 @@ add-requires-clause-plain c =
     ∙ ap (λ (ms : List Made). c.loop-made.yielded ++ ms) c.in-Some.ensures.steps.0 in
     plain-tree c.in-Some.made c.in-Tree.tree c.in-Tree.is (plain-next c.args.answer.items c.loop-made.yielded (into_iter_items c.next.new.self) c.in-Some.made split c.requires.plain)
 
-pub returns-in_err-add-in-Tree-clause-more : goal.returns-in_err-add-in-Tree-clause-more
-returns-in_err-add-in-Tree-clause-more c =
+pub returns-in_err-add-clause-more : goal.returns-in_err-add-clause-more
+returns-in_err-add-clause-more c =
     same-grows c.args.store.now c.loop-made.store c.args.line c.loop-made.yielded c.loop-made.rows.items c.loop-made.invariant c.add.new.self c.add.ensures.doc c.add.ensures.file
-    c.in_err-add-in-Tree.ensures.err
+    c.in_err-add.ensures.err
 
-pub returns-in_err-add-in-Tree-clause-file : goal.returns-in_err-add-in-Tree-clause-file
-returns-in_err-add-in-Tree-clause-file c = c.add.ensures.file ∙ c.loop-made.invariant.file
+pub returns-in_err-add-clause-file : goal.returns-in_err-add-clause-file
+returns-in_err-add-clause-file c = c.add.ensures.file ∙ c.loop-made.invariant.file
 
-pub returns-in_err-push-in-Tree-clause-more : goal.returns-in_err-push-in-Tree-clause-more
-returns-in_err-push-in-Tree-clause-more c =
+pub returns-in_err-push-clause-more : goal.returns-in_err-push-clause-more
+returns-in_err-push-clause-more c =
     added-grows c.args.store.now c.loop-made.store c.args.line c.loop-made.yielded c.loop-made.rows.items c.loop-made.invariant c.add.new.self
-    (record { line = c.args.line; row = c.len-row.result; tree = c.in-Tree.tree }) c.add.ensures.doc c.add.ensures.file c.in_ok-add-in-Tree.ensures.ok
+    (record { line = c.args.line; row = c.len-row.result; tree = c.in-Tree.tree }) c.add.ensures.doc c.add.ensures.file c.in_ok-add.ensures.ok
 
-pub returns-in_err-push-in-Tree-clause-file : goal.returns-in_err-push-in-Tree-clause-file
-returns-in_err-push-in-Tree-clause-file c = c.add.ensures.file ∙ c.loop-made.invariant.file
+pub returns-in_err-push-clause-file : goal.returns-in_err-push-clause-file
+returns-in_err-push-clause-file c = c.add.ensures.file ∙ c.loop-made.invariant.file
 
 pub returns-in_err-push-in-Kept-clause-more : goal.returns-in_err-push-in-Kept-clause-more
 returns-in_err-push-in-Kept-clause-more c = kept-grows c.args.store.now c.loop-made.store c.args.line c.loop-made.yielded c.loop-made.rows.items c.loop-made.invariant
@@ -44,16 +44,16 @@ returns-in_err-push-in-Kept-clause-more c = kept-grows c.args.store.now c.loop-m
 pub returns-in_err-push-in-Kept-clause-file : goal.returns-in_err-push-in-Kept-clause-file
 returns-in_err-push-in-Kept-clause-file c = c.loop-made.invariant.file
 
-pub loop-made-preserved-in-Continue-branch-2 : goal.loop-made-preserved-in-Continue-branch-2
-loop-made-preserved-in-Continue-branch-2 c =
-    kept-tree c.args.store.now c.loop-made.store c.args.line c.loop-made.yielded c.loop-made.rows.items c.loop-made.invariant c.add.new.self c.in-Tree.tree c.len-row.result c.in-Some.made
-    c.push.new.self.items c.in-Tree.is (c.len-row.ensures ∙ c.loop-made.rows.ok.0) c.add.ensures.doc c.add.ensures.file c.in_ok-add-in-Tree.ensures.ok
-    (c.in_ok-push-in-Tree.ensures.items ∙ ap (λ (r : Ref). c.loop-made.rows.items ++ Found r ∷ []) c.root_at.ensures)
+pub loop-made-preserved-in-Kept : goal.loop-made-preserved-in-Kept
+loop-made-preserved-in-Kept c =
+    kept-row c.args.store.now c.loop-made.store c.args.line c.loop-made.yielded c.loop-made.rows.items c.loop-made.invariant c.in-Kept.kept c.in-Some.made c.push.new.self.items c.in-Kept.is
+    c.in_ok-push-in-Kept.ensures.items
 
 pub loop-made-preserved : goal.loop-made-preserved
 loop-made-preserved c =
-    kept-row c.args.store.now c.loop-made.store c.args.line c.loop-made.yielded c.loop-made.rows.items c.loop-made.invariant c.in-Kept.kept c.in-Some.made c.push-in-Kept.new.self.items c.in-Kept.is
-    c.in_ok-push-in-Kept.ensures.items
+    kept-tree c.args.store.now c.loop-made.store c.args.line c.loop-made.yielded c.loop-made.rows.items c.loop-made.invariant c.add.new.self c.in-Tree.tree c.len-row.result c.in-Some.made
+    c.push-in-loop-made.new.self.items c.in-Tree.is (c.len-row.ensures ∙ c.loop-made.rows.ok.0) c.add.ensures.doc c.add.ensures.file c.in_ok-add.ensures.ok
+    (c.in_ok-push.ensures.items ∙ ap (λ (r : Ref). c.loop-made.rows.items ++ Found r ∷ []) c.root_at.ensures)
 
 pub returns-clause-rows : goal.returns-clause-rows
 returns-clause-rows c =

@@ -1,6 +1,6 @@
-use Rattle.std.proofs.Common.{◌≡◌, ℕ, suc, ◌+◌, ◌-◌, ◌^◌, ◌∷◌, ◌++◌, [], ◌<◌, ◌≤◌, Fits, w64, refl, sym, ap, ◌∙◌, subst, arith, length, map, get_or, Contains, List, Some, None, Option, IfOk}
+use Rattle.std.proofs.Common.{◌≡◌, ℕ, suc, ◌+◌, ◌-◌, ◌∷◌, ◌++◌, [], ◌<◌, ◌≤◌, refl, sym, ap, ◌∙◌, subst, arith, length, map, get_or, Contains, List, Some, None, Option, IfOk}
 use Rattle.std.specs.List.{list_all}
-use Rattle.std.specs.Prelude.{IsSome, option_map}
+use Rattle.std.specs.Prelude.{IsSome}
 use Rattle.std.proofs.lemmas.List.{get_or_default}
 use Rattle.std.proofs.lemmas.Option.{none-some, same_Some, slice_get_within}
 use Rattle.std.proofs.lemmas.Result.{IfOk-weaker}
@@ -9,7 +9,7 @@ use Rattle.guard_syntax.specs.Syntax.{asked, found, function, literal, Part, blo
 use Rattle.guard_syntax.specs.code.Seen.{expr_list, see_conds, see_expr, see_query, disj_list, see_body, see_disj, see_opt_conds, see_opt_expr, see_part}
 use Rattle.guard_syntax.specs.declared.syntax.Query.{out-Query}
 use Rattle.rule_names.specs.EnclosingScopes.{home_of}
-use Rattle.rule_names.specs.Pieces.{OfExpr, OfQuery, OfStep, piece_at, OfPart}
+use Rattle.rule_names.specs.Pieces.{OfExpr, OfStep, piece_at, OfPart}
 use Rattle.rule_names.specs.Resolution.{bind_of}
 use Rattle.rule_names.specs.Uses.{query_site}
 use Rattle.rule_names.specs.code.Files.{file_of}
@@ -28,6 +28,7 @@ use Rattle.clause_eval.specs.code.Falling.{height_at}
 use Rattle.clause_eval.specs.code.Inside.{expr_sited, disj_sited}
 use Rattle.clause_eval.specs.code.Kinds.{own_kind, kind_of_part}
 use Rattle.clause_eval.proofs.CandidatesAnswered.{all-at, candidate-may, candidate-next, candidate-rank, candidate-value, candidates-end, candidates-start, conditions-there}
+use Rattle.clause_eval.proofs.Elements.{next-fits, within-len}
 use Rattle.clause_eval.proofs.Evaluating.{Evaluates-none, same-file}
 use Rattle.clause_eval.proofs.Finished.{found-rows-answer}
 use Rattle.clause_eval.proofs.Insides.{asked-seen, found-seen, literal-seen, step-of, body-own, conds-own, disj-own, refer-seen, test-seen}
@@ -38,7 +39,7 @@ use Rattle.clause_eval.proofs.PiecesLeft.{part-only, step-only, value-only}
 use Rattle.clause_eval.proofs.QueriesBegun.{query-begins}
 use Rattle.clause_eval.proofs.Ranks.{rank-on, rank_in, step_place}
 use Rattle.clause_eval.proofs.RowsAnswered.{answers-as, arg-next, arg-rank, arg-stands, args-end, args-start, asked-rank, asked-stands, call-absent, call-answer, call-given, found-absent, found-adds, found-answer, found-stands, function-form, has-steps, query-answer, query-rank, query-says, query-stands, rank-as, stands-as}
-use Rattle.clause_eval.proofs.StepsAnswered.{bare-further, bare-kind, filter-absent, filter-answer, filter-at, filter-before, filter-judged, filter-later, filtered-answer, further-cited, is-filter, keys-further, keys-kind, keys-no-filter, own-absent, own-rank, right-bound, right-rank, right-stands, splice-further, splice-kind, splice-used, step-absent, step-answer, step-at, step-no-filter, step-with, tried-known, tried-says, var-further, var-kind, var-used}
+use Rattle.clause_eval.proofs.StepsAnswered.{bare-further, bare-kind, filter-absent, filter-answer, filter-at, filter-before, filter-judged, filter-later, filtered-answer, further-cited, is-filter, keys-further, keys-kind, keys-no-filter, own-absent, own-rank, right-bound, right-rank, right-stands, splice-further, splice-kind, splice-used, step-absent, step-answer, step-no-filter, step-with, tried-known, tried-says, var-further, var-kind, var-used}
 use Rattle.clause_eval.proofs.StepsInTurn.{before-next, line_list, new-next, step-rank, step-stands, step-there, steps-begun, steps-end, steps-next, steps-some}
 use Rattle.evidence_lines.specs.declared.line.LineKind.{LineKind}
 use Rattle.guard_syntax.specs.declared.row.Row.TheVariants.{Found}
@@ -72,12 +73,6 @@ up-to i last less = omega (arith, less)
 
 below-last : (i last n : ℕ) → i ≤ last → last < n → i < n
 below-last i last n no_more within = omega (arith, no_more, within)
-
-next-fits : (i len cap n : ℕ) → i < n → len ≡ n → len ≤ cap → cap < 2 ^ 63 → Fits w64 (i + 1)
-next-fits i len cap n within are room small = omega (arith, within, are, room, small)
-
-within-len : (i n len : ℕ) → i < n → len ≡ n → i < len
-within-len i n len within are = omega (arith, within, are)
 
 none-among : (xs : List ℕ) (n : ℕ) → Contains [] n → Contains xs n
 none-among xs n (k, within, is) = absurd (omega (arith, within))

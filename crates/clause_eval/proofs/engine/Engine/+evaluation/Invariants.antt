@@ -1,4 +1,4 @@
-use Rattle.std.proofs.Common.{◌≡◌, ◌*◌, ◌≤◌, ◌<◌, ℕ, suc, List, [], ◌∷◌, Option, Some, None, map, take}
+use Rattle.std.proofs.Common.{◌*◌, ◌≤◌, ℕ, List, Some, map, take}
 use Rattle.guard_syntax.specs.code.Seen.{expr_list, see_body, see_conds, see_disj, see_expr, see_part, see_query}
 use Rattle.guard_syntax.specs.declared.row.Row.{Row}
 use Rattle.guard_syntax.specs.declared.row.Verdict.TheVariants.{Pass}

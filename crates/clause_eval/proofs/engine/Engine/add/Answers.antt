@@ -6,6 +6,15 @@ use Rattle.clause_eval.proofs.AddedLines.{is-part-added}
 use Rattle.clause_eval.proofs.PartTables.{part-set, part-stays, table-there}
 use Rattle.clause_eval.proofs.engine.Engine.add.Goals as goal
 
+pub line_in-line-requires : goal.line_in-line-requires
+line_in-line-requires c = slice_get_within c.args.self.now.framed.items c.args.frame c.requires.adds.at c.requires.adds.framed
+
+pub index_mut-requires : goal.index_mut-requires
+index_mut-requires c =
+    let named = slice_get_within c.args.self.now.framed.items c.args.frame c.requires.adds.at c.requires.adds.framed in
+    let same : length c.add_line.new.self.framed.items ≡ length c.args.self.now.framed.items = ap length c.add_line.ensures.framed in
+    omega (arith, named, same, c.add_line.new.self.tables)
+
 pub returns : goal.returns
 returns c =
     let s = see_engine c.args.self.now in

@@ -1,4 +1,5 @@
 use Rattle.std.proofs.Common.{◌≡◌, ◌∷◌, ◌++◌, [], ap, ◌∙◌, None}
+use Rattle.std.proofs.lemmas.Option.{slice_get_within}
 use Rattle.indexmap.proofs.CallerLemmas.{insert_entry-new}
 use Rattle.clause_eval.specs.code.Beside.{beside_in}
 use Rattle.clause_eval.specs.code.Engines.{lines_in, part_in, see_engine}
@@ -7,6 +8,9 @@ use Rattle.clause_eval.specs.declared.place.Place.{Place}
 use Rattle.clause_eval.proofs.AddedLines.{is-beside-added}
 use Rattle.clause_eval.proofs.BesideTables.{beside-none, inserted}
 use Rattle.clause_eval.proofs.engine.Engine.add_beside.Goals as goal
+
+pub line_in-line-requires : goal.line_in-line-requires
+line_in-line-requires c = slice_get_within c.args.self.now.framed.items c.args.frame c.requires.adds.at c.requires.adds.framed
 
 pub returns : goal.returns
 returns c =

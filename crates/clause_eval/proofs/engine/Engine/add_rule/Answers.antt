@@ -1,4 +1,5 @@
 use Rattle.std.proofs.Common.{◌∷◌, ◌++◌, [], ap, refl, ◌∙◌}
+use Rattle.std.proofs.lemmas.Option.{slice_get_within}
 use Rattle.evidence_lines.specs.declared.line.LineKind.TheVariants as kind
 use Rattle.evidence_lines.specs.declared.line.Outcome.TheVariants as says
 use Rattle.clause_eval.specs.code.Beside.{beside_in}
@@ -6,6 +7,9 @@ use Rattle.clause_eval.specs.code.Engines.{lines_in, part_in, see_engine}
 use Rattle.clause_eval.proofs.AddedLines.{is-rule-added}
 use Rattle.clause_eval.proofs.PartTables.{table-set}
 use Rattle.clause_eval.proofs.engine.Engine.add_rule.Goals as goal
+
+pub line_in-line-requires : goal.line_in-line-requires
+line_in-line-requires c = slice_get_within c.args.self.now.framed.items c.args.frame c.requires.adds.at c.requires.adds.framed
 
 pub returns : goal.returns
 returns c =

@@ -1,10 +1,9 @@
-use Rattle.std.proofs.Common.{◌≡◌, ◌∙◌, sym, ap, subst, ℕ, List, Some, None, Option, map}
+use Rattle.std.proofs.Common.{◌∙◌, sym, ap, subst, Some, map}
 use Rattle.std.proofs.lemmas.Option.{none-some}
 use Rattle.std.proofs.lemmas.Result.{IfOk-weaker}
 use Rattle.guard_builtins.specs.code.Seen.{see_made, see_rows}
 use Rattle.guard_syntax.specs.Functions.{IsNamed}
 use Rattle.guard_syntax.specs.Syntax.{File}
-use Rattle.guard_syntax.specs.declared.function.Function.{Function}
 use Rattle.rule_names.specs.Pieces.{piece_at}
 use Rattle.rule_names.specs.Uses.{function_named}
 use Rattle.rule_names.specs.code.Files.{file_of}

@@ -1,21 +1,16 @@
-use Rattle.std.proofs.Common.{◌≡◌, ℕ, suc, ◌+◌, ◌-◌, ◌^◌, ◌<◌, ◌≤◌, Fits, w64, refl, sym, ap, ◌∙◌, subst, arith, length, Some}
+use Rattle.std.proofs.Common.{◌≡◌, ℕ, suc, ◌-◌, ◌<◌, ◌≤◌, refl, sym, subst, arith, length, Some}
 use Rattle.guard_syntax.specs.code.Seen.{see_query}
 use Rattle.guard_syntax.specs.declared.syntax.Query.{out-Query}
 use Rattle.clause_eval.specs.code.Answers.{GivesStepBefore}
 use Rattle.clause_eval.specs.code.Engines.{see_engine}
+use Rattle.clause_eval.proofs.Elements.{next-fits, within-len}
 use Rattle.clause_eval.proofs.Insides.{step-of}
 use Rattle.clause_eval.proofs.StepsBegun.{begun-found, lacks-more}
 use Rattle.clause_eval.proofs.engine.Engine.begun.Goals as goal
 
 -- what numbers say, apart from all else that is known where they stand
-next-fits : (i len cap n : ℕ) → i < n → len ≡ n → len ≤ cap → cap < 2 ^ 63 → Fits w64 (i + 1)
-next-fits i len cap n within are room small = omega (arith, within, are, room, small)
-
 one-less : (i last n : ℕ) → 0 < i → i ≤ suc last → last < n → i - 1 < n
 one-less i last n some most within = omega (arith, some, most, within)
-
-within-len : (i n len : ℕ) → i < n → len ≡ n → i < len
-within-len i n len within are = omega (arith, within, are)
 
 as-suc : (i : ℕ) → 0 < i → suc (i - 1) ≡ i
 as-suc i some = omega (arith, some)

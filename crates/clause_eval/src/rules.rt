@@ -1,0 +1,112 @@
+//! Lines of rules without parameters, and of the parts outside rules: they are judged one after another, in the frame of the
+//! file.
+ghost use Rattle.std.specs.Prelude.{◌≡◌, [], IfOk, None};
+ghost use Rattle.guard_syntax.specs.code.Seen.{see_rule};
+ghost use Rattle.clause_eval.specs.code.Engines.{see_engine};
+ghost use Rattle.clause_eval.specs.code.Ruling.{IsFileFrame, IsReady, Judges, MayJudge, MayJudgeLoose, Rests};
+ghost use Rattle.clause_eval.specs.code.States.{IsWhole};
+
+use crate::engine::Engine;
+use crate::judging::is_pass;
+use crate::said::Cited;
+use guard_syntax::{Rule, Verdict};
+use std::alloc::AllocError;
+
+impl<'t, 's> Engine<'t, 's> {
+    /// The verdict of a rule without parameters: its line is added behind those of its conditions and of its body, if it has
+    /// none yet. The rules that it refers to were judged before.
+    pub fn judge_rule(&mut self, rule: &'t Rule) -> Result<Verdict, AllocError>
+        requires rests { Rests (see_engine self.old) }
+        requires rule { MayJudge (see_engine self.old) (see_rule rule.now) }
+        ensures { IfOk result (λ verdict. Judges (see_engine self.old) (see_engine self.new) rule.now.site verdict) }
+    {
+        if let Some(line) = self.found_rule(rule.site) {
+            return Ok(self.verdict_said(line));
+        }
+        let frame = self.enter_file()?;
+        let cited = self.rule_cites(frame, rule)?;
+        let verdict = cited.verdict;
+        self.add_rule(frame, rule.site, cited.lines, verdict)?;
+        Ok(verdict)
+    }
+
+    /// The verdict of the parts outside rules, once all rules were judged.
+    pub fn judge_loose(&mut self) -> Result<Verdict, AllocError>
+        requires rests { Rests (see_engine self.old) }
+        requires loose { MayJudgeLoose (see_engine self.old) }
+        ensures { IfOk result (λ verdict. Judges (see_engine self.old) (see_engine self.new) 0 verdict) }
+    {
+        if let Some(line) = self.found_rule(0) {
+            return Ok(self.verdict_said(line));
+        }
+        let frame = self.enter_file()?;
+        let cited = self.loose_cites(frame)?;
+        let verdict = cited.verdict;
+        self.add_rule(frame, 0, cited.lines, verdict)?;
+        Ok(verdict)
+    }
+
+    /// The lines of the conditions of a rule and of its body.
+    fn rule_cites(&mut self, frame: u64, rule: &'t Rule) -> Result<Cited, AllocError>
+        requires whole { IsWhole (see_engine self.old) }
+        requires frame { IsFileFrame (see_engine self.old) frame }
+        requires rule { MayJudge (see_engine self.old) (see_rule rule.now) }
+        requires new { (see_engine self.old).rules rule.now.site ≡ None }
+        ensures { IfOk result (λ cited. IsReady (see_engine self.old) (see_engine self.new) frame rule.now.site cited.lines.items cited.verdict) }
+    {
+        let Some(cond) = &rule.cond else {
+            return self.rule_body(frame, rule);
+        };
+        let conditions = self.conditions(frame, cond)?;
+        let mut lines = Vec::new(self.alloc);
+        lines.push(conditions.line)?;
+        if !is_pass(conditions.verdict) {
+            let verdict = Verdict::Skip;
+            return Ok(Cited { lines, verdict });
+        }
+        let current = self.current(frame);
+        let said = self.body_at(frame, &rule.body, current)?;
+        lines.push(said.line)?;
+        Ok(Cited {
+            lines,
+            verdict: said.verdict,
+        })
+    }
+
+    /// The line of the body of a rule without conditions.
+    fn rule_body(&mut self, frame: u64, rule: &'t Rule) -> Result<Cited, AllocError>
+        requires whole { IsWhole (see_engine self.old) }
+        requires frame { IsFileFrame (see_engine self.old) frame }
+        requires rule { MayJudge (see_engine self.old) (see_rule rule.now) }
+        requires new { (see_engine self.old).rules rule.now.site ≡ None }
+        requires none { rule.now.cond ≡ None }
+        ensures { IfOk result (λ cited. IsReady (see_engine self.old) (see_engine self.new) frame rule.now.site cited.lines.items cited.verdict) }
+    {
+        let current = self.current(frame);
+        let said = self.body_at(frame, &rule.body, current)?;
+        let mut lines = Vec::new(self.alloc);
+        lines.push(said.line)?;
+        Ok(Cited {
+            lines,
+            verdict: said.verdict,
+        })
+    }
+
+    /// The line of the parts outside rules.
+    fn loose_cites(&mut self, frame: u64) -> Result<Cited, AllocError>
+        requires whole { IsWhole (see_engine self.old) }
+        requires frame { IsFileFrame (see_engine self.old) frame }
+        requires loose { MayJudgeLoose (see_engine self.old) }
+        requires new { (see_engine self.old).rules 0 ≡ None }
+        ensures { IfOk result (λ cited. IsReady (see_engine self.old) (see_engine self.new) frame 0 cited.lines.items cited.verdict) }
+    {
+        let file = self.file;
+        let said = self.conjunction(frame, 0, &file.raw().loose, None)?;
+        let mut lines = Vec::new(self.alloc);
+        lines.push(said.line)?;
+        Ok(Cited {
+            lines,
+            verdict: said.verdict,
+        })
+    }
+}
