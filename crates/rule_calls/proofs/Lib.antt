@@ -1,0 +1,5 @@
+mod LeanLines
+mod LinesPlaced
+mod RulesInTurn
+mod RulesListed
+mod SoundLines

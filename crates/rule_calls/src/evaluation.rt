@@ -1,0 +1,81 @@
+//! All rules in turn.
+ghost use Rattle.std.specs.Prelude.{◌≡◌, [], IfOk, OnOk, false};
+ghost use Rattle.evidence_lines.specs.declared.version.Version.TheVariants.{Two};
+ghost use Rattle.rule_names.specs.code.Files.{file_of};
+ghost use Rattle.rule_meaning.specs.Values.{has_pattern};
+ghost use Rattle.value_compare.specs.code.Books.{IsBookOf};
+ghost use Rattle.evidence_rules.specs.Follows.{Accepts, nothing_made};
+ghost use Rattle.evidence_rules.specs.code.Judgement.{FollowTo};
+ghost use Rattle.evidence_rules.specs.Lean.{IsLean};
+ghost use Rattle.clause_eval.specs.code.Engines.{see_engine};
+ghost use Rattle.clause_eval.specs.code.Ruling.{Rests};
+ghost use Rattle.clause_eval.specs.code.States.{Grows, IsWhole};
+ghost use Rattle.rule_calls.specs.code.Ranks.{AreRanked};
+ghost use Rattle.rule_calls.specs.code.Turns.{AreAllJudged, IsJudgedWhole};
+
+use crate::ranked::{Ranked, rules_by_depth};
+use clause_eval::Engine;
+use doc_values::Doc;
+use rule_names::RuleFile;
+use std::alloc::{AllocError, Global};
+use value_compare::PatternBook;
+
+/// Evaluates all rules of a file over a template, with the patterns of the file: the engine has the evidence of it then, and the
+/// store that its lines lead to, with the trees that their calls made. After want of memory nothing is left of it.
+pub fn evaluate<'t, 's>(
+    alloc: Global,
+    file: &'t RuleFile,
+    doc: &'t Doc<'s>,
+    book: &'t PatternBook,
+) -> Result<Engine<'t, 's>, AllocError>
+    requires plain { has_pattern doc.now ≡ false }
+    requires book { IsBookOf (file_of file.now) book.now }
+    ensures accepted { IfOk result (λ engine. Accepts Two doc.entry.now (file_of file.entry.now) (see_engine engine).lines) }
+    ensures lean { IfOk result (λ engine. IsLean (see_engine engine).lines) }
+    ensures template { IfOk result (λ engine. (see_engine engine).known.template ≡ doc.entry.now) }
+    ensures file { IfOk result (λ engine. (see_engine engine).known.file ≡ file_of file.entry.now) }
+    ensures follow { IfOk result (λ engine. FollowTo Two (nothing_made doc.entry.now (file_of file.entry.now)) [] (see_engine engine).lines (see_engine engine).known) }
+    ensures whole { IfOk result (λ engine. IsWhole (see_engine engine)) }
+{
+    let mut engine = Engine::new(alloc, file, doc, book);
+    judge_file(&mut engine)?;
+    Ok(engine)
+}
+
+/// Judges the rules of the engine's file, and then the parts outside rules.
+fn judge_file(engine: &mut Engine<'_, '_>) -> Result<(), AllocError>
+    requires { Rests (see_engine engine.old) }
+    ensures judged { OnOk result (IsJudgedWhole (see_engine engine.new)) }
+    ensures grows { OnOk result (Grows (see_engine engine.old) (see_engine engine.new)) }
+{
+    let ranked = rules_by_depth(engine.alloc, engine.file)?;
+    judge_rules(engine, &ranked)?;
+    judge_outside(engine)
+}
+
+/// Judges rules, one after another.
+fn judge_rules<'t>(engine: &mut Engine<'t, '_>, ranked: &[Ranked<'t>]) -> Result<(), AllocError>
+    requires rests { Rests (see_engine engine.old) }
+    requires ranked { AreRanked (see_engine engine.old).known.file ranked.now }
+    ensures judged { OnOk result (AreAllJudged (see_engine engine.new)) }
+    ensures grows { OnOk result (Grows (see_engine engine.old) (see_engine engine.new)) }
+{
+    for it in ranked {
+        engine.judge_rule(it.rule)?;
+    }
+    Ok(())
+}
+
+/// Judges the parts outside rules, if there are some.
+fn judge_outside(engine: &mut Engine<'_, '_>) -> Result<(), AllocError>
+    requires { AreAllJudged (see_engine engine.old) }
+    ensures judged { OnOk result (IsJudgedWhole (see_engine engine.new)) }
+    ensures grows { OnOk result (Grows (see_engine engine.old) (see_engine engine.new)) }
+{
+    let file = engine.file;
+    if file.raw().loose.as_slice().is_empty() {
+        return Ok(());
+    }
+    engine.judge_loose()?;
+    Ok(())
+}
