@@ -1,6 +1,7 @@
 mod Appending
 mod CountedVerdicts
 mod Counting
+mod DrillTexts
 mod EarlierCites
 mod KnownRows
 mod LeadEntries
@@ -11,7 +12,7 @@ mod ReportedBy
 mod RuleSites
 mod RuleTables
 mod SitesOfLines
-mod TakenTexts
+pub mod TakenTexts
 mod Tallies
 mod TestParts
 mod ToldEntries

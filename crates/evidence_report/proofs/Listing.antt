@@ -1,17 +1,18 @@
 -- Verdicts that are listed: none, one more, and what is left to list of rules in turn.
-use Rattle.std.proofs.Common.{◌≡◌, ℕ, zero, suc, ◌+◌, ◌<◌, ◌≤◌, List, [], ◌∷◌, ◌++◌, length, get_or, drop, drop-cons, map, sym, ap, subst, ◌∙◌, append-nil, append_assoc, arith}
+use Rattle.std.proofs.Common.{◌≡◌, ℕ, zero, suc, ◌+◌, ◌<◌, ◌≤◌, List, [], ◌∷◌, ◌++◌, length, get_or, drop, drop-cons, map, refl, sym, ap, subst, ◌∙◌, append-nil, append_assoc, arith}
 use Rattle.std.specs.List.{flat_map}
 use Rattle.std.proofs.lemmas.List.{drop_all, map-append}
 use Rattle.std.proofs.lemmas.List.Elements.{All-nil, All-push}
 use Rattle.evidence_lines.specs.declared.line.Line.{Line}
 use Rattle.guard_syntax.specs.Syntax as sx
 use Rattle.guard_syntax.specs.code.Seen.{see_rule}
+use Rattle.guard_syntax.specs.declared.row.Verdict.{Verdict}
 use Rattle.guard_syntax.specs.declared.syntax.Rule.{Rule}
 use Rattle.rule_meaning.specs.Locations.{World}
 use Rattle.rule_meaning.specs.StoreModel.{StoreModel}
 use Rattle.guard_ends.specs.Reported.{Reported, of_rule}
 use Rattle.evidence_report.specs.code.RuleTables.{IsRuleLine}
-use Rattle.evidence_report.specs.code.VerdictLines.{AreSaid, Lists, see_verdict}
+use Rattle.evidence_report.specs.code.VerdictLines.{AreSaid, Lists, see_verdict, verdicts_in}
 use Rattle.evidence_report.specs.declared.verdict_lines.VerdictLine.{VerdictLine}
 
 module _ (known : StoreModel) (lines : List Line) where
@@ -36,6 +37,11 @@ module _ (known : StoreModel) (lines : List Line) where
   -- what is listed behind `now` for what is left, is listed behind `start` for all
   abbrev pub OwesList : (start now : List VerdictLine) → (all left : List Reported) → Type 0
   OwesList start now all left = (final : List VerdictLine) → Lists known lines now final left → Lists known lines start final all
+
+  -- the verdicts alone
+  pub verdicts-seen : (all : List VerdictLine) → verdicts_in all ≡ map (λ (r : Reported). r.verdict) (map (see_verdict known lines) all)
+  verdicts-seen [] = refl
+  verdicts-seen (v ∷ all) = ap (λ (vs : List Verdict). v.line.verdict ∷ vs) (verdicts-seen all)
 
   module _ (world : World) (rules : List Rule) where
     -- what is reported of the rules from one on

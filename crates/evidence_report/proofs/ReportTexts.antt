@@ -14,6 +14,7 @@ use Rattle.guard_ends.specs.Reported.{Reported, if_fail, reported}
 use Rattle.evidence_report.specs.code.VerdictLines.{see_verdict, verdicts_in}
 use Rattle.evidence_report.specs.code.Written.{entry_lines}
 use Rattle.evidence_report.specs.declared.verdict_lines.VerdictLine.{VerdictLine}
+use Rattle.evidence_report.proofs.Listing.{verdicts-seen}
 
 module _ (known : StoreModel) (lines : List Line) (rules template : List ℕ) where
   -- the lines of one verdict
@@ -24,16 +25,12 @@ module _ (known : StoreModel) (lines : List Line) (rules template : List ℕ) wh
   texts-alike [] = refl
   texts-alike (v ∷ all) = ap (λ (t : List ℕ). verdict_text v ++ t) (texts-alike all)
 
-  verdicts-seen : (all : List VerdictLine) → verdicts_in all ≡ map (λ (r : Reported). r.verdict) (map (see_verdict known lines) all)
-  verdicts-seen [] = refl
-  verdicts-seen (v ∷ all) = ap (λ (vs : List Verdict). v.line.verdict ∷ vs) (verdicts-seen all)
-
   -- the lines of all verdicts, and the total line behind them
   pub whole-text : (answers : Answers) (all xs ys : List VerdictLine) → xs ≡ all → ys ≡ all → map (see_verdict known lines) all ≡ reported (world_of known answers)
       → flat_map (lines_of known.file known.template rules template) (map (see_verdict known lines) xs) ++ total_line (verdicts_in ys) ≡ report (world_of known answers) rules template
   whole-text answers all xs ys first second are =
       ap₂ (λ (a b : List ℕ). a ++ b) (ap (flat_map (lines_of known.file known.template rules template)) (ap (map (see_verdict known lines)) first ∙ are))
-      (ap total_line (verdicts-seen ys ∙ ap (map (λ (r : Reported). r.verdict)) (ap (map (see_verdict known lines)) second ∙ are)))
+      (ap total_line (verdicts-seen known lines ys ∙ ap (map (λ (r : Reported). r.verdict)) (ap (map (see_verdict known lines)) second ∙ are)))
 
 pub not-by-pass : (v : Verdict) → v ≡ verdict.Pass → v ≡ verdict.Fail → ⊥
 not-by-pass v is fails = cc

@@ -31,7 +31,7 @@ use Rattle.evidence_report.proofs.RuleSites.{file-within, rule-within}
 
 -- accepted evidence has lines that follow
 pub accepted-held : (version : Version) (held : StoreModel) (lines : List Line) → IsAccepted version held lines → AreHeldLines version held lines
-accepted-held version held lines is = record { follow = is.accepts.follow; trees = is.trees }
+accepted-held version held lines is = record { follow = is.accepts.follow; last = is.last; leads = is.leads; holds = is.holds }
 
 -- ---- lines that are there
 

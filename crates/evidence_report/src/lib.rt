@@ -6,6 +6,7 @@
 
 mod cited;
 pub mod count;
+pub mod drill;
 pub mod fails;
 mod laws;
 mod lead;
@@ -15,10 +16,12 @@ mod rows;
 mod rule_lines;
 mod shown;
 mod tally;
-mod verdict_lines;
+pub mod verdict_lines;
 pub mod write;
 
 pub use count::fail_counts;
+pub use drill::write_drill;
 pub use fails::write_fails;
 pub use report::{count_fails, write_report};
+pub use verdict_lines::verdicts_told;
 pub use write::Page;

@@ -73,7 +73,7 @@ pub fn count_fails(alloc: Global, context: &LineContext<'_, '_, '_>) -> Result<u
 }
 
 /// How many entries stand under all verdicts.
-fn count_entries(
+pub(crate) fn count_entries(
     alloc: Global,
     context: &LineContext<'_, '_, '_>,
     all: &[VerdictLine<'_>],
@@ -196,7 +196,7 @@ fn write_total<S: Sink>(
 }
 
 /// Writes a text, or a front of it and an error.
-fn put<S: Sink>(text: &[u8], sink: &mut S) -> Result<(), ReportFault>
+pub(crate) fn put<S: Sink>(text: &[u8], sink: &mut S) -> Result<(), ReportFault>
     ensures ok { OnOk result (Takes (S.told sink.old) text.now (S.told sink.new)) }
     ensures err { OnErr result (TakesFront (S.told sink.old) text.now (S.told sink.new)) }
     ensures tells { IsSome (S.told sink.old) → IsSome (S.told sink.new) }

@@ -8,16 +8,16 @@ ghost use Rattle.rule_meaning.specs.Locations.{Answers};
 ghost use Rattle.rule_meaning.specs.Seeing.{world_of};
 ghost use Rattle.rule_meaning.specs.StoreModel.{StoreModel};
 ghost use Rattle.evidence_lookups.specs.code.Grounds.{file_in, known_of, lines_of};
-ghost use Rattle.guard_ends.specs.Reported.{of_loose, of_rule, reported};
+ghost use Rattle.guard_ends.specs.Reported.{of_loose, of_rule, reported, verdicts_of};
 ghost use Rattle.evidence_report.specs.code.RuleEntries.{IsAccepted};
 ghost use Rattle.evidence_report.specs.code.RuleTables.{AreRuleLines};
 ghost use Rattle.evidence_report.specs.declared.rule_lines.RuleLine.{RuleLine};
-ghost use Rattle.evidence_report.specs.code.VerdictLines.{AreSaid, Lists, reported_by, see_verdict};
+ghost use Rattle.evidence_report.specs.code.VerdictLines.{AreSaid, Lists, reported_by, see_verdict, verdicts_in};
 
 use crate::laws::rules_told;
 use crate::rule_lines::{RuleLine, line_at, rule_lines};
 use evidence_lookups::line_context::LineContext;
-use guard_syntax::{Disj, RawFile, Rule};
+use guard_syntax::{Disj, RawFile, Rule, Verdict};
 use std::alloc::{AllocError, Global};
 
 /// A verdict under its name, by its `rule` line.
@@ -25,6 +25,31 @@ use std::alloc::{AllocError, Global};
 pub(crate) struct VerdictLine<'f> {
     pub name: &'f str,
     pub line: RuleLine,
+}
+
+/// The verdicts that are reported on a template by evidence that was accepted, in their order. The store holds the trees of the
+/// lines' calls.
+pub fn verdicts_told(
+    alloc: Global,
+    context: &LineContext<'_, '_, '_>,
+) -> Result<Vec<Verdict>, AllocError>
+    requires { IsAccepted context.now.version (known_of context.now) (lines_of context.now) }
+    ensures { (answers : Answers) → IsAnswering (world_of (known_of context.now) answers)
+        → IfOk result (λ verdicts. verdicts.items ≡ verdicts_of (world_of (known_of context.now) answers)) }
+{
+    let all = verdict_lines(alloc, context, context.store.file.raw())?;
+    verdicts_alone(alloc, &all)
+}
+
+/// The verdicts, without their lines and names.
+fn verdicts_alone(alloc: Global, all: &[VerdictLine<'_>]) -> Result<Vec<Verdict>, AllocError>
+    ensures { IfOk result (λ verdicts. verdicts.items ≡ verdicts_in all.now) }
+{
+    let mut verdicts = Vec::new(alloc);
+    for listed in all {
+        verdicts.push(listed.line.verdict)?;
+    }
+    Ok(verdicts)
 }
 
 /// The verdicts of a file, that of the store, that are reported, in their order.

@@ -24,12 +24,16 @@ pub record AreFailsOf (world : World) (lines : List Line) (number : ℕ) (entrie
 abbrev pub AreTold : World → StoreModel → List Line → Type 0
 AreTold world held lines = (number : ℕ) → AreFailsOf world lines number (line_fails held lines number number)
 
--- lines that follow over the template and the file of a store, which holds the trees that they make
+-- lines that follow over the template and the file of a store, which holds the trees of their last store
 pub record AreHeldLines (version : Version) (held : StoreModel) (lines : List Line) : Type 0 where
   pub follow : AllFollow version (nothing_made held.template held.file) [] lines
-  pub trees : (known : StoreModel) → FollowTo version (nothing_made held.template held.file) [] lines known → HoldsTrees held known
+  pub last : StoreModel
+  pub leads : FollowTo version (nothing_made held.template held.file) [] lines last
+  pub holds : HoldsTrees held last
 
 -- so evidence that is accepted: no verdict is wanting either
 pub record IsAccepted (version : Version) (held : StoreModel) (lines : List Line) : Type 0 where
   pub accepts : Accepts version held.template held.file lines
-  pub trees : (known : StoreModel) → FollowTo version (nothing_made held.template held.file) [] lines known → HoldsTrees held known
+  pub last : StoreModel
+  pub leads : FollowTo version (nothing_made held.template held.file) [] lines last
+  pub holds : HoldsTrees held last

@@ -5,6 +5,7 @@ use Rattle.guard_syntax.specs.declared.row.Verdict.{Verdict}
 use Rattle.rule_meaning.specs.StoreModel.{StoreModel}
 use Rattle.evidence_truth.specs.code.LineFails.{line_fails}
 use Rattle.guard_ends.specs.Reported.{Reported, if_fail}
+use Rattle.report_text.specs.RuleLines.{rule_line}
 use Rattle.evidence_report.specs.code.RuleTables.{IsRuleLine}
 use Rattle.evidence_report.specs.declared.rule_lines.RuleLine.{RuleLine}
 use Rattle.evidence_report.specs.declared.verdict_lines.VerdictLine.{VerdictLine}
@@ -28,3 +29,7 @@ AreSaid lines all = All (λ (v : VerdictLine). IsRuleLine lines v.line) all
 -- the verdicts alone
 abbrev pub verdicts_in : List VerdictLine → List Verdict
 verdicts_in all = map (λ (v : VerdictLine). v.line.verdict) all
+
+-- the line of a verdict alone
+abbrev pub heading : VerdictLine → List ℕ
+heading v = rule_line v.name.now v.line.verdict

@@ -4,40 +4,33 @@ use Rattle.rule_meaning.specs.FunctionMeaning.{IsAnswering}
 use Rattle.rule_meaning.specs.Locations.{World}
 use Rattle.rule_meaning.specs.NameMeaning.{loose_verdict, rule_verdict}
 use Rattle.rule_meaning.specs.Seeing.{world_of}
-use Rattle.evidence_truth.specs.code.HeldTrees.{HoldsTrees}
 use Rattle.evidence_report.proofs.ToldEntries.{same-world}
 use Rattle.evidence_report.proofs.laws.rules_told.Goals as goal
 
 pub returns-clause-rules : goal.returns-clause-rules
 returns-clause-rules c version held lines answers rule verdict order named are answering among said =
-    let made = c.lines_true.ensures.store held.file version held.template lines are.follow in
-    let holds : HoldsTrees held made.0 = are.trees made.0 made.1 in
-    let same : world_of held answers ≡ world_of made.0 answers = same-world held made.0 answers holds in
-    let answering_last : IsAnswering (world_of made.0 answers) = subst IsAnswering same answering in
-    c.lines_true.ensures.rules held.file version held.template lines made.0 answers rule verdict order named made.1 answering_last among said
+    let same : world_of held answers ≡ world_of are.last answers = same-world held are.last answers are.holds in
+    let answering_last : IsAnswering (world_of are.last answers) = subst IsAnswering same answering in
+    c.lines_true.ensures.rules held.file version held.template lines are.last answers rule verdict order named are.leads answering_last among said
     ∙ ap (λ (w : World). rule_verdict w rule) (sym same)
 
 pub returns-clause-loose : goal.returns-clause-loose
 returns-clause-loose c version held lines answers verdict order named are answering said =
-    let made = c.lines_true.ensures.store held.file version held.template lines are.follow in
-    let holds : HoldsTrees held made.0 = are.trees made.0 made.1 in
-    let same : world_of held answers ≡ world_of made.0 answers = same-world held made.0 answers holds in
-    let answering_last : IsAnswering (world_of made.0 answers) = subst IsAnswering same answering in
-    c.lines_true.ensures.loose held.file version held.template lines made.0 answers verdict order named made.1 answering_last said
+    let same : world_of held answers ≡ world_of are.last answers = same-world held are.last answers are.holds in
+    let answering_last : IsAnswering (world_of are.last answers) = subst IsAnswering same answering in
+    c.lines_true.ensures.loose held.file version held.template lines are.last answers verdict order named are.leads answering_last said
     ∙ ap (λ (w : World). loose_verdict w held.file.loose) (sym same)
 
 pub returns-clause-entries : goal.returns-clause-entries
 returns-clause-entries c version held lines answers order named are answering number =
-    let made = c.lines_true.ensures.store held.file version held.template lines are.follow in
-    let holds : HoldsTrees held made.0 = are.trees made.0 made.1 in
-    let same : world_of held answers ≡ world_of made.0 answers = same-world held made.0 answers holds in
-    let answering_last : IsAnswering (world_of made.0 answers) = subst IsAnswering same answering in
+    let same : world_of held answers ≡ world_of are.last answers = same-world held are.last answers are.holds in
+    let answering_last : IsAnswering (world_of are.last answers) = subst IsAnswering same answering in
     let enough : number ≤ number = omega arith in
     record {
       rule = λ r frame among is.
-          c.entries_told.ensures.rules held.file version held.template lines made.0 held answers r number frame number order named made.1 holds answering_last among is enough
+          c.entries_told.ensures.rules held.file version held.template lines are.last held answers r number frame number order named are.leads are.holds answering_last among is enough
           ∙ ap (λ (w : World). rule_fails w r) (sym same);
       loose = λ frame is.
-          c.entries_told.ensures.loose held.file version held.template lines made.0 held answers number frame number order named made.1 holds answering_last is enough
+          c.entries_told.ensures.loose held.file version held.template lines are.last held answers number frame number order named are.leads are.holds answering_last is enough
           ∙ ap (λ (w : World). loose_fails w held.file.loose) (sym same);
     }
