@@ -1,19 +1,13 @@
 -- How a call ends: the status of each end, when a fault or want of memory may come in place of the end that the order of work
 -- gives, and what out and err took.
-use Rattle.std.specs.Prelude.{ℕ, ◌≡◌, ◌++◌, ◌⊎◌, List, take, [], Option, Some, None, Bool, true, false}
+use Rattle.std.specs.Prelude.{ℕ, ◌≡◌, ◌≢◌, ◌++◌, ◌⊎◌, List, [], Option, Some, None, Bool, true, false}
 use Rattle.std.specs.Option.{ForSome}
 use Rattle.guard_io.specs.Outside.{IsPrefix, FaultCounted}
-use Rattle.guard_lexer.specs.Lexes.{IsTokenList}
-use Rattle.guard_lexer.specs.declared.token.Token.{Token}
-use Rattle.guard_parser.specs.File.{GoesOnPastLimits}
 use Rattle.guard_ends.specs.Lines.{read_fault_line, pattern_line, write_fault_line, memory_line}
-use Rattle.guard_ends.specs.Order.{ComesTo, Contents, EndOf, Ended, Loads, Makes, refused}
+use Rattle.guard_ends.specs.Order.{ComesTo, Contents, EndOf, Ended, Loads, Makes}
 use Rattle.guard_ends.specs.declared.ends.End.{End}
 use Rattle.guard_ends.specs.declared.ends.End.TheVariants as end_is
-use Rattle.guard_ends.specs.declared.ends.Refusal.TheVariants.{At}
-use Rattle.guard_ends.specs.declared.ends.RefusalKind.TheVariants.{Syntax}
 use Rattle.guard_ends.specs.declared.ends.Which.{Which}
-use Rattle.guard_ends.specs.declared.ends.Which.TheVariants as file
 
 -- the exit status of each end
 abbrev pub status_of : End → ℕ
@@ -66,21 +60,21 @@ Unmade words told before after = (text : List ℕ) × ComesTo words told (Makes 
 abbrev pub Unwritten : (before after : Faults) → Type 0
 Unwritten before after = FaultCounted before.out after.out
 
--- a text is the report of such a call, or what is written of evidence
+-- a text is what out takes of such a call: the report, evidence, or what is written of evidence
 abbrev pub IsReport : List (List ℕ) → Contents → List ℕ → Type 0
 IsReport words told text = (e : Ended) × EndOf words told e × (is_reported e.how ≡ true) × (text ≡ e.out)
 
--- a line that may be written on err when out has taken a text: that of usage or a refusal, that of a file whose count rose, and
--- that of a pattern whose count rose, when out has taken nothing, and that of out, whose count rose, when it has taken a front of
--- the report
+-- a line that may be written on err when out has taken a text: what err takes at an end, if it takes something, when out has taken
+-- all that it takes there; that of a file whose count rose, and that of a pattern whose count rose, when out has taken nothing; and
+-- that of out, whose count rose, when it has taken a front of what it takes
 abbrev pub MaySay : List (List ℕ) → Contents → (before after : Faults) → (out line : List ℕ) → Type 0
 MaySay words told before after out line =
-    ((e : Ended) × EndOf words told e × (is_reported e.how ≡ false) × (line ≡ e.err) × (out ≡ []))
+    ((e : Ended) × EndOf words told e × (line ≢ []) × (line ≡ e.err) × (out ≡ e.out))
     ⊎ ((which : Which) × Unread words told before.read.files after.read.files which × (line ≡ read_fault_line which) × (out ≡ []))
     ⊎ (Unmade words told before.read.patterns after.read.patterns × (line ≡ pattern_line) × (out ≡ []))
     ⊎ ((text : List ℕ) × IsReport words told text × IsPrefix out text × Unwritten before after × (line ≡ write_fault_line))
 
--- what out and err may have taken when memory is wanting: nothing yet, a front of the report, or a front of a line
+-- what out and err may have taken when memory is wanting: nothing yet, a front of what out takes, or a front of what err takes
 abbrev pub MayWant : List (List ℕ) → Contents → (before after : Faults) → (out err : List ℕ) → Type 0
 MayWant words told before after out err =
     ((out ≡ []) × (err ≡ []))
@@ -106,7 +100,7 @@ TookOfUnread which out out' err err' = Took out out' [] × Took err err' (read_f
 abbrev pub TookOfUnmade : (out out' err err' : Option (List ℕ)) → Type 0
 TookOfUnmade out out' err err' = Took out out' [] × Took err err' pattern_line
 
--- where out was not written: a front of the report, and the line of that
+-- where out was not written: a front of what it takes, and the line of that
 abbrev pub TookOfUnwritten : List (List ℕ) → Contents → (out out' err err' : Option (List ℕ)) → Type 0
 TookOfUnwritten words told out out' err err' =
     (text front : List ℕ) × IsReport words told text × IsPrefix front text × Took out out' front × Took err err' write_fault_line
@@ -126,14 +120,14 @@ TookOfMemory words told before after out out' err err' =
     (taken front last : List ℕ) × MayWant words told before after taken front
     × IsPrefix last memory_line × Took out out' taken × Took err err' (front ++ last)
 
--- Two ends of one call.
+-- Ends with evidence and without.
 
--- some of the tokens of a text go on only past the limits of rule files
-abbrev pub GoesPastLimits : List ℕ → Type 0
-GoesPastLimits text = (tokens : List Token) × IsTokenList text tokens × ((k : ℕ) × GoesOnPastLimits text (take k tokens))
+-- an end with evidence beside one without: out and err take what they take there, or it is the report that err takes in place of out
+abbrev pub IsBeside : (plain e : Ended) → Type 0
+IsBeside plain e =
+    ((is_reported e.how ≡ false) × (e ≡ plain))
+    ⊎ ((is_reported e.how ≡ true) × (plain ≡ record { how = e.how; out = e.err; err = [] }))
 
--- they are equal, or both refuse rules with these bytes as Syntax, each at a place of its own, and the rules go on only past the limits
-abbrev pub AreSame : List ℕ → Ended → Ended → Type 0
-AreSame rules e other =
-    (e ≡ other)
-    ⊎ ((at : ℕ) × (place : ℕ) × (e ≡ refused rules (At file.Rules Syntax at None)) × (other ≡ refused rules (At file.Rules Syntax place None)) × GoesPastLimits rules)
+-- two ends with evidence: they are equal, or they are alike in how they end and in the report, and each has evidence of its own
+abbrev pub AreSameButEvidence : Ended → Ended → Type 0
+AreSameButEvidence e other = (e ≡ other) ⊎ ((is_reported e.how ≡ true) × (e.how ≡ other.how) × (e.err ≡ other.err))

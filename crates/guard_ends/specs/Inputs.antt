@@ -1,6 +1,5 @@
 -- Which bytes are read as rules, as a template and as evidence, and why others are refused: beside each refusal the
--- condition under which it comes. Of the refusals of one file no two conditions hold together, but that the place of Syntax
--- in rules may be one of several where they go on only past the limits.
+-- condition under which it comes. Of the refusals of one file no two conditions hold together.
 use Rattle.std.specs.Prelude.{ℕ, ◌<◌, ◌≤◌, ◌≡◌, ◌⊎◌, List, Option, Some, None, IsUtf8, codes, length, nat_eq, if◌then◌else◌}
 use Rattle.std.specs.List.{ends_with}
 use Rattle.doc_values.specs.Limits.{evidence_limit, rules_limit, template_limit}

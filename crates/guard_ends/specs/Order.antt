@@ -4,10 +4,14 @@ use Rattle.std.specs.Prelude.{ℕ, ◌≡◌, ◌⊎◌, List, [], Option, None,
 use Rattle.std.specs.List.{list_any}
 use Rattle.std.specs.Option.{ForSome}
 use Rattle.doc_values.specs.Tree.{Forest}
+use Rattle.evidence_lines.specs.Text.{IsEvidence}
 use Rattle.evidence_lines.specs.Versioned.{Versioned}
+use Rattle.evidence_lines.specs.declared.line.Line.{Line}
+use Rattle.evidence_lines.specs.declared.version.Version.TheVariants.{Two}
 use Rattle.evidence_rules.specs.Follows.{Accepts}
 use Rattle.evidence_rules.specs.Rejected.{IsRejectedAt}
 use Rattle.evidence_rules.specs.RuleLines.{AreOfRules}
+use Rattle.evidence_rules.specs.Lean.{IsLean}
 use Rattle.guard_drill.specs.DrillTexts.{template_text}
 use Rattle.guard_syntax.specs.Syntax.{File}
 use Rattle.guard_syntax.specs.declared.row.Verdict.{Verdict}
@@ -60,7 +64,7 @@ IsContent told bytes = ForSome told (λ content. bytes ≡ content)
 
 -- ---- Ends.
 
--- words that ask for nothing, or for what is not done yet
+-- words that ask for nothing
 abbrev pub usage : Ended
 usage = record { how = end_is.Usage; out = []; err = usage_line }
 
@@ -68,14 +72,17 @@ usage = record { how = end_is.Usage; out = []; err = usage_line }
 abbrev pub refused : List ℕ → Refusal → Ended
 refused bytes refusal = record { how = end_is.Refused refusal; out = []; err = refusal_line bytes refusal }
 
--- a template that was judged by rules, by the bytes of both: Failed if a reported verdict is FAIL, else Passed; out takes the
--- report, as it is made
+-- a template that was judged by rules: Failed if a reported verdict is FAIL, else Passed
+abbrev pub how_judged : World → End
+how_judged world = if list_any is_fail (verdicts_of world) then end_is.Failed else end_is.Passed
+
+-- by the bytes of both: out takes the report, as it is made
 abbrev pub judged : Reporting → World → (source template : List ℕ) → Ended
-judged made world source template = record {
-  how = if list_any is_fail (verdicts_of world) then end_is.Failed else end_is.Passed;
-  out = made world source template;
-  err = [];
-}
+judged made world source template = record { how = how_judged world; out = made world source template; err = [] }
+
+-- and with evidence: out takes that, and err the report
+abbrev pub judged_by : (evidence : List ℕ) → Reporting → World → (source template : List ℕ) → Ended
+judged_by evidence made world source template = record { how = how_judged world; out = evidence; err = made world source template }
 
 -- rules and a template that were read, with the bytes of each
 pub record Inputs : Type 0 where
@@ -88,6 +95,17 @@ pub record Inputs : Type 0 where
 abbrev pub IsJudged : Reporting → Inputs → Ended → Type 0
 IsJudged made inputs e = (answers : Answers) × IsAnswering (world_over inputs.rules inputs.tree answers)
     × (e ≡ judged made (world_over inputs.rules inputs.tree answers) inputs.source inputs.template)
+
+-- bytes are evidence of version 2 for rules and a template: it is accepted, no line repeats another, and each but those of rules is
+-- named by a later one
+abbrev pub IsEvidenceFor : File → Forest → List ℕ → Type 0
+IsEvidenceFor rules tree bytes = (lines : List Line) × IsEvidence bytes Two lines × Accepts Two tree rules lines × IsLean lines
+
+-- inputs were judged, and there is evidence of it
+abbrev pub IsJudgedBy : Reporting → Inputs → Ended → Type 0
+IsJudgedBy made inputs e = (answers : Answers) × IsAnswering (world_over inputs.rules inputs.tree answers)
+    × ((evidence : List ℕ) × IsEvidenceFor inputs.rules inputs.tree evidence
+    × (e ≡ judged_by evidence made (world_over inputs.rules inputs.tree answers) inputs.source inputs.template))
 
 -- evidence that was judged, for rules and a template: it is accepted, and out takes the verdicts that it says, or it is rejected
 -- at a line
@@ -158,10 +176,10 @@ abbrev pub OfDrill : (count : ℕ) → Work
 OfDrill count = Ending (λ e. Reading RefusesRules IsRuleFile drill_rules
     (λ rules. ReadingInputs Json drill_rules rules (template_text count) (λ inputs. Ending (IsJudged (drill_report count) inputs))) (Ends e))
 
--- the work of what is asked for, a line for each command; `validate` with `--evidence` is not done yet
+-- the work of what is asked for, a line for each command, and one for `validate` with `--evidence`
 abbrev pub WorkOf : Asked → Contents → Work
 WorkOf (validate rules template false) told = OverFiles told rules template (λ inputs. Ending (IsJudged report inputs))
-WorkOf (validate rules template true) told = Ending (λ e. e ≡ usage)
+WorkOf (validate rules template true) told = OverFiles told rules template (λ inputs. Ending (IsJudgedBy report inputs))
 WorkOf (check rules template proof) told = OverFiles told rules template (OfEvidence told proof)
 WorkOf (drill count) told = OfDrill count
 
