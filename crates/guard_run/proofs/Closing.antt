@@ -1,5 +1,5 @@
 -- What the sinks took, end by end.
-use Rattle.std.proofs.Common.{◌≡◌, ℕ, ◌++◌, inl, inr, List, [], Option, Some, None, refl, sym, ◌∙◌, ap, subst, append_assoc, true}
+use Rattle.std.proofs.Common.{◌≡◌, ◌≢◌, ℕ, ◌++◌, inl, inr, List, [], Option, Some, None, refl, sym, ◌∙◌, ap, subst, append_assoc, true}
 use Rattle.std.proofs.lemmas.List.{append-nil}
 use Rattle.std.specs.Option.{ForSome}
 use Rattle.guard_io.specs.Outside.{IsPrefix}
@@ -41,20 +41,23 @@ Closed-memory words told before after how out out' err err' taken wants wrote (i
 
 -- a line that may be said then, at an end that it closes
 pub Closed-said : (words : List (List ℕ)) (told : Contents) (before after : Faults) (line : List ℕ) (whole how : End) (out out' err err' : Option (List ℕ)) (taken : List ℕ)
-    → MaySay words told before after taken line → Took out out' taken → (Took err err' line → Closed words told before after whole out out' err err')
+    → (line ≢ [] → MaySay words told before after taken line) → Took out out' taken → (Took err err' line → Closed words told before after whole out out' err err')
     → Said line whole how err err' → Closed words told before after how out out' err err'
 Closed-said words told before after line whole how out out' err err' taken says wrote closes (inl (e, said)) =
     subst (λ how. Closed words told before after how out out' err err') (sym e) (closes said)
-Closed-said words told before after line whole how out out' err err' taken says wrote closes (inr (inl (e, (last, front, said)))) =
-    subst (λ how. Closed words told before after how out out' err err') (sym e) (taken, [], line, last, inl (says, refl), front, wrote, said)
-Closed-said words told before after line whole how out out' err err' taken says wrote closes (inr (inr (inl e, (front, last, begun, tried, said)))) =
-    subst (λ how. Closed words told before after how out out' err err') (sym e) (taken, front, last, inr (inr (line, says, begun)), tried, wrote, said)
-Closed-said words told before after line whole how out out' err err' taken says wrote closes (inr (inr (inr e, (front, last, begun, tried, said)))) =
-    subst (λ how. Closed words told before after how out out' err err') (sym e) (taken, front, memory_line, last, inr (inr (inr (line, says, begun)), refl), tried, wrote, said)
+Closed-said words told before after line whole how out out' err err' taken says wrote closes (inr (some, inl (e, (last, front, said)))) =
+    subst (λ how. Closed words told before after how out out' err err') (sym e) (taken, [], line, last, inl (says some, refl), front, wrote, said)
+Closed-said words told before after line whole how out out' err err' taken says wrote closes (inr (some, inr (inl e, (front, last, begun, tried, said)))) =
+    subst (λ how. Closed words told before after how out out' err err') (sym e) (taken, front, last, inr (inr (line, says some, begun)), tried, wrote, said)
+Closed-said words told before after line whole how out out' err err' taken says wrote closes (inr (some, inr (inr e, (front, last, begun, tried, said)))) =
+    subst (λ how. Closed words told before after how out out' err err') (sym e) (taken, front, memory_line, last, inr (inr (inr (line, says some, begun)), refl), tried, wrote, said)
 
--- ends at which out takes a text
+-- ends at which out takes a text, and err another behind that
+abbrev pub reported_with : End → (text further : List ℕ) → Ended
+reported_with how text further = record { how = how; out = text; err = further }
+
 abbrev pub reported_as : End → List ℕ → Ended
-reported_as how text = record { how = how; out = text; err = [] }
+reported_as how text = reported_with how text []
 
 pub reported-defined : (how : End) → is_reported how ≡ true → is_defined how ≡ true
 reported-defined end_is.Passed is = refl
@@ -68,9 +71,9 @@ reported-defined (end_is.WriteFault pipe) is = absurd cc
 reported-defined end_is.PatternRefused is = absurd cc
 reported-defined end_is.Memory is = absurd cc
 
-pub IsReport-as : (words : List (List ℕ)) (told : Contents) (how : End) (text : List ℕ) → is_reported how ≡ true → EndOf words told (reported_as how text)
+pub IsReport-as : (words : List (List ℕ)) (told : Contents) (how : End) (text further : List ℕ) → is_reported how ≡ true → EndOf words told (reported_with how text further)
     → IsReport words told text
-IsReport-as words told how text is end = (reported_as how text, end, is, refl)
+IsReport-as words told how text further is end = (reported_with how text further, end, is, refl)
 
 -- at ends that are defined, what the sinks took is what is defined
 pub Closed-defined : (words : List (List ℕ)) (told : Contents) (before after : Faults) (how : End) (out out' err err' : Option (List ℕ)) → is_defined how ≡ true

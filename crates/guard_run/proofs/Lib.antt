@@ -1,11 +1,9 @@
+mod Accepted
 mod Closing
-mod Judging
-mod LineLists
 mod Loads
 mod Outcomes
+mod PrintedLines
 mod Plainness
 mod Refusing
-mod Reports
 mod Stages
 mod VerdictCounts
-mod Walks

@@ -1,11 +1,11 @@
 -- What comes of work, as it comes to more. By the cases of what stops it.
-use Rattle.std.proofs.Common.{◌≡◌, ◌≤◌, ℕ, List, [], Bool, Result, Ok, Err, MatchResult, refl, ap, sym, subst, arith, inl, inr, ◌∙◌, if◌then◌else◌}
+use Rattle.std.proofs.Common.{◌≡◌, ◌≤◌, ℕ, List, [], Bool, Result, Ok, Err, MatchResult, refl, ap, ap₂, sym, subst, arith, inl, inr, ◌∙◌, if◌then◌else◌}
 use Rattle.std.proofs.lemmas.Result.{err_from_is_err_and}  -- what the exit of a `?` returns
 use Rattle.std.specs.Prelude.{IsErrAnd}
 use Rattle.std.specs.List.{list_any}
 use Rattle.rule_meaning.specs.Locations.{World}
 use Rattle.rule_meaning.specs.Verdicts.{is_fail}
-use Rattle.guard_ends.specs.Order.{Ending, Ends, Loads, Makes, Point, Work, judged, usage}
+use Rattle.guard_ends.specs.Order.{Ending, Ends, Loads, Makes, Point, Work, how_judged, judged, judged_by, usage}
 use Rattle.guard_ends.specs.Report.{Reporting}
 use Rattle.guard_ends.specs.Reported.{verdicts_of}
 use Rattle.guard_ends.specs.declared.ends.End.{End}
@@ -68,9 +68,18 @@ ended-outcome Comes (Err s) is = ended-stop Comes s is
 
 -- what is said of a template that was judged
 pub judged-as : (made : Reporting) (done : Done) (failed : Bool) (report : List ℕ) (world : World) (source template : List ℕ)
-    → done.how ≡ (if failed then end_is.Failed else end_is.Passed) → bytes_of done.out ≡ report
+    → done.how ≡ (if failed then end_is.Failed else end_is.Passed) → bytes_of done.out ≡ report → bytes_of done.err ≡ []
     → report ≡ made world source template → failed ≡ list_any is_fail (verdicts_of world) → ended done ≡ judged made world source template
-judged-as made done failed report world source template how out text fails =
-    ap (λ (h : End). record { how = h; out = bytes_of done.out; err = [] })
+judged-as made done failed report world source template how out err text fails =
+    ap (λ (h : End). record { how = h; out = bytes_of done.out; err = bytes_of done.err })
     (how ∙ ap (λ (f : Bool). if f then end_is.Failed else end_is.Passed) fails)
-    ∙ ap (λ (t : List ℕ). record { how = if list_any is_fail (verdicts_of world) then end_is.Failed else end_is.Passed; out = t; err = [] }) (out ∙ text)
+    ∙ ap₂ (λ (t e : List ℕ). record { how = how_judged world; out = t; err = e }) (out ∙ text) err
+
+-- and with evidence
+pub judged-with : (made : Reporting) (done : Done) (failed : Bool) (report evidence : List ℕ) (world : World) (source template : List ℕ)
+    → done.how ≡ (if failed then end_is.Failed else end_is.Passed) → bytes_of done.out ≡ evidence → bytes_of done.err ≡ report
+    → report ≡ made world source template → failed ≡ list_any is_fail (verdicts_of world) → ended done ≡ judged_by evidence made world source template
+judged-with made done failed report evidence world source template how out err text fails =
+    ap (λ (h : End). record { how = h; out = bytes_of done.out; err = bytes_of done.err })
+    (how ∙ ap (λ (f : Bool). if f then end_is.Failed else end_is.Passed) fails)
+    ∙ ap₂ (λ (t e : List ℕ). record { how = how_judged world; out = t; err = e }) out (err ∙ text)

@@ -1,6 +1,6 @@
 -- What serves the code and its proofs alone: nobody has to believe it.
+pub mod Forms
 pub mod Inputs
-pub mod Listed
 pub mod Loading
 pub mod Outcome
 pub mod Refusals

@@ -107,6 +107,7 @@ fn check_lines(alloc: Global, inputs: &Inputs<'_, '_>, evidence: &Evidence) -> R
             Ok(Done {
                 how: End::Accepted,
                 out: Written::Long(text),
+                err: Written::Nothing,
             })
         }
         Answer::Rejected(number) => Ok(rejected(number)),
@@ -120,6 +121,7 @@ fn rejected(number: u64) -> Done
     Done {
         how: End::Rejected(number),
         out: Written::Short(rejected_text(number)),
+        err: Written::Nothing,
     }
 }
 

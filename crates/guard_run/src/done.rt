@@ -5,10 +5,11 @@ ghost use Rattle.guard_ends.specs.End.{is_reported};
 use crate::written::Written;
 use guard_ends::End;
 
-/// How a call ends whose work is done, and what out takes then.
+/// How a call ends whose work is done, what out takes then, and what err takes behind that.
 #[derive(Drop)]
 pub(crate) struct Done {
     pub how: End,
     pub out: Written,
+    pub err: Written,
     pub ghost reported: { is_reported how ≡ true },
 }

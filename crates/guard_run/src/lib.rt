@@ -16,6 +16,7 @@
 mod check;
 mod done;
 mod drill;
+mod evidence;
 mod inputs;
 mod line;
 mod load;

@@ -11,7 +11,7 @@ use std::alloc::AllocError;
 /// What stops the work of a call before it is done.
 #[derive(Drop)]
 pub(crate) enum Stop {
-    /// The words ask for nothing, or for what is not done yet.
+    /// The words ask for nothing.
     Usage,
     /// A file is refused.
     Refused(Refused),

@@ -1,9 +1,9 @@
 //! `validate`: a template is judged by rules, and the report on it is made.
-ghost use Rattle.std.specs.Prelude.{◌≡◌, ◌≤◌, ℕ, List, false, if◌then◌else◌};
+ghost use Rattle.std.specs.Prelude.{◌≡◌, ◌≤◌, ℕ, List, [], false, if◌then◌else◌};
 ghost use Rattle.guard_words.specs.Request.{validate};
 ghost use Rattle.guard_ends.specs.Order.{Ending, IsJudged, WorkOf};
 ghost use Rattle.guard_run.specs.code.Inputs.{ReadingTexts, inputs_of};
-ghost use Rattle.guard_run.specs.code.Listed.{report_in};
+ghost use Rattle.guard_run.specs.code.Forms.{report_in};
 ghost use Rattle.guard_run.specs.code.Outcome.{IsOutcome, IsOutcomeAt, IsOutcomeBy};
 ghost use Rattle.guard_run.specs.code.Refusals.{bytes_of};
 ghost use Rattle.guard_run.specs.code.Stops.{NoneRose, Rose};
@@ -66,11 +66,13 @@ fn report_on(alloc: Global, inputs: &Inputs<'_, '_>, form: Form) -> Result<Done,
 fn done_by(judgement: Judgement) -> Done
     ensures how { result.how ≡ if judgement.failed then End.Failed else End.Passed }
     ensures out { bytes_of result.out ≡ judgement.report.items }
+    ensures err { bytes_of result.err ≡ [] }
 {
     let Judgement { failed, report } = judgement;
     let how = if failed { End::Failed } else { End::Passed };
     Done {
         how,
         out: Written::Long(report),
+        err: Written::Nothing,
     }
 }

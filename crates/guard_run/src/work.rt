@@ -7,6 +7,7 @@ ghost use Rattle.guard_run.specs.code.Outcome.{IsOutcomeBy};
 use crate::check::run_check;
 use crate::done::Done;
 use crate::drill::run_drill;
+use crate::evidence::run_with_evidence;
 use crate::inputs::Names;
 use crate::stop::Stop;
 use crate::validate::run_validate;
@@ -55,16 +56,18 @@ fn run<F: Files, M: PatternMaker>(
         Request::Validate {
             rules,
             template,
-            evidence: false,
+            evidence,
         } => {
             let names = Names {
                 rules: rules.as_str(),
                 template: template.as_str(),
             };
-            run_validate(alloc, &names, files, maker)
+            if evidence {
+                run_with_evidence(alloc, &names, files, maker)
+            } else {
+                run_validate(alloc, &names, files, maker)
+            }
         }
-        // What is not done yet.
-        Request::Validate { evidence: true, .. } => Err(Stop::Usage),
         Request::Check {
             rules,
             template,

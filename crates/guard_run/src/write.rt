@@ -35,7 +35,7 @@ pub(crate) fn write_outcome<O: Sink, E: Sink>(
     }
 }
 
-/// Writes on out what is done, and gives the end where out took it.
+/// Writes on out, and then on err, what is done, and gives the end where both took it.
 fn write_done<O: Sink, E: Sink>(done: Done, out: &mut O, err: &mut E) -> End
     ensures closed { (words : List (List ℕ)) (told : Contents) (before after : Counts)
         → EndOf words told (ended done)
@@ -47,9 +47,13 @@ fn write_done<O: Sink, E: Sink>(done: Done, out: &mut O, err: &mut E) -> End
     ensures out_count { O.faults out.old ≤ O.faults out.new }
     ensures err_count { E.faults err.old ≤ E.faults err.new }
 {
-    let Done { how, out: text } = done;
+    let Done {
+        how,
+        out: text,
+        err: further,
+    } = done;
     match out.put(text.as_bytes()) {
-        Ok(()) => how,
+        Ok(()) => say(further.as_bytes(), how, err),
         Err(SinkFault::Failed) => say(
             b"guard: cannot write out\n",
             End::WriteFault(Pipe::Out),

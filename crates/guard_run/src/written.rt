@@ -4,9 +4,11 @@ ghost use Rattle.guard_run.specs.code.Refusals.{bytes_of};
 
 use arrayvec::ArrayString;
 
-/// A text that is written: a short line stands on the stack, so that it wants no memory; what may be long stands in memory.
+/// A text that is written, if there is one: a short line stands on the stack, so that it wants no memory; what may be long stands
+/// in memory.
 #[derive(Drop)]
 pub(crate) enum Written {
+    Nothing,
     Short(ArrayString<64>),
     Long(Vec<u8>),
 }
@@ -16,6 +18,7 @@ impl Written {
         ensures { result.now ≡ bytes_of self.now }
     {
         match self {
+            Written::Nothing => &[],
             Written::Short(text) => text.as_str().as_bytes(),
             Written::Long(text) => text.as_slice(),
         }

@@ -1,5 +1,5 @@
 -- What comes of work before anything is written, by the types of the code.
-use Rattle.std.specs.Prelude.{ℕ, List, [], Result, MatchResult}
+use Rattle.std.specs.Prelude.{ℕ, List, Result, MatchResult}
 use Rattle.guard_ends.specs.End.{Counts}
 use Rattle.guard_ends.specs.Order.{Ended, Ends, Work}
 use Rattle.guard_run.specs.code.Refusals.{bytes_of}
@@ -9,7 +9,7 @@ use Rattle.guard_run.specs.declared.stop.Stop.{Stop}
 
 -- the end of work that is done
 abbrev pub ended : Done → Ended
-ended done = record { how = done.how; out = bytes_of done.out; err = [] }
+ended done = record { how = done.how; out = bytes_of done.out; err = bytes_of done.err }
 
 -- the work is done, or it is stopped
 abbrev pub IsOutcome : Work → (FileRose PatternRose : List ℕ → Type 0) → Result Done Stop → Type 0

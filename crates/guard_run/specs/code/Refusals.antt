@@ -9,6 +9,7 @@ use Rattle.guard_run.specs.declared.written.Written.TheVariants as written
 
 -- a text that is written, wherever it is kept
 abbrev pub bytes_of : Written → List ℕ
+bytes_of written.Nothing = []
 bytes_of (written.Short text) = text.bytes
 bytes_of (written.Long text) = text.items
 

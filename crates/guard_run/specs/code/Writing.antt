@@ -1,5 +1,5 @@
 -- The writing of an outcome, end by end, by the types of the code.
-use Rattle.std.specs.Prelude.{ℕ, ◌≡◌, ◌++◌, ◌⊎◌, List, Option}
+use Rattle.std.specs.Prelude.{ℕ, ◌≡◌, ◌≢◌, ◌++◌, ◌⊎◌, List, [], Option}
 use Rattle.guard_io.specs.Outside.{IsPrefix}
 use Rattle.guard_ends.specs.Order.{Contents}
 use Rattle.guard_ends.specs.End.{Faults, Unread, Unmade, Took, TookAsDefined, TookOfUnread, TookOfUnmade, TookOfUnwritten, TookOfUnsaid, TookOfMemory}
@@ -24,10 +24,11 @@ abbrev pub SaidMemory : End → Option (List ℕ) → Option (List ℕ) → Type
 SaidMemory result before after =
     ((result ≡ end_is.Memory) ⊎ (result ≡ end_is.WriteFault Err)) × ((last : List ℕ) × IsPrefix last memory_line × Took before after last)
 
--- an end where a line was tried on err, which is the given one if err took it whole
+-- an end where a text was tried on err, which is the given one if err took it whole; err takes an empty one always
 abbrev pub Said : List ℕ → End → End → Option (List ℕ) → Option (List ℕ) → Type 0
-Said line how result before after =
-    ((result ≡ how) × Took before after line)
-    ⊎ (((result ≡ end_is.WriteFault Err) × ((last : List ℕ) × IsPrefix last line × Took before after last))
+Said text how result before after =
+    ((result ≡ how) × Took before after text)
+    ⊎ ((text ≢ [])
+    × (((result ≡ end_is.WriteFault Err) × ((last : List ℕ) × IsPrefix last text × Took before after last))
     ⊎ (((result ≡ end_is.Memory) ⊎ (result ≡ end_is.WriteFault Err))
-    × ((front last : List ℕ) × IsPrefix front line × IsPrefix last memory_line × Took before after (front ++ last))))
+    × ((front last : List ℕ) × IsPrefix front text × IsPrefix last memory_line × Took before after (front ++ last)))))

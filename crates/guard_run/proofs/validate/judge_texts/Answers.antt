@@ -1,6 +1,6 @@
 use Rattle.guard_ends.specs.Order.{Ending, Ends, Inputs, IsJudged, Work}
 use Rattle.guard_run.specs.code.Inputs.{ReadingTexts}
-use Rattle.guard_run.specs.code.Listed.{report_in}
+use Rattle.guard_run.specs.code.Forms.{report_in}
 use Rattle.guard_run.specs.code.Outcome.{ended}
 use Rattle.guard_run.specs.code.Stops.{IsStop, NoneRose, Rose}
 use Rattle.guard_run.specs.declared.done.Done.{Done}

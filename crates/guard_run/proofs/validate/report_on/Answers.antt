@@ -4,7 +4,7 @@ use Rattle.rule_meaning.specs.Locations.{Answers}
 use Rattle.guard_ends.specs.Order.{Inputs}
 use Rattle.guard_ends.specs.Reported.{world_over}
 use Rattle.guard_run.specs.code.Inputs.{inputs_of}
-use Rattle.guard_run.specs.code.Listed.{report_in}
+use Rattle.guard_run.specs.code.Forms.{report_in}
 use Rattle.guard_run.specs.code.Outcome.{ended}
 use Rattle.guard_run.proofs.Outcomes.{judged-as}
 use Rattle.guard_run.proofs.validate.report_on.Goals as goal
@@ -19,7 +19,7 @@ returns c =
         given.0,
         given.1,
         judged-as (report_in c.args.form) c.done_by.result judgement.failed judgement.report.items (world_over inputs.rules inputs.tree given.0)
-            inputs.source inputs.template c.done_by.ensures.how c.done_by.ensures.out
+            inputs.source inputs.template c.done_by.ensures.how c.done_by.ensures.out c.done_by.ensures.err
             (c.in_ok-judgement.ensures.report given.0 given.1) (c.in_ok-judgement.ensures.failed given.0 given.1),
       ),
       refl,

@@ -1,7 +1,7 @@
-use Rattle.std.proofs.Common.{◌≡◌, ◌∙◌, ℕ, List, Result, ap, ap₂, refl, false, true, string_bytes, subst, sym}
+use Rattle.std.proofs.Common.{◌≡◌, ◌∙◌, ℕ, List, Result, ap, ap₂, false, true, string_bytes, subst, sym}
 use Rattle.guard_words.specs.Request.{Asked, asked, check, drill, validate}
 use Rattle.guard_ends.specs.End.{Counts}
-use Rattle.guard_ends.specs.Order.{Contents, Ends, OfDrill, WorkOf, usage}
+use Rattle.guard_ends.specs.Order.{Contents, OfDrill, WorkOf}
 use Rattle.guard_run.specs.code.Outcome.{IsOutcomeBy}
 use Rattle.guard_run.specs.code.Stops.{NoneRose, Rose}
 use Rattle.guard_run.specs.declared.done.Done.{Done}
@@ -14,27 +14,31 @@ of-same : (request other : Asked) (told : Contents) (before after : Counts) (o :
     → IsOutcomeBy (WorkOf other told) before after o → IsOutcomeBy (WorkOf request told) before after o
 of-same request other told before after o same is = subst (λ (a : Asked). IsOutcomeBy (WorkOf a told) before after o) (sym same) is
 
-pub returns-in-Validate-default-default-false-clause-outcome : goal.returns-in-Validate-default-default-false-clause-outcome
-returns-in-Validate-default-default-false-clause-outcome g c =
-    let read = c.in-Validate-default-default-false in
+pub returns-in-Validate-clause-outcome : goal.returns-in-Validate-clause-outcome
+returns-in-Validate-clause-outcome g c =
+    let read = c.in-Validate in
     let rules = c.as_str.result.now in
-    let template = c.as_str-in-Validate-default-default-false.result.now in
+    let template = c.as_str-in-Validate.result.now in
     let same : asked c.args.request ≡ validate rules template false =
-    ap asked read.is ∙ ap (validate (string_bytes read.rules) (string_bytes read.template)) read.evidence-test
-    ∙ ap₂ (λ (r t : List ℕ). validate r t false) (sym c.as_str.ensures.value) (sym c.as_str-in-Validate-default-default-false.ensures.value) in
+    ap asked read.is ∙ ap (validate (string_bytes read.rules) (string_bytes read.template)) c.if-evidence.false
+    ∙ ap₂ (λ (r t : List ℕ). validate r t false) (sym c.as_str.ensures.value) (sym c.as_str-in-Validate.ensures.value) in
     of-same (asked c.args.request) (validate rules template false) (g.F.Files.content c.args.files.now)
     (record { files = g.F.Files.faults c.args.files.now; patterns = g.M.PatternMaker.faults c.args.maker.now })
     (record { files = g.F.Files.faults c.run_validate.new.files; patterns = g.M.PatternMaker.faults c.run_validate.new.maker })
     c.run_validate.result same c.run_validate.ensures.outcome
 
-pub returns-in-Validate-default-default-true-clause-outcome : goal.returns-in-Validate-default-default-true-clause-outcome
-returns-in-Validate-default-default-true-clause-outcome g c =
-    let read = c.in-Validate-default-default-true in
-    let rules = string_bytes read.rules in
-    let template = string_bytes read.template in
+pub returns-then-evidence-clause-outcome : goal.returns-then-evidence-clause-outcome
+returns-then-evidence-clause-outcome g c =
+    let read = c.in-Validate in
+    let rules = c.as_str.result.now in
+    let template = c.as_str-in-Validate.result.now in
     let same : asked c.args.request ≡ validate rules template true =
-    ap asked read.is ∙ ap (validate rules template) read.evidence-test in
-    subst (λ (a : Asked). WorkOf a (g.F.Files.content c.args.files.now) (Ends usage)) (sym same) (usage, refl, refl)
+    ap asked read.is ∙ ap (validate (string_bytes read.rules) (string_bytes read.template)) c.if-evidence.true
+    ∙ ap₂ (λ (r t : List ℕ). validate r t true) (sym c.as_str.ensures.value) (sym c.as_str-in-Validate.ensures.value) in
+    of-same (asked c.args.request) (validate rules template true) (g.F.Files.content c.args.files.now)
+    (record { files = g.F.Files.faults c.args.files.now; patterns = g.M.PatternMaker.faults c.args.maker.now })
+    (record { files = g.F.Files.faults c.run_with_evidence.new.files; patterns = g.M.PatternMaker.faults c.run_with_evidence.new.maker })
+    c.run_with_evidence.result same c.run_with_evidence.ensures.outcome
 
 pub returns-in-Check-clause-outcome : goal.returns-in-Check-clause-outcome
 returns-in-Check-clause-outcome g c =
@@ -54,8 +58,8 @@ returns-in-Check-clause-outcome g c =
 pub run_drill-requires : goal.run_drill-requires
 run_drill-requires g c = c.requires c.in-Drill.count (ap asked c.in-Drill.is)
 
-pub returns-in-Drill-clause-outcome : goal.returns-in-Drill-clause-outcome
-returns-in-Drill-clause-outcome g c =
+pub returns-clause-outcome : goal.returns-clause-outcome
+returns-clause-outcome g c =
     let counts : Counts = record { files = g.F.Files.faults c.args.files.now; patterns = g.M.PatternMaker.faults c.args.maker.now } in
     of-same (asked c.args.request) (drill c.in-Drill.count) (g.F.Files.content c.args.files.now) counts counts c.run_drill.result (ap asked c.in-Drill.is)
     (IsOutcome-more (OfDrill c.in-Drill.count) (OfDrill c.in-Drill.count) NoneRose (Rose counts.files counts.files) NoneRose (Rose counts.patterns counts.patterns)

@@ -16,7 +16,7 @@ returns-in-Usage-clause-closed g c = λ words told before after out end.
     let none : Took out out [] = Took-nothing out in
     Closed-said words told before after usage_line end_is.Usage c.say.result
     out out (g.E.Sink.told c.args.err.now) (g.E.Sink.told c.say.new.err) []
-    (inl (usage, ends, refl, refl, refl)) none (λ whole. (usage, ends, refl, none, whole)) c.say.ensures.said
+    (λ some. inl (usage, ends, some, refl, refl)) none (λ whole. (usage, ends, refl, none, whole)) c.say.ensures.said
 
 pub returns-in-Refused-clause-closed : goal.returns-in-Refused-clause-closed
 returns-in-Refused-clause-closed g c = λ words told before after out end.
@@ -27,7 +27,7 @@ returns-in-Refused-clause-closed g c = λ words told before after out end.
     (g.E.Sink.told c.args.err.now) (g.E.Sink.told c.say-in-Refused.new.err) = rw c.as_bytes.ensures at c.say-in-Refused.ensures.said in
     Closed-said words told before after (bytes_of r.line) (end_is.Refused r.refusal) c.say-in-Refused.result
     out out (g.E.Sink.told c.args.err.now) (g.E.Sink.told c.say-in-Refused.new.err) []
-    (inl (said r, ends, refl, refl, refl)) none (λ whole. (said r, ends, refl, none, whole)) tried
+    (λ some. inl (said r, ends, some, refl, refl)) none (λ whole. (said r, ends, refl, none, whole)) tried
 
 pub returns-in-Unread-clause-closed : goal.returns-in-Unread-clause-closed
 returns-in-Unread-clause-closed g c = λ words told before after out end.
@@ -39,7 +39,7 @@ returns-in-Unread-clause-closed g c = λ words told before after out end.
     (g.E.Sink.told c.args.err.now) (g.E.Sink.told c.say-in-Unread.new.err) = rw (c.as_bytes-in-Unread.ensures.value, c.read_fault_text.ensures) at c.say-in-Unread.ensures.said in
     Closed-said words told before after (read_fault_line which) (end_is.ReadFault which) c.say-in-Unread.result
     out out (g.E.Sink.told c.args.err.now) (g.E.Sink.told c.say-in-Unread.new.err) []
-    (inr (inl (which, loads, refl, refl))) none (λ whole. (loads, (none, whole))) tried
+    (λ some. inr (inl (which, loads, refl, refl))) none (λ whole. (loads, (none, whole))) tried
 
 pub returns-in-Unmade-clause-closed : goal.returns-in-Unmade-clause-closed
 returns-in-Unmade-clause-closed g c = λ words told before after out end.
@@ -48,7 +48,7 @@ returns-in-Unmade-clause-closed g c = λ words told before after out end.
     let none : Took out out [] = Took-nothing out in
     Closed-said words told before after pattern_line end_is.PatternRefused c.say-in-Unmade.result
     out out (g.E.Sink.told c.args.err.now) (g.E.Sink.told c.say-in-Unmade.new.err) []
-    (inr (inr (inl (unmade, refl, refl)))) none (λ whole. (unmade, (none, whole))) c.say-in-Unmade.ensures.said
+    (λ some. inr (inr (inl (unmade, refl, refl)))) none (λ whole. (unmade, (none, whole))) c.say-in-Unmade.ensures.said
 
 pub returns-in-Memory-clause-closed : goal.returns-in-Memory-clause-closed
 returns-in-Memory-clause-closed g c = λ words told before after out end.

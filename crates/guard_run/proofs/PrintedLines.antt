@@ -1,0 +1,37 @@
+-- Evidence that is printed line by line.
+use Rattle.std.proofs.Common.{◌≡◌, ℕ, ◌+◌, ◌<◌, List, [], ◌∷◌, ◌++◌, length, get_or, take, All, sym, ap, ◌∙◌}
+use Rattle.std.proofs.lemmas.List.{flat_map_more, take_more}
+use Rattle.std.proofs.lemmas.List.Elements.{All-cons, All-more, All-nil}
+use Rattle.evidence_lines.specs.Headers.{header}
+use Rattle.evidence_lines.specs.Shapes.{HasShape, IsBounded, IsInFormat}
+use Rattle.evidence_lines.specs.Spelling.{line_text}
+use Rattle.evidence_lines.specs.Text.{evidence_text}
+use Rattle.evidence_lines.specs.declared.line.Line.{Line}
+use Rattle.evidence_lines.specs.declared.version.Version.{Version}
+use Rattle.doc_values.specs.Tree.{Forest}
+use Rattle.guard_syntax.specs.Syntax.{File}
+use Rattle.rule_meaning.specs.Seeing.{grown}
+use Rattle.rule_meaning.specs.StoreModel.{StoreModel}
+use Rattle.evidence_rules.specs.Follows.{Accepts, AllFollow, nothing_made}
+use Rattle.evidence_rules.proofs.FollowingShapes.{follows-shape}
+
+module _ (version : Version) (lines : List Line) (i : ℕ) (d : Line) (within : i < length lines) where
+  -- one line more
+  pub text-more : (before after : List ℕ) → before ≡ evidence_text version (take i lines) → after ≡ before ++ line_text (get_or lines i d)
+      → after ≡ evidence_text version (take (i + 1) lines)
+  text-more before after printed more =
+      more ∙ ap (λ (t : List ℕ). t ++ line_text (get_or lines i d)) printed ∙ flat_map_more line_text (header version) (take i lines) (get_or lines i d)
+      ∙ ap (λ (ls : List Line). evidence_text version ls) (sym (take_more lines i d within))
+
+  pub format-more : All HasShape lines → All IsInFormat (take i lines) → IsBounded (get_or lines i d) → All IsInFormat (take (i + 1) lines)
+  format-more shapes all bounds = All-more IsInFormat lines i d within all (record { shape = shapes i d within; bounds = bounds })
+
+-- ---- lines that follow have the fields of their kinds
+
+follow-shapes : (version : Version) (known : StoreModel) (before lines : List Line) → AllFollow version known before lines → All HasShape lines
+follow-shapes version known before [] follow = All-nil HasShape
+follow-shapes version known before (line ∷ lines) (more, follows, others) =
+    All-cons HasShape line lines (follows-shape version known before line more follows) (follow-shapes version (grown known more) (before ++ line ∷ []) lines others)
+
+pub accepted-shapes : (version : Version) (template : Forest) (rules : File) (lines : List Line) → Accepts version template rules lines → All HasShape lines
+accepted-shapes version template rules lines accepts = follow-shapes version (nothing_made template rules) [] lines accepts.follow

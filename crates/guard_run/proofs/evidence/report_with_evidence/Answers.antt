@@ -1,0 +1,42 @@
+use Rattle.std.proofs.Common.{refl, subst}
+use Rattle.evidence_lines.specs.Text.{IsEvidence}
+use Rattle.evidence_lines.specs.declared.version.Version.{Version}
+use Rattle.evidence_lines.specs.declared.version.Version.TheVariants.{Two}
+use Rattle.rule_meaning.specs.FunctionMeaning.{IsAnswering}
+use Rattle.rule_meaning.specs.Locations.{Answers}
+use Rattle.guard_ends.specs.Order.{Inputs}
+use Rattle.guard_ends.specs.Report.{report}
+use Rattle.guard_ends.specs.Reported.{world_over}
+use Rattle.guard_run.specs.code.Inputs.{inputs_of}
+use Rattle.guard_run.specs.code.Outcome.{ended}
+use Rattle.guard_run.proofs.Outcomes.{judged-with}
+use Rattle.guard_run.proofs.PrintedLines.{accepted-shapes}
+use Rattle.guard_run.proofs.evidence.report_with_evidence.Goals as goal
+
+pub evidence_text-requires : goal.evidence_text-requires
+evidence_text-requires c =
+    let inputs : Inputs = inputs_of c.args.inputs.now in
+    accepted-shapes Two inputs.tree inputs.rules c.in_ok-engine.engine.evidence.lines c.in_ok-engine.ensures.accepted
+
+pub returns : goal.returns
+returns c =
+    let inputs : Inputs = inputs_of c.args.inputs.now in
+    let judgement = c.in_ok-judgement.judgement in
+    let engine = c.in_ok-engine.engine in
+    let text = c.in_ok-evidence.evidence.items in
+    let given : (answers : Answers) × IsAnswering (world_over inputs.rules inputs.tree answers) = c.one_answer_over_locations.ensures.some inputs.tree inputs.rules in
+    let written : IsEvidence text Two engine.evidence.lines = subst (λ (v : Version). IsEvidence text v engine.evidence.lines) engine.version c.in_ok-evidence.ensures in (
+      ended c.done_with.result,
+      (
+        given.0,
+        given.1,
+        (
+          text,
+          (engine.evidence.lines, written, c.in_ok-engine.ensures.accepted, c.in_ok-engine.ensures.lean),
+          judged-with report c.done_with.result judgement.failed judgement.report.items text (world_over inputs.rules inputs.tree given.0)
+              inputs.source inputs.template c.done_with.ensures.how c.done_with.ensures.out c.done_with.ensures.err
+              (c.in_ok-judgement.ensures.report given.0 given.1) (c.in_ok-judgement.ensures.failed given.0 given.1),
+        ),
+      ),
+      refl,
+    )

@@ -1,0 +1,52 @@
+use Rattle.std.proofs.Common.{◌≡◌, IfOk, string_bytes, subst, sym}
+use Rattle.std.specs.List.{list_any}
+use Rattle.guard_syntax.specs.Syntax.{File}
+use Rattle.rule_names.specs.code.Files.{file_of}
+use Rattle.rule_meaning.specs.FunctionMeaning.{IsAnswering}
+use Rattle.rule_meaning.specs.Locations.{World}
+use Rattle.rule_meaning.specs.Verdicts.{is_fail}
+use Rattle.evidence_lookups.specs.code.Grounds.{known_of, lines_of}
+use Rattle.evidence_lookups.specs.code.Owned.{AreOwners}
+use Rattle.clause_eval.specs.code.Engines.{see_engine}
+use Rattle.evidence_report.proofs.TakenTexts.{none-at-exit}
+use Rattle.guard_ends.specs.Reported.{verdicts_of}
+use Rattle.guard_run.specs.code.Forms.{report_in}
+use Rattle.guard_run.proofs.Accepted.{accepted-in, same-world}
+use Rattle.guard_run.proofs.report.judgement_of.Goals as goal
+
+pub line_context-context-requires-clause-owners : goal.line_context-context-requires-clause-owners
+line_context-context-requires-clause-owners c = subst (λ (f : File). AreOwners f c.in_ok-owners.owners) (sym c.requires.file) c.in_ok-owners.ensures
+
+pub judgement_by-requires : goal.judgement_by-requires
+judgement_by-requires c =
+    let inputs = c.args.inputs.now in
+    let made = c.line_context-context.result in
+    accepted-in (see_engine c.args.engine.now) (file_of inputs.rules.now.file) inputs.tree c.requires.template c.requires.file c.requires.accepted c.requires.whole made.version (known_of made) (lines_of made)
+    c.line_context-context.ensures.version c.line_context-context.ensures.known c.line_context-context.ensures.lines
+
+pub returns-in_err-owners-clause-report : goal.returns-in_err-owners-clause-report
+returns-in_err-owners-clause-report c answers obey = none-at-exit _ c.from_residual.result c.in_err-owners.field-0.0 c.from_residual.ensures.1
+
+pub returns-in_err-owners-clause-failed : goal.returns-in_err-owners-clause-failed
+returns-in_err-owners-clause-failed c answers obey = none-at-exit _ c.from_residual.result c.in_err-owners.field-0.0 c.from_residual.ensures.1
+
+pub returns-in_err-judged-clause-report : goal.returns-in_err-judged-clause-report
+returns-in_err-judged-clause-report c answers obey = none-at-exit _ c.from_residual-in_err-judged.result c.in_err-judged.field-0.0 c.from_residual-in_err-judged.ensures.1
+
+pub returns-in_err-judged-clause-failed : goal.returns-in_err-judged-clause-failed
+returns-in_err-judged-clause-failed c answers obey = none-at-exit _ c.from_residual-in_err-judged.result c.in_err-judged.field-0.0 c.from_residual-in_err-judged.ensures.1
+
+pub returns-clause-report : goal.returns-clause-report
+returns-clause-report c answers obey =
+    let inputs = c.args.inputs.now in
+    let made = c.line_context-context.result in
+    let same = same-world (see_engine c.args.engine.now) (file_of inputs.rules.now.file) inputs.tree c.requires.template c.requires.file (known_of made) answers c.line_context-context.ensures.known in
+    subst (λ (w : World). IfOk c.judgement_by.result (λ j. j.report.items ≡ report_in c.args.form w (string_bytes inputs.rules.now.text) inputs.template.now)) (sym same)
+    (c.judgement_by.ensures.report answers (subst IsAnswering same obey))
+
+pub returns-clause-failed : goal.returns-clause-failed
+returns-clause-failed c answers obey =
+    let inputs = c.args.inputs.now in
+    let made = c.line_context-context.result in
+    let same = same-world (see_engine c.args.engine.now) (file_of inputs.rules.now.file) inputs.tree c.requires.template c.requires.file (known_of made) answers c.line_context-context.ensures.known in
+    subst (λ (w : World). IfOk c.judgement_by.result (λ j. j.failed ≡ list_any is_fail (verdicts_of w))) (sym same) (c.judgement_by.ensures.failed answers (subst IsAnswering same obey))

@@ -1,0 +1,14 @@
+use Rattle.std.proofs.Common.{◌≡◌, ◌++◌, ◌∙◌, ℕ, List, Some, ap, refl}
+use Rattle.std.proofs.lemmas.Option.{same_Some}
+use Rattle.rule_meaning.specs.Seeing.{world_of}
+use Rattle.evidence_lookups.specs.code.Grounds.{known_of}
+use Rattle.guard_ends.specs.Report.{report}
+use Rattle.guard_run.proofs.report.page_report.Goals as goal
+
+pub returns-in-Ok : goal.returns-in-Ok
+returns-in-Ok c answers obey =
+    let page = c.args.page.now in
+    let text = report (world_of (known_of c.args.context.now) answers) page.rules.now.text.now page.template.now.text.now in
+    let before : List ℕ = c.new.result.items in
+    let taken : Some c.write_report.new.sink.bytes.items ≡ Some (before ++ text) = c.in-Ok.ensures.ok answers obey before refl in
+    same_Some c.write_report.new.sink.bytes.items (before ++ text) taken ∙ ap (λ (front : List ℕ). front ++ text) c.new.ensures.items

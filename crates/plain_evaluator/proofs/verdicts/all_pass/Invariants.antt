@@ -1,8 +1,0 @@
-use Rattle.std.proofs.Common.{◌≡◌, drop}
-use Rattle.std.specs.List.{list_all}
-use Rattle.value_compare.specs.code.Stores.{see_store}
-use Rattle.rule_meaning.specs.Keys.{passes}
-use Rattle.plain_evaluator.proofs.verdicts.all_pass.Given as goal
-
-abbrev pub invariant-loop-left : goal.invariant-loop-left
-invariant-loop-left l = list_all (passes (see_store l.store) l.op l.not l.rights) l.lefts ≡ list_all (passes (see_store l.store) l.op l.not l.rights) (drop l.left-index l.lefts)

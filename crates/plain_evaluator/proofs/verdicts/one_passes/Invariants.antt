@@ -1,8 +1,0 @@
-use Rattle.std.proofs.Common.{◌≡◌, drop}
-use Rattle.std.specs.List.{list_any}
-use Rattle.value_compare.specs.code.Stores.{see_store}
-use Rattle.rule_meaning.specs.Keys.{passes}
-use Rattle.plain_evaluator.proofs.verdicts.one_passes.Given as goal
-
-abbrev pub invariant-loop-left : goal.invariant-loop-left
-invariant-loop-left l = list_any (passes (see_store l.store) l.op l.not l.rights) l.lefts ≡ list_any (passes (see_store l.store) l.op l.not l.rights) (drop l.left-index l.lefts)
