@@ -17,3 +17,4 @@ mod OneTemplate
 mod OneText
 mod OneVerdict
 mod RankedGraphs
+mod WithEvidence

@@ -1,4 +1,4 @@
--- A call has one end, but for the place of Syntax in rules that go on only past the limits. By the cases of the order of work.
+-- A call has one end. By the cases of the order of work.
 use Rattle.std.proofs.Common.{◌≡◌, ℕ, List, Some, inl, inr, sym, ◌∙◌, ap, subst}
 use Rattle.doc_values.specs.Tree.{Forest}
 use Rattle.guard_drill.specs.DrillTexts.{template_text}
@@ -6,13 +6,12 @@ use Rattle.guard_syntax.specs.Syntax.{File}
 use Rattle.guard_words.specs.Request.{Asked, AsksFor}
 use Rattle.guard_words.proofs.RequestLemmas.{asked_once, asked_parsed}
 use Rattle.guard_ends.specs.Drill.{drill_report, drill_rules}
-use Rattle.guard_ends.specs.End.{AreSame}
 use Rattle.guard_ends.specs.Inputs.{IsRuleFile, IsTemplate, RefusesRules, format_of}
 use Rattle.guard_ends.specs.Order.{AreRead, ComesTo, Contents, Ended, Ending, Ends, Inputs, IsJudged, Loading, OfDrill, OverFiles, Point, Reading, ReadingInputs, Work, WorkOf, refused}
 use Rattle.guard_ends.specs.declared.ends.Refusal.{Refusal}
 use Rattle.guard_ends.specs.declared.ends.Which.TheVariants as file
 use Rattle.guard_ends.specs.declared.format.Format.TheVariants.{Json}
-use Rattle.guard_laws.proofs.OneRules.{AreAlikeRefusals, refusals-alike, refusal-apart, rules-one}
+use Rattle.guard_laws.proofs.OneRules.{refusals-alike, refusal-apart, rules-one}
 use Rattle.guard_laws.proofs.OneStage.{HasOne, ending-is, ending-one, ends-one, loaded, loading-one}
 use Rattle.guard_laws.proofs.OneSyntax.{OneSyntax}
 use Rattle.guard_laws.proofs.OneTemplate.{OneTemplate, inputs-go, inputs-one, judged-one}
@@ -32,20 +31,16 @@ work-asked words told request asked p (inr (none, usage)) = absurd (none request
 
 -- ---- rules
 
-refused-same : (bytes : List ℕ) (e other : Ended) → (r q : Refusal) → e ≡ refused bytes r → other ≡ refused bytes q → AreAlikeRefusals bytes r q → AreSame bytes e other
-refused-same bytes e other r q is is' (inl same) = inl (is ∙ (ap (refused bytes) same ∙ sym is'))
-refused-same bytes e other r q is is' (inr (at, place, same, same', past)) = inr (at, place, is ∙ ap (refused bytes) same, is' ∙ ap (refused bytes) same', past)
-
 module _ (law : OneSyntax) (rules : List ℕ) (GoesOn : File → Work) where
   -- where the work behind the rules has one end, so has the work with them
   rules-same : ((read : File) → HasOne (GoesOn read)) → (e other : Ended) → Reading RefusesRules IsRuleFile rules GoesOn (Ends e)
-      → Reading RefusesRules IsRuleFile rules GoesOn (Ends other) → AreSame rules e other
+      → Reading RefusesRules IsRuleFile rules GoesOn (Ends other) → e ≡ other
   rules-same one e other (inl (r, h, is)) (inl (q, h', is')) =
-      refused-same rules e other r q (ends-one e (refused rules r) is) (ends-one other (refused rules q) is') (refusals-alike law rules r q h h')
+      ends-one e (refused rules r) is ∙ (ap (refused rules) (refusals-alike law rules r q h h') ∙ sym (ends-one other (refused rules q) is'))
   rules-same one e other (inl (r, h, is)) (inr (read, whole, goes)) = absurd (refusal-apart law rules r read h whole)
   rules-same one e other (inr (read, whole, goes)) (inl (r, h, is)) = absurd (refusal-apart law rules r read h whole)
   rules-same one e other (inr (read, whole, goes)) (inr (read', whole', goes')) =
-      inl (one read e other goes (subst (λ (r : File). GoesOn r (Ends other)) (sym (rules-one law rules read read' whole whole')) goes'))
+      one read e other goes (subst (λ (r : File). GoesOn r (Ends other)) (sym (rules-one law rules read read' whole whole')) goes')
 
   -- where the rules are read, the work goes on behind them
   rules-go : (read : File) → IsRuleFile rules read → (e : Ended) → Reading RefusesRules IsRuleFile rules GoesOn (Ends e) → GoesOn read (Ends e)
@@ -74,7 +69,7 @@ module _
 
     -- where what a command does with the inputs has one end, so has the command
     pub files-same : ((inputs : Inputs) → HasOne (GoesOn inputs)) → (e other : Ended)
-        → OverFiles told rules_name template_name GoesOn (Ends e) → OverFiles told rules_name template_name GoesOn (Ends other) → AreSame rules e other
+        → OverFiles told rules_name template_name GoesOn (Ends e) → OverFiles told rules_name template_name GoesOn (Ends other) → e ≡ other
     files-same each e other came came' =
         rules-same law rules (Loads_template rules)
         (λ read. loading-one file.Template told template_name template (Reads_inputs rules read) known'
@@ -102,7 +97,7 @@ module _ (law : OneSyntax) (count : ℕ) (one : OneTemplate (template_text count
   abbrev Reads_drill : Ended → Type 0
   Reads_drill e = Reading RefusesRules IsRuleFile drill_rules Over (Ends e)
 
-  pub drill-same : (e other : Ended) → OfDrill count (Ends e) → OfDrill count (Ends other) → AreSame drill_rules e other
+  pub drill-same : (e other : Ended) → OfDrill count (Ends e) → OfDrill count (Ends other) → e ≡ other
   drill-same e other came came' =
       rules-same law drill_rules Over
       (λ rules. inputs-one Json drill_rules rules (template_text count) one Judges

@@ -1,16 +1,14 @@
--- Rules have one reading or one refusal, but for the place of Syntax past the limits. By the cases of the refusals.
+-- Rules have one reading or one refusal. By the cases of the refusals.
 use Rattle.std.proofs.Common.{◌≡◌, ◌⊎◌, ◌≤◌, ℕ, List, length, Option, None, arith, inl, inr, refl, sym, ap, ◌∙◌, subst}
 use Rattle.doc_values.specs.Limits.{rules_limit}
 use Rattle.guard_syntax.specs.Syntax.{File}
 use Rattle.rule_names.specs.Faults.{Fault}
 use Rattle.rule_names.specs.WellNamed.{WellNamed, IsNameFault}
 use Rattle.guard_laws.proofs.OneFault.{one-fault, fault-apart}
-use Rattle.guard_ends.specs.End.{GoesPastLimits}
 use Rattle.guard_ends.specs.Inputs.{IsText, IsTooLong, IsNoText, IsSyntax, IsRuleFile, RefusesText, RefusesNames, RefusesRules, name_kind, name_said}
 use Rattle.guard_ends.specs.declared.ends.Refusal.{Refusal}
 use Rattle.guard_ends.specs.declared.ends.Refusal.TheVariants.{DataUnread, TooLong, NotText, EvidenceSyntax, At}
 use Rattle.guard_ends.specs.declared.ends.RefusalKind.{RefusalKind}
-use Rattle.guard_ends.specs.declared.ends.RefusalKind.TheVariants.{Syntax}
 use Rattle.guard_ends.specs.declared.ends.Which.TheVariants as file
 use Rattle.guard_laws.proofs.OneSyntax.{OneSyntax, AreAlike, syntax-one, text-alike, text-apart}
 
@@ -57,17 +55,9 @@ rules-why bytes (At file.Rules kind at name) (text, inr h) = inr (inr (inr (text
 rules-why bytes (At file.Template kind at name) h = absurd h
 rules-why bytes (At file.Proof kind at name) h = absurd h
 
--- the same refusal, or Syntax twice where the text goes on only past the limits
-abbrev pub AreAlikeRefusals : List ℕ → Refusal → Refusal → Type 0
-AreAlikeRefusals text r other =
-    (r ≡ other) ⊎ ((at : ℕ) × (place : ℕ) × (r ≡ At file.Rules Syntax at None) × (other ≡ At file.Rules Syntax place None) × GoesPastLimits text)
-
-placed-alike : (text : List ℕ) (kind : RefusalKind) (at : ℕ) (other : RefusalKind) (place : ℕ) (r q : Refusal) → r ≡ At file.Rules kind at None → q ≡ At file.Rules other place None
-    → AreAlike text kind at other place → AreAlikeRefusals text r q
-placed-alike text kind at other place r q is is' (inl (k, a)) =
-    inl (is ∙ (ap (λ x. At file.Rules x at None) k ∙ (ap (λ x. At file.Rules other x None) a ∙ sym is')))
-placed-alike text kind at other place r q is is' (inr (k, k', past)) =
-    inr (at, place, is ∙ ap (λ x. At file.Rules x at None) k, is' ∙ ap (λ x. At file.Rules x place None) k', past)
+placed-alike : (kind : RefusalKind) (at : ℕ) (other : RefusalKind) (place : ℕ) (r q : Refusal) → r ≡ At file.Rules kind at None → q ≡ At file.Rules other place None
+    → AreAlike kind at other place → r ≡ q
+placed-alike kind at other place r q is is' (k, a) = is ∙ (ap (λ x. At file.Rules x at None) k ∙ (ap (λ x. At file.Rules other x None) a ∙ sym is'))
 
 -- a syntax has one refusal, and none if it is a rule file
 faulty-one : (f : File) (r q : Refusal) → IsFaulty f r → IsFaulty f q → r ≡ q
@@ -81,36 +71,36 @@ faulty-apart f r (fault, is, first) named = fault-apart f fault first named
 long-apart : (bytes : List ℕ) → IsTooLong rules_limit bytes → length bytes ≤ rules_limit → ⊥
 long-apart bytes long within = omega arith
 
-why-alike : OneSyntax → (bytes : List ℕ) (r q : Refusal) → RulesWhy bytes r → RulesWhy bytes q → AreAlikeRefusals bytes r q
-why-alike law bytes r q (inl (is, long)) (inl (is', long')) = inl (is ∙ sym is')
+why-alike : OneSyntax → (bytes : List ℕ) (r q : Refusal) → RulesWhy bytes r → RulesWhy bytes q → r ≡ q
+why-alike law bytes r q (inl (is, long)) (inl (is', long')) = is ∙ sym is'
 why-alike law bytes r q (inl (is, long)) (inr (inl (is', bad))) = absurd (long-apart bytes long bad.0)
 why-alike law bytes r q (inl (is, long)) (inr (inr (inl (kind, at, is', text, h)))) = absurd (long-apart bytes long text.within)
 why-alike law bytes r q (inl (is, long)) (inr (inr (inr (text, f)))) = absurd (long-apart bytes long text.within)
 why-alike law bytes r q (inr (inl (is, bad))) (inl (is', long)) = absurd (long-apart bytes long bad.0)
-why-alike law bytes r q (inr (inl (is, bad))) (inr (inl (is', bad'))) = inl (is ∙ sym is')
+why-alike law bytes r q (inr (inl (is, bad))) (inr (inl (is', bad'))) = is ∙ sym is'
 why-alike law bytes r q (inr (inl (is, bad))) (inr (inr (inl (kind, at, is', text, h)))) = absurd (bad.1 text.utf8)
 why-alike law bytes r q (inr (inl (is, bad))) (inr (inr (inr (text, f)))) = absurd (bad.1 text.utf8)
 why-alike law bytes r q (inr (inr (inl (kind, at, is, text, h)))) (inl (is', long)) = absurd (long-apart bytes long text.within)
 why-alike law bytes r q (inr (inr (inl (kind, at, is, text, h)))) (inr (inl (is', bad))) = absurd (bad.1 text.utf8)
 why-alike law bytes r q (inr (inr (inl (kind, at, is, text, h)))) (inr (inr (inl (other, place, is', text', h')))) =
-    placed-alike bytes kind at other place r q is is' (text-alike law bytes kind at other place text.within h h')
+    placed-alike kind at other place r q is is' (text-alike law bytes kind at other place h h')
 why-alike law bytes r q (inr (inr (inl (kind, at, is, text, h)))) (inr (inr (inr (text', (f, spelled, why))))) =
-    absurd (text-apart law bytes kind at f text.within h spelled)
+    absurd (text-apart law bytes kind at f h spelled)
 why-alike law bytes r q (inr (inr (inr (text, f)))) (inl (is', long)) = absurd (long-apart bytes long text.within)
 why-alike law bytes r q (inr (inr (inr (text, f)))) (inr (inl (is', bad))) = absurd (bad.1 text.utf8)
 why-alike law bytes r q (inr (inr (inr (text, (f, spelled, why))))) (inr (inr (inl (kind, at, is', text', h)))) =
-    absurd (text-apart law bytes kind at f text.within h spelled)
+    absurd (text-apart law bytes kind at f h spelled)
 why-alike law bytes r q (inr (inr (inr (text, (f, spelled, why))))) (inr (inr (inr (text', (g, spelled', why'))))) =
-    inl (faulty-one f r q why (subst (λ (h : File). IsFaulty h q) (syntax-one law bytes g f spelled' spelled) why'))
+    faulty-one f r q why (subst (λ (h : File). IsFaulty h q) (syntax-one law bytes g f spelled' spelled) why')
 
-pub refusals-alike : OneSyntax → (bytes : List ℕ) (r q : Refusal) → RefusesRules bytes r → RefusesRules bytes q → AreAlikeRefusals bytes r q
+pub refusals-alike : OneSyntax → (bytes : List ℕ) (r q : Refusal) → RefusesRules bytes r → RefusesRules bytes q → r ≡ q
 refusals-alike law bytes r q h h' = why-alike law bytes r q (rules-why bytes r h) (rules-why bytes q h')
 
 -- what is refused is no rule file
 why-apart : OneSyntax → (bytes : List ℕ) (r : Refusal) (rules : File) → RulesWhy bytes r → IsRuleFile bytes rules → ⊥
 why-apart law bytes r rules (inl (is, long)) whole = long-apart bytes long whole.text.within
 why-apart law bytes r rules (inr (inl (is, bad))) whole = bad.1 whole.text.utf8
-why-apart law bytes r rules (inr (inr (inl (kind, at, is, text, h)))) whole = text-apart law bytes kind at rules text.within h whole.read
+why-apart law bytes r rules (inr (inr (inl (kind, at, is, text, h)))) whole = text-apart law bytes kind at rules h whole.read
 why-apart law bytes r rules (inr (inr (inr (text, (f, spelled, why))))) whole =
     faulty-apart rules r (subst (λ (g : File). IsFaulty g r) (syntax-one law bytes f rules spelled whole.read) why) whole.named
 

@@ -18,10 +18,10 @@ HasOne Comes = (e other : Ended) → Comes (Ends e) → Comes (Ends other) → e
 pub ends-one : (e other : Ended) → Ends e ≡ Ends other → e ≡ other
 ends-one e other same = cc
 
-never-load : (e : Ended) (which : Which) (name : List ℕ) → Ends e ≡ Loads which name → ⊥
+pub never-load : (e : Ended) (which : Which) (name : List ℕ) → Ends e ≡ Loads which name → ⊥
 never-load e which name same = cc
 
-never-make : (e : Ended) (text : List ℕ) → Ends e ≡ Makes text → ⊥
+pub never-make : (e : Ended) (text : List ℕ) → Ends e ≡ Makes text → ⊥
 never-make e text same = cc
 
 pub ending-is : (Is : Ended → Type 0) (e : Ended) → Ending Is (Ends e) → Is e

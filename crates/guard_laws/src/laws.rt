@@ -1,5 +1,6 @@
 //! The laws. The bodies cite other laws and do nothing else; a law is kept by a contract.
-ghost use Rattle.std.specs.Prelude.{◌≡◌, ◌≤◌, ◌⊎◌, ℕ, List, Some, false};
+ghost use Rattle.std.specs.Prelude.{◌≡◌, ◌≤◌, ◌⊎◌, ℕ, List, Some, false, true, length};
+ghost use Rattle.doc_values.specs.Limits.{evidence_limit};
 ghost use Rattle.doc_values.specs.Tree.{Forest, Label, Nil, Node};
 ghost use Rattle.doc_values.specs.declared.kind.Kind.TheVariants as kind;
 ghost use Rattle.evidence_lines.specs.Versioned.{Versioned};
@@ -11,9 +12,9 @@ ghost use Rattle.rule_meaning.specs.FunctionMeaning.{IsAnswering};
 ghost use Rattle.rule_meaning.specs.Locations.{Answers};
 ghost use Rattle.guard_ends.specs.Check.{accepted_text};
 ghost use Rattle.guard_ends.specs.Drill.{drill_report, drill_rules};
-ghost use Rattle.guard_ends.specs.End.{AreSame};
+ghost use Rattle.guard_ends.specs.End.{AreSameButEvidence, IsBeside, is_reported};
 ghost use Rattle.guard_ends.specs.Inputs.{IsProof, IsRuleFile, IsTemplate, RefusesTemplate, format_of};
-ghost use Rattle.guard_ends.specs.Order.{AreRead, ComesTo, Contents, EndOf, Ended, Ends, IsChecked, IsJudged, Point};
+ghost use Rattle.guard_ends.specs.Order.{AreRead, ComesTo, Contents, EndOf, Ended, Ends, IsChecked, IsJudged, IsJudgedBy, Point};
 ghost use Rattle.guard_ends.specs.Report.{report};
 ghost use Rattle.guard_ends.specs.Reported.{verdicts_of, world_over};
 ghost use Rattle.guard_ends.specs.declared.ends.End.TheVariants as end_is;
@@ -28,15 +29,18 @@ use query_steps::one_answer_over_locations;
 use std::str;
 
 /// The law that a call has one end: where the words ask for files whose contents are told, two ends that the definition gives
-/// are equal, or both refuse the rules as Syntax, each at a place of its own, and the rules go on only past the limits of rule
-/// files. A clause for each command. The body does nothing; a law is kept by a contract.
+/// are equal. A clause for each command. With `--evidence` two ends are alike but for the evidence, of which there may be more
+/// than one. The body does nothing; a law is kept by a contract.
 pub fn only_end(rules: &[u8], template: &[u8], evidence: &[u8])
     ensures validated { (words : List (List ℕ)) (told : Contents) (r t : List ℕ) (e other : Ended)
         → AsksFor words (validate r t false) → told r ≡ Some rules.now → told t ≡ Some template.now
-        → EndOf words told e → EndOf words told other → AreSame rules.now e other }
+        → EndOf words told e → EndOf words told other → e ≡ other }
+    ensures evidenced { (words : List (List ℕ)) (told : Contents) (r t : List ℕ) (e other : Ended)
+        → AsksFor words (validate r t true) → told r ≡ Some rules.now → told t ≡ Some template.now
+        → EndOf words told e → EndOf words told other → AreSameButEvidence e other }
     ensures checked { (words : List (List ℕ)) (told : Contents) (r t p : List ℕ) (e other : Ended)
         → AsksFor words (check r t p) → told r ≡ Some rules.now → told t ≡ Some template.now → told p ≡ Some evidence.now
-        → EndOf words told e → EndOf words told other → AreSame rules.now e other }
+        → EndOf words told e → EndOf words told other → e ≡ other }
 {
     one_syntax();
     only_template(template);
@@ -76,13 +80,39 @@ pub fn only_drill()
     one_answer_over_locations();
 }
 
+/// The law that `--evidence` changes nothing but where the report goes: each end of a call with it stands beside an end of the call
+/// without it, over the same files.
+pub fn evidence_is_beside()
+    ensures { (words plain_words : List (List ℕ)) (told : Contents) (r t : List ℕ) (e : Ended)
+        → AsksFor words (validate r t true) → AsksFor plain_words (validate r t false) → EndOf words told e
+        → (plain : Ended) × EndOf plain_words told plain × IsBeside plain e }
+{}
+
+/// The law that what is written as evidence is accepted: where a call with `--evidence` ends with a report, and a check of files with
+/// the same rules and the same template, in the same format, has as evidence what out took, which is no longer than evidence may be,
+/// then each end of the check is Accepted.
+pub fn written_is_accepted(rules: &[u8], template: &[u8], evidence: &[u8])
+    ensures { (words check_words : List (List ℕ)) (told told_later : Contents) (r t s u p : List ℕ) (e other : Ended)
+        → AsksFor words (validate r t true) → AsksFor check_words (check s u p) → format_of u ≡ format_of t
+        → told r ≡ Some rules.now → told t ≡ Some template.now
+        → told_later s ≡ Some rules.now → told_later u ≡ Some template.now → told_later p ≡ Some evidence.now
+        → EndOf words told e → is_reported e.how ≡ true → e.out ≡ evidence.now → length evidence.now ≤ evidence_limit
+        → EndOf check_words told_later other → other.how ≡ end_is.Accepted }
+{
+    following_is_accepted(rules, template, evidence);
+}
+
 /// The law of completeness: where the words ask for `validate` of two files, whose contents are told, and these are a rule file
 /// and a template whose patterns can all be read, each end that the definition gives is one of the template that was judged.
 pub fn accepted_is_judged(rules: &[u8], template: &[u8])
-    ensures { (words : List (List ℕ)) (told : Contents) (r t : List ℕ) (file : File) (tree : Forest) (e : Ended)
+    ensures plain { (words : List (List ℕ)) (told : Contents) (r t : List ℕ) (file : File) (tree : Forest) (e : Ended)
         → AsksFor words (validate r t false) → told r ≡ Some rules.now → told t ≡ Some template.now
         → IsRuleFile rules.now file → IsTemplate (format_of t) template.now tree → AreRead file
         → EndOf words told e → IsJudged report (record { source = rules.now; rules = file; template = template.now; tree = tree }) e }
+    ensures evidenced { (words : List (List ℕ)) (told : Contents) (r t : List ℕ) (file : File) (tree : Forest) (e : Ended)
+        → AsksFor words (validate r t true) → told r ≡ Some rules.now → told t ≡ Some template.now
+        → IsRuleFile rules.now file → IsTemplate (format_of t) template.now tree → AreRead file
+        → EndOf words told e → IsJudgedBy report (record { source = rules.now; rules = file; template = template.now; tree = tree }) e }
 {
     one_syntax();
     only_template(template);

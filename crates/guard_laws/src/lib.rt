@@ -7,5 +7,5 @@ mod laws;
 
 pub use laws::{
     accepted_is_checked, accepted_is_judged, accepted_is_true, drill_is_judged, drill_is_read,
-    following_is_accepted, only_drill, only_end,
+    evidence_is_beside, following_is_accepted, only_drill, only_end, written_is_accepted,
 };
