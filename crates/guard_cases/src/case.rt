@@ -25,6 +25,8 @@ pub enum WantedOut<'t> {
     Whole(&'t [u8]),
     /// These lines, and among them any that begin with two spaces.
     Verdicts(&'t [u8]),
+    /// Evidence: lines behind this header, which the next case may have as a file.
+    Evidence { header: &'static [u8] },
 }
 
 /// A call and what is wanted of it.
@@ -65,6 +67,11 @@ impl<'t> Case<'t> {
             Heading::Status(status) => self.status = status,
             Heading::Out => self.out = WantedOut::Whole(without_ends(text)),
             Heading::Verdicts => self.out = WantedOut::Verdicts(without_ends(text)),
+            Heading::Evidence => {
+                self.out = WantedOut::Evidence {
+                    header: b"guard-evidence 2",
+                };
+            }
             Heading::Err => self.err = without_ends(text),
         }
         Ok(())

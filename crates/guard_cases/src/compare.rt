@@ -74,6 +74,7 @@ pub fn differences<'a>(
     let (sink, wanted_out) = match case.out {
         WantedOut::Whole(lines) => ("out", lines),
         WantedOut::Verdicts(lines) => ("verdicts", lines),
+        WantedOut::Evidence { header } => ("evidence", header),
     };
     [
         status_difference(case.status, ran.status),
@@ -120,6 +121,15 @@ pub fn judged_out<'a>(
     match wanted {
         WantedOut::Whole(_) => Ok(CowSlice::Borrowed(out)),
         WantedOut::Verdicts(_) => Ok(CowSlice::Owned(without_entries(alloc, out)?)),
+        WantedOut::Evidence { .. } => Ok(CowSlice::Borrowed(first_line(out))),
+    }
+}
+
+/// The first line, with its newline.
+fn first_line(text: &[u8]) -> &[u8] {
+    match text.iter().position(|byte| *byte == b'\n') {
+        Some(at) => &text[..=at],
+        None => text,
     }
 }
 

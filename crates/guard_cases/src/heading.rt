@@ -26,6 +26,8 @@ pub enum Heading<'t> {
     Out,
     /// What is left of what out is to take, without the lines of entries.
     Verdicts,
+    /// Out is to take evidence, whatever its lines are.
+    Evidence,
     /// What err is to take.
     Err,
 }
@@ -42,6 +44,7 @@ pub fn read_heading(line: &[u8]) -> Result<Heading<'_>, Misfit> {
         ("status", number) => read_status(number),
         ("out", None) => Ok(Heading::Out),
         ("verdicts", None) => Ok(Heading::Verdicts),
+        ("evidence", None) => Ok(Heading::Evidence),
         ("err", None) => Ok(Heading::Err),
         _ => Err(Misfit::Heading),
     }

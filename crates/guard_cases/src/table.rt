@@ -27,7 +27,9 @@ impl Stage {
             (Stage::Case, Heading::Guard(_)) => Some(Stage::Guard),
             (Stage::Guard, Heading::File { .. }) => Some(Stage::Guard),
             (Stage::Guard, Heading::Status(_)) => Some(Stage::Status),
-            (Stage::Status, Heading::Out | Heading::Verdicts) => Some(Stage::Out),
+            (Stage::Status, Heading::Out | Heading::Verdicts | Heading::Evidence) => {
+                Some(Stage::Out)
+            }
             (Stage::Status | Stage::Out, Heading::Err) => Some(Stage::Err),
             _ => None,
         }
@@ -91,6 +93,7 @@ impl<'t> Reader<'t> {
             }
             Heading::Guard(_)
             | Heading::Status(_)
+            | Heading::Evidence
             | Heading::File {
                 source: Source::Out,
                 ..
