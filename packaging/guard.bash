@@ -15,7 +15,7 @@ _guard() {
         --count) return ;;
     esac
     case ${COMP_WORDS[1]} in
-        validate) options="--rules --data" ;;
+        validate) options="--rules --data --evidence" ;;
         check) options="--rules --data --proof" ;;
         drill) options="--count" ;;
         *) return ;;

@@ -160,8 +160,8 @@ const WORDS: &[(&[&str], u8, u64)] = &[
     (CHECK, 5, 3),
     (
         &["validate", "--rules=r.guard", "--data=d.json", "--evidence"],
-        2,
         0,
+        2,
     ),
     (&["validate", "--rules", "a"], 2, 0),
     (&[], 2, 0),

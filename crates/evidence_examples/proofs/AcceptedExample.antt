@@ -19,7 +19,7 @@ use Rattle.rule_meaning.specs.StoreModel.{Made}
 use Rattle.evidence_rules.specs.CitedLines.{IsLine}
 use Rattle.evidence_rules.specs.Follows.{Follows, FollowsIn, AllFollow, Accepts, IsJudged}
 use Rattle.rule_meaning.specs.Keys.{passes}
-use Rattle.evidence_rules.specs.code.Lean.{IsLean}
+use Rattle.evidence_rules.specs.Lean.{IsLean}
 use Rattle.rule_meaning.specs.Verdicts.{is_pass, test_verdict}
 use Rattle.rule_names.specs.ReferenceGraph.{step_site}
 use Rattle.evidence_examples.specs.code.GivenLines.{node, said, file_line}

@@ -12,7 +12,7 @@ use Rattle.rule_meaning.specs.StoreModel.{StoreModel}
 use Rattle.evidence_rules.specs.CitedLines.{IsLine}
 use Rattle.evidence_rules.specs.Follows.{IsNewRule}
 use Rattle.evidence_rules.proofs.LinesBehind.{behind-first}
-use Rattle.evidence_rules.specs.code.Lean.{IsLean, LineNames}
+use Rattle.evidence_rules.specs.Lean.{IsLean, LineNames}
 
 pub is-line : (lines : List Line) (number : ℕ) (l : Line) (frame site : ℕ) → line_of lines number ≡ Some l → l.frame ≡ Some frame → l.site ≡ Some site
     → IsLine lines number l.kind frame site l.outcome

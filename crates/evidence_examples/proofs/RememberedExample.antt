@@ -10,7 +10,7 @@ use Rattle.guard_syntax.specs.declared.row.Verdict.TheVariants.{Pass}
 use Rattle.rule_names.specs.declared.bind.Bind.TheVariants as bound
 use Rattle.rule_names.specs.Pieces.{AreInOrder}
 use Rattle.evidence_rules.specs.Follows.{Follows, AllFollow, Accepts, IsJudged}
-use Rattle.evidence_rules.specs.code.Lean.{IsLean}
+use Rattle.evidence_rules.specs.Lean.{IsLean}
 use Rattle.evidence_examples.specs.code.GivenLines.{node, file_line}
 use Rattle.evidence_examples.proofs.GivenLines.{is-line, Each, IsNoRule, new-rule, IsNumbered, IsUsed, lean-by}
 use Rattle.evidence_examples.specs.code.OneVariable.{template, key_a, start, rule, file, known, rows, line_2, line_3, line_4, line_5, line_6, line_7, line_8, line_9, line_10, line_11, line_12, line_13, one_lines, two_lines, three_lines, four_lines, five_lines, six_lines, seven_lines, eight_lines, nine_lines, ten_lines, eleven_lines, twelve_lines, all_lines}

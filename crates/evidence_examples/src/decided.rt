@@ -4,7 +4,7 @@ ghost use Rattle.evidence_lines.specs.declared.version.Version.TheVariants.{One,
 ghost use Rattle.rule_names.specs.Pieces.{AreInOrder};
 ghost use Rattle.rule_meaning.specs.StoreModel.{Made};
 ghost use Rattle.evidence_rules.specs.Follows.{Accepts, Follows};
-ghost use Rattle.evidence_rules.specs.code.Lean.{IsLean};
+ghost use Rattle.evidence_rules.specs.Lean.{IsLean};
 ghost use Rattle.evidence_examples.specs.code.DecidedCondition.{template, file, known, three_lines, all_lines, line_4};
 
 /// Eleven lines, in which a condition of two parts is decided by the first, are accepted in version 2 and lean. In version

@@ -4,7 +4,7 @@ ghost use Rattle.evidence_lines.specs.declared.version.Version.{Version};
 ghost use Rattle.rule_names.specs.Pieces.{AreInOrder};
 ghost use Rattle.rule_meaning.specs.StoreModel.{Made};
 ghost use Rattle.evidence_rules.specs.Follows.{Accepts, Follows};
-ghost use Rattle.evidence_rules.specs.code.Lean.{IsLean};
+ghost use Rattle.evidence_rules.specs.Lean.{IsLean};
 ghost use Rattle.evidence_examples.specs.code.FailingRule.{template, file, known, six_lines, all_lines, passes_line, other_cite};
 
 /// Ten lines for a rule whose test fails are accepted in each version, and lean. Behind the six lines before it, the line

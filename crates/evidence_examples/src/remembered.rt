@@ -2,7 +2,7 @@
 ghost use Rattle.evidence_lines.specs.declared.version.Version.{Version};
 ghost use Rattle.rule_names.specs.Pieces.{AreInOrder};
 ghost use Rattle.evidence_rules.specs.Follows.{Accepts};
-ghost use Rattle.evidence_rules.specs.code.Lean.{IsLean};
+ghost use Rattle.evidence_rules.specs.Lean.{IsLean};
 ghost use Rattle.evidence_examples.specs.code.OneVariable.{template, file, all_lines};
 
 /// Thirteen lines in which both uses of a variable cite the one line of its expression are accepted in each version, and
