@@ -52,7 +52,7 @@ has_if : (n : ℕ) (o : Option ℕ) (b c : Bool) → is_some o ≡ c → is_some
 has_if n o true c e = refl
 has_if n o false c e = e
 
-key_has : (n : ℕ) (f : Forest) (k : List ℕ) → is_some (key_place n f k) ≡ has_key f k
+pub key_has : (n : ℕ) (f : Forest) (k : List ℕ) → is_some (key_place n f k) ≡ has_key f k
 key_has n Nil k = refl
 key_has n (Node l kids rest) k = has_if n (key_place (n + 1 + size kids) rest k) (key_is l.key k) (has_key rest k) (key_has (n + 1 + size kids) rest k)
 

@@ -205,7 +205,7 @@ numbered_found old between last fresh k n t counted (inr (missing, here, adds, i
     let long : length fresh ≡ length last + 1 = ap (λ (ns : List ℕ). length ns) is ∙ length-append last (0 ∷ []) in
     record { table = adds.table; within = omega arith; place = omega arith }
 
-pub IsArena-more : (es : List Entry) (ss ps : List ℕ) (old new : Names) (us after : Uses) (key : Option Key) (taken : Taken) (r : Entry) → length es < 4294967294 → IsArena es ss ps old us key → IsTakenWell es old new after.last.items us.links.items key taken r → after.links.items ≡ us.links.items ++ taken.link ∷ [] → IsNewUnder (rows_in (texts_of old) es) r.under (key_of (awaited_in key)) → IsArena (es ++ r ∷ []) (ss ++ 0 ∷ []) (ps ++ 0 ∷ []) new after None
+pub IsArena-more : (es : List Entry) (ss ps : List ℕ) (old new : Names) (us after : Uses) (key : Option Key) (taken : Taken) (r : Entry) → length es < 2147483647 → IsArena es ss ps old us key → IsTakenWell es old new after.last.items us.links.items key taken r → after.links.items ≡ us.links.items ++ taken.link ∷ [] → IsNewUnder (rows_in (texts_of old) es) r.under (key_of (awaited_in key)) → IsArena (es ++ r ∷ []) (ss ++ 0 ∷ []) (ps ++ 0 ∷ []) new after None
 IsArena-more es ss ps old new us after key taken r h a w links fresh = record {
   zero = zero_more ss a.zero;
   same = omega (arith, length-append es (r ∷ []), length-append ss (0 ∷ []), a.same);

@@ -20,5 +20,14 @@ pub mod NumberText
 pub mod NumberValue
 pub mod DecimalRange
 pub mod Lookups
+pub mod Roots
+pub mod Sharing
+pub mod Joining
+pub mod NewKeys
+pub mod Finished
+pub mod Parts
+pub mod Copying
+pub mod Merging
+pub mod Merged
 pub mod Numbers
 pub mod Lines

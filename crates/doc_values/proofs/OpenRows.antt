@@ -1,5 +1,5 @@
 -- The rows from an open collection's first value on stand in it, by induction on the values.
-use Rattle.std.proofs.Common.{◌≡◌, ℕ, zero, suc, ◌+◌, ◌-◌, ◌<◌, ◌≤◌, List, [], ◌∷◌, ◌++◌, length, get_or, refl, sym, ap, inl, inr, ◌∙◌, subst, arith, length-append}
+use Rattle.std.proofs.Common.{◌≡◌, ℕ, zero, suc, ◌+◌, ◌-◌, ◌<◌, ◌≤◌, List, [], ◌∷◌, length, get_or, refl, ap, inl, inr, ◌∙◌, subst, arith, length-append}
 use Rattle.std.proofs.lemmas.Bool.{cases_lt}
 use Rattle.std.proofs.lemmas.List.{get_or_append_left, get_or-append_right}
 use Rattle.doc_values.specs.declared.node.Seat.{Seat}
@@ -12,7 +12,7 @@ use Rattle.doc_values.proofs.Among.{row, length-rows}
 use Rattle.doc_values.proofs.Steps.{length-open}
 
 -- rows of values side by side stand under their number or higher ones
-high_rows : (d u n i : ℕ) (f : Forest) (j : ℕ) → u ≤ n → j < length (rows d u n i f) → u ≤ (get_or (rows d u n i f) j no_row).under
+pub high_rows : (d u n i : ℕ) (f : Forest) (j : ℕ) → u ≤ n → j < length (rows d u n i f) → u ≤ (get_or (rows d u n i f) j no_row).under
 high_rows d u n i Nil j h l = absurd (omega arith)
 high_rows d u n i (Node l kids rest) zero h m = omega arith
 high_rows d u n i (Node l kids rest) (suc j) h m =

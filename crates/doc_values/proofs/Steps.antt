@@ -145,7 +145,7 @@ past_is v done l kids s e =
     let m : seat_of v (snoc done l kids) ≡ past (seat_of v done) = ap (λ c. let r : Seat = record { depth = length v; under = inside v; index = c } in r) n in
     m ∙ ap past e
 
-pub Kept-value : (seats : List Seat) (s : Seat) (rs : List Row) (k : Option (List ℕ)) (kind : Kind) (text : List ℕ) (at : ℕ) (u : Unfinished) → unfinished s.depth rs k ≡ u → AwaitsValue u → holds_values kind ≡ false → (has_text kind ≡ false → text ≡ []) → length (rs ++ (row_of s (record { kind = kind; text = text; key = k; at = at }) ∷ [])) < 4294967295 → Kept seats s rs k
+pub Kept-value : (seats : List Seat) (s : Seat) (rs : List Row) (k : Option (List ℕ)) (kind : Kind) (text : List ℕ) (at : ℕ) (u : Unfinished) → unfinished s.depth rs k ≡ u → AwaitsValue u → holds_values kind ≡ false → (has_text kind ≡ false → text ≡ []) → length (rs ++ (row_of s (record { kind = kind; text = text; key = k; at = at }) ∷ [])) < 2147483648 → Kept seats s rs k
     → Kept seats (past s) (rs ++ (row_of s (record { kind = kind; text = text; key = k; at = at }) ∷ [])) None
 Kept-value seats s rs k kind text at u v there plain no_text m w =
     let l : Label = record { kind = kind; text = text; key = k; at = at } in
@@ -163,7 +163,7 @@ Kept-value seats s rs k kind text at u v there plain no_text m w =
 abbrev pub inner : Seat → ℕ → Seat
 inner s n = record { depth = s.depth + 1; under = n + 1; index = 0 }
 
-pub Kept-open : (seats : List Seat) (s : Seat) (rs : List Row) (n : ℕ) (k : Option (List ℕ)) (map : Bool) (at : ℕ) (u : Unfinished) → unfinished s.depth rs k ≡ u → AwaitsValue u → s.depth < 128 → n ≡ length rs → length (rs ++ (row_of s (record { kind = open_kind map; text = []; key = k; at = at }) ∷ [])) < 4294967295 → Kept seats s rs k
+pub Kept-open : (seats : List Seat) (s : Seat) (rs : List Row) (n : ℕ) (k : Option (List ℕ)) (map : Bool) (at : ℕ) (u : Unfinished) → unfinished s.depth rs k ≡ u → AwaitsValue u → s.depth < 128 → n ≡ length rs → length (rs ++ (row_of s (record { kind = open_kind map; text = []; key = k; at = at }) ∷ [])) < 2147483648 → Kept seats s rs k
     → Kept (seats ++ (past s ∷ [])) (inner s n) (rs ++ (row_of s (record { kind = open_kind map; text = []; key = k; at = at }) ∷ [])) None
 Kept-open seats s rs n k map at u v there h number m w =
     let l : Label = record { kind = open_kind map; text = []; key = k; at = at } in

@@ -5,7 +5,7 @@ use Rattle.std.specs.Str.{bytes_eq}
 use Rattle.std.specs.Cow.{cow_str_bytes}
 use Rattle.std.specs.Cmp.Lexicographic.{slice_cmp}
 use Rattle.std.specs.Ordering.{nat_cmp}
-use Rattle.std.specs.BTreeMap.{UpdatesBy, IsUnchanged}
+use Rattle.std.specs.BTreeMap.{BTreeMap, UpdatesBy, IsUnchanged}
 use Rattle.std.specs.declared.borrow.CowStr.{CowStr}
 use Rattle.std.specs.declared.borrow.CowStr.TheVariants.{Borrowed}
 use Rattle.std.specs.declared.alloc.Global.{Global}
@@ -14,14 +14,15 @@ use Rattle.std.proofs.lemmas.List.{get_or_at, get_or_append_left, length-set, ge
 use Rattle.std.proofs.lemmas.Map.Text.{is_eq-slice_cmp}
 use Rattle.std.proofs.lemmas.Slice.Eq.{bytes_eq-Decides}
 use Rattle.doc_values.specs.declared.names.Names.{Names}
-use Rattle.doc_values.specs.code.Names.{name_of, texts_of, IsTable, IsBefore, IsSame}
+use Rattle.doc_values.specs.code.Names.{number_in, name_of, texts_of, IsTable, IsBefore, IsSame}
 
 -- a text that is borrowed
 abbrev cow : List ℕ → CowStr Global
 cow j = Borrowed (record { ref_ptr = (0, 0); now = j })
 
-pub names_after : (old new : Names) (c : CowStr Global) (n : ℕ) → UpdatesBy (λ x y. slice_cmp nat_cmp (cow_str_bytes x) (cow_str_bytes y)) (λ y. slice_cmp nat_cmp (cow_str_bytes c) (cow_str_bytes y)) old.numbers new.numbers (Some n) → (j : List ℕ) → name_of new j ≡ cond (bytes_eq (cow_str_bytes c) j) (Some n) (name_of old j)
-names_after old new c n u j = u.0 (cow j) ∙ ap (λ b. cond b (Some n) (name_of old j)) (is_eq-slice_cmp (cow_str_bytes c) j)
+-- the numbers behind a change at a name
+pub numbers_after : (old new : BTreeMap (CowStr Global) ℕ) (k : List ℕ) (w : Option ℕ) → UpdatesBy (λ x y. slice_cmp nat_cmp (cow_str_bytes x) (cow_str_bytes y)) (λ y. slice_cmp nat_cmp k (cow_str_bytes y)) old new w → (j : List ℕ) → number_in new j ≡ cond (bytes_eq k j) w (number_in old j)
+numbers_after old new k w u j = u.0 (cow j) ∙ ap (λ b. cond b w (number_in old j)) (is_eq-slice_cmp k j)
 
 bytes_same : (k : List ℕ) → bytes_eq k k ≡ true
 bytes_same k = (bytes_eq-Decides k k).1 refl

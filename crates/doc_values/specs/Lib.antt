@@ -1,5 +1,6 @@
 pub mod Decimal
 pub mod Limits
+pub mod Merge
 pub mod Number
 pub mod Tree
 pub mod Unfinished

@@ -26,9 +26,17 @@ first_kids (Node l kids rest) = kids
 abbrev pub label_at : Forest → ℕ → Label
 label_at f n = first_label (find f n)
 
+-- a value without its key
+abbrev pub unkeyed : Label → Label
+unkeyed l = record { kind = l.kind; text = l.text; key = None; at = l.at }
+
 -- the values in the node with a number
 abbrev pub kids_at : Forest → ℕ → Forest
 kids_at f n = first_kids (find f n)
+
+-- the tree below the node with a number, a tree of its own: its root has no key
+abbrev pub tree_at : Forest → ℕ → Forest
+tree_at f n = Node (unkeyed (label_at f n)) (kids_at f n) Nil
 
 -- the number of the value at an index among values side by side, the first of which has the number `at`
 abbrev pub child_place : ℕ → Forest → ℕ → ℕ

@@ -1,4 +1,5 @@
 -- What serves the code and its proofs alone: nobody has to believe it.
+pub mod Behind
 pub mod Codes
 pub mod DecimalCode
 pub mod Entries
@@ -6,7 +7,9 @@ pub mod Growth
 pub mod Index
 pub mod Kept
 pub mod Laws
+pub mod Merging
 pub mod Names
+pub mod Parts
 pub mod Reading
 pub mod Rows
 pub mod Stored

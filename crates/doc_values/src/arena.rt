@@ -17,8 +17,8 @@ use std::alloc::{AllocError, Global};
 use std::borrow::CowStr;
 use std::marker::Model;
 
-/// The most nodes: a node's number and the number behind it have 32 bits.
-const NODES: usize = 4294967294;
+/// The most nodes: two trees that were built make one whose nodes' numbers, and those behind them, have 32 bits.
+const NODES: usize = 2147483647;
 
 /// A key that awaits its value: the number behind the node that it stands in, the number of its name if it has been there
 /// before, and the link of the row that it will stand in.
@@ -86,7 +86,7 @@ impl<'s> Arena<'s> {
     /// How many nodes there are.
     pub fn len(&self) -> u32
         ensures nodes { result ≡ length self.now.rows }
-        ensures small { length self.now.rows < 4294967295 }
+        ensures small { length self.now.rows < 2147483648 }
     {
         self.nodes.len() as u32
     }
@@ -133,7 +133,7 @@ impl<'s> Arena<'s> {
         ensures rows { OnOk result (self.new.rows ≡ self.old.rows ++ row_of seat (record { kind = kind; text = cow_str_bytes text.entry; key = key_of self.old.key; at = at }) ∷ []) }
         ensures taken { OnOk result (self.new.key ≡ None) }
         ensures err { OnErr result (self.new ≡ self.old) }
-        ensures small { length self.new.rows < 4294967295 }
+        ensures small { length self.new.rows < 2147483648 }
     {
         make_room(
             &mut self.nodes,
@@ -256,7 +256,7 @@ fn make_room(
     ensures starts { starts.new.items ≡ starts.old.items }
     ensures slots { slots.new.items ≡ slots.old.items }
     ensures links { links.new.items ≡ links.old.items }
-    ensures counted { OnOk result (length nodes.new.items < 4294967294) }
+    ensures counted { OnOk result (length nodes.new.items < 2147483647) }
     ensures node { OnOk result (vec_len nodes.new < vec_capacity nodes.new) }
     ensures start { OnOk result (vec_len starts.new < vec_capacity starts.new) }
     ensures slot { OnOk result (vec_len slots.new < vec_capacity slots.new) }

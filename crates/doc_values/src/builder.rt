@@ -1,7 +1,7 @@
 //! The unfinished tree, which grows by events.
 ghost use Rattle.std.specs.Prelude.{◌≡◌, ℕ, zero, ◌+◌, ◌<◌, ◌≤◌, ◌^◌, length, List, [], IfOk, OnOk, OnErr, MatchResult, Option, Some, None, Bool, true, false, IsTrue, IfErr, IsOk, Err, ◌⊎◌};
 ghost use Rattle.std.specs.Cow.{cow_str_bytes};
-ghost use Rattle.doc_values.specs.Tree.{has_key, holds_values, has_text, IsTree};
+ghost use Rattle.doc_values.specs.Tree.{size, has_key, holds_values, has_text, IsTree};
 ghost use Rattle.doc_values.specs.Unfinished.{start, with_value, with_open, open_kind, with_key, with_end, innermost, AwaitsValue, AwaitsKey, MayEnd, IsComplete};
 
 use crate::arena::Arena;
@@ -172,6 +172,7 @@ impl<'s> DocBuilder<'s> {
         requires complete { IsComplete self }
         ensures done { result ≡ self.entry.done }
         ensures tree { IsTree result }
+        ensures small { size result < 2 ^ 31 }
     {
         let DocBuilder {
             arena,

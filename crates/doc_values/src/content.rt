@@ -86,6 +86,15 @@ impl<'s> Content<'s> {
         }
     }
 
+    /// A copy with texts of its own.
+    pub fn copy(&self, alloc: Global) -> Result<Content<'static>, AllocError>
+        ensures kind { IfOk result (λ content. kind_of content ≡ kind_of self.now) }
+        ensures text { IfOk result (λ content. text_of content ≡ text_of self.now) }
+    {
+        let text = String::from_str(alloc, self.text())?;
+        Content::of(alloc, self.kind(), CowStr::Owned(text))
+    }
+
     /// The same with texts of its own.
     pub fn detach(self, alloc: Global) -> Result<Content<'static>, AllocError>
         ensures kind { IfOk result (λ content. kind_of content ≡ kind_of self.entry) }

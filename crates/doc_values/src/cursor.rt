@@ -1,10 +1,11 @@
 //! A node of a tree.
-ghost use Rattle.std.specs.Prelude.{◌≡◌, ℕ, ◌<◌, ◌+◌, Option, MatchOption, Some, None, IfSome, Bool, true};
-ghost use Rattle.doc_values.specs.Places.{label_at, kids_at, child_place, key_place, spot_of, index_of};
+ghost use Rattle.std.specs.Prelude.{◌≡◌, ℕ, ◌<◌, ◌+◌, Option, MatchOption, Some, None, IfOk, IfSome, Bool, true};
+ghost use Rattle.doc_values.specs.Places.{label_at, kids_at, tree_at, child_place, key_place, spot_of, index_of};
 ghost use Rattle.doc_values.specs.Tree.{size, count, has_text};
 
 use crate::doc::Doc;
 use crate::kind::Kind;
+use std::alloc::AllocError;
 
 /// A node of a tree: a place in document order, the root 0.
 #[derive(Clone, Copy)]
@@ -70,6 +71,13 @@ impl<'t, 's> Cursor<'t, 's> {
                 _ => None,
             },
         }
+    }
+
+    /// The tree below it, with texts of its own. Its root has no key.
+    pub fn copy(&self) -> Result<Doc<'static>, AllocError>
+        ensures { IfOk result (λ d. d ≡ tree_at self.now.doc.now self.now.id) }
+    {
+        self.doc.part(self.id)
     }
 
     /// How many values stand in it.

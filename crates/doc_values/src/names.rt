@@ -1,7 +1,8 @@
 //! The names of keys.
-ghost use Rattle.std.specs.Prelude.{◌≡◌, ℕ, ◌<◌, List, [], ◌∷◌, ◌++◌, length, Option, Some, None, IfOk, OnErr, slice_index_or};
+ghost use Rattle.std.specs.Prelude.{◌≡◌, ℕ, ◌<◌, List, [], ◌∷◌, ◌++◌, length, Option, Some, None, IsSome, IfOk, OnErr, slice_index_or, false};
 ghost use Rattle.std.specs.Cow.{cow_str_bytes};
-ghost use Rattle.doc_values.specs.code.Names.{name_of, texts_of, IsTable, IsSame, Adds};
+ghost use Rattle.std.specs.Str.{bytes_eq};
+ghost use Rattle.doc_values.specs.code.Names.{number_in, name_of, texts_of, IsTable, IsSame, Adds, Has, Joins};
 
 use std::alloc::{AllocError, Global};
 use std::borrow::CowStr;
@@ -80,14 +81,25 @@ impl<'s> Names<'s> {
         ensures ok { IfOk result (λ n. (n ≡ length (texts_of self.old)) × Adds self.old self.new (cow_str_bytes text.old)) }
         ensures err { OnErr result (IsSame self.old self.new × (cow_str_bytes text.new ≡ cow_str_bytes text.old)) }
     {
+        let key = String::from_str(self.alloc, text.as_str())?;
+        self.put(CowStr::Owned(key), text)
+    }
+
+    /// The same with the text as the ordered map keeps it.
+    fn put(&mut self, key: CowStr<'static>, text: &mut CowStr<'s>) -> Result<u32, AllocError>
+        requires table { IsTable self.old }
+        requires new { name_of self.old (cow_str_bytes text.old) ≡ None }
+        requires same { cow_str_bytes key ≡ cow_str_bytes text.old }
+        ensures ok { IfOk result (λ n. (n ≡ length (texts_of self.old)) × Adds self.old self.new (cow_str_bytes text.old)) }
+        ensures err { OnErr result (IsSame self.old self.new × (cow_str_bytes text.new ≡ cow_str_bytes text.old)) }
+    {
         let count = self.texts.len();
         if NAMES <= count {
             return Err(AllocError);
         }
         self.texts.reserve(1)?;
         self.followers.reserve(1)?;
-        let copy = String::from_str(self.alloc, text.as_str())?;
-        match self.numbers.insert(CowStr::Owned(copy), count as u32) {
+        match self.numbers.insert(key, count as u32) {
             Ok(_) => {}
             Err(_) => return Err(AllocError),
         }
@@ -109,6 +121,68 @@ impl<'s> Names<'s> {
         if let Some(before) = before {
             self.followers[before as usize] = number;
         }
+    }
+
+    /// The number of a name, which it gets here if it is new. It is the one that was there last then.
+    pub fn note(&mut self, text: &str) -> Result<u32, AllocError>
+        requires { IsTable self.old }
+        ensures { IfOk result (λ n. Has self.old self.new text.now n) }
+    {
+        let number = self.known(text)?;
+        self.follow(number);
+        Ok(number)
+    }
+
+    /// The number of a name, which it gets here if it is new.
+    fn known(&mut self, text: &str) -> Result<u32, AllocError>
+        requires { IsTable self.old }
+        ensures { IfOk result (λ n. Has self.old self.new text.now n) }
+    {
+        if let Some(number) = self.number(text) {
+            return Ok(number);
+        }
+        let mut owned = CowStr::Owned(String::from_str(self.alloc, text)?);
+        self.add(&mut owned)
+    }
+
+    /// Takes in the names of another table: for each of them, by its number there, its number here.
+    pub fn join(&mut self, other: Names<'s>) -> Result<Vec<u32>, AllocError>
+        requires table { IsTable self.old }
+        requires other { IsTable other }
+        ensures { IfOk result (λ numbers. Joins self.old other.entry self.new numbers.items) }
+    {
+        let Names {
+            texts,
+            mut numbers,
+            followers: _,
+            before: _,
+            alloc,
+        } = other;
+        let mut joined = Vec::new(alloc);
+        for text in texts {
+            joined.push(self.take_in(&mut numbers, text)?)?;
+        }
+        Ok(joined)
+    }
+
+    /// The number here of a name of another table, which has these numbers. A new name is moved from there.
+    fn take_in(
+        &mut self,
+        numbers: &mut BTreeMap<CowStr<'static>, u32>,
+        mut text: CowStr<'s>,
+    ) -> Result<u32, AllocError>
+        requires table { IsTable self.old }
+        requires there { IsSome (number_in numbers.old (cow_str_bytes text)) }
+        ensures number { IfOk result (λ n. Has self.old self.new (cow_str_bytes text.entry) n) }
+        ensures others { (k : List ℕ) → bytes_eq (cow_str_bytes text.entry) k ≡ false → number_in numbers.new k ≡ number_in numbers.old k }
+    {
+        if let Some(number) = self.found(text.as_str()) {
+            return Ok(number);
+        }
+        let Some((key, _)) = numbers.remove_entry(text.as_str()) else {
+            unreachable!()
+        };
+        self.put(key, &mut text)
     }
 
     /// The same with texts of its own.

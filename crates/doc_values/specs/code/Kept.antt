@@ -30,7 +30,7 @@ pub record Kept (seats : List Seat) (seat : Seat) (rs : List Row) (key : Option 
   pub behind : seats_of (open_of seat.depth rs).outer ≡ seats
   pub next : seat_of (open_of seat.depth rs).outer (open_of seat.depth rs).done ≡ seat
   pub formed : IsUnfinished (unfinished seat.depth rs key)
-  pub small : length rs < 4294967295
+  pub small : length rs < 2147483648
 
 -- and the key that awaits its value will stand where the next value stands
 pub record IsGrowing (seats : List Seat) (seat : Seat) (g : Growth) : Type 0 where

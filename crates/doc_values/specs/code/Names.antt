@@ -1,14 +1,19 @@
 -- The names of keys: each has a number, by which its text is found.
-use Rattle.std.specs.Prelude.{ℕ, suc, ◌<◌, ◌≡◌, List, [], ◌∷◌, ◌++◌, map, length, slice_index, slice_index_or, Option, Some, None}
+use Rattle.std.specs.Prelude.{ℕ, ◌<◌, ◌≡◌, List, [], ◌∷◌, ◌++◌, map, length, slice_index, slice_index_or, Option, Some, None}
 use Rattle.std.specs.Ordering.{nat_cmp}
 use Rattle.std.specs.Cmp.Lexicographic.{slice_cmp}
-use Rattle.std.specs.BTreeMap.{get_by}
+use Rattle.std.specs.BTreeMap.{BTreeMap, get_by}
 use Rattle.std.specs.Cow.{cow_str_bytes}
+use Rattle.std.specs.declared.borrow.CowStr.{CowStr}
+use Rattle.std.specs.declared.alloc.Global.{Global}
 use Rattle.doc_values.specs.declared.names.Names.{Names}
 
 -- the number of a name
+abbrev pub number_in : BTreeMap (CowStr Global) ℕ → List ℕ → Option ℕ
+number_in numbers k = get_by (λ c. slice_cmp nat_cmp k (cow_str_bytes c)) numbers
+
 abbrev pub name_of : Names → List ℕ → Option ℕ
-name_of ns k = get_by (λ c. slice_cmp nat_cmp k (cow_str_bytes c)) ns.numbers
+name_of ns k = number_in ns.numbers k
 
 -- the texts, by their numbers
 abbrev pub texts_of : Names → List (List ℕ)
@@ -36,3 +41,19 @@ pub record Adds (old new : Names) (k : List ℕ) : Type 0 where
 pub record IsSame (old new : Names) : Type 0 where
   pub table : IsTable new
   pub texts : texts_of new ≡ texts_of old
+
+-- a name is there, maybe with other names more
+pub record Has (old new : Names) (k : List ℕ) (n : ℕ) : Type 0 where
+  pub table : IsTable new
+  pub more : List (List ℕ)
+  pub grown : texts_of new ≡ texts_of old ++ more
+  pub within : n < length (texts_of new)
+  pub text : slice_index_or (texts_of new) n [] ≡ k
+
+-- the names of another table are there too, each with a number by its number there
+pub record Joins (old other new : Names) (numbers : List ℕ) : Type 0 where
+  pub table : IsTable new
+  pub more : List (List ℕ)
+  pub grown : texts_of new ≡ texts_of old ++ more
+  pub counted : length numbers ≡ length (texts_of other)
+  pub moved : (n : ℕ) → n < length (texts_of other) → (slice_index numbers n < length (texts_of new)) × (slice_index_or (texts_of new) (slice_index numbers n) [] ≡ slice_index_or (texts_of other) n [])

@@ -1,6 +1,5 @@
 -- The kind and the text that are stored in a node.
 use Rattle.std.specs.Prelude.{ℕ, List, [], string_bytes}
-use Rattle.std.specs.Cow.{cow_str_bytes}
 use Rattle.doc_values.specs.declared.kind.Kind.{Kind}
 use Rattle.doc_values.specs.declared.kind.Kind.TheVariants as kind
 use Rattle.doc_values.specs.declared.content.Content.{Content}

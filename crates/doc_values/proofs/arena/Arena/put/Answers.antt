@@ -36,7 +36,7 @@ invariant_of-self-2 c =
     let a = c.self.inside in
     let taken = c.in_ok-taken.taken in
     let r : Entry = entry c.args.seat (kind_of c.in_ok-content.content) (text_of c.in_ok-content.content) taken.name c.args.at in
-    let m : length a.nodes.items < 4294967294 = omega (arith, c.in_ok-make_room.ensures.counted, ap length c.make_room.ensures.nodes) in
+    let m : length a.nodes.items < 2147483647 = omega (arith, c.in_ok-make_room.ensures.counted, ap length c.make_room.ensures.nodes) in
     let links = c.push_reserved.ensures.items ∙ ap (λ (xs : List ℕ). xs ++ taken.link ∷ []) c.make_room.ensures.links in
     let fresh = subst (λ (g : Growth). IsNewUnder g.rows c.args.seat.under (key_of g.key)) (sym c.self.view_is) c.requires.new in
     rw (c.push_reserved-4.ensures.items, c.push_reserved-2.ensures.items, c.push_reserved-3.ensures.items, c.make_room.ensures.nodes, c.make_room.ensures.starts, c.make_room.ensures.slots, c.in_ok-taken.ensures.taken) (IsArena-more a.nodes.items a.starts.items a.slots.items a.names c.take_key.new.names a.uses (record { last = c.take_key.new.last; links = c.push_reserved.new.self }) a.key taken r m c.self.invariant (well c) links fresh)

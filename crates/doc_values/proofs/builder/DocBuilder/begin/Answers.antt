@@ -28,7 +28,7 @@ invariant_of-self-2 c =
     let deep = k.steps.depth in
     let n : b.seat.depth < 128 = omega (arith, k.formed.shallow) in
     let e = c.in_ok-put.ensures.rows ∙ ap (λ k. b.arena.rows ++ row_of b.seat (record { kind = k; text = []; key = key_of b.arena.key; at = c.args.at }) ∷ []) c.collection-kind.ensures in
-    let small = subst (λ (t : List Row). length t < 4294967295) e c.put.ensures.small in
+    let small = subst (λ (t : List Row). length t < 2147483648) e c.put.ensures.small in
     rw (c.push_reserved.ensures.items, c.reserve.ensures.items) (IsGrowing-of _ _ c.put.new.self _ None e c.in_ok-put.ensures.taken (Kept-open b.seats.items b.seat b.arena.rows c.len-number.result (key_of b.arena.key) c.args.map c.args.at _ c.self.view_is c.requires.awaited n c.len-number.ensures.nodes small k) tt)
 
 pub returns-clause-ok : goal.returns-clause-ok

@@ -24,7 +24,7 @@ overflow_add-self c = let b = c.self.inside in let k = c.self.invariant.kept in 
 pub invariant_of-self-2 : goal.invariant_of-self-2
 invariant_of-self-2 c =
     let b = c.self.inside in
-    let small = subst (λ (t : List Row). length t < 4294967295) c.in_ok-put.ensures.rows c.put.ensures.small in
+    let small = subst (λ (t : List Row). length t < 2147483648) c.in_ok-put.ensures.rows c.put.ensures.small in
     IsGrowing-of _ _ c.put.new.self _ None c.in_ok-put.ensures.rows c.in_ok-put.ensures.taken (Kept-value b.seats.items b.seat b.arena.rows (key_of b.arena.key) c.args.kind (cow_str_bytes c.args.text) c.args.at _ c.self.view_is c.requires.awaited c.requires.plain c.requires.text small c.self.invariant.kept) tt
 
 pub returns-clause-ok : goal.returns-clause-ok

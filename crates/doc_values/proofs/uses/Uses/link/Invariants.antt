@@ -1,4 +1,4 @@
-use Rattle.std.proofs.Common.{◌≡◌, length}
+use Rattle.std.proofs.Common.{length}
 use Rattle.doc_values.specs.code.Uses.{IsBehindName, AreDeeper}
 use Rattle.doc_values.proofs.uses.Uses.link.Given as goal
 

@@ -1,13 +1,11 @@
 use Rattle.std.proofs.Common.{◌≡◌, ℕ, List, [], ◌∷◌, ◌++◌, map, length, cond, Some, ap, refl, ◌∙◌, arith}
 use Rattle.std.specs.Str.{bytes_eq}
 use Rattle.std.specs.Cow.{cow_str_bytes}
-use Rattle.std.specs.String.{string_bytes}
-use Rattle.std.specs.declared.borrow.CowStr.TheVariants.{Owned}
 use Rattle.std.proofs.lemmas.List.{length-map, map_push}
 use Rattle.doc_values.specs.code.Names.{name_of, texts_of}
 use Rattle.doc_values.specs.declared.names.Names.{Names}
-use Rattle.doc_values.proofs.Table.{IsNew, IsTable-new, IsSame-of, names_after, numbers_kept, on_err}
-use Rattle.doc_values.proofs.names.Names.add.Goals as goal
+use Rattle.doc_values.proofs.Table.{IsNew, IsTable-new, IsSame-of, numbers_after, numbers_kept, on_err}
+use Rattle.doc_values.proofs.names.Names.put.Goals as goal
 
 pub returns-in_err-reserve-clause-err : goal.returns-in_err-reserve-clause-err
 returns-in_err-reserve-clause-err c =
@@ -18,11 +16,6 @@ pub returns-in_err-reserve-2-clause-err : goal.returns-in_err-reserve-2-clause-e
 returns-in_err-reserve-2-clause-err c =
     let old : Names = c.args.self.now in
     on_err c.from_residual-in_err-reserve-2.result (IsSame-of old (record { texts = c.reserve.new.self; numbers = old.numbers; followers = c.reserve-2.new.self; before = old.before; alloc = old.alloc }) (λ j. refl) c.reserve.ensures.items c.reserve-2.ensures.items refl c.requires.table, refl)
-
-pub returns-in_err-copy-clause-err : goal.returns-in_err-copy-clause-err
-returns-in_err-copy-clause-err c =
-    let old : Names = c.args.self.now in
-    on_err c.from_residual-in_err-copy.result (IsSame-of old (record { texts = c.reserve.new.self; numbers = old.numbers; followers = c.reserve-2.new.self; before = old.before; alloc = old.alloc }) (λ j. refl) c.reserve.ensures.items c.reserve-2.ensures.items refl c.requires.table, refl)
 
 pub returns-in-Err-clause-err : goal.returns-in-Err-clause-err
 returns-in-Err-clause-err c =
@@ -36,7 +29,6 @@ returns-clause-ok c =
     let new : Names = record { texts = c.push_reserved-2.new.self; numbers = c.insert.new.self; followers = c.push_reserved.new.self; before = old.before; alloc = old.alloc } in
     let k : List ℕ = cow_str_bytes c.args.text.now in
     let n : ℕ = c.len-count.result in
-    let same : string_bytes c.in_ok-copy.copy ≡ k = c.in_ok-copy.ensures.ok ∙ c.as_str.ensures.value in
     let number : n ≡ length (texts_of old) = omega (arith, length-map old.texts.items cow_str_bytes) in
     let texts : texts_of new ≡ texts_of old ++ k ∷ [] =
     ap (map cow_str_bytes) (c.push_reserved-2.ensures.items ∙ ap (λ xs. xs ++ c.replace.result ∷ []) c.reserve.ensures.items)
@@ -44,7 +36,7 @@ returns-clause-ok c =
     ∙ ap (λ t. texts_of old ++ cow_str_bytes t ∷ []) c.replace.ensures.value in
     let is : IsNew old new k n = record {
       fresh = c.requires.new;
-      after = λ j. names_after old new (Owned c.in_ok-copy.copy) n c.in-Ok.ensures.updates j ∙ ap (λ (t : List ℕ). cond (bytes_eq t j) (Some n) (name_of old j)) same;
+      after = λ j. numbers_after old.numbers new.numbers (cow_str_bytes c.args.key) (Some n) c.in-Ok.ensures.updates j ∙ ap (λ (t : List ℕ). cond (bytes_eq t j) (Some n) (name_of old j)) c.requires.same;
       texts = texts;
       next = number;
       followers = c.push_reserved.ensures.items ∙ ap (λ (xs : List ℕ). xs ++ 0 ∷ []) c.reserve-2.ensures.items;

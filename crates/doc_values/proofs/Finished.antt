@@ -1,0 +1,25 @@
+-- What a finished tree keeps, from its rows.
+use Rattle.std.proofs.Common.{◌≡◌, ◌<◌, List, length, sym, ap, ◌∙◌, subst}
+use Rattle.doc_values.specs.declared.names.Names.{Names}
+use Rattle.doc_values.specs.Tree.{Forest, IsTree}
+use Rattle.doc_values.specs.code.Rows.{all_rows, tree_of}
+use Rattle.doc_values.specs.code.Laws.{tree_of-rows}
+use Rattle.doc_values.specs.code.Entries.{Entry, rows_in, AreNamed}
+use Rattle.doc_values.specs.code.Names.{texts_of, IsTable}
+use Rattle.doc_values.specs.code.Index.{AreNew, IsFinished}
+use Rattle.doc_values.proofs.NewKeys.{new_rows}
+
+-- rows of a tree are what a finished tree keeps
+pub finished_of : (es : List Entry) (ns : Names) (tree : Forest) → rows_in (texts_of ns) es ≡ all_rows tree → IsTree tree → IsTable ns → AreNamed es (length (texts_of ns)) → length es < 4294967295 → IsFinished es ns × (tree_of (rows_in (texts_of ns) es) ≡ tree)
+finished_of es ns tree rows t table named small =
+    let same : tree_of (rows_in (texts_of ns) es) ≡ tree = ap tree_of rows ∙ tree_of-rows tree in (
+      record {
+        whole = rows ∙ ap all_rows (sym same);
+        tree = subst IsTree (sym same) t;
+        new = subst AreNew (sym rows) (new_rows tree t);
+        table = table;
+        named = named;
+        small = small;
+      },
+      same,
+    )

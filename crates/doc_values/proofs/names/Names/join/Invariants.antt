@@ -1,0 +1,5 @@
+use Rattle.doc_values.proofs.Joining.{Joining}
+use Rattle.doc_values.proofs.names.Names.join.Given as goal
+
+abbrev pub invariant-loop-text : goal.invariant-loop-text
+invariant-loop-text l = Joining l.fn.self l.fn.other l.self l.numbers l.yielded l.joined.items
