@@ -20,7 +20,7 @@ use Rattle.guard_words.specs.Request.{Text, Use, Row, Asked, AsksFor, validate, 
 use Rattle.guard_words.specs.code.Memory.{NamesCommand}
 use Rattle.guard_words.specs.code.Reading.{command_in, parsed_in, after_name, if_complete, uses_in, HasValues, flag_among, is_true_text, IsFlagText}
 use Rattle.guard_words.proofs.SpellingLemmas.{is_plain_name, find_passes, Reads, reads, reads_gives, reads_once, gives_reads}
-use Rattle.guard_words.proofs.TakenWords.{request_taken, rows, has_value, has_flag, required_given}
+use Rattle.guard_words.proofs.TakenWords.{request_taken, rows, has_value, optional_value, is_apart, has_flag, required_given}
 
 -- the words that were parsed
 pub record IsParsed (words : List Text) (command : Command) (uses : List Use) : Type 0 where
@@ -144,26 +144,35 @@ finds command uses found kind name not_flag is ok complete row =
     let first : first_value found name ≡ first_of name (rows (options_of command) uses) = first_value-rows found name ∙ ap (first_of name) is in
     record { same = first ∙ value.same; allowed = ap (allows kind) first ∙ value.allowed }
 
+-- the name of a file that may be left out
+found_file : (command : Command) (uses : List Use) (found : Found) (name : Text) → rows_of found ≡ rows (options_of command) uses
+    → list_all (is_allowed (options_of command)) uses ≡ true → kind_in (options_of command) name ≡ Some File
+    → list_all (λ o. is_apart name o.kind o.name) (options_of command) ≡ true → first_value found name ≡ value_in uses name
+found_file command uses found name is ok known apart =
+    first_value-rows found name ∙ ap (first_of name) is ∙ optional_value (options_of command) uses name File (λ e. absurd cc) ok known apart
+
 found_by : (command : Command) (uses : List Use) (found : Found) → rows_of found ≡ rows (options_of command) uses
     → list_all (is_allowed (options_of command)) uses ≡ true → is_complete (options_of command) uses ≡ true → IsFound command uses found
 found_by Validate uses found is ok complete =
     let rules = finds Validate uses found File (codes "rules") (λ e. absurd cc) is ok complete refl in
     let template = finds Validate uses found File (codes "data") (λ e. absurd cc) is ok complete refl in
+    let params = found_file Validate uses found (codes "params") is ok refl refl in
     let evidence = has_flag (options_of Validate) uses (codes "evidence") ok refl in
     let text : one_text found (codes "evidence") ≡ one_of (codes "evidence") (rows (options_of Validate) uses) = one_text-rows found (codes "evidence") ∙ ap (one_of (codes "evidence")) is in
     record {
       values = (some_allowed _ rules.allowed, some_allowed _ template.allowed, subst IsFlagText (sym text) evidence.text);
-      same = ap₂ (λ a b. validate (text_of a) (text_of b) (flag_among found (codes "evidence"))) rules.same template.same
-          ∙ ap (validate (text_of (value_in uses (codes "rules"))) (text_of (value_in uses (codes "data")))) (ap is_true_text text ∙ evidence.same);
+      same = ap₂ (λ a b. validate (text_of a) (text_of b) (first_value found (codes "params")) (flag_among found (codes "evidence"))) rules.same template.same
+          ∙ ap₂ (validate (text_of (value_in uses (codes "rules"))) (text_of (value_in uses (codes "data")))) params (ap is_true_text text ∙ evidence.same);
     }
 found_by Check uses found is ok complete =
     let rules = finds Check uses found File (codes "rules") (λ e. absurd cc) is ok complete refl in
     let template = finds Check uses found File (codes "data") (λ e. absurd cc) is ok complete refl in
+    let params = found_file Check uses found (codes "params") is ok refl refl in
     let proof = finds Check uses found File (codes "proof") (λ e. absurd cc) is ok complete refl in
     record {
       values = (some_allowed _ rules.allowed, some_allowed _ template.allowed, some_allowed _ proof.allowed);
-      same = ap₂ (λ a b. check (text_of a) (text_of b) (text_of (first_value found (codes "proof")))) rules.same template.same
-          ∙ ap (λ c. check (text_of (value_in uses (codes "rules"))) (text_of (value_in uses (codes "data"))) (text_of c)) proof.same;
+      same = ap₂ (λ a b. check (text_of a) (text_of b) (first_value found (codes "params")) (text_of (first_value found (codes "proof")))) rules.same template.same
+          ∙ ap₂ (λ p c. check (text_of (value_in uses (codes "rules"))) (text_of (value_in uses (codes "data"))) p (text_of c)) params proof.same;
     }
 found_by Drill uses found is ok complete =
     let count = finds Drill uses found Count (codes "count") (λ e. absurd cc) is ok complete refl in

@@ -20,7 +20,7 @@ use Rattle.guard_words.specs.declared.table.Kind.TheVariants.{File, Count, Flag}
 use Rattle.guard_words.specs.code.CommandLine.{guard_app}
 use Rattle.guard_words.specs.Request.{Text, Use, Row, allows, kind_in, is_allowed, is_given, is_complete, value_in, options_of, name_of}
 use Rattle.guard_words.specs.code.Reading.{is_true_text, IsFlagText}
-use Rattle.guard_words.proofs.SpellingLemmas.{and_parts, find_passes, find_among, Reads}
+use Rattle.guard_words.proofs.SpellingLemmas.{and_parts, not_true, find_passes, find_among, Reads}
 use Rattle.guard_words.proofs.WalkSteps.{flag_at, rules_for, made, made_as, leaf, row_for, text_of_value, all_taken, at_row-absent}
 
 -- ---- the rows after the defaults
@@ -74,41 +74,71 @@ still_found (a ∷ rules) rows name r e =
 abbrev IsDefault : Option Found_row → Type 0
 IsDefault o = (o ≡ None) ⊎ (option_and_then row_text o ≡ Some (codes "false"))
 
+-- where a flag is given its default, that is the last row
+abbrev flag_row : Text → Bool → Found_row
+flag_row n r = default_row n (reading_by (flag_at n r)) (codes "false" ∷ [])
+
+flag_default : (n : Text) (r : Bool) (rows : List Found_row)
+    → (with_default rows (flag_at n r) ≡ rows) ⊎ (with_default rows (flag_at n r) ≡ rows ++ flag_row n r ∷ [])
+flag_default n r rows = by_test (has_row n rows) refl
+  where
+    with_flag : Bool → List Found_row
+    with_flag has = cond has rows (default_rows n (reading_by (flag_at n r)) (flag_at n r).defaults rows)
+
+    by_test : (b : Bool) → has_row n rows ≡ b → (with_default rows (flag_at n r) ≡ rows) ⊎ (with_default rows (flag_at n r) ≡ rows ++ flag_row n r ∷ [])
+    by_test true has = inl (ap with_flag has)
+    by_test false has = inr (ap with_flag has ∙ at_row-absent n (more_values DefaultValue (codes "false" ∷ [])) (flag_row n r ∷ []) rows has)
+
+either : (b : Bool) (rows : List Found_row) → cond b rows rows ≡ rows
+either true rows = refl
+either false rows = refl
+
 default_kept : (name : Text) (k : Kind) (n : Text) (r : Bool) (rows : List Found_row) → IsDefault (find (row_named name) rows)
     → IsDefault (find (row_named name) (with_default rows (made_as k n r)))
-default_kept name File n r rows is = subst (λ x. IsDefault (find (row_named name) x)) (sym (either (has_row n rows))) is
+default_kept name File n r rows is = subst (λ x. IsDefault (find (row_named name) x)) (sym (either (has_row n rows) rows)) is
+default_kept name Count n r rows is = subst (λ x. IsDefault (find (row_named name) x)) (sym (either (has_row n rows) rows)) is
+default_kept name Flag n r rows is = elim (flag_default n r rows) [
+  | inl same ↦ subst (λ x. IsDefault (find (row_named name) x)) (sym same) is
+  | inr behind ↦ subst (λ x. IsDefault (find (row_named name) x)) (sym behind) (by_find (find (row_named name) rows) refl is)
+]
   where
-    either : (b : Bool) → cond b rows rows ≡ rows
-    either true = refl
-    either false = refl
-default_kept name Count n r rows is = subst (λ x. IsDefault (find (row_named name) x)) (sym (either (has_row n rows))) is
-  where
-    either : (b : Bool) → cond b rows rows ≡ rows
-    either true = refl
-    either false = refl
-default_kept name Flag n r rows is = by_test (has_row n rows) refl is
-  where
-    at_end : (b : Bool) (row : Found_row) → row_text row ≡ Some (codes "false") → IsDefault (cond b (Some row) None)
-    at_end true row text = inr text
-    at_end false row text = inl refl
+    at_end : (b : Bool) → IsDefault (cond b (Some (flag_row n r)) None)
+    at_end true = inr refl
+    at_end false = inl refl
 
-    by_find : (o : Option Found_row) (more : List Found_row) → find (row_named name) rows ≡ o → IsDefault o → IsDefault (find (row_named name) more)
-        → IsDefault (find (row_named name) (rows ++ more))
-    by_find None more is' d last = subst IsDefault (sym (find-behind (row_named name) rows more is')) last
-    by_find (Some row) more is' d last = subst IsDefault (sym (find-append (row_named name) rows more row is')) d
-
-    by_test : (b : Bool) → has_row n rows ≡ b → IsDefault (find (row_named name) rows) → IsDefault (find (row_named name) (with_default rows (flag_at n r)))
-    by_test true has d = subst (λ x. IsDefault (find (row_named name) x)) (sym (ap (λ b. cond b rows (default_rows n (reading_by (flag_at n r)) (flag_at n r).defaults rows)) has)) d
-    by_test false has d = subst (λ x. IsDefault (find (row_named name) x))
-        (sym (ap (λ b. cond b rows (default_rows n (reading_by (flag_at n r)) (flag_at n r).defaults rows)) has ∙ at_row-absent n (more_values DefaultValue (codes "false" ∷ [])) (default_row n (reading_by (flag_at n r)) (codes "false" ∷ []) ∷ []) rows has))
-        (by_find (find (row_named name) rows) (default_row n (reading_by (flag_at n r)) (codes "false" ∷ []) ∷ []) refl d
-        (at_end (bytes_eq n name) (default_row n (reading_by (flag_at n r)) (codes "false" ∷ [])) refl))
+    by_find : (o : Option Found_row) → find (row_named name) rows ≡ o → IsDefault o → IsDefault (find (row_named name) (rows ++ flag_row n r ∷ []))
+    by_find None is' d = subst IsDefault (sym (find-behind (row_named name) rows (flag_row n r ∷ []) is')) (at_end (bytes_eq n name))
+    by_find (Some row) is' d = subst IsDefault (sym (find-append (row_named name) rows (flag_row n r ∷ []) row is')) d
 
 default_at_end : (table : List Row) (rows : List Found_row) (name : Text) → IsDefault (find (row_named name) rows)
     → IsDefault (find (row_named name) (fold with_default rows (rules_for table)))
 default_at_end [] rows name is = is
 default_at_end (o ∷ table) rows name is =
     default_at_end table (with_default rows (made o)) name (default_kept name o.kind o.name o.required rows is)
+
+-- an option of this kind and name is no flag of the other name
+abbrev pub is_apart : Text → Kind → Text → Bool
+is_apart name Flag n = not (bytes_eq n name)
+is_apart name File n = true
+is_apart name Count n = true
+
+none_kept : (name : Text) (k : Kind) (n : Text) (r : Bool) (rows : List Found_row) → is_apart name k n ≡ true → find (row_named name) rows ≡ None
+    → find (row_named name) (with_default rows (made_as k n r)) ≡ None
+none_kept name File n r rows apart none = ap (find (row_named name)) (either (has_row n rows) rows) ∙ none
+none_kept name Count n r rows apart none = ap (find (row_named name)) (either (has_row n rows) rows) ∙ none
+none_kept name Flag n r rows apart none = elim (flag_default n r rows) [
+  | inl same ↦ ap (find (row_named name)) same ∙ none
+  | inr behind ↦ ap (find (row_named name)) behind ∙ find-behind (row_named name) rows (flag_row n r ∷ []) none
+      ∙ ap (λ b. cond b (Some (flag_row n r)) None) (not_true _ apart)
+]
+
+-- where no flag has the name, no default stands under it
+none_at_end : (table : List Row) (rows : List Found_row) (name : Text) → list_all (λ o. is_apart name o.kind o.name) table ≡ true
+    → find (row_named name) rows ≡ None → find (row_named name) (fold with_default rows (rules_for table)) ≡ None
+none_at_end [] rows name apart none = none
+none_at_end (o ∷ table) rows name apart none =
+    let parts = and_parts _ _ apart in
+    none_at_end table (with_default rows (made o)) name parts.1 (none_kept name o.kind o.name o.required rows parts.0 none)
 
 -- ---- what is found of the uses
 
@@ -177,6 +207,18 @@ module _ (table : List Row) (uses : List Use) where
         same = first ∙ sym (ap (option_and_then (λ (v : Use). v.1)) u.1);
         allowed = ap (allows kind) first ∙ allowed;
       }
+
+  -- an option with a value that may be left out: what is found is its value, or nothing where it is not given
+  pub optional_value : (name : Text) (kind : Kind) → (kind ≡ Flag → ⊥) → list_all (is_allowed table) uses ≡ true → kind_in table name ≡ Some kind
+      → list_all (λ o. is_apart name o.kind o.name) table ≡ true → first_of name rows ≡ value_in uses name
+  optional_value name kind not_flag ok known apart = by_test (is_given name uses) refl
+    where
+      by_test : (b : Bool) → is_given name uses ≡ b → first_of name rows ≡ value_in uses name
+      by_test true given = (has_value name kind not_flag ok known given).same
+      by_test false not_given =
+          let none : find (λ u. bytes_eq u.0 name) uses ≡ None = none_of _ (is_some-find _ uses ∙ not_given) in
+          let absent : find (row_named name) rows ≡ None = none_at_end table (map row_for uses) name apart (row_of_use name uses ∙ ap (option_map row_for) none) in
+          ap (option_and_then (λ (r : Found_row). slice_get r.values 0)) absent ∙ sym (ap (option_and_then (λ (v : Use). v.1)) none)
 
   -- a flag
   pub record HasFlag (name : Text) : Type 0 where

@@ -16,17 +16,20 @@ use Rattle.guard_words.specs.declared.table.Kind.TheVariants.{File, Count, Flag}
 abbrev pub Text : Type 0
 Text = List ℕ
 
--- what the words ask for: `validate` with the names of the rules and the data, and whether evidence is wanted; `check` with the
--- names of the rules, the data and the proof; `drill` with a count
+-- what the words ask for: `validate` with the names of the rules, the data and, if they are given, the parameters, and whether
+-- evidence is wanted; `check` with the names of the rules, the data and, if they are given, the parameters, and of the proof;
+-- `drill` with a count
 pub data Asked : Type 0 where
-  validate : Text → Text → Bool → Asked
-  check : Text → Text → Text → Asked
+  validate : Text → Text → Option Text → Bool → Asked
+  check : Text → Text → Option Text → Text → Asked
   drill : ℕ → Asked
 
 -- what a request of the code asks for
 abbrev pub asked : Request → Asked
-asked (request.Validate rules template evidence) = validate (string_bytes rules) (string_bytes template) evidence
-asked (request.Check rules template proof) = check (string_bytes rules) (string_bytes template) (string_bytes proof)
+asked (request.Validate rules template params evidence) =
+    validate (string_bytes rules) (string_bytes template) (option_map string_bytes params) evidence
+asked (request.Check rules template params proof) =
+    check (string_bytes rules) (string_bytes template) (option_map string_bytes params) (string_bytes proof)
 asked (request.Drill count) = drill count
 
 -- ---- what may stand behind an option
@@ -62,12 +65,15 @@ pub record Row : Type 0 where
   pub kind : Kind
   pub required : Bool
 
--- the three kinds of row: a file's name or a count, which have to be given, and a flag, which may be left out
+-- the four kinds of row: a file's name or a count, which have to be given, and a file's name or a flag, which may be left out
 abbrev pub file : Text → Row
 file name = record { name = name; kind = File; required = true }
 
 abbrev pub count : Text → Row
 count name = record { name = name; kind = Count; required = true }
+
+abbrev pub optional_file : Text → Row
+optional_file name = record { name = name; kind = File; required = false }
 
 abbrev pub flag : Text → Row
 flag name = record { name = name; kind = Flag; required = false }
@@ -80,8 +86,8 @@ name_of Drill = codes "drill"
 
 -- the options of a command
 abbrev pub options_of : Command → List Row
-options_of Validate = file (codes "rules") ∷ file (codes "data") ∷ flag (codes "evidence") ∷ []
-options_of Check = file (codes "rules") ∷ file (codes "data") ∷ file (codes "proof") ∷ []
+options_of Validate = file (codes "rules") ∷ file (codes "data") ∷ optional_file (codes "params") ∷ flag (codes "evidence") ∷ []
+options_of Check = file (codes "rules") ∷ file (codes "data") ∷ optional_file (codes "params") ∷ file (codes "proof") ∷ []
 options_of Drill = count (codes "count") ∷ []
 
 -- the value of an option that has to be given
@@ -90,8 +96,10 @@ text_of value = unwrap_or value []
 
 -- what a command asks for, by the values of its options and the flags that are given
 abbrev pub requested : Command → (Text → Option Text) → (Text → Bool) → Asked
-requested Validate value has = validate (text_of (value (codes "rules"))) (text_of (value (codes "data"))) (has (codes "evidence"))
-requested Check value has = check (text_of (value (codes "rules"))) (text_of (value (codes "data"))) (text_of (value (codes "proof")))
+requested Validate value has =
+    validate (text_of (value (codes "rules"))) (text_of (value (codes "data"))) (value (codes "params")) (has (codes "evidence"))
+requested Check value has =
+    check (text_of (value (codes "rules"))) (text_of (value (codes "data"))) (value (codes "params")) (text_of (value (codes "proof")))
 requested Drill value has = drill (digits_value 10 (text_of (value (codes "count"))))
 
 -- ---- the uses of options

@@ -1,4 +1,4 @@
-ghost use Rattle.std.specs.Prelude.{◌≡◌, Some, None, IfOk, IsErrOf, is_some, map, string_bytes, codes, true, OnErr};
+ghost use Rattle.std.specs.Prelude.{◌≡◌, Some, None, IfOk, IsErrOf, is_some, map, option_map, string_bytes, codes, true, OnErr};
 ghost use Rattle.guard_words.specs.Request.{AsksFor, Asked, asked, allows, requested, text_of, validate, check, drill};
 ghost use Rattle.guard_words.specs.code.Memory.{NamesCommand};
 ghost use Rattle.guard_words.specs.code.Reading.{parsed_in, IsFlagText, HasValues, flag_among};
@@ -14,18 +14,20 @@ use clap::ArgMatches;
 use clap::error::ErrorKind;
 use std::alloc::{AllocError, Global};
 
-/// What the words ask for. `rules`, `template` and `proof` are names of files, as the words give them
-/// behind `--rules`, `--data` and `--proof`.
+/// What the words ask for. `rules`, `template`, `params` and `proof` are names of files, as the words give them
+/// behind `--rules`, `--data`, `--params` and `--proof`.
 #[derive(Drop)]
 pub enum Request {
     Validate {
         rules: String,
         template: String,
+        params: Option<String>,
         evidence: bool,
     },
     Check {
         rules: String,
         template: String,
+        params: Option<String>,
         proof: String,
     },
     Drill {
@@ -113,6 +115,7 @@ fn validate(alloc: Global, options: &ArgMatches) -> Result<Request, WordsRefusal
     Ok(Request::Validate {
         rules: value_of(alloc, options, "rules")?,
         template: value_of(alloc, options, "data")?,
+        params: value_if_given(alloc, options, "params")?,
         evidence: options.get_flag("evidence"),
     })
 }
@@ -128,6 +131,7 @@ fn check(alloc: Global, options: &ArgMatches) -> Result<Request, WordsRefusal>
     Ok(Request::Check {
         rules: value_of(alloc, options, "rules")?,
         template: value_of(alloc, options, "data")?,
+        params: value_if_given(alloc, options, "params")?,
         proof: value_of(alloc, options, "proof")?,
     })
 }
@@ -156,4 +160,19 @@ fn value_of(alloc: Global, options: &ArgMatches, name: &str) -> Result<String, W
         unreachable!()
     };
     Ok(String::from_str(alloc, value)?)
+}
+
+/// A copy of the value of an option that may be left out.
+fn value_if_given(
+    alloc: Global,
+    options: &ArgMatches,
+    name: &str,
+) -> Result<Option<String>, WordsRefusal>
+    ensures ok { IfOk result (λ value. option_map string_bytes value ≡ first_value (found_of options.now) name.now) }
+    ensures only_memory { OnErr result (IsErrOf result WordsRefusal.NoMemory) }
+{
+    match options.get_str(name) {
+        None => Ok(None),
+        Some(value) => Ok(Some(String::from_str(alloc, value)?)),
+    }
 }

@@ -39,6 +39,12 @@ const DATA: OptionRow = OptionRow {
     required: true,
 };
 
+const PARAMS: OptionRow = OptionRow {
+    name: "params",
+    kind: Kind::File,
+    required: false,
+};
+
 const EVIDENCE: OptionRow = OptionRow {
     name: "evidence",
     kind: Kind::Flag,
@@ -57,9 +63,9 @@ const COUNT: OptionRow = OptionRow {
     required: true,
 };
 
-const VALIDATE: [OptionRow; 3] = [RULES, DATA, EVIDENCE];
+const VALIDATE: [OptionRow; 4] = [RULES, DATA, PARAMS, EVIDENCE];
 
-const CHECK: [OptionRow; 3] = [RULES, DATA, PROOF];
+const CHECK: [OptionRow; 4] = [RULES, DATA, PARAMS, PROOF];
 
 const DRILL: [OptionRow; 1] = [COUNT];
 

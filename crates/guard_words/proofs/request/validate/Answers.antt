@@ -14,4 +14,5 @@ returns-clause-ok c =
         | inr is ↦ rw is (c.get_flag.ensures.other is)
       ]
     ] in
-    rw (c.in_ok-value_of.ensures.ok, c.in_ok-value_of-2.ensures.ok) (ap (validate (text_of (first_value found (codes "rules"))) (text_of (first_value found (codes "data")))) flag)
+    rw (c.in_ok-value_of.ensures.ok, c.in_ok-value_of-2.ensures.ok, c.in_ok-value_if_given.ensures.ok)
+    (ap (validate (text_of (first_value found (codes "rules"))) (text_of (first_value found (codes "data"))) (first_value found (codes "params"))) flag)
