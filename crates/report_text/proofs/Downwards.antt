@@ -45,14 +45,14 @@ spot-behind : (p : Option ℕ) (i at id : ℕ) (l : Label) (kids rest : Forest) 
 spot-behind p i at id l kids rest n h =
     ap (λ b. spot_by p i at id kids rest b (nat_lt id (at + 1 + size kids))) (other_nat id at n) ∙ ap (λ b. spot_by p i at id kids rest false b) (le-ltb id (at + 1 + size kids) h)
 
-steps-here : (i at id : ℕ) (l : Label) (kids rest : Forest) → id ≡ at → steps_in i at (Node l kids rest) id ≡ step_to i l.key ∷ []
+pub steps-here : (i at id : ℕ) (l : Label) (kids rest : Forest) → id ≡ at → steps_in i at (Node l kids rest) id ≡ step_to i l.key ∷ []
 steps-here i at id l kids rest e = ap (λ b. steps_by i at l kids rest id b (nat_lt id (at + 1 + size kids))) (same_nat id at e)
 
-steps-inside : (i at id : ℕ) (l : Label) (kids rest : Forest) → (id ≡ at → ⊥) → id < at + 1 + size kids → steps_in i at (Node l kids rest) id ≡ step_to i l.key ∷ steps_in 0 (at + 1) kids id
+pub steps-inside : (i at id : ℕ) (l : Label) (kids rest : Forest) → (id ≡ at → ⊥) → id < at + 1 + size kids → steps_in i at (Node l kids rest) id ≡ step_to i l.key ∷ steps_in 0 (at + 1) kids id
 steps-inside i at id l kids rest n h =
     ap (λ b. steps_by i at l kids rest id b (nat_lt id (at + 1 + size kids))) (other_nat id at n) ∙ ap (λ b. steps_by i at l kids rest id false b) (lt-ltb id (at + 1 + size kids) h)
 
-steps-behind : (i at id : ℕ) (l : Label) (kids rest : Forest) → (id ≡ at → ⊥) → at + 1 + size kids ≤ id → steps_in i at (Node l kids rest) id ≡ steps_in (i + 1) (at + 1 + size kids) rest id
+pub steps-behind : (i at id : ℕ) (l : Label) (kids rest : Forest) → (id ≡ at → ⊥) → at + 1 + size kids ≤ id → steps_in i at (Node l kids rest) id ≡ steps_in (i + 1) (at + 1 + size kids) rest id
 steps-behind i at id l kids rest n h =
     ap (λ b. steps_by i at l kids rest id b (nat_lt id (at + 1 + size kids))) (other_nat id at n) ∙ ap (λ b. steps_by i at l kids rest id false b) (le-ltb id (at + 1 + size kids) h)
 

@@ -1,7 +1,7 @@
-mod Appended
+pub mod Appended
 mod LoopBytes
 pub mod Downwards
 pub mod LineStarts
 pub mod RuleNames
 mod ShownTexts
-pub mod TemplatePaths
+pub mod DataPaths

@@ -10,11 +10,12 @@ use Rattle.rule_meaning.specs.Locations.{LocatedOrigin, Template, Literal, Made}
 use Rattle.report_text.specs.Messages.{note_text}
 use Rattle.report_text.specs.Paths.{Down, path_of, path_text}
 use Rattle.report_text.specs.Spelling.{place_text}
+use Rattle.report_text.specs.Texts.{Texts, data_place}
 
--- the path of a node of the template: its root is `.`
-abbrev pub template_path : List Down → List ℕ
-template_path [] = codes "."
-template_path (step ∷ steps) = path_text (step ∷ steps)
+-- the path of a node of the data tree: its root is `.`
+abbrev pub data_path : List Down → List ℕ
+data_path [] = codes "."
+data_path (step ∷ steps) = path_text (step ∷ steps)
 
 -- the place at which the part of a site begins in the text of the rules
 abbrev pub site_text : File → (rules : List ℕ) → ℕ → List ℕ
@@ -24,16 +25,16 @@ site_text file rules site = place_text rules (slice_index_or file.places site 0)
 abbrev pub literal_text : (rules : List ℕ) → Forest → ℕ → List ℕ
 literal_text rules tree node = codes "literal" ++ (path_text (path_of tree node) ++ (codes " " ++ place_text rules (label_at tree node).at))
 
--- the path and the place of a node: of the template and of a literal its own, each in its own text; of what a call made the place of the call
-abbrev pub node_text : File → (template_tree : Forest) → (rules template : List ℕ) → LocatedOrigin → ℕ → List ℕ
-node_text file template_tree rules template Template node = template_path (path_of template_tree node) ++ (codes " " ++ place_text template (label_at template_tree node).at)
-node_text file template_tree rules template (Literal site) node = literal_text rules (unwrap_or (literal_at file site) Nil) node
-node_text file template_tree rules template (Made site tree) node = codes "call" ++ (path_text (path_of tree node) ++ (codes " " ++ site_text file rules site))
+-- the path and the place of a node: of the data tree and of a literal its own, each in its own text; of what a call made the place of the call
+abbrev pub node_text : File → (tree : Forest) → Texts → LocatedOrigin → ℕ → List ℕ
+node_text file tree texts Template node = data_path (path_of tree node) ++ (codes " " ++ data_place texts tree node)
+node_text file tree texts (Literal site) node = literal_text texts.rules (unwrap_or (literal_at file site) Nil) node
+node_text file tree texts (Made site made) node = codes "call" ++ (path_text (path_of made node) ++ (codes " " ++ site_text file texts.rules site))
 
 -- the path and the place of what is shown: a key has those of its entry's value, and a call that did not apply has no path
-abbrev pub shown_text : File → (template_tree : Forest) → (rules template : List ℕ) → Shown → List ℕ
-shown_text file template_tree rules template (OfValue v) = node_text file template_tree rules template v.origin v.node
-shown_text file template_tree rules template (OfCall site) = codes "call " ++ site_text file rules site
+abbrev pub shown_text : File → (tree : Forest) → Texts → Shown → List ℕ
+shown_text file tree texts (OfValue v) = node_text file tree texts v.origin v.node
+shown_text file tree texts (OfCall site) = codes "call " ++ site_text file texts.rules site
 
 abbrev pub word_text : Word → List ℕ
 word_text IsValue = codes "value"
@@ -59,6 +60,6 @@ cause_text file rules word part =
     codes " " ++ (word_text word ++ (codes " by " ++ (site_text file rules part ++ (note_text (note_of (piece_at file part)) ++ codes "\n"))))
 
 -- `  <path> <place> <word> by <place of the part>`, and the message of the part in quotes, where it has one
-abbrev pub entry_line : File → (template_tree : Forest) → (rules template : List ℕ) → Entry → List ℕ
-entry_line file template_tree rules template entry =
-    codes "  " ++ (shown_text file template_tree rules template entry.shown ++ cause_text file rules entry.word entry.part)
+abbrev pub entry_line : File → (tree : Forest) → Texts → Entry → List ℕ
+entry_line file tree texts entry =
+    codes "  " ++ (shown_text file tree texts entry.shown ++ cause_text file texts.rules entry.word entry.part)

@@ -9,8 +9,10 @@ ghost use Rattle.rule_names.specs.code.Files.{file_of};
 ghost use Rattle.rule_names.specs.Pieces.{piece_at};
 ghost use Rattle.rule_meaning.specs.StoreModel.{is_known_ref};
 ghost use Rattle.value_compare.specs.code.Stores.{see_store};
-ghost use Rattle.report_text.specs.EntryLines.{cause_text, entry_line, node_text, note_of, note_of_part, shown_text, site_text, template_path, word_text};
+ghost use Rattle.report_text.specs.EntryLines.{cause_text, data_path, entry_line, node_text, note_of, note_of_part, shown_text, site_text, word_text};
+ghost use Rattle.report_text.specs.Texts.{place_of_node};
 ghost use Rattle.report_text.specs.code.SeenEntries.{IsShowable, is_made, see_entry, see_shown, see_word, tree_for};
+ghost use Rattle.report_text.specs.code.SeenTexts.{see_lined, see_texts};
 ghost use Rattle.rule_meaning.specs.Seeing.{see_origin};
 ghost use Rattle.report_text.specs.Messages.{note_text};
 ghost use Rattle.report_text.specs.Paths.{path_of};
@@ -21,6 +23,7 @@ use crate::messages::push_quoted;
 use crate::paths::push_path;
 use crate::put::{ReportFault, put};
 use crate::spelling::push_place;
+use crate::texts::{LinedTexts, Texts};
 use doc_values::Cursor;
 use guard_io::Sink;
 use guard_syntax::{Origin, Part, Ref};
@@ -29,37 +32,34 @@ use std::alloc::{AllocError, Global};
 use value_compare::{Store, View};
 
 /// Writes the line of an entry: two spaces, the path and the place of what is shown, the word, the place of the part in
-/// the rules, and the part's message where it has one. Places are `line:column` from 1, the column in bytes. The texts are
-/// those from which the file and the template were read; the file is the store's. After an error the sink has taken a
-/// front of the line; `Failed` comes only where its count of faults rose.
+/// the rules, and the part's message where it has one. Places are `line:column` from 1, the column in bytes, and behind
+/// `params:` in the parameters. The texts are those from which the file and the data tree were read; the file is the
+/// store's. After an error the sink has taken a front of the line; `Failed` comes only where its count of faults rose.
 pub fn write_entry<S: Sink>(
     alloc: Global,
     file: &RuleFile,
-    rules_text: &str,
-    template_text: &str,
+    texts: &Texts<'_>,
     store: &Store<'_, '_>,
     entry: &Entry,
     sink: &mut S,
 ) -> Result<(), ReportFault>
     requires file { (see_store store.now).file ≡ file_of file.now }
     requires shown { IsShowable (see_store store.now) entry.now.shown }
-    requires rules { length rules_text.now ≤ rules_limit }
-    requires template { length template_text.now ≤ template_limit }
+    requires rules { length texts.now.rules.now ≤ rules_limit }
+    requires template { length texts.now.template.now ≤ template_limit }
+    requires params { ForSome texts.now.params (λ params. length params.text.now ≤ template_limit) }
     ensures ok { OnOk result (ForSome (S.told sink.old) (λ held.
-        S.told sink.new ≡ Some (held ++ entry_line (see_store store.now).file (see_store store.now).template rules_text.now template_text.now (see_entry (see_store store.now) entry.now)))) }
+        S.told sink.new ≡ Some (held ++ entry_line (see_store store.now).file (see_store store.now).template (see_texts texts.now) (see_entry (see_store store.now) entry.now)))) }
     ensures err { OnErr result (ForSome (S.told sink.old) (λ held. (front : List ℕ)
-        × IsPrefix front (entry_line (see_store store.now).file (see_store store.now).template rules_text.now template_text.now (see_entry (see_store store.now) entry.now)) × (S.told sink.new ≡ Some (held ++ front)))) }
+        × IsPrefix front (entry_line (see_store store.now).file (see_store store.now).template (see_texts texts.now) (see_entry (see_store store.now) entry.now)) × (S.told sink.new ≡ Some (held ++ front)))) }
     ensures tells { IsSome (S.told sink.old) → IsSome (S.told sink.new) }
     ensures failed { IsErrOf result ReportFault.Failed → FaultCounted (S.faults sink.old) (S.faults sink.new) }
     ensures kept { S.faults sink.old ≤ S.faults sink.new }
 {
-    let Ok(rules) = Lined::new(alloc, rules_text) else {
-        return Err(ReportFault::Memory);
-    };
-    let Ok(template) = Lined::new(alloc, template_text) else {
-        return Err(ReportFault::Memory);
-    };
-    write_entry_over(alloc, file, &rules, &template, store, entry, sink)
+    match LinedTexts::new(alloc, texts) {
+        Ok(texts) => write_entry_over(alloc, file, &texts, store, entry, sink),
+        Err(_) => Err(ReportFault::Memory),
+    }
 }
 
 /// Writes the line of an entry as `write_entry` does, over texts whose lines are found: so the lines of many entries take no
@@ -67,8 +67,7 @@ pub fn write_entry<S: Sink>(
 pub fn write_entry_over<S: Sink>(
     alloc: Global,
     file: &RuleFile,
-    rules: &Lined<'_>,
-    template: &Lined<'_>,
+    texts: &LinedTexts<'_>,
     store: &Store<'_, '_>,
     entry: &Entry,
     sink: &mut S,
@@ -76,14 +75,14 @@ pub fn write_entry_over<S: Sink>(
     requires file { (see_store store.now).file ≡ file_of file.now }
     requires shown { IsShowable (see_store store.now) entry.now.shown }
     ensures ok { OnOk result (ForSome (S.told sink.old) (λ held.
-        S.told sink.new ≡ Some (held ++ entry_line (see_store store.now).file (see_store store.now).template rules.now.text.now template.now.text.now (see_entry (see_store store.now) entry.now)))) }
+        S.told sink.new ≡ Some (held ++ entry_line (see_store store.now).file (see_store store.now).template (see_lined texts.now) (see_entry (see_store store.now) entry.now)))) }
     ensures err { OnErr result (ForSome (S.told sink.old) (λ held. (front : List ℕ)
-        × IsPrefix front (entry_line (see_store store.now).file (see_store store.now).template rules.now.text.now template.now.text.now (see_entry (see_store store.now) entry.now)) × (S.told sink.new ≡ Some (held ++ front)))) }
+        × IsPrefix front (entry_line (see_store store.now).file (see_store store.now).template (see_lined texts.now) (see_entry (see_store store.now) entry.now)) × (S.told sink.new ≡ Some (held ++ front)))) }
     ensures tells { IsSome (S.told sink.old) → IsSome (S.told sink.new) }
     ensures failed { IsErrOf result ReportFault.Failed → FaultCounted (S.faults sink.old) (S.faults sink.new) }
     ensures kept { S.faults sink.old ≤ S.faults sink.new }
 {
-    match line_of(alloc, file, rules, template, store, entry) {
+    match line_of(alloc, file, texts, store, entry) {
         Ok(line) => put(&line, sink),
         Err(_) => Err(ReportFault::Memory),
     }
@@ -93,19 +92,18 @@ pub fn write_entry_over<S: Sink>(
 fn line_of(
     alloc: Global,
     file: &RuleFile,
-    rules: &Lined<'_>,
-    template: &Lined<'_>,
+    texts: &LinedTexts<'_>,
     store: &Store<'_, '_>,
     entry: &Entry,
 ) -> Result<Vec<u8>, AllocError>
     requires file { (see_store store.now).file ≡ file_of file.now }
     requires shown { IsShowable (see_store store.now) entry.now.shown }
-    ensures { IfOk result (λ line. line.items ≡ entry_line (see_store store.now).file (see_store store.now).template rules.now.text.now template.now.text.now (see_entry (see_store store.now) entry.now)) }
+    ensures { IfOk result (λ line. line.items ≡ entry_line (see_store store.now).file (see_store store.now).template (see_lined texts.now) (see_entry (see_store store.now) entry.now)) }
 {
     let mut line = Vec::new(alloc);
     line.extend_from_slice(b"  ")?;
-    push_shown(&mut line, file, rules, template, store, entry.shown)?;
-    push_cause(&mut line, file, rules, entry)?;
+    push_shown(&mut line, file, texts, store, entry.shown)?;
+    push_cause(&mut line, file, &texts.rules, entry)?;
     Ok(line)
 }
 
@@ -131,58 +129,75 @@ fn push_cause(
 fn push_shown(
     line: &mut Vec<u8>,
     file: &RuleFile,
-    rules: &Lined<'_>,
-    template: &Lined<'_>,
+    texts: &LinedTexts<'_>,
     store: &Store<'_, '_>,
     shown: Shown,
 ) -> Result<(), AllocError>
     requires file { (see_store store.now).file ≡ file_of file.now }
     requires shown { IsShowable (see_store store.now) shown }
-    ensures { OnOk result (line.new.items ≡ line.old.items ++ shown_text (see_store store.now).file (see_store store.now).template rules.now.text.now template.now.text.now (see_shown (see_store store.now) shown)) }
+    ensures { OnOk result (line.new.items ≡ line.old.items ++ shown_text (see_store store.now).file (see_store store.now).template (see_lined texts.now) (see_shown (see_store store.now) shown)) }
 {
     match shown {
-        Shown::Value(value) => push_value(line, rules, template, store, value),
+        Shown::Value(value) => push_value(line, texts, store, value),
         Shown::Made { call, value } => {
             line.extend_from_slice(b"call")?;
             push_path(line, node_of(store, value))?;
             line.push(b' ')?;
-            push_site(line, file, rules, call)
+            push_site(line, file, &texts.rules, call)
         }
         Shown::Unmade(call) => {
             line.extend_from_slice(b"call ")?;
-            push_site(line, file, rules, call)
+            push_site(line, file, &texts.rules, call)
         }
     }
 }
 
-/// Appends the path and the place of a value of the template or of a literal.
+/// Appends the path and the place of a value of the data tree or of a literal.
 fn push_value(
     line: &mut Vec<u8>,
-    rules: &Lined<'_>,
-    template: &Lined<'_>,
+    texts: &LinedTexts<'_>,
     store: &Store<'_, '_>,
     value: Ref,
 ) -> Result<(), AllocError>
     requires known { is_known_ref (see_store store.now) value ≡ true }
     requires given { is_made value.origin ≡ false }
-    ensures { OnOk result (line.new.items ≡ line.old.items ++ node_text (see_store store.now).file (see_store store.now).template rules.now.text.now template.now.text.now (see_origin (see_store store.now) [] value.origin) value.node) }
+    ensures { OnOk result (line.new.items ≡ line.old.items ++ node_text (see_store store.now).file (see_store store.now).template (see_lined texts.now) (see_origin (see_store store.now) [] value.origin) value.node) }
 {
     let node = node_of(store, value);
     match value.origin {
         Origin::Template => {
-            push_template_path(line, node)?;
+            push_data_path(line, node)?;
             line.push(b' ')?;
-            push_place(line, template, node.at())
+            push_data_place(line, texts, node.id, node.at())
         }
         Origin::Literal(_) => {
             line.extend_from_slice(b"literal")?;
             push_path(line, node)?;
             line.push(b' ')?;
-            push_place(line, rules, node.at())
+            push_place(line, &texts.rules, node.at())
         }
         // What a call made is shown under its call.
         Origin::Made { .. } => unreachable!(),
     }
+}
+
+/// Appends the place of a byte offset in the text in which a node of the data tree stands.
+fn push_data_place(
+    line: &mut Vec<u8>,
+    texts: &LinedTexts<'_>,
+    node: u32,
+    at: u32,
+) -> Result<(), AllocError>
+    ensures { OnOk result (line.new.items ≡ line.old.items ++ place_of_node (see_lined texts.now).template (see_lined texts.now).params node at) }
+{
+    let Some(params) = &texts.params else {
+        return push_place(line, &texts.template, at);
+    };
+    if node < params.first {
+        return push_place(line, &texts.template, at);
+    }
+    line.extend_from_slice(b"params:")?;
+    push_place(line, &params.text, at)
 }
 
 /// The node of a value; that of a key is its entry's.
@@ -209,10 +224,10 @@ fn node_of<'v, 's>(store: &'v Store<'_, 's>, value: Ref) -> Cursor<'v, 's>
     }
 }
 
-/// Appends the path of a node of the template.
-fn push_template_path(line: &mut Vec<u8>, node: Cursor<'_, '_>) -> Result<(), AllocError>
+/// Appends the path of a node of the data tree.
+fn push_data_path(line: &mut Vec<u8>, node: Cursor<'_, '_>) -> Result<(), AllocError>
     requires { IsTree node.doc.now }
-    ensures { OnOk result (line.new.items ≡ line.old.items ++ template_path (path_of node.entry.doc.now node.entry.id)) }
+    ensures { OnOk result (line.new.items ≡ line.old.items ++ data_path (path_of node.entry.doc.now node.entry.id)) }
 {
     match node.parent() {
         None => {

@@ -6,13 +6,16 @@ pub mod entries;
 pub mod entry;
 pub mod lined;
 mod messages;
-mod paths;
+pub mod paths;
 pub mod put;
 pub mod rules;
 mod spelling;
+pub mod texts;
 
 pub use entries::{write_entry, write_entry_over};
 pub use entry::{Entry, Shown, Word};
 pub use lined::Lined;
+pub use paths::push_key_text;
 pub use put::ReportFault;
-pub use rules::{push_rule_line, write_rules};
+pub use rules::{push_rule_line, verdict_word, write_rules};
+pub use texts::{LinedParams, LinedTexts, Params, Texts};

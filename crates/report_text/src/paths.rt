@@ -32,6 +32,13 @@ fn push_key(line: &mut Vec<u8>, key: &str) -> Result<(), AllocError>
     ensures { OnOk result (line.new.items ≡ line.old.items ++ step_text (ToEntry key.now)) }
 {
     line.push(b'/')?;
+    push_key_text(line, key)
+}
+
+/// Appends a key as it stands in a path.
+pub fn push_key_text(line: &mut Vec<u8>, key: &str) -> Result<(), AllocError>
+    ensures { OnOk result (line.new.items ≡ line.old.items ++ flat_map key_byte key.now) }
+{
     for byte in key.as_bytes() {
         push_key_byte(line, *byte)?;
     }

@@ -15,7 +15,7 @@ pub enum ReportFault {
 }
 
 /// Writes a text, or a front of it and an error.
-pub(crate) fn put<S: Sink>(text: &[u8], sink: &mut S) -> Result<(), ReportFault>
+pub fn put<S: Sink>(text: &[u8], sink: &mut S) -> Result<(), ReportFault>
     ensures ok { OnOk result (ForSome (S.told sink.old) (λ held. S.told sink.new ≡ Some (held ++ text.now))) }
     ensures err { OnErr result (ForSome (S.told sink.old) (λ held. (front : List ℕ)
         × IsPrefix front text.now × (S.told sink.new ≡ Some (held ++ front)))) }

@@ -101,7 +101,7 @@ pub fn push_rule_line(lines: &mut Vec<u8>, name: &str, verdict: Verdict) -> Resu
 }
 
 /// The word that is printed for a verdict.
-fn verdict_word(verdict: Verdict) -> &'static str
+pub fn verdict_word(verdict: Verdict) -> &'static str
     ensures { result.now ≡ verdict_word verdict }
 {
     match verdict {

@@ -1,15 +1,9 @@
-use Rattle.std.proofs.Common.{◌++◌, ℕ, List, ap, ◌∙◌}
+use Rattle.std.proofs.Common.{codes}
 use Rattle.std.specs.List.{flat_map}
 use Rattle.report_text.specs.Paths.{key_byte}
-use Rattle.report_text.proofs.Appended.{and-then}
-use Rattle.report_text.proofs.LoopBytes.{bytes-more, bytes-all}
+use Rattle.report_text.proofs.Appended.{and-call}
 use Rattle.report_text.proofs.paths.push_key.Goals as goal
-
-pub loop-byte-preserved : goal.loop-byte-preserved
-loop-byte-preserved c = bytes-more key_byte c.as_bytes-byte-items.result.now c.loop-byte.byte-index _ _ _ _ c.loop-byte-test.true c.loop-byte.invariant c.in_ok-push_key_byte.ensures
 
 pub returns : goal.returns
 returns c =
-    and-then _ _ _ _ _ c.in_ok-push.ensures.items
-    (bytes-all key_byte c.as_bytes-byte-items.result.now c.loop-byte.byte-index _ _ c.loop-byte-test.false c.loop-byte.invariant
-    ∙ ap (λ (bytes : List ℕ). c.push.new.self.items ++ flat_map key_byte bytes) c.as_bytes-byte-items.ensures.value)
+    and-call c.push_key_text.result c.args.line.now.items c.push.new.self.items c.push_key_text.new.line.items (codes "/") (flat_map key_byte c.args.key.now) c.in_ok-push.ensures.items c.push_key_text.ensures

@@ -1,7 +1,7 @@
 use Rattle.std.proofs.Common.{◌≡◌, ◌++◌, ℕ, List, OnOk, ap, sym, ◌∙◌, subst}
 use Rattle.doc_values.specs.Tree.{Forest}
-use Rattle.report_text.proofs.TemplatePaths.{below-path, root-text}
-use Rattle.report_text.proofs.entries.push_template_path.Goals as goal
+use Rattle.report_text.proofs.DataPaths.{below-path, root-text}
+use Rattle.report_text.proofs.entries.push_data_path.Goals as goal
 
 pub returns-in_ok-push-in-None : goal.returns-in_ok-push-in-None
 returns-in_ok-push-in-None c =
