@@ -23,8 +23,8 @@ use Rattle.yaml_blocks.specs.declared.node.Key.{Key}
 use Rattle.yaml_blocks.specs.declared.form.Form.TheVariants.{Root, Flow, FlowTagged, Items, Entries, Tagged}
 use Rattle.yaml_blocks.specs.declared.stage.Stage.TheVariants as stage
 use Rattle.yaml_blocks.specs.declared.stage.Position.{Position}
-use Rattle.yaml_blocks.specs.declared.refusal.YamlRefusal.{YamlRefusal}
-use Rattle.yaml_blocks.specs.declared.refusal.YamlRefusal.TheVariants as refusal
+use Rattle.yaml_blocks.specs.declared.stop.Stop.{Stop}
+use Rattle.yaml_blocks.specs.declared.stop.Stop.TheVariants as refusal
 use Rattle.yaml_blocks.specs.Ahead.{ahead, token_len}
 use Rattle.yaml_blocks.specs.Nodes.{as_key, tag_name, tag_key, follows_get_att, is_cut, setting_of, starts_scalar, scalar_ahead, node_sign, is_tagged}
 use Rattle.yaml_blocks.specs.Blocks.{block_sign, takes_scalar, takes_mapping, takes_sequence, takes_tag, tagged, column_in, last_place, ends_name, IsBare, IsKey}
@@ -128,7 +128,7 @@ module _ (text : List ℕ) (fs : List Form) (u : Unfinished) (f : Form) (at : �
   room_sequence : (v : Reading) → Awaiting text fs u at v → IsRoomFor (length u.outer) (FirstItem v) (v ≡ Refused (TooDeep (ahead text false at).at))
   room_sequence v h = awaits_sequence text fs u.outer f sp.2 sp.3 u.done u.key at v barred_dash t h
 
-  refused_sequence : (gs : List Form) (w : Unfinished) (e : YamlRefusal) → Deep u (ahead text false at).at e → Gives text (Awaiting text fs u at) (2 * at + 1) gs w (Err e)
+  refused_sequence : (gs : List Form) (w : Unfinished) (e : Stop) → Deep u (ahead text false at).at e → Gives text (Awaiting text fs u at) (2 * at + 1) gs w (Err e)
   refused_sequence gs w e h =
       deep_gives text (Awaiting text fs u at) (2 * at + 1) gs u w (ahead text false at).at e FirstItem room_sequence
       (λ d. deep_sequence text fs u.outer f sp.2 sp.3 u.done u.key at (Refused (TooDeep (ahead text false at).at)) t tk d refl) h
@@ -149,7 +149,7 @@ sequence_goes text fs gs u w f at next p e sp t tk eg ew d es ej =
     subst (λ a. Spot text fs u f at a → a.token ≡ Dash → takes_sequence f a ≡ true → gs ≡ Items (column_in f a) ∷ fs → w ≡ with_open kind.List a.at u → p.at ≡ a.behind → Goes text (Awaiting text fs u at) (2 * at + 1) gs w p) (sym e)
     (λ s x k g h j. goes_sequence text fs u f at s x k gs w p g h d es j) sp t tk eg ew ej
 
-pub sequence_refused : (text : List ℕ) (fs gs : List Form) (u w : Unfinished) (f : Form) (at : ℕ) (next : Ahead) (e : YamlRefusal) → next ≡ ahead text false at → Spot text fs u f at next → next.token ≡ Dash → takes_sequence f next ≡ true
+pub sequence_refused : (text : List ℕ) (fs gs : List Form) (u w : Unfinished) (f : Form) (at : ℕ) (next : Ahead) (e : Stop) → next ≡ ahead text false at → Spot text fs u f at next → next.token ≡ Dash → takes_sequence f next ≡ true
     → Deep u next.at e → Gives text (Awaiting text fs u at) (2 * at + 1) gs w (Err e)
 sequence_refused text fs gs u w f at next e h sp t tk b =
     subst (λ a. Spot text fs u f at a → a.token ≡ Dash → takes_sequence f a ≡ true → Deep u a.at e → Gives text (Awaiting text fs u at) (2 * at + 1) gs w (Err e)) (sym h) (λ s x k d. refused_sequence text fs u f at s x k gs w e d) sp t tk b
@@ -175,7 +175,7 @@ module _ (text : List ℕ) (fs : List Form) (u : Unfinished) (f : Form) (at : �
   room_mapping : (v : Reading) → Awaiting text fs u at v → IsRoomFor (length u.outer) (FirstEntry v) (v ≡ Refused (TooDeep (ahead text false at).at))
   room_mapping v h = awaits_mapping text fs u.outer f sp.2 sp.3 u.done u.key at v t q barred_key k stale_key h
 
-  refused_mapping : (gs : List Form) (w : Unfinished) (e : YamlRefusal) → Deep u (ahead text false at).at e → Gives text (Awaiting text fs u at) (2 * at + 1) gs w (Err e)
+  refused_mapping : (gs : List Form) (w : Unfinished) (e : Stop) → Deep u (ahead text false at).at e → Gives text (Awaiting text fs u at) (2 * at + 1) gs w (Err e)
   refused_mapping gs w e h =
       deep_gives text (Awaiting text fs u at) (2 * at + 1) gs u w (ahead text false at).at e FirstEntry room_mapping
       (λ d. deep_mapping text fs u.outer f sp.2 sp.3 u.done u.key at (Refused (TooDeep (ahead text false at).at)) t q k tk d refl) h
@@ -195,7 +195,7 @@ mapping_goes text fs gs u w f at q next t p e sp k tk far b eg ew d es ej =
     subst (λ a. Spot text fs u f at a → IsKey text a t q → takes_mapping f a ≡ true → a.at < q → gs ≡ Entries (column_in f a) ∷ fs → w ≡ with_key t (with_open kind.Map a.at u) → Goes text (Awaiting text fs u at) (2 * at + 1) gs w p) (sym e)
     (λ s x y l g h. goes_mapping text fs u f at s t q x y gs w p (omega (arith, s.1.0, l)) b g h d es ej) sp k tk far eg ew
 
-pub mapping_refused : (text : List ℕ) (fs gs : List Form) (u w : Unfinished) (f : Form) (at q : ℕ) (next : Ahead) (t : List ℕ) (e : YamlRefusal) → next ≡ ahead text false at → Spot text fs u f at next → IsKey text next t q → takes_mapping f next ≡ true
+pub mapping_refused : (text : List ℕ) (fs gs : List Form) (u w : Unfinished) (f : Form) (at q : ℕ) (next : Ahead) (t : List ℕ) (e : Stop) → next ≡ ahead text false at → Spot text fs u f at next → IsKey text next t q → takes_mapping f next ≡ true
     → Deep u next.at e → Gives text (Awaiting text fs u at) (2 * at + 1) gs w (Err e)
 mapping_refused text fs gs u w f at q next t e h sp k tk b =
     subst (λ a. Spot text fs u f at a → IsKey text a t q → takes_mapping f a ≡ true → Deep u a.at e → Gives text (Awaiting text fs u at) (2 * at + 1) gs w (Err e)) (sym h) (λ s x y d. refused_mapping text fs u f at s t q x y gs w e d) sp k tk b
@@ -237,13 +237,13 @@ module _ (text : List ℕ) (fs : List Form) (u : Unfinished) (f : Form) (at len 
       (((refl, sp.4.0), (subst (λ g. LiesIn (tagged f (ahead text false at)) g) (sym sp.2) l.0, l.1, sp.4.1)), apart_tagged _ _ _, (name, refl), omega (arith, sp.1.3, some), tag_named text false at len t)
       sp.1.2 (omega (arith, sp.1.0, sp.1.3, some))
 
-  tag_node : (gs : List Form) (w : Unfinished) (r : Result Position YamlRefusal) → TagBegun text (tagged f (ahead text false at)) (ahead text false at) fs u gs w r → Gives text (Awaiting text fs u at) (2 * at + 1) gs w r
+  tag_node : (gs : List Form) (w : Unfinished) (r : Result Position Stop) → TagBegun text (tagged f (ahead text false at)) (ahead text false at) fs u gs w r → Gives text (Awaiting text fs u at) (2 * at + 1) gs w r
   tag_node gs w (Ok p) (es, ej, eg, ew, d) = goes_tag gs w p eg ew d es ej
   tag_node gs w (Err e) h =
       deep_gives text (Awaiting text fs u at) (2 * at + 1) gs u w (ahead text false at).at e FirstBehind room_tag
       (λ d. deep_tag text fs u.outer f sp.2 sp.3 u.done u.key at (Refused (TooDeep (ahead text false at).at)) len t tk d refl) h
 
-pub tag_gives : (text : List ℕ) (fs gs : List Form) (u w : Unfinished) (f g : Form) (at len : ℕ) (next : Ahead) (r : Result Position YamlRefusal) → next ≡ ahead text false at → Spot text fs u f at next → next.token ≡ Tag len → takes_tag f next ≡ true
+pub tag_gives : (text : List ℕ) (fs gs : List Form) (u w : Unfinished) (f g : Form) (at len : ℕ) (next : Ahead) (r : Result Position Stop) → next ≡ ahead text false at → Spot text fs u f at next → next.token ≡ Tag len → takes_tag f next ≡ true
     → g ≡ tagged f next → TagBegun text g next fs u gs w r → Gives text (Awaiting text fs u at) (2 * at + 1) gs w r
 tag_gives text fs gs u w f g at len next r e sp t tk eg h =
     subst (λ a. Spot text fs u f at a → a.token ≡ Tag len → takes_tag f a ≡ true → TagBegun text (tagged f a) a fs u gs w r → Gives text (Awaiting text fs u at) (2 * at + 1) gs w r) (sym e)
@@ -261,7 +261,7 @@ module _ (text : List ℕ) (fs : List Form) (u : Unfinished) (f : Form) (at : �
   room_brackets : (v : Reading) → Awaiting text fs u at v → IsRoomFor (length u.outer) (Within v) (v ≡ Refused (TooDeep (ahead text false at).at))
   room_brackets v h = awaits_brackets text fs u.outer f sp.2 sp.3 u.done u.key at v m (node_barred text fs u f at sp tk (end_token text at (Opens m) o refl)) o h
 
-  brackets_node : (gs : List Form) (w : Unfinished) (r : Result Position YamlRefusal) → Opened m (ahead text false at) fs u gs w r → Gives text (Awaiting text fs u at) (2 * at + 1) gs w r
+  brackets_node : (gs : List Form) (w : Unfinished) (r : Result Position Stop) → Opened m (ahead text false at) fs u gs w r → Gives text (Awaiting text fs u at) (2 * at + 1) gs w r
   brackets_node gs w (Ok p) (es, ej, eg, ew, d) =
       let one : token_len (ahead text false at).token ≡ 1 = ap token_len o in
       goes text (Awaiting text fs u at) (2 * at + 1) gs (Flow m ∷ fs) w (with_open (open_kind m) (ahead text false at).at u) p stage.Entry (ahead text false at).behind es ej eg ew
@@ -274,13 +274,13 @@ module _ (text : List ℕ) (fs : List Form) (u : Unfinished) (f : Form) (at : �
       deep_gives text (Awaiting text fs u at) (2 * at + 1) gs u w (ahead text false at).at e Within room_brackets
       (λ d. deep_brackets text fs u.outer f sp.2 sp.3 u.done u.key at (Refused (TooDeep (ahead text false at).at)) m o tk d refl) h
 
-pub brackets_gives : (text : List ℕ) (fs gs : List Form) (u w : Unfinished) (f : Form) (at : ℕ) (m : Bool) (next : Ahead) (r : Result Position YamlRefusal) → next ≡ ahead text false at → Spot text fs u f at next → next.token ≡ Opens m → takes_scalar f next ≡ true
+pub brackets_gives : (text : List ℕ) (fs gs : List Form) (u w : Unfinished) (f : Form) (at : ℕ) (m : Bool) (next : Ahead) (r : Result Position Stop) → next ≡ ahead text false at → Spot text fs u f at next → next.token ≡ Opens m → takes_scalar f next ≡ true
     → Opened m next fs u gs w r → Gives text (Awaiting text fs u at) (2 * at + 1) gs w r
 brackets_gives text fs gs u w f at m next r e sp o tk h =
     subst (λ a. Spot text fs u f at a → a.token ≡ Opens m → takes_scalar f a ≡ true → Opened m a fs u gs w r → Gives text (Awaiting text fs u at) (2 * at + 1) gs w r) (sym e)
     (λ s x y z. brackets_node text fs u f at m s x y gs w r z) sp o tk h
 
-scalar_node : (text : List ℕ) (fs : List Form) (u w : Unfinished) (f : Form) (at : ℕ) (r : Result Position YamlRefusal) → Spot text fs u f at (ahead text false at) → starts_scalar (ahead text false at).token ≡ true → takes_scalar f (ahead text false at) ≡ true
+scalar_node : (text : List ℕ) (fs : List Form) (u w : Unfinished) (f : Form) (at : ℕ) (r : Result Position Stop) → Spot text fs u f at (ahead text false at) → starts_scalar (ahead text false at).token ≡ true → takes_scalar f (ahead text false at) ≡ true
     → (takes_mapping f (ahead text false at) ≡ true → NoKey text (ahead text false at)) → Holds text (setting_of f) (follows_get_att text f at) (ahead text false at) u w r → Gives text (Awaiting text fs u at) (2 * at + 1) fs w r
 scalar_node text fs u w f at (Ok p) sp s tk nm (t, k, (st, hk, lt, b), es, ew, room) =
     let q = node_barred text fs u f at sp tk (start_token text at s) in
@@ -292,7 +292,7 @@ scalar_node text fs u w f at (Ok p) sp s tk nm (t, k, (st, hk, lt, b), es, ew, r
     ))
     (value_fits text fs u cut k t (ahead text false at).at p.at sp.4 lt) b (omega (arith, lt, sp.1.0))
 scalar_node text fs u w f at (Err r) sp s tk nm (inl h) = memory_gives text (Awaiting text fs u at) (2 * at + 1) fs w r h
-scalar_node text fs u w f at (Err r) sp s tk nm (inr (inl (h, m))) =
+scalar_node text fs u w f at (Err r) sp s tk nm (inr (inl ((place, h), m))) =
     let q = node_barred text fs u f at sp tk (start_token text at s) in
     subst (λ z. Gives text (Awaiting text fs u at) (2 * at + 1) fs w (Err z)) (sym h) (λ v x. awaits_no_scalar text fs u.outer f sp.2 sp.3 u.done u.key at v q s nm m x)
 scalar_node text fs u w f at (Err r) sp s tk nm (inr (inr (inl (p, e, d)))) =
@@ -308,7 +308,7 @@ scalar_node text fs u w f at (Err r) sp s tk nm (inr (inr (inr (t, k, j, (st, hk
           (awaits_scalar text fs u.outer f sp.2 sp.3 u.done u.key at v t k j q s nm st (λ l hl. same_kind (is_typed (setting_of f) text (ahead text false at).at) t l k hl hk) h)),
     )
 
-pub scalar_gives : (text : List ℕ) (fs : List Form) (u w : Unfinished) (f : Form) (at : ℕ) (next : Ahead) (r : Result Position YamlRefusal) → next ≡ ahead text false at → Spot text fs u f at next → starts_scalar next.token ≡ true
+pub scalar_gives : (text : List ℕ) (fs : List Form) (u w : Unfinished) (f : Form) (at : ℕ) (next : Ahead) (r : Result Position Stop) → next ≡ ahead text false at → Spot text fs u f at next → starts_scalar next.token ≡ true
     → takes_scalar f next ≡ true → (takes_mapping f next ≡ true → NoKey text next) → Holds text (setting_of f) (follows_get_att text f at) next u w r → Gives text (Awaiting text fs u at) (2 * at + 1) fs w r
 scalar_gives text fs u w f at next r e sp s tk nm h =
     subst (λ a. Spot text fs u f at a → starts_scalar a.token ≡ true → takes_scalar f a ≡ true → (takes_mapping f a ≡ true → NoKey text a) → Holds text (setting_of f) (follows_get_att text f at) a u w r → Gives text (Awaiting text fs u at) (2 * at + 1) fs w r) (sym e)
@@ -320,7 +320,7 @@ scalar_gives text fs u w f at next r e sp s tk nm h =
 abbrev pub IsOnce : Form → Ahead → Type 0
 IsOnce f a = is_tagged f ≡ true → (len : ℕ) → a.token ≡ Tag len → ⊥
 
-missing_node : (text : List ℕ) (fs : List Form) (u w : Unfinished) (f : Form) (at : ℕ) (r : Result Position YamlRefusal) → IsCharBoundary text at → Spot text fs u f at (ahead text false at) → NoNode f (ahead text false at) → block_sign f (ahead text false at) ≡ None → (f ≡ Root → ⊥) → IsOnce f (ahead text false at)
+missing_node : (text : List ℕ) (fs : List Form) (u w : Unfinished) (f : Form) (at : ℕ) (r : Result Position Stop) → IsCharBoundary text at → Spot text fs u f at (ahead text false at) → NoNode f (ahead text false at) → block_sign f (ahead text false at) ≡ None → (f ≡ Root → ⊥) → IsOnce f (ahead text false at)
     → Completes at (with_value kind.Null [] at u) w r → Gives text (Awaiting text fs u at) (2 * at + 1) fs w r
 missing_node text fs u w f at (Ok p) b sp none us n once (es, ej, ew) =
     goes text (Awaiting text fs u at) (2 * at + 1) fs fs w (with_value kind.Null [] at u) p stage.After at es ej refl ew
@@ -328,7 +328,7 @@ missing_node text fs u w f at (Ok p) b sp none us n once (es, ej, ew) =
     (sp.4, refl, (λ k. missing_calm text f (with_value kind.Null [] at u) at sp.3 n sp.6 once)) b (omega arith)
 missing_node text fs u w f at (Err e) b sp none us n once h = memory_gives text (Awaiting text fs u at) (2 * at + 1) fs w e h
 
-pub missing_gives : (text : List ℕ) (fs : List Form) (u w : Unfinished) (f : Form) (at : ℕ) (next : Ahead) (r : Result Position YamlRefusal) → next ≡ ahead text false at → IsCharBoundary text at → Spot text fs u f at next → NoNode f next → block_sign f next ≡ None → (f ≡ Root → ⊥) → IsOnce f next
+pub missing_gives : (text : List ℕ) (fs : List Form) (u w : Unfinished) (f : Form) (at : ℕ) (next : Ahead) (r : Result Position Stop) → next ≡ ahead text false at → IsCharBoundary text at → Spot text fs u f at next → NoNode f next → block_sign f next ≡ None → (f ≡ Root → ⊥) → IsOnce f next
     → Completes at (with_value kind.Null [] at u) w r → Gives text (Awaiting text fs u at) (2 * at + 1) fs w r
 missing_gives text fs u w f at next r e b sp none us n once h =
     subst (λ a. Spot text fs u f at a → NoNode f a → block_sign f a ≡ None → IsOnce f a → Gives text (Awaiting text fs u at) (2 * at + 1) fs w r) (sym e) (λ s x y z. missing_node text fs u w f at r b s x y n z h) sp none us once
@@ -339,10 +339,10 @@ no_root text fs u at next f e t r none us v h =
 
 -- ---- a sign
 
-abbrev Answered : Option Sign → Option YamlRefusal → Type 0
+abbrev Answered : Option Sign → Option Stop → Type 0
 Answered o r = MatchOption r (o ≡ None) (λ e. Some e ≡ option_map of_sign o)
 
-pub sign_there : (f : Form) (a : Ahead) (tagged : Bool) (r : Option YamlRefusal) → tagged ≡ is_tagged f → takes_scalar f a ≡ true → Answered (node_sign tagged a.at a.token) r → Answered (block_sign f a) r
+pub sign_there : (f : Form) (a : Ahead) (tagged : Bool) (r : Option Stop) → tagged ≡ is_tagged f → takes_scalar f a ≡ true → Answered (node_sign tagged a.at a.token) r → Answered (block_sign f a) r
 sign_there f a tagged r e k h = subst (λ o. Answered o r) (sym (ap (λ q. cond q (node_sign (is_tagged f) a.at a.token) None) k)) (subst (λ q. Answered (node_sign q a.at a.token) r) e h)
 
 pub sign_nowhere : (f : Form) (a : Ahead) → takes_scalar f a ≡ false → block_sign f a ≡ None
@@ -357,7 +357,7 @@ module _ (text : List ℕ) (fs : List Form) (u : Unfinished) (f : Form) (at : �
   sign_node : Broke (Awaiting text fs u at) s
   sign_node = (signed_awaits text fs u.outer f sp.2 sp.3 u.done u.key at (Refused s) s sg refl, (λ v h. awaits_signed text fs u.outer f sp.2 sp.3 u.done u.key at v s barred_sign sg h))
 
-pub node_signed_gives : (text : List ℕ) (n : ℕ) (fs gs : List Form) (u w : Unfinished) (f : Form) (at : ℕ) (next : Ahead) (r : YamlRefusal) → next ≡ ahead text false at → Spot text fs u f at next → Some r ≡ option_map of_sign (block_sign f next)
+pub node_signed_gives : (text : List ℕ) (n : ℕ) (fs gs : List Form) (u w : Unfinished) (f : Form) (at : ℕ) (next : Ahead) (r : Stop) → next ≡ ahead text false at → Spot text fs u f at next → Some r ≡ option_map of_sign (block_sign f next)
     → Gives text (Awaiting text fs u at) n gs w (Err r)
 node_signed_gives text n fs gs u w f at next r e sp h =
     let d = told (block_sign f next) r h in
@@ -452,11 +452,11 @@ no_entry text m fs u at n tp o col calm k us =
     (λ gs x xs ns c v h. ends_no_entry text m gs x xs u.done at v (entry_around text m gs (ahead text false at) ns col) n k us (λ len tag bare. c len tag (last_done (x ∷ xs) u.done at bare.0, bare.1)) h) o.1 calm
 
 -- what is no key was refused
-pub entry_missed : (text : List ℕ) (m : ℕ) (fs : List Form) (u w : Unfinished) (at : ℕ) (next : Ahead) (z : Setting) (r : YamlRefusal) → z ≡ as_key false → next ≡ ahead text false at → Inside text at → top fs ≡ Entries m → Open fs u → next.column ≡ m → IsCalm text u at → node_sign false next.at next.token ≡ None
+pub entry_missed : (text : List ℕ) (m : ℕ) (fs : List Form) (u w : Unfinished) (at : ℕ) (next : Ahead) (z : Setting) (r : Stop) → z ≡ as_key false → next ≡ ahead text false at → Inside text at → top fs ≡ Entries m → Open fs u → next.column ≡ m → IsCalm text u at → node_sign false next.at next.token ≡ None
     → Finds text z next (Err r) → Gives text (Behind text fs u at) (2 * at + 2) fs w (Err r)
 entry_missed text m fs u w at next z r ez e n t o col calm us (inl h) = memory_gives text (Behind text fs u at) (2 * at + 2) fs w r h
 entry_missed text m fs u w at next z r ez e n t o col calm us (inr (inr (p, h, d))) = absurd (key_single false text next p (subst (λ y. scalar_ahead text y next ≡ Divided p) ez d))
-entry_missed text m fs u w at next z r ez e n t o col calm us (inr (inl (h, k))) =
+entry_missed text m fs u w at next z r ez e n t o col calm us (inr (inl ((place, h), k))) =
     subst (λ y. Gives text (Behind text fs u at) (2 * at + 2) fs w (Err y)) (sym h)
     (subst (λ a. a.column ≡ m → Missed text (as_key false) a → node_sign false a.at a.token ≡ None → (v : Reading) → Behind text fs u at v → ⊥) (sym e) (λ c y s. no_entry text m fs u at n t o c calm y s) col (subst (λ y. Missed text y next) ez k.0) us)
 
@@ -482,7 +482,7 @@ entry_signed text m fs u at s (pl, fr) n tp o col sg =
     inside (λ hs xs. Nests hs → Broke (Ends text hs xs u.done at) s) (Entries m) fs u.outer tp (λ r. absurd (cc)) o.0
     (λ gs x xs ns. (signed_ends text m gs x xs u.done at s fr col sg, (λ v h. ends_signed text m gs x xs u.done at v s (entry_around text m gs (ahead text false at) ns col) n sg h))) o.1
 
-pub entry_signed_gives : (text : List ℕ) (m n : ℕ) (fs gs : List Form) (u w : Unfinished) (at : ℕ) (next : Ahead) (r : YamlRefusal) → IsSeen text false at next → next.fresh ≡ true → Inside text at → top fs ≡ Entries m → Open fs u → next.column ≡ m
+pub entry_signed_gives : (text : List ℕ) (m n : ℕ) (fs gs : List Form) (u w : Unfinished) (at : ℕ) (next : Ahead) (r : Stop) → IsSeen text false at next → next.fresh ≡ true → Inside text at → top fs ≡ Entries m → Open fs u → next.column ≡ m
     → Some r ≡ option_map of_sign (node_sign false next.at next.token) → Gives text (Behind text fs u at) n gs w (Err r)
 entry_signed_gives text m n fs gs u w at next r (e, pl) fr i tp o col h =
     let d = told (node_sign false next.at next.token) r h in
@@ -602,7 +602,7 @@ signed text fs u at s b o e =
           let same : z ≡ s = cc in
           r ∙ ap Refused same
 
-pub signed_gives : (text : List ℕ) (n : ℕ) (fs gs : List Form) (u w : Unfinished) (at : ℕ) (r : YamlRefusal) → IsBlock (top fs) → Open fs u → Some r ≡ option_map of_sign (end_sign text at) → Gives text (Behind text fs u at) n gs w (Err r)
+pub signed_gives : (text : List ℕ) (n : ℕ) (fs gs : List Form) (u w : Unfinished) (at : ℕ) (r : Stop) → IsBlock (top fs) → Open fs u → Some r ≡ option_map of_sign (end_sign text at) → Gives text (Behind text fs u at) n gs w (Err r)
 signed_gives text n fs gs u w at r b o e =
     let t = told (end_sign text at) r e in
     subst (λ z. Gives text (Behind text fs u at) n gs w (Err z)) t.2 (sign_gives text (Behind text fs u at) n gs w t.0 (signed text fs u at t.0 b o t.1))

@@ -16,7 +16,7 @@ use Rattle.yaml_blocks.specs.declared.form.Form.TheVariants.{Root, Flow, FlowTag
 use Rattle.yaml_blocks.specs.declared.stage.Stage.TheVariants as stage
 use Rattle.yaml_blocks.specs.declared.stage.Position.{Position}
 use Rattle.yaml_blocks.specs.declared.node.Key.{Key}
-use Rattle.yaml_blocks.specs.declared.refusal.YamlRefusal.{YamlRefusal}
+use Rattle.yaml_blocks.specs.declared.stop.Stop.{Stop}
 use Rattle.yaml_blocks.specs.Ahead.{token_len, ahead}
 use Rattle.yaml_blocks.specs.Nodes.{setting_of, as_key, starts_scalar, scalar_ahead, is_marked}
 use Rattle.yaml_blocks.specs.Blocks.{takes_scalar, takes_mapping, takes_tag}
@@ -103,13 +103,13 @@ token_fixes text f i a seen cut o n q l p e = λ goes place other m near.
     let least = seen_least text i cut.0 in
     (omega (arith, from, far), node_other text place other m f i a (omega (arith, first, from, far)) (omega (arith, least, from, far)) o (λ h. n) (λ len tk t. (token_over text false i a seen q l, omega (arith, to, far))))
 
-pub tag_fixes : (text : List ℕ) (f g : Form) (i len : ℕ) (a : Ahead) (fs gs : List Form) (u w : Unfinished) (r : Result Position YamlRefusal) → IsSeen text false i a → IsCharBoundary text i → IsBehind f i → a.token ≡ Tag len → TagBegun text g a fs u gs w r
+pub tag_fixes : (text : List ℕ) (f g : Form) (i len : ℕ) (a : Ahead) (fs gs : List Form) (u w : Unfinished) (r : Result Position Stop) → IsSeen text false i a → IsCharBoundary text i → IsBehind f i → a.token ≡ Tag len → TagBegun text g a fs u gs w r
     → FixesNode text f i a r
 tag_fixes text f g i len a fs gs u w (Err e) seen cut o t h = tt
 tag_fixes text f g i len a fs gs u w (Ok p) seen cut o t (es, ej, eg, ew, d) =
     token_fixes text f i a seen cut o (ap starts_scalar t) (ap is_marked t) (subst (λ k. 0 < token_len k) (sym t) (omega arith)) p ej
 
-pub opens_fixes : (text : List ℕ) (f : Form) (i : ℕ) (map : Bool) (a : Ahead) (fs gs : List Form) (u w : Unfinished) (r : Result Position YamlRefusal) → IsSeen text false i a → IsCharBoundary text i → IsBehind f i → a.token ≡ Opens map → Opened map a fs u gs w r
+pub opens_fixes : (text : List ℕ) (f : Form) (i : ℕ) (map : Bool) (a : Ahead) (fs gs : List Form) (u w : Unfinished) (r : Result Position Stop) → IsSeen text false i a → IsCharBoundary text i → IsBehind f i → a.token ≡ Opens map → Opened map a fs u gs w r
     → FixesNode text f i a r
 opens_fixes text f i map a fs gs u w (Err e) seen cut o t h = tt
 opens_fixes text f i map a fs gs u w (Ok p) seen cut o t (es, ej, eg, ew, d) =
@@ -118,7 +118,7 @@ opens_fixes text f i map a fs gs u w (Ok p) seen cut o t (es, ej, eg, ew, d) =
 pub dash_fixes : (text : List ℕ) (f : Form) (i : ℕ) (a : Ahead) → IsSeen text false i a → IsCharBoundary text i → IsBehind f i → a.token ≡ Dash → (p : Position) → p.at ≡ a.behind → FixesNode text f i a (Ok p)
 dash_fixes text f i a seen cut o d p e = token_fixes text f i a seen cut o (ap starts_scalar d) (ap is_marked d) (subst (λ k. 0 < token_len k) (sym d) (omega arith)) p e
 
-pub missing_fixes : (text : List ℕ) (f : Form) (i : ℕ) (a : Ahead) (u w : Unfinished) (r : Result Position YamlRefusal) → IsSeen text false i a → IsCharBoundary text i → IsBehind f i → NoNode f a → Completes i u w r → FixesNode text f i a r
+pub missing_fixes : (text : List ℕ) (f : Form) (i : ℕ) (a : Ahead) (u w : Unfinished) (r : Result Position Stop) → IsSeen text false i a → IsCharBoundary text i → IsBehind f i → NoNode f a → Completes i u w r → FixesNode text f i a r
 missing_fixes text f i a u w (Err e) seen cut o n h = tt
 missing_fixes text f i a u w (Ok p) seen cut o n (es, ej, ew) = λ goes place other m near.
     let far : ahead_seen text i ≤ place = subst (λ k. ahead_seen text k ≤ place) ej near in
@@ -200,7 +200,7 @@ none_twin text place other m utf8 f a t j block same st low last near nk = λ u 
       turned : AgreesTo place text other → AgreesTo place other text
       turned (before, behind, more, b, e, f, size) = (before, more, behind, b, f, e, size)
 
-pub scalar_fixes : (text : List ℕ) (f : Form) (i : ℕ) (a : Ahead) (cuts : Bool) (u w : Unfinished) (r : Result Position YamlRefusal) → IsUtf8 text → IsSeen text false i a → IsCharBoundary text i → IsBehind f i → IsBlock f → (takes_mapping f a ≡ true → NoKey text a)
+pub scalar_fixes : (text : List ℕ) (f : Form) (i : ℕ) (a : Ahead) (cuts : Bool) (u w : Unfinished) (r : Result Position Stop) → IsUtf8 text → IsSeen text false i a → IsCharBoundary text i → IsBehind f i → IsBlock f → (takes_mapping f a ≡ true → NoKey text a)
     → Holds text (setting_of f) cuts a u w r → FixesNode text f i a r
 scalar_fixes text f i a cuts u w (Err e) utf8 seen cut o block none h = tt
 scalar_fixes text f i a cuts u w (Ok p) utf8 seen cut o block none (t, k, (st, hk, low, last), es, ew, room) = λ goes place other m near.
@@ -250,7 +250,7 @@ entry_fixes text i a t q e p seen cut st tk b low last end pe = λ goes place ot
     (from, record { here = twin_ahead text place other m false i cut.0 from; further = λ h. absurd (no_scalar a Dots (ap (λ (x : Ahead). x.token) seen.0 ∙ h) refl (starts_of text (as_key false) a t e st).0) }, alike)
 
 -- at the document's end nothing goes on
-pub whole_fixes : (text : List ℕ) (i : ℕ) (a : Ahead) (r : Result Position YamlRefusal) → IfOk r (λ p. p.stage ≡ stage.Whole) → FixesEnd text i a r
+pub whole_fixes : (text : List ℕ) (i : ℕ) (a : Ahead) (r : Result Position Stop) → IfOk r (λ p. p.stage ≡ stage.Whole) → FixesEnd text i a r
 whole_fixes text i a (Err e) h = tt
 whole_fixes text i a (Ok p) h = λ goes place other m near. absurd (goes h)
 
@@ -274,19 +274,19 @@ flow_token_fixes text f i a seen cut o n q l p e = λ goes place other m near.
     let least = seen_least text i cut.0 in
     (omega (arith, from, far), flow_other text place other m f i a (omega (arith, first, from, far)) (omega (arith, least, from, far)) o n (λ len t. (token_over text true i a seen q l, omega (arith, to, far))))
 
-pub flow_tag_fixes : (text : List ℕ) (f g : Form) (i len : ℕ) (a : Ahead) (fs gs : List Form) (u w : Unfinished) (r : Result Position YamlRefusal) → IsSeen text true i a → IsCharBoundary text i → IsBehind f i → a.token ≡ Tag len → TagBegun text g a fs u gs w r
+pub flow_tag_fixes : (text : List ℕ) (f g : Form) (i len : ℕ) (a : Ahead) (fs gs : List Form) (u w : Unfinished) (r : Result Position Stop) → IsSeen text true i a → IsCharBoundary text i → IsBehind f i → a.token ≡ Tag len → TagBegun text g a fs u gs w r
     → FixesFlowNode text f i a r
 flow_tag_fixes text f g i len a fs gs u w (Err e) seen cut o t h = tt
 flow_tag_fixes text f g i len a fs gs u w (Ok p) seen cut o t (es, ej, eg, ew, d) =
     flow_token_fixes text f i a seen cut o (ap starts_scalar t) (ap is_marked t) (subst (λ k. 0 < token_len k) (sym t) (omega arith)) p ej
 
-pub flow_opens_fixes : (text : List ℕ) (f : Form) (i : ℕ) (map : Bool) (a : Ahead) (fs gs : List Form) (u w : Unfinished) (r : Result Position YamlRefusal) → IsSeen text true i a → IsCharBoundary text i → IsBehind f i → a.token ≡ Opens map → Opened map a fs u gs w r
+pub flow_opens_fixes : (text : List ℕ) (f : Form) (i : ℕ) (map : Bool) (a : Ahead) (fs gs : List Form) (u w : Unfinished) (r : Result Position Stop) → IsSeen text true i a → IsCharBoundary text i → IsBehind f i → a.token ≡ Opens map → Opened map a fs u gs w r
     → FixesFlowNode text f i a r
 flow_opens_fixes text f i map a fs gs u w (Err e) seen cut o t h = tt
 flow_opens_fixes text f i map a fs gs u w (Ok p) seen cut o t (es, ej, eg, ew, d) =
     flow_token_fixes text f i a seen cut o (ap starts_scalar t) (ap is_marked t) (subst (λ k. 0 < token_len k) (sym t) (omega arith)) p ej
 
-pub flow_scalar_fixes : (text : List ℕ) (f : Form) (i : ℕ) (a : Ahead) (cuts : Bool) (u w : Unfinished) (r : Result Position YamlRefusal) → IsSeen text true i a → IsCharBoundary text i → IsBehind f i → Holds text (setting_of f) cuts a u w r → FixesFlowNode text f i a r
+pub flow_scalar_fixes : (text : List ℕ) (f : Form) (i : ℕ) (a : Ahead) (cuts : Bool) (u w : Unfinished) (r : Result Position Stop) → IsSeen text true i a → IsCharBoundary text i → IsBehind f i → Holds text (setting_of f) cuts a u w r → FixesFlowNode text f i a r
 flow_scalar_fixes text f i a cuts u w (Err e) seen cut o h = tt
 flow_scalar_fixes text f i a cuts u w (Ok p) seen cut o (t, k, (st, hk, low, last), es, ew, room) = λ goes place other m near.
     let from = scalar_from text true i a seen cut (setting_of f) t p.at st low last in
@@ -319,7 +319,7 @@ flow_ending_other Tabbed h = refl
 flow_ending_other Stray h = refl
 flow_ending_other Other h = absurd (true≢false (sym h))
 
-pub flow_null_fixes : (text : List ℕ) (f : Form) (i : ℕ) (a : Ahead) (u w : Unfinished) (r : Result Position YamlRefusal) → IsSeen text true i a → IsCharBoundary text i → IsBehind f i → is_flow_ending a.token ≡ true → Completes i u w r → FixesFlowNode text f i a r
+pub flow_null_fixes : (text : List ℕ) (f : Form) (i : ℕ) (a : Ahead) (u w : Unfinished) (r : Result Position Stop) → IsSeen text true i a → IsCharBoundary text i → IsBehind f i → is_flow_ending a.token ≡ true → Completes i u w r → FixesFlowNode text f i a r
 flow_null_fixes text f i a u w (Err e) seen cut o n h = tt
 flow_null_fixes text f i a u w (Ok p) seen cut o n (es, ej, ew) = λ goes place other m near.
     let far : ahead_seen text i ≤ place = subst (λ k. ahead_seen text k ≤ place) ej near in
@@ -328,7 +328,7 @@ flow_null_fixes text f i a u w (Ok p) seen cut o n (es, ej, ew) = λ goes place 
     (far, flow_other text place other m f i a (omega (arith, first, far)) (omega (arith, least, far)) o (flow_ending_other a.token n) (λ len t. absurd (true≢false (sym n ∙ ap is_flow_ending t))))
 
 -- the bracket that closes, and a comma
-pub closed_fixes : (text : List ℕ) (i : ℕ) (map : Bool) (a : Ahead) (fs gs : List Form) (u w : Unfinished) (r : Result Position YamlRefusal) → IsSeen text true i a → IsCharBoundary text i → a.token ≡ Closes map → Closed a.behind fs u gs w r → FixesEntry text map i a r
+pub closed_fixes : (text : List ℕ) (i : ℕ) (map : Bool) (a : Ahead) (fs gs : List Form) (u w : Unfinished) (r : Result Position Stop) → IsSeen text true i a → IsCharBoundary text i → a.token ≡ Closes map → Closed a.behind fs u gs w r → FixesEntry text map i a r
 closed_fixes text i map a fs gs u w (Err e) seen cut t h = tt
 closed_fixes text i map a fs gs u w (Ok p) seen cut t (es, ej, eg, ew) = λ goes place other m near.
     let l : 0 < token_len a.token = subst (λ k. 0 < token_len k) (sym t) (omega arith) in
@@ -349,7 +349,7 @@ closed_fixes text i map a fs gs u w (Ok p) seen cut t (es, ej, eg, ew) = λ goes
       no_tag : (map : Bool) (len : ℕ) → Closes map ≡ Tag len → ⊥
       no_tag map len z = absurd (cc)
 
-pub closed_seen : (text : List ℕ) (i : ℕ) (map : Bool) (a : Ahead) (fs gs : List Form) (u w : Unfinished) (r : Result Position YamlRefusal) → IsSeen text true i a → a.token ≡ Closes map → Closed a.behind fs u gs w r → FixesSeen text i r
+pub closed_seen : (text : List ℕ) (i : ℕ) (map : Bool) (a : Ahead) (fs gs : List Form) (u w : Unfinished) (r : Result Position Stop) → IsSeen text true i a → a.token ≡ Closes map → Closed a.behind fs u gs w r → FixesSeen text i r
 closed_seen text i map a fs gs u w (Err e) seen t h = tt
 closed_seen text i map a fs gs u w (Ok p) seen t (es, ej, eg, ew) = λ goes place other m near.
     let from = token_from text true i a seen (ap is_marked t) (subst (λ k. 0 < token_len k) (sym t) (omega arith)) in
@@ -392,17 +392,17 @@ flow_key_fixes text i a quoted t q e p seen cut st low last colon end pe = λ go
     )
 
 -- an entry of a list, and of a map
-pub node_entry_fixes : (text : List ℕ) (i : ℕ) (a : Ahead) (map : Bool) (r : Result Position YamlRefusal) → map ≡ false → FixesFlowNode text (Flow false) i a r → FixesEntry text map i a r
+pub node_entry_fixes : (text : List ℕ) (i : ℕ) (a : Ahead) (map : Bool) (r : Result Position Stop) → map ≡ false → FixesFlowNode text (Flow false) i a r → FixesEntry text map i a r
 node_entry_fixes text i a map (Err e) n h = tt
 node_entry_fixes text i a map (Ok p) n h = λ goes place other m near. let g = h goes place other m near in (g.0, (λ k. absurd (true≢false (sym k ∙ n))), (λ k. g.1))
 
-pub key_entry_fixes : (text : List ℕ) (i : ℕ) (a : Ahead) (map : Bool) (r : Result Position YamlRefusal) → map ≡ true → FixesFlowKey text i a r → FixesEntry text map i a r
+pub key_entry_fixes : (text : List ℕ) (i : ℕ) (a : Ahead) (map : Bool) (r : Result Position Stop) → map ≡ true → FixesFlowKey text i a r → FixesEntry text map i a r
 key_entry_fixes text i a map (Err e) n h = tt
 key_entry_fixes text i a map (Ok p) n h = λ goes place other m near. let g = h goes place other m near in (g.0, (λ k. g.1), (λ k. absurd (true≢false (sym n ∙ k))))
 
 -- ---- a step
 
-apart : (f : Form) → IsBlock f → IsFlow f → ⊥
+pub apart : (f : Form) → IsBlock f → IsFlow f → ⊥
 apart Root b k = k
 apart (Flow map) b k = b
 apart (FlowTagged at) b k = b
@@ -413,28 +413,28 @@ apart (Tagged at above shares) b k = k
 flow_true : (map : Bool) (f : Form) → f ≡ Flow map → (b : Bool) → f ≡ Flow b → map ≡ b
 flow_true map f e b h = let z : Flow map ≡ Flow b = sym e ∙ h in cc
 
-pub entry_step : (text : List ℕ) (f : Form) (i : ℕ) (map : Bool) (r : Result Position YamlRefusal) → f ≡ Flow map → IsCharBoundary text i → FixesEntry text map i (ahead text true i) r → FixesStep text stage.Entry f i r
+pub entry_step : (text : List ℕ) (f : Form) (i : ℕ) (map : Bool) (r : Result Position Stop) → f ≡ Flow map → IsCharBoundary text i → FixesEntry text map i (ahead text true i) r → FixesStep text stage.Entry f i r
 entry_step text f i map (Err e) form cut h = tt
 entry_step text f i map (Ok p) form cut h = λ goes place other m near.
     let g = h goes place other m near in
     (g.0, (twin_ahead text place other m true i cut.0 g.0, (λ k. g.1 (flow_true map f form true k)), (λ k. g.2 (flow_true map f form false k))))
 
-pub value_step : (text : List ℕ) (f : Form) (i : ℕ) (r : Result Position YamlRefusal) → IsBlock f → IsCharBoundary text i → FixesNode text f i (ahead text false i) r → FixesStep text stage.Value f i r
+pub value_step : (text : List ℕ) (f : Form) (i : ℕ) (r : Result Position Stop) → IsBlock f → IsCharBoundary text i → FixesNode text f i (ahead text false i) r → FixesStep text stage.Value f i r
 value_step text f i (Err e) block cut h = tt
 value_step text f i (Ok p) block cut h = λ goes place other m near.
     let g = h goes place other m near in
     (g.0, ((λ k. absurd (apart f block k)), (λ k. (twin_ahead text place other m false i cut.0 g.0, g.1))))
 
-pub flow_value_step : (text : List ℕ) (f : Form) (i : ℕ) (r : Result Position YamlRefusal) → IsFlow f → IsCharBoundary text i → FixesFlowNode text f i (ahead text true i) r → FixesStep text stage.Value f i r
+pub flow_value_step : (text : List ℕ) (f : Form) (i : ℕ) (r : Result Position Stop) → IsFlow f → IsCharBoundary text i → FixesFlowNode text f i (ahead text true i) r → FixesStep text stage.Value f i r
 flow_value_step text f i (Err e) flow cut h = tt
 flow_value_step text f i (Ok p) flow cut h = λ goes place other m near.
     let g = h goes place other m near in
     (g.0, ((λ k. (twin_ahead text place other m true i cut.0 g.0, g.1)), (λ k. absurd (apart f k flow))))
 
-pub after_step : (text : List ℕ) (f : Form) (i : ℕ) (r : Result Position YamlRefusal) → IsBlock f → FixesEnd text i (ahead text false i) r → FixesStep text stage.After f i r
+pub after_step : (text : List ℕ) (f : Form) (i : ℕ) (r : Result Position Stop) → IsBlock f → FixesEnd text i (ahead text false i) r → FixesStep text stage.After f i r
 after_step text f i (Err e) block h = tt
 after_step text f i (Ok p) block h = λ goes place other m near. let g = h goes place other m near in (g.0, ((λ k. absurd (apart f block k)), (λ k. (g.1, g.2))))
 
-pub flow_after_step : (text : List ℕ) (f : Form) (i : ℕ) (r : Result Position YamlRefusal) → IsFlow f → IsCharBoundary text i → FixesSeen text i r → FixesStep text stage.After f i r
+pub flow_after_step : (text : List ℕ) (f : Form) (i : ℕ) (r : Result Position Stop) → IsFlow f → IsCharBoundary text i → FixesSeen text i r → FixesStep text stage.After f i r
 flow_after_step text f i (Err e) flow cut h = tt
 flow_after_step text f i (Ok p) flow cut h = λ goes place other m near. let g = h goes place other m near in (g, ((λ k. twin_ahead text place other m true i cut.0 g), (λ k. absurd (apart f k flow))))

@@ -21,8 +21,8 @@ use Rattle.yaml_blocks.specs.declared.form.Form.TheVariants.{Root, Flow, FlowTag
 use Rattle.yaml_blocks.specs.declared.stage.Stage.{Stage}
 use Rattle.yaml_blocks.specs.declared.stage.Stage.TheVariants as stage
 use Rattle.yaml_blocks.specs.declared.stage.Position.{Position}
-use Rattle.yaml_blocks.specs.declared.refusal.YamlRefusal.{YamlRefusal}
-use Rattle.yaml_blocks.specs.declared.refusal.YamlRefusal.TheVariants as refusal
+use Rattle.yaml_blocks.specs.declared.stop.Stop.{Stop}
+use Rattle.yaml_blocks.specs.declared.stop.Stop.TheVariants as refusal
 use Rattle.yaml_blocks.specs.Ahead.{ahead, token_len}
 use Rattle.yaml_blocks.specs.Nodes.{tag_name, tag_key, follows_get_att, is_dot, is_cut, IsValue, leaf, collection, setting_of, as_key, starts_scalar, scalar_ahead, node_sign, is_tagged, is_marked}
 use Rattle.yaml_blocks.specs.Signs as sign
@@ -53,9 +53,9 @@ goes text P n gs fs w u p s j es ej eg ew h f b l =
     (subst (λ k. Same text P n s k gs w) (sym ej) (subst (λ g. Same text P n s j g w) (sym eg) (subst (λ z. Same text P n s j fs z) (sym ew) (h, f, b, l))))
 
 -- from one thing that may follow to another
-pub gives_from : (text : List ℕ) (P Q : Reading → Type 0) (n m : ℕ) (fs : List Form) (w : Unfinished) (r : Result Position YamlRefusal) → ((v : Reading) → (P v → Q v) × (Q v → P v)) → m ≤ n → Gives text Q n fs w r → Gives text P m fs w r
+pub gives_from : (text : List ℕ) (P Q : Reading → Type 0) (n m : ℕ) (fs : List Form) (w : Unfinished) (r : Result Position Stop) → ((v : Reading) → (P v → Q v) × (Q v → P v)) → m ≤ n → Gives text Q n fs w r → Gives text P m fs w r
 gives_from text P Q n m fs w (Ok p) h l (e, f, b, k) = ((λ v. ((λ x. (e v).0 ((h v).0 x)), (λ x. (h v).1 ((e v).1 x)))), f, b, omega (arith, l, k))
-gives_from text P Q n m fs w (Err refusal.Unread) h l g = λ v x. g v ((h v).0 x)
+gives_from text P Q n m fs w (Err (refusal.Unread q)) h l g = λ v x. g v ((h v).0 x)
 gives_from text P Q n m fs w (Err (refusal.Tab at)) h l (g, only) = ((h (Refused (Tab at))).1 g, (λ v x. only v ((h v).0 x)))
 gives_from text P Q n m fs w (Err (refusal.Anchor at)) h l (g, only) = ((h (Refused (sign.Anchor at))).1 g, (λ v x. only v ((h v).0 x)))
 gives_from text P Q n m fs w (Err (refusal.Tag at)) h l (g, only) = ((h (Refused (sign.Tag at))).1 g, (λ v x. only v ((h v).0 x)))
@@ -66,7 +66,7 @@ gives_from text P Q n m fs w (Err (refusal.TooDeep at)) h l (g, only) = ((h (Ref
 gives_from text P Q n m fs w (Err refusal.NoMemory) h l g = tt
 
 -- want of memory
-pub memory_gives : (text : List ℕ) (P : Reading → Type 0) (n : ℕ) (gs : List Form) (w : Unfinished) (e : YamlRefusal) → e ≡ refusal.NoMemory → Gives text P n gs w (Err e)
+pub memory_gives : (text : List ℕ) (P : Reading → Type 0) (n : ℕ) (gs : List Form) (w : Unfinished) (e : Stop) → e ≡ refusal.NoMemory → Gives text P n gs w (Err e)
 memory_gives text P n gs w e h = subst (λ z. Gives text P n gs w (Err z)) (sym h) tt
 
 -- a sign
@@ -79,7 +79,7 @@ sign_gives text P n gs w (ManyDocuments at) b = b
 sign_gives text P n gs w (DuplicateKey at) b = b
 sign_gives text P n gs w (TooDeep at) b = b
 
-pub told : (o : Option Sign) (r : YamlRefusal) → Some r ≡ option_map of_sign o → (s : Sign) × (o ≡ Some s) × (of_sign s ≡ r)
+pub told : (o : Option Sign) (r : Stop) → Some r ≡ option_map of_sign o → (s : Sign) × (o ≡ Some s) × (of_sign s ≡ r)
 told None r e = absurd (cc)
 told (Some s) r e = (s, refl, (let h : of_sign s ≡ r = cc in h))
 
@@ -100,7 +100,7 @@ too_deep d P Q e (inl (k, p)) = absurd (omega (arith, k, e))
 too_deep d P Q e (inr (h, q)) = q
 
 -- a collection that is refused
-pub deep_gives : (text : List ℕ) (P : Reading → Type 0) (n : ℕ) (gs : List Form) (u w : Unfinished) (at : ℕ) (e : YamlRefusal) (Q : Reading → Type 0)
+pub deep_gives : (text : List ℕ) (P : Reading → Type 0) (n : ℕ) (gs : List Form) (u w : Unfinished) (at : ℕ) (e : Stop) (Q : Reading → Type 0)
     → ((v : Reading) → P v → IsRoomFor (length u.outer) (Q v) (v ≡ Refused (TooDeep at))) → (length u.outer ≡ 128 → P (Refused (TooDeep at))) → Deep u at e → Gives text P n gs w (Err e)
 deep_gives text P n gs u w at e Q only there (inl h) = memory_gives text P n gs w e h
 deep_gives text P n gs u w at e Q only there (inr (h, d)) = subst (λ z. Gives text P n gs w (Err z)) (sym h) (there d, (λ v x. too_deep (length u.outer) (Q v) (v ≡ Refused (TooDeep at)) d (only v x)))
@@ -141,7 +141,7 @@ tag_flow (Tagged at above shares) h = absurd (cc)
 abbrev OpensFlow : List ℕ → List Form → Unfinished → ℕ → Bool → Reading → Type 0
 OpensFlow text fs u at map v = Enters text (Flow map ∷ fs) (record { label = collection map u.key (ahead text true at).at; before = u.done } ∷ u.outer) Nil (ahead text true at).behind v
 
-opens_node : (text : List ℕ) (fs gs : List Form) (u w : Unfinished) (f : Form) (at : ℕ) (map : Bool) (r : Result Position YamlRefusal) → FlowSpot text fs u f at (ahead text true at) → (ahead text true at).token ≡ Opens map
+opens_node : (text : List ℕ) (fs gs : List Form) (u w : Unfinished) (f : Form) (at : ℕ) (map : Bool) (r : Result Position Stop) → FlowSpot text fs u f at (ahead text true at) → (ahead text true at).token ≡ Opens map
     → Opened map (ahead text true at) fs u gs w r → Gives text (FlowAwaiting text fs u at) (2 * at + 2) gs w r
 opens_node text fs gs u w f at map (Ok p) sp c (es, ej, eg, ew, d) =
     let far : at < (ahead text true at).behind = behind_one text at (ahead text true at) (Opens map) sp.0 c refl in
@@ -152,7 +152,7 @@ opens_node text fs gs u w f at map (Err e) sp c h =
     deep_gives text (FlowAwaiting text fs u at) (2 * at + 2) gs u w (ahead text true at).at e (OpensFlow text fs u at map) (λ v x. awaits_opens text fs u.outer f sp.1 sp.2 sp.3.1 u.done u.key at v map c x)
     (λ d. deep_opens text fs u.outer f sp.1 sp.2 sp.3.1 u.done u.key at (Refused (TooDeep (ahead text true at).at)) map c d refl) h
 
-pub opened_gives : (text : List ℕ) (fs gs : List Form) (u w : Unfinished) (f : Form) (at : ℕ) (next : Ahead) (map : Bool) (r : Result Position YamlRefusal) → next ≡ ahead text true at → FlowSpot text fs u f at next → next.token ≡ Opens map
+pub opened_gives : (text : List ℕ) (fs gs : List Form) (u w : Unfinished) (f : Form) (at : ℕ) (next : Ahead) (map : Bool) (r : Result Position Stop) → next ≡ ahead text true at → FlowSpot text fs u f at next → next.token ≡ Opens map
     → Opened map next fs u gs w r → Gives text (FlowAwaiting text fs u at) (2 * at + 2) gs w r
 opened_gives text fs gs u w f at next map r e sp c h =
     subst (λ a. FlowSpot text fs u f at a → a.token ≡ Opens map → Opened map a fs u gs w r → Gives text (FlowAwaiting text fs u at) (2 * at + 2) gs w r) (sym e)
@@ -180,13 +180,13 @@ module _ (text : List ℕ) (fs : List Form) (u : Unfinished) (f : Form) (at len 
       (((refl, sp.3.0), (subst (LiesIn (FlowTagged (ahead text true at).at)) (sym sp.1) (tag_lies (ahead text true at).at f mt), tt, sp.3.1)), apart_flow_tagged _, (name, refl), omega (arith, sp.0.3, some), tt)
       sp.0.2 (omega (arith, sp.0.0, sp.0.3, some))
 
-  tag_node : (gs : List Form) (w : Unfinished) (r : Result Position YamlRefusal) → TagBegun text (FlowTagged (ahead text true at).at) (ahead text true at) fs u gs w r → Gives text (FlowAwaiting text fs u at) (2 * at + 2) gs w r
+  tag_node : (gs : List Form) (w : Unfinished) (r : Result Position Stop) → TagBegun text (FlowTagged (ahead text true at).at) (ahead text true at) fs u gs w r → Gives text (FlowAwaiting text fs u at) (2 * at + 2) gs w r
   tag_node gs w (Ok p) (es, ej, eg, ew, d) = goes_tag gs w p eg ew d es ej
   tag_node gs w (Err e) h =
       deep_gives text (FlowAwaiting text fs u at) (2 * at + 2) gs u w (ahead text true at).at e FirstBehind room_tag
       (λ d. deep_tag text fs u.outer f sp.1 sp.2 sp.3.1 u.done u.key at (Refused (TooDeep (ahead text true at).at)) len c mt d refl) h
 
-pub flow_tag_gives : (text : List ℕ) (fs gs : List Form) (u w : Unfinished) (f : Form) (at len : ℕ) (next : Ahead) (r : Result Position YamlRefusal) → next ≡ ahead text true at → FlowSpot text fs u f at next → next.token ≡ Tag len → may_tag f ≡ true
+pub flow_tag_gives : (text : List ℕ) (fs gs : List Form) (u w : Unfinished) (f : Form) (at len : ℕ) (next : Ahead) (r : Result Position Stop) → next ≡ ahead text true at → FlowSpot text fs u f at next → next.token ≡ Tag len → may_tag f ≡ true
     → TagBegun text (FlowTagged next.at) next fs u gs w r → Gives text (FlowAwaiting text fs u at) (2 * at + 2) gs w r
 flow_tag_gives text fs gs u w f at len next r e sp c mt h =
     subst (λ a. FlowSpot text fs u f at a → a.token ≡ Tag len → TagBegun text (FlowTagged a.at) a fs u gs w r → Gives text (FlowAwaiting text fs u at) (2 * at + 2) gs w r) (sym e)
@@ -197,7 +197,7 @@ module _ (text : List ℕ) (fs : List Form) (u : Unfinished) (f : Form) (at : �
   signed_node : Broke (FlowAwaiting text fs u at) s
   signed_node = (signed_awaits text fs u.outer f sp.1 sp.2 sp.3.1 u.done u.key at (Refused s) s sg refl, (λ v h. awaits_signed text fs u.outer f sp.1 sp.2 sp.3.1 u.done u.key at v s sg h))
 
-pub flow_signed_gives : (text : List ℕ) (n : ℕ) (fs gs : List Form) (u w : Unfinished) (f : Form) (tagged : Bool) (at : ℕ) (next : Ahead) (r : YamlRefusal) → next ≡ ahead text true at → FlowSpot text fs u f at next → tagged ≡ is_tagged f
+pub flow_signed_gives : (text : List ℕ) (n : ℕ) (fs gs : List Form) (u w : Unfinished) (f : Form) (tagged : Bool) (at : ℕ) (next : Ahead) (r : Stop) → next ≡ ahead text true at → FlowSpot text fs u f at next → tagged ≡ is_tagged f
     → Some r ≡ option_map of_sign (node_sign tagged next.at next.token) → Gives text (FlowAwaiting text fs u at) n gs w (Err r)
 flow_signed_gives text n fs gs u w f tagged at next r e sp t h =
     let d = told (node_sign tagged next.at next.token) r h in
@@ -257,7 +257,7 @@ value_fits text fs u true k t at j o l = (o, refl, (λ b. scalar_calm text true 
 abbrev NoOpening : Form → Token → Type 0
 NoOpening f t = ((m : Bool) → t ≡ Opens m → ⊥) × (may_tag f ≡ true → (len : ℕ) → t ≡ Tag len → ⊥)
 
-scalar_node : (text : List ℕ) (fs : List Form) (u w : Unfinished) (f : Form) (at : ℕ) (r : Result Position YamlRefusal) → FlowSpot text fs u f at (ahead text true at) → NoOpening f (ahead text true at).token → node_sign (is_tagged f) (ahead text true at).at (ahead text true at).token ≡ None → (may_miss f ≡ true → NoEndings text (ahead text true at).token)
+scalar_node : (text : List ℕ) (fs : List Form) (u w : Unfinished) (f : Form) (at : ℕ) (r : Result Position Stop) → FlowSpot text fs u f at (ahead text true at) → NoOpening f (ahead text true at).token → node_sign (is_tagged f) (ahead text true at).at (ahead text true at).token ≡ None → (may_miss f ≡ true → NoEndings text (ahead text true at).token)
     → Holds text (setting_of f) (follows_get_att text f at) (ahead text true at) u w r → Gives text (FlowAwaiting text fs u at) (2 * at + 2) fs w r
 scalar_node text fs u w f at (Ok p) sp shut us none (t, k, (st, hk, lt, b), es, ew, room) =
     let cut : Bool = is_cut (follows_get_att text f at) k t in
@@ -268,7 +268,7 @@ scalar_node text fs u w f at (Ok p) sp shut us none (t, k, (st, hk, lt, b), es, 
     ))
     (value_fits text fs u cut k t (ahead text true at).at p.at sp.3 lt) b (omega (arith, lt, sp.0.0))
 scalar_node text fs u w f at (Err r) sp shut us none (inl h) = memory_gives text (FlowAwaiting text fs u at) (2 * at + 2) fs w r h
-scalar_node text fs u w f at (Err r) sp shut us none (inr (inl (h, m))) =
+scalar_node text fs u w f at (Err r) sp shut us none (inr (inl ((place, h), m))) =
     subst (λ z. Gives text (FlowAwaiting text fs u at) (2 * at + 2) fs w (Err z)) (sym h) (λ v x. awaits_none text fs u.outer f sp.1 sp.2 sp.3.1 u.done u.key at v none shut us m x)
 scalar_node text fs u w f at (Err r) sp shut us none (inr (inr (inl (p, e, d)))) =
     subst (λ z. Gives text (FlowAwaiting text fs u at) (2 * at + 2) fs w (Err z)) (sym e)
@@ -281,7 +281,7 @@ scalar_node text fs u w f at (Err r) sp shut us none (inr (inr (inr (t, k, j, (s
           (awaits_scalar text fs u.outer f sp.1 sp.2 sp.3.1 u.done u.key at v t k j none st (λ l hl. same_kind (is_typed (setting_of f) text (ahead text true at).at) t l k hl hk) h)),
     )
 
-pub holds_gives : (text : List ℕ) (fs : List Form) (u w : Unfinished) (f : Form) (tagged : Bool) (at : ℕ) (next : Ahead) (r : Result Position YamlRefusal) → next ≡ ahead text true at → FlowSpot text fs u f at next
+pub holds_gives : (text : List ℕ) (fs : List Form) (u w : Unfinished) (f : Form) (tagged : Bool) (at : ℕ) (next : Ahead) (r : Result Position Stop) → next ≡ ahead text true at → FlowSpot text fs u f at next
     → ((m : Bool) → next.token ≡ Opens m → ⊥) → ((len : ℕ) → next.token ≡ Tag len → ⊥) → tagged ≡ is_tagged f → node_sign tagged next.at next.token ≡ None → (may_miss f ≡ true → NoEndings text next.token)
     → Holds text (setting_of f) (follows_get_att text f at) next u w r → Gives text (FlowAwaiting text fs u at) (2 * at + 2) fs w r
 holds_gives text fs u w f tagged at next r e sp shut untagged t us none h =
@@ -327,7 +327,7 @@ ending_unsigned tagged at Tabbed e = refl
 ending_unsigned tagged at Stray e = refl
 ending_unsigned tagged at Other e = refl
 
-null_node : (text : List ℕ) (fs : List Form) (u w : Unfinished) (f : Form) (at : ℕ) (r : Result Position YamlRefusal) → FlowSpot text fs u f at (ahead text true at) → IsCharBoundary text at → may_miss f ≡ true
+null_node : (text : List ℕ) (fs : List Form) (u w : Unfinished) (f : Form) (at : ℕ) (r : Result Position Stop) → FlowSpot text fs u f at (ahead text true at) → IsCharBoundary text at → may_miss f ≡ true
     → is_flow_ending (ahead text true at).token ≡ true → Completes at (with_value kind.Null [] at u) w r → Gives text (FlowAwaiting text fs u at) (2 * at + 1) fs w r
 null_node text fs u w f at (Ok p) sp b mm c (es, ej, ew) =
     let t : Token = (ahead text true at).token in
@@ -339,7 +339,7 @@ null_node text fs u w f at (Ok p) sp b mm c (es, ej, ew) =
     (sp.3, refl, flow_calm text fs f (with_value kind.Null [] at u) at sp.1 sp.2) b (omega arith)
 null_node text fs u w f at (Err e) sp b mm c h = memory_gives text (FlowAwaiting text fs u at) (2 * at + 1) fs w e h
 
-pub null_gives : (text : List ℕ) (fs : List Form) (u w : Unfinished) (f : Form) (at : ℕ) (next : Ahead) (r : Result Position YamlRefusal) → next ≡ ahead text true at → FlowSpot text fs u f at next → IsCharBoundary text at → may_miss f ≡ true → is_flow_ending next.token ≡ true
+pub null_gives : (text : List ℕ) (fs : List Form) (u w : Unfinished) (f : Form) (at : ℕ) (next : Ahead) (r : Result Position Stop) → next ≡ ahead text true at → FlowSpot text fs u f at next → IsCharBoundary text at → may_miss f ≡ true → is_flow_ending next.token ≡ true
     → Completes at (with_value kind.Null [] at u) w r → Gives text (FlowAwaiting text fs u at) (2 * at + 1) fs w r
 null_gives text fs u w f at next r e sp b mm c h =
     subst (λ a. FlowSpot text fs u f at a → is_flow_ending a.token ≡ true → Gives text (FlowAwaiting text fs u at) (2 * at + 1) fs w r) (sym e) (λ s d. null_node text fs u w f at r s b mm d h) sp c
@@ -375,7 +375,7 @@ tag_popped p fs gs u w s e = subst (λ z. Open gs z × (z.key ≡ None) × ((map
 pub tag_may_end : (p : ℕ) (fs gs : List Form) (u : Unfinished) → TagOn p fs gs u → u.key ≡ None → MayEnd u
 tag_may_end p fs gs u (f, e, t, o) k = may_end (FlowTagged p) fs u t (λ r. absurd (cc)) o.0 k
 
-pub tag_gives : (text : List ℕ) (p : ℕ) (fs gs hs : List Form) (u w z : Unfinished) (at : ℕ) (r : Result Position YamlRefusal) → TagOn p fs gs u → w ≡ with_end u
+pub tag_gives : (text : List ℕ) (p : ℕ) (fs gs hs : List Form) (u w z : Unfinished) (at : ℕ) (r : Result Position Stop) → TagOn p fs gs u → w ≡ with_end u
     → Gives text (Ends text gs w.outer w.done at) (2 * at + 2) hs z r → Gives text (Ends text fs u.outer u.done at) (2 * at + 2) hs z r
 tag_gives text p fs gs hs u w z at r s e g =
     let k = tag_split p fs gs u s in
@@ -391,7 +391,7 @@ tag_gives text p fs gs hs u w z at r s e g =
 
 -- ---- the collection ends
 
-close_entry : (text : List ℕ) (mp : Bool) (done : Forest) (key : Option (List ℕ)) (gs : List Form) (w : Unfinished) (at : ℕ) (r : Result Position YamlRefusal) → IsPlaced text at (ahead text true at)
+close_entry : (text : List ℕ) (mp : Bool) (done : Forest) (key : Option (List ℕ)) (gs : List Form) (w : Unfinished) (at : ℕ) (r : Result Position Stop) → IsPlaced text at (ahead text true at)
     → (ahead text true at).token ≡ Closes mp → (fs : List Form) (x : Level) (xs : List Level) → Agrees (Flow mp ∷ fs) (x ∷ xs) → Nests (Flow mp ∷ fs)
     → Closed (ahead text true at).behind (Flow mp ∷ fs) (parts (x ∷ xs) done key) gs w r → Gives text (Enters text (Flow mp ∷ fs) (x ∷ xs) done at) (2 * at + 2) gs w r
 close_entry text mp done key gs w at (Ok p) pl c fs x xs a ns (es, ej, (f, eg), ew) =
@@ -402,14 +402,14 @@ close_entry text mp done key gs w at (Ok p) pl c fs x xs a ns (es, ej, (f, eg), 
     ((a.1, ns.2), refl, (λ k. unnamed_calm text (with_end (parts (x ∷ xs) done key)) (ahead text true at).behind (bracket_unnamed text true at mp c))) pl.2 (omega (arith, far))
 close_entry text mp done key gs w at (Err e) pl c fs x xs a ns h = memory_gives text (Enters text (Flow mp ∷ fs) (x ∷ xs) done at) (2 * at + 2) gs w e h
 
-pub closed_entry_gives : (text : List ℕ) (mp : Bool) (fs gs : List Form) (u w : Unfinished) (at : ℕ) (next : Ahead) (r : Result Position YamlRefusal) → IsSeen text true at next → next.token ≡ Closes mp → top fs ≡ Flow mp → Open fs u
+pub closed_entry_gives : (text : List ℕ) (mp : Bool) (fs gs : List Form) (u w : Unfinished) (at : ℕ) (next : Ahead) (r : Result Position Stop) → IsSeen text true at next → next.token ≡ Closes mp → top fs ≡ Flow mp → Open fs u
     → Closed next.behind fs u gs w r → Gives text (Enters text fs u.outer u.done at) (2 * at + 2) gs w r
 closed_entry_gives text mp fs gs u w at next r (e, pl) c f o h =
     subst (λ a. IsPlaced text at a → a.token ≡ Closes mp → Closed a.behind fs u gs w r → Gives text (Enters text fs u.outer u.done at) (2 * at + 2) gs w r) (sym e)
     (λ q d g. flow_inside (λ hs xs. Agrees hs xs → Nests hs → Closed (ahead text true at).behind hs (parts xs u.done u.key) gs w r → Gives text (Enters text hs xs u.done at) (2 * at + 2) gs w r) mp fs u.outer f o.0
     (close_entry text mp u.done u.key gs w at r q d) o.0 o.1 g) pl c h
 
-close_after : (text : List ℕ) (mp : Bool) (done : Forest) (key : Option (List ℕ)) (gs : List Form) (w : Unfinished) (at : ℕ) (r : Result Position YamlRefusal) → IsPlaced text at (ahead text true at)
+close_after : (text : List ℕ) (mp : Bool) (done : Forest) (key : Option (List ℕ)) (gs : List Form) (w : Unfinished) (at : ℕ) (r : Result Position Stop) → IsPlaced text at (ahead text true at)
     → (ahead text true at).token ≡ Closes mp → (fs : List Form) (x : Level) (xs : List Level) → Agrees (Flow mp ∷ fs) (x ∷ xs) → Nests (Flow mp ∷ fs)
     → Closed (ahead text true at).behind (Flow mp ∷ fs) (parts (x ∷ xs) done key) gs w r → Gives text (Ends text (Flow mp ∷ fs) (x ∷ xs) done at) (2 * at + 2) gs w r
 close_after text mp done key gs w at (Ok p) pl c fs x xs a ns (es, ej, (f, eg), ew) =
@@ -420,7 +420,7 @@ close_after text mp done key gs w at (Ok p) pl c fs x xs a ns (es, ej, (f, eg), 
     ((a.1, ns.2), refl, (λ k. unnamed_calm text (with_end (parts (x ∷ xs) done key)) (ahead text true at).behind (bracket_unnamed text true at mp c))) pl.2 (omega (arith, far))
 close_after text mp done key gs w at (Err e) pl c fs x xs a ns h = memory_gives text (Ends text (Flow mp ∷ fs) (x ∷ xs) done at) (2 * at + 2) gs w e h
 
-pub closed_after_gives : (text : List ℕ) (mp : Bool) (fs gs : List Form) (u w : Unfinished) (at : ℕ) (next : Ahead) (r : Result Position YamlRefusal) → IsSeen text true at next → next.token ≡ Closes mp → top fs ≡ Flow mp → Open fs u
+pub closed_after_gives : (text : List ℕ) (mp : Bool) (fs gs : List Form) (u w : Unfinished) (at : ℕ) (next : Ahead) (r : Result Position Stop) → IsSeen text true at next → next.token ≡ Closes mp → top fs ≡ Flow mp → Open fs u
     → Closed next.behind fs u gs w r → Gives text (Ends text fs u.outer u.done at) (2 * at + 2) gs w r
 closed_after_gives text mp fs gs u w at next r (e, pl) c f o h =
     subst (λ a. IsPlaced text at a → a.token ≡ Closes mp → Closed a.behind fs u gs w r → Gives text (Ends text fs u.outer u.done at) (2 * at + 2) gs w r) (sym e)
@@ -477,11 +477,11 @@ no_key text fs outer done at next e open_ us un m a none =
     (λ o y z n. flow_inside (λ hs xs. (v : Reading) → Enters text hs xs done at v → ⊥) true fs outer m a (λ gs x xs v h. enters_no_key text true gs x xs done at v refl o y z n h)) open_ us un none
 
 -- what is no key was refused
-pub find_refused : (text : List ℕ) (fs : List Form) (u w : Unfinished) (at : ℕ) (next : Ahead) (s : Setting) (r : YamlRefusal) → s ≡ as_key true → next ≡ ahead text true at → (next.token ≡ Closes true → ⊥) → node_sign false next.at next.token ≡ None → is_marked next.token ≡ false → top fs ≡ Flow true → Open fs u
+pub find_refused : (text : List ℕ) (fs : List Form) (u w : Unfinished) (at : ℕ) (next : Ahead) (s : Setting) (r : Stop) → s ≡ as_key true → next ≡ ahead text true at → (next.token ≡ Closes true → ⊥) → node_sign false next.at next.token ≡ None → is_marked next.token ≡ false → top fs ≡ Flow true → Open fs u
     → Finds text s next (Err r) → Gives text (Enters text fs u.outer u.done at) (2 * at + 2) fs w (Err r)
 find_refused text fs u w at next s r k e open_ us un m o (inl h) = memory_gives text (Enters text fs u.outer u.done at) (2 * at + 2) fs w r h
 find_refused text fs u w at next s r k e open_ us un m o (inr (inr (p, h, d))) = absurd (key_single true text next p (subst (λ z. scalar_ahead text z next ≡ Documents p) k d))
-find_refused text fs u w at next s r k e open_ us un m o (inr (inl (h, n))) =
+find_refused text fs u w at next s r k e open_ us un m o (inr (inl ((place, h), n))) =
     subst (λ z. Gives text (Enters text fs u.outer u.done at) (2 * at + 2) fs w (Err z)) (sym h) (no_key text fs u.outer u.done at next e open_ us un m o.0 (subst (λ z. Missed text z next) k n.0))
 
 pub no_colon : (text : List ℕ) (fs : List Form) (outer : List Level) (done : Forest) (at end : ℕ) (next : Ahead) (t : List ℕ) → next ≡ ahead text true at → (next.token ≡ Closes true → ⊥) → top fs ≡ Flow true → Agrees fs outer
@@ -506,7 +506,7 @@ key_refused text fs u w at end next t r e open_ m o st (inr (d, again)) =
 
 -- ---- an item of a list
 
-pub item_gives : (text : List ℕ) (fs gs : List Form) (u w : Unfinished) (at : ℕ) (next : Ahead) (r : Result Position YamlRefusal) → next ≡ ahead text true at → top fs ≡ Flow false → Open fs u → (next.token ≡ Closes false → ⊥) → is_marked next.token ≡ false → u.key ≡ None
+pub item_gives : (text : List ℕ) (fs gs : List Form) (u w : Unfinished) (at : ℕ) (next : Ahead) (r : Result Position Stop) → next ≡ ahead text true at → top fs ≡ Flow false → Open fs u → (next.token ≡ Closes false → ⊥) → is_marked next.token ≡ false → u.key ≡ None
     → Gives text (Awaits text fs u.outer u.done u.key at) (2 * at + 2) gs w r → Gives text (Enters text fs u.outer u.done at) (2 * at + 2) gs w r
 item_gives text fs gs u w at next r e f o open_ un n g =
     let plain : is_marked (ahead text true at).token ≡ false = subst (λ a. is_marked a.token ≡ false) e un in
@@ -527,7 +527,7 @@ seen_behind text flow at next (e, (l, b, d, h, k, m)) = d
 pub found_key : (text : List ℕ) (s z : Setting) (next : Ahead) (t : List ℕ) (k : Kind) (j : ℕ) → s ≡ z → Found text s next t k j → Found text z next t k j
 found_key text s z next t k j e h = subst (λ z. Found text z next t k j) e h
 
-pub sooner : (text : List ℕ) (P : Reading → Type 0) (n m : ℕ) (fs : List Form) (w : Unfinished) (r : Result Position YamlRefusal) → m ≤ n → Gives text P n fs w r → Gives text P m fs w r
+pub sooner : (text : List ℕ) (P : Reading → Type 0) (n m : ℕ) (fs : List Form) (w : Unfinished) (r : Result Position Stop) → m ≤ n → Gives text P n fs w r → Gives text P m fs w r
 sooner text P n m fs w r l g = gives_from text P P n m fs w r (λ v. ((λ x. x), (λ x. x))) l g
 
 -- ---- signs where an entry or the closing bracket would stand
@@ -537,7 +537,7 @@ key_signed : (text : List ℕ) (fs : List Form) (outer : List Level) (done : For
 key_signed text fs outer done at s open_ un m a sg =
     flow_inside (λ hs xs. Broke (Enters text hs xs done at) s) true fs outer m a (λ gs x xs. (signed_enters text true gs x xs done at s refl sg, (λ v h. enters_signed text true gs x xs done at v s refl open_ un sg h)))
 
-pub key_signed_gives : (text : List ℕ) (n : ℕ) (fs gs : List Form) (u w : Unfinished) (at : ℕ) (next : Ahead) (r : YamlRefusal) → next ≡ ahead text true at → (next.token ≡ Closes true → ⊥) → is_marked next.token ≡ false → top fs ≡ Flow true → Open fs u
+pub key_signed_gives : (text : List ℕ) (n : ℕ) (fs gs : List Form) (u w : Unfinished) (at : ℕ) (next : Ahead) (r : Stop) → next ≡ ahead text true at → (next.token ≡ Closes true → ⊥) → is_marked next.token ≡ false → top fs ≡ Flow true → Open fs u
     → Some r ≡ option_map of_sign (node_sign false next.at next.token) → Gives text (Enters text fs u.outer u.done at) n gs w (Err r)
 key_signed_gives text n fs gs u w at next r e open_ un m o h =
     let d = told (node_sign false next.at next.token) r h in

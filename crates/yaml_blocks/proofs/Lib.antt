@@ -5,6 +5,10 @@ mod BlockGains
 mod BlockRests
 mod Colons
 mod FirstBytes
+mod FirstDead
+mod FirstEntries
+mod FirstTokens
+mod SureTokens
 mod Fixed
 mod Forms
 mod Gains
@@ -25,6 +29,7 @@ mod ScalarAhead
 mod ScalarOrder
 mod Scalars
 mod Stacks
+mod Stopped
 mod Twins
 pub mod TreeInduction
 pub mod AwaitedNodes
@@ -38,6 +43,7 @@ mod AheadLonger
 mod Continuations
 mod LetterKinds
 mod Dashes
+mod DeadPlaces
 mod DashKeys
 mod Values
 mod FlowKeys

@@ -11,7 +11,7 @@ use Rattle.yaml_blocks.specs.declared.form.Form.{Form}
 use Rattle.yaml_blocks.specs.declared.stage.Stage.{Stage}
 use Rattle.yaml_blocks.specs.declared.stage.Stage.TheVariants as stage
 use Rattle.yaml_blocks.specs.declared.stage.Position.{Position}
-use Rattle.yaml_blocks.specs.declared.refusal.YamlRefusal.{YamlRefusal}
+use Rattle.yaml_blocks.specs.declared.stop.Stop.{Stop}
 use Rattle.yaml_blocks.specs.Ahead.{ahead}
 use Rattle.yaml_blocks.specs.Nodes.{is_marked}
 use Rattle.yaml_blocks.specs.Signs.{Tree, To}
@@ -61,7 +61,7 @@ ended_tree : (text : List ℕ) (d g : Forest) (i : ℕ) (t : Forest) → Over te
 ended_tree text d g i t (inl (e, h)) = inl (e, refl)
 ended_tree text d g i t (inr (s, e, h)) = absurd (cc)
 
-pub null_fixed : (text : List ℕ) (at : ℕ) (next : Ahead) (u w : Unfinished) (r : Result Position YamlRefusal) → u ≡ start → next ≡ ahead text false at → IsCharBoundary text at → is_ending next.token ≡ true → Completes at (with_value kind.Null [] (length text) u) w r → FixesRoot text at w r
+pub null_fixed : (text : List ℕ) (at : ℕ) (next : Ahead) (u w : Unfinished) (r : Result Position Stop) → u ≡ start → next ≡ ahead text false at → IsCharBoundary text at → is_ending next.token ≡ true → Completes at (with_value kind.Null [] (length text) u) w r → FixesRoot text at w r
 null_fixed text at next u w (Err e) s en b c h = tt
 null_fixed text at next u w (Ok p) s en b c (es, ej, ew) = λ place other m near.
     let far : ahead_seen text at ≤ place = subst (λ n. ahead_seen text n ≤ place) ej near in

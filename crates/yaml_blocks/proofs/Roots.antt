@@ -16,13 +16,14 @@ use Rattle.yaml_blocks.specs.declared.form.Form.TheVariants.{Root}
 use Rattle.yaml_blocks.specs.declared.stage.Stage.{Stage}
 use Rattle.yaml_blocks.specs.declared.stage.Stage.TheVariants as stage
 use Rattle.yaml_blocks.specs.declared.stage.Position.{Position}
-use Rattle.yaml_blocks.specs.declared.refusal.YamlRefusal.{YamlRefusal}
+use Rattle.yaml_blocks.specs.declared.stop.Stop.{Stop}
+use Rattle.yaml_blocks.specs.declared.stop.Stop.TheVariants as stop
 use Rattle.yaml_blocks.specs.declared.refusal.YamlRefusal.TheVariants as refusal
 use Rattle.yaml_blocks.specs.Ahead.{ahead}
 use Rattle.yaml_blocks.specs.Nodes.{leaf, starts_scalar, node_sign}
 use Rattle.yaml_blocks.specs.Blocks.{block_sign}
 use Rattle.yaml_blocks.specs.Answers.{IsSignOf, Refuses, Reads}
-use Rattle.yaml_blocks.specs.code.Refused.{of_sign}
+use Rattle.yaml_blocks.specs.code.Refused.{of_sign, of_stop}
 use Rattle.yaml_blocks.specs.Signs as sign
 use Rattle.yaml_blocks.specs.Signs.{Sign, Tab, Directive, ManyDocuments, DuplicateKey, TooDeep, To, Shows, Reading, Tree, Refused, Then}
 use Rattle.yaml_blocks.specs.Yaml.{IsRoot, IsStart, is_content, sign_before, text_start, start_sign, IsYaml, Counts}
@@ -52,12 +53,12 @@ begins_missing text i v e (l, kids, Shows s, inr n, d) = absurd (root_missing te
 missing_begins : (text : List ℕ) (i : ℕ) (v : Reading) → Ends text [] [] (Node (leaf kind.Null [] None (length text)) Nil Nil) i v → Begins text i v
 missing_begins text i v en = (leaf kind.Null [] None (length text), Nil, To i, inl (refl, refl, refl), en)
 
-null_root : (text : List ℕ) (w : Unfinished) (at : ℕ) (r : Result Position YamlRefusal) → is_ending (ahead text false at).token ≡ true → IsCharBoundary text at → Completes at (with_value kind.Null [] (length text) start) w r → Gives text (Begins text at) 0 [] w r
+null_root : (text : List ℕ) (w : Unfinished) (at : ℕ) (r : Result Position Stop) → is_ending (ahead text false at).token ≡ true → IsCharBoundary text at → Completes at (with_value kind.Null [] (length text) start) w r → Gives text (Begins text at) 0 [] w r
 null_root text w at (Ok p) c b (es, ej, ew) =
     goes text (Begins text at) 0 [] [] w (with_value kind.Null [] (length text) start) p stage.After at es ej refl ew (λ v. ((λ h. begins_missing text at v c h), (λ h. missing_begins text at v h))) ((tt, tt), refl, (λ k. ending_calm text (with_value kind.Null [] (length text) start) at c)) b (omega arith)
 null_root text w at (Err e) c b h = memory_gives text (Begins text at) 0 [] w e h
 
-pub null_root_gives : (text : List ℕ) (u w : Unfinished) (at : ℕ) (next : Ahead) (r : Result Position YamlRefusal) → u ≡ start → next ≡ ahead text false at → IsCharBoundary text at → is_ending next.token ≡ true
+pub null_root_gives : (text : List ℕ) (u w : Unfinished) (at : ℕ) (next : Ahead) (r : Result Position Stop) → u ≡ start → next ≡ ahead text false at → IsCharBoundary text at → is_ending next.token ≡ true
     → Completes at (with_value kind.Null [] (length text) u) w r → Gives text (Begins text at) 0 [] w r
 null_root_gives text u w at next r s e b c h =
     null_root text w at r (subst (λ a. is_ending a.token ≡ true) e c) b (subst (λ z. Completes at (with_value kind.Null [] (length text) z) w r) s h)
@@ -190,11 +191,11 @@ start_counts text s e = (inl e, (λ z y. same z (comes_nowhere text (Refused z) 
   none : (t : Forest) → (y : Sign) × (start_sign text ≡ Some y) × (Tree t ≡ Refused y) → ⊥
   none t (y, h, r) = tree_refused t y r
 
-pub start_refused : (text : List ℕ) (r : YamlRefusal) → Some r ≡ option_map of_sign (start_sign text) → Refuses text r
+pub start_refused : (text : List ℕ) (r : Stop) → Some r ≡ option_map of_sign (start_sign text) → Refuses text (of_stop r)
 start_refused text r e =
     let t = told (start_sign text) r e in
-    subst (λ z. Refuses text z) t.2 (by_sign t.0 (start_counts text t.0 t.1)) where
-      by_sign : (s : Sign) → IsSignOf text s → Refuses text (of_sign s)
+    subst (λ z. Refuses text (of_stop z)) t.2 (by_sign t.0 (start_counts text t.0 t.1)) where
+      by_sign : (s : Sign) → IsSignOf text s → Refuses text (of_stop (of_sign s))
       by_sign (Tab at) h = h
       by_sign (sign.Anchor at) h = h
       by_sign (sign.Tag at) h = h
@@ -204,7 +205,7 @@ start_refused text r e =
       by_sign (TooDeep at) h = h
 
 -- no sign is want of memory
-solid_sign : (s : Sign) → of_sign s ≡ refusal.NoMemory → ⊥
+solid_sign : (s : Sign) → of_sign s ≡ stop.NoMemory → ⊥
 solid_sign (Tab at) h = cc
 solid_sign (sign.Anchor at) h = cc
 solid_sign (sign.Tag at) h = cc
@@ -214,7 +215,7 @@ solid_sign (DuplicateKey at) h = cc
 solid_sign (TooDeep at) h = cc
 
 -- it is no want of memory
-pub start_solid : (text : List ℕ) (r : YamlRefusal) → Some r ≡ option_map of_sign (start_sign text) → r ≡ refusal.NoMemory → ⊥
+pub start_solid : (text : List ℕ) (r : Stop) → Some r ≡ option_map of_sign (start_sign text) → r ≡ stop.NoMemory → ⊥
 start_solid text r e n = let t = told (start_sign text) r e in solid_sign t.0 (t.2 ∙ n)
 
 pub marked_refused : (text : List ℕ) (at behind : ℕ) (next after : Ahead) → at ≡ text_start text → next ≡ ahead text false at → behind ≡ next.behind → after ≡ ahead text false behind → next.token ≡ Dashes → after.fresh ≡ false
@@ -301,20 +302,32 @@ only_sign text P s h (g, only) = ((h (Refused s)).1 g, (λ z y. same z (only (Re
   none : (t : Forest) → Tree t ≡ Refused s → ⊥
   none t e = absurd (cc)
 
-pub refuses : (text : List ℕ) (P : Reading → Type 0) (n : ℕ) (fs : List Form) (w : Unfinished) (r : YamlRefusal) → ((v : Reading) → (Comes text v → P v) × (P v → Comes text v)) → Gives text P n fs w (Err r) → Refuses text r
-refuses text P n fs w refusal.Unread h g = ((λ s y. g (Refused s) ((h (Refused s)).0 y)), (λ t y. g (Tree t) ((h (Tree t)).0 y)))
-refuses text P n fs w (refusal.Tab at) h g = only_sign text P (Tab at) h g
-refuses text P n fs w (refusal.Anchor at) h g = only_sign text P (sign.Anchor at) h g
-refuses text P n fs w (refusal.Tag at) h g = only_sign text P (sign.Tag at) h g
-refuses text P n fs w (refusal.Directive at) h g = only_sign text P (Directive at) h g
-refuses text P n fs w (refusal.ManyDocuments at) h g = only_sign text P (ManyDocuments at) h g
-refuses text P n fs w (refusal.DuplicateKey at) h g = only_sign text P (DuplicateKey at) h g
-refuses text P n fs w (refusal.TooDeep at) h g = only_sign text P (TooDeep at) h g
-refuses text P n fs w refusal.NoMemory h g = tt
+pub refuses : (text : List ℕ) (P : Reading → Type 0) (n : ℕ) (fs : List Form) (w : Unfinished) (r : Stop) → ((v : Reading) → (Comes text v → P v) × (P v → Comes text v)) → Gives text P n fs w (Err r) → Refuses text (of_stop r)
+refuses text P n fs w (stop.Unread q) h g = ((λ s y. g (Refused s) ((h (Refused s)).0 y)), (λ t y. g (Tree t) ((h (Tree t)).0 y)))
+refuses text P n fs w (stop.Tab at) h g = only_sign text P (Tab at) h g
+refuses text P n fs w (stop.Anchor at) h g = only_sign text P (sign.Anchor at) h g
+refuses text P n fs w (stop.Tag at) h g = only_sign text P (sign.Tag at) h g
+refuses text P n fs w (stop.Directive at) h g = only_sign text P (Directive at) h g
+refuses text P n fs w (stop.ManyDocuments at) h g = only_sign text P (ManyDocuments at) h g
+refuses text P n fs w (stop.DuplicateKey at) h g = only_sign text P (DuplicateKey at) h g
+refuses text P n fs w (stop.TooDeep at) h g = only_sign text P (TooDeep at) h g
+refuses text P n fs w stop.NoMemory h g = tt
 
-pub root_refused : (text : List ℕ) (i n : ℕ) (fs : List Form) (w : Unfinished) (r : YamlRefusal) → IsStart text i → start_sign text ≡ None → Gives text (Begins text i) n fs w (Err r) → Refuses text r
+pub root_refused : (text : List ℕ) (i n : ℕ) (fs : List Form) (w : Unfinished) (r : Stop) → IsStart text i → start_sign text ≡ None → Gives text (Begins text i) n fs w (Err r) → Refuses text (of_stop r)
 root_refused text i n fs w r s z g = refuses text (Begins text i) n fs w r (λ v. (comes_begins text i v s z, begins_comes text i v s)) g
 
 pub root_same : (text : List ℕ) (i : ℕ) (fs : List Form) (w : Unfinished) (p : Position) → IsStart text i → start_sign text ≡ None → fs ≡ [] → Goes text (Begins text i) 0 [] w p → Same text p fs w × Fits text p.stage fs w p.at × IsCharBoundary text p.at
 root_same text i fs w p s n e g =
     subst (λ z. Same text p z w × Fits text p.stage z w p.at × IsCharBoundary text p.at) (sym e) ((λ v. ((λ h. (g.0 v).0 (comes_begins text i v s n h)), (λ h. begins_comes text i v s ((g.0 v).1 h)))), g.1, g.2)
+
+-- want of memory is the only one that is
+pub stop_memory : (e : Stop) → of_stop e ≡ refusal.NoMemory → e ≡ stop.NoMemory
+stop_memory (stop.Unread q) h = cc
+stop_memory (stop.Tab at) h = cc
+stop_memory (stop.Anchor at) h = cc
+stop_memory (stop.Tag at) h = cc
+stop_memory (stop.Directive at) h = cc
+stop_memory (stop.ManyDocuments at) h = cc
+stop_memory (stop.DuplicateKey at) h = cc
+stop_memory (stop.TooDeep at) h = cc
+stop_memory stop.NoMemory h = refl

@@ -18,7 +18,7 @@ use Rattle.yaml_blocks.specs.declared.form.Form.TheVariants.{Flow}
 use Rattle.yaml_blocks.specs.declared.stage.Stage.{Stage}
 use Rattle.yaml_blocks.specs.declared.stage.Stage.TheVariants as stage
 use Rattle.yaml_blocks.specs.declared.stage.Position.{Position}
-use Rattle.yaml_blocks.specs.declared.refusal.YamlRefusal.{YamlRefusal}
+use Rattle.yaml_blocks.specs.declared.stop.Stop.{Stop}
 use Rattle.yaml_blocks.specs.Ahead.{ahead}
 use Rattle.yaml_blocks.specs.Nodes.{tag_name, tag_key, as_key, scalar_ahead}
 use Rattle.yaml_blocks.specs.Flow.{ends_key, IsColon}
@@ -36,17 +36,17 @@ module _ (text other : List ℕ) (s : Setting) (a : Ahead) (m : SameScalar text 
   pub failed_same : Failed text s a → Failed other s a
   failed_same (n, d) = ((λ t j h. n t j (sym m.scalar ∙ h)), (λ p h. d p (sym m.scalar ∙ h)))
 
-  divides_same : (e : YamlRefusal) → Divides text s a e → Divides other s a e
+  divides_same : (e : Stop) → Divides text s a e → Divides other s a e
   divides_same e (p, h, d) = (p, h, m.scalar ∙ d)
 
-  pub holds_same : (cuts : Bool) (u w : Unfinished) (r : Result Position YamlRefusal) → Holds text s cuts a u w r → Holds other s cuts a u w r
+  pub holds_same : (cuts : Bool) (u w : Unfinished) (r : Result Position Stop) → Holds text s cuts a u w r → Holds other s cuts a u w r
   holds_same cuts u w (Ok p) (t, k, f, es, ew, room) = (t, k, found_same t k p.at f, es, ew, room)
   holds_same cuts u w (Err e) (inl h) = inl h
   holds_same cuts u w (Err e) (inr (inl (h, f))) = inr (inl (h, failed_same f))
   holds_same cuts u w (Err e) (inr (inr (inl d))) = inr (inr (inl (divides_same e d)))
   holds_same cuts u w (Err e) (inr (inr (inr (t, k, j, f, c, h, d)))) = inr (inr (inr (t, k, j, found_same t k j f, c, h, d)))
 
-  pub finds_same : (e : YamlRefusal) → Finds text s a (Err e) → Finds other s a (Err e)
+  pub finds_same : (e : Stop) → Finds text s a (Err e) → Finds other s a (Err e)
   finds_same e (inl h) = inl h
   finds_same e (inr (inl (h, f))) = inr (inl (h, failed_same f))
   finds_same e (inr (inr d)) = inr (inr (divides_same e d))
@@ -128,7 +128,7 @@ module _ (text other : List ℕ) (i : ℕ) (m : SameEnd text other i) where
 
 -- ---- tags
 
-pub tag_same : (text other : List ℕ) (f : Form) (a : Ahead) (fs gs : List Form) (u w : Unfinished) (r : Result Position YamlRefusal) → tag_name other a.at a.behind ≡ tag_name text a.at a.behind → TagBegun text f a fs u gs w r → TagBegun other f a fs u gs w r
+pub tag_same : (text other : List ℕ) (f : Form) (a : Ahead) (fs gs : List Form) (u w : Unfinished) (r : Result Position Stop) → tag_name other a.at a.behind ≡ tag_name text a.at a.behind → TagBegun text f a fs u gs w r → TagBegun other f a fs u gs w r
 tag_same text other f a fs gs u w (Ok p) n (es, ej, eg, ew, d) = (es, ej, eg, subst (λ t. w ≡ with_key (tag_key t) (with_open kind.Map a.at u)) (sym n) ew, d)
 tag_same text other f a fs gs u w (Err e) n h = h
 

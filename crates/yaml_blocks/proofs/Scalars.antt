@@ -17,7 +17,7 @@ use Rattle.yaml_scalars.specs.Plain.{begins_plain, wrong_begin, plain_len, why, 
 use Rattle.yaml_scalars.specs.Quoted.{Part, Closed, Open, Joined, Returned, Refused, line_part, key_part, quoted_on}
 use Rattle.yaml_scalars.specs.Scalar.{scalar_at, is_typed, HasKind, Answers, IsEndOf, begins_quoted, begins_block, is_first_column}
 use Rattle.yaml_blocks.specs.declared.ahead.Ahead.{Ahead}
-use Rattle.yaml_blocks.specs.declared.refusal.YamlRefusal.{YamlRefusal}
+use Rattle.yaml_blocks.specs.declared.stop.Stop.{Stop}
 use Rattle.yaml_blocks.specs.Nodes.{as_key, starts_scalar, scalar_ahead}
 use Rattle.yaml_blocks.specs.code.Refused.{of_scalar}
 use Rattle.yaml_blocks.specs.code.Steps.{Found, Missed, Failed, Finds, Holds, leaf_text}
@@ -79,11 +79,11 @@ pub finds_scalar : (text : List ℕ) (s : Setting) (a : Ahead) (c : Scalar) → 
     → Found text s a (cow_str_bytes c.text) c.kind c.end
 finds_scalar text s a c e h b = (starts_at text s a e ∙ h.0, h.1, b.0, b.2)
 
-pub finds_none : (text : List ℕ) (s : Setting) (a : Ahead) (r : ScalarRefusal) → starts_scalar a.token ≡ true → Answers (is_typed s text a.at) (scalar_at s text a.at) (Err r) → Finds text s a (Err (of_scalar r))
-finds_none text s a refusal.NoMemory e h = inl refl
-finds_none text s a (refusal.Syntax at) e h =
-    inr (inl (refl, ((λ t j st. fails_stands at j t (sym h ∙ sym (starts_at text s a e) ∙ st)), (λ p d. fails_documents at p (sym h ∙ sym (starts_at text s a e) ∙ d)))))
-finds_none text s a (refusal.ManyDocuments at) e h = inr (inr (at, refl, starts_at text s a e ∙ h))
+pub finds_none : (text : List ℕ) (s : Setting) (a : Ahead) (r : ScalarRefusal) (size : ℕ) → starts_scalar a.token ≡ true → Answers (is_typed s text a.at) (scalar_at s text a.at) (Err r) → Finds text s a (Err (of_scalar size r))
+finds_none text s a refusal.NoMemory size e h = inl refl
+finds_none text s a (refusal.Syntax at) size e h =
+    inr (inl ((size, refl), ((λ t j st. fails_stands at j t (sym h ∙ sym (starts_at text s a e) ∙ st)), (λ p d. fails_documents at p (sym h ∙ sym (starts_at text s a e) ∙ d)))))
+finds_none text s a (refusal.ManyDocuments at) size e h = inr (inr (at, refl, starts_at text s a e ∙ h))
 
 -- a key has no mark in it, whatever it ends by: a carriage return, a colon, a comment, another byte or the line's end
 -- whether it shows that there are many documents
@@ -169,7 +169,7 @@ other_kept k t h n = by_text (has_text k) refl where
   by_text false e = refl
 
 -- what is no scalar becomes no value
-pub holds_none : (text : List ℕ) (s : Setting) (cuts : Bool) (a : Ahead) (u w : Unfinished) (r : YamlRefusal) → Finds text s a (Err r) → Holds text s cuts a u w (Err r)
+pub holds_none : (text : List ℕ) (s : Setting) (cuts : Bool) (a : Ahead) (u w : Unfinished) (r : Stop) → Finds text s a (Err r) → Holds text s cuts a u w (Err r)
 holds_none text s cuts a u w r (inl h) = inl h
 holds_none text s cuts a u w r (inr (inl h)) = inr (inl h)
 holds_none text s cuts a u w r (inr (inr h)) = inr (inr (inl h))

@@ -2,6 +2,7 @@
 pub mod AheadSeen
 pub mod Closers
 pub mod Memory
+pub mod Places
 pub mod Refused
 pub mod Rest
 pub mod Steps

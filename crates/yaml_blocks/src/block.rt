@@ -7,10 +7,11 @@ ghost use Rattle.doc_values.specs.Unfinished.{AwaitsValue};
 ghost use Rattle.yaml_blocks.specs.Ahead.{ahead};
 ghost use Rattle.yaml_blocks.specs.Nodes.{starts_scalar, is_tagged};
 ghost use Rattle.yaml_blocks.specs.Blocks.{block_sign, takes_scalar, takes_mapping, takes_sequence, takes_tag, tagged, column_in};
+ghost use Rattle.yaml_blocks.specs.Signs.{Reading};
 ghost use Rattle.yaml_blocks.specs.code.Refused.{of_sign};
 ghost use Rattle.yaml_blocks.specs.code.Rest.{top, Inside, Ends, Awaits};
 ghost use Rattle.yaml_blocks.specs.Yaml.{IsEnd};
-ghost use Rattle.yaml_blocks.specs.code.Twins.{FixesNode, FixesEnd};
+ghost use Rattle.yaml_blocks.specs.code.Twins.{Stops, FixesNode, FixesEnd};
 ghost use Rattle.yaml_blocks.specs.code.Steps.{stack, IsSeen, IsBlock, IsBehind, IsSmall, HasKey, NoKey, EndsKey, Open, Fits, Awaited, SameKey, SameNode, SameEnd, IsCalm, NoNode, Gives, Ended, is_dash, ends_before};
 
 use crate::ahead::{Ahead, Token, look};
@@ -20,9 +21,10 @@ use crate::node::{
     Key, as_key, begin, begin_tag, colon_behind, find_key, find_scalar, innermost, offset,
     take_null, take_scalar,
 };
-use crate::refusal::YamlRefusal;
+use crate::place::told_place;
 use crate::sign::{end_sign, is_tagged, node_sign};
 use crate::stage::{Position, Stage};
+use crate::stop::Stop;
 use doc_values::DocBuilder;
 use std::alloc::Global;
 use yaml_scalars::Scalar;
@@ -55,7 +57,7 @@ fn takes_scalar(form: Form, next: Ahead) -> bool
 }
 
 /// The sign where a node may begin, if one stands there.
-fn block_sign(form: Form, next: Ahead) -> Option<YamlRefusal>
+fn block_sign(form: Form, next: Ahead) -> Option<Stop>
     requires { next.at ≤ template_limit }
     ensures { MatchOption result (block_sign form next ≡ None) (λ e. Some e ≡ option_map of_sign (block_sign form next)) }
 {
@@ -187,7 +189,7 @@ fn sequence(
     next: Ahead,
     forms: &mut Vec<Form>,
     builder: &mut DocBuilder,
-) -> Result<Position, YamlRefusal>
+) -> Result<Position, Stop>
     requires awaited { Awaited text.now (stack forms.old.items) builder.old form at next }
     requires dash { next.token ≡ Token.Dash }
     requires takes { takes_sequence form next ≡ true }
@@ -213,7 +215,7 @@ fn mapping<'s>(
     key: Key<'s>,
     forms: &mut Vec<Form>,
     builder: &mut DocBuilder<'s>,
-) -> Result<Position, YamlRefusal>
+) -> Result<Position, Stop>
     requires awaited { Awaited text.now (stack forms.old.items) builder.old form at next }
     requires key { HasKey text.now next key }
     requires takes { takes_mapping form next ≡ true }
@@ -230,7 +232,7 @@ fn mapping<'s>(
                 stage: Stage::Value,
                 at: behind,
             }),
-            Err(_) => Err(YamlRefusal::NoMemory),
+            Err(_) => Err(Stop::NoMemory),
         },
     }
 }
@@ -245,7 +247,7 @@ fn tag<'s>(
     next: Ahead,
     forms: &mut Vec<Form>,
     builder: &mut DocBuilder<'s>,
-) -> Result<Position, YamlRefusal>
+) -> Result<Position, Stop>
     requires awaited { Awaited text.now (stack forms.old.items) builder.old form at next }
     requires tag { next.token ≡ Token.Tag len }
     requires takes { takes_tag form next ≡ true }
@@ -264,7 +266,7 @@ fn scalar<'s>(
     next: Ahead,
     forms: &[Form],
     builder: &mut DocBuilder<'s>,
-) -> Result<Position, YamlRefusal>
+) -> Result<Position, Stop>
     requires small { length text.now ≤ template_limit }
     requires awaited { Awaited text.now (stack forms.now) builder.old form at next }
     requires starts { starts_scalar next.token ≡ true }
@@ -285,7 +287,7 @@ fn content<'s>(
     next: Ahead,
     forms: &mut Vec<Form>,
     builder: &mut DocBuilder<'s>,
-) -> Result<Position, YamlRefusal>
+) -> Result<Position, Stop>
     requires small { length text.now ≤ template_limit }
     requires awaited { Awaited text.now (stack forms.old.items) builder.old form at next }
     requires starts { starts_scalar next.token ≡ true }
@@ -311,7 +313,8 @@ fn missing(
     next: Ahead,
     forms: &[Form],
     builder: &mut DocBuilder,
-) -> Result<Position, YamlRefusal>
+) -> Result<Position, Stop>
+    requires small { length text.now ≤ template_limit }
     requires awaited { Awaited text.now (stack forms.now) builder.old form at next }
     requires none { NoNode form next }
     requires unsigned { block_sign form next ≡ None }
@@ -320,7 +323,7 @@ fn missing(
     ensures fixes { FixesNode text.now form at next result }
 {
     match form {
-        Form::Root => Err(YamlRefusal::Unread),
+        Form::Root => Err(Stop::Unread(offset(text.len()))),
         _ => take_null(at, at, builder),
     }
 }
@@ -345,7 +348,8 @@ fn tag_again(
     next: Ahead,
     forms: &mut Vec<Form>,
     builder: &mut DocBuilder,
-) -> Result<Position, YamlRefusal>
+) -> Result<Position, Stop>
+    requires small { length text.now ≤ template_limit }
     requires awaited { Awaited text.now (stack forms.old.items) builder.old form at next }
     requires tag { next.token ≡ Token.Tag len }
     requires tagged { is_tagged form ≡ true }
@@ -363,9 +367,9 @@ fn tag_again(
         Ok(()) => {}
     }
     if is_entry_column(innermost(forms), next) {
-        return Err(YamlRefusal::Tag(offset(next.at)));
+        return Err(Stop::Tag(offset(next.at)));
     }
-    Err(YamlRefusal::Unread)
+    Err(Stop::Unread(offset(text.len())))
 }
 
 /// A tag where none begins a node.
@@ -377,7 +381,8 @@ fn late_tag(
     next: Ahead,
     forms: &mut Vec<Form>,
     builder: &mut DocBuilder,
-) -> Result<Position, YamlRefusal>
+) -> Result<Position, Stop>
+    requires small { length text.now ≤ template_limit }
     requires awaited { Awaited text.now (stack forms.old.items) builder.old form at next }
     requires tag { next.token ≡ Token.Tag len }
     requires none { NoNode form next }
@@ -401,7 +406,7 @@ fn brackets(
     next: Ahead,
     forms: &mut Vec<Form>,
     builder: &mut DocBuilder,
-) -> Result<Position, YamlRefusal>
+) -> Result<Position, Stop>
     requires awaited { Awaited text.now (stack forms.old.items) builder.old form at next }
     requires opens { next.token ≡ Token.Opens map }
     requires takes { takes_scalar form next ≡ true }
@@ -420,7 +425,7 @@ fn node_at<'s>(
     next: Ahead,
     forms: &mut Vec<Form>,
     builder: &mut DocBuilder<'s>,
-) -> Result<Position, YamlRefusal>
+) -> Result<Position, Stop>
     requires small { length text.now ≤ template_limit }
     requires awaited { Awaited text.now (stack forms.old.items) builder.old form at next }
     requires unsigned { block_sign form next ≡ None }
@@ -468,7 +473,7 @@ pub(crate) fn node<'s>(
     form: Form,
     forms: &mut Vec<Form>,
     builder: &mut DocBuilder<'s>,
-) -> Result<Position, YamlRefusal>
+) -> Result<Position, Stop>
     requires small { length text.now ≤ template_limit }
     requires boundary { IsCharBoundary text.now at }
     requires form { top (stack forms.old.items) ≡ form }
@@ -485,11 +490,7 @@ pub(crate) fn node<'s>(
 }
 
 /// The collections end that end before the line of a token.
-fn end_before(
-    next: Ahead,
-    forms: &mut Vec<Form>,
-    builder: &mut DocBuilder,
-) -> Result<(), YamlRefusal>
+fn end_before(next: Ahead, forms: &mut Vec<Form>, builder: &mut DocBuilder) -> Result<(), Stop>
     requires open { Open (stack forms.old.items) builder.old }
     requires block { IsBlock (top (stack forms.old.items)) }
     requires awaited { builder.old.key ≡ None }
@@ -499,7 +500,7 @@ fn end_before(
         let Some(_) = forms.pop() else { unreachable!() };
         match builder.end() {
             Ok(()) => {}
-            Err(_) => return Err(YamlRefusal::NoMemory),
+            Err(_) => return Err(Stop::NoMemory),
         }
     }
     Ok(())
@@ -507,12 +508,15 @@ fn end_before(
 
 /// Another item of a sequence.
 fn item(
+    text: &str,
     at: usize,
     column: usize,
     next: Ahead,
     forms: &[Form],
     builder: &DocBuilder,
-) -> Result<Position, YamlRefusal>
+) -> Result<Position, Stop>
+    requires small { length text.now ≤ template_limit }
+    requires seen { IsSeen text.now false at next }
     requires fresh { next.fresh ≡ true }
     requires form { top (stack forms.now) ≡ Form.Items column }
     requires stays { ends_before (Form.Items column) next ≡ false }
@@ -520,16 +524,17 @@ fn item(
     requires awaited { builder.now.key ≡ None }
     ensures gives { (other : List ℕ) → IsSeen other false at next → Inside other at → Gives other (Ends other (stack forms.now) builder.now.outer builder.now.done at) (2 * at + 2) (stack forms.now) builder.now result }
     ensures fixes { (text : List ℕ) → IsSeen text false at next → IsCharBoundary text at → FixesEnd text at next result }
+    ensures stops { Stops text.now false at (λ other. IsSeen other false at next → Inside other at → (v : Reading) → Ends other (stack forms.now) builder.now.outer builder.now.done at v → ⊥) result }
 {
     if next.column != column {
-        return Err(YamlRefusal::Unread);
+        return Err(Stop::Unread(told_place(text, next)));
     }
     match next.token {
         Token::Dash => Ok(Position {
             stage: Stage::Value,
             at: next.behind,
         }),
-        _ => Err(YamlRefusal::Unread),
+        _ => Err(Stop::Unread(told_place(text, next))),
     }
 }
 
@@ -542,7 +547,7 @@ fn entry<'s>(
     next: Ahead,
     forms: &[Form],
     builder: &mut DocBuilder<'s>,
-) -> Result<Position, YamlRefusal>
+) -> Result<Position, Stop>
     requires small { length text.now ≤ template_limit }
     requires seen { IsSeen text.now false at next }
     requires fresh { next.fresh ≡ true }
@@ -553,9 +558,10 @@ fn entry<'s>(
     requires boundary { IsCharBoundary text.now at }
     ensures gives { (other : List ℕ) → IsSeen other false at next → Inside other at → IsCalm other builder.old at → SameKey text.now other next → Gives other (Ends other (stack forms.now) builder.old.outer builder.old.done at) (2 * at + 2) (stack forms.now) builder.new result }
     ensures fixes { FixesEnd text.now at next result }
+    ensures stops { Stops text.now false at (λ other. IsSeen other false at next → Inside other at → (v : Reading) → Ends other (stack forms.now) builder.old.outer builder.old.done at v → ⊥) result }
 {
     if next.column != column {
-        return Err(YamlRefusal::Unread);
+        return Err(Stop::Unread(told_place(text, next)));
     }
     match node_sign(false, next) {
         Some(refusal) => return Err(refusal),
@@ -572,14 +578,14 @@ fn entry<'s>(
     } = scalar;
     match builder.key(words, offset(next.at)) {
         Ok(()) => {}
-        Err(refusal) => return Err(YamlRefusal::from(refusal)),
+        Err(refusal) => return Err(Stop::from(refusal)),
     }
     match colon_behind(text, end) {
         Some(behind) => Ok(Position {
             stage: Stage::Value,
             at: behind,
         }),
-        None => Err(YamlRefusal::Unread),
+        None => Err(Stop::Unread(offset(text.len()))),
     }
 }
 
@@ -592,7 +598,7 @@ fn head<'s>(
     next: Ahead,
     forms: &[Form],
     builder: &mut DocBuilder<'s>,
-) -> Result<Position, YamlRefusal>
+) -> Result<Position, Stop>
     requires small { length text.now ≤ template_limit }
     requires seen { IsSeen text.now false at next }
     requires fresh { next.fresh ≡ true }
@@ -604,11 +610,12 @@ fn head<'s>(
     requires boundary { IsCharBoundary text.now at }
     ensures gives { (other : List ℕ) → IsSeen other false at next → Inside other at → IsCalm other builder.old at → SameKey text.now other next → Gives other (Ends other (stack forms.now) builder.old.outer builder.old.done at) (2 * at + 2) (stack forms.now) builder.new result }
     ensures fixes { FixesEnd text.now at next result }
+    ensures stops { Stops text.now false at (λ other. IsSeen other false at next → Inside other at → (v : Reading) → Ends other (stack forms.now) builder.old.outer builder.old.done at v → ⊥) result }
 {
     match form {
-        Form::Items { column } => item(at, column, next, forms, builder),
+        Form::Items { column } => item(text, at, column, next, forms, builder),
         Form::Entries { column } => entry(alloc, text, at, column, next, forms, builder),
-        Form::Root => Err(YamlRefusal::Unread),
+        Form::Root => Err(Stop::Unread(told_place(text, next))),
         Form::Flow { map: _ } => unreachable!(),
         Form::FlowTagged { at: _ } => unreachable!(),
         Form::Tagged { .. } => unreachable!(),
@@ -623,7 +630,7 @@ fn line<'s>(
     next: Ahead,
     forms: &mut Vec<Form>,
     builder: &mut DocBuilder<'s>,
-) -> Result<Position, YamlRefusal>
+) -> Result<Position, Stop>
     requires small { length text.now ≤ template_limit }
     requires seen { IsSeen text.now false at next }
     requires block { IsBlock (top (stack forms.old.items)) }
@@ -632,9 +639,10 @@ fn line<'s>(
     requires boundary { IsCharBoundary text.now at }
     ensures gives { (other : List ℕ) → IsSeen other false at next → Inside other at → IsCalm other builder.old at → SameKey text.now other next → Gives other (Ends other (stack forms.old.items) builder.old.outer builder.old.done at) (2 * at + 2) (stack forms.new.items) builder.new result }
     ensures fixes { FixesEnd text.now at next result }
+    ensures stops { Stops text.now false at (λ other. IsSeen other false at next → Inside other at → (v : Reading) → Ends other (stack forms.old.items) builder.old.outer builder.old.done at v → ⊥) result }
 {
     if !next.fresh {
-        return Err(YamlRefusal::Unread);
+        return Err(Stop::Unread(told_place(text, next)));
     }
     match end_before(next, forms, builder) {
         Err(refusal) => Err(refusal),
@@ -643,11 +651,7 @@ fn line<'s>(
 }
 
 /// All collections end with the document.
-fn end_all(
-    at: usize,
-    forms: &mut Vec<Form>,
-    builder: &mut DocBuilder,
-) -> Result<Position, YamlRefusal>
+fn end_all(at: usize, forms: &mut Vec<Form>, builder: &mut DocBuilder) -> Result<Position, Stop>
     requires block { IsBlock (top (stack forms.old.items)) }
     requires open { Open (stack forms.old.items) builder.old }
     requires awaited { builder.old.key ≡ None }
@@ -657,7 +661,7 @@ fn end_all(
     while let Some(_) = forms.pop() {
         match builder.end() {
             Ok(()) => {}
-            Err(_) => return Err(YamlRefusal::NoMemory),
+            Err(_) => return Err(Stop::NoMemory),
         }
     }
     Ok(Position {
@@ -700,7 +704,7 @@ pub(crate) fn after<'s>(
     at: usize,
     forms: &mut Vec<Form>,
     builder: &mut DocBuilder<'s>,
-) -> Result<Position, YamlRefusal>
+) -> Result<Position, Stop>
     requires small { length text.now ≤ template_limit }
     requires boundary { IsCharBoundary text.now at }
     requires block { IsBlock (top (stack forms.old.items)) }
@@ -709,6 +713,7 @@ pub(crate) fn after<'s>(
     requires awaited { builder.old.key ≡ None }
     ensures gives { (other : List ℕ) → SameEnd text.now other at → IsSeen other false at (ahead text.now false at) → IsCharBoundary other at → IsCalm other builder.old at → SameKey text.now other (ahead text.now false at) → Gives other (Ends other (stack forms.old.items) builder.old.outer builder.old.done at) (2 * at + 2) (stack forms.new.items) builder.new result }
     ensures fixes { FixesEnd text.now at (ahead text.now false at) result }
+    ensures stops { Stops text.now false at (λ other. IsSeen other false at (ahead text.now false at) → (v : Reading) → Ends other (stack forms.old.items) builder.old.outer builder.old.done at v → ⊥) result }
 {
     let next = look(text, false, at);
     if is_document_end(text, at, next) {

@@ -7,8 +7,9 @@ ghost use Rattle.yaml_scalars.specs.Scalar.{begins_quoted};
 ghost use Rattle.yaml_blocks.specs.Flow.{may_miss, may_tag, ends_key, IsColon};
 ghost use Rattle.yaml_blocks.specs.Ahead.{ahead};
 ghost use Rattle.yaml_blocks.specs.Nodes.{tag_name, node_sign, is_tagged, is_marked};
+ghost use Rattle.yaml_blocks.specs.Signs.{Reading};
 ghost use Rattle.yaml_blocks.specs.code.Rest.{top, Ends, Enters, Awaits};
-ghost use Rattle.yaml_blocks.specs.code.Twins.{FixesFlowNode, FixesFlowKey, FixesEntry, FixesSeen};
+ghost use Rattle.yaml_blocks.specs.code.Twins.{Stops, FixesFlowNode, FixesFlowKey, FixesEntry, FixesSeen};
 ghost use Rattle.yaml_blocks.specs.code.Steps.{stack, IsSeen, SameFlowNode, SameFlowKey, IsFlow, IsBehind, Open, Gives, Opened, Closed, is_flow_ending};
 
 use crate::ahead::{Ahead, Token, look};
@@ -16,19 +17,16 @@ use crate::form::Form;
 use crate::node::{
     as_key, begin, begin_tag, find_scalar, innermost, offset, take_null, take_scalar,
 };
-use crate::refusal::YamlRefusal;
+use crate::place::told_place;
 use crate::sign::{is_marked, is_tagged, node_sign};
 use crate::stage::{Position, Stage};
+use crate::stop::Stop;
 use doc_values::DocBuilder;
 use std::alloc::Global;
 use yaml_scalars::Scalar;
 
 /// The innermost collection ends.
-fn close(
-    next: Ahead,
-    forms: &mut Vec<Form>,
-    builder: &mut DocBuilder,
-) -> Result<Position, YamlRefusal>
+fn close(next: Ahead, forms: &mut Vec<Form>, builder: &mut DocBuilder) -> Result<Position, Stop>
     requires form { (map : Bool) × (top (stack forms.old.items) ≡ Form.Flow map) }
     requires awaited { MayEnd builder.old }
     ensures { Closed next.behind (stack forms.old.items) builder.old (stack forms.new.items) builder.new result }
@@ -39,7 +37,7 @@ fn close(
             stage: Stage::After,
             at: next.behind,
         }),
-        Err(_) => Err(YamlRefusal::NoMemory),
+        Err(_) => Err(Stop::NoMemory),
     }
 }
 
@@ -60,7 +58,7 @@ pub(crate) fn open(
     next: Ahead,
     forms: &mut Vec<Form>,
     builder: &mut DocBuilder,
-) -> Result<Position, YamlRefusal>
+) -> Result<Position, Stop>
     requires small { next.at ≤ template_limit }
     requires awaited { AwaitsValue builder.old }
     ensures { Opened map next (stack forms.old.items) builder.old (stack forms.new.items) builder.new result }
@@ -84,7 +82,7 @@ fn tag<'s>(
     next: Ahead,
     forms: &mut Vec<Form>,
     builder: &mut DocBuilder<'s>,
-) -> Result<Position, YamlRefusal>
+) -> Result<Position, Stop>
     requires small { length text.now ≤ template_limit }
     requires seen { IsSeen text.now true at next }
     requires tag { next.token ≡ Token.Tag len }
@@ -116,7 +114,7 @@ fn node<'s>(
     next: Ahead,
     forms: &mut Vec<Form>,
     builder: &mut DocBuilder<'s>,
-) -> Result<Position, YamlRefusal>
+) -> Result<Position, Stop>
     requires small { length text.now ≤ template_limit }
     requires seen { IsSeen text.now true at next }
     requires there { may_miss form ≡ true → is_flow_ending next.token ≡ false }
@@ -207,7 +205,7 @@ fn key<'s>(
     next: Ahead,
     forms: &[Form],
     builder: &mut DocBuilder<'s>,
-) -> Result<Position, YamlRefusal>
+) -> Result<Position, Stop>
     requires small { length text.now ≤ template_limit }
     requires seen { IsSeen text.now true at next }
     requires there { next.token ≡ Token.Closes true → ⊥ }
@@ -234,14 +232,14 @@ fn key<'s>(
     } = scalar;
     match builder.key(words, offset(next.at)) {
         Ok(()) => {}
-        Err(refusal) => return Err(YamlRefusal::from(refusal)),
+        Err(refusal) => return Err(Stop::from(refusal)),
     }
     match colon(text, end, is_quoted(text.as_bytes(), next.at)) {
         Some(place) => Ok(Position {
             stage: Stage::Value,
             at: place,
         }),
-        None => Err(YamlRefusal::Unread),
+        None => Err(Stop::Unread(offset(text.len()))),
     }
 }
 
@@ -253,7 +251,7 @@ pub(crate) fn entry<'s>(
     map: bool,
     forms: &mut Vec<Form>,
     builder: &mut DocBuilder<'s>,
-) -> Result<Position, YamlRefusal>
+) -> Result<Position, Stop>
     requires small { length text.now ≤ template_limit }
     requires boundary { IsCharBoundary text.now at }
     requires form { top (stack forms.old.items) ≡ Form.Flow map }
@@ -267,7 +265,7 @@ pub(crate) fn entry<'s>(
         return close(next, forms, builder);
     }
     if is_marked(next.token) {
-        return Err(YamlRefusal::ManyDocuments(offset(next.at)));
+        return Err(Stop::ManyDocuments(offset(next.at)));
     }
     if map {
         key(alloc, text, at, next, forms, builder)
@@ -292,7 +290,7 @@ pub(crate) fn value<'s>(
     form: Form,
     forms: &mut Vec<Form>,
     builder: &mut DocBuilder<'s>,
-) -> Result<Position, YamlRefusal>
+) -> Result<Position, Stop>
     requires small { length text.now ≤ template_limit }
     requires boundary { IsCharBoundary text.now at }
     requires form { top (stack forms.old.items) ≡ form }
@@ -318,7 +316,7 @@ pub(crate) fn after(
     map: bool,
     forms: &mut Vec<Form>,
     builder: &mut DocBuilder,
-) -> Result<Position, YamlRefusal>
+) -> Result<Position, Stop>
     requires small { length text.now ≤ template_limit }
     requires boundary { IsCharBoundary text.now at }
     requires form { top (stack forms.old.items) ≡ Form.Flow map }
@@ -326,20 +324,21 @@ pub(crate) fn after(
     requires awaited { builder.old.key ≡ None }
     ensures gives { (other : List ℕ) → IsSeen other true at (ahead text.now true at) → Gives other (Ends other (stack forms.old.items) builder.old.outer builder.old.done at) (2 * at + 2) (stack forms.new.items) builder.new result }
     ensures fixes { FixesSeen text.now at result }
+    ensures stops { Stops text.now true at (λ other. IsSeen other true at (ahead text.now true at) → (v : Reading) → Ends other (stack forms.old.items) builder.old.outer builder.old.done at v → ⊥) result }
 {
     let next = look(text, true, at);
     if closes(next.token, map) {
         return close(next, forms, builder);
     }
     if is_marked(next.token) {
-        return Err(YamlRefusal::ManyDocuments(offset(next.at)));
+        return Err(Stop::ManyDocuments(offset(next.at)));
     }
     match next.token {
         Token::Comma => Ok(Position {
             stage: Stage::Entry,
             at: next.behind,
         }),
-        _ => Err(YamlRefusal::Unread),
+        _ => Err(Stop::Unread(told_place(text, next))),
     }
 }
 
@@ -350,7 +349,7 @@ pub(crate) fn after_tag(
     place: usize,
     forms: &mut Vec<Form>,
     builder: &mut DocBuilder,
-) -> Result<Position, YamlRefusal>
+) -> Result<Position, Stop>
     requires small { length text.now ≤ template_limit }
     requires boundary { IsCharBoundary text.now at }
     requires form { top (stack forms.old.items) ≡ Form.FlowTagged place }
@@ -358,11 +357,12 @@ pub(crate) fn after_tag(
     requires awaited { builder.old.key ≡ None }
     ensures gives { (other : List ℕ) → IsSeen other true at (ahead text.now true at) → Gives other (Ends other (stack forms.old.items) builder.old.outer builder.old.done at) (2 * at + 2) (stack forms.new.items) builder.new result }
     ensures fixes { FixesSeen text.now at result }
+    ensures stops { Stops text.now true at (λ other. IsSeen other true at (ahead text.now true at) → (v : Reading) → Ends other (stack forms.old.items) builder.old.outer builder.old.done at v → ⊥) result }
 {
     let Some(_) = forms.pop() else { unreachable!() };
     match builder.end() {
         Ok(()) => {}
-        Err(_) => return Err(YamlRefusal::NoMemory),
+        Err(_) => return Err(Stop::NoMemory),
     }
     match innermost(forms) {
         Form::Flow { map } => after(text, at, map, forms, builder),

@@ -12,11 +12,13 @@ mod ending;
 mod flow;
 mod form;
 mod node;
+mod place;
 mod read;
 mod refusal;
 mod sign;
 mod stage;
 mod step;
+mod stop;
 
 pub use agreement::same_ahead;
 pub use ahead::Token;

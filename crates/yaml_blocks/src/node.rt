@@ -1,5 +1,5 @@
 //! What nodes are made of: scalars, missing nodes, keys outside of flow, and collections that begin.
-ghost use Rattle.std.specs.Prelude.{◌≡◌, ℕ, ◌+◌, ◌<◌, ◌≤◌, ◌≤ℤ◌, length, [], true, false, Some, None, MatchOption, IfOk, ◌||◌, pos, negsuc};
+ghost use Rattle.std.specs.Prelude.{◌≡◌, ℕ, ◌+◌, ◌<◌, ◌≤◌, ◌≤ℤ◌, length, [], true, false, Some, None, Err, MatchOption, IfOk, ◌||◌, pos, negsuc};
 ghost use Rattle.std.specs.Cow.{cow_str_bytes};
 ghost use Rattle.std.specs.List.{position_or_len, before_first, after_first};
 ghost use Rattle.std.specs.Str.{IsCharBoundary, bytes_eq};
@@ -13,8 +13,8 @@ ghost use Rattle.yaml_blocks.specs.code.Rest.{top};
 
 use crate::ahead::{Ahead, Token, look};
 use crate::form::Form;
-use crate::refusal::YamlRefusal;
 use crate::stage::{Position, Stage};
+use crate::stop::{Stop, of_scalar};
 use doc_values::{DocBuilder, Kind};
 use std::alloc::{AllocError, Global};
 use std::borrow::CowStr;
@@ -125,15 +125,15 @@ pub(crate) fn begin(
     next: Ahead,
     forms: &mut Vec<Form>,
     builder: &mut DocBuilder,
-) -> Result<(), YamlRefusal>
+) -> Result<(), Stop>
     requires small { next.at ≤ template_limit }
     requires awaited { AwaitsValue builder.old }
     ensures { Begun form next (stack forms.old.items) builder.old (stack forms.new.items) builder.new result }
 {
     match builder.begin(has_keys(form), offset(next.at)) {
-        Err(refused) => Err(YamlRefusal::from(refused)),
+        Err(refused) => Err(Stop::from(refused)),
         Ok(()) => match forms.push(form) {
-            Err(_) => Err(YamlRefusal::NoMemory),
+            Err(_) => Err(Stop::NoMemory),
             Ok(()) => Ok(()),
         },
     }
@@ -174,22 +174,23 @@ pub(crate) fn find_scalar<'s>(
     text: &'s str,
     next: Ahead,
     setting: Setting,
-) -> Result<Scalar<'s>, YamlRefusal>
+) -> Result<Scalar<'s>, Stop>
     requires small { length text.now ≤ template_limit }
     requires boundary { IsCharBoundary text.now next.at }
     requires low { negsuc 0 ≤ℤ setting.parent }
     requires high { setting.parent ≤ℤ pos template_limit }
-    ensures { Finds text.now setting next result }
+    ensures finds { Finds text.now setting next result }
+    ensures place { (q : ℕ) → result ≡ Err (Stop.Unread q) → q ≡ length text.now }
 {
     if !starts_scalar(next.token) {
-        return Err(YamlRefusal::Unread);
+        return Err(Stop::Unread(offset(text.len())));
     }
     if next.at == text.len() {
-        return Err(YamlRefusal::Unread);
+        return Err(Stop::Unread(offset(text.len())));
     }
     match read_scalar(alloc, text, next.at, setting) {
         Ok(scalar) => Ok(scalar),
-        Err(refusal) => Err(YamlRefusal::from(refusal)),
+        Err(refusal) => Err(of_scalar(refusal, offset(text.len()))),
     }
 }
 
@@ -257,29 +258,29 @@ fn take_pair<'s>(
     place: usize,
     end: usize,
     builder: &mut DocBuilder<'s>,
-) -> Result<Position, YamlRefusal>
+) -> Result<Position, Stop>
     requires small { place ≤ template_limit }
     requires awaited { AwaitsValue builder.old }
     ensures { Paired (cow_str_bytes first.entry) (cow_str_bytes second.entry) place end builder.old builder.new result }
 {
     match builder.begin(false, offset(place)) {
         Ok(()) => {}
-        Err(refused) => return Err(YamlRefusal::from(refused)),
+        Err(refused) => return Err(Stop::from(refused)),
     }
     match builder.scalar(Kind::Text, first, offset(place)) {
         Ok(()) => {}
-        Err(_) => return Err(YamlRefusal::NoMemory),
+        Err(_) => return Err(Stop::NoMemory),
     }
     match builder.scalar(Kind::Text, second, offset(place)) {
         Ok(()) => {}
-        Err(_) => return Err(YamlRefusal::NoMemory),
+        Err(_) => return Err(Stop::NoMemory),
     }
     match builder.end() {
         Ok(()) => Ok(Position {
             stage: Stage::After,
             at: end,
         }),
-        Err(_) => Err(YamlRefusal::NoMemory),
+        Err(_) => Err(Stop::NoMemory),
     }
 }
 
@@ -291,7 +292,7 @@ fn take_cut<'s>(
     setting: Setting,
     cuts: bool,
     builder: &mut DocBuilder<'s>,
-) -> Result<Position, YamlRefusal>
+) -> Result<Position, Stop>
     requires small { length text.now ≤ template_limit }
     requires boundary { IsCharBoundary text.now next.at }
     requires low { negsuc 0 ≤ℤ setting.parent }
@@ -309,7 +310,7 @@ fn take_cut<'s>(
         end,
     } = scalar;
     match parts(alloc, cuts, &kind, &words) {
-        Err(_) => return Err(YamlRefusal::NoMemory),
+        Err(_) => return Err(Stop::NoMemory),
         Ok(Some((first, second))) => return take_pair(first, second, next.at, end, builder),
         Ok(None) => {}
     }
@@ -319,7 +320,7 @@ fn take_cut<'s>(
             stage: Stage::After,
             at: end,
         }),
-        Err(_) => Err(YamlRefusal::NoMemory),
+        Err(_) => Err(Stop::NoMemory),
     }
 }
 
@@ -331,7 +332,7 @@ pub(crate) fn take_scalar<'s>(
     form: Form,
     next: Ahead,
     builder: &mut DocBuilder<'s>,
-) -> Result<Position, YamlRefusal>
+) -> Result<Position, Stop>
     requires small { length text.now ≤ template_limit }
     requires within { at ≤ length text.now }
     requires boundary { IsCharBoundary text.now next.at }
@@ -345,11 +346,7 @@ pub(crate) fn take_scalar<'s>(
 }
 
 /// Null becomes a value, where a node is missing.
-pub(crate) fn take_null(
-    place: usize,
-    at: usize,
-    builder: &mut DocBuilder,
-) -> Result<Position, YamlRefusal>
+pub(crate) fn take_null(place: usize, at: usize, builder: &mut DocBuilder) -> Result<Position, Stop>
     requires small { place ≤ template_limit }
     requires awaited { AwaitsValue builder.old }
     ensures { Completes at (with_value Kind.Null [] place builder.old) builder.new result }
@@ -359,7 +356,7 @@ pub(crate) fn take_null(
             stage: Stage::After,
             at,
         }),
-        Err(_) => Err(YamlRefusal::NoMemory),
+        Err(_) => Err(Stop::NoMemory),
     }
 }
 
@@ -384,14 +381,14 @@ pub(crate) fn find_key<'s>(
     alloc: Global,
     text: &'s str,
     next: Ahead,
-) -> Result<Option<Key<'s>>, YamlRefusal>
+) -> Result<Option<Key<'s>>, Stop>
     requires small { length text.now ≤ template_limit }
     requires boundary { IsCharBoundary text.now next.at }
     ensures { FindsKey text.now next result }
 {
     let scalar = match find_scalar(alloc, text, next, as_key(false)) {
         Ok(scalar) => scalar,
-        Err(YamlRefusal::NoMemory) => return Err(YamlRefusal::NoMemory),
+        Err(Stop::NoMemory) => return Err(Stop::NoMemory),
         Err(_) => return Ok(None),
     };
     let Scalar {
@@ -470,7 +467,7 @@ pub(crate) fn begin_tag<'s>(
     next: Ahead,
     forms: &mut Vec<Form>,
     builder: &mut DocBuilder<'s>,
-) -> Result<Position, YamlRefusal>
+) -> Result<Position, Stop>
     requires small { next.at ≤ template_limit }
     requires order { next.at < next.behind }
     requires first { IsCharBoundary text.now (next.at + 1) }
@@ -481,7 +478,7 @@ pub(crate) fn begin_tag<'s>(
 {
     let key = match tag_key(alloc, text, next.at, next.behind) {
         Ok(key) => key,
-        Err(_) => return Err(YamlRefusal::NoMemory),
+        Err(_) => return Err(Stop::NoMemory),
     };
     match begin(form, next, forms, builder) {
         Err(refusal) => Err(refusal),
@@ -490,7 +487,7 @@ pub(crate) fn begin_tag<'s>(
                 stage: Stage::Value,
                 at: next.behind,
             }),
-            Err(_) => Err(YamlRefusal::NoMemory),
+            Err(_) => Err(Stop::NoMemory),
         },
     }
 }

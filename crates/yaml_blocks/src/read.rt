@@ -5,14 +5,17 @@ ghost use Rattle.doc_values.specs.Limits.{template_limit};
 ghost use Rattle.yaml_scalars.specs.Scalar.{begins_order_mark};
 ghost use Rattle.yaml_blocks.specs.Answers.{Reads, Refuses};
 ghost use Rattle.yaml_blocks.specs.code.Memory.{BeginsDocument};
+ghost use Rattle.yaml_blocks.specs.code.Refused.{of_stop};
 ghost use Rattle.yaml_blocks.specs.code.Twins.{FixesStart};
 ghost use Rattle.yaml_blocks.specs.Yaml.{IsStart, start_sign, text_start};
 
 use crate::ahead::{Token, look};
+use crate::node::offset;
 use crate::refusal::YamlRefusal;
 use crate::sign::start_sign;
 use crate::stage::Stage;
 use crate::step::{root, step};
+use crate::stop::{Stop, refusal_of};
 use doc_values::{Doc, DocBuilder};
 use std::alloc::Global;
 
@@ -25,17 +28,17 @@ pub fn read_yaml<'s>(alloc: Global, text: &'s str) -> Result<Doc<'s>, YamlRefusa
 {
     let start = match document_start(text) {
         Ok(start) => start,
-        Err(refusal) => return Err(refusal),
+        Err(stop) => return Err(refusal_of(stop)),
     };
     let mut forms = Vec::new(alloc);
     let mut builder = DocBuilder::new(alloc);
     let mut position = match root(text, start, &mut builder) {
         Ok(next) => next,
-        Err(refusal) => return Err(refusal),
+        Err(stop) => return Err(refusal_of(stop)),
     };
     while goes_on(position.stage) {
         match step(alloc, text, position, &mut forms, &mut builder) {
-            Err(refusal) => return Err(refusal),
+            Err(stop) => return Err(refusal_of(stop)),
             Ok(next) => position = next,
         }
     }
@@ -72,11 +75,11 @@ fn text_start(text: &str) -> usize
 }
 
 /// Where the document begins: behind a line `---`, if there is one.
-fn document_start(text: &str) -> Result<usize, YamlRefusal>
+fn document_start(text: &str) -> Result<usize, Stop>
     requires { length text.now ≤ template_limit }
-    ensures start { MatchResult result (λ start. IsStart text.now start × IsCharBoundary text.now start × (start_sign text.now ≡ None)) (λ e. Refuses text.now e) }
+    ensures start { MatchResult result (λ start. IsStart text.now start × IsCharBoundary text.now start × (start_sign text.now ≡ None)) (λ e. Refuses text.now (of_stop e)) }
     ensures fixes { IfOk result (λ start. FixesStart text.now start) }
-    ensures no_memory { ¬ IsErrOf result YamlRefusal.NoMemory }
+    ensures no_memory { ¬ IsErrOf result Stop.NoMemory }
 {
     let at = text_start(text);
     let next = look(text, false, at);
@@ -89,7 +92,7 @@ fn document_start(text: &str) -> Result<usize, YamlRefusal>
             if look(text, false, next.behind).fresh {
                 Ok(next.behind)
             } else {
-                Err(YamlRefusal::Unread)
+                Err(Stop::Unread(offset(text.len())))
             }
         }
         _ => Ok(at),

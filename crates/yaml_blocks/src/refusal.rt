@@ -1,8 +1,6 @@
 //! Why a text is refused.
-use doc_values::BuildRefusal;
 use std::alloc::AllocError;
 use thiserror::Error;
-use yaml_scalars::ScalarRefusal;
 
 /// Why a text is refused as a document.
 #[derive(Clone, Copy, Debug, Error)]
@@ -36,34 +34,4 @@ pub enum YamlRefusal {
     /// The allocator gave no memory.
     #[error("out of memory")]
     NoMemory,
-}
-
-impl From<BuildRefusal> for YamlRefusal {
-    ghost use Rattle.std.specs.Prelude.{◌≡◌};
-    ghost use Rattle.yaml_blocks.specs.code.Refused.{of_build};
-
-    ghost from_gives = { λ r e. e ≡ of_build r };
-
-    fn from(refusal: BuildRefusal) -> YamlRefusal {
-        match refusal {
-            BuildRefusal::NoMemory => YamlRefusal::NoMemory,
-            BuildRefusal::TooDeep(at) => YamlRefusal::TooDeep(at),
-            BuildRefusal::DuplicateKey(at) => YamlRefusal::DuplicateKey(at),
-        }
-    }
-}
-
-impl From<ScalarRefusal> for YamlRefusal {
-    ghost use Rattle.std.specs.Prelude.{◌≡◌};
-    ghost use Rattle.yaml_blocks.specs.code.Refused.{of_scalar};
-
-    ghost from_gives = { λ r e. e ≡ of_scalar r };
-
-    fn from(refusal: ScalarRefusal) -> YamlRefusal {
-        match refusal {
-            ScalarRefusal::NoMemory => YamlRefusal::NoMemory,
-            ScalarRefusal::Syntax(_) => YamlRefusal::Unread,
-            ScalarRefusal::ManyDocuments(at) => YamlRefusal::ManyDocuments(at),
-        }
-    }
 }

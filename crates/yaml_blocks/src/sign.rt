@@ -9,7 +9,7 @@ ghost use Rattle.yaml_blocks.specs.Yaml.{is_content, late_sign, end_sign, text_s
 use crate::ahead::{Ahead, Token, look};
 use crate::form::Form;
 use crate::node::offset;
-use crate::refusal::YamlRefusal;
+use crate::stop::Stop;
 
 /// Whether a token is content.
 fn is_content(token: Token) -> bool
@@ -22,16 +22,16 @@ fn is_content(token: Token) -> bool
 }
 
 /// The sign that a token is where a node or a key may begin, if it is one; `tagged` behind a tag.
-pub(crate) fn node_sign(tagged: bool, next: Ahead) -> Option<YamlRefusal>
+pub(crate) fn node_sign(tagged: bool, next: Ahead) -> Option<Stop>
     requires { next.at ≤ template_limit }
     ensures { MatchOption result (node_sign tagged next.at next.token ≡ None) (λ e. Some e ≡ option_map of_sign (node_sign tagged next.at next.token)) }
 {
     match next.token {
-        Token::Anchor => Some(YamlRefusal::Anchor(offset(next.at))),
-        Token::NoTag => Some(YamlRefusal::Tag(offset(next.at))),
+        Token::Anchor => Some(Stop::Anchor(offset(next.at))),
+        Token::NoTag => Some(Stop::Tag(offset(next.at))),
         Token::Tag { len: _ } => {
             if tagged {
-                Some(YamlRefusal::Tag(offset(next.at)))
+                Some(Stop::Tag(offset(next.at)))
             } else {
                 None
             }
@@ -78,28 +78,28 @@ fn late_place(mark: usize, next: Ahead) -> usize
 }
 
 /// The sign that a token behind a mark is, if it is one.
-fn late_sign(mark: usize, next: Ahead) -> Option<YamlRefusal>
+fn late_sign(mark: usize, next: Ahead) -> Option<Stop>
     requires small { next.at ≤ template_limit }
     requires mark { mark ≤ template_limit }
     ensures { result ≡ option_map of_sign (late_sign mark next next.token) }
 {
     match next.token {
         Token::End | Token::Stray => None,
-        Token::Tabbed => Some(YamlRefusal::Tab(offset(next.at))),
-        _ => Some(YamlRefusal::ManyDocuments(offset(late_place(mark, next)))),
+        Token::Tabbed => Some(Stop::Tab(offset(next.at))),
+        _ => Some(Stop::ManyDocuments(offset(late_place(mark, next)))),
     }
 }
 
 /// The sign that stands behind the root, if one does.
-pub(crate) fn end_sign(text: &str, at: usize, next: Ahead) -> Option<YamlRefusal>
+pub(crate) fn end_sign(text: &str, at: usize, next: Ahead) -> Option<Stop>
     requires small { length text.now ≤ template_limit }
     requires seen { IsSeen text.now false at next }
     ensures { result ≡ option_map of_sign (end_sign text.now at) }
 {
     match next.token {
-        Token::Dashes => Some(YamlRefusal::ManyDocuments(offset(next.at))),
+        Token::Dashes => Some(Stop::ManyDocuments(offset(next.at))),
         Token::Dots => late_sign(next.at, look(text, false, next.behind)),
-        Token::Tabbed => Some(YamlRefusal::Tab(offset(next.at))),
+        Token::Tabbed => Some(Stop::Tab(offset(next.at))),
         _ => None,
     }
 }
@@ -119,7 +119,7 @@ fn is_first(next: Ahead) -> bool
 }
 
 /// The sign that stands in front of the document, if one does.
-pub(crate) fn start_sign(text: &str, next: Ahead) -> Option<YamlRefusal>
+pub(crate) fn start_sign(text: &str, next: Ahead) -> Option<Stop>
     requires small { length text.now ≤ template_limit }
     requires seen { IsSeen text.now false (text_start text.now) next }
     ensures { result ≡ option_map of_sign (start_sign text.now) }
@@ -127,14 +127,14 @@ pub(crate) fn start_sign(text: &str, next: Ahead) -> Option<YamlRefusal>
     match next.token {
         Token::Percent => {
             if is_first(next) {
-                Some(YamlRefusal::Directive(offset(next.at)))
+                Some(Stop::Directive(offset(next.at)))
             } else {
                 None
             }
         }
         Token::Dashes => {
             if has_content(look(text, false, next.behind)) {
-                Some(YamlRefusal::ManyDocuments(offset(next.at)))
+                Some(Stop::ManyDocuments(offset(next.at)))
             } else {
                 None
             }

@@ -3,16 +3,18 @@ ghost use Rattle.std.specs.Prelude.{ℕ, List, ◌≡◌, ◌≤◌, ◌*◌, �
 ghost use Rattle.std.specs.Str.{IsCharBoundary, IsUtf8};
 ghost use Rattle.doc_values.specs.Limits.{template_limit};
 ghost use Rattle.doc_values.specs.Unfinished.{start};
+ghost use Rattle.yaml_blocks.specs.Ahead.{ahead};
+ghost use Rattle.yaml_blocks.specs.Signs.{Reading};
 ghost use Rattle.yaml_blocks.specs.code.Rest.{top, Ends, Enters, Awaits, Begins};
-ghost use Rattle.yaml_blocks.specs.code.Twins.{FixesStep, FixesRoot};
-ghost use Rattle.yaml_blocks.specs.code.Steps.{stack, IsBlock, IsFlow, Open, Rest, Fits, SameStep, reached, Gives};
+ghost use Rattle.yaml_blocks.specs.code.Twins.{Stops, FixesStep, FixesRoot};
+ghost use Rattle.yaml_blocks.specs.code.Steps.{stack, IsSeen, IsBlock, IsFlow, Open, Rest, Fits, SameStep, reached, Gives};
 
 use crate::ahead::look;
 use crate::form::Form;
 use crate::node::{innermost, take_null};
-use crate::refusal::YamlRefusal;
 use crate::sign::is_ending;
 use crate::stage::{Position, Stage};
+use crate::stop::Stop;
 use crate::{block, flow};
 use doc_values::DocBuilder;
 use std::alloc::Global;
@@ -24,7 +26,7 @@ fn entry<'s>(
     at: usize,
     forms: &mut Vec<Form>,
     builder: &mut DocBuilder<'s>,
-) -> Result<Position, YamlRefusal>
+) -> Result<Position, Stop>
     requires small { length text.now ≤ template_limit }
     requires boundary { IsCharBoundary text.now at }
     requires fits { Fits text.now Stage.Entry (stack forms.old.items) builder.old at }
@@ -59,7 +61,7 @@ fn value<'s>(
     at: usize,
     forms: &mut Vec<Form>,
     builder: &mut DocBuilder<'s>,
-) -> Result<Position, YamlRefusal>
+) -> Result<Position, Stop>
     requires small { length text.now ≤ template_limit }
     requires boundary { IsCharBoundary text.now at }
     requires fits { Fits text.now Stage.Value (stack forms.old.items) builder.old at }
@@ -80,12 +82,14 @@ fn after<'s>(
     at: usize,
     forms: &mut Vec<Form>,
     builder: &mut DocBuilder<'s>,
-) -> Result<Position, YamlRefusal>
+) -> Result<Position, Stop>
     requires small { length text.now ≤ template_limit }
     requires boundary { IsCharBoundary text.now at }
     requires fits { Fits text.now Stage.After (stack forms.old.items) builder.old at }
     ensures gives { (other : List ℕ) → IsUtf8 other → IsCharBoundary other at → Fits other Stage.After (stack forms.old.items) builder.old at → SameStep text.now other Stage.After (top (stack forms.old.items)) at → Gives other (Ends other (stack forms.old.items) builder.old.outer builder.old.done at) (2 * at + 2) (stack forms.new.items) builder.new result }
     ensures fixes { FixesStep text.now Stage.After (top (stack forms.old.items)) at result }
+    ensures flow_stops { IsFlow (top (stack forms.old.items)) → Stops text.now true at (λ other. IsSeen other true at (ahead text.now true at) → (v : Reading) → Ends other (stack forms.old.items) builder.old.outer builder.old.done at v → ⊥) result }
+    ensures block_stops { IsBlock (top (stack forms.old.items)) → Stops text.now false at (λ other. IsSeen other false at (ahead text.now false at) → (v : Reading) → Ends other (stack forms.old.items) builder.old.outer builder.old.done at v → ⊥) result }
 {
     match innermost(forms) {
         Form::Flow { map } => flow::after(text, at, map, forms, builder),
@@ -101,7 +105,7 @@ pub(crate) fn step<'s>(
     position: Position,
     forms: &mut Vec<Form>,
     builder: &mut DocBuilder<'s>,
-) -> Result<Position, YamlRefusal>
+) -> Result<Position, Stop>
     requires small { length text.now ≤ template_limit }
     requires boundary { IsCharBoundary text.now position.at }
     requires open { position.stage ≡ Stage.Whole → ⊥ }
@@ -118,7 +122,7 @@ pub(crate) fn step<'s>(
 }
 
 /// Where the root stands, or that there is none.
-pub(crate) fn root(text: &str, at: usize, builder: &mut DocBuilder) -> Result<Position, YamlRefusal>
+pub(crate) fn root(text: &str, at: usize, builder: &mut DocBuilder) -> Result<Position, Stop>
     requires small { length text.now ≤ template_limit }
     requires boundary { IsCharBoundary text.now at }
     requires fits { builder.old ≡ start }

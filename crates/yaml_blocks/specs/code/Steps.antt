@@ -21,8 +21,8 @@ use Rattle.yaml_blocks.specs.declared.stage.Stage.{Stage}
 use Rattle.yaml_blocks.specs.declared.stage.Stage.TheVariants as stage
 use Rattle.yaml_blocks.specs.declared.stage.Position.{Position}
 use Rattle.yaml_blocks.specs.declared.node.Key.{Key}
-use Rattle.yaml_blocks.specs.declared.refusal.YamlRefusal.{YamlRefusal}
-use Rattle.yaml_blocks.specs.declared.refusal.YamlRefusal.TheVariants as refusal
+use Rattle.yaml_blocks.specs.declared.stop.Stop.{Stop}
+use Rattle.yaml_blocks.specs.declared.stop.Stop.TheVariants as refusal
 use Rattle.yaml_blocks.specs.Ahead.{token_len, ahead}
 use Rattle.yaml_blocks.specs.Nodes.{tag_name, tag_key, follows_get_att, setting_of, as_key, is_dot, is_cut, starts_scalar, scalar_ahead}
 use Rattle.yaml_blocks.specs.Signs as sign
@@ -239,9 +239,9 @@ abbrev pub Broke : (Reading → Type 0) → Sign → Type 0
 Broke P s = P (Refused s) × ((v : Reading) → P v → v ≡ Refused s)
 
 -- or where nothing may follow
-abbrev pub Gives : List ℕ → (Reading → Type 0) → ℕ → List Form → Unfinished → Result Position YamlRefusal → Type 0
+abbrev pub Gives : List ℕ → (Reading → Type 0) → ℕ → List Form → Unfinished → Result Position Stop → Type 0
 Gives text P n fs w (Ok p) = Goes text P n fs w p
-Gives text P n fs w (Err refusal.Unread) = (v : Reading) → P v → ⊥
+Gives text P n fs w (Err (refusal.Unread q)) = (v : Reading) → P v → ⊥
 Gives text P n fs w (Err (refusal.Tab at)) = Broke P (Tab at)
 Gives text P n fs w (Err (refusal.Anchor at)) = Broke P (sign.Anchor at)
 Gives text P n fs w (Err (refusal.Tag at)) = Broke P (sign.Tag at)
@@ -257,7 +257,7 @@ NoNode f a =
     (takes_scalar f a ≡ true → (starts_scalar a.token ≡ false) × ((map : Bool) → a.token ≡ Opens map → ⊥)) × (takes_sequence f a ≡ true → a.token ≡ Dash → ⊥) × (takes_tag f a ≡ true → (len : ℕ) → a.token ≡ Tag len → ⊥)
 
 -- blocks ended before a line, and what may follow is the same as before
-abbrev pub Ended : List ℕ → List Form → Unfinished → Ahead → ℕ → List Form → Unfinished → Result (Unit {0}) YamlRefusal → Type 0
+abbrev pub Ended : List ℕ → List Form → Unfinished → Ahead → ℕ → List Form → Unfinished → Result (Unit {0}) Stop → Type 0
 Ended text fs u a i gs w (Ok _) =
     ((v : Reading) → (Ends text fs u.outer u.done i v → Ends text gs w.outer w.done i v) × (Ends text gs w.outer w.done i v → Ends text fs u.outer u.done i v))
     × Open gs w × (w.key ≡ None) × IsBlock (top gs) × (ends_before (top gs) a ≡ false) × Lasts u w
@@ -277,12 +277,12 @@ Missed text s a = (t : List ℕ) (j : ℕ) → scalar_ahead text s a ≡ Stands 
 abbrev pub Failed : List ℕ → Setting → Ahead → Type 0
 Failed text s a = Missed text s a × ((p : ℕ) → scalar_ahead text s a ≡ Documents p → ⊥)
 
-abbrev pub Divides : List ℕ → Setting → Ahead → YamlRefusal → Type 0
+abbrev pub Divides : List ℕ → Setting → Ahead → Stop → Type 0
 Divides text s a e = (p : ℕ) × (e ≡ refusal.ManyDocuments p) × (scalar_ahead text s a ≡ Documents p)
 
-abbrev pub Finds : List ℕ → Setting → Ahead → Result Scalar YamlRefusal → Type 0
+abbrev pub Finds : List ℕ → Setting → Ahead → Result Scalar Stop → Type 0
 Finds text s a (Ok c) = Found text s a (cow_str_bytes c.text) c.kind c.end
-Finds text s a (Err e) = (e ≡ refusal.NoMemory) ⊎ (((e ≡ refusal.Unread) × Failed text s a) ⊎ Divides text s a e)
+Finds text s a (Err e) = (e ≡ refusal.NoMemory) ⊎ ((((q : ℕ) × (e ≡ refusal.Unread q)) × Failed text s a) ⊎ Divides text s a e)
 
 -- a key with its colon stands at a token outside of flow, or none does
 abbrev pub NoKey : List ℕ → Ahead → Type 0
@@ -295,7 +295,7 @@ HasKey text a k = IsKey text a (cow_str_bytes k.text) k.behind × IsCharBoundary
 abbrev pub EndsKey : List ℕ → Ahead → Type 0
 EndsKey text a = (t : List ℕ) (j : ℕ) → scalar_ahead text (as_key false) a ≡ Stands t j → (a.at < j) × IsCharBoundary text j
 
-abbrev pub FindsKey : List ℕ → Ahead → Result (Option Key) YamlRefusal → Type 0
+abbrev pub FindsKey : List ℕ → Ahead → Result (Option Key) Stop → Type 0
 FindsKey text a (Ok None) = NoKey text a
 FindsKey text a (Ok (Some k)) = HasKey text a k × EndsKey text a
 FindsKey text a (Err e) = e ≡ refusal.NoMemory
@@ -352,7 +352,7 @@ SameStep text other stage.Whole f i = Unit {0}
 -- ---- collections that begin and end
 
 -- a further collection was refused: there was no memory, or there are 128
-abbrev pub Deep : Unfinished → ℕ → YamlRefusal → Type 0
+abbrev pub Deep : Unfinished → ℕ → Stop → Type 0
 Deep u at e = (e ≡ refusal.NoMemory) ⊎ ((e ≡ refusal.TooDeep at) × (length u.outer ≡ 128))
 
 -- the text that a value keeps
@@ -363,7 +363,7 @@ leaf_text k t = if has_text k then t else []
 abbrev pub with_pair : List ℕ → List ℕ → ℕ → Unfinished → Unfinished
 with_pair s t at u = with_end (with_value kind.Text t at (with_value kind.Text s at (with_open kind.List at u)))
 
-abbrev pub Paired : List ℕ → List ℕ → ℕ → ℕ → Unfinished → Unfinished → Result Position YamlRefusal → Type 0
+abbrev pub Paired : List ℕ → List ℕ → ℕ → ℕ → Unfinished → Unfinished → Result Position Stop → Type 0
 Paired s t at end u w (Ok p) = (p.stage ≡ stage.After) × (p.at ≡ end) × (w ≡ with_pair s t at u) × (length u.outer < 128)
 Paired s t at end u w (Err e) = Deep u at e
 
@@ -377,32 +377,32 @@ IsRoom false u = Unit {0}
 IsRoom true u = length u.outer < 128
 
 -- a scalar became a value
-abbrev pub Holds : List ℕ → Setting → Bool → Ahead → Unfinished → Unfinished → Result Position YamlRefusal → Type 0
+abbrev pub Holds : List ℕ → Setting → Bool → Ahead → Unfinished → Unfinished → Result Position Stop → Type 0
 Holds text s cuts a u w (Ok p) = (t : List ℕ) × (k : Kind) × Found text s a t k p.at × (p.stage ≡ stage.After) × (w ≡ with_scalar (is_cut cuts k t) k t a.at u) × IsRoom (is_cut cuts k t) u
 Holds text s cuts a u w (Err e) =
-    (e ≡ refusal.NoMemory) ⊎ (((e ≡ refusal.Unread) × Failed text s a) ⊎ (Divides text s a e
+    (e ≡ refusal.NoMemory) ⊎ ((((q : ℕ) × (e ≡ refusal.Unread q)) × Failed text s a) ⊎ (Divides text s a e
     ⊎ ((t : List ℕ) × (k : Kind) × (j : ℕ) × Found text s a t k j × (is_cut cuts k t ≡ true) × (e ≡ refusal.TooDeep a.at) × (length u.outer ≡ 128))))
 
 -- a collection of a form began
-abbrev pub Begun : Form → Ahead → List Form → Unfinished → List Form → Unfinished → Result (Unit {0}) YamlRefusal → Type 0
+abbrev pub Begun : Form → Ahead → List Form → Unfinished → List Form → Unfinished → Result (Unit {0}) Stop → Type 0
 Begun f a fs u gs w (Ok _) = (gs ≡ f ∷ fs) × (w ≡ with_open (open_kind (has_keys f)) a.at u) × (length u.outer < 128)
 Begun f a fs u gs w (Err e) = Deep u a.at e
 
 -- the map of a tag began, with its key
-abbrev pub TagBegun : List ℕ → Form → Ahead → List Form → Unfinished → List Form → Unfinished → Result Position YamlRefusal → Type 0
+abbrev pub TagBegun : List ℕ → Form → Ahead → List Form → Unfinished → List Form → Unfinished → Result Position Stop → Type 0
 TagBegun text f a fs u gs w (Ok p) = (p.stage ≡ stage.Value) × (p.at ≡ a.behind) × (gs ≡ f ∷ fs) × (w ≡ with_key (tag_key (tag_name text a.at a.behind)) (with_open kind.Map a.at u)) × (length u.outer < 128)
 TagBegun text f a fs u gs w (Err e) = Deep u a.at e
 
-abbrev pub Opened : Bool → Ahead → List Form → Unfinished → List Form → Unfinished → Result Position YamlRefusal → Type 0
+abbrev pub Opened : Bool → Ahead → List Form → Unfinished → List Form → Unfinished → Result Position Stop → Type 0
 Opened map a fs u gs w (Ok p) = (p.stage ≡ stage.Entry) × (p.at ≡ a.behind) × (gs ≡ Flow map ∷ fs) × (w ≡ with_open (open_kind map) a.at u) × (length u.outer < 128)
 Opened map a fs u gs w (Err e) = Deep u a.at e
 
 -- brackets ended
-abbrev pub Closed : ℕ → List Form → Unfinished → List Form → Unfinished → Result Position YamlRefusal → Type 0
+abbrev pub Closed : ℕ → List Form → Unfinished → List Form → Unfinished → Result Position Stop → Type 0
 Closed at fs u gs w (Ok p) = (p.stage ≡ stage.After) × (p.at ≡ at) × ((f : Form) × (fs ≡ f ∷ gs)) × (w ≡ with_end u)
 Closed at fs u gs w (Err e) = e ≡ refusal.NoMemory
 
 -- a node is complete, and this is the unfinished tree
-abbrev pub Completes : ℕ → Unfinished → Unfinished → Result Position YamlRefusal → Type 0
+abbrev pub Completes : ℕ → Unfinished → Unfinished → Result Position Stop → Type 0
 Completes at u w (Ok p) = (p.stage ≡ stage.After) × (p.at ≡ at) × (w ≡ u)
 Completes at u w (Err e) = e ≡ refusal.NoMemory

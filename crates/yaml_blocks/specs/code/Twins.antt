@@ -1,8 +1,9 @@
 -- What the bytes that were looked at fix: it is so in each text that has them too.
-use Rattle.std.specs.Prelude.{ℕ, ◌≡◌, ◌≤◌, Bool, true, false, List, [], Result, Ok, Err, IsUtf8, drop}
+use Rattle.std.specs.Prelude.{ℕ, ◌≡◌, ◌≤◌, ◌<◌, ◌⊎◌, length, Bool, true, false, List, [], Result, Ok, Err, IsUtf8, drop}
 use Rattle.std.specs.Str.{IsCharBoundary}
 use Rattle.doc_values.specs.Tree.{Forest}
 use Rattle.doc_values.specs.Unfinished.{Unfinished}
+use Rattle.yaml_scalars.specs.Lines.{begins_with}
 use Rattle.yaml_scalars.specs.Scalar.{begins_order_mark}
 use Rattle.yaml_scalars.specs.code.Walk.{ends_line}
 use Rattle.yaml_laws.specs.code.Agreement.{AgreesTo}
@@ -12,10 +13,12 @@ use Rattle.yaml_blocks.specs.declared.form.Form.TheVariants.{Flow}
 use Rattle.yaml_blocks.specs.declared.stage.Stage.{Stage}
 use Rattle.yaml_blocks.specs.declared.stage.Stage.TheVariants as stage
 use Rattle.yaml_blocks.specs.declared.stage.Position.{Position}
-use Rattle.yaml_blocks.specs.declared.refusal.YamlRefusal.{YamlRefusal}
+use Rattle.yaml_blocks.specs.declared.stop.Stop.{Stop}
+use Rattle.yaml_blocks.specs.declared.stop.Stop.TheVariants as stop
+use Rattle.yaml_blocks.specs.Ahead.{ahead}
 use Rattle.yaml_blocks.specs.Signs.{Tree}
 use Rattle.yaml_blocks.specs.Yaml.{IsStart}
-use Rattle.yaml_blocks.specs.code.AheadSeen.{ahead_seen}
+use Rattle.yaml_blocks.specs.code.AheadSeen.{ahead_seen, is_told}
 use Rattle.yaml_blocks.specs.code.Rest.{Begins}
 use Rattle.yaml_blocks.specs.code.Steps.{Rest, Fits, SameNode, SameFlowNode, SameFlowKey, SameKey, SameEnd, SameStep}
 
@@ -27,31 +30,41 @@ pub record IsTwin (text : List ℕ) (place : ℕ) (other : List ℕ) : Type 0 wh
   pub agrees : AgreesTo place text other
   pub breaks : ends_line (drop place text) ≡ ends_line (drop place other)
 
+-- a place shows what is ahead of another one, as a token that its first byte tells; or it is the text's length
+abbrev pub IsShown : List ℕ → Bool → ℕ → ℕ → Type 0
+IsShown text flow i q = (q ≡ length text) ⊎ ((is_told (ahead text flow i).token ≡ true) × (ahead_seen text i ≡ q) × (q < length text) × (begins_with 13 (drop q text) ≡ false))
+
+-- where reading stops and no sign counts: the place shows what is ahead, and if it lies in the text, it is so in each other text
+abbrev pub Stops : List ℕ → Bool → ℕ → (List ℕ → Type 0) → Result Position Stop → Type 0
+Stops text flow i none (Ok p) = Unit {0}
+Stops text flow i none (Err (stop.Unread q)) = IsShown text flow i q × (q < length text → (other : List ℕ) → none other)
+Stops text flow i none (Err _) = Unit {0}
+
 -- where reading goes on at a place: what holds of each text that is the same as far as this place is looked at
-abbrev pub Fixes : List ℕ → (ℕ → List ℕ → Type 0) → Result Position YamlRefusal → Type 0
+abbrev pub Fixes : List ℕ → (ℕ → List ℕ → Type 0) → Result Position Stop → Type 0
 Fixes text holds (Ok p) = (p.stage ≡ stage.Whole → ⊥) → (place : ℕ) (other : List ℕ) → IsTwin text place other → ahead_seen text p.at ≤ place → holds place other
 Fixes text holds (Err e) = Unit {0}
 
 -- the place that was read is looked at too, and what was found there is there
-abbrev pub FixesNode : List ℕ → Form → ℕ → Ahead → Result Position YamlRefusal → Type 0
+abbrev pub FixesNode : List ℕ → Form → ℕ → Ahead → Result Position Stop → Type 0
 FixesNode text f i a r = Fixes text (λ place other. (ahead_seen text i ≤ place) × SameNode text other f i a) r
 
-abbrev pub FixesFlowNode : List ℕ → Form → ℕ → Ahead → Result Position YamlRefusal → Type 0
+abbrev pub FixesFlowNode : List ℕ → Form → ℕ → Ahead → Result Position Stop → Type 0
 FixesFlowNode text f i a r = Fixes text (λ place other. (ahead_seen text i ≤ place) × SameFlowNode text other f i a) r
 
-abbrev pub FixesFlowKey : List ℕ → ℕ → Ahead → Result Position YamlRefusal → Type 0
+abbrev pub FixesFlowKey : List ℕ → ℕ → Ahead → Result Position Stop → Type 0
 FixesFlowKey text i a r = Fixes text (λ place other. (ahead_seen text i ≤ place) × SameFlowKey text other a) r
 
-abbrev pub FixesEntry : List ℕ → Bool → ℕ → Ahead → Result Position YamlRefusal → Type 0
+abbrev pub FixesEntry : List ℕ → Bool → ℕ → Ahead → Result Position Stop → Type 0
 FixesEntry text map i a r = Fixes text (λ place other. (ahead_seen text i ≤ place) × (map ≡ true → SameFlowKey text other a) × (map ≡ false → SameFlowNode text other (Flow false) i a)) r
 
-abbrev pub FixesEnd : List ℕ → ℕ → Ahead → Result Position YamlRefusal → Type 0
+abbrev pub FixesEnd : List ℕ → ℕ → Ahead → Result Position Stop → Type 0
 FixesEnd text i a r = Fixes text (λ place other. (ahead_seen text i ≤ place) × SameEnd text other i × SameKey text other a) r
 
-abbrev pub FixesSeen : List ℕ → ℕ → Result Position YamlRefusal → Type 0
+abbrev pub FixesSeen : List ℕ → ℕ → Result Position Stop → Type 0
 FixesSeen text i r = Fixes text (λ place other. ahead_seen text i ≤ place) r
 
-abbrev pub FixesStep : List ℕ → Stage → Form → ℕ → Result Position YamlRefusal → Type 0
+abbrev pub FixesStep : List ℕ → Stage → Form → ℕ → Result Position Stop → Type 0
 FixesStep text s f i r = Fixes text (λ place other. (ahead_seen text i ≤ place) × SameStep text other s f i) r
 
 -- where a document is one, something may follow
@@ -63,6 +76,6 @@ abbrev pub FixesStart : List ℕ → ℕ → Type 0
 FixesStart text start = (place : ℕ) (other : List ℕ) → IsTwin text place other → ahead_seen text start ≤ place → IsStart other start × IsCharBoundary other start
 
 -- where it does, its root may follow
-abbrev pub FixesRoot : List ℕ → ℕ → Unfinished → Result Position YamlRefusal → Type 0
+abbrev pub FixesRoot : List ℕ → ℕ → Unfinished → Result Position Stop → Type 0
 FixesRoot text i w (Ok p) = (place : ℕ) (other : List ℕ) → IsTwin text place other → ahead_seen text p.at ≤ place → (ahead_seen text i ≤ place) × (IsCharBoundary other i → Alive other (λ t. Begins other i (Tree t)) [] w p)
 FixesRoot text i w (Err e) = Unit {0}

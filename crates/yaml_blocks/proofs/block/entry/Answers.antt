@@ -1,5 +1,5 @@
 use Rattle.std.proofs.lemmas.Grind.{common_steps}
-use Rattle.std.proofs.Common.{◌≡◌, ◌⊎◌, true, false, refl, sym, subst, arith, ◌+◌, ◌*◌}
+use Rattle.std.proofs.Common.{ap, ◌≡◌, ◌⊎◌, true, false, refl, sym, subst, arith, ◌+◌, ◌*◌}
 use Rattle.std.specs.Prelude.{Err}
 use Rattle.std.specs.Cow.{cow_str_bytes}
 use Rattle.doc_values.specs.declared.builder.BuildRefusal.TheVariants as build
@@ -15,6 +15,11 @@ use Rattle.yaml_blocks.proofs.Gains.{found_key}
 use Rattle.yaml_blocks.proofs.SameTexts.{found_same, finds_same, has_key_same}
 use Rattle.yaml_blocks.proofs.BlockGains.{Behind, nothing_follows, entry_deep, entry_signed_gives, entry_missed, entry_goes, entry_refused, no_colon}
 use Rattle.yaml_blocks.proofs.Fixed.{entry_fixes}
+use Rattle.yaml_blocks.proofs.Stopped.{told_stops, signed_stops, built_stops, far_stops, length_stops}
+use Rattle.yaml_blocks.specs.Signs.{Reading}
+use Rattle.yaml_blocks.specs.Nodes.{node_sign}
+use Rattle.yaml_blocks.specs.code.Rest.{Ends, Inside}
+use Rattle.yaml_blocks.specs.code.Steps.{IsSeen}
 use Rattle.yaml_blocks.proofs.block.entry.Goals as goal
 
 pub returns-then-next-column-clause-gives : goal.returns-then-next-column-clause-gives
@@ -25,7 +30,7 @@ returns-then-next-column-clause-gives c = λ text seen inside calm same.
 pub returns-in-Err-clause-gives : goal.returns-in-Err-clause-gives
 returns-in-Err-clause-gives c = λ text seen inside calm same.
     entry_missed text c.args.column (stack c.args.forms.now) c.args.builder.now c.args.builder.now c.args.at c.args.next c.as_key.result c.in-Err.refusal c.as_key.ensures seen.0 inside c.requires.form c.requires.open
-    c.if-next-column.false calm c.in-None.ensures (finds_same c.args.text.now text c.as_key.result c.args.next (subst (λ z. SameScalar c.args.text.now text z c.args.next) (sym c.as_key.ensures) same.scalar) c.in-Err.refusal c.in-Err.ensures)
+    c.if-next-column.false calm c.in-None.ensures (finds_same c.args.text.now text c.as_key.result c.args.next (subst (λ z. SameScalar c.args.text.now text z c.args.next) (sym c.as_key.ensures) same.scalar) c.in-Err.refusal c.in-Err.ensures.finds)
 
 pub key-requires : goal.key-requires
 key-requires c = record { awaited = awaits_key (Entries c.args.column) (stack c.args.forms.now) c.args.builder.now c.requires.form (λ e. absurd (cc)) refl c.requires.open.0 c.requires.awaited }
@@ -36,7 +41,7 @@ returns-in-Some-colon_behind-clause-gives c = λ text seen inside calm same.
     let words = cow_str_bytes c.in-Ok.scalar.text in
     let end = c.in-Ok.scalar.end in
     let behind = c.in-Some-colon_behind.behind in
-    let g = found_key this c.as_key.result (as_key false) c.args.next words c.in-Ok.scalar.kind end c.as_key.ensures c.in-Ok.ensures in
+    let g = found_key this c.as_key.result (as_key false) c.args.next words c.in-Ok.scalar.kind end c.as_key.ensures c.in-Ok.ensures.finds in
     let f = found_same this text (as_key false) c.args.next same.scalar words c.in-Ok.scalar.kind end g in
     let h = c.in-Some-colon_behind.ensures in
     let there = has_key_same this text c.args.next same (record { text = c.in-Ok.scalar.text; behind = behind }) ((end, g.0, h.0, h.1, h.2), h.3, omega (arith, g.2, h.4)) in
@@ -48,7 +53,7 @@ pub returns-in-None-colon_behind-clause-gives : goal.returns-in-None-colon_behin
 returns-in-None-colon_behind-clause-gives c = λ text seen inside calm same.
     let this = c.args.text.now in
     let words = cow_str_bytes c.in-Ok.scalar.text in
-    let g = found_key this c.as_key.result (as_key false) c.args.next words c.in-Ok.scalar.kind c.in-Ok.scalar.end c.as_key.ensures c.in-Ok.ensures in
+    let g = found_key this c.as_key.result (as_key false) c.args.next words c.in-Ok.scalar.kind c.in-Ok.scalar.end c.as_key.ensures c.in-Ok.ensures.finds in
     let f = found_same this text (as_key false) c.args.next same.scalar words c.in-Ok.scalar.kind c.in-Ok.scalar.end g in
     no_colon text c.args.column (stack c.args.forms.now) c.args.builder.now c.args.at c.in-Ok.scalar.end c.args.next words seen.0 inside c.requires.form c.requires.open c.if-next-column.false f.0 c.in-Ok-key.ensures.ok.1
     (subst (λ (x : Ahead). x.fresh ≡ false → x.token ≡ Point true → ⊥) (sym (same.behind words c.in-Ok.scalar.end g.0)) c.in-None-colon_behind.ensures)
@@ -59,7 +64,7 @@ returns-in-Err-key-clause-gives c = λ text seen inside calm same.
     let fs = stack c.args.forms.now in
     let u = c.args.builder.now in
     let words = cow_str_bytes c.in-Ok.scalar.text in
-    let g = found_key this c.as_key.result (as_key false) c.args.next words c.in-Ok.scalar.kind c.in-Ok.scalar.end c.as_key.ensures c.in-Ok.ensures in
+    let g = found_key this c.as_key.result (as_key false) c.args.next words c.in-Ok.scalar.kind c.in-Ok.scalar.end c.as_key.ensures c.in-Ok.ensures.finds in
     let f = found_same this text (as_key false) c.args.next same.scalar words c.in-Ok.scalar.kind c.in-Ok.scalar.end g in
     subst (λ e. Gives text (Behind text fs u c.args.at) (2 * c.args.at + 2) fs c.key.new.self (Err e)) (sym c.from.ensures)
     (entry_refused text c.args.column fs u c.key.new.self c.args.at c.in-Ok.scalar.end c.args.next words c.in-Err-key.refusal seen c.requires.fresh inside c.requires.form c.requires.open c.if-next-column.false f.0
@@ -82,6 +87,24 @@ returns-in-Some-colon_behind-clause-fixes c =
     let words = cow_str_bytes c.in-Ok.scalar.text in
     let end = c.in-Ok.scalar.end in
     let behind = c.in-Some-colon_behind.behind in
-    let g = found_key this c.as_key.result (as_key false) c.args.next words c.in-Ok.scalar.kind end c.as_key.ensures c.in-Ok.ensures in
+    let g = found_key this c.as_key.result (as_key false) c.args.next words c.in-Ok.scalar.kind end c.as_key.ensures c.in-Ok.ensures.finds in
     let h = c.in-Some-colon_behind.ensures in
     entry_fixes this c.args.at c.args.next words behind end (record { stage = stage.Value; at = behind }) c.requires.seen c.requires.boundary g.0 h.1 h.2 g.2 g.3 h.3 refl
+
+pub returns-then-next-column-clause-stops : goal.returns-then-next-column-clause-stops
+returns-then-next-column-clause-stops c =
+    let fs = stack c.args.forms.now in
+    told_stops c.args.text.now false c.args.at (λ text. IsSeen text false c.args.at c.args.next → Inside text c.args.at → (v : Reading) → Ends text (stack c.args.forms.now) c.args.builder.now.outer c.args.builder.now.done c.args.at v → ⊥) c.args.next c.told_place.result c.requires.seen.0 c.told_place.ensures
+    (λ text seen inside v h. nothing_follows text fs c.args.builder.now c.args.at c.args.next seen.0 inside (entry_deep text fs c.args.column c.args.next c.requires.open.1 c.requires.form c.requires.stays c.if-next-column.true) v h)
+
+pub returns-in-Some-clause-stops : goal.returns-in-Some-clause-stops
+returns-in-Some-clause-stops c = signed_stops c.args.text.now false c.args.at (λ text. IsSeen text false c.args.at c.args.next → Inside text c.args.at → (v : Reading) → Ends text (stack c.args.forms.now) c.args.builder.now.outer c.args.builder.now.done c.args.at v → ⊥) (node_sign false c.args.next.at c.args.next.token) c.in-Some.refusal c.in-Some.ensures
+
+pub returns-in-Err-clause-stops : goal.returns-in-Err-clause-stops
+returns-in-Err-clause-stops c = far_stops c.args.text.now false c.args.at (λ text. IsSeen text false c.args.at c.args.next → Inside text c.args.at → (v : Reading) → Ends text (stack c.args.forms.now) c.args.builder.now.outer c.args.builder.now.done c.args.at v → ⊥) c.in-Err.refusal (λ q e. c.in-Err.ensures.place q (ap Err e))
+
+pub returns-in-Err-key-clause-stops : goal.returns-in-Err-key-clause-stops
+returns-in-Err-key-clause-stops c = built_stops c.args.text.now false c.args.at (λ text. IsSeen text false c.args.at c.args.next → Inside text c.args.at → (v : Reading) → Ends text (stack c.args.forms.now) c.args.builder.now.outer c.args.builder.now.done c.args.at v → ⊥) c.in-Err-key.refusal c.from.result c.from.ensures
+
+pub returns-in-None-colon_behind-clause-stops : goal.returns-in-None-colon_behind-clause-stops
+returns-in-None-colon_behind-clause-stops c = length_stops c.args.text.now false c.args.at (λ text. IsSeen text false c.args.at c.args.next → Inside text c.args.at → (v : Reading) → Ends text (stack c.args.forms.now) c.args.builder.now.outer c.args.builder.now.done c.args.at v → ⊥) c.offset-in-None-colon_behind.result c.offset-in-None-colon_behind.ensures

@@ -1,5 +1,5 @@
 use Rattle.std.proofs.lemmas.Grind.{common_steps}
-use Rattle.std.proofs.Common.{List, ◌+◌, ◌*◌, arith, subst}
+use Rattle.std.proofs.Common.{false, List, ◌+◌, ◌*◌, arith, subst}
 use Rattle.yaml_blocks.specs.declared.form.Form.{Form}
 use Rattle.yaml_blocks.specs.code.Rest.{Ends}
 use Rattle.yaml_blocks.specs.code.Steps.{stack, Gives}
@@ -8,6 +8,12 @@ use Rattle.yaml_blocks.proofs.LastValues.{lasts_calm}
 use Rattle.yaml_blocks.proofs.Quiet.{line_quiet}
 use Rattle.yaml_blocks.proofs.Roots.{not_true}
 use Rattle.yaml_blocks.proofs.BlockGains.{nothing_follows}
+use Rattle.yaml_blocks.proofs.Stopped.{told_stops, memory_stops, stops_from}
+use Rattle.yaml_blocks.specs.Signs.{Reading}
+use Rattle.yaml_blocks.specs.code.Rest.{Inside}
+use Rattle.yaml_blocks.specs.code.Steps.{IsSeen}
+use Rattle.yaml_blocks.specs.code.Twins.{Stops}
+use Rattle.std.specs.Prelude.{ℕ}
 use Rattle.yaml_blocks.proofs.block.line.Goals as goal
 
 pub returns-then-not-next-clause-gives : goal.returns-then-not-next-clause-gives
@@ -33,3 +39,20 @@ head-requires-clause-open c = grind (arith, common_steps)
 
 pub returns-in-Err-clause-gives : goal.returns-in-Err-clause-gives
 returns-in-Err-clause-gives c = λ text seen inside calm same. memory_gives text (Ends text (stack c.args.forms.now.items) c.args.builder.now.outer c.args.builder.now.done c.args.at) (2 * c.args.at + 2) (stack c.end_before.new.forms.items) c.end_before.new.builder c.in-Err.refusal (c.in-Err.ensures text c.args.at seen.0)
+
+pub returns-then-not-next-clause-stops : goal.returns-then-not-next-clause-stops
+returns-then-not-next-clause-stops c =
+    let fs = stack c.args.forms.now.items in
+    told_stops c.args.text.now false c.args.at (λ text. IsSeen text false c.args.at c.args.next → Inside text c.args.at → (v : Reading) → Ends text (stack c.args.forms.now.items) c.args.builder.now.outer c.args.builder.now.done c.args.at v → ⊥) c.args.next c.told_place.result c.requires.seen.0 c.told_place.ensures
+    (λ text seen inside v h. nothing_follows text fs c.args.builder.now c.args.at c.args.next seen.0 inside (line_quiet text c.args.next fs c.requires.open.1 c.requires.block (not_true c.args.next.fresh c.if-not-next.true)) v h)
+
+pub returns-in-Err-clause-stops : goal.returns-in-Err-clause-stops
+returns-in-Err-clause-stops c = memory_stops c.args.text.now false c.args.at (λ text. IsSeen text false c.args.at c.args.next → Inside text c.args.at → (v : Reading) → Ends text (stack c.args.forms.now.items) c.args.builder.now.outer c.args.builder.now.done c.args.at v → ⊥) c.in-Err.refusal (c.in-Err.ensures c.args.text.now c.args.at c.requires.seen.0)
+
+pub returns-in-Ok-clause-stops : goal.returns-in-Ok-clause-stops
+returns-in-Ok-clause-stops c =
+    let at = c.args.at in
+    let w = c.end_before.new.builder in
+    let After : List Form → List ℕ → Type 0 = λ gs text. IsSeen text false at c.args.next → Inside text at → (v : Reading) → Ends text (stack gs) w.outer w.done at v → ⊥ in
+    stops_from c.args.text.now false at (After c.end_before.new.forms.items) (λ text. IsSeen text false c.args.at c.args.next → Inside text c.args.at → (v : Reading) → Ends text (stack c.args.forms.now.items) c.args.builder.now.outer c.args.builder.now.done c.args.at v → ⊥) c.head.result (λ text k seen inside v h. k seen inside v (((c.in-Ok.ensures text at seen.0).0 v).0 h))
+    (subst (λ (x : List Form). Stops c.args.text.now false at (After x) c.head.result) c.deref-in-Ok.ensures.value c.head.ensures.stops)

@@ -4,6 +4,10 @@ use Rattle.yaml_blocks.specs.declared.stage.Stage.TheVariants as stage
 use Rattle.yaml_blocks.specs.code.Steps.{stack, IsSeen}
 use Rattle.yaml_blocks.proofs.Gains.{closed_after_gives, comma_gives, marked_after_gives, none_follows}
 use Rattle.yaml_blocks.proofs.Fixed.{closed_seen, comma_seen}
+use Rattle.yaml_blocks.proofs.Stopped.{told_stops, closed_stops}
+use Rattle.yaml_blocks.specs.Signs.{Reading}
+use Rattle.yaml_blocks.specs.code.Rest.{Ends}
+use Rattle.yaml_blocks.specs.Ahead.{ahead}
 use Rattle.yaml_blocks.proofs.flow.after.Goals as goal
 
 pub returns-then-closes-clause-gives : goal.returns-then-closes-clause-gives
@@ -34,3 +38,16 @@ returns-then-closes-clause-fixes c = closed_seen c.args.text.now c.args.at c.arg
 
 pub returns-in-Comma-clause-fixes : goal.returns-in-Comma-clause-fixes
 returns-in-Comma-clause-fixes c = comma_seen c.args.text.now c.args.at c.look-next.result (record { stage = stage.Entry; at = c.look-next.result.behind }) c.look-next.ensures c.in-Comma.is refl
+
+pub returns-in_default-clause-stops : goal.returns-in_default-clause-stops
+returns-in_default-clause-stops c =
+    told_stops c.args.text.now true c.args.at (λ other. IsSeen other true c.args.at (ahead c.args.text.now true c.args.at) → (v : Reading) → Ends other (stack c.args.forms.now.items) c.args.builder.now.outer c.args.builder.now.done c.args.at v → ⊥) c.look-next.result c.told_place.result
+    c.look-next.ensures.0 c.told_place.ensures (λ text seen v h.
+    (let now = subst (λ (a : Ahead). IsSeen text true c.args.at a) (sym c.look-next.ensures.0) seen in
+    none_follows text c.args.map (stack c.args.forms.now.items) c.args.builder.now.outer c.args.builder.now.done c.args.at c.look-next.result now.0 c.in_default.not-Comma (c.closes.ensures.no c.if-closes.false) (sym c.is_marked.ensures ∙ c.if-is_marked.false) c.requires.form
+    c.requires.open.0 v h))
+
+pub returns-then-closes-clause-stops : goal.returns-then-closes-clause-stops
+returns-then-closes-clause-stops c =
+    closed_stops c.args.text.now true c.args.at (λ other. IsSeen other true c.args.at (ahead c.args.text.now true c.args.at) → (v : Reading) → Ends other (stack c.args.forms.now.items) c.args.builder.now.outer c.args.builder.now.done c.args.at v → ⊥)
+    c.look-next.result.behind (stack c.args.forms.now.items) (stack c.close.new.forms.items) c.args.builder.now c.close.new.builder c.close.result c.close.ensures

@@ -18,14 +18,14 @@ use Rattle.yaml_blocks.proofs.flow.key.Goals as goal
 
 pub returns-in-Err-clause-gives : goal.returns-in-Err-clause-gives
 returns-in-Err-clause-gives c = λ text seen same. find_refused text (stack c.args.forms.now) c.args.builder.now c.args.builder.now c.args.at c.args.next c.as_key.result c.in-Err.refusal c.as_key.ensures seen.0 c.requires.there c.in-None.ensures c.requires.unmarked c.requires.form c.requires.open
-    (finds_same c.args.text.now text c.as_key.result c.args.next (subst (λ z. SameScalar c.args.text.now text z c.args.next) (sym c.as_key.ensures) same.scalar) c.in-Err.refusal c.in-Err.ensures)
+    (finds_same c.args.text.now text c.as_key.result c.args.next (subst (λ z. SameScalar c.args.text.now text z c.args.next) (sym c.as_key.ensures) same.scalar) c.in-Err.refusal c.in-Err.ensures.finds)
 
 pub returns-in-None-colon-clause-gives : goal.returns-in-None-colon-clause-gives
 returns-in-None-colon-clause-gives c = λ text seen same.
     let this = c.args.text.now in
     let words = cow_str_bytes c.in-Ok.scalar.text in
     let quoted : c.is_quoted.result ≡ begins_quoted (drop c.args.next.at this) = c.is_quoted.ensures ∙ ap (λ (t : List ℕ). begins_quoted (drop c.args.next.at t)) c.as_bytes.ensures.value in
-    let g = found_key this c.as_key.result (as_key true) c.args.next words c.in-Ok.scalar.kind c.in-Ok.scalar.end c.as_key.ensures c.in-Ok.ensures in
+    let g = found_key this c.as_key.result (as_key true) c.args.next words c.in-Ok.scalar.kind c.in-Ok.scalar.end c.as_key.ensures c.in-Ok.ensures.finds in
     let f = found_same this text (as_key true) c.args.next same.scalar words c.in-Ok.scalar.kind c.in-Ok.scalar.end g in
     no_colon text (stack c.args.forms.now) c.args.builder.now.outer c.args.builder.now.done c.args.at c.in-Ok.scalar.end c.args.next words seen.0 c.requires.there c.requires.form c.requires.open.0 f.0 c.in-Ok-key.ensures.ok.1
     (λ p h. c.in-None-colon.ensures p (colon_here this text c.args.next same words c.in-Ok.scalar.end g.0 c.is_quoted.result p quoted h))
@@ -36,7 +36,7 @@ returns-in-Some-colon-clause-gives c = λ text seen same.
     let words = cow_str_bytes c.in-Ok.scalar.text in
     let place = c.in-Some-colon.place in
     let quoted : c.is_quoted.result ≡ begins_quoted (drop c.args.next.at this) = c.is_quoted.ensures ∙ ap (λ (t : List ℕ). begins_quoted (drop c.args.next.at t)) c.as_bytes.ensures.value in
-    let g = found_key this c.as_key.result (as_key true) c.args.next words c.in-Ok.scalar.kind c.in-Ok.scalar.end c.as_key.ensures c.in-Ok.ensures in
+    let g = found_key this c.as_key.result (as_key true) c.args.next words c.in-Ok.scalar.kind c.in-Ok.scalar.end c.as_key.ensures c.in-Ok.ensures.finds in
     let f = found_same this text (as_key true) c.args.next same.scalar words c.in-Ok.scalar.kind c.in-Ok.scalar.end g in
     let h = c.in-Some-colon.ensures in
     let k = c.in-Ok-key.ensures in
@@ -49,7 +49,7 @@ returns-in-Err-key-clause-gives c = λ text seen same.
     let this = c.args.text.now in
     let words = cow_str_bytes c.in-Ok.scalar.text in
     let u = c.args.builder.now in
-    let g = found_key this c.as_key.result (as_key true) c.args.next words c.in-Ok.scalar.kind c.in-Ok.scalar.end c.as_key.ensures c.in-Ok.ensures in
+    let g = found_key this c.as_key.result (as_key true) c.args.next words c.in-Ok.scalar.kind c.in-Ok.scalar.end c.as_key.ensures c.in-Ok.ensures.finds in
     let f = found_same this text (as_key true) c.args.next same.scalar words c.in-Ok.scalar.kind c.in-Ok.scalar.end g in
     let k = c.in-Err-key.ensures in
     subst (λ e. Gives text (Enters text (stack c.args.forms.now) u.outer u.done c.args.at) (2 * c.args.at + 2) (stack c.args.forms.now) c.key.new.self (Err e)) (sym c.from.ensures)
@@ -73,6 +73,6 @@ returns-in-Some-colon-clause-fixes c =
     let words = cow_str_bytes c.in-Ok.scalar.text in
     let end = c.in-Ok.scalar.end in
     let place = c.in-Some-colon.place in
-    let g = found_key this c.as_key.result (as_key true) c.args.next words c.in-Ok.scalar.kind end c.as_key.ensures c.in-Ok.ensures in
+    let g = found_key this c.as_key.result (as_key true) c.args.next words c.in-Ok.scalar.kind end c.as_key.ensures c.in-Ok.ensures.finds in
     let h = c.in-Some-colon.ensures in
     flow_key_fixes this c.args.at c.args.next c.is_quoted.result words place end (record { stage = stage.Value; at = place }) c.requires.seen c.requires.boundary g.0 g.2 g.3 h.0 h.1 refl

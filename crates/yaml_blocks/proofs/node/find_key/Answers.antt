@@ -11,7 +11,7 @@ returns c =
     let text = c.args.text.now in
     let words = cow_str_bytes c.in-Ok.scalar.text in
     let end = c.in-Ok.scalar.end in
-    let g = found_key text c.as_key.result (as_key false) c.args.next words c.in-Ok.scalar.kind end c.as_key.ensures c.in-Ok.ensures in
+    let g = found_key text c.as_key.result (as_key false) c.args.next words c.in-Ok.scalar.kind end c.as_key.ensures c.in-Ok.ensures.finds in
     let h = c.in-Some.ensures in
     (((end, g.0, h.0, h.1, h.2), h.3, omega (arith, g.2, h.4)), ends_key text c.args.next words c.in-Ok.scalar.kind end g)
 

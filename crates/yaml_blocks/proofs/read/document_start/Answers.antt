@@ -1,7 +1,7 @@
 use Rattle.std.proofs.Common.{◌≡◌, false, refl}
 use Rattle.yaml_blocks.proofs.Gains.{seen_behind, untold}
 use Rattle.yaml_blocks.proofs.Roots.{start_refused, start_solid, marked_refused, starts_behind, starts_there}
-use Rattle.yaml_blocks.specs.declared.refusal.YamlRefusal.TheVariants.{NoMemory}
+use Rattle.yaml_blocks.specs.declared.stop.Stop.TheVariants.{NoMemory}
 use Rattle.yaml_blocks.specs.Yaml.{start_sign}
 use Rattle.yaml_blocks.proofs.Lives.{fixed_behind, fixed_there}
 use Rattle.yaml_blocks.proofs.read.document_start.Goals as goal

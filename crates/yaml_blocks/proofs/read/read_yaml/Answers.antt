@@ -2,7 +2,8 @@ use Rattle.std.proofs.lemmas.Grind.{common_steps}
 use Rattle.std.proofs.Common.{sym, ap, subst, List, [], length, arith}
 use Rattle.doc_values.specs.Tree.{Forest}
 use Rattle.yaml_blocks.specs.declared.form.Form.{Form}
-use Rattle.yaml_blocks.specs.Answers.{Reads}
+use Rattle.yaml_blocks.specs.declared.refusal.YamlRefusal.{YamlRefusal}
+use Rattle.yaml_blocks.specs.Answers.{Reads, Refuses}
 use Rattle.yaml_blocks.specs.code.Steps.{stack, Rest, reached}
 use Rattle.yaml_blocks.specs.code.Rest.{top}
 use Rattle.yaml_blocks.proofs.SameTexts.{same_step}
@@ -11,7 +12,9 @@ use Rattle.yaml_blocks.proofs.Roots.{nearer, root_same, whole_tree, whole_comple
 use Rattle.yaml_blocks.proofs.read.read_yaml.Goals as goal
 
 pub returns-in-Err-root-clause-answer : goal.returns-in-Err-root-clause-answer
-returns-in-Err-root-clause-answer c = root_refused c.args.text.now c.in-Ok.start 0 [] c.root.new.builder c.in-Err-root.refusal c.in-Ok.ensures.start.0 c.in-Ok.ensures.start.2 c.in-Err-root.ensures.gives
+returns-in-Err-root-clause-answer c =
+    subst (λ (e : YamlRefusal). Refuses c.args.text.now e) (sym c.refusal_of-in-Err-root.ensures)
+    (root_refused c.args.text.now c.in-Ok.start 0 [] c.root.new.builder c.in-Err-root.stop c.in-Ok.ensures.start.0 c.in-Ok.ensures.start.2 c.in-Err-root.ensures.gives)
 
 pub loop-alloc-init : goal.loop-alloc-init
 loop-alloc-init c =
@@ -33,8 +36,9 @@ loop-alloc-preserved c =
 pub returns-in-Err-step-clause-answer : goal.returns-in-Err-step-clause-answer
 returns-in-Err-step-clause-answer c =
     let p = c.loop-alloc.position in
-    refuses c.args.text.now (Rest c.args.text.now p.stage (stack c.loop-alloc.forms.items) c.loop-alloc.builder p.at) (reached p.stage p.at) (stack c.step.new.forms.items) c.step.new.builder c.in-Err-step.refusal c.loop-alloc.invariant.0.0
-    (c.in-Err-step.ensures.gives c.args.text.now c.utf8.text c.loop-alloc.invariant.0.2 c.loop-alloc.invariant.0.1 (same_step c.args.text.now p.stage (top (stack c.loop-alloc.forms.items)) p.at))
+    subst (λ (e : YamlRefusal). Refuses c.args.text.now e) (sym c.refusal_of-in-Err-step.ensures)
+    (refuses c.args.text.now (Rest c.args.text.now p.stage (stack c.loop-alloc.forms.items) c.loop-alloc.builder p.at) (reached p.stage p.at) (stack c.step.new.forms.items) c.step.new.builder c.in-Err-step.stop c.loop-alloc.invariant.0.0
+    (c.in-Err-step.ensures.gives c.args.text.now c.utf8.text c.loop-alloc.invariant.0.2 c.loop-alloc.invariant.0.1 (same_step c.args.text.now p.stage (top (stack c.loop-alloc.forms.items)) p.at)))
 
 pub finish-requires : goal.finish-requires
 finish-requires c =

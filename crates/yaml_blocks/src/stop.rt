@@ -1,0 +1,64 @@
+//! Why reading stops.
+ghost use Rattle.std.specs.Prelude.{◌≡◌};
+ghost use Rattle.yaml_blocks.specs.code.Refused.{of_scalar, of_stop};
+
+use crate::refusal::YamlRefusal;
+use doc_values::BuildRefusal;
+use yaml_scalars::ScalarRefusal;
+
+/// Why reading stops: a refusal of the text. Where no sign counts it has a place too, which the refusal does not say yet.
+#[derive(Clone, Copy)]
+pub(crate) enum Stop {
+    Unread(u32),
+    Tab(u32),
+    Anchor(u32),
+    Tag(u32),
+    Directive(u32),
+    ManyDocuments(u32),
+    DuplicateKey(u32),
+    TooDeep(u32),
+    NoMemory,
+}
+
+impl From<BuildRefusal> for Stop {
+    ghost use Rattle.std.specs.Prelude.{◌≡◌};
+    ghost use Rattle.yaml_blocks.specs.code.Refused.{of_build};
+
+    ghost from_gives = { λ r e. e ≡ of_build r };
+
+    fn from(refusal: BuildRefusal) -> Stop {
+        match refusal {
+            BuildRefusal::NoMemory => Stop::NoMemory,
+            BuildRefusal::TooDeep(at) => Stop::TooDeep(at),
+            BuildRefusal::DuplicateKey(at) => Stop::DuplicateKey(at),
+        }
+    }
+}
+
+/// The same of a scalar, in a text of which the refusal of one that fails says the length.
+pub(crate) fn of_scalar(refusal: ScalarRefusal, size: u32) -> Stop
+    ensures { result ≡ of_scalar size refusal }
+{
+    match refusal {
+        ScalarRefusal::NoMemory => Stop::NoMemory,
+        ScalarRefusal::Syntax(_) => Stop::Unread(size),
+        ScalarRefusal::ManyDocuments(at) => Stop::ManyDocuments(at),
+    }
+}
+
+/// The refusal of the text.
+pub(crate) fn refusal_of(stop: Stop) -> YamlRefusal
+    ensures { result ≡ of_stop stop }
+{
+    match stop {
+        Stop::Unread(_) => YamlRefusal::Unread,
+        Stop::Tab(at) => YamlRefusal::Tab(at),
+        Stop::Anchor(at) => YamlRefusal::Anchor(at),
+        Stop::Tag(at) => YamlRefusal::Tag(at),
+        Stop::Directive(at) => YamlRefusal::Directive(at),
+        Stop::ManyDocuments(at) => YamlRefusal::ManyDocuments(at),
+        Stop::DuplicateKey(at) => YamlRefusal::DuplicateKey(at),
+        Stop::TooDeep(at) => YamlRefusal::TooDeep(at),
+        Stop::NoMemory => YamlRefusal::NoMemory,
+    }
+}
