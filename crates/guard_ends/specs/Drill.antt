@@ -24,6 +24,6 @@ fail_count rs = min (length (flat_map (λ (r : Reported). r.fails) rs)) (2 ^ 64 
 -- the report of a drill of so many resources: `drill <count>`, the line of each verdict, `fails <number of entries>`, and the
 -- total line
 abbrev pub drill_report : ℕ → Reporting
-drill_report count world rules template =
+drill_report count world texts =
     (codes "drill " ++ decimal count ++ codes "\n") ++ flat_map verdict_line (reported world)
     ++ (codes "fails " ++ decimal (fail_count (reported world)) ++ codes "\n") ++ total_line (verdicts_of world)

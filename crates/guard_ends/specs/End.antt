@@ -1,6 +1,6 @@
 -- How a call ends: the status of each end, when a fault or want of memory may come in place of the end that the order of work
 -- gives, and what out and err took.
-use Rattle.std.specs.Prelude.{ℕ, ◌≡◌, ◌≢◌, ◌++◌, ◌⊎◌, List, [], Option, Some, None, Bool, true, false}
+use Rattle.std.specs.Prelude.{ℕ, ◌≡◌, ◌≢◌, ◌++◌, ◌⊎◌, List, [], Option, Some, Bool, true, false}
 use Rattle.std.specs.Option.{ForSome}
 use Rattle.guard_io.specs.Outside.{IsPrefix, FaultCounted}
 use Rattle.guard_ends.specs.Lines.{read_fault_line, pattern_line, write_fault_line, memory_line}
@@ -61,8 +61,8 @@ abbrev pub Unwritten : (before after : Faults) → Type 0
 Unwritten before after = FaultCounted before.out after.out
 
 -- a text is what out takes of such a call: the report, evidence, or what is written of evidence
-abbrev pub IsReport : List (List ℕ) → Contents → List ℕ → Type 0
-IsReport words told text = (e : Ended) × EndOf words told e × (is_reported e.how ≡ true) × (text ≡ e.out)
+abbrev pub IsTaken : List (List ℕ) → Contents → List ℕ → Type 0
+IsTaken words told text = (e : Ended) × EndOf words told e × (is_reported e.how ≡ true) × (text ≡ e.out)
 
 -- a line that may be written on err when out has taken a text: what err takes at an end, if it takes something, when out has taken
 -- all that it takes there; that of a file whose count rose, and that of a pattern whose count rose, when out has taken nothing; and
@@ -72,13 +72,13 @@ MaySay words told before after out line =
     ((e : Ended) × EndOf words told e × (line ≢ []) × (line ≡ e.err) × (out ≡ e.out))
     ⊎ ((which : Which) × Unread words told before.read.files after.read.files which × (line ≡ read_fault_line which) × (out ≡ []))
     ⊎ (Unmade words told before.read.patterns after.read.patterns × (line ≡ pattern_line) × (out ≡ []))
-    ⊎ ((text : List ℕ) × IsReport words told text × IsPrefix out text × Unwritten before after × (line ≡ write_fault_line))
+    ⊎ ((text : List ℕ) × IsTaken words told text × IsPrefix out text × Unwritten before after × (line ≡ write_fault_line))
 
 -- what out and err may have taken when memory is wanting: nothing yet, a front of what out takes, or a front of what err takes
 abbrev pub MayWant : List (List ℕ) → Contents → (before after : Faults) → (out err : List ℕ) → Type 0
 MayWant words told before after out err =
     ((out ≡ []) × (err ≡ []))
-    ⊎ ((text : List ℕ) × IsReport words told text × IsPrefix out text × (err ≡ []))
+    ⊎ ((text : List ℕ) × IsTaken words told text × IsPrefix out text × (err ≡ []))
     ⊎ ((line : List ℕ) × MaySay words told before after out line × IsPrefix err line)
 
 -- What out and err took, by what each told before and what it tells after.
@@ -103,7 +103,7 @@ TookOfUnmade out out' err err' = Took out out' [] × Took err err' pattern_line
 -- where out was not written: a front of what it takes, and the line of that
 abbrev pub TookOfUnwritten : List (List ℕ) → Contents → (out out' err err' : Option (List ℕ)) → Type 0
 TookOfUnwritten words told out out' err err' =
-    (text front : List ℕ) × IsReport words told text × IsPrefix front text × Took out out' front × Took err err' write_fault_line
+    (text front : List ℕ) × IsTaken words told text × IsPrefix front text × Took out out' front × Took err err' write_fault_line
 
 -- where err was not written: what stood on out then, and a front of the line, or of the line of memory behind what had been begun
 abbrev pub TookOfUnsaid : List (List ℕ) → Contents → (before after : Faults) → (out out' err err' : Option (List ℕ)) → Type 0

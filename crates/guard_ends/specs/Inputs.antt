@@ -1,5 +1,5 @@
--- Which bytes are read as rules, as a template and as evidence, and why others are refused: beside each refusal the
--- condition under which it comes. Of the refusals of one file no two conditions hold together.
+-- Which bytes are read as rules, as a template, as parameters and as evidence, and why others are refused: beside each refusal
+-- the condition under which it comes. Of the refusals of one file no two conditions hold together.
 use Rattle.std.specs.Prelude.{ℕ, ◌<◌, ◌≤◌, ◌≡◌, ◌⊎◌, List, Option, Some, None, IsUtf8, codes, length, nat_eq, if◌then◌else◌}
 use Rattle.std.specs.List.{ends_with}
 use Rattle.doc_values.specs.Limits.{evidence_limit, rules_limit, template_limit}
@@ -30,6 +30,7 @@ use Rattle.guard_ends.specs.declared.ends.Refusal.{Refusal}
 use Rattle.guard_ends.specs.declared.ends.Refusal.TheVariants.{DataUnread, TooLong, NotText, EvidenceSyntax, At}
 use Rattle.guard_ends.specs.declared.ends.RefusalKind.{RefusalKind}
 use Rattle.guard_ends.specs.declared.ends.RefusalKind.TheVariants.{Unclosed, BadByte, NumberRange, NestTooDeep, Syntax, BadRange, DuplicateRule, DuplicateName, UnknownRule, UnknownVariable, UnknownFunction, NeedsArguments, TakesNone, ArgCount, LiteralWanted, RecursiveRule, RecursiveVariable, TooDeep, DuplicateKey, Tab, Anchor, Tag, Directive, ManyDocuments}
+use Rattle.guard_ends.specs.declared.ends.Which.{Which}
 use Rattle.guard_ends.specs.declared.ends.Which.TheVariants as file
 use Rattle.guard_ends.specs.declared.format.Format.{Format}
 use Rattle.guard_ends.specs.declared.format.Format.TheVariants as format
@@ -47,9 +48,9 @@ IsTooLong limit bytes = limit < length bytes
 abbrev pub IsNoText : ℕ → List ℕ → Type 0
 IsNoText limit bytes = (length bytes ≤ limit) × (IsUtf8 bytes → ⊥)
 
--- Templates.
+-- Templates and parameters, which are read alike.
 
--- the format in which a template is read, by its name: JSON where that ends in `.json`, YAML where it ends otherwise
+-- the format in which a template or parameters are read, by their name: JSON where that ends in `.json`, YAML where it ends otherwise
 abbrev pub format_of : List ℕ → Format
 format_of name = if ends_with nat_eq name (codes ".json") then format.Json else format.Yaml
 
@@ -58,7 +59,7 @@ abbrev pub IsTreeOf : Format → List ℕ → Forest → Type 0
 IsTreeOf format.Json text tree = Json text tree
 IsTreeOf format.Yaml text tree = yaml.Reads text tree
 
--- bytes that are a template of this tree in a format
+-- bytes that are a template, or parameters, of this tree in a format
 pub record IsTemplate (f : Format) (bytes : List ℕ) (tree : Forest) : Type 0 where
   pub text : IsText template_limit bytes
   pub read : IsTreeOf f bytes tree
@@ -75,30 +76,30 @@ json_kind json_refusal.NoMemory = None
 abbrev pub RefusesJson : List ℕ → RefusalKind → ℕ → Type 0
 RefusesJson text kind at = (r : JsonRefusal) × (json_kind r ≡ Some (kind, at)) × json.IsRefused text r
 
--- what a refusal of YAML is for a template: its kind at its place, or that the template is not read so far; want of memory
+-- what a refusal of YAML is for one of these files: its kind at its place, or that the file is not read so far; want of memory
 -- is none
-abbrev pub of_yaml : YamlRefusal → Option Refusal
-of_yaml yaml_refusal.Unread = Some DataUnread
-of_yaml (yaml_refusal.Tab at) = Some (At file.Template Tab at None)
-of_yaml (yaml_refusal.Anchor at) = Some (At file.Template Anchor at None)
-of_yaml (yaml_refusal.Tag at) = Some (At file.Template Tag at None)
-of_yaml (yaml_refusal.Directive at) = Some (At file.Template Directive at None)
-of_yaml (yaml_refusal.ManyDocuments at) = Some (At file.Template ManyDocuments at None)
-of_yaml (yaml_refusal.DuplicateKey at) = Some (At file.Template DuplicateKey at None)
-of_yaml (yaml_refusal.TooDeep at) = Some (At file.Template TooDeep at None)
-of_yaml yaml_refusal.NoMemory = None
+abbrev pub of_yaml : Which → YamlRefusal → Option Refusal
+of_yaml which yaml_refusal.Unread = Some (DataUnread which)
+of_yaml which (yaml_refusal.Tab at) = Some (At which Tab at None)
+of_yaml which (yaml_refusal.Anchor at) = Some (At which Anchor at None)
+of_yaml which (yaml_refusal.Tag at) = Some (At which Tag at None)
+of_yaml which (yaml_refusal.Directive at) = Some (At which Directive at None)
+of_yaml which (yaml_refusal.ManyDocuments at) = Some (At which ManyDocuments at None)
+of_yaml which (yaml_refusal.DuplicateKey at) = Some (At which DuplicateKey at None)
+of_yaml which (yaml_refusal.TooDeep at) = Some (At which TooDeep at None)
+of_yaml which yaml_refusal.NoMemory = None
 
 -- why a text has no tree in a format
-abbrev pub RefusesTree : Format → List ℕ → Refusal → Type 0
-RefusesTree format.Json text refusal = (kind : RefusalKind) × (at : ℕ) × (refusal ≡ At file.Template kind at None) × RefusesJson text kind at
-RefusesTree format.Yaml text refusal = (r : YamlRefusal) × (of_yaml r ≡ Some refusal) × yaml.Refuses text r
+abbrev pub RefusesTree : Which → Format → List ℕ → Refusal → Type 0
+RefusesTree which format.Json text refusal = (kind : RefusalKind) × (at : ℕ) × (refusal ≡ At which kind at None) × RefusesJson text kind at
+RefusesTree which format.Yaml text refusal = (r : YamlRefusal) × (of_yaml which r ≡ Some refusal) × yaml.Refuses text r
 
--- why a template with these bytes is refused: they are too many, or no text, or a text without a tree
-abbrev pub RefusesTemplate : Format → List ℕ → Refusal → Type 0
-RefusesTemplate f bytes refusal =
-    ((refusal ≡ TooLong file.Template) × IsTooLong template_limit bytes)
-    ⊎ ((refusal ≡ NotText file.Template) × IsNoText template_limit bytes)
-    ⊎ (IsText template_limit bytes × RefusesTree f bytes refusal)
+-- why one of these files with these bytes is refused: they are too many, or no text, or a text without a tree
+abbrev pub RefusesData : Which → Format → List ℕ → Refusal → Type 0
+RefusesData which f bytes refusal =
+    ((refusal ≡ TooLong which) × IsTooLong template_limit bytes)
+    ⊎ ((refusal ≡ NotText which) × IsNoText template_limit bytes)
+    ⊎ (IsText template_limit bytes × RefusesTree which f bytes refusal)
 
 -- Rules.
 

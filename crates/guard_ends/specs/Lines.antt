@@ -4,16 +4,17 @@ use Rattle.doc_values.specs.Position.{line_at, column_at}
 use Rattle.guard_ends.specs.declared.ends.Refusal.{Refusal}
 use Rattle.guard_ends.specs.declared.ends.Refusal.TheVariants.{DataUnread, TooLong, NotText, EvidenceSyntax, At}
 use Rattle.guard_ends.specs.declared.ends.RefusalKind.{RefusalKind}
-use Rattle.guard_ends.specs.declared.ends.RefusalKind.TheVariants.{Unclosed, BadByte, NumberRange, NestTooDeep, Syntax, BadRange, DuplicateRule, DuplicateName, UnknownRule, UnknownVariable, UnknownFunction, NeedsArguments, TakesNone, ArgCount, LiteralWanted, RecursiveRule, RecursiveVariable, TooDeep, DuplicateKey, Tab, Anchor, Tag, Directive, ManyDocuments, BadPattern}
+use Rattle.guard_ends.specs.declared.ends.RefusalKind.TheVariants.{Unclosed, BadByte, NumberRange, NestTooDeep, Syntax, BadRange, DuplicateRule, DuplicateName, UnknownRule, UnknownVariable, UnknownFunction, NeedsArguments, TakesNone, ArgCount, LiteralWanted, RecursiveRule, RecursiveVariable, TooDeep, DuplicateKey, Tab, Anchor, Tag, Directive, ManyDocuments, BadPattern, NotAMap, SharedKey}
 use Rattle.guard_ends.specs.declared.ends.Which.{Which}
 use Rattle.guard_ends.specs.declared.ends.Which.TheVariants as file
 
 abbrev pub usage_line : List ℕ
-usage_line = codes "usage: guard validate --rules FILE --data FILE [--evidence] | check --rules FILE --data FILE --proof FILE | drill --count N\n"
+usage_line = codes "usage: guard validate --rules FILE --data FILE [--params FILE] [--evidence] | check --rules FILE --data FILE [--params FILE] --proof FILE | drill --count N\n"
 
 abbrev pub read_fault_line : Which → List ℕ
 read_fault_line file.Rules = codes "guard: cannot read rules\n"
 read_fault_line file.Template = codes "guard: cannot read data\n"
+read_fault_line file.Params = codes "guard: cannot read params\n"
 read_fault_line file.Proof = codes "guard: cannot read proof\n"
 
 abbrev pub pattern_line : List ℕ
@@ -29,6 +30,7 @@ memory_line = codes "guard: memory\n"
 abbrev pub file_word : Which → List ℕ
 file_word file.Rules = codes "rules"
 file_word file.Template = codes "data"
+file_word file.Params = codes "params"
 file_word file.Proof = codes "proof"
 
 -- the name of a kind
@@ -58,6 +60,8 @@ kind_word Tag = codes "Tag"
 kind_word Directive = codes "Directive"
 kind_word ManyDocuments = codes "ManyDocuments"
 kind_word BadPattern = codes "BadPattern"
+kind_word NotAMap = codes "NotAMap"
+kind_word SharedKey = codes "SharedKey"
 
 -- the name that a refusal is about, behind its kind
 abbrev pub name_part : Option (List ℕ) → List ℕ
@@ -79,7 +83,7 @@ evidence_line number = codes "guard: proof line " ++ decimal number ++ codes ": 
 
 -- the line of a refusal of a file with these bytes
 abbrev pub refusal_line : List ℕ → Refusal → List ℕ
-refusal_line bytes DataUnread = whole_line file.Template (codes "DataUnread")
+refusal_line bytes (DataUnread which) = whole_line which (codes "DataUnread")
 refusal_line bytes (TooLong which) = whole_line which (codes "TooLong")
 refusal_line bytes (NotText which) = whole_line which (codes "NotText")
 refusal_line bytes (EvidenceSyntax number) = evidence_line number

@@ -1,9 +1,11 @@
 -- The order of work: what a call comes to, by its words and by what is told of the files. A stage of the work comes to
 -- something itself, or the work goes on with what the stage gives.
-use Rattle.std.specs.Prelude.{ℕ, ◌≡◌, ◌⊎◌, List, [], Option, None, IsSome, IsNone, All, true, false, if◌then◌else◌}
+use Rattle.std.specs.Prelude.{ℕ, ◌≡◌, ◌⊎◌, List, [], Option, Some, None, IsSome, IsNone, All, true, false, if◌then◌else◌}
 use Rattle.std.specs.List.{list_any}
 use Rattle.std.specs.Option.{ForSome}
-use Rattle.doc_values.specs.Tree.{Forest}
+use Rattle.doc_values.specs.Places.{first_kids, first_label}
+use Rattle.doc_values.specs.Merge.{first_shared, is_map_tree, merged}
+use Rattle.doc_values.specs.Tree.{Forest, size}
 use Rattle.evidence_lines.specs.Text.{IsEvidence}
 use Rattle.evidence_lines.specs.Versioned.{Versioned}
 use Rattle.evidence_lines.specs.declared.line.Line.{Line}
@@ -22,9 +24,10 @@ use Rattle.rule_meaning.specs.NextPattern.{IsNextPattern}
 use Rattle.rule_meaning.specs.PatternMatch.{pattern_in}
 use Rattle.rule_meaning.specs.Patterns.{Written, patterns_of}
 use Rattle.rule_meaning.specs.Verdicts.{is_fail}
+use Rattle.report_text.specs.Texts.{Parameters, Texts}
 use Rattle.guard_ends.specs.Check.{accepted_text, rejected_text}
 use Rattle.guard_ends.specs.Drill.{drill_report, drill_rules}
-use Rattle.guard_ends.specs.Inputs.{IsProof, IsRuleFile, IsTemplate, RefusesProof, RefusesRules, RefusesTemplate, format_of}
+use Rattle.guard_ends.specs.Inputs.{IsProof, IsRuleFile, IsTemplate, RefusesData, RefusesProof, RefusesRules, format_of}
 use Rattle.guard_ends.specs.Lines.{refusal_line, usage_line}
 use Rattle.guard_ends.specs.Report.{Reporting, report}
 use Rattle.guard_ends.specs.Reported.{verdicts_of, world_over}
@@ -32,7 +35,7 @@ use Rattle.guard_ends.specs.declared.ends.End.{End}
 use Rattle.guard_ends.specs.declared.ends.End.TheVariants as end_is
 use Rattle.guard_ends.specs.declared.ends.Refusal.{Refusal}
 use Rattle.guard_ends.specs.declared.ends.Refusal.TheVariants.{At}
-use Rattle.guard_ends.specs.declared.ends.RefusalKind.TheVariants.{BadPattern}
+use Rattle.guard_ends.specs.declared.ends.RefusalKind.TheVariants.{BadPattern, NotAMap, SharedKey}
 use Rattle.guard_ends.specs.declared.ends.Which.{Which}
 use Rattle.guard_ends.specs.declared.ends.Which.TheVariants as file
 use Rattle.guard_ends.specs.declared.format.Format.{Format}
@@ -58,6 +61,10 @@ Work = Point → Type 0
 abbrev pub Contents : Type 0
 Contents = List ℕ → Option (List ℕ)
 
+-- if parameters are asked for by a name, their content is told
+abbrev pub AreTold : Contents → Option (List ℕ) → (bytes : List ℕ) → Type 0
+AreTold told params bytes = (name : List ℕ) → params ≡ Some name → told name ≡ Some bytes
+
 -- bytes that a file can have by what is told of it
 abbrev pub IsContent : Option (List ℕ) → List ℕ → Type 0
 IsContent told bytes = ForSome told (λ content. bytes ≡ content)
@@ -72,31 +79,30 @@ usage = record { how = end_is.Usage; out = []; err = usage_line }
 abbrev pub refused : List ℕ → Refusal → Ended
 refused bytes refusal = record { how = end_is.Refused refusal; out = []; err = refusal_line bytes refusal }
 
--- a template that was judged by rules: Failed if a reported verdict is FAIL, else Passed
+-- data that was judged by rules: Failed if a reported verdict is FAIL, else Passed
 abbrev pub how_judged : World → End
 how_judged world = if list_any is_fail (verdicts_of world) then end_is.Failed else end_is.Passed
 
--- by the bytes of both: out takes the report, as it is made
-abbrev pub judged : Reporting → World → (source template : List ℕ) → Ended
-judged made world source template = record { how = how_judged world; out = made world source template; err = [] }
+-- by the texts of all: out takes the report, as it is made
+abbrev pub judged : Reporting → World → Texts → Ended
+judged made world texts = record { how = how_judged world; out = made world texts; err = [] }
 
 -- and with evidence: out takes that, and err the report
-abbrev pub judged_by : (evidence : List ℕ) → Reporting → World → (source template : List ℕ) → Ended
-judged_by evidence made world source template = record { how = how_judged world; out = evidence; err = made world source template }
+abbrev pub judged_by : (evidence : List ℕ) → Reporting → World → Texts → Ended
+judged_by evidence made world texts = record { how = how_judged world; out = evidence; err = made world texts }
 
--- rules and a template that were read, with the bytes of each
+-- rules and a data tree that were read, with the texts of all
 pub record Inputs : Type 0 where
-  pub source : List ℕ
   pub rules : File
-  pub template : List ℕ
   pub tree : Forest
+  pub texts : Texts
 
 -- they were judged, by answers that functions give, which are what their table says
 abbrev pub IsJudged : Reporting → Inputs → Ended → Type 0
 IsJudged made inputs e = (answers : Answers) × IsAnswering (world_over inputs.rules inputs.tree answers)
-    × (e ≡ judged made (world_over inputs.rules inputs.tree answers) inputs.source inputs.template)
+    × (e ≡ judged made (world_over inputs.rules inputs.tree answers) inputs.texts)
 
--- bytes are evidence of version 2 for rules and a template: it is accepted, no line repeats another, and each but those of rules is
+-- bytes are evidence of version 2 for rules and a data tree: it is accepted, no line repeats another, and each but those of rules is
 -- named by a later one
 abbrev pub IsEvidenceFor : File → Forest → List ℕ → Type 0
 IsEvidenceFor rules tree bytes = (lines : List Line) × IsEvidence bytes Two lines × Accepts Two tree rules lines × IsLean lines
@@ -105,9 +111,9 @@ IsEvidenceFor rules tree bytes = (lines : List Line) × IsEvidence bytes Two lin
 abbrev pub IsJudgedBy : Reporting → Inputs → Ended → Type 0
 IsJudgedBy made inputs e = (answers : Answers) × IsAnswering (world_over inputs.rules inputs.tree answers)
     × ((evidence : List ℕ) × IsEvidenceFor inputs.rules inputs.tree evidence
-    × (e ≡ judged_by evidence made (world_over inputs.rules inputs.tree answers) inputs.source inputs.template))
+    × (e ≡ judged_by evidence made (world_over inputs.rules inputs.tree answers) inputs.texts))
 
--- evidence that was judged, for rules and a template: it is accepted, and out takes the verdicts that it says, or it is rejected
+-- evidence that was judged, for rules and a data tree: it is accepted, and out takes the verdicts that it says, or it is rejected
 -- at a line
 abbrev pub IsChecked : File → Forest → Versioned → Ended → Type 0
 IsChecked rules tree evidence e =
@@ -152,18 +158,64 @@ abbrev pub LoadingTexts : Contents → (rules template : List ℕ) → ((source 
 LoadingTexts told rules template GoesOn =
     Loading file.Rules told rules (λ source. Reading RefusesRules IsRuleFile source (λ read. Loading file.Template told template (GoesOn source read)))
 
--- with rules that are read: a template is read in a format, and then the patterns are made
-abbrev pub ReadingInputs : Format → (source : List ℕ) → File → (template : List ℕ) → (Inputs → Work) → Work
-ReadingInputs f source rules template GoesOn =
-    Reading (RefusesTemplate f) (IsTemplate f) template (λ tree. MakingPatterns source rules
-    (GoesOn (record { source = source; rules = rules; template = template; tree = tree })))
+-- what is done with a template that was read, of these bytes and this tree: the work goes on with the data tree, and with the
+-- parameters where there are some
+abbrev pub Joining : Type 1
+Joining = (template : List ℕ) → Forest → (Option Parameters → Forest → Work) → Work
+
+-- it is the data tree
+abbrev pub Alone : Joining
+Alone template tree GoesOn = GoesOn None tree
+
+-- the root of a tree is no map, which is refused at its place
+abbrev pub NotMap : Which → (bytes : List ℕ) → Forest → Work
+NotMap which bytes tree p = (is_map_tree tree ≡ false) × (p ≡ Ends (refused bytes (At which NotAMap (first_label tree).at None)))
+
+-- an entry of the parameters has a key of the template, and is refused at its value
+abbrev pub Sharing : (tree : Forest) → (bytes : List ℕ) → (params : Forest) → Work
+Sharing tree bytes params p = (at : ℕ) × (first_shared (first_kids tree) (first_kids params) ≡ Some at)
+    × (p ≡ Ends (refused bytes (At file.Params SharedKey at None)))
+
+-- both are maps, and no key stands in both
+pub record AreApart (tree params : Forest) : Type 0 where
+  pub first : is_map_tree tree ≡ true
+  pub second : is_map_tree params ≡ true
+  pub distinct : first_shared (first_kids tree) (first_kids params) ≡ None
+
+-- a template of this tree becomes this data tree: by itself, or as one map with parameters of these bytes, which are read in the
+-- format of their name
+abbrev pub IsDataOf : (tree : Forest) → (params : Option (List ℕ)) → (bytes : List ℕ) → (data_tree : Forest) → Option Parameters → Type 0
+IsDataOf tree None bytes data_tree read = (data_tree ≡ tree) × (read ≡ None)
+IsDataOf tree (Some name) bytes data_tree read = (params : Forest) × IsTemplate (format_of name) bytes params × AreApart tree params
+    × (data_tree ≡ merged tree params) × (read ≡ Some (record { text = bytes; first = size tree }))
+
+-- a template becomes one map with parameters of these bytes and this tree, or one of them is refused: the template is no map; or it
+-- is one, and the parameters are none; or both are, and share a key
+abbrev pub Merging : (params_bytes : List ℕ) → (params : Forest) → Joining
+Merging params_bytes params template tree GoesOn p =
+    NotMap file.Template template tree p
+    ⊎ ((is_map_tree tree ≡ true) × NotMap file.Params params_bytes params p)
+    ⊎ ((is_map_tree tree ≡ true) × (is_map_tree params ≡ true) × Sharing tree params_bytes params p)
+    ⊎ (AreApart tree params × GoesOn (Some (record { text = params_bytes; first = size tree })) (merged tree params) p)
+
+-- parameters of this name, if one is given, are loaded and read, and merged into the template
+abbrev pub WithParams : Contents → Option (List ℕ) → Joining
+WithParams told None = Alone
+WithParams told (Some name) = λ template tree GoesOn. Loading file.Params told name (λ bytes.
+    Reading (RefusesData file.Params (format_of name)) (IsTemplate (format_of name)) bytes (λ params. Merging bytes params template tree GoesOn))
+
+-- with rules that are read: a template is read in a format, it becomes the data tree, and then the patterns are made
+abbrev pub ReadingInputs : Format → (source : List ℕ) → File → Joining → (template : List ℕ) → (Inputs → Work) → Work
+ReadingInputs f source rules Joined template GoesOn =
+    Reading (RefusesData file.Template f) (IsTemplate f) template (λ tree. Joined template tree (λ params data_tree. MakingPatterns source rules
+    (GoesOn (record { rules = rules; tree = data_tree; texts = record { rules = source; template = template; params = params } }))))
 
 -- ---- The work of each command.
 
--- the rules and the template of these names become inputs, with which the work goes on
-abbrev pub OverFiles : Contents → (rules template : List ℕ) → (Inputs → Work) → Work
-OverFiles told rules template GoesOn =
-    LoadingTexts told rules template (λ source read bytes. ReadingInputs (format_of template) source read bytes GoesOn)
+-- the rules, the template and the parameters of these names become inputs, with which the work goes on
+abbrev pub OverFiles : Contents → (rules template : List ℕ) → (params : Option (List ℕ)) → (Inputs → Work) → Work
+OverFiles told rules template params GoesOn =
+    LoadingTexts told rules template (λ source read bytes. ReadingInputs (format_of template) source read (WithParams told params) bytes GoesOn)
 
 -- `check`: evidence of this name is loaded, read and judged
 abbrev pub OfEvidence : Contents → (proof : List ℕ) → Inputs → Work
@@ -174,13 +226,13 @@ OfEvidence told proof inputs =
 -- makes no pattern, so it comes to nothing but an end
 abbrev pub OfDrill : (count : ℕ) → Work
 OfDrill count = Ending (λ e. Reading RefusesRules IsRuleFile drill_rules
-    (λ rules. ReadingInputs Json drill_rules rules (template_text count) (λ inputs. Ending (IsJudged (drill_report count) inputs))) (Ends e))
+    (λ rules. ReadingInputs Json drill_rules rules Alone (template_text count) (λ inputs. Ending (IsJudged (drill_report count) inputs))) (Ends e))
 
 -- the work of what is asked for, a line for each command, and one for `validate` with `--evidence`
 abbrev pub WorkOf : Asked → Contents → Work
-WorkOf (validate rules template false) told = OverFiles told rules template (λ inputs. Ending (IsJudged report inputs))
-WorkOf (validate rules template true) told = OverFiles told rules template (λ inputs. Ending (IsJudgedBy report inputs))
-WorkOf (check rules template proof) told = OverFiles told rules template (OfEvidence told proof)
+WorkOf (validate rules template params false) told = OverFiles told rules template params (λ inputs. Ending (IsJudged report inputs))
+WorkOf (validate rules template params true) told = OverFiles told rules template params (λ inputs. Ending (IsJudgedBy report inputs))
+WorkOf (check rules template params proof) told = OverFiles told rules template params (OfEvidence told proof)
 WorkOf (drill count) told = OfDrill count
 
 -- what a call with these words over these files comes to: that of the work which they ask for, or, if they ask for none, Usage

@@ -10,7 +10,7 @@ use Rattle.rule_meaning.specs.Locations.{Answers, World}
 use Rattle.rule_meaning.specs.NameMeaning.{loose_verdict, rule_verdict}
 use Rattle.rule_meaning.specs.Verdicts.{is_fail}
 
--- a template that is judged by a rule file, by what functions answer
+-- data that are judged by a rule file, by what functions answer
 abbrev pub world_over : File → Forest → Answers → World
 world_over file tree answers = record { template = tree; file = file; answers = answers }
 
@@ -36,7 +36,7 @@ of_rule world rule = if_plain (record {
   fails = if_fail (rule_verdict world rule) (rule_fails world rule);
 }) rule.params
 
--- the parts outside rules, if there are some, are reported as `default`: they are judged at the root of the template
+-- the parts outside rules, if there are some, are reported as `default`: they are judged at the root of the data
 abbrev pub of_loose : World → Disjs → List Reported
 of_loose world no_disjs = []
 of_loose world (more_disjs d ds) = record {

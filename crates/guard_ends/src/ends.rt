@@ -42,30 +42,35 @@ pub enum RefusalKind {
     RecursiveRule,
     /// In rules, a let or a capture that reaches itself, at its first use of a name by which it does.
     RecursiveVariable,
-    /// In a template, a collection inside 128 others, at its first byte.
+    /// In a template or in parameters, a collection inside 128 others, at its first byte.
     TooDeep,
-    /// In a template, a key that the map has already, at its first byte.
+    /// In a template or in parameters, a key that the map has already, at its first byte.
     DuplicateKey,
-    /// In a template of YAML, a tab in the white space in front of a line's content.
+    /// In YAML of these, a tab in the white space in front of a line's content.
     Tab,
-    /// In a template of YAML, an anchor or an alias, at its first byte.
+    /// In YAML of these, an anchor or an alias, at its first byte.
     Anchor,
-    /// In a template of YAML, a tag that is no short one, or a second one, at its first byte.
+    /// In YAML of these, a tag that is no short one, or a second one, at its first byte.
     Tag,
-    /// In a template of YAML, a line in front of the document that begins with `%`.
+    /// In YAML of these, a line in front of the document that begins with `%`.
     Directive,
-    /// In a template of YAML, a mark of a document or content that makes a further one, at its first byte.
+    /// In YAML of these, a mark of a document or content that makes a further one, at its first byte.
     ManyDocuments,
     /// In rules, a pattern whose text is none, or nests deeper than 250 levels, at the slash or quote that opens it.
     BadPattern,
+    /// In a template beside which there are parameters, or in these, a root that is no map, at its first byte.
+    NotAMap,
+    /// In parameters, an entry of the root whose key the root of the template has too, at its value.
+    SharedKey,
 }
 
 /// Why a file is refused.
 #[derive(Debug, Drop)]
 pub enum Refusal {
-    /// The template is read as YAML and has no tree in its profile, and no refusal with a place comes for it so far.
-    DataUnread,
-    /// The file has more bytes than it may have: rules 1 MiB, a template 8 MiB, evidence 256 MiB.
+    /// The template, or the parameters, are read as YAML and have no tree in its profile, and no refusal with a place comes for
+    /// them so far.
+    DataUnread(Which),
+    /// The file has more bytes than it may have: rules 1 MiB, a template and parameters 8 MiB, evidence 256 MiB.
     TooLong(Which),
     /// The file is not UTF-8.
     NotText(Which),
@@ -87,6 +92,8 @@ pub enum Refusal {
 pub enum Which {
     Rules,
     Template,
+    /// Parameters, which are judged with the template.
+    Params,
     /// Evidence that is to be judged.
     Proof,
 }
@@ -109,7 +116,7 @@ pub enum End {
     Accepted,
     /// Evidence is rejected at the line of this number; where a verdict is wanting, at the line behind the last.
     Rejected(u64),
-    /// The words ask for nothing, or for what is not done yet.
+    /// The words ask for nothing.
     Usage,
     Refused(Refusal),
     /// A file could not be read.

@@ -1,15 +1,15 @@
-//! The format of a template.
+//! The format of a template and of parameters.
 ghost use Rattle.std.specs.Prelude.{◌≡◌};
 ghost use Rattle.guard_ends.specs.Inputs.{format_of};
 
-/// How the text of a template is written.
+/// How the text of a template or of parameters is written.
 #[derive(Clone, Copy, Debug, PartialEq, Eq)]
 pub enum Format {
     Json,
     Yaml,
 }
 
-/// The format of a template, which its name says: JSON where it ends in `.json`, YAML where it ends otherwise.
+/// The format of a template or of parameters, which its name says: JSON where it ends in `.json`, YAML where it ends otherwise.
 pub fn format_of(name: &str) -> Format
     ensures { result ≡ format_of name.now }
 {
