@@ -1,6 +1,6 @@
 -- A drill that words ask for is judged: its rules are a rule file and its template is JSON. By what is read of them, and by the
 -- order of work.
-use Rattle.std.proofs.Common.{◌≡◌, ◌⊎◌, ◌≤◌, ◌<◌, ◌%◌, ◌++◌, ◌&&◌, ℕ, zero, suc, Bool, true, false, List, [], ◌∷◌, length, arith, inl, inr, refl, ap, subst}
+use Rattle.std.proofs.Common.{◌≡◌, ◌⊎◌, ◌≤◌, ◌<◌, ◌%◌, ◌++◌, ◌&&◌, ℕ, zero, suc, Bool, true, false, List, [], ◌∷◌, None, length, arith, inl, inr, refl, ap, subst}
 use Rattle.std.specs.Prelude.{IsAscii, codes, decimal, nat_eq, nat_lt, if◌then◌else◌}
 use Rattle.std.specs.List.{list_any}
 use Rattle.std.proofs.lemmas.Bool.{ltb-true}
@@ -124,7 +124,7 @@ one-template count =
     template-laws text (λ f utf8. text-one f text (record { tree = unique text; refusal = same_refusal text; apart = λ e tree refused read. no_tree text e tree refused read }))
 
 pub drill-judged-so : OneSyntax → (count : ℕ) (rules : File) (tree : Forest) (e : Ended) → IsRuleFile drill_rules rules → IsTemplate Json (template_text count) tree
-    → OfDrill count (Ends e) → IsJudged (drill_report count) (record { source = drill_rules; rules = rules; template = template_text count; tree = tree }) e
+    → OfDrill count (Ends e) → IsJudged (drill_report count) (record { rules = rules; tree = tree; texts = record { rules = drill_rules; template = template_text count; params = None } }) e
 drill-judged-so law count rules tree e whole whole' came =
     let same : drill-file ≡ rules = rules-one law drill_rules drill-file rules rules-are whole in
     drill-goes law count (one-template count) rules tree whole whole' (subst AreRead same patterns-read) e came
@@ -143,7 +143,7 @@ drill-tree count low = Node root-label (template-is count low).0 Nil
 
 module _ (count : ℕ) (low : count ≤ 100000) where
   abbrev inputs : Inputs
-  inputs = record { source = drill_rules; rules = drill-file; template = template_text count; tree = drill-tree count low }
+  inputs = record { rules = drill-file; tree = drill-tree count low; texts = record { rules = drill_rules; template = template_text count; params = None } }
 
   drill-judged : OneSyntax → (e : Ended) → OfDrill count (Ends e) → IsJudged (drill_report count) inputs e
   drill-judged law e came = drill-judged-so law count drill-file (drill-tree count low) e rules-are (template-is count low).1 came
@@ -157,5 +157,5 @@ module _ (count : ℕ) (low : count ≤ 100000) where
   -- where functions answer by their table, there is such an end
   pub drill-some : (answers : Answers) → IsAnswering (world_over drill-file (drill-tree count low) answers) → (e : Ended) × OfDrill count (Ends e)
   drill-some answers obey =
-      let e = judged (drill_report count) (world_over drill-file (drill-tree count low) answers) drill_rules (template_text count) in
+      let e = judged (drill_report count) (world_over drill-file (drill-tree count low) answers) inputs.texts in
       (e, (e, inr (drill-file, rules-are, inr (drill-tree count low, (template-is count low).1, inr (patterns-read, (e, (answers, obey, refl), refl)))), refl))

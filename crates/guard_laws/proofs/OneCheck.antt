@@ -107,9 +107,10 @@ ProofWhy bytes r =
     ⊎ ((n : ℕ) × (r ≡ EvidenceSyntax n) × (length bytes ≤ evidence_limit) × IsFault bytes n)
 
 proof-why : (bytes : List ℕ) (r : Refusal) → RefusesProof bytes r → ProofWhy bytes r
-proof-why bytes DataUnread h = absurd h
+proof-why bytes (DataUnread which) h = absurd h
 proof-why bytes (TooLong file.Rules) h = absurd h
 proof-why bytes (TooLong file.Template) h = absurd h
+proof-why bytes (TooLong file.Params) h = absurd h
 proof-why bytes (TooLong file.Proof) h = inl (refl, h)
 proof-why bytes (NotText which) h = absurd h
 proof-why bytes (EvidenceSyntax n) h = inr (n, refl, h.0, h.1)

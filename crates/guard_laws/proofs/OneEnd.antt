@@ -1,20 +1,20 @@
 -- A call has one end. By the cases of the order of work.
-use Rattle.std.proofs.Common.{◌≡◌, ℕ, List, Some, inl, inr, sym, ◌∙◌, ap, subst}
+use Rattle.std.proofs.Common.{◌≡◌, ℕ, List, Option, Some, None, inl, inr, sym, ◌∙◌, ap, subst}
 use Rattle.doc_values.specs.Tree.{Forest}
 use Rattle.guard_drill.specs.DrillTexts.{template_text}
 use Rattle.guard_syntax.specs.Syntax.{File}
 use Rattle.guard_words.specs.Request.{Asked, AsksFor}
 use Rattle.guard_words.proofs.RequestLemmas.{asked_once, asked_parsed}
+use Rattle.report_text.specs.Texts.{Parameters}
 use Rattle.guard_ends.specs.Drill.{drill_report, drill_rules}
 use Rattle.guard_ends.specs.Inputs.{IsRuleFile, IsTemplate, RefusesRules, format_of}
-use Rattle.guard_ends.specs.Order.{AreRead, ComesTo, Contents, Ended, Ending, Ends, Inputs, IsJudged, Loading, OfDrill, OverFiles, Point, Reading, ReadingInputs, Work, WorkOf, refused}
-use Rattle.guard_ends.specs.declared.ends.Refusal.{Refusal}
+use Rattle.guard_ends.specs.Order.{Alone, AreRead, AreTold, ComesTo, Contents, Ended, Ending, Ends, Inputs, IsDataOf, IsJudged, Joining, Loading, OfDrill, OverFiles, Point, Reading, ReadingInputs, WithParams, Work, WorkOf, refused}
 use Rattle.guard_ends.specs.declared.ends.Which.TheVariants as file
 use Rattle.guard_ends.specs.declared.format.Format.TheVariants.{Json}
 use Rattle.guard_laws.proofs.OneRules.{refusals-alike, refusal-apart, rules-one}
 use Rattle.guard_laws.proofs.OneStage.{HasOne, ending-is, ending-one, ends-one, loaded, loading-one}
 use Rattle.guard_laws.proofs.OneSyntax.{OneSyntax}
-use Rattle.guard_laws.proofs.OneTemplate.{OneTemplate, inputs-go, inputs-one, judged-one}
+use Rattle.guard_laws.proofs.OneTemplate.{OneTemplate, alone-as, alone-once, inputs-go, inputs-one, judged-one, params-as, params-once}
 
 -- ---- words ask for one thing
 
@@ -47,43 +47,74 @@ module _ (law : OneSyntax) (rules : List ℕ) (GoesOn : File → Work) where
   rules-go read whole e (inl (r, h, is)) = absurd (refusal-apart law rules r read h whole)
   rules-go read whole e (inr (read', whole', goes)) = subst (λ (r : File). GoesOn r (Ends e)) (rules-one law rules read' read whole' whole) goes
 
+-- ---- the files of a call
+
+-- the names of the files that words ask for, and the bytes that stand in them
+pub record FileNames : Type 0 where
+  pub rules : List ℕ
+  pub template : List ℕ
+  pub params : Option (List ℕ)
+
+pub record FileTexts : Type 0 where
+  pub rules : List ℕ
+  pub template : List ℕ
+  pub params : List ℕ
+
+pub record AreFilesTold (told : Contents) (names : FileNames) (texts : FileTexts) : Type 0 where
+  pub rules : told names.rules ≡ Some texts.rules
+  pub template : told names.template ≡ Some texts.template
+  pub params : AreTold told names.params texts.params
+
+-- each has one tree or one refusal
+pub record AreOneEach (texts : FileTexts) : Type 0 where
+  pub template : OneTemplate texts.template
+  pub params : OneTemplate texts.params
+
 -- ---- files that are told
 
 module _
     (law : OneSyntax)
     (told : Contents)
-    (rules_name template_name rules template : List ℕ)
-    (one : OneTemplate template)
-    (known : told rules_name ≡ Some rules)
-    (known' : told template_name ≡ Some template)
+    (names : FileNames)
+    (texts : FileTexts)
+    (known : AreFilesTold told names texts)
+    (laws : AreOneEach texts)
     (GoesOn : Inputs → Work)
   where
+    abbrev Joined : Joining
+    Joined = WithParams told names.params
+
     abbrev Reads_inputs : (source : List ℕ) → File → List ℕ → Work
-    Reads_inputs source read bytes = ReadingInputs (format_of template_name) source read bytes GoesOn
+    Reads_inputs source read bytes = ReadingInputs (format_of names.template) source read Joined bytes GoesOn
 
     abbrev Loads_template : (source : List ℕ) → File → Work
-    Loads_template source read = Loading file.Template told template_name (Reads_inputs source read)
+    Loads_template source read = Loading file.Template told names.template (Reads_inputs source read)
 
     abbrev Reads_rules : List ℕ → Work
     Reads_rules source = Reading RefusesRules IsRuleFile source (Loads_template source)
 
+    abbrev Over : Work
+    Over = OverFiles told names.rules names.template names.params GoesOn
+
     -- where what a command does with the inputs has one end, so has the command
-    pub files-same : ((inputs : Inputs) → HasOne (GoesOn inputs)) → (e other : Ended)
-        → OverFiles told rules_name template_name GoesOn (Ends e) → OverFiles told rules_name template_name GoesOn (Ends other) → e ≡ other
+    pub files-same : ((inputs : Inputs) → HasOne (GoesOn inputs)) → (e other : Ended) → Over (Ends e) → Over (Ends other) → e ≡ other
     files-same each e other came came' =
-        rules-same law rules (Loads_template rules)
-        (λ read. loading-one file.Template told template_name template (Reads_inputs rules read) known'
-        (inputs-one (format_of template_name) rules read template one GoesOn each)) e other
-        (loaded file.Rules told rules_name rules Reads_rules known e came) (loaded file.Rules told rules_name rules Reads_rules known other came')
+        rules-same law texts.rules (Loads_template texts.rules)
+        (λ read. loading-one file.Template told names.template texts.template (Reads_inputs texts.rules read) known.template
+        (inputs-one (format_of names.template) texts.rules read Joined texts.template laws.template GoesOn
+        (λ tree. params-once told texts.params laws.params texts.template tree names.params known.params) each)) e other
+        (loaded file.Rules told names.rules texts.rules Reads_rules known.rules e came)
+        (loaded file.Rules told names.rules texts.rules Reads_rules known.rules other came')
 
     -- and where the files and the patterns are read, its end is that of what it does with the inputs
-    pub files-go : (read : File) (tree : Forest) → IsRuleFile rules read → IsTemplate (format_of template_name) template tree → AreRead read
-        → (e : Ended) → OverFiles told rules_name template_name GoesOn (Ends e)
-        → GoesOn (record { source = rules; rules = read; template = template; tree = tree }) (Ends e)
-    files-go read tree whole whole' all e came =
-        inputs-go (format_of template_name) rules read template one GoesOn tree whole' all e
-        (loaded file.Template told template_name template (Reads_inputs rules read) known' e
-        (rules-go law rules (Loads_template rules) read whole e (loaded file.Rules told rules_name rules Reads_rules known e came)))
+    pub files-go : (read : File) (tree data_tree : Forest) (params : Option Parameters) → IsRuleFile texts.rules read → IsTemplate (format_of names.template) texts.template tree
+        → IsDataOf tree names.params texts.params data_tree params → AreRead read → (e : Ended) → Over (Ends e)
+        → GoesOn (record { rules = read; tree = data_tree; texts = record { rules = texts.rules; template = texts.template; params = params } }) (Ends e)
+    files-go read tree data_tree params whole whole' becomes all e came =
+        inputs-go (format_of names.template) texts.rules read Joined texts.template laws.template GoesOn tree data_tree params
+        (params-as told texts.params laws.params texts.template tree names.params data_tree params known.params becomes) whole' all e
+        (loaded file.Template told names.template texts.template (Reads_inputs texts.rules read) known.template e
+        (rules-go law texts.rules (Loads_template texts.rules) read whole e (loaded file.Rules told names.rules texts.rules Reads_rules known.rules e came)))
 
 -- ---- drills
 
@@ -91,24 +122,27 @@ module _ (law : OneSyntax) (count : ℕ) (one : OneTemplate (template_text count
   abbrev Judges : Inputs → Work
   Judges inputs = Ending (IsJudged (drill_report count) inputs)
 
-  abbrev Over : File → Work
-  Over rules = ReadingInputs Json drill_rules rules (template_text count) Judges
+  abbrev Over_drill : File → Work
+  Over_drill rules = ReadingInputs Json drill_rules rules Alone (template_text count) Judges
 
   abbrev Reads_drill : Ended → Type 0
-  Reads_drill e = Reading RefusesRules IsRuleFile drill_rules Over (Ends e)
+  Reads_drill e = Reading RefusesRules IsRuleFile drill_rules Over_drill (Ends e)
 
   pub drill-same : (e other : Ended) → OfDrill count (Ends e) → OfDrill count (Ends other) → e ≡ other
   drill-same e other came came' =
-      rules-same law drill_rules Over
-      (λ rules. inputs-one Json drill_rules rules (template_text count) one Judges
+      rules-same law drill_rules Over_drill
+      (λ rules. inputs-one Json drill_rules rules Alone (template_text count) one Judges (alone-once (template_text count))
       (λ inputs. ending-one (IsJudged (drill_report count) inputs) (judged-one (drill_report count) inputs))) e other
       (ending-is Reads_drill e came) (ending-is Reads_drill other came')
 
+  -- the inputs of a drill
+  abbrev pub drill_inputs : File → Forest → Inputs
+  drill_inputs read tree = record { rules = read; tree = tree; texts = record { rules = drill_rules; template = template_text count; params = None } }
+
   -- and where its rules, its template and the patterns are read, its end is that of the template judged
   pub drill-goes : (read : File) (tree : Forest) → IsRuleFile drill_rules read → IsTemplate Json (template_text count) tree → AreRead read
-      → (e : Ended) → OfDrill count (Ends e)
-      → IsJudged (drill_report count) (record { source = drill_rules; rules = read; template = template_text count; tree = tree }) e
+      → (e : Ended) → OfDrill count (Ends e) → IsJudged (drill_report count) (drill_inputs read tree) e
   drill-goes read tree whole whole' all e came =
-      ending-is (IsJudged (drill_report count) (record { source = drill_rules; rules = read; template = template_text count; tree = tree })) e
-      (inputs-go Json drill_rules read (template_text count) one Judges tree whole' all e
-      (rules-go law drill_rules Over read whole e (ending-is Reads_drill e came)))
+      ending-is (IsJudged (drill_report count) (drill_inputs read tree)) e
+      (inputs-go Json drill_rules read Alone (template_text count) one Judges tree tree None (alone-as (template_text count) tree) whole' all e
+      (rules-go law drill_rules Over_drill read whole e (ending-is Reads_drill e came)))

@@ -16,15 +16,15 @@ use Rattle.guard_ends.specs.declared.ends.Refusal.{Refusal}
 use Rattle.guard_ends.specs.declared.ends.Refusal.TheVariants.{DataUnread, At}
 use Rattle.guard_ends.specs.declared.ends.RefusalKind.{RefusalKind}
 use Rattle.guard_ends.specs.declared.ends.RefusalKind.TheVariants.{TooDeep, DuplicateKey, Tab, Anchor, Tag, Directive, ManyDocuments}
-use Rattle.guard_ends.specs.declared.ends.Which.TheVariants as file
+use Rattle.guard_ends.specs.declared.ends.Which.{Which}
 use Rattle.guard_ends.specs.declared.format.Format.{Format}
 use Rattle.guard_ends.specs.declared.format.Format.TheVariants as format
 
 -- of two trees, of two refusals, and of a tree and a refusal
 pub record OneText (f : Format) (text : List ℕ) : Type 0 where
   pub tree : (a b : Forest) → IsTreeOf f text a → IsTreeOf f text b → a ≡ b
-  pub refusal : (r q : Refusal) → RefusesTree f text r → RefusesTree f text q → r ≡ q
-  pub apart : (r : Refusal) (tree : Forest) → RefusesTree f text r → IsTreeOf f text tree → ⊥
+  pub refusal : (which : Which) (r q : Refusal) → RefusesTree which f text r → RefusesTree which f text q → r ≡ q
+  pub apart : (which : Which) (r : Refusal) (tree : Forest) → RefusesTree which f text r → IsTreeOf f text tree → ⊥
 
 -- what the laws of the reader of JSON say of a text
 pub record JsonLaws (text : List ℕ) : Type 0 where
@@ -37,59 +37,59 @@ json-one : (text : List ℕ) → JsonLaws text → (kind : RefusalKind) (at : �
 json-one text laws kind at other place (r, is, h) (q, is', h') =
     some_pair_parts kind other at place (sym is ∙ (ap json_kind (laws.refusal r q h h') ∙ is'))
 
-json-same : (text : List ℕ) → JsonLaws text → (r q : Refusal) → RefusesTree format.Json text r → RefusesTree format.Json text q → r ≡ q
-json-same text laws r q (kind, at, is, h) (other, place, is', h') =
+json-same : (text : List ℕ) → JsonLaws text → (which : Which) (r q : Refusal) → RefusesTree which format.Json text r → RefusesTree which format.Json text q → r ≡ q
+json-same text laws which r q (kind, at, is, h) (other, place, is', h') =
     let same = json-one text laws kind at other place h h' in
-    is ∙ (ap (λ k. At file.Template k at None) same.0 ∙ (ap (λ a. At file.Template other a None) same.1 ∙ sym is'))
+    is ∙ (ap (λ k. At which k at None) same.0 ∙ (ap (λ a. At which other a None) same.1 ∙ sym is'))
 
-json-apart : (text : List ℕ) → JsonLaws text → (r : Refusal) (tree : Forest) → RefusesTree format.Json text r → Json text tree → ⊥
-json-apart text laws r tree (kind, at, is, (refusal, named, h)) whole = laws.apart refusal tree h whole
+json-apart : (text : List ℕ) → JsonLaws text → (which : Which) (r : Refusal) (tree : Forest) → RefusesTree which format.Json text r → Json text tree → ⊥
+json-apart text laws which r tree (kind, at, is, (refusal, named, h)) whole = laws.apart refusal tree h whole
 
--- the refusal of a template by a sign
-abbrev of_sign : Sign → Refusal
-of_sign (sign.Tab at) = At file.Template Tab at None
-of_sign (sign.Anchor at) = At file.Template Anchor at None
-of_sign (sign.Tag at) = At file.Template Tag at None
-of_sign (sign.Directive at) = At file.Template Directive at None
-of_sign (sign.ManyDocuments at) = At file.Template ManyDocuments at None
-of_sign (sign.DuplicateKey at) = At file.Template DuplicateKey at None
-of_sign (sign.TooDeep at) = At file.Template TooDeep at None
+-- the refusal of a file by a sign
+abbrev of_sign : Which → Sign → Refusal
+of_sign which (sign.Tab at) = At which Tab at None
+of_sign which (sign.Anchor at) = At which Anchor at None
+of_sign which (sign.Tag at) = At which Tag at None
+of_sign which (sign.Directive at) = At which Directive at None
+of_sign which (sign.ManyDocuments at) = At which ManyDocuments at None
+of_sign which (sign.DuplicateKey at) = At which DuplicateKey at None
+of_sign which (sign.TooDeep at) = At which TooDeep at None
 
 -- a refusal of YAML says that no sign counts, or that one does, the only one
-abbrev IsSaid : List ℕ → Refusal → Type 0
-IsSaid text refusal =
-    ((refusal ≡ DataUnread) × ((s : Sign) → Counts text s → ⊥) × ((tree : Forest) → IsYaml text tree → ⊥))
-    ⊎ ((s : Sign) × (refusal ≡ of_sign s) × IsSignOf text s)
+abbrev IsSaid : Which → List ℕ → Refusal → Type 0
+IsSaid which text refusal =
+    ((refusal ≡ DataUnread which) × ((s : Sign) → Counts text s → ⊥) × ((tree : Forest) → IsYaml text tree → ⊥))
+    ⊎ ((s : Sign) × (refusal ≡ of_sign which s) × IsSignOf text s)
 
 refusal-one : (r q : Refusal) → Some r ≡ Some q → q ≡ r
 refusal-one r q same = cc
 
-yaml-said : (text : List ℕ) (r : YamlRefusal) (refusal : Refusal) → of_yaml r ≡ Some refusal → Refuses text r → IsSaid text refusal
-yaml-said text yaml.Unread refusal named h = inl (refusal-one DataUnread refusal named, h.0, h.1)
-yaml-said text (yaml.DuplicateKey at) refusal named h = inr (sign.DuplicateKey at, refusal-one (of_sign (sign.DuplicateKey at)) refusal named, h)
-yaml-said text (yaml.TooDeep at) refusal named h = inr (sign.TooDeep at, refusal-one (of_sign (sign.TooDeep at)) refusal named, h)
-yaml-said text (yaml.Tab at) refusal named h = inr (sign.Tab at, refusal-one (of_sign (sign.Tab at)) refusal named, h)
-yaml-said text (yaml.Anchor at) refusal named h = inr (sign.Anchor at, refusal-one (of_sign (sign.Anchor at)) refusal named, h)
-yaml-said text (yaml.Tag at) refusal named h = inr (sign.Tag at, refusal-one (of_sign (sign.Tag at)) refusal named, h)
-yaml-said text (yaml.Directive at) refusal named h = inr (sign.Directive at, refusal-one (of_sign (sign.Directive at)) refusal named, h)
-yaml-said text (yaml.ManyDocuments at) refusal named h = inr (sign.ManyDocuments at, refusal-one (of_sign (sign.ManyDocuments at)) refusal named, h)
-yaml-said text yaml.NoMemory refusal named h = absurd cc
+yaml-said : (which : Which) (text : List ℕ) (r : YamlRefusal) (refusal : Refusal) → of_yaml which r ≡ Some refusal → Refuses text r → IsSaid which text refusal
+yaml-said which text yaml.Unread refusal named h = inl (refusal-one (DataUnread which) refusal named, h.0, h.1)
+yaml-said which text (yaml.DuplicateKey at) refusal named h = inr (sign.DuplicateKey at, refusal-one (of_sign which (sign.DuplicateKey at)) refusal named, h)
+yaml-said which text (yaml.TooDeep at) refusal named h = inr (sign.TooDeep at, refusal-one (of_sign which (sign.TooDeep at)) refusal named, h)
+yaml-said which text (yaml.Tab at) refusal named h = inr (sign.Tab at, refusal-one (of_sign which (sign.Tab at)) refusal named, h)
+yaml-said which text (yaml.Anchor at) refusal named h = inr (sign.Anchor at, refusal-one (of_sign which (sign.Anchor at)) refusal named, h)
+yaml-said which text (yaml.Tag at) refusal named h = inr (sign.Tag at, refusal-one (of_sign which (sign.Tag at)) refusal named, h)
+yaml-said which text (yaml.Directive at) refusal named h = inr (sign.Directive at, refusal-one (of_sign which (sign.Directive at)) refusal named, h)
+yaml-said which text (yaml.ManyDocuments at) refusal named h = inr (sign.ManyDocuments at, refusal-one (of_sign which (sign.ManyDocuments at)) refusal named, h)
+yaml-said which text yaml.NoMemory refusal named h = absurd cc
 
-said-one : (text : List ℕ) (r q : Refusal) → IsSaid text r → IsSaid text q → r ≡ q
-said-one text r q (inl (is, quiet, none)) (inl (is', quiet', none')) = is ∙ sym is'
-said-one text r q (inl (is, quiet, none)) (inr (s, is', h)) = absurd (quiet s h.0)
-said-one text r q (inr (s, is, h)) (inl (is', quiet, none)) = absurd (quiet s h.0)
-said-one text r q (inr (s, is, h)) (inr (z, is', h')) = is ∙ (ap of_sign (sym (h.1 z h'.0)) ∙ sym is')
+said-one : (which : Which) (text : List ℕ) (r q : Refusal) → IsSaid which text r → IsSaid which text q → r ≡ q
+said-one which text r q (inl (is, quiet, none)) (inl (is', quiet', none')) = is ∙ sym is'
+said-one which text r q (inl (is, quiet, none)) (inr (s, is', h)) = absurd (quiet s h.0)
+said-one which text r q (inr (s, is, h)) (inl (is', quiet, none)) = absurd (quiet s h.0)
+said-one which text r q (inr (s, is, h)) (inr (z, is', h')) = is ∙ (ap (of_sign which) (sym (h.1 z h'.0)) ∙ sym is')
 
-said-apart : (text : List ℕ) (r : Refusal) (tree : Forest) → IsSaid text r → Reads text tree → ⊥
-said-apart text r tree (inl (is, quiet, none)) read = none tree read.0
-said-apart text r tree (inr (s, is, h)) read = h.2 tree read.0
+said-apart : (which : Which) (text : List ℕ) (r : Refusal) (tree : Forest) → IsSaid which text r → Reads text tree → ⊥
+said-apart which text r tree (inl (is, quiet, none)) read = none tree read.0
+said-apart which text r tree (inr (s, is, h)) read = h.2 tree read.0
 
-yaml-same : (text : List ℕ) (r q : Refusal) → RefusesTree format.Yaml text r → RefusesTree format.Yaml text q → r ≡ q
-yaml-same text r q (y, named, h) (z, named', h') = said-one text r q (yaml-said text y r named h) (yaml-said text z q named' h')
+yaml-same : (text : List ℕ) (which : Which) (r q : Refusal) → RefusesTree which format.Yaml text r → RefusesTree which format.Yaml text q → r ≡ q
+yaml-same text which r q (y, named, h) (z, named', h') = said-one which text r q (yaml-said which text y r named h) (yaml-said which text z q named' h')
 
-yaml-apart : (text : List ℕ) (r : Refusal) (tree : Forest) → RefusesTree format.Yaml text r → Reads text tree → ⊥
-yaml-apart text r tree (y, named, h) read = said-apart text r tree (yaml-said text y r named h) read
+yaml-apart : (text : List ℕ) (which : Which) (r : Refusal) (tree : Forest) → RefusesTree which format.Yaml text r → Reads text tree → ⊥
+yaml-apart text which r tree (y, named, h) read = said-apart which text r tree (yaml-said which text y r named h) read
 
 yaml-tree : (text : List ℕ) (a b : Forest) → Reads text a → Reads text b → a ≡ b
 yaml-tree text a b read read' = read'.1 a read.0

@@ -1,5 +1,5 @@
 //! The laws. The bodies cite other laws and do nothing else; a law is kept by a contract.
-ghost use Rattle.std.specs.Prelude.{◌≡◌, ◌≤◌, ◌⊎◌, ℕ, List, Some, false, true, length};
+ghost use Rattle.std.specs.Prelude.{◌≡◌, ◌≤◌, ◌⊎◌, ℕ, List, Option, Some, None, false, true, length, option_map};
 ghost use Rattle.doc_values.specs.Limits.{evidence_limit};
 ghost use Rattle.doc_values.specs.Tree.{Forest, Label, Nil, Node};
 ghost use Rattle.doc_values.specs.declared.kind.Kind.TheVariants as kind;
@@ -10,15 +10,17 @@ ghost use Rattle.guard_syntax.specs.Syntax.{File};
 ghost use Rattle.guard_words.specs.Request.{AsksFor, check, drill, validate};
 ghost use Rattle.rule_meaning.specs.FunctionMeaning.{IsAnswering};
 ghost use Rattle.rule_meaning.specs.Locations.{Answers};
+ghost use Rattle.report_text.specs.Texts.{Parameters};
 ghost use Rattle.guard_ends.specs.Check.{accepted_text};
 ghost use Rattle.guard_ends.specs.Drill.{drill_report, drill_rules};
 ghost use Rattle.guard_ends.specs.End.{AreSameButEvidence, IsBeside, is_reported};
-ghost use Rattle.guard_ends.specs.Inputs.{IsProof, IsRuleFile, IsTemplate, RefusesTemplate, format_of};
-ghost use Rattle.guard_ends.specs.Order.{AreRead, ComesTo, Contents, EndOf, Ended, Ends, IsChecked, IsJudged, IsJudgedBy, Point};
+ghost use Rattle.guard_ends.specs.Inputs.{IsProof, IsRuleFile, IsTemplate, RefusesData, format_of};
+ghost use Rattle.guard_ends.specs.Order.{AreRead, AreTold, ComesTo, Contents, EndOf, Ended, Ends, IsChecked, IsDataOf, IsJudged, IsJudgedBy, Point};
 ghost use Rattle.guard_ends.specs.Report.{report};
 ghost use Rattle.guard_ends.specs.Reported.{verdicts_of, world_over};
 ghost use Rattle.guard_ends.specs.declared.ends.End.TheVariants as end_is;
 ghost use Rattle.guard_ends.specs.declared.ends.Refusal.{Refusal};
+ghost use Rattle.guard_ends.specs.declared.ends.Which.{Which};
 ghost use Rattle.guard_ends.specs.declared.format.Format.{Format};
 
 use evidence_lines::one_text;
@@ -31,19 +33,20 @@ use std::str;
 /// The law that a call has one end: where the words ask for files whose contents are told, two ends that the definition gives
 /// are equal. A clause for each command. With `--evidence` two ends are alike but for the evidence, of which there may be more
 /// than one. The body does nothing; a law is kept by a contract.
-pub fn only_end(rules: &[u8], template: &[u8], evidence: &[u8])
-    ensures validated { (words : List (List ℕ)) (told : Contents) (r t : List ℕ) (e other : Ended)
-        → AsksFor words (validate r t false) → told r ≡ Some rules.now → told t ≡ Some template.now
+pub fn only_end(rules: &[u8], template: &[u8], params: &[u8], evidence: &[u8])
+    ensures validated { (words : List (List ℕ)) (told : Contents) (r t : List ℕ) (q : Option (List ℕ)) (e other : Ended)
+        → AsksFor words (validate r t q false) → told r ≡ Some rules.now → told t ≡ Some template.now → AreTold told q params.now
         → EndOf words told e → EndOf words told other → e ≡ other }
-    ensures evidenced { (words : List (List ℕ)) (told : Contents) (r t : List ℕ) (e other : Ended)
-        → AsksFor words (validate r t true) → told r ≡ Some rules.now → told t ≡ Some template.now
+    ensures evidenced { (words : List (List ℕ)) (told : Contents) (r t : List ℕ) (q : Option (List ℕ)) (e other : Ended)
+        → AsksFor words (validate r t q true) → told r ≡ Some rules.now → told t ≡ Some template.now → AreTold told q params.now
         → EndOf words told e → EndOf words told other → AreSameButEvidence e other }
-    ensures checked { (words : List (List ℕ)) (told : Contents) (r t p : List ℕ) (e other : Ended)
-        → AsksFor words (check r t p) → told r ≡ Some rules.now → told t ≡ Some template.now → told p ≡ Some evidence.now
-        → EndOf words told e → EndOf words told other → e ≡ other }
+    ensures checked { (words : List (List ℕ)) (told : Contents) (r t : List ℕ) (q : Option (List ℕ)) (p : List ℕ) (e other : Ended)
+        → AsksFor words (check r t q p) → told r ≡ Some rules.now → told t ≡ Some template.now → AreTold told q params.now
+        → told p ≡ Some evidence.now → EndOf words told e → EndOf words told other → e ≡ other }
 {
     one_syntax();
     only_template(template);
+    only_template(params);
     one_text();
 }
 
@@ -63,7 +66,7 @@ pub fn drill_is_judged()
     ensures judged { (words : List (List ℕ)) (told : Contents) (count : ℕ) (rules : File) (tree : Forest) (e : Ended)
         → AsksFor words (drill count) → IsRuleFile drill_rules rules → IsTemplate Format.Json (template_text count) tree
         → EndOf words told e
-        → IsJudged (drill_report count) (record { source = drill_rules; rules = rules; template = template_text count; tree = tree }) e }
+        → IsJudged (drill_report count) (record { rules = rules; tree = tree; texts = record { rules = drill_rules; template = template_text count; params = None } }) e }
     ensures points { (words : List (List ℕ)) (told : Contents) (count : ℕ) (p : Point)
         → AsksFor words (drill count) → ComesTo words told p → (e : Ended) × (p ≡ Ends e) }
 {
@@ -83,73 +86,89 @@ pub fn only_drill()
 /// The law that `--evidence` changes nothing but where the report goes: each end of a call with it stands beside an end of the call
 /// without it, over the same files.
 pub fn evidence_is_beside()
-    ensures { (words plain_words : List (List ℕ)) (told : Contents) (r t : List ℕ) (e : Ended)
-        → AsksFor words (validate r t true) → AsksFor plain_words (validate r t false) → EndOf words told e
+    ensures { (words plain_words : List (List ℕ)) (told : Contents) (r t : List ℕ) (q : Option (List ℕ)) (e : Ended)
+        → AsksFor words (validate r t q true) → AsksFor plain_words (validate r t q false) → EndOf words told e
         → (plain : Ended) × EndOf plain_words told plain × IsBeside plain e }
 {}
 
 /// The law that what is written as evidence is accepted: where a call with `--evidence` ends with a report, and a check of files with
-/// the same rules and the same template, in the same format, has as evidence what out took, which is no longer than evidence may be,
-/// then each end of the check is Accepted.
-pub fn written_is_accepted(rules: &[u8], template: &[u8], evidence: &[u8])
-    ensures { (words check_words : List (List ℕ)) (told told_later : Contents) (r t s u p : List ℕ) (e other : Ended)
-        → AsksFor words (validate r t true) → AsksFor check_words (check s u p) → format_of u ≡ format_of t
-        → told r ≡ Some rules.now → told t ≡ Some template.now
-        → told_later s ≡ Some rules.now → told_later u ≡ Some template.now → told_later p ≡ Some evidence.now
+/// the same rules, the same template and the same parameters, in the same formats, or without parameters in both, has as evidence what
+/// out took, which is no longer than evidence may be, then each end of the check is Accepted.
+pub fn written_is_accepted(rules: &[u8], template: &[u8], params: &[u8], evidence: &[u8])
+    ensures { (words check_words : List (List ℕ)) (told told_later : Contents) (r t : List ℕ) (q : Option (List ℕ)) (s u : List ℕ)
+        (v : Option (List ℕ)) (p : List ℕ) (e other : Ended)
+        → AsksFor words (validate r t q true) → AsksFor check_words (check s u v p) → format_of u ≡ format_of t
+        → option_map format_of v ≡ option_map format_of q
+        → told r ≡ Some rules.now → told t ≡ Some template.now → AreTold told q params.now
+        → told_later s ≡ Some rules.now → told_later u ≡ Some template.now → AreTold told_later v params.now
+        → told_later p ≡ Some evidence.now
         → EndOf words told e → is_reported e.how ≡ true → e.out ≡ evidence.now → length evidence.now ≤ evidence_limit
         → EndOf check_words told_later other → other.how ≡ end_is.Accepted }
 {
-    following_is_accepted(rules, template, evidence);
+    following_is_accepted(rules, template, params, evidence);
 }
 
-/// The law of completeness: where the words ask for `validate` of two files, whose contents are told, and these are a rule file
-/// and a template whose patterns can all be read, each end that the definition gives is one of the template that was judged.
-pub fn accepted_is_judged(rules: &[u8], template: &[u8])
-    ensures plain { (words : List (List ℕ)) (told : Contents) (r t : List ℕ) (file : File) (tree : Forest) (e : Ended)
-        → AsksFor words (validate r t false) → told r ≡ Some rules.now → told t ≡ Some template.now
-        → IsRuleFile rules.now file → IsTemplate (format_of t) template.now tree → AreRead file
-        → EndOf words told e → IsJudged report (record { source = rules.now; rules = file; template = template.now; tree = tree }) e }
-    ensures evidenced { (words : List (List ℕ)) (told : Contents) (r t : List ℕ) (file : File) (tree : Forest) (e : Ended)
-        → AsksFor words (validate r t true) → told r ≡ Some rules.now → told t ≡ Some template.now
-        → IsRuleFile rules.now file → IsTemplate (format_of t) template.now tree → AreRead file
-        → EndOf words told e → IsJudgedBy report (record { source = rules.now; rules = file; template = template.now; tree = tree }) e }
+/// The law of completeness: where the words ask for `validate` of two files, or of three with parameters, whose contents are told, and
+/// these are a rule file whose patterns can all be read, a template, and parameters that can stand behind its entries, each end that
+/// the definition gives is one of the data tree that was judged.
+pub fn accepted_is_judged(rules: &[u8], template: &[u8], params: &[u8])
+    ensures plain { (words : List (List ℕ)) (told : Contents) (r t : List ℕ) (q : Option (List ℕ)) (file : File) (tree data_tree : Forest)
+        (read : Option Parameters) (e : Ended)
+        → AsksFor words (validate r t q false) → told r ≡ Some rules.now → told t ≡ Some template.now → AreTold told q params.now
+        → IsRuleFile rules.now file → IsTemplate (format_of t) template.now tree → IsDataOf tree q params.now data_tree read → AreRead file
+        → EndOf words told e
+        → IsJudged report (record { rules = file; tree = data_tree; texts = record { rules = rules.now; template = template.now; params = read } }) e }
+    ensures evidenced { (words : List (List ℕ)) (told : Contents) (r t : List ℕ) (q : Option (List ℕ)) (file : File) (tree data_tree : Forest)
+        (read : Option Parameters) (e : Ended)
+        → AsksFor words (validate r t q true) → told r ≡ Some rules.now → told t ≡ Some template.now → AreTold told q params.now
+        → IsRuleFile rules.now file → IsTemplate (format_of t) template.now tree → IsDataOf tree q params.now data_tree read → AreRead file
+        → EndOf words told e
+        → IsJudgedBy report (record { rules = file; tree = data_tree; texts = record { rules = rules.now; template = template.now; params = read } }) e }
 {
     one_syntax();
     only_template(template);
+    only_template(params);
 }
 
 /// The law of completeness for a check: where, besides, evidence is asked for, whose content is told, and that is evidence,
 /// each end that the definition gives is one of the evidence that was judged: it is accepted or rejected.
-pub fn accepted_is_checked(rules: &[u8], template: &[u8], evidence: &[u8])
-    ensures { (words : List (List ℕ)) (told : Contents) (r t p : List ℕ) (file : File) (tree : Forest) (lines : Versioned) (e : Ended)
-        → AsksFor words (check r t p) → told r ≡ Some rules.now → told t ≡ Some template.now → told p ≡ Some evidence.now
-        → IsRuleFile rules.now file → IsTemplate (format_of t) template.now tree → AreRead file
-        → IsProof evidence.now lines → EndOf words told e → IsChecked file tree lines e }
+pub fn accepted_is_checked(rules: &[u8], template: &[u8], params: &[u8], evidence: &[u8])
+    ensures { (words : List (List ℕ)) (told : Contents) (r t : List ℕ) (q : Option (List ℕ)) (p : List ℕ) (file : File)
+        (tree data_tree : Forest) (read : Option Parameters) (lines : Versioned) (e : Ended)
+        → AsksFor words (check r t q p) → told r ≡ Some rules.now → told t ≡ Some template.now → AreTold told q params.now
+        → told p ≡ Some evidence.now
+        → IsRuleFile rules.now file → IsTemplate (format_of t) template.now tree → IsDataOf tree q params.now data_tree read → AreRead file
+        → IsProof evidence.now lines → EndOf words told e → IsChecked file data_tree lines e }
 {
     one_syntax();
     only_template(template);
+    only_template(params);
     one_text();
 }
 
 /// The law that evidence which is to be accepted is accepted, and no other: where, besides, each line follows and each rule has
 /// the line of its verdict, each end that the definition gives is Accepted, and only there.
-pub fn following_is_accepted(rules: &[u8], template: &[u8], evidence: &[u8])
-    ensures accepted { (words : List (List ℕ)) (told : Contents) (r t p : List ℕ) (file : File) (tree : Forest) (lines : Versioned) (e : Ended)
-        → AsksFor words (check r t p) → told r ≡ Some rules.now → told t ≡ Some template.now → told p ≡ Some evidence.now
-        → IsRuleFile rules.now file → IsTemplate (format_of t) template.now tree → AreRead file
-        → IsProof evidence.now lines → Accepts lines.version tree file lines.lines
+pub fn following_is_accepted(rules: &[u8], template: &[u8], params: &[u8], evidence: &[u8])
+    ensures accepted { (words : List (List ℕ)) (told : Contents) (r t : List ℕ) (q : Option (List ℕ)) (p : List ℕ) (file : File)
+        (tree data_tree : Forest) (read : Option Parameters) (lines : Versioned) (e : Ended)
+        → AsksFor words (check r t q p) → told r ≡ Some rules.now → told t ≡ Some template.now → AreTold told q params.now
+        → told p ≡ Some evidence.now
+        → IsRuleFile rules.now file → IsTemplate (format_of t) template.now tree → IsDataOf tree q params.now data_tree read → AreRead file
+        → IsProof evidence.now lines → Accepts lines.version data_tree file lines.lines
         → EndOf words told e → e.how ≡ end_is.Accepted }
-    ensures only { (words : List (List ℕ)) (told : Contents) (r t p : List ℕ) (file : File) (tree : Forest) (lines : Versioned) (e : Ended)
-        → AsksFor words (check r t p) → told r ≡ Some rules.now → told t ≡ Some template.now → told p ≡ Some evidence.now
-        → IsRuleFile rules.now file → IsTemplate (format_of t) template.now tree → AreRead file
+    ensures only { (words : List (List ℕ)) (told : Contents) (r t : List ℕ) (q : Option (List ℕ)) (p : List ℕ) (file : File)
+        (tree data_tree : Forest) (read : Option Parameters) (lines : Versioned) (e : Ended)
+        → AsksFor words (check r t q p) → told r ≡ Some rules.now → told t ≡ Some template.now → AreTold told q params.now
+        → told p ≡ Some evidence.now
+        → IsRuleFile rules.now file → IsTemplate (format_of t) template.now tree → IsDataOf tree q params.now data_tree read → AreRead file
         → IsProof evidence.now lines → EndOf words told e
-        → e.how ≡ end_is.Accepted → Accepts lines.version tree file lines.lines }
+        → e.how ≡ end_is.Accepted → Accepts lines.version data_tree file lines.lines }
 {
-    accepted_is_checked(rules, template, evidence);
+    accepted_is_checked(rules, template, params, evidence);
 }
 
 /// The law that accepted evidence is true, whoever wrote it: for bytes that are a rule file, what out takes of it are the
-/// verdicts of the rules by their meaning over the template, those that the report has.
+/// verdicts of the rules by their meaning over the data, those that the report has.
 pub fn accepted_is_true()
     ensures { (bytes : List ℕ) (rules : File) (evidence : Versioned) (template : Forest) (answers : Answers) (e : Ended)
         → IsRuleFile bytes rules → IsChecked rules template evidence e → e.how ≡ end_is.Accepted
@@ -160,11 +179,11 @@ pub fn accepted_is_true()
     sites_in_order();
 }
 
-/// The law that a template has one tree or one refusal in each format, and not both.
+/// The law that a template, or parameters, have one tree or one refusal in each format, and not both.
 fn only_template(bytes: &[u8])
     ensures tree { (f : Format) (tree other : Forest) → IsTemplate f bytes.now tree → IsTemplate f bytes.now other → tree ≡ other }
-    ensures refusal { (f : Format) (r other : Refusal) → RefusesTemplate f bytes.now r → RefusesTemplate f bytes.now other → r ≡ other }
-    ensures apart { (f : Format) (r : Refusal) (tree : Forest) → RefusesTemplate f bytes.now r → IsTemplate f bytes.now tree → ⊥ }
+    ensures refusal { (which : Which) (f : Format) (r other : Refusal) → RefusesData which f bytes.now r → RefusesData which f bytes.now other → r ≡ other }
+    ensures apart { (which : Which) (f : Format) (r : Refusal) (tree : Forest) → RefusesData which f bytes.now r → IsTemplate f bytes.now tree → ⊥ }
 {
     match str::from_utf8(bytes) {
         Ok(text) => {

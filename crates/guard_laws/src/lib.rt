@@ -1,4 +1,4 @@
-//! Laws over the end of a call of `guard`, which `guard_ends` defines: it has one end, a template that is accepted is
+//! Laws over the end of a call of `guard`, which `guard_ends` defines: it has one end, data that are accepted are
 //! judged, evidence that is accepted is true, a drill is judged. They are calls that do nothing, whose contracts are the laws; no program
 //! calls them.
 #![tactic(auto)]
