@@ -7,6 +7,7 @@ use Rattle.guard_syntax.specs.declared.row.Verdict.{Verdict}
 use Rattle.rule_meaning.specs.Locations.{Answers}
 use Rattle.rule_meaning.specs.Seeing.{world_of}
 use Rattle.rule_meaning.specs.StoreModel.{StoreModel}
+use Rattle.report_text.specs.Texts.{Texts}
 use Rattle.guard_ends.specs.Drill.{drill_report, fail_count, verdict_line}
 use Rattle.guard_ends.specs.Report.{total_line}
 use Rattle.guard_ends.specs.Reported.{Reported, reported, verdicts_of}
@@ -56,10 +57,10 @@ module _ (known : StoreModel) (lines : List Line) where
     headings-told : flat_map heading all ≡ flat_map verdict_line (reported (world_of known answers))
     headings-told = headings-seen all ∙ ap (flat_map verdict_line) are
 
-    pub drill-told : (count entries : ℕ) (xs ys : List VerdictLine) → xs ≡ all → ys ≡ all → entries ≡ fail_count (map (see_verdict known lines) xs)
+    pub drill-told : (texts : Texts) (count entries : ℕ) (xs ys : List VerdictLine) → xs ≡ all → ys ≡ all → entries ≡ fail_count (map (see_verdict known lines) xs)
         → (codes "drill " ++ decimal count ++ codes "\n") ++ flat_map heading ys ++ (codes "fails " ++ decimal entries ++ codes "\n") ++ total_line (verdicts_in ys)
-        ≡ drill_report count (world_of known answers) [] []
-    drill-told count entries xs ys first second counted =
+        ≡ drill_report count (world_of known answers) texts
+    drill-told texts count entries xs ys first second counted =
         drill-alike count entries (fail_count (reported (world_of known answers))) (flat_map heading ys) (flat_map verdict_line (reported (world_of known answers))) (total_line (verdicts_in ys))
         (total_line (verdicts_of (world_of known answers)))
         (counted ∙ ap (λ (vs : List VerdictLine). fail_count (map (see_verdict known lines) vs)) first ∙ ap fail_count are)

@@ -7,6 +7,7 @@ use Rattle.report_text.specs.EntryLines.{entry_line}
 use Rattle.rule_meaning.specs.Fails.{Entry}
 use Rattle.rule_meaning.specs.StoreModel.{StoreModel}
 use Rattle.evidence_truth.specs.code.LineFails.{line_fails}
+use Rattle.report_text.specs.Texts.{Texts}
 use Rattle.evidence_report.specs.code.Leads.{AreBelow, CitesFall, IsBelow, Leading, ToLine, entries_behind, line_leads, see_lead}
 use Rattle.evidence_report.specs.code.Written.{entry_lines}
 use Rattle.guard_syntax.specs.declared.row.Origin.TheVariants.{Template}
@@ -16,29 +17,29 @@ use Rattle.evidence_report.specs.declared.lead.Lead.{Lead}
 use Rattle.evidence_report.specs.declared.lead.Lead.TheVariants as lead
 use Rattle.evidence_report.proofs.LeadEntries.{below-line, fails-behind}
 
-lines-both : (known : StoreModel) (rules template : List ℕ) (es fs : List Entry) → entry_lines known rules template (es ++ fs) ≡ entry_lines known rules template es ++ entry_lines known rules template fs
-lines-both known rules template [] fs = refl
-lines-both known rules template (e ∷ es) fs =
-    ap (λ (t : List ℕ). entry_line known.file known.template rules template e ++ t) (lines-both known rules template es fs)
-    ∙ sym (append_assoc (entry_line known.file known.template rules template e) (entry_lines known rules template es) (entry_lines known rules template fs))
+lines-both : (known : StoreModel) (texts : Texts) (es fs : List Entry) → entry_lines known texts (es ++ fs) ≡ entry_lines known texts es ++ entry_lines known texts fs
+lines-both known texts [] fs = refl
+lines-both known texts (e ∷ es) fs =
+    ap (λ (t : List ℕ). entry_line known.file known.template texts e ++ t) (lines-both known texts es fs)
+    ∙ sym (append_assoc (entry_line known.file known.template texts e) (entry_lines known texts es) (entry_lines known texts fs))
 
-module _ (known : StoreModel) (lines : List Line) (rules template : List ℕ) where
+module _ (known : StoreModel) (lines : List Line) (texts : Texts) where
   -- the lines of one lead
   abbrev pub lead_text : Lead → List ℕ
-  lead_text x = entry_lines known rules template (entries_behind (λ (c : ℕ). line_fails known lines c c) (see_lead known x))
+  lead_text x = entry_lines known texts (entries_behind (λ (c : ℕ). line_fails known lines c c) (see_lead known x))
 
-  texts-behind : (xs : List Lead) → flat_map lead_text xs ≡ entry_lines known rules template (flat_map (entries_behind (λ (c : ℕ). line_fails known lines c c)) (map (see_lead known) xs))
+  texts-behind : (xs : List Lead) → flat_map lead_text xs ≡ entry_lines known texts (flat_map (entries_behind (λ (c : ℕ). line_fails known lines c c)) (map (see_lead known) xs))
   texts-behind [] = refl
   texts-behind (x ∷ xs) =
       ap (λ (t : List ℕ). lead_text x ++ t) (texts-behind xs)
-      ∙ sym (lines-both known rules template (entries_behind (λ (c : ℕ). line_fails known lines c c) (see_lead known x)) (flat_map (entries_behind (λ (c : ℕ). line_fails known lines c c)) (map (see_lead known) xs)))
+      ∙ sym (lines-both known texts (entries_behind (λ (c : ℕ). line_fails known lines c c) (see_lead known x)) (flat_map (entries_behind (λ (c : ℕ). line_fails known lines c c)) (map (see_lead known) xs)))
 
   module _ (falls : CitesFall lines) (number : ℕ) (xs : List Lead) (are : map (see_lead known) xs ≡ line_leads known lines (line_of lines number)) where
-    pub line-text : flat_map lead_text xs ≡ entry_lines known rules template (line_fails known lines number number)
+    pub line-text : flat_map lead_text xs ≡ entry_lines known texts (line_fails known lines number number)
     line-text =
         texts-behind xs
-        ∙ ap (λ (ls : List Leading). entry_lines known rules template (flat_map (entries_behind (λ (c : ℕ). line_fails known lines c c)) ls)) are
-        ∙ ap (entry_lines known rules template) (fails-behind known lines falls number)
+        ∙ ap (λ (ls : List Leading). entry_lines known texts (flat_map (entries_behind (λ (c : ℕ). line_fails known lines c c)) ls)) are
+        ∙ ap (entry_lines known texts) (fails-behind known lines falls number)
 
     mapped-at : (ys : List Lead) (i : ℕ) (d : Lead) (z : Leading) → i < length ys → (AreBelow known lines number (map (see_lead known) ys)) → IsBelow known lines number (see_lead known (get_or ys i d))
     mapped-at [] i d z within all = absurd (omega (arith, within))

@@ -1,11 +1,12 @@
 //! The report of a drill from what evidence says: the line of each verdict, and how many entries there are.
-ghost use Rattle.std.specs.Prelude.{◌≡◌, ◌≤◌, ◌++◌, [], IsErrOf, IsSome, OnOk, OnErr, IfOk, codes, decimal};
+ghost use Rattle.std.specs.Prelude.{◌≡◌, ◌≤◌, ◌++◌, IsErrOf, IsSome, OnOk, OnErr, IfOk, codes, decimal};
 ghost use Rattle.std.specs.List.{flat_map};
 ghost use Rattle.guard_io.specs.Outside.{FaultCounted};
 ghost use Rattle.rule_meaning.specs.FunctionMeaning.{IsAnswering};
 ghost use Rattle.rule_meaning.specs.Locations.{Answers};
 ghost use Rattle.rule_meaning.specs.Seeing.{world_of};
 ghost use Rattle.evidence_lookups.specs.code.Grounds.{known_of, lines_of};
+ghost use Rattle.report_text.specs.Texts.{Texts};
 ghost use Rattle.guard_ends.specs.Drill.{drill_report};
 ghost use Rattle.guard_ends.specs.Report as reports;
 ghost use Rattle.evidence_report.specs.code.RuleEntries.{IsAccepted};
@@ -21,7 +22,7 @@ use report_text::{ReportFault, push_rule_line};
 use std::alloc::{AllocError, Global};
 
 /// Writes the report of a drill of so many resources by evidence that was accepted: its first line, the line of each verdict,
-/// how many entries there are, up to the most that 64 bits hold, and the total line. It shows no text, so there is no page. The
+/// how many entries there are, up to the most that 64 bits hold, and the total line. It tells no place, so there are no texts. The
 /// store holds the trees of the lines' calls. After an error the sink has taken a front of the report; `Failed` comes only where
 /// its count of faults rose.
 pub fn write_drill<S: Sink>(
@@ -31,10 +32,10 @@ pub fn write_drill<S: Sink>(
     sink: &mut S,
 ) -> Result<(), ReportFault>
     requires { IsAccepted context.now.version (known_of context.now) (lines_of context.now) }
-    ensures ok { (answers : Answers) → IsAnswering (world_of (known_of context.now) answers)
-        → OnOk result (Takes (S.told sink.old) (drill_report count (world_of (known_of context.now) answers) [] []) (S.told sink.new)) }
-    ensures err { (answers : Answers) → IsAnswering (world_of (known_of context.now) answers)
-        → OnErr result (TakesFront (S.told sink.old) (drill_report count (world_of (known_of context.now) answers) [] []) (S.told sink.new)) }
+    ensures ok { (answers : Answers) (texts : Texts) → IsAnswering (world_of (known_of context.now) answers)
+        → OnOk result (Takes (S.told sink.old) (drill_report count (world_of (known_of context.now) answers) texts) (S.told sink.new)) }
+    ensures err { (answers : Answers) (texts : Texts) → IsAnswering (world_of (known_of context.now) answers)
+        → OnErr result (TakesFront (S.told sink.old) (drill_report count (world_of (known_of context.now) answers) texts) (S.told sink.new)) }
     ensures tells { IsSome (S.told sink.old) → IsSome (S.told sink.new) }
     ensures failed { IsErrOf result ReportFault.Failed → FaultCounted (S.faults sink.old) (S.faults sink.new) }
     ensures kept { S.faults sink.old ≤ S.faults sink.new }
@@ -52,8 +53,8 @@ fn drill_text(
     count: u32,
 ) -> Result<Vec<u8>, AllocError>
     requires { IsAccepted context.now.version (known_of context.now) (lines_of context.now) }
-    ensures { (answers : Answers) → IsAnswering (world_of (known_of context.now) answers)
-        → IfOk result (λ text. text.items ≡ drill_report count (world_of (known_of context.now) answers) [] []) }
+    ensures { (answers : Answers) (texts : Texts) → IsAnswering (world_of (known_of context.now) answers)
+        → IfOk result (λ text. text.items ≡ drill_report count (world_of (known_of context.now) answers) texts) }
 {
     let all = verdict_lines(alloc, context, context.store.file.raw())?;
     let entries = count_entries(alloc, context, &all)?;

@@ -17,11 +17,10 @@ mod rule_lines;
 mod shown;
 mod tally;
 pub mod verdict_lines;
-pub mod write;
+mod write;
 
 pub use count::fail_counts;
 pub use drill::write_drill;
 pub use fails::write_fails;
 pub use report::{count_fails, write_report};
 pub use verdict_lines::verdicts_told;
-pub use write::Page;

@@ -9,6 +9,7 @@ ghost use Rattle.rule_meaning.specs.Seeing.{world_of};
 ghost use Rattle.rule_meaning.specs.StoreModel.{StoreModel};
 ghost use Rattle.evidence_lookups.specs.code.Grounds.{known_of, lines_of};
 ghost use Rattle.report_text.specs.RuleLines.{rule_line};
+ghost use Rattle.report_text.specs.code.SeenTexts.{see_lined};
 ghost use Rattle.guard_ends.specs.Drill.{fail_count};
 ghost use Rattle.guard_ends.specs.Report as reports;
 ghost use Rattle.guard_ends.specs.Reported.{reported};
@@ -22,28 +23,28 @@ ghost use Rattle.evidence_report.specs.code.Written.{Takes, TakesFront};
 use crate::count::{count_at, count_lines};
 use crate::tally::total_line;
 use crate::verdict_lines::{VerdictLine, verdict_lines};
-use crate::write::{Page, write_line};
+use crate::write::write_line;
 use evidence_lookups::line_context::LineContext;
 use guard_io::{Sink, SinkFault};
 use guard_syntax::Verdict;
-use report_text::{ReportFault, push_rule_line};
+use report_text::{LinedTexts, ReportFault, push_rule_line};
 use std::alloc::{AllocError, Global};
 
 /// Writes the report on a template by evidence that was accepted: the line of each verdict, under that the lines of what it
 /// fails by, and last the total line; and answers how many entries there are, up to the most that 64 bits hold. The store holds
-/// the trees of the lines' calls; the page has the texts from which its file and its template were read. After an error the sink
+/// the trees of the lines' calls; the texts are those from which its file and its data tree were read. After an error the sink
 /// has taken a front of the report; `Failed` comes only where its count of faults rose.
 pub fn write_report<S: Sink>(
     alloc: Global,
     context: &LineContext<'_, '_, '_>,
-    page: &Page<'_>,
+    texts: &LinedTexts<'_>,
     sink: &mut S,
 ) -> Result<u64, ReportFault>
     requires { IsAccepted context.now.version (known_of context.now) (lines_of context.now) }
     ensures ok { (answers : Answers) → IsAnswering (world_of (known_of context.now) answers)
-        → OnOk result (Takes (S.told sink.old) (reports.report (world_of (known_of context.now) answers) page.now.rules.now.text.now page.now.template.now.text.now) (S.told sink.new)) }
+        → OnOk result (Takes (S.told sink.old) (reports.report (world_of (known_of context.now) answers) (see_lined texts.now)) (S.told sink.new)) }
     ensures err { (answers : Answers) → IsAnswering (world_of (known_of context.now) answers)
-        → OnErr result (TakesFront (S.told sink.old) (reports.report (world_of (known_of context.now) answers) page.now.rules.now.text.now page.now.template.now.text.now) (S.told sink.new)) }
+        → OnErr result (TakesFront (S.told sink.old) (reports.report (world_of (known_of context.now) answers) (see_lined texts.now)) (S.told sink.new)) }
     ensures count { (answers : Answers) → IsAnswering (world_of (known_of context.now) answers)
         → IfOk result (λ n. n ≡ fail_count (reported (world_of (known_of context.now) answers))) }
     ensures tells { IsSome (S.told sink.old) → IsSome (S.told sink.new) }
@@ -56,7 +57,7 @@ pub fn write_report<S: Sink>(
     let Ok(entries) = count_entries(alloc, context, &all) else {
         return Err(ReportFault::Memory);
     };
-    write_verdicts(alloc, context, page, &all, sink)?;
+    write_verdicts(alloc, context, texts, &all, sink)?;
     write_total(alloc, &all, sink)?;
     Ok(entries)
 }
@@ -114,21 +115,21 @@ fn count_under(counts: &[u64], listed: &VerdictLine<'_>) -> u64
 fn write_verdicts<S: Sink>(
     alloc: Global,
     context: &LineContext<'_, '_, '_>,
-    page: &Page<'_>,
+    texts: &LinedTexts<'_>,
     all: &[VerdictLine<'_>],
     sink: &mut S,
 ) -> Result<(), ReportFault>
     requires { CitesFall (lines_of context.now) }
-    ensures ok { OnOk result (Takes (S.told sink.old) (flat_map (reports.lines_of (known_of context.now).file (known_of context.now).template page.now.rules.now.text.now page.now.template.now.text.now)
+    ensures ok { OnOk result (Takes (S.told sink.old) (flat_map (reports.lines_of (known_of context.now).file (known_of context.now).template (see_lined texts.now))
         (map (see_verdict (known_of context.now) (lines_of context.now)) all.now)) (S.told sink.new)) }
-    ensures err { OnErr result (TakesFront (S.told sink.old) (flat_map (reports.lines_of (known_of context.now).file (known_of context.now).template page.now.rules.now.text.now page.now.template.now.text.now)
+    ensures err { OnErr result (TakesFront (S.told sink.old) (flat_map (reports.lines_of (known_of context.now).file (known_of context.now).template (see_lined texts.now))
         (map (see_verdict (known_of context.now) (lines_of context.now)) all.now)) (S.told sink.new)) }
     ensures tells { IsSome (S.told sink.old) → IsSome (S.told sink.new) }
     ensures failed { IsErrOf result ReportFault.Failed → FaultCounted (S.faults sink.old) (S.faults sink.new) }
     ensures kept { S.faults sink.old ≤ S.faults sink.new }
 {
     for listed in all {
-        write_verdict(alloc, context, page, listed, sink)?;
+        write_verdict(alloc, context, texts, listed, sink)?;
     }
     Ok(())
 }
@@ -137,14 +138,14 @@ fn write_verdicts<S: Sink>(
 fn write_verdict<S: Sink>(
     alloc: Global,
     context: &LineContext<'_, '_, '_>,
-    page: &Page<'_>,
+    texts: &LinedTexts<'_>,
     listed: &VerdictLine<'_>,
     sink: &mut S,
 ) -> Result<(), ReportFault>
     requires { CitesFall (lines_of context.now) }
-    ensures ok { OnOk result (Takes (S.told sink.old) (reports.lines_of (known_of context.now).file (known_of context.now).template page.now.rules.now.text.now page.now.template.now.text.now
+    ensures ok { OnOk result (Takes (S.told sink.old) (reports.lines_of (known_of context.now).file (known_of context.now).template (see_lined texts.now)
         (see_verdict (known_of context.now) (lines_of context.now) listed.now)) (S.told sink.new)) }
-    ensures err { OnErr result (TakesFront (S.told sink.old) (reports.lines_of (known_of context.now).file (known_of context.now).template page.now.rules.now.text.now page.now.template.now.text.now
+    ensures err { OnErr result (TakesFront (S.told sink.old) (reports.lines_of (known_of context.now).file (known_of context.now).template (see_lined texts.now)
         (see_verdict (known_of context.now) (lines_of context.now) listed.now)) (S.told sink.new)) }
     ensures tells { IsSome (S.told sink.old) → IsSome (S.told sink.new) }
     ensures failed { IsErrOf result ReportFault.Failed → FaultCounted (S.faults sink.old) (S.faults sink.new) }
@@ -152,7 +153,7 @@ fn write_verdict<S: Sink>(
 {
     write_heading(alloc, listed, sink)?;
     match listed.line.verdict {
-        Verdict::Fail => write_line(alloc, context, page, listed.line.number, sink),
+        Verdict::Fail => write_line(alloc, context, texts, listed.line.number, sink),
         Verdict::Pass => Ok(()),
         Verdict::Skip => Ok(()),
     }

@@ -3,6 +3,7 @@ ghost use Rattle.std.specs.Prelude.{◌≡◌, ◌≤◌, IsErrOf, IsSome, OnOk,
 ghost use Rattle.guard_io.specs.Outside.{FaultCounted};
 ghost use Rattle.evidence_lookups.specs.code.Grounds.{known_of, lines_of};
 ghost use Rattle.evidence_truth.specs.code.LineFails.{line_fails};
+ghost use Rattle.report_text.specs.code.SeenTexts.{see_lined};
 ghost use Rattle.evidence_report.specs.code.Leads.{CitesFall, IsShown, entries_behind, see_lead};
 ghost use Rattle.evidence_report.specs.code.Written.{Takes, TakesFront, entry_lines};
 
@@ -10,29 +11,22 @@ use crate::lead::Lead;
 use crate::leads::leads_of;
 use evidence_lookups::line_context::LineContext;
 use guard_io::Sink;
-use report_text::{Lined, ReportFault, write_entry_over};
+use report_text::{LinedTexts, ReportFault, write_entry_over};
 use std::alloc::Global;
-
-/// The texts from which the rules and the template were read, with their lines.
-#[derive(Clone, Copy)]
-pub struct Page<'p> {
-    pub rules: &'p Lined<'p>,
-    pub template: &'p Lined<'p>,
-}
 
 /// Writes the lines of the entries by which the line of a number fails. After an error the sink has taken a front of them.
 #[cycle(write)]
 pub(crate) fn write_line<S: Sink>(
     alloc: Global,
     context: &LineContext<'_, '_, '_>,
-    page: &Page<'_>,
+    texts: &LinedTexts<'_>,
     number: u64,
     sink: &mut S,
 ) -> Result<(), ReportFault>
     requires { CitesFall (lines_of context.now) }
-    ensures ok { OnOk result (Takes (S.told sink.old) (entry_lines (known_of context.now) page.now.rules.now.text.now page.now.template.now.text.now
+    ensures ok { OnOk result (Takes (S.told sink.old) (entry_lines (known_of context.now) (see_lined texts.now)
         (line_fails (known_of context.now) (lines_of context.now) number number)) (S.told sink.new)) }
-    ensures err { OnErr result (TakesFront (S.told sink.old) (entry_lines (known_of context.now) page.now.rules.now.text.now page.now.template.now.text.now
+    ensures err { OnErr result (TakesFront (S.told sink.old) (entry_lines (known_of context.now) (see_lined texts.now)
         (line_fails (known_of context.now) (lines_of context.now) number number)) (S.told sink.new)) }
     ensures tells { IsSome (S.told sink.old) → IsSome (S.told sink.new) }
     ensures failed { IsErrOf result ReportFault.Failed → FaultCounted (S.faults sink.old) (S.faults sink.new) }
@@ -42,7 +36,7 @@ pub(crate) fn write_line<S: Sink>(
         return Err(ReportFault::Memory);
     };
     for lead in leads.as_slice() {
-        write_lead(alloc, context, page, lead, sink)?;
+        write_lead(alloc, context, texts, lead, sink)?;
     }
     Ok(())
 }
@@ -52,15 +46,15 @@ pub(crate) fn write_line<S: Sink>(
 fn write_lead<S: Sink>(
     alloc: Global,
     context: &LineContext<'_, '_, '_>,
-    page: &Page<'_>,
+    texts: &LinedTexts<'_>,
     lead: &Lead,
     sink: &mut S,
 ) -> Result<(), ReportFault>
     requires falls { CitesFall (lines_of context.now) }
     requires shown { IsShown (known_of context.now) lead.now }
-    ensures ok { OnOk result (Takes (S.told sink.old) (entry_lines (known_of context.now) page.now.rules.now.text.now page.now.template.now.text.now
+    ensures ok { OnOk result (Takes (S.told sink.old) (entry_lines (known_of context.now) (see_lined texts.now)
         (entries_behind (λ c. line_fails (known_of context.now) (lines_of context.now) c c) (see_lead (known_of context.now) lead.now))) (S.told sink.new)) }
-    ensures err { OnErr result (TakesFront (S.told sink.old) (entry_lines (known_of context.now) page.now.rules.now.text.now page.now.template.now.text.now
+    ensures err { OnErr result (TakesFront (S.told sink.old) (entry_lines (known_of context.now) (see_lined texts.now)
         (entries_behind (λ c. line_fails (known_of context.now) (lines_of context.now) c c) (see_lead (known_of context.now) lead.now))) (S.told sink.new)) }
     ensures tells { IsSome (S.told sink.old) → IsSome (S.told sink.new) }
     ensures failed { IsErrOf result ReportFault.Failed → FaultCounted (S.faults sink.old) (S.faults sink.new) }
@@ -70,12 +64,11 @@ fn write_lead<S: Sink>(
         Lead::Entry(entry) => write_entry_over(
             alloc,
             context.store.file,
-            page.rules,
-            page.template,
+            texts,
             context.store,
             entry,
             sink,
         ),
-        Lead::Line(number) => write_line(alloc, context, page, *number, sink),
+        Lead::Line(number) => write_line(alloc, context, texts, *number, sink),
     }
 }
