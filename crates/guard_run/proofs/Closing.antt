@@ -3,7 +3,7 @@ use Rattle.std.proofs.Common.{◌≡◌, ◌≢◌, ℕ, ◌++◌, inl, inr, Lis
 use Rattle.std.proofs.lemmas.List.{append-nil}
 use Rattle.std.specs.Option.{ForSome}
 use Rattle.guard_io.specs.Outside.{IsPrefix}
-use Rattle.guard_ends.specs.End.{Faults, IsReport, MaySay, MayWant, Took, TookAsDefined, is_defined, is_reported}
+use Rattle.guard_ends.specs.End.{Faults, IsTaken, MaySay, MayWant, Took, TookAsDefined, is_defined, is_reported}
 use Rattle.guard_ends.specs.Lines.{memory_line}
 use Rattle.guard_ends.specs.Order.{Contents, EndOf, Ended}
 use Rattle.guard_run.specs.code.Writing.{Closed, Said, SaidMemory}
@@ -71,9 +71,9 @@ reported-defined (end_is.WriteFault pipe) is = absurd cc
 reported-defined end_is.PatternRefused is = absurd cc
 reported-defined end_is.Memory is = absurd cc
 
-pub IsReport-as : (words : List (List ℕ)) (told : Contents) (how : End) (text further : List ℕ) → is_reported how ≡ true → EndOf words told (reported_with how text further)
-    → IsReport words told text
-IsReport-as words told how text further is end = (reported_with how text further, end, is, refl)
+pub IsTaken-as : (words : List (List ℕ)) (told : Contents) (how : End) (text further : List ℕ) → is_reported how ≡ true → EndOf words told (reported_with how text further)
+    → IsTaken words told text
+IsTaken-as words told how text further is end = (reported_with how text further, end, is, refl)
 
 -- at ends that are defined, what the sinks took is what is defined
 pub Closed-defined : (words : List (List ℕ)) (told : Contents) (before after : Faults) (how : End) (out out' err err' : Option (List ℕ)) → is_defined how ≡ true

@@ -1,5 +1,6 @@
 mod Accepted
 mod Closing
+mod Joinings
 mod Loads
 mod Outcomes
 mod PrintedLines

@@ -2,13 +2,14 @@
 use Rattle.std.proofs.Common.{◌≡◌, ℕ, ◌+◌, ◌++◌, ◌<◌, ◌≤◌, List, [], length, take, Option, Some, None, arith, inl, inr, refl, sym, subst, ◌∙◌}
 use Rattle.std.proofs.lemmas.List.{length-take, take_all}
 use Rattle.std.specs.Option.{ForSome}
-use Rattle.guard_ends.specs.Inputs.{RefusesProof, RefusesRules, RefusesTemplate}
+use Rattle.doc_values.specs.Limits.{template_limit}
+use Rattle.guard_ends.specs.Inputs.{IsNoText, IsTooLong, RefusesData, RefusesProof, RefusesRules}
 use Rattle.guard_ends.specs.Order.{Contents, IsContent, Loading, Point, Refusing, Work}
 use Rattle.guard_ends.specs.declared.ends.Refusal.{Refusal}
 use Rattle.guard_ends.specs.declared.ends.Which.{Which}
 use Rattle.guard_ends.specs.declared.ends.Which.TheVariants as file
 use Rattle.guard_ends.specs.declared.format.Format.{Format}
-use Rattle.guard_run.specs.code.Loading.{RefusesLength, RefusesText}
+use Rattle.guard_run.specs.code.Loading.{RefusesLength, RefusesText, limit_of}
 
 -- no more than the limit came, though one byte more was asked for: that is all of it
 pub loaded-whole : (told : Option (List ℕ)) (held bytes : List ℕ) (limit : ℕ) → held ≡ []
@@ -28,14 +29,14 @@ loaded-long (Some content) held bytes limit none ok long =
     let h : limit < length (take (limit + 1) content) = rw (← e) long in
     (content, (λ other is. cc), omega (arith, length-take (limit + 1) content, h))
 
--- what is refused as no text, or for its length, is refused as rules, as a template, or as evidence
+-- what is refused as no text, or for its length, is refused as rules, as a template or parameters, or as evidence
 pub text-rules : (bytes : List ℕ) (refusal : Refusal) → RefusesText file.Rules bytes refusal → RefusesRules bytes refusal
 text-rules bytes refusal (inl (is, long)) = subst (RefusesRules bytes) (sym is) long
 text-rules bytes refusal (inr (is, bad)) = subst (RefusesRules bytes) (sym is) bad
 
-pub text-template : (f : Format) (bytes : List ℕ) (refusal : Refusal) → RefusesText file.Template bytes refusal → RefusesTemplate f bytes refusal
-text-template f bytes refusal (inl long) = inl long
-text-template f bytes refusal (inr bad) = inr (inl bad)
+pub text-data : (which : Which) (f : Format) → limit_of which ≡ template_limit → (bytes : List ℕ) (refusal : Refusal) → RefusesText which bytes refusal → RefusesData which f bytes refusal
+text-data which f limit bytes refusal (inl (is, long)) = inl (is, subst (λ (n : ℕ). IsTooLong n bytes) limit long)
+text-data which f limit bytes refusal (inr (is, bad)) = inr (inl (is, subst (λ (n : ℕ). IsNoText n bytes) limit bad))
 
 pub long-proof : (bytes : List ℕ) (refusal : Refusal) → RefusesLength file.Proof bytes refusal → RefusesProof bytes refusal
 long-proof bytes refusal (is, long) = subst (RefusesProof bytes) (sym is) long

@@ -7,6 +7,7 @@ use Rattle.rule_meaning.specs.Locations.{World}
 use Rattle.rule_meaning.specs.Verdicts.{is_fail}
 use Rattle.guard_ends.specs.Order.{Ending, Ends, Loads, Makes, Point, Work, how_judged, judged, judged_by, usage}
 use Rattle.guard_ends.specs.Report.{Reporting}
+use Rattle.report_text.specs.Texts.{Texts}
 use Rattle.guard_ends.specs.Reported.{verdicts_of}
 use Rattle.guard_ends.specs.declared.ends.End.{End}
 use Rattle.guard_ends.specs.declared.ends.End.TheVariants as end_is
@@ -67,19 +68,19 @@ ended-outcome Comes (Ok done) is = (ended done, is, refl)
 ended-outcome Comes (Err s) is = ended-stop Comes s is
 
 -- what is said of a template that was judged
-pub judged-as : (made : Reporting) (done : Done) (failed : Bool) (report : List ℕ) (world : World) (source template : List ℕ)
+pub judged-as : (made : Reporting) (done : Done) (failed : Bool) (report : List ℕ) (world : World) (texts : Texts)
     → done.how ≡ (if failed then end_is.Failed else end_is.Passed) → bytes_of done.out ≡ report → bytes_of done.err ≡ []
-    → report ≡ made world source template → failed ≡ list_any is_fail (verdicts_of world) → ended done ≡ judged made world source template
-judged-as made done failed report world source template how out err text fails =
+    → report ≡ made world texts → failed ≡ list_any is_fail (verdicts_of world) → ended done ≡ judged made world texts
+judged-as made done failed report world texts how out err text fails =
     ap (λ (h : End). record { how = h; out = bytes_of done.out; err = bytes_of done.err })
     (how ∙ ap (λ (f : Bool). if f then end_is.Failed else end_is.Passed) fails)
     ∙ ap₂ (λ (t e : List ℕ). record { how = how_judged world; out = t; err = e }) (out ∙ text) err
 
 -- and with evidence
-pub judged-with : (made : Reporting) (done : Done) (failed : Bool) (report evidence : List ℕ) (world : World) (source template : List ℕ)
+pub judged-with : (made : Reporting) (done : Done) (failed : Bool) (report evidence : List ℕ) (world : World) (texts : Texts)
     → done.how ≡ (if failed then end_is.Failed else end_is.Passed) → bytes_of done.out ≡ evidence → bytes_of done.err ≡ report
-    → report ≡ made world source template → failed ≡ list_any is_fail (verdicts_of world) → ended done ≡ judged_by evidence made world source template
-judged-with made done failed report evidence world source template how out err text fails =
+    → report ≡ made world texts → failed ≡ list_any is_fail (verdicts_of world) → ended done ≡ judged_by evidence made world texts
+judged-with made done failed report evidence world texts how out err text fails =
     ap (λ (h : End). record { how = h; out = bytes_of done.out; err = bytes_of done.err })
     (how ∙ ap (λ (f : Bool). if f then end_is.Failed else end_is.Passed) fails)
     ∙ ap₂ (λ (t e : List ℕ). record { how = how_judged world; out = t; err = e }) out (err ∙ text)

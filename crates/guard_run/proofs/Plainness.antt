@@ -1,8 +1,12 @@
--- A template has no patterns: one of JSON by the lemma on JSON, one of YAML by the kinds of its values.
-use Rattle.std.proofs.Common.{◌≡◌, ℕ, List, false, refl}
+-- A template has no patterns: one of JSON by the lemma on JSON, one of YAML by the kinds of its values; and a map of the entries of two
+-- by theirs.
+use Rattle.std.proofs.Common.{◌≡◌, ◌||◌, ℕ, List, Bool, true, false, refl, sym}
+use Rattle.std.proofs.lemmas.Bool.{false≢true}
+use Rattle.doc_values.specs.Places.{first_kids, first_label}
 use Rattle.doc_values.specs.declared.kind.Kind.{Kind}
 use Rattle.doc_values.specs.declared.kind.Kind.TheVariants as kind
-use Rattle.doc_values.specs.Tree.{Label, Forest, Node}
+use Rattle.doc_values.specs.Tree.{Label, Forest, Nil, Node, joined}
+use Rattle.doc_values.specs.Merge.{merged}
 use Rattle.yaml_blocks.proofs.TreeInduction.{IsYamlKind, yaml-induction}
 use Rattle.rule_meaning.specs.Values.{is_pattern, has_pattern}
 use Rattle.value_compare.proofs.Patternless.{json-plain}
@@ -33,3 +37,28 @@ tree-plain format.Yaml text tree read = yaml-induction IsPlain refl node-plain t
 
 pub template-plain : (f : Format) (bytes : List ℕ) (tree : Forest) → IsTemplate f bytes tree → has_pattern tree ≡ false
 template-plain f bytes tree read = tree-plain f bytes tree read.read
+
+-- ---- two trees that are merged
+
+or-parts : (a b : Bool) → (a || b) ≡ false → (a ≡ false) × (b ≡ false)
+or-parts false b is = (refl, is)
+or-parts true b is = absurd (false≢true (sym is))
+
+joined-plain : (f g : Forest) → IsPlain f → IsPlain g → IsPlain (joined f g)
+joined-plain Nil g first second = second
+joined-plain (Node l kids rest) g first second =
+    let own = or-parts (is_pattern l.kind) (has_pattern kids || has_pattern rest) first in
+    let inner = or-parts (has_pattern kids) (has_pattern rest) own.1 in
+    rw (own.0, inner.0, joined-plain rest g inner.1 second) refl
+
+kids-plain : (f : Forest) → IsPlain f → IsPlain (first_kids f)
+kids-plain Nil plain = refl
+kids-plain (Node l kids rest) plain = (or-parts (has_pattern kids) (has_pattern rest) (or-parts (is_pattern l.kind) (has_pattern kids || has_pattern rest) plain).1).0
+
+label-plain : (f : Forest) → IsPlain f → is_pattern (first_label f).kind ≡ false
+label-plain Nil plain = refl
+label-plain (Node l kids rest) plain = (or-parts (is_pattern l.kind) (has_pattern kids || has_pattern rest) plain).0
+
+pub merged-plain : (first second : Forest) → has_pattern first ≡ false → has_pattern second ≡ false → has_pattern (merged first second) ≡ false
+merged-plain first second plain others =
+    rw (label-plain first plain, joined-plain (first_kids first) (first_kids second) (kids-plain first plain) (kids-plain second others)) refl

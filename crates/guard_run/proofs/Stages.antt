@@ -1,29 +1,22 @@
 -- The stages of the order of work: what a stage comes to, the work over the files comes to.
-use Rattle.std.proofs.Common.{ℕ, List, Result, inl, inr, subst, string_bytes}
+use Rattle.std.proofs.Common.{◌≡◌, ℕ, List, Option, Some, None, inl, inr, refl, string_bytes, subst}
+use Rattle.doc_values.specs.Tree.{Forest}
 use Rattle.guard_syntax.specs.Syntax.{File}
+use Rattle.report_text.specs.Texts.{Parameters}
 use Rattle.rule_names.specs.code.Files.{file_of}
-use Rattle.guard_ends.specs.End.{Counts}
-use Rattle.guard_ends.specs.Inputs.{RefusesRules, format_of}
-use Rattle.guard_ends.specs.Order.{Contents, Inputs, Loading, LoadingTexts, OverFiles, Point, ReadingInputs, Refusing, Work}
+use Rattle.guard_ends.specs.Inputs.{IsProof, RefusesProof, RefusesRules, format_of}
+use Rattle.guard_ends.specs.Order.{Contents, Ending, Inputs, IsChecked, IsContent, Joining, Loading, LoadingTexts, MakingPatterns, Merging, OverFiles, Point, Reading, ReadingInputs, Refusing, WithParams, Work}
 use Rattle.guard_ends.specs.declared.ends.Which.TheVariants as file
 use Rattle.guard_ends.specs.declared.format.Format.{Format}
-use Rattle.guard_run.specs.code.Inputs.{AreInputs, AreLoaded, ReadingTexts, inputs_of}
+use Rattle.guard_run.specs.code.Inputs.{AreAlone, AreLoaded, ReadingSources, WithPatterns, inputs_of, inputs_over}
+use Rattle.guard_run.specs.code.Jobs.{Doing}
+use Rattle.guard_run.specs.code.Joined.{JoiningInputs}
 use Rattle.guard_run.specs.code.Loading.{RefusesText}
-use Rattle.guard_run.specs.code.Outcome.{IsOutcome, IsOutcomeBy, IsStopBy}
-use Rattle.guard_run.specs.code.Stops.{IsStop, NoneRose, Rose}
-use Rattle.guard_run.specs.declared.done.Done.{Done}
 use Rattle.guard_run.specs.declared.inputs.Inputs as code
-use Rattle.guard_run.specs.declared.inputs.Texts.{Texts}
-use Rattle.guard_run.specs.declared.stop.Stop.{Stop}
-use Rattle.guard_run.proofs.Loads.{text-template}
-use Rattle.guard_run.proofs.Outcomes.{IsOutcome-more, IsStop-more, as-rose, none-rose}
-
--- what comes before the work goes on comes whatever the work is
-pub inputs-before : (f : Format) (source : List ℕ) (rules : File) (template : List ℕ) (GoesOn : Inputs → Work)
-    → (p : Point) → ReadingInputs f source rules template (λ inputs q. ⊥) p → ReadingInputs f source rules template GoesOn p
-inputs-before f source rules template GoesOn p (inl refused) = inl refused
-inputs-before f source rules template GoesOn p (inr (tree, read, inl next)) = inr (tree, read, inl next)
-inputs-before f source rules template GoesOn p (inr (tree, read, inr (all, never))) = absurd never
+use Rattle.guard_run.specs.declared.inputs.Sources.{Sources}
+use Rattle.guard_run.specs.declared.job.Task.{Task}
+use Rattle.guard_run.specs.declared.job.Task.TheVariants as task
+use Rattle.guard_run.proofs.Loads.{loading-same, text-data}
 
 -- rules are loaded and read, and the work goes on with the template
 pub rules-before : (told : Contents) (rules template : List ℕ) (GoesOn : List ℕ → File → List ℕ → Work)
@@ -31,58 +24,72 @@ pub rules-before : (told : Contents) (rules template : List ℕ) (GoesOn : List 
 rules-before told rules template GoesOn p (inl load) = inl load
 rules-before told rules template GoesOn p (inr (source, content, refused)) = inr (source, content, inl refused)
 
-module _ (texts : Texts) (GoesOn : Inputs → Work) (FileRose PatternRose : List ℕ → Type 0) where
-  -- the inputs are not read
-  pub inputs-stop : (s : Stop) → IsStop (ReadingTexts texts (λ inputs p. ⊥)) NoneRose PatternRose s → IsStop (ReadingTexts texts GoesOn) FileRose PatternRose s
-  inputs-stop s stopped =
-      IsStop-more (ReadingTexts texts (λ inputs p. ⊥)) (ReadingTexts texts GoesOn) NoneRose FileRose PatternRose PatternRose
-      (inputs-before texts.format (string_bytes texts.rules.text) (file_of texts.rules.file) (string_bytes texts.template) GoesOn)
-      (none-rose FileRose) (as-rose PatternRose) s stopped
+module _ (told : Contents) (rules template : List ℕ) (params : Option (List ℕ)) (GoesOn : Inputs → Work) where
+  -- what comes before the texts are loaded
+  pub loads-before : (p : Point) → LoadingTexts told rules template (λ source read. Refusing (RefusesText file.Template)) p → OverFiles told rules template params GoesOn p
+  loads-before p (inl load) = inl load
+  loads-before p (inr (source, content, inl refused)) = inr (source, content, inl refused)
+  loads-before p (inr (source, content, inr (read, whole, inl load))) = inr (source, content, inr (read, whole, inl load))
+  loads-before p (inr (source, content, inr (read, whole, inr (bytes, found, refused)))) =
+      inr (source, content, inr (read, whole, inr (bytes, found, inl (refused.0, text-data file.Template (format_of template) refl bytes refused.0 refused.1, refused.2))))
 
-  -- what comes of them
-  pub inputs-done : (inputs : code.Inputs) → AreInputs texts inputs → (o : Result Done Stop) → IsOutcome (GoesOn (inputs_of inputs)) FileRose NoneRose o
-      → IsOutcome (ReadingTexts texts GoesOn) FileRose PatternRose o
-  inputs-done inputs are o done =
-      IsOutcome-more (GoesOn (inputs_of inputs)) (ReadingTexts texts GoesOn) FileRose FileRose NoneRose PatternRose
-      (λ p goes. inr (inputs.tree, are.read, inr (are.patterns, subst (λ (i : Inputs). GoesOn i p) are.same goes)))
-      (as-rose FileRose) (none-rose PatternRose) o done
+  -- and behind that
+  pub sources-loaded : (sources : Sources) → AreLoaded told rules template sources → (p : Point) → ReadingSources sources (WithParams told params) GoesOn p → OverFiles told rules template params GoesOn p
+  sources-loaded sources loaded p came =
+      let source = string_bytes sources.rules.text in
+      let read = file_of sources.rules.file in
+      let bytes = string_bytes sources.template.text in
+      let by_name : ReadingInputs (format_of template) source read (WithParams told params) bytes GoesOn p =
+      subst (λ (f : Format). ReadingInputs f source read (WithParams told params) bytes GoesOn p) loaded.text.format came in
+      inr (source, loaded.source, inr (read, loaded.read, inr (bytes, loaded.text.text, by_name)))
 
-module _ (told : Contents) (rules template : List ℕ) (GoesOn : Inputs → Work) (before after : Counts) where
-  over-texts : (p : Point) → LoadingTexts told rules template (λ source read. Refusing (RefusesText file.Template)) p → OverFiles told rules template GoesOn p
-  over-texts p (inl load) = inl load
-  over-texts p (inr (source, content, inl refused)) = inr (source, content, inl refused)
-  over-texts p (inr (source, content, inr (read, whole, inl load))) = inr (source, content, inr (read, whole, inl load))
-  over-texts p (inr (source, content, inr (read, whole, inr (bytes, content', refused)))) =
-      inr (source, content, inr (read, whole, inr (bytes, content', inl (refused.0, text-template (format_of template) bytes refused.0 refused.1, refused.2))))
+-- the template of sources is read
+pub template-read : (sources : Sources) (Joined : Joining) (GoesOn : Inputs → Work) (inputs : code.Inputs) → AreAlone sources inputs
+    → (p : Point) → JoiningInputs Joined (inputs_of inputs) GoesOn p → ReadingSources sources Joined GoesOn p
+template-read sources Joined GoesOn inputs are p came =
+    inr (inputs.tree, are.read, subst (λ (i : Inputs). JoiningInputs Joined i GoesOn p) are.same came)
 
-  -- the texts are not loaded
-  pub texts-stop : (s : Stop)
-      → IsStop (LoadingTexts told rules template (λ source read. Refusing (RefusesText file.Template))) (Rose before.files after.files) NoneRose s
-      → IsStopBy (OverFiles told rules template GoesOn) before after s
-  texts-stop s stopped =
-      IsStop-more (LoadingTexts told rules template (λ source read. Refusing (RefusesText file.Template))) (OverFiles told rules template GoesOn)
-      (Rose before.files after.files) (Rose before.files after.files) NoneRose (Rose before.patterns after.patterns)
-      over-texts (as-rose (Rose before.files after.files)) (none-rose (Rose before.patterns after.patterns)) s stopped
+-- ---- the same stages, as what comes behind them comes to more, and as the same is told of the files otherwise
 
-  -- what comes of them
-  pub texts-done : (texts : Texts) → AreLoaded told rules template texts
-      → (FileRose : List ℕ → Type 0) → ((name : List ℕ) → FileRose name → Rose before.files after.files name)
-      → (o : Result Done Stop) → IsOutcome (ReadingTexts texts GoesOn) FileRose (Rose before.patterns after.patterns) o
-      → IsOutcomeBy (OverFiles told rules template GoesOn) before after o
-  texts-done texts loaded FileRose rose o done =
-      IsOutcome-more (ReadingTexts texts GoesOn) (OverFiles told rules template GoesOn)
-      FileRose (Rose before.files after.files) (Rose before.patterns after.patterns) (Rose before.patterns after.patterns)
-      (λ p came. inr (
-        string_bytes texts.rules.text,
-        loaded.source,
-        inr (
-          file_of texts.rules.file,
-          loaded.read,
-          inr (
-            string_bytes texts.template,
-            loaded.text,
-            subst (λ (f : Format). ReadingInputs f (string_bytes texts.rules.text) (file_of texts.rules.file) (string_bytes texts.template) GoesOn p) loaded.format came,
-          ),
-        ),
-      ))
-      rose (as-rose (Rose before.patterns after.patterns)) o done
+pub patterns-more : (source : List ℕ) (rules : File) (One More : Work) → ((p : Point) → One p → More p)
+    → (p : Point) → MakingPatterns source rules One p → MakingPatterns source rules More p
+patterns-more source rules One More more p (inl next) = inl next
+patterns-more source rules One More more p (inr (all, goes)) = inr (all, more p goes)
+
+module _ (template : List ℕ) (tree : Forest) (One More : Option Parameters → Forest → Work)
+    (more : (params : Option Parameters) (t : Forest) (p : Point) → One params t p → More params t p) where
+  pub merging-more : (bytes : List ℕ) (read : Forest) (p : Point) → Merging bytes read template tree One p → Merging bytes read template tree More p
+  merging-more bytes read p (inl no_map) = inl no_map
+  merging-more bytes read p (inr (inl no_map)) = inr (inl no_map)
+  merging-more bytes read p (inr (inr (inl shared))) = inr (inr (inl shared))
+  merging-more bytes read p (inr (inr (inr (apart, goes)))) = inr (inr (inr (apart, more _ _ p goes)))
+
+  params-more : (told other : Contents) (name : Option (List ℕ)) → ((n : List ℕ) → told n ≡ other n)
+      → (p : Point) → WithParams told name template tree One p → WithParams other name template tree More p
+  params-more told other None same p goes = more None tree p goes
+  params-more told other (Some name) same p (inl load) = inl load
+  params-more told other (Some name) same p (inr (bytes, content, inl refused)) = inr (bytes, subst (λ t. IsContent t bytes) (same name) content, inl refused)
+  params-more told other (Some name) same p (inr (bytes, content, inr (read, is, merging))) =
+      inr (bytes, subst (λ t. IsContent t bytes) (same name) content, inr (read, is, merging-more bytes read p merging))
+
+module _ (told other : Contents) (same : (n : List ℕ) → told n ≡ other n) where
+  pub doing-same : (t : Task) (inputs : Inputs) (p : Point) → Doing t told inputs p → Doing t other inputs p
+  doing-same task.Report inputs p came = came
+  doing-same task.Evidence inputs p came = came
+  doing-same (task.Check proof) inputs p came =
+      loading-same file.Proof told other proof.now (λ bytes. Reading RefusesProof IsProof bytes (λ evidence. Ending (IsChecked inputs.rules inputs.tree evidence)))
+      (same proof.now) p came
+
+  pub doing-patterns : (t : Task) (inputs : Inputs) (p : Point) → WithPatterns (Doing t told) inputs p → WithPatterns (Doing t other) inputs p
+  doing-patterns t inputs p came = patterns-more inputs.texts.rules inputs.rules (Doing t told inputs) (Doing t other inputs) (doing-same t inputs) p came
+
+  pub sources-same : (t : Task) (params : Option (List ℕ)) (sources : Sources) (p : Point)
+      → ReadingSources sources (WithParams told params) (Doing t told) p → ReadingSources sources (WithParams other params) (Doing t other) p
+  sources-same t params sources p (inl refused) = inl refused
+  sources-same t params sources p (inr (tree, read, came)) = inr (
+    tree,
+    read,
+    params-more (string_bytes sources.template.text) tree
+        (λ read joined. WithPatterns (Doing t told) (inputs_over sources read joined)) (λ read joined. WithPatterns (Doing t other) (inputs_over sources read joined))
+        (λ read joined q goes. doing-patterns t (inputs_over sources read joined) q goes) told other params same p came,
+  )

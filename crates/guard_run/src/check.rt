@@ -1,21 +1,19 @@
-//! `check`: evidence is loaded and read, and judged line by line for rules and a template. Nothing is evaluated.
+//! `check`: evidence is loaded and read, and judged line by line for inputs. Nothing is evaluated.
 ghost use Rattle.std.specs.Prelude.{◌≡◌, ◌≤◌, ℕ, List, [], length, IfOk, MatchResult};
 ghost use Rattle.doc_values.specs.Limits.{evidence_limit};
 ghost use Rattle.rule_names.specs.code.Files.{file_of};
 ghost use Rattle.report_text.specs.RuleLines.{reported_names};
-ghost use Rattle.guard_words.specs.Request.{check};
 ghost use Rattle.guard_ends.specs.Check.{accepted_text, rejected_text};
 ghost use Rattle.guard_ends.specs.Inputs.{IsProof, RefusesProof};
-ghost use Rattle.guard_ends.specs.Order.{Ending, IsChecked, OfEvidence, WorkOf};
-ghost use Rattle.guard_run.specs.code.Inputs.{ReadingTexts, inputs_of};
-ghost use Rattle.guard_run.specs.code.Outcome.{IsOutcome, IsOutcomeAt, IsOutcomeBy, ended};
+ghost use Rattle.guard_ends.specs.Order.{Ending, IsChecked, OfEvidence};
+ghost use Rattle.guard_run.specs.code.Inputs.{inputs_of};
+ghost use Rattle.guard_run.specs.code.Outcome.{IsOutcome, IsOutcomeAt, ended};
 ghost use Rattle.guard_run.specs.code.Stops.{IsNotRead, NoneRose, Rose};
 
 use crate::done::Done;
-use crate::inputs::{Inputs, Names, Texts};
+use crate::inputs::Ready;
 use crate::line::rejected_text;
 use crate::load::load_bytes;
-use crate::prepare::{load_texts, read_inputs};
 use crate::refused::not_evidence;
 use crate::stop::Stop;
 use crate::written::Written;
@@ -27,66 +25,28 @@ use guard_syntax::Verdict;
 use report_text::{ReportFault, write_rules};
 use rule_names::RuleFile;
 use std::alloc::{AllocError, Global};
-use value_compare::PatternMaker;
 
-/// Judges the evidence of this name, for the rules and the template of these names.
-pub(crate) fn run_check<F: Files, M: PatternMaker>(
+/// Judges evidence of this name, for inputs.
+pub(crate) fn check_evidence<F: Files>(
     alloc: Global,
-    names: &Names<'_, '_>,
-    proof: &str,
-    files: &mut F,
-    maker: &mut M,
-) -> Result<Done, Stop>
-    ensures outcome { IsOutcomeBy (WorkOf (check names.now.rules.now names.now.template.now proof.now) (F.content files.old))
-        (record { files = F.faults files.old; patterns = M.faults maker.old })
-        (record { files = F.faults files.new; patterns = M.faults maker.new }) result }
-    ensures contents { (other : List ℕ) → F.content files.new other ≡ F.content files.old other }
-    ensures kept { (other : List ℕ) → F.faults files.old other ≤ F.faults files.new other }
-    ensures maker_kept { (text : List ℕ) → M.faults maker.old text ≤ M.faults maker.new text }
-{
-    let texts = load_texts(alloc, names, files)?;
-    check_texts(alloc, &texts, proof, files, maker)
-}
-
-/// Reads texts, and judges the evidence of this name for them.
-fn check_texts<F: Files, M: PatternMaker>(
-    alloc: Global,
-    texts: &Texts,
-    proof: &str,
-    files: &mut F,
-    maker: &mut M,
-) -> Result<Done, Stop>
-    ensures outcome { IsOutcome (ReadingTexts texts.now (OfEvidence (F.content files.old) proof.now))
-        (Rose (F.faults files.old) (F.faults files.new)) (Rose (M.faults maker.old) (M.faults maker.new)) result }
-    ensures contents { (other : List ℕ) → F.content files.new other ≡ F.content files.old other }
-    ensures kept { (other : List ℕ) → F.faults files.old other ≤ F.faults files.new other }
-    ensures maker_kept { (text : List ℕ) → M.faults maker.old text ≤ M.faults maker.new text }
-{
-    let inputs = read_inputs(alloc, texts, maker)?;
-    check_evidence(alloc, &inputs, proof, files)
-}
-
-/// Judges evidence of this name, for rules and a template.
-fn check_evidence<F: Files>(
-    alloc: Global,
-    inputs: &Inputs<'_, '_>,
+    ready: &Ready<'_, '_>,
     name: &str,
     files: &mut F,
 ) -> Result<Done, Stop>
-    ensures outcome { IsOutcome (OfEvidence (F.content files.old) name.now (inputs_of inputs.now))
+    ensures outcome { IsOutcome (OfEvidence (F.content files.old) name.now (inputs_of ready.now.inputs.now))
         (Rose (F.faults files.old) (F.faults files.new)) NoneRose result }
     ensures contents { (other : List ℕ) → F.content files.new other ≡ F.content files.old other }
     ensures kept { (other : List ℕ) → F.faults files.old other ≤ F.faults files.new other }
 {
     let bytes = load_bytes(alloc, Which::Proof, name, files)?;
     let evidence = lines_of(alloc, bytes)?;
-    check_lines(alloc, inputs, &evidence)
+    check_lines(alloc, ready, &evidence)
 }
 
 /// The lines of the bytes of evidence, which are no more than it may have.
 fn lines_of(alloc: Global, bytes: Vec<u8>) -> Result<Evidence, Stop>
     requires { length bytes.items ≤ evidence_limit }
-    ensures { MatchResult result (λ evidence. IsProof bytes.items evidence) (IsNotRead RefusesProof bytes.items) }
+    ensures { MatchResult result (IsProof bytes.items) (IsNotRead RefusesProof bytes.items) }
 {
     match read_evidence(alloc, &bytes) {
         Ok(evidence) => Ok(evidence),
@@ -96,11 +56,11 @@ fn lines_of(alloc: Global, bytes: Vec<u8>) -> Result<Evidence, Stop>
 }
 
 /// Judges lines of evidence.
-fn check_lines(alloc: Global, inputs: &Inputs<'_, '_>, evidence: &Evidence) -> Result<Done, Stop>
-    ensures { IsOutcomeAt (Ending (IsChecked (file_of inputs.now.rules.now.file) inputs.now.tree evidence.now)) result }
+fn check_lines(alloc: Global, ready: &Ready<'_, '_>, evidence: &Evidence) -> Result<Done, Stop>
+    ensures { IsOutcomeAt (Ending (IsChecked (file_of ready.now.inputs.now.rules.now) ready.now.inputs.now.tree evidence.now)) result }
 {
-    let rules = &inputs.rules.file;
-    let answer = check(alloc, rules, &inputs.tree, &inputs.book, evidence)?;
+    let rules = ready.inputs.rules;
+    let answer = check(alloc, rules, &ready.inputs.tree, &ready.book, evidence)?;
     match answer {
         Answer::Accepted(verdicts) => {
             let text = accepted_text(alloc, rules, &verdicts)?;

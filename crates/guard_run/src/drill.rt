@@ -1,18 +1,20 @@
 //! `drill`: a template that is made is judged by rules that are always the same. No file is loaded, and no pattern is made.
 ghost use Rattle.std.specs.Prelude.{◌≤◌, MatchResult};
-ghost use Rattle.guard_ends.specs.Drill.{drill_rules};
+ghost use Rattle.guard_ends.specs.Drill.{drill_report, drill_rules};
 ghost use Rattle.guard_ends.specs.Inputs.{RefusesRules};
-ghost use Rattle.guard_ends.specs.Order.{OfDrill};
-ghost use Rattle.guard_run.specs.code.Inputs.{AreOfDrill};
+ghost use Rattle.guard_ends.specs.Order.{Alone, Ending, IsJudged, OfDrill};
+ghost use Rattle.guard_run.specs.code.Inputs.{AreOfDrill, ReadingSources, WithPatterns, inputs_of};
 ghost use Rattle.guard_run.specs.code.Outcome.{IsOutcomeAt};
 ghost use Rattle.guard_run.specs.code.Stops.{IsNotRead};
 
 use crate::done::Done;
-use crate::inputs::Texts;
+use crate::inputs::{DataText, Inputs, Ready, Sources};
+use crate::patterns::make_patterns;
+use crate::prepare::read_template;
 use crate::report::Form;
 use crate::rules::read_rules;
 use crate::stop::Stop;
-use crate::validate::judge_texts;
+use crate::validate::report_on;
 use guard_drill::{DRILL_RULES, drill_template};
 use guard_ends::Format;
 use std::alloc::Global;
@@ -35,21 +37,40 @@ pub(crate) fn run_drill(alloc: Global, count: u32) -> Result<Done, Stop>
     requires { count ≤ 100000 }
     ensures { IsOutcomeAt (OfDrill count) result }
 {
-    let texts = drill_texts(alloc, count)?;
-    judge_texts(alloc, &texts, Form::Drill { count }, &mut Unasked)
+    let sources = drill_sources(alloc, count)?;
+    judge_sources(alloc, &sources, count)
+}
+
+/// Judges the template of sources by their rules, and reports on it as on a drill of so many resources.
+fn judge_sources(alloc: Global, sources: &Sources, count: u32) -> Result<Done, Stop>
+    ensures { IsOutcomeAt (ReadingSources sources.now Alone (λ inputs. Ending (IsJudged (drill_report count) inputs))) result }
+{
+    let inputs = read_template(alloc, sources)?;
+    judge_inputs(alloc, &inputs, count)
+}
+
+/// Judges inputs, and reports on them as on a drill of so many resources.
+fn judge_inputs(alloc: Global, inputs: &Inputs<'_>, count: u32) -> Result<Done, Stop>
+    ensures { IsOutcomeAt (WithPatterns (λ inputs. Ending (IsJudged (drill_report count) inputs)) (inputs_of inputs.now)) result }
+{
+    let book = make_patterns(alloc, inputs.rules, inputs.texts.rules, &mut Unasked)?;
+    let ready = Ready { inputs, book };
+    report_on(alloc, &ready, Form::Drill { count })
 }
 
 /// The rules of a drill, and the text of its template.
-fn drill_texts(alloc: Global, count: u32) -> Result<Texts, Stop>
+fn drill_sources(alloc: Global, count: u32) -> Result<Sources, Stop>
     requires { count ≤ 100000 }
-    ensures { MatchResult result (λ texts. AreOfDrill count texts) (IsNotRead RefusesRules drill_rules) }
+    ensures { MatchResult result (AreOfDrill count) (IsNotRead RefusesRules drill_rules) }
 {
     let source = String::from_str(alloc, DRILL_RULES)?;
     let rules = read_rules(alloc, source)?;
     let template = drill_template(alloc, count)?;
-    Ok(Texts {
+    Ok(Sources {
         rules,
-        template,
-        format: Format::Json,
+        template: DataText {
+            text: template,
+            format: Format::Json,
+        },
     })
 }

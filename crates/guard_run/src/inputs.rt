@@ -1,5 +1,7 @@
-//! The inputs of a judgement: rules and a template, by their names, then loaded, then read.
+//! The inputs of a judgement: rules, a template and perhaps parameters. They are loaded, then read, and then the patterns of
+//! the rules are made.
 ghost use Rattle.std.specs.Prelude.{◌≡◌, ◌≤◌, false, length, string_bytes};
+ghost use Rattle.std.specs.Option.{ForSome};
 ghost use Rattle.doc_values.specs.Limits.{rules_limit, template_limit};
 ghost use Rattle.rule_names.specs.code.Files.{file_of};
 ghost use Rattle.value_compare.specs.code.Books.{IsBookOf};
@@ -7,15 +9,9 @@ ghost use Rattle.rule_meaning.specs.Values.{has_pattern};
 
 use doc_values::Doc;
 use guard_ends::Format;
+use report_text::Texts;
 use rule_names::RuleFile;
 use value_compare::PatternBook;
-
-/// The names of rules and of a template. Each is borrowed from a word of its own.
-#[derive(Clone, Copy)]
-pub(crate) struct Names<'r, 't> {
-    pub rules: &'r str,
-    pub template: &'t str,
-}
 
 /// A rule file that was read, with its text, by which the report and the line of a pattern that is refused tell places.
 #[derive(Drop)]
@@ -25,23 +21,37 @@ pub(crate) struct Rules {
     pub ghost short: { length (string_bytes text) ≤ rules_limit },
 }
 
-/// Rules that were read, and the text of a template, with the format in which it is to be read.
+/// The text of a template or of parameters, with the format in which it is to be read.
 #[derive(Drop)]
-pub(crate) struct Texts {
-    pub rules: Rules,
-    pub template: String,
+pub(crate) struct DataText {
+    pub text: String,
     pub format: Format,
-    pub ghost short: { length (string_bytes template) ≤ template_limit },
+    pub ghost short: { length (string_bytes text) ≤ template_limit },
 }
 
-/// Rules, and a template with its text, that are read, and the patterns of the rules, which are made.
+/// Rules that were read, and the text of a template.
 #[derive(Drop)]
-pub(crate) struct Inputs<'r, 't> {
-    pub rules: &'r Rules,
-    pub template: &'t str,
+pub(crate) struct Sources {
+    pub rules: Rules,
+    pub template: DataText,
+}
+
+/// Rules and a data tree, which is that of a template or one of a template and parameters; and the texts of all.
+#[derive(Drop)]
+pub(crate) struct Inputs<'t> {
+    pub rules: &'t RuleFile,
     pub tree: Doc<'t>,
-    pub book: PatternBook,
-    pub ghost short: { length template.now ≤ template_limit },
+    pub texts: Texts<'t>,
+    pub ghost rules_short: { length texts.rules.now ≤ rules_limit },
+    pub ghost template_short: { length texts.template.now ≤ template_limit },
+    pub ghost params_short: { ForSome texts.params (λ params. length params.text.now ≤ template_limit) },
     pub ghost plain: { has_pattern tree ≡ false },
-    pub ghost made: { IsBookOf (file_of rules.now.file) book },
+}
+
+/// Inputs, and the patterns of their rules, which are made.
+#[derive(Drop)]
+pub(crate) struct Ready<'i, 't> {
+    pub inputs: &'i Inputs<'t>,
+    pub book: PatternBook,
+    pub ghost made: { IsBookOf (file_of inputs.now.rules.now) book },
 }

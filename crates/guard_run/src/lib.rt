@@ -1,5 +1,5 @@
-//! The top call of the program `guard`: it judges a template by rules, and prints the verdicts and what each that is FAIL
-//! fails by; and it judges evidence for such verdicts.
+//! The top call of the program `guard`: it judges a template, alone or with parameters, by rules, and prints the verdicts and
+//! what each that is FAIL fails by; and it judges evidence for such verdicts.
 //!
 //! The call `guard` does the program's work over any files and any sinks. Its contract is the program's promise: the
 //! words and the contents of the files decide the end, what the standard output takes and what the standard error takes,
@@ -18,16 +18,20 @@ mod done;
 mod drill;
 mod evidence;
 mod inputs;
+mod job;
 mod line;
 mod load;
+mod merge;
+mod over_files;
+mod params;
 mod patterns;
 mod prepare;
 mod refused;
 mod report;
 mod rules;
 mod stop;
-mod template;
 mod top_call;
+mod tree;
 mod validate;
 mod work;
 mod write;

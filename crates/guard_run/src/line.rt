@@ -13,7 +13,8 @@ use guard_ends::{RefusalKind, Which};
 use itoa::Buffer;
 use std::alloc::{AllocError, Global};
 
-/// A line without a name. The longest, `guard: rules 4294967295:4294967295: RecursiveVariable`, has 54 bytes with its newline.
+/// A line without a name. None has more than 55 bytes with its newline: the longest word for a file has 6, the longest name of
+/// a kind 17.
 type Short = ArrayString<64>;
 
 /// The line of a file that is refused as a whole.
@@ -45,7 +46,7 @@ fn line_start(which: Which, kind: RefusalKind, at: u32, bytes: &[u8]) -> Short
     requires { length bytes.now ≤ template_limit }
     ensures start { result.bytes ≡ codes "guard: " ++ file_word which ++ codes " " ++ decimal (line_at bytes.now at) ++ codes ":"
         ++ decimal (column_at bytes.now at) ++ codes ": " ++ kind_word kind }
-    ensures short { array_string_len result ≤ 53 }
+    ensures short { array_string_len result ≤ 54 }
 {
     let (row, column) = place_in(bytes, at);
     let mut line = ArrayString::new();
@@ -135,11 +136,12 @@ fn push_line_number(line: &mut Short, number: u64)
 /// The word for a file.
 fn file_word(which: Which) -> &'static str
     ensures word { result.now ≡ file_word which }
-    ensures short { length result.now ≤ 5 }
+    ensures short { length result.now ≤ 6 }
 {
     match which {
         Which::Rules => "rules",
         Which::Template => "data",
+        Which::Params => "params",
         Which::Proof => "proof",
     }
 }
@@ -175,5 +177,7 @@ fn kind_word(kind: RefusalKind) -> &'static str
         RefusalKind::Directive => "Directive",
         RefusalKind::ManyDocuments => "ManyDocuments",
         RefusalKind::BadPattern => "BadPattern",
+        RefusalKind::NotAMap => "NotAMap",
+        RefusalKind::SharedKey => "SharedKey",
     }
 }

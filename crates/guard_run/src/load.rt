@@ -1,12 +1,15 @@
 //! Files are loaded: each by its name, and no further than one byte past its limit.
 ghost use Rattle.std.specs.Prelude.{◌≡◌, ◌≤◌, ◌<◌, ◌^◌, ℕ, List, MatchResult, length, string_bytes};
+ghost use Rattle.doc_values.specs.Limits.{template_limit};
 ghost use Rattle.guard_ends.specs.Order.{IsContent};
+ghost use Rattle.guard_run.specs.code.Inputs.{IsLoaded};
 ghost use Rattle.guard_run.specs.code.Loading.{IsNotLoaded, RefusesLength, RefusesText, limit_of};
 
+use crate::inputs::DataText;
 use crate::refused::{not_text, too_long};
 use crate::stop::Stop;
 use doc_values::{EVIDENCE_LIMIT, RULES_LIMIT, TEMPLATE_LIMIT};
-use guard_ends::Which;
+use guard_ends::{Which, format_of};
 use guard_io::{Files, LoadFault};
 use std::alloc::Global;
 
@@ -18,6 +21,7 @@ fn limit_of(which: Which) -> u64
     match which {
         Which::Rules => RULES_LIMIT as u64,
         Which::Template => TEMPLATE_LIMIT as u64,
+        Which::Params => TEMPLATE_LIMIT as u64,
         Which::Proof => EVIDENCE_LIMIT as u64,
     }
 }
@@ -66,4 +70,24 @@ pub(crate) fn load_text<F: Files>(
         Ok(text) => Ok(text),
         Err(_) => Err(Stop::Refused(not_text(which))),
     }
+}
+
+/// The text of a template or of parameters, whose format its name says.
+pub(crate) fn load_data<F: Files>(
+    alloc: Global,
+    which: Which,
+    name: &str,
+    files: &mut F,
+) -> Result<DataText, Stop>
+    requires { limit_of which ≡ template_limit }
+    ensures loaded { MatchResult result (IsLoaded (F.content files.old) name.now)
+        (IsNotLoaded which (F.content files.old) name.now (RefusesText which) (F.faults files.old) (F.faults files.new)) }
+    ensures contents { (other : List ℕ) → F.content files.new other ≡ F.content files.old other }
+    ensures kept { (other : List ℕ) → F.faults files.old other ≤ F.faults files.new other }
+{
+    let text = load_text(alloc, which, name, files)?;
+    Ok(DataText {
+        text,
+        format: format_of(name),
+    })
 }

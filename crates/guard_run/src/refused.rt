@@ -23,13 +23,13 @@ pub(crate) struct Refused {
     pub line: Written,
 }
 
-/// A template that is not read so far.
-pub(crate) fn data_unread() -> Refused
-    ensures { (bytes : List ℕ) → said result ≡ refused bytes Refusal.DataUnread }
+/// A file that is not read so far.
+fn data_unread(which: Which) -> Refused
+    ensures { (bytes : List ℕ) → said result ≡ refused bytes (Refusal.DataUnread which) }
 {
     Refused {
-        refusal: Refusal::DataUnread,
-        line: Written::Short(whole_line(Which::Template, "DataUnread")),
+        refusal: Refusal::DataUnread(which),
+        line: Written::Short(whole_line(which, "DataUnread")),
     }
 }
 
@@ -185,28 +185,33 @@ pub(crate) fn json_kind(refusal: JsonRefusal) -> Option<(RefusalKind, u32)>
     }
 }
 
-/// A template with this text, refused by a refusal of YAML. Want of memory is none.
-pub(crate) fn yaml_refused(refusal: YamlRefusal, text: &str) -> Option<Refused>
+/// A file with this text, refused by a refusal of YAML. Want of memory is none.
+pub(crate) fn yaml_refused(which: Which, refusal: YamlRefusal, text: &str) -> Option<Refused>
     requires { length text.now ≤ template_limit }
-    ensures { IsRefusedAs (of_yaml refusal) text.now result }
+    ensures { IsRefusedAs (of_yaml which refusal) text.now result }
 {
     match refusal {
-        YamlRefusal::Unread => Some(data_unread()),
-        YamlRefusal::Tab(at) => Some(data_at(RefusalKind::Tab, at, text)),
-        YamlRefusal::Anchor(at) => Some(data_at(RefusalKind::Anchor, at, text)),
-        YamlRefusal::Tag(at) => Some(data_at(RefusalKind::Tag, at, text)),
-        YamlRefusal::Directive(at) => Some(data_at(RefusalKind::Directive, at, text)),
-        YamlRefusal::ManyDocuments(at) => Some(data_at(RefusalKind::ManyDocuments, at, text)),
-        YamlRefusal::DuplicateKey(at) => Some(data_at(RefusalKind::DuplicateKey, at, text)),
-        YamlRefusal::TooDeep(at) => Some(data_at(RefusalKind::TooDeep, at, text)),
+        YamlRefusal::Unread => Some(data_unread(which)),
+        YamlRefusal::Tab(at) => Some(data_at(which, RefusalKind::Tab, at, text)),
+        YamlRefusal::Anchor(at) => Some(data_at(which, RefusalKind::Anchor, at, text)),
+        YamlRefusal::Tag(at) => Some(data_at(which, RefusalKind::Tag, at, text)),
+        YamlRefusal::Directive(at) => Some(data_at(which, RefusalKind::Directive, at, text)),
+        YamlRefusal::ManyDocuments(at) => Some(data_at(
+            which,
+            RefusalKind::ManyDocuments,
+            at,
+            text,
+        )),
+        YamlRefusal::DuplicateKey(at) => Some(data_at(which, RefusalKind::DuplicateKey, at, text)),
+        YamlRefusal::TooDeep(at) => Some(data_at(which, RefusalKind::TooDeep, at, text)),
         YamlRefusal::NoMemory => None,
     }
 }
 
-/// A template with this text, refused at a byte offset.
-fn data_at(kind: RefusalKind, at: u32, text: &str) -> Refused
+/// A file with this text, refused at a byte offset.
+pub(crate) fn data_at(which: Which, kind: RefusalKind, at: u32, text: &str) -> Refused
     requires { length text.now ≤ template_limit }
-    ensures { said result ≡ refused text.now (Refusal.At Which.Template kind at None) }
+    ensures { said result ≡ refused text.now (Refusal.At which kind at None) }
 {
-    refused_at(Which::Template, kind, at, text.as_bytes())
+    refused_at(which, kind, at, text.as_bytes())
 }

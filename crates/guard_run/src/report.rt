@@ -1,5 +1,5 @@
-//! A template is judged by rules: they are evaluated, and the report on it is made of the evidence.
-ghost use Rattle.std.specs.Prelude.{◌≡◌, [], IfOk, string_bytes};
+//! Inputs are judged: the rules are evaluated over the data tree, and the report is made of the evidence.
+ghost use Rattle.std.specs.Prelude.{◌≡◌, IfOk};
 ghost use Rattle.std.specs.List.{list_any};
 ghost use Rattle.evidence_lines.specs.declared.version.Version.TheVariants.{Two};
 ghost use Rattle.rule_names.specs.code.Files.{file_of};
@@ -11,20 +11,22 @@ ghost use Rattle.evidence_rules.specs.Follows.{Accepts};
 ghost use Rattle.evidence_lookups.specs.code.Grounds.{known_of, lines_of};
 ghost use Rattle.clause_eval.specs.code.Engines.{see_engine};
 ghost use Rattle.clause_eval.specs.code.States.{IsWhole};
+ghost use Rattle.report_text.specs.Texts.{Texts};
+ghost use Rattle.report_text.specs.code.SeenTexts.{see_lined, see_texts};
 ghost use Rattle.evidence_report.specs.code.RuleEntries.{IsAccepted};
 ghost use Rattle.guard_ends.specs.Drill.{drill_report};
 ghost use Rattle.guard_ends.specs.Report as reports;
 ghost use Rattle.guard_ends.specs.Reported.{verdicts_of, world_over};
 ghost use Rattle.guard_run.specs.code.Forms.{report_in};
 
-use crate::inputs::Inputs;
+use crate::inputs::{Inputs, Ready};
 use clause_eval::Engine;
 use evidence_lookups::line_context::LineContext;
 use evidence_lookups::owners::Owners;
-use evidence_report::{Page, verdicts_told, write_drill, write_report};
+use evidence_report::{verdicts_told, write_drill, write_report};
 use guard_io::CleanSink;
 use guard_syntax::Verdict;
-use report_text::{Lined, ReportFault};
+use report_text::{LinedTexts, ReportFault};
 use rule_calls::{evaluate, judged_lines, line_context};
 use std::alloc::{AllocError, Global};
 
@@ -37,7 +39,7 @@ pub(crate) enum Form {
     Drill { count: u32 },
 }
 
-/// A template that was judged by rules.
+/// Inputs that were judged.
 #[derive(Debug, Drop)]
 pub(crate) struct Judgement {
     /// Whether a reported verdict is FAIL.
@@ -46,55 +48,56 @@ pub(crate) struct Judgement {
     pub report: Vec<u8>,
 }
 
-/// Judges a template by rules, and makes the report on it in a form.
+/// Judges inputs, and makes the report on them in a form.
 pub(crate) fn judge(
     alloc: Global,
-    inputs: &Inputs<'_, '_>,
+    ready: &Ready<'_, '_>,
     form: Form,
 ) -> Result<Judgement, AllocError>
-    ensures report { (answers : Answers) → IsAnswering (world_over (file_of inputs.now.rules.now.file) inputs.now.tree answers)
-        → IfOk result (λ j. j.report.items ≡ report_in form (world_over (file_of inputs.now.rules.now.file) inputs.now.tree answers)
-        (string_bytes inputs.now.rules.now.text) inputs.now.template.now) }
-    ensures failed { (answers : Answers) → IsAnswering (world_over (file_of inputs.now.rules.now.file) inputs.now.tree answers)
-        → IfOk result (λ j. j.failed ≡ list_any is_fail (verdicts_of (world_over (file_of inputs.now.rules.now.file) inputs.now.tree answers))) }
+    ensures report { (answers : Answers) → IsAnswering (world_over (file_of ready.now.inputs.now.rules.now) ready.now.inputs.now.tree answers)
+        → IfOk result (λ j. j.report.items ≡ report_in form (world_over (file_of ready.now.inputs.now.rules.now) ready.now.inputs.now.tree answers)
+        (see_texts ready.now.inputs.now.texts)) }
+    ensures failed { (answers : Answers) → IsAnswering (world_over (file_of ready.now.inputs.now.rules.now) ready.now.inputs.now.tree answers)
+        → IfOk result (λ j. j.failed ≡ list_any is_fail (verdicts_of (world_over (file_of ready.now.inputs.now.rules.now) ready.now.inputs.now.tree answers))) }
 {
-    let engine = evaluate(alloc, &inputs.rules.file, &inputs.tree, &inputs.book)?;
+    let inputs = ready.inputs;
+    let engine = evaluate(alloc, inputs.rules, &inputs.tree, &ready.book)?;
     judgement_of(alloc, inputs, &engine, form)
 }
 
-/// Judges a template by the engine that evaluated the rules over it, and makes the report on it in a form.
+/// Judges inputs by the engine that evaluated their rules, and makes the report on them in a form.
 pub(crate) fn judgement_of(
     alloc: Global,
-    inputs: &Inputs<'_, '_>,
+    inputs: &Inputs<'_>,
     engine: &Engine<'_, '_>,
     form: Form,
 ) -> Result<Judgement, AllocError>
-    requires accepted { Accepts Two inputs.now.tree (file_of inputs.now.rules.now.file) (see_engine engine.now).lines }
+    requires accepted { Accepts Two inputs.now.tree (file_of inputs.now.rules.now) (see_engine engine.now).lines }
     requires template { (see_engine engine.now).known.template ≡ inputs.now.tree }
-    requires file { (see_engine engine.now).known.file ≡ file_of inputs.now.rules.now.file }
+    requires file { (see_engine engine.now).known.file ≡ file_of inputs.now.rules.now }
     requires whole { IsWhole (see_engine engine.now) }
-    ensures report { (answers : Answers) → IsAnswering (world_over (file_of inputs.now.rules.now.file) inputs.now.tree answers)
-        → IfOk result (λ j. j.report.items ≡ report_in form (world_over (file_of inputs.now.rules.now.file) inputs.now.tree answers)
-        (string_bytes inputs.now.rules.now.text) inputs.now.template.now) }
-    ensures failed { (answers : Answers) → IsAnswering (world_over (file_of inputs.now.rules.now.file) inputs.now.tree answers)
-        → IfOk result (λ j. j.failed ≡ list_any is_fail (verdicts_of (world_over (file_of inputs.now.rules.now.file) inputs.now.tree answers))) }
+    ensures report { (answers : Answers) → IsAnswering (world_over (file_of inputs.now.rules.now) inputs.now.tree answers)
+        → IfOk result (λ j. j.report.items ≡ report_in form (world_over (file_of inputs.now.rules.now) inputs.now.tree answers)
+        (see_texts inputs.now.texts)) }
+    ensures failed { (answers : Answers) → IsAnswering (world_over (file_of inputs.now.rules.now) inputs.now.tree answers)
+        → IfOk result (λ j. j.failed ≡ list_any is_fail (verdicts_of (world_over (file_of inputs.now.rules.now) inputs.now.tree answers))) }
 {
-    let owners = Owners::new(alloc, &inputs.rules.file)?;
+    let owners = Owners::new(alloc, inputs.rules)?;
     let judged = judged_lines(engine)?;
     let context = line_context(engine, &owners, &judged);
     judgement_by(alloc, &context, inputs, form)
 }
 
-/// Judges a template by lines that were accepted, and makes the report on it in a form.
+/// Judges inputs by lines that were accepted, and makes the report on them in a form.
 fn judgement_by(
     alloc: Global,
     context: &LineContext<'_, '_, '_>,
-    inputs: &Inputs<'_, '_>,
+    inputs: &Inputs<'_>,
     form: Form,
 ) -> Result<Judgement, AllocError>
     requires { IsAccepted context.now.version (known_of context.now) (lines_of context.now) }
     ensures report { (answers : Answers) → IsAnswering (world_of (known_of context.now) answers)
-        → IfOk result (λ j. j.report.items ≡ report_in form (world_of (known_of context.now) answers) (string_bytes inputs.now.rules.now.text) inputs.now.template.now) }
+        → IfOk result (λ j. j.report.items ≡ report_in form (world_of (known_of context.now) answers) (see_texts inputs.now.texts)) }
     ensures failed { (answers : Answers) → IsAnswering (world_of (known_of context.now) answers)
         → IfOk result (λ j. j.failed ≡ list_any is_fail (verdicts_of (world_of (known_of context.now) answers))) }
 {
@@ -135,12 +138,12 @@ fn is_fail(verdict: Verdict) -> bool
 fn report_by(
     alloc: Global,
     context: &LineContext<'_, '_, '_>,
-    inputs: &Inputs<'_, '_>,
+    inputs: &Inputs<'_>,
     form: Form,
 ) -> Result<Vec<u8>, AllocError>
     requires { IsAccepted context.now.version (known_of context.now) (lines_of context.now) }
     ensures { (answers : Answers) → IsAnswering (world_of (known_of context.now) answers)
-        → IfOk result (λ report. report.items ≡ report_in form (world_of (known_of context.now) answers) (string_bytes inputs.now.rules.now.text) inputs.now.template.now) }
+        → IfOk result (λ report. report.items ≡ report_in form (world_of (known_of context.now) answers) (see_texts inputs.now.texts)) }
 {
     match form {
         Form::Entries => whole_report(alloc, context, inputs),
@@ -148,39 +151,34 @@ fn report_by(
     }
 }
 
-/// The report of `validate`. The lines of both texts are found once, and not anew for each entry.
+/// The report of `validate`. The lines of the texts are found once, and not anew for each entry.
 fn whole_report(
     alloc: Global,
     context: &LineContext<'_, '_, '_>,
-    inputs: &Inputs<'_, '_>,
+    inputs: &Inputs<'_>,
 ) -> Result<Vec<u8>, AllocError>
     requires { IsAccepted context.now.version (known_of context.now) (lines_of context.now) }
     ensures { (answers : Answers) → IsAnswering (world_of (known_of context.now) answers)
-        → IfOk result (λ report. report.items ≡ reports.report (world_of (known_of context.now) answers) (string_bytes inputs.now.rules.now.text) inputs.now.template.now) }
+        → IfOk result (λ report. report.items ≡ reports.report (world_of (known_of context.now) answers) (see_texts inputs.now.texts)) }
 {
-    let rules = Lined::new(alloc, inputs.rules.text.as_str())?;
-    let template = Lined::new(alloc, inputs.template)?;
-    let page = Page {
-        rules: &rules,
-        template: &template,
-    };
-    page_report(alloc, context, &page)
+    let texts = LinedTexts::new(alloc, &inputs.texts)?;
+    report_over(alloc, context, &texts)
 }
 
-/// The report of `validate`, by the texts of a page.
-fn page_report(
+/// The report of `validate`, by these texts.
+fn report_over(
     alloc: Global,
     context: &LineContext<'_, '_, '_>,
-    page: &Page<'_>,
+    texts: &LinedTexts<'_>,
 ) -> Result<Vec<u8>, AllocError>
     requires { IsAccepted context.now.version (known_of context.now) (lines_of context.now) }
     ensures { (answers : Answers) → IsAnswering (world_of (known_of context.now) answers)
-        → IfOk result (λ report. report.items ≡ reports.report (world_of (known_of context.now) answers) page.now.rules.now.text.now page.now.template.now.text.now) }
+        → IfOk result (λ report. report.items ≡ reports.report (world_of (known_of context.now) answers) (see_lined texts.now)) }
 {
     let mut text = CleanSink {
         bytes: Vec::new(alloc),
     };
-    match write_report(alloc, context, page, &mut text) {
+    match write_report(alloc, context, texts, &mut text) {
         Ok(_) => Ok(text.bytes),
         // The sink in memory has no faults.
         Err(ReportFault::Failed) => unreachable!(),
@@ -195,8 +193,8 @@ fn drill_report(
     count: u32,
 ) -> Result<Vec<u8>, AllocError>
     requires { IsAccepted context.now.version (known_of context.now) (lines_of context.now) }
-    ensures { (answers : Answers) → IsAnswering (world_of (known_of context.now) answers)
-        → IfOk result (λ report. report.items ≡ drill_report count (world_of (known_of context.now) answers) [] []) }
+    ensures { (answers : Answers) → (texts : Texts) → IsAnswering (world_of (known_of context.now) answers)
+        → IfOk result (λ report. report.items ≡ drill_report count (world_of (known_of context.now) answers) texts) }
 {
     let mut text = CleanSink {
         bytes: Vec::new(alloc),

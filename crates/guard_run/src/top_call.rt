@@ -9,7 +9,7 @@ use guard_io::{Files, Sink};
 use std::alloc::Global;
 use value_compare::PatternMaker;
 
-/// Judges a template by rules, or evidence for their verdicts: what the program does with its words.
+/// Judges a template, alone or with parameters, by rules, or evidence for their verdicts: what the program does with its words.
 pub fn guard<F: Files, M: PatternMaker, O: Sink, E: Sink>(
     alloc: Global,
     words: &[String],

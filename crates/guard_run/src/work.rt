@@ -4,13 +4,11 @@ ghost use Rattle.guard_words.specs.Request.{asked, drill};
 ghost use Rattle.guard_ends.specs.Order.{ComesTo, WorkOf};
 ghost use Rattle.guard_run.specs.code.Outcome.{IsOutcomeBy};
 
-use crate::check::run_check;
 use crate::done::Done;
 use crate::drill::run_drill;
-use crate::evidence::run_with_evidence;
-use crate::inputs::Names;
+use crate::job::{Job, Task, judging, name_in};
+use crate::over_files::run_over_files;
 use crate::stop::Stop;
-use crate::validate::run_validate;
 use guard_io::Files;
 use guard_words::{Request, WordsRefusal, read_words};
 use std::alloc::Global;
@@ -31,7 +29,7 @@ pub(crate) fn outcome_of<F: Files, M: PatternMaker>(
     ensures maker_kept { (text : List ℕ) → M.faults maker.old text ≤ M.faults maker.new text }
 {
     match read_words(alloc, words) {
-        Ok(request) => run(alloc, request, files, maker),
+        Ok(request) => run(alloc, &request, files, maker),
         Err(WordsRefusal::Usage) => Err(Stop::Usage),
         Err(WordsRefusal::NoMemory) => Err(Stop::Memory),
     }
@@ -40,12 +38,12 @@ pub(crate) fn outcome_of<F: Files, M: PatternMaker>(
 /// What comes of a request, an arm for each command.
 fn run<F: Files, M: PatternMaker>(
     alloc: Global,
-    request: Request,
+    request: &Request,
     files: &mut F,
     maker: &mut M,
 ) -> Result<Done, Stop>
-    requires { (count : ℕ) → asked request ≡ drill count → count ≤ 100000 }
-    ensures outcome { IsOutcomeBy (WorkOf (asked request) (F.content files.old))
+    requires { (count : ℕ) → asked request.now ≡ drill count → count ≤ 100000 }
+    ensures outcome { IsOutcomeBy (WorkOf (asked request.now) (F.content files.old))
         (record { files = F.faults files.old; patterns = M.faults maker.old })
         (record { files = F.faults files.new; patterns = M.faults maker.new }) result }
     ensures contents { (other : List ℕ) → F.content files.new other ≡ F.content files.old other }
@@ -56,29 +54,33 @@ fn run<F: Files, M: PatternMaker>(
         Request::Validate {
             rules,
             template,
+            params,
             evidence,
         } => {
-            let names = Names {
+            let job = Job {
                 rules: rules.as_str(),
                 template: template.as_str(),
+                params: name_in(params),
+                task: judging(*evidence),
             };
-            if evidence {
-                run_with_evidence(alloc, &names, files, maker)
-            } else {
-                run_validate(alloc, &names, files, maker)
-            }
+            run_over_files(alloc, &job, files, maker)
         }
         Request::Check {
             rules,
             template,
+            params,
             proof,
         } => {
-            let names = Names {
+            let job = Job {
                 rules: rules.as_str(),
                 template: template.as_str(),
+                params: name_in(params),
+                task: Task::Check {
+                    proof: proof.as_str(),
+                },
             };
-            run_check(alloc, &names, proof.as_str(), files, maker)
+            run_over_files(alloc, &job, files, maker)
         }
-        Request::Drill { count } => run_drill(alloc, count),
+        Request::Drill { count } => run_drill(alloc, *count),
     }
 }

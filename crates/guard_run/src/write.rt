@@ -74,7 +74,7 @@ fn write_stop<E: Sink>(stop: Stop, err: &mut E) -> End
 {
     match stop {
         Stop::Usage => say(
-            b"usage: guard validate --rules FILE --data FILE [--evidence] | check --rules FILE --data FILE --proof FILE | drill --count N\n",
+            b"usage: guard validate --rules FILE --data FILE [--params FILE] [--evidence] | check --rules FILE --data FILE [--params FILE] --proof FILE | drill --count N\n",
             End::Usage,
             err,
         ),
@@ -127,6 +127,7 @@ fn read_fault_text(which: Which) -> &'static str
     match which {
         Which::Rules => "guard: cannot read rules\n",
         Which::Template => "guard: cannot read data\n",
+        Which::Params => "guard: cannot read params\n",
         Which::Proof => "guard: cannot read proof\n",
     }
 }

@@ -1,53 +1,58 @@
--- Rules and a template, loaded and read, by the types of the code.
-use Rattle.std.specs.Prelude.{ℕ, ◌≡◌, List, string_bytes}
+-- Rules and data, loaded and read, by the types of the code.
+use Rattle.std.specs.Prelude.{ℕ, ◌≡◌, List, Option, None, string_bytes}
 use Rattle.doc_values.specs.Tree.{Forest}
 use Rattle.rule_names.specs.code.Files.{file_of}
-use Rattle.guard_ends.specs.Inputs.{IsRuleFile, IsTemplate, format_of}
+use Rattle.report_text.specs.Texts.{Parameters}
+use Rattle.report_text.specs.code.SeenTexts.{see_texts}
 use Rattle.guard_drill.specs.DrillTexts.{template_text}
 use Rattle.guard_ends.specs.Drill.{drill_rules}
-use Rattle.guard_ends.specs.Order.{AreRead, Contents, Inputs, IsContent, ReadingInputs, Work}
+use Rattle.guard_ends.specs.Inputs.{IsRuleFile, IsTemplate, format_of}
+use Rattle.guard_ends.specs.Order.{Contents, Inputs, IsContent, Joining, MakingPatterns, ReadingInputs, Work}
 use Rattle.guard_ends.specs.declared.format.Format.TheVariants.{Json}
+use Rattle.guard_run.specs.declared.inputs.DataText.{DataText}
 use Rattle.guard_run.specs.declared.inputs.Inputs as code
-use Rattle.guard_run.specs.declared.inputs.Texts.{Texts}
+use Rattle.guard_run.specs.declared.inputs.Sources.{Sources}
 
 -- what the inputs of the code are
 abbrev pub inputs_of : code.Inputs → Inputs
-inputs_of inputs = record {
-  source = string_bytes inputs.rules.now.text;
-  rules = file_of inputs.rules.now.file;
-  template = inputs.template.now;
-  tree = inputs.tree;
-}
+inputs_of inputs = record { rules = file_of inputs.rules.now; tree = inputs.tree; texts = see_texts inputs.texts }
 
--- the inputs that texts make, with the tree of the template
-abbrev pub inputs_over : Texts → Forest → Inputs
-inputs_over texts tree = record {
-  source = string_bytes texts.rules.text;
-  rules = file_of texts.rules.file;
-  template = string_bytes texts.template;
+-- the inputs that sources make, with this data tree and these parameters
+abbrev pub inputs_over : Sources → Option Parameters → Forest → Inputs
+inputs_over sources params tree = record {
+  rules = file_of sources.rules.file;
   tree = tree;
+  texts = record { rules = string_bytes sources.rules.text; template = string_bytes sources.template.text; params = params };
 }
 
--- texts are read, and the work goes on with the inputs that they make
-abbrev pub ReadingTexts : Texts → (Inputs → Work) → Work
-ReadingTexts texts = ReadingInputs texts.format (string_bytes texts.rules.text) (file_of texts.rules.file) (string_bytes texts.template)
+-- the patterns of the rules of inputs are made, and the work goes on with the inputs
+abbrev pub WithPatterns : (Inputs → Work) → Inputs → Work
+WithPatterns GoesOn inputs = MakingPatterns inputs.texts.rules inputs.rules (GoesOn inputs)
 
--- texts that were loaded from files of these names, of which the rules are read
-pub record AreLoaded (told : Contents) (rules template : List ℕ) (texts : Texts) : Type 0 where
-  pub source : IsContent (told rules) (string_bytes texts.rules.text)
-  pub read : IsRuleFile (string_bytes texts.rules.text) (file_of texts.rules.file)
-  pub text : IsContent (told template) (string_bytes texts.template)
-  pub format : texts.format ≡ format_of template
+-- sources are read, what is done with the template is done, and the work goes on with the inputs that they make
+abbrev pub ReadingSources : Sources → Joining → (Inputs → Work) → Work
+ReadingSources sources Joined =
+    ReadingInputs sources.template.format (string_bytes sources.rules.text) (file_of sources.rules.file) Joined (string_bytes sources.template.text)
 
--- texts of a drill of so many resources, of which the rules are read
-pub record AreOfDrill (count : ℕ) (texts : Texts) : Type 0 where
-  pub source : string_bytes texts.rules.text ≡ drill_rules
-  pub read : IsRuleFile drill_rules (file_of texts.rules.file)
-  pub text : string_bytes texts.template ≡ template_text count
-  pub format : texts.format ≡ Json
+-- a text that was loaded from a file of this name
+pub record IsLoaded (told : Contents) (name : List ℕ) (loaded : DataText) : Type 0 where
+  pub text : IsContent (told name) (string_bytes loaded.text)
+  pub format : loaded.format ≡ format_of name
 
--- inputs that were read from texts
-pub record AreInputs (texts : Texts) (inputs : code.Inputs) : Type 0 where
-  pub same : inputs_of inputs ≡ inputs_over texts inputs.tree
-  pub read : IsTemplate texts.format (string_bytes texts.template) inputs.tree
-  pub patterns : AreRead (file_of texts.rules.file)
+-- sources that were loaded from files of these names, of which the rules are read
+pub record AreLoaded (told : Contents) (rules template : List ℕ) (sources : Sources) : Type 0 where
+  pub source : IsContent (told rules) (string_bytes sources.rules.text)
+  pub read : IsRuleFile (string_bytes sources.rules.text) (file_of sources.rules.file)
+  pub text : IsLoaded told template sources.template
+
+-- sources of a drill of so many resources, of which the rules are read
+pub record AreOfDrill (count : ℕ) (sources : Sources) : Type 0 where
+  pub source : string_bytes sources.rules.text ≡ drill_rules
+  pub read : IsRuleFile drill_rules (file_of sources.rules.file)
+  pub text : string_bytes sources.template.text ≡ template_text count
+  pub format : sources.template.format ≡ Json
+
+-- inputs that were read from sources, without parameters
+pub record AreAlone (sources : Sources) (inputs : code.Inputs) : Type 0 where
+  pub same : inputs_of inputs ≡ inputs_over sources None inputs.tree
+  pub read : IsTemplate sources.template.format (string_bytes sources.template.text) inputs.tree

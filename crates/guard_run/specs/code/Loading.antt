@@ -14,6 +14,7 @@ use Rattle.guard_run.specs.declared.stop.Stop.{Stop}
 abbrev pub limit_of : Which → ℕ
 limit_of file.Rules = rules_limit
 limit_of file.Template = template_limit
+limit_of file.Params = template_limit
 limit_of file.Proof = evidence_limit
 
 -- a file is refused for its length

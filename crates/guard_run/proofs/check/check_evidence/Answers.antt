@@ -20,7 +20,7 @@ returns-in_err-bytes-clause-outcome g c =
     let told = g.F.Files.content c.args.files.now in
     let name = c.args.name.now in
     let Rises = Rose (g.F.Files.faults c.args.files.now) (g.F.Files.faults c.load_bytes.new.files) in
-    let inputs : Inputs = inputs_of c.args.inputs.now in
+    let inputs : Inputs = inputs_of c.args.ready.now.inputs.now in
     let Comes : Work = OfEvidence told name inputs in
     at-exit (λ (done : Done). Comes (Ends (ended done))) (IsStop Comes Rises NoneRose)
     c.from_residual.result c.in_err-bytes.field-0.0 c.from_residual.ensures.1
@@ -33,7 +33,7 @@ returns-in_err-evidence-clause-outcome g c =
     let told = g.F.Files.content c.args.files.now in
     let name = c.args.name.now in
     let Rises = Rose (g.F.Files.faults c.args.files.now) (g.F.Files.faults c.load_bytes.new.files) in
-    let Comes : Work = OfEvidence told name (inputs_of c.args.inputs.now) in
+    let Comes : Work = OfEvidence told name (inputs_of c.args.ready.now.inputs.now) in
     let bytes : List ℕ = c.in_ok-bytes.bytes.items in
     at-exit (λ (done : Done). Comes (Ends (ended done))) (IsStop Comes Rises NoneRose)
     c.from_residual-in_err-evidence.result c.in_err-evidence.field-0.0 c.from_residual-in_err-evidence.ensures.1
@@ -46,7 +46,7 @@ returns-clause-outcome g c =
     let told = g.F.Files.content c.args.files.now in
     let name = c.args.name.now in
     let Rises = Rose (g.F.Files.faults c.args.files.now) (g.F.Files.faults c.load_bytes.new.files) in
-    let inputs : Inputs = inputs_of c.args.inputs.now in
+    let inputs : Inputs = inputs_of c.args.ready.now.inputs.now in
     let bytes : List ℕ = c.in_ok-bytes.bytes.items in
     let evidence = c.in_ok-evidence.evidence in
     IsOutcome-more (Ending (IsChecked inputs.rules inputs.tree evidence)) (OfEvidence told name inputs) NoneRose Rises NoneRose NoneRose

@@ -13,8 +13,8 @@ use Rattle.guard_run.proofs.check.check_lines.Goals as goal
 
 pub accepted_text-requires : goal.accepted_text-requires
 accepted_text-requires c =
-    let rules = file_of c.args.inputs.now.rules.now.file in
-    let tree = c.args.inputs.now.tree in
+    let rules = file_of c.args.ready.now.inputs.now.rules.now in
+    let tree = c.args.ready.now.inputs.now.tree in
     let version = c.args.evidence.now.version in
     let lines = c.args.evidence.now.lines in
     let verdicts = c.in-Accepted.verdicts.items in
@@ -24,8 +24,8 @@ accepted_text-requires c =
 
 pub returns-in_ok-text-in-Accepted : goal.returns-in_ok-text-in-Accepted
 returns-in_ok-text-in-Accepted c =
-    let rules = file_of c.args.inputs.now.rules.now.file in
-    let tree = c.args.inputs.now.tree in
+    let rules = file_of c.args.ready.now.inputs.now.rules.now in
+    let tree = c.args.ready.now.inputs.now.tree in
     let version = c.args.evidence.now.version in
     let lines = c.args.evidence.now.lines in
     let verdicts = c.in-Accepted.verdicts.items in
@@ -39,8 +39,8 @@ returns-in_ok-text-in-Accepted c =
 
 pub returns-in-Rejected : goal.returns-in-Rejected
 returns-in-Rejected c =
-    let rules = file_of c.args.inputs.now.rules.now.file in
-    let tree = c.args.inputs.now.tree in
+    let rules = file_of c.args.ready.now.inputs.now.rules.now in
+    let tree = c.args.ready.now.inputs.now.tree in
     let version = c.args.evidence.now.version in
     let lines = c.args.evidence.now.lines in
     let number = c.in-Rejected.number in

@@ -15,12 +15,12 @@ use Rattle.guard_run.proofs.evidence.report_with_evidence.Goals as goal
 
 pub evidence_text-requires : goal.evidence_text-requires
 evidence_text-requires c =
-    let inputs : Inputs = inputs_of c.args.inputs.now in
+    let inputs : Inputs = inputs_of c.args.ready.now.inputs.now in
     accepted-shapes Two inputs.tree inputs.rules c.in_ok-engine.engine.evidence.lines c.in_ok-engine.ensures.accepted
 
 pub returns : goal.returns
 returns c =
-    let inputs : Inputs = inputs_of c.args.inputs.now in
+    let inputs : Inputs = inputs_of c.args.ready.now.inputs.now in
     let judgement = c.in_ok-judgement.judgement in
     let engine = c.in_ok-engine.engine in
     let text = c.in_ok-evidence.evidence.items in
@@ -34,7 +34,7 @@ returns c =
           text,
           (engine.evidence.lines, written, c.in_ok-engine.ensures.accepted, c.in_ok-engine.ensures.lean),
           judged-with report c.done_with.result judgement.failed judgement.report.items text (world_over inputs.rules inputs.tree given.0)
-              inputs.source inputs.template c.done_with.ensures.how c.done_with.ensures.out c.done_with.ensures.err
+              inputs.texts c.done_with.ensures.how c.done_with.ensures.out c.done_with.ensures.err
               (c.in_ok-judgement.ensures.report given.0 given.1) (c.in_ok-judgement.ensures.failed given.0 given.1),
         ),
       ),

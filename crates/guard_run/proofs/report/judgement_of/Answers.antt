@@ -1,4 +1,4 @@
-use Rattle.std.proofs.Common.{◌≡◌, IfOk, string_bytes, subst, sym}
+use Rattle.std.proofs.Common.{◌≡◌, IfOk, subst, sym}
 use Rattle.std.specs.List.{list_any}
 use Rattle.guard_syntax.specs.Syntax.{File}
 use Rattle.rule_names.specs.code.Files.{file_of}
@@ -10,6 +10,7 @@ use Rattle.evidence_lookups.specs.code.Owned.{AreOwners}
 use Rattle.clause_eval.specs.code.Engines.{see_engine}
 use Rattle.evidence_report.proofs.TakenTexts.{none-at-exit}
 use Rattle.guard_ends.specs.Reported.{verdicts_of}
+use Rattle.report_text.specs.code.SeenTexts.{see_texts}
 use Rattle.guard_run.specs.code.Forms.{report_in}
 use Rattle.guard_run.proofs.Accepted.{accepted-in, same-world}
 use Rattle.guard_run.proofs.report.judgement_of.Goals as goal
@@ -21,7 +22,7 @@ pub judgement_by-requires : goal.judgement_by-requires
 judgement_by-requires c =
     let inputs = c.args.inputs.now in
     let made = c.line_context-context.result in
-    accepted-in (see_engine c.args.engine.now) (file_of inputs.rules.now.file) inputs.tree c.requires.template c.requires.file c.requires.accepted c.requires.whole made.version (known_of made) (lines_of made)
+    accepted-in (see_engine c.args.engine.now) (file_of inputs.rules.now) inputs.tree c.requires.template c.requires.file c.requires.accepted c.requires.whole made.version (known_of made) (lines_of made)
     c.line_context-context.ensures.version c.line_context-context.ensures.known c.line_context-context.ensures.lines
 
 pub returns-in_err-owners-clause-report : goal.returns-in_err-owners-clause-report
@@ -40,13 +41,13 @@ pub returns-clause-report : goal.returns-clause-report
 returns-clause-report c answers obey =
     let inputs = c.args.inputs.now in
     let made = c.line_context-context.result in
-    let same = same-world (see_engine c.args.engine.now) (file_of inputs.rules.now.file) inputs.tree c.requires.template c.requires.file (known_of made) answers c.line_context-context.ensures.known in
-    subst (λ (w : World). IfOk c.judgement_by.result (λ j. j.report.items ≡ report_in c.args.form w (string_bytes inputs.rules.now.text) inputs.template.now)) (sym same)
+    let same = same-world (see_engine c.args.engine.now) (file_of inputs.rules.now) inputs.tree c.requires.template c.requires.file (known_of made) answers c.line_context-context.ensures.known in
+    subst (λ (w : World). IfOk c.judgement_by.result (λ j. j.report.items ≡ report_in c.args.form w (see_texts inputs.texts))) (sym same)
     (c.judgement_by.ensures.report answers (subst IsAnswering same obey))
 
 pub returns-clause-failed : goal.returns-clause-failed
 returns-clause-failed c answers obey =
     let inputs = c.args.inputs.now in
     let made = c.line_context-context.result in
-    let same = same-world (see_engine c.args.engine.now) (file_of inputs.rules.now.file) inputs.tree c.requires.template c.requires.file (known_of made) answers c.line_context-context.ensures.known in
+    let same = same-world (see_engine c.args.engine.now) (file_of inputs.rules.now) inputs.tree c.requires.template c.requires.file (known_of made) answers c.line_context-context.ensures.known in
     subst (λ (w : World). IfOk c.judgement_by.result (λ j. j.failed ≡ list_any is_fail (verdicts_of w))) (sym same) (c.judgement_by.ensures.failed answers (subst IsAnswering same obey))

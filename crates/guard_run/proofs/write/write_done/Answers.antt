@@ -11,7 +11,7 @@ use Rattle.guard_ends.specs.declared.ends.Pipe.TheVariants as pipe
 use Rattle.guard_ends.specs.Order.{Ended}
 use Rattle.guard_run.specs.code.Refusals.{bytes_of}
 use Rattle.guard_run.specs.code.Writing.{Said}
-use Rattle.guard_run.proofs.Closing.{Took-front, Closed-said, Closed-memory, Closed-defined, IsReport-as, reported_with, reported-defined}
+use Rattle.guard_run.proofs.Closing.{Took-front, Closed-said, Closed-memory, Closed-defined, IsTaken-as, reported_with, reported-defined}
 use Rattle.guard_run.proofs.write.write_done.Goals as goal
 
 out-not-err : WriteFault Out ≢ WriteFault pipe.Err
@@ -44,7 +44,7 @@ returns-in-Err-Failed-clause-closed g c = λ words told old new end.
     let text : List ℕ = bytes_of c.args.done.out in
     let cut : (front : List ℕ) × IsPrefix front text × Took (g.O.Sink.told c.args.out.now) (g.O.Sink.told c.put.new.self) front =
     Took-front (g.O.Sink.told c.args.out.now) (g.O.Sink.told c.put.new.self) text (rw c.as_bytes.ensures at c.in-Err-Failed.ensures.err) in
-    let whole = IsReport-as words told c.args.done.how text (bytes_of c.args.done.err) c.args.done.reported end in
+    let whole = IsTaken-as words told c.args.done.how text (bytes_of c.args.done.err) c.args.done.reported end in
     Closed-said words told before after write_fault_line (WriteFault Out) c.say-in-Err-Failed.result (g.O.Sink.told c.args.out.now) (g.O.Sink.told c.put.new.self)
     (g.E.Sink.told c.args.err.now) (g.E.Sink.told c.say-in-Err-Failed.new.err) cut.0
     (λ some. inr (inr (inr (text, whole, cut.1, c.in-Err-Failed.ensures.failed (ap Err c.in-Err-Failed.field-0-is), refl)))) cut.2
@@ -59,7 +59,7 @@ returns-clause-closed g c = λ words told old new end.
     Took-front (g.O.Sink.told c.args.out.now) (g.O.Sink.told c.put.new.self) text (rw c.as_bytes.ensures at c.in-Err-Memory.ensures.err) in
     Closed-memory words told before after c.say_memory.result (g.O.Sink.told c.args.out.now) (g.O.Sink.told c.put.new.self)
     (g.E.Sink.told c.args.err.now) (g.E.Sink.told c.say_memory.new.err) cut.0
-    (inr (inl (text, IsReport-as words told c.args.done.how text (bytes_of c.args.done.err) c.args.done.reported end, cut.1, refl))) cut.2 c.say_memory.ensures.said
+    (inr (inl (text, IsTaken-as words told c.args.done.how text (bytes_of c.args.done.err) c.args.done.reported end, cut.1, refl))) cut.2 c.say_memory.ensures.said
 
 -- an end at which out took a text is no fault
 reported-no-fault : (how : End) (which : Pipe) → is_reported how ≡ true → how ≢ WriteFault which
