@@ -1,0 +1,9 @@
+mod CaseTexts
+mod ChildPlaces
+mod Examples
+mod FirstFailures
+mod KeyTexts
+mod NamesOfSites
+mod Sentences
+mod Siblings
+mod VerdictsByName

@@ -1,0 +1,6 @@
+use Rattle.guard_testfile.specs.code.Refusals.{HoldsBelow}
+use Rattle.guard_testfile.specs.code.Shape.{shaped_at}
+use Rattle.guard_testfile.proofs.shape.first_unshaped.Given as goal
+
+abbrev pub invariant-loop-id : goal.invariant-loop-id
+invariant-loop-id l = HoldsBelow l.id (shaped_at l.doc)
