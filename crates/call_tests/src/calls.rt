@@ -20,6 +20,7 @@ pub(crate) struct Given<'a> {
     pub words: &'a [&'a str],
     pub rules: &'a [u8],
     pub data: &'a [u8],
+    pub params: &'a [u8],
     pub proof: &'a [u8],
     /// The loads that fail, by their numbers from 0.
     pub failing: &'a [u64],
@@ -36,11 +37,21 @@ pub(crate) const CHECK: &[&str] = &[
     "check", "--rules", "r.guard", "--data", "d.json", "--proof", "e",
 ];
 
+/// Those of a validation with parameters, and of a check with them.
+pub(crate) const WITH_PARAMS: &[&str] = &[
+    "validate", "--rules", "r.guard", "--data", "d.json", "--params", "p.json",
+];
+
+pub(crate) const CHECK_WITH_PARAMS: &[&str] = &[
+    "check", "--rules", "r.guard", "--data", "d.json", "--params", "p.json", "--proof", "e",
+];
+
 /// A validation of the rules and the template above.
 pub(crate) const FIRST: Given<'static> = Given {
     words: VALIDATE,
     rules: RULES,
     data: NAMED,
+    params: b"{}",
     proof: b"",
     failing: &[],
     refusing: &[],
@@ -51,6 +62,12 @@ pub(crate) const FIRST: Given<'static> = Given {
 /// A check of evidence that is empty.
 pub(crate) const CHECKED: Given<'static> = Given {
     words: CHECK,
+    ..FIRST
+};
+
+/// A validation with parameters, which are an empty map.
+pub(crate) const JOINED: Given<'static> = Given {
+    words: WITH_PARAMS,
     ..FIRST
 };
 
@@ -147,6 +164,7 @@ fn files_of(alloc: Global, given: &Given<'_>) -> Result<Vec<(String, Vec<u8>)>, 
     for (name, bytes) in [
         ("r.guard", given.rules),
         ("d.json", given.data),
+        ("p.json", given.params),
         ("e", given.proof),
     ] {
         files.push(file(alloc, name, bytes)?)?;
@@ -179,6 +197,7 @@ pub(crate) fn word(end: &End) -> &'static str {
         End::Refused(_) => "refused",
         End::ReadFault(Which::Rules) => "rules not read",
         End::ReadFault(Which::Template) => "template not read",
+        End::ReadFault(Which::Params) => "parameters not read",
         End::ReadFault(Which::Proof) => "proof not read",
         End::WriteFault(Pipe::Out) => "out not written",
         End::WriteFault(Pipe::Err) => "err not written",

@@ -1,6 +1,9 @@
 //! Loads, patterns and pieces that fail, each at its turn, and want of memory.
 use crate::calls::Wanted::{Failed, Passed, Rejected};
-use crate::calls::{AMPLE, CHECKED, FIRST, Given, PASSED, Wanted, call, comes_out, is_end, word};
+use crate::calls::{
+    AMPLE, CHECK_WITH_PARAMS, CHECKED, FIRST, Given, JOINED, PASSED, Wanted, call, comes_out,
+    is_end, word,
+};
 use guard_run::End;
 use std::alloc::{AllocError, Global};
 use std::test::Fail;
@@ -49,6 +52,68 @@ fn tells_each_fault(rt: HostRuntime) -> Result<(), Fail> {
         };
         if !comes_out(rt.alloc(), &given, wanted)? {
             return Err(Fail::from("a fault of a validation"));
+        }
+    }
+    Ok(())
+}
+
+const NO_PARAMS: Wanted = Failed("parameters not read", b"", b"guard: cannot read params\n");
+
+/// The loads that fail in a validation with parameters, the room of err, and what comes of it.
+const FAULTS_WITH_PARAMS: &[(&[u64], u64, Wanted)] = &[
+    (
+        &[0],
+        AMPLE,
+        Failed("rules not read", b"", b"guard: cannot read rules\n"),
+    ),
+    (
+        &[1],
+        AMPLE,
+        Failed("template not read", b"", b"guard: cannot read data\n"),
+    ),
+    (&[2], AMPLE, NO_PARAMS),
+    (&[2, 3], AMPLE, NO_PARAMS),
+    (&[2], 7, Failed("err not written", b"", b"guard: ")),
+    (&[2], 0, Failed("err not written", b"", b"")),
+    (&[3], AMPLE, Passed),
+];
+
+#[test]
+fn tells_each_fault_with_parameters(rt: HostRuntime) -> Result<(), Fail> {
+    for (failing, err_room, wanted) in FAULTS_WITH_PARAMS {
+        let given = Given {
+            failing: *failing,
+            err_room: *err_room,
+            ..JOINED
+        };
+        if !comes_out(rt.alloc(), &given, wanted)? {
+            return Err(Fail::from("a fault of a validation with parameters"));
+        }
+    }
+    Ok(())
+}
+
+/// The loads that fail in a check with parameters, and what comes of it.
+const FAULTS_OF_A_CHECK_WITH_PARAMS: &[(&[u64], Wanted)] = &[
+    (&[2], NO_PARAMS),
+    (
+        &[3],
+        Failed("proof not read", b"", b"guard: cannot read proof\n"),
+    ),
+    (&[], Rejected(b"rejected 1\n")),
+];
+
+#[test]
+fn tells_each_fault_of_a_check_with_parameters(rt: HostRuntime) -> Result<(), Fail> {
+    for (failing, wanted) in FAULTS_OF_A_CHECK_WITH_PARAMS {
+        let given = Given {
+            words: CHECK_WITH_PARAMS,
+            proof: b"guard-evidence 1\n",
+            failing: *failing,
+            ..CHECKED
+        };
+        if !comes_out(rt.alloc(), &given, wanted)? {
+            return Err(Fail::from("a fault of a check with parameters"));
         }
     }
     Ok(())
@@ -168,6 +233,35 @@ fn tells_err_with_too_little_room_for_a_refusal(rt: HostRuntime) -> Result<(), F
     Ok(())
 }
 
+/// The line of parameters that share a key with the template.
+const SHARED: &[u8] = b"guard: params 1:14: SharedKey\n";
+
+/// Whether the line of a shared key is cut where there is no more room.
+fn is_shared_key_cut(alloc: Global, room: usize) -> Result<bool, AllocError> {
+    let given = Given {
+        params: br#"{"Resources":1}"#,
+        err_room: room as u64,
+        ..JOINED
+    };
+    let ran = call(alloc, &given)?;
+    Ok(
+        word(&ran.end) == "err not written"
+            && ran.out.is_empty()
+            && ran.err.len() == room
+            && SHARED.starts_with(&ran.err),
+    )
+}
+
+#[test]
+fn tells_err_with_too_little_room_for_a_shared_key(rt: HostRuntime) -> Result<(), Fail> {
+    for room in 0..SHARED.len() {
+        if !is_shared_key_cut(rt.alloc(), room)? {
+            return Err(Fail::from("err"));
+        }
+    }
+    Ok(())
+}
+
 /// The usage line is cut where there is no more room.
 #[test]
 fn tells_err_with_too_little_room_for_the_usage_line(rt: HostRuntime) -> Result<(), Fail> {
@@ -191,7 +285,21 @@ fn tells_err_with_too_little_room_for_the_usage_line(rt: HostRuntime) -> Result<
 /// it ends so, or by want of memory with fronts of the defined texts on out and err.
 #[test]
 fn ends_as_defined_or_by_want_of_memory(rt: HostRuntime) -> Result<(), Fail> {
-    let ran = match call(rt.alloc(), &FIRST) {
+    passes_or_wants(rt.alloc(), &FIRST)
+}
+
+#[test]
+fn merges_parameters_or_ends_by_want_of_memory(rt: HostRuntime) -> Result<(), Fail> {
+    let given = Given {
+        params: br#"{"P":{"Q":1},"R":"s"}"#,
+        ..JOINED
+    };
+    passes_or_wants(rt.alloc(), &given)
+}
+
+/// Makes a call that passes where there is memory.
+fn passes_or_wants(alloc: Global, given: &Given<'_>) -> Result<(), Fail> {
+    let ran = match call(alloc, given) {
         Ok(ran) => ran,
         // The words, the files and their contents were not made.
         Err(AllocError) => return Ok(()),

@@ -1,7 +1,10 @@
 //! In which order the work is done: how many files are loaded, and how many patterns are made, where something is refused or
 //! fails.
 use crate::calls::Wanted::{Failed, Passed, Refused};
-use crate::calls::{CHECK, CHECKED, FIRST, Given, VALIDATE, Wanted, call, is_end};
+use crate::calls::{
+    CHECK, CHECK_WITH_PARAMS, CHECKED, FIRST, Given, JOINED, VALIDATE, WITH_PARAMS, Wanted, call,
+    is_end,
+};
 use std::alloc::{AllocError, Global};
 use std::test::Fail;
 
@@ -153,11 +156,83 @@ fn loads_evidence_last(rt: HostRuntime) -> Result<(), Fail> {
     Ok(())
 }
 
+/// Rules, a template and parameters, the line on err, how many files are loaded, and how many patterns are asked for.
+const MERGES: &[(&[u8], &[u8], &[u8], &[u8], u64, u64)] = &[
+    (b"\xff", b"[", b"[", b"guard: rules: NotText\n", 1, 0),
+    (ODD, b"{", b"{", b"guard: data 1:2: Syntax\n", 2, 0),
+    (ODD, b"[]", b"\xff", b"guard: params: NotText\n", 3, 0),
+    (ODD, b"[]", b"{", b"guard: params 1:2: Syntax\n", 3, 0),
+    (ODD, b"[]", b"[]", b"guard: data 1:1: NotAMap\n", 3, 0),
+    (ODD, b" 7", b"{}", b"guard: data 1:2: NotAMap\n", 3, 0),
+    (ODD, b"{}", b"  []", b"guard: params 1:3: NotAMap\n", 3, 0),
+    (
+        ODD,
+        SMALL,
+        br#"{"B":1,"A":2}"#,
+        b"guard: params 1:12: SharedKey\n",
+        3,
+        0,
+    ),
+    (ODD, SMALL, b"{}", b"guard: rules 1:15: BadPattern\n", 3, 1),
+];
+
+/// Rules whose pattern is none.
+const ODD: &[u8] = b"rule r { A == /(/ }";
+
+#[test]
+fn merges_once_all_is_read(rt: HostRuntime) -> Result<(), Fail> {
+    for (rules, data, params, line, loads, made) in MERGES {
+        let given = Given {
+            rules: *rules,
+            data: *data,
+            params: *params,
+            ..JOINED
+        };
+        if !stops_after(rt.alloc(), &given, *line, *loads, *made)? {
+            return Err(Fail::from("parameters"));
+        }
+    }
+    Ok(())
+}
+
+/// Evidence is loaded behind the parameters, and once the patterns are made.
+#[test]
+fn loads_evidence_behind_parameters(rt: HostRuntime) -> Result<(), Fail> {
+    let given = Given {
+        words: CHECK_WITH_PARAMS,
+        rules: b"rule r { A == /a/ }",
+        ..CHECKED
+    };
+    let line = b"guard: proof line 0: EvidenceSyntax\n";
+    if stops_after(rt.alloc(), &given, line, 4, 1)? {
+        Ok(())
+    } else {
+        Err(Fail::from("evidence"))
+    }
+}
+
 /// Words, the status, and how many files are loaded. No pattern is made.
 const WORDS: &[(&[&str], u8, u64)] = &[
     (VALIDATE, 0, 2),
     (&["validate", "--data", "d.json", "--rules=r.guard"], 0, 2),
     (CHECK, 5, 3),
+    (WITH_PARAMS, 0, 3),
+    (
+        &[
+            "validate",
+            "--params=p.json",
+            "--rules=r.guard",
+            "--data=d.json",
+        ],
+        0,
+        3,
+    ),
+    (CHECK_WITH_PARAMS, 5, 4),
+    (
+        &["validate", "--rules=r.guard", "--data=d.json", "--params"],
+        2,
+        0,
+    ),
     (
         &["validate", "--rules=r.guard", "--data=d.json", "--evidence"],
         0,

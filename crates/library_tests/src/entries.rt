@@ -1,8 +1,14 @@
-//! The lines of entries: places at the borders of lines and past a text, and sinks with each room.
-use crate::worlds::{file_of, template_of};
+//! The lines of entries: places at the borders of lines and past a text, those of parameters, and sinks with each room.
+ghost use Rattle.std.specs.Prelude.{◌≡◌, true, false};
+ghost use Rattle.rule_meaning.specs.StoreModel.{is_known_ref};
+ghost use Rattle.value_compare.specs.code.Stores.{see_store};
+ghost use Rattle.report_text.specs.code.SeenEntries.{is_made};
+
+use crate::worlds::{file_of, json_template_of, template_of};
 use doc_values::RULES_LIMIT;
-use guard_io::MemSink;
-use report_text::{Entry, ReportFault, Shown, Word, write_entry};
+use guard_io::{CleanSink, MemSink};
+use guard_syntax::{Origin, Ref};
+use report_text::{Entry, Params, ReportFault, Shown, Texts, Word, write_entry};
 use rule_names::RuleFile;
 use std::alloc::{AllocError, Global};
 use std::test::Fail;
@@ -30,7 +36,12 @@ fn write(
     if RULES_LIMIT < text.len() {
         return Err(AllocError);
     }
-    Ok(write_entry(alloc, file, text, "", &store, &CALL, sink))
+    let texts = Texts {
+        rules: text,
+        template: "",
+        params: None,
+    };
+    Ok(write_entry(alloc, file, &texts, &store, &CALL, sink))
 }
 
 /// The room of a sink, and what comes of it: what it takes, and how many faults it counts.
@@ -137,5 +148,89 @@ fn first_wrong_room(alloc: Global, file: &RuleFile) -> Result<Option<usize>, All
 fn a_sink_takes_what_has_room(rt: HostRuntime) -> Result<(), Fail> {
     let file = file_of(rt.alloc(), RULES)?;
     assert_eq!(rt; first_wrong_room(rt.alloc(), &file)?, None);
+    Ok(())
+}
+
+/// The map of the template with the entry of the parameters behind its own: its values stand where they do in their own texts.
+const DATA: &str = r#"{"A":1,"B":2}"#;
+
+const TEMPLATE: &str = r#"{"A":1}"#;
+
+const PARAMS: &str = "{\n\n    \"B\":2}";
+
+/// The lines of the values of that map, by their numbers.
+const VALUES: &[&[u8]] = &[
+    b"  . 1:1 value by 1:7\n",
+    b"  /A 1:6 value by 1:7\n",
+    b"  /B params:3:9 value by 1:7\n",
+];
+
+/// The line of a value that the store knows.
+fn line_of_value(alloc: Global, store: &Store<'_, '_>, value: Ref) -> Result<Vec<u8>, AllocError>
+    requires known { is_known_ref (see_store store.now) value ≡ true }
+    requires given { is_made value.origin ≡ false }
+{
+    let texts = Texts {
+        rules: RULES,
+        template: TEMPLATE,
+        params: Some(Params {
+            text: PARAMS,
+            first: 2,
+        }),
+    };
+    let entry = Entry {
+        shown: Shown::Value(value),
+        word: Word::Value,
+        part: 2,
+    };
+    let mut sink = CleanSink {
+        bytes: Vec::new(alloc),
+    };
+    match write_entry(alloc, store.file, &texts, store, &entry, &mut sink) {
+        Ok(()) => Ok(sink.bytes),
+        Err(_) => Err(AllocError),
+    }
+}
+
+/// The line of the value of a number.
+fn line_of_node(alloc: Global, store: &Store<'_, '_>, node: u32) -> Result<Vec<u8>, AllocError> {
+    let value = Ref {
+        origin: Origin::Template,
+        node,
+        key: false,
+    };
+    match store.view(value) {
+        Some(_) => line_of_value(alloc, store, value),
+        None => Err(AllocError),
+    }
+}
+
+/// Whether this is the line of the value of a number.
+fn is_line_of(
+    alloc: Global,
+    store: &Store<'_, '_>,
+    node: u32,
+    wanted: &[u8],
+) -> Result<bool, AllocError> {
+    let line = line_of_node(alloc, store, node)?;
+    Ok(line.as_slice() == wanted)
+}
+
+/// The number of the first value that has another line.
+fn first_wrong_value(alloc: Global, store: &Store<'_, '_>) -> Result<Option<usize>, AllocError> {
+    for node in 0..VALUES.len() {
+        if !is_line_of(alloc, store, node as u32, VALUES[node])? {
+            return Ok(Some(node));
+        }
+    }
+    Ok(None)
+}
+
+#[test]
+fn parameters_have_their_own_places(rt: HostRuntime) -> Result<(), Fail> {
+    let file = file_of(rt.alloc(), RULES)?;
+    let data = json_template_of(rt.alloc(), DATA)?;
+    let store = Store::new(rt.alloc(), &data, &file);
+    assert_eq!(rt; first_wrong_value(rt.alloc(), &store)?, None);
     Ok(())
 }

@@ -12,14 +12,22 @@ fn words_of(alloc: Global, line: &str) -> Result<Vec<String>, AllocError> {
     Ok(words)
 }
 
-/// Four words between bars.
-fn told(alloc: Global, words: [&str; 4]) -> Result<String, AllocError> {
+/// Four words between bars, and behind them the name of the parameters, if it is given.
+fn told(alloc: Global, words: [&str; 4], params: &Option<String>) -> Result<String, AllocError> {
     let mut line = String::new(alloc);
     for word in words {
-        line.push_str(word)?;
-        line.push('|')?;
+        tell(&mut line, word)?;
+    }
+    if let Some(params) = params {
+        tell(&mut line, params.as_str())?;
     }
     Ok(line)
+}
+
+/// Appends a word and a bar.
+fn tell(line: &mut String, word: &str) -> Result<(), AllocError> {
+    line.push_str(word)?;
+    line.push('|')
 }
 
 /// What a request asks for, between bars.
@@ -28,21 +36,25 @@ fn shown(alloc: Global, request: &Request) -> Result<String, AllocError> {
         Request::Validate {
             rules,
             template,
+            params,
             evidence,
         } => {
             let evidence = if *evidence { "evidence" } else { "report" };
             told(
                 alloc,
                 ["validate", evidence, rules.as_str(), template.as_str()],
+                params,
             )
         }
         Request::Check {
             rules,
             template,
+            params,
             proof,
         } => told(
             alloc,
             ["check", proof.as_str(), rules.as_str(), template.as_str()],
+            params,
         ),
         Request::Drill { count } => format!(in alloc; "drill|{count}|"),
     }
@@ -68,6 +80,16 @@ const ANSWERS: &[(&str, &str)] = &[
     ("drill|--count|100000", "drill|100000|"),
     ("validate|--rules|a b|--data| ", "validate|report|a b| |"),
     ("validate|--rules=a b|--data= ", "validate|report|a b| |"),
+    (
+        "validate|--params|c d|--data|b|--rules|a",
+        "validate|report|a|b|c d|",
+    ),
+    (
+        "check|--proof=c|--rules|a|--data=b|--params= ",
+        "check|c|a|b| |",
+    ),
+    ("validate|--rules|a|--data|b|--params |c", "usage"),
+    ("validate|--rules|a|--data|b|--params|c|--params| ", "usage"),
     ("validate ", "usage"),
     ("validate|--rules |a|--data|b", "usage"),
     ("drill|--count| 1", "usage"),

@@ -1,16 +1,18 @@
-//! What the calls of these tests are made over: rule files, and a template that is a text alone.
-ghost use Rattle.std.specs.Prelude.{◌≡◌, ◌≤◌, List, length, IfOk};
+//! What the calls of these tests are made over: rule files, a template that is a text alone, and templates of JSON.
+ghost use Rattle.std.specs.Prelude.{◌≡◌, ◌≤◌, List, false, length, IfOk};
 ghost use Rattle.doc_values.specs.Limits.{rules_limit};
 ghost use Rattle.guard_lexer.specs.Lexes as lex;
 ghost use Rattle.guard_lexer.specs.declared.token.Token.{Token};
 ghost use Rattle.guard_parser.specs.File.{Rules};
 ghost use Rattle.guard_syntax.specs.code.Seen.{see_file};
 ghost use Rattle.rule_meaning.specs.Functions.{text_tree};
+ghost use Rattle.rule_meaning.specs.Values.{has_pattern};
 
-use doc_values::{Doc, DocBuilder, Kind, RULES_LIMIT};
+use doc_values::{Doc, DocBuilder, Kind, RULES_LIMIT, TEMPLATE_LIMIT};
 use guard_lexer::{Token, tokens};
 use guard_parser::{parse, queries_begin, sites_in_order};
 use guard_syntax::RawFile;
+use json_reader::read_json;
 use name_table::resolve;
 use rule_names::RuleFile;
 use std::alloc::{AllocError, Global};
@@ -58,6 +60,22 @@ pub(crate) fn template_of(alloc: Global, text: &'static str) -> Result<Doc<'stat
     let mut builder: DocBuilder<'static> = DocBuilder::new(alloc);
     match builder.scalar(Kind::Text, CowStr::Borrowed(text), 0) {
         Ok(()) => Ok(builder.finish()),
+        Err(_) => Err(AllocError),
+    }
+}
+
+/// A template of JSON.
+pub(crate) fn json_template_of(
+    alloc: Global,
+    text: &'static str,
+) -> Result<Doc<'static>, AllocError>
+    ensures { IfOk result (λ tree. has_pattern tree ≡ false) }
+{
+    if TEMPLATE_LIMIT < text.len() {
+        return Err(AllocError);
+    }
+    match read_json(alloc, text) {
+        Ok(tree) => Ok(tree),
         Err(_) => Err(AllocError),
     }
 }

@@ -1,0 +1,5 @@
+use Rattle.value_compare.proofs.Patternless.{json-plain}
+use Rattle.library_tests.proofs.worlds.json_template_of.Goals as goal
+
+pub returns-in-Ok : goal.returns-in-Ok
+returns-in-Ok c = json-plain c.args.text.now c.in-Ok.tree c.in-Ok.ensures.answer
