@@ -7,7 +7,7 @@ _guard() {
         return
     fi
     case $before in
-        --rules | --data | --proof)
+        --rules | --data | --params | --proof)
             compopt -o filenames
             mapfile -t COMPREPLY < <(compgen -f -- "$word")
             return
@@ -15,8 +15,8 @@ _guard() {
         --count) return ;;
     esac
     case ${COMP_WORDS[1]} in
-        validate) options="--rules --data --evidence" ;;
-        check) options="--rules --data --proof" ;;
+        validate) options="--rules --data --params --evidence" ;;
+        check) options="--rules --data --params --proof" ;;
         drill) options="--count" ;;
         *) return ;;
     esac
