@@ -1,6 +1,6 @@
--- Which bytes are read as rules, as a template, as parameters and as evidence, and why others are refused: beside each refusal
+-- Which bytes are read as rules, as a template, as parameters, as tests and as evidence, and why others are refused: beside each refusal
 -- the condition under which it comes. Of the refusals of one file no two conditions hold together.
-use Rattle.std.specs.Prelude.{ℕ, ◌<◌, ◌≤◌, ◌≡◌, ◌⊎◌, List, Option, Some, None, IsUtf8, codes, length, nat_eq, if◌then◌else◌}
+use Rattle.std.specs.Prelude.{ℕ, ◌<◌, ◌≤◌, ◌≡◌, ◌⊎◌, List, Option, Some, None, IsUtf8, codes, length, nat_eq, string_bytes, if◌then◌else◌}
 use Rattle.std.specs.List.{ends_with}
 use Rattle.doc_values.specs.Limits.{evidence_limit, rules_limit, template_limit}
 use Rattle.doc_values.specs.Tree.{Forest}
@@ -26,10 +26,14 @@ use Rattle.rule_names.specs.Faults.{Fault}
 use Rattle.rule_names.specs.WellNamed.{WellNamed, IsNameFault}
 use Rattle.rule_names.specs.declared.name_kind.NameKind.{NameKind}
 use Rattle.rule_names.specs.declared.name_kind.NameKind.TheVariants as naming
+use Rattle.guard_testfile.specs.Cases.{TestCase, cases_of}
+use Rattle.guard_testfile.specs.Refusals.{IsTestsFile, RefusesTests}
+use Rattle.guard_testfile.specs.declared.refusal.TestRefusal.{TestRefusal}
+use Rattle.guard_testfile.specs.declared.refusal.TestRefusal.TheVariants as test_refusal
 use Rattle.guard_ends.specs.declared.ends.Refusal.{Refusal}
 use Rattle.guard_ends.specs.declared.ends.Refusal.TheVariants.{DataUnread, TooLong, NotText, EvidenceSyntax, At}
 use Rattle.guard_ends.specs.declared.ends.RefusalKind.{RefusalKind}
-use Rattle.guard_ends.specs.declared.ends.RefusalKind.TheVariants.{Unclosed, BadByte, NumberRange, NestTooDeep, Syntax, BadRange, DuplicateRule, DuplicateName, UnknownRule, UnknownVariable, UnknownFunction, NeedsArguments, TakesNone, ArgCount, LiteralWanted, RecursiveRule, RecursiveVariable, TooDeep, DuplicateKey, Tab, Anchor, Tag, Directive, ManyDocuments}
+use Rattle.guard_ends.specs.declared.ends.RefusalKind.TheVariants.{Unclosed, BadByte, NumberRange, NestTooDeep, Syntax, BadRange, DuplicateRule, DuplicateName, UnknownRule, UnknownVariable, UnknownFunction, NeedsArguments, TakesNone, ArgCount, LiteralWanted, RecursiveRule, RecursiveVariable, TooDeep, DuplicateKey, Tab, Anchor, Tag, Directive, ManyDocuments, TestShape, NoSuchRule}
 use Rattle.guard_ends.specs.declared.ends.Which.{Which}
 use Rattle.guard_ends.specs.declared.ends.Which.TheVariants as file
 use Rattle.guard_ends.specs.declared.format.Format.{Format}
@@ -48,9 +52,9 @@ IsTooLong limit bytes = limit < length bytes
 abbrev pub IsNoText : ℕ → List ℕ → Type 0
 IsNoText limit bytes = (length bytes ≤ limit) × (IsUtf8 bytes → ⊥)
 
--- Templates and parameters, which are read alike.
+-- Templates, parameters and tests, which are read alike.
 
--- the format in which a template or parameters are read, by their name: JSON where that ends in `.json`, YAML where it ends otherwise
+-- the format in which one of them is read, by its name: JSON where that ends in `.json`, YAML where it ends otherwise
 abbrev pub format_of : List ℕ → Format
 format_of name = if ends_with nat_eq name (codes ".json") then format.Json else format.Yaml
 
@@ -59,7 +63,7 @@ abbrev pub IsTreeOf : Format → List ℕ → Forest → Type 0
 IsTreeOf format.Json text tree = Json text tree
 IsTreeOf format.Yaml text tree = yaml.Reads text tree
 
--- bytes that are a template, or parameters, of this tree in a format
+-- bytes that are a template, parameters or tests of this tree in a format
 pub record IsTemplate (f : Format) (bytes : List ℕ) (tree : Forest) : Type 0 where
   pub text : IsText template_limit bytes
   pub read : IsTreeOf f bytes tree
@@ -172,6 +176,22 @@ RefusesRules bytes (NotText file.Rules) = IsNoText rules_limit bytes
 RefusesRules bytes (At file.Rules kind at name) =
     IsText rules_limit bytes × (((name ≡ None) × RefusesText bytes kind at) ⊎ RefusesNames bytes kind at name)
 RefusesRules bytes _ = ⊥
+
+-- Tests.
+
+-- the tree of a tests file has these cases, each of which expects verdicts of rules that are reported
+abbrev pub AreCases : File → Forest → List TestCase → Type 0
+AreCases rules tree cases = IsTestsFile rules tree × (cases ≡ cases_of tree)
+
+-- what a refusal of such a tree is; want of memory is none
+abbrev pub of_tests : TestRefusal → Option Refusal
+of_tests (test_refusal.TestShape at) = Some (At file.Tests TestShape at None)
+of_tests (test_refusal.NoSuchRule name at) = Some (At file.Tests NoSuchRule at (Some (string_bytes name)))
+of_tests test_refusal.NoMemory = None
+
+-- why a tree is no tests file for rules
+abbrev pub RefusesCases : File → Forest → Refusal → Type 0
+RefusesCases rules tree refusal = (r : TestRefusal) × (of_tests r ≡ Some refusal) × RefusesTests rules tree r
 
 -- Evidence.
 

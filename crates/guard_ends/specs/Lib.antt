@@ -6,3 +6,4 @@ pub mod Lines
 pub mod Order
 pub mod Report
 pub mod Reported
+pub mod Tests

@@ -4,18 +4,19 @@ use Rattle.doc_values.specs.Position.{line_at, column_at}
 use Rattle.guard_ends.specs.declared.ends.Refusal.{Refusal}
 use Rattle.guard_ends.specs.declared.ends.Refusal.TheVariants.{DataUnread, TooLong, NotText, EvidenceSyntax, At}
 use Rattle.guard_ends.specs.declared.ends.RefusalKind.{RefusalKind}
-use Rattle.guard_ends.specs.declared.ends.RefusalKind.TheVariants.{Unclosed, BadByte, NumberRange, NestTooDeep, Syntax, BadRange, DuplicateRule, DuplicateName, UnknownRule, UnknownVariable, UnknownFunction, NeedsArguments, TakesNone, ArgCount, LiteralWanted, RecursiveRule, RecursiveVariable, TooDeep, DuplicateKey, Tab, Anchor, Tag, Directive, ManyDocuments, BadPattern, NotAMap, SharedKey}
+use Rattle.guard_ends.specs.declared.ends.RefusalKind.TheVariants.{Unclosed, BadByte, NumberRange, NestTooDeep, Syntax, BadRange, DuplicateRule, DuplicateName, UnknownRule, UnknownVariable, UnknownFunction, NeedsArguments, TakesNone, ArgCount, LiteralWanted, RecursiveRule, RecursiveVariable, TooDeep, DuplicateKey, Tab, Anchor, Tag, Directive, ManyDocuments, BadPattern, NotAMap, SharedKey, TestShape, NoSuchRule}
 use Rattle.guard_ends.specs.declared.ends.Which.{Which}
 use Rattle.guard_ends.specs.declared.ends.Which.TheVariants as file
 
 abbrev pub usage_line : List ℕ
-usage_line = codes "usage: guard validate --rules FILE --data FILE [--params FILE] [--evidence] | check --rules FILE --data FILE [--params FILE] --proof FILE | drill --count N\n"
+usage_line = codes "usage: guard validate --rules FILE --data FILE [--params FILE] [--evidence] | check --rules FILE --data FILE [--params FILE] --proof FILE | drill --count N | test --rules FILE --tests FILE\n"
 
 abbrev pub read_fault_line : Which → List ℕ
 read_fault_line file.Rules = codes "guard: cannot read rules\n"
 read_fault_line file.Template = codes "guard: cannot read data\n"
 read_fault_line file.Params = codes "guard: cannot read params\n"
 read_fault_line file.Proof = codes "guard: cannot read proof\n"
+read_fault_line file.Tests = codes "guard: cannot read tests\n"
 
 abbrev pub pattern_line : List ℕ
 pattern_line = codes "guard: pattern refused\n"
@@ -32,6 +33,7 @@ file_word file.Rules = codes "rules"
 file_word file.Template = codes "data"
 file_word file.Params = codes "params"
 file_word file.Proof = codes "proof"
+file_word file.Tests = codes "tests"
 
 -- the name of a kind
 abbrev pub kind_word : RefusalKind → List ℕ
@@ -62,6 +64,8 @@ kind_word ManyDocuments = codes "ManyDocuments"
 kind_word BadPattern = codes "BadPattern"
 kind_word NotAMap = codes "NotAMap"
 kind_word SharedKey = codes "SharedKey"
+kind_word TestShape = codes "TestShape"
+kind_word NoSuchRule = codes "NoSuchRule"
 
 -- the name that a refusal is about, behind its kind
 abbrev pub name_part : Option (List ℕ) → List ℕ

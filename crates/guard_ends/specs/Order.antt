@@ -17,7 +17,9 @@ use Rattle.evidence_rules.specs.Lean.{IsLean}
 use Rattle.guard_drill.specs.DrillTexts.{template_text}
 use Rattle.guard_syntax.specs.Syntax.{File}
 use Rattle.guard_syntax.specs.declared.row.Verdict.{Verdict}
-use Rattle.guard_words.specs.Request.{Asked, AsksFor, check, drill, validate}
+use Rattle.guard_testfile.specs.Cases.{TestCase}
+use Rattle.guard_testfile.specs.Texts.{Difference, is_wrong, tests_text}
+use Rattle.guard_words.specs.Request.{Asked, AsksFor, check, drill, test, validate}
 use Rattle.rule_meaning.specs.FunctionMeaning.{IsAnswering}
 use Rattle.rule_meaning.specs.Locations.{Answers, World}
 use Rattle.rule_meaning.specs.NextPattern.{IsNextPattern}
@@ -27,10 +29,11 @@ use Rattle.rule_meaning.specs.Verdicts.{is_fail}
 use Rattle.report_text.specs.Texts.{Parameters, Texts}
 use Rattle.guard_ends.specs.Check.{accepted_text, rejected_text}
 use Rattle.guard_ends.specs.Drill.{drill_report, drill_rules}
-use Rattle.guard_ends.specs.Inputs.{IsProof, IsRuleFile, IsTemplate, RefusesData, RefusesProof, RefusesRules, format_of}
+use Rattle.guard_ends.specs.Inputs.{AreCases, IsProof, IsRuleFile, IsTemplate, RefusesCases, RefusesData, RefusesProof, RefusesRules, format_of}
 use Rattle.guard_ends.specs.Lines.{refusal_line, usage_line}
 use Rattle.guard_ends.specs.Report.{Reporting, report}
 use Rattle.guard_ends.specs.Reported.{verdicts_of, world_over}
+use Rattle.guard_ends.specs.Tests.{AreFound}
 use Rattle.guard_ends.specs.declared.ends.End.{End}
 use Rattle.guard_ends.specs.declared.ends.End.TheVariants as end_is
 use Rattle.guard_ends.specs.declared.ends.Refusal.{Refusal}
@@ -122,6 +125,18 @@ IsChecked rules tree evidence e =
     ⊎ ((number : ℕ) × IsRejectedAt evidence.version tree rules evidence.lines number
     × (e ≡ record { how = end_is.Rejected number; out = rejected_text number; err = [] }))
 
+-- by what differs of each case of a tests file: Failed if something does, else Passed
+abbrev pub how_tested : List (List Difference) → End
+how_tested found = if list_any is_wrong found then end_is.Failed else end_is.Passed
+
+-- out takes what is said of the cases
+abbrev pub tested : List (List Difference) → Ended
+tested found = record { how = how_tested found; out = tests_text found; err = [] }
+
+-- the input of each case of a tests file of this tree was judged by rules
+abbrev pub IsTested : File → Forest → List TestCase → Ended → Type 0
+IsTested rules tree cases e = (found : List (List Difference)) × AreFound rules tree cases found × (e ≡ tested found)
+
 -- ---- Stages.
 
 -- the work ends so
@@ -153,10 +168,10 @@ abbrev pub MakingPatterns : (source : List ℕ) → File → Work → Work
 MakingPatterns source rules GoesOn p =
     ((text : List ℕ) × (at : ℕ) × IsNextPattern rules text at × MakingPattern source text at p) ⊎ (AreRead rules × GoesOn p)
 
--- rules are loaded and read, and then a template is loaded
-abbrev pub LoadingTexts : Contents → (rules template : List ℕ) → ((source : List ℕ) → File → (template : List ℕ) → Work) → Work
-LoadingTexts told rules template GoesOn =
-    Loading file.Rules told rules (λ source. Reading RefusesRules IsRuleFile source (λ read. Loading file.Template told template (GoesOn source read)))
+-- rules are loaded and read, and then what is read beside them is loaded: a template, or tests
+abbrev pub LoadingTexts : (beside : Which) → Contents → (rules name : List ℕ) → ((source : List ℕ) → File → (bytes : List ℕ) → Work) → Work
+LoadingTexts beside told rules name GoesOn =
+    Loading file.Rules told rules (λ source. Reading RefusesRules IsRuleFile source (λ read. Loading beside told name (GoesOn source read)))
 
 -- what is done with a template that was read, of these bytes and this tree: the work goes on with the data tree, and with the
 -- parameters where there are some
@@ -215,7 +230,7 @@ ReadingInputs f source rules Joined template GoesOn =
 -- the rules, the template and the parameters of these names become inputs, with which the work goes on
 abbrev pub OverFiles : Contents → (rules template : List ℕ) → (params : Option (List ℕ)) → (Inputs → Work) → Work
 OverFiles told rules template params GoesOn =
-    LoadingTexts told rules template (λ source read bytes. ReadingInputs (format_of template) source read (WithParams told params) bytes GoesOn)
+    LoadingTexts file.Template told rules template (λ source read bytes. ReadingInputs (format_of template) source read (WithParams told params) bytes GoesOn)
 
 -- `check`: evidence of this name is loaded, read and judged
 abbrev pub OfEvidence : Contents → (proof : List ℕ) → Inputs → Work
@@ -228,12 +243,22 @@ abbrev pub OfDrill : (count : ℕ) → Work
 OfDrill count = Ending (λ e. Reading RefusesRules IsRuleFile drill_rules
     (λ rules. ReadingInputs Json drill_rules rules Alone (template_text count) (λ inputs. Ending (IsJudged (drill_report count) inputs))) (Ends e))
 
+-- with rules that are read: tests are read in a format, as cases, the patterns are made, and each case is judged
+abbrev pub ReadingTests : Format → (source : List ℕ) → File → (tests : List ℕ) → Work
+ReadingTests f source rules tests = Reading (RefusesData file.Tests f) (IsTemplate f) tests (λ tree.
+    Reading (λ bytes. RefusesCases rules tree) (λ bytes. AreCases rules tree) tests (λ cases. MakingPatterns source rules (Ending (IsTested rules tree cases))))
+
+-- `test`: the rules and the tests of these names
+abbrev pub OfTests : Contents → (rules tests : List ℕ) → Work
+OfTests told rules tests = LoadingTexts file.Tests told rules tests (ReadingTests (format_of tests))
+
 -- the work of what is asked for, a line for each command, and one for `validate` with `--evidence`
 abbrev pub WorkOf : Asked → Contents → Work
 WorkOf (validate rules template params false) told = OverFiles told rules template params (λ inputs. Ending (IsJudged report inputs))
 WorkOf (validate rules template params true) told = OverFiles told rules template params (λ inputs. Ending (IsJudgedBy report inputs))
 WorkOf (check rules template params proof) told = OverFiles told rules template params (OfEvidence told proof)
 WorkOf (drill count) told = OfDrill count
+WorkOf (test rules tests) told = OfTests told rules tests
 
 -- what a call with these words over these files comes to: that of the work which they ask for, or, if they ask for none, Usage
 abbrev pub ComesTo : List (List ℕ) → Contents → Work

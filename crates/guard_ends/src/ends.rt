@@ -42,9 +42,9 @@ pub enum RefusalKind {
     RecursiveRule,
     /// In rules, a let or a capture that reaches itself, at its first use of a name by which it does.
     RecursiveVariable,
-    /// In a template or in parameters, a collection inside 128 others, at its first byte.
+    /// In a template, in parameters or in tests, a collection inside 128 others, at its first byte.
     TooDeep,
-    /// In a template or in parameters, a key that the map has already, at its first byte.
+    /// In a template, in parameters or in tests, a key that the map has already, at its first byte.
     DuplicateKey,
     /// In YAML of these, a tab in the white space in front of a line's content.
     Tab,
@@ -62,15 +62,19 @@ pub enum RefusalKind {
     NotAMap,
     /// In parameters, an entry of the root whose key the root of the template has too, at its value.
     SharedKey,
+    /// In tests, the first value that is not as it has to be where it stands, at its first byte.
+    TestShape,
+    /// In tests, the first verdict that is expected of no rule which is reported, at its first byte.
+    NoSuchRule,
 }
 
 /// Why a file is refused.
 #[derive(Debug, Drop)]
 pub enum Refusal {
-    /// The template, or the parameters, are read as YAML and have no tree in its profile, and no refusal with a place comes for
-    /// them so far.
+    /// The template, the parameters or the tests are read as YAML and have no tree in its profile, and no refusal with a place
+    /// comes for them so far.
     DataUnread(Which),
-    /// The file has more bytes than it may have: rules 1 MiB, a template and parameters 8 MiB, evidence 256 MiB.
+    /// The file has more bytes than it may have: rules 1 MiB, a template, parameters and tests 8 MiB, evidence 256 MiB.
     TooLong(Which),
     /// The file is not UTF-8.
     NotText(Which),
@@ -82,7 +86,7 @@ pub enum Refusal {
         kind: RefusalKind,
         /// The byte offset, from 0.
         at: u32,
-        /// The name that stands there, where the kind is about names.
+        /// The name that stands there, where the kind is about names; that of `NoSuchRule` is spelled as in a path.
         name: Option<Text>,
     },
 }
@@ -96,6 +100,8 @@ pub enum Which {
     Params,
     /// Evidence that is to be judged.
     Proof,
+    /// What is expected of rules.
+    Tests,
 }
 
 /// One of the sinks.
@@ -108,9 +114,9 @@ pub enum Pipe {
 /// How a call ended.
 #[derive(Debug, Drop)]
 pub enum End {
-    /// No rule is FAIL.
+    /// No rule is FAIL; or each verdict is as the tests expect it.
     Passed,
-    /// A rule is FAIL.
+    /// A rule is FAIL; or a verdict is not as the tests expect it.
     Failed,
     /// Evidence is accepted, whatever the verdicts that it says.
     Accepted,

@@ -7,8 +7,8 @@ use Rattle.std.proofs.lemmas.List.Concat.{flat_map-cons}
 use Rattle.guard_syntax.specs.Syntax.{File}
 use Rattle.guard_syntax.specs.declared.row.Verdict.{Verdict}
 use Rattle.report_text.specs.RuleLines.{reported_names}
-use Rattle.guard_testfile.specs.code.Cases.{Expected}
-use Rattle.guard_testfile.specs.code.Texts.{Difference, case_text, case_word, difference, difference_line, differences, verdict_under}
+use Rattle.guard_testfile.specs.Cases.{Expected}
+use Rattle.guard_testfile.specs.Texts.{Difference, case_text, case_word, difference, difference_line, differences, verdict_under}
 use Rattle.guard_testfile.specs.code.Seen.{see_expectation}
 use Rattle.guard_testfile.specs.code.Written.{agreement_of, agreement_word}
 use Rattle.guard_testfile.specs.declared.case.Expectation.{Expectation}

@@ -4,9 +4,9 @@ use Rattle.doc_values.specs.Tree.{Forest, Label, Nil, Node}
 use Rattle.doc_values.specs.declared.kind.Kind.{Kind}
 use Rattle.doc_values.specs.declared.kind.Kind.TheVariants as kind
 use Rattle.guard_syntax.specs.declared.row.Verdict.TheVariants.{Pass, Fail}
-use Rattle.guard_testfile.specs.code.Cases.{cases_of}
-use Rattle.guard_testfile.specs.code.Shape.{place_of, shaped_at}
-use Rattle.guard_testfile.specs.code.Texts.{difference_line, differences}
+use Rattle.guard_testfile.specs.Cases.{cases_of}
+use Rattle.guard_testfile.specs.Shape.{place_of, shaped_at}
+use Rattle.guard_testfile.specs.Texts.{difference_line, differences}
 use Rattle.guard_testfile.specs.declared.place.Place.TheVariants as place
 
 abbrev label : Kind → List ℕ → Option (List ℕ) → ℕ → Label

@@ -1,7 +1,7 @@
 -- The first number at which a test fails: there is one or the test holds of all, and there are no two. By induction on the count.
 use Rattle.std.proofs.Common.{◌≡◌, ℕ, zero, suc, ◌<◌, ◌⊎◌, inl, inr, Bool, true, false, refl, sym, ap, ◌∙◌, arith, true≢false}
 use Rattle.std.proofs.lemmas.Bool.{cases_lt}
-use Rattle.guard_testfile.specs.code.Refusals.{HoldsBelow, IsFirstFailure}
+use Rattle.guard_testfile.specs.Refusals.{HoldsBelow, IsFirstFailure}
 
 tested : (b : Bool) → (b ≡ true) ⊎ (b ≡ false)
 tested true = inl refl

@@ -5,8 +5,8 @@ use Rattle.std.proofs.lemmas.Bool.{cases_lt}
 use Rattle.std.proofs.lemmas.List.{get_or_append_left, get_or-append_right, map-append}
 use Rattle.doc_values.specs.Places.{first_label, first_kids, kids_at, label_at}
 use Rattle.doc_values.specs.Tree.{Label, Forest, size, count}
-use Rattle.guard_testfile.specs.code.Cases.{case_at, cases_in, expected_by, expected_in}
-use Rattle.guard_testfile.specs.code.Shape.{has_only, is_shaped, may_have, place_of, shaped_at, verdict_named}
+use Rattle.guard_testfile.specs.Cases.{case_at, cases_in, expected_by, expected_in}
+use Rattle.guard_testfile.specs.Shape.{has_only, is_shaped, may_have, place_of, shaped_at, verdict_named}
 use Rattle.guard_testfile.specs.code.Places.{ArePlaces}
 use Rattle.guard_testfile.specs.code.Siblings.{from_index}
 use Rattle.guard_testfile.specs.declared.place.Place.{Place}

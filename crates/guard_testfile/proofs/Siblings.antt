@@ -8,7 +8,7 @@ use Rattle.doc_values.specs.Tree.{Forest, Nil, Node, size, count, has_key, key_i
 use Rattle.doc_values.proofs.Among.{find_past}
 use Rattle.doc_values.proofs.Lookups.{key_place-has, key_place-lacks}
 use Rattle.value_compare.proofs.Nodes.{below, child_least, child_most}
-use Rattle.guard_testfile.specs.code.Cases.{contents_of}
+use Rattle.guard_testfile.specs.Cases.{contents_of}
 use Rattle.guard_testfile.specs.code.Siblings.{from_index}
 
 -- the values from an index on begin with the value there

@@ -17,7 +17,7 @@ use Rattle.guard_syntax.specs.declared.syntax.Disj.{Disj}
 use Rattle.guard_syntax.specs.declared.syntax.Rule.{Rule}
 use Rattle.report_text.specs.RuleLines.{name_of_loose, name_of_rule}
 use Rattle.report_text.proofs.RuleNames.{loose-named, names, names-more}
-use Rattle.guard_testfile.specs.code.Texts.{verdict_under}
+use Rattle.guard_testfile.specs.Texts.{verdict_under}
 use Rattle.guard_testfile.specs.code.Written.{AreVerdicts}
 use Rattle.guard_testfile.proofs.NamesOfSites.{plain-name}
 

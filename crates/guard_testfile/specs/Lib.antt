@@ -1,1 +1,5 @@
 pub mod code
+pub mod Cases
+pub mod Refusals
+pub mod Shape
+pub mod Texts

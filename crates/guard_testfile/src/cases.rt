@@ -4,9 +4,9 @@ ghost use Rattle.doc_values.specs.Places.{key_place, kids_at, label_at};
 ghost use Rattle.doc_values.specs.Tree.{IsTree, size};
 ghost use Rattle.rule_names.specs.code.Files.{file_of};
 ghost use Rattle.report_text.specs.Paths.{step_to};
-ghost use Rattle.guard_testfile.specs.code.Cases.{case_at as the_case, cases_of as the_cases, contents_of, expected_by, expected_in};
-ghost use Rattle.guard_testfile.specs.code.Refusals.{IsTestsFile};
-ghost use Rattle.guard_testfile.specs.code.Shape.{inside, place_of, verdict_named};
+ghost use Rattle.guard_testfile.specs.Cases.{case_at as the_case, cases_of as the_cases, contents_of, expected_by, expected_in};
+ghost use Rattle.guard_testfile.specs.Refusals.{IsTestsFile};
+ghost use Rattle.guard_testfile.specs.Shape.{inside, place_of, verdict_named};
 ghost use Rattle.guard_testfile.specs.code.Seen.{see_case, see_expectation};
 
 use crate::case::{Case, Expectation};

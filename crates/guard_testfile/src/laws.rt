@@ -2,7 +2,7 @@
 ghost use Rattle.std.specs.Prelude.{◌≡◌, ◌⊎◌, ℕ};
 ghost use Rattle.doc_values.specs.Tree.{Forest};
 ghost use Rattle.guard_syntax.specs.Syntax.{File};
-ghost use Rattle.guard_testfile.specs.code.Refusals.{BreaksShape, IsTestsFile, NamesNoRule};
+ghost use Rattle.guard_testfile.specs.Refusals.{BreaksShape, IsTestsFile, NamesNoRule};
 
 /// The law that a tree has one answer: it is a tests file for a rule file, or it is refused at one value for one reason, and
 /// no two of these.

@@ -2,7 +2,7 @@
 ghost use Rattle.std.specs.Prelude.{◌≡◌, ℕ};
 ghost use Rattle.doc_values.specs.Places.{label_at};
 ghost use Rattle.report_text.specs.Paths.{ToEntry, ToItem, step_to};
-ghost use Rattle.guard_testfile.specs.code.Shape as shape;
+ghost use Rattle.guard_testfile.specs.Shape as shape;
 
 use doc_values::Cursor;
 

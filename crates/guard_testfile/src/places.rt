@@ -1,7 +1,7 @@
 //! Where the nodes of a tree stand, one after another.
 ghost use Rattle.std.specs.Prelude.{◌≡◌, IfOk};
 ghost use Rattle.doc_values.specs.Tree.{IsTree, size};
-ghost use Rattle.guard_testfile.specs.code.Shape.{place_of};
+ghost use Rattle.guard_testfile.specs.Shape.{place_of};
 ghost use Rattle.guard_testfile.specs.code.Places.{ArePlaces};
 
 use crate::place::{Place, inside};

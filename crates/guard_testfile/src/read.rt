@@ -4,8 +4,8 @@ ghost use Rattle.std.specs.List.{flat_map};
 ghost use Rattle.doc_values.specs.Tree.{size};
 ghost use Rattle.report_text.specs.Paths.{key_byte};
 ghost use Rattle.rule_names.specs.code.Files.{file_of};
-ghost use Rattle.guard_testfile.specs.code.Cases.{cases_of as the_cases};
-ghost use Rattle.guard_testfile.specs.code.Refusals.{IsTestsFile, NamesNoRule, RefusesTests};
+ghost use Rattle.guard_testfile.specs.Cases.{cases_of as the_cases};
+ghost use Rattle.guard_testfile.specs.Refusals.{IsTestsFile, NamesNoRule, RefusesTests};
 ghost use Rattle.guard_testfile.specs.code.Seen.{see_case};
 
 use crate::case::Case;

@@ -5,7 +5,7 @@ ghost use Rattle.doc_values.specs.Tree.{size};
 ghost use Rattle.report_text.specs.RuleLines.{reported_names};
 ghost use Rattle.rule_names.specs.Duplicates.{is_among};
 ghost use Rattle.rule_names.specs.code.Files.{file_of};
-ghost use Rattle.guard_testfile.specs.code.Refusals.{HoldsBelow, IsFirstFailure, named_at, names_rule};
+ghost use Rattle.guard_testfile.specs.Refusals.{HoldsBelow, IsFirstFailure, named_at, names_rule};
 ghost use Rattle.guard_testfile.specs.code.Places.{ArePlaces};
 ghost use Rattle.guard_testfile.specs.code.RuleSites.{AreSites, name_of_site};
 

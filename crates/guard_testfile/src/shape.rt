@@ -3,8 +3,8 @@ ghost use Rattle.std.specs.Prelude.{◌≡◌, MatchOption, if◌then◌else◌}
 ghost use Rattle.doc_values.specs.Places.{kids_at, label_at};
 ghost use Rattle.doc_values.specs.Tree as tree;
 ghost use Rattle.doc_values.specs.Tree.{size};
-ghost use Rattle.guard_testfile.specs.code.Refusals.{BreaksShape, HasShape};
-ghost use Rattle.guard_testfile.specs.code.Shape as shape;
+ghost use Rattle.guard_testfile.specs.Refusals.{BreaksShape, HasShape};
+ghost use Rattle.guard_testfile.specs.Shape as shape;
 ghost use Rattle.guard_testfile.specs.code.Places.{ArePlaces};
 
 use crate::place::Place;

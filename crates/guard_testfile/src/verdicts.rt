@@ -4,7 +4,7 @@ ghost use Rattle.std.specs.List.{flat_map};
 ghost use Rattle.guard_syntax.specs.code.Seen.{disj_list, see_disj, see_rule};
 ghost use Rattle.report_text.specs.RuleLines.{name_of_loose, name_of_rule, reported_names};
 ghost use Rattle.rule_names.specs.code.Files.{file_of};
-ghost use Rattle.guard_testfile.specs.code.Texts.{verdict_under};
+ghost use Rattle.guard_testfile.specs.Texts.{verdict_under};
 ghost use Rattle.guard_testfile.specs.code.Written.{AreVerdicts};
 
 use guard_syntax::{Disj, Rule, Verdict};

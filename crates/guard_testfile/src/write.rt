@@ -5,7 +5,7 @@ ghost use Rattle.std.specs.Option.{ForSome};
 ghost use Rattle.guard_io.specs.Outside.{FaultCounted, IsPrefix};
 ghost use Rattle.report_text.specs.RuleLines.{reported_names, verdict_word};
 ghost use Rattle.rule_names.specs.code.Files.{file_of};
-ghost use Rattle.guard_testfile.specs.code.Texts.{case_text, difference, difference_line, is_same, summary_line, verdict_under};
+ghost use Rattle.guard_testfile.specs.Texts.{case_text, difference, difference_line, is_same, summary_line, verdict_under};
 ghost use Rattle.guard_testfile.specs.code.RuleSites.{name_of_site};
 ghost use Rattle.guard_testfile.specs.code.Seen.{see_expectation};
 ghost use Rattle.guard_testfile.specs.code.Written.{agreement_of, agreement_word, case_differences};

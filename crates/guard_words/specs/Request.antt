@@ -6,7 +6,7 @@ use Rattle.std.specs.Char.{is_ascii_digit}
 use Rattle.std.specs.Str.{bytes_eq}
 use Rattle.std.specs.Str.Parse.{digits_value}
 use Rattle.guard_words.specs.declared.table.Command.{Command}
-use Rattle.guard_words.specs.declared.table.Command.TheVariants.{Validate, Check, Drill}
+use Rattle.guard_words.specs.declared.table.Command.TheVariants.{Validate, Check, Drill, Test}
 use Rattle.guard_words.specs.declared.request.Request.{Request}
 use Rattle.guard_words.specs.declared.request.Request.TheVariants as request
 use Rattle.guard_words.specs.declared.table.Kind.{Kind}
@@ -18,11 +18,12 @@ Text = List ℕ
 
 -- what the words ask for: `validate` with the names of the rules, the data and, if they are given, the parameters, and whether
 -- evidence is wanted; `check` with the names of the rules, the data and, if they are given, the parameters, and of the proof;
--- `drill` with a count
+-- `drill` with a count; `test` with the names of the rules and of the tests
 pub data Asked : Type 0 where
   validate : Text → Text → Option Text → Bool → Asked
   check : Text → Text → Option Text → Text → Asked
   drill : ℕ → Asked
+  test : Text → Text → Asked
 
 -- what a request of the code asks for
 abbrev pub asked : Request → Asked
@@ -31,6 +32,7 @@ asked (request.Validate rules template params evidence) =
 asked (request.Check rules template params proof) =
     check (string_bytes rules) (string_bytes template) (option_map string_bytes params) (string_bytes proof)
 asked (request.Drill count) = drill count
+asked (request.Test rules tests) = test (string_bytes rules) (string_bytes tests)
 
 -- ---- what may stand behind an option
 
@@ -83,12 +85,14 @@ abbrev pub name_of : Command → Text
 name_of Validate = codes "validate"
 name_of Check = codes "check"
 name_of Drill = codes "drill"
+name_of Test = codes "test"
 
 -- the options of a command
 abbrev pub options_of : Command → List Row
 options_of Validate = file (codes "rules") ∷ file (codes "data") ∷ optional_file (codes "params") ∷ flag (codes "evidence") ∷ []
 options_of Check = file (codes "rules") ∷ file (codes "data") ∷ optional_file (codes "params") ∷ file (codes "proof") ∷ []
 options_of Drill = count (codes "count") ∷ []
+options_of Test = file (codes "rules") ∷ file (codes "tests") ∷ []
 
 -- the value of an option that has to be given
 abbrev pub text_of : Option Text → Text
@@ -101,6 +105,7 @@ requested Validate value has =
 requested Check value has =
     check (text_of (value (codes "rules"))) (text_of (value (codes "data"))) (value (codes "params")) (text_of (value (codes "proof")))
 requested Drill value has = drill (digits_value 10 (text_of (value (codes "count"))))
+requested Test value has = test (text_of (value (codes "rules"))) (text_of (value (codes "tests")))
 
 -- ---- the uses of options
 

@@ -1,7 +1,7 @@
 -- Where the nodes of a tree stand, as the code has it.
 use Rattle.std.specs.Prelude.{ℕ, ◌≡◌, ◌<◌, List, length, slice_index_or}
 use Rattle.doc_values.specs.Tree.{Forest}
-use Rattle.guard_testfile.specs.code.Shape.{place_of}
+use Rattle.guard_testfile.specs.Shape.{place_of}
 use Rattle.guard_testfile.specs.declared.place.Place.{Place}
 use Rattle.guard_testfile.specs.declared.place.Place.TheVariants.{Cases}
 

@@ -1,7 +1,7 @@
 -- Cases as the code has them.
 use Rattle.std.specs.Prelude.{map}
 use Rattle.guard_syntax.specs.Syntax.{File}
-use Rattle.guard_testfile.specs.code.Cases.{Expected, TestCase}
+use Rattle.guard_testfile.specs.Cases.{Expected, TestCase}
 use Rattle.guard_testfile.specs.code.RuleSites.{name_of_site}
 use Rattle.guard_testfile.specs.declared.case.Case.{Case}
 use Rattle.guard_testfile.specs.declared.case.Expectation.{Expectation}

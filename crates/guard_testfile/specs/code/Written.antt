@@ -7,7 +7,7 @@ use Rattle.std.specs.BTreeMap.{BTreeMap, get_by}
 use Rattle.guard_syntax.specs.Syntax.{File}
 use Rattle.guard_syntax.specs.declared.row.Verdict.{Verdict}
 use Rattle.report_text.specs.RuleLines.{reported_names}
-use Rattle.guard_testfile.specs.code.Texts.{Difference, differences, verdict_under}
+use Rattle.guard_testfile.specs.Texts.{Difference, differences, verdict_under}
 use Rattle.guard_testfile.specs.code.Seen.{see_expectation}
 use Rattle.guard_testfile.specs.declared.case.Case.{Case}
 use Rattle.guard_testfile.specs.declared.write.Agreement.{Agreement}

@@ -4,8 +4,8 @@ use Rattle.std.proofs.lemmas.List.Elements.{All-append, All-cons, All-nil}
 use Rattle.doc_values.specs.Places.{child_place, first_kids, kids_at}
 use Rattle.doc_values.specs.Tree.{Forest, count, size}
 use Rattle.rule_names.specs.code.Files.{file_of}
-use Rattle.guard_testfile.specs.code.Cases.{TestCase, case_at, cases_in}
-use Rattle.guard_testfile.specs.code.Shape.{place_of}
+use Rattle.guard_testfile.specs.Cases.{TestCase, case_at, cases_in}
+use Rattle.guard_testfile.specs.Shape.{place_of}
 use Rattle.guard_testfile.specs.code.Seen.{see_case}
 use Rattle.guard_testfile.specs.code.Siblings.{from_index}
 use Rattle.guard_testfile.specs.declared.case.Case.{Case}

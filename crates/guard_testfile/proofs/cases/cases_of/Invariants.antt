@@ -3,7 +3,7 @@ use Rattle.std.specs.Prelude.{All}
 use Rattle.doc_values.specs.Places.{child_place, kids_at}
 use Rattle.doc_values.specs.Tree.{size}
 use Rattle.rule_names.specs.code.Files.{file_of}
-use Rattle.guard_testfile.specs.code.Cases.{cases_in}
+use Rattle.guard_testfile.specs.Cases.{cases_in}
 use Rattle.guard_testfile.specs.code.Seen.{see_case}
 use Rattle.guard_testfile.specs.code.Siblings.{from_index}
 use Rattle.guard_testfile.specs.declared.case.Case.{Case}

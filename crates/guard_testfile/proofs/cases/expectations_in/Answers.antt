@@ -3,8 +3,8 @@ use Rattle.doc_values.specs.Places.{first_label, kids_at, label_at}
 use Rattle.doc_values.specs.Tree.{Forest, Label, count}
 use Rattle.report_text.specs.Paths.{step_to}
 use Rattle.rule_names.specs.code.Files.{file_of}
-use Rattle.guard_testfile.specs.code.Cases.{Expected, expected_in}
-use Rattle.guard_testfile.specs.code.Shape.{inside, place_of}
+use Rattle.guard_testfile.specs.Cases.{Expected, expected_in}
+use Rattle.guard_testfile.specs.Shape.{inside, place_of}
 use Rattle.guard_testfile.specs.code.Seen.{see_expectation}
 use Rattle.guard_testfile.specs.code.Siblings.{from_index}
 use Rattle.guard_testfile.specs.declared.place.Place.{Place}

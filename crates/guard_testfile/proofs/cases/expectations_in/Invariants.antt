@@ -1,7 +1,7 @@
 use Rattle.std.proofs.Common.{◌≡◌, ◌++◌, map}
 use Rattle.doc_values.specs.Places.{kids_at}
 use Rattle.rule_names.specs.code.Files.{file_of}
-use Rattle.guard_testfile.specs.code.Cases.{expected_in}
+use Rattle.guard_testfile.specs.Cases.{expected_in}
 use Rattle.guard_testfile.specs.code.Seen.{see_expectation}
 use Rattle.guard_testfile.specs.code.Siblings.{from_index}
 use Rattle.guard_testfile.proofs.cases.expectations_in.Given as goal

@@ -4,8 +4,8 @@ use Rattle.doc_values.specs.Places.{kids_at}
 use Rattle.doc_values.specs.Tree.{Forest, IsTree}
 use Rattle.report_text.specs.Paths.{ToEntry}
 use Rattle.rule_names.specs.code.Files.{file_of}
-use Rattle.guard_testfile.specs.code.Cases.{Expected, contents_of, expected_in}
-use Rattle.guard_testfile.specs.code.Shape.{inside, place_of}
+use Rattle.guard_testfile.specs.Cases.{Expected, contents_of, expected_in}
+use Rattle.guard_testfile.specs.Shape.{inside, place_of}
 use Rattle.guard_testfile.specs.code.Seen.{see_expectation}
 use Rattle.guard_testfile.specs.declared.place.Place.{Place}
 use Rattle.guard_testfile.specs.declared.place.Place.TheVariants.{Expectations}

@@ -1,8 +1,8 @@
 use Rattle.std.proofs.Common.{ℕ, ◌⊎◌, inl, inr}
 use Rattle.doc_values.specs.Tree.{Forest, size}
 use Rattle.guard_syntax.specs.Syntax.{File}
-use Rattle.guard_testfile.specs.code.Refusals.{BreaksShape, IsTestsFile, NamesNoRule, named_at}
-use Rattle.guard_testfile.specs.code.Shape.{shaped_at}
+use Rattle.guard_testfile.specs.Refusals.{BreaksShape, IsTestsFile, NamesNoRule, named_at}
+use Rattle.guard_testfile.specs.Shape.{shaped_at}
 use Rattle.guard_testfile.proofs.FirstFailures.{first-failure, holds-apart, one-first}
 use Rattle.guard_testfile.proofs.laws.one_answer.Goals as goal
 

@@ -5,7 +5,7 @@ use Rattle.doc_values.specs.Places.{label_at, spot_of}
 use Rattle.doc_values.specs.Tree.{Forest}
 use Rattle.report_text.specs.Paths.{path_of, step_to}
 use Rattle.report_text.proofs.Downwards.{IsBelow, below-parent, root-path}
-use Rattle.guard_testfile.specs.code.Shape.{inside}
+use Rattle.guard_testfile.specs.Shape.{inside}
 use Rattle.guard_testfile.specs.declared.place.Place.TheVariants.{Cases}
 use Rattle.guard_testfile.proofs.places.place_behind.Goals as goal
 

@@ -1,5 +1,5 @@
 use Rattle.std.proofs.Common.{ap₂, ◌∙◌}
-use Rattle.guard_testfile.specs.code.Shape.{place_of}
+use Rattle.guard_testfile.specs.Shape.{place_of}
 use Rattle.guard_testfile.proofs.Sentences.{places-more}
 use Rattle.guard_testfile.proofs.places.places_of.Goals as goal
 

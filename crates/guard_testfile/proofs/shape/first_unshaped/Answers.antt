@@ -1,6 +1,6 @@
 use Rattle.std.proofs.Common.{◌≡◌, ◌<◌, true, below_more, sym, ◌∙◌, arith}
 use Rattle.doc_values.specs.Tree.{Forest, size}
-use Rattle.guard_testfile.specs.code.Shape.{shaped_at}
+use Rattle.guard_testfile.specs.Shape.{shaped_at}
 use Rattle.guard_testfile.proofs.Sentences.{shaped-same}
 use Rattle.guard_testfile.proofs.shape.first_unshaped.Goals as goal
 

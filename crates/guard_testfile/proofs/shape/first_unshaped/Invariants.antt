@@ -1,5 +1,5 @@
-use Rattle.guard_testfile.specs.code.Refusals.{HoldsBelow}
-use Rattle.guard_testfile.specs.code.Shape.{shaped_at}
+use Rattle.guard_testfile.specs.Refusals.{HoldsBelow}
+use Rattle.guard_testfile.specs.Shape.{shaped_at}
 use Rattle.guard_testfile.proofs.shape.first_unshaped.Given as goal
 
 abbrev pub invariant-loop-id : goal.invariant-loop-id

@@ -2,7 +2,7 @@ use Rattle.std.proofs.Common.{◌≡◌, ◌+◌, ◌<◌, ◌≤◌, Bool, ap, 
 use Rattle.std.specs.Prelude.{◌&&◌}
 use Rattle.doc_values.specs.Places.{first_label, kids_at, label_at}
 use Rattle.doc_values.specs.Tree.{Forest, Label, count}
-use Rattle.guard_testfile.specs.code.Shape.{has_only}
+use Rattle.guard_testfile.specs.Shape.{has_only}
 use Rattle.guard_testfile.specs.code.Siblings.{from_index}
 use Rattle.guard_testfile.proofs.Sentences.{only-end, only-more}
 use Rattle.guard_testfile.proofs.Siblings.{child-label}

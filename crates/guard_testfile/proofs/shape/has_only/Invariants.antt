@@ -1,6 +1,6 @@
 use Rattle.std.proofs.Common.{◌≡◌}
 use Rattle.doc_values.specs.Places.{kids_at}
-use Rattle.guard_testfile.specs.code.Shape.{has_only}
+use Rattle.guard_testfile.specs.Shape.{has_only}
 use Rattle.guard_testfile.specs.code.Siblings.{from_index}
 use Rattle.guard_testfile.proofs.shape.has_only.Given as goal
 

@@ -3,7 +3,7 @@ use Rattle.std.specs.List.{flat_map}
 use Rattle.guard_syntax.specs.declared.row.Verdict.{Verdict}
 use Rattle.rule_names.specs.code.Files.{file_of}
 use Rattle.rule_names.specs.declared.file.RuleFile.{RuleFile}
-use Rattle.guard_testfile.specs.code.Texts.{difference_line}
+use Rattle.guard_testfile.specs.Texts.{difference_line}
 use Rattle.guard_testfile.specs.code.Written.{case_differences}
 use Rattle.guard_testfile.specs.declared.case.Expectation.{Expectation}
 use Rattle.guard_testfile.proofs.CaseTexts.{differing, lines-all, lines-more}

@@ -1,7 +1,7 @@
 use Rattle.std.proofs.Common.{◌≡◌, take}
 use Rattle.std.specs.List.{flat_map}
 use Rattle.rule_names.specs.code.Files.{file_of}
-use Rattle.guard_testfile.specs.code.Texts.{difference_line}
+use Rattle.guard_testfile.specs.Texts.{difference_line}
 use Rattle.guard_testfile.proofs.CaseTexts.{differing}
 use Rattle.guard_testfile.proofs.write.difference_lines.Given as goal
 

@@ -1,5 +1,5 @@
 use Rattle.rule_names.specs.code.Files.{file_of}
-use Rattle.guard_testfile.specs.code.Refusals.{HoldsBelow, named_at}
+use Rattle.guard_testfile.specs.Refusals.{HoldsBelow, named_at}
 use Rattle.guard_testfile.proofs.rule_sites.RuleSites.first_unnamed.Given as goal
 
 abbrev pub invariant-loop-id : goal.invariant-loop-id

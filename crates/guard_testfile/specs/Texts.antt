@@ -5,7 +5,7 @@ use Rattle.std.specs.Str.{bytes_eq}
 use Rattle.guard_syntax.specs.declared.row.Verdict.{Verdict}
 use Rattle.guard_syntax.specs.declared.row.Verdict.TheVariants.{Pass, Fail, Skip}
 use Rattle.report_text.specs.RuleLines.{verdict_word}
-use Rattle.guard_testfile.specs.code.Cases.{Expected}
+use Rattle.guard_testfile.specs.Cases.{Expected}
 
 -- two verdicts are the same
 abbrev pub is_same : Verdict → Verdict → Bool

@@ -7,7 +7,7 @@ use Rattle.guard_syntax.specs.Syntax.{File}
 use Rattle.report_text.specs.Paths.{key_byte}
 use Rattle.report_text.specs.RuleLines.{reported_names}
 use Rattle.rule_names.specs.Duplicates.{is_among}
-use Rattle.guard_testfile.specs.code.Shape.{place_of, shaped_at}
+use Rattle.guard_testfile.specs.Shape.{place_of, shaped_at}
 use Rattle.guard_testfile.specs.declared.place.Place.{Place}
 use Rattle.guard_testfile.specs.declared.place.Place.TheVariants as place
 use Rattle.guard_testfile.specs.declared.refusal.TestRefusal.{TestRefusal}

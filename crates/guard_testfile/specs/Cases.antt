@@ -3,7 +3,7 @@ use Rattle.std.specs.Prelude.{ℕ, ◌+◌, List, [], ◌∷◌, ◌++◌, Optio
 use Rattle.doc_values.specs.Places.{key_place, kids_at}
 use Rattle.doc_values.specs.Tree.{Forest, Nil, Node, key_is, size}
 use Rattle.guard_syntax.specs.declared.row.Verdict.{Verdict}
-use Rattle.guard_testfile.specs.code.Shape.{verdict_named}
+use Rattle.guard_testfile.specs.Shape.{verdict_named}
 
 -- the verdict that is expected of the rule of a name
 pub record Expected : Type 0 where
