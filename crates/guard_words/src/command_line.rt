@@ -8,7 +8,12 @@ use clap::{Arg, ArgAction};
 use std::alloc::{AllocError, Global};
 
 /// All commands.
-const COMMANDS: [Command; 3] = [Command::Validate, Command::Check, Command::Drill];
+const COMMANDS: [Command; 4] = [
+    Command::Validate,
+    Command::Check,
+    Command::Drill,
+    Command::Test,
+];
 
 /// The command line as `clap` is told of it.
 pub(crate) fn command_line<'a>(alloc: Global) -> Result<clap::Command<'a>, AllocError>

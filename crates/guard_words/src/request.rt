@@ -14,8 +14,8 @@ use clap::ArgMatches;
 use clap::error::ErrorKind;
 use std::alloc::{AllocError, Global};
 
-/// What the words ask for. `rules`, `template`, `params` and `proof` are names of files, as the words give them
-/// behind `--rules`, `--data`, `--params` and `--proof`.
+/// What the words ask for. `rules`, `template`, `params`, `proof` and `tests` are names of files, as the words give them
+/// behind `--rules`, `--data`, `--params`, `--proof` and `--tests`.
 #[derive(Drop)]
 pub enum Request {
     Validate {
@@ -32,6 +32,10 @@ pub enum Request {
     },
     Drill {
         count: u32,
+    },
+    Test {
+        rules: String,
+        tests: String,
     },
 }
 
@@ -101,6 +105,7 @@ fn answer(alloc: Global, command: Command, options: &ArgMatches) -> Result<Reque
         Command::Validate => validate(alloc, options),
         Command::Check => check(alloc, options),
         Command::Drill => Ok(drill(options)),
+        Command::Test => test(alloc, options),
     }
 }
 
@@ -148,6 +153,19 @@ fn drill(options: &ArgMatches) -> Request
         unreachable!()
     };
     Request::Drill { count }
+}
+
+fn test(alloc: Global, options: &ArgMatches) -> Result<Request, WordsRefusal>
+    requires rules { is_some (first_value (found_of options.now) (codes "rules")) ≡ true }
+    requires tests { is_some (first_value (found_of options.now) (codes "tests")) ≡ true }
+    ensures ok { IfOk result (λ request. asked request
+        ≡ requested Command.Test (first_value (found_of options.now)) (flag_among (found_of options.now))) }
+    ensures only_memory { OnErr result (IsErrOf result WordsRefusal.NoMemory) }
+{
+    Ok(Request::Test {
+        rules: value_of(alloc, options, "rules")?,
+        tests: value_of(alloc, options, "tests")?,
+    })
 }
 
 /// A copy of the value of a required option.

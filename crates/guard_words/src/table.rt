@@ -9,6 +9,7 @@ pub(crate) enum Command {
     Validate,
     Check,
     Drill,
+    Test,
 }
 
 /// What stands behind an option: the name of a file, a count, or nothing.
@@ -57,6 +58,12 @@ const PROOF: OptionRow = OptionRow {
     required: true,
 };
 
+const TESTS: OptionRow = OptionRow {
+    name: "tests",
+    kind: Kind::File,
+    required: true,
+};
+
 const COUNT: OptionRow = OptionRow {
     name: "count",
     kind: Kind::Count,
@@ -69,6 +76,8 @@ const CHECK: [OptionRow; 4] = [RULES, DATA, PARAMS, PROOF];
 
 const DRILL: [OptionRow; 1] = [COUNT];
 
+const TEST: [OptionRow; 2] = [RULES, TESTS];
+
 impl Command {
     /// The command of this name.
     pub(crate) fn named(name: &str) -> Option<Command>
@@ -78,6 +87,7 @@ impl Command {
             "validate" => Some(Command::Validate),
             "check" => Some(Command::Check),
             "drill" => Some(Command::Drill),
+            "test" => Some(Command::Test),
             _ => None,
         }
     }
@@ -90,6 +100,7 @@ impl Command {
             Command::Validate => "validate",
             Command::Check => "check",
             Command::Drill => "drill",
+            Command::Test => "test",
         }
     }
 
@@ -101,6 +112,7 @@ impl Command {
             Command::Validate => &VALIDATE,
             Command::Check => &CHECK,
             Command::Drill => &DRILL,
+            Command::Test => &TEST,
         }
     }
 

@@ -13,5 +13,10 @@ check-requires c =
     let values = subst (λ k. HasValues k (found_of c.args.options.now)) c.in-Check.is c.requires in
     record { rules = values.0; template = values.1; proof = values.2 }
 
+pub test-requires : goal.test-requires
+test-requires c =
+    let values = subst (λ k. HasValues k (found_of c.args.options.now)) c.in-Test.is c.requires in
+    record { rules = values.0; tests = values.1 }
+
 pub drill-requires : goal.drill-requires
 drill-requires c = record { count = subst (λ k. HasValues k (found_of c.args.options.now)) c.in-Drill.is c.requires }
