@@ -1,15 +1,15 @@
-//! The format of a template and of parameters.
+//! The format of a template, of parameters and of tests.
 ghost use Rattle.std.specs.Prelude.{◌≡◌};
 ghost use Rattle.guard_ends.specs.Inputs.{format_of};
 
-/// How the text of a template or of parameters is written.
+/// How the text of a template, of parameters or of tests is written.
 #[derive(Clone, Copy, Debug, PartialEq, Eq)]
 pub enum Format {
     Json,
     Yaml,
 }
 
-/// The format of a template or of parameters, which its name says: JSON where it ends in `.json`, YAML where it ends otherwise.
+/// The format of one of these files, which its name says: JSON where it ends in `.json`, YAML where it ends otherwise.
 pub fn format_of(name: &str) -> Format
     ensures { result ≡ format_of name.now }
 {
