@@ -14,7 +14,9 @@ mod OneRules
 mod OneStage
 mod OneSyntax
 mod OneTemplate
+mod OneTest
 mod OneText
 mod OneVerdict
 mod RankedGraphs
+mod TestsMet
 mod WithEvidence

@@ -112,6 +112,7 @@ proof-why bytes (TooLong file.Rules) h = absurd h
 proof-why bytes (TooLong file.Template) h = absurd h
 proof-why bytes (TooLong file.Params) h = absurd h
 proof-why bytes (TooLong file.Proof) h = inl (refl, h)
+proof-why bytes (TooLong file.Tests) h = absurd h
 proof-why bytes (NotText which) h = absurd h
 proof-why bytes (EvidenceSyntax n) h = inr (n, refl, h.0, h.1)
 proof-why bytes (At which kind at name) h = absurd h

@@ -33,7 +33,7 @@ work-asked words told request asked p (inr (none, usage)) = absurd (none request
 
 module _ (law : OneSyntax) (rules : List ℕ) (GoesOn : File → Work) where
   -- where the work behind the rules has one end, so has the work with them
-  rules-same : ((read : File) → HasOne (GoesOn read)) → (e other : Ended) → Reading RefusesRules IsRuleFile rules GoesOn (Ends e)
+  pub rules-same : ((read : File) → HasOne (GoesOn read)) → (e other : Ended) → Reading RefusesRules IsRuleFile rules GoesOn (Ends e)
       → Reading RefusesRules IsRuleFile rules GoesOn (Ends other) → e ≡ other
   rules-same one e other (inl (r, h, is)) (inl (q, h', is')) =
       ends-one e (refused rules r) is ∙ (ap (refused rules) (refusals-alike law rules r q h h') ∙ sym (ends-one other (refused rules q) is'))
@@ -43,7 +43,7 @@ module _ (law : OneSyntax) (rules : List ℕ) (GoesOn : File → Work) where
       one read e other goes (subst (λ (r : File). GoesOn r (Ends other)) (sym (rules-one law rules read read' whole whole')) goes')
 
   -- where the rules are read, the work goes on behind them
-  rules-go : (read : File) → IsRuleFile rules read → (e : Ended) → Reading RefusesRules IsRuleFile rules GoesOn (Ends e) → GoesOn read (Ends e)
+  pub rules-go : (read : File) → IsRuleFile rules read → (e : Ended) → Reading RefusesRules IsRuleFile rules GoesOn (Ends e) → GoesOn read (Ends e)
   rules-go read whole e (inl (r, h, is)) = absurd (refusal-apart law rules r read h whole)
   rules-go read whole e (inr (read', whole', goes)) = subst (λ (r : File). GoesOn r (Ends e)) (rules-one law rules read' read whole' whole) goes
 

@@ -47,16 +47,19 @@ rules-why bytes (TooLong file.Rules) h = inl (refl, h)
 rules-why bytes (TooLong file.Template) h = absurd h
 rules-why bytes (TooLong file.Params) h = absurd h
 rules-why bytes (TooLong file.Proof) h = absurd h
+rules-why bytes (TooLong file.Tests) h = absurd h
 rules-why bytes (NotText file.Rules) h = inr (inl (refl, h))
 rules-why bytes (NotText file.Template) h = absurd h
 rules-why bytes (NotText file.Params) h = absurd h
 rules-why bytes (NotText file.Proof) h = absurd h
+rules-why bytes (NotText file.Tests) h = absurd h
 rules-why bytes (EvidenceSyntax number) h = absurd h
 rules-why bytes (At file.Rules kind at name) (text, inl (none, h)) = inr (inr (inl (kind, at, ap (λ n. At file.Rules kind at n) none, text, h)))
 rules-why bytes (At file.Rules kind at name) (text, inr h) = inr (inr (inr (text, names-why bytes kind at name h)))
 rules-why bytes (At file.Template kind at name) h = absurd h
 rules-why bytes (At file.Params kind at name) h = absurd h
 rules-why bytes (At file.Proof kind at name) h = absurd h
+rules-why bytes (At file.Tests kind at name) h = absurd h
 
 placed-alike : (kind : RefusalKind) (at : ℕ) (other : RefusalKind) (place : ℕ) (r q : Refusal) → r ≡ At file.Rules kind at None → q ≡ At file.Rules other place None
     → AreAlike kind at other place → r ≡ q

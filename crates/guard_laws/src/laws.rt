@@ -1,21 +1,25 @@
 //! The laws. The bodies cite other laws and do nothing else; a law is kept by a contract.
-ghost use Rattle.std.specs.Prelude.{◌≡◌, ◌≤◌, ◌⊎◌, ℕ, List, Option, Some, None, false, true, length, option_map};
+ghost use Rattle.std.specs.Prelude.{◌≡◌, ◌≤◌, ◌⊎◌, ◌↔◌, ℕ, List, Option, Some, None, All, false, true, length, option_map};
 ghost use Rattle.doc_values.specs.Limits.{evidence_limit};
-ghost use Rattle.doc_values.specs.Tree.{Forest, Label, Nil, Node};
+ghost use Rattle.doc_values.specs.Places.{tree_at};
+ghost use Rattle.doc_values.specs.Tree.{Forest, IsTree, Label, Nil, Node};
 ghost use Rattle.doc_values.specs.declared.kind.Kind.TheVariants as kind;
 ghost use Rattle.evidence_lines.specs.Versioned.{Versioned};
 ghost use Rattle.evidence_rules.specs.Follows.{Accepts};
 ghost use Rattle.guard_drill.specs.DrillTexts.{template_text};
 ghost use Rattle.guard_syntax.specs.Syntax.{File};
-ghost use Rattle.guard_words.specs.Request.{AsksFor, check, drill, validate};
+ghost use Rattle.guard_testfile.specs.Cases.{Expected, TestCase};
+ghost use Rattle.guard_testfile.specs.Texts.{verdict_under};
+ghost use Rattle.guard_words.specs.Request.{AsksFor, check, drill, test, validate};
 ghost use Rattle.rule_meaning.specs.FunctionMeaning.{IsAnswering};
 ghost use Rattle.rule_meaning.specs.Locations.{Answers};
+ghost use Rattle.report_text.specs.RuleLines.{reported_names};
 ghost use Rattle.report_text.specs.Texts.{Parameters};
 ghost use Rattle.guard_ends.specs.Check.{accepted_text};
 ghost use Rattle.guard_ends.specs.Drill.{drill_report, drill_rules};
 ghost use Rattle.guard_ends.specs.End.{AreSameButEvidence, IsBeside, is_reported};
-ghost use Rattle.guard_ends.specs.Inputs.{IsProof, IsRuleFile, IsTemplate, RefusesData, format_of};
-ghost use Rattle.guard_ends.specs.Order.{AreRead, AreTold, ComesTo, Contents, EndOf, Ended, Ends, IsChecked, IsDataOf, IsJudged, IsJudgedBy, Point};
+ghost use Rattle.guard_ends.specs.Inputs.{AreCases, IsProof, IsRuleFile, IsTemplate, RefusesData, format_of};
+ghost use Rattle.guard_ends.specs.Order.{AreRead, AreTold, ComesTo, Contents, EndOf, Ended, Ends, IsChecked, IsDataOf, IsJudged, IsJudgedBy, IsTested, Point};
 ghost use Rattle.guard_ends.specs.Report.{report};
 ghost use Rattle.guard_ends.specs.Reported.{verdicts_of, world_over};
 ghost use Rattle.guard_ends.specs.declared.ends.End.TheVariants as end_is;
@@ -26,6 +30,7 @@ ghost use Rattle.guard_ends.specs.declared.format.Format.{Format};
 use evidence_lines::one_text;
 use evidence_truth::lines_true;
 use guard_parser::{one_syntax, sites_in_order};
+use guard_testfile::one_answer;
 use json_reader::{one_refusal, one_tree, refused_apart};
 use query_steps::one_answer_over_locations;
 use std::str;
@@ -43,11 +48,15 @@ pub fn only_end(rules: &[u8], template: &[u8], params: &[u8], evidence: &[u8])
     ensures checked { (words : List (List ℕ)) (told : Contents) (r t : List ℕ) (q : Option (List ℕ)) (p : List ℕ) (e other : Ended)
         → AsksFor words (check r t q p) → told r ≡ Some rules.now → told t ≡ Some template.now → AreTold told q params.now
         → told p ≡ Some evidence.now → EndOf words told e → EndOf words told other → e ≡ other }
+    ensures tested { (words : List (List ℕ)) (told : Contents) (r s : List ℕ) (e other : Ended)
+        → AsksFor words (test r s) → told r ≡ Some rules.now → told s ≡ Some template.now
+        → EndOf words told e → EndOf words told other → e ≡ other }
 {
     one_syntax();
     only_template(template);
     only_template(params);
     one_text();
+    one_answer();
 }
 
 /// The law that the texts of a drill are read: its rules are a rule file, and its template is JSON, a map, for each count that
@@ -145,6 +154,32 @@ pub fn accepted_is_checked(rules: &[u8], template: &[u8], params: &[u8], evidenc
     only_template(params);
     one_text();
 }
+
+/// The law of completeness for tests: where the words ask for `test` of two files, whose contents are told, and these are a rule
+/// file whose patterns can all be read, and a tests file for it, each end that the definition gives is one of the cases that were
+/// judged.
+pub fn accepted_is_tested(rules: &[u8], tests: &[u8])
+    ensures { (words : List (List ℕ)) (told : Contents) (r s : List ℕ) (file : File) (tree : Forest) (cases : List TestCase) (e : Ended)
+        → AsksFor words (test r s) → told r ≡ Some rules.now → told s ≡ Some tests.now
+        → IsRuleFile rules.now file → IsTemplate (format_of s) tests.now tree → AreCases file tree cases → AreRead file
+        → EndOf words told e → IsTested file tree cases e }
+{
+    one_syntax();
+    only_template(tests);
+    one_answer();
+}
+
+/// The law that tests pass exactly where they are met: cases that were judged end as Passed exactly where each verdict that a case
+/// expects is that of its rule over the input, by the meaning of rules; else they end as Failed.
+pub fn tests_are_met()
+    ensures passed { (rules : File) (tree : Forest) (cases : List TestCase) (e : Ended)
+        → IsTree tree → AreCases rules tree cases → IsTested rules tree cases e
+        → (e.how ≡ end_is.Passed) ↔ All (λ (case : TestCase). (answers : Answers) → IsAnswering (world_over rules (tree_at tree case.input) answers)
+        → All (λ (x : Expected). verdict_under (reported_names rules) (verdicts_of (world_over rules (tree_at tree case.input) answers)) x.rule
+        ≡ Some x.verdict) case.expected) cases }
+    ensures ends { (rules : File) (tree : Forest) (cases : List TestCase) (e : Ended)
+        → IsTested rules tree cases e → (e.how ≡ end_is.Passed) ⊎ (e.how ≡ end_is.Failed) }
+{}
 
 /// The law that evidence which is to be accepted is accepted, and no other: where, besides, each line follows and each rule has
 /// the line of its verdict, each end that the definition gives is Accepted, and only there.

@@ -1,11 +1,14 @@
 use Rattle.std.proofs.Common.{false, true}
-use Rattle.guard_words.specs.Request.{check, validate}
+use Rattle.doc_values.specs.Tree.{Forest}
+use Rattle.guard_syntax.specs.Syntax.{File}
+use Rattle.guard_words.specs.Request.{check, test, validate}
 use Rattle.guard_ends.specs.Order.{Ending, Ends, IsJudged, OfEvidence}
 use Rattle.guard_ends.specs.Report.{report}
 use Rattle.guard_laws.proofs.OneCheck.{EvidenceLaws, proof-one}
 use Rattle.guard_laws.proofs.OneEnd.{AreFilesTold, AreOneEach, FileNames, FileTexts, files-same, work-asked}
 use Rattle.guard_laws.proofs.OneStage.{ending-one}
 use Rattle.guard_laws.proofs.OneTemplate.{OneTemplate, judged-one}
+use Rattle.guard_laws.proofs.OneTest.{AreTestsTold, OneAnswer, tests-same}
 use Rattle.guard_laws.proofs.WithEvidence.{beside-same, evidence-beside}
 use Rattle.guard_laws.proofs.laws.only_end.Goals as goal
 
@@ -55,3 +58,18 @@ returns-clause-checked c =
     files-same c.one_syntax.ensures told names texts known laws (OfEvidence told p)
     (proof-one bytes evidence_laws told p proof_told) e other
     (work-asked words told (check r t q p) asked (Ends e) end) (work-asked words told (check r t q p) asked (Ends other) end')
+
+pub returns-clause-tested : goal.returns-clause-tested
+returns-clause-tested c =
+    let tests : OneTemplate c.args.template.now = record { tree = c.only_template.ensures.tree; refusal = c.only_template.ensures.refusal; apart = c.only_template.ensures.apart } in
+    let answer : (rules : File) (tree : Forest) → OneAnswer rules tree = λ rules tree. record {
+      shape = c.one_answer.ensures.shape tree;
+      names = c.one_answer.ensures.names rules tree;
+      apart = c.one_answer.ensures.apart rules tree;
+      shaped = c.one_answer.ensures.shaped rules tree;
+      named = c.one_answer.ensures.named rules tree;
+    } in
+    λ words told r s e other asked rules_told tests_told end end'.
+    let known : AreTestsTold told r s c.args.rules.now c.args.template.now = record { rules = rules_told; tests = tests_told } in
+    tests-same c.one_syntax.ensures answer told r s c.args.rules.now c.args.template.now known tests e other
+    (work-asked words told (test r s) asked (Ends e) end) (work-asked words told (test r s) asked (Ends other) end')

@@ -1,0 +1,8 @@
+use Rattle.guard_laws.proofs.TestsMet.{passed-met, passed-or-failed}
+use Rattle.guard_laws.proofs.laws.tests_are_met.Goals as goal
+
+pub returns : goal.returns
+returns c = record {
+  passed = λ rules tree cases e. passed-met rules tree cases e;
+  ends = λ rules tree cases e. passed-or-failed rules tree cases e;
+}
