@@ -3,11 +3,11 @@ _guard() {
     local word=${COMP_WORDS[COMP_CWORD]} before=${COMP_WORDS[COMP_CWORD - 1]} options
     COMPREPLY=()
     if [ "$COMP_CWORD" -eq 1 ]; then
-        mapfile -t COMPREPLY < <(compgen -W "validate check drill" -- "$word")
+        mapfile -t COMPREPLY < <(compgen -W "validate check drill test" -- "$word")
         return
     fi
     case $before in
-        --rules | --data | --params | --proof)
+        --rules | --data | --params | --proof | --tests)
             compopt -o filenames
             mapfile -t COMPREPLY < <(compgen -f -- "$word")
             return
@@ -18,6 +18,7 @@ _guard() {
         validate) options="--rules --data --params --evidence" ;;
         check) options="--rules --data --params --proof" ;;
         drill) options="--count" ;;
+        test) options="--rules --tests" ;;
         *) return ;;
     esac
     mapfile -t COMPREPLY < <(compgen -W "$options" -- "$word")
