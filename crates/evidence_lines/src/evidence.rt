@@ -1,8 +1,8 @@
 //! Lines of evidence by their numbers.
-ghost use Rattle.std.specs.Prelude.{◌≡◌, ◌++◌, ◌∷◌, ◌^◌, ◌<◌, ◌≤◌, ◌↔◌, [], length, IfOk, IsSome, OnErr};
-ghost use Rattle.std.specs.Option.{option_copied};
+ghost use Rattle.std.specs.Prelude.{◌≡◌, ◌++◌, ◌∷◌, ◌^◌, ◌<◌, ◌≤◌, ◌↔◌, [], length, take, IfOk, IsSome, OnErr};
 ghost use Rattle.evidence_lines.specs.Lines.{line_of};
 
+use crate::held::HeldLine;
 use crate::line::Line;
 use crate::version::Version;
 use std::alloc::{AllocError, Global};
@@ -11,8 +11,9 @@ use std::marker::Model;
 /// Lines of evidence, the first of which has the number 1, and the version by which they are meant. Contracts see both.
 #[derive(Drop)]
 pub struct Evidence {
+    alloc: Global,
     version: Version,
-    lines: Vec<Line>,
+    held: Vec<HeldLine>,
 }
 
 impl Model for Evidence {
@@ -20,7 +21,44 @@ impl Model for Evidence {
 
     ghost Value = { Versioned };
 
-    ghost view = { λ e. record { version = e.version; lines = e.lines.items } };
+    ghost view = { λ e. record { version = e.version; lines = e.held.items } };
+}
+
+/// The first lines of evidence. Contracts see a list.
+#[derive(Drop)]
+pub struct LineList<'a> {
+    held: &'a [HeldLine],
+}
+
+impl<'a> Model for LineList<'a> {
+    ghost use Rattle.std.specs.Prelude.{List};
+    ghost use Rattle.evidence_lines.specs.declared.line.Line.{Line};
+
+    ghost Value = { List Line };
+
+    ghost view = { λ l. l.held.now };
+}
+
+impl<'a> LineList<'a> {
+    /// The line of a number. It takes no memory.
+    pub fn get(&self, number: u64) -> Option<Line<'a>>
+        ensures line { result ≡ line_of self.entry.now number }
+        ensures some { IsSome result ↔ ((1 ≤ number) × (number ≤ length self.entry.now)) }
+    {
+        if number == 0 {
+            return None;
+        }
+        let held = self.held.get((number - 1) as usize)?;
+        Some(held.line())
+    }
+
+    /// How many lines there are. It takes no memory.
+    pub fn len(&self) -> u64
+        ensures count { result ≡ length self.now }
+        ensures small { result < 2 ^ 63 }
+    {
+        self.held.len() as u64
+    }
 }
 
 impl Evidence {
@@ -30,17 +68,22 @@ impl Evidence {
         ensures lines { result.lines ≡ [] }
     {
         Evidence {
+            alloc,
             version,
-            lines: Vec::new(alloc),
+            held: Vec::new(alloc),
         }
     }
 
     /// The lines of a vector. It takes no memory.
-    pub(crate) fn of(version: Version, lines: Vec<Line>) -> Evidence
+    pub(crate) fn of(alloc: Global, version: Version, held: Vec<HeldLine>) -> Evidence
         ensures version { result.version ≡ version }
-        ensures lines { result.lines ≡ lines.items }
+        ensures lines { result.lines ≡ held.items }
     {
-        Evidence { version, lines }
+        Evidence {
+            alloc,
+            version,
+            held,
+        }
     }
 
     /// The version. It takes no memory.
@@ -50,39 +93,47 @@ impl Evidence {
         self.version
     }
 
-    /// Adds a line behind the others, and answers its number. It is dropped on a refusal.
-    pub fn push(&mut self, line: Line) -> Result<u64, AllocError>
-        ensures added { IfOk result (λ number. (self.new.lines ≡ self.old.lines ++ line ∷ []) × (number ≡ length self.new.lines)) }
+    /// Adds a line behind the others, and answers its number.
+    pub fn push(&mut self, line: Line<'_>) -> Result<u64, AllocError>
+        ensures added { IfOk result (λ number. (self.new.lines ≡ self.old.lines ++ line.entry ∷ []) × (number ≡ length self.new.lines)) }
         ensures version { self.new.version ≡ self.old.version }
         ensures kept { OnErr result (self.new ≡ self.old) }
     {
-        self.lines.push(line)?;
-        Ok(self.lines.len() as u64)
+        let line = HeldLine::of(self.alloc, line)?;
+        self.held.push(line)?;
+        Ok(self.held.len() as u64)
+    }
+
+    /// The lines. It takes no memory.
+    pub fn lines(&self) -> LineList<'_>
+        ensures { result ≡ self.entry.now.lines }
+    {
+        LineList { held: &self.held }
+    }
+
+    /// The first lines, as many as `count`. It takes no memory.
+    pub fn first(&self, count: u64) -> LineList<'_>
+        requires { count ≤ length self.now.lines }
+        ensures { result ≡ take count self.entry.now.lines }
+    {
+        LineList {
+            held: &self.held[..count as usize],
+        }
     }
 
     /// The line of a number. It takes no memory.
-    pub fn get(&self, number: u64) -> Option<&Line>
-        ensures line { option_copied result ≡ line_of self.now.lines number }
-        ensures some { IsSome result ↔ ((1 ≤ number) × (number ≤ length self.now.lines)) }
+    pub fn get(&self, number: u64) -> Option<Line<'_>>
+        ensures line { result ≡ line_of self.entry.now.lines number }
+        ensures some { IsSome result ↔ ((1 ≤ number) × (number ≤ length self.entry.now.lines)) }
     {
-        if number == 0 {
-            return None;
-        }
-        self.lines.get((number - 1) as usize)
-    }
-
-    /// The lines themselves. It takes no memory.
-    pub fn as_slice(&self) -> &[Line]
-        ensures lines { result.now ≡ self.now.lines }
-        ensures small { length self.now.lines < 2 ^ 63 }
-    {
-        &self.lines
+        self.lines().get(number)
     }
 
     /// How many lines there are. It takes no memory.
     pub fn len(&self) -> u64
-        ensures { result ≡ length self.now.lines }
+        ensures count { result ≡ length self.now.lines }
+        ensures small { result < 2 ^ 63 }
     {
-        self.lines.len() as u64
+        self.held.len() as u64
     }
 }

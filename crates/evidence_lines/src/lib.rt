@@ -7,6 +7,7 @@
 
 pub mod evidence;
 mod field;
+mod held;
 pub mod laws;
 pub mod line;
 pub mod print;
@@ -14,7 +15,7 @@ pub mod read;
 pub mod refusal;
 pub mod version;
 
-pub use evidence::Evidence;
+pub use evidence::{Evidence, LineList};
 pub use laws::one_text;
 pub use line::{Cites, Line, LineKind, Outcome, Rows, Sort};
 pub use print::print_line;

@@ -1,5 +1,5 @@
 //! A line of evidence.
-ghost use Rattle.std.specs.Prelude.{◌≡◌, ◌∷◌, []};
+ghost use Rattle.std.specs.Prelude.{◌≡◌};
 ghost use Rattle.evidence_lines.specs.code.Reading.{kind_in};
 ghost use Rattle.evidence_lines.specs.Shapes.{is_placed, may_cite, sort_of};
 ghost use Rattle.evidence_lines.specs.Spelling.{kind_text};
@@ -163,95 +163,62 @@ impl LineKind {
     }
 }
 
-/// The numbers of lines that a line cites, in order. Contracts see a list. Most lines cite one, which is held in place.
+/// The numbers of lines that a line cites, in order. Contracts see a list.
 #[derive(Drop)]
-pub struct Cites {
-    held: HeldCites,
+pub struct Cites<'a> {
+    items: &'a [u64],
 }
 
-/// Numbers as they are held.
-#[derive(Drop)]
-enum HeldCites {
-    One([u64; 1]),
-    Any(Vec<u64>),
-}
-
-impl Model for Cites {
+impl<'a> Model for Cites<'a> {
     ghost use Rattle.std.specs.Prelude.{ℕ, List};
 
     ghost Value = { List ℕ };
 
-    ghost use Rattle.evidence_lines.specs.code.Held.{cites_held};
-
-    ghost view = { λ c. cites_held c.held };
+    ghost view = { λ c. c.items.now };
 }
 
-impl Cites {
-    /// One number. It takes no memory.
-    pub fn one(cite: u64) -> Cites
-        ensures { result ≡ cite ∷ [] }
+impl<'a> Cites<'a> {
+    /// The numbers of a slice.
+    pub fn new(items: &'a [u64]) -> Cites<'a>
+        ensures { result ≡ items.entry.now }
     {
-        Cites {
-            held: HeldCites::One([cite]),
-        }
-    }
-
-    /// The numbers of a vector.
-    pub fn new(items: Vec<u64>) -> Cites
-        ensures { result ≡ items.items }
-    {
-        match items.as_slice() {
-            [cite] => Cites::one(*cite),
-            _ => Cites {
-                held: HeldCites::Any(items),
-            },
-        }
+        Cites { items }
     }
 
     /// The numbers themselves.
-    pub fn as_slice(&self) -> &[u64]
-        ensures { result.now ≡ self.now }
+    pub fn as_slice(&self) -> &'a [u64]
+        ensures { result.now ≡ self.entry.now }
     {
-        match &self.held {
-            HeldCites::One(cite) => cite.as_slice(),
-            HeldCites::Any(cites) => cites.as_slice(),
-        }
+        self.items
     }
 }
 
 /// The rows that a line says, in order. Contracts see a list.
 #[derive(Drop)]
-pub struct Rows {
-    items: Vec<Row>,
+pub struct Rows<'a> {
+    items: &'a [Row],
 }
 
-impl Model for Rows {
+impl<'a> Model for Rows<'a> {
     ghost use Rattle.std.specs.Prelude.{List};
     ghost use Rattle.guard_syntax.specs.declared.row.Row.{Row};
 
     ghost Value = { List Row };
 
-    ghost view = { λ r. r.items.items };
+    ghost view = { λ r. r.items.now };
 }
 
-impl Rows {
-    /// The rows of a vector.
-    pub fn new(items: Vec<Row>) -> Rows
-        ensures { result ≡ items.items }
+impl<'a> Rows<'a> {
+    /// The rows of a slice.
+    pub fn new(items: &'a [Row]) -> Rows<'a>
+        ensures { result ≡ items.entry.now }
     {
         Rows { items }
     }
 
     /// The rows themselves.
-    pub fn as_slice(&self) -> &[Row]
-        ensures { result.now ≡ self.now }
-    {
-        &self.items
-    }
-
-    /// The vector that they were made from. It takes no memory.
-    pub fn into_vec(self) -> Vec<Row>
-        ensures { result.items ≡ self }
+    pub fn as_slice(&self) -> &'a [Row]
+        ensures { result.now ≡ self.entry.now }
     {
         self.items
     }
@@ -259,20 +226,20 @@ impl Rows {
 
 /// What a line says.
 #[derive(Drop)]
-pub enum Outcome {
+pub enum Outcome<'a> {
     /// The current value of a frame.
     Value(Ref),
-    Rows(Rows),
+    Rows(Rows<'a>),
     Verdict(Verdict),
 }
 
-/// A line of evidence. Lines are numbered from 1; a frame is the number of the line of kind `File` or `Frame` that names
-/// it, and a site that of a part of the rule file.
+/// A line of evidence, which borrows what it cites and the rows that it says. Lines are numbered from 1; a frame is the
+/// number of the line of kind `File` or `Frame` that names it, and a site that of a part of the rule file.
 #[derive(Drop)]
-pub struct Line {
+pub struct Line<'a> {
     pub kind: LineKind,
     pub frame: Option<u64>,
     pub site: Option<u32>,
-    pub cites: Cites,
-    pub outcome: Outcome,
+    pub cites: Cites<'a>,
+    pub outcome: Outcome<'a>,
 }

@@ -11,7 +11,7 @@ use std::alloc::{AllocError, Global};
 
 /// Appends the text of a line, with its newline. On a refusal nothing is appended. That the numbers are below their bounds
 /// is known of every line that the code has, and said here for who reads the text again.
-pub fn print_line(alloc: Global, line: &Line, into: &mut Vec<u8>) -> Result<(), AllocError>
+pub fn print_line(alloc: Global, line: &Line<'_>, into: &mut Vec<u8>) -> Result<(), AllocError>
     requires { HasShape line.now }
     ensures printed { OnOk result (into.new.items ≡ into.old.items ++ line_text line.now) }
     ensures bounded { OnOk result (IsBounded line.now) }
@@ -22,7 +22,7 @@ pub fn print_line(alloc: Global, line: &Line, into: &mut Vec<u8>) -> Result<(), 
 }
 
 /// The text of a line, with its newline.
-fn text_of(alloc: Global, line: &Line) -> Result<Vec<u8>, AllocError>
+fn text_of(alloc: Global, line: &Line<'_>) -> Result<Vec<u8>, AllocError>
     ensures printed { IfOk result (λ text. text.items ≡ line_text line.now) }
     ensures bounded { OnOk result (IsBounded line.now) }
 {
@@ -32,7 +32,7 @@ fn text_of(alloc: Global, line: &Line) -> Result<Vec<u8>, AllocError>
     Ok(text)
 }
 
-fn push_fields(text: &mut Vec<u8>, line: &Line) -> Result<(), AllocError>
+fn push_fields(text: &mut Vec<u8>, line: &Line<'_>) -> Result<(), AllocError>
     ensures printed { OnOk result (text.new.items ≡ text.old.items ++ fields_text line.now) }
     ensures bounded { OnOk result (IsBounded line.now) }
 {
@@ -123,7 +123,7 @@ fn push_further_cites(text: &mut Vec<u8>, cites: &[u64]) -> Result<(), AllocErro
 }
 
 /// Appends what a line says.
-fn push_outcome(text: &mut Vec<u8>, outcome: &Outcome) -> Result<(), AllocError>
+fn push_outcome(text: &mut Vec<u8>, outcome: &Outcome<'_>) -> Result<(), AllocError>
     ensures printed { OnOk result (text.new.items ≡ text.old.items ++ outcome_text outcome.now) }
     ensures bounded { OnOk result (IsOutcomeBounded outcome.now) }
 {

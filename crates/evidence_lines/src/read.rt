@@ -1,6 +1,7 @@
 //! Evidence, read from its bytes.
 ghost use Rattle.std.specs.Prelude.{◌≡◌, ◌≢◌, ◌<◌, ◌≤◌, ◌+◌, ◌⊎◌, ◌++◌, [], ℕ, List, None, length, IfErr, IfOk, OnErr, MatchOption, MatchResult, option_map};
 ghost use Rattle.evidence_lines.specs.Headers.{header};
+ghost use Rattle.evidence_lines.specs.code.Held.{see_said};
 ghost use Rattle.evidence_lines.specs.code.Memory.{HasLine};
 ghost use Rattle.evidence_lines.specs.code.Reading.{cites_in, count_in, cut, if_placed, items_in, line_in, line_of_parts, list_in, outcome_in, parts_in, place_in, placed_in, row_in};
 ghost use Rattle.evidence_lines.specs.code.Seen.{fields_seen, placed_seen};
@@ -11,7 +12,8 @@ ghost use Rattle.evidence_lines.specs.declared.version.Version.{Version};
 
 use crate::evidence::Evidence;
 use crate::field::{cut, is_none_sign, read_count, read_place, read_ref, read_row, read_verdict};
-use crate::line::{Cites, Line, LineKind, Outcome, Rows, Sort};
+use crate::held::{HeldCites, HeldLine, HeldOutcome, HeldRows};
+use crate::line::{LineKind, Sort};
 use crate::refusal::EvidenceRefusal;
 use crate::version::Version;
 use byte_lanes::{count_byte, is_ascii};
@@ -139,11 +141,11 @@ fn read_rows(alloc: Global, bytes: &[u8]) -> Result<Option<Vec<Row>>, AllocError
 }
 
 /// The numbers that a line cites, where its kind may cite some.
-fn read_cites(alloc: Global, may_cite: bool, bytes: &[u8]) -> Result<Option<Cites>, AllocError>
+fn read_cites(alloc: Global, may_cite: bool, bytes: &[u8]) -> Result<Option<HeldCites>, AllocError>
     ensures { IfOk result (λ o. o ≡ cites_in may_cite bytes.now) }
 {
     if is_none_sign(bytes) {
-        return Ok(Some(Cites::new(Vec::new(alloc))));
+        return Ok(Some(HeldCites::new(Vec::new(alloc))));
     }
     if !may_cite {
         return Ok(None);
@@ -153,48 +155,48 @@ fn read_cites(alloc: Global, may_cite: bool, bytes: &[u8]) -> Result<Option<Cite
     }
     match read_counts(alloc, bytes)? {
         None => Ok(None),
-        Some(counts) => Ok(Some(Cites::new(counts))),
+        Some(counts) => Ok(Some(HeldCites::new(counts))),
     }
 }
 
 /// The number that a line cites, which is its only one.
-fn read_one_cite(bytes: &[u8]) -> Option<Cites>
+fn read_one_cite(bytes: &[u8]) -> Option<HeldCites>
     requires { cut 44 bytes.now ≡ None }
     ensures { result ≡ items_in count_in bytes.now }
 {
     let cite = read_count(bytes)?;
-    Some(Cites::one(cite))
+    Some(HeldCites::one(cite))
 }
 
 /// The rows that a line says.
-fn read_list(alloc: Global, bytes: &[u8]) -> Result<Option<Rows>, AllocError>
+fn read_list(alloc: Global, bytes: &[u8]) -> Result<Option<HeldRows>, AllocError>
     ensures { IfOk result (λ o. o ≡ list_in row_in bytes.now) }
 {
     if is_none_sign(bytes) {
-        return Ok(Some(Rows::new(Vec::new(alloc))));
+        return Ok(Some(HeldRows::new(Vec::new(alloc))));
     }
     match read_rows(alloc, bytes)? {
         None => Ok(None),
-        Some(rows) => Ok(Some(Rows::new(rows))),
+        Some(rows) => Ok(Some(HeldRows::new(rows))),
     }
 }
 
 /// What a line of this sort says.
-fn read_outcome(alloc: Global, sort: Sort, bytes: &[u8]) -> Result<Option<Outcome>, AllocError>
-    ensures { IfOk result (λ o. o ≡ outcome_in sort bytes.now) }
+fn read_outcome(alloc: Global, sort: Sort, bytes: &[u8]) -> Result<Option<HeldOutcome>, AllocError>
+    ensures { IfOk result (λ o. option_map see_said o ≡ outcome_in sort bytes.now) }
 {
     match sort {
-        Sort::Value => Ok(read_ref(bytes).map(|value| Outcome::Value(value))),
+        Sort::Value => Ok(read_ref(bytes).map(|value| HeldOutcome::Value(value))),
         Sort::Rows => match read_list(alloc, bytes)? {
             None => Ok(None),
-            Some(rows) => Ok(Some(Outcome::Rows(rows))),
+            Some(rows) => Ok(Some(HeldOutcome::Rows(rows))),
         },
-        Sort::Verdict => Ok(read_verdict(bytes).map(|verdict| Outcome::Verdict(verdict))),
+        Sort::Verdict => Ok(read_verdict(bytes).map(|verdict| HeldOutcome::Verdict(verdict))),
     }
 }
 
 /// A line, from its bytes without the newline.
-fn read_line(alloc: Global, bytes: &[u8]) -> Result<Option<Line>, AllocError>
+fn read_line(alloc: Global, bytes: &[u8]) -> Result<Option<HeldLine>, AllocError>
     ensures { IfOk result (λ o. o ≡ line_in bytes.now) }
 {
     if !is_ascii(bytes) {
@@ -206,7 +208,7 @@ fn read_line(alloc: Global, bytes: &[u8]) -> Result<Option<Line>, AllocError>
     }
 }
 
-fn read_fields(alloc: Global, fields: &Fields<'_>) -> Result<Option<Line>, AllocError>
+fn read_fields(alloc: Global, fields: &Fields<'_>) -> Result<Option<HeldLine>, AllocError>
     ensures { IfOk result (λ o. o ≡ line_of_parts (fields_seen fields.now)) }
 {
     let Some(placed) = read_placed(fields) else {
@@ -218,7 +220,7 @@ fn read_fields(alloc: Global, fields: &Fields<'_>) -> Result<Option<Line>, Alloc
     let Some(outcome) = read_outcome(alloc, placed.kind.sort(), fields.outcome)? else {
         return Ok(None);
     };
-    Ok(Some(Line {
+    Ok(Some(HeldLine {
         kind: placed.kind,
         frame: placed.frame,
         site: placed.site,
@@ -238,7 +240,7 @@ fn behind_header(version: Version, bytes: &[u8]) -> Option<&[u8]>
 
 /// No lines, and room for as many as the bytes can hold. The shortest has 11 bytes with its newline, so that a text of
 /// newlines alone takes no more room than one of lines.
-fn room_for_lines(alloc: Global, bytes: &[u8]) -> Result<Vec<Line>, AllocError>
+fn room_for_lines(alloc: Global, bytes: &[u8]) -> Result<Vec<HeldLine>, AllocError>
     ensures empty { IfOk result (λ lines. lines.items ≡ []) }
     ensures memory { OnErr result (cut 10 bytes.now ≢ None) }
 {
@@ -268,7 +270,7 @@ fn read_lines(alloc: Global, version: Version, bytes: &[u8]) -> Result<Evidence,
         }
         rest = after;
     }
-    Ok(Evidence::of(version, lines))
+    Ok(Evidence::of(alloc, version, lines))
 }
 
 fn read_text(alloc: Global, bytes: &[u8]) -> Result<Evidence, EvidenceRefusal>
