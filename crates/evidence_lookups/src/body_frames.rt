@@ -6,7 +6,7 @@ ghost use Rattle.guard_syntax.specs.declared.row.Verdict.{Verdict};
 ghost use Rattle.evidence_rules.specs.CitedLines.{IsLine};
 
 use crate::lookup::{is_frame, line_of, verdict_said};
-use evidence_lines::{Line, LineKind};
+use evidence_lines::{LineKind, LineList};
 use guard_syntax::{Ref, Verdict};
 
 /// A frame of a site, in a frame, with a value.
@@ -18,7 +18,12 @@ pub struct ValueFrame {
 }
 
 /// The verdict that the `conj` line of a number says of a site, where it stands in such a frame.
-pub fn framed_verdict(lines: &[Line], number: u64, within: ValueFrame, site: u32) -> Option<Verdict>
+pub fn framed_verdict(
+    lines: &LineList<'_>,
+    number: u64,
+    within: ValueFrame,
+    site: u32,
+) -> Option<Verdict>
     ensures { MatchOption result
         ((at : ℕ) → (verdict : Verdict) → IsLine lines.now at kind.Frame within.frame within.site (says.Value within.value) → IsLine lines.now number kind.Conj at site (says.Verdict verdict) → ⊥)
         (λ verdict. (at : ℕ) × IsLine lines.now at kind.Frame within.frame within.site (says.Value within.value) × IsLine lines.now number kind.Conj at site (says.Verdict verdict)) }

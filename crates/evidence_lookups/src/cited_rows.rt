@@ -10,14 +10,14 @@ ghost use Rattle.evidence_rules.specs.CitedLines.{GivesArgument, GivesExpr, Give
 
 use crate::frames::{args_at, outwards};
 use crate::lookup::{line_of, rows_said};
-use evidence_lines::{Line, LineKind};
+use evidence_lines::{LineKind, LineList};
 use guard_syntax::{Expr, Query, Row, Step, StepForm};
 use rule_names::{Bind, Piece, RuleFile};
 
 /// Of a query up to a step.
 pub fn given_by_step<'b>(
     file: &RuleFile,
-    lines: &'b [Line],
+    lines: &'b LineList<'_>,
     frame: u64,
     step: &Step,
     number: u64,
@@ -42,7 +42,7 @@ fn kind_of_step(step: &Step) -> LineKind
 /// Of a whole query.
 pub fn given_by_query<'b>(
     file: &RuleFile,
-    lines: &'b [Line],
+    lines: &'b LineList<'_>,
     frame: u64,
     query: &Query,
     number: u64,
@@ -59,7 +59,7 @@ pub fn given_by_query<'b>(
 /// Of an expression.
 pub fn given_by_expr<'b>(
     file: &RuleFile,
-    lines: &'b [Line],
+    lines: &'b LineList<'_>,
     frame: u64,
     expr: &Expr,
     number: u64,
@@ -78,7 +78,7 @@ pub fn given_by_expr<'b>(
 /// Of the variable that is used at a site.
 pub fn given_by_variable<'b>(
     file: &RuleFile,
-    lines: &'b [Line],
+    lines: &'b LineList<'_>,
     frame: u64,
     site: u32,
     number: u64,
@@ -105,7 +105,7 @@ pub fn given_by_variable<'b>(
 /// Of the expression of a let, by its site.
 fn given_by_piece<'b>(
     file: &RuleFile,
-    lines: &'b [Line],
+    lines: &'b LineList<'_>,
     frame: u64,
     site: u32,
     number: u64,
@@ -123,7 +123,7 @@ fn given_by_piece<'b>(
 /// Of the argument of an index, in the frame in which the call stands.
 fn given_by_argument<'b>(
     file: &RuleFile,
-    lines: &'b [Line],
+    lines: &'b LineList<'_>,
     frame: u64,
     index: u32,
     number: u64,

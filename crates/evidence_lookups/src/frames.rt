@@ -11,12 +11,12 @@ ghost use Rattle.evidence_lookups.specs.code.Grounds.{known_of, lines_of};
 
 use crate::line_context::LineContext;
 use crate::lookup::line_of;
-use evidence_lines::{Line, LineKind};
+use evidence_lines::{Line, LineKind, LineList};
 use guard_syntax::{Body, Expr, Part, Query, Step, StepForm};
 use rule_names::{Piece, RuleFile};
 
 /// The scope for which a frame stands, by its site.
-pub fn scope_of(file: &RuleFile, lines: &[Line], frame: u64) -> Option<u32>
+pub fn scope_of(file: &RuleFile, lines: &LineList<'_>, frame: u64) -> Option<u32>
     ensures { result ≡ scope_of (file_of file.now) lines.now frame }
 {
     let line = line_of(lines, frame)?;
@@ -103,25 +103,25 @@ pub(crate) fn args_of_part(part: &Part) -> Option<&[Expr]>
 pub fn is_file_frame(context: &LineContext<'_, '_, '_>, frame: u64) -> bool
     ensures { MatchBool result (IsFileFrame (known_of context.now) (lines_of context.now) frame) (IsFileFrame (known_of context.now) (lines_of context.now) frame → ⊥) }
 {
-    match line_of(context.lines, frame) {
+    match line_of(&context.lines, frame) {
         Some(line) => line.kind == LineKind::File,
         None => false,
     }
 }
 
 /// The frame around a frame; around a called body it is the file's.
-fn outer_frame(file: &RuleFile, lines: &[Line], frame: u64) -> Option<u64>
+fn outer_frame(file: &RuleFile, lines: &LineList<'_>, frame: u64) -> Option<u64>
     ensures { result ≡ outer_frame (file_of file.now) lines.now frame }
 {
     let line = line_of(lines, frame)?;
     match line.kind {
-        LineKind::Frame => around_site(file, lines, frame, line),
+        LineKind::Frame => around_site(file, lines, frame, &line),
         _ => None,
     }
 }
 
 /// The frame around a `frame` line.
-fn around_site(file: &RuleFile, lines: &[Line], frame: u64, line: &Line) -> Option<u64>
+fn around_site(file: &RuleFile, lines: &LineList<'_>, frame: u64, line: &Line<'_>) -> Option<u64>
     ensures { result ≡ around_site (file_of file.now) lines.now frame line.now.frame (option_and_then (args_at (file_of file.now)) line.now.site) }
 {
     if is_call(file, line.site) {
@@ -142,7 +142,7 @@ fn is_call(file: &RuleFile, site: Option<u32>) -> bool
 
 /// The `file` line to which a frame comes by frame fields. Each names an earlier line where lines follow, so there are at
 /// most as many steps as lines.
-fn file_frame(lines: &[Line], frame: u64) -> Option<u64>
+fn file_frame(lines: &LineList<'_>, frame: u64) -> Option<u64>
     ensures { (f : File) → result ≡ file_frame f lines.now (length lines.now) frame }
 {
     let mut at = frame;
@@ -166,7 +166,7 @@ fn file_frame(lines: &[Line], frame: u64) -> Option<u64>
 }
 
 /// The frame so many frames further out.
-pub(crate) fn outwards(file: &RuleFile, lines: &[Line], up: u32, frame: u64) -> Option<u64>
+pub(crate) fn outwards(file: &RuleFile, lines: &LineList<'_>, up: u32, frame: u64) -> Option<u64>
     ensures { result ≡ outwards (file_of file.now) lines.now up frame }
 {
     let mut at = frame;

@@ -36,7 +36,7 @@ impl Judged {
     }
 
     /// Notes the verdict of a line of a rule; other lines change nothing.
-    pub fn note(&mut self, line: &Line)
+    pub fn note(&mut self, line: &Line<'_>)
         requires shape { HasShape line.now }
         requires site { (site : ℕ) → line.now.site ≡ Some site → site < length self.old.of.items }
         ensures judged { (lines : List Line) → AreJudged lines self.old.of.items → AreJudged (lines ++ line.now ∷ []) self.new.of.items }

@@ -8,14 +8,14 @@ ghost use Rattle.evidence_lookups.specs.code.Said.{AreMadeWithin, AreSound};
 
 use crate::judged::Judged;
 use crate::owners::Owners;
-use evidence_lines::{Line, LineKind, Version};
+use evidence_lines::{LineKind, LineList, Version};
 use std::alloc::Global;
 use value_compare::{PatternBook, Store};
 
 /// What a line is judged over, which judging it does not change: the version of the evidence, the rules with the trees that
 /// references point into, the patterns, whose the bodies are, and the lines before, each of which follows, with what their
 /// `rule` lines say.
-#[derive(Clone, Copy)]
+#[derive(Drop)]
 pub struct LineContext<'g, 't, 's> {
     pub alloc: Global,
     pub version: Version,
@@ -23,12 +23,12 @@ pub struct LineContext<'g, 't, 's> {
     pub book: &'g PatternBook,
     pub owners: &'g Owners,
     pub judged: &'g Judged,
-    pub lines: &'g [Line],
+    pub lines: LineList<'g>,
     pub ghost book_is: { IsBookOf (see_store store.now).file book.now },
     pub ghost owners_are: { AreOwners (see_store store.now).file owners.now },
-    pub ghost judged_are: { AreNoted lines.now judged.now.of.items },
-    pub ghost sound: { AreSound (see_store store.now) lines.now },
-    pub ghost within: { AreMadeWithin (length lines.now) (see_store store.now).made },
+    pub ghost judged_are: { AreNoted lines judged.now.of.items },
+    pub ghost sound: { AreSound (see_store store.now) lines },
+    pub ghost within: { AreMadeWithin (length lines) (see_store store.now).made },
 }
 
 /// A line in a frame and of a site, but for what it says.

@@ -1,6 +1,5 @@
 //! Lines by their numbers, their kind, frame and site.
 ghost use Rattle.std.specs.Prelude.{◌≡◌, List, MatchBool, MatchOption};
-ghost use Rattle.std.specs.Option.{option_copied};
 ghost use Rattle.evidence_lines.specs.Lines.{line_of};
 ghost use Rattle.evidence_lines.specs.declared.line.LineKind.TheVariants as kind;
 ghost use Rattle.evidence_lines.specs.declared.line.Outcome.{Outcome};
@@ -9,33 +8,30 @@ ghost use Rattle.guard_syntax.specs.declared.row.Row.{Row};
 ghost use Rattle.guard_syntax.specs.declared.row.Verdict.{Verdict};
 ghost use Rattle.evidence_rules.specs.CitedLines.{IsLine, value_of};
 
-use evidence_lines::{Line, LineKind, Outcome};
+use evidence_lines::{Line, LineKind, LineList, Outcome};
 use guard_syntax::{Ref, Row, Verdict};
 
 /// The line of a number.
-pub fn line_of<'b>(lines: &'b [Line], number: u64) -> Option<&'b Line>
-    ensures { option_copied result ≡ line_of lines.entry.now number }
+pub fn line_of<'b>(lines: &'b LineList<'_>, number: u64) -> Option<Line<'b>>
+    ensures { result ≡ line_of lines.entry.now number }
 {
-    if number == 0 {
-        return None;
-    }
-    lines.get((number - 1) as usize)
+    lines.get(number)
 }
 
 /// What the line of a number says, where it is of this kind, in this frame and of this site.
 pub fn said<'b>(
-    lines: &'b [Line],
+    lines: &'b LineList<'_>,
     number: u64,
     kind: LineKind,
     frame: u64,
     site: u32,
-) -> Option<&'b Outcome>
+) -> Option<Outcome<'b>>
     ensures { MatchOption result ((outcome : Outcome) → IsLine lines.entry.now number kind frame site outcome → ⊥)
-        (λ outcome. IsLine lines.entry.now number kind frame site outcome.now) }
+        (λ outcome. IsLine lines.entry.now number kind frame site outcome) }
 {
     let line = line_of(lines, number)?;
     if line.kind == kind && line.frame == Some(frame) && line.site == Some(site) {
-        Some(&line.outcome)
+        Some(line.outcome)
     } else {
         None
     }
@@ -43,7 +39,7 @@ pub fn said<'b>(
 
 /// The rows that it says.
 pub fn rows_said<'b>(
-    lines: &'b [Line],
+    lines: &'b LineList<'_>,
     number: u64,
     kind: LineKind,
     frame: u64,
@@ -59,9 +55,9 @@ pub fn rows_said<'b>(
 }
 
 /// The rows of an outcome.
-fn rows_of(outcome: &Outcome) -> Option<&[Row]>
-    ensures { MatchOption result ((rows : List Row) → outcome.entry.now ≡ says.Rows rows → ⊥)
-        (λ rows. outcome.entry.now ≡ says.Rows rows.now) }
+fn rows_of(outcome: Outcome<'_>) -> Option<&[Row]>
+    ensures { MatchOption result ((rows : List Row) → outcome.entry ≡ says.Rows rows → ⊥)
+        (λ rows. outcome.entry ≡ says.Rows rows.now) }
 {
     match outcome {
         Outcome::Rows(rows) => Some(rows.as_slice()),
@@ -71,7 +67,7 @@ fn rows_of(outcome: &Outcome) -> Option<&[Row]>
 
 /// The verdict that it says.
 pub fn verdict_said(
-    lines: &[Line],
+    lines: &LineList<'_>,
     number: u64,
     kind: LineKind,
     frame: u64,
@@ -81,28 +77,28 @@ pub fn verdict_said(
         (λ verdict. IsLine lines.now number kind frame site (says.Verdict verdict)) }
 {
     match said(lines, number, kind, frame, site) {
-        Some(Outcome::Verdict(verdict)) => Some(*verdict),
+        Some(Outcome::Verdict(verdict)) => Some(verdict),
         _ => None,
     }
 }
 
 /// Whether the line of a number is a frame of this site in this frame, with this value.
-pub(crate) fn is_frame(lines: &[Line], number: u64, frame: u64, site: u32, value: Ref) -> bool
+pub(crate) fn is_frame(lines: &LineList<'_>, number: u64, frame: u64, site: u32, value: Ref) -> bool
     ensures { MatchBool result (IsLine lines.now number kind.Frame frame site (says.Value value))
         (IsLine lines.now number kind.Frame frame site (says.Value value) → ⊥) }
 {
     match said(lines, number, LineKind::Frame, frame, site) {
-        Some(Outcome::Value(said)) => *said == value,
+        Some(Outcome::Value(said)) => said == value,
         _ => false,
     }
 }
 
 /// The value of a frame.
-pub fn value_of(lines: &[Line], frame: u64) -> Option<Ref>
+pub fn value_of(lines: &LineList<'_>, frame: u64) -> Option<Ref>
     ensures { result ≡ value_of lines.now frame }
 {
-    match &line_of(lines, frame)?.outcome {
-        Outcome::Value(value) => Some(*value),
+    match line_of(lines, frame)?.outcome {
+        Outcome::Value(value) => Some(value),
         _ => None,
     }
 }

@@ -14,7 +14,7 @@ use crate::frames::{args_of_part, scope_of_step};
 use crate::line_context::LineContext;
 use crate::lookup::value_of;
 use crate::owners::Owner;
-use evidence_lines::Line;
+use evidence_lines::LineList;
 use guard_syntax::{Body, Origin, Ref};
 use rule_names::Piece;
 use value_compare::Store;
@@ -36,7 +36,7 @@ pub fn is_frame_of(context: &LineContext<'_, '_, '_>, frame: u64, site: u32, val
             None => false,
         },
         Some(Piece::Part(part)) => match args_of_part(part) {
-            Some(_) => has_value(context.lines, frame, value),
+            Some(_) => has_value(&context.lines, frame, value),
             None => false,
         },
         _ => false,
@@ -84,7 +84,7 @@ fn is_frame_of_owned(
     }
     match owner {
         Owner::Rule => is_root(value),
-        Owner::When => has_value(context.lines, frame, value),
+        Owner::When => has_value(&context.lines, frame, value),
         Owner::Block => is_known(context.store, value),
     }
 }
@@ -102,7 +102,7 @@ fn is_root(value: Ref) -> bool
 }
 
 /// Whether a frame has a value.
-fn has_value(lines: &[Line], frame: u64, value: Ref) -> bool
+fn has_value(lines: &LineList<'_>, frame: u64, value: Ref) -> bool
     ensures { MatchBool result (value_of lines.now frame ≡ Some value) (value_of lines.now frame ≡ Some value → ⊥) }
 {
     match value_of(lines, frame) {

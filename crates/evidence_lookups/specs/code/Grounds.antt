@@ -21,4 +21,4 @@ file_in g = (see_store g.store.now).file
 
 -- the lines before
 abbrev pub lines_of : LineContext → List Line
-lines_of g = g.lines.now
+lines_of g = g.lines
