@@ -107,7 +107,7 @@ impl<'t, 's> Engine<'t, 's> {
             self.book,
         )?;
         let cites = cited(self.alloc, before, further)?;
-        self.add(frame, site, kind, cites, Outcome::Rows(Rows::new(rows)))
+        self.add(frame, site, kind, cites, Outcome::Rows(Rows::new(&rows)))
     }
 
     /// The rows that a line says, if there is one.
@@ -153,7 +153,7 @@ impl<'t, 's> Engine<'t, 's> {
             site,
             LineKind::Filter,
             cites,
-            Outcome::Rows(Rows::new(rows)),
+            Outcome::Rows(Rows::new(&rows)),
         )
     }
 
@@ -179,7 +179,7 @@ impl<'t, 's> Engine<'t, 's> {
             site,
             LineKind::Capture,
             cites,
-            Outcome::Rows(Rows::new(rows)),
+            Outcome::Rows(Rows::new(&rows)),
         )
     }
 
@@ -261,7 +261,7 @@ impl<'t, 's> Engine<'t, 's> {
             site,
             LineKind::Types,
             Vec::new(self.alloc),
-            Outcome::Rows(Rows::new(rows)),
+            Outcome::Rows(Rows::new(&rows)),
         )
     }
 

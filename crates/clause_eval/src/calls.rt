@@ -37,14 +37,14 @@ impl<'t, 's> Engine<'t, 's> {
         ensures { IfOk result (λ number. (rows : List Row) × Added (see_engine self.old) (see_engine self.new) frame site kind.Fn cites.items (says.Rows rows) number) }
     {
         let answer = self.answer(frame, site, &cites)?;
-        let number = self.evidence.as_slice().len() as u64 + 1;
+        let number = self.evidence.len() + 1;
         let rows = keep(self.alloc, &mut self.store, number, answer)?;
         let line = self.line_in(
             frame,
             site,
             LineKind::Fn,
-            cites,
-            Outcome::Rows(Rows::new(rows)),
+            &cites,
+            Outcome::Rows(Rows::new(&rows)),
         );
         let number = self.evidence.push(line)?;
         self.parts[frame as usize].set(site, number)?;

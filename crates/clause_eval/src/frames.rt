@@ -60,11 +60,11 @@ impl<'t, 's> Engine<'t, 's> {
     }
 
     /// The line of a frame. It takes no memory.
-    fn frame_line(&self, parent: Option<u64>, site: u32, current: Ref) -> Line
+    fn frame_line(&self, parent: Option<u64>, site: u32, current: Ref) -> Line<'static>
         requires { IsFramed self.now.framed.items parent }
         ensures { IsLineFor self.now.framed.items parent site current result }
     {
-        let cites = Cites::new(Vec::new(self.alloc));
+        let cites = Cites::new(&[]);
         let outcome = Outcome::Value(current);
         match parent {
             None => Line {

@@ -62,7 +62,7 @@ impl<'t, 's> Engine<'t, 's> {
         let Some(line) = self.evidence.get(line) else {
             unreachable!()
         };
-        match &line.outcome {
+        match line.outcome {
             Outcome::Rows(rows) => rows.as_slice(),
             Outcome::Value(_) | Outcome::Verdict(_) => unreachable!(),
         }
@@ -76,8 +76,8 @@ impl<'t, 's> Engine<'t, 's> {
         let Some(line) = self.evidence.get(line) else {
             unreachable!()
         };
-        match &line.outcome {
-            Outcome::Verdict(verdict) => *verdict,
+        match line.outcome {
+            Outcome::Verdict(verdict) => verdict,
             Outcome::Value(_) | Outcome::Rows(_) => unreachable!(),
         }
     }
@@ -89,15 +89,15 @@ impl<'t, 's> Engine<'t, 's> {
         site: u32,
         kind: LineKind,
         cites: Vec<u64>,
-        outcome: Outcome,
+        outcome: Outcome<'_>,
     ) -> Result<u64, AllocError>
         requires whole { IsWhole (see_engine self.old) }
         requires kind { own_kind (piece_at (see_engine self.old).known.file site) ≡ Some kind }
         requires adds { Adds (see_engine self.old) frame site kind cites.items outcome }
         requires new { (see_engine self.old).parts frame site ≡ None }
-        ensures { IfOk result (λ number. Added (see_engine self.old) (see_engine self.new) frame site kind cites.items outcome number) }
+        ensures { IfOk result (λ number. Added (see_engine self.old) (see_engine self.new) frame site kind cites.items outcome.entry number) }
     {
-        let line = self.line_in(frame, site, kind, cites, outcome);
+        let line = self.line_in(frame, site, kind, &cites, outcome);
         let number = self.add_line(line)?;
         self.parts[frame as usize].set(site, number)?;
         Ok(number)
@@ -111,15 +111,15 @@ impl<'t, 's> Engine<'t, 's> {
         site: u32,
         kind: LineKind,
         cites: Vec<u64>,
-        outcome: Outcome,
+        outcome: Outcome<'_>,
     ) -> Result<u64, AllocError>
         requires whole { IsWhole (see_engine self.old) }
         requires kind { kind_beside (piece_at (see_engine self.old).known.file site) ≡ Some kind }
         requires adds { Adds (see_engine self.old) frame site kind cites.items outcome }
         requires new { (see_engine self.old).beside frame site ≡ None }
-        ensures { IfOk result (λ number. Added (see_engine self.old) (see_engine self.new) frame site kind cites.items outcome number) }
+        ensures { IfOk result (λ number. Added (see_engine self.old) (see_engine self.new) frame site kind cites.items outcome.entry number) }
     {
-        let line = self.line_in(frame, site, kind, cites, outcome);
+        let line = self.line_in(frame, site, kind, &cites, outcome);
         let number = self.add_line(line)?;
         self.beside.insert(Place { frame, site }, number)?;
         Ok(number)
@@ -142,7 +142,7 @@ impl<'t, 's> Engine<'t, 's> {
             frame,
             site,
             LineKind::Rule,
-            cites,
+            &cites,
             Outcome::Verdict(verdict),
         );
         let number = self.add_line(line)?;
@@ -151,16 +151,16 @@ impl<'t, 's> Engine<'t, 's> {
     }
 
     /// The line of a site in a frame. It takes no memory.
-    pub(crate) fn line_in(
+    pub(crate) fn line_in<'a>(
         &self,
         frame: u64,
         site: u32,
         kind: LineKind,
-        cites: Vec<u64>,
-        outcome: Outcome,
-    ) -> Line
+        cites: &'a [u64],
+        outcome: Outcome<'a>,
+    ) -> Line<'a>
         requires { frame < length self.now.framed.items }
-        ensures { (at : ℕ) → slice_get self.now.framed.items frame ≡ Some at → result ≡ line_for at site kind cites.items outcome }
+        ensures { (at : ℕ) → slice_get self.now.framed.items frame ≡ Some at → result ≡ line_for at site kind cites.entry.now outcome.entry }
     {
         Line {
             kind,
@@ -172,10 +172,10 @@ impl<'t, 's> Engine<'t, 's> {
     }
 
     /// Adds a line that follows behind the others.
-    pub(crate) fn add_line(&mut self, line: Line) -> Result<u64, AllocError>
+    pub(crate) fn add_line(&mut self, line: Line<'_>) -> Result<u64, AllocError>
         requires before { FollowUp (see_store self.old.store) self.old.evidence.lines }
         requires follows { Follows Two (see_store self.old.store) self.old.evidence.lines line [] }
-        ensures added { IfOk result (λ number. (self.new.evidence.lines ≡ self.old.evidence.lines ++ line ∷ []) × (number ≡ suc (length self.old.evidence.lines))) }
+        ensures added { IfOk result (λ number. (self.new.evidence.lines ≡ self.old.evidence.lines ++ line.entry ∷ []) × (number ≡ suc (length self.old.evidence.lines))) }
         ensures store { see_store self.new.store ≡ see_store self.old.store }
         ensures frames { self.new.frames.entered.keys ≡ self.old.frames.entered.keys }
         ensures framed { self.new.framed.items ≡ self.old.framed.items }

@@ -39,7 +39,7 @@ impl<'t, 's> Engine<'t, 's> {
             site,
             LineKind::Literal,
             Vec::new(self.alloc),
-            Outcome::Rows(Rows::new(rows)),
+            Outcome::Rows(Rows::new(&rows)),
         )
     }
 }

@@ -51,7 +51,7 @@ impl<'t, 's> Engine<'t, 's> {
             site,
             LineKind::Found,
             cites,
-            Outcome::Rows(Rows::new(rows)),
+            Outcome::Rows(Rows::new(&rows)),
         )
     }
 

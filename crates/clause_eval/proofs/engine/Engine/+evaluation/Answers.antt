@@ -171,7 +171,7 @@ found_query-add-requires-clause-adds t c =
     let b = see_engine c.query.new.self in
     let said = query-says b.known.file b.lines it.at (see_query c.args.query.now) c.in_ok-line.line it.says.0 it.says.1 in
     found-adds (see_engine c.args.self.now) c.requires.whole c.args.self.now.store.file.now.sites c.args.frame c.args.site (see_query c.args.query.now) c.requires.stands b c.in_ok-line.line it
-    c.rows_said.result.now c.new.result c.push.new.self.items (c.rows_said.ensures said.0 said.1 said.2 it.says.0 said.3) (c.new.ensures ∙ c.in_ok-rows.ensures)
+    c.rows_said.result.now c.new.result c.push.new.self.items (c.rows_said.ensures said.0 said.1 said.2 it.says.0 said.3) (c.new.ensures ∙ c.deref.ensures.value ∙ c.in_ok-rows.ensures)
     (c.in_ok-push.ensures.items ∙ ap (λ xs. xs ++ c.in_ok-line.line ∷ []) c.new-cites.ensures.items)
 
 pub found_query-add-requires-clause-new : goal.found_query-add-requires-clause-new

@@ -1,5 +1,6 @@
 use Rattle.std.proofs.Common.{◌≡◌, ◌∷◌, ◌++◌, [], ap, ◌∙◌, ◌<◌, length, arith}
 use Rattle.std.proofs.lemmas.Option.{slice_get_within}
+use Rattle.clause_eval.specs.code.Adding.{line_for}
 use Rattle.clause_eval.specs.code.Beside.{beside_in}
 use Rattle.clause_eval.specs.code.Engines.{lines_in, part_in, see_engine}
 use Rattle.clause_eval.proofs.AddedLines.{is-part-added}
@@ -24,7 +25,7 @@ returns c =
     let there = table-there c.add_line.new.self.parts.items c.args.frame c.index_mut.result.now within c.index_mut.ensures.value in
     is-part-added s c.requires.whole c.args.frame c.args.site c.args.kind c.args.cites.items c.args.outcome c.requires.adds _ c.in_ok-number.number c.requires.kind c.requires.new
     c.add_line.ensures.store c.add_line.ensures.frames
-    (c.in_ok-number.ensures.added.0 ∙ ap (λ l. c.args.self.now.evidence.lines ++ l ∷ []) (c.line_in-line.ensures c.requires.adds.at c.requires.adds.framed))
+    (c.in_ok-number.ensures.added.0 ∙ ap (λ l. c.args.self.now.evidence.lines ++ l ∷ []) (c.line_in-line.ensures c.requires.adds.at c.requires.adds.framed ∙ ap (λ cs. line_for c.requires.adds.at c.args.site c.args.kind cs c.args.outcome) c.deref.ensures.value))
     c.add_line.ensures.framed c.in_ok-number.ensures.added.1
     (part-set c.add_line.new.self.parts.items c.args.frame c.args.site c.in_ok-number.number c.index_mut.result.now c.set.new.self there c.in_ok-set.ensures.ok)
     (λ n m other.

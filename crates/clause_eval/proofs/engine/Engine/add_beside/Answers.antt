@@ -1,6 +1,7 @@
 use Rattle.std.proofs.Common.{◌≡◌, ◌∷◌, ◌++◌, [], ap, ◌∙◌, None}
 use Rattle.std.proofs.lemmas.Option.{slice_get_within}
 use Rattle.indexmap.proofs.CallerLemmas.{insert_entry-new}
+use Rattle.clause_eval.specs.code.Adding.{line_for}
 use Rattle.clause_eval.specs.code.Beside.{beside_in}
 use Rattle.clause_eval.specs.code.Engines.{lines_in, part_in, see_engine}
 use Rattle.clause_eval.specs.contracts.place.PlacePartialEq.TheImpl.{eq-value}
@@ -21,7 +22,7 @@ returns c =
     let given = inserted c.args.frame c.args.site c.in_ok-number.number c.add_line.new.self.beside.entries c.insert.new.self.entries none more in
     is-beside-added s c.requires.whole c.args.frame c.args.site c.args.kind c.args.cites.items c.args.outcome c.requires.adds _ c.in_ok-number.number c.requires.kind c.requires.new
     c.add_line.ensures.store c.add_line.ensures.frames
-    (c.in_ok-number.ensures.added.0 ∙ ap (λ l. c.args.self.now.evidence.lines ++ l ∷ []) (c.line_in-line.ensures c.requires.adds.at c.requires.adds.framed))
+    (c.in_ok-number.ensures.added.0 ∙ ap (λ l. c.args.self.now.evidence.lines ++ l ∷ []) (c.line_in-line.ensures c.requires.adds.at c.requires.adds.framed ∙ ap (λ cs. line_for c.requires.adds.at c.args.site c.args.kind cs c.args.outcome) c.deref.ensures.value))
     c.add_line.ensures.framed c.in_ok-number.ensures.added.1
     given.0 (λ n m other. given.1 n m other ∙ ap (λ b. beside_in b.entries n m) c.add_line.ensures.beside)
     (λ n m. ap (λ ps. part_in ps n m) c.add_line.ensures.parts) (λ m. ap (λ t. lines_in t m) c.add_line.ensures.rules)

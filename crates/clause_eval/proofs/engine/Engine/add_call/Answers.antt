@@ -24,7 +24,7 @@ answer-requires-clause-given c =
 pub keep-requires-clause-free : goal.keep-requires-clause-free
 keep-requires-clause-free c row =
     let s = see_engine c.args.self.now in
-    let at : suc (length s.lines) ≡ length c.as_slice.result.now + 1 = omega (arith, ap length c.as_slice.ensures.lines) in
+    let at : suc (length s.lines) ≡ c.len-number.result + 1 = omega (arith, c.len-number.ensures.count) in
     subst (λ (n : ℕ). made_at s.known.made n row ≡ None) at (none-kept s c.requires.whole row)
 
 pub invariant_of-self : goal.invariant_of-self
@@ -61,10 +61,10 @@ invariant_of-self-2-clause-follows c =
     let answer = map see_made c.in_ok-answer.answer.items in
     let is : IsAnswerOf s c.args.frame c.args.site c.args.cites.items answer =
     subst (λ (cs : List ℕ). IsAnswerOf s c.args.frame c.args.site cs answer) c.deref.ensures.value c.in_ok-answer.ensures.answer in
-    let at : length c.as_slice.result.now + 1 ≡ suc (length s.lines) = omega (arith, ap length c.as_slice.ensures.lines) in
-    let rows : c.new.result ≡ rows_kept (suc (length s.lines)) 0 answer = c.new.ensures ∙ c.in_ok-rows.ensures.rows ∙ ap (λ (n : ℕ). rows_kept n 0 answer) at in
+    let at : c.len-number.result + 1 ≡ suc (length s.lines) = omega (arith, c.len-number.ensures.count) in
+    let rows : c.new.result ≡ rows_kept (suc (length s.lines)) 0 answer = c.new.ensures ∙ c.deref-3.ensures.value ∙ c.in_ok-rows.ensures.rows ∙ ap (λ (n : ℕ). rows_kept n 0 answer) at in
     merely (pushed-call s c.requires.whole c.args.frame c.args.site c.args.cites.items answer is c.push.result (see_store c.keep.new.store) c.args.self.now.evidence c.push.new.self c.line_in-line.result
-    refl (c.line_in-line.ensures is.at is.framed ∙ ap (λ (rs : List Row). line_for is.at c.args.site kind.Fn c.args.cites.items (says.Rows rs)) rows)
+    refl (c.line_in-line.ensures is.at is.framed ∙ ap (λ (cs : List ℕ). line_for is.at c.args.site kind.Fn cs (says.Rows c.new.result)) c.deref-2.ensures.value ∙ ap (λ (rs : List Row). line_for is.at c.args.site kind.Fn c.args.cites.items (says.Rows rs)) rows)
     (c.in_ok-rows.ensures.trees ∙ ap (λ (n : ℕ). grown s.known (trees_kept n 0 answer)) at) c.push.ensures.added c.push.ensures.kept)
 
 pub returns : goal.returns
@@ -73,8 +73,8 @@ returns c =
     let answer = map see_made c.in_ok-answer.answer.items in
     let is : IsAnswerOf s c.args.frame c.args.site c.args.cites.items answer =
     subst (λ (cs : List ℕ). IsAnswerOf s c.args.frame c.args.site cs answer) c.deref.ensures.value c.in_ok-answer.ensures.answer in
-    let at : length c.as_slice.result.now + 1 ≡ suc (length s.lines) = omega (arith, ap length c.as_slice.ensures.lines) in
-    let rows : c.new.result ≡ rows_kept (suc (length s.lines)) 0 answer = c.new.ensures ∙ c.in_ok-rows.ensures.rows ∙ ap (λ (n : ℕ). rows_kept n 0 answer) at in
+    let at : c.len-number.result + 1 ≡ suc (length s.lines) = omega (arith, c.len-number.ensures.count) in
+    let rows : c.new.result ≡ rows_kept (suc (length s.lines)) 0 answer = c.new.ensures ∙ c.deref-3.ensures.value ∙ c.in_ok-rows.ensures.rows ∙ ap (λ (n : ℕ). rows_kept n 0 answer) at in
     let named = slice_get_within s.framed c.args.frame is.at is.framed in
     let within : c.args.frame < length c.args.self.now.parts.items = omega (arith, named, c.args.self.now.tables) in
     let there = table-there c.args.self.now.parts.items c.args.frame c.index_mut.result.now within c.index_mut.ensures.value in
@@ -83,7 +83,7 @@ returns c =
       c.new.result,
       is-call-added s c.requires.whole c.args.frame c.args.site c.args.cites.items answer is _ c.in_ok-number.number c.new.result rows c.requires.new
           (c.in_ok-rows.ensures.trees ∙ ap (λ (n : ℕ). grown s.known (trees_kept n 0 answer)) at) refl
-          (c.in_ok-number.ensures.added.0 ∙ ap (λ (l : Line). s.lines ++ l ∷ []) (c.line_in-line.ensures is.at is.framed)) refl number
+          (c.in_ok-number.ensures.added.0 ∙ ap (λ (l : Line). s.lines ++ l ∷ []) (c.line_in-line.ensures is.at is.framed ∙ ap (λ (cs : List ℕ). line_for is.at c.args.site kind.Fn cs (says.Rows c.new.result)) c.deref-2.ensures.value)) refl number
           (part-set c.args.self.now.parts.items c.args.frame c.args.site c.in_ok-number.number c.index_mut.result.now c.set.new.self there c.in_ok-set.ensures.ok)
           (λ n m other. part-stays c.args.self.now.parts.items c.args.frame c.args.site c.in_ok-number.number c.index_mut.result.now c.set.new.self there c.in_ok-set.ensures.ok n m other)
           (λ n m. refl) (λ m. refl),

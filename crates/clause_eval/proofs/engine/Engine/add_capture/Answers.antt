@@ -35,8 +35,8 @@ add_beside-requires-clause-adds c =
     let had = captured-rows s c.requires.whole c.args.frame c.args.site c.args.line c.requires.stands c.requires.step in
     capture-adds s c.requires.whole c.args.frame c.args.site c.args.line c.requires.stands c.requires.step c.push.new.self.items
     (c.in_ok-push.ensures.items ∙ ap (λ (cs : List ℕ). cs ++ c.args.line ∷ []) c.new-cites.ensures.items) c.new.result
-    (c.new.ensures ∙ c.in_ok-rows.ensures.rows ∙ ap (flat_map (captured_row s.known)) (c.rows_said-said.ensures had.1.0 had.1.1 had.1.2 had.0 had.1.3))
-    (ap (list_all (is_known s.known)) c.new.ensures ∙ c.in_ok-rows.ensures.known)
+    (c.new.ensures ∙ c.deref.ensures.value ∙ c.in_ok-rows.ensures.rows ∙ ap (flat_map (captured_row s.known)) (c.rows_said-said.ensures had.1.0 had.1.1 had.1.2 had.0 had.1.3))
+    (ap (list_all (is_known s.known)) (c.new.ensures ∙ c.deref.ensures.value) ∙ c.in_ok-rows.ensures.known)
 
 pub returns : goal.returns
 returns c =

@@ -79,10 +79,10 @@ add-requires-clause-adds c =
     ∙ ap (λ (cs : List ℕ). cs ++ c.deref-2.result.now) (c.in_ok-push.ensures.items ∙ ap (λ (cs : List ℕ). cs ++ c.args.before ∷ []) c.new-cites.ensures.items)
     ∙ ap (λ (cs : List ℕ). c.args.before ∷ cs) c.deref-2.ensures.value)
     c.new.result
-    (c.new.ensures ∙ c.in_ok-rows.ensures.rows
+    (c.new.ensures ∙ c.deref-3.ensures.value ∙ c.in_ok-rows.ensures.rows
     ∙ ap (λ (rows : List Row). rows_at_step s.known c.args.site c.current.result rows [] c.deref.result.now) (c.rows_said.ensures had.1.0 had.1.1 had.1.2 had.0 had.1.3)
     ∙ ap (λ (vs : List Verdict). rows_at_step s.known c.args.site c.current.result had.0 [] vs) c.deref.ensures.value)
-    (ap (list_all (is_known s.known)) c.new.ensures ∙ c.in_ok-rows.ensures.known)
+    (ap (list_all (is_known s.known)) (c.new.ensures ∙ c.deref-3.ensures.value) ∙ c.in_ok-rows.ensures.known)
 
 pub returns : goal.returns
 returns c =

@@ -2,6 +2,7 @@ use Rattle.std.proofs.Common.{◌∷◌, ◌++◌, [], ap, refl, ◌∙◌}
 use Rattle.std.proofs.lemmas.Option.{slice_get_within}
 use Rattle.evidence_lines.specs.declared.line.LineKind.TheVariants as kind
 use Rattle.evidence_lines.specs.declared.line.Outcome.TheVariants as says
+use Rattle.clause_eval.specs.code.Adding.{line_for}
 use Rattle.clause_eval.specs.code.Beside.{beside_in}
 use Rattle.clause_eval.specs.code.Engines.{lines_in, part_in, see_engine}
 use Rattle.clause_eval.proofs.AddedLines.{is-rule-added}
@@ -17,7 +18,7 @@ returns c =
     let set = table-set c.add_line.new.self.rules c.set.new.self c.args.site c.in_ok-number.number c.in_ok-set.ensures.ok in
     is-rule-added s c.requires.whole c.args.frame c.args.site kind.Rule c.args.cites.items (says.Verdict c.args.verdict) c.requires.adds _ c.in_ok-number.number refl c.requires.new
     c.add_line.ensures.store c.add_line.ensures.frames
-    (c.in_ok-number.ensures.added.0 ∙ ap (λ l. c.args.self.now.evidence.lines ++ l ∷ []) (c.line_in-line.ensures c.requires.adds.at c.requires.adds.framed))
+    (c.in_ok-number.ensures.added.0 ∙ ap (λ l. c.args.self.now.evidence.lines ++ l ∷ []) (c.line_in-line.ensures c.requires.adds.at c.requires.adds.framed ∙ ap (λ cs. line_for c.requires.adds.at c.args.site kind.Rule cs (says.Verdict c.args.verdict)) c.deref.ensures.value))
     c.add_line.ensures.framed c.in_ok-number.ensures.added.1
     set.0 (λ m other. set.1 m other ∙ ap (λ t. lines_in t m) c.add_line.ensures.rules)
     (λ n m. ap (λ ps. part_in ps n m) c.add_line.ensures.parts) (λ n m. ap (λ b. beside_in b.entries n m) c.add_line.ensures.beside)

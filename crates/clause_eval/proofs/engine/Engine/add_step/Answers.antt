@@ -76,9 +76,9 @@ add-requires-clause-adds c =
     let later = further-rows s c.requires.whole c.args.frame c.args.site c.args.kind c.args.before c.args.further c.requires.step in
     step-adds s c.requires.whole c.args.frame c.args.site c.args.kind c.args.before c.args.further c.requires.step c.current.result c.current.ensures
     c.in_ok-cites.cites.items c.in_ok-cites.ensures c.new.result
-    (c.new.ensures ∙ c.in_ok-rows.ensures.rows
+    (c.new.ensures ∙ c.deref.ensures.value ∙ c.in_ok-rows.ensures.rows
     ∙ ap₂ (λ (b r : List Row). rows_at_step s.known c.args.site c.current.result b r []) (c.rows_of.ensures earlier.0 earlier.1) (c.rows_of-2.ensures later.0 later.1))
-    (ap (list_all (is_known s.known)) c.new.ensures ∙ c.in_ok-rows.ensures.known)
+    (ap (list_all (is_known s.known)) (c.new.ensures ∙ c.deref.ensures.value) ∙ c.in_ok-rows.ensures.known)
 
 pub returns : goal.returns
 returns c =

@@ -38,7 +38,7 @@ pub add_beside-requires-clause-adds : goal.add_beside-requires-clause-adds
 add_beside-requires-clause-adds c =
     let s = see_engine c.args.self.now in
     types-adds s c.requires.whole c.args.frame c.args.site c.requires.stands c.current.result c.current.ensures c.new.result.items c.new.ensures.items c.new-2.result
-    (c.new-2.ensures ∙ c.in_ok-rows.ensures.rows) (ap (list_all (is_known s.known)) c.new-2.ensures ∙ c.in_ok-rows.ensures.known)
+    (c.new-2.ensures ∙ c.deref.ensures.value ∙ c.in_ok-rows.ensures.rows) (ap (list_all (is_known s.known)) (c.new-2.ensures ∙ c.deref.ensures.value) ∙ c.in_ok-rows.ensures.known)
 
 pub returns-clause-said : goal.returns-clause-said
 returns-clause-said c =
