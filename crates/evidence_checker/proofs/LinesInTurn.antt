@@ -1,7 +1,8 @@
 -- What holds behind one line more, where it follows.
-use Rattle.std.proofs.Common.{◌≡◌, ℕ, suc, ◌+◌, ◌<◌, ◌≤◌, sym, ap, ◌∙◌, subst, arith, add-one, List, [], ◌∷◌, ◌++◌, length, map, take, get_or, Option, Some}
+use Rattle.std.proofs.Common.{◌≡◌, ℕ, suc, ◌+◌, ◌<◌, ◌≤◌, sym, ap, ◌∙◌, subst, arith, add-one, List, [], ◌∷◌, ◌++◌, length, map, take, Option, Some}
 use Rattle.std.proofs.lemmas.List.{length-take-le, take_all}
-use Rattle.std.proofs.Math.Seq.{take-suc}
+use Rattle.std.proofs.lemmas.Option.{slice_get_within}
+use Rattle.evidence_lines.specs.Lines.{line_of}
 use Rattle.evidence_lines.specs.Shapes.{HasShape}
 use Rattle.evidence_lines.specs.declared.line.Line.{Line}
 use Rattle.evidence_lines.specs.declared.version.Version.{Version}
@@ -15,6 +16,7 @@ use Rattle.rule_meaning.specs.Seeing.{grown, trees_kept}
 use Rattle.rule_meaning.specs.StoreModel.{Made, StoreModel}
 use Rattle.evidence_rules.specs.Follows.{AllFollow, Follows}
 use Rattle.evidence_rules.proofs.FollowingShapes.{follows-shape}
+use Rattle.evidence_rules.proofs.LinesBehind.{line-there, next-line}
 use Rattle.evidence_lookups.specs.code.JudgedSites.{AreJudged}
 use Rattle.evidence_lookups.specs.code.Said.{AreMadeWithin, AreSound, IsSound}
 use Rattle.evidence_checker.specs.code.Judging.{IsFaultAt, IsKnownBehind, Leads}
@@ -25,14 +27,15 @@ use Rattle.evidence_checker.proofs.LinesFollowing.{sited-within}
 use Rattle.evidence_checker.proofs.SoundLines.{sound-behind}
 
 -- lines before one, as they are passed on
-module _ (lines seen : List Line) (before : ℕ) (line : Line) (within : before < length lines) (is : line ≡ get_or lines before line) (seen_is : seen ≡ take before lines) where
+module _ (lines seen : List Line) (before : ℕ) (line : Line) (stands : line_of lines (before + 1) ≡ Some line) (seen_is : seen ≡ take before lines) where
+  within : before < length lines
+  within = slice_get_within lines before line (line-there lines before line stands)
+
   pub one-more : seen ++ line ∷ [] ≡ take (before + 1) lines
-  one-more =
-      ap (λ (ls : List Line). ls ++ line ∷ []) seen_is ∙ ap (λ (l : Line). take before lines ++ l ∷ []) is ∙ sym (take-suc lines before line within)
-      ∙ ap (λ (n : ℕ). take n lines) (sym (add-one before))
+  one-more = ap (λ (ls : List Line). ls ++ line ∷ []) seen_is ∙ next-line lines before line stands
 
   pub counted : length seen ≡ before
-  counted = ap length seen_is ∙ length-take-le before lines (omega arith)
+  counted = ap length seen_is ∙ length-take-le before lines (omega (arith, within))
 
   module _ (version : Version) (start known : StoreModel) (behind : IsKnownBehind version start (take before lines) known) where
     behind_seen : IsKnownBehind version start seen known
@@ -42,7 +45,7 @@ module _ (lines seen : List Line) (before : ℕ) (line : Line) (within : before 
     fault-here never = (
       before,
       add-one before,
-      omega arith,
+      omega (arith, within),
       subst (AllFollow version start []) seen_is (all-follow version start seen known behind_seen),
       λ follow. stuck version start seen known behind_seen line never (subst (AllFollow version start []) (sym one-more) follow),
     )

@@ -12,14 +12,14 @@ ghost use Rattle.rule_meaning.specs.Verdicts.{block_verdict, conjunction, disjun
 ghost use Rattle.evidence_checker.specs.code.FirstCites.{SaysRow};
 
 use crate::stops::{block_stop, is_stop};
-use evidence_lines::{Line, LineKind, Outcome, Version};
+use evidence_lines::{LineKind, LineList, Outcome, Version};
 use evidence_lookups::body_frames::{ValueFrame, framed_verdict};
 use evidence_lookups::lookup::{line_of, said, verdict_said};
 use guard_syntax::{Row, Verdict};
 
 /// Whether the verdict of the body of a site, in a frame of this one, follows from the one line that is cited.
 pub(crate) fn body_follows(
-    lines: &[Line],
+    lines: &LineList<'_>,
     frame: u64,
     body: u32,
     cites: &[u64],
@@ -43,7 +43,7 @@ pub(crate) fn body_follows(
 /// The verdict that the `conj` line of a number says of a site, where its frame is one of a scope's site in a frame, with
 /// any value.
 pub(crate) fn said_within(
-    lines: &[Line],
+    lines: &LineList<'_>,
     number: u64,
     frame: u64,
     scope: u32,
@@ -62,7 +62,7 @@ pub(crate) fn said_within(
 }
 
 /// Whether the line of a number is a frame of a site in a frame, with any value.
-fn is_frame_at(lines: &[Line], number: u64, frame: u64, site: u32) -> bool
+fn is_frame_at(lines: &LineList<'_>, number: u64, frame: u64, site: u32) -> bool
     ensures { MatchBool result
         ((value : Ref) × IsLine lines.now number kind.Frame frame site (says.Value value))
         ((value : Ref) → IsLine lines.now number kind.Frame frame site (says.Value value) → ⊥) }
@@ -85,7 +85,7 @@ pub(crate) struct RowsBody {
 /// Whether the verdict of a body on rows follows. A row that was found has one cite, up to the row that decides where
 /// evidence of this version stops there.
 pub(crate) fn body_follows_on(
-    lines: &[Line],
+    lines: &LineList<'_>,
     body: RowsBody,
     rows: &[Row],
     cites: &[u64],
@@ -131,7 +131,7 @@ struct JudgedRow<'c> {
 
 /// What the first cite says of a row that was found; any other row is FAIL, and has no cite.
 fn judged_row<'c>(
-    lines: &[Line],
+    lines: &LineList<'_>,
     frame: u64,
     body: u32,
     row: &Row,

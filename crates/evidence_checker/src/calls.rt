@@ -18,7 +18,7 @@ ghost use Rattle.evidence_checker.specs.code.Calls.{IsAnswered, IsCall, IsCallAt
 ghost use Rattle.evidence_checker.specs.code.Kept.{row_kept};
 ghost use Rattle.evidence_checker.specs.code.Makes.{IsMade};
 
-use evidence_lines::Line;
+use evidence_lines::LineList;
 use evidence_lookups::cited_rows::given_by_expr;
 use evidence_lookups::expression_lines::stands_at;
 use evidence_lookups::line_context::{LineContext, SitedLine};
@@ -41,7 +41,7 @@ pub(crate) fn call_follows(
     let Some(answer) = answer_of(context, line)? else {
         return Ok(None);
     };
-    let number = context.lines.len() as u64 + 1;
+    let number = context.lines.len() + 1;
     if !are_kept(number, &answer, rows) {
         return Ok(None);
     }
@@ -62,7 +62,7 @@ fn answer_of(
     let Some(called) = call_at(file, line.site) else {
         return Ok(None);
     };
-    let Some(given) = rows_of_args(context.alloc, file, context.lines, line, called.args)? else {
+    let Some(given) = rows_of_args(context.alloc, file, &context.lines, line, called.args)? else {
         return Ok(None);
     };
     let answer = call(
@@ -117,7 +117,7 @@ fn called_by(expr: &Expr) -> Option<Called<'_>>
 fn rows_of_args(
     alloc: Global,
     file: &RuleFile,
-    lines: &[Line],
+    lines: &LineList<'_>,
     line: SitedLine<'_>,
     args: &[Expr],
 ) -> Result<Option<Vec<Vec<Row>>>, AllocError>

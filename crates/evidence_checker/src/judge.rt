@@ -1,5 +1,5 @@
 //! The judge of evidence.
-ghost use Rattle.std.specs.Prelude.{◌≡◌, ◌^◌, ◌<◌, ◌≤◌, ◌++◌, [], List, Some, false, true, map, IfOk, MatchOption, length, take};
+ghost use Rattle.std.specs.Prelude.{◌≡◌, ◌^◌, ◌<◌, ◌++◌, [], List, Some, false, true, map, IfOk, MatchOption, length};
 ghost use Rattle.doc_values.specs.Tree.{Forest};
 ghost use Rattle.evidence_lines.specs.declared.line.Line.{Line};
 ghost use Rattle.evidence_lines.specs.declared.version.Version.{Version};
@@ -20,7 +20,7 @@ ghost use Rattle.evidence_checker.specs.code.Judging.{IsLooseWanting, IsRuleWant
 use crate::calls::keep;
 use crate::line::line_follows;
 use doc_values::Doc;
-use evidence_lines::{Evidence, Line, Version};
+use evidence_lines::{Evidence, Version};
 use evidence_lookups::judged::Judged;
 use evidence_lookups::line_context::LineContext;
 use evidence_lookups::owners::Owners;
@@ -71,11 +71,14 @@ fn judge_lines(
     requires made { (see_store store.old).made ≡ [] }
     ensures { IfOk result (λ answer. IsAnswer evidence.now.version (see_store store.old).template (see_store store.old).file evidence.now.lines answer) }
 {
-    let lines = evidence.as_slice();
     let written = evidence.version();
     let syntax = store.file.raw();
     let mut judged = Judged::new(alloc, syntax.places.as_slice().len())?;
-    for (before, line) in lines.iter().enumerate() {
+    for before in 0..evidence.len() {
+        let Some(line) = evidence.get(before + 1) else {
+            // Each of these numbers has its line.
+            unreachable!()
+        };
         let context = LineContext {
             alloc,
             version: written,
@@ -83,15 +86,15 @@ fn judge_lines(
             book,
             owners,
             judged: &judged,
-            lines: first_lines(lines, before),
+            lines: evidence.first(before),
         };
-        let Some(answer) = line_follows(&context, line)? else {
-            return Ok(Answer::Rejected(before as u64 + 1));
+        let Some(answer) = line_follows(&context, &line)? else {
+            return Ok(Answer::Rejected(before + 1));
         };
-        keep(store, before as u64 + 1, answer)?;
-        judged.note(line);
+        keep(store, before + 1, answer)?;
+        judged.note(&line);
     }
-    answer_of(alloc, syntax, &judged, lines.len() as u64)
+    answer_of(alloc, syntax, &judged, evidence.len())
 }
 
 /// The answer where each of so many lines follows, by what their `rule` lines say.
@@ -110,14 +113,6 @@ fn answer_of(
         Some(verdicts) => Ok(Answer::Accepted(verdicts)),
         None => Ok(Answer::Rejected(count + 1)),
     }
-}
-
-/// The first lines, as many as `count`.
-fn first_lines(lines: &[Line], count: usize) -> &[Line]
-    requires { count ≤ length lines.now }
-    ensures { result.now ≡ take count lines.entry.now }
-{
-    &lines[..count]
 }
 
 /// The verdicts of the rules without parameters and of the parts outside rules, unless one is wanting.

@@ -15,7 +15,7 @@ ghost use Rattle.evidence_checker.specs.code.Makes.{IsMade};
 use crate::calls::call_follows;
 use crate::rows::rows_follow;
 use crate::verdicts::verdict_follows;
-use evidence_lines::{Line, LineKind, Outcome};
+use evidence_lines::{Line, LineKind, LineList, Outcome};
 use evidence_lookups::frames::{home_for, scope_of};
 use evidence_lookups::line_context::{LineContext, SitedLine};
 use evidence_lookups::values::is_frame_of;
@@ -28,7 +28,7 @@ use value_compare::Store;
 /// What a line makes known where it follows from those before it: the rows that a call answers, and of any other line none.
 pub(crate) fn line_follows(
     context: &LineContext<'_, '_, '_>,
-    line: &Line,
+    line: &Line<'_>,
 ) -> Result<Option<Vec<Made>>, AllocError>
     ensures { IfOk result (IsMade (known_of context.now) (lines_of context.now)
         (Follows (version_of context.now) (known_of context.now) (lines_of context.now) line.now)
@@ -48,7 +48,7 @@ pub(crate) fn line_follows(
         kind: line.kind,
         cites,
     };
-    if !is_at_home(context.store.file, context.lines, placed) {
+    if !is_at_home(context.store.file, &context.lines, placed) {
         return Ok(None);
     }
     outcome_follows(context, placed, &line.outcome)
@@ -62,7 +62,7 @@ fn making_nothing(alloc: Global, follows: bool) -> Option<Vec<Made>>
 }
 
 /// Whether a line is the `file` line. The root of the template, which it says, is known.
-fn is_file_line(store: &Store<'_, '_>, line: &Line) -> bool
+fn is_file_line(store: &Store<'_, '_>, line: &Line<'_>) -> bool
     ensures file { MatchBool result (IsFileLine (see_store store.now) [] line.now) (IsFileLine (see_store store.now) [] line.now → ⊥) }
     ensures known { is_known_ref (see_store store.now) root_ref ≡ true }
 {
@@ -76,7 +76,7 @@ fn is_file_line(store: &Store<'_, '_>, line: &Line) -> bool
 }
 
 /// Whether an outcome is the root of the template.
-fn is_root(outcome: &Outcome) -> bool
+fn is_root(outcome: &Outcome<'_>) -> bool
     ensures { MatchBool result (outcome.now ≡ says.Value root_ref) (outcome.now ≡ says.Value root_ref → ⊥) }
 {
     match outcome {
@@ -93,7 +93,7 @@ fn is_root(outcome: &Outcome) -> bool
 }
 
 /// Whether the scope of a frame is the home of a site, of which there is a part.
-fn is_at_home(file: &RuleFile, lines: &[Line], line: SitedLine<'_>) -> bool
+fn is_at_home(file: &RuleFile, lines: &LineList<'_>, line: SitedLine<'_>) -> bool
     ensures { MatchBool result
         ((line.entry.site < length (file_of file.now).places) × (scope_of (file_of file.now) lines.now line.entry.frame ≡ Some (home_for (file_of file.now) line.entry.kind line.entry.site)))
         (line.entry.site < length (file_of file.now).places → scope_of (file_of file.now) lines.now line.entry.frame ≡ Some (home_for (file_of file.now) line.entry.kind line.entry.site) → ⊥) }
@@ -112,7 +112,7 @@ fn is_at_home(file: &RuleFile, lines: &[Line], line: SitedLine<'_>) -> bool
 fn outcome_follows(
     context: &LineContext<'_, '_, '_>,
     line: SitedLine<'_>,
-    outcome: &Outcome,
+    outcome: &Outcome<'_>,
 ) -> Result<Option<Vec<Made>>, AllocError>
     ensures { IfOk result (IsMade (known_of context.now) (lines_of context.now)
         (FollowsIn (version_of context.now) (known_of context.now) (lines_of context.now) line.entry.frame line.entry.site line.entry.kind line.entry.cites.now outcome.now)

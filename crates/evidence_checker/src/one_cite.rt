@@ -6,7 +6,7 @@ ghost use Rattle.rule_names.specs.code.Files.{file_of};
 ghost use Rattle.evidence_rules.specs.CitedLines.{GivesExpr, GivesVariable};
 ghost use Rattle.evidence_checker.specs.code.FirstCites.{GivesAlone};
 
-use evidence_lines::Line;
+use evidence_lines::LineList;
 use evidence_lookups::cited_rows::{given_by_expr, given_by_variable};
 use guard_syntax::{Expr, Row};
 use rule_names::RuleFile;
@@ -14,7 +14,7 @@ use rule_names::RuleFile;
 /// Of the variable that is used at a site.
 pub(crate) fn variable_cited<'b>(
     file: &RuleFile,
-    lines: &'b [Line],
+    lines: &'b LineList<'_>,
     frame: u64,
     site: u32,
     cites: &[u64],
@@ -32,7 +32,7 @@ pub(crate) fn variable_cited<'b>(
 /// Of an expression.
 pub(crate) fn expr_cited<'b>(
     file: &RuleFile,
-    lines: &'b [Line],
+    lines: &'b LineList<'_>,
     frame: u64,
     expr: &Expr,
     cites: &[u64],

@@ -13,7 +13,7 @@ ghost use Rattle.evidence_checker.specs.code.FirstCites.{IsSomeGuard, opt_conds_
 use crate::bodies::{RowsBody, body_follows, body_follows_on, ends_with};
 use crate::reference_lines::{call_follows, reference_follows};
 use crate::test_lines::{AskedTest, test_follows};
-use evidence_lines::{Line, LineKind, Version};
+use evidence_lines::{LineKind, LineList, Version};
 use evidence_lookups::cited_rows::given_by_query;
 use evidence_lookups::line_context::{LineContext, SitedLine};
 use evidence_lookups::lookup::{rows_said, verdict_said};
@@ -54,7 +54,7 @@ pub(crate) fn part_follows(
                 cond: Some(cond.site),
                 body: body.site,
             };
-            Ok(guarded_follows(context.lines, line.frame, guarded, line.cites, verdict))
+            Ok(guarded_follows(&context.lines, line.frame, guarded, line.cites, verdict))
         }
         Part::Kinds { cond, body, .. } => {
             let cond = conds_site(cond);
@@ -62,7 +62,7 @@ pub(crate) fn part_follows(
                 cond,
                 body: body.site,
             };
-            Ok(kinds_follows(context.lines, line, guarded, verdict))
+            Ok(kinds_follows(&context.lines, line, guarded, verdict))
         }
         Part::Test {
             any,
@@ -83,11 +83,11 @@ pub(crate) fn part_follows(
         }
         Part::Refer { not, .. } => {
             let file = context.store.file;
-            Ok(reference_follows(file, context.lines, line, *not, verdict))
+            Ok(reference_follows(file, &context.lines, line, *not, verdict))
         }
         Part::Call { not, .. } => {
             let file = context.store.file;
-            Ok(call_follows(file, context.lines, line, *not, verdict))
+            Ok(call_follows(file, &context.lines, line, *not, verdict))
         }
     }
 }
@@ -121,8 +121,8 @@ fn block_follows(
     let Some((first, others)) = cites.split_first() else {
         return false;
     };
-    match given_by_query(context.store.file, context.lines, body.frame, head, *first) {
-        Some(rows) => body_follows_on(context.lines, body, rows, others, verdict),
+    match given_by_query(context.store.file, &context.lines, body.frame, head, *first) {
+        Some(rows) => body_follows_on(&context.lines, body, rows, others, verdict),
         None => false,
     }
 }
@@ -136,7 +136,7 @@ struct GuardedBody {
 
 /// Whether a verdict follows that a body has under conditions: of a `when` block, or of a rule.
 fn guarded_follows(
-    lines: &[Line],
+    lines: &LineList<'_>,
     frame: u64,
     guarded: GuardedBody,
     cites: &[u64],
@@ -157,7 +157,7 @@ fn guarded_follows(
 
 /// Whether the line of a type block follows.
 fn kinds_follows(
-    lines: &[Line],
+    lines: &LineList<'_>,
     line: SitedLine<'_>,
     guarded: GuardedBody,
     verdict: Verdict,
@@ -177,7 +177,7 @@ fn kinds_follows(
 
 /// Whether the verdict of a type block's body on its rows follows, from the cites behind that of its conditions.
 fn typed_follows(
-    lines: &[Line],
+    lines: &LineList<'_>,
     line: SitedLine<'_>,
     body: u32,
     cites: &[u64],
@@ -205,7 +205,7 @@ fn typed_follows(
 
 /// Whether the verdict of a rule follows: it has no parameters.
 pub(crate) fn rule_follows(
-    lines: &[Line],
+    lines: &LineList<'_>,
     frame: u64,
     rule: &Rule,
     cites: &[u64],
@@ -245,7 +245,7 @@ pub(crate) struct Guard<'c> {
 
 /// The line of the conditions of a site: the first cite. Without conditions they count as PASS, and all cites are left.
 fn conditions<'c>(
-    lines: &[Line],
+    lines: &LineList<'_>,
     frame: u64,
     cond: Option<u32>,
     cites: &'c [u64],

@@ -11,7 +11,7 @@ ghost use Rattle.rule_meaning.specs.StoreModel.{StoreModel};
 ghost use Rattle.rule_meaning.specs.Verdicts as judged;
 
 use crate::bodies::said_within;
-use evidence_lines::{Line, LineKind};
+use evidence_lines::{LineKind, LineList};
 use evidence_lookups::frames::called_body;
 use evidence_lookups::line_context::SitedLine;
 use evidence_lookups::lookup::{line_of, verdict_said};
@@ -21,7 +21,7 @@ use rule_names::RuleFile;
 /// Whether the line of a reference follows, from the line of the rule that is named.
 pub(crate) fn reference_follows(
     file: &RuleFile,
-    lines: &[Line],
+    lines: &LineList<'_>,
     line: SitedLine<'_>,
     not: bool,
     verdict: Verdict,
@@ -45,7 +45,7 @@ pub(crate) fn reference_follows(
 }
 
 /// The verdict that the `rule` line of a number says of a site, in whatever frame.
-fn rule_said(lines: &[Line], number: u64, site: u32) -> Option<Verdict>
+fn rule_said(lines: &LineList<'_>, number: u64, site: u32) -> Option<Verdict>
     ensures { MatchOption result
         ((at : ℕ) → (verdict : Verdict) → IsLine lines.now number kind.Rule at site (says.Verdict verdict) → ⊥)
         (λ verdict. (at : ℕ) × IsLine lines.now number kind.Rule at site (says.Verdict verdict)) }
@@ -57,7 +57,7 @@ fn rule_said(lines: &[Line], number: u64, site: u32) -> Option<Verdict>
 /// Whether the line of a call follows, from the line of the called body in the frame of the call.
 pub(crate) fn call_follows(
     file: &RuleFile,
-    lines: &[Line],
+    lines: &LineList<'_>,
     line: SitedLine<'_>,
     not: bool,
     verdict: Verdict,

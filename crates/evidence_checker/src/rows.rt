@@ -62,7 +62,7 @@ fn types_follow(
     let [] = line.cites else {
         return Ok(false);
     };
-    let Some(current) = value_of(context.lines, line.frame) else {
+    let Some(current) = value_of(&context.lines, line.frame) else {
         return Ok(false);
     };
     let due = kinds(

@@ -15,7 +15,7 @@ ghost use Rattle.evidence_lookups.specs.code.Grounds.{file_in, known_of, lines_o
 use crate::one_cite::{expr_cited, variable_cited};
 use crate::row_equality::same_rows;
 use crate::tried_candidates::tried_verdicts;
-use evidence_lines::{Line, LineKind};
+use evidence_lines::{LineKind, LineList};
 use evidence_lookups::cited_rows::given_by_step;
 use evidence_lookups::line_context::{LineContext, SitedLine};
 use evidence_lookups::lookup::value_of;
@@ -84,7 +84,7 @@ fn other_follows(
     ensures known { IfOk result (λ follows. follows ≡ true → list_all (is_known (known_of context.now)) rows.now ≡ true) }
 {
     let file = context.store.file;
-    let lines = context.lines;
+    let lines = &context.lines;
     let Some(current) = value_of(lines, line.frame) else {
         return Ok(false);
     };
@@ -128,7 +128,7 @@ fn filter_follows(
         return Ok(false);
     }
     let file = context.store.file;
-    let lines = context.lines;
+    let lines = &context.lines;
     let Some(current) = value_of(lines, line.frame) else {
         return Ok(false);
     };
@@ -175,7 +175,7 @@ fn capture_follows(
         return Ok(false);
     };
     let file = context.store.file;
-    let Some(kept) = given_by_step(file, context.lines, line.frame, step, *number) else {
+    let Some(kept) = given_by_step(file, &context.lines, line.frame, step, *number) else {
         return Ok(false);
     };
     let due = captured(context.alloc, kept, context.store)?;
@@ -186,7 +186,7 @@ fn capture_follows(
 /// no rows before it, and no number.
 fn rows_before<'b>(
     file: &RuleFile,
-    lines: &'b [Line],
+    lines: &'b LineList<'_>,
     line: SitedLine<'b>,
     query: &Query,
     index: usize,
@@ -214,7 +214,7 @@ fn rows_before<'b>(
 /// The rows of what a step names further: of a variable, or of the right side of a key filter.
 fn rows_further<'b>(
     file: &RuleFile,
-    lines: &'b [Line],
+    lines: &'b LineList<'_>,
     frame: u64,
     step: &Step,
     cites: &[u64],

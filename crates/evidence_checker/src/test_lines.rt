@@ -15,7 +15,7 @@ ghost use Rattle.evidence_lookups.specs.code.Grounds.{known_of, lines_of};
 ghost use Rattle.evidence_checker.specs.code.TestedRows.{holds_for};
 
 use crate::one_cite::expr_cited;
-use evidence_lines::Line;
+use evidence_lines::LineList;
 use evidence_lookups::cited_rows::given_by_query;
 use evidence_lookups::expression_lines::is_found;
 use evidence_lookups::line_context::{LineContext, SitedLine};
@@ -49,10 +49,10 @@ pub(crate) fn test_follows(
         return Ok(false);
     };
     let file = context.store.file;
-    let Some(lefts) = given_by_query(file, context.lines, line.frame, asks.left, *first) else {
+    let Some(lefts) = given_by_query(file, &context.lines, line.frame, asks.left, *first) else {
         return Ok(false);
     };
-    let Some(rights) = given_at_right(file, context.lines, line.frame, asks.right, others) else {
+    let Some(rights) = given_at_right(file, &context.lines, line.frame, asks.right, others) else {
         return Ok(false);
     };
     let said = test_of_rows(context, asks, lefts, rights)?;
@@ -62,7 +62,7 @@ pub(crate) fn test_follows(
 /// The rows of the right side of a test: of its one cite, if it has one.
 fn given_at_right<'b>(
     file: &RuleFile,
-    lines: &'b [Line],
+    lines: &'b LineList<'_>,
     frame: u64,
     right: &Option<Expr>,
     cites: &[u64],

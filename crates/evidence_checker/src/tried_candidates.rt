@@ -5,7 +5,7 @@ ghost use Rattle.guard_syntax.specs.declared.row.Verdict as row;
 ghost use Rattle.rule_meaning.specs.StoreModel.{StoreModel};
 ghost use Rattle.evidence_rules.specs.Follows.{SayEach, SaysCandidate};
 
-use evidence_lines::Line;
+use evidence_lines::LineList;
 use evidence_lookups::body_frames::{ValueFrame, framed_verdict};
 use evidence_lookups::line_context::SitedLine;
 use guard_syntax::{Conds, Ref, Verdict};
@@ -14,7 +14,7 @@ use std::alloc::{AllocError, Global};
 /// The verdict of the conditions of a line's filter for each value, if the line cites one line for each, in order.
 pub(crate) fn tried_verdicts(
     alloc: Global,
-    lines: &[Line],
+    lines: &LineList<'_>,
     line: SitedLine<'_>,
     conditions: &Conds,
     values: &[Ref],

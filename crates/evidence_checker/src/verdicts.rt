@@ -16,7 +16,7 @@ ghost use Rattle.evidence_lookups.specs.code.Grounds.{file_in, known_of, lines_o
 use crate::bodies::{both, either};
 use crate::parts::{part_follows, rule_follows};
 use crate::stops::{conds_stop, disj_stop, is_stop};
-use evidence_lines::{Line, LineKind};
+use evidence_lines::{LineKind, LineList};
 use evidence_lookups::frames::is_file_frame;
 use evidence_lookups::line_context::{LineContext, SitedLine};
 use evidence_lookups::lookup::verdict_said;
@@ -69,8 +69,8 @@ fn rule_line_follows(
     }
     let loose = &context.store.file.raw.loose;
     match piece {
-        Piece::Rule(rule) => rule_follows(context.lines, line.frame, rule, line.cites, verdict),
-        Piece::File => loose_follows(context.lines, line.frame, loose, line.cites, verdict),
+        Piece::Rule(rule) => rule_follows(&context.lines, line.frame, rule, line.cites, verdict),
+        Piece::File => loose_follows(&context.lines, line.frame, loose, line.cites, verdict),
         _ => false,
     }
 }
@@ -86,7 +86,7 @@ fn conj_line_follows(
         (FollowsVerdict (version_of context.now) (known_of context.now) (lines_of context.now) line.entry.frame line.entry.site kind.Conj (Some (see_piece piece.entry)) line.entry.cites.now verdict)
         (FollowsVerdict (version_of context.now) (known_of context.now) (lines_of context.now) line.entry.frame line.entry.site kind.Conj (Some (see_piece piece.entry)) line.entry.cites.now verdict → ⊥) }
 {
-    let lines = context.lines;
+    let lines = &context.lines;
     match piece {
         Piece::Body(body) => conj_follows(lines, line, None, &body.parts, verdict),
         Piece::Conds(conds) => {
@@ -115,7 +115,7 @@ fn disj_line_follows(
     match piece {
         Piece::Disj(disj) => {
             let stop = disj_stop(context.version);
-            disj_follows(context.lines, line, stop, disj, verdict)
+            disj_follows(&context.lines, line, stop, disj, verdict)
         }
         _ => false,
     }
@@ -123,7 +123,7 @@ fn disj_line_follows(
 
 /// Whether a line of the parts outside rules has the verdict of their conjunction, which it cites.
 fn loose_follows(
-    lines: &[Line],
+    lines: &LineList<'_>,
     frame: u64,
     loose: &[Disj],
     cites: &[u64],
@@ -143,7 +143,7 @@ fn loose_follows(
 }
 
 /// Whether the `conj` line of the parts outside rules says a verdict.
-fn is_said(lines: &[Line], number: u64, frame: u64, verdict: Verdict) -> bool
+fn is_said(lines: &LineList<'_>, number: u64, frame: u64, verdict: Verdict) -> bool
     ensures { MatchBool result
         (IsLine lines.now number kind.Conj frame 0 (says.Verdict verdict))
         (IsLine lines.now number kind.Conj frame 0 (says.Verdict verdict) → ⊥) }
@@ -156,7 +156,7 @@ fn is_said(lines: &[Line], number: u64, frame: u64, verdict: Verdict) -> bool
 
 /// Whether a verdict is the conjunction of what cited lines say of disjunctions, up to the one that decides.
 fn conj_follows(
-    lines: &[Line],
+    lines: &LineList<'_>,
     line: SitedLine<'_>,
     stop: Option<Verdict>,
     disjs: &[Disj],
@@ -174,7 +174,7 @@ fn conj_follows(
 
 /// Whether a verdict is the disjunction of what cited lines say of the parts of a disjunction, up to the one that decides.
 fn disj_follows(
-    lines: &[Line],
+    lines: &LineList<'_>,
     line: SitedLine<'_>,
     stop: Option<Verdict>,
     disj: &Disj,
@@ -199,7 +199,7 @@ fn is_same(said: Verdict, verdict: Verdict) -> bool
 
 /// The conjunction of what cited lines say of disjunctions, one line for each up to the one that decides.
 fn conjunction_said(
-    lines: &[Line],
+    lines: &LineList<'_>,
     frame: u64,
     stop: Option<Verdict>,
     disjs: &[Disj],
@@ -225,7 +225,7 @@ fn conjunction_said(
 
 /// The disjunction of what cited lines say of parts, one line for each up to the one that decides.
 fn disjunction_said(
-    lines: &[Line],
+    lines: &LineList<'_>,
     frame: u64,
     stop: Option<Verdict>,
     parts: &[Part],
@@ -260,7 +260,7 @@ fn at_end(left: &[u64], verdict: Verdict) -> Option<Verdict>
 }
 
 /// The verdict that the line of a number says of a part, where it is of the part's kind.
-fn said_of_part(lines: &[Line], number: u64, frame: u64, part: &Part) -> Option<Verdict>
+fn said_of_part(lines: &LineList<'_>, number: u64, frame: u64, part: &Part) -> Option<Verdict>
     ensures { (known : StoreModel) → MatchOption result
         ((verdict : Verdict) → SaysVerdict known lines.now (kind_of_part known lines.now (see_part part.now)) frame (part_site (see_part part.now)) number verdict → ⊥)
         (λ verdict. SaysVerdict known lines.now (kind_of_part known lines.now (see_part part.now)) frame (part_site (see_part part.now)) number verdict) }

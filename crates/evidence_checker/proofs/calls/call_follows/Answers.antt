@@ -17,7 +17,8 @@ returns-then-not-are_kept c =
     let is = is-answered (known_of c.args.context.now) (lines_of c.args.context.now) c.args.line.frame c.args.line.site c.args.line.cites.now c.in_ok-answer.field-0 c.in_ok-answer.ensures.answer c.in-Some.answer c.in-Some.is in
     call-differs (known_of c.args.context.now) (lines_of c.args.context.now) c.args.line.frame c.args.line.site c.args.line.cites.now (map see_made c.in-Some.answer.items) is c.args.rows.now
     (λ same. c.if-not-are_kept.ensures
-    (same ∙ ap (λ (n : ℕ). rows_kept n 0 (map see_made c.in-Some.answer.items)) (sym (add-one many)) ∙ ap (λ (ms : List Made). rows_kept (many + 1) 0 (map see_made ms)) (sym c.deref.ensures.value)))
+    (same ∙ ap (λ (n : ℕ). rows_kept n 0 (map see_made c.in-Some.answer.items)) (sym (add-one many)) ∙ ap (λ (ms : List Made). rows_kept (many + 1) 0 (map see_made ms)) (sym c.deref.ensures.value)
+    ∙ ap (λ (n : ℕ). rows_kept (n + 1) 0 (map see_made c.deref.result.now)) (sym c.len-number.ensures.count)))
 
 pub returns : goal.returns
 returns c =
@@ -26,7 +27,8 @@ returns c =
     let answer = map see_made c.in-Some.answer.items in
     let is = is-answered (known_of c.args.context.now) (lines_of c.args.context.now) c.args.line.frame c.args.line.site c.args.line.cites.now c.in_ok-answer.field-0 c.in_ok-answer.ensures.answer c.in-Some.answer c.in-Some.is in
     let rows : c.args.rows.now ≡ rows_kept (suc many) 0 answer =
-    c.if-not-are_kept.ensures ∙ ap (λ (ms : List Made). rows_kept (many + 1) 0 (map see_made ms)) c.deref.ensures.value ∙ ap (λ (n : ℕ). rows_kept n 0 answer) (add-one many) in
+    c.if-not-are_kept.ensures ∙ ap (λ (n : ℕ). rows_kept (n + 1) 0 (map see_made c.deref.result.now)) c.len-number.ensures.count
+    ∙ ap (λ (ms : List Made). rows_kept (many + 1) 0 (map see_made ms)) c.deref.ensures.value ∙ ap (λ (n : ℕ). rows_kept n 0 answer) (add-one many) in
     record {
       holds = call-follows (known_of c.args.context.now) (lines_of c.args.context.now) c.args.line.frame c.args.line.site c.args.line.cites.now c.args.rows.now answer is rows;
       only = call-same (known_of c.args.context.now) (lines_of c.args.context.now) c.args.line.frame c.args.line.site c.args.line.cites.now answer is c.args.rows.now;

@@ -26,7 +26,6 @@ pub loop-before-init : goal.loop-before-init
 loop-before-init c =
     let start = see_store c.args.store.now in
     record {
-      index = omega arith;
       file = refl;
       behind = behind-none c.version-written.result start;
       judged = c.in_ok-judged.ensures.judged;
@@ -39,31 +38,30 @@ pub invariant_of-context : goal.invariant_of-context
 invariant_of-context c = record {
   book_is = subst (λ (f : File). IsBookOf f c.args.book.now) (sym c.loop-before.invariant.file) c.requires.book;
   owners_are = subst (λ (f : File). AreOwners f c.args.owners.now) (sym c.loop-before.invariant.file) c.requires.owners;
-  judged_are = noted c.first_lines.result.now c.loop-before.judged.of.items (subst (λ (ls : List Line). AreJudged ls c.loop-before.judged.of.items) (sym c.first_lines.ensures) c.loop-before.invariant.judged);
-  sound = subst (λ (ls : List Line). AreSound (see_store c.loop-before.store) ls) (sym c.first_lines.ensures) c.loop-before.invariant.sound;
-  within = subst (λ (n : ℕ). AreMadeWithin n c.loop-before.store.made) (sym (counted c.as_slice-lines.result.now c.first_lines.result.now c.loop-before.before c.index-lines-before.result c.loop-before-test.true c.index-lines-before.is c.first_lines.ensures)) c.loop-before.invariant.made;
+  judged_are = noted c.first.result c.loop-before.judged.of.items (subst (λ (ls : List Line). AreJudged ls c.loop-before.judged.of.items) (sym c.first.ensures) c.loop-before.invariant.judged);
+  sound = subst (λ (ls : List Line). AreSound (see_store c.loop-before.store) ls) (sym c.first.ensures) c.loop-before.invariant.sound;
+  within = subst (λ (n : ℕ). AreMadeWithin n c.loop-before.store.made) (sym (counted c.args.evidence.now.lines c.first.result c.loop-before.before c.in-Some.line (sym c.in-Some.ensures.line) c.first.ensures)) c.loop-before.invariant.made;
 }
 
-pub returns-in_default : goal.returns-in_default
-returns-in_default c =
+pub returns-in_default-2 : goal.returns-in_default-2
+returns-in_default-2 c =
     let start = see_store c.args.store.now in
     let known = see_store c.loop-before.store in
-    let seen = c.first_lines.result.now in
-    let line = c.index-lines-before.result in
+    let seen = c.first.result in
+    let line = c.in-Some.line in
     let version = c.version-written.result in
     let number = c.loop-before.before + 1 in
-    let never = none-made known seen (Follows version known seen line) (λ (k : StoreModel). IsSound k line) c.in_ok-answer.field-0 c.in_default.is c.in_ok-answer.ensures in
+    let never = none-made known seen (Follows version known seen line) (λ (k : StoreModel). IsSound k line) c.in_ok-answer.field-0 c.in_default-2.is c.in_ok-answer.ensures in
     subst (λ (v : Version). IsRejectedAt v start.template start.file c.args.evidence.now.lines number) c.version-written.ensures
-    (subst (λ (ls : List Line). IsRejectedAt version start.template start.file ls number) c.as_slice-lines.ensures.lines
-    (rejected-at version start.template start.file c.as_slice-lines.result.now start number (starts start c.requires.made)
-    (fault-here c.as_slice-lines.result.now c.first_lines.result.now c.loop-before.before c.index-lines-before.result c.loop-before-test.true c.index-lines-before.is c.first_lines.ensures version start known c.loop-before.invariant.behind never)))
+    (rejected-at version start.template start.file c.args.evidence.now.lines start number (starts start c.requires.made)
+    (fault-here c.args.evidence.now.lines c.first.result c.loop-before.before c.in-Some.line (sym c.in-Some.ensures.line) c.first.ensures version start known c.loop-before.invariant.behind never))
 
 pub keep-requires : goal.keep-requires
 keep-requires c =
     let known = see_store c.loop-before.store in
-    let seen = c.first_lines.result.now in
-    let line = c.index-lines-before.result in
-    let made = made-of known seen (Follows c.version-written.result known seen line) (λ (k : StoreModel). IsSound k line) c.in_ok-answer.field-0 c.in-Some.answer c.in-Some.is c.in_ok-answer.ensures in
+    let seen = c.first.result in
+    let line = c.in-Some.line in
+    let made = made-of known seen (Follows c.version-written.result known seen line) (λ (k : StoreModel). IsSound k line) c.in_ok-answer.field-0 c.in-Some-2.answer c.in-Some-2.is c.in_ok-answer.ensures in
     record {
       free = λ row. free-behind c.loop-before.before c.loop-before.store.made (c.loop-before.before + 1) row (add-one c.loop-before.before) c.loop-before.invariant.made;
       plain = made.plain;
@@ -74,16 +72,16 @@ note-requires c =
     let start = see_store c.args.store.now in
     let known = see_store c.loop-before.store in
     let after = see_store c.keep.new.store in
-    let seen = c.first_lines.result.now in
-    let line = c.index-lines-before.result in
+    let seen = c.first.result in
+    let line = c.in-Some.line in
     let version = c.version-written.result in
-    let made = made-of known seen (Follows version known seen line) (λ (k : StoreModel). IsSound k line) c.in_ok-answer.field-0 c.in-Some.answer c.in-Some.is c.in_ok-answer.ensures in
-    let leads = leads-here c.as_slice-lines.result.now c.first_lines.result.now c.loop-before.before c.index-lines-before.result c.loop-before-test.true c.index-lines-before.is c.first_lines.ensures known after c.in-Some.answer.items c.in_ok-keep.ensures version made in
+    let made = made-of known seen (Follows version known seen line) (λ (k : StoreModel). IsSound k line) c.in_ok-answer.field-0 c.in-Some-2.answer c.in-Some-2.is c.in_ok-answer.ensures in
+    let leads = leads-here c.args.evidence.now.lines c.first.result c.loop-before.before c.in-Some.line (sym c.in-Some.ensures.line) c.first.ensures known after c.in-Some-2.answer.items c.in_ok-keep.ensures version made in
     record {
-      shape = shape-here c.as_slice-lines.result.now c.first_lines.result.now c.loop-before.before c.index-lines-before.result c.loop-before-test.true c.index-lines-before.is c.first_lines.ensures version start known c.loop-before.invariant.behind after leads;
+      shape = shape-here c.args.evidence.now.lines c.first.result c.loop-before.before c.in-Some.line (sym c.in-Some.ensures.line) c.first.ensures version start known c.loop-before.invariant.behind after leads;
       site = λ site site_is.
           subst (λ (n : ℕ). site < n) (sym c.loop-before.invariant.sites)
-          (site-here c.as_slice-lines.result.now c.first_lines.result.now c.loop-before.before c.index-lines-before.result c.loop-before-test.true c.index-lines-before.is c.first_lines.ensures version start known c.loop-before.invariant.behind after leads c.loop-before.store.file.now.raw c.loop-before.store.file.now.sites refl site site_is);
+          (site-here c.args.evidence.now.lines c.first.result c.loop-before.before c.in-Some.line (sym c.in-Some.ensures.line) c.first.ensures version start known c.loop-before.invariant.behind after leads c.loop-before.store.file.now.raw c.loop-before.store.file.now.sites refl site site_is);
     }
 
 pub loop-before-preserved : goal.loop-before-preserved
@@ -91,27 +89,25 @@ loop-before-preserved c =
     let start = see_store c.args.store.now in
     let known = see_store c.loop-before.store in
     let after = see_store c.keep.new.store in
-    let lines = c.as_slice-lines.result.now in
-    let seen = c.first_lines.result.now in
+    let lines = c.args.evidence.now.lines in
+    let seen = c.first.result in
     let before = c.loop-before.before in
-    let line = c.index-lines-before.result in
-    let within : before < length lines = c.loop-before-test.true in
+    let line = c.in-Some.line in
     let version = c.version-written.result in
-    let made = made-of known seen (Follows version known seen line) (λ (k : StoreModel). IsSound k line) c.in_ok-answer.field-0 c.in-Some.answer c.in-Some.is c.in_ok-answer.ensures in
-    let leads = leads-here c.as_slice-lines.result.now c.first_lines.result.now c.loop-before.before c.index-lines-before.result c.loop-before-test.true c.index-lines-before.is c.first_lines.ensures known after c.in-Some.answer.items c.in_ok-keep.ensures version made in
-    let file_is : after.file ≡ known.file = file-on c.as_slice-lines.result.now c.first_lines.result.now c.loop-before.before c.index-lines-before.result c.loop-before-test.true c.index-lines-before.is c.first_lines.ensures version start known c.loop-before.invariant.behind after leads in
+    let made = made-of known seen (Follows version known seen line) (λ (k : StoreModel). IsSound k line) c.in_ok-answer.field-0 c.in-Some-2.answer c.in-Some-2.is c.in_ok-answer.ensures in
+    let leads = leads-here c.args.evidence.now.lines c.first.result c.loop-before.before c.in-Some.line (sym c.in-Some.ensures.line) c.first.ensures known after c.in-Some-2.answer.items c.in_ok-keep.ensures version made in
+    let file_is : after.file ≡ known.file = file-on c.args.evidence.now.lines c.first.result c.loop-before.before c.in-Some.line (sym c.in-Some.ensures.line) c.first.ensures version start known c.loop-before.invariant.behind after leads in
     record {
-      index = omega (arith, within);
       file = file_is ∙ c.loop-before.invariant.file;
-      behind = known-on c.as_slice-lines.result.now c.first_lines.result.now c.loop-before.before c.index-lines-before.result c.loop-before-test.true c.index-lines-before.is c.first_lines.ensures version start known c.loop-before.invariant.behind after leads;
+      behind = known-on c.args.evidence.now.lines c.first.result c.loop-before.before c.in-Some.line (sym c.in-Some.ensures.line) c.first.ensures version start known c.loop-before.invariant.behind after leads;
       judged =
-          judged-on c.as_slice-lines.result.now c.first_lines.result.now c.loop-before.before c.index-lines-before.result c.loop-before-test.true c.index-lines-before.is c.first_lines.ensures version start known c.loop-before.invariant.behind after leads c.note.new.self.of.items
-          (c.note.ensures.judged seen (subst (λ (ls : List Line). AreJudged ls c.loop-before.judged.of.items) (sym c.first_lines.ensures) c.loop-before.invariant.judged));
+          judged-on c.args.evidence.now.lines c.first.result c.loop-before.before c.in-Some.line (sym c.in-Some.ensures.line) c.first.ensures version start known c.loop-before.invariant.behind after leads c.note.new.self.of.items
+          (c.note.ensures.judged seen (subst (λ (ls : List Line). AreJudged ls c.loop-before.judged.of.items) (sym c.first.ensures) c.loop-before.invariant.judged));
       sites = c.note.ensures.sites ∙ c.loop-before.invariant.sites ∙ ap (λ (f : File). length f.places) (sym file_is);
       sound =
-          sound-on c.as_slice-lines.result.now c.first_lines.result.now c.loop-before.before c.index-lines-before.result c.loop-before-test.true c.index-lines-before.is c.first_lines.ensures version start known c.loop-before.invariant.behind after leads c.loop-before.invariant.sound
-          (sound-here c.as_slice-lines.result.now c.first_lines.result.now c.loop-before.before c.index-lines-before.result c.loop-before-test.true c.index-lines-before.is c.first_lines.ensures known after c.in-Some.answer.items c.in_ok-keep.ensures version made);
-      made = made-on c.as_slice-lines.result.now c.first_lines.result.now c.loop-before.before c.index-lines-before.result c.loop-before-test.true c.index-lines-before.is c.first_lines.ensures known after c.in-Some.answer.items c.in_ok-keep.ensures c.loop-before.invariant.made;
+          sound-on c.args.evidence.now.lines c.first.result c.loop-before.before c.in-Some.line (sym c.in-Some.ensures.line) c.first.ensures version start known c.loop-before.invariant.behind after leads c.loop-before.invariant.sound
+          (sound-here c.args.evidence.now.lines c.first.result c.loop-before.before c.in-Some.line (sym c.in-Some.ensures.line) c.first.ensures known after c.in-Some-2.answer.items c.in_ok-keep.ensures version made);
+      made = made-on c.args.evidence.now.lines c.first.result c.loop-before.before c.in-Some.line (sym c.in-Some.ensures.line) c.first.ensures known after c.in-Some-2.answer.items c.in_ok-keep.ensures c.loop-before.invariant.made;
     }
 
 pub returns : goal.returns
@@ -120,14 +116,13 @@ returns c =
     let doc = start.template in
     let file = start.file in
     let version = c.version-written.result in
-    let given = c.as_slice-lines.result.now in
-    let lines = c.args.evidence.now.lines in
+    let given = c.args.evidence.now.lines in
     let result = c.answer_of.result in
+    let past : length given ≤ c.loop-before.before = omega (arith, c.loop-before-test.false, c.len-before-end.ensures.count) in
     let follow = subst (λ (k : StoreModel). AllFollow version k [] given) (starts start c.requires.made)
-    (all-behind version start (see_store c.loop-before.store) given c.loop-before.before c.loop-before-test.false c.loop-before.invariant.behind) in
-    let judged = all-judged given c.loop-before.before c.loop-before.judged.of.items c.loop-before-test.false c.loop-before.invariant.judged in
-    subst (λ (v : Version). IfOk result (λ answer. IsAnswer v doc file lines answer)) c.version-written.ensures
-    (subst (λ (ls : List Line). IfOk result (λ answer. IsAnswer version doc file ls answer)) c.as_slice-lines.ensures.lines
+    (all-behind version start (see_store c.loop-before.store) given c.loop-before.before past c.loop-before.invariant.behind) in
+    let judged = all-judged given c.loop-before.before c.loop-before.judged.of.items past c.loop-before.invariant.judged in
+    subst (λ (v : Version). IfOk result (λ answer. IsAnswer v doc file given answer)) c.version-written.ensures
     (subst (λ (raw : RawFile). IfOk result (λ answer. IsAnswer version doc (see_file raw) given answer)) c.raw-syntax.ensures
-    (c.answer_of.ensures version doc given refl judged
-    (subst (λ (raw : RawFile). AllFollow version (nothing_made doc (see_file raw)) [] given) (sym c.raw-syntax.ensures) follow))))
+    (c.answer_of.ensures version doc given c.len.ensures.count judged
+    (subst (λ (raw : RawFile). AllFollow version (nothing_made doc (see_file raw)) [] given) (sym c.raw-syntax.ensures) follow)))

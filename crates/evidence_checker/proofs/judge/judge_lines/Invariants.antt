@@ -1,4 +1,4 @@
-use Rattle.std.proofs.Common.{◌≡◌, ◌≤◌, length, take}
+use Rattle.std.proofs.Common.{◌≡◌, length, take}
 use Rattle.value_compare.specs.code.Stores.{see_store}
 use Rattle.evidence_lookups.specs.code.JudgedSites.{AreJudged}
 use Rattle.evidence_lookups.specs.code.Said.{AreMadeWithin, AreSound}
@@ -7,11 +7,10 @@ use Rattle.evidence_checker.proofs.judge.judge_lines.Given as goal
 
 abbrev pub invariant-loop-before : goal.invariant-loop-before
 invariant-loop-before l = record {
-  index : l.before ≤ length l.lines;
   file : (see_store l.store).file ≡ (see_store l.initial.store).file;
-  behind : IsKnownBehind l.written (see_store l.initial.store) (take l.before l.lines) (see_store l.store);
-  judged : AreJudged (take l.before l.lines) l.judged.of.items;
+  behind : IsKnownBehind l.written (see_store l.initial.store) (take l.before l.evidence.lines) (see_store l.store);
+  judged : AreJudged (take l.before l.evidence.lines) l.judged.of.items;
   sites : length l.judged.of.items ≡ length (see_store l.store).file.places;
-  sound : AreSound (see_store l.store) (take l.before l.lines);
+  sound : AreSound (see_store l.store) (take l.before l.evidence.lines);
   made : AreMadeWithin l.before (see_store l.store).made;
 }
