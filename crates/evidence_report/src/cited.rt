@@ -7,13 +7,13 @@ ghost use Rattle.evidence_lookups.specs.code.Grounds.{known_of, lines_of};
 ghost use Rattle.evidence_truth.specs.code.LineFails.{behind_conds, is_failing, rows_cited, rows_in, rows_of_line, says_fail};
 ghost use Rattle.evidence_report.specs.code.Leads.{current_ref};
 
-use evidence_lines::{Line, Outcome};
+use evidence_lines::{LineList, Outcome};
 use evidence_lookups::line_context::LineContext;
 use evidence_lookups::lookup::{line_of, value_of};
 use guard_syntax::{Conds, Origin, Ref, Row, Verdict};
 
 /// Whether the line of a number says FAIL.
-pub(crate) fn is_failing(lines: &[Line], number: u64) -> bool
+pub(crate) fn is_failing(lines: &LineList<'_>, number: u64) -> bool
     ensures { (known : StoreModel) → result ≡ is_failing known lines.now number }
 {
     match line_of(lines, number) {
@@ -23,7 +23,7 @@ pub(crate) fn is_failing(lines: &[Line], number: u64) -> bool
 }
 
 /// Whether a line says FAIL.
-fn says_fail(outcome: &Outcome) -> bool
+fn says_fail(outcome: &Outcome<'_>) -> bool
     ensures { result ≡ says_fail outcome.now }
 {
     match outcome {
@@ -36,18 +36,18 @@ fn says_fail(outcome: &Outcome) -> bool
 }
 
 /// The rows that the line of a number says; none where it says no rows.
-pub(crate) fn rows_of_line(lines: &[Line], number: u64) -> &[Row]
+pub(crate) fn rows_of_line<'b>(lines: &'b LineList<'_>, number: u64) -> &'b [Row]
     ensures { (known : StoreModel) → result.now ≡ rows_of_line known lines.entry.now number }
 {
     match line_of(lines, number) {
-        Some(line) => rows_in(&line.outcome),
+        Some(line) => rows_in(line.outcome),
         None => &[],
     }
 }
 
 /// The rows of what a line says.
-fn rows_in(outcome: &Outcome) -> &[Row]
-    ensures { result.now ≡ rows_in outcome.entry.now }
+fn rows_in(outcome: Outcome<'_>) -> &[Row]
+    ensures { result.now ≡ rows_in outcome.entry }
 {
     match outcome {
         Outcome::Rows(rows) => rows.as_slice(),
@@ -57,7 +57,7 @@ fn rows_in(outcome: &Outcome) -> &[Row]
 }
 
 /// The rows of the cite of an index; none where there is no such cite.
-pub(crate) fn rows_cited<'b>(lines: &'b [Line], cites: &[u64], index: usize) -> &'b [Row]
+pub(crate) fn rows_cited<'b>(lines: &'b LineList<'_>, cites: &[u64], index: usize) -> &'b [Row]
     ensures { (known : StoreModel) → result.now ≡ rows_cited known lines.entry.now cites.now index }
 {
     match cites.get(index) {
@@ -87,13 +87,13 @@ pub(crate) fn current_ref(context: &LineContext<'_, '_, '_>, frame: Option<u64>)
     // A tree has a root, as `len` says.
     let _nodes = context.store.doc.len();
     match frame {
-        Some(frame) => value_or_root(context.lines, frame),
+        Some(frame) => value_or_root(&context.lines, frame),
         None => root(),
     }
 }
 
 /// The value of a frame, and the root where there is none.
-fn value_or_root(lines: &[Line], frame: u64) -> Ref
+fn value_or_root(lines: &LineList<'_>, frame: u64) -> Ref
     ensures { (known : StoreModel) → result ≡ current_ref known lines.now (Some frame) }
 {
     value_of(lines, frame).unwrap_or(root())

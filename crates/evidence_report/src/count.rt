@@ -44,7 +44,7 @@ pub(crate) fn count_lines(
     ensures counts { IfOk result (λ counts. AreCounts (known_of context.now) (lines_of context.now) counts.items) }
 {
     let mut counts = Vec::new(alloc);
-    for line in context.lines {
+    for _before in 0..context.lines.len() {
         let count = count_next(alloc, context, &counts)?;
         counts.push(count)?;
     }
@@ -62,7 +62,7 @@ fn count_next(
     ensures { IfOk result (λ n. n ≡ count_of (known_of context.now) (lines_of context.now) (suc (length counts.now))) }
 {
     let number = counts.len() as u64 + 1;
-    if !is_failing(context.lines, number) {
+    if !is_failing(&context.lines, number) {
         return Ok(0);
     }
     let leads = leads_of(alloc, context, number)?;

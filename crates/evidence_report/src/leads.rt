@@ -44,8 +44,8 @@ pub(crate) fn leads_of(
     ensures shown { IfOk result (λ leads. All (IsShown (known_of context.now)) leads.items) }
 {
     let mut leads = Vec::new(alloc);
-    if let Some(line) = line_of(context.lines, number) {
-        push_line(alloc, context, line, &mut leads)?;
+    if let Some(line) = line_of(&context.lines, number) {
+        push_line(alloc, context, &line, &mut leads)?;
     }
     Ok(leads)
 }
@@ -54,7 +54,7 @@ pub(crate) fn leads_of(
 fn push_line(
     alloc: Global,
     context: &LineContext<'_, '_, '_>,
-    line: &Line,
+    line: &Line<'_>,
     into: &mut Vec<Lead>,
 ) -> Result<(), AllocError>
     ensures { OnOk result (Appends (known_of context.now) into.old.items into.new.items
@@ -74,7 +74,7 @@ fn push_part(
     alloc: Global,
     context: &LineContext<'_, '_, '_>,
     part: &Part,
-    line: &Line,
+    line: &Line<'_>,
     into: &mut Vec<Lead>,
 ) -> Result<(), AllocError>
     ensures { OnOk result (Appends (known_of context.now) into.old.items into.new.items
@@ -128,13 +128,13 @@ fn push_rows_test(
         part: test.part,
         op: test.op,
         not: test.not,
-        rights: rows_cited(context.lines, cites, 1),
+        rights: rows_cited(&context.lines, cites, 1),
     };
     push_test(
         alloc,
         context,
         &rows,
-        rows_cited(context.lines, cites, 0),
+        rows_cited(&context.lines, cites, 0),
         into,
     )
 }
@@ -145,13 +145,13 @@ fn push_set(
     context: &LineContext<'_, '_, '_>,
     part: u32,
     not: bool,
-    line: &Line,
+    line: &Line<'_>,
     into: &mut Vec<Lead>,
 ) -> Result<(), AllocError>
     ensures { (holds : List Row → Row → Bool) → OnOk result (Appends (known_of context.now) into.old.items into.new.items
         (own (test_entries (known_of context.now) (lines_of context.now) part true not holds line.now.frame line.now.cites))) }
 {
-    let rows = rows_cited(context.lines, line.cites.as_slice(), 0);
+    let rows = rows_cited(&context.lines, line.cites.as_slice(), 0);
     if not {
         let current = current_ref(context, line.frame);
         push_first_missing(context, part, current, rows, into)
@@ -165,7 +165,7 @@ fn push_call(
     context: &LineContext<'_, '_, '_>,
     part: u32,
     not: bool,
-    line: &Line,
+    line: &Line<'_>,
     into: &mut Vec<Lead>,
 ) -> Result<(), AllocError>
     ensures { OnOk result (Appends (known_of context.now) into.old.items into.new.items
@@ -203,7 +203,7 @@ fn push_cite(
     ensures { OnOk result (Appends (known_of context.now) into.old.items into.new.items
         (cite_leads (known_of context.now) (lines_of context.now) cite)) }
 {
-    if is_failing(context.lines, cite) {
+    if is_failing(&context.lines, cite) {
         into.push(Lead::Line(cite))?;
     }
     Ok(())
@@ -236,7 +236,7 @@ fn push_bodies(
     ensures { OnOk result (Appends (known_of context.now) into.old.items into.new.items
         (block_leads (known_of context.now) (lines_of context.now) part (head ∷ bodies.now))) }
 {
-    let rows = rows_of_line(context.lines, head);
+    let rows = rows_of_line(&context.lines, head);
     push_rows(context, part, rows, bodies, into)
 }
 

@@ -3,7 +3,7 @@ ghost use Rattle.std.specs.Prelude.{◌≡◌, None, IfOk, length, slice_index_o
 ghost use Rattle.evidence_lookups.specs.code.Grounds.{file_in, lines_of};
 ghost use Rattle.evidence_report.specs.code.RuleTables.{AreRuleLines, rule_line, ruled_by, ruled_site, with_line};
 
-use evidence_lines::{Line, LineKind, Outcome};
+use evidence_lines::{Line, LineKind, LineList, Outcome};
 use evidence_lookups::line_context::LineContext;
 use evidence_lookups::lookup::line_of;
 use guard_syntax::Verdict;
@@ -27,8 +27,8 @@ pub(crate) fn rule_lines(
 {
     let sites = context.store.file.raw().places.as_slice().len();
     let mut table = vec![in alloc; None; sites]?;
-    for before in 0..context.lines.len() as u64 {
-        note(&mut table, rule_line(context.lines, before + 1));
+    for before in 0..context.lines.len() {
+        note(&mut table, rule_line(&context.lines, before + 1));
     }
     Ok(table)
 }
@@ -46,16 +46,16 @@ fn note(table: &mut Vec<Option<RuleLine>>, line: Option<RuleLine>)
 }
 
 /// The line of a number, where it is a `rule` line that says a verdict.
-fn rule_line(lines: &[Line], number: u64) -> Option<RuleLine>
+fn rule_line(lines: &LineList<'_>, number: u64) -> Option<RuleLine>
     ensures { result ≡ rule_line lines.now number }
 {
     let line = line_of(lines, number)?;
-    let site = ruled_site(line)?;
+    let site = ruled_site(&line)?;
     ruled_by(site, number, &line.outcome)
 }
 
 /// The site of a `rule` line in a frame.
-fn ruled_site(line: &Line) -> Option<u32>
+fn ruled_site(line: &Line<'_>) -> Option<u32>
     ensures { result ≡ ruled_site line.now.kind line.now.frame line.now.site }
 {
     match line.kind {
@@ -68,7 +68,7 @@ fn ruled_site(line: &Line) -> Option<u32>
 }
 
 /// The line of a site and a number, by the verdict that it says.
-fn ruled_by(site: u32, number: u64, outcome: &Outcome) -> Option<RuleLine>
+fn ruled_by(site: u32, number: u64, outcome: &Outcome<'_>) -> Option<RuleLine>
     ensures { result ≡ ruled_by site number outcome.now }
 {
     match outcome {

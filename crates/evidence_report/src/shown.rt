@@ -9,7 +9,7 @@ ghost use Rattle.report_text.specs.code.SeenEntries.{IsShowable, see_shown};
 ghost use Rattle.evidence_rules.specs.code.Judgement.{location_said};
 ghost use Rattle.evidence_lookups.specs.code.Grounds.{known_of, lines_of};
 
-use evidence_lines::Line;
+use evidence_lines::LineList;
 use evidence_lookups::line_context::LineContext;
 use evidence_lookups::lookup::line_of;
 use guard_syntax::{Origin, Ref};
@@ -25,14 +25,14 @@ pub(crate) fn shown(context: &LineContext<'_, '_, '_>, value: Ref) -> Shown
         Origin::Template => Shown::Value(value),
         Origin::Literal(_) => Shown::Value(value),
         Origin::Made { line, .. } => Shown::Made {
-            call: site_of(context.lines, line),
+            call: site_of(&context.lines, line),
             value,
         },
     }
 }
 
 /// The site of the line of a number; 0 where there is none.
-fn site_of(lines: &[Line], number: u64) -> u32
+fn site_of(lines: &LineList<'_>, number: u64) -> u32
     ensures { result ≡ option_map_or (λ (l : Line). unwrap_or l.site 0) (line_of lines.now number) 0 }
 {
     match line_of(lines, number) {

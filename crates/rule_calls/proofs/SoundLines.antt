@@ -1,11 +1,10 @@
 -- What a report may rely on of the lines of an engine: its store knows what they say, and each tree of the store was made by one of them.
-use Rattle.std.proofs.Common.{◌≡◌, ◌↔◌, ℕ, suc, ◌+◌, ◌≤◌, nat_le, true, false, is_some, refl, sym, ap, ◌∙◌, subst, arith, add-one, List, [], ◌∷◌, ◌++◌, length, get_or, slice_get, take, Option, Some, None}
+use Rattle.std.proofs.Common.{◌≡◌, ◌↔◌, ℕ, suc, ◌+◌, ◌≤◌, nat_le, true, false, is_some, refl, sym, ap, ◌∙◌, subst, arith, List, [], ◌∷◌, length, get_or, Option, Some, None}
 use Rattle.std.specs.Prelude.{slice_index_or}
 use Rattle.std.proofs.lemmas.Bool.{and_parts, true≢false}
 use Rattle.std.proofs.lemmas.Bool.Decides.{nat_tests}
-use Rattle.std.proofs.lemmas.List.{take_more}
 use Rattle.std.proofs.lemmas.List.Elements.{All-cons, All-nil}
-use Rattle.std.proofs.lemmas.Option.{get_or_from_slice_get, same_Some, slice_get-get_or, slice_get_within}
+use Rattle.std.proofs.lemmas.Option.{same_Some, slice_get-get_or}
 use Rattle.evidence_lines.specs.Lines.{line_of}
 use Rattle.evidence_lines.specs.declared.line.Line.{Line}
 use Rattle.evidence_lines.specs.declared.line.LineKind.TheVariants as kind
@@ -76,9 +75,3 @@ noted-at lines site (Some verdict) said = ((λ e. absurd (true≢false e)), (λ 
 
 pub noted : (lines : List Line) (table : List (Option Verdict)) → AreJudged lines table → AreNoted lines table
 noted lines table judged site = noted-at lines site (slice_index_or table site None) (judged site)
-
--- one line more
-pub next-line : (lines : List Line) (k : ℕ) (line : Line) → line_of lines (k + 1) ≡ Some line → take k lines ++ line ∷ [] ≡ take (k + 1) lines
-next-line lines k line stands =
-    let there : slice_get lines k ≡ Some line = sym (behind-first lines k) ∙ ap (line_of lines) (sym (add-one k)) ∙ stands in
-    ap (λ (x : Line). take k lines ++ x ∷ []) (sym (get_or_from_slice_get lines k line line there)) ∙ sym (take_more lines k line (slice_get_within lines k line there))

@@ -25,7 +25,7 @@ pub fn judged_lines(engine: &Engine<'_, '_>) -> Result<Judged, AllocError>
             // Each of these numbers has its line.
             unreachable!()
         };
-        judged.note(line);
+        judged.note(&line);
     }
     Ok(judged)
 }
@@ -51,6 +51,6 @@ pub fn line_context<'g, 't, 's>(
         book: engine.book,
         owners,
         judged,
-        lines: engine.evidence.as_slice(),
+        lines: engine.evidence.lines(),
     }
 }

@@ -15,7 +15,7 @@ returns c =
     let sites = length (file_in c.args.context.now).places in
     let past = c.loop-before-test.false in
     let few = c.loop-before.auto.before-end in
-    let all : c.loop-before.before ≡ length lines = omega (arith, past, few) in
+    let all : c.loop-before.before ≡ length lines = omega (arith, past, few, c.len-before-end.ensures.count) in
     let is : c.loop-before.table.items ≡ table_upto lines sites (length lines) = c.loop-before.invariant ∙ ap (table_upto lines sites) all in
     record {
       lines = all-noted lines sites c.loop-before.table.items is;

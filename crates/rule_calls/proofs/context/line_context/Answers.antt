@@ -13,11 +13,11 @@ pub invariant_of-result : goal.invariant_of-result
 invariant_of-result c =
     let e = c.args.engine.now in
     let s = see_engine e in
-    let lines : c.as_slice.result.now ≡ s.lines = c.as_slice.ensures.lines in
+    let lines : c.lines.result ≡ s.lines = c.lines.ensures in
     record {
       book_is = subst (λ (f : RuleFile). IsBookOf (file_of f) e.book.now) (sym e.store_over) e.book_is;
       owners_are = c.requires.owners;
-      judged_are = noted c.as_slice.result.now c.args.judged.now.of.items (subst (λ (ls : List Line). AreJudged ls c.args.judged.now.of.items) (sym lines) c.requires.judged);
+      judged_are = noted c.lines.result c.args.judged.now.of.items (subst (λ (ls : List Line). AreJudged ls c.args.judged.now.of.items) (sym lines) c.requires.judged);
       sound = subst (AreSound s.known) (sym lines) (sound-lines s c.requires.whole);
       within = subst (λ (ls : List Line). AreMadeWithin (length ls) s.known.made) (sym lines) (made-within s c.requires.whole);
     }
