@@ -4,7 +4,6 @@
 
 pub mod book;
 mod equal;
-mod finder;
 mod literals;
 pub mod made;
 pub mod make_book;
@@ -12,7 +11,6 @@ pub mod maker;
 mod matchers;
 mod members;
 mod order;
-pub mod pairs;
 pub mod pattern;
 mod range;
 pub mod replacer;
@@ -26,10 +24,8 @@ pub use book::PatternBook;
 pub use made::MadeTrees;
 pub use make_book::{BookRefusal, pattern_book};
 pub use maker::{PatternFault, PatternMaker, RegexMaker, ScriptMaker};
-pub use pairs::pair;
 pub use pattern::Pattern;
 pub use replacer::Replacer;
 pub use row_tests::row_test;
-pub use rule_meaning::PairAnswer;
 pub use store::Store;
 pub use view::View;

@@ -1,21 +1,23 @@
 //! What finds patterns in texts during one test of a row.
-ghost use Rattle.std.specs.Prelude.{◌≡◌, ℕ, true, IfOk, Some, nat_eq, slice_get};
+ghost use Rattle.std.specs.Prelude.{◌≡◌, ℕ, true, IfOk, Some, nat_eq};
 ghost use Rattle.indexmap.specs.IndexMap.{get};
 ghost use Rattle.value_compare.specs.code.Books.{has_text};
+ghost use Rattle.value_compare.specs.code.Matching.{IsMatcherAt};
 ghost use Rattle.rule_meaning.specs.PatternMatch.{finds};
 
 use crate::book::PatternBook;
-use crate::finder::Finder;
 use indexmap::IndexMap;
+use regex::Matcher;
 use std::alloc::{AllocError, Global};
 
-/// The patterns of a book, with what finds those that were looked for, by their places in the book.
+/// The patterns of a book, with what finds those that were looked for, by their places in the book. The caches of what
+/// finds a pattern grow as it is used.
 #[derive(Drop)]
 pub(crate) struct Matchers<'b> {
     alloc: Global,
     pub(crate) book: &'b PatternBook,
-    made: IndexMap<usize, Finder<'b>>,
-    ghost fit: { (i : ℕ) (f : _) → get nat_eq made i ≡ Some f → slice_get book.now i ≡ Some f.pattern.now },
+    made: IndexMap<usize, Matcher<'b>>,
+    ghost fit: { (i : ℕ) (m : _) → get nat_eq made i ≡ Some m → IsMatcherAt book.now i m },
 }
 
 impl<'b> Matchers<'b> {
@@ -39,11 +41,11 @@ impl<'b> Matchers<'b> {
         let book = self.book;
         let (index, found) = book.find_full(pattern);
         match self.made.get_mut(&index) {
-            Some(finder) => Ok(finder.finds(text)),
+            Some(matcher) => Ok(matcher.is_match(text)),
             None => {
-                let mut finder = Finder::new(self.alloc, found)?;
-                let answer = finder.finds(text);
-                self.made.insert(index, finder)?;
+                let mut matcher = found.matcher(self.alloc)?;
+                let answer = matcher.is_match(text);
+                self.made.insert(index, matcher)?;
                 Ok(answer)
             }
         }
