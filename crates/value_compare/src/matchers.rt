@@ -1,4 +1,4 @@
-//! What finds patterns in texts during one test of a row.
+//! What finds patterns in texts while rows are tested.
 ghost use Rattle.std.specs.Prelude.{◌≡◌, ℕ, true, IfOk, Some, nat_eq};
 ghost use Rattle.indexmap.specs.IndexMap.{get};
 ghost use Rattle.value_compare.specs.code.Books.{has_text};
@@ -11,18 +11,18 @@ use regex::Matcher;
 use std::alloc::{AllocError, Global};
 
 /// The patterns of a book, with what finds those that were looked for, by their places in the book. The caches of what
-/// finds a pattern grow as it is used.
+/// finds a pattern grow as it is used; what it finds is what its pattern says, whatever was looked for before.
 #[derive(Drop)]
-pub(crate) struct Matchers<'b> {
-    alloc: Global,
-    pub(crate) book: &'b PatternBook,
+pub struct Matchers<'b> {
+    pub(crate) alloc: Global,
+    pub book: &'b PatternBook,
     made: IndexMap<usize, Matcher<'b>>,
     ghost fit: { (i : ℕ) (m : _) → get nat_eq made i ≡ Some m → IsMatcherAt book.now i m },
 }
 
 impl<'b> Matchers<'b> {
     /// Over a book. It takes no memory before a pattern is looked for.
-    pub(crate) fn new(alloc: Global, book: &'b PatternBook) -> Matchers<'b>
+    pub fn new(alloc: Global, book: &'b PatternBook) -> Matchers<'b>
         ensures { result.book.now ≡ book.entry.now }
     {
         Matchers {

@@ -23,7 +23,8 @@ pub(crate) fn within(
 ) -> Result<bool, AllocError>
     requires some { is_some_right (map see_view rights.now) ≡ true }
     requires held { list_all (λ r. covers matchers.old.book.now (see_view r)) rights.now ≡ true }
-    ensures { IfOk result (λ b. b ≡ is_in (is_list (see_view left.entry).kind) (see_view left.entry) (map see_view rights.entry.now)) }
+    ensures answer { IfOk result (λ b. b ≡ is_in (is_list (see_view left.entry).kind) (see_view left.entry) (map see_view rights.entry.now)) }
+    ensures kept { matchers.new.book.now ≡ matchers.old.book.now }
 {
     if is_member(matchers, left, rights)? {
         return Ok(true);
@@ -42,7 +43,8 @@ pub(crate) fn outside(
 ) -> Result<bool, AllocError>
     requires some { is_some_right (map see_view rights.now) ≡ true }
     requires held { list_all (λ r. covers matchers.old.book.now (see_view r)) rights.now ≡ true }
-    ensures { IfOk result (λ b. b ≡ is_not_in (is_list (see_view left.entry).kind) (see_view left.entry) (map see_view rights.entry.now)) }
+    ensures answer { IfOk result (λ b. b ≡ is_not_in (is_list (see_view left.entry).kind) (see_view left.entry) (map see_view rights.entry.now)) }
+    ensures kept { matchers.new.book.now ≡ matchers.old.book.now }
 {
     let Some(list) = list_of(left) else {
         return is_outside_each(matchers, left, rights);
@@ -129,7 +131,8 @@ fn is_outside_each(
     rights: &[View<'_, '_>],
 ) -> Result<bool, AllocError>
     requires { list_all (λ r. covers matchers.old.book.now (see_view r)) rights.now ≡ true }
-    ensures { IfOk result (λ b. b ≡ list_all (λ r. is_no (member (see_view left.entry) r)) (map see_view rights.entry.now)) }
+    ensures answer { IfOk result (λ b. b ≡ list_all (λ r. is_no (member (see_view left.entry) r)) (map see_view rights.entry.now)) }
+    ensures kept { matchers.new.book.now ≡ matchers.old.book.now }
 {
     for right in rights {
         match member(matchers, left, *right)? {
@@ -147,7 +150,8 @@ fn are_members(
     rights: &[View<'_, '_>],
 ) -> Result<bool, AllocError>
     requires { list_all (λ r. covers matchers.old.book.now (see_view r)) rights.now ≡ true }
-    ensures { IfOk result (λ b. b ≡ list_all (is_member_of_some (map see_view rights.entry.now)) (values_in (kids_at list.entry.doc.now list.entry.id))) }
+    ensures answer { IfOk result (λ b. b ≡ list_all (is_member_of_some (map see_view rights.entry.now)) (values_in (kids_at list.entry.doc.now list.entry.id))) }
+    ensures kept { matchers.new.book.now ≡ matchers.old.book.now }
 {
     for i in 0..list.len() {
         if !is_member(matchers, View::At(list.child(i)), rights)? {
@@ -164,7 +168,8 @@ fn has_member(
     rights: &[View<'_, '_>],
 ) -> Result<bool, AllocError>
     requires { list_all (λ r. covers matchers.old.book.now (see_view r)) rights.now ≡ true }
-    ensures { IfOk result (λ b. b ≡ list_any (is_member_of_some (map see_view rights.entry.now)) (values_in (kids_at list.entry.doc.now list.entry.id))) }
+    ensures answer { IfOk result (λ b. b ≡ list_any (is_member_of_some (map see_view rights.entry.now)) (values_in (kids_at list.entry.doc.now list.entry.id))) }
+    ensures kept { matchers.new.book.now ≡ matchers.old.book.now }
 {
     for i in 0..list.len() {
         if is_member(matchers, View::At(list.child(i)), rights)? {

@@ -11,7 +11,6 @@ ghost use Rattle.rule_meaning.specs.RowTests.{binary, found_of, is_binary, is_so
 ghost use Rattle.value_compare.specs.code.Stores.{see_store};
 ghost use Rattle.value_compare.specs.code.Views.{see_view};
 
-use crate::book::PatternBook;
 use crate::equal::pair_equal;
 use crate::matchers::Matchers;
 use crate::members::{outside, within};
@@ -24,21 +23,22 @@ use rule_meaning::PairAnswer;
 use std::alloc::{AllocError, Global};
 
 /// Whether a left row passes a test against the right rows; a unary test has none. The store knows each row, and the book
-/// was made of the store's rule file. Memory is taken only to compare a value by `==` or `IN` with right values that are there.
+/// of the matchers was made of the store's rule file. Memory is taken only to compare a value by `==` or `IN` with right
+/// values that are there.
 pub fn row_test(
-    alloc: Global,
+    matchers: &mut Matchers<'_>,
     op: Op,
     not: bool,
     left: &Row,
     right: &[Row],
     store: &Store<'_, '_>,
-    book: &PatternBook,
 ) -> Result<bool, AllocError>
     requires order { is_order op ≡ true → not ≡ false }
     requires left { is_known (see_store store.now) left.now ≡ true }
     requires right { list_all (is_known (see_store store.now)) right.now ≡ true }
-    requires book { IsBookOf (see_file store.now.file.now.raw) book.now }
+    requires book { IsBookOf (see_file store.now.file.now.raw) matchers.old.book.now }
     ensures answer { IfOk result (λ passes. passes ≡ row_test_of op not (meant (see_store store.now) left.now) (map (meant (see_store store.now)) right.now)) }
+    ensures kept { matchers.new.book.now ≡ matchers.old.book.now }
     ensures no_memory_unary { is_binary op ≡ false → IsOk result }
     ensures no_memory_order { is_order op ≡ true → IsOk result }
     ensures no_memory_left { meant (see_store store.now) left.now ≡ None → IsOk result }
@@ -57,9 +57,8 @@ pub fn row_test(
     if is_order(op) {
         return Ok(stands_to_each(op, left, right, store));
     }
-    let rights = found_rows(alloc, right, store)?;
-    let mut matchers = Matchers::new(alloc, book);
-    binary_test(&mut matchers, op, not, left, &rights)
+    let rights = found_rows(matchers.alloc, right, store)?;
+    binary_test(matchers, op, not, left, &rights)
 }
 
 /// Whether a test asks for an order.
@@ -132,7 +131,8 @@ fn binary_test(
     requires order { is_order op ≡ false }
     requires some { is_some_right (map see_view rights.now) ≡ true }
     requires held { list_all (λ r. covers matchers.old.book.now (see_view r)) rights.now ≡ true }
-    ensures { IfOk result (λ passes. passes ≡ binary op not (see_view left.entry) (map see_view rights.entry.now)) }
+    ensures answer { IfOk result (λ passes. passes ≡ binary op not (see_view left.entry) (map see_view rights.entry.now)) }
+    ensures kept { matchers.new.book.now ≡ matchers.old.book.now }
 {
     match op {
         Op::Eq => {
@@ -160,7 +160,8 @@ fn equals_some(
     rights: &[View<'_, '_>],
 ) -> Result<bool, AllocError>
     requires { list_all (λ r. covers matchers.old.book.now (see_view r)) rights.now ≡ true }
-    ensures { IfOk result (λ b. b ≡ list_any (λ r. is_yes (equal (see_view left.entry) r)) (map see_view rights.entry.now)) }
+    ensures answer { IfOk result (λ b. b ≡ list_any (λ r. is_yes (equal (see_view left.entry) r)) (map see_view rights.entry.now)) }
+    ensures kept { matchers.new.book.now ≡ matchers.old.book.now }
 {
     for right in rights {
         match pair_equal(matchers, left, *right)? {
@@ -178,7 +179,8 @@ fn differs_from_each(
     rights: &[View<'_, '_>],
 ) -> Result<bool, AllocError>
     requires { list_all (λ r. covers matchers.old.book.now (see_view r)) rights.now ≡ true }
-    ensures { IfOk result (λ b. b ≡ list_all (λ r. is_no (equal (see_view left.entry) r)) (map see_view rights.entry.now)) }
+    ensures answer { IfOk result (λ b. b ≡ list_all (λ r. is_no (equal (see_view left.entry) r)) (map see_view rights.entry.now)) }
+    ensures kept { matchers.new.book.now ≡ matchers.old.book.now }
 {
     for right in rights {
         match pair_equal(matchers, left, *right)? {

@@ -9,8 +9,8 @@ use Rattle.value_compare.proofs.Nodes.{length-values_in}
 use Rattle.value_compare.proofs.Walks.{all_hit, all_more, all_end}
 use Rattle.value_compare.proofs.members.are_members.Goals as goal
 
-pub returns-then-not-branch : goal.returns-then-not-branch
-returns-then-not-branch c =
+pub returns-then-not-branch-clause-answer : goal.returns-then-not-branch-clause-answer
+returns-then-not-branch-clause-answer c =
     let kids : Forest = kids_at c.args.list.doc.now c.args.list.id in
     let within : c.loop-i.i < count kids = omega arith in
     sym (all_hit (is_member_of_some (map see_view c.args.rights.now)) (values_in kids) c.loop-i.i (value_at c.child.result.doc.now c.child.result.id) (item_within kids c.loop-i.i within)
@@ -27,8 +27,8 @@ loop-i-preserved c =
           c.loop-i.invariant.before (sym c.in_ok-is_member.ensures.answer ∙ c.if-not-branch.false);
     }
 
-pub returns : goal.returns
-returns c =
+pub returns-clause-answer : goal.returns-clause-answer
+returns-clause-answer c =
     let kids : Forest = kids_at c.args.list.doc.now c.args.list.id in
     let same = length-values_in kids in
     sym (all_end (is_member_of_some (map see_view c.args.rights.now)) (values_in kids) c.loop-i.i (omega arith) c.loop-i.invariant.before)

@@ -9,8 +9,8 @@ use Rattle.value_compare.proofs.Nodes.{length-values_in}
 use Rattle.value_compare.proofs.Walks.{any_hit, any_more, any_end}
 use Rattle.value_compare.proofs.members.has_member.Goals as goal
 
-pub returns-then-branch : goal.returns-then-branch
-returns-then-branch c =
+pub returns-then-branch-clause-answer : goal.returns-then-branch-clause-answer
+returns-then-branch-clause-answer c =
     let kids : Forest = kids_at c.args.list.doc.now c.args.list.id in
     let within : c.loop-i.i < count kids = omega arith in
     sym (any_hit (is_member_of_some (map see_view c.args.rights.now)) (values_in kids) c.loop-i.i (value_at c.child.result.doc.now c.child.result.id) (item_within kids c.loop-i.i within)
@@ -27,8 +27,8 @@ loop-i-preserved c =
           c.loop-i.invariant.before (sym c.in_ok-is_member.ensures.answer ∙ c.if-branch.false);
     }
 
-pub returns : goal.returns
-returns c =
+pub returns-clause-answer : goal.returns-clause-answer
+returns-clause-answer c =
     let kids : Forest = kids_at c.args.list.doc.now c.args.list.id in
     let same = length-values_in kids in
     sym (any_end (is_member_of_some (map see_view c.args.rights.now)) (values_in kids) c.loop-i.i (omega arith) c.loop-i.invariant.before)

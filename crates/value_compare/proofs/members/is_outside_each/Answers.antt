@@ -7,8 +7,8 @@ use Rattle.value_compare.proofs.AnswerKinds.{not_no}
 use Rattle.value_compare.proofs.Walks.{all_hit, all_more, seen_at, seen_within}
 use Rattle.value_compare.proofs.members.is_outside_each.Goals as goal
 
-pub returns-in-Yes : goal.returns-in-Yes
-returns-in-Yes c =
+pub returns-in-Yes-clause-answer : goal.returns-in-Yes-clause-answer
+returns-in-Yes-clause-answer c =
     sym (all_hit (λ (r : Value). is_no (member (see_view c.args.left) r)) (map see_view c.args.rights.now) c.loop-right.right-index (see_view c.right-item.result)
     (seen_within see_view c.args.rights.now c.loop-right.right-index c.loop-right-test.true) (seen_at see_view c.args.rights.now c.loop-right.right-index c.right-item.result c.loop-right-test.true c.right-item.is)
     (not_no c.in_ok-member.field-0 (member (see_view c.args.left) (see_view c.right-item.result)) c.in_ok-member.ensures.answer c.in-Yes.is))

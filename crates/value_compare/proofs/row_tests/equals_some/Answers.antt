@@ -6,8 +6,8 @@ use Rattle.value_compare.proofs.AnswerKinds.{not_yes}
 use Rattle.value_compare.proofs.Walks.{any_hit, any_more, seen_at, seen_within}
 use Rattle.value_compare.proofs.row_tests.equals_some.Goals as goal
 
-pub returns-in-Yes : goal.returns-in-Yes
-returns-in-Yes c =
+pub returns-in-Yes-clause-answer : goal.returns-in-Yes-clause-answer
+returns-in-Yes-clause-answer c =
     sym (any_hit (λ (r : Value). is_yes (equal (see_view c.args.left) r)) (map see_view c.args.rights.now) c.loop-right.right-index (see_view c.right-item.result)
     (seen_within see_view c.args.rights.now c.loop-right.right-index c.loop-right-test.true) (seen_at see_view c.args.rights.now c.loop-right.right-index c.right-item.result c.loop-right-test.true c.right-item.is)
     (ap is_yes (sym c.in_ok-pair_equal.ensures.answer ∙ c.in-Yes.is)))

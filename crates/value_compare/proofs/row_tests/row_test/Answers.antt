@@ -1,4 +1,4 @@
-use Rattle.std.proofs.Common.{List, map, ap, sym, ◌∙◌}
+use Rattle.std.proofs.Common.{List, map, refl, ap, sym, ◌∙◌}
 use Rattle.rule_meaning.specs.RowTests.{is_some_right}
 use Rattle.rule_meaning.specs.Values.{Value}
 use Rattle.value_compare.specs.code.Views.{see_view}
@@ -8,8 +8,8 @@ use Rattle.value_compare.proofs.row_tests.row_test.Goals as goal
 
 pub binary_test-requires-clause-held : goal.binary_test-requires-clause-held
 binary_test-requires-clause-held c =
-    rights-held c.args.book.now c.new-matchers.result.book.now c.in_ok-rights.rights.items c.deref.result.now c.new-matchers.ensures c.deref.ensures.value
-    (c.in_ok-rights.ensures.held c.args.book.now c.requires.book)
+    rights-held c.args.matchers.now.book.now c.args.matchers.now.book.now c.in_ok-rights.rights.items c.deref.result.now refl c.deref.ensures.value
+    (c.in_ok-rights.ensures.held c.args.matchers.now.book.now c.requires.book)
 
 pub binary_test-requires-clause-some : goal.binary_test-requires-clause-some
 binary_test-requires-clause-some c =
