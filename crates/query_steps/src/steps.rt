@@ -15,7 +15,7 @@ use crate::reached::{entries_of, entry_of, inside_of, item_of, key_of, kind_of};
 use doc_values::Kind;
 use guard_syntax::{Op, Ref, Row, Step, StepForm};
 use std::alloc::{AllocError, Global};
-use value_compare::{PatternBook, Store, View};
+use value_compare::{Matchers, PatternBook, Store, View};
 
 /// What a step other than a filter gives for the rows before it; a start has one, the current value. `last` is whether it
 /// is its query's last, `rows` are those of the variable that it names or of a key filter's right side. A missing row stays
@@ -245,7 +245,8 @@ fn push_keyed(
     match kind_of(value, store) {
         Kind::Map => {
             let entries = entries_of(alloc, value, store)?;
-            push_passing(alloc, op, not, rights, &entries, store, book, into)
+            let mut matchers = Matchers::new(alloc, book);
+            push_passing(&mut matchers, op, not, rights, &entries, store, into)
         }
         _ => push_found(site, value, None, into),
     }
@@ -253,23 +254,22 @@ fn push_keyed(
 
 /// Adds the entries whose keys pass a test.
 fn push_passing(
-    alloc: Global,
+    matchers: &mut Matchers<'_>,
     op: Op,
     not: bool,
     rights: &[Row],
     entries: &[Ref],
     store: &Store<'_, '_>,
-    book: &PatternBook,
     into: &mut Vec<Row>,
 ) -> Result<(), AllocError>
     requires rights { list_all (is_known (see_store store.now)) rights.now ≡ true }
     requires keys { list_all (λ r. is_known_ref (see_store store.now) (key_of r)) entries.now ≡ true }
-    requires book { IsBookOf (see_store store.now).file book.now }
+    requires book { IsBookOf (see_store store.now).file matchers.old.book.now }
     ensures { OnOk result (into.new.items ≡ into.old.items ++ map Found (filter (λ r. passes (see_store store.now) op not rights.now (Found (key_of r))) entries.now)) }
 {
     for entry in entries {
         let key = Row::Found(key_of(*entry));
-        let passes = row_passes(alloc, op, not, &key, rights, store, book)?;
+        let passes = row_passes(matchers, op, not, &key, rights, store)?;
         push_if(passes, *entry, into)?;
     }
     Ok(())

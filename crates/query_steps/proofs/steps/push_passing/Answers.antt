@@ -16,14 +16,17 @@ row_passes-requires c =
     record {
       left = ap (is_known_ref k) c.key_of.ensures ∙ AllPass-from_list_all (λ (r : Ref). is_known_ref k (key_of r)) c.args.entries.now c.requires.keys c.loop-entry.entry-index _ c.loop-entry-test.true;
       rights = c.requires.rights;
-      book = c.requires.book;
+      book = rw c.loop-entry.invariant.kept c.requires.book;
     }
 
 pub loop-entry-preserved : goal.loop-entry-preserved
 loop-entry-preserved c =
     let k = see_store c.args.store.now in
-    kept-more (λ (r : Ref). passes k c.args.op c.args.not c.args.rights.now (Found (key_of r))) c.args.entries.now c.loop-entry.entry-index _ c.args.into.now.items c.loop-entry.into.items c.push_if.new.into.items
-    c.in_ok-passes.passes c.loop-entry-test.true (c.in_ok-passes.ensures.answer ∙ ap (λ (r : Ref). passes k c.args.op c.args.not c.args.rights.now (Found r)) c.key_of.ensures) c.loop-entry.invariant c.in_ok-push_if.ensures
+    record {
+      kept = c.row_passes.ensures.kept ∙ c.loop-entry.invariant.kept;
+      added = kept-more (λ (r : Ref). passes k c.args.op c.args.not c.args.rights.now (Found (key_of r))) c.args.entries.now c.loop-entry.entry-index _ c.args.into.now.items c.loop-entry.into.items c.push_if.new.into.items
+          c.in_ok-passes.passes c.loop-entry-test.true (c.in_ok-passes.ensures.answer ∙ ap (λ (r : Ref). passes k c.args.op c.args.not c.args.rights.now (Found r)) c.key_of.ensures) c.loop-entry.invariant.added c.in_ok-push_if.ensures;
+    }
 
 pub returns : goal.returns
 returns c = grind (arith, common_steps)

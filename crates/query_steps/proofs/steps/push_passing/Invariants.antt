@@ -7,4 +7,7 @@ use Rattle.rule_meaning.specs.Reached.{key_of}
 use Rattle.query_steps.proofs.steps.push_passing.Given as goal
 
 abbrev pub invariant-loop-entry : goal.invariant-loop-entry
-invariant-loop-entry l = l.into.items ≡ l.initial.into.items ++ map Found (filter (λ (r : Ref). passes (see_store l.store) l.op l.not l.rights (Found (key_of r))) (take l.entry-index l.entries))
+invariant-loop-entry l = record {
+  kept : l.matchers.book.now ≡ l.initial.matchers.book.now;
+  added : l.into.items ≡ l.initial.into.items ++ map Found (filter (λ (r : Ref). passes (see_store l.store) l.op l.not l.rights (Found (key_of r))) (take l.entry-index l.entries));
+}
