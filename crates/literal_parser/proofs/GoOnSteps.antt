@@ -181,15 +181,16 @@ module _ (s : ℕ → Lexeme) (n : ℕ) (ends : form (s n) ≡ 0) where
         record { lives = took f from (clear here) st (max seen st.at) less is (past_tight from.near (λ x. false) st seen less tight) sub moves }
     helper false miss = failed true from (clear here) (λ w. takes w f) st _ (not_far f from.near st seen tight near miss)
 
-  pub opens_at : {l : ℕ} (side : Side) (st : State) (seen : ℕ) → st.at ≤ n → go.Tight s n side.near st seen → go.LivesAt s n l l false side side (opens s st seen) opens st
+  pub opens_at : {l : ℕ} (side : Side) (number : ℕ → ℕ) (others : (ℕ → Lexeme) → ℕ → ℕ) → ((k : ℕ) → number k ≡ k) → ((w : ℕ → Lexeme) (k : ℕ) → others w k ≡ k)
+      → (st : State) (seen : ℕ) → st.at ≤ n → go.Tight s n side.near st seen → go.LivesAt s n l l false side side (opens s number st seen) (λ w. opens w (others w)) st
   unfolding opens
-  opens_at side st seen within tight = record {
+  opens_at side number others exact alike st seen within tight = record {
     lives = record {
       within = within;
       grows = omega arith;
       tight = go.tight_at s n side.near st seen within tight;
       level = λ e. e;
-      stays = λ w agree fits. (fits, λ k. gives_opens w _ st _ k (refl, ap (λ p. opened p st) (sym (from w agree fits (nat_eq st.at n) refl))));
+      stays = λ w agree fits. (fits, λ k. gives_opens w (others w) (alike w) _ st _ k (exact (length st.places), ap (λ p. opened p st) (sym (from w agree fits (nat_eq st.at n) refl))));
     };
   } where
     from : (w : ℕ → Lexeme) → go.Agree s n w → go.Fits s n side w st → (e : Bool) → nat_eq st.at n ≡ e → (w st.at).from ≡ (s st.at).from
@@ -369,14 +370,14 @@ module _ (s : ℕ → Lexeme) (n : ℕ) (ends : form (s n) ≡ 0) where
     goes = λ w spells meets. (meets, λ k. gives);
   }
 
-  pub opens_starts : {l : ℕ} (to : ℕ → Bool) → go.Starts s n l l to to opens
-  opens_starts to st late = record {
+  pub opens_starts : {l : ℕ} (to : ℕ → Bool) (others : (ℕ → Lexeme) → ℕ → ℕ) → ((w : ℕ → Lexeme) (k : ℕ) → others w k ≡ k) → go.Starts s n l l to to (λ w. opens w (others w))
+  opens_starts to others alike st late = record {
     more = [];
     value = length st.places;
     last = opened (s n).from st;
     ends = omega arith;
     flows = λ w spells stands. stands;
-    goes = λ w spells meets. (meets, λ k. gives_opens w _ st _ k (refl, ap (λ p. opened p st) (sym meets.1)));
+    goes = λ w spells meets. (meets, λ k. gives_opens w (others w) (alike w) _ st _ k (refl, ap (λ p. opened p st) (sym meets.1)));
   }
 
   pub ranged_starts : {l : ℕ} (unlike : Bool) (place : ℕ) (to : ℕ → Bool) → go.Starts s n l l to to (λ w. note_range unlike place)
@@ -495,8 +496,12 @@ module _ (s : ℕ → Lexeme) (n : ℕ) (ends : form (s n) ≡ 0) where
       → go.Live s n l (suc l) floor true (clear (only word)) (clear to) (takes s f) (λ w. takes w f)
   up_live {l = l} {floor = floor} f word to never is sub place = record { lives = up_lives {floor = floor} f to never sub; starts = takes_starts_by f word to is (goes_up f l sub) (has_place f l place) }
 
-  pub opens_live : {l floor : ℕ} {side : Side} → go.Live s n l l floor false side side (opens s) opens
-  opens_live {side = side} = record { lives = λ st seen above within tight. opens_at side st seen within tight; starts = opens_starts side.here }
+  pub opens_live : {l floor : ℕ} {side : Side} (number : ℕ → ℕ) (others : (ℕ → Lexeme) → ℕ → ℕ) → ((k : ℕ) → number k ≡ k) → ((w : ℕ → Lexeme) (k : ℕ) → others w k ≡ k)
+      → go.Live s n l l floor false side side (opens s number) (λ w. opens w (others w))
+  opens_live {side = side} number others exact alike = record {
+    lives = λ st seen above within tight. opens_at side number others exact alike st seen within tight;
+    starts = opens_starts side.here others alike;
+  }
 
   pub pure_live : {A : Type 0} {l floor : ℕ} {side : Side} (a : A) → go.Live s n l l floor false side side (λ st seen. Read a st seen) (λ w st seen. Read a st seen)
   pure_live {side = side} a = record { lives = λ st seen above within tight. pure_at side a st seen within tight; starts = pure_starts a side.here }

@@ -13,9 +13,10 @@ unfolding note_range
 ranged_sound unlike place st seen = done refl
 
 module _ (s : ℕ → Lexeme) where
-  pub opens_sound : Sound (opens s) (Opens s)
+  -- where each site has the number of those before it
+  pub opens_sound : (number : ℕ → ℕ) → ((k : ℕ) → number k ≡ k) → Sound (opens s number) (Opens s)
   unfolding opens
-  opens_sound st seen = done (refl, refl)
+  opens_sound number exact st seen = done (exact (length st.places), refl)
 
   took : (f : ℕ → Bool) (st : State) (seen : ℕ) (b : Bool) → f (form (s st.at)) ≡ b
       → Holds (cond b (Read tt (past st) (max seen st.at)) (Fail (max seen st.at))) (λ (_ : One) m. Takes s f st m)
@@ -71,9 +72,9 @@ unfolding note_range
 gives_ranged unlike at a b seen e = here e
 
 module _ (s : ℕ → Lexeme) where
-  pub gives_opens : (n : ℕ) (a b : State) (seen : ℕ) → Opens s n a b → Gives (opens s a seen) n b
+  pub gives_opens : (number : ℕ → ℕ) → ((k : ℕ) → number k ≡ k) → (n : ℕ) (a b : State) (seen : ℕ) → Opens s n a b → Gives (opens s number a seen) n b
   unfolding opens
-  gives_opens n a b seen o = record { given = (sym o.0, sym o.1) }
+  gives_opens number exact n a b seen o = record { given = (exact (length a.places) ∙ sym o.0, sym o.1) }
 
   pub gives_takes : (f : ℕ → Bool) (a b : State) (seen : ℕ) → Takes s f a b → Gives (takes s f a seen) tt b
   unfolding takes
@@ -159,9 +160,10 @@ module _ (s w : ℕ → Lexeme) where
   either_way true a m n = refl
   either_way false a m n = refl
 
-  pub opens_local : Local (opens s) (opens w)
+  pub opens_local : (g h : ℕ → ℕ) → g ≡ h → Local (opens s g) (opens w h)
   unfolding opens
-  opens_local st seen = one (λ x. Read (length st.places) (opened x.from st) (max seen st.at)) st.at seen (λ x. refl)
+  opens_local g h e st seen = subst (λ (k : ℕ → ℕ). Alike seen (opens s g st seen) (opens w k st seen)) e
+      (one (λ x. Read (g (length st.places)) (opened x.from st) (max seen st.at)) st.at seen (λ x. refl))
 
   pub takes_local : (f : ℕ → Bool) → Local (takes s f) (takes w f)
   unfolding takes

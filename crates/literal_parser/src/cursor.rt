@@ -6,7 +6,7 @@ ghost use Rattle.literal_parser.specs.Forms.{form, is_end, is_index, is_number, 
 ghost use Rattle.literal_parser.specs.code.TokenClasses.{shape_form, shape_of, wants};
 ghost use Rattle.literal_parser.specs.code.Parser as spec;
 ghost use Rattle.literal_parser.specs.code.Parser.{Read};
-ghost use Rattle.literal_parser.specs.code.Reads.{Reads, itself, state_of, source};
+ghost use Rattle.literal_parser.specs.code.Reads.{Reads, itself, site_of, state_of, source};
 
 use crate::lexeme::{index_of, number_of, operator_of, sign_of, text_of};
 use crate::token_class::{TokenClass, TokenTest};
@@ -14,6 +14,9 @@ use crate::token_cursor::{Cursor, Tokens};
 use doc_values::Num;
 use guard_syntax::{Name, Op, Text};
 use std::alloc::{AllocError, AllocFailed, Global};
+
+/// No text within the limit comes near this number of sites.
+const LAST_SITE: usize = u32::MAX as usize;
 
 /// Why reading goes no further.
 #[derive(Clone, Copy, Debug, PartialEq, Eq)]
@@ -171,12 +174,10 @@ impl Cursor {
     /// Begins a part, and answers its site.
     #[tactic(auto, unfolding(crate::specs::code::Parser::opens))]
     pub fn opens(&mut self, tokens: Tokens<'_>) -> Result<u32, Halt>
-        ensures { Reads itself (spec.opens (source tokens.entry) (state_of self.old) self.old.seen) result self.new }
+        ensures { Reads itself (spec.opens (source tokens.entry) site_of (state_of self.old) self.old.seen) result self.new }
     {
         self.seen = self.seen.max(self.at);
-        let Ok(site) = u32::try_from(self.places.len()) else {
-            return Err(Halt::NoMemory);
-        };
+        let site = self.places.len().min(LAST_SITE) as u32;
         self.places.push(tokens.from(self.at))?;
         Ok(site)
     }

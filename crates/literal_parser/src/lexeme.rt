@@ -99,7 +99,7 @@ pub fn shapes_of(alloc: Global, text: &str, tokens: &[Token]) -> Result<Vec<Toke
     for token in tokens {
         match shapes.push(shape_of(text, *token)) {
             Ok(()) => {}
-            Err(_) => return Err(AllocError),
+            Err(_) => unreachable!(),
         }
     }
     Ok(shapes)

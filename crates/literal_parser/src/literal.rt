@@ -211,14 +211,13 @@ fn begun(builder: &mut DocBuilder<'static>, map: bool, at: u32) -> Result<(), Ha
 }
 
 /// The innermost list or map ends.
-fn ended(builder: &mut DocBuilder<'static>) -> Result<(), Halt>
+fn ended(builder: &mut DocBuilder<'static>)
     requires awaited { MayEnd builder.old }
-    ensures ok { OnOk result (builder.new ≡ with_end builder.old) }
-    ensures refused { IfErr result (λ e. e ≡ Halt.NoMemory) }
+    ensures { builder.new ≡ with_end builder.old }
 {
     match builder.end() {
-        Ok(()) => Ok(()),
-        Err(_) => Err(Halt::NoMemory),
+        Ok(()) => {}
+        Err(_) => unreachable!(),
     }
 }
 
@@ -244,7 +243,7 @@ fn list(
     begun(builder, false, from)?;
     items(alloc, tokens, cursor, builder, depth - 1)?;
     cursor.takes(tokens, TokenTest::RBracket)?;
-    ended(builder)?;
+    ended(builder);
     Ok(())
 }
 
@@ -318,7 +317,7 @@ fn map(
     begun(builder, true, from)?;
     entries(alloc, tokens, cursor, builder, depth - 1)?;
     cursor.takes(tokens, TokenTest::RBrace)?;
-    ended(builder)?;
+    ended(builder);
     Ok(())
 }
 
@@ -391,7 +390,7 @@ fn entry(
     match builder.key(CowStr::Owned(key.into_string()), from) {
         Ok(()) => {}
         Err(BuildRefusal::DuplicateKey(_)) => return Err(Halt::Dead(cursor.seen)),
-        Err(_) => return Err(Halt::NoMemory),
+        Err(_) => unreachable!(),
     }
     cursor.takes(tokens, TokenTest::Colon)?;
     node(alloc, tokens, cursor, builder, depth)?;

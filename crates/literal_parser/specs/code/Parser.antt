@@ -39,8 +39,9 @@ unfoldable pub note_range : Bool → ℕ → Parser One
 note_range unlike place = λ st seen. Read tt (ranged unlike place st) seen
 
 module _ (s : ℕ → Lexeme) where
-  unfoldable pub opens : Parser ℕ
-  opens = λ st seen. Read (length st.places) (opened (s st.at).from st) (max seen st.at)
+  -- a part begins, and its site is numbered by how many there are before it
+  unfoldable pub opens : (ℕ → ℕ) → Parser ℕ
+  opens number = λ st seen. Read (number (length st.places)) (opened (s st.at).from st) (max seen st.at)
 
   unfoldable pub takes : (ℕ → Bool) → Parser One
   takes f = λ st seen. if f (form (s st.at)) then Read tt (past st) (max seen st.at) else Fail (max seen st.at)

@@ -1,5 +1,5 @@
 -- What a function that reads ensures.
-use Rattle.std.specs.Prelude.{◌≡◌, ℕ, Result, Ok, Err, ⊤}
+use Rattle.std.specs.Prelude.{◌≡◌, ◌-◌, ◌^◌, ℕ, min, Result, Ok, Err, ⊤}
 use Rattle.literal_parser.specs.declared.token_cursor.Cursor.{Cursor}
 use Rattle.literal_parser.specs.declared.token_cursor.Tokens.{Tokens}
 use Rattle.literal_parser.specs.declared.cursor.Halt.{Halt}
@@ -22,6 +22,11 @@ abbrev pub Reads : {X A : Type 0} → (X → A) → Outcome A → Result X Halt 
 Reads see outcome (Ok x) c = outcome ≡ Read (see x) (state_of c) c.seen
 Reads see outcome (Err NoMemory) c = ⊤
 Reads see outcome (Err (Dead k)) c = outcome ≡ Fail k
+
+-- the number of a site in the code, by how many there are before it; the last number stands for those beyond, which no
+-- text within the limit has
+abbrev pub site_of : ℕ → ℕ
+site_of n = min n (2 ^ 32 - 1)
 
 -- the lexemes of the tokens of a text
 unfoldable pub source : Tokens → ℕ → Lexeme

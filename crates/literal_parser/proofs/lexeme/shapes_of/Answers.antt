@@ -1,4 +1,4 @@
-use Rattle.std.proofs.Common.{◌≡◌, ℕ, ◌<◌, ◌≤◌, ◌+◌, List, [], ◌∷◌, ◌++◌, length, get_or, map, take, ap, sym, ◌∙◌, subst}
+use Rattle.std.proofs.Common.{◌≡◌, ℕ, ◌<◌, ◌≤◌, ◌+◌, List, [], ◌∷◌, ◌++◌, length, get_or, map, take, ap, sym, ◌∙◌, subst, arith}
 use Rattle.std.proofs.lemmas.List.{map_more, take_all}
 use Rattle.guard_lexer.specs.declared.token.Token.{Token}
 use Rattle.literal_parser.specs.declared.token_class.TokenClass.{TokenClass}
@@ -18,16 +18,19 @@ module _ (f : Token → TokenClass) (tokens : List Token) (i : ℕ) (shapes : Li
   no_more behind = so_far ∙ ap (map f) (take_all i tokens behind)
 
 pub loop-token-preserved : goal.loop-token-preserved
-loop-token-preserved c =
-    one_more (λ (t : Token). shape_of (lexeme_of c.args.text.now t)) c.args.tokens.now c.loop-token.token-index c.loop-token.shapes.items c.loop-token.invariant
-    c.token-item.result c.shape_of.result c.push.new.self.items c.loop-token-test.true c.token-item.is c.shape_of.ensures c.in-Ok.ensures.items
+loop-token-preserved c = (
+  one_more (λ (t : Token). shape_of (lexeme_of c.args.text.now t)) c.args.tokens.now c.loop-token.token-index c.loop-token.shapes.items c.loop-token.invariant.0
+      c.token-item.result c.shape_of.result c.push.new.self.items c.loop-token-test.true c.token-item.is c.shape_of.ensures c.in-Ok.ensures.items,
+  (let l = c.in-Ok.ensures.len in let i = c.loop-token.invariant.1 in omega arith),
+  (let l = c.in-Ok.ensures.capacity in let i = c.loop-token.invariant.2 in omega arith),
+)
 
 pub loop-token-init : goal.loop-token-init
-loop-token-init c = c.in_ok-shapes.ensures.items
+loop-token-init c = (c.in_ok-shapes.ensures.items, c.in_ok-shapes.ensures.len, let e = c.in_ok-shapes.ensures.exact in omega arith)
 
 pub returns : goal.returns
 returns c =
-    no_more (λ (t : Token). shape_of (lexeme_of c.args.text.now t)) c.args.tokens.now c.loop-token.token-index c.loop-token.shapes.items c.loop-token.invariant
+    no_more (λ (t : Token). shape_of (lexeme_of c.args.text.now t)) c.args.tokens.now c.loop-token.token-index c.loop-token.shapes.items c.loop-token.invariant.0
     c.loop-token-test.false
 
 pub shape_of-requires-in-loop-token : goal.shape_of-requires-in-loop-token

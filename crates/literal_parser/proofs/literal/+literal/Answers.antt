@@ -24,7 +24,7 @@ list-returns-clause-reads t c =
           (state_of c.args.cursor.now) (state_of c.takes.new.self) (state_of c.items.new.cursor) (state_of c.takes-2.new.self)
           c.args.cursor.now.seen c.takes.new.self.seen c.items.new.cursor.seen c.takes-2.new.self.seen
           c.if-depth-eq0.false c.in_ok-takes.ensures r.1 c.in_ok-takes-2.ensures,
-      held false c.from-from.result x r.0 c.args.builder.now c.begun.new.builder c.items.new.builder c.ended.new.builder c.in_ok-begun.ensures.ok r.2 c.in_ok-ended.ensures.ok c.from-from.ensures,
+      held false c.from-from.result x r.0 c.args.builder.now c.begun.new.builder c.items.new.builder c.ended.new.builder c.in_ok-begun.ensures.ok r.2 c.ended.ensures c.from-from.ensures,
     )
 
 pub map-returns-then-depth-eq0-clause-reads : goal.map-returns-then-depth-eq0-clause-reads
@@ -39,7 +39,7 @@ map-returns-clause-reads t c =
           (state_of c.args.cursor.now) (state_of c.takes.new.self) (state_of c.entries.new.cursor) (state_of c.takes-2.new.self)
           c.args.cursor.now.seen c.takes.new.self.seen c.entries.new.cursor.seen c.takes-2.new.self.seen
           c.if-depth-eq0.false c.in_ok-takes.ensures r.1 c.in_ok-takes-2.ensures,
-      held true c.from-from.result x r.0 c.args.builder.now c.begun.new.builder c.entries.new.builder c.ended.new.builder c.in_ok-begun.ensures.ok r.2 c.in_ok-ended.ensures.ok c.from-from.ensures,
+      held true c.from-from.result x r.0 c.args.builder.now c.begun.new.builder c.entries.new.builder c.ended.new.builder c.in_ok-begun.ensures.ok r.2 c.ended.ensures c.from-from.ensures,
     )
 
 pub items-returns-then-sees-clause-reads : goal.items-returns-then-sees-clause-reads
