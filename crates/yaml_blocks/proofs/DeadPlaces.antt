@@ -4,12 +4,11 @@ use Rattle.std.specs.Prelude.{IsUtf8}
 use Rattle.doc_values.specs.Tree.{Forest}
 use Rattle.yaml_scalars.specs.Lines.{begins_with}
 use Rattle.yaml_scalars.specs.Scalar.{begins_order_mark}
-use Rattle.yaml_scalars.specs.code.Walk.{ends_line}
 use Rattle.yaml_laws.specs.code.Agreement.{AgreesTo}
 use Rattle.yaml_laws.proofs.AgreeLess.{agrees_less, agrees_here}
 use Rattle.yaml_blocks.specs.Yaml.{IsYaml}
-use Rattle.yaml_blocks.specs.code.Places.{IsFront, IsDead}
-use Rattle.yaml_blocks.specs.code.Twins.{IsTwin}
+use Rattle.yaml_blocks.specs.code.Places.{IsFront, IsDead, IsPastMark}
+use Rattle.yaml_blocks.specs.code.Twins.{IsTwin, IsPast}
 
 -- ---- the parts of texts
 
@@ -52,10 +51,6 @@ short_alive text p h (before, behind, b, e, size, none) = none (front_less (befo
 
 -- ---- dead places by texts that are the same so far
 
--- a byte order mark stands in front of both texts or of none, where one has all of its place in common, or no such byte
-abbrev pub IsPastMark : List ℕ → ℕ → Type 0
-IsPastMark text place = (2 ≤ place) ⊎ (begins_with 239 text ≡ false)
-
 unmarked : (xs : List ℕ) → begins_with 239 xs ≡ false → begins_order_mark xs ≡ false
 unmarked [] h = refl
 unmarked (a ∷ []) h = refl
@@ -70,16 +65,17 @@ marks_same (x ∷ []) u v b (inr h) = unmarked (x ∷ b ∷ v) h ∙ sym (unmark
 marks_same (x ∷ y ∷ []) u v b h = refl
 marks_same (x ∷ y ∷ z ∷ before) u v b h = refl
 
-pub twin_of : (text : List ℕ) (place : ℕ) (other : List ℕ) → IsUtf8 other → IsPastMark text place → AgreesTo place text other → ends_line (drop place text) ≡ ends_line (drop place other) → IsTwin text place other
-twin_of text place other utf8 past (before, behind, more, b, e, f, size) breaks = record {
-  utf8 = utf8;
-  marks = ap begins_order_mark f ∙ marks_same before behind more b (by_past past) ∙ sym (ap begins_order_mark e);
-  agrees = (before, behind, more, b, e, f, size);
-  breaks = breaks;
-} where
+pub marks_of : (text : List ℕ) (place : ℕ) (other : List ℕ) → IsPastMark text place → AgreesTo place text other → begins_order_mark other ≡ begins_order_mark text
+marks_of text place other past (before, behind, more, b, e, f, size) = ap begins_order_mark f ∙ marks_same before behind more b (by_past past) ∙ sym (ap begins_order_mark e) where
   by_past : IsPastMark text place → (2 ≤ length before) ⊎ (begins_with 239 (before ++ (b ∷ behind)) ≡ false)
   by_past (inl l) = inl (omega (arith, l, size))
   by_past (inr h) = inr (sym (ap (begins_with 239) e) ∙ h)
+
+-- where a text agrees through a place that lies past another one, it is a twin there
+pub twin_of : (text : List ℕ) (p q : ℕ) (other : List ℕ) → IsUtf8 other → begins_order_mark other ≡ begins_order_mark text → IsPast text p q → AgreesTo q text other → IsTwin text p other
+twin_of text p q other utf8 marks (inl l) agrees = let z = agrees_less p q text other l agrees in record { utf8 = utf8; marks = marks; agrees = z.0; breaks = z.1 }
+twin_of text p q other utf8 marks (inr (e, feed)) agrees =
+    subst (λ n. IsTwin text n other) (sym e) (record { utf8 = utf8; marks = marks; agrees = agrees; breaks = agrees_here q text other agrees feed })
 
 -- no twin at a place is a document
 abbrev pub NoTwin : List ℕ → ℕ → Type 0
@@ -93,11 +89,6 @@ dead_if text place l none =
       by_front before behind b e size (more, tree, utf8, h) =
           none ((before ++ (b ∷ [])) ++ more) utf8 (before, behind, more, b, e, append_assoc before (b ∷ []) more, size) tree h
 
--- it is dead where no carriage return stands there
-pub dead_here : (text : List ℕ) (place : ℕ) → place < length text → IsPastMark text place → begins_with 13 (drop place text) ≡ false → NoTwin text place → IsDead text place
-dead_here text place l past feed none = dead_if text place l (λ other utf8 agrees tree h. none other (twin_of text place other utf8 past agrees (agrees_here place text other agrees feed)) tree h)
-
--- and each place behind it is, whatever stands there
-pub dead_behind : (text : List ℕ) (p q : ℕ) → p < q → q < length text → IsPastMark text p → NoTwin text p → IsDead text q
-dead_behind text p q o l past none =
-    dead_if text q l (λ other utf8 agrees tree h. (let z = agrees_less p q text other o agrees in none other (twin_of text p other utf8 past z.0 z.1) tree h))
+-- it is dead past such a place
+pub dead_past : (text : List ℕ) (p q : ℕ) → q < length text → IsPastMark text q → IsPast text p q → NoTwin text p → IsDead text q
+dead_past text p q l mark past none = dead_if text q l (λ other utf8 agrees tree h. none other (twin_of text p q other utf8 (marks_of text q other mark agrees) past agrees) tree h)

@@ -1,6 +1,6 @@
 -- Where a document is one of a text that is the same as far as is looked at, something may follow there too. By the steps of the reader.
 use Rattle.std.proofs.Common.{◌≡◌, ℕ, ◌≤◌, inl, inr, true, false, List, [], length, refl, sym, ap, ◌∙◌, subst, arith, if◌then◌else◌}
-use Rattle.std.specs.Prelude.{Result, Ok, Err}
+use Rattle.std.specs.Prelude.{Result, Ok, Err, Option, Some, option_map}
 use Rattle.std.specs.Str.{IsCharBoundary}
 use Rattle.doc_values.specs.declared.kind.Kind.TheVariants as kind
 use Rattle.doc_values.specs.Tree.{Forest}
@@ -12,16 +12,22 @@ use Rattle.yaml_blocks.specs.declared.stage.Stage.{Stage}
 use Rattle.yaml_blocks.specs.declared.stage.Stage.TheVariants as stage
 use Rattle.yaml_blocks.specs.declared.stage.Position.{Position}
 use Rattle.yaml_blocks.specs.declared.stop.Stop.{Stop}
+use Rattle.yaml_blocks.specs.declared.stop.Stop.TheVariants as stop
 use Rattle.yaml_blocks.specs.Ahead.{ahead}
 use Rattle.yaml_blocks.specs.Nodes.{is_marked}
-use Rattle.yaml_blocks.specs.Signs.{Tree, To}
+use Rattle.yaml_blocks.specs.Signs as sign
+use Rattle.yaml_blocks.specs.Signs.{Sign, Reading, Tree, To}
 use Rattle.yaml_blocks.specs.Yaml.{IsRoot, IsStart, IsYaml, text_start}
 use Rattle.yaml_blocks.specs.code.AheadSeen.{ahead_seen}
+use Rattle.yaml_blocks.specs.code.Places.{StopsAt}
+use Rattle.yaml_blocks.specs.code.Refused.{of_sign}
 use Rattle.yaml_blocks.specs.code.Rest.{top, Over, Begins}
 use Rattle.yaml_blocks.specs.code.Steps.{Rest, Fits, SameStep, Goes, Completes, is_ending, reached}
-use Rattle.yaml_blocks.specs.code.Twins.{IsTwin, Alive, FixesStart, FixesRoot, FixesStep}
+use Rattle.yaml_blocks.specs.code.Twins.{IsTwin, StopsStep, Alive, FixesStart, FixesRoot, FixesStep}
 use Rattle.yaml_blocks.proofs.AheadOrder.{seen_least, seen_mark}
+use Rattle.yaml_blocks.proofs.DeadPlaces.{NoTwin, dead_past}
 use Rattle.yaml_blocks.proofs.Forms.{apart_root}
+use Rattle.yaml_blocks.proofs.Gains.{told}
 use Rattle.yaml_blocks.proofs.LastValues.{ending_calm}
 use Rattle.yaml_blocks.proofs.Roots.{begins_missing, begins_node, one_start}
 use Rattle.yaml_blocks.proofs.Twins.{twin_within, twin_cut, twin_ahead}
@@ -103,3 +109,38 @@ lives_next text p q fs gs u w lives open_ fixes gives = λ goes place other m ne
     let a = lives open_ place other m s.0 in
     let g = gives other place m a.2 a.1 s.1 in
     ((λ t h. let x = a.0 t h in (x.0, (g.0 (Tree x.0)).0 x.1)), g.1, g.2)
+
+-- ---- where reading stops
+
+-- where nothing may follow in a twin, it is no document
+none_twin : (text : List ℕ) (p : Position) (fs : List Form) (u : Unfinished) (place : ℕ) → Lives text p fs u → (p.stage ≡ stage.Whole → ⊥) → ahead_seen text p.at ≤ place
+    → ((other : List ℕ) → IsTwin text place other → IsCharBoundary other p.at → Fits other p.stage fs u p.at → (v : Reading) → Rest other p.stage fs u p.at v → ⊥) → NoTwin text place
+none_twin text p fs u place lives open_ near none = λ other m tree h. let a = lives open_ place other m near in let x = a.0 tree h in none other m a.2 a.1 (Tree x.0) x.1
+
+pub stops_at : (text : List ℕ) (p : Position) (fs : List Form) (u : Unfinished) (e : Stop) → Lives text p fs u → (p.stage ≡ stage.Whole → ⊥) → StopsStep text p.stage fs u p.at (Err e) → StopsAt text e
+stops_at text p fs u (stop.Unread q) lives open_ (inl e) = inl e
+stops_at text p fs u (stop.Unread q) lives open_ (inr (l, (place, past, near, none))) = inr (λ mark. dead_past text place q l mark past (none_twin text p fs u place lives open_ near none))
+stops_at text p fs u (stop.Tab at) lives open_ h = tt
+stops_at text p fs u (stop.Anchor at) lives open_ h = tt
+stops_at text p fs u (stop.Tag at) lives open_ h = tt
+stops_at text p fs u (stop.Directive at) lives open_ h = tt
+stops_at text p fs u (stop.ManyDocuments at) lives open_ h = tt
+stops_at text p fs u (stop.DuplicateKey at) lives open_ h = tt
+stops_at text p fs u (stop.TooDeep at) lives open_ h = tt
+stops_at text p fs u stop.NoMemory lives open_ h = tt
+
+pub memory_at : (text : List ℕ) (e : Stop) → e ≡ stop.NoMemory → StopsAt text e
+memory_at text e h = subst (StopsAt text) (sym h) tt
+
+-- in front of the document it stops at a sign, or at the text's length
+sign_at : (text : List ℕ) (s : Sign) → StopsAt text (of_sign s)
+sign_at text (sign.Tab at) = tt
+sign_at text (sign.Anchor at) = tt
+sign_at text (sign.Tag at) = tt
+sign_at text (sign.Directive at) = tt
+sign_at text (sign.ManyDocuments at) = tt
+sign_at text (sign.DuplicateKey at) = tt
+sign_at text (sign.TooDeep at) = tt
+
+pub signed_at : (text : List ℕ) (o : Option Sign) (e : Stop) → Some e ≡ option_map of_sign o → StopsAt text e
+signed_at text o e h = let t = told o e h in subst (StopsAt text) t.2 (sign_at text t.0)

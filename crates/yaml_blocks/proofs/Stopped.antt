@@ -1,8 +1,10 @@
 -- Where reading stops: what shows it, and that it is so in other texts. By the cases of what stops it.
-use Rattle.std.proofs.Common.{◌≡◌, ℕ, ◌<◌, inl, inr, Bool, true, false, List, length, refl, sym, ap, ◌∙◌, subst, true≢false, arith}
+use Rattle.std.proofs.Common.{◌≡◌, ℕ, ◌<◌, ◌≤◌, inl, inr, Bool, true, false, List, length, refl, sym, ap, ◌∙◌, subst, true≢false, arith}
 use Rattle.std.specs.Prelude.{Result, Ok, Err, Option, Some, option_map}
+use Rattle.std.specs.Str.{IsCharBoundary}
 use Rattle.doc_values.specs.declared.builder.BuildRefusal.{BuildRefusal}
 use Rattle.doc_values.specs.declared.builder.BuildRefusal.TheVariants as build
+use Rattle.doc_values.specs.Limits.{template_limit}
 use Rattle.doc_values.specs.Unfinished.{Unfinished}
 use Rattle.yaml_scalars.specs.declared.scalar.Scalar.{Scalar}
 use Rattle.yaml_scalars.specs.declared.scalar.ScalarRefusal.{ScalarRefusal}
@@ -12,23 +14,26 @@ use Rattle.yaml_blocks.specs.declared.ahead.Token.{Token}
 use Rattle.yaml_blocks.specs.declared.ahead.Token.TheVariants.{End, Dashes, Dots, Dash, Tag, NoTag, Opens, Closes, Comma, Point, Anchor, Percent, Tabbed, Stray, Other}
 use Rattle.yaml_blocks.specs.declared.form.Form.{Form}
 use Rattle.yaml_blocks.specs.declared.stage.Position.{Position}
+use Rattle.yaml_blocks.specs.declared.stage.Stage.TheVariants as stage
 use Rattle.yaml_blocks.specs.declared.stop.Stop.{Stop}
 use Rattle.yaml_blocks.specs.declared.stop.Stop.TheVariants as stop
 use Rattle.yaml_blocks.specs.Ahead.{ahead}
 use Rattle.yaml_blocks.specs.Signs as sign
 use Rattle.yaml_blocks.specs.Signs.{Sign, Reading}
-use Rattle.yaml_blocks.specs.code.AheadSeen.{is_told, told_place}
+use Rattle.yaml_blocks.specs.code.AheadSeen.{ahead_seen, is_told, told_place}
 use Rattle.yaml_blocks.specs.code.Refused.{of_build, of_scalar, of_sign}
-use Rattle.yaml_blocks.specs.code.Rest.{Inside}
-use Rattle.yaml_blocks.specs.code.Steps.{IsSeen, Gives, Closed, is_ending}
-use Rattle.yaml_blocks.specs.code.Twins.{IsShown, Stops}
+use Rattle.yaml_blocks.specs.code.Rest.{top, Inside, Ends, Enters, Awaits}
+use Rattle.yaml_blocks.specs.code.Steps.{IsBlock, IsSeen, IsCalm, Awaited, Fits, Gives, Deep, Opened, TagBegun, Closed, Completes, is_ending}
+use Rattle.yaml_blocks.specs.code.Twins.{IsTwin, Stops, NoTail, NoLine, NoFlowValue, NoValue, NoEntry, StopsStep}
 use Rattle.yaml_blocks.proofs.Gains.{told}
 use Rattle.yaml_blocks.proofs.Quiet.{inside_at}
-use Rattle.yaml_blocks.proofs.SureTokens.{told_shown}
+use Rattle.yaml_blocks.proofs.SureTokens.{IsTold, told_shown}
+use Rattle.yaml_blocks.proofs.Twins.{twin_ahead}
+use Rattle.yaml_blocks.proofs.SameTexts.{seen_alike}
 
-module _ (text : List ℕ) (flow : Bool) (i : ℕ) (none : List ℕ → Type 0) where
+module _ (text : List ℕ) (i : ℕ) (none : List ℕ → Type 0) where
   -- a sign and want of memory say nothing of a place
-  sign_stops : (s : Sign) → Stops text flow i none (Err (of_sign s))
+  sign_stops : (s : Sign) → Stops text i none (Err (of_sign s))
   sign_stops (sign.Tab at) = tt
   sign_stops (sign.Anchor at) = tt
   sign_stops (sign.Tag at) = tt
@@ -37,29 +42,46 @@ module _ (text : List ℕ) (flow : Bool) (i : ℕ) (none : List ℕ → Type 0) 
   sign_stops (sign.DuplicateKey at) = tt
   sign_stops (sign.TooDeep at) = tt
 
-  pub signed_stops : (o : Option Sign) (e : Stop) → Some e ≡ option_map of_sign o → Stops text flow i none (Err e)
-  signed_stops o e h = let t = told o e h in subst (λ z. Stops text flow i none (Err z)) t.2 (sign_stops t.0)
+  pub signed_stops : (o : Option Sign) (e : Stop) → Some e ≡ option_map of_sign o → Stops text i none (Err e)
+  signed_stops o e h = let t = told o e h in subst (λ z. Stops text i none (Err z)) t.2 (sign_stops t.0)
 
-  build_stops : (r : BuildRefusal) → Stops text flow i none (Err (of_build r))
+  build_stops : (r : BuildRefusal) → Stops text i none (Err (of_build r))
   build_stops build.NoMemory = tt
   build_stops (build.TooDeep at) = tt
   build_stops (build.DuplicateKey at) = tt
 
-  pub built_stops : (r : BuildRefusal) (e : Stop) → e ≡ of_build r → Stops text flow i none (Err e)
-  built_stops r e h = subst (λ z. Stops text flow i none (Err z)) (sym h) (build_stops r)
+  pub built_stops : (r : BuildRefusal) (e : Stop) → e ≡ of_build r → Stops text i none (Err e)
+  built_stops r e h = subst (λ z. Stops text i none (Err z)) (sym h) (build_stops r)
 
-  pub memory_stops : (e : Stop) → e ≡ stop.NoMemory → Stops text flow i none (Err e)
-  memory_stops e h = subst (λ z. Stops text flow i none (Err z)) (sym h) tt
+  pub memory_stops : (e : Stop) → e ≡ stop.NoMemory → Stops text i none (Err e)
+  memory_stops e h = subst (λ z. Stops text i none (Err z)) (sym h) tt
 
-  pub closed_stops : (at : ℕ) (fs gs : List Form) (u w : Unfinished) (r : Result Position Stop) → Closed at fs u gs w r → Stops text flow i none r
+  -- nor does a collection that is too deep
+  pub deep_stops : (u : Unfinished) (at : ℕ) (e : Stop) → Deep u at e → Stops text i none (Err e)
+  deep_stops u at e (inl h) = memory_stops e h
+  deep_stops u at e (inr (h, d)) = subst (λ z. Stops text i none (Err z)) (sym h) tt
+
+  pub opened_stops : (map : Bool) (a : Ahead) (fs gs : List Form) (u w : Unfinished) (r : Result Position Stop) → Opened map a fs u gs w r → Stops text i none r
+  opened_stops map a fs gs u w (Ok p) h = tt
+  opened_stops map a fs gs u w (Err e) h = deep_stops u a.at e h
+
+  pub tag_stops : (f : Form) (a : Ahead) (fs gs : List Form) (u w : Unfinished) (r : Result Position Stop) → TagBegun text f a fs u gs w r → Stops text i none r
+  tag_stops f a fs gs u w (Ok p) h = tt
+  tag_stops f a fs gs u w (Err e) h = deep_stops u a.at e h
+
+  pub closed_stops : (at : ℕ) (fs gs : List Form) (u w : Unfinished) (r : Result Position Stop) → Closed at fs u gs w r → Stops text i none r
   closed_stops at fs gs u w (Ok p) h = tt
   closed_stops at fs gs u w (Err e) h = memory_stops e h
 
-  -- at the text's length nothing more is said
-  pub length_stops : (q : ℕ) → q ≡ length text → Stops text flow i none (Err (stop.Unread q))
-  length_stops q e = (inl e, (λ l. absurd (omega (arith, l, e))))
+  pub completed_stops : (at : ℕ) (u w : Unfinished) (r : Result Position Stop) → Completes at u w r → Stops text i none r
+  completed_stops at u w (Ok p) h = tt
+  completed_stops at u w (Err e) h = memory_stops e h
 
-  pub far_stops : (e : Stop) → ((q : ℕ) → e ≡ stop.Unread q → q ≡ length text) → Stops text flow i none (Err e)
+  -- at the text's length nothing more is said
+  pub length_stops : (q : ℕ) → q ≡ length text → Stops text i none (Err (stop.Unread q))
+  length_stops q e = inl e
+
+  pub far_stops : (e : Stop) → ((q : ℕ) → e ≡ stop.Unread q → q ≡ length text) → Stops text i none (Err e)
   far_stops (stop.Unread q) f = length_stops q (f q refl)
   far_stops (stop.Tab at) f = tt
   far_stops (stop.Anchor at) f = tt
@@ -70,22 +92,33 @@ module _ (text : List ℕ) (flow : Bool) (i : ℕ) (none : List ℕ → Type 0) 
   far_stops (stop.TooDeep at) f = tt
   far_stops stop.NoMemory f = tt
 
+  pub scalar_stops : (r : Result Position Stop) → ((q : ℕ) → r ≡ Err (stop.Unread q) → q ≡ length text) → Stops text i none r
+  scalar_stops (Ok p) f = tt
+  scalar_stops (Err e) f = far_stops e (λ q h. f q (ap Err h))
+
   -- at what is ahead, where that decides
-  pub told_stops : (a : Ahead) (q : ℕ) → a ≡ ahead text flow i → q ≡ told_place text a → ((other : List ℕ) → none other) → Stops text flow i none (Err (stop.Unread q))
-  told_stops a q e p n = (subst (IsShown text flow i) (sym p) (subst (λ b. IsShown text flow i (told_place text b)) (sym e) (told_shown text flow i)), (λ l. n))
+  pub told_stops : (flow : Bool) (a : Ahead) (q : ℕ) → a ≡ ahead text flow i → q ≡ told_place text a → ((other : List ℕ) → is_told a.token ≡ true → none other) → Stops text i none (Err (stop.Unread q))
+  told_stops flow a q e p n = by_told (subst (IsTold text flow i) (sym (p ∙ ap (told_place text) e)) (told_shown text flow i)) where
+    by_told : IsTold text flow i q → Stops text i none (Err (stop.Unread q))
+    by_told (inl k) = inl k
+    by_told (inr (t, s, l, feed)) = inr (l, (q, inr (refl, feed), omega (arith, s), (λ other m. n other (ap (λ (b : Ahead). is_told b.token) e ∙ t))))
 
 -- what follows before a step, by what follows behind a part of it
-pub stops_from : (text : List ℕ) (flow : Bool) (i : ℕ) (none some : List ℕ → Type 0) (r : Result Position Stop) → ((other : List ℕ) → none other → some other) → Stops text flow i none r → Stops text flow i some r
-stops_from text flow i none some (Ok p) f h = tt
-stops_from text flow i none some (Err (stop.Unread q)) f (s, h) = (s, (λ l other. f other (h l other)))
-stops_from text flow i none some (Err (stop.Tab at)) f h = tt
-stops_from text flow i none some (Err (stop.Anchor at)) f h = tt
-stops_from text flow i none some (Err (stop.Tag at)) f h = tt
-stops_from text flow i none some (Err (stop.Directive at)) f h = tt
-stops_from text flow i none some (Err (stop.ManyDocuments at)) f h = tt
-stops_from text flow i none some (Err (stop.DuplicateKey at)) f h = tt
-stops_from text flow i none some (Err (stop.TooDeep at)) f h = tt
-stops_from text flow i none some (Err stop.NoMemory) f h = tt
+pub stops_twin : (text : List ℕ) (i : ℕ) (none some : List ℕ → Type 0) (r : Result Position Stop) → ((p : ℕ) (other : List ℕ) → IsTwin text p other → ahead_seen text i ≤ p → none other → some other) → Stops text i none r → Stops text i some r
+stops_twin text i none some (Ok p) f h = tt
+stops_twin text i none some (Err (stop.Unread q)) f (inl e) = inl e
+stops_twin text i none some (Err (stop.Unread q)) f (inr (l, (p, past, near, h))) = inr (l, (p, past, near, (λ other m. f p other m near (h other m))))
+stops_twin text i none some (Err (stop.Tab at)) f h = tt
+stops_twin text i none some (Err (stop.Anchor at)) f h = tt
+stops_twin text i none some (Err (stop.Tag at)) f h = tt
+stops_twin text i none some (Err (stop.Directive at)) f h = tt
+stops_twin text i none some (Err (stop.ManyDocuments at)) f h = tt
+stops_twin text i none some (Err (stop.DuplicateKey at)) f h = tt
+stops_twin text i none some (Err (stop.TooDeep at)) f h = tt
+stops_twin text i none some (Err stop.NoMemory) f h = tt
+
+pub stops_from : (text : List ℕ) (i : ℕ) (none some : List ℕ → Type 0) (r : Result Position Stop) → ((other : List ℕ) → none other → some other) → Stops text i none r → Stops text i some r
+stops_from text i none some r f h = stops_twin text i none some r (λ p other m near. f other) h
 
 -- the place of a scalar that fails is not told by its own
 pub scalar_place : (size q : ℕ) (r : ScalarRefusal) → of_scalar size r ≡ stop.Unread q → q ≡ size
@@ -119,33 +152,51 @@ told_inside Anchor h = refl
 told_inside Percent h = refl
 told_inside Other h = refl
 
--- the token that is shown is none at which it might
-pub inside_stops : (text : List ℕ) (i : ℕ) (next : Ahead) (none : List ℕ → Type 0) (r : Result Position Stop) → next ≡ ahead text false i → Stops text false i (λ other. IsSeen other false i next → Inside other i → none other) r
-    → Stops text false i (λ other. IsSeen other false i (ahead text false i) → none other) r
-inside_stops text i next none (Ok p) e h = tt
-inside_stops text i next none (Err (stop.Unread q)) e (s, h) = (s, (λ l other seen. by_shown s l other seen)) where
-  by_shown : IsShown text false i q → q < length text → (other : List ℕ) → IsSeen other false i (ahead text false i) → none other
-  by_shown (inl k) l other seen = absurd (omega (arith, l, k))
-  by_shown (inr (t, e2, l2, feed)) l other seen =
-      h l other (subst (λ a. IsSeen other false i a) (sym e) seen) (inside_at other i (ap (λ (a : Ahead). is_ending a.token) (sym seen.0) ∙ told_inside (ahead text false i).token t))
-inside_stops text i next none (Err (stop.Tab at)) e h = tt
-inside_stops text i next none (Err (stop.Anchor at)) e h = tt
-inside_stops text i next none (Err (stop.Tag at)) e h = tt
-inside_stops text i next none (Err (stop.Directive at)) e h = tt
-inside_stops text i next none (Err (stop.ManyDocuments at)) e h = tt
-inside_stops text i next none (Err (stop.DuplicateKey at)) e h = tt
-inside_stops text i next none (Err (stop.TooDeep at)) e h = tt
-inside_stops text i next none (Err stop.NoMemory) e h = tt
+-- nor does it at such a token
+pub told_inside_at : (other : List ℕ) (i : ℕ) (a : Ahead) → a ≡ ahead other false i → is_told a.token ≡ true → Inside other i
+told_inside_at other i a e t = inside_at other i (ap (λ (b : Ahead). is_ending b.token) (sym e) ∙ told_inside a.token t)
 
 -- where something may follow, reading stops for want of memory or at a sign
-pub living_stops : (text : List ℕ) (flow : Bool) (i : ℕ) (none : List ℕ → Type 0) (P : Reading → Type 0) (n : ℕ) (fs : List Form) (w : Unfinished) (r : Result Position Stop) → (v : Reading) → P v → Gives text P n fs w r → Stops text flow i none r
-living_stops text flow i none P n fs w (Ok p) v h g = tt
-living_stops text flow i none P n fs w (Err (stop.Unread q)) v h g = absurd (g v h)
-living_stops text flow i none P n fs w (Err (stop.Tab at)) v h g = tt
-living_stops text flow i none P n fs w (Err (stop.Anchor at)) v h g = tt
-living_stops text flow i none P n fs w (Err (stop.Tag at)) v h g = tt
-living_stops text flow i none P n fs w (Err (stop.Directive at)) v h g = tt
-living_stops text flow i none P n fs w (Err (stop.ManyDocuments at)) v h g = tt
-living_stops text flow i none P n fs w (Err (stop.DuplicateKey at)) v h g = tt
-living_stops text flow i none P n fs w (Err (stop.TooDeep at)) v h g = tt
-living_stops text flow i none P n fs w (Err stop.NoMemory) v h g = tt
+pub living_stops : (text : List ℕ) (i : ℕ) (none : List ℕ → Type 0) (P : Reading → Type 0) (n : ℕ) (fs : List Form) (w : Unfinished) (r : Result Position Stop) → (v : Reading) → P v → Gives text P n fs w r → Stops text i none r
+living_stops text i none P n fs w (Ok p) v h g = tt
+living_stops text i none P n fs w (Err (stop.Unread q)) v h g = absurd (g v h)
+living_stops text i none P n fs w (Err (stop.Tab at)) v h g = tt
+living_stops text i none P n fs w (Err (stop.Anchor at)) v h g = tt
+living_stops text i none P n fs w (Err (stop.Tag at)) v h g = tt
+living_stops text i none P n fs w (Err (stop.Directive at)) v h g = tt
+living_stops text i none P n fs w (Err (stop.ManyDocuments at)) v h g = tt
+living_stops text i none P n fs w (Err (stop.DuplicateKey at)) v h g = tt
+living_stops text i none P n fs w (Err (stop.TooDeep at)) v h g = tt
+living_stops text i none P n fs w (Err stop.NoMemory) v h g = tt
+
+-- ---- where reading stands at a stage
+
+-- what is ahead of a place is so in a text that is the same as far as that is looked at
+seen_twin : (text : List ℕ) (p : ℕ) (other : List ℕ) (flow : Bool) (i : ℕ) → IsTwin text p other → IsCharBoundary text i → IsCharBoundary other i → ahead_seen text i ≤ p → IsSeen other flow i (ahead text flow i)
+seen_twin text p other flow i m here there near = seen_alike text other flow i m.utf8 there (twin_ahead text p other m flow i here.0 near)
+
+module _ (text : List ℕ) (fs : List Form) (u : Unfinished) (i : ℕ) (r : Result Position Stop) (cut : IsCharBoundary text i) where
+  pub tail_stops : Stops text i (NoTail i (ahead text true i) fs u) r → StopsStep text stage.After fs u i r
+  tail_stops h =
+      stops_twin text i (NoTail i (ahead text true i) fs u) (λ other. IsCharBoundary other i → Fits other stage.After fs u i → (v : Reading) → Ends other fs u.outer u.done i v → ⊥) r
+      (λ p other m near none there fits v. none (seen_twin text p other true i m cut there near) v) h
+
+  pub line_stops : IsBlock (top fs) → Stops text i (NoLine i (ahead text false i) fs u) r → StopsStep text stage.After fs u i r
+  line_stops b h =
+      stops_twin text i (NoLine i (ahead text false i) fs u) (λ other. IsCharBoundary other i → Fits other stage.After fs u i → (v : Reading) → Ends other fs u.outer u.done i v → ⊥) r
+      (λ p other m near none there fits v. none (seen_twin text p other false i m cut there near) (fits.2 b) v) h
+
+  pub entry_stops : Stops text i (NoEntry i (ahead text true i) fs u) r → StopsStep text stage.Entry fs u i r
+  entry_stops h =
+      stops_twin text i (NoEntry i (ahead text true i) fs u) (λ other. IsCharBoundary other i → Fits other stage.Entry fs u i → (v : Reading) → Enters other fs u.outer u.done i v → ⊥) r
+      (λ p other m near none there fits v. none (seen_twin text p other true i m cut there near) v) h
+
+  pub flow_value_stops : Stops text i (NoFlowValue i (ahead text true i) fs u) r → StopsStep text stage.Value fs u i r
+  flow_value_stops h =
+      stops_twin text i (NoFlowValue i (ahead text true i) fs u) (λ other. IsCharBoundary other i → Fits other stage.Value fs u i → (v : Reading) → Awaits other fs u.outer u.done u.key i v → ⊥) r
+      (λ p other m near none there fits v. none (seen_twin text p other true i m cut there near) v) h
+
+  pub value_stops : (f : Form) → (ahead text false i).at ≤ template_limit → top fs ≡ f → IsBlock f → Stops text i (NoValue i (ahead text false i) f fs u) r → StopsStep text stage.Value fs u i r
+  value_stops f small form block h =
+      stops_twin text i (NoValue i (ahead text false i) f fs u) (λ other. IsCharBoundary other i → Fits other stage.Value fs u i → (v : Reading) → Awaits other fs u.outer u.done u.key i v → ⊥) r
+      (λ p other m near none there fits v. none (record { small = small; boundary = there; seen = seen_twin text p other false i m cut there near; form = form; block = block; fits = fits }) v) h

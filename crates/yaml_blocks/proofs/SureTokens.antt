@@ -1,5 +1,5 @@
 -- A token that its first byte alone tells is shown by that byte: not further is looked at for what is ahead. By induction over lines.
-use Rattle.std.proofs.Common.{◌≡◌, ℕ, zero, suc, ◌+◌, ◌<◌, inl, inr, Bool, true, false, ◌||◌, ◌&&◌, not, cond, nat_eq, nat_lt, arith, List, [], ◌∷◌, drop, length, refl, sym, ap, ◌∙◌, subst, true≢false}
+use Rattle.std.proofs.Common.{◌≡◌, ℕ, zero, suc, ◌+◌, ◌<◌, ◌⊎◌, inl, inr, Bool, true, false, ◌||◌, ◌&&◌, not, cond, nat_eq, nat_lt, arith, List, [], ◌∷◌, drop, length, refl, sym, ap, ◌∙◌, subst, true≢false}
 use Rattle.std.proofs.lemmas.Bool.Decides.{nat_tests}
 use Rattle.std.proofs.lemmas.List.{drop-drop}
 use Rattle.yaml_scalars.specs.Lines.{lines, begins_with, is_white, is_blank, lead, indent, past_white, is_mark}
@@ -10,7 +10,6 @@ use Rattle.yaml_scalars.proofs.Places.{lines_are}
 use Rattle.yaml_blocks.specs.declared.ahead.Ahead.{Ahead}
 use Rattle.yaml_blocks.specs.Ahead.{is_name, tab_token, token_of, token_at, mark_of, is_passed, is_tabbed, content_ahead, line_ahead, rest_ahead, ahead}
 use Rattle.yaml_blocks.specs.code.AheadSeen.{token_shown, first_return, content_shown, line_seen, rest_seen, ahead_seen, is_told, is_sure, begins_sure, told_place}
-use Rattle.yaml_blocks.specs.code.Twins.{IsShown}
 use Rattle.yaml_blocks.proofs.FirstTokens.{Begun, first_byte, first_plain, past_first, line_first, not_blank, mark_told, tab_told}
 use Rattle.yaml_blocks.proofs.Looks.{white_rest, first_line, first_rest}
 
@@ -165,7 +164,11 @@ module _ (text : List ℕ) (flow : Bool) where
 
 -- ---- the place that is answered
 
-pub told_shown : (text : List ℕ) (flow : Bool) (i : ℕ) → IsShown text flow i (told_place text (ahead text flow i))
+-- it is that of what is ahead, as a token that its first byte tells, or the text's length
+abbrev pub IsTold : List ℕ → Bool → ℕ → ℕ → Type 0
+IsTold text flow i q = (q ≡ length text) ⊎ ((is_told (ahead text flow i).token ≡ true) × (ahead_seen text i ≡ q) × (q < length text) × (begins_with 13 (drop q text) ≡ false))
+
+pub told_shown : (text : List ℕ) (flow : Bool) (i : ℕ) → IsTold text flow i (told_place text (ahead text flow i))
 told_shown text flow i = by_told (is_told (ahead text flow i).token) refl (begins_sure (drop (ahead text flow i).at text)) refl where
   byte_at : is_told (ahead text flow i).token ≡ true → ((ahead text flow i).at < length text) × (begins_with 13 (drop (ahead text flow i).at text) ≡ false)
   byte_at t = by_begun (first_byte text flow i t) where
@@ -180,7 +183,7 @@ told_shown text flow i = by_told (is_told (ahead text flow i).token) refl (begin
     by_begun : Begun text flow (ahead text flow i) → ((ahead text flow i).at < length text) × (begins_with 13 (drop (ahead text flow i).at text) ≡ false)
     by_begun (b, rest, e, black, tok) = (some text (ahead text flow i).at b rest e, ap (begins_with 13) e ∙ test_of b 13 (first_plain flow b (line_at rest) (sym (ap is_told tok) ∙ t)).0)
 
-  by_told : (q : Bool) → is_told (ahead text flow i).token ≡ q → (r : Bool) → begins_sure (drop (ahead text flow i).at text) ≡ r → IsShown text flow i (cond (q && r) (ahead text flow i).at (length text))
+  by_told : (q : Bool) → is_told (ahead text flow i).token ≡ q → (r : Bool) → begins_sure (drop (ahead text flow i).at text) ≡ r → IsTold text flow i (cond (q && r) (ahead text flow i).at (length text))
   by_told true t true s = let k = byte_at t in inr (t, sure_seen text flow i t s, k.0, k.1)
   by_told true t false s = inl refl
   by_told false t true s = inl refl

@@ -7,11 +7,10 @@ ghost use Rattle.doc_values.specs.Unfinished.{AwaitsValue};
 ghost use Rattle.yaml_blocks.specs.Ahead.{ahead};
 ghost use Rattle.yaml_blocks.specs.Nodes.{starts_scalar, is_tagged};
 ghost use Rattle.yaml_blocks.specs.Blocks.{block_sign, takes_scalar, takes_mapping, takes_sequence, takes_tag, tagged, column_in};
-ghost use Rattle.yaml_blocks.specs.Signs.{Reading};
 ghost use Rattle.yaml_blocks.specs.code.Refused.{of_sign};
 ghost use Rattle.yaml_blocks.specs.code.Rest.{top, Inside, Ends, Awaits};
 ghost use Rattle.yaml_blocks.specs.Yaml.{IsEnd};
-ghost use Rattle.yaml_blocks.specs.code.Twins.{Stops, FixesNode, FixesEnd};
+ghost use Rattle.yaml_blocks.specs.code.Twins.{Stops, NoLine, NoValue, FixesNode, FixesEnd};
 ghost use Rattle.yaml_blocks.specs.code.Steps.{stack, IsSeen, IsBlock, IsBehind, IsSmall, HasKey, NoKey, EndsKey, Open, Fits, Awaited, SameKey, SameNode, SameEnd, IsCalm, NoNode, Gives, Ended, is_dash, ends_before};
 
 use crate::ahead::{Ahead, Token, look};
@@ -195,6 +194,7 @@ fn sequence(
     requires takes { takes_sequence form next ≡ true }
     ensures gives { (other : List ℕ) → Awaited other (stack forms.old.items) builder.old form at next → SameNode text.now other form at next → Gives other (Awaits other (stack forms.old.items) builder.old.outer builder.old.done builder.old.key at) (2 * at + 1) (stack forms.new.items) builder.new result }
     ensures fixes { FixesNode text.now form at next result }
+    ensures stops { Stops text.now at (NoValue at next form (stack forms.old.items) builder.old) result }
 {
     let column = column_in(form, next);
     match begin(Form::Items { column }, next, forms, builder) {
@@ -222,6 +222,7 @@ fn mapping<'s>(
     requires ends { EndsKey text.now next }
     ensures gives { (other : List ℕ) → Awaited other (stack forms.old.items) builder.old form at next → SameNode text.now other form at next → Gives other (Awaits other (stack forms.old.items) builder.old.outer builder.old.done builder.old.key at) (2 * at + 1) (stack forms.new.items) builder.new result }
     ensures fixes { FixesNode text.now form at next result }
+    ensures stops { Stops text.now at (NoValue at next form (stack forms.old.items) builder.old) result }
 {
     let Key { text: name, behind } = key;
     let column = column_in(form, next);
@@ -253,6 +254,7 @@ fn tag<'s>(
     requires takes { takes_tag form next ≡ true }
     ensures gives { (other : List ℕ) → Awaited other (stack forms.old.items) builder.old form at next → SameNode text.now other form at next → Gives other (Awaits other (stack forms.old.items) builder.old.outer builder.old.done builder.old.key at) (2 * at + 1) (stack forms.new.items) builder.new result }
     ensures fixes { FixesNode text.now form at next result }
+    ensures stops { Stops text.now at (NoValue at next form (stack forms.old.items) builder.old) result }
 {
     begin_tag(alloc, text, tagged(form, next), next, forms, builder)
 }
@@ -274,6 +276,7 @@ fn scalar<'s>(
     requires no_key { takes_mapping form next ≡ true → NoKey text.now next }
     ensures gives { (other : List ℕ) → Awaited other (stack forms.now) builder.old form at next → SameNode text.now other form at next → Gives other (Awaits other (stack forms.now) builder.old.outer builder.old.done builder.old.key at) (2 * at + 1) (stack forms.now) builder.new result }
     ensures fixes { FixesNode text.now form at next result }
+    ensures stops { Stops text.now at (NoValue at next form (stack forms.now) builder.old) result }
 {
     take_scalar(alloc, text, at, form, next, builder)
 }
@@ -294,6 +297,7 @@ fn content<'s>(
     requires takes { takes_scalar form next ≡ true }
     ensures gives { (other : List ℕ) → Awaited other (stack forms.old.items) builder.old form at next → SameNode text.now other form at next → Gives other (Awaits other (stack forms.old.items) builder.old.outer builder.old.done builder.old.key at) (2 * at + 1) (stack forms.new.items) builder.new result }
     ensures fixes { FixesNode text.now form at next result }
+    ensures stops { Stops text.now at (NoValue at next form (stack forms.old.items) builder.old) result }
 {
     if !takes_mapping(form, next) {
         return scalar(alloc, text, at, form, next, forms, builder);
@@ -321,6 +325,7 @@ fn missing(
     requires once { is_tagged form ≡ true → (len : ℕ) → next.token ≡ Token.Tag len → ⊥ }
     ensures gives { (other : List ℕ) → Awaited other (stack forms.now) builder.old form at next → SameNode text.now other form at next → Gives other (Awaits other (stack forms.now) builder.old.outer builder.old.done builder.old.key at) (2 * at + 1) (stack forms.now) builder.new result }
     ensures fixes { FixesNode text.now form at next result }
+    ensures stops { Stops text.now at (NoValue at next form (stack forms.now) builder.old) result }
 {
     match form {
         Form::Root => Err(Stop::Unread(offset(text.len()))),
@@ -357,6 +362,7 @@ fn tag_again(
     requires unsigned { block_sign form next ≡ None }
     ensures gives { (other : List ℕ) → Awaited other (stack forms.old.items) builder.old form at next → SameNode text.now other form at next → Gives other (Awaits other (stack forms.old.items) builder.old.outer builder.old.done builder.old.key at) (2 * at + 1) (stack forms.new.items) builder.new result }
     ensures fixes { FixesNode text.now form at next result }
+    ensures stops { Stops text.now at (NoValue at next form (stack forms.old.items) builder.old) result }
 {
     match take_null(at, at, builder) {
         Err(refusal) => return Err(refusal),
@@ -389,6 +395,7 @@ fn late_tag(
     requires unsigned { block_sign form next ≡ None }
     ensures gives { (other : List ℕ) → Awaited other (stack forms.old.items) builder.old form at next → SameNode text.now other form at next → Gives other (Awaits other (stack forms.old.items) builder.old.outer builder.old.done builder.old.key at) (2 * at + 1) (stack forms.new.items) builder.new result }
     ensures fixes { FixesNode text.now form at next result }
+    ensures stops { Stops text.now at (NoValue at next form (stack forms.old.items) builder.old) result }
 {
     if is_tagged(form) {
         tag_again(text, at, form, len, next, forms, builder)
@@ -412,6 +419,7 @@ fn brackets(
     requires takes { takes_scalar form next ≡ true }
     ensures gives { (other : List ℕ) → Awaited other (stack forms.old.items) builder.old form at next → SameNode text.now other form at next → Gives other (Awaits other (stack forms.old.items) builder.old.outer builder.old.done builder.old.key at) (2 * at + 1) (stack forms.new.items) builder.new result }
     ensures fixes { FixesNode text.now form at next result }
+    ensures stops { Stops text.now at (NoValue at next form (stack forms.old.items) builder.old) result }
 {
     open(map, next, forms, builder)
 }
@@ -431,6 +439,7 @@ fn node_at<'s>(
     requires unsigned { block_sign form next ≡ None }
     ensures gives { (other : List ℕ) → Awaited other (stack forms.old.items) builder.old form at next → SameNode text.now other form at next → Gives other (Awaits other (stack forms.old.items) builder.old.outer builder.old.done builder.old.key at) (2 * at + 1) (stack forms.new.items) builder.new result }
     ensures fixes { FixesNode text.now form at next result }
+    ensures stops { Stops text.now at (NoValue at next form (stack forms.old.items) builder.old) result }
 {
     match next.token {
         Token::Dash => {
@@ -481,6 +490,7 @@ pub(crate) fn node<'s>(
     requires fits { Fits text.now Stage.Value (stack forms.old.items) builder.old at }
     ensures gives { (other : List ℕ) → Awaited other (stack forms.old.items) builder.old form at (ahead text.now false at) → SameNode text.now other form at (ahead text.now false at) → Gives other (Awaits other (stack forms.old.items) builder.old.outer builder.old.done builder.old.key at) (2 * at + 1) (stack forms.new.items) builder.new result }
     ensures fixes { FixesNode text.now form at (ahead text.now false at) result }
+    ensures stops { Stops text.now at (NoValue at (ahead text.now false at) form (stack forms.old.items) builder.old) result }
 {
     let next = look(text, false, at);
     match block_sign(form, next) {
@@ -524,7 +534,7 @@ fn item(
     requires awaited { builder.now.key ≡ None }
     ensures gives { (other : List ℕ) → IsSeen other false at next → Inside other at → Gives other (Ends other (stack forms.now) builder.now.outer builder.now.done at) (2 * at + 2) (stack forms.now) builder.now result }
     ensures fixes { (text : List ℕ) → IsSeen text false at next → IsCharBoundary text at → FixesEnd text at next result }
-    ensures stops { Stops text.now false at (λ other. IsSeen other false at next → Inside other at → (v : Reading) → Ends other (stack forms.now) builder.now.outer builder.now.done at v → ⊥) result }
+    ensures stops { Stops text.now at (NoLine at next (stack forms.now) builder.now) result }
 {
     if next.column != column {
         return Err(Stop::Unread(told_place(text, next)));
@@ -558,7 +568,7 @@ fn entry<'s>(
     requires boundary { IsCharBoundary text.now at }
     ensures gives { (other : List ℕ) → IsSeen other false at next → Inside other at → IsCalm other builder.old at → SameKey text.now other next → Gives other (Ends other (stack forms.now) builder.old.outer builder.old.done at) (2 * at + 2) (stack forms.now) builder.new result }
     ensures fixes { FixesEnd text.now at next result }
-    ensures stops { Stops text.now false at (λ other. IsSeen other false at next → Inside other at → (v : Reading) → Ends other (stack forms.now) builder.old.outer builder.old.done at v → ⊥) result }
+    ensures stops { Stops text.now at (NoLine at next (stack forms.now) builder.old) result }
 {
     if next.column != column {
         return Err(Stop::Unread(told_place(text, next)));
@@ -610,7 +620,7 @@ fn head<'s>(
     requires boundary { IsCharBoundary text.now at }
     ensures gives { (other : List ℕ) → IsSeen other false at next → Inside other at → IsCalm other builder.old at → SameKey text.now other next → Gives other (Ends other (stack forms.now) builder.old.outer builder.old.done at) (2 * at + 2) (stack forms.now) builder.new result }
     ensures fixes { FixesEnd text.now at next result }
-    ensures stops { Stops text.now false at (λ other. IsSeen other false at next → Inside other at → (v : Reading) → Ends other (stack forms.now) builder.old.outer builder.old.done at v → ⊥) result }
+    ensures stops { Stops text.now at (NoLine at next (stack forms.now) builder.old) result }
 {
     match form {
         Form::Items { column } => item(text, at, column, next, forms, builder),
@@ -639,7 +649,7 @@ fn line<'s>(
     requires boundary { IsCharBoundary text.now at }
     ensures gives { (other : List ℕ) → IsSeen other false at next → Inside other at → IsCalm other builder.old at → SameKey text.now other next → Gives other (Ends other (stack forms.old.items) builder.old.outer builder.old.done at) (2 * at + 2) (stack forms.new.items) builder.new result }
     ensures fixes { FixesEnd text.now at next result }
-    ensures stops { Stops text.now false at (λ other. IsSeen other false at next → Inside other at → (v : Reading) → Ends other (stack forms.old.items) builder.old.outer builder.old.done at v → ⊥) result }
+    ensures stops { Stops text.now at (NoLine at next (stack forms.old.items) builder.old) result }
 {
     if !next.fresh {
         return Err(Stop::Unread(told_place(text, next)));
@@ -713,7 +723,7 @@ pub(crate) fn after<'s>(
     requires awaited { builder.old.key ≡ None }
     ensures gives { (other : List ℕ) → SameEnd text.now other at → IsSeen other false at (ahead text.now false at) → IsCharBoundary other at → IsCalm other builder.old at → SameKey text.now other (ahead text.now false at) → Gives other (Ends other (stack forms.old.items) builder.old.outer builder.old.done at) (2 * at + 2) (stack forms.new.items) builder.new result }
     ensures fixes { FixesEnd text.now at (ahead text.now false at) result }
-    ensures stops { Stops text.now false at (λ other. IsSeen other false at (ahead text.now false at) → (v : Reading) → Ends other (stack forms.old.items) builder.old.outer builder.old.done at v → ⊥) result }
+    ensures stops { Stops text.now at (NoLine at (ahead text.now false at) (stack forms.old.items) builder.old) result }
 {
     let next = look(text, false, at);
     if is_document_end(text, at, next) {

@@ -7,9 +7,8 @@ ghost use Rattle.yaml_scalars.specs.Scalar.{begins_quoted};
 ghost use Rattle.yaml_blocks.specs.Flow.{may_miss, may_tag, ends_key, IsColon};
 ghost use Rattle.yaml_blocks.specs.Ahead.{ahead};
 ghost use Rattle.yaml_blocks.specs.Nodes.{tag_name, node_sign, is_tagged, is_marked};
-ghost use Rattle.yaml_blocks.specs.Signs.{Reading};
 ghost use Rattle.yaml_blocks.specs.code.Rest.{top, Ends, Enters, Awaits};
-ghost use Rattle.yaml_blocks.specs.code.Twins.{Stops, FixesFlowNode, FixesFlowKey, FixesEntry, FixesSeen};
+ghost use Rattle.yaml_blocks.specs.code.Twins.{Stops, NoTail, NoFlowValue, NoEntry, FixesFlowNode, FixesFlowKey, FixesEntry, FixesSeen};
 ghost use Rattle.yaml_blocks.specs.code.Steps.{stack, IsSeen, SameFlowNode, SameFlowKey, IsFlow, IsBehind, Open, Gives, Opened, Closed, is_flow_ending};
 
 use crate::ahead::{Ahead, Token, look};
@@ -94,6 +93,7 @@ fn tag<'s>(
     requires behind { IsBehind form at }
     ensures gives { (other : List ℕ) → IsSeen other true at next → tag_name other next.at next.behind ≡ tag_name text.now next.at next.behind → Gives other (Awaits other (stack forms.old.items) builder.old.outer builder.old.done builder.old.key at) (2 * at + 2) (stack forms.new.items) builder.new result }
     ensures fixes { FixesFlowNode text.now form at next result }
+    ensures stops { Stops text.now at (NoFlowValue at next (stack forms.old.items) builder.old) result }
 {
     begin_tag(
         alloc,
@@ -126,6 +126,7 @@ fn node<'s>(
     requires boundary { IsCharBoundary text.now at }
     ensures gives { (other : List ℕ) → IsSeen other true at next → SameFlowNode text.now other form at next → Gives other (Awaits other (stack forms.old.items) builder.old.outer builder.old.done builder.old.key at) (2 * at + 2) (stack forms.new.items) builder.new result }
     ensures fixes { FixesFlowNode text.now form at next result }
+    ensures stops { Stops text.now at (NoFlowValue at next (stack forms.old.items) builder.old) result }
 {
     match node_sign(is_tagged(form), next) {
         Some(refusal) => return Err(refusal),
@@ -216,6 +217,7 @@ fn key<'s>(
     requires boundary { IsCharBoundary text.now at }
     ensures gives { (other : List ℕ) → IsSeen other true at next → SameFlowKey text.now other next → Gives other (Enters other (stack forms.now) builder.old.outer builder.old.done at) (2 * at + 2) (stack forms.now) builder.new result }
     ensures fixes { FixesFlowKey text.now at next result }
+    ensures stops { Stops text.now at (NoEntry at next (stack forms.now) builder.old) result }
 {
     match node_sign(false, next) {
         Some(refusal) => return Err(refusal),
@@ -259,6 +261,7 @@ pub(crate) fn entry<'s>(
     requires awaited { builder.old.key ≡ None }
     ensures gives { (other : List ℕ) → IsSeen other true at (ahead text.now true at) → (map ≡ true → SameFlowKey text.now other (ahead text.now true at)) → (map ≡ false → SameFlowNode text.now other (Form.Flow false) at (ahead text.now true at)) → Gives other (Enters other (stack forms.old.items) builder.old.outer builder.old.done at) (2 * at + 2) (stack forms.new.items) builder.new result }
     ensures fixes { FixesEntry text.now map at (ahead text.now true at) result }
+    ensures stops { Stops text.now at (NoEntry at (ahead text.now true at) (stack forms.old.items) builder.old) result }
 {
     let next = look(text, true, at);
     if closes(next.token, map) {
@@ -301,6 +304,7 @@ pub(crate) fn value<'s>(
     requires awaited { AwaitsValue builder.old }
     ensures gives { (other : List ℕ) → IsSeen other true at (ahead text.now true at) → IsCharBoundary other at → SameFlowNode text.now other form at (ahead text.now true at) → Gives other (Awaits other (stack forms.old.items) builder.old.outer builder.old.done builder.old.key at) (2 * at + 1) (stack forms.new.items) builder.new result }
     ensures fixes { FixesFlowNode text.now form at (ahead text.now true at) result }
+    ensures stops { Stops text.now at (NoFlowValue at (ahead text.now true at) (stack forms.old.items) builder.old) result }
 {
     let next = look(text, true, at);
     if is_flow_ending(next.token) {
@@ -324,7 +328,7 @@ pub(crate) fn after(
     requires awaited { builder.old.key ≡ None }
     ensures gives { (other : List ℕ) → IsSeen other true at (ahead text.now true at) → Gives other (Ends other (stack forms.old.items) builder.old.outer builder.old.done at) (2 * at + 2) (stack forms.new.items) builder.new result }
     ensures fixes { FixesSeen text.now at result }
-    ensures stops { Stops text.now true at (λ other. IsSeen other true at (ahead text.now true at) → (v : Reading) → Ends other (stack forms.old.items) builder.old.outer builder.old.done at v → ⊥) result }
+    ensures stops { Stops text.now at (NoTail at (ahead text.now true at) (stack forms.old.items) builder.old) result }
 {
     let next = look(text, true, at);
     if closes(next.token, map) {
@@ -357,7 +361,7 @@ pub(crate) fn after_tag(
     requires awaited { builder.old.key ≡ None }
     ensures gives { (other : List ℕ) → IsSeen other true at (ahead text.now true at) → Gives other (Ends other (stack forms.old.items) builder.old.outer builder.old.done at) (2 * at + 2) (stack forms.new.items) builder.new result }
     ensures fixes { FixesSeen text.now at result }
-    ensures stops { Stops text.now true at (λ other. IsSeen other true at (ahead text.now true at) → (v : Reading) → Ends other (stack forms.old.items) builder.old.outer builder.old.done at v → ⊥) result }
+    ensures stops { Stops text.now at (NoTail at (ahead text.now true at) (stack forms.old.items) builder.old) result }
 {
     let Some(_) = forms.pop() else { unreachable!() };
     match builder.end() {

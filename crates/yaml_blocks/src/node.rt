@@ -298,7 +298,8 @@ fn take_cut<'s>(
     requires low { negsuc 0 ≤ℤ setting.parent }
     requires high { setting.parent ≤ℤ pos template_limit }
     requires awaited { AwaitsValue builder.old }
-    ensures { Holds text.now setting cuts next builder.old builder.new result }
+    ensures holds { Holds text.now setting cuts next builder.old builder.new result }
+    ensures place { (q : ℕ) → result ≡ Err (Stop.Unread q) → q ≡ length text.now }
 {
     let scalar = match find_scalar(alloc, text, next, setting) {
         Ok(scalar) => scalar,
@@ -339,7 +340,8 @@ pub(crate) fn take_scalar<'s>(
     requires form { IsSmall form }
     requires behind { IsBehind form at }
     requires awaited { AwaitsValue builder.old }
-    ensures { Holds text.now (setting_of form) (follows_get_att text.now form at) next builder.old builder.new result }
+    ensures holds { Holds text.now (setting_of form) (follows_get_att text.now form at) next builder.old builder.new result }
+    ensures place { (q : ℕ) → result ≡ Err (Stop.Unread q) → q ≡ length text.now }
 {
     let cuts = follows_get_att(text.as_bytes(), form, at);
     take_cut(alloc, text, next, setting_of(form), cuts, builder)

@@ -1,10 +1,12 @@
 //! A whole text.
 ghost use Rattle.std.specs.Prelude.{◌≡◌, ◌≤◌, length, true, false, None, IsErrOf, IfOk, MatchResult};
+ghost use Rattle.std.specs.Result.{IfErr};
 ghost use Rattle.std.specs.Str.{IsCharBoundary};
 ghost use Rattle.doc_values.specs.Limits.{template_limit};
 ghost use Rattle.yaml_scalars.specs.Scalar.{begins_order_mark};
 ghost use Rattle.yaml_blocks.specs.Answers.{Reads, Refuses};
 ghost use Rattle.yaml_blocks.specs.code.Memory.{BeginsDocument};
+ghost use Rattle.yaml_blocks.specs.code.Places.{StopsAt};
 ghost use Rattle.yaml_blocks.specs.code.Refused.{of_stop};
 ghost use Rattle.yaml_blocks.specs.code.Twins.{FixesStart};
 ghost use Rattle.yaml_blocks.specs.Yaml.{IsStart, start_sign, text_start};
@@ -26,19 +28,32 @@ pub fn read_yaml<'s>(alloc: Global, text: &'s str) -> Result<Doc<'s>, YamlRefusa
     ensures answer { MatchResult result (λ d. Reads text.now d) (λ e. Refuses text.now e) }
     ensures memory { IsErrOf result YamlRefusal.NoMemory → BeginsDocument text.now }
 {
+    match read_document(alloc, text) {
+        Ok(doc) => Ok(doc),
+        Err(stop) => Err(refusal_of(stop)),
+    }
+}
+
+/// The same tree, or why reading stops.
+fn read_document<'s>(alloc: Global, text: &'s str) -> Result<Doc<'s>, Stop>
+    requires { length text.now ≤ template_limit }
+    ensures answer { MatchResult result (λ d. Reads text.now d) (λ e. Refuses text.now (of_stop e)) }
+    ensures memory { IsErrOf result Stop.NoMemory → BeginsDocument text.now }
+    ensures place { IfErr result (λ e. StopsAt text.now e) }
+{
     let start = match document_start(text) {
         Ok(start) => start,
-        Err(stop) => return Err(refusal_of(stop)),
+        Err(stop) => return Err(stop),
     };
     let mut forms = Vec::new(alloc);
     let mut builder = DocBuilder::new(alloc);
     let mut position = match root(text, start, &mut builder) {
         Ok(next) => next,
-        Err(stop) => return Err(refusal_of(stop)),
+        Err(stop) => return Err(stop),
     };
     while goes_on(position.stage) {
         match step(alloc, text, position, &mut forms, &mut builder) {
-            Err(stop) => return Err(refusal_of(stop)),
+            Err(stop) => return Err(stop),
             Ok(next) => position = next,
         }
     }
@@ -80,6 +95,7 @@ fn document_start(text: &str) -> Result<usize, Stop>
     ensures start { MatchResult result (λ start. IsStart text.now start × IsCharBoundary text.now start × (start_sign text.now ≡ None)) (λ e. Refuses text.now (of_stop e)) }
     ensures fixes { IfOk result (λ start. FixesStart text.now start) }
     ensures no_memory { ¬ IsErrOf result Stop.NoMemory }
+    ensures place { IfErr result (λ e. StopsAt text.now e) }
 {
     let at = text_start(text);
     let next = look(text, false, at);

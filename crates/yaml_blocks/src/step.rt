@@ -1,13 +1,12 @@
 //! One token of a document at a time, by where reading stands.
 ghost use Rattle.std.specs.Prelude.{ℕ, List, ◌≡◌, ◌≤◌, ◌*◌, ◌+◌, length, [], false, true};
+ghost use Rattle.std.specs.Result.{IfErr};
 ghost use Rattle.std.specs.Str.{IsCharBoundary, IsUtf8};
 ghost use Rattle.doc_values.specs.Limits.{template_limit};
 ghost use Rattle.doc_values.specs.Unfinished.{start};
-ghost use Rattle.yaml_blocks.specs.Ahead.{ahead};
-ghost use Rattle.yaml_blocks.specs.Signs.{Reading};
 ghost use Rattle.yaml_blocks.specs.code.Rest.{top, Ends, Enters, Awaits, Begins};
-ghost use Rattle.yaml_blocks.specs.code.Twins.{Stops, FixesStep, FixesRoot};
-ghost use Rattle.yaml_blocks.specs.code.Steps.{stack, IsSeen, IsBlock, IsFlow, Open, Rest, Fits, SameStep, reached, Gives};
+ghost use Rattle.yaml_blocks.specs.code.Twins.{StopsStep, FixesStep, FixesRoot};
+ghost use Rattle.yaml_blocks.specs.code.Steps.{stack, IsBlock, IsFlow, Open, Rest, Fits, SameStep, reached, Gives};
 
 use crate::ahead::look;
 use crate::form::Form;
@@ -32,6 +31,7 @@ fn entry<'s>(
     requires fits { Fits text.now Stage.Entry (stack forms.old.items) builder.old at }
     ensures gives { (other : List ℕ) → IsUtf8 other → IsCharBoundary other at → Fits other Stage.Entry (stack forms.old.items) builder.old at → SameStep text.now other Stage.Entry (top (stack forms.old.items)) at → Gives other (Enters other (stack forms.old.items) builder.old.outer builder.old.done at) (2 * at + 2) (stack forms.new.items) builder.new result }
     ensures fixes { FixesStep text.now Stage.Entry (top (stack forms.old.items)) at result }
+    ensures stops { StopsStep text.now Stage.Entry (stack forms.old.items) builder.old at result }
 {
     match innermost(forms) {
         Form::Flow { map } => flow::entry(alloc, text, at, map, forms, builder),
@@ -67,6 +67,7 @@ fn value<'s>(
     requires fits { Fits text.now Stage.Value (stack forms.old.items) builder.old at }
     ensures gives { (other : List ℕ) → IsUtf8 other → IsCharBoundary other at → Fits other Stage.Value (stack forms.old.items) builder.old at → SameStep text.now other Stage.Value (top (stack forms.old.items)) at → Gives other (Awaits other (stack forms.old.items) builder.old.outer builder.old.done builder.old.key at) (2 * at + 1) (stack forms.new.items) builder.new result }
     ensures fixes { FixesStep text.now Stage.Value (top (stack forms.old.items)) at result }
+    ensures stops { StopsStep text.now Stage.Value (stack forms.old.items) builder.old at result }
 {
     let form = innermost(forms);
     if is_flow(form) {
@@ -88,8 +89,7 @@ fn after<'s>(
     requires fits { Fits text.now Stage.After (stack forms.old.items) builder.old at }
     ensures gives { (other : List ℕ) → IsUtf8 other → IsCharBoundary other at → Fits other Stage.After (stack forms.old.items) builder.old at → SameStep text.now other Stage.After (top (stack forms.old.items)) at → Gives other (Ends other (stack forms.old.items) builder.old.outer builder.old.done at) (2 * at + 2) (stack forms.new.items) builder.new result }
     ensures fixes { FixesStep text.now Stage.After (top (stack forms.old.items)) at result }
-    ensures flow_stops { IsFlow (top (stack forms.old.items)) → Stops text.now true at (λ other. IsSeen other true at (ahead text.now true at) → (v : Reading) → Ends other (stack forms.old.items) builder.old.outer builder.old.done at v → ⊥) result }
-    ensures block_stops { IsBlock (top (stack forms.old.items)) → Stops text.now false at (λ other. IsSeen other false at (ahead text.now false at) → (v : Reading) → Ends other (stack forms.old.items) builder.old.outer builder.old.done at v → ⊥) result }
+    ensures stops { StopsStep text.now Stage.After (stack forms.old.items) builder.old at result }
 {
     match innermost(forms) {
         Form::Flow { map } => flow::after(text, at, map, forms, builder),
@@ -112,6 +112,7 @@ pub(crate) fn step<'s>(
     requires fits { Fits text.now position.stage (stack forms.old.items) builder.old position.at }
     ensures gives { (other : List ℕ) → IsUtf8 other → IsCharBoundary other position.at → Fits other position.stage (stack forms.old.items) builder.old position.at → SameStep text.now other position.stage (top (stack forms.old.items)) position.at → Gives other (Rest other position.stage (stack forms.old.items) builder.old position.at) (reached position.stage position.at) (stack forms.new.items) builder.new result }
     ensures fixes { FixesStep text.now position.stage (top (stack forms.old.items)) position.at result }
+    ensures stops { StopsStep text.now position.stage (stack forms.old.items) builder.old position.at result }
 {
     match position.stage {
         Stage::Entry => entry(alloc, text, position.at, forms, builder),
@@ -128,6 +129,7 @@ pub(crate) fn root(text: &str, at: usize, builder: &mut DocBuilder) -> Result<Po
     requires fits { builder.old ≡ start }
     ensures gives { Gives text.now (Begins text.now at) 0 [] builder.new result }
     ensures fixes { FixesRoot text.now at builder.new result }
+    ensures memory { IfErr result (λ e. e ≡ Stop.NoMemory) }
 {
     if is_ending(look(text, false, at).token) {
         return take_null(text.len(), at, builder);

@@ -15,12 +15,11 @@ use Rattle.yaml_blocks.specs.declared.stage.Stage.TheVariants as stage
 use Rattle.yaml_blocks.specs.declared.stage.Position.{Position}
 use Rattle.yaml_blocks.specs.declared.stop.Stop.{Stop}
 use Rattle.yaml_blocks.specs.declared.stop.Stop.TheVariants as stop
-use Rattle.yaml_blocks.specs.Ahead.{ahead}
-use Rattle.yaml_blocks.specs.Signs.{Tree}
+use Rattle.yaml_blocks.specs.Signs.{Reading, Tree}
 use Rattle.yaml_blocks.specs.Yaml.{IsStart}
-use Rattle.yaml_blocks.specs.code.AheadSeen.{ahead_seen, is_told}
-use Rattle.yaml_blocks.specs.code.Rest.{Begins}
-use Rattle.yaml_blocks.specs.code.Steps.{Rest, Fits, SameNode, SameFlowNode, SameFlowKey, SameKey, SameEnd, SameStep}
+use Rattle.yaml_blocks.specs.code.AheadSeen.{ahead_seen}
+use Rattle.yaml_blocks.specs.code.Rest.{Begins, Ends, Enters, Awaits}
+use Rattle.yaml_blocks.specs.code.Steps.{IsSeen, IsCalm, Awaited, Rest, Fits, SameNode, SameFlowNode, SameFlowKey, SameKey, SameEnd, SameStep}
 
 -- another text is the same up to a place and with the byte there; in both, or in neither, a break begins with that byte, and a
 -- byte order mark stands in front
@@ -30,15 +29,41 @@ pub record IsTwin (text : List ℕ) (place : ℕ) (other : List ℕ) : Type 0 wh
   pub agrees : AgreesTo place text other
   pub breaks : ends_line (drop place text) ≡ ends_line (drop place other)
 
--- a place shows what is ahead of another one, as a token that its first byte tells; or it is the text's length
-abbrev pub IsShown : List ℕ → Bool → ℕ → ℕ → Type 0
-IsShown text flow i q = (q ≡ length text) ⊎ ((is_told (ahead text flow i).token ≡ true) × (ahead_seen text i ≡ q) × (q < length text) × (begins_with 13 (drop q text) ≡ false))
+-- a place lies behind another one, or is the same and has no carriage return
+abbrev pub IsPast : List ℕ → ℕ → ℕ → Type 0
+IsPast text p q = (p < q) ⊎ ((p ≡ q) × (begins_with 13 (drop q text) ≡ false))
 
--- where reading stops and no sign counts: the place shows what is ahead, and if it lies in the text, it is so in each other text
-abbrev pub Stops : List ℕ → Bool → ℕ → (List ℕ → Type 0) → Result Position Stop → Type 0
-Stops text flow i none (Ok p) = Unit {0}
-Stops text flow i none (Err (stop.Unread q)) = IsShown text flow i q × (q < length text → (other : List ℕ) → none other)
-Stops text flow i none (Err _) = Unit {0}
+-- a place of the text shows what is so in other ones: in each that is the same as far as what is ahead is looked at, and as a
+-- place that is no further
+abbrev pub IsShown : List ℕ → ℕ → (List ℕ → Type 0) → ℕ → Type 0
+IsShown text i none q = (q < length text) × ((p : ℕ) × IsPast text p q × (ahead_seen text i ≤ p) × ((other : List ℕ) → IsTwin text p other → none other))
+
+-- where reading stops and no sign counts: the place is the text's length, or shows what is so in other texts
+abbrev pub Stops : List ℕ → ℕ → (List ℕ → Type 0) → Result Position Stop → Type 0
+Stops text i none (Ok p) = Unit {0}
+Stops text i none (Err (stop.Unread q)) = (q ≡ length text) ⊎ IsShown text i none q
+Stops text i none (Err _) = Unit {0}
+
+-- what is so there: where the same is ahead, nothing follows a complete node between brackets, or outside of them; nor does a
+-- value follow there, or an entry
+abbrev pub NoTail : ℕ → Ahead → List Form → Unfinished → List ℕ → Type 0
+NoTail i a fs u other = IsSeen other true i a → (v : Reading) → Ends other fs u.outer u.done i v → ⊥
+
+abbrev pub NoLine : ℕ → Ahead → List Form → Unfinished → List ℕ → Type 0
+NoLine i a fs u other = IsSeen other false i a → IsCalm other u i → (v : Reading) → Ends other fs u.outer u.done i v → ⊥
+
+abbrev pub NoFlowValue : ℕ → Ahead → List Form → Unfinished → List ℕ → Type 0
+NoFlowValue i a fs u other = IsSeen other true i a → (v : Reading) → Awaits other fs u.outer u.done u.key i v → ⊥
+
+abbrev pub NoValue : ℕ → Ahead → Form → List Form → Unfinished → List ℕ → Type 0
+NoValue i a f fs u other = Awaited other fs u f i a → (v : Reading) → Awaits other fs u.outer u.done u.key i v → ⊥
+
+abbrev pub NoEntry : ℕ → Ahead → List Form → Unfinished → List ℕ → Type 0
+NoEntry i a fs u other = IsSeen other true i a → (v : Reading) → Enters other fs u.outer u.done i v → ⊥
+
+-- where reading stands at a stage
+abbrev pub StopsStep : List ℕ → Stage → List Form → Unfinished → ℕ → Result Position Stop → Type 0
+StopsStep text s fs u i r = Stops text i (λ other. IsCharBoundary other i → Fits other s fs u i → (v : Reading) → Rest other s fs u i v → ⊥) r
 
 -- where reading goes on at a place: what holds of each text that is the same as far as this place is looked at
 abbrev pub Fixes : List ℕ → (ℕ → List ℕ → Type 0) → Result Position Stop → Type 0

@@ -3,15 +3,15 @@ use Rattle.std.specs.Prelude.{option_map}
 use Rattle.yaml_blocks.specs.declared.ahead.Ahead.{Ahead}
 use Rattle.yaml_blocks.specs.code.Refused.{of_sign}
 use Rattle.yaml_blocks.specs.code.Steps.{stack, IsSeen, SameKey}
-use Rattle.yaml_blocks.specs.Signs.{Reading, Tree}
+use Rattle.yaml_blocks.specs.Signs.{Tree}
 use Rattle.yaml_blocks.specs.Yaml.{end_sign}
 use Rattle.yaml_blocks.specs.code.Rest.{Ends}
 use Rattle.yaml_blocks.proofs.Continuations.{block_ends}
-use Rattle.yaml_blocks.proofs.Stopped.{signed_stops, inside_stops, living_stops}
+use Rattle.yaml_blocks.proofs.Stopped.{signed_stops, living_stops}
 use Rattle.yaml_blocks.proofs.BlockGains.{signed_gives, no_sign_inside}
 use Rattle.yaml_blocks.proofs.SameTexts.{sign_same, end_there, end_here}
 use Rattle.yaml_blocks.proofs.Fixed.{whole_fixes}
-use Rattle.yaml_blocks.specs.code.Twins.{FixesEnd}
+use Rattle.yaml_blocks.specs.code.Twins.{Stops, NoLine, FixesEnd}
 use Rattle.yaml_blocks.specs.Ahead.{ahead}
 use Rattle.yaml_blocks.proofs.block.after.Goals as goal
 
@@ -38,16 +38,20 @@ pub returns-then-is_document_end-clause-fixes : goal.returns-then-is_document_en
 returns-then-is_document_end-clause-fixes c = whole_fixes c.args.text.now c.args.at (ahead c.args.text.now false c.args.at) c.end_all.result c.end_all.ensures.whole
 
 pub returns-in-Some-clause-stops : goal.returns-in-Some-clause-stops
-returns-in-Some-clause-stops c = signed_stops c.args.text.now false c.args.at (λ text. IsSeen text false c.args.at (ahead c.args.text.now false c.args.at) → (v : Reading) → Ends text (stack c.args.forms.now.items) c.args.builder.now.outer c.args.builder.now.done c.args.at v → ⊥) (end_sign c.args.text.now c.args.at) c.in-Some.refusal c.in-Some.ensures
+returns-in-Some-clause-stops c =
+    signed_stops c.args.text.now c.args.at (NoLine c.args.at (ahead c.args.text.now false c.args.at) (stack c.args.forms.now.items) c.args.builder.now) (end_sign c.args.text.now c.args.at) c.in-Some.refusal c.in-Some.ensures
 
 pub returns-in-None-clause-stops : goal.returns-in-None-clause-stops
-returns-in-None-clause-stops c = inside_stops c.args.text.now c.args.at c.look-next.result (λ text. (v : Reading) → Ends text (stack c.args.forms.now.items) c.args.builder.now.outer c.args.builder.now.done c.args.at v → ⊥) c.line.result c.look-next.ensures.0 c.line.ensures.stops
+returns-in-None-clause-stops c =
+    subst (λ (a : Ahead). Stops c.args.text.now c.args.at (NoLine c.args.at a (stack c.args.forms.now.items) c.args.builder.now) c.line.result) c.look-next.ensures.0 c.line.ensures.stops
 
 pub returns-then-is_document_end-clause-stops : goal.returns-then-is_document_end-clause-stops
 returns-then-is_document_end-clause-stops c =
     let this = c.args.text.now in
+    let at = c.args.at in
     let fs = stack c.args.forms.now.items in
     let u = c.args.builder.now in
     let end = c.if-is_document_end.ensures.yes refl in
-    let t = block_ends fs u.outer u.done this c.args.at end c.requires.block c.requires.open.0 c.requires.open.1 in
-    living_stops this false c.args.at (λ text. IsSeen text false c.args.at (ahead c.args.text.now false c.args.at) → (v : Reading) → Ends text (stack c.args.forms.now.items) c.args.builder.now.outer c.args.builder.now.done c.args.at v → ⊥) (Ends this fs u.outer u.done c.args.at) (2 * c.args.at + 2) (stack c.end_all.new.forms.items) c.end_all.new.builder c.end_all.result (Tree t.0) t.1 (c.end_all.ensures.gives this end c.requires.boundary)
+    let t = block_ends fs u.outer u.done this at end c.requires.block c.requires.open.0 c.requires.open.1 in
+    living_stops this at (NoLine at (ahead this false at) fs u) (Ends this fs u.outer u.done at) (2 * at + 2) (stack c.end_all.new.forms.items) c.end_all.new.builder c.end_all.result (Tree t.0) t.1
+    (c.end_all.ensures.gives this end c.requires.boundary)

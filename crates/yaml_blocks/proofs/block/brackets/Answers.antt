@@ -2,6 +2,8 @@ use Rattle.yaml_blocks.specs.code.Steps.{stack}
 use Rattle.yaml_blocks.proofs.BlockGains.{brackets_gives, spot_of}
 use Rattle.yaml_blocks.proofs.Fixed.{opens_fixes}
 use Rattle.yaml_blocks.proofs.AwaitedNodes.{place_behind}
+use Rattle.yaml_blocks.specs.code.Twins.{NoValue}
+use Rattle.yaml_blocks.proofs.Stopped.{opened_stops}
 use Rattle.yaml_blocks.proofs.block.brackets.Goals as goal
 
 pub returns-clause-gives : goal.returns-clause-gives
@@ -13,3 +15,6 @@ returns-clause-gives c = λ text w same.
 
 pub returns-clause-fixes : goal.returns-clause-fixes
 returns-clause-fixes c = opens_fixes c.args.text.now c.args.form c.args.at c.args.map c.args.next (stack c.args.forms.now.items) (stack c.open.new.forms.items) c.args.builder.now c.open.new.builder c.open.result c.requires.awaited.seen c.requires.awaited.boundary (place_behind c.args.text.now (stack c.args.forms.now.items) c.args.builder.now c.args.form c.args.at c.args.next c.requires.awaited) c.requires.opens c.open.ensures
+
+pub returns-clause-stops : goal.returns-clause-stops
+returns-clause-stops c = opened_stops c.args.text.now c.args.at (NoValue c.args.at c.args.next c.args.form (stack c.args.forms.now.items) c.args.builder.now) c.args.map c.args.next (stack c.args.forms.now.items) (stack c.open.new.forms.items) c.args.builder.now c.open.new.builder c.open.result c.open.ensures

@@ -15,11 +15,9 @@ use Rattle.yaml_blocks.proofs.Gains.{found_key}
 use Rattle.yaml_blocks.proofs.SameTexts.{found_same, finds_same, has_key_same}
 use Rattle.yaml_blocks.proofs.BlockGains.{Behind, nothing_follows, entry_deep, entry_signed_gives, entry_missed, entry_goes, entry_refused, no_colon}
 use Rattle.yaml_blocks.proofs.Fixed.{entry_fixes}
-use Rattle.yaml_blocks.proofs.Stopped.{told_stops, signed_stops, built_stops, far_stops, length_stops}
-use Rattle.yaml_blocks.specs.Signs.{Reading}
+use Rattle.yaml_blocks.proofs.Stopped.{told_stops, told_inside_at, signed_stops, built_stops, far_stops, length_stops}
 use Rattle.yaml_blocks.specs.Nodes.{node_sign}
-use Rattle.yaml_blocks.specs.code.Rest.{Ends, Inside}
-use Rattle.yaml_blocks.specs.code.Steps.{IsSeen}
+use Rattle.yaml_blocks.specs.code.Twins.{NoLine}
 use Rattle.yaml_blocks.proofs.block.entry.Goals as goal
 
 pub returns-then-next-column-clause-gives : goal.returns-then-next-column-clause-gives
@@ -94,17 +92,20 @@ returns-in-Some-colon_behind-clause-fixes c =
 pub returns-then-next-column-clause-stops : goal.returns-then-next-column-clause-stops
 returns-then-next-column-clause-stops c =
     let fs = stack c.args.forms.now in
-    told_stops c.args.text.now false c.args.at (λ text. IsSeen text false c.args.at c.args.next → Inside text c.args.at → (v : Reading) → Ends text (stack c.args.forms.now) c.args.builder.now.outer c.args.builder.now.done c.args.at v → ⊥) c.args.next c.told_place.result c.requires.seen.0 c.told_place.ensures
-    (λ text seen inside v h. nothing_follows text fs c.args.builder.now c.args.at c.args.next seen.0 inside (entry_deep text fs c.args.column c.args.next c.requires.open.1 c.requires.form c.requires.stays c.if-next-column.true) v h)
+    let u = c.args.builder.now in
+    let at = c.args.at in
+    let next = c.args.next in
+    told_stops c.args.text.now at (NoLine at next fs u) false next c.told_place.result c.requires.seen.0 c.told_place.ensures
+    (λ text told seen calm v h. nothing_follows text fs u at next seen.0 (told_inside_at text at next seen.0 told) (entry_deep text fs c.args.column next c.requires.open.1 c.requires.form c.requires.stays c.if-next-column.true) v h)
 
 pub returns-in-Some-clause-stops : goal.returns-in-Some-clause-stops
-returns-in-Some-clause-stops c = signed_stops c.args.text.now false c.args.at (λ text. IsSeen text false c.args.at c.args.next → Inside text c.args.at → (v : Reading) → Ends text (stack c.args.forms.now) c.args.builder.now.outer c.args.builder.now.done c.args.at v → ⊥) (node_sign false c.args.next.at c.args.next.token) c.in-Some.refusal c.in-Some.ensures
+returns-in-Some-clause-stops c = signed_stops c.args.text.now c.args.at (NoLine c.args.at c.args.next (stack c.args.forms.now) c.args.builder.now) (node_sign false c.args.next.at c.args.next.token) c.in-Some.refusal c.in-Some.ensures
 
 pub returns-in-Err-clause-stops : goal.returns-in-Err-clause-stops
-returns-in-Err-clause-stops c = far_stops c.args.text.now false c.args.at (λ text. IsSeen text false c.args.at c.args.next → Inside text c.args.at → (v : Reading) → Ends text (stack c.args.forms.now) c.args.builder.now.outer c.args.builder.now.done c.args.at v → ⊥) c.in-Err.refusal (λ q e. c.in-Err.ensures.place q (ap Err e))
+returns-in-Err-clause-stops c = far_stops c.args.text.now c.args.at (NoLine c.args.at c.args.next (stack c.args.forms.now) c.args.builder.now) c.in-Err.refusal (λ q e. c.in-Err.ensures.place q (ap Err e))
 
 pub returns-in-Err-key-clause-stops : goal.returns-in-Err-key-clause-stops
-returns-in-Err-key-clause-stops c = built_stops c.args.text.now false c.args.at (λ text. IsSeen text false c.args.at c.args.next → Inside text c.args.at → (v : Reading) → Ends text (stack c.args.forms.now) c.args.builder.now.outer c.args.builder.now.done c.args.at v → ⊥) c.in-Err-key.refusal c.from.result c.from.ensures
+returns-in-Err-key-clause-stops c = built_stops c.args.text.now c.args.at (NoLine c.args.at c.args.next (stack c.args.forms.now) c.args.builder.now) c.in-Err-key.refusal c.from.result c.from.ensures
 
 pub returns-in-None-colon_behind-clause-stops : goal.returns-in-None-colon_behind-clause-stops
-returns-in-None-colon_behind-clause-stops c = length_stops c.args.text.now false c.args.at (λ text. IsSeen text false c.args.at c.args.next → Inside text c.args.at → (v : Reading) → Ends text (stack c.args.forms.now) c.args.builder.now.outer c.args.builder.now.done c.args.at v → ⊥) c.offset-in-None-colon_behind.result c.offset-in-None-colon_behind.ensures
+returns-in-None-colon_behind-clause-stops c = length_stops c.args.text.now c.args.at (NoLine c.args.at c.args.next (stack c.args.forms.now) c.args.builder.now) c.offset-in-None-colon_behind.result c.offset-in-None-colon_behind.ensures

@@ -1,9 +1,7 @@
 use Rattle.yaml_blocks.specs.code.Steps.{stack}
 use Rattle.yaml_blocks.proofs.BlockGains.{root_none}
-use Rattle.yaml_blocks.proofs.Stopped.{told_stops}
-use Rattle.yaml_blocks.specs.Signs.{Reading}
-use Rattle.yaml_blocks.specs.code.Rest.{Ends, Inside}
-use Rattle.yaml_blocks.specs.code.Steps.{IsSeen}
+use Rattle.yaml_blocks.proofs.Stopped.{told_stops, told_inside_at}
+use Rattle.yaml_blocks.specs.code.Twins.{NoLine}
 use Rattle.std.specs.Prelude.{false}
 use Rattle.yaml_blocks.proofs.block.head.Goals as goal
 
@@ -21,8 +19,12 @@ returns-in-Items-clause-fixes c = c.item.ensures.fixes c.args.text.now c.require
 
 pub returns-in-Root-clause-stops : goal.returns-in-Root-clause-stops
 returns-in-Root-clause-stops c =
-    told_stops c.args.text.now false c.args.at (λ text. IsSeen text false c.args.at c.args.next → Inside text c.args.at → (v : Reading) → Ends text (stack c.args.forms.now) c.args.builder.now.outer c.args.builder.now.done c.args.at v → ⊥) c.args.next c.told_place.result c.requires.seen.0 c.told_place.ensures
-    (λ text seen inside v h. root_none text (stack c.args.forms.now) c.args.builder.now c.args.at c.args.form c.requires.form c.in-Root.is c.requires.open inside v h)
+    let fs = stack c.args.forms.now in
+    let u = c.args.builder.now in
+    let at = c.args.at in
+    let next = c.args.next in
+    told_stops c.args.text.now at (NoLine at next fs u) false next c.told_place.result c.requires.seen.0 c.told_place.ensures
+    (λ text told seen calm v h. root_none text fs u at c.args.form c.requires.form c.in-Root.is c.requires.open (told_inside_at text at next seen.0 told) v h)
 
 pub returns-in-Items-clause-stops : goal.returns-in-Items-clause-stops
 returns-in-Items-clause-stops c = c.item.ensures.stops

@@ -3,10 +3,8 @@ use Rattle.yaml_blocks.specs.declared.stage.Stage.TheVariants as stage
 use Rattle.yaml_blocks.specs.code.Steps.{stack}
 use Rattle.yaml_blocks.proofs.BlockGains.{nothing_follows, item_deep, item_stays, item_goes}
 use Rattle.yaml_blocks.proofs.Fixed.{item_fixes}
-use Rattle.yaml_blocks.proofs.Stopped.{told_stops}
-use Rattle.yaml_blocks.specs.Signs.{Reading}
-use Rattle.yaml_blocks.specs.code.Rest.{Ends, Inside}
-use Rattle.yaml_blocks.specs.code.Steps.{IsSeen}
+use Rattle.yaml_blocks.proofs.Stopped.{told_stops, told_inside_at}
+use Rattle.yaml_blocks.specs.code.Twins.{NoLine}
 use Rattle.yaml_blocks.proofs.block.item.Goals as goal
 
 pub returns-then-next-column-clause-gives : goal.returns-then-next-column-clause-gives
@@ -32,8 +30,10 @@ pub returns-then-next-column-clause-stops : goal.returns-then-next-column-clause
 returns-then-next-column-clause-stops c =
     let fs = stack c.args.forms.now in
     let u = c.args.builder.now in
-    told_stops c.args.text.now false c.args.at (λ text. IsSeen text false c.args.at c.args.next → Inside text c.args.at → (v : Reading) → Ends text fs u.outer u.done c.args.at v → ⊥) c.args.next c.told_place.result c.requires.seen.0 c.told_place.ensures
-    (λ text seen inside v h. nothing_follows text fs u c.args.at c.args.next seen.0 inside (item_deep text fs c.args.column c.args.next c.requires.open.1 c.requires.form c.requires.stays c.if-next-column.true) v h)
+    let at = c.args.at in
+    let next = c.args.next in
+    told_stops c.args.text.now at (NoLine at next fs u) false next c.told_place.result c.requires.seen.0 c.told_place.ensures
+    (λ text told seen calm v h. nothing_follows text fs u at next seen.0 (told_inside_at text at next seen.0 told) (item_deep text fs c.args.column next c.requires.open.1 c.requires.form c.requires.stays c.if-next-column.true) v h)
 
 pub returns-in_default-clause-stops : goal.returns-in_default-clause-stops
 returns-in_default-clause-stops c = absurd (item_stays c.args.column c.args.next c.requires.stays c.if-next-column.false c.in_default.not-Dash)

@@ -8,12 +8,8 @@ use Rattle.yaml_blocks.proofs.LastValues.{lasts_calm}
 use Rattle.yaml_blocks.proofs.Quiet.{line_quiet}
 use Rattle.yaml_blocks.proofs.Roots.{not_true}
 use Rattle.yaml_blocks.proofs.BlockGains.{nothing_follows}
-use Rattle.yaml_blocks.proofs.Stopped.{told_stops, memory_stops, stops_from}
-use Rattle.yaml_blocks.specs.Signs.{Reading}
-use Rattle.yaml_blocks.specs.code.Rest.{Inside}
-use Rattle.yaml_blocks.specs.code.Steps.{IsSeen}
-use Rattle.yaml_blocks.specs.code.Twins.{Stops}
-use Rattle.std.specs.Prelude.{ℕ}
+use Rattle.yaml_blocks.proofs.Stopped.{told_stops, told_inside_at, memory_stops, stops_from}
+use Rattle.yaml_blocks.specs.code.Twins.{Stops, NoLine}
 use Rattle.yaml_blocks.proofs.block.line.Goals as goal
 
 pub returns-then-not-next-clause-gives : goal.returns-then-not-next-clause-gives
@@ -43,16 +39,21 @@ returns-in-Err-clause-gives c = λ text seen inside calm same. memory_gives text
 pub returns-then-not-next-clause-stops : goal.returns-then-not-next-clause-stops
 returns-then-not-next-clause-stops c =
     let fs = stack c.args.forms.now.items in
-    told_stops c.args.text.now false c.args.at (λ text. IsSeen text false c.args.at c.args.next → Inside text c.args.at → (v : Reading) → Ends text (stack c.args.forms.now.items) c.args.builder.now.outer c.args.builder.now.done c.args.at v → ⊥) c.args.next c.told_place.result c.requires.seen.0 c.told_place.ensures
-    (λ text seen inside v h. nothing_follows text fs c.args.builder.now c.args.at c.args.next seen.0 inside (line_quiet text c.args.next fs c.requires.open.1 c.requires.block (not_true c.args.next.fresh c.if-not-next.true)) v h)
+    let u = c.args.builder.now in
+    let at = c.args.at in
+    let next = c.args.next in
+    told_stops c.args.text.now at (NoLine at next fs u) false next c.told_place.result c.requires.seen.0 c.told_place.ensures
+    (λ text told seen calm v h. nothing_follows text fs u at next seen.0 (told_inside_at text at next seen.0 told) (line_quiet text next fs c.requires.open.1 c.requires.block (not_true next.fresh c.if-not-next.true)) v h)
 
 pub returns-in-Err-clause-stops : goal.returns-in-Err-clause-stops
-returns-in-Err-clause-stops c = memory_stops c.args.text.now false c.args.at (λ text. IsSeen text false c.args.at c.args.next → Inside text c.args.at → (v : Reading) → Ends text (stack c.args.forms.now.items) c.args.builder.now.outer c.args.builder.now.done c.args.at v → ⊥) c.in-Err.refusal (c.in-Err.ensures c.args.text.now c.args.at c.requires.seen.0)
+returns-in-Err-clause-stops c = memory_stops c.args.text.now c.args.at (NoLine c.args.at c.args.next (stack c.args.forms.now.items) c.args.builder.now) c.in-Err.refusal (c.in-Err.ensures c.args.text.now c.args.at c.requires.seen.0)
 
 pub returns-in-Ok-clause-stops : goal.returns-in-Ok-clause-stops
 returns-in-Ok-clause-stops c =
     let at = c.args.at in
+    let u = c.args.builder.now in
     let w = c.end_before.new.builder in
-    let After : List Form → List ℕ → Type 0 = λ gs text. IsSeen text false at c.args.next → Inside text at → (v : Reading) → Ends text (stack gs) w.outer w.done at v → ⊥ in
-    stops_from c.args.text.now false at (After c.end_before.new.forms.items) (λ text. IsSeen text false c.args.at c.args.next → Inside text c.args.at → (v : Reading) → Ends text (stack c.args.forms.now.items) c.args.builder.now.outer c.args.builder.now.done c.args.at v → ⊥) c.head.result (λ text k seen inside v h. k seen inside v (((c.in-Ok.ensures text at seen.0).0 v).0 h))
-    (subst (λ (x : List Form). Stops c.args.text.now false at (After x) c.head.result) c.deref-in-Ok.ensures.value c.head.ensures.stops)
+    let next = c.args.next in
+    stops_from c.args.text.now at (NoLine at next (stack c.end_before.new.forms.items) w) (NoLine at next (stack c.args.forms.now.items) u) c.head.result
+    (λ text k seen calm v h. (let ended = c.in-Ok.ensures text at seen.0 in k seen (lasts_calm text u w at ended.5 calm) v ((ended.0 v).0 h)))
+    (subst (λ (x : List Form). Stops c.args.text.now at (NoLine at next (stack x) w) c.head.result) c.deref-in-Ok.ensures.value c.head.ensures.stops)

@@ -7,6 +7,8 @@ use Rattle.yaml_blocks.specs.code.Steps.{stack}
 use Rattle.yaml_blocks.proofs.BlockGains.{mapping_goes, mapping_refused, spot_of}
 use Rattle.yaml_blocks.proofs.AwaitedNodes.{column_before, small_form, small_place, value_awaited, place_behind}
 use Rattle.yaml_blocks.proofs.Fixed.{key_fixes}
+use Rattle.yaml_blocks.specs.code.Twins.{NoValue}
+use Rattle.yaml_blocks.proofs.Stopped.{deep_stops}
 use Rattle.yaml_blocks.proofs.block.mapping.Goals as goal
 
 pub returns-in-Ok-key-clause-gives : goal.returns-in-Ok-key-clause-gives
@@ -48,3 +50,6 @@ offset-requires c = small_place c.args.text.now (stack c.args.forms.now.items) c
 
 pub returns-in-Ok-key-clause-fixes : goal.returns-in-Ok-key-clause-fixes
 returns-in-Ok-key-clause-fixes c = key_fixes c.args.text.now c.args.form c.args.at c.args.next c.args.key (record { stage = stage.Value; at = c.args.key.behind }) c.requires.awaited.seen c.requires.awaited.boundary (place_behind c.args.text.now (stack c.args.forms.now.items) c.args.builder.now c.args.form c.args.at c.args.next c.requires.awaited) c.requires.takes c.requires.key c.requires.ends refl
+
+pub returns-in-Err-clause-stops : goal.returns-in-Err-clause-stops
+returns-in-Err-clause-stops c = deep_stops c.args.text.now c.args.at (NoValue c.args.at c.args.next c.args.form (stack c.args.forms.now.items) c.args.builder.now) c.args.builder.now c.args.next.at c.in-Err.refusal c.in-Err.ensures

@@ -6,6 +6,8 @@ use Rattle.yaml_blocks.proofs.BlockGains.{missing_gives, no_root, spot_of}
 use Rattle.yaml_blocks.proofs.Fixed.{missing_fixes}
 use Rattle.yaml_blocks.proofs.AwaitedNodes.{place_behind}
 use Rattle.doc_values.specs.Unfinished.{with_value}
+use Rattle.yaml_blocks.specs.code.Twins.{NoValue}
+use Rattle.yaml_blocks.proofs.Stopped.{length_stops, completed_stops}
 use Rattle.yaml_blocks.proofs.block.missing.Goals as goal
 
 pub returns-in-Root-clause-gives : goal.returns-in-Root-clause-gives
@@ -23,3 +25,9 @@ take_null-requires c = grind (arith, common_steps)
 
 pub returns-in_default-clause-fixes : goal.returns-in_default-clause-fixes
 returns-in_default-clause-fixes c = missing_fixes c.args.text.now c.args.form c.args.at c.args.next (with_value kind.Null [] c.args.at c.args.builder.now) c.take_null.new.builder c.take_null.result c.requires.awaited.seen c.requires.awaited.boundary (place_behind c.args.text.now (stack c.args.forms.now) c.args.builder.now c.args.form c.args.at c.args.next c.requires.awaited) c.requires.none c.take_null.ensures
+
+pub returns-in-Root-clause-stops : goal.returns-in-Root-clause-stops
+returns-in-Root-clause-stops c = length_stops c.args.text.now c.args.at (NoValue c.args.at c.args.next c.args.form (stack c.args.forms.now) c.args.builder.now) c.offset.result c.offset.ensures
+
+pub returns-in_default-clause-stops : goal.returns-in_default-clause-stops
+returns-in_default-clause-stops c = completed_stops c.args.text.now c.args.at (NoValue c.args.at c.args.next c.args.form (stack c.args.forms.now) c.args.builder.now) c.args.at (with_value kind.Null [] c.args.at c.args.builder.now) c.take_null.new.builder c.take_null.result c.take_null.ensures

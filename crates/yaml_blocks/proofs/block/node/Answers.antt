@@ -1,8 +1,11 @@
-use Rattle.std.proofs.Common.{◌+◌, ◌*◌, sym, subst}
+use Rattle.std.proofs.Common.{◌+◌, ◌*◌, false, sym, subst}
 use Rattle.yaml_blocks.specs.declared.ahead.Ahead.{Ahead}
 use Rattle.yaml_blocks.specs.code.Steps.{stack, Awaited, SameNode}
 use Rattle.yaml_blocks.proofs.BlockGains.{node_signed_gives, spot_of}
-use Rattle.yaml_blocks.specs.code.Twins.{FixesNode}
+use Rattle.yaml_blocks.specs.code.Twins.{Stops, NoValue, FixesNode}
+use Rattle.yaml_blocks.specs.Ahead.{ahead}
+use Rattle.yaml_blocks.specs.Blocks.{block_sign}
+use Rattle.yaml_blocks.proofs.Stopped.{signed_stops}
 use Rattle.yaml_blocks.proofs.block.node.Goals as goal
 
 pub returns-in-Some-clause-gives : goal.returns-in-Some-clause-gives
@@ -21,3 +24,11 @@ returns-in-None-clause-gives c = λ text w same.
 
 pub returns-in-None-clause-fixes : goal.returns-in-None-clause-fixes
 returns-in-None-clause-fixes c = subst (λ (a : Ahead). FixesNode c.args.text.now c.args.form c.args.at a c.node_at.result) c.look-next.ensures.0 c.node_at.ensures.fixes
+
+pub returns-in-Some-clause-stops : goal.returns-in-Some-clause-stops
+returns-in-Some-clause-stops c =
+    signed_stops c.args.text.now c.args.at (NoValue c.args.at (ahead c.args.text.now false c.args.at) c.args.form (stack c.args.forms.now.items) c.args.builder.now) (block_sign c.args.form c.look-next.result) c.in-Some.refusal c.in-Some.ensures
+
+pub returns-in-None-clause-stops : goal.returns-in-None-clause-stops
+returns-in-None-clause-stops c =
+    subst (λ (a : Ahead). Stops c.args.text.now c.args.at (NoValue c.args.at a c.args.form (stack c.args.forms.now.items) c.args.builder.now) c.node_at.result) c.look-next.ensures.0 c.node_at.ensures.stops

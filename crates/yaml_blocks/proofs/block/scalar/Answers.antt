@@ -5,6 +5,8 @@ use Rattle.yaml_blocks.proofs.BlockGains.{scalar_gives, spot_of}
 use Rattle.yaml_blocks.proofs.SameTexts.{holds_same}
 use Rattle.yaml_blocks.proofs.AwaitedNodes.{place_behind, small_form, value_awaited}
 use Rattle.yaml_blocks.proofs.Fixed.{scalar_fixes}
+use Rattle.yaml_blocks.specs.code.Twins.{NoValue}
+use Rattle.yaml_blocks.proofs.Stopped.{scalar_stops}
 use Rattle.yaml_blocks.proofs.block.scalar.Goals as goal
 
 pub returns-clause-gives : goal.returns-clause-gives
@@ -14,7 +16,7 @@ returns-clause-gives c = λ text w same.
     scalar_gives text fs u c.take_scalar.new.builder c.args.form c.args.at c.args.next c.take_scalar.result w.seen.0
     (spot_of text fs u c.args.form c.args.at c.args.next w) c.requires.starts c.requires.takes (λ h. same.none h (c.requires.no_key h))
     (subst (λ q. Holds text (setting_of c.args.form) q c.args.next u c.take_scalar.new.builder c.take_scalar.result) (sym same.cuts)
-    (holds_same c.args.text.now text (setting_of c.args.form) c.args.next (same.scalar c.requires.takes c.requires.no_key) (follows_get_att c.args.text.now c.args.form c.args.at) u c.take_scalar.new.builder c.take_scalar.result c.take_scalar.ensures))
+    (holds_same c.args.text.now text (setting_of c.args.form) c.args.next (same.scalar c.requires.takes c.requires.no_key) (follows_get_att c.args.text.now c.args.form c.args.at) u c.take_scalar.new.builder c.take_scalar.result c.take_scalar.ensures.holds))
 
 pub take_scalar-requires-clause-form : goal.take_scalar-requires-clause-form
 take_scalar-requires-clause-form c = small_form c.args.text.now (stack c.args.forms.now) c.args.builder.now c.args.form c.args.at c.args.next c.requires.awaited
@@ -26,4 +28,7 @@ pub take_scalar-requires-clause-awaited : goal.take_scalar-requires-clause-await
 take_scalar-requires-clause-awaited c = value_awaited c.args.text.now (stack c.args.forms.now) c.args.builder.now c.args.form c.args.at c.args.next c.requires.awaited
 
 pub returns-clause-fixes : goal.returns-clause-fixes
-returns-clause-fixes c = scalar_fixes c.args.text.now c.args.form c.args.at c.args.next (follows_get_att c.args.text.now c.args.form c.args.at) c.args.builder.now c.take_scalar.new.builder c.take_scalar.result c.utf8.text c.requires.awaited.seen c.requires.awaited.boundary (place_behind c.args.text.now (stack c.args.forms.now) c.args.builder.now c.args.form c.args.at c.args.next c.requires.awaited) c.requires.awaited.block c.requires.no_key c.take_scalar.ensures
+returns-clause-fixes c = scalar_fixes c.args.text.now c.args.form c.args.at c.args.next (follows_get_att c.args.text.now c.args.form c.args.at) c.args.builder.now c.take_scalar.new.builder c.take_scalar.result c.utf8.text c.requires.awaited.seen c.requires.awaited.boundary (place_behind c.args.text.now (stack c.args.forms.now) c.args.builder.now c.args.form c.args.at c.args.next c.requires.awaited) c.requires.awaited.block c.requires.no_key c.take_scalar.ensures.holds
+
+pub returns-clause-stops : goal.returns-clause-stops
+returns-clause-stops c = scalar_stops c.args.text.now c.args.at (NoValue c.args.at c.args.next c.args.form (stack c.args.forms.now) c.args.builder.now) c.take_scalar.result c.take_scalar.ensures.place

@@ -5,6 +5,8 @@ use Rattle.yaml_blocks.specs.code.Steps.{stack}
 use Rattle.yaml_blocks.proofs.BlockGains.{sequence_goes, sequence_refused, spot_of}
 use Rattle.yaml_blocks.proofs.AwaitedNodes.{column_before, small_form, small_place, value_awaited, place_behind}
 use Rattle.yaml_blocks.proofs.Fixed.{dash_fixes}
+use Rattle.yaml_blocks.specs.code.Twins.{NoValue}
+use Rattle.yaml_blocks.proofs.Stopped.{deep_stops}
 use Rattle.yaml_blocks.proofs.block.sequence.Goals as goal
 
 pub returns-in-Ok-clause-gives : goal.returns-in-Ok-clause-gives
@@ -40,3 +42,6 @@ begin-requires-clause-awaited c = value_awaited c.args.text.now (stack c.args.fo
 
 pub returns-in-Ok-clause-fixes : goal.returns-in-Ok-clause-fixes
 returns-in-Ok-clause-fixes c = dash_fixes c.args.text.now c.args.form c.args.at c.args.next c.requires.awaited.seen c.requires.awaited.boundary (place_behind c.args.text.now (stack c.args.forms.now.items) c.args.builder.now c.args.form c.args.at c.args.next c.requires.awaited) c.requires.dash (record { stage = stage.Value; at = c.args.next.behind }) refl
+
+pub returns-in-Err-clause-stops : goal.returns-in-Err-clause-stops
+returns-in-Err-clause-stops c = deep_stops c.args.text.now c.args.at (NoValue c.args.at c.args.next c.args.form (stack c.args.forms.now.items) c.args.builder.now) c.args.builder.now c.args.next.at c.in-Err.refusal c.in-Err.ensures

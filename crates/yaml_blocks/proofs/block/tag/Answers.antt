@@ -5,6 +5,8 @@ use Rattle.yaml_blocks.proofs.BlockGains.{tag_gives, spot_of}
 use Rattle.yaml_blocks.proofs.SameTexts.{tag_same}
 use Rattle.yaml_blocks.proofs.AwaitedNodes.{small_form, place_behind}
 use Rattle.yaml_blocks.proofs.Fixed.{tag_fixes}
+use Rattle.yaml_blocks.specs.code.Twins.{NoValue}
+use Rattle.yaml_blocks.proofs.Stopped.{tag_stops}
 use Rattle.yaml_blocks.proofs.block.tag.Goals as goal
 
 pub begin_tag-requires-clause-first : goal.begin_tag-requires-clause-first
@@ -23,3 +25,7 @@ tagged-requires c = small_form c.args.text.now (stack c.args.forms.now.items) c.
 
 pub returns-clause-fixes : goal.returns-clause-fixes
 returns-clause-fixes c = tag_fixes c.args.text.now c.args.form c.tagged.result c.args.at c.args.len c.args.next (stack c.args.forms.now.items) (stack c.begin_tag.new.forms.items) c.args.builder.now c.begin_tag.new.builder c.begin_tag.result c.requires.awaited.seen c.requires.awaited.boundary (place_behind c.args.text.now (stack c.args.forms.now.items) c.args.builder.now c.args.form c.args.at c.args.next c.requires.awaited) c.requires.tag c.begin_tag.ensures
+
+pub returns-clause-stops : goal.returns-clause-stops
+returns-clause-stops c =
+    tag_stops c.args.text.now c.args.at (NoValue c.args.at c.args.next c.args.form (stack c.args.forms.now.items) c.args.builder.now) c.tagged.result c.args.next (stack c.args.forms.now.items) (stack c.begin_tag.new.forms.items) c.args.builder.now c.begin_tag.new.builder c.begin_tag.result c.begin_tag.ensures

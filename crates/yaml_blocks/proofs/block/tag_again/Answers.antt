@@ -6,6 +6,8 @@ use Rattle.yaml_blocks.specs.code.Rest.{top, Awaits}
 use Rattle.yaml_blocks.specs.code.Steps.{stack, Ended}
 use Rattle.yaml_blocks.proofs.Gains.{memory_gives}
 use Rattle.yaml_blocks.proofs.BlockGains.{spot_of, tag_again_gives, no_tag_again}
+use Rattle.yaml_blocks.specs.code.Twins.{NoValue}
+use Rattle.yaml_blocks.proofs.Stopped.{length_stops, memory_stops}
 use Rattle.yaml_blocks.proofs.block.tag_again.Goals as goal
 
 pub returns-then-is_entry_column-clause-gives : goal.returns-then-is_entry_column-clause-gives
@@ -53,3 +55,12 @@ returns-in-Err-end_before-clause-gives c = λ text v same.
     let u = c.args.builder.now in
     let fs = stack c.args.forms.now.items in
     memory_gives text (Awaits text fs u.outer u.done u.key c.args.at) (2 * c.args.at + 1) (stack c.end_before.new.forms.items) c.end_before.new.builder c.in-Err-end_before.refusal (c.in-Err-end_before.ensures text c.args.at v.seen.0)
+
+pub returns-clause-stops : goal.returns-clause-stops
+returns-clause-stops c = length_stops c.args.text.now c.args.at (NoValue c.args.at c.args.next c.args.form (stack c.args.forms.now.items) c.args.builder.now) c.offset-2.result c.offset-2.ensures
+
+pub returns-in-Err-end_before-clause-stops : goal.returns-in-Err-end_before-clause-stops
+returns-in-Err-end_before-clause-stops c = memory_stops c.args.text.now c.args.at (NoValue c.args.at c.args.next c.args.form (stack c.args.forms.now.items) c.args.builder.now) c.in-Err-end_before.refusal (c.in-Err-end_before.ensures c.args.text.now c.args.at c.requires.awaited.seen.0)
+
+pub returns-in-Err-clause-stops : goal.returns-in-Err-clause-stops
+returns-in-Err-clause-stops c = memory_stops c.args.text.now c.args.at (NoValue c.args.at c.args.next c.args.form (stack c.args.forms.now.items) c.args.builder.now) c.in-Err.refusal c.in-Err.ensures

@@ -5,8 +5,7 @@ use Rattle.yaml_blocks.specs.code.Steps.{stack, IsSeen}
 use Rattle.yaml_blocks.proofs.Gains.{closed_after_gives, comma_gives, marked_after_gives, none_follows}
 use Rattle.yaml_blocks.proofs.Fixed.{closed_seen, comma_seen}
 use Rattle.yaml_blocks.proofs.Stopped.{told_stops, closed_stops}
-use Rattle.yaml_blocks.specs.Signs.{Reading}
-use Rattle.yaml_blocks.specs.code.Rest.{Ends}
+use Rattle.yaml_blocks.specs.code.Twins.{NoTail}
 use Rattle.yaml_blocks.specs.Ahead.{ahead}
 use Rattle.yaml_blocks.proofs.flow.after.Goals as goal
 
@@ -41,13 +40,14 @@ returns-in-Comma-clause-fixes c = comma_seen c.args.text.now c.args.at c.look-ne
 
 pub returns-in_default-clause-stops : goal.returns-in_default-clause-stops
 returns-in_default-clause-stops c =
-    told_stops c.args.text.now true c.args.at (λ other. IsSeen other true c.args.at (ahead c.args.text.now true c.args.at) → (v : Reading) → Ends other (stack c.args.forms.now.items) c.args.builder.now.outer c.args.builder.now.done c.args.at v → ⊥) c.look-next.result c.told_place.result
-    c.look-next.ensures.0 c.told_place.ensures (λ text seen v h.
+    let fs = stack c.args.forms.now.items in
+    let u = c.args.builder.now in
+    told_stops c.args.text.now c.args.at (NoTail c.args.at (ahead c.args.text.now true c.args.at) fs u) true c.look-next.result c.told_place.result c.look-next.ensures.0 c.told_place.ensures (λ text told seen v h.
     (let now = subst (λ (a : Ahead). IsSeen text true c.args.at a) (sym c.look-next.ensures.0) seen in
-    none_follows text c.args.map (stack c.args.forms.now.items) c.args.builder.now.outer c.args.builder.now.done c.args.at c.look-next.result now.0 c.in_default.not-Comma (c.closes.ensures.no c.if-closes.false) (sym c.is_marked.ensures ∙ c.if-is_marked.false) c.requires.form
-    c.requires.open.0 v h))
+    none_follows text c.args.map fs u.outer u.done c.args.at c.look-next.result now.0 c.in_default.not-Comma (c.closes.ensures.no c.if-closes.false) (sym c.is_marked.ensures ∙ c.if-is_marked.false) c.requires.form c.requires.open.0 v h))
 
 pub returns-then-closes-clause-stops : goal.returns-then-closes-clause-stops
 returns-then-closes-clause-stops c =
-    closed_stops c.args.text.now true c.args.at (λ other. IsSeen other true c.args.at (ahead c.args.text.now true c.args.at) → (v : Reading) → Ends other (stack c.args.forms.now.items) c.args.builder.now.outer c.args.builder.now.done c.args.at v → ⊥)
-    c.look-next.result.behind (stack c.args.forms.now.items) (stack c.close.new.forms.items) c.args.builder.now c.close.new.builder c.close.result c.close.ensures
+    let fs = stack c.args.forms.now.items in
+    let u = c.args.builder.now in
+    closed_stops c.args.text.now c.args.at (NoTail c.args.at (ahead c.args.text.now true c.args.at) fs u) c.look-next.result.behind fs (stack c.close.new.forms.items) u c.close.new.builder c.close.result c.close.ensures

@@ -7,9 +7,7 @@ use Rattle.yaml_blocks.proofs.Stacks.{stack_grown}
 use Rattle.yaml_blocks.proofs.Gains.{tag_may_end, tag_popped, tag_gives}
 use Rattle.yaml_blocks.proofs.Stopped.{stops_from}
 use Rattle.yaml_blocks.specs.declared.stop.Stop.TheVariants.{Unread}
-use Rattle.yaml_blocks.specs.Signs.{Reading}
-use Rattle.yaml_blocks.specs.code.Rest.{Ends}
-use Rattle.yaml_blocks.specs.code.Steps.{IsSeen}
+use Rattle.yaml_blocks.specs.code.Twins.{NoTail}
 use Rattle.yaml_blocks.specs.Ahead.{ahead}
 use Rattle.std.specs.Prelude.{Err}
 use Rattle.yaml_blocks.proofs.flow.after_tag.Goals as goal
@@ -42,9 +40,9 @@ after-requires-clause-boundary c = grind (arith, common_steps)
 pub returns-clause-stops : goal.returns-clause-stops
 returns-clause-stops c =
     let e = stack_grown c.args.forms.now.items c.pop.new.self.items c.in-Some.field-0 c.in-Some.ensures.items in
-    let this = c.args.text.now in
     let at = c.args.at in
     let w = c.end.new.self in
     let u = c.args.builder.now in
-    stops_from this true at (λ text. IsSeen text true at (ahead this true at) → (v : Reading) → Ends text (stack c.pop.new.self.items) w.outer w.done at v → ⊥) (λ text. IsSeen text true at (ahead this true at) → (v : Reading) → Ends text (stack c.args.forms.now.items) u.outer u.done at v → ⊥) c.after.result
+    let next = ahead c.args.text.now true at in
+    stops_from c.args.text.now at (NoTail at next (stack c.pop.new.self.items) w) (NoTail at next (stack c.args.forms.now.items) u) c.after.result
     (λ text k seen v h. tag_gives text c.args.place (stack c.args.forms.now.items) (stack c.pop.new.self.items) [] u w w at (Err (Unread 0)) (c.in-Some.field-0, e, c.requires.form, c.requires.open) c.in-Ok.ensures.ok (λ z g. k seen z g) v h) c.after.ensures.stops

@@ -1,5 +1,5 @@
 use Rattle.std.proofs.lemmas.Grind.{common_steps}
-use Rattle.std.proofs.Common.{true, false, List, ◌+◌, ◌*◌, sym, ap, subst, ◌∙◌, arith}
+use Rattle.std.proofs.Common.{true, false, List, [], ◌+◌, ◌*◌, sym, ap, subst, ◌∙◌, arith}
 use Rattle.yaml_blocks.specs.declared.ahead.Ahead.{Ahead}
 use Rattle.yaml_blocks.specs.declared.ahead.Token.TheVariants.{Closes}
 use Rattle.yaml_blocks.specs.declared.form.Form.TheVariants.{Flow}
@@ -8,7 +8,11 @@ use Rattle.yaml_blocks.specs.code.Rest.{Enters}
 use Rattle.yaml_blocks.specs.code.Steps.{stack, Gives, IsSeen, SameFlowNode, SameFlowKey}
 use Rattle.yaml_blocks.proofs.Gains.{closed_entry_gives, marked_entry_gives, item_gives}
 use Rattle.yaml_blocks.proofs.Fixed.{closed_fixes, node_entry_fixes, key_entry_fixes}
-use Rattle.yaml_blocks.specs.code.Twins.{FixesEntry}
+use Rattle.yaml_blocks.specs.code.Twins.{Stops, NoFlowValue, NoEntry, FixesEntry}
+use Rattle.yaml_blocks.specs.Ahead.{ahead}
+use Rattle.yaml_blocks.specs.declared.stop.Stop.TheVariants.{Unread}
+use Rattle.std.specs.Prelude.{Err}
+use Rattle.yaml_blocks.proofs.Stopped.{closed_stops, stops_from}
 use Rattle.yaml_blocks.proofs.flow.entry.Goals as goal
 
 pub returns-then-closes-clause-gives : goal.returns-then-closes-clause-gives
@@ -53,3 +57,27 @@ returns-else-map-clause-fixes c = subst (λ (a : Ahead). FixesEntry c.args.text.
 
 pub returns-then-map-clause-fixes : goal.returns-then-map-clause-fixes
 returns-then-map-clause-fixes c = subst (λ (a : Ahead). FixesEntry c.args.text.now c.args.map c.args.at a c.key.result) c.look-next.ensures.0 (key_entry_fixes c.args.text.now c.args.at c.look-next.result c.args.map c.key.result c.if-map.true c.key.ensures.fixes)
+
+pub returns-then-closes-clause-stops : goal.returns-then-closes-clause-stops
+returns-then-closes-clause-stops c =
+    let fs = stack c.args.forms.now.items in
+    let u = c.args.builder.now in
+    closed_stops c.args.text.now c.args.at (NoEntry c.args.at (ahead c.args.text.now true c.args.at) fs u) c.look-next.result.behind fs (stack c.close.new.forms.items) u c.close.new.builder c.close.result c.close.ensures
+
+pub returns-then-map-clause-stops : goal.returns-then-map-clause-stops
+returns-then-map-clause-stops c =
+    let at = c.args.at in
+    let u = c.args.builder.now in
+    subst (λ (a : Ahead). Stops c.args.text.now at (NoEntry at a (stack c.args.forms.now.items) u) c.key.result) c.look-next.ensures.0
+    (subst (λ (x : List Form). Stops c.args.text.now at (NoEntry at c.look-next.result (stack x) u) c.key.result) c.deref.ensures.value c.key.ensures.stops)
+
+pub returns-else-map-clause-stops : goal.returns-else-map-clause-stops
+returns-else-map-clause-stops c =
+    let at = c.args.at in
+    let fs = stack c.args.forms.now.items in
+    let u = c.args.builder.now in
+    let next = c.look-next.result in
+    subst (λ (a : Ahead). Stops c.args.text.now at (NoEntry at a fs u) c.node.result) c.look-next.ensures.0
+    (stops_from c.args.text.now at (NoFlowValue at next fs u) (NoEntry at next fs u) c.node.result
+    (λ text k seen v h. item_gives text fs [] u u at next (Err (Unread 0)) seen.0 (c.requires.form ∙ ap Flow c.if-map.false) c.requires.open (λ e. c.closes.ensures.no c.if-closes.false (e ∙ ap Closes (sym c.if-map.false)))
+    (sym c.is_marked.ensures ∙ c.if-is_marked.false) c.requires.awaited (λ z g. k seen z g) v h) c.node.ensures.stops)

@@ -1,5 +1,5 @@
 use Rattle.std.proofs.lemmas.Grind.{common_steps}
-use Rattle.std.proofs.Common.{◌≡◌, ◌⊎◌, List, ℕ, drop, sym, ap, ◌∙◌, refl, subst, true, ◌+◌, ◌*◌, arith}
+use Rattle.std.proofs.Common.{false, ◌≡◌, ◌⊎◌, List, ℕ, drop, sym, ap, ◌∙◌, refl, subst, true, ◌+◌, ◌*◌, arith}
 use Rattle.std.specs.Prelude.{Err}
 use Rattle.std.specs.Cow.{cow_str_bytes}
 use Rattle.doc_values.specs.declared.builder.BuildRefusal.TheVariants as build
@@ -14,6 +14,9 @@ use Rattle.yaml_blocks.proofs.Forms.{awaits_key}
 use Rattle.yaml_blocks.proofs.SameTexts.{found_same, finds_same, colon_there, colon_here, colon_last}
 use Rattle.yaml_blocks.proofs.Gains.{key_gives, key_signed_gives, find_refused, found_key, no_colon, key_refused}
 use Rattle.yaml_blocks.proofs.Fixed.{flow_key_fixes}
+use Rattle.yaml_blocks.specs.code.Twins.{NoEntry}
+use Rattle.yaml_blocks.specs.Nodes.{node_sign}
+use Rattle.yaml_blocks.proofs.Stopped.{signed_stops, built_stops, far_stops, length_stops}
 use Rattle.yaml_blocks.proofs.flow.key.Goals as goal
 
 pub returns-in-Err-clause-gives : goal.returns-in-Err-clause-gives
@@ -76,3 +79,15 @@ returns-in-Some-colon-clause-fixes c =
     let g = found_key this c.as_key.result (as_key true) c.args.next words c.in-Ok.scalar.kind end c.as_key.ensures c.in-Ok.ensures.finds in
     let h = c.in-Some-colon.ensures in
     flow_key_fixes this c.args.at c.args.next c.is_quoted.result words place end (record { stage = stage.Value; at = place }) c.requires.seen c.requires.boundary g.0 g.2 g.3 h.0 h.1 refl
+
+pub returns-in-Some-clause-stops : goal.returns-in-Some-clause-stops
+returns-in-Some-clause-stops c = signed_stops c.args.text.now c.args.at (NoEntry c.args.at c.args.next (stack c.args.forms.now) c.args.builder.now) (node_sign false c.args.next.at c.args.next.token) c.in-Some.refusal c.in-Some.ensures
+
+pub returns-in-Err-clause-stops : goal.returns-in-Err-clause-stops
+returns-in-Err-clause-stops c = far_stops c.args.text.now c.args.at (NoEntry c.args.at c.args.next (stack c.args.forms.now) c.args.builder.now) c.in-Err.refusal (λ q e. c.in-Err.ensures.place q (ap Err e))
+
+pub returns-in-Err-key-clause-stops : goal.returns-in-Err-key-clause-stops
+returns-in-Err-key-clause-stops c = built_stops c.args.text.now c.args.at (NoEntry c.args.at c.args.next (stack c.args.forms.now) c.args.builder.now) c.in-Err-key.refusal c.from.result c.from.ensures
+
+pub returns-in-None-colon-clause-stops : goal.returns-in-None-colon-clause-stops
+returns-in-None-colon-clause-stops c = length_stops c.args.text.now c.args.at (NoEntry c.args.at c.args.next (stack c.args.forms.now) c.args.builder.now) c.offset-in-None-colon.result c.offset-in-None-colon.ensures

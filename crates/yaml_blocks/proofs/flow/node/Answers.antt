@@ -5,6 +5,9 @@ use Rattle.yaml_blocks.specs.Nodes.{follows_get_att, setting_of}
 use Rattle.yaml_blocks.proofs.SameTexts.{holds_same}
 use Rattle.yaml_blocks.proofs.Gains.{flow_spot, flow_signed_gives, tag_allowed, opened_gives, holds_gives}
 use Rattle.yaml_blocks.proofs.Fixed.{flow_opens_fixes, flow_scalar_fixes}
+use Rattle.yaml_blocks.specs.code.Twins.{NoFlowValue}
+use Rattle.yaml_blocks.specs.Nodes.{node_sign}
+use Rattle.yaml_blocks.proofs.Stopped.{signed_stops, opened_stops, scalar_stops}
 use Rattle.yaml_blocks.proofs.flow.node.Goals as goal
 
 pub returns-in-Some-clause-gives : goal.returns-in-Some-clause-gives
@@ -31,7 +34,7 @@ returns-in_default-clause-gives c = λ text seen same.
     holds_gives text fs u c.take_scalar.new.builder c.args.form c.is_tagged.result c.args.at c.args.next c.take_scalar.result seen.0
     (flow_spot text fs u c.args.form c.args.at c.args.next seen c.requires.form c.requires.flow c.requires.open) c.in_default.not-Opens c.in_default.not-Tag c.is_tagged.ensures c.in-None.ensures c.requires.there
     (subst (λ q. Holds text (setting_of c.args.form) q c.args.next u c.take_scalar.new.builder c.take_scalar.result) (sym same.cuts)
-    (holds_same c.args.text.now text (setting_of c.args.form) c.args.next same.scalar (follows_get_att c.args.text.now c.args.form c.args.at) u c.take_scalar.new.builder c.take_scalar.result c.take_scalar.ensures))
+    (holds_same c.args.text.now text (setting_of c.args.form) c.args.next same.scalar (follows_get_att c.args.text.now c.args.form c.args.at) u c.take_scalar.new.builder c.take_scalar.result c.take_scalar.ensures.holds))
 
 pub take_scalar-requires : goal.take_scalar-requires
 take_scalar-requires c = grind (arith, common_steps)
@@ -43,4 +46,13 @@ pub returns-in-Opens-clause-fixes : goal.returns-in-Opens-clause-fixes
 returns-in-Opens-clause-fixes c = flow_opens_fixes c.args.text.now c.args.form c.args.at c.in-Opens.map c.args.next (stack c.args.forms.now.items) (stack c.open.new.forms.items) c.args.builder.now c.open.new.builder c.open.result c.requires.seen c.requires.boundary c.requires.behind c.in-Opens.is c.open.ensures
 
 pub returns-in_default-clause-fixes : goal.returns-in_default-clause-fixes
-returns-in_default-clause-fixes c = flow_scalar_fixes c.args.text.now c.args.form c.args.at c.args.next (follows_get_att c.args.text.now c.args.form c.args.at) c.args.builder.now c.take_scalar.new.builder c.take_scalar.result c.requires.seen c.requires.boundary c.requires.behind c.take_scalar.ensures
+returns-in_default-clause-fixes c = flow_scalar_fixes c.args.text.now c.args.form c.args.at c.args.next (follows_get_att c.args.text.now c.args.form c.args.at) c.args.builder.now c.take_scalar.new.builder c.take_scalar.result c.requires.seen c.requires.boundary c.requires.behind c.take_scalar.ensures.holds
+
+pub returns-in-Some-clause-stops : goal.returns-in-Some-clause-stops
+returns-in-Some-clause-stops c = signed_stops c.args.text.now c.args.at (NoFlowValue c.args.at c.args.next (stack c.args.forms.now.items) c.args.builder.now) (node_sign c.is_tagged.result c.args.next.at c.args.next.token) c.in-Some.refusal c.in-Some.ensures
+
+pub returns-in-Opens-clause-stops : goal.returns-in-Opens-clause-stops
+returns-in-Opens-clause-stops c = opened_stops c.args.text.now c.args.at (NoFlowValue c.args.at c.args.next (stack c.args.forms.now.items) c.args.builder.now) c.in-Opens.map c.args.next (stack c.args.forms.now.items) (stack c.open.new.forms.items) c.args.builder.now c.open.new.builder c.open.result c.open.ensures
+
+pub returns-in_default-clause-stops : goal.returns-in_default-clause-stops
+returns-in_default-clause-stops c = scalar_stops c.args.text.now c.args.at (NoFlowValue c.args.at c.args.next (stack c.args.forms.now.items) c.args.builder.now) c.take_scalar.result c.take_scalar.ensures.place

@@ -4,6 +4,8 @@ use Rattle.yaml_blocks.specs.declared.form.Form.TheVariants.{FlowTagged}
 use Rattle.yaml_blocks.proofs.SameTexts.{tag_same}
 use Rattle.yaml_blocks.proofs.Gains.{flow_spot, flow_tag_gives, tag_cut, tag_flow}
 use Rattle.yaml_blocks.proofs.Fixed.{flow_tag_fixes}
+use Rattle.yaml_blocks.specs.code.Twins.{NoFlowValue}
+use Rattle.yaml_blocks.proofs.Stopped.{tag_stops}
 use Rattle.yaml_blocks.proofs.flow.tag.Goals as goal
 
 pub begin_tag-requires-clause-first : goal.begin_tag-requires-clause-first
@@ -19,3 +21,7 @@ returns-clause-gives c = λ text seen name.
 
 pub returns-clause-fixes : goal.returns-clause-fixes
 returns-clause-fixes c = flow_tag_fixes c.args.text.now c.args.form (FlowTagged c.args.next.at) c.args.at c.args.len c.args.next (stack c.args.forms.now.items) (stack c.begin_tag.new.forms.items) c.args.builder.now c.begin_tag.new.builder c.begin_tag.result c.requires.seen c.requires.boundary c.requires.behind c.requires.tag c.begin_tag.ensures
+
+pub returns-clause-stops : goal.returns-clause-stops
+returns-clause-stops c =
+    tag_stops c.args.text.now c.args.at (NoFlowValue c.args.at c.args.next (stack c.args.forms.now.items) c.args.builder.now) (FlowTagged c.args.next.at) c.args.next (stack c.args.forms.now.items) (stack c.begin_tag.new.forms.items) c.args.builder.now c.begin_tag.new.builder c.begin_tag.result c.begin_tag.ensures

@@ -5,8 +5,10 @@ use Rattle.yaml_blocks.specs.code.Rest.{Awaits}
 use Rattle.yaml_blocks.specs.code.Steps.{stack, IsSeen, SameFlowNode}
 use Rattle.yaml_blocks.proofs.Gains.{flow_spot, null_gives, sooner}
 use Rattle.yaml_blocks.proofs.Fixed.{flow_null_fixes}
-use Rattle.yaml_blocks.specs.code.Twins.{FixesFlowNode}
+use Rattle.yaml_blocks.specs.code.Twins.{Stops, NoFlowValue, FixesFlowNode}
 use Rattle.doc_values.specs.Unfinished.{with_value}
+use Rattle.yaml_blocks.specs.Ahead.{ahead}
+use Rattle.yaml_blocks.proofs.Stopped.{completed_stops}
 use Rattle.yaml_blocks.proofs.flow.value.Goals as goal
 
 pub returns-then-is_flow_ending-clause-gives : goal.returns-then-is_flow_ending-clause-gives
@@ -29,3 +31,11 @@ returns-then-is_flow_ending-clause-fixes c = subst (λ (a : Ahead). FixesFlowNod
 
 pub returns-clause-fixes : goal.returns-clause-fixes
 returns-clause-fixes c = subst (λ (a : Ahead). FixesFlowNode c.args.text.now c.args.form c.args.at a c.node.result) c.look-next.ensures.0 (c.node.ensures.fixes)
+
+pub returns-then-is_flow_ending-clause-stops : goal.returns-then-is_flow_ending-clause-stops
+returns-then-is_flow_ending-clause-stops c =
+    completed_stops c.args.text.now c.args.at (NoFlowValue c.args.at (ahead c.args.text.now true c.args.at) (stack c.args.forms.now.items) c.args.builder.now) c.args.at (with_value kind.Null [] c.args.at c.args.builder.now) c.take_null.new.builder c.take_null.result c.take_null.ensures
+
+pub returns-clause-stops : goal.returns-clause-stops
+returns-clause-stops c =
+    subst (λ (a : Ahead). Stops c.args.text.now c.args.at (NoFlowValue c.args.at a (stack c.args.forms.now.items) c.args.builder.now) c.node.result) c.look-next.ensures.0 c.node.ensures.stops

@@ -4,6 +4,8 @@ use Rattle.yaml_blocks.proofs.Roots.{start_refused, start_solid, marked_refused,
 use Rattle.yaml_blocks.specs.declared.stop.Stop.TheVariants.{NoMemory}
 use Rattle.yaml_blocks.specs.Yaml.{start_sign}
 use Rattle.yaml_blocks.proofs.Lives.{fixed_behind, fixed_there}
+use Rattle.yaml_blocks.proofs.Lives.{signed_at}
+use Rattle.std.proofs.Common.{inl}
 use Rattle.yaml_blocks.proofs.read.document_start.Goals as goal
 
 pub returns-in-Some-clause-start : goal.returns-in-Some-clause-start
@@ -42,3 +44,9 @@ pub returns-in_default-clause-fixes : goal.returns-in_default-clause-fixes
 returns-in_default-clause-fixes c =
     let text = c.args.text.now in
     fixed_there text c.text_start-at.result c.look-next.result c.text_start-at.ensures.is c.text_start-at.ensures.boundary c.look-next.ensures.0 c.in_default.not-Dashes
+
+pub returns-in-Some-clause-place : goal.returns-in-Some-clause-place
+returns-in-Some-clause-place c = signed_at c.args.text.now (start_sign c.args.text.now) c.in-Some.refusal c.in-Some.ensures
+
+pub returns-else-look-clause-place : goal.returns-else-look-clause-place
+returns-else-look-clause-place c = inl c.offset.ensures

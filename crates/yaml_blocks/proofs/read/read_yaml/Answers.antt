@@ -1,72 +1,10 @@
-use Rattle.std.proofs.lemmas.Grind.{common_steps}
-use Rattle.std.proofs.Common.{sym, ap, subst, List, [], length, arith}
-use Rattle.doc_values.specs.Tree.{Forest}
-use Rattle.yaml_blocks.specs.declared.form.Form.{Form}
-use Rattle.yaml_blocks.specs.declared.refusal.YamlRefusal.{YamlRefusal}
-use Rattle.yaml_blocks.specs.Answers.{Reads, Refuses}
-use Rattle.yaml_blocks.specs.code.Steps.{stack, Rest, reached}
-use Rattle.yaml_blocks.specs.code.Rest.{top}
-use Rattle.yaml_blocks.proofs.SameTexts.{same_step}
-use Rattle.yaml_blocks.proofs.Lives.{lives_first, lives_next}
-use Rattle.yaml_blocks.proofs.Roots.{nearer, root_same, whole_tree, whole_complete, root_refused, refuses}
+use Rattle.std.proofs.Common.{◌≡◌, sym, ap, ◌∙◌}
+use Rattle.std.specs.Prelude.{Err}
+use Rattle.yaml_blocks.specs.declared.refusal.YamlRefusal.TheVariants.{NoMemory}
+use Rattle.yaml_blocks.proofs.Roots.{stop_memory}
 use Rattle.yaml_blocks.proofs.read.read_yaml.Goals as goal
 
-pub returns-in-Err-root-clause-answer : goal.returns-in-Err-root-clause-answer
-returns-in-Err-root-clause-answer c =
-    subst (λ (e : YamlRefusal). Refuses c.args.text.now e) (sym c.refusal_of-in-Err-root.ensures)
-    (root_refused c.args.text.now c.in-Ok.start 0 [] c.root.new.builder c.in-Err-root.stop c.in-Ok.ensures.start.0 c.in-Ok.ensures.start.2 c.in-Err-root.ensures.gives)
-
-pub loop-alloc-init : goal.loop-alloc-init
-loop-alloc-init c =
-    let none = ap (λ (x : List Form). stack x) c.new-forms.ensures.items in (
-      root_same c.args.text.now c.in-Ok.start (stack c.new-forms.result.items) c.root.new.builder c.in-Ok-root.next c.in-Ok.ensures.start.0 c.in-Ok.ensures.start.2 none c.in-Ok-root.ensures.gives,
-      lives_first c.args.text.now c.in-Ok.start (stack c.new-forms.result.items) c.root.new.builder c.in-Ok-root.next c.in-Ok.ensures.fixes c.in-Ok-root.ensures.fixes none,
-    )
-
-pub loop-alloc-preserved : goal.loop-alloc-preserved
-loop-alloc-preserved c =
-    let i = c.loop-alloc.invariant.0 in
-    let p = c.loop-alloc.position in
-    let g = c.in-Ok-step.ensures.gives c.args.text.now c.utf8.text i.2 i.1 (same_step c.args.text.now p.stage (top (stack c.loop-alloc.forms.items)) p.at) in (
-      ((λ v. ((λ h. (g.0 v).0 ((i.0 v).0 h)), (λ h. (i.0 v).1 ((g.0 v).1 h)))), g.1, g.2),
-      lives_next c.args.text.now p c.in-Ok-step.next (stack c.loop-alloc.forms.items) (stack c.step.new.forms.items) c.loop-alloc.builder c.step.new.builder c.loop-alloc.invariant.1 (c.goes_on.ensures.yes c.loop-alloc-test.true) c.in-Ok-step.ensures.fixes
-          (λ other place m cut fits same. c.in-Ok-step.ensures.gives other m.utf8 cut fits same),
-    )
-
-pub returns-in-Err-step-clause-answer : goal.returns-in-Err-step-clause-answer
-returns-in-Err-step-clause-answer c =
-    let p = c.loop-alloc.position in
-    subst (λ (e : YamlRefusal). Refuses c.args.text.now e) (sym c.refusal_of-in-Err-step.ensures)
-    (refuses c.args.text.now (Rest c.args.text.now p.stage (stack c.loop-alloc.forms.items) c.loop-alloc.builder p.at) (reached p.stage p.at) (stack c.step.new.forms.items) c.step.new.builder c.in-Err-step.stop c.loop-alloc.invariant.0.0
-    (c.in-Err-step.ensures.gives c.args.text.now c.utf8.text c.loop-alloc.invariant.0.2 c.loop-alloc.invariant.0.1 (same_step c.args.text.now p.stage (top (stack c.loop-alloc.forms.items)) p.at)))
-
-pub finish-requires : goal.finish-requires
-finish-requires c =
-    let i = c.loop-alloc.invariant.0 in
-    record { complete = whole_complete c.args.text.now c.loop-alloc.position (stack c.loop-alloc.forms.items) c.loop-alloc.builder (c.goes_on.ensures.no c.loop-alloc-test.false) i.0 i.1 }
-
-pub returns-clause-answer : goal.returns-clause-answer
-returns-clause-answer c =
-    let i = c.loop-alloc.invariant.0 in
-    subst (λ (t : Forest). Reads c.args.text.now t) (sym c.finish.ensures.done)
-    (whole_tree c.args.text.now c.loop-alloc.position (stack c.loop-alloc.forms.items) c.loop-alloc.builder (c.goes_on.ensures.no c.loop-alloc-test.false) i.0)
-
-pub returns-in-Err-root-clause-memory : goal.returns-in-Err-root-clause-memory
-returns-in-Err-root-clause-memory c want = (c.in-Ok.ensures.start.2, (c.in-Ok.start, c.in-Ok.ensures.start.0))
-
-pub returns-in-Err-step-clause-memory : goal.returns-in-Err-step-clause-memory
-returns-in-Err-step-clause-memory c want = (c.in-Ok.ensures.start.2, (c.in-Ok.start, c.in-Ok.ensures.start.0))
-
-pub step-requires-clause-boundary : goal.step-requires-clause-boundary
-step-requires-clause-boundary c = grind (arith, common_steps)
-
-pub step-requires-clause-open : goal.step-requires-clause-open
-step-requires-clause-open c = grind (arith, common_steps)
-
-pub loop-alloc-smaller : goal.loop-alloc-smaller
-loop-alloc-smaller c =
-    let i = c.loop-alloc.invariant.0 in
-    let p = c.loop-alloc.position in
-    let next = c.in-Ok-step.next in
-    let g = c.in-Ok-step.ensures.gives c.args.text.now c.utf8.text i.2 i.1 (same_step c.args.text.now p.stage (top (stack c.loop-alloc.forms.items)) p.at) in
-    nearer p.stage next.stage p.at next.at (length c.args.text.now) g.2.0 g.3
+pub returns-in-Err-clause-memory : goal.returns-in-Err-clause-memory
+returns-in-Err-clause-memory c = λ want.
+    let same : c.refusal_of.result ≡ NoMemory = cc in
+    c.in-Err.ensures.memory (ap Err (stop_memory c.in-Err.stop (sym c.refusal_of.ensures ∙ same)))

@@ -4,7 +4,8 @@ use Rattle.yaml_blocks.specs.code.Rest.{top}
 use Rattle.yaml_blocks.specs.code.Steps.{stack, IsFlow, IsBlock}
 use Rattle.yaml_blocks.proofs.Forms.{block_of}
 use Rattle.yaml_blocks.proofs.SameTexts.{seen_alike}
-use Rattle.yaml_blocks.proofs.Fixed.{apart, after_step, flow_after_step}
+use Rattle.yaml_blocks.proofs.Fixed.{after_step, flow_after_step}
+use Rattle.yaml_blocks.proofs.Stopped.{tail_stops, line_stops}
 use Rattle.yaml_blocks.specs.code.Twins.{FixesStep}
 use Rattle.yaml_blocks.specs.declared.stage.Stage.TheVariants as stage
 use Rattle.yaml_blocks.proofs.step.after.Goals as goal
@@ -45,26 +46,13 @@ returns-in_default-clause-fixes c =
     let found = c.innermost.ensures ∙ ap (λ (x : List Form). top (stack x)) c.deref.ensures.value in
     subst (λ (f : Form). FixesStep c.args.text.now stage.After f c.args.at c.after-in_default.result) found (after_step c.args.text.now c.innermost.result c.args.at c.after-in_default.result (block_of c.innermost.result c.in_default.not-Flow c.in_default.not-FlowTagged) c.after-in_default.ensures.fixes)
 
-pub returns-in-Flow-clause-flow_stops : goal.returns-in-Flow-clause-flow_stops
-returns-in-Flow-clause-flow_stops c = λ k. c.after.ensures.stops
+pub returns-in-Flow-clause-stops : goal.returns-in-Flow-clause-stops
+returns-in-Flow-clause-stops c = tail_stops c.args.text.now (stack c.args.forms.now.items) c.args.builder.now c.args.at c.after.result c.requires.boundary c.after.ensures.stops
 
-pub returns-in-Flow-clause-block_stops : goal.returns-in-Flow-clause-block_stops
-returns-in-Flow-clause-block_stops c = λ k.
+pub returns-in-FlowTagged-clause-stops : goal.returns-in-FlowTagged-clause-stops
+returns-in-FlowTagged-clause-stops c = tail_stops c.args.text.now (stack c.args.forms.now.items) c.args.builder.now c.args.at c.after_tag.result c.requires.boundary c.after_tag.ensures.stops
+
+pub returns-in_default-clause-stops : goal.returns-in_default-clause-stops
+returns-in_default-clause-stops c =
     let found = c.innermost.ensures ∙ ap (λ (x : List Form). top (stack x)) c.deref.ensures.value in
-    absurd (apart (top (stack c.args.forms.now.items)) k (subst IsFlow (sym c.in-Flow.is ∙ found) tt))
-
-pub returns-in-FlowTagged-clause-flow_stops : goal.returns-in-FlowTagged-clause-flow_stops
-returns-in-FlowTagged-clause-flow_stops c = λ k. c.after_tag.ensures.stops
-
-pub returns-in-FlowTagged-clause-block_stops : goal.returns-in-FlowTagged-clause-block_stops
-returns-in-FlowTagged-clause-block_stops c = λ k.
-    let found = c.innermost.ensures ∙ ap (λ (x : List Form). top (stack x)) c.deref.ensures.value in
-    absurd (apart (top (stack c.args.forms.now.items)) k (subst IsFlow (sym c.in-FlowTagged.is ∙ found) tt))
-
-pub returns-in_default-clause-block_stops : goal.returns-in_default-clause-block_stops
-returns-in_default-clause-block_stops c = λ k. c.after-in_default.ensures.stops
-
-pub returns-in_default-clause-flow_stops : goal.returns-in_default-clause-flow_stops
-returns-in_default-clause-flow_stops c = λ k.
-    let found = c.innermost.ensures ∙ ap (λ (x : List Form). top (stack x)) c.deref.ensures.value in
-    absurd (apart (top (stack c.args.forms.now.items)) (subst IsBlock found (block_of c.innermost.result c.in_default.not-Flow c.in_default.not-FlowTagged)) k)
+    line_stops c.args.text.now (stack c.args.forms.now.items) c.args.builder.now c.args.at c.after-in_default.result c.requires.boundary (subst IsBlock found (block_of c.innermost.result c.in_default.not-Flow c.in_default.not-FlowTagged)) c.after-in_default.ensures.stops

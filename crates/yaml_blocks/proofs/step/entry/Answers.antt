@@ -5,6 +5,7 @@ use Rattle.yaml_blocks.specs.code.Rest.{top}
 use Rattle.yaml_blocks.specs.code.Steps.{stack}
 use Rattle.yaml_blocks.proofs.SameTexts.{seen_alike}
 use Rattle.yaml_blocks.proofs.Fixed.{entry_step}
+use Rattle.yaml_blocks.proofs.Stopped.{entry_stops}
 use Rattle.yaml_blocks.proofs.step.entry.Goals as goal
 
 pub returns-clause-gives : goal.returns-clause-gives
@@ -16,3 +17,6 @@ pub returns-clause-fixes : goal.returns-clause-fixes
 returns-clause-fixes c =
     let form = sym (c.innermost.ensures ∙ ap (λ (x : List Form). top (stack x)) c.deref.ensures.value) ∙ c.in-Flow.is in
     entry_step c.args.text.now (top (stack c.args.forms.now.items)) c.args.at c.in-Flow.map c.entry.result form c.requires.boundary c.entry.ensures.fixes
+
+pub returns-clause-stops : goal.returns-clause-stops
+returns-clause-stops c = entry_stops c.args.text.now (stack c.args.forms.now.items) c.args.builder.now c.args.at c.entry.result c.requires.boundary c.entry.ensures.stops

@@ -3,7 +3,7 @@ use Rattle.std.specs.Str.{IsCharBoundary, IsUtf8}
 use Rattle.yaml_blocks.specs.declared.stage.Stage.{Stage}
 use Rattle.yaml_blocks.specs.code.Rest.{top}
 use Rattle.yaml_blocks.specs.code.Steps.{stack, Rest, Fits, SameStep, reached, Gives}
-use Rattle.yaml_blocks.specs.code.Twins.{FixesStep}
+use Rattle.yaml_blocks.specs.code.Twins.{StopsStep, FixesStep}
 use Rattle.yaml_blocks.proofs.step.step.Goals as goal
 
 pub entry-requires-clause-fits : goal.entry-requires-clause-fits
@@ -41,3 +41,12 @@ returns-in-Value-clause-fixes c = subst (λ (s : Stage). FixesStep c.args.text.n
 
 pub returns-in-After-clause-fixes : goal.returns-in-After-clause-fixes
 returns-in-After-clause-fixes c = subst (λ (s : Stage). FixesStep c.args.text.now s (top (stack c.args.forms.now.items)) c.args.position.at c.after.result) (sym c.in-After.is) c.after.ensures.fixes
+
+pub returns-in-Entry-clause-stops : goal.returns-in-Entry-clause-stops
+returns-in-Entry-clause-stops c = subst (λ (s : Stage). StopsStep c.args.text.now s (stack c.args.forms.now.items) c.args.builder.now c.args.position.at c.entry.result) (sym c.in-Entry.is) c.entry.ensures.stops
+
+pub returns-in-Value-clause-stops : goal.returns-in-Value-clause-stops
+returns-in-Value-clause-stops c = subst (λ (s : Stage). StopsStep c.args.text.now s (stack c.args.forms.now.items) c.args.builder.now c.args.position.at c.value.result) (sym c.in-Value.is) c.value.ensures.stops
+
+pub returns-in-After-clause-stops : goal.returns-in-After-clause-stops
+returns-in-After-clause-stops c = subst (λ (s : Stage). StopsStep c.args.text.now s (stack c.args.forms.now.items) c.args.builder.now c.args.position.at c.after.result) (sym c.in-After.is) c.after.ensures.stops

@@ -10,6 +10,7 @@ use Rattle.yaml_blocks.proofs.Fixed.{value_step, flow_value_step}
 use Rattle.yaml_blocks.proofs.Forms.{flow_misses}
 use Rattle.yaml_blocks.proofs.Placed.{placed}
 use Rattle.yaml_blocks.proofs.SameTexts.{seen_alike}
+use Rattle.yaml_blocks.proofs.Stopped.{flow_value_stops, value_stops}
 use Rattle.yaml_blocks.proofs.step.value.Goals as goal
 
 pub value-requires-clause-misses : goal.value-requires-clause-misses
@@ -51,3 +52,14 @@ pub returns-clause-fixes : goal.returns-clause-fixes
 returns-clause-fixes c =
     let found = c.innermost-form.ensures ∙ ap (λ (x : List Form). top (stack x)) c.deref.ensures.value in
     subst (λ (f : Form). FixesStep c.args.text.now stage.Value f c.args.at c.node.result) found (value_step c.args.text.now c.innermost-form.result c.args.at c.node.result (c.is_flow.ensures.no c.if-is_flow.false) c.requires.boundary c.node.ensures.fixes)
+
+pub returns-then-is_flow-clause-stops : goal.returns-then-is_flow-clause-stops
+returns-then-is_flow-clause-stops c = flow_value_stops c.args.text.now (stack c.args.forms.now.items) c.args.builder.now c.args.at c.value.result c.requires.boundary c.value.ensures.stops
+
+pub returns-clause-stops : goal.returns-clause-stops
+returns-clause-stops c =
+    let text = c.args.text.now in
+    let at = c.args.at in
+    let found = c.innermost-form.ensures ∙ ap (λ (x : List Form). top (stack x)) c.deref.ensures.value in
+    let small = seen_near text at (ahead text false at) c.requires.small (refl, placed text false at c.utf8.text c.requires.boundary) in
+    value_stops text (stack c.args.forms.now.items) c.args.builder.now at c.node.result c.requires.boundary c.innermost-form.result small (sym found) (c.is_flow.ensures.no c.if-is_flow.false) c.node.ensures.stops

@@ -3,7 +3,7 @@ use Rattle.std.specs.Str.{IsCharBoundary}
 use Rattle.yaml_blocks.specs.code.Steps.{stack, Fits, reached}
 use Rattle.yaml_blocks.proofs.Lives.{Lives}
 use Rattle.yaml_blocks.proofs.Roots.{Same}
-use Rattle.yaml_blocks.proofs.read.read_yaml.Given as goal
+use Rattle.yaml_blocks.proofs.read.read_document.Given as goal
 
 abbrev pub invariant-loop-alloc : goal.invariant-loop-alloc
 invariant-loop-alloc l =
