@@ -1,7 +1,7 @@
 //! A whole text, and what its trees and refusals have in common.
-ghost use Rattle.std.specs.Prelude.{◌≡◌, ◌≤◌, None, length, IfErr, IfOk, IsErrOf, MatchResult};
+ghost use Rattle.std.specs.Prelude.{◌≡◌, ◌≤◌, ◌<◌, ◌^◌, None, length, IfErr, IfOk, IsErrOf, MatchResult};
 ghost use Rattle.doc_values.specs.Limits.{template_limit};
-ghost use Rattle.doc_values.specs.Tree.{Forest};
+ghost use Rattle.doc_values.specs.Tree.{Forest, size};
 ghost use Rattle.doc_values.specs.Unfinished.{IsComplete, start};
 ghost use Rattle.json_reader.specs.code.Memory.{HasBeginning};
 ghost use Rattle.json_reader.specs.code.Reading.{mark_stop};
@@ -21,6 +21,7 @@ use std::alloc::Global;
 pub fn read_json<'s>(alloc: Global, text: &'s str) -> Result<Doc<'s>, JsonRefusal>
     requires { length text.now ≤ template_limit }
     ensures answer { MatchResult result (λ d. Json text.now d) (λ e. (e ≡ JsonRefusal.NoMemory → ⊥) → IsRefused text.now e) }
+    ensures small { IfOk result (λ d. size d < 2 ^ 31) }
     ensures memory { IsErrOf result JsonRefusal.NoMemory → HasBeginning text.now }
 {
     match mark_stop(text.as_bytes()) {

@@ -10,6 +10,7 @@ mod FirstEntries
 mod FirstTokens
 mod SureTokens
 mod Fixed
+pub mod FormedTrees
 mod Forms
 mod Gains
 mod KeyEnds

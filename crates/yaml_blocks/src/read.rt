@@ -1,8 +1,9 @@
 //! A whole text.
-ghost use Rattle.std.specs.Prelude.{◌≡◌, ◌≤◌, length, true, false, None, IsErrOf, IfOk, MatchResult};
+ghost use Rattle.std.specs.Prelude.{◌≡◌, ◌≤◌, ◌<◌, ◌^◌, length, true, false, None, IsErrOf, IfOk, MatchResult};
 ghost use Rattle.std.specs.Result.{IfErr};
 ghost use Rattle.std.specs.Str.{IsCharBoundary};
 ghost use Rattle.doc_values.specs.Limits.{template_limit};
+ghost use Rattle.doc_values.specs.Tree.{size};
 ghost use Rattle.yaml_scalars.specs.Scalar.{begins_order_mark};
 ghost use Rattle.yaml_blocks.specs.Answers.{Reads, Refuses};
 ghost use Rattle.yaml_blocks.specs.code.Memory.{BeginsDocument};
@@ -26,6 +27,7 @@ use std::alloc::Global;
 pub fn read_yaml<'s>(alloc: Global, text: &'s str) -> Result<Doc<'s>, YamlRefusal>
     requires { length text.now ≤ template_limit }
     ensures answer { MatchResult result (λ d. Reads text.now d) (λ e. Refuses text.now e) }
+    ensures small { IfOk result (λ d. size d < 2 ^ 31) }
     ensures memory { IsErrOf result YamlRefusal.NoMemory → BeginsDocument text.now }
 {
     match read_document(alloc, text) {
@@ -38,6 +40,7 @@ pub fn read_yaml<'s>(alloc: Global, text: &'s str) -> Result<Doc<'s>, YamlRefusa
 fn read_document<'s>(alloc: Global, text: &'s str) -> Result<Doc<'s>, Stop>
     requires { length text.now ≤ template_limit }
     ensures answer { MatchResult result (λ d. Reads text.now d) (λ e. Refuses text.now (of_stop e)) }
+    ensures small { IfOk result (λ d. size d < 2 ^ 31) }
     ensures memory { IsErrOf result Stop.NoMemory → BeginsDocument text.now }
     ensures place { IfErr result (λ e. StopsAt text.now e) }
 {
