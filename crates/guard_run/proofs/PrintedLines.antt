@@ -15,16 +15,20 @@ use Rattle.rule_meaning.specs.StoreModel.{StoreModel}
 use Rattle.evidence_rules.specs.Follows.{Accepts, AllFollow, nothing_made}
 use Rattle.evidence_rules.proofs.FollowingShapes.{follows-shape}
 
-module _ (version : Version) (lines : List Line) (i : ℕ) (d : Line) (within : i < length lines) where
+module _ (version : Version) (lines : List Line) (i : ℕ) (l : Line) (stands : line_of lines (i + 1) ≡ Some l) where
   -- one line more
-  pub text-more : (before after : List ℕ) → before ≡ evidence_text version (take i lines) → after ≡ before ++ line_text (get_or lines i d)
-      → after ≡ evidence_text version (take (i + 1) lines)
+  pub text-more : (before after : List ℕ) → before ≡ evidence_text version (take i lines) → after ≡ before ++ line_text l → after ≡ evidence_text version (take (i + 1) lines)
   text-more before after printed more =
-      more ∙ ap (λ (t : List ℕ). t ++ line_text (get_or lines i d)) printed ∙ flat_map_more line_text (header version) (take i lines) (get_or lines i d)
-      ∙ ap (λ (ls : List Line). evidence_text version ls) (sym (take_more lines i d within))
+      more ∙ ap (λ (t : List ℕ). t ++ line_text l) printed ∙ flat_map_more line_text (header version) (take i lines) l
+      ∙ ap (λ (ls : List Line). evidence_text version ls) (next-line lines i l stands)
 
-  pub format-more : All HasShape lines → All IsInFormat (take i lines) → IsBounded (get_or lines i d) → All IsInFormat (take (i + 1) lines)
-  format-more shapes all bounds = All-more IsInFormat lines i d within all (record { shape = shapes i d within; bounds = bounds })
+  pub shape-here : All HasShape lines → HasShape l
+  shape-here shapes =
+      let there : slice_get lines i ≡ Some l = line-there lines i l stands in
+      subst HasShape (get_or_from_slice_get lines i l l there) (shapes i l (slice_get_within lines i l there))
+
+  pub format-more : All HasShape lines → All IsInFormat (take i lines) → IsBounded l → All IsInFormat (take (i + 1) lines)
+  format-more shapes all bounds = subst (All IsInFormat) (next-line lines i l stands) (All-last IsInFormat (take i lines) l all (record { shape = shape-here shapes; bounds = bounds }))
 
 -- ---- lines that follow have the fields of their kinds
 

@@ -52,8 +52,12 @@ fn evidence_text(alloc: Global, evidence: &Evidence) -> Result<Vec<u8>, AllocErr
     ensures { IfOk result (λ text. IsEvidence text.items evidence.now.version evidence.now.lines) }
 {
     let mut text = Vec::from_slice(alloc, evidence.version().header().as_bytes())?;
-    for line in evidence.as_slice() {
-        print_line(alloc, line, &mut text)?;
+    for before in 0..evidence.len() {
+        let Some(line) = evidence.get(before + 1) else {
+            // Each of these numbers has its line.
+            unreachable!()
+        };
+        print_line(alloc, &line, &mut text)?;
     }
     Ok(text)
 }

@@ -32,8 +32,12 @@ fn text_of(alloc: Global, evidence: &Evidence) -> Result<Vec<u8>, AllocError>
     requires { All IsInFormat evidence.now.lines }
 {
     let mut text = Vec::from_slice(alloc, evidence.version().header().as_bytes())?;
-    for line in evidence.as_slice() {
-        print_line(alloc, line, &mut text)?;
+    for before in 0..evidence.len() {
+        let Some(line) = evidence.get(before + 1) else {
+            // Each of these numbers has its line.
+            unreachable!()
+        };
+        print_line(alloc, &line, &mut text)?;
     }
     Ok(text)
 }
@@ -68,27 +72,27 @@ fn evidence_is_read_and_printed_again(rt: HostRuntime) -> Result<(), Fail> {
 }
 
 /// A line without cites.
-fn plain_line(alloc: Global) -> Line {
+fn plain_line() -> Line<'static> {
     Line {
         kind: LineKind::Rule,
         frame: Some(1),
         site: Some(6),
-        cites: Cites::new(Vec::new(alloc)),
+        cites: Cites::new(&[]),
         outcome: Outcome::Verdict(Verdict::Pass),
     }
 }
 
 /// Whether evidence that is empty numbers its lines from 1.
-fn numbers_lines(alloc: Global, evidence: &mut Evidence) -> Result<bool, AllocError> {
-    let first = evidence.push(plain_line(alloc))?;
-    let second = evidence.push(plain_line(alloc))?;
+fn numbers_lines(evidence: &mut Evidence) -> Result<bool, AllocError> {
+    let first = evidence.push(plain_line())?;
+    let second = evidence.push(plain_line())?;
     Ok(first == 1 && second == 2 && has_lines(evidence, 2))
 }
 
 #[test]
 fn lines_are_numbered_from_one(rt: HostRuntime) -> Result<(), Fail> {
     let mut evidence = Evidence::new(rt.alloc(), Version::Two);
-    assert!(rt; numbers_lines(rt.alloc(), &mut evidence)?);
+    assert!(rt; numbers_lines(&mut evidence)?);
     assert!(rt; evidence.version() == Version::Two);
     Ok(())
 }
