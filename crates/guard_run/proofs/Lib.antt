@@ -6,5 +6,7 @@ mod Outcomes
 mod PrintedLines
 mod Plainness
 mod Refusing
+mod SaidCases
 mod Stages
+mod Testings
 mod VerdictCounts

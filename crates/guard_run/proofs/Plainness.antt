@@ -1,11 +1,12 @@
--- A template has no patterns: one of JSON by the lemma on JSON, one of YAML by the kinds of its values; and a map of the entries of two
--- by theirs.
-use Rattle.std.proofs.Common.{◌≡◌, ◌||◌, ℕ, List, Bool, true, false, refl, sym}
+-- A template has no patterns: one of JSON by the lemma on JSON, one of YAML by the kinds of its values; a map of the entries of two
+-- by theirs; and a part of a tree since the tree has none.
+use Rattle.std.proofs.Common.{◌≡◌, ◌||◌, ◌-◌, ℕ, zero, suc, List, Bool, true, false, refl, sym, if◌then◌else◌}
+use Rattle.std.specs.Prelude.{nat_lt}
 use Rattle.std.proofs.lemmas.Bool.{false≢true}
-use Rattle.doc_values.specs.Places.{first_kids, first_label}
+use Rattle.doc_values.specs.Places.{find, first_kids, first_label, tree_at, unkeyed}
 use Rattle.doc_values.specs.declared.kind.Kind.{Kind}
 use Rattle.doc_values.specs.declared.kind.Kind.TheVariants as kind
-use Rattle.doc_values.specs.Tree.{Label, Forest, Nil, Node, joined}
+use Rattle.doc_values.specs.Tree.{Label, Forest, Nil, Node, joined, size}
 use Rattle.doc_values.specs.Merge.{merged}
 use Rattle.yaml_blocks.proofs.TreeInduction.{IsYamlKind, yaml-induction}
 use Rattle.rule_meaning.specs.Values.{is_pattern, has_pattern}
@@ -62,3 +63,25 @@ label-plain (Node l kids rest) plain = (or-parts (is_pattern l.kind) (has_patter
 pub merged-plain : (first second : Forest) → has_pattern first ≡ false → has_pattern second ≡ false → has_pattern (merged first second) ≡ false
 merged-plain first second plain others =
     rw (label-plain first plain, joined-plain (first_kids first) (first_kids second) (kids-plain first plain) (kids-plain second others)) refl
+
+-- ---- a part of a tree
+
+plain-either : (b : Bool) (f g : Forest) → IsPlain f → IsPlain g → IsPlain (if b then f else g)
+plain-either true f g first second = first
+plain-either false f g first second = second
+
+find-plain : (f : Forest) (n : ℕ) → IsPlain f → IsPlain (find f n)
+find-plain Nil n plain = refl
+find-plain (Node l kids rest) zero plain = plain
+find-plain (Node l kids rest) (suc n) plain =
+    let own = or-parts (is_pattern l.kind) (has_pattern kids || has_pattern rest) plain in
+    let inner = or-parts (has_pattern kids) (has_pattern rest) own.1 in
+    plain-either (nat_lt n (size kids)) (find kids n) (find rest (n - size kids)) (find-plain kids n inner.0) (find-plain rest (n - size kids) inner.1)
+
+alone-plain : (l : Label) (kids : Forest) → is_pattern l.kind ≡ false → IsPlain kids → IsPlain (Node (unkeyed l) kids Nil)
+alone-plain l kids own inner = rw (own, inner) refl
+
+pub part-plain : (tree : Forest) (n : ℕ) → has_pattern tree ≡ false → has_pattern (tree_at tree n) ≡ false
+part-plain tree n plain =
+    let found = find-plain tree n plain in
+    alone-plain (first_label (find tree n)) (first_kids (find tree n)) (label-plain (find tree n) found) (kids-plain (find tree n) found)

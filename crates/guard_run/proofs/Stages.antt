@@ -1,47 +1,70 @@
 -- The stages of the order of work: what a stage comes to, the work over the files comes to.
 use Rattle.std.proofs.Common.{◌≡◌, ℕ, List, Option, Some, None, inl, inr, refl, string_bytes, subst}
+use Rattle.doc_values.specs.Limits.{template_limit}
 use Rattle.doc_values.specs.Tree.{Forest}
 use Rattle.guard_syntax.specs.Syntax.{File}
 use Rattle.report_text.specs.Texts.{Parameters}
 use Rattle.rule_names.specs.code.Files.{file_of}
-use Rattle.guard_ends.specs.Inputs.{IsProof, RefusesProof, RefusesRules, format_of}
+use Rattle.guard_ends.specs.Inputs.{IsProof, IsTemplate, RefusesData, RefusesProof, RefusesRules, format_of}
 use Rattle.guard_ends.specs.Order.{Contents, Ending, Inputs, IsChecked, IsContent, Joining, Loading, LoadingTexts, MakingPatterns, Merging, OverFiles, Point, Reading, ReadingInputs, Refusing, WithParams, Work}
+use Rattle.guard_ends.specs.declared.ends.Which.{Which}
 use Rattle.guard_ends.specs.declared.ends.Which.TheVariants as file
 use Rattle.guard_ends.specs.declared.format.Format.{Format}
 use Rattle.guard_run.specs.code.Inputs.{AreAlone, AreLoaded, ReadingSources, WithPatterns, inputs_of, inputs_over}
 use Rattle.guard_run.specs.code.Jobs.{Doing}
 use Rattle.guard_run.specs.code.Joined.{JoiningInputs}
-use Rattle.guard_run.specs.code.Loading.{RefusesText}
+use Rattle.guard_run.specs.code.Loading.{RefusesText, limit_of}
 use Rattle.guard_run.specs.declared.inputs.Inputs as code
 use Rattle.guard_run.specs.declared.inputs.Sources.{Sources}
 use Rattle.guard_run.specs.declared.job.Task.{Task}
 use Rattle.guard_run.specs.declared.job.Task.TheVariants as task
 use Rattle.guard_run.proofs.Loads.{loading-same, text-data}
 
--- rules are loaded and read, and the work goes on with the template
-pub rules-before : (told : Contents) (rules template : List ℕ) (GoesOn : List ℕ → File → List ℕ → Work)
-    → (p : Point) → Loading file.Rules told rules (Refusing RefusesRules) p → LoadingTexts told rules template GoesOn p
-rules-before told rules template GoesOn p (inl load) = inl load
-rules-before told rules template GoesOn p (inr (source, content, refused)) = inr (source, content, inl refused)
+module _ (beside : Which) (told : Contents) (rules name : List ℕ) where
+  -- rules are loaded and read, and the work goes on with what is beside them
+  pub rules-before : (GoesOn : List ℕ → File → List ℕ → Work)
+      → (p : Point) → Loading file.Rules told rules (Refusing RefusesRules) p → LoadingTexts beside told rules name GoesOn p
+  rules-before GoesOn p (inl load) = inl load
+  rules-before GoesOn p (inr (source, content, refused)) = inr (source, content, inl refused)
 
-module _ (told : Contents) (rules template : List ℕ) (params : Option (List ℕ)) (GoesOn : Inputs → Work) where
-  -- what comes before the texts are loaded
-  pub loads-before : (p : Point) → LoadingTexts told rules template (λ source read. Refusing (RefusesText file.Template)) p → OverFiles told rules template params GoesOn p
-  loads-before p (inl load) = inl load
-  loads-before p (inr (source, content, inl refused)) = inr (source, content, inl refused)
-  loads-before p (inr (source, content, inr (read, whole, inl load))) = inr (source, content, inr (read, whole, inl load))
-  loads-before p (inr (source, content, inr (read, whole, inr (bytes, found, refused)))) =
-      inr (source, content, inr (read, whole, inr (bytes, found, inl (refused.0, text-data file.Template (format_of template) refl bytes refused.0 refused.1, refused.2))))
+  -- what comes before the texts are loaded: what is no text is refused in each format
+  pub texts-before : (f : Format) (GoesOn : List ℕ → File → List ℕ → Forest → Work) → limit_of beside ≡ template_limit
+      → (p : Point) → LoadingTexts beside told rules name (λ source read. Refusing (RefusesText beside)) p
+      → LoadingTexts beside told rules name (λ source read bytes. Reading (RefusesData beside f) (IsTemplate f) bytes (GoesOn source read bytes)) p
+  texts-before f GoesOn limit p (inl load) = inl load
+  texts-before f GoesOn limit p (inr (source, content, inl refused)) = inr (source, content, inl refused)
+  texts-before f GoesOn limit p (inr (source, content, inr (read, whole, inl load))) = inr (source, content, inr (read, whole, inl load))
+  texts-before f GoesOn limit p (inr (source, content, inr (read, whole, inr (bytes, found, refused)))) =
+      inr (source, content, inr (read, whole, inr (bytes, found, inl (refused.0, text-data beside f limit bytes refused.0 refused.1, refused.2))))
 
   -- and behind that
+  pub texts-loaded : (sources : Sources) → AreLoaded told rules name sources → (GoesOn : List ℕ → File → List ℕ → Work)
+      → (p : Point) → GoesOn (string_bytes sources.rules.text) (file_of sources.rules.file) (string_bytes sources.beside.text) p
+      → LoadingTexts beside told rules name GoesOn p
+  texts-loaded sources loaded GoesOn p came =
+      inr (
+        string_bytes sources.rules.text,
+        loaded.source,
+        inr (file_of sources.rules.file, loaded.read, inr (string_bytes sources.beside.text, loaded.text.text, came)),
+      )
+
+module _ (told : Contents) (rules template : List ℕ) (params : Option (List ℕ)) (GoesOn : Inputs → Work) where
+  -- what is done with a template that was read
+  abbrev joins : List ℕ → File → List ℕ → Forest → Work
+  joins source read bytes tree = WithParams told params bytes tree (λ joined data_tree. MakingPatterns source read
+      (GoesOn (record { rules = read; tree = data_tree; texts = record { rules = source; template = bytes; params = joined } })))
+
+  pub loads-before : (p : Point) → LoadingTexts file.Template told rules template (λ source read. Refusing (RefusesText file.Template)) p → OverFiles told rules template params GoesOn p
+  loads-before p came = texts-before file.Template told rules template (format_of template) joins refl p came
+
   pub sources-loaded : (sources : Sources) → AreLoaded told rules template sources → (p : Point) → ReadingSources sources (WithParams told params) GoesOn p → OverFiles told rules template params GoesOn p
   sources-loaded sources loaded p came =
       let source = string_bytes sources.rules.text in
       let read = file_of sources.rules.file in
-      let bytes = string_bytes sources.template.text in
-      let by_name : ReadingInputs (format_of template) source read (WithParams told params) bytes GoesOn p =
-      subst (λ (f : Format). ReadingInputs f source read (WithParams told params) bytes GoesOn p) loaded.text.format came in
-      inr (source, loaded.source, inr (read, loaded.read, inr (bytes, loaded.text.text, by_name)))
+      let bytes = string_bytes sources.beside.text in
+      texts-loaded file.Template told rules template sources loaded
+      (λ source read bytes. ReadingInputs (format_of template) source read (WithParams told params) bytes GoesOn) p
+      (subst (λ (f : Format). ReadingInputs f source read (WithParams told params) bytes GoesOn p) loaded.text.format came)
 
 -- the template of sources is read
 pub template-read : (sources : Sources) (Joined : Joining) (GoesOn : Inputs → Work) (inputs : code.Inputs) → AreAlone sources inputs
@@ -89,7 +112,7 @@ module _ (told other : Contents) (same : (n : List ℕ) → told n ≡ other n) 
   sources-same t params sources p (inr (tree, read, came)) = inr (
     tree,
     read,
-    params-more (string_bytes sources.template.text) tree
+    params-more (string_bytes sources.beside.text) tree
         (λ read joined. WithPatterns (Doing t told) (inputs_over sources read joined)) (λ read joined. WithPatterns (Doing t other) (inputs_over sources read joined))
         (λ read joined q goes. doing-patterns t (inputs_over sources read joined) q goes) told other params same p came,
   )

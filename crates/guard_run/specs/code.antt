@@ -8,4 +8,5 @@ pub mod Merging
 pub mod Outcome
 pub mod Refusals
 pub mod Stops
+pub mod Tested
 pub mod Writing

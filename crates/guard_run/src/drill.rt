@@ -68,7 +68,7 @@ fn drill_sources(alloc: Global, count: u32) -> Result<Sources, Stop>
     let template = drill_template(alloc, count)?;
     Ok(Sources {
         rules,
-        template: DataText {
+        beside: DataText {
             text: template,
             format: Format::Json,
         },

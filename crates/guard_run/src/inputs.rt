@@ -21,7 +21,7 @@ pub(crate) struct Rules {
     pub ghost short: { length (string_bytes text) ≤ rules_limit },
 }
 
-/// The text of a template or of parameters, with the format in which it is to be read.
+/// The text of a template, of parameters or of tests, with the format in which it is to be read.
 #[derive(Drop)]
 pub(crate) struct DataText {
     pub text: String,
@@ -29,11 +29,11 @@ pub(crate) struct DataText {
     pub ghost short: { length (string_bytes text) ≤ template_limit },
 }
 
-/// Rules that were read, and the text of a template.
+/// Rules that were read, and the text that was loaded beside them: of a template, or of tests.
 #[derive(Drop)]
 pub(crate) struct Sources {
     pub rules: Rules,
-    pub template: DataText,
+    pub beside: DataText,
 }
 
 /// Rules and a data tree, which is that of a template or one of a template and parameters; and the texts of all.

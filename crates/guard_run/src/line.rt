@@ -1,5 +1,5 @@
 //! The lines of refusals, and of evidence that is rejected. They stand on the stack, so that none wants memory, but for those
-//! that end with a name of the rules, which may be as long as the rules are.
+//! that end with a name, which may be as long as its file.
 ghost use Rattle.std.specs.Prelude.{◌≡◌, ◌+◌, ◌≤◌, ◌++◌, Some, codes, length, decimal, string_bytes, IfOk};
 ghost use Rattle.doc_values.specs.Limits.{template_limit};
 ghost use Rattle.arrayvec.specs.ArrayString.{array_string_len};
@@ -10,6 +10,7 @@ ghost use Rattle.guard_ends.specs.Lines.{evidence_line, file_word, kind_word, na
 use arrayvec::ArrayString;
 use doc_values::place_of;
 use guard_ends::{RefusalKind, Which};
+use guard_syntax::Name;
 use itoa::Buffer;
 use std::alloc::{AllocError, Global};
 
@@ -83,23 +84,22 @@ pub(crate) fn rejected_text(number: u64) -> Short
     line
 }
 
-/// The line of a refusal that is about a name, at a byte offset of a file.
+/// The line of a refusal that is about a name, at the byte offset where that stands in a file.
 pub(crate) fn named_line(
     alloc: Global,
     which: Which,
     kind: RefusalKind,
-    name: &str,
-    at: u32,
+    name: &Name,
     bytes: &[u8],
 ) -> Result<String, AllocError>
     requires { length bytes.now ≤ template_limit }
     ensures { IfOk result (λ line. string_bytes line
-        ≡ placed_line which bytes.now at (kind_word kind ++ name_part (Some name.now))) }
+        ≡ placed_line which bytes.now name.now.at (kind_word kind ++ name_part (Some name.now.text))) }
 {
-    let start = line_start(which, kind, at, bytes);
+    let start = line_start(which, kind, name.at(), bytes);
     let mut line = String::from_str(alloc, start.as_str())?;
     line.push_str(" ")?;
-    line.push_str(name)?;
+    line.push_str(name.as_str())?;
     line.push_str("\n")?;
     Ok(line)
 }
@@ -143,6 +143,7 @@ fn file_word(which: Which) -> &'static str
         Which::Template => "data",
         Which::Params => "params",
         Which::Proof => "proof",
+        Which::Tests => "tests",
     }
 }
 
@@ -179,5 +180,7 @@ fn kind_word(kind: RefusalKind) -> &'static str
         RefusalKind::BadPattern => "BadPattern",
         RefusalKind::NotAMap => "NotAMap",
         RefusalKind::SharedKey => "SharedKey",
+        RefusalKind::TestShape => "TestShape",
+        RefusalKind::NoSuchRule => "NoSuchRule",
     }
 }

@@ -23,6 +23,7 @@ fn limit_of(which: Which) -> u64
         Which::Template => TEMPLATE_LIMIT as u64,
         Which::Params => TEMPLATE_LIMIT as u64,
         Which::Proof => EVIDENCE_LIMIT as u64,
+        Which::Tests => TEMPLATE_LIMIT as u64,
     }
 }
 
@@ -72,7 +73,7 @@ pub(crate) fn load_text<F: Files>(
     }
 }
 
-/// The text of a template or of parameters, whose format its name says.
+/// The text of a template, of parameters or of tests, whose format its name says.
 pub(crate) fn load_data<F: Files>(
     alloc: Global,
     which: Which,

@@ -18,6 +18,7 @@ use crate::prepare::{load_sources, read_template};
 use crate::report::Form;
 use crate::stop::Stop;
 use crate::validate::report_on;
+use guard_ends::Which;
 use guard_io::Files;
 use std::alloc::Global;
 use value_compare::PatternMaker;
@@ -36,7 +37,7 @@ pub(crate) fn run_over_files<F: Files, M: PatternMaker>(
     ensures kept { (other : List ℕ) → F.faults files.old other ≤ F.faults files.new other }
     ensures maker_kept { (text : List ℕ) → M.faults maker.old text ≤ M.faults maker.new text }
 {
-    let sources = load_sources(alloc, job, files)?;
+    let sources = load_sources(alloc, job.rules, Which::Template, job.template, files)?;
     run_over_sources(alloc, &sources, job, files, maker)
 }
 

@@ -1,13 +1,13 @@
-//! The inputs of a judgement are prepared: rules and a template are loaded, and read.
+//! Rules are loaded and read, and what is read beside them is loaded; a template becomes the inputs of a judgement.
 ghost use Rattle.std.specs.Prelude.{◌≡◌, ◌≤◌, ℕ, List, MatchResult, string_bytes};
+ghost use Rattle.doc_values.specs.Limits.{template_limit};
 ghost use Rattle.guard_ends.specs.Inputs.{RefusesData};
 ghost use Rattle.guard_ends.specs.Order.{LoadingTexts, Refusing};
 ghost use Rattle.guard_run.specs.code.Inputs.{AreAlone, AreLoaded};
-ghost use Rattle.guard_run.specs.code.Loading.{RefusesText};
+ghost use Rattle.guard_run.specs.code.Loading.{RefusesText, limit_of};
 ghost use Rattle.guard_run.specs.code.Stops.{IsNotRead, IsStop, NoneRose, Rose};
 
 use crate::inputs::{Inputs, Sources};
-use crate::job::Job;
 use crate::load::load_data;
 use crate::rules::load_rules;
 use crate::stop::Stop;
@@ -17,31 +17,34 @@ use guard_io::Files;
 use report_text::Texts;
 use std::alloc::Global;
 
-/// Loads rules and reads them, and loads a template.
+/// Loads rules and reads them, and loads the file of this name that is read beside them.
 pub(crate) fn load_sources<F: Files>(
     alloc: Global,
-    job: &Job<'_>,
+    rules: &str,
+    beside: Which,
+    name: &str,
     files: &mut F,
 ) -> Result<Sources, Stop>
+    requires { limit_of beside ≡ template_limit }
     ensures loaded { MatchResult result
-        (AreLoaded (F.content files.old) job.now.rules.now job.now.template.now)
-        (IsStop (LoadingTexts (F.content files.old) job.now.rules.now job.now.template.now (λ source rules. Refusing (RefusesText Which.Template)))
+        (AreLoaded (F.content files.old) rules.now name.now)
+        (IsStop (LoadingTexts beside (F.content files.old) rules.now name.now (λ source read. Refusing (RefusesText beside)))
         (Rose (F.faults files.old) (F.faults files.new)) NoneRose) }
     ensures contents { (other : List ℕ) → F.content files.new other ≡ F.content files.old other }
     ensures kept { (other : List ℕ) → F.faults files.old other ≤ F.faults files.new other }
 {
-    let rules = load_rules(alloc, job.rules, files)?;
-    let template = load_data(alloc, Which::Template, job.template, files)?;
-    Ok(Sources { rules, template })
+    let rules = load_rules(alloc, rules, files)?;
+    let beside = load_data(alloc, beside, name, files)?;
+    Ok(Sources { rules, beside })
 }
 
 /// Reads the template of sources: the inputs without parameters.
 pub(crate) fn read_template(alloc: Global, sources: &Sources) -> Result<Inputs<'_>, Stop>
     ensures { MatchResult result (AreAlone sources.entry.now)
-        (IsNotRead (RefusesData Which.Template sources.entry.now.template.format) (string_bytes sources.entry.now.template.text)) }
+        (IsNotRead (RefusesData Which.Template sources.entry.now.beside.format) (string_bytes sources.entry.now.beside.text)) }
 {
-    let template = sources.template.text.as_str();
-    let tree = read_tree(alloc, Which::Template, sources.template.format, template)?;
+    let template = sources.beside.text.as_str();
+    let tree = read_tree(alloc, Which::Template, sources.beside.format, template)?;
     Ok(Inputs {
         rules: &sources.rules.file,
         tree,

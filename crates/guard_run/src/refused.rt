@@ -1,5 +1,5 @@
 //! Refusals with their lines.
-ghost use Rattle.std.specs.Prelude.{◌≡◌, ◌≤◌, ℕ, List, Some, None, length, IfOk};
+ghost use Rattle.std.specs.Prelude.{◌≡◌, ◌≤◌, ℕ, List, Some, None, length, string_bytes, IfOk};
 ghost use Rattle.doc_values.specs.Limits.{template_limit};
 ghost use Rattle.guard_ends.specs.Inputs.{json_kind, lex_kind, name_kind, name_said, of_yaml, parse_kind};
 ghost use Rattle.guard_ends.specs.Order.{refused};
@@ -10,7 +10,7 @@ use crate::written::Written;
 use guard_ends::{Refusal, RefusalKind, Which};
 use guard_lexer::LexRefusal;
 use guard_parser::ParseRefusal;
-use guard_syntax::Text;
+use guard_syntax::{Name, Text};
 use json_reader::JsonRefusal;
 use rule_names::NameKind;
 use std::alloc::{AllocError, Global};
@@ -79,8 +79,7 @@ pub(crate) fn refused_at(which: Which, kind: RefusalKind, at: u32, bytes: &[u8])
     }
 }
 
-/// Rules with these bytes, refused for a name at a byte offset. The line is as long as the name, so it is made in memory.
-/// What is too deep is about no name.
+/// Rules with these bytes, refused for a name at a byte offset. What is too deep is about no name.
 pub(crate) fn refused_name(
     alloc: Global,
     kind: NameKind,
@@ -96,13 +95,41 @@ pub(crate) fn refused_name(
     let Some(name) = named else {
         return Ok(refused_at(Which::Rules, kind, at, bytes));
     };
-    let line = named_line(alloc, Which::Rules, kind, name.as_str(), at, bytes)?;
+    refused_for(alloc, Which::Rules, kind, Name::new(name, at), bytes)
+}
+
+/// Tests with these bytes, refused at a byte offset for the name of no rule that is reported.
+pub(crate) fn refused_rule(
+    alloc: Global,
+    name: String,
+    at: u32,
+    bytes: &[u8],
+) -> Result<Refused, AllocError>
+    requires { length bytes.now ≤ template_limit }
+    ensures { IfOk result (λ r. said r ≡ refused bytes.now (Refusal.At Which.Tests RefusalKind.NoSuchRule at (Some (string_bytes name)))) }
+{
+    let name = Name::new(Text::new(name), at);
+    refused_for(alloc, Which::Tests, RefusalKind::NoSuchRule, name, bytes)
+}
+
+/// A file with these bytes, refused for a name where that stands. The line is as long as the name, so it is made in memory.
+fn refused_for(
+    alloc: Global,
+    which: Which,
+    kind: RefusalKind,
+    name: Name,
+    bytes: &[u8],
+) -> Result<Refused, AllocError>
+    requires { length bytes.now ≤ template_limit }
+    ensures { IfOk result (λ r. said r ≡ refused bytes.now (Refusal.At which kind name.at (Some name.text))) }
+{
+    let line = named_line(alloc, which, kind, &name, bytes)?;
     Ok(Refused {
         refusal: Refusal::At {
-            which: Which::Rules,
+            which,
             kind,
-            at,
-            name: Some(name),
+            at: name.at(),
+            name: Some(name.into_text()),
         },
         line: Written::Long(line.into_bytes()),
     })

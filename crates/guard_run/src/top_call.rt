@@ -9,7 +9,8 @@ use guard_io::{Files, Sink};
 use std::alloc::Global;
 use value_compare::PatternMaker;
 
-/// Judges a template, alone or with parameters, by rules, or evidence for their verdicts: what the program does with its words.
+/// Judges a template, alone or with parameters, by rules, or evidence for their verdicts, or tests rules: what the program does
+/// with its words.
 pub fn guard<F: Files, M: PatternMaker, O: Sink, E: Sink>(
     alloc: Global,
     words: &[String],
@@ -31,7 +32,7 @@ pub fn guard<F: Files, M: PatternMaker, O: Sink, E: Sink>(
     ensures pattern_fault { result ≡ End.PatternRefused
         → Unmade (map string_bytes words.now) (F.content files.old) (M.faults maker.old) (M.faults maker.new)
         × TookOfUnmade (O.told out.old) (O.told out.new) (E.told err.old) (E.told err.new) }
-    // Out is not written only where it is to take a report, evidence, or what is said of evidence, and its count rose.
+    // Out is not written only where it is to take a report, evidence, or what is said of evidence or of tests, and its count rose.
     ensures out_fault { result ≡ End.WriteFault Pipe.Out
         → FaultCounted (O.faults out.old) (O.faults out.new)
         × TookOfUnwritten (map string_bytes words.now) (F.content files.old)

@@ -1,4 +1,4 @@
-//! Templates and parameters, which are read in the format that is asked for.
+//! Templates, parameters and tests, which are read in the format that is asked for.
 ghost use Rattle.std.specs.Prelude.{◌≤◌, MatchResult, length};
 ghost use Rattle.doc_values.specs.Limits.{template_limit};
 ghost use Rattle.guard_ends.specs.Inputs.{IsTemplate, RefusesData};

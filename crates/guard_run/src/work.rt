@@ -9,6 +9,7 @@ use crate::drill::run_drill;
 use crate::job::{Job, Task, judging, name_in};
 use crate::over_files::run_over_files;
 use crate::stop::Stop;
+use crate::test::run_tests;
 use guard_io::Files;
 use guard_words::{Request, WordsRefusal, read_words};
 use std::alloc::Global;
@@ -82,5 +83,8 @@ fn run<F: Files, M: PatternMaker>(
             run_over_files(alloc, &job, files, maker)
         }
         Request::Drill { count } => run_drill(alloc, *count),
+        Request::Test { rules, tests } => {
+            run_tests(alloc, rules.as_str(), tests.as_str(), files, maker)
+        }
     }
 }

@@ -74,7 +74,7 @@ fn write_stop<E: Sink>(stop: Stop, err: &mut E) -> End
 {
     match stop {
         Stop::Usage => say(
-            b"usage: guard validate --rules FILE --data FILE [--params FILE] [--evidence] | check --rules FILE --data FILE [--params FILE] --proof FILE | drill --count N\n",
+            b"usage: guard validate --rules FILE --data FILE [--params FILE] [--evidence] | check --rules FILE --data FILE [--params FILE] --proof FILE | drill --count N | test --rules FILE --tests FILE\n",
             End::Usage,
             err,
         ),
@@ -129,5 +129,6 @@ fn read_fault_text(which: Which) -> &'static str
         Which::Template => "guard: cannot read data\n",
         Which::Params => "guard: cannot read params\n",
         Which::Proof => "guard: cannot read proof\n",
+        Which::Tests => "guard: cannot read tests\n",
     }
 }

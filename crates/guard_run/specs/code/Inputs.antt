@@ -22,7 +22,7 @@ abbrev pub inputs_over : Sources → Option Parameters → Forest → Inputs
 inputs_over sources params tree = record {
   rules = file_of sources.rules.file;
   tree = tree;
-  texts = record { rules = string_bytes sources.rules.text; template = string_bytes sources.template.text; params = params };
+  texts = record { rules = string_bytes sources.rules.text; template = string_bytes sources.beside.text; params = params };
 }
 
 -- the patterns of the rules of inputs are made, and the work goes on with the inputs
@@ -32,7 +32,7 @@ WithPatterns GoesOn inputs = MakingPatterns inputs.texts.rules inputs.rules (Goe
 -- sources are read, what is done with the template is done, and the work goes on with the inputs that they make
 abbrev pub ReadingSources : Sources → Joining → (Inputs → Work) → Work
 ReadingSources sources Joined =
-    ReadingInputs sources.template.format (string_bytes sources.rules.text) (file_of sources.rules.file) Joined (string_bytes sources.template.text)
+    ReadingInputs sources.beside.format (string_bytes sources.rules.text) (file_of sources.rules.file) Joined (string_bytes sources.beside.text)
 
 -- a text that was loaded from a file of this name
 pub record IsLoaded (told : Contents) (name : List ℕ) (loaded : DataText) : Type 0 where
@@ -40,19 +40,19 @@ pub record IsLoaded (told : Contents) (name : List ℕ) (loaded : DataText) : Ty
   pub format : loaded.format ≡ format_of name
 
 -- sources that were loaded from files of these names, of which the rules are read
-pub record AreLoaded (told : Contents) (rules template : List ℕ) (sources : Sources) : Type 0 where
+pub record AreLoaded (told : Contents) (rules name : List ℕ) (sources : Sources) : Type 0 where
   pub source : IsContent (told rules) (string_bytes sources.rules.text)
   pub read : IsRuleFile (string_bytes sources.rules.text) (file_of sources.rules.file)
-  pub text : IsLoaded told template sources.template
+  pub text : IsLoaded told name sources.beside
 
 -- sources of a drill of so many resources, of which the rules are read
 pub record AreOfDrill (count : ℕ) (sources : Sources) : Type 0 where
   pub source : string_bytes sources.rules.text ≡ drill_rules
   pub read : IsRuleFile drill_rules (file_of sources.rules.file)
-  pub text : string_bytes sources.template.text ≡ template_text count
-  pub format : sources.template.format ≡ Json
+  pub text : string_bytes sources.beside.text ≡ template_text count
+  pub format : sources.beside.format ≡ Json
 
 -- inputs that were read from sources, without parameters
 pub record AreAlone (sources : Sources) (inputs : code.Inputs) : Type 0 where
   pub same : inputs_of inputs ≡ inputs_over sources None inputs.tree
-  pub read : IsTemplate sources.template.format (string_bytes sources.template.text) inputs.tree
+  pub read : IsTemplate sources.beside.format (string_bytes sources.beside.text) inputs.tree

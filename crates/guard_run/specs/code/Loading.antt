@@ -16,6 +16,7 @@ limit_of file.Rules = rules_limit
 limit_of file.Template = template_limit
 limit_of file.Params = template_limit
 limit_of file.Proof = evidence_limit
+limit_of file.Tests = template_limit
 
 -- a file is refused for its length
 abbrev pub RefusesLength : Which → List ℕ → Refusal → Type 0

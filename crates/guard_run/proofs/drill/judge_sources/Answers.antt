@@ -17,7 +17,7 @@ returns-in_err-inputs c =
     let Comes : Work = ReadingSources sources Alone (λ inputs. Ending (IsJudged (drill_report c.args.count) inputs)) in
     at-exit (λ (done : Done). Comes (Ends (ended done))) (IsStop Comes NoneRose NoneRose)
     c.from_residual.result c.in_err-inputs.field-0.0 c.from_residual.ensures.1
-    (IsStop-more (Refusing (RefusesData file.Template sources.template.format) (string_bytes sources.template.text)) Comes NoneRose NoneRose NoneRose NoneRose
+    (IsStop-more (Refusing (RefusesData file.Template sources.beside.format) (string_bytes sources.beside.text)) Comes NoneRose NoneRose NoneRose NoneRose
     (λ p refused. inl refused) (as-rose NoneRose) (as-rose NoneRose) c.in_err-inputs.field-0.0 c.in_err-inputs.ensures)
 
 pub returns : goal.returns

@@ -27,7 +27,7 @@ Comes count = Reading RefusesRules IsRuleFile drill_rules (λ rules. ReadingInpu
 sources-come : (count : ℕ) (sources : Sources) → AreOfDrill count sources → (p : Point) → ReadingSources sources Alone (Judges count) p → Comes count p
 sources-come count sources of p came =
     let file : File = file_of sources.rules.file in
-    let text = string_bytes sources.template.text in
+    let text = string_bytes sources.beside.text in
     let by_format = subst (λ (f : Format). ReadingInputs f (string_bytes sources.rules.text) file Alone text (Judges count) p) of.format came in
     let by_rules = subst (λ (b : List ℕ). ReadingInputs Json b file Alone text (Judges count) p) of.source by_format in
     inr (file, of.read, subst (λ (b : List ℕ). ReadingInputs Json drill_rules file Alone b (Judges count) p) of.text by_rules)

@@ -18,7 +18,7 @@ returns-in_err-sources-clause-outcome g c =
     let before : Counts = record { files = g.F.Files.faults c.args.files.now; patterns = g.M.PatternMaker.faults c.args.maker.now } in
     let after : Counts = record { files = g.F.Files.faults c.load_sources.new.files; patterns = g.M.PatternMaker.faults c.args.maker.now } in
     let FileRose = Rose before.files after.files in
-    let Loads : Work = LoadingTexts told job.rules.now job.template.now (λ source read. Refusing (RefusesText file.Template)) in
+    let Loads : Work = LoadingTexts file.Template told job.rules.now job.template.now (λ source read. Refusing (RefusesText file.Template)) in
     let Comes : Work = WorkOfJob job told in
     at-exit (λ (done : Done). Comes (Ends (ended done))) (IsStopBy Comes before after)
     c.from_residual.result c.in_err-sources.field-0.0 c.from_residual.ensures.1

@@ -25,7 +25,7 @@ returns-in_err-template-clause-outcome g c =
     let Comes : Work = ReadingSources sources (WithParams told (name_in job.params)) (Doing job.task told) in
     at-exit (λ (done : Done). Comes (Ends (ended done))) (IsStop Comes FileRose PatternRose)
     c.from_residual.result c.in_err-template.field-0.0 c.from_residual.ensures.1
-    (IsStop-more (Refusing (RefusesData file.Template sources.template.format) (string_bytes sources.template.text)) Comes NoneRose FileRose NoneRose PatternRose
+    (IsStop-more (Refusing (RefusesData file.Template sources.beside.format) (string_bytes sources.beside.text)) Comes NoneRose FileRose NoneRose PatternRose
     (λ p refused. inl refused) (none-rose FileRose) (none-rose PatternRose) c.in_err-template.field-0.0 c.in_err-template.ensures)
 
 pub returns-clause-outcome : goal.returns-clause-outcome

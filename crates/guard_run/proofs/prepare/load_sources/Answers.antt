@@ -14,50 +14,52 @@ use Rattle.guard_run.proofs.prepare.load_sources.Goals as goal
 pub returns-in_err-rules-clause-loaded : goal.returns-in_err-rules-clause-loaded
 returns-in_err-rules-clause-loaded g c =
     let told = g.F.Files.content c.args.files.now in
-    let rules = c.args.job.now.rules.now in
-    let template = c.args.job.now.template.now in
+    let which = c.args.beside in
+    let rules = c.args.rules.now in
+    let name = c.args.name.now in
     let Rises = Rose (g.F.Files.faults c.args.files.now) (g.F.Files.faults c.load_rules.new.files) in
-    let Comes : Work = LoadingTexts told rules template (λ source read. Refusing (RefusesText file.Template)) in
-    at-exit (AreLoaded told rules template) (IsStop Comes Rises NoneRose)
+    let Comes : Work = LoadingTexts which told rules name (λ source read. Refusing (RefusesText which)) in
+    at-exit (AreLoaded told rules name) (IsStop Comes Rises NoneRose)
     c.from_residual.result c.in_err-rules.field-0.0 c.from_residual.ensures.1
     (IsStop-more (Loading file.Rules told rules (Refusing RefusesRules)) Comes Rises Rises NoneRose NoneRose
-    (rules-before told rules template (λ source read. Refusing (RefusesText file.Template)))
+    (rules-before which told rules name (λ source read. Refusing (RefusesText which)))
     (as-rose Rises) (as-rose NoneRose) c.in_err-rules.field-0.0 c.in_err-rules.ensures.loaded)
 
-pub returns-in_err-template-clause-loaded : goal.returns-in_err-template-clause-loaded
-returns-in_err-template-clause-loaded g c =
+pub returns-in_err-beside-clause-loaded : goal.returns-in_err-beside-clause-loaded
+returns-in_err-beside-clause-loaded g c =
     let told = g.F.Files.content c.args.files.now in
     let told_then = g.F.Files.content c.load_rules.new.files in
-    let rules = c.args.job.now.rules.now in
-    let template = c.args.job.now.template.now in
+    let which = c.args.beside in
+    let rules = c.args.rules.now in
+    let name = c.args.name.now in
     let before = g.F.Files.faults c.args.files.now in
     let mid = g.F.Files.faults c.load_rules.new.files in
     let after = g.F.Files.faults c.load_data.new.files in
     let read = c.in_ok-rules.rules in
-    let Comes : Work = LoadingTexts told rules template (λ source read. Refusing (RefusesText file.Template)) in
-    at-exit (AreLoaded told rules template) (IsStop Comes (Rose before after) NoneRose)
-    c.from_residual-in_err-template.result c.in_err-template.field-0.0 c.from_residual-in_err-template.ensures.1
-    (IsStop-more (Loading file.Template told_then template (Refusing (RefusesText file.Template))) Comes (Rose mid after) (Rose before after) NoneRose NoneRose
+    let Comes : Work = LoadingTexts which told rules name (λ source read. Refusing (RefusesText which)) in
+    at-exit (AreLoaded told rules name) (IsStop Comes (Rose before after) NoneRose)
+    c.from_residual-in_err-beside.result c.in_err-beside.field-0.0 c.from_residual-in_err-beside.ensures.1
+    (IsStop-more (Loading which told_then name (Refusing (RefusesText which))) Comes (Rose mid after) (Rose before after) NoneRose NoneRose
     (λ p came. inr (
       string_bytes read.text,
       c.in_ok-rules.ensures.loaded.0,
       inr (
         file_of read.file,
         c.in_ok-rules.ensures.loaded.1,
-        loading-same file.Template told_then told template (Refusing (RefusesText file.Template)) (c.load_rules.ensures.contents template) p came,
+        loading-same which told_then told name (Refusing (RefusesText which)) (c.load_rules.ensures.contents name) p came,
       ),
     ))
-    (rose-since before mid after c.load_rules.ensures.kept) (as-rose NoneRose) c.in_err-template.field-0.0 c.in_err-template.ensures.loaded)
+    (rose-since before mid after c.load_rules.ensures.kept) (as-rose NoneRose) c.in_err-beside.field-0.0 c.in_err-beside.ensures.loaded)
 
 pub returns-clause-loaded : goal.returns-clause-loaded
 returns-clause-loaded g c =
-    let name = c.args.job.now.template.now in
-    let template = c.in_ok-template.template in
+    let name = c.args.name.now in
+    let beside = c.in_ok-beside.beside in
     record {
       source = c.in_ok-rules.ensures.loaded.0;
       read = c.in_ok-rules.ensures.loaded.1;
       text = record {
-        text = subst (λ t. IsContent t (string_bytes template.text)) (c.load_rules.ensures.contents name) c.in_ok-template.ensures.loaded.text;
-        format = c.in_ok-template.ensures.loaded.format;
+        text = subst (λ t. IsContent t (string_bytes beside.text)) (c.load_rules.ensures.contents name) c.in_ok-beside.ensures.loaded.text;
+        format = c.in_ok-beside.ensures.loaded.format;
       };
     }

@@ -1,7 +1,7 @@
 use Rattle.std.proofs.Common.{◌≡◌, ℕ, List, Option, Bool, Result, ap, false, true, string_bytes, subst, sym, option_map, if◌then◌else◌}
-use Rattle.guard_words.specs.Request.{Asked, asked, check, drill, validate}
+use Rattle.guard_words.specs.Request.{Asked, asked, check, drill, test, validate}
 use Rattle.guard_ends.specs.End.{Counts}
-use Rattle.guard_ends.specs.Order.{Contents, OfDrill, OfEvidence, OverFiles, Work, WorkOf}
+use Rattle.guard_ends.specs.Order.{Contents, OfDrill, OfEvidence, OfTests, OverFiles, Work, WorkOf}
 use Rattle.guard_run.specs.code.Jobs.{Doing, name_in}
 use Rattle.guard_run.specs.code.Outcome.{IsOutcomeBy}
 use Rattle.guard_run.specs.code.Stops.{NoneRose, Rose}
@@ -73,3 +73,16 @@ returns-in-Drill-clause-outcome g c =
     of-same told counts counts c.run_drill.result (asked c.args.request.now) (drill c.in-Drill.count) (ap asked c.in-Drill.is)
     (IsOutcome-more Comes Comes NoneRose (Rose counts.files counts.files) NoneRose (Rose counts.patterns counts.patterns)
     (λ p came. came) (none-rose (Rose counts.files counts.files)) (none-rose (Rose counts.patterns counts.patterns)) c.run_drill.result c.run_drill.ensures)
+
+pub returns-in-Test-clause-outcome : goal.returns-in-Test-clause-outcome
+returns-in-Test-clause-outcome g c =
+    let told = g.F.Files.content c.args.files.now in
+    let before : Counts = record { files = g.F.Files.faults c.args.files.now; patterns = g.M.PatternMaker.faults c.args.maker.now } in
+    let after : Counts = record { files = g.F.Files.faults c.run_tests.new.files; patterns = g.M.PatternMaker.faults c.run_tests.new.maker } in
+    let rules = string_bytes c.in-Test.rules in
+    let tests = string_bytes c.in-Test.tests in
+    let came = c.run_tests.result in
+    of-same told before after came (asked c.args.request.now) (test rules tests) (ap asked c.in-Test.is)
+    (subst (λ (r : List ℕ). IsOutcomeBy (OfTests told r tests) before after came) c.as_str-in-Test.ensures.value
+    (subst (λ (t : List ℕ). IsOutcomeBy (OfTests told c.as_str-in-Test.result.now t) before after came) c.as_str-in-Test-2.ensures.value
+    c.run_tests.ensures.outcome))

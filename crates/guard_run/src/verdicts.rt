@@ -1,0 +1,56 @@
+//! The verdicts of rules over a tree, without a report.
+ghost use Rattle.std.specs.Prelude.{◌≡◌, IfOk, false};
+ghost use Rattle.evidence_lines.specs.declared.version.Version.TheVariants.{Two};
+ghost use Rattle.rule_names.specs.code.Files.{file_of};
+ghost use Rattle.rule_meaning.specs.FunctionMeaning.{IsAnswering};
+ghost use Rattle.rule_meaning.specs.Locations.{Answers};
+ghost use Rattle.rule_meaning.specs.Values.{has_pattern};
+ghost use Rattle.value_compare.specs.code.Books.{IsBookOf};
+ghost use Rattle.evidence_rules.specs.Follows.{Accepts};
+ghost use Rattle.clause_eval.specs.code.Engines.{see_engine};
+ghost use Rattle.clause_eval.specs.code.States.{IsWhole};
+ghost use Rattle.guard_ends.specs.Reported.{verdicts_of, world_over};
+
+use clause_eval::Engine;
+use doc_values::Doc;
+use evidence_lookups::owners::Owners;
+use evidence_report::verdicts_told;
+use guard_syntax::Verdict;
+use rule_calls::{evaluate, judged_lines, line_context};
+use rule_names::RuleFile;
+use std::alloc::{AllocError, Global};
+use value_compare::PatternBook;
+
+/// The verdicts that are reported of rules over a tree, in the order of the report. The patterns are those of the rules.
+pub(crate) fn verdicts_over(
+    alloc: Global,
+    rules: &RuleFile,
+    tree: &Doc<'_>,
+    book: &PatternBook,
+) -> Result<Vec<Verdict>, AllocError>
+    requires plain { has_pattern tree.now ≡ false }
+    requires book { IsBookOf (file_of rules.now) book.now }
+    ensures { (answers : Answers) → IsAnswering (world_over (file_of rules.now) tree.now answers)
+        → IfOk result (λ verdicts. verdicts.items ≡ verdicts_of (world_over (file_of rules.now) tree.now answers)) }
+{
+    let engine = evaluate(alloc, rules, tree, book)?;
+    verdicts_by(alloc, rules, &engine)
+}
+
+/// The verdicts that are reported by the engine that evaluated rules.
+fn verdicts_by(
+    alloc: Global,
+    rules: &RuleFile,
+    engine: &Engine<'_, '_>,
+) -> Result<Vec<Verdict>, AllocError>
+    requires accepted { Accepts Two (see_engine engine.now).known.template (file_of rules.now) (see_engine engine.now).lines }
+    requires file { (see_engine engine.now).known.file ≡ file_of rules.now }
+    requires whole { IsWhole (see_engine engine.now) }
+    ensures { (answers : Answers) → IsAnswering (world_over (file_of rules.now) (see_engine engine.now).known.template answers)
+        → IfOk result (λ verdicts. verdicts.items ≡ verdicts_of (world_over (file_of rules.now) (see_engine engine.now).known.template answers)) }
+{
+    let owners = Owners::new(alloc, rules)?;
+    let judged = judged_lines(engine)?;
+    let context = line_context(engine, &owners, &judged);
+    verdicts_told(alloc, &context)
+}
