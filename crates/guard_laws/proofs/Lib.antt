@@ -4,6 +4,7 @@ mod DrillRules
 mod DrillSyntax
 mod DrillTemplate
 mod DrillTokens
+mod FormedTrees
 mod FoundTokens
 mod MeantVerdicts
 mod OneCheck

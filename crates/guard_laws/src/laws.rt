@@ -2,7 +2,7 @@
 ghost use Rattle.std.specs.Prelude.{◌≡◌, ◌≤◌, ◌⊎◌, ◌↔◌, ℕ, List, Option, Some, None, All, false, true, length, option_map};
 ghost use Rattle.doc_values.specs.Limits.{evidence_limit};
 ghost use Rattle.doc_values.specs.Places.{tree_at};
-ghost use Rattle.doc_values.specs.Tree.{Forest, IsTree, Label, Nil, Node};
+ghost use Rattle.doc_values.specs.Tree.{Forest, Label, Nil, Node};
 ghost use Rattle.doc_values.specs.declared.kind.Kind.TheVariants as kind;
 ghost use Rattle.evidence_lines.specs.Versioned.{Versioned};
 ghost use Rattle.evidence_rules.specs.Follows.{Accepts};
@@ -172,8 +172,8 @@ pub fn accepted_is_tested(rules: &[u8], tests: &[u8])
 /// The law that tests pass exactly where they are met: cases that were judged end as Passed exactly where each verdict that a case
 /// expects is that of its rule over the input, by the meaning of rules; else they end as Failed.
 pub fn tests_are_met()
-    ensures passed { (rules : File) (tree : Forest) (cases : List TestCase) (e : Ended)
-        → IsTree tree → AreCases rules tree cases → IsTested rules tree cases e
+    ensures passed { (f : Format) (bytes : List ℕ) (rules : File) (tree : Forest) (cases : List TestCase) (e : Ended)
+        → IsTemplate f bytes tree → AreCases rules tree cases → IsTested rules tree cases e
         → (e.how ≡ end_is.Passed) ↔ All (λ (case : TestCase). (answers : Answers) → IsAnswering (world_over rules (tree_at tree case.input) answers)
         → All (λ (x : Expected). verdict_under (reported_names rules) (verdicts_of (world_over rules (tree_at tree case.input) answers)) x.rule
         ≡ Some x.verdict) case.expected) cases }
