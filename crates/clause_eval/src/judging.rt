@@ -16,7 +16,7 @@ ghost use Rattle.rule_meaning.specs.Verdicts as judged;
 use guard_syntax::{Op, Part, Query, Row, Step, StepForm, Verdict};
 use query_steps::row_passes;
 use std::alloc::{AllocError, Global};
-use value_compare::{PatternBook, Store};
+use value_compare::{Matchers, PatternBook, Store};
 
 /// The conjunction of two verdicts.
 pub(crate) fn both(earlier: Verdict, later: Verdict) -> Verdict
@@ -127,30 +127,30 @@ pub(crate) fn verdict_of_test(
     if lefts.is_empty() {
         return Ok(Verdict::Skip);
     }
+    let mut matchers = Matchers::new(alloc, book);
     if any {
-        Ok(pass_if(one_passes(alloc, op, not, lefts, rights, store, book)?))
+        Ok(pass_if(one_passes(&mut matchers, op, not, lefts, rights, store)?))
     } else {
-        Ok(pass_if(all_pass(alloc, op, not, lefts, rights, store, book)?))
+        Ok(pass_if(all_pass(&mut matchers, op, not, lefts, rights, store)?))
     }
 }
 
 /// Whether a left row passes a test against right rows.
 pub(crate) fn one_passes(
-    alloc: Global,
+    matchers: &mut Matchers<'_>,
     op: Op,
     not: bool,
     lefts: &[Row],
     rights: &[Row],
     store: &Store<'_, '_>,
-    book: &PatternBook,
 ) -> Result<bool, AllocError>
     requires lefts { list_all (is_known (see_store store.now)) lefts.now ≡ true }
     requires rights { list_all (is_known (see_store store.now)) rights.now ≡ true }
-    requires book { IsBookOf (see_store store.now).file book.now }
+    requires book { IsBookOf (see_store store.now).file matchers.old.book.now }
     ensures { IfOk result (λ p. p ≡ list_any (passes (see_store store.now) op not rights.now) lefts.now) }
 {
     for left in lefts {
-        if row_passes(alloc, op, not, left, rights, store, book)? {
+        if row_passes(matchers, op, not, left, rights, store)? {
             return Ok(true);
         }
     }
@@ -159,21 +159,20 @@ pub(crate) fn one_passes(
 
 /// Whether each left row passes a test against right rows.
 pub(crate) fn all_pass(
-    alloc: Global,
+    matchers: &mut Matchers<'_>,
     op: Op,
     not: bool,
     lefts: &[Row],
     rights: &[Row],
     store: &Store<'_, '_>,
-    book: &PatternBook,
 ) -> Result<bool, AllocError>
     requires lefts { list_all (is_known (see_store store.now)) lefts.now ≡ true }
     requires rights { list_all (is_known (see_store store.now)) rights.now ≡ true }
-    requires book { IsBookOf (see_store store.now).file book.now }
+    requires book { IsBookOf (see_store store.now).file matchers.old.book.now }
     ensures { IfOk result (λ p. p ≡ list_all (passes (see_store store.now) op not rights.now) lefts.now) }
 {
     for left in lefts {
-        if !row_passes(alloc, op, not, left, rights, store, book)? {
+        if !row_passes(matchers, op, not, left, rights, store)? {
             return Ok(false);
         }
     }
