@@ -23,6 +23,7 @@ use guard_syntax::{Expr, Op, Query, Row, Step, StepForm, Verdict};
 use query_steps::row_passes;
 use rule_names::RuleFile;
 use std::alloc::AllocError;
+use value_compare::Matchers;
 
 /// What a test asks.
 #[derive(Clone, Copy)]
@@ -100,7 +101,9 @@ fn test_of_rows(
     if lefts.is_empty() {
         return Ok(Verdict::Skip);
     }
-    Ok(pass_if(holds_of_rows(context, asks, lefts, rights)?))
+    let mut matchers = Matchers::new(context.alloc, context.book);
+    let holds = holds_of_rows(&mut matchers, context, asks, lefts, rights)?;
+    Ok(pass_if(holds))
 }
 
 /// Whether a test asks if a set is empty.
@@ -165,11 +168,13 @@ fn one_is_found(rows: &[Row]) -> bool
 
 /// Whether a test on left rows against right rows holds: with `some` one left row that passes is enough.
 fn holds_of_rows(
+    matchers: &mut Matchers<'_>,
     context: &LineContext<'_, '_, '_>,
     asks: AskedTest<'_>,
     lefts: &[Row],
     rights: &[Row],
 ) -> Result<bool, AllocError>
+    requires book { matchers.old.book.now ≡ context.now.book.now }
     requires lefts { list_all (is_known (known_of context.now)) lefts.now ≡ true }
     requires rights { list_all (is_known (known_of context.now)) rights.now ≡ true }
     ensures { IfOk result (λ p. p ≡ holds_for asks.entry.any (passes (known_of context.now) asks.entry.op asks.entry.not rights.now) lefts.now) }
@@ -177,15 +182,7 @@ fn holds_of_rows(
     let any = asks.any;
     for left in lefts {
         // With `some` a row that passes decides, else a row that fails.
-        let passes = row_passes(
-            context.alloc,
-            asks.op,
-            asks.not,
-            left,
-            rights,
-            context.store,
-            context.book,
-        )?;
+        let passes = row_passes(matchers, asks.op, asks.not, left, rights, context.store)?;
         if passes == any {
             return Ok(any);
         }

@@ -5,4 +5,7 @@ use Rattle.evidence_checker.specs.code.TestedRows.{holds_for}
 use Rattle.evidence_checker.proofs.test_lines.holds_of_rows.Given as goal
 
 abbrev pub invariant-loop-left : goal.invariant-loop-left
-invariant-loop-left l = holds_for l.fn.asks.any (passes (known_of l.context) l.fn.asks.op l.fn.asks.not l.rights) l.lefts ≡ holds_for l.fn.asks.any (passes (known_of l.context) l.fn.asks.op l.fn.asks.not l.rights) (drop l.left-index l.lefts)
+invariant-loop-left l = record {
+  kept : l.matchers.book.now ≡ l.initial.matchers.book.now;
+  left : holds_for l.fn.asks.any (passes (known_of l.context) l.fn.asks.op l.fn.asks.not l.rights) l.lefts ≡ holds_for l.fn.asks.any (passes (known_of l.context) l.fn.asks.op l.fn.asks.not l.rights) (drop l.left-index l.lefts);
+}

@@ -18,10 +18,10 @@ returns-then-is_empty c =
     (untested c.args.asks.any (passes (known_of c.args.context.now) c.args.asks.op c.args.asks.not c.args.rights.now) c.args.lefts.now (is-none c.args.lefts.now c.is_empty.result c.is_empty.ensures c.if-is_empty.true))
 
 pub holds_of_rows-requires : goal.holds_of_rows-requires
-holds_of_rows-requires c = record { lefts = c.requires.lefts; rights = c.requires.rights }
+holds_of_rows-requires c = record { book = c.new-matchers.ensures; lefts = c.requires.lefts; rights = c.requires.rights }
 
 pub returns : goal.returns
 returns c =
     as-each c.is_set_test.result (is_empty_test c.args.asks.op && is_set (see_query c.args.asks.left.now)) (set_verdict c.args.asks.not c.args.lefts.now) (test_verdict c.args.asks.any (passes (known_of c.args.context.now) c.args.asks.op c.args.asks.not c.args.rights.now) c.args.lefts.now) c.pass_if.result c.is_set_test.ensures c.if-is_set_test.false
     (c.pass_if.ensures ∙ tested c.args.asks.any (passes (known_of c.args.context.now) c.args.asks.op c.args.asks.not c.args.rights.now) c.args.lefts.now (is-some c.args.lefts.now c.is_empty.result c.is_empty.ensures c.if-is_empty.false)
-    c.in_ok-holds_of_rows.field-0 c.in_ok-holds_of_rows.ensures)
+    c.in_ok-holds.holds c.in_ok-holds.ensures)
