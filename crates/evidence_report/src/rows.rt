@@ -17,6 +17,7 @@ use guard_syntax::{Op, Ref, Row};
 use query_steps::row_passes;
 use report_text::{Entry, Shown, Word};
 use std::alloc::{AllocError, Global};
+use value_compare::Matchers;
 
 /// A test of rows against right rows, by the site of its part.
 #[derive(Clone, Copy)]
@@ -103,27 +104,27 @@ fn push_tested(
 
 /// Appends the entry of a left row, unless it passes a test.
 fn push_failed(
-    alloc: Global,
+    matchers: &mut Matchers<'_>,
     context: &LineContext<'_, '_, '_>,
     test: &RowTest<'_>,
     left: &Row,
     into: &mut Vec<Lead>,
 ) -> Result<(), AllocError>
+    requires book { matchers.old.book.now ≡ context.now.book.now }
     requires left { is_known (known_of context.now) left.now ≡ true }
     requires rights { list_all (is_known (known_of context.now)) test.now.rights.now ≡ true }
-    ensures { OnOk result (Appends (known_of context.now) into.old.items into.new.items
+    ensures added { OnOk result (Appends (known_of context.now) into.old.items into.new.items
         (own (failed_row (known_of context.now) (lines_of context.now) test.now.part (passes (known_of context.now) test.now.op test.now.not test.now.rights.now) left.now))) }
+    ensures kept { matchers.new.book.now ≡ matchers.old.book.now }
 {
-    let passes = row_passes(
-        alloc,
+    if row_passes(
+        matchers,
         test.op,
         test.not,
         left,
         test.rights,
         context.store,
-        context.book,
-    )?;
-    if passes {
+    )? {
         return Ok(());
     }
     push_tested(context, test.part, left, into)
@@ -142,8 +143,26 @@ pub(crate) fn push_test(
     ensures { OnOk result (Appends (known_of context.now) into.old.items into.new.items
         (own (flat_map (failed_row (known_of context.now) (lines_of context.now) test.now.part (passes (known_of context.now) test.now.op test.now.not test.now.rights.now)) lefts.now))) }
 {
+    let mut matchers = Matchers::new(alloc, context.book);
+    push_each_failed(&mut matchers, context, test, lefts, into)
+}
+
+/// Appends the entries of the left rows that do not pass a test, with what finds patterns.
+fn push_each_failed(
+    matchers: &mut Matchers<'_>,
+    context: &LineContext<'_, '_, '_>,
+    test: &RowTest<'_>,
+    lefts: &[Row],
+    into: &mut Vec<Lead>,
+) -> Result<(), AllocError>
+    requires book { matchers.old.book.now ≡ context.now.book.now }
+    requires lefts { list_all (is_known (known_of context.now)) lefts.now ≡ true }
+    requires rights { list_all (is_known (known_of context.now)) test.now.rights.now ≡ true }
+    ensures { OnOk result (Appends (known_of context.now) into.old.items into.new.items
+        (own (flat_map (failed_row (known_of context.now) (lines_of context.now) test.now.part (passes (known_of context.now) test.now.op test.now.not test.now.rights.now)) lefts.now))) }
+{
     for left in lefts {
-        push_failed(alloc, context, test, left, into)?;
+        push_failed(matchers, context, test, left, into)?;
     }
     Ok(())
 }
