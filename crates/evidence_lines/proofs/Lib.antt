@@ -2,6 +2,7 @@ pub mod Ascii
 pub mod Bounds
 pub mod Cuts
 pub mod Fields
+pub mod HeldLines
 pub mod Lines
 pub mod Lists
 pub mod Numbers

@@ -218,11 +218,3 @@ items_last_fail item_in rest xs whole is read before =
     let split = no_cut_split rest is in
     before ∙ ap (λ p. option_map (λ ys. xs ++ ys) (all_in item_in p)) split
     ∙ ap (λ o. option_map (λ ys. xs ++ ys) (option_and_then (λ y. option_map (λ ys. y ∷ ys) (Some [])) o)) read
-
--- bytes without a comma are one item
-pub items_one : {A : Type 0} (item_in : List ℕ → Option A) (bytes : List ℕ) → cut 44 bytes ≡ None → option_map (λ x. x ∷ []) (item_in bytes) ≡ items_in item_in bytes
-items_one {A} item_in bytes is = sym (ap (all_in item_in) (no_cut_split bytes is) ∙ one (item_in bytes))
-  where
-    one : (o : Option A) → option_and_then (λ y. option_map (λ ys. y ∷ ys) (Some [])) o ≡ option_map (λ x. x ∷ []) o
-    one None = refl
-    one (Some x) = refl

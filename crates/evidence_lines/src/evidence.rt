@@ -1,8 +1,8 @@
 //! Lines of evidence by their numbers.
-ghost use Rattle.std.specs.Prelude.{◌≡◌, ◌++◌, ◌∷◌, ◌^◌, ◌<◌, ◌≤◌, ◌↔◌, [], length, take, IfOk, IsSome, OnErr};
+ghost use Rattle.std.specs.Prelude.{◌≡◌, ◌++◌, ◌∷◌, ◌^◌, ◌<◌, ◌≤◌, ◌↔◌, [], length, take, IfOk, IsOk, IsSome, OnErr};
 ghost use Rattle.evidence_lines.specs.Lines.{line_of};
 
-use crate::held::HeldLine;
+use crate::held::Held;
 use crate::line::Line;
 use crate::version::Version;
 use std::alloc::{AllocError, Global};
@@ -11,32 +11,38 @@ use std::marker::Model;
 /// Lines of evidence, the first of which has the number 1, and the version by which they are meant. Contracts see both.
 #[derive(Drop)]
 pub struct Evidence {
-    alloc: Global,
     version: Version,
-    held: Vec<HeldLine>,
+    held: Held,
 }
 
 impl Model for Evidence {
     ghost use Rattle.evidence_lines.specs.Versioned.{Versioned};
+    ghost use Rattle.evidence_lines.specs.code.Held.{IsHeld, see_lines};
 
     ghost Value = { Versioned };
 
-    ghost view = { λ e. record { version = e.version; lines = e.held.items } };
+    ghost view = { λ e. record { version = e.version; lines = see_lines e.held } };
+
+    ghost invariant = { λ e. IsHeld e.held };
 }
 
 /// The first lines of evidence. Contracts see a list.
 #[derive(Drop)]
 pub struct LineList<'a> {
-    held: &'a [HeldLine],
+    held: &'a Held,
+    count: u64,
 }
 
 impl<'a> Model for LineList<'a> {
-    ghost use Rattle.std.specs.Prelude.{List};
+    ghost use Rattle.std.specs.Prelude.{List, take};
     ghost use Rattle.evidence_lines.specs.declared.line.Line.{Line};
+    ghost use Rattle.evidence_lines.specs.code.Held.{IsFront, see_lines};
 
     ghost Value = { List Line };
 
-    ghost view = { λ l. l.held.now };
+    ghost view = { λ l. take l.count (see_lines l.held.now) };
+
+    ghost invariant = { λ l. IsFront l.held.now l.count };
 }
 
 impl<'a> LineList<'a> {
@@ -45,11 +51,10 @@ impl<'a> LineList<'a> {
         ensures line { result ≡ line_of self.entry.now number }
         ensures some { IsSome result ↔ ((1 ≤ number) × (number ≤ length self.entry.now)) }
     {
-        if number == 0 {
+        if number == 0 || number > self.count {
             return None;
         }
-        let held = self.held.get((number - 1) as usize)?;
-        Some(held.line())
+        self.held.line((number - 1) as usize)
     }
 
     /// How many lines there are. It takes no memory.
@@ -57,7 +62,7 @@ impl<'a> LineList<'a> {
         ensures count { result ≡ length self.now }
         ensures small { result < 2 ^ 63 }
     {
-        self.held.len() as u64
+        self.count
     }
 }
 
@@ -68,22 +73,23 @@ impl Evidence {
         ensures lines { result.lines ≡ [] }
     {
         Evidence {
-            alloc,
             version,
-            held: Vec::new(alloc),
+            held: Held::new(alloc),
         }
     }
 
-    /// The lines of a vector. It takes no memory.
-    pub(crate) fn of(alloc: Global, version: Version, held: Vec<HeldLine>) -> Evidence
-        ensures version { result.version ≡ version }
-        ensures lines { result.lines ≡ held.items }
+    /// No lines yet, and room for so many.
+    pub(crate) fn with_room(
+        alloc: Global,
+        version: Version,
+        lines: usize,
+    ) -> Result<Evidence, AllocError>
+        ensures version { IfOk result (λ e. e.version ≡ version) }
+        ensures lines { IfOk result (λ e. e.lines ≡ []) }
+        ensures none { lines ≡ 0 → IsOk result }
     {
-        Evidence {
-            alloc,
-            version,
-            held,
-        }
+        let held = Held::with_room(alloc, lines)?;
+        Ok(Evidence { version, held })
     }
 
     /// The version. It takes no memory.
@@ -99,16 +105,18 @@ impl Evidence {
         ensures version { self.new.version ≡ self.old.version }
         ensures kept { OnErr result (self.new ≡ self.old) }
     {
-        let line = HeldLine::of(self.alloc, line)?;
         self.held.push(line)?;
-        Ok(self.held.len() as u64)
+        Ok(self.held.lines.len() as u64)
     }
 
     /// The lines. It takes no memory.
     pub fn lines(&self) -> LineList<'_>
         ensures { result ≡ self.entry.now.lines }
     {
-        LineList { held: &self.held }
+        LineList {
+            held: &self.held,
+            count: self.held.lines.len() as u64,
+        }
     }
 
     /// The first lines, as many as `count`. It takes no memory.
@@ -117,7 +125,8 @@ impl Evidence {
         ensures { result ≡ take count self.entry.now.lines }
     {
         LineList {
-            held: &self.held[..count as usize],
+            held: &self.held,
+            count,
         }
     }
 
@@ -134,6 +143,6 @@ impl Evidence {
         ensures count { result ≡ length self.now.lines }
         ensures small { result < 2 ^ 63 }
     {
-        self.held.len() as u64
+        self.held.lines.len() as u64
     }
 }

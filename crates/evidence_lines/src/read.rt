@@ -1,9 +1,8 @@
 //! Evidence, read from its bytes.
-ghost use Rattle.std.specs.Prelude.{◌≡◌, ◌≢◌, ◌<◌, ◌≤◌, ◌+◌, ◌⊎◌, ◌++◌, [], ℕ, List, None, length, IfErr, IfOk, OnErr, MatchOption, MatchResult, option_map};
+ghost use Rattle.std.specs.Prelude.{◌≡◌, ◌≢◌, ◌⊎◌, ◌++◌, ◌∷◌, [], ℕ, List, None, Some, IfErr, IfOk, OnErr, MatchBool, MatchOption, MatchResult, option_map};
 ghost use Rattle.evidence_lines.specs.Headers.{header};
-ghost use Rattle.evidence_lines.specs.code.Held.{see_said};
 ghost use Rattle.evidence_lines.specs.code.Memory.{HasLine};
-ghost use Rattle.evidence_lines.specs.code.Reading.{cites_in, count_in, cut, if_placed, items_in, line_in, line_of_parts, list_in, outcome_in, parts_in, place_in, placed_in, row_in};
+ghost use Rattle.evidence_lines.specs.code.Reading.{cites_in, count_in, cut, if_placed, if_read, items_in, line_in, line_of_parts, list_in, outcome_in, parts_in, place_in, placed_in, row_in};
 ghost use Rattle.evidence_lines.specs.code.Seen.{fields_seen, placed_seen};
 ghost use Rattle.evidence_lines.specs.Shapes.{is_placed, may_cite, sort_of};
 ghost use Rattle.evidence_lines.specs.Text.{IsEvidence, IsFault, IsRefused};
@@ -12,8 +11,7 @@ ghost use Rattle.evidence_lines.specs.declared.version.Version.{Version};
 
 use crate::evidence::Evidence;
 use crate::field::{cut, is_none_sign, read_count, read_place, read_ref, read_row, read_verdict};
-use crate::held::{HeldCites, HeldLine, HeldOutcome, HeldRows};
-use crate::line::{LineKind, Sort};
+use crate::line::{Cites, Line, LineKind, Outcome, Rows, Sort};
 use crate::refusal::EvidenceRefusal;
 use crate::version::Version;
 use byte_lanes::{count_byte, is_ascii};
@@ -92,141 +90,142 @@ fn read_placed(fields: &Fields<'_>) -> Option<Placed>
     Some(Placed { kind, frame, site })
 }
 
-/// How many items with commas between them there can be, where the shortest takes so many bytes with its comma.
-fn most_items(bytes: &[u8], least: usize) -> usize
-    requires { 0 < least }
-    ensures { result ≤ length bytes.now + 1 }
-{
-    count_byte(bytes, b',').min(bytes.len() / least) + 1
+/// Room for what a line cites and for the rows that it says, which is used for each line again.
+#[derive(Drop)]
+struct Room {
+    cites: Vec<u64>,
+    rows: Vec<Row>,
 }
 
-/// Numbers with commas between them.
-fn read_counts(alloc: Global, bytes: &[u8]) -> Result<Option<Vec<u64>>, AllocError>
-    ensures { IfOk result (λ o. option_map (λ v. v.items) o ≡ items_in count_in bytes.now) }
+/// Numbers with commas between them, in room for them.
+fn read_counts(into: &mut Vec<u64>, bytes: &[u8]) -> Result<bool, AllocError>
+    requires { into.old.items ≡ [] }
+    ensures { IfOk result (λ read. if_read read into.new.items ≡ items_in count_in bytes.now) }
 {
-    let mut counts = Vec::with_capacity(alloc, most_items(bytes, 2))?;
     let mut rest = bytes;
     'items: while let Some((item, after)) = cut(rest, b',') {
         let Some(count) = read_count(item) else {
-            return Ok(None);
+            return Ok(false);
         };
-        counts.push(count)?;
+        into.push(count)?;
         rest = after;
     }
     let Some(count) = read_count(rest) else {
-        return Ok(None);
+        return Ok(false);
     };
-    counts.push(count)?;
-    Ok(Some(counts))
+    into.push(count)?;
+    Ok(true)
 }
 
-/// Rows with commas between them.
-fn read_rows(alloc: Global, bytes: &[u8]) -> Result<Option<Vec<Row>>, AllocError>
-    ensures { IfOk result (λ o. option_map (λ v. v.items) o ≡ items_in row_in bytes.now) }
+/// Rows with commas between them, in room for them.
+fn read_rows(into: &mut Vec<Row>, bytes: &[u8]) -> Result<bool, AllocError>
+    requires { into.old.items ≡ [] }
+    ensures { IfOk result (λ read. if_read read into.new.items ≡ items_in row_in bytes.now) }
 {
-    let mut rows = Vec::with_capacity(alloc, most_items(bytes, 3))?;
     let mut rest = bytes;
     'items: while let Some((item, after)) = cut(rest, b',') {
         let Some(row) = read_row(item) else {
-            return Ok(None);
+            return Ok(false);
         };
-        rows.push(row)?;
+        into.push(row)?;
         rest = after;
     }
     let Some(row) = read_row(rest) else {
-        return Ok(None);
+        return Ok(false);
     };
-    rows.push(row)?;
-    Ok(Some(rows))
+    into.push(row)?;
+    Ok(true)
 }
 
 /// The numbers that a line cites, where its kind may cite some.
-fn read_cites(alloc: Global, may_cite: bool, bytes: &[u8]) -> Result<Option<HeldCites>, AllocError>
-    ensures { IfOk result (λ o. o ≡ cites_in may_cite bytes.now) }
+fn read_cites(into: &mut Vec<u64>, may_cite: bool, bytes: &[u8]) -> Result<bool, AllocError>
+    ensures { IfOk result (λ read. if_read read into.new.items ≡ cites_in may_cite bytes.now) }
 {
+    into.clear();
     if is_none_sign(bytes) {
-        return Ok(Some(HeldCites::new(Vec::new(alloc))));
+        return Ok(true);
     }
     if !may_cite {
-        return Ok(None);
+        return Ok(false);
     }
-    if cut(bytes, b',').is_none() {
-        return Ok(read_one_cite(bytes));
-    }
-    match read_counts(alloc, bytes)? {
-        None => Ok(None),
-        Some(counts) => Ok(Some(HeldCites::new(counts))),
-    }
-}
-
-/// The number that a line cites, which is its only one.
-fn read_one_cite(bytes: &[u8]) -> Option<HeldCites>
-    requires { cut 44 bytes.now ≡ None }
-    ensures { result ≡ items_in count_in bytes.now }
-{
-    let cite = read_count(bytes)?;
-    Some(HeldCites::one(cite))
+    read_counts(into, bytes)
 }
 
 /// The rows that a line says.
-fn read_list(alloc: Global, bytes: &[u8]) -> Result<Option<HeldRows>, AllocError>
-    ensures { IfOk result (λ o. o ≡ list_in row_in bytes.now) }
+fn read_list(into: &mut Vec<Row>, bytes: &[u8]) -> Result<bool, AllocError>
+    ensures { IfOk result (λ read. if_read read into.new.items ≡ list_in row_in bytes.now) }
 {
+    into.clear();
     if is_none_sign(bytes) {
-        return Ok(Some(HeldRows::new(Vec::new(alloc))));
+        return Ok(true);
     }
-    match read_rows(alloc, bytes)? {
-        None => Ok(None),
-        Some(rows) => Ok(Some(HeldRows::new(rows))),
-    }
+    read_rows(into, bytes)
 }
 
-/// What a line of this sort says.
-fn read_outcome(alloc: Global, sort: Sort, bytes: &[u8]) -> Result<Option<HeldOutcome>, AllocError>
-    ensures { IfOk result (λ o. option_map see_said o ≡ outcome_in sort bytes.now) }
+/// What a line of this sort says, with room for its rows.
+fn read_outcome<'a>(
+    into: &'a mut Vec<Row>,
+    sort: Sort,
+    bytes: &[u8],
+) -> Result<Option<Outcome<'a>>, AllocError>
+    ensures { IfOk result (λ o. o ≡ outcome_in sort bytes.now) }
 {
     match sort {
-        Sort::Value => Ok(read_ref(bytes).map(|value| HeldOutcome::Value(value))),
-        Sort::Rows => match read_list(alloc, bytes)? {
-            None => Ok(None),
-            Some(rows) => Ok(Some(HeldOutcome::Rows(rows))),
-        },
-        Sort::Verdict => Ok(read_verdict(bytes).map(|verdict| HeldOutcome::Verdict(verdict))),
+        Sort::Value => Ok(read_ref(bytes).map(|value| Outcome::Value(value))),
+        Sort::Rows => {
+            if read_list(into, bytes)? {
+                Ok(Some(Outcome::Rows(Rows::new(into))))
+            } else {
+                Ok(None)
+            }
+        }
+        Sort::Verdict => Ok(read_verdict(bytes).map(|verdict| Outcome::Verdict(verdict))),
     }
 }
 
-/// A line, from its bytes without the newline.
-fn read_line(alloc: Global, bytes: &[u8]) -> Result<Option<HeldLine>, AllocError>
-    ensures { IfOk result (λ o. o ≡ line_in bytes.now) }
+/// Adds a line, from its bytes without the newline, if they are one.
+fn add_line(evidence: &mut Evidence, room: &mut Room, bytes: &[u8]) -> Result<bool, AllocError>
+    ensures added { IfOk result (λ added. MatchBool added
+        ((l : Line) × (line_in bytes.now ≡ Some l) × (evidence.new.lines ≡ evidence.old.lines ++ l ∷ []))
+        (line_in bytes.now ≡ None)) }
+    ensures version { evidence.new.version ≡ evidence.old.version }
 {
     if !is_ascii(bytes) {
-        return Ok(None);
+        return Ok(false);
     }
     match fields_of(bytes) {
-        None => Ok(None),
-        Some(fields) => read_fields(alloc, &fields),
+        None => Ok(false),
+        Some(fields) => add_fields(evidence, room, &fields),
     }
 }
 
-fn read_fields(alloc: Global, fields: &Fields<'_>) -> Result<Option<HeldLine>, AllocError>
-    ensures { IfOk result (λ o. o ≡ line_of_parts (fields_seen fields.now)) }
+fn add_fields(
+    evidence: &mut Evidence,
+    room: &mut Room,
+    fields: &Fields<'_>,
+) -> Result<bool, AllocError>
+    ensures added { IfOk result (λ added. MatchBool added
+        ((l : Line) × (line_of_parts (fields_seen fields.now) ≡ Some l) × (evidence.new.lines ≡ evidence.old.lines ++ l ∷ []))
+        (line_of_parts (fields_seen fields.now) ≡ None)) }
+    ensures version { evidence.new.version ≡ evidence.old.version }
 {
     let Some(placed) = read_placed(fields) else {
-        return Ok(None);
+        return Ok(false);
     };
-    let Some(cites) = read_cites(alloc, placed.kind.may_cite(), fields.cites)? else {
-        return Ok(None);
+    if !read_cites(&mut room.cites, placed.kind.may_cite(), fields.cites)? {
+        return Ok(false);
+    }
+    let Some(outcome) = read_outcome(&mut room.rows, placed.kind.sort(), fields.outcome)? else {
+        return Ok(false);
     };
-    let Some(outcome) = read_outcome(alloc, placed.kind.sort(), fields.outcome)? else {
-        return Ok(None);
-    };
-    Ok(Some(HeldLine {
+    evidence.push(Line {
         kind: placed.kind,
         frame: placed.frame,
         site: placed.site,
-        cites,
+        cites: Cites::new(&room.cites),
         outcome,
-    }))
+    })?;
+    Ok(true)
 }
 
 /// The bytes behind the header of a version, if they begin with it.
@@ -240,11 +239,13 @@ fn behind_header(version: Version, bytes: &[u8]) -> Option<&[u8]>
 
 /// No lines, and room for as many as the bytes can hold. The shortest has 11 bytes with its newline, so that a text of
 /// newlines alone takes no more room than one of lines.
-fn room_for_lines(alloc: Global, bytes: &[u8]) -> Result<Vec<HeldLine>, AllocError>
-    ensures empty { IfOk result (λ lines. lines.items ≡ []) }
+fn room_for_lines(alloc: Global, version: Version, bytes: &[u8]) -> Result<Evidence, AllocError>
+    ensures version { IfOk result (λ e. e.version ≡ version) }
+    ensures empty { IfOk result (λ e. e.lines ≡ []) }
     ensures memory { OnErr result (cut 10 bytes.now ≢ None) }
 {
-    Vec::with_capacity(alloc, count_byte(bytes, b'\n').min(bytes.len() / 11))
+    let lines = count_byte(bytes, b'\n').min(bytes.len() / 11);
+    Evidence::with_room(alloc, version, lines)
 }
 
 /// The lines of bytes that stand behind the header of a version.
@@ -253,24 +254,25 @@ fn read_lines(alloc: Global, version: Version, bytes: &[u8]) -> Result<Evidence,
     ensures refusal { IfErr result (λ r. IsRefused (header version ++ bytes.now) r) }
     ensures memory { IfErr result (λ r. r ≡ EvidenceRefusal.NoMemory → HasLine (header version ++ bytes.now)) }
 {
-    let mut lines = room_for_lines(alloc, bytes)?;
+    let mut evidence = room_for_lines(alloc, version, bytes)?;
+    let mut room = Room {
+        cites: Vec::new(alloc),
+        rows: Vec::new(alloc),
+    };
     let mut number: u64 = 0;
     let mut rest = bytes;
     'lines: while !rest.is_empty() {
         number += 1;
-        let Some((fields, after)) = cut(rest, b'\n') else {
+        let Some((line, after)) = cut(rest, b'\n') else {
             return Err(EvidenceRefusal::Syntax(number));
         };
-        let Some(line) = read_line(alloc, fields)? else {
+        let added = add_line(&mut evidence, &mut room, line)?;
+        if !added {
             return Err(EvidenceRefusal::Syntax(number));
-        };
-        match lines.push(line) {
-            Ok(()) => {}
-            Err(_) => return Err(EvidenceRefusal::NoMemory),
         }
         rest = after;
     }
-    Ok(Evidence::of(alloc, version, lines))
+    Ok(evidence)
 }
 
 fn read_text(alloc: Global, bytes: &[u8]) -> Result<Evidence, EvidenceRefusal>

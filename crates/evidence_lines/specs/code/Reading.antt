@@ -209,3 +209,8 @@ line_of_parts parts = option_and_then (line_by parts) (placed_in parts)
 -- a line, from its bytes without the newline
 abbrev pub line_in : List ℕ → Option Line
 line_in bytes = option_and_then line_of_parts (parts_in bytes)
+
+-- what was read, if it was
+abbrev pub if_read : {A : Type 0} → Bool → A → Option A
+if_read true x = Some x
+if_read false x = None

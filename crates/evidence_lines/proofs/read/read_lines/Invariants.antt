@@ -5,8 +5,9 @@ use Rattle.evidence_lines.proofs.read.read_lines.Given as goal
 
 abbrev pub invariant-lines : goal.invariant-lines
 invariant-lines l = record {
-  read : HasRead (header l.version ++ l.bytes) l.version l.lines.items l.rest;
-  counted : l.number ≡ length l.lines.items;
+  read : HasRead (header l.fn.version ++ l.bytes) l.fn.version l.evidence.lines l.rest;
+  version : l.evidence.version ≡ l.fn.version;
+  counted : l.number ≡ length l.evidence.lines;
   within : l.number + length l.rest ≤ length l.bytes;
 }
 
