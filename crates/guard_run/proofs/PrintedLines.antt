@@ -1,8 +1,10 @@
 -- Evidence that is printed line by line.
-use Rattle.std.proofs.Common.{◌≡◌, ℕ, ◌+◌, ◌<◌, List, [], ◌∷◌, ◌++◌, length, get_or, take, All, sym, ap, ◌∙◌}
-use Rattle.std.proofs.lemmas.List.{flat_map_more, take_more}
-use Rattle.std.proofs.lemmas.List.Elements.{All-cons, All-more, All-nil}
+use Rattle.std.proofs.Common.{◌≡◌, ℕ, ◌+◌, List, [], ◌∷◌, ◌++◌, slice_get, take, All, Some, ap, subst, ◌∙◌}
+use Rattle.std.proofs.lemmas.List.{flat_map_more}
+use Rattle.std.proofs.lemmas.List.Elements.{All-append, All-cons, All-nil}
+use Rattle.std.proofs.lemmas.Option.{get_or_from_slice_get, slice_get_within}
 use Rattle.evidence_lines.specs.Headers.{header}
+use Rattle.evidence_lines.specs.Lines.{line_of}
 use Rattle.evidence_lines.specs.Shapes.{HasShape, IsBounded, IsInFormat}
 use Rattle.evidence_lines.specs.Spelling.{line_text}
 use Rattle.evidence_lines.specs.Text.{evidence_text}
@@ -14,6 +16,7 @@ use Rattle.rule_meaning.specs.Seeing.{grown}
 use Rattle.rule_meaning.specs.StoreModel.{StoreModel}
 use Rattle.evidence_rules.specs.Follows.{Accepts, AllFollow, nothing_made}
 use Rattle.evidence_rules.proofs.FollowingShapes.{follows-shape}
+use Rattle.evidence_rules.proofs.LinesBehind.{line-there, next-line}
 
 module _ (version : Version) (lines : List Line) (i : ℕ) (l : Line) (stands : line_of lines (i + 1) ≡ Some l) where
   -- one line more
@@ -28,7 +31,8 @@ module _ (version : Version) (lines : List Line) (i : ℕ) (l : Line) (stands : 
       subst HasShape (get_or_from_slice_get lines i l l there) (shapes i l (slice_get_within lines i l there))
 
   pub format-more : All HasShape lines → All IsInFormat (take i lines) → IsBounded l → All IsInFormat (take (i + 1) lines)
-  format-more shapes all bounds = subst (All IsInFormat) (next-line lines i l stands) (All-last IsInFormat (take i lines) l all (record { shape = shape-here shapes; bounds = bounds }))
+  format-more shapes all bounds = subst (All IsInFormat) (next-line lines i l stands) (All-append IsInFormat (take i lines) (l ∷ []) all
+      (All-cons IsInFormat l [] (record { shape = shape-here shapes; bounds = bounds }) (All-nil IsInFormat)))
 
 -- ---- lines that follow have the fields of their kinds
 
