@@ -581,7 +581,7 @@ end_quiet text a (Items m) g b l e = λ fr col t. true≢false (sym e ∙ ap is_
 end_quiet text a (Tagged at ab sh) g b l e = tt
 end_quiet text a (Entries m) g b l e = λ fr col. (no_word_at text a (ending_word a.token e), ending_unsigned false a.at a.token e, (λ len t. true≢false (sym e ∙ ap is_ending t)))
 
-all_quiet : (text : List ℕ) (a : Ahead) (fs : List Form) → Nests fs → IsBlock (top fs) → is_ending a.token ≡ true → AreQuiet text a fs
+pub all_quiet : (text : List ℕ) (a : Ahead) (fs : List Form) → Nests fs → IsBlock (top fs) → is_ending a.token ≡ true → AreQuiet text a fs
 all_quiet text a [] ns b e = tt
 all_quiet text a (f ∷ fs) (l, s, ns) b e = (end_quiet text a f (top fs) b l e, all_quiet text a fs ns (lies_block f (top fs) b l) e)
 

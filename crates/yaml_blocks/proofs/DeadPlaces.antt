@@ -7,7 +7,7 @@ use Rattle.yaml_scalars.specs.Scalar.{begins_order_mark}
 use Rattle.yaml_laws.specs.code.Agreement.{AgreesTo}
 use Rattle.yaml_laws.proofs.AgreeLess.{agrees_less, agrees_here}
 use Rattle.yaml_blocks.specs.Yaml.{IsYaml}
-use Rattle.yaml_blocks.specs.code.Places.{IsFront, IsDead, IsPastMark}
+use Rattle.yaml_blocks.specs.code.Places.{IsFront, IsDead}
 use Rattle.yaml_blocks.specs.code.Twins.{IsTwin, IsPast}
 
 -- ---- the parts of texts
@@ -51,7 +51,11 @@ short_alive text p h (before, behind, b, e, size, none) = none (front_less (befo
 
 -- ---- dead places by texts that are the same so far
 
-unmarked : (xs : List ℕ) → begins_with 239 xs ≡ false → begins_order_mark xs ≡ false
+-- a byte order mark stands in front of both texts or of none, where one has all of its place in common, or no such byte
+abbrev pub IsPastMark : List ℕ → ℕ → Type 0
+IsPastMark text place = (2 ≤ place) ⊎ (begins_with 239 text ≡ false)
+
+pub unmarked : (xs : List ℕ) → begins_with 239 xs ≡ false → begins_order_mark xs ≡ false
 unmarked [] h = refl
 unmarked (a ∷ []) h = refl
 unmarked (a ∷ b ∷ []) h = refl

@@ -37,7 +37,7 @@ use Rattle.yaml_blocks.proofs.Twins.{twin_room, twin_cut, twin_name, twin_ahead,
 -- ---- scalars and keys
 
 -- a scalar stands at a token that starts one
-starts_of : (text : List ℕ) (s : Setting) (a : Ahead) (t : List ℕ) (e : ℕ) → scalar_ahead text s a ≡ Stands t e → (starts_scalar a.token ≡ true) × (scalar_at s text a.at ≡ Stands t e)
+pub starts_of : (text : List ℕ) (s : Setting) (a : Ahead) (t : List ℕ) (e : ℕ) → scalar_ahead text s a ≡ Stands t e → (starts_scalar a.token ≡ true) × (scalar_at s text a.at ≡ Stands t e)
 starts_of text s a t e h = by_start (starts_scalar a.token) h where
   fails_not : (p : ℕ) → Fails p ≡ Stands t e → ⊥
   fails_not p z = cc
@@ -46,7 +46,7 @@ starts_of text s a t e h = by_start (starts_scalar a.token) h where
   by_start true g = (refl, g)
   by_start false g = absurd (fails_not a.at g)
 
-end_is : (t u : List ℕ) (e j : ℕ) → Stands t e ≡ Stands u j → e ≡ j
+pub end_is : (t u : List ℕ) (e j : ℕ) → Stands t e ≡ Stands u j → e ≡ j
 end_is t u e j z = cc
 
 no_scalar : (a : Ahead) (t : Token) → a.token ≡ t → starts_scalar t ≡ false → starts_scalar a.token ≡ true → ⊥
@@ -54,15 +54,15 @@ no_scalar a t e n h = true≢false (sym h ∙ ap starts_scalar e ∙ n)
 
 -- the bounds of a scalar that stands at what is ahead: where its end is looked at, all of it was
 module _ (text : List ℕ) (flow : Bool) (i : ℕ) (a : Ahead) (seen : IsSeen text flow i a) (cut : IsCharBoundary text i) (s : Setting) (t : List ℕ) (e : ℕ) (st : scalar_ahead text s a ≡ Stands t e) (low : a.at < e) (last : IsCharBoundary text e) where
-  scalar_from : ahead_seen text i ≤ e
+  pub scalar_from : ahead_seen text i ≤ e
   scalar_from =
       let g = starts_of text s a t e st in
       seen_scalar s text flow i t e cut.0 (subst (λ (b : Ahead). starts_scalar b.token ≡ true) seen.0 g.0) (subst (λ (b : Ahead). b.at < e) seen.0 low) (subst (λ (b : Ahead). scalar_at s text b.at ≡ Stands t e) seen.0 g.1)
 
-  scalar_to : e ≤ ahead_seen text e
+  pub scalar_to : e ≤ ahead_seen text e
   scalar_to = seen_least text e last.0
 
-  scalar_all : scalar_shown s text a.at e ≤ ahead_seen text e
+  pub scalar_all : scalar_shown s text a.at e ≤ ahead_seen text e
   scalar_all = scalar_seen s text a.at t e (let l = last.0 in omega (arith, low, l)) last.0 (starts_of text s a t e st).1
 
 -- a token that has a length, and is no mark
@@ -77,7 +77,7 @@ module _ (text : List ℕ) (flow : Bool) (i : ℕ) (a : Ahead) (seen : IsSeen te
   token_over = let e = seen.1.3 in omega (arith, e, l)
 
 -- what is ahead begins not behind what is looked at for it
-place_from : (text : List ℕ) (flow : Bool) (i : ℕ) (a : Ahead) → IsSeen text flow i a → a.at ≤ ahead_seen text i
+pub place_from : (text : List ℕ) (flow : Bool) (i : ℕ) (a : Ahead) → IsSeen text flow i a → a.at ≤ ahead_seen text i
 place_from text flow i a seen = subst (λ (b : Ahead). b.at ≤ ahead_seen text i) (sym seen.0) (seen_from text flow i)
 
 -- ---- nodes outside of flow

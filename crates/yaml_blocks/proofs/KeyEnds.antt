@@ -33,7 +33,7 @@ line_fresh flow size (l ∷ ls) = by_tests (is_mark l.bytes) (is_passed true l.b
 is_passed_blank : (fresh : Bool) (bytes : List ℕ) → is_blank bytes ≡ true → is_passed fresh bytes ≡ true
 is_passed_blank fresh bytes b = rw b refl
 
-blank_fresh : (text : List ℕ) (i : ℕ) → is_blank (line_at (drop i text)) ≡ true → (ahead text false i).fresh ≡ true
+pub blank_fresh : (text : List ℕ) (i : ℕ) → is_blank (line_at (drop i text)) ≡ true → (ahead text false i).fresh ≡ true
 blank_fresh text i b = by_column (is_first_column text i) where
   by_column : (q : Bool) → (cond q (line_ahead false (length text) (lines i (drop i text))) (rest_ahead false (length text) (lines i (drop i text)))).fresh ≡ true
   by_column true = line_fresh false (length text) (lines i (drop i text))
@@ -85,7 +85,7 @@ break_fresh text at e over h =
     subst (λ i. (ahead text false i).fresh ≡ true) end (blank_fresh text (at + k) (ap is_blank (sym rest) ∙ white_behind bytes))
 
 -- a scalar stands there, up to this place
-abbrev StandsTo : ℕ → Outcome → Type 0
+abbrev pub StandsTo : ℕ → Outcome → Type 0
 StandsTo e o = (u : List ℕ) × (o ≡ Stands u e)
 
 plain_ends : (p : ℤ) (text : List ℕ) (at : ℕ) (t : List ℕ) (e : ℕ) (o : Outcome) → plain_scalar (as_key false) text at ≡ Stands t e → (ahead text false e).fresh ≡ false → plain_scalar (as_node p) text at ≡ o → StandsTo e o
@@ -220,3 +220,18 @@ key_divides text a (FlowTagged m) b = absurd b
 key_divides text a (Items m) b = ahead_single (pos m) text a
 key_divides text a (Entries m) b = ahead_single (pos m) text a
 key_divides text a (Tagged at ab sh) b = ahead_single (below ab) text a
+
+-- and a scalar stands there, read as a node
+key_value : (p : ℤ) (text : List ℕ) (a : Ahead) (t : List ℕ) (e : ℕ) → scalar_ahead text (as_key false) a ≡ Stands t e → (ahead text false e).fresh ≡ false → StandsTo e (scalar_ahead text (as_node p) a)
+key_value p text a t e k stale = by_start (starts_scalar a.token) k where
+  by_start : (q : Bool) → cond q (scalar_at (as_key false) text a.at) (Fails a.at) ≡ Stands t e → StandsTo e (cond q (scalar_at (as_node p) text a.at) (Fails a.at))
+  by_start true f = node_end p text a.at t e (scalar_at (as_node p) text a.at) f stale refl
+  by_start false f = absurd (fails_stands a.at t e f)
+
+pub key_stands : (text : List ℕ) (a : Ahead) (f : Form) → IsBlock f → (t : List ℕ) (e : ℕ) → scalar_ahead text (as_key false) a ≡ Stands t e → (ahead text false e).fresh ≡ false → StandsTo e (scalar_ahead text (setting_of f) a)
+key_stands text a Root b = key_value (negsuc 0) text a
+key_stands text a (Flow m) b = absurd b
+key_stands text a (FlowTagged m) b = absurd b
+key_stands text a (Items m) b = key_value (pos m) text a
+key_stands text a (Entries m) b = key_value (pos m) text a
+key_stands text a (Tagged at ab sh) b = key_value (below ab) text a

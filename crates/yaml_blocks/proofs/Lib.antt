@@ -8,12 +8,14 @@ mod FirstBytes
 mod FirstDead
 mod FirstEntries
 mod FirstTokens
-mod SureTokens
+mod ShownTokens
+mod Widths
 mod Fixed
 pub mod FormedTrees
 mod Forms
 mod Gains
 mod KeyEnds
+mod KeyLineEnds
 mod LastValues
 mod LineTails
 mod Lives
@@ -31,6 +33,8 @@ mod ScalarOrder
 mod Scalars
 mod Stacks
 mod Stopped
+mod StoppedKeys
+mod StoppedScalars
 mod Twins
 pub mod TreeInduction
 pub mod AwaitedNodes
@@ -45,6 +49,8 @@ mod Continuations
 mod LetterKinds
 mod Dashes
 mod DeadPlaces
+mod MarkTexts
+mod ShortTexts
 mod DashKeys
 mod Values
 mod FlowKeys

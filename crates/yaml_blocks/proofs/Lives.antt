@@ -1,9 +1,9 @@
--- Where a document is one of a text that is the same as far as is looked at, something may follow there too. By the steps of the reader.
-use Rattle.std.proofs.Common.{◌≡◌, ℕ, ◌≤◌, inl, inr, true, false, List, [], length, refl, sym, ap, ◌∙◌, subst, arith, if◌then◌else◌}
-use Rattle.std.specs.Prelude.{Result, Ok, Err, Option, Some, option_map}
-use Rattle.std.specs.Str.{IsCharBoundary}
+-- A text that is the same as far as is looked at is a document where something may follow there that is a tree, and the other way. By the steps of the reader.
+use Rattle.std.proofs.Common.{◌≡◌, ℕ, ◌≤◌, inl, inr, true, false, List, [], length, refl, sym, ap, ◌∙◌, subst, true≢false, arith, if◌then◌else◌}
+use Rattle.std.specs.Prelude.{Result, Ok, Err, Option, Some, None, option_map}
+use Rattle.std.specs.Str.{IsCharBoundary, IsUtf8}
 use Rattle.doc_values.specs.declared.kind.Kind.TheVariants as kind
-use Rattle.doc_values.specs.Tree.{Forest}
+use Rattle.doc_values.specs.Tree.{Forest, Nil, Node}
 use Rattle.doc_values.specs.Unfinished.{Unfinished, start, with_value}
 use Rattle.yaml_blocks.specs.declared.ahead.Ahead.{Ahead}
 use Rattle.yaml_blocks.specs.declared.ahead.Token.TheVariants.{Dashes}
@@ -14,22 +14,25 @@ use Rattle.yaml_blocks.specs.declared.stage.Position.{Position}
 use Rattle.yaml_blocks.specs.declared.stop.Stop.{Stop}
 use Rattle.yaml_blocks.specs.declared.stop.Stop.TheVariants as stop
 use Rattle.yaml_blocks.specs.Ahead.{ahead}
-use Rattle.yaml_blocks.specs.Nodes.{is_marked}
+use Rattle.yaml_blocks.specs.Nodes.{leaf, is_marked}
 use Rattle.yaml_blocks.specs.Signs as sign
-use Rattle.yaml_blocks.specs.Signs.{Sign, Reading, Tree, To}
+use Rattle.yaml_blocks.specs.Signs.{Sign, Tree, To}
 use Rattle.yaml_blocks.specs.Yaml.{IsRoot, IsStart, IsYaml, text_start}
 use Rattle.yaml_blocks.specs.code.AheadSeen.{ahead_seen}
+use Rattle.yaml_blocks.specs.code.StopPlaces.{told_place}
 use Rattle.yaml_blocks.specs.code.Places.{StopsAt}
 use Rattle.yaml_blocks.specs.code.Refused.{of_sign}
 use Rattle.yaml_blocks.specs.code.Rest.{top, Over, Begins}
 use Rattle.yaml_blocks.specs.code.Steps.{Rest, Fits, SameStep, Goes, Completes, is_ending, reached}
-use Rattle.yaml_blocks.specs.code.Twins.{IsTwin, StopsStep, Alive, FixesStart, FixesRoot, FixesStep}
+use Rattle.yaml_blocks.specs.code.Twins.{IsTwin, StopsStep, Matches, Alive, FixesStart, FixesRoot, FixesStep}
 use Rattle.yaml_blocks.proofs.AheadOrder.{seen_least, seen_mark}
-use Rattle.yaml_blocks.proofs.DeadPlaces.{NoTwin, dead_past}
+use Rattle.yaml_blocks.proofs.DeadPlaces.{NoTwin}
 use Rattle.yaml_blocks.proofs.Forms.{apart_root}
 use Rattle.yaml_blocks.proofs.Gains.{told}
 use Rattle.yaml_blocks.proofs.LastValues.{ending_calm}
-use Rattle.yaml_blocks.proofs.Roots.{begins_missing, begins_node, one_start}
+use Rattle.yaml_blocks.proofs.MarkTexts.{twins_dead}
+use Rattle.yaml_blocks.proofs.ShownTokens.{IsTold, told_shown}
+use Rattle.yaml_blocks.proofs.Roots.{begins_missing, missing_begins, begins_node, node_begins, begins_comes, one_start}
 use Rattle.yaml_blocks.proofs.Twins.{twin_within, twin_cut, twin_ahead}
 
 -- ---- where the document begins
@@ -57,11 +60,11 @@ fixed_there text at next ea ca en n = λ place other m near.
 
 -- ---- the root
 
-alive_at : (other : List ℕ) (P : Forest → Type 0) (w u : Unfinished) (p : Position) (s : Stage) (at : ℕ) → p.stage ≡ s → p.at ≡ at → w ≡ u → ((t : Forest) → P t → (g : Forest) × Rest other s [] u at (Tree g)) → Fits other s [] u at → IsCharBoundary other at → Alive other P [] w p
+alive_at : (other : List ℕ) (P : Forest → Type 0) (w u : Unfinished) (p : Position) (s : Stage) (at : ℕ) → p.stage ≡ s → p.at ≡ at → w ≡ u → Matches other P s [] u at → Fits other s [] u at → IsCharBoundary other at → Alive other P [] w p
 alive_at other P w u p s at es ej ew h f b =
-    subst (λ z. ((t : Forest) → P t → (g : Forest) × Rest other z [] w p.at (Tree g)) × Fits other z [] w p.at × IsCharBoundary other p.at) (sym es)
-    (subst (λ z. ((t : Forest) → P t → (g : Forest) × Rest other s [] w z (Tree g)) × Fits other s [] w z × IsCharBoundary other z) (sym ej)
-    (subst (λ z. ((t : Forest) → P t → (g : Forest) × Rest other s [] z at (Tree g)) × Fits other s [] z at × IsCharBoundary other at) (sym ew) (h, f, b)))
+    subst (λ z. Matches other P z [] w p.at × Fits other z [] w p.at × IsCharBoundary other p.at) (sym es)
+    (subst (λ z. Matches other P s [] w z × Fits other s [] w z × IsCharBoundary other z) (sym ej)
+    (subst (λ z. Matches other P s [] z at × Fits other s [] z at × IsCharBoundary other at) (sym ew) (h, f, b)))
 
 ended_tree : (text : List ℕ) (d g : Forest) (i : ℕ) (t : Forest) → Over text d i (Tree t) → Over text g i (Tree g)
 ended_tree text d g i t (inl (e, h)) = inl (e, refl)
@@ -76,7 +79,7 @@ null_fixed text at next u w (Ok p) s en b c (es, ej, ew) = λ place other m near
     let v : Unfinished = with_value kind.Null [] (length text) start in (
       far,
       (λ cut. alive_at other (λ t. Begins other at (Tree t)) w v p stage.After at es ej (ew ∙ ap (with_value kind.Null [] (length text)) s)
-          (λ t g. (v.done, ended_tree other _ v.done at t (begins_missing other at (Tree t) there g))) ((tt, tt), refl, (λ k. ending_calm other v at there)) cut),
+          ((λ t g. (v.done, ended_tree other _ v.done at t (begins_missing other at (Tree t) there g))), (λ g h. let n : Forest = Node (leaf kind.Null [] None (length other)) Nil Nil in (n, missing_begins other at (Tree n) (ended_tree other v.done n at g h)))) ((tt, tt), refl, (λ k. ending_calm other v at there)) cut),
     )
 
 pub root_fixed : (text : List ℕ) (at : ℕ) (next : Ahead) (w : Unfinished) (p : Position) → w ≡ start → next ≡ ahead text false at → IsCharBoundary text at → is_ending next.token ≡ false → p.stage ≡ stage.Value → p.at ≡ at → FixesRoot text at w (Ok p)
@@ -84,11 +87,11 @@ root_fixed text at next w p ew en b n es ej = λ place other m near.
     let far : ahead_seen text at ≤ place = subst (λ n. ahead_seen text n ≤ place) ej near in
     let here : ahead other false at ≡ ahead text false at = twin_ahead text place other m false at b.0 far in
     let there : is_ending (ahead other false at).token ≡ false = ap (λ (a : Ahead). is_ending a.token) (here ∙ sym en) ∙ n in
-    (far, (λ cut. alive_at other (λ t. Begins other at (Tree t)) w start p stage.Value at es ej ew (λ t g. (t, begins_node other at (Tree t) there g)) ((tt, tt), apart_root, (refl, refl), tt, tt) cut))
+    (far, (λ cut. alive_at other (λ t. Begins other at (Tree t)) w start p stage.Value at es ej ew ((λ t g. (t, begins_node other at (Tree t) there g)), (λ g h. (g, node_begins other at (Tree g) h))) ((tt, tt), apart_root, (refl, refl), tt, tt) cut))
 
 -- ---- the whole text
 
--- where a document is one of a text that is the same as far as the place of reading is looked at, something may follow in it there
+-- a text that is the same as far as the place of reading is looked at is a document where something may follow in it there, and the other way
 abbrev pub Lives : List ℕ → Position → List Form → Unfinished → Type 0
 Lives text p fs u = (p.stage ≡ stage.Whole → ⊥) → (place : ℕ) (other : List ℕ) → IsTwin text place other → ahead_seen text p.at ≤ place → Alive other (IsYaml other) fs u p
 
@@ -100,7 +103,7 @@ lives_first text i fs w p s r e = λ goes place other m near.
     let g = r place other m near in
     let b = s place other m g.0 in
     let a = g.1 b.1 in
-    subst (λ z. Alive other (IsYaml other) z w p) (sym e) ((λ t h. a.0 t (yaml_begins other i t b.0 h)), a.1, a.2)
+    subst (λ z. Alive other (IsYaml other) z w p) (sym e) (((λ t h. a.0.0 t (yaml_begins other i t b.0 h)), (λ g h. let x = a.0.1 g h in (x.0, begins_comes other i (Tree x.0) b.0 x.1))), a.1, a.2)
 
 pub lives_next : (text : List ℕ) (p q : Position) (fs gs : List Form) (u w : Unfinished) → Lives text p fs u → (p.stage ≡ stage.Whole → ⊥) → FixesStep text p.stage (top fs) p.at (Ok q)
     → ((other : List ℕ) → (place : ℕ) → IsTwin text place other → IsCharBoundary other p.at → Fits other p.stage fs u p.at → SameStep text other p.stage (top fs) p.at → Goes other (Rest other p.stage fs u p.at) (reached p.stage p.at) gs w q) → Lives text q gs w
@@ -108,26 +111,26 @@ lives_next text p q fs gs u w lives open_ fixes gives = λ goes place other m ne
     let s = fixes goes place other m near in
     let a = lives open_ place other m s.0 in
     let g = gives other place m a.2 a.1 s.1 in
-    ((λ t h. let x = a.0 t h in (x.0, (g.0 (Tree x.0)).0 x.1)), g.1, g.2)
+    (((λ t h. let x = a.0.0 t h in (x.0, (g.0 (Tree x.0)).0 x.1)), (λ y h. a.0.1 y ((g.0 (Tree y)).1 h))), g.1, g.2)
 
 -- ---- where reading stops
 
 -- where nothing may follow in a twin, it is no document
 none_twin : (text : List ℕ) (p : Position) (fs : List Form) (u : Unfinished) (place : ℕ) → Lives text p fs u → (p.stage ≡ stage.Whole → ⊥) → ahead_seen text p.at ≤ place
-    → ((other : List ℕ) → IsTwin text place other → IsCharBoundary other p.at → Fits other p.stage fs u p.at → (v : Reading) → Rest other p.stage fs u p.at v → ⊥) → NoTwin text place
-none_twin text p fs u place lives open_ near none = λ other m tree h. let a = lives open_ place other m near in let x = a.0 tree h in none other m a.2 a.1 (Tree x.0) x.1
+    → ((other : List ℕ) → IsTwin text place other → IsCharBoundary other p.at → Fits other p.stage fs u p.at → (t : Forest) → Rest other p.stage fs u p.at (Tree t) → ⊥) → NoTwin text place
+none_twin text p fs u place lives open_ near none = λ other m tree h. let a = lives open_ place other m near in let x = a.0.0 tree h in none other m a.2 a.1 x.0 x.1
 
-pub stops_at : (text : List ℕ) (p : Position) (fs : List Form) (u : Unfinished) (e : Stop) → Lives text p fs u → (p.stage ≡ stage.Whole → ⊥) → StopsStep text p.stage fs u p.at (Err e) → StopsAt text e
-stops_at text p fs u (stop.Unread q) lives open_ (inl e) = inl e
-stops_at text p fs u (stop.Unread q) lives open_ (inr (l, (place, past, near, none))) = inr (λ mark. dead_past text place q l mark past (none_twin text p fs u place lives open_ near none))
-stops_at text p fs u (stop.Tab at) lives open_ h = tt
-stops_at text p fs u (stop.Anchor at) lives open_ h = tt
-stops_at text p fs u (stop.Tag at) lives open_ h = tt
-stops_at text p fs u (stop.Directive at) lives open_ h = tt
-stops_at text p fs u (stop.ManyDocuments at) lives open_ h = tt
-stops_at text p fs u (stop.DuplicateKey at) lives open_ h = tt
-stops_at text p fs u (stop.TooDeep at) lives open_ h = tt
-stops_at text p fs u stop.NoMemory lives open_ h = tt
+pub stops_at : (text : List ℕ) → IsUtf8 text → (p : Position) (fs : List Form) (u : Unfinished) (e : Stop) → Lives text p fs u → (p.stage ≡ stage.Whole → ⊥) → StopsStep text p.stage fs u p.at (Err e) → StopsAt text e
+stops_at text utf8 p fs u (stop.Unread q) lives open_ (inl e) = inl e
+stops_at text utf8 p fs u (stop.Unread q) lives open_ (inr (l, (place, past, near, none))) = inr (twins_dead text place q utf8 l past (none_twin text p fs u place lives open_ near none))
+stops_at text utf8 p fs u (stop.Tab at) lives open_ h = tt
+stops_at text utf8 p fs u (stop.Anchor at) lives open_ h = tt
+stops_at text utf8 p fs u (stop.Tag at) lives open_ h = tt
+stops_at text utf8 p fs u (stop.Directive at) lives open_ h = tt
+stops_at text utf8 p fs u (stop.ManyDocuments at) lives open_ h = tt
+stops_at text utf8 p fs u (stop.DuplicateKey at) lives open_ h = tt
+stops_at text utf8 p fs u (stop.TooDeep at) lives open_ h = tt
+stops_at text utf8 p fs u stop.NoMemory lives open_ h = tt
 
 pub memory_at : (text : List ℕ) (e : Stop) → e ≡ stop.NoMemory → StopsAt text e
 memory_at text e h = subst (StopsAt text) (sym h) tt
@@ -144,3 +147,25 @@ sign_at text (sign.TooDeep at) = tt
 
 pub signed_at : (text : List ℕ) (o : Option Sign) (e : Stop) → Some e ≡ option_map of_sign o → StopsAt text e
 signed_at text o e h = let t = told o e h in subst (StopsAt text) t.2 (sign_at text t.0)
+
+-- behind a line `---` stands a stray carriage return
+pub start_at : (text : List ℕ) → IsUtf8 text → (at behind : ℕ) (next after : Ahead) (q : ℕ) → at ≡ text_start text → IsCharBoundary text at → next ≡ ahead text false at → behind ≡ next.behind → IsCharBoundary text behind → after ≡ ahead text false behind → next.token ≡ Dashes → after.fresh ≡ false
+    → q ≡ told_place text after → StopsAt text (stop.Unread q)
+start_at text utf8 at behind next after q ea ca en eb cb ef d f eq = by_told (subst (IsTold text false behind) (sym (eq ∙ ap (told_place text) ef)) (told_shown text false behind)) where
+  none : (p : ℕ) → ahead_seen text behind ≤ p → NoTwin text p
+  none p near = λ other m tree y.
+      let first : next ≡ ahead text false (text_start text) = en ∙ ap (ahead text false) ea in
+      let from = seen_mark text false at p (subst (λ (a : Ahead). is_marked a.token ≡ true) en (ap is_marked d)) (twin_within text p other m) (subst (λ n. ahead_seen text n ≤ p) (eb ∙ ap (λ (a : Ahead). a.behind) en) near) in
+      let here : ahead other false (text_start other) ≡ ahead text false (text_start text) = ap (ahead other false) (same_start text p other m ∙ sym ea) ∙ twin_ahead text p other m false at ca.0 from ∙ ap (ahead text false) ea in
+      let over : ahead other false behind ≡ ahead text false behind = twin_ahead text p other m false behind cb.0 near in
+      let there : (ahead other false (text_start other)).token ≡ Dashes = ap (λ (a : Ahead). a.token) here ∙ ap (λ (a : Ahead). a.token) (sym first) ∙ d in
+      let place : (ahead other false (text_start other)).behind ≡ behind = ap (λ (a : Ahead). a.behind) here ∙ ap (λ (a : Ahead). a.behind) (sym first) ∙ sym eb in
+      let stale : (ahead other false behind).fresh ≡ false = ap (λ (a : Ahead). a.fresh) over ∙ ap (λ (a : Ahead). a.fresh) (sym ef) ∙ f in
+      by_start other tree there place stale y where
+        by_start : (other : List ℕ) (tree : Forest) → (ahead other false (text_start other)).token ≡ Dashes → (ahead other false (text_start other)).behind ≡ behind → (ahead other false behind).fresh ≡ false → IsYaml other tree → ⊥
+        by_start other tree there place stale (l, kids, i, j, inl (t, e, g), r, z, h) = true≢false (sym g ∙ ap (λ n. (ahead other false n).fresh) (e ∙ place) ∙ stale)
+        by_start other tree there place stale (l, kids, i, j, inr (n, e), r, z, h) = n there
+
+  by_told : IsTold text false behind q → StopsAt text (stop.Unread q)
+  by_told (inl k) = inl k
+  by_told (inr (n, l, (p, past, near))) = inr (twins_dead text p q utf8 l past (none p near))

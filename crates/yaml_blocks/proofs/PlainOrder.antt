@@ -111,7 +111,7 @@ trim_split (b ∷ bs) = let r = trim_split bs in by_rest (trimmed bs) r.0 r.1 r.
   by_rest [] w e h = by_white (is_white b) refl w e h
   by_rest (c ∷ t) w e h = (w, ap (λ t. b ∷ t) e, h)
 
-stop_black : (flow white : Bool) (xs : List ℕ) (c : ℕ) (z : List ℕ) → drop (plain_len flow white xs) xs ≡ c ∷ z → is_white c ≡ false
+pub stop_black : (flow white : Bool) (xs : List ℕ) (c : ℕ) (z : List ℕ) → drop (plain_len flow white xs) xs ≡ c ∷ z → is_white c ≡ false
 stop_black flow white [] c z e = absurd (cc)
 stop_black flow white (b ∷ bs) c z e = by_stop (stops flow white b bs) refl e (λ g. stop_black flow (is_white b) bs c z g) where
   by_tests : (p q r s i : Bool) → nat_eq b 58 ≡ p → nat_eq b 35 ≡ q → is_flow_mark b ≡ r → nat_eq b 13 ≡ s → ((((p && i) || (q && white)) || (flow && r)) || s) ≡ true → is_white b ≡ false
@@ -131,10 +131,10 @@ stop_black flow white (b ∷ bs) c z e = by_stop (stops flow white b bs) refl e 
   by_stop false s e r = r e
 
 -- behind the content stands white space, and then the line's end or the byte that ends it
-abbrev Behind : Bool → List ℕ → List ℕ → Type 0
+abbrev pub Behind : Bool → List ℕ → List ℕ → Type 0
 Behind flow part w = (drop (length (content flow part)) part ≡ w ++ drop (plain_len flow false part) part) × (is_blank w ≡ true) × (length (content flow part) + length w ≡ plain_len flow false part)
 
-behind_content : (flow : Bool) (part : List ℕ) → (w : List ℕ) × Behind flow part w
+pub behind_content : (flow : Bool) (part : List ℕ) → (w : List ℕ) × Behind flow part w
 behind_content flow part =
     let n = plain_len flow false part in
     let k = content flow part in
@@ -145,7 +145,7 @@ behind_content flow part =
     (w, (ap (drop (length k)) whole ∙ drop_whole k (w ++ drop n part), h, omega (arith, a, length-append k w, length-take n part, low)))
 
 -- a colon ends it
-colon_byte : (c : ℕ) (z : List ℕ) → why (c ∷ z) ≡ Colon → c ≡ 58
+pub colon_byte : (c : ℕ) (z : List ℕ) → why (c ∷ z) ≡ Colon → c ≡ 58
 colon_byte c z k = by_tests (nat_eq c 13) (nat_eq c 58) (nat_eq c 35) refl k where
   by_tests : (p q r : Bool) → nat_eq c 58 ≡ q → cond p Return (cond q Colon (cond r Comment Mark)) ≡ Colon → c ≡ 58
   by_tests true q r n k = absurd (cc)

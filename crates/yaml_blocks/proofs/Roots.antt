@@ -50,7 +50,7 @@ begins_missing text i v e (l, kids, r, inl (el, ek, er), en) = null_over text l 
 begins_missing text i v e (l, kids, To j, inr n, en) = absurd (root_missing text [] [] Nil None i v refl (ending_none (ahead text false i) e) (ending_free (ahead text false i) e) (l, kids, To j, n, en))
 begins_missing text i v e (l, kids, Shows s, inr n, d) = absurd (root_missing text [] [] Nil None i v refl (ending_none (ahead text false i) e) (ending_free (ahead text false i) e) (l, kids, Shows s, n, d))
 
-missing_begins : (text : List ℕ) (i : ℕ) (v : Reading) → Ends text [] [] (Node (leaf kind.Null [] None (length text)) Nil Nil) i v → Begins text i v
+pub missing_begins : (text : List ℕ) (i : ℕ) (v : Reading) → Ends text [] [] (Node (leaf kind.Null [] None (length text)) Nil Nil) i v → Begins text i v
 missing_begins text i v en = (leaf kind.Null [] None (length text), Nil, To i, inl (refl, refl, refl), en)
 
 null_root : (text : List ℕ) (w : Unfinished) (at : ℕ) (r : Result Position Stop) → is_ending (ahead text false at).token ≡ true → IsCharBoundary text at → Completes at (with_value kind.Null [] (length text) start) w r → Gives text (Begins text at) 0 [] w r
@@ -74,7 +74,7 @@ begins_node text i v n (l, kids, r, inl (el, ek, er), en) =
 begins_node text i v n (l, kids, To j, inr h, en) = (l, kids, To j, h, en)
 begins_node text i v n (l, kids, Shows s, inr h, d) = (l, kids, Shows s, h, d)
 
-node_begins : (text : List ℕ) (i : ℕ) (v : Reading) → Awaits text [] [] Nil None i v → Begins text i v
+pub node_begins : (text : List ℕ) (i : ℕ) (v : Reading) → Awaits text [] [] Nil None i v → Begins text i v
 node_begins text i v (l, kids, To j, h, en) = (l, kids, To j, inr h, en)
 node_begins text i v (l, kids, Shows s, h, d) = (l, kids, Shows s, inr h, d)
 

@@ -1,5 +1,5 @@
 -- Which scalar stands at a token, and its kind.
-use Rattle.std.proofs.Common.{◌≡◌, ℕ, suc, ◌+◌, inl, inr, Bool, true, false, ◌||◌, ◌&&◌, not, cond, List, [], ◌∷◌, drop, length, refl, sym, ap, ◌∙◌, subst, arith, nat_eq, true≢false}
+use Rattle.std.proofs.Common.{◌≡◌, ℕ, suc, ◌+◌, ◌<◌, inl, inr, Bool, true, false, ◌||◌, ◌&&◌, not, cond, List, [], ◌∷◌, drop, length, refl, sym, ap, ◌∙◌, subst, arith, nat_eq, true≢false}
 use Rattle.std.specs.Prelude.{Ok, Err}
 use Rattle.std.specs.Cow.{cow_str_bytes}
 use Rattle.std.proofs.lemmas.List.{drop_all}
@@ -18,8 +18,11 @@ use Rattle.yaml_scalars.specs.Quoted.{Part, Closed, Open, Joined, Returned, Refu
 use Rattle.yaml_scalars.specs.Scalar.{scalar_at, is_typed, HasKind, Answers, IsEndOf, begins_quoted, begins_block, is_first_column}
 use Rattle.yaml_blocks.specs.declared.ahead.Ahead.{Ahead}
 use Rattle.yaml_blocks.specs.declared.stop.Stop.{Stop}
+use Rattle.yaml_blocks.specs.declared.stop.Stop.TheVariants as stop
 use Rattle.yaml_blocks.specs.Nodes.{as_key, starts_scalar, scalar_ahead}
 use Rattle.yaml_blocks.specs.code.Refused.{of_scalar}
+use Rattle.yaml_blocks.specs.code.StopPlaces.{refused_place}
+use Rattle.yaml_blocks.specs.code.Twins.{FailedAt}
 use Rattle.yaml_blocks.specs.code.Steps.{Found, Missed, Failed, Finds, Holds, leaf_text}
 
 fails_stands : (at j : ℕ) (t : List ℕ) → Fails at ≡ Stands t j → ⊥
@@ -84,6 +87,13 @@ finds_none text s a refusal.NoMemory size e h = inl refl
 finds_none text s a (refusal.Syntax at) size e h =
     inr (inl ((size, refl), ((λ t j st. fails_stands at j t (sym h ∙ sym (starts_at text s a e) ∙ st)), (λ p d. fails_documents at p (sym h ∙ sym (starts_at text s a e) ∙ d)))))
 finds_none text s a (refusal.ManyDocuments at) size e h = inr (inr (at, refl, starts_at text s a e ∙ h))
+
+-- the place where it does not stand
+pub refused_at : (text : List ℕ) (s : Setting) (a : Ahead) (place q : ℕ) (r : ScalarRefusal) → starts_scalar a.token ≡ true → a.at < length text → Answers (is_typed s text a.at) (scalar_at s text a.at) (Err r) → place ≡ refused_place text a r → of_scalar place r ≡ stop.Unread q
+    → FailedAt text s a q
+refused_at text s a place q refusal.NoMemory e l h k z = absurd (cc)
+refused_at text s a place q (refusal.Syntax at) e l h k z = let same : place ≡ q = cc in inr (at, l, starts_at text s a e ∙ h, sym same ∙ k)
+refused_at text s a place q (refusal.ManyDocuments at) e l h k z = absurd (cc)
 
 -- a key has no mark in it, whatever it ends by: a carriage return, a colon, a comment, another byte or the line's end
 -- whether it shows that there are many documents

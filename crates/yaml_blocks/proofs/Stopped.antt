@@ -1,35 +1,40 @@
 -- Where reading stops: what shows it, and that it is so in other texts. By the cases of what stops it.
-use Rattle.std.proofs.Common.{◌≡◌, ℕ, ◌<◌, ◌≤◌, inl, inr, Bool, true, false, List, length, refl, sym, ap, ◌∙◌, subst, true≢false, arith}
-use Rattle.std.specs.Prelude.{Result, Ok, Err, Option, Some, option_map}
+use Rattle.std.proofs.Common.{◌≡◌, ℕ, ◌<◌, ◌≤◌, inl, inr, Bool, true, false, List, length, refl, sym, ap, ◌∙◌, subst, arith}
+use Rattle.std.specs.Prelude.{Result, Ok, Err, Option, Some, None, option_map}
 use Rattle.std.specs.Str.{IsCharBoundary}
 use Rattle.doc_values.specs.declared.builder.BuildRefusal.{BuildRefusal}
 use Rattle.doc_values.specs.declared.builder.BuildRefusal.TheVariants as build
 use Rattle.doc_values.specs.Limits.{template_limit}
+use Rattle.doc_values.specs.Tree.{Forest}
 use Rattle.doc_values.specs.Unfinished.{Unfinished}
 use Rattle.yaml_scalars.specs.declared.scalar.Scalar.{Scalar}
-use Rattle.yaml_scalars.specs.declared.scalar.ScalarRefusal.{ScalarRefusal}
-use Rattle.yaml_scalars.specs.declared.scalar.ScalarRefusal.TheVariants as scalar
 use Rattle.yaml_blocks.specs.declared.ahead.Ahead.{Ahead}
-use Rattle.yaml_blocks.specs.declared.ahead.Token.{Token}
-use Rattle.yaml_blocks.specs.declared.ahead.Token.TheVariants.{End, Dashes, Dots, Dash, Tag, NoTag, Opens, Closes, Comma, Point, Anchor, Percent, Tabbed, Stray, Other}
+use Rattle.yaml_blocks.specs.declared.ahead.Token.TheVariants.{Dots, Closes}
 use Rattle.yaml_blocks.specs.declared.form.Form.{Form}
+use Rattle.yaml_blocks.specs.declared.form.Form.TheVariants.{Flow}
 use Rattle.yaml_blocks.specs.declared.stage.Position.{Position}
 use Rattle.yaml_blocks.specs.declared.stage.Stage.TheVariants as stage
 use Rattle.yaml_blocks.specs.declared.stop.Stop.{Stop}
 use Rattle.yaml_blocks.specs.declared.stop.Stop.TheVariants as stop
 use Rattle.yaml_blocks.specs.Ahead.{ahead}
+use Rattle.yaml_blocks.specs.Nodes.{is_marked}
 use Rattle.yaml_blocks.specs.Signs as sign
-use Rattle.yaml_blocks.specs.Signs.{Sign, Reading}
-use Rattle.yaml_blocks.specs.code.AheadSeen.{ahead_seen, is_told, told_place}
-use Rattle.yaml_blocks.specs.code.Refused.{of_build, of_scalar, of_sign}
+use Rattle.yaml_blocks.specs.Signs.{Sign, Reading, Tree}
+use Rattle.yaml_blocks.specs.code.AheadSeen.{ahead_seen}
+use Rattle.yaml_blocks.specs.code.StopPlaces.{told_place}
+use Rattle.yaml_blocks.specs.code.Refused.{of_build, of_sign}
 use Rattle.yaml_blocks.specs.code.Rest.{top, Inside, Ends, Enters, Awaits}
-use Rattle.yaml_blocks.specs.code.Steps.{IsBlock, IsSeen, IsCalm, Awaited, Fits, Gives, Deep, Opened, TagBegun, Closed, Completes, is_ending}
-use Rattle.yaml_blocks.specs.code.Twins.{IsTwin, Stops, NoTail, NoLine, NoFlowValue, NoValue, NoEntry, StopsStep}
+use Rattle.yaml_blocks.specs.code.Steps.{IsBlock, Open, SameEnd, IsSeen, IsCalm, Awaited, Fits, Gives, Deep, Opened, TagBegun, Closed, Completes, is_ending}
+use Rattle.yaml_blocks.specs.code.Twins.{IsTwin, IsPast, Stops, NoTail, NoLine, NoFlowValue, NoValue, NoEntry, StopsStep}
+use Rattle.yaml_blocks.proofs.Forms.{flow_inside}
 use Rattle.yaml_blocks.proofs.Gains.{told}
+use Rattle.yaml_blocks.proofs.Rests.{enters_item}
 use Rattle.yaml_blocks.proofs.Quiet.{inside_at}
-use Rattle.yaml_blocks.proofs.SureTokens.{IsTold, told_shown}
-use Rattle.yaml_blocks.proofs.Twins.{twin_ahead}
-use Rattle.yaml_blocks.proofs.SameTexts.{seen_alike}
+use Rattle.yaml_blocks.proofs.ShownTokens.{IsTold, told_shown}
+use Rattle.yaml_blocks.proofs.AheadOrder.{seen_mark}
+use Rattle.yaml_blocks.proofs.BlockGains.{nothing_follows, all_quiet}
+use Rattle.yaml_blocks.proofs.Twins.{twin_ahead, twin_within}
+use Rattle.yaml_blocks.proofs.SameTexts.{seen_alike, sign_same, end_here}
 
 module _ (text : List ℕ) (i : ℕ) (none : List ℕ → Type 0) where
   -- a sign and want of memory say nothing of a place
@@ -81,27 +86,12 @@ module _ (text : List ℕ) (i : ℕ) (none : List ℕ → Type 0) where
   pub length_stops : (q : ℕ) → q ≡ length text → Stops text i none (Err (stop.Unread q))
   length_stops q e = inl e
 
-  pub far_stops : (e : Stop) → ((q : ℕ) → e ≡ stop.Unread q → q ≡ length text) → Stops text i none (Err e)
-  far_stops (stop.Unread q) f = length_stops q (f q refl)
-  far_stops (stop.Tab at) f = tt
-  far_stops (stop.Anchor at) f = tt
-  far_stops (stop.Tag at) f = tt
-  far_stops (stop.Directive at) f = tt
-  far_stops (stop.ManyDocuments at) f = tt
-  far_stops (stop.DuplicateKey at) f = tt
-  far_stops (stop.TooDeep at) f = tt
-  far_stops stop.NoMemory f = tt
-
-  pub scalar_stops : (r : Result Position Stop) → ((q : ℕ) → r ≡ Err (stop.Unread q) → q ≡ length text) → Stops text i none r
-  scalar_stops (Ok p) f = tt
-  scalar_stops (Err e) f = far_stops e (λ q h. f q (ap Err h))
-
   -- at what is ahead, where that decides
-  pub told_stops : (flow : Bool) (a : Ahead) (q : ℕ) → a ≡ ahead text flow i → q ≡ told_place text a → ((other : List ℕ) → is_told a.token ≡ true → none other) → Stops text i none (Err (stop.Unread q))
+  pub told_stops : (flow : Bool) (a : Ahead) (q : ℕ) → a ≡ ahead text flow i → q ≡ told_place text a → ((other : List ℕ) → is_ending a.token ≡ false → none other) → Stops text i none (Err (stop.Unread q))
   told_stops flow a q e p n = by_told (subst (IsTold text flow i) (sym (p ∙ ap (told_place text) e)) (told_shown text flow i)) where
     by_told : IsTold text flow i q → Stops text i none (Err (stop.Unread q))
     by_told (inl k) = inl k
-    by_told (inr (t, s, l, feed)) = inr (l, (q, inr (refl, feed), omega (arith, s), (λ other m. n other (ap (λ (b : Ahead). is_told b.token) e ∙ t))))
+    by_told (inr (t, l, (place, past, near))) = inr (l, (place, past, near, (λ other m. n other (ap (λ (b : Ahead). is_ending b.token) e ∙ t))))
 
 -- what follows before a step, by what follows behind a part of it
 pub stops_twin : (text : List ℕ) (i : ℕ) (none some : List ℕ → Type 0) (r : Result Position Stop) → ((p : ℕ) (other : List ℕ) → IsTwin text p other → ahead_seen text i ≤ p → none other → some other) → Stops text i none r → Stops text i some r
@@ -120,12 +110,6 @@ stops_twin text i none some (Err stop.NoMemory) f h = tt
 pub stops_from : (text : List ℕ) (i : ℕ) (none some : List ℕ → Type 0) (r : Result Position Stop) → ((other : List ℕ) → none other → some other) → Stops text i none r → Stops text i some r
 stops_from text i none some r f h = stops_twin text i none some r (λ p other m near. f other) h
 
--- the place of a scalar that fails is not told by its own
-pub scalar_place : (size q : ℕ) (r : ScalarRefusal) → of_scalar size r ≡ stop.Unread q → q ≡ size
-scalar_place size q scalar.NoMemory h = absurd (cc)
-scalar_place size q (scalar.Syntax at) h = cc
-scalar_place size q (scalar.ManyDocuments at) h = absurd (cc)
-
 -- what an error is
 pub error_same : (r : Result Scalar Stop) (e d : Stop) → r ≡ Err e → r ≡ Err d → e ≡ d
 error_same r e d h k = cc
@@ -135,26 +119,8 @@ unread_same p q h = cc
 
 -- ---- where the document does not end
 
-told_inside : (t : Token) → is_told t ≡ true → is_ending t ≡ false
-told_inside End h = absurd (true≢false (sym h))
-told_inside Dashes h = absurd (true≢false (sym h))
-told_inside Dots h = absurd (true≢false (sym h))
-told_inside Tabbed h = absurd (true≢false (sym h))
-told_inside Stray h = absurd (true≢false (sym h))
-told_inside Dash h = refl
-told_inside (Tag len) h = refl
-told_inside NoTag h = refl
-told_inside (Opens map) h = refl
-told_inside (Closes map) h = refl
-told_inside Comma h = refl
-told_inside (Point loose) h = refl
-told_inside Anchor h = refl
-told_inside Percent h = refl
-told_inside Other h = refl
-
--- nor does it at such a token
-pub told_inside_at : (other : List ℕ) (i : ℕ) (a : Ahead) → a ≡ ahead other false i → is_told a.token ≡ true → Inside other i
-told_inside_at other i a e t = inside_at other i (ap (λ (b : Ahead). is_ending b.token) (sym e) ∙ told_inside a.token t)
+pub told_inside : (other : List ℕ) (i : ℕ) (a : Ahead) → a ≡ ahead other false i → is_ending a.token ≡ false → Inside other i
+told_inside other i a e t = inside_at other i (ap (λ (b : Ahead). is_ending b.token) (sym e) ∙ t)
 
 -- where something may follow, reading stops for want of memory or at a sign
 pub living_stops : (text : List ℕ) (i : ℕ) (none : List ℕ → Type 0) (P : Reading → Type 0) (n : ℕ) (fs : List Form) (w : Unfinished) (r : Result Position Stop) → (v : Reading) → P v → Gives text P n fs w r → Stops text i none r
@@ -178,25 +144,57 @@ seen_twin text p other flow i m here there near = seen_alike text other flow i m
 module _ (text : List ℕ) (fs : List Form) (u : Unfinished) (i : ℕ) (r : Result Position Stop) (cut : IsCharBoundary text i) where
   pub tail_stops : Stops text i (NoTail i (ahead text true i) fs u) r → StopsStep text stage.After fs u i r
   tail_stops h =
-      stops_twin text i (NoTail i (ahead text true i) fs u) (λ other. IsCharBoundary other i → Fits other stage.After fs u i → (v : Reading) → Ends other fs u.outer u.done i v → ⊥) r
-      (λ p other m near none there fits v. none (seen_twin text p other true i m cut there near) v) h
+      stops_twin text i (NoTail i (ahead text true i) fs u) (λ other. IsCharBoundary other i → Fits other stage.After fs u i → (t : Forest) → Ends other fs u.outer u.done i (Tree t) → ⊥) r
+      (λ p other m near none there fits t. none (seen_twin text p other true i m cut there near) (Tree t)) h
 
   pub line_stops : IsBlock (top fs) → Stops text i (NoLine i (ahead text false i) fs u) r → StopsStep text stage.After fs u i r
   line_stops b h =
-      stops_twin text i (NoLine i (ahead text false i) fs u) (λ other. IsCharBoundary other i → Fits other stage.After fs u i → (v : Reading) → Ends other fs u.outer u.done i v → ⊥) r
-      (λ p other m near none there fits v. none (seen_twin text p other false i m cut there near) (fits.2 b) v) h
+      stops_twin text i (NoLine i (ahead text false i) fs u) (λ other. IsCharBoundary other i → Fits other stage.After fs u i → (t : Forest) → Ends other fs u.outer u.done i (Tree t) → ⊥) r
+      (λ p other m near none there fits t. none (seen_twin text p other false i m cut there near) (fits.2 b) (Tree t)) h
 
   pub entry_stops : Stops text i (NoEntry i (ahead text true i) fs u) r → StopsStep text stage.Entry fs u i r
   entry_stops h =
-      stops_twin text i (NoEntry i (ahead text true i) fs u) (λ other. IsCharBoundary other i → Fits other stage.Entry fs u i → (v : Reading) → Enters other fs u.outer u.done i v → ⊥) r
-      (λ p other m near none there fits v. none (seen_twin text p other true i m cut there near) v) h
+      stops_twin text i (NoEntry i (ahead text true i) fs u) (λ other. IsCharBoundary other i → Fits other stage.Entry fs u i → (t : Forest) → Enters other fs u.outer u.done i (Tree t) → ⊥) r
+      (λ p other m near none there fits t. none (seen_twin text p other true i m cut there near) t) h
 
   pub flow_value_stops : Stops text i (NoFlowValue i (ahead text true i) fs u) r → StopsStep text stage.Value fs u i r
   flow_value_stops h =
-      stops_twin text i (NoFlowValue i (ahead text true i) fs u) (λ other. IsCharBoundary other i → Fits other stage.Value fs u i → (v : Reading) → Awaits other fs u.outer u.done u.key i v → ⊥) r
-      (λ p other m near none there fits v. none (seen_twin text p other true i m cut there near) v) h
+      stops_twin text i (NoFlowValue i (ahead text true i) fs u) (λ other. IsCharBoundary other i → Fits other stage.Value fs u i → (t : Forest) → Awaits other fs u.outer u.done u.key i (Tree t) → ⊥) r
+      (λ p other m near none there fits t. none (seen_twin text p other true i m cut there near) t) h
 
   pub value_stops : (f : Form) → (ahead text false i).at ≤ template_limit → top fs ≡ f → IsBlock f → Stops text i (NoValue i (ahead text false i) f fs u) r → StopsStep text stage.Value fs u i r
   value_stops f small form block h =
-      stops_twin text i (NoValue i (ahead text false i) f fs u) (λ other. IsCharBoundary other i → Fits other stage.Value fs u i → (v : Reading) → Awaits other fs u.outer u.done u.key i v → ⊥) r
-      (λ p other m near none there fits v. none (record { small = small; boundary = there; seen = seen_twin text p other false i m cut there near; form = form; block = block; fits = fits }) v) h
+      stops_twin text i (NoValue i (ahead text false i) f fs u) (λ other. IsCharBoundary other i → Fits other stage.Value fs u i → (t : Forest) → Awaits other fs u.outer u.done u.key i (Tree t) → ⊥) r
+      (λ p other m near none there fits t. none (record { small = small; boundary = there; seen = seen_twin text p other false i m cut there near; form = form; block = block; fits = fits }) t) h
+
+-- ---- dots behind which a stray carriage return stands
+
+past_within : (text : List ℕ) (p q : ℕ) → IsPast text p q → p ≤ q
+past_within text p q (inl l) = omega (arith, l)
+past_within text p q (inr (e, h)) = omega (arith, e)
+
+pub dots_stops : (text : List ℕ) (fs : List Form) (u : Unfinished) (i : ℕ) (a after : Ahead) (q : ℕ) → a ≡ ahead text false i → IsCharBoundary text i → after ≡ ahead text false a.behind → IsCharBoundary text a.behind → a.token ≡ Dots → IsBlock (top fs) → Open fs u → Inside text i → q ≡ told_place text after
+    → Stops text i (NoLine i (ahead text false i) fs u) (Err (stop.Unread q))
+dots_stops text fs u i a after q ea ci eb cb d block open_ inside eq = by_told (subst (IsTold text false a.behind) (sym (eq ∙ ap (told_place text) eb)) (told_shown text false a.behind)) where
+  from : (p : ℕ) → p < length text → ahead_seen text a.behind ≤ p → ahead_seen text i ≤ p
+  from p l near = seen_mark text false i p (subst (λ (b : Ahead). is_marked b.token ≡ true) ea (ap is_marked d)) l (subst (λ n. ahead_seen text n ≤ p) (ap (λ (b : Ahead). b.behind) ea) near)
+
+  none : (p : ℕ) (other : List ℕ) → IsTwin text p other → ahead_seen text a.behind ≤ p → NoLine i (ahead text false i) fs u other
+  none p other m near = λ seen calm v h.
+      let here = twin_ahead text p other m false i ci.0 (from p (twin_within text p other m) near) in
+      let same : SameEnd text other i = record { here = here; further = λ t. subst (λ n. ahead other false n ≡ ahead text false n) (ap (λ (b : Ahead). b.behind) ea) (twin_ahead text p other m false a.behind cb.0 near) } in
+      nothing_follows other fs u i (ahead text false i) seen.0 ((λ e. inside.0 (end_here text other i same e)), sign_same text other i same ∙ inside.1)
+      (all_quiet other (ahead text false i) fs open_.1 block (ap (λ (b : Ahead). is_ending b.token) (sym ea) ∙ ap is_ending d)) v h
+
+  by_told : IsTold text false a.behind q → Stops text i (NoLine i (ahead text false i) fs u) (Err (stop.Unread q))
+  by_told (inl k) = inl k
+  by_told (inr (n, l, (p, past, near))) = let o = past_within text p q past in inr (l, (p, past, from p (omega (arith, o, l)) near, (λ other m. none p other m near)))
+
+-- ---- an item of a list is a node that is awaited
+
+pub item_follows : (text : List ℕ) (fs : List Form) (u : Unfinished) (at : ℕ) (next : Ahead) → next ≡ ahead text true at → top fs ≡ Flow false → Open fs u → (next.token ≡ Closes false → ⊥) → is_marked next.token ≡ false → u.key ≡ None
+    → (v : Reading) → Enters text fs u.outer u.done at v → Awaits text fs u.outer u.done u.key at v
+item_follows text fs u at next e f open_ shut un n v =
+    subst (λ k. Enters text fs u.outer u.done at v → Awaits text fs u.outer u.done k at v) (sym n)
+    (flow_inside (λ hs xs. Enters text hs xs u.done at v → Awaits text hs xs u.done None at v) false fs u.outer f open_.0
+    (λ hs x xs h. enters_item text false hs x xs u.done at v refl (λ z. shut (ap (λ (a : Ahead). a.token) e ∙ z)) (subst (λ (a : Ahead). is_marked a.token ≡ false) e un) h))

@@ -6,4 +6,5 @@ pub mod Places
 pub mod Refused
 pub mod Rest
 pub mod Steps
+pub mod StopPlaces
 pub mod Twins

@@ -92,7 +92,7 @@ fn is_name(byte: u8) -> bool
 }
 
 /// How many letters and digits stand at a place.
-fn name_len(bytes: &[u8], start: usize) -> usize
+pub(crate) fn name_len(bytes: &[u8], start: usize) -> usize
     requires { start ≤ length bytes.now }
     ensures count { result ≡ lead is_name (line_at (drop start bytes.now)) }
     ensures within { start + result ≤ length bytes.now }

@@ -18,9 +18,9 @@ use crate::flow::open;
 use crate::form::Form;
 use crate::node::{
     Key, as_key, begin, begin_tag, colon_behind, find_key, find_scalar, innermost, offset,
-    take_null, take_scalar,
+    starts_scalar, take_null, take_scalar,
 };
-use crate::place::told_place;
+use crate::place::{colon_place, told_place};
 use crate::sign::{end_sign, is_tagged, node_sign};
 use crate::stage::{Position, Stage};
 use crate::stop::Stop;
@@ -328,7 +328,7 @@ fn missing(
     ensures stops { Stops text.now at (NoValue at next form (stack forms.now) builder.old) result }
 {
     match form {
-        Form::Root => Err(Stop::Unread(offset(text.len()))),
+        Form::Root => Err(Stop::Unread(told_place(text, next))),
         _ => take_null(at, at, builder),
     }
 }
@@ -375,7 +375,7 @@ fn tag_again(
     if is_entry_column(innermost(forms), next) {
         return Err(Stop::Tag(offset(next.at)));
     }
-    Err(Stop::Unread(offset(text.len())))
+    Err(Stop::Unread(told_place(text, next)))
 }
 
 /// A tag where none begins a node.
@@ -577,6 +577,9 @@ fn entry<'s>(
         Some(refusal) => return Err(refusal),
         None => {}
     }
+    if !starts_scalar(next.token) {
+        return Err(Stop::Unread(told_place(text, next)));
+    }
     let scalar = match find_scalar(alloc, text, next, as_key(false)) {
         Ok(scalar) => scalar,
         Err(refusal) => return Err(refusal),
@@ -595,7 +598,7 @@ fn entry<'s>(
             stage: Stage::Value,
             at: behind,
         }),
-        None => Err(Stop::Unread(offset(text.len()))),
+        None => Err(Stop::Unread(colon_place(text, end))),
     }
 }
 
@@ -730,7 +733,11 @@ pub(crate) fn after<'s>(
         return end_all(at, forms, builder);
     }
     match end_sign(text, at, next) {
-        Some(refusal) => Err(refusal),
-        None => line(alloc, text, at, next, forms, builder),
+        Some(refusal) => return Err(refusal),
+        None => {}
+    }
+    match next.token {
+        Token::Dots => Err(Stop::Unread(told_place(text, look(text, false, next.behind)))),
+        _ => line(alloc, text, at, next, forms, builder),
     }
 }

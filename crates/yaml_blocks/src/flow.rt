@@ -14,7 +14,7 @@ ghost use Rattle.yaml_blocks.specs.code.Steps.{stack, IsSeen, SameFlowNode, Same
 use crate::ahead::{Ahead, Token, look};
 use crate::form::Form;
 use crate::node::{
-    as_key, begin, begin_tag, find_scalar, innermost, offset, take_null, take_scalar,
+    as_key, begin, begin_tag, find_scalar, innermost, offset, starts_scalar, take_null, take_scalar,
 };
 use crate::place::told_place;
 use crate::sign::{is_marked, is_tagged, node_sign};
@@ -135,7 +135,12 @@ fn node<'s>(
     match next.token {
         Token::Opens { map } => open(map, next, forms, builder),
         Token::Tag { len } => tag(alloc, text, at, form, len, next, forms, builder),
-        _ => take_scalar(alloc, text, at, form, next, builder),
+        _ => {
+            if !starts_scalar(next.token) {
+                return Err(Stop::Unread(told_place(text, next)));
+            }
+            take_scalar(alloc, text, at, form, next, builder)
+        }
     }
 }
 
@@ -223,6 +228,9 @@ fn key<'s>(
         Some(refusal) => return Err(refusal),
         None => {}
     }
+    if !starts_scalar(next.token) {
+        return Err(Stop::Unread(told_place(text, next)));
+    }
     let scalar = match find_scalar(alloc, text, next, as_key(true)) {
         Ok(scalar) => scalar,
         Err(refusal) => return Err(refusal),
@@ -241,7 +249,7 @@ fn key<'s>(
             stage: Stage::Value,
             at: place,
         }),
-        None => Err(Stop::Unread(offset(text.len()))),
+        None => Err(Stop::Unread(told_place(text, look(text, true, end)))),
     }
 }
 

@@ -10,9 +10,11 @@ ghost use Rattle.yaml_blocks.specs.Ahead.{ahead};
 ghost use Rattle.yaml_blocks.specs.Nodes.{below, tag_name, tag_key, get_att, follows_get_att, is_dot, is_cut, ref_text, condition_text, setting_of, as_key, starts_scalar};
 ghost use Rattle.yaml_blocks.specs.code.Steps.{stack, has_keys, IsSmall, IsBehind, Finds, FindsKey, leaf_text, Paired, Holds, Begun, TagBegun, Completes};
 ghost use Rattle.yaml_blocks.specs.code.Rest.{top};
+ghost use Rattle.yaml_blocks.specs.code.Twins.{FailedAt};
 
 use crate::ahead::{Ahead, Token, look};
 use crate::form::Form;
+use crate::place::refused_place;
 use crate::stage::{Position, Stage};
 use crate::stop::{Stop, of_scalar};
 use doc_values::{DocBuilder, Kind};
@@ -158,7 +160,7 @@ pub(crate) fn offset(i: usize) -> u32
 }
 
 /// Whether a scalar may begin where this token is seen.
-fn starts_scalar(token: Token) -> bool
+pub(crate) fn starts_scalar(token: Token) -> bool
     ensures { result ≡ starts_scalar token }
 {
     match token {
@@ -177,20 +179,18 @@ pub(crate) fn find_scalar<'s>(
 ) -> Result<Scalar<'s>, Stop>
     requires small { length text.now ≤ template_limit }
     requires boundary { IsCharBoundary text.now next.at }
+    requires starts { starts_scalar next.token ≡ true }
     requires low { negsuc 0 ≤ℤ setting.parent }
     requires high { setting.parent ≤ℤ pos template_limit }
     ensures finds { Finds text.now setting next result }
-    ensures place { (q : ℕ) → result ≡ Err (Stop.Unread q) → q ≡ length text.now }
+    ensures place { (q : ℕ) → result ≡ Err (Stop.Unread q) → FailedAt text.now setting next q }
 {
-    if !starts_scalar(next.token) {
-        return Err(Stop::Unread(offset(text.len())));
-    }
     if next.at == text.len() {
         return Err(Stop::Unread(offset(text.len())));
     }
     match read_scalar(alloc, text, next.at, setting) {
         Ok(scalar) => Ok(scalar),
-        Err(refusal) => Err(of_scalar(refusal, offset(text.len()))),
+        Err(refusal) => Err(of_scalar(refusal, refused_place(text, next, refusal))),
     }
 }
 
@@ -295,11 +295,12 @@ fn take_cut<'s>(
 ) -> Result<Position, Stop>
     requires small { length text.now ≤ template_limit }
     requires boundary { IsCharBoundary text.now next.at }
+    requires starts { starts_scalar next.token ≡ true }
     requires low { negsuc 0 ≤ℤ setting.parent }
     requires high { setting.parent ≤ℤ pos template_limit }
     requires awaited { AwaitsValue builder.old }
     ensures holds { Holds text.now setting cuts next builder.old builder.new result }
-    ensures place { (q : ℕ) → result ≡ Err (Stop.Unread q) → q ≡ length text.now }
+    ensures place { (q : ℕ) → result ≡ Err (Stop.Unread q) → FailedAt text.now setting next q }
 {
     let scalar = match find_scalar(alloc, text, next, setting) {
         Ok(scalar) => scalar,
@@ -337,11 +338,12 @@ pub(crate) fn take_scalar<'s>(
     requires small { length text.now ≤ template_limit }
     requires within { at ≤ length text.now }
     requires boundary { IsCharBoundary text.now next.at }
+    requires starts { starts_scalar next.token ≡ true }
     requires form { IsSmall form }
     requires behind { IsBehind form at }
     requires awaited { AwaitsValue builder.old }
     ensures holds { Holds text.now (setting_of form) (follows_get_att text.now form at) next builder.old builder.new result }
-    ensures place { (q : ℕ) → result ≡ Err (Stop.Unread q) → q ≡ length text.now }
+    ensures place { (q : ℕ) → result ≡ Err (Stop.Unread q) → FailedAt text.now (setting_of form) next q }
 {
     let cuts = follows_get_att(text.as_bytes(), form, at);
     take_cut(alloc, text, next, setting_of(form), cuts, builder)
@@ -386,6 +388,7 @@ pub(crate) fn find_key<'s>(
 ) -> Result<Option<Key<'s>>, Stop>
     requires small { length text.now ≤ template_limit }
     requires boundary { IsCharBoundary text.now next.at }
+    requires starts { starts_scalar next.token ≡ true }
     ensures { FindsKey text.now next result }
 {
     let scalar = match find_scalar(alloc, text, next, as_key(false)) {

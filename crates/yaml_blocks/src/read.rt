@@ -13,7 +13,7 @@ ghost use Rattle.yaml_blocks.specs.code.Twins.{FixesStart};
 ghost use Rattle.yaml_blocks.specs.Yaml.{IsStart, start_sign, text_start};
 
 use crate::ahead::{Token, look};
-use crate::node::offset;
+use crate::place::told_place;
 use crate::refusal::YamlRefusal;
 use crate::sign::start_sign;
 use crate::stage::Stage;
@@ -108,10 +108,11 @@ fn document_start(text: &str) -> Result<usize, Stop>
     }
     match next.token {
         Token::Dashes => {
-            if look(text, false, next.behind).fresh {
+            let further = look(text, false, next.behind);
+            if further.fresh {
                 Ok(next.behind)
             } else {
-                Err(Stop::Unread(offset(text.len())))
+                Err(Stop::Unread(told_place(text, further)))
             }
         }
         _ => Ok(at),

@@ -35,13 +35,13 @@ impl From<BuildRefusal> for Stop {
     }
 }
 
-/// The same of a scalar, in a text of which the refusal of one that fails says the length.
-pub(crate) fn of_scalar(refusal: ScalarRefusal, size: u32) -> Stop
-    ensures { result ≡ of_scalar size refusal }
+/// The same of a scalar; of one that fails, with this place.
+pub(crate) fn of_scalar(refusal: ScalarRefusal, place: u32) -> Stop
+    ensures { result ≡ of_scalar place refusal }
 {
     match refusal {
         ScalarRefusal::NoMemory => Stop::NoMemory,
-        ScalarRefusal::Syntax(_) => Stop::Unread(size),
+        ScalarRefusal::Syntax(_) => Stop::Unread(place),
         ScalarRefusal::ManyDocuments(at) => Stop::ManyDocuments(at),
     }
 }

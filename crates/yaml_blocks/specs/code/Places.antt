@@ -1,7 +1,6 @@
 -- At which places a text shows that it is no document, said by what documents begin with.
-use Rattle.std.specs.Prelude.{ℕ, ◌≡◌, ◌≤◌, ◌⊎◌, false, List, [], ◌∷◌, ◌++◌, length, IsUtf8}
+use Rattle.std.specs.Prelude.{ℕ, ◌≡◌, ◌⊎◌, List, [], ◌∷◌, ◌++◌, length, IsUtf8}
 use Rattle.doc_values.specs.Tree.{Forest}
-use Rattle.yaml_scalars.specs.Lines.{begins_with}
 use Rattle.yaml_blocks.specs.declared.stop.Stop.{Stop}
 use Rattle.yaml_blocks.specs.declared.stop.Stop.TheVariants as stop
 use Rattle.yaml_blocks.specs.Yaml.{IsYaml}
@@ -22,11 +21,7 @@ IsShort text at = (at ≡ length text) × IsFront text
 abbrev pub IsSyntax : List ℕ → ℕ → Type 0
 IsSyntax text at = IsDead text at ⊎ IsShort text at
 
--- a byte order mark stands in front of all texts that are the same as far as a place, or of none
-abbrev pub IsPastMark : List ℕ → ℕ → Type 0
-IsPastMark text at = (2 ≤ at) ⊎ (begins_with 239 text ≡ false)
-
 -- where reading stops and no sign counts: so far, the place is the text's length or dead
 abbrev pub StopsAt : List ℕ → Stop → Type 0
-StopsAt text (stop.Unread at) = (at ≡ length text) ⊎ (IsPastMark text at → IsDead text at)
+StopsAt text (stop.Unread at) = (at ≡ length text) ⊎ IsDead text at
 StopsAt text _ = Unit {0}

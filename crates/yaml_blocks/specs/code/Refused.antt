@@ -17,9 +17,9 @@ of_build (build.TooDeep at) = TooDeep at
 of_build (build.DuplicateKey at) = DuplicateKey at
 
 abbrev pub of_scalar : ℕ → ScalarRefusal → Stop
-of_scalar size scalar.NoMemory = NoMemory
-of_scalar size (scalar.Syntax at) = Unread size
-of_scalar size (scalar.ManyDocuments at) = ManyDocuments at
+of_scalar place scalar.NoMemory = NoMemory
+of_scalar place (scalar.Syntax at) = Unread place
+of_scalar place (scalar.ManyDocuments at) = ManyDocuments at
 
 abbrev pub of_sign : Sign → Stop
 of_sign (sign.Tab at) = Tab at

@@ -3,7 +3,8 @@ use Rattle.std.specs.Prelude.{ℕ, ◌≡◌, ◌≤◌, ◌<◌, ◌⊎◌, len
 use Rattle.std.specs.Str.{IsCharBoundary}
 use Rattle.doc_values.specs.Tree.{Forest}
 use Rattle.doc_values.specs.Unfinished.{Unfinished}
-use Rattle.yaml_scalars.specs.Lines.{begins_with}
+use Rattle.yaml_scalars.specs.declared.scalar.Setting.{Setting}
+use Rattle.yaml_scalars.specs.Lines.{begins_with, Fails}
 use Rattle.yaml_scalars.specs.Scalar.{begins_order_mark}
 use Rattle.yaml_scalars.specs.code.Walk.{ends_line}
 use Rattle.yaml_laws.specs.code.Agreement.{AgreesTo}
@@ -15,9 +16,11 @@ use Rattle.yaml_blocks.specs.declared.stage.Stage.TheVariants as stage
 use Rattle.yaml_blocks.specs.declared.stage.Position.{Position}
 use Rattle.yaml_blocks.specs.declared.stop.Stop.{Stop}
 use Rattle.yaml_blocks.specs.declared.stop.Stop.TheVariants as stop
+use Rattle.yaml_blocks.specs.Nodes.{scalar_ahead}
 use Rattle.yaml_blocks.specs.Signs.{Reading, Tree}
 use Rattle.yaml_blocks.specs.Yaml.{IsStart}
 use Rattle.yaml_blocks.specs.code.AheadSeen.{ahead_seen}
+use Rattle.yaml_blocks.specs.code.StopPlaces.{failed_place}
 use Rattle.yaml_blocks.specs.code.Rest.{Begins, Ends, Enters, Awaits}
 use Rattle.yaml_blocks.specs.code.Steps.{IsSeen, IsCalm, Awaited, Rest, Fits, SameNode, SameFlowNode, SameFlowKey, SameKey, SameEnd, SameStep}
 
@@ -45,7 +48,7 @@ Stops text i none (Err (stop.Unread q)) = (q ≡ length text) ⊎ IsShown text i
 Stops text i none (Err _) = Unit {0}
 
 -- what is so there: where the same is ahead, nothing follows a complete node between brackets, or outside of them; nor does a
--- value follow there, or an entry
+-- value follow there, or an entry, with which the text is a document
 abbrev pub NoTail : ℕ → Ahead → List Form → Unfinished → List ℕ → Type 0
 NoTail i a fs u other = IsSeen other true i a → (v : Reading) → Ends other fs u.outer u.done i v → ⊥
 
@@ -53,17 +56,17 @@ abbrev pub NoLine : ℕ → Ahead → List Form → Unfinished → List ℕ → 
 NoLine i a fs u other = IsSeen other false i a → IsCalm other u i → (v : Reading) → Ends other fs u.outer u.done i v → ⊥
 
 abbrev pub NoFlowValue : ℕ → Ahead → List Form → Unfinished → List ℕ → Type 0
-NoFlowValue i a fs u other = IsSeen other true i a → (v : Reading) → Awaits other fs u.outer u.done u.key i v → ⊥
+NoFlowValue i a fs u other = IsSeen other true i a → (t : Forest) → Awaits other fs u.outer u.done u.key i (Tree t) → ⊥
 
 abbrev pub NoValue : ℕ → Ahead → Form → List Form → Unfinished → List ℕ → Type 0
-NoValue i a f fs u other = Awaited other fs u f i a → (v : Reading) → Awaits other fs u.outer u.done u.key i v → ⊥
+NoValue i a f fs u other = Awaited other fs u f i a → (t : Forest) → Awaits other fs u.outer u.done u.key i (Tree t) → ⊥
 
 abbrev pub NoEntry : ℕ → Ahead → List Form → Unfinished → List ℕ → Type 0
-NoEntry i a fs u other = IsSeen other true i a → (v : Reading) → Enters other fs u.outer u.done i v → ⊥
+NoEntry i a fs u other = IsSeen other true i a → (t : Forest) → Enters other fs u.outer u.done i (Tree t) → ⊥
 
 -- where reading stands at a stage
 abbrev pub StopsStep : List ℕ → Stage → List Form → Unfinished → ℕ → Result Position Stop → Type 0
-StopsStep text s fs u i r = Stops text i (λ other. IsCharBoundary other i → Fits other s fs u i → (v : Reading) → Rest other s fs u i v → ⊥) r
+StopsStep text s fs u i r = Stops text i (λ other. IsCharBoundary other i → Fits other s fs u i → (t : Forest) → Rest other s fs u i (Tree t) → ⊥) r
 
 -- where reading goes on at a place: what holds of each text that is the same as far as this place is looked at
 abbrev pub Fixes : List ℕ → (ℕ → List ℕ → Type 0) → Result Position Stop → Type 0
@@ -92,9 +95,13 @@ FixesSeen text i r = Fixes text (λ place other. ahead_seen text i ≤ place) r
 abbrev pub FixesStep : List ℕ → Stage → Form → ℕ → Result Position Stop → Type 0
 FixesStep text s f i r = Fixes text (λ place other. (ahead_seen text i ≤ place) × SameStep text other s f i) r
 
--- where a document is one, something may follow
+-- where there is a tree, something may follow that is one, and the other way
+abbrev pub Matches : List ℕ → (Forest → Type 0) → Stage → List Form → Unfinished → ℕ → Type 0
+Matches other P s fs w i = ((t : Forest) → P t → (g : Forest) × Rest other s fs w i (Tree g)) × ((g : Forest) → Rest other s fs w i (Tree g) → (t : Forest) × P t)
+
+-- so at a position that it can come to
 abbrev pub Alive : List ℕ → (Forest → Type 0) → List Form → Unfinished → Position → Type 0
-Alive other P fs w p = ((t : Forest) → P t → (g : Forest) × Rest other p.stage fs w p.at (Tree g)) × Fits other p.stage fs w p.at × IsCharBoundary other p.at
+Alive other P fs w p = Matches other P p.stage fs w p.at × Fits other p.stage fs w p.at × IsCharBoundary other p.at
 
 -- the document begins at a place
 abbrev pub FixesStart : List ℕ → ℕ → Type 0
@@ -104,3 +111,7 @@ FixesStart text start = (place : ℕ) (other : List ℕ) → IsTwin text place o
 abbrev pub FixesRoot : List ℕ → ℕ → Unfinished → Result Position Stop → Type 0
 FixesRoot text i w (Ok p) = (place : ℕ) (other : List ℕ) → IsTwin text place other → ahead_seen text p.at ≤ place → (ahead_seen text i ≤ place) × (IsCharBoundary other i → Alive other (λ t. Begins other i (Tree t)) [] w p)
 FixesRoot text i w (Err e) = Unit {0}
+
+-- no scalar stands at a token, and this is the place: the text's length, or that where one fails
+abbrev pub FailedAt : List ℕ → Setting → Ahead → ℕ → Type 0
+FailedAt text s a q = (q ≡ length text) ⊎ ((r : ℕ) × (a.at < length text) × (scalar_ahead text s a ≡ Fails r) × (q ≡ failed_place text a r))

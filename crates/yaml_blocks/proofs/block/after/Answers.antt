@@ -7,8 +7,10 @@ use Rattle.yaml_blocks.specs.Signs.{Tree}
 use Rattle.yaml_blocks.specs.Yaml.{end_sign}
 use Rattle.yaml_blocks.specs.code.Rest.{Ends}
 use Rattle.yaml_blocks.proofs.Continuations.{block_ends}
-use Rattle.yaml_blocks.proofs.Stopped.{signed_stops, living_stops}
-use Rattle.yaml_blocks.proofs.BlockGains.{signed_gives, no_sign_inside}
+use Rattle.yaml_blocks.proofs.Stopped.{signed_stops, living_stops, dots_stops}
+use Rattle.yaml_blocks.proofs.BlockGains.{signed_gives, no_sign_inside, nothing_follows, all_quiet}
+use Rattle.yaml_blocks.proofs.Gains.{seen_behind}
+use Rattle.yaml_blocks.specs.code.Steps.{is_ending}
 use Rattle.yaml_blocks.proofs.SameTexts.{sign_same, end_there, end_here}
 use Rattle.yaml_blocks.proofs.Fixed.{whole_fixes}
 use Rattle.yaml_blocks.specs.code.Twins.{Stops, NoLine, FixesEnd}
@@ -21,8 +23,8 @@ returns-in-Some-clause-gives c = λ text same seen cut calm key.
     signed_gives text (2 * c.args.at + 2) fs fs c.args.builder.now c.args.builder.now c.args.at c.in-Some.refusal c.requires.block c.requires.open
     (c.in-Some.ensures ∙ sym (ap (option_map of_sign) (sign_same c.args.text.now text c.args.at same)))
 
-pub returns-in-None-clause-gives : goal.returns-in-None-clause-gives
-returns-in-None-clause-gives c = λ text same seen cut calm key.
+pub returns-in_default-clause-gives : goal.returns-in_default-clause-gives
+returns-in_default-clause-gives c = λ text same seen cut calm key.
     let this = c.args.text.now in
     c.line.ensures.gives text (subst (λ (a : Ahead). IsSeen text false c.args.at a) (sym c.look-next.ensures.0) seen)
     (no_sign_inside text c.args.at (λ e. c.is_document_end.ensures.no c.if-is_document_end.false (end_here this text c.args.at same e)) (c.in-None.ensures ∙ sym (ap (option_map of_sign) (sign_same this text c.args.at same)))) calm
@@ -31,8 +33,8 @@ returns-in-None-clause-gives c = λ text same seen cut calm key.
 pub returns-then-is_document_end-clause-gives : goal.returns-then-is_document_end-clause-gives
 returns-then-is_document_end-clause-gives c = λ text same seen cut calm key. c.end_all.ensures.gives text (end_there c.args.text.now text c.args.at same (c.if-is_document_end.ensures.yes refl)) cut
 
-pub returns-in-None-clause-fixes : goal.returns-in-None-clause-fixes
-returns-in-None-clause-fixes c = subst (λ (a : Ahead). FixesEnd c.args.text.now c.args.at a c.line.result) c.look-next.ensures.0 c.line.ensures.fixes
+pub returns-in_default-clause-fixes : goal.returns-in_default-clause-fixes
+returns-in_default-clause-fixes c = subst (λ (a : Ahead). FixesEnd c.args.text.now c.args.at a c.line.result) c.look-next.ensures.0 c.line.ensures.fixes
 
 pub returns-then-is_document_end-clause-fixes : goal.returns-then-is_document_end-clause-fixes
 returns-then-is_document_end-clause-fixes c = whole_fixes c.args.text.now c.args.at (ahead c.args.text.now false c.args.at) c.end_all.result c.end_all.ensures.whole
@@ -41,8 +43,8 @@ pub returns-in-Some-clause-stops : goal.returns-in-Some-clause-stops
 returns-in-Some-clause-stops c =
     signed_stops c.args.text.now c.args.at (NoLine c.args.at (ahead c.args.text.now false c.args.at) (stack c.args.forms.now.items) c.args.builder.now) (end_sign c.args.text.now c.args.at) c.in-Some.refusal c.in-Some.ensures
 
-pub returns-in-None-clause-stops : goal.returns-in-None-clause-stops
-returns-in-None-clause-stops c =
+pub returns-in_default-clause-stops : goal.returns-in_default-clause-stops
+returns-in_default-clause-stops c =
     subst (λ (a : Ahead). Stops c.args.text.now c.args.at (NoLine c.args.at a (stack c.args.forms.now.items) c.args.builder.now) c.line.result) c.look-next.ensures.0 c.line.ensures.stops
 
 pub returns-then-is_document_end-clause-stops : goal.returns-then-is_document_end-clause-stops
@@ -55,3 +57,19 @@ returns-then-is_document_end-clause-stops c =
     let t = block_ends fs u.outer u.done this at end c.requires.block c.requires.open.0 c.requires.open.1 in
     living_stops this at (NoLine at (ahead this false at) fs u) (Ends this fs u.outer u.done at) (2 * at + 2) (stack c.end_all.new.forms.items) c.end_all.new.builder c.end_all.result (Tree t.0) t.1
     (c.end_all.ensures.gives this end c.requires.boundary)
+
+pub returns-in-Dots-clause-gives : goal.returns-in-Dots-clause-gives
+returns-in-Dots-clause-gives c = λ text same seen cut calm key.
+    let this = c.args.text.now in
+    let fs = stack c.args.forms.now.items in
+    let next = c.look-next.result in
+    nothing_follows text fs c.args.builder.now c.args.at next (c.look-next.ensures.0 ∙ seen.0)
+    (no_sign_inside text c.args.at (λ e. c.is_document_end.ensures.no c.if-is_document_end.false (end_here this text c.args.at same e)) (c.in-None.ensures ∙ sym (ap (option_map of_sign) (sign_same this text c.args.at same))))
+    (all_quiet text next fs c.requires.open.1 c.requires.block (ap is_ending c.in-Dots.is))
+
+pub returns-in-Dots-clause-stops : goal.returns-in-Dots-clause-stops
+returns-in-Dots-clause-stops c =
+    let this = c.args.text.now in
+    let next = c.look-next.result in
+    dots_stops this (stack c.args.forms.now.items) c.args.builder.now c.args.at next c.look.result c.told_place.result c.look-next.ensures.0 c.requires.boundary c.look.ensures.0 (seen_behind this false c.args.at next c.look-next.ensures) c.in-Dots.is c.requires.block c.requires.open
+    (no_sign_inside this c.args.at (c.is_document_end.ensures.no c.if-is_document_end.false) c.in-None.ensures) c.told_place.ensures

@@ -1,5 +1,5 @@
 use Rattle.std.proofs.lemmas.Grind.{common_steps}
-use Rattle.std.proofs.Common.{ap, ◌≡◌, ◌⊎◌, true, false, refl, sym, subst, arith, ◌+◌, ◌*◌}
+use Rattle.std.proofs.Common.{ap, inl, inr, ◌∙◌, ◌≡◌, ◌⊎◌, true, false, refl, sym, subst, arith, ◌+◌, ◌*◌}
 use Rattle.std.specs.Prelude.{Err}
 use Rattle.std.specs.Cow.{cow_str_bytes}
 use Rattle.doc_values.specs.declared.builder.BuildRefusal.TheVariants as build
@@ -15,7 +15,13 @@ use Rattle.yaml_blocks.proofs.Gains.{found_key}
 use Rattle.yaml_blocks.proofs.SameTexts.{found_same, finds_same, has_key_same}
 use Rattle.yaml_blocks.proofs.BlockGains.{Behind, nothing_follows, entry_deep, entry_signed_gives, entry_missed, entry_goes, entry_refused, no_colon}
 use Rattle.yaml_blocks.proofs.Fixed.{entry_fixes}
-use Rattle.yaml_blocks.proofs.Stopped.{told_stops, told_inside_at, signed_stops, built_stops, far_stops, length_stops}
+use Rattle.yaml_blocks.proofs.Stopped.{told_stops, told_inside, signed_stops, built_stops}
+use Rattle.yaml_blocks.proofs.StoppedScalars.{key_stops, missed_failed}
+use Rattle.yaml_blocks.proofs.Quiet.{inside_at, word_inside}
+use Rattle.yaml_blocks.specs.code.Steps.{is_ending}
+use Rattle.yaml_blocks.proofs.StoppedKeys.{no_line_colon_stops}
+use Rattle.yaml_blocks.proofs.Scalars.{failed_other}
+use Rattle.yaml_blocks.specs.declared.stop.Stop.TheVariants.{Unread}
 use Rattle.yaml_blocks.specs.Nodes.{node_sign}
 use Rattle.yaml_blocks.specs.code.Twins.{NoLine}
 use Rattle.yaml_blocks.proofs.block.entry.Goals as goal
@@ -96,16 +102,49 @@ returns-then-next-column-clause-stops c =
     let at = c.args.at in
     let next = c.args.next in
     told_stops c.args.text.now at (NoLine at next fs u) false next c.told_place.result c.requires.seen.0 c.told_place.ensures
-    (λ text told seen calm v h. nothing_follows text fs u at next seen.0 (told_inside_at text at next seen.0 told) (entry_deep text fs c.args.column next c.requires.open.1 c.requires.form c.requires.stays c.if-next-column.true) v h)
+    (λ text told seen calm v h. nothing_follows text fs u at next seen.0 (told_inside text at next seen.0 told) (entry_deep text fs c.args.column next c.requires.open.1 c.requires.form c.requires.stays c.if-next-column.true) v h)
 
 pub returns-in-Some-clause-stops : goal.returns-in-Some-clause-stops
 returns-in-Some-clause-stops c = signed_stops c.args.text.now c.args.at (NoLine c.args.at c.args.next (stack c.args.forms.now) c.args.builder.now) (node_sign false c.args.next.at c.args.next.token) c.in-Some.refusal c.in-Some.ensures
 
 pub returns-in-Err-clause-stops : goal.returns-in-Err-clause-stops
-returns-in-Err-clause-stops c = far_stops c.args.text.now c.args.at (NoLine c.args.at c.args.next (stack c.args.forms.now) c.args.builder.now) c.in-Err.refusal (λ q e. c.in-Err.ensures.place q (ap Err e))
+returns-in-Err-clause-stops c =
+    let u = c.args.builder.now in
+    let at = c.args.at in
+    let next = c.args.next in
+    let starts = sym c.starts_scalar.ensures ∙ c.if-not-starts_scalar.false in
+    key_stops c.args.text.now false at next (NoLine c.args.at c.args.next (stack c.args.forms.now) c.args.builder.now) c.requires.seen.0 starts
+    (λ other none seen calm v h. entry_missed other c.args.column (stack c.args.forms.now) u u at next (as_key false) (Unread 0) refl seen.0 (inside_at other at (ap (λ (a : Ahead). is_ending a.token) (sym seen.0) ∙ word_inside next.token starts)) c.requires.form c.requires.open
+    c.if-next-column.false calm c.in-None.ensures (inr (inl ((0, refl), missed_failed other false next none))) v h) c.as_key.result c.in-Err.refusal c.as_key.ensures (λ q e. c.in-Err.ensures.place q (ap Err e))
 
 pub returns-in-Err-key-clause-stops : goal.returns-in-Err-key-clause-stops
 returns-in-Err-key-clause-stops c = built_stops c.args.text.now c.args.at (NoLine c.args.at c.args.next (stack c.args.forms.now) c.args.builder.now) c.in-Err-key.refusal c.from.result c.from.ensures
 
 pub returns-in-None-colon_behind-clause-stops : goal.returns-in-None-colon_behind-clause-stops
-returns-in-None-colon_behind-clause-stops c = length_stops c.args.text.now c.args.at (NoLine c.args.at c.args.next (stack c.args.forms.now) c.args.builder.now) c.offset-in-None-colon_behind.result c.offset-in-None-colon_behind.ensures
+returns-in-None-colon_behind-clause-stops c =
+    let this = c.args.text.now in
+    let words = cow_str_bytes c.in-Ok.scalar.text in
+    let end = c.in-Ok.scalar.end in
+    let g = found_key this c.as_key.result (as_key false) c.args.next words c.in-Ok.scalar.kind end c.as_key.ensures c.in-Ok.ensures.finds in
+    no_line_colon_stops this (stack c.args.forms.now) c.args.builder.now c.args.at c.args.next c.args.column words end c.colon_place.result c.requires.seen c.requires.boundary c.requires.form c.requires.open c.if-next-column.false g.0 g.2 g.3 c.in-Ok-key.ensures.ok.1 c.in-None-colon_behind.ensures c.colon_place.ensures
+
+pub returns-then-not-starts_scalar-clause-gives : goal.returns-then-not-starts_scalar-clause-gives
+returns-then-not-starts_scalar-clause-gives c = λ text seen inside calm same.
+    let u = c.args.builder.now in
+    entry_missed text c.args.column (stack c.args.forms.now) u u c.args.at c.args.next (as_key false) (Unread c.told_place-then-not-starts_scalar.result) refl seen.0 inside c.requires.form c.requires.open
+    c.if-next-column.false calm c.in-None.ensures (inr (inl ((c.told_place-then-not-starts_scalar.result, refl), failed_other text (as_key false) c.args.next (sym c.starts_scalar.ensures ∙ c.if-not-starts_scalar.true))))
+
+pub returns-then-not-starts_scalar-clause-stops : goal.returns-then-not-starts_scalar-clause-stops
+returns-then-not-starts_scalar-clause-stops c =
+    let u = c.args.builder.now in
+    let at = c.args.at in
+    let next = c.args.next in
+    told_stops c.args.text.now at (NoLine c.args.at c.args.next (stack c.args.forms.now) c.args.builder.now) false next c.told_place-then-not-starts_scalar.result c.requires.seen.0 c.told_place-then-not-starts_scalar.ensures
+    (λ text told seen calm v h. entry_missed text c.args.column (stack c.args.forms.now) u u at next (as_key false) (Unread c.told_place-then-not-starts_scalar.result) refl seen.0 (told_inside text at next seen.0 told) c.requires.form c.requires.open
+    c.if-next-column.false calm c.in-None.ensures (inr (inl ((c.told_place-then-not-starts_scalar.result, refl), failed_other text (as_key false) next (sym c.starts_scalar.ensures ∙ c.if-not-starts_scalar.true)))) v h)
+
+pub find_scalar-requires-clause-starts : goal.find_scalar-requires-clause-starts
+find_scalar-requires-clause-starts c = sym c.starts_scalar.ensures ∙ c.if-not-starts_scalar.false
+
+pub colon_place-requires-clause-boundary : goal.colon_place-requires-clause-boundary
+colon_place-requires-clause-boundary c = grind (arith, common_steps)

@@ -1,6 +1,6 @@
 use Rattle.yaml_blocks.specs.code.Steps.{stack}
 use Rattle.yaml_blocks.proofs.BlockGains.{root_none}
-use Rattle.yaml_blocks.proofs.Stopped.{told_stops, told_inside_at}
+use Rattle.yaml_blocks.proofs.Stopped.{told_stops, told_inside}
 use Rattle.yaml_blocks.specs.code.Twins.{NoLine}
 use Rattle.std.specs.Prelude.{false}
 use Rattle.yaml_blocks.proofs.block.head.Goals as goal
@@ -24,7 +24,7 @@ returns-in-Root-clause-stops c =
     let at = c.args.at in
     let next = c.args.next in
     told_stops c.args.text.now at (NoLine at next fs u) false next c.told_place.result c.requires.seen.0 c.told_place.ensures
-    (λ text told seen calm v h. root_none text fs u at c.args.form c.requires.form c.in-Root.is c.requires.open (told_inside_at text at next seen.0 told) v h)
+    (λ text told seen calm v h. root_none text fs u at c.args.form c.requires.form c.in-Root.is c.requires.open (told_inside text at next seen.0 told) v h)
 
 pub returns-in-Items-clause-stops : goal.returns-in-Items-clause-stops
 returns-in-Items-clause-stops c = c.item.ensures.stops

@@ -3,7 +3,7 @@ use Rattle.yaml_blocks.specs.declared.stage.Stage.TheVariants as stage
 use Rattle.yaml_blocks.specs.code.Steps.{stack}
 use Rattle.yaml_blocks.proofs.BlockGains.{nothing_follows, item_deep, item_stays, item_goes}
 use Rattle.yaml_blocks.proofs.Fixed.{item_fixes}
-use Rattle.yaml_blocks.proofs.Stopped.{told_stops, told_inside_at}
+use Rattle.yaml_blocks.proofs.Stopped.{told_stops, told_inside}
 use Rattle.yaml_blocks.specs.code.Twins.{NoLine}
 use Rattle.yaml_blocks.proofs.block.item.Goals as goal
 
@@ -33,7 +33,7 @@ returns-then-next-column-clause-stops c =
     let at = c.args.at in
     let next = c.args.next in
     told_stops c.args.text.now at (NoLine at next fs u) false next c.told_place.result c.requires.seen.0 c.told_place.ensures
-    (λ text told seen calm v h. nothing_follows text fs u at next seen.0 (told_inside_at text at next seen.0 told) (item_deep text fs c.args.column next c.requires.open.1 c.requires.form c.requires.stays c.if-next-column.true) v h)
+    (λ text told seen calm v h. nothing_follows text fs u at next seen.0 (told_inside text at next seen.0 told) (item_deep text fs c.args.column next c.requires.open.1 c.requires.form c.requires.stays c.if-next-column.true) v h)
 
 pub returns-in_default-clause-stops : goal.returns-in_default-clause-stops
 returns-in_default-clause-stops c = absurd (item_stays c.args.column c.args.next c.requires.stays c.if-next-column.false c.in_default.not-Dash)

@@ -8,7 +8,7 @@ use Rattle.yaml_blocks.proofs.LastValues.{lasts_calm}
 use Rattle.yaml_blocks.proofs.Quiet.{line_quiet}
 use Rattle.yaml_blocks.proofs.Roots.{not_true}
 use Rattle.yaml_blocks.proofs.BlockGains.{nothing_follows}
-use Rattle.yaml_blocks.proofs.Stopped.{told_stops, told_inside_at, memory_stops, stops_from}
+use Rattle.yaml_blocks.proofs.Stopped.{told_stops, told_inside, memory_stops, stops_from}
 use Rattle.yaml_blocks.specs.code.Twins.{Stops, NoLine}
 use Rattle.yaml_blocks.proofs.block.line.Goals as goal
 
@@ -43,7 +43,7 @@ returns-then-not-next-clause-stops c =
     let at = c.args.at in
     let next = c.args.next in
     told_stops c.args.text.now at (NoLine at next fs u) false next c.told_place.result c.requires.seen.0 c.told_place.ensures
-    (λ text told seen calm v h. nothing_follows text fs u at next seen.0 (told_inside_at text at next seen.0 told) (line_quiet text next fs c.requires.open.1 c.requires.block (not_true next.fresh c.if-not-next.true)) v h)
+    (λ text told seen calm v h. nothing_follows text fs u at next seen.0 (told_inside text at next seen.0 told) (line_quiet text next fs c.requires.open.1 c.requires.block (not_true next.fresh c.if-not-next.true)) v h)
 
 pub returns-in-Err-clause-stops : goal.returns-in-Err-clause-stops
 returns-in-Err-clause-stops c = memory_stops c.args.text.now c.args.at (NoLine c.args.at c.args.next (stack c.args.forms.now.items) c.args.builder.now) c.in-Err.refusal (c.in-Err.ensures c.args.text.now c.args.at c.requires.seen.0)

@@ -1,5 +1,5 @@
 use Rattle.doc_values.specs.declared.kind.Kind.TheVariants as kind
-use Rattle.std.proofs.Common.{arith, []}
+use Rattle.std.proofs.Common.{arith, [], false}
 use Rattle.std.proofs.lemmas.Grind.{common_steps}
 use Rattle.yaml_blocks.specs.code.Steps.{stack}
 use Rattle.yaml_blocks.proofs.BlockGains.{missing_gives, no_root, spot_of}
@@ -7,7 +7,9 @@ use Rattle.yaml_blocks.proofs.Fixed.{missing_fixes}
 use Rattle.yaml_blocks.proofs.AwaitedNodes.{place_behind}
 use Rattle.doc_values.specs.Unfinished.{with_value}
 use Rattle.yaml_blocks.specs.code.Twins.{NoValue}
-use Rattle.yaml_blocks.proofs.Stopped.{length_stops, completed_stops}
+use Rattle.yaml_blocks.proofs.Stopped.{told_stops, completed_stops}
+use Rattle.yaml_blocks.specs.Signs.{Tree}
+use Rattle.yaml_blocks.proofs.AwaitedNodes.{seen_place}
 use Rattle.yaml_blocks.proofs.block.missing.Goals as goal
 
 pub returns-in-Root-clause-gives : goal.returns-in-Root-clause-gives
@@ -27,7 +29,14 @@ pub returns-in_default-clause-fixes : goal.returns-in_default-clause-fixes
 returns-in_default-clause-fixes c = missing_fixes c.args.text.now c.args.form c.args.at c.args.next (with_value kind.Null [] c.args.at c.args.builder.now) c.take_null.new.builder c.take_null.result c.requires.awaited.seen c.requires.awaited.boundary (place_behind c.args.text.now (stack c.args.forms.now) c.args.builder.now c.args.form c.args.at c.args.next c.requires.awaited) c.requires.none c.take_null.ensures
 
 pub returns-in-Root-clause-stops : goal.returns-in-Root-clause-stops
-returns-in-Root-clause-stops c = length_stops c.args.text.now c.args.at (NoValue c.args.at c.args.next c.args.form (stack c.args.forms.now) c.args.builder.now) c.offset.result c.offset.ensures
+returns-in-Root-clause-stops c =
+    let fs = stack c.args.forms.now in
+    let u = c.args.builder.now in
+    told_stops c.args.text.now c.args.at (NoValue c.args.at c.args.next c.args.form (stack c.args.forms.now) c.args.builder.now) false c.args.next c.told_place.result c.requires.awaited.seen.0 c.told_place.ensures
+    (λ text told w v h. no_root text fs u c.args.at c.args.next c.args.form w.seen.0 w.form c.in-Root.is c.requires.none c.requires.unsigned (Tree v) h)
 
 pub returns-in_default-clause-stops : goal.returns-in_default-clause-stops
 returns-in_default-clause-stops c = completed_stops c.args.text.now c.args.at (NoValue c.args.at c.args.next c.args.form (stack c.args.forms.now) c.args.builder.now) c.args.at (with_value kind.Null [] c.args.at c.args.builder.now) c.take_null.new.builder c.take_null.result c.take_null.ensures
+
+pub told_place-requires-clause-within : goal.told_place-requires-clause-within
+told_place-requires-clause-within c = seen_place c.args.text.now c.args.at c.args.next c.requires.awaited.seen

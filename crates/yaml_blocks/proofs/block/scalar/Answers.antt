@@ -1,4 +1,4 @@
-use Rattle.std.proofs.Common.{sym, subst}
+use Rattle.std.proofs.Common.{false, sym, subst}
 use Rattle.yaml_blocks.specs.Nodes.{follows_get_att, setting_of}
 use Rattle.yaml_blocks.specs.code.Steps.{stack, Holds}
 use Rattle.yaml_blocks.proofs.BlockGains.{scalar_gives, spot_of}
@@ -6,7 +6,7 @@ use Rattle.yaml_blocks.proofs.SameTexts.{holds_same}
 use Rattle.yaml_blocks.proofs.AwaitedNodes.{place_behind, small_form, value_awaited}
 use Rattle.yaml_blocks.proofs.Fixed.{scalar_fixes}
 use Rattle.yaml_blocks.specs.code.Twins.{NoValue}
-use Rattle.yaml_blocks.proofs.Stopped.{scalar_stops}
+use Rattle.yaml_blocks.proofs.StoppedScalars.{no_value, scalar_stops}
 use Rattle.yaml_blocks.proofs.block.scalar.Goals as goal
 
 pub returns-clause-gives : goal.returns-clause-gives
@@ -31,4 +31,7 @@ pub returns-clause-fixes : goal.returns-clause-fixes
 returns-clause-fixes c = scalar_fixes c.args.text.now c.args.form c.args.at c.args.next (follows_get_att c.args.text.now c.args.form c.args.at) c.args.builder.now c.take_scalar.new.builder c.take_scalar.result c.utf8.text c.requires.awaited.seen c.requires.awaited.boundary (place_behind c.args.text.now (stack c.args.forms.now) c.args.builder.now c.args.form c.args.at c.args.next c.requires.awaited) c.requires.awaited.block c.requires.no_key c.take_scalar.ensures.holds
 
 pub returns-clause-stops : goal.returns-clause-stops
-returns-clause-stops c = scalar_stops c.args.text.now c.args.at (NoValue c.args.at c.args.next c.args.form (stack c.args.forms.now) c.args.builder.now) c.take_scalar.result c.take_scalar.ensures.place
+returns-clause-stops c =
+    let fs = stack c.args.forms.now in
+    scalar_stops c.args.text.now (setting_of c.args.form) false c.args.at c.args.next (NoValue c.args.at c.args.next c.args.form (stack c.args.forms.now) c.args.builder.now) c.requires.awaited.seen.0 c.requires.starts
+    (λ other none. no_value other fs c.args.builder.now c.args.form c.args.at c.args.next c.requires.starts c.requires.takes none) c.take_scalar.result c.take_scalar.ensures.place

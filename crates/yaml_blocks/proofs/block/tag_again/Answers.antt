@@ -1,5 +1,5 @@
 use Rattle.std.proofs.lemmas.Grind.{common_steps}
-use Rattle.std.proofs.Common.{List, sym, ap, subst, ◌∙◌, ◌+◌, ◌*◌, arith}
+use Rattle.std.proofs.Common.{List, false, sym, ap, subst, ◌∙◌, ◌+◌, ◌*◌, arith}
 use Rattle.std.specs.Prelude.{Ok}
 use Rattle.yaml_blocks.specs.declared.form.Form.{Form}
 use Rattle.yaml_blocks.specs.code.Rest.{top, Awaits}
@@ -7,7 +7,9 @@ use Rattle.yaml_blocks.specs.code.Steps.{stack, Ended}
 use Rattle.yaml_blocks.proofs.Gains.{memory_gives}
 use Rattle.yaml_blocks.proofs.BlockGains.{spot_of, tag_again_gives, no_tag_again}
 use Rattle.yaml_blocks.specs.code.Twins.{NoValue}
-use Rattle.yaml_blocks.proofs.Stopped.{length_stops, memory_stops}
+use Rattle.yaml_blocks.proofs.Stopped.{told_stops, memory_stops}
+use Rattle.yaml_blocks.specs.Signs.{Tree}
+use Rattle.yaml_blocks.proofs.AwaitedNodes.{seen_place}
 use Rattle.yaml_blocks.proofs.block.tag_again.Goals as goal
 
 pub returns-then-is_entry_column-clause-gives : goal.returns-then-is_entry_column-clause-gives
@@ -57,10 +59,28 @@ returns-in-Err-end_before-clause-gives c = λ text v same.
     memory_gives text (Awaits text fs u.outer u.done u.key c.args.at) (2 * c.args.at + 1) (stack c.end_before.new.forms.items) c.end_before.new.builder c.in-Err-end_before.refusal (c.in-Err-end_before.ensures text c.args.at v.seen.0)
 
 pub returns-clause-stops : goal.returns-clause-stops
-returns-clause-stops c = length_stops c.args.text.now c.args.at (NoValue c.args.at c.args.next c.args.form (stack c.args.forms.now.items) c.args.builder.now) c.offset-2.result c.offset-2.ensures
+returns-clause-stops c =
+    let fs = stack c.args.forms.now.items in
+    let gs = stack c.end_before.new.forms.items in
+    let u = c.args.builder.now in
+    let w = c.end_before.new.builder in
+    let next = c.args.next in
+    let found = c.innermost.ensures ∙ ap (λ (x : List Form). top (stack x)) c.deref.ensures.value in
+    told_stops c.args.text.now c.args.at (NoValue c.args.at c.args.next c.args.form (stack c.args.forms.now.items) c.args.builder.now) false next c.told_place.result c.requires.awaited.seen.0 c.told_place.ensures
+    (λ text told v r h. no_tag_again text fs gs u w c.args.form c.args.at c.args.len next v.seen.0 (
+      spot_of text fs u c.args.form c.args.at next v,
+      c.requires.tag,
+      c.requires.tagged,
+      c.requires.none,
+      c.requires.unsigned,
+      subst (λ z. Ended text fs z next c.args.at gs w (Ok tt)) c.in-Ok.ensures.2 (c.in-Ok-end_before.ensures text c.args.at v.seen.0),
+    ) (λ k. c.is_entry_column.ensures.no c.if-is_entry_column.false (found ∙ k)) (Tree r) h)
 
 pub returns-in-Err-end_before-clause-stops : goal.returns-in-Err-end_before-clause-stops
 returns-in-Err-end_before-clause-stops c = memory_stops c.args.text.now c.args.at (NoValue c.args.at c.args.next c.args.form (stack c.args.forms.now.items) c.args.builder.now) c.in-Err-end_before.refusal (c.in-Err-end_before.ensures c.args.text.now c.args.at c.requires.awaited.seen.0)
 
 pub returns-in-Err-clause-stops : goal.returns-in-Err-clause-stops
 returns-in-Err-clause-stops c = memory_stops c.args.text.now c.args.at (NoValue c.args.at c.args.next c.args.form (stack c.args.forms.now.items) c.args.builder.now) c.in-Err.refusal c.in-Err.ensures
+
+pub told_place-requires-clause-within : goal.told_place-requires-clause-within
+told_place-requires-clause-within c = seen_place c.args.text.now c.args.at c.args.next c.requires.awaited.seen

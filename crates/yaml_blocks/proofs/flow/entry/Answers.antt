@@ -1,5 +1,5 @@
 use Rattle.std.proofs.lemmas.Grind.{common_steps}
-use Rattle.std.proofs.Common.{true, false, List, [], ◌+◌, ◌*◌, sym, ap, subst, ◌∙◌, arith}
+use Rattle.std.proofs.Common.{true, false, List, ◌+◌, ◌*◌, sym, ap, subst, ◌∙◌, arith}
 use Rattle.yaml_blocks.specs.declared.ahead.Ahead.{Ahead}
 use Rattle.yaml_blocks.specs.declared.ahead.Token.TheVariants.{Closes}
 use Rattle.yaml_blocks.specs.declared.form.Form.TheVariants.{Flow}
@@ -10,9 +10,8 @@ use Rattle.yaml_blocks.proofs.Gains.{closed_entry_gives, marked_entry_gives, ite
 use Rattle.yaml_blocks.proofs.Fixed.{closed_fixes, node_entry_fixes, key_entry_fixes}
 use Rattle.yaml_blocks.specs.code.Twins.{Stops, NoFlowValue, NoEntry, FixesEntry}
 use Rattle.yaml_blocks.specs.Ahead.{ahead}
-use Rattle.yaml_blocks.specs.declared.stop.Stop.TheVariants.{Unread}
-use Rattle.std.specs.Prelude.{Err}
-use Rattle.yaml_blocks.proofs.Stopped.{closed_stops, stops_from}
+use Rattle.yaml_blocks.specs.Signs.{Tree}
+use Rattle.yaml_blocks.proofs.Stopped.{closed_stops, stops_from, item_follows}
 use Rattle.yaml_blocks.proofs.flow.entry.Goals as goal
 
 pub returns-then-closes-clause-gives : goal.returns-then-closes-clause-gives
@@ -79,5 +78,5 @@ returns-else-map-clause-stops c =
     let next = c.look-next.result in
     subst (λ (a : Ahead). Stops c.args.text.now at (NoEntry at a fs u) c.node.result) c.look-next.ensures.0
     (stops_from c.args.text.now at (NoFlowValue at next fs u) (NoEntry at next fs u) c.node.result
-    (λ text k seen v h. item_gives text fs [] u u at next (Err (Unread 0)) seen.0 (c.requires.form ∙ ap Flow c.if-map.false) c.requires.open (λ e. c.closes.ensures.no c.if-closes.false (e ∙ ap Closes (sym c.if-map.false)))
-    (sym c.is_marked.ensures ∙ c.if-is_marked.false) c.requires.awaited (λ z g. k seen z g) v h) c.node.ensures.stops)
+    (λ text k seen t h. k seen t (item_follows text fs u at next seen.0 (c.requires.form ∙ ap Flow c.if-map.false) c.requires.open (λ e. c.closes.ensures.no c.if-closes.false (e ∙ ap Closes (sym c.if-map.false)))
+        (sym c.is_marked.ensures ∙ c.if-is_marked.false) c.requires.awaited (Tree t) h)) c.node.ensures.stops)

@@ -1,5 +1,5 @@
 use Rattle.std.proofs.lemmas.Grind.{common_steps}
-use Rattle.std.proofs.Common.{false, ◌≡◌, ◌⊎◌, List, ℕ, drop, sym, ap, ◌∙◌, refl, subst, true, ◌+◌, ◌*◌, arith}
+use Rattle.std.proofs.Common.{false, inl, inr, ◌≡◌, ◌⊎◌, List, ℕ, drop, sym, ap, ◌∙◌, refl, subst, true, ◌+◌, ◌*◌, arith}
 use Rattle.std.specs.Prelude.{Err}
 use Rattle.std.specs.Cow.{cow_str_bytes}
 use Rattle.doc_values.specs.declared.builder.BuildRefusal.TheVariants as build
@@ -16,7 +16,13 @@ use Rattle.yaml_blocks.proofs.Gains.{key_gives, key_signed_gives, find_refused, 
 use Rattle.yaml_blocks.proofs.Fixed.{flow_key_fixes}
 use Rattle.yaml_blocks.specs.code.Twins.{NoEntry}
 use Rattle.yaml_blocks.specs.Nodes.{node_sign}
-use Rattle.yaml_blocks.proofs.Stopped.{signed_stops, built_stops, far_stops, length_stops}
+use Rattle.yaml_blocks.proofs.Stopped.{signed_stops, built_stops, told_stops}
+use Rattle.yaml_blocks.proofs.StoppedScalars.{key_stops, missed_failed}
+use Rattle.yaml_blocks.proofs.StoppedKeys.{no_colon_stops}
+use Rattle.yaml_blocks.proofs.Scalars.{failed_other}
+use Rattle.yaml_blocks.specs.code.StopPlaces.{told_place}
+use Rattle.yaml_blocks.specs.declared.stop.Stop.TheVariants.{Unread}
+use Rattle.yaml_blocks.specs.Signs.{Tree}
 use Rattle.yaml_blocks.proofs.flow.key.Goals as goal
 
 pub returns-in-Err-clause-gives : goal.returns-in-Err-clause-gives
@@ -84,10 +90,35 @@ pub returns-in-Some-clause-stops : goal.returns-in-Some-clause-stops
 returns-in-Some-clause-stops c = signed_stops c.args.text.now c.args.at (NoEntry c.args.at c.args.next (stack c.args.forms.now) c.args.builder.now) (node_sign false c.args.next.at c.args.next.token) c.in-Some.refusal c.in-Some.ensures
 
 pub returns-in-Err-clause-stops : goal.returns-in-Err-clause-stops
-returns-in-Err-clause-stops c = far_stops c.args.text.now c.args.at (NoEntry c.args.at c.args.next (stack c.args.forms.now) c.args.builder.now) c.in-Err.refusal (λ q e. c.in-Err.ensures.place q (ap Err e))
+returns-in-Err-clause-stops c =
+    let starts = sym c.starts_scalar.ensures ∙ c.if-not-starts_scalar.false in
+    key_stops c.args.text.now true c.args.at c.args.next (NoEntry c.args.at c.args.next (stack c.args.forms.now) c.args.builder.now) c.requires.seen.0 starts
+    (λ other none seen t h. find_refused other (stack c.args.forms.now) c.args.builder.now c.args.builder.now c.args.at c.args.next (as_key true) (Unread 0) refl seen.0 c.requires.there c.in-None.ensures c.requires.unmarked c.requires.form c.requires.open
+    (inr (inl ((0, refl), missed_failed other true c.args.next none))) (Tree t) h) c.as_key.result c.in-Err.refusal c.as_key.ensures (λ q e. c.in-Err.ensures.place q (ap Err e))
 
 pub returns-in-Err-key-clause-stops : goal.returns-in-Err-key-clause-stops
 returns-in-Err-key-clause-stops c = built_stops c.args.text.now c.args.at (NoEntry c.args.at c.args.next (stack c.args.forms.now) c.args.builder.now) c.in-Err-key.refusal c.from.result c.from.ensures
 
 pub returns-in-None-colon-clause-stops : goal.returns-in-None-colon-clause-stops
-returns-in-None-colon-clause-stops c = length_stops c.args.text.now c.args.at (NoEntry c.args.at c.args.next (stack c.args.forms.now) c.args.builder.now) c.offset-in-None-colon.result c.offset-in-None-colon.ensures
+returns-in-None-colon-clause-stops c =
+    let this = c.args.text.now in
+    let words = cow_str_bytes c.in-Ok.scalar.text in
+    let end = c.in-Ok.scalar.end in
+    let quoted : c.is_quoted.result ≡ begins_quoted (drop c.args.next.at this) = c.is_quoted.ensures ∙ ap (λ (t : List ℕ). begins_quoted (drop c.args.next.at t)) c.as_bytes.ensures.value in
+    let g = found_key this c.as_key.result (as_key true) c.args.next words c.in-Ok.scalar.kind end c.as_key.ensures c.in-Ok.ensures.finds in
+    no_colon_stops this (stack c.args.forms.now) c.args.builder.now c.args.at c.args.next c.is_quoted.result words end c.told_place-in-None-colon.result c.requires.seen c.requires.boundary c.requires.there c.requires.form c.requires.open g.0 g.2 g.3 c.in-Ok-key.ensures.ok.1 quoted c.in-None-colon.ensures
+    (c.told_place-in-None-colon.ensures ∙ ap (told_place this) c.look.ensures.0)
+
+pub returns-then-not-starts_scalar-clause-gives : goal.returns-then-not-starts_scalar-clause-gives
+returns-then-not-starts_scalar-clause-gives c = λ text seen same.
+    find_refused text (stack c.args.forms.now) c.args.builder.now c.args.builder.now c.args.at c.args.next (as_key true) (Unread c.told_place.result) refl seen.0 c.requires.there c.in-None.ensures c.requires.unmarked c.requires.form c.requires.open
+    (inr (inl ((c.told_place.result, refl), failed_other text (as_key true) c.args.next (sym c.starts_scalar.ensures ∙ c.if-not-starts_scalar.true))))
+
+pub returns-then-not-starts_scalar-clause-stops : goal.returns-then-not-starts_scalar-clause-stops
+returns-then-not-starts_scalar-clause-stops c =
+    told_stops c.args.text.now c.args.at (NoEntry c.args.at c.args.next (stack c.args.forms.now) c.args.builder.now) true c.args.next c.told_place.result c.requires.seen.0 c.told_place.ensures
+    (λ text told seen v h. find_refused text (stack c.args.forms.now) c.args.builder.now c.args.builder.now c.args.at c.args.next (as_key true) (Unread c.told_place.result) refl seen.0 c.requires.there c.in-None.ensures c.requires.unmarked c.requires.form c.requires.open
+    (inr (inl ((c.told_place.result, refl), failed_other text (as_key true) c.args.next (sym c.starts_scalar.ensures ∙ c.if-not-starts_scalar.true)))) (Tree v) h)
+
+pub find_scalar-requires-clause-starts : goal.find_scalar-requires-clause-starts
+find_scalar-requires-clause-starts c = sym c.starts_scalar.ensures ∙ c.if-not-starts_scalar.false

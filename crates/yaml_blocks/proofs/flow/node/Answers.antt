@@ -7,7 +7,14 @@ use Rattle.yaml_blocks.proofs.Gains.{flow_spot, flow_signed_gives, tag_allowed, 
 use Rattle.yaml_blocks.proofs.Fixed.{flow_opens_fixes, flow_scalar_fixes}
 use Rattle.yaml_blocks.specs.code.Twins.{NoFlowValue}
 use Rattle.yaml_blocks.specs.Nodes.{node_sign}
-use Rattle.yaml_blocks.proofs.Stopped.{signed_stops, opened_stops, scalar_stops}
+use Rattle.yaml_blocks.proofs.Stopped.{signed_stops, opened_stops}
+use Rattle.yaml_blocks.proofs.StoppedScalars.{no_flow_value, scalar_stops}
+use Rattle.std.proofs.Common.{true, inl, inr, refl, ◌∙◌}
+use Rattle.std.specs.Prelude.{Err}
+use Rattle.yaml_blocks.specs.declared.stop.Stop.TheVariants.{Unread}
+use Rattle.yaml_blocks.proofs.Scalars.{failed_other}
+use Rattle.yaml_blocks.proofs.Stopped.{told_stops}
+use Rattle.yaml_blocks.specs.Signs.{Tree}
 use Rattle.yaml_blocks.proofs.flow.node.Goals as goal
 
 pub returns-in-Some-clause-gives : goal.returns-in-Some-clause-gives
@@ -27,8 +34,8 @@ returns-in-Opens-clause-gives c = λ text seen same.
 pub tag-requires-clause-takes : goal.tag-requires-clause-takes
 tag-requires-clause-takes c = tag_allowed c.args.form c.is_tagged.result c.args.next.at c.in-Tag.len c.args.next.token c.requires.flow c.is_tagged.ensures c.in-Tag.is c.in-None.ensures
 
-pub returns-in_default-clause-gives : goal.returns-in_default-clause-gives
-returns-in_default-clause-gives c = λ text seen same.
+pub returns-else-not-starts_scalar-clause-gives : goal.returns-else-not-starts_scalar-clause-gives
+returns-else-not-starts_scalar-clause-gives c = λ text seen same.
     let fs = stack c.args.forms.now.items in
     let u = c.args.builder.now in
     holds_gives text fs u c.take_scalar.new.builder c.args.form c.is_tagged.result c.args.at c.args.next c.take_scalar.result seen.0
@@ -45,8 +52,8 @@ returns-in-Tag-clause-gives c = λ text seen same. c.tag.ensures.gives text seen
 pub returns-in-Opens-clause-fixes : goal.returns-in-Opens-clause-fixes
 returns-in-Opens-clause-fixes c = flow_opens_fixes c.args.text.now c.args.form c.args.at c.in-Opens.map c.args.next (stack c.args.forms.now.items) (stack c.open.new.forms.items) c.args.builder.now c.open.new.builder c.open.result c.requires.seen c.requires.boundary c.requires.behind c.in-Opens.is c.open.ensures
 
-pub returns-in_default-clause-fixes : goal.returns-in_default-clause-fixes
-returns-in_default-clause-fixes c = flow_scalar_fixes c.args.text.now c.args.form c.args.at c.args.next (follows_get_att c.args.text.now c.args.form c.args.at) c.args.builder.now c.take_scalar.new.builder c.take_scalar.result c.requires.seen c.requires.boundary c.requires.behind c.take_scalar.ensures.holds
+pub returns-else-not-starts_scalar-clause-fixes : goal.returns-else-not-starts_scalar-clause-fixes
+returns-else-not-starts_scalar-clause-fixes c = flow_scalar_fixes c.args.text.now c.args.form c.args.at c.args.next (follows_get_att c.args.text.now c.args.form c.args.at) c.args.builder.now c.take_scalar.new.builder c.take_scalar.result c.requires.seen c.requires.boundary c.requires.behind c.take_scalar.ensures.holds
 
 pub returns-in-Some-clause-stops : goal.returns-in-Some-clause-stops
 returns-in-Some-clause-stops c = signed_stops c.args.text.now c.args.at (NoFlowValue c.args.at c.args.next (stack c.args.forms.now.items) c.args.builder.now) (node_sign c.is_tagged.result c.args.next.at c.args.next.token) c.in-Some.refusal c.in-Some.ensures
@@ -54,5 +61,26 @@ returns-in-Some-clause-stops c = signed_stops c.args.text.now c.args.at (NoFlowV
 pub returns-in-Opens-clause-stops : goal.returns-in-Opens-clause-stops
 returns-in-Opens-clause-stops c = opened_stops c.args.text.now c.args.at (NoFlowValue c.args.at c.args.next (stack c.args.forms.now.items) c.args.builder.now) c.in-Opens.map c.args.next (stack c.args.forms.now.items) (stack c.open.new.forms.items) c.args.builder.now c.open.new.builder c.open.result c.open.ensures
 
-pub returns-in_default-clause-stops : goal.returns-in_default-clause-stops
-returns-in_default-clause-stops c = scalar_stops c.args.text.now c.args.at (NoFlowValue c.args.at c.args.next (stack c.args.forms.now.items) c.args.builder.now) c.take_scalar.result c.take_scalar.ensures.place
+pub returns-else-not-starts_scalar-clause-stops : goal.returns-else-not-starts_scalar-clause-stops
+returns-else-not-starts_scalar-clause-stops c =
+    let fs = stack c.args.forms.now.items in
+    let starts = sym c.starts_scalar.ensures ∙ c.if-not-starts_scalar.false in
+    scalar_stops c.args.text.now (setting_of c.args.form) true c.args.at c.args.next (NoFlowValue c.args.at c.args.next (stack c.args.forms.now.items) c.args.builder.now) c.requires.seen.0 starts
+    (λ other none. no_flow_value other fs c.args.builder.now c.args.form c.is_tagged.result c.args.at c.args.next starts c.requires.form c.requires.flow c.requires.open c.is_tagged.ensures c.in-None.ensures c.requires.there none) c.take_scalar.result c.take_scalar.ensures.place
+
+pub returns-then-not-starts_scalar-clause-gives : goal.returns-then-not-starts_scalar-clause-gives
+returns-then-not-starts_scalar-clause-gives c = λ text seen same.
+    let fs = stack c.args.forms.now.items in
+    let u = c.args.builder.now in
+    holds_gives text fs u u c.args.form c.is_tagged.result c.args.at c.args.next (Err (Unread c.told_place.result)) seen.0
+    (flow_spot text fs u c.args.form c.args.at c.args.next seen c.requires.form c.requires.flow c.requires.open) c.in_default.not-Opens c.in_default.not-Tag c.is_tagged.ensures c.in-None.ensures c.requires.there
+    (inr (inl ((c.told_place.result, refl), failed_other text (setting_of c.args.form) c.args.next (sym c.starts_scalar.ensures ∙ c.if-not-starts_scalar.true))))
+
+pub returns-then-not-starts_scalar-clause-stops : goal.returns-then-not-starts_scalar-clause-stops
+returns-then-not-starts_scalar-clause-stops c =
+    let fs = stack c.args.forms.now.items in
+    let u = c.args.builder.now in
+    told_stops c.args.text.now c.args.at (NoFlowValue c.args.at c.args.next (stack c.args.forms.now.items) c.args.builder.now) true c.args.next c.told_place.result c.requires.seen.0 c.told_place.ensures
+    (λ text told seen v h. holds_gives text fs u u c.args.form c.is_tagged.result c.args.at c.args.next (Err (Unread c.told_place.result)) seen.0
+    (flow_spot text fs u c.args.form c.args.at c.args.next seen c.requires.form c.requires.flow c.requires.open) c.in_default.not-Opens c.in_default.not-Tag c.is_tagged.ensures c.in-None.ensures c.requires.there
+    (inr (inl ((c.told_place.result, refl), failed_other text (setting_of c.args.form) c.args.next (sym c.starts_scalar.ensures ∙ c.if-not-starts_scalar.true)))) (Tree v) h)

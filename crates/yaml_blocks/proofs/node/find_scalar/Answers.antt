@@ -3,31 +3,27 @@ use Rattle.std.specs.Prelude.{Err}
 use Rattle.yaml_blocks.specs.declared.stop.Stop.{Stop}
 use Rattle.yaml_blocks.specs.code.Steps.{Finds}
 use Rattle.yaml_blocks.specs.declared.stop.Stop.TheVariants.{Unread}
-use Rattle.yaml_blocks.proofs.Stopped.{scalar_place, error_same, unread_same}
-use Rattle.yaml_blocks.proofs.Scalars.{failed_other, failed_end, finds_scalar, finds_none}
+use Rattle.yaml_blocks.proofs.Stopped.{error_same, unread_same}
+use Rattle.yaml_blocks.proofs.Scalars.{failed_end, finds_scalar, finds_none, refused_at}
 use Rattle.yaml_blocks.proofs.node.find_scalar.Goals as goal
 
-pub returns-then-not-starts_scalar-clause-finds : goal.returns-then-not-starts_scalar-clause-finds
-returns-then-not-starts_scalar-clause-finds c = inr (inl ((c.offset.result, refl), failed_other c.args.text.now c.args.setting c.args.next (sym c.starts_scalar.ensures ∙ c.if-not-starts_scalar.true)))
-
 pub returns-in-Ok-clause-finds : goal.returns-in-Ok-clause-finds
-returns-in-Ok-clause-finds c = finds_scalar c.args.text.now c.args.setting c.args.next c.in-Ok.scalar (sym c.starts_scalar.ensures ∙ c.if-not-starts_scalar.false) c.in-Ok.ensures.answer c.in-Ok.ensures.end
+returns-in-Ok-clause-finds c = finds_scalar c.args.text.now c.args.setting c.args.next c.in-Ok.scalar c.requires.starts c.in-Ok.ensures.answer c.in-Ok.ensures.end
 
 pub returns-in-Err-clause-finds : goal.returns-in-Err-clause-finds
 returns-in-Err-clause-finds c =
     subst (λ (e : Stop). Finds c.args.text.now c.args.setting c.args.next (Err e)) (sym c.of_scalar.ensures)
-    (finds_none c.args.text.now c.args.setting c.args.next c.in-Err.refusal c.offset-in-Err.result (sym c.starts_scalar.ensures ∙ c.if-not-starts_scalar.false) c.in-Err.ensures.answer)
+    (finds_none c.args.text.now c.args.setting c.args.next c.in-Err.refusal c.refused_place.result c.requires.starts c.in-Err.ensures.answer)
 
 pub returns-then-next-text-clause-finds : goal.returns-then-next-text-clause-finds
 returns-then-next-text-clause-finds c =
     let e : c.args.next.at ≡ length c.args.text.now = omega (arith, c.if-next-text.true) in
-    inr (inl ((c.offset-then-next-text.result, refl), failed_end c.args.text.now c.args.setting c.args.next e))
-
-pub returns-then-not-starts_scalar-clause-place : goal.returns-then-not-starts_scalar-clause-place
-returns-then-not-starts_scalar-clause-place c = λ q e. sym (unread_same c.offset.result q (error_same (Err (Unread c.offset.result)) (Unread c.offset.result) (Unread q) refl e)) ∙ c.offset.ensures
+    inr (inl ((c.offset.result, refl), failed_end c.args.text.now c.args.setting c.args.next e))
 
 pub returns-then-next-text-clause-place : goal.returns-then-next-text-clause-place
-returns-then-next-text-clause-place c = λ q e. sym (unread_same c.offset-then-next-text.result q (error_same (Err (Unread c.offset-then-next-text.result)) (Unread c.offset-then-next-text.result) (Unread q) refl e)) ∙ c.offset-then-next-text.ensures
+returns-then-next-text-clause-place c = λ q e. inl (sym (unread_same c.offset.result q (error_same (Err (Unread c.offset.result)) (Unread c.offset.result) (Unread q) refl e)) ∙ c.offset.ensures)
 
 pub returns-in-Err-clause-place : goal.returns-in-Err-clause-place
-returns-in-Err-clause-place c = λ q e. scalar_place c.offset-in-Err.result q c.in-Err.refusal (sym c.of_scalar.ensures ∙ error_same (Err c.of_scalar.result) c.of_scalar.result (Unread q) refl e) ∙ c.offset-in-Err.ensures
+returns-in-Err-clause-place c = λ q e.
+    refused_at c.args.text.now c.args.setting c.args.next c.refused_place.result q c.in-Err.refusal c.requires.starts (omega (arith, c.requires.boundary.0, c.if-next-text.false)) c.in-Err.ensures.answer c.refused_place.ensures
+    (sym c.of_scalar.ensures ∙ error_same (Err c.of_scalar.result) c.of_scalar.result (Unread q) refl e)

@@ -4,27 +4,26 @@ use Rattle.yaml_blocks.proofs.Roots.{start_refused, start_solid, marked_refused,
 use Rattle.yaml_blocks.specs.declared.stop.Stop.TheVariants.{NoMemory}
 use Rattle.yaml_blocks.specs.Yaml.{start_sign}
 use Rattle.yaml_blocks.proofs.Lives.{fixed_behind, fixed_there}
-use Rattle.yaml_blocks.proofs.Lives.{signed_at}
-use Rattle.std.proofs.Common.{inl}
+use Rattle.yaml_blocks.proofs.Lives.{signed_at, start_at}
 use Rattle.yaml_blocks.proofs.read.document_start.Goals as goal
 
 pub returns-in-Some-clause-start : goal.returns-in-Some-clause-start
 returns-in-Some-clause-start c = start_refused c.args.text.now c.in-Some.refusal c.in-Some.ensures
 
-pub returns-then-look-clause-start : goal.returns-then-look-clause-start
-returns-then-look-clause-start c =
+pub returns-then-further-clause-start : goal.returns-then-further-clause-start
+returns-then-further-clause-start c =
     let text = c.args.text.now in
     let next = c.look-next.result in (
-      starts_behind text c.text_start-at.result next.behind next c.look.result c.text_start-at.ensures.is c.look-next.ensures.0 refl c.look.ensures.0 c.in-Dashes.is c.if-look.true,
+      starts_behind text c.text_start-at.result next.behind next c.look-further.result c.text_start-at.ensures.is c.look-next.ensures.0 refl c.look-further.ensures.0 c.in-Dashes.is c.if-further.true,
       seen_behind text false c.text_start-at.result next c.look-next.ensures,
       untold (start_sign text) c.in-None.ensures,
     )
 
-pub returns-else-look-clause-start : goal.returns-else-look-clause-start
-returns-else-look-clause-start c =
+pub returns-else-further-clause-start : goal.returns-else-further-clause-start
+returns-else-further-clause-start c =
     let text = c.args.text.now in
     let next = c.look-next.result in
-    marked_refused text c.text_start-at.result next.behind next c.look.result c.text_start-at.ensures.is c.look-next.ensures.0 refl c.look.ensures.0 c.in-Dashes.is c.if-look.false c.in-None.ensures
+    marked_refused text c.text_start-at.result next.behind next c.look-further.result c.text_start-at.ensures.is c.look-next.ensures.0 refl c.look-further.ensures.0 c.in-Dashes.is c.if-further.false c.in-None.ensures
 
 pub returns-in_default-clause-start : goal.returns-in_default-clause-start
 returns-in_default-clause-start c =
@@ -34,11 +33,11 @@ returns-in_default-clause-start c =
 pub returns-in-Some-clause-no_memory : goal.returns-in-Some-clause-no_memory
 returns-in-Some-clause-no_memory c want = let same : c.in-Some.refusal ≡ NoMemory = cc in start_solid c.args.text.now c.in-Some.refusal c.in-Some.ensures same
 
-pub returns-then-look-clause-fixes : goal.returns-then-look-clause-fixes
-returns-then-look-clause-fixes c =
+pub returns-then-further-clause-fixes : goal.returns-then-further-clause-fixes
+returns-then-further-clause-fixes c =
     let text = c.args.text.now in
     let next = c.look-next.result in
-    fixed_behind text c.text_start-at.result next.behind next c.look.result c.text_start-at.ensures.is c.text_start-at.ensures.boundary c.look-next.ensures.0 refl (seen_behind text false c.text_start-at.result next c.look-next.ensures) c.look.ensures.0 c.in-Dashes.is c.if-look.true
+    fixed_behind text c.text_start-at.result next.behind next c.look-further.result c.text_start-at.ensures.is c.text_start-at.ensures.boundary c.look-next.ensures.0 refl (seen_behind text false c.text_start-at.result next c.look-next.ensures) c.look-further.ensures.0 c.in-Dashes.is c.if-further.true
 
 pub returns-in_default-clause-fixes : goal.returns-in_default-clause-fixes
 returns-in_default-clause-fixes c =
@@ -48,5 +47,8 @@ returns-in_default-clause-fixes c =
 pub returns-in-Some-clause-place : goal.returns-in-Some-clause-place
 returns-in-Some-clause-place c = signed_at c.args.text.now (start_sign c.args.text.now) c.in-Some.refusal c.in-Some.ensures
 
-pub returns-else-look-clause-place : goal.returns-else-look-clause-place
-returns-else-look-clause-place c = inl c.offset.ensures
+pub returns-else-further-clause-place : goal.returns-else-further-clause-place
+returns-else-further-clause-place c =
+    let text = c.args.text.now in
+    let next = c.look-next.result in
+    start_at text c.utf8.text c.text_start-at.result next.behind next c.look-further.result c.told_place.result c.text_start-at.ensures.is c.text_start-at.ensures.boundary c.look-next.ensures.0 refl (seen_behind text false c.text_start-at.result next c.look-next.ensures) c.look-further.ensures.0 c.in-Dashes.is c.if-further.false c.told_place.ensures

@@ -40,7 +40,7 @@ pub returns-in-Err-root-clause-place : goal.returns-in-Err-root-clause-place
 returns-in-Err-root-clause-place c = memory_at c.args.text.now c.in-Err-root.stop c.in-Err-root.ensures.memory
 
 pub returns-in-Err-step-clause-place : goal.returns-in-Err-step-clause-place
-returns-in-Err-step-clause-place c = stops_at c.args.text.now c.loop-alloc.position (stack c.loop-alloc.forms.items) c.loop-alloc.builder c.in-Err-step.stop c.loop-alloc.invariant.1 (c.goes_on.ensures.yes c.loop-alloc-test.true) c.in-Err-step.ensures.stops
+returns-in-Err-step-clause-place c = stops_at c.args.text.now c.utf8.text c.loop-alloc.position (stack c.loop-alloc.forms.items) c.loop-alloc.builder c.in-Err-step.stop c.loop-alloc.invariant.1 (c.goes_on.ensures.yes c.loop-alloc-test.true) c.in-Err-step.ensures.stops
 
 pub finish-requires : goal.finish-requires
 finish-requires c =

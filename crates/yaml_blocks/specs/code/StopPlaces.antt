@@ -1,0 +1,63 @@
+-- The place that is answered where reading stops and no sign counts.
+use Rattle.std.specs.Prelude.{ℕ, suc, ◌+◌, Bool, ◌||◌, ◌&&◌, true, false, List, [], ◌∷◌, length, drop, nat_eq, nat_lt, if◌then◌else◌}
+use Rattle.yaml_scalars.specs.declared.scalar.ScalarRefusal.{ScalarRefusal}
+use Rattle.yaml_scalars.specs.declared.scalar.ScalarRefusal.TheVariants as refusal
+use Rattle.yaml_scalars.specs.Lines.{begins_with, is_white, lead}
+use Rattle.yaml_scalars.specs.Block.{same, widest}
+use Rattle.yaml_scalars.specs.code.Walk.{line_at, ends_line}
+use Rattle.yaml_blocks.specs.declared.ahead.Ahead.{Ahead}
+use Rattle.yaml_blocks.specs.declared.ahead.Token.{Token}
+use Rattle.yaml_blocks.specs.declared.ahead.Token.TheVariants.{Stray}
+use Rattle.yaml_blocks.specs.Ahead.{is_name, ahead}
+use Rattle.yaml_blocks.specs.code.AheadSeen.{first_return}
+use Rattle.yaml_blocks.specs.code.Steps.{is_ending}
+
+-- whether a token is a stray carriage return, or a comment that has one
+abbrev pub is_stray : Token → Bool
+is_stray Stray = true
+is_stray _ = false
+
+-- behind the three bytes of a mark, a carriage return too
+abbrev pub run_width : ℕ → ℕ
+run_width n = if nat_eq n 3 then 4 else n
+
+-- how many bytes from a token's first one stand before one that shows what it is: behind `!` those of a name, of a mark's bytes
+-- as many as there are, behind a colon and a carriage return one
+abbrev pub byte_width : ℕ → List ℕ → ℕ
+byte_width b bs =
+    if nat_eq b 33 then suc (lead is_name (line_at bs)) else (if nat_eq b 45 || nat_eq b 46 then run_width (suc (same b 2 bs)) else (if nat_eq b 58 || nat_eq b 13 then 1 else 0))
+
+abbrev pub token_width : List ℕ → ℕ
+token_width [] = 0
+token_width (b ∷ bs) = byte_width b bs
+
+-- a stray carriage return is looked for behind white space, or in a comment
+abbrev pub is_hidden : Ahead → Bool
+is_hidden a = is_stray a.token && (a.fresh || nat_lt 0 a.column)
+
+abbrev pub width : Ahead → List ℕ → ℕ
+width a bytes = if is_hidden a then first_return bytes else token_width bytes
+
+-- a place, behind a carriage return the next one, or the text's length
+abbrev pub past_return : List ℕ → ℕ → ℕ
+past_return text p = let q : ℕ = if begins_with 13 (drop p text) then suc p else p in if nat_lt q (length text) then q else length text
+
+-- a place at which a text shows what it has ahead, or its length
+abbrev pub told_place : List ℕ → Ahead → ℕ
+told_place text a = if is_ending a.token then length text else past_return text (a.at + width a (drop a.at text))
+
+-- where a scalar fails at a token: the place where it does, and not before one that shows what is ahead
+abbrev pub failed_place : List ℕ → Ahead → ℕ → ℕ
+failed_place text a r = past_return text (widest (a.at + width a (drop a.at text)) r)
+
+abbrev pub refused_place : List ℕ → Ahead → ScalarRefusal → ℕ
+refused_place text a (refusal.Syntax at) = failed_place text a at
+refused_place text a refusal.NoMemory = length text
+refused_place text a (refusal.ManyDocuments at) = length text
+
+-- behind a key that no colon follows: the line's end, or the comment there, or else a place at which the text shows what it has ahead
+abbrev pub ends_content : List ℕ → Bool
+ends_content bytes = ends_line bytes || begins_with 35 bytes
+
+abbrev pub colon_place : List ℕ → ℕ → ℕ
+colon_place text e = let p : ℕ = e + lead is_white (line_at (drop e text)) in if ends_content (drop p text) then past_return text p else told_place text (ahead text false e)
