@@ -1,5 +1,5 @@
 -- What a place has ahead in a text with a break behind it: what it has in the text, or else what the line behind the break has; and a carriage return behind the text changes nothing where a scalar may begin. By induction over lines.
-use Rattle.std.proofs.Common.{◌≡◌, ℕ, zero, suc, ◌+◌, ◌<◌, ◌≤◌, Bool, true, false, ◌||◌, ◌&&◌, not, cond, nat_eq, nat_lt, arith, List, [], ◌∷◌, ◌++◌, drop, length, refl, sym, ap, ◌∙◌, subst, true≢false, append-nil, length-append, length-drop}
+use Rattle.std.proofs.Common.{◌≡◌, ℕ, zero, suc, ◌+◌, ◌<◌, ◌≤◌, Bool, true, false, ◌||◌, ◌&&◌, not, cond, nat_eq, nat_lt, arith, List, [], ◌∷◌, ◌++◌, drop, length, refl, sym, ap, ◌∙◌, subst, true≢false, append-nil, length-drop}
 use Rattle.std.proofs.lemmas.Bool.Decides.{nat_tests}
 use Rattle.std.proofs.lemmas.List.{drop-drop}
 use Rattle.yaml_scalars.specs.Lines.{Line, lines, begins_with, ends_with, is_white, is_space, is_blank, lead, past_white, indent, is_mark, is_cut_mark, is_end}
@@ -8,12 +8,11 @@ use Rattle.yaml_scalars.specs.code.Walk.{line_at, has_break, behind}
 use Rattle.yaml_scalars.proofs.Places.{lines_are, lead_le}
 use Rattle.yaml_laws.proofs.Agree.{drop_before}
 use Rattle.yaml_laws.proofs.BlockShown.{blank_less, lead_ended}
-use Rattle.yaml_laws.proofs.Longer.{glue, joint, rest_of, feed_of, cut, lines_glued, lines_apart, lines_more, behind_none}
+use Rattle.yaml_laws.proofs.Longer.{glue, feed_of, cut, lines_glued, lines_apart, lines_more, behind_none}
 use Rattle.yaml_laws.proofs.ScalarLaw.{column_longer}
-use Rattle.yaml_blocks.specs.declared.ahead.Ahead.{Ahead}
 use Rattle.yaml_blocks.specs.declared.ahead.Token.{Token}
 use Rattle.yaml_blocks.specs.declared.ahead.Token.TheVariants.{End, Dashes, Dots, Dash, Tag, NoTag, Opens, Closes, Comma, Point, Anchor, Percent, Tabbed, Stray, Other}
-use Rattle.yaml_blocks.specs.Ahead.{tab_token, is_tabbed, other_token, token_of, token_at, mark_of, has_return, is_passed, content_ahead, line_ahead, rest_ahead, ahead}
+use Rattle.yaml_blocks.specs.Ahead.{tab_token, is_tabbed, other_token, token_of, token_at, mark_of, is_passed, content_ahead, line_ahead, rest_ahead, ahead}
 use Rattle.yaml_blocks.specs.Nodes.{starts_scalar}
 use Rattle.yaml_blocks.specs.code.Closers.{IsUncut}
 use Rattle.yaml_blocks.proofs.AheadEnds.{IsSome, line_over, rest_over, passes_line, passes_rest}
@@ -21,7 +20,6 @@ use Rattle.yaml_blocks.proofs.AheadLonger.{BothBegin, both_same, byte_tells}
 use Rattle.yaml_blocks.proofs.LineTails.{Tails, tails_of}
 use Rattle.yaml_blocks.proofs.Looks.{passed_other}
 use Rattle.yaml_blocks.proofs.ScalarAhead.{comment_scalar, name_scalar, return_scalar}
-use Rattle.yaml_blocks.proofs.ScalarFails.{not_blank}
 use Rattle.yaml_blocks.proofs.ScalarOrder.{first_bytes}
 
 -- ---- lines with others behind the break of the last

@@ -1,5 +1,5 @@
 -- What a text that ends in a carriage return has ahead with a line feed behind it, told by the text without the carriage return. By the cases of tokens.
-use Rattle.std.proofs.Common.{◌≡◌, ℕ, ◌≤◌, ◌⊎◌, inl, inr, Bool, true, false, cond, nat_eq, List, [], ◌∷◌, ◌++◌, None, length, refl, sym, ap, ◌∙◌, subst}
+use Rattle.std.proofs.Common.{◌≡◌, ℕ, ◌≤◌, ◌⊎◌, inl, inr, Bool, true, false, cond, List, [], ◌∷◌, ◌++◌, None, length, refl, sym, ap, ◌∙◌, subst}
 use Rattle.doc_values.specs.declared.kind.Kind.TheVariants as kind
 use Rattle.doc_values.specs.Tree.{Forest, Nil, Node}
 use Rattle.yaml_scalars.specs.Scalar.{begins_order_mark}
@@ -8,7 +8,6 @@ use Rattle.yaml_blocks.specs.declared.ahead.Token.{Token}
 use Rattle.yaml_blocks.specs.declared.ahead.Token.TheVariants.{End, Dashes, Dots, Dash, Tag, NoTag, Opens, Closes, Comma, Point, Anchor, Percent, Tabbed, Stray, Other}
 use Rattle.yaml_blocks.specs.Ahead.{ahead}
 use Rattle.yaml_blocks.specs.Nodes.{leaf}
-use Rattle.yaml_blocks.specs.Signs.{To}
 use Rattle.yaml_blocks.specs.Yaml.{IsEnd, IsYaml, text_start}
 use Rattle.yaml_blocks.proofs.AheadEnds.{IsSome}
 use Rattle.yaml_blocks.proofs.AheadFed.{ahead_broken, end_broken, fresh_broken}

@@ -1,25 +1,23 @@
 -- A `-` at a text's end, where another entry of a block mapping may stand, begins a key that none before has with letters and a colon behind it. By induction on the letters.
-use Rattle.std.proofs.Common.{◌≡◌, ℕ, zero, suc, ◌+◌, ◌-◌, ◌<◌, ◌≤◌, Bool, true, false, ◌||◌, ◌&&◌, not, cond, nat_eq, nat_lt, arith, List, [], ◌∷◌, ◌++◌, Option, Some, None, take, drop, get_or, length, refl, sym, ap, ◌∙◌, subst, true≢false, append-nil, append_assoc, length-append, length-drop}
+use Rattle.std.proofs.Common.{◌≡◌, ℕ, zero, suc, ◌+◌, ◌-◌, ◌<◌, ◌≤◌, Bool, true, false, ◌||◌, ◌&&◌, cond, nat_eq, arith, List, [], ◌∷◌, ◌++◌, Option, Some, None, take, drop, get_or, length, refl, sym, ap, ◌∙◌, subst, append_assoc, length-append, length-drop}
 use Rattle.std.proofs.lemmas.Bool.Decides.{nat_tests}
 use Rattle.std.proofs.lemmas.List.{take_all}
 use Rattle.std.proofs.lemmas.Slice.Eq.{bytes_eq-Decides}
 use Rattle.std.specs.Prelude.{slice_index}
 use Rattle.std.specs.Str.{bytes_eq}
-use Rattle.doc_values.specs.Tree.{Forest, Nil, Node, Label, key_is, has_key}
+use Rattle.doc_values.specs.Tree.{Forest, Nil, Node, key_is, has_key}
 use Rattle.doc_values.specs.Unfinished.{Level}
 use Rattle.yaml_scalars.specs.declared.plain_line.Why.TheVariants.{Break}
-use Rattle.yaml_scalars.specs.Lines.{Line, Stands, Fails, lines, is_white, is_mark, is_cut_mark, keep, trimmed, is_blank}
+use Rattle.yaml_scalars.specs.Lines.{Stands, Fails, lines, is_mark, is_cut_mark, keep, trimmed, is_blank}
 use Rattle.yaml_scalars.specs.Plain.{plain_len, content, why, reason, first, plain_on}
 use Rattle.yaml_scalars.specs.Scalar.{is_first_column, begins_order_mark, begins_quoted, begins_block, plain_scalar, quoted_scalar, block_scalar, scalar_at}
 use Rattle.yaml_laws.proofs.Agree.{drop_before}
 use Rattle.yaml_laws.proofs.Longer.{rest_of, no_feed, one_line}
-use Rattle.yaml_laws.proofs.PlainDead.{drop_whole}
-use Rattle.yaml_blocks.specs.declared.ahead.Ahead.{Ahead}
 use Rattle.yaml_blocks.specs.declared.ahead.Token.TheVariants.{Dash}
 use Rattle.yaml_blocks.specs.declared.form.Form.{Form}
 use Rattle.yaml_blocks.specs.declared.form.Form.TheVariants.{Entries}
 use Rattle.yaml_blocks.specs.Ahead.{ahead}
-use Rattle.yaml_blocks.specs.Nodes.{as_key, starts_scalar, scalar_ahead}
+use Rattle.yaml_blocks.specs.Nodes.{as_key, scalar_ahead}
 use Rattle.yaml_blocks.specs.Signs.{Tree}
 use Rattle.yaml_blocks.specs.code.Closers.{letters}
 use Rattle.yaml_blocks.specs.code.Rest.{Ends}

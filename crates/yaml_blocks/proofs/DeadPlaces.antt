@@ -1,5 +1,5 @@
 -- Where a text shows that it is no document: each place behind such a one shows it too, and so does a place where no text that is the same so far is a document. By the parts of texts.
-use Rattle.std.proofs.Common.{◌≡◌, ℕ, zero, suc, ◌<◌, ◌≤◌, ◌⊎◌, inl, inr, false, ◌&&◌, nat_eq, List, [], ◌∷◌, ◌++◌, drop, length, refl, sym, ap, ◌∙◌, subst, arith, append_assoc}
+use Rattle.std.proofs.Common.{◌≡◌, ℕ, zero, suc, ◌<◌, ◌≤◌, ◌⊎◌, inl, inr, false, ◌&&◌, nat_eq, List, [], ◌∷◌, ◌++◌, length, refl, sym, ap, ◌∙◌, subst, arith, append_assoc}
 use Rattle.std.specs.Prelude.{IsUtf8}
 use Rattle.doc_values.specs.Tree.{Forest}
 use Rattle.yaml_scalars.specs.Lines.{begins_with}

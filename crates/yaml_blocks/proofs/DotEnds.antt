@@ -1,5 +1,5 @@
 -- One or two dots that begin the text's last line make a line `...` of it with those that lack. By induction over lines.
-use Rattle.std.proofs.Common.{◌≡◌, ℕ, suc, ◌+◌, ◌<◌, ◌≤◌, inr, Bool, true, false, cond, arith, List, [], ◌∷◌, ◌++◌, drop, length, refl, sym, ap, ◌∙◌, subst, true≢false, append-nil, length-append, length-drop}
+use Rattle.std.proofs.Common.{◌≡◌, ℕ, ◌+◌, ◌<◌, ◌≤◌, inr, Bool, true, false, cond, arith, List, [], ◌∷◌, ◌++◌, drop, length, refl, sym, ap, ◌∙◌, subst, true≢false, append-nil, length-append, length-drop}
 use Rattle.yaml_scalars.specs.Lines.{Line, lines, begins_with, is_white, lead, indent, past_white, is_mark}
 use Rattle.yaml_scalars.specs.Scalar.{is_first_column}
 use Rattle.yaml_scalars.specs.code.Walk.{line_at, has_break, behind}

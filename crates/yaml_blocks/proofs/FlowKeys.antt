@@ -1,20 +1,20 @@
 -- What makes a document of a text that breaks off behind a key between brackets: a break and the brackets. By the cases of what is ahead.
-use Rattle.std.proofs.Common.{◌≡◌, ℕ, suc, ◌+◌, ◌<◌, ◌≤◌, inl, inr, Bool, true, false, cond, arith, List, [], ◌∷◌, ◌++◌, Some, drop, length, refl, sym, ap, ◌∙◌, subst, true≢false, append_assoc, length-append}
+use Rattle.std.proofs.Common.{◌≡◌, ℕ, suc, ◌<◌, ◌≤◌, inr, Bool, true, false, cond, arith, List, [], ◌∷◌, ◌++◌, Some, length, refl, sym, ap, ◌∙◌, subst, append_assoc, length-append}
 use Rattle.doc_values.specs.declared.kind.Kind.TheVariants as kind
 use Rattle.doc_values.specs.Tree.{Forest, Nil, Node, snoc, joined, has_key}
 use Rattle.doc_values.specs.Unfinished.{Level}
 use Rattle.yaml_scalars.specs.Lines.{Stands, Fails, ends_with}
-use Rattle.yaml_scalars.specs.Scalar.{begins_quoted, scalar_at}
+use Rattle.yaml_scalars.specs.Scalar.{scalar_at}
 use Rattle.yaml_laws.proofs.KeyLines.{key_fed, key_broken}
 use Rattle.yaml_blocks.specs.declared.ahead.Ahead.{Ahead}
-use Rattle.yaml_blocks.specs.declared.ahead.Token.TheVariants.{End, Closes}
+use Rattle.yaml_blocks.specs.declared.ahead.Token.TheVariants.{End}
 use Rattle.yaml_blocks.specs.declared.form.Form.{Form}
 use Rattle.yaml_blocks.specs.declared.form.Form.TheVariants.{Flow}
 use Rattle.yaml_blocks.specs.Ahead.{ahead}
-use Rattle.yaml_blocks.specs.Flow.{ends_key, IsColon}
+use Rattle.yaml_blocks.specs.Flow.{ends_key}
 use Rattle.yaml_blocks.specs.Nodes.{as_key, leaf, starts_scalar, scalar_ahead}
 use Rattle.yaml_blocks.specs.Signs.{Tree, To}
-use Rattle.yaml_blocks.specs.code.Closers.{closers, IsSpent}
+use Rattle.yaml_blocks.specs.code.Closers.{closers}
 use Rattle.yaml_blocks.specs.code.Rest.{Ends, Enters}
 use Rattle.yaml_blocks.specs.code.Steps.{Agrees, Nests}
 use Rattle.yaml_blocks.proofs.AheadFed.{ahead_fed, ahead_broken, end_broken, starts_some}

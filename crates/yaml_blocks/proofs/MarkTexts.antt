@@ -1,5 +1,5 @@
 -- A document may begin as a byte order mark does: some character with its first byte is a document, and so is the mark itself. By the bytes of a character.
-use Rattle.std.proofs.Common.{◌≡◌, ℕ, zero, suc, ◌+◌, ◌<◌, ◌≤◌, ◌⊎◌, inl, inr, Bool, true, false, ◌||◌, ◌&&◌, not, cond, nat_eq, nat_lt, ◌/◌, ◌%◌, arith, List, [], ◌∷◌, ◌++◌, take, drop, length, refl, sym, ap, ◌∙◌, subst, true≢false}
+use Rattle.std.proofs.Common.{◌≡◌, ℕ, zero, suc, ◌+◌, ◌<◌, ◌≤◌, ◌⊎◌, inl, inr, Bool, true, false, ◌&&◌, cond, nat_eq, nat_lt, ◌/◌, ◌%◌, arith, List, [], ◌∷◌, ◌++◌, take, drop, length, refl, sym, ap, ◌∙◌, subst, true≢false}
 use Rattle.std.proofs.lemmas.Bool.{cases_lt}
 use Rattle.std.proofs.lemmas.Bool.Decides.{nat_tests}
 use Rattle.std.proofs.lemmas.Str.{IsUtf8-encode, IsUtf8-append, encode_ascii}
@@ -7,7 +7,7 @@ use Rattle.std.proofs.Math.Utf8.{encode, encodes, scalar, scalars}
 use Rattle.std.specs.Prelude.{None}
 use Rattle.std.specs.Str.{IsUtf8}
 use Rattle.doc_values.specs.declared.kind.Kind.TheVariants as kind
-use Rattle.doc_values.specs.Tree.{Label, Forest, Nil, Node}
+use Rattle.doc_values.specs.Tree.{Forest, Nil, Node}
 use Rattle.yaml_scalars.specs.Lines.{Stands, lines, begins_with, is_white, trimmed}
 use Rattle.yaml_scalars.specs.Plain.{stops, plain_len, why, first, plain_on}
 use Rattle.yaml_scalars.specs.Scalar.{begins_order_mark, scalar_at, is_typed}

@@ -1,5 +1,5 @@
 -- How far a text is looked at for what it has ahead, by the bytes there. By induction over lines.
-use Rattle.std.proofs.Common.{◌≡◌, ℕ, zero, suc, ◌+◌, ◌<◌, ◌≤◌, ◌⊎◌, inl, inr, Bool, true, false, ◌||◌, ◌&&◌, not, cond, nat_eq, nat_lt, arith, List, [], ◌∷◌, drop, length, refl, sym, ap, ◌∙◌, subst, true≢false}
+use Rattle.std.proofs.Common.{◌≡◌, ℕ, zero, suc, ◌+◌, ◌<◌, ◌≤◌, ◌⊎◌, inl, inr, Bool, true, false, ◌||◌, ◌&&◌, cond, nat_eq, nat_lt, arith, List, [], ◌∷◌, drop, length, refl, sym, ap, ◌∙◌, subst, true≢false}
 use Rattle.std.proofs.lemmas.Bool.Decides.{nat_tests}
 use Rattle.std.proofs.lemmas.Bool.{ltb-true}
 use Rattle.std.proofs.lemmas.List.{drop-drop}
@@ -14,7 +14,7 @@ use Rattle.yaml_blocks.specs.declared.ahead.Token.{Token}
 use Rattle.yaml_blocks.specs.declared.ahead.Token.TheVariants.{End, Dashes, Dots, Dash, Tag, NoTag, Opens, Closes, Comma, Point, Anchor, Percent, Tabbed, Stray, Other}
 use Rattle.yaml_blocks.specs.Ahead.{is_name, tab_token, token_of, token_at, mark_of, is_passed, is_tabbed, content_ahead, line_ahead, rest_ahead, ahead}
 use Rattle.yaml_blocks.specs.code.AheadSeen.{token_shown, first_return, content_shown, line_seen, rest_seen, ahead_seen, is_told}
-use Rattle.yaml_blocks.specs.code.StopPlaces.{is_stray, run_width, token_width, is_hidden, width, past_return, told_place}
+use Rattle.yaml_blocks.specs.code.StopPlaces.{is_stray, run_width, token_width, width, past_return, told_place}
 use Rattle.yaml_blocks.specs.code.Steps.{is_ending}
 use Rattle.yaml_blocks.specs.code.Twins.{IsPast}
 use Rattle.yaml_blocks.proofs.AheadOrder.{line_rest, widest_less}

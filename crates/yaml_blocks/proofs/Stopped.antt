@@ -24,7 +24,7 @@ use Rattle.yaml_blocks.specs.code.AheadSeen.{ahead_seen}
 use Rattle.yaml_blocks.specs.code.StopPlaces.{told_place}
 use Rattle.yaml_blocks.specs.code.Refused.{of_build, of_sign}
 use Rattle.yaml_blocks.specs.code.Rest.{top, Inside, Ends, Enters, Awaits}
-use Rattle.yaml_blocks.specs.code.Steps.{IsBlock, Open, SameEnd, IsSeen, IsCalm, Awaited, Fits, Gives, Deep, Opened, TagBegun, Closed, Completes, is_ending}
+use Rattle.yaml_blocks.specs.code.Steps.{IsBlock, Open, SameEnd, IsSeen, Fits, Gives, Deep, Opened, TagBegun, Closed, Completes, is_ending}
 use Rattle.yaml_blocks.specs.code.Twins.{IsTwin, IsPast, Stops, NoTail, NoLine, NoFlowValue, NoValue, NoEntry, StopsStep}
 use Rattle.yaml_blocks.proofs.Forms.{flow_inside}
 use Rattle.yaml_blocks.proofs.Gains.{told}

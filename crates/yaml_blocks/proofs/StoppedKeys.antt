@@ -1,5 +1,5 @@
 -- Where reading stops behind a key: no colon follows it, in no text that is the same as far as what it has ahead is looked at. By the cases of what is ahead.
-use Rattle.std.proofs.Common.{◌≡◌, ℕ, ◌+◌, cond, ◌<◌, ◌≤◌, inl, inr, Bool, true, false, List, drop, refl, sym, ap, ◌∙◌, subst, arith}
+use Rattle.std.proofs.Common.{◌≡◌, ℕ, ◌+◌, cond, ◌<◌, ◌≤◌, inl, inr, Bool, true, false, List, drop, refl, sym, ◌∙◌, subst, arith}
 use Rattle.std.specs.Prelude.{Err}
 use Rattle.std.specs.Str.{IsCharBoundary}
 use Rattle.doc_values.specs.Tree.{has_key}

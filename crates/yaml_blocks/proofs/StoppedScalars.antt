@@ -1,5 +1,5 @@
 -- Where reading stops at a scalar that fails: it stands in no text that is the same as far as the place, nor does a key. By what is read there instead.
-use Rattle.std.proofs.Common.{◌≡◌, ℕ, ◌+◌, ◌<◌, ◌≤◌, ◌⊎◌, inl, inr, Bool, true, false, List, ◌∷◌, ◌++◌, cond, nat_lt, drop, length, refl, sym, ap, ◌∙◌, subst, true≢false, arith}
+use Rattle.std.proofs.Common.{◌≡◌, ℕ, ◌+◌, ◌<◌, ◌≤◌, ◌⊎◌, inl, inr, Bool, true, false, List, cond, drop, length, refl, sym, ap, ◌∙◌, subst, true≢false, arith}
 use Rattle.std.proofs.lemmas.Bool.{cases_lt}
 use Rattle.std.specs.Prelude.{Result, Ok, Err, None}
 use Rattle.doc_values.specs.Tree.{Forest}
@@ -21,14 +21,13 @@ use Rattle.yaml_blocks.specs.declared.stop.Stop.TheVariants as stop
 use Rattle.yaml_blocks.specs.Ahead.{ahead}
 use Rattle.yaml_blocks.specs.Blocks.{takes_scalar, takes_mapping}
 use Rattle.yaml_blocks.specs.Flow.{may_miss}
-use Rattle.yaml_blocks.specs.Nodes.{setting_of, as_key, starts_scalar, scalar_ahead, follows_get_att, is_tagged, node_sign}
+use Rattle.yaml_blocks.specs.Nodes.{setting_of, as_key, starts_scalar, scalar_ahead, is_tagged, node_sign}
 use Rattle.yaml_blocks.specs.Signs.{Tree, Refused, ManyDocuments}
 use Rattle.yaml_blocks.specs.code.AheadSeen.{ahead_seen}
-use Rattle.yaml_blocks.specs.code.StopPlaces.{width, failed_place}
-use Rattle.yaml_blocks.specs.code.Rest.{top, Awaits}
-use Rattle.yaml_blocks.specs.code.Steps.{IsSeen, IsFlow, IsBlock, Open, Awaited, NoKey, Missed, Failed, Gives, is_ending, is_flow_ending}
-use Rattle.yaml_blocks.specs.code.Twins.{IsTwin, IsPast, Stops, NoValue, NoFlowValue, FailedAt}
-use Rattle.yaml_blocks.proofs.AheadOrder.{widest_less}
+use Rattle.yaml_blocks.specs.code.StopPlaces.{width}
+use Rattle.yaml_blocks.specs.code.Rest.{top}
+use Rattle.yaml_blocks.specs.code.Steps.{IsFlow, IsBlock, Open, NoKey, Missed, Failed, is_ending, is_flow_ending}
+use Rattle.yaml_blocks.specs.code.Twins.{IsTwin, Stops, NoValue, NoFlowValue, FailedAt}
 use Rattle.yaml_blocks.proofs.AheadStays.{widest_first}
 use Rattle.yaml_blocks.proofs.BlockGains.{scalar_gives, spot_of}
 use Rattle.yaml_blocks.proofs.Gains.{flow_spot, holds_gives}

@@ -1,5 +1,5 @@
 -- What makes a document of a text that breaks off in a scalar, where a value may stand: bytes that complete the scalar so that it ends with the text, and brackets.
-use Rattle.std.proofs.Common.{◌≡◌, ℕ, suc, ◌+◌, ◌-◌, ◌<◌, ◌≤◌, ◌⊎◌, inl, inr, Bool, true, false, ◌||◌, ◌&&◌, not, cond, nat_eq, nat_lt, nat_le, arith, List, [], ◌∷◌, ◌++◌, Option, take, drop, length, refl, sym, ap, ◌∙◌, subst, true≢false, append_assoc, append-nil, length-append, length-drop}
+use Rattle.std.proofs.Common.{◌≡◌, ℕ, ◌+◌, ◌-◌, ◌<◌, ◌≤◌, ◌⊎◌, inl, inr, Bool, true, false, ◌||◌, not, cond, nat_eq, nat_lt, nat_le, arith, List, [], ◌∷◌, ◌++◌, Option, take, drop, length, refl, sym, ap, ◌∙◌, subst, true≢false, append_assoc, append-nil, length-append, length-drop}
 use Rattle.std.proofs.lemmas.Bool.Decides.{nat_tests}
 use Rattle.std.proofs.lemmas.List.{take-append-le}
 use Rattle.std.specs.Str.{bytes_eq}
@@ -16,11 +16,10 @@ use Rattle.yaml_laws.specs.code.Refusals.{is_ascii}
 use Rattle.yaml_laws.specs.code.Endings.{last_mark, further_line}
 use Rattle.yaml_laws.proofs.Agree.{drop_before}
 use Rattle.yaml_laws.proofs.Longer.{no_feed}
-use Rattle.yaml_laws.proofs.EscapeLonger.{is_fit}
 use Rattle.yaml_laws.proofs.BlockFed.{block_returned_ends, header_ends}
 use Rattle.yaml_laws.proofs.PlainFed.{ascii_spaces, scalar_fed}
 use Rattle.yaml_laws.proofs.PlainPointed.{scalar_pointed}
-use Rattle.yaml_laws.proofs.ScalarEnds.{IsGrownBy, scalar_grown, quoted_fed}
+use Rattle.yaml_laws.proofs.ScalarEnds.{scalar_grown, quoted_fed}
 use Rattle.yaml_laws.proofs.ScalarFollowed.{feed_none, quoted_longer, block_longer, flow_closed}
 use Rattle.yaml_scalars.specs.Plain.{above_of}
 use Rattle.yaml_blocks.specs.declared.ahead.Ahead.{Ahead}
@@ -30,7 +29,7 @@ use Rattle.yaml_blocks.specs.Ahead.{ahead}
 use Rattle.yaml_blocks.specs.Blocks.{takes_scalar}
 use Rattle.yaml_blocks.specs.Nodes.{setting_of, tag_name, get_att, follows_get_att, is_cut, starts_scalar, scalar_ahead}
 use Rattle.yaml_blocks.specs.Signs.{Tree}
-use Rattle.yaml_blocks.specs.code.Closers.{closer, closers, in_flow, IsUncut, MayBegin, MendsValue}
+use Rattle.yaml_blocks.specs.code.Closers.{closers, in_flow, IsUncut, MayBegin, MendsValue}
 use Rattle.yaml_blocks.specs.code.Rest.{top, Awaits}
 use Rattle.yaml_blocks.specs.code.Steps.{Agrees, Nests, IsBlock}
 use Rattle.yaml_blocks.proofs.AheadFed.{ahead_broken, returned_ahead, starts_some}

@@ -1,9 +1,8 @@
 -- How far a text is looked at for what a place has ahead.
-use Rattle.std.specs.Prelude.{ℕ, suc, ◌+◌, Bool, ◌||◌, ◌&&◌, not, true, false, List, [], ◌∷◌, length, drop, nat_eq, nat_lt, if◌then◌else◌}
+use Rattle.std.specs.Prelude.{ℕ, suc, ◌+◌, Bool, ◌||◌, ◌&&◌, true, false, List, [], ◌∷◌, length, drop, nat_eq, nat_lt, if◌then◌else◌}
 use Rattle.yaml_scalars.specs.Lines.{Line, lines, begins_with, is_white, lead, past_white, is_mark}
 use Rattle.yaml_scalars.specs.Block.{shown, widest}
 use Rattle.yaml_scalars.specs.Scalar.{is_first_column}
-use Rattle.yaml_blocks.specs.declared.ahead.Ahead.{Ahead}
 use Rattle.yaml_blocks.specs.declared.ahead.Token.{Token}
 use Rattle.yaml_blocks.specs.declared.ahead.Token.TheVariants.{End, Dashes, Dots, Tabbed, Stray}
 use Rattle.yaml_blocks.specs.Ahead.{is_name, is_passed}
@@ -44,15 +43,3 @@ is_told Dots = false
 is_told Tabbed = false
 is_told Stray = false
 is_told _ = true
-
--- whether the first of the bytes alone tells a token that it begins
-abbrev pub is_sure : ℕ → Bool
-is_sure b = not (nat_eq b 33 || (nat_eq b 45 || (nat_eq b 46 || nat_eq b 58)))
-
-abbrev pub begins_sure : List ℕ → Bool
-begins_sure [] = false
-begins_sure (b ∷ bs) = is_sure b
-
--- the place of a token where its first byte alone tells it, else the text's length
-abbrev pub told_place : List ℕ → Ahead → ℕ
-told_place text a = if is_told a.token && begins_sure (drop a.at text) then a.at else length text

@@ -1,4 +1,4 @@
-use Rattle.std.proofs.Common.{◌<◌, ◌≡◌, ℕ, List, ◌∷◌, [], ◌++◌, true, false, drop, length, sym, subst, ap, ◌∙◌}
+use Rattle.std.proofs.Common.{◌<◌, ◌∷◌, [], ◌++◌, drop, length, sym, subst, ap, ◌∙◌}
 use Rattle.yaml_blocks.proofs.Values.{value_plain, value_quoted, value_block}
 use Rattle.yaml_scalars.specs.Scalar.{begins_quoted, begins_block}
 use Rattle.yaml_scalars.specs.code.Walk.{behind}

@@ -79,4 +79,4 @@ returns-else-map-clause-stops c =
     subst (λ (a : Ahead). Stops c.args.text.now at (NoEntry at a fs u) c.node.result) c.look-next.ensures.0
     (stops_from c.args.text.now at (NoFlowValue at next fs u) (NoEntry at next fs u) c.node.result
     (λ text k seen t h. k seen t (item_follows text fs u at next seen.0 (c.requires.form ∙ ap Flow c.if-map.false) c.requires.open (λ e. c.closes.ensures.no c.if-closes.false (e ∙ ap Closes (sym c.if-map.false)))
-        (sym c.is_marked.ensures ∙ c.if-is_marked.false) c.requires.awaited (Tree t) h)) c.node.ensures.stops)
+    (sym c.is_marked.ensures ∙ c.if-is_marked.false) c.requires.awaited (Tree t) h)) c.node.ensures.stops)
