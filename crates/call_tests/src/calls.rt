@@ -22,6 +22,7 @@ pub(crate) struct Given<'a> {
     pub data: &'a [u8],
     pub params: &'a [u8],
     pub proof: &'a [u8],
+    pub tests: &'a [u8],
     /// The loads that fail, by their numbers from 0.
     pub failing: &'a [u64],
     /// The calls for a pattern that fail.
@@ -46,6 +47,9 @@ pub(crate) const CHECK_WITH_PARAMS: &[&str] = &[
     "check", "--rules", "r.guard", "--data", "d.json", "--params", "p.json", "--proof", "e",
 ];
 
+/// Those of a test of rules.
+pub(crate) const TEST: &[&str] = &["test", "--rules", "r.guard", "--tests", "t.json"];
+
 /// A validation of the rules and the template above.
 pub(crate) const FIRST: Given<'static> = Given {
     words: VALIDATE,
@@ -53,6 +57,7 @@ pub(crate) const FIRST: Given<'static> = Given {
     data: NAMED,
     params: b"{}",
     proof: b"",
+    tests: b"[]",
     failing: &[],
     refusing: &[],
     out_room: AMPLE,
@@ -71,6 +76,12 @@ pub(crate) const JOINED: Given<'static> = Given {
     ..FIRST
 };
 
+/// A test of the rules above.
+pub(crate) const TESTED: Given<'static> = Given {
+    words: TEST,
+    ..FIRST
+};
+
 /// What a call is to end with.
 #[derive(Clone, Copy)]
 pub(crate) enum Wanted {
@@ -78,6 +89,10 @@ pub(crate) enum Wanted {
     Passed,
     /// The evidence is rejected, with this on out.
     Rejected(&'static [u8]),
+    /// The verdicts are as the tests expect them, with this on out.
+    Met(&'static [u8]),
+    /// They are not, with this on out.
+    Unmet(&'static [u8]),
     /// A text is refused, with this on err.
     Refused(&'static [u8]),
     /// A device fails: the end by its word, and what out and err take.
@@ -90,6 +105,8 @@ impl Wanted {
         match self {
             Wanted::Passed => ("passed", 0, PASSED, b""),
             Wanted::Rejected(line) => ("rejected", 19, *line, b""),
+            Wanted::Met(text) => ("passed", 0, *text, b""),
+            Wanted::Unmet(text) => ("failed", 19, *text, b""),
             Wanted::Refused(line) => ("refused", 5, b"", *line),
             Wanted::Failed(end, out, err) => (*end, 6, *out, *err),
         }
@@ -166,6 +183,7 @@ fn files_of(alloc: Global, given: &Given<'_>) -> Result<Vec<(String, Vec<u8>)>, 
         ("d.json", given.data),
         ("p.json", given.params),
         ("e", given.proof),
+        ("t.json", given.tests),
     ] {
         files.push(file(alloc, name, bytes)?)?;
     }
@@ -199,6 +217,7 @@ pub(crate) fn word(end: &End) -> &'static str {
         End::ReadFault(Which::Template) => "template not read",
         End::ReadFault(Which::Params) => "parameters not read",
         End::ReadFault(Which::Proof) => "proof not read",
+        End::ReadFault(Which::Tests) => "tests not read",
         End::WriteFault(Pipe::Out) => "out not written",
         End::WriteFault(Pipe::Err) => "err not written",
         End::PatternRefused => "pattern not made",

@@ -10,3 +10,5 @@ mod evidence;
 mod faults;
 #[cfg(test)]
 mod orders;
+#[cfg(test)]
+mod tests;
