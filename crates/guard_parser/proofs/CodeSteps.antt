@@ -11,7 +11,7 @@ use Rattle.literal_parser.specs.code.Reads.{Reads}
 use Rattle.literal_parser.specs.declared.cursor.Halt.{Halt}
 use Rattle.literal_parser.specs.declared.cursor.Halt.TheVariants.{Dead, NoMemory}
 use Rattle.literal_parser.specs.declared.token_cursor.Cursor.{Cursor}
-use Rattle.guard_parser.specs.code.Reading.{inners}
+use Rattle.guard_parser.specs.code.Reading.{numbered}
 use Rattle.literal_parser.specs.code.LiteralReading.{literal_of}
 use Rattle.guard_parser.specs.code.GrammarReads.{listed}
 
@@ -57,9 +57,9 @@ pub deeper : (n : ℕ) → n ≢ 0 → n ≡ suc (n - 1)
 deeper n some = omega arith
 
 -- a literal is read the same way at each depth
-pub tree_is : (s : ℕ → Lexeme) (turns depth : ℕ) → (inners s turns depth).tree ≡ literal_of s turns depth
-tree_is s turns zero = refl
-tree_is s turns (suc depth) = refl
+pub tree_is : (s : ℕ → Lexeme) (turns : ℕ) (number : ℕ → ℕ) (depth : ℕ) → (numbered s turns number depth).tree ≡ literal_of s turns depth
+tree_is s turns number zero = refl
+tree_is s turns number (suc depth) = refl
 
 -- ---- what a function answers
 

@@ -301,19 +301,19 @@ module _ (s : ℕ → Lexeme) where
   filled (more_disjs d ds) h = refl
 
   module _ (turns : ℕ) (i : Inner) where
-    start_gives : (p : Step) (a b : State) (seen : ℕ) → IsStart s p a b → Gives (start_step s turns i a seen) p b
+    start_gives : ((k : ℕ) → i.number k ≡ k) → (p : Step) (a b : State) (seen : ℕ) → IsStart s p a b → Gives (start_step s turns i a seen) p b
     unfolding start_step
-    start_gives (this n) a b seen (m, o, f) = gives_then _ (gives_opens s n a m seen o) (λ sn. by s is_this true _ _ m sn f.0 (gives_then _ (gives_takes s is_this m b _ f) (λ sn. gives)))
-    start_gives (var n name) a b seen (m, o, f) = gives_then _ (gives_opens s n a m seen o) (λ sn. by s is_this false _ _ m sn (apart is_var is_this (s m.at) refl f.0)
+    start_gives exact (this n) a b seen (m, o, f) = gives_then _ (gives_opens s i.number exact n a m seen o) (λ sn. by s is_this true _ _ m sn f.0 (gives_then _ (gives_takes s is_this m b _ f) (λ sn. gives)))
+    start_gives exact (var n name) a b seen (m, o, f) = gives_then _ (gives_opens s i.number exact n a m seen o) (λ sn. by s is_this false _ _ m sn (apart is_var is_this (s m.at) refl f.0)
         (by s is_var true _ _ m _ f.0 (gives_then _ (gives_has s is_var text_of name m b _ f) (λ sn. gives))))
-    start_gives (key n name) a b seen (m, o, f) = gives_then _ (gives_opens s n a m seen o) (λ sn. by s is_this false _ _ m sn (apart is_first_key is_this (s m.at) refl f.0)
+    start_gives exact (key n name) a b seen (m, o, f) = gives_then _ (gives_opens s i.number exact n a m seen o) (λ sn. by s is_this false _ _ m sn (apart is_first_key is_this (s m.at) refl f.0)
         (by s is_var false _ _ m _ (apart is_first_key is_var (s m.at) refl f.0) (gives_then _ (gives_has s is_first_key text_of name m b _ f) (λ sn. gives))))
-    start_gives (index n k) a b seen h = absurd h
-    start_gives (every n) a b seen h = absurd h
-    start_gives (items n) a b seen h = absurd h
-    start_gives (splice n name) a b seen h = absurd h
-    start_gives (filter n name c) a b seen h = absurd h
-    start_gives (keys n name op v e) a b seen h = absurd h
+    start_gives exact (index n k) a b seen h = absurd h
+    start_gives exact (every n) a b seen h = absurd h
+    start_gives exact (items n) a b seen h = absurd h
+    start_gives exact (splice n name) a b seen h = absurd h
+    start_gives exact (filter n name c) a b seen h = absurd h
+    start_gives exact (keys n name op v e) a b seen h = absurd h
 
     -- an expression, or in a let one that may begin with `some`
     abbrev reader : Bool → Parser Expr
@@ -330,12 +330,12 @@ module _ (s : ℕ → Lexeme) where
     part_of true = full_part s turns i
     part_of false = cond_part s turns i
 
-    cond_opened : (full : Bool) (n : ℕ) (p : Part) (a b z : State) (seen : ℕ) → Opens s n a b → begins_cond (form (s b.at)) ≡ true
+    cond_opened : ((k : ℕ) → i.number k ≡ k) → (full : Bool) (n : ℕ) (p : Part) (a b z : State) (seen : ℕ) → Opens s n a b → begins_cond (form (s b.at)) ≡ true
         → ((k : ℕ) → Gives (cond_of s turns i full n b k) p z) → Gives (part_of full a seen) p z
     unfolding full_part cond_part
-    cond_opened true n p a b z seen o e h = gives_then _ (gives_opens s n a b seen o) (λ sn. by s is_when false _ _ b sn (apart begins_cond is_when (s b.at) refl e)
+    cond_opened exact true n p a b z seen o e h = gives_then _ (gives_opens s i.number exact n a b seen o) (λ sn. by s is_when false _ _ b sn (apart begins_cond is_when (s b.at) refl e)
         (by s is_type_name false _ _ b _ (apart begins_cond is_type_name (s b.at) refl e) (h _)))
-    cond_opened false n p a b z seen o e h = gives_then _ (gives_opens s n a b seen o) (λ sn. h sn)
+    cond_opened exact false n p a b z seen o e h = gives_then _ (gives_opens s i.number exact n a b seen o) (λ sn. h sn)
 
     any_chosen : (full any : Bool) (n : ℕ) (p : Part) (a b z : State) (seen : ℕ) → IsAny s full any a b
         → ((k : ℕ) → Gives (headed s turns i full n any b k) p z) → Gives (cond_of s turns i full n a seen) p z
@@ -373,7 +373,7 @@ module _ (s : ℕ → Lexeme) where
           let m = place h.1 in
           let all = grow.all_grow ps (grow.lets_grow s literal_grows ls _ l) (rw (grow.no_rules s ps c d row) tt) (grow.parts_grow s literal_grows ds _ p) in
           let ends = row_ends body_sort turns ps c d row all (omega arith) in
-          gives_then _ (gives_opens s n a b seen o) (λ sn. gives_then _ (gives_takes s is_lbrace b c sn e) (λ sn.
+          gives_then _ (gives_opens s (λ k. k) (λ k. refl) n a b seen o) (λ sn. gives_then _ (gives_takes s is_lbrace b c sn e) (λ sn.
           gives_then _ (body_items_give turns (inners s turns depth) turns ps ls ds c d sn (omega arith) all row
           (lets_given depth ls _ (omega arith) (sort_ends ALet turns ps ends) l) (parts_given depth ds _ (omega arith) (sort_ends APart turns ps ends) p)) (λ sn.
           gives_if _ _ d sn (is_filled ds) true (filled ds f) (gives_then _ (gives_takes s is_rbrace d z sn h) (λ sn. gives)))))
@@ -392,14 +392,14 @@ module _ (s : ℕ → Lexeme) where
 
       pub let_gives : (depth : ℕ) (x : Let) (a b : State) (seen : ℕ) → deep_let x ≤ depth → b.at < turns → IsLet s x a b → Gives (let_of s turns (inners s turns depth) a seen) x b
       let_gives depth (assign n name e) a z seen deep end (b, o, (c, f, (d, g, (l, h, k)))) =
-          gives_then _ (gives_opens s n a b seen o) (λ sn. gives_then _ (gives_takes s is_let b c sn f) (λ sn. gives_then _ (gives_has s is_name named_of name c d sn g) (λ sn.
+          gives_then _ (gives_opens s (λ k. k) (λ k. refl) n a b seen o) (λ sn. gives_then _ (gives_takes s is_let b c sn f) (λ sn. gives_then _ (gives_has s is_name named_of name c d sn g) (λ sn.
           gives_then _ (gives_takes s is_assign d l sn h) (λ sn. gives_then _ (expr_gives depth true e l z sn deep end k) (λ sn. gives)))))
 
       pub conds_give : (depth : ℕ) (x : Conds) (a b : State) (seen : ℕ) → deep_conds x ≤ depth → b.at < turns → IsConds s x a b → Gives (conds_of s turns (inners s turns depth) a seen) x b
       conds_give depth (conds n no_disjs) a z seen deep end h = absurd h
       conds_give depth (conds n (more_disjs d ds)) a z seen deep end (b, o, (l, f, g)) =
           let q = grow.disjs_grow s literal_grows ds l z g in
-          gives_then _ (gives_opens s n a b seen o) (λ sn. gives_then _ (disj_gives depth false d b l sn (omega arith) (omega arith) f) (λ sn.
+          gives_then _ (gives_opens s (λ k. k) (λ k. refl) n a b seen o) (λ sn. gives_then _ (disj_gives depth false d b l sn (omega arith) (omega arith) f) (λ sn.
           gives_then _ (disjs_give depth turns ds l z sn (omega arith) (omega arith) end g) (λ sn. gives)))
 
       pub disjs_give : (depth k : ℕ) (x : Disjs) (a b : State) (seen : ℕ) → deep_disjs x ≤ depth → b.at < k + a.at → b.at < turns → IsDisjs s x a b
@@ -421,7 +421,7 @@ module _ (s : ℕ → Lexeme) where
       disj_gives depth full (disj n no_parts) a z seen deep end h = absurd h
       disj_gives depth full (disj n (more_parts p ps)) a z seen deep end (b, o, (m, f, g)) =
           let q = grow.ors_grow s literal_grows full ps m z g in
-          gives_then _ (gives_opens s n a b seen o) (λ sn. gives_then _ (part_gives depth full p b m sn (omega arith) (omega arith) f) (λ sn.
+          gives_then _ (gives_opens s (λ k. k) (λ k. refl) n a b seen o) (λ sn. gives_then _ (part_gives depth full p b m sn (omega arith) (omega arith) f) (λ sn.
           gives_then _ (ors_give depth full turns ps m z sn (omega arith) (omega arith) end g) (λ sn. gives)))
 
       pub ors_give : (depth : ℕ) (full : Bool) (k : ℕ) (x : Parts) (a b : State) (seen : ℕ) → deep_parts x ≤ depth → b.at < k + a.at → b.at < turns → IsOrs s full x a b
@@ -439,7 +439,7 @@ module _ (s : ℕ → Lexeme) where
       part_gives zero true (block n any q (body m ls ds)) a z seen deep end (v, h) = absurd (omega arith)
       part_gives (suc depth) true (block n any q x) a z seen deep end (v, (b, o, (c, i, (d, f, g)))) =
           let t = grow.body_grows s literal_grows x d z g in
-          cond_opened turns (inners s turns (suc depth)) true n _ a b z seen o (any_begins true any b c i) (λ k.
+          cond_opened turns (inners s turns (suc depth)) (λ k. refl) true n _ a b z seen o (any_begins true any b c i) (λ k.
           any_chosen turns (inners s turns (suc depth)) true any n _ b c z k i (λ k.
           gives_then _ (query_gives (suc depth) q c d k (omega arith) (omega arith) f) (λ sn. by s is_lbrace true _ _ d sn (body_begins x d z g)
           (gives_then _ (body_gives depth x d z _ (omega arith) end g) (λ sn. gives)))))
@@ -447,30 +447,30 @@ module _ (s : ℕ → Lexeme) where
       part_gives zero true (guarded n c (body m ls ds)) a z seen deep end (v, h) = absurd (omega arith)
       part_gives (suc depth) true (guarded n c x) a z seen deep end (v, (b, o, (d, e, (l, f, g)))) =
           let t = grow.body_grows s literal_grows x l z g in
-          gives_then _ (gives_opens s n a b seen o) (λ sn. by s is_when true _ _ b sn e.0 (gives_then _ (gives_takes s is_when b d _ e) (λ sn.
+          gives_then _ (gives_opens s (λ k. k) (λ k. refl) n a b seen o) (λ sn. by s is_when true _ _ b sn e.0 (gives_then _ (gives_takes s is_when b d _ e) (λ sn.
           gives_then _ (conds_give (suc depth) c d l sn (omega arith) (omega arith) f) (λ sn. gives_then _ (body_gives depth x l z sn (omega arith) end g) (λ sn. gives)))))
       part_gives depth false (kinds n name c x) a z seen deep end (v, h) = absurd cc
       part_gives zero true (kinds n name c (body m ls ds)) a z seen deep end (v, h) = absurd (omega arith)
       part_gives (suc depth) true (kinds n name c x) a z seen deep end (v, (b, o, (d, e, (l, f, g)))) =
           let t = grow.body_grows s literal_grows x l z g in
-          gives_then _ (gives_opens s n a b seen o) (λ sn. by s is_when false _ _ b sn (apart is_type_name is_when (s b.at) refl e.0) (by s is_type_name true _ _ b _ e.0
+          gives_then _ (gives_opens s (λ k. k) (λ k. refl) n a b seen o) (λ sn. by s is_when false _ _ b sn (apart is_type_name is_when (s b.at) refl e.0) (by s is_type_name true _ _ b _ e.0
           (gives_then _ (gives_has s is_type_name text_of name b d _ e) (λ sn. gives_then _ (opt_conds_give (suc depth) c d l sn (omega arith) (omega arith) f) (λ sn.
           gives_then _ (body_gives depth x l z sn (omega arith) end g) (λ sn. gives))))))
       part_gives depth full (test n any q op negated e message) a z seen deep end (b, o, (c, i, (d, f, (l, g, (m, k, p))))) =
           let t = grow.note_grows s message m z p in let u = grow.right_grows s literal_grows op e l m k in let v = grow.operator_grows s op negated d l g in
-          cond_opened turns (inners s turns depth) full n _ a b z seen o (any_begins full any b c i) (λ sn.
+          cond_opened turns (inners s turns depth) (λ k. refl) full n _ a b z seen o (any_begins full any b c i) (λ sn.
           any_chosen turns (inners s turns depth) full any n _ b c z sn i (λ sn.
           gives_then _ (query_gives depth q c d sn (omega arith) (omega arith) f) (λ sn. judged_tested turns (inners s turns depth) full any n q _ d z sn (operator_begins op negated d l g) (λ sn.
           gives_then _ (operator_gives op negated d l sn g) (λ sn. gives_then _ (right_gives depth op e l m sn (omega arith) (omega arith) k) (λ sn.
           gives_then _ (note_gives message m z sn p) (λ sn. gives)))))))
       part_gives depth full (refer n negated name message) a z seen deep end (b, o, (c, i, (d, f, (e, g)))) =
-          cond_opened turns (inners s turns depth) full n _ a b z seen o (not_begins full negated name b c d i f) (λ sn.
+          cond_opened turns (inners s turns depth) (λ k. refl) full n _ a b z seen o (not_begins full negated name b c d i f) (λ sn.
           not_chosen turns (inners s turns depth) full negated n name _ b c d z sn i f (λ sn.
           gives_then _ (gives_has s is_name text_of name c d sn f) (λ sn. by s is_lparen false _ _ d sn e (gives_then _ (note_gives message d z _ g) (λ sn. gives)))))
       part_gives zero full (call n negated name es message) a z seen deep end h = absurd (omega arith)
       part_gives (suc depth) full (call n negated name es message) a z seen deep end (b, o, (c, i, (d, f, (l, g, (m, k, (p, q, t)))))) =
           let u = place q.1 in let v = grow.note_grows s message p z t in
-          cond_opened turns (inners s turns (suc depth)) full n _ a b z seen o (not_begins full negated name b c d i f) (λ sn.
+          cond_opened turns (inners s turns (suc depth)) (λ k. refl) full n _ a b z seen o (not_begins full negated name b c d i f) (λ sn.
           not_chosen turns (inners s turns (suc depth)) full negated n name _ b c d z sn i f (λ sn.
           gives_then _ (gives_has s is_name text_of name c d sn f) (λ sn. by s is_lparen true _ _ d sn g.0 (gives_then _ (gives_takes s is_lparen d l _ g) (λ sn.
           gives_then _ (exprs_give depth es l m sn (omega arith) (omega arith) k) (λ sn. gives_then _ (gives_takes s is_rparen m p sn q) (λ sn.
@@ -485,7 +485,7 @@ module _ (s : ℕ → Lexeme) where
       query_gives depth (query n no_steps) a z seen deep end h = absurd h
       query_gives depth (query n (more_steps p ps)) a z seen deep end (b, o, (m, f, g)) =
           let q = grow.steps_grow s literal_grows ps m z g in
-          gives_then _ (gives_opens s n a b seen o) (λ sn. gives_then _ (start_gives turns (inners s turns depth) p b m sn f) (λ sn.
+          gives_then _ (gives_opens s (λ k. k) (λ k. refl) n a b seen o) (λ sn. gives_then _ (start_gives turns (inners s turns depth) (λ k. refl) p b m sn f) (λ sn.
           gives_then _ (steps_give depth turns ps m z sn (omega arith) (omega arith) end g) (λ sn. gives)))
 
       pub steps_give : (depth k : ℕ) (x : Steps) (a b : State) (seen : ℕ) → deep_steps x ≤ depth → b.at < k + a.at → b.at < turns → IsSteps s x a b
@@ -501,30 +501,30 @@ module _ (s : ℕ → Lexeme) where
       step_gives depth (this n) a z seen deep end h = absurd h
       step_gives depth (var n name) a z seen deep end h = absurd h
       step_gives depth (key n name) a z seen deep end (b, o, (c, e, f)) =
-          gives_then _ (gives_opens s n a b seen o) (λ sn. by s is_dot true _ _ b sn e.0 (gives_then _ (gives_takes s is_dot b c _ e) (λ sn.
+          gives_then _ (gives_opens s (λ k. k) (λ k. refl) n a b seen o) (λ sn. by s is_dot true _ _ b sn e.0 (gives_then _ (gives_takes s is_dot b c _ e) (λ sn.
           by s is_star false _ _ c sn (apart is_key is_star (s c.at) refl f.0) (by s is_index false _ _ c _ (apart is_key is_index (s c.at) refl f.0)
           (by s is_var false _ _ c _ (apart is_key is_var (s c.at) refl f.0) (gives_then _ (gives_has s is_key text_of name c z _ f) (λ sn. gives)))))))
       step_gives depth (index n i) a z seen deep end (b, o, inl (c, e, f)) =
-          gives_then _ (gives_opens s n a b seen o) (λ sn. by s is_dot true _ _ b sn e.0 (gives_then _ (gives_takes s is_dot b c _ e) (λ sn.
+          gives_then _ (gives_opens s (λ k. k) (λ k. refl) n a b seen o) (λ sn. by s is_dot true _ _ b sn e.0 (gives_then _ (gives_takes s is_dot b c _ e) (λ sn.
           by s is_star false _ _ c sn (apart is_index is_star (s c.at) refl f.0) (by s is_index true _ _ c _ f.0 (gives_then _ (gives_has s is_index index_of i c z _ f) (λ sn. gives))))))
       step_gives depth (index n i) a z seen deep end (b, o, inr (c, e, (d, f, g))) =
-          gives_then _ (gives_opens s n a b seen o) (λ sn. by s is_dot false _ _ b sn (apart is_lbracket is_dot (s b.at) refl e.0) (gives_then _ (gives_takes s is_lbracket b c _ e) (λ sn.
+          gives_then _ (gives_opens s (λ k. k) (λ k. refl) n a b seen o) (λ sn. by s is_dot false _ _ b sn (apart is_lbracket is_dot (s b.at) refl e.0) (gives_then _ (gives_takes s is_lbracket b c _ e) (λ sn.
           by s is_star false _ _ c sn (apart is_index is_star (s c.at) refl f.0) (by s is_index true _ _ c _ f.0 (gives_then _ (gives_has s is_index index_of i c d _ f) (λ sn.
           gives_then _ (gives_takes s is_rbracket d z sn g) (λ sn. gives)))))))
       step_gives depth (every n) a z seen deep end (b, o, (c, e, f)) =
-          gives_then _ (gives_opens s n a b seen o) (λ sn. by s is_dot true _ _ b sn e.0 (gives_then _ (gives_takes s is_dot b c _ e) (λ sn.
+          gives_then _ (gives_opens s (λ k. k) (λ k. refl) n a b seen o) (λ sn. by s is_dot true _ _ b sn e.0 (gives_then _ (gives_takes s is_dot b c _ e) (λ sn.
           by s is_star true _ _ c sn f.0 (gives_then _ (gives_takes s is_star c z _ f) (λ sn. gives)))))
       step_gives depth (items n) a z seen deep end (b, o, (c, e, (d, f, g))) =
-          gives_then _ (gives_opens s n a b seen o) (λ sn. by s is_dot false _ _ b sn (apart is_lbracket is_dot (s b.at) refl e.0) (gives_then _ (gives_takes s is_lbracket b c _ e) (λ sn.
+          gives_then _ (gives_opens s (λ k. k) (λ k. refl) n a b seen o) (λ sn. by s is_dot false _ _ b sn (apart is_lbracket is_dot (s b.at) refl e.0) (gives_then _ (gives_takes s is_lbracket b c _ e) (λ sn.
           by s is_star true _ _ c sn f.0 (gives_then _ (gives_takes s is_star c d _ f) (λ sn. gives_then _ (gives_takes s is_rbracket d z sn g) (λ sn. gives))))))
       step_gives depth (splice n name) a z seen deep end (b, o, (c, e, f)) =
-          gives_then _ (gives_opens s n a b seen o) (λ sn. by s is_dot true _ _ b sn e.0 (gives_then _ (gives_takes s is_dot b c _ e) (λ sn.
+          gives_then _ (gives_opens s (λ k. k) (λ k. refl) n a b seen o) (λ sn. by s is_dot true _ _ b sn e.0 (gives_then _ (gives_takes s is_dot b c _ e) (λ sn.
           by s is_star false _ _ c sn (apart is_var is_star (s c.at) refl f.0) (by s is_index false _ _ c _ (apart is_var is_index (s c.at) refl f.0)
           (by s is_var true _ _ c _ f.0 (gives_then _ (gives_has s is_var named_of name c z _ f) (λ sn. gives)))))))
       step_gives zero (filter n name x) a z seen deep end h = absurd (omega arith)
       step_gives (suc depth) (filter n name x) a z seen deep end (b, o, (c, e, (l, f, (m, g, h)))) =
           let t = place h.1 in
-          gives_then _ (gives_opens s n a b seen o) (λ sn. by s is_dot false _ _ b sn (apart is_lbracket is_dot (s b.at) refl e.0) (gives_then _ (gives_takes s is_lbracket b c _ e) (λ sn.
+          gives_then _ (gives_opens s (λ k. k) (λ k. refl) n a b seen o) (λ sn. by s is_dot false _ _ b sn (apart is_lbracket is_dot (s b.at) refl e.0) (gives_then _ (gives_takes s is_lbracket b c _ e) (λ sn.
           by s is_star false _ _ c sn (captured is_star begins_cond name c l f (apart is_name is_star (s c.at) refl) (apart begins_cond is_star (s c.at) refl) (conds_begin x l m g))
           (by s is_index false _ _ c _ (captured is_index begins_cond name c l f (apart is_name is_index (s c.at) refl) (apart begins_cond is_index (s c.at) refl) (conds_begin x l m g))
           (gives_then _ (capture_gives name c l _ f) (λ sn. by s is_keys false _ _ l sn (apart begins_cond is_keys (s l.at) refl (conds_begin x l m g))
@@ -532,7 +532,7 @@ module _ (s : ℕ → Lexeme) where
       step_gives zero (keys n name op negated x) a z seen deep end h = absurd (omega arith)
       step_gives (suc depth) (keys n name op negated x) a z seen deep end (b, o, (c, e, (l, f, (m, g, (p, i, (q, j, k)))))) =
           let t = place k.1 in
-          gives_then _ (gives_opens s n a b seen o) (λ sn. by s is_dot false _ _ b sn (apart is_lbracket is_dot (s b.at) refl e.0) (gives_then _ (gives_takes s is_lbracket b c _ e) (λ sn.
+          gives_then _ (gives_opens s (λ k. k) (λ k. refl) n a b seen o) (λ sn. by s is_dot false _ _ b sn (apart is_lbracket is_dot (s b.at) refl e.0) (gives_then _ (gives_takes s is_lbracket b c _ e) (λ sn.
           by s is_star false _ _ c sn (captured is_star is_keys name c l f (apart is_name is_star (s c.at) refl) (apart is_keys is_star (s c.at) refl) g.0)
           (by s is_index false _ _ c _ (captured is_index is_keys name c l f (apart is_name is_index (s c.at) refl) (apart is_keys is_index (s c.at) refl) g.0)
           (gives_then _ (capture_gives name c l _ f) (λ sn. by s is_keys true _ _ l sn g.0
@@ -543,7 +543,7 @@ module _ (s : ℕ → Lexeme) where
           → Gives (reader turns (inners s turns depth) lone a seen) x b
       expr_gives depth lone (literal n t) a z seen deep end (e, (b, o, f)) =
           lone_chosen turns (inners s turns depth) lone _ a z seen (λ w. absurd (contrary e (some_no_literal (s a.at) (s (suc a.at)) w))) (λ sn.
-          literal_chosen s turns (inners s turns depth) _ a z sn e (λ sn. gives_then _ (gives_opens s n a b sn o) (λ sn. gives_then _ (inner_tree depth t b z sn deep end f) (λ sn. gives))))
+          literal_chosen s turns (inners s turns depth) _ a z sn e (λ sn. gives_then _ (gives_opens s (λ k. k) (λ k. refl) n a b sn o) (λ sn. gives_then _ (inner_tree depth t b z sn deep end f) (λ sn. gives))))
       expr_gives zero lone (function n name es) a z seen deep end h = absurd (omega arith)
       expr_gives (suc depth) lone (function n name es) a z seen deep end (e, (b, o, (c, f, (d, g, (l, h, i))))) =
           let t = place i.1 in
@@ -551,7 +551,7 @@ module _ (s : ℕ → Lexeme) where
           let behind = subst (λ m. is_lparen (form (s (suc m))) ≡ true) (place o.1) paren in
           lone_chosen turns (inners s turns (suc depth)) lone _ a z seen (λ w. behind) (λ sn.
           applied_chosen s turns (inners s turns (suc depth)) _ a z sn refl e (subst (λ m. is_any_name (form (s m)) ≡ true) (place o.1) f.0) behind (λ sn.
-          gives_then _ (gives_opens s n a b sn o) (λ sn. gives_then _ (gives_has s is_any_name text_of name b c sn f) (λ sn. gives_then _ (gives_takes s is_lparen c d sn g) (λ sn.
+          gives_then _ (gives_opens s (λ k. k) (λ k. refl) n a b sn o) (λ sn. gives_then _ (gives_has s is_any_name text_of name b c sn f) (λ sn. gives_then _ (gives_takes s is_lparen c d sn g) (λ sn.
           gives_then _ (exprs_give depth es d l sn (omega arith) (omega arith) h) (λ sn. gives_then _ (gives_takes s is_rparen l z sn i) (λ sn. gives)))))))
       expr_gives depth lone (asked q) a z seen deep end (e, (f, g)) =
           lone_chosen turns (inners s turns depth) lone _ a z seen (λ w. absurd (contrary w (apart begins_query is_some_word (s a.at) refl (query_begins q a z g)))) (λ sn.
@@ -559,7 +559,7 @@ module _ (s : ℕ → Lexeme) where
       expr_gives depth false (found n q) a z seen deep end (v, h) = absurd cc
       expr_gives depth true (found n q) a z seen deep end (v, (e, (b, o, (c, f, g)))) =
           found_chosen s turns (inners s turns depth) _ a z seen e (subst (λ m. is_some_word (form (s m)) ≡ true) (place o.1) f.0) (λ sn.
-          gives_then _ (gives_opens s n a b sn o) (λ sn. gives_then _ (gives_takes s is_some_word b c sn f) (λ sn. gives_then _ (query_gives depth q c z sn deep end g) (λ sn. gives))))
+          gives_then _ (gives_opens s (λ k. k) (λ k. refl) n a b sn o) (λ sn. gives_then _ (gives_takes s is_some_word b c sn f) (λ sn. gives_then _ (query_gives depth q c z sn deep end g) (λ sn. gives))))
 
       pub exprs_give : (depth : ℕ) (x : Exprs) (a b : State) (seen : ℕ) → deep_exprs x ≤ depth → b.at < turns → IsExprs s x a b → Gives (exprs_of s turns (inners s turns depth) a seen) x b
       exprs_give depth no_exprs a z seen deep end h = absurd h
@@ -593,7 +593,7 @@ module _ (s : ℕ → Lexeme) where
     unfolding rule_of
     rule_gives depth x a z seen deep end (b, o, (c, e, (d, f, (l, g, h)))) =
         let t = grow.body_grows s literal_grows x.body l z h in
-        gives_then _ (gives_opens s x.site a b seen o) (λ sn. gives_then _ (gives_takes s is_rule b c sn e) (λ sn. gives_then _ (gives_has s is_rule_name named_of x.name c d sn f) (λ sn.
+        gives_then _ (gives_opens s (λ k. k) (λ k. refl) x.site a b seen o) (λ sn. gives_then _ (gives_takes s is_rule b c sn e) (λ sn. gives_then _ (gives_has s is_rule_name named_of x.name c d sn f) (λ sn.
         gives_then _ (head_gives (suc depth) x.params x.cond d l sn (omega arith) (omega arith) g) (λ sn. gives_then _ (body_gives depth x.body l z sn (omega arith) end h) (λ sn. gives)))))
 
     rules_given : (depth : ℕ) (x : List Rule) (ps : List Piece) → deep_rules x ≤ suc depth → AllEnd turns ps → AreRules s x ps → RulesGiven turns (inners s turns (suc depth)) x ps
@@ -609,5 +609,5 @@ module _ (s : ℕ → Lexeme) where
     contents_gives depth ls rs ds a z seen dl dr dd end (b, o, (ps, row, l, r, p)) =
         let all = grow.all_grow ps (grow.lets_grow s literal_grows ls _ l) (grow.rules_grow s literal_grows rs _ r) (grow.parts_grow s literal_grows ds _ p) in
         let ends = row_ends file_sort turns ps b z row all end in
-        gives_then _ (gives_opens s 0 a b seen o) (λ sn. file_items_give turns (inners s turns (suc depth)) turns ps ls rs ds b z sn (omega arith) all row
+        gives_then _ (gives_opens s (λ k. k) (λ k. refl) 0 a b seen o) (λ sn. file_items_give turns (inners s turns (suc depth)) turns ps ls rs ds b z sn (omega arith) all row
         (lets_given (suc depth) ls _ dl (sort_ends ALet turns ps ends) l) (rules_given depth rs _ dr (sort_ends ARule turns ps ends) r) (parts_given (suc depth) ds _ dd (sort_ends APart turns ps ends) p))

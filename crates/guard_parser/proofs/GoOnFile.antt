@@ -86,14 +86,14 @@ module _ (w : ℕ → Lexeme) (turns : ℕ) (inner : Inner) where
 
   body_filled : Parser Body
   body_filled = do
-    n ← opens w
+    n ← opens w inner.number
     takes w is_lbrace
     contained ← filled w turns inner turns
     body_end w turns inner n contained
 
   body_same : (st : State) (seen : ℕ) → body_of w turns inner st seen ≡ body_filled st seen
   unfolding body_of body_filled
-  body_same st seen = then_same (opens w st seen) _ _ (λ k a sn. then_same (takes w is_lbrace a sn) _ _ (λ u b sn. filled_same turns b sn (body_end w turns inner k)))
+  body_same st seen = then_same (opens w inner.number st seen) _ _ (λ k a sn. then_same (takes w is_lbrace a sn) _ _ (λ u b sn. filled_same turns b sn (body_end w turns inner k)))
 
 module _ (s : ℕ → Lexeme) (n : ℕ) (ends : form (s n) ≡ 0) (turns : ℕ) (room : n < turns) (many : 1 < turns) where
   -- contents at a level, and the body that holds them, one below
@@ -122,7 +122,7 @@ module _ (s : ℕ → Lexeme) (n : ℕ) (ends : form (s n) ≡ 0) (turns : ℕ) 
 
     filled_body_live : {floor : ℕ} → go.Live s n l l floor true (clear (only (Sign m.LBrace))) (clear any) (body_filled s turns i) (λ w. body_filled w turns (j w))
     unfolding body_filled
-    filled_body_live = then s n ends (opens_live s n ends) (λ k. then s n ends (up_live s n ends is_lbrace (Sign m.LBrace) any refl refl refl place) (λ u.
+    filled_body_live = then s n ends (opens_live s n ends i.number (λ w. (j w).number) all.exact all.alike) (λ k. then s n ends (up_live s n ends is_lbrace (Sign m.LBrace) any refl refl refl place) (λ u.
         then s n ends (filled_live (suc l) i j all turns _ (omega arith) many) (λ contained. body_end_live k contained) refl) refl) refl
 
     body_live : {floor : ℕ} → go.Live s n l l floor true (clear (only (Sign m.LBrace))) (clear any) (body_of s turns i) (λ w. body_of w turns (j w))
@@ -130,7 +130,7 @@ module _ (s : ℕ → Lexeme) (n : ℕ) (ends : form (s n) ≡ 0) (turns : ℕ) 
 
   -- ---- what stands in brackets can begin behind the end, whatever stands in brackets in it
 
-  module _ (l : ℕ) (j : (ℕ → Lexeme) → Inner) where
+  module _ (l : ℕ) (j : (ℕ → Lexeme) → Inner) (alike : (w : ℕ → Lexeme) (k : ℕ) → (j w).number k ≡ k) where
     note_start : (f : ℕ → Bool) → Disjoint f is_note → go.Starts s n l l f f note
     unfolding note
     note_start f clears = single.second_starts s n ends is_note _ _ clears (single.pure_starts s n ends _ f)
@@ -146,7 +146,7 @@ module _ (s : ℕ → Lexeme) (n : ℕ) (ends : form (s n) ≡ 0) (turns : ℕ) 
 
     cond_part_start : (f : ℕ → Bool) → Disjoint f is_note → Disjoint f is_lparen → go.Starts s n l l (only not_word) f (λ w. cond_part w turns (j w))
     unfolding cond_part
-    cond_part_start f clears open_clears = single.then_starts s n ends (single.opens_starts s n ends (only not_word)) (λ k. cond_start false f k clears open_clears) refl
+    cond_part_start f clears open_clears = single.then_starts s n ends (single.opens_starts s n ends (only not_word) (λ w. (j w).number) alike) (λ k. cond_start false f k clears open_clears) refl
 
     ors_start : (part : (ℕ → Lexeme) → Parser Part) (f : ℕ → Bool) (k : ℕ) → 0 < k → Disjoint f is_or → go.Starts s n l l f f (λ w. ors w turns (j w) (part w) k)
     unfolding ors
@@ -155,7 +155,7 @@ module _ (s : ℕ → Lexeme) (n : ℕ) (ends : form (s n) ≡ 0) (turns : ℕ) 
 
     disj_start : (part : (ℕ → Lexeme) → Parser Part) (f : ℕ → Bool) → Disjoint f is_or → go.Starts s n l l (only not_word) f part → go.Starts s n l l (only not_word) f (λ w. disj_of w turns (j w) (part w))
     unfolding disj_of
-    disj_start part f clears start = single.then_starts s n ends (single.opens_starts s n ends (only not_word)) (λ k. single.then_starts s n ends start (λ p. single.then_starts s n ends {k = f} (ors_start part f turns (omega arith) clears) (λ ps. single.pure_starts s n ends _ f) (sub_same f)) (sub_same f)) refl
+    disj_start part f clears start = single.then_starts s n ends (single.opens_starts s n ends (only not_word) (λ w. (j w).number) alike) (λ k. single.then_starts s n ends start (λ p. single.then_starts s n ends {k = f} (ors_start part f turns (omega arith) clears) (λ ps. single.pure_starts s n ends _ f) (sub_same f)) (sub_same f)) refl
 
     disjs_start : (k : ℕ) → 0 < k → go.Starts s n l l (past_part false) (past_part false) (λ w. disjs w turns (j w) k)
     unfolding disjs
@@ -164,13 +164,13 @@ module _ (s : ℕ → Lexeme) (n : ℕ) (ends : form (s n) ≡ 0) (turns : ℕ) 
 
     conds_start : go.Starts s n l l (only not_word) (past_part false) (λ w. conds_of w turns (j w))
     unfolding conds_of
-    conds_start = single.then_starts s n ends (single.opens_starts s n ends (only not_word)) (λ k. single.then_starts s n ends (disj_start (λ w. cond_part w turns (j w)) (past_part false) refl (cond_part_start (past_part false) refl refl)) (λ d.
+    conds_start = single.then_starts s n ends (single.opens_starts s n ends (only not_word) (λ w. (j w).number) alike) (λ k. single.then_starts s n ends (disj_start (λ w. cond_part w turns (j w)) (past_part false) refl (cond_part_start (past_part false) refl refl)) (λ d.
         single.then_starts s n ends (disjs_start turns (omega arith)) (λ ds. single.pure_starts s n ends _ (past_part false)) refl) refl) refl
 
     module _ (tree_start : go.Starts s n l l (only nought) any (λ w. (j w).tree)) where
       expr_start : go.Starts s n l l (only nought) any (λ w. expr_of w turns (j w))
       unfolding expr_of tree_expr
-      expr_start = single.second_starts s n ends is_function_word _ _ refl (single.second_starts s n ends is_any_name _ _ refl (single.first_starts s n ends is_plain _ _ refl (single.then_starts s n ends (single.opens_starts s n ends (only nought)) (λ k. single.then_starts s n ends tree_start (λ t. single.pure_starts s n ends _ any) refl) refl)))
+      expr_start = single.second_starts s n ends is_function_word _ _ refl (single.second_starts s n ends is_any_name _ _ refl (single.first_starts s n ends is_plain _ _ refl (single.then_starts s n ends (single.opens_starts s n ends (only nought) (λ w. (j w).number) alike) (λ k. single.then_starts s n ends tree_start (λ t. single.pure_starts s n ends _ any) refl) refl)))
 
       more_exprs_start : (k : ℕ) → 0 < k → go.Starts s n l l (only (Sign m.RParen)) (only (Sign m.RParen)) (λ w. more_exprs_of w turns (j w) k)
       unfolding more_exprs_of
@@ -207,9 +207,9 @@ module _ (s : ℕ → Lexeme) (n : ℕ) (ends : form (s n) ≡ 0) (turns : ℕ) 
     unfolding conds_of disj_of cond_part
     lone_conds w p name st seen is from called shut =
         let a = opened p st in let b = opened p a in let c = opened p b in
-        gives_then _ (gives_opens w _ st a seen (refl, ap (λ q. opened q st) (sym from))) (λ sn. gives_then _
-        (gives_then _ (gives_opens w _ a b sn (refl, ap (λ q. opened q a) (sym from))) (λ sn. gives_then _
-        (gives_then _ (gives_opens w _ b c sn (refl, ap (λ q. opened q b) (sym from))) (λ sn. lone_part w _ name c sn is called shut))
+        gives_then _ (gives_opens w (j w).number (alike w) _ st a seen (refl, ap (λ q. opened q st) (sym from))) (λ sn. gives_then _
+        (gives_then _ (gives_opens w (j w).number (alike w) _ a b sn (refl, ap (λ q. opened q a) (sym from))) (λ sn. gives_then _
+        (gives_then _ (gives_opens w (j w).number (alike w) _ b c sn (refl, ap (λ q. opened q b) (sym from))) (λ sn. lone_part w _ name c sn is called shut))
         (λ sn. gives_then _ (lone_ors w _ turns (past c) sn (omega arith) shut) (λ sn. gives))))
         (λ sn. gives_then _ (lone_disjs w turns (past c) sn (omega arith) shut) (λ sn. gives)))
 
@@ -218,7 +218,7 @@ module _ (s : ℕ → Lexeme) (n : ℕ) (ends : form (s n) ≡ 0) (turns : ℕ) 
   lone_live : {floor : ℕ} (e l : ℕ) → go.Live s n l l floor true filtering (clear (past_part false)) stop (λ w. conds_of w turns (inners w turns e))
   lone_live e l = record {
     lives = λ st seen above inside tight. record { lives = λ far less. mended st (near st less (tight far)) };
-    starts = conds_start l (λ w. inners w turns e);
+    starts = conds_start l (λ w. inners w turns e) (λ w k. refl);
   } where
     near : (st : State) → st.at < n → (st.at ≡ n) ⊎ go.Hangs s n is_name st → go.Hangs s n is_name st
     near st less (inl same) = absurd (omega arith)
@@ -235,7 +235,7 @@ module _ (s : ℕ → Lexeme) (n : ℕ) (ends : form (s n) ≡ 0) (turns : ℕ) 
       goes = λ w agree spells meets.
           let here : w st.at ≡ s st.at = agree st.at (omega arith) in (
             (λ same. absurd (omega arith), λ h. ap (λ i. quiet (form (w i))) (sym last) ∙ implied (past_part false) quiet (w (suc st.at)) refl meets.0),
-            λ k. lone_conds l (λ w. inners w turns e) w p (text_of (s st.at)) st k (ap (λ x. is_name (form x)) here ∙ is) (ap (λ (x : Lexeme). x.from) here) (ap text_of here) meets.0,
+            λ k. lone_conds l (λ w. inners w turns e) (λ w k. refl) w p (text_of (s st.at)) st k (ap (λ x. is_name (form x)) here ∙ is) (ap (λ (x : Lexeme). x.from) here) (ap text_of here) meets.0,
           );
     }
 
@@ -247,6 +247,8 @@ module _ (s : ℕ → Lexeme) (n : ℕ) (ends : form (s n) ≡ 0) (turns : ℕ) 
   inners_live : (d e l : ℕ) → d < e → l + d ≡ 128 → grammar.AllLive s n ends turns room l (inners s turns d) (λ w. inners w turns e)
   inners_live d zero l less all = absurd (omega arith)
   inners_live zero (suc e) l less all = record {
+    exact = λ k. refl;
+    alike = λ w k. refl;
     roomy = λ w. refl;
     place = λ e. absurd (true≢false (sym e));
     tree = λ floor. literal_live s n ends turns room zero (suc e) l less all;
@@ -256,14 +258,16 @@ module _ (s : ℕ → Lexeme) (n : ℕ) (ends : form (s n) ≡ 0) (turns : ℕ) 
     conds = λ floor. lone_live e (suc l);
     expr = λ floor. record {
       lives = λ st seen above inside tight. single.stop_at s n ends true (clear (only nought)) (clear past_expr) _ st seen tight;
-      starts = side.starts_sided s n ends refl refl (expr_start (suc l) (λ w. inners w turns e) (tree_start e (suc l)));
+      starts = side.starts_sided s n ends refl refl (expr_start (suc l) (λ w. inners w turns e) (λ w k. refl) (tree_start e (suc l)));
     };
     exprs = λ floor. record {
       lives = λ st seen above inside tight. single.stop_at s n ends true (clear (only nought)) (clear (only (Sign m.RParen))) _ st seen tight;
-      starts = exprs_start (suc l) (λ w. inners w turns e) (tree_start e (suc l));
+      starts = exprs_start (suc l) (λ w. inners w turns e) (λ w k. refl) (tree_start e (suc l));
     };
   }
   inners_live (suc d) (suc e) l less all = let inner = inners_live d e (suc l) (omega arith) (omega arith) in let i = inners s turns d in let j : (ℕ → Lexeme) → Inner = λ w. inners w turns e in record {
+    exact = λ k. refl;
+    alike = λ w k. refl;
     roomy = λ w. refl;
     place = λ e. omega arith;
     tree = λ floor. literal_live s n ends turns room (suc d) (suc e) l less all;

@@ -217,6 +217,8 @@ module _ (s : ℕ → Lexeme) (n : ℕ) (ends : form (s n) ≡ 0) where
 
     -- the readers of what stands in brackets, over the lexemes and over those that go on
     pub record AllLive (l : ℕ) (i : Inner) (j : (ℕ → Lexeme) → Inner) : Type 0 where
+      pub exact : (k : ℕ) → i.number k ≡ k
+      pub alike : (w : ℕ → Lexeme) (k : ℕ) → (j w).number k ≡ k
       pub roomy : (w : ℕ → Lexeme) → (j w).roomy ≡ true
       pub place : i.roomy ≡ true → l < 128
       pub tree : (floor : ℕ) → go.Live s n l l floor true (clear (only nought)) (clear any) i.tree (λ w. (j w).tree)
@@ -268,7 +270,7 @@ module _ (s : ℕ → Lexeme) (n : ℕ) (ends : form (s n) ≡ 0) where
 
       step_live : {floor : ℕ} → go.Live s n l l floor true (clear (only (Sign m.Dot))) (clear any) (step s turns i) (λ w. step w turns (j w))
       unfolding step
-      step_live {floor} = then s n ends (opens_live s n ends) (λ k. or_first s n ends any is_dot refl refl (dotted_live k) (λ st seen above within tight. bracketed_lives {floor = floor} k st seen above within tight)) refl
+      step_live {floor} = then s n ends (opens_live s n ends i.number (λ w. (j w).number) all.exact all.alike) (λ k. or_first s n ends any is_dot refl refl (dotted_live k) (λ st seen above within tight. bracketed_lives {floor = floor} k st seen above within tight)) refl
 
       steps_live : (k floor : ℕ) → n < k + floor → 0 < k → go.Live s n l l floor false (clear past_query) (clear past_query) (steps s turns i k) (λ w. steps w turns (j w) k)
       unfolding steps
@@ -278,7 +280,7 @@ module _ (s : ℕ → Lexeme) (n : ℕ) (ends : form (s n) ≡ 0) where
 
       start_live : {floor : ℕ} → go.Live s n l l floor true asking (clear past_query) (start_step s turns i) (λ w. start_step w turns (j w))
       unfolding start_step
-      start_live = then s n ends (opens_live s n ends) (λ k. side.or_known s n ends {h = any} {near = λ x. is_first_key x || is_var x} is_this refl refl refl
+      start_live = then s n ends (opens_live s n ends i.number (λ w. (j w).number) all.exact all.alike) (λ k. side.or_known s n ends {h = any} {near = λ x. is_first_key x || is_var x} is_this refl refl refl
           (λ st seen above less is tight. go.lives_then s n _ (single.took_at s n ends is_this _ (clear past_query) st seen (omega arith) refl is
           (single.past_tight s n ends begins_query (λ x. false) st seen less tight) refl (stays_level is_this l refl))
           (λ u b sn late grows near. single.pure_at s n ends (clear past_query) _ b sn late near) (λ u b late. single.pure_starts s n ends _ past_query b late))
@@ -290,17 +292,17 @@ module _ (s : ℕ → Lexeme) (n : ℕ) (ends : form (s n) ≡ 0) where
 
       query_live : {floor : ℕ} → go.Live s n l l floor true asking (clear past_query) (query_of s turns i) (λ w. query_of w turns (j w))
       unfolding query_of
-      query_live = then s n ends (opens_live s n ends) (λ k. then s n ends start_live (λ p. then s n ends (steps_live turns _ (omega arith) (omega arith)) (λ ps. pure_live s n ends _) refl) refl) refl
+      query_live = then s n ends (opens_live s n ends i.number (λ w. (j w).number) all.exact all.alike) (λ k. then s n ends start_live (λ p. then s n ends (steps_live turns _ (omega arith) (omega arith)) (λ ps. pure_live s n ends _) refl) refl) refl
 
       -- ---- expressions
 
       pub tree_expr_live : {floor : ℕ} → go.Live s n l l floor true (clear (only nought)) (clear past_expr) (tree_expr s turns i) (λ w. tree_expr w turns (j w))
       unfolding tree_expr
-      tree_expr_live = then s n ends (opens_live s n ends) (λ k. then s n ends (all.tree _) (λ t. pure_live s n ends _) refl) refl
+      tree_expr_live = then s n ends (opens_live s n ends i.number (λ w. (j w).number) all.exact all.alike) (λ k. then s n ends (all.tree _) (λ t. pure_live s n ends _) refl) refl
 
       constant_live : {floor : ℕ} → go.Live s n l l floor true (record { near = is_constant; next = past_expr; here = only nought }) (clear past_expr) (tree_expr s turns i) (λ w. tree_expr w turns (j w))
       unfolding tree_expr
-      constant_live = then s n ends (opens_live s n ends) (λ k. then s n ends (all.constant _) (λ t. pure_live s n ends _) refl) refl
+      constant_live = then s n ends (opens_live s n ends i.number (λ w. (j w).number) all.exact all.alike) (λ k. then s n ends (all.constant _) (λ t. pure_live s n ends _) refl) refl
 
       -- behind the name of a function
       arguments_of : (ℕ → Lexeme) → Inner → ℕ → List ℕ → Parser Expr
@@ -320,7 +322,7 @@ module _ (s : ℕ → Lexeme) (n : ℕ) (ends : form (s n) ≡ 0) where
 
       applied_live : {floor : ℕ} → l < 128 → go.Live s n l l floor true (clear (only named)) (clear past_expr) (applied s turns i) (λ w. applied w turns (j w))
       unfolding applied arguments_of
-      applied_live place = then s n ends (opens_live s n ends) (λ k. then s n ends (has_live s n ends is_any_name text_of named any refl refl refl) (λ name. arguments_live place k name) refl) refl
+      applied_live place = then s n ends (opens_live s n ends i.number (λ w. (j w).number) all.exact all.alike) (λ k. then s n ends (has_live s n ends is_any_name text_of named any refl refl refl) (λ name. arguments_live place k name) refl) refl
 
       behind_site : (ℕ → Lexeme) → Inner → ℕ → Parser Expr
       behind_site w inner k = do
@@ -335,9 +337,10 @@ module _ (s : ℕ → Lexeme) (n : ℕ) (ends : form (s n) ≡ 0) where
           let a = opened (s st.at).from st in let sn = max seen st.at in
           let after = single.past_tight s n ends (λ x. false) (λ x. false) a sn (omega arith) (go.tight_at s n (λ x. false) st seen (omega arith) tight) in
           single.lives_through s n ends {side = clear any} (λ w. applied w turns (j w)) st (omega arith) (λ l. l) (λ e. e)
+          (subst (λ (k : ℕ). go.LivesAt s n l l true (clear any) (clear past_expr) (behind_site s i k a sn) (λ w. behind_site w (j w) (length st.places)) a) (sym (all.exact (length st.places)))
           (side.has_inside s n ends {mid = clear any} is_any_name text_of (λ name. arguments_of s i (length st.places) name) (λ name w. arguments_of w (j w) (length st.places) name) a sn less is after refl (stays_level is_any_name l refl)
-          (arguments_lives {floor = 0} (length st.places) (text_of (s st.at)) (past a) (max sn st.at) (omega arith) (omega arith) after))
-          (λ w agree fits. (fits, λ x c g k. gives_then (behind_site w (j w)) (gives_opens w (length st.places) st a k (refl, ap (λ (x : Lexeme). opened x.from st) (sym (agree st.at (omega arith))))) (λ sn. g sn)))
+          (arguments_lives {floor = 0} (length st.places) (text_of (s st.at)) (past a) (max sn st.at) (omega arith) (omega arith) after)))
+          (λ w agree fits. (fits, λ x c g k. gives_then (behind_site w (j w)) (gives_opens w (j w).number (all.alike w) (length st.places) st a k (refl, ap (λ (x : Lexeme). opened x.from st) (sym (agree st.at (omega arith))))) (λ sn. g sn)))
 
       asked_live : {floor : ℕ} → go.Live s n l l floor true asking (clear past_expr) (asked_expr s turns i) (λ w. asked_expr w turns (j w))
       unfolding asked_expr
@@ -424,7 +427,7 @@ module _ (s : ℕ → Lexeme) (n : ℕ) (ends : form (s n) ≡ 0) where
 
       found_live : {floor : ℕ} → go.Live s n l l floor true (record { near = is_some_word; next = only named; here = only some_word }) (clear past_expr) (found_expr s turns i) (λ w. found_expr w turns (j w))
       unfolding found_expr
-      found_live = then s n ends (opens_live s n ends) (λ k. then s n ends (side.takes_near s n ends is_some_word some_word (only named) refl refl refl refl refl) (λ u. then s n ends (calm query_live) (λ q. pure_live s n ends _) refl) refl) refl
+      found_live = then s n ends (opens_live s n ends i.number (λ w. (j w).number) all.exact all.alike) (λ k. then s n ends (side.takes_near s n ends is_some_word some_word (only named) refl refl refl refl refl) (λ u. then s n ends (calm query_live) (λ q. pure_live s n ends _) refl) refl) refl
 
       some_at : (st : State) (seen : ℕ) → st.at < n → is_some_word (form (s st.at)) ≡ true → go.Tight s n (λ x. false) st seen
           → go.LivesAt s n l l true (clear any) (clear past_expr) (choose_next s is_lparen (expr_of s turns i) (found_expr s turns i) st seen) (λ w. choose_next w is_lparen (expr_of w turns (j w)) (found_expr w turns (j w))) st
@@ -647,7 +650,7 @@ module _ (s : ℕ → Lexeme) (n : ℕ) (ends : form (s n) ≡ 0) where
 
       cond_part_live : (floor : ℕ) → go.Live s n l l floor true heading (ending_part (past_part false)) (cond_part s turns i) (λ w. cond_part w turns (j w))
       unfolding cond_part
-      cond_part_live floor = then s n ends (opens_live s n ends) (λ k. cond_live false k) refl
+      cond_part_live floor = then s n ends (opens_live s n ends i.number (λ w. (j w).number) all.exact all.alike) (λ k. cond_live false k) refl
 
       -- ---- parts, conditions and bodies
 
@@ -661,7 +664,7 @@ module _ (s : ℕ → Lexeme) (n : ℕ) (ends : form (s n) ≡ 0) where
 
         disj_live : {floor : ℕ} → go.Live s n l l floor true heading (ending_part (past_part full)) (disj_of s turns i part) (λ w. disj_of w turns (j w) (other w))
         unfolding disj_of
-        disj_live = then s n ends (opens_live s n ends) (λ k. then s n ends {h = past_part full} (part_live _) (λ p.
+        disj_live = then s n ends (opens_live s n ends i.number (λ w. (j w).number) all.exact all.alike) (λ k. then s n ends {h = past_part full} (part_live _) (λ p.
             then s n ends {h = past_part full} (ors_live turns _ (omega arith) (omega arith)) (λ ps. pure_live s n ends _) (sub_same (past_part full))) (sub_same (past_part full))) refl
 
         -- where a `not` may be left
@@ -685,7 +688,7 @@ module _ (s : ℕ → Lexeme) (n : ℕ) (ends : form (s n) ≡ 0) where
       pub conds_live : {floor : ℕ} → go.Live s n l l floor true filtering (clear (past_part false)) (conds_of s turns i) (λ w. conds_of w turns (j w))
       unfolding conds_of
       conds_live = side.sided s n ends {from = heading} {to = clear (past_part false)} refl refl refl refl refl refl
-          (then s n ends (opens_live s n ends) (λ k. then s n ends (disj_live false _ _ cond_part_live) (λ d. then s n ends (disjs_live turns _ (omega arith) (omega arith)) (λ ds. pure_live s n ends _) refl) refl) refl)
+          (then s n ends (opens_live s n ends i.number (λ w. (j w).number) all.exact all.alike) (λ k. then s n ends (disj_live false _ _ cond_part_live) (λ d. then s n ends (disjs_live turns _ (omega arith) (omega arith)) (λ ds. pure_live s n ends _) refl) refl) refl)
 
       opt_conds_live : {floor : ℕ} → go.Live s n l l floor false (clear (only (Sign m.LBrace))) (clear (only (Sign m.LBrace))) (opt_conds s turns i) (λ w. opt_conds w turns (j w))
       unfolding opt_conds
@@ -704,13 +707,13 @@ module _ (s : ℕ → Lexeme) (n : ℕ) (ends : form (s n) ≡ 0) where
 
       pub full_part_live : (floor : ℕ) → go.Live s n l l floor true heading (ending_part (past_part true)) (full_part s turns i) (λ w. full_part w turns (j w))
       unfolding full_part
-      full_part_live floor = then s n ends (opens_live s n ends) (λ k.
+      full_part_live floor = then s n ends (opens_live s n ends i.number (λ w. (j w).number) all.exact all.alike) (λ k.
           side.or_near_by s n ends {floor = floor} {v = true} {h = only when_word} is_when refl refl refl (block_lives {floor = floor} (bodied_lives {floor = floor} (λ room. guarded_live room k)))
           (side.or_near_by s n ends {floor = floor} {v = true} {h = only type_word} is_type_name refl refl refl (block_lives {floor = floor} (bodied_lives {floor = floor} (λ room. kinds_live room k))) (cond_live true k))) refl
 
       pub let_live : {floor : ℕ} → go.Live s n l l floor true (clear (only let_word)) (clear past_expr) (let_of s turns i) (λ w. let_of w turns (j w))
       unfolding let_of
-      let_live = then s n ends (opens_live s n ends) (λ k. then s n ends (takes_live s n ends is_let let_word any refl refl refl) (λ u. then s n ends (has_live s n ends is_name named_of named any refl refl refl) (λ name.
+      let_live = then s n ends (opens_live s n ends i.number (λ w. (j w).number) all.exact all.alike) (λ k. then s n ends (takes_live s n ends is_let let_word any refl refl refl) (λ u. then s n ends (has_live s n ends is_name named_of named any refl refl refl) (λ name.
           then s n ends (takes_live s n ends is_assign (Sign m.Equals) any refl refl refl) (λ u. then s n ends value_live (λ e. pure_live s n ends _) refl) refl) refl) refl) refl
 
       pub body_items_live : (k floor : ℕ) → n < k + floor → 0 < k → go.Live s n l l floor false (ending_part (only (Sign m.RBrace))) (clear (only (Sign m.RBrace))) (body_items s turns i k) (λ w. body_items w turns (j w) k)
@@ -731,7 +734,7 @@ module _ (s : ℕ → Lexeme) (n : ℕ) (ends : form (s n) ≡ 0) where
 
       rule_live : {floor : ℕ} → i.roomy ≡ true → go.Live s n l l floor true (clear (only rule_word)) (clear any) (rule_of s turns i) (λ w. rule_of w turns (j w))
       unfolding rule_of
-      rule_live free = then s n ends (opens_live s n ends) (λ k. then s n ends (takes_live s n ends is_rule rule_word any refl refl refl) (λ u. then s n ends (has_live s n ends is_rule_name named_of named any refl refl refl) (λ name.
+      rule_live free = then s n ends (opens_live s n ends i.number (λ w. (j w).number) all.exact all.alike) (λ k. then s n ends (takes_live s n ends is_rule rule_word any refl refl refl) (λ u. then s n ends (has_live s n ends is_rule_name named_of named any refl refl refl) (λ name.
           then s n ends (head_live free) (λ h. then s n ends (all.body free _) (λ b. pure_live s n ends _) refl) refl) refl) refl) refl
 
       file_items_live : i.roomy ≡ true → (k floor : ℕ) → n < k + floor → 0 < k → go.Live s n l l floor false (ending_part (only End)) (clear (only End)) (file_items s turns i k) (λ w. file_items w turns (j w) k)
@@ -748,4 +751,4 @@ module _ (s : ℕ → Lexeme) (n : ℕ) (ends : form (s n) ≡ 0) where
 
       pub contents_live : {floor : ℕ} → i.roomy ≡ true → go.Live s n l l floor false (clear (only End)) (clear (only End)) (contents s turns i) (λ w. contents w turns (j w))
       unfolding contents
-      contents_live free = then s n ends (opens_live s n ends) (λ k. calm (file_items_live free turns _ (omega arith) (omega arith))) refl
+      contents_live free = then s n ends (opens_live s n ends i.number (λ w. (j w).number) all.exact all.alike) (λ k. calm (file_items_live free turns _ (omega arith) (omega arith))) refl

@@ -8,7 +8,8 @@ use Rattle.literal_parser.specs.Forms.{form, is_end}
 use Rattle.literal_parser.specs.States.{State, start}
 use Rattle.guard_parser.specs.Grammar.{IsContents}
 use Rattle.literal_parser.specs.code.Parser.{Outcome, Read, Fail}
-use Rattle.guard_parser.specs.code.Reading.{FileItems, whole_file, inners}
+use Rattle.literal_parser.specs.code.Reads.{site_of}
+use Rattle.guard_parser.specs.code.Reading.{FileItems, whole_file, inners, numbered}
 use Rattle.guard_parser.specs.code.Depth.{deep_file}
 use Rattle.literal_parser.specs.Brackets.{IsShallowTo}
 use Rattle.guard_parser.specs.File.{IsSpelledBy, IsSpelled, IsShallow, IsDeadEnd, MayGoOn, going_on, listed}
@@ -27,7 +28,7 @@ use Rattle.literal_parser.proofs.LiteralSound.{literal_sound}
 use Rattle.literal_parser.proofs.LiteralLocal.{literal_local}
 use Rattle.literal_parser.proofs.LiteralGrows.{literal_grows}
 use Rattle.literal_parser.proofs.LiteralComplete.{literal_gives}
-use Rattle.literal_parser.proofs.Steady.{AreSteady, steady_then, choose_steady, pure_steady, stop_steady}
+use Rattle.literal_parser.proofs.Steady.{IsNumbered, AreSteady, steady_then, choose_steady, pure_steady, stop_steady}
 use Rattle.literal_parser.proofs.LiteralSteady.{literal_steady}
 use Rattle.guard_parser.proofs.Steady.{inners_steady, contents_steady}
 use Rattle.guard_parser.proofs.Sound.{file_sound}
@@ -40,8 +41,12 @@ use Rattle.guard_parser.proofs.Numbered.{contents_counted}
 -- ---- the reading of a whole file
 
 module _ (s : ℕ → Lexeme) (turns : ℕ) where
+  -- with the sites numbered so
+  abbrev pub reading_by : (ℕ → ℕ) → ℕ → Outcome FileItems
+  reading_by number depth = whole_file s turns (numbered s turns number depth) start 0
+
   abbrev pub reading : ℕ → Outcome FileItems
-  reading depth = whole_file s turns (inners s turns depth) start 0
+  reading = reading_by (λ n. n)
 
   whole_sound : (depth : ℕ) → Holds (reading depth) (λ x m. IsContents s x.0 x.1 x.2 start m × (is_end (form (s m.at)) ≡ true))
   unfolding whole_file
@@ -65,16 +70,23 @@ unfolding whole_file
 whole_local s w turns depth = alike_then s w _ _ (contents_local s w turns _ _ (inners_local s w turns (trees_local s w turns) depth) start 0)
     (λ x m sn. choose_local s w is_end _ _ _ _ (λ m sn. pure_local s w _ m sn) (λ m sn. stop_local s w sn) m sn)
 
--- over lexemes that end, any number of turns above theirs reads the same
-module _ (s : ℕ → Lexeme) (n : ℕ) (ends : form (s n) ≡ 0) (turns larger : ℕ) (enough : n < turns) (plenty : n < larger) where
-  trees_steady : (depth : ℕ) → AreSteady s n ends true (inners s turns depth).tree (inners s larger depth).tree
+-- over lexemes that end, any number of turns above theirs reads the same, and so does any numbering of as many sites as there can be
+module _ (s : ℕ → Lexeme) (n : ℕ) (ends : form (s n) ≡ 0) (turns larger : ℕ) (enough : n < turns) (plenty : n < larger) (g h : ℕ → ℕ) (alike : IsNumbered n g h) where
+  trees_steady : (depth : ℕ) → AreSteady s n ends 1 true (numbered s turns g depth).tree (numbered s larger h depth).tree
   trees_steady zero = literal_steady s n ends turns larger enough plenty zero
   trees_steady (suc depth) = literal_steady s n ends turns larger enough plenty (suc depth)
 
-  whole_steady : (depth : ℕ) → reading s turns depth ≡ reading s larger depth
+  whole_steady : (depth : ℕ) → reading_by s turns g depth ≡ reading_by s larger h depth
   unfolding whole_file
-  whole_steady depth = (steady_then s n ends {u = false} _ _ (contents_steady s n ends turns larger enough plenty _ _ (inners_steady s n ends turns larger enough plenty trees_steady depth) start 0 (omega arith))
-      (λ x m sn near far. choose_steady s n ends {v = false} {u = false} is_end _ _ _ _ (λ m sn near. pure_steady s n ends _ m sn near) (λ m sn near. stop_steady s n ends sn) m sn near)).same
+  whole_steady depth = (steady_then s n ends {u = false} _ _
+      (contents_steady s n ends turns larger enough plenty _ _ (inners_steady s n ends turns larger enough plenty g h alike trees_steady depth) start 0 (omega arith) (record { bound = omega arith }))
+      (λ x m sn near few far. choose_steady s n ends {room = 5} {v = false} {u = false} is_end _ _ _ _ (λ m sn near few. pure_steady s n ends _ m sn near few) (λ m sn near few. stop_steady s n ends sn) m sn near few)).same
+
+-- the tokens of a text within the limit have fewer sites than the code has numbers for
+pub read_exactly : (text : List ℕ) (tokens : List Token) (turns depth : ℕ) → length tokens < turns → length tokens ≤ rules_limit
+    → reading_by (lexemes text tokens) turns site_of depth ≡ reading (lexemes text tokens) turns depth
+read_exactly text tokens turns depth enough few =
+    whole_steady (lexemes text tokens) (length tokens) (ap form (at_end text tokens (length tokens) (omega arith))) turns turns enough enough site_of (λ n. n) (λ k less. omega arith) depth
 
 -- ---- what is read
 
@@ -186,7 +198,7 @@ dead_end text tokens turns depth k room many deep e shallow = (shallow, (k, (ref
       let s = lexemes text tokens in let n = length tokens in let w = listed xs end in
       let larger = turns + suc (length xs) in
       let stop : s n ≡ ending text = at_end text tokens n (omega arith) in
-      let more : reading s larger (suc depth) ≡ Fail k = sym (whole_steady s n (ap form stop) turns larger room (omega arith) (suc depth)) ∙ e in
+      let more : reading s larger (suc depth) ≡ Fail k = sym (whole_steady s n (ap form stop) turns larger room (omega arith) (λ k. k) (λ k. k) (λ k less. refl) (suc depth)) ∙ e in
       let local = whole_local s w larger (suc depth) in
       let last = ap (λ r. horizon r) more in
       let same : reading w larger (suc depth) ≡ Fail k = local.same (λ i less. agree i (omega arith)) ∙ more in

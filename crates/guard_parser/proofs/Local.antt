@@ -56,6 +56,7 @@ module _ (s w : ℕ → Lexeme) where
 
     -- the readers of what stands in brackets, over both
     pub record AllLocal (i j : Inner) : Type 0 where
+      pub number : i.number ≡ j.number
       pub roomy : i.roomy ≡ j.roomy
       pub tree : Local s w i.tree j.tree
       pub body : Local s w i.body j.body
@@ -92,7 +93,7 @@ module _ (s w : ℕ → Lexeme) where
 
       step_local : Local s w (step s turns i) (step w turns j)
       unfolding step
-      step_local st seen = alike_then s w _ _ (opens_local s w st seen) (λ n a sn. choose_local s w is_dot _ _ _ _ (dotted_local n) (bracketed_local n) a sn)
+      step_local st seen = alike_then s w _ _ (opens_local s w i.number j.number all.number st seen) (λ n a sn. choose_local s w is_dot _ _ _ _ (dotted_local n) (bracketed_local n) a sn)
 
       steps_local : (k : ℕ) → Local s w (steps s turns i k) (steps w turns j k)
       unfolding steps
@@ -103,24 +104,24 @@ module _ (s w : ℕ → Lexeme) where
 
       start_step_local : Local s w (start_step s turns i) (start_step w turns j)
       unfolding start_step
-      start_step_local st seen = alike_then s w _ _ (opens_local s w st seen) (λ n a sn. choose_local s w is_this _ _ _ _
+      start_step_local st seen = alike_then s w _ _ (opens_local s w i.number j.number all.number st seen) (λ n a sn. choose_local s w is_this _ _ _ _
           (λ a sn. alike_then s w _ _ (takes_local s w is_this a sn) (λ u b sn. pure_local s w _ b sn))
           (choose_local s w is_var _ _ _ _ (λ a sn. alike_then s w _ _ (has_local s w is_var text_of a sn) (λ name b sn. pure_local s w _ b sn))
           (λ a sn. alike_then s w _ _ (has_local s w is_first_key text_of a sn) (λ name b sn. pure_local s w _ b sn))) a sn)
 
       query_local : Local s w (query_of s turns i) (query_of w turns j)
       unfolding query_of
-      query_local st seen = alike_then s w _ _ (opens_local s w st seen) (λ n a sn. alike_then s w _ _ (start_step_local a sn) (λ p b sn. alike_then s w _ _ (steps_local turns b sn) (λ ps c sn. pure_local s w _ c sn)))
+      query_local st seen = alike_then s w _ _ (opens_local s w i.number j.number all.number st seen) (λ n a sn. alike_then s w _ _ (start_step_local a sn) (λ p b sn. alike_then s w _ _ (steps_local turns b sn) (λ ps c sn. pure_local s w _ c sn)))
 
       -- ---- expressions
 
       tree_expr_local : Local s w (tree_expr s turns i) (tree_expr w turns j)
       unfolding tree_expr
-      tree_expr_local st seen = alike_then s w _ _ (opens_local s w st seen) (λ n a sn. alike_then s w _ _ (all.tree a sn) (λ t b sn. pure_local s w _ b sn))
+      tree_expr_local st seen = alike_then s w _ _ (opens_local s w i.number j.number all.number st seen) (λ n a sn. alike_then s w _ _ (all.tree a sn) (λ t b sn. pure_local s w _ b sn))
 
       applied_local : Local s w (applied s turns i) (applied w turns j)
       unfolding applied
-      applied_local st seen = alike_then s w _ _ (opens_local s w st seen) (λ n a sn. alike_then s w _ _ (has_local s w is_any_name text_of a sn) (λ name b sn. alike_then s w _ _ (takes_local s w is_lparen b sn) (λ u c sn.
+      applied_local st seen = alike_then s w _ _ (opens_local s w i.number j.number all.number st seen) (λ n a sn. alike_then s w _ _ (has_local s w is_any_name text_of a sn) (λ name b sn. alike_then s w _ _ (takes_local s w is_lparen b sn) (λ u c sn.
           alike_then s w _ _ (all.exprs c sn) (λ es l sn. alike_then s w _ _ (takes_local s w is_rparen l sn) (λ u m sn. pure_local s w _ m sn)))))
 
       asked_expr_local : Local s w (asked_expr s turns i) (asked_expr w turns j)
@@ -135,7 +136,7 @@ module _ (s w : ℕ → Lexeme) where
 
       found_expr_local : Local s w (found_expr s turns i) (found_expr w turns j)
       unfolding found_expr
-      found_expr_local st seen = alike_then s w _ _ (opens_local s w st seen) (λ n a sn. alike_then s w _ _ (takes_local s w is_some_word a sn) (λ u b sn. alike_then s w _ _ (query_local b sn) (λ q c sn. pure_local s w _ c sn)))
+      found_expr_local st seen = alike_then s w _ _ (opens_local s w i.number j.number all.number st seen) (λ n a sn. alike_then s w _ _ (takes_local s w is_some_word a sn) (λ u b sn. alike_then s w _ _ (query_local b sn) (λ q c sn. pure_local s w _ c sn)))
 
       value_local : Local s w (value_of s turns i) (value_of w turns j)
       unfolding value_of
@@ -197,7 +198,7 @@ module _ (s w : ℕ → Lexeme) where
 
       cond_part_local : Local s w (cond_part s turns i) (cond_part w turns j)
       unfolding cond_part
-      cond_part_local st seen = alike_then s w _ _ (opens_local s w st seen) (λ n a sn. cond_local false n a sn)
+      cond_part_local st seen = alike_then s w _ _ (opens_local s w i.number j.number all.number st seen) (λ n a sn. cond_local false n a sn)
 
       -- ---- parts, conditions and bodies
 
@@ -210,7 +211,7 @@ module _ (s w : ℕ → Lexeme) where
 
       disj_local : (p q : Parser Part) → Local s w p q → Local s w (disj_of s turns i p) (disj_of w turns j q)
       unfolding disj_of
-      disj_local p q h st seen = alike_then s w _ _ (opens_local s w st seen) (λ n a sn. alike_then s w _ _ (h a sn) (λ x b sn. alike_then s w _ _ (ors_local p q h turns b sn) (λ xs c sn. pure_local s w _ c sn)))
+      disj_local p q h st seen = alike_then s w _ _ (opens_local s w i.number j.number all.number st seen) (λ n a sn. alike_then s w _ _ (h a sn) (λ x b sn. alike_then s w _ _ (ors_local p q h turns b sn) (λ xs c sn. pure_local s w _ c sn)))
 
       disjs_local : (k : ℕ) → Local s w (disjs s turns i k) (disjs w turns j k)
       unfolding disjs
@@ -221,7 +222,7 @@ module _ (s w : ℕ → Lexeme) where
 
       conds_local : Local s w (conds_of s turns i) (conds_of w turns j)
       unfolding conds_of
-      conds_local st seen = alike_then s w _ _ (opens_local s w st seen) (λ n a sn. alike_then s w _ _ (disj_local _ _ cond_part_local a sn) (λ d b sn. alike_then s w _ _ (disjs_local turns b sn) (λ ds c sn. pure_local s w _ c sn)))
+      conds_local st seen = alike_then s w _ _ (opens_local s w i.number j.number all.number st seen) (λ n a sn. alike_then s w _ _ (disj_local _ _ cond_part_local a sn) (λ d b sn. alike_then s w _ _ (disjs_local turns b sn) (λ ds c sn. pure_local s w _ c sn)))
 
       opt_conds_local : Local s w (opt_conds s turns i) (opt_conds w turns j)
       unfolding opt_conds
@@ -237,12 +238,12 @@ module _ (s w : ℕ → Lexeme) where
 
       full_part_local : Local s w (full_part s turns i) (full_part w turns j)
       unfolding full_part
-      full_part_local st seen = alike_then s w _ _ (opens_local s w st seen) (λ n a sn. choose_local s w is_when _ _ _ _ (bodied_local s w turns i j _ _ all.roomy (guarded_local n))
+      full_part_local st seen = alike_then s w _ _ (opens_local s w i.number j.number all.number st seen) (λ n a sn. choose_local s w is_when _ _ _ _ (bodied_local s w turns i j _ _ all.roomy (guarded_local n))
           (choose_local s w is_type_name _ _ _ _ (bodied_local s w turns i j _ _ all.roomy (kinds_local n)) (cond_local true n)) a sn)
 
       let_local : Local s w (let_of s turns i) (let_of w turns j)
       unfolding let_of
-      let_local st seen = alike_then s w _ _ (opens_local s w st seen) (λ n a sn. alike_then s w _ _ (takes_local s w is_let a sn) (λ u b sn. alike_then s w _ _ (has_local s w is_name named_of b sn) (λ name c sn.
+      let_local st seen = alike_then s w _ _ (opens_local s w i.number j.number all.number st seen) (λ n a sn. alike_then s w _ _ (takes_local s w is_let a sn) (λ u b sn. alike_then s w _ _ (has_local s w is_name named_of b sn) (λ name c sn.
           alike_then s w _ _ (takes_local s w is_assign c sn) (λ u l sn. alike_then s w _ _ (value_local l sn) (λ e m sn. pure_local s w _ m sn)))))
 
       body_items_local : (k : ℕ) → Local s w (body_items s turns i k) (body_items w turns j k)
@@ -260,7 +261,7 @@ module _ (s w : ℕ → Lexeme) where
 
       body_local : Local s w (body_of s turns i) (body_of w turns j)
       unfolding body_of
-      body_local st seen = alike_then s w _ _ (opens_local s w st seen) (λ n a sn. alike_then s w _ _ (takes_local s w is_lbrace a sn) (λ u b sn. alike_then s w _ _ (body_items_local turns b sn) (λ contained c sn.
+      body_local st seen = alike_then s w _ _ (opens_local s w i.number j.number all.number st seen) (λ n a sn. alike_then s w _ _ (takes_local s w is_lbrace a sn) (λ u b sn. alike_then s w _ _ (body_items_local turns b sn) (λ contained c sn.
           alike_if s w (is_filled contained.1) _ _ _ _ c sn (body_end_local n contained c sn) (stop_local s w sn))))
 
       -- ---- rules and the file
@@ -271,7 +272,7 @@ module _ (s w : ℕ → Lexeme) where
 
       rule_local : Local s w (rule_of s turns i) (rule_of w turns j)
       unfolding rule_of
-      rule_local st seen = alike_then s w _ _ (opens_local s w st seen) (λ n a sn. alike_then s w _ _ (takes_local s w is_rule a sn) (λ u b sn. alike_then s w _ _ (has_local s w is_rule_name named_of b sn) (λ name c sn.
+      rule_local st seen = alike_then s w _ _ (opens_local s w i.number j.number all.number st seen) (λ n a sn. alike_then s w _ _ (takes_local s w is_rule a sn) (λ u b sn. alike_then s w _ _ (has_local s w is_rule_name named_of b sn) (λ name c sn.
           alike_then s w _ _ (head_local c sn) (λ h l sn. alike_then s w _ _ (all.body l sn) (λ x m sn. pure_local s w _ m sn)))))
 
       file_items_local : (k : ℕ) → Local s w (file_items s turns i k) (file_items w turns j k)
@@ -287,13 +288,14 @@ module _ (s w : ℕ → Lexeme) where
 
       pub contents_local : Local s w (contents s turns i) (contents w turns j)
       unfolding contents
-      contents_local st seen = alike_then s w _ _ (opens_local s w st seen) (λ n a sn. file_items_local turns a sn)
+      contents_local st seen = alike_then s w _ _ (opens_local s w i.number j.number all.number st seen) (λ n a sn. file_items_local turns a sn)
 
     -- given the same of literals
     module _ (trees : (depth : ℕ) → Local s w (inners s turns depth).tree (inners w turns depth).tree) where
       pub inners_local : (depth : ℕ) → AllLocal (inners s turns depth) (inners w turns depth)
-      inners_local zero = record { roomy = refl; tree = trees zero; body = λ st seen. stop_local s w seen; conds = λ st seen. stop_local s w seen; expr = λ st seen. stop_local s w seen; exprs = λ st seen. stop_local s w seen }
+      inners_local zero = record { number = refl; roomy = refl; tree = trees zero; body = λ st seen. stop_local s w seen; conds = λ st seen. stop_local s w seen; expr = λ st seen. stop_local s w seen; exprs = λ st seen. stop_local s w seen }
       inners_local (suc depth) = let all = inners_local depth in record {
+        number = refl;
         roomy = refl;
         tree = trees (suc depth);
         body = body_local _ _ all;

@@ -3,7 +3,7 @@ use Rattle.std.proofs.Common.{◌≡◌, ◌≢◌, ℕ, zero, suc, Bool, true, 
 use Rattle.literal_parser.specs.Lexemes.{Lexeme}
 use Rattle.literal_parser.specs.States.{State}
 use Rattle.literal_parser.specs.code.Parser.{Outcome, Fail, Parser, stop}
-use Rattle.guard_parser.specs.code.Reading.{Inner, bodied, inners}
+use Rattle.guard_parser.specs.code.Reading.{Inner, bodied, numbered}
 use Rattle.literal_parser.proofs.Combine.{Holds, failed}
 use Rattle.literal_parser.proofs.Steps.{Alike, Local, stop_local}
 
@@ -23,12 +23,13 @@ module _ (s : ℕ → Lexeme) (turns : ℕ) where
       by true e = subst (λ (o : Outcome A). Holds o R) (sym (roomy_reads e)) h
       by false e = subst (λ (o : Outcome A). Holds o R) (sym (full_stops e)) failed
 
-  pub room_left : (depth : ℕ) → depth ≢ 0 → (inners s turns depth).roomy ≡ true
-  room_left zero some = absurd (some refl)
-  room_left (suc depth) some = refl
+  module _ (number : ℕ → ℕ) where
+    pub room_left : (depth : ℕ) → depth ≢ 0 → (numbered s turns number depth).roomy ≡ true
+    room_left zero some = absurd (some refl)
+    room_left (suc depth) some = refl
 
-  pub no_room : (depth : ℕ) → depth ≡ 0 → (inners s turns depth).roomy ≡ false
-  no_room depth e = ap (λ (k : ℕ). (inners s turns k).roomy) e
+    pub no_room : (depth : ℕ) → depth ≡ 0 → (numbered s turns number depth).roomy ≡ false
+    no_room depth e = ap (λ (k : ℕ). (numbered s turns number k).roomy) e
 
 module _ (s w : ℕ → Lexeme) (turns : ℕ) where
   pub bodied_local : {A : Type 0} (i j : Inner) (p q : Parser A) → i.roomy ≡ j.roomy → Local s w p q → Local s w (bodied s turns i p) (bodied w turns j q)

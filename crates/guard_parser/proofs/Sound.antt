@@ -69,7 +69,7 @@ module _ (s : ℕ → Lexeme) where
     params_sound st seen = holds_then (takes_sound s is_lparen st seen) (λ u a sn e. holds_then (has_sound s is_name named_of a sn) (λ name b sn h. holds_then (names_sound turns b sn) (λ more c sn g.
         holds_then (takes_sound s is_rparen c sn) (λ u m sn f. done {R = λ c m. IsHead s c no_conds st m} (a, e, (b, h, (c, g, f)))))))
 
-    module _ (inner : Inner) (trees : Sound inner.tree (IsLiteral s)) (bodies : Sound inner.body (IsBody s)) (condss : Sound inner.conds (IsConds s))
+    module _ (inner : Inner) (exact : (k : ℕ) → inner.number k ≡ k) (trees : Sound inner.tree (IsLiteral s)) (bodies : Sound inner.body (IsBody s)) (condss : Sound inner.conds (IsConds s))
         (exprss : Sound inner.expr (IsExpr s false)) (manys : Sound inner.exprs (IsExprs s)) where
       -- ---- queries
 
@@ -107,7 +107,7 @@ module _ (s : ℕ → Lexeme) where
 
       step_sound : Sound (step s turns inner) (IsStep s)
       unfolding step
-      step_sound st seen = holds_then (opens_sound s st seen) (λ n a sn o. choose_sound s is_dot _ _ _ _ (λ is. dotted_sound n st a _ o) (λ is. bracketed_sound n st a _ o))
+      step_sound st seen = holds_then (opens_sound s inner.number exact st seen) (λ n a sn o. choose_sound s is_dot _ _ _ _ (λ is. dotted_sound n st a _ o) (λ is. bracketed_sound n st a _ o))
 
       steps_sound : (k : ℕ) → Sound (steps s turns inner k) (IsSteps s)
       unfolding steps
@@ -118,7 +118,7 @@ module _ (s : ℕ → Lexeme) where
 
       start_sound : Sound (start_step s turns inner) (IsStart s)
       unfolding start_step
-      start_sound st seen = holds_then (opens_sound s st seen) (λ n a sn o. choose_sound s is_this _ _ _ _
+      start_sound st seen = holds_then (opens_sound s inner.number exact st seen) (λ n a sn o. choose_sound s is_this _ _ _ _
           (λ is. holds_then (takes_sound s is_this a _) (λ u b sn e. done {R = λ p m. IsStart s p st m} (a, o, e)))
           (λ is. choose_sound s is_var _ _ _ _
           (λ is. holds_then (has_sound s is_var text_of a _) (λ name b sn e. done {R = λ p m. IsStart s p st m} (a, o, e)))
@@ -126,18 +126,18 @@ module _ (s : ℕ → Lexeme) where
 
       query_sound : Sound (query_of s turns inner) (IsQuery s)
       unfolding query_of
-      query_sound st seen = holds_then (opens_sound s st seen) (λ n a sn o. holds_then (start_sound a sn) (λ p b sn e. holds_then (steps_sound turns b sn) (λ ps m sn f.
+      query_sound st seen = holds_then (opens_sound s inner.number exact st seen) (λ n a sn o. holds_then (start_sound a sn) (λ p b sn e. holds_then (steps_sound turns b sn) (λ ps m sn f.
           done {R = λ q m. IsQuery s q st m} (a, o, (b, e, f)))))
 
       -- ---- expressions
 
       tree_sound : (lone : Bool) (st : State) (seen : ℕ) → is_literal (s st.at) (s (suc st.at)) ≡ true → Holds (tree_expr s turns inner st seen) (λ e m. IsExpr s lone e st m)
       unfolding tree_expr
-      tree_sound lone st seen is = holds_then (opens_sound s st seen) (λ n a sn o. holds_then (trees a sn) (λ t m sn e. done {R = λ e m. IsExpr s lone e st m} (is, (a, o, e))))
+      tree_sound lone st seen is = holds_then (opens_sound s inner.number exact st seen) (λ n a sn o. holds_then (trees a sn) (λ t m sn e. done {R = λ e m. IsExpr s lone e st m} (is, (a, o, e))))
 
       applied_sound : (lone : Bool) (st : State) (seen : ℕ) → is_literal (s st.at) (s (suc st.at)) ≡ false → Holds (applied s turns inner st seen) (λ e m. IsExpr s lone e st m)
       unfolding applied
-      applied_sound lone st seen is = holds_then (opens_sound s st seen) (λ n a sn o. holds_then (has_sound s is_any_name text_of a sn) (λ name b sn e. holds_then (takes_sound s is_lparen b sn) (λ u c sn f.
+      applied_sound lone st seen is = holds_then (opens_sound s inner.number exact st seen) (λ n a sn o. holds_then (has_sound s is_any_name text_of a sn) (λ name b sn e. holds_then (takes_sound s is_lparen b sn) (λ u c sn f.
           holds_then (manys c sn) (λ es d sn g. holds_then (takes_sound s is_rparen d sn) (λ u m sn h. done {R = λ e m. IsExpr s lone e st m} (is, (a, o, (b, e, (c, f, (d, g, h))))))))))
 
       asked_sound : (lone : Bool) (st : State) (seen : ℕ) → is_literal (s st.at) (s (suc st.at)) ≡ false → is_applied (s st.at) (s (suc st.at)) ≡ false
@@ -163,7 +163,7 @@ module _ (s : ℕ → Lexeme) where
 
       found_sound : (st : State) (seen : ℕ) → is_applied (s st.at) (s (suc st.at)) ≡ false → Holds (found_expr s turns inner st seen) (λ e m. IsExpr s true e st m)
       unfolding found_expr
-      found_sound st seen is = holds_then (opens_sound s st seen) (λ n a sn o. holds_then (takes_sound s is_some_word a sn) (λ u b sn e. holds_then (query_sound b sn) (λ q m sn f.
+      found_sound st seen is = holds_then (opens_sound s inner.number exact st seen) (λ n a sn o. holds_then (takes_sound s is_some_word a sn) (λ u b sn e. holds_then (query_sound b sn) (λ q m sn f.
           done {R = λ e m. IsExpr s true e st m} (refl, (is, (a, o, (b, e, f)))))))
 
       value_sound : Sound (value_of s turns inner) (IsExpr s true)
@@ -254,7 +254,7 @@ module _ (s : ℕ → Lexeme) where
 
       cond_part_sound : Sound (cond_part s turns inner) (IsPart s false)
       unfolding cond_part
-      cond_part_sound st seen = holds_then (opens_sound s st seen) (λ n a sn o. cond_sound false n st a sn o)
+      cond_part_sound st seen = holds_then (opens_sound s inner.number exact st seen) (λ n a sn o. cond_sound false n st a sn o)
 
       -- ---- parts, conditions and bodies
 
@@ -268,7 +268,7 @@ module _ (s : ℕ → Lexeme) where
 
       disj_sound : (full : Bool) (part : Parser Part) → Sound part (IsPart s full) → Sound (disj_of s turns inner part) (IsDisj s full)
       unfolding disj_of
-      disj_sound full part parts st seen = holds_then (opens_sound s st seen) (λ n a sn o. holds_then (parts a sn) (λ p b sn e. holds_then (ors_sound full part parts turns b sn) (λ ps c sn d.
+      disj_sound full part parts st seen = holds_then (opens_sound s inner.number exact st seen) (λ n a sn o. holds_then (parts a sn) (λ p b sn e. holds_then (ors_sound full part parts turns b sn) (λ ps c sn d.
           done {R = λ x m. IsDisj s full x st m} (a, o, (b, e, d)))))
 
       disjs_sound : (k : ℕ) → Sound (disjs s turns inner k) (IsDisjs s)
@@ -280,7 +280,7 @@ module _ (s : ℕ → Lexeme) where
 
       conds_sound : Sound (conds_of s turns inner) (IsConds s)
       unfolding conds_of
-      conds_sound st seen = holds_then (opens_sound s st seen) (λ n a sn o. holds_then (disj_sound false (cond_part s turns inner) cond_part_sound a sn) (λ d c sn f.
+      conds_sound st seen = holds_then (opens_sound s inner.number exact st seen) (λ n a sn o. holds_then (disj_sound false (cond_part s turns inner) cond_part_sound a sn) (λ d c sn f.
           holds_then (disjs_sound turns c sn) (λ ds l sn g. done {R = λ x m. IsConds s x st m} (a, o, (c, f, g)))))
 
       opt_conds_sound : Sound (opt_conds s turns inner) (IsOptConds s)
@@ -301,13 +301,13 @@ module _ (s : ℕ → Lexeme) where
 
       full_part_sound : Sound (full_part s turns inner) (IsPart s true)
       unfolding full_part
-      full_part_sound st seen = holds_then (opens_sound s st seen) (λ n a sn o. choose_sound s is_when _ _ _ _
+      full_part_sound st seen = holds_then (opens_sound s inner.number exact st seen) (λ n a sn o. choose_sound s is_when _ _ _ _
           (λ is. bodied_sound s turns inner _ a _ (guarded_sound n st a _ o))
           (λ is. choose_sound s is_type_name _ _ _ _ (λ is. bodied_sound s turns inner _ a _ (kinds_sound n st a _ o)) (λ is. cond_sound true n st a _ o)))
 
       let_sound : Sound (let_of s turns inner) (IsLet s)
       unfolding let_of
-      let_sound st seen = holds_then (opens_sound s st seen) (λ n a sn o. holds_then (takes_sound s is_let a sn) (λ u b sn e. holds_then (has_sound s is_name named_of b sn) (λ name c sn f.
+      let_sound st seen = holds_then (opens_sound s inner.number exact st seen) (λ n a sn o. holds_then (takes_sound s is_let a sn) (λ u b sn e. holds_then (has_sound s is_name named_of b sn) (λ name c sn f.
           holds_then (takes_sound s is_assign c sn) (λ u d sn g. holds_then (value_sound d sn) (λ x m sn h. done {R = λ x m. IsLet s x st m} (a, o, (b, e, (c, f, (d, g, h)))))))))
 
       let_is : (n : ℕ) → is_let n ≡ true → body_sort n ≡ Some ALet
@@ -347,7 +347,7 @@ module _ (s : ℕ → Lexeme) where
 
       body_sound : Sound (body_of s turns inner) (IsBody s)
       unfolding body_of
-      body_sound st seen = holds_then (opens_sound s st seen) (λ n a sn o. holds_then (takes_sound s is_lbrace a sn) (λ u b sn e. holds_then (body_items_sound turns b sn) (λ x c sn h.
+      body_sound st seen = holds_then (opens_sound s inner.number exact st seen) (λ n a sn o. holds_then (takes_sound s is_lbrace a sn) (λ u b sn e. holds_then (body_items_sound turns b sn) (λ x c sn h.
           body_end_sound n x st a b c sn o e h (is_filled x.1) refl)))
 
       -- ---- rules and the file
@@ -360,7 +360,7 @@ module _ (s : ℕ → Lexeme) where
 
       rule_sound : Sound (rule_of s turns inner) (IsRule s)
       unfolding rule_of
-      rule_sound st seen = holds_then (opens_sound s st seen) (λ n a sn o. holds_then (takes_sound s is_rule a sn) (λ u b sn e. holds_then (has_sound s is_rule_name named_of b sn) (λ name c sn f.
+      rule_sound st seen = holds_then (opens_sound s inner.number exact st seen) (λ n a sn o. holds_then (takes_sound s is_rule a sn) (λ u b sn e. holds_then (has_sound s is_rule_name named_of b sn) (λ name c sn f.
           holds_then (head_sound c sn) (λ h d sn g. holds_then (bodies d sn) (λ x m sn i. done {R = λ r m. IsRule s r st m} (a, o, (b, e, (c, f, (d, g, i)))))))))
 
       file_let_is : (n : ℕ) → is_let n ≡ true → file_sort n ≡ Some ALet
@@ -392,10 +392,11 @@ module _ (s : ℕ → Lexeme) where
 
       pub contents_sound : (seen : ℕ) → Holds (contents s turns inner start seen) (λ x m. IsContents s x.0 x.1 x.2 start m)
       unfolding contents
-      contents_sound seen = holds_then (opens_sound s start seen) (λ n a sn o. holds_so (file_items_sound turns a sn) (λ x m h. (a, (refl, o.1), h)))
+      contents_sound seen = holds_then (opens_sound s inner.number exact start seen) (λ n a sn o. holds_so (file_items_sound turns a sn) (λ x m h. (a, (refl, o.1), h)))
 
   -- what is read in brackets is so
   pub record InnerSound (inner : Inner) : Type 0 where
+    pub exact : (k : ℕ) → inner.number k ≡ k
     pub trees : Sound inner.tree (IsLiteral s)
     pub bodies : Sound inner.body (IsBody s)
     pub condss : Sound inner.conds (IsConds s)
@@ -408,6 +409,7 @@ module _ (s : ℕ → Lexeme) where
   -- given that of literals
   pub inners_sound : (turns : ℕ) → ((depth : ℕ) → Sound (literal_of s turns depth) (IsLiteral s)) → (depth : ℕ) → InnerSound (inners s turns depth)
   inners_sound turns literals zero = record {
+    exact = λ k. refl;
     trees = literals zero;
     bodies = stop_sound (IsBody s);
     condss = stop_sound (IsConds s);
@@ -415,14 +417,15 @@ module _ (s : ℕ → Lexeme) where
     manys = stop_sound (IsExprs s);
   }
   inners_sound turns literals (suc depth) = let i = inners_sound turns literals depth in record {
+    exact = λ k. refl;
     trees = literals (suc depth);
-    bodies = body_sound turns _ i.trees i.bodies i.condss i.exprss i.manys;
-    condss = conds_sound turns _ i.trees i.bodies i.condss i.exprss i.manys;
-    exprss = expr_sound turns _ i.trees i.bodies i.condss i.exprss i.manys false;
-    manys = exprs_sound turns _ i.trees i.bodies i.condss i.exprss i.manys;
+    bodies = body_sound turns _ i.exact i.trees i.bodies i.condss i.exprss i.manys;
+    condss = conds_sound turns _ i.exact i.trees i.bodies i.condss i.exprss i.manys;
+    exprss = expr_sound turns _ i.exact i.trees i.bodies i.condss i.exprss i.manys false;
+    manys = exprs_sound turns _ i.exact i.trees i.bodies i.condss i.exprss i.manys;
   }
 
   -- what is read of a file is so, given that of literals
   pub file_sound : (turns : ℕ) → ((depth : ℕ) → Sound (literal_of s turns depth) (IsLiteral s)) → (depth seen : ℕ)
       → Holds (contents s turns (inners s turns depth) start seen) (λ x m. IsContents s x.0 x.1 x.2 start m)
-  file_sound turns literals depth seen = let i = inners_sound turns literals depth in contents_sound turns _ i.trees i.bodies i.condss i.exprss i.manys seen
+  file_sound turns literals depth seen = let i = inners_sound turns literals depth in contents_sound turns _ i.exact i.trees i.bodies i.condss i.exprss i.manys seen

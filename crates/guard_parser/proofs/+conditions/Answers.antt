@@ -4,7 +4,7 @@ use Rattle.guard_syntax.specs.Syntax as sx
 use Rattle.guard_syntax.specs.code.Seen.{see_conds, see_disj, see_expr, see_part, see_query, see_step}
 use Rattle.literal_parser.specs.Forms.{begins_cond, begins_step, is_comma, is_or, is_keys, is_lparen, is_rparen, is_lbracket, is_rbracket, is_dot, is_star, is_index, leads}
 use Rattle.literal_parser.specs.code.Parser.{One, Read, pure, and_then, ◌>>=◌, ◌>>◌, opens, takes}
-use Rattle.literal_parser.specs.code.Reads.{source, state_of}
+use Rattle.literal_parser.specs.code.Reads.{site_of, source, state_of}
 use Rattle.guard_parser.specs.declared.lead.Lead.{Lead}
 use Rattle.guard_parser.specs.declared.lead.ExprForm.{ExprForm}
 use Rattle.guard_parser.specs.code.Leads.{lead_of, led_by, expr_by}
@@ -130,7 +130,7 @@ read_query::add_steps-returns t c =
 pub read_query::add_steps-returns-in_err-start_step : goal.read_query::add_steps-returns-in_err-start_step
 unfolding steps start_step
 read_query::add_steps-returns-in_err-start_step t c =
-    halted see_step (λ _. see_steps c.args.found.now) (start_step (source c.args.tokens) c.args.tokens.turns (spec.inners (source c.args.tokens) c.args.tokens.turns c.args.depth) (state_of c.args.cursor.now) c.args.cursor.now.seen)
+    halted see_step (λ _. see_steps c.args.found.now) (start_step (source c.args.tokens) c.args.tokens.turns (inner c.args.tokens c.args.depth) (state_of c.args.cursor.now) c.args.cursor.now.seen)
     _ (some_steps_at c.args.tokens c.args.depth (state_of c.args.cursor.now) c.args.cursor.now.seen) c.from_residual.result c.in_err-start_step.field-0.0 c.start_step.new.cursor c.start_step.new.cursor c.from_residual.ensures.1
     (refl) c.in_err-start_step.ensures
 
@@ -206,7 +206,7 @@ read_condition::conds-returns-in_err-add_disjs t c =
 pub read_condition::conds-returns-in_err-site : goal.read_condition::conds-returns-in_err-site
 unfolding conds_of
 read_condition::conds-returns-in_err-site t c =
-    halted (λ (x : ℕ). x) see_conds (opens (source c.args.tokens) (state_of c.args.cursor.now) c.args.cursor.now.seen)
+    halted (λ (x : ℕ). x) see_conds (opens (source c.args.tokens) site_of (state_of c.args.cursor.now) c.args.cursor.now.seen)
     _ (conds_at c.args.tokens c.args.depth (state_of c.args.cursor.now) c.args.cursor.now.seen) c.from_residual.result c.in_err-site.field-0.0 c.opens.new.self c.opens.new.self c.from_residual.ensures.1
     (refl) c.in_err-site.ensures
 
@@ -226,14 +226,14 @@ read_condition::alternatives-returns-in_err-add_conditions t c =
 pub read_condition::alternatives-returns-in_err-site : goal.read_condition::alternatives-returns-in_err-site
 unfolding disj_of
 read_condition::alternatives-returns-in_err-site t c =
-    halted (λ (x : ℕ). x) see_disj (opens (source c.args.tokens) (state_of c.args.cursor.now) c.args.cursor.now.seen)
+    halted (λ (x : ℕ). x) see_disj (opens (source c.args.tokens) site_of (state_of c.args.cursor.now) c.args.cursor.now.seen)
     _ (alternatives_at c.args.tokens c.args.depth (state_of c.args.cursor.now) c.args.cursor.now.seen) c.from_residual.result c.in_err-site.field-0.0 c.opens.new.self c.opens.new.self c.from_residual.ensures.1
     (refl) c.in_err-site.ensures
 
 pub read_query::query-returns : goal.read_query::query-returns
 unfolding query_of
 read_query::query-returns t c =
-    then_read _ c.in_ok-site.ensures (both (steps_at c.args.tokens c.args.depth c.args.tokens.turns) sx.more_steps (λ (xs : sx.Steps). pure (sx.query c.in_ok-site.site xs)) (start_step (source c.args.tokens) c.args.tokens.turns (spec.inners (source c.args.tokens) c.args.tokens.turns c.args.depth) (state_of c.opens.new.self) c.opens.new.self.seen)) ∙ ap (λ o. and_then o (λ (xs : sx.Steps). pure (sx.query c.in_ok-site.site xs))) c.in_ok-add_steps.ensures
+    then_read _ c.in_ok-site.ensures (both (steps_at c.args.tokens c.args.depth c.args.tokens.turns) sx.more_steps (λ (xs : sx.Steps). pure (sx.query c.in_ok-site.site xs)) (start_step (source c.args.tokens) c.args.tokens.turns (inner c.args.tokens c.args.depth) (state_of c.opens.new.self) c.opens.new.self.seen)) ∙ ap (λ o. and_then o (λ (xs : sx.Steps). pure (sx.query c.in_ok-site.site xs))) c.in_ok-add_steps.ensures
     ∙ sym (ap (λ (q : sx.Query). Read q (state_of c.add_steps.new.cursor) c.add_steps.new.cursor.seen) (query-made c.in_ok-site.site c.add_steps.new.found))
 
 pub read_query::query-returns-in_err-add_steps : goal.read_query::query-returns-in_err-add_steps
@@ -241,12 +241,12 @@ unfolding query_of
 read_query::query-returns-in_err-add_steps t c =
     halted (λ (x : One). see_steps c.add_steps.new.found) see_query (some_steps_at c.args.tokens c.args.depth (state_of c.opens.new.self) c.opens.new.self.seen)
     (λ (xs : sx.Steps). pure (sx.query c.in_ok-site.site xs)) (query_at c.args.tokens c.args.depth (state_of c.args.cursor.now) c.args.cursor.now.seen) c.from_residual-in_err-add_steps.result c.in_err-add_steps.field-0.0 c.add_steps.new.cursor c.add_steps.new.cursor c.from_residual-in_err-add_steps.ensures.1
-    (then_read _ c.in_ok-site.ensures (both (steps_at c.args.tokens c.args.depth c.args.tokens.turns) sx.more_steps (λ (xs : sx.Steps). pure (sx.query c.in_ok-site.site xs)) (start_step (source c.args.tokens) c.args.tokens.turns (spec.inners (source c.args.tokens) c.args.tokens.turns c.args.depth) (state_of c.opens.new.self) c.opens.new.self.seen))) c.in_err-add_steps.ensures
+    (then_read _ c.in_ok-site.ensures (both (steps_at c.args.tokens c.args.depth c.args.tokens.turns) sx.more_steps (λ (xs : sx.Steps). pure (sx.query c.in_ok-site.site xs)) (start_step (source c.args.tokens) c.args.tokens.turns (inner c.args.tokens c.args.depth) (state_of c.opens.new.self) c.opens.new.self.seen))) c.in_err-add_steps.ensures
 
 pub read_query::query-returns-in_err-site : goal.read_query::query-returns-in_err-site
 unfolding query_of
 read_query::query-returns-in_err-site t c =
-    halted (λ (x : ℕ). x) see_query (opens (source c.args.tokens) (state_of c.args.cursor.now) c.args.cursor.now.seen)
+    halted (λ (x : ℕ). x) see_query (opens (source c.args.tokens) site_of (state_of c.args.cursor.now) c.args.cursor.now.seen)
     _ (query_at c.args.tokens c.args.depth (state_of c.args.cursor.now) c.args.cursor.now.seen) c.from_residual.result c.in_err-site.field-0.0 c.opens.new.self c.opens.new.self c.from_residual.ensures.1
     (refl) c.in_err-site.ensures
 
@@ -254,27 +254,27 @@ pub read_condition::condition-returns-in_err-any : goal.read_condition::conditio
 unfolding cond_part
 read_condition::condition-returns-in_err-any t c =
     halted (λ (x : Lead). x) see_part (lead_of (source c.args.tokens) (leads false) (state_of c.opens.new.self) c.opens.new.self.seen)
-    (led_by (source c.args.tokens) c.args.tokens.turns (spec.inners (source c.args.tokens) c.args.tokens.turns c.args.depth) false c.in_ok-site.site) (cond_part_at c.args.tokens c.args.depth (state_of c.args.cursor.now) c.args.cursor.now.seen) c.from_residual-in_err-any.result c.in_err-any.field-0.0 c.lead_of.new.cursor c.lead_of.new.cursor c.from_residual-in_err-any.ensures.1
-    (then_read _ c.in_ok-site.ensures (condition_led (source c.args.tokens) c.args.tokens.turns (spec.inners (source c.args.tokens) c.args.tokens.turns c.args.depth) false c.in_ok-site.site (state_of c.opens.new.self) c.opens.new.self.seen)) c.in_err-any.ensures
+    (led_by (source c.args.tokens) c.args.tokens.turns (inner c.args.tokens c.args.depth) false c.in_ok-site.site) (cond_part_at c.args.tokens c.args.depth (state_of c.args.cursor.now) c.args.cursor.now.seen) c.from_residual-in_err-any.result c.in_err-any.field-0.0 c.lead_of.new.cursor c.lead_of.new.cursor c.from_residual-in_err-any.ensures.1
+    (then_read _ c.in_ok-site.ensures (condition_led (source c.args.tokens) c.args.tokens.turns (inner c.args.tokens c.args.depth) false c.in_ok-site.site (state_of c.opens.new.self) c.opens.new.self.seen)) c.in_err-any.ensures
 
 pub read_condition::condition-returns-in_err-left-in-Query : goal.read_condition::condition-returns-in_err-left-in-Query
 unfolding cond_part headed judged
 read_condition::condition-returns-in_err-left-in-Query t c =
     halted see_query see_part (query_at c.args.tokens c.args.depth (state_of c.lead_of.new.cursor) c.lead_of.new.cursor.seen)
     _ (cond_part_at c.args.tokens c.args.depth (state_of c.args.cursor.now) c.args.cursor.now.seen) c.from_residual-in_err-left-in-Query.result c.in_err-left-in-Query.field-0.0 c.query.new.cursor c.query.new.cursor c.from_residual-in_err-left-in-Query.ensures.1
-    ((then_read _ c.in_ok-site.ensures (condition_led (source c.args.tokens) c.args.tokens.turns (spec.inners (source c.args.tokens) c.args.tokens.turns c.args.depth) false c.in_ok-site.site (state_of c.opens.new.self) c.opens.new.self.seen) ∙ ap (λ o. and_then o (led_by (source c.args.tokens) c.args.tokens.turns (spec.inners (source c.args.tokens) c.args.tokens.turns c.args.depth) false c.in_ok-site.site)) c.in_ok-any.ensures ∙ ap (λ (l : Lead). (led_by (source c.args.tokens) c.args.tokens.turns (spec.inners (source c.args.tokens) c.args.tokens.turns c.args.depth) false c.in_ok-site.site) l (state_of c.lead_of.new.cursor) c.lead_of.new.cursor.seen) c.in-Query.is) ∙ refl) c.in_err-left-in-Query.ensures
+    ((then_read _ c.in_ok-site.ensures (condition_led (source c.args.tokens) c.args.tokens.turns (inner c.args.tokens c.args.depth) false c.in_ok-site.site (state_of c.opens.new.self) c.opens.new.self.seen) ∙ ap (λ o. and_then o (led_by (source c.args.tokens) c.args.tokens.turns (inner c.args.tokens c.args.depth) false c.in_ok-site.site)) c.in_ok-any.ensures ∙ ap (λ (l : Lead). (led_by (source c.args.tokens) c.args.tokens.turns (inner c.args.tokens c.args.depth) false c.in_ok-site.site) l (state_of c.lead_of.new.cursor) c.lead_of.new.cursor.seen) c.in-Query.is) ∙ refl) c.in_err-left-in-Query.ensures
 
 pub read_condition::condition-returns-in_ok-left-in-Query : goal.read_condition::condition-returns-in_ok-left-in-Query
 unfolding cond_part headed judged
 read_condition::condition-returns-in_ok-left-in-Query t c =
     handed see_part (cond_part_at c.args.tokens c.args.depth (state_of c.args.cursor.now) c.args.cursor.now.seen) (tested_at c.args.tokens c.args.depth c.in_ok-site.site c.in-Query.any (see_query c.in_ok-left-in-Query.left) (state_of c.query.new.cursor) c.query.new.cursor.seen) c.tested.result c.tested.new.cursor
-    ((then_read _ c.in_ok-site.ensures (condition_led (source c.args.tokens) c.args.tokens.turns (spec.inners (source c.args.tokens) c.args.tokens.turns c.args.depth) false c.in_ok-site.site (state_of c.opens.new.self) c.opens.new.self.seen) ∙ ap (λ o. and_then o (led_by (source c.args.tokens) c.args.tokens.turns (spec.inners (source c.args.tokens) c.args.tokens.turns c.args.depth) false c.in_ok-site.site)) c.in_ok-any.ensures ∙ ap (λ (l : Lead). (led_by (source c.args.tokens) c.args.tokens.turns (spec.inners (source c.args.tokens) c.args.tokens.turns c.args.depth) false c.in_ok-site.site) l (state_of c.lead_of.new.cursor) c.lead_of.new.cursor.seen) c.in-Query.is) ∙ then_read _ c.in_ok-left-in-Query.ensures refl) c.tested.ensures
+    ((then_read _ c.in_ok-site.ensures (condition_led (source c.args.tokens) c.args.tokens.turns (inner c.args.tokens c.args.depth) false c.in_ok-site.site (state_of c.opens.new.self) c.opens.new.self.seen) ∙ ap (λ o. and_then o (led_by (source c.args.tokens) c.args.tokens.turns (inner c.args.tokens c.args.depth) false c.in_ok-site.site)) c.in_ok-any.ensures ∙ ap (λ (l : Lead). (led_by (source c.args.tokens) c.args.tokens.turns (inner c.args.tokens c.args.depth) false c.in_ok-site.site) l (state_of c.lead_of.new.cursor) c.lead_of.new.cursor.seen) c.in-Query.is) ∙ then_read _ c.in_ok-left-in-Query.ensures refl) c.tested.ensures
 
 pub read_condition::condition-returns-in-Rule : goal.read_condition::condition-returns-in-Rule
 unfolding cond_part
 read_condition::condition-returns-in-Rule t c =
     handed see_part (cond_part_at c.args.tokens c.args.depth (state_of c.args.cursor.now) c.args.cursor.now.seen) (ruled_at c.args.tokens c.args.depth c.in_ok-site.site c.in-Rule.not (state_of c.lead_of.new.cursor) c.lead_of.new.cursor.seen) c.ruled.result c.ruled.new.cursor
-    (then_read _ c.in_ok-site.ensures (condition_led (source c.args.tokens) c.args.tokens.turns (spec.inners (source c.args.tokens) c.args.tokens.turns c.args.depth) false c.in_ok-site.site (state_of c.opens.new.self) c.opens.new.self.seen) ∙ ap (λ o. and_then o (led_by (source c.args.tokens) c.args.tokens.turns (spec.inners (source c.args.tokens) c.args.tokens.turns c.args.depth) false c.in_ok-site.site)) c.in_ok-any.ensures ∙ ap (λ (l : Lead). (led_by (source c.args.tokens) c.args.tokens.turns (spec.inners (source c.args.tokens) c.args.tokens.turns c.args.depth) false c.in_ok-site.site) l (state_of c.lead_of.new.cursor) c.lead_of.new.cursor.seen) c.in-Rule.is) c.ruled.ensures
+    (then_read _ c.in_ok-site.ensures (condition_led (source c.args.tokens) c.args.tokens.turns (inner c.args.tokens c.args.depth) false c.in_ok-site.site (state_of c.opens.new.self) c.opens.new.self.seen) ∙ ap (λ o. and_then o (led_by (source c.args.tokens) c.args.tokens.turns (inner c.args.tokens c.args.depth) false c.in_ok-site.site)) c.in_ok-any.ensures ∙ ap (λ (l : Lead). (led_by (source c.args.tokens) c.args.tokens.turns (inner c.args.tokens c.args.depth) false c.in_ok-site.site) l (state_of c.lead_of.new.cursor) c.lead_of.new.cursor.seen) c.in-Rule.is) c.ruled.ensures
 
 pub read_condition::called-returns : goal.read_condition::called-returns
 unfolding called
@@ -311,94 +311,94 @@ read_query::applied-returns-in_err-args t c =
 
 pub read_query::exprs-returns-then-depth-eq0 : goal.read_query::exprs-returns-then-depth-eq0
 read_query::exprs-returns-then-depth-eq0 t c =
-    then_read _ c.in_ok-takes.ensures (ap (λ (n : ℕ). and_then ((spec.inners (source c.args.tokens) c.args.tokens.turns n).exprs (state_of c.takes.new.self) c.takes.new.self.seen) (closed_exprs c.args.tokens c.args.depth)) c.if-depth-eq0.true)
+    then_read _ c.in_ok-takes.ensures (ap (λ (n : ℕ). and_then ((inner c.args.tokens n).exprs (state_of c.takes.new.self) c.takes.new.self.seen) (closed_exprs c.args.tokens c.args.depth)) c.if-depth-eq0.true)
 
 pub read_query::exprs-returns : goal.read_query::exprs-returns
 unfolding exprs_of
 read_query::exprs-returns t c =
-    then_read _ c.in_ok-takes.ensures (ap (λ (n : ℕ). and_then ((spec.inners (source c.args.tokens) c.args.tokens.turns n).exprs (state_of c.takes.new.self) c.takes.new.self.seen) (closed_exprs c.args.tokens c.args.depth)) (deeper c.args.depth c.if-depth-eq0.false)) ∙ sym (both (more_exprs_at c.args.tokens (c.args.depth - 1) c.args.tokens.turns) sx.more_exprs (closed_exprs c.args.tokens (c.args.depth - 1)) (expr_at c.args.tokens (c.args.depth - 1) (state_of c.takes.new.self) c.takes.new.self.seen)) ∙ c.in_ok-add_exprs.ensures
+    then_read _ c.in_ok-takes.ensures (ap (λ (n : ℕ). and_then ((inner c.args.tokens n).exprs (state_of c.takes.new.self) c.takes.new.self.seen) (closed_exprs c.args.tokens c.args.depth)) (deeper c.args.depth c.if-depth-eq0.false)) ∙ sym (both (more_exprs_at c.args.tokens (c.args.depth - 1) c.args.tokens.turns) sx.more_exprs (closed_exprs c.args.tokens (c.args.depth - 1)) (expr_at c.args.tokens (c.args.depth - 1) (state_of c.takes.new.self) c.takes.new.self.seen)) ∙ c.in_ok-add_exprs.ensures
 
 pub read_query::exprs-returns-in_err-add_exprs : goal.read_query::exprs-returns-in_err-add_exprs
 unfolding exprs_of
 read_query::exprs-returns-in_err-add_exprs t c =
     halted_by (λ (x : One). see_exprs c.add_exprs.new.found) see_exprs (closed_exprs_at c.args.tokens (c.args.depth - 1) (state_of c.takes.new.self) c.takes.new.self.seen)
     (arguments_at c.args.tokens c.args.depth (state_of c.args.cursor.now) c.args.cursor.now.seen) c.from_residual-in_err-add_exprs.result c.in_err-add_exprs.field-0.0 c.add_exprs.new.cursor c.add_exprs.new.cursor c.from_residual-in_err-add_exprs.ensures.1
-    (λ k e. then_read _ c.in_ok-takes.ensures (ap (λ (n : ℕ). and_then ((spec.inners (source c.args.tokens) c.args.tokens.turns n).exprs (state_of c.takes.new.self) c.takes.new.self.seen) (closed_exprs c.args.tokens c.args.depth)) (deeper c.args.depth c.if-depth-eq0.false)) ∙ sym (both (more_exprs_at c.args.tokens (c.args.depth - 1) c.args.tokens.turns) sx.more_exprs (closed_exprs c.args.tokens (c.args.depth - 1)) (expr_at c.args.tokens (c.args.depth - 1) (state_of c.takes.new.self) c.takes.new.self.seen)) ∙ e) c.in_err-add_exprs.ensures
+    (λ k e. then_read _ c.in_ok-takes.ensures (ap (λ (n : ℕ). and_then ((inner c.args.tokens n).exprs (state_of c.takes.new.self) c.takes.new.self.seen) (closed_exprs c.args.tokens c.args.depth)) (deeper c.args.depth c.if-depth-eq0.false)) ∙ sym (both (more_exprs_at c.args.tokens (c.args.depth - 1) c.args.tokens.turns) sx.more_exprs (closed_exprs c.args.tokens (c.args.depth - 1)) (expr_at c.args.tokens (c.args.depth - 1) (state_of c.takes.new.self) c.takes.new.self.seen)) ∙ e) c.in_err-add_exprs.ensures
 
 pub read_query::filter-returns-then-depth-eq0 : goal.read_query::filter-returns-then-depth-eq0
 read_query::filter-returns-then-depth-eq0 t c =
-    ap (λ (n : ℕ). and_then ((spec.inners (source c.args.tokens) c.args.tokens.turns n).conds (state_of c.args.cursor.now) c.args.cursor.now.seen) (λ x. takes (source c.args.tokens) is_rbracket >> pure x)) c.if-depth-eq0.true
+    ap (λ (n : ℕ). and_then ((inner c.args.tokens n).conds (state_of c.args.cursor.now) c.args.cursor.now.seen) (λ x. takes (source c.args.tokens) is_rbracket >> pure x)) c.if-depth-eq0.true
 
 pub read_query::filter-returns : goal.read_query::filter-returns
 read_query::filter-returns t c =
-    ap (λ (n : ℕ). and_then ((spec.inners (source c.args.tokens) c.args.tokens.turns n).conds (state_of c.args.cursor.now) c.args.cursor.now.seen) (λ x. takes (source c.args.tokens) is_rbracket >> pure x)) (deeper c.args.depth c.if-depth-eq0.false) ∙ then_read _ c.in_ok-conds.ensures (then_read _ c.in_ok-takes.ensures refl)
+    ap (λ (n : ℕ). and_then ((inner c.args.tokens n).conds (state_of c.args.cursor.now) c.args.cursor.now.seen) (λ x. takes (source c.args.tokens) is_rbracket >> pure x)) (deeper c.args.depth c.if-depth-eq0.false) ∙ then_read _ c.in_ok-conds.ensures (then_read _ c.in_ok-takes.ensures refl)
 
 pub read_query::filter-returns-in_err-conds : goal.read_query::filter-returns-in_err-conds
 read_query::filter-returns-in_err-conds t c =
     halted see_conds see_conds (conds_at c.args.tokens (c.args.depth - 1) (state_of c.args.cursor.now) c.args.cursor.now.seen)
     _ (filter_at c.args.tokens c.args.depth (state_of c.args.cursor.now) c.args.cursor.now.seen) c.from_residual.result c.in_err-conds.field-0.0 c.conds.new.cursor c.conds.new.cursor c.from_residual.ensures.1
-    (ap (λ (n : ℕ). and_then ((spec.inners (source c.args.tokens) c.args.tokens.turns n).conds (state_of c.args.cursor.now) c.args.cursor.now.seen) (λ x. takes (source c.args.tokens) is_rbracket >> pure x)) (deeper c.args.depth c.if-depth-eq0.false)) c.in_err-conds.ensures
+    (ap (λ (n : ℕ). and_then ((inner c.args.tokens n).conds (state_of c.args.cursor.now) c.args.cursor.now.seen) (λ x. takes (source c.args.tokens) is_rbracket >> pure x)) (deeper c.args.depth c.if-depth-eq0.false)) c.in_err-conds.ensures
 
 pub read_query::filter-returns-in_err-takes : goal.read_query::filter-returns-in_err-takes
 read_query::filter-returns-in_err-takes t c =
     halted (λ (x : One). x) see_conds (takes (source c.args.tokens) is_rbracket (state_of c.conds.new.cursor) c.conds.new.cursor.seen)
     _ (filter_at c.args.tokens c.args.depth (state_of c.args.cursor.now) c.args.cursor.now.seen) c.from_residual-in_err-takes.result c.in_err-takes.field-0.0 c.takes.new.self c.takes.new.self c.from_residual-in_err-takes.ensures.1
-    (ap (λ (n : ℕ). and_then ((spec.inners (source c.args.tokens) c.args.tokens.turns n).conds (state_of c.args.cursor.now) c.args.cursor.now.seen) (λ x. takes (source c.args.tokens) is_rbracket >> pure x)) (deeper c.args.depth c.if-depth-eq0.false) ∙ then_read _ c.in_ok-conds.ensures refl) c.in_err-takes.ensures
+    (ap (λ (n : ℕ). and_then ((inner c.args.tokens n).conds (state_of c.args.cursor.now) c.args.cursor.now.seen) (λ x. takes (source c.args.tokens) is_rbracket >> pure x)) (deeper c.args.depth c.if-depth-eq0.false) ∙ then_read _ c.in_ok-conds.ensures refl) c.in_err-takes.ensures
 
 pub read_query::key_test-returns-then-depth-eq0 : goal.read_query::key_test-returns-then-depth-eq0
 read_query::key_test-returns-then-depth-eq0 t c =
-    then_read _ c.in_ok-takes.ensures (then_read _ c.in_ok-operator.ensures (ap (λ (n : ℕ). and_then ((spec.inners (source c.args.tokens) c.args.tokens.turns n).expr (state_of c.keys_operator.new.cursor) c.keys_operator.new.cursor.seen) (λ e. takes (source c.args.tokens) is_rbracket >> pure (c.in_ok-operator.operator, e))) c.if-depth-eq0.true))
+    then_read _ c.in_ok-takes.ensures (then_read _ c.in_ok-operator.ensures (ap (λ (n : ℕ). and_then ((inner c.args.tokens n).expr (state_of c.keys_operator.new.cursor) c.keys_operator.new.cursor.seen) (λ e. takes (source c.args.tokens) is_rbracket >> pure (c.in_ok-operator.operator, e))) c.if-depth-eq0.true))
 
 pub read_query::key_test-returns : goal.read_query::key_test-returns
 read_query::key_test-returns t c =
-    then_read _ c.in_ok-takes.ensures (then_read _ c.in_ok-operator.ensures (ap (λ (n : ℕ). and_then ((spec.inners (source c.args.tokens) c.args.tokens.turns n).expr (state_of c.keys_operator.new.cursor) c.keys_operator.new.cursor.seen) (λ e. takes (source c.args.tokens) is_rbracket >> pure (c.in_ok-operator.operator, e))) (deeper c.args.depth c.if-depth-eq0.false))) ∙ then_read _ c.in_ok-right.ensures (then_read _ c.in_ok-takes-2.ensures refl)
+    then_read _ c.in_ok-takes.ensures (then_read _ c.in_ok-operator.ensures (ap (λ (n : ℕ). and_then ((inner c.args.tokens n).expr (state_of c.keys_operator.new.cursor) c.keys_operator.new.cursor.seen) (λ e. takes (source c.args.tokens) is_rbracket >> pure (c.in_ok-operator.operator, e))) (deeper c.args.depth c.if-depth-eq0.false))) ∙ then_read _ c.in_ok-right.ensures (then_read _ c.in_ok-takes-2.ensures refl)
 
 pub read_query::key_test-returns-in_err-right : goal.read_query::key_test-returns-in_err-right
 read_query::key_test-returns-in_err-right t c =
     halted see_expr see_key_test (expr_at c.args.tokens (c.args.depth - 1) (state_of c.keys_operator.new.cursor) c.keys_operator.new.cursor.seen)
     _ (key_test_at c.args.tokens c.args.depth (state_of c.args.cursor.now) c.args.cursor.now.seen) c.from_residual-in_err-right.result c.in_err-right.field-0.0 c.expr.new.cursor c.expr.new.cursor c.from_residual-in_err-right.ensures.1
-    (then_read _ c.in_ok-takes.ensures (then_read _ c.in_ok-operator.ensures (ap (λ (n : ℕ). and_then ((spec.inners (source c.args.tokens) c.args.tokens.turns n).expr (state_of c.keys_operator.new.cursor) c.keys_operator.new.cursor.seen) (λ e. takes (source c.args.tokens) is_rbracket >> pure (c.in_ok-operator.operator, e))) (deeper c.args.depth c.if-depth-eq0.false)))) c.in_err-right.ensures
+    (then_read _ c.in_ok-takes.ensures (then_read _ c.in_ok-operator.ensures (ap (λ (n : ℕ). and_then ((inner c.args.tokens n).expr (state_of c.keys_operator.new.cursor) c.keys_operator.new.cursor.seen) (λ e. takes (source c.args.tokens) is_rbracket >> pure (c.in_ok-operator.operator, e))) (deeper c.args.depth c.if-depth-eq0.false)))) c.in_err-right.ensures
 
 pub read_query::key_test-returns-in_err-takes-2 : goal.read_query::key_test-returns-in_err-takes-2
 read_query::key_test-returns-in_err-takes-2 t c =
     halted (λ (x : One). x) see_key_test (takes (source c.args.tokens) is_rbracket (state_of c.expr.new.cursor) c.expr.new.cursor.seen)
     _ (key_test_at c.args.tokens c.args.depth (state_of c.args.cursor.now) c.args.cursor.now.seen) c.from_residual-in_err-takes-2.result c.in_err-takes-2.field-0.0 c.takes-2.new.self c.takes-2.new.self c.from_residual-in_err-takes-2.ensures.1
-    (then_read _ c.in_ok-takes.ensures (then_read _ c.in_ok-operator.ensures (ap (λ (n : ℕ). and_then ((spec.inners (source c.args.tokens) c.args.tokens.turns n).expr (state_of c.keys_operator.new.cursor) c.keys_operator.new.cursor.seen) (λ e. takes (source c.args.tokens) is_rbracket >> pure (c.in_ok-operator.operator, e))) (deeper c.args.depth c.if-depth-eq0.false))) ∙ then_read _ c.in_ok-right.ensures refl) c.in_err-takes-2.ensures
+    (then_read _ c.in_ok-takes.ensures (then_read _ c.in_ok-operator.ensures (ap (λ (n : ℕ). and_then ((inner c.args.tokens n).expr (state_of c.keys_operator.new.cursor) c.keys_operator.new.cursor.seen) (λ e. takes (source c.args.tokens) is_rbracket >> pure (c.in_ok-operator.operator, e))) (deeper c.args.depth c.if-depth-eq0.false))) ∙ then_read _ c.in_ok-right.ensures refl) c.in_err-takes-2.ensures
 
 pub read_query::expr-returns-in-Literal : goal.read_query::expr-returns-in-Literal
 read_query::expr-returns-in-Literal t c =
     handed see_expr (expr_at c.args.tokens c.args.depth (state_of c.args.cursor.now) c.args.cursor.now.seen) (tree_expr_at c.args.tokens c.args.depth (state_of c.expr_form.new.cursor) c.expr_form.new.cursor.seen) c.tree_expr.result c.tree_expr.new.cursor
-    (expr_formed (source c.args.tokens) c.args.tokens.turns (spec.inners (source c.args.tokens) c.args.tokens.turns c.args.depth) (state_of c.args.cursor.now) c.args.cursor.now.seen ∙ then_read (expr_by (source c.args.tokens) c.args.tokens.turns (spec.inners (source c.args.tokens) c.args.tokens.turns c.args.depth)) c.expr_form.ensures (ap (λ (k : ExprForm). (expr_by (source c.args.tokens) c.args.tokens.turns (spec.inners (source c.args.tokens) c.args.tokens.turns c.args.depth)) k (state_of c.expr_form.new.cursor) c.expr_form.new.cursor.seen) c.in-Literal.is)) c.tree_expr.ensures
+    (expr_formed (source c.args.tokens) c.args.tokens.turns (inner c.args.tokens c.args.depth) (state_of c.args.cursor.now) c.args.cursor.now.seen ∙ then_read (expr_by (source c.args.tokens) c.args.tokens.turns (inner c.args.tokens c.args.depth)) c.expr_form.ensures (ap (λ (k : ExprForm). (expr_by (source c.args.tokens) c.args.tokens.turns (inner c.args.tokens c.args.depth)) k (state_of c.expr_form.new.cursor) c.expr_form.new.cursor.seen) c.in-Literal.is)) c.tree_expr.ensures
 
 pub read_query::expr-returns-then-depth-eq0 : goal.read_query::expr-returns-then-depth-eq0
 read_query::expr-returns-then-depth-eq0 t c =
-    let s = source c.args.tokens in let turns = c.args.tokens.turns in let inner_at = spec.inners s turns c.args.depth in
+    let s = source c.args.tokens in let turns = c.args.tokens.turns in let inner_at = inner c.args.tokens c.args.depth in
     expr_formed s turns inner_at (state_of c.args.cursor.now) c.args.cursor.now.seen ∙ then_read (expr_by s turns inner_at) c.expr_form.ensures (ap (λ (k : ExprForm). (expr_by s turns inner_at) k (state_of c.expr_form.new.cursor) c.expr_form.new.cursor.seen) c.in-Word.is
-    ∙ full_stops s turns inner_at (applied_at c.args.tokens c.args.depth) (state_of c.expr_form.new.cursor) c.expr_form.new.cursor.seen (no_room s turns c.args.depth c.if-depth-eq0.true))
+    ∙ full_stops s turns inner_at (applied_at c.args.tokens c.args.depth) (state_of c.expr_form.new.cursor) c.expr_form.new.cursor.seen (no_room s turns site_of c.args.depth c.if-depth-eq0.true))
 
 pub read_query::expr-returns-else-depth-eq0 : goal.read_query::expr-returns-else-depth-eq0
 read_query::expr-returns-else-depth-eq0 t c =
-    let s = source c.args.tokens in let turns = c.args.tokens.turns in let inner_at = spec.inners s turns c.args.depth in
+    let s = source c.args.tokens in let turns = c.args.tokens.turns in let inner_at = inner c.args.tokens c.args.depth in
     handed see_expr (expr_at c.args.tokens c.args.depth (state_of c.args.cursor.now) c.args.cursor.now.seen) (applied_at c.args.tokens c.args.depth (state_of c.expr_form.new.cursor) c.expr_form.new.cursor.seen) c.applied.result c.applied.new.cursor
     (expr_formed s turns inner_at (state_of c.args.cursor.now) c.args.cursor.now.seen ∙ then_read (expr_by s turns inner_at) c.expr_form.ensures (ap (λ (k : ExprForm). (expr_by s turns inner_at) k (state_of c.expr_form.new.cursor) c.expr_form.new.cursor.seen) c.in-Word.is
-    ∙ roomy_reads s turns inner_at (applied_at c.args.tokens c.args.depth) (state_of c.expr_form.new.cursor) c.expr_form.new.cursor.seen (room_left s turns c.args.depth c.if-depth-eq0.false))) c.applied.ensures
+    ∙ roomy_reads s turns inner_at (applied_at c.args.tokens c.args.depth) (state_of c.expr_form.new.cursor) c.expr_form.new.cursor.seen (room_left s turns site_of c.args.depth c.if-depth-eq0.false))) c.applied.ensures
 
 pub read_query::expr-returns-in-Function : goal.read_query::expr-returns-in-Function
 read_query::expr-returns-in-Function t c =
     handed see_expr (expr_at c.args.tokens c.args.depth (state_of c.args.cursor.now) c.args.cursor.now.seen) (applied_at c.args.tokens c.args.depth (state_of c.expr_form.new.cursor) c.expr_form.new.cursor.seen) c.applied-in-Function.result c.applied-in-Function.new.cursor
-    (expr_formed (source c.args.tokens) c.args.tokens.turns (spec.inners (source c.args.tokens) c.args.tokens.turns c.args.depth) (state_of c.args.cursor.now) c.args.cursor.now.seen ∙ then_read (expr_by (source c.args.tokens) c.args.tokens.turns (spec.inners (source c.args.tokens) c.args.tokens.turns c.args.depth)) c.expr_form.ensures (ap (λ (k : ExprForm). (expr_by (source c.args.tokens) c.args.tokens.turns (spec.inners (source c.args.tokens) c.args.tokens.turns c.args.depth)) k (state_of c.expr_form.new.cursor) c.expr_form.new.cursor.seen) c.in-Function.is)) c.applied-in-Function.ensures
+    (expr_formed (source c.args.tokens) c.args.tokens.turns (inner c.args.tokens c.args.depth) (state_of c.args.cursor.now) c.args.cursor.now.seen ∙ then_read (expr_by (source c.args.tokens) c.args.tokens.turns (inner c.args.tokens c.args.depth)) c.expr_form.ensures (ap (λ (k : ExprForm). (expr_by (source c.args.tokens) c.args.tokens.turns (inner c.args.tokens c.args.depth)) k (state_of c.expr_form.new.cursor) c.expr_form.new.cursor.seen) c.in-Function.is)) c.applied-in-Function.ensures
 
 pub read_query::expr-returns-in_err-query-in-Query : goal.read_query::expr-returns-in_err-query-in-Query
 unfolding asked_expr
 read_query::expr-returns-in_err-query-in-Query t c =
     halted see_query see_expr (query_at c.args.tokens c.args.depth (state_of c.expr_form.new.cursor) c.expr_form.new.cursor.seen)
     _ (expr_at c.args.tokens c.args.depth (state_of c.args.cursor.now) c.args.cursor.now.seen) c.from_residual.result c.in_err-query-in-Query.field-0.0 c.query.new.cursor c.query.new.cursor c.from_residual.ensures.1
-    (expr_formed (source c.args.tokens) c.args.tokens.turns (spec.inners (source c.args.tokens) c.args.tokens.turns c.args.depth) (state_of c.args.cursor.now) c.args.cursor.now.seen ∙ then_read (expr_by (source c.args.tokens) c.args.tokens.turns (spec.inners (source c.args.tokens) c.args.tokens.turns c.args.depth)) c.expr_form.ensures (ap (λ (k : ExprForm). (expr_by (source c.args.tokens) c.args.tokens.turns (spec.inners (source c.args.tokens) c.args.tokens.turns c.args.depth)) k (state_of c.expr_form.new.cursor) c.expr_form.new.cursor.seen) c.in-Query.is) ∙ refl) c.in_err-query-in-Query.ensures
+    (expr_formed (source c.args.tokens) c.args.tokens.turns (inner c.args.tokens c.args.depth) (state_of c.args.cursor.now) c.args.cursor.now.seen ∙ then_read (expr_by (source c.args.tokens) c.args.tokens.turns (inner c.args.tokens c.args.depth)) c.expr_form.ensures (ap (λ (k : ExprForm). (expr_by (source c.args.tokens) c.args.tokens.turns (inner c.args.tokens c.args.depth)) k (state_of c.expr_form.new.cursor) c.expr_form.new.cursor.seen) c.in-Query.is) ∙ refl) c.in_err-query-in-Query.ensures
 
 pub read_query::expr-returns-in_ok-query-in-Query : goal.read_query::expr-returns-in_ok-query-in-Query
 unfolding asked_expr
 read_query::expr-returns-in_ok-query-in-Query t c =
-    expr_formed (source c.args.tokens) c.args.tokens.turns (spec.inners (source c.args.tokens) c.args.tokens.turns c.args.depth) (state_of c.args.cursor.now) c.args.cursor.now.seen ∙ then_read (expr_by (source c.args.tokens) c.args.tokens.turns (spec.inners (source c.args.tokens) c.args.tokens.turns c.args.depth)) c.expr_form.ensures (ap (λ (k : ExprForm). (expr_by (source c.args.tokens) c.args.tokens.turns (spec.inners (source c.args.tokens) c.args.tokens.turns c.args.depth)) k (state_of c.expr_form.new.cursor) c.expr_form.new.cursor.seen) c.in-Query.is) ∙ then_read _ c.in_ok-query-in-Query.ensures refl ∙ sym (ap (λ (q : sx.Expr). Read q (state_of c.query.new.cursor) c.query.new.cursor.seen) (asked-made c.in_ok-query-in-Query.field-0))
+    expr_formed (source c.args.tokens) c.args.tokens.turns (inner c.args.tokens c.args.depth) (state_of c.args.cursor.now) c.args.cursor.now.seen ∙ then_read (expr_by (source c.args.tokens) c.args.tokens.turns (inner c.args.tokens c.args.depth)) c.expr_form.ensures (ap (λ (k : ExprForm). (expr_by (source c.args.tokens) c.args.tokens.turns (inner c.args.tokens c.args.depth)) k (state_of c.expr_form.new.cursor) c.expr_form.new.cursor.seen) c.in-Query.is) ∙ then_read _ c.in_ok-query-in-Query.ensures refl ∙ sym (ap (λ (q : sx.Expr). Read q (state_of c.query.new.cursor) c.query.new.cursor.seen) (asked-made c.in_ok-query-in-Query.field-0))
 
 pub read_query::step-returns-then-sees : goal.read_query::step-returns-then-sees
 unfolding step dotted bracketed keyed filtered

@@ -11,7 +11,7 @@ use Rattle.guard_syntax.specs.declared.syntax.Part.{Part}
 use Rattle.guard_syntax.specs.declared.syntax.Step.{Step}
 use Rattle.guard_syntax.specs.declared.syntax.Expr.{Expr}
 use Rattle.literal_parser.specs.declared.token_cursor.Tokens.{Tokens}
-use Rattle.literal_parser.specs.code.Reads.{source}
+use Rattle.literal_parser.specs.code.Reads.{site_of, source}
 use Rattle.literal_parser.specs.code.Parser.{Outcome, Parser, and_then, ◌>>=◌, ◌>>◌, pure, stop, opens, takes, has, choose}
 use Rattle.guard_parser.specs.code.Reading as spec
 
@@ -50,7 +50,7 @@ see_key_test t = (t.0, see_expr t.1)
 -- ---- the rules of the grammar over the tokens of a text, with brackets no deeper than a number
 
 abbrev pub inner : Tokens → ℕ → spec.Inner
-inner tokens depth = spec.inners (source tokens) tokens.turns depth
+inner tokens depth = spec.numbered (source tokens) tokens.turns site_of depth
 
 -- parts of the rules for steps and starts, which hold no brackets
 module _ (tokens : Tokens) where
@@ -61,7 +61,7 @@ module _ (tokens : Tokens) where
       (has (source tokens) is_key text_of >>= (λ name. pure (sx.key n name)))))
 
   abbrev pub start_at : Parser sx.Step
-  start_at = opens (source tokens) >>= (λ n. choose (source tokens) is_this (takes (source tokens) is_this >> pure (sx.this n))
+  start_at = opens (source tokens) site_of >>= (λ n. choose (source tokens) is_this (takes (source tokens) is_this >> pure (sx.this n))
       (choose (source tokens) is_var (has (source tokens) is_var text_of >>= (λ name. pure (sx.var n name)))
       (has (source tokens) is_first_key text_of >>= (λ name. pure (sx.key n name)))))
 

@@ -21,8 +21,10 @@ BodyItems = Lets × Disjs
 abbrev pub FileItems : Type 0
 FileItems = Lets × List Rule × Disjs
 
--- whether one bracket more may open; readers of a literal at this depth of brackets, and of what stands in brackets one deeper
+-- the number of a site by how many there are before it; whether one bracket more may open; readers of a literal at this depth of brackets, and of
+-- what stands in brackets one deeper
 pub record Inner : Type 0 where
+  pub number : ℕ → ℕ
   pub roomy : Bool
   pub tree : Parser Forest
   pub body : Parser Body
@@ -110,7 +112,7 @@ module _ (s : ℕ → Lexeme) where
 
       unfoldable pub step : Parser Step
       step = do
-        n ← opens s
+        n ← opens s inner.number
         choose s is_dot (dotted n) (bracketed n)
 
       unfoldable pub steps : ℕ → Parser Steps
@@ -119,14 +121,14 @@ module _ (s : ℕ → Lexeme) where
 
       unfoldable pub start_step : Parser Step
       start_step = do
-        n ← opens s
+        n ← opens s inner.number
         choose s is_this (do takes s is_this; pure (this n))
             (choose s is_var (do name ← has s is_var text_of; pure (var n name))
             (do name ← has s is_first_key text_of; pure (key n name)))
 
       unfoldable pub query_of : Parser Query
       query_of = do
-        n ← opens s
+        n ← opens s inner.number
         p ← start_step
         ps ← steps turns
         pure (query n (more_steps p ps))
@@ -135,13 +137,13 @@ module _ (s : ℕ → Lexeme) where
 
       unfoldable pub tree_expr : Parser Expr
       tree_expr = do
-        n ← opens s
+        n ← opens s inner.number
         t ← inner.tree
         pure (literal n t)
 
       unfoldable pub applied : Parser Expr
       applied = do
-        n ← opens s
+        n ← opens s inner.number
         name ← has s is_any_name text_of
         takes s is_lparen
         es ← inner.exprs
@@ -162,7 +164,7 @@ module _ (s : ℕ → Lexeme) where
 
       unfoldable pub found_expr : Parser Expr
       found_expr = do
-        n ← opens s
+        n ← opens s inner.number
         takes s is_some_word
         q ← query_of
         pure (found n q)
@@ -233,7 +235,7 @@ module _ (s : ℕ → Lexeme) where
 
       unfoldable pub cond_part : Parser Part
       cond_part = do
-        n ← opens s
+        n ← opens s inner.number
         cond_of false n
 
       -- ---- parts, conditions and bodies
@@ -244,7 +246,7 @@ module _ (s : ℕ → Lexeme) where
 
       unfoldable pub disj_of : Parser Part → Parser Disj
       disj_of part = do
-        n ← opens s
+        n ← opens s inner.number
         p ← part
         ps ← ors part turns
         pure (disj n (more_parts p ps))
@@ -255,7 +257,7 @@ module _ (s : ℕ → Lexeme) where
 
       unfoldable pub conds_of : Parser Conds
       conds_of = do
-        n ← opens s
+        n ← opens s inner.number
         d ← disj_of cond_part
         ds ← disjs turns
         pure (conds n (more_disjs d ds))
@@ -279,12 +281,12 @@ module _ (s : ℕ → Lexeme) where
 
       unfoldable pub full_part : Parser Part
       full_part = do
-        n ← opens s
+        n ← opens s inner.number
         choose s is_when (bodied (guarded_part n)) (choose s is_type_name (bodied (kinds_part n)) (cond_of true n))
 
       unfoldable pub let_of : Parser Let
       let_of = do
-        n ← opens s
+        n ← opens s inner.number
         takes s is_let
         name ← has s is_name named_of
         takes s is_assign
@@ -303,7 +305,7 @@ module _ (s : ℕ → Lexeme) where
 
       unfoldable pub body_of : Parser Body
       body_of = do
-        n ← opens s
+        n ← opens s inner.number
         takes s is_lbrace
         contained ← body_items turns
         if is_filled contained.1 then body_end n contained else stop
@@ -315,7 +317,7 @@ module _ (s : ℕ → Lexeme) where
 
       unfoldable pub rule_of : Parser Rule
       rule_of = do
-        n ← opens s
+        n ← opens s inner.number
         takes s is_rule
         name ← has s is_rule_name named_of
         h ← head
@@ -330,7 +332,7 @@ module _ (s : ℕ → Lexeme) where
 
       unfoldable pub contents : Parser FileItems
       contents = do
-        n ← opens s
+        n ← opens s inner.number
         file_items turns
 
       -- and nothing behind it
@@ -339,8 +341,19 @@ module _ (s : ℕ → Lexeme) where
         x ← contents
         choose s is_end (pure x) stop
 
-    -- with brackets nested no deeper than the number
+    abbrev with_number : (ℕ → ℕ) → Inner → Inner
+    with_number number i = record { number = number; roomy = i.roomy; tree = i.tree; body = i.body; conds = i.conds; expr = i.expr; exprs = i.exprs }
+
+    -- with brackets nested no deeper than the last number
+    abbrev nested : (ℕ → ℕ) → ℕ → Inner
+    nested number zero = record { number = number; roomy = false; tree = literal_of s turns zero; body = stop; conds = stop; expr = stop; exprs = stop }
+    nested number (suc depth) = let i = with_number number (nested number depth) in
+        record { number = number; roomy = true; tree = literal_of s turns (suc depth); body = body_of i; conds = conds_of i; expr = expr_of i; exprs = exprs_of i }
+
+    -- the same, whose sites are seen to be numbered so at any depth
+    abbrev pub numbered : (ℕ → ℕ) → ℕ → Inner
+    numbered number depth = with_number number (nested number depth)
+
+    -- each site has the number of those before it
     abbrev pub inners : ℕ → Inner
-    inners zero = record { roomy = false; tree = literal_of s turns zero; body = stop; conds = stop; expr = stop; exprs = stop }
-    inners (suc depth) = let i = inners depth in
-        record { roomy = true; tree = literal_of s turns (suc depth); body = body_of i; conds = conds_of i; expr = expr_of i; exprs = exprs_of i }
+    inners = numbered (λ n. n)

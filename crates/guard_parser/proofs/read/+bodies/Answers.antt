@@ -4,7 +4,7 @@ use Rattle.guard_syntax.specs.Syntax as sx
 use Rattle.guard_syntax.specs.code.Seen.{see_body, see_conds, see_opt_conds, see_disj, see_let, see_part, see_query}
 use Rattle.literal_parser.specs.Forms.{begins_part, is_let, is_or, is_lbrace, is_rbrace, is_when, is_type_name, leads}
 use Rattle.literal_parser.specs.code.Parser.{One, Read, pure, and_then, opens, takes}
-use Rattle.literal_parser.specs.code.Reads.{source, state_of}
+use Rattle.literal_parser.specs.code.Reads.{site_of, source, state_of}
 use Rattle.guard_parser.specs.declared.lead.Lead.{Lead}
 use Rattle.guard_parser.specs.code.Leads.{lead_of, led_by}
 use Rattle.guard_parser.specs.code.Reading as spec
@@ -80,87 +80,87 @@ disj-returns-in_err-add_parts t c =
 pub disj-returns-in_err-site : goal.disj-returns-in_err-site
 unfolding disj_of
 disj-returns-in_err-site t c =
-    halted (λ (x : ℕ). x) see_disj (opens (source c.args.tokens) (state_of c.args.cursor.now) c.args.cursor.now.seen)
+    halted (λ (x : ℕ). x) see_disj (opens (source c.args.tokens) site_of (state_of c.args.cursor.now) c.args.cursor.now.seen)
     _ (disj_at c.args.tokens c.args.depth (state_of c.args.cursor.now) c.args.cursor.now.seen) c.from_residual.result c.in_err-site.field-0.0 c.opens.new.self c.opens.new.self c.from_residual.ensures.1
     (refl) c.in_err-site.ensures
 
 pub part-returns-in_err-site : goal.part-returns-in_err-site
 unfolding full_part
 part-returns-in_err-site t c =
-    halted (λ (x : ℕ). x) see_part (opens (source c.args.tokens) (state_of c.args.cursor.now) c.args.cursor.now.seen)
+    halted (λ (x : ℕ). x) see_part (opens (source c.args.tokens) site_of (state_of c.args.cursor.now) c.args.cursor.now.seen)
     _ (full_part_at c.args.tokens c.args.depth (state_of c.args.cursor.now) c.args.cursor.now.seen) c.from_residual.result c.in_err-site.field-0.0 c.opens.new.self c.opens.new.self c.from_residual.ensures.1
     (refl) c.in_err-site.ensures
 
 pub part-returns-then-depth-eq0 : goal.part-returns-then-depth-eq0
 unfolding full_part
 part-returns-then-depth-eq0 t c =
-    then_read _ c.in_ok-site.ensures (saw (source c.args.tokens) is_when _ _ (state_of c.opens.new.self) c.opens.new.self.seen c.sees.ensures.token c.if-sees.true c.sees.ensures.state c.sees.ensures.seen (full_stops (source c.args.tokens) c.args.tokens.turns (inner c.args.tokens c.args.depth) (guarded_at c.args.tokens c.args.depth c.in_ok-site.site) (state_of c.sees.new.self) c.sees.new.self.seen (no_room (source c.args.tokens) c.args.tokens.turns c.args.depth c.if-depth-eq0.true)))
+    then_read _ c.in_ok-site.ensures (saw (source c.args.tokens) is_when _ _ (state_of c.opens.new.self) c.opens.new.self.seen c.sees.ensures.token c.if-sees.true c.sees.ensures.state c.sees.ensures.seen (full_stops (source c.args.tokens) c.args.tokens.turns (inner c.args.tokens c.args.depth) (guarded_at c.args.tokens c.args.depth c.in_ok-site.site) (state_of c.sees.new.self) c.sees.new.self.seen (no_room (source c.args.tokens) c.args.tokens.turns site_of c.args.depth c.if-depth-eq0.true)))
 
 pub part-returns-then-sees : goal.part-returns-then-sees
 unfolding full_part
 part-returns-then-sees t c =
     handed see_part (full_part_at c.args.tokens c.args.depth (state_of c.args.cursor.now) c.args.cursor.now.seen) (guarded_at c.args.tokens c.args.depth c.in_ok-site.site (state_of c.sees.new.self) c.sees.new.self.seen) c.guarded.result c.guarded.new.cursor
-    (then_read _ c.in_ok-site.ensures (saw (source c.args.tokens) is_when _ _ (state_of c.opens.new.self) c.opens.new.self.seen c.sees.ensures.token c.if-sees.true c.sees.ensures.state c.sees.ensures.seen (roomy_reads (source c.args.tokens) c.args.tokens.turns (inner c.args.tokens c.args.depth) (guarded_at c.args.tokens c.args.depth c.in_ok-site.site) (state_of c.sees.new.self) c.sees.new.self.seen (room_left (source c.args.tokens) c.args.tokens.turns c.args.depth c.if-depth-eq0.false)))) c.guarded.ensures
+    (then_read _ c.in_ok-site.ensures (saw (source c.args.tokens) is_when _ _ (state_of c.opens.new.self) c.opens.new.self.seen c.sees.ensures.token c.if-sees.true c.sees.ensures.state c.sees.ensures.seen (roomy_reads (source c.args.tokens) c.args.tokens.turns (inner c.args.tokens c.args.depth) (guarded_at c.args.tokens c.args.depth c.in_ok-site.site) (state_of c.sees.new.self) c.sees.new.self.seen (room_left (source c.args.tokens) c.args.tokens.turns site_of c.args.depth c.if-depth-eq0.false)))) c.guarded.ensures
 
 pub part-returns-then-depth-eq0-2 : goal.part-returns-then-depth-eq0-2
 unfolding full_part
 part-returns-then-depth-eq0-2 t c =
-    then_read _ c.in_ok-site.ensures (saw (source c.args.tokens) is_when _ _ (state_of c.opens.new.self) c.opens.new.self.seen c.sees.ensures.token c.if-sees.false c.sees.ensures.state c.sees.ensures.seen (saw (source c.args.tokens) is_type_name _ _ (state_of c.sees.new.self) c.sees.new.self.seen c.sees-2.ensures.token c.if-sees-2.true c.sees-2.ensures.state c.sees-2.ensures.seen (full_stops (source c.args.tokens) c.args.tokens.turns (inner c.args.tokens c.args.depth) (kinds_at c.args.tokens c.args.depth c.in_ok-site.site) (state_of c.sees-2.new.self) c.sees-2.new.self.seen (no_room (source c.args.tokens) c.args.tokens.turns c.args.depth c.if-depth-eq0-2.true))))
+    then_read _ c.in_ok-site.ensures (saw (source c.args.tokens) is_when _ _ (state_of c.opens.new.self) c.opens.new.self.seen c.sees.ensures.token c.if-sees.false c.sees.ensures.state c.sees.ensures.seen (saw (source c.args.tokens) is_type_name _ _ (state_of c.sees.new.self) c.sees.new.self.seen c.sees-2.ensures.token c.if-sees-2.true c.sees-2.ensures.state c.sees-2.ensures.seen (full_stops (source c.args.tokens) c.args.tokens.turns (inner c.args.tokens c.args.depth) (kinds_at c.args.tokens c.args.depth c.in_ok-site.site) (state_of c.sees-2.new.self) c.sees-2.new.self.seen (no_room (source c.args.tokens) c.args.tokens.turns site_of c.args.depth c.if-depth-eq0-2.true))))
 
 pub part-returns-then-sees-2 : goal.part-returns-then-sees-2
 unfolding full_part
 part-returns-then-sees-2 t c =
     handed see_part (full_part_at c.args.tokens c.args.depth (state_of c.args.cursor.now) c.args.cursor.now.seen) (kinds_at c.args.tokens c.args.depth c.in_ok-site.site (state_of c.sees-2.new.self) c.sees-2.new.self.seen) c.kinds.result c.kinds.new.cursor
-    (then_read _ c.in_ok-site.ensures (saw (source c.args.tokens) is_when _ _ (state_of c.opens.new.self) c.opens.new.self.seen c.sees.ensures.token c.if-sees.false c.sees.ensures.state c.sees.ensures.seen (saw (source c.args.tokens) is_type_name _ _ (state_of c.sees.new.self) c.sees.new.self.seen c.sees-2.ensures.token c.if-sees-2.true c.sees-2.ensures.state c.sees-2.ensures.seen (roomy_reads (source c.args.tokens) c.args.tokens.turns (inner c.args.tokens c.args.depth) (kinds_at c.args.tokens c.args.depth c.in_ok-site.site) (state_of c.sees-2.new.self) c.sees-2.new.self.seen (room_left (source c.args.tokens) c.args.tokens.turns c.args.depth c.if-depth-eq0-2.false))))) c.kinds.ensures
+    (then_read _ c.in_ok-site.ensures (saw (source c.args.tokens) is_when _ _ (state_of c.opens.new.self) c.opens.new.self.seen c.sees.ensures.token c.if-sees.false c.sees.ensures.state c.sees.ensures.seen (saw (source c.args.tokens) is_type_name _ _ (state_of c.sees.new.self) c.sees.new.self.seen c.sees-2.ensures.token c.if-sees-2.true c.sees-2.ensures.state c.sees-2.ensures.seen (roomy_reads (source c.args.tokens) c.args.tokens.turns (inner c.args.tokens c.args.depth) (kinds_at c.args.tokens c.args.depth c.in_ok-site.site) (state_of c.sees-2.new.self) c.sees-2.new.self.seen (room_left (source c.args.tokens) c.args.tokens.turns site_of c.args.depth c.if-depth-eq0-2.false))))) c.kinds.ensures
 
 pub part-returns-in_err-any : goal.part-returns-in_err-any
 unfolding full_part
 part-returns-in_err-any t c =
     halted (λ (x : Lead). x) see_part (lead_of (source c.args.tokens) (leads true) (state_of c.sees-2.new.self) c.sees-2.new.self.seen)
-    (led_by (source c.args.tokens) c.args.tokens.turns (spec.inners (source c.args.tokens) c.args.tokens.turns c.args.depth) true c.in_ok-site.site) (full_part_at c.args.tokens c.args.depth (state_of c.args.cursor.now) c.args.cursor.now.seen) c.from_residual-in_err-any.result c.in_err-any.field-0.0 c.lead_of.new.cursor c.lead_of.new.cursor c.from_residual-in_err-any.ensures.1
-    (then_read _ c.in_ok-site.ensures (saw (source c.args.tokens) is_when _ _ (state_of c.opens.new.self) c.opens.new.self.seen c.sees.ensures.token c.if-sees.false c.sees.ensures.state c.sees.ensures.seen (saw (source c.args.tokens) is_type_name _ _ (state_of c.sees.new.self) c.sees.new.self.seen c.sees-2.ensures.token c.if-sees-2.false c.sees-2.ensures.state c.sees-2.ensures.seen (condition_led (source c.args.tokens) c.args.tokens.turns (spec.inners (source c.args.tokens) c.args.tokens.turns c.args.depth) true c.in_ok-site.site (state_of c.sees-2.new.self) c.sees-2.new.self.seen)))) c.in_err-any.ensures
+    (led_by (source c.args.tokens) c.args.tokens.turns (inner c.args.tokens c.args.depth) true c.in_ok-site.site) (full_part_at c.args.tokens c.args.depth (state_of c.args.cursor.now) c.args.cursor.now.seen) c.from_residual-in_err-any.result c.in_err-any.field-0.0 c.lead_of.new.cursor c.lead_of.new.cursor c.from_residual-in_err-any.ensures.1
+    (then_read _ c.in_ok-site.ensures (saw (source c.args.tokens) is_when _ _ (state_of c.opens.new.self) c.opens.new.self.seen c.sees.ensures.token c.if-sees.false c.sees.ensures.state c.sees.ensures.seen (saw (source c.args.tokens) is_type_name _ _ (state_of c.sees.new.self) c.sees.new.self.seen c.sees-2.ensures.token c.if-sees-2.false c.sees-2.ensures.state c.sees-2.ensures.seen (condition_led (source c.args.tokens) c.args.tokens.turns (inner c.args.tokens c.args.depth) true c.in_ok-site.site (state_of c.sees-2.new.self) c.sees-2.new.self.seen)))) c.in_err-any.ensures
 
 pub part-returns-in-Query : goal.part-returns-in-Query
 unfolding full_part
 part-returns-in-Query t c =
     handed see_part (full_part_at c.args.tokens c.args.depth (state_of c.args.cursor.now) c.args.cursor.now.seen) (headed_at c.args.tokens c.args.depth c.in_ok-site.site c.in-Query.any (state_of c.lead_of.new.cursor) c.lead_of.new.cursor.seen) c.headed.result c.headed.new.cursor
-    (then_read _ c.in_ok-site.ensures (saw (source c.args.tokens) is_when _ _ (state_of c.opens.new.self) c.opens.new.self.seen c.sees.ensures.token c.if-sees.false c.sees.ensures.state c.sees.ensures.seen (saw (source c.args.tokens) is_type_name _ _ (state_of c.sees.new.self) c.sees.new.self.seen c.sees-2.ensures.token c.if-sees-2.false c.sees-2.ensures.state c.sees-2.ensures.seen (condition_led (source c.args.tokens) c.args.tokens.turns (spec.inners (source c.args.tokens) c.args.tokens.turns c.args.depth) true c.in_ok-site.site (state_of c.sees-2.new.self) c.sees-2.new.self.seen))) ∙ ap (λ o. and_then o (led_by (source c.args.tokens) c.args.tokens.turns (spec.inners (source c.args.tokens) c.args.tokens.turns c.args.depth) true c.in_ok-site.site)) c.in_ok-any.ensures ∙ ap (λ (l : Lead). (led_by (source c.args.tokens) c.args.tokens.turns (spec.inners (source c.args.tokens) c.args.tokens.turns c.args.depth) true c.in_ok-site.site) l (state_of c.lead_of.new.cursor) c.lead_of.new.cursor.seen) c.in-Query.is) c.headed.ensures
+    (then_read _ c.in_ok-site.ensures (saw (source c.args.tokens) is_when _ _ (state_of c.opens.new.self) c.opens.new.self.seen c.sees.ensures.token c.if-sees.false c.sees.ensures.state c.sees.ensures.seen (saw (source c.args.tokens) is_type_name _ _ (state_of c.sees.new.self) c.sees.new.self.seen c.sees-2.ensures.token c.if-sees-2.false c.sees-2.ensures.state c.sees-2.ensures.seen (condition_led (source c.args.tokens) c.args.tokens.turns (inner c.args.tokens c.args.depth) true c.in_ok-site.site (state_of c.sees-2.new.self) c.sees-2.new.self.seen))) ∙ ap (λ o. and_then o (led_by (source c.args.tokens) c.args.tokens.turns (inner c.args.tokens c.args.depth) true c.in_ok-site.site)) c.in_ok-any.ensures ∙ ap (λ (l : Lead). (led_by (source c.args.tokens) c.args.tokens.turns (inner c.args.tokens c.args.depth) true c.in_ok-site.site) l (state_of c.lead_of.new.cursor) c.lead_of.new.cursor.seen) c.in-Query.is) c.headed.ensures
 
 pub part-returns-in-Rule : goal.part-returns-in-Rule
 unfolding full_part
 part-returns-in-Rule t c =
     handed see_part (full_part_at c.args.tokens c.args.depth (state_of c.args.cursor.now) c.args.cursor.now.seen) (ruled_at c.args.tokens c.args.depth c.in_ok-site.site c.in-Rule.not (state_of c.lead_of.new.cursor) c.lead_of.new.cursor.seen) c.ruled.result c.ruled.new.cursor
-    (then_read _ c.in_ok-site.ensures (saw (source c.args.tokens) is_when _ _ (state_of c.opens.new.self) c.opens.new.self.seen c.sees.ensures.token c.if-sees.false c.sees.ensures.state c.sees.ensures.seen (saw (source c.args.tokens) is_type_name _ _ (state_of c.sees.new.self) c.sees.new.self.seen c.sees-2.ensures.token c.if-sees-2.false c.sees-2.ensures.state c.sees-2.ensures.seen (condition_led (source c.args.tokens) c.args.tokens.turns (spec.inners (source c.args.tokens) c.args.tokens.turns c.args.depth) true c.in_ok-site.site (state_of c.sees-2.new.self) c.sees-2.new.self.seen))) ∙ ap (λ o. and_then o (led_by (source c.args.tokens) c.args.tokens.turns (spec.inners (source c.args.tokens) c.args.tokens.turns c.args.depth) true c.in_ok-site.site)) c.in_ok-any.ensures ∙ ap (λ (l : Lead). (led_by (source c.args.tokens) c.args.tokens.turns (spec.inners (source c.args.tokens) c.args.tokens.turns c.args.depth) true c.in_ok-site.site) l (state_of c.lead_of.new.cursor) c.lead_of.new.cursor.seen) c.in-Rule.is) c.ruled.ensures
+    (then_read _ c.in_ok-site.ensures (saw (source c.args.tokens) is_when _ _ (state_of c.opens.new.self) c.opens.new.self.seen c.sees.ensures.token c.if-sees.false c.sees.ensures.state c.sees.ensures.seen (saw (source c.args.tokens) is_type_name _ _ (state_of c.sees.new.self) c.sees.new.self.seen c.sees-2.ensures.token c.if-sees-2.false c.sees-2.ensures.state c.sees-2.ensures.seen (condition_led (source c.args.tokens) c.args.tokens.turns (inner c.args.tokens c.args.depth) true c.in_ok-site.site (state_of c.sees-2.new.self) c.sees-2.new.self.seen))) ∙ ap (λ o. and_then o (led_by (source c.args.tokens) c.args.tokens.turns (inner c.args.tokens c.args.depth) true c.in_ok-site.site)) c.in_ok-any.ensures ∙ ap (λ (l : Lead). (led_by (source c.args.tokens) c.args.tokens.turns (inner c.args.tokens c.args.depth) true c.in_ok-site.site) l (state_of c.lead_of.new.cursor) c.lead_of.new.cursor.seen) c.in-Rule.is) c.ruled.ensures
 
 pub body-returns-then-depth-eq0 : goal.body-returns-then-depth-eq0
 body-returns-then-depth-eq0 t c =
-    ap (λ (n : ℕ). (spec.inners (source c.args.tokens) c.args.tokens.turns n).body (state_of c.args.cursor.now) c.args.cursor.now.seen) c.if-depth-eq0.true
+    ap (λ (n : ℕ). (inner c.args.tokens n).body (state_of c.args.cursor.now) c.args.cursor.now.seen) c.if-depth-eq0.true
 
 pub body-returns-in_err-site : goal.body-returns-in_err-site
 unfolding body_of
 body-returns-in_err-site t c =
-    halted (λ (x : ℕ). x) see_body (opens (source c.args.tokens) (state_of c.args.cursor.now) c.args.cursor.now.seen)
+    halted (λ (x : ℕ). x) see_body (opens (source c.args.tokens) site_of (state_of c.args.cursor.now) c.args.cursor.now.seen)
     _ (inner_body_at c.args.tokens c.args.depth (state_of c.args.cursor.now) c.args.cursor.now.seen) c.from_residual.result c.in_err-site.field-0.0 c.opens.new.self c.opens.new.self c.from_residual.ensures.1
-    (ap (λ (n : ℕ). (spec.inners (source c.args.tokens) c.args.tokens.turns n).body (state_of c.args.cursor.now) c.args.cursor.now.seen) (deeper c.args.depth c.if-depth-eq0.false)) c.in_err-site.ensures
+    (ap (λ (n : ℕ). (inner c.args.tokens n).body (state_of c.args.cursor.now) c.args.cursor.now.seen) (deeper c.args.depth c.if-depth-eq0.false)) c.in_err-site.ensures
 
 pub body-returns-in_err-takes : goal.body-returns-in_err-takes
 unfolding body_of
 body-returns-in_err-takes t c =
     halted (λ (x : One). x) see_body (takes (source c.args.tokens) is_lbrace (state_of c.opens.new.self) c.opens.new.self.seen)
     _ (inner_body_at c.args.tokens c.args.depth (state_of c.args.cursor.now) c.args.cursor.now.seen) c.from_residual-in_err-takes.result c.in_err-takes.field-0.0 c.takes.new.self c.takes.new.self c.from_residual-in_err-takes.ensures.1
-    (ap (λ (n : ℕ). (spec.inners (source c.args.tokens) c.args.tokens.turns n).body (state_of c.args.cursor.now) c.args.cursor.now.seen) (deeper c.args.depth c.if-depth-eq0.false) ∙ then_read _ c.in_ok-site.ensures refl) c.in_err-takes.ensures
+    (ap (λ (n : ℕ). (inner c.args.tokens n).body (state_of c.args.cursor.now) c.args.cursor.now.seen) (deeper c.args.depth c.if-depth-eq0.false) ∙ then_read _ c.in_ok-site.ensures refl) c.in_err-takes.ensures
 
 pub body-returns-in_err-add_items : goal.body-returns-in_err-add_items
 unfolding body_of
 body-returns-in_err-add_items t c =
     halted (λ (x : One). see_items c.add_items.new.lets c.add_items.new.parts) see_body (closed_items_at c.args.tokens (c.args.depth - 1) (state_of c.takes.new.self) c.takes.new.self.seen)
     (λ (p : BodyItems). pure (sx.body c.in_ok-site.site p.0 p.1)) (inner_body_at c.args.tokens c.args.depth (state_of c.args.cursor.now) c.args.cursor.now.seen) c.from_residual-in_err-add_items.result c.in_err-add_items.field-0.0 c.add_items.new.cursor c.add_items.new.cursor c.from_residual-in_err-add_items.ensures.1
-    (ap (λ (n : ℕ). (spec.inners (source c.args.tokens) c.args.tokens.turns n).body (state_of c.args.cursor.now) c.args.cursor.now.seen) (deeper c.args.depth c.if-depth-eq0.false) ∙ then_read _ c.in_ok-site.ensures (then_read _ c.in_ok-takes.ensures (closes c.args.tokens (c.args.depth - 1) c.in_ok-site.site (body_items_at c.args.tokens (c.args.depth - 1) c.args.tokens.turns (state_of c.takes.new.self) c.takes.new.self.seen)))) c.in_err-add_items.ensures
+    (ap (λ (n : ℕ). (inner c.args.tokens n).body (state_of c.args.cursor.now) c.args.cursor.now.seen) (deeper c.args.depth c.if-depth-eq0.false) ∙ then_read _ c.in_ok-site.ensures (then_read _ c.in_ok-takes.ensures (closes c.args.tokens (c.args.depth - 1) c.in_ok-site.site (body_items_at c.args.tokens (c.args.depth - 1) c.args.tokens.turns (state_of c.takes.new.self) c.takes.new.self.seen)))) c.in_err-add_items.ensures
 
 pub body-returns : goal.body-returns
 unfolding body_of
 body-returns t c =
-    ap (λ (n : ℕ). (spec.inners (source c.args.tokens) c.args.tokens.turns n).body (state_of c.args.cursor.now) c.args.cursor.now.seen) (deeper c.args.depth c.if-depth-eq0.false) ∙ then_read _ c.in_ok-site.ensures (then_read _ c.in_ok-takes.ensures (closes c.args.tokens (c.args.depth - 1) c.in_ok-site.site (body_items_at c.args.tokens (c.args.depth - 1) c.args.tokens.turns (state_of c.takes.new.self) c.takes.new.self.seen))) ∙ ap (λ o. and_then o (λ (p : BodyItems). pure (sx.body c.in_ok-site.site p.0 p.1))) c.in_ok-add_items.ensures
+    ap (λ (n : ℕ). (inner c.args.tokens n).body (state_of c.args.cursor.now) c.args.cursor.now.seen) (deeper c.args.depth c.if-depth-eq0.false) ∙ then_read _ c.in_ok-site.ensures (then_read _ c.in_ok-takes.ensures (closes c.args.tokens (c.args.depth - 1) c.in_ok-site.site (body_items_at c.args.tokens (c.args.depth - 1) c.args.tokens.turns (state_of c.takes.new.self) c.takes.new.self.seen))) ∙ ap (λ o. and_then o (λ (p : BodyItems). pure (sx.body c.in_ok-site.site p.0 p.1))) c.in_ok-add_items.ensures
     ∙ sym (ap (λ (q : sx.Body). Read q (state_of c.add_items.new.cursor) c.add_items.new.cursor.seen) (body-made c.in_ok-site.site c.add_items.new.lets c.add_items.new.parts))
 
 pub add_items-loop-turn-init : goal.add_items-loop-turn-init
