@@ -57,6 +57,11 @@ fn shown(alloc: Global, request: &Request) -> Result<String, AllocError> {
             params,
         ),
         Request::Drill { count } => format!(in alloc; "drill|{count}|"),
+        Request::Test { rules, tests } => {
+            let rules = rules.as_str();
+            let tests = tests.as_str();
+            format!(in alloc; "test|{rules}|{tests}|")
+        }
     }
 }
 
@@ -78,6 +83,7 @@ const ANSWERS: &[(&str, &str)] = &[
     ),
     ("check|--proof=c|--rules|a|--data=b", "check|c|a|b|"),
     ("drill|--count|100000", "drill|100000|"),
+    ("test|--tests|b c|--rules= ", "test| |b c|"),
     ("validate|--rules|a b|--data| ", "validate|report|a b| |"),
     ("validate|--rules=a b|--data= ", "validate|report|a b| |"),
     (
@@ -92,6 +98,7 @@ const ANSWERS: &[(&str, &str)] = &[
     ("validate|--rules|a|--data|b|--params|c|--params| ", "usage"),
     ("validate ", "usage"),
     ("validate|--rules |a|--data|b", "usage"),
+    ("test|--rules|a|--tests |b", "usage"),
     ("drill|--count| 1", "usage"),
     ("drill|--count|1 ", "usage"),
 ];
