@@ -1,5 +1,6 @@
 //! What is asked for over files: they are loaded and read, stage after stage, and then it is done.
-ghost use Rattle.std.specs.Prelude.{◌≡◌, ◌≤◌, ℕ, List, None};
+ghost use Rattle.std.specs.Prelude.{◌≡◌, ◌≤◌, ◌<◌, ◌^◌, ℕ, List, None};
+ghost use Rattle.doc_values.specs.Tree.{size};
 ghost use Rattle.guard_ends.specs.Order.{WithParams};
 ghost use Rattle.guard_run.specs.code.Inputs.{ReadingSources, WithPatterns, inputs_of};
 ghost use Rattle.guard_run.specs.code.Jobs.{Doing, WorkOfJob, name_in};
@@ -67,7 +68,8 @@ fn run_over_template<F: Files, M: PatternMaker>(
     files: &mut F,
     maker: &mut M,
 ) -> Result<Done, Stop>
-    requires { (inputs_of template).texts.params ≡ None }
+    requires alone { (inputs_of template).texts.params ≡ None }
+    requires small { size template.tree < 2 ^ 31 }
     ensures outcome { IsOutcome (JoiningInputs (WithParams (F.content files.old) (name_in job.now.params)) (inputs_of template.entry) (Doing job.now.task (F.content files.old)))
         (Rose (F.faults files.old) (F.faults files.new)) (Rose (M.faults maker.old) (M.faults maker.new)) result }
     ensures contents { (other : List ℕ) → F.content files.new other ≡ F.content files.old other }

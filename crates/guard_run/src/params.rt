@@ -1,7 +1,7 @@
 //! Parameters: where they are asked for they are loaded, read, and merged into the template.
-ghost use Rattle.std.specs.Prelude.{◌≡◌, ◌≤◌, ℕ, List, MatchResult, false, length};
+ghost use Rattle.std.specs.Prelude.{◌≡◌, ◌≤◌, ◌<◌, ◌^◌, ℕ, List, MatchResult, false, length};
 ghost use Rattle.doc_values.specs.Limits.{template_limit};
-ghost use Rattle.doc_values.specs.Tree.{Forest};
+ghost use Rattle.doc_values.specs.Tree.{Forest, size};
 ghost use Rattle.rule_meaning.specs.Values.{has_pattern};
 ghost use Rattle.guard_ends.specs.Order.{Merging};
 ghost use Rattle.guard_run.specs.code.Inputs.{inputs_of};
@@ -46,6 +46,7 @@ pub(crate) fn join<'t>(
     template: Inputs<'t>,
     params: &'t Option<DataText>,
 ) -> Result<Inputs<'t>, Stop>
+    requires { size template.tree < 2 ^ 31 }
     ensures { MatchResult result (AreJoined params.entry.now (inputs_of template.entry))
         (IsStop (JoiningParams (WithLoaded params.entry.now) (inputs_of template.entry) Nowhere) NoneRose NoneRose) }
 {
@@ -61,6 +62,7 @@ fn join_params<'t>(
     template: Inputs<'t>,
     params: &'t DataText,
 ) -> Result<Inputs<'t>, Stop>
+    requires { size template.tree < 2 ^ 31 }
     ensures { MatchResult result (IsJoinedWith params.entry.now (inputs_of template.entry))
         (IsStop (JoiningParams (ReadingParams params.entry.now) (inputs_of template.entry) Nowhere) NoneRose NoneRose) }
 {
@@ -73,6 +75,8 @@ fn join_params<'t>(
 fn merge_params<'t>(template: Inputs<'t>, tree: Doc<'t>, text: &'t str) -> Result<Inputs<'t>, Stop>
     requires short { length text.now ≤ template_limit }
     requires plain { has_pattern tree ≡ false }
+    requires first { size template.tree < 2 ^ 31 }
+    requires second { size tree < 2 ^ 31 }
     ensures { MatchResult result (AreMerged text.entry.now tree.entry (inputs_of template.entry))
         (IsStop (JoiningParams (Merging text.entry.now tree.entry) (inputs_of template.entry) Nowhere) NoneRose NoneRose) }
 {

@@ -1,6 +1,7 @@
 //! Rules are loaded and read, and what is read beside them is loaded; a template becomes the inputs of a judgement.
-ghost use Rattle.std.specs.Prelude.{◌≡◌, ◌≤◌, ℕ, List, MatchResult, string_bytes};
+ghost use Rattle.std.specs.Prelude.{◌≡◌, ◌≤◌, ◌<◌, ◌^◌, ℕ, List, IfOk, MatchResult, string_bytes};
 ghost use Rattle.doc_values.specs.Limits.{template_limit};
+ghost use Rattle.doc_values.specs.Tree.{size};
 ghost use Rattle.guard_ends.specs.Inputs.{RefusesData};
 ghost use Rattle.guard_ends.specs.Order.{LoadingTexts, Refusing};
 ghost use Rattle.guard_run.specs.code.Inputs.{AreAlone, AreLoaded};
@@ -40,8 +41,9 @@ pub(crate) fn load_sources<F: Files>(
 
 /// Reads the template of sources: the inputs without parameters.
 pub(crate) fn read_template(alloc: Global, sources: &Sources) -> Result<Inputs<'_>, Stop>
-    ensures { MatchResult result (AreAlone sources.entry.now)
+    ensures read { MatchResult result (AreAlone sources.entry.now)
         (IsNotRead (RefusesData Which.Template sources.entry.now.beside.format) (string_bytes sources.entry.now.beside.text)) }
+    ensures small { IfOk result (λ inputs. size inputs.tree < 2 ^ 31) }
 {
     let template = sources.beside.text.as_str();
     let tree = read_tree(alloc, Which::Template, sources.beside.format, template)?;

@@ -1,6 +1,7 @@
 //! Templates, parameters and tests, which are read in the format that is asked for.
-ghost use Rattle.std.specs.Prelude.{◌≤◌, MatchResult, length};
+ghost use Rattle.std.specs.Prelude.{◌≤◌, ◌<◌, ◌^◌, IfOk, MatchResult, length};
 ghost use Rattle.doc_values.specs.Limits.{template_limit};
+ghost use Rattle.doc_values.specs.Tree.{size};
 ghost use Rattle.guard_ends.specs.Inputs.{IsTemplate, RefusesData};
 ghost use Rattle.guard_run.specs.code.Stops.{IsNotRead};
 
@@ -12,7 +13,8 @@ use json_reader::read_json;
 use std::alloc::Global;
 use yaml_blocks::read_yaml;
 
-/// The tree of the text of one of these files in a format. The text is no longer than a template may be.
+/// The tree of the text of one of these files in a format. The text is no longer than a template may be, so the tree has fewer
+/// nodes than half the numbers that there are for nodes.
 pub(crate) fn read_tree(
     alloc: Global,
     which: Which,
@@ -20,8 +22,9 @@ pub(crate) fn read_tree(
     text: &str,
 ) -> Result<Doc<'_>, Stop>
     requires { length text.now ≤ template_limit }
-    ensures { MatchResult result (λ tree. IsTemplate format text.entry.now tree)
+    ensures read { MatchResult result (λ tree. IsTemplate format text.entry.now tree)
         (IsNotRead (RefusesData which format) text.entry.now) }
+    ensures small { IfOk result (λ tree. size tree < 2 ^ 31) }
 {
     match format {
         Format::Json => read_as_json(alloc, which, text),
@@ -32,8 +35,9 @@ pub(crate) fn read_tree(
 /// The tree of a text of YAML.
 fn read_as_yaml(alloc: Global, which: Which, text: &str) -> Result<Doc<'_>, Stop>
     requires { length text.now ≤ template_limit }
-    ensures { MatchResult result (λ tree. IsTemplate Format.Yaml text.entry.now tree)
+    ensures read { MatchResult result (λ tree. IsTemplate Format.Yaml text.entry.now tree)
         (IsNotRead (RefusesData which Format.Yaml) text.entry.now) }
+    ensures small { IfOk result (λ tree. size tree < 2 ^ 31) }
 {
     match read_yaml(alloc, text) {
         Ok(tree) => Ok(tree),
@@ -47,8 +51,9 @@ fn read_as_yaml(alloc: Global, which: Which, text: &str) -> Result<Doc<'_>, Stop
 /// The tree of a text of JSON.
 fn read_as_json(alloc: Global, which: Which, text: &str) -> Result<Doc<'_>, Stop>
     requires { length text.now ≤ template_limit }
-    ensures { MatchResult result (λ tree. IsTemplate Format.Json text.entry.now tree)
+    ensures read { MatchResult result (λ tree. IsTemplate Format.Json text.entry.now tree)
         (IsNotRead (RefusesData which Format.Json) text.entry.now) }
+    ensures small { IfOk result (λ tree. size tree < 2 ^ 31) }
 {
     match read_json(alloc, text) {
         Ok(tree) => Ok(tree),

@@ -18,11 +18,11 @@ returns-in_err-inputs c =
     at-exit (λ (done : Done). Comes (Ends (ended done))) (IsStop Comes NoneRose NoneRose)
     c.from_residual.result c.in_err-inputs.field-0.0 c.from_residual.ensures.1
     (IsStop-more (Refusing (RefusesData file.Template sources.beside.format) (string_bytes sources.beside.text)) Comes NoneRose NoneRose NoneRose NoneRose
-    (λ p refused. inl refused) (as-rose NoneRose) (as-rose NoneRose) c.in_err-inputs.field-0.0 c.in_err-inputs.ensures)
+    (λ p refused. inl refused) (as-rose NoneRose) (as-rose NoneRose) c.in_err-inputs.field-0.0 c.in_err-inputs.ensures.read)
 
 pub returns : goal.returns
 returns c =
     let sources = c.args.sources.now in
     let Judges : Inputs → Work = λ inputs. Ending (IsJudged (drill_report c.args.count) inputs) in
     IsOutcome-more (WithPatterns Judges (inputs_of c.in_ok-inputs.inputs)) (ReadingSources sources Alone Judges) NoneRose NoneRose NoneRose NoneRose
-    (alone-comes sources c.in_ok-inputs.inputs Judges c.in_ok-inputs.ensures) (as-rose NoneRose) (as-rose NoneRose) c.judge_inputs.result c.judge_inputs.ensures
+    (alone-comes sources c.in_ok-inputs.inputs Judges c.in_ok-inputs.ensures.read) (as-rose NoneRose) (as-rose NoneRose) c.judge_inputs.result c.judge_inputs.ensures

@@ -4,12 +4,15 @@ use Rattle.evidence_lines.specs.declared.version.Version.{Version}
 use Rattle.evidence_lines.specs.declared.version.Version.TheVariants.{Two}
 use Rattle.rule_meaning.specs.FunctionMeaning.{IsAnswering}
 use Rattle.rule_meaning.specs.Locations.{Answers}
-use Rattle.guard_ends.specs.Order.{Inputs}
+use Rattle.guard_ends.specs.Order.{Ending, Ends, Inputs, IsJudgedBy, Work}
 use Rattle.guard_ends.specs.Report.{report}
 use Rattle.guard_ends.specs.Reported.{world_over}
 use Rattle.guard_run.specs.code.Inputs.{inputs_of}
 use Rattle.guard_run.specs.code.Outcome.{ended}
-use Rattle.guard_run.proofs.Outcomes.{judged-with}
+use Rattle.guard_run.specs.code.Stops.{IsStop, NoneRose}
+use Rattle.guard_run.specs.declared.done.Done.{Done}
+use Rattle.guard_run.specs.declared.stop.Stop.TheVariants as stop
+use Rattle.guard_run.proofs.Outcomes.{at-exit, judged-with}
 use Rattle.guard_run.proofs.PrintedLines.{accepted-shapes}
 use Rattle.guard_run.proofs.evidence.report_with_evidence.Goals as goal
 
@@ -40,3 +43,9 @@ returns c =
       ),
       refl,
     )
+
+pub returns-in_err-evidence : goal.returns-in_err-evidence
+returns-in_err-evidence c =
+    let Comes : Work = Ending (IsJudgedBy report (inputs_of c.args.ready.now.inputs.now)) in
+    at-exit (λ (done : Done). Comes (Ends (ended done))) (IsStop Comes NoneRose NoneRose)
+    c.from_residual-in_err-evidence.result stop.Memory c.from_residual-in_err-evidence.ensures.1 tt

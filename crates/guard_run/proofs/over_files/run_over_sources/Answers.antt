@@ -12,8 +12,8 @@ use Rattle.guard_run.proofs.Outcomes.{IsOutcome-more, IsStop-more, as-rose, at-e
 use Rattle.guard_run.proofs.Stages.{template-read}
 use Rattle.guard_run.proofs.over_files.run_over_sources.Goals as goal
 
-pub run_over_template-requires : goal.run_over_template-requires
-run_over_template-requires g c = ap (λ (i : Inputs). i.texts.params) c.in_ok-template.ensures.same
+pub run_over_template-requires-clause-alone : goal.run_over_template-requires-clause-alone
+run_over_template-requires-clause-alone g c = ap (λ (i : Inputs). i.texts.params) c.in_ok-template.ensures.read.same
 
 pub returns-in_err-template-clause-outcome : goal.returns-in_err-template-clause-outcome
 returns-in_err-template-clause-outcome g c =
@@ -26,7 +26,7 @@ returns-in_err-template-clause-outcome g c =
     at-exit (λ (done : Done). Comes (Ends (ended done))) (IsStop Comes FileRose PatternRose)
     c.from_residual.result c.in_err-template.field-0.0 c.from_residual.ensures.1
     (IsStop-more (Refusing (RefusesData file.Template sources.beside.format) (string_bytes sources.beside.text)) Comes NoneRose FileRose NoneRose PatternRose
-    (λ p refused. inl refused) (none-rose FileRose) (none-rose PatternRose) c.in_err-template.field-0.0 c.in_err-template.ensures)
+    (λ p refused. inl refused) (none-rose FileRose) (none-rose PatternRose) c.in_err-template.field-0.0 c.in_err-template.ensures.read)
 
 pub returns-clause-outcome : goal.returns-clause-outcome
 returns-clause-outcome g c =
@@ -39,5 +39,5 @@ returns-clause-outcome g c =
     let FileRose = Rose (g.F.Files.faults c.args.files.now) (g.F.Files.faults c.run_over_template.new.files) in
     let PatternRose = Rose (g.M.PatternMaker.faults c.args.maker.now) (g.M.PatternMaker.faults c.run_over_template.new.maker) in
     IsOutcome-more (JoiningInputs Joined (inputs_of template) Does) (ReadingSources sources Joined Does) FileRose FileRose PatternRose PatternRose
-    (template-read sources Joined Does template c.in_ok-template.ensures) (as-rose FileRose) (as-rose PatternRose)
+    (template-read sources Joined Does template c.in_ok-template.ensures.read) (as-rose FileRose) (as-rose PatternRose)
     c.run_over_template.result c.run_over_template.ensures.outcome

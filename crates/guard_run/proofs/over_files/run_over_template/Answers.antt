@@ -63,6 +63,6 @@ returns-clause-outcome g c =
     IsOutcome-more (WithPatterns (Doing job.task then) (inputs_of joined)) (JoiningInputs (WithParams told name) inputs Does)
     (Rose mid after) (Rose before after) PatternRose PatternRose
     (λ p came. loaded-params told inputs.texts.template inputs.tree More More (λ read tree q goes. goes) name params c.in_ok-params.ensures.loaded p
-    (joined-comes params inputs joined Does c.requires c.in_ok-inputs.ensures p
+    (joined-comes params inputs joined Does c.requires.alone c.in_ok-inputs.ensures p
     (doing-patterns then told c.load_params.ensures.contents job.task (inputs_of joined) p came)))
     (rose-since before mid after c.load_params.ensures.kept) (as-rose PatternRose) c.run_over_inputs.result c.run_over_inputs.ensures.outcome

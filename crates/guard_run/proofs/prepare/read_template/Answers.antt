@@ -18,24 +18,24 @@ invariant_of-result c = record {
   rules_short = subst (λ (b : List ℕ). length b ≤ rules_limit) (sym c.as_str.ensures.value) c.args.sources.now.rules.short;
   template_short = subst (λ (b : List ℕ). length b ≤ template_limit) (sym c.as_str-template.ensures.value) c.args.sources.now.beside.short;
   params_short = λ params is. cc;
-  plain = template-plain c.args.sources.now.beside.format c.as_str-template.result.now c.in_ok-tree.tree c.in_ok-tree.ensures;
+  plain = template-plain c.args.sources.now.beside.format c.as_str-template.result.now c.in_ok-tree.tree c.in_ok-tree.ensures.read;
 }
 
-pub returns-in_err-tree : goal.returns-in_err-tree
-returns-in_err-tree c =
+pub returns-in_err-tree-clause-read : goal.returns-in_err-tree-clause-read
+returns-in_err-tree-clause-read c =
     let sources = c.args.sources.now in
     let s = c.in_err-tree.field-0.0 in
     at-exit (AreAlone sources) (IsNotRead (RefusesData file.Template sources.beside.format) (string_bytes sources.beside.text))
     c.from_residual.result s c.from_residual.ensures.1
-    (subst (λ (b : List ℕ). IsNotRead (RefusesData file.Template sources.beside.format) b s) c.as_str-template.ensures.value c.in_err-tree.ensures)
+    (subst (λ (b : List ℕ). IsNotRead (RefusesData file.Template sources.beside.format) b s) c.as_str-template.ensures.value c.in_err-tree.ensures.read)
 
-pub returns : goal.returns
-returns c =
+pub returns-clause-read : goal.returns-clause-read
+returns-clause-read c =
     let sources = c.args.sources.now in
     let tree = c.in_ok-tree.tree in
     record {
       same = ap₂ (λ (r t : List ℕ).
           let inputs : Inputs = record { rules = file_of sources.rules.file; tree = tree; texts = record { rules = r; template = t; params = None } } in inputs)
           c.as_str.ensures.value c.as_str-template.ensures.value;
-      read = subst (λ (b : List ℕ). IsTemplate sources.beside.format b tree) c.as_str-template.ensures.value c.in_ok-tree.ensures;
+      read = subst (λ (b : List ℕ). IsTemplate sources.beside.format b tree) c.as_str-template.ensures.value c.in_ok-tree.ensures.read;
     }

@@ -20,7 +20,7 @@ cases_in-requires c = subst (λ (b : List ℕ). length b ≤ template_limit) (sy
 pub invariant_of-result : goal.invariant_of-result
 invariant_of-result c = record {
   within = c.in_ok-cases.ensures.1;
-  plain = template-plain c.args.sources.now.beside.format c.as_str-text.result.now c.in_ok-tree.tree c.in_ok-tree.ensures;
+  plain = template-plain c.args.sources.now.beside.format c.as_str-text.result.now c.in_ok-tree.tree c.in_ok-tree.ensures.read;
 }
 
 pub returns-in_err-tree : goal.returns-in_err-tree
@@ -29,7 +29,7 @@ returns-in_err-tree c =
     let format = sources.beside.format in
     let s : Stop = c.in_err-tree.field-0.0 in
     let stopped : IsNotRead (RefusesData file.Tests format) (string_bytes sources.beside.text) s =
-    subst (λ (b : List ℕ). IsNotRead (RefusesData file.Tests format) b s) c.as_str-text.ensures.value c.in_err-tree.ensures in
+    subst (λ (b : List ℕ). IsNotRead (RefusesData file.Tests format) b s) c.as_str-text.ensures.value c.in_err-tree.ensures.read in
     at-exit (AreTests sources) (IsStop (RefusingTests sources) NoneRose NoneRose)
     c.from_residual.result s c.from_residual.ensures.1
     (IsStop-more (Refusing (RefusesData file.Tests format) (string_bytes sources.beside.text)) (RefusingTests sources) NoneRose NoneRose NoneRose NoneRose
@@ -43,7 +43,7 @@ returns-in_err-cases c =
     let tree = c.in_ok-tree.tree in
     let s : Stop = c.in_err-cases.field-0.0 in
     let read : IsTemplate sources.beside.format bytes tree =
-    subst (λ (b : List ℕ). IsTemplate sources.beside.format b tree) c.as_str-text.ensures.value c.in_ok-tree.ensures in
+    subst (λ (b : List ℕ). IsTemplate sources.beside.format b tree) c.as_str-text.ensures.value c.in_ok-tree.ensures.read in
     let stopped : IsNotRead (λ b. RefusesCases rules tree) bytes s =
     subst (λ (t : List ℕ). IsNotRead (λ b. RefusesCases rules tree) t s) c.as_str-text.ensures.value c.in_err-cases.ensures in
     at-exit (AreTests sources) (IsStop (RefusingTests sources) NoneRose NoneRose)
@@ -56,6 +56,6 @@ returns c =
     let sources = c.args.sources.now in
     record {
       rules = refl;
-      read = subst (λ (b : List ℕ). IsTemplate sources.beside.format b c.in_ok-tree.tree) c.as_str-text.ensures.value c.in_ok-tree.ensures;
+      read = subst (λ (b : List ℕ). IsTemplate sources.beside.format b c.in_ok-tree.tree) c.as_str-text.ensures.value c.in_ok-tree.ensures.read;
       cases = c.in_ok-cases.ensures.0;
     }
