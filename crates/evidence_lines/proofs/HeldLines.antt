@@ -5,12 +5,14 @@ use Rattle.std.proofs.lemmas.List.{drop-append-le, length-drop, map-append, take
 use Rattle.std.proofs.lemmas.List.Elements.{All-append, All-cons, All-head, All-nil, All-tail, All-weaker}
 use Rattle.std.proofs.Math.Seq.{drop-append_seam, take-length}
 use Rattle.guard_syntax.specs.declared.row.Row.{Row}
-use Rattle.evidence_lines.specs.code.Held.{HasPlace, HasRows, IsCut, IsHeld, IsWithin, cut_span, frame_at, outcome_at, see_line, see_lines, site_at, value_in}
+use Rattle.evidence_lines.specs.code.Held.{HasPlace, HasRows, HasSpan, IsCut, IsHeld, IsRun, IsWithin, cut_run, cut_span, frame_at, outcome_at, see_line, see_lines, site_at, span_at, span_in, value_in}
 use Rattle.evidence_lines.specs.declared.held.Held.{Held}
 use Rattle.evidence_lines.specs.declared.held.HeldLine.{HeldLine}
 use Rattle.evidence_lines.specs.declared.held.Place.{Place}
 use Rattle.evidence_lines.specs.declared.held.PlaceForm.{PlaceForm}
 use Rattle.evidence_lines.specs.declared.held.PlaceForm.TheVariants as place
+use Rattle.evidence_lines.specs.declared.held.RunForm.{RunForm}
+use Rattle.evidence_lines.specs.declared.held.RunForm.TheVariants as run
 use Rattle.evidence_lines.specs.declared.held.SaidForm.{SaidForm}
 use Rattle.evidence_lines.specs.declared.held.SaidForm.TheVariants as said
 use Rattle.evidence_lines.specs.declared.held.Span.{Span}
@@ -35,12 +37,39 @@ pub cut-last : {A : Type 0} (xs ys : List A) (span : Span) → span.start ≡ le
 cut-last xs ys span start count =
     ap₂ (λ (n k : ℕ). take n (drop k (xs ++ ys))) count start ∙ ap (take (length ys)) (drop-append_seam xs ys) ∙ take-length ys
 
--- ---- places
+-- ---- runs
 
 at-front : {A : Type 0} (xs more : List A) (n : ℕ) → n < length xs → slice_get (xs ++ more) n ≡ slice_get xs n
 at-front [] more n within = absurd (omega (arith, within))
 at-front (x ∷ xs) more zero within = refl
 at-front (x ∷ xs) more (suc n) within = at-front xs more n (omega (arith, within))
+
+span-more : (spans more : List Span) (form : RunForm) (at : ℕ) → HasSpan (length spans) form at → span_at (spans ++ more) form at ≡ span_at spans form at
+span-more spans more run.None at has = refl
+span-more spans more run.One at has = refl
+span-more spans more run.Two at has = refl
+span-more spans more run.More at has = ap span_in (at-front spans more at has)
+
+has-span-more : (spans more : List Span) (form : RunForm) (at : ℕ) → HasSpan (length spans) form at → HasSpan (length (spans ++ more)) form at
+has-span-more spans more run.None at has = tt
+has-span-more spans more run.One at has = tt
+has-span-more spans more run.Two at has = tt
+has-span-more spans more run.More at has = omega (arith, has, length-append spans more)
+
+module _ {A : Type 0} (xs more : List A) (spans more_spans : List Span) (form : RunForm) (at : ℕ) (is : IsRun (length xs) spans form at) where
+  run-more : cut_run (xs ++ more) (spans ++ more_spans) form at ≡ cut_run xs spans form at
+  run-more =
+      ap (cut_span (xs ++ more)) (span-more spans more_spans form at is.spanned) ∙ cut-more xs more (span_at spans form at) is.within
+
+  is-run-more : IsRun (length (xs ++ more)) (spans ++ more_spans) form at
+  is-run-more =
+      let longer : IsCut (length (xs ++ more)) (span_at spans form at) = omega (arith, is.within, length-append xs more) in
+      record {
+        spanned = has-span-more spans more_spans form at is.spanned;
+        within = subst (IsCut (length (xs ++ more))) (sym (span-more spans more_spans form at is.spanned)) longer;
+      }
+
+-- ---- places
 
 frame-more : (places more : List Place) (form : PlaceForm) (frame : ℕ) → HasPlace (length places) form frame → frame_at (places ++ more) form frame ≡ frame_at places form frame
 frame-more places more place.None frame within = refl
@@ -54,12 +83,30 @@ site-more places more place.Beside frame site within = ap (option_and_then (λ (
 
 -- ---- what is said
 
-outcome-more : (rows more : List Row) (form : SaidForm) (span : Span) → HasRows (length rows) form span → outcome_at (rows ++ more) form span ≡ outcome_at rows form span
-outcome-more rows more said.Node span within = refl
-outcome-more rows more said.Key span within = refl
-outcome-more rows more said.Value span within = ap (λ (rs : List Row). says.Value (value_in rs)) (cut-more rows more span within)
-outcome-more rows more said.Rows span within = ap (λ (rs : List Row). says.Rows rs) (cut-more rows more span within)
-outcome-more rows more (said.Verdict verdict) span within = refl
+outcome-more : (rows more : List Row) (spans more_spans : List Span) (form : SaidForm) (at : ℕ) → HasRows (length rows) spans form at
+    → outcome_at (rows ++ more) (spans ++ more_spans) form at ≡ outcome_at rows spans form at
+outcome-more rows more spans more_spans said.Node at is = refl
+outcome-more rows more spans more_spans said.Key at is = refl
+outcome-more rows more spans more_spans said.Value at is = ap (λ (rs : List Row). says.Value (value_in rs)) (run-more rows more spans more_spans run.One at is)
+outcome-more rows more spans more_spans said.NoRows at is = ap (λ (rs : List Row). says.Rows rs) (run-more rows more spans more_spans run.None at is)
+outcome-more rows more spans more_spans said.Row at is = ap (λ (rs : List Row). says.Rows rs) (run-more rows more spans more_spans run.One at is)
+outcome-more rows more spans more_spans said.TwoRows at is = ap (λ (rs : List Row). says.Rows rs) (run-more rows more spans more_spans run.Two at is)
+outcome-more rows more spans more_spans said.Rows at is = ap (λ (rs : List Row). says.Rows rs) (run-more rows more spans more_spans run.More at is)
+outcome-more rows more spans more_spans said.Pass at is = refl
+outcome-more rows more spans more_spans said.Fail at is = refl
+outcome-more rows more spans more_spans said.Skip at is = refl
+
+has-more : (rows more : List Row) (spans more_spans : List Span) (form : SaidForm) (at : ℕ) → HasRows (length rows) spans form at → HasRows (length (rows ++ more)) (spans ++ more_spans) form at
+has-more rows more spans more_spans said.Node at is = tt
+has-more rows more spans more_spans said.Key at is = tt
+has-more rows more spans more_spans said.Value at is = is-run-more rows more spans more_spans run.One at is
+has-more rows more spans more_spans said.NoRows at is = is-run-more rows more spans more_spans run.None at is
+has-more rows more spans more_spans said.Row at is = is-run-more rows more spans more_spans run.One at is
+has-more rows more spans more_spans said.TwoRows at is = is-run-more rows more spans more_spans run.Two at is
+has-more rows more spans more_spans said.Rows at is = is-run-more rows more spans more_spans run.More at is
+has-more rows more spans more_spans said.Pass at is = tt
+has-more rows more spans more_spans said.Fail at is = tt
+has-more rows more spans more_spans said.Skip at is = tt
 
 -- ---- lines
 
@@ -72,64 +119,70 @@ line-as a b kind_is frame_is site_is cites_are outcome_is =
     ∙ ap (λ (site : Option ℕ). made-of b.kind b.frame site a.cites a.outcome) site_is ∙ ap (λ (cites : List ℕ). made-of b.kind b.frame b.site cites a.outcome) cites_are
     ∙ ap (λ (outcome : Outcome). made-of b.kind b.frame b.site b.cites outcome) outcome_is
 
-module _ (cites more_cites : List ℕ) (rows more_rows : List Row) (places more_places : List Place) where
-  line-more : (l : HeldLine) → IsWithin (length cites) (length rows) (length places) l → see_line (cites ++ more_cites) (rows ++ more_rows) (places ++ more_places) l ≡ see_line cites rows places l
+module _ (cites more_cites : List ℕ) (cite_spans more_cite_spans : List Span) (rows more_rows : List Row) (row_spans more_row_spans : List Span) (places more_places : List Place) where
+  abbrev Before : HeldLine → Type 0
+  Before l = IsWithin (length cites) cite_spans (length rows) row_spans (length places) l
+
+  abbrev After : HeldLine → Type 0
+  After l = IsWithin (length (cites ++ more_cites)) (cite_spans ++ more_cite_spans) (length (rows ++ more_rows)) (row_spans ++ more_row_spans) (length (places ++ more_places)) l
+
+  abbrev before : HeldLine → Line
+  before l = see_line cites cite_spans rows row_spans places l
+
+  abbrev after : HeldLine → Line
+  after l = see_line (cites ++ more_cites) (cite_spans ++ more_cite_spans) (rows ++ more_rows) (row_spans ++ more_row_spans) (places ++ more_places) l
+
+  line-more : (l : HeldLine) → Before l → after l ≡ before l
   line-more l within =
-      line-as (see_line (cites ++ more_cites) (rows ++ more_rows) (places ++ more_places) l) (see_line cites rows places l) refl (frame-more places more_places l.place l.frame within.placed)
-      (site-more places more_places l.place l.frame l.site within.placed) (cut-more cites more_cites l.cites within.cited) (outcome-more rows more_rows l.said l.rows within.said)
+      line-as (after l) (before l) refl (frame-more places more_places l.place l.frame within.placed)
+      (site-more places more_places l.place l.frame l.site within.placed) (run-more cites more_cites cite_spans more_cite_spans l.cites l.cites_at within.cited)
+      (outcome-more rows more_rows row_spans more_row_spans l.said l.said_at within.said)
 
-  lines-more : (ls : List HeldLine) → All (IsWithin (length cites) (length rows) (length places)) ls
-      → map (see_line (cites ++ more_cites) (rows ++ more_rows) (places ++ more_places)) ls ≡ map (see_line cites rows places) ls
+  lines-more : (ls : List HeldLine) → All Before ls → map after ls ≡ map before ls
   lines-more [] within = refl
-  lines-more (l ∷ ls) within = ap₂ (λ (x : Line) (xs : List Line). x ∷ xs) (line-more l (All-head (IsWithin (length cites) (length rows) (length places)) l ls within)) (lines-more ls (All-tail (IsWithin (length cites) (length rows) (length places)) l ls within))
-
-  has-more : (form : SaidForm) (span : Span) → HasRows (length rows) form span → HasRows (length (rows ++ more_rows)) form span
-  has-more said.Node span h = tt
-  has-more said.Key span h = tt
-  has-more said.Value span h = omega (arith, h, length-append rows more_rows)
-  has-more said.Rows span h = omega (arith, h, length-append rows more_rows)
-  has-more (said.Verdict verdict) span h = tt
+  lines-more (l ∷ ls) within = ap₂ (λ (x : Line) (xs : List Line). x ∷ xs) (line-more l (All-head Before l ls within)) (lines-more ls (All-tail Before l ls within))
 
   place-more : (form : PlaceForm) (frame : ℕ) → HasPlace (length places) form frame → HasPlace (length (places ++ more_places)) form frame
   place-more place.None frame h = tt
   place-more place.Here frame h = tt
   place-more place.Beside frame h = omega (arith, h, length-append places more_places)
 
-  within-more : (l : HeldLine) → IsWithin (length cites) (length rows) (length places) l → IsWithin (length (cites ++ more_cites)) (length (rows ++ more_rows)) (length (places ++ more_places)) l
+  within-more : (l : HeldLine) → Before l → After l
   within-more l within = record {
-    cited = omega (arith, within.cited, length-append cites more_cites);
-    said = has-more l.said l.rows within.said;
+    cited = is-run-more cites more_cites cite_spans more_cite_spans l.cites l.cites_at within.cited;
+    said = has-more rows more_rows row_spans more_row_spans l.said l.said_at within.said;
     placed = place-more l.place l.frame within.placed;
   }
 
--- what is held behind others
-module _ (a b : Held) (cites : List ℕ) (rows : List Row) (places : List Place) (cites_are : b.cites.items ≡ a.cites.items ++ cites) (rows_are : b.rows.items ≡ a.rows.items ++ rows)
-    (places_are : b.places.items ≡ a.places.items ++ places) (held : IsHeld a) where
-  seen-more : map (see_line b.cites.items b.rows.items b.places.items) a.lines.items ≡ see_lines a
-  seen-more =
-      rw (cites_are, rows_are, places_are) (lines-more a.cites.items cites a.rows.items rows a.places.items places a.lines.items held)
+  all-more : (ls : List HeldLine) → All Before ls → All After ls
+  all-more ls within = All-weaker Before After within-more ls within
 
-  held-more : All (IsWithin (length b.cites.items) (length b.rows.items) (length b.places.items)) a.lines.items
-  held-more = rw (cites_are, rows_are, places_are) (
-      All-weaker (IsWithin (length a.cites.items) (length a.rows.items) (length a.places.items)) (IsWithin (length (a.cites.items ++ cites)) (length (a.rows.items ++ rows)) (length (a.places.items ++ places)))
-      (within-more a.cites.items cites a.rows.items rows a.places.items places) a.lines.items held)
+-- what is held behind others
+module _ (a b : Held) (cites : List ℕ) (cite_spans : List Span) (rows : List Row) (row_spans : List Span) (places : List Place) (cites_are : b.cites.items ≡ a.cites.items ++ cites)
+    (cite_spans_are : b.cite_spans.items ≡ a.cite_spans.items ++ cite_spans) (rows_are : b.rows.items ≡ a.rows.items ++ rows) (row_spans_are : b.row_spans.items ≡ a.row_spans.items ++ row_spans)
+    (places_are : b.places.items ≡ a.places.items ++ places) (held : IsHeld a) where
+  seen-more : map (see_line b.cites.items b.cite_spans.items b.rows.items b.row_spans.items b.places.items) a.lines.items ≡ see_lines a
+  seen-more =
+      rw (cites_are, cite_spans_are, rows_are, row_spans_are, places_are) (
+      lines-more a.cites.items cites a.cite_spans.items cite_spans a.rows.items rows a.row_spans.items row_spans a.places.items places a.lines.items held)
+
+  held-more : All (IsWithin (length b.cites.items) b.cite_spans.items (length b.rows.items) b.row_spans.items (length b.places.items)) a.lines.items
+  held-more = rw (cites_are, cite_spans_are, rows_are, row_spans_are, places_are) (
+      all-more a.cites.items cites a.cite_spans.items cite_spans a.rows.items rows a.row_spans.items row_spans a.places.items places a.lines.items held)
 
   -- no line more
   pub kept-lines : b.lines.items ≡ a.lines.items → see_lines b ≡ see_lines a
-  kept-lines same = ap (map (see_line b.cites.items b.rows.items b.places.items)) same ∙ seen-more
+  kept-lines same = ap (map (see_line b.cites.items b.cite_spans.items b.rows.items b.row_spans.items b.places.items)) same ∙ seen-more
 
   pub kept-held : b.lines.items ≡ a.lines.items → IsHeld b
-  kept-held same = subst (All (IsWithin (length b.cites.items) (length b.rows.items) (length b.places.items))) (sym same) held-more
+  kept-held same = subst (All (IsWithin (length b.cites.items) b.cite_spans.items (length b.rows.items) b.row_spans.items (length b.places.items))) (sym same) held-more
 
   -- one line more
-  module _ (l : HeldLine) (more : b.lines.items ≡ a.lines.items ++ l ∷ []) (within : IsWithin (length b.cites.items) (length b.rows.items) (length b.places.items) l) where
-    pub added-line : see_lines b ≡ see_lines a ++ see_line b.cites.items b.rows.items b.places.items l ∷ []
+  module _ (l : HeldLine) (more : b.lines.items ≡ a.lines.items ++ l ∷ []) (within : IsWithin (length b.cites.items) b.cite_spans.items (length b.rows.items) b.row_spans.items (length b.places.items) l) where
+    pub added-line : see_lines b ≡ see_lines a ++ see_line b.cites.items b.cite_spans.items b.rows.items b.row_spans.items b.places.items l ∷ []
     added-line =
-        ap (map (see_line b.cites.items b.rows.items b.places.items)) more ∙ map-append (see_line b.cites.items b.rows.items b.places.items) a.lines.items (l ∷ [])
-        ∙ ap (λ (ls : List Line). ls ++ see_line b.cites.items b.rows.items b.places.items l ∷ []) seen-more
+        ap (map (see_line b.cites.items b.cite_spans.items b.rows.items b.row_spans.items b.places.items)) more ∙ map-append (see_line b.cites.items b.cite_spans.items b.rows.items b.row_spans.items b.places.items) a.lines.items (l ∷ []) ∙ ap (λ (ls : List Line). ls ++ see_line b.cites.items b.cite_spans.items b.rows.items b.row_spans.items b.places.items l ∷ []) seen-more
 
     pub added-held : IsHeld b
     added-held =
-        subst (All (IsWithin (length b.cites.items) (length b.rows.items) (length b.places.items))) (sym more)
-        (All-append (IsWithin (length b.cites.items) (length b.rows.items) (length b.places.items)) a.lines.items (l ∷ []) held-more
-        (All-cons (IsWithin (length b.cites.items) (length b.rows.items) (length b.places.items)) l [] within (All-nil _)))
+        subst (All (IsWithin (length b.cites.items) b.cite_spans.items (length b.rows.items) b.row_spans.items (length b.places.items))) (sym more) (All-append (IsWithin (length b.cites.items) b.cite_spans.items (length b.rows.items) b.row_spans.items (length b.places.items)) a.lines.items (l ∷ []) held-more (All-cons (IsWithin (length b.cites.items) b.cite_spans.items (length b.rows.items) b.row_spans.items (length b.places.items)) l [] within (All-nil _)))

@@ -1,7 +1,8 @@
 //! Lines as evidence holds them: each in a few numbers, what they cite and the rows that they say behind one another.
-ghost use Rattle.std.specs.Prelude.{◌≡◌, ◌++◌, ◌∷◌, [], List, ℕ, IfOk, IsOk, OnErr, OnOk, length, slice_get};
-ghost use Rattle.evidence_lines.specs.code.Held.{HasPlace, HasRows, IsCut, IsHeld, cut_span, frame_at, node_ref, outcome_at, see_lines, site_at, value_in};
+ghost use Rattle.std.specs.Prelude.{◌≡◌, ◌++◌, ◌∷◌, [], List, ℕ, IfOk, IfSome, IsOk, OnErr, OnOk, length, slice_get};
+ghost use Rattle.evidence_lines.specs.code.Held.{HasPlace, HasRows, HasSpan, IsCut, IsHeld, IsRun, cut_run, cut_span, frame_at, node_ref, outcome_at, rows_form, see_lines, site_at, span_at, span_of, value_in};
 ghost use Rattle.evidence_lines.specs.declared.held.Place.{Place};
+ghost use Rattle.evidence_lines.specs.declared.held.Span.{Span};
 ghost use Rattle.evidence_lines.specs.declared.line.Outcome.TheVariants as says;
 ghost use Rattle.guard_syntax.specs.declared.row.Row as declared;
 
@@ -16,6 +17,19 @@ pub(crate) struct Span {
     pub count: u32,
 }
 
+/// How a run of neighbours is held.
+#[derive(Clone, Copy)]
+pub(crate) enum RunForm {
+    /// No items.
+    None,
+    /// One, by its index.
+    One,
+    /// Two, by the index of the first.
+    Two,
+    /// More, by the number of their span.
+    More,
+}
+
 /// How the place of a line is held.
 #[derive(Clone, Copy)]
 pub(crate) enum PlaceForm {
@@ -27,29 +41,37 @@ pub(crate) enum PlaceForm {
     Beside,
 }
 
-/// What a line says, but for its rows.
+/// What a line says, but for its rows. A form with a verdict or a run in it would take a byte more.
 #[derive(Clone, Copy)]
 pub(crate) enum SaidForm {
-    /// The value at a node of the template, whose number is held for the start of its rows.
+    /// The value at a node of the template, whose number is held.
     Node,
     /// The key of it.
     Key,
     /// The value of its row.
     Value,
+    /// Rows, of which there are none.
+    NoRows,
+    Row,
+    TwoRows,
+    /// More rows.
     Rows,
-    Verdict(Verdict),
+    Pass,
+    Fail,
+    Skip,
 }
 
-/// A line as it is held.
+/// A line as it is held, with the small fields first: so it takes 20 bytes.
 #[derive(Clone, Copy)]
 pub(crate) struct HeldLine {
     pub kind: LineKind,
     pub place: PlaceForm,
+    pub cites: RunForm,
     pub said: SaidForm,
     pub frame: u32,
     pub site: u32,
-    pub cites: Span,
-    pub rows: Span,
+    pub cites_at: u32,
+    pub said_at: u32,
 }
 
 /// A frame and a site that are held whole.
@@ -64,8 +86,12 @@ pub(crate) struct Place {
 pub(crate) struct Held {
     pub lines: Vec<HeldLine>,
     pub cites: Vec<u64>,
+    pub cite_spans: Vec<Span>,
     pub rows: Vec<Row>,
+    pub row_spans: Vec<Span>,
     pub places: Vec<Place>,
+    /// For the site of a literal the index of a row, which is the value of the literal if that was said.
+    pub literals: Vec<u32>,
 }
 
 /// How a place is held, with its numbers.
@@ -76,15 +102,22 @@ struct HeldPlace {
     site: u32,
 }
 
-/// How what a line says is held.
+/// How a run is held, with its number.
+#[derive(Clone, Copy)]
+struct HeldRun {
+    form: RunForm,
+    at: u32,
+}
+
+/// How what a line says is held, with its number.
 #[derive(Clone, Copy)]
 struct HeldSaid {
     form: SaidForm,
-    rows: Span,
+    at: u32,
 }
 
-/// No items.
-const NONE: Span = Span { start: 0, count: 0 };
+/// Where values of literals are remembered: so many sites, which take 4 bytes each.
+const REMEMBERED: u32 = 1 << 16;
 
 impl Held {
     /// No lines. It takes no memory.
@@ -95,8 +128,11 @@ impl Held {
         Held {
             lines: Vec::new(alloc),
             cites: Vec::new(alloc),
+            cite_spans: Vec::new(alloc),
             rows: Vec::new(alloc),
+            row_spans: Vec::new(alloc),
             places: Vec::new(alloc),
+            literals: Vec::new(alloc),
         }
     }
 
@@ -109,8 +145,11 @@ impl Held {
         Ok(Held {
             lines: Vec::with_capacity(alloc, lines)?,
             cites: Vec::new(alloc),
+            cite_spans: Vec::new(alloc),
             rows: Vec::new(alloc),
+            row_spans: Vec::new(alloc),
             places: Vec::new(alloc),
+            literals: Vec::new(alloc),
         })
     }
 
@@ -124,8 +163,8 @@ impl Held {
             kind: held.kind,
             frame: frame_at(&self.places, held.place, held.frame),
             site: site_at(&self.places, held.place, held.frame, held.site),
-            cites: Cites::new(cited(&self.cites, held.cites)),
-            outcome: outcome_at(&self.rows, held.said, held.rows),
+            cites: Cites::new(cites_at(&self.cites, &self.cite_spans, held.cites, held.cites_at)),
+            outcome: outcome_at(&self.rows, &self.row_spans, held.said, held.said_at),
         })
     }
 
@@ -136,20 +175,47 @@ impl Held {
         ensures added { OnOk result (see_lines self.new ≡ see_lines self.old ++ line.entry ∷ []) }
         ensures kept { OnErr result (see_lines self.new ≡ see_lines self.old) }
     {
-        let cites = hold_cites(&mut self.cites, line.cites.as_slice())?;
-        let said = hold_outcome(&mut self.rows, line.outcome)?;
+        let cites = hold_cites(&mut self.cites, &mut self.cite_spans, line.cites.as_slice())?;
+        let said = hold_outcome(
+            &mut self.rows,
+            &mut self.row_spans,
+            &mut self.literals,
+            line.outcome,
+        )?;
         let place = hold_place(&mut self.places, line.frame, line.site)?;
         self.lines.push(HeldLine {
             kind: line.kind,
             place: place.form,
+            cites: cites.form,
             said: said.form,
             frame: place.frame,
             site: place.site,
-            cites,
-            rows: said.rows,
+            cites_at: cites.at,
+            said_at: said.at,
         })?;
         Ok(())
     }
+}
+
+/// The span of a run.
+fn span_at(spans: &[Span], form: RunForm, at: u32) -> Span
+    ensures { result ≡ span_at spans.now form at }
+{
+    match form {
+        RunForm::None => span_of(at, 0),
+        RunForm::One => span_of(at, 1),
+        RunForm::Two => span_of(at, 2),
+        RunForm::More => match spans.get(at as usize) {
+            Some(span) => *span,
+            None => span_of(0, 0),
+        },
+    }
+}
+
+fn span_of(start: u32, count: u32) -> Span
+    ensures { result ≡ span_of start count }
+{
+    Span { start, count }
 }
 
 /// The cites of a span.
@@ -168,6 +234,22 @@ fn rows_of(rows: &[Row], span: Span) -> &[Row]
 {
     let start = span.start as usize;
     &rows[start..start + span.count as usize]
+}
+
+/// The cites of a run.
+fn cites_at<'a>(cites: &'a [u64], spans: &[Span], form: RunForm, at: u32) -> &'a [u64]
+    requires { IsRun (length cites.now) spans.now form at }
+    ensures { result.now ≡ cut_run cites.entry.now spans.now form at }
+{
+    cited(cites, span_at(spans, form, at))
+}
+
+/// The rows of a run.
+fn rows_at<'a>(rows: &'a [Row], spans: &[Span], form: RunForm, at: u32) -> &'a [Row]
+    requires { IsRun (length rows.now) spans.now form at }
+    ensures { result.now ≡ cut_run rows.entry.now spans.now form at }
+{
+    rows_of(rows, span_at(spans, form, at))
 }
 
 /// The frame of a place.
@@ -193,16 +275,21 @@ fn site_at(places: &[Place], form: PlaceForm, frame: u32, site: u32) -> Option<u
 }
 
 /// What is said, by its form.
-fn outcome_at(rows: &[Row], form: SaidForm, span: Span) -> Outcome<'_>
-    requires { HasRows (length rows.now) form span }
-    ensures { result ≡ outcome_at rows.entry.now form span }
+fn outcome_at<'a>(rows: &'a [Row], spans: &[Span], form: SaidForm, at: u32) -> Outcome<'a>
+    requires { HasRows (length rows.now) spans.now form at }
+    ensures { result ≡ outcome_at rows.entry.now spans.now form at }
 {
     match form {
-        SaidForm::Node => Outcome::Value(node_ref(false, span.start)),
-        SaidForm::Key => Outcome::Value(node_ref(true, span.start)),
-        SaidForm::Value => Outcome::Value(value_in(rows_of(rows, span))),
-        SaidForm::Rows => Outcome::Rows(Rows::new(rows_of(rows, span))),
-        SaidForm::Verdict(verdict) => Outcome::Verdict(verdict),
+        SaidForm::Node => Outcome::Value(node_ref(false, at)),
+        SaidForm::Key => Outcome::Value(node_ref(true, at)),
+        SaidForm::Value => Outcome::Value(value_in(rows_at(rows, spans, RunForm::One, at))),
+        SaidForm::NoRows => Outcome::Rows(Rows::new(rows_at(rows, spans, RunForm::None, at))),
+        SaidForm::Row => Outcome::Rows(Rows::new(rows_at(rows, spans, RunForm::One, at))),
+        SaidForm::TwoRows => Outcome::Rows(Rows::new(rows_at(rows, spans, RunForm::Two, at))),
+        SaidForm::Rows => Outcome::Rows(Rows::new(rows_at(rows, spans, RunForm::More, at))),
+        SaidForm::Pass => Outcome::Verdict(Verdict::Pass),
+        SaidForm::Fail => Outcome::Verdict(Verdict::Fail),
+        SaidForm::Skip => Outcome::Verdict(Verdict::Skip),
     }
 }
 
@@ -227,8 +314,8 @@ fn value_in(rows: &[Row]) -> Ref
     }
 }
 
-/// Holds cites behind the others, and answers where they are.
-fn hold_cites(into: &mut Vec<u64>, cites: &[u64]) -> Result<Span, AllocError>
+/// Adds cites behind the others, and answers where they are.
+fn add_cites(into: &mut Vec<u64>, cites: &[u64]) -> Result<Span, AllocError>
     ensures more { (more : List ℕ) × (into.new.items ≡ into.old.items ++ more) }
     ensures held { IfOk result (λ span. IsCut (length into.new.items) span × (cut_span into.new.items span ≡ cites.now)) }
 {
@@ -243,10 +330,11 @@ fn hold_cites(into: &mut Vec<u64>, cites: &[u64]) -> Result<Span, AllocError>
     Ok(Span { start, count })
 }
 
-/// Holds rows behind the others, and answers where they are.
-fn hold_rows(into: &mut Vec<Row>, rows: &[Row]) -> Result<Span, AllocError>
+/// Adds rows behind the others, and answers where they are.
+fn add_rows(into: &mut Vec<Row>, rows: &[Row]) -> Result<Span, AllocError>
     ensures more { (more : List declared.Row) × (into.new.items ≡ into.old.items ++ more) }
     ensures held { IfOk result (λ span. IsCut (length into.new.items) span × (cut_span into.new.items span ≡ rows.now)) }
+    ensures count { IfOk result (λ span. span.count ≡ length rows.now) }
 {
     // So many rows take more memory than there is.
     let Ok(start) = u32::try_from(into.len()) else {
@@ -259,31 +347,168 @@ fn hold_rows(into: &mut Vec<Row>, rows: &[Row]) -> Result<Span, AllocError>
     Ok(Span { start, count })
 }
 
-/// Holds what a line says.
-fn hold_outcome(into: &mut Vec<Row>, outcome: Outcome<'_>) -> Result<HeldSaid, AllocError>
+/// Holds a span as a run: that of a few items in place, any other beside the lines.
+fn hold_span(into: &mut Vec<Span>, span: Span) -> Result<HeldRun, AllocError>
+    ensures more { (more : List Span) × (into.new.items ≡ into.old.items ++ more) }
+    ensures held { IfOk result (λ run. HasSpan (length into.new.items) run.form run.at × (span_at into.new.items run.form run.at ≡ span)) }
+{
+    let at = span.start;
+    match span.count {
+        0 => Ok(HeldRun {
+            form: RunForm::None,
+            at,
+        }),
+        1 => Ok(HeldRun {
+            form: RunForm::One,
+            at,
+        }),
+        2 => Ok(HeldRun {
+            form: RunForm::Two,
+            at,
+        }),
+        _ => hold_long(into, span),
+    }
+}
+
+/// Holds a span beside the lines.
+fn hold_long(into: &mut Vec<Span>, span: Span) -> Result<HeldRun, AllocError>
+    ensures more { (more : List Span) × (into.new.items ≡ into.old.items ++ more) }
+    ensures held { IfOk result (λ run. HasSpan (length into.new.items) run.form run.at × (span_at into.new.items run.form run.at ≡ span)) }
+{
+    // So many spans take more memory than there is.
+    let Ok(at) = u32::try_from(into.len()) else {
+        return Err(AllocError);
+    };
+    into.push(span)?;
+    Ok(HeldRun {
+        form: RunForm::More,
+        at,
+    })
+}
+
+/// Holds the cites of a line.
+fn hold_cites(
+    into: &mut Vec<u64>,
+    spans: &mut Vec<Span>,
+    cites: &[u64],
+) -> Result<HeldRun, AllocError>
+    ensures more { (more : List ℕ) × (into.new.items ≡ into.old.items ++ more) }
+    ensures spans { (more : List Span) × (spans.new.items ≡ spans.old.items ++ more) }
+    ensures held { IfOk result (λ run. IsRun (length into.new.items) spans.new.items run.form run.at × (cut_run into.new.items spans.new.items run.form run.at ≡ cites.now)) }
+{
+    let span = add_cites(into, cites)?;
+    hold_span(spans, span)
+}
+
+/// The form of a line that says a run of rows.
+fn rows_form(form: RunForm) -> SaidForm
+    ensures { result ≡ rows_form form }
+{
+    match form {
+        RunForm::None => SaidForm::NoRows,
+        RunForm::One => SaidForm::Row,
+        RunForm::Two => SaidForm::TwoRows,
+        RunForm::More => SaidForm::Rows,
+    }
+}
+
+/// The site of the literal that a row is a value of.
+fn literal_of(row: &Row) -> Option<u32> {
+    match row {
+        Row::Found(
+            Ref {
+                origin: Origin::Literal(site),
+                ..
+            },
+        ) => Some(*site),
+        _ => None,
+    }
+}
+
+/// The index of a row that is held and is the only one of these, if they are a value of a literal.
+fn shared_row(held: &[Row], literals: &[u32], rows: &[Row]) -> Option<u32>
+    ensures { IfSome result (λ at. IsCut (length held.now) (span_of at 1) × (cut_span held.now (span_of at 1) ≡ rows.now)) }
+{
+    let [row] = rows else {
+        return None;
+    };
+    let at = *literals.get(literal_of(row)? as usize)?;
+    if held.get(at as usize)? == row {
+        Some(at)
+    } else {
+        None
+    }
+}
+
+/// Remembers where the value of a literal is held.
+fn remember(literals: &mut Vec<u32>, rows: &[Row], at: u32) -> Result<(), AllocError> {
+    let [row] = rows else {
+        return Ok(());
+    };
+    let Some(site) = literal_of(row) else {
+        return Ok(());
+    };
+    if site >= REMEMBERED {
+        return Ok(());
+    }
+    let site = site as usize;
+    if site >= literals.len() {
+        literals.resize(site + 1, 0)?;
+    }
+    if let Some(place) = literals.get_mut(site) {
+        *place = at;
+    }
+    Ok(())
+}
+
+/// Holds the rows of a line. A literal has one value, which is said wherever its expression is evaluated: so it is held once.
+fn hold_rows(
+    into: &mut Vec<Row>,
+    spans: &mut Vec<Span>,
+    literals: &mut Vec<u32>,
+    rows: &[Row],
+) -> Result<HeldSaid, AllocError>
     ensures more { (more : List declared.Row) × (into.new.items ≡ into.old.items ++ more) }
-    ensures held { IfOk result (λ said. HasRows (length into.new.items) said.form said.rows × (outcome_at into.new.items said.form said.rows ≡ outcome.entry)) }
+    ensures spans { (more : List Span) × (spans.new.items ≡ spans.old.items ++ more) }
+    ensures held { IfOk result (λ said. HasRows (length into.new.items) spans.new.items said.form said.at × (outcome_at into.new.items spans.new.items said.form said.at ≡ says.Rows rows.now)) }
+{
+    if let Some(at) = shared_row(into, literals, rows) {
+        return Ok(HeldSaid {
+            form: SaidForm::Row,
+            at,
+        });
+    }
+    let span = add_rows(into, rows)?;
+    remember(literals, rows, span.start)?;
+    let run = hold_span(spans, span)?;
+    Ok(HeldSaid {
+        form: rows_form(run.form),
+        at: run.at,
+    })
+}
+
+/// Holds what a line says.
+fn hold_outcome(
+    into: &mut Vec<Row>,
+    spans: &mut Vec<Span>,
+    literals: &mut Vec<u32>,
+    outcome: Outcome<'_>,
+) -> Result<HeldSaid, AllocError>
+    ensures more { (more : List declared.Row) × (into.new.items ≡ into.old.items ++ more) }
+    ensures spans { (more : List Span) × (spans.new.items ≡ spans.old.items ++ more) }
+    ensures held { IfOk result (λ said. HasRows (length into.new.items) spans.new.items said.form said.at × (outcome_at into.new.items spans.new.items said.form said.at ≡ outcome.entry)) }
 {
     match outcome {
         Outcome::Value(value) => hold_value(into, value),
-        Outcome::Rows(rows) => {
-            let rows = hold_rows(into, rows.as_slice())?;
-            Ok(HeldSaid {
-                form: SaidForm::Rows,
-                rows,
-            })
-        }
-        Outcome::Verdict(verdict) => Ok(HeldSaid {
-            form: SaidForm::Verdict(verdict),
-            rows: NONE,
-        }),
+        Outcome::Rows(rows) => hold_rows(into, spans, literals, rows.as_slice()),
+        Outcome::Verdict(verdict) => Ok(hold_verdict(verdict)),
     }
 }
 
 /// Holds a value: one of the template in place, any other as a row.
 fn hold_value(into: &mut Vec<Row>, value: Ref) -> Result<HeldSaid, AllocError>
     ensures more { (more : List declared.Row) × (into.new.items ≡ into.old.items ++ more) }
-    ensures held { IfOk result (λ said. HasRows (length into.new.items) said.form said.rows × (outcome_at into.new.items said.form said.rows ≡ says.Value value)) }
+    ensures held { (spans : List Span) → IfOk result (λ said. HasRows (length into.new.items) spans said.form said.at × (outcome_at into.new.items spans said.form said.at ≡ says.Value value)) }
 {
     match value.origin {
         Origin::Template => Ok(HeldSaid {
@@ -292,18 +517,29 @@ fn hold_value(into: &mut Vec<Row>, value: Ref) -> Result<HeldSaid, AllocError>
             } else {
                 SaidForm::Node
             },
-            rows: Span {
-                start: value.node,
-                count: 0,
-            },
+            at: value.node,
         }),
         _ => {
-            let rows = hold_rows(into, &[Row::Found(value)])?;
+            let span = add_rows(into, &[Row::Found(value)])?;
             Ok(HeldSaid {
                 form: SaidForm::Value,
-                rows,
+                at: span.start,
             })
         }
+    }
+}
+
+/// Holds a verdict.
+fn hold_verdict(verdict: Verdict) -> HeldSaid
+    ensures { (many : ℕ) (rows : List declared.Row) (spans : List Span) → HasRows many spans result.form result.at × (outcome_at rows spans result.form result.at ≡ says.Verdict verdict) }
+{
+    HeldSaid {
+        form: match verdict {
+            Verdict::Pass => SaidForm::Pass,
+            Verdict::Fail => SaidForm::Fail,
+            Verdict::Skip => SaidForm::Skip,
+        },
+        at: 0,
     }
 }
 

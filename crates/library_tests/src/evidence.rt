@@ -25,6 +25,14 @@ const TEXTS: &[(&str, u64)] = &[
         3,
     ),
     ("guard-evidence 2\nfile - - - d0\ndisj 1 3 2 P\n", 2),
+    (
+        "guard-evidence 2\nliteral 1 4 - l4.0\nliteral 2 4 - l4.0\nliteral 3 4 - l4.1\nliteral 4 4 - l4.0\nliteral 1 5 - l5.0k\nliteral 2 5 - l5.0\nliteral 1 6 - l65536.0\nliteral 2 6 - l65536.0\nframe 1 9 - l4.0\nframe 1 9 - l4.0k\n",
+        10,
+    ),
+    (
+        "guard-evidence 2\nfound 1 8 - -\nstep 1 7 1 d1\nstep 1 7 1,2 d1,d2\nstep 1 7 1,2,3 d1,d2,d3\nconj 1 2 4,3,2,1 S\nstep 1 7 4,5,6 d4,d5,d6,d7\n",
+        6,
+    ),
 ];
 
 /// The text of evidence that was read.

@@ -4,11 +4,14 @@ use Rattle.guard_syntax.specs.declared.row.Origin.TheVariants.{Template}
 use Rattle.guard_syntax.specs.declared.row.Ref.{Ref}
 use Rattle.guard_syntax.specs.declared.row.Row.{Row}
 use Rattle.guard_syntax.specs.declared.row.Row.TheVariants.{Found}
+use Rattle.guard_syntax.specs.declared.row.Verdict.TheVariants.{Pass, Fail, Skip}
 use Rattle.evidence_lines.specs.declared.held.Held.{Held}
 use Rattle.evidence_lines.specs.declared.held.HeldLine.{HeldLine}
 use Rattle.evidence_lines.specs.declared.held.Place.{Place}
 use Rattle.evidence_lines.specs.declared.held.PlaceForm.{PlaceForm}
 use Rattle.evidence_lines.specs.declared.held.PlaceForm.TheVariants as place
+use Rattle.evidence_lines.specs.declared.held.RunForm.{RunForm}
+use Rattle.evidence_lines.specs.declared.held.RunForm.TheVariants as run
 use Rattle.evidence_lines.specs.declared.held.SaidForm.{SaidForm}
 use Rattle.evidence_lines.specs.declared.held.SaidForm.TheVariants as said
 use Rattle.evidence_lines.specs.declared.held.Span.{Span}
@@ -23,6 +26,35 @@ cut_span xs span = take span.count (drop span.start xs)
 -- they are all there
 abbrev pub IsCut : ℕ → Span → Type 0
 IsCut many span = span.start + span.count ≤ many
+
+abbrev pub span_of : (start count : ℕ) → Span
+span_of start count = record { start = start; count = count }
+
+-- a span, which is there
+abbrev pub span_in : Option Span → Span
+span_in None = span_of 0 0
+span_in (Some span) = span
+
+-- the span of a run, by its form
+abbrev pub span_at : List Span → RunForm → ℕ → Span
+span_at spans run.None at = span_of at 0
+span_at spans run.One at = span_of at 1
+span_at spans run.Two at = span_of at 2
+span_at spans run.More at = span_in (slice_get spans at)
+
+-- it stands beside the lines where it is not held here
+abbrev pub HasSpan : ℕ → RunForm → ℕ → Type 0
+HasSpan many run.More at = at < many
+HasSpan many form at = Unit {0}
+
+-- a run has its span, and that its items
+pub record IsRun (many : ℕ) (spans : List Span) (form : RunForm) (at : ℕ) : Type 0 where
+  pub spanned : HasSpan (length spans) form at
+  pub within : IsCut many (span_at spans form at)
+
+-- the items of a run
+abbrev pub cut_run : {A : Type 0} → List A → List Span → RunForm → ℕ → List A
+cut_run xs spans form at = cut_span xs (span_at spans form at)
 
 -- the frame, by its form
 abbrev pub frame_at : List Place → PlaceForm → ℕ → Option ℕ
@@ -44,32 +76,47 @@ abbrev pub value_in : List Row → Ref
 value_in (Found v ∷ []) = v
 value_in rows = node_ref false 0
 
--- what is said, by its form
-abbrev pub outcome_at : List Row → SaidForm → Span → Outcome
-outcome_at rows said.Node span = says.Value (node_ref false span.start)
-outcome_at rows said.Key span = says.Value (node_ref true span.start)
-outcome_at rows said.Value span = says.Value (value_in (cut_span rows span))
-outcome_at rows said.Rows span = says.Rows (cut_span rows span)
-outcome_at rows (said.Verdict verdict) span = says.Verdict verdict
+-- the form of a line that says a run of rows
+abbrev pub rows_form : RunForm → SaidForm
+rows_form run.None = said.NoRows
+rows_form run.One = said.Row
+rows_form run.Two = said.TwoRows
+rows_form run.More = said.Rows
 
-abbrev pub see_line : List ℕ → List Row → List Place → HeldLine → Line
-see_line cites rows places l = record {
+-- what is said, by its form
+abbrev pub outcome_at : List Row → List Span → SaidForm → ℕ → Outcome
+outcome_at rows spans said.Node at = says.Value (node_ref false at)
+outcome_at rows spans said.Key at = says.Value (node_ref true at)
+outcome_at rows spans said.Value at = says.Value (value_in (cut_run rows spans run.One at))
+outcome_at rows spans said.NoRows at = says.Rows (cut_run rows spans run.None at)
+outcome_at rows spans said.Row at = says.Rows (cut_run rows spans run.One at)
+outcome_at rows spans said.TwoRows at = says.Rows (cut_run rows spans run.Two at)
+outcome_at rows spans said.Rows at = says.Rows (cut_run rows spans run.More at)
+outcome_at rows spans said.Pass at = says.Verdict Pass
+outcome_at rows spans said.Fail at = says.Verdict Fail
+outcome_at rows spans said.Skip at = says.Verdict Skip
+
+abbrev pub see_line : List ℕ → List Span → List Row → List Span → List Place → HeldLine → Line
+see_line cites cite_spans rows row_spans places l = record {
   kind = l.kind;
   frame = frame_at places l.place l.frame;
   site = site_at places l.place l.frame l.site;
-  cites = cut_span cites l.cites;
-  outcome = outcome_at rows l.said l.rows;
+  cites = cut_run cites cite_spans l.cites l.cites_at;
+  outcome = outcome_at rows row_spans l.said l.said_at;
 }
 
 -- the lines
 abbrev pub see_lines : Held → List Line
-see_lines h = map (see_line h.cites.items h.rows.items h.places.items) h.lines.items
+see_lines h = map (see_line h.cites.items h.cite_spans.items h.rows.items h.row_spans.items h.places.items) h.lines.items
 
 -- what is said has its rows
-abbrev pub HasRows : ℕ → SaidForm → Span → Type 0
-HasRows many said.Value span = IsCut many span
-HasRows many said.Rows span = IsCut many span
-HasRows many form span = Unit {0}
+abbrev pub HasRows : ℕ → List Span → SaidForm → ℕ → Type 0
+HasRows many spans said.Value at = IsRun many spans run.One at
+HasRows many spans said.NoRows at = IsRun many spans run.None at
+HasRows many spans said.Row at = IsRun many spans run.One at
+HasRows many spans said.TwoRows at = IsRun many spans run.Two at
+HasRows many spans said.Rows at = IsRun many spans run.More at
+HasRows many spans form at = Unit {0}
 
 -- the place stands beside the lines where it is not held here
 abbrev pub HasPlace : ℕ → PlaceForm → ℕ → Type 0
@@ -77,14 +124,14 @@ HasPlace many place.Beside frame = frame < many
 HasPlace many form frame = Unit {0}
 
 -- a line has what it is made of
-pub record IsWithin (cites rows places : ℕ) (l : HeldLine) : Type 0 where
-  pub cited : IsCut cites l.cites
-  pub said : HasRows rows l.said l.rows
+pub record IsWithin (cites : ℕ) (cite_spans : List Span) (rows : ℕ) (row_spans : List Span) (places : ℕ) (l : HeldLine) : Type 0 where
+  pub cited : IsRun cites cite_spans l.cites l.cites_at
+  pub said : HasRows rows row_spans l.said l.said_at
   pub placed : HasPlace places l.place l.frame
 
 -- and so has each
 abbrev pub IsHeld : Held → Type 0
-IsHeld h = All (IsWithin (length h.cites.items) (length h.rows.items) (length h.places.items)) h.lines.items
+IsHeld h = All (IsWithin (length h.cites.items) h.cite_spans.items (length h.rows.items) h.row_spans.items (length h.places.items)) h.lines.items
 
 -- lines of which so many are meant, which are there
 pub record IsFront (h : Held) (count : ℕ) : Type 0 where
