@@ -1,6 +1,5 @@
 mod DistinctFrames
 pub mod EnteredFrames
-mod FilledCells
 pub mod FramesAround
 pub mod NamesBound
 mod OutwardSteps

@@ -1,20 +1,16 @@
-//! Cells: which one the use of a name leads to, and what fills it.
-ghost use Rattle.std.specs.Prelude.{◌≡◌, ◌++◌, ◌∷◌, [], IsSome, MatchOption, None, OnErr, OnOk, Some};
+//! Cells: which one the use of a name leads to.
+ghost use Rattle.std.specs.Prelude.{◌≡◌, IsSome, Some};
 ghost use Rattle.rule_names.specs.EnclosingScopes.{home_of};
 ghost use Rattle.rule_names.specs.code.Files.{file_of};
 ghost use Rattle.rule_names.specs.Resolution.{bind_of};
-ghost use Rattle.scope_frames.specs.code.Cells.{cell_of, filled_at, slot_of};
+ghost use Rattle.scope_frames.specs.code.Cells.{cell_of, slot_of};
 ghost use Rattle.scope_frames.specs.code.Frames.{AreEntered, StandsFor};
 ghost use Rattle.scope_frames.specs.code.Scoping.{up_of};
-ghost use Rattle.scope_frames.specs.code.Seen.{cells_in};
 
 use crate::cell::{Cell, Slot};
 use crate::frames::Frames;
 use crate::outwards::outwards;
-use crate::remembered::Remembered;
-use guard_syntax::Row;
 use rule_names::Bind;
-use std::alloc::AllocError;
 
 impl<'t> Frames<'t> {
     /// The cell of the variable that is used at a site, in a frame of the scope in which the site stands: it is one of the
@@ -35,31 +31,6 @@ impl<'t> Frames<'t> {
             frame,
             slot: slot_of(bind),
         }
-    }
-
-    /// What fills a cell: the line of the evidence that gives the rows of its name, and these. It is None exactly where the
-    /// cell is empty.
-    pub fn rows(&self, cell: Cell) -> Option<(u64, &[Row])>
-        ensures { MatchOption result (filled_at (cells_in self.entry.now) cell ≡ None)
-            (λ r. filled_at (cells_in self.entry.now) cell ≡ Some (record { cell = cell; line = r.0; rows = r.1.now })) }
-    {
-        match self.cells.get(&cell) {
-            Some(remembered) => Some((remembered.line, remembered.rows.as_slice())),
-            None => None,
-        }
-    }
-
-    /// Fills an empty cell. Any other stays as it is.
-    pub fn fill(&mut self, cell: Cell, line: u64, rows: &[Row]) -> Result<(), AllocError>
-        requires { filled_at (cells_in self.old) cell ≡ None }
-        ensures file { self.new.file.now ≡ self.old.file.now }
-        ensures frames { self.new.entered.keys ≡ self.old.entered.keys }
-        ensures ok { OnOk result (cells_in self.new ≡ cells_in self.old ++ record { cell = cell; line = line; rows = rows.now } ∷ []) }
-        ensures err { OnErr result (cells_in self.new ≡ cells_in self.old) }
-    {
-        let rows = rows.to_vec(self.alloc)?;
-        self.cells.insert(cell, Remembered { line, rows })?;
-        Ok(())
     }
 }
 

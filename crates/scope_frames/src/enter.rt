@@ -3,36 +3,30 @@ ghost use Rattle.std.specs.Prelude.{◌≡◌, ◌<◌, ◌++◌, ◌∷◌, ◌
 ghost use Rattle.rule_names.specs.code.Files.{file_of};
 ghost use Rattle.scope_frames.specs.code.Entering.{Enters};
 ghost use Rattle.scope_frames.specs.code.Frames.{AreEntered, MayEnter};
-ghost use Rattle.scope_frames.specs.code.Seen.{cells_in};
 
 use crate::frame::Frame;
 use crate::frames::Frames;
 use guard_syntax::Ref;
-use indexmap::{IndexMap, IndexSet};
+use indexmap::IndexSet;
 use rule_names::RuleFile;
 use std::alloc::{AllocError, Global};
 
 impl<'t> Frames<'t> {
-    /// No frame, and no cell. It takes no memory.
+    /// No frame. It takes no memory.
     pub fn new(alloc: Global, file: &'t RuleFile) -> Frames<'t>
         ensures file { result.file.now ≡ file.entry.now }
         ensures frames { result.entered.keys ≡ [] }
-        ensures cells { cells_in result ≡ [] }
     {
         Frames {
-            alloc,
             file,
             entered: IndexSet::new(alloc),
-            cells: IndexMap::new(alloc),
         }
     }
 
-    /// The number of the frame with these arguments. One that is entered for the first time comes behind the others, and
-    /// its cells are empty.
+    /// The number of the frame with these arguments. One that is entered for the first time comes behind the others.
     pub fn enter(&mut self, parent: Option<u64>, site: u32, current: Ref) -> Result<u64, AllocError>
         requires { MayEnter (file_of self.old.file.now) self.old.entered.keys parent site }
         ensures file { self.new.file.now ≡ self.old.file.now }
-        ensures cells { cells_in self.new ≡ cells_in self.old }
         ensures entered { IfOk result (λ number. Enters self.old.entered.keys (record { parent = parent; site = site; current = current }) number self.new.entered.keys) }
         ensures sound { AreEntered (file_of self.old.file.now) self.old.entered.keys → AreEntered (file_of self.old.file.now) self.new.entered.keys }
         ensures err { OnErr result (self.new.entered.keys ≡ self.old.entered.keys) }

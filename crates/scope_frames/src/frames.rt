@@ -1,17 +1,11 @@
-//! The frames of an evaluation, and their cells.
-use crate::cell::Cell;
+//! The frames of an evaluation.
 use crate::frame::Frame;
-use crate::remembered::Remembered;
-use indexmap::{IndexMap, IndexSet};
+use indexmap::IndexSet;
 use rule_names::RuleFile;
-use std::alloc::Global;
 
-/// The frames that were entered, numbered from 0 in the order in which they were first entered, and the cells that are
-/// filled.
+/// The frames that were entered, numbered from 0 in the order in which they were first entered.
 #[derive(Drop)]
 pub struct Frames<'t> {
-    pub alloc: Global,
     pub file: &'t RuleFile,
     pub entered: IndexSet<Frame>,
-    pub cells: IndexMap<Cell, Remembered>,
 }
