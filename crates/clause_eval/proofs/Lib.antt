@@ -18,6 +18,7 @@ mod Falls
 mod Finished
 mod FrameEnvironments
 mod FrameNamed
+mod FramePlaces
 mod FramesSaid
 mod FunctionsNamed
 mod Heights
@@ -33,7 +34,6 @@ mod NamesAnswered
 mod NamesFall
 mod ParametersFall
 mod ParametersRead
-mod PartTables
 mod PartsAdded
 mod PartsAnswered
 mod PiecesLeft
@@ -44,6 +44,7 @@ mod RowsInTurn
 mod RowsListed
 mod RowsRead
 mod RulesAnswered
+mod RuleTables
 pub mod RulesJudged
 mod SaidInOrder
 mod SaidLater

@@ -8,6 +8,7 @@ ghost use Rattle.clause_eval.specs.code.Ruling.{Rests};
 ghost use Rattle.clause_eval.specs.code.States.{IsWhole};
 
 use crate::engine::Engine;
+use crate::frame_lines::FrameLines;
 use crate::site_lines::SiteLines;
 use doc_values::Doc;
 use evidence_lines::{Evidence, Version};
@@ -41,7 +42,7 @@ impl<'t, 's> Engine<'t, 's> {
             store: Store::new(alloc, doc, file),
             evidence: Evidence::new(alloc, Version::Two),
             framed: Vec::new(alloc),
-            parts: Vec::new(alloc),
+            parts: FrameLines::new(alloc),
             beside: IndexMap::new(alloc),
             rules: SiteLines::new(alloc, 0),
         }

@@ -47,7 +47,7 @@ impl<'t, 's> Engine<'t, 's> {
             Outcome::Rows(Rows::new(&rows)),
         );
         let number = self.evidence.push(line)?;
-        self.parts[frame as usize].set(site, number)?;
+        self.parts.set(frame, site, number)?;
         Ok(number)
     }
 

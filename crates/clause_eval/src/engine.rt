@@ -6,6 +6,7 @@ ghost use Rattle.value_compare.specs.code.Books.{IsBookOf};
 ghost use Rattle.value_compare.specs.code.Stores.{see_store};
 ghost use Rattle.clause_eval.specs.code.States.{StillFollows};
 
+use crate::frame_lines::FrameLines;
 use crate::place::Place;
 use crate::site_lines::SiteLines;
 use evidence_lines::Evidence;
@@ -27,7 +28,7 @@ pub struct Engine<'t, 's> {
     /// The number of the line of each frame.
     pub framed: Vec<u64>,
     /// The lines of the parts of each frame.
-    pub parts: Vec<SiteLines>,
+    pub parts: FrameLines,
     /// The lines of what steps capture, and of the rows of type blocks.
     pub beside: IndexMap<Place, u64>,
     /// The lines of rules.
@@ -35,7 +36,7 @@ pub struct Engine<'t, 's> {
     pub ghost frames_over: { frames.file.now ≡ file.now },
     pub ghost store_over: { store.file.now ≡ file.now },
     pub ghost book_is: { IsBookOf (file_of file.now) book.now },
-    pub ghost tables: { length framed.items ≤ length parts.items },
+    pub ghost tables: { length framed.items ≤ length parts.spans.items },
     pub ghost version: { evidence.version ≡ Two },
     pub ghost follows: { ∥ StillFollows (see_store store) evidence.lines ∥₁ },
 }

@@ -7,7 +7,6 @@ ghost use Rattle.clause_eval.specs.code.Entered.{Enters, IsFramed, IsLineFor, Ma
 ghost use Rattle.clause_eval.specs.code.States.{IsWhole};
 
 use crate::engine::Engine;
-use crate::site_lines::SiteLines;
 use evidence_lines::{Cites, Line, LineKind, Outcome};
 use guard_syntax::{Origin, Ref};
 use std::alloc::AllocError;
@@ -36,7 +35,7 @@ impl<'t, 's> Engine<'t, 's> {
             return Ok(number);
         }
         let first = self.first_site(site);
-        self.parts.push(SiteLines::new(self.alloc, first))?;
+        self.parts.add_frame(first)?;
         let line = self.frame_line(parent, site, current);
         let line = self.add_line(line)?;
         self.framed.push(line)?;

@@ -7,6 +7,7 @@ mod begin;
 mod blocks;
 mod calls;
 pub mod engine;
+pub mod frame_lines;
 pub mod frames;
 mod judging;
 pub mod lines;
@@ -21,6 +22,7 @@ mod steps;
 mod verdicts;
 
 pub use engine::Engine;
+pub use frame_lines::{FrameLines, SiteSpan};
 pub use place::Place;
 pub use said::{Cited, Said};
 pub use site_lines::SiteLines;

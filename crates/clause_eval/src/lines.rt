@@ -34,7 +34,7 @@ impl<'t, 's> Engine<'t, 's> {
     pub fn found(&self, frame: u64, site: u32) -> Option<u64>
         ensures { result ≡ (see_engine self.now).parts frame site }
     {
-        self.parts.get(frame as usize)?.get(site)
+        self.parts.get(frame, site)
     }
 
     /// The line of what the step of a site captures in a frame, or of the rows of the type block of a site.
@@ -99,7 +99,7 @@ impl<'t, 's> Engine<'t, 's> {
     {
         let line = self.line_in(frame, site, kind, &cites, outcome);
         let number = self.add_line(line)?;
-        self.parts[frame as usize].set(site, number)?;
+        self.parts.set(frame, site, number)?;
         Ok(number)
     }
 
@@ -179,7 +179,7 @@ impl<'t, 's> Engine<'t, 's> {
         ensures store { see_store self.new.store ≡ see_store self.old.store }
         ensures frames { self.new.frames.entered.keys ≡ self.old.frames.entered.keys }
         ensures framed { self.new.framed.items ≡ self.old.framed.items }
-        ensures parts { self.new.parts.items ≡ self.old.parts.items }
+        ensures parts { self.new.parts ≡ self.old.parts }
         ensures beside { self.new.beside ≡ self.old.beside }
         ensures rules { self.new.rules ≡ self.old.rules }
     {

@@ -25,4 +25,4 @@ returns c =
     (c.in_ok-number.ensures.added.0 ∙ ap (λ l. c.args.self.now.evidence.lines ++ l ∷ []) (c.line_in-line.ensures c.requires.adds.at c.requires.adds.framed ∙ ap (λ cs. line_for c.requires.adds.at c.args.site c.args.kind cs c.args.outcome) c.deref.ensures.value))
     c.add_line.ensures.framed c.in_ok-number.ensures.added.1
     given.0 (λ n m other. given.1 n m other ∙ ap (λ b. beside_in b.entries n m) c.add_line.ensures.beside)
-    (λ n m. ap (λ ps. part_in ps n m) c.add_line.ensures.parts) (λ m. ap (λ t. lines_in t m) c.add_line.ensures.rules)
+    (λ n m. ap (λ t. part_in t n m) c.add_line.ensures.parts) (λ m. ap (λ t. lines_in t m) c.add_line.ensures.rules)

@@ -1,4 +1,4 @@
-use Rattle.std.proofs.Common.{◌≡◌, ◌∙◌, ◌+◌, ◌<◌, ◌≤◌, ◌++◌, arith, refl, sym, ap, subst, ℕ, suc, List, [], ◌∷◌, length, length-append, length-set, map, None}
+use Rattle.std.proofs.Common.{◌≡◌, ◌∙◌, ◌+◌, ◌≤◌, ◌++◌, arith, refl, sym, ap, subst, ℕ, suc, List, [], ◌∷◌, length, length-append, map, None}
 use Rattle.std.proofs.lemmas.Grind.{merely}
 use Rattle.std.proofs.lemmas.Option.{slice_get_within}
 use Rattle.evidence_lines.specs.declared.line.Line.{Line}
@@ -14,7 +14,6 @@ use Rattle.clause_eval.specs.code.Answers.{AreGiven, IsAnswerOf}
 use Rattle.clause_eval.specs.code.Engines.{see_engine}
 use Rattle.clause_eval.proofs.CallsAdded.{is-call-added, pushed-call, still-more}
 use Rattle.clause_eval.proofs.MadeTrees.{none-kept}
-use Rattle.clause_eval.proofs.PartTables.{part-set, part-stays, table-there}
 use Rattle.clause_eval.proofs.engine.Engine.add_call.Goals as goal
 
 pub answer-requires-clause-given : goal.answer-requires-clause-given
@@ -40,17 +39,16 @@ invariant_of-self c = record {
 pub line_in-line-requires : goal.line_in-line-requires
 line_in-line-requires c = slice_get_within c.args.self.now.framed.items c.args.frame c.in_ok-answer.ensures.answer.at c.in_ok-answer.ensures.answer.framed
 
-pub index_mut-requires : goal.index_mut-requires
-index_mut-requires c =
+pub set-requires-clause-frame : goal.set-requires-clause-frame
+set-requires-clause-frame c =
     let named = slice_get_within c.args.self.now.framed.items c.args.frame c.in_ok-answer.ensures.answer.at c.in_ok-answer.ensures.answer.framed in
-    omega (arith, named, c.args.self.now.tables, c.args.self.now.parts.ok.0)
+    omega (arith, named, c.args.self.now.tables)
 
 pub invariant_of-self-2-clause-store_over : goal.invariant_of-self-2-clause-store_over
 invariant_of-self-2-clause-store_over c = c.keep.ensures.file ∙ c.args.self.now.store_over
 
 pub invariant_of-self-2-clause-tables : goal.invariant_of-self-2-clause-tables
-invariant_of-self-2-clause-tables c =
-    subst (λ (n : ℕ). length c.args.self.now.framed.items ≤ n) (sym (length-set c.args.self.now.parts.items c.args.frame c.set.new.self)) c.args.self.now.tables
+invariant_of-self-2-clause-tables c = subst (λ (n : ℕ). length c.args.self.now.framed.items ≤ n) (sym c.set.ensures.frames) c.args.self.now.tables
 
 pub invariant_of-self-2-clause-version : goal.invariant_of-self-2-clause-version
 invariant_of-self-2-clause-version c = c.push.ensures.version ∙ c.args.self.now.version
@@ -75,16 +73,12 @@ returns c =
     subst (λ (cs : List ℕ). IsAnswerOf s c.args.frame c.args.site cs answer) c.deref.ensures.value c.in_ok-answer.ensures.answer in
     let at : c.len-number.result + 1 ≡ suc (length s.lines) = omega (arith, c.len-number.ensures.count) in
     let rows : c.new.result ≡ rows_kept (suc (length s.lines)) 0 answer = c.new.ensures ∙ c.deref-3.ensures.value ∙ c.in_ok-rows.ensures.rows ∙ ap (λ (n : ℕ). rows_kept n 0 answer) at in
-    let named = slice_get_within s.framed c.args.frame is.at is.framed in
-    let within : c.args.frame < length c.args.self.now.parts.items = omega (arith, named, c.args.self.now.tables) in
-    let there = table-there c.args.self.now.parts.items c.args.frame c.index_mut.result.now within c.index_mut.ensures.value in
     let number : c.in_ok-number.number ≡ suc (length s.lines) =
     omega (arith, c.in_ok-number.ensures.added.1, ap length c.in_ok-number.ensures.added.0, length-append s.lines (c.line_in-line.result ∷ [])) in (
       c.new.result,
       is-call-added s c.requires.whole c.args.frame c.args.site c.args.cites.items answer is _ c.in_ok-number.number c.new.result rows c.requires.new
           (c.in_ok-rows.ensures.trees ∙ ap (λ (n : ℕ). grown s.known (trees_kept n 0 answer)) at) refl
           (c.in_ok-number.ensures.added.0 ∙ ap (λ (l : Line). s.lines ++ l ∷ []) (c.line_in-line.ensures is.at is.framed ∙ ap (λ (cs : List ℕ). line_for is.at c.args.site kind.Fn cs (says.Rows c.new.result)) c.deref-2.ensures.value)) refl number
-          (part-set c.args.self.now.parts.items c.args.frame c.args.site c.in_ok-number.number c.index_mut.result.now c.set.new.self there c.in_ok-set.ensures.ok)
-          (λ n m other. part-stays c.args.self.now.parts.items c.args.frame c.args.site c.in_ok-number.number c.index_mut.result.now c.set.new.self there c.in_ok-set.ensures.ok n m other)
+          c.in_ok-set.ensures.line c.in_ok-set.ensures.others
           (λ n m. refl) (λ m. refl),
     )

@@ -6,7 +6,7 @@ use Rattle.clause_eval.specs.code.Adding.{line_for}
 use Rattle.clause_eval.specs.code.Beside.{beside_in}
 use Rattle.clause_eval.specs.code.Engines.{lines_in, part_in, see_engine}
 use Rattle.clause_eval.proofs.AddedLines.{is-rule-added}
-use Rattle.clause_eval.proofs.PartTables.{table-set}
+use Rattle.clause_eval.proofs.RuleTables.{table-set}
 use Rattle.clause_eval.proofs.engine.Engine.add_rule.Goals as goal
 
 pub line_in-line-requires : goal.line_in-line-requires
@@ -21,4 +21,4 @@ returns c =
     (c.in_ok-number.ensures.added.0 ∙ ap (λ l. c.args.self.now.evidence.lines ++ l ∷ []) (c.line_in-line.ensures c.requires.adds.at c.requires.adds.framed ∙ ap (λ cs. line_for c.requires.adds.at c.args.site kind.Rule cs (says.Verdict c.args.verdict)) c.deref.ensures.value))
     c.add_line.ensures.framed c.in_ok-number.ensures.added.1
     set.0 (λ m other. set.1 m other ∙ ap (λ t. lines_in t m) c.add_line.ensures.rules)
-    (λ n m. ap (λ ps. part_in ps n m) c.add_line.ensures.parts) (λ n m. ap (λ b. beside_in b.entries n m) c.add_line.ensures.beside)
+    (λ n m. ap (λ t. part_in t n m) c.add_line.ensures.parts) (λ n m. ap (λ b. beside_in b.entries n m) c.add_line.ensures.beside)

@@ -5,7 +5,6 @@ use Rattle.scope_frames.specs.declared.frame.Frame.{Frame}
 use Rattle.clause_eval.specs.code.Beside.{beside_in}
 use Rattle.clause_eval.specs.code.Engines.{lines_in, part_in, see_engine}
 use Rattle.clause_eval.proofs.EnteredLines.{enter-follows, enter-frame, enter-has, enter-known, found-entered, is-first-entered, is-new, may-framed, new-alone, new-number, same-frames, was-there}
-use Rattle.clause_eval.proofs.PartTables.{part-more}
 use Rattle.clause_eval.proofs.engine.Engine.enter.Goals as goal
 
 pub returns-then-number-len : goal.returns-then-number-len
@@ -42,6 +41,6 @@ returns c =
     (new-alone s.frames c.enter.new.self.entered.keys frame c.in_ok-number.number (length s.framed) c.requires.whole.counted c.in_ok-number.ensures.entered past)
     (new-number s.frames c.enter.new.self.entered.keys frame c.in_ok-number.number (length s.framed) c.requires.whole.counted c.in_ok-number.ensures.entered past)
     c.add_line.ensures.store (c.add_line.ensures.frames ∙ more) c.in_ok-line.ensures.added.0
-    (c.in_ok-push-2.ensures.items ∙ ap (λ ns. ns ++ c.in_ok-line.line ∷ []) c.add_line.ensures.framed ∙ ap (λ n. s.framed ++ n ∷ []) c.in_ok-line.ensures.added.1)
-    (λ n m. ap (λ ps. part_in ps n m) (c.add_line.ensures.parts ∙ c.in_ok-push.ensures.items) ∙ part-more c.args.self.now.parts.items c.new.result c.new.ensures.lines n m)
+    (c.in_ok-push.ensures.items ∙ ap (λ ns. ns ++ c.in_ok-line.line ∷ []) c.add_line.ensures.framed ∙ ap (λ n. s.framed ++ n ∷ []) c.in_ok-line.ensures.added.1)
+    (λ n m. ap (λ t. part_in t n m) c.add_line.ensures.parts ∙ c.add_frame.ensures.lines n m)
     (λ n m. ap (λ b. beside_in b.entries n m) c.add_line.ensures.beside) (λ m. ap (λ t. lines_in t m) c.add_line.ensures.rules)

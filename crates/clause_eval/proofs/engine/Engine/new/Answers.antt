@@ -1,10 +1,9 @@
-use Rattle.std.proofs.Common.{ap, List}
+use Rattle.std.proofs.Common.{ap}
 use Rattle.std.proofs.lemmas.Grind.{merely}
 use Rattle.value_compare.specs.code.Stores.{see_store}
 use Rattle.clause_eval.specs.code.Beside.{beside_in}
-use Rattle.clause_eval.specs.code.Engines.{part_in}
-use Rattle.clause_eval.specs.declared.site_lines.SiteLines.{SiteLines}
 use Rattle.clause_eval.proofs.EmptyEngine.{nothing-follows, nothing-rests, nothing-whole}
+use Rattle.clause_eval.proofs.FramePlaces.{no-frames}
 use Rattle.clause_eval.proofs.engine.Engine.new.Goals as goal
 
 pub invariant_of-result-clause-follows : goal.invariant_of-result-clause-follows
@@ -13,9 +12,9 @@ invariant_of-result-clause-follows c = merely (nothing-follows (see_store c.new-
 pub returns-clause-whole : goal.returns-clause-whole
 returns-clause-whole c =
     nothing-whole _ c.new-2.ensures.made c.new-3.ensures.lines c.new.ensures.frames c.new-4.ensures.items
-    (λ n m. ap (λ (ps : List SiteLines). part_in ps n m) c.new-5.ensures.items) (λ n m. ap (λ es. beside_in es n m) c.new-6.ensures.empty) c.new-7.ensures.lines
+    (no-frames c.new-5.result.spans.items c.new-5.result.lines.items c.new-5.ensures) (λ n m. ap (λ es. beside_in es n m) c.new-6.ensures.empty) c.new-7.ensures.lines
 
 pub returns-clause-rests : goal.returns-clause-rests
 returns-clause-rests c =
     nothing-rests _ c.new-2.ensures.made c.new-3.ensures.lines c.new.ensures.frames c.new-4.ensures.items
-    (λ n m. ap (λ (ps : List SiteLines). part_in ps n m) c.new-5.ensures.items) (λ n m. ap (λ es. beside_in es n m) c.new-6.ensures.empty) c.new-7.ensures.lines
+    (no-frames c.new-5.result.spans.items c.new-5.result.lines.items c.new-5.ensures) (λ n m. ap (λ es. beside_in es n m) c.new-6.ensures.empty) c.new-7.ensures.lines
