@@ -11,7 +11,7 @@ use Rattle.evidence_lines.specs.declared.line.Outcome.{Outcome}
 use Rattle.evidence_lines.specs.declared.line.Outcome.TheVariants as says
 use Rattle.evidence_lines.specs.declared.version.Version.{Version}
 use Rattle.evidence_lines.specs.declared.version.Version.TheVariants.{Two}
-use Rattle.guard_syntax.specs.Syntax.{Expr, File, Query, Step, found, function, kinds, literal}
+use Rattle.guard_syntax.specs.Syntax.{Expr, Query, Step, found, function, kinds, literal}
 use Rattle.guard_syntax.specs.declared.row.Row.{Row}
 use Rattle.guard_syntax.specs.declared.row.Row.TheVariants.{Found}
 use Rattle.rule_names.specs.Pieces.{OfExpr, OfPart, OfStep, Piece, piece_at}

@@ -12,7 +12,7 @@ use Rattle.evidence_lines.specs.declared.line.LineKind.TheVariants as kind
 use Rattle.evidence_lines.specs.declared.line.Outcome.{Outcome}
 use Rattle.evidence_lines.specs.declared.line.Outcome.TheVariants as says
 use Rattle.guard_syntax.specs.Named.{Named}
-use Rattle.guard_syntax.specs.Syntax.{Conds, Expr, File, Query, Step, every, filter, index, items, key, keys, splice, this, var}
+use Rattle.guard_syntax.specs.Syntax.{Conds, File, Query, Step, every, filter, index, items, key, keys, splice, this, var}
 use Rattle.guard_syntax.specs.code.Queries.{IsStart, QueriesBegin}
 use Rattle.guard_syntax.specs.code.Seen.{see_conds, see_expr, see_form, see_query, see_step}
 use Rattle.guard_syntax.specs.declared.row.Ref.{Ref}

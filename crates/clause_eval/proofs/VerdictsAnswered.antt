@@ -1,6 +1,6 @@
 -- Lines of verdicts: what one says that was found; what one asks for that is added behind the lines of what was evaluated for its part, and what is answered then; what a part
 -- in a part asks for. And the lines of conjunctions and disjunctions, with the loops that evaluate what is in them.
-use Rattle.std.proofs.Common.{◌≡◌, ◌<◌, ◌≤◌, ◌+◌, ◌-◌, ℕ, true, false, refl, sym, ap, ◌∙◌, subst, inl, arith, slice_get, List, [], ◌∷◌, ◌++◌, length, map, take, get_or, Contains, Option, Some, None}
+use Rattle.std.proofs.Common.{◌≡◌, ◌<◌, ◌≤◌, ◌+◌, ℕ, true, false, refl, sym, ap, ◌∙◌, subst, inl, arith, slice_get, List, [], ◌∷◌, ◌++◌, length, map, take, get_or, Contains, Option, Some, None}
 use Rattle.std.specs.Prelude.{if◌then◌else◌}
 use Rattle.std.proofs.lemmas.Option.{slice_get_within}
 use Rattle.evidence_lines.specs.Shapes.{sort_of}
