@@ -20,7 +20,7 @@ pub struct SiteSpan {
 pub struct FrameLines {
     pub spans: Vec<SiteSpan>,
     pub lines: Vec<u32>,
-    /// How many sites frames have needed, by the first of them: frames of one scope need about as many.
+    /// How many sites the last frame of a scope has needed, by the first of them: the next one needs about as many.
     pub needed: Vec<u32>,
     pub ghost within: { ArePlacesWithin spans.items (length lines.items) },
     pub ghost apart: { ArePlacesApart spans.items },
@@ -87,12 +87,13 @@ impl FrameLines {
     {
         let span = self.spans[frame as usize];
         if let Some(index) = index_in(span, u64::from(site)) {
+            note_needed(&mut self.needed, span.first, sites_upto(span.first, site))?;
             return Ok(index);
         }
-        let expected = needed_from(&self.needed, span.first);
+        let expected = take_needed(&mut self.needed, span);
         let wider = wider_span(span, site, expected, self.lines.len())?;
         let offset = site - wider.first;
-        note_needed(&mut self.needed, wider.first, offset.saturating_add(1))?;
+        note_needed(&mut self.needed, wider.first, sites_upto(wider.first, site))?;
         copy_lines(&mut self.lines, span, wider.first, wider.count)?;
         self.spans[frame as usize] = wider;
         Ok(wider.start as usize + offset as usize)
@@ -193,9 +194,25 @@ fn copy_lines(
     Ok(())
 }
 
-/// How many sites a frame whose sites begin at a first one is expected to need.
-fn needed_from(needed: &[u32], first: u32) -> u32 {
-    needed.get(first as usize).copied().unwrap_or(0)
+/// How many sites there are from a first one up to a site.
+fn sites_upto(first: u32, site: u32) -> u32 {
+    site.saturating_sub(first).saturating_add(1)
+}
+
+/// How many sites a frame that has none yet is expected to need: as many as the one before it. What it needs itself is counted
+/// from here on.
+fn take_needed(needed: &mut Vec<u32>, span: SiteSpan) -> u32 {
+    if span.count > 0 {
+        return 0;
+    }
+    match needed.get_mut(span.first as usize) {
+        Some(count) => {
+            let expected = *count;
+            *count = 0;
+            expected
+        }
+        None => 0,
+    }
 }
 
 /// Notes how many sites a frame needs whose sites begin at a first one.
