@@ -32,8 +32,7 @@ impl<'t, 's> Engine<'t, 's> {
         }
         // A tree has a root, as `len` says: the literal is known.
         let _nodes = tree.len();
-        let mut rows = Vec::new(self.alloc);
-        rows.push(Row::Found(root_of_literal(site)))?;
+        let rows = [Row::Found(root_of_literal(site))];
         self.add(
             frame,
             site,

@@ -1,4 +1,4 @@
-use Rattle.std.proofs.Common.{refl, sym, ap, ◌∙◌, [], ◌∷◌, ◌++◌}
+use Rattle.std.proofs.Common.{refl, sym, ap, ◌∙◌, [], ◌∷◌}
 use Rattle.std.proofs.lemmas.Result.{IfOk-weaker}
 use Rattle.evidence_lines.specs.declared.line.LineKind.TheVariants as kind
 use Rattle.evidence_lines.specs.declared.line.Outcome.TheVariants as says
@@ -21,7 +21,7 @@ pub add-requires-clause-adds : goal.add-requires-clause-adds
 add-requires-clause-adds c =
     adds-literal (see_engine c.args.self.now) c.requires.whole c.args.frame c.args.site c.args.tree.now c.new.result.items c.new-2.result c.requires.stands c.len-nodes.ensures.tree
     c.new.ensures.items
-    (c.new-2.ensures ∙ c.deref.ensures.value ∙ c.in_ok-push.ensures.items ∙ ap (λ xs. xs ++ Found c.root_of_literal.result ∷ []) c.new-rows.ensures.items ∙ ap (λ r. Found r ∷ []) c.root_of_literal.ensures)
+    (c.new-2.ensures ∙ ap (λ r. Found r ∷ []) c.root_of_literal.ensures)
 
 pub returns : goal.returns
 returns c =
