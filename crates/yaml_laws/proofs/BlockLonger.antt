@@ -329,3 +329,79 @@ block_longer parent size most (l ∷ m ∷ ls) (x, y, z) h =
     (λ e b.
     let s = digit_longer (begins_with 62 l.bytes) parent (head_of l.bytes).chomp size most (head_of l.bytes).digit (m ∷ ls) z (sym (on_lines parent most l (m ∷ ls) (head_of l.bytes) refl e b) ∙ h) in
     inl (s.0, s.1, λ other. let t = s.2 other in (t.0, t.1, on_lines parent other l (glue (m ∷ ls) (rest_of size s.0 ∷ [])) (head_of l.bytes) refl e b ∙ t.2)))
+
+-- ---- below a wide blank line
+
+-- the last of the lines begins at a place and has these bytes
+abbrev pub IsLastLine : ℕ → List ℕ → List Line → Type 0
+IsLastLine p f [] = ⊥
+IsLastLine p f (l ∷ []) = (l.at ≡ p) × (l.bytes ≡ f)
+IsLastLine p f (l ∷ m ∷ ls) = IsLastLine p f (m ∷ ls)
+
+-- one or two dashes or dots, and those that a mark lacks
+abbrev pub IsTorn : List ℕ → List ℕ → Type 0
+IsTorn f v = (d : ℕ) × ((nat_eq d 45 || nat_eq d 46) ≡ true) × (((f ≡ d ∷ []) × (v ≡ d ∷ d ∷ [])) ⊎ ((f ≡ d ∷ d ∷ []) × (v ≡ d ∷ [])))
+
+-- with those, a scalar of nothing but blank lines ends before the mark
+abbrev pub EndsTorn : (ℕ → List Line → Outcome) → ℕ → List Line → Type 0
+EndsTorn F size ls = (p : ℕ) × (f v : List ℕ) × IsLastLine p f ls × IsTorn f v × ((other : ℕ) → (t : List ℕ) × (F other (glue ls (rest_of size v ∷ [])) ≡ Stands t p))
+
+torn_part : (f : List ℕ) → IsPart f → (v : List ℕ) × IsTorn f v × (is_blank (f ++ v) ≡ false) × (is_mark (f ++ v) ≡ true)
+torn_part f (d, h, inl e) = (d ∷ d ∷ [], (d, h, inl (e, refl)), ap (λ t. is_blank (t ++ (d ∷ d ∷ []))) e ∙ grind (arith, nat_tests, h), ap (λ t. is_mark (t ++ (d ∷ d ∷ []))) e ∙ grind (arith, nat_tests, h))
+torn_part f (d, h, inr e) = (d ∷ [], (d, h, inr (e, refl)), ap (λ t. is_blank (t ++ (d ∷ []))) e ∙ grind (arith, nat_tests, h), ap (λ t. is_mark (t ++ (d ∷ []))) e ∙ grind (arith, nat_tests, h))
+
+-- the lines, and where the blank ones end
+abbrev IsTornLines : ℕ → ℕ → ℕ → List Line → Type 0
+IsTornLines above w size ls =
+    (p : ℕ) × (f v : List ℕ) × IsLastLine p f ls × IsTorn f v × (inner_of above w (glue ls (rest_of size v ∷ [])) ≡ Nothing)
+    × ((chomp : Chomp) (other e : ℕ) → (t : List ℕ) × (blank_more chomp other (glue ls (rest_of size v ∷ [])) e ≡ Stands t p))
+
+torn_lines : (above w size : ℕ) (ls : List Line) → Ends size false ls → inner_of above w ls ≡ Wide size → IsTornLines above w size ls
+torn_lines above w size [] x h = absurd x
+torn_lines above w size (l ∷ []) (x, y, z) h = cases (is_blank l.bytes) (λ b. absurd (let e : Nothing ≡ Wide size = sym (over_blank above w l [] b) ∙ h in cc)) (λ b.
+    let f = first_wide above w size l (sym (over_first above w l [] b) ∙ h) in
+    let s = f.3 in
+    let p = torn_part l.bytes (shown_part l.bytes b f.0 z (omega (arith, s, x))) in (
+      l.at,
+      l.bytes,
+      p.0,
+      (refl, refl),
+      p.1,
+      over_first above w (joint l (rest_of size p.0)) [] p.2 ∙ first_mark above w (joint l (rest_of size p.0)) p.3,
+      (λ chomp other e. (ending chomp None e, ap (λ q. cond q (blank_more chomp other [] (count_break false e)) (Stands (ending chomp None e) l.at)) p.2)),
+    ))
+torn_lines above w size (l ∷ m ∷ ls) (x, y, z) h =
+    cases (is_blank l.bytes)
+    (λ b.
+    let s = torn_lines above (widest w (indent l.bytes)) size (m ∷ ls) z (sym (over_blank above w l (m ∷ ls) b) ∙ h) in (
+      s.0,
+      s.1,
+      s.2,
+      s.3,
+      s.4,
+      over_blank above w l (glue (m ∷ ls) (rest_of size s.2 ∷ [])) b ∙ s.5,
+      (λ chomp other e.
+          let t = s.6 chomp other (count_break l.broken e) in
+          (t.0, ap (λ q. cond q (blank_more chomp other (glue (m ∷ ls) (rest_of size s.2 ∷ [])) (count_break l.broken e)) (Stands (ending chomp None e) l.at)) b ∙ t.1)),
+    ))
+    (λ b. absurd (let f = (first_wide above w size l (sym (over_first above w l (m ∷ ls) b) ∙ h)).3 in let s = shown_fits l.bytes in omega (arith, f, s, x)))
+
+digit_torn : (folded : Bool) (parent : ℤ) (chomp : Chomp) (size most : ℕ) (digit : Option ℕ) (ls : List Line) → Ends size false ls → by_digit folded parent chomp most digit ls ≡ Fails size → EndsTorn (λ n ms. by_digit folded parent chomp n digit ms) size ls
+digit_torn folded parent chomp size most (Some d) ls x h = absurd (content_not folded chomp (base_of parent + d) size most ls [] None 0 x h)
+digit_torn folded parent chomp size most None ls x h = by_in (inner_of (above_of parent) 0 ls) refl h where
+  by_in : (o : Inner) → inner_of (above_of parent) 0 ls ≡ o → by_inner folded chomp most o ls ≡ Fails size → EndsTorn (λ n ms. by_digit folded parent chomp n None ms) size ls
+  by_in Nothing e h = let s = blank_all chomp most ls 0 in absurd (stands_not s.0 s.1 size (sym s.2 ∙ h))
+  by_in (Wide at) e h =
+      let v = torn_lines (above_of parent) 0 size ls x (e ∙ ap Wide (fails_at at size h)) in
+      (v.0, v.1, v.2, v.3, v.4, λ other. let t = v.6 chomp other 0 in (t.0, ap (λ o. by_inner folded chomp other o (glue ls (rest_of size v.2 ∷ []))) v.5 ∙ t.1))
+  by_in (Indented i) e h = absurd (content_not folded chomp i size most ls [] None 0 x h)
+
+-- where a block scalar fails at the text's end below its header, and no carriage return ends the text, the last line is one or two dashes or dots, which with those that lack end the scalar
+pub block_torn : (parent : ℤ) (size most : ℕ) (l m : Line) (ls : List Line) → Ends size false (l ∷ m ∷ ls) → block_on parent most (l ∷ m ∷ ls) ≡ Fails size → EndsTorn (block_on parent) size (l ∷ m ∷ ls)
+block_torn parent size most l m ls (x, y, z) h =
+    block_cases l
+    (λ n e. absurd (let k = early parent most size l (m ∷ ls) n e h in omega (arith, k, x)))
+    (λ e b. absurd (let k : false ≡ true = sym b ∙ y in cc))
+    (λ e b.
+    let s = digit_torn (begins_with 62 l.bytes) parent (head_of l.bytes).chomp size most (head_of l.bytes).digit (m ∷ ls) z (sym (on_lines parent most l (m ∷ ls) (head_of l.bytes) refl e b) ∙ h) in
+    (s.0, s.1, s.2, s.3, s.4, λ other. let t = s.5 other in (t.0, on_lines parent other l (glue (m ∷ ls) (rest_of size s.2 ∷ [])) (head_of l.bytes) refl e b ∙ t.1)))

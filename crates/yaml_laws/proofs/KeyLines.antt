@@ -84,7 +84,7 @@ quoted_longer text y at l =
     let some : 0 < length (drop at text) = omega (arith, l, length-drop at text) in
     ap begins_quoted (drop_before at text y (omega (arith, l))) ∙ ap (λ q. q || begins_with 39 (drop at text ++ y)) (begins_longer 34 (drop at text) y some) ∙ ap (λ q. begins_with 34 (drop at text) || q) (begins_longer 39 (drop at text) y some)
 
-ends_past : (n : ℕ) (f : List ℕ) → ends_with 13 f ≡ false → ends_with 13 (drop n f) ≡ false
+pub ends_past : (n : ℕ) (f : List ℕ) → ends_with 13 f ≡ false → ends_with 13 (drop n f) ≡ false
 ends_past zero f h = h
 ends_past (suc n) [] h = refl
 ends_past (suc n) (b ∷ []) h = ends_past n [] refl

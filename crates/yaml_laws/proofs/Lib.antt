@@ -3,12 +3,14 @@ pub mod AgreeLess
 pub mod BlockFed
 pub mod BlockHeads
 pub mod BlockLaw
-mod BlockLonger
+pub mod BlockLonger
 pub mod BlockShown
 mod BlockStays
 pub mod EscapeLonger
 mod EscapeWanted
 mod Examples
+mod FlowFed
+pub mod KeyGrown
 pub mod KeyLines
 pub mod KeyReturned
 pub mod LineEnds
@@ -32,6 +34,7 @@ mod QuotedFollowed
 pub mod QuotedLaw
 pub mod QuotedLonger
 mod QuotedStays
+pub mod Returns
 pub mod ScalarEnds
 pub mod ScalarFollowed
 pub mod ScalarLaw

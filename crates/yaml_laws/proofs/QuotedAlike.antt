@@ -28,7 +28,7 @@ far_cond n true p r h g = h
 far_cond n false p r h g = g
 
 -- alike, or far
-abbrev IsAlike : ℕ → Piece → Piece → Type 0
+abbrev pub IsAlike : ℕ → Piece → Piece → Type 0
 IsAlike n p q = (p ≡ q) ⊎ IsFar n p
 
 alike_cond : (n : ℕ) (b : Bool) (p q r s : Piece) → IsAlike n p q → IsAlike n r s → IsAlike n (cond b p r) (cond b q s)

@@ -8,6 +8,8 @@ use Rattle.yaml_scalars.specs.Scalar.{begins_quoted, begins_block, plain_scalar,
 use Rattle.yaml_scalars.specs.code.Walk.{line_at, has_break, behind}
 use Rattle.yaml_laws.specs.code.Endings.{last_mark}
 use Rattle.yaml_laws.proofs.Agree.{drop_before}
+use Rattle.yaml_laws.proofs.FlowFed.{plain_fed}
+use Rattle.yaml_laws.proofs.KeyLines.{ends_past}
 use Rattle.yaml_laws.proofs.Longer.{no_feed}
 use Rattle.yaml_laws.proofs.PlainClosed.{plain_closed}
 use Rattle.yaml_laws.proofs.PlainEnds.{plain_unmarked}
@@ -109,3 +111,13 @@ flow_closed s text c tail at t flow mark one low h =
     (λ q b g.
     let last = plain_unmarked s text at t (omega (arith, low)) g in
     ap (λ w. plain_scalar w (text ++ (c ∷ tail)) at) is ∙ plain_closed c tail mark s.parent s.one_line text at t (length text) (feed_none tail one) (omega (arith, low)) last (sym (ap (λ w. plain_scalar w text at) is) ∙ g)) h
+
+-- one with a further line behind the text, which begins with such a mark
+pub flow_fed : (s : Setting) (text : List ℕ) (c : ℕ) (tail : List ℕ) (at : ℕ) (t : List ℕ) (e : ℕ) → s.flow ≡ true → is_flow_mark c ≡ true → ends_with 13 text ≡ false → at < length text → e ≤ length text → scalar_at s text at ≡ Stands t e → scalar_at s (text ++ (10 ∷ c ∷ tail)) at ≡ Stands t e
+flow_fed s text c tail at t e flow mark last low near h =
+    let is = in_flow s flow in
+    let apart : (ends_with 13 (drop at text) && true) ≡ false = ap (λ q. q && true) (ends_past at text last) in
+    kind_longer s text (10 ∷ c ∷ tail) at (Stands t e) (Stands t e) low
+    (λ q g. quoted_longer_text s text (10 ∷ c ∷ tail) at t e (omega (arith, low)) near refl apart g)
+    (λ q b g. absurd (no_flow_block s (drop at text) flow b))
+    (λ q b g. ap (λ w. plain_scalar w (text ++ (10 ∷ c ∷ tail)) at) is ∙ plain_fed c mark s.parent s.one_line text tail at t e (omega (arith, low)) last (sym (ap (λ w. plain_scalar w text at) is) ∙ g)) h

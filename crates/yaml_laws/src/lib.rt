@@ -9,6 +9,7 @@ mod scalars;
 
 pub use escape::wanted_digits;
 pub use scalars::{
-    block_fed, flow_closed, flow_followed, header_ended, key_fed, key_followed, key_returned,
-    same_scalar, scalar_ended, scalar_fed, scalar_pointed, syntax_place,
+    block_fed, flow_closed, flow_fed, flow_followed, header_ended, key_fed, key_followed,
+    key_lengthened, key_returned, return_free, same_scalar, scalar_ended, scalar_fed,
+    scalar_pointed, syntax_place,
 };

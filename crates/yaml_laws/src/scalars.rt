@@ -1,12 +1,12 @@
 //! Scalars: the places of refusals, and texts that begin alike.
-ghost use Rattle.std.specs.Prelude.{ℕ, List, [], ◌∷◌, ◌++◌, ◌≡◌, ◌⊎◌, ◌<◌, ◌≤◌, ◌+◌, true, false, length, drop};
-ghost use Rattle.yaml_scalars.specs.Lines.{Fails, Stands, ends_with, is_blank};
+ghost use Rattle.std.specs.Prelude.{ℕ, suc, List, [], ◌∷◌, ◌++◌, ◌≡◌, ◌⊎◌, ◌<◌, ◌≤◌, ◌+◌, true, false, length, drop};
+ghost use Rattle.yaml_scalars.specs.Lines.{Fails, Stands, begins_with, ends_with, is_blank};
 ghost use Rattle.yaml_scalars.specs.Plain.{is_flow_mark, is_unsafe};
 ghost use Rattle.yaml_scalars.specs.code.Walk.{ends_line, line_at, has_break, behind};
 ghost use Rattle.yaml_scalars.specs.Scalar.{begins_block, begins_quoted, scalar_at};
 ghost use Rattle.yaml_laws.specs.code.Agreement.{AgreesTo, scalar_shown};
 ghost use Rattle.yaml_laws.specs.code.Endings.{last_mark, further_line, IsKeyEnd};
-ghost use Rattle.yaml_laws.specs.code.Refusals.{IsEndedBy, IsSyntax};
+ghost use Rattle.yaml_laws.specs.code.Refusals.{IsEndedBy, IsLengthened, IsSyntax};
 
 use yaml_scalars::Setting;
 
@@ -43,6 +43,13 @@ pub fn flow_followed(text: &str, at: usize, setting: Setting)
 pub fn flow_closed(text: &str, at: usize, setting: Setting)
     requires { at < length text.now }
     ensures { (mark : ℕ) (more scalar : List ℕ) → setting.flow ≡ true → is_flow_mark mark ≡ true → has_break more ≡ false → scalar_at setting text.now at ≡ Stands scalar (length text.now) → scalar_at setting (text.now ++ (mark ∷ more)) at ≡ Stands scalar (length text.now) }
+{}
+
+/// A scalar in flow stands, with the same text and end, where behind the text stands a further line that begins with a bracket
+/// or a comma, if no carriage return ends the text. The call itself does nothing.
+pub fn flow_fed(text: &str, at: usize, setting: Setting)
+    requires { at < length text.now }
+    ensures { (mark : ℕ) (more scalar : List ℕ) (end : ℕ) → setting.flow ≡ true → is_flow_mark mark ≡ true → ends_with 13 text.now ≡ false → end ≤ length text.now → scalar_at setting text.now at ≡ Stands scalar end → scalar_at setting (text.now ++ (10 ∷ mark ∷ more)) at ≡ Stands scalar end }
 {}
 
 /// Where a quoted scalar, or a plain one whose text does not end in a carriage return, fails at the text's length, some more
@@ -93,4 +100,17 @@ pub fn key_fed(text: &str, at: usize, setting: Setting)
 pub fn key_returned(front: &str, at: usize, setting: Setting)
     requires { at < length front.now }
     ensures { setting.one_line ≡ true → begins_quoted (drop at (front.now ++ (13 ∷ []))) ≡ false → scalar_at setting (front.now ++ (13 ∷ [])) at ≡ Fails (length (front.now ++ (13 ∷ []))) → (scalar : List ℕ) × (size : ℕ) × (scalar_at setting front.now at ≡ Stands scalar (at + size)) × (at + size ≤ length front.now) × IsKeyEnd (drop (at + size) front.now) }
+{}
+
+/// A scalar ends before a carriage return that is in no break, if it begins before it. The call itself does nothing.
+pub fn return_free(text: &str, at: usize, setting: Setting)
+    ensures { (place : ℕ) (scalar : List ℕ) (end : ℕ) → at ≤ place → begins_with 13 (drop place text.now) ≡ true → begins_with 10 (drop (suc place) text.now) ≡ false → scalar_at setting text.now at ≡ Stands scalar end → end ≤ place }
+{}
+
+/// Where a key fails at the end of a text that no carriage return ends, some more bytes of ASCII complete it so that it ends
+/// with them, and its text has as many bytes as is wanted, or more: so it can be another than any so far. The call itself does
+/// nothing.
+pub fn key_lengthened(text: &str, at: usize, setting: Setting)
+    requires { at < length text.now }
+    ensures { (size : ℕ) → setting.one_line ≡ true → ends_with 13 text.now ≡ false → scalar_at setting text.now at ≡ Fails (length text.now) → IsLengthened setting text.now at size }
 {}

@@ -21,6 +21,11 @@ abbrev pub spaces : ℕ → List ℕ
 spaces zero = []
 spaces (suc n) = 32 ∷ spaces n
 
+-- so many letters a
+abbrev pub letters : ℕ → List ℕ
+letters zero = []
+letters (suc n) = 97 ∷ letters n
+
 -- a line over which a plain scalar goes on: the letter a at the least indentation
 abbrev pub further_line : Setting → List ℕ
 further_line s = spaces (above_of s.parent) ++ (97 ∷ [])

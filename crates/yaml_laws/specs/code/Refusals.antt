@@ -1,5 +1,5 @@
 -- Where it shows that no scalar stands at a place, said by what texts agree with a text.
-use Rattle.std.specs.Prelude.{ℕ, ◌≡◌, ◌⊎◌, Bool, true, List, ◌∷◌, ◌++◌, length, drop, nat_lt}
+use Rattle.std.specs.Prelude.{ℕ, ◌≡◌, ◌≤◌, ◌⊎◌, Bool, true, List, ◌∷◌, ◌++◌, length, drop, nat_lt}
 use Rattle.yaml_scalars.specs.declared.scalar.Setting.{Setting}
 use Rattle.yaml_scalars.specs.Lines.{Stands, ends_with, each}
 use Rattle.yaml_scalars.specs.Scalar.{begins_quoted, scalar_at}
@@ -22,6 +22,10 @@ abbrev pub IsEndedBy : Setting → List ℕ → ℕ → Type 0
 IsEndedBy s text at =
     (more scalar : List ℕ) × (each is_ascii more ≡ true) × (scalar_at s (text ++ more) at ≡ Stands scalar (length (text ++ more)))
     × ((begins_quoted (drop at text) ≡ true) ⊎ (ends_with 97 scalar ≡ true))
+
+-- the same of a key, whose text has at least so many bytes
+abbrev pub IsLengthened : Setting → List ℕ → ℕ → ℕ → Type 0
+IsLengthened s text at size = (more scalar : List ℕ) × (each is_ascii more ≡ true) × (scalar_at s (text ++ more) at ≡ Stands scalar (length (text ++ more))) × (size ≤ length scalar)
 
 -- a place of a refusal: such a one, or the length of a text that ends too early
 abbrev pub IsSyntax : Setting → List ℕ → ℕ → ℕ → Type 0
