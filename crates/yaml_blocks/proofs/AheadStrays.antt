@@ -56,10 +56,10 @@ token_content flow (b ∷ bs) e =
     content_cond (nat_eq b 91) (Opens false) (cond (nat_eq b 123) (Opens true) inner) tt (content_cond (nat_eq b 123) (Opens true) inner tt (inner_content flow b bs e))
 
 -- a line whose content begins with a `#` or a carriage return
-abbrev IsStray : List ℕ → Type 0
+abbrev pub IsStray : List ℕ → Type 0
 IsStray xs = (begins_with 35 (past_white xs) || begins_with 13 (past_white xs)) ≡ true
 
-token_stray : (flow : Bool) (xs : List ℕ) → token_of flow (past_white xs) ≡ Stray → IsStray xs
+pub token_stray : (flow : Bool) (xs : List ℕ) → token_of flow (past_white xs) ≡ Stray → IsStray xs
 token_stray flow xs h = by_test (begins_with 35 (past_white xs) || begins_with 13 (past_white xs)) refl where
   by_test : (q : Bool) → (begins_with 35 (past_white xs) || begins_with 13 (past_white xs)) ≡ q → q ≡ true
   by_test true e = refl

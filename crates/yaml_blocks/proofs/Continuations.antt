@@ -133,11 +133,11 @@ colon_completes m fs x xs done text i t e low fresh column h before within white
 
 -- ---- a scalar that ends with the text
 
-value_of : (cut : Bool) (d : ℕ) (k : Kind) (t : List ℕ) (key : Option (List ℕ)) (at j : ℕ) → (cut ≡ true → d < 128) → (l : Label) × (kids : Forest) × IsValue cut d k t key at j l kids (To j)
+pub value_of : (cut : Bool) (d : ℕ) (k : Kind) (t : List ℕ) (key : Option (List ℕ)) (at j : ℕ) → (cut ≡ true → d < 128) → (l : Label) × (kids : Forest) × IsValue cut d k t key at j l kids (To j)
 value_of false d k t key at j f = (leaf k t key at, Nil, (refl, refl, refl))
 value_of true d k t key at j f = (collection false key at, Node (leaf kind.Text (before_first is_dot t) None at) Nil (Node (leaf kind.Text (after_first is_dot t) None at) Nil Nil), inl (f refl, refl, refl, refl))
 
-node_of : (text : List ℕ) (f : Form) (d : ℕ) (key : Option (List ℕ)) (l : Label) (kids : Forest) (i : ℕ) (r : Reach) → MayBegin f (ahead text (in_flow f) i) → IsScalar text (setting_of f) (follows_get_att text f i) d (ahead text (in_flow f) i) key l kids r → IsNode text (Spells text kids) f d key l kids i r
+pub node_of : (text : List ℕ) (f : Form) (d : ℕ) (key : Option (List ℕ)) (l : Label) (kids : Forest) (i : ℕ) (r : Reach) → MayBegin f (ahead text (in_flow f) i) → IsScalar text (setting_of f) (follows_get_att text f i) d (ahead text (in_flow f) i) key l kids r → IsNode text (Spells text kids) f d key l kids i r
 node_of text Root d key l kids i r b h = inl (b tt, inl h)
 node_of text (Flow map) d key l kids i r b h = inr (inl h)
 node_of text (FlowTagged at) d key l kids i r b h = inr (inl h)

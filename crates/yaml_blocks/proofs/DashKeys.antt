@@ -83,16 +83,16 @@ key_stands text at n low e =
 
 -- ---- a key that none before has
 
-abbrev key_size : Option (List ℕ) → ℕ
+abbrev pub key_size : Option (List ℕ) → ℕ
 key_size None = 0
 key_size (Some k) = length k
 
 -- all keys together
-abbrev all_sizes : Forest → ℕ
+abbrev pub all_sizes : Forest → ℕ
 all_sizes Nil = 0
 all_sizes (Node l kids rest) = key_size l.key + all_sizes rest
 
-fresh_key : (before : Forest) (k : List ℕ) → all_sizes before < length k → has_key before k ≡ false
+pub fresh_key : (before : Forest) (k : List ℕ) → all_sizes before < length k → has_key before k ≡ false
 fresh_key Nil k l = refl
 fresh_key (Node m kids rest) k l = by_key m.key l (λ g. fresh_key rest k g) where
   not_same : (j k : List ℕ) → length j < length k → bytes_eq j k ≡ false

@@ -25,7 +25,7 @@ parted (x ∷ xs) zero l = ([], xs, x, refl, refl)
 parted (x ∷ xs) (suc n) l = let r = parted xs n (omega (arith, l)) in (x ∷ r.0, r.1, r.2, ap (λ t. x ∷ t) r.3, ap suc r.4)
 
 -- of two fronts of a text the longer one goes on behind the other
-front_more : (before a behind z : List ℕ) (b c : ℕ) → before ++ (b ∷ behind) ≡ a ++ (c ∷ z) → length before ≤ length a → (w : List ℕ) × (a ++ (c ∷ []) ≡ (before ++ (b ∷ [])) ++ w)
+pub front_more : (before a behind z : List ℕ) (b c : ℕ) → before ++ (b ∷ behind) ≡ a ++ (c ∷ z) → length before ≤ length a → (w : List ℕ) × (a ++ (c ∷ []) ≡ (before ++ (b ∷ [])) ++ w)
 front_more [] [] behind z b c e l = ([], ap (λ x. x ∷ []) (sym (head_same b c behind z e)))
 front_more [] (y ∷ ys) behind z b c e l = (ys ++ (c ∷ []), ap (λ x. x ∷ (ys ++ (c ∷ []))) (sym (head_same b y behind (ys ++ (c ∷ z)) e)))
 front_more (x ∷ xs) [] behind z b c e l = absurd (omega (arith, l))
@@ -34,7 +34,7 @@ front_more (x ∷ xs) (y ∷ ys) behind z b c e l =
     (r.0, ap (λ t. y ∷ t) r.1 ∙ ap (λ q. q ∷ ((xs ++ (b ∷ [])) ++ r.0)) (sym (head_same x y (xs ++ (b ∷ behind)) (ys ++ (c ∷ z)) e)))
 
 -- what begins with a longer front begins with a shorter one
-front_less : (front w : List ℕ) → IsFront (front ++ w) → IsFront front
+pub front_less : (front w : List ℕ) → IsFront (front ++ w) → IsFront front
 front_less front w (more, tree, utf8, h) = (w ++ more, tree, subst IsUtf8 (append_assoc front w more) utf8, subst (λ t. IsYaml t tree) (append_assoc front w more) h)
 
 -- ---- dead places

@@ -18,7 +18,8 @@ use Rattle.yaml_blocks.specs.Signs.{Sign, ManyDocuments, Reach, To, Shows, Tree,
 use Rattle.yaml_blocks.specs.Yaml.{Spells}
 use Rattle.yaml_blocks.specs.code.AheadSeen.{is_told}
 use Rattle.yaml_blocks.specs.code.Rest.{top, Over, Ends}
-use Rattle.yaml_blocks.specs.code.Steps.{Nests, IsBlock, Open, Missed}
+use Rattle.yaml_blocks.specs.code.Twins.{IsStill}
+use Rattle.yaml_blocks.specs.code.Steps.{Nests, IsBlock, Open}
 use Rattle.yaml_blocks.proofs.FirstBytes.{begins_alike}
 use Rattle.yaml_blocks.proofs.FirstTokens.{Begun, first_byte, first_plain, first_told, first_mark, is_shut, shut_scalar, ends_word, flow_word, word_comma, word_closes, dash_byte}
 use Rattle.yaml_blocks.proofs.Quiet.{IsQuiet, AreQuiet, line_quiet, deep_quiet, entry_quiet}
@@ -28,20 +29,11 @@ use Rattle.yaml_blocks.proofs.Rests.{closes, no_scalar, marked_word}
 -- ---- no further entry
 
 module _ (text : List ℕ) where
-  -- no further entry of a block begins at a token; a sign may
-  abbrev pub IsStill : Ahead → Form → Type 0
-  IsStill a Root = ⊥
-  IsStill a (Flow map) = ⊥
-  IsStill a (FlowTagged at) = ⊥
-  IsStill a (Items m) = a.fresh ≡ true → a.column ≡ m → a.token ≡ Dash → ⊥
-  IsStill a (Entries m) = a.fresh ≡ true → a.column ≡ m → Missed text (as_key false) a
-  IsStill a (Tagged at ab sh) = Unit {0}
-
   abbrev pub AreStill : Ahead → List Form → Type 0
   AreStill a [] = Unit {0}
-  AreStill a (f ∷ fs) = IsStill a f × AreStill a fs
+  AreStill a (f ∷ fs) = IsStill text a f × AreStill a fs
 
-  quiet_still : (a : Ahead) (f : Form) → IsQuiet text a f → IsStill a f
+  quiet_still : (a : Ahead) (f : Form) → IsQuiet text a f → IsStill text a f
   quiet_still a Root q = q
   quiet_still a (Flow m) q = q
   quiet_still a (FlowTagged m) q = q
@@ -53,7 +45,7 @@ module _ (text : List ℕ) where
   quiets_still a [] q = tt
   quiets_still a (f ∷ fs) q = (quiet_still a f q.0, quiets_still a fs q.1)
 
-  rest_still : (g : Forest) (f : Form) (d : ℕ) (before : Forest) (i : ℕ) (r : Reach) → IsStill (ahead text false i) f → Spells text g f d false before i r → ((g ≡ Nil) × (r ≡ To i)) ⊎ ((s : Sign) × (r ≡ Shows s))
+  rest_still : (g : Forest) (f : Form) (d : ℕ) (before : Forest) (i : ℕ) (r : Reach) → IsStill text (ahead text false i) f → Spells text g f d false before i r → ((g ≡ Nil) × (r ≡ To i)) ⊎ ((s : Sign) × (r ≡ Shows s))
   rest_still g Root d before i r q sp = absurd q
   rest_still g (Flow m) d before i r q sp = absurd q
   rest_still g (FlowTagged m) d before i r q sp = absurd q
@@ -79,6 +71,13 @@ module _ (text : List ℕ) where
     by_reach r (inl (eg, er)) en next = next (closes text g fs x xs done i r (Tree t) eg er en)
     by_reach (Shows s) (inr k) en next = absurd (tree_refused t s en)
     by_reach (To j) (inr (s, k)) en next = absurd (cc)
+
+  pub still_pop : (f : Form) (fs : List Form) (x : Level) (xs : List Level) (done : Forest) (i : ℕ) (t : Forest) → IsStill text (ahead text false i) f → Ends text (f ∷ fs) (x ∷ xs) done i (Tree t) → Ends text fs xs (snoc x.before x.label done) i (Tree t)
+  still_pop f fs x xs done i t q (g, r, sp, en) = by_reach r (rest_still g f (suc (length xs)) done i r q sp) en where
+    by_reach : (r : Reach) → ((g ≡ Nil) × (r ≡ To i)) ⊎ ((s : Sign) × (r ≡ Shows s)) → Then r (λ k. Ends text fs xs (snoc x.before x.label (joined done g)) k (Tree t)) (λ s. Tree t ≡ Refused s) → Ends text fs xs (snoc x.before x.label done) i (Tree t)
+    by_reach r (inl (eg, er)) en = closes text g fs x xs done i r (Tree t) eg er en
+    by_reach (Shows s) (inr k) en = absurd (tree_refused t s en)
+    by_reach (To j) (inr (s, k)) en = absurd (cc)
 
   no_over : (g : Forest) (i : ℕ) (t : Forest) → ((ahead text false i).token ≡ End → ⊥) → ((ahead text false i).token ≡ Dots → ⊥) → Over text g i (Tree t) → ⊥
   no_over g i t e d (inl (inl h, k)) = e h

@@ -22,15 +22,18 @@ use Rattle.yaml_blocks.specs.Nodes.{setting_of, as_key, starts_scalar, scalar_ah
 use Rattle.yaml_blocks.specs.Blocks.{takes_scalar, takes_mapping, takes_tag}
 use Rattle.yaml_blocks.specs.Flow.{ends_key, IsColon}
 use Rattle.yaml_blocks.specs.code.AheadSeen.{ahead_seen}
+use Rattle.yaml_blocks.specs.code.Closers.{in_flow}
 use Rattle.yaml_blocks.specs.code.Steps.{IsSeen, IsBlock, IsFlow, IsBehind, NoNode, NoKey, HasKey, EndsKey, Holds, TagBegun, Opened, Closed, Completes, SameScalar, SameKey, SameNode, SameFlowNode, is_flow_ending}
-use Rattle.yaml_blocks.specs.code.Twins.{IsTwin, FixesNode, FixesFlowNode, FixesFlowKey, FixesEntry, FixesEnd, FixesSeen, FixesStep}
+use Rattle.yaml_blocks.specs.code.Twins.{IsTwin, settled, FixesNode, FixesFlowNode, FixesFlowKey, FixesEntry, FixesEnd, FixesSeen, FixesStep}
 use Rattle.yaml_blocks.proofs.AheadColons.{point_seen}
-use Rattle.yaml_blocks.proofs.AheadOrder.{seen_behind, seen_least, seen_from, seen_next}
+use Rattle.yaml_blocks.proofs.AheadOrder.{seen_behind, seen_least, seen_from}
 use Rattle.yaml_blocks.proofs.KeyEnds.{key_end}
 use Rattle.yaml_blocks.proofs.Quiet.{mapping_takes}
 use Rattle.yaml_blocks.proofs.SameTexts.{has_key_same}
+use Rattle.yaml_blocks.proofs.Settled.{settled_value, settled_after, settled_null, settled_ending, settled_at, token_reach, opening_reach}
 use Rattle.yaml_blocks.proofs.ScalarAhead.{seen_scalar}
 use Rattle.yaml_blocks.proofs.ScalarOrder.{scalar_seen}
+use Rattle.yaml_blocks.proofs.ScalarOut.{scalar_out}
 use Rattle.yaml_blocks.proofs.Scalars.{missed_other}
 use Rattle.yaml_blocks.proofs.Twins.{twin_room, twin_cut, twin_name, twin_ahead, twin_quoted, twin_ahead_scalar, twin_scalar, twin_other, twin_cuts}
 
@@ -65,14 +68,8 @@ module _ (text : List ℕ) (flow : Bool) (i : ℕ) (a : Ahead) (seen : IsSeen te
   pub scalar_all : scalar_shown s text a.at e ≤ ahead_seen text e
   scalar_all = scalar_seen s text a.at t e (let l = last.0 in omega (arith, low, l)) last.0 (starts_of text s a t e st).1
 
--- a token that has a length, and is no mark
-module _ (text : List ℕ) (flow : Bool) (i : ℕ) (a : Ahead) (seen : IsSeen text flow i a) (m : is_marked a.token ≡ false) (l : 0 < token_len a.token) where
-  token_from : ahead_seen text i ≤ ahead_seen text a.behind
-  token_from = subst (λ (b : Ahead). ahead_seen text i ≤ ahead_seen text b.behind) (sym seen.0) (seen_next text flow i a.token (sym (ap (λ (b : Ahead). b.token) seen.0)) m l (subst (λ (b : Ahead). b.behind ≤ length text) seen.0 seen.1.2.0))
-
-  token_to : a.behind ≤ ahead_seen text a.behind
-  token_to = seen_least text a.behind seen.1.2.0
-
+-- a token that has a length
+module _ (text : List ℕ) (flow : Bool) (i : ℕ) (a : Ahead) (seen : IsSeen text flow i a) (l : 0 < token_len a.token) where
   token_over : a.at < a.behind
   token_over = let e = seen.1.3 in omega (arith, e, l)
 
@@ -93,35 +90,40 @@ node_other text place other m f i a low near o n named = record {
   key = λ tm k h. absurd (missed_other text (as_key false) a (n (mapping_takes text f a tm)) (cow_str_bytes k.text) h.0.0 h.0.1);
 }
 
-pub token_fixes : (text : List ℕ) (f : Form) (i : ℕ) (a : Ahead) → IsSeen text false i a → IsCharBoundary text i → IsBehind f i → starts_scalar a.token ≡ false → is_marked a.token ≡ false → 0 < token_len a.token → (p : Position) → p.at ≡ a.behind
+-- a token where a value may stand behind it
+pub token_fixes : (text : List ℕ) (f : Form) (i : ℕ) (a : Ahead) → IsSeen text false i a → IsCharBoundary text i → IsBehind f i → starts_scalar a.token ≡ false → is_marked a.token ≡ false → 0 < token_len a.token → (p : Position) → p.stage ≡ stage.Value → p.at ≡ a.behind
     → FixesNode text f i a (Ok p)
-token_fixes text f i a seen cut o n q l p e = λ goes place other m near.
-    let from = token_from text false i a seen q l in
-    let to = token_to text false i a seen q l in
-    let far : ahead_seen text a.behind ≤ place = subst (λ k. ahead_seen text k ≤ place) e near in
+token_fixes text f i a seen cut o n q l p es e = λ goes place other m near.
+    let from = token_reach text false i a seen q l in
+    let far = settled_value text false a.behind place seen.1.2.0 (settled_at text false p stage.Value a.behind place es e near) in
     let first = place_from text false i a seen in
     let least = seen_least text i cut.0 in
-    (omega (arith, from, far), node_other text place other m f i a (omega (arith, first, from, far)) (omega (arith, least, from, far)) o (λ h. n) (λ len tk t. (token_over text false i a seen q l, omega (arith, to, far))))
+    (omega (arith, from, far), node_other text place other m f i a (omega (arith, first, from, far)) (omega (arith, least, from, far)) o (λ h. n) (λ len tk t. (token_over text false i a seen l, far)))
 
 pub tag_fixes : (text : List ℕ) (f g : Form) (i len : ℕ) (a : Ahead) (fs gs : List Form) (u w : Unfinished) (r : Result Position Stop) → IsSeen text false i a → IsCharBoundary text i → IsBehind f i → a.token ≡ Tag len → TagBegun text g a fs u gs w r
     → FixesNode text f i a r
 tag_fixes text f g i len a fs gs u w (Err e) seen cut o t h = tt
 tag_fixes text f g i len a fs gs u w (Ok p) seen cut o t (es, ej, eg, ew, d) =
-    token_fixes text f i a seen cut o (ap starts_scalar t) (ap is_marked t) (subst (λ k. 0 < token_len k) (sym t) (omega arith)) p ej
+    token_fixes text f i a seen cut o (ap starts_scalar t) (ap is_marked t) (subst (λ k. 0 < token_len k) (sym t) (omega arith)) p es ej
 
 pub opens_fixes : (text : List ℕ) (f : Form) (i : ℕ) (map : Bool) (a : Ahead) (fs gs : List Form) (u w : Unfinished) (r : Result Position Stop) → IsSeen text false i a → IsCharBoundary text i → IsBehind f i → a.token ≡ Opens map → Opened map a fs u gs w r
     → FixesNode text f i a r
 opens_fixes text f i map a fs gs u w (Err e) seen cut o t h = tt
-opens_fixes text f i map a fs gs u w (Ok p) seen cut o t (es, ej, eg, ew, d) =
-    token_fixes text f i a seen cut o (ap starts_scalar t) (ap is_marked t) (subst (λ k. 0 < token_len k) (sym t) (omega arith)) p ej
+opens_fixes text f i map a fs gs u w (Ok p) seen cut o t (es, ej, eg, ew, d) = λ goes place other m near.
+    let far = opening_reach text false i a seen (Opens map) place t refl (settled_at text false p stage.Entry a.behind place es ej near) in
+    let least = seen_least text i cut.0 in
+    let from = far.0 in
+    (from, node_other text place other m f i a far.1 (omega (arith, least, from)) o (λ h. ap starts_scalar t) (λ len tk z. absurd (no_tag map len (sym t ∙ z)))) where
+      no_tag : (map : Bool) (len : ℕ) → Opens map ≡ Tag len → ⊥
+      no_tag map len z = absurd (cc)
 
-pub dash_fixes : (text : List ℕ) (f : Form) (i : ℕ) (a : Ahead) → IsSeen text false i a → IsCharBoundary text i → IsBehind f i → a.token ≡ Dash → (p : Position) → p.at ≡ a.behind → FixesNode text f i a (Ok p)
-dash_fixes text f i a seen cut o d p e = token_fixes text f i a seen cut o (ap starts_scalar d) (ap is_marked d) (subst (λ k. 0 < token_len k) (sym d) (omega arith)) p e
+pub dash_fixes : (text : List ℕ) (f : Form) (i : ℕ) (a : Ahead) → IsSeen text false i a → IsCharBoundary text i → IsBehind f i → a.token ≡ Dash → (p : Position) → p.stage ≡ stage.Value → p.at ≡ a.behind → FixesNode text f i a (Ok p)
+dash_fixes text f i a seen cut o d p es e = token_fixes text f i a seen cut o (ap starts_scalar d) (ap is_marked d) (subst (λ k. 0 < token_len k) (sym d) (omega arith)) p es e
 
 pub missing_fixes : (text : List ℕ) (f : Form) (i : ℕ) (a : Ahead) (u w : Unfinished) (r : Result Position Stop) → IsSeen text false i a → IsCharBoundary text i → IsBehind f i → NoNode f a → Completes i u w r → FixesNode text f i a r
 missing_fixes text f i a u w (Err e) seen cut o n h = tt
 missing_fixes text f i a u w (Ok p) seen cut o n (es, ej, ew) = λ goes place other m near.
-    let far : ahead_seen text i ≤ place = subst (λ k. ahead_seen text k ≤ place) ej near in
+    let far = settled_at text false p stage.After i place es ej near in
     let first = place_from text false i a seen in
     let least = seen_least text i cut.0 in
     (far, node_other text place other m f i a (omega (arith, first, far)) (omega (arith, least, far)) o (λ h. (n.0 h).0) (λ len tk t. absurd (n.2 tk len t)))
@@ -137,15 +139,15 @@ key_twin text place other m a t e st low shown last near over = record {
 
 -- of a key with its colon
 module _ (text : List ℕ) (i : ℕ) (a : Ahead) (seen : IsSeen text false i a) (cut : IsCharBoundary text i) (t : List ℕ) (q e : ℕ) (st : scalar_ahead text (as_key false) a ≡ Stands t e) (tk : (ahead text false e).token ≡ Point true) (b : q ≡ (ahead text false e).behind) (low : a.at < e)
-    (last : IsCharBoundary text e) (end : IsCharBoundary text q) (place : ℕ) (far : ahead_seen text q ≤ place) where
+    (last : IsCharBoundary text e) (end : IsCharBoundary text q) (place : ℕ) (far : q ≤ place) where
   colon_end : (ahead text false e).behind ≤ length text
   colon_end = subst (λ n. n ≤ length text) b end.0
 
   colon_from : ahead_seen text e ≤ place
-  colon_from = let z = seen_next text false e (Point true) tk refl (omega arith) colon_end in let far2 = subst (λ n. ahead_seen text n ≤ place) b far in omega (arith, z, far2)
+  colon_from = let z = seen_behind text false e (Point true) tk refl (omega arith) in omega (arith, z, far, b)
 
   colon_over : (ahead text false e).behind ≤ place
-  colon_over = let z = seen_least text (ahead text false e).behind colon_end in let far2 = subst (λ n. ahead_seen text n ≤ place) b far in omega (arith, z, far2)
+  colon_over = omega (arith, far, b)
 
   key_from : ahead_seen text i ≤ place
   key_from = let z = scalar_from text false i a seen cut (as_key false) t e st low last in let y = scalar_to text false i a seen cut (as_key false) t e st low last in let x = colon_from in omega (arith, x, y, z)
@@ -158,11 +160,11 @@ module _ (text : List ℕ) (i : ℕ) (a : Ahead) (seen : IsSeen text false i a) 
       let all = scalar_all text false i a seen cut (as_key false) t e st low last in
       key_twin text place other m a t e st (omega (arith, first, from)) (omega (arith, all, near)) last.0 near colon_over
 
-pub key_fixes : (text : List ℕ) (f : Form) (i : ℕ) (a : Ahead) (k : Key) (p : Position) → IsSeen text false i a → IsCharBoundary text i → IsBehind f i → takes_mapping f a ≡ true → HasKey text a k → EndsKey text a → p.at ≡ k.behind → FixesNode text f i a (Ok p)
-key_fixes text f i a k p seen cut o tm ((e, st, fr, tk, b), end, over) ends pe = λ goes place other m near.
+pub key_fixes : (text : List ℕ) (f : Form) (i : ℕ) (a : Ahead) (k : Key) (p : Position) → IsSeen text false i a → IsCharBoundary text i → IsBehind f i → takes_mapping f a ≡ true → HasKey text a k → EndsKey text a → p.stage ≡ stage.Value → p.at ≡ k.behind → FixesNode text f i a (Ok p)
+key_fixes text f i a k p seen cut o tm ((e, st, fr, tk, b), end, over) ends es pe = λ goes place other m near.
     let t = cow_str_bytes k.text in
     let z = ends t e st in
-    let far : ahead_seen text k.behind ≤ place = subst (λ n. ahead_seen text n ≤ place) pe near in
+    let far = settled_value text false k.behind place end.0 (settled_at text false p stage.Value k.behind place es pe near) in
     let from = key_from text i a seen cut t k.behind e st tk b z.0 z.1 end place far in
     let alike = key_alike text i a seen cut t k.behind e st tk b z.0 z.1 end place far other m in
     let least = seen_least text i cut.0 in (
@@ -203,7 +205,8 @@ none_twin text place other m utf8 f a t j block same st low last near nk = λ u 
 pub scalar_fixes : (text : List ℕ) (f : Form) (i : ℕ) (a : Ahead) (cuts : Bool) (u w : Unfinished) (r : Result Position Stop) → IsUtf8 text → IsSeen text false i a → IsCharBoundary text i → IsBehind f i → IsBlock f → (takes_mapping f a ≡ true → NoKey text a)
     → Holds text (setting_of f) cuts a u w r → FixesNode text f i a r
 scalar_fixes text f i a cuts u w (Err e) utf8 seen cut o block none h = tt
-scalar_fixes text f i a cuts u w (Ok p) utf8 seen cut o block none (t, k, (st, hk, low, last), es, ew, room) = λ goes place other m near.
+scalar_fixes text f i a cuts u w (Ok p) utf8 seen cut o block none (t, k, (st, hk, low, last), es, ew, room) = λ goes place other m far.
+    let near = settled_at text false p stage.After p.at place es refl far in
     let from = scalar_from text false i a seen cut (setting_of f) t p.at st low last in
     let to = scalar_to text false i a seen cut (setting_of f) t p.at st low last in
     let all = scalar_all text false i a seen cut (setting_of f) t p.at st low last in
@@ -223,11 +226,11 @@ scalar_fixes text f i a cuts u w (Ok p) utf8 seen cut o block none (t, k, (st, h
 -- ---- behind a node outside of flow
 
 -- at a token that is no scalar and no line `...`
-pub item_fixes : (text : List ℕ) (i : ℕ) (a : Ahead) → IsSeen text false i a → IsCharBoundary text i → a.token ≡ Dash → (p : Position) → p.at ≡ a.behind → FixesEnd text i a (Ok p)
-item_fixes text i a seen cut d p e = λ goes place other m near.
+pub item_fixes : (text : List ℕ) (i : ℕ) (a : Ahead) → IsSeen text false i a → IsCharBoundary text i → a.token ≡ Dash → (p : Position) → p.stage ≡ stage.Value → p.at ≡ a.behind → FixesEnd text i a (Ok p)
+item_fixes text i a seen cut d p es e = λ goes place other m near.
     let l : 0 < token_len a.token = subst (λ k. 0 < token_len k) (sym d) (omega arith) in
-    let from = token_from text false i a seen (ap is_marked d) l in
-    let far : ahead_seen text a.behind ≤ place = subst (λ k. ahead_seen text k ≤ place) e near in
+    let from = token_reach text false i a seen (ap is_marked d) l in
+    let far = settled_value text false a.behind place seen.1.2.0 (settled_at text false p stage.Value a.behind place es e near) in
     let first = place_from text false i a seen in
     let low : a.at ≤ place = omega (arith, first, from, far) in (
       omega (arith, from, far),
@@ -242,9 +245,9 @@ item_fixes text i a seen cut d p e = λ goes place other m near.
       no_dots a d h = let z : Dash ≡ Dots = sym d ∙ h in absurd (cc)
 
 pub entry_fixes : (text : List ℕ) (i : ℕ) (a : Ahead) (t : List ℕ) (q e : ℕ) (p : Position) → IsSeen text false i a → IsCharBoundary text i → scalar_ahead text (as_key false) a ≡ Stands t e → (ahead text false e).token ≡ Point true → q ≡ (ahead text false e).behind → a.at < e
-    → IsCharBoundary text e → IsCharBoundary text q → p.at ≡ q → FixesEnd text i a (Ok p)
-entry_fixes text i a t q e p seen cut st tk b low last end pe = λ goes place other m near.
-    let far : ahead_seen text q ≤ place = subst (λ n. ahead_seen text n ≤ place) pe near in
+    → IsCharBoundary text e → IsCharBoundary text q → p.stage ≡ stage.Value → p.at ≡ q → FixesEnd text i a (Ok p)
+entry_fixes text i a t q e p seen cut st tk b low last end es pe = λ goes place other m near.
+    let far = settled_value text false q place end.0 (settled_at text false p stage.Value q place es pe near) in
     let from = key_from text i a seen cut t q e st tk b low last end place far in
     let alike = key_alike text i a seen cut t q e st tk b low last end place far other m in
     (from, record { here = twin_ahead text place other m false i cut.0 from; further = λ h. absurd (no_scalar a Dots (ap (λ (x : Ahead). x.token) seen.0 ∙ h) refl (starts_of text (as_key false) a t e st).0) }, alike)
@@ -264,41 +267,50 @@ flow_other text place other m f i a low near o n named = record {
   scalar = twin_other text place other m (setting_of f) a low n;
 }
 
-flow_token_fixes : (text : List ℕ) (f : Form) (i : ℕ) (a : Ahead) → IsSeen text true i a → IsCharBoundary text i → IsBehind f i → starts_scalar a.token ≡ false → is_marked a.token ≡ false → 0 < token_len a.token → (p : Position) → p.at ≡ a.behind
-    → FixesFlowNode text f i a (Ok p)
-flow_token_fixes text f i a seen cut o n q l p e = λ goes place other m near.
-    let from = token_from text true i a seen q l in
-    let to = token_to text true i a seen q l in
-    let far : ahead_seen text a.behind ≤ place = subst (λ k. ahead_seen text k ≤ place) e near in
-    let first = place_from text true i a seen in
-    let least = seen_least text i cut.0 in
-    (omega (arith, from, far), flow_other text place other m f i a (omega (arith, first, from, far)) (omega (arith, least, from, far)) o n (λ len t. (token_over text true i a seen q l, omega (arith, to, far))))
-
 pub flow_tag_fixes : (text : List ℕ) (f g : Form) (i len : ℕ) (a : Ahead) (fs gs : List Form) (u w : Unfinished) (r : Result Position Stop) → IsSeen text true i a → IsCharBoundary text i → IsBehind f i → a.token ≡ Tag len → TagBegun text g a fs u gs w r
     → FixesFlowNode text f i a r
 flow_tag_fixes text f g i len a fs gs u w (Err e) seen cut o t h = tt
-flow_tag_fixes text f g i len a fs gs u w (Ok p) seen cut o t (es, ej, eg, ew, d) =
-    flow_token_fixes text f i a seen cut o (ap starts_scalar t) (ap is_marked t) (subst (λ k. 0 < token_len k) (sym t) (omega arith)) p ej
+flow_tag_fixes text f g i len a fs gs u w (Ok p) seen cut o t (es, ej, eg, ew, d) = λ goes place other m near.
+    let l : 0 < token_len a.token = subst (λ k. 0 < token_len k) (sym t) (omega arith) in
+    let from = token_reach text true i a seen (ap is_marked t) l in
+    let far = settled_value text true a.behind place seen.1.2.0 (settled_at text true p stage.Value a.behind place es ej near) in
+    let first = place_from text true i a seen in
+    let least = seen_least text i cut.0 in
+    (omega (arith, from, far), flow_other text place other m f i a (omega (arith, first, from, far)) (omega (arith, least, from, far)) o (ap starts_scalar t) (λ len z. (token_over text true i a seen l, far)))
 
 pub flow_opens_fixes : (text : List ℕ) (f : Form) (i : ℕ) (map : Bool) (a : Ahead) (fs gs : List Form) (u w : Unfinished) (r : Result Position Stop) → IsSeen text true i a → IsCharBoundary text i → IsBehind f i → a.token ≡ Opens map → Opened map a fs u gs w r
     → FixesFlowNode text f i a r
 flow_opens_fixes text f i map a fs gs u w (Err e) seen cut o t h = tt
-flow_opens_fixes text f i map a fs gs u w (Ok p) seen cut o t (es, ej, eg, ew, d) =
-    flow_token_fixes text f i a seen cut o (ap starts_scalar t) (ap is_marked t) (subst (λ k. 0 < token_len k) (sym t) (omega arith)) p ej
+flow_opens_fixes text f i map a fs gs u w (Ok p) seen cut o t (es, ej, eg, ew, d) = λ goes place other m near.
+    let far = opening_reach text true i a seen (Opens map) place t refl (settled_at text true p stage.Entry a.behind place es ej near) in
+    let least = seen_least text i cut.0 in
+    let from = far.0 in
+    (from, flow_other text place other m f i a far.1 (omega (arith, least, from)) o (ap starts_scalar t) (λ len z. absurd (no_tag map len (sym t ∙ z)))) where
+      no_tag : (map : Bool) (len : ℕ) → Opens map ≡ Tag len → ⊥
+      no_tag map len z = absurd (cc)
 
-pub flow_scalar_fixes : (text : List ℕ) (f : Form) (i : ℕ) (a : Ahead) (cuts : Bool) (u w : Unfinished) (r : Result Position Stop) → IsSeen text true i a → IsCharBoundary text i → IsBehind f i → Holds text (setting_of f) cuts a u w r → FixesFlowNode text f i a r
-flow_scalar_fixes text f i a cuts u w (Err e) seen cut o h = tt
-flow_scalar_fixes text f i a cuts u w (Ok p) seen cut o (t, k, (st, hk, low, last), es, ew, room) = λ goes place other m near.
+flow_form : (f : Form) → IsFlow f → (setting_of f).flow ≡ true
+flow_form Root k = absurd k
+flow_form (Flow map) k = refl
+flow_form (FlowTagged at) k = refl
+flow_form (Items m) k = absurd k
+flow_form (Entries m) k = absurd k
+flow_form (Tagged at above shares) k = absurd k
+
+pub flow_scalar_fixes : (text : List ℕ) (f : Form) (i : ℕ) (a : Ahead) (cuts : Bool) (u w : Unfinished) (r : Result Position Stop) → IsSeen text true i a → IsCharBoundary text i → IsFlow f → IsBehind f i → Holds text (setting_of f) cuts a u w r → FixesFlowNode text f i a r
+flow_scalar_fixes text f i a cuts u w (Err e) seen cut flow o h = tt
+flow_scalar_fixes text f i a cuts u w (Ok p) seen cut flow o (t, k, (st, hk, low, last), es, ew, room) = λ goes place other m far.
+    let near = settled_at text true p stage.After p.at place es refl far in
     let from = scalar_from text true i a seen cut (setting_of f) t p.at st low last in
-    let to = scalar_to text true i a seen cut (setting_of f) t p.at st low last in
-    let all = scalar_all text true i a seen cut (setting_of f) t p.at st low last in
+    let to = settled_after text p.at place last.0 near in
+    let all = scalar_out (setting_of f) text a.at t p.at (flow_form f flow) (let l = last.0 in omega (arith, low, l)) last.0 (starts_of text (setting_of f) a t p.at st).1 in
     let least = seen_least text i cut.0 in
     let first = place_from text true i a seen in (
-      omega (arith, from, to, near),
+      omega (arith, from, to),
       record {
         name = λ len g. absurd (no_scalar a (Tag len) g refl (starts_of text (setting_of f) a t p.at st).0);
-        cuts = twin_cuts text place other m f i o (omega (arith, least, from, to, near));
-        scalar = twin_scalar text place other m (setting_of f) a t p.at (omega (arith, first, from, to, near)) (omega (arith, all, near)) (omega (arith, to, near)) st;
+        cuts = twin_cuts text place other m f i o (omega (arith, least, from, to));
+        scalar = twin_scalar text place other m (setting_of f) a t p.at (omega (arith, first, from, to)) (omega (arith, all, near)) to st;
       },
     )
 
@@ -322,7 +334,7 @@ flow_ending_other Other h = absurd (true≢false (sym h))
 pub flow_null_fixes : (text : List ℕ) (f : Form) (i : ℕ) (a : Ahead) (u w : Unfinished) (r : Result Position Stop) → IsSeen text true i a → IsCharBoundary text i → IsBehind f i → is_flow_ending a.token ≡ true → Completes i u w r → FixesFlowNode text f i a r
 flow_null_fixes text f i a u w (Err e) seen cut o n h = tt
 flow_null_fixes text f i a u w (Ok p) seen cut o n (es, ej, ew) = λ goes place other m near.
-    let far : ahead_seen text i ≤ place = subst (λ k. ahead_seen text k ≤ place) ej near in
+    let far = settled_null text i place (ap (λ (b : Ahead). is_flow_ending b.token) (sym seen.0) ∙ n) (settled_at text true p stage.After i place es ej near) in
     let first = place_from text true i a seen in
     let least = seen_least text i cut.0 in
     (far, flow_other text place other m f i a (omega (arith, first, far)) (omega (arith, least, far)) o (flow_ending_other a.token n) (λ len t. absurd (true≢false (sym n ∙ ap is_flow_ending t))))
@@ -332,8 +344,8 @@ pub closed_fixes : (text : List ℕ) (i : ℕ) (map : Bool) (a : Ahead) (fs gs :
 closed_fixes text i map a fs gs u w (Err e) seen cut t h = tt
 closed_fixes text i map a fs gs u w (Ok p) seen cut t (es, ej, eg, ew) = λ goes place other m near.
     let l : 0 < token_len a.token = subst (λ k. 0 < token_len k) (sym t) (omega arith) in
-    let from = token_from text true i a seen (ap is_marked t) l in
-    let far : ahead_seen text a.behind ≤ place = subst (λ k. ahead_seen text k ≤ place) ej near in
+    let from = token_reach text true i a seen (ap is_marked t) l in
+    let far = settled_after text a.behind place seen.1.2.0 (settled_at text true p stage.After a.behind place es ej near) in
     let first = place_from text true i a seen in
     let least = seen_least text i cut.0 in
     let low : a.at ≤ place = omega (arith, first, from, far) in (
@@ -352,30 +364,42 @@ closed_fixes text i map a fs gs u w (Ok p) seen cut t (es, ej, eg, ew) = λ goes
 pub closed_seen : (text : List ℕ) (i : ℕ) (map : Bool) (a : Ahead) (fs gs : List Form) (u w : Unfinished) (r : Result Position Stop) → IsSeen text true i a → a.token ≡ Closes map → Closed a.behind fs u gs w r → FixesSeen text i r
 closed_seen text i map a fs gs u w (Err e) seen t h = tt
 closed_seen text i map a fs gs u w (Ok p) seen t (es, ej, eg, ew) = λ goes place other m near.
-    let from = token_from text true i a seen (ap is_marked t) (subst (λ k. 0 < token_len k) (sym t) (omega arith)) in
-    let far : ahead_seen text a.behind ≤ place = subst (λ k. ahead_seen text k ≤ place) ej near in
+    let from = token_reach text true i a seen (ap is_marked t) (subst (λ k. 0 < token_len k) (sym t) (omega arith)) in
+    let far = settled_after text a.behind place seen.1.2.0 (settled_at text true p stage.After a.behind place es ej near) in
     omega (arith, from, far)
 
-pub comma_seen : (text : List ℕ) (i : ℕ) (a : Ahead) (p : Position) → IsSeen text true i a → a.token ≡ Comma → p.at ≡ a.behind → FixesSeen text i (Ok p)
-comma_seen text i a p seen t e = λ goes place other m near.
-    let from = token_from text true i a seen (ap is_marked t) (subst (λ k. 0 < token_len k) (sym t) (omega arith)) in
-    let far : ahead_seen text a.behind ≤ place = subst (λ k. ahead_seen text k ≤ place) e near in
-    omega (arith, from, far)
+pub comma_seen : (text : List ℕ) (i : ℕ) (a : Ahead) (p : Position) → IsSeen text true i a → a.token ≡ Comma → p.stage ≡ stage.Entry → p.at ≡ a.behind → FixesSeen text i (Ok p)
+comma_seen text i a p seen t es e = λ goes place other m near. (opening_reach text true i a seen Comma place t refl (settled_at text true p stage.Entry a.behind place es e near)).0
 
 -- a key, and what is looked at behind it
-colon_near : (text : List ℕ) (quoted : Bool) (e q place : ℕ) → IsColon text quoted e q → IsCharBoundary text q → ahead_seen text q ≤ place → (ahead_seen text e ≤ place) × ((loose : Bool) → (ahead text true e).token ≡ Point loose → (ahead text true e).behind ≤ place)
-colon_near text quoted e q place (inl (loose, t, h, b)) end far =
-    let far2 = subst (λ n. ahead_seen text n ≤ place) b far in
-    let z = seen_next text true e (Point loose) t refl (omega arith) (subst (λ n. n ≤ length text) b end.0) in
-    let y = seen_least text (ahead text true e).behind (subst (λ n. n ≤ length text) b end.0) in
-    (omega (arith, z, far2), (λ l k. omega (arith, y, far2)))
-colon_near text quoted e q place (inr (t, b)) end far = (subst (λ n. ahead_seen text n ≤ place) b far, (λ l k. absurd (true≢false (sym t ∙ ap ends_key k))))
+key_ending : (t : Token) → ends_key t ≡ true → is_flow_ending t ≡ true
+key_ending End h = absurd (true≢false (sym h))
+key_ending Dashes h = refl
+key_ending Dots h = refl
+key_ending Dash h = absurd (true≢false (sym h))
+key_ending (Tag n) h = absurd (true≢false (sym h))
+key_ending NoTag h = absurd (true≢false (sym h))
+key_ending (Opens q) h = absurd (true≢false (sym h))
+key_ending (Closes q) h = refl
+key_ending Comma h = refl
+key_ending (Point q) h = absurd (true≢false (sym h))
+key_ending Anchor h = absurd (true≢false (sym h))
+key_ending Percent h = absurd (true≢false (sym h))
+key_ending Tabbed h = absurd (true≢false (sym h))
+key_ending Stray h = absurd (true≢false (sym h))
+key_ending Other h = absurd (true≢false (sym h))
+
+colon_near : (text : List ℕ) (quoted : Bool) (e q place : ℕ) → IsColon text quoted e q → IsCharBoundary text q → settled text true stage.Value q ≤ place → (ahead_seen text e ≤ place) × ((loose : Bool) → (ahead text true e).token ≡ Point loose → (ahead text true e).behind ≤ place)
+colon_near text quoted e q place (inl (loose, t, h, b)) end near =
+    let far = settled_value text true q place end.0 near in
+    let z = seen_behind text true e (Point loose) t refl (omega arith) in
+    (omega (arith, z, far, b), (λ l k. omega (arith, far, b)))
+colon_near text quoted e q place (inr (t, b)) end near = (settled_ending text true e place (key_ending (ahead text true e).token t) (subst (λ n. settled text true stage.Value n ≤ place) b near), (λ l k. absurd (true≢false (sym t ∙ ap ends_key k))))
 
 pub flow_key_fixes : (text : List ℕ) (i : ℕ) (a : Ahead) (quoted : Bool) (t : List ℕ) (q e : ℕ) (p : Position) → IsSeen text true i a → IsCharBoundary text i → scalar_ahead text (as_key true) a ≡ Stands t e → a.at < e → IsCharBoundary text e → IsColon text quoted e q
-    → IsCharBoundary text q → p.at ≡ q → FixesFlowKey text i a (Ok p)
-flow_key_fixes text i a quoted t q e p seen cut st low last colon end pe = λ goes place other m near.
-    let far : ahead_seen text q ≤ place = subst (λ n. ahead_seen text n ≤ place) pe near in
-    let behind = colon_near text quoted e q place colon end far in
+    → IsCharBoundary text q → p.stage ≡ stage.Value → p.at ≡ q → FixesFlowKey text i a (Ok p)
+flow_key_fixes text i a quoted t q e p seen cut st low last colon end es pe = λ goes place other m near.
+    let behind = colon_near text quoted e q place colon end (settled_at text true p stage.Value q place es pe near) in
     let near2 = behind.0 in
     let from = scalar_from text true i a seen cut (as_key true) t e st low last in
     let to = scalar_to text true i a seen cut (as_key true) t e st low last in
@@ -413,28 +437,44 @@ apart (Tagged at above shares) b k = k
 flow_true : (map : Bool) (f : Form) → f ≡ Flow map → (b : Bool) → f ≡ Flow b → map ≡ b
 flow_true map f e b h = let z : Flow map ≡ Flow b = sym e ∙ h in cc
 
+pub flow_in : (f : Form) → IsFlow f → in_flow f ≡ true
+flow_in Root k = absurd k
+flow_in (Flow map) k = refl
+flow_in (FlowTagged at) k = refl
+flow_in (Items m) k = absurd k
+flow_in (Entries m) k = absurd k
+flow_in (Tagged at above shares) k = absurd k
+
+block_out : (f : Form) → IsBlock f → in_flow f ≡ false
+block_out Root k = refl
+block_out (Flow map) k = absurd k
+block_out (FlowTagged at) k = absurd k
+block_out (Items m) k = refl
+block_out (Entries m) k = refl
+block_out (Tagged at above shares) k = refl
+
 pub entry_step : (text : List ℕ) (f : Form) (i : ℕ) (map : Bool) (r : Result Position Stop) → f ≡ Flow map → IsCharBoundary text i → FixesEntry text map i (ahead text true i) r → FixesStep text stage.Entry f i r
 entry_step text f i map (Err e) form cut h = tt
 entry_step text f i map (Ok p) form cut h = λ goes place other m near.
-    let g = h goes place other m near in
+    let g = h goes place other m (subst (λ q. settled text q p.stage p.at ≤ place) (ap in_flow form) near) in
     (g.0, (twin_ahead text place other m true i cut.0 g.0, (λ k. g.1 (flow_true map f form true k)), (λ k. g.2 (flow_true map f form false k))))
 
 pub value_step : (text : List ℕ) (f : Form) (i : ℕ) (r : Result Position Stop) → IsBlock f → IsCharBoundary text i → FixesNode text f i (ahead text false i) r → FixesStep text stage.Value f i r
 value_step text f i (Err e) block cut h = tt
 value_step text f i (Ok p) block cut h = λ goes place other m near.
-    let g = h goes place other m near in
+    let g = h goes place other m (subst (λ q. settled text q p.stage p.at ≤ place) (block_out f block) near) in
     (g.0, ((λ k. absurd (apart f block k)), (λ k. (twin_ahead text place other m false i cut.0 g.0, g.1))))
 
 pub flow_value_step : (text : List ℕ) (f : Form) (i : ℕ) (r : Result Position Stop) → IsFlow f → IsCharBoundary text i → FixesFlowNode text f i (ahead text true i) r → FixesStep text stage.Value f i r
 flow_value_step text f i (Err e) flow cut h = tt
 flow_value_step text f i (Ok p) flow cut h = λ goes place other m near.
-    let g = h goes place other m near in
+    let g = h goes place other m (subst (λ q. settled text q p.stage p.at ≤ place) (flow_in f flow) near) in
     (g.0, ((λ k. (twin_ahead text place other m true i cut.0 g.0, g.1)), (λ k. absurd (apart f k flow))))
 
 pub after_step : (text : List ℕ) (f : Form) (i : ℕ) (r : Result Position Stop) → IsBlock f → FixesEnd text i (ahead text false i) r → FixesStep text stage.After f i r
 after_step text f i (Err e) block h = tt
-after_step text f i (Ok p) block h = λ goes place other m near. let g = h goes place other m near in (g.0, ((λ k. absurd (apart f block k)), (λ k. (g.1, g.2))))
+after_step text f i (Ok p) block h = λ goes place other m near. let g = h goes place other m (subst (λ q. settled text q p.stage p.at ≤ place) (block_out f block) near) in (g.0, ((λ k. absurd (apart f block k)), (λ k. (g.1, g.2))))
 
 pub flow_after_step : (text : List ℕ) (f : Form) (i : ℕ) (r : Result Position Stop) → IsFlow f → IsCharBoundary text i → FixesSeen text i r → FixesStep text stage.After f i r
 flow_after_step text f i (Err e) flow cut h = tt
-flow_after_step text f i (Ok p) flow cut h = λ goes place other m near. let g = h goes place other m near in (g, ((λ k. twin_ahead text place other m true i cut.0 g), (λ k. absurd (apart f k flow))))
+flow_after_step text f i (Ok p) flow cut h = λ goes place other m near. let g = h goes place other m (subst (λ q. settled text q p.stage p.at ≤ place) (flow_in f flow) near) in (g, ((λ k. twin_ahead text place other m true i cut.0 g), (λ k. absurd (apart f k flow))))

@@ -355,7 +355,7 @@ lies_brackets p (Entries m) l = absurd l
 lies_brackets p (Tagged at above shares) l = absurd l
 
 -- the stack of which it was the innermost
-abbrev TagOn : ℕ → List Form → List Form → Unfinished → Type 0
+abbrev pub TagOn : ℕ → List Form → List Form → Unfinished → Type 0
 TagOn p fs gs u = (f : Form) × (fs ≡ f ∷ gs) × (top fs ≡ FlowTagged p) × Open fs u
 
 tag_split : (p : ℕ) (fs gs : List Form) (u : Unfinished) → TagOn p fs gs u → (fs ≡ FlowTagged p ∷ gs) × Open (FlowTagged p ∷ gs) u
@@ -383,6 +383,19 @@ tag_gives text p fs gs hs u w z at r s e g =
     (subst (λ q. (v : Reading) → (Ends text fs u.outer u.done at v → Ends text gs q.outer q.done at v) × (Ends text gs q.outer q.done at v → Ends text fs u.outer u.done at v)) (sym e)
     (subst (λ q. (v : Reading) → (Ends text q u.outer u.done at v → Ends text gs (with_end u).outer (with_end u).done at v) × (Ends text gs (with_end u).outer (with_end u).done at v → Ends text q u.outer u.done at v)) (sym k.0)
     (by_outer u.outer u.done u.key k.1))) (omega arith) g where
+      by_outer : (outer : List Level) (done : Forest) (key : Option (List ℕ)) → Open (FlowTagged p ∷ gs) (parts outer done key)
+          → (v : Reading) → (Ends text (FlowTagged p ∷ gs) outer done at v → Ends text gs (with_end (parts outer done key)).outer (with_end (parts outer done key)).done at v)
+          × (Ends text gs (with_end (parts outer done key)).outer (with_end (parts outer done key)).done at v → Ends text (FlowTagged p ∷ gs) outer done at v)
+      by_outer [] done key o = absurd o.0
+      by_outer (x ∷ xs) done key o = λ v. ((λ h. ends_tag text p gs x xs done at v h), (λ h. tag_ends text p gs x xs done at v h))
+
+-- so what may follow is the same in both
+pub tag_both : (text : List ℕ) (p : ℕ) (fs gs : List Form) (u w : Unfinished) (at : ℕ) → TagOn p fs gs u → w ≡ with_end u → (v : Reading) → (Ends text fs u.outer u.done at v → Ends text gs w.outer w.done at v) × (Ends text gs w.outer w.done at v → Ends text fs u.outer u.done at v)
+tag_both text p fs gs u w at s e =
+    let k = tag_split p fs gs u s in
+    subst (λ q. (v : Reading) → (Ends text fs u.outer u.done at v → Ends text gs q.outer q.done at v) × (Ends text gs q.outer q.done at v → Ends text fs u.outer u.done at v)) (sym e)
+    (subst (λ q. (v : Reading) → (Ends text q u.outer u.done at v → Ends text gs (with_end u).outer (with_end u).done at v) × (Ends text gs (with_end u).outer (with_end u).done at v → Ends text q u.outer u.done at v)) (sym k.0)
+    (by_outer u.outer u.done u.key k.1)) where
       by_outer : (outer : List Level) (done : Forest) (key : Option (List ℕ)) → Open (FlowTagged p ∷ gs) (parts outer done key)
           → (v : Reading) → (Ends text (FlowTagged p ∷ gs) outer done at v → Ends text gs (with_end (parts outer done key)).outer (with_end (parts outer done key)).done at v)
           × (Ends text gs (with_end (parts outer done key)).outer (with_end (parts outer done key)).done at v → Ends text (FlowTagged p ∷ gs) outer done at v)

@@ -1,6 +1,7 @@
 mod AheadColons
 mod AheadOrder
 mod AheadStays
+mod Back
 mod BlockGains
 mod BlockRests
 mod Colons
@@ -10,19 +11,28 @@ mod FirstEntries
 mod FirstTokens
 mod ShownTokens
 mod Widths
+mod Fed
 mod Fixed
 pub mod FormedTrees
 mod Forms
 mod Gains
 mod KeyEnds
 mod KeyLineEnds
+pub mod EndPlaces
+mod LastBytes
+mod LastNodes
 mod LastValues
+mod Lengthened
+mod OtherStops
 mod LineTails
 mod Lives
+mod LivesOn
 mod Looks
 mod NameEnds
+mod Opens
 mod Placed
 mod PlainOrder
+mod PlainOut
 mod Quiet
 mod Refusals
 mod Rests
@@ -30,7 +40,9 @@ mod SameTexts
 mod Roots
 mod ScalarAhead
 mod ScalarOrder
+mod ScalarOut
 mod Scalars
+mod Settled
 mod Stacks
 mod Stopped
 mod StoppedKeys
@@ -54,7 +66,16 @@ mod ShortTexts
 mod DashKeys
 mod Values
 mod FlowKeys
+mod FlowLengthens
+mod FlowMends
 mod Openings
 mod Breaks
 mod DotEnds
 mod Entries
+mod LoneReturns
+mod KeysGrown
+mod FedPlaces
+mod FedTexts
+mod TornBlocks
+mod FedStarts
+mod FedSigns

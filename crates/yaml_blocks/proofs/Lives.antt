@@ -22,9 +22,9 @@ use Rattle.yaml_blocks.specs.code.AheadSeen.{ahead_seen}
 use Rattle.yaml_blocks.specs.code.StopPlaces.{told_place}
 use Rattle.yaml_blocks.specs.code.Places.{StopsAt}
 use Rattle.yaml_blocks.specs.code.Refused.{of_sign}
-use Rattle.yaml_blocks.specs.code.Rest.{top, Over, Begins}
-use Rattle.yaml_blocks.specs.code.Steps.{Rest, Fits, SameStep, Goes, Completes, is_ending, reached}
-use Rattle.yaml_blocks.specs.code.Twins.{IsTwin, StopsStep, Matches, Alive, FixesStart, FixesRoot, FixesStep}
+use Rattle.yaml_blocks.specs.code.Rest.{Over, Begins}
+use Rattle.yaml_blocks.specs.code.Steps.{Rest, Fits, Completes, is_ending}
+use Rattle.yaml_blocks.specs.code.Twins.{IsTwin, StopsStep, Matches, Alive, FixesStart, FixesRoot}
 use Rattle.yaml_blocks.proofs.AheadOrder.{seen_least, seen_mark}
 use Rattle.yaml_blocks.proofs.DeadPlaces.{NoTwin}
 use Rattle.yaml_blocks.proofs.Forms.{apart_root}
@@ -87,7 +87,7 @@ root_fixed text at next w p ew en b n es ej = λ place other m near.
     let far : ahead_seen text at ≤ place = subst (λ n. ahead_seen text n ≤ place) ej near in
     let here : ahead other false at ≡ ahead text false at = twin_ahead text place other m false at b.0 far in
     let there : is_ending (ahead other false at).token ≡ false = ap (λ (a : Ahead). is_ending a.token) (here ∙ sym en) ∙ n in
-    (far, (λ cut. alive_at other (λ t. Begins other at (Tree t)) w start p stage.Value at es ej ew ((λ t g. (t, begins_node other at (Tree t) there g)), (λ g h. (g, node_begins other at (Tree g) h))) ((tt, tt), apart_root, (refl, refl), tt, tt) cut))
+    (far, (λ cut. alive_at other (λ t. Begins other at (Tree t)) w start p stage.Value at es ej ew ((λ t g. (t, begins_node other at (Tree t) there g)), (λ g h. (g, node_begins other at (Tree g) h))) ((tt, tt), apart_root, (refl, refl), tt, there) cut))
 
 -- ---- the whole text
 
@@ -105,14 +105,6 @@ lives_first text i fs w p s r e = λ goes place other m near.
     let a = g.1 b.1 in
     subst (λ z. Alive other (IsYaml other) z w p) (sym e) (((λ t h. a.0.0 t (yaml_begins other i t b.0 h)), (λ g h. let x = a.0.1 g h in (x.0, begins_comes other i (Tree x.0) b.0 x.1))), a.1, a.2)
 
-pub lives_next : (text : List ℕ) (p q : Position) (fs gs : List Form) (u w : Unfinished) → Lives text p fs u → (p.stage ≡ stage.Whole → ⊥) → FixesStep text p.stage (top fs) p.at (Ok q)
-    → ((other : List ℕ) → (place : ℕ) → IsTwin text place other → IsCharBoundary other p.at → Fits other p.stage fs u p.at → SameStep text other p.stage (top fs) p.at → Goes other (Rest other p.stage fs u p.at) (reached p.stage p.at) gs w q) → Lives text q gs w
-lives_next text p q fs gs u w lives open_ fixes gives = λ goes place other m near.
-    let s = fixes goes place other m near in
-    let a = lives open_ place other m s.0 in
-    let g = gives other place m a.2 a.1 s.1 in
-    (((λ t h. let x = a.0.0 t h in (x.0, (g.0 (Tree x.0)).0 x.1)), (λ y h. a.0.1 y ((g.0 (Tree y)).1 h))), g.1, g.2)
-
 -- ---- where reading stops
 
 -- where nothing may follow in a twin, it is no document
@@ -121,7 +113,8 @@ none_twin : (text : List ℕ) (p : Position) (fs : List Form) (u : Unfinished) (
 none_twin text p fs u place lives open_ near none = λ other m tree h. let a = lives open_ place other m near in let x = a.0.0 tree h in none other m a.2 a.1 x.0 x.1
 
 pub stops_at : (text : List ℕ) → IsUtf8 text → (p : Position) (fs : List Form) (u : Unfinished) (e : Stop) → Lives text p fs u → (p.stage ≡ stage.Whole → ⊥) → StopsStep text p.stage fs u p.at (Err e) → StopsAt text e
-stops_at text utf8 p fs u (stop.Unread q) lives open_ (inl e) = inl e
+stops_at text utf8 p fs u (stop.Unread q) lives open_ (inl (inl e)) = inl (omega (arith, e))
+stops_at text utf8 p fs u (stop.Unread q) lives open_ (inl (inr (e, far))) = inl (omega (arith, e))
 stops_at text utf8 p fs u (stop.Unread q) lives open_ (inr (l, (place, past, near, none))) = inr (twins_dead text place q utf8 l past (none_twin text p fs u place lives open_ near none))
 stops_at text utf8 p fs u (stop.Tab at) lives open_ h = tt
 stops_at text utf8 p fs u (stop.Anchor at) lives open_ h = tt
@@ -167,5 +160,5 @@ start_at text utf8 at behind next after q ea ca en eb cb ef d f eq = by_told (su
         by_start other tree there place stale (l, kids, i, j, inr (n, e), r, z, h) = n there
 
   by_told : IsTold text false behind q → StopsAt text (stop.Unread q)
-  by_told (inl k) = inl k
+  by_told (inl k) = inl (omega (arith, k))
   by_told (inr (n, l, (p, past, near))) = inr (twins_dead text p q utf8 l past (none p near))

@@ -171,7 +171,7 @@ three_front text (x ∷ cs, (s, e)) h = by_bytes (three_bytes x (encodes cs) (ap
   by_bytes (b, c, w, hb, hc) = (b, c, encodes cs, sym (ap (λ y. y ++ encodes cs) w) ∙ e)
 
 -- past a place of which no twin is a document all is dead
-past_less : (text : List ℕ) (p q : ℕ) → IsPast text p q → p ≤ q
+pub past_less : (text : List ℕ) (p q : ℕ) → IsPast text p q → p ≤ q
 past_less text p q (inl l) = omega (arith, l)
 past_less text p q (inr (e, h)) = omega (arith, e)
 

@@ -80,7 +80,7 @@ node_begins text i v (l, kids, Shows s, h, d) = (l, kids, Shows s, inr h, d)
 
 root_node : (text : List ℕ) (w : Unfinished) (at : ℕ) (p : Position) → is_ending (ahead text false at).token ≡ false → IsCharBoundary text at → w ≡ start → p.stage ≡ stage.Value → p.at ≡ at → Goes text (Begins text at) 0 [] w p
 root_node text w at p n b ew es ej =
-    goes text (Begins text at) 0 [] [] w start p stage.Value at es ej refl ew (λ v. ((λ h. begins_node text at v n h), (λ h. node_begins text at v h))) ((tt, tt), apart_root, (refl, refl), tt, tt) b (omega arith)
+    goes text (Begins text at) 0 [] [] w start p stage.Value at es ej refl ew (λ v. ((λ h. begins_node text at v n h), (λ h. node_begins text at v h))) ((tt, tt), apart_root, (refl, refl), tt, n) b (omega arith)
 
 pub root_goes : (text : List ℕ) (w : Unfinished) (at : ℕ) (next : Ahead) (p : Position) → next ≡ ahead text false at → is_ending next.token ≡ false → IsCharBoundary text at → w ≡ start → p.stage ≡ stage.Value → p.at ≡ at
     → Goes text (Begins text at) 0 [] w p
@@ -182,7 +182,7 @@ signed_nowhere text s e = by_token (ahead text false (text_start text)).token re
   by_token Stray t h = absurd (no_sign s h)
   by_token Other t h = absurd (no_sign s h)
 
-start_counts : (text : List ℕ) (s : Sign) → start_sign text ≡ Some s → IsSignOf text s
+pub start_counts : (text : List ℕ) (s : Sign) → start_sign text ≡ Some s → IsSignOf text s
 start_counts text s e = (inl e, (λ z y. same z (comes_nowhere text (Refused z) (signed_nowhere text s e) y)), (λ t y. none t (comes_nowhere text (Tree t) (signed_nowhere text s e) y))) where
   same : (z : Sign) → (y : Sign) × (start_sign text ≡ Some y) × (Refused z ≡ Refused y) → z ≡ s
   same z (y, h, r) =

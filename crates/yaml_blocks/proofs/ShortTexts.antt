@@ -30,14 +30,14 @@ use Rattle.yaml_blocks.proofs.Values.{value_grown}
 
 -- ---- the longer text
 
-ascii_bytes : (w : List ℕ) → each is_ascii w ≡ true → IsAscii w
+pub ascii_bytes : (w : List ℕ) → each is_ascii w ≡ true → IsAscii w
 ascii_bytes [] h = IsAscii-nil
 ascii_bytes (b ∷ w) h = by_byte (is_ascii b) refl h (λ k. ascii_bytes w k) where
   by_byte : (q : Bool) → is_ascii b ≡ q → cond q (each is_ascii w) false ≡ true → (each is_ascii w ≡ true → IsAscii w) → IsAscii (b ∷ w)
   by_byte true e k f = IsAscii-cons b w (ltb-true b 128 e) (f k)
   by_byte false e k f = absurd (true≢false (sym k))
 
-marks_longer : (text more : List ℕ) → IsUtf8 text → 0 < length text → begins_order_mark (text ++ more) ≡ begins_order_mark text
+pub marks_longer : (text more : List ℕ) → IsUtf8 text → 0 < length text → begins_order_mark (text ++ more) ≡ begins_order_mark text
 marks_longer text more utf8 l = by_mark (begins_with 239 text) refl where
   first : (xs : List ℕ) → 0 < length xs → begins_with 239 (xs ++ more) ≡ begins_with 239 xs
   first [] k = absurd (omega (arith, k))

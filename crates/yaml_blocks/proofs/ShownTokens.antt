@@ -78,7 +78,7 @@ same_line a (suc n) (b ∷ xs) = by_break (begins_break b xs) (same_line a n xs)
   by_break true h = omega arith
   by_break false h = by_byte (nat_eq b a) h
 
-same_most : (a n : ℕ) (xs : List ℕ) → same a n xs ≤ n
+pub same_most : (a n : ℕ) (xs : List ℕ) → same a n xs ≤ n
 same_most a zero xs = omega arith
 same_most a (suc n) [] = omega arith
 same_most a (suc n) (b ∷ xs) = by_byte (nat_eq b a) (same_most a n xs) where
@@ -86,17 +86,30 @@ same_most a (suc n) (b ∷ xs) = by_byte (nat_eq b a) (same_most a n xs) where
   by_byte true h = omega (arith, h)
   by_byte false h = omega arith
 
-run_least : (m n : ℕ) → m ≤ n → n ≤ 3 → m ≤ run_width n
-run_least m n l k = by_test (nat_eq n 3) where
+run_least : (m n : ℕ) (bs : List ℕ) → m ≤ n → n ≤ 3 → m ≤ run_width n bs
+run_least m n bs l k = by_test (nat_eq n 3 && begins_with 13 (drop 2 bs)) where
   by_test : (q : Bool) → m ≤ cond q 4 n
   by_test true = omega (arith, l, k)
   by_test false = l
 
-run_full : (m n : ℕ) → m ≡ 3 → m ≤ n → n ≤ 3 → 4 ≤ run_width n
-run_full m n e l k = by_test (nat_eq n 3) refl where
-  by_test : (q : Bool) → nat_eq n 3 ≡ q → 4 ≤ cond q 4 n
+run_full : (m n : ℕ) (bs : List ℕ) → m ≡ 3 → m ≤ n → n ≤ 3 → begins_with 13 (drop 2 bs) ≡ true → 4 ≤ run_width n bs
+run_full m n bs e l k h = subst (λ q. 4 ≤ cond (nat_eq n 3 && q) 4 n) (sym h) (by_test (nat_eq n 3) refl) where
+  by_test : (q : Bool) → nat_eq n 3 ≡ q → 4 ≤ cond (q && true) 4 n
   by_test true h = omega arith
   by_test false h = let z : n ≡ 3 = omega (arith, e, l, k) in absurd (true≢false (sym (ap (λ x. nat_eq x 3) z) ∙ h))
+
+-- a byte of the line is one of the text
+line_byte : (k n : ℕ) (xs : List ℕ) → begins_with k (drop n (line_at xs)) ≡ true → begins_with k (drop n xs) ≡ true
+line_byte k n [] h = h
+line_byte k n (b ∷ xs) h = by_break (begins_break b xs) n h (λ m g. line_byte k m xs g) where
+  none : (m : ℕ) → begins_with k (drop m []) ≡ true → ⊥
+  none zero g = true≢false (sym g)
+  none (suc m) g = true≢false (sym g)
+
+  by_break : (q : Bool) (m : ℕ) → begins_with k (drop m (cond q [] (b ∷ line_at xs))) ≡ true → ((m : ℕ) → begins_with k (drop m (line_at xs)) ≡ true → begins_with k (drop m xs) ≡ true) → begins_with k (drop m (b ∷ xs)) ≡ true
+  by_break true m g f = absurd (none m g)
+  by_break false zero g f = g
+  by_break false (suc m) g f = f m g
 
 -- a token's first byte
 module _ (b : ℕ) (xs : List ℕ) where
@@ -105,10 +118,10 @@ module _ (b : ℕ) (xs : List ℕ) where
 
   shown_least : token_shown (b ∷ line_at xs) ≤ token_width (b ∷ xs)
   shown_least = by_tests (nat_eq b 33) (nat_eq b 45) (nat_eq b 46) (nat_eq b 58 || nat_eq b 13) where
-    by_tests : (p q r s : Bool) → cond p (suc (lead is_name (line_at xs))) (cond (q || s) 1 0) ≤ cond p (suc (lead is_name (line_at xs))) (cond (q || r) (run_width (suc (same b 2 xs))) (cond s 1 0))
+    by_tests : (p q r s : Bool) → cond p (suc (lead is_name (line_at xs))) (cond (q || s) 1 0) ≤ cond p (suc (lead is_name (line_at xs))) (cond (q || r) (run_width (suc (same b 2 xs)) xs) (cond s 1 0))
     by_tests true q r s = omega arith
-    by_tests false true r s = let k = same_most b 2 xs in run_least 1 (suc (same b 2 xs)) (omega arith) (omega (arith, k))
-    by_tests false false true true = let k = same_most b 2 xs in run_least 1 (suc (same b 2 xs)) (omega arith) (omega (arith, k))
+    by_tests false true r s = let k = same_most b 2 xs in run_least 1 (suc (same b 2 xs)) xs (omega arith) (omega (arith, k))
+    by_tests false false true true = let k = same_most b 2 xs in run_least 1 (suc (same b 2 xs)) xs (omega arith) (omega (arith, k))
     by_tests false false true false = omega arith
     by_tests false false false true = omega arith
     by_tests false false false false = omega arith
@@ -117,21 +130,23 @@ module _ (b : ℕ) (xs : List ℕ) where
   dash_least : (nat_eq b 33 ≡ false) → (nat_eq b 45 || nat_eq b 46) ≡ true → lead is_white (b ∷ line_at xs) ≡ 0 → shown (b ∷ line_at xs) ≤ token_width (b ∷ xs)
   dash_least n d w =
       let len : mark_len (b ∷ line_at xs) ≡ suc (same b 2 (line_at xs)) = ap (λ q. cond q (suc (same b 2 (line_at xs))) 0) d in
-      let wide : token_width (b ∷ xs) ≡ run_width (suc (same b 2 xs)) = ap (λ q. cond q (suc (lead is_name (line_at xs))) (cond (nat_eq b 45 || nat_eq b 46) (run_width (suc (same b 2 xs))) (cond (nat_eq b 58 || nat_eq b 13) 1 0))) n ∙ ap (λ q. cond q (run_width (suc (same b 2 xs))) (cond (nat_eq b 58 || nat_eq b 13) 1 0)) d in
+      let wide : token_width (b ∷ xs) ≡ run_width (suc (same b 2 xs)) xs = ap (λ q. cond q (suc (lead is_name (line_at xs))) (cond (nat_eq b 45 || nat_eq b 46) (run_width (suc (same b 2 xs)) xs) (cond (nat_eq b 58 || nat_eq b 13) 1 0))) n ∙ ap (λ q. cond q (run_width (suc (same b 2 xs)) xs) (cond (nat_eq b 58 || nat_eq b 13) 1 0)) d in
       let most = same_most b 2 xs in
       let less = same_line b 2 xs in
-      subst (λ k. shown (b ∷ line_at xs) ≤ k) (sym wide) (by_tests (begins_with 13 (drop (lead is_white (b ∷ line_at xs) + mark_len (b ∷ line_at xs)) (b ∷ line_at xs))) (may_end (mark_len (b ∷ line_at xs))) refl len most less) where
-        by_tests : (p q : Bool) → may_end (mark_len (b ∷ line_at xs)) ≡ q → mark_len (b ∷ line_at xs) ≡ suc (same b 2 (line_at xs)) → same b 2 xs ≤ 2 → same b 2 (line_at xs) ≤ same b 2 xs
-            → cond (p && q) (suc (lead is_white (b ∷ line_at xs) + mark_len (b ∷ line_at xs))) (lead is_white (b ∷ line_at xs) + mark_len (b ∷ line_at xs)) ≤ run_width (suc (same b 2 xs))
-        by_tests true true e len most less =
+      subst (λ k. shown (b ∷ line_at xs) ≤ k) (sym wide) (by_tests (begins_with 13 (drop (lead is_white (b ∷ line_at xs) + mark_len (b ∷ line_at xs)) (b ∷ line_at xs))) (may_end (mark_len (b ∷ line_at xs))) refl refl len most less) where
+        by_tests : (p q : Bool) → begins_with 13 (drop (lead is_white (b ∷ line_at xs) + mark_len (b ∷ line_at xs)) (b ∷ line_at xs)) ≡ p → may_end (mark_len (b ∷ line_at xs)) ≡ q → mark_len (b ∷ line_at xs) ≡ suc (same b 2 (line_at xs)) → same b 2 xs ≤ 2 → same b 2 (line_at xs) ≤ same b 2 xs
+            → cond (p && q) (suc (lead is_white (b ∷ line_at xs) + mark_len (b ∷ line_at xs))) (lead is_white (b ∷ line_at xs) + mark_len (b ∷ line_at xs)) ≤ run_width (suc (same b 2 xs)) xs
+        by_tests true true r e len most less =
             let three : suc (same b 2 (line_at xs)) ≡ 3 = ended (suc (same b 2 (line_at xs))) (omega arith) (sym (ap may_end len) ∙ e) in
-            let full = run_full (suc (same b 2 (line_at xs))) (suc (same b 2 xs)) three (omega (arith, less)) (omega (arith, most)) in
+            let third : lead is_white (b ∷ line_at xs) + mark_len (b ∷ line_at xs) ≡ 3 = omega (arith, w, len, three) in
+            let back : begins_with 13 (drop 2 xs) ≡ true = line_byte 13 2 xs (sym (ap (λ n. begins_with 13 (drop n (b ∷ line_at xs))) third) ∙ r) in
+            let full = run_full (suc (same b 2 (line_at xs))) (suc (same b 2 xs)) xs three (omega (arith, less)) (omega (arith, most)) back in
             omega (arith, w, len, three, full) where
               ended : (n : ℕ) → 0 < n → may_end n ≡ true → n ≡ 3
               ended zero l h = absurd (omega (arith, l))
               ended (suc n) l h = grind (arith, nat_tests, h)
-        by_tests true false e len most less = let z = run_least (suc (same b 2 (line_at xs))) (suc (same b 2 xs)) (omega (arith, less)) (omega (arith, most)) in omega (arith, w, len, z)
-        by_tests false q e len most less = let z = run_least (suc (same b 2 (line_at xs))) (suc (same b 2 xs)) (omega (arith, less)) (omega (arith, most)) in omega (arith, w, len, z)
+        by_tests true false r e len most less = let z = run_least (suc (same b 2 (line_at xs))) (suc (same b 2 xs)) xs (omega (arith, less)) (omega (arith, most)) in omega (arith, w, len, z)
+        by_tests false q r e len most less = let z = run_least (suc (same b 2 (line_at xs))) (suc (same b 2 xs)) xs (omega (arith, less)) (omega (arith, most)) in omega (arith, w, len, z)
 
   -- of any other byte
   plain_least : (nat_eq b 45 || nat_eq b 46) ≡ false → lead is_white (b ∷ line_at xs) ≡ 0 → shown (b ∷ line_at xs) ≤ token_width (b ∷ xs)
@@ -144,9 +159,9 @@ module _ (b : ℕ) (xs : List ℕ) where
 
     one : nat_eq b 13 ≡ true → 1 ≤ token_width (b ∷ xs)
     one e = by_name (nat_eq b 33) where
-      by_name : (p : Bool) → 1 ≤ cond p (suc (lead is_name (line_at xs))) (cond (nat_eq b 45 || nat_eq b 46) (run_width (suc (same b 2 xs))) (cond (nat_eq b 58 || nat_eq b 13) 1 0))
+      by_name : (p : Bool) → 1 ≤ cond p (suc (lead is_name (line_at xs))) (cond (nat_eq b 45 || nat_eq b 46) (run_width (suc (same b 2 xs)) xs) (cond (nat_eq b 58 || nat_eq b 13) 1 0))
       by_name true = omega arith
-      by_name false = subst (λ q. 1 ≤ cond q (run_width (suc (same b 2 xs))) (cond (nat_eq b 58 || nat_eq b 13) 1 0)) (sym d) (by_colon (nat_eq b 58) (nat_eq b 13) e) where
+      by_name false = subst (λ q. 1 ≤ cond q (run_width (suc (same b 2 xs)) xs) (cond (nat_eq b 58 || nat_eq b 13) 1 0)) (sym d) (by_colon (nat_eq b 58) (nat_eq b 13) e) where
         by_colon : (p q : Bool) → q ≡ true → 1 ≤ cond (p || q) 1 0
         by_colon true q h = omega arith
         by_colon false true h = omega arith

@@ -1,5 +1,7 @@
 -- Where reading stops: what shows it, and that it is so in other texts. By the cases of what stops it.
-use Rattle.std.proofs.Common.{◌≡◌, ℕ, ◌<◌, ◌≤◌, inl, inr, Bool, true, false, List, length, refl, sym, ap, ◌∙◌, subst, arith}
+use Rattle.std.proofs.Common.{◌≡◌, ℕ, zero, suc, ◌-◌, ◌<◌, ◌≤◌, ◌⊎◌, inl, inr, Bool, true, false, cond, nat_lt, true≢false, List, [], ◌∷◌, drop, length, refl, sym, ap, ◌∙◌, subst, arith}
+use Rattle.std.proofs.lemmas.Bool.{cases_lt}
+use Rattle.std.proofs.lemmas.Bool.Decides.{nat_tests}
 use Rattle.std.specs.Prelude.{Result, Ok, Err, Option, Some, None, option_map}
 use Rattle.std.specs.Str.{IsCharBoundary}
 use Rattle.doc_values.specs.declared.builder.BuildRefusal.{BuildRefusal}
@@ -9,7 +11,7 @@ use Rattle.doc_values.specs.Tree.{Forest}
 use Rattle.doc_values.specs.Unfinished.{Unfinished}
 use Rattle.yaml_scalars.specs.declared.scalar.Scalar.{Scalar}
 use Rattle.yaml_blocks.specs.declared.ahead.Ahead.{Ahead}
-use Rattle.yaml_blocks.specs.declared.ahead.Token.TheVariants.{Dots, Closes}
+use Rattle.yaml_blocks.specs.declared.ahead.Token.TheVariants.{Closes}
 use Rattle.yaml_blocks.specs.declared.form.Form.{Form}
 use Rattle.yaml_blocks.specs.declared.form.Form.TheVariants.{Flow}
 use Rattle.yaml_blocks.specs.declared.stage.Position.{Position}
@@ -21,20 +23,40 @@ use Rattle.yaml_blocks.specs.Nodes.{is_marked}
 use Rattle.yaml_blocks.specs.Signs as sign
 use Rattle.yaml_blocks.specs.Signs.{Sign, Reading, Tree}
 use Rattle.yaml_blocks.specs.code.AheadSeen.{ahead_seen}
-use Rattle.yaml_blocks.specs.code.StopPlaces.{told_place}
+use Rattle.yaml_scalars.specs.Lines.{begins_with, ends_with}
+use Rattle.yaml_blocks.specs.code.StopPlaces.{told_place, within, last_told}
 use Rattle.yaml_blocks.specs.code.Refused.{of_build, of_sign}
 use Rattle.yaml_blocks.specs.code.Rest.{top, Inside, Ends, Enters, Awaits}
-use Rattle.yaml_blocks.specs.code.Steps.{IsBlock, Open, SameEnd, IsSeen, Fits, Gives, Deep, Opened, TagBegun, Closed, Completes, is_ending}
-use Rattle.yaml_blocks.specs.code.Twins.{IsTwin, IsPast, Stops, NoTail, NoLine, NoFlowValue, NoValue, NoEntry, StopsStep}
+use Rattle.yaml_blocks.specs.code.Steps.{IsBlock, Open, IsSeen, Fits, Gives, Deep, Opened, TagBegun, Closed, Completes, is_ending}
+use Rattle.yaml_blocks.specs.code.Twins.{IsTwin, Stops, NoTail, NoLine, NoFlowValue, NoValue, NoEntry, StopsStep}
 use Rattle.yaml_blocks.proofs.Forms.{flow_inside}
 use Rattle.yaml_blocks.proofs.Gains.{told}
 use Rattle.yaml_blocks.proofs.Rests.{enters_item}
 use Rattle.yaml_blocks.proofs.Quiet.{inside_at}
-use Rattle.yaml_blocks.proofs.ShownTokens.{IsTold, told_shown}
-use Rattle.yaml_blocks.proofs.AheadOrder.{seen_mark}
-use Rattle.yaml_blocks.proofs.BlockGains.{nothing_follows, all_quiet}
-use Rattle.yaml_blocks.proofs.Twins.{twin_ahead, twin_within}
-use Rattle.yaml_blocks.proofs.SameTexts.{seen_alike, sign_same, end_here}
+use Rattle.yaml_blocks.proofs.ShownTokens.{IsPassed, IsTold, told_shown}
+use Rattle.yaml_blocks.proofs.Twins.{twin_ahead}
+use Rattle.yaml_blocks.proofs.SameTexts.{seen_alike}
+
+-- ---- the last byte
+
+pub within_end : (text : List ℕ) (q : ℕ) → length text ≤ q → within text q ≡ length text - 1
+within_end text q l = by_less (nat_lt q (length text)) refl where
+  by_less : (r : Bool) → nat_lt q (length text) ≡ r → cond r q (length text - 1) ≡ length text - 1
+  by_less true e = let z : q < length text = grind (arith, nat_tests, e) in absurd (omega (arith, z, l))
+  by_less false e = refl
+
+pub within_here : (text : List ℕ) (q : ℕ) → q < length text → within text q ≡ q
+within_here text q l = by_less (nat_lt q (length text)) refl where
+  by_less : (r : Bool) → nat_lt q (length text) ≡ r → cond r q (length text - 1) ≡ q
+  by_less true e = refl
+  by_less false e = let z : length text ≤ q = grind (arith, nat_tests, e) in absurd (omega (arith, z, l))
+
+pub last_return : (text : List ℕ) (n : ℕ) → suc n ≡ length text → ends_with 13 text ≡ false → begins_with 13 (drop n text) ≡ false
+last_return [] n e h = absurd (omega (arith, e))
+last_return (b ∷ []) zero e h = h
+last_return (b ∷ []) (suc n) e h = absurd (omega (arith, e))
+last_return (b ∷ c ∷ xs) zero e h = absurd (omega (arith, e))
+last_return (b ∷ c ∷ xs) (suc n) e h = last_return (c ∷ xs) n (omega (arith, e)) h
 
 module _ (text : List ℕ) (i : ℕ) (none : List ℕ → Type 0) where
   -- a sign and want of memory say nothing of a place
@@ -84,14 +106,49 @@ module _ (text : List ℕ) (i : ℕ) (none : List ℕ → Type 0) where
 
   -- at the text's length nothing more is said
   pub length_stops : (q : ℕ) → q ≡ length text → Stops text i none (Err (stop.Unread q))
-  length_stops q e = inl e
+  length_stops q e = inl (inl e)
 
   -- at what is ahead, where that decides
   pub told_stops : (flow : Bool) (a : Ahead) (q : ℕ) → a ≡ ahead text flow i → q ≡ told_place text a → ((other : List ℕ) → is_ending a.token ≡ false → none other) → Stops text i none (Err (stop.Unread q))
   told_stops flow a q e p n = by_told (subst (IsTold text flow i) (sym (p ∙ ap (told_place text) e)) (told_shown text flow i)) where
     by_told : IsTold text flow i q → Stops text i none (Err (stop.Unread q))
-    by_told (inl k) = inl k
+    by_told (inl k) = inl (inl k)
     by_told (inr (t, l, (place, past, near))) = inr (l, (place, past, near, (λ other m. n other (ap (λ (b : Ahead). is_ending b.token) e ∙ t))))
+
+-- at the last byte, where that stands for the length
+module _ (text : List ℕ) (i : ℕ) (none : List ℕ → Type 0) where
+  last_stops : (q : ℕ) → 0 < length text → q ≡ length text - 1 → ((other : List ℕ) → IsTwin text q other → none other) → Stops text i none (Err (stop.Unread q))
+  last_stops q some e n = by_return (ends_with 13 text) refl where
+    last : suc q ≡ length text
+    last = omega (arith, some, e)
+
+    by_seen : ends_with 13 text ≡ false → (ahead_seen text i < length text) ⊎ (length text ≤ ahead_seen text i) → Stops text i none (Err (stop.Unread q))
+    by_seen f (inl l) = inr (omega (arith, some, e), (q, inr (refl, last_return text q last f), omega (arith, l, last), n))
+    by_seen f (inr g) = inl (inr (last, (λ k. g)))
+
+    by_return : (r : Bool) → ends_with 13 text ≡ r → Stops text i none (Err (stop.Unread q))
+    by_return true f = inl (inr (last, (λ k. absurd (true≢false (sym f ∙ k)))))
+    by_return false f = by_seen f (cases_lt (ahead_seen text i) (length text))
+
+  -- at a place that is no carriage return, or behind one
+  pub within_stops : (p x q r : ℕ) → IsPassed text p x → q ≡ within text x → ahead_seen text i ≤ p → r < length text → r ≤ p → ((k : ℕ) (other : List ℕ) → r ≤ k → IsTwin text k other → none other) → Stops text i none (Err (stop.Unread q))
+  within_stops p x q r (inl h) e near l o n =
+      let same : q ≡ length text - 1 = e ∙ within_end text x (omega (arith, h)) in
+      last_stops q (omega (arith, l)) same (λ other m. n q other (omega (arith, same, l)) m)
+  within_stops p x q r (inr (h, past)) e near l o n =
+      let same : q ≡ x = e ∙ within_here text x h in
+      subst (λ z. Stops text i none (Err (stop.Unread z))) (sym same) (inr (h, (p, past, near, (λ other m. n p other o m))))
+
+  -- at what is ahead, where that decides and the document does not end
+  pub last_told_stops : (flow : Bool) (a : Ahead) (q : ℕ) → a ≡ ahead text flow i → is_ending a.token ≡ false → q ≡ last_told text a → ((other : List ℕ) → none other) → Stops text i none (Err (stop.Unread q))
+  last_told_stops flow a q e t p n = by_told (told_shown text flow i) (p ∙ ap (λ b. within text (told_place text b)) e) where
+    by_size : (0 < length text) ⊎ (length text ≤ 0) → told_place text (ahead text flow i) ≡ length text → q ≡ within text (told_place text (ahead text flow i)) → Stops text i none (Err (stop.Unread q))
+    by_size (inl l) h k = last_stops q l (k ∙ within_end text (told_place text (ahead text flow i)) (omega (arith, h))) (λ other m. n other)
+    by_size (inr z) h k = let w = k ∙ within_end text (told_place text (ahead text flow i)) (omega (arith, h)) in inl (inl (omega (arith, w, z)))
+
+    by_told : IsTold text flow i (told_place text (ahead text flow i)) → q ≡ within text (told_place text (ahead text flow i)) → Stops text i none (Err (stop.Unread q))
+    by_told (inl h) k = by_size (cases_lt 0 (length text)) h k
+    by_told (inr (u, h, (p, past, near))) k = subst (λ z. Stops text i none (Err (stop.Unread z))) (sym (k ∙ within_here text (told_place text (ahead text flow i)) h)) (inr (h, (p, past, near, (λ other m. n other))))
 
 -- what follows before a step, by what follows behind a part of it
 pub stops_twin : (text : List ℕ) (i : ℕ) (none some : List ℕ → Type 0) (r : Result Position Stop) → ((p : ℕ) (other : List ℕ) → IsTwin text p other → ahead_seen text i ≤ p → none other → some other) → Stops text i none r → Stops text i some r
@@ -166,29 +223,6 @@ module _ (text : List ℕ) (fs : List Form) (u : Unfinished) (i : ℕ) (r : Resu
   value_stops f small form block h =
       stops_twin text i (NoValue i (ahead text false i) f fs u) (λ other. IsCharBoundary other i → Fits other stage.Value fs u i → (t : Forest) → Awaits other fs u.outer u.done u.key i (Tree t) → ⊥) r
       (λ p other m near none there fits t. none (record { small = small; boundary = there; seen = seen_twin text p other false i m cut there near; form = form; block = block; fits = fits }) t) h
-
--- ---- dots behind which a stray carriage return stands
-
-past_within : (text : List ℕ) (p q : ℕ) → IsPast text p q → p ≤ q
-past_within text p q (inl l) = omega (arith, l)
-past_within text p q (inr (e, h)) = omega (arith, e)
-
-pub dots_stops : (text : List ℕ) (fs : List Form) (u : Unfinished) (i : ℕ) (a after : Ahead) (q : ℕ) → a ≡ ahead text false i → IsCharBoundary text i → after ≡ ahead text false a.behind → IsCharBoundary text a.behind → a.token ≡ Dots → IsBlock (top fs) → Open fs u → Inside text i → q ≡ told_place text after
-    → Stops text i (NoLine i (ahead text false i) fs u) (Err (stop.Unread q))
-dots_stops text fs u i a after q ea ci eb cb d block open_ inside eq = by_told (subst (IsTold text false a.behind) (sym (eq ∙ ap (told_place text) eb)) (told_shown text false a.behind)) where
-  from : (p : ℕ) → p < length text → ahead_seen text a.behind ≤ p → ahead_seen text i ≤ p
-  from p l near = seen_mark text false i p (subst (λ (b : Ahead). is_marked b.token ≡ true) ea (ap is_marked d)) l (subst (λ n. ahead_seen text n ≤ p) (ap (λ (b : Ahead). b.behind) ea) near)
-
-  none : (p : ℕ) (other : List ℕ) → IsTwin text p other → ahead_seen text a.behind ≤ p → NoLine i (ahead text false i) fs u other
-  none p other m near = λ seen calm v h.
-      let here = twin_ahead text p other m false i ci.0 (from p (twin_within text p other m) near) in
-      let same : SameEnd text other i = record { here = here; further = λ t. subst (λ n. ahead other false n ≡ ahead text false n) (ap (λ (b : Ahead). b.behind) ea) (twin_ahead text p other m false a.behind cb.0 near) } in
-      nothing_follows other fs u i (ahead text false i) seen.0 ((λ e. inside.0 (end_here text other i same e)), sign_same text other i same ∙ inside.1)
-      (all_quiet other (ahead text false i) fs open_.1 block (ap (λ (b : Ahead). is_ending b.token) (sym ea) ∙ ap is_ending d)) v h
-
-  by_told : IsTold text false a.behind q → Stops text i (NoLine i (ahead text false i) fs u) (Err (stop.Unread q))
-  by_told (inl k) = inl k
-  by_told (inr (n, l, (p, past, near))) = let o = past_within text p q past in inr (l, (p, past, from p (omega (arith, o, l)) near, (λ other m. none p other m near)))
 
 -- ---- an item of a list is a node that is awaited
 

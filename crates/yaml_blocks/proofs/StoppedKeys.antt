@@ -1,10 +1,10 @@
 -- Where reading stops behind a key: no colon follows it, in no text that is the same as far as what it has ahead is looked at. By the cases of what is ahead.
-use Rattle.std.proofs.Common.{◌≡◌, ℕ, ◌+◌, cond, ◌<◌, ◌≤◌, inl, inr, Bool, true, false, List, drop, refl, sym, ◌∙◌, subst, arith}
+use Rattle.std.proofs.Common.{◌≡◌, ℕ, suc, ◌+◌, cond, ◌<◌, ◌≤◌, inl, inr, Bool, true, false, List, drop, refl, sym, ◌∙◌, subst, arith}
 use Rattle.std.specs.Prelude.{Err}
 use Rattle.std.specs.Str.{IsCharBoundary}
 use Rattle.doc_values.specs.Tree.{has_key}
 use Rattle.doc_values.specs.Unfinished.{Unfinished}
-use Rattle.yaml_scalars.specs.Lines.{Stands, is_white, lead}
+use Rattle.yaml_scalars.specs.Lines.{Stands, begins_with, is_white, lead}
 use Rattle.yaml_scalars.specs.Scalar.{begins_quoted}
 use Rattle.yaml_scalars.specs.code.Walk.{line_at}
 use Rattle.yaml_laws.specs.code.Agreement.{scalar_shown}
@@ -18,14 +18,14 @@ use Rattle.yaml_blocks.specs.Flow.{IsColon}
 use Rattle.yaml_blocks.specs.Nodes.{as_key, starts_scalar, scalar_ahead}
 use Rattle.yaml_blocks.specs.Signs.{Tree}
 use Rattle.yaml_blocks.specs.code.AheadSeen.{ahead_seen}
-use Rattle.yaml_blocks.specs.code.StopPlaces.{past_return, told_place, ends_content, colon_place}
+use Rattle.yaml_blocks.specs.code.StopPlaces.{past_return, told_place, colon_place}
 use Rattle.yaml_blocks.specs.code.Rest.{top}
 use Rattle.yaml_blocks.specs.code.Steps.{IsSeen, Open}
 use Rattle.yaml_blocks.specs.code.Twins.{IsTwin, Stops, NoLine, NoEntry}
 use Rattle.yaml_blocks.proofs.BlockGains.{no_colon as no_line_colon}
 use Rattle.yaml_blocks.proofs.Fixed.{starts_of, scalar_from, scalar_to, scalar_all, place_from}
 use Rattle.yaml_blocks.proofs.Gains.{no_colon}
-use Rattle.yaml_blocks.proofs.KeyLineEnds.{key_shown, pointless_twin, no_colon_byte}
+use Rattle.yaml_blocks.proofs.KeyLineEnds.{key_shown, key_shown_next, pointless_twin, pointless_next, no_colon_byte}
 use Rattle.yaml_blocks.proofs.Quiet.{inside_at, word_inside}
 use Rattle.yaml_blocks.proofs.SameTexts.{colon_alike}
 use Rattle.yaml_blocks.proofs.ShownTokens.{IsPassed, passed_return, IsTold, told_shown}
@@ -57,24 +57,18 @@ module _ (text : List ℕ) (fs : List Form) (u : Unfinished) (i : ℕ) (a : Ahea
         (λ k c. none k (subst (λ b. IsColon text b e k) (twin_quoted text p other m a.at here ∙ sym eq) (colon_alike other text (begins_quoted (drop a.at other)) e k (sym same) c))) (Tree v) h
 
     by_told : IsTold text true e q → Stops text i (NoEntry i a fs u) (Err (Unread q))
-    by_told (inl k) = inl k
+    by_told (inl k) = inl (inl k)
     by_told (inr (n, l, (p, past, near))) = inr (l, (p, past, omega (arith, from, to, near), (λ other m. absent p other m near)))
 
   -- outside of flow
   pub no_line_colon_stops : (column : ℕ) (t : List ℕ) (e q : ℕ) → IsSeen text false i a → IsCharBoundary text i → top fs ≡ Entries column → Open fs u → a.column ≡ column → scalar_ahead text (as_key false) a ≡ Stands t e → a.at < e → IsCharBoundary text e
       → has_key u.done t ≡ false → ((ahead text false e).fresh ≡ false → (ahead text false e).token ≡ Point true → ⊥) → q ≡ colon_place text e → Stops text i (NoLine i a fs u) (Err (Unread q))
-  no_line_colon_stops column t e q seen cut form open_ col st low last new none place = by_end (ends_content (drop End text)) refl place where
+  no_line_colon_stops column t e q seen cut form open_ col st low last new none place = by_end (begins_with 58 (drop End text)) refl place where
     End : ℕ
     End = e + lead is_white (line_at (drop e text))
 
     from : ahead_seen text i ≤ e
     from = scalar_from text false i a seen cut (as_key false) t e st low last
-
-    to : e ≤ ahead_seen text e
-    to = scalar_to text false i a seen cut (as_key false) t e st low last
-
-    all : scalar_shown (as_key false) text a.at e ≤ ahead_seen text e
-    all = scalar_all text false i a seen cut (as_key false) t e st low last
 
     first : a.at ≤ ahead_seen text i
     first = place_from text false i a seen
@@ -87,26 +81,26 @@ module _ (text : List ℕ) (fs : List Form) (u : Unfinished) (i : ℕ) (a : Ahea
     missing other stands absent = λ seen2 calm v h.
         no_line_colon other column fs u i e a t seen2.0 (inside_at other i (word_inside (ahead other false i).token (subst (λ (b : Ahead). starts_scalar b.token ≡ true) seen2.0 word))) form open_ col stands new absent v h
 
-    absent : (p : ℕ) (other : List ℕ) → IsTwin text p other → ahead_seen text e ≤ p → NoLine i a fs u other
-    absent p other m near =
-        let here : a.at ≤ p = omega (arith, first, from, to, near) in
-        let same = twin_ahead text p other m false e last.0 near in
-        missing other (twin_ahead_scalar text p other m (as_key false) a t e here (omega (arith, all, near)) st) (subst (λ (x : Ahead). x.fresh ≡ false → x.token ≡ Point true → ⊥) (sym same) none)
+    -- the line ends behind the key, or goes on with another byte
+    line_missing : begins_with 58 (drop End text) ≡ false → (other : List ℕ) → IsTwin text End other → NoLine i a fs u other
+    line_missing bare other m =
+        let shown = key_shown text a.at t e (starts_of text (as_key false) a t e st).1 (no_colon_byte text e bare) in
+        missing other (twin_ahead_scalar text End other m (as_key false) a t e (omega (arith, low)) shown st) (pointless_twin text e other bare m)
 
-    -- the line ends behind the key
-    line_missing : ends_content (drop End text) ≡ true → (other : List ℕ) → IsTwin text End other → NoLine i a fs u other
-    line_missing ends other m =
-        let shown = key_shown text a.at t e (starts_of text (as_key false) a t e st).1 (no_colon_byte text e ends) in
-        missing other (twin_ahead_scalar text End other m (as_key false) a t e (omega (arith, low)) shown st) (pointless_twin text e other ends m)
+    line_end : begins_with 58 (drop End text) ≡ false → IsPassed text End q → Stops text i (NoLine i a fs u) (Err (Unread q))
+    line_end bare (inl k) = inl (inl k)
+    line_end bare (inr (l, past)) = inr (l, (End, past, omega (arith, from), (λ other m. line_missing bare other m)))
 
-    line_end : ends_content (drop End text) ≡ true → IsPassed text End q → Stops text i (NoLine i a fs u) (Err (Unread q))
-    line_end ends (inl k) = inl k
-    line_end ends (inr (l, past)) = inr (l, (End, past, omega (arith, from), (λ other m. line_missing ends other m)))
+    -- or with a colon
+    next_missing : begins_with 58 (drop End text) ≡ true → (other : List ℕ) → IsTwin text (suc End) other → NoLine i a fs u other
+    next_missing colon other m =
+        let shown = key_shown_next text a.at t e (starts_of text (as_key false) a t e st).1 in
+        missing other (twin_ahead_scalar text (suc End) other m (as_key false) a t e (omega (arith, low)) shown st) (pointless_next text e other colon m none)
 
-    by_told : IsTold text false e q → Stops text i (NoLine i a fs u) (Err (Unread q))
-    by_told (inl k) = inl k
-    by_told (inr (n, l, (p, past, near))) = inr (l, (p, past, omega (arith, from, to, near), (λ other m. absent p other m near)))
+    line_next : begins_with 58 (drop End text) ≡ true → IsPassed text (suc End) q → Stops text i (NoLine i a fs u) (Err (Unread q))
+    line_next colon (inl k) = inl (inl k)
+    line_next colon (inr (l, past)) = inr (l, (suc End, past, omega (arith, from), (λ other m. next_missing colon other m)))
 
-    by_end : (r : Bool) → ends_content (drop End text) ≡ r → q ≡ cond r (past_return text End) (told_place text (ahead text false e)) → Stops text i (NoLine i a fs u) (Err (Unread q))
-    by_end true ends k = line_end ends (subst (IsPassed text End) (sym k) (passed_return text End))
-    by_end false ends k = by_told (subst (IsTold text false e) (sym k) (told_shown text false e))
+    by_end : (r : Bool) → begins_with 58 (drop End text) ≡ r → q ≡ past_return text (cond r (suc End) End) → Stops text i (NoLine i a fs u) (Err (Unread q))
+    by_end true colon k = line_next colon (subst (IsPassed text (suc End)) (sym k) (passed_return text (suc End)))
+    by_end false bare k = line_end bare (subst (IsPassed text End) (sym k) (passed_return text End))

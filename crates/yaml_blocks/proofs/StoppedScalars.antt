@@ -1,6 +1,6 @@
 -- Where reading stops at a scalar that fails: it stands in no text that is the same as far as the place, nor does a key. By what is read there instead.
-use Rattle.std.proofs.Common.{◌≡◌, ℕ, ◌+◌, ◌<◌, ◌≤◌, ◌⊎◌, inl, inr, Bool, true, false, List, cond, drop, length, refl, sym, ap, ◌∙◌, subst, true≢false, arith}
-use Rattle.std.proofs.lemmas.Bool.{cases_lt}
+use Rattle.std.proofs.Common.{◌≡◌, ℕ, ◌+◌, ◌<◌, ◌≤◌, ◌⊎◌, inl, inr, Bool, true, false, nat_lt, List, cond, drop, length, refl, sym, ap, ◌∙◌, subst, true≢false, arith}
+use Rattle.std.proofs.lemmas.Bool.{cases_lt, ltb-true}
 use Rattle.std.specs.Prelude.{Result, Ok, Err, None}
 use Rattle.doc_values.specs.Tree.{Forest}
 use Rattle.doc_values.specs.Unfinished.{Unfinished}
@@ -24,7 +24,7 @@ use Rattle.yaml_blocks.specs.Flow.{may_miss}
 use Rattle.yaml_blocks.specs.Nodes.{setting_of, as_key, starts_scalar, scalar_ahead, is_tagged, node_sign}
 use Rattle.yaml_blocks.specs.Signs.{Tree, Refused, ManyDocuments}
 use Rattle.yaml_blocks.specs.code.AheadSeen.{ahead_seen}
-use Rattle.yaml_blocks.specs.code.StopPlaces.{width}
+use Rattle.yaml_blocks.specs.code.StopPlaces.{width, within, past_return}
 use Rattle.yaml_blocks.specs.code.Rest.{top}
 use Rattle.yaml_blocks.specs.code.Steps.{IsFlow, IsBlock, Open, NoKey, Missed, Failed, is_ending, is_flow_ending}
 use Rattle.yaml_blocks.specs.code.Twins.{IsTwin, Stops, NoValue, NoFlowValue, FailedAt}
@@ -34,7 +34,8 @@ use Rattle.yaml_blocks.proofs.Gains.{flow_spot, holds_gives}
 use Rattle.yaml_blocks.proofs.KeyEnds.{key_stands}
 use Rattle.yaml_blocks.proofs.Quiet.{word_inside}
 use Rattle.yaml_blocks.proofs.Scalars.{key_single}
-use Rattle.yaml_blocks.proofs.ShownTokens.{IsPassed, passed_return, ahead_wide}
+use Rattle.yaml_blocks.proofs.ShownTokens.{passed_return, ahead_wide}
+use Rattle.yaml_blocks.proofs.Stopped.{within_stops}
 
 -- ---- in another text
 
@@ -100,8 +101,8 @@ missed_failed text flow a none = (none, (λ p d. key_single flow text a p d))
 
 module _ (text : List ℕ) (s : Setting) (flow : Bool) (i : ℕ) (a : Ahead) (none : List ℕ → Type 0) (here : a ≡ ahead text flow i) (n : starts_scalar a.token ≡ true) (absent : (other : List ℕ) → Missed other s a → none other) where
   pub failed_stops : (q : ℕ) → FailedAt text s a q → Stops text i none (Err (stop.Unread q))
-  failed_stops q (inl e) = inl e
-  failed_stops q (inr (r, l, h, e)) = by_passed (subst (IsPassed text Far) (sym e) (passed_return text Far)) where
+  failed_stops q (inl e) = inl (inl e.0)
+  failed_stops q (inr (r, l, h, e)) = by_end (nat_lt r (length text)) refl e where
     Far : ℕ
     Far = widest (a.at + width a (drop a.at text)) r
 
@@ -114,9 +115,10 @@ module _ (text : List ℕ) (s : Setting) (flow : Bool) (i : ℕ) (a : Ahead) (no
         let b = both.0 in
         omega (arith, w, b)
 
-    by_passed : IsPassed text Far q → Stops text i none (Err (stop.Unread q))
-    by_passed (inl k) = inl k
-    by_passed (inr (k, past)) = inr (k, (Far, past, near, (λ other m. absent other (missed_twin text s a r Far other m both.1 l n h))))
+    by_end : (k : Bool) → nat_lt r (length text) ≡ k → q ≡ cond k (within text (past_return text Far)) (length text) → Stops text i none (Err (stop.Unread q))
+    by_end true k g =
+        within_stops text i none Far (past_return text Far) q r (passed_return text Far) g near (ltb-true r (length text) k) both.1 (λ p other o m. absent other (missed_twin text s a r p other m o l n h))
+    by_end false k g = inl (inl g)
 
   pub scalar_stops : (r : Result Position Stop) → ((q : ℕ) → r ≡ Err (stop.Unread q) → FailedAt text s a q) → Stops text i none r
   scalar_stops (Ok p) f = tt

@@ -88,7 +88,7 @@ feed_append (b ∷ v) w h g = by_byte (nat_eq b 10) h (λ i. feed_append v w i g
 
 -- ---- what is told by a token's place alone
 
-takes_alike : (f : Form) (a b : Ahead) → b.fresh ≡ a.fresh → b.column ≡ a.column → takes_scalar f b ≡ takes_scalar f a
+pub takes_alike : (f : Form) (a b : Ahead) → b.fresh ≡ a.fresh → b.column ≡ a.column → takes_scalar f b ≡ takes_scalar f a
 takes_alike Root a b e c = e
 takes_alike (Flow map) a b e c = refl
 takes_alike (FlowTagged at) a b e c = refl
@@ -109,7 +109,7 @@ name_longer text w at i low = by_test (nat_lt (length text) (at + 1)) refl where
       let within : at + 1 ≤ length text = grind (arith, nat_tests, e) in
       ap (take (i - (at + 1))) (drop_before (at + 1) text w within) ∙ take-append-le (i - (at + 1)) (drop (at + 1) text) w (omega (arith, low, within, length-drop (at + 1) text))
 
-cuts_longer : (text w : List ℕ) (f : Form) (i : ℕ) → i ≤ length text → follows_get_att (text ++ w) f i ≡ follows_get_att text f i
+pub cuts_longer : (text w : List ℕ) (f : Form) (i : ℕ) → i ≤ length text → follows_get_att (text ++ w) f i ≡ follows_get_att text f i
 cuts_longer text w Root i low = refl
 cuts_longer text w (Flow map) i low = refl
 cuts_longer text w (FlowTagged at) i low = ap (λ n. bytes_eq n get_att) (name_longer text w at i low)

@@ -1,9 +1,11 @@
 -- What serves the code and its proofs alone: nobody has to believe it.
 pub mod AheadSeen
 pub mod Closers
+pub mod Feeds
 pub mod Memory
 pub mod Places
 pub mod Refused
+pub mod ReadAgain
 pub mod Rest
 pub mod Steps
 pub mod StopPlaces

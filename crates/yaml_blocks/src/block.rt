@@ -10,8 +10,9 @@ ghost use Rattle.yaml_blocks.specs.Blocks.{block_sign, takes_scalar, takes_mappi
 ghost use Rattle.yaml_blocks.specs.code.Refused.{of_sign};
 ghost use Rattle.yaml_blocks.specs.code.Rest.{top, Inside, Ends, Awaits};
 ghost use Rattle.yaml_blocks.specs.Yaml.{IsEnd};
-ghost use Rattle.yaml_blocks.specs.code.Twins.{Stops, NoLine, NoValue, FixesNode, FixesEnd};
-ghost use Rattle.yaml_blocks.specs.code.Steps.{stack, IsSeen, IsBlock, IsBehind, IsSmall, HasKey, NoKey, EndsKey, Open, Fits, Awaited, SameKey, SameNode, SameEnd, IsCalm, NoNode, Gives, Ended, is_dash, ends_before};
+ghost use Rattle.yaml_blocks.specs.code.Feeds.{Opening};
+ghost use Rattle.yaml_blocks.specs.code.Twins.{Stops, NoLine, NoValue, Lengthens, Popped, FixesNode, FixesEnd};
+ghost use Rattle.yaml_blocks.specs.code.Steps.{stack, IsSeen, IsBlock, IsBehind, IsSmall, HasKey, NoKey, EndsKey, Open, Fits, Awaited, SameKey, SameNode, SameEnd, IsCalm, NoNode, Gives, Ended, is_ending, ends_before};
 
 use crate::ahead::{Ahead, Token, look};
 use crate::flow::open;
@@ -20,23 +21,13 @@ use crate::node::{
     Key, as_key, begin, begin_tag, colon_behind, find_key, find_scalar, innermost, offset,
     starts_scalar, take_null, take_scalar,
 };
-use crate::place::{colon_place, told_place};
+use crate::place::{colon_place, dash_place, is_dash, last_told, root_place};
 use crate::sign::{end_sign, is_tagged, node_sign};
 use crate::stage::{Position, Stage};
 use crate::stop::Stop;
 use doc_values::DocBuilder;
 use std::alloc::Global;
 use yaml_scalars::Scalar;
-
-/// Whether a token is a dash.
-fn is_dash(token: Token) -> bool
-    ensures { result ≡ is_dash token }
-{
-    match token {
-        Token::Dash => true,
-        _ => false,
-    }
-}
 
 /// Whether a scalar or a flow collection may begin at a token.
 fn takes_scalar(form: Form, next: Ahead) -> bool
@@ -194,7 +185,9 @@ fn sequence(
     requires takes { takes_sequence form next ≡ true }
     ensures gives { (other : List ℕ) → Awaited other (stack forms.old.items) builder.old form at next → SameNode text.now other form at next → Gives other (Awaits other (stack forms.old.items) builder.old.outer builder.old.done builder.old.key at) (2 * at + 1) (stack forms.new.items) builder.new result }
     ensures fixes { FixesNode text.now form at next result }
+    ensures opens { Opening (stack forms.new.items) result }
     ensures stops { Stops text.now at (NoValue at next form (stack forms.old.items) builder.old) result }
+    ensures longer { Lengthens text.now Stage.Value (stack forms.old.items) builder.old at result }
 {
     let column = column_in(form, next);
     match begin(Form::Items { column }, next, forms, builder) {
@@ -222,7 +215,9 @@ fn mapping<'s>(
     requires ends { EndsKey text.now next }
     ensures gives { (other : List ℕ) → Awaited other (stack forms.old.items) builder.old form at next → SameNode text.now other form at next → Gives other (Awaits other (stack forms.old.items) builder.old.outer builder.old.done builder.old.key at) (2 * at + 1) (stack forms.new.items) builder.new result }
     ensures fixes { FixesNode text.now form at next result }
+    ensures opens { Opening (stack forms.new.items) result }
     ensures stops { Stops text.now at (NoValue at next form (stack forms.old.items) builder.old) result }
+    ensures longer { Lengthens text.now Stage.Value (stack forms.old.items) builder.old at result }
 {
     let Key { text: name, behind } = key;
     let column = column_in(form, next);
@@ -254,7 +249,9 @@ fn tag<'s>(
     requires takes { takes_tag form next ≡ true }
     ensures gives { (other : List ℕ) → Awaited other (stack forms.old.items) builder.old form at next → SameNode text.now other form at next → Gives other (Awaits other (stack forms.old.items) builder.old.outer builder.old.done builder.old.key at) (2 * at + 1) (stack forms.new.items) builder.new result }
     ensures fixes { FixesNode text.now form at next result }
+    ensures opens { Opening (stack forms.new.items) result }
     ensures stops { Stops text.now at (NoValue at next form (stack forms.old.items) builder.old) result }
+    ensures longer { Lengthens text.now Stage.Value (stack forms.old.items) builder.old at result }
 {
     begin_tag(alloc, text, tagged(form, next), next, forms, builder)
 }
@@ -276,7 +273,9 @@ fn scalar<'s>(
     requires no_key { takes_mapping form next ≡ true → NoKey text.now next }
     ensures gives { (other : List ℕ) → Awaited other (stack forms.now) builder.old form at next → SameNode text.now other form at next → Gives other (Awaits other (stack forms.now) builder.old.outer builder.old.done builder.old.key at) (2 * at + 1) (stack forms.now) builder.new result }
     ensures fixes { FixesNode text.now form at next result }
+    ensures opens { Opening (stack forms.now) result }
     ensures stops { Stops text.now at (NoValue at next form (stack forms.now) builder.old) result }
+    ensures longer { Lengthens text.now Stage.Value (stack forms.now) builder.old at result }
 {
     take_scalar(alloc, text, at, form, next, builder)
 }
@@ -297,7 +296,9 @@ fn content<'s>(
     requires takes { takes_scalar form next ≡ true }
     ensures gives { (other : List ℕ) → Awaited other (stack forms.old.items) builder.old form at next → SameNode text.now other form at next → Gives other (Awaits other (stack forms.old.items) builder.old.outer builder.old.done builder.old.key at) (2 * at + 1) (stack forms.new.items) builder.new result }
     ensures fixes { FixesNode text.now form at next result }
+    ensures opens { Opening (stack forms.new.items) result }
     ensures stops { Stops text.now at (NoValue at next form (stack forms.old.items) builder.old) result }
+    ensures longer { Lengthens text.now Stage.Value (stack forms.old.items) builder.old at result }
 {
     if !takes_mapping(form, next) {
         return scalar(alloc, text, at, form, next, forms, builder);
@@ -325,10 +326,12 @@ fn missing(
     requires once { is_tagged form ≡ true → (len : ℕ) → next.token ≡ Token.Tag len → ⊥ }
     ensures gives { (other : List ℕ) → Awaited other (stack forms.now) builder.old form at next → SameNode text.now other form at next → Gives other (Awaits other (stack forms.now) builder.old.outer builder.old.done builder.old.key at) (2 * at + 1) (stack forms.now) builder.new result }
     ensures fixes { FixesNode text.now form at next result }
+    ensures opens { Opening (stack forms.now) result }
     ensures stops { Stops text.now at (NoValue at next form (stack forms.now) builder.old) result }
+    ensures longer { Lengthens text.now Stage.Value (stack forms.now) builder.old at result }
 {
     match form {
-        Form::Root => Err(Stop::Unread(told_place(text, next))),
+        Form::Root => Err(Stop::Unread(last_told(text, next))),
         _ => take_null(at, at, builder),
     }
 }
@@ -362,7 +365,9 @@ fn tag_again(
     requires unsigned { block_sign form next ≡ None }
     ensures gives { (other : List ℕ) → Awaited other (stack forms.old.items) builder.old form at next → SameNode text.now other form at next → Gives other (Awaits other (stack forms.old.items) builder.old.outer builder.old.done builder.old.key at) (2 * at + 1) (stack forms.new.items) builder.new result }
     ensures fixes { FixesNode text.now form at next result }
+    ensures opens { Opening (stack forms.new.items) result }
     ensures stops { Stops text.now at (NoValue at next form (stack forms.old.items) builder.old) result }
+    ensures longer { Lengthens text.now Stage.Value (stack forms.old.items) builder.old at result }
 {
     match take_null(at, at, builder) {
         Err(refusal) => return Err(refusal),
@@ -375,7 +380,7 @@ fn tag_again(
     if is_entry_column(innermost(forms), next) {
         return Err(Stop::Tag(offset(next.at)));
     }
-    Err(Stop::Unread(told_place(text, next)))
+    Err(Stop::Unread(last_told(text, next)))
 }
 
 /// A tag where none begins a node.
@@ -395,13 +400,41 @@ fn late_tag(
     requires unsigned { block_sign form next ≡ None }
     ensures gives { (other : List ℕ) → Awaited other (stack forms.old.items) builder.old form at next → SameNode text.now other form at next → Gives other (Awaits other (stack forms.old.items) builder.old.outer builder.old.done builder.old.key at) (2 * at + 1) (stack forms.new.items) builder.new result }
     ensures fixes { FixesNode text.now form at next result }
+    ensures opens { Opening (stack forms.new.items) result }
     ensures stops { Stops text.now at (NoValue at next form (stack forms.old.items) builder.old) result }
+    ensures longer { Lengthens text.now Stage.Value (stack forms.old.items) builder.old at result }
 {
     if is_tagged(form) {
         tag_again(text, at, form, len, next, forms, builder)
     } else {
         missing(text, at, form, next, forms, builder)
     }
+}
+
+/// A `-` where no sequence may begin: on the line of a key or a tag nothing may follow it.
+fn late_dash(
+    text: &str,
+    at: usize,
+    form: Form,
+    next: Ahead,
+    forms: &[Form],
+    builder: &mut DocBuilder,
+) -> Result<Position, Stop>
+    requires small { length text.now ≤ template_limit }
+    requires awaited { Awaited text.now (stack forms.now) builder.old form at next }
+    requires dash { next.token ≡ Token.Dash }
+    requires none { NoNode form next }
+    requires unsigned { block_sign form next ≡ None }
+    ensures gives { (other : List ℕ) → Awaited other (stack forms.now) builder.old form at next → SameNode text.now other form at next → Gives other (Awaits other (stack forms.now) builder.old.outer builder.old.done builder.old.key at) (2 * at + 1) (stack forms.now) builder.new result }
+    ensures fixes { FixesNode text.now form at next result }
+    ensures opens { Opening (stack forms.now) result }
+    ensures stops { Stops text.now at (NoValue at next form (stack forms.now) builder.old) result }
+    ensures longer { Lengthens text.now Stage.Value (stack forms.now) builder.old at result }
+{
+    if takes_scalar(form, next) {
+        return Err(Stop::Unread(dash_place(text, next)));
+    }
+    missing(text, at, form, next, forms, builder)
 }
 
 /// A flow collection begins.
@@ -419,7 +452,9 @@ fn brackets(
     requires takes { takes_scalar form next ≡ true }
     ensures gives { (other : List ℕ) → Awaited other (stack forms.old.items) builder.old form at next → SameNode text.now other form at next → Gives other (Awaits other (stack forms.old.items) builder.old.outer builder.old.done builder.old.key at) (2 * at + 1) (stack forms.new.items) builder.new result }
     ensures fixes { FixesNode text.now form at next result }
+    ensures opens { Opening (stack forms.new.items) result }
     ensures stops { Stops text.now at (NoValue at next form (stack forms.old.items) builder.old) result }
+    ensures longer { Lengthens text.now Stage.Value (stack forms.old.items) builder.old at result }
 {
     open(map, next, forms, builder)
 }
@@ -439,14 +474,16 @@ fn node_at<'s>(
     requires unsigned { block_sign form next ≡ None }
     ensures gives { (other : List ℕ) → Awaited other (stack forms.old.items) builder.old form at next → SameNode text.now other form at next → Gives other (Awaits other (stack forms.old.items) builder.old.outer builder.old.done builder.old.key at) (2 * at + 1) (stack forms.new.items) builder.new result }
     ensures fixes { FixesNode text.now form at next result }
+    ensures opens { Opening (stack forms.new.items) result }
     ensures stops { Stops text.now at (NoValue at next form (stack forms.old.items) builder.old) result }
+    ensures longer { Lengthens text.now Stage.Value (stack forms.old.items) builder.old at result }
 {
     match next.token {
         Token::Dash => {
             if takes_sequence(form, next) {
                 sequence(text, at, form, next, forms, builder)
             } else {
-                missing(text, at, form, next, forms, builder)
+                late_dash(text, at, form, next, forms, builder)
             }
         }
         Token::Tag { len } => {
@@ -490,7 +527,9 @@ pub(crate) fn node<'s>(
     requires fits { Fits text.now Stage.Value (stack forms.old.items) builder.old at }
     ensures gives { (other : List ℕ) → Awaited other (stack forms.old.items) builder.old form at (ahead text.now false at) → SameNode text.now other form at (ahead text.now false at) → Gives other (Awaits other (stack forms.old.items) builder.old.outer builder.old.done builder.old.key at) (2 * at + 1) (stack forms.new.items) builder.new result }
     ensures fixes { FixesNode text.now form at (ahead text.now false at) result }
+    ensures opens { Opening (stack forms.new.items) result }
     ensures stops { Stops text.now at (NoValue at (ahead text.now false at) form (stack forms.old.items) builder.old) result }
+    ensures longer { Lengthens text.now Stage.Value (stack forms.old.items) builder.old at result }
 {
     let next = look(text, false, at);
     match block_sign(form, next) {
@@ -504,7 +543,8 @@ fn end_before(next: Ahead, forms: &mut Vec<Form>, builder: &mut DocBuilder) -> R
     requires open { Open (stack forms.old.items) builder.old }
     requires block { IsBlock (top (stack forms.old.items)) }
     requires awaited { builder.old.key ≡ None }
-    ensures { (text : List ℕ) (i : ℕ) → next ≡ ahead text false i → Ended text (stack forms.old.items) builder.old next i (stack forms.new.items) builder.new result }
+    ensures ended { (text : List ℕ) (i : ℕ) → next ≡ ahead text false i → Ended text (stack forms.old.items) builder.old next i (stack forms.new.items) builder.new result }
+    ensures popped { IfOk result (λ done. Popped next (stack forms.old.items) builder.old (stack forms.new.items) builder.new) }
 {
     while ends_before(innermost(forms), next) {
         let Some(_) = forms.pop() else { unreachable!() };
@@ -527,24 +567,28 @@ fn item(
 ) -> Result<Position, Stop>
     requires small { length text.now ≤ template_limit }
     requires seen { IsSeen text.now false at next }
+    requires told { is_ending next.token ≡ false }
     requires fresh { next.fresh ≡ true }
     requires form { top (stack forms.now) ≡ Form.Items column }
     requires stays { ends_before (Form.Items column) next ≡ false }
     requires open { Open (stack forms.now) builder.now }
     requires awaited { builder.now.key ≡ None }
+    requires boundary { IsCharBoundary text.now at }
     ensures gives { (other : List ℕ) → IsSeen other false at next → Inside other at → Gives other (Ends other (stack forms.now) builder.now.outer builder.now.done at) (2 * at + 2) (stack forms.now) builder.now result }
     ensures fixes { (text : List ℕ) → IsSeen text false at next → IsCharBoundary text at → FixesEnd text at next result }
+    ensures opens { Opening (stack forms.now) result }
     ensures stops { Stops text.now at (NoLine at next (stack forms.now) builder.now) result }
+    ensures longer { Lengthens text.now Stage.After (stack forms.now) builder.now at result }
 {
     if next.column != column {
-        return Err(Stop::Unread(told_place(text, next)));
+        return Err(Stop::Unread(last_told(text, next)));
     }
     match next.token {
         Token::Dash => Ok(Position {
             stage: Stage::Value,
             at: next.behind,
         }),
-        _ => Err(Stop::Unread(told_place(text, next))),
+        _ => Err(Stop::Unread(last_told(text, next))),
     }
 }
 
@@ -560,6 +604,7 @@ fn entry<'s>(
 ) -> Result<Position, Stop>
     requires small { length text.now ≤ template_limit }
     requires seen { IsSeen text.now false at next }
+    requires told { is_ending next.token ≡ false }
     requires fresh { next.fresh ≡ true }
     requires form { top (stack forms.now) ≡ Form.Entries column }
     requires stays { ends_before (Form.Entries column) next ≡ false }
@@ -568,17 +613,19 @@ fn entry<'s>(
     requires boundary { IsCharBoundary text.now at }
     ensures gives { (other : List ℕ) → IsSeen other false at next → Inside other at → IsCalm other builder.old at → SameKey text.now other next → Gives other (Ends other (stack forms.now) builder.old.outer builder.old.done at) (2 * at + 2) (stack forms.now) builder.new result }
     ensures fixes { FixesEnd text.now at next result }
+    ensures opens { Opening (stack forms.now) result }
     ensures stops { Stops text.now at (NoLine at next (stack forms.now) builder.old) result }
+    ensures longer { Lengthens text.now Stage.After (stack forms.now) builder.old at result }
 {
     if next.column != column {
-        return Err(Stop::Unread(told_place(text, next)));
+        return Err(Stop::Unread(last_told(text, next)));
     }
     match node_sign(false, next) {
         Some(refusal) => return Err(refusal),
         None => {}
     }
     if !starts_scalar(next.token) {
-        return Err(Stop::Unread(told_place(text, next)));
+        return Err(Stop::Unread(dash_place(text, next)));
     }
     let scalar = match find_scalar(alloc, text, next, as_key(false)) {
         Ok(scalar) => scalar,
@@ -614,6 +661,7 @@ fn head<'s>(
 ) -> Result<Position, Stop>
     requires small { length text.now ≤ template_limit }
     requires seen { IsSeen text.now false at next }
+    requires told { is_ending next.token ≡ false }
     requires fresh { next.fresh ≡ true }
     requires form { top (stack forms.now) ≡ form }
     requires block { IsBlock form }
@@ -623,12 +671,14 @@ fn head<'s>(
     requires boundary { IsCharBoundary text.now at }
     ensures gives { (other : List ℕ) → IsSeen other false at next → Inside other at → IsCalm other builder.old at → SameKey text.now other next → Gives other (Ends other (stack forms.now) builder.old.outer builder.old.done at) (2 * at + 2) (stack forms.now) builder.new result }
     ensures fixes { FixesEnd text.now at next result }
+    ensures opens { Opening (stack forms.now) result }
     ensures stops { Stops text.now at (NoLine at next (stack forms.now) builder.old) result }
+    ensures longer { Lengthens text.now Stage.After (stack forms.now) builder.old at result }
 {
     match form {
         Form::Items { column } => item(text, at, column, next, forms, builder),
         Form::Entries { column } => entry(alloc, text, at, column, next, forms, builder),
-        Form::Root => Err(Stop::Unread(told_place(text, next))),
+        Form::Root => Err(Stop::Unread(root_place(text, next))),
         Form::Flow { map: _ } => unreachable!(),
         Form::FlowTagged { at: _ } => unreachable!(),
         Form::Tagged { .. } => unreachable!(),
@@ -646,16 +696,19 @@ fn line<'s>(
 ) -> Result<Position, Stop>
     requires small { length text.now ≤ template_limit }
     requires seen { IsSeen text.now false at next }
+    requires told { is_ending next.token ≡ false }
     requires block { IsBlock (top (stack forms.old.items)) }
     requires open { Open (stack forms.old.items) builder.old }
     requires awaited { builder.old.key ≡ None }
     requires boundary { IsCharBoundary text.now at }
     ensures gives { (other : List ℕ) → IsSeen other false at next → Inside other at → IsCalm other builder.old at → SameKey text.now other next → Gives other (Ends other (stack forms.old.items) builder.old.outer builder.old.done at) (2 * at + 2) (stack forms.new.items) builder.new result }
     ensures fixes { FixesEnd text.now at next result }
+    ensures opens { Opening (stack forms.new.items) result }
     ensures stops { Stops text.now at (NoLine at next (stack forms.old.items) builder.old) result }
+    ensures longer { Lengthens text.now Stage.After (stack forms.old.items) builder.old at result }
 {
     if !next.fresh {
-        return Err(Stop::Unread(told_place(text, next)));
+        return Err(Stop::Unread(last_told(text, next)));
     }
     match end_before(next, forms, builder) {
         Err(refusal) => Err(refusal),
@@ -726,7 +779,9 @@ pub(crate) fn after<'s>(
     requires awaited { builder.old.key ≡ None }
     ensures gives { (other : List ℕ) → SameEnd text.now other at → IsSeen other false at (ahead text.now false at) → IsCharBoundary other at → IsCalm other builder.old at → SameKey text.now other (ahead text.now false at) → Gives other (Ends other (stack forms.old.items) builder.old.outer builder.old.done at) (2 * at + 2) (stack forms.new.items) builder.new result }
     ensures fixes { FixesEnd text.now at (ahead text.now false at) result }
+    ensures opens { Opening (stack forms.new.items) result }
     ensures stops { Stops text.now at (NoLine at (ahead text.now false at) (stack forms.old.items) builder.old) result }
+    ensures longer { Lengthens text.now Stage.After (stack forms.old.items) builder.old at result }
 {
     let next = look(text, false, at);
     if is_document_end(text, at, next) {
@@ -737,7 +792,7 @@ pub(crate) fn after<'s>(
         None => {}
     }
     match next.token {
-        Token::Dots => Err(Stop::Unread(told_place(text, look(text, false, next.behind)))),
+        Token::Dots => Err(Stop::Unread(last_told(text, look(text, false, next.behind)))),
         _ => line(alloc, text, at, next, forms, builder),
     }
 }

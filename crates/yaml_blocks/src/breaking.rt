@@ -4,10 +4,11 @@ ghost use Rattle.doc_values.specs.Tree.{Forest, Nil, has_key, joined, snoc};
 ghost use Rattle.doc_values.specs.Unfinished.{Level, Unfinished};
 ghost use Rattle.doc_values.specs.declared.kind.Kind.{Kind};
 ghost use Rattle.doc_values.specs.declared.kind.Kind.TheVariants.{Text};
-ghost use Rattle.yaml_scalars.specs.Lines.{Stands, ends_with, is_blank};
+ghost use Rattle.yaml_scalars.specs.Lines.{Fails, Stands, each, ends_with, is_blank};
 ghost use Rattle.yaml_scalars.specs.Scalar.{HasKind, begins_block, begins_order_mark, begins_quoted, is_first_column, is_typed, scalar_at};
 ghost use Rattle.yaml_scalars.specs.code.Walk.{behind, has_break};
 ghost use Rattle.yaml_laws.specs.code.Endings.{last_mark};
+ghost use Rattle.yaml_laws.specs.code.Refusals.{is_ascii};
 ghost use Rattle.yaml_blocks.specs.declared.ahead.Token.TheVariants.{Dash, Dashes, End, Stray};
 ghost use Rattle.yaml_blocks.specs.declared.form.Form.{Form};
 ghost use Rattle.yaml_blocks.specs.declared.form.Form.TheVariants.{Entries, Flow, Items, Root};
@@ -128,4 +129,18 @@ pub(crate) fn key_breaks(front: &str, at: usize)
     ensures item { (column : ℕ) (fs : List Form) (x : Level) (xs : List Level) (done : Forest) → (ahead front.now false at).fresh ≡ true → (ahead front.now false at).column ≡ column → (ahead front.now false at).token ≡ Dash → (ahead front.now false at).behind ≤ length front.now → (ahead front.now false (ahead front.now false at).behind).token ≡ End → Agrees (Items column ∷ fs) (x ∷ xs) → Nests (Items column ∷ fs) → (tree : Forest) × Ends (front.now ++ (13 ∷ 10 ∷ [])) (Items column ∷ fs) (x ∷ xs) done at (Tree tree) }
     ensures sequence { (fs : List Form) (outer : List Level) (done : Forest) (key : Option (List ℕ)) → IsBlock (top fs) → Agrees fs outer → Nests fs → length outer < 128 → takes_sequence (top fs) (ahead front.now false at) ≡ true → (ahead front.now false at).token ≡ Dash → (ahead front.now false at).behind ≤ length front.now → (ahead front.now false (ahead front.now false at).behind).token ≡ End → (tree : Forest) × Awaits (front.now ++ (13 ∷ 10 ∷ [])) fs outer done key at (Tree tree) }
     ensures through { (text : List ℕ) (f : Form) (fs : List Form) (x : Level) (xs : List Level) (done : Forest) (v : Reading) → IsBlock f → (f ≡ Root → ⊥) → Ends text fs xs (snoc x.before x.label (joined done Nil)) at v → Ends text (f ∷ fs) (x ∷ xs) done at v }
+{}
+
+/// Where another entry of a mapping may stand and its key breaks off, some bytes of ASCII make a document of the text, if no
+/// carriage return ends it: they complete the key to one that none before has. The call itself does nothing.
+pub(crate) fn key_completes(text: &str, at: usize)
+    requires { at ≤ length text.now }
+    ensures block { (column : ℕ) (fs : List Form) (x : Level) (xs : List Level) (done : Forest) → (ahead text.now false at).fresh ≡ true → (ahead text.now false at).column ≡ column → starts_scalar (ahead text.now false at).token ≡ true → (ahead text.now false at).at < length text.now → ends_with 13 text.now ≡ false → scalar_at (as_key false) text.now (ahead text.now false at).at ≡ Fails (length text.now) → Agrees (Entries column ∷ fs) (x ∷ xs) → Nests (Entries column ∷ fs) → (more : List ℕ) × (each is_ascii more ≡ true) × (tree : Forest) × Ends (text.now ++ more) (Entries column ∷ fs) (x ∷ xs) done at (Tree tree) }
+    ensures flow { (fs : List Form) (x : Level) (xs : List Level) (done : Forest) → starts_scalar (ahead text.now true at).token ≡ true → (ahead text.now true at).at < length text.now → ends_with 13 text.now ≡ false → scalar_at (as_key true) text.now (ahead text.now true at).at ≡ Fails (length text.now) → Agrees (Flow true ∷ fs) (x ∷ xs) → Nests (Flow true ∷ fs) → (more : List ℕ) × (each is_ascii more ≡ true) × (tree : Forest) × Enters (text.now ++ more) (Flow true ∷ fs) (x ∷ xs) done at (Tree tree) }
+{}
+
+/// Where a value of a block may stand and a block scalar fails at the text's end below its header, behind a dot, the dots that
+/// a line `...` lacks make a document of the text. The call itself does nothing.
+pub(crate) fn block_completes(text: &str)
+    ensures { (fs : List Form) (outer : List Level) (done : Forest) (key : Option (List ℕ)) (at : ℕ) → at ≤ length text.now → Agrees fs outer → Nests fs → IsBlock (top fs) → takes_scalar (top fs) (ahead text.now false at) ≡ true → starts_scalar (ahead text.now false at).token ≡ true → (ahead text.now false at).at < length text.now → begins_quoted (drop (ahead text.now false at).at text.now) ≡ false → begins_block (setting_of (top fs)) (drop (ahead text.now false at).at text.now) ≡ true → has_break (drop (ahead text.now false at).at text.now) ≡ true → ends_with 46 text.now ≡ true → scalar_at (setting_of (top fs)) text.now (ahead text.now false at).at ≡ Fails (length text.now) → (follows_get_att text.now (top fs) at ≡ true → length outer < 128) → MendsValue text.now fs outer done key at }
 {}

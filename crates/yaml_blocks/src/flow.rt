@@ -8,7 +8,8 @@ ghost use Rattle.yaml_blocks.specs.Flow.{may_miss, may_tag, ends_key, IsColon};
 ghost use Rattle.yaml_blocks.specs.Ahead.{ahead};
 ghost use Rattle.yaml_blocks.specs.Nodes.{tag_name, node_sign, is_tagged, is_marked};
 ghost use Rattle.yaml_blocks.specs.code.Rest.{top, Ends, Enters, Awaits};
-ghost use Rattle.yaml_blocks.specs.code.Twins.{Stops, NoTail, NoFlowValue, NoEntry, FixesFlowNode, FixesFlowKey, FixesEntry, FixesSeen};
+ghost use Rattle.yaml_blocks.specs.code.Feeds.{FeedsSeen, FeedsFlowNode, FeedsFlowKey, FeedsEntry};
+ghost use Rattle.yaml_blocks.specs.code.Twins.{Stops, IsKeyed, IsUnpointed, Lengthens, MendsNode, OnUnread, NoTail, NoFlowValue, NoEntry, FixesFlowNode, FixesFlowKey, FixesEntry, FixesSeen};
 ghost use Rattle.yaml_blocks.specs.code.Steps.{stack, IsSeen, SameFlowNode, SameFlowKey, IsFlow, IsBehind, Open, Gives, Opened, Closed, is_flow_ending};
 
 use crate::ahead::{Ahead, Token, look};
@@ -16,7 +17,7 @@ use crate::form::Form;
 use crate::node::{
     as_key, begin, begin_tag, find_scalar, innermost, offset, starts_scalar, take_null, take_scalar,
 };
-use crate::place::told_place;
+use crate::place::{flow_place, told_place};
 use crate::sign::{is_marked, is_tagged, node_sign};
 use crate::stage::{Position, Stage};
 use crate::stop::Stop;
@@ -93,7 +94,9 @@ fn tag<'s>(
     requires behind { IsBehind form at }
     ensures gives { (other : List ℕ) → IsSeen other true at next → tag_name other next.at next.behind ≡ tag_name text.now next.at next.behind → Gives other (Awaits other (stack forms.old.items) builder.old.outer builder.old.done builder.old.key at) (2 * at + 2) (stack forms.new.items) builder.new result }
     ensures fixes { FixesFlowNode text.now form at next result }
+    ensures feeds { FeedsFlowNode text.now form at next result }
     ensures stops { Stops text.now at (NoFlowValue at next (stack forms.old.items) builder.old) result }
+    ensures longer { OnUnread (MendsNode text.now (stack forms.old.items) builder.old at) result }
 {
     begin_tag(
         alloc,
@@ -126,7 +129,9 @@ fn node<'s>(
     requires boundary { IsCharBoundary text.now at }
     ensures gives { (other : List ℕ) → IsSeen other true at next → SameFlowNode text.now other form at next → Gives other (Awaits other (stack forms.old.items) builder.old.outer builder.old.done builder.old.key at) (2 * at + 2) (stack forms.new.items) builder.new result }
     ensures fixes { FixesFlowNode text.now form at next result }
+    ensures feeds { FeedsFlowNode text.now form at next result }
     ensures stops { Stops text.now at (NoFlowValue at next (stack forms.old.items) builder.old) result }
+    ensures longer { OnUnread (MendsNode text.now (stack forms.old.items) builder.old at) result }
 {
     match node_sign(is_tagged(form), next) {
         Some(refusal) => return Err(refusal),
@@ -137,7 +142,7 @@ fn node<'s>(
         Token::Tag { len } => tag(alloc, text, at, form, len, next, forms, builder),
         _ => {
             if !starts_scalar(next.token) {
-                return Err(Stop::Unread(told_place(text, next)));
+                return Err(Stop::Unread(flow_place(text, next)));
             }
             take_scalar(alloc, text, at, form, next, builder)
         }
@@ -222,14 +227,16 @@ fn key<'s>(
     requires boundary { IsCharBoundary text.now at }
     ensures gives { (other : List ℕ) → IsSeen other true at next → SameFlowKey text.now other next → Gives other (Enters other (stack forms.now) builder.old.outer builder.old.done at) (2 * at + 2) (stack forms.now) builder.new result }
     ensures fixes { FixesFlowKey text.now at next result }
+    ensures feeds { FeedsFlowKey text.now at next result }
     ensures stops { Stops text.now at (NoEntry at next (stack forms.now) builder.old) result }
+    ensures longer { IsKeyed text.now at → Lengthens text.now Stage.Entry (stack forms.now) builder.old at result }
 {
     match node_sign(false, next) {
         Some(refusal) => return Err(refusal),
         None => {}
     }
     if !starts_scalar(next.token) {
-        return Err(Stop::Unread(told_place(text, next)));
+        return Err(Stop::Unread(flow_place(text, next)));
     }
     let scalar = match find_scalar(alloc, text, next, as_key(true)) {
         Ok(scalar) => scalar,
@@ -269,7 +276,9 @@ pub(crate) fn entry<'s>(
     requires awaited { builder.old.key ≡ None }
     ensures gives { (other : List ℕ) → IsSeen other true at (ahead text.now true at) → (map ≡ true → SameFlowKey text.now other (ahead text.now true at)) → (map ≡ false → SameFlowNode text.now other (Form.Flow false) at (ahead text.now true at)) → Gives other (Enters other (stack forms.old.items) builder.old.outer builder.old.done at) (2 * at + 2) (stack forms.new.items) builder.new result }
     ensures fixes { FixesEntry text.now map at (ahead text.now true at) result }
+    ensures feeds { FeedsEntry text.now map at (ahead text.now true at) result }
     ensures stops { Stops text.now at (NoEntry at (ahead text.now true at) (stack forms.old.items) builder.old) result }
+    ensures longer { (map ≡ true → IsKeyed text.now at) → Lengthens text.now Stage.Entry (stack forms.old.items) builder.old at result }
 {
     let next = look(text, true, at);
     if closes(next.token, map) {
@@ -312,7 +321,9 @@ pub(crate) fn value<'s>(
     requires awaited { AwaitsValue builder.old }
     ensures gives { (other : List ℕ) → IsSeen other true at (ahead text.now true at) → IsCharBoundary other at → SameFlowNode text.now other form at (ahead text.now true at) → Gives other (Awaits other (stack forms.old.items) builder.old.outer builder.old.done builder.old.key at) (2 * at + 1) (stack forms.new.items) builder.new result }
     ensures fixes { FixesFlowNode text.now form at (ahead text.now true at) result }
+    ensures feeds { FeedsFlowNode text.now form at (ahead text.now true at) result }
     ensures stops { Stops text.now at (NoFlowValue at (ahead text.now true at) (stack forms.old.items) builder.old) result }
+    ensures longer { Lengthens text.now Stage.Value (stack forms.old.items) builder.old at result }
 {
     let next = look(text, true, at);
     if is_flow_ending(next.token) {
@@ -336,7 +347,9 @@ pub(crate) fn after(
     requires awaited { builder.old.key ≡ None }
     ensures gives { (other : List ℕ) → IsSeen other true at (ahead text.now true at) → Gives other (Ends other (stack forms.old.items) builder.old.outer builder.old.done at) (2 * at + 2) (stack forms.new.items) builder.new result }
     ensures fixes { FixesSeen text.now at result }
+    ensures feeds { FeedsSeen text.now at result }
     ensures stops { Stops text.now at (NoTail at (ahead text.now true at) (stack forms.old.items) builder.old) result }
+    ensures longer { IsUnpointed text.now at → Lengthens text.now Stage.After (stack forms.old.items) builder.old at result }
 {
     let next = look(text, true, at);
     if closes(next.token, map) {
@@ -350,7 +363,7 @@ pub(crate) fn after(
             stage: Stage::Entry,
             at: next.behind,
         }),
-        _ => Err(Stop::Unread(told_place(text, next))),
+        _ => Err(Stop::Unread(flow_place(text, next))),
     }
 }
 
@@ -369,7 +382,9 @@ pub(crate) fn after_tag(
     requires awaited { builder.old.key ≡ None }
     ensures gives { (other : List ℕ) → IsSeen other true at (ahead text.now true at) → Gives other (Ends other (stack forms.old.items) builder.old.outer builder.old.done at) (2 * at + 2) (stack forms.new.items) builder.new result }
     ensures fixes { FixesSeen text.now at result }
+    ensures feeds { FeedsSeen text.now at result }
     ensures stops { Stops text.now at (NoTail at (ahead text.now true at) (stack forms.old.items) builder.old) result }
+    ensures longer { IsUnpointed text.now at → Lengthens text.now Stage.After (stack forms.old.items) builder.old at result }
 {
     let Some(_) = forms.pop() else { unreachable!() };
     match builder.end() {

@@ -15,6 +15,7 @@ mod node;
 mod place;
 mod read;
 mod refusal;
+mod returned;
 mod sign;
 mod stage;
 mod step;

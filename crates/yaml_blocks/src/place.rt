@@ -2,16 +2,17 @@
 ghost use Rattle.std.specs.Prelude.{◌≡◌, ◌≤◌, ◌<◌, ◌+◌, ◌||◌, suc, nat_lt, length, drop, slice_index};
 ghost use Rattle.std.specs.Str.{IsCharBoundary};
 ghost use Rattle.doc_values.specs.Limits.{template_limit};
-ghost use Rattle.yaml_scalars.specs.Block.{same};
+ghost use Rattle.yaml_scalars.specs.Block.{same, widest};
 ghost use Rattle.yaml_scalars.specs.Lines.{begins_with};
 ghost use Rattle.yaml_blocks.specs.code.AheadSeen.{first_return};
-ghost use Rattle.yaml_blocks.specs.code.StopPlaces.{is_stray, run_width, byte_width, token_width, is_hidden, width, past_return, told_place, failed_place, refused_place, ends_content, colon_place};
+ghost use Rattle.yaml_blocks.specs.code.Steps.{is_dash, is_open};
+ghost use Rattle.yaml_blocks.specs.code.StopPlaces.{is_stray, run_width, byte_width, token_width, is_hidden, width, past_return, told_place, within, last_told, flow_place, dash_place, ends_in_dots, root_place, failed_place, refused_place, colon_place};
 
-use crate::ahead::{Ahead, Token, look, name_len};
+use crate::ahead::{Ahead, Token, name_len};
 use crate::node::offset;
 use crate::sign::is_ending;
 use yaml_scalars::ScalarRefusal;
-use yaml_scalars::lines::{ends_line, whites};
+use yaml_scalars::lines::whites;
 
 /// Whether a token is a stray carriage return, or a comment that has one.
 fn is_stray(token: Token) -> bool
@@ -61,12 +62,17 @@ fn run_len(bytes: &[u8], at: usize) -> usize
     3
 }
 
-/// The same, and one more behind the three bytes of a mark, where a carriage return may stand.
-fn run_width(len: usize) -> usize
-    ensures is { result ≡ run_width len }
+/// The same, and one more behind the three bytes of a mark, if a carriage return stands there.
+fn run_width(bytes: &[u8], at: usize, len: usize) -> usize
+    requires within { at + len ≤ length bytes.now }
+    requires some { at < length bytes.now }
+    ensures is { result ≡ run_width len (drop (at + 1) bytes.now) }
     ensures within { result ≤ len + 1 }
 {
-    if len == 3 { 4 } else { len }
+    if len == 3 && has_byte(bytes, at + 3, b'\r') {
+        return 4;
+    }
+    len
 }
 
 /// How many bytes from a token's first one, which stands at a place, stand before one that shows what it is.
@@ -78,7 +84,7 @@ fn byte_width(bytes: &[u8], at: usize) -> usize
 {
     match bytes[at] {
         b'!' => name_len(bytes, at + 1) + 1,
-        b'-' | b'.' => run_width(run_len(bytes, at)),
+        b'-' | b'.' => run_width(bytes, at, run_len(bytes, at)),
         b':' | b'\r' => 1,
         _ => 0,
     }
@@ -144,19 +150,120 @@ pub(crate) fn told_place(text: &str, next: Ahead) -> u32
     offset(past_return(bytes, next.at + width(bytes, next)))
 }
 
-/// Where a scalar fails at a token: the place where it does, and not before one that shows what is ahead.
+/// A place, or that of the text's last byte where it is the length.
+fn within(text: &str, place: u32) -> u32
+    requires small { length text.now ≤ template_limit }
+    ensures { result ≡ within text.now place }
+{
+    let size = offset(text.len());
+    if place < size {
+        return place;
+    }
+    if size == 0 {
+        return 0;
+    }
+    size - 1
+}
+
+/// A place at which a text shows what it has ahead, or that of its last byte.
+pub(crate) fn last_told(text: &str, next: Ahead) -> u32
+    requires small { length text.now ≤ template_limit }
+    requires within { next.at ≤ length text.now }
+    ensures { result ≡ last_told text.now next }
+{
+    within(text, told_place(text, next))
+}
+
+/// Whether a plain scalar between brackets that ends in front of a token may go on where other bytes stand behind it.
+fn is_open(token: Token) -> bool
+    ensures { result ≡ is_open token }
+{
+    match token {
+        Token::End | Token::Dashes | Token::Dots | Token::Point { .. } => true,
+        _ => false,
+    }
+}
+
+/// Between brackets: a place at which a text shows what it has ahead; but where a plain scalar cannot go on, that of its last
+/// byte for its length.
+pub(crate) fn flow_place(text: &str, next: Ahead) -> u32
+    requires small { length text.now ≤ template_limit }
+    requires within { next.at ≤ length text.now }
+    ensures { result ≡ flow_place text.now next }
+{
+    if is_ending(next.token) || is_open(next.token) {
+        return told_place(text, next);
+    }
+    last_told(text, next)
+}
+
+/// Whether a token is a dash.
+pub(crate) fn is_dash(token: Token) -> bool
+    ensures { result ≡ is_dash token }
+{
+    match token {
+        Token::Dash => true,
+        _ => false,
+    }
+}
+
+/// The same; where a `-` ends the text, its length.
+pub(crate) fn dash_place(text: &str, next: Ahead) -> u32
+    requires small { length text.now ≤ template_limit }
+    requires within { next.at ≤ length text.now }
+    ensures { result ≡ dash_place text.now next }
+{
+    if is_dash(next.token) && next.behind == text.len() {
+        return offset(text.len());
+    }
+    last_told(text, next)
+}
+
+/// Whether the text ends in one or two dots that begin a line at a token.
+fn ends_in_dots(text: &str, next: Ahead) -> bool
+    requires within { next.at ≤ length text.now }
+    ensures { result ≡ ends_in_dots text.now next }
+{
+    let rest = &text.as_bytes()[next.at..];
+    next.column == 0 && (rest == ".".as_bytes() || rest == "..".as_bytes())
+}
+
+/// Behind the root: a place at which a text shows what it has ahead, or that of its last byte; where it ends in dots that may
+/// end the document, its length.
+pub(crate) fn root_place(text: &str, next: Ahead) -> u32
+    requires small { length text.now ≤ template_limit }
+    requires within { next.at ≤ length text.now }
+    ensures { result ≡ root_place text.now next }
+{
+    if ends_in_dots(text, next) {
+        return offset(text.len());
+    }
+    last_told(text, next)
+}
+
+/// The place of the two that is further.
+fn further(first: usize, second: usize) -> usize
+    ensures { result ≡ widest first second }
+{
+    if first < second {
+        return second;
+    }
+    first
+}
+
+/// Where a scalar fails at a token: the place where it does, and not before one that shows what is ahead; the text's length
+/// where it does at the text's end.
 fn failed_place(text: &str, next: Ahead, at: u32) -> u32
     requires small { length text.now ≤ template_limit }
     requires within { next.at ≤ length text.now }
     ensures { result ≡ failed_place text.now next at }
 {
+    if at >= offset(text.len()) {
+        return offset(text.len());
+    }
     let bytes = text.as_bytes();
     let told = next.at + width(bytes, next);
-    let failed = at as usize;
-    if told < failed {
-        return offset(past_return(bytes, failed));
-    }
-    offset(past_return(bytes, told))
+    within(text, offset(past_return(bytes, further(told, at as usize))))
 }
 
 /// The same by the refusal; the text's length where it says no place.
@@ -172,16 +279,8 @@ pub(crate) fn refused_place(text: &str, next: Ahead, refusal: ScalarRefusal) -> 
     }
 }
 
-/// Whether a line's content ends at a place: the line does, or a comment may begin there.
-fn ends_content(bytes: &[u8], at: usize) -> bool
-    requires { at ≤ length bytes.now }
-    ensures { result ≡ ends_content (drop at bytes.now) }
-{
-    ends_line(bytes, at) || has_byte(bytes, at, b'#')
-}
-
-/// Behind a key that no colon follows: the line's end, or the comment there, or else a place at which the text shows what it
-/// has ahead.
+/// Behind a key that no colon follows: the first byte that is no white space, the line's end among them; behind a colon the
+/// next.
 pub(crate) fn colon_place(text: &str, end: usize) -> u32
     requires small { length text.now ≤ template_limit }
     requires boundary { IsCharBoundary text.now end }
@@ -189,8 +288,8 @@ pub(crate) fn colon_place(text: &str, end: usize) -> u32
 {
     let bytes = text.as_bytes();
     let place = end + whites(bytes, end);
-    if ends_content(bytes, place) {
-        return offset(past_return(bytes, place));
+    if has_byte(bytes, place, b':') {
+        return offset(past_return(bytes, place + 1));
     }
-    told_place(text, look(text, false, end))
+    offset(past_return(bytes, place))
 }

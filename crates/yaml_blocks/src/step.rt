@@ -5,7 +5,8 @@ ghost use Rattle.std.specs.Str.{IsCharBoundary, IsUtf8};
 ghost use Rattle.doc_values.specs.Limits.{template_limit};
 ghost use Rattle.doc_values.specs.Unfinished.{start};
 ghost use Rattle.yaml_blocks.specs.code.Rest.{top, Ends, Enters, Awaits, Begins};
-ghost use Rattle.yaml_blocks.specs.code.Twins.{StopsStep, FixesStep, FixesRoot};
+ghost use Rattle.yaml_blocks.specs.code.Feeds.{FeedsStep};
+ghost use Rattle.yaml_blocks.specs.code.Twins.{StopsStep, IsKnown, Lengthens, FixesStep, FixesRoot};
 ghost use Rattle.yaml_blocks.specs.code.Steps.{stack, IsBlock, IsFlow, Open, Rest, Fits, SameStep, reached, Gives};
 
 use crate::ahead::look;
@@ -31,7 +32,9 @@ fn entry<'s>(
     requires fits { Fits text.now Stage.Entry (stack forms.old.items) builder.old at }
     ensures gives { (other : List ℕ) → IsUtf8 other → IsCharBoundary other at → Fits other Stage.Entry (stack forms.old.items) builder.old at → SameStep text.now other Stage.Entry (top (stack forms.old.items)) at → Gives other (Enters other (stack forms.old.items) builder.old.outer builder.old.done at) (2 * at + 2) (stack forms.new.items) builder.new result }
     ensures fixes { FixesStep text.now Stage.Entry (top (stack forms.old.items)) at result }
+    ensures feeds { FeedsStep text.now Stage.Entry (top (stack forms.old.items)) at (stack forms.new.items) result }
     ensures stops { StopsStep text.now Stage.Entry (stack forms.old.items) builder.old at result }
+    ensures longer { IsKnown text.now Stage.Entry (top (stack forms.old.items)) at → Lengthens text.now Stage.Entry (stack forms.old.items) builder.old at result }
 {
     match innermost(forms) {
         Form::Flow { map } => flow::entry(alloc, text, at, map, forms, builder),
@@ -67,7 +70,9 @@ fn value<'s>(
     requires fits { Fits text.now Stage.Value (stack forms.old.items) builder.old at }
     ensures gives { (other : List ℕ) → IsUtf8 other → IsCharBoundary other at → Fits other Stage.Value (stack forms.old.items) builder.old at → SameStep text.now other Stage.Value (top (stack forms.old.items)) at → Gives other (Awaits other (stack forms.old.items) builder.old.outer builder.old.done builder.old.key at) (2 * at + 1) (stack forms.new.items) builder.new result }
     ensures fixes { FixesStep text.now Stage.Value (top (stack forms.old.items)) at result }
+    ensures feeds { FeedsStep text.now Stage.Value (top (stack forms.old.items)) at (stack forms.new.items) result }
     ensures stops { StopsStep text.now Stage.Value (stack forms.old.items) builder.old at result }
+    ensures longer { IsKnown text.now Stage.Value (top (stack forms.old.items)) at → Lengthens text.now Stage.Value (stack forms.old.items) builder.old at result }
 {
     let form = innermost(forms);
     if is_flow(form) {
@@ -89,7 +94,9 @@ fn after<'s>(
     requires fits { Fits text.now Stage.After (stack forms.old.items) builder.old at }
     ensures gives { (other : List ℕ) → IsUtf8 other → IsCharBoundary other at → Fits other Stage.After (stack forms.old.items) builder.old at → SameStep text.now other Stage.After (top (stack forms.old.items)) at → Gives other (Ends other (stack forms.old.items) builder.old.outer builder.old.done at) (2 * at + 2) (stack forms.new.items) builder.new result }
     ensures fixes { FixesStep text.now Stage.After (top (stack forms.old.items)) at result }
+    ensures feeds { FeedsStep text.now Stage.After (top (stack forms.old.items)) at (stack forms.new.items) result }
     ensures stops { StopsStep text.now Stage.After (stack forms.old.items) builder.old at result }
+    ensures longer { IsKnown text.now Stage.After (top (stack forms.old.items)) at → Lengthens text.now Stage.After (stack forms.old.items) builder.old at result }
 {
     match innermost(forms) {
         Form::Flow { map } => flow::after(text, at, map, forms, builder),
@@ -112,7 +119,9 @@ pub(crate) fn step<'s>(
     requires fits { Fits text.now position.stage (stack forms.old.items) builder.old position.at }
     ensures gives { (other : List ℕ) → IsUtf8 other → IsCharBoundary other position.at → Fits other position.stage (stack forms.old.items) builder.old position.at → SameStep text.now other position.stage (top (stack forms.old.items)) position.at → Gives other (Rest other position.stage (stack forms.old.items) builder.old position.at) (reached position.stage position.at) (stack forms.new.items) builder.new result }
     ensures fixes { FixesStep text.now position.stage (top (stack forms.old.items)) position.at result }
+    ensures feeds { FeedsStep text.now position.stage (top (stack forms.old.items)) position.at (stack forms.new.items) result }
     ensures stops { StopsStep text.now position.stage (stack forms.old.items) builder.old position.at result }
+    ensures longer { IsKnown text.now position.stage (top (stack forms.old.items)) position.at → Lengthens text.now position.stage (stack forms.old.items) builder.old position.at result }
 {
     match position.stage {
         Stage::Entry => entry(alloc, text, position.at, forms, builder),

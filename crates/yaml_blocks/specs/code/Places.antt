@@ -1,5 +1,5 @@
 -- At which places a text shows that it is no document, said by what documents begin with.
-use Rattle.std.specs.Prelude.{ℕ, ◌≡◌, ◌⊎◌, List, [], ◌∷◌, ◌++◌, length, IsUtf8}
+use Rattle.std.specs.Prelude.{ℕ, suc, ◌≡◌, ◌≤◌, ◌⊎◌, List, [], ◌∷◌, ◌++◌, length, IsUtf8}
 use Rattle.doc_values.specs.Tree.{Forest}
 use Rattle.yaml_blocks.specs.declared.stop.Stop.{Stop}
 use Rattle.yaml_blocks.specs.declared.stop.Stop.TheVariants as stop
@@ -21,7 +21,7 @@ IsShort text at = (at ≡ length text) × IsFront text
 abbrev pub IsSyntax : List ℕ → ℕ → Type 0
 IsSyntax text at = IsDead text at ⊎ IsShort text at
 
--- where reading stops and no sign counts: so far, the place is the text's length or dead
+-- where reading stops and no sign counts: so far, the place is the text's length, that of its last byte, or dead
 abbrev pub StopsAt : List ℕ → Stop → Type 0
-StopsAt text (stop.Unread at) = (at ≡ length text) ⊎ IsDead text at
+StopsAt text (stop.Unread at) = (length text ≤ suc at) ⊎ IsDead text at
 StopsAt text _ = Unit {0}

@@ -143,9 +143,18 @@ IsBehind (Items m) i = m < i
 IsBehind (Entries m) i = Unit {0}
 IsBehind (Tagged at above shares) i = at < i
 
--- a name stands in front of what a tag has behind it, and of what a `-` or a key's colon has none
+-- whether the document may end at a token, or a sign stands there behind it
+abbrev pub is_ending : Token → Bool
+is_ending End = true
+is_ending Dashes = true
+is_ending Dots = true
+is_ending Tabbed = true
+is_ending _ = false
+
+-- a name stands in front of what a tag has behind it, and of what a `-` or a key's colon has none; at the root the document
+-- does not end
 abbrev pub IsSpelled : List ℕ → Form → ℕ → Type 0
-IsSpelled text Root i = Unit {0}
+IsSpelled text Root i = is_ending (ahead text false i).token ≡ false
 IsSpelled text (Flow map) i = Unit {0}
 IsSpelled text (FlowTagged at) i = Unit {0}
 IsSpelled text (Items m) i = ends_name text i ≡ false
@@ -169,14 +178,6 @@ abbrev pub is_dash : Token → Bool
 is_dash Dash = true
 is_dash _ = false
 
--- whether the document may end at a token, or a sign stands there behind it
-abbrev pub is_ending : Token → Bool
-is_ending End = true
-is_ending Dashes = true
-is_ending Dots = true
-is_ending Tabbed = true
-is_ending _ = false
-
 -- whether a token ends a node between brackets, or a sign stands there behind it
 abbrev pub is_flow_ending : Token → Bool
 is_flow_ending Comma = true
@@ -184,6 +185,14 @@ is_flow_ending (Closes map) = true
 is_flow_ending Dashes = true
 is_flow_ending Dots = true
 is_flow_ending _ = false
+
+-- whether a plain scalar between brackets that ends in front of a token may go on where other bytes stand behind it
+abbrev pub is_open : Token → Bool
+is_open End = true
+is_open Dashes = true
+is_open Dots = true
+is_open (Point loose) = true
+is_open _ = false
 
 -- whether a block ends before the line of a token: the line is indented less, or a sequence's other entry would stand there
 abbrev pub ends_before : Form → Ahead → Bool

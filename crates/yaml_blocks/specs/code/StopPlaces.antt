@@ -1,31 +1,32 @@
 -- The place that is answered where reading stops and no sign counts.
-use Rattle.std.specs.Prelude.{ℕ, suc, ◌+◌, Bool, ◌||◌, ◌&&◌, true, false, List, [], ◌∷◌, length, drop, nat_eq, nat_lt, if◌then◌else◌}
+use Rattle.std.specs.Prelude.{ℕ, suc, ◌+◌, ◌-◌, Bool, ◌||◌, ◌&&◌, true, false, List, [], ◌∷◌, length, drop, nat_eq, nat_lt, if◌then◌else◌}
+use Rattle.std.specs.Str.{bytes_eq}
 use Rattle.yaml_scalars.specs.declared.scalar.ScalarRefusal.{ScalarRefusal}
 use Rattle.yaml_scalars.specs.declared.scalar.ScalarRefusal.TheVariants as refusal
 use Rattle.yaml_scalars.specs.Lines.{begins_with, is_white, lead}
 use Rattle.yaml_scalars.specs.Block.{same, widest}
-use Rattle.yaml_scalars.specs.code.Walk.{line_at, ends_line}
+use Rattle.yaml_scalars.specs.code.Walk.{line_at}
 use Rattle.yaml_blocks.specs.declared.ahead.Ahead.{Ahead}
 use Rattle.yaml_blocks.specs.declared.ahead.Token.{Token}
 use Rattle.yaml_blocks.specs.declared.ahead.Token.TheVariants.{Stray}
-use Rattle.yaml_blocks.specs.Ahead.{is_name, ahead}
+use Rattle.yaml_blocks.specs.Ahead.{is_name}
 use Rattle.yaml_blocks.specs.code.AheadSeen.{first_return}
-use Rattle.yaml_blocks.specs.code.Steps.{is_ending}
+use Rattle.yaml_blocks.specs.code.Steps.{is_dash, is_ending, is_open}
 
 -- whether a token is a stray carriage return, or a comment that has one
 abbrev pub is_stray : Token → Bool
 is_stray Stray = true
 is_stray _ = false
 
--- behind the three bytes of a mark, a carriage return too
-abbrev pub run_width : ℕ → ℕ
-run_width n = if nat_eq n 3 then 4 else n
+-- so many bytes of a mark, of which the first stands in front of some bytes; behind three of them a carriage return too
+abbrev pub run_width : ℕ → List ℕ → ℕ
+run_width n bs = if nat_eq n 3 && begins_with 13 (drop 2 bs) then 4 else n
 
 -- how many bytes from a token's first one stand before one that shows what it is: behind `!` those of a name, of a mark's bytes
 -- as many as there are, behind a colon and a carriage return one
 abbrev pub byte_width : ℕ → List ℕ → ℕ
 byte_width b bs =
-    if nat_eq b 33 then suc (lead is_name (line_at bs)) else (if nat_eq b 45 || nat_eq b 46 then run_width (suc (same b 2 bs)) else (if nat_eq b 58 || nat_eq b 13 then 1 else 0))
+    if nat_eq b 33 then suc (lead is_name (line_at bs)) else (if nat_eq b 45 || nat_eq b 46 then run_width (suc (same b 2 bs)) bs else (if nat_eq b 58 || nat_eq b 13 then 1 else 0))
 
 abbrev pub token_width : List ℕ → ℕ
 token_width [] = 0
@@ -46,18 +47,38 @@ past_return text p = let q : ℕ = if begins_with 13 (drop p text) then suc p el
 abbrev pub told_place : List ℕ → Ahead → ℕ
 told_place text a = if is_ending a.token then length text else past_return text (a.at + width a (drop a.at text))
 
--- where a scalar fails at a token: the place where it does, and not before one that shows what is ahead
+-- a place, or that of the text's last byte where it is the length
+abbrev pub within : List ℕ → ℕ → ℕ
+within text q = if nat_lt q (length text) then q else length text - 1
+
+abbrev pub last_told : List ℕ → Ahead → ℕ
+last_told text a = within text (told_place text a)
+
+-- between brackets, where a plain scalar may go on or nothing is ahead, the first of the two
+abbrev pub flow_place : List ℕ → Ahead → ℕ
+flow_place text a = if is_ending a.token || is_open a.token then told_place text a else last_told text a
+
+-- where a `-` ends the text, its length
+abbrev pub dash_place : List ℕ → Ahead → ℕ
+dash_place text a = if is_dash a.token && nat_eq a.behind (length text) then length text else last_told text a
+
+-- where the text ends in one or two dots that begin a line, its length
+abbrev pub ends_in_dots : List ℕ → Ahead → Bool
+ends_in_dots text a = nat_eq a.column 0 && (bytes_eq (drop a.at text) (46 ∷ []) || bytes_eq (drop a.at text) (46 ∷ 46 ∷ []))
+
+abbrev pub root_place : List ℕ → Ahead → ℕ
+root_place text a = if ends_in_dots text a then length text else last_told text a
+
+-- where a scalar fails at a token: the place where it does, and not before one that shows what is ahead; the text's length where
+-- it does at the text's end
 abbrev pub failed_place : List ℕ → Ahead → ℕ → ℕ
-failed_place text a r = past_return text (widest (a.at + width a (drop a.at text)) r)
+failed_place text a r = if nat_lt r (length text) then within text (past_return text (widest (a.at + width a (drop a.at text)) r)) else length text
 
 abbrev pub refused_place : List ℕ → Ahead → ScalarRefusal → ℕ
 refused_place text a (refusal.Syntax at) = failed_place text a at
 refused_place text a refusal.NoMemory = length text
 refused_place text a (refusal.ManyDocuments at) = length text
 
--- behind a key that no colon follows: the line's end, or the comment there, or else a place at which the text shows what it has ahead
-abbrev pub ends_content : List ℕ → Bool
-ends_content bytes = ends_line bytes || begins_with 35 bytes
-
+-- behind a key that no colon follows: the first byte that is no white space, the line's end among them; behind `:` the next
 abbrev pub colon_place : List ℕ → ℕ → ℕ
-colon_place text e = let p : ℕ = e + lead is_white (line_at (drop e text)) in if ends_content (drop p text) then past_return text p else told_place text (ahead text false e)
+colon_place text e = let p : ℕ = e + lead is_white (line_at (drop e text)) in past_return text (if begins_with 58 (drop p text) then suc p else p)

@@ -1,28 +1,33 @@
 -- What the bytes that were looked at fix: it is so in each text that has them too.
-use Rattle.std.specs.Prelude.{ℕ, ◌≡◌, ◌≤◌, ◌<◌, ◌⊎◌, length, Bool, true, false, List, [], Result, Ok, Err, IsUtf8, drop}
+use Rattle.std.specs.Prelude.{ℕ, suc, ◌-◌, ◌++◌, ◌≡◌, ◌≤◌, ◌<◌, ◌⊎◌, ◌&&◌, not, length, Bool, true, false, List, [], Result, Ok, Err, IsUtf8, drop, if◌then◌else◌}
 use Rattle.std.specs.Str.{IsCharBoundary}
 use Rattle.doc_values.specs.Tree.{Forest}
 use Rattle.doc_values.specs.Unfinished.{Unfinished}
 use Rattle.yaml_scalars.specs.declared.scalar.Setting.{Setting}
-use Rattle.yaml_scalars.specs.Lines.{begins_with, Fails}
-use Rattle.yaml_scalars.specs.Scalar.{begins_order_mark}
-use Rattle.yaml_scalars.specs.code.Walk.{ends_line}
+use Rattle.yaml_scalars.specs.Lines.{begins_with, each, ends_with, Fails, Stands}
+use Rattle.yaml_scalars.specs.Scalar.{begins_order_mark, begins_block, begins_quoted}
+use Rattle.yaml_scalars.specs.code.Walk.{ends_line, has_break}
 use Rattle.yaml_laws.specs.code.Agreement.{AgreesTo}
+use Rattle.yaml_laws.specs.code.Refusals.{is_ascii}
 use Rattle.yaml_blocks.specs.declared.ahead.Ahead.{Ahead}
+use Rattle.yaml_blocks.specs.declared.ahead.Token.TheVariants.{Dash, End, Point}
 use Rattle.yaml_blocks.specs.declared.form.Form.{Form}
-use Rattle.yaml_blocks.specs.declared.form.Form.TheVariants.{Flow}
+use Rattle.yaml_blocks.specs.declared.form.Form.TheVariants.{Root, Flow, FlowTagged, Items, Entries, Tagged}
 use Rattle.yaml_blocks.specs.declared.stage.Stage.{Stage}
 use Rattle.yaml_blocks.specs.declared.stage.Stage.TheVariants as stage
 use Rattle.yaml_blocks.specs.declared.stage.Position.{Position}
 use Rattle.yaml_blocks.specs.declared.stop.Stop.{Stop}
 use Rattle.yaml_blocks.specs.declared.stop.Stop.TheVariants as stop
-use Rattle.yaml_blocks.specs.Nodes.{scalar_ahead}
+use Rattle.yaml_blocks.specs.Ahead.{ahead}
+use Rattle.yaml_blocks.specs.Nodes.{as_key, follows_get_att, scalar_ahead, setting_of, starts_scalar}
+use Rattle.yaml_blocks.specs.Flow.{IsColon}
 use Rattle.yaml_blocks.specs.Signs.{Reading, Tree}
-use Rattle.yaml_blocks.specs.Yaml.{IsStart}
+use Rattle.yaml_blocks.specs.Yaml.{IsStart, text_start}
 use Rattle.yaml_blocks.specs.code.AheadSeen.{ahead_seen}
+use Rattle.yaml_blocks.specs.code.Closers.{in_flow}
 use Rattle.yaml_blocks.specs.code.StopPlaces.{failed_place}
-use Rattle.yaml_blocks.specs.code.Rest.{Begins, Ends, Enters, Awaits}
-use Rattle.yaml_blocks.specs.code.Steps.{IsSeen, IsCalm, Awaited, Rest, Fits, SameNode, SameFlowNode, SameFlowKey, SameKey, SameEnd, SameStep}
+use Rattle.yaml_blocks.specs.code.Rest.{top, Begins, Ends, Enters, Awaits}
+use Rattle.yaml_blocks.specs.code.Steps.{IsBlock, IsFlow, IsSeen, IsCalm, Awaited, Missed, Rest, Fits, ends_before, SameNode, SameFlowNode, SameFlowKey, SameKey, SameEnd, SameStep, is_ending, is_flow_ending, is_open}
 
 -- another text is the same up to a place and with the byte there; in both, or in neither, a break begins with that byte, and a
 -- byte order mark stands in front
@@ -41,10 +46,15 @@ IsPast text p q = (p < q) ⊎ ((p ≡ q) × (begins_with 13 (drop q text) ≡ fa
 abbrev pub IsShown : List ℕ → ℕ → (List ℕ → Type 0) → ℕ → Type 0
 IsShown text i none q = (q < length text) × ((p : ℕ) × IsPast text p q × (ahead_seen text i ≤ p) × ((other : List ℕ) → IsTwin text p other → none other))
 
--- where reading stops and no sign counts: the place is the text's length, or shows what is so in other texts
+-- this is the place of the last byte, and what is ahead is looked at as far as the text's end, if no carriage return stands there
+abbrev pub IsLast : List ℕ → ℕ → ℕ → Type 0
+IsLast text i q = (suc q ≡ length text) × (ends_with 13 text ≡ false → length text ≤ ahead_seen text i)
+
+-- where reading stops and no sign counts: the place is the text's length, or that of the last byte, or it shows what is so in
+-- other texts
 abbrev pub Stops : List ℕ → ℕ → (List ℕ → Type 0) → Result Position Stop → Type 0
 Stops text i none (Ok p) = Unit {0}
-Stops text i none (Err (stop.Unread q)) = (q ≡ length text) ⊎ IsShown text i none q
+Stops text i none (Err (stop.Unread q)) = ((q ≡ length text) ⊎ IsLast text i q) ⊎ IsShown text i none q
 Stops text i none (Err _) = Unit {0}
 
 -- what is so there: where the same is ahead, nothing follows a complete node between brackets, or outside of them; nor does a
@@ -64,36 +74,117 @@ NoValue i a f fs u other = Awaited other fs u f i a → (t : Forest) → Awaits 
 abbrev pub NoEntry : ℕ → Ahead → List Form → Unfinished → List ℕ → Type 0
 NoEntry i a fs u other = IsSeen other true i a → (t : Forest) → Enters other fs u.outer u.done i (Tree t) → ⊥
 
+-- nothing follows at a stage that is a tree
+abbrev pub NoRest : Stage → List Form → Unfinished → ℕ → List ℕ → Type 0
+NoRest s fs u i other = IsCharBoundary other i → Fits other s fs u i → (t : Forest) → Rest other s fs u i (Tree t) → ⊥
+
 -- where reading stands at a stage
 abbrev pub StopsStep : List ℕ → Stage → List Form → Unfinished → ℕ → Result Position Stop → Type 0
-StopsStep text s fs u i r = Stops text i (λ other. IsCharBoundary other i → Fits other s fs u i → (t : Forest) → Rest other s fs u i (Tree t) → ⊥) r
+StopsStep text s fs u i r = Stops text i (NoRest s fs u i) r
 
--- where reading goes on at a place: what holds of each text that is the same as far as this place is looked at
-abbrev pub Fixes : List ℕ → (ℕ → List ℕ → Type 0) → Result Position Stop → Type 0
-Fixes text holds (Ok p) = (p.stage ≡ stage.Whole → ⊥) → (place : ℕ) (other : List ℕ) → IsTwin text place other → ahead_seen text p.at ≤ place → holds place other
-Fixes text holds (Err e) = Unit {0}
+-- with some bytes of ASCII behind the text something may follow at a stage that is a tree
+abbrev pub Mends : List ℕ → Stage → List Form → Unfinished → ℕ → Type 0
+Mends text s fs u i = (more : List ℕ) × (each is_ascii more ≡ true) × (tree : Forest) × Rest (text ++ more) s fs u i (Tree tree)
+
+-- so far two kinds of values are left out that break off: a scalar behind `!GetAtt` in 128 collections, for which a list of two
+-- may stand, and a block scalar below its header; and outside of brackets a place in a byte order mark
+abbrev pub IsUsual : List ℕ → Stage → List Form → Unfinished → ℕ → Type 0
+IsUsual text stage.Value fs u i =
+    let at : ℕ = (ahead text (in_flow (top fs)) i).at in
+    (follows_get_att text (top fs) i ≡ true → length u.outer < 128) × (begins_block (setting_of (top fs)) (drop at text) ≡ true → has_break (drop at text) ≡ false)
+IsUsual text stage.After fs u i = IsBlock (top fs) → text_start text ≤ i
+IsUsual text _ fs u i = Unit {0}
+
+-- of a text that no carriage return ends: where reading stops at its length, some bytes mend it; where it stops at the last
+-- byte, and all bytes are looked at for what is ahead, nothing follows in a longer text
+abbrev pub LengthensAt : List ℕ → Stage → List Form → Unfinished → ℕ → ℕ → Type 0
+LengthensAt text s fs u i q =
+    ends_with 13 text ≡ false
+    → (q ≡ length text → IsUsual text s fs u i → Mends text s fs u i) × (IsLast text i q → (more : List ℕ) → IsUtf8 (text ++ more) → NoRest s fs u i (text ++ more))
+
+-- what is so of the place where reading stops and no sign counts
+abbrev pub OnUnread : (ℕ → Type 0) → Result Position Stop → Type 0
+OnUnread holds (Ok p) = Unit {0}
+OnUnread holds (Err (stop.Unread q)) = holds q
+OnUnread holds (Err _) = Unit {0}
+
+abbrev pub Lengthens : List ℕ → Stage → List Form → Unfinished → ℕ → Result Position Stop → Type 0
+Lengthens text s fs u i r = OnUnread (LengthensAt text s fs u i) r
+
+-- so far a colon behind a node between brackets is left out, over which a plain scalar may go on
+abbrev pub IsUnpointed : List ℕ → ℕ → Type 0
+IsUnpointed text i = (loose : Bool) → (ahead text true i).token ≡ Point loose → ⊥
+
+-- nor is a key between brackets that breaks off, or behind which something else stands than a colon or what ends it
+abbrev pub IsKeyed : List ℕ → ℕ → Type 0
+IsKeyed text i =
+    let a : Ahead = ahead text true i in
+    (scalar_ahead text (as_key true) a ≡ Fails (length text) → ⊥) × ((t : List ℕ) (e : ℕ) → scalar_ahead text (as_key true) a ≡ Stands t e → ((p : ℕ) → IsColon text (begins_quoted (drop a.at text)) e p → ⊥) → (ahead text true e).token ≡ End)
+
+-- what is left out so far between brackets
+abbrev pub IsKnown : List ℕ → Stage → Form → ℕ → Type 0
+IsKnown text stage.Entry f i = f ≡ Flow true → IsKeyed text i
+IsKnown text stage.After f i = IsFlow f → IsUnpointed text i
+IsKnown text _ f i = Unit {0}
+
+-- the same of a node between brackets, where a value may stand or an entry of a list; it stops at the last byte only where what is
+-- ahead is looked at no further
+abbrev pub MendsNode : List ℕ → List Form → Unfinished → ℕ → ℕ → Type 0
+MendsNode text fs u i q =
+    ends_with 13 text ≡ false
+    → (q ≡ length text → is_ending (ahead text true i).token ≡ false → (follows_get_att text (top fs) i ≡ true → length u.outer < 128) → (more : List ℕ) × (each is_ascii more ≡ true) × (tree : Forest) × Awaits (text ++ more) fs u.outer u.done u.key i (Tree tree)) × (IsLast text i q → ⊥)
+
+-- no further entry of a block begins at a token; a sign may
+abbrev pub IsStill : List ℕ → Ahead → Form → Type 0
+IsStill text a Root = ⊥
+IsStill text a (Flow map) = ⊥
+IsStill text a (FlowTagged at) = ⊥
+IsStill text a (Items m) = a.fresh ≡ true → a.column ≡ m → a.token ≡ Dash → ⊥
+IsStill text a (Entries m) = a.fresh ≡ true → a.column ≡ m → Missed text (as_key false) a
+IsStill text a (Tagged at above shares) = Unit {0}
+
+-- blocks ended that end before the line of a token: what may follow behind them may follow in them, in any text; and a tree the
+-- other way, where no further entry of theirs begins
+abbrev pub Popped : Ahead → List Form → Unfinished → List Form → Unfinished → Type 0
+Popped a fs u gs w =
+    (text : List ℕ) (i : ℕ) → ((v : Reading) → Ends text gs w.outer w.done i v → Ends text fs u.outer u.done i v)
+    × (((f : Form) → ends_before f a ≡ true → IsStill text (ahead text false i) f) → (t : Forest) → Ends text fs u.outer u.done i (Tree t) → Ends text gs w.outer w.done i (Tree t))
+
+-- the place of the byte that settles how a position was come to: where an entry may stand, that of the bracket or the comma; where
+-- a value may stand, the byte there, behind a `-`, a colon or a tag, but where a key without its colon ends what is ahead of it; and
+-- behind a complete node what is ahead, of which between brackets the first byte tells, unless a plain scalar may go on over it
+abbrev pub settled : List ℕ → Bool → Stage → ℕ → ℕ
+settled text flow stage.Entry i = i - 1
+settled text flow stage.Value i = if is_flow_ending (ahead text true i).token then ahead_seen text i else i
+settled text flow stage.After i = if flow && not (is_open (ahead text true i).token) then (ahead text true i).at else ahead_seen text i
+settled text flow stage.Whole i = ahead_seen text i
+
+-- where reading goes on at a place: what holds of each text that is the same as far as it settles how the place was come to
+abbrev pub Fixes : List ℕ → Bool → (ℕ → List ℕ → Type 0) → Result Position Stop → Type 0
+Fixes text flow holds (Ok p) = (p.stage ≡ stage.Whole → ⊥) → (place : ℕ) (other : List ℕ) → IsTwin text place other → settled text flow p.stage p.at ≤ place → holds place other
+Fixes text flow holds (Err e) = Unit {0}
 
 -- the place that was read is looked at too, and what was found there is there
 abbrev pub FixesNode : List ℕ → Form → ℕ → Ahead → Result Position Stop → Type 0
-FixesNode text f i a r = Fixes text (λ place other. (ahead_seen text i ≤ place) × SameNode text other f i a) r
+FixesNode text f i a r = Fixes text false (λ place other. (ahead_seen text i ≤ place) × SameNode text other f i a) r
 
 abbrev pub FixesFlowNode : List ℕ → Form → ℕ → Ahead → Result Position Stop → Type 0
-FixesFlowNode text f i a r = Fixes text (λ place other. (ahead_seen text i ≤ place) × SameFlowNode text other f i a) r
+FixesFlowNode text f i a r = Fixes text true (λ place other. (ahead_seen text i ≤ place) × SameFlowNode text other f i a) r
 
 abbrev pub FixesFlowKey : List ℕ → ℕ → Ahead → Result Position Stop → Type 0
-FixesFlowKey text i a r = Fixes text (λ place other. (ahead_seen text i ≤ place) × SameFlowKey text other a) r
+FixesFlowKey text i a r = Fixes text true (λ place other. (ahead_seen text i ≤ place) × SameFlowKey text other a) r
 
 abbrev pub FixesEntry : List ℕ → Bool → ℕ → Ahead → Result Position Stop → Type 0
-FixesEntry text map i a r = Fixes text (λ place other. (ahead_seen text i ≤ place) × (map ≡ true → SameFlowKey text other a) × (map ≡ false → SameFlowNode text other (Flow false) i a)) r
+FixesEntry text map i a r = Fixes text true (λ place other. (ahead_seen text i ≤ place) × (map ≡ true → SameFlowKey text other a) × (map ≡ false → SameFlowNode text other (Flow false) i a)) r
 
 abbrev pub FixesEnd : List ℕ → ℕ → Ahead → Result Position Stop → Type 0
-FixesEnd text i a r = Fixes text (λ place other. (ahead_seen text i ≤ place) × SameEnd text other i × SameKey text other a) r
+FixesEnd text i a r = Fixes text false (λ place other. (ahead_seen text i ≤ place) × SameEnd text other i × SameKey text other a) r
 
 abbrev pub FixesSeen : List ℕ → ℕ → Result Position Stop → Type 0
-FixesSeen text i r = Fixes text (λ place other. ahead_seen text i ≤ place) r
+FixesSeen text i r = Fixes text true (λ place other. ahead_seen text i ≤ place) r
 
 abbrev pub FixesStep : List ℕ → Stage → Form → ℕ → Result Position Stop → Type 0
-FixesStep text s f i r = Fixes text (λ place other. (ahead_seen text i ≤ place) × SameStep text other s f i) r
+FixesStep text s f i r = Fixes text (in_flow f) (λ place other. (ahead_seen text i ≤ place) × SameStep text other s f i) r
 
 -- where there is a tree, something may follow that is one, and the other way
 abbrev pub Matches : List ℕ → (Forest → Type 0) → Stage → List Form → Unfinished → ℕ → Type 0
@@ -112,6 +203,6 @@ abbrev pub FixesRoot : List ℕ → ℕ → Unfinished → Result Position Stop 
 FixesRoot text i w (Ok p) = (place : ℕ) (other : List ℕ) → IsTwin text place other → ahead_seen text p.at ≤ place → (ahead_seen text i ≤ place) × (IsCharBoundary other i → Alive other (λ t. Begins other i (Tree t)) [] w p)
 FixesRoot text i w (Err e) = Unit {0}
 
--- no scalar stands at a token, and this is the place: the text's length, or that where one fails
+-- no scalar stands at a token, and this is the place: that where one fails, or the text's length where no byte stands there
 abbrev pub FailedAt : List ℕ → Setting → Ahead → ℕ → Type 0
-FailedAt text s a q = (q ≡ length text) ⊎ ((r : ℕ) × (a.at < length text) × (scalar_ahead text s a ≡ Fails r) × (q ≡ failed_place text a r))
+FailedAt text s a q = ((q ≡ length text) × (length text ≤ a.at)) ⊎ ((r : ℕ) × (a.at < length text) × (scalar_ahead text s a ≡ Fails r) × (q ≡ failed_place text a r))

@@ -7,14 +7,18 @@ use Rattle.yaml_blocks.specs.Signs.{Tree}
 use Rattle.yaml_blocks.specs.Yaml.{end_sign}
 use Rattle.yaml_blocks.specs.code.Rest.{Ends}
 use Rattle.yaml_blocks.proofs.Continuations.{block_ends}
-use Rattle.yaml_blocks.proofs.Stopped.{signed_stops, living_stops, dots_stops}
+use Rattle.yaml_blocks.proofs.Lengthened.{going_on, dots_stops, dots_lengthens}
+use Rattle.yaml_blocks.proofs.OtherStops.{signed_on, living_on}
+use Rattle.yaml_blocks.proofs.Stopped.{signed_stops, living_stops}
 use Rattle.yaml_blocks.proofs.BlockGains.{signed_gives, no_sign_inside, nothing_follows, all_quiet}
 use Rattle.yaml_blocks.proofs.Gains.{seen_behind}
 use Rattle.yaml_blocks.specs.code.Steps.{is_ending}
 use Rattle.yaml_blocks.proofs.SameTexts.{sign_same, end_there, end_here}
 use Rattle.yaml_blocks.proofs.Fixed.{whole_fixes}
-use Rattle.yaml_blocks.specs.code.Twins.{Stops, NoLine, FixesEnd}
+use Rattle.yaml_blocks.specs.code.Twins.{Stops, NoLine, LengthensAt, FixesEnd}
+use Rattle.yaml_blocks.specs.declared.stage.Stage.TheVariants as stage
 use Rattle.yaml_blocks.specs.Ahead.{ahead}
+use Rattle.yaml_blocks.proofs.Opens.{whole_opening}
 use Rattle.yaml_blocks.proofs.block.after.Goals as goal
 
 pub returns-in-Some-clause-gives : goal.returns-in-Some-clause-gives
@@ -71,5 +75,36 @@ pub returns-in-Dots-clause-stops : goal.returns-in-Dots-clause-stops
 returns-in-Dots-clause-stops c =
     let this = c.args.text.now in
     let next = c.look-next.result in
-    dots_stops this (stack c.args.forms.now.items) c.args.builder.now c.args.at next c.look.result c.told_place.result c.look-next.ensures.0 c.requires.boundary c.look.ensures.0 (seen_behind this false c.args.at next c.look-next.ensures) c.in-Dots.is c.requires.block c.requires.open
-    (no_sign_inside this c.args.at (c.is_document_end.ensures.no c.if-is_document_end.false) c.in-None.ensures) c.told_place.ensures
+    dots_stops this c.utf8.text (stack c.args.forms.now.items) c.args.builder.now c.args.at next c.look.result c.last_told.result c.look-next.ensures.0 c.requires.boundary c.look.ensures.0 (seen_behind this false c.args.at next c.look-next.ensures) c.in-Dots.is
+    (no_sign_inside this c.args.at (c.is_document_end.ensures.no c.if-is_document_end.false) c.in-None.ensures) c.last_told.ensures c.requires.block c.requires.open
+
+pub returns-in-Dots-clause-longer : goal.returns-in-Dots-clause-longer
+returns-in-Dots-clause-longer c =
+    let this = c.args.text.now in
+    let next = c.look-next.result in
+    dots_lengthens this c.utf8.text (stack c.args.forms.now.items) c.args.builder.now c.args.at next c.look.result c.last_told.result c.look-next.ensures.0 c.requires.boundary c.look.ensures.0 (seen_behind this false c.args.at next c.look-next.ensures) c.in-Dots.is
+    (no_sign_inside this c.args.at (c.is_document_end.ensures.no c.if-is_document_end.false) c.in-None.ensures) c.last_told.ensures
+
+pub returns-in-Some-clause-longer : goal.returns-in-Some-clause-longer
+returns-in-Some-clause-longer c = signed_on (LengthensAt c.args.text.now stage.After (stack c.args.forms.now.items) c.args.builder.now c.args.at) (end_sign c.args.text.now c.args.at) c.in-Some.refusal c.in-Some.ensures
+
+pub returns-in_default-clause-longer : goal.returns-in_default-clause-longer
+returns-in_default-clause-longer c = c.line.ensures.longer
+
+pub line-requires-clause-told : goal.line-requires-clause-told
+line-requires-clause-told c =
+    going_on c.args.text.now c.args.at c.look-next.result c.look-next.ensures.0 (no_sign_inside c.args.text.now c.args.at (c.is_document_end.ensures.no c.if-is_document_end.false) c.in-None.ensures) c.in_default.not-Dots
+
+pub returns-then-is_document_end-clause-longer : goal.returns-then-is_document_end-clause-longer
+returns-then-is_document_end-clause-longer c =
+    let this = c.args.text.now in
+    let at = c.args.at in
+    let fs = stack c.args.forms.now.items in
+    let u = c.args.builder.now in
+    let end = c.if-is_document_end.ensures.yes refl in
+    let t = block_ends fs u.outer u.done this at end c.requires.block c.requires.open.0 c.requires.open.1 in
+    living_on (LengthensAt this stage.After fs u at) this (Ends this fs u.outer u.done at) (2 * at + 2) (stack c.end_all.new.forms.items) c.end_all.new.builder c.end_all.result (Tree t.0) t.1
+    (c.end_all.ensures.gives this end c.requires.boundary)
+
+pub returns-then-is_document_end-clause-opens : goal.returns-then-is_document_end-clause-opens
+returns-then-is_document_end-clause-opens c = whole_opening (stack c.end_all.new.forms.items) c.end_all.result c.end_all.ensures.whole

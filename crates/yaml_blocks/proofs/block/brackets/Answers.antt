@@ -2,8 +2,12 @@ use Rattle.yaml_blocks.specs.code.Steps.{stack}
 use Rattle.yaml_blocks.proofs.BlockGains.{brackets_gives, spot_of}
 use Rattle.yaml_blocks.proofs.Fixed.{opens_fixes}
 use Rattle.yaml_blocks.proofs.AwaitedNodes.{place_behind}
-use Rattle.yaml_blocks.specs.code.Twins.{NoValue}
+use Rattle.yaml_blocks.specs.code.Twins.{NoValue, LengthensAt}
 use Rattle.yaml_blocks.proofs.Stopped.{opened_stops}
+use Rattle.yaml_blocks.proofs.OtherStops.{opened_on}
+use Rattle.yaml_blocks.specs.declared.stage.Stage.TheVariants as stage
+use Rattle.yaml_blocks.proofs.Opens.{bracket_opening}
+use Rattle.std.proofs.Common.{false}
 use Rattle.yaml_blocks.proofs.block.brackets.Goals as goal
 
 pub returns-clause-gives : goal.returns-clause-gives
@@ -18,3 +22,9 @@ returns-clause-fixes c = opens_fixes c.args.text.now c.args.form c.args.at c.arg
 
 pub returns-clause-stops : goal.returns-clause-stops
 returns-clause-stops c = opened_stops c.args.text.now c.args.at (NoValue c.args.at c.args.next c.args.form (stack c.args.forms.now.items) c.args.builder.now) c.args.map c.args.next (stack c.args.forms.now.items) (stack c.open.new.forms.items) c.args.builder.now c.open.new.builder c.open.result c.open.ensures
+
+pub returns-clause-longer : goal.returns-clause-longer
+returns-clause-longer c = opened_on (LengthensAt c.args.text.now stage.Value (stack c.args.forms.now.items) c.args.builder.now c.args.at) c.args.map c.args.next (stack c.args.forms.now.items) (stack c.open.new.forms.items) c.args.builder.now c.open.new.builder c.open.result c.open.ensures
+
+pub returns-clause-opens : goal.returns-clause-opens
+returns-clause-opens c = bracket_opening c.args.text.now false c.args.at c.args.map c.args.next (stack c.args.forms.now.items) (stack c.open.new.forms.items) c.args.builder.now c.open.new.builder c.open.result c.requires.awaited.seen c.requires.opens c.open.ensures

@@ -7,6 +7,7 @@ use Rattle.yaml_blocks.specs.code.Steps.{stack, ends_before, Lasts}
 use Rattle.yaml_blocks.proofs.Stacks.{stack_grown}
 use Rattle.yaml_blocks.proofs.LastValues.{ended_lasts, then_lasts}
 use Rattle.yaml_blocks.proofs.BlockGains.{ended_one, ended_alike, then_alike}
+use Rattle.yaml_blocks.proofs.Lengthened.{popped_more}
 use Rattle.yaml_blocks.proofs.block.end_before.Goals as goal
 
 pub loop-next-preserved : goal.loop-next-preserved
@@ -20,6 +21,7 @@ loop-next-preserved c =
       subst (λ z. Lasts c.args.builder.now z) (sym c.in-Ok.ensures.ok) (then_lasts c.args.builder.now c.loop-next.builder (with_end c.loop-next.builder) c.loop-next.invariant.1 (ended_lasts c.loop-next.builder)),
       (λ text i n. then_alike text i (stack c.args.forms.now.items) old gs c.args.builder.now c.loop-next.builder c.end.new.self (c.loop-next.invariant.2 text i n)
           (ended_alike text i c.in-Some.field-0 old gs c.loop-next.builder c.end.new.self c.args.next n e c.in-Ok.ensures.ok s h)),
+      popped_more c.args.next (stack c.args.forms.now.items) old gs c.args.builder.now c.loop-next.builder c.end.new.self c.in-Some.field-0 e c.in-Ok.ensures.ok s h c.loop-next.invariant.3,
     )
 
 pub returns : goal.returns

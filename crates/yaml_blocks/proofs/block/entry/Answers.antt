@@ -15,7 +15,9 @@ use Rattle.yaml_blocks.proofs.Gains.{found_key}
 use Rattle.yaml_blocks.proofs.SameTexts.{found_same, finds_same, has_key_same}
 use Rattle.yaml_blocks.proofs.BlockGains.{Behind, nothing_follows, entry_deep, entry_signed_gives, entry_missed, entry_goes, entry_refused, no_colon}
 use Rattle.yaml_blocks.proofs.Fixed.{entry_fixes}
-use Rattle.yaml_blocks.proofs.Stopped.{told_stops, told_inside, signed_stops, built_stops}
+use Rattle.yaml_blocks.proofs.Lengthened.{deep_lengthens, entry_deeper, entry_lengthens, key_lengthens, colon_lengthens, dash_stops}
+use Rattle.yaml_blocks.proofs.OtherStops.{signed_on, built_on}
+use Rattle.yaml_blocks.proofs.Stopped.{last_told_stops, told_inside, signed_stops, built_stops}
 use Rattle.yaml_blocks.proofs.StoppedScalars.{key_stops, missed_failed}
 use Rattle.yaml_blocks.proofs.Quiet.{inside_at, word_inside}
 use Rattle.yaml_blocks.specs.code.Steps.{is_ending}
@@ -23,7 +25,9 @@ use Rattle.yaml_blocks.proofs.StoppedKeys.{no_line_colon_stops}
 use Rattle.yaml_blocks.proofs.Scalars.{failed_other}
 use Rattle.yaml_blocks.specs.declared.stop.Stop.TheVariants.{Unread}
 use Rattle.yaml_blocks.specs.Nodes.{node_sign}
-use Rattle.yaml_blocks.specs.code.Twins.{NoLine}
+use Rattle.yaml_blocks.specs.code.Twins.{NoLine, LengthensAt}
+use Rattle.yaml_blocks.proofs.Opens.{form_opening}
+use Rattle.std.specs.Prelude.{Ok}
 use Rattle.yaml_blocks.proofs.block.entry.Goals as goal
 
 pub returns-then-next-column-clause-gives : goal.returns-then-next-column-clause-gives
@@ -93,7 +97,7 @@ returns-in-Some-colon_behind-clause-fixes c =
     let behind = c.in-Some-colon_behind.behind in
     let g = found_key this c.as_key.result (as_key false) c.args.next words c.in-Ok.scalar.kind end c.as_key.ensures c.in-Ok.ensures.finds in
     let h = c.in-Some-colon_behind.ensures in
-    entry_fixes this c.args.at c.args.next words behind end (record { stage = stage.Value; at = behind }) c.requires.seen c.requires.boundary g.0 h.1 h.2 g.2 g.3 h.3 refl
+    entry_fixes this c.args.at c.args.next words behind end (record { stage = stage.Value; at = behind }) c.requires.seen c.requires.boundary g.0 h.1 h.2 g.2 g.3 h.3 refl refl
 
 pub returns-then-next-column-clause-stops : goal.returns-then-next-column-clause-stops
 returns-then-next-column-clause-stops c =
@@ -101,8 +105,8 @@ returns-then-next-column-clause-stops c =
     let u = c.args.builder.now in
     let at = c.args.at in
     let next = c.args.next in
-    told_stops c.args.text.now at (NoLine at next fs u) false next c.told_place.result c.requires.seen.0 c.told_place.ensures
-    (λ text told seen calm v h. nothing_follows text fs u at next seen.0 (told_inside text at next seen.0 told) (entry_deep text fs c.args.column next c.requires.open.1 c.requires.form c.requires.stays c.if-next-column.true) v h)
+    last_told_stops c.args.text.now at (NoLine at next fs u) false next c.last_told.result c.requires.seen.0 c.requires.told c.last_told.ensures
+    (λ text seen calm v h. nothing_follows text fs u at next seen.0 (told_inside text at next seen.0 c.requires.told) (entry_deep text fs c.args.column next c.requires.open.1 c.requires.form c.requires.stays c.if-next-column.true) v h)
 
 pub returns-in-Some-clause-stops : goal.returns-in-Some-clause-stops
 returns-in-Some-clause-stops c = signed_stops c.args.text.now c.args.at (NoLine c.args.at c.args.next (stack c.args.forms.now) c.args.builder.now) (node_sign false c.args.next.at c.args.next.token) c.in-Some.refusal c.in-Some.ensures
@@ -131,20 +135,54 @@ returns-in-None-colon_behind-clause-stops c =
 pub returns-then-not-starts_scalar-clause-gives : goal.returns-then-not-starts_scalar-clause-gives
 returns-then-not-starts_scalar-clause-gives c = λ text seen inside calm same.
     let u = c.args.builder.now in
-    entry_missed text c.args.column (stack c.args.forms.now) u u c.args.at c.args.next (as_key false) (Unread c.told_place-then-not-starts_scalar.result) refl seen.0 inside c.requires.form c.requires.open
-    c.if-next-column.false calm c.in-None.ensures (inr (inl ((c.told_place-then-not-starts_scalar.result, refl), failed_other text (as_key false) c.args.next (sym c.starts_scalar.ensures ∙ c.if-not-starts_scalar.true))))
+    entry_missed text c.args.column (stack c.args.forms.now) u u c.args.at c.args.next (as_key false) (Unread c.dash_place.result) refl seen.0 inside c.requires.form c.requires.open
+    c.if-next-column.false calm c.in-None.ensures (inr (inl ((c.dash_place.result, refl), failed_other text (as_key false) c.args.next (sym c.starts_scalar.ensures ∙ c.if-not-starts_scalar.true))))
 
 pub returns-then-not-starts_scalar-clause-stops : goal.returns-then-not-starts_scalar-clause-stops
 returns-then-not-starts_scalar-clause-stops c =
     let u = c.args.builder.now in
     let at = c.args.at in
     let next = c.args.next in
-    told_stops c.args.text.now at (NoLine c.args.at c.args.next (stack c.args.forms.now) c.args.builder.now) false next c.told_place-then-not-starts_scalar.result c.requires.seen.0 c.told_place-then-not-starts_scalar.ensures
-    (λ text told seen calm v h. entry_missed text c.args.column (stack c.args.forms.now) u u at next (as_key false) (Unread c.told_place-then-not-starts_scalar.result) refl seen.0 (told_inside text at next seen.0 told) c.requires.form c.requires.open
-    c.if-next-column.false calm c.in-None.ensures (inr (inl ((c.told_place-then-not-starts_scalar.result, refl), failed_other text (as_key false) next (sym c.starts_scalar.ensures ∙ c.if-not-starts_scalar.true)))) v h)
+    dash_stops c.args.text.now at (NoLine c.args.at c.args.next (stack c.args.forms.now) c.args.builder.now) next c.dash_place.result c.requires.seen.0 c.requires.told c.dash_place.ensures
+    (λ text seen calm v h. entry_missed text c.args.column (stack c.args.forms.now) u u at next (as_key false) (Unread c.dash_place.result) refl seen.0 (told_inside text at next seen.0 c.requires.told) c.requires.form c.requires.open
+    c.if-next-column.false calm c.in-None.ensures (inr (inl ((c.dash_place.result, refl), failed_other text (as_key false) next (sym c.starts_scalar.ensures ∙ c.if-not-starts_scalar.true)))) v h)
 
 pub find_scalar-requires-clause-starts : goal.find_scalar-requires-clause-starts
 find_scalar-requires-clause-starts c = sym c.starts_scalar.ensures ∙ c.if-not-starts_scalar.false
 
 pub colon_place-requires-clause-boundary : goal.colon_place-requires-clause-boundary
 colon_place-requires-clause-boundary c = grind (arith, common_steps)
+
+pub returns-then-next-column-clause-longer : goal.returns-then-next-column-clause-longer
+returns-then-next-column-clause-longer c =
+    let next = c.args.next in
+    deep_lengthens c.args.text.now c.utf8.text (stack c.args.forms.now) c.args.builder.now c.args.at c.requires.boundary next c.last_told.result c.args.column c.requires.seen.0 c.requires.told c.last_told.ensures c.requires.open.1 (inr c.requires.form)
+    (entry_deeper c.args.column next c.requires.stays c.if-next-column.true)
+
+pub returns-then-not-starts_scalar-clause-longer : goal.returns-then-not-starts_scalar-clause-longer
+returns-then-not-starts_scalar-clause-longer c =
+    entry_lengthens c.args.text.now c.utf8.text (stack c.args.forms.now) c.args.builder.now c.args.at c.requires.boundary c.args.next c.dash_place.result c.args.column c.requires.seen.0 c.requires.told c.dash_place.ensures c.requires.open c.requires.form c.requires.fresh c.if-next-column.false
+    (sym c.starts_scalar.ensures ∙ c.if-not-starts_scalar.true)
+
+pub returns-in-Some-clause-longer : goal.returns-in-Some-clause-longer
+returns-in-Some-clause-longer c = signed_on (LengthensAt c.args.text.now stage.After (stack c.args.forms.now) c.args.builder.now c.args.at) (node_sign false c.args.next.at c.args.next.token) c.in-Some.refusal c.in-Some.ensures
+
+pub returns-in-Err-clause-longer : goal.returns-in-Err-clause-longer
+returns-in-Err-clause-longer c =
+    let starts = sym c.starts_scalar.ensures ∙ c.if-not-starts_scalar.false in
+    key_lengthens c.args.text.now c.utf8.text (stack c.args.forms.now) c.args.builder.now c.args.at c.requires.boundary c.args.next c.as_key.result c.in-Err.refusal c.args.column c.requires.form c.requires.open c.requires.seen.0 c.requires.fresh c.if-next-column.false starts c.as_key.ensures
+    (λ q e. c.in-Err.ensures.place q (ap Err e))
+
+pub returns-in-Err-key-clause-longer : goal.returns-in-Err-key-clause-longer
+returns-in-Err-key-clause-longer c = built_on (LengthensAt c.args.text.now stage.After (stack c.args.forms.now) c.args.builder.now c.args.at) c.in-Err-key.refusal c.from.result c.from.ensures
+
+pub returns-in-None-colon_behind-clause-longer : goal.returns-in-None-colon_behind-clause-longer
+returns-in-None-colon_behind-clause-longer c =
+    let this = c.args.text.now in
+    let words = cow_str_bytes c.in-Ok.scalar.text in
+    let g = found_key this c.as_key.result (as_key false) c.args.next words c.in-Ok.scalar.kind c.in-Ok.scalar.end c.as_key.ensures c.in-Ok.ensures.finds in
+    colon_lengthens this c.utf8.text (stack c.args.forms.now) c.args.builder.now c.args.at c.requires.boundary c.args.next c.args.column words c.in-Ok.scalar.end c.requires.seen c.requires.form g.0 g.2 g.3 c.colon_place.result c.requires.open c.requires.fresh c.if-next-column.false c.in-Ok-key.ensures.ok.1 c.in-None-colon_behind.ensures
+    c.colon_place.ensures
+
+pub returns-in-Some-colon_behind-clause-opens : goal.returns-in-Some-colon_behind-clause-opens
+returns-in-Some-colon_behind-clause-opens c = form_opening (stack c.args.forms.now) (Entries c.args.column) (Ok (record { stage = stage.Value; at = c.in-Some-colon_behind.behind })) c.requires.form tt

@@ -1,8 +1,9 @@
 use Rattle.yaml_blocks.specs.code.Steps.{stack}
 use Rattle.yaml_blocks.proofs.BlockGains.{root_none}
-use Rattle.yaml_blocks.proofs.Stopped.{told_stops, told_inside}
+use Rattle.yaml_blocks.proofs.Lengthened.{root_stops, root_lengthens}
+use Rattle.yaml_blocks.proofs.Stopped.{told_inside}
 use Rattle.yaml_blocks.specs.code.Twins.{NoLine}
-use Rattle.std.specs.Prelude.{false}
+use Rattle.std.proofs.Common.{◌∙◌}
 use Rattle.yaml_blocks.proofs.block.head.Goals as goal
 
 pub returns-in-Root-clause-gives : goal.returns-in-Root-clause-gives
@@ -23,8 +24,15 @@ returns-in-Root-clause-stops c =
     let u = c.args.builder.now in
     let at = c.args.at in
     let next = c.args.next in
-    told_stops c.args.text.now at (NoLine at next fs u) false next c.told_place.result c.requires.seen.0 c.told_place.ensures
-    (λ text told seen calm v h. root_none text fs u at c.args.form c.requires.form c.in-Root.is c.requires.open (told_inside text at next seen.0 told) v h)
+    root_stops c.args.text.now at (NoLine at next fs u) next c.root_place.result c.requires.seen.0 c.requires.told c.root_place.ensures
+    (λ text seen calm v h. root_none text fs u at c.args.form c.requires.form c.in-Root.is c.requires.open (told_inside text at next seen.0 c.requires.told) v h)
 
 pub returns-in-Items-clause-stops : goal.returns-in-Items-clause-stops
 returns-in-Items-clause-stops c = c.item.ensures.stops
+
+pub returns-in-Root-clause-longer : goal.returns-in-Root-clause-longer
+returns-in-Root-clause-longer c =
+    root_lengthens c.args.text.now c.utf8.text (stack c.args.forms.now) c.args.builder.now c.args.at c.requires.boundary c.args.next c.root_place.result c.requires.seen.0 c.requires.told c.root_place.ensures c.requires.open (c.requires.form ∙ c.in-Root.is) c.requires.fresh
+
+pub returns-in-Items-clause-longer : goal.returns-in-Items-clause-longer
+returns-in-Items-clause-longer c = c.item.ensures.longer

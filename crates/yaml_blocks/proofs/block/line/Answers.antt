@@ -8,8 +8,12 @@ use Rattle.yaml_blocks.proofs.LastValues.{lasts_calm}
 use Rattle.yaml_blocks.proofs.Quiet.{line_quiet}
 use Rattle.yaml_blocks.proofs.Roots.{not_true}
 use Rattle.yaml_blocks.proofs.BlockGains.{nothing_follows}
-use Rattle.yaml_blocks.proofs.Stopped.{told_stops, told_inside, memory_stops, stops_from}
-use Rattle.yaml_blocks.specs.code.Twins.{Stops, NoLine}
+use Rattle.yaml_blocks.proofs.Lengthened.{line_lengthens, popped_lengthens}
+use Rattle.yaml_blocks.proofs.OtherStops.{memory_on}
+use Rattle.yaml_blocks.proofs.Stopped.{last_told_stops, told_inside, memory_stops, stops_from}
+use Rattle.yaml_blocks.specs.code.Twins.{Stops, NoLine, LengthensAt, Lengthens}
+use Rattle.yaml_blocks.specs.declared.stage.Stage.TheVariants as stage
+use Rattle.yaml_blocks.specs.code.Feeds.{Opening}
 use Rattle.yaml_blocks.proofs.block.line.Goals as goal
 
 pub returns-then-not-next-clause-gives : goal.returns-then-not-next-clause-gives
@@ -23,7 +27,7 @@ returns-in-Ok-clause-gives c = λ text seen inside calm same.
     let u = c.args.builder.now in
     let w = c.end_before.new.builder in
     let gs = stack c.end_before.new.forms.items in
-    let ended = c.in-Ok.ensures text at seen.0 in
+    let ended = c.in-Ok.ensures.ended text at seen.0 in
     gives_from text (Ends text (stack c.args.forms.now.items) u.outer u.done at) (Ends text gs w.outer w.done at) (2 * at + 2) (2 * at + 2) gs c.head.new.builder c.head.result ended.0 (omega arith)
     (subst (λ (x : List Form). Gives text (Ends text (stack x) w.outer w.done at) (2 * at + 2) (stack x) c.head.new.builder c.head.result) c.deref-in-Ok.ensures.value (c.head.ensures.gives text seen inside (lasts_calm text u w at ended.5 calm) same))
 
@@ -34,7 +38,7 @@ pub head-requires-clause-open : goal.head-requires-clause-open
 head-requires-clause-open c = grind (arith, common_steps)
 
 pub returns-in-Err-clause-gives : goal.returns-in-Err-clause-gives
-returns-in-Err-clause-gives c = λ text seen inside calm same. memory_gives text (Ends text (stack c.args.forms.now.items) c.args.builder.now.outer c.args.builder.now.done c.args.at) (2 * c.args.at + 2) (stack c.end_before.new.forms.items) c.end_before.new.builder c.in-Err.refusal (c.in-Err.ensures text c.args.at seen.0)
+returns-in-Err-clause-gives c = λ text seen inside calm same. memory_gives text (Ends text (stack c.args.forms.now.items) c.args.builder.now.outer c.args.builder.now.done c.args.at) (2 * c.args.at + 2) (stack c.end_before.new.forms.items) c.end_before.new.builder c.in-Err.refusal (c.in-Err.ensures.ended text c.args.at seen.0)
 
 pub returns-then-not-next-clause-stops : goal.returns-then-not-next-clause-stops
 returns-then-not-next-clause-stops c =
@@ -42,11 +46,11 @@ returns-then-not-next-clause-stops c =
     let u = c.args.builder.now in
     let at = c.args.at in
     let next = c.args.next in
-    told_stops c.args.text.now at (NoLine at next fs u) false next c.told_place.result c.requires.seen.0 c.told_place.ensures
-    (λ text told seen calm v h. nothing_follows text fs u at next seen.0 (told_inside text at next seen.0 told) (line_quiet text next fs c.requires.open.1 c.requires.block (not_true next.fresh c.if-not-next.true)) v h)
+    last_told_stops c.args.text.now at (NoLine at next fs u) false next c.last_told.result c.requires.seen.0 c.requires.told c.last_told.ensures
+    (λ text seen calm v h. nothing_follows text fs u at next seen.0 (told_inside text at next seen.0 c.requires.told) (line_quiet text next fs c.requires.open.1 c.requires.block (not_true next.fresh c.if-not-next.true)) v h)
 
 pub returns-in-Err-clause-stops : goal.returns-in-Err-clause-stops
-returns-in-Err-clause-stops c = memory_stops c.args.text.now c.args.at (NoLine c.args.at c.args.next (stack c.args.forms.now.items) c.args.builder.now) c.in-Err.refusal (c.in-Err.ensures c.args.text.now c.args.at c.requires.seen.0)
+returns-in-Err-clause-stops c = memory_stops c.args.text.now c.args.at (NoLine c.args.at c.args.next (stack c.args.forms.now.items) c.args.builder.now) c.in-Err.refusal (c.in-Err.ensures.ended c.args.text.now c.args.at c.requires.seen.0)
 
 pub returns-in-Ok-clause-stops : goal.returns-in-Ok-clause-stops
 returns-in-Ok-clause-stops c =
@@ -55,5 +59,24 @@ returns-in-Ok-clause-stops c =
     let w = c.end_before.new.builder in
     let next = c.args.next in
     stops_from c.args.text.now at (NoLine at next (stack c.end_before.new.forms.items) w) (NoLine at next (stack c.args.forms.now.items) u) c.head.result
-    (λ text k seen calm v h. (let ended = c.in-Ok.ensures text at seen.0 in k seen (lasts_calm text u w at ended.5 calm) v ((ended.0 v).0 h)))
+    (λ text k seen calm v h. (let ended = c.in-Ok.ensures.ended text at seen.0 in k seen (lasts_calm text u w at ended.5 calm) v ((ended.0 v).0 h)))
     (subst (λ (x : List Form). Stops c.args.text.now at (NoLine at next (stack x) w) c.head.result) c.deref-in-Ok.ensures.value c.head.ensures.stops)
+
+pub returns-then-not-next-clause-longer : goal.returns-then-not-next-clause-longer
+returns-then-not-next-clause-longer c =
+    let next = c.args.next in
+    line_lengthens c.args.text.now c.utf8.text (stack c.args.forms.now.items) c.args.builder.now c.args.at c.requires.boundary next c.last_told.result c.requires.seen.0 c.requires.told c.last_told.ensures c.requires.block c.requires.open.1 (not_true next.fresh c.if-not-next.true)
+
+pub returns-in-Err-clause-longer : goal.returns-in-Err-clause-longer
+returns-in-Err-clause-longer c = memory_on (LengthensAt c.args.text.now stage.After (stack c.args.forms.now.items) c.args.builder.now c.args.at) c.in-Err.refusal (c.in-Err.ensures.ended c.args.text.now c.args.at c.requires.seen.0)
+
+pub returns-in-Ok-clause-longer : goal.returns-in-Ok-clause-longer
+returns-in-Ok-clause-longer c =
+    let at = c.args.at in
+    let w = c.end_before.new.builder in
+    let ended = c.in-Ok.ensures.ended c.args.text.now at c.requires.seen.0 in
+    popped_lengthens c.args.text.now c.utf8.text (stack c.args.forms.now.items) c.args.builder.now at c.requires.boundary c.args.next (stack c.end_before.new.forms.items) w c.head.result c.requires.seen.0 c.requires.told c.in-Ok.ensures.popped c.requires.block ended.3 ended.1 ended.2 ended.5
+    (subst (λ (x : List Form). Lengthens c.args.text.now stage.After (stack x) w at c.head.result) c.deref-in-Ok.ensures.value c.head.ensures.longer)
+
+pub returns-in-Ok-clause-opens : goal.returns-in-Ok-clause-opens
+returns-in-Ok-clause-opens c = subst (λ (x : List Form). Opening (stack x) c.head.result) c.deref-in-Ok.ensures.value c.head.ensures.opens

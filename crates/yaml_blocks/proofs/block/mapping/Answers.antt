@@ -7,8 +7,11 @@ use Rattle.yaml_blocks.specs.code.Steps.{stack}
 use Rattle.yaml_blocks.proofs.BlockGains.{mapping_goes, mapping_refused, spot_of}
 use Rattle.yaml_blocks.proofs.AwaitedNodes.{column_before, small_form, small_place, value_awaited, place_behind}
 use Rattle.yaml_blocks.proofs.Fixed.{key_fixes}
-use Rattle.yaml_blocks.specs.code.Twins.{NoValue}
+use Rattle.yaml_blocks.specs.code.Twins.{NoValue, LengthensAt}
 use Rattle.yaml_blocks.proofs.Stopped.{deep_stops}
+use Rattle.yaml_blocks.proofs.OtherStops.{deep_on}
+use Rattle.yaml_blocks.proofs.Opens.{begun_opening}
+use Rattle.std.specs.Prelude.{Ok}
 use Rattle.yaml_blocks.proofs.block.mapping.Goals as goal
 
 pub returns-in-Ok-key-clause-gives : goal.returns-in-Ok-key-clause-gives
@@ -49,7 +52,13 @@ pub offset-requires : goal.offset-requires
 offset-requires c = small_place c.args.text.now (stack c.args.forms.now.items) c.args.builder.now c.args.form c.args.at c.args.next c.requires.awaited
 
 pub returns-in-Ok-key-clause-fixes : goal.returns-in-Ok-key-clause-fixes
-returns-in-Ok-key-clause-fixes c = key_fixes c.args.text.now c.args.form c.args.at c.args.next c.args.key (record { stage = stage.Value; at = c.args.key.behind }) c.requires.awaited.seen c.requires.awaited.boundary (place_behind c.args.text.now (stack c.args.forms.now.items) c.args.builder.now c.args.form c.args.at c.args.next c.requires.awaited) c.requires.takes c.requires.key c.requires.ends refl
+returns-in-Ok-key-clause-fixes c = key_fixes c.args.text.now c.args.form c.args.at c.args.next c.args.key (record { stage = stage.Value; at = c.args.key.behind }) c.requires.awaited.seen c.requires.awaited.boundary (place_behind c.args.text.now (stack c.args.forms.now.items) c.args.builder.now c.args.form c.args.at c.args.next c.requires.awaited) c.requires.takes c.requires.key c.requires.ends refl refl
 
 pub returns-in-Err-clause-stops : goal.returns-in-Err-clause-stops
 returns-in-Err-clause-stops c = deep_stops c.args.text.now c.args.at (NoValue c.args.at c.args.next c.args.form (stack c.args.forms.now.items) c.args.builder.now) c.args.builder.now c.args.next.at c.in-Err.refusal c.in-Err.ensures
+
+pub returns-in-Err-clause-longer : goal.returns-in-Err-clause-longer
+returns-in-Err-clause-longer c = deep_on (LengthensAt c.args.text.now stage.Value (stack c.args.forms.now.items) c.args.builder.now c.args.at) c.args.builder.now c.args.next.at c.in-Err.refusal c.in-Err.ensures
+
+pub returns-in-Ok-key-clause-opens : goal.returns-in-Ok-key-clause-opens
+returns-in-Ok-key-clause-opens c = begun_opening (Entries c.column_in-column.result) (stack c.args.forms.now.items) (stack c.begin.new.forms.items) (Ok (record { stage = stage.Value; at = c.args.key.behind })) c.in-Ok.ensures.0 tt

@@ -6,10 +6,14 @@ use Rattle.yaml_blocks.proofs.BlockGains.{missing_gives, no_root, spot_of}
 use Rattle.yaml_blocks.proofs.Fixed.{missing_fixes}
 use Rattle.yaml_blocks.proofs.AwaitedNodes.{place_behind}
 use Rattle.doc_values.specs.Unfinished.{with_value}
-use Rattle.yaml_blocks.specs.code.Twins.{NoValue}
-use Rattle.yaml_blocks.proofs.Stopped.{told_stops, completed_stops}
+use Rattle.yaml_blocks.specs.code.Twins.{NoValue, LengthensAt}
+use Rattle.yaml_blocks.proofs.Stopped.{last_told_stops, completed_stops}
 use Rattle.yaml_blocks.specs.Signs.{Tree}
 use Rattle.yaml_blocks.proofs.AwaitedNodes.{seen_place}
+use Rattle.yaml_blocks.proofs.OtherStops.{completed_on}
+use Rattle.yaml_blocks.proofs.LastNodes.{root_going, missing_lengthens}
+use Rattle.yaml_blocks.specs.declared.stage.Stage.TheVariants as stage
+use Rattle.yaml_blocks.proofs.Opens.{form_opening}
 use Rattle.yaml_blocks.proofs.block.missing.Goals as goal
 
 pub returns-in-Root-clause-gives : goal.returns-in-Root-clause-gives
@@ -32,11 +36,20 @@ pub returns-in-Root-clause-stops : goal.returns-in-Root-clause-stops
 returns-in-Root-clause-stops c =
     let fs = stack c.args.forms.now in
     let u = c.args.builder.now in
-    told_stops c.args.text.now c.args.at (NoValue c.args.at c.args.next c.args.form (stack c.args.forms.now) c.args.builder.now) false c.args.next c.told_place.result c.requires.awaited.seen.0 c.told_place.ensures
-    (λ text told w v h. no_root text fs u c.args.at c.args.next c.args.form w.seen.0 w.form c.in-Root.is c.requires.none c.requires.unsigned (Tree v) h)
+    last_told_stops c.args.text.now c.args.at (NoValue c.args.at c.args.next c.args.form (stack c.args.forms.now) c.args.builder.now) false c.args.next c.last_told.result c.requires.awaited.seen.0 (root_going c.args.text.now fs u c.args.at c.args.next c.args.form c.requires.awaited c.in-Root.is) c.last_told.ensures
+    (λ text w v h. no_root text fs u c.args.at c.args.next c.args.form w.seen.0 w.form c.in-Root.is c.requires.none c.requires.unsigned (Tree v) h)
 
 pub returns-in_default-clause-stops : goal.returns-in_default-clause-stops
 returns-in_default-clause-stops c = completed_stops c.args.text.now c.args.at (NoValue c.args.at c.args.next c.args.form (stack c.args.forms.now) c.args.builder.now) c.args.at (with_value kind.Null [] c.args.at c.args.builder.now) c.take_null.new.builder c.take_null.result c.take_null.ensures
 
-pub told_place-requires-clause-within : goal.told_place-requires-clause-within
-told_place-requires-clause-within c = seen_place c.args.text.now c.args.at c.args.next c.requires.awaited.seen
+pub last_told-requires-clause-within : goal.last_told-requires-clause-within
+last_told-requires-clause-within c = seen_place c.args.text.now c.args.at c.args.next c.requires.awaited.seen
+
+pub returns-in-Root-clause-longer : goal.returns-in-Root-clause-longer
+returns-in-Root-clause-longer c = missing_lengthens c.args.text.now c.utf8.text (stack c.args.forms.now) c.args.builder.now c.args.at c.requires.awaited.boundary c.args.form c.args.next c.last_told.result c.requires.awaited c.in-Root.is c.requires.none c.requires.unsigned c.last_told.ensures
+
+pub returns-in_default-clause-longer : goal.returns-in_default-clause-longer
+returns-in_default-clause-longer c = completed_on (LengthensAt c.args.text.now stage.Value (stack c.args.forms.now) c.args.builder.now c.args.at) c.args.at (with_value kind.Null [] c.args.at c.args.builder.now) c.take_null.new.builder c.take_null.result c.take_null.ensures
+
+pub returns-in_default-clause-opens : goal.returns-in_default-clause-opens
+returns-in_default-clause-opens c = form_opening (stack c.args.forms.now) c.args.form c.take_null.result c.requires.awaited.form c.requires.awaited.block

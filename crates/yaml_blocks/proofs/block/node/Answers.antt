@@ -2,10 +2,12 @@ use Rattle.std.proofs.Common.{◌+◌, ◌*◌, false, sym, subst}
 use Rattle.yaml_blocks.specs.declared.ahead.Ahead.{Ahead}
 use Rattle.yaml_blocks.specs.code.Steps.{stack, Awaited, SameNode}
 use Rattle.yaml_blocks.proofs.BlockGains.{node_signed_gives, spot_of}
-use Rattle.yaml_blocks.specs.code.Twins.{Stops, NoValue, FixesNode}
+use Rattle.yaml_blocks.specs.code.Twins.{Stops, NoValue, FixesNode, LengthensAt}
 use Rattle.yaml_blocks.specs.Ahead.{ahead}
 use Rattle.yaml_blocks.specs.Blocks.{block_sign}
 use Rattle.yaml_blocks.proofs.Stopped.{signed_stops}
+use Rattle.yaml_blocks.proofs.OtherStops.{signed_on}
+use Rattle.yaml_blocks.specs.declared.stage.Stage.TheVariants as stage
 use Rattle.yaml_blocks.proofs.block.node.Goals as goal
 
 pub returns-in-Some-clause-gives : goal.returns-in-Some-clause-gives
@@ -32,3 +34,9 @@ returns-in-Some-clause-stops c =
 pub returns-in-None-clause-stops : goal.returns-in-None-clause-stops
 returns-in-None-clause-stops c =
     subst (λ (a : Ahead). Stops c.args.text.now c.args.at (NoValue c.args.at a c.args.form (stack c.args.forms.now.items) c.args.builder.now) c.node_at.result) c.look-next.ensures.0 c.node_at.ensures.stops
+
+pub returns-in-Some-clause-longer : goal.returns-in-Some-clause-longer
+returns-in-Some-clause-longer c = signed_on (LengthensAt c.args.text.now stage.Value (stack c.args.forms.now.items) c.args.builder.now c.args.at) (block_sign c.args.form c.look-next.result) c.in-Some.refusal c.in-Some.ensures
+
+pub returns-in-None-clause-longer : goal.returns-in-None-clause-longer
+returns-in-None-clause-longer c = c.node_at.ensures.longer

@@ -5,8 +5,12 @@ use Rattle.yaml_blocks.proofs.BlockGains.{scalar_gives, spot_of}
 use Rattle.yaml_blocks.proofs.SameTexts.{holds_same}
 use Rattle.yaml_blocks.proofs.AwaitedNodes.{place_behind, small_form, value_awaited}
 use Rattle.yaml_blocks.proofs.Fixed.{scalar_fixes}
-use Rattle.yaml_blocks.specs.code.Twins.{NoValue}
+use Rattle.yaml_blocks.specs.code.Twins.{NoValue, LengthensAt}
 use Rattle.yaml_blocks.proofs.StoppedScalars.{no_value, scalar_stops}
+use Rattle.yaml_blocks.proofs.OtherStops.{unread_on}
+use Rattle.yaml_blocks.proofs.LastNodes.{scalar_lengthens}
+use Rattle.yaml_blocks.specs.declared.stage.Stage.TheVariants as stage
+use Rattle.yaml_blocks.proofs.Opens.{form_opening}
 use Rattle.yaml_blocks.proofs.block.scalar.Goals as goal
 
 pub returns-clause-gives : goal.returns-clause-gives
@@ -35,3 +39,10 @@ returns-clause-stops c =
     let fs = stack c.args.forms.now in
     scalar_stops c.args.text.now (setting_of c.args.form) false c.args.at c.args.next (NoValue c.args.at c.args.next c.args.form (stack c.args.forms.now) c.args.builder.now) c.requires.awaited.seen.0 c.requires.starts
     (λ other none. no_value other fs c.args.builder.now c.args.form c.args.at c.args.next c.requires.starts c.requires.takes none) c.take_scalar.result c.take_scalar.ensures.place
+
+pub returns-clause-longer : goal.returns-clause-longer
+returns-clause-longer c = unread_on (LengthensAt c.args.text.now stage.Value (stack c.args.forms.now) c.args.builder.now c.args.at) c.take_scalar.result
+    (λ q h. scalar_lengthens c.args.text.now c.utf8.text (stack c.args.forms.now) c.args.builder.now c.args.at c.requires.awaited.boundary c.args.form c.args.next q c.requires.awaited c.requires.starts c.requires.takes (c.take_scalar.ensures.place q h))
+
+pub returns-clause-opens : goal.returns-clause-opens
+returns-clause-opens c = form_opening (stack c.args.forms.now) c.args.form c.take_scalar.result c.requires.awaited.form c.requires.awaited.block

@@ -5,8 +5,11 @@ use Rattle.yaml_blocks.specs.code.Steps.{stack}
 use Rattle.yaml_blocks.proofs.BlockGains.{sequence_goes, sequence_refused, spot_of}
 use Rattle.yaml_blocks.proofs.AwaitedNodes.{column_before, small_form, small_place, value_awaited, place_behind}
 use Rattle.yaml_blocks.proofs.Fixed.{dash_fixes}
-use Rattle.yaml_blocks.specs.code.Twins.{NoValue}
+use Rattle.yaml_blocks.specs.code.Twins.{NoValue, LengthensAt}
 use Rattle.yaml_blocks.proofs.Stopped.{deep_stops}
+use Rattle.yaml_blocks.proofs.OtherStops.{deep_on}
+use Rattle.yaml_blocks.proofs.Opens.{begun_opening}
+use Rattle.std.specs.Prelude.{Ok}
 use Rattle.yaml_blocks.proofs.block.sequence.Goals as goal
 
 pub returns-in-Ok-clause-gives : goal.returns-in-Ok-clause-gives
@@ -41,7 +44,13 @@ pub begin-requires-clause-awaited : goal.begin-requires-clause-awaited
 begin-requires-clause-awaited c = value_awaited c.args.text.now (stack c.args.forms.now.items) c.args.builder.now c.args.form c.args.at c.args.next c.requires.awaited
 
 pub returns-in-Ok-clause-fixes : goal.returns-in-Ok-clause-fixes
-returns-in-Ok-clause-fixes c = dash_fixes c.args.text.now c.args.form c.args.at c.args.next c.requires.awaited.seen c.requires.awaited.boundary (place_behind c.args.text.now (stack c.args.forms.now.items) c.args.builder.now c.args.form c.args.at c.args.next c.requires.awaited) c.requires.dash (record { stage = stage.Value; at = c.args.next.behind }) refl
+returns-in-Ok-clause-fixes c = dash_fixes c.args.text.now c.args.form c.args.at c.args.next c.requires.awaited.seen c.requires.awaited.boundary (place_behind c.args.text.now (stack c.args.forms.now.items) c.args.builder.now c.args.form c.args.at c.args.next c.requires.awaited) c.requires.dash (record { stage = stage.Value; at = c.args.next.behind }) refl refl
 
 pub returns-in-Err-clause-stops : goal.returns-in-Err-clause-stops
 returns-in-Err-clause-stops c = deep_stops c.args.text.now c.args.at (NoValue c.args.at c.args.next c.args.form (stack c.args.forms.now.items) c.args.builder.now) c.args.builder.now c.args.next.at c.in-Err.refusal c.in-Err.ensures
+
+pub returns-in-Err-clause-longer : goal.returns-in-Err-clause-longer
+returns-in-Err-clause-longer c = deep_on (LengthensAt c.args.text.now stage.Value (stack c.args.forms.now.items) c.args.builder.now c.args.at) c.args.builder.now c.args.next.at c.in-Err.refusal c.in-Err.ensures
+
+pub returns-in-Ok-clause-opens : goal.returns-in-Ok-clause-opens
+returns-in-Ok-clause-opens c = begun_opening (Items c.column_in-column.result) (stack c.args.forms.now.items) (stack c.begin.new.forms.items) (Ok (record { stage = stage.Value; at = c.args.next.behind })) c.in-Ok.ensures.0 tt

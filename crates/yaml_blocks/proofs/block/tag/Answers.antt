@@ -5,8 +5,14 @@ use Rattle.yaml_blocks.proofs.BlockGains.{tag_gives, spot_of}
 use Rattle.yaml_blocks.proofs.SameTexts.{tag_same}
 use Rattle.yaml_blocks.proofs.AwaitedNodes.{small_form, place_behind}
 use Rattle.yaml_blocks.proofs.Fixed.{tag_fixes}
-use Rattle.yaml_blocks.specs.code.Twins.{NoValue}
+use Rattle.yaml_blocks.specs.code.Twins.{NoValue, LengthensAt}
 use Rattle.yaml_blocks.proofs.Stopped.{tag_stops}
+use Rattle.yaml_blocks.proofs.OtherStops.{tag_on}
+use Rattle.yaml_blocks.specs.declared.stage.Stage.TheVariants as stage
+use Rattle.yaml_blocks.proofs.Opens.{tag_opening}
+use Rattle.std.proofs.Common.{sym, subst}
+use Rattle.yaml_blocks.specs.code.Steps.{IsBlock}
+use Rattle.yaml_blocks.specs.declared.form.Form.{Form}
 use Rattle.yaml_blocks.proofs.block.tag.Goals as goal
 
 pub begin_tag-requires-clause-first : goal.begin_tag-requires-clause-first
@@ -29,3 +35,9 @@ returns-clause-fixes c = tag_fixes c.args.text.now c.args.form c.tagged.result c
 pub returns-clause-stops : goal.returns-clause-stops
 returns-clause-stops c =
     tag_stops c.args.text.now c.args.at (NoValue c.args.at c.args.next c.args.form (stack c.args.forms.now.items) c.args.builder.now) c.tagged.result c.args.next (stack c.args.forms.now.items) (stack c.begin_tag.new.forms.items) c.args.builder.now c.begin_tag.new.builder c.begin_tag.result c.begin_tag.ensures
+
+pub returns-clause-longer : goal.returns-clause-longer
+returns-clause-longer c = tag_on (LengthensAt c.args.text.now stage.Value (stack c.args.forms.now.items) c.args.builder.now c.args.at) c.args.text.now c.tagged.result c.args.next (stack c.args.forms.now.items) (stack c.begin_tag.new.forms.items) c.args.builder.now c.begin_tag.new.builder c.begin_tag.result c.begin_tag.ensures
+
+pub returns-clause-opens : goal.returns-clause-opens
+returns-clause-opens c = tag_opening c.args.text.now c.tagged.result c.args.next (stack c.args.forms.now.items) (stack c.begin_tag.new.forms.items) c.args.builder.now c.begin_tag.new.builder c.begin_tag.result (subst (λ (f : Form). IsBlock f) (sym c.tagged.ensures) tt) c.begin_tag.ensures

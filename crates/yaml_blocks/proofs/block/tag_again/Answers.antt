@@ -6,10 +6,14 @@ use Rattle.yaml_blocks.specs.code.Rest.{top, Awaits}
 use Rattle.yaml_blocks.specs.code.Steps.{stack, Ended}
 use Rattle.yaml_blocks.proofs.Gains.{memory_gives}
 use Rattle.yaml_blocks.proofs.BlockGains.{spot_of, tag_again_gives, no_tag_again}
-use Rattle.yaml_blocks.specs.code.Twins.{NoValue}
-use Rattle.yaml_blocks.proofs.Stopped.{told_stops, memory_stops}
+use Rattle.yaml_blocks.specs.code.Twins.{NoValue, LengthensAt}
+use Rattle.yaml_blocks.proofs.Stopped.{last_told_stops, memory_stops}
+use Rattle.yaml_blocks.specs.code.Steps.{is_ending}
 use Rattle.yaml_blocks.specs.Signs.{Tree}
 use Rattle.yaml_blocks.proofs.AwaitedNodes.{seen_place}
+use Rattle.yaml_blocks.proofs.OtherStops.{memory_on}
+use Rattle.yaml_blocks.proofs.LastNodes.{tag_again_lengthens}
+use Rattle.yaml_blocks.specs.declared.stage.Stage.TheVariants as stage
 use Rattle.yaml_blocks.proofs.block.tag_again.Goals as goal
 
 pub returns-then-is_entry_column-clause-gives : goal.returns-then-is_entry_column-clause-gives
@@ -26,7 +30,7 @@ returns-then-is_entry_column-clause-gives c = λ text v same.
       c.requires.tagged,
       c.requires.none,
       c.requires.unsigned,
-      subst (λ z. Ended text fs z next c.args.at gs w (Ok tt)) c.in-Ok.ensures.2 (c.in-Ok-end_before.ensures text c.args.at v.seen.0),
+      subst (λ z. Ended text fs z next c.args.at gs w (Ok tt)) c.in-Ok.ensures.2 (c.in-Ok-end_before.ensures.ended text c.args.at v.seen.0),
     ) c.offset.ensures (sym found ∙ c.is_entry_column.ensures.yes c.if-is_entry_column.true)
 
 pub returns-clause-gives : goal.returns-clause-gives
@@ -43,7 +47,7 @@ returns-clause-gives c = λ text v same.
       c.requires.tagged,
       c.requires.none,
       c.requires.unsigned,
-      subst (λ z. Ended text fs z next c.args.at gs w (Ok tt)) c.in-Ok.ensures.2 (c.in-Ok-end_before.ensures text c.args.at v.seen.0),
+      subst (λ z. Ended text fs z next c.args.at gs w (Ok tt)) c.in-Ok.ensures.2 (c.in-Ok-end_before.ensures.ended text c.args.at v.seen.0),
     ) (λ h. c.is_entry_column.ensures.no c.if-is_entry_column.false (found ∙ h))
 
 pub end_before-requires-clause-block : goal.end_before-requires-clause-block
@@ -56,7 +60,7 @@ pub returns-in-Err-end_before-clause-gives : goal.returns-in-Err-end_before-clau
 returns-in-Err-end_before-clause-gives c = λ text v same.
     let u = c.args.builder.now in
     let fs = stack c.args.forms.now.items in
-    memory_gives text (Awaits text fs u.outer u.done u.key c.args.at) (2 * c.args.at + 1) (stack c.end_before.new.forms.items) c.end_before.new.builder c.in-Err-end_before.refusal (c.in-Err-end_before.ensures text c.args.at v.seen.0)
+    memory_gives text (Awaits text fs u.outer u.done u.key c.args.at) (2 * c.args.at + 1) (stack c.end_before.new.forms.items) c.end_before.new.builder c.in-Err-end_before.refusal (c.in-Err-end_before.ensures.ended text c.args.at v.seen.0)
 
 pub returns-clause-stops : goal.returns-clause-stops
 returns-clause-stops c =
@@ -66,21 +70,30 @@ returns-clause-stops c =
     let w = c.end_before.new.builder in
     let next = c.args.next in
     let found = c.innermost.ensures ∙ ap (λ (x : List Form). top (stack x)) c.deref.ensures.value in
-    told_stops c.args.text.now c.args.at (NoValue c.args.at c.args.next c.args.form (stack c.args.forms.now.items) c.args.builder.now) false next c.told_place.result c.requires.awaited.seen.0 c.told_place.ensures
-    (λ text told v r h. no_tag_again text fs gs u w c.args.form c.args.at c.args.len next v.seen.0 (
+    last_told_stops c.args.text.now c.args.at (NoValue c.args.at c.args.next c.args.form (stack c.args.forms.now.items) c.args.builder.now) false next c.last_told.result c.requires.awaited.seen.0 (ap is_ending c.requires.tag) c.last_told.ensures
+    (λ text v r h. no_tag_again text fs gs u w c.args.form c.args.at c.args.len next v.seen.0 (
       spot_of text fs u c.args.form c.args.at next v,
       c.requires.tag,
       c.requires.tagged,
       c.requires.none,
       c.requires.unsigned,
-      subst (λ z. Ended text fs z next c.args.at gs w (Ok tt)) c.in-Ok.ensures.2 (c.in-Ok-end_before.ensures text c.args.at v.seen.0),
+      subst (λ z. Ended text fs z next c.args.at gs w (Ok tt)) c.in-Ok.ensures.2 (c.in-Ok-end_before.ensures.ended text c.args.at v.seen.0),
     ) (λ k. c.is_entry_column.ensures.no c.if-is_entry_column.false (found ∙ k)) (Tree r) h)
 
 pub returns-in-Err-end_before-clause-stops : goal.returns-in-Err-end_before-clause-stops
-returns-in-Err-end_before-clause-stops c = memory_stops c.args.text.now c.args.at (NoValue c.args.at c.args.next c.args.form (stack c.args.forms.now.items) c.args.builder.now) c.in-Err-end_before.refusal (c.in-Err-end_before.ensures c.args.text.now c.args.at c.requires.awaited.seen.0)
+returns-in-Err-end_before-clause-stops c = memory_stops c.args.text.now c.args.at (NoValue c.args.at c.args.next c.args.form (stack c.args.forms.now.items) c.args.builder.now) c.in-Err-end_before.refusal (c.in-Err-end_before.ensures.ended c.args.text.now c.args.at c.requires.awaited.seen.0)
 
 pub returns-in-Err-clause-stops : goal.returns-in-Err-clause-stops
 returns-in-Err-clause-stops c = memory_stops c.args.text.now c.args.at (NoValue c.args.at c.args.next c.args.form (stack c.args.forms.now.items) c.args.builder.now) c.in-Err.refusal c.in-Err.ensures
 
-pub told_place-requires-clause-within : goal.told_place-requires-clause-within
-told_place-requires-clause-within c = seen_place c.args.text.now c.args.at c.args.next c.requires.awaited.seen
+pub last_told-requires-clause-within : goal.last_told-requires-clause-within
+last_told-requires-clause-within c = seen_place c.args.text.now c.args.at c.args.next c.requires.awaited.seen
+
+pub returns-clause-longer : goal.returns-clause-longer
+returns-clause-longer c = tag_again_lengthens c.args.text.now c.utf8.text (stack c.args.forms.now.items) c.args.builder.now c.args.at c.requires.awaited.boundary c.args.form c.args.next c.last_told.result c.requires.awaited c.args.len c.requires.tag c.requires.tagged c.requires.unsigned c.last_told.ensures
+
+pub returns-in-Err-end_before-clause-longer : goal.returns-in-Err-end_before-clause-longer
+returns-in-Err-end_before-clause-longer c = memory_on (LengthensAt c.args.text.now stage.Value (stack c.args.forms.now.items) c.args.builder.now c.args.at) c.in-Err-end_before.refusal (c.in-Err-end_before.ensures.ended c.args.text.now c.args.at c.requires.awaited.seen.0)
+
+pub returns-in-Err-clause-longer : goal.returns-in-Err-clause-longer
+returns-in-Err-clause-longer c = memory_on (LengthensAt c.args.text.now stage.Value (stack c.args.forms.now.items) c.args.builder.now c.args.at) c.in-Err.refusal c.in-Err.ensures

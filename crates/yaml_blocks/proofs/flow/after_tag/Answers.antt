@@ -10,6 +10,7 @@ use Rattle.yaml_blocks.specs.declared.stop.Stop.TheVariants.{Unread}
 use Rattle.yaml_blocks.specs.code.Twins.{NoTail}
 use Rattle.yaml_blocks.specs.Ahead.{ahead}
 use Rattle.std.specs.Prelude.{Err}
+use Rattle.yaml_blocks.proofs.FlowLengthens.{tag_lengthens}
 use Rattle.yaml_blocks.proofs.flow.after_tag.Goals as goal
 
 pub end-requires : goal.end-requires
@@ -46,3 +47,8 @@ returns-clause-stops c =
     let next = ahead c.args.text.now true at in
     stops_from c.args.text.now at (NoTail at next (stack c.pop.new.self.items) w) (NoTail at next (stack c.args.forms.now.items) u) c.after.result
     (λ text k seen v h. tag_gives text c.args.place (stack c.args.forms.now.items) (stack c.pop.new.self.items) [] u w w at (Err (Unread 0)) (c.in-Some.field-0, e, c.requires.form, c.requires.open) c.in-Ok.ensures.ok (λ z g. k seen z g) v h) c.after.ensures.stops
+
+pub returns-clause-longer : goal.returns-clause-longer
+returns-clause-longer c = λ apoint.
+    let e = stack_grown c.args.forms.now.items c.pop.new.self.items c.in-Some.field-0 c.in-Some.ensures.items in
+    tag_lengthens c.args.text.now c.utf8.text (stack c.args.forms.now.items) c.args.builder.now c.args.at c.requires.boundary c.args.place (stack c.pop.new.self.items) c.end.new.self c.after.result (c.in-Some.field-0, e, c.requires.form, c.requires.open) c.in-Ok.ensures.ok (c.after.ensures.longer apoint)

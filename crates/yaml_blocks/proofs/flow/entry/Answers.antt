@@ -12,6 +12,11 @@ use Rattle.yaml_blocks.specs.code.Twins.{Stops, NoFlowValue, NoEntry, FixesEntry
 use Rattle.yaml_blocks.specs.Ahead.{ahead}
 use Rattle.yaml_blocks.specs.Signs.{Tree}
 use Rattle.yaml_blocks.proofs.Stopped.{closed_stops, stops_from, item_follows}
+use Rattle.yaml_blocks.proofs.Fed.{closed_feeds, node_entry_feeds, key_entry_feeds}
+use Rattle.yaml_blocks.specs.code.Feeds.{FeedsEntry}
+use Rattle.yaml_blocks.proofs.FlowLengthens.{closed_on, item_lengthens}
+use Rattle.yaml_blocks.specs.code.Twins.{Lengthens, LengthensAt}
+use Rattle.yaml_blocks.specs.declared.stage.Stage.TheVariants as stage
 use Rattle.yaml_blocks.proofs.flow.entry.Goals as goal
 
 pub returns-then-closes-clause-gives : goal.returns-then-closes-clause-gives
@@ -80,3 +85,26 @@ returns-else-map-clause-stops c =
     (stops_from c.args.text.now at (NoFlowValue at next fs u) (NoEntry at next fs u) c.node.result
     (λ text k seen t h. k seen t (item_follows text fs u at next seen.0 (c.requires.form ∙ ap Flow c.if-map.false) c.requires.open (λ e. c.closes.ensures.no c.if-closes.false (e ∙ ap Closes (sym c.if-map.false)))
     (sym c.is_marked.ensures ∙ c.if-is_marked.false) c.requires.awaited (Tree t) h)) c.node.ensures.stops)
+
+pub returns-then-closes-clause-feeds : goal.returns-then-closes-clause-feeds
+returns-then-closes-clause-feeds c = subst (λ (a : Ahead). FeedsEntry c.args.text.now c.args.map c.args.at a c.close.result) c.look-next.ensures.0 (closed_feeds c.args.text.now c.args.at c.look-next.result c.look-next.ensures c.requires.boundary c.args.map (stack c.args.forms.now.items) (stack c.close.new.forms.items) c.args.builder.now c.close.new.builder c.close.result (c.closes.ensures.yes c.if-closes.true) c.close.ensures)
+
+pub returns-else-map-clause-feeds : goal.returns-else-map-clause-feeds
+returns-else-map-clause-feeds c = subst (λ (a : Ahead). FeedsEntry c.args.text.now c.args.map c.args.at a c.node.result) c.look-next.ensures.0 (node_entry_feeds c.args.text.now c.args.at c.look-next.result c.args.map c.node.result c.if-map.false c.node.ensures.feeds)
+
+pub returns-then-map-clause-feeds : goal.returns-then-map-clause-feeds
+returns-then-map-clause-feeds c = subst (λ (a : Ahead). FeedsEntry c.args.text.now c.args.map c.args.at a c.key.result) c.look-next.ensures.0 (key_entry_feeds c.args.text.now c.args.at c.look-next.result c.args.map c.key.result c.if-map.true c.key.ensures.feeds)
+
+pub returns-then-closes-clause-longer : goal.returns-then-closes-clause-longer
+returns-then-closes-clause-longer c = λ keyed. closed_on (LengthensAt c.args.text.now stage.Entry (stack c.args.forms.now.items) c.args.builder.now c.args.at) c.look-next.result.behind (stack c.args.forms.now.items) (stack c.close.new.forms.items) c.args.builder.now c.close.new.builder c.close.result c.close.ensures
+
+pub returns-then-is_marked-clause-longer : goal.returns-then-is_marked-clause-longer
+returns-then-is_marked-clause-longer c = λ keyed. tt
+
+pub returns-then-map-clause-longer : goal.returns-then-map-clause-longer
+returns-then-map-clause-longer c = λ keyed.
+    subst (λ (x : List Form). Lengthens c.args.text.now stage.Entry (stack x) c.args.builder.now c.args.at c.key.result) c.deref.ensures.value (c.key.ensures.longer (keyed c.if-map.true))
+
+pub returns-else-map-clause-longer : goal.returns-else-map-clause-longer
+returns-else-map-clause-longer c = λ keyed.
+    item_lengthens c.args.text.now c.utf8.text (stack c.args.forms.now.items) c.args.builder.now c.args.at c.requires.boundary c.look-next.result c.node.result c.look-next.ensures.0 (c.requires.form ∙ ap Flow c.if-map.false) c.requires.open c.requires.awaited (sym c.is_marked.ensures ∙ c.if-is_marked.false) c.node.ensures.longer

@@ -16,13 +16,17 @@ use Rattle.yaml_blocks.proofs.Gains.{key_gives, key_signed_gives, find_refused, 
 use Rattle.yaml_blocks.proofs.Fixed.{flow_key_fixes}
 use Rattle.yaml_blocks.specs.code.Twins.{NoEntry}
 use Rattle.yaml_blocks.specs.Nodes.{node_sign}
-use Rattle.yaml_blocks.proofs.Stopped.{signed_stops, built_stops, told_stops}
+use Rattle.yaml_blocks.proofs.Stopped.{signed_stops, built_stops}
 use Rattle.yaml_blocks.proofs.StoppedScalars.{key_stops, missed_failed}
 use Rattle.yaml_blocks.proofs.StoppedKeys.{no_colon_stops}
 use Rattle.yaml_blocks.proofs.Scalars.{failed_other}
 use Rattle.yaml_blocks.specs.code.StopPlaces.{told_place}
 use Rattle.yaml_blocks.specs.declared.stop.Stop.TheVariants.{Unread}
 use Rattle.yaml_blocks.specs.Signs.{Tree}
+use Rattle.yaml_blocks.proofs.Fed.{key_feeds}
+use Rattle.yaml_blocks.proofs.FlowLengthens.{flow_stops, key_token_lengthens, key_fails_lengthens, key_end_lengthens}
+use Rattle.yaml_blocks.proofs.OtherStops.{signed_on, built_on}
+use Rattle.yaml_blocks.specs.code.Twins.{LengthensAt}
 use Rattle.yaml_blocks.proofs.flow.key.Goals as goal
 
 pub returns-in-Err-clause-gives : goal.returns-in-Err-clause-gives
@@ -84,7 +88,7 @@ returns-in-Some-colon-clause-fixes c =
     let place = c.in-Some-colon.place in
     let g = found_key this c.as_key.result (as_key true) c.args.next words c.in-Ok.scalar.kind end c.as_key.ensures c.in-Ok.ensures.finds in
     let h = c.in-Some-colon.ensures in
-    flow_key_fixes this c.args.at c.args.next c.is_quoted.result words place end (record { stage = stage.Value; at = place }) c.requires.seen c.requires.boundary g.0 g.2 g.3 h.0 h.1 refl
+    flow_key_fixes this c.args.at c.args.next c.is_quoted.result words place end (record { stage = stage.Value; at = place }) c.requires.seen c.requires.boundary g.0 g.2 g.3 h.0 h.1 refl refl
 
 pub returns-in-Some-clause-stops : goal.returns-in-Some-clause-stops
 returns-in-Some-clause-stops c = signed_stops c.args.text.now c.args.at (NoEntry c.args.at c.args.next (stack c.args.forms.now) c.args.builder.now) (node_sign false c.args.next.at c.args.next.token) c.in-Some.refusal c.in-Some.ensures
@@ -106,19 +110,55 @@ returns-in-None-colon-clause-stops c =
     let end = c.in-Ok.scalar.end in
     let quoted : c.is_quoted.result ≡ begins_quoted (drop c.args.next.at this) = c.is_quoted.ensures ∙ ap (λ (t : List ℕ). begins_quoted (drop c.args.next.at t)) c.as_bytes.ensures.value in
     let g = found_key this c.as_key.result (as_key true) c.args.next words c.in-Ok.scalar.kind end c.as_key.ensures c.in-Ok.ensures.finds in
-    no_colon_stops this (stack c.args.forms.now) c.args.builder.now c.args.at c.args.next c.is_quoted.result words end c.told_place-in-None-colon.result c.requires.seen c.requires.boundary c.requires.there c.requires.form c.requires.open g.0 g.2 g.3 c.in-Ok-key.ensures.ok.1 quoted c.in-None-colon.ensures
-    (c.told_place-in-None-colon.ensures ∙ ap (told_place this) c.look.ensures.0)
+    no_colon_stops this (stack c.args.forms.now) c.args.builder.now c.args.at c.args.next c.is_quoted.result words end c.told_place.result c.requires.seen c.requires.boundary c.requires.there c.requires.form c.requires.open g.0 g.2 g.3 c.in-Ok-key.ensures.ok.1 quoted c.in-None-colon.ensures
+    (c.told_place.ensures ∙ ap (told_place this) c.look.ensures.0)
 
 pub returns-then-not-starts_scalar-clause-gives : goal.returns-then-not-starts_scalar-clause-gives
 returns-then-not-starts_scalar-clause-gives c = λ text seen same.
-    find_refused text (stack c.args.forms.now) c.args.builder.now c.args.builder.now c.args.at c.args.next (as_key true) (Unread c.told_place.result) refl seen.0 c.requires.there c.in-None.ensures c.requires.unmarked c.requires.form c.requires.open
-    (inr (inl ((c.told_place.result, refl), failed_other text (as_key true) c.args.next (sym c.starts_scalar.ensures ∙ c.if-not-starts_scalar.true))))
+    find_refused text (stack c.args.forms.now) c.args.builder.now c.args.builder.now c.args.at c.args.next (as_key true) (Unread c.flow_place.result) refl seen.0 c.requires.there c.in-None.ensures c.requires.unmarked c.requires.form c.requires.open
+    (inr (inl ((c.flow_place.result, refl), failed_other text (as_key true) c.args.next (sym c.starts_scalar.ensures ∙ c.if-not-starts_scalar.true))))
 
 pub returns-then-not-starts_scalar-clause-stops : goal.returns-then-not-starts_scalar-clause-stops
 returns-then-not-starts_scalar-clause-stops c =
-    told_stops c.args.text.now c.args.at (NoEntry c.args.at c.args.next (stack c.args.forms.now) c.args.builder.now) true c.args.next c.told_place.result c.requires.seen.0 c.told_place.ensures
-    (λ text told seen v h. find_refused text (stack c.args.forms.now) c.args.builder.now c.args.builder.now c.args.at c.args.next (as_key true) (Unread c.told_place.result) refl seen.0 c.requires.there c.in-None.ensures c.requires.unmarked c.requires.form c.requires.open
-    (inr (inl ((c.told_place.result, refl), failed_other text (as_key true) c.args.next (sym c.starts_scalar.ensures ∙ c.if-not-starts_scalar.true)))) (Tree v) h)
+    flow_stops c.args.text.now c.args.at (NoEntry c.args.at c.args.next (stack c.args.forms.now) c.args.builder.now) c.args.next c.flow_place.result c.requires.seen.0 c.flow_place.ensures
+    (λ text told seen v h. find_refused text (stack c.args.forms.now) c.args.builder.now c.args.builder.now c.args.at c.args.next (as_key true) (Unread c.flow_place.result) refl seen.0 c.requires.there c.in-None.ensures c.requires.unmarked c.requires.form c.requires.open
+    (inr (inl ((c.flow_place.result, refl), failed_other text (as_key true) c.args.next (sym c.starts_scalar.ensures ∙ c.if-not-starts_scalar.true)))) (Tree v) h)
 
 pub find_scalar-requires-clause-starts : goal.find_scalar-requires-clause-starts
 find_scalar-requires-clause-starts c = sym c.starts_scalar.ensures ∙ c.if-not-starts_scalar.false
+
+pub returns-in-Some-colon-clause-feeds : goal.returns-in-Some-colon-clause-feeds
+returns-in-Some-colon-clause-feeds c =
+    let this = c.args.text.now in
+    let words = cow_str_bytes c.in-Ok.scalar.text in
+    let end = c.in-Ok.scalar.end in
+    let place = c.in-Some-colon.place in
+    let g = found_key this c.as_key.result (as_key true) c.args.next words c.in-Ok.scalar.kind end c.as_key.ensures c.in-Ok.ensures.finds in
+    key_feeds this c.args.at c.args.next c.requires.seen c.requires.boundary c.is_quoted.result words place end (record { stage = stage.Value; at = place }) g.0 g.2 g.3 c.in-Some-colon.ensures.0
+
+pub returns-in-Some-clause-longer : goal.returns-in-Some-clause-longer
+returns-in-Some-clause-longer c = λ keyed. signed_on (LengthensAt c.args.text.now stage.Entry (stack c.args.forms.now) c.args.builder.now c.args.at) (node_sign false c.args.next.at c.args.next.token) c.in-Some.refusal c.in-Some.ensures
+
+pub returns-then-not-starts_scalar-clause-longer : goal.returns-then-not-starts_scalar-clause-longer
+returns-then-not-starts_scalar-clause-longer c = λ keyed.
+    key_token_lengthens c.args.text.now c.utf8.text (stack c.args.forms.now) c.args.builder.now c.args.at c.requires.boundary c.args.next c.flow_place.result c.requires.seen.0 c.requires.form c.requires.open c.requires.awaited (sym c.starts_scalar.ensures ∙ c.if-not-starts_scalar.true) c.requires.there c.requires.unmarked c.flow_place.ensures
+
+pub returns-in-Err-clause-longer : goal.returns-in-Err-clause-longer
+returns-in-Err-clause-longer c = λ keyed.
+    key_fails_lengthens c.args.text.now c.utf8.text (stack c.args.forms.now) c.args.builder.now c.args.at c.requires.boundary c.args.next c.as_key.result c.in-Err.refusal c.requires.seen.0 (sym c.starts_scalar.ensures ∙ c.if-not-starts_scalar.false) c.as_key.ensures (λ q e. c.in-Err.ensures.place q (ap Err e)) keyed
+
+pub returns-in-Err-key-clause-longer : goal.returns-in-Err-key-clause-longer
+returns-in-Err-key-clause-longer c = λ keyed. built_on (LengthensAt c.args.text.now stage.Entry (stack c.args.forms.now) c.args.builder.now c.args.at) c.in-Err-key.refusal c.from.result c.from.ensures
+
+pub returns-in-Some-colon-clause-longer : goal.returns-in-Some-colon-clause-longer
+returns-in-Some-colon-clause-longer c = λ keyed. tt
+
+pub returns-in-None-colon-clause-longer : goal.returns-in-None-colon-clause-longer
+returns-in-None-colon-clause-longer c = λ keyed.
+    let this = c.args.text.now in
+    let words = cow_str_bytes c.in-Ok.scalar.text in
+    let end = c.in-Ok.scalar.end in
+    let quoted : c.is_quoted.result ≡ begins_quoted (drop c.args.next.at this) = c.is_quoted.ensures ∙ ap (λ (t : List ℕ). begins_quoted (drop c.args.next.at t)) c.as_bytes.ensures.value in
+    let g = found_key this c.as_key.result (as_key true) c.args.next words c.in-Ok.scalar.kind end c.as_key.ensures c.in-Ok.ensures.finds in
+    key_end_lengthens this c.utf8.text (stack c.args.forms.now) c.args.builder.now c.args.at c.requires.boundary c.args.next words end c.told_place.result c.is_quoted.result c.requires.seen.0 c.requires.form c.requires.open g.0 g.2 g.3 c.in-Ok-key.ensures.ok.1 quoted c.in-None-colon.ensures
+    (c.told_place.ensures ∙ ap (told_place this) c.look.ensures.0) keyed

@@ -6,6 +6,9 @@ use Rattle.yaml_blocks.proofs.Gains.{flow_spot, flow_tag_gives, tag_cut, tag_flo
 use Rattle.yaml_blocks.proofs.Fixed.{flow_tag_fixes}
 use Rattle.yaml_blocks.specs.code.Twins.{NoFlowValue}
 use Rattle.yaml_blocks.proofs.Stopped.{tag_stops}
+use Rattle.yaml_blocks.proofs.Fed.{tag_feeds}
+use Rattle.yaml_blocks.proofs.OtherStops.{tag_on}
+use Rattle.yaml_blocks.specs.code.Twins.{MendsNode}
 use Rattle.yaml_blocks.proofs.flow.tag.Goals as goal
 
 pub begin_tag-requires-clause-first : goal.begin_tag-requires-clause-first
@@ -25,3 +28,9 @@ returns-clause-fixes c = flow_tag_fixes c.args.text.now c.args.form (FlowTagged 
 pub returns-clause-stops : goal.returns-clause-stops
 returns-clause-stops c =
     tag_stops c.args.text.now c.args.at (NoFlowValue c.args.at c.args.next (stack c.args.forms.now.items) c.args.builder.now) (FlowTagged c.args.next.at) c.args.next (stack c.args.forms.now.items) (stack c.begin_tag.new.forms.items) c.args.builder.now c.begin_tag.new.builder c.begin_tag.result c.begin_tag.ensures
+
+pub returns-clause-feeds : goal.returns-clause-feeds
+returns-clause-feeds c = tag_feeds c.args.text.now c.args.at c.args.next c.requires.seen c.requires.boundary c.args.form (FlowTagged c.args.next.at) c.args.len (stack c.args.forms.now.items) (stack c.begin_tag.new.forms.items) c.args.builder.now c.begin_tag.new.builder c.begin_tag.result c.requires.behind c.requires.tag c.begin_tag.ensures
+
+pub returns-clause-longer : goal.returns-clause-longer
+returns-clause-longer c = tag_on (MendsNode c.args.text.now (stack c.args.forms.now.items) c.args.builder.now c.args.at) c.args.text.now (FlowTagged c.args.next.at) c.args.next (stack c.args.forms.now.items) (stack c.begin_tag.new.forms.items) c.args.builder.now c.begin_tag.new.builder c.begin_tag.result c.begin_tag.ensures

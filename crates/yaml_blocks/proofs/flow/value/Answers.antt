@@ -9,6 +9,12 @@ use Rattle.yaml_blocks.specs.code.Twins.{Stops, NoFlowValue, FixesFlowNode}
 use Rattle.doc_values.specs.Unfinished.{with_value}
 use Rattle.yaml_blocks.specs.Ahead.{ahead}
 use Rattle.yaml_blocks.proofs.Stopped.{completed_stops}
+use Rattle.yaml_blocks.proofs.Fed.{null_feeds}
+use Rattle.yaml_blocks.specs.code.Feeds.{FeedsFlowNode}
+use Rattle.yaml_blocks.proofs.OtherStops.{completed_on}
+use Rattle.yaml_blocks.specs.code.Twins.{LengthensAt}
+use Rattle.yaml_blocks.specs.declared.stage.Stage.TheVariants as stage
+use Rattle.yaml_blocks.proofs.FlowLengthens.{value_lengthens}
 use Rattle.yaml_blocks.proofs.flow.value.Goals as goal
 
 pub returns-then-is_flow_ending-clause-gives : goal.returns-then-is_flow_ending-clause-gives
@@ -39,3 +45,16 @@ returns-then-is_flow_ending-clause-stops c =
 pub returns-clause-stops : goal.returns-clause-stops
 returns-clause-stops c =
     subst (λ (a : Ahead). Stops c.args.text.now c.args.at (NoFlowValue c.args.at a (stack c.args.forms.now.items) c.args.builder.now) c.node.result) c.look-next.ensures.0 c.node.ensures.stops
+
+pub returns-then-is_flow_ending-clause-feeds : goal.returns-then-is_flow_ending-clause-feeds
+returns-then-is_flow_ending-clause-feeds c = subst (λ (a : Ahead). FeedsFlowNode c.args.text.now c.args.form c.args.at a c.take_null.result) c.look-next.ensures.0 (null_feeds c.args.text.now c.args.at c.look-next.result c.look-next.ensures c.requires.boundary c.args.form (with_value kind.Null [] c.args.at c.args.builder.now) c.take_null.new.builder c.take_null.result c.requires.behind (sym c.is_flow_ending.ensures ∙ c.if-is_flow_ending.true) c.take_null.ensures)
+
+pub returns-clause-feeds : goal.returns-clause-feeds
+returns-clause-feeds c = subst (λ (a : Ahead). FeedsFlowNode c.args.text.now c.args.form c.args.at a c.node.result) c.look-next.ensures.0 c.node.ensures.feeds
+
+pub returns-then-is_flow_ending-clause-longer : goal.returns-then-is_flow_ending-clause-longer
+returns-then-is_flow_ending-clause-longer c = completed_on (LengthensAt c.args.text.now stage.Value (stack c.args.forms.now.items) c.args.builder.now c.args.at) c.args.at (with_value kind.Null [] c.args.at c.args.builder.now) c.take_null.new.builder c.take_null.result c.take_null.ensures
+
+pub returns-clause-longer : goal.returns-clause-longer
+returns-clause-longer c =
+    value_lengthens c.args.text.now c.utf8.text (stack c.args.forms.now.items) c.args.builder.now c.args.at c.requires.boundary c.args.form c.look-next.result c.node.result c.look-next.ensures.0 c.requires.form c.requires.flow c.requires.misses c.requires.behind c.requires.open c.requires.awaited (sym c.is_flow_ending.ensures ∙ c.if-is_flow_ending.false) c.node.ensures.longer

@@ -21,7 +21,7 @@ returns-then-next-text-clause-finds c =
     inr (inl ((c.offset.result, refl), failed_end c.args.text.now c.args.setting c.args.next e))
 
 pub returns-then-next-text-clause-place : goal.returns-then-next-text-clause-place
-returns-then-next-text-clause-place c = λ q e. inl (sym (unread_same c.offset.result q (error_same (Err (Unread c.offset.result)) (Unread c.offset.result) (Unread q) refl e)) ∙ c.offset.ensures)
+returns-then-next-text-clause-place c = λ q e. inl (sym (unread_same c.offset.result q (error_same (Err (Unread c.offset.result)) (Unread c.offset.result) (Unread q) refl e)) ∙ c.offset.ensures, omega (arith, c.if-next-text.true))
 
 pub returns-in-Err-clause-place : goal.returns-in-Err-clause-place
 returns-in-Err-clause-place c = λ q e.

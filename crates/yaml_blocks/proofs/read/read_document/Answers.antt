@@ -6,7 +6,9 @@ use Rattle.yaml_blocks.specs.Answers.{Reads}
 use Rattle.yaml_blocks.specs.code.Steps.{stack, Rest, reached}
 use Rattle.yaml_blocks.specs.code.Rest.{top}
 use Rattle.yaml_blocks.proofs.SameTexts.{same_step}
-use Rattle.yaml_blocks.proofs.Lives.{lives_first, lives_next, memory_at, stops_at}
+use Rattle.yaml_blocks.proofs.Lives.{memory_at, stops_at}
+use Rattle.yaml_blocks.proofs.LivesOn.{lives_of, on_first, on_next}
+use Rattle.yaml_blocks.proofs.Back.{grows_first, grows_next}
 use Rattle.yaml_blocks.proofs.Roots.{nearer, root_same, whole_tree, whole_complete, root_refused, refuses}
 use Rattle.yaml_blocks.proofs.read.read_document.Goals as goal
 
@@ -17,17 +19,26 @@ pub loop-alloc-init : goal.loop-alloc-init
 loop-alloc-init c =
     let none = ap (λ (x : List Form). stack x) c.new-forms.ensures.items in (
       root_same c.args.text.now c.in-Ok.start (stack c.new-forms.result.items) c.root.new.builder c.in-Ok-root.next c.in-Ok.ensures.start.0 c.in-Ok.ensures.start.2 none c.in-Ok-root.ensures.gives,
-      lives_first c.args.text.now c.in-Ok.start (stack c.new-forms.result.items) c.root.new.builder c.in-Ok-root.next c.in-Ok.ensures.fixes c.in-Ok-root.ensures.fixes none,
+      on_first c.args.text.now c.in-Ok.start (stack c.new-forms.result.items) c.root.new.builder c.in-Ok-root.next c.in-Ok.ensures.fixes c.in-Ok-root.ensures.fixes none,
+      grows_first c.args.text.now c.in-Ok-root.next (stack c.new-forms.result.items) c.root.new.builder none,
     )
 
 pub loop-alloc-preserved : goal.loop-alloc-preserved
 loop-alloc-preserved c =
+    let text = c.args.text.now in
     let i = c.loop-alloc.invariant.0 in
     let p = c.loop-alloc.position in
-    let g = c.in-Ok-step.ensures.gives c.args.text.now c.utf8.text i.2 i.1 (same_step c.args.text.now p.stage (top (stack c.loop-alloc.forms.items)) p.at) in (
+    let q = c.in-Ok-step.next in
+    let fs = stack c.loop-alloc.forms.items in
+    let gs = stack c.step.new.forms.items in
+    let u = c.loop-alloc.builder in
+    let w = c.step.new.builder in
+    let open_ = c.goes_on.ensures.yes c.loop-alloc-test.true in
+    let g = c.in-Ok-step.ensures.gives text c.utf8.text i.2 i.1 (same_step text p.stage (top fs) p.at) in
+    let lives = on_next text p q fs gs u w i.2.0 c.loop-alloc.invariant.1 open_ c.in-Ok-step.ensures.fixes c.in-Ok-step.ensures.feeds (λ other place m cut fits same. c.in-Ok-step.ensures.gives other m.utf8 cut fits same) in (
       ((λ v. ((λ h. (g.0 v).0 ((i.0 v).0 h)), (λ h. (i.0 v).1 ((g.0 v).1 h)))), g.1, g.2),
-      lives_next c.args.text.now p c.in-Ok-step.next (stack c.loop-alloc.forms.items) (stack c.step.new.forms.items) c.loop-alloc.builder c.step.new.builder c.loop-alloc.invariant.1 (c.goes_on.ensures.yes c.loop-alloc-test.true) c.in-Ok-step.ensures.fixes
-          (λ other place m cut fits same. c.in-Ok-step.ensures.gives other m.utf8 cut fits same),
+      lives,
+      grows_next text p q fs gs u w c.utf8.text c.loop-alloc.invariant.2 open_ c.in-Ok-step.ensures.feeds (λ other utf8 cut fits same. c.in-Ok-step.ensures.gives other utf8 cut fits same) lives g.2.0,
     )
 
 pub returns-in-Err-step-clause-answer : goal.returns-in-Err-step-clause-answer
@@ -40,7 +51,7 @@ pub returns-in-Err-root-clause-place : goal.returns-in-Err-root-clause-place
 returns-in-Err-root-clause-place c = memory_at c.args.text.now c.in-Err-root.stop c.in-Err-root.ensures.memory
 
 pub returns-in-Err-step-clause-place : goal.returns-in-Err-step-clause-place
-returns-in-Err-step-clause-place c = stops_at c.args.text.now c.utf8.text c.loop-alloc.position (stack c.loop-alloc.forms.items) c.loop-alloc.builder c.in-Err-step.stop c.loop-alloc.invariant.1 (c.goes_on.ensures.yes c.loop-alloc-test.true) c.in-Err-step.ensures.stops
+returns-in-Err-step-clause-place c = stops_at c.args.text.now c.utf8.text c.loop-alloc.position (stack c.loop-alloc.forms.items) c.loop-alloc.builder c.in-Err-step.stop (lives_of c.args.text.now c.loop-alloc.position (stack c.loop-alloc.forms.items) c.loop-alloc.builder c.loop-alloc.invariant.0.2.0 c.loop-alloc.invariant.1) (c.goes_on.ensures.yes c.loop-alloc-test.true) c.in-Err-step.ensures.stops
 
 pub finish-requires : goal.finish-requires
 finish-requires c =

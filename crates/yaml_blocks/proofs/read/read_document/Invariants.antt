@@ -1,13 +1,14 @@
 use Rattle.std.proofs.Common.{◌+◌, ◌-◌, ◌*◌, length}
 use Rattle.std.specs.Str.{IsCharBoundary}
 use Rattle.yaml_blocks.specs.code.Steps.{stack, Fits, reached}
-use Rattle.yaml_blocks.proofs.Lives.{Lives}
+use Rattle.yaml_blocks.proofs.LivesOn.{LivesOn}
+use Rattle.yaml_blocks.proofs.Back.{Grows}
 use Rattle.yaml_blocks.proofs.Roots.{Same}
 use Rattle.yaml_blocks.proofs.read.read_document.Given as goal
 
 abbrev pub invariant-loop-alloc : goal.invariant-loop-alloc
 invariant-loop-alloc l =
-    (Same l.text l.position (stack l.forms.items) l.builder × Fits l.text l.position.stage (stack l.forms.items) l.builder l.position.at × IsCharBoundary l.text l.position.at) × Lives l.text l.position (stack l.forms.items) l.builder
+    (Same l.text l.position (stack l.forms.items) l.builder × Fits l.text l.position.stage (stack l.forms.items) l.builder l.position.at × IsCharBoundary l.text l.position.at) × LivesOn l.text l.position (stack l.forms.items) l.builder × Grows l.text l.position (stack l.forms.items) l.builder
 
 abbrev pub decreases-loop-alloc : goal.decreases-loop-alloc
 decreases-loop-alloc l = 2 * length l.text + 4 - reached l.position.stage l.position.at

@@ -8,6 +8,8 @@ use Rattle.yaml_blocks.proofs.Fixed.{after_step, flow_after_step}
 use Rattle.yaml_blocks.proofs.Stopped.{tail_stops, line_stops}
 use Rattle.yaml_blocks.specs.code.Twins.{FixesStep}
 use Rattle.yaml_blocks.specs.declared.stage.Stage.TheVariants as stage
+use Rattle.yaml_blocks.proofs.Fed.{flow_after_feeds, block_feeds}
+use Rattle.yaml_blocks.specs.code.Feeds.{FeedsStep}
 use Rattle.yaml_blocks.proofs.step.after.Goals as goal
 
 pub returns-in-Flow-clause-gives : goal.returns-in-Flow-clause-gives
@@ -56,3 +58,34 @@ pub returns-in_default-clause-stops : goal.returns-in_default-clause-stops
 returns-in_default-clause-stops c =
     let found = c.innermost.ensures ∙ ap (λ (x : List Form). top (stack x)) c.deref.ensures.value in
     line_stops c.args.text.now (stack c.args.forms.now.items) c.args.builder.now c.args.at c.after-in_default.result c.requires.boundary (subst IsBlock found (block_of c.innermost.result c.in_default.not-Flow c.in_default.not-FlowTagged)) c.after-in_default.ensures.stops
+
+pub returns-in-Flow-clause-feeds : goal.returns-in-Flow-clause-feeds
+returns-in-Flow-clause-feeds c =
+    let found = c.innermost.ensures ∙ ap (λ (x : List Form). top (stack x)) c.deref.ensures.value in
+    let gs = stack c.after.new.forms.items in
+    subst (λ (f : Form). FeedsStep c.args.text.now stage.After f c.args.at gs c.after.result) found (flow_after_feeds c.args.text.now c.innermost.result c.args.at gs c.after.result (subst IsFlow (sym c.in-Flow.is) tt) c.after.ensures.feeds)
+
+pub returns-in-FlowTagged-clause-feeds : goal.returns-in-FlowTagged-clause-feeds
+returns-in-FlowTagged-clause-feeds c =
+    let found = c.innermost.ensures ∙ ap (λ (x : List Form). top (stack x)) c.deref.ensures.value in
+    let gs = stack c.after_tag.new.forms.items in
+    subst (λ (f : Form). FeedsStep c.args.text.now stage.After f c.args.at gs c.after_tag.result) found (flow_after_feeds c.args.text.now c.innermost.result c.args.at gs c.after_tag.result (subst IsFlow (sym c.in-FlowTagged.is) tt) c.after_tag.ensures.feeds)
+
+pub returns-in_default-clause-feeds : goal.returns-in_default-clause-feeds
+returns-in_default-clause-feeds c =
+    let found = c.innermost.ensures ∙ ap (λ (x : List Form). top (stack x)) c.deref.ensures.value in
+    let gs = stack c.after-in_default.new.forms.items in
+    subst (λ (f : Form). FeedsStep c.args.text.now stage.After f c.args.at gs c.after-in_default.result) found (block_feeds c.args.text.now stage.After c.innermost.result c.args.at gs c.after-in_default.result (block_of c.innermost.result c.in_default.not-Flow c.in_default.not-FlowTagged) c.after-in_default.ensures.opens)
+
+pub returns-in-Flow-clause-longer : goal.returns-in-Flow-clause-longer
+returns-in-Flow-clause-longer c = λ known.
+    let found = c.innermost.ensures ∙ ap (λ (x : List Form). top (stack x)) c.deref.ensures.value in
+    c.after.ensures.longer (known (subst IsFlow (sym c.in-Flow.is ∙ found) tt))
+
+pub returns-in-FlowTagged-clause-longer : goal.returns-in-FlowTagged-clause-longer
+returns-in-FlowTagged-clause-longer c = λ known.
+    let found = c.innermost.ensures ∙ ap (λ (x : List Form). top (stack x)) c.deref.ensures.value in
+    c.after_tag.ensures.longer (known (subst IsFlow (sym c.in-FlowTagged.is ∙ found) tt))
+
+pub returns-in_default-clause-longer : goal.returns-in_default-clause-longer
+returns-in_default-clause-longer c = λ known. c.after-in_default.ensures.longer

@@ -6,6 +6,7 @@ use Rattle.yaml_blocks.specs.code.Steps.{stack}
 use Rattle.yaml_blocks.proofs.SameTexts.{seen_alike}
 use Rattle.yaml_blocks.proofs.Fixed.{entry_step}
 use Rattle.yaml_blocks.proofs.Stopped.{entry_stops}
+use Rattle.yaml_blocks.proofs.Fed.{entry_feeds}
 use Rattle.yaml_blocks.proofs.step.entry.Goals as goal
 
 pub returns-clause-gives : goal.returns-clause-gives
@@ -20,3 +21,13 @@ returns-clause-fixes c =
 
 pub returns-clause-stops : goal.returns-clause-stops
 returns-clause-stops c = entry_stops c.args.text.now (stack c.args.forms.now.items) c.args.builder.now c.args.at c.entry.result c.requires.boundary c.entry.ensures.stops
+
+pub returns-clause-feeds : goal.returns-clause-feeds
+returns-clause-feeds c =
+    let form = sym (c.innermost.ensures ∙ ap (λ (x : List Form). top (stack x)) c.deref.ensures.value) ∙ c.in-Flow.is in
+    entry_feeds c.args.text.now (top (stack c.args.forms.now.items)) c.args.at c.in-Flow.map (stack c.entry.new.forms.items) c.entry.result form c.entry.ensures.feeds
+
+pub returns-clause-longer : goal.returns-clause-longer
+returns-clause-longer c = λ known.
+    let form = sym (c.innermost.ensures ∙ ap (λ (x : List Form). top (stack x)) c.deref.ensures.value) ∙ c.in-Flow.is in
+    c.entry.ensures.longer (λ m. known (form ∙ ap Flow m))

@@ -4,6 +4,8 @@ use Rattle.yaml_blocks.specs.declared.stage.Stage.{Stage}
 use Rattle.yaml_blocks.specs.code.Rest.{top}
 use Rattle.yaml_blocks.specs.code.Steps.{stack, Rest, Fits, SameStep, reached, Gives}
 use Rattle.yaml_blocks.specs.code.Twins.{StopsStep, FixesStep}
+use Rattle.yaml_blocks.specs.code.Feeds.{FeedsStep}
+use Rattle.yaml_blocks.specs.code.Twins.{IsKnown, Lengthens}
 use Rattle.yaml_blocks.proofs.step.step.Goals as goal
 
 pub entry-requires-clause-fits : goal.entry-requires-clause-fits
@@ -50,3 +52,24 @@ returns-in-Value-clause-stops c = subst (λ (s : Stage). StopsStep c.args.text.n
 
 pub returns-in-After-clause-stops : goal.returns-in-After-clause-stops
 returns-in-After-clause-stops c = subst (λ (s : Stage). StopsStep c.args.text.now s (stack c.args.forms.now.items) c.args.builder.now c.args.position.at c.after.result) (sym c.in-After.is) c.after.ensures.stops
+
+pub returns-in-Entry-clause-feeds : goal.returns-in-Entry-clause-feeds
+returns-in-Entry-clause-feeds c = subst (λ (s : Stage). FeedsStep c.args.text.now s (top (stack c.args.forms.now.items)) c.args.position.at (stack c.entry.new.forms.items) c.entry.result) (sym c.in-Entry.is) c.entry.ensures.feeds
+
+pub returns-in-Value-clause-feeds : goal.returns-in-Value-clause-feeds
+returns-in-Value-clause-feeds c = subst (λ (s : Stage). FeedsStep c.args.text.now s (top (stack c.args.forms.now.items)) c.args.position.at (stack c.value.new.forms.items) c.value.result) (sym c.in-Value.is) c.value.ensures.feeds
+
+pub returns-in-After-clause-feeds : goal.returns-in-After-clause-feeds
+returns-in-After-clause-feeds c = subst (λ (s : Stage). FeedsStep c.args.text.now s (top (stack c.args.forms.now.items)) c.args.position.at (stack c.after.new.forms.items) c.after.result) (sym c.in-After.is) c.after.ensures.feeds
+
+pub returns-in-Entry-clause-longer : goal.returns-in-Entry-clause-longer
+returns-in-Entry-clause-longer c =
+    subst (λ (s : Stage). IsKnown c.args.text.now s (top (stack c.args.forms.now.items)) c.args.position.at → Lengthens c.args.text.now s (stack c.args.forms.now.items) c.args.builder.now c.args.position.at c.entry.result) (sym c.in-Entry.is) c.entry.ensures.longer
+
+pub returns-in-Value-clause-longer : goal.returns-in-Value-clause-longer
+returns-in-Value-clause-longer c =
+    subst (λ (s : Stage). IsKnown c.args.text.now s (top (stack c.args.forms.now.items)) c.args.position.at → Lengthens c.args.text.now s (stack c.args.forms.now.items) c.args.builder.now c.args.position.at c.value.result) (sym c.in-Value.is) c.value.ensures.longer
+
+pub returns-in-After-clause-longer : goal.returns-in-After-clause-longer
+returns-in-After-clause-longer c =
+    subst (λ (s : Stage). IsKnown c.args.text.now s (top (stack c.args.forms.now.items)) c.args.position.at → Lengthens c.args.text.now s (stack c.args.forms.now.items) c.args.builder.now c.args.position.at c.after.result) (sym c.in-After.is) c.after.ensures.longer

@@ -11,6 +11,8 @@ use Rattle.yaml_blocks.proofs.Forms.{flow_misses}
 use Rattle.yaml_blocks.proofs.Placed.{placed}
 use Rattle.yaml_blocks.proofs.SameTexts.{seen_alike}
 use Rattle.yaml_blocks.proofs.Stopped.{flow_value_stops, value_stops}
+use Rattle.yaml_blocks.proofs.Fed.{flow_value_feeds, block_feeds}
+use Rattle.yaml_blocks.specs.code.Feeds.{FeedsStep}
 use Rattle.yaml_blocks.proofs.step.value.Goals as goal
 
 pub value-requires-clause-misses : goal.value-requires-clause-misses
@@ -63,3 +65,21 @@ returns-clause-stops c =
     let found = c.innermost-form.ensures ∙ ap (λ (x : List Form). top (stack x)) c.deref.ensures.value in
     let small = seen_near text at (ahead text false at) c.requires.small (refl, placed text false at c.utf8.text c.requires.boundary) in
     value_stops text (stack c.args.forms.now.items) c.args.builder.now at c.node.result c.requires.boundary c.innermost-form.result small (sym found) (c.is_flow.ensures.no c.if-is_flow.false) c.node.ensures.stops
+
+pub returns-then-is_flow-clause-feeds : goal.returns-then-is_flow-clause-feeds
+returns-then-is_flow-clause-feeds c =
+    let found = c.innermost-form.ensures ∙ ap (λ (x : List Form). top (stack x)) c.deref.ensures.value in
+    let gs = stack c.value.new.forms.items in
+    subst (λ (f : Form). FeedsStep c.args.text.now stage.Value f c.args.at gs c.value.result) found (flow_value_feeds c.args.text.now c.innermost-form.result c.args.at gs c.value.result (c.is_flow.ensures.yes c.if-is_flow.true) c.value.ensures.feeds)
+
+pub returns-clause-feeds : goal.returns-clause-feeds
+returns-clause-feeds c =
+    let found = c.innermost-form.ensures ∙ ap (λ (x : List Form). top (stack x)) c.deref.ensures.value in
+    let gs = stack c.node.new.forms.items in
+    subst (λ (f : Form). FeedsStep c.args.text.now stage.Value f c.args.at gs c.node.result) found (block_feeds c.args.text.now stage.Value c.innermost-form.result c.args.at gs c.node.result (c.is_flow.ensures.no c.if-is_flow.false) c.node.ensures.opens)
+
+pub returns-then-is_flow-clause-longer : goal.returns-then-is_flow-clause-longer
+returns-then-is_flow-clause-longer c = λ known. c.value.ensures.longer
+
+pub returns-clause-longer : goal.returns-clause-longer
+returns-clause-longer c = λ known. c.node.ensures.longer
