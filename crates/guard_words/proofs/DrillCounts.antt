@@ -8,7 +8,7 @@ use Rattle.std.specs.Str.{bytes_eq}
 use Rattle.std.specs.Str.Parse.{digits_value}
 use Rattle.guard_words.specs.Request.{Text, Use, AsksFor, drill, is_allowed, is_given, is_complete, is_numeral, count_in, options_of, text_of, value_in, requested}
 use Rattle.guard_words.specs.declared.table.Command.{Command}
-use Rattle.guard_words.specs.declared.table.Command.TheVariants.{Validate, Check, Drill, Test}
+use Rattle.guard_words.specs.declared.table.Command.TheVariants.{Validate, Check, Drill, Test, Rulegen, ParseTree}
 
 both : (a b : Bool) → (a && b) ≡ true → (a ≡ true) × (b ≡ true)
 both true b e = (refl, e)
@@ -50,6 +50,8 @@ asked_low Drill uses allowed complete count means =
     let same : count ≡ digits_value 10 (text_of (value_in uses (codes "count"))) = cc in
     subst (λ n. n ≤ 100000) (sym same) (uses_low uses allowed (both _ _ complete).0)
 asked_low Test uses allowed complete count means = absurd cc
+asked_low Rulegen uses allowed complete count means = absurd cc
+asked_low ParseTree uses allowed complete count means = absurd cc
 
 pub drill_low : (words : List Text) (count : ℕ) → AsksFor words (drill count) → count ≤ 100000
 drill_low words count asked = asked_low asked.command asked.uses asked.allowed asked.complete count asked.means

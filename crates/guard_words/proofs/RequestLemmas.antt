@@ -13,10 +13,10 @@ use Rattle.clap.specs.Walk.{Row as Found_row, first_of, one_of, rows_of}
 use Rattle.clap.specs.declared.parser.matches.Found.{Found}
 use Rattle.guard_words.specs.code.CommandLine.{guard_app}
 use Rattle.guard_words.specs.declared.table.Command.{Command}
-use Rattle.guard_words.specs.declared.table.Command.TheVariants.{Validate, Check, Drill, Test}
+use Rattle.guard_words.specs.declared.table.Command.TheVariants.{Validate, Check, Drill, Test, Rulegen, ParseTree}
 use Rattle.guard_words.specs.declared.table.Kind.{Kind}
 use Rattle.guard_words.specs.declared.table.Kind.TheVariants.{File, Count, Flag}
-use Rattle.guard_words.specs.Request.{Text, Use, Row, Asked, AsksFor, validate, check, drill, test, allows, kind_in, is_allowed, is_given, is_once, is_complete, value_in, options_of, name_of, requested, text_of}
+use Rattle.guard_words.specs.Request.{Text, Use, Row, Asked, AsksFor, validate, check, drill, test, rulegen, parse_tree, allows, kind_in, is_allowed, is_given, is_once, is_complete, value_in, options_of, name_of, requested, text_of}
 use Rattle.guard_words.specs.code.Memory.{NamesCommand}
 use Rattle.guard_words.specs.code.Reading.{command_in, parsed_in, after_name, if_complete, uses_in, HasValues, flag_among, is_true_text, IsFlagText}
 use Rattle.guard_words.proofs.SpellingLemmas.{is_plain_name, find_passes, Reads, reads, reads_gives, reads_once, gives_reads}
@@ -31,7 +31,7 @@ pub record IsParsed (words : List Text) (command : Command) (uses : List Use) : 
 
 pub named : (word : Text) (command : Command) → command_in word ≡ Some command → word ≡ name_of command
 named word command e =
-    sym ((bytes_eq-Decides (name_of command) word).0 (find_passes (λ c. bytes_eq (name_of c) word) (Validate ∷ Check ∷ Drill ∷ Test ∷ []) command e))
+    sym ((bytes_eq-Decides (name_of command) word).0 (find_passes (λ c. bytes_eq (name_of c) word) (Validate ∷ Check ∷ Drill ∷ Test ∷ Rulegen ∷ ParseTree ∷ []) command e))
 
 complete_parts : (k : Command) (uses : List Use) (p : Command × List Use) → if_complete k uses ≡ Some p
     → (is_complete (options_of k) uses ≡ true) × ((k, uses) ≡ p)
@@ -94,12 +94,16 @@ command_named Validate = refl
 command_named Check = refl
 command_named Drill = refl
 command_named Test = refl
+command_named Rulegen = refl
+command_named ParseTree = refl
 
 plain_names : (command : Command) → list_all (λ o. is_plain_name o.name) (options_of command) ≡ true
 plain_names Validate = refl
 plain_names Check = refl
 plain_names Drill = refl
 plain_names Test = refl
+plain_names Rulegen = refl
+plain_names ParseTree = refl
 
 -- the words of a request are parsed
 pub asked_parsed : (words : List Text) (request : Asked) (a : AsksFor words request) → parsed_in words ≡ Some (a.command, a.uses)
@@ -186,6 +190,12 @@ found_by Test uses found is ok complete =
       values = (some_allowed _ rules.allowed, some_allowed _ tests.allowed);
       same = ap₂ (λ a b. test (text_of a) (text_of b)) rules.same tests.same;
     }
+found_by Rulegen uses found is ok complete =
+    let template = finds Rulegen uses found File (codes "data") (λ e. absurd cc) is ok complete refl in
+    record { values = some_allowed _ template.allowed; same = ap (λ a. rulegen (text_of a)) template.same }
+found_by ParseTree uses found is ok complete =
+    let rules = finds ParseTree uses found File (codes "rules") (λ e. absurd cc) is ok complete refl in
+    record { values = some_allowed _ rules.allowed; same = ap (λ a. parse_tree (text_of a)) rules.same }
 
 -- the row of what was found is the row that the words come to
 same_rows : (found : Found) (o : Option (Text × List Found_row)) (p : Text × List Found_row) → Some (rows_of found) ≡ option_map (λ q. q.1) o → o ≡ Some p → rows_of found ≡ p.1

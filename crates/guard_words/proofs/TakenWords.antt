@@ -14,7 +14,7 @@ use Rattle.clap.specs.Simple.{App, Shape, built, names_of, label_of, entered, su
 use Rattle.clap.specs.Walk.{default_rows, reading_by, row_text, Row as Found_row, Rule, Walk, answers_to, has_row, walked, walk_from, nothing_held, more_values, finished, with_default, first_of, one_of, rows_after}
 use Rattle.clap.specs.Takes.{walk_passes, settle_passes, is_given as is_given_row, default_passes, level_passes, entered_passes, is_valid, takes}
 use Rattle.guard_words.specs.declared.table.Command.{Command}
-use Rattle.guard_words.specs.declared.table.Command.TheVariants.{Validate, Check, Drill, Test}
+use Rattle.guard_words.specs.declared.table.Command.TheVariants.{Validate, Check, Drill, Test, Rulegen, ParseTree}
 use Rattle.guard_words.specs.declared.table.Kind.{Kind}
 use Rattle.guard_words.specs.declared.table.Kind.TheVariants.{File, Count, Flag}
 use Rattle.guard_words.specs.code.CommandLine.{guard_app}
@@ -337,6 +337,8 @@ first_stop Validate = refl
 first_stop Check = refl
 first_stop Drill = refl
 first_stop Test = refl
+first_stop Rulegen = refl
+first_stop ParseTree = refl
 
 whole : (command : Command) (words : List Text) → fold (walked top_rules names) (walk_from nothing_held) (name_of command ∷ words) ≡ stop_at command words
 whole command words = ap (λ x. fold (walked top_rules names) x words) (first_stop command) ∙ (goes_on command words []).0
@@ -347,6 +349,8 @@ first_passes Validate = refl
 first_passes Check = refl
 first_passes Drill = refl
 first_passes Test = refl
+first_passes Rulegen = refl
+first_passes ParseTree = refl
 
 top_passes : (command : Command) (words : List Text) → walk_passes app.top names (walk_from nothing_held) (name_of command ∷ words) ≡ true
 unfolding walk_passes
@@ -361,6 +365,8 @@ entered_at Validate = refl
 entered_at Check = refl
 entered_at Drill = refl
 entered_at Test = refl
+entered_at Rulegen = refl
+entered_at ParseTree = refl
 
 -- what the words of a request come to
 pub record IsTakenAs (command : Command) (words : List Text) (uses : List Use) : Type 0 where

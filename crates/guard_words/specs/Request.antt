@@ -6,7 +6,7 @@ use Rattle.std.specs.Char.{is_ascii_digit}
 use Rattle.std.specs.Str.{bytes_eq}
 use Rattle.std.specs.Str.Parse.{digits_value}
 use Rattle.guard_words.specs.declared.table.Command.{Command}
-use Rattle.guard_words.specs.declared.table.Command.TheVariants.{Validate, Check, Drill, Test}
+use Rattle.guard_words.specs.declared.table.Command.TheVariants.{Validate, Check, Drill, Test, Rulegen, ParseTree}
 use Rattle.guard_words.specs.declared.request.Request.{Request}
 use Rattle.guard_words.specs.declared.request.Request.TheVariants as request
 use Rattle.guard_words.specs.declared.table.Kind.{Kind}
@@ -18,12 +18,15 @@ Text = List ℕ
 
 -- what the words ask for: `validate` with the names of the rules, the data and, if they are given, the parameters, and whether
 -- evidence is wanted; `check` with the names of the rules, the data and, if they are given, the parameters, and of the proof;
--- `drill` with a count; `test` with the names of the rules and of the tests
+-- `drill` with a count; `test` with the names of the rules and of the tests; `rulegen` with the name of the data; `parse-tree`
+-- with the name of the rules
 pub data Asked : Type 0 where
   validate : Text → Text → Option Text → Bool → Asked
   check : Text → Text → Option Text → Text → Asked
   drill : ℕ → Asked
   test : Text → Text → Asked
+  rulegen : Text → Asked
+  parse_tree : Text → Asked
 
 -- what a request of the code asks for
 abbrev pub asked : Request → Asked
@@ -33,6 +36,8 @@ asked (request.Check rules template params proof) =
     check (string_bytes rules) (string_bytes template) (option_map string_bytes params) (string_bytes proof)
 asked (request.Drill count) = drill count
 asked (request.Test rules tests) = test (string_bytes rules) (string_bytes tests)
+asked (request.Rulegen template) = rulegen (string_bytes template)
+asked (request.Tree rules) = parse_tree (string_bytes rules)
 
 -- ---- what may stand behind an option
 
@@ -86,6 +91,8 @@ name_of Validate = codes "validate"
 name_of Check = codes "check"
 name_of Drill = codes "drill"
 name_of Test = codes "test"
+name_of Rulegen = codes "rulegen"
+name_of ParseTree = codes "parse-tree"
 
 -- the options of a command
 abbrev pub options_of : Command → List Row
@@ -93,6 +100,8 @@ options_of Validate = file (codes "rules") ∷ file (codes "data") ∷ optional_
 options_of Check = file (codes "rules") ∷ file (codes "data") ∷ optional_file (codes "params") ∷ file (codes "proof") ∷ []
 options_of Drill = count (codes "count") ∷ []
 options_of Test = file (codes "rules") ∷ file (codes "tests") ∷ []
+options_of Rulegen = file (codes "data") ∷ []
+options_of ParseTree = file (codes "rules") ∷ []
 
 -- the value of an option that has to be given
 abbrev pub text_of : Option Text → Text
@@ -106,6 +115,8 @@ requested Check value has =
     check (text_of (value (codes "rules"))) (text_of (value (codes "data"))) (value (codes "params")) (text_of (value (codes "proof")))
 requested Drill value has = drill (digits_value 10 (text_of (value (codes "count"))))
 requested Test value has = test (text_of (value (codes "rules"))) (text_of (value (codes "tests")))
+requested Rulegen value has = rulegen (text_of (value (codes "data")))
+requested ParseTree value has = parse_tree (text_of (value (codes "rules")))
 
 -- ---- the uses of options
 

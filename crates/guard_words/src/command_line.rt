@@ -8,11 +8,13 @@ use clap::{Arg, ArgAction};
 use std::alloc::{AllocError, Global};
 
 /// All commands.
-const COMMANDS: [Command; 4] = [
+const COMMANDS: [Command; 6] = [
     Command::Validate,
     Command::Check,
     Command::Drill,
     Command::Test,
+    Command::Rulegen,
+    Command::ParseTree,
 ];
 
 /// The command line as `clap` is told of it.

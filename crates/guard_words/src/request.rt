@@ -37,6 +37,12 @@ pub enum Request {
         rules: String,
         tests: String,
     },
+    Rulegen {
+        template: String,
+    },
+    Tree {
+        rules: String,
+    },
 }
 
 /// Why there is no request.
@@ -106,6 +112,8 @@ fn answer(alloc: Global, command: Command, options: &ArgMatches) -> Result<Reque
         Command::Check => check(alloc, options),
         Command::Drill => Ok(drill(options)),
         Command::Test => test(alloc, options),
+        Command::Rulegen => rulegen(alloc, options),
+        Command::ParseTree => parse_tree(alloc, options),
     }
 }
 
@@ -165,6 +173,28 @@ fn test(alloc: Global, options: &ArgMatches) -> Result<Request, WordsRefusal>
     Ok(Request::Test {
         rules: value_of(alloc, options, "rules")?,
         tests: value_of(alloc, options, "tests")?,
+    })
+}
+
+fn rulegen(alloc: Global, options: &ArgMatches) -> Result<Request, WordsRefusal>
+    requires template { is_some (first_value (found_of options.now) (codes "data")) ≡ true }
+    ensures ok { IfOk result (λ request. asked request
+        ≡ requested Command.Rulegen (first_value (found_of options.now)) (flag_among (found_of options.now))) }
+    ensures only_memory { OnErr result (IsErrOf result WordsRefusal.NoMemory) }
+{
+    Ok(Request::Rulegen {
+        template: value_of(alloc, options, "data")?,
+    })
+}
+
+fn parse_tree(alloc: Global, options: &ArgMatches) -> Result<Request, WordsRefusal>
+    requires rules { is_some (first_value (found_of options.now) (codes "rules")) ≡ true }
+    ensures ok { IfOk result (λ request. asked request
+        ≡ requested Command.ParseTree (first_value (found_of options.now)) (flag_among (found_of options.now))) }
+    ensures only_memory { OnErr result (IsErrOf result WordsRefusal.NoMemory) }
+{
+    Ok(Request::Tree {
+        rules: value_of(alloc, options, "rules")?,
     })
 }
 

@@ -10,6 +10,8 @@ pub(crate) enum Command {
     Check,
     Drill,
     Test,
+    Rulegen,
+    ParseTree,
 }
 
 /// What stands behind an option: the name of a file, a count, or nothing.
@@ -78,6 +80,10 @@ const DRILL: [OptionRow; 1] = [COUNT];
 
 const TEST: [OptionRow; 2] = [RULES, TESTS];
 
+const RULEGEN: [OptionRow; 1] = [DATA];
+
+const PARSE_TREE: [OptionRow; 1] = [RULES];
+
 impl Command {
     /// The command of this name.
     pub(crate) fn named(name: &str) -> Option<Command>
@@ -88,6 +94,8 @@ impl Command {
             "check" => Some(Command::Check),
             "drill" => Some(Command::Drill),
             "test" => Some(Command::Test),
+            "rulegen" => Some(Command::Rulegen),
+            "parse-tree" => Some(Command::ParseTree),
             _ => None,
         }
     }
@@ -101,6 +109,8 @@ impl Command {
             Command::Check => "check",
             Command::Drill => "drill",
             Command::Test => "test",
+            Command::Rulegen => "rulegen",
+            Command::ParseTree => "parse-tree",
         }
     }
 
@@ -113,6 +123,8 @@ impl Command {
             Command::Check => &CHECK,
             Command::Drill => &DRILL,
             Command::Test => &TEST,
+            Command::Rulegen => &RULEGEN,
+            Command::ParseTree => &PARSE_TREE,
         }
     }
 

@@ -8,7 +8,7 @@ use Rattle.clap.specs.declared.builder.command.Command.{Command as ClapCommand}
 use Rattle.clap.specs.declared.builder.command.Command.TheViews.{out-Command}
 use Rattle.clap.specs.Simple.{App, Shape, app_of, new_app, new_rule, new_shape, with_rule, with_subcommand}
 use Rattle.guard_words.specs.declared.table.Command.{Command}
-use Rattle.guard_words.specs.declared.table.Command.TheVariants.{Validate, Check, Drill, Test}
+use Rattle.guard_words.specs.declared.table.Command.TheVariants.{Validate, Check, Drill, Test, Rulegen, ParseTree}
 use Rattle.guard_words.specs.declared.table.Kind.{Kind}
 use Rattle.guard_words.specs.declared.table.Kind.TheVariants.{File, Count, Flag}
 use Rattle.guard_words.specs.Request.{Row, name_of, options_of}
@@ -39,7 +39,7 @@ abbrev pub with_command : App → Command → App
 with_command app command = with_subcommand app (subcommand_app command).top
 
 abbrev pub guard_app : App
-guard_app = with_command (with_command (with_command (with_command program Validate) Check) Drill) Test
+guard_app = with_command (with_command (with_command (with_command (with_command (with_command program Validate) Check) Drill) Test) Rulegen) ParseTree
 
 -- where the command is added to another one, it stands there in this shape
 abbrev pub StandsAs : Shape → ClapCommand → Type 0

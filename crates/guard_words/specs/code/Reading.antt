@@ -7,7 +7,7 @@ use Rattle.clap.specs.Matches.{first_value, one_text}
 use Rattle.clap.specs.declared.parser.matches.Found.{Found}
 use Rattle.guard_words.specs.Request.{Text, Row, Use, allows, options_of, starts_with_hyphen, kind_in, is_given, is_complete, name_of}
 use Rattle.guard_words.specs.declared.table.Command.{Command}
-use Rattle.guard_words.specs.declared.table.Command.TheVariants.{Validate, Check, Drill, Test}
+use Rattle.guard_words.specs.declared.table.Command.TheVariants.{Validate, Check, Drill, Test, Rulegen, ParseTree}
 use Rattle.guard_words.specs.declared.table.Kind.{Kind}
 use Rattle.guard_words.specs.declared.table.Kind.TheVariants.{File, Count, Flag}
 use Rattle.guard_words.specs.declared.reading.OptionUse.{OptionUse}
@@ -69,7 +69,7 @@ after_name (Some command) rest = option_and_then (if_complete command) (uses_in 
 
 -- the command of this name
 abbrev pub command_in : Text → Option Command
-command_in name = find (λ c. bytes_eq (name_of c) name) (Validate ∷ Check ∷ Drill ∷ Test ∷ [])
+command_in name = find (λ c. bytes_eq (name_of c) name) (Validate ∷ Check ∷ Drill ∷ Test ∷ Rulegen ∷ ParseTree ∷ [])
 
 -- the command of the words, and the uses of its options
 abbrev pub parsed_in : List Text → Option (Command × List Use)
@@ -110,6 +110,8 @@ HasValues Check found = (is_some (first_value found (codes "rules")) ≡ true) �
     × (is_some (first_value found (codes "proof")) ≡ true)
 HasValues Drill found = allows Count (first_value found (codes "count")) ≡ true
 HasValues Test found = (is_some (first_value found (codes "rules")) ≡ true) × (is_some (first_value found (codes "tests")) ≡ true)
+HasValues Rulegen found = is_some (first_value found (codes "data")) ≡ true
+HasValues ParseTree found = is_some (first_value found (codes "rules")) ≡ true
 
 -- a row of the code's table
 abbrev pub row_text : OptionRow → Row

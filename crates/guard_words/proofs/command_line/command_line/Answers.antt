@@ -4,12 +4,12 @@ use Rattle.std.proofs.lemmas.List.Sums.{fold_more}
 use Rattle.std.specs.List.{fold}
 use Rattle.clap.specs.Simple.{App}
 use Rattle.guard_words.specs.declared.table.Command.{Command}
-use Rattle.guard_words.specs.declared.table.Command.TheVariants.{Validate, Check, Drill, Test}
+use Rattle.guard_words.specs.declared.table.Command.TheVariants.{Validate, Check, Drill, Test, Rulegen, ParseTree}
 use Rattle.guard_words.specs.code.CommandLine.{program, with_command}
 use Rattle.guard_words.proofs.command_line.command_line.Goals as goal
 
 abbrev commands : List Command
-commands = Validate ∷ Check ∷ Drill ∷ Test ∷ []
+commands = Validate ∷ Check ∷ Drill ∷ Test ∷ Rulegen ∷ ParseTree ∷ []
 
 pub loop-command-init : goal.loop-command-init
 loop-command-init c = c.program-built.ensures
