@@ -1,1 +1,2 @@
+pub mod RefusedRules
 pub mod ReportedVerdicts

@@ -60,7 +60,7 @@ Unmade words told before after = (text : List ℕ) × ComesTo words told (Makes 
 abbrev pub Unwritten : (before after : Faults) → Type 0
 Unwritten before after = FaultCounted before.out after.out
 
--- a text is what out takes of such a call: the report, evidence, or what is written of evidence
+-- a text is what out takes of such a call: the report, evidence, rules, or what is written of evidence or of tests
 abbrev pub IsTaken : List (List ℕ) → Contents → List ℕ → Type 0
 IsTaken words told text = (e : Ended) × EndOf words told e × (is_reported e.how ≡ true) × (text ≡ e.out)
 

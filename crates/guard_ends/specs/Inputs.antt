@@ -1,5 +1,6 @@
--- Which bytes are read as rules, as a template, as parameters, as tests and as evidence, and why others are refused: beside each refusal
--- the condition under which it comes. Of the refusals of one file no two conditions hold together.
+-- Which bytes are read as rules, as a template, as parameters, as tests and as evidence, which rules are generated of a tree, and why
+-- others are refused: beside each refusal the condition under which it comes. Of the refusals of one file no two conditions hold
+-- together.
 use Rattle.std.specs.Prelude.{ℕ, ◌<◌, ◌≤◌, ◌≡◌, ◌⊎◌, List, Option, Some, None, IsUtf8, codes, length, nat_eq, string_bytes, if◌then◌else◌}
 use Rattle.std.specs.List.{ends_with}
 use Rattle.doc_values.specs.Limits.{evidence_limit, rules_limit, template_limit}
@@ -26,12 +27,13 @@ use Rattle.rule_names.specs.Faults.{Fault}
 use Rattle.rule_names.specs.WellNamed.{WellNamed, IsNameFault}
 use Rattle.rule_names.specs.declared.name_kind.NameKind.{NameKind}
 use Rattle.rule_names.specs.declared.name_kind.NameKind.TheVariants as naming
+use Rattle.rule_generator.specs.GeneratedRules.{generated}
 use Rattle.guard_testfile.specs.Cases.{TestCase, cases_of}
 use Rattle.guard_testfile.specs.Refusals.{IsTestsFile, RefusesTests}
 use Rattle.guard_testfile.specs.declared.refusal.TestRefusal.{TestRefusal}
 use Rattle.guard_testfile.specs.declared.refusal.TestRefusal.TheVariants as test_refusal
 use Rattle.guard_ends.specs.declared.ends.Refusal.{Refusal}
-use Rattle.guard_ends.specs.declared.ends.Refusal.TheVariants.{DataUnread, TooLong, NotText, EvidenceSyntax, At}
+use Rattle.guard_ends.specs.declared.ends.Refusal.TheVariants.{DataUnread, TooLong, NotText, EvidenceSyntax, TextTooLong, At}
 use Rattle.guard_ends.specs.declared.ends.RefusalKind.{RefusalKind}
 use Rattle.guard_ends.specs.declared.ends.RefusalKind.TheVariants.{Unclosed, BadByte, NumberRange, NestTooDeep, Syntax, BadRange, DuplicateRule, DuplicateName, UnknownRule, UnknownVariable, UnknownFunction, NeedsArguments, TakesNone, ArgCount, LiteralWanted, RecursiveRule, RecursiveVariable, TooDeep, DuplicateKey, Tab, Anchor, Tag, Directive, ManyDocuments, TestShape, NoSuchRule}
 use Rattle.guard_ends.specs.declared.ends.Which.{Which}
@@ -111,6 +113,11 @@ RefusesData which f bytes refusal =
 abbrev pub IsSyntax : List ℕ → File → Type 0
 IsSyntax text syntax_tree = (tokens : List Token) × lex.IsTokenList text tokens × Rules text tokens syntax_tree
 
+-- bytes that have this syntax, whatever its names
+pub record HasSyntax (bytes : List ℕ) (syntax_tree : File) : Type 0 where
+  pub text : IsText rules_limit bytes
+  pub read : IsSyntax bytes syntax_tree
+
 -- bytes that are a rule file of this syntax, whose names are as they must be
 pub record IsRuleFile (bytes : List ℕ) (syntax_tree : File) : Type 0 where
   pub text : IsText rules_limit bytes
@@ -176,6 +183,24 @@ RefusesRules bytes (NotText file.Rules) = IsNoText rules_limit bytes
 RefusesRules bytes (At file.Rules kind at name) =
     IsText rules_limit bytes × (((name ≡ None) × RefusesText bytes kind at) ⊎ RefusesNames bytes kind at name)
 RefusesRules bytes _ = ⊥
+
+-- why rules with these bytes are refused where their names are not asked for
+abbrev pub RefusesUnnamed : List ℕ → Refusal → Type 0
+RefusesUnnamed bytes (TooLong file.Rules) = IsTooLong rules_limit bytes
+RefusesUnnamed bytes (NotText file.Rules) = IsNoText rules_limit bytes
+RefusesUnnamed bytes (At file.Rules kind at name) = IsText rules_limit bytes × (name ≡ None) × RefusesText bytes kind at
+RefusesUnnamed bytes _ = ⊥
+
+-- Rules that are generated.
+
+-- those of a tree, which are no longer than rules may be
+pub record AreGenerated (tree : Forest) (text : List ℕ) : Type 0 where
+  pub same : text ≡ generated tree
+  pub within : length text ≤ rules_limit
+
+-- they are longer, and so the template is refused
+abbrev pub RefusesGenerated : Forest → Refusal → Type 0
+RefusesGenerated tree refusal = (refusal ≡ TextTooLong) × IsTooLong rules_limit (generated tree)
 
 -- Tests.
 

@@ -2,14 +2,14 @@
 use Rattle.std.specs.Prelude.{ℕ, ◌++◌, List, [], Option, Some, None, codes, decimal}
 use Rattle.doc_values.specs.Position.{line_at, column_at}
 use Rattle.guard_ends.specs.declared.ends.Refusal.{Refusal}
-use Rattle.guard_ends.specs.declared.ends.Refusal.TheVariants.{DataUnread, TooLong, NotText, EvidenceSyntax, At}
+use Rattle.guard_ends.specs.declared.ends.Refusal.TheVariants.{DataUnread, TooLong, NotText, EvidenceSyntax, TextTooLong, At}
 use Rattle.guard_ends.specs.declared.ends.RefusalKind.{RefusalKind}
 use Rattle.guard_ends.specs.declared.ends.RefusalKind.TheVariants.{Unclosed, BadByte, NumberRange, NestTooDeep, Syntax, BadRange, DuplicateRule, DuplicateName, UnknownRule, UnknownVariable, UnknownFunction, NeedsArguments, TakesNone, ArgCount, LiteralWanted, RecursiveRule, RecursiveVariable, TooDeep, DuplicateKey, Tab, Anchor, Tag, Directive, ManyDocuments, BadPattern, NotAMap, SharedKey, TestShape, NoSuchRule}
 use Rattle.guard_ends.specs.declared.ends.Which.{Which}
 use Rattle.guard_ends.specs.declared.ends.Which.TheVariants as file
 
 abbrev pub usage_line : List ℕ
-usage_line = codes "usage: guard validate --rules FILE --data FILE [--params FILE] [--evidence] | check --rules FILE --data FILE [--params FILE] --proof FILE | drill --count N | test --rules FILE --tests FILE\n"
+usage_line = codes "usage: guard validate --rules FILE --data FILE [--params FILE] [--evidence] | check --rules FILE --data FILE [--params FILE] --proof FILE | drill --count N | test --rules FILE --tests FILE | rulegen --data FILE | parse-tree --rules FILE\n"
 
 abbrev pub read_fault_line : Which → List ℕ
 read_fault_line file.Rules = codes "guard: cannot read rules\n"
@@ -91,4 +91,5 @@ refusal_line bytes (DataUnread which) = whole_line which (codes "DataUnread")
 refusal_line bytes (TooLong which) = whole_line which (codes "TooLong")
 refusal_line bytes (NotText which) = whole_line which (codes "NotText")
 refusal_line bytes (EvidenceSyntax number) = evidence_line number
+refusal_line bytes TextTooLong = whole_line file.Template (codes "TextTooLong")
 refusal_line bytes (At which kind at name) = placed_line which bytes at (kind_word kind ++ name_part name)

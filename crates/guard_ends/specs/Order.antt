@@ -19,7 +19,7 @@ use Rattle.guard_syntax.specs.Syntax.{File}
 use Rattle.guard_syntax.specs.declared.row.Verdict.{Verdict}
 use Rattle.guard_testfile.specs.Cases.{TestCase}
 use Rattle.guard_testfile.specs.Texts.{Difference, is_wrong, tests_text}
-use Rattle.guard_words.specs.Request.{Asked, AsksFor, check, drill, test, validate}
+use Rattle.guard_words.specs.Request.{Asked, AsksFor, check, drill, parse_tree, rulegen, test, validate}
 use Rattle.rule_meaning.specs.FunctionMeaning.{IsAnswering}
 use Rattle.rule_meaning.specs.Locations.{Answers, World}
 use Rattle.rule_meaning.specs.NextPattern.{IsNextPattern}
@@ -27,9 +27,10 @@ use Rattle.rule_meaning.specs.PatternMatch.{pattern_in}
 use Rattle.rule_meaning.specs.Patterns.{Written, patterns_of}
 use Rattle.rule_meaning.specs.Verdicts.{is_fail}
 use Rattle.report_text.specs.Texts.{Parameters, Texts}
+use Rattle.rule_printer.specs.RuleText.{rule_text}
 use Rattle.guard_ends.specs.Check.{accepted_text, rejected_text}
 use Rattle.guard_ends.specs.Drill.{drill_report, drill_rules}
-use Rattle.guard_ends.specs.Inputs.{AreCases, IsProof, IsRuleFile, IsTemplate, RefusesCases, RefusesData, RefusesProof, RefusesRules, format_of}
+use Rattle.guard_ends.specs.Inputs.{AreCases, AreGenerated, HasSyntax, IsProof, IsRuleFile, IsTemplate, RefusesCases, RefusesData, RefusesGenerated, RefusesProof, RefusesRules, RefusesUnnamed, format_of}
 use Rattle.guard_ends.specs.Lines.{refusal_line, usage_line}
 use Rattle.guard_ends.specs.Report.{Reporting, report}
 use Rattle.guard_ends.specs.Reported.{verdicts_of, world_over}
@@ -136,6 +137,10 @@ tested found = record { how = how_tested found; out = tests_text found; err = []
 -- the input of each case of a tests file of this tree was judged by rules
 abbrev pub IsTested : File → Forest → List TestCase → Ended → Type 0
 IsTested rules tree cases e = (found : List (List Difference)) × AreFound rules tree cases found × (e ≡ tested found)
+
+-- out takes a text, and nothing is judged
+abbrev pub written : List ℕ → Ended
+written text = record { how = end_is.Passed; out = text; err = [] }
 
 -- ---- Stages.
 
@@ -252,6 +257,23 @@ ReadingTests f source rules tests = Reading (RefusesData file.Tests f) (IsTempla
 abbrev pub OfTests : Contents → (rules tests : List ℕ) → Work
 OfTests told rules tests = LoadingTexts file.Tests told rules tests (ReadingTests (format_of tests))
 
+-- with a template that is read in a format: the rules that are generated of its tree are written
+abbrev pub Generating : Format → (template : List ℕ) → Work
+Generating f template = Reading (RefusesData file.Template f) (IsTemplate f) template (λ tree.
+    Reading (λ bytes. RefusesGenerated tree) (λ bytes. AreGenerated tree) template (λ text. Ending (λ e. e ≡ written text)))
+
+-- `rulegen`: the template of this name is loaded
+abbrev pub OfTemplate : Contents → (template : List ℕ) → Work
+OfTemplate told template = Loading file.Template told template (Generating (format_of template))
+
+-- rules are read, whatever their names, and their syntax is written in its canonical text
+abbrev pub Printing : (source : List ℕ) → Work
+Printing source = Reading RefusesUnnamed HasSyntax source (λ syntax_tree. Ending (λ e. e ≡ written (rule_text syntax_tree)))
+
+-- `parse-tree`: the rules of this name are loaded
+abbrev pub OfSyntax : Contents → (rules : List ℕ) → Work
+OfSyntax told rules = Loading file.Rules told rules Printing
+
 -- the work of what is asked for, a line for each command, and one for `validate` with `--evidence`
 abbrev pub WorkOf : Asked → Contents → Work
 WorkOf (validate rules template params false) told = OverFiles told rules template params (λ inputs. Ending (IsJudged report inputs))
@@ -259,6 +281,8 @@ WorkOf (validate rules template params true) told = OverFiles told rules templat
 WorkOf (check rules template params proof) told = OverFiles told rules template params (OfEvidence told proof)
 WorkOf (drill count) told = OfDrill count
 WorkOf (test rules tests) told = OfTests told rules tests
+WorkOf (rulegen template) told = OfTemplate told template
+WorkOf (parse_tree rules) told = OfSyntax told rules
 
 -- what a call with these words over these files comes to: that of the work which they ask for, or, if they ask for none, Usage
 abbrev pub ComesTo : List (List ℕ) → Contents → Work

@@ -80,6 +80,8 @@ pub enum Refusal {
     NotText(Which),
     /// The line of this number is the first of the evidence that is not in the format, where the header is 0.
     EvidenceSyntax(u64),
+    /// The rules that are generated of the template have more bytes than rules may have, 1 MiB.
+    TextTooLong,
     /// A place of the file.
     At {
         which: Which,
@@ -114,7 +116,7 @@ pub enum Pipe {
 /// How a call ended.
 #[derive(Debug, Drop)]
 pub enum End {
-    /// No rule is FAIL; or each verdict is as the tests expect it.
+    /// No rule is FAIL; each verdict is as the tests expect it; or rules were written, generated or as they are read.
     Passed,
     /// A rule is FAIL; or a verdict is not as the tests expect it.
     Failed,
