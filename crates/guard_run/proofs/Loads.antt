@@ -3,7 +3,7 @@ use Rattle.std.proofs.Common.{◌≡◌, ℕ, ◌+◌, ◌++◌, ◌<◌, ◌≤
 use Rattle.std.proofs.lemmas.List.{length-take, take_all}
 use Rattle.std.specs.Option.{ForSome}
 use Rattle.doc_values.specs.Limits.{template_limit}
-use Rattle.guard_ends.specs.Inputs.{IsNoText, IsTooLong, RefusesData, RefusesProof, RefusesRules}
+use Rattle.guard_ends.specs.Inputs.{IsNoText, IsTooLong, RefusesData, RefusesProof, RefusesRules, RefusesUnnamed}
 use Rattle.guard_ends.specs.Order.{Contents, IsContent, Loading, Point, Refusing, Work}
 use Rattle.guard_ends.specs.declared.ends.Refusal.{Refusal}
 use Rattle.guard_ends.specs.declared.ends.Which.{Which}
@@ -33,6 +33,10 @@ loaded-long (Some content) held bytes limit none ok long =
 pub text-rules : (bytes : List ℕ) (refusal : Refusal) → RefusesText file.Rules bytes refusal → RefusesRules bytes refusal
 text-rules bytes refusal (inl (is, long)) = subst (RefusesRules bytes) (sym is) long
 text-rules bytes refusal (inr (is, bad)) = subst (RefusesRules bytes) (sym is) bad
+
+pub text-unnamed : (bytes : List ℕ) (refusal : Refusal) → RefusesText file.Rules bytes refusal → RefusesUnnamed bytes refusal
+text-unnamed bytes refusal (inl (is, long)) = subst (RefusesUnnamed bytes) (sym is) long
+text-unnamed bytes refusal (inr (is, bad)) = subst (RefusesUnnamed bytes) (sym is) bad
 
 pub text-data : (which : Which) (f : Format) → limit_of which ≡ template_limit → (bytes : List ℕ) (refusal : Refusal) → RefusesText which bytes refusal → RefusesData which f bytes refusal
 text-data which f limit bytes refusal (inl (is, long)) = inl (is, subst (λ (n : ℕ). IsTooLong n bytes) limit long)

@@ -1,5 +1,6 @@
 //! The top call of the program `guard`: it judges a template, alone or with parameters, by rules, and prints the verdicts and
-//! what each that is FAIL fails by; it judges evidence for such verdicts; and it tests rules by what is expected of them.
+//! what each that is FAIL fails by; it judges evidence for such verdicts; it tests rules by what is expected of them; and it
+//! writes rules: those that it generates of a template, and those that it reads, in one spelling.
 //!
 //! The call `guard` does the program's work over any files and any sinks. Its contract is the program's promise: the
 //! words and the contents of the files decide the end, what the standard output takes and what the standard error takes,
@@ -24,13 +25,17 @@ mod load;
 mod merge;
 mod over_files;
 mod params;
+mod parse_tree;
+mod passed;
 mod patterns;
 mod prepare;
 mod read_tests;
 mod refused;
 mod report;
+mod rulegen;
 mod rules;
 mod stop;
+mod syntax;
 mod test;
 mod tests;
 mod top_call;

@@ -53,6 +53,16 @@ pub(crate) fn not_evidence(number: u64) -> Refused
     }
 }
 
+/// A template of which too long rules are generated.
+pub(crate) fn text_too_long() -> Refused
+    ensures { (bytes : List ℕ) → said result ≡ refused bytes Refusal.TextTooLong }
+{
+    Refused {
+        refusal: Refusal::TextTooLong,
+        line: Written::Short(whole_line(Which::Template, "TextTooLong")),
+    }
+}
+
 /// A file that is not UTF-8.
 pub(crate) fn not_text(which: Which) -> Refused
     ensures { (bytes : List ℕ) → said result ≡ refused bytes (Refusal.NotText which) }

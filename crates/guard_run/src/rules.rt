@@ -1,7 +1,6 @@
 //! Rules: they are loaded, and read as tokens, syntax and names.
 ghost use Rattle.std.specs.Prelude.{◌≡◌, ◌≤◌, ℕ, List, MatchResult, length, string_bytes};
 ghost use Rattle.doc_values.specs.Limits.{rules_limit};
-ghost use Rattle.guard_lexer.specs.Lexes as lex;
 ghost use Rattle.guard_syntax.specs.code.Seen.{see_file};
 ghost use Rattle.rule_names.specs.code.Files.{file_of};
 ghost use Rattle.guard_ends.specs.Inputs.{IsSyntax, IsRuleFile, RefusesRules};
@@ -11,12 +10,12 @@ ghost use Rattle.guard_run.specs.code.Stops.{IsNotRead};
 
 use crate::inputs::Rules;
 use crate::load::load_text;
-use crate::refused::{lex_kind, parse_kind, refused_name};
-use crate::stop::{Stop, unread_at};
+use crate::refused::refused_name;
+use crate::stop::Stop;
+use crate::syntax::syntax_of;
 use guard_ends::Which;
 use guard_io::Files;
-use guard_lexer::{Token, tokens};
-use guard_parser::{parse, queries_begin, sites_in_order};
+use guard_parser::{queries_begin, sites_in_order};
 use guard_syntax::RawFile;
 use name_table::{NameRefusal, resolve};
 use rule_names::RuleFile;
@@ -49,22 +48,8 @@ fn rules_of(alloc: Global, text: &str) -> Result<RuleFile, Stop>
     requires { length text.now ≤ rules_limit }
     ensures { MatchResult result (λ rules. IsRuleFile text.now (file_of rules)) (IsNotRead RefusesRules text.now) }
 {
-    match tokens(alloc, text) {
-        Ok(found) => rules_of_tokens(alloc, text, &found),
-        Err(refusal) => Err(unread_at(Which::Rules, lex_kind(refusal), text)),
-    }
-}
-
-/// The rules of the tokens of a text.
-fn rules_of_tokens(alloc: Global, text: &str, tokens: &[Token]) -> Result<RuleFile, Stop>
-    requires short { length text.now ≤ rules_limit }
-    requires tokens { lex.IsTokenList text.now tokens.now }
-    ensures { MatchResult result (λ rules. IsRuleFile text.now (file_of rules)) (IsNotRead RefusesRules text.now) }
-{
-    match parse(alloc, text, tokens) {
-        Ok(raw) => rules_of_syntax(alloc, text, raw),
-        Err(refusal) => Err(unread_at(Which::Rules, parse_kind(refusal), text)),
-    }
+    let raw = syntax_of(alloc, text)?;
+    rules_of_syntax(alloc, text, raw)
 }
 
 /// The rules of the syntax of a text.

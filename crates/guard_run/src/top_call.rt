@@ -32,7 +32,8 @@ pub fn guard<F: Files, M: PatternMaker, O: Sink, E: Sink>(
     ensures pattern_fault { result ≡ End.PatternRefused
         → Unmade (map string_bytes words.now) (F.content files.old) (M.faults maker.old) (M.faults maker.new)
         × TookOfUnmade (O.told out.old) (O.told out.new) (E.told err.old) (E.told err.new) }
-    // Out is not written only where it is to take a report, evidence, or what is said of evidence or of tests, and its count rose.
+    // Out is not written only where it is to take a report, evidence, rules, or what is said of evidence or of tests, and its
+    // count rose.
     ensures out_fault { result ≡ End.WriteFault Pipe.Out
         → FaultCounted (O.faults out.old) (O.faults out.new)
         × TookOfUnwritten (map string_bytes words.now) (F.content files.old)

@@ -8,6 +8,8 @@ use crate::done::Done;
 use crate::drill::run_drill;
 use crate::job::{Job, Task, judging, name_in};
 use crate::over_files::run_over_files;
+use crate::parse_tree::run_parse_tree;
+use crate::rulegen::run_rulegen;
 use crate::stop::Stop;
 use crate::test::run_tests;
 use guard_io::Files;
@@ -86,5 +88,7 @@ fn run<F: Files, M: PatternMaker>(
         Request::Test { rules, tests } => {
             run_tests(alloc, rules.as_str(), tests.as_str(), files, maker)
         }
+        Request::Rulegen { template } => run_rulegen(alloc, template.as_str(), files),
+        Request::Tree { rules } => run_parse_tree(alloc, rules.as_str(), files),
     }
 }

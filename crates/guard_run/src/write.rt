@@ -74,7 +74,7 @@ fn write_stop<E: Sink>(stop: Stop, err: &mut E) -> End
 {
     match stop {
         Stop::Usage => say(
-            b"usage: guard validate --rules FILE --data FILE [--params FILE] [--evidence] | check --rules FILE --data FILE [--params FILE] --proof FILE | drill --count N | test --rules FILE --tests FILE\n",
+            b"usage: guard validate --rules FILE --data FILE [--params FILE] [--evidence] | check --rules FILE --data FILE [--params FILE] --proof FILE | drill --count N | test --rules FILE --tests FILE | rulegen --data FILE | parse-tree --rules FILE\n",
             End::Usage,
             err,
         ),

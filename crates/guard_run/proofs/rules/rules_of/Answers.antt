@@ -1,13 +1,17 @@
-use Rattle.std.proofs.Common.{inl, refl, sym, ◌∙◌}
-use Rattle.doc_values.specs.Limits.{rules_limit}
-use Rattle.guard_ends.specs.Inputs.{IsText, RefusesRules}
-use Rattle.guard_ends.specs.declared.ends.Which.TheVariants as file
-use Rattle.guard_run.proofs.Refusing.{lex-why, placed-not_read}
+use Rattle.rule_names.specs.code.Files.{file_of}
+use Rattle.rule_names.specs.declared.file.RuleFile.{RuleFile}
+use Rattle.guard_ends.specs.Inputs.{IsRuleFile, RefusesRules, RefusesUnnamed}
+use Rattle.guard_ends.specs.Order.{Refusing}
+use Rattle.guard_ends.proofs.RefusedRules.{unnamed-rules}
+use Rattle.guard_run.specs.code.Stops.{IsNotRead, NoneRose}
+use Rattle.guard_run.proofs.Outcomes.{IsStop-more, as-rose, at-exit}
 use Rattle.guard_run.proofs.rules.rules_of.Goals as goal
 
-pub returns-in-Err : goal.returns-in-Err
-returns-in-Err c =
-    let text : IsText rules_limit c.args.text.now = record { within = c.requires; utf8 = c.utf8.text } in
-    placed-not_read RefusesRules file.Rules c.args.text.now c.lex_kind.result c.unread_at.result
-    (λ kind at named. (text, inl (refl, inl (lex-why c.args.text.now c.in-Err.refusal kind at (sym c.lex_kind.ensures ∙ named) c.in-Err.ensures.refusal))))
-    c.unread_at.ensures
+pub returns-in_err-raw : goal.returns-in_err-raw
+returns-in_err-raw c =
+    let text = c.args.text.now in
+    at-exit (λ (rules : RuleFile). IsRuleFile text (file_of rules)) (IsNotRead RefusesRules text)
+    c.from_residual.result c.in_err-raw.field-0.0 c.from_residual.ensures.1
+    (IsStop-more (Refusing RefusesUnnamed text) (Refusing RefusesRules text) NoneRose NoneRose NoneRose NoneRose
+    (λ p refused. (refused.0, unnamed-rules text refused.0 refused.1, refused.2)) (as-rose NoneRose) (as-rose NoneRose)
+    c.in_err-raw.field-0.0 c.in_err-raw.ensures)

@@ -1,7 +1,7 @@
 use Rattle.std.proofs.Common.{◌≡◌, ℕ, List, Option, Bool, Result, ap, false, true, string_bytes, subst, sym, option_map, if◌then◌else◌}
-use Rattle.guard_words.specs.Request.{Asked, asked, check, drill, test, validate}
+use Rattle.guard_words.specs.Request.{Asked, asked, check, drill, parse_tree, rulegen, test, validate}
 use Rattle.guard_ends.specs.End.{Counts}
-use Rattle.guard_ends.specs.Order.{Contents, OfDrill, OfEvidence, OfTests, OverFiles, Work, WorkOf}
+use Rattle.guard_ends.specs.Order.{Contents, OfDrill, OfEvidence, OfSyntax, OfTemplate, OfTests, OverFiles, Work, WorkOf}
 use Rattle.guard_run.specs.code.Jobs.{Doing, name_in}
 use Rattle.guard_run.specs.code.Outcome.{IsOutcomeBy}
 use Rattle.guard_run.specs.code.Stops.{NoneRose, Rose}
@@ -9,7 +9,7 @@ use Rattle.guard_run.specs.declared.done.Done.{Done}
 use Rattle.guard_run.specs.declared.job.Task.{Task}
 use Rattle.guard_run.specs.declared.job.Task.TheVariants as task
 use Rattle.guard_run.specs.declared.stop.Stop.{Stop}
-use Rattle.guard_run.proofs.Outcomes.{IsOutcome-more, none-rose}
+use Rattle.guard_run.proofs.Outcomes.{IsOutcome-more, as-rose, none-rose}
 use Rattle.guard_run.proofs.work.run.Goals as goal
 
 module _ (told : Contents) (before after : Counts) (o : Result Done Stop) where
@@ -86,3 +86,31 @@ returns-in-Test-clause-outcome g c =
     (subst (λ (r : List ℕ). IsOutcomeBy (OfTests told r tests) before after came) c.as_str-in-Test.ensures.value
     (subst (λ (t : List ℕ). IsOutcomeBy (OfTests told c.as_str-in-Test.result.now t) before after came) c.as_str-in-Test-2.ensures.value
     c.run_tests.ensures.outcome))
+
+pub returns-in-Rulegen-clause-outcome : goal.returns-in-Rulegen-clause-outcome
+returns-in-Rulegen-clause-outcome g c =
+    let told = g.F.Files.content c.args.files.now in
+    let before : Counts = record { files = g.F.Files.faults c.args.files.now; patterns = g.M.PatternMaker.faults c.args.maker.now } in
+    let after : Counts = record { files = g.F.Files.faults c.run_rulegen.new.files; patterns = g.M.PatternMaker.faults c.args.maker.now } in
+    let FileRose = Rose before.files after.files in
+    let template = string_bytes c.in-Rulegen.template in
+    let came = c.run_rulegen.result in
+    let Comes : Work = OfTemplate told c.as_str-in-Rulegen.result.now in
+    of-same told before after came (asked c.args.request.now) (rulegen template) (ap asked c.in-Rulegen.is)
+    (subst (λ (t : List ℕ). IsOutcomeBy (OfTemplate told t) before after came) c.as_str-in-Rulegen.ensures.value
+    (IsOutcome-more Comes Comes FileRose FileRose NoneRose (Rose before.patterns after.patterns)
+    (λ p at_it. at_it) (as-rose FileRose) (none-rose (Rose before.patterns after.patterns)) came c.run_rulegen.ensures.outcome))
+
+pub returns-in-Tree-clause-outcome : goal.returns-in-Tree-clause-outcome
+returns-in-Tree-clause-outcome g c =
+    let told = g.F.Files.content c.args.files.now in
+    let before : Counts = record { files = g.F.Files.faults c.args.files.now; patterns = g.M.PatternMaker.faults c.args.maker.now } in
+    let after : Counts = record { files = g.F.Files.faults c.run_parse_tree.new.files; patterns = g.M.PatternMaker.faults c.args.maker.now } in
+    let FileRose = Rose before.files after.files in
+    let rules = string_bytes c.in-Tree.rules in
+    let came = c.run_parse_tree.result in
+    let Comes : Work = OfSyntax told c.as_str-in-Tree.result.now in
+    of-same told before after came (asked c.args.request.now) (parse_tree rules) (ap asked c.in-Tree.is)
+    (subst (λ (r : List ℕ). IsOutcomeBy (OfSyntax told r) before after came) c.as_str-in-Tree.ensures.value
+    (IsOutcome-more Comes Comes FileRose FileRose NoneRose (Rose before.patterns after.patterns)
+    (λ p at_it. at_it) (as-rose FileRose) (none-rose (Rose before.patterns after.patterns)) came c.run_parse_tree.ensures.outcome))

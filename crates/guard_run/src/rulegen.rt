@@ -1,0 +1,59 @@
+//! `rulegen`: a template is loaded and read, and out takes the rules that are generated of it.
+ghost use Rattle.std.specs.Prelude.{◌≡◌, ◌≤◌, ℕ, List, MatchResult, string_bytes};
+ghost use Rattle.guard_ends.specs.Inputs.{AreGenerated, RefusesGenerated};
+ghost use Rattle.guard_ends.specs.Order.{Generating, OfTemplate};
+ghost use Rattle.guard_run.specs.code.Outcome.{IsOutcome, IsOutcomeAt};
+ghost use Rattle.guard_run.specs.code.Stops.{IsNotRead, NoneRose, Rose};
+
+use crate::done::Done;
+use crate::inputs::DataText;
+use crate::load::load_data;
+use crate::passed::passed;
+use crate::refused::text_too_long;
+use crate::stop::Stop;
+use crate::tree::read_tree;
+use doc_values::Doc;
+use guard_ends::Which;
+use guard_io::Files;
+use rule_generator::{GenerateRefusal, generate};
+use std::alloc::Global;
+
+/// Generates rules of the template of a name.
+pub(crate) fn run_rulegen<F: Files>(
+    alloc: Global,
+    template: &str,
+    files: &mut F,
+) -> Result<Done, Stop>
+    ensures outcome { IsOutcome (OfTemplate (F.content files.old) template.now) (Rose (F.faults files.old) (F.faults files.new)) NoneRose result }
+    ensures contents { (other : List ℕ) → F.content files.new other ≡ F.content files.old other }
+    ensures kept { (other : List ℕ) → F.faults files.old other ≤ F.faults files.new other }
+{
+    let text = load_data(alloc, Which::Template, template, files)?;
+    generate_of(alloc, &text)
+}
+
+/// Generates rules of the text of a template.
+fn generate_of(alloc: Global, template: &DataText) -> Result<Done, Stop>
+    ensures { IsOutcomeAt (Generating template.now.format (string_bytes template.now.text)) result }
+{
+    let tree = read_tree(
+        alloc,
+        Which::Template,
+        template.format,
+        template.text.as_str(),
+    )?;
+    let text = rules_of_tree(alloc, &tree)?;
+    Ok(passed(text))
+}
+
+/// The text of the rules that are generated of a tree.
+fn rules_of_tree(alloc: Global, tree: &Doc<'_>) -> Result<String, Stop>
+    ensures { (bytes : List ℕ) → MatchResult result (λ text. AreGenerated tree.now (string_bytes text))
+        (IsNotRead (λ _. RefusesGenerated tree.now) bytes) }
+{
+    match generate(alloc, tree) {
+        Ok(text) => Ok(text),
+        Err(GenerateRefusal::TooLong) => Err(Stop::Refused(text_too_long())),
+        Err(GenerateRefusal::NoMemory) => Err(Stop::Memory),
+    }
+}
