@@ -18,6 +18,7 @@ mod OneTemplate
 mod OneTest
 mod OneText
 mod OneVerdict
+mod OneWritten
 mod RankedGraphs
 mod TestsMet
 mod WithEvidence

@@ -17,7 +17,7 @@ use Rattle.guard_ends.specs.Inputs.{IsProof, IsTooLong, RefusesProof}
 use Rattle.guard_ends.specs.Order.{Contents, Ended, Ending, Ends, Inputs, IsChecked, OfEvidence, Reading, Work}
 use Rattle.guard_ends.specs.declared.ends.End.TheVariants as end_is
 use Rattle.guard_ends.specs.declared.ends.Refusal.{Refusal}
-use Rattle.guard_ends.specs.declared.ends.Refusal.TheVariants.{DataUnread, TooLong, NotText, EvidenceSyntax, At}
+use Rattle.guard_ends.specs.declared.ends.Refusal.TheVariants.{DataUnread, TooLong, NotText, EvidenceSyntax, TextTooLong, At}
 use Rattle.guard_ends.specs.declared.ends.Which.TheVariants as file
 use Rattle.guard_laws.proofs.OneStage.{HasOne, OneReading, ending-is, ending-one, loaded, loading-one, read-goes, reading-one}
 use Rattle.guard_laws.proofs.OneVerdict.{said-one, verdicts-one}
@@ -108,6 +108,7 @@ ProofWhy bytes r =
 
 proof-why : (bytes : List ℕ) (r : Refusal) → RefusesProof bytes r → ProofWhy bytes r
 proof-why bytes (DataUnread which) h = absurd h
+proof-why bytes TextTooLong h = absurd h
 proof-why bytes (TooLong file.Rules) h = absurd h
 proof-why bytes (TooLong file.Template) h = absurd h
 proof-why bytes (TooLong file.Params) h = absurd h

@@ -5,11 +5,13 @@ use Rattle.guard_syntax.specs.Syntax.{File}
 use Rattle.rule_names.specs.Faults.{Fault}
 use Rattle.rule_names.specs.WellNamed.{WellNamed, IsNameFault}
 use Rattle.guard_laws.proofs.OneFault.{one-fault, fault-apart}
-use Rattle.guard_ends.specs.Inputs.{IsText, IsTooLong, IsNoText, IsSyntax, IsRuleFile, RefusesText, RefusesNames, RefusesRules, name_kind, name_said}
+use Rattle.guard_ends.specs.Inputs.{HasSyntax, IsText, IsTooLong, IsNoText, IsSyntax, IsRuleFile, RefusesText, RefusesNames, RefusesRules, RefusesUnnamed, name_kind, name_said}
+use Rattle.guard_ends.proofs.RefusedRules.{unnamed-rules}
 use Rattle.guard_ends.specs.declared.ends.Refusal.{Refusal}
-use Rattle.guard_ends.specs.declared.ends.Refusal.TheVariants.{DataUnread, TooLong, NotText, EvidenceSyntax, At}
+use Rattle.guard_ends.specs.declared.ends.Refusal.TheVariants.{DataUnread, TooLong, NotText, EvidenceSyntax, TextTooLong, At}
 use Rattle.guard_ends.specs.declared.ends.RefusalKind.{RefusalKind}
 use Rattle.guard_ends.specs.declared.ends.Which.TheVariants as file
+use Rattle.guard_laws.proofs.OneStage.{OneReading}
 use Rattle.guard_laws.proofs.OneSyntax.{OneSyntax, AreAlike, syntax-one, text-alike, text-apart}
 
 -- the refusals of a text without syntax, with their conditions
@@ -54,6 +56,7 @@ rules-why bytes (NotText file.Params) h = absurd h
 rules-why bytes (NotText file.Proof) h = absurd h
 rules-why bytes (NotText file.Tests) h = absurd h
 rules-why bytes (EvidenceSyntax number) h = absurd h
+rules-why bytes TextTooLong h = absurd h
 rules-why bytes (At file.Rules kind at name) (text, inl (none, h)) = inr (inr (inl (kind, at, ap (λ n. At file.Rules kind at n) none, text, h)))
 rules-why bytes (At file.Rules kind at name) (text, inr h) = inr (inr (inr (text, names-why bytes kind at name h)))
 rules-why bytes (At file.Template kind at name) h = absurd h
@@ -115,3 +118,42 @@ refusal-apart law bytes r rules h whole = why-apart law bytes r rules (rules-why
 
 pub rules-one : OneSyntax → (bytes : List ℕ) (rules others : File) → IsRuleFile bytes rules → IsRuleFile bytes others → rules ≡ others
 rules-one law bytes rules others whole whole' = syntax-one law bytes rules others whole.read whole'.read
+
+-- ---- whatever their names
+
+-- why a text has no syntax
+abbrev UnnamedWhy : List ℕ → Refusal → Type 0
+UnnamedWhy bytes r = IsTooLong rules_limit bytes ⊎ IsNoText rules_limit bytes ⊎ IsPlaced bytes r
+
+unnamed-why : (bytes : List ℕ) (r : Refusal) → RefusesUnnamed bytes r → UnnamedWhy bytes r
+unnamed-why bytes (DataUnread which) h = absurd h
+unnamed-why bytes (TooLong file.Rules) h = inl h
+unnamed-why bytes (TooLong file.Template) h = absurd h
+unnamed-why bytes (TooLong file.Params) h = absurd h
+unnamed-why bytes (TooLong file.Proof) h = absurd h
+unnamed-why bytes (TooLong file.Tests) h = absurd h
+unnamed-why bytes (NotText file.Rules) h = inr (inl h)
+unnamed-why bytes (NotText file.Template) h = absurd h
+unnamed-why bytes (NotText file.Params) h = absurd h
+unnamed-why bytes (NotText file.Proof) h = absurd h
+unnamed-why bytes (NotText file.Tests) h = absurd h
+unnamed-why bytes (EvidenceSyntax number) h = absurd h
+unnamed-why bytes TextTooLong h = absurd h
+unnamed-why bytes (At file.Rules kind at name) (text, none, h) = inr (inr (kind, at, ap (λ n. At file.Rules kind at n) none, text, h))
+unnamed-why bytes (At file.Template kind at name) h = absurd h
+unnamed-why bytes (At file.Params kind at name) h = absurd h
+unnamed-why bytes (At file.Proof kind at name) h = absurd h
+unnamed-why bytes (At file.Tests kind at name) h = absurd h
+
+unnamed-apart : OneSyntax → (bytes : List ℕ) (r : Refusal) (f : File) → UnnamedWhy bytes r → HasSyntax bytes f → ⊥
+unnamed-apart law bytes r f (inl long) whole = long-apart bytes long whole.text.within
+unnamed-apart law bytes r f (inr (inl bad)) whole = bad.1 whole.text.utf8
+unnamed-apart law bytes r f (inr (inr (kind, at, is, text, h))) whole = text-apart law bytes kind at f h whole.read
+
+-- a text has one syntax or one refusal
+pub syntax-reading : OneSyntax → (bytes : List ℕ) → OneReading File RefusesUnnamed HasSyntax bytes
+syntax-reading law bytes = record {
+  one = λ f g whole whole'. syntax-one law bytes f g whole.read whole'.read;
+  refusal = λ r q h h'. refusals-alike law bytes r q (unnamed-rules bytes r h) (unnamed-rules bytes q h');
+  apart = λ r f h whole. unnamed-apart law bytes r f (unnamed-why bytes r h) whole;
+}

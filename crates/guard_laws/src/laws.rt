@@ -10,16 +10,17 @@ ghost use Rattle.guard_drill.specs.DrillTexts.{template_text};
 ghost use Rattle.guard_syntax.specs.Syntax.{File};
 ghost use Rattle.guard_testfile.specs.Cases.{Expected, TestCase};
 ghost use Rattle.guard_testfile.specs.Texts.{verdict_under};
-ghost use Rattle.guard_words.specs.Request.{AsksFor, check, drill, test, validate};
+ghost use Rattle.guard_words.specs.Request.{AsksFor, check, drill, parse_tree, rulegen, test, validate};
 ghost use Rattle.rule_meaning.specs.FunctionMeaning.{IsAnswering};
 ghost use Rattle.rule_meaning.specs.Locations.{Answers};
+ghost use Rattle.rule_printer.specs.RuleText.{rule_text};
 ghost use Rattle.report_text.specs.RuleLines.{reported_names};
 ghost use Rattle.report_text.specs.Texts.{Parameters};
 ghost use Rattle.guard_ends.specs.Check.{accepted_text};
 ghost use Rattle.guard_ends.specs.Drill.{drill_report, drill_rules};
 ghost use Rattle.guard_ends.specs.End.{AreSameButEvidence, IsBeside, is_reported};
-ghost use Rattle.guard_ends.specs.Inputs.{AreCases, IsProof, IsRuleFile, IsTemplate, RefusesData, format_of};
-ghost use Rattle.guard_ends.specs.Order.{AreRead, AreTold, ComesTo, Contents, EndOf, Ended, Ends, IsChecked, IsDataOf, IsJudged, IsJudgedBy, IsTested, Point};
+ghost use Rattle.guard_ends.specs.Inputs.{AreCases, AreGenerated, HasSyntax, IsProof, IsRuleFile, IsTemplate, RefusesData, format_of};
+ghost use Rattle.guard_ends.specs.Order.{AreRead, AreTold, ComesTo, Contents, EndOf, Ended, Ends, IsChecked, IsDataOf, IsJudged, IsJudgedBy, IsTested, Point, written};
 ghost use Rattle.guard_ends.specs.Report.{report};
 ghost use Rattle.guard_ends.specs.Reported.{verdicts_of, world_over};
 ghost use Rattle.guard_ends.specs.declared.ends.End.TheVariants as end_is;
@@ -51,6 +52,10 @@ pub fn only_end(rules: &[u8], template: &[u8], params: &[u8], evidence: &[u8])
     ensures tested { (words : List (List ℕ)) (told : Contents) (r s : List ℕ) (e other : Ended)
         → AsksFor words (test r s) → told r ≡ Some rules.now → told s ≡ Some template.now
         → EndOf words told e → EndOf words told other → e ≡ other }
+    ensures generated { (words : List (List ℕ)) (told : Contents) (t : List ℕ) (e other : Ended)
+        → AsksFor words (rulegen t) → told t ≡ Some template.now → EndOf words told e → EndOf words told other → e ≡ other }
+    ensures printed { (words : List (List ℕ)) (told : Contents) (r : List ℕ) (e other : Ended)
+        → AsksFor words (parse_tree r) → told r ≡ Some rules.now → EndOf words told e → EndOf words told other → e ≡ other }
 {
     one_syntax();
     only_template(template);
@@ -167,6 +172,27 @@ pub fn accepted_is_tested(rules: &[u8], tests: &[u8])
     one_syntax();
     only_template(tests);
     one_answer();
+}
+
+/// The law of completeness for rules that are generated: where the words ask for `rulegen` of a file, whose content is told and is a
+/// template, and the rules that are generated of it are no longer than rules may be, each end that the definition gives is that of
+/// their text written.
+pub fn accepted_is_generated(template: &[u8])
+    ensures { (words : List (List ℕ)) (told : Contents) (t : List ℕ) (tree : Forest) (text : List ℕ) (e : Ended)
+        → AsksFor words (rulegen t) → told t ≡ Some template.now → IsTemplate (format_of t) template.now tree → AreGenerated tree text
+        → EndOf words told e → e ≡ written text }
+{
+    only_template(template);
+}
+
+/// The law of completeness for rules that are printed: where the words ask for `parse-tree` of a file, whose content is told and has a
+/// syntax, each end that the definition gives is that of the canonical text of the syntax written.
+pub fn accepted_is_printed(rules: &[u8])
+    ensures { (words : List (List ℕ)) (told : Contents) (r : List ℕ) (file : File) (e : Ended)
+        → AsksFor words (parse_tree r) → told r ≡ Some rules.now → HasSyntax rules.now file
+        → EndOf words told e → e ≡ written (rule_text file) }
+{
+    one_syntax();
 }
 
 /// The law that tests pass exactly where they are met: cases that were judged end as Passed exactly where each verdict that a case

@@ -1,7 +1,7 @@
 use Rattle.std.proofs.Common.{false, true}
 use Rattle.doc_values.specs.Tree.{Forest}
 use Rattle.guard_syntax.specs.Syntax.{File}
-use Rattle.guard_words.specs.Request.{check, test, validate}
+use Rattle.guard_words.specs.Request.{check, parse_tree, rulegen, test, validate}
 use Rattle.guard_ends.specs.Order.{Ending, Ends, IsJudged, OfEvidence}
 use Rattle.guard_ends.specs.Report.{report}
 use Rattle.guard_laws.proofs.OneCheck.{EvidenceLaws, proof-one}
@@ -9,6 +9,7 @@ use Rattle.guard_laws.proofs.OneEnd.{AreFilesTold, AreOneEach, FileNames, FileTe
 use Rattle.guard_laws.proofs.OneStage.{ending-one}
 use Rattle.guard_laws.proofs.OneTemplate.{OneTemplate, judged-one}
 use Rattle.guard_laws.proofs.OneTest.{AreTestsTold, OneAnswer, tests-same}
+use Rattle.guard_laws.proofs.OneWritten.{syntax-same, template-same}
 use Rattle.guard_laws.proofs.WithEvidence.{beside-same, evidence-beside}
 use Rattle.guard_laws.proofs.laws.only_end.Goals as goal
 
@@ -73,3 +74,16 @@ returns-clause-tested c =
     let known : AreTestsTold told r s c.args.rules.now c.args.template.now = record { rules = rules_told; tests = tests_told } in
     tests-same c.one_syntax.ensures answer told r s c.args.rules.now c.args.template.now known tests e other
     (work-asked words told (test r s) asked (Ends e) end) (work-asked words told (test r s) asked (Ends other) end')
+
+pub returns-clause-generated : goal.returns-clause-generated
+returns-clause-generated c =
+    let template : OneTemplate c.args.template.now = record { tree = c.only_template.ensures.tree; refusal = c.only_template.ensures.refusal; apart = c.only_template.ensures.apart } in
+    λ words told t e other asked template_told end end'.
+    template-same told t c.args.template.now template_told template e other
+    (work-asked words told (rulegen t) asked (Ends e) end) (work-asked words told (rulegen t) asked (Ends other) end')
+
+pub returns-clause-printed : goal.returns-clause-printed
+returns-clause-printed c =
+    λ words told r e other asked rules_told end end'.
+    syntax-same c.one_syntax.ensures told r c.args.rules.now rules_told e other
+    (work-asked words told (parse_tree r) asked (Ends e) end) (work-asked words told (parse_tree r) asked (Ends other) end')
