@@ -62,6 +62,14 @@ fn shown(alloc: Global, request: &Request) -> Result<String, AllocError> {
             let tests = tests.as_str();
             format!(in alloc; "test|{rules}|{tests}|")
         }
+        Request::Rulegen { template } => {
+            let template = template.as_str();
+            format!(in alloc; "rulegen|{template}|")
+        }
+        Request::Tree { rules } => {
+            let rules = rules.as_str();
+            format!(in alloc; "tree|{rules}|")
+        }
     }
 }
 
@@ -84,6 +92,8 @@ const ANSWERS: &[(&str, &str)] = &[
     ("check|--proof=c|--rules|a|--data=b", "check|c|a|b|"),
     ("drill|--count|100000", "drill|100000|"),
     ("test|--tests|b c|--rules= ", "test| |b c|"),
+    ("rulegen|--data|a b", "rulegen|a b|"),
+    ("parse-tree|--rules= ", "tree| |"),
     ("validate|--rules|a b|--data| ", "validate|report|a b| |"),
     ("validate|--rules=a b|--data= ", "validate|report|a b| |"),
     (
@@ -101,6 +111,8 @@ const ANSWERS: &[(&str, &str)] = &[
     ("test|--rules|a|--tests |b", "usage"),
     ("drill|--count| 1", "usage"),
     ("drill|--count|1 ", "usage"),
+    ("rulegen|--rules|a", "usage"),
+    ("parse-tree|--rules|a|--data|b", "usage"),
 ];
 
 /// Whether a line asks for this.
