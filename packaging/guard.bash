@@ -3,7 +3,7 @@ _guard() {
     local word=${COMP_WORDS[COMP_CWORD]} before=${COMP_WORDS[COMP_CWORD - 1]} options
     COMPREPLY=()
     if [ "$COMP_CWORD" -eq 1 ]; then
-        mapfile -t COMPREPLY < <(compgen -W "validate check drill test" -- "$word")
+        mapfile -t COMPREPLY < <(compgen -W "validate check drill test rulegen parse-tree" -- "$word")
         return
     fi
     case $before in
@@ -19,6 +19,8 @@ _guard() {
         check) options="--rules --data --params --proof" ;;
         drill) options="--count" ;;
         test) options="--rules --tests" ;;
+        rulegen) options="--data" ;;
+        parse-tree) options="--rules" ;;
         *) return ;;
     esac
     mapfile -t COMPREPLY < <(compgen -W "$options" -- "$word")
