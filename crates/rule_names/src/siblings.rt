@@ -1,5 +1,5 @@
 //! Parts that stand behind one another, by the sites at which they begin.
-ghost use Rattle.std.specs.Prelude.{◌≡◌, ◌≤◌, ℕ, List, MatchOption};
+ghost use Rattle.std.specs.Prelude.{◌≡◌, ◌<◌, ◌≤◌, ℕ, List, IfSome, MatchOption};
 ghost use Rattle.std.specs.List.Sorted.{IsNonDecreasingBy};
 ghost use Rattle.guard_syntax.specs.code.Seen.{see_let, see_rule, see_disj, see_part, see_step, see_expr};
 ghost use Rattle.guard_syntax.specs.Sites.{sites_let, sites_rule, sites_disj, sites_part, sites_step, sites_expr};
@@ -75,11 +75,53 @@ impl HasSite for Expr {
     }
 }
 
-/// The index of the last part that begins at or before a site. The search halves what is left at each step.
+/// So many parts are looked at by halves at once: a guess would take as long.
+const FEW: usize = 16;
+
+/// The index of the last part that begins at or before a site, where the parts begin at even distances, as those of many
+/// like tests do; else it may be missed.
+fn guess<T: HasSite>(parts: &[T], site: u32) -> Option<usize>
+    requires { IsNonDecreasingBy T.own parts.now }
+    ensures { IfSome result (λ i. IsLast T.own site parts.now i) }
+{
+    let count = parts.len();
+    if count <= FEW {
+        return None;
+    }
+    let end = count - 1;
+    let first = parts[0].site();
+    let last = parts[end].site();
+    if site < first || last <= site {
+        return None;
+    }
+    let index = share(site - first, last - first, end);
+    if index >= end {
+        return None;
+    }
+    let here = parts[index].site();
+    let next = parts[index + 1].site();
+    if site < here || next <= site {
+        return None;
+    }
+    Some(index)
+}
+
+/// As great a share of a number as a part has of a whole.
+fn share(part: u32, whole: u32, of: usize) -> usize
+    requires { 0 < whole }
+{
+    (u64::from(part).saturating_mul(of as u64) / u64::from(whole)) as usize
+}
+
+/// The index of the last part that begins at or before a site. Among many it is guessed first; else the search halves what
+/// is left at each step.
 pub fn last_to<T: HasSite>(parts: &[T], site: u32) -> Option<usize>
     requires { IsNonDecreasingBy T.own parts.now }
     ensures { MatchOption result (AllBehind T.own site parts.now) (λ i. IsLast T.own site parts.now i) }
 {
+    if let Some(index) = guess(parts, site) {
+        return Some(index);
+    }
     let count = parts.partition_point(|part| part.site() <= site);
     if count == 0 { None } else { Some(count - 1) }
 }
