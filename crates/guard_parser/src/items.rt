@@ -12,11 +12,17 @@ pub(crate) struct FileItems {
     pub(crate) loose: Vec<Disj>,
 }
 
+/// So many items of a list take no more room than they need: most lists of a rule file have one item, or a few.
+const FEW: usize = 4;
+
 /// Adds an item behind those that were found before.
 pub(crate) fn add<T: Drop>(found: &mut Vec<T>, item: T) -> Result<(), Halt>
     ensures added { OnOk result (found.new.items ≡ found.old.items ++ (item ∷ [])) }
     ensures refused { IfErr result (λ e. e ≡ Halt.NoMemory) }
 {
+    if found.len() < FEW {
+        found.reserve_exact(1)?;
+    }
     match found.push(item) {
         Ok(()) => Ok(()),
         Err(_) => Err(Halt::NoMemory),
