@@ -147,14 +147,17 @@ fn tables_of(alloc: Global, file: &RawFile) -> Result<Tables, NameRefusal>
     requires sites { AreInOrder (see_file file.now) }
     ensures { MatchResult result (λ tables. AreTablesOf (see_file file.now) tables) (λ refusal. IsNameRefusal (see_file file.now) refusal) }
 {
-    let graph = tested_graph(alloc, file)?;
+    // The graph takes more memory than the tables: it is let go before they are made.
+    let judged = {
+        let graph = tested_graph(alloc, file)?;
+        judged_sites(alloc, file, &graph)?
+    };
     let links = resolution_of(alloc, file)?;
     let depths = depths_of(alloc, file, &links)?;
     if let Some(wrong) = first_deep(file, &links, &depths) {
         return Err(refuse(alloc, wrong));
     }
     let homes = homes_of(alloc, file)?;
-    let judged = judged_sites(alloc, file, &graph)?;
     Ok(Tables {
         homes,
         links,
