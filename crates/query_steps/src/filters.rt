@@ -1,12 +1,14 @@
 //! Filters: which values they try, and which of these they keep.
-ghost use Rattle.std.specs.Prelude.{◌≡◌, [], true, length, map, IfOk, IsOk};
+ghost use Rattle.std.specs.Prelude.{◌≡◌, ◌≤◌, ◌++◌, ◌∷◌, [], List, true, drop, length, map, if◌then◌else◌, IfOk, IsOk, OnOk};
 ghost use Rattle.std.specs.List.{filter, list_all, zip};
+ghost use Rattle.guard_syntax.specs.declared.row.Ref.{Ref};
 ghost use Rattle.rule_meaning.specs.StoreModel.{is_known, is_known_ref};
 ghost use Rattle.value_compare.specs.code.Stores.{see_store};
-ghost use Rattle.rule_meaning.specs.Filters.{candidates_in, candidates_of, filtered};
+ghost use Rattle.rule_meaning.specs.Filters.{candidates_by, candidates_in, candidates_of, filtered, kept};
 ghost use Rattle.rule_meaning.specs.Verdicts.{is_pass};
 
 use crate::reached::{inside_of, kind_of};
+use crate::steps::push_if;
 use doc_values::Kind;
 use guard_syntax::{Ref, Row, Verdict};
 use std::alloc::{AllocError, Global};
@@ -28,30 +30,43 @@ pub fn filter_candidates(
     let mut refs = Vec::new(alloc);
     for row in before {
         if let Row::Found(value) = row {
-            let tried = candidates_at(alloc, after_key, *value, store)?;
-            refs.extend_from_slice(&tried)?;
+            push_candidates(alloc, after_key, *value, store, &mut refs)?;
         }
     }
     Ok(refs)
 }
 
-/// The values that a filter tries at a value that was found.
-fn candidates_at(
+/// Whether a filter tries what stands in a value, and not the value itself.
+fn is_looked_into(kind: Kind, after_key: bool) -> bool
+    ensures { (value : Ref) (inside : List Ref) → candidates_by kind after_key value inside ≡ (if result then inside else value ∷ []) }
+{
+    match kind {
+        Kind::List => true,
+        Kind::Map => after_key,
+        _ => false,
+    }
+}
+
+/// Adds the values that a filter tries at a value that was found.
+fn push_candidates(
     alloc: Global,
     after_key: bool,
     value: Ref,
     store: &Store<'_, '_>,
-) -> Result<Vec<Ref>, AllocError>
+    refs: &mut Vec<Ref>,
+) -> Result<(), AllocError>
     requires { is_known_ref (see_store store.now) value ≡ true }
-    ensures candidates { IfOk result (λ refs. refs.items ≡ candidates_of (see_store store.now) after_key value) }
-    ensures known { IfOk result (λ refs. list_all (is_known_ref (see_store store.now)) refs.items ≡ true) }
+    ensures candidates { OnOk result (refs.new.items ≡ refs.old.items ++ candidates_of (see_store store.now) after_key value) }
+    ensures known { OnOk result (list_all (is_known_ref (see_store store.now)) (candidates_of (see_store store.now) after_key value) ≡ true) }
     ensures no_memory { candidates_of (see_store store.now) after_key value ≡ [] → IsOk result }
 {
-    match kind_of(value, store) {
-        Kind::List => inside_of(alloc, value, store),
-        Kind::Map if after_key => inside_of(alloc, value, store),
-        _ => Ok(vec![in alloc; value]?),
+    if is_looked_into(kind_of(value, store), after_key) {
+        let inside = inside_of(alloc, value, store)?;
+        refs.extend_from_slice(&inside)?;
+        return Ok(());
     }
+    refs.push(value)?;
+    Ok(())
 }
 
 /// What a filter keeps of these rows, given the verdict of each candidate in order. A missing row stays in its place. Behind
@@ -74,15 +89,37 @@ pub fn kept_rows(
     for row in before {
         match row {
             Row::Found(value) => {
-                let tried = candidates_at(alloc, after_key, *value, store)?;
-                let kept = kept_refs(alloc, &tried, left)?;
-                rows.extend_from_slice(&kept)?;
-                left = &left[tried.len()..];
+                left = push_kept(alloc, after_key, *value, left, store, &mut rows)?;
             }
             Row::Missing { .. } | Row::Unmade { .. } => rows.push(*row)?,
         }
     }
     Ok(rows)
+}
+
+/// Adds what a filter keeps of what it tries at a value, by the first verdicts, and answers the others.
+fn push_kept<'v>(
+    alloc: Global,
+    after_key: bool,
+    value: Ref,
+    verdicts: &'v [Verdict],
+    store: &Store<'_, '_>,
+    rows: &mut Vec<Row>,
+) -> Result<&'v [Verdict], AllocError>
+    requires value { is_known_ref (see_store store.now) value ≡ true }
+    requires verdicts { length (candidates_of (see_store store.now) after_key value) ≤ length verdicts.now }
+    ensures rows { OnOk result (rows.new.items ≡ rows.old.items ++ kept (candidates_of (see_store store.now) after_key value) verdicts.entry.now) }
+    ensures known { OnOk result (list_all (is_known_ref (see_store store.now)) (candidates_of (see_store store.now) after_key value) ≡ true) }
+    ensures left { IfOk result (λ left. left.now ≡ drop (length (candidates_of (see_store store.now) after_key value)) verdicts.entry.now) }
+{
+    if is_looked_into(kind_of(value, store), after_key) {
+        let tried = inside_of(alloc, value, store)?;
+        let kept = kept_refs(alloc, &tried, verdicts)?;
+        rows.extend_from_slice(&kept)?;
+        return Ok(&verdicts[tried.len()..]);
+    }
+    push_if(is_pass(verdicts[0]), value, rows)?;
+    Ok(&verdicts[1..])
 }
 
 /// The values that are kept, by their verdicts, of which there may be more.
