@@ -1,5 +1,6 @@
 mod DistinctFrames
 pub mod EnteredFrames
+mod FilledCells
 pub mod FramesAround
 pub mod NamesBound
 mod OutwardSteps

@@ -1,7 +1,7 @@
 //! Cells by the frame and the name that they are for.
 
 /// What gives the name of a cell in the scope of its frame.
-#[derive(Clone, Copy)]
+#[derive(Clone, Copy, Debug, PartialEq, Eq, Hash)]
 pub enum Slot {
     /// A let: the site of its expression.
     Let(u32),
@@ -12,7 +12,7 @@ pub enum Slot {
 }
 
 /// What a name means in a frame: there is a cell for each frame and each name of its scope.
-#[derive(Clone, Copy)]
+#[derive(Clone, Copy, Debug, PartialEq, Eq, Hash)]
 pub struct Cell {
     pub frame: u64,
     pub slot: Slot,

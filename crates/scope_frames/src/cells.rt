@@ -1,16 +1,22 @@
-//! Cells: which one the use of a name leads to.
-ghost use Rattle.std.specs.Prelude.{◌≡◌, IsSome, Some};
+//! Cells: which one the use of a name leads to, and what fills it.
+ghost use Rattle.std.specs.Prelude.{◌≡◌, ◌++◌, ◌∷◌, [], IsSome, MatchOption, None, OnErr, OnOk, Some};
 ghost use Rattle.rule_names.specs.EnclosingScopes.{home_of};
 ghost use Rattle.rule_names.specs.code.Files.{file_of};
 ghost use Rattle.rule_names.specs.Resolution.{bind_of};
-ghost use Rattle.scope_frames.specs.code.Cells.{cell_of, slot_of};
+ghost use Rattle.scope_frames.specs.code.Cells.{HasCell, cell_of, slot_of};
+ghost use Rattle.scope_frames.specs.code.Filled.{Filled, filled_at};
 ghost use Rattle.scope_frames.specs.code.Frames.{AreEntered, StandsFor};
 ghost use Rattle.scope_frames.specs.code.Scoping.{up_of};
+ghost use Rattle.scope_frames.specs.code.Seen.{cells_in};
+ghost use Rattle.scope_frames.specs.declared.cell.Cell.{Cell};
 
 use crate::cell::{Cell, Slot};
 use crate::frames::Frames;
 use crate::outwards::outwards;
+use crate::remembered::Remembered;
+use guard_syntax::Row;
 use rule_names::Bind;
+use std::alloc::AllocError;
 
 impl<'t> Frames<'t> {
     /// The cell of the variable that is used at a site, in a frame of the scope in which the site stands: it is one of the
@@ -19,7 +25,8 @@ impl<'t> Frames<'t> {
         requires sound { AreEntered (file_of self.now.file.now) self.now.entered.keys }
         requires used { IsSome (bind_of (file_of self.now.file.now) site) }
         requires home { StandsFor (file_of self.now.file.now) self.now.entered.keys frame (home_of (file_of self.now.file.now) site) }
-        ensures { cell_of (file_of self.now.file.now) self.now.entered.keys frame site ≡ Some result }
+        ensures cell { cell_of (file_of self.now.file.now) self.now.entered.keys frame site ≡ Some result }
+        ensures has { HasCell (file_of self.now.file.now) self.now.entered.keys result }
     {
         let Some(bind) = self.file.bind(site) else {
             unreachable!()
@@ -31,6 +38,34 @@ impl<'t> Frames<'t> {
             frame,
             slot: slot_of(bind),
         }
+    }
+
+    /// What fills a cell: the line of the evidence that gives the rows of its name, and these. It is None exactly where the
+    /// cell is empty. It takes no memory.
+    pub fn rows(&self, cell: Cell) -> Option<(u64, &[Row])>
+        ensures { MatchOption result (filled_at (cells_in self.entry.now) cell ≡ None)
+            (λ r. filled_at (cells_in self.entry.now) cell ≡ Some (record { cell = cell; line = r.0; rows = r.1.now })) }
+    {
+        match self.cells.get(&cell) {
+            Some(remembered) => Some((remembered.line, remembered.rows.as_slice())),
+            None => None,
+        }
+    }
+
+    /// Fills an empty cell of a frame. A filled cell keeps its line and its rows, and any other stays as it is.
+    pub fn fill(&mut self, cell: Cell, line: u64, rows: &[Row]) -> Result<(), AllocError>
+        requires has { HasCell (file_of self.old.file.now) self.old.entered.keys cell }
+        requires empty { filled_at (cells_in self.old) cell ≡ None }
+        ensures file { self.new.file.now ≡ self.old.file.now }
+        ensures frames { self.new.entered.keys ≡ self.old.entered.keys }
+        ensures ok { OnOk result (cells_in self.new ≡ cells_in self.old ++ record { cell = cell; line = line; rows = rows.now } ∷ []) }
+        ensures err { OnErr result (cells_in self.new ≡ cells_in self.old) }
+        ensures filled { OnOk result (filled_at (cells_in self.new) cell ≡ Some (record { cell = cell; line = line; rows = rows.now })) }
+        ensures kept { (other : Cell) (it : Filled) → filled_at (cells_in self.old) other ≡ Some it → filled_at (cells_in self.new) other ≡ Some it }
+    {
+        let rows = rows.to_vec(self.alloc)?;
+        self.cells.insert(cell, Remembered { line, rows })?;
+        Ok(())
     }
 }
 

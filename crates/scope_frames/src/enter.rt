@@ -1,32 +1,40 @@
 //! Frames that are entered.
-ghost use Rattle.std.specs.Prelude.{◌≡◌, ◌<◌, ◌++◌, ◌∷◌, ◌⊎◌, ℕ, [], length, IfOk, OnErr, OnOk, Some, option_map, slice_get, true};
+ghost use Rattle.std.specs.Prelude.{◌≡◌, ◌<◌, ◌≤◌, ◌++◌, ◌∷◌, ◌⊎◌, ℕ, [], length, IfOk, OnErr, OnOk, Some, option_map, slice_get, true};
 ghost use Rattle.rule_names.specs.code.Files.{file_of};
 ghost use Rattle.scope_frames.specs.code.Entering.{Enters};
+ghost use Rattle.scope_frames.specs.code.Filled.{AreEmpty};
 ghost use Rattle.scope_frames.specs.code.Frames.{AreEntered, MayEnter};
+ghost use Rattle.scope_frames.specs.code.Seen.{cells_in};
 
 use crate::frame::Frame;
 use crate::frames::Frames;
 use guard_syntax::Ref;
-use indexmap::IndexSet;
+use indexmap::{IndexMap, IndexSet};
 use rule_names::RuleFile;
 use std::alloc::{AllocError, Global};
 
 impl<'t> Frames<'t> {
-    /// No frame. It takes no memory.
+    /// No frame, and no cell. It takes no memory.
     pub fn new(alloc: Global, file: &'t RuleFile) -> Frames<'t>
         ensures file { result.file.now ≡ file.entry.now }
         ensures frames { result.entered.keys ≡ [] }
+        ensures cells { cells_in result ≡ [] }
     {
         Frames {
+            alloc,
             file,
             entered: IndexSet::new(alloc),
+            cells: IndexMap::new(alloc),
         }
     }
 
-    /// The number of the frame with these arguments. One that is entered for the first time comes behind the others.
+    /// The number of the frame with these arguments. One that is entered for the first time comes behind the others, and
+    /// each of its cells is empty. Any other cell stays as it is.
     pub fn enter(&mut self, parent: Option<u64>, site: u32, current: Ref) -> Result<u64, AllocError>
         requires { MayEnter (file_of self.old.file.now) self.old.entered.keys parent site }
         ensures file { self.new.file.now ≡ self.old.file.now }
+        ensures cells { cells_in self.new ≡ cells_in self.old }
+        ensures empty { IfOk result (λ number. length self.old.entered.keys ≤ number → AreEmpty (cells_in self.new) number) }
         ensures entered { IfOk result (λ number. Enters self.old.entered.keys (record { parent = parent; site = site; current = current }) number self.new.entered.keys) }
         ensures sound { AreEntered (file_of self.old.file.now) self.old.entered.keys → AreEntered (file_of self.old.file.now) self.new.entered.keys }
         ensures err { OnErr result (self.new.entered.keys ≡ self.old.entered.keys) }

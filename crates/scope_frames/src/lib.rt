@@ -1,6 +1,6 @@
-//! Frames: the scopes that an evaluation has entered, each with its current value, and in each frame a cell for each name of
-//! its scope. Equal arguments give the same frame, and the use of a name leads to one cell. Nothing is evaluated here, and no
-//! cell keeps anything: what a name means is kept by whoever evaluates it, under its cell.
+//! Frames and cells: the scopes that an evaluation has entered, each with its current value, and in each frame a cell for
+//! each name of its scope, which is empty until what the name means is known. Equal arguments give the same frame, the use
+//! of a name leads to one cell, and a cell that is filled keeps what it has. Nothing is evaluated here.
 #![tactic(auto)]
 
 pub mod cell;
@@ -9,7 +9,9 @@ pub mod enter;
 pub mod frame;
 pub mod frames;
 pub mod outwards;
+pub mod remembered;
 
 pub use cell::{Cell, Slot};
 pub use frame::Frame;
 pub use frames::Frames;
+pub use remembered::Remembered;

@@ -1,8 +1,13 @@
-use Rattle.std.proofs.Common.{◌∙◌, sym, ap₂, ℕ, List}
-use Rattle.std.proofs.lemmas.Option.{none-some}
+use Rattle.std.proofs.Common.{◌≡◌, ◌∙◌, sym, subst, ap₂, ℕ, List, Some}
+use Rattle.std.proofs.lemmas.Option.{none-some, same_Some}
+use Rattle.guard_syntax.specs.Syntax.{File}
 use Rattle.rule_names.specs.EnclosingScopes.{home_of}
 use Rattle.rule_names.specs.code.Files.{file_of}
-use Rattle.scope_frames.specs.code.Frames.{outwards}
+use Rattle.rule_names.specs.declared.bind.Bind.{Bind}
+use Rattle.rule_names.specs.declared.bind.Bind.TheVariants.{Capture, Param, Value}
+use Rattle.scope_frames.specs.code.Cells.{IsSlotIn, slot_of}
+use Rattle.scope_frames.specs.code.Frames.{StandsFor, outwards}
+use Rattle.scope_frames.specs.code.Scoping.{IsGivenIn, scope_around, up_of}
 use Rattle.scope_frames.specs.declared.frame.Frame.{Frame}
 use Rattle.scope_frames.proofs.FramesAround.{so-many-out}
 use Rattle.scope_frames.proofs.NamesBound.{names-bound}
@@ -16,3 +21,25 @@ unreachable-requires-in_default-outwards c =
     let out = so-many-out (file_of file) (called-home (file_of file) file.sites) c.args.self.now.entered.keys c.requires.sound _ c.args.frame (home_of (file_of file) c.args.site) c.requires.home bound.around in
     none-some out.0 (sym c.in_default-outwards.is ∙ c.outwards.ensures
     ∙ ap₂ (λ (fs : List Frame) (up : ℕ). outwards (file_of file) fs up c.args.frame) c.as_slice.ensures.keys c.up_of.ensures ∙ out.1)
+
+-- what gives a name is what its slot is for
+slot-in : (file : File) (scope : ℕ) (b : Bind) → IsGivenIn file scope b → IsSlotIn file scope (slot_of b)
+slot-in file scope (Value up site) given = given
+slot-in file scope (Capture up step) given = given
+slot-in file scope (Param up index) given = given
+
+pub returns-clause-has : goal.returns-clause-has
+returns-clause-has c =
+    let file = c.args.self.now.file.now in
+    let frames = c.args.self.now.entered.keys in
+    let bind = c.in-Some.bind in
+    let home = home_of (file_of file) c.args.site in
+    let bound = names-bound (file_of file) file.sites c.args.site bind (sym c.bind.ensures ∙ c.in-Some.is) in
+    let out = so-many-out (file_of file) (called-home (file_of file) file.sites) frames c.requires.sound _ c.args.frame home c.requires.home bound.around in
+    let same : Some c.in-Some-outwards.frame ≡ Some out.0 = sym c.in-Some-outwards.is ∙ c.outwards.ensures
+    ∙ ap₂ (λ (fs : List Frame) (up : ℕ). outwards (file_of file) fs up c.args.frame) c.as_slice.ensures.keys c.up_of.ensures ∙ out.1 in
+    let scope = scope_around (file_of file) (up_of bind) home in (
+      scope,
+      subst (λ (n : ℕ). StandsFor (file_of file) frames n scope) (sym (same_Some c.in-Some-outwards.frame out.0 same)) out.2,
+      subst (IsSlotIn (file_of file) scope) (sym c.slot_of.ensures) (slot-in (file_of file) scope bind bound.given),
+    )
