@@ -10,6 +10,7 @@ mod CallsAdded
 mod CallsAnswered
 mod CandidatesAnswered
 mod Conjoined
+mod ConjunctionsSited
 mod Elements
 mod EmptyEngine
 mod EnteredLines
@@ -43,6 +44,7 @@ mod RowsAnswered
 mod RowsInTurn
 mod RowsListed
 mod RowsRead
+mod RuledBy
 mod RulesAnswered
 mod RuleTables
 pub mod RulesJudged

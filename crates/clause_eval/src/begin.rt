@@ -1,4 +1,4 @@
-//! An engine at its beginning.
+//! An engine at its beginning and at its end, and what it holds in between.
 ghost use Rattle.std.specs.Prelude.{◌≡◌, false};
 ghost use Rattle.rule_names.specs.code.Files.{file_of};
 ghost use Rattle.rule_meaning.specs.Values.{has_pattern};
@@ -46,5 +46,39 @@ impl<'t, 's> Engine<'t, 's> {
             beside: IndexMap::new(alloc),
             rules: SiteLines::new(alloc, 0),
         }
+    }
+
+    /// The frames that were entered.
+    pub fn frames(&self) -> &Frames<'t>
+        ensures { result.now ≡ self.entry.now.frames }
+    {
+        &self.frames
+    }
+
+    /// The template, the literals of the file, and the trees that calls have made.
+    pub fn store(&self) -> &Store<'t, 's>
+        ensures { result.now ≡ self.entry.now.store }
+    {
+        &self.store
+    }
+
+    /// The lines so far: each follows.
+    pub fn evidence(&self) -> &Evidence
+        ensures { result.now ≡ self.entry.now.evidence }
+    {
+        &self.evidence
+    }
+
+    /// The evidence and the store. All that served to find lines again is dropped.
+    pub fn finish(self) -> (Evidence, Store<'t, 's>)
+        ensures evidence { result.0 ≡ self.entry.evidence }
+        ensures store { result.1 ≡ self.entry.store }
+    {
+        let Engine {
+            evidence,
+            store,
+            ..
+        } = self;
+        (evidence, store)
     }
 }

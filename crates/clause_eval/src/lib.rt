@@ -5,6 +5,7 @@
 mod adds;
 mod begin;
 mod blocks;
+mod by_site;
 mod calls;
 pub mod engine;
 pub mod frame_lines;

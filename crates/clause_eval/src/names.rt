@@ -28,7 +28,7 @@ impl<'t, 's> Engine<'t, 's> {
 
     /// The line of the expression of a let, by its site.
     #[cycle(evaluation)]
-    fn value(&mut self, frame: u64, site: u32) -> Result<u64, AllocError>
+    pub(crate) fn value(&mut self, frame: u64, site: u32) -> Result<u64, AllocError>
         requires whole { IsWhole (see_engine self.old) }
         requires stands { IsLetValue (see_engine self.old) frame site }
         ensures { IfOk result (λ number. AnswersPiece (see_engine self.old) (see_engine self.new) frame site number) }

@@ -231,6 +231,17 @@ HasDisjs f piece xs stop = ⊥
 abbrev pub IsConjunction : State → (frame site : ℕ) → Disjs → Option Verdict → Type 0
 IsConjunction s frame site ds stop = (piece : Piece) × StandsWithin s frame (home_for s.known.file kind.Conj site) (site, piece) × HasDisjs s.known.file piece ds stop
 
+-- a body, conditions or the file
+abbrev pub IsConjoined : Piece → Type 0
+IsConjoined (OfBody b) = Unit {0}
+IsConjoined (OfConds c) = Unit {0}
+IsConjoined OfFile = Unit {0}
+IsConjoined piece = ⊥
+
+-- one of these stands at a site, in a frame of the scope in which its parts stand
+abbrev pub IsConjunctionAt : State → (frame site : ℕ) → Type 0
+IsConjunctionAt s frame site = (piece : Piece) × StandsWithin s frame (home_for s.known.file kind.Conj site) (site, piece) × IsConjoined piece
+
 -- a body that is entered in a frame with a value
 abbrev pub IsBodyIn : State → (frame : ℕ) → Body → Ref → Type 0
 IsBodyIn s frame b v =

@@ -1,13 +1,16 @@
 -- What judging a rule, or the parts outside rules, asks for, and what is so then.
-use Rattle.std.specs.Prelude.{ℕ, ◌≡◌, List, [], Contains, None, Some, slice_get}
+use Rattle.std.specs.Prelude.{ℕ, ◌≡◌, Bool, true, false, List, [], ◌∷◌, Contains, Option, None, Some, slice_get}
 use Rattle.evidence_lines.specs.Lines.{line_of}
 use Rattle.evidence_lines.specs.declared.line.Line.{Line}
+use Rattle.evidence_lines.specs.declared.line.LineKind.{LineKind}
 use Rattle.evidence_lines.specs.declared.line.LineKind.TheVariants as kind
 use Rattle.evidence_lines.specs.declared.line.Outcome.TheVariants as says
-use Rattle.guard_syntax.specs.Syntax.{Disj, Disjs, Rule, more_disjs}
+use Rattle.guard_syntax.specs.Syntax.{Disj, Disjs, OptConds, Rule, more_disjs, no_conds, with_conds}
 use Rattle.guard_syntax.specs.declared.row.Verdict.{Verdict}
+use Rattle.guard_syntax.specs.declared.row.Verdict.TheVariants.{Skip}
 use Rattle.rule_meaning.specs.Roots.{root_ref}
 use Rattle.rule_names.specs.Depths.{depth_disjs, depth_rule, depths_of}
+use Rattle.rule_names.specs.Pieces.{OfRule, Piece}
 use Rattle.evidence_rules.specs.CitedLines.{IsLine}
 use Rattle.clause_eval.specs.code.Adding.{Adds}
 use Rattle.clause_eval.specs.code.Answers.{AreRuled}
@@ -53,3 +56,25 @@ pub record IsReady (before after : State) (frame site : ℕ) (cites : List ℕ) 
   pub bound : ℕ
   pub evaluates : Evaluates before after bound cites
   pub adds : Adds after frame site kind.Rule cites (says.Verdict verdict)
+
+-- ---- the verdict of a rule by what its line cites
+
+abbrev pub has_some : OptConds → Bool
+has_some no_conds = false
+has_some (with_conds c) = true
+
+-- a rule with conditions stands at a site
+abbrev pub has_conditions : Option Piece → Bool
+has_conditions (Some (OfRule r)) = has_some r.cond
+has_conditions piece = false
+
+-- a line says a verdict
+abbrev pub SaysSome : List Line → (number : ℕ) → Verdict → Type 0
+SaysSome lines number verdict = (of : LineKind) × (frame site : ℕ) × IsLine lines number of frame site (says.Verdict verdict)
+
+-- the second line says it; where there is one alone, that says it if it is no line of conditions, and else the rule is SKIP
+abbrev pub IsRuledBy : List Line → (conditions : Bool) → (cites : List ℕ) → Verdict → Type 0
+IsRuledBy lines conditions (c ∷ d ∷ []) verdict = SaysSome lines d verdict
+IsRuledBy lines true (c ∷ []) verdict = verdict ≡ Skip
+IsRuledBy lines false (c ∷ []) verdict = SaysSome lines c verdict
+IsRuledBy lines conditions cites verdict = ⊥

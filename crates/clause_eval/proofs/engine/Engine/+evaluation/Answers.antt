@@ -431,7 +431,7 @@ pub variable-value-requires : goal.variable-value-requires
 variable-value-requires t c =
     let file = c.args.self.now.store.file.now in
     let is = subst (λ f. cell_of (file_of f) c.args.self.now.frames.entered.keys c.args.frame c.args.site ≡ Some c.lookup-cell.result) (c.args.self.now.frames_over ∙ sym c.args.self.now.store_over)
-    c.lookup-cell.ensures in (
+    c.lookup-cell.ensures.cell in (
       let-rank (see_engine c.args.self.now) c.requires.whole file.named file.sites c.args.frame c.args.site c.requires.used c.lookup-cell.result is c.in-Let.value c.in-Let.is t c.decreases,
       (c.requires.whole, let-stands (see_engine c.args.self.now) c.requires.whole file.named file.sites c.args.frame c.args.site c.requires.used c.lookup-cell.result is c.in-Let.value c.in-Let.is),
     )
@@ -440,7 +440,7 @@ pub variable-returns-in-Let : goal.variable-returns-in-Let
 variable-returns-in-Let t c =
     let file = c.args.self.now.store.file.now in
     let is = subst (λ f. cell_of (file_of f) c.args.self.now.frames.entered.keys c.args.frame c.args.site ≡ Some c.lookup-cell.result) (c.args.self.now.frames_over ∙ sym c.args.self.now.store_over)
-    c.lookup-cell.ensures in
+    c.lookup-cell.ensures.cell in
     IfOk-weaker c.value.result _ _ (λ number it.
     let-answer (see_engine c.args.self.now) c.requires.whole file.named file.sites c.args.frame c.args.site c.requires.used c.lookup-cell.result is c.in-Let.value c.in-Let.is (see_engine c.value.new.self)
     number it) c.value.ensures
@@ -449,7 +449,7 @@ pub variable-capture-requires : goal.variable-capture-requires
 variable-capture-requires t c =
     let file = c.args.self.now.store.file.now in
     let is = subst (λ f. cell_of (file_of f) c.args.self.now.frames.entered.keys c.args.frame c.args.site ≡ Some c.lookup-cell.result) (c.args.self.now.frames_over ∙ sym c.args.self.now.store_over)
-    c.lookup-cell.ensures in (
+    c.lookup-cell.ensures.cell in (
       captured-rank (see_engine c.args.self.now) c.requires.whole file.named file.sites c.args.frame c.args.site c.requires.used c.lookup-cell.result is c.in-Capture.step c.in-Capture.is t c.decreases,
       (c.requires.whole, captured-stands (see_engine c.args.self.now) c.requires.whole file.named file.sites c.args.frame c.args.site c.requires.used c.lookup-cell.result is c.in-Capture.step c.in-Capture.is),
     )
@@ -458,7 +458,7 @@ pub variable-returns-in-Capture : goal.variable-returns-in-Capture
 variable-returns-in-Capture t c =
     let file = c.args.self.now.store.file.now in
     let is = subst (λ f. cell_of (file_of f) c.args.self.now.frames.entered.keys c.args.frame c.args.site ≡ Some c.lookup-cell.result) (c.args.self.now.frames_over ∙ sym c.args.self.now.store_over)
-    c.lookup-cell.ensures in
+    c.lookup-cell.ensures.cell in
     IfOk-weaker c.capture.result _ _ (λ number it.
     captured-answer (see_engine c.args.self.now) c.requires.whole file.named file.sites c.args.frame c.args.site c.requires.used c.lookup-cell.result is c.in-Capture.step c.in-Capture.is (see_engine c.capture.new.self)
     number it) c.capture.ensures
@@ -467,7 +467,7 @@ pub variable-argument-requires : goal.variable-argument-requires
 variable-argument-requires t c =
     let file = c.args.self.now.store.file.now in
     let is = subst (λ f. cell_of (file_of f) c.args.self.now.frames.entered.keys c.args.frame c.args.site ≡ Some c.lookup-cell.result) (c.args.self.now.frames_over ∙ sym c.args.self.now.store_over)
-    c.lookup-cell.ensures in (
+    c.lookup-cell.ensures.cell in (
       param-rank (see_engine c.args.self.now) c.requires.whole file.named file.sites c.args.frame c.args.site c.requires.used c.lookup-cell.result is c.in-Param.index c.in-Param.is t c.decreases,
       (c.requires.whole, param-stands (see_engine c.args.self.now) c.requires.whole file.named file.sites c.args.frame c.args.site c.requires.used c.lookup-cell.result is c.in-Param.index c.in-Param.is),
     )
@@ -476,7 +476,7 @@ pub variable-returns-in-Param : goal.variable-returns-in-Param
 variable-returns-in-Param t c =
     let file = c.args.self.now.store.file.now in
     let is = subst (λ f. cell_of (file_of f) c.args.self.now.frames.entered.keys c.args.frame c.args.site ≡ Some c.lookup-cell.result) (c.args.self.now.frames_over ∙ sym c.args.self.now.store_over)
-    c.lookup-cell.ensures in
+    c.lookup-cell.ensures.cell in
     IfOk-weaker c.argument.result _ _ (λ number it.
     param-answer (see_engine c.args.self.now) c.requires.whole file.named file.sites c.args.frame c.args.site c.requires.used c.lookup-cell.result is c.in-Param.index c.in-Param.is (see_engine c.argument.new.self)
     number it) c.argument.ensures
