@@ -3,3 +3,4 @@ mod LinesPlaced
 mod RulesInTurn
 mod RulesListed
 mod SoundLines
+mod VerdictsListed

@@ -1,27 +1,30 @@
-//! What goes over the lines of an engine: its evidence and its store, with the tables that look-ups of lines go by.
+//! What goes over the lines of an evaluation: its evidence and its store, with the tables that look-ups of lines go by.
 ghost use Rattle.std.specs.Prelude.{◌≡◌, IfOk};
 ghost use Rattle.evidence_lines.specs.declared.version.Version.TheVariants.{Two};
+ghost use Rattle.value_compare.specs.code.Books.{IsBookOf};
+ghost use Rattle.value_compare.specs.code.Stores.{see_store};
 ghost use Rattle.evidence_lookups.specs.code.Grounds.{known_of, lines_of};
 ghost use Rattle.evidence_lookups.specs.code.JudgedSites.{AreJudged};
 ghost use Rattle.evidence_lookups.specs.code.Owned.{AreOwners};
-ghost use Rattle.clause_eval.specs.code.Engines.{see_engine};
-ghost use Rattle.clause_eval.specs.code.States.{IsWhole};
+ghost use Rattle.rule_calls.specs.code.Ends.{AreOfEngine};
 
-use clause_eval::Engine;
+use crate::evaluation::Evaluation;
 use evidence_lookups::judged::Judged;
 use evidence_lookups::line_context::LineContext;
 use evidence_lookups::owners::Owners;
-use std::alloc::AllocError;
+use std::alloc::{AllocError, Global};
+use value_compare::PatternBook;
 
-/// The verdicts that the `rule` lines of an engine say, by their sites.
-pub fn judged_lines(engine: &Engine<'_, '_>) -> Result<Judged, AllocError>
-    requires { IsWhole (see_engine engine.now) }
-    ensures { IfOk result (λ judged. AreJudged (see_engine engine.now).lines judged.of.items) }
+/// The verdicts that the `rule` lines of an evaluation say, by their sites.
+pub fn judged_lines(alloc: Global, evaluation: &Evaluation<'_, '_>) -> Result<Judged, AllocError>
+    requires { AreOfEngine (see_store evaluation.now.store) evaluation.now.evidence.lines }
+    ensures { IfOk result (λ judged. AreJudged evaluation.now.evidence.lines judged.of.items) }
 {
-    let sites = engine.file.raw().places.as_slice().len();
-    let mut judged = Judged::new(engine.alloc, sites)?;
-    for before in 0..engine.evidence.len() {
-        let Some(line) = engine.evidence.get(before + 1) else {
+    let file = evaluation.store.file;
+    let sites = file.raw().places.as_slice().len();
+    let mut judged = Judged::new(alloc, sites)?;
+    for before in 0..evaluation.evidence.len() {
+        let Some(line) = evaluation.evidence.get(before + 1) else {
             // Each of these numbers has its line.
             unreachable!()
         };
@@ -30,27 +33,30 @@ pub fn judged_lines(engine: &Engine<'_, '_>) -> Result<Judged, AllocError>
     Ok(judged)
 }
 
-/// The lines of an engine, over its store and its patterns, with the owners of the bodies of its file and the verdicts of its
-/// `rule` lines. It takes no memory.
+/// The lines of an evaluation, over its store and the patterns, with the owners of the bodies of its file and the verdicts of
+/// its `rule` lines. It takes no memory.
 pub fn line_context<'g, 't, 's>(
-    engine: &'g Engine<'t, 's>,
+    alloc: Global,
+    evaluation: &'g Evaluation<'t, 's>,
+    book: &'g PatternBook,
     owners: &'g Owners,
     judged: &'g Judged,
 ) -> LineContext<'g, 't, 's>
-    requires whole { IsWhole (see_engine engine.now) }
-    requires owners { AreOwners (see_engine engine.now).known.file owners.now }
-    requires judged { AreJudged (see_engine engine.now).lines judged.now.of.items }
+    requires whole { AreOfEngine (see_store evaluation.now.store) evaluation.now.evidence.lines }
+    requires book { IsBookOf (see_store evaluation.now.store).file book.now }
+    requires owners { AreOwners (see_store evaluation.now.store).file owners.now }
+    requires judged { AreJudged evaluation.now.evidence.lines judged.now.of.items }
     ensures version { result.version ≡ Two }
-    ensures known { known_of result ≡ (see_engine engine.entry.now).known }
-    ensures lines { lines_of result ≡ (see_engine engine.entry.now).lines }
+    ensures known { known_of result ≡ see_store evaluation.entry.now.store }
+    ensures lines { lines_of result ≡ evaluation.entry.now.evidence.lines }
 {
     LineContext {
-        alloc: engine.alloc,
-        version: engine.evidence.version(),
-        store: &engine.store,
-        book: engine.book,
+        alloc,
+        version: evaluation.evidence.version(),
+        store: &evaluation.store,
+        book,
         owners,
         judged,
-        lines: engine.evidence.lines(),
+        lines: evaluation.evidence.lines(),
     }
 }

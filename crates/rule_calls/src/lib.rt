@@ -5,8 +5,9 @@
 #![tactic(auto)]
 
 mod context;
-mod evaluation;
+pub mod evaluation;
 mod ranked;
+mod reported;
 
 pub use context::{judged_lines, line_context};
-pub use evaluation::evaluate;
+pub use evaluation::{Evaluation, evaluate};

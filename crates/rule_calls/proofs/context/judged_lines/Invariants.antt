@@ -5,6 +5,6 @@ use Rattle.rule_calls.proofs.context.judged_lines.Given as goal
 
 abbrev pub invariant-loop-before : goal.invariant-loop-before
 invariant-loop-before l = record {
-  judged : AreJudged (take l.before l.engine.evidence.lines) l.judged.of.items;
-  sites : length l.judged.of.items ≡ length (file_of l.engine.file.now).places;
+  judged : AreJudged (take l.before l.evaluation.evidence.lines) l.judged.of.items;
+  sites : length l.judged.of.items ≡ length (file_of l.evaluation.store.file.now).places;
 }

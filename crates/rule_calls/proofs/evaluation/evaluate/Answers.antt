@@ -1,5 +1,8 @@
+use Rattle.std.proofs.Common.{◌≡◌, subst}
+use Rattle.guard_syntax.specs.Syntax.{File}
 use Rattle.rule_names.specs.code.Files.{file_of}
 use Rattle.clause_eval.specs.code.Engines.{see_engine}
+use Rattle.rule_calls.specs.code.Reported.{AreVerdicts, reported_sites}
 use Rattle.rule_calls.proofs.LeanLines.{lean-lines}
 use Rattle.rule_calls.proofs.RulesInTurn.{end-accepted, end-file, end-follow, end-template}
 use Rattle.rule_calls.proofs.evaluation.evaluate.Goals as goal
@@ -27,5 +30,14 @@ returns-clause-follow c =
     end-follow (see_engine c.new-engine.result) (see_engine c.judge_file.new.engine) c.args.doc.now (file_of c.args.file.now) c.new-engine.ensures.template c.new-engine.ensures.file
     c.in_ok-judge_file.ensures.grows c.in_ok-judge_file.ensures.judged
 
+pub returns-clause-verdicts : goal.returns-clause-verdicts
+returns-clause-verdicts c =
+    let file : (see_engine c.judge_file.new.engine).known.file ≡ file_of c.args.file.now =
+    end-file (see_engine c.new-engine.result) (see_engine c.judge_file.new.engine) c.args.doc.now (file_of c.args.file.now) c.new-engine.ensures.template c.new-engine.ensures.file
+    c.in_ok-judge_file.ensures.grows c.in_ok-judge_file.ensures.judged in
+    subst (λ (f : File). AreVerdicts (see_engine c.judge_file.new.engine).lines (reported_sites f) c.in_ok-verdicts.verdicts.items) file c.in_ok-verdicts.ensures
+
 pub returns-clause-whole : goal.returns-clause-whole
-returns-clause-whole c = c.in_ok-judge_file.ensures.judged.rules.rests.whole
+returns-clause-whole c =
+    let s = see_engine c.judge_file.new.engine in
+    (record { frames = s.frames; framed = s.framed; parts = s.parts; beside = s.beside; rules = s.rules }, c.in_ok-judge_file.ensures.judged.rules.rests.whole)
