@@ -55,7 +55,7 @@ pub fn generated_names_right()
 {}
 
 /// The law that the types, keys and values of generated rules can be written, where each number of the tree is in range, as in
-/// the tree of a text of JSON. The call itself does nothing.
+/// the tree of a text of JSON or of YAML. The call itself does nothing.
 pub fn generated_spellings()
     ensures { (tree : Forest) → AreInRange tree → HaveSpellings (rules_of tree) }
 {}

@@ -1,5 +1,5 @@
 -- The tokens of generated rules spell the generated text, and keep apart; by induction on the rules.
-use Rattle.std.proofs.Common.{◌≡◌, ℕ, suc, ◌+◌, ◌-◌, ◌^◌, ◌<◌, ◌≤◌, Bool, true, false, List, [], ◌∷◌, ◌++◌, length, codes, decimal, refl, sym, ap, ◌∙◌, subst, arith, append_assoc, length-append, flat_map, ◌||◌}
+use Rattle.std.proofs.Common.{◌≡◌, ℕ, suc, ◌+◌, ◌^◌, ◌<◌, ◌≤◌, Bool, true, false, List, [], ◌∷◌, ◌++◌, length, codes, decimal, refl, sym, ap, ◌∙◌, subst, arith, append_assoc, length-append, flat_map, ◌||◌}
 use Rattle.std.specs.List.{join_by}
 use Rattle.doc_values.specs.Limits.{rules_limit}
 use Rattle.doc_values.specs.Number.{is_digit, AreDigits}

@@ -7,6 +7,7 @@ pub mod KeyPlaces
 pub mod LastBytes
 pub mod MappedTurns
 pub mod Members
+mod NearKeys
 pub mod Nodes
 pub mod RuleTexts
 pub mod SameDecimals

@@ -9,7 +9,7 @@ module _ {X Y : Type 0} (f : Y → X) (ys : List Y) (i : ℕ) where
   pub inside : i < length ys → i < length (map f ys)
   inside h = let n : length (map f ys) ≡ length ys = length-map ys f in omega arith
 
-  past : length ys ≤ i → length (map f ys) ≤ i
+  pub past : length ys ≤ i → length (map f ys) ≤ i
   past h = let n : length (map f ys) ≡ length ys = length-map ys f in omega arith
 
   -- what the item at the index stands for

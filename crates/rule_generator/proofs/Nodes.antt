@@ -23,7 +23,7 @@ pub child-value : (f : Forest) (p i q : ℕ) (g : Forest) (d : Value) → p < si
 child-value f p i q g d h k same is = item_at f p i d h k ∙ sym (ap₂ value_at same is)
 
 -- the labels side by side
-pub labels_in : Forest → List Label
+unfoldable pub labels_in : Forest → List Label
 labels_in Nil = []
 labels_in (Node l kids rest) = l ∷ labels_in rest
 

@@ -1,14 +1,20 @@
 //! The elements of a template, their types and their properties.
-ghost use Rattle.std.specs.Prelude.{◌≡◌, ◌++◌, not, IfOk, OnOk, None, Some, flat_map, option_copied, option_map, if◌then◌else◌};
-ghost use Rattle.rule_generator.specs.GeneratedRules.{elements as the_elements, entries_in, entry as the_entry, has_plain as is_there_plain, is_plain as is_plain_by, items_or_itself, property as the_property, spellable_text as the_text, type_of as the_type};
+ghost use Rattle.std.specs.Prelude.{◌≡◌, ◌++◌, not, codes, false, true, IfOk, IfSome, MatchOption, OnOk, None, Some, flat_map, option_copied, option_map, if◌then◌else◌};
+ghost use Rattle.rule_generator.specs.GeneratedRules.{elements as the_elements, entries_in, entry as the_entry, is_plain as is_plain_by, items_or_itself, spellable_text as the_text, type_of as the_type};
+ghost use Rattle.rule_generator.specs.code.PropertyMaps.{has_entry};
 ghost use Rattle.rule_generator.specs.code.Seen.{see, values_seen};
+ghost use Rattle.doc_values.specs.Places.{label_at};
 ghost use Rattle.doc_values.specs.Tree as tree;
+ghost use Rattle.doc_values.specs.Tree.{key_is};
 ghost use Rattle.rule_meaning.specs.Values.{values_in};
 ghost use Rattle.rule_meaning.specs.Values as values;
 ghost use Rattle.rule_spelling.specs.Spelling.{ends_in_backslash as ends_so};
 
 use doc_values::{Cursor, Doc, Kind};
 use std::alloc::{AllocError, Global};
+
+/// Where the properties of an element mostly stand: behind its type.
+const USUAL_PLACE: usize = 1;
 
 /// The entry of a key in a map.
 pub(crate) fn entry<'t, 's>(node: &Cursor<'t, 's>, key: &str) -> Option<Cursor<'t, 's>>
@@ -20,24 +26,65 @@ pub(crate) fn entry<'t, 's>(node: &Cursor<'t, 's>, key: &str) -> Option<Cursor<'
     }
 }
 
-/// The value of a key in the map `Properties` of an element.
-pub(crate) fn property<'t, 's>(element: &Cursor<'t, 's>, key: &str) -> Option<Cursor<'t, 's>>
-    ensures { option_map see result ≡ the_property key.now (see element.now) }
+/// The entry of a key in a map, which is tried at a place first: maps that are alike have a key at the same place.
+fn entry_near<'t, 's>(node: &Cursor<'t, 's>, key: &str, place: usize) -> Option<Cursor<'t, 's>>
+    ensures { option_map see result ≡ the_entry key.now (see node.now) }
 {
-    match entry(element, "Properties") {
-        Some(properties) => entry(&properties, key),
-        None => None,
+    match entry_at(node, key, place) {
+        Some(value) => Some(value),
+        None => entry(node, key),
     }
 }
 
-/// Whether an element has a key among its properties, with a value that has a spelling.
-pub(crate) fn has_plain(element: &Cursor<'_, '_>, key: &str) -> bool
-    ensures { result ≡ is_there_plain key.now (see element.now) }
+/// The entry of a key in a map, if it stands at a place.
+fn entry_at<'t, 's>(node: &Cursor<'t, 's>, key: &str, place: usize) -> Option<Cursor<'t, 's>>
+    ensures { IfSome result (λ c. the_entry key.now (see node.now) ≡ Some (see c)) }
 {
-    let Some(value) = property(element, key) else {
-        return false;
+    if !is_map(node.kind()) || node.len() <= place {
+        return None;
+    }
+    // The keys of a map are distinct: the length of the tree says so to the proof.
+    let _nodes = node.doc.len();
+    let value = node.child(place);
+    if !has_key(&value, key) {
+        return None;
+    }
+    Some(value)
+}
+
+/// Whether an entry has a key.
+fn has_key(entry: &Cursor<'_, '_>, key: &str) -> bool
+    ensures { result ≡ key_is (label_at entry.now.doc.now entry.now.id).key key.now }
+{
+    match entry.key() {
+        Some(found) => found == key,
+        None => false,
+    }
+}
+
+/// The properties of an element.
+pub(crate) fn properties<'t, 's>(element: &Cursor<'t, 's>) -> Option<Cursor<'t, 's>>
+    ensures { option_map see result ≡ the_entry (codes "Properties") (see element.now) }
+{
+    entry_near(element, "Properties", USUAL_PLACE)
+}
+
+/// The entry of a key in a map, if its value has a spelling. The key is tried at a place first.
+pub(crate) fn plain_entry<'t, 's>(
+    map: &Cursor<'t, 's>,
+    key: &str,
+    place: usize,
+) -> Option<Cursor<'t, 's>>
+    ensures { MatchOption result (has_entry key.now (see map.now) ≡ false)
+        (λ c. (the_entry key.now (see map.now) ≡ Some (see c)) × (is_plain_by (see c).kind (see c).text ≡ true)) }
+{
+    let Some(value) = entry_near(map, key, place) else {
+        return None;
     };
-    is_plain(&value)
+    if !is_plain(&value) {
+        return None;
+    }
+    Some(value)
 }
 
 /// Whether a value is null, a truth value, a number, or a text that has a spelling.

@@ -61,6 +61,6 @@ fn push_group(
     if keys.is_empty() {
         return Ok(number);
     }
-    push_rule(out, number, name, &keys, members)?;
+    push_rule(out, number, name, &keys)?;
     Ok(number + 1)
 }

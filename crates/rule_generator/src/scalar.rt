@@ -1,11 +1,12 @@
 //! The values of a key, each once.
-ghost use Rattle.std.specs.Prelude.{◌≡◌, true, IfOk, OnOk};
+ghost use Rattle.std.specs.Prelude.{◌≡◌, false, true, IfOk, MatchOption, OnOk};
 ghost use Rattle.std.specs.List.{AllZip, list_all};
-ghost use Rattle.rule_generator.specs.GeneratedRules.{added, has_plain, is_plain, is_same, values_of as the_values};
+ghost use Rattle.rule_generator.specs.GeneratedRules.{added, is_plain, is_same};
+ghost use Rattle.rule_generator.specs.code.PropertyMaps.{has_entry, values_in_maps};
 ghost use Rattle.rule_generator.specs.code.Scalars.{IsKeyOf};
 ghost use Rattle.rule_generator.specs.code.Seen.{see, values_seen};
 
-use crate::element::property;
+use crate::element::plain_entry;
 use doc_values::{Cursor, Kind};
 use indexmap::IndexSet;
 use std::alloc::{AllocError, Global};
@@ -20,24 +21,26 @@ pub(crate) enum Scalar<'t> {
     Text(&'t str),
 }
 
-/// The values of a key over the elements of a type, each once. The key is kept for them.
+/// The values of a key in maps, each once, if each of the maps has the key with a value that has a spelling. The key is tried
+/// at a place first.
 pub(crate) fn values_of<'t, 's>(
     alloc: Global,
-    members: &[Cursor<'t, 's>],
+    maps: &[Cursor<'t, 's>],
     key: &str,
-) -> Result<Vec<Cursor<'t, 's>>, AllocError>
-    requires { list_all (has_plain key.now) (values_seen members.now) ≡ true }
-    ensures { IfOk result (λ values. values_seen values.items ≡ the_values (values_seen members.now) key.now) }
+    place: usize,
+) -> Result<Option<Vec<Cursor<'t, 's>>>, AllocError>
+    ensures { IfOk result (λ found. MatchOption found (list_all (has_entry key.now) (values_seen maps.now) ≡ false)
+        (λ values. (list_all (has_entry key.now) (values_seen maps.now) ≡ true) × (values_seen values.items ≡ values_in_maps (values_seen maps.now) key.now))) }
 {
     let mut keys = IndexSet::new(alloc);
     let mut values = Vec::new(alloc);
-    for member in members {
-        let Some(value) = property(member, key) else {
-            continue;
+    for map in maps {
+        let Some(value) = plain_entry(map, key, place) else {
+            return Ok(None);
         };
         push_if_new(&mut keys, &mut values, value)?;
     }
-    Ok(values)
+    Ok(Some(values))
 }
 
 /// Appends a value, unless it is the same as one that is there. The keys are those of the values.

@@ -1,32 +1,30 @@
 //! The text of one rule.
-ghost use Rattle.std.specs.Prelude.{◌≡◌, ◌++◌, true, All, OnOk, codes, decimal, map, string_bytes};
-ghost use Rattle.std.specs.List.{join_by, list_all};
-ghost use Rattle.rule_generator.specs.GeneratedRules.{has_plain, kept_key, key_line, let_line, rule_line, rule_text, value_text};
-ghost use Rattle.rule_generator.specs.code.Seen.{texts_seen, values_seen};
+ghost use Rattle.std.specs.Prelude.{◌≡◌, ◌++◌, OnOk, codes, decimal, string_bytes};
+ghost use Rattle.std.specs.List.{join_by};
+ghost use Rattle.rule_generator.specs.GeneratedRules.{key_line, let_line, rule_line, rule_text, value_text};
+ghost use Rattle.rule_generator.specs.code.Seen.{values_seen};
+ghost use Rattle.rule_generator.specs.code.SeenKeys.{key_seen, keys_seen};
 ghost use Rattle.rule_spelling.specs.Spelling.{quoted};
 
-use crate::scalar::values_of;
+use crate::kept::Kept;
 use doc_values::Cursor;
 use itoa::Buffer;
 use rule_spelling::{push_quoted, push_scalar};
-use std::alloc::{AllocError, Global};
+use std::alloc::AllocError;
 
-/// Appends the rule of a number, for the elements of a type and the keys that are kept for them.
+/// Appends the rule of a number, for a type and the keys that are kept for its elements.
 pub(crate) fn push_rule(
     out: &mut String,
     number: u64,
     name: &str,
-    keys: &[&str],
-    members: &[Cursor<'_, '_>],
+    keys: &[Kept<'_, '_>],
 ) -> Result<(), AllocError>
-    requires { All (λ key. list_all (has_plain key.now) (values_seen members.now) ≡ true) keys.now }
-    ensures { OnOk result (string_bytes out.new ≡ string_bytes out.old
-        ++ rule_text number (record { type = name.now; keys = map (kept_key (values_seen members.now)) (texts_seen keys.now) })) }
+    ensures { OnOk result (string_bytes out.new ≡ string_bytes out.old ++ rule_text number (record { type = name.now; keys = keys_seen keys.now })) }
 {
     push_let(out, number, name)?;
     push_head(out, number)?;
     for key in keys {
-        push_key(out, number, key, members)?;
+        push_key(out, number, key)?;
     }
     out.push_str("}\n")
 }
@@ -54,19 +52,11 @@ fn push_head(out: &mut String, number: u64) -> Result<(), AllocError>
 }
 
 /// Appends the line of a key that is kept for the elements of a type.
-fn push_key(
-    out: &mut String,
-    number: u64,
-    key: &str,
-    members: &[Cursor<'_, '_>],
-) -> Result<(), AllocError>
-    requires { list_all (has_plain key.now) (values_seen members.now) ≡ true }
-    ensures { OnOk result (string_bytes out.new ≡ string_bytes out.old ++ key_line number (kept_key (values_seen members.now) key.now)) }
+fn push_key(out: &mut String, number: u64, kept: &Kept<'_, '_>) -> Result<(), AllocError>
+    ensures { OnOk result (string_bytes out.new ≡ string_bytes out.old ++ key_line number (key_seen kept.now)) }
 {
-    let alloc: Global = *out.allocator();
-    let values = values_of(alloc, members, key)?;
-    push_key_head(out, number, key)?;
-    push_values(out, &values)?;
+    push_key_head(out, number, kept.key)?;
+    push_values(out, &kept.values)?;
     out.push_str("]\n")
 }
 

@@ -1,19 +1,30 @@
-use Rattle.std.proofs.Common.{filter, ap, ◌++◌, ◌∙◌, Option, Some}
-use Rattle.rule_generator.specs.GeneratedRules.{entries_in, is_kept, keys_in}
-use Rattle.rule_generator.specs.code.Seen.{see, texts_seen, values_seen}
-use Rattle.rule_generator.proofs.KeptKeys.{kept-first}
+use Rattle.std.proofs.Common.{◌≡◌, List, [], Option, ap, sym, subst, ◌∙◌}
+use Rattle.std.proofs.lemmas.Result.{IfOk-weaker}
+use Rattle.std.specs.Global.{Vec}
+use Rattle.std.specs.Prelude.{MatchOption}
+use Rattle.doc_values.specs.declared.cursor.Cursor.{Cursor}
+use Rattle.rule_generator.specs.GeneratedRules.{keys_of}
+use Rattle.rule_generator.specs.code.PropertyMaps.{AreProperties, keys_in_maps}
+use Rattle.rule_generator.specs.code.Seen.{values_seen}
+use Rattle.rule_generator.specs.code.SeenKeys.{keys_seen}
+use Rattle.rule_generator.proofs.KeptKeys.{keys-by-maps}
 use Rattle.rule_generator.proofs.kept.kept_keys.Goals as goal
 use Rattle.rule_meaning.specs.Values.{Value}
 
-pub returns-in_default-entry : goal.returns-in_default-entry
-returns-in_default-entry c =
-    ap texts_seen c.new-keys.ensures.items
-    ∙ ap (λ (o : Option Value). filter (is_kept (values_seen c.args.members.now)) (keys_in (entries_in o))) c.in_default-entry.ensures
-    ∙ kept-first c.args.members.now c.in-Some.first.now c.in-Some.ensures.value
+-- what is said of the maps of elements
+abbrev AreFound : List Value → Option (Vec Cursor) → Type 0
+AreFound alike found = MatchOption found (keys_of alike ≡ []) (λ maps. AreProperties alike (values_seen maps.items))
+
+pub returns-in_default : goal.returns-in_default
+returns-in_default c =
+    let alike : List Value = values_seen c.args.members.now in
+    let none : keys_of alike ≡ [] = subst (AreFound alike) c.in_default.is c.in_ok-maps.ensures in
+    ap keys_seen c.new.ensures.items ∙ sym none
 
 pub returns : goal.returns
 returns c =
-    c.in_ok-push_kept.ensures
-    ∙ ap (λ keys. texts_seen keys ++ filter (is_kept (values_seen c.args.members.now)) (keys_in (entries_in (Some (see c.in-Some-entry.properties))))) c.new-keys.ensures.items
-    ∙ ap (λ (o : Option Value). filter (is_kept (values_seen c.args.members.now)) (keys_in (entries_in o))) c.in-Some-entry.ensures
-    ∙ kept-first c.args.members.now c.in-Some.first.now c.in-Some.ensures.value
+    let alike : List Value = values_seen c.args.members.now in
+    let maps : List Value = values_seen c.in-Some.maps.items in
+    let are : AreProperties alike maps = subst (AreFound alike) c.in-Some.is c.in_ok-maps.ensures in
+    IfOk-weaker c.keys_in_maps.result _ _
+    (λ keys e. e ∙ ap (λ (nodes : List Cursor). keys_in_maps (values_seen nodes)) c.deref.ensures.value ∙ sym (keys-by-maps alike maps are)) c.keys_in_maps.ensures
