@@ -4,12 +4,12 @@ use Rattle.std.specs.Prelude.{ℤ, nat_eq, nat_lt, nat_le, not, ◌||◌, ◌&&�
 use Rattle.yaml_scalars.specs.declared.scalar.Setting.{Setting}
 use Rattle.yaml_scalars.specs.Lines.{Line, Stands, Fails, begins_with, ends_with, is_blank, is_mark, indent, lines}
 use Rattle.yaml_scalars.specs.Plain.{above_of}
-use Rattle.yaml_scalars.specs.Block.{Chomp, Last, Inner, Nothing, Wide, Indented, header_fault, return_behind, is_content, ending, content_more, blank_more, count_break, widest, inner_of, base_of, by_inner, by_digit, block_on}
+use Rattle.yaml_scalars.specs.Block.{Chomp, Clip, Strip, Keep, Last, Inner, Nothing, Wide, Indented, header_fault, return_behind, is_content, ending, content_more, blank_more, count_break, taken_off, widest, inner_of, base_of, by_inner, by_digit, block_on}
 use Rattle.yaml_scalars.specs.Scalar.{begins_quoted, begins_block, plain_scalar, quoted_scalar, block_scalar, scalar_at}
 use Rattle.yaml_scalars.specs.code.Walk.{line_at, has_break, behind}
 use Rattle.yaml_laws.specs.code.Endings.{last_mark}
 use Rattle.yaml_scalars.proofs.Places.{lines_are}
-use Rattle.yaml_scalars.proofs.BlockStates.{more_out}
+use Rattle.yaml_scalars.proofs.BlockStates.{more_line, more_out}
 use Rattle.yaml_scalars.proofs.BlockScalars.{on_fault, on_lines}
 use Rattle.yaml_laws.proofs.Agree.{drop_before, drop_size}
 use Rattle.yaml_laws.proofs.Longer.{glue, joint, rest_of, feed_of, last_line, ended, cut, Ends, StandsTo, no_feed, one_line, lines_more, lines_ended, lines_end}
@@ -47,15 +47,34 @@ empty_to folded chomp inner size at text last e =
     (λ n c r. absurd (cc))
     (λ x y z c r g. (x ++ ending chomp y z, g size []))
 
-empty_digit_to : (folded : Bool) (parent : ℤ) (chomp : Chomp) (size at : ℕ) (digit : Option ℕ) → StandsTo size (by_digit folded parent chomp size digit (rest_of at [] ∷ []))
-empty_digit_to folded parent chomp size at (Some d) = empty_to folded chomp (base_of parent + d) size at [] None 0
-empty_digit_to folded parent chomp size at None = nothing_to folded parent chomp size (rest_of at [] ∷ []) (refl, tt)
+-- behind a header nothing but an empty line: no text
+ending_none : (chomp : Chomp) (size : ℕ) → Stands (ending chomp None 0) size ≡ Stands [] size
+ending_none Strip size = refl
+ending_none Clip size = refl
+ending_none Keep size = refl
 
-header_to : (parent : ℤ) (other place : ℕ) (l : Line) → header_fault false 0 (head_of l.bytes).rest ≡ None → StandsTo other (block_on parent other (joint l (feed_of place) ∷ last_line place ∷ []))
+abbrev none : List ℕ
+none = []
+
+none_left : (n : ℕ) → drop n none ≡ none
+none_left zero = refl
+none_left (suc n) = refl
+
+taken_none : (inner : ℕ) → taken_off inner [] ≡ []
+taken_none inner = by_less (nat_lt 0 inner) where
+  by_less : (q : Bool) → cond q none (drop inner none) ≡ none
+  by_less true = refl
+  by_less false = none_left inner
+
+empty_digit : (folded : Bool) (parent : ℤ) (chomp : Chomp) (size at : ℕ) (digit : Option ℕ) → by_digit folded parent chomp size digit (rest_of at [] ∷ []) ≡ Stands [] size
+empty_digit folded parent chomp size at (Some d) = more_line folded chomp (base_of parent + d) size (rest_of at []) [] [] None 0 [] refl refl (taken_none (base_of parent + d)) ∙ ending_none chomp size
+empty_digit folded parent chomp size at None = ending_none chomp size
+
+header_to : (parent : ℤ) (other place : ℕ) (l : Line) → header_fault false 0 (head_of l.bytes).rest ≡ None → block_on parent other (joint l (feed_of place) ∷ last_line place ∷ []) ≡ Stands [] other
 header_to parent other place l h =
     let new : Line = joint l (feed_of place) in
-    let s = empty_digit_to (begins_with 62 new.bytes) parent (head_of new.bytes).chomp other (suc (suc place)) (head_of new.bytes).digit in
-    (s.0, on_lines parent other new (last_line place ∷ []) (head_of new.bytes) refl (ap (λ (t : List ℕ). header_fault false 0 (head_of t).rest) (append-nil l.bytes) ∙ h) refl ∙ s.1)
+    on_lines parent other new (last_line place ∷ []) (head_of new.bytes) refl (ap (λ (t : List ℕ). header_fault false 0 (head_of t).rest) (append-nil l.bytes) ∙ h) refl
+    ∙ empty_digit (begins_with 62 new.bytes) parent (head_of new.bytes).chomp other (suc (suc place)) (head_of new.bytes).digit
 
 -- a line is content without its carriage return
 still_content : (inner : ℕ) (f : List ℕ) → is_mark f ≡ false → is_content inner (f ++ (13 ∷ [])) ≡ true → is_content inner f ≡ true
@@ -148,7 +167,7 @@ digit_fed folded parent chomp size other place r None ks x mark h = by_in (inner
   ]
 
 block_fed : (parent : ℤ) (size other place : ℕ) (r : Bool) (l : Line) (ks : List Line) → Ends place r (l ∷ ks) → last_mark ks ≡ false → block_on parent size (cut (l ∷ ks) place) ≡ Fails (suc place) → StandsTo other (block_on parent other (glue (l ∷ ks) (ended place [])))
-block_fed parent size other place r l [] x mark h = header_to parent other place l (header_returned parent size place r l x h)
+block_fed parent size other place r l [] x mark h = ([], header_to parent other place l (header_returned parent size place r l x h))
 block_fed parent size other place r l (m ∷ ks) (x, y, z) mark h =
     block_cases l
     (λ n e. absurd (let k = early parent size (suc place) l (cut (m ∷ ks) place) n e h in omega (arith, k, x)))
@@ -203,7 +222,7 @@ block_returned_ends s front at l q b mark h =
     )
 
 -- a header that the text ends
-header_text : (s : Setting) (text : List ℕ) (at : ℕ) → at ≤ length text → ends_with 13 (drop at text) ≡ false → no_feed (drop at text) ≡ true → block_scalar s text at ≡ Fails (length text) → StandsTo (length (text ++ (13 ∷ 10 ∷ []))) (block_scalar s (text ++ (13 ∷ 10 ∷ [])) at)
+header_text : (s : Setting) (text : List ℕ) (at : ℕ) → at ≤ length text → ends_with 13 (drop at text) ≡ false → no_feed (drop at text) ≡ true → block_scalar s text at ≡ Fails (length text) → block_scalar s (text ++ (13 ∷ 10 ∷ [])) at ≡ Stands [] (length (text ++ (13 ∷ 10 ∷ [])))
 header_text s text at l last one h =
     let d = drop at text in
     let place = at + length d in
@@ -211,18 +230,14 @@ header_text s text at l last one h =
     let is : lines at (drop at text) ≡ rest_of at (drop at text) ∷ [] = one_line at (drop at text) one in
     let size : length text ≡ at + length (drop at text) = (let z = drop_size at text l in sym z) in
     let none = header_ended s.parent (at + length (drop at text)) (length text) (rest_of at (drop at text)) (refl, refl, λ e. absurd (true≢false (sym e ∙ last))) (sym (ap (block_on s.parent (length text)) is) ∙ h ∙ ap Fails size) in
-    let z = header_to s.parent (length new) place (rest_of at (drop at text)) none in
-    (z.0, ap (block_on s.parent (length new)) (ap (lines at) (drop_before at text (13 ∷ 10 ∷ []) l) ∙ lines_ended at (drop at text) [] refl ∙ ap (λ ls. glue ls (ended place [])) is) ∙ z.1)
+    ap (block_on s.parent (length new)) (ap (lines at) (drop_before at text (13 ∷ 10 ∷ []) l) ∙ lines_ended at (drop at text) [] refl ∙ ap (λ ls. glue ls (ended place [])) is) ∙ header_to s.parent (length new) place (rest_of at (drop at text)) none
 
 pub header_ends : (s : Setting) (text : List ℕ) (at : ℕ) → at < length text → begins_quoted (drop at text) ≡ false → begins_block s (drop at text) ≡ true → ends_with 13 (drop at text) ≡ false → no_feed (drop at text) ≡ true
-    → scalar_at s text at ≡ Fails (length text) → (t : List ℕ) × (scalar_at s (text ++ (13 ∷ 10 ∷ [])) at ≡ Stands t (length (text ++ (13 ∷ 10 ∷ []))))
+    → scalar_at s text at ≡ Fails (length text) → scalar_at s (text ++ (13 ∷ 10 ∷ [])) at ≡ Stands [] (length (text ++ (13 ∷ 10 ∷ [])))
 header_ends s text at l q b last one h =
     let block : block_scalar s text at ≡ Fails (length text) =
     sym (ap (λ r. cond r (quoted_scalar s text at) (cond (begins_block s (drop at text)) (block_scalar s text at) (plain_scalar s text at))) q ∙ ap (λ r. cond r (block_scalar s text at) (plain_scalar s text at)) b) ∙ h in
-    let z = header_text s text at (omega (arith, l)) last one block in (
-      z.0,
-      kind_longer s text (13 ∷ 10 ∷ []) at (scalar_at s text at) (Stands z.0 (length (text ++ (13 ∷ 10 ∷ [])))) l
-          (λ r g. absurd (true≢false (sym r ∙ q)))
-          (λ r k g. z.1)
-          (λ r k g. absurd (true≢false (sym b ∙ k))) refl,
-    )
+    kind_longer s text (13 ∷ 10 ∷ []) at (scalar_at s text at) (Stands [] (length (text ++ (13 ∷ 10 ∷ [])))) l
+    (λ r g. absurd (true≢false (sym r ∙ q)))
+    (λ r k g. header_text s text at (omega (arith, l)) last one block)
+    (λ r k g. absurd (true≢false (sym b ∙ k))) refl

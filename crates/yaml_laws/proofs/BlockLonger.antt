@@ -2,9 +2,9 @@
 use Rattle.std.proofs.Common.{◌≡◌, ℕ, zero, suc, ◌+◌, ◌-◌, ◌<◌, ◌≤◌, ◌⊎◌, Bool, true, false, List, [], ◌∷◌, ◌++◌, length, drop, refl, sym, ap, inl, inr, ◌∙◌, arith, cond, subst, Option, Some, None, append-nil, length-append, length-drop}
 use Rattle.std.specs.Prelude.{ℤ, nat_eq, nat_lt, ◌||◌, ◌&&◌}
 use Rattle.std.proofs.lemmas.Bool.Decides.{nat_tests}
-use Rattle.yaml_scalars.specs.Lines.{Line, Outcome, Stands, Fails, begins_with, ends_with, is_white, is_blank, is_mark, is_end, lead, indent}
+use Rattle.yaml_scalars.specs.Lines.{Line, Outcome, Stands, Fails, begins_with, ends_with, is_white, is_blank, is_mark, is_end, lead, indent, newlines}
 use Rattle.yaml_scalars.specs.Plain.{above_of}
-use Rattle.yaml_scalars.specs.Block.{Chomp, Last, Inner, Nothing, Wide, Indented, header_fault, return_behind, is_content, ending, content_more, blank_more, count_break, same, mark_len, may_end, shown, widest, inner_of, base_of, by_inner, by_digit, block_on}
+use Rattle.yaml_scalars.specs.Block.{Chomp, Clip, Strip, Keep, Last, Inner, Nothing, Wide, Indented, header_fault, return_behind, is_content, ending, content_more, blank_more, count_break, same, mark_len, may_end, shown, widest, inner_of, base_of, by_inner, by_digit, block_on}
 use Rattle.yaml_laws.proofs.Longer.{glue, joint, rest_of, feed_of, last_line, ended, cut, IsRest, Ends, ends_last, IsScalar}
 use Rattle.yaml_scalars.proofs.BlockLines.{moved, shown_le}
 use Rattle.yaml_scalars.proofs.BlockStates.{more_out}
@@ -217,7 +217,7 @@ block_returned parent size other place r (l ∷ m ∷ ks) (x, y, z) h =
     (s.0, s.1, on_lines parent other l (glue (m ∷ ks) (ended place [])) (head_of l.bytes) refl e b ∙ s.2))
 
 -- without a carriage return at the end, no content fails there
-content_not : (folded : Bool) (chomp : Chomp) (inner size most : ℕ) (ls : List Line) (text : List ℕ) (last : Option Last) (e : ℕ) → Ends size false ls → content_more folded chomp inner most ls text last e ≡ Fails size → ⊥
+pub content_not : (folded : Bool) (chomp : Chomp) (inner size most : ℕ) (ls : List Line) (text : List ℕ) (last : Option Last) (e : ℕ) → Ends size false ls → content_more folded chomp inner most ls text last e ≡ Fails size → ⊥
 content_not folded chomp inner size most [] text last e x h = x
 content_not folded chomp inner size most (l ∷ []) text last e (x, y, z) h =
     content_cases folded chomp inner l text last e
@@ -235,7 +235,7 @@ content_not folded chomp inner size most (l ∷ m ∷ ls) text last e (x, y, z) 
       returned n c q = rw (c, q)
 
 -- a line that is a part of a mark, and what is missing of it
-abbrev IsPart : List ℕ → Type 0
+abbrev pub IsPart : List ℕ → Type 0
 IsPart f = (d : ℕ) × ((nat_eq d 45 || nat_eq d 46) ≡ true) × ((f ≡ d ∷ []) ⊎ (f ≡ d ∷ d ∷ []))
 
 same_le : (a n : ℕ) (bs : List ℕ) → same a n bs ≤ n
@@ -256,7 +256,7 @@ mark_part (a ∷ b ∷ c ∷ d ∷ f) m l e = absurd (let z : mark_len (a ∷ b 
   by_first true = let h = same_le a 2 (b ∷ c ∷ d ∷ f) in omega (arith, h)
   by_first false = omega arith
 
-shown_part : (f : List ℕ) → is_blank f ≡ false → is_mark f ≡ false → (ends_with 13 f ≡ true → false ≡ true) → shown f ≡ length f → IsPart f
+pub shown_part : (f : List ℕ) → is_blank f ≡ false → is_mark f ≡ false → (ends_with 13 f ≡ true → false ≡ true) → shown f ≡ length f → IsPart f
 shown_part f b m r h =
     cases (begins_with 13 (drop n f) && may_end (mark_len f))
     (λ q. absurd (let e : suc n ≡ length f = sym (ap (λ q. cond q (suc n) n) q) ∙ h in
@@ -342,9 +342,9 @@ IsLastLine p f (l ∷ m ∷ ls) = IsLastLine p f (m ∷ ls)
 abbrev pub IsTorn : List ℕ → List ℕ → Type 0
 IsTorn f v = (d : ℕ) × ((nat_eq d 45 || nat_eq d 46) ≡ true) × (((f ≡ d ∷ []) × (v ≡ d ∷ d ∷ [])) ⊎ ((f ≡ d ∷ d ∷ []) × (v ≡ d ∷ [])))
 
--- with those, a scalar of nothing but blank lines ends before the mark
+-- with those, a scalar of nothing but blank lines ends before the mark, and its text is nothing but newlines
 abbrev pub EndsTorn : (ℕ → List Line → Outcome) → ℕ → List Line → Type 0
-EndsTorn F size ls = (p : ℕ) × (f v : List ℕ) × IsLastLine p f ls × IsTorn f v × ((other : ℕ) → (t : List ℕ) × (F other (glue ls (rest_of size v ∷ [])) ≡ Stands t p))
+EndsTorn F size ls = (p : ℕ) × (f v : List ℕ) × IsLastLine p f ls × IsTorn f v × ((other : ℕ) → (k : ℕ) × (F other (glue ls (rest_of size v ∷ [])) ≡ Stands (newlines k) p))
 
 torn_part : (f : List ℕ) → IsPart f → (v : List ℕ) × IsTorn f v × (is_blank (f ++ v) ≡ false) × (is_mark (f ++ v) ≡ true)
 torn_part f (d, h, inl e) = (d ∷ d ∷ [], (d, h, inl (e, refl)), ap (λ t. is_blank (t ++ (d ∷ d ∷ []))) e ∙ grind (arith, nat_tests, h), ap (λ t. is_mark (t ++ (d ∷ d ∷ []))) e ∙ grind (arith, nat_tests, h))
@@ -354,7 +354,12 @@ torn_part f (d, h, inr e) = (d ∷ [], (d, h, inr (e, refl)), ap (λ t. is_blank
 abbrev IsTornLines : ℕ → ℕ → ℕ → List Line → Type 0
 IsTornLines above w size ls =
     (p : ℕ) × (f v : List ℕ) × IsLastLine p f ls × IsTorn f v × (inner_of above w (glue ls (rest_of size v ∷ [])) ≡ Nothing)
-    × ((chomp : Chomp) (other e : ℕ) → (t : List ℕ) × (blank_more chomp other (glue ls (rest_of size v ∷ [])) e ≡ Stands t p))
+    × ((chomp : Chomp) (other e : ℕ) → (k : ℕ) × (blank_more chomp other (glue ls (rest_of size v ∷ [])) e ≡ Stands (newlines k) p))
+
+ending_lines : (chomp : Chomp) (e : ℕ) → (k : ℕ) × (ending chomp None e ≡ newlines k)
+ending_lines Strip e = (0, refl)
+ending_lines Clip e = (0, refl)
+ending_lines Keep e = (e, refl)
 
 torn_lines : (above w size : ℕ) (ls : List Line) → Ends size false ls → inner_of above w ls ≡ Wide size → IsTornLines above w size ls
 torn_lines above w size [] x h = absurd x
@@ -368,7 +373,7 @@ torn_lines above w size (l ∷ []) (x, y, z) h = cases (is_blank l.bytes) (λ b.
       (refl, refl),
       p.1,
       over_first above w (joint l (rest_of size p.0)) [] p.2 ∙ first_mark above w (joint l (rest_of size p.0)) p.3,
-      (λ chomp other e. (ending chomp None e, ap (λ q. cond q (blank_more chomp other [] (count_break false e)) (Stands (ending chomp None e) l.at)) p.2)),
+      (λ chomp other e. (let k = ending_lines chomp e in (k.0, ap (λ q. cond q (blank_more chomp other [] (count_break false e)) (Stands (ending chomp None e) l.at)) p.2 ∙ ap (λ t. Stands t l.at) k.1))),
     ))
 torn_lines above w size (l ∷ m ∷ ls) (x, y, z) h =
     cases (is_blank l.bytes)

@@ -9,7 +9,7 @@ use Rattle.yaml_laws.proofs.Agree.{SameAhead, drop_before}
 use Rattle.yaml_laws.proofs.BlockHeads.{cases, return_ranges}
 
 -- what stands in front, and whether the line goes on, does not depend on what stands behind
-lead_same : (p : ℕ → Bool) (g : List ℕ) (b : ℕ) (u v : List ℕ) → lead p (g ++ (b ∷ u)) ≤ length g → lead p (g ++ (b ∷ v)) ≡ lead p (g ++ (b ∷ u))
+pub lead_same : (p : ℕ → Bool) (g : List ℕ) (b : ℕ) (u v : List ℕ) → lead p (g ++ (b ∷ u)) ≤ length g → lead p (g ++ (b ∷ v)) ≡ lead p (g ++ (b ∷ u))
 lead_same p [] b u v l = by_byte (p b) l where
   by_byte : (q : Bool) → cond q (suc (lead p u)) 0 ≤ 0 → cond q (suc (lead p v)) 0 ≡ cond q (suc (lead p u)) 0
   by_byte true l = absurd (omega arith)

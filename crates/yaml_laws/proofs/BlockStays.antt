@@ -7,7 +7,7 @@ use Rattle.yaml_scalars.specs.declared.scalar.Setting.{Setting}
 use Rattle.yaml_scalars.specs.Lines.{Line, Stands, begins_with, is_blank, is_mark, indent, lines}
 use Rattle.yaml_scalars.specs.Plain.{above_of}
 use Rattle.yaml_scalars.specs.Block.{Chomp, Last, Inner, Nothing, Wide, Indented, is_content, ending, content_more, blank_more, count_break, shown, widest, inner_of, base_of, by_inner, by_digit, block_on}
-use Rattle.yaml_laws.specs.code.Agreement.{end_shown}
+use Rattle.yaml_laws.specs.code.Agreement.{out_shown}
 use Rattle.yaml_scalars.specs.code.Walk.{line_at}
 use Rattle.yaml_scalars.specs.Scalar.{block_scalar}
 use Rattle.yaml_laws.proofs.Agree.{Later, Shares, texts_share}
@@ -15,7 +15,7 @@ use Rattle.yaml_scalars.proofs.BlockStates.{more_out, more_return}
 use Rattle.yaml_scalars.proofs.BlockScalars.{on_fault, on_none, on_lines}
 use Rattle.yaml_laws.proofs.BlockHeads.{cases}
 use Rattle.yaml_laws.proofs.BlockLaw.{fails_not, content_cases, blank_return, first, first_in, over_blank, over_first, alike_content, head_of, block_cases}
-use Rattle.yaml_laws.proofs.LineEnds.{AreOf, lines_of, mark_full, EndsAlike, ends_alike}
+use Rattle.yaml_laws.proofs.LineEnds.{AreOf, lines_of, mark_full, OutAlike, outs_alike}
 
 same_end : (t u : List ℕ) (e f : ℕ) → Stands t e ≡ Stands u f → e ≡ f
 same_end t u e f h = cc
@@ -48,14 +48,16 @@ blank_content inner xs h = cases (is_mark xs) (λ m. absurd (true≢false (sym h
 out_full : (inner : ℕ) (xs : List ℕ) → is_content inner xs ≡ false → is_blank xs ≡ false
 out_full inner xs c = cases (is_blank xs) (λ b. absurd (true≢false (sym (blank_content inner xs b) ∙ c))) (λ b. b)
 
-out_same : (inner : ℕ) (l m : List ℕ) → EndsAlike l m → is_content inner l ≡ false → is_content inner m ≡ false
-out_same inner l m a c = cases (is_mark l) (λ k. ap (λ q. not q && (is_blank m || nat_le inner (indent m))) (a.mark ∙ k)) (λ k. alike_content inner l m (a.alike k) ∙ c)
+out_same : (inner : ℕ) (l m : List ℕ) → OutAlike l m → is_content inner l ≡ false → is_content inner m ≡ false
+out_same inner l m a c = cases (is_mark l) (λ k. marked (a.mark k)) (λ k. cases (is_mark m) marked (λ n. alike_content inner l m (record { full = out_full inner l c; other_full = a.full; mark = n ∙ sym k; indented = a.indented k }) ∙ c)) where
+  marked : is_mark m ≡ true → is_content inner m ≡ false
+  marked n = ap (λ q. not q && (is_blank m || nat_le inner (indent m))) n
 
 -- the line of the end shows it in time
-module _ (text0 : List ℕ) (p e : ℕ) (near : e + end_shown (line_at (drop e text0)) ≤ p) where
-  at_end : (l : Line) → l.bytes ≡ line_at (drop l.at text0) → l.at ≡ e → l.at + end_shown l.bytes ≤ p
+module _ (text0 : List ℕ) (p e : ℕ) (near : e + out_shown (line_at (drop e text0)) ≤ p) where
+  at_end : (l : Line) → l.bytes ≡ line_at (drop l.at text0) → l.at ≡ e → l.at + out_shown l.bytes ≤ p
   at_end l i k =
-      let z : end_shown l.bytes ≡ end_shown (line_at (drop e text0)) = ap end_shown (i ∙ ap (λ n. line_at (drop n text0)) k) in
+      let z : out_shown l.bytes ≡ out_shown (line_at (drop e text0)) = ap out_shown (i ∙ ap (λ n. line_at (drop n text0)) k) in
       omega (arith, near, z, k)
 
   content_stays : (folded : Bool) (chomp : Chomp) (inner size other : ℕ) (ls ms : List Line) (text : List ℕ) (last : Option Last) (n : ℕ) (t : List ℕ) → p < size → AreOf text0 ls → Shares p ls ms → content_more folded chomp inner size ls text last n ≡ Stands t e → content_more folded chomp inner other ms text last n ≡ Stands t e
@@ -77,7 +79,7 @@ module _ (text0 : List ℕ) (p e : ℕ) (near : e + end_shown (line_at (drop e t
       content_cases folded chomp inner l text last n
       (λ c. (let out = sym (more_out folded chomp inner size l ls text last n c) ∙ h in
       let k = same_end _ t l.at e out in
-      let a = ends_alike p l.at l.bytes m.bytes q.1 (out_full inner l.bytes c) (at_end l o.0 k) in
+      let a = outs_alike p l.at l.bytes m.bytes q.1 (out_full inner l.bytes c) (at_end l o.0 k) in
       more_out folded chomp inner other m ms text last n (out_same inner l.bytes m.bytes a c) ∙ ap (Stands (text ++ ending chomp last n)) (sym q.0) ∙ out))
       (λ j c r. absurd (fails_not _ t e (sym (more_return folded chomp inner size l ls text last n j c r) ∙ h)))
       (λ x y z c r g. (let k = content_later folded chomp inner size p ls x y z t e s q.2 (sym (g size ls) ∙ h) in absurd (omega (arith, k, near))))
@@ -89,12 +91,17 @@ module _ (text0 : List ℕ) (p e : ℕ) (near : e + end_shown (line_at (drop e t
   before : (chomp : Chomp) (size : ℕ) (l : Line) (ls : List Line) (n : ℕ) → is_blank l.bytes ≡ false → blank_more chomp size (l ∷ ls) n ≡ Stands (ending chomp None n) l.at
   before chomp size l ls n b = ap (λ q. cond q (blank_more chomp size ls (count_break l.broken n)) (Stands (ending chomp None n) l.at)) b
 
-  none_first : (above w : ℕ) (l m : Line) → EndsAlike l.bytes m.bytes → first above w l ≡ Nothing → first above w m ≡ Nothing
-  none_first above w l m a h = cases (is_mark l.bytes) (λ k. ap (λ q. cond (q || nat_lt (indent m.bytes) above) Nothing (cond (nat_lt (indent m.bytes) w) (Wide (m.at + shown m.bytes)) (Indented (indent m.bytes)))) (a.mark ∙ k)) (λ k. less k (nat_lt (indent l.bytes) above) refl (nat_lt (indent l.bytes) w) (sym (ap (λ q. cond (q || nat_lt (indent l.bytes) above) Nothing (cond (nat_lt (indent l.bytes) w) (Wide (l.at + shown l.bytes)) (Indented (indent l.bytes)))) k) ∙ h)) where
+  none_first : (above w : ℕ) (l m : Line) → OutAlike l.bytes m.bytes → first above w l ≡ Nothing → first above w m ≡ Nothing
+  none_first above w l m a h = cases (is_mark l.bytes) (λ k. marked (a.mark k)) (λ k. less k (nat_lt (indent l.bytes) above) refl (nat_lt (indent l.bytes) w) (sym (ap (λ q. cond (q || nat_lt (indent l.bytes) above) Nothing (cond (nat_lt (indent l.bytes) w) (Wide (l.at + shown l.bytes)) (Indented (indent l.bytes)))) k) ∙ h)) where
+    marked : is_mark m.bytes ≡ true → first above w m ≡ Nothing
+    marked n = ap (λ q. cond (q || nat_lt (indent m.bytes) above) Nothing (cond (nat_lt (indent m.bytes) w) (Wide (m.at + shown m.bytes)) (Indented (indent m.bytes)))) n
+
     less : is_mark l.bytes ≡ false → (b : Bool) → nat_lt (indent l.bytes) above ≡ b → (v : Bool) → cond b Nothing (cond v (Wide (l.at + shown l.bytes)) (Indented (indent l.bytes))) ≡ Nothing → first above w m ≡ Nothing
     less k true i v g =
-        ap (λ q. cond (q || nat_lt (indent m.bytes) above) Nothing (cond (nat_lt (indent m.bytes) w) (Wide (m.at + shown m.bytes)) (Indented (indent m.bytes)))) (a.mark ∙ k)
-        ∙ ap (λ q. cond q Nothing (cond (nat_lt (indent m.bytes) w) (Wide (m.at + shown m.bytes)) (Indented (indent m.bytes)))) (ap (λ j. nat_lt j above) (a.alike k).indented ∙ i)
+        ap (λ q. cond (is_mark m.bytes || q) Nothing (cond (nat_lt (indent m.bytes) w) (Wide (m.at + shown m.bytes)) (Indented (indent m.bytes)))) (ap (λ j. nat_lt j above) (a.indented k) ∙ i) ∙ either (is_mark m.bytes) where
+          either : (q : Bool) → cond (q || true) Nothing (cond (nat_lt (indent m.bytes) w) (Wide (m.at + shown m.bytes)) (Indented (indent m.bytes))) ≡ Nothing
+          either true = refl
+          either false = refl
     less k false i true g = absurd (cc)
     less k false i false g = absurd (cc)
 
@@ -116,7 +123,7 @@ module _ (text0 : List ℕ) (p e : ℕ) (near : e + end_shown (line_at (drop e t
       cases (is_blank l.bytes)
       (λ b. (let k = blank_later chomp size p ls (count_break l.broken n) t e s q.2 (sym (over chomp size l ls n b) ∙ h) in absurd (omega (arith, k, near))))
       (λ b. (let out = sym (before chomp size l ls n b) ∙ h in
-      let a = ends_alike p l.at l.bytes m.bytes q.1 b (at_end l o.0 (same_end _ t l.at e out)) in
+      let a = outs_alike p l.at l.bytes m.bytes q.1 b (at_end l o.0 (same_end _ t l.at e out)) in
       (over_first above w m ms a.full ∙ none_first above w l m a (sym (over_first above w l ls b) ∙ i), before chomp other m ms n a.full ∙ ap (Stands (ending chomp None n)) (sym q.0) ∙ out)))
 
   -- the indentation is the same
@@ -180,7 +187,7 @@ module _ (text0 : List ℕ) (p e : ℕ) (near : e + end_shown (line_at (drop e t
       block_cases l (λ n f. absurd (fails_not _ t e (sym (on_fault parent size l ls (head_of l.bytes) n refl f) ∙ h))) (λ f b. absurd (fails_not _ t e (sym (on_none parent size l ls (head_of l.bytes) refl f b) ∙ h)))
       (λ f b. absurd (digit_later (begins_with 62 l.bytes) parent (head_of l.bytes).chomp size (head_of l.bytes).digit ls t s (elim q [ inl i ↦ i.2 | inr i ↦ i.2 ]) (sym (on_lines parent size l ls (head_of l.bytes) refl f b) ∙ h)))
 
-pub block_stays : (s : Setting) (before rest more : List ℕ) (b at : ℕ) (t : List ℕ) (e : ℕ) → at ≤ length before → e + end_shown (line_at (drop e (before ++ (b ∷ rest)))) ≤ length before → block_scalar s (before ++ (b ∷ rest)) at ≡ Stands t e → block_scalar s (before ++ (b ∷ more)) at ≡ Stands t e
+pub block_stays : (s : Setting) (before rest more : List ℕ) (b at : ℕ) (t : List ℕ) (e : ℕ) → at ≤ length before → e + out_shown (line_at (drop e (before ++ (b ∷ rest)))) ≤ length before → block_scalar s (before ++ (b ∷ rest)) at ≡ Stands t e → block_scalar s (before ++ (b ∷ more)) at ≡ Stands t e
 block_stays s before rest more b at t e l near h =
     let text : List ℕ = before ++ (b ∷ rest) in
     let size : length before < length text = omega (arith, length-append before (b ∷ rest)) in

@@ -8,9 +8,9 @@ use Rattle.yaml_scalars.specs.Quoted.{Piece, Itself, Closes, Means, Joins, Retur
 use Rattle.yaml_laws.proofs.Agree.{drop_before, drop_size}
 use Rattle.yaml_scalars.proofs.EscapeLines.{digits_long}
 
--- a byte of ASCII that is no white space, no part of a break and no part of a mark
+-- a byte of ASCII that is no white space, no part of a break and no part of a mark, and ends no escape of a dot
 abbrev pub is_fit : ℕ → Bool
-is_fit b = nat_lt b 128 && not (nat_eq b 10 || nat_eq b 13 || is_white b || nat_eq b 45 || nat_eq b 46)
+is_fit b = nat_lt b 128 && not (nat_eq b 10 || nat_eq b 13 || is_white b || nat_eq b 45 || nat_eq b 46 || nat_eq b 69 || nat_eq b 101)
 
 abbrev pub AllFit : List ℕ → Type 0
 AllFit w = each is_fit w ≡ true

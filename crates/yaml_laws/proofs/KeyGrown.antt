@@ -15,7 +15,7 @@ use Rattle.yaml_scalars.proofs.Places.{lines_are}
 use Rattle.yaml_laws.specs.code.Endings.{letters}
 use Rattle.yaml_laws.specs.code.Refusals.{is_ascii}
 use Rattle.yaml_laws.proofs.Agree.{drop_before}
-use Rattle.yaml_laws.proofs.EscapeLonger.{is_fit}
+use Rattle.yaml_laws.proofs.EscapeLonger.{is_fit, AllFit}
 use Rattle.yaml_laws.proofs.KeyLines.{by_kind}
 use Rattle.yaml_laws.proofs.Longer.{rest_of, no_feed, one_line}
 use Rattle.yaml_laws.proofs.PlainFollowed.{trimmed_le}
@@ -553,8 +553,8 @@ module _ (s : Setting) (one : s.one_line ≡ true) (text : List ℕ) (at : ℕ) 
           by_flow false = refl
 
         by_quote : (q : Bool) → begins_quoted (drop at text) ≡ q
-            → (c : ℕ) × (v t : List ℕ) × (is_fit c ≡ true) × (no_feed v ≡ true) × (each is_ascii (c ∷ v) ≡ true) × (scalar_at s (text ++ (c ∷ v)) at ≡ Stands t (length (text ++ (c ∷ v)))) × ((begins_quoted (drop at text) ≡ true) ⊎ (ends_with 97 t ≡ true)) → IsLongKey s text at (suc n)
-        by_quote true q (c, v, t, fit, feed, small, stands, d) =
+            → (c : ℕ) × (v t : List ℕ) × (is_fit c ≡ true) × (no_feed v ≡ true) × (each is_ascii (c ∷ v) ≡ true) × (scalar_at s (text ++ (c ∷ v)) at ≡ Stands t (length (text ++ (c ∷ v)))) × ((begins_quoted (drop at text) ≡ true) ⊎ (ends_with 97 t ≡ true)) × AllFit (c ∷ v) → IsLongKey s text at (suc n)
+        by_quote true q (c, v, t, fit, feed, small, stands, d, all) =
             quoted_long c v t fit feed small q (sym (by_kind s (text ++ (c ∷ v)) at one ∙ ap (λ p. cond p (quoted_scalar s (text ++ (c ∷ v)) at) (plain_scalar s (text ++ (c ∷ v)) at)) (quoted_longer text (c ∷ v) at l ∙ q)) ∙ stands)
-        by_quote false q (c, v, t, fit, feed, small, stands, d) =
+        by_quote false q (c, v, t, fit, feed, small, stands, d, all) =
             plain_long c v t fit feed small q (sym (by_kind s (text ++ (c ∷ v)) at one ∙ ap (λ p. cond p (quoted_scalar s (text ++ (c ∷ v)) at) (plain_scalar s (text ++ (c ∷ v)) at)) (quoted_longer text (c ∷ v) at l ∙ q)) ∙ stands)

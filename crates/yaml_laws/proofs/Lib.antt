@@ -6,6 +6,15 @@ pub mod BlockLaw
 pub mod BlockLonger
 pub mod BlockShown
 mod BlockStays
+pub mod BlockTorn
+pub mod DotEscapes
+pub mod DotFilled
+pub mod DotLines
+pub mod DotPieces
+pub mod DotPlain
+pub mod DotQuoted
+pub mod Dotless
+pub mod Dotted
 pub mod EscapeLonger
 mod EscapeWanted
 mod Examples
@@ -21,6 +30,7 @@ mod PlainEnds
 pub mod PlainFed
 mod PlainFollowed
 pub mod PlainLaw
+pub mod PlainLettered
 pub mod PlainLines
 mod PlainLonger
 pub mod PlainPointed

@@ -9,15 +9,14 @@ use Rattle.yaml_scalars.specs.declared.plain_line.Below.{Below}
 use Rattle.yaml_scalars.specs.declared.plain_line.Below.TheVariants.{Blank, Outside, Further}
 use Rattle.yaml_scalars.specs.Lines.{Line, Outcome, Stands, Fails, begins_with, begins_break, is_white, is_space, is_blank, is_mark, is_cut_mark, lead, indent, past_white, each, fold, lines}
 use Rattle.yaml_scalars.specs.Plain.{above_of, plain_len, content, content_end, reason, content_at, inside, below, ends_on, joins, further, more, first, plain_on}
-use Rattle.yaml_scalars.specs.Block.{mark_len, may_end, shown}
-use Rattle.yaml_laws.specs.code.Agreement.{end_shown, shown_by, part_shown, line_shown, more_shown, plain_shown}
+use Rattle.yaml_laws.specs.code.Agreement.{out_shown, shown_by, part_shown, line_shown, more_shown, plain_shown}
 use Rattle.yaml_scalars.specs.code.Walk.{line_at, has_break, behind}
 use Rattle.yaml_scalars.specs.Scalar.{is_first_column, plain_scalar}
 use Rattle.yaml_scalars.proofs.Places.{lines_are}
 use Rattle.yaml_laws.proofs.Agree.{Later, Shares, texts_share, drop_before, drop_size}
 use Rattle.yaml_laws.proofs.BlockHeads.{cases}
 use Rattle.yaml_laws.proofs.BlockShown.{blank_not, spaces_less}
-use Rattle.yaml_laws.proofs.LineEnds.{AreOf, lines_of, mark_four, EndsAlike, ends_alike}
+use Rattle.yaml_laws.proofs.LineEnds.{AreOf, lines_of, mark_four, OutAlike, outs_alike}
 use Rattle.yaml_laws.proofs.PlainLaw.{dash}
 use Rattle.yaml_laws.proofs.QuotedLaw.{lead_some}
 use Rattle.yaml_laws.proofs.QuotedStays.{mark_front}
@@ -135,11 +134,9 @@ more_later s size p (l ∷ ls) z w = by_below (below s l.bytes) (more_later s si
   by_below Outside r = let a = w.0 in omega (arith, a)
   by_below (Further n) r = let a = w.0 in part_later (reason s.flow (drop n l.bytes)) p (l.at + n + plain_len s.flow false (drop n l.bytes)) (more_shown s size ls) (omega (arith, a)) r
 
-lead_shown : (xs : List ℕ) → lead is_white xs ≤ shown xs
-lead_shown xs = by_byte (begins_with 13 (drop (lead is_white xs + mark_len xs) xs) && may_end (mark_len xs)) where
-  by_byte : (q : Bool) → lead is_white xs ≤ cond q (suc (lead is_white xs + mark_len xs)) (lead is_white xs + mark_len xs)
-  by_byte true = omega arith
-  by_byte false = omega arith
+white_least : (n : ℕ) (q : Bool) → n ≤ cond q (suc n) n
+white_least n true = omega arith
+white_least n false = omega arith
 
 dashes_white : (f : List ℕ) → each dash f ≡ true → lead is_white f ≡ 0
 dashes_white [] h = refl
@@ -166,23 +163,23 @@ module _ (s : Setting) (at p : ℕ) (g : List ℕ) (b : ℕ) (l m u v : List ℕ
   unfolding front
   in_m = em ∙ sym (append_assoc g (b ∷ []) v)
 
-  outside_same : below s l ≡ Outside → is_blank l ≡ false → at + end_shown l ≤ p → below s m ≡ Outside
-  outside_same h full near = cases (is_mark l) marks others where
-    a : EndsAlike l m
-    a = ends_alike p at l m (g, b ∷ u, b ∷ v, el, em, size, inl (b, u, v, refl, refl)) full near
+  outside_same : below s l ≡ Outside → is_blank l ≡ false → at + out_shown l ≤ p → below s m ≡ Outside
+  outside_same h full near = cases (is_mark l) (λ k. marks (a.mark k)) (λ k. cases (is_mark m) marks (others k)) where
+    a : OutAlike l m
+    a = outs_alike p at l m (g, b ∷ u, b ∷ v, el, em, size, inl (b, u, v, refl, refl)) full near
 
-    marks : is_mark l ≡ true → below s m ≡ Outside
-    marks k = below_is s m true a.full (a.mark ∙ k)
+    marks : is_mark m ≡ true → below s m ≡ Outside
+    marks k = below_is s m true a.full k
 
-    others : is_mark l ≡ false → below s m ≡ Outside
-    others k =
-        let some : end_shown l ≡ shown l = ap (λ q. cond q 4 (shown l)) k in
-        let x = lead_shown l in
+    others : is_mark l ≡ false → is_mark m ≡ false → below s m ≡ Outside
+    others k n =
+        let some : out_shown l ≡ cond (begins_with 13 (drop (lead is_white l) l)) (suc (lead is_white l)) (lead is_white l) = ap (λ q. cond q 4 (cond (begins_with 13 (drop (lead is_white l) l)) (suc (lead is_white l)) (lead is_white l))) k in
+        let x = white_least (lead is_white l) (begins_with 13 (drop (lead is_white l) l)) in
         let y = ap (lead is_white) in_l in
         let z = long in
         let low : lead is_white (front ++ u) < length front = omega (arith, some, x, y, z, near, size) in
         let f : lead is_white front < length front = let c = lead_cut is_white front u low in omega (arith, c, low) in
-        ap (below s) in_m ∙ below_same s front u v f (sym (ap is_mark in_m) ∙ a.mark ∙ ap is_mark in_l) ∙ sym (ap (below s) in_l) ∙ h
+        ap (below s) in_m ∙ below_same s front u v f (sym (ap is_mark in_m) ∙ n ∙ sym k ∙ ap is_mark in_l) ∙ sym (ap (below s) in_l) ∙ h
 
   further_same : (n : ℕ) → below s l ≡ Further n → shown_by (reason s.flow (drop n l)) (at + n + plain_len s.flow false (drop n l)) ≤ p → (below s m ≡ Further n) × PartSame s.flow (drop n l) (drop n m)
   further_same n h near =

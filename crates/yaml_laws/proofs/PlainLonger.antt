@@ -270,7 +270,7 @@ last_colon s size at n f t e k end b c =
             past [] = refl
             past (x ∷ g) = let e : suc (length g) + 2 ≡ suc (length g + 2) = omega arith in ap (λ j. drop j (x ∷ (g ++ (58 ∷ 97 ∷ [])))) e ∙ past g
 
-no_last_return : (s : Setting) (size at n : ℕ) (f : List ℕ) → at + length f ≡ size → (ends_with 13 f ≡ true → false ≡ true) → n ≤ length f → reason s.flow (drop n f) ≡ Return → (at + n + plain_len s.flow false (drop n f) ≡ size) ⊎ (at + n + plain_len s.flow false (drop n f) + 1 ≡ size) → ⊥
+pub no_last_return : (s : Setting) (size at n : ℕ) (f : List ℕ) → at + length f ≡ size → (ends_with 13 f ≡ true → false ≡ true) → n ≤ length f → reason s.flow (drop n f) ≡ Return → (at + n + plain_len s.flow false (drop n f) ≡ size) ⊎ (at + n + plain_len s.flow false (drop n f) + 1 ≡ size) → ⊥
 no_last_return s size at n f end r le w (inl p) = let k = fail_within s.flow f n le (inl w) in omega (arith, k, p, end)
 no_last_return s size at n f end r le w (inr p) =
     let d = fail_parts s.flow f n le (inl w) in

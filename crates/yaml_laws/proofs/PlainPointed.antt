@@ -40,18 +40,18 @@ colon_goes : (flow white : Bool) → stops flow white 58 (97 ∷ []) ≡ false
 colon_goes true white = refl
 colon_goes false white = refl
 
-lettered_len : (flow : Bool) (xs : List ℕ) → plain_len flow false (xs ++ (58 ∷ [])) ≡ length xs → plain_len flow false ((xs ++ (58 ∷ [])) ++ (97 ∷ [])) ≡ length ((xs ++ (58 ∷ [])) ++ (97 ∷ []))
+pub lettered_len : (flow : Bool) (xs : List ℕ) → plain_len flow false (xs ++ (58 ∷ [])) ≡ length xs → plain_len flow false ((xs ++ (58 ∷ [])) ++ (97 ∷ [])) ≡ length ((xs ++ (58 ∷ [])) ++ (97 ∷ []))
 lettered_len flow xs h =
     let is : (xs ++ (58 ∷ [])) ++ (97 ∷ []) ≡ xs ++ (58 ∷ 97 ∷ []) = append_assoc xs (58 ∷ []) (97 ∷ []) in
     ap (plain_len flow false) is ∙ len_front flow false xs 58 [] (97 ∷ []) false (colon_goes flow) h ∙ ap (λ n. length xs + suc n) (letter_goes flow (is_white 58)) ∙ sym (length-append xs (58 ∷ 97 ∷ [])) ∙ sym (ap (λ (t : List ℕ). length t) is)
 
-past_all : (xs : List ℕ) → drop (length xs) xs ≡ []
+pub past_all : (xs : List ℕ) → drop (length xs) xs ≡ []
 past_all [] = refl
 past_all (x ∷ xs) = past_all xs
 
 -- ---- it begins as before
 
-fit_marked : (fresh : Bool) (f : List ℕ) (c : ℕ) (v : List ℕ) → is_fit c ≡ true → (fresh && marked f) ≡ false → (fresh && marked (f ++ (c ∷ v))) ≡ false
+pub fit_marked : (fresh : Bool) (f : List ℕ) (c : ℕ) (v : List ℕ) → is_fit c ≡ true → (fresh && marked f) ≡ false → (fresh && marked (f ++ (c ∷ v))) ≡ false
 fit_marked false f c v fit h = refl
 fit_marked true f c v fit h = by_tests (is_mark (f ++ (c ∷ v))) (is_cut_mark (f ++ (c ∷ v))) refl refl where
   or_left : (p q : Bool) → p ≡ true → (p || q) ≡ true
@@ -71,7 +71,7 @@ no_point : (flow : Bool) → begins_plain flow (58 ∷ []) ≡ false
 no_point true = refl
 no_point false = refl
 
-begins_more : (flow : Bool) (xs : List ℕ) → begins_plain flow (xs ++ (58 ∷ [])) ≡ true → begins_plain flow ((xs ++ (58 ∷ [])) ++ (97 ∷ [])) ≡ true
+pub begins_more : (flow : Bool) (xs : List ℕ) → begins_plain flow (xs ++ (58 ∷ [])) ≡ true → begins_plain flow ((xs ++ (58 ∷ [])) ++ (97 ∷ [])) ≡ true
 begins_more flow [] h = absurd (true≢false (sym h ∙ no_point flow))
 begins_more flow (b ∷ []) h = h
 begins_more flow (b ∷ c ∷ xs) h = h
@@ -116,7 +116,7 @@ pointed_line s fresh at xs t e n is low white h =
       alone true = refl
       alone false = refl
 
-no_feed_more : (xs w : List ℕ) → no_feed xs ≡ true → no_feed w ≡ true → no_feed (xs ++ w) ≡ true
+pub no_feed_more : (xs w : List ℕ) → no_feed xs ≡ true → no_feed w ≡ true → no_feed (xs ++ w) ≡ true
 no_feed_more [] w h g = g
 no_feed_more (b ∷ xs) w h g = by_byte (nat_eq b 10) h (λ i. no_feed_more xs w i g) where
   by_byte : (q : Bool) → cond q false (no_feed xs) ≡ true → (no_feed xs ≡ true → no_feed (xs ++ w) ≡ true) → cond q false (no_feed (xs ++ w)) ≡ true

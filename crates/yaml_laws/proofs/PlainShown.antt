@@ -43,7 +43,7 @@ mark_front (d ∷ e ∷ []) c x y s = no_mark_third d e c x s ∙ sym (no_mark_t
 mark_front (d ∷ e ∷ f ∷ []) c x y s = refl
 mark_front (d ∷ e ∷ f ∷ g ∷ a) c x y s = refl
 
-lead_front : (p : ℕ → Bool) (a : List ℕ) (c : ℕ) (x y : List ℕ) → p c ≡ false → (lead p (a ++ (c ∷ x)) ≡ lead p (a ++ (c ∷ y))) × (lead p (a ++ (c ∷ x)) ≤ length a)
+pub lead_front : (p : ℕ → Bool) (a : List ℕ) (c : ℕ) (x y : List ℕ) → p c ≡ false → (lead p (a ++ (c ∷ x)) ≡ lead p (a ++ (c ∷ y))) × (lead p (a ++ (c ∷ x)) ≤ length a)
 lead_front p [] c x y e = (ap (λ q. cond q (suc (lead p x)) 0) e ∙ sym (ap (λ q. cond q (suc (lead p y)) 0) e), (let z : lead p (c ∷ x) ≡ 0 = ap (λ q. cond q (suc (lead p x)) 0) e in omega (arith, z)))
 lead_front p (d ∷ a) c x y e = by_byte (p d) (lead_front p a c x y e) where
   by_byte : (q : Bool) → (lead p (a ++ (c ∷ x)) ≡ lead p (a ++ (c ∷ y))) × (lead p (a ++ (c ∷ x)) ≤ length a) → (cond q (suc (lead p (a ++ (c ∷ x)))) 0 ≡ cond q (suc (lead p (a ++ (c ∷ y)))) 0) × (cond q (suc (lead p (a ++ (c ∷ x)))) 0 ≤ suc (length a))

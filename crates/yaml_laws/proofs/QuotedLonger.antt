@@ -343,7 +343,7 @@ part_new quote at c f v text b =
     let s = lead_some f (c ∷ v) b in
     ap (λ n. line_part quote (at + n) 0 text (length text) (drop n (f ++ (c ∷ v)))) s.0 ∙ ap (line_part quote (at + lead is_white f) 0 text (length text)) (drop_before (lead is_white f) f (c ∷ v) s.1)
 
-ends_drop : (n : ℕ) (f : List ℕ) → ends_with 13 (drop n f) ≡ true → ends_with 13 f ≡ true
+pub ends_drop : (n : ℕ) (f : List ℕ) → ends_with 13 (drop n f) ≡ true → ends_with 13 f ≡ true
 ends_drop zero f h = h
 ends_drop (suc n) [] h = h
 ends_drop (suc n) (b ∷ f) h = ends_more b f (ends_drop n f h)

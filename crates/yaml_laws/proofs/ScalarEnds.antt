@@ -8,7 +8,7 @@ use Rattle.yaml_scalars.specs.Lines.{Stands, Fails, begins_with, ends_with, each
 use Rattle.yaml_scalars.specs.Scalar.{begins_quoted, begins_block, plain_scalar, quoted_scalar, block_scalar, scalar_at}
 use Rattle.yaml_laws.specs.code.Refusals.{is_ascii, IsEndedBy}
 use Rattle.yaml_laws.proofs.Longer.{no_feed, IsRest}
-use Rattle.yaml_laws.proofs.EscapeLonger.{is_fit}
+use Rattle.yaml_laws.proofs.EscapeLonger.{is_fit, AllFit}
 use Rattle.yaml_laws.proofs.QuotedFollowed.{quoted_followed, quoted_within}
 use Rattle.yaml_laws.proofs.QuotedStays.{quoted_stays}
 use Rattle.yaml_laws.proofs.ScalarFollowed.{none_meets, kind_longer}
@@ -82,10 +82,18 @@ feed_less b w h = by_byte (nat_eq b 10) h where
   by_byte true g = absurd (true≢false (sym g))
   by_byte false g = g
 
--- bytes complete a scalar so that it ends with them, of which the first is no white space and no part of a break or mark, and none is a line feed; the text of a plain one ends in the letter a
+fit_take : (n : ℕ) (w : List ℕ) → AllFit w → AllFit (take n w)
+fit_take zero w h = refl
+fit_take (suc n) [] h = refl
+fit_take (suc n) (b ∷ w) h = by_byte (is_fit b) h (λ g. fit_take n w g) where
+  by_byte : (q : Bool) → cond q (each is_fit w) false ≡ true → (AllFit w → AllFit (take n w)) → cond q (each is_fit (take n w)) false ≡ true
+  by_byte true g r = r g
+  by_byte false g r = absurd (true≢false (sym g))
+
+-- bytes complete a scalar so that it ends with them, of which none is white space, part of a break or mark, or the last of an escape of a dot; the text of a plain one ends in the letter a
 abbrev pub IsGrownBy : Setting → List ℕ → ℕ → Type 0
 IsGrownBy s text at =
-    (c : ℕ) × (v t : List ℕ) × (is_fit c ≡ true) × (no_feed v ≡ true) × (each is_ascii (c ∷ v) ≡ true) × (scalar_at s (text ++ (c ∷ v)) at ≡ Stands t (length (text ++ (c ∷ v)))) × ((begins_quoted (drop at text) ≡ true) ⊎ (ends_with 97 t ≡ true))
+    (c : ℕ) × (v t : List ℕ) × (is_fit c ≡ true) × (no_feed v ≡ true) × (each is_ascii (c ∷ v) ≡ true) × (scalar_at s (text ++ (c ∷ v)) at ≡ Stands t (length (text ++ (c ∷ v)))) × ((begins_quoted (drop at text) ≡ true) ⊎ (ends_with 97 t ≡ true)) × AllFit (c ∷ v)
 
 -- ---- the text by its last byte
 
@@ -142,19 +150,19 @@ module _ (s : Setting) (before : List ℕ) (b at : ℕ) (l : at ≤ length befor
       grow v.0 z.0 z.2.0 z.1 z.3 v.1 where
         grow : (m : ℕ) (w t : List ℕ) → IsRest w → FitHead w → quoted_scalar s (before ++ (b ∷ take m w)) at ≡ Stands t (length (before ++ (b ∷ take m w))) → IsGrownBy s text at
         grow zero w t r f g = absurd (fails_not t (length (before ++ (b ∷ []))) (length (before ++ (b ∷ []))) (sym h ∙ g))
-        grow (suc m) w t r (c, y, i, fit) g =
+        grow (suc m) w t r (c, y, i, fit, all) g =
             let i2 : take (suc m) w ≡ c ∷ take m y = ap (take (suc m)) i in
             let g2 : quoted_scalar s (before ++ (b ∷ c ∷ take m y)) at ≡ Stands t (length (before ++ (b ∷ c ∷ take m y))) = subst (λ (x : List ℕ). quoted_scalar s (before ++ (b ∷ x)) at ≡ Stands t (length (before ++ (b ∷ x)))) i2 g in
             let feed : no_feed (take m y) ≡ true = feed_take m y (feed_less c y (sym (ap no_feed i) ∙ r.0)) in
             let small : each is_ascii (c ∷ take m y) ≡ true = ap (each is_ascii) (sym i2) ∙ each_take (suc m) w r.1 in
-            (c, take m y, t, fit, feed, small, completed_at (c ∷ take m y) t (λ x. g2) (λ x. absurd (true≢false (sym q ∙ x))) n, inl q)
+            (c, take m y, t, fit, feed, small, completed_at (c ∷ take m y) t (λ x. g2) (λ x. absurd (true≢false (sym q ∙ x))) n, inl q, subst AllFit i2 (fit_take (suc m) w all))
 
   plain_grown : begins_quoted (drop at text) ≡ false → begins_block s (drop at text) ≡ false → nat_eq b 13 ≡ false → plain_scalar s text at ≡ Fails (length text) → IsGrownBy s text at
   plain_grown q n e h =
       let z = plain_letter s before b at l e h in
       let there = at_last s before b at l e in
       let long : length (before ++ (b ∷ 97 ∷ [])) ≡ suc (size s before b at l e) = let x = length-append before (b ∷ 97 ∷ []) in let y = length-append before (b ∷ []) in omega (arith, x, y, there) in
-      (97, [], z.0 ++ (97 ∷ []), refl, refl, refl, completed_at (97 ∷ []) (z.0 ++ (97 ∷ [])) (λ x. absurd (true≢false (sym x ∙ q))) (λ x. z.1 ∙ ap (Stands (z.0 ++ (97 ∷ []))) (sym long)) n, inr (letter_last z.0))
+      (97, [], z.0 ++ (97 ∷ []), refl, refl, refl, completed_at (97 ∷ []) (z.0 ++ (97 ∷ [])) (λ x. absurd (true≢false (sym x ∙ q))) (λ x. z.1 ∙ ap (Stands (z.0 ++ (97 ∷ []))) (sym long)) n, inr (letter_last z.0), refl)
 
   grown : begins_block s (drop at text) ≡ false → nat_eq b 13 ≡ false → scalar_at s text at ≡ Fails (length text) → IsGrownBy s text at
   grown n e h = by_kind (begins_quoted (drop at text)) refl (sym (ap (λ r. cond (begins_quoted (drop at text)) (quoted_scalar s text at) (cond r (block_scalar s text at) (plain_scalar s text at))) n) ∙ h) where

@@ -15,7 +15,7 @@ use Rattle.yaml_laws.proofs.Agree.{drop_before, drop_size}
 use Rattle.yaml_laws.proofs.Longer.{glue, rest_of, ended, cut, no_feed, IsRest, Ends, lines_more, lines_ended, lines_end, IsScalar, StandsTo}
 use Rattle.yaml_laws.proofs.BlockLonger.{block_returned, block_longer}
 use Rattle.yaml_laws.proofs.PlainLonger.{Lettered, plain_returned, plain_longer}
-use Rattle.yaml_laws.proofs.EscapeLonger.{is_fit, AllFit}
+use Rattle.yaml_laws.proofs.EscapeLonger.{is_fit, AllFit, fit_append}
 use Rattle.yaml_laws.proofs.QuotedLaw.{quote_of}
 use Rattle.yaml_laws.proofs.QuotedLonger.{quote_fit, head_fit}
 use Rattle.yaml_laws.proofs.QuotedEnds.{first_of, is_quote, on_longer, on_returned}
@@ -44,9 +44,9 @@ rest_append (b ∷ v) w h g = by_byte (nat_eq b 10) (is_ascii b) h (λ i. rest_a
 quote_rest : (c : ℕ) (f : List ℕ) → IsRest (quote_of (c ∷ f) ∷ [])
 quote_rest c f = fit_rest (quote_of (c ∷ f) ∷ []) (ap (λ q. cond q true false) (quote_fit (quote_of (c ∷ f)) (is_quote c f)))
 
--- the first of them is no white space, no part of a break and no part of a mark
+-- none of them is white space, part of a break or part of a mark, and there is a first
 abbrev pub FitHead : List ℕ → Type 0
-FitHead w = (c : ℕ) × (v : List ℕ) × (w ≡ c ∷ v) × (is_fit c ≡ true)
+FitHead w = (c : ℕ) × (v : List ℕ) × (w ≡ c ∷ v) × (is_fit c ≡ true) × AllFit w
 
 -- texts that begin with one, which has a last byte
 module _ (s : Setting) (before : List ℕ) (b at : ℕ) (l : at ≤ length before) where
@@ -212,9 +212,10 @@ module _ (s : Setting) (before : List ℕ) (b at : ℕ) (l : at ≤ length befor
         let fails : quoted_on s.one_line size (l1 ∷ ls) ≡ Fails size = ap (quoted_on s.one_line size) (sym first.2) ∙ ap (λ n. quoted_on s.one_line n (lines at last)) (sym at_last) ∙ sym (ap (quoted_on s.one_line (length text)) text_lines) ∙ h ∙ ap Fails at_last in
         let r = on_longer s.one_line size at c f (has_break last) ls (subst (λ ls. Ends size false ls) first.2 ends_here) fails in
         let w = r.0 ++ (quote_of (c ∷ f) ∷ []) in
+        let hd = head_fit (quote_of (c ∷ f)) r.0 (is_quote c f) r.1 in
         let rest = rest_append r.0 (quote_of (c ∷ f) ∷ []) (fit_rest r.0 r.1) (quote_rest c f) in
         let z = r.2 (length (new w)) in
-        (w, rest, (z.0, z.1, ap (quoted_on s.one_line (length (new w))) (longer_lines w rest.0 ∙ ap (λ ls. glue ls (rest_of size w ∷ [])) first.2) ∙ z.2), head_fit (quote_of (c ∷ f)) r.0 (is_quote c f) r.1)
+        (w, rest, (z.0, z.1, ap (quoted_on s.one_line (length (new w))) (longer_lines w rest.0 ∙ ap (λ ls. glue ls (rest_of size w ∷ [])) first.2) ∙ z.2), (hd.0, hd.1, hd.2, hd.3, fit_append r.0 (quote_of (c ∷ f) ∷ []) r.1 (ap (λ q. cond q true false) (quote_fit (quote_of (c ∷ f)) (is_quote c f)))))
 
     longer : (q r : Bool) → begins_quoted (drop at text) ≡ q → begins_block s (drop at text) ≡ r → cond q (quoted_scalar s text at) (cond r (block_scalar s text at) (plain_scalar s text at)) ≡ Fails (length text) → IsShort s text at
     longer true r x y h = let z = quoted_more_at x h in short z.0 true r x y z.1.1 z.2

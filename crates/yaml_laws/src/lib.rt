@@ -10,6 +10,6 @@ mod scalars;
 pub use escape::wanted_digits;
 pub use scalars::{
     block_fed, flow_closed, flow_fed, flow_followed, header_ended, key_fed, key_followed,
-    key_lengthened, key_returned, return_free, same_scalar, scalar_ended, scalar_fed,
-    scalar_pointed, syntax_place,
+    key_lengthened, key_returned, return_free, same_scalar, scalar_dotted, scalar_ended,
+    scalar_fed, scalar_lettered, scalar_pointed, scalar_undotted, syntax_place, undotted_ended,
 };

@@ -1,12 +1,13 @@
 //! Scalars: the places of refusals, and texts that begin alike.
 ghost use Rattle.std.specs.Prelude.{ℕ, suc, List, [], ◌∷◌, ◌++◌, ◌≡◌, ◌⊎◌, ◌<◌, ◌≤◌, ◌+◌, true, false, length, drop};
-ghost use Rattle.yaml_scalars.specs.Lines.{Fails, Stands, begins_with, ends_with, is_blank};
+ghost use Rattle.yaml_scalars.specs.Lines.{Fails, Stands, begins_with, each, ends_with, is_blank};
 ghost use Rattle.yaml_scalars.specs.Plain.{is_flow_mark, is_unsafe};
 ghost use Rattle.yaml_scalars.specs.code.Walk.{ends_line, line_at, has_break, behind};
 ghost use Rattle.yaml_scalars.specs.Scalar.{begins_block, begins_quoted, scalar_at};
 ghost use Rattle.yaml_laws.specs.code.Agreement.{AgreesTo, scalar_shown};
+ghost use Rattle.yaml_laws.specs.code.Dots.{is_dotless, undotted};
 ghost use Rattle.yaml_laws.specs.code.Endings.{last_mark, further_line, IsKeyEnd};
-ghost use Rattle.yaml_laws.specs.code.Refusals.{IsEndedBy, IsLengthened, IsSyntax};
+ghost use Rattle.yaml_laws.specs.code.Refusals.{is_ascii, IsEndedBy, IsLengthened, IsSyntax};
 
 use yaml_scalars::Setting;
 
@@ -74,6 +75,13 @@ pub fn scalar_pointed(front: &str, at: usize, setting: Setting)
     ensures { (scalar : List ℕ) (size : ℕ) → has_break (drop at front.now) ≡ false → begins_quoted (drop at (front.now ++ (58 ∷ []))) ≡ false → begins_block setting (drop at (front.now ++ (58 ∷ []))) ≡ false → at + size ≤ length front.now → is_blank (drop (at + size) front.now) ≡ true → scalar_at setting (front.now ++ (58 ∷ [])) at ≡ Stands scalar (at + size) → (longer : List ℕ) × (scalar_at setting (front.now ++ (58 ∷ 97 ∷ [])) at ≡ Stands (longer ++ (97 ∷ [])) (length (front.now ++ (58 ∷ 97 ∷ [])))) }
 {}
 
+/// Where a colon that ends the text shows the end of a plain scalar, which may go over several lines, a letter behind the colon
+/// makes the scalar end with the text, in that letter. The call itself does nothing.
+pub fn scalar_lettered(text: &str, at: usize, setting: Setting)
+    requires { at < length text.now }
+    ensures { (scalar : List ℕ) (end : ℕ) → ends_with 58 text.now ≡ true → begins_quoted (drop at text.now) ≡ false → begins_block setting (drop at text.now) ≡ false → scalar_shown setting text.now at end ≡ length text.now → scalar_at setting text.now at ≡ Stands scalar end → (longer : List ℕ) × (scalar_at setting (text.now ++ (97 ∷ [])) at ≡ Stands (longer ++ (97 ∷ [])) (length (text.now ++ (97 ∷ [])))) }
+{}
+
 /// Where a block scalar fails behind a carriage return that ends the text, a line feed completes it so that it ends with the
 /// text, unless the three bytes of a mark stand before the carriage return. The call itself does nothing.
 pub fn block_fed(front: &str, at: usize, setting: Setting)
@@ -82,10 +90,10 @@ pub fn block_fed(front: &str, at: usize, setting: Setting)
 {}
 
 /// Where a block scalar fails at the text's end in its header, and no carriage return ends the text, a break completes it so
-/// that it ends with the text. The call itself does nothing.
+/// that it ends with the text, and says nothing. The call itself does nothing.
 pub fn header_ended(text: &str, at: usize, setting: Setting)
     requires { at < length text.now }
-    ensures { begins_quoted (drop at text.now) ≡ false → begins_block setting (drop at text.now) ≡ true → ends_with 13 (drop at text.now) ≡ false → has_break (drop at text.now) ≡ false → scalar_at setting text.now at ≡ Fails (length text.now) → (scalar : List ℕ) × (scalar_at setting (text.now ++ (13 ∷ 10 ∷ [])) at ≡ Stands scalar (length (text.now ++ (13 ∷ 10 ∷ [])))) }
+    ensures { begins_quoted (drop at text.now) ≡ false → begins_block setting (drop at text.now) ≡ true → ends_with 13 (drop at text.now) ≡ false → has_break (drop at text.now) ≡ false → scalar_at setting text.now at ≡ Fails (length text.now) → scalar_at setting (text.now ++ (13 ∷ 10 ∷ [])) at ≡ Stands [] (length (text.now ++ (13 ∷ 10 ∷ []))) }
 {}
 
 /// A key is told by its line: a break behind the text changes none, and no key that fails. The call itself does nothing.
@@ -113,4 +121,24 @@ pub fn return_free(text: &str, at: usize, setting: Setting)
 pub fn key_lengthened(text: &str, at: usize, setting: Setting)
     requires { at < length text.now }
     ensures { (size : ℕ) → setting.one_line ≡ true → ends_with 13 text.now ≡ false → scalar_at setting text.now at ≡ Fails (length text.now) → IsLengthened setting text.now at size }
+{}
+
+/// Where no dot stands among the bytes from a scalar's first one on, as it is or in double quotes as an escape, its text has
+/// none. The call itself does nothing.
+pub fn scalar_undotted(text: &str, at: usize, setting: Setting)
+    ensures { (scalar : List ℕ) (end : ℕ) → begins_block setting (drop at text.now) ≡ false → undotted (begins_with 34 (drop at text.now)) false (drop at text.now) ≡ true → scalar_at setting text.now at ≡ Stands scalar end → each is_dotless scalar ≡ true }
+{}
+
+/// Where a plain or quoted scalar without a dot so far fails at the end of a text that no carriage return ends, some more bytes
+/// of ASCII complete it so that it ends with them, and its text has no dot. The call itself does nothing.
+pub fn undotted_ended(text: &str, at: usize, setting: Setting)
+    requires { at < length text.now }
+    ensures { begins_block setting (drop at text.now) ≡ false → ends_with 13 text.now ≡ false → undotted (begins_with 34 (drop at text.now)) false (drop at text.now) ≡ true → scalar_at setting text.now at ≡ Fails (length text.now) → (more scalar : List ℕ) × (each is_ascii more ≡ true) × (scalar_at setting (text.now ++ more) at ≡ Stands scalar (length (text.now ++ more))) × (each is_dotless scalar ≡ true) }
+{}
+
+/// Where a plain or quoted scalar with a dot so far fails at the end of a text that no carriage return ends, its text has a dot
+/// in each longer text in which it stands. The call itself does nothing.
+pub fn scalar_dotted(text: &str, at: usize, setting: Setting)
+    requires { at < length text.now }
+    ensures { (more scalar : List ℕ) (end : ℕ) → setting.one_line ≡ false → begins_block setting (drop at text.now) ≡ false → ends_with 13 text.now ≡ false → undotted (begins_with 34 (drop at text.now)) false (drop at text.now) ≡ false → scalar_at setting text.now at ≡ Fails (length text.now) → scalar_at setting (text.now ++ more) at ≡ Stands scalar end → each is_dotless scalar ≡ false }
 {}

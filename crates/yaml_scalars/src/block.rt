@@ -2,7 +2,7 @@
 ghost use Rattle.std.specs.Prelude.{ℕ, ◌≡◌, ◌⊎◌, ◌+◌, ◌-◌, ◌<◌, ◌≤◌, ◌≤ℤ◌, ◌++◌, Bool, List, [], None, Some, length, drop, slice_index, pos, negsuc, IfOk, IsErrOf, true, false, not, MatchOption, string_bytes};
 ghost use Rattle.std.specs.Str.{IsCharBoundary};
 ghost use Rattle.std.specs.Cow.{cow_str_bytes};
-ghost use Rattle.doc_values.specs.Limits.{template_limit};
+ghost use Rattle.yaml_scalars.specs.code.Limits.{text_limit};
 ghost use Rattle.yaml_scalars.specs.Lines.{is_blank, lines};
 ghost use Rattle.yaml_scalars.specs.Block.{is_content, taken_off, joint, ending, inner_of, widest, mark_len, may_end, shown, base_of, by_digit};
 ghost use Rattle.yaml_scalars.specs.Plain.{above_of};
@@ -96,7 +96,7 @@ fn push_joint(
     white: bool,
     empties: usize,
 ) -> Result<(), AllocError>
-    requires { empties ≤ 8388609 }
+    requires { empties ≤ 8388610 }
     ensures { IfOk result (λ _. string_bytes text.new ≡ string_bytes text.old ++ joint folded (last_seen last) white empties) }
 {
     match last {
@@ -117,7 +117,7 @@ fn push_ending(
     last: Option<Last>,
     empties: usize,
 ) -> Result<(), AllocError>
-    requires { empties ≤ 8388609 }
+    requires { empties ≤ 8388610 }
     ensures { IfOk result (λ _. string_bytes text.new ≡ string_bytes text.old ++ ending (chomp_seen chomp) (last_seen last) empties) }
 {
     match chomp {
@@ -152,7 +152,7 @@ fn add_line(
     reading: &mut Reading,
 ) -> Result<(), AllocError>
     requires begin { IsCharBoundary text.now begin }
-    requires few { reading.old.empties ≤ template_limit }
+    requires few { reading.old.empties ≤ text_limit }
     ensures text { IfOk result (λ _. string_bytes reading.new.text ≡ text_more folded (last_seen reading.old.last) reading.old.empties (string_bytes reading.old.text) (line_at (drop begin text.now))) }
     ensures last { IfOk result (λ _. last_seen reading.new.last ≡ last_more (last_seen reading.old.last) broken (line_at (drop begin text.now))) }
     ensures empties { IfOk result (λ _. reading.new.empties ≡ count_more reading.old.empties broken (line_at (drop begin text.now))) }
@@ -182,7 +182,7 @@ fn add_line(
 
 /// The scalar that ends before a place, with what was read of it.
 fn finish<'s>(reading: Reading, chomp: Chomp, end: usize) -> Result<Scalar<'s>, AllocError>
-    requires { reading.empties ≤ 8388609 }
+    requires { reading.empties ≤ 8388610 }
     ensures text { IfOk result (λ s. cow_str_bytes s.text ≡ string_bytes reading.text ++ ending (chomp_seen chomp) (last_seen reading.last) reading.empties) }
     ensures end { IfOk result (λ s. s.end ≡ end) }
     ensures kind { IfOk result (λ s. s.kind ≡ Kind.Text) }
@@ -204,7 +204,7 @@ fn read_content<'s>(
     style: Style,
 ) -> Result<Scalar<'s>, ScalarRefusal>
     requires within { start ≤ length text.now }
-    requires small { length text.now ≤ template_limit }
+    requires small { length text.now ≤ text_limit }
     requires boundary { IsCharBoundary text.now start }
     ensures answer { Answers false (content_from style text.now start [] None 0) result }
     ensures end { IfOk result (λ s. (start ≤ s.end) × (s.end ≤ length text.now) × IsCharBoundary text.now s.end) }
@@ -246,7 +246,7 @@ fn read_blanks<'s>(
     chomp: Chomp,
 ) -> Result<Scalar<'s>, ScalarRefusal>
     requires within { start ≤ length text.now }
-    requires small { length text.now ≤ template_limit }
+    requires small { length text.now ≤ text_limit }
     requires boundary { IsCharBoundary text.now start }
     ensures answer { Answers false (blank_from chomp text.now start 0) result }
     ensures end { IfOk result (λ s. (start ≤ s.end) × (s.end ≤ length text.now) × IsCharBoundary text.now s.end) }
@@ -372,9 +372,9 @@ fn inner_at(bytes: &[u8], start: usize, above: usize) -> Inner
 /// The indentation from which a digit counts.
 fn base(parent: i32) -> usize
     requires low { negsuc 0 ≤ℤ parent }
-    requires high { parent ≤ℤ pos template_limit }
+    requires high { parent ≤ℤ pos text_limit }
     ensures is { result ≡ base_of parent }
-    ensures within { result ≤ template_limit }
+    ensures within { result ≤ text_limit }
 {
     if parent < 0 {
         return 0;
@@ -385,7 +385,7 @@ fn base(parent: i32) -> usize
 /// The least indentation above that of the parent.
 fn above(parent: i32) -> usize
     requires low { negsuc 0 ≤ℤ parent }
-    requires high { parent ≤ℤ pos template_limit }
+    requires high { parent ≤ℤ pos text_limit }
     ensures { result ≡ above_of parent }
 {
     (parent + 1) as usize
@@ -401,10 +401,10 @@ fn read_lines<'s>(
     parent: i32,
 ) -> Result<Scalar<'s>, ScalarRefusal>
     requires within { start ≤ length text.now }
-    requires small { length text.now ≤ template_limit }
+    requires small { length text.now ≤ text_limit }
     requires boundary { IsCharBoundary text.now start }
     requires low { negsuc 0 ≤ℤ parent }
-    requires high { parent ≤ℤ pos template_limit }
+    requires high { parent ≤ℤ pos text_limit }
     ensures answer { Answers false (by_digit folded parent (chomp_seen header.chomp) (length text.now) header.digit (lines start (drop start text.now))) result }
     ensures end { IfOk result (λ s. (start ≤ s.end) × (s.end ≤ length text.now) × IsCharBoundary text.now s.end) }
 {
@@ -446,11 +446,11 @@ pub(crate) fn read_block<'s>(
     setting: Setting,
 ) -> Result<Scalar<'s>, ScalarRefusal>
     requires within { at < length text.now }
-    requires small { length text.now ≤ template_limit }
+    requires small { length text.now ≤ text_limit }
     requires boundary { IsCharBoundary text.now at }
     requires indicator { (slice_index text.now at ≡ 124) ⊎ (slice_index text.now at ≡ 62) }
     requires low { negsuc 0 ≤ℤ setting.parent }
-    requires high { setting.parent ≤ℤ pos template_limit }
+    requires high { setting.parent ≤ℤ pos text_limit }
     ensures answer { Answers false (block_scalar setting text.now at) result }
     ensures end { IfOk result (λ s. IsEndOf text.now at s.end) }
     ensures memory { IsErrOf result ScalarRefusal.NoMemory → has_break (drop at text.now) ≡ true }

@@ -2,7 +2,7 @@
 ghost use Rattle.std.specs.Prelude.{ℕ, List, ◌≡◌, ◌+◌, ◌-◌, ◌<◌, ◌≤◌, ◌≤ℤ◌, length, drop, take, pos, negsuc, slice_index, IfOk, IfErr, IsErrOf, true, false, not, ◌&&◌, ◌||◌, string_bytes, Option, Some, None};
 ghost use Rattle.std.specs.Str.{IsCharBoundary};
 ghost use Rattle.std.specs.Cow.{cow_str_bytes};
-ghost use Rattle.doc_values.specs.Limits.{template_limit};
+ghost use Rattle.yaml_scalars.specs.code.Limits.{text_limit};
 ghost use Rattle.yaml_scalars.specs.Lines.{Stands, is_mark, is_cut_mark};
 ghost use Rattle.yaml_scalars.specs.code.Walk.{line_at};
 ghost use Rattle.yaml_scalars.specs.Plain.{plain_len, joined, content_end, ends_on};
@@ -133,7 +133,7 @@ fn add_line(
     reading: &mut Reading,
     setting: Setting,
 ) -> Result<(), ScalarRefusal>
-    requires small { length text.now ≤ template_limit }
+    requires small { length text.now ≤ text_limit }
     requires begin { LiesBehind text.now 0 (Some line) }
     ensures ok { IfOk result (λ _. rest setting text.now (Some line) (string_bytes reading.old.text) reading.old.end ≡ rest setting text.now reading.new.next (string_bytes reading.new.text) reading.new.end) }
     ensures next { IfOk result (λ _. LiesBehind text.now line.begin reading.new.next) }
@@ -168,7 +168,7 @@ fn read_lines(
     reading: Reading,
     setting: Setting,
 ) -> Result<(String, usize), ScalarRefusal>
-    requires small { length text.now ≤ template_limit }
+    requires small { length text.now ≤ text_limit }
     requires next { LiesBehind text.now 0 reading.next }
     ensures ok { IfOk result (λ r. rest setting text.now reading.next (string_bytes reading.text) reading.end ≡ Stands (string_bytes r.0) r.1) }
     ensures edge { (at : ℕ) → LiesBehind text.now at reading.next → IsEndOf text.now at reading.end → IfOk result (λ r. IsEndOf text.now at r.1) }
@@ -192,7 +192,7 @@ fn goes_on<'s>(
     end: usize,
     setting: Setting,
 ) -> Result<Scalar<'s>, ScalarRefusal>
-    requires small { length text.now ≤ template_limit }
+    requires small { length text.now ≤ text_limit }
     requires boundary { IsCharBoundary text.now at }
     requires end { IsEndOf text.now at end }
     ensures answer { Answers (not setting.one_line) (from setting text.now at (take (end - at) (drop at text.now)) end 0) result }
@@ -231,10 +231,10 @@ pub(crate) fn read_plain<'s>(
     setting: Setting,
 ) -> Result<Scalar<'s>, ScalarRefusal>
     requires within { at < length text.now }
-    requires small { length text.now ≤ template_limit }
+    requires small { length text.now ≤ text_limit }
     requires boundary { IsCharBoundary text.now at }
     requires low { negsuc 0 ≤ℤ setting.parent }
-    requires high { setting.parent ≤ℤ pos template_limit }
+    requires high { setting.parent ≤ℤ pos text_limit }
     ensures answer { Answers (not setting.one_line) (plain_scalar setting text.now at) result }
     ensures end { IfOk result (λ s. IsEndOf text.now at s.end) }
     ensures memory { IsErrOf result ScalarRefusal.NoMemory → fills_line setting (line_at (drop at text.now)) ≡ true }

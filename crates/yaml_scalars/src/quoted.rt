@@ -1,6 +1,6 @@
 //! Quoted scalars.
 ghost use Rattle.std.specs.Prelude.{ℕ, Bool, List, ◌≡◌, ◌+◌, ◌-◌, ◌<◌, ◌≤◌, ◌≤ℤ◌, ◌⊎◌, ◌||◌, ◌&&◌, ◌++◌, ◌∷◌, [], suc, if◌then◌else◌, length, drop, slice_index, string_bytes, nat_lt, pos, negsuc, IfOk, true, false, not};
-ghost use Rattle.doc_values.specs.Limits.{template_limit};
+ghost use Rattle.yaml_scalars.specs.code.Limits.{text_limit};
 ghost use Rattle.byte_lanes.specs.code.Members.{holds};
 ghost use Rattle.yaml_scalars.specs.Lines.{Outcome, is_mark};
 ghost use Rattle.yaml_scalars.specs.Quoted.{piece, Closes, gap};
@@ -68,7 +68,7 @@ fn read_below(
 ) -> Result<usize, ScalarRefusal>
     requires inside { 0 < start }
     requires within { start ≤ length bytes.now }
-    requires small { length bytes.now ≤ template_limit }
+    requires small { length bytes.now ≤ text_limit }
     requires feed { slice_index bytes.now (start - 1) ≡ 10 }
     ensures { (quote : ℕ) → GoesOn (below quote bytes.now start (string_bytes decoded.old) joined 0) quote false bytes.now (start - 1) (string_bytes decoded.new) result }
 {
@@ -102,7 +102,7 @@ fn read_break(
     decoded: &mut String,
 ) -> Result<usize, ScalarRefusal>
     requires within { end ≤ length bytes.now }
-    requires small { length bytes.now ≤ template_limit }
+    requires small { length bytes.now ≤ text_limit }
     requires over { line_at (drop end bytes.now) ≡ [] }
     ensures { (quote : ℕ) → GoesOn (past quote one_line bytes.now end joined (string_bytes decoded.old)) quote one_line bytes.now end (string_bytes decoded.new) result }
 {
@@ -174,7 +174,7 @@ fn read_piece(
 ) -> Result<Step, ScalarRefusal>
     requires inside { 0 < at }
     requires within { at ≤ length text.now }
-    requires small { length text.now ≤ template_limit }
+    requires small { length text.now ≤ text_limit }
     requires ascii { slice_index text.now (at - 1) < 128 }
     requires quote { (quote ≡ 34) ⊎ (quote ≡ 39) }
     requires specials { (b : ℕ) → holds specials.now b ≡ is_special quote b }
@@ -210,7 +210,7 @@ fn decoded_from(
 ) -> Result<(String, usize), ScalarRefusal>
     requires inside { 0 < start }
     requires within { start ≤ length text.now }
-    requires small { length text.now ≤ template_limit }
+    requires small { length text.now ≤ text_limit }
     requires ascii { slice_index text.now (start - 1) < 128 }
     requires quote { (quote ≡ 34) ⊎ (quote ≡ 39) }
     requires specials { (b : ℕ) → holds specials.now b ≡ is_special quote b }
@@ -238,7 +238,7 @@ pub(crate) fn read_quoted<'s>(
     setting: Setting,
 ) -> Result<Scalar<'s>, ScalarRefusal>
     requires within { at < length text.now }
-    requires small { length text.now ≤ template_limit }
+    requires small { length text.now ≤ text_limit }
     requires quoted { begins_quoted (drop at text.now) ≡ true }
     ensures answer { Answers false (quoted_scalar setting text.now at) result }
     ensures end { IfOk result (λ s. IsEndOf text.now at s.end) }

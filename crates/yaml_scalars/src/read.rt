@@ -1,7 +1,7 @@
 //! A scalar of any form.
 ghost use Rattle.std.specs.Prelude.{◌≡◌, ◌⊎◌, ◌<◌, ◌≤◌, ◌≤ℤ◌, length, drop, slice_index, true, pos, negsuc, IfOk, IsErrOf};
 ghost use Rattle.std.specs.Str.{IsCharBoundary};
-ghost use Rattle.doc_values.specs.Limits.{template_limit};
+ghost use Rattle.yaml_scalars.specs.code.Limits.{text_limit};
 ghost use Rattle.yaml_scalars.specs.Scalar.{IsEndOf, Answers, begins_quoted, begins_block, scalar_at, is_typed};
 ghost use Rattle.yaml_scalars.specs.code.Memory.{may_take};
 
@@ -37,10 +37,10 @@ pub fn read_scalar<'s>(
     setting: Setting,
 ) -> Result<Scalar<'s>, ScalarRefusal>
     requires within { at < length text.now }
-    requires small { length text.now ≤ template_limit }
+    requires small { length text.now ≤ text_limit }
     requires boundary { IsCharBoundary text.now at }
     requires low { negsuc 0 ≤ℤ setting.parent }
-    requires high { setting.parent ≤ℤ pos template_limit }
+    requires high { setting.parent ≤ℤ pos text_limit }
     ensures answer { Answers (is_typed setting text.now at) (scalar_at setting text.now at) result }
     ensures end { IfOk result (λ s. IsEndOf text.now at s.end) }
     ensures memory { IsErrOf result ScalarRefusal.NoMemory → may_take setting text.now at ≡ true }

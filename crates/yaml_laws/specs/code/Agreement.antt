@@ -5,7 +5,7 @@ use Rattle.yaml_scalars.specs.declared.plain_line.Why.TheVariants.{Break, Colon}
 use Rattle.yaml_scalars.specs.declared.plain_line.Below.{Below}
 use Rattle.yaml_scalars.specs.declared.plain_line.Below.TheVariants.{Blank, Outside, Further}
 use Rattle.yaml_scalars.specs.declared.scalar.Setting.{Setting}
-use Rattle.yaml_scalars.specs.Lines.{Line, is_mark, lines}
+use Rattle.yaml_scalars.specs.Lines.{Line, begins_with, is_mark, is_white, lead, lines}
 use Rattle.yaml_scalars.specs.Block.{shown}
 use Rattle.yaml_scalars.specs.Plain.{plain_len, reason, below}
 use Rattle.yaml_scalars.specs.Scalar.{begins_quoted, begins_block}
@@ -19,6 +19,11 @@ AgreesTo place text other = (before behind more : List ℕ) × (b : ℕ) × (tex
 -- it and one more, of another line those that it may share with a blank line or a mark
 abbrev pub end_shown : List ℕ → ℕ
 end_shown bytes = if is_mark bytes then 4 else shown bytes
+
+-- the same of a line that ends a scalar above it whether it is a mark or not: of a mark all of it and one more, of another line
+-- its white space, with a carriage return behind that
+abbrev pub out_shown : List ℕ → ℕ
+out_shown bytes = if is_mark bytes then 4 else (let n : ℕ = lead is_white bytes in if begins_with 13 (drop n bytes) then suc n else n)
 
 -- the place of the byte that shows why a plain scalar that begins at a place ends on its line: the one that ends it, the
 -- line's end, or behind a colon the next
@@ -36,7 +41,7 @@ part_shown w stop next = shown_by w stop
 
 abbrev pub line_shown : Setting → Below → ℕ → List ℕ → ℕ → ℕ
 line_shown s Blank at bytes next = next
-line_shown s Outside at bytes next = at + end_shown bytes
+line_shown s Outside at bytes next = at + out_shown bytes
 line_shown s (Further n) at bytes next = part_shown (reason s.flow (drop n bytes)) (at + n + plain_len s.flow false (drop n bytes)) next
 
 abbrev pub more_shown : Setting → ℕ → List Line → ℕ
@@ -52,4 +57,4 @@ plain_shown s size (l ∷ ls) = if s.one_line then stop_shown s.flow l.at l.byte
 abbrev pub scalar_shown : Setting → List ℕ → ℕ → ℕ → ℕ
 scalar_shown s text at end =
     if begins_quoted (drop at text) then end else
-    (if begins_block s (drop at text) then end + end_shown (line_at (drop end text)) else plain_shown s (length text) (lines at (drop at text)))
+    (if begins_block s (drop at text) then end + out_shown (line_at (drop end text)) else plain_shown s (length text) (lines at (drop at text)))
