@@ -43,7 +43,7 @@ inner_some false b bs =
     let colon = cond (nat_eq b 58 && is_end bs) (Point true) last in
     some_cond (nat_eq b 45 && is_end bs) Dash colon tt (some_cond (nat_eq b 58 && is_end bs) (Point true) last tt (some_cond (nat_eq b 33) (tag_token false bs) (other_token b) (tag_some false bs) (other_some b)))
 
-token_some : (flow : Bool) (xs : List ℕ) → IsSome (token_of flow xs)
+pub token_some : (flow : Bool) (xs : List ℕ) → IsSome (token_of flow xs)
 token_some flow [] = tt
 token_some flow (b ∷ bs) =
     let inner = cond (not flow) (block_token b bs) (cond (nat_eq b 93) (Closes false) (cond (nat_eq b 125) (Closes true) (cond (nat_eq b 44) Comma (cond (nat_eq b 58) (Point (is_unsafe true bs)) (cond (nat_eq b 33) (tag_token true bs) (other_token b)))))) in

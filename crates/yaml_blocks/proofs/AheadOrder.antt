@@ -314,7 +314,7 @@ white_later text j place h low near = by_rest (drop j text) refl h near where
   by_rest (b ∷ xs) e w n = in_text text j place b xs e w (is_first_column text j) (subst (λ xs. cond (is_first_column text j) (line_seen (length text) (lines j xs)) (rest_seen (length text) (lines j xs)) ≤ place) e n)
 
 -- no token of a line's content is a mark
-unmarked : (flow : Bool) (xs : List ℕ) → is_marked (token_of flow xs) ≡ false
+pub unmarked : (flow : Bool) (xs : List ℕ) → is_marked (token_of flow xs) ≡ false
 unmarked flow [] = refl
 unmarked flow (b ∷ bs) = pick _ _ (nat_eq b 91) refl (pick _ _ (nat_eq b 123) refl (pick _ _ (not flow) block (pick _ _ (nat_eq b 93) refl (pick _ _ (nat_eq b 125) refl (pick _ _ (nat_eq b 44) refl (pick _ _ (nat_eq b 58) refl (pick _ _ (nat_eq b 33) (tag true) other))))))) where
   pick : (x y : Token) (q : Bool) → is_marked x ≡ false → is_marked y ≡ false → is_marked (cond q x y) ≡ false
@@ -363,15 +363,18 @@ rest_marks text flow size (l ∷ ls) o h = by_test (is_passed false l.bytes) h w
   by_test true h = line_marks text flow size ls o.1 h
   by_test false h = absurd (true≢false (sym h ∙ unmarked flow (past_white l.bytes)))
 
+pub mark_there : (text : List ℕ) (flow : Bool) (i : ℕ) → is_marked (ahead text flow i).token ≡ true → (at : ℕ) × (is_mark (line_at (drop at text)) ≡ true) × ((ahead text flow i).behind ≡ at + 3) × (ahead_seen text i ≡ at + 4)
+mark_there text flow i h = by_column (is_first_column text i) h where
+  by_column : (q : Bool) → is_marked (cond q (line_ahead flow (length text) (lines i (drop i text))) (rest_ahead flow (length text) (lines i (drop i text)))).token ≡ true
+      → Marks text (cond q (line_ahead flow (length text) (lines i (drop i text))) (rest_ahead flow (length text) (lines i (drop i text)))).behind (cond q (line_seen (length text) (lines i (drop i text))) (rest_seen (length text) (lines i (drop i text))))
+  by_column true h = line_marks text flow (length text) (lines i (drop i text)) (lines_of text i) h
+  by_column false h = rest_marks text flow (length text) (lines i (drop i text)) (lines_of text i) h
+
 -- through a place in the text that shows what is ahead behind a mark, the mark itself is shown
 pub seen_mark : (text : List ℕ) (flow : Bool) (i place : ℕ) → is_marked (ahead text flow i).token ≡ true → place < length text → ahead_seen text (ahead text flow i).behind ≤ place → ahead_seen text i ≤ place
 seen_mark text flow i place h low near =
-    let (at, m, stop, seen) = by_column (is_first_column text i) h in
+    let (at, m, stop, seen) = mark_there text flow i h in
     let parts = mark_parts (line_at (drop at text)) m in
     let rest : line_at (drop (at + 3) text) ≡ drop 3 (line_at (drop at text)) = ap line_at (sym (drop-drop 3 at text)) ∙ line_rest 3 (drop at text) parts.0 in
     let later = white_later text (at + 3) place (ap is_end rest ∙ parts.1) low (subst (λ n. ahead_seen text n ≤ place) stop near) in
-    omega (arith, later, seen) where
-      by_column : (q : Bool) → is_marked (cond q (line_ahead flow (length text) (lines i (drop i text))) (rest_ahead flow (length text) (lines i (drop i text)))).token ≡ true
-          → Marks text (cond q (line_ahead flow (length text) (lines i (drop i text))) (rest_ahead flow (length text) (lines i (drop i text)))).behind (cond q (line_seen (length text) (lines i (drop i text))) (rest_seen (length text) (lines i (drop i text))))
-      by_column true h = line_marks text flow (length text) (lines i (drop i text)) (lines_of text i) h
-      by_column false h = rest_marks text flow (length text) (lines i (drop i text)) (lines_of text i) h
+    omega (arith, later, seen)

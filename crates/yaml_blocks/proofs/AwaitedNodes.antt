@@ -1,6 +1,6 @@
 -- What is known of a node that is awaited outside of flow, by its form and what is ahead of it.
 use Rattle.std.proofs.Common.{◌≡◌, ℕ, ◌+◌, ◌≤◌, Bool, true, false, List, [], ◌∷◌, length, refl, subst, arith}
-use Rattle.doc_values.specs.Limits.{template_limit}
+use Rattle.yaml_scalars.specs.code.Limits.{text_limit}
 use Rattle.doc_values.specs.Unfinished.{Unfinished, AwaitsValue}
 use Rattle.yaml_blocks.specs.declared.ahead.Ahead.{Ahead}
 use Rattle.yaml_blocks.specs.declared.form.Form.{Form}
@@ -32,14 +32,14 @@ fits_nested : (text : List ℕ) (fs : List Form) (u : Unfinished) (i : ℕ) → 
 fits_nested text fs u i (o, n, w, l, k) = o.1
 
 -- what is ahead of a place of a short text stands near
-pub seen_near : (text : List ℕ) (i : ℕ) (a : Ahead) → length text ≤ template_limit → IsSeen text false i a → a.at ≤ template_limit
+pub seen_near : (text : List ℕ) (i : ℕ) (a : Ahead) → length text ≤ text_limit → IsSeen text false i a → a.at ≤ text_limit
 seen_near text i a small seen = let within = seen_place text i a seen in omega (arith, within, small)
 
 module _ (text : List ℕ) (fs : List Form) (u : Unfinished) (f : Form) (i : ℕ) (a : Ahead) (w : Awaited text fs u f i a) where
   pub small_form : IsSmall f
   small_form = nested_small f fs w.form (fits_nested text fs u i w.fits)
 
-  pub small_place : a.at ≤ template_limit
+  pub small_place : a.at ≤ text_limit
   small_place = w.small
 
   pub column_before : a.column ≤ a.at

@@ -3,6 +3,7 @@ use Rattle.std.proofs.Common.{◌≡◌, ℕ, zero, suc, ◌-◌, ◌<◌, ◌�
 use Rattle.std.proofs.lemmas.Str.{IsUtf8-from_ascii, IsUtf8-append}
 use Rattle.std.specs.Prelude.{Ok}
 use Rattle.std.specs.Str.{IsUtf8, IsCharBoundary}
+use Rattle.doc_values.specs.Tree.{Forest}
 use Rattle.doc_values.specs.Unfinished.{Unfinished}
 use Rattle.yaml_scalars.specs.Lines.{begins_with, each, ends_with}
 use Rattle.yaml_scalars.specs.Plain.{is_flow_mark}
@@ -17,11 +18,11 @@ use Rattle.yaml_blocks.specs.declared.stage.Stage.TheVariants as stage
 use Rattle.yaml_blocks.specs.declared.stage.Position.{Position}
 use Rattle.yaml_blocks.specs.Ahead.{ahead}
 use Rattle.yaml_blocks.specs.Signs.{Tree}
-use Rattle.yaml_blocks.specs.Yaml.{IsYaml}
-use Rattle.yaml_blocks.specs.code.AheadSeen.{ahead_seen}
+use Rattle.yaml_blocks.specs.Yaml.{IsStart, IsYaml}
+use Rattle.yaml_blocks.specs.code.Extends.{root_seen}
 use Rattle.yaml_blocks.specs.code.Closers.{closers, in_flow}
 use Rattle.yaml_blocks.specs.code.Feeds.{IsFed, FeedsStep}
-use Rattle.yaml_blocks.specs.code.Places.{IsShort}
+use Rattle.yaml_blocks.specs.Places.{IsShort}
 use Rattle.yaml_blocks.specs.code.Rest.{top}
 use Rattle.yaml_blocks.specs.code.Steps.{IsBlock, IsFlow, LiesIn, Nests, Rest, Fits, SameStep, Goes, reached}
 use Rattle.yaml_blocks.specs.code.Twins.{IsTwin, settled, Alive}
@@ -32,7 +33,7 @@ use Rattle.yaml_blocks.proofs.ShortTexts.{ascii_bytes, marks_longer}
 
 -- ---- a longer text is the same through the last byte
 
-last_byte : (k : ℕ) (xs : List ℕ) (n : ℕ) → suc n ≡ length xs → begins_with k (drop n xs) ≡ ends_with k xs
+pub last_byte : (k : ℕ) (xs : List ℕ) (n : ℕ) → suc n ≡ length xs → begins_with k (drop n xs) ≡ ends_with k xs
 last_byte k [] n e = absurd (omega (arith, e))
 last_byte k (x ∷ []) n e = let z : n ≡ 0 = omega (arith, e) in ap (λ m. begins_with k (drop m (x ∷ []))) z
 last_byte k (x ∷ y ∷ xs) zero e = absurd (omega (arith, e))
@@ -49,9 +50,9 @@ twin_end text more utf8 long l last = by_front (parted text (length text - 1) (o
       record { utf8 = long; marks = marks_longer text more utf8 l; agrees = agrees; breaks = agrees_here (length text - 1) text (text ++ more) agrees feed }
 
 -- so where all that settles how a position was come to lies within the text
-pub back : (text : List ℕ) (p : Position) (fs : List Form) (u : Unfinished) → IsUtf8 text → LivesOn text p fs u → (p.stage ≡ stage.Whole → ⊥) → 0 < length text → settled text (in_flow (top fs)) p.stage p.at ≤ length text - 1 → (fs ≡ [] → ahead_seen text p.at < length text) → ends_with 13 text ≡ false
+pub back : (text : List ℕ) (p : Position) (fs : List Form) (u : Unfinished) → IsUtf8 text → LivesOn text p fs u → (p.stage ≡ stage.Whole → ⊥) → 0 < length text → settled text (in_flow (top fs)) p.stage p.at ≤ length text - 1 → (fs ≡ [] → IsStart text p.at → root_seen text p.at < length text) → ends_with 13 text ≡ false
     → (more : List ℕ) → IsUtf8 (text ++ more) → Alive (text ++ more) (IsYaml (text ++ more)) fs u p
-back text p fs u utf8 lives goes l near root last more long = lives goes (length text - 1) (text ++ more) (twin_end text more utf8 long l last) near (λ e. let z = root e in omega (arith, z))
+back text p fs u utf8 lives goes l near root last more long = lives goes (length text - 1) (text ++ more) (twin_end text more utf8 long l last) near (λ e s. let z = root e s in omega (arith, z))
 
 -- where an entry may stand between brackets
 pub back_entry : (text : List ℕ) (p : Position) (fs : List Form) (u : Unfinished) → IsUtf8 text → LivesOn text p fs u → p.stage ≡ stage.Entry → IsFlow (top fs) → 0 < p.at → p.at ≤ length text → ends_with 13 text ≡ false → (more : List ℕ) → IsUtf8 (text ++ more)
@@ -66,7 +67,7 @@ back_entry text p fs u utf8 lives e flow some low last more long =
 abbrev pub Grows : List ℕ → Position → List Form → Unfinished → Type 0
 Grows text p fs u = (p.stage ≡ stage.Whole → ⊥) → IsFlow (top fs) → ends_with 13 text ≡ false → (other : List ℕ) → IsFed text other → IsUtf8 other → Alive other (IsYaml other) fs u p
 
-flow_or_block : (f : Form) → IsFlow f ⊎ IsBlock f
+pub flow_or_block : (f : Form) → IsFlow f ⊎ IsBlock f
 flow_or_block Root = inr tt
 flow_or_block (Flow map) = inl tt
 flow_or_block (FlowTagged at) = inl tt
@@ -125,10 +126,10 @@ fits_nests text stage.Value fs u i goes f = f.0.1
 fits_nests text stage.After fs u i goes f = f.0.1
 fits_nests text stage.Whole fs u i goes f = absurd (goes refl)
 
--- where nothing is ahead between brackets, the text is short
-pub end_short : (text : List ℕ) (p : Position) (fs : List Form) (u : Unfinished) → IsUtf8 text → Grows text p fs u → (p.stage ≡ stage.Whole → ⊥) → Fits text p.stage fs u p.at → p.at ≤ length text → IsFlow (top fs) → (ahead text true p.at).token ≡ End → ends_with 13 text ≡ false
-    → IsShort text (length text)
-end_short text p fs u utf8 grows goes fits low flow end last =
+-- where nothing is ahead between brackets, a tree follows in some longer text
+pub end_follows : (text : List ℕ) (p : Position) (fs : List Form) (u : Unfinished) → IsUtf8 text → Grows text p fs u → (p.stage ≡ stage.Whole → ⊥) → Fits text p.stage fs u p.at → p.at ≤ length text → IsFlow (top fs) → (ahead text true p.at).token ≡ End → ends_with 13 text ≡ false
+    → (more : List ℕ) × IsUtf8 (text ++ more) × Alive (text ++ more) (IsYaml (text ++ more)) fs u p × ((g : Forest) × Rest (text ++ more) p.stage fs u p.at (Tree g))
+end_follows text p fs u utf8 grows goes fits low flow end last =
     let over = over_of (text ++ (10 ∷ [])) p.at (spent_feed text true p.at low (inl end)) in
     let r = closes_rest (text ++ (10 ∷ [])) text p.stage fs u p.at over (λ e n. subst IsFlow n flow) fits in
     let is : (text ++ (10 ∷ [])) ++ closers fs ≡ text ++ (10 ∷ closers fs) = append_assoc text (10 ∷ []) (closers fs) in
@@ -136,5 +137,12 @@ end_short text p fs u utf8 grows goes fits low flow end last =
     let more : List ℕ = 10 ∷ closers fs in
     let long : IsUtf8 (text ++ more) = IsUtf8-append text more utf8 (IsUtf8-from_ascii more (ascii_bytes more (closers_ascii fs))) in
     let a = grows goes flow last (text ++ more) (b.0, b.1, b.2, ap (λ w. text ++ (10 ∷ w)) b.3) long in
-    let t = a.0.1 r.0 (subst (λ w. Rest w p.stage fs u p.at (Tree r.0)) is r.1) in
-    (refl, (more, t.0, long, t.1))
+    (more, long, a, (r.0, subst (λ w. Rest w p.stage fs u p.at (Tree r.0)) is r.1))
+
+-- so the text is short
+pub end_short : (text : List ℕ) (p : Position) (fs : List Form) (u : Unfinished) → IsUtf8 text → Grows text p fs u → (p.stage ≡ stage.Whole → ⊥) → Fits text p.stage fs u p.at → p.at ≤ length text → IsFlow (top fs) → (ahead text true p.at).token ≡ End → ends_with 13 text ≡ false
+    → IsShort text (length text)
+end_short text p fs u utf8 grows goes fits low flow end last =
+    let f = end_follows text p fs u utf8 grows goes fits low flow end last in
+    let t = f.2.0.1 f.3.0 f.3.1 in
+    (refl, (f.0, t.0, f.1, t.1))

@@ -4,7 +4,7 @@ use Rattle.std.proofs.lemmas.Bool.{ltb-true, lt-ltb, cases_lt}
 use Rattle.std.proofs.lemmas.Bool.Decides.{nat_tests}
 use Rattle.std.specs.Prelude.{Result, Ok, Err, option_map, MatchOption}
 use Rattle.std.specs.Str.{IsCharBoundary}
-use Rattle.doc_values.specs.Limits.{template_limit}
+use Rattle.yaml_scalars.specs.code.Limits.{text_limit}
 use Rattle.doc_values.specs.declared.builder.BuildRefusal.{BuildRefusal}
 use Rattle.doc_values.specs.declared.builder.BuildRefusal.TheVariants as build
 use Rattle.doc_values.specs.declared.kind.Kind.{Kind}
@@ -96,7 +96,7 @@ column_within i a p = by_line a.fresh refl where
 end_token : (text : List ℕ) (i : ℕ) (t : Token) → (ahead text false i).token ≡ t → is_ending t ≡ false → Inside text i
 end_token text i t e n = inside_at text i (ap is_ending e ∙ n)
 
-start_token : (text : List ℕ) (i : ℕ) → starts_scalar (ahead text false i).token ≡ true → Inside text i
+pub start_token : (text : List ℕ) (i : ℕ) → starts_scalar (ahead text false i).token ≡ true → Inside text i
 start_token text i s = inside_at text i (word_inside (ahead text false i).token s)
 
 -- a node begins at a token, and is awaited at its place
@@ -104,9 +104,9 @@ abbrev pub Awaiting : List ℕ → List Form → Unfinished → ℕ → Reading 
 Awaiting text fs u at v = Awaits text fs u.outer u.done u.key at v
 
 abbrev pub Spot : List ℕ → List Form → Unfinished → Form → ℕ → Ahead → Type 0
-Spot text fs u f at a = (a.at ≤ template_limit) × IsPlaced text at a × (top fs ≡ f) × IsBlock f × Open fs u × IsBehind f at × IsSpelled text f at
+Spot text fs u f at a = (a.at ≤ text_limit) × IsPlaced text at a × (top fs ≡ f) × IsBlock f × Open fs u × IsBehind f at × IsSpelled text f at
 
-pub spot : (text : List ℕ) (fs : List Form) (u : Unfinished) (f : Form) (at : ℕ) (a : Ahead) → a.at ≤ template_limit → IsSeen text false at a → top fs ≡ f → IsBlock f → Fits text stage.Value fs u at → Spot text fs u f at a
+pub spot : (text : List ℕ) (fs : List Form) (u : Unfinished) (f : Form) (at : ℕ) (a : Ahead) → a.at ≤ text_limit → IsSeen text false at a → top fs ≡ f → IsBlock f → Fits text stage.Value fs u at → Spot text fs u f at a
 spot text fs u f at a s (e, p) t b (o, n, w, l, k) = (s, p, t, b, o, subst (λ g. IsBehind g at) t l, subst (λ g. IsSpelled text g at) t k)
 
 pub spot_of : (text : List ℕ) (fs : List Form) (u : Unfinished) (f : Form) (at : ℕ) (a : Ahead) → Awaited text fs u f at a → Spot text fs u f at a
@@ -251,7 +251,7 @@ tag_gives text fs gs u w f g at len next r e sp t tk eg h =
 
 -- ---- brackets and scalars
 
-node_barred : (text : List ℕ) (fs : List Form) (u : Unfinished) (f : Form) (at : ℕ) → Spot text fs u f at (ahead text false at) → takes_scalar f (ahead text false at) ≡ true → Inside text at → AreQuiet text (ahead text false at) fs × Inside text at
+pub node_barred : (text : List ℕ) (fs : List Form) (u : Unfinished) (f : Form) (at : ℕ) → Spot text fs u f at (ahead text false at) → takes_scalar f (ahead text false at) ≡ true → Inside text at → AreQuiet text (ahead text false at) fs × Inside text at
 node_barred text fs u f at sp tk e = (node_quiet text (ahead text false at) f fs sp.2 sp.4.1 tk, e)
 
 module _ (text : List ℕ) (fs : List Form) (u : Unfinished) (f : Form) (at : ℕ) (m : Bool) (sp : Spot text fs u f at (ahead text false at)) (o : (ahead text false at).token ≡ Opens m) (tk : takes_scalar f (ahead text false at) ≡ true) where

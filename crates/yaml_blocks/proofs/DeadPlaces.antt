@@ -7,7 +7,7 @@ use Rattle.yaml_scalars.specs.Scalar.{begins_order_mark}
 use Rattle.yaml_laws.specs.code.Agreement.{AgreesTo}
 use Rattle.yaml_laws.proofs.AgreeLess.{agrees_less, agrees_here}
 use Rattle.yaml_blocks.specs.Yaml.{IsYaml}
-use Rattle.yaml_blocks.specs.code.Places.{IsFront, IsDead}
+use Rattle.yaml_blocks.specs.Places.{IsFront, IsDead}
 use Rattle.yaml_blocks.specs.code.Twins.{IsTwin, IsPast}
 
 -- ---- the parts of texts

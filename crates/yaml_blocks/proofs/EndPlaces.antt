@@ -9,10 +9,10 @@ use Rattle.yaml_laws.specs.code.Agreement.{AgreesTo}
 use Rattle.yaml_blocks.specs.declared.form.Form.{Form}
 use Rattle.yaml_blocks.specs.declared.stage.Stage.TheVariants as stage
 use Rattle.yaml_blocks.specs.declared.stage.Position.{Position}
-use Rattle.yaml_blocks.specs.Yaml.{IsYaml}
-use Rattle.yaml_blocks.specs.code.AheadSeen.{ahead_seen}
+use Rattle.yaml_blocks.specs.Yaml.{IsStart, IsYaml}
+use Rattle.yaml_blocks.specs.code.Extends.{root_seen}
 use Rattle.yaml_blocks.specs.code.Closers.{in_flow}
-use Rattle.yaml_blocks.specs.code.Places.{IsSyntax}
+use Rattle.yaml_blocks.specs.Places.{IsSyntax}
 use Rattle.yaml_blocks.specs.code.Rest.{top}
 use Rattle.yaml_blocks.specs.code.Twins.{IsTwin, IsLast, IsUsual, LengthensAt, Alive, settled}
 use Rattle.yaml_blocks.proofs.Back.{back}
@@ -23,7 +23,7 @@ use Rattle.yaml_blocks.proofs.ShortTexts.{ascii_bytes}
 use Rattle.yaml_blocks.proofs.Stopped.{last_return}
 
 -- what is a twin at the last byte is a longer text
-longer_of : (text other : List ℕ) (n : ℕ) → suc n ≡ length text → IsTwin text n other → (more : List ℕ) × (other ≡ text ++ more)
+pub longer_of : (text other : List ℕ) (n : ℕ) → suc n ≡ length text → IsTwin text n other → (more : List ℕ) × (other ≡ text ++ more)
 longer_of text other n e m = by_front m.agrees where
   none : (xs : List ℕ) → length xs ≡ 0 → xs ≡ []
   none [] z = refl
@@ -36,7 +36,7 @@ longer_of text other n e m = by_front m.agrees where
       let whole : text ≡ before ++ (b ∷ []) = f ∙ ap (λ r. before ++ (b ∷ r)) nil in
       (more, g ∙ sym (append_assoc before (b ∷ []) more) ∙ ap (λ t. t ++ more) (sym whole))
 
-module _ (text : List ℕ) (p : Position) (fs : List Form) (u : Unfinished) (utf8 : IsUtf8 text) (lives : LivesOn text p fs u) (goes : p.stage ≡ stage.Whole → ⊥) (some : 0 < length text) (near : settled text (in_flow (top fs)) p.stage p.at ≤ length text - 1) (root : fs ≡ [] → ahead_seen text p.at < length text)
+module _ (text : List ℕ) (p : Position) (fs : List Form) (u : Unfinished) (utf8 : IsUtf8 text) (lives : LivesOn text p fs u) (goes : p.stage ≡ stage.Whole → ⊥) (some : 0 < length text) (near : settled text (in_flow (top fs)) p.stage p.at ≤ length text - 1) (root : fs ≡ [] → IsStart text p.at → root_seen text p.at < length text)
     (last : ends_with 13 text ≡ false) (q : ℕ) (says : LengthensAt text p.stage fs u p.at q) where
   alive : (more : List ℕ) → IsUtf8 (text ++ more) → Alive (text ++ more) (IsYaml (text ++ more)) fs u p
   alive more long = back text p fs u utf8 lives goes some near root last more long

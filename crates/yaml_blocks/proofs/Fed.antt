@@ -25,6 +25,7 @@ use Rattle.yaml_blocks.specs.Ahead.{token_len, ahead}
 use Rattle.yaml_blocks.specs.Nodes.{tag_name, get_att, follows_get_att, setting_of, as_key, starts_scalar, scalar_ahead}
 use Rattle.yaml_blocks.specs.Flow.{ends_key, IsColon}
 use Rattle.yaml_blocks.specs.code.Steps.{IsSeen, IsBlock, IsFlow, IsBehind, Holds, TagBegun, Opened, Closed, Completes, SameScalar, SameFlowNode, SameFlowKey, SameStep, is_flow_ending}
+use Rattle.yaml_blocks.specs.code.Points.{is_pointed}
 use Rattle.yaml_blocks.specs.code.Feeds.{IsFed, FeedsSeen, FeedsFlowNode, FeedsFlowKey, FeedsEntry, FeedsStep, Feeds, Opening}
 use Rattle.yaml_blocks.proofs.AheadFed.{ahead_fed, some_of}
 use Rattle.yaml_blocks.proofs.AheadEnds.{seam_get}
@@ -110,13 +111,14 @@ module _ (text tail : List ℕ) (c : ℕ) (mark : is_flow_mark c ≡ true) (last
   }
 
   fed_node : (f : Form) (i : ℕ) (a : Ahead) → IsBehind f i → i ≤ length text → a.at < length text → starts_scalar a.token ≡ false → ((len : ℕ) → a.token ≡ Tag len → (a.at < a.behind) × (a.behind ≤ length text)) → SameFlowNode text longer f i a
-  fed_node f i a o low l n named = record { name = λ len e. (let g = named len e in fed_name a.at a.behind g.0 g.1); cuts = fed_cuts f i o low; scalar = fed_other (setting_of f) a l n }
+  fed_node f i a o low l n named = record { name = λ len e. (let g = named len e in fed_name a.at a.behind g.0 g.1); cuts = fed_cuts f i o low; scalar = fed_other (setting_of f) a l n; point = λ t j st p. absurd (missed_other text (setting_of f) a n t j st) }
 
-  fed_word : (f : Form) (i : ℕ) (a : Ahead) (t : List ℕ) (e : ℕ) → IsFlow f → IsBehind f i → i ≤ length text → a.at < length text → e ≤ length text → scalar_ahead text (setting_of f) a ≡ Stands t e → SameFlowNode text longer f i a
-  fed_word f i a t e flow o low l near st = record {
+  fed_word : (f : Form) (i : ℕ) (a : Ahead) (t : List ℕ) (e : ℕ) → IsFlow f → IsBehind f i → i ≤ length text → a.at < length text → e ≤ length text → scalar_ahead text (setting_of f) a ≡ Stands t e → is_pointed text true a.at e ≡ false → SameFlowNode text longer f i a
+  fed_word f i a t e flow o low l near st none = record {
     name = λ len h. absurd (true≢false (sym (starts_of text (setting_of f) a t e st).0 ∙ ap starts_scalar h));
     cuts = fed_cuts f i o low;
     scalar = fed_scalar (setting_of f) a t e (flow_setting f flow) l near st;
+    point = λ u j st2 p. absurd (true≢false (sym p ∙ ap (is_pointed text true a.at) (sym (end_is t u e j (sym st ∙ st2))) ∙ none));
   } where
     flow_setting : (f : Form) → IsFlow f → (setting_of f).flow ≡ true
     flow_setting Root k = absurd k
@@ -191,14 +193,13 @@ module _ (text : List ℕ) (i : ℕ) (a : Ahead) (seen : IsSeen text true i a) (
   null_feeds f u w (Err e) o n h = tt
   null_feeds f u w (Ok p) o n h = let t = ending_long a.token n in token_feeds f p o t.1 t.0
 
-  pub scalar_feeds : (f : Form) (cuts : Bool) (u w : Unfinished) (r : Result Position Stop) → IsFlow f → IsBehind f i → Holds text (setting_of f) cuts a u w r → FeedsFlowNode text f i a r
-  scalar_feeds f cuts u w (Err e) flow o h = tt
-  scalar_feeds f cuts u w (Ok p) flow o (t, k, (st, hk, low, end), es, ew, room) = λ last other fed. by_fed last other fed where
+  pub scalar_feeds : (f : Form) (cuts : Bool) (u w : Unfinished) (p : Position) → IsFlow f → IsBehind f i → Holds text (setting_of f) cuts a u w (Ok p) → is_pointed text true a.at p.at ≡ false → FeedsFlowNode text f i a (Ok p)
+  scalar_feeds f cuts u w p flow o (t, k, (st, hk, low, end), es, ew, room) none = λ last other fed. by_fed last other fed where
     by_fed : ends_with 13 text ≡ false → (other : List ℕ) → IsFed text other → (ahead other true i ≡ ahead text true i) × SameFlowNode text other f i a
     by_fed last other (c, tail, mark, e) =
         let b = end.0 in
         subst (λ o. (ahead o true i ≡ ahead text true i) × SameFlowNode text o f i a) (sym e)
-        (same_ahead tail c mark last (starts_known a.token (starts_of text (setting_of f) a t p.at st).0), fed_word text tail c mark last f i a t p.at flow o cut.0 (omega (arith, low, b)) b st)
+        (same_ahead tail c mark last (starts_known a.token (starts_of text (setting_of f) a t p.at st).0), fed_word text tail c mark last f i a t p.at flow o cut.0 (omega (arith, low, b)) b st none)
 
   pub key_feeds : (quoted : Bool) (t : List ℕ) (q e : ℕ) (p : Position) → scalar_ahead text (as_key true) a ≡ Stands t e → a.at < e → IsCharBoundary text e → IsColon text quoted e q → FeedsFlowKey text i a (Ok p)
   key_feeds quoted t q e p st low end colon = λ last other fed. by_fed last other fed where

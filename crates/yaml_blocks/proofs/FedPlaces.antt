@@ -1,6 +1,6 @@
 -- A text that ends in a carriage return, decided by the same text with a line feed behind it. By the cases of places.
 use Rattle.std.proofs.Common.{◌≡◌, ℕ, suc, ◌<◌, ◌≤◌, inl, inr, List, [], ◌∷◌, ◌++◌, length, sym, ap, ◌∙◌, subst, arith, append_assoc, length-append}
-use Rattle.yaml_blocks.specs.code.Places.{IsFront, IsDead, IsSyntax}
+use Rattle.yaml_blocks.specs.Places.{IsFront, IsDead, IsSyntax}
 use Rattle.yaml_blocks.proofs.DeadPlaces.{front_less, front_more, parted}
 use Rattle.yaml_blocks.proofs.LoneReturns.{return_dead}
 

@@ -1,5 +1,5 @@
 -- A sign in front of the document, in a text that ends in a carriage return and a line feed, stands in front of each longer text too: no document begins with the text. By the cases of tokens.
-use Rattle.std.proofs.Common.{◌≡◌, ℕ, ◌+◌, ◌<◌, ◌≤◌, ◌⊎◌, inl, inr, Bool, true, false, ◌&&◌, not, cond, List, [], ◌∷◌, ◌++◌, Some, None, drop, length, refl, sym, ap, ◌∙◌, arith}
+use Rattle.std.proofs.Common.{◌≡◌, ℕ, ◌<◌, ◌≤◌, ◌⊎◌, inl, inr, Bool, true, false, ◌&&◌, not, cond, List, [], ◌∷◌, ◌++◌, Some, None, drop, length, refl, sym, ap, ◌∙◌, arith}
 use Rattle.std.proofs.lemmas.Bool.{cases_lt}
 use Rattle.std.proofs.lemmas.List.{drop_all}
 use Rattle.yaml_scalars.specs.Lines.{lines}
@@ -10,12 +10,12 @@ use Rattle.yaml_blocks.specs.declared.ahead.Token.TheVariants.{End, Dashes, Perc
 use Rattle.yaml_blocks.specs.Ahead.{ahead, line_ahead, rest_ahead}
 use Rattle.yaml_blocks.specs.Signs.{Sign, ManyDocuments}
 use Rattle.yaml_blocks.specs.Yaml.{is_content, sign_before, start_sign, text_start}
-use Rattle.yaml_blocks.specs.code.Places.{IsFront}
+use Rattle.yaml_blocks.specs.Places.{IsFront}
 use Rattle.yaml_blocks.proofs.FedTexts.{fed_marks, fed_same}
 use Rattle.yaml_blocks.proofs.Roots.{start_counts}
 
 -- behind the text's end nothing is ahead
-end_past : (text : List ℕ) (i : ℕ) → length text ≤ i → (ahead text false i).token ≡ End
+pub end_past : (text : List ℕ) (i : ℕ) → length text ≤ i → (ahead text false i).token ≡ End
 end_past text i l = by_column (is_first_column text i) where
   none : drop i text ≡ []
   none = drop_all i text l

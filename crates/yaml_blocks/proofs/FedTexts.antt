@@ -26,7 +26,7 @@ use Rattle.yaml_laws.proofs.ScalarFollowed.{kind_longer}
 use Rattle.yaml_blocks.specs.declared.ahead.Token.TheVariants.{End}
 use Rattle.yaml_blocks.specs.Ahead.{is_name, token_at, token_of, mark_of, is_passed, content_ahead, line_ahead, rest_ahead, ahead}
 use Rattle.yaml_blocks.specs.code.AheadSeen.{token_shown, first_return, content_shown, line_seen, rest_seen, ahead_seen}
-use Rattle.yaml_blocks.specs.code.Places.{IsFront}
+use Rattle.yaml_blocks.specs.Places.{IsFront}
 use Rattle.yaml_blocks.specs.code.Twins.{IsTwin}
 use Rattle.yaml_blocks.proofs.AheadFed.{ahead_broken, end_broken, some_of}
 use Rattle.yaml_blocks.proofs.AheadOrder.{mark_parts, widest_less}

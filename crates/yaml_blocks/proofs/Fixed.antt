@@ -1,13 +1,14 @@
 -- What a step found is fixed by the bytes that are looked at where it goes on. By the cases of what is found.
-use Rattle.std.proofs.Common.{◌≡◌, ℕ, ◌<◌, ◌≤◌, inl, inr, Bool, true, false, cond, List, length, refl, sym, ap, ◌∙◌, subst, true≢false, arith}
+use Rattle.std.proofs.Common.{◌≡◌, ℕ, ◌+◌, ◌<◌, ◌≤◌, inl, inr, Bool, true, false, ◌||◌, ◌&&◌, not, cond, nat_le, nat_lt, List, drop, length, refl, sym, ap, ◌∙◌, subst, true≢false, arith}
 use Rattle.std.specs.Prelude.{Result, Ok, Err, IfOk, IsUtf8}
 use Rattle.std.specs.Str.{IsCharBoundary}
 use Rattle.std.specs.Cow.{cow_str_bytes}
 use Rattle.doc_values.specs.Unfinished.{Unfinished}
 use Rattle.yaml_scalars.specs.declared.scalar.Setting.{Setting}
-use Rattle.yaml_scalars.specs.Lines.{Stands, Fails}
-use Rattle.yaml_scalars.specs.Scalar.{scalar_at}
-use Rattle.yaml_laws.specs.code.Agreement.{AgreesTo, scalar_shown}
+use Rattle.yaml_scalars.specs.Lines.{Stands, Fails, lines}
+use Rattle.yaml_scalars.specs.Scalar.{begins_block, begins_quoted, scalar_at}
+use Rattle.yaml_scalars.specs.code.Walk.{line_at}
+use Rattle.yaml_laws.specs.code.Agreement.{AgreesTo, out_shown, plain_shown, scalar_shown}
 use Rattle.yaml_blocks.specs.declared.ahead.Ahead.{Ahead}
 use Rattle.yaml_blocks.specs.declared.ahead.Token.{Token}
 use Rattle.yaml_blocks.specs.declared.ahead.Token.TheVariants.{End, Dashes, Dots, Dash, Tag, NoTag, Opens, Closes, Comma, Point, Anchor, Percent, Tabbed, Stray, Other}
@@ -23,11 +24,16 @@ use Rattle.yaml_blocks.specs.Blocks.{takes_scalar, takes_mapping, takes_tag}
 use Rattle.yaml_blocks.specs.Flow.{ends_key, IsColon}
 use Rattle.yaml_blocks.specs.code.AheadSeen.{ahead_seen}
 use Rattle.yaml_blocks.specs.code.Closers.{in_flow}
-use Rattle.yaml_blocks.specs.code.Steps.{IsSeen, IsBlock, IsFlow, IsBehind, NoNode, NoKey, HasKey, EndsKey, Holds, TagBegun, Opened, Closed, Completes, SameScalar, SameKey, SameNode, SameFlowNode, is_flow_ending}
+use Rattle.yaml_blocks.specs.code.Points.{is_last_point, is_pointed}
+use Rattle.yaml_blocks.specs.code.Steps.{IsSeen, IsBlock, IsFlow, IsBehind, NoNode, NoKey, HasKey, EndsKey, Holds, TagBegun, Opened, Closed, Completes, SameScalar, SameKey, SameNode, SameFlowNode, is_flow_ending, is_open}
 use Rattle.yaml_blocks.specs.code.Twins.{IsTwin, settled, FixesNode, FixesFlowNode, FixesFlowKey, FixesEntry, FixesEnd, FixesSeen, FixesStep}
 use Rattle.yaml_blocks.proofs.AheadColons.{point_seen}
 use Rattle.yaml_blocks.proofs.AheadOrder.{seen_behind, seen_least, seen_from}
+use Rattle.yaml_blocks.proofs.BlockEnds.{last_quoted}
 use Rattle.yaml_blocks.proofs.KeyEnds.{key_end}
+use Rattle.yaml_blocks.proofs.LastPoints.{loose_point}
+use Rattle.yaml_blocks.proofs.Placed.{placed}
+use Rattle.yaml_blocks.proofs.Pointed.{last_parts, last_stale, point_of}
 use Rattle.yaml_blocks.proofs.Quiet.{mapping_takes}
 use Rattle.yaml_blocks.proofs.SameTexts.{has_key_same}
 use Rattle.yaml_blocks.proofs.Settled.{settled_value, settled_after, settled_null, settled_ending, settled_at, token_reach, opening_reach}
@@ -88,6 +94,7 @@ node_other text place other m f i a low near o n named = record {
   scalar = λ tk nk. twin_other text place other m (setting_of f) a low (n tk);
   none = λ tm nk t p k. missed_other other (as_key false) a (n (mapping_takes text f a tm)) t k.0 k.1;
   key = λ tm k h. absurd (missed_other text (as_key false) a (n (mapping_takes text f a tm)) (cow_str_bytes k.text) h.0.0 h.0.1);
+  point = λ tk nk t j st p. absurd (missed_other text (setting_of f) a (n tk) t j st);
 }
 
 -- a token where a value may stand behind it
@@ -120,10 +127,29 @@ opens_fixes text f i map a fs gs u w (Ok p) seen cut o t (es, ej, eg, ew, d) = �
 pub dash_fixes : (text : List ℕ) (f : Form) (i : ℕ) (a : Ahead) → IsSeen text false i a → IsCharBoundary text i → IsBehind f i → a.token ≡ Dash → (p : Position) → p.stage ≡ stage.Value → p.at ≡ a.behind → FixesNode text f i a (Ok p)
 dash_fixes text f i a seen cut o d p es e = token_fixes text f i a seen cut o (ap starts_scalar d) (ap is_marked d) (subst (λ k. 0 < token_len k) (sym d) (omega arith)) p es e
 
-pub missing_fixes : (text : List ℕ) (f : Form) (i : ℕ) (a : Ahead) (u w : Unfinished) (r : Result Position Stop) → IsSeen text false i a → IsCharBoundary text i → IsBehind f i → NoNode f a → Completes i u w r → FixesNode text f i a r
-missing_fixes text f i a u w (Err e) seen cut o n h = tt
-missing_fixes text f i a u w (Ok p) seen cut o n (es, ej, ew) = λ goes place other m near.
-    let far = settled_at text false p stage.After i place es ej near in
+-- where a scalar may begin on the line
+stale_takes : (f : Form) (a : Ahead) → IsBlock f → (f ≡ Root → ⊥) → a.fresh ≡ false → takes_scalar f a ≡ true
+stale_takes Root a b s e = absurd (s refl)
+stale_takes (Flow map) a b s e = absurd b
+stale_takes (FlowTagged at) a b s e = absurd b
+stale_takes (Items m) a b s e = ap (λ q. not q || nat_lt m a.column) e
+stale_takes (Entries m) a b s e = ap (λ q. not q || nat_lt m a.column) e
+stale_takes (Tagged at above shares) a b s e = ap (λ q. not q || nat_le above a.column) e
+
+-- so no colon stands on the line of a missing node
+missing_far : (text : List ℕ) (f : Form) (i : ℕ) (a : Ahead) (place : ℕ) → IsSeen text false i a → NoNode f a → IsBlock f → (f ≡ Root → ⊥) → settled text false stage.After i ≤ place → ahead_seen text i ≤ place
+missing_far text f i a place seen n block some near = by_last (is_last_point text false (ahead text false i)) refl near where
+  by_last : (q : Bool) → is_last_point text false (ahead text false i) ≡ q → cond (q || (false && not (is_open (ahead text true i).token))) (ahead text false i).at (ahead_seen text i) ≤ place → ahead_seen text i ≤ place
+  by_last true e h =
+      let y : is_last_point text false a ≡ true = subst (λ (b : Ahead). is_last_point text false b ≡ true) (sym seen.0) e in
+      let p = (point_of a.token (last_parts text false a y).0).1 in
+      absurd (true≢false (sym (ap starts_scalar p) ∙ (n.0 (stale_takes f a block some (last_stale text a y))).0))
+  by_last false e h = h
+
+pub missing_fixes : (text : List ℕ) (f : Form) (i : ℕ) (a : Ahead) (u w : Unfinished) (r : Result Position Stop) → IsSeen text false i a → IsCharBoundary text i → IsBehind f i → NoNode f a → IsBlock f → (f ≡ Root → ⊥) → Completes i u w r → FixesNode text f i a r
+missing_fixes text f i a u w (Err e) seen cut o n block some h = tt
+missing_fixes text f i a u w (Ok p) seen cut o n block some (es, ej, ew) = λ goes place other m near.
+    let far = missing_far text f i a place seen n block some (settled_at text false p stage.After i place es ej near) in
     let first = place_from text false i a seen in
     let least = seen_least text i cut.0 in
     (far, node_other text place other m f i a (omega (arith, first, far)) (omega (arith, least, far)) o (λ h. (n.0 h).0) (λ len tk t. absurd (n.2 tk len t)))
@@ -175,11 +201,12 @@ key_fixes text f i a k p seen cut o tm ((e, st, fr, tk, b), end, over) ends es p
         scalar = λ h nk. absurd (nk tm t k.behind (e, st, fr, tk, b));
         none = λ h nk. absurd (nk t k.behind (e, st, fr, tk, b));
         key = λ h k2 there. has_key_same text other a alike k2 there;
+        point = λ h nk x j st2 y. absurd (nk tm t k.behind (e, st, fr, tk, b));
       },
     )
 
 -- where a scalar stands that is no key with its colon, none stands there in a text that is the same as far as is looked at behind it
-none_twin : (text : List ℕ) (place : ℕ) (other : List ℕ) (m : IsTwin text place other) → IsUtf8 text → (f : Form) (a : Ahead) (t : List ℕ) (j : ℕ) → IsBlock f → SameScalar text other (setting_of f) a → scalar_ahead text (setting_of f) a ≡ Stands t j
+pub none_twin : (text : List ℕ) (place : ℕ) (other : List ℕ) (m : IsTwin text place other) → IsUtf8 text → (f : Form) (a : Ahead) (t : List ℕ) (j : ℕ) → IsBlock f → SameScalar text other (setting_of f) a → scalar_ahead text (setting_of f) a ≡ Stands t j
     → a.at ≤ place → j ≤ length text → ahead_seen text j ≤ place → NoKey text a → NoKey other a
 none_twin text place other m utf8 f a t j block same st low last near nk = λ u q (e, st2, fr, tk, b).
     let je : j ≡ e = key_end other a f block u t e j st2 fr (same.scalar ∙ st) in
@@ -202,26 +229,68 @@ none_twin text place other m utf8 f a t j block same st low last near nk = λ u 
       turned : AgreesTo place text other → AgreesTo place other text
       turned (before, behind, more, b, e, f, size) = (before, more, behind, b, f, e, size)
 
-pub scalar_fixes : (text : List ℕ) (f : Form) (i : ℕ) (a : Ahead) (cuts : Bool) (u w : Unfinished) (r : Result Position Stop) → IsUtf8 text → IsSeen text false i a → IsCharBoundary text i → IsBehind f i → IsBlock f → (takes_mapping f a ≡ true → NoKey text a)
-    → Holds text (setting_of f) cuts a u w r → FixesNode text f i a r
-scalar_fixes text f i a cuts u w (Err e) utf8 seen cut o block none h = tt
-scalar_fixes text f i a cuts u w (Ok p) utf8 seen cut o block none (t, k, (st, hk, low, last), es, ew, room) = λ goes place other m far.
-    let near = settled_at text false p stage.After p.at place es refl far in
-    let from = scalar_from text false i a seen cut (setting_of f) t p.at st low last in
-    let to = scalar_to text false i a seen cut (setting_of f) t p.at st low last in
-    let all = scalar_all text false i a seen cut (setting_of f) t p.at st low last in
-    let least = seen_least text i cut.0 in
-    let first = place_from text false i a seen in
-    let same = twin_scalar text place other m (setting_of f) a t p.at (omega (arith, first, from, to, near)) (omega (arith, all, near)) (omega (arith, to, near)) st in (
-      omega (arith, from, to, near),
-      record {
-        name = λ len h g. absurd (no_scalar a (Tag len) g refl (starts_of text (setting_of f) a t p.at st).0);
-        cuts = twin_cuts text place other m f i o (omega (arith, least, from, to, near));
-        scalar = λ h nk. same;
-        none = λ h nk. none_twin text place other m utf8 f a t p.at block same st (omega (arith, first, from, to, near)) last.0 near nk;
-        key = λ h k2 there. absurd (none h (cow_str_bytes k2.text) k2.behind there.0);
-      },
-    )
+-- the same of a quoted scalar where a colon that ends the text follows on its line, by the colon's first byte
+last_twin : (text : List ℕ) (place : ℕ) (other : List ℕ) (m : IsTwin text place other) → IsUtf8 text → (f : Form) (a : Ahead) (t : List ℕ) (j : ℕ) → IsBlock f → SameScalar text other (setting_of f) a → scalar_ahead text (setting_of f) a ≡ Stands t j
+    → a.at ≤ place → j ≤ place → is_last_point text false (ahead text false j) ≡ true → begins_quoted (drop a.at text) ≡ true → NoKey text a → NoKey other a
+last_twin text place other m utf8 f a t j block same st low near y quoted nk = λ u q (e, st2, fr, tk, b).
+    let je : j ≡ e = key_end other a f block u t e j st2 fr (same.scalar ∙ st) in
+    let st3 = subst (λ n. scalar_ahead other (as_key false) a ≡ Stands u n) (sym je) st2 in
+    let back : IsTwin other place text = record { utf8 = utf8; marks = sym m.marks; agrees = turned m.agrees; breaks = sym m.breaks } in
+    let shown : scalar_shown (as_key false) other a.at j ≡ j =
+    ap (λ r. cond r j (plain_shown (as_key false) (length other) (lines a.at (drop a.at other)))) (twin_quoted text place other m a.at low ∙ quoted) in
+    let there = twin_ahead_scalar other place text back (as_key false) a u j low (omega (arith, shown, near)) st3 in
+    nk u (ahead text false j).behind (j, there, last_stale text (ahead text false j) y, loose_point text j (last_parts text false (ahead text false j) y).0, refl) where
+      turned : AgreesTo place text other → AgreesTo place other text
+      turned (before, behind, more, b, e, f, size) = (before, more, behind, b, f, e, size)
+
+pub scalar_fixes : (text : List ℕ) (f : Form) (i : ℕ) (a : Ahead) (cuts : Bool) (u w : Unfinished) (p : Position) → IsUtf8 text → IsSeen text false i a → IsCharBoundary text i → IsBehind f i → IsBlock f → (takes_mapping f a ≡ true → NoKey text a)
+    → Holds text (setting_of f) cuts a u w (Ok p) → is_pointed text false a.at p.at ≡ false → FixesNode text f i a (Ok p)
+scalar_fixes text f i a cuts u w p utf8 seen cut o block none (t, k, (st, hk, low, last), es, ew, room) still = λ goes place other m far. by_last place other m (is_last_point text false (ahead text false p.at)) refl (settled_at text false p stage.After p.at place es refl far) where
+  -- only a quoted scalar stands in front of a colon that ends the text
+  quoted : is_last_point text false (ahead text false p.at) ≡ true → begins_quoted (drop a.at text) ≡ true
+  quoted y = last_quoted f text a.at t p.at block (starts_of text (setting_of f) a t p.at st).1 y still
+
+  near_end : is_last_point text false (ahead text false p.at) ≡ true → scalar_shown (setting_of f) text a.at p.at ≡ p.at
+  near_end y = ap (λ q. cond q p.at (cond (begins_block (setting_of f) (drop a.at text)) (p.at + out_shown (line_at (drop p.at text))) (plain_shown (setting_of f) (length text) (lines a.at (drop a.at text))))) (quoted y)
+
+  last_fixes : (place : ℕ) (other : List ℕ) → IsTwin text place other → is_last_point text false (ahead text false p.at) ≡ true → (ahead text false p.at).at ≤ place → (ahead_seen text i ≤ place) × SameNode text other f i a
+  last_fixes place other m y near =
+      let from = scalar_from text false i a seen cut (setting_of f) t p.at st low last in
+      let to = (placed text false p.at utf8 last).0 in
+      let all = near_end y in
+      let least = seen_least text i cut.0 in
+      let first = place_from text false i a seen in
+      let same = twin_scalar text place other m (setting_of f) a t p.at (omega (arith, first, from, to, near)) (omega (arith, all, to, near)) (omega (arith, to, near)) st in (
+        omega (arith, from, to, near),
+        record {
+          name = λ len h g. absurd (no_scalar a (Tag len) g refl (starts_of text (setting_of f) a t p.at st).0);
+          cuts = twin_cuts text place other m f i o (omega (arith, least, from, to, near));
+          scalar = λ h nk. same;
+          none = λ h nk. last_twin text place other m utf8 f a t p.at block same st (omega (arith, first, from, to, near)) (omega (arith, to, near)) y (quoted y) nk;
+          key = λ h k2 there. absurd (none h (cow_str_bytes k2.text) k2.behind there.0);
+          point = λ h nk x j st2 y. absurd (true≢false (sym y ∙ ap (is_pointed text false a.at) (sym (end_is t x p.at j (sym st ∙ st2))) ∙ still));
+        },
+      )
+
+  by_last : (place : ℕ) (other : List ℕ) → IsTwin text place other → (q : Bool) → is_last_point text false (ahead text false p.at) ≡ q → cond (q || (false && not (is_open (ahead text true p.at).token))) (ahead text false p.at).at (ahead_seen text p.at) ≤ place → (ahead_seen text i ≤ place) × SameNode text other f i a
+  by_last place other m true y near = last_fixes place other m y near
+  by_last place other m false y near =
+      let from = scalar_from text false i a seen cut (setting_of f) t p.at st low last in
+      let to = scalar_to text false i a seen cut (setting_of f) t p.at st low last in
+      let all = scalar_all text false i a seen cut (setting_of f) t p.at st low last in
+      let least = seen_least text i cut.0 in
+      let first = place_from text false i a seen in
+      let same = twin_scalar text place other m (setting_of f) a t p.at (omega (arith, first, from, to, near)) (omega (arith, all, near)) (omega (arith, to, near)) st in (
+        omega (arith, from, to, near),
+        record {
+          name = λ len h g. absurd (no_scalar a (Tag len) g refl (starts_of text (setting_of f) a t p.at st).0);
+          cuts = twin_cuts text place other m f i o (omega (arith, least, from, to, near));
+          scalar = λ h nk. same;
+          none = λ h nk. none_twin text place other m utf8 f a t p.at block same st (omega (arith, first, from, to, near)) last.0 near nk;
+          key = λ h k2 there. absurd (none h (cow_str_bytes k2.text) k2.behind there.0);
+          point = λ h nk x j st2 y. absurd (true≢false (sym y ∙ ap (is_pointed text false a.at) (sym (end_is t x p.at j (sym st ∙ st2))) ∙ still));
+        },
+      )
 
 -- ---- behind a node outside of flow
 
@@ -259,12 +328,13 @@ whole_fixes text i a (Ok p) h = λ goes place other m near. absurd (goes h)
 
 -- ---- in flow
 
-flow_other : (text : List ℕ) (place : ℕ) (other : List ℕ) (m : IsTwin text place other) (f : Form) (i : ℕ) (a : Ahead) → a.at ≤ place → i ≤ place → IsBehind f i → starts_scalar a.token ≡ false
+pub flow_other : (text : List ℕ) (place : ℕ) (other : List ℕ) (m : IsTwin text place other) (f : Form) (i : ℕ) (a : Ahead) → a.at ≤ place → i ≤ place → IsBehind f i → starts_scalar a.token ≡ false
     → ((len : ℕ) → a.token ≡ Tag len → (a.at < a.behind) × (a.behind ≤ place)) → SameFlowNode text other f i a
 flow_other text place other m f i a low near o n named = record {
   name = λ len e. (let g = named len e in twin_name text place other m a.at a.behind g.0 g.1);
   cuts = twin_cuts text place other m f i o near;
   scalar = twin_other text place other m (setting_of f) a low n;
+  point = λ t j st p. absurd (missed_other text (setting_of f) a n t j st);
 }
 
 pub flow_tag_fixes : (text : List ℕ) (f g : Form) (i len : ℕ) (a : Ahead) (fs gs : List Form) (u w : Unfinished) (r : Result Position Stop) → IsSeen text true i a → IsCharBoundary text i → IsBehind f i → a.token ≡ Tag len → TagBegun text g a fs u gs w r
@@ -297,13 +367,20 @@ flow_form (Items m) k = absurd k
 flow_form (Entries m) k = absurd k
 flow_form (Tagged at above shares) k = absurd k
 
-pub flow_scalar_fixes : (text : List ℕ) (f : Form) (i : ℕ) (a : Ahead) (cuts : Bool) (u w : Unfinished) (r : Result Position Stop) → IsSeen text true i a → IsCharBoundary text i → IsFlow f → IsBehind f i → Holds text (setting_of f) cuts a u w r → FixesFlowNode text f i a r
-flow_scalar_fixes text f i a cuts u w (Err e) seen cut flow o h = tt
-flow_scalar_fixes text f i a cuts u w (Ok p) seen cut flow o (t, k, (st, hk, low, last), es, ew, room) = λ goes place other m far.
+flow_many : (f : Form) → IsFlow f → (setting_of f).one_line ≡ false
+flow_many Root k = absurd k
+flow_many (Flow map) k = refl
+flow_many (FlowTagged at) k = refl
+flow_many (Items m) k = absurd k
+flow_many (Entries m) k = absurd k
+flow_many (Tagged at above shares) k = absurd k
+
+pub flow_scalar_fixes : (text : List ℕ) (f : Form) (i : ℕ) (a : Ahead) (cuts : Bool) (u w : Unfinished) (p : Position) → IsSeen text true i a → IsCharBoundary text i → IsFlow f → IsBehind f i → Holds text (setting_of f) cuts a u w (Ok p) → is_pointed text true a.at p.at ≡ false → FixesFlowNode text f i a (Ok p)
+flow_scalar_fixes text f i a cuts u w p seen cut flow o (t, k, (st, hk, low, last), es, ew, room) none = λ goes place other m far.
     let near = settled_at text true p stage.After p.at place es refl far in
     let from = scalar_from text true i a seen cut (setting_of f) t p.at st low last in
     let to = settled_after text p.at place last.0 near in
-    let all = scalar_out (setting_of f) text a.at t p.at (flow_form f flow) (let l = last.0 in omega (arith, low, l)) last.0 (starts_of text (setting_of f) a t p.at st).1 in
+    let all = scalar_out (setting_of f) text a.at t p.at (flow_form f flow) (flow_many f flow) (let l = last.0 in omega (arith, low, l)) last.0 (starts_of text (setting_of f) a t p.at st).1 none in
     let least = seen_least text i cut.0 in
     let first = place_from text true i a seen in (
       omega (arith, from, to),
@@ -311,6 +388,7 @@ flow_scalar_fixes text f i a cuts u w (Ok p) seen cut flow o (t, k, (st, hk, low
         name = λ len g. absurd (no_scalar a (Tag len) g refl (starts_of text (setting_of f) a t p.at st).0);
         cuts = twin_cuts text place other m f i o (omega (arith, least, from, to));
         scalar = twin_scalar text place other m (setting_of f) a t p.at (omega (arith, first, from, to)) (omega (arith, all, near)) to st;
+        point = λ x j st2 y. absurd (true≢false (sym y ∙ ap (is_pointed text true a.at) (sym (end_is t x p.at j (sym st ∙ st2))) ∙ none));
       },
     )
 

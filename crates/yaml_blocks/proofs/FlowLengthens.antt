@@ -1,5 +1,5 @@
 -- What a site between brackets says of the text's length and of its last byte, where no carriage return ends the text. By the cases of what stops it.
-use Rattle.std.proofs.Common.{◌≡◌, ℕ, suc, ◌+◌, ◌<◌, ◌≤◌, ◌⊎◌, inl, inr, Bool, true, false, ◌||◌, ◌&&◌, not, cond, nat_eq, nat_lt, arith, List, [], ◌∷◌, ◌++◌, drop, length, refl, sym, ap, ◌∙◌, subst, true≢false, length-drop}
+use Rattle.std.proofs.Common.{◌≡◌, ℕ, ◌+◌, ◌<◌, ◌≤◌, ◌⊎◌, inl, inr, Bool, true, false, ◌||◌, ◌&&◌, cond, nat_eq, nat_lt, arith, List, [], ◌∷◌, ◌++◌, drop, length, refl, sym, ap, ◌∙◌, subst, true≢false, length-drop}
 use Rattle.std.proofs.lemmas.Bool.{cases_lt, ltb-true}
 use Rattle.std.proofs.lemmas.Bool.Decides.{nat_tests}
 use Rattle.std.specs.Prelude.{Result, Ok, Err, None}
@@ -7,10 +7,9 @@ use Rattle.std.specs.Str.{IsCharBoundary, IsUtf8}
 use Rattle.doc_values.specs.Tree.{Forest, has_key}
 use Rattle.doc_values.specs.Unfinished.{AwaitsValue, Level, Unfinished, with_end}
 use Rattle.yaml_scalars.specs.declared.scalar.Setting.{Setting}
-use Rattle.yaml_scalars.specs.Lines.{Line, Fails, Stands, begins_with, each, ends_with, is_cut_mark, is_end, is_mark, is_white, lead, past_white, lines}
-use Rattle.yaml_scalars.specs.Plain.{is_unsafe}
+use Rattle.yaml_scalars.specs.Lines.{Line, Fails, Stands, begins_with, each, ends_with, is_cut_mark, is_mark, is_white, lead, past_white, lines}
 use Rattle.yaml_scalars.specs.Block.{widest}
-use Rattle.yaml_scalars.specs.Scalar.{begins_block, begins_quoted, is_first_column, scalar_at}
+use Rattle.yaml_scalars.specs.Scalar.{begins_block, is_first_column, scalar_at}
 use Rattle.yaml_scalars.specs.code.Walk.{line_at}
 use Rattle.yaml_laws.specs.code.Refusals.{is_ascii}
 use Rattle.yaml_laws.proofs.ScalarLaw.{scalar_upper}
@@ -28,17 +27,18 @@ use Rattle.yaml_blocks.specs.Nodes.{as_key, follows_get_att, is_marked, node_sig
 use Rattle.yaml_blocks.specs.Flow.{IsColon, may_miss}
 use Rattle.yaml_blocks.specs.Signs.{Tree}
 use Rattle.yaml_blocks.specs.code.AheadSeen.{ahead_seen, first_return, is_told}
-use Rattle.yaml_blocks.specs.code.Closers.{in_flow, MayBegin}
-use Rattle.yaml_blocks.specs.code.Rest.{top, Awaits, Ends, Enters}
-use Rattle.yaml_blocks.specs.code.StopPlaces.{is_stray, past_return, token_width, told_place, failed_place, flow_place, last_told, width, within}
-use Rattle.yaml_blocks.specs.code.Steps.{Agrees, IsBehind, IsBlock, IsFlow, IsSpelled, Closed, Open, Fits, is_ending, is_flow_ending, is_open}
-use Rattle.yaml_blocks.specs.code.Twins.{FailedAt, IsKeyed, IsLast, IsUnpointed, IsUsual, Lengthens, LengthensAt, Mends, MendsNode, NoRest, OnUnread, Stops}
+use Rattle.yaml_blocks.specs.code.Closers.{MayBegin, in_flow, HasRoom}
+use Rattle.yaml_blocks.specs.code.Rest.{top, Awaits, Enters}
+use Rattle.yaml_blocks.specs.code.StopPlaces.{is_stray, past_return, token_width, told_place, flow_place, last_told, width, within}
+use Rattle.yaml_blocks.specs.code.Steps.{Agrees, IsBehind, IsFlow, IsSeen, IsSpelled, Closed, Open, Fits, is_ending, is_flow_ending, is_open}
+use Rattle.yaml_blocks.specs.code.Twins.{FailedAt, IsLast, IsUsual, Lengthens, LengthensAt, Mends, MendsNode, NoRest, OnUnread, Stops}
 use Rattle.yaml_blocks.proofs.FirstDead.{after_dead}
 use Rattle.yaml_blocks.proofs.Fixed.{apart, flow_in}
 use Rattle.yaml_blocks.proofs.FirstEntries.{map_dead}
 use Rattle.yaml_blocks.proofs.FirstTokens.{is_shut}
-use Rattle.yaml_blocks.proofs.FlowMends.{end_mends, item_mends, key_mends}
+use Rattle.yaml_blocks.proofs.FlowMends.{end_mends, item_mends, key_grows, key_mends}
 use Rattle.yaml_blocks.proofs.Gains.{TagOn, tag_both, tag_popped}
+use Rattle.yaml_blocks.proofs.KeyTails.{marked_ends, tail_place, tail_within}
 use Rattle.yaml_blocks.proofs.LastBytes.{agrees_longer, stray_told, stray_within}
 use Rattle.yaml_blocks.proofs.Lengthened.{cut_mark_bytes, ends_drop, last_lengthens, some_text, told_at}
 use Rattle.yaml_blocks.proofs.OtherStops.{memory_on, on_from, unread_on}
@@ -53,7 +53,7 @@ use Rattle.yaml_blocks.proofs.Values.{value_grown}
 -- ---- tokens between brackets
 
 -- a `-` and a tab in front of a line's content are none
-abbrev is_outer : Token → Bool
+abbrev pub is_outer : Token → Bool
 is_outer Dash = true
 is_outer Tabbed = true
 is_outer _ = false
@@ -83,7 +83,7 @@ inner_line size (l ∷ ls) = by_tests (is_mark l.bytes) (is_passed true l.bytes)
   by_tests false true h = h
   by_tests false false h = inner_token (past_white l.bytes)
 
-inner_ahead : (text : List ℕ) (i : ℕ) → is_outer (ahead text true i).token ≡ false
+pub inner_ahead : (text : List ℕ) (i : ℕ) → is_outer (ahead text true i).token ≡ false
 inner_ahead text i = by_column (is_first_column text i) (lines i (drop i text)) where
   by_rest : (ls : List Line) → is_outer (rest_ahead true (length text) ls).token ≡ false
   by_rest [] = refl
@@ -114,10 +114,6 @@ open_end Percent o m n p = absurd (true≢false (sym o))
 open_end Stray o m n p = absurd (true≢false (sym o))
 open_end Other o m n p = absurd (true≢false (sym o))
 
-neither : (p q : Bool) → (p || q) ≡ false → p ≡ false
-neither true q h = h
-neither false q h = refl
-
 -- a sign stands at none that goes on
 pub unsigned : (tagged : Bool) (at : ℕ) (t : Token) → node_sign tagged at t ≡ None → (t ≡ NoTag → ⊥) × (t ≡ Anchor → ⊥)
 unsigned tagged at t h = ((λ e. absurd (let z = sym (ap (node_sign tagged at) e) ∙ h in cc)), (λ e. absurd (let z = sym (ap (node_sign tagged at) e) ∙ h in cc)))
@@ -130,37 +126,40 @@ closed_on holds at fs gs u w (Err e) h = memory_on holds e h
 -- ---- the place
 
 pub flow_stops : (text : List ℕ) (i : ℕ) (none : List ℕ → Type 0) (a : Ahead) (q : ℕ) → a ≡ ahead text true i → q ≡ flow_place text a → ((other : List ℕ) → is_ending a.token ≡ false → none other) → Stops text i none (Err (stop.Unread q))
-flow_stops text i none a q e p n = by_open (is_ending a.token || is_open a.token) refl p where
-  by_open : (r : Bool) → (is_ending a.token || is_open a.token) ≡ r → q ≡ cond r (told_place text a) (last_told text a) → Stops text i none (Err (stop.Unread q))
+flow_stops text i none a q e p n = by_open (is_ending a.token) refl p where
+  by_open : (r : Bool) → is_ending a.token ≡ r → q ≡ cond r (told_place text a) (last_told text a) → Stops text i none (Err (stop.Unread q))
   by_open true o k = told_stops text i none true a q e k n
-  by_open false o k = let z = neither (is_ending a.token) (is_open a.token) o in last_told_stops text i none true a q e z k (λ other. n other z)
+  by_open false o k = last_told_stops text i none true a q e o k (λ other. n other o)
 
 module _ (text : List ℕ) (utf8 : IsUtf8 text) (fs : List Form) (u : Unfinished) (i : ℕ) (cut : IsCharBoundary text i) where
   low : i ≤ (ahead text true i).at
   low = ahead_from text i cut.0
 
   -- behind a complete node
-  pub after_lengthens : (map : Bool) (a : Ahead) (q : ℕ) → a ≡ ahead text true i → top fs ≡ Flow map → Open fs u → u.key ≡ None → (a.token ≡ Comma → ⊥) → (a.token ≡ Closes map → ⊥) → is_marked a.token ≡ false → q ≡ flow_place text a → IsUnpointed text i → Lengthens text stage.After fs u i (Err (stop.Unread q))
-  after_lengthens map a q e form open_ none comma closed plain place apoint = by_open (is_ending a.token || is_open a.token) refl place where
+  pub after_lengthens : (map : Bool) (a : Ahead) (q : ℕ) → a ≡ ahead text true i → top fs ≡ Flow map → Open fs u → u.key ≡ None → (a.token ≡ Comma → ⊥) → (a.token ≡ Closes map → ⊥) → is_marked a.token ≡ false → q ≡ flow_place text a → Lengthens text stage.After fs u i (Err (stop.Unread q))
+  after_lengthens map a q e form open_ none comma closed plain place = by_open (is_ending a.token) refl place where
     flow : IsFlow (top fs)
     flow = subst IsFlow (sym form) tt
 
     fits : Fits text stage.After fs u i
     fits = (open_, none, (λ b. absurd (apart (top fs) b flow)))
 
-    by_open : (r : Bool) → (is_ending a.token || is_open a.token) ≡ r → q ≡ cond r (told_place text a) (last_told text a) → Lengthens text stage.After fs u i (Err (stop.Unread q))
+    no_point : (t : Token) → is_ending t ≡ true → (loose : Bool) → t ≡ Point loose → ⊥
+    no_point t s loose k = true≢false (sym s ∙ ap is_ending k)
+
+    by_open : (r : Bool) → is_ending a.token ≡ r → q ≡ cond r (told_place text a) (last_told text a) → Lengthens text stage.After fs u i (Err (stop.Unread q))
     by_open true o k =
-        let end : a.token ≡ End = open_end a.token o plain (ap (λ (b : Ahead). is_outer b.token) e ∙ inner_ahead text i) (λ loose t. apoint loose (sym (ap (λ (b : Ahead). b.token) e) ∙ t)) in
+        let end : a.token ≡ End = open_end a.token (ap (λ c. c || is_open a.token) o) plain (ap (λ (b : Ahead). is_outer b.token) e ∙ inner_ahead text i) (no_point a.token o) in
         let there : q ≡ length text = k ∙ ap (λ t. cond (is_ending t) (length text) (past_return text (a.at + width a (drop a.at text)))) end in
         λ last. ((λ h usual. end_mends text stage.After fs u i fits cut.0 flow (sym (ap (λ (b : Ahead). b.token) e) ∙ end)), (λ l more longer. (let z = l.0 in absurd (omega (arith, z, there)))))
     by_open false o k =
-        last_lengthens text utf8 fs u i cut stage.After true a q e (neither (is_ending a.token) (is_open a.token) o) k
+        last_lengthens text utf8 fs u i cut stage.After true a q e o k
         (λ more longer last t l far there fits2 g h.
         after_dead text (text ++ more) i low t (agrees_longer text more (ahead text true i).at l) map fs u g form open_ (λ z. comma (ap (λ (b : Ahead). b.token) e ∙ z)) (λ z. closed (ap (λ (b : Ahead). b.token) e ∙ z)) h)
 
   -- behind the node of a tag, whose map ends
   pub tag_lengthens : (place : ℕ) (gs : List Form) (w : Unfinished) (r : Result Position Stop) → TagOn place fs gs u → w ≡ with_end u → Lengthens text stage.After gs w i r → Lengthens text stage.After fs u i r
-  tag_lengthens place gs w r on e h = on_from (LengthensAt text stage.After gs w i) (LengthensAt text stage.After fs u i) r (λ q g last. let z = g last in ((λ k usual. mends (z.0 k (unusual gs popped.2))), (λ l more longer there fits t y. z.1 l more longer there (inner_fits (text ++ more)) t (((tag_both (text ++ more) place fs gs u w i on e) (Tree t)).0 y)))) h where
+  tag_lengthens place gs w r on e h = on_from (LengthensAt text stage.After gs w i) (LengthensAt text stage.After fs u i) r (λ q g last. let z = g last in ((λ k usual. mends (z.0 k tt)), (λ l more longer there fits t y. z.1 l more longer there (inner_fits (text ++ more)) t (((tag_both (text ++ more) place fs gs u w i on e) (Tree t)).0 y)))) h where
     popped : Open gs w × (w.key ≡ None) × ((map : Bool) × (top gs ≡ Flow map))
     popped = tag_popped place fs gs u w on e
 
@@ -169,9 +168,6 @@ module _ (text : List ℕ) (utf8 : IsUtf8 text) (fs : List Form) (u : Unfinished
 
     inner_fits : (other : List ℕ) → Fits other stage.After gs w i
     inner_fits other = (popped.0, popped.1, (λ b. absurd (apart (top gs) b flow)))
-
-    unusual : (hs : List Form) → (map : Bool) × (top hs ≡ Flow map) → IsUsual text stage.After hs w i
-    unusual hs f = λ b. absurd (subst IsBlock f.1 b)
 
     mends : Mends text stage.After gs w i → Mends text stage.After fs u i
     mends (more, ascii, tree, y) = (more, ascii, tree, ((tag_both (text ++ more) place fs gs u w i on e) (Tree tree)).1 y)
@@ -195,30 +191,13 @@ module _ (text : List ℕ) (utf8 : IsUtf8 text) (fs : List Form) (u : Unfinished
   bare_token Stray h o s p q n a = absurd (true≢false (sym h))
   bare_token Other h o s p q n a = absurd (true≢false s)
 
-  not_open : (t : Token) → is_ending t ≡ false → starts_scalar t ≡ false → is_open t ≡ false
-  not_open End e s = absurd (true≢false e)
-  not_open Dashes e s = absurd (true≢false e)
-  not_open Dots e s = absurd (true≢false e)
-  not_open Tabbed e s = refl
-  not_open (Point loose) e s = absurd (true≢false s)
-  not_open Dash e s = refl
-  not_open (Tag k) e s = refl
-  not_open NoTag e s = refl
-  not_open (Opens map) e s = refl
-  not_open (Closes map) e s = refl
-  not_open Comma e s = refl
-  not_open Anchor e s = refl
-  not_open Percent e s = refl
-  not_open Stray e s = refl
-  not_open Other e s = refl
-
   pub token_mends : (a : Ahead) (q : ℕ) → a ≡ ahead text true i → starts_scalar a.token ≡ false → ((map : Bool) → a.token ≡ Opens map → ⊥) → ((len : ℕ) → a.token ≡ Tag len → ⊥) → (a.token ≡ NoTag → ⊥) → (a.token ≡ Anchor → ⊥) → q ≡ flow_place text a → MendsNode text fs u i q
   token_mends a q e starts opens tags none anchor place = λ last. ((λ h going room. absurd (past last h going)), (λ l. late last l)) where
     here : (ahead text true i).token ≡ a.token
     here = sym (ap (λ (b : Ahead). b.token) e)
 
     shut : is_ending a.token ≡ false → q ≡ last_told text a
-    shut z = place ∙ ap (λ r. cond (r || is_open a.token) (told_place text a) (last_told text a)) z ∙ ap (λ r. cond r (told_place text a) (last_told text a)) (not_open a.token z starts)
+    shut z = place ∙ ap (λ r. cond r (told_place text a) (last_told text a)) z
 
     some : is_ending a.token ≡ false → 0 < length text
     some z = some_text text true i cut.0 (ap is_ending here ∙ z)
@@ -244,7 +223,7 @@ module _ (text : List ℕ) (utf8 : IsUtf8 text) (fs : List Form) (u : Unfinished
       by_told (inr k) = stray_within text true i utf8 cut last (here ∙ k) (l.1 last)
 
       by_ending : (r : Bool) → is_ending a.token ≡ r → ⊥
-      by_ending true z = let k : q ≡ length text = place ∙ ap (λ r. cond (r || is_open a.token) (told_place text a) (last_told text a)) z ∙ ap (λ r. cond r (length text) (past_return text (a.at + width a (drop a.at text)))) z in let y = l.0 in omega (arith, k, y)
+      by_ending true z = let k : q ≡ length text = place ∙ ap (λ r. cond r (told_place text a) (last_told text a)) z ∙ ap (λ r. cond r (length text) (past_return text (a.at + width a (drop a.at text)))) z in let y = l.0 in omega (arith, k, y)
       by_ending false z = by_told (stray_told a.token z)
 
   word_told : (t : Token) → starts_scalar t ≡ true → is_told t ≡ true
@@ -319,13 +298,13 @@ module _ (text : List ℕ) (utf8 : IsUtf8 text) (fs : List Form) (u : Unfinished
     flowing : IsFlow (top fs)
     flowing = subst IsFlow (sym form) flow
 
-    mend : ends_with 13 text ≡ false → scalar_at (setting_of (top fs)) text (ahead text true i).at ≡ Fails (length text) → (follows_get_att text (top fs) i ≡ true → length u.outer < 128) → Mended
+    mend : ends_with 13 text ≡ false → scalar_at (setting_of (top fs)) text (ahead text true i).at ≡ Fails (length text) → (follows_get_att text (top fs) i ≡ true → HasRoom text (ahead text true i).at (length u.outer)) → Mended
     mend last h room =
-        subst (λ o. MayBegin (top fs) (ahead text o i) → starts_scalar (ahead text o i).token ≡ true → (ahead text o i).at < length text → begins_block (setting_of (top fs)) (drop (ahead text o i).at text) ≡ false → ends_with 13 text ≡ false → scalar_at (setting_of (top fs)) text (ahead text o i).at ≡ Fails (length text) → (follows_get_att text (top fs) i ≡ true → length u.outer < 128) → Mended) (flow_in (top fs) flowing)
+        subst (λ o. MayBegin (top fs) (ahead text o i) → starts_scalar (ahead text o i).token ≡ true → (ahead text o i).at < length text → begins_block (setting_of (top fs)) (drop (ahead text o i).at text) ≡ false → ends_with 13 text ≡ false → scalar_at (setting_of (top fs)) text (ahead text o i).at ≡ Fails (length text) → (follows_get_att text (top fs) i ≡ true → HasRoom text (ahead text o i).at (length u.outer)) → Mended) (flow_in (top fs) flowing)
         (value_grown fs u.outer u.done u.key i open_.0 open_.1 text cut.0) (λ b. absurd (apart (top fs) b flowing)) word inside_text (flow_block (top fs) (drop (ahead text true i).at text) flowing) last h room
 
     Says : Type 0
-    Says = (q ≡ length text → is_ending (ahead text true i).token ≡ false → (follows_get_att text (top fs) i ≡ true → length u.outer < 128) → Mended) × (IsLast text i q → ⊥)
+    Says = (q ≡ length text → is_ending (ahead text true i).token ≡ false → (follows_get_att text (top fs) i ≡ true → HasRoom text (ahead text true i).at (length u.outer)) → Mended) × (IsLast text i q → ⊥)
 
     by_less : (r : ℕ) (c : Bool) → nat_lt r (length text) ≡ c → ends_with 13 text ≡ false → scalar_at (setting_of f) text (ahead text true i).at ≡ Fails r → q ≡ cond c (within text (past_return text (widest (a.at + width a (drop a.at text)) r))) (length text) → Says
     by_less r true k last h g =
@@ -375,17 +354,17 @@ module _ (text : List ℕ) (utf8 : IsUtf8 text) (fs : List Form) (u : Unfinished
 
   -- a token that begins no key
   pub key_token_lengthens : (a : Ahead) (q : ℕ) → a ≡ ahead text true i → top fs ≡ Flow true → Open fs u → u.key ≡ None → starts_scalar a.token ≡ false → (a.token ≡ Closes true → ⊥) → is_marked a.token ≡ false → q ≡ flow_place text a → Lengthens text stage.Entry fs u i (Err (stop.Unread q))
-  key_token_lengthens a q e form open_ none starts closed plain place = by_open (is_ending a.token || is_open a.token) refl place where
+  key_token_lengthens a q e form open_ none starts closed plain place = by_open (is_ending a.token) refl place where
     flow : IsFlow (top fs)
     flow = subst IsFlow (sym form) tt
 
-    by_open : (r : Bool) → (is_ending a.token || is_open a.token) ≡ r → q ≡ cond r (told_place text a) (last_told text a) → Lengthens text stage.Entry fs u i (Err (stop.Unread q))
+    by_open : (r : Bool) → is_ending a.token ≡ r → q ≡ cond r (told_place text a) (last_told text a) → Lengthens text stage.Entry fs u i (Err (stop.Unread q))
     by_open true o k =
-        let end : a.token ≡ End = open_end a.token o plain (ap (λ (b : Ahead). is_outer b.token) e ∙ inner_ahead text i) (no_point a.token starts) in
+        let end : a.token ≡ End = open_end a.token (ap (λ c. c || is_open a.token) o) plain (ap (λ (b : Ahead). is_outer b.token) e ∙ inner_ahead text i) (no_point a.token starts) in
         let there : q ≡ length text = k ∙ ap (λ t. cond (is_ending t) (length text) (past_return text (a.at + width a (drop a.at text)))) end in
         λ last. ((λ h usual. end_mends text stage.Entry fs u i (open_, (true, form), none) cut.0 flow (sym (ap (λ (b : Ahead). b.token) e) ∙ end)), (λ l more longer. (let z = l.0 in absurd (omega (arith, z, there)))))
     by_open false o k =
-        last_lengthens text utf8 fs u i cut stage.Entry true a q e (neither (is_ending a.token) (is_open a.token) o) k (λ more longer last t l far there fits g h. by_forms more t l fs u.outer form open_.0 g h) where
+        last_lengthens text utf8 fs u i cut stage.Entry true a q e o k (λ more longer last t l far there fits g h. by_forms more t l fs u.outer form open_.0 g h) where
           by_forms : (more : List ℕ) → is_told (ahead text true i).token ≡ true → (ahead text true i).at < length text → (hs : List Form) (outer : List Level) → top hs ≡ Flow true → Agrees hs outer → (g : Forest) → Enters (text ++ more) hs outer u.done i (Tree g) → ⊥
           by_forms more t l [] outer f ag g h = absurd (cc)
           by_forms more t l (y ∷ ys) [] f ag g h = absurd ag
@@ -393,9 +372,9 @@ module _ (text : List ℕ) (utf8 : IsUtf8 text) (fs : List Form) (u : Unfinished
               map_dead text (text ++ more) i low t (agrees_longer text more (ahead text true i).at l) ys x xs u.done g (shut_token (ahead text true i).token t (inner_ahead text i) (sym (ap (λ (b : Ahead). starts_scalar b.token) e) ∙ starts))
               (λ z. closed (ap (λ (b : Ahead). b.token) e ∙ z)) (subst (λ k. Enters (text ++ more) (k ∷ ys) (x ∷ xs) u.done i (Tree g)) f h)
 
-  -- a key that fails within the text
-  pub key_fails_lengthens : (a : Ahead) (z : Setting) (e : Stop) → a ≡ ahead text true i → starts_scalar a.token ≡ true → z ≡ as_key true → ((q : ℕ) → e ≡ stop.Unread q → FailedAt text z a q) → IsKeyed text i → Lengthens text stage.Entry fs u i (Err e)
-  key_fails_lengthens a z e here starts same place keyed = unread_on (LengthensAt text stage.Entry fs u i) (Err e) (λ q h last. by_fail last q (subst (λ y. FailedAt text y a q) same (place q (error_is (Err e) q refl h)))) where
+  -- a key that fails
+  pub key_fails_lengthens : (a : Ahead) (z : Setting) (e : Stop) → a ≡ ahead text true i → starts_scalar a.token ≡ true → z ≡ as_key true → ((q : ℕ) → e ≡ stop.Unread q → FailedAt text z a q) → top fs ≡ Flow true → Open fs u → Lengthens text stage.Entry fs u i (Err e)
+  key_fails_lengthens a z e here starts same place form open_ = unread_on (LengthensAt text stage.Entry fs u i) (Err e) (λ q h last. by_fail last q (subst (λ y. FailedAt text y a q) same (place q (error_is (Err e) q refl h)))) where
     error_is : (r : Result Position Stop) (q : ℕ) → r ≡ Err e → r ≡ Err (stop.Unread q) → e ≡ stop.Unread q
     error_is r q g k = cc
 
@@ -417,7 +396,7 @@ module _ (text : List ℕ) (utf8 : IsUtf8 text) (fs : List Form) (u : Unfinished
             by_order : (n < length text) ⊎ (length text ≤ n) → ⊥
             by_order (inl y) = let w = g ∙ within_here text n y in omega (arith, z, w, y)
             by_order (inr y) = let w = g ∙ within_end text n y in omega (arith, z, w, l)
-    by_less q r false k last h g = absurd (keyed.0 (ap (λ c. cond c (scalar_at (as_key true) text (ahead text true i).at) (Fails (ahead text true i).at)) word ∙ h ∙ ap Fails end)) where
+    by_less q r false k last h g = ((λ z usual. key_grows text fs u i form open_ cut.0 word inside_text last (h ∙ ap Fails end)), (λ x more longer. (let y = x.0 in absurd (omega (arith, y, g))))) where
       end : r ≡ length text
       end = let z : length text ≤ r = grind (arith, nat_tests, k) in let m = scalar_upper (as_key true) text (ahead text true i).at r inside_text h in omega (arith, z, m)
 
@@ -426,21 +405,37 @@ module _ (text : List ℕ) (utf8 : IsUtf8 text) (fs : List Form) (u : Unfinished
     by_fail last q (inr (r, l, h, g)) =
         by_less q r (nat_lt r (length text)) refl last (ap (λ (b : Ahead). scalar_at (as_key true) text b.at) (sym here) ∙ sym (ap (λ c. cond c (scalar_at (as_key true) text a.at) (Fails a.at)) starts) ∙ h) g
 
-  -- a key without its colon, behind which nothing is
-  pub key_end_lengthens : (a : Ahead) (t : List ℕ) (e q : ℕ) (quoted : Bool) → a ≡ ahead text true i → top fs ≡ Flow true → Open fs u → scalar_ahead text (as_key true) a ≡ Stands t e → a.at < e → IsCharBoundary text e → has_key u.done t ≡ false → quoted ≡ begins_quoted (drop a.at text) → ((p : ℕ) → IsColon text quoted e p → ⊥)
-      → q ≡ told_place text (ahead text true e) → IsKeyed text i → Lengthens text stage.Entry fs u i (Err (stop.Unread q))
-  key_end_lengthens a t e q quoted here form open_ st less there fresh eq none place keyed = λ last. (
-    (λ h usual. (let b = there.0 in let l = less in key_mends text fs u i t e form open_ cut.0 last st2 (subst (λ (b : Ahead). b.at < length text) here (omega (arith, b, l))) there.0 end fresh)),
-    (λ l more longer. (let z = l.0 in absurd (omega (arith, z, place_is)))),
-  ) where
+  -- a key without its colon
+  pub key_end_lengthens : (a : Ahead) (t : List ℕ) (e q : ℕ) (quoted : Bool) → IsSeen text true i a → top fs ≡ Flow true → Open fs u → scalar_ahead text (as_key true) a ≡ Stands t e → a.at < e → IsCharBoundary text e → has_key u.done t ≡ false → ((p : ℕ) → IsColon text quoted e p → ⊥)
+      → q ≡ flow_place text (ahead text true e) → Lengthens text stage.Entry fs u i (Err (stop.Unread q))
+  key_end_lengthens a t e q quoted seen form open_ st less there fresh none place = λ last. by_ending last (is_ending (ahead text true e).token) refl where
     st2 : scalar_ahead text (as_key true) (ahead text true i) ≡ Stands t e
-    st2 = subst (λ (b : Ahead). scalar_ahead text (as_key true) b ≡ Stands t e) here st
+    st2 = subst (λ (b : Ahead). scalar_ahead text (as_key true) b ≡ Stands t e) seen.0 st
 
-    end : (ahead text true e).token ≡ End
-    end = keyed.1 t e st2 (λ p c. none p (subst (λ b. IsColon text b e p) (sym (eq ∙ ap (λ (b : Ahead). begins_quoted (drop b.at text)) here)) c))
+    unmarked : is_marked (ahead text true e).token ≡ false
+    unmarked = by_mark (is_marked (ahead text true e).token) refl where
+      by_mark : (r : Bool) → is_marked (ahead text true e).token ≡ r → r ≡ false
+      by_mark true m = absurd (none e (inr (marked_ends (ahead text true e).token m, refl)))
+      by_mark false m = refl
 
-    place_is : q ≡ length text
-    place_is = place ∙ ap (λ z. cond (is_ending z) (length text) (past_return text ((ahead text true e).at + width (ahead text true e) (drop (ahead text true e).at text)))) end
+    at_end : is_ending (ahead text true e).token ≡ true → (ahead text true e).token ≡ End
+    at_end go = open_end (ahead text true e).token (ap (λ z. z || is_open (ahead text true e).token) go) unmarked (inner_ahead text e) (λ loose k. true≢false (sym go ∙ ap is_ending k))
+
+    place_is : (ahead text true e).token ≡ End → q ≡ length text
+    place_is end = place ∙ ap (λ z. cond (is_ending z) (cond (is_ending z) (length text) (past_return text ((ahead text true e).at + width (ahead text true e) (drop (ahead text true e).at text)))) (last_told text (ahead text true e))) end
+
+    Says : Type 0
+    Says = (q ≡ length text → IsUsual text stage.Entry fs u i → Mends text stage.Entry fs u i) × (IsLast text i q → (more : List ℕ) → IsUtf8 (text ++ more) → NoRest stage.Entry fs u i (text ++ more))
+
+    by_ending : ends_with 13 text ≡ false → (r : Bool) → is_ending (ahead text true e).token ≡ r → Says
+    by_ending last true go = (
+      (λ h usual. (let b = there.0 in let l = less in key_mends text fs u i t e form open_ cut.0 last st2 (subst (λ (b : Ahead). b.at < length text) seen.0 (omega (arith, b, l))) there.0 (at_end go) fresh)),
+      (λ l more longer. (let z = l.0 in let y = place_is (at_end go) in absurd (omega (arith, z, y)))),
+    )
+    by_ending last false go = (
+      (λ h usual. (let z = tail_place text utf8 i a seen cut t e st less there quoted none q place last go in absurd (omega (arith, z, h)))),
+      (λ l more longer. (let z = tail_within text utf8 i a seen cut t e st less there quoted none q place last go in let y = l.1 last in absurd (omega (arith, z, y)))),
+    )
 
   -- an entry of a list
   pub item_lengthens : (a : Ahead) (r : Result Position Stop) → a ≡ ahead text true i → top fs ≡ Flow false → Open fs u → u.key ≡ None → is_marked a.token ≡ false → OnUnread (MendsNode text fs u i) r → Lengthens text stage.Entry fs u i r
@@ -448,13 +443,13 @@ module _ (text : List ℕ) (utf8 : IsUtf8 text) (fs : List Form) (u : Unfinished
     flow : IsFlow (top fs)
     flow = subst IsFlow (sym form) tt
 
-    room : follows_get_att text (top fs) i ≡ true → length u.outer < 128
+    room : follows_get_att text (top fs) i ≡ true → HasRoom text (ahead text true i).at (length u.outer)
     room g = absurd (true≢false (sym g ∙ ap (λ f. follows_get_att text f i) form))
 
     no_colon : (t : Token) → is_ending t ≡ true → (loose : Bool) → t ≡ Point loose → ⊥
     no_colon t s loose k = true≢false (sym s ∙ ap is_ending k)
 
-    by_ending : (c : Bool) → is_ending (ahead text true i).token ≡ c → (q : ℕ) → q ≡ length text → (q ≡ length text → is_ending (ahead text true i).token ≡ false → (follows_get_att text (top fs) i ≡ true → length u.outer < 128) → (more : List ℕ) × (each is_ascii more ≡ true) × (tree : Forest) × Awaits (text ++ more) fs u.outer u.done u.key i (Tree tree))
+    by_ending : (c : Bool) → is_ending (ahead text true i).token ≡ c → (q : ℕ) → q ≡ length text → (q ≡ length text → is_ending (ahead text true i).token ≡ false → (follows_get_att text (top fs) i ≡ true → HasRoom text (ahead text true i).at (length u.outer)) → (more : List ℕ) × (each is_ascii more ≡ true) × (tree : Forest) × Awaits (text ++ more) fs u.outer u.done u.key i (Tree tree))
         → Mends text stage.Entry fs u i
     by_ending true o q k z =
         end_mends text stage.Entry fs u i (open_, (false, form), none) cut.0 flow
@@ -490,7 +485,7 @@ module _ (text : List ℕ) (utf8 : IsUtf8 text) (fs : List Form) (u : Unfinished
 
   pub value_lengthens : (f : Form) (a : Ahead) (r : Result Position Stop) → a ≡ ahead text true i → top fs ≡ f → IsFlow f → may_miss f ≡ true → IsBehind f i → Open fs u → AwaitsValue u → is_flow_ending a.token ≡ false → OnUnread (MendsNode text fs u i) r → Lengthens text stage.Value fs u i r
   value_lengthens f a r e form flow misses behind open_ awaited plain h =
-      on_from (MendsNode text fs u i) (LengthensAt text stage.Value fs u i) r (λ q g last. let z = g last in ((λ k usual. by_ending (is_ending (ahead text true i).token) refl q k (usual.0) z.0), (λ l more longer. absurd (z.1 l)))) h where
+      on_from (MendsNode text fs u i) (LengthensAt text stage.Value fs u i) r (λ q g last. let z = g last in ((λ k usual. by_ending (is_ending (ahead text true i).token) refl q k (subst (λ o. follows_get_att text (top fs) i ≡ true → HasRoom text (ahead text o i).at (length u.outer)) (flow_in (top fs) flowing) (usual (flow_block (top fs) (drop (ahead text (in_flow (top fs)) i).at text) flowing))) z.0), (λ l more longer. absurd (z.1 l)))) h where
         flowing : IsFlow (top fs)
         flowing = subst IsFlow (sym form) flow
 
@@ -500,7 +495,7 @@ module _ (text : List ℕ) (utf8 : IsUtf8 text) (fs : List Form) (u : Unfinished
         fits : Fits text stage.Value fs u i
         fits = (open_, no_list, awaited, subst (λ g. IsBehind g i) (sym form) behind, flow_spelled (top fs) flowing)
 
-        by_ending : (c : Bool) → is_ending (ahead text true i).token ≡ c → (q : ℕ) → q ≡ length text → (follows_get_att text (top fs) i ≡ true → length u.outer < 128) → (q ≡ length text → is_ending (ahead text true i).token ≡ false → (follows_get_att text (top fs) i ≡ true → length u.outer < 128)
+        by_ending : (c : Bool) → is_ending (ahead text true i).token ≡ c → (q : ℕ) → q ≡ length text → (follows_get_att text (top fs) i ≡ true → HasRoom text (ahead text true i).at (length u.outer)) → (q ≡ length text → is_ending (ahead text true i).token ≡ false → (follows_get_att text (top fs) i ≡ true → HasRoom text (ahead text true i).at (length u.outer))
             → (more : List ℕ) × (each is_ascii more ≡ true) × (tree : Forest) × Awaits (text ++ more) fs u.outer u.done u.key i (Tree tree)) → Mends text stage.Value fs u i
         by_ending true o q k room z = end_mends text stage.Value fs u i fits cut.0 flowing (ending_end (ahead text true i).token o (sym (ap (λ (b : Ahead). is_flow_ending b.token) e) ∙ plain) (inner_ahead text i))
         by_ending false o q k room z = z k o room

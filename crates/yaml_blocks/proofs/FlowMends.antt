@@ -1,16 +1,16 @@
 -- What mends a text that breaks off between brackets: some bytes of ASCII behind it, with which something may follow at the position that is a tree. By the cases of what breaks off.
-use Rattle.std.proofs.Common.{◌≡◌, ℕ, ◌<◌, ◌≤◌, inl, inr, true, false, List, [], ◌∷◌, ◌++◌, None, Option, length, refl, sym, ap, ◌∙◌, subst, append_assoc}
+use Rattle.std.proofs.Common.{◌≡◌, ℕ, ◌<◌, ◌≤◌, inl, true, false, List, [], ◌∷◌, ◌++◌, None, length, refl, sym, subst, append_assoc}
 use Rattle.doc_values.specs.Tree.{Forest, has_key}
 use Rattle.doc_values.specs.Unfinished.{Level, Unfinished}
-use Rattle.yaml_scalars.specs.Lines.{Stands, each, ends_with}
+use Rattle.yaml_scalars.specs.Lines.{Fails, Stands, each, ends_with}
+use Rattle.yaml_scalars.specs.Scalar.{scalar_at}
 use Rattle.yaml_laws.specs.code.Refusals.{is_ascii}
 use Rattle.yaml_blocks.specs.declared.ahead.Token.TheVariants.{End}
 use Rattle.yaml_blocks.specs.declared.form.Form.{Form}
 use Rattle.yaml_blocks.specs.declared.form.Form.TheVariants.{Flow}
 use Rattle.yaml_blocks.specs.declared.stage.Stage.{Stage}
-use Rattle.yaml_blocks.specs.declared.stage.Stage.TheVariants as stage
 use Rattle.yaml_blocks.specs.Ahead.{ahead}
-use Rattle.yaml_blocks.specs.Nodes.{as_key, scalar_ahead}
+use Rattle.yaml_blocks.specs.Nodes.{as_key, scalar_ahead, starts_scalar}
 use Rattle.yaml_blocks.specs.Signs.{Tree}
 use Rattle.yaml_blocks.specs.code.Closers.{closers}
 use Rattle.yaml_blocks.specs.code.Rest.{top, Enters, Awaits}
@@ -18,6 +18,8 @@ use Rattle.yaml_blocks.specs.code.Steps.{IsFlow, Agrees, Nests, Open, Rest, Fits
 use Rattle.yaml_blocks.proofs.Back.{closers_ascii}
 use Rattle.yaml_blocks.proofs.Completions.{over_of, spent_feed, closes_rest}
 use Rattle.yaml_blocks.proofs.FlowKeys.{key_closes}
+use Rattle.yaml_blocks.proofs.Forms.{flow_inside}
+use Rattle.yaml_blocks.proofs.KeysGrown.{flow_key_completes}
 use Rattle.yaml_blocks.proofs.Rests.{item_enters}
 
 -- nothing is ahead: a line feed, and the brackets
@@ -43,6 +45,13 @@ key_mends text fs u i t e form open_ low last st within near end fresh = by_form
   by_forms (g ∷ gs) (x ∷ xs) f a n =
       subst (λ h. (more : List ℕ) × (each is_ascii more ≡ true) × (tree : Forest) × Enters (text ++ more) (h ∷ gs) (x ∷ xs) u.done i (Tree tree)) (sym f)
       (keyed gs x xs (subst (λ h. Agrees (h ∷ gs) (x ∷ xs)) f a) (subst (λ h. Nests (h ∷ gs)) f n))
+
+-- a key that breaks off: what completes it to one that none before has, a line feed, and the brackets
+pub key_grows : (text : List ℕ) (fs : List Form) (u : Unfinished) (i : ℕ) → top fs ≡ Flow true → Open fs u → i ≤ length text → starts_scalar (ahead text true i).token ≡ true → (ahead text true i).at < length text → ends_with 13 text ≡ false → scalar_at (as_key true) text (ahead text true i).at ≡ Fails (length text)
+    → (more : List ℕ) × (each is_ascii more ≡ true) × (tree : Forest) × Enters (text ++ more) fs u.outer u.done i (Tree tree)
+key_grows text fs u i form open_ low starts within last fails =
+    flow_inside (λ hs xs. Agrees hs xs → Nests hs → (more : List ℕ) × (each is_ascii more ≡ true) × (tree : Forest) × Enters (text ++ more) hs xs u.done i (Tree tree)) true fs u.outer form open_.0
+    (λ gs x xs a n. flow_key_completes gs x xs u.done text i low starts within last fails a n) open_.0 open_.1
 
 -- an entry of a list, where a node may stand
 pub item_mends : (text : List ℕ) (fs : List Form) (u : Unfinished) (i : ℕ) → top fs ≡ Flow false → Open fs u → (more : List ℕ) × (each is_ascii more ≡ true) × (tree : Forest) × Awaits (text ++ more) fs u.outer u.done None i (Tree tree)

@@ -293,7 +293,7 @@ holds_gives text fs u w f tagged at next r e sp shut untagged t us none h =
 ending_shut : (f : Form) (t : Token) → is_flow_ending t ≡ true → NoOpening f t
 ending_shut f t e = ((λ m h. true≢false (sym e ∙ ap is_flow_ending h)), (λ g n h. true≢false (sym e ∙ ap is_flow_ending h)))
 
-ending_start : (t : Token) → is_flow_ending t ≡ true → starts_scalar t ≡ false
+pub ending_start : (t : Token) → is_flow_ending t ≡ true → starts_scalar t ≡ false
 ending_start End e = refl
 ending_start Dashes e = refl
 ending_start Dots e = refl

@@ -25,9 +25,9 @@ use Rattle.yaml_blocks.specs.Nodes.{as_key, follows_get_att, is_marked, is_tagge
 use Rattle.yaml_blocks.specs.Signs as sign
 use Rattle.yaml_blocks.specs.Signs.{Sign, Reading, Tree}
 use Rattle.yaml_blocks.specs.code.AheadSeen.{ahead_seen, is_told}
-use Rattle.yaml_blocks.specs.code.Closers.{in_flow, MayBegin}
+use Rattle.yaml_blocks.specs.code.Closers.{in_flow, HasRoom, MayBegin}
 use Rattle.yaml_blocks.specs.code.Rest.{top, Awaits}
-use Rattle.yaml_blocks.specs.code.StopPlaces.{width, past_return, within, last_told, dash_place}
+use Rattle.yaml_blocks.specs.code.StopPlaces.{width, past_return, within, last_told, dash_place, ends_in_dash}
 use Rattle.yaml_blocks.specs.code.Steps.{IsBlock, IsSpelled, LiesIn, Nests, NoNode, Awaited, is_ending}
 use Rattle.yaml_blocks.specs.code.Twins.{FailedAt, IsLast, IsUsual, Mends, NoRest, IsStill, LengthensAt, Lengthens}
 use Rattle.yaml_blocks.proofs.BlockGains.{no_root, nothing_follows, sign_nowhere}
@@ -42,6 +42,8 @@ use Rattle.yaml_blocks.proofs.Placed.{placed}
 use Rattle.yaml_blocks.proofs.Quiet.{inside_at, line_quiet}
 use Rattle.yaml_blocks.proofs.Rests.{no_scalar}
 use Rattle.yaml_blocks.proofs.Stopped.{within_end, within_here}
+use Rattle.yaml_blocks.proofs.TornBlocks.{value_torn}
+use Rattle.yaml_blocks.proofs.TornDashes.{dots_last, undashed_end}
 use Rattle.yaml_blocks.proofs.Values.{takes_alike, value_grown, value_header}
 
 -- ---- a `-` on the line of a key or a tag
@@ -316,8 +318,8 @@ module _ (text : List ℕ) (utf8 : IsUtf8 text) (fs : List Form) (u : Unfinished
   Says = (q ≡ length text → IsUsual text stage.Value fs u i → Mends text stage.Value fs u i) × (IsLast text i q → (more : List ℕ) → IsUtf8 (text ++ more) → NoRest stage.Value fs u i (text ++ more))
 
   -- a scalar that fails
-  pub scalar_lengthens : starts_scalar a.token ≡ true → takes_scalar f a ≡ true → FailedAt text (setting_of f) a q → LengthensAt text stage.Value fs u i q
-  scalar_lengthens starts tk failed = λ last. by_fail last failed where
+  pub scalar_lengthens : starts_scalar a.token ≡ true → takes_scalar f a ≡ true → FailedAt text (setting_of f) a q → (q ≡ length text → ends_in_dash text a ≡ false) → LengthensAt text stage.Value fs u i q
+  scalar_lengthens starts tk failed undashed = λ last. by_fail last failed where
     word : starts_scalar (ahead text false i).token ≡ true
     word = sym (ap (λ (b : Ahead). starts_scalar b.token) here) ∙ starts
 
@@ -355,21 +357,19 @@ module _ (text : List ℕ) (utf8 : IsUtf8 text) (fs : List Form) (u : Unfinished
     takes = ap (λ g. takes_scalar g (ahead text false i)) w.form ∙ ap (takes_scalar f) (sym here) ∙ tk
 
     -- by how the scalar begins
-    mend : ends_with 13 text ≡ false → scalar_at (setting_of (top fs)) text (ahead text false i).at ≡ Fails (length text) → (follows_get_att text (top fs) i ≡ true → length u.outer < 128)
-        → (begins_block (setting_of (top fs)) (drop (ahead text (in_flow (top fs)) i).at text) ≡ true → has_break (drop (ahead text (in_flow (top fs)) i).at text) ≡ false) → Mends text stage.Value fs u i
-    mend last h room header = by_flow (in_flow (top fs)) (sym out) header where
-      by_flow : (o : Bool) → false ≡ o → (begins_block (setting_of (top fs)) (drop (ahead text o i).at text) ≡ true → has_break (drop (ahead text o i).at text) ≡ false) → Mends text stage.Value fs u i
-      by_flow true e k = absurd (true≢false (sym e))
-      by_flow false e k = by_kind (begins_block (setting_of (top fs)) (drop (ahead text false i).at text)) refl k where
-        by_kind : (b : Bool) → begins_block (setting_of (top fs)) (drop (ahead text false i).at text) ≡ b → (b ≡ true → has_break (drop (ahead text false i).at text) ≡ false) → Mends text stage.Value fs u i
-        by_kind false b k =
-            subst (λ o. MayBegin (top fs) (ahead text o i) → starts_scalar (ahead text o i).token ≡ true → (ahead text o i).at < length text → begins_block (setting_of (top fs)) (drop (ahead text o i).at text) ≡ false → ends_with 13 text ≡ false → scalar_at (setting_of (top fs)) text (ahead text o i).at ≡ Fails (length text) → (follows_get_att text (top fs) i ≡ true → length u.outer < 128) → Mends text stage.Value fs u i) out
-            (value_grown fs u.outer u.done u.key i w.fits.0.0 w.fits.0.1 text cut.0) (λ x. takes) word within_text b last h room
-        by_kind true b k =
-            subst (λ o. MayBegin (top fs) (ahead text o i) → starts_scalar (ahead text o i).token ≡ true → (ahead text o i).at < length text → begins_quoted (drop (ahead text o i).at text) ≡ false → begins_block (setting_of (top fs)) (drop (ahead text o i).at text) ≡ true → ends_with 13 (drop (ahead text o i).at text) ≡ false → has_break (drop (ahead text o i).at text) ≡ false → scalar_at (setting_of (top fs)) text (ahead text o i).at ≡ Fails (length text) → (follows_get_att text (top fs) i ≡ true → length u.outer < 128) → Mends text stage.Value fs u i) out
-            (value_header fs u.outer u.done u.key i w.fits.0.0 w.fits.0.1 text cut.0) (λ x. takes) word within_text (unquoted (setting_of (top fs)) (drop (ahead text false i).at text) b) b (unreturned (ahead text false i).at text last) b2 h room where
-              b2 : has_break (drop (ahead text false i).at text) ≡ false
-              b2 = k refl
+    mend : ends_with 13 text ≡ false → scalar_at (setting_of (top fs)) text (ahead text false i).at ≡ Fails (length text) → IsUsual text stage.Value fs u i → ends_in_dash text (ahead text false i) ≡ false → Mends text stage.Value fs u i
+    mend last h usual plain = by_kind (begins_block (setting_of (top fs)) (drop (ahead text false i).at text)) refl (has_break (drop (ahead text false i).at text)) refl where
+      by_kind : (b : Bool) → begins_block (setting_of (top fs)) (drop (ahead text false i).at text) ≡ b → (k : Bool) → has_break (drop (ahead text false i).at text) ≡ k → Mends text stage.Value fs u i
+      by_kind true b true k =
+          let bare = unquoted (setting_of (top fs)) (drop (ahead text false i).at text) b in
+          value_torn fs u.outer u.done u.key i w.fits.0.0 w.fits.0.1 block text cut.0 takes word within_text bare b k last h
+          (dots_last (setting_of (top fs)) text (ahead text false i).at within_text bare b k last h (undashed_end text (ahead text false i) (setting_of (top fs)) b k plain))
+      by_kind false b k z =
+          subst (λ o. MayBegin (top fs) (ahead text o i) → starts_scalar (ahead text o i).token ≡ true → (ahead text o i).at < length text → begins_block (setting_of (top fs)) (drop (ahead text o i).at text) ≡ false → ends_with 13 text ≡ false → scalar_at (setting_of (top fs)) text (ahead text o i).at ≡ Fails (length text) → (follows_get_att text (top fs) i ≡ true → HasRoom text (ahead text o i).at (length u.outer)) → Mends text stage.Value fs u i) out
+          (value_grown fs u.outer u.done u.key i w.fits.0.0 w.fits.0.1 text cut.0) (λ x. takes) word within_text b last h (subst (λ o. follows_get_att text (top fs) i ≡ true → HasRoom text (ahead text o i).at (length u.outer)) out (usual (ap (λ o. begins_block (setting_of (top fs)) (drop (ahead text o i).at text)) out ∙ b)))
+      by_kind true b false k =
+          subst (λ o. MayBegin (top fs) (ahead text o i) → starts_scalar (ahead text o i).token ≡ true → (ahead text o i).at < length text → begins_quoted (drop (ahead text o i).at text) ≡ false → begins_block (setting_of (top fs)) (drop (ahead text o i).at text) ≡ true → ends_with 13 (drop (ahead text o i).at text) ≡ false → has_break (drop (ahead text o i).at text) ≡ false → scalar_at (setting_of (top fs)) text (ahead text o i).at ≡ Fails (length text) → Mends text stage.Value fs u i) out
+          (value_header fs u.outer u.done u.key i w.fits.0.0 w.fits.0.1 text cut.0) (λ x. takes) word within_text (unquoted (setting_of (top fs)) (drop (ahead text false i).at text) b) b (unreturned (ahead text false i).at text last) k h
 
     by_less : (r : ℕ) (c : Bool) → nat_lt r (length text) ≡ c → ends_with 13 text ≡ false → scalar_at (setting_of f) text (ahead text false i).at ≡ Fails r → q ≡ cond c (within text (past_return text (widest (a.at + width a (drop a.at text)) r))) (length text) → Says
     by_less r true e last h g =
@@ -380,7 +380,7 @@ module _ (text : List ℕ) (utf8 : IsUtf8 text) (fs : List Form) (u : Unfinished
             by_order : (n < length text) ⊎ (length text ≤ n) → ⊥
             by_order (inl z) = let y = g ∙ within_here text n z in omega (arith, k, y, z)
             by_order (inr z) = let y = g ∙ within_end text n z in omega (arith, k, y, l)
-    by_less r false e last h g = ((λ k usual. mend last whole usual.0 usual.1), (λ x more longer. (let y = x.0 in absurd (omega (arith, y, g))))) where
+    by_less r false e last h g = ((λ k usual. mend last whole usual (ap (ends_in_dash text) (sym here) ∙ undashed k)), (λ x more longer. (let y = x.0 in absurd (omega (arith, y, g))))) where
       most : r ≤ length text
       most = scalar_upper (setting_of f) text (ahead text false i).at r within_text h
 

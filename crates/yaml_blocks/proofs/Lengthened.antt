@@ -294,7 +294,7 @@ module _ (text : List ℕ) (utf8 : IsUtf8 text) (fs : List Form) (u : Unfinished
       → Lengthens text stage.After gs w i r → Lengthens text stage.After fs u i r
   popped_lengthens a gs w r e go popped block block2 open_ key lasts =
       on_from (LengthensAt text stage.After gs w i) (LengthensAt text stage.After fs u i) r (λ q h last. (
-        (λ z usual. (let m = (h last).0 z (λ b. usual block) in (m.0, m.1, m.2, (popped (text ++ m.0) i).0 (Tree m.2) m.3))),
+        (λ z usual. (let m = (h last).0 z tt in (m.0, m.1, m.2, (popped (text ++ m.0) i).0 (Tree m.2) m.3))),
         (λ l more longer there fits g k. (h last).1 l more longer there (open_, key, (λ b. lasts_calm (text ++ more) u w i lasts (fits.2 block))) g ((popped (text ++ more) i).1 (still last more longer there (l.1 last)) g k)),
       )) where
         going : is_ending (ahead text false i).token ≡ false
@@ -537,7 +537,7 @@ line_feed (b ∷ xs) n l = by_break (begins_break b xs) refl n l (λ m k. line_f
   by_break false e (suc n) l f = f n (omega (arith, l))
 
 -- what ends on its line ends at no first column
-stale_end : (text : List ℕ) (i at e : ℕ) → text_start text ≤ i → i ≤ at → at < e → e ≤ length text → e ≤ at + length (line_at (drop at text)) → is_first_column text e ≡ false
+pub stale_end : (text : List ℕ) (i at e : ℕ) → text_start text ≤ i → i ≤ at → at < e → e ≤ length text → e ≤ at + length (line_at (drop at text)) → is_first_column text e ≡ false
 stale_end text i at e start low begun within near = rw (none, mark, line) refl where
   none : nat_eq e 0 ≡ false
   none = grind (arith, nat_tests, begun)
@@ -725,17 +725,17 @@ module _ (text : List ℕ) (utf8 : IsUtf8 text) (fs : List Form) (u : Unfinished
             byte_is : (b : ℕ) (r : List ℕ) → begins_with 58 (b ∷ r) ≡ true → b ≡ 58
             byte_is b r h = grind (arith, nat_tests, h)
 
-    pub colon_lengthens : (q : ℕ) → Open fs u → a.fresh ≡ true → a.column ≡ column → has_key u.done t ≡ false → ((ahead text false e).fresh ≡ false → (ahead text false e).token ≡ Point true → ⊥) → q ≡ colon_place text e → Lengthens text stage.After fs u i (Err (stop.Unread q))
-    colon_lengthens q open_ fresh col new none eq = λ last. (
-      (λ g usual. by_colon last (usual (subst IsBlock (sym form) tt)) (begins_with 58 (drop shown_at text)) refl (sym eq ∙ g)),
+    pub colon_lengthens : (q : ℕ) → text_start text ≤ i → Open fs u → a.fresh ≡ true → a.column ≡ column → has_key u.done t ≡ false → ((ahead text false e).fresh ≡ false → (ahead text false e).token ≡ Point true → ⊥) → q ≡ colon_place text e → Lengthens text stage.After fs u i (Err (stop.Unread q))
+    colon_lengthens q start open_ fresh col new none eq = λ last. (
+      (λ g usual. by_colon last (begins_with 58 (drop shown_at text)) refl (sym eq ∙ g)),
       (λ l more longer. absurd (past (l.1 last) l.0)),
     ) where
-      by_colon : ends_with 13 text ≡ false → text_start text ≤ i → (c : Bool) → begins_with 58 (drop shown_at text) ≡ c → past_return text (cond (begins_with 58 (drop shown_at text)) (suc shown_at) shown_at) ≡ length text → Mends text stage.After fs u i
-      by_colon last start false c h =
+      by_colon : ends_with 13 text ≡ false → (c : Bool) → begins_with 58 (drop shown_at text) ≡ c → past_return text (cond (begins_with 58 (drop shown_at text)) (suc shown_at) shown_at) ≡ length text → Mends text stage.After fs u i
+      by_colon last false c h =
           let far = past_end text shown_at last (sym (ap (λ r. past_return text (cond r (suc shown_at) shown_at)) c) ∙ h) in
           let near = shown_within in
           colon_mends open_ fresh col new (stale start) (omega (arith, far, near))
-      by_colon last start true c h =
+      by_colon last true c h =
           let far = past_end text (suc shown_at) last (sym (ap (λ r. past_return text (cond r (suc shown_at) shown_at)) c) ∙ h) in
           let some = some_byte (drop shown_at text) c in
           absurd (colon_last (stale start) c (omega (arith, far, some, length-drop shown_at text)) none) where

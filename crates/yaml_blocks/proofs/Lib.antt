@@ -11,6 +11,7 @@ mod FirstEntries
 mod FirstTokens
 mod ShownTokens
 mod Widths
+mod Extended
 mod Fed
 mod Fixed
 pub mod FormedTrees
@@ -18,6 +19,7 @@ mod Forms
 mod Gains
 mod KeyEnds
 mod KeyLineEnds
+mod KeyTails
 pub mod EndPlaces
 mod LastBytes
 mod LastNodes
@@ -26,6 +28,9 @@ mod Lengthened
 mod OtherStops
 mod LineTails
 mod Lives
+mod CutStarts
+mod LacksTags
+mod LivesLonger
 mod LivesOn
 mod Looks
 mod NameEnds
@@ -33,20 +38,34 @@ mod Opens
 mod Placed
 mod PlainOrder
 mod PlainOut
+mod PlainPoints
+mod Pointed
+mod BlockPoints
+mod BlockPointed
+mod BlockEnds
+mod LastPoints
+mod PointedScalars
+mod Lettered
 mod Quiet
 mod Refusals
 mod Rests
 mod SameTexts
+mod RootLonger
+mod RootRuns
 mod Roots
 mod ScalarAhead
 mod ScalarOrder
 mod ScalarOut
+mod ScalarWithin
 mod Scalars
 mod Settled
 mod Stacks
+mod StartPlaces
 mod Stopped
 mod StoppedKeys
 mod StoppedScalars
+mod SyntaxPlaces
+mod SyntaxStops
 mod Twins
 pub mod TreeInduction
 pub mod AwaitedNodes
@@ -76,6 +95,16 @@ mod LoneReturns
 mod KeysGrown
 mod FedPlaces
 mod FedTexts
+mod FedSteps
+mod FedEnds
+mod FedLoop
+mod FedKeys
+mod FedSites
+mod FedCuts
+mod FedBlocks
+mod FedKept
+mod ReadTwice
 mod TornBlocks
+mod TornDashes
 mod FedStarts
 mod FedSigns

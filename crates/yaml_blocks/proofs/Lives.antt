@@ -1,6 +1,6 @@
 -- A text that is the same as far as is looked at is a document where something may follow there that is a tree, and the other way. By the steps of the reader.
 use Rattle.std.proofs.Common.{◌≡◌, ℕ, ◌≤◌, inl, inr, true, false, List, [], length, refl, sym, ap, ◌∙◌, subst, true≢false, arith, if◌then◌else◌}
-use Rattle.std.specs.Prelude.{Result, Ok, Err, Option, Some, None, option_map}
+use Rattle.std.specs.Prelude.{Result, Ok, Err, IfOk, Option, Some, None, option_map}
 use Rattle.std.specs.Str.{IsCharBoundary, IsUtf8}
 use Rattle.doc_values.specs.declared.kind.Kind.TheVariants as kind
 use Rattle.doc_values.specs.Tree.{Forest, Nil, Node}
@@ -19,7 +19,6 @@ use Rattle.yaml_blocks.specs.Signs as sign
 use Rattle.yaml_blocks.specs.Signs.{Sign, Tree, To}
 use Rattle.yaml_blocks.specs.Yaml.{IsRoot, IsStart, IsYaml, text_start}
 use Rattle.yaml_blocks.specs.code.AheadSeen.{ahead_seen}
-use Rattle.yaml_blocks.specs.code.StopPlaces.{told_place}
 use Rattle.yaml_blocks.specs.code.Places.{StopsAt}
 use Rattle.yaml_blocks.specs.code.Refused.{of_sign}
 use Rattle.yaml_blocks.specs.code.Rest.{Over, Begins}
@@ -31,13 +30,12 @@ use Rattle.yaml_blocks.proofs.Forms.{apart_root}
 use Rattle.yaml_blocks.proofs.Gains.{told}
 use Rattle.yaml_blocks.proofs.LastValues.{ending_calm}
 use Rattle.yaml_blocks.proofs.MarkTexts.{twins_dead}
-use Rattle.yaml_blocks.proofs.ShownTokens.{IsTold, told_shown}
 use Rattle.yaml_blocks.proofs.Roots.{begins_missing, missing_begins, begins_node, node_begins, begins_comes, one_start}
 use Rattle.yaml_blocks.proofs.Twins.{twin_within, twin_cut, twin_ahead}
 
 -- ---- where the document begins
 
-same_start : (text : List ℕ) (place : ℕ) (other : List ℕ) → IsTwin text place other → text_start other ≡ text_start text
+pub same_start : (text : List ℕ) (place : ℕ) (other : List ℕ) → IsTwin text place other → text_start other ≡ text_start text
 same_start text place other m = ap (λ q. if q then 3 else 0) m.marks
 
 pub fixed_behind : (text : List ℕ) (at behind : ℕ) (next after : Ahead) → at ≡ text_start text → IsCharBoundary text at → next ≡ ahead text false at → behind ≡ next.behind → IsCharBoundary text behind → after ≡ ahead text false behind → next.token ≡ Dashes → after.fresh ≡ true
@@ -60,7 +58,7 @@ fixed_there text at next ea ca en n = λ place other m near.
 
 -- ---- the root
 
-alive_at : (other : List ℕ) (P : Forest → Type 0) (w u : Unfinished) (p : Position) (s : Stage) (at : ℕ) → p.stage ≡ s → p.at ≡ at → w ≡ u → Matches other P s [] u at → Fits other s [] u at → IsCharBoundary other at → Alive other P [] w p
+pub alive_at : (other : List ℕ) (P : Forest → Type 0) (w u : Unfinished) (p : Position) (s : Stage) (at : ℕ) → p.stage ≡ s → p.at ≡ at → w ≡ u → Matches other P s [] u at → Fits other s [] u at → IsCharBoundary other at → Alive other P [] w p
 alive_at other P w u p s at es ej ew h f b =
     subst (λ z. Matches other P z [] w p.at × Fits other z [] w p.at × IsCharBoundary other p.at) (sym es)
     (subst (λ z. Matches other P s [] w z × Fits other s [] w z × IsCharBoundary other z) (sym ej)
@@ -82,6 +80,17 @@ null_fixed text at next u w (Ok p) s en b c (es, ej, ew) = λ place other m near
           ((λ t g. (v.done, ended_tree other _ v.done at t (begins_missing other at (Tree t) there g))), (λ g h. let n : Forest = Node (leaf kind.Null [] None (length other)) Nil Nil in (n, missing_begins other at (Tree n) (ended_tree other v.done n at g h)))) ((tt, tt), refl, (λ k. ending_calm other v at there)) cut),
     )
 
+pub null_there : (at : ℕ) (u w : Unfinished) (r : Result Position Stop) → Completes at u w r → IfOk r (λ p. p.at ≡ at)
+null_there at u w (Err e) h = tt
+null_there at u w (Ok p) (es, ej, ew) = ej
+
+pub null_going : (text : List ℕ) (at : ℕ) (w : Unfinished) (r : Result Position Stop) → is_ending (ahead text false at).token ≡ true → is_ending (ahead text false at).token ≡ false → IfOk r (λ p. (p.stage ≡ stage.Value) × (w ≡ start))
+null_going text at w r e n = absurd (true≢false (sym e ∙ n))
+
+pub null_ended : (text : List ℕ) (at : ℕ) (u w : Unfinished) (r : Result Position Stop) → Completes at u w r → is_ending (ahead text false at).token ≡ true → IfOk r (λ p. p.stage ≡ stage.After → is_ending (ahead text false at).token ≡ true)
+null_ended text at u w (Err e) h c = tt
+null_ended text at u w (Ok p) h c = λ after. c
+
 pub root_fixed : (text : List ℕ) (at : ℕ) (next : Ahead) (w : Unfinished) (p : Position) → w ≡ start → next ≡ ahead text false at → IsCharBoundary text at → is_ending next.token ≡ false → p.stage ≡ stage.Value → p.at ≡ at → FixesRoot text at w (Ok p)
 root_fixed text at next w p ew en b n es ej = λ place other m near.
     let far : ahead_seen text at ≤ place = subst (λ n. ahead_seen text n ≤ place) ej near in
@@ -95,7 +104,7 @@ root_fixed text at next w p ew en b n es ej = λ place other m near.
 abbrev pub Lives : List ℕ → Position → List Form → Unfinished → Type 0
 Lives text p fs u = (p.stage ≡ stage.Whole → ⊥) → (place : ℕ) (other : List ℕ) → IsTwin text place other → ahead_seen text p.at ≤ place → Alive other (IsYaml other) fs u p
 
-yaml_begins : (other : List ℕ) (i : ℕ) (t : Forest) → IsStart other i → IsYaml other t → Begins other i (Tree t)
+pub yaml_begins : (other : List ℕ) (i : ℕ) (t : Forest) → IsStart other i → IsYaml other t → Begins other i (Tree t)
 yaml_begins other i t s (l, kids, i2, j, s2, r, e, h) = (l, kids, To j, subst (λ n. IsRoot other l kids n (To j)) (one_start other i2 i s2 s) r, inl (e, ap Tree h))
 
 pub lives_first : (text : List ℕ) (i : ℕ) (fs : List Form) (w : Unfinished) (p : Position) → FixesStart text i → FixesRoot text i w (Ok p) → fs ≡ [] → Lives text p fs w
@@ -108,7 +117,7 @@ lives_first text i fs w p s r e = λ goes place other m near.
 -- ---- where reading stops
 
 -- where nothing may follow in a twin, it is no document
-none_twin : (text : List ℕ) (p : Position) (fs : List Form) (u : Unfinished) (place : ℕ) → Lives text p fs u → (p.stage ≡ stage.Whole → ⊥) → ahead_seen text p.at ≤ place
+pub none_twin : (text : List ℕ) (p : Position) (fs : List Form) (u : Unfinished) (place : ℕ) → Lives text p fs u → (p.stage ≡ stage.Whole → ⊥) → ahead_seen text p.at ≤ place
     → ((other : List ℕ) → IsTwin text place other → IsCharBoundary other p.at → Fits other p.stage fs u p.at → (t : Forest) → Rest other p.stage fs u p.at (Tree t) → ⊥) → NoTwin text place
 none_twin text p fs u place lives open_ near none = λ other m tree h. let a = lives open_ place other m near in let x = a.0.0 tree h in none other m a.2 a.1 x.0 x.1
 
@@ -140,25 +149,3 @@ sign_at text (sign.TooDeep at) = tt
 
 pub signed_at : (text : List ℕ) (o : Option Sign) (e : Stop) → Some e ≡ option_map of_sign o → StopsAt text e
 signed_at text o e h = let t = told o e h in subst (StopsAt text) t.2 (sign_at text t.0)
-
--- behind a line `---` stands a stray carriage return
-pub start_at : (text : List ℕ) → IsUtf8 text → (at behind : ℕ) (next after : Ahead) (q : ℕ) → at ≡ text_start text → IsCharBoundary text at → next ≡ ahead text false at → behind ≡ next.behind → IsCharBoundary text behind → after ≡ ahead text false behind → next.token ≡ Dashes → after.fresh ≡ false
-    → q ≡ told_place text after → StopsAt text (stop.Unread q)
-start_at text utf8 at behind next after q ea ca en eb cb ef d f eq = by_told (subst (IsTold text false behind) (sym (eq ∙ ap (told_place text) ef)) (told_shown text false behind)) where
-  none : (p : ℕ) → ahead_seen text behind ≤ p → NoTwin text p
-  none p near = λ other m tree y.
-      let first : next ≡ ahead text false (text_start text) = en ∙ ap (ahead text false) ea in
-      let from = seen_mark text false at p (subst (λ (a : Ahead). is_marked a.token ≡ true) en (ap is_marked d)) (twin_within text p other m) (subst (λ n. ahead_seen text n ≤ p) (eb ∙ ap (λ (a : Ahead). a.behind) en) near) in
-      let here : ahead other false (text_start other) ≡ ahead text false (text_start text) = ap (ahead other false) (same_start text p other m ∙ sym ea) ∙ twin_ahead text p other m false at ca.0 from ∙ ap (ahead text false) ea in
-      let over : ahead other false behind ≡ ahead text false behind = twin_ahead text p other m false behind cb.0 near in
-      let there : (ahead other false (text_start other)).token ≡ Dashes = ap (λ (a : Ahead). a.token) here ∙ ap (λ (a : Ahead). a.token) (sym first) ∙ d in
-      let place : (ahead other false (text_start other)).behind ≡ behind = ap (λ (a : Ahead). a.behind) here ∙ ap (λ (a : Ahead). a.behind) (sym first) ∙ sym eb in
-      let stale : (ahead other false behind).fresh ≡ false = ap (λ (a : Ahead). a.fresh) over ∙ ap (λ (a : Ahead). a.fresh) (sym ef) ∙ f in
-      by_start other tree there place stale y where
-        by_start : (other : List ℕ) (tree : Forest) → (ahead other false (text_start other)).token ≡ Dashes → (ahead other false (text_start other)).behind ≡ behind → (ahead other false behind).fresh ≡ false → IsYaml other tree → ⊥
-        by_start other tree there place stale (l, kids, i, j, inl (t, e, g), r, z, h) = true≢false (sym g ∙ ap (λ n. (ahead other false n).fresh) (e ∙ place) ∙ stale)
-        by_start other tree there place stale (l, kids, i, j, inr (n, e), r, z, h) = n there
-
-  by_told : IsTold text false behind q → StopsAt text (stop.Unread q)
-  by_told (inl k) = inl (omega (arith, k))
-  by_told (inr (n, l, (p, past, near))) = inr (twins_dead text p q utf8 l past (none p near))

@@ -23,7 +23,7 @@ use Rattle.yaml_blocks.specs.Flow.{IsFlowNode, IsColon, Comes}
 use Rattle.yaml_blocks.specs.Nodes.{as_key, Contents, IsCollection, IsMissing, IsScalar, IsValue, Within, scalar_ahead, starts_scalar}
 use Rattle.yaml_blocks.specs.Signs.{To, Shows}
 use Rattle.yaml_blocks.specs.Yaml.{IsHead, IsNode, IsRoot, IsStart, IsTail, IsYaml, Spells, text_start}
-use Rattle.yaml_blocks.specs.code.Places.{IsFront, IsDead}
+use Rattle.yaml_blocks.specs.Places.{IsFront, IsDead}
 
 -- ---- tokens
 
@@ -68,7 +68,7 @@ token_sized flow b xs =
     (either xs (nat_eq b 58) (Point (is_unsafe true xs)) t6 (omega arith, (λ e. absurd (cc)))
     (either xs (nat_eq b 33) (tag_token true xs) (other_token b) (tag_sized true xs) (other_sized b xs))))))))
 
-token_not_end : (flow : Bool) (xs : List ℕ) → token_of flow xs ≡ End → ⊥
+pub token_not_end : (flow : Bool) (xs : List ℕ) → token_of flow xs ≡ End → ⊥
 token_not_end flow [] e = absurd (cc)
 token_not_end flow (b ∷ xs) e = (token_sized flow b xs).1 e
 

@@ -20,7 +20,7 @@ use Rattle.yaml_blocks.specs.Blocks.{takes_scalar}
 use Rattle.yaml_blocks.specs.Nodes.{leaf, setting_of, follows_get_att, IsScalar, IsCollection}
 use Rattle.yaml_blocks.specs.Signs.{To}
 use Rattle.yaml_blocks.specs.Yaml.{IsRoot, IsStart, IsYaml, Spells, text_start}
-use Rattle.yaml_blocks.specs.code.Places.{IsDead}
+use Rattle.yaml_blocks.specs.Places.{IsDead}
 use Rattle.yaml_blocks.specs.code.Twins.{IsTwin, IsPast}
 use Rattle.yaml_blocks.proofs.DeadPlaces.{NoTwin, dead_past}
 use Rattle.yaml_blocks.proofs.LetterKinds.{letter_kind}

@@ -9,12 +9,12 @@ use Rattle.yaml_scalars.specs.declared.plain_line.Below.{Below}
 use Rattle.yaml_scalars.specs.declared.plain_line.Below.TheVariants.{Blank, Outside, Further}
 use Rattle.yaml_scalars.specs.Lines.{Line, Stands, Fails, lines, begins_with, is_white, is_blank, lead, indent, past_white, trimmed, keep, is_mark, is_end}
 use Rattle.yaml_scalars.specs.Plain.{above_of, is_flow_mark, is_unsafe, stops, plain_len, content, content_end, why, reason, inside, below, joined, ends_on, joins, further, first, more, plain_on}
-use Rattle.yaml_scalars.specs.Block.{shown, widest}
+use Rattle.yaml_scalars.specs.Block.{same, mark_len, may_end, shown, widest}
 use Rattle.yaml_scalars.specs.Scalar.{is_first_column, plain_scalar}
 use Rattle.yaml_scalars.specs.code.Walk.{line_at, has_break, behind}
 use Rattle.yaml_scalars.proofs.Places.{lines_are}
 use Rattle.yaml_scalars.proofs.FurtherLines.{skip_le, plain_le}
-use Rattle.yaml_laws.specs.code.Agreement.{end_shown, shown_by, part_shown, line_shown, more_shown, plain_shown}
+use Rattle.yaml_laws.specs.code.Agreement.{end_shown, out_shown, shown_by, part_shown, line_shown, more_shown, plain_shown}
 use Rattle.yaml_blocks.specs.code.AheadSeen.{token_shown, first_return, content_shown, line_seen, rest_seen, ahead_seen}
 use Rattle.yaml_laws.proofs.Agree.{Within, lines_within}
 use Rattle.yaml_blocks.proofs.LineTails.{Tails, IsTail, tail_is, later_least, tails_of, inner_line, seen_from_lines}
@@ -89,7 +89,45 @@ line_blank size l ls h = by_mark (is_mark l.bytes) refl where
 rest_blank : (size : ℕ) (l : Line) (ls : List Line) → is_blank l.bytes ≡ true → rest_seen size (l ∷ ls) ≡ line_seen size ls
 rest_blank size l ls h = ap (λ q. cond q (line_seen size ls) (l.at + content_shown false l.bytes)) (blank_passed false l.bytes h)
 
--- a line that ends a scalar above it
+-- a line that ends a scalar above it, whatever it is
+white_unmarked : (b : ℕ) → (nat_eq b 32 || nat_eq b 9) ≡ true → (nat_eq b 45 || nat_eq b 46) ≡ false
+white_unmarked b w = by_space (nat_eq b 32) (nat_eq b 9) refl refl w where
+  by_space : (p q : Bool) → nat_eq b 32 ≡ p → nat_eq b 9 ≡ q → (p || q) ≡ true → (nat_eq b 45 || nat_eq b 46) ≡ false
+  by_space true q e f h = let k : b ≡ 32 = grind (arith, nat_tests, e) in ap (λ d. nat_eq d 45 || nat_eq d 46) k
+  by_space false true e f h = let k : b ≡ 9 = grind (arith, nat_tests, f) in ap (λ d. nat_eq d 45 || nat_eq d 46) k
+  by_space false false e f h = absurd (true≢false (sym h))
+
+shown_lead : (xs : List ℕ) → lead is_white xs ≤ shown xs
+shown_lead xs = by_byte (begins_with 13 (drop (lead is_white xs + mark_len xs) xs) && may_end (mark_len xs)) where
+  by_byte : (q : Bool) → lead is_white xs ≤ cond q (suc (lead is_white xs + mark_len xs)) (lead is_white xs + mark_len xs)
+  by_byte true = omega arith
+  by_byte false = omega arith
+
+return_unmarked : (xs : List ℕ) → begins_with 13 (drop (lead is_white xs) xs) ≡ true → mark_len xs ≡ 0
+return_unmarked [] e = refl
+return_unmarked (b ∷ bs) e = by_white (nat_eq b 32 || nat_eq b 9) refl e where
+  none : (nat_eq b 45 || nat_eq b 46) ≡ false → cond (nat_eq b 45 || nat_eq b 46) (suc (same b 2 bs)) 0 ≡ 0
+  none n = ap (λ q. cond q (suc (same b 2 bs)) 0) n
+
+  by_white : (q : Bool) → (nat_eq b 32 || nat_eq b 9) ≡ q → begins_with 13 (drop (cond q (suc (lead is_white bs)) 0) (b ∷ bs)) ≡ true → cond (nat_eq b 45 || nat_eq b 46) (suc (same b 2 bs)) 0 ≡ 0
+  by_white true w e = none (white_unmarked b w)
+  by_white false w e = none (let k : b ≡ 13 = grind (arith, nat_tests, e) in ap (λ d. nat_eq d 45 || nat_eq d 46) k)
+
+return_lead : (xs : List ℕ) → begins_with 13 (drop (lead is_white xs) xs) ≡ true → suc (lead is_white xs) ≤ shown xs
+return_lead xs e =
+    let same_shown : shown xs ≡ suc (lead is_white xs) = ap (λ k. cond (begins_with 13 (drop (lead is_white xs + k) xs) && may_end k) (suc (lead is_white xs + k)) (lead is_white xs + k)) (return_unmarked xs e)
+    ∙ ap (λ m. cond (begins_with 13 (drop m xs) && may_end 0) (suc m) m) (let y : lead is_white xs + 0 ≡ lead is_white xs = omega arith in y) ∙ ap (λ q. cond (q && may_end 0) (suc (lead is_white xs)) (lead is_white xs)) e in
+    omega (arith, same_shown)
+
+pub out_least : (xs : List ℕ) → out_shown xs ≤ end_shown xs
+out_least xs = by_mark (is_mark xs) where
+  by_mark : (q : Bool) → cond q 4 (cond (begins_with 13 (drop (lead is_white xs) xs)) (suc (lead is_white xs)) (lead is_white xs)) ≤ cond q 4 (shown xs)
+  by_mark true = omega arith
+  by_mark false = by_return (begins_with 13 (drop (lead is_white xs) xs)) refl where
+    by_return : (r : Bool) → begins_with 13 (drop (lead is_white xs) xs) ≡ r → cond r (suc (lead is_white xs)) (lead is_white xs) ≤ shown xs
+    by_return false e = let z = shown_lead xs in omega (arith, z)
+    by_return true e = return_lead xs e
+
 pub line_ends : (size : ℕ) (l : Line) (ls : List Line) → l.at + length l.bytes ≤ line_seen size ls → l.at + end_shown l.bytes ≤ line_seen size (l ∷ ls)
 line_ends size l ls far = by_tests (is_mark l.bytes) (is_passed true l.bytes) where
   by_tests : (q r : Bool) → l.at + cond q 4 (shown l.bytes) ≤ cond q (l.at + 4) (cond r (line_seen size ls) (l.at + widest (shown l.bytes) (content_shown true l.bytes)))
@@ -156,19 +194,19 @@ colon_byte c z k = by_tests (nat_eq c 13) (nat_eq c 58) (nat_eq c 35) refl k whe
 -- ---- a part of a line of the text
 
 module _ (text : List ℕ) (l : Line) (ls : List Line) (is : IsTail text l ls) (flow : Bool) (n : ℕ) (low : n ≤ length l.bytes) where
-  abbrev part : List ℕ
+  abbrev pub part : List ℕ
   part = drop n l.bytes
 
-  abbrev stop : ℕ
+  abbrev pub stop : ℕ
   stop = plain_len flow false part
 
-  abbrev long : ℕ
+  abbrev pub long : ℕ
   long = length (content flow part)
 
-  abbrev end : ℕ
+  abbrev pub end : ℕ
   end = content_end flow part (l.at + n)
 
-  end_is : l.at + (n + long) ≡ end
+  pub end_is : l.at + (n + long) ≡ end
   end_is = omega arith
 
   size : n + length part ≡ length l.bytes
@@ -177,10 +215,10 @@ module _ (text : List ℕ) (l : Line) (ls : List Line) (is : IsTail text l ls) (
   far : l.at + length l.bytes ≤ line_seen (length text) ls
   far = later_least (length text) (l.at + length l.bytes) ls is.1 is.2
 
-  abbrev bytes : List ℕ
+  abbrev pub bytes : List ℕ
   bytes = drop (n + long) l.bytes
 
-  bytes_are : bytes ≡ drop long part
+  pub bytes_are : bytes ≡ drop long part
   bytes_are = sym (drop-drop long n l.bytes)
 
   short : (w : List ℕ) → Behind flow part w → n + long ≤ length l.bytes
@@ -190,7 +228,7 @@ module _ (text : List ℕ) (l : Line) (ls : List Line) (is : IsTail text l ls) (
       let c = size in
       omega (arith, a, b, c)
 
-  inner : (w : List ℕ) → Behind flow part w → (b : Bool) × (lines end (drop end text) ≡ record { at = end; bytes = bytes; broken = b } ∷ ls)
+  pub inner : (w : List ℕ) → Behind flow part w → (b : Bool) × (lines end (drop end text) ≡ record { at = end; bytes = bytes; broken = b } ∷ ls)
   inner w h = let r = inner_line text l ls is (n + long) (short w h) in (r.0, subst (λ e. lines e (drop e text) ≡ record { at = e; bytes = bytes; broken = r.0 } ∷ ls) end_is r.1)
 
   bytes_long : (w : List ℕ) → Behind flow part w → end + length bytes ≡ l.at + length l.bytes
@@ -337,7 +375,7 @@ more_seen s text (l ∷ ls) t e k u f o w near h = by_below (below s l.bytes) re
   by_below : (z : Below) → below s l.bytes ≡ z → further s z l.at l.bytes t e k (more s ls) ≡ Stands u f → ((x : List ℕ) (y z : ℕ) → line_seen (length text) ls ≤ ahead_seen text y → more s ls x y z ≡ Stands u f → more_shown s (length text) ls ≤ ahead_seen text f)
       → line_shown s z l.at l.bytes (more_shown s (length text) ls) ≤ ahead_seen text f
   by_below Blank i h go = go t e (suc k) (let a = line_blank (length text) l ls (below_blank s l.bytes i) in omega (arith, a, near)) h
-  by_below Outside i h go = let a = line_ends (length text) l ls far in subst (λ e. l.at + end_shown l.bytes ≤ ahead_seen text e) (same_place t u e f h) (omega (arith, a, near))
+  by_below Outside i h go = let a = line_ends (length text) l ls far in let b = out_least l.bytes in subst (λ e. l.at + out_shown l.bytes ≤ ahead_seen text e) (same_place t u e f h) (omega (arith, a, b, near))
   by_below (Further n) i h go = by_why n i (reason s.flow (drop n l.bytes)) refl h go
 
 -- ---- from its first line on

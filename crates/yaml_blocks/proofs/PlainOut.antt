@@ -10,12 +10,11 @@ use Rattle.yaml_scalars.specs.declared.plain_line.Below.{Below}
 use Rattle.yaml_scalars.specs.declared.plain_line.Below.TheVariants.{Blank, Outside, Further}
 use Rattle.yaml_scalars.specs.Lines.{Line, Stands, lines, begins_with, is_white, is_blank, lead, past_white, is_mark}
 use Rattle.yaml_scalars.specs.Plain.{plain_len, content, content_end, why, reason, below, joined, joins, further, first, more, plain_on}
-use Rattle.yaml_scalars.specs.Block.{same, mark_len, may_end, shown}
 use Rattle.yaml_scalars.specs.Scalar.{is_first_column, plain_scalar}
 use Rattle.yaml_scalars.specs.code.Walk.{line_at, has_break, behind}
 use Rattle.yaml_scalars.proofs.Places.{lines_are, lead_le}
 use Rattle.yaml_scalars.proofs.FurtherLines.{skip_le, plain_le}
-use Rattle.yaml_laws.specs.code.Agreement.{end_shown, shown_by, part_shown, line_shown, more_shown, plain_shown}
+use Rattle.yaml_laws.specs.code.Agreement.{out_shown, shown_by, part_shown, line_shown, more_shown, plain_shown}
 use Rattle.yaml_laws.proofs.Agree.{Later, Within, behind_later, lines_within}
 use Rattle.yaml_laws.proofs.BlockShown.{blank_not}
 use Rattle.yaml_laws.proofs.LineEnds.{mark_full}
@@ -37,7 +36,7 @@ OutOf a x = (is_open a.token ≡ true) ⊎ (x ≤ a.at)
 
 -- ---- lines
 
-later_at : (size p : ℕ) (ls : List Line) → p ≤ size → Later p ls → p ≤ (line_ahead true size ls).at
+pub later_at : (size p : ℕ) (ls : List Line) → p ≤ size → Later p ls → p ≤ (line_ahead true size ls).at
 later_at size p [] z w = z
 later_at size p (l ∷ ls) z w = by_tests (is_mark l.bytes) (is_passed true l.bytes) (later_at size p ls z w.1) where
   by_tests : (q r : Bool) → p ≤ (line_ahead true size ls).at → p ≤ (cond q (token_at (mark_of l.bytes) true 0 l.at) (cond r (line_ahead true size ls) (content_ahead true l.at l.bytes))).at
@@ -45,7 +44,7 @@ later_at size p (l ∷ ls) z w = by_tests (is_mark l.bytes) (is_passed true l.by
   by_tests false true h = h
   by_tests false false h = let a = w.0 in omega (arith, a)
 
-mark_open : (xs : List ℕ) → is_open (mark_of xs) ≡ true
+pub mark_open : (xs : List ℕ) → is_open (mark_of xs) ≡ true
 mark_open xs = by_dash (begins_with 45 xs) where
   by_dash : (q : Bool) → is_open (cond q Dashes Dots) ≡ true
   by_dash true = refl
@@ -84,20 +83,20 @@ rest_colon : (size : ℕ) (l : Line) (ls : List Line) (z : List ℕ) → past_wh
 rest_colon size l ls z e =
     ap (λ r. is_open (cond r (line_ahead true size ls) (token_at (token_of true (past_white l.bytes)) false (lead is_white l.bytes) (l.at + lead is_white l.bytes))).token) (colon_passed false l.bytes z e) ∙ ap (λ y. is_open (token_of true y)) e
 
-blank_passed : (fresh : Bool) (xs : List ℕ) → is_blank xs ≡ true → is_passed fresh xs ≡ true
+pub blank_passed : (fresh : Bool) (xs : List ℕ) → is_blank xs ≡ true → is_passed fresh xs ≡ true
 blank_passed fresh xs h = ap (λ q. q || ((fresh || nat_lt 0 (lead is_white xs)) && (begins_with 35 (past_white xs) && not (has_return xs)))) h
 
-blank_unmarked : (xs : List ℕ) → is_blank xs ≡ true → is_mark xs ≡ false
+pub blank_unmarked : (xs : List ℕ) → is_blank xs ≡ true → is_mark xs ≡ false
 blank_unmarked xs h = by_mark (is_mark xs) refl where
   by_mark : (q : Bool) → is_mark xs ≡ q → q ≡ false
   by_mark true e = absurd (true≢false (sym h ∙ mark_full xs e))
   by_mark false e = refl
 
-line_over : (size : ℕ) (l : Line) (ls : List Line) → is_blank l.bytes ≡ true → line_ahead true size (l ∷ ls) ≡ line_ahead true size ls
+pub line_over : (size : ℕ) (l : Line) (ls : List Line) → is_blank l.bytes ≡ true → line_ahead true size (l ∷ ls) ≡ line_ahead true size ls
 line_over size l ls h = passes_line true size l ls (blank_unmarked l.bytes h) (blank_passed true l.bytes h)
 
 -- what is ahead of a place, by the lines there
-from_lines : (P : Ahead → Type 0) (text : List ℕ) (e : ℕ) (m : Line) (ls : List Line) → lines e (drop e text) ≡ m ∷ ls → P (line_ahead true (length text) (m ∷ ls)) → P (rest_ahead true (length text) (m ∷ ls)) → P (ahead text true e)
+pub from_lines : (P : Ahead → Type 0) (text : List ℕ) (e : ℕ) (m : Line) (ls : List Line) → lines e (drop e text) ≡ m ∷ ls → P (line_ahead true (length text) (m ∷ ls)) → P (rest_ahead true (length text) (m ∷ ls)) → P (ahead text true e)
 from_lines P text e m ls is a b = subst (λ ks. P (cond (is_first_column text e) (line_ahead true (length text) ks) (rest_ahead true (length text) ks))) (sym is) (by_column (is_first_column text e)) where
   by_column : (q : Bool) → P (cond q (line_ahead true (length text) (m ∷ ls)) (rest_ahead true (length text) (m ∷ ls)))
   by_column true = a
@@ -131,34 +130,34 @@ ahead_from text i low = from_lines (λ a. i ≤ a.at) text i first_line ls (line
 -- ---- a part of a line of the text
 
 module _ (text : List ℕ) (l : Line) (ls : List Line) (is : IsTail text l ls) (n : ℕ) (low : n ≤ length l.bytes) where
-  abbrev size : ℕ
+  abbrev pub size : ℕ
   size = length text
 
-  abbrev part : List ℕ
+  abbrev pub part : List ℕ
   part = drop n l.bytes
 
-  abbrev stop : ℕ
+  abbrev pub stop : ℕ
   stop = plain_len true false part
 
-  abbrev long : ℕ
+  abbrev pub long : ℕ
   long = length (content true part)
 
-  abbrev end : ℕ
+  abbrev pub end : ℕ
   end = content_end true part (l.at + n)
 
-  abbrev bytes : List ℕ
+  abbrev pub bytes : List ℕ
   bytes = drop (n + long) l.bytes
 
-  end_is : l.at + (n + long) ≡ end
+  pub end_is : l.at + (n + long) ≡ end
   end_is = omega arith
 
   part_size : n + length part ≡ length l.bytes
   part_size = omega (arith, low, length-drop n l.bytes)
 
-  far : l.at + length l.bytes ≤ (line_ahead true size ls).at
+  pub far : l.at + length l.bytes ≤ (line_ahead true size ls).at
   far = later_at size (l.at + length l.bytes) ls is.1 is.2
 
-  bytes_are : bytes ≡ drop long part
+  pub bytes_are : bytes ≡ drop long part
   bytes_are = sym (drop-drop long n l.bytes)
 
   short : (w : List ℕ) → Behind true part w → n + long ≤ length l.bytes
@@ -168,14 +167,14 @@ module _ (text : List ℕ) (l : Line) (ls : List Line) (is : IsTail text l ls) (
       let c = part_size in
       omega (arith, a, b, c)
 
-  inner : (w : List ℕ) → Behind true part w → (b : Bool) × (lines end (drop end text) ≡ record { at = end; bytes = bytes; broken = b } ∷ ls)
+  pub inner : (w : List ℕ) → Behind true part w → (b : Bool) × (lines end (drop end text) ≡ record { at = end; bytes = bytes; broken = b } ∷ ls)
   inner w h = let r = inner_line text l ls is (n + long) (short w h) in (r.0, subst (λ e. lines e (drop e text) ≡ record { at = e; bytes = bytes; broken = r.0 } ∷ ls) end_is r.1)
 
   bytes_long : (w : List ℕ) → Behind true part w → end + length bytes ≡ l.at + length l.bytes
   bytes_long w h = let a = short w h in let b = end_is in omega (arith, a, b, length-drop (n + long) l.bytes)
 
   -- the line's end ends it
-  at_break : (w : List ℕ) → Behind true part w → drop stop part ≡ [] → ahead text true end ≡ line_ahead true size ls
+  pub at_break : (w : List ℕ) → Behind true part w → drop stop part ≡ [] → ahead text true end ≡ line_ahead true size ls
   at_break w h e =
       let r = inner w h in
       let blank : is_blank bytes ≡ true = ap is_blank (bytes_are ∙ h.0 ∙ ap (λ t. w ++ t) e) ∙ whole w h.1 in
@@ -225,34 +224,14 @@ module _ (text : List ℕ) (l : Line) (ls : List Line) (is : IsTail text l ls) (
 
 -- ---- the lines below
 
-same_place : (t u : List ℕ) (e f : ℕ) → Stands t e ≡ Stands u f → e ≡ f
+pub same_place : (t u : List ℕ) (e f : ℕ) → Stands t e ≡ Stands u f → e ≡ f
 same_place t u e f h = cc
 
--- a comment ends the scalar above it
-comment_shown : (xs z : List ℕ) → past_white xs ≡ 35 ∷ z → shown xs ≡ lead is_white xs
-comment_shown xs z e = by_return (begins_with 13 (drop (lead is_white xs + mark_len xs) xs)) (ap (λ k. begins_with 13 (drop k xs)) place ∙ ap (begins_with 13) e) where
-  no_mark : (xs z : List ℕ) → past_white xs ≡ 35 ∷ z → mark_len xs ≡ 0
-  no_mark [] z e = refl
-  no_mark (b ∷ xs) z e = by_white (is_white b) refl e where
-    fits : nat_eq b 45 ≡ false → nat_eq b 46 ≡ false → cond (nat_eq b 45 || nat_eq b 46) (suc (same b 2 xs)) 0 ≡ 0
-    fits i j = ap (λ q. cond (q || nat_eq b 46) (suc (same b 2 xs)) 0) i ∙ ap (λ q. cond q (suc (same b 2 xs)) 0) j
-
-    by_white : (q : Bool) → is_white b ≡ q → drop (cond q (suc (lead is_white xs)) 0) (b ∷ xs) ≡ 35 ∷ z → cond (nat_eq b 45 || nat_eq b 46) (suc (same b 2 xs)) 0 ≡ 0
-    by_white true i k = fits (grind (arith, nat_tests, i)) (grind (arith, nat_tests, i))
-    by_white false i k = let y : b ≡ 35 = cc in fits (ap (λ d. nat_eq d 45) y) (ap (λ d. nat_eq d 46) y)
-
-  place : lead is_white xs + mark_len xs ≡ lead is_white xs
-  place = let n = no_mark xs z e in omega (arith, n)
-
-  by_return : (q : Bool) → q ≡ false → cond (q && may_end (mark_len xs)) (suc (lead is_white xs + mark_len xs)) (lead is_white xs + mark_len xs) ≡ lead is_white xs
-  by_return true k = absurd (true≢false k)
-  by_return false k = place
-
 module _ (p : ℤ) (o : Bool) where
-  abbrev flow_setting : Setting
+  abbrev pub flow_setting : Setting
   flow_setting = record { parent = p; flow = true; one_line = o }
 
-  below_blank : (xs : List ℕ) → below flow_setting xs ≡ Blank → is_blank xs ≡ true
+  pub below_blank : (xs : List ℕ) → below flow_setting xs ≡ Blank → is_blank xs ≡ true
   below_blank xs h = by_tests (is_blank xs) (is_mark xs) (begins_with 35 (past_white xs)) refl h where
     by_tests : (q m c : Bool) → is_blank xs ≡ q → cond q Blank (cond m Outside (cond c Outside (Further (lead is_white xs)))) ≡ Blank → is_blank xs ≡ true
     by_tests true m c i h = i
@@ -260,7 +239,7 @@ module _ (p : ℤ) (o : Bool) where
     by_tests false false true i h = absurd (cc)
     by_tests false false false i h = absurd (cc)
 
-  below_outside : (xs : List ℕ) → below flow_setting xs ≡ Outside → (is_mark xs ≡ true) ⊎ ((is_mark xs ≡ false) × ((z : List ℕ) × (past_white xs ≡ 35 ∷ z)))
+  pub below_outside : (xs : List ℕ) → below flow_setting xs ≡ Outside → (is_mark xs ≡ true) ⊎ ((is_mark xs ≡ false) × ((z : List ℕ) × (past_white xs ≡ 35 ∷ z)))
   below_outside xs h = by_tests (is_blank xs) (is_mark xs) (past_white xs) refl refl h where
     by_first : (d : ℕ) (y : List ℕ) → past_white xs ≡ d ∷ y → (c : Bool) → nat_eq d 35 ≡ c → cond c Outside (Further (lead is_white xs)) ≡ Outside → (z : List ℕ) × (past_white xs ≡ 35 ∷ z)
     by_first d y i true k g = (y, i ∙ (let e : d ≡ 35 = grind (arith, nat_tests, k) in ap (λ b. b ∷ y) e))
@@ -319,17 +298,17 @@ module _ (p : ℤ) (o : Bool) where
     by_why n b Comment i h go = subst (λ m. OutOf (ahead text true m) (shown_by Comment (l.at + n + plain_len true false (drop n l.bytes)))) (same_place _ u _ f h) ((part_out text l ls is n (skip_le flow_setting l.bytes n b) Comment i).0 (λ v. absurd (cc)))
     by_why n b Mark i h go = by_ends n b Mark i (λ v. absurd (cc)) (nat_eq (plain_len true false (drop n l.bytes)) 0) refl h
 
-    by_outside : (is_mark l.bytes ≡ true) ⊎ ((is_mark l.bytes ≡ false) × ((z : List ℕ) × (past_white l.bytes ≡ 35 ∷ z))) → OutOf (line_ahead true (length text) (l ∷ ls)) (l.at + end_shown l.bytes)
+    by_outside : (is_mark l.bytes ≡ true) ⊎ ((is_mark l.bytes ≡ false) × ((z : List ℕ) × (past_white l.bytes ≡ 35 ∷ z))) → OutOf (line_ahead true (length text) (l ∷ ls)) (l.at + out_shown l.bytes)
     by_outside (inl m) = inl (ap (λ q. is_open (cond q (token_at (mark_of l.bytes) true 0 l.at) (cond (is_passed true l.bytes) (line_ahead true (length text) ls) (content_ahead true l.at l.bytes))).token) m ∙ mark_open l.bytes)
     by_outside (inr (m, (z, c))) =
-        let x : end_shown l.bytes ≡ lead is_white l.bytes = ap (λ q. cond q 4 (shown l.bytes)) m ∙ comment_shown l.bytes z c in
+        let x : out_shown l.bytes ≡ lead is_white l.bytes = ap (λ q. cond q 4 (cond (begins_with 13 (past_white l.bytes)) (suc (lead is_white l.bytes)) (lead is_white l.bytes))) m ∙ ap (λ y. cond (begins_with 13 y) (suc (lead is_white l.bytes)) (lead is_white l.bytes)) c in
         subst (λ n. OutOf (line_ahead true (length text) (l ∷ ls)) (l.at + n)) (sym x) (line_content (length text) l ls over)
 
     by_below : (z : Below) → below flow_setting l.bytes ≡ z → further flow_setting z l.at l.bytes t e k (more flow_setting ls) ≡ Stands u f
         → ((x : List ℕ) (y z : ℕ) → ahead text true y ≡ line_ahead true (length text) ls → more flow_setting ls x y z ≡ Stands u f → OutOf (ahead text true f) (more_shown flow_setting (length text) ls))
         → OutOf (ahead text true f) (line_shown flow_setting z l.at l.bytes (more_shown flow_setting (length text) ls))
     by_below Blank i h go = go t e (suc k) (link ∙ line_over (length text) l ls (below_blank l.bytes i)) h
-    by_below Outside i h go = here (l.at + end_shown l.bytes) h (by_outside (below_outside l.bytes i))
+    by_below Outside i h go = here (l.at + out_shown l.bytes) h (by_outside (below_outside l.bytes i))
     by_below (Further n) i h go = by_why n i (reason true (drop n l.bytes)) refl h go
 
   -- ---- from its first line on

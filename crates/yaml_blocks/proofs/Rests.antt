@@ -510,7 +510,7 @@ module _ (text : List ℕ) where
   lies_flow p (Tagged at above shares) l = absurd l
 
   -- what follows a node in flow begins with one of them
-  ends_none : (fs : List Form) (outer : List Level) (done : Forest) (i : ℕ) (v : Reading) → IsFlow (top fs) → Nests fs → NoEndings (ahead text true i).token → Ends text fs outer done i v → ⊥
+  pub ends_none : (fs : List Form) (outer : List Level) (done : Forest) (i : ℕ) (v : Reading) → IsFlow (top fs) → Nests fs → NoEndings (ahead text true i).token → Ends text fs outer done i v → ⊥
   ends_none [] outer done i v w ns none en = absurd w
   ends_none (f ∷ fs) [] done i v w ns none en = en
   ends_none (Root ∷ fs) (x ∷ xs) done i v w ns none en = absurd w

@@ -22,8 +22,8 @@ use Rattle.yaml_blocks.specs.declared.refusal.YamlRefusal.TheVariants as refusal
 use Rattle.yaml_blocks.specs.Ahead.{ahead}
 use Rattle.yaml_blocks.specs.Nodes.{leaf, starts_scalar, node_sign}
 use Rattle.yaml_blocks.specs.Blocks.{block_sign}
-use Rattle.yaml_blocks.specs.Answers.{IsSignOf, Refuses, Reads}
-use Rattle.yaml_blocks.specs.code.Refused.{of_sign, of_stop}
+use Rattle.yaml_blocks.specs.Answers.{IsSignOf, IsUnread, Reads}
+use Rattle.yaml_blocks.specs.code.Refused.{IsStopped, of_sign, of_stop}
 use Rattle.yaml_blocks.specs.Signs as sign
 use Rattle.yaml_blocks.specs.Signs.{Sign, Tab, Directive, ManyDocuments, DuplicateKey, TooDeep, To, Shows, Reading, Tree, Refused, Then}
 use Rattle.yaml_blocks.specs.Yaml.{IsRoot, IsStart, is_content, sign_before, text_start, start_sign, IsYaml, Counts}
@@ -191,11 +191,11 @@ start_counts text s e = (inl e, (λ z y. same z (comes_nowhere text (Refused z) 
   none : (t : Forest) → (y : Sign) × (start_sign text ≡ Some y) × (Tree t ≡ Refused y) → ⊥
   none t (y, h, r) = tree_refused t y r
 
-pub start_refused : (text : List ℕ) (r : Stop) → Some r ≡ option_map of_sign (start_sign text) → Refuses text (of_stop r)
+pub start_refused : (text : List ℕ) (r : Stop) → Some r ≡ option_map of_sign (start_sign text) → IsStopped text r
 start_refused text r e =
     let t = told (start_sign text) r e in
-    subst (λ z. Refuses text (of_stop z)) t.2 (by_sign t.0 (start_counts text t.0 t.1)) where
-      by_sign : (s : Sign) → IsSignOf text s → Refuses text (of_stop (of_sign s))
+    subst (λ z. IsStopped text z) t.2 (by_sign t.0 (start_counts text t.0 t.1)) where
+      by_sign : (s : Sign) → IsSignOf text s → IsStopped text (of_sign s)
       by_sign (Tab at) h = h
       by_sign (sign.Anchor at) h = h
       by_sign (sign.Tag at) h = h
@@ -219,7 +219,7 @@ pub start_solid : (text : List ℕ) (r : Stop) → Some r ≡ option_map of_sign
 start_solid text r e n = let t = told (start_sign text) r e in solid_sign t.0 (t.2 ∙ n)
 
 pub marked_refused : (text : List ℕ) (at behind : ℕ) (next after : Ahead) → at ≡ text_start text → next ≡ ahead text false at → behind ≡ next.behind → after ≡ ahead text false behind → next.token ≡ Dashes → after.fresh ≡ false
-    → None ≡ option_map of_sign (start_sign text) → Refuses text refusal.Unread
+    → None ≡ option_map of_sign (start_sign text) → IsUnread text
 marked_refused text at behind next after ea en eb ef d f n =
     let first : next ≡ ahead text false (text_start text) = en ∙ ap (ahead text false) ea in
     let second : after ≡ ahead text false (ahead text false (text_start text)).behind = ef ∙ ap (ahead text false) (eb ∙ ap (λ a. a.behind) first) in
@@ -302,7 +302,7 @@ only_sign text P s h (g, only) = ((h (Refused s)).1 g, (λ z y. same z (only (Re
   none : (t : Forest) → Tree t ≡ Refused s → ⊥
   none t e = absurd (cc)
 
-pub refuses : (text : List ℕ) (P : Reading → Type 0) (n : ℕ) (fs : List Form) (w : Unfinished) (r : Stop) → ((v : Reading) → (Comes text v → P v) × (P v → Comes text v)) → Gives text P n fs w (Err r) → Refuses text (of_stop r)
+pub refuses : (text : List ℕ) (P : Reading → Type 0) (n : ℕ) (fs : List Form) (w : Unfinished) (r : Stop) → ((v : Reading) → (Comes text v → P v) × (P v → Comes text v)) → Gives text P n fs w (Err r) → IsStopped text r
 refuses text P n fs w (stop.Unread q) h g = ((λ s y. g (Refused s) ((h (Refused s)).0 y)), (λ t y. g (Tree t) ((h (Tree t)).0 y)))
 refuses text P n fs w (stop.Tab at) h g = only_sign text P (Tab at) h g
 refuses text P n fs w (stop.Anchor at) h g = only_sign text P (sign.Anchor at) h g
@@ -313,7 +313,7 @@ refuses text P n fs w (stop.DuplicateKey at) h g = only_sign text P (DuplicateKe
 refuses text P n fs w (stop.TooDeep at) h g = only_sign text P (TooDeep at) h g
 refuses text P n fs w stop.NoMemory h g = tt
 
-pub root_refused : (text : List ℕ) (i n : ℕ) (fs : List Form) (w : Unfinished) (r : Stop) → IsStart text i → start_sign text ≡ None → Gives text (Begins text i) n fs w (Err r) → Refuses text (of_stop r)
+pub root_refused : (text : List ℕ) (i n : ℕ) (fs : List Form) (w : Unfinished) (r : Stop) → IsStart text i → start_sign text ≡ None → Gives text (Begins text i) n fs w (Err r) → IsStopped text r
 root_refused text i n fs w r s z g = refuses text (Begins text i) n fs w r (λ v. (comes_begins text i v s z, begins_comes text i v s)) g
 
 pub root_same : (text : List ℕ) (i : ℕ) (fs : List Form) (w : Unfinished) (p : Position) → IsStart text i → start_sign text ≡ None → fs ≡ [] → Goes text (Begins text i) 0 [] w p → Same text p fs w × Fits text p.stage fs w p.at × IsCharBoundary text p.at

@@ -26,6 +26,7 @@ use Rattle.yaml_blocks.specs.Blocks.{IsKey}
 use Rattle.yaml_blocks.specs.Yaml.{IsEnd, sign_behind, end_sign}
 use Rattle.yaml_blocks.specs.code.Steps.{IsPlaced, IsSeen, SameScalar, SameKey, SameNode, SameFlowNode, SameFlowKey, SameEnd, SameStep, Found, Failed, Divides, Finds, Holds, NoKey, HasKey, TagBegun}
 use Rattle.yaml_blocks.proofs.Placed.{placed}
+use Rattle.yaml_blocks.proofs.Pointed.{pointed_point, pointed_stale}
 
 -- ---- scalars
 
@@ -138,10 +139,10 @@ pub same_key : (text : List ℕ) (a : Ahead) → SameKey text text a
 same_key text a = record { scalar = record { scalar = refl; typed = refl; last = λ t j h b. b }; behind = λ t j h. refl; last = λ t j h b. b }
 
 pub same_node : (text : List ℕ) (f : Form) (i : ℕ) (a : Ahead) → SameNode text text f i a
-same_node text f i a = record { name = λ len h e. refl; cuts = refl; scalar = λ h n. record { scalar = refl; typed = refl; last = λ t j k b. b }; none = λ h n. n; key = λ h k there. there }
+same_node text f i a = record { name = λ len h e. refl; cuts = refl; scalar = λ h n. record { scalar = refl; typed = refl; last = λ t j k b. b }; none = λ h n. n; key = λ h k there. there; point = λ h n t j st p. (pointed_point text false a.at j p, pointed_stale text a.at j p) }
 
 pub same_flow_node : (text : List ℕ) (f : Form) (i : ℕ) (a : Ahead) → SameFlowNode text text f i a
-same_flow_node text f i a = record { name = λ len e. refl; cuts = refl; scalar = record { scalar = refl; typed = refl; last = λ t j h b. b } }
+same_flow_node text f i a = record { name = λ len e. refl; cuts = refl; scalar = record { scalar = refl; typed = refl; last = λ t j h b. b }; point = λ t j h p. pointed_point text true a.at j p }
 
 pub same_flow_key : (text : List ℕ) (a : Ahead) → SameFlowKey text text a
 same_flow_key text a = record { scalar = record { scalar = refl; typed = refl; last = λ t j h b. b }; quoted = refl; behind = λ t j h. refl; last = λ t j loose h z b. b }

@@ -1,6 +1,7 @@
 -- How far a text is looked at where reading goes on: not further than for what is ahead, and as far as for what was ahead before. By the cases of stages and tokens.
-use Rattle.std.proofs.Common.{◌≡◌, ℕ, suc, ◌-◌, ◌<◌, ◌≤◌, Bool, true, false, ◌||◌, ◌&&◌, not, cond, nat_eq, nat_lt, arith, List, ◌∷◌, drop, length, refl, sym, ap, ◌∙◌, subst, true≢false}
+use Rattle.std.proofs.Common.{◌≡◌, ℕ, suc, ◌+◌, ◌-◌, ◌<◌, ◌≤◌, Bool, true, false, ◌||◌, ◌&&◌, not, cond, nat_eq, nat_lt, arith, List, ◌∷◌, drop, length, refl, sym, ap, ◌∙◌, subst, true≢false}
 use Rattle.std.proofs.lemmas.Bool.Decides.{nat_tests}
+use Rattle.std.specs.Str.{IsCharBoundary, IsUtf8}
 use Rattle.yaml_scalars.specs.Lines.{is_end, lead}
 use Rattle.yaml_scalars.specs.Block.{same}
 use Rattle.yaml_scalars.specs.code.Walk.{line_at}
@@ -13,11 +14,14 @@ use Rattle.yaml_blocks.specs.declared.stage.Position.{Position}
 use Rattle.yaml_blocks.specs.Ahead.{token_len, is_name, begins_letter, ends_tag, tag_token, token_of, ahead}
 use Rattle.yaml_blocks.specs.Nodes.{is_marked}
 use Rattle.yaml_blocks.specs.code.AheadSeen.{ahead_seen, first_return, is_told}
+use Rattle.yaml_blocks.specs.code.Points.{is_last_point, is_point}
 use Rattle.yaml_blocks.specs.code.StopPlaces.{is_stray, run_width, byte_width, token_width, width}
 use Rattle.yaml_blocks.specs.code.Steps.{IsSeen, is_ending, is_flow_ending, is_open}
 use Rattle.yaml_blocks.specs.code.Twins.{settled}
 use Rattle.yaml_blocks.proofs.AheadOrder.{seen_behind, seen_from, seen_least}
 use Rattle.yaml_blocks.proofs.FirstTokens.{Begun, first_byte}
+use Rattle.yaml_blocks.proofs.LastPoints.{alike_last}
+use Rattle.yaml_blocks.proofs.Placed.{placed}
 use Rattle.yaml_blocks.proofs.PlainOut.{ahead_from}
 use Rattle.yaml_blocks.proofs.ShownTokens.{ahead_wide}
 
@@ -29,14 +33,14 @@ settled_least text flow s i low = by_stage s where
   by_ending true = omega arith
   by_ending false = seen_least text i low
 
-  by_open : (q : Bool) → cond q (ahead text true i).at (ahead_seen text i) ≤ ahead_seen text i
-  by_open true = seen_from text true i
+  by_open : (q : Bool) → cond q (ahead text flow i).at (ahead_seen text i) ≤ ahead_seen text i
+  by_open true = seen_from text flow i
   by_open false = omega arith
 
   by_stage : (s : Stage) → settled text flow s i ≤ ahead_seen text i
   by_stage stage.Entry = let z = seen_least text i low in omega (arith, z)
   by_stage stage.Value = by_ending (is_flow_ending (ahead text true i).token)
-  by_stage stage.After = by_open (flow && not (is_open (ahead text true i).token))
+  by_stage stage.After = by_open (is_last_point text flow (ahead text flow i) || (flow && not (is_open (ahead text true i).token)))
   by_stage stage.Whole = omega arith
 
 pub settled_value : (text : List ℕ) (flow : Bool) (i place : ℕ) → i ≤ length text → settled text flow stage.Value i ≤ place → i ≤ place
@@ -54,7 +58,7 @@ settled_at text flow p s i place es ei near = subst (λ n. settled text flow s n
 
 -- behind a node between brackets the place itself is looked at
 pub settled_after : (text : List ℕ) (i place : ℕ) → i ≤ length text → settled text true stage.After i ≤ place → i ≤ place
-settled_after text i place low near = by_open (not (is_open (ahead text true i).token)) near where
+settled_after text i place low near = by_open (is_last_point text true (ahead text true i) || (true && not (is_open (ahead text true i).token))) near where
   by_open : (q : Bool) → cond q (ahead text true i).at (ahead_seen text i) ≤ place → i ≤ place
   by_open true h = let z = ahead_from text i low in omega (arith, h, z)
   by_open false h = let z = seen_least text i low in omega (arith, h, z)
@@ -65,10 +69,17 @@ settled_turn text p q s i opens = by_stage s opens where
   by_open : (p q : Bool) → (p ≡ false → q ≡ true → stage.After ≡ stage.Entry) → settled text p stage.After i ≤ settled text q stage.After i
   by_open true true o = omega arith
   by_open false false o = omega arith
-  by_open true false o = by_token (not (is_open (ahead text true i).token)) where
+  by_open true false o = by_line (is_last_point text false (ahead text false i)) refl where
     by_token : (r : Bool) → cond r (ahead text true i).at (ahead_seen text i) ≤ ahead_seen text i
     by_token true = seen_from text true i
     by_token false = omega arith
+
+    here : is_last_point text false (ahead text false i) ≡ true → cond (is_last_point text true (ahead text true i) || (true && not (is_open (ahead text true i).token))) (ahead text true i).at (ahead_seen text i) ≤ (ahead text false i).at
+    here e = let k = alike_last text i e in let z = k.1 in subst (λ q. cond (q || (true && not (is_open (ahead text true i).token))) (ahead text true i).at (ahead_seen text i) ≤ (ahead text false i).at) (sym k.0) (omega (arith, z))
+
+    by_line : (r : Bool) → is_last_point text false (ahead text false i) ≡ r → cond (is_last_point text true (ahead text true i) || (true && not (is_open (ahead text true i).token))) (ahead text true i).at (ahead_seen text i) ≤ cond (r || (false && not (is_open (ahead text true i).token))) (ahead text false i).at (ahead_seen text i)
+    by_line true e = here e
+    by_line false e = by_token (is_last_point text true (ahead text true i) || (true && not (is_open (ahead text true i).token)))
   by_open false true o = absurd (let z = o refl refl in cc)
 
   by_stage : (s : Stage) → (p ≡ false → q ≡ true → s ≡ stage.Entry) → settled text p s i ≤ settled text q s i
@@ -217,7 +228,24 @@ module _ (text : List ℕ) (flow : Bool) (i : ℕ) (a : Ahead) (seen : IsSeen te
 
 -- where nothing stands in front of a comma, a bracket or a mark
 pub settled_null : (text : List ℕ) (i place : ℕ) → is_flow_ending (ahead text true i).token ≡ true → settled text true stage.After i ≤ place → ahead_seen text i ≤ place
-settled_null text i place e near = by_token (ahead text true i).token e refl near where
+settled_null text i place e near = by_token (ahead text true i).token e refl (subst (λ q. cond (q || (true && not (is_open (ahead text true i).token))) (ahead text true i).at (ahead_seen text i) ≤ place) (no_point (ahead text true i).token e) near) where
+  no_point : (t : Token) → is_flow_ending t ≡ true → is_last_point text true (record { token = t; fresh = (ahead text true i).fresh; column = (ahead text true i).column; at = (ahead text true i).at; behind = (ahead text true i).behind }) ≡ false
+  no_point Comma h = refl
+  no_point (Closes q) h = refl
+  no_point Dashes h = refl
+  no_point Dots h = refl
+  no_point End h = refl
+  no_point Dash h = refl
+  no_point (Tag m) h = refl
+  no_point NoTag h = refl
+  no_point (Opens q) h = refl
+  no_point (Point q) h = absurd (true≢false (sym h))
+  no_point Anchor h = refl
+  no_point Percent h = refl
+  no_point Tabbed h = refl
+  no_point Stray h = refl
+  no_point Other h = refl
+
   by_bracket : is_opening (ahead text true i).token ≡ true → (ahead text true i).at ≤ place → ahead_seen text i ≤ place
   by_bracket o h = let z = opening_seen text true i o in omega (arith, z, h)
 
@@ -237,3 +265,25 @@ settled_null text i place e near = by_token (ahead text true i).token e refl nea
   by_token Tabbed h k n = absurd (true≢false (sym h))
   by_token Stray h k n = absurd (true≢false (sym h))
   by_token Other h k n = absurd (true≢false (sym h))
+
+-- between brackets a position in front of a colon is settled within the text
+pub settled_point : (text : List ℕ) (i : ℕ) (loose : Bool) → IsUtf8 text → IsCharBoundary text i → (ahead text true i).token ≡ Point loose → settled text true stage.After i < length text
+settled_point text i loose utf8 cut tk = by_last (is_last_point text true (ahead text true i)) refl where
+  here : (ahead text true i).behind ≡ (ahead text true i).at + token_len (ahead text true i).token
+  here = (placed text true i utf8 cut).3
+
+  one : token_len (ahead text true i).token ≡ 1
+  one = ap token_len tk
+
+  within : (ahead text true i).behind ≤ length text
+  within = (placed text true i utf8 cut).2.0
+
+  other : is_last_point text true (ahead text true i) ≡ false → (ahead text true i).behind < length text
+  other h = by_order (nat_eq (ahead text true i).behind (length text)) refl where
+    by_order : (q : Bool) → nat_eq (ahead text true i).behind (length text) ≡ q → (ahead text true i).behind < length text
+    by_order true e = absurd (true≢false (sym (ap (λ t. is_point t && (nat_eq (ahead text true i).behind (length text) && true)) tk ∙ ap (λ q. true && (q && true)) e) ∙ h))
+    by_order false e = let z = within in grind (arith, nat_tests, e, z)
+
+  by_last : (q : Bool) → is_last_point text true (ahead text true i) ≡ q → cond (q || (true && not (is_open (ahead text true i).token))) (ahead text true i).at (ahead_seen text i) < length text
+  by_last true e = let b = here in let n = one in let z = within in omega (arith, b, n, z)
+  by_last false e = subst (λ t. cond (false || (true && not (is_open t))) (ahead text true i).at (ahead_seen text i) < length text) (sym tk) (let z = seen_behind text true i (Point loose) tk refl (omega arith) in let b = other e in omega (arith, z, b))

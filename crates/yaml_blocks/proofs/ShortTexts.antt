@@ -1,5 +1,5 @@
 -- A text that some more bytes complete, where all that is ahead of the place of reading is looked at within it, is short. By what follows in the longer text, which is the same so far.
-use Rattle.std.proofs.Common.{◌≡◌, ℕ, ◌<◌, Bool, true, false, cond, List, [], ◌∷◌, ◌++◌, drop, length, refl, sym, ap, ◌∙◌, subst, true≢false, arith, append_assoc}
+use Rattle.std.proofs.Common.{inl, ◌≡◌, ℕ, ◌<◌, Bool, true, false, cond, List, [], ◌∷◌, ◌++◌, drop, length, refl, sym, ap, ◌∙◌, subst, true≢false, arith, append_assoc}
 use Rattle.std.proofs.lemmas.Bool.{ltb-true}
 use Rattle.std.proofs.lemmas.Str.{IsUtf8-from_ascii, IsUtf8-append}
 use Rattle.std.proofs.lemmas.Str.Ascii.{IsAscii-nil, IsAscii-cons}
@@ -19,7 +19,7 @@ use Rattle.yaml_blocks.specs.Nodes.{follows_get_att, setting_of}
 use Rattle.yaml_blocks.specs.Signs.{Tree}
 use Rattle.yaml_blocks.specs.code.AheadSeen.{ahead_seen}
 use Rattle.yaml_blocks.specs.code.Closers.{in_flow, BreaksOff}
-use Rattle.yaml_blocks.specs.code.Places.{IsShort}
+use Rattle.yaml_blocks.specs.Places.{IsShort}
 use Rattle.yaml_blocks.specs.code.Rest.{top}
 use Rattle.yaml_blocks.specs.code.Steps.{Rest, Fits}
 use Rattle.yaml_blocks.specs.code.Twins.{IsTwin}
@@ -68,7 +68,7 @@ module _ (text : List ℕ) (p : Position) (fs : List Form) (u : Unfinished) (utf
   pub value_short : p.stage ≡ stage.Value → Fits text stage.Value fs u p.at → p.at < length text → BreaksOff text (top fs) p.at → begins_block (setting_of (top fs)) (drop (ahead text (in_flow (top fs)) p.at).at text) ≡ false → ends_with 13 text ≡ false
       → (follows_get_att text (top fs) p.at ≡ true → length u.outer < 128) → IsShort text (length text)
   value_short e fits within (may, starts, l, h) block last room =
-      let v = value_grown fs u.outer u.done u.key p.at fits.0.0 fits.0.1 text (omega (arith, within)) may starts l block last h room in
+      let v = value_grown fs u.outer u.done u.key p.at fits.0.0 fits.0.1 text (omega (arith, within)) may starts l block last h (λ e. inl (room e)) in
       mended (λ w. whole_value (sym e ∙ w)) v.0 v.1 v.2 (subst (λ s. Rest (text ++ v.0) s fs u p.at (Tree v.2)) (sym e) v.3) where
         whole_value : stage.Value ≡ stage.Whole → ⊥
         whole_value w = absurd (cc)

@@ -6,7 +6,7 @@ use Rattle.std.specs.Prelude.{Result, Ok, Err, Option, Some, None, option_map}
 use Rattle.std.specs.Str.{IsCharBoundary}
 use Rattle.doc_values.specs.declared.builder.BuildRefusal.{BuildRefusal}
 use Rattle.doc_values.specs.declared.builder.BuildRefusal.TheVariants as build
-use Rattle.doc_values.specs.Limits.{template_limit}
+use Rattle.yaml_scalars.specs.code.Limits.{text_limit}
 use Rattle.doc_values.specs.Tree.{Forest}
 use Rattle.doc_values.specs.Unfinished.{Unfinished}
 use Rattle.yaml_scalars.specs.declared.scalar.Scalar.{Scalar}
@@ -219,7 +219,7 @@ module _ (text : List ℕ) (fs : List Form) (u : Unfinished) (i : ℕ) (r : Resu
       stops_twin text i (NoFlowValue i (ahead text true i) fs u) (λ other. IsCharBoundary other i → Fits other stage.Value fs u i → (t : Forest) → Awaits other fs u.outer u.done u.key i (Tree t) → ⊥) r
       (λ p other m near none there fits t. none (seen_twin text p other true i m cut there near) t) h
 
-  pub value_stops : (f : Form) → (ahead text false i).at ≤ template_limit → top fs ≡ f → IsBlock f → Stops text i (NoValue i (ahead text false i) f fs u) r → StopsStep text stage.Value fs u i r
+  pub value_stops : (f : Form) → (ahead text false i).at ≤ text_limit → top fs ≡ f → IsBlock f → Stops text i (NoValue i (ahead text false i) f fs u) r → StopsStep text stage.Value fs u i r
   value_stops f small form block h =
       stops_twin text i (NoValue i (ahead text false i) f fs u) (λ other. IsCharBoundary other i → Fits other stage.Value fs u i → (t : Forest) → Awaits other fs u.outer u.done u.key i (Tree t) → ⊥) r
       (λ p other m near none there fits t. none (record { small = small; boundary = there; seen = seen_twin text p other false i m cut there near; form = form; block = block; fits = fits }) t) h

@@ -7,7 +7,6 @@ use Rattle.doc_values.specs.Unfinished.{Unfinished}
 use Rattle.yaml_scalars.specs.Lines.{Stands, begins_with, is_white, lead}
 use Rattle.yaml_scalars.specs.Scalar.{begins_quoted}
 use Rattle.yaml_scalars.specs.code.Walk.{line_at}
-use Rattle.yaml_laws.specs.code.Agreement.{scalar_shown}
 use Rattle.yaml_blocks.specs.declared.ahead.Ahead.{Ahead}
 use Rattle.yaml_blocks.specs.declared.ahead.Token.TheVariants.{Closes, Point}
 use Rattle.yaml_blocks.specs.declared.form.Form.{Form}
@@ -33,6 +32,19 @@ use Rattle.yaml_blocks.proofs.Twins.{twin_ahead, twin_quoted, twin_ahead_scalar}
 
 module _ (text : List ℕ) (fs : List Form) (u : Unfinished) (i : ℕ) (a : Ahead) where
   -- in flow
+  pub no_colon_twin : (quoted : Bool) (t : List ℕ) (e : ℕ) → IsSeen text true i a → IsCharBoundary text i → (a.token ≡ Closes true → ⊥) → top fs ≡ Flow true → Open fs u → scalar_ahead text (as_key true) a ≡ Stands t e → a.at < e → IsCharBoundary text e
+      → has_key u.done t ≡ false → quoted ≡ begins_quoted (drop a.at text) → ((p : ℕ) → IsColon text quoted e p → ⊥) → (p : ℕ) (other : List ℕ) → IsTwin text p other → ahead_seen text e ≤ p → NoEntry i a fs u other
+  no_colon_twin quoted t e seen cut there form open_ st low last new eq none p other m near = λ seen2 v h.
+      let from = scalar_from text true i a seen cut (as_key true) t e st low last in
+      let to = scalar_to text true i a seen cut (as_key true) t e st low last in
+      let all = scalar_all text true i a seen cut (as_key true) t e st low last in
+      let first = place_from text true i a seen in
+      let here : a.at ≤ p = omega (arith, first, from, to, near) in
+      let same = twin_ahead text p other m true e last.0 near in
+      let stands = twin_ahead_scalar text p other m (as_key true) a t e here (omega (arith, all, near)) st in
+      no_colon other fs u.outer u.done i e a t seen2.0 there form open_.0 stands new
+      (λ k c. none k (subst (λ b. IsColon text b e k) (twin_quoted text p other m a.at here ∙ sym eq) (colon_alike other text (begins_quoted (drop a.at other)) e k (sym same) c))) (Tree v) h
+
   pub no_colon_stops : (quoted : Bool) (t : List ℕ) (e q : ℕ) → IsSeen text true i a → IsCharBoundary text i → (a.token ≡ Closes true → ⊥) → top fs ≡ Flow true → Open fs u → scalar_ahead text (as_key true) a ≡ Stands t e → a.at < e → IsCharBoundary text e
       → has_key u.done t ≡ false → quoted ≡ begins_quoted (drop a.at text) → ((p : ℕ) → IsColon text quoted e p → ⊥) → q ≡ told_place text (ahead text true e) → Stops text i (NoEntry i a fs u) (Err (Unread q))
   no_colon_stops quoted t e q seen cut there form open_ st low last new eq none place = by_told (subst (IsTold text true e) (sym place) (told_shown text true e)) where
@@ -42,23 +54,9 @@ module _ (text : List ℕ) (fs : List Form) (u : Unfinished) (i : ℕ) (a : Ahea
     to : e ≤ ahead_seen text e
     to = scalar_to text true i a seen cut (as_key true) t e st low last
 
-    all : scalar_shown (as_key true) text a.at e ≤ ahead_seen text e
-    all = scalar_all text true i a seen cut (as_key true) t e st low last
-
-    first : a.at ≤ ahead_seen text i
-    first = place_from text true i a seen
-
-    absent : (p : ℕ) (other : List ℕ) → IsTwin text p other → ahead_seen text e ≤ p → NoEntry i a fs u other
-    absent p other m near = λ seen2 v h.
-        let here : a.at ≤ p = omega (arith, first, from, to, near) in
-        let same = twin_ahead text p other m true e last.0 near in
-        let stands = twin_ahead_scalar text p other m (as_key true) a t e here (omega (arith, all, near)) st in
-        no_colon other fs u.outer u.done i e a t seen2.0 there form open_.0 stands new
-        (λ k c. none k (subst (λ b. IsColon text b e k) (twin_quoted text p other m a.at here ∙ sym eq) (colon_alike other text (begins_quoted (drop a.at other)) e k (sym same) c))) (Tree v) h
-
     by_told : IsTold text true e q → Stops text i (NoEntry i a fs u) (Err (Unread q))
     by_told (inl k) = inl (inl k)
-    by_told (inr (n, l, (p, past, near))) = inr (l, (p, past, omega (arith, from, to, near), (λ other m. absent p other m near)))
+    by_told (inr (n, l, (p, past, near))) = inr (l, (p, past, omega (arith, from, to, near), (λ other m. no_colon_twin quoted t e seen cut there form open_ st low last new eq none p other m near)))
 
   -- outside of flow
   pub no_line_colon_stops : (column : ℕ) (t : List ℕ) (e q : ℕ) → IsSeen text false i a → IsCharBoundary text i → top fs ≡ Entries column → Open fs u → a.column ≡ column → scalar_ahead text (as_key false) a ≡ Stands t e → a.at < e → IsCharBoundary text e

@@ -6,7 +6,7 @@ use Rattle.doc_values.specs.declared.kind.Kind.TheVariants as kind
 use Rattle.doc_values.specs.Tree.{Forest, snoc}
 use Rattle.doc_values.specs.Unfinished.{Level}
 use Rattle.yaml_scalars.specs.declared.scalar.Setting.{Setting}
-use Rattle.yaml_scalars.specs.Lines.{Line, Stands, Fails, begins_break, begins_with, each, ends_with, lines}
+use Rattle.yaml_scalars.specs.Lines.{Line, Stands, Fails, begins_break, begins_with, each, ends_with, lines, newlines}
 use Rattle.yaml_scalars.specs.Block.{block_on}
 use Rattle.yaml_scalars.specs.Scalar.{HasKind, is_first_column, is_typed, begins_quoted, begins_block, plain_scalar, quoted_scalar, block_scalar, scalar_at}
 use Rattle.yaml_scalars.specs.code.Walk.{line_at, has_break, behind}
@@ -41,7 +41,7 @@ use Rattle.yaml_blocks.proofs.LineTails.{Tails, tails_of}
 use Rattle.yaml_blocks.proofs.Quiet.{word_inside}
 use Rattle.yaml_blocks.proofs.ScalarOrder.{Fresh, behind_fresh}
 use Rattle.yaml_blocks.proofs.ShownTokens.{ahead_wide}
-use Rattle.yaml_blocks.proofs.Values.{cuts_longer}
+use Rattle.yaml_blocks.proofs.Values.{lines_uncut}
 
 -- ---- the last line
 
@@ -49,7 +49,7 @@ first_of : (l m : Line) (ls ms : List Line) → l ∷ ls ≡ m ∷ ms → (l ≡
 first_of l m ls ms h = (cc, cc)
 
 -- the last line's bytes are what the text has from its place on, and it begins at a first column if it is not the first
-last_bytes : (text : List ℕ) (ls : List Line) (p : ℕ) (f : List ℕ) → Tails text ls → IsLastLine p f ls → drop p text ≡ f
+pub last_bytes : (text : List ℕ) (ls : List Line) (p : ℕ) (f : List ℕ) → Tails text ls → IsLastLine p f ls → drop p text ≡ f
 last_bytes text [] p f t h = absurd h
 last_bytes text (l ∷ []) p f t (e, g) =
     let xs = drop l.at text in
@@ -58,22 +58,22 @@ last_bytes text (l ∷ []) p f t (e, g) =
     ap (λ k. drop k text) (sym e) ∙ sym whole ∙ ap (λ (x : Line). x.bytes) q.0 ∙ g
 last_bytes text (l ∷ m ∷ ls) p f t h = last_bytes text (m ∷ ls) p f t.1 h
 
-last_fresh : (text : List ℕ) (ls : List Line) (p : ℕ) (f : List ℕ) → Fresh text ls → IsLastLine p f ls → is_first_column text p ≡ true
+pub last_fresh : (text : List ℕ) (ls : List Line) (p : ℕ) (f : List ℕ) → Fresh text ls → IsLastLine p f ls → is_first_column text p ≡ true
 last_fresh text [] p f r h = absurd h
 last_fresh text (l ∷ []) p f r (e, g) = ap (is_first_column text) (sym e) ∙ r.0
 last_fresh text (l ∷ m ∷ ls) p f r h = last_fresh text (m ∷ ls) p f r.1 h
 
-last_with : (c : ℕ) (xs : List ℕ) (b : ℕ) → ends_with c (xs ++ (b ∷ [])) ≡ nat_eq b c
+pub last_with : (c : ℕ) (xs : List ℕ) (b : ℕ) → ends_with c (xs ++ (b ∷ [])) ≡ nat_eq b c
 last_with c [] b = refl
 last_with c (d ∷ []) b = refl
 last_with c (d ∷ e ∷ xs) b = last_with c (e ∷ xs) b
 
-last_two : (c : ℕ) (xs : List ℕ) (b : ℕ) → ends_with c (xs ++ (b ∷ b ∷ [])) ≡ nat_eq b c
+pub last_two : (c : ℕ) (xs : List ℕ) (b : ℕ) → ends_with c (xs ++ (b ∷ b ∷ [])) ≡ nat_eq b c
 last_two c [] b = refl
 last_two c (d ∷ []) b = refl
 last_two c (d ∷ e ∷ xs) b = last_two c (e ∷ xs) b
 
-ends_past : (c n : ℕ) (xs : List ℕ) → ends_with c xs ≡ false → ends_with c (drop n xs) ≡ false
+pub ends_past : (c n : ℕ) (xs : List ℕ) → ends_with c xs ≡ false → ends_with c (drop n xs) ≡ false
 ends_past c zero xs h = h
 ends_past c (suc n) [] h = refl
 ends_past c (suc n) (b ∷ []) h = ends_past c n [] refl
@@ -96,7 +96,7 @@ dots_end text p fresh e low =
 
 -- ---- the value
 
-stray_not : (t : Token) → starts_scalar t ≡ true → is_stray t ≡ false
+pub stray_not : (t : Token) → starts_scalar t ≡ true → is_stray t ≡ false
 stray_not t h = by_test (is_stray t) refl where
   none : (t : Token) → is_stray t ≡ true → starts_scalar t ≡ false
   none t e = by_token t e where
@@ -109,14 +109,14 @@ stray_not t h = by_test (is_stray t) refl where
   by_test false e = refl
 
 -- `|` and `>` show by themselves what they are
-narrow : (xs : List ℕ) → (begins_with 124 xs || begins_with 62 xs) ≡ true → token_width xs ≡ 0
+pub narrow : (xs : List ℕ) → (begins_with 124 xs || begins_with 62 xs) ≡ true → token_width xs ≡ 0
 narrow [] h = refl
 narrow (b ∷ xs) h = by_byte (nat_eq b 124) refl h where
   by_byte : (q : Bool) → nat_eq b 124 ≡ q → (q || nat_eq b 62) ≡ true → token_width (b ∷ xs) ≡ 0
   by_byte true e g = ap (λ k. token_width (k ∷ xs)) (let i : b ≡ 124 = grind (arith, nat_tests, e) in i)
   by_byte false e g = ap (λ k. token_width (k ∷ xs)) (let i : b ≡ 62 = grind (arith, nat_tests, g) in i)
 
-both_of : (p q : Bool) → (p && q) ≡ true → (p ≡ true) × (q ≡ true)
+pub both_of : (p q : Bool) → (p && q) ≡ true → (p ≡ true) × (q ≡ true)
 both_of true q h = (refl, h)
 both_of false q h = absurd (true≢false (sym h))
 
@@ -156,7 +156,7 @@ module _ (fs : List Form) (outer : List Level) (done : Forest) (key : Option (Li
 
   module _ (text : List ℕ) (low : i ≤ length text) (may : takes_scalar (top fs) (ahead text false i) ≡ true) (starts : starts_scalar (ahead text false i).token ≡ true) (within : (ahead text false i).at < length text)
       (plain : begins_quoted (drop (ahead text false i).at text) ≡ false) (folds : begins_block (setting_of (top fs)) (drop (ahead text false i).at text) ≡ true) (breaks : has_break (drop (ahead text false i).at text) ≡ true) (return : ends_with 13 text ≡ false)
-      (dot : ends_with 46 text ≡ true) (fails : scalar_at (setting_of (top fs)) text (ahead text false i).at ≡ Fails (length text)) (room : follows_get_att text (top fs) i ≡ true → length outer < 128) where
+      (fails : scalar_at (setting_of (top fs)) text (ahead text false i).at ≡ Fails (length text)) where
     abbrev at : ℕ
     at = (ahead text false i).at
 
@@ -170,8 +170,8 @@ module _ (fs : List Form) (outer : List Level) (done : Forest) (key : Option (Li
         omega (arith, w, z)
 
     -- so it is ahead with more bytes behind a dot that ends the text
-    same : (v : List ℕ) → ahead (text ++ v) false i ≡ ahead text false i
-    same v = by_last (parted text (length text - 1) (omega (arith, within))) where
+    same : ends_with 46 text ≡ true → (v : List ℕ) → ahead (text ++ v) false i ≡ ahead text false i
+    same dot v = by_last (parted text (length text - 1) (omega (arith, within))) where
       by_last : (before behind : List ℕ) × (b : ℕ) × (text ≡ before ++ (b ∷ behind)) × (length before ≡ length text - 1) → ahead (text ++ v) false i ≡ ahead text false i
       by_last (before, behind, b, e, size) = by_rest behind e where
         by_rest : (behind : List ℕ) → text ≡ before ++ (b ∷ behind) → ahead (text ++ v) false i ≡ ahead text false i
@@ -209,8 +209,8 @@ module _ (fs : List Form) (outer : List Level) (done : Forest) (key : Option (Li
           subst (EndsTorn (block_on (setting_of (top fs)).parent) (length text)) (sym is)
           (block_torn (setting_of (top fs)).parent (length text) (length text) l m ms (subst (Ends (length text) false) is ends) (sym (ap (block_on (setting_of (top fs)).parent (length text)) is) ∙ fails_on))
 
-    pub value_torn : MendsValue text fs outer done key i
-    value_torn = by_torn torn where
+    pub value_torn : ends_with 46 text ≡ true → MendsValue text fs outer done key i
+    value_torn dot = by_torn torn where
       fresh_lines : Fresh text (behind (ahead text false i).at (drop (ahead text false i).at text))
       fresh_lines = behind_fresh text (drop (ahead text false i).at text) (ahead text false i).at refl
 
@@ -223,10 +223,10 @@ module _ (fs : List Form) (outer : List Level) (done : Forest) (key : Option (Li
             last_fresh text (m ∷ ms) p f (subst (Fresh text) e fresh_lines) (subst (IsLastLine p f) (are ∙ ap (λ ks. l ∷ ks) e) h)
 
       mended : (p : ℕ) (f v : List ℕ) → drop p text ≡ f → is_first_column text p ≡ true → no_feed v ≡ true → each is_ascii v ≡ true → f ++ v ≡ 46 ∷ 46 ∷ 46 ∷ [] → p ≤ length text
-          → ((other : ℕ) → (t : List ℕ) × (block_on (setting_of (top fs)).parent other (glue (lines (ahead text false i).at (drop (ahead text false i).at text)) (rest_of (length text) v ∷ [])) ≡ Stands t p)) → MendsValue text fs outer done key i
+          → ((other : ℕ) → (k : ℕ) × (block_on (setting_of (top fs)).parent other (glue (lines (ahead text false i).at (drop (ahead text false i).at text)) (rest_of (length text) v ∷ [])) ≡ Stands (newlines k) p)) → MendsValue text fs outer done key i
       mended p f v bytes fresh feed small dots below h =
           let new = text ++ v in
-          let t = (h (length (text ++ v))).0 in
+          let t = newlines (h (length (text ++ v))).0 in
           let long = length-append text v in
           let longer : lines (ahead text false i).at (drop (ahead text false i).at (text ++ v)) ≡ glue (lines (ahead text false i).at (drop (ahead text false i).at text)) (rest_of (length text) v ∷ []) =
           ap (lines at) (drop_before at text v (omega (arith, within))) ∙ lines_more at (drop at text) v feed ∙ ap (λ n. glue (lines at (drop at text)) (rest_of n v ∷ [])) size in
@@ -236,20 +236,16 @@ module _ (fs : List Form) (outer : List Level) (done : Forest) (key : Option (Li
           ap (λ q. cond q (quoted_scalar s new at) (cond (begins_block s (drop at new)) (block_scalar s new at) (plain_scalar s new at))) quoted ∙ ap (λ q. cond q (block_scalar s new at) (plain_scalar s new at)) folded
           ∙ ap (block_on (setting_of (top fs)).parent (length (text ++ v))) longer ∙ (h (length (text ++ v))).1 in
           let stands : scalar_ahead (text ++ v) (setting_of (top fs)) (ahead (text ++ v) false i) ≡ Stands t p =
-          ap (λ a. scalar_ahead (text ++ v) (setting_of (top fs)) a) (same v) ∙ ap (λ q. cond q (scalar_at s (text ++ v) at) (Fails at)) starts ∙ scalar in
+          ap (λ a. scalar_ahead (text ++ v) (setting_of (top fs)) a) (same dot v) ∙ ap (λ q. cond q (scalar_at s (text ++ v) at) (Fails at)) starts ∙ scalar in
           let typed : is_typed (setting_of (top fs)) (text ++ v) (ahead (text ++ v) false i).at ≡ false =
-          ap (λ (a : Ahead). is_typed s (text ++ v) a.at) (same v) ∙ ap (λ q. not (s.one_line || (begins_quoted (drop at (text ++ v)) || q))) folded ∙ either s.one_line (begins_quoted (drop at (text ++ v))) in
+          ap (λ (a : Ahead). is_typed s (text ++ v) a.at) (same dot v) ∙ ap (λ q. not (s.one_line || (begins_quoted (drop at (text ++ v)) || q))) folded ∙ either s.one_line (begins_quoted (drop at (text ++ v))) in
           let end = dots_end (text ++ v) p (column_longer text v p below ∙ fresh) (drop_before p text v below ∙ ap (λ x. x ++ v) bytes ∙ dots) (omega (arith, below, long)) in
-          let r = value_before (text ++ v) t p (ap (takes_scalar (top fs)) (same v) ∙ may) stands typed end (λ e. room (sym (cuts_longer text v (top fs) i low) ∙ cut_left (follows_get_att (text ++ v) (top fs) i) t e)) in
+          let r = value_before (text ++ v) t p (ap (takes_scalar (top fs)) (same dot v) ∙ may) stands typed end (λ e. absurd (true≢false (sym e ∙ lines_uncut (follows_get_att (text ++ v) (top fs) i) (h (length (text ++ v))).0))) in
           (v, small, r.0, r.1) where
             either : (p q : Bool) → not (p || (q || true)) ≡ false
             either true q = refl
             either false true = refl
             either false false = refl
-
-            cut_left : (c : Bool) (t : List ℕ) → is_cut c kind.Text t ≡ true → c ≡ true
-            cut_left true t h = refl
-            cut_left false t h = absurd (true≢false (sym h))
 
       by_torn : EndsTorn (block_on (setting_of (top fs)).parent) (length text) (lines (ahead text false i).at (drop (ahead text false i).at text)) → MendsValue text fs outer done key i
       by_torn (p, f, v, last, (d, mark, parts), h) = by_parts parts where

@@ -1,11 +1,13 @@
 -- Induction on the tree of a document, for proofs about the kinds of its values. By the cases of nodes.
-use Rattle.std.proofs.Common.{◌≡◌, ◌⊎◌, ℕ, List, [], Option, None, Bool, true, false, inl, inr, sym, subst}
+use Rattle.std.proofs.Common.{◌≡◌, ◌⊎◌, ℕ, ℤ, List, [], Option, None, Bool, FitsSigned, w64, true, false, inl, inr, sym, subst}
+use Rattle.doc_values.specs.Decimal.{Decimal, IsNormal}
+use Rattle.doc_values.specs.declared.decimal.Num.TheVariants as num
 use Rattle.doc_values.specs.declared.kind.Kind.{Kind}
 use Rattle.doc_values.specs.declared.kind.Kind.TheVariants as kind
 use Rattle.doc_values.specs.Tree.{Label, Forest, Nil, Node, snoc}
 use Rattle.doc_values.specs.Unfinished.{open_kind}
 use Rattle.yaml_scalars.specs.declared.scalar.Setting.{Setting}
-use Rattle.yaml_scalars.specs.Kinds.{IsPlainKind}
+use Rattle.yaml_scalars.specs.Kinds.{IsPlainKind, IsSignedNumber}
 use Rattle.yaml_scalars.specs.Scalar.{HasKind}
 use Rattle.yaml_blocks.specs.declared.ahead.Ahead.{Ahead}
 use Rattle.yaml_blocks.specs.declared.form.Form.{Form}
@@ -17,17 +19,27 @@ use Rattle.yaml_blocks.specs.Flow.{IsFlowNode}
 use Rattle.yaml_blocks.specs.Blocks.{IsBlockNode}
 use Rattle.yaml_blocks.specs.Yaml.{IsNode, Spells, IsRoot, IsYaml}
 
--- the kinds of values of YAML: all but patterns and ranges
+-- the kinds of values of YAML: all but patterns and ranges, and numbers that are in range
 abbrev pub IsYamlKind : Kind → Type 0
+IsYamlKind (kind.Whole n) = FitsSigned w64 n
+IsYamlKind (kind.Fraction d) = IsNormal d
 IsYamlKind kind.Pattern = ⊥
 IsYamlKind (kind.Limits r) = ⊥
 IsYamlKind _ = Unit {0}
 
+whole-kind : (text : List ℕ) (n : ℤ) → IsSignedNumber text (num.Whole n) → FitsSigned w64 n
+whole-kind text n (inl is) = is.value.3
+whole-kind text n (inr (rest, plus, unsigned, is)) = is.value.3
+
+fraction-kind : (text : List ℕ) (d : Decimal) → IsSignedNumber text (num.Fraction d) → IsNormal d
+fraction-kind text d (inl is) = is.value.2
+fraction-kind text d (inr (rest, plus, unsigned, is)) = is.value.2
+
 typed-kind : (text : List ℕ) (k : Kind) → IsPlainKind text k → IsYamlKind k
 typed-kind text kind.Null h = tt
 typed-kind text (kind.Truth b) h = tt
-typed-kind text (kind.Whole n) h = tt
-typed-kind text (kind.Fraction d) h = tt
+typed-kind text (kind.Whole n) h = whole-kind text _ h
+typed-kind text (kind.Fraction d) h = fraction-kind text _ h
 typed-kind text kind.Text h = tt
 typed-kind text kind.List h = tt
 typed-kind text kind.Map h = tt

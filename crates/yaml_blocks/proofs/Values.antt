@@ -1,20 +1,23 @@
 -- What makes a document of a text that breaks off in a scalar, where a value may stand: bytes that complete the scalar so that it ends with the text, and brackets.
-use Rattle.std.proofs.Common.{◌≡◌, ℕ, ◌+◌, ◌-◌, ◌<◌, ◌≤◌, ◌⊎◌, inl, inr, Bool, true, false, ◌||◌, not, cond, nat_eq, nat_lt, nat_le, arith, List, [], ◌∷◌, ◌++◌, Option, take, drop, length, refl, sym, ap, ◌∙◌, subst, true≢false, append_assoc, append-nil, length-append, length-drop}
+use Rattle.std.proofs.Common.{◌≡◌, ℕ, zero, suc, ◌+◌, ◌-◌, ◌<◌, ◌≤◌, ◌⊎◌, inl, inr, Bool, true, false, ◌||◌, not, cond, nat_eq, nat_lt, nat_le, arith, List, [], ◌∷◌, ◌++◌, Option, take, drop, length, refl, sym, ap, ◌∙◌, subst, true≢false, append_assoc, append-nil, length-append, length-drop}
 use Rattle.std.proofs.lemmas.Bool.Decides.{nat_tests}
 use Rattle.std.proofs.lemmas.List.{take-append-le}
+use Rattle.std.specs.List.{position_or_len}
 use Rattle.std.specs.Str.{bytes_eq}
 use Rattle.doc_values.specs.declared.kind.Kind.{Kind}
 use Rattle.doc_values.specs.declared.kind.Kind.TheVariants as kind
 use Rattle.doc_values.specs.Tree.{Forest}
 use Rattle.doc_values.specs.Unfinished.{Level}
 use Rattle.yaml_scalars.specs.declared.scalar.Setting.{Setting}
-use Rattle.yaml_scalars.specs.Lines.{Stands, Fails, ends_with, each, is_blank}
+use Rattle.yaml_scalars.specs.Lines.{Stands, Fails, ends_with, each, is_blank, newlines}
 use Rattle.yaml_scalars.specs.Plain.{is_flow_mark}
 use Rattle.yaml_scalars.specs.Scalar.{begins_quoted, begins_block, scalar_at, is_typed, HasKind}
 use Rattle.yaml_scalars.specs.code.Walk.{has_break, behind}
 use Rattle.yaml_laws.specs.code.Refusals.{is_ascii}
 use Rattle.yaml_laws.specs.code.Endings.{last_mark, further_line}
 use Rattle.yaml_laws.proofs.Agree.{drop_before}
+use Rattle.yaml_laws.specs.code.Dots.{is_dotless}
+use Rattle.yaml_laws.proofs.Dotless.{undotted_grown}
 use Rattle.yaml_laws.proofs.Longer.{no_feed}
 use Rattle.yaml_laws.proofs.BlockFed.{block_returned_ends, header_ends}
 use Rattle.yaml_laws.proofs.PlainFed.{ascii_spaces, scalar_fed}
@@ -27,9 +30,9 @@ use Rattle.yaml_blocks.specs.declared.form.Form.{Form}
 use Rattle.yaml_blocks.specs.declared.form.Form.TheVariants.{Root, Flow, FlowTagged, Items, Entries, Tagged}
 use Rattle.yaml_blocks.specs.Ahead.{ahead}
 use Rattle.yaml_blocks.specs.Blocks.{takes_scalar}
-use Rattle.yaml_blocks.specs.Nodes.{setting_of, tag_name, get_att, follows_get_att, is_cut, starts_scalar, scalar_ahead}
+use Rattle.yaml_blocks.specs.Nodes.{setting_of, tag_name, get_att, follows_get_att, is_cut, is_dot, starts_scalar, scalar_ahead}
 use Rattle.yaml_blocks.specs.Signs.{Tree}
-use Rattle.yaml_blocks.specs.code.Closers.{closers, in_flow, IsUncut, MayBegin, MendsValue}
+use Rattle.yaml_blocks.specs.code.Closers.{closers, in_flow, HasRoom, IsUncut, MayBegin, MendsValue}
 use Rattle.yaml_blocks.specs.code.Rest.{top, Awaits}
 use Rattle.yaml_blocks.specs.code.Steps.{Agrees, Nests, IsBlock}
 use Rattle.yaml_blocks.proofs.AheadFed.{ahead_broken, returned_ahead, starts_some}
@@ -37,9 +40,34 @@ use Rattle.yaml_blocks.proofs.AheadLonger.{BothBegin, both_same, ahead_longer}
 use Rattle.yaml_blocks.proofs.Continuations.{block_closers, scalar_completes}
 use Rattle.yaml_blocks.proofs.LetterKinds.{letter_kind}
 
+-- ---- newlines have no dot
+
+newlines_whole : (k : ℕ) → position_or_len is_dot (newlines k) ≡ length (newlines k)
+newlines_whole zero = refl
+newlines_whole (suc k) = let e = newlines_whole k in omega (arith, e)
+
+pub lines_uncut : (c : Bool) (k : ℕ) → is_cut c kind.Text (newlines k) ≡ false
+lines_uncut false k = refl
+lines_uncut true k = less_not (position_or_len is_dot (newlines k)) (length (newlines k)) (newlines_whole k) where
+  less_not : (m n : ℕ) → m ≡ n → nat_lt m n ≡ false
+  less_not m n e = grind (arith, nat_tests, e)
+
+free_whole : (t : List ℕ) → each is_dotless t ≡ true → position_or_len is_dot t ≡ length t
+free_whole [] h = refl
+free_whole (b ∷ t) h = by_byte (nat_eq b 46) refl h (λ i. free_whole t i) where
+  by_byte : (q : Bool) → nat_eq b 46 ≡ q → cond (not q) (each is_dotless t) false ≡ true → (each is_dotless t ≡ true → position_or_len is_dot t ≡ length t) → position_or_len is_dot (b ∷ t) ≡ suc (length t)
+  by_byte true e h r = absurd (true≢false (sym h))
+  by_byte false e h r = ap (λ q. cond (not q) (1 + position_or_len is_dot t) 0) e ∙ (let z = r h in omega (arith, z))
+
+pub free_uncut : (c : Bool) (t : List ℕ) → each is_dotless t ≡ true → is_cut c kind.Text t ≡ false
+free_uncut false t h = refl
+free_uncut true t h = less_not (position_or_len is_dot t) (length t) (free_whole t h) where
+  less_not : (m n : ℕ) → m ≡ n → nat_lt m n ≡ false
+  less_not m n e = grind (arith, nat_tests, e)
+
 -- ---- closing brackets
 
-closers_break : (fs : List Form) → has_break (closers fs) ≡ false
+pub closers_break : (fs : List Form) → has_break (closers fs) ≡ false
 closers_break [] = refl
 closers_break (Root ∷ fs) = closers_break fs
 closers_break (Flow true ∷ fs) = closers_break fs
@@ -157,7 +185,7 @@ module _ (fs : List Form) (outer : List Level) (done : Forest) (key : Option (Li
   Follows text = (tree : Forest) × Awaits text fs outer done key i (Tree tree)
 
   -- a scalar ends with a text, and brackets stand behind it
-  ends_value : (text : List ℕ) (a : Ahead) (t : List ℕ) (k : Kind) → i ≤ length text → a.at < length text → BothBegin a (ahead (text ++ closers fs) flow i) → MayBegin (top fs) a → scalar_at s text a.at ≡ Stands t (length text) → HasKind (is_typed s text a.at) t k
+  pub ends_value : (text : List ℕ) (a : Ahead) (t : List ℕ) (k : Kind) → i ≤ length text → a.at < length text → BothBegin a (ahead (text ++ closers fs) flow i) → MayBegin (top fs) a → scalar_at s text a.at ≡ Stands t (length text) → HasKind (is_typed s text a.at) t k
       → (is_cut (follows_get_att text (top fs) i) k t ≡ true → length outer < 128) → Follows (text ++ closers fs)
   ends_value text a t k low l both may h has room =
       let new = text ++ closers fs in
@@ -180,7 +208,7 @@ module _ (fs : List Form) (outer : List Level) (done : Forest) (key : Option (Li
 
   -- no carriage return ends the text
   pub value_grown : (text : List ℕ) → i ≤ length text → MayBegin (top fs) (ahead text flow i) → starts_scalar (ahead text flow i).token ≡ true → (ahead text flow i).at < length text → begins_block s (drop (ahead text flow i).at text) ≡ false → ends_with 13 text ≡ false
-      → scalar_at s text (ahead text flow i).at ≡ Fails (length text) → (follows_get_att text (top fs) i ≡ true → length outer < 128) → MendsValue text fs outer done key i
+      → scalar_at s text (ahead text flow i).at ≡ Fails (length text) → (follows_get_att text (top fs) i ≡ true → HasRoom text (ahead text flow i).at (length outer)) → MendsValue text fs outer done key i
   value_grown text low may starts l block last h room =
       let a = ahead text flow i in
       let g = scalar_grown s text a.at l block last h in
@@ -193,7 +221,10 @@ module _ (fs : List Form) (outer : List Level) (done : Forest) (key : Option (Li
       let r =
       ends_value (text ++ (c ∷ v)) a t kind.Text (omega (arith, low, size)) (omega (arith, l, size)) (subst (λ y. BothBegin a (ahead y flow i)) (sym new) both) may g.6
       (text_kind (text ++ (c ∷ v)) a.at t (elim g.7 [ inl q ↦ inl (quoted_longer text (c ∷ v) a.at l ∙ q) | inr e ↦ inr e ]))
-      (λ e. room (sym (cuts_longer text (c ∷ v) (top fs) i low) ∙ cut_left (follows_get_att (text ++ (c ∷ v)) (top fs) i) t e)) in
+      (λ e. elim (room (sym (cuts_longer text (c ∷ v) (top fs) i low) ∙ cut_left (follows_get_att (text ++ (c ∷ v)) (top fs) i) t e)) [
+        | inl m ↦ m
+        | inr u ↦ absurd (true≢false (sym e ∙ free_uncut (follows_get_att (text ++ (c ∷ v)) (top fs) i) t (undotted_grown s text a.at (c ∷ v) t (length (text ++ (c ∷ v))) l block u g.8 g.6)))
+      ]) in
       let y = subst Follows new r in
       ((c ∷ v) ++ closers fs, each_append (c ∷ v) (closers fs) g.5 (closers_ascii fs), y.0, y.1)
 
@@ -293,8 +324,8 @@ module _ (fs : List Form) (outer : List Level) (done : Forest) (key : Option (Li
 
   -- a block scalar's header that the text ends
   pub value_header : (text : List ℕ) → i ≤ length text → MayBegin (top fs) (ahead text flow i) → starts_scalar (ahead text flow i).token ≡ true → (ahead text flow i).at < length text → begins_quoted (drop (ahead text flow i).at text) ≡ false → begins_block s (drop (ahead text flow i).at text) ≡ true
-      → ends_with 13 (drop (ahead text flow i).at text) ≡ false → has_break (drop (ahead text flow i).at text) ≡ false → scalar_at s text (ahead text flow i).at ≡ Fails (length text) → (follows_get_att text (top fs) i ≡ true → length outer < 128) → MendsValue text fs outer done key i
-  value_header text low may starts l q b last one h room =
+      → ends_with 13 (drop (ahead text flow i).at text) ≡ false → has_break (drop (ahead text flow i).at text) ≡ false → scalar_at s text (ahead text flow i).at ≡ Fails (length text) → MendsValue text fs outer done key i
+  value_header text low may starts l q b last one h =
       let a = ahead text flow i in
       let z = header_ends s text a.at l q b last (feed_none (drop a.at text) one) h in
       let size = length-append text (13 ∷ 10 ∷ []) in
@@ -303,9 +334,9 @@ module _ (fs : List Form) (outer : List Level) (done : Forest) (key : Option (Li
       let both : BothBegin a (ahead ((text ++ (13 ∷ 10 ∷ [])) ++ closers fs) flow i) = subst (λ y. BothBegin a (ahead y flow i)) (sym new) (subst (BothBegin a) (sym same) (both_same a starts)) in
       let here : begins_block s (drop a.at (text ++ (13 ∷ 10 ∷ []))) ≡ true = block_longer s text (13 ∷ 10 ∷ []) a.at l ∙ b in
       let r =
-      ends_value (text ++ (13 ∷ 10 ∷ [])) a z.0 kind.Text (omega (arith, low, size)) (omega (arith, l, size)) both may z.1
-      (subst (λ q. HasKind q z.0 kind.Text) (sym (untyped s (text ++ (13 ∷ 10 ∷ [])) a.at (ap (λ q. begins_quoted (drop a.at (text ++ (13 ∷ 10 ∷ []))) || q) here ∙ any (begins_quoted (drop a.at (text ++ (13 ∷ 10 ∷ []))))))) refl)
-      (λ e. room (sym (cuts_longer text (13 ∷ 10 ∷ []) (top fs) i low) ∙ cut_left (follows_get_att (text ++ (13 ∷ 10 ∷ [])) (top fs) i) z.0 e)) in
+      ends_value (text ++ (13 ∷ 10 ∷ [])) a [] kind.Text (omega (arith, low, size)) (omega (arith, l, size)) both may z
+      (subst (λ q. HasKind q [] kind.Text) (sym (untyped s (text ++ (13 ∷ 10 ∷ [])) a.at (ap (λ q. begins_quoted (drop a.at (text ++ (13 ∷ 10 ∷ []))) || q) here ∙ any (begins_quoted (drop a.at (text ++ (13 ∷ 10 ∷ []))))))) refl)
+      (λ e. absurd (true≢false (sym e ∙ lines_uncut (follows_get_att (text ++ (13 ∷ 10 ∷ [])) (top fs) i) 0))) in
       let y = subst Follows new r in
       (13 ∷ 10 ∷ closers fs, closers_ascii fs, y.0, y.1) where
         any : (q : Bool) → (q || true) ≡ true
@@ -322,7 +353,7 @@ module _ (fs : List Form) (outer : List Level) (done : Forest) (key : Option (Li
       → (ahead w flow i).at + n ≤ length front → is_blank (drop ((ahead w flow i).at + n) front) ≡ true → scalar_at s w (ahead w flow i).at ≡ Stands t ((ahead w flow i).at + n) → (follows_get_att w (top fs) i ≡ true → length outer < 128) → MendsValue w fs outer done key i) (sym whole) (value_pointed front t n low))
 
   pub value_header_at : (text : List ℕ) (start : ℕ) → i ≤ length text → (ahead text flow i).at ≡ start → MayBegin (top fs) (ahead text flow i) → starts_scalar (ahead text flow i).token ≡ true → (ahead text flow i).at < length text → begins_quoted (drop start text) ≡ false → begins_block s (drop start text) ≡ true
-      → ends_with 13 (drop start text) ≡ false → has_break (drop start text) ≡ false → scalar_at s text (ahead text flow i).at ≡ Fails (length text) → (follows_get_att text (top fs) i ≡ true → length outer < 128) → MendsValue text fs outer done key i
+      → ends_with 13 (drop start text) ≡ false → has_break (drop start text) ≡ false → scalar_at s text (ahead text flow i).at ≡ Fails (length text) → MendsValue text fs outer done key i
   value_header_at text start low is may starts l =
-      subst (λ k. begins_quoted (drop k text) ≡ false → begins_block s (drop k text) ≡ true → ends_with 13 (drop k text) ≡ false → has_break (drop k text) ≡ false → scalar_at s text (ahead text flow i).at ≡ Fails (length text) → (follows_get_att text (top fs) i ≡ true → length outer < 128) → MendsValue text fs outer done key i) is
+      subst (λ k. begins_quoted (drop k text) ≡ false → begins_block s (drop k text) ≡ true → ends_with 13 (drop k text) ≡ false → has_break (drop k text) ≡ false → scalar_at s text (ahead text flow i).at ≡ Fails (length text) → MendsValue text fs outer done key i) is
       (value_header text low may starts l)

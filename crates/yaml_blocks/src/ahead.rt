@@ -1,7 +1,7 @@
 //! What a place has ahead, behind white space, comments and breaks.
 ghost use Rattle.std.specs.Prelude.{◌≡◌, ◌≤◌, ◌<◌, ◌+◌, ◌||◌, ℕ, slice_index, nat_lt, nat_eq, true, false, length, drop};
 ghost use Rattle.std.specs.Str.{IsCharBoundary};
-ghost use Rattle.doc_values.specs.Limits.{template_limit};
+ghost use Rattle.yaml_scalars.specs.code.Limits.{text_limit};
 ghost use Rattle.yaml_scalars.specs.Lines.{lines, begins_with, is_end, is_mark, lead};
 ghost use Rattle.yaml_scalars.specs.Plain.{is_flow_mark, is_unsafe};
 ghost use Rattle.yaml_scalars.specs.code.Walk.{line_at};
@@ -248,8 +248,8 @@ fn begins_comment(bytes: &[u8], at: usize) -> bool
 }
 
 fn token_at(token: Token, fresh: bool, column: usize, at: usize) -> Ahead
-    requires small { at ≤ template_limit }
-    requires within { (len : ℕ) → token ≡ Token.Tag len → len ≤ template_limit }
+    requires small { at ≤ text_limit }
+    requires within { (len : ℕ) → token ≡ Token.Tag len → len ≤ text_limit }
     ensures { result ≡ token_at token fresh column at }
 {
     let len = match token {
@@ -279,7 +279,7 @@ fn token_at(token: Token, fresh: bool, column: usize, at: usize) -> Ahead
 
 /// The mark that begins a line.
 fn mark_ahead(bytes: &[u8], start: usize) -> Ahead
-    requires small { length bytes.now ≤ template_limit }
+    requires small { length bytes.now ≤ text_limit }
     requires mark { is_mark (line_at (drop start bytes.now)) ≡ true }
     requires within { start < length bytes.now }
     ensures { result ≡ token_at (mark_of (line_at (drop start bytes.now))) true 0 start }
@@ -317,7 +317,7 @@ fn tab_token(bytes: &[u8], at: usize) -> Token
 
 /// What a line has behind the white space in front.
 fn content_ahead(bytes: &[u8], flow: bool, start: usize) -> Ahead
-    requires small { length bytes.now ≤ template_limit }
+    requires small { length bytes.now ≤ text_limit }
     requires within { start ≤ length bytes.now }
     ensures { result ≡ content_ahead flow start (line_at (drop start bytes.now)) }
 {
@@ -333,7 +333,7 @@ fn content_ahead(bytes: &[u8], flow: bool, start: usize) -> Ahead
 
 /// What is ahead of a line's start.
 fn line_ahead(bytes: &[u8], flow: bool, start: usize) -> Ahead
-    requires small { length bytes.now ≤ template_limit }
+    requires small { length bytes.now ≤ text_limit }
     requires within { start ≤ length bytes.now }
     ensures { result ≡ line_ahead flow (length bytes.now) (lines start (drop start bytes.now)) }
 {
@@ -355,7 +355,7 @@ fn line_ahead(bytes: &[u8], flow: bool, start: usize) -> Ahead
 
 /// What is ahead of a place inside a line.
 fn rest_ahead(bytes: &[u8], flow: bool, start: usize) -> Ahead
-    requires small { length bytes.now ≤ template_limit }
+    requires small { length bytes.now ≤ text_limit }
     requires within { start ≤ length bytes.now }
     ensures { result ≡ rest_ahead flow (length bytes.now) (lines start (drop start bytes.now)) }
 {
@@ -371,8 +371,8 @@ fn rest_ahead(bytes: &[u8], flow: bool, start: usize) -> Ahead
 }
 
 /// What a place of bytes has ahead, in flow or outside of it.
-fn bytes_ahead(bytes: &[u8], flow: bool, at: usize) -> Ahead
-    requires small { length bytes.now ≤ template_limit }
+pub(crate) fn bytes_ahead(bytes: &[u8], flow: bool, at: usize) -> Ahead
+    requires small { length bytes.now ≤ text_limit }
     requires within { at ≤ length bytes.now }
     ensures { result ≡ ahead bytes.now flow at }
 {
@@ -384,7 +384,7 @@ fn bytes_ahead(bytes: &[u8], flow: bool, at: usize) -> Ahead
 
 /// What a place of a text has ahead.
 pub(crate) fn look(text: &str, flow: bool, at: usize) -> Ahead
-    requires small { length text.now ≤ template_limit }
+    requires small { length text.now ≤ text_limit }
     requires boundary { IsCharBoundary text.now at }
     ensures { IsSeen text.now flow at result }
 {

@@ -1,175 +1,37 @@
 //! Block sequences and block mappings: one entry or node at a time, what it adds to the tree, and what may follow it.
-ghost use Rattle.std.specs.Prelude.{◌≡◌, ℕ, List, ◌+◌, ◌*◌, ◌≤◌, length, true, false, None, Some, option_map, MatchOption, IfOk};
-ghost use Rattle.std.specs.Cow.{cow_str_bytes};
+ghost use Rattle.std.specs.Prelude.{◌≡◌, ℕ, List, ◌+◌, ◌*◌, ◌≤◌, length, true, false, None, Some, IfOk};
 ghost use Rattle.std.specs.Str.{IsCharBoundary};
-ghost use Rattle.doc_values.specs.Limits.{template_limit};
-ghost use Rattle.doc_values.specs.Unfinished.{AwaitsValue};
+ghost use Rattle.yaml_scalars.specs.code.Limits.{text_limit};
 ghost use Rattle.yaml_blocks.specs.Ahead.{ahead};
 ghost use Rattle.yaml_blocks.specs.Nodes.{starts_scalar, is_tagged};
 ghost use Rattle.yaml_blocks.specs.Blocks.{block_sign, takes_scalar, takes_mapping, takes_sequence, takes_tag, tagged, column_in};
-ghost use Rattle.yaml_blocks.specs.code.Refused.{of_sign};
+ghost use Rattle.yaml_blocks.specs.code.ReadAgain.{NoneBehind, OnSign, SignStays};
 ghost use Rattle.yaml_blocks.specs.code.Rest.{top, Inside, Ends, Awaits};
-ghost use Rattle.yaml_blocks.specs.Yaml.{IsEnd};
+ghost use Rattle.yaml_blocks.specs.Yaml.{IsEnd, text_start};
+ghost use Rattle.yaml_blocks.specs.code.Extends.{ExtendsValue, Leaves};
 ghost use Rattle.yaml_blocks.specs.code.Feeds.{Opening};
 ghost use Rattle.yaml_blocks.specs.code.Twins.{Stops, NoLine, NoValue, Lengthens, Popped, FixesNode, FixesEnd};
-ghost use Rattle.yaml_blocks.specs.code.Steps.{stack, IsSeen, IsBlock, IsBehind, IsSmall, HasKey, NoKey, EndsKey, Open, Fits, Awaited, SameKey, SameNode, SameEnd, IsCalm, NoNode, Gives, Ended, is_ending, ends_before};
+ghost use Rattle.yaml_blocks.specs.code.Steps.{stack, IsSeen, IsBlock, HasKey, NoKey, EndsKey, Open, Fits, Awaited, SameKey, SameNode, SameEnd, IsCalm, NoNode, Gives, Ended, is_ending, ends_before};
 
 use crate::ahead::{Ahead, Token, look};
 use crate::flow::open;
-use crate::form::Form;
+use crate::form::{Form, is_entry_column};
 use crate::node::{
     Key, as_key, begin, begin_tag, colon_behind, find_key, find_scalar, innermost, offset,
-    starts_scalar, take_null, take_scalar,
+    starts_scalar, take_block_scalar, take_null,
 };
-use crate::place::{colon_place, dash_place, is_dash, last_told, root_place};
-use crate::sign::{end_sign, is_tagged, node_sign};
+use crate::place::{colon_place, dash_place, last_told, root_place};
+use crate::point::is_pointed;
+use crate::sign::{end_sign, is_document_end, is_tagged, node_sign};
 use crate::stage::{Position, Stage};
 use crate::stop::Stop;
+use crate::takes::{
+    block_sign, column_in, ends_before, tagged, takes_mapping, takes_scalar, takes_sequence,
+    takes_tag,
+};
 use doc_values::DocBuilder;
 use std::alloc::Global;
 use yaml_scalars::Scalar;
-
-/// Whether a scalar or a flow collection may begin at a token.
-fn takes_scalar(form: Form, next: Ahead) -> bool
-    ensures { result ≡ takes_scalar form next }
-{
-    match form {
-        Form::Root => next.fresh,
-        Form::Flow { map: _ } | Form::FlowTagged { at: _ } => false,
-        Form::Items { column } => !next.fresh || column < next.column,
-        Form::Entries { column } => !next.fresh || column < next.column,
-        Form::Tagged {
-            at: _,
-            above,
-            shares: _,
-        } => !next.fresh || above <= next.column,
-    }
-}
-
-/// The sign where a node may begin, if one stands there.
-fn block_sign(form: Form, next: Ahead) -> Option<Stop>
-    requires { next.at ≤ template_limit }
-    ensures { MatchOption result (block_sign form next ≡ None) (λ e. Some e ≡ option_map of_sign (block_sign form next)) }
-{
-    if takes_scalar(form, next) {
-        return node_sign(is_tagged(form), next);
-    }
-    None
-}
-
-/// Whether a tag may begin at a token.
-fn takes_tag(form: Form, next: Ahead) -> bool
-    ensures { result ≡ takes_tag form next }
-{
-    match form {
-        Form::Root => next.fresh,
-        Form::Flow { map: _ } | Form::FlowTagged { at: _ } => false,
-        Form::Items { column } | Form::Entries { column } => { !next.fresh || column < next.column }
-        Form::Tagged { .. } => false,
-    }
-}
-
-/// What stands behind a tag at a token.
-fn tagged(form: Form, next: Ahead) -> Form
-    requires { IsSmall form }
-    ensures { result ≡ tagged form next }
-{
-    let at = next.at;
-    match form {
-        Form::Root => Form::Tagged {
-            at,
-            above: 0,
-            shares: false,
-        },
-        Form::Flow { map: _ } | Form::FlowTagged { at: _ } => Form::Tagged {
-            at,
-            above: 0,
-            shares: false,
-        },
-        Form::Items { column } => Form::Tagged {
-            at,
-            above: column + 1,
-            shares: false,
-        },
-        Form::Entries { column } => Form::Tagged {
-            at,
-            above: column + 1,
-            shares: !next.fresh,
-        },
-        Form::Tagged {
-            at: _,
-            above,
-            shares: _,
-        } => Form::Tagged {
-            at,
-            above,
-            shares: false,
-        },
-    }
-}
-
-/// Whether a mapping may begin at a token.
-fn takes_mapping(form: Form, next: Ahead) -> bool
-    ensures { result ≡ takes_mapping form next }
-{
-    match form {
-        Form::Root => next.fresh,
-        Form::Flow { map: _ } | Form::FlowTagged { at: _ } => false,
-        Form::Items { column } => !next.fresh || column < next.column,
-        Form::Entries { column } => next.fresh && column < next.column,
-        Form::Tagged {
-            at: _,
-            above,
-            shares: _,
-        } => next.fresh && above <= next.column,
-    }
-}
-
-/// Whether a sequence may begin at a token.
-fn takes_sequence(form: Form, next: Ahead) -> bool
-    requires { next.column ≤ template_limit }
-    ensures { result ≡ takes_sequence form next }
-{
-    match form {
-        Form::Root => next.fresh,
-        Form::Flow { map: _ } | Form::FlowTagged { at: _ } => false,
-        Form::Items { column } => !next.fresh || column < next.column,
-        Form::Entries { column } => next.fresh && column <= next.column,
-        Form::Tagged {
-            at: _,
-            above,
-            shares,
-        } => next.fresh && (above <= next.column || (shares && above == next.column + 1)),
-    }
-}
-
-/// The column of a collection that begins at a token.
-fn column_in(form: Form, next: Ahead) -> usize
-    requires small { next.at ≤ template_limit }
-    requires form { IsSmall form }
-    requires column { next.column ≤ next.at }
-    ensures { result ≡ column_in form next }
-{
-    match form {
-        Form::Items { column } if !next.fresh => column + 1 + next.column,
-        _ => next.column,
-    }
-}
-
-/// Whether a block ends before the line of a token.
-fn ends_before(form: Form, next: Ahead) -> bool
-    ensures { result ≡ ends_before form next }
-{
-    match form {
-        Form::Items { column } => {
-            next.column < column || (next.column == column && !is_dash(next.token))
-        }
-        Form::Entries { column } => next.column < column,
-        Form::Tagged { .. } => true,
-        Form::Root => false,
-        Form::Flow { map: _ } | Form::FlowTagged { at: _ } => false,
-    }
-}
 
 /// A sequence begins at a `-`.
 fn sequence(
@@ -188,6 +50,7 @@ fn sequence(
     ensures opens { Opening (stack forms.new.items) result }
     ensures stops { Stops text.now at (NoValue at next form (stack forms.old.items) builder.old) result }
     ensures longer { Lengthens text.now Stage.Value (stack forms.old.items) builder.old at result }
+    ensures extends { ExtendsValue text.now (stack forms.old.items) builder.old at (stack forms.new.items) builder.new result }
 {
     let column = column_in(form, next);
     match begin(Form::Items { column }, next, forms, builder) {
@@ -218,6 +81,8 @@ fn mapping<'s>(
     ensures opens { Opening (stack forms.new.items) result }
     ensures stops { Stops text.now at (NoValue at next form (stack forms.old.items) builder.old) result }
     ensures longer { Lengthens text.now Stage.Value (stack forms.old.items) builder.old at result }
+    ensures extends { ExtendsValue text.now (stack forms.old.items) builder.old at (stack forms.new.items) builder.new result }
+    ensures again { starts_scalar next.token ≡ true → SignStays text.now Stage.Value (stack forms.old.items) builder.old at result }
 {
     let Key { text: name, behind } = key;
     let column = column_in(form, next);
@@ -252,11 +117,12 @@ fn tag<'s>(
     ensures opens { Opening (stack forms.new.items) result }
     ensures stops { Stops text.now at (NoValue at next form (stack forms.old.items) builder.old) result }
     ensures longer { Lengthens text.now Stage.Value (stack forms.old.items) builder.old at result }
+    ensures extends { ExtendsValue text.now (stack forms.old.items) builder.old at (stack forms.new.items) builder.new result }
 {
     begin_tag(alloc, text, tagged(form, next), next, forms, builder)
 }
 
-/// A scalar where no key stands.
+/// A scalar where no key stands; over a colon that ends the text a plain one goes on with a letter behind it.
 fn scalar<'s>(
     alloc: Global,
     text: &'s str,
@@ -266,7 +132,7 @@ fn scalar<'s>(
     forms: &[Form],
     builder: &mut DocBuilder<'s>,
 ) -> Result<Position, Stop>
-    requires small { length text.now ≤ template_limit }
+    requires small { length text.now ≤ text_limit }
     requires awaited { Awaited text.now (stack forms.now) builder.old form at next }
     requires starts { starts_scalar next.token ≡ true }
     requires takes { takes_scalar form next ≡ true }
@@ -276,8 +142,17 @@ fn scalar<'s>(
     ensures opens { Opening (stack forms.now) result }
     ensures stops { Stops text.now at (NoValue at next form (stack forms.now) builder.old) result }
     ensures longer { Lengthens text.now Stage.Value (stack forms.now) builder.old at result }
+    ensures extends { ExtendsValue text.now (stack forms.now) builder.old at (stack forms.now) builder.new result }
+    ensures again { starts_scalar next.token ≡ true → SignStays text.now Stage.Value (stack forms.now) builder.old at result }
 {
-    take_scalar(alloc, text, at, form, next, builder)
+    let position = match take_block_scalar(alloc, text, at, form, next, builder) {
+        Ok(position) => position,
+        Err(stop) => return Err(stop),
+    };
+    if is_pointed(text, false, next.at, position.at) {
+        return Err(Stop::Unread(offset(text.len())));
+    }
+    Ok(position)
 }
 
 /// A mapping or a scalar.
@@ -290,7 +165,7 @@ fn content<'s>(
     forms: &mut Vec<Form>,
     builder: &mut DocBuilder<'s>,
 ) -> Result<Position, Stop>
-    requires small { length text.now ≤ template_limit }
+    requires small { length text.now ≤ text_limit }
     requires awaited { Awaited text.now (stack forms.old.items) builder.old form at next }
     requires starts { starts_scalar next.token ≡ true }
     requires takes { takes_scalar form next ≡ true }
@@ -299,6 +174,8 @@ fn content<'s>(
     ensures opens { Opening (stack forms.new.items) result }
     ensures stops { Stops text.now at (NoValue at next form (stack forms.old.items) builder.old) result }
     ensures longer { Lengthens text.now Stage.Value (stack forms.old.items) builder.old at result }
+    ensures extends { ExtendsValue text.now (stack forms.old.items) builder.old at (stack forms.new.items) builder.new result }
+    ensures again { starts_scalar next.token ≡ true → SignStays text.now Stage.Value (stack forms.old.items) builder.old at result }
 {
     if !takes_mapping(form, next) {
         return scalar(alloc, text, at, form, next, forms, builder);
@@ -319,31 +196,23 @@ fn missing(
     forms: &[Form],
     builder: &mut DocBuilder,
 ) -> Result<Position, Stop>
-    requires small { length text.now ≤ template_limit }
+    requires small { length text.now ≤ text_limit }
     requires awaited { Awaited text.now (stack forms.now) builder.old form at next }
     requires none { NoNode form next }
     requires unsigned { block_sign form next ≡ None }
     requires once { is_tagged form ≡ true → (len : ℕ) → next.token ≡ Token.Tag len → ⊥ }
+    requires late { next.token ≡ Token.Dash → takes_scalar form next ≡ false }
     ensures gives { (other : List ℕ) → Awaited other (stack forms.now) builder.old form at next → SameNode text.now other form at next → Gives other (Awaits other (stack forms.now) builder.old.outer builder.old.done builder.old.key at) (2 * at + 1) (stack forms.now) builder.new result }
     ensures fixes { FixesNode text.now form at next result }
     ensures opens { Opening (stack forms.now) result }
     ensures stops { Stops text.now at (NoValue at next form (stack forms.now) builder.old) result }
     ensures longer { Lengthens text.now Stage.Value (stack forms.now) builder.old at result }
+    ensures extends { ExtendsValue text.now (stack forms.now) builder.old at (stack forms.now) builder.new result }
+    ensures again { starts_scalar next.token ≡ true → SignStays text.now Stage.Value (stack forms.now) builder.old at result }
 {
     match form {
         Form::Root => Err(Stop::Unread(last_told(text, next))),
         _ => take_null(at, at, builder),
-    }
-}
-
-/// Whether a further entry of a block mapping begins at the column of a token.
-fn is_entry_column(form: Form, next: Ahead) -> bool
-    ensures yes { result ≡ true → form ≡ Form.Entries next.column }
-    ensures no { result ≡ false → form ≡ Form.Entries next.column → ⊥ }
-{
-    match form {
-        Form::Entries { column } => column == next.column,
-        _ => false,
     }
 }
 
@@ -357,7 +226,7 @@ fn tag_again(
     forms: &mut Vec<Form>,
     builder: &mut DocBuilder,
 ) -> Result<Position, Stop>
-    requires small { length text.now ≤ template_limit }
+    requires small { length text.now ≤ text_limit }
     requires awaited { Awaited text.now (stack forms.old.items) builder.old form at next }
     requires tag { next.token ≡ Token.Tag len }
     requires tagged { is_tagged form ≡ true }
@@ -368,6 +237,7 @@ fn tag_again(
     ensures opens { Opening (stack forms.new.items) result }
     ensures stops { Stops text.now at (NoValue at next form (stack forms.old.items) builder.old) result }
     ensures longer { Lengthens text.now Stage.Value (stack forms.old.items) builder.old at result }
+    ensures extends { ExtendsValue text.now (stack forms.old.items) builder.old at (stack forms.new.items) builder.new result }
 {
     match take_null(at, at, builder) {
         Err(refusal) => return Err(refusal),
@@ -393,7 +263,7 @@ fn late_tag(
     forms: &mut Vec<Form>,
     builder: &mut DocBuilder,
 ) -> Result<Position, Stop>
-    requires small { length text.now ≤ template_limit }
+    requires small { length text.now ≤ text_limit }
     requires awaited { Awaited text.now (stack forms.old.items) builder.old form at next }
     requires tag { next.token ≡ Token.Tag len }
     requires none { NoNode form next }
@@ -403,6 +273,7 @@ fn late_tag(
     ensures opens { Opening (stack forms.new.items) result }
     ensures stops { Stops text.now at (NoValue at next form (stack forms.old.items) builder.old) result }
     ensures longer { Lengthens text.now Stage.Value (stack forms.old.items) builder.old at result }
+    ensures extends { ExtendsValue text.now (stack forms.old.items) builder.old at (stack forms.new.items) builder.new result }
 {
     if is_tagged(form) {
         tag_again(text, at, form, len, next, forms, builder)
@@ -420,7 +291,7 @@ fn late_dash(
     forms: &[Form],
     builder: &mut DocBuilder,
 ) -> Result<Position, Stop>
-    requires small { length text.now ≤ template_limit }
+    requires small { length text.now ≤ text_limit }
     requires awaited { Awaited text.now (stack forms.now) builder.old form at next }
     requires dash { next.token ≡ Token.Dash }
     requires none { NoNode form next }
@@ -430,6 +301,7 @@ fn late_dash(
     ensures opens { Opening (stack forms.now) result }
     ensures stops { Stops text.now at (NoValue at next form (stack forms.now) builder.old) result }
     ensures longer { Lengthens text.now Stage.Value (stack forms.now) builder.old at result }
+    ensures extends { ExtendsValue text.now (stack forms.now) builder.old at (stack forms.now) builder.new result }
 {
     if takes_scalar(form, next) {
         return Err(Stop::Unread(dash_place(text, next)));
@@ -455,6 +327,7 @@ fn brackets(
     ensures opens { Opening (stack forms.new.items) result }
     ensures stops { Stops text.now at (NoValue at next form (stack forms.old.items) builder.old) result }
     ensures longer { Lengthens text.now Stage.Value (stack forms.old.items) builder.old at result }
+    ensures extends { ExtendsValue text.now (stack forms.old.items) builder.old at (stack forms.new.items) builder.new result }
 {
     open(map, next, forms, builder)
 }
@@ -469,7 +342,7 @@ fn node_at<'s>(
     forms: &mut Vec<Form>,
     builder: &mut DocBuilder<'s>,
 ) -> Result<Position, Stop>
-    requires small { length text.now ≤ template_limit }
+    requires small { length text.now ≤ text_limit }
     requires awaited { Awaited text.now (stack forms.old.items) builder.old form at next }
     requires unsigned { block_sign form next ≡ None }
     ensures gives { (other : List ℕ) → Awaited other (stack forms.old.items) builder.old form at next → SameNode text.now other form at next → Gives other (Awaits other (stack forms.old.items) builder.old.outer builder.old.done builder.old.key at) (2 * at + 1) (stack forms.new.items) builder.new result }
@@ -477,6 +350,8 @@ fn node_at<'s>(
     ensures opens { Opening (stack forms.new.items) result }
     ensures stops { Stops text.now at (NoValue at next form (stack forms.old.items) builder.old) result }
     ensures longer { Lengthens text.now Stage.Value (stack forms.old.items) builder.old at result }
+    ensures extends { ExtendsValue text.now (stack forms.old.items) builder.old at (stack forms.new.items) builder.new result }
+    ensures again { starts_scalar next.token ≡ true → SignStays text.now Stage.Value (stack forms.old.items) builder.old at result }
 {
     match next.token {
         Token::Dash => {
@@ -520,7 +395,7 @@ pub(crate) fn node<'s>(
     forms: &mut Vec<Form>,
     builder: &mut DocBuilder<'s>,
 ) -> Result<Position, Stop>
-    requires small { length text.now ≤ template_limit }
+    requires small { length text.now ≤ text_limit }
     requires boundary { IsCharBoundary text.now at }
     requires form { top (stack forms.old.items) ≡ form }
     requires block { IsBlock form }
@@ -530,6 +405,8 @@ pub(crate) fn node<'s>(
     ensures opens { Opening (stack forms.new.items) result }
     ensures stops { Stops text.now at (NoValue at (ahead text.now false at) form (stack forms.old.items) builder.old) result }
     ensures longer { Lengthens text.now Stage.Value (stack forms.old.items) builder.old at result }
+    ensures extends { ExtendsValue text.now (stack forms.old.items) builder.old at (stack forms.new.items) builder.new result }
+    ensures again { starts_scalar (ahead text.now false at).token ≡ true → SignStays text.now Stage.Value (stack forms.old.items) builder.old at result }
 {
     let next = look(text, false, at);
     match block_sign(form, next) {
@@ -565,7 +442,7 @@ fn item(
     forms: &[Form],
     builder: &DocBuilder,
 ) -> Result<Position, Stop>
-    requires small { length text.now ≤ template_limit }
+    requires small { length text.now ≤ text_limit }
     requires seen { IsSeen text.now false at next }
     requires told { is_ending next.token ≡ false }
     requires fresh { next.fresh ≡ true }
@@ -579,6 +456,8 @@ fn item(
     ensures opens { Opening (stack forms.now) result }
     ensures stops { Stops text.now at (NoLine at next (stack forms.now) builder.now) result }
     ensures longer { Lengthens text.now Stage.After (stack forms.now) builder.now at result }
+    ensures leaves { Leaves result }
+    ensures again { starts_scalar next.token ≡ true → OnSign (NoneBehind text.now (stack forms.now) builder.now at) result }
 {
     if next.column != column {
         return Err(Stop::Unread(last_told(text, next)));
@@ -602,7 +481,7 @@ fn entry<'s>(
     forms: &[Form],
     builder: &mut DocBuilder<'s>,
 ) -> Result<Position, Stop>
-    requires small { length text.now ≤ template_limit }
+    requires small { length text.now ≤ text_limit }
     requires seen { IsSeen text.now false at next }
     requires told { is_ending next.token ≡ false }
     requires fresh { next.fresh ≡ true }
@@ -611,11 +490,14 @@ fn entry<'s>(
     requires open { Open (stack forms.now) builder.old }
     requires awaited { builder.old.key ≡ None }
     requires boundary { IsCharBoundary text.now at }
+    requires behind { text_start text.now ≤ at }
     ensures gives { (other : List ℕ) → IsSeen other false at next → Inside other at → IsCalm other builder.old at → SameKey text.now other next → Gives other (Ends other (stack forms.now) builder.old.outer builder.old.done at) (2 * at + 2) (stack forms.now) builder.new result }
     ensures fixes { FixesEnd text.now at next result }
     ensures opens { Opening (stack forms.now) result }
     ensures stops { Stops text.now at (NoLine at next (stack forms.now) builder.old) result }
     ensures longer { Lengthens text.now Stage.After (stack forms.now) builder.old at result }
+    ensures leaves { Leaves result }
+    ensures again { starts_scalar next.token ≡ true → OnSign (NoneBehind text.now (stack forms.now) builder.old at) result }
 {
     if next.column != column {
         return Err(Stop::Unread(last_told(text, next)));
@@ -659,7 +541,7 @@ fn head<'s>(
     forms: &[Form],
     builder: &mut DocBuilder<'s>,
 ) -> Result<Position, Stop>
-    requires small { length text.now ≤ template_limit }
+    requires small { length text.now ≤ text_limit }
     requires seen { IsSeen text.now false at next }
     requires told { is_ending next.token ≡ false }
     requires fresh { next.fresh ≡ true }
@@ -669,11 +551,14 @@ fn head<'s>(
     requires open { Open (stack forms.now) builder.old }
     requires awaited { builder.old.key ≡ None }
     requires boundary { IsCharBoundary text.now at }
+    requires behind { text_start text.now ≤ at }
     ensures gives { (other : List ℕ) → IsSeen other false at next → Inside other at → IsCalm other builder.old at → SameKey text.now other next → Gives other (Ends other (stack forms.now) builder.old.outer builder.old.done at) (2 * at + 2) (stack forms.now) builder.new result }
     ensures fixes { FixesEnd text.now at next result }
     ensures opens { Opening (stack forms.now) result }
     ensures stops { Stops text.now at (NoLine at next (stack forms.now) builder.old) result }
     ensures longer { Lengthens text.now Stage.After (stack forms.now) builder.old at result }
+    ensures leaves { Leaves result }
+    ensures again { starts_scalar next.token ≡ true → OnSign (NoneBehind text.now (stack forms.now) builder.old at) result }
 {
     match form {
         Form::Items { column } => item(text, at, column, next, forms, builder),
@@ -694,18 +579,21 @@ fn line<'s>(
     forms: &mut Vec<Form>,
     builder: &mut DocBuilder<'s>,
 ) -> Result<Position, Stop>
-    requires small { length text.now ≤ template_limit }
+    requires small { length text.now ≤ text_limit }
     requires seen { IsSeen text.now false at next }
     requires told { is_ending next.token ≡ false }
     requires block { IsBlock (top (stack forms.old.items)) }
     requires open { Open (stack forms.old.items) builder.old }
     requires awaited { builder.old.key ≡ None }
     requires boundary { IsCharBoundary text.now at }
+    requires behind { text_start text.now ≤ at }
     ensures gives { (other : List ℕ) → IsSeen other false at next → Inside other at → IsCalm other builder.old at → SameKey text.now other next → Gives other (Ends other (stack forms.old.items) builder.old.outer builder.old.done at) (2 * at + 2) (stack forms.new.items) builder.new result }
     ensures fixes { FixesEnd text.now at next result }
     ensures opens { Opening (stack forms.new.items) result }
     ensures stops { Stops text.now at (NoLine at next (stack forms.old.items) builder.old) result }
     ensures longer { Lengthens text.now Stage.After (stack forms.old.items) builder.old at result }
+    ensures leaves { Leaves result }
+    ensures again { starts_scalar next.token ≡ true → OnSign (NoneBehind text.now (stack forms.old.items) builder.old at) result }
 {
     if !next.fresh {
         return Err(Stop::Unread(last_told(text, next)));
@@ -736,33 +624,6 @@ fn end_all(at: usize, forms: &mut Vec<Form>, builder: &mut DocBuilder) -> Result
     })
 }
 
-/// Whether nothing stands behind a place.
-fn is_text_end(text: &str, at: usize) -> bool
-    requires small { length text.now ≤ template_limit }
-    requires boundary { IsCharBoundary text.now at }
-    ensures yes { result ≡ true → (ahead text.now false at).token ≡ Token.End }
-    ensures no { result ≡ false → (ahead text.now false at).token ≡ Token.End → ⊥ }
-{
-    match look(text, false, at).token {
-        Token::End => true,
-        _ => false,
-    }
-}
-
-/// Whether the document ends at a token.
-fn is_document_end(text: &str, at: usize, next: Ahead) -> bool
-    requires small { length text.now ≤ template_limit }
-    requires seen { IsSeen text.now false at next }
-    ensures yes { result ≡ true → IsEnd text.now at }
-    ensures no { result ≡ false → IsEnd text.now at → ⊥ }
-{
-    match next.token {
-        Token::End => true,
-        Token::Dots => is_text_end(text, next.behind),
-        _ => false,
-    }
-}
-
 /// What follows a complete node outside of flow.
 pub(crate) fn after<'s>(
     alloc: Global,
@@ -771,8 +632,9 @@ pub(crate) fn after<'s>(
     forms: &mut Vec<Form>,
     builder: &mut DocBuilder<'s>,
 ) -> Result<Position, Stop>
-    requires small { length text.now ≤ template_limit }
+    requires small { length text.now ≤ text_limit }
     requires boundary { IsCharBoundary text.now at }
+    requires behind { text_start text.now ≤ at }
     requires block { IsBlock (top (stack forms.old.items)) }
     requires open { Open (stack forms.old.items) builder.old }
     requires calm { IsCalm text.now builder.old at }
@@ -782,6 +644,8 @@ pub(crate) fn after<'s>(
     ensures opens { Opening (stack forms.new.items) result }
     ensures stops { Stops text.now at (NoLine at (ahead text.now false at) (stack forms.old.items) builder.old) result }
     ensures longer { Lengthens text.now Stage.After (stack forms.old.items) builder.old at result }
+    ensures leaves { Leaves result }
+    ensures again { starts_scalar (ahead text.now false at).token ≡ true → OnSign (NoneBehind text.now (stack forms.old.items) builder.old at) result }
 {
     let next = look(text, false, at);
     if is_document_end(text, at, next) {

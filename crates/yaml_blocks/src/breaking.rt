@@ -20,7 +20,7 @@ ghost use Rattle.yaml_blocks.specs.Nodes.{as_key, follows_get_att, is_cut, scala
 ghost use Rattle.yaml_blocks.specs.Signs.{Reading, Tree};
 ghost use Rattle.yaml_blocks.specs.Yaml.{IsEnd, IsYaml, text_start};
 ghost use Rattle.yaml_blocks.specs.code.AheadSeen.{ahead_seen};
-ghost use Rattle.yaml_blocks.specs.code.Closers.{closers, in_flow, BreaksOff, HasColon, IsSpent, IsUncut, letters, MayBegin, MendsValue};
+ghost use Rattle.yaml_blocks.specs.code.Closers.{HasRoom, closers, in_flow, BreaksOff, HasColon, IsSpent, IsUncut, letters, MayBegin, MendsValue};
 ghost use Rattle.yaml_blocks.specs.code.Rest.{Awaits, Begins, Ends, Enters, top};
 ghost use Rattle.yaml_blocks.specs.code.Steps.{Agrees, Fits, IsBlock, Nests, Rest};
 
@@ -69,9 +69,10 @@ pub(crate) fn dash_key_completes(text: &str)
 {}
 
 /// Where a value may stand and a quoted or plain scalar fails at the text's end, some bytes make a document of the text, if no
-/// carriage return ends it; behind `!GetAtt` fewer than 128 collections are open. The call itself does nothing.
+/// carriage return ends it; behind `!GetAtt` fewer than 128 collections are open, or the scalar has no dot so far. The call
+/// itself does nothing.
 pub(crate) fn value_completes(text: &str)
-    ensures { (fs : List Form) (outer : List Level) (done : Forest) (key : Option (List ℕ)) (at : ℕ) → at ≤ length text.now → Agrees fs outer → Nests fs → BreaksOff text.now (top fs) at → begins_block (setting_of (top fs)) (drop (ahead text.now (in_flow (top fs)) at).at text.now) ≡ false → ends_with 13 text.now ≡ false → (follows_get_att text.now (top fs) at ≡ true → length outer < 128) → MendsValue text.now fs outer done key at }
+    ensures { (fs : List Form) (outer : List Level) (done : Forest) (key : Option (List ℕ)) (at : ℕ) → at ≤ length text.now → Agrees fs outer → Nests fs → BreaksOff text.now (top fs) at → begins_block (setting_of (top fs)) (drop (ahead text.now (in_flow (top fs)) at).at text.now) ≡ false → ends_with 13 text.now ≡ false → (follows_get_att text.now (top fs) at ≡ true → HasRoom text.now (ahead text.now (in_flow (top fs)) at).at (length outer)) → MendsValue text.now fs outer done key at }
 {}
 
 /// The same where a carriage return ends the text: a plain scalar goes on over a further line, unless a colon stands in front
@@ -110,7 +111,7 @@ pub(crate) fn break_completes(front: &str)
 /// letter behind it; and a block scalar whose header ends the text ends with a break behind it. The call itself does nothing.
 pub(crate) fn value_goes_on(text: &str)
     ensures colon { (front : List ℕ) (fs : List Form) (outer : List Level) (done : Forest) (key : Option (List ℕ)) (at start size : ℕ) (scalar : List ℕ) → text.now ≡ front ++ (58 ∷ []) → at ≤ length front → Agrees fs outer → Nests fs → (ahead text.now (in_flow (top fs)) at).at ≡ start → start ≤ length front → MayBegin (top fs) (ahead text.now (in_flow (top fs)) at) → starts_scalar (ahead text.now (in_flow (top fs)) at).token ≡ true → has_break (drop start front) ≡ false → begins_quoted (drop start text.now) ≡ false → begins_block (setting_of (top fs)) (drop start text.now) ≡ false → start + size ≤ length front → is_blank (drop (start + size) front) ≡ true → scalar_at (setting_of (top fs)) text.now start ≡ Stands scalar (start + size) → (follows_get_att text.now (top fs) at ≡ true → length outer < 128) → MendsValue text.now fs outer done key at }
-    ensures header { (fs : List Form) (outer : List Level) (done : Forest) (key : Option (List ℕ)) (at start : ℕ) → at ≤ length text.now → Agrees fs outer → Nests fs → (ahead text.now (in_flow (top fs)) at).at ≡ start → BreaksOff text.now (top fs) at → begins_quoted (drop start text.now) ≡ false → begins_block (setting_of (top fs)) (drop start text.now) ≡ true → ends_with 13 (drop start text.now) ≡ false → has_break (drop start text.now) ≡ false → (follows_get_att text.now (top fs) at ≡ true → length outer < 128) → MendsValue text.now fs outer done key at }
+    ensures header { (fs : List Form) (outer : List Level) (done : Forest) (key : Option (List ℕ)) (at start : ℕ) → at ≤ length text.now → Agrees fs outer → Nests fs → (ahead text.now (in_flow (top fs)) at).at ≡ start → BreaksOff text.now (top fs) at → begins_quoted (drop start text.now) ≡ false → begins_block (setting_of (top fs)) (drop start text.now) ≡ true → ends_with 13 (drop start text.now) ≡ false → has_break (drop start text.now) ≡ false → MendsValue text.now fs outer done key at }
 {}
 
 /// One or two dots that begin the text's last line end the document with those that lack. The call itself does nothing.
@@ -142,5 +143,5 @@ pub(crate) fn key_completes(text: &str, at: usize)
 /// Where a value of a block may stand and a block scalar fails at the text's end below its header, behind a dot, the dots that
 /// a line `...` lacks make a document of the text. The call itself does nothing.
 pub(crate) fn block_completes(text: &str)
-    ensures { (fs : List Form) (outer : List Level) (done : Forest) (key : Option (List ℕ)) (at : ℕ) → at ≤ length text.now → Agrees fs outer → Nests fs → IsBlock (top fs) → takes_scalar (top fs) (ahead text.now false at) ≡ true → starts_scalar (ahead text.now false at).token ≡ true → (ahead text.now false at).at < length text.now → begins_quoted (drop (ahead text.now false at).at text.now) ≡ false → begins_block (setting_of (top fs)) (drop (ahead text.now false at).at text.now) ≡ true → has_break (drop (ahead text.now false at).at text.now) ≡ true → ends_with 46 text.now ≡ true → scalar_at (setting_of (top fs)) text.now (ahead text.now false at).at ≡ Fails (length text.now) → (follows_get_att text.now (top fs) at ≡ true → length outer < 128) → MendsValue text.now fs outer done key at }
+    ensures { (fs : List Form) (outer : List Level) (done : Forest) (key : Option (List ℕ)) (at : ℕ) → at ≤ length text.now → Agrees fs outer → Nests fs → IsBlock (top fs) → takes_scalar (top fs) (ahead text.now false at) ≡ true → starts_scalar (ahead text.now false at).token ≡ true → (ahead text.now false at).at < length text.now → begins_quoted (drop (ahead text.now false at).at text.now) ≡ false → begins_block (setting_of (top fs)) (drop (ahead text.now false at).at text.now) ≡ true → has_break (drop (ahead text.now false at).at text.now) ≡ true → ends_with 46 text.now ≡ true → scalar_at (setting_of (top fs)) text.now (ahead text.now false at).at ≡ Fails (length text.now) → MendsValue text.now fs outer done key at }
 {}

@@ -1,15 +1,17 @@
 //! What stands between brackets: one token at a time, what it adds to the tree, and what may follow it.
 ghost use Rattle.std.specs.Prelude.{◌≡◌, ℕ, List, Bool, ◌+◌, ◌*◌, ◌<◌, ◌≤◌, ◌||◌, length, drop, [], ◌∷◌, true, false, Some, None, MatchOption};
 ghost use Rattle.std.specs.Str.{IsCharBoundary};
-ghost use Rattle.doc_values.specs.Limits.{template_limit};
+ghost use Rattle.yaml_scalars.specs.code.Limits.{text_limit};
 ghost use Rattle.doc_values.specs.Unfinished.{AwaitsValue, MayEnd};
 ghost use Rattle.yaml_scalars.specs.Scalar.{begins_quoted};
 ghost use Rattle.yaml_blocks.specs.Flow.{may_miss, may_tag, ends_key, IsColon};
 ghost use Rattle.yaml_blocks.specs.Ahead.{ahead};
-ghost use Rattle.yaml_blocks.specs.Nodes.{tag_name, node_sign, is_tagged, is_marked};
+ghost use Rattle.yaml_blocks.specs.Nodes.{tag_name, node_sign, is_tagged, is_marked, starts_scalar};
+ghost use Rattle.yaml_blocks.specs.code.ReadAgain.{NoneAwaited, OnSign, SignStays};
 ghost use Rattle.yaml_blocks.specs.code.Rest.{top, Ends, Enters, Awaits};
+ghost use Rattle.yaml_blocks.specs.code.Extends.{Shuts};
 ghost use Rattle.yaml_blocks.specs.code.Feeds.{FeedsSeen, FeedsFlowNode, FeedsFlowKey, FeedsEntry};
-ghost use Rattle.yaml_blocks.specs.code.Twins.{Stops, IsKeyed, IsUnpointed, Lengthens, MendsNode, OnUnread, NoTail, NoFlowValue, NoEntry, FixesFlowNode, FixesFlowKey, FixesEntry, FixesSeen};
+ghost use Rattle.yaml_blocks.specs.code.Twins.{Stops, Lengthens, MendsNode, OnUnread, NoTail, NoFlowValue, NoEntry, FixesFlowNode, FixesFlowKey, FixesEntry, FixesSeen};
 ghost use Rattle.yaml_blocks.specs.code.Steps.{stack, IsSeen, SameFlowNode, SameFlowKey, IsFlow, IsBehind, Open, Gives, Opened, Closed, is_flow_ending};
 
 use crate::ahead::{Ahead, Token, look};
@@ -17,7 +19,8 @@ use crate::form::Form;
 use crate::node::{
     as_key, begin, begin_tag, find_scalar, innermost, offset, starts_scalar, take_null, take_scalar,
 };
-use crate::place::{flow_place, told_place};
+use crate::place::flow_place;
+use crate::point::is_pointed;
 use crate::sign::{is_marked, is_tagged, node_sign};
 use crate::stage::{Position, Stage};
 use crate::stop::Stop;
@@ -59,7 +62,7 @@ pub(crate) fn open(
     forms: &mut Vec<Form>,
     builder: &mut DocBuilder,
 ) -> Result<Position, Stop>
-    requires small { next.at ≤ template_limit }
+    requires small { next.at ≤ text_limit }
     requires awaited { AwaitsValue builder.old }
     ensures { Opened map next (stack forms.old.items) builder.old (stack forms.new.items) builder.new result }
 {
@@ -83,7 +86,7 @@ fn tag<'s>(
     forms: &mut Vec<Form>,
     builder: &mut DocBuilder<'s>,
 ) -> Result<Position, Stop>
-    requires small { length text.now ≤ template_limit }
+    requires small { length text.now ≤ text_limit }
     requires seen { IsSeen text.now true at next }
     requires tag { next.token ≡ Token.Tag len }
     requires form { top (stack forms.old.items) ≡ form }
@@ -95,6 +98,7 @@ fn tag<'s>(
     ensures gives { (other : List ℕ) → IsSeen other true at next → tag_name other next.at next.behind ≡ tag_name text.now next.at next.behind → Gives other (Awaits other (stack forms.old.items) builder.old.outer builder.old.done builder.old.key at) (2 * at + 2) (stack forms.new.items) builder.new result }
     ensures fixes { FixesFlowNode text.now form at next result }
     ensures feeds { FeedsFlowNode text.now form at next result }
+    ensures shuts { Shuts text.now at (stack forms.new.items) result }
     ensures stops { Stops text.now at (NoFlowValue at next (stack forms.old.items) builder.old) result }
     ensures longer { OnUnread (MendsNode text.now (stack forms.old.items) builder.old at) result }
 {
@@ -108,6 +112,45 @@ fn tag<'s>(
     )
 }
 
+/// A scalar; over a colon that ends the text a plain one goes on with a letter behind it.
+fn scalar<'s>(
+    alloc: Global,
+    text: &'s str,
+    at: usize,
+    form: Form,
+    next: Ahead,
+    forms: &[Form],
+    builder: &mut DocBuilder<'s>,
+) -> Result<Position, Stop>
+    requires small { length text.now ≤ text_limit }
+    requires seen { IsSeen text.now true at next }
+    requires starts { starts_scalar next.token ≡ true }
+    requires unsigned { node_sign (is_tagged form) next.at next.token ≡ None }
+    requires there { may_miss form ≡ true → is_flow_ending next.token ≡ false }
+    requires form { top (stack forms.now) ≡ form }
+    requires flow { IsFlow form }
+    requires behind { IsBehind form at }
+    requires open { Open (stack forms.now) builder.old }
+    requires awaited { AwaitsValue builder.old }
+    requires boundary { IsCharBoundary text.now at }
+    ensures gives { (other : List ℕ) → IsSeen other true at next → SameFlowNode text.now other form at next → Gives other (Awaits other (stack forms.now) builder.old.outer builder.old.done builder.old.key at) (2 * at + 2) (stack forms.now) builder.new result }
+    ensures fixes { FixesFlowNode text.now form at next result }
+    ensures feeds { FeedsFlowNode text.now form at next result }
+    ensures stops { Stops text.now at (NoFlowValue at next (stack forms.now) builder.old) result }
+    ensures longer { OnUnread (MendsNode text.now (stack forms.now) builder.old at) result }
+    ensures shuts { Shuts text.now at (stack forms.now) result }
+    ensures again { OnSign (NoneAwaited text.now (stack forms.now) builder.old at) result }
+{
+    let position = match take_scalar(alloc, text, at, form, next, builder) {
+        Ok(position) => position,
+        Err(stop) => return Err(stop),
+    };
+    if is_pointed(text, true, next.at, position.at) {
+        return Err(Stop::Unread(offset(text.len())));
+    }
+    Ok(position)
+}
+
 /// A node in brackets, or behind a tag there.
 fn node<'s>(
     alloc: Global,
@@ -118,7 +161,7 @@ fn node<'s>(
     forms: &mut Vec<Form>,
     builder: &mut DocBuilder<'s>,
 ) -> Result<Position, Stop>
-    requires small { length text.now ≤ template_limit }
+    requires small { length text.now ≤ text_limit }
     requires seen { IsSeen text.now true at next }
     requires there { may_miss form ≡ true → is_flow_ending next.token ≡ false }
     requires form { top (stack forms.old.items) ≡ form }
@@ -130,8 +173,10 @@ fn node<'s>(
     ensures gives { (other : List ℕ) → IsSeen other true at next → SameFlowNode text.now other form at next → Gives other (Awaits other (stack forms.old.items) builder.old.outer builder.old.done builder.old.key at) (2 * at + 2) (stack forms.new.items) builder.new result }
     ensures fixes { FixesFlowNode text.now form at next result }
     ensures feeds { FeedsFlowNode text.now form at next result }
+    ensures shuts { Shuts text.now at (stack forms.new.items) result }
     ensures stops { Stops text.now at (NoFlowValue at next (stack forms.old.items) builder.old) result }
     ensures longer { OnUnread (MendsNode text.now (stack forms.old.items) builder.old at) result }
+    ensures again { starts_scalar next.token ≡ true → OnSign (NoneAwaited text.now (stack forms.old.items) builder.old at) result }
 {
     match node_sign(is_tagged(form), next) {
         Some(refusal) => return Err(refusal),
@@ -144,7 +189,7 @@ fn node<'s>(
             if !starts_scalar(next.token) {
                 return Err(Stop::Unread(flow_place(text, next)));
             }
-            take_scalar(alloc, text, at, form, next, builder)
+            scalar(alloc, text, at, form, next, forms, builder)
         }
     }
 }
@@ -188,7 +233,7 @@ fn is_flow_ending(token: Token) -> bool
 
 /// Where the value of a key stands whose end is at a place: behind a colon, or there where none is.
 fn colon(text: &str, end: usize, quoted: bool) -> Option<usize>
-    requires small { length text.now ≤ template_limit }
+    requires small { length text.now ≤ text_limit }
     requires boundary { IsCharBoundary text.now end }
     ensures { MatchOption result ((p : ℕ) → IsColon text.now quoted end p → ⊥) (λ p. IsColon text.now quoted end p × IsCharBoundary text.now p × (end ≤ p)) }
 {
@@ -217,7 +262,7 @@ fn key<'s>(
     forms: &[Form],
     builder: &mut DocBuilder<'s>,
 ) -> Result<Position, Stop>
-    requires small { length text.now ≤ template_limit }
+    requires small { length text.now ≤ text_limit }
     requires seen { IsSeen text.now true at next }
     requires there { next.token ≡ Token.Closes true → ⊥ }
     requires unmarked { is_marked next.token ≡ false }
@@ -228,8 +273,10 @@ fn key<'s>(
     ensures gives { (other : List ℕ) → IsSeen other true at next → SameFlowKey text.now other next → Gives other (Enters other (stack forms.now) builder.old.outer builder.old.done at) (2 * at + 2) (stack forms.now) builder.new result }
     ensures fixes { FixesFlowKey text.now at next result }
     ensures feeds { FeedsFlowKey text.now at next result }
+    ensures shuts { Shuts text.now at (stack forms.now) result }
     ensures stops { Stops text.now at (NoEntry at next (stack forms.now) builder.old) result }
-    ensures longer { IsKeyed text.now at → Lengthens text.now Stage.Entry (stack forms.now) builder.old at result }
+    ensures longer { Lengthens text.now Stage.Entry (stack forms.now) builder.old at result }
+    ensures again { starts_scalar next.token ≡ true → SignStays text.now Stage.Entry (stack forms.now) builder.old at result }
 {
     match node_sign(false, next) {
         Some(refusal) => return Err(refusal),
@@ -256,7 +303,7 @@ fn key<'s>(
             stage: Stage::Value,
             at: place,
         }),
-        None => Err(Stop::Unread(told_place(text, look(text, true, end)))),
+        None => Err(Stop::Unread(flow_place(text, look(text, true, end)))),
     }
 }
 
@@ -269,7 +316,7 @@ pub(crate) fn entry<'s>(
     forms: &mut Vec<Form>,
     builder: &mut DocBuilder<'s>,
 ) -> Result<Position, Stop>
-    requires small { length text.now ≤ template_limit }
+    requires small { length text.now ≤ text_limit }
     requires boundary { IsCharBoundary text.now at }
     requires form { top (stack forms.old.items) ≡ Form.Flow map }
     requires open { Open (stack forms.old.items) builder.old }
@@ -277,8 +324,10 @@ pub(crate) fn entry<'s>(
     ensures gives { (other : List ℕ) → IsSeen other true at (ahead text.now true at) → (map ≡ true → SameFlowKey text.now other (ahead text.now true at)) → (map ≡ false → SameFlowNode text.now other (Form.Flow false) at (ahead text.now true at)) → Gives other (Enters other (stack forms.old.items) builder.old.outer builder.old.done at) (2 * at + 2) (stack forms.new.items) builder.new result }
     ensures fixes { FixesEntry text.now map at (ahead text.now true at) result }
     ensures feeds { FeedsEntry text.now map at (ahead text.now true at) result }
+    ensures shuts { Shuts text.now at (stack forms.new.items) result }
     ensures stops { Stops text.now at (NoEntry at (ahead text.now true at) (stack forms.old.items) builder.old) result }
-    ensures longer { (map ≡ true → IsKeyed text.now at) → Lengthens text.now Stage.Entry (stack forms.old.items) builder.old at result }
+    ensures longer { Lengthens text.now Stage.Entry (stack forms.old.items) builder.old at result }
+    ensures again { starts_scalar (ahead text.now true at).token ≡ true → SignStays text.now Stage.Entry (stack forms.old.items) builder.old at result }
 {
     let next = look(text, true, at);
     if closes(next.token, map) {
@@ -311,7 +360,7 @@ pub(crate) fn value<'s>(
     forms: &mut Vec<Form>,
     builder: &mut DocBuilder<'s>,
 ) -> Result<Position, Stop>
-    requires small { length text.now ≤ template_limit }
+    requires small { length text.now ≤ text_limit }
     requires boundary { IsCharBoundary text.now at }
     requires form { top (stack forms.old.items) ≡ form }
     requires flow { IsFlow form }
@@ -322,8 +371,10 @@ pub(crate) fn value<'s>(
     ensures gives { (other : List ℕ) → IsSeen other true at (ahead text.now true at) → IsCharBoundary other at → SameFlowNode text.now other form at (ahead text.now true at) → Gives other (Awaits other (stack forms.old.items) builder.old.outer builder.old.done builder.old.key at) (2 * at + 1) (stack forms.new.items) builder.new result }
     ensures fixes { FixesFlowNode text.now form at (ahead text.now true at) result }
     ensures feeds { FeedsFlowNode text.now form at (ahead text.now true at) result }
+    ensures shuts { Shuts text.now at (stack forms.new.items) result }
     ensures stops { Stops text.now at (NoFlowValue at (ahead text.now true at) (stack forms.old.items) builder.old) result }
     ensures longer { Lengthens text.now Stage.Value (stack forms.old.items) builder.old at result }
+    ensures again { starts_scalar (ahead text.now true at).token ≡ true → OnSign (NoneAwaited text.now (stack forms.old.items) builder.old at) result }
 {
     let next = look(text, true, at);
     if is_flow_ending(next.token) {
@@ -340,7 +391,7 @@ pub(crate) fn after(
     forms: &mut Vec<Form>,
     builder: &mut DocBuilder,
 ) -> Result<Position, Stop>
-    requires small { length text.now ≤ template_limit }
+    requires small { length text.now ≤ text_limit }
     requires boundary { IsCharBoundary text.now at }
     requires form { top (stack forms.old.items) ≡ Form.Flow map }
     requires open { Open (stack forms.old.items) builder.old }
@@ -348,8 +399,9 @@ pub(crate) fn after(
     ensures gives { (other : List ℕ) → IsSeen other true at (ahead text.now true at) → Gives other (Ends other (stack forms.old.items) builder.old.outer builder.old.done at) (2 * at + 2) (stack forms.new.items) builder.new result }
     ensures fixes { FixesSeen text.now at result }
     ensures feeds { FeedsSeen text.now at result }
+    ensures shuts { Shuts text.now at (stack forms.new.items) result }
     ensures stops { Stops text.now at (NoTail at (ahead text.now true at) (stack forms.old.items) builder.old) result }
-    ensures longer { IsUnpointed text.now at → Lengthens text.now Stage.After (stack forms.old.items) builder.old at result }
+    ensures longer { Lengthens text.now Stage.After (stack forms.old.items) builder.old at result }
 {
     let next = look(text, true, at);
     if closes(next.token, map) {
@@ -375,7 +427,7 @@ pub(crate) fn after_tag(
     forms: &mut Vec<Form>,
     builder: &mut DocBuilder,
 ) -> Result<Position, Stop>
-    requires small { length text.now ≤ template_limit }
+    requires small { length text.now ≤ text_limit }
     requires boundary { IsCharBoundary text.now at }
     requires form { top (stack forms.old.items) ≡ Form.FlowTagged place }
     requires open { Open (stack forms.old.items) builder.old }
@@ -383,8 +435,9 @@ pub(crate) fn after_tag(
     ensures gives { (other : List ℕ) → IsSeen other true at (ahead text.now true at) → Gives other (Ends other (stack forms.old.items) builder.old.outer builder.old.done at) (2 * at + 2) (stack forms.new.items) builder.new result }
     ensures fixes { FixesSeen text.now at result }
     ensures feeds { FeedsSeen text.now at result }
+    ensures shuts { Shuts text.now at (stack forms.new.items) result }
     ensures stops { Stops text.now at (NoTail at (ahead text.now true at) (stack forms.old.items) builder.old) result }
-    ensures longer { IsUnpointed text.now at → Lengthens text.now Stage.After (stack forms.old.items) builder.old at result }
+    ensures longer { Lengthens text.now Stage.After (stack forms.old.items) builder.old at result }
 {
     let Some(_) = forms.pop() else { unreachable!() };
     match builder.end() {

@@ -1,4 +1,7 @@
 //! What nodes stand in.
+ghost use Rattle.std.specs.Prelude.{◌≡◌, true, false};
+
+use crate::ahead::Ahead;
 
 /// What a node stands in: the innermost open collection, if one is open.
 #[derive(Clone, Copy)]
@@ -28,4 +31,15 @@ pub(crate) enum Form {
         above: usize,
         shares: bool,
     },
+}
+
+/// Whether a further entry of a block mapping begins at the column of a token.
+pub(crate) fn is_entry_column(form: Form, next: Ahead) -> bool
+    ensures yes { result ≡ true → form ≡ Form.Entries next.column }
+    ensures no { result ≡ false → form ≡ Form.Entries next.column → ⊥ }
+{
+    match form {
+        Form::Entries { column } => column == next.column,
+        _ => false,
+    }
 }

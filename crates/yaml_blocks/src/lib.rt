@@ -13,6 +13,7 @@ mod flow;
 mod form;
 mod node;
 mod place;
+mod point;
 mod read;
 mod refusal;
 mod returned;
@@ -20,6 +21,8 @@ mod sign;
 mod stage;
 mod step;
 mod stop;
+mod takes;
+mod twice;
 
 pub use agreement::same_ahead;
 pub use ahead::Token;

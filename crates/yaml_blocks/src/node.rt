@@ -3,18 +3,18 @@ ghost use Rattle.std.specs.Prelude.{◌≡◌, ℕ, ◌+◌, ◌<◌, ◌≤◌,
 ghost use Rattle.std.specs.Cow.{cow_str_bytes};
 ghost use Rattle.std.specs.List.{position_or_len, before_first, after_first};
 ghost use Rattle.std.specs.Str.{IsCharBoundary, bytes_eq};
-ghost use Rattle.doc_values.specs.Limits.{template_limit};
+ghost use Rattle.yaml_scalars.specs.code.Limits.{text_limit};
 ghost use Rattle.doc_values.specs.Tree.{has_text};
 ghost use Rattle.doc_values.specs.Unfinished.{with_value, AwaitsValue};
 ghost use Rattle.yaml_blocks.specs.Ahead.{ahead};
 ghost use Rattle.yaml_blocks.specs.Nodes.{below, tag_name, tag_key, get_att, follows_get_att, is_dot, is_cut, ref_text, condition_text, setting_of, as_key, starts_scalar};
 ghost use Rattle.yaml_blocks.specs.code.Steps.{stack, has_keys, IsSmall, IsBehind, Finds, FindsKey, leaf_text, Paired, Holds, Begun, TagBegun, Completes};
 ghost use Rattle.yaml_blocks.specs.code.Rest.{top};
-ghost use Rattle.yaml_blocks.specs.code.Twins.{FailedAt};
+ghost use Rattle.yaml_blocks.specs.code.Twins.{FailedAt, TornAt};
 
 use crate::ahead::{Ahead, Token, look};
 use crate::form::Form;
-use crate::place::refused_place;
+use crate::place::{refused_place, torn_stop};
 use crate::stage::{Position, Stage};
 use crate::stop::{Stop, of_scalar};
 use doc_values::{DocBuilder, Kind};
@@ -32,7 +32,7 @@ pub(crate) struct Key<'s> {
 
 /// The indentation of the parent of a block's nodes.
 fn parent(column: usize) -> i32
-    requires { column ≤ template_limit }
+    requires { column ≤ text_limit }
     ensures { result ≡ pos column }
 {
     column as i32
@@ -40,10 +40,10 @@ fn parent(column: usize) -> i32
 
 /// The indentation above which this is the least.
 fn below(above: usize) -> i32
-    requires { above ≤ 8388609 }
+    requires { above ≤ 8388610 }
     ensures is { result ≡ below above }
     ensures low { negsuc 0 ≤ℤ result }
-    ensures high { result ≤ℤ pos template_limit }
+    ensures high { result ≤ℤ pos text_limit }
 {
     if above == 0 {
         return -1;
@@ -56,7 +56,7 @@ fn setting_of(form: Form) -> Setting
     requires { IsSmall form }
     ensures is { result ≡ setting_of form }
     ensures low { negsuc 0 ≤ℤ result.parent }
-    ensures high { result.parent ≤ℤ pos template_limit }
+    ensures high { result.parent ≤ℤ pos text_limit }
 {
     match form {
         Form::Root => Setting {
@@ -128,7 +128,7 @@ pub(crate) fn begin(
     forms: &mut Vec<Form>,
     builder: &mut DocBuilder,
 ) -> Result<(), Stop>
-    requires small { next.at ≤ template_limit }
+    requires small { next.at ≤ text_limit }
     requires awaited { AwaitsValue builder.old }
     ensures { Begun form next (stack forms.old.items) builder.old (stack forms.new.items) builder.new result }
 {
@@ -153,7 +153,7 @@ pub(crate) fn innermost(forms: &[Form]) -> Form
 
 /// An offset in a text of at most 8 MiB.
 pub(crate) fn offset(i: usize) -> u32
-    requires { i ≤ template_limit }
+    requires { i ≤ text_limit }
     ensures { result ≡ i }
 {
     i as u32
@@ -177,11 +177,11 @@ pub(crate) fn find_scalar<'s>(
     next: Ahead,
     setting: Setting,
 ) -> Result<Scalar<'s>, Stop>
-    requires small { length text.now ≤ template_limit }
+    requires small { length text.now ≤ text_limit }
     requires boundary { IsCharBoundary text.now next.at }
     requires starts { starts_scalar next.token ≡ true }
     requires low { negsuc 0 ≤ℤ setting.parent }
-    requires high { setting.parent ≤ℤ pos template_limit }
+    requires high { setting.parent ≤ℤ pos text_limit }
     ensures finds { Finds text.now setting next result }
     ensures place { (q : ℕ) → result ≡ Err (Stop.Unread q) → FailedAt text.now setting next q }
 {
@@ -259,7 +259,7 @@ fn take_pair<'s>(
     end: usize,
     builder: &mut DocBuilder<'s>,
 ) -> Result<Position, Stop>
-    requires small { place ≤ template_limit }
+    requires small { place ≤ text_limit }
     requires awaited { AwaitsValue builder.old }
     ensures { Paired (cow_str_bytes first.entry) (cow_str_bytes second.entry) place end builder.old builder.new result }
 {
@@ -293,11 +293,11 @@ fn take_cut<'s>(
     cuts: bool,
     builder: &mut DocBuilder<'s>,
 ) -> Result<Position, Stop>
-    requires small { length text.now ≤ template_limit }
+    requires small { length text.now ≤ text_limit }
     requires boundary { IsCharBoundary text.now next.at }
     requires starts { starts_scalar next.token ≡ true }
     requires low { negsuc 0 ≤ℤ setting.parent }
-    requires high { setting.parent ≤ℤ pos template_limit }
+    requires high { setting.parent ≤ℤ pos text_limit }
     requires awaited { AwaitsValue builder.old }
     ensures holds { Holds text.now setting cuts next builder.old builder.new result }
     ensures place { (q : ℕ) → result ≡ Err (Stop.Unread q) → FailedAt text.now setting next q }
@@ -335,7 +335,7 @@ pub(crate) fn take_scalar<'s>(
     next: Ahead,
     builder: &mut DocBuilder<'s>,
 ) -> Result<Position, Stop>
-    requires small { length text.now ≤ template_limit }
+    requires small { length text.now ≤ text_limit }
     requires within { at ≤ length text.now }
     requires boundary { IsCharBoundary text.now next.at }
     requires starts { starts_scalar next.token ≡ true }
@@ -349,9 +349,34 @@ pub(crate) fn take_scalar<'s>(
     take_cut(alloc, text, next, setting_of(form), cuts, builder)
 }
 
+/// The same outside of flow, where a block scalar may break off at a dash.
+pub(crate) fn take_block_scalar<'s>(
+    alloc: Global,
+    text: &'s str,
+    at: usize,
+    form: Form,
+    next: Ahead,
+    builder: &mut DocBuilder<'s>,
+) -> Result<Position, Stop>
+    requires small { length text.now ≤ text_limit }
+    requires within { at ≤ length text.now }
+    requires boundary { IsCharBoundary text.now next.at }
+    requires starts { starts_scalar next.token ≡ true }
+    requires form { IsSmall form }
+    requires behind { IsBehind form at }
+    requires awaited { AwaitsValue builder.old }
+    ensures holds { Holds text.now (setting_of form) (follows_get_att text.now form at) next builder.old builder.new result }
+    ensures place { (q : ℕ) → result ≡ Err (Stop.Unread q) → TornAt text.now (setting_of form) next q }
+{
+    match take_scalar(alloc, text, at, form, next, builder) {
+        Ok(position) => Ok(position),
+        Err(stop) => Err(torn_stop(text, next, stop)),
+    }
+}
+
 /// Null becomes a value, where a node is missing.
 pub(crate) fn take_null(place: usize, at: usize, builder: &mut DocBuilder) -> Result<Position, Stop>
-    requires small { place ≤ template_limit }
+    requires small { place ≤ text_limit }
     requires awaited { AwaitsValue builder.old }
     ensures { Completes at (with_value Kind.Null [] place builder.old) builder.new result }
 {
@@ -366,7 +391,7 @@ pub(crate) fn take_null(place: usize, at: usize, builder: &mut DocBuilder) -> Re
 
 /// The place behind the colon of a key outside of flow whose end is at a place, if there is one.
 pub(crate) fn colon_behind(text: &str, end: usize) -> Option<usize>
-    requires small { length text.now ≤ template_limit }
+    requires small { length text.now ≤ text_limit }
     requires boundary { IsCharBoundary text.now end }
     ensures { MatchOption result (((ahead text.now false end).fresh ≡ false) → ((ahead text.now false end).token ≡ Token.Point true) → ⊥) (λ p. ((ahead text.now false end).fresh ≡ false) × ((ahead text.now false end).token ≡ Token.Point true) × (p ≡ (ahead text.now false end).behind) × IsCharBoundary text.now p × (end ≤ p)) }
 {
@@ -386,7 +411,7 @@ pub(crate) fn find_key<'s>(
     text: &'s str,
     next: Ahead,
 ) -> Result<Option<Key<'s>>, Stop>
-    requires small { length text.now ≤ template_limit }
+    requires small { length text.now ≤ text_limit }
     requires boundary { IsCharBoundary text.now next.at }
     requires starts { starts_scalar next.token ≡ true }
     ensures { FindsKey text.now next result }
@@ -473,7 +498,7 @@ pub(crate) fn begin_tag<'s>(
     forms: &mut Vec<Form>,
     builder: &mut DocBuilder<'s>,
 ) -> Result<Position, Stop>
-    requires small { next.at ≤ template_limit }
+    requires small { next.at ≤ text_limit }
     requires order { next.at < next.behind }
     requires first { IsCharBoundary text.now (next.at + 1) }
     requires last { IsCharBoundary text.now next.behind }

@@ -1,16 +1,18 @@
 //! At which place a text shows that it is no document.
-ghost use Rattle.std.specs.Prelude.{◌≡◌, ◌≤◌, ◌<◌, ◌+◌, ◌||◌, suc, nat_lt, length, drop, slice_index};
+ghost use Rattle.std.specs.Prelude.{◌≡◌, ◌≤◌, ◌<◌, ◌+◌, ◌||◌, true, suc, nat_lt, length, drop, slice_index};
 ghost use Rattle.std.specs.Str.{IsCharBoundary};
-ghost use Rattle.doc_values.specs.Limits.{template_limit};
+ghost use Rattle.yaml_scalars.specs.code.Limits.{text_limit};
 ghost use Rattle.yaml_scalars.specs.Block.{same, widest};
+ghost use Rattle.yaml_scalars.specs.code.Walk.{has_break};
 ghost use Rattle.yaml_scalars.specs.Lines.{begins_with};
 ghost use Rattle.yaml_blocks.specs.code.AheadSeen.{first_return};
 ghost use Rattle.yaml_blocks.specs.code.Steps.{is_dash, is_open};
-ghost use Rattle.yaml_blocks.specs.code.StopPlaces.{is_stray, run_width, byte_width, token_width, is_hidden, width, past_return, told_place, within, last_told, flow_place, dash_place, ends_in_dots, root_place, failed_place, refused_place, colon_place};
+ghost use Rattle.yaml_blocks.specs.code.StopPlaces.{is_stray, run_width, byte_width, token_width, is_hidden, width, past_return, told_place, within, last_told, flow_place, dash_place, ends_in_dots, root_place, failed_place, refused_place, colon_place, ends_in_dash, torn_place, torn_stop};
 
 use crate::ahead::{Ahead, Token, name_len};
 use crate::node::offset;
 use crate::sign::is_ending;
+use crate::stop::Stop;
 use yaml_scalars::ScalarRefusal;
 use yaml_scalars::lines::whites;
 
@@ -39,7 +41,7 @@ fn return_len(bytes: &[u8], start: usize) -> usize
 }
 
 /// Whether a byte stands at a place.
-fn has_byte(bytes: &[u8], at: usize, byte: u8) -> bool
+pub(crate) fn has_byte(bytes: &[u8], at: usize, byte: u8) -> bool
     requires { at ≤ length bytes.now }
     ensures { result ≡ begins_with byte (drop at bytes.now) }
 {
@@ -77,7 +79,7 @@ fn run_width(bytes: &[u8], at: usize, len: usize) -> usize
 
 /// How many bytes from a token's first one, which stands at a place, stand before one that shows what it is.
 fn byte_width(bytes: &[u8], at: usize) -> usize
-    requires small { length bytes.now ≤ template_limit }
+    requires small { length bytes.now ≤ text_limit }
     requires within { at < length bytes.now }
     ensures is { result ≡ byte_width (slice_index bytes.now at) (drop (at + 1) bytes.now) }
     ensures within { at + result ≤ length bytes.now + 1 }
@@ -92,7 +94,7 @@ fn byte_width(bytes: &[u8], at: usize) -> usize
 
 /// The same where the text may end at the place.
 fn token_width(bytes: &[u8], at: usize) -> usize
-    requires small { length bytes.now ≤ template_limit }
+    requires small { length bytes.now ≤ text_limit }
     requires within { at ≤ length bytes.now }
     ensures is { result ≡ token_width (drop at bytes.now) }
     ensures within { at + result ≤ length bytes.now + 1 }
@@ -112,7 +114,7 @@ fn is_hidden(next: Ahead) -> bool
 
 /// The same by the token.
 fn width(bytes: &[u8], next: Ahead) -> usize
-    requires small { length bytes.now ≤ template_limit }
+    requires small { length bytes.now ≤ text_limit }
     requires within { next.at ≤ length bytes.now }
     ensures is { result ≡ width next (drop next.at bytes.now) }
     ensures within { next.at + result ≤ length bytes.now + 1 }
@@ -139,7 +141,7 @@ fn past_return(bytes: &[u8], place: usize) -> usize
 
 /// A place at which a text shows what it has ahead, or its length.
 pub(crate) fn told_place(text: &str, next: Ahead) -> u32
-    requires small { length text.now ≤ template_limit }
+    requires small { length text.now ≤ text_limit }
     requires within { next.at ≤ length text.now }
     ensures { result ≡ told_place text.now next }
 {
@@ -152,7 +154,7 @@ pub(crate) fn told_place(text: &str, next: Ahead) -> u32
 
 /// A place, or that of the text's last byte where it is the length.
 fn within(text: &str, place: u32) -> u32
-    requires small { length text.now ≤ template_limit }
+    requires small { length text.now ≤ text_limit }
     ensures { result ≡ within text.now place }
 {
     let size = offset(text.len());
@@ -167,31 +169,21 @@ fn within(text: &str, place: u32) -> u32
 
 /// A place at which a text shows what it has ahead, or that of its last byte.
 pub(crate) fn last_told(text: &str, next: Ahead) -> u32
-    requires small { length text.now ≤ template_limit }
+    requires small { length text.now ≤ text_limit }
     requires within { next.at ≤ length text.now }
     ensures { result ≡ last_told text.now next }
 {
     within(text, told_place(text, next))
 }
 
-/// Whether a plain scalar between brackets that ends in front of a token may go on where other bytes stand behind it.
-fn is_open(token: Token) -> bool
-    ensures { result ≡ is_open token }
-{
-    match token {
-        Token::End | Token::Dashes | Token::Dots | Token::Point { .. } => true,
-        _ => false,
-    }
-}
-
-/// Between brackets: a place at which a text shows what it has ahead; but where a plain scalar cannot go on, that of its last
-/// byte for its length.
+/// Between brackets: a place at which a text shows what it has ahead; but where something is ahead, that of its last byte for its
+/// length.
 pub(crate) fn flow_place(text: &str, next: Ahead) -> u32
-    requires small { length text.now ≤ template_limit }
+    requires small { length text.now ≤ text_limit }
     requires within { next.at ≤ length text.now }
     ensures { result ≡ flow_place text.now next }
 {
-    if is_ending(next.token) || is_open(next.token) {
+    if is_ending(next.token) {
         return told_place(text, next);
     }
     last_told(text, next)
@@ -209,7 +201,7 @@ pub(crate) fn is_dash(token: Token) -> bool
 
 /// The same; where a `-` ends the text, its length.
 pub(crate) fn dash_place(text: &str, next: Ahead) -> u32
-    requires small { length text.now ≤ template_limit }
+    requires small { length text.now ≤ text_limit }
     requires within { next.at ≤ length text.now }
     ensures { result ≡ dash_place text.now next }
 {
@@ -231,7 +223,7 @@ fn ends_in_dots(text: &str, next: Ahead) -> bool
 /// Behind the root: a place at which a text shows what it has ahead, or that of its last byte; where it ends in dots that may
 /// end the document, its length.
 pub(crate) fn root_place(text: &str, next: Ahead) -> u32
-    requires small { length text.now ≤ template_limit }
+    requires small { length text.now ≤ text_limit }
     requires within { next.at ≤ length text.now }
     ensures { result ≡ root_place text.now next }
 {
@@ -254,7 +246,7 @@ fn further(first: usize, second: usize) -> usize
 /// Where a scalar fails at a token: the place where it does, and not before one that shows what is ahead; the text's length
 /// where it does at the text's end.
 fn failed_place(text: &str, next: Ahead, at: u32) -> u32
-    requires small { length text.now ≤ template_limit }
+    requires small { length text.now ≤ text_limit }
     requires within { next.at ≤ length text.now }
     ensures { result ≡ failed_place text.now next at }
 {
@@ -268,7 +260,7 @@ fn failed_place(text: &str, next: Ahead, at: u32) -> u32
 
 /// The same by the refusal; the text's length where it says no place.
 pub(crate) fn refused_place(text: &str, next: Ahead, refusal: ScalarRefusal) -> u32
-    requires small { length text.now ≤ template_limit }
+    requires small { length text.now ≤ text_limit }
     requires within { next.at ≤ length text.now }
     ensures { result ≡ refused_place text.now next refusal }
 {
@@ -279,10 +271,69 @@ pub(crate) fn refused_place(text: &str, next: Ahead, refusal: ScalarRefusal) -> 
     }
 }
 
+/// Whether there is a line feed at a place or behind it.
+fn has_break(bytes: &[u8], start: usize) -> bool
+    requires { start ≤ length bytes.now }
+    ensures { result ≡ has_break (drop start bytes.now) }
+{
+    for i in start..bytes.len() {
+        if bytes[i] == b'\n' {
+            return true;
+        }
+    }
+    false
+}
+
+/// Whether `|` or `>` stands at a place.
+fn begins_block(bytes: &[u8], at: usize) -> bool
+    requires { at ≤ length bytes.now }
+    ensures is { result ≡ (begins_with 124 (drop at bytes.now) || begins_with 62 (drop at bytes.now)) }
+    ensures some { result ≡ true → 0 < length bytes.now }
+{
+    has_byte(bytes, at, b'|') || has_byte(bytes, at, b'>')
+}
+
+/// Whether the text ends in a `-` on a line below the one of `|` or `>` at a token.
+fn ends_in_dash(text: &str, next: Ahead) -> bool
+    requires within { next.at ≤ length text.now }
+    ensures { result ≡ ends_in_dash text.now next }
+{
+    let bytes = text.as_bytes();
+    if !begins_block(bytes, next.at) {
+        return false;
+    }
+    has_byte(bytes, bytes.len() - 1, b'-') && has_break(bytes, next.at)
+}
+
+/// The place where a block scalar fails at a token; that of the last byte where it is a dash below a wide blank line, since only
+/// a line `---` could come of it.
+fn torn_place(text: &str, next: Ahead, place: u32) -> u32
+    requires small { length text.now ≤ text_limit }
+    requires within { next.at ≤ length text.now }
+    ensures { result ≡ torn_place text.now next place }
+{
+    if place == offset(text.len()) && ends_in_dash(text, next) {
+        return offset(text.len() - 1);
+    }
+    place
+}
+
+/// The same by why reading stops.
+pub(crate) fn torn_stop(text: &str, next: Ahead, stop: Stop) -> Stop
+    requires small { length text.now ≤ text_limit }
+    requires within { next.at ≤ length text.now }
+    ensures { result ≡ torn_stop text.now next stop }
+{
+    match stop {
+        Stop::Unread(place) => Stop::Unread(torn_place(text, next, place)),
+        _ => stop,
+    }
+}
+
 /// Behind a key that no colon follows: the first byte that is no white space, the line's end among them; behind a colon the
 /// next.
 pub(crate) fn colon_place(text: &str, end: usize) -> u32
-    requires small { length text.now ≤ template_limit }
+    requires small { length text.now ≤ text_limit }
     requires boundary { IsCharBoundary text.now end }
     ensures { result ≡ colon_place text.now end }
 {

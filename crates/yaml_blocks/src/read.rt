@@ -1,24 +1,29 @@
 //! A whole text.
-ghost use Rattle.std.specs.Prelude.{◌≡◌, ◌≤◌, ◌<◌, ◌^◌, length, true, false, None, IsErrOf, IfOk, MatchResult};
+ghost use Rattle.std.specs.Prelude.{ℕ, ◌≡◌, ◌≤◌, ◌<◌, ◌^◌, length, true, false, None, IsErrOf, IfOk, MatchResult};
 ghost use Rattle.std.specs.Result.{IfErr};
 ghost use Rattle.std.specs.Str.{IsCharBoundary};
 ghost use Rattle.doc_values.specs.Limits.{template_limit};
+ghost use Rattle.yaml_scalars.specs.code.Limits.{text_limit};
 ghost use Rattle.doc_values.specs.Tree.{size};
+ghost use Rattle.yaml_scalars.specs.Lines.{ends_with};
 ghost use Rattle.yaml_scalars.specs.Scalar.{begins_order_mark};
 ghost use Rattle.yaml_blocks.specs.Answers.{Reads, Refuses};
 ghost use Rattle.yaml_blocks.specs.code.Memory.{BeginsDocument};
-ghost use Rattle.yaml_blocks.specs.code.Places.{StopsAt};
-ghost use Rattle.yaml_blocks.specs.code.Refused.{of_stop};
+ghost use Rattle.yaml_blocks.specs.code.PlacedTexts.{IsPlacedText};
+ghost use Rattle.yaml_blocks.specs.code.Places.{IsSyntaxStop, StopsAt};
+ghost use Rattle.yaml_blocks.specs.code.ReadAgain.{SignsAgain};
+ghost use Rattle.yaml_blocks.specs.code.Refused.{IsStopped, of_stop};
 ghost use Rattle.yaml_blocks.specs.code.Twins.{FixesStart};
 ghost use Rattle.yaml_blocks.specs.Yaml.{IsStart, start_sign, text_start};
 
 use crate::ahead::{Token, look};
-use crate::place::told_place;
+use crate::place::last_told;
 use crate::refusal::YamlRefusal;
 use crate::sign::start_sign;
 use crate::stage::Stage;
 use crate::step::{root, step};
 use crate::stop::{Stop, refusal_of};
+use crate::twice::read_placed;
 use doc_values::{Doc, DocBuilder};
 use std::alloc::Global;
 
@@ -30,19 +35,21 @@ pub fn read_yaml<'s>(alloc: Global, text: &'s str) -> Result<Doc<'s>, YamlRefusa
     ensures small { IfOk result (λ d. size d < 2 ^ 31) }
     ensures memory { IsErrOf result YamlRefusal.NoMemory → BeginsDocument text.now }
 {
-    match read_document(alloc, text) {
+    match read_placed(alloc, text) {
         Ok(doc) => Ok(doc),
         Err(stop) => Err(refusal_of(stop)),
     }
 }
 
 /// The same tree, or why reading stops.
-fn read_document<'s>(alloc: Global, text: &'s str) -> Result<Doc<'s>, Stop>
-    requires { length text.now ≤ template_limit }
-    ensures answer { MatchResult result (λ d. Reads text.now d) (λ e. Refuses text.now (of_stop e)) }
+pub(crate) fn read_document<'s>(alloc: Global, text: &'s str) -> Result<Doc<'s>, Stop>
+    requires { length text.now ≤ text_limit }
+    ensures answer { MatchResult result (λ d. Reads text.now d) (λ e. IsStopped text.now e) }
     ensures small { IfOk result (λ d. size d < 2 ^ 31) }
     ensures memory { IsErrOf result Stop.NoMemory → BeginsDocument text.now }
     ensures place { IfErr result (λ e. StopsAt text.now e) }
+    ensures syntax { IsPlacedText text.now → IfErr result (λ e. IsSyntaxStop text.now e) }
+    ensures again { IfErr result (λ e. SignsAgain text.now e) }
 {
     let start = match document_start(text) {
         Ok(start) => start,
@@ -81,7 +88,7 @@ fn begins_order_mark(bytes: &[u8]) -> bool
 }
 
 /// The place behind a byte order mark in front, if there is one.
-fn text_start(text: &str) -> usize
+pub(crate) fn text_start(text: &str) -> usize
     ensures is { result ≡ text_start text.now }
     ensures boundary { IsCharBoundary text.now result }
 {
@@ -93,12 +100,16 @@ fn text_start(text: &str) -> usize
 }
 
 /// Where the document begins: behind a line `---`, if there is one.
-fn document_start(text: &str) -> Result<usize, Stop>
-    requires { length text.now ≤ template_limit }
-    ensures start { MatchResult result (λ start. IsStart text.now start × IsCharBoundary text.now start × (start_sign text.now ≡ None)) (λ e. Refuses text.now (of_stop e)) }
+pub(crate) fn document_start(text: &str) -> Result<usize, Stop>
+    requires { length text.now ≤ text_limit }
+    ensures start { MatchResult result (λ start. IsStart text.now start × IsCharBoundary text.now start × (start_sign text.now ≡ None)) (λ e. IsStopped text.now e) }
     ensures fixes { IfOk result (λ start. FixesStart text.now start) }
     ensures no_memory { ¬ IsErrOf result Stop.NoMemory }
+    ensures behind { IfOk result (λ start. text_start text.now ≤ start) }
     ensures place { IfErr result (λ e. StopsAt text.now e) }
+    ensures shown { ends_with 13 text.now ≡ false → IfErr result (λ e. IsSyntaxStop text.now e) }
+    ensures again { IfErr result (λ e. SignsAgain text.now e) }
+    ensures nowhere { IfErr result (λ e. BeginsDocument text.now → ⊥) }
 {
     let at = text_start(text);
     let next = look(text, false, at);
@@ -112,7 +123,7 @@ fn document_start(text: &str) -> Result<usize, Stop>
             if further.fresh {
                 Ok(next.behind)
             } else {
-                Err(Stop::Unread(told_place(text, further)))
+                Err(Stop::Unread(last_told(text, further)))
             }
         }
         _ => Ok(at),

@@ -5,9 +5,10 @@ use thiserror::Error;
 /// Why a text is refused as a document.
 #[derive(Clone, Copy, Debug, Error)]
 pub enum YamlRefusal {
-    /// The text is no document of the profile. It comes where none of the refusals below counts.
+    /// The text is no document of the profile, and none of the refusals below counts: no document begins with the bytes up to
+    /// and with the one at this place, or the text ends too early, and this is its length.
     #[error("the text is not YAML in the part that is read")]
-    Unread,
+    Syntax(u32),
     /// A tab in the white space in front of a line's content; its place.
     #[error("a tab stands in the indentation")]
     Tab(u32),

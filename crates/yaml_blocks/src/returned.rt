@@ -1,6 +1,6 @@
 //! Texts that end in a carriage return: what they are with a line feed behind them decides.
 ghost use Rattle.std.specs.Prelude.{ℕ, suc, Bool, List, [], ◌∷◌, ◌++◌, ◌≡◌, ◌≤◌, ◌<◌, true, false, Some, length, drop};
-ghost use Rattle.doc_values.specs.Limits.{template_limit};
+ghost use Rattle.yaml_scalars.specs.code.Limits.{text_limit};
 ghost use Rattle.doc_values.specs.Tree.{Forest, has_key};
 ghost use Rattle.doc_values.specs.Unfinished.{Unfinished};
 ghost use Rattle.std.specs.Str.{IsCharBoundary, IsUtf8};
@@ -17,7 +17,7 @@ ghost use Rattle.yaml_blocks.specs.declared.form.Form.{Form};
 ghost use Rattle.yaml_blocks.specs.declared.form.Form.TheVariants.{Entries, Flow};
 ghost use Rattle.yaml_blocks.specs.Yaml.{IsYaml, start_sign};
 ghost use Rattle.yaml_blocks.specs.code.AheadSeen.{ahead_seen};
-ghost use Rattle.yaml_blocks.specs.code.Places.{IsDead, IsFront, IsSyntax};
+ghost use Rattle.yaml_blocks.specs.Places.{IsDead, IsFront, IsSyntax};
 ghost use Rattle.yaml_blocks.specs.code.ReadAgain.{StopsAgain};
 ghost use Rattle.yaml_blocks.specs.code.Twins.{IsTwin};
 
@@ -49,7 +49,7 @@ fn place_before(len: usize, at: usize) -> usize
 /// The place at which a text of this length that ends in a carriage return shows that it is no document, by why reading stops
 /// with a line feed behind it.
 pub(crate) fn returned_place(len: usize, again: Stop) -> u32
-    requires small { len ≤ template_limit }
+    requires small { len ≤ text_limit }
     requires some { 0 < len }
     ensures { (front : List ℕ) → len ≡ suc (length front) → StopsAgain ((front ++ (13 ∷ [])) ++ (10 ∷ [])) again → IsSyntax (front ++ (13 ∷ [])) result }
 {

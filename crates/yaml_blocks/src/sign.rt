@@ -1,10 +1,12 @@
 //! The signs that tell why a text is no document, but for equal keys and depth.
 ghost use Rattle.std.specs.Prelude.{◌≡◌, ◌≤◌, ◌&&◌, not, length, true, false, None, Some, option_map, nat_eq, if◌then◌else◌, MatchOption};
-ghost use Rattle.doc_values.specs.Limits.{template_limit};
+ghost use Rattle.std.specs.Str.{IsCharBoundary};
+ghost use Rattle.yaml_scalars.specs.code.Limits.{text_limit};
+ghost use Rattle.yaml_blocks.specs.Ahead.{ahead};
 ghost use Rattle.yaml_blocks.specs.Nodes.{node_sign, is_tagged, is_marked};
 ghost use Rattle.yaml_blocks.specs.code.Refused.{of_sign};
 ghost use Rattle.yaml_blocks.specs.code.Steps.{IsSeen, is_ending};
-ghost use Rattle.yaml_blocks.specs.Yaml.{is_content, late_sign, end_sign, text_start, start_sign};
+ghost use Rattle.yaml_blocks.specs.Yaml.{IsEnd, is_content, late_sign, end_sign, text_start, start_sign};
 
 use crate::ahead::{Ahead, Token, look};
 use crate::form::Form;
@@ -23,7 +25,7 @@ fn is_content(token: Token) -> bool
 
 /// The sign that a token is where a node or a key may begin, if it is one; `tagged` behind a tag.
 pub(crate) fn node_sign(tagged: bool, next: Ahead) -> Option<Stop>
-    requires { next.at ≤ template_limit }
+    requires { next.at ≤ text_limit }
     ensures { MatchOption result (node_sign tagged next.at next.token ≡ None) (λ e. Some e ≡ option_map of_sign (node_sign tagged next.at next.token)) }
 {
     match next.token {
@@ -79,8 +81,8 @@ fn late_place(mark: usize, next: Ahead) -> usize
 
 /// The sign that a token behind a mark is, if it is one.
 fn late_sign(mark: usize, next: Ahead) -> Option<Stop>
-    requires small { next.at ≤ template_limit }
-    requires mark { mark ≤ template_limit }
+    requires small { next.at ≤ text_limit }
+    requires mark { mark ≤ text_limit }
     ensures { result ≡ option_map of_sign (late_sign mark next next.token) }
 {
     match next.token {
@@ -92,7 +94,7 @@ fn late_sign(mark: usize, next: Ahead) -> Option<Stop>
 
 /// The sign that stands behind the root, if one does.
 pub(crate) fn end_sign(text: &str, at: usize, next: Ahead) -> Option<Stop>
-    requires small { length text.now ≤ template_limit }
+    requires small { length text.now ≤ text_limit }
     requires seen { IsSeen text.now false at next }
     ensures { result ≡ option_map of_sign (end_sign text.now at) }
 {
@@ -101,6 +103,33 @@ pub(crate) fn end_sign(text: &str, at: usize, next: Ahead) -> Option<Stop>
         Token::Dots => late_sign(next.at, look(text, false, next.behind)),
         Token::Tabbed => Some(Stop::Tab(offset(next.at))),
         _ => None,
+    }
+}
+
+/// Whether nothing stands behind a place.
+fn is_text_end(text: &str, at: usize) -> bool
+    requires small { length text.now ≤ text_limit }
+    requires boundary { IsCharBoundary text.now at }
+    ensures yes { result ≡ true → (ahead text.now false at).token ≡ Token.End }
+    ensures no { result ≡ false → (ahead text.now false at).token ≡ Token.End → ⊥ }
+{
+    match look(text, false, at).token {
+        Token::End => true,
+        _ => false,
+    }
+}
+
+/// Whether the document ends at a token.
+pub(crate) fn is_document_end(text: &str, at: usize, next: Ahead) -> bool
+    requires small { length text.now ≤ text_limit }
+    requires seen { IsSeen text.now false at next }
+    ensures yes { result ≡ true → IsEnd text.now at }
+    ensures no { result ≡ false → IsEnd text.now at → ⊥ }
+{
+    match next.token {
+        Token::End => true,
+        Token::Dots => is_text_end(text, next.behind),
+        _ => false,
     }
 }
 
@@ -120,7 +149,7 @@ fn is_first(next: Ahead) -> bool
 
 /// The sign that stands in front of the document, if one does.
 pub(crate) fn start_sign(text: &str, next: Ahead) -> Option<Stop>
-    requires small { length text.now ≤ template_limit }
+    requires small { length text.now ≤ text_limit }
     requires seen { IsSeen text.now false (text_start text.now) next }
     ensures { result ≡ option_map of_sign (start_sign text.now) }
 {

@@ -1,13 +1,20 @@
 //! One token of a document at a time, by where reading stands.
-ghost use Rattle.std.specs.Prelude.{ℕ, List, ◌≡◌, ◌≤◌, ◌*◌, ◌+◌, length, [], false, true};
+ghost use Rattle.std.specs.Prelude.{ℕ, List, ◌≡◌, ◌≤◌, ◌*◌, ◌+◌, length, [], false, true, IfOk};
 ghost use Rattle.std.specs.Result.{IfErr};
 ghost use Rattle.std.specs.Str.{IsCharBoundary, IsUtf8};
-ghost use Rattle.doc_values.specs.Limits.{template_limit};
+ghost use Rattle.yaml_scalars.specs.code.Limits.{text_limit};
 ghost use Rattle.doc_values.specs.Unfinished.{start};
+ghost use Rattle.yaml_blocks.specs.Ahead.{ahead};
+ghost use Rattle.yaml_blocks.specs.Nodes.{starts_scalar};
+ghost use Rattle.yaml_blocks.specs.code.Closers.{in_flow};
+ghost use Rattle.yaml_blocks.specs.code.ReadAgain.{SignStays};
 ghost use Rattle.yaml_blocks.specs.code.Rest.{top, Ends, Enters, Awaits, Begins};
+ghost use Rattle.yaml_blocks.specs.Ahead.{ahead};
+ghost use Rattle.yaml_blocks.specs.code.Extends.{ExtendsStep, ExtendsValue, Leaves, Shuts};
 ghost use Rattle.yaml_blocks.specs.code.Feeds.{FeedsStep};
-ghost use Rattle.yaml_blocks.specs.code.Twins.{StopsStep, IsKnown, Lengthens, FixesStep, FixesRoot};
-ghost use Rattle.yaml_blocks.specs.code.Steps.{stack, IsBlock, IsFlow, Open, Rest, Fits, SameStep, reached, Gives};
+ghost use Rattle.yaml_blocks.specs.code.Twins.{StopsStep, Lengthens, FixesStep, FixesRoot};
+ghost use Rattle.yaml_blocks.specs.code.Steps.{stack, IsBlock, IsFlow, Open, Rest, Fits, SameStep, reached, Gives, is_ending};
+ghost use Rattle.yaml_blocks.specs.Yaml.{text_start};
 
 use crate::ahead::look;
 use crate::form::Form;
@@ -27,14 +34,16 @@ fn entry<'s>(
     forms: &mut Vec<Form>,
     builder: &mut DocBuilder<'s>,
 ) -> Result<Position, Stop>
-    requires small { length text.now ≤ template_limit }
+    requires small { length text.now ≤ text_limit }
     requires boundary { IsCharBoundary text.now at }
     requires fits { Fits text.now Stage.Entry (stack forms.old.items) builder.old at }
     ensures gives { (other : List ℕ) → IsUtf8 other → IsCharBoundary other at → Fits other Stage.Entry (stack forms.old.items) builder.old at → SameStep text.now other Stage.Entry (top (stack forms.old.items)) at → Gives other (Enters other (stack forms.old.items) builder.old.outer builder.old.done at) (2 * at + 2) (stack forms.new.items) builder.new result }
     ensures fixes { FixesStep text.now Stage.Entry (top (stack forms.old.items)) at result }
     ensures feeds { FeedsStep text.now Stage.Entry (top (stack forms.old.items)) at (stack forms.new.items) result }
     ensures stops { StopsStep text.now Stage.Entry (stack forms.old.items) builder.old at result }
-    ensures longer { IsKnown text.now Stage.Entry (top (stack forms.old.items)) at → Lengthens text.now Stage.Entry (stack forms.old.items) builder.old at result }
+    ensures shuts { Shuts text.now at (stack forms.new.items) result }
+    ensures longer { Lengthens text.now Stage.Entry (stack forms.old.items) builder.old at result }
+    ensures again { starts_scalar (ahead text.now (in_flow (top (stack forms.old.items))) at).token ≡ true → SignStays text.now Stage.Entry (stack forms.old.items) builder.old at result }
 {
     match innermost(forms) {
         Form::Flow { map } => flow::entry(alloc, text, at, map, forms, builder),
@@ -65,14 +74,17 @@ fn value<'s>(
     forms: &mut Vec<Form>,
     builder: &mut DocBuilder<'s>,
 ) -> Result<Position, Stop>
-    requires small { length text.now ≤ template_limit }
+    requires small { length text.now ≤ text_limit }
     requires boundary { IsCharBoundary text.now at }
     requires fits { Fits text.now Stage.Value (stack forms.old.items) builder.old at }
     ensures gives { (other : List ℕ) → IsUtf8 other → IsCharBoundary other at → Fits other Stage.Value (stack forms.old.items) builder.old at → SameStep text.now other Stage.Value (top (stack forms.old.items)) at → Gives other (Awaits other (stack forms.old.items) builder.old.outer builder.old.done builder.old.key at) (2 * at + 1) (stack forms.new.items) builder.new result }
     ensures fixes { FixesStep text.now Stage.Value (top (stack forms.old.items)) at result }
     ensures feeds { FeedsStep text.now Stage.Value (top (stack forms.old.items)) at (stack forms.new.items) result }
     ensures stops { StopsStep text.now Stage.Value (stack forms.old.items) builder.old at result }
-    ensures longer { IsKnown text.now Stage.Value (top (stack forms.old.items)) at → Lengthens text.now Stage.Value (stack forms.old.items) builder.old at result }
+    ensures shuts { IsFlow (top (stack forms.old.items)) → Shuts text.now at (stack forms.new.items) result }
+    ensures longer { Lengthens text.now Stage.Value (stack forms.old.items) builder.old at result }
+    ensures extends { IsBlock (top (stack forms.old.items)) → ExtendsValue text.now (stack forms.old.items) builder.old at (stack forms.new.items) builder.new result }
+    ensures again { starts_scalar (ahead text.now (in_flow (top (stack forms.old.items))) at).token ≡ true → SignStays text.now Stage.Value (stack forms.old.items) builder.old at result }
 {
     let form = innermost(forms);
     if is_flow(form) {
@@ -89,14 +101,18 @@ fn after<'s>(
     forms: &mut Vec<Form>,
     builder: &mut DocBuilder<'s>,
 ) -> Result<Position, Stop>
-    requires small { length text.now ≤ template_limit }
+    requires small { length text.now ≤ text_limit }
     requires boundary { IsCharBoundary text.now at }
+    requires behind { text_start text.now ≤ at }
     requires fits { Fits text.now Stage.After (stack forms.old.items) builder.old at }
     ensures gives { (other : List ℕ) → IsUtf8 other → IsCharBoundary other at → Fits other Stage.After (stack forms.old.items) builder.old at → SameStep text.now other Stage.After (top (stack forms.old.items)) at → Gives other (Ends other (stack forms.old.items) builder.old.outer builder.old.done at) (2 * at + 2) (stack forms.new.items) builder.new result }
     ensures fixes { FixesStep text.now Stage.After (top (stack forms.old.items)) at result }
     ensures feeds { FeedsStep text.now Stage.After (top (stack forms.old.items)) at (stack forms.new.items) result }
     ensures stops { StopsStep text.now Stage.After (stack forms.old.items) builder.old at result }
-    ensures longer { IsKnown text.now Stage.After (top (stack forms.old.items)) at → Lengthens text.now Stage.After (stack forms.old.items) builder.old at result }
+    ensures shuts { IsFlow (top (stack forms.old.items)) → Shuts text.now at (stack forms.new.items) result }
+    ensures longer { Lengthens text.now Stage.After (stack forms.old.items) builder.old at result }
+    ensures leaves { IsBlock (top (stack forms.old.items)) → Leaves result }
+    ensures again { starts_scalar (ahead text.now (in_flow (top (stack forms.old.items))) at).token ≡ true → SignStays text.now Stage.After (stack forms.old.items) builder.old at result }
 {
     match innermost(forms) {
         Form::Flow { map } => flow::after(text, at, map, forms, builder),
@@ -113,15 +129,18 @@ pub(crate) fn step<'s>(
     forms: &mut Vec<Form>,
     builder: &mut DocBuilder<'s>,
 ) -> Result<Position, Stop>
-    requires small { length text.now ≤ template_limit }
+    requires small { length text.now ≤ text_limit }
     requires boundary { IsCharBoundary text.now position.at }
+    requires behind { text_start text.now ≤ position.at }
     requires open { position.stage ≡ Stage.Whole → ⊥ }
     requires fits { Fits text.now position.stage (stack forms.old.items) builder.old position.at }
     ensures gives { (other : List ℕ) → IsUtf8 other → IsCharBoundary other position.at → Fits other position.stage (stack forms.old.items) builder.old position.at → SameStep text.now other position.stage (top (stack forms.old.items)) position.at → Gives other (Rest other position.stage (stack forms.old.items) builder.old position.at) (reached position.stage position.at) (stack forms.new.items) builder.new result }
     ensures fixes { FixesStep text.now position.stage (top (stack forms.old.items)) position.at result }
     ensures feeds { FeedsStep text.now position.stage (top (stack forms.old.items)) position.at (stack forms.new.items) result }
     ensures stops { StopsStep text.now position.stage (stack forms.old.items) builder.old position.at result }
-    ensures longer { IsKnown text.now position.stage (top (stack forms.old.items)) position.at → Lengthens text.now position.stage (stack forms.old.items) builder.old position.at result }
+    ensures longer { Lengthens text.now position.stage (stack forms.old.items) builder.old position.at result }
+    ensures extends { ExtendsStep text.now position.stage (stack forms.old.items) builder.old position.at (stack forms.new.items) builder.new result }
+    ensures again { starts_scalar (ahead text.now (in_flow (top (stack forms.old.items))) position.at).token ≡ true → SignStays text.now position.stage (stack forms.old.items) builder.old position.at result }
 {
     match position.stage {
         Stage::Entry => entry(alloc, text, position.at, forms, builder),
@@ -133,12 +152,15 @@ pub(crate) fn step<'s>(
 
 /// Where the root stands, or that there is none.
 pub(crate) fn root(text: &str, at: usize, builder: &mut DocBuilder) -> Result<Position, Stop>
-    requires small { length text.now ≤ template_limit }
+    requires small { length text.now ≤ text_limit }
     requires boundary { IsCharBoundary text.now at }
     requires fits { builder.old ≡ start }
     ensures gives { Gives text.now (Begins text.now at) 0 [] builder.new result }
     ensures fixes { FixesRoot text.now at builder.new result }
     ensures memory { IfErr result (λ e. e ≡ Stop.NoMemory) }
+    ensures there { IfOk result (λ p. p.at ≡ at) }
+    ensures going { is_ending (ahead text.now false at).token ≡ false → IfOk result (λ p. (p.stage ≡ Stage.Value) × (builder.new ≡ start)) }
+    ensures ended { IfOk result (λ p. p.stage ≡ Stage.After → is_ending (ahead text.now false at).token ≡ true) }
 {
     if is_ending(look(text, false, at).token) {
         return take_null(text.len(), at, builder);

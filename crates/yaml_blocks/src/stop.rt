@@ -6,7 +6,7 @@ use crate::refusal::YamlRefusal;
 use doc_values::BuildRefusal;
 use yaml_scalars::ScalarRefusal;
 
-/// Why reading stops: a refusal of the text. Where no sign counts it has a place too, which the refusal does not say yet.
+/// Why reading stops: a refusal of the text. Where no sign counts, the place is one at which the text is no document.
 #[derive(Clone, Copy)]
 pub(crate) enum Stop {
     Unread(u32),
@@ -51,7 +51,7 @@ pub(crate) fn refusal_of(stop: Stop) -> YamlRefusal
     ensures { result ≡ of_stop stop }
 {
     match stop {
-        Stop::Unread(_) => YamlRefusal::Unread,
+        Stop::Unread(at) => YamlRefusal::Syntax(at),
         Stop::Tab(at) => YamlRefusal::Tab(at),
         Stop::Anchor(at) => YamlRefusal::Anchor(at),
         Stop::Tag(at) => YamlRefusal::Tag(at),

@@ -2,9 +2,10 @@
 use Rattle.std.specs.Prelude.{ℕ, zero, suc, ◌≡◌, ◌⊎◌, ◌<◌, ◌≤◌, Bool, true, false, List, [], ◌∷◌, ◌++◌, ◌||◌, Option, length, drop, nat_eq}
 use Rattle.doc_values.specs.Tree.{Forest}
 use Rattle.doc_values.specs.Unfinished.{Level}
-use Rattle.yaml_scalars.specs.Lines.{Stands, Fails, each, is_cut_mark}
+use Rattle.yaml_scalars.specs.Lines.{Stands, Fails, begins_with, each, is_cut_mark}
 use Rattle.yaml_scalars.specs.Scalar.{scalar_at}
 use Rattle.yaml_scalars.specs.code.Walk.{line_at}
+use Rattle.yaml_laws.specs.code.Dots.{undotted}
 use Rattle.yaml_laws.specs.code.Refusals.{is_ascii}
 use Rattle.yaml_blocks.specs.declared.ahead.Ahead.{Ahead}
 use Rattle.yaml_blocks.specs.declared.ahead.Token.{Token}
@@ -82,3 +83,7 @@ HasColon text a t e p = (scalar_ahead text (as_key false) a ≡ Stands t e) × (
 abbrev pub letters : ℕ → List ℕ
 letters zero = []
 letters (suc n) = 97 ∷ letters n
+
+-- a list of two may stand for a scalar, or no dot stands so far among its bytes
+abbrev pub HasRoom : List ℕ → ℕ → ℕ → Type 0
+HasRoom text at depth = (depth < 128) ⊎ (undotted (begins_with 34 (drop at text)) false (drop at text) ≡ true)

@@ -1,5 +1,5 @@
 -- What a refusal of a layer below, and a sign, is for the reader, and why it stops as a refusal of the text.
-use Rattle.std.specs.Prelude.{ℕ}
+use Rattle.std.specs.Prelude.{ℕ, List}
 use Rattle.doc_values.specs.declared.builder.BuildRefusal.{BuildRefusal}
 use Rattle.doc_values.specs.declared.builder.BuildRefusal.TheVariants as build
 use Rattle.yaml_scalars.specs.declared.scalar.ScalarRefusal.{ScalarRefusal}
@@ -8,6 +8,7 @@ use Rattle.yaml_blocks.specs.declared.refusal.YamlRefusal.{YamlRefusal}
 use Rattle.yaml_blocks.specs.declared.refusal.YamlRefusal.TheVariants as refusal
 use Rattle.yaml_blocks.specs.declared.stop.Stop.{Stop}
 use Rattle.yaml_blocks.specs.declared.stop.Stop.TheVariants.{Unread, Tab, Anchor, Tag, Directive, ManyDocuments, DuplicateKey, TooDeep, NoMemory}
+use Rattle.yaml_blocks.specs.Answers.{IsSignOf, IsUnread}
 use Rattle.yaml_blocks.specs.Signs as sign
 use Rattle.yaml_blocks.specs.Signs.{Sign}
 
@@ -31,7 +32,7 @@ of_sign (sign.DuplicateKey at) = DuplicateKey at
 of_sign (sign.TooDeep at) = TooDeep at
 
 abbrev pub of_stop : Stop → YamlRefusal
-of_stop (Unread at) = refusal.Unread
+of_stop (Unread at) = refusal.Syntax at
 of_stop (Tab at) = refusal.Tab at
 of_stop (Anchor at) = refusal.Anchor at
 of_stop (Tag at) = refusal.Tag at
@@ -40,3 +41,15 @@ of_stop (ManyDocuments at) = refusal.ManyDocuments at
 of_stop (DuplicateKey at) = refusal.DuplicateKey at
 of_stop (TooDeep at) = refusal.TooDeep at
 of_stop NoMemory = refusal.NoMemory
+
+-- what is said of a text for which reading stops, but for the place
+abbrev pub IsStopped : List ℕ → Stop → Type 0
+IsStopped text (Unread at) = IsUnread text
+IsStopped text (Tab at) = IsSignOf text (sign.Tab at)
+IsStopped text (Anchor at) = IsSignOf text (sign.Anchor at)
+IsStopped text (Tag at) = IsSignOf text (sign.Tag at)
+IsStopped text (Directive at) = IsSignOf text (sign.Directive at)
+IsStopped text (ManyDocuments at) = IsSignOf text (sign.ManyDocuments at)
+IsStopped text (DuplicateKey at) = IsSignOf text (sign.DuplicateKey at)
+IsStopped text (TooDeep at) = IsSignOf text (sign.TooDeep at)
+IsStopped text NoMemory = Unit {0}

@@ -3,7 +3,7 @@ use Rattle.std.specs.Prelude.{ℕ, suc, ◌+◌, ◌*◌, ◌<◌, ◌≤◌, �
 use Rattle.std.specs.Str.{IsCharBoundary}
 use Rattle.std.specs.Cow.{cow_str_bytes}
 use Rattle.std.specs.List.{before_first, after_first}
-use Rattle.doc_values.specs.Limits.{template_limit}
+use Rattle.yaml_scalars.specs.code.Limits.{text_limit}
 use Rattle.doc_values.specs.declared.kind.Kind.{Kind}
 use Rattle.doc_values.specs.declared.kind.Kind.TheVariants as kind
 use Rattle.doc_values.specs.Tree.{Forest, is_map, has_text}
@@ -28,6 +28,7 @@ use Rattle.yaml_blocks.specs.Nodes.{tag_name, tag_key, follows_get_att, setting_
 use Rattle.yaml_blocks.specs.Signs as sign
 use Rattle.yaml_blocks.specs.Signs.{Sign, Tab, Directive, ManyDocuments, DuplicateKey, TooDeep, Reading, Tree, Refused}
 use Rattle.yaml_blocks.specs.Blocks.{takes_scalar, takes_mapping, takes_sequence, takes_tag, or_else, last_place, ends_name, IsBare, IsKey}
+use Rattle.yaml_blocks.specs.code.Points.{is_point, is_pointed}
 use Rattle.yaml_blocks.specs.code.Rest.{top, Ends, Enters, Awaits}
 
 -- the forms of the open collections, the innermost last, as a list of which it is the first
@@ -108,9 +109,9 @@ abbrev pub IsSmall : Form → Type 0
 IsSmall Root = Unit {0}
 IsSmall (Flow map) = Unit {0}
 IsSmall (FlowTagged at) = Unit {0}
-IsSmall (Items m) = m ≤ template_limit
-IsSmall (Entries m) = m ≤ template_limit
-IsSmall (Tagged at above shares) = above ≤ 8388609
+IsSmall (Items m) = m ≤ text_limit
+IsSmall (Entries m) = m ≤ text_limit
+IsSmall (Tagged at above shares) = above ≤ 8388610
 
 abbrev pub Nests : List Form → Type 0
 Nests [] = Unit {0}
@@ -224,7 +225,7 @@ Fits text stage.Whole fs u i = u.outer ≡ []
 
 -- a node outside of flow is awaited at a place, in a form, and what is ahead of it was seen
 pub record Awaited (text : List ℕ) (fs : List Form) (u : Unfinished) (f : Form) (i : ℕ) (a : Ahead) : Type 0 where
-  pub small : a.at ≤ template_limit
+  pub small : a.at ≤ text_limit
   pub boundary : IsCharBoundary text i
   pub seen : IsSeen text false i a
   pub form : top fs ≡ f
@@ -324,19 +325,21 @@ pub record SameKey (text other : List ℕ) (a : Ahead) : Type 0 where
   pub last : (t : List ℕ) (j : ℕ) → scalar_ahead text (as_key false) a ≡ Stands t j → IsCharBoundary text (ahead text false j).behind → IsCharBoundary other (ahead text false j).behind
 
 -- whatever node begins at a token of a text begins there in another: a tag, a scalar where no key stands, or a key where one
--- does
+-- does; where a colon that ends the text follows a plain scalar on its line, a colon does
 pub record SameNode (text other : List ℕ) (f : Form) (i : ℕ) (a : Ahead) : Type 0 where
   pub name : (len : ℕ) → takes_tag f a ≡ true → a.token ≡ Tag len → tag_name other a.at a.behind ≡ tag_name text a.at a.behind
   pub cuts : follows_get_att other f i ≡ follows_get_att text f i
   pub scalar : takes_scalar f a ≡ true → (takes_mapping f a ≡ true → NoKey text a) → SameScalar text other (setting_of f) a
   pub none : takes_mapping f a ≡ true → NoKey text a → NoKey other a
   pub key : takes_mapping f a ≡ true → (k : Key) → HasKey text a k → HasKey other a k
+  pub point : takes_scalar f a ≡ true → (takes_mapping f a ≡ true → NoKey text a) → (t : List ℕ) (j : ℕ) → scalar_ahead text (setting_of f) a ≡ Stands t j → is_pointed text false a.at j ≡ true → (is_point (ahead other false j).token ≡ true) × ((ahead other false j).fresh ≡ false)
 
--- whatever node begins at a token in flow
+-- whatever node begins at a token in flow; where a colon that ends the text follows a plain scalar, a colon does
 pub record SameFlowNode (text other : List ℕ) (f : Form) (i : ℕ) (a : Ahead) : Type 0 where
   pub name : (len : ℕ) → a.token ≡ Tag len → tag_name other a.at a.behind ≡ tag_name text a.at a.behind
   pub cuts : follows_get_att other f i ≡ follows_get_att text f i
   pub scalar : SameScalar text other (setting_of f) a
+  pub point : (t : List ℕ) (j : ℕ) → scalar_ahead text (setting_of f) a ≡ Stands t j → is_pointed text true a.at j ≡ true → is_point (ahead other true j).token ≡ true
 
 -- a key in flow, and the same is behind it
 pub record SameFlowKey (text other : List ℕ) (a : Ahead) : Type 0 where

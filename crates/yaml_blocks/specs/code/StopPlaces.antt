@@ -5,13 +5,15 @@ use Rattle.yaml_scalars.specs.declared.scalar.ScalarRefusal.{ScalarRefusal}
 use Rattle.yaml_scalars.specs.declared.scalar.ScalarRefusal.TheVariants as refusal
 use Rattle.yaml_scalars.specs.Lines.{begins_with, is_white, lead}
 use Rattle.yaml_scalars.specs.Block.{same, widest}
-use Rattle.yaml_scalars.specs.code.Walk.{line_at}
+use Rattle.yaml_scalars.specs.code.Walk.{has_break, line_at}
 use Rattle.yaml_blocks.specs.declared.ahead.Ahead.{Ahead}
 use Rattle.yaml_blocks.specs.declared.ahead.Token.{Token}
 use Rattle.yaml_blocks.specs.declared.ahead.Token.TheVariants.{Stray}
+use Rattle.yaml_blocks.specs.declared.stop.Stop.{Stop}
+use Rattle.yaml_blocks.specs.declared.stop.Stop.TheVariants as stop
 use Rattle.yaml_blocks.specs.Ahead.{is_name}
 use Rattle.yaml_blocks.specs.code.AheadSeen.{first_return}
-use Rattle.yaml_blocks.specs.code.Steps.{is_dash, is_ending, is_open}
+use Rattle.yaml_blocks.specs.code.Steps.{is_dash, is_ending}
 
 -- whether a token is a stray carriage return, or a comment that has one
 abbrev pub is_stray : Token → Bool
@@ -54,9 +56,9 @@ within text q = if nat_lt q (length text) then q else length text - 1
 abbrev pub last_told : List ℕ → Ahead → ℕ
 last_told text a = within text (told_place text a)
 
--- between brackets, where a plain scalar may go on or nothing is ahead, the first of the two
+-- between brackets, where nothing is ahead, the first of the two
 abbrev pub flow_place : List ℕ → Ahead → ℕ
-flow_place text a = if is_ending a.token || is_open a.token then told_place text a else last_told text a
+flow_place text a = if is_ending a.token then told_place text a else last_told text a
 
 -- where a `-` ends the text, its length
 abbrev pub dash_place : List ℕ → Ahead → ℕ
@@ -78,6 +80,17 @@ abbrev pub refused_place : List ℕ → Ahead → ScalarRefusal → ℕ
 refused_place text a (refusal.Syntax at) = failed_place text a at
 refused_place text a refusal.NoMemory = length text
 refused_place text a (refusal.ManyDocuments at) = length text
+
+-- where the text ends in a `-` on a line below the one of `|` or `>` at a token, the place of that byte for its length
+abbrev pub ends_in_dash : List ℕ → Ahead → Bool
+ends_in_dash text a = (begins_with 124 (drop a.at text) || begins_with 62 (drop a.at text)) && (begins_with 45 (drop (length text - 1) text) && has_break (drop a.at text))
+
+abbrev pub torn_place : List ℕ → Ahead → ℕ → ℕ
+torn_place text a q = if nat_eq q (length text) && ends_in_dash text a then length text - 1 else q
+
+abbrev pub torn_stop : List ℕ → Ahead → Stop → Stop
+torn_stop text a (stop.Unread q) = stop.Unread (torn_place text a q)
+torn_stop text a e = e
 
 -- behind a key that no colon follows: the first byte that is no white space, the line's end among them; behind `:` the next
 abbrev pub colon_place : List ℕ → ℕ → ℕ

@@ -1,16 +1,16 @@
 -- What the bytes that were looked at fix: it is so in each text that has them too.
-use Rattle.std.specs.Prelude.{ℕ, suc, ◌-◌, ◌++◌, ◌≡◌, ◌≤◌, ◌<◌, ◌⊎◌, ◌&&◌, not, length, Bool, true, false, List, [], Result, Ok, Err, IsUtf8, drop, if◌then◌else◌}
+use Rattle.std.specs.Prelude.{ℕ, suc, ◌-◌, ◌++◌, ◌≡◌, ◌≤◌, ◌<◌, ◌⊎◌, ◌||◌, ◌&&◌, not, length, Bool, true, false, List, [], Result, Ok, Err, IsUtf8, drop, if◌then◌else◌}
 use Rattle.std.specs.Str.{IsCharBoundary}
 use Rattle.doc_values.specs.Tree.{Forest}
 use Rattle.doc_values.specs.Unfinished.{Unfinished}
 use Rattle.yaml_scalars.specs.declared.scalar.Setting.{Setting}
-use Rattle.yaml_scalars.specs.Lines.{begins_with, each, ends_with, Fails, Stands}
-use Rattle.yaml_scalars.specs.Scalar.{begins_order_mark, begins_block, begins_quoted}
-use Rattle.yaml_scalars.specs.code.Walk.{ends_line, has_break}
+use Rattle.yaml_scalars.specs.Lines.{begins_with, each, ends_with, Fails}
+use Rattle.yaml_scalars.specs.Scalar.{begins_order_mark, begins_block}
+use Rattle.yaml_scalars.specs.code.Walk.{ends_line}
 use Rattle.yaml_laws.specs.code.Agreement.{AgreesTo}
 use Rattle.yaml_laws.specs.code.Refusals.{is_ascii}
 use Rattle.yaml_blocks.specs.declared.ahead.Ahead.{Ahead}
-use Rattle.yaml_blocks.specs.declared.ahead.Token.TheVariants.{Dash, End, Point}
+use Rattle.yaml_blocks.specs.declared.ahead.Token.TheVariants.{Dash}
 use Rattle.yaml_blocks.specs.declared.form.Form.{Form}
 use Rattle.yaml_blocks.specs.declared.form.Form.TheVariants.{Root, Flow, FlowTagged, Items, Entries, Tagged}
 use Rattle.yaml_blocks.specs.declared.stage.Stage.{Stage}
@@ -19,15 +19,15 @@ use Rattle.yaml_blocks.specs.declared.stage.Position.{Position}
 use Rattle.yaml_blocks.specs.declared.stop.Stop.{Stop}
 use Rattle.yaml_blocks.specs.declared.stop.Stop.TheVariants as stop
 use Rattle.yaml_blocks.specs.Ahead.{ahead}
-use Rattle.yaml_blocks.specs.Nodes.{as_key, follows_get_att, scalar_ahead, setting_of, starts_scalar}
-use Rattle.yaml_blocks.specs.Flow.{IsColon}
+use Rattle.yaml_blocks.specs.Nodes.{as_key, follows_get_att, scalar_ahead, setting_of}
 use Rattle.yaml_blocks.specs.Signs.{Reading, Tree}
-use Rattle.yaml_blocks.specs.Yaml.{IsStart, text_start}
+use Rattle.yaml_blocks.specs.Yaml.{IsStart}
 use Rattle.yaml_blocks.specs.code.AheadSeen.{ahead_seen}
-use Rattle.yaml_blocks.specs.code.Closers.{in_flow}
-use Rattle.yaml_blocks.specs.code.StopPlaces.{failed_place}
+use Rattle.yaml_blocks.specs.code.Closers.{in_flow, HasRoom}
+use Rattle.yaml_blocks.specs.code.Points.{is_last_point}
+use Rattle.yaml_blocks.specs.code.StopPlaces.{failed_place, torn_place}
 use Rattle.yaml_blocks.specs.code.Rest.{top, Begins, Ends, Enters, Awaits}
-use Rattle.yaml_blocks.specs.code.Steps.{IsBlock, IsFlow, IsSeen, IsCalm, Awaited, Missed, Rest, Fits, ends_before, SameNode, SameFlowNode, SameFlowKey, SameKey, SameEnd, SameStep, is_ending, is_flow_ending, is_open}
+use Rattle.yaml_blocks.specs.code.Steps.{IsSeen, IsCalm, Awaited, Missed, Rest, Fits, ends_before, SameNode, SameFlowNode, SameFlowKey, SameKey, SameEnd, SameStep, is_ending, is_flow_ending, is_open}
 
 -- another text is the same up to a place and with the byte there; in both, or in neither, a break begins with that byte, and a
 -- byte order mark stands in front
@@ -86,13 +86,9 @@ StopsStep text s fs u i r = Stops text i (NoRest s fs u i) r
 abbrev pub Mends : List ℕ → Stage → List Form → Unfinished → ℕ → Type 0
 Mends text s fs u i = (more : List ℕ) × (each is_ascii more ≡ true) × (tree : Forest) × Rest (text ++ more) s fs u i (Tree tree)
 
--- so far two kinds of values are left out that break off: a scalar behind `!GetAtt` in 128 collections, for which a list of two
--- may stand, and a block scalar below its header; and outside of brackets a place in a byte order mark
+-- so far a value is left out that breaks off: a plain or quoted scalar with a dot so far behind `!GetAtt` in 128 collections
 abbrev pub IsUsual : List ℕ → Stage → List Form → Unfinished → ℕ → Type 0
-IsUsual text stage.Value fs u i =
-    let at : ℕ = (ahead text (in_flow (top fs)) i).at in
-    (follows_get_att text (top fs) i ≡ true → length u.outer < 128) × (begins_block (setting_of (top fs)) (drop at text) ≡ true → has_break (drop at text) ≡ false)
-IsUsual text stage.After fs u i = IsBlock (top fs) → text_start text ≤ i
+IsUsual text stage.Value fs u i = begins_block (setting_of (top fs)) (drop (ahead text (in_flow (top fs)) i).at text) ≡ false → follows_get_att text (top fs) i ≡ true → HasRoom text (ahead text (in_flow (top fs)) i).at (length u.outer)
 IsUsual text _ fs u i = Unit {0}
 
 -- of a text that no carriage return ends: where reading stops at its length, some bytes mend it; where it stops at the last
@@ -111,28 +107,16 @@ OnUnread holds (Err _) = Unit {0}
 abbrev pub Lengthens : List ℕ → Stage → List Form → Unfinished → ℕ → Result Position Stop → Type 0
 Lengthens text s fs u i r = OnUnread (LengthensAt text s fs u i) r
 
--- so far a colon behind a node between brackets is left out, over which a plain scalar may go on
-abbrev pub IsUnpointed : List ℕ → ℕ → Type 0
-IsUnpointed text i = (loose : Bool) → (ahead text true i).token ≡ Point loose → ⊥
-
--- nor is a key between brackets that breaks off, or behind which something else stands than a colon or what ends it
-abbrev pub IsKeyed : List ℕ → ℕ → Type 0
-IsKeyed text i =
-    let a : Ahead = ahead text true i in
-    (scalar_ahead text (as_key true) a ≡ Fails (length text) → ⊥) × ((t : List ℕ) (e : ℕ) → scalar_ahead text (as_key true) a ≡ Stands t e → ((p : ℕ) → IsColon text (begins_quoted (drop a.at text)) e p → ⊥) → (ahead text true e).token ≡ End)
-
--- what is left out so far between brackets
-abbrev pub IsKnown : List ℕ → Stage → Form → ℕ → Type 0
-IsKnown text stage.Entry f i = f ≡ Flow true → IsKeyed text i
-IsKnown text stage.After f i = IsFlow f → IsUnpointed text i
-IsKnown text _ f i = Unit {0}
+-- a text of which nothing is left out so far
+abbrev pub IsUsualText : List ℕ → Type 0
+IsUsualText text = (fs : List Form) (u : Unfinished) (i : ℕ) → IsUsual text stage.Value fs u i
 
 -- the same of a node between brackets, where a value may stand or an entry of a list; it stops at the last byte only where what is
 -- ahead is looked at no further
 abbrev pub MendsNode : List ℕ → List Form → Unfinished → ℕ → ℕ → Type 0
 MendsNode text fs u i q =
     ends_with 13 text ≡ false
-    → (q ≡ length text → is_ending (ahead text true i).token ≡ false → (follows_get_att text (top fs) i ≡ true → length u.outer < 128) → (more : List ℕ) × (each is_ascii more ≡ true) × (tree : Forest) × Awaits (text ++ more) fs u.outer u.done u.key i (Tree tree)) × (IsLast text i q → ⊥)
+    → (q ≡ length text → is_ending (ahead text true i).token ≡ false → (follows_get_att text (top fs) i ≡ true → HasRoom text (ahead text true i).at (length u.outer)) → (more : List ℕ) × (each is_ascii more ≡ true) × (tree : Forest) × Awaits (text ++ more) fs u.outer u.done u.key i (Tree tree)) × (IsLast text i q → ⊥)
 
 -- no further entry of a block begins at a token; a sign may
 abbrev pub IsStill : List ℕ → Ahead → Form → Type 0
@@ -152,11 +136,12 @@ Popped a fs u gs w =
 
 -- the place of the byte that settles how a position was come to: where an entry may stand, that of the bracket or the comma; where
 -- a value may stand, the byte there, behind a `-`, a colon or a tag, but where a key without its colon ends what is ahead of it; and
--- behind a complete node what is ahead, of which between brackets the first byte tells, unless a plain scalar may go on over it
+-- behind a complete node what is ahead, of which the first byte tells where it is a colon that ends the text, over which no plain
+-- scalar goes on, and between brackets unless a plain scalar may go on over it
 abbrev pub settled : List ℕ → Bool → Stage → ℕ → ℕ
 settled text flow stage.Entry i = i - 1
 settled text flow stage.Value i = if is_flow_ending (ahead text true i).token then ahead_seen text i else i
-settled text flow stage.After i = if flow && not (is_open (ahead text true i).token) then (ahead text true i).at else ahead_seen text i
+settled text flow stage.After i = if is_last_point text flow (ahead text flow i) || (flow && not (is_open (ahead text true i).token)) then (ahead text flow i).at else ahead_seen text i
 settled text flow stage.Whole i = ahead_seen text i
 
 -- where reading goes on at a place: what holds of each text that is the same as far as it settles how the place was come to
@@ -206,3 +191,7 @@ FixesRoot text i w (Err e) = Unit {0}
 -- no scalar stands at a token, and this is the place: that where one fails, or the text's length where no byte stands there
 abbrev pub FailedAt : List ℕ → Setting → Ahead → ℕ → Type 0
 FailedAt text s a q = ((q ≡ length text) × (length text ≤ a.at)) ⊎ ((r : ℕ) × (a.at < length text) × (scalar_ahead text s a ≡ Fails r) × (q ≡ failed_place text a r))
+
+-- the same outside of flow, where the place is that of the last byte if it is a dash below a block scalar's header
+abbrev pub TornAt : List ℕ → Setting → Ahead → ℕ → Type 0
+TornAt text s a q = (p : ℕ) × (q ≡ torn_place text a p) × FailedAt text s a p

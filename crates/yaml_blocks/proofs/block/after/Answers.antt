@@ -1,4 +1,4 @@
-use Rattle.std.proofs.Common.{◌+◌, ◌*◌, false, refl, sym, ap, ◌∙◌, subst}
+use Rattle.std.proofs.Common.{◌≡◌, ◌+◌, ◌*◌, true, false, refl, sym, ap, ◌∙◌, subst}
 use Rattle.std.specs.Prelude.{option_map}
 use Rattle.yaml_blocks.specs.declared.ahead.Ahead.{Ahead}
 use Rattle.yaml_blocks.specs.code.Refused.{of_sign}
@@ -19,6 +19,10 @@ use Rattle.yaml_blocks.specs.code.Twins.{Stops, NoLine, LengthensAt, FixesEnd}
 use Rattle.yaml_blocks.specs.declared.stage.Stage.TheVariants as stage
 use Rattle.yaml_blocks.specs.Ahead.{ahead}
 use Rattle.yaml_blocks.proofs.Opens.{whole_opening}
+use Rattle.yaml_blocks.proofs.Extended.{whole_leaves}
+use Rattle.yaml_blocks.proofs.FedSites.{end_signed_again, living_again}
+use Rattle.yaml_blocks.specs.Nodes.{starts_scalar}
+use Rattle.yaml_blocks.specs.code.ReadAgain.{NoneBehind, OnSign}
 use Rattle.yaml_blocks.proofs.block.after.Goals as goal
 
 pub returns-in-Some-clause-gives : goal.returns-in-Some-clause-gives
@@ -108,3 +112,24 @@ returns-then-is_document_end-clause-longer c =
 
 pub returns-then-is_document_end-clause-opens : goal.returns-then-is_document_end-clause-opens
 returns-then-is_document_end-clause-opens c = whole_opening (stack c.end_all.new.forms.items) c.end_all.result c.end_all.ensures.whole
+
+pub returns-then-is_document_end-clause-leaves : goal.returns-then-is_document_end-clause-leaves
+returns-then-is_document_end-clause-leaves c = whole_leaves c.end_all.result c.end_all.ensures.whole
+
+pub returns-in-Some-clause-again : goal.returns-in-Some-clause-again
+returns-in-Some-clause-again c = λ starts. end_signed_again (NoneBehind c.args.text.now (stack c.args.forms.now.items) c.args.builder.now c.args.at) c.args.text.now c.args.at c.in-Some.refusal starts c.in-Some.ensures
+
+pub returns-in_default-clause-again : goal.returns-in_default-clause-again
+returns-in_default-clause-again c =
+    subst (λ (a : Ahead). starts_scalar a.token ≡ true → OnSign (NoneBehind c.args.text.now (stack c.args.forms.now.items) c.args.builder.now c.args.at) c.line.result) c.look-next.ensures.0 c.line.ensures.again
+
+pub returns-then-is_document_end-clause-again : goal.returns-then-is_document_end-clause-again
+returns-then-is_document_end-clause-again c = λ starts.
+    let this = c.args.text.now in
+    let at = c.args.at in
+    let fs = stack c.args.forms.now.items in
+    let u = c.args.builder.now in
+    let end = c.if-is_document_end.ensures.yes refl in
+    let t = block_ends fs u.outer u.done this at end c.requires.block c.requires.open.0 c.requires.open.1 in
+    living_again (NoneBehind this fs u at) this (Ends this fs u.outer u.done at) (2 * at + 2) (stack c.end_all.new.forms.items) c.end_all.new.builder c.end_all.result t.0 t.1
+    (c.end_all.ensures.gives this end c.requires.boundary)

@@ -8,6 +8,7 @@ use Rattle.yaml_blocks.proofs.OtherStops.{opened_on}
 use Rattle.yaml_blocks.specs.declared.stage.Stage.TheVariants as stage
 use Rattle.yaml_blocks.proofs.Opens.{bracket_opening}
 use Rattle.std.proofs.Common.{false}
+use Rattle.yaml_blocks.proofs.Extended.{opened_extends}
 use Rattle.yaml_blocks.proofs.block.brackets.Goals as goal
 
 pub returns-clause-gives : goal.returns-clause-gives
@@ -28,3 +29,6 @@ returns-clause-longer c = opened_on (LengthensAt c.args.text.now stage.Value (st
 
 pub returns-clause-opens : goal.returns-clause-opens
 returns-clause-opens c = bracket_opening c.args.text.now false c.args.at c.args.map c.args.next (stack c.args.forms.now.items) (stack c.open.new.forms.items) c.args.builder.now c.open.new.builder c.open.result c.requires.awaited.seen c.requires.opens c.open.ensures
+
+pub returns-clause-extends : goal.returns-clause-extends
+returns-clause-extends c = opened_extends c.args.text.now c.args.map c.args.next (stack c.args.forms.now.items) (stack c.open.new.forms.items) c.args.builder.now c.open.new.builder c.args.builder.now c.args.at c.open.result c.open.ensures

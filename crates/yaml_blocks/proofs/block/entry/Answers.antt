@@ -28,6 +28,9 @@ use Rattle.yaml_blocks.specs.Nodes.{node_sign}
 use Rattle.yaml_blocks.specs.code.Twins.{NoLine, LengthensAt}
 use Rattle.yaml_blocks.proofs.Opens.{form_opening}
 use Rattle.std.specs.Prelude.{Ok}
+use Rattle.yaml_blocks.proofs.Extended.{value_leaves}
+use Rattle.yaml_blocks.proofs.FedSites.{block_key_none, built_again, finds_again, signed_again}
+use Rattle.yaml_blocks.specs.code.ReadAgain.{NoneBehind}
 use Rattle.yaml_blocks.proofs.block.entry.Goals as goal
 
 pub returns-then-next-column-clause-gives : goal.returns-then-next-column-clause-gives
@@ -181,8 +184,27 @@ returns-in-None-colon_behind-clause-longer c =
     let this = c.args.text.now in
     let words = cow_str_bytes c.in-Ok.scalar.text in
     let g = found_key this c.as_key.result (as_key false) c.args.next words c.in-Ok.scalar.kind c.in-Ok.scalar.end c.as_key.ensures c.in-Ok.ensures.finds in
-    colon_lengthens this c.utf8.text (stack c.args.forms.now) c.args.builder.now c.args.at c.requires.boundary c.args.next c.args.column words c.in-Ok.scalar.end c.requires.seen c.requires.form g.0 g.2 g.3 c.colon_place.result c.requires.open c.requires.fresh c.if-next-column.false c.in-Ok-key.ensures.ok.1 c.in-None-colon_behind.ensures
+    colon_lengthens this c.utf8.text (stack c.args.forms.now) c.args.builder.now c.args.at c.requires.boundary c.args.next c.args.column words c.in-Ok.scalar.end c.requires.seen c.requires.form g.0 g.2 g.3 c.colon_place.result c.requires.behind c.requires.open c.requires.fresh c.if-next-column.false c.in-Ok-key.ensures.ok.1 c.in-None-colon_behind.ensures
     c.colon_place.ensures
 
 pub returns-in-Some-colon_behind-clause-opens : goal.returns-in-Some-colon_behind-clause-opens
 returns-in-Some-colon_behind-clause-opens c = form_opening (stack c.args.forms.now) (Entries c.args.column) (Ok (record { stage = stage.Value; at = c.in-Some-colon_behind.behind })) c.requires.form tt
+
+pub returns-in-Some-colon_behind-clause-leaves : goal.returns-in-Some-colon_behind-clause-leaves
+returns-in-Some-colon_behind-clause-leaves c = value_leaves (record { stage = stage.Value; at = c.in-Some-colon_behind.behind }) refl
+
+pub returns-in-Some-clause-again : goal.returns-in-Some-clause-again
+returns-in-Some-clause-again c = λ starts. signed_again (NoneBehind c.args.text.now (stack c.args.forms.now) c.args.builder.now c.args.at) false c.args.next c.in-Some.refusal starts c.in-Some.ensures
+
+pub returns-in-Err-clause-again : goal.returns-in-Err-clause-again
+returns-in-Err-clause-again c = λ starts. finds_again (NoneBehind c.args.text.now (stack c.args.forms.now) c.args.builder.now c.args.at) c.args.text.now false c.as_key.result c.args.next c.in-Err.refusal c.as_key.ensures c.in-Err.ensures.finds
+
+pub returns-in-Err-key-clause-again : goal.returns-in-Err-key-clause-again
+returns-in-Err-key-clause-again c = λ starts.
+    let this = c.args.text.now in
+    let fs = stack c.args.forms.now in
+    let u = c.args.builder.now in
+    let words = cow_str_bytes c.in-Ok.scalar.text in
+    let g = found_key this c.as_key.result (as_key false) c.args.next words c.in-Ok.scalar.kind c.in-Ok.scalar.end c.as_key.ensures c.in-Ok.ensures.finds in
+    built_again (NoneBehind this fs u c.args.at) c.offset.result (has_key u.done words ≡ true) c.in-Err-key.refusal c.from.result c.from.ensures c.in-Err-key.ensures.refused
+    (λ again. block_key_none this fs u c.args.at c.args.next words c.in-Ok.scalar.end starts again c.requires.open c.requires.boundary.0 c.args.column c.requires.seen.0 g.0 c.requires.fresh c.if-next-column.false c.requires.form)

@@ -36,3 +36,6 @@ returns-in-Root-clause-longer c =
 
 pub returns-in-Items-clause-longer : goal.returns-in-Items-clause-longer
 returns-in-Items-clause-longer c = c.item.ensures.longer
+
+pub returns-in-Items-clause-again : goal.returns-in-Items-clause-again
+returns-in-Items-clause-again c = c.item.ensures.again

@@ -9,6 +9,7 @@ use Rattle.yaml_blocks.specs.code.Twins.{NoLine}
 use Rattle.yaml_blocks.proofs.Opens.{form_opening}
 use Rattle.std.specs.Prelude.{Ok}
 use Rattle.yaml_blocks.specs.declared.form.Form.TheVariants.{Items}
+use Rattle.yaml_blocks.proofs.Extended.{value_leaves}
 use Rattle.yaml_blocks.proofs.block.item.Goals as goal
 
 pub returns-then-next-column-clause-gives : goal.returns-then-next-column-clause-gives
@@ -53,3 +54,9 @@ returns-in_default-clause-longer c = absurd (item_stays c.args.column c.args.nex
 
 pub returns-in-Dash-clause-opens : goal.returns-in-Dash-clause-opens
 returns-in-Dash-clause-opens c = form_opening (stack c.args.forms.now) (Items c.args.column) (Ok (record { stage = stage.Value; at = c.args.next.behind })) c.requires.form tt
+
+pub returns-in-Dash-clause-leaves : goal.returns-in-Dash-clause-leaves
+returns-in-Dash-clause-leaves c = value_leaves (record { stage = stage.Value; at = c.args.next.behind }) refl
+
+pub returns-in_default-clause-again : goal.returns-in_default-clause-again
+returns-in_default-clause-again c = absurd (item_stays c.args.column c.args.next c.requires.stays c.if-next-column.false c.in_default.not-Dash)

@@ -14,6 +14,8 @@ use Rattle.yaml_blocks.proofs.Stopped.{last_told_stops, told_inside, memory_stop
 use Rattle.yaml_blocks.specs.code.Twins.{Stops, NoLine, LengthensAt, Lengthens}
 use Rattle.yaml_blocks.specs.declared.stage.Stage.TheVariants as stage
 use Rattle.yaml_blocks.specs.code.Feeds.{Opening}
+use Rattle.yaml_blocks.proofs.FedSites.{ended_again, memory_is_again}
+use Rattle.yaml_blocks.specs.code.ReadAgain.{NoneBehind, OnSign}
 use Rattle.yaml_blocks.proofs.block.line.Goals as goal
 
 pub returns-then-not-next-clause-gives : goal.returns-then-not-next-clause-gives
@@ -80,3 +82,13 @@ returns-in-Ok-clause-longer c =
 
 pub returns-in-Ok-clause-opens : goal.returns-in-Ok-clause-opens
 returns-in-Ok-clause-opens c = subst (λ (x : List Form). Opening (stack x) c.head.result) c.deref-in-Ok.ensures.value c.head.ensures.opens
+
+pub returns-in-Err-clause-again : goal.returns-in-Err-clause-again
+returns-in-Err-clause-again c = λ starts. memory_is_again (NoneBehind c.args.text.now (stack c.args.forms.now.items) c.args.builder.now c.args.at) c.in-Err.refusal (c.in-Err.ensures.ended c.args.text.now c.args.at c.requires.seen.0)
+
+pub returns-in-Ok-clause-again : goal.returns-in-Ok-clause-again
+returns-in-Ok-clause-again c = λ starts.
+    let at = c.args.at in
+    let w = c.end_before.new.builder in
+    ended_again c.args.text.now (stack c.args.forms.now.items) (stack c.end_before.new.forms.items) c.args.builder.now w at c.args.next c.head.result c.requires.seen.0 starts c.requires.boundary.0 (λ other i e. c.in-Ok.ensures.ended other i e)
+    (subst (λ (x : List Form). OnSign (NoneBehind c.args.text.now (stack x) w at) c.head.result) c.deref-in-Ok.ensures.value (c.head.ensures.again starts))

@@ -12,6 +12,8 @@ use Rattle.yaml_blocks.proofs.Stopped.{deep_stops}
 use Rattle.yaml_blocks.proofs.OtherStops.{deep_on}
 use Rattle.yaml_blocks.proofs.Opens.{begun_opening}
 use Rattle.std.specs.Prelude.{Ok}
+use Rattle.yaml_blocks.proofs.Extended.{value_extends}
+use Rattle.yaml_blocks.proofs.FedSites.{mapping_again}
 use Rattle.yaml_blocks.proofs.block.mapping.Goals as goal
 
 pub returns-in-Ok-key-clause-gives : goal.returns-in-Ok-key-clause-gives
@@ -62,3 +64,9 @@ returns-in-Err-clause-longer c = deep_on (LengthensAt c.args.text.now stage.Valu
 
 pub returns-in-Ok-key-clause-opens : goal.returns-in-Ok-key-clause-opens
 returns-in-Ok-key-clause-opens c = begun_opening (Entries c.column_in-column.result) (stack c.args.forms.now.items) (stack c.begin.new.forms.items) (Ok (record { stage = stage.Value; at = c.args.key.behind })) c.in-Ok.ensures.0 tt
+
+pub returns-in-Ok-key-clause-extends : goal.returns-in-Ok-key-clause-extends
+returns-in-Ok-key-clause-extends c = value_extends c.args.text.now (stack c.args.forms.now.items) (stack c.begin.new.forms.items) c.args.builder.now c.key.new.self c.args.at (record { stage = stage.Value; at = c.args.key.behind }) refl
+
+pub returns-in-Err-clause-again : goal.returns-in-Err-clause-again
+returns-in-Err-clause-again c = λ starts. mapping_again c.args.text.now (stack c.args.forms.now.items) c.args.builder.now c.args.form c.args.at c.args.next c.args.key c.in-Err.refusal c.requires.awaited c.requires.key c.requires.ends c.requires.takes c.in-Err.ensures

@@ -14,6 +14,9 @@ use Rattle.yaml_blocks.proofs.OtherStops.{completed_on}
 use Rattle.yaml_blocks.proofs.LastNodes.{root_going, missing_lengthens}
 use Rattle.yaml_blocks.specs.declared.stage.Stage.TheVariants as stage
 use Rattle.yaml_blocks.proofs.Opens.{form_opening}
+use Rattle.yaml_blocks.proofs.Extended.{missing_extends}
+use Rattle.yaml_blocks.proofs.FedSites.{completed_again}
+use Rattle.yaml_blocks.specs.code.ReadAgain.{NoneLonger}
 use Rattle.yaml_blocks.proofs.block.missing.Goals as goal
 
 pub returns-in-Root-clause-gives : goal.returns-in-Root-clause-gives
@@ -30,7 +33,7 @@ pub take_null-requires : goal.take_null-requires
 take_null-requires c = grind (arith, common_steps)
 
 pub returns-in_default-clause-fixes : goal.returns-in_default-clause-fixes
-returns-in_default-clause-fixes c = missing_fixes c.args.text.now c.args.form c.args.at c.args.next (with_value kind.Null [] c.args.at c.args.builder.now) c.take_null.new.builder c.take_null.result c.requires.awaited.seen c.requires.awaited.boundary (place_behind c.args.text.now (stack c.args.forms.now) c.args.builder.now c.args.form c.args.at c.args.next c.requires.awaited) c.requires.none c.take_null.ensures
+returns-in_default-clause-fixes c = missing_fixes c.args.text.now c.args.form c.args.at c.args.next (with_value kind.Null [] c.args.at c.args.builder.now) c.take_null.new.builder c.take_null.result c.requires.awaited.seen c.requires.awaited.boundary (place_behind c.args.text.now (stack c.args.forms.now) c.args.builder.now c.args.form c.args.at c.args.next c.requires.awaited) c.requires.none c.requires.awaited.block c.in_default.not-Root c.take_null.ensures
 
 pub returns-in-Root-clause-stops : goal.returns-in-Root-clause-stops
 returns-in-Root-clause-stops c =
@@ -53,3 +56,9 @@ returns-in_default-clause-longer c = completed_on (LengthensAt c.args.text.now s
 
 pub returns-in_default-clause-opens : goal.returns-in_default-clause-opens
 returns-in_default-clause-opens c = form_opening (stack c.args.forms.now) c.args.form c.take_null.result c.requires.awaited.form c.requires.awaited.block
+
+pub returns-in_default-clause-extends : goal.returns-in_default-clause-extends
+returns-in_default-clause-extends c = missing_extends c.args.text.now (stack c.args.forms.now) c.args.builder.now c.take_null.new.builder c.args.form c.args.at c.args.next c.take_null.result c.utf8.text c.requires.awaited c.requires.none c.requires.unsigned c.requires.once c.in_default.not-Root c.requires.late c.take_null.ensures
+
+pub returns-in_default-clause-again : goal.returns-in_default-clause-again
+returns-in_default-clause-again c = λ starts. completed_again (NoneLonger c.args.text.now stage.Value (stack c.args.forms.now) c.args.builder.now c.args.at) c.args.at (with_value kind.Null [] c.args.at c.args.builder.now) c.take_null.new.builder c.take_null.result c.take_null.ensures

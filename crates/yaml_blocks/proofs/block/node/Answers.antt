@@ -8,6 +8,10 @@ use Rattle.yaml_blocks.specs.Blocks.{block_sign}
 use Rattle.yaml_blocks.proofs.Stopped.{signed_stops}
 use Rattle.yaml_blocks.proofs.OtherStops.{signed_on}
 use Rattle.yaml_blocks.specs.declared.stage.Stage.TheVariants as stage
+use Rattle.yaml_blocks.proofs.FedSites.{block_signed_again}
+use Rattle.yaml_blocks.specs.Nodes.{starts_scalar}
+use Rattle.yaml_blocks.specs.code.ReadAgain.{NoneLonger, SignStays}
+use Rattle.std.proofs.Common.{◌≡◌, true}
 use Rattle.yaml_blocks.proofs.block.node.Goals as goal
 
 pub returns-in-Some-clause-gives : goal.returns-in-Some-clause-gives
@@ -40,3 +44,11 @@ returns-in-Some-clause-longer c = signed_on (LengthensAt c.args.text.now stage.V
 
 pub returns-in-None-clause-longer : goal.returns-in-None-clause-longer
 returns-in-None-clause-longer c = c.node_at.ensures.longer
+
+pub returns-in-Some-clause-again : goal.returns-in-Some-clause-again
+returns-in-Some-clause-again c = λ starts.
+    block_signed_again (NoneLonger c.args.text.now stage.Value (stack c.args.forms.now.items) c.args.builder.now c.args.at) c.args.form c.look-next.result c.in-Some.refusal (subst (λ (a : Ahead). starts_scalar a.token ≡ true) (sym c.look-next.ensures.0) starts) c.in-Some.ensures
+
+pub returns-in-None-clause-again : goal.returns-in-None-clause-again
+returns-in-None-clause-again c =
+    subst (λ (a : Ahead). starts_scalar a.token ≡ true → SignStays c.args.text.now stage.Value (stack c.args.forms.now.items) c.args.builder.now c.args.at c.node_at.result) c.look-next.ensures.0 c.node_at.ensures.again

@@ -1,5 +1,10 @@
 use Rattle.yaml_blocks.proofs.AwaitedNodes.{column_before, small_place}
 use Rattle.yaml_blocks.specs.code.Steps.{stack}
+use Rattle.std.proofs.Common.{◌≡◌, List, true, subst}
+use Rattle.yaml_blocks.specs.declared.form.Form.{Form}
+use Rattle.yaml_blocks.specs.declared.stage.Stage.TheVariants as stage
+use Rattle.yaml_blocks.specs.Nodes.{starts_scalar}
+use Rattle.yaml_blocks.specs.code.ReadAgain.{SignStays}
 use Rattle.yaml_blocks.proofs.block.node_at.Goals as goal
 use Rattle.std.proofs.Common.{arith}
 
@@ -9,3 +14,8 @@ takes_sequence-requires c =
     let column = column_before c.args.text.now fs c.args.builder.now c.args.form c.args.at c.args.next c.requires.awaited in
     let place = small_place c.args.text.now fs c.args.builder.now c.args.form c.args.at c.args.next c.requires.awaited in
     omega (arith, column, place)
+
+pub returns-else-takes_scalar-2-clause-again : goal.returns-else-takes_scalar-2-clause-again
+returns-else-takes_scalar-2-clause-again c =
+    subst (λ (x : List Form). starts_scalar c.args.next.token ≡ true → SignStays c.args.text.now stage.Value (stack x) c.args.builder.now c.args.at c.missing-else-takes_scalar-2.result)
+    c.deref-else-takes_scalar-2.ensures.value c.missing-else-takes_scalar-2.ensures.again

@@ -10,6 +10,7 @@ use Rattle.yaml_blocks.proofs.Stopped.{deep_stops}
 use Rattle.yaml_blocks.proofs.OtherStops.{deep_on}
 use Rattle.yaml_blocks.proofs.Opens.{begun_opening}
 use Rattle.std.specs.Prelude.{Ok}
+use Rattle.yaml_blocks.proofs.Extended.{value_extends}
 use Rattle.yaml_blocks.proofs.block.sequence.Goals as goal
 
 pub returns-in-Ok-clause-gives : goal.returns-in-Ok-clause-gives
@@ -54,3 +55,6 @@ returns-in-Err-clause-longer c = deep_on (LengthensAt c.args.text.now stage.Valu
 
 pub returns-in-Ok-clause-opens : goal.returns-in-Ok-clause-opens
 returns-in-Ok-clause-opens c = begun_opening (Items c.column_in-column.result) (stack c.args.forms.now.items) (stack c.begin.new.forms.items) (Ok (record { stage = stage.Value; at = c.args.next.behind })) c.in-Ok.ensures.0 tt
+
+pub returns-in-Ok-clause-extends : goal.returns-in-Ok-clause-extends
+returns-in-Ok-clause-extends c = value_extends c.args.text.now (stack c.args.forms.now.items) (stack c.begin.new.forms.items) c.args.builder.now c.begin.new.builder c.args.at (record { stage = stage.Value; at = c.args.next.behind }) refl

@@ -13,6 +13,7 @@ use Rattle.yaml_blocks.proofs.Opens.{tag_opening}
 use Rattle.std.proofs.Common.{sym, subst}
 use Rattle.yaml_blocks.specs.code.Steps.{IsBlock}
 use Rattle.yaml_blocks.specs.declared.form.Form.{Form}
+use Rattle.yaml_blocks.proofs.Extended.{tag_extends}
 use Rattle.yaml_blocks.proofs.block.tag.Goals as goal
 
 pub begin_tag-requires-clause-first : goal.begin_tag-requires-clause-first
@@ -41,3 +42,6 @@ returns-clause-longer c = tag_on (LengthensAt c.args.text.now stage.Value (stack
 
 pub returns-clause-opens : goal.returns-clause-opens
 returns-clause-opens c = tag_opening c.args.text.now c.tagged.result c.args.next (stack c.args.forms.now.items) (stack c.begin_tag.new.forms.items) c.args.builder.now c.begin_tag.new.builder c.begin_tag.result (subst (λ (f : Form). IsBlock f) (sym c.tagged.ensures) tt) c.begin_tag.ensures
+
+pub returns-clause-extends : goal.returns-clause-extends
+returns-clause-extends c = tag_extends c.args.text.now c.tagged.result c.args.next (stack c.args.forms.now.items) (stack c.begin_tag.new.forms.items) c.args.builder.now c.begin_tag.new.builder c.args.builder.now c.args.at c.begin_tag.result c.begin_tag.ensures

@@ -11,4 +11,4 @@ no_return (b ∷ []) h = grind (arith, nat_tests, h)
 no_return (b ∷ c ∷ xs) h = no_return (c ∷ xs) h
 
 pub returns : goal.returns
-returns c = λ fs outer done key at low agrees nests block may starts within plain folds breaks dot fails room. value_torn fs outer done key at agrees nests block c.args.text.now low may starts within plain folds breaks (no_return c.args.text.now dot) dot fails room
+returns c = λ fs outer done key at low agrees nests block may starts within plain folds breaks dot fails. value_torn fs outer done key at agrees nests block c.args.text.now low may starts within plain folds breaks (no_return c.args.text.now dot) fails dot

@@ -6,4 +6,4 @@ returns-clause-colon c front fs outer done key at start size scalar whole low ag
     value_pointed_at fs outer done key at agrees nests c.args.text.now front scalar size start whole low is may starts l one q b near white h room
 
 pub returns-clause-header : goal.returns-clause-header
-returns-clause-header c fs outer done key at start low agrees nests is (may, starts, l, h) q b last one room = value_header_at fs outer done key at agrees nests c.args.text.now start low is may starts l q b last one h room
+returns-clause-header c fs outer done key at start low agrees nests is (may, starts, l, h) q b last one = value_header_at fs outer done key at agrees nests c.args.text.now start low is may starts l q b last one h

@@ -10,6 +10,7 @@ use Rattle.yaml_blocks.specs.Ahead.{ahead}
 use Rattle.yaml_blocks.proofs.Fed.{closed_fed, comma_fed}
 use Rattle.yaml_blocks.proofs.FlowLengthens.{flow_stops, closed_on, after_lengthens}
 use Rattle.yaml_blocks.specs.code.Twins.{LengthensAt}
+use Rattle.yaml_blocks.proofs.Extended.{closed_shuts, entry_shuts}
 use Rattle.yaml_blocks.proofs.flow.after.Goals as goal
 
 pub returns-then-closes-clause-gives : goal.returns-then-closes-clause-gives
@@ -62,14 +63,20 @@ pub returns-in-Comma-clause-feeds : goal.returns-in-Comma-clause-feeds
 returns-in-Comma-clause-feeds c = comma_fed c.args.text.now c.args.at c.look-next.result c.look-next.ensures c.requires.boundary (record { stage = stage.Entry; at = c.look-next.result.behind }) c.in-Comma.is
 
 pub returns-then-closes-clause-longer : goal.returns-then-closes-clause-longer
-returns-then-closes-clause-longer c = λ apoint. closed_on (LengthensAt c.args.text.now stage.After (stack c.args.forms.now.items) c.args.builder.now c.args.at) c.look-next.result.behind (stack c.args.forms.now.items) (stack c.close.new.forms.items) c.args.builder.now c.close.new.builder c.close.result c.close.ensures
+returns-then-closes-clause-longer c = closed_on (LengthensAt c.args.text.now stage.After (stack c.args.forms.now.items) c.args.builder.now c.args.at) c.look-next.result.behind (stack c.args.forms.now.items) (stack c.close.new.forms.items) c.args.builder.now c.close.new.builder c.close.result c.close.ensures
 
 pub returns-then-is_marked-clause-longer : goal.returns-then-is_marked-clause-longer
-returns-then-is_marked-clause-longer c = λ apoint. tt
+returns-then-is_marked-clause-longer c = tt
 
 pub returns-in-Comma-clause-longer : goal.returns-in-Comma-clause-longer
-returns-in-Comma-clause-longer c = λ apoint. tt
+returns-in-Comma-clause-longer c = tt
 
 pub returns-in_default-clause-longer : goal.returns-in_default-clause-longer
-returns-in_default-clause-longer c = λ apoint.
-    after_lengthens c.args.text.now c.utf8.text (stack c.args.forms.now.items) c.args.builder.now c.args.at c.requires.boundary c.args.map c.look-next.result c.flow_place.result c.look-next.ensures.0 c.requires.form c.requires.open c.requires.awaited c.in_default.not-Comma (c.closes.ensures.no c.if-closes.false) (sym c.is_marked.ensures ∙ c.if-is_marked.false) c.flow_place.ensures apoint
+returns-in_default-clause-longer c =
+    after_lengthens c.args.text.now c.utf8.text (stack c.args.forms.now.items) c.args.builder.now c.args.at c.requires.boundary c.args.map c.look-next.result c.flow_place.result c.look-next.ensures.0 c.requires.form c.requires.open c.requires.awaited c.in_default.not-Comma (c.closes.ensures.no c.if-closes.false) (sym c.is_marked.ensures ∙ c.if-is_marked.false) c.flow_place.ensures
+
+pub returns-then-closes-clause-shuts : goal.returns-then-closes-clause-shuts
+returns-then-closes-clause-shuts c = closed_shuts c.args.text.now c.args.at c.args.map c.look-next.result (stack c.args.forms.now.items) (stack c.close.new.forms.items) c.args.builder.now c.close.new.builder c.close.result c.look-next.ensures (c.closes.ensures.yes c.if-closes.true) c.close.ensures
+
+pub returns-in-Comma-clause-shuts : goal.returns-in-Comma-clause-shuts
+returns-in-Comma-clause-shuts c = entry_shuts c.args.text.now c.args.at (stack c.args.forms.now.items) (record { stage = stage.Entry; at = c.look-next.result.behind }) refl

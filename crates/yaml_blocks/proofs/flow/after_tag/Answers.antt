@@ -49,6 +49,6 @@ returns-clause-stops c =
     (λ text k seen v h. tag_gives text c.args.place (stack c.args.forms.now.items) (stack c.pop.new.self.items) [] u w w at (Err (Unread 0)) (c.in-Some.field-0, e, c.requires.form, c.requires.open) c.in-Ok.ensures.ok (λ z g. k seen z g) v h) c.after.ensures.stops
 
 pub returns-clause-longer : goal.returns-clause-longer
-returns-clause-longer c = λ apoint.
+returns-clause-longer c =
     let e = stack_grown c.args.forms.now.items c.pop.new.self.items c.in-Some.field-0 c.in-Some.ensures.items in
-    tag_lengthens c.args.text.now c.utf8.text (stack c.args.forms.now.items) c.args.builder.now c.args.at c.requires.boundary c.args.place (stack c.pop.new.self.items) c.end.new.self c.after.result (c.in-Some.field-0, e, c.requires.form, c.requires.open) c.in-Ok.ensures.ok (c.after.ensures.longer apoint)
+    tag_lengthens c.args.text.now c.utf8.text (stack c.args.forms.now.items) c.args.builder.now c.args.at c.requires.boundary c.args.place (stack c.pop.new.self.items) c.end.new.self c.after.result (c.in-Some.field-0, e, c.requires.form, c.requires.open) c.in-Ok.ensures.ok c.after.ensures.longer

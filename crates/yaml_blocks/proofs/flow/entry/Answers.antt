@@ -17,6 +17,11 @@ use Rattle.yaml_blocks.specs.code.Feeds.{FeedsEntry}
 use Rattle.yaml_blocks.proofs.FlowLengthens.{closed_on, item_lengthens}
 use Rattle.yaml_blocks.specs.code.Twins.{Lengthens, LengthensAt}
 use Rattle.yaml_blocks.specs.declared.stage.Stage.TheVariants as stage
+use Rattle.yaml_blocks.proofs.Extended.{closed_shuts}
+use Rattle.yaml_blocks.proofs.FedSites.{closed_again, item_again, starts_marked}
+use Rattle.yaml_blocks.specs.Nodes.{starts_scalar}
+use Rattle.yaml_blocks.specs.code.ReadAgain.{NoneLonger, SignStays}
+use Rattle.std.proofs.Common.{◌≡◌}
 use Rattle.yaml_blocks.proofs.flow.entry.Goals as goal
 
 pub returns-then-closes-clause-gives : goal.returns-then-closes-clause-gives
@@ -96,15 +101,33 @@ pub returns-then-map-clause-feeds : goal.returns-then-map-clause-feeds
 returns-then-map-clause-feeds c = subst (λ (a : Ahead). FeedsEntry c.args.text.now c.args.map c.args.at a c.key.result) c.look-next.ensures.0 (key_entry_feeds c.args.text.now c.args.at c.look-next.result c.args.map c.key.result c.if-map.true c.key.ensures.feeds)
 
 pub returns-then-closes-clause-longer : goal.returns-then-closes-clause-longer
-returns-then-closes-clause-longer c = λ keyed. closed_on (LengthensAt c.args.text.now stage.Entry (stack c.args.forms.now.items) c.args.builder.now c.args.at) c.look-next.result.behind (stack c.args.forms.now.items) (stack c.close.new.forms.items) c.args.builder.now c.close.new.builder c.close.result c.close.ensures
+returns-then-closes-clause-longer c = closed_on (LengthensAt c.args.text.now stage.Entry (stack c.args.forms.now.items) c.args.builder.now c.args.at) c.look-next.result.behind (stack c.args.forms.now.items) (stack c.close.new.forms.items) c.args.builder.now c.close.new.builder c.close.result c.close.ensures
 
 pub returns-then-is_marked-clause-longer : goal.returns-then-is_marked-clause-longer
-returns-then-is_marked-clause-longer c = λ keyed. tt
+returns-then-is_marked-clause-longer c = tt
 
 pub returns-then-map-clause-longer : goal.returns-then-map-clause-longer
-returns-then-map-clause-longer c = λ keyed.
-    subst (λ (x : List Form). Lengthens c.args.text.now stage.Entry (stack x) c.args.builder.now c.args.at c.key.result) c.deref.ensures.value (c.key.ensures.longer (keyed c.if-map.true))
+returns-then-map-clause-longer c =
+    subst (λ (x : List Form). Lengthens c.args.text.now stage.Entry (stack x) c.args.builder.now c.args.at c.key.result) c.deref.ensures.value c.key.ensures.longer
 
 pub returns-else-map-clause-longer : goal.returns-else-map-clause-longer
-returns-else-map-clause-longer c = λ keyed.
+returns-else-map-clause-longer c =
     item_lengthens c.args.text.now c.utf8.text (stack c.args.forms.now.items) c.args.builder.now c.args.at c.requires.boundary c.look-next.result c.node.result c.look-next.ensures.0 (c.requires.form ∙ ap Flow c.if-map.false) c.requires.open c.requires.awaited (sym c.is_marked.ensures ∙ c.if-is_marked.false) c.node.ensures.longer
+
+pub returns-then-closes-clause-shuts : goal.returns-then-closes-clause-shuts
+returns-then-closes-clause-shuts c = closed_shuts c.args.text.now c.args.at c.args.map c.look-next.result (stack c.args.forms.now.items) (stack c.close.new.forms.items) c.args.builder.now c.close.new.builder c.close.result c.look-next.ensures (c.closes.ensures.yes c.if-closes.true) c.close.ensures
+
+pub returns-then-closes-clause-again : goal.returns-then-closes-clause-again
+returns-then-closes-clause-again c = λ starts. closed_again (NoneLonger c.args.text.now stage.Entry (stack c.args.forms.now.items) c.args.builder.now c.args.at) c.look-next.result.behind (stack c.args.forms.now.items) (stack c.close.new.forms.items) c.args.builder.now c.close.new.builder c.close.result c.close.ensures
+
+pub returns-then-is_marked-clause-again : goal.returns-then-is_marked-clause-again
+returns-then-is_marked-clause-again c = λ starts. absurd (starts_marked c.look-next.result.token (subst (λ (a : Ahead). starts_scalar a.token ≡ true) (sym c.look-next.ensures.0) starts) (sym c.is_marked.ensures ∙ c.if-is_marked.true))
+
+pub returns-then-map-clause-again : goal.returns-then-map-clause-again
+returns-then-map-clause-again c = λ starts.
+    subst (λ (x : List Form). SignStays c.args.text.now stage.Entry (stack x) c.args.builder.now c.args.at c.key.result) c.deref.ensures.value (c.key.ensures.again (subst (λ (a : Ahead). starts_scalar a.token ≡ true) (sym c.look-next.ensures.0) starts))
+
+pub returns-else-map-clause-again : goal.returns-else-map-clause-again
+returns-else-map-clause-again c = λ starts.
+    let there = subst (λ (a : Ahead). starts_scalar a.token ≡ true) (sym c.look-next.ensures.0) starts in
+    item_again c.args.text.now (stack c.args.forms.now.items) c.args.builder.now c.args.at c.look-next.result c.node.result c.look-next.ensures.0 there c.requires.boundary.0 (c.requires.form ∙ ap Flow c.if-map.false) c.requires.open c.requires.awaited (c.node.ensures.again there)

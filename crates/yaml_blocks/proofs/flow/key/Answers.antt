@@ -18,15 +18,18 @@ use Rattle.yaml_blocks.specs.code.Twins.{NoEntry}
 use Rattle.yaml_blocks.specs.Nodes.{node_sign}
 use Rattle.yaml_blocks.proofs.Stopped.{signed_stops, built_stops}
 use Rattle.yaml_blocks.proofs.StoppedScalars.{key_stops, missed_failed}
-use Rattle.yaml_blocks.proofs.StoppedKeys.{no_colon_stops}
+use Rattle.yaml_blocks.proofs.KeyTails.{tail_stops}
 use Rattle.yaml_blocks.proofs.Scalars.{failed_other}
-use Rattle.yaml_blocks.specs.code.StopPlaces.{told_place}
+use Rattle.yaml_blocks.specs.code.StopPlaces.{flow_place}
 use Rattle.yaml_blocks.specs.declared.stop.Stop.TheVariants.{Unread}
 use Rattle.yaml_blocks.specs.Signs.{Tree}
 use Rattle.yaml_blocks.proofs.Fed.{key_feeds}
 use Rattle.yaml_blocks.proofs.FlowLengthens.{flow_stops, key_token_lengthens, key_fails_lengthens, key_end_lengthens}
 use Rattle.yaml_blocks.proofs.OtherStops.{signed_on, built_on}
 use Rattle.yaml_blocks.specs.code.Twins.{LengthensAt}
+use Rattle.yaml_blocks.proofs.Extended.{value_shuts}
+use Rattle.yaml_blocks.proofs.FedSites.{flow_key_none, built_again, finds_again, signed_again}
+use Rattle.yaml_blocks.specs.code.ReadAgain.{NoneLonger}
 use Rattle.yaml_blocks.proofs.flow.key.Goals as goal
 
 pub returns-in-Err-clause-gives : goal.returns-in-Err-clause-gives
@@ -110,8 +113,8 @@ returns-in-None-colon-clause-stops c =
     let end = c.in-Ok.scalar.end in
     let quoted : c.is_quoted.result ≡ begins_quoted (drop c.args.next.at this) = c.is_quoted.ensures ∙ ap (λ (t : List ℕ). begins_quoted (drop c.args.next.at t)) c.as_bytes.ensures.value in
     let g = found_key this c.as_key.result (as_key true) c.args.next words c.in-Ok.scalar.kind end c.as_key.ensures c.in-Ok.ensures.finds in
-    no_colon_stops this (stack c.args.forms.now) c.args.builder.now c.args.at c.args.next c.is_quoted.result words end c.told_place.result c.requires.seen c.requires.boundary c.requires.there c.requires.form c.requires.open g.0 g.2 g.3 c.in-Ok-key.ensures.ok.1 quoted c.in-None-colon.ensures
-    (c.told_place.ensures ∙ ap (told_place this) c.look.ensures.0)
+    tail_stops this c.utf8.text c.args.at c.args.next c.requires.seen c.requires.boundary words end g.0 g.2 g.3 c.is_quoted.result c.in-None-colon.ensures c.flow_place-in-None-colon.result (c.flow_place-in-None-colon.ensures ∙ ap (flow_place this) c.look.ensures.0)
+    (stack c.args.forms.now) c.args.builder.now c.requires.there c.requires.form c.requires.open c.in-Ok-key.ensures.ok.1 quoted
 
 pub returns-then-not-starts_scalar-clause-gives : goal.returns-then-not-starts_scalar-clause-gives
 returns-then-not-starts_scalar-clause-gives c = λ text seen same.
@@ -137,28 +140,46 @@ returns-in-Some-colon-clause-feeds c =
     key_feeds this c.args.at c.args.next c.requires.seen c.requires.boundary c.is_quoted.result words place end (record { stage = stage.Value; at = place }) g.0 g.2 g.3 c.in-Some-colon.ensures.0
 
 pub returns-in-Some-clause-longer : goal.returns-in-Some-clause-longer
-returns-in-Some-clause-longer c = λ keyed. signed_on (LengthensAt c.args.text.now stage.Entry (stack c.args.forms.now) c.args.builder.now c.args.at) (node_sign false c.args.next.at c.args.next.token) c.in-Some.refusal c.in-Some.ensures
+returns-in-Some-clause-longer c = signed_on (LengthensAt c.args.text.now stage.Entry (stack c.args.forms.now) c.args.builder.now c.args.at) (node_sign false c.args.next.at c.args.next.token) c.in-Some.refusal c.in-Some.ensures
 
 pub returns-then-not-starts_scalar-clause-longer : goal.returns-then-not-starts_scalar-clause-longer
-returns-then-not-starts_scalar-clause-longer c = λ keyed.
+returns-then-not-starts_scalar-clause-longer c =
     key_token_lengthens c.args.text.now c.utf8.text (stack c.args.forms.now) c.args.builder.now c.args.at c.requires.boundary c.args.next c.flow_place.result c.requires.seen.0 c.requires.form c.requires.open c.requires.awaited (sym c.starts_scalar.ensures ∙ c.if-not-starts_scalar.true) c.requires.there c.requires.unmarked c.flow_place.ensures
 
 pub returns-in-Err-clause-longer : goal.returns-in-Err-clause-longer
-returns-in-Err-clause-longer c = λ keyed.
-    key_fails_lengthens c.args.text.now c.utf8.text (stack c.args.forms.now) c.args.builder.now c.args.at c.requires.boundary c.args.next c.as_key.result c.in-Err.refusal c.requires.seen.0 (sym c.starts_scalar.ensures ∙ c.if-not-starts_scalar.false) c.as_key.ensures (λ q e. c.in-Err.ensures.place q (ap Err e)) keyed
+returns-in-Err-clause-longer c =
+    key_fails_lengthens c.args.text.now c.utf8.text (stack c.args.forms.now) c.args.builder.now c.args.at c.requires.boundary c.args.next c.as_key.result c.in-Err.refusal c.requires.seen.0 (sym c.starts_scalar.ensures ∙ c.if-not-starts_scalar.false) c.as_key.ensures (λ q e. c.in-Err.ensures.place q (ap Err e)) c.requires.form c.requires.open
 
 pub returns-in-Err-key-clause-longer : goal.returns-in-Err-key-clause-longer
-returns-in-Err-key-clause-longer c = λ keyed. built_on (LengthensAt c.args.text.now stage.Entry (stack c.args.forms.now) c.args.builder.now c.args.at) c.in-Err-key.refusal c.from.result c.from.ensures
+returns-in-Err-key-clause-longer c = built_on (LengthensAt c.args.text.now stage.Entry (stack c.args.forms.now) c.args.builder.now c.args.at) c.in-Err-key.refusal c.from.result c.from.ensures
 
 pub returns-in-Some-colon-clause-longer : goal.returns-in-Some-colon-clause-longer
-returns-in-Some-colon-clause-longer c = λ keyed. tt
+returns-in-Some-colon-clause-longer c = tt
 
 pub returns-in-None-colon-clause-longer : goal.returns-in-None-colon-clause-longer
-returns-in-None-colon-clause-longer c = λ keyed.
+returns-in-None-colon-clause-longer c =
     let this = c.args.text.now in
     let words = cow_str_bytes c.in-Ok.scalar.text in
     let end = c.in-Ok.scalar.end in
-    let quoted : c.is_quoted.result ≡ begins_quoted (drop c.args.next.at this) = c.is_quoted.ensures ∙ ap (λ (t : List ℕ). begins_quoted (drop c.args.next.at t)) c.as_bytes.ensures.value in
     let g = found_key this c.as_key.result (as_key true) c.args.next words c.in-Ok.scalar.kind end c.as_key.ensures c.in-Ok.ensures.finds in
-    key_end_lengthens this c.utf8.text (stack c.args.forms.now) c.args.builder.now c.args.at c.requires.boundary c.args.next words end c.told_place.result c.is_quoted.result c.requires.seen.0 c.requires.form c.requires.open g.0 g.2 g.3 c.in-Ok-key.ensures.ok.1 quoted c.in-None-colon.ensures
-    (c.told_place.ensures ∙ ap (told_place this) c.look.ensures.0) keyed
+    key_end_lengthens this c.utf8.text (stack c.args.forms.now) c.args.builder.now c.args.at c.requires.boundary c.args.next words end c.flow_place-in-None-colon.result c.is_quoted.result c.requires.seen c.requires.form c.requires.open g.0 g.2 g.3 c.in-Ok-key.ensures.ok.1 c.in-None-colon.ensures
+    (c.flow_place-in-None-colon.ensures ∙ ap (flow_place this) c.look.ensures.0)
+
+pub returns-in-Some-colon-clause-shuts : goal.returns-in-Some-colon-clause-shuts
+returns-in-Some-colon-clause-shuts c = value_shuts c.args.text.now c.args.at (stack c.args.forms.now) (record { stage = stage.Value; at = c.in-Some-colon.place }) refl
+
+pub returns-in-Some-clause-again : goal.returns-in-Some-clause-again
+returns-in-Some-clause-again c = λ starts. signed_again (NoneLonger c.args.text.now stage.Entry (stack c.args.forms.now) c.args.builder.now c.args.at) false c.args.next c.in-Some.refusal starts c.in-Some.ensures
+
+pub returns-in-Err-clause-again : goal.returns-in-Err-clause-again
+returns-in-Err-clause-again c = λ starts. finds_again (NoneLonger c.args.text.now stage.Entry (stack c.args.forms.now) c.args.builder.now c.args.at) c.args.text.now true c.as_key.result c.args.next c.in-Err.refusal c.as_key.ensures c.in-Err.ensures.finds
+
+pub returns-in-Err-key-clause-again : goal.returns-in-Err-key-clause-again
+returns-in-Err-key-clause-again c = λ starts.
+    let this = c.args.text.now in
+    let fs = stack c.args.forms.now in
+    let u = c.args.builder.now in
+    let words = cow_str_bytes c.in-Ok.scalar.text in
+    let g = found_key this c.as_key.result (as_key true) c.args.next words c.in-Ok.scalar.kind c.in-Ok.scalar.end c.as_key.ensures c.in-Ok.ensures.finds in
+    built_again (NoneLonger this stage.Entry fs u c.args.at) c.offset.result (has_key u.done words ≡ true) c.in-Err-key.refusal c.from.result c.from.ensures c.in-Err-key.ensures.refused
+    (λ again. flow_key_none this fs u c.args.at c.args.next words c.in-Ok.scalar.end starts again c.requires.open c.requires.boundary.0 c.requires.seen.0 g.0 c.requires.form)

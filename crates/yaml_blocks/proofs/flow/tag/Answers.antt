@@ -9,6 +9,7 @@ use Rattle.yaml_blocks.proofs.Stopped.{tag_stops}
 use Rattle.yaml_blocks.proofs.Fed.{tag_feeds}
 use Rattle.yaml_blocks.proofs.OtherStops.{tag_on}
 use Rattle.yaml_blocks.specs.code.Twins.{MendsNode}
+use Rattle.yaml_blocks.proofs.Extended.{tag_shuts}
 use Rattle.yaml_blocks.proofs.flow.tag.Goals as goal
 
 pub begin_tag-requires-clause-first : goal.begin_tag-requires-clause-first
@@ -34,3 +35,6 @@ returns-clause-feeds c = tag_feeds c.args.text.now c.args.at c.args.next c.requi
 
 pub returns-clause-longer : goal.returns-clause-longer
 returns-clause-longer c = tag_on (MendsNode c.args.text.now (stack c.args.forms.now.items) c.args.builder.now c.args.at) c.args.text.now (FlowTagged c.args.next.at) c.args.next (stack c.args.forms.now.items) (stack c.begin_tag.new.forms.items) c.args.builder.now c.begin_tag.new.builder c.begin_tag.result c.begin_tag.ensures
+
+pub returns-clause-shuts : goal.returns-clause-shuts
+returns-clause-shuts c = tag_shuts c.args.text.now (FlowTagged c.args.next.at) c.args.next (stack c.args.forms.now.items) (stack c.begin_tag.new.forms.items) c.args.builder.now c.begin_tag.new.builder c.args.at c.begin_tag.result c.begin_tag.ensures

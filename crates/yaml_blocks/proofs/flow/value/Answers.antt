@@ -2,7 +2,7 @@ use Rattle.doc_values.specs.declared.kind.Kind.TheVariants as kind
 use Rattle.std.proofs.Common.{true, sym, subst, ◌∙◌, arith, ◌+◌, ◌*◌, []}
 use Rattle.yaml_blocks.specs.declared.ahead.Ahead.{Ahead}
 use Rattle.yaml_blocks.specs.code.Rest.{Awaits}
-use Rattle.yaml_blocks.specs.code.Steps.{stack, IsSeen, SameFlowNode}
+use Rattle.yaml_blocks.specs.code.Steps.{stack, IsSeen, SameFlowNode, IsFlow}
 use Rattle.yaml_blocks.proofs.Gains.{flow_spot, null_gives, sooner}
 use Rattle.yaml_blocks.proofs.Fixed.{flow_null_fixes}
 use Rattle.yaml_blocks.specs.code.Twins.{Stops, NoFlowValue, FixesFlowNode}
@@ -15,6 +15,11 @@ use Rattle.yaml_blocks.proofs.OtherStops.{completed_on}
 use Rattle.yaml_blocks.specs.code.Twins.{LengthensAt}
 use Rattle.yaml_blocks.specs.declared.stage.Stage.TheVariants as stage
 use Rattle.yaml_blocks.proofs.FlowLengthens.{value_lengthens}
+use Rattle.yaml_blocks.proofs.Extended.{inner_shuts}
+use Rattle.yaml_blocks.proofs.FedSites.{completed_again}
+use Rattle.yaml_blocks.specs.Nodes.{starts_scalar}
+use Rattle.yaml_blocks.specs.code.ReadAgain.{NoneAwaited, OnSign}
+use Rattle.std.proofs.Common.{◌≡◌}
 use Rattle.yaml_blocks.proofs.flow.value.Goals as goal
 
 pub returns-then-is_flow_ending-clause-gives : goal.returns-then-is_flow_ending-clause-gives
@@ -58,3 +63,13 @@ returns-then-is_flow_ending-clause-longer c = completed_on (LengthensAt c.args.t
 pub returns-clause-longer : goal.returns-clause-longer
 returns-clause-longer c =
     value_lengthens c.args.text.now c.utf8.text (stack c.args.forms.now.items) c.args.builder.now c.args.at c.requires.boundary c.args.form c.look-next.result c.node.result c.look-next.ensures.0 c.requires.form c.requires.flow c.requires.misses c.requires.behind c.requires.open c.requires.awaited (sym c.is_flow_ending.ensures ∙ c.if-is_flow_ending.false) c.node.ensures.longer
+
+pub returns-then-is_flow_ending-clause-shuts : goal.returns-then-is_flow_ending-clause-shuts
+returns-then-is_flow_ending-clause-shuts c = inner_shuts c.args.text.now c.args.at (stack c.args.forms.now.items) c.take_null.result (subst IsFlow (sym c.requires.form) c.requires.flow)
+
+pub returns-then-is_flow_ending-clause-again : goal.returns-then-is_flow_ending-clause-again
+returns-then-is_flow_ending-clause-again c = λ starts. completed_again (NoneAwaited c.args.text.now (stack c.args.forms.now.items) c.args.builder.now c.args.at) c.args.at (with_value kind.Null [] c.args.at c.args.builder.now) c.take_null.new.builder c.take_null.result c.take_null.ensures
+
+pub returns-clause-again : goal.returns-clause-again
+returns-clause-again c =
+    subst (λ (a : Ahead). starts_scalar a.token ≡ true → OnSign (NoneAwaited c.args.text.now (stack c.args.forms.now.items) c.args.builder.now c.args.at) c.node.result) c.look-next.ensures.0 c.node.ensures.again

@@ -1,6 +1,8 @@
-use Rattle.std.proofs.Common.{◌≡◌, sym, ap, ◌∙◌}
+use Rattle.std.proofs.Common.{◌≡◌, sym, ap, ◌∙◌, subst}
 use Rattle.std.specs.Prelude.{Err}
+use Rattle.yaml_blocks.specs.Answers.{Refuses}
 use Rattle.yaml_blocks.specs.declared.refusal.YamlRefusal.TheVariants.{NoMemory}
+use Rattle.yaml_blocks.proofs.LacksTags.{placed_fed, placed_of, refuses_of}
 use Rattle.yaml_blocks.proofs.Roots.{stop_memory}
 use Rattle.yaml_blocks.proofs.read.read_yaml.Goals as goal
 
@@ -8,3 +10,9 @@ pub returns-in-Err-clause-memory : goal.returns-in-Err-clause-memory
 returns-in-Err-clause-memory c = λ want.
     let same : c.refusal_of.result ≡ NoMemory = cc in
     c.in-Err.ensures.memory (ap Err (stop_memory c.in-Err.stop (sym c.refusal_of.ensures ∙ same)))
+
+pub returns-in-Err-clause-answer : goal.returns-in-Err-clause-answer
+returns-in-Err-clause-answer c =
+    let text = c.args.text.now in
+    subst (Refuses text) (sym c.refusal_of.ensures)
+    (refuses_of text c.in-Err.stop c.in-Err.ensures.answer c.in-Err.ensures.late (λ lacks. c.in-Err.ensures.placed (λ last. placed_of text lacks last) (λ last. placed_fed text lacks)))

@@ -1,5 +1,5 @@
 use Rattle.std.proofs.Common.{◌≡◌, ◌-◌, [], ◌∷◌, ◌++◌, length, sym, subst, arith}
-use Rattle.yaml_blocks.specs.code.Places.{IsSyntax}
+use Rattle.yaml_blocks.specs.Places.{IsSyntax}
 use Rattle.yaml_blocks.proofs.FedPlaces.{fed_before, fed_at, fed_behind}
 use Rattle.yaml_blocks.proofs.returned.place_before.Goals as goal
 

@@ -1,7 +1,7 @@
 use Rattle.std.proofs.Common.{◌≡◌, ℕ, ◌-◌, List, [], ◌∷◌, ◌++◌, length, refl, sym, ◌∙◌, subst, arith}
 use Rattle.yaml_blocks.specs.declared.stop.Stop.{Stop}
 use Rattle.yaml_blocks.specs.declared.stop.Stop.TheVariants as stop
-use Rattle.yaml_blocks.specs.code.Places.{IsFront, IsSyntax}
+use Rattle.yaml_blocks.specs.Places.{IsFront, IsSyntax}
 use Rattle.yaml_blocks.specs.code.ReadAgain.{StopsAgain}
 use Rattle.yaml_blocks.proofs.FedPlaces.{fed_none}
 use Rattle.yaml_blocks.proofs.returned.returned_place.Goals as goal

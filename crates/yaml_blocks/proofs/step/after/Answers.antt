@@ -10,6 +10,15 @@ use Rattle.yaml_blocks.specs.code.Twins.{FixesStep}
 use Rattle.yaml_blocks.specs.declared.stage.Stage.TheVariants as stage
 use Rattle.yaml_blocks.proofs.Fed.{flow_after_feeds, block_feeds}
 use Rattle.yaml_blocks.specs.code.Feeds.{FeedsStep}
+use Rattle.yaml_blocks.proofs.Fixed.{apart}
+use Rattle.yaml_blocks.proofs.Extended.{no_shuts}
+use Rattle.yaml_blocks.specs.Ahead.{ahead}
+use Rattle.yaml_blocks.specs.Nodes.{starts_scalar}
+use Rattle.yaml_blocks.specs.code.ReadAgain.{NoneBehind, NoneLonger}
+use Rattle.yaml_blocks.proofs.FedSites.{again_from, tail_again}
+use Rattle.yaml_blocks.proofs.FedSteps.{flow_in, block_in}
+use Rattle.std.proofs.Common.{◌≡◌, ◌+◌, ◌*◌, refl}
+use Rattle.yaml_blocks.proofs.Placed.{placed}
 use Rattle.yaml_blocks.proofs.step.after.Goals as goal
 
 pub returns-in-Flow-clause-gives : goal.returns-in-Flow-clause-gives
@@ -78,14 +87,61 @@ returns-in_default-clause-feeds c =
     subst (λ (f : Form). FeedsStep c.args.text.now stage.After f c.args.at gs c.after-in_default.result) found (block_feeds c.args.text.now stage.After c.innermost.result c.args.at gs c.after-in_default.result (block_of c.innermost.result c.in_default.not-Flow c.in_default.not-FlowTagged) c.after-in_default.ensures.opens)
 
 pub returns-in-Flow-clause-longer : goal.returns-in-Flow-clause-longer
-returns-in-Flow-clause-longer c = λ known.
-    let found = c.innermost.ensures ∙ ap (λ (x : List Form). top (stack x)) c.deref.ensures.value in
-    c.after.ensures.longer (known (subst IsFlow (sym c.in-Flow.is ∙ found) tt))
+returns-in-Flow-clause-longer c = c.after.ensures.longer
 
 pub returns-in-FlowTagged-clause-longer : goal.returns-in-FlowTagged-clause-longer
-returns-in-FlowTagged-clause-longer c = λ known.
-    let found = c.innermost.ensures ∙ ap (λ (x : List Form). top (stack x)) c.deref.ensures.value in
-    c.after_tag.ensures.longer (known (subst IsFlow (sym c.in-FlowTagged.is ∙ found) tt))
+returns-in-FlowTagged-clause-longer c = c.after_tag.ensures.longer
 
 pub returns-in_default-clause-longer : goal.returns-in_default-clause-longer
-returns-in_default-clause-longer c = λ known. c.after-in_default.ensures.longer
+returns-in_default-clause-longer c = c.after-in_default.ensures.longer
+
+pub returns-in-Flow-clause-leaves : goal.returns-in-Flow-clause-leaves
+returns-in-Flow-clause-leaves c = λ block.
+    let found = c.innermost.ensures ∙ ap (λ (x : List Form). top (stack x)) c.deref.ensures.value in
+    absurd (apart (top (stack c.args.forms.now.items)) block (subst IsFlow (sym c.in-Flow.is ∙ found) tt))
+
+pub returns-in-FlowTagged-clause-leaves : goal.returns-in-FlowTagged-clause-leaves
+returns-in-FlowTagged-clause-leaves c = λ block.
+    let found = c.innermost.ensures ∙ ap (λ (x : List Form). top (stack x)) c.deref.ensures.value in
+    absurd (apart (top (stack c.args.forms.now.items)) block (subst IsFlow (sym c.in-FlowTagged.is ∙ found) tt))
+
+pub returns-in_default-clause-leaves : goal.returns-in_default-clause-leaves
+returns-in_default-clause-leaves c = λ block. c.after-in_default.ensures.leaves
+
+pub returns-in-Flow-clause-shuts : goal.returns-in-Flow-clause-shuts
+returns-in-Flow-clause-shuts c = λ flow. c.after.ensures.shuts
+
+pub returns-in-FlowTagged-clause-shuts : goal.returns-in-FlowTagged-clause-shuts
+returns-in-FlowTagged-clause-shuts c = λ flow. c.after_tag.ensures.shuts
+
+pub returns-in_default-clause-shuts : goal.returns-in_default-clause-shuts
+returns-in_default-clause-shuts c = λ flow.
+    let found = c.innermost.ensures ∙ ap (λ (x : List Form). top (stack x)) c.deref.ensures.value in
+    no_shuts c.args.text.now (stack c.args.forms.now.items) (stack c.after-in_default.new.forms.items) c.args.at c.innermost.result c.after-in_default.result found (block_of c.innermost.result c.in_default.not-Flow c.in_default.not-FlowTagged) flow
+
+pub returns-in-Flow-clause-again : goal.returns-in-Flow-clause-again
+returns-in-Flow-clause-again c = λ starts.
+    let text = c.args.text.now in
+    let fs = stack c.args.forms.now.items in
+    let found = c.innermost.ensures ∙ ap (λ (x : List Form). top (stack x)) c.deref.ensures.value in
+    let flow = subst IsFlow (sym (sym found ∙ c.in-Flow.is)) tt in
+    tail_again (NoneLonger text stage.After fs c.args.builder.now c.args.at) text fs c.args.builder.now c.args.at (2 * c.args.at + 2) (stack c.after.new.forms.items) c.after.new.builder c.after.result flow c.requires.fits.0
+    (subst (λ q. starts_scalar (ahead text q c.args.at).token ≡ true) (flow_in (top fs) flow) starts) (c.after.ensures.gives text (refl, placed text true c.args.at c.utf8.text c.requires.boundary))
+
+pub returns-in-FlowTagged-clause-again : goal.returns-in-FlowTagged-clause-again
+returns-in-FlowTagged-clause-again c = λ starts.
+    let text = c.args.text.now in
+    let fs = stack c.args.forms.now.items in
+    let found = c.innermost.ensures ∙ ap (λ (x : List Form). top (stack x)) c.deref.ensures.value in
+    let flow = subst IsFlow (sym (sym found ∙ c.in-FlowTagged.is)) tt in
+    tail_again (NoneLonger text stage.After fs c.args.builder.now c.args.at) text fs c.args.builder.now c.args.at (2 * c.args.at + 2) (stack c.after_tag.new.forms.items) c.after_tag.new.builder c.after_tag.result flow c.requires.fits.0
+    (subst (λ q. starts_scalar (ahead text q c.args.at).token ≡ true) (flow_in (top fs) flow) starts) (c.after_tag.ensures.gives text (refl, placed text true c.args.at c.utf8.text c.requires.boundary))
+
+pub returns-in_default-clause-again : goal.returns-in_default-clause-again
+returns-in_default-clause-again c = λ starts.
+    let text = c.args.text.now in
+    let fs = stack c.args.forms.now.items in
+    let found = c.innermost.ensures ∙ ap (λ (x : List Form). top (stack x)) c.deref.ensures.value in
+    let block = block_in (top fs) (subst IsBlock found (block_of c.innermost.result c.in_default.not-Flow c.in_default.not-FlowTagged)) in
+    again_from (NoneBehind text fs c.args.builder.now c.args.at) (NoneLonger text stage.After fs c.args.builder.now c.args.at) c.after-in_default.result (λ none other x cut fits t h. none other x cut t h)
+    (c.after-in_default.ensures.again (subst (λ q. starts_scalar (ahead text q c.args.at).token ≡ true) block starts))

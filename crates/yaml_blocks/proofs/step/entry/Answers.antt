@@ -1,4 +1,4 @@
-use Rattle.std.proofs.Common.{true, List, sym, ap, ◌∙◌}
+use Rattle.std.proofs.Common.{◌≡◌, true, List, sym, ap, ◌∙◌, subst}
 use Rattle.yaml_blocks.specs.declared.form.Form.{Form}
 use Rattle.yaml_blocks.specs.declared.form.Form.TheVariants.{Flow}
 use Rattle.yaml_blocks.specs.code.Rest.{top}
@@ -7,6 +7,9 @@ use Rattle.yaml_blocks.proofs.SameTexts.{seen_alike}
 use Rattle.yaml_blocks.proofs.Fixed.{entry_step}
 use Rattle.yaml_blocks.proofs.Stopped.{entry_stops}
 use Rattle.yaml_blocks.proofs.Fed.{entry_feeds}
+use Rattle.yaml_blocks.specs.Ahead.{ahead}
+use Rattle.yaml_blocks.specs.Nodes.{starts_scalar}
+use Rattle.yaml_blocks.specs.code.Closers.{in_flow}
 use Rattle.yaml_blocks.proofs.step.entry.Goals as goal
 
 pub returns-clause-gives : goal.returns-clause-gives
@@ -28,6 +31,9 @@ returns-clause-feeds c =
     entry_feeds c.args.text.now (top (stack c.args.forms.now.items)) c.args.at c.in-Flow.map (stack c.entry.new.forms.items) c.entry.result form c.entry.ensures.feeds
 
 pub returns-clause-longer : goal.returns-clause-longer
-returns-clause-longer c = λ known.
+returns-clause-longer c = c.entry.ensures.longer
+
+pub returns-clause-again : goal.returns-clause-again
+returns-clause-again c = λ starts.
     let form = sym (c.innermost.ensures ∙ ap (λ (x : List Form). top (stack x)) c.deref.ensures.value) ∙ c.in-Flow.is in
-    c.entry.ensures.longer (λ m. known (form ∙ ap Flow m))
+    c.entry.ensures.again (subst (λ q. starts_scalar (ahead c.args.text.now q c.args.at).token ≡ true) (ap in_flow form) starts)

@@ -1,11 +1,17 @@
-use Rattle.std.proofs.Common.{ℕ, List, sym, subst}
+use Rattle.std.proofs.Common.{ℕ, List, sym, ◌∙◌, subst}
 use Rattle.std.specs.Str.{IsCharBoundary, IsUtf8}
 use Rattle.yaml_blocks.specs.declared.stage.Stage.{Stage}
 use Rattle.yaml_blocks.specs.code.Rest.{top}
 use Rattle.yaml_blocks.specs.code.Steps.{stack, Rest, Fits, SameStep, reached, Gives}
 use Rattle.yaml_blocks.specs.code.Twins.{StopsStep, FixesStep}
 use Rattle.yaml_blocks.specs.code.Feeds.{FeedsStep}
-use Rattle.yaml_blocks.specs.code.Twins.{IsKnown, Lengthens}
+use Rattle.yaml_blocks.specs.code.Twins.{Lengthens}
+use Rattle.yaml_blocks.proofs.Extended.{entry_apart, value_apart, after_apart}
+use Rattle.yaml_blocks.specs.Ahead.{ahead}
+use Rattle.yaml_blocks.specs.Nodes.{starts_scalar}
+use Rattle.yaml_blocks.specs.code.Closers.{in_flow}
+use Rattle.yaml_blocks.specs.code.ReadAgain.{SignStays}
+use Rattle.std.proofs.Common.{◌≡◌, true}
 use Rattle.yaml_blocks.proofs.step.step.Goals as goal
 
 pub entry-requires-clause-fits : goal.entry-requires-clause-fits
@@ -64,12 +70,33 @@ returns-in-After-clause-feeds c = subst (λ (s : Stage). FeedsStep c.args.text.n
 
 pub returns-in-Entry-clause-longer : goal.returns-in-Entry-clause-longer
 returns-in-Entry-clause-longer c =
-    subst (λ (s : Stage). IsKnown c.args.text.now s (top (stack c.args.forms.now.items)) c.args.position.at → Lengthens c.args.text.now s (stack c.args.forms.now.items) c.args.builder.now c.args.position.at c.entry.result) (sym c.in-Entry.is) c.entry.ensures.longer
+    subst (λ (s : Stage). Lengthens c.args.text.now s (stack c.args.forms.now.items) c.args.builder.now c.args.position.at c.entry.result) (sym c.in-Entry.is) c.entry.ensures.longer
 
 pub returns-in-Value-clause-longer : goal.returns-in-Value-clause-longer
 returns-in-Value-clause-longer c =
-    subst (λ (s : Stage). IsKnown c.args.text.now s (top (stack c.args.forms.now.items)) c.args.position.at → Lengthens c.args.text.now s (stack c.args.forms.now.items) c.args.builder.now c.args.position.at c.value.result) (sym c.in-Value.is) c.value.ensures.longer
+    subst (λ (s : Stage). Lengthens c.args.text.now s (stack c.args.forms.now.items) c.args.builder.now c.args.position.at c.value.result) (sym c.in-Value.is) c.value.ensures.longer
 
 pub returns-in-After-clause-longer : goal.returns-in-After-clause-longer
 returns-in-After-clause-longer c =
-    subst (λ (s : Stage). IsKnown c.args.text.now s (top (stack c.args.forms.now.items)) c.args.position.at → Lengthens c.args.text.now s (stack c.args.forms.now.items) c.args.builder.now c.args.position.at c.after.result) (sym c.in-After.is) c.after.ensures.longer
+    subst (λ (s : Stage). Lengthens c.args.text.now s (stack c.args.forms.now.items) c.args.builder.now c.args.position.at c.after.result) (sym c.in-After.is) c.after.ensures.longer
+
+pub returns-in-Entry-clause-extends : goal.returns-in-Entry-clause-extends
+returns-in-Entry-clause-extends c = ((λ block. ((λ e. absurd (entry_apart (sym c.in-Entry.is ∙ e))), (λ e. absurd (after_apart c.args.position.stage e c.in-Entry.is)))), (λ flow. c.entry.ensures.shuts))
+
+pub returns-in-Value-clause-extends : goal.returns-in-Value-clause-extends
+returns-in-Value-clause-extends c = ((λ block. ((λ e. c.value.ensures.extends block), (λ e. absurd (value_apart (sym c.in-Value.is ∙ e))))), c.value.ensures.shuts)
+
+pub returns-in-After-clause-extends : goal.returns-in-After-clause-extends
+returns-in-After-clause-extends c = ((λ block. ((λ e. absurd (value_apart (sym e ∙ c.in-After.is))), (λ e. c.after.ensures.leaves block))), c.after.ensures.shuts)
+
+pub returns-in-Entry-clause-again : goal.returns-in-Entry-clause-again
+returns-in-Entry-clause-again c =
+    subst (λ (s : Stage). starts_scalar (ahead c.args.text.now (in_flow (top (stack c.args.forms.now.items))) c.args.position.at).token ≡ true → SignStays c.args.text.now s (stack c.args.forms.now.items) c.args.builder.now c.args.position.at c.entry.result) (sym c.in-Entry.is) c.entry.ensures.again
+
+pub returns-in-Value-clause-again : goal.returns-in-Value-clause-again
+returns-in-Value-clause-again c =
+    subst (λ (s : Stage). starts_scalar (ahead c.args.text.now (in_flow (top (stack c.args.forms.now.items))) c.args.position.at).token ≡ true → SignStays c.args.text.now s (stack c.args.forms.now.items) c.args.builder.now c.args.position.at c.value.result) (sym c.in-Value.is) c.value.ensures.again
+
+pub returns-in-After-clause-again : goal.returns-in-After-clause-again
+returns-in-After-clause-again c =
+    subst (λ (s : Stage). starts_scalar (ahead c.args.text.now (in_flow (top (stack c.args.forms.now.items))) c.args.position.at).token ≡ true → SignStays c.args.text.now s (stack c.args.forms.now.items) c.args.builder.now c.args.position.at c.after.result) (sym c.in-After.is) c.after.ensures.again

@@ -3,7 +3,7 @@ use Rattle.yaml_blocks.specs.declared.form.Form.{Form}
 use Rattle.yaml_blocks.specs.declared.stage.Stage.TheVariants as stage
 use Rattle.yaml_blocks.specs.Ahead.{ahead}
 use Rattle.yaml_blocks.specs.code.Rest.{top}
-use Rattle.yaml_blocks.specs.code.Steps.{stack, IsSeen, IsBehind, SameStep}
+use Rattle.yaml_blocks.specs.code.Steps.{stack, IsBlock, IsFlow, IsSeen, IsBehind, SameStep}
 use Rattle.yaml_blocks.specs.code.Twins.{FixesStep}
 use Rattle.yaml_blocks.proofs.AwaitedNodes.{seen_near}
 use Rattle.yaml_blocks.proofs.Fixed.{value_step, flow_value_step}
@@ -13,6 +13,12 @@ use Rattle.yaml_blocks.proofs.SameTexts.{seen_alike}
 use Rattle.yaml_blocks.proofs.Stopped.{flow_value_stops, value_stops}
 use Rattle.yaml_blocks.proofs.Fed.{flow_value_feeds, block_feeds}
 use Rattle.yaml_blocks.specs.code.Feeds.{FeedsStep}
+use Rattle.yaml_blocks.proofs.Extended.{flow_extends, no_shuts}
+use Rattle.yaml_blocks.specs.Nodes.{starts_scalar}
+use Rattle.yaml_blocks.specs.code.ReadAgain.{NoneAwaited, NoneLonger}
+use Rattle.yaml_blocks.proofs.FedSites.{again_from}
+use Rattle.yaml_blocks.proofs.FedSteps.{flow_in, block_in}
+use Rattle.std.proofs.Common.{◌≡◌}
 use Rattle.yaml_blocks.proofs.step.value.Goals as goal
 
 pub value-requires-clause-misses : goal.value-requires-clause-misses
@@ -79,7 +85,41 @@ returns-clause-feeds c =
     subst (λ (f : Form). FeedsStep c.args.text.now stage.Value f c.args.at gs c.node.result) found (block_feeds c.args.text.now stage.Value c.innermost-form.result c.args.at gs c.node.result (c.is_flow.ensures.no c.if-is_flow.false) c.node.ensures.opens)
 
 pub returns-then-is_flow-clause-longer : goal.returns-then-is_flow-clause-longer
-returns-then-is_flow-clause-longer c = λ known. c.value.ensures.longer
+returns-then-is_flow-clause-longer c = c.value.ensures.longer
 
 pub returns-clause-longer : goal.returns-clause-longer
-returns-clause-longer c = λ known. c.node.ensures.longer
+returns-clause-longer c = c.node.ensures.longer
+
+pub returns-then-is_flow-clause-extends : goal.returns-then-is_flow-clause-extends
+returns-then-is_flow-clause-extends c = λ block.
+    let found = c.innermost-form.ensures ∙ ap (λ (x : List Form). top (stack x)) c.deref.ensures.value in
+    flow_extends c.args.text.now (stack c.args.forms.now.items) (stack c.value.new.forms.items) c.args.builder.now c.value.new.builder c.args.at c.innermost-form.result c.value.result found (c.is_flow.ensures.yes c.if-is_flow.true) block
+
+pub returns-clause-extends : goal.returns-clause-extends
+returns-clause-extends c = λ block. c.node.ensures.extends
+
+pub returns-then-is_flow-clause-shuts : goal.returns-then-is_flow-clause-shuts
+returns-then-is_flow-clause-shuts c = λ flow. c.value.ensures.shuts
+
+pub returns-clause-shuts : goal.returns-clause-shuts
+returns-clause-shuts c = λ flow.
+    let found = c.innermost-form.ensures ∙ ap (λ (x : List Form). top (stack x)) c.deref.ensures.value in
+    no_shuts c.args.text.now (stack c.args.forms.now.items) (stack c.node.new.forms.items) c.args.at c.innermost-form.result c.node.result found (c.is_flow.ensures.no c.if-is_flow.false) flow
+
+pub returns-then-is_flow-clause-again : goal.returns-then-is_flow-clause-again
+returns-then-is_flow-clause-again c = λ starts.
+    let text = c.args.text.now in
+    let at = c.args.at in
+    let fs = stack c.args.forms.now.items in
+    let u = c.args.builder.now in
+    let found = c.innermost-form.ensures ∙ ap (λ (x : List Form). top (stack x)) c.deref.ensures.value in
+    let flow = flow_in (top fs) (subst IsFlow found (c.is_flow.ensures.yes c.if-is_flow.true)) in
+    again_from (NoneAwaited text fs u at) (NoneLonger text stage.Value fs u at) c.value.result (λ none other x cut fits t h. none other x t h)
+    (c.value.ensures.again (subst (λ q. starts_scalar (ahead text q at).token ≡ true) flow starts))
+
+pub returns-clause-again : goal.returns-clause-again
+returns-clause-again c = λ starts.
+    let fs = stack c.args.forms.now.items in
+    let found = c.innermost-form.ensures ∙ ap (λ (x : List Form). top (stack x)) c.deref.ensures.value in
+    let block = block_in (top fs) (subst IsBlock found (c.is_flow.ensures.no c.if-is_flow.false)) in
+    c.node.ensures.again (subst (λ q. starts_scalar (ahead c.args.text.now q c.args.at).token ≡ true) block starts)

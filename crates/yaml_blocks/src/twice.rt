@@ -1,0 +1,143 @@
+//! Texts with the place at which they are no document; those that end in a carriage return are read twice.
+ghost use Rattle.std.specs.Prelude.{ℕ, suc, List, [], ◌∷◌, ◌++◌, ◌≡◌, ◌<◌, ◌≤◌, ◌⊎◌, ◌^◌, length, true, false, IsErrOf, IfOk, MatchResult, string_bytes};
+ghost use Rattle.std.specs.Result.{IfErr};
+ghost use Rattle.doc_values.specs.Limits.{template_limit};
+ghost use Rattle.doc_values.specs.Tree.{size};
+ghost use Rattle.yaml_scalars.specs.code.Limits.{text_limit};
+ghost use Rattle.yaml_scalars.specs.Lines.{ends_with};
+ghost use Rattle.yaml_blocks.specs.Answers.{Reads};
+ghost use Rattle.yaml_blocks.specs.Places.{IsSyntax};
+ghost use Rattle.yaml_blocks.specs.Yaml.{IsStart};
+ghost use Rattle.yaml_blocks.specs.code.Memory.{BeginsDocument};
+ghost use Rattle.yaml_blocks.specs.code.PlacedTexts.{IsLate, IsPlacedText, SaysAgain};
+ghost use Rattle.yaml_blocks.specs.code.Places.{IsSyntaxStop};
+ghost use Rattle.yaml_blocks.specs.code.Refused.{IsStopped};
+
+use crate::ahead::{Token, bytes_ahead, look};
+use crate::node::offset;
+use crate::read::{document_start, read_document, text_start};
+use crate::returned::returned_place;
+use crate::stop::Stop;
+use doc_values::Doc;
+use std::alloc::{AllocError, Global};
+
+/// Whether a carriage return ends a text.
+fn ends_in_return(bytes: &[u8]) -> bool
+    ensures { result ≡ ends_with 13 bytes.now }
+{
+    if bytes.is_empty() {
+        return false;
+    }
+    bytes[bytes.len() - 1] == 13
+}
+
+/// Whether a document begins in a text.
+fn begins_document(text: &str) -> bool
+    requires { length text.now ≤ template_limit }
+    ensures yes { result ≡ true → BeginsDocument text.now }
+    ensures no { result ≡ false → BeginsDocument text.now → ⊥ }
+{
+    match document_start(text) {
+        Ok(_) => true,
+        Err(_) => false,
+    }
+}
+
+/// The place of a text that ends in a carriage return, in which no document begins since a comment or white space with one
+/// stands behind a line `---`: the length where the carriage return ends that, and nothing else stands there.
+fn start_place(text: &str) -> u32
+    requires small { length text.now ≤ template_limit }
+    requires returned { (front : List ℕ) × (text.now ≡ front ++ (13 ∷ [])) }
+    requires nowhere { (i : ℕ) → IsStart text.now i → ⊥ }
+    ensures { IsSyntax text.now result }
+{
+    let bytes = text.as_bytes();
+    let next = look(text, false, text_start(text));
+    let last = bytes.len() - 1;
+    match bytes_ahead(&bytes[..last], false, next.behind).token {
+        Token::End => offset(bytes.len()),
+        _ => offset(last),
+    }
+}
+
+/// A text with a line feed behind it.
+fn fed(alloc: Global, text: &str) -> Result<String, AllocError>
+    ensures { IfOk result (λ longer. string_bytes longer ≡ text.now ++ (10 ∷ [])) }
+{
+    let mut longer = String::from_str(alloc, text)?;
+    longer.push_str("\n")?;
+    Ok(longer)
+}
+
+/// Why reading stops in a text that ends in a carriage return, with a line feed behind it; none where that is a document.
+fn stop_again(alloc: Global, text: &str) -> Option<Stop>
+    requires small { length text.now ≤ template_limit }
+    requires returned { (front : List ℕ) × (text.now ≡ front ++ (13 ∷ [])) }
+    ensures { SaysAgain (text.now ++ (10 ∷ [])) result }
+{
+    let longer = match fed(alloc, text) {
+        Ok(longer) => longer,
+        Err(_) => return Some(Stop::NoMemory),
+    };
+    match read_document(alloc, longer.as_str()) {
+        Ok(_) => None,
+        Err(stop) => Some(stop),
+    }
+}
+
+/// A place that is no earlier than the last byte of a text of this length, by one that may be: behind a place at which the text is
+/// no document each of its places is one.
+fn place_at_end(len: usize, at: u32) -> u32
+    requires small { len ≤ text_limit }
+    requires some { 0 < len }
+    ensures late { len ≤ suc result }
+    ensures is { (text : List ℕ) → len ≡ length text → IsSyntax text at → IsSyntax text result }
+{
+    let last = offset(len - 1);
+    if at < last { last } else { at }
+}
+
+/// Why a text that ends in a carriage return and is not read is no document, where that shows at its last byte or behind it: the
+/// place is told by the same text with a line feed behind it.
+fn read_again(alloc: Global, text: &str) -> Stop
+    requires small { length text.now ≤ template_limit }
+    requires returned { (front : List ℕ) × (text.now ≡ front ++ (13 ∷ [])) }
+    ensures unread { (result ≡ Stop.NoMemory) ⊎ ((place : ℕ) × (result ≡ Stop.Unread place)) }
+    ensures placed { IsPlacedText (text.now ++ (10 ∷ [])) → IsSyntaxStop text.now result }
+    ensures late { IsLate text.now result }
+{
+    match stop_again(alloc, text) {
+        None => Stop::Unread(offset(text.len())),
+        Some(stop) => match stop {
+            Stop::NoMemory => Stop::NoMemory,
+            _ => Stop::Unread(place_at_end(text.len(), returned_place(text.len(), stop))),
+        },
+    }
+}
+
+/// The tree of a text, or why it is refused, with the place at which it is no document where no sign counts.
+pub(crate) fn read_placed<'s>(alloc: Global, text: &'s str) -> Result<Doc<'s>, Stop>
+    requires { length text.now ≤ template_limit }
+    ensures answer { MatchResult result (λ d. Reads text.now d) (λ e. IsStopped text.now e) }
+    ensures small { IfOk result (λ d. size d < 2 ^ 31) }
+    ensures memory { IsErrOf result Stop.NoMemory → BeginsDocument text.now }
+    ensures placed { (ends_with 13 text.now ≡ false → IsPlacedText text.now) → (ends_with 13 text.now ≡ true → IsPlacedText (text.now ++ (10 ∷ []))) → IfErr result (λ e. IsSyntaxStop text.now e) }
+    ensures late { IfErr result (λ e. IsLate text.now e) }
+{
+    match read_document(alloc, text) {
+        Ok(doc) => Ok(doc),
+        Err(Stop::Unread(at)) => {
+            if !ends_in_return(text.as_bytes()) {
+                return Err(Stop::Unread(at));
+            }
+            if !begins_document(text) {
+                return Err(Stop::Unread(start_place(text)));
+            }
+            if (at as usize) + 1 < text.len() {
+                return Err(Stop::Unread(at));
+            }
+            Err(read_again(alloc, text))
+        }
+        Err(stop) => Err(stop),
+    }
+}
