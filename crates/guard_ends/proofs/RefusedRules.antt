@@ -2,7 +2,7 @@
 use Rattle.std.proofs.Common.{ℕ, List, inl}
 use Rattle.guard_ends.specs.Inputs.{RefusesRules, RefusesUnnamed}
 use Rattle.guard_ends.specs.declared.ends.Refusal.{Refusal}
-use Rattle.guard_ends.specs.declared.ends.Refusal.TheVariants.{At, DataUnread, EvidenceSyntax, NotText, TextTooLong, TooLong}
+use Rattle.guard_ends.specs.declared.ends.Refusal.TheVariants.{At, EvidenceSyntax, NotText, TextTooLong, TooLong}
 use Rattle.guard_ends.specs.declared.ends.Which.TheVariants as file
 
 pub unnamed-rules : (bytes : List ℕ) (refusal : Refusal) → RefusesUnnamed bytes refusal → RefusesRules bytes refusal
@@ -21,6 +21,5 @@ unnamed-rules bytes (At file.Template kind at name) none = absurd none
 unnamed-rules bytes (At file.Params kind at name) none = absurd none
 unnamed-rules bytes (At file.Proof kind at name) none = absurd none
 unnamed-rules bytes (At file.Tests kind at name) none = absurd none
-unnamed-rules bytes (DataUnread which) none = absurd none
 unnamed-rules bytes (EvidenceSyntax number) none = absurd none
 unnamed-rules bytes TextTooLong none = absurd none

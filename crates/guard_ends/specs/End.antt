@@ -1,13 +1,19 @@
 -- How a call ends: the status of each end, when a fault or want of memory may come in place of the end that the order of work
--- gives, and what out and err took.
-use Rattle.std.specs.Prelude.{ℕ, ◌≡◌, ◌≢◌, ◌++◌, ◌⊎◌, List, [], Option, Some, Bool, true, false}
+-- gives, and what out and err took; ends with evidence and without, and ends that differ in a place.
+use Rattle.std.specs.Prelude.{ℕ, ◌≡◌, ◌≢◌, ◌++◌, ◌⊎◌, List, [], Option, Some, None, Bool, true, false}
 use Rattle.std.specs.Option.{ForSome}
 use Rattle.guard_io.specs.Outside.{IsPrefix, FaultCounted}
+use Rattle.yaml_blocks.specs.Places.{IsShown}
+use Rattle.guard_ends.specs.Inputs.{format_of}
 use Rattle.guard_ends.specs.Lines.{read_fault_line, pattern_line, write_fault_line, memory_line}
-use Rattle.guard_ends.specs.Order.{ComesTo, Contents, EndOf, Ended, Loads, Makes}
+use Rattle.guard_ends.specs.Order.{ComesTo, Contents, EndOf, Ended, Loads, Makes, refused}
 use Rattle.guard_ends.specs.declared.ends.End.{End}
 use Rattle.guard_ends.specs.declared.ends.End.TheVariants as end_is
+use Rattle.guard_ends.specs.declared.ends.Refusal.TheVariants.{At}
+use Rattle.guard_ends.specs.declared.ends.RefusalKind.TheVariants.{Syntax}
 use Rattle.guard_ends.specs.declared.ends.Which.{Which}
+use Rattle.guard_ends.specs.declared.ends.Which.TheVariants as file
+use Rattle.guard_ends.specs.declared.format.Format.TheVariants.{Yaml}
 
 -- the exit status of each end
 abbrev pub status_of : End → ℕ
@@ -131,3 +137,37 @@ IsBeside plain e =
 -- two ends with evidence: they are equal, or they are alike in how they end and in the report, and each has evidence of its own
 abbrev pub AreSameButEvidence : Ended → Ended → Type 0
 AreSameButEvidence e other = (e ≡ other) ⊎ ((is_reported e.how ≡ true) × (e.how ≡ other.how) × (e.err ≡ other.err))
+
+-- Ends that differ in a place alone.
+
+-- which files with which bytes are read as YAML
+abbrev pub ReadAsYaml : Type 1
+ReadAsYaml = Which → List ℕ → Type 0
+
+-- two ends that refuse a file which is read as YAML and is no document, at places that both show it
+pub record AreMisread (IsYaml : ReadAsYaml) (e other : Ended) : Type 0 where
+  pub which : Which
+  pub bytes : List ℕ
+  pub read : IsYaml which bytes
+  pub at : ℕ
+  pub place : ℕ
+  pub shown : IsShown bytes at
+  pub shown_too : IsShown bytes place
+  pub first : e ≡ refused bytes (At which Syntax at None)
+  pub second : other ≡ refused bytes (At which Syntax place None)
+
+-- two ends are equal, or differ in such a place alone
+abbrev pub AreSameButPlace : ReadAsYaml → Ended → Ended → Type 0
+AreSameButPlace IsYaml e other = (e ≡ other) ⊎ AreMisread IsYaml e other
+
+-- the file of a name is read as YAML, and has these bytes
+abbrev pub IsYamlFile : Contents → (name : List ℕ) → (bytes : List ℕ) → Type 0
+IsYamlFile told name bytes = (format_of name ≡ Yaml) × (told name ≡ Some bytes)
+
+-- so one file of a call, and so a template or the parameters beside it
+abbrev pub IsYamlOf : Which → Contents → (name : List ℕ) → ReadAsYaml
+IsYamlOf which told name w bytes = (w ≡ which) × IsYamlFile told name bytes
+
+abbrev pub IsYamlAmong : Contents → (template : List ℕ) → (params : Option (List ℕ)) → ReadAsYaml
+IsYamlAmong told template params w bytes =
+    IsYamlOf file.Template told template w bytes ⊎ ((name : List ℕ) × (params ≡ Some name) × IsYamlOf file.Params told name w bytes)

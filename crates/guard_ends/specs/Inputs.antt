@@ -33,7 +33,7 @@ use Rattle.guard_testfile.specs.Refusals.{IsTestsFile, RefusesTests}
 use Rattle.guard_testfile.specs.declared.refusal.TestRefusal.{TestRefusal}
 use Rattle.guard_testfile.specs.declared.refusal.TestRefusal.TheVariants as test_refusal
 use Rattle.guard_ends.specs.declared.ends.Refusal.{Refusal}
-use Rattle.guard_ends.specs.declared.ends.Refusal.TheVariants.{DataUnread, TooLong, NotText, EvidenceSyntax, TextTooLong, At}
+use Rattle.guard_ends.specs.declared.ends.Refusal.TheVariants.{TooLong, NotText, EvidenceSyntax, TextTooLong, At}
 use Rattle.guard_ends.specs.declared.ends.RefusalKind.{RefusalKind}
 use Rattle.guard_ends.specs.declared.ends.RefusalKind.TheVariants.{Unclosed, BadByte, NumberRange, NestTooDeep, Syntax, BadRange, DuplicateRule, DuplicateName, UnknownRule, UnknownVariable, UnknownFunction, NeedsArguments, TakesNone, ArgCount, LiteralWanted, RecursiveRule, RecursiveVariable, TooDeep, DuplicateKey, Tab, Anchor, Tag, Directive, ManyDocuments, TestShape, NoSuchRule}
 use Rattle.guard_ends.specs.declared.ends.Which.{Which}
@@ -82,10 +82,9 @@ json_kind json_refusal.NoMemory = None
 abbrev pub RefusesJson : List ℕ → RefusalKind → ℕ → Type 0
 RefusesJson text kind at = (r : JsonRefusal) × (json_kind r ≡ Some (kind, at)) × json.IsRefused text r
 
--- what a refusal of YAML is for one of these files: its kind at its place, or that the file is not read so far; want of memory
--- is none
+-- what a refusal of YAML is for one of these files: its kind at its place; want of memory is none
 abbrev pub of_yaml : Which → YamlRefusal → Option Refusal
-of_yaml which yaml_refusal.Unread = Some (DataUnread which)
+of_yaml which (yaml_refusal.Syntax at) = Some (At which Syntax at None)
 of_yaml which (yaml_refusal.Tab at) = Some (At which Tab at None)
 of_yaml which (yaml_refusal.Anchor at) = Some (At which Anchor at None)
 of_yaml which (yaml_refusal.Tag at) = Some (At which Tag at None)

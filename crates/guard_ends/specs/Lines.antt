@@ -2,7 +2,7 @@
 use Rattle.std.specs.Prelude.{ℕ, ◌++◌, List, [], Option, Some, None, codes, decimal}
 use Rattle.doc_values.specs.Position.{line_at, column_at}
 use Rattle.guard_ends.specs.declared.ends.Refusal.{Refusal}
-use Rattle.guard_ends.specs.declared.ends.Refusal.TheVariants.{DataUnread, TooLong, NotText, EvidenceSyntax, TextTooLong, At}
+use Rattle.guard_ends.specs.declared.ends.Refusal.TheVariants.{TooLong, NotText, EvidenceSyntax, TextTooLong, At}
 use Rattle.guard_ends.specs.declared.ends.RefusalKind.{RefusalKind}
 use Rattle.guard_ends.specs.declared.ends.RefusalKind.TheVariants.{Unclosed, BadByte, NumberRange, NestTooDeep, Syntax, BadRange, DuplicateRule, DuplicateName, UnknownRule, UnknownVariable, UnknownFunction, NeedsArguments, TakesNone, ArgCount, LiteralWanted, RecursiveRule, RecursiveVariable, TooDeep, DuplicateKey, Tab, Anchor, Tag, Directive, ManyDocuments, BadPattern, NotAMap, SharedKey, TestShape, NoSuchRule}
 use Rattle.guard_ends.specs.declared.ends.Which.{Which}
@@ -87,7 +87,6 @@ evidence_line number = codes "guard: proof line " ++ decimal number ++ codes ": 
 
 -- the line of a refusal of a file with these bytes
 abbrev pub refusal_line : List ℕ → Refusal → List ℕ
-refusal_line bytes (DataUnread which) = whole_line which (codes "DataUnread")
 refusal_line bytes (TooLong which) = whole_line which (codes "TooLong")
 refusal_line bytes (NotText which) = whole_line which (codes "NotText")
 refusal_line bytes (EvidenceSyntax number) = evidence_line number

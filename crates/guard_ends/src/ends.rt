@@ -71,9 +71,6 @@ pub enum RefusalKind {
 /// Why a file is refused.
 #[derive(Debug, Drop)]
 pub enum Refusal {
-    /// The template, the parameters or the tests are read as YAML and have no tree in its profile, and no refusal with a place
-    /// comes for them so far.
-    DataUnread(Which),
     /// The file has more bytes than it may have: rules 1 MiB, a template, parameters and tests 8 MiB, evidence 256 MiB.
     TooLong(Which),
     /// The file is not UTF-8.

@@ -19,6 +19,7 @@ mod OneTest
 mod OneText
 mod OneVerdict
 mod OneWritten
+mod RangedTrees
 mod RankedGraphs
 mod TestsMet
 mod WithEvidence

@@ -12,12 +12,13 @@ use Rattle.guard_syntax.specs.declared.row.Verdict.{Verdict}
 use Rattle.rule_meaning.specs.StoreModel.{StoreModel}
 use Rattle.evidence_rules.specs.Follows.{Accepts, AllFollow, nothing_made}
 use Rattle.rule_meaning.specs.Seeing.{grown}
+use Rattle.guard_ends.specs.End.{ReadAsYaml}
 use Rattle.guard_ends.specs.Check.{accepted_text, rejected_text}
 use Rattle.guard_ends.specs.Inputs.{IsProof, IsTooLong, RefusesProof}
-use Rattle.guard_ends.specs.Order.{Contents, Ended, Ending, Ends, Inputs, IsChecked, OfEvidence, Reading, Work}
+use Rattle.guard_ends.specs.Order.{Contents, Ended, Ending, Ends, Inputs, IsChecked, OfEvidence, Reading, Work, refused}
 use Rattle.guard_ends.specs.declared.ends.End.TheVariants as end_is
 use Rattle.guard_ends.specs.declared.ends.Refusal.{Refusal}
-use Rattle.guard_ends.specs.declared.ends.Refusal.TheVariants.{DataUnread, TooLong, NotText, EvidenceSyntax, TextTooLong, At}
+use Rattle.guard_ends.specs.declared.ends.Refusal.TheVariants.{TooLong, NotText, EvidenceSyntax, TextTooLong, At}
 use Rattle.guard_ends.specs.declared.ends.Which.TheVariants as file
 use Rattle.guard_laws.proofs.OneStage.{HasOne, OneReading, ending-is, ending-one, loaded, loading-one, read-goes, reading-one}
 use Rattle.guard_laws.proofs.OneVerdict.{said-one, verdicts-one}
@@ -107,7 +108,6 @@ ProofWhy bytes r =
     ⊎ ((n : ℕ) × (r ≡ EvidenceSyntax n) × (length bytes ≤ evidence_limit) × IsFault bytes n)
 
 proof-why : (bytes : List ℕ) (r : Refusal) → RefusesProof bytes r → ProofWhy bytes r
-proof-why bytes (DataUnread which) h = absurd h
 proof-why bytes TextTooLong h = absurd h
 proof-why bytes (TooLong file.Rules) h = absurd h
 proof-why bytes (TooLong file.Template) h = absurd h
@@ -138,14 +138,14 @@ module _ (bytes : List ℕ) (laws : EvidenceLaws bytes) where
       let made : Version → List Line → Versioned = λ version lines. record { version = version; lines = lines } in
       ap₂ made same.0 same.1
 
-  pub proof-reading : OneReading Versioned RefusesProof IsProof bytes
-  proof-reading = record {
+  pub proof-reading : (IsYaml : ReadAsYaml) → OneReading IsYaml Versioned RefusesProof IsProof bytes
+  proof-reading IsYaml = record {
     one = evidence-one;
-    refusal = λ r q h h'. why-one r q (proof-why bytes r h) (proof-why bytes q h');
+    refusal = λ r q h h'. inl (ap (refused bytes) (why-one r q (proof-why bytes r h) (proof-why bytes q h')));
     apart = λ r evidence h whole. why-apart r evidence (proof-why bytes r h) whole;
   }
 
-module _ (bytes : List ℕ) (laws : EvidenceLaws bytes) (told : Contents) (name : List ℕ) (known : told name ≡ Some bytes) (inputs : Inputs) where
+module _ (IsYaml : ReadAsYaml) (bytes : List ℕ) (laws : EvidenceLaws bytes) (told : Contents) (name : List ℕ) (known : told name ≡ Some bytes) (inputs : Inputs) where
   abbrev Judges : Versioned → Work
   Judges evidence = Ending (IsChecked inputs.rules inputs.tree evidence)
 
@@ -153,16 +153,16 @@ module _ (bytes : List ℕ) (laws : EvidenceLaws bytes) (told : Contents) (name 
   Reads_proof read = Reading RefusesProof IsProof read Judges
 
   -- where evidence is told, it is judged with one end
-  pub proof-one : HasOne (OfEvidence told name inputs)
+  pub proof-one : HasOne IsYaml (OfEvidence told name inputs)
   proof-one =
-      loading-one file.Proof told name bytes Reads_proof known
-      (reading-one Versioned RefusesProof IsProof bytes Judges (proof-reading bytes laws)
-      (λ evidence. ending-one (IsChecked inputs.rules inputs.tree evidence) (checked-one inputs.rules inputs.tree evidence)))
+      loading-one IsYaml file.Proof told name bytes Reads_proof known
+      (reading-one IsYaml Versioned RefusesProof IsProof bytes Judges (proof-reading bytes laws IsYaml)
+      (λ evidence. ending-one IsYaml (IsChecked inputs.rules inputs.tree evidence) (checked-one inputs.rules inputs.tree evidence)))
 
   -- and where it is read, its end is that of its lines
   pub proof-goes : (evidence : Versioned) → IsProof bytes evidence → (e : Ended) → OfEvidence told name inputs (Ends e)
       → IsChecked inputs.rules inputs.tree evidence e
   proof-goes evidence whole e came =
       ending-is (IsChecked inputs.rules inputs.tree evidence) e
-      (read-goes Versioned RefusesProof IsProof bytes Judges (proof-reading bytes laws) evidence whole e
+      (read-goes IsYaml Versioned RefusesProof IsProof bytes Judges (proof-reading bytes laws IsYaml) evidence whole e
       (loaded file.Proof told name bytes Reads_proof known e came))

@@ -7,13 +7,15 @@ use Rattle.guard_words.specs.Request.{Asked, AsksFor}
 use Rattle.guard_words.proofs.RequestLemmas.{asked_once, asked_parsed}
 use Rattle.report_text.specs.Texts.{Parameters}
 use Rattle.guard_ends.specs.Drill.{drill_report, drill_rules}
+use Rattle.guard_ends.specs.End.{AreSameButPlace, IsYamlAmong, ReadAsYaml}
 use Rattle.guard_ends.specs.Inputs.{IsRuleFile, IsTemplate, RefusesRules, format_of}
 use Rattle.guard_ends.specs.Order.{Alone, AreRead, AreTold, ComesTo, Contents, Ended, Ending, Ends, Inputs, IsDataOf, IsJudged, Joining, Loading, OfDrill, OverFiles, Point, Reading, ReadingInputs, WithParams, Work, WorkOf, refused}
 use Rattle.guard_ends.specs.declared.ends.Which.TheVariants as file
 use Rattle.guard_ends.specs.declared.format.Format.TheVariants.{Json}
 use Rattle.guard_laws.proofs.OneRules.{refusals-alike, refusal-apart, rules-one}
-use Rattle.guard_laws.proofs.OneStage.{HasOne, ending-is, ending-one, ends-one, loaded, loading-one}
+use Rattle.guard_laws.proofs.OneStage.{AreAmong, HasOne, NoYaml, ending-is, ending-one, ends-one, loaded, loading-one}
 use Rattle.guard_laws.proofs.OneSyntax.{OneSyntax}
+use Rattle.guard_laws.proofs.OneText.{IsText}
 use Rattle.guard_laws.proofs.OneTemplate.{OneTemplate, alone-as, alone-once, inputs-go, inputs-one, judged-one, params-as, params-once}
 
 -- ---- words ask for one thing
@@ -31,12 +33,12 @@ work-asked words told request asked p (inr (none, usage)) = absurd (none request
 
 -- ---- rules
 
-module _ (law : OneSyntax) (rules : List ℕ) (GoesOn : File → Work) where
+module _ (IsYaml : ReadAsYaml) (law : OneSyntax) (rules : List ℕ) (GoesOn : File → Work) where
   -- where the work behind the rules has one end, so has the work with them
-  pub rules-same : ((read : File) → HasOne (GoesOn read)) → (e other : Ended) → Reading RefusesRules IsRuleFile rules GoesOn (Ends e)
-      → Reading RefusesRules IsRuleFile rules GoesOn (Ends other) → e ≡ other
+  pub rules-same : ((read : File) → HasOne IsYaml (GoesOn read)) → (e other : Ended) → Reading RefusesRules IsRuleFile rules GoesOn (Ends e)
+      → Reading RefusesRules IsRuleFile rules GoesOn (Ends other) → AreSameButPlace IsYaml e other
   rules-same one e other (inl (r, h, is)) (inl (q, h', is')) =
-      ends-one e (refused rules r) is ∙ (ap (refused rules) (refusals-alike law rules r q h h') ∙ sym (ends-one other (refused rules q) is'))
+      inl (ends-one e (refused rules r) is ∙ (ap (refused rules) (refusals-alike law rules r q h h') ∙ sym (ends-one other (refused rules q) is')))
   rules-same one e other (inl (r, h, is)) (inr (read, whole, goes)) = absurd (refusal-apart law rules r read h whole)
   rules-same one e other (inr (read, whole, goes)) (inl (r, h, is)) = absurd (refusal-apart law rules r read h whole)
   rules-same one e other (inr (read, whole, goes)) (inr (read', whole', goes')) =
@@ -96,13 +98,22 @@ module _
     abbrev Over : Work
     Over = OverFiles told names.rules names.template names.params GoesOn
 
+    among-template : AreAmong (IsText file.Template (format_of names.template) texts.template) (IsYamlAmong told names.template names.params)
+    among-template which bytes (is, same, yaml) = inl (is, (yaml, known.template ∙ ap Some (sym same)))
+
+    among-params : (name : List ℕ) → names.params ≡ Some name → AreAmong (IsText file.Params (format_of name) texts.params) (IsYamlAmong told names.template names.params)
+    among-params name is which bytes (w, same, yaml) = inr (name, is, (w, (yaml, known.params name is ∙ ap Some (sym same))))
+
     -- where what a command does with the inputs has one end, so has the command
-    pub files-same : ((inputs : Inputs) → HasOne (GoesOn inputs)) → (e other : Ended) → Over (Ends e) → Over (Ends other) → e ≡ other
+    pub files-same : ((inputs : Inputs) → HasOne (IsYamlAmong told names.template names.params) (GoesOn inputs)) → (e other : Ended) → Over (Ends e) → Over (Ends other)
+        → AreSameButPlace (IsYamlAmong told names.template names.params) e other
     files-same each e other came came' =
-        rules-same law texts.rules (Loads_template texts.rules)
-        (λ read. loading-one file.Template told names.template texts.template (Reads_inputs texts.rules read) known.template
-        (inputs-one (format_of names.template) texts.rules read Joined texts.template laws.template GoesOn
-        (λ tree. params-once told texts.params laws.params texts.template tree names.params known.params) each)) e other
+        rules-same (IsYamlAmong told names.template names.params) law texts.rules (Loads_template texts.rules)
+        (λ read. loading-one (IsYamlAmong told names.template names.params) file.Template told names.template texts.template (Reads_inputs texts.rules read) known.template
+        (inputs-one (IsYamlAmong told names.template names.params) (format_of names.template) texts.rules read Joined texts.template laws.template GoesOn
+        among-template
+        (λ tree. params-once (IsYamlAmong told names.template names.params) told texts.params laws.params texts.template tree names.params
+        among-params known.params) each)) e other
         (loaded file.Rules told names.rules texts.rules Reads_rules known.rules e came)
         (loaded file.Rules told names.rules texts.rules Reads_rules known.rules other came')
 
@@ -111,10 +122,10 @@ module _
         → IsDataOf tree names.params texts.params data_tree params → AreRead read → (e : Ended) → Over (Ends e)
         → GoesOn (record { rules = read; tree = data_tree; texts = record { rules = texts.rules; template = texts.template; params = params } }) (Ends e)
     files-go read tree data_tree params whole whole' becomes all e came =
-        inputs-go (format_of names.template) texts.rules read Joined texts.template laws.template GoesOn tree data_tree params
-        (params-as told texts.params laws.params texts.template tree names.params data_tree params known.params becomes) whole' all e
+        inputs-go (IsYamlAmong told names.template names.params) (format_of names.template) texts.rules read Joined texts.template laws.template GoesOn tree data_tree params
+        (params-as (IsYamlAmong told names.template names.params) told texts.params laws.params texts.template tree names.params data_tree params known.params becomes) whole' all e
         (loaded file.Template told names.template texts.template (Reads_inputs texts.rules read) known.template e
-        (rules-go law texts.rules (Loads_template texts.rules) read whole e (loaded file.Rules told names.rules texts.rules Reads_rules known.rules e came)))
+        (rules-go (IsYamlAmong told names.template names.params) law texts.rules (Loads_template texts.rules) read whole e (loaded file.Rules told names.rules texts.rules Reads_rules known.rules e came)))
 
 -- ---- drills
 
@@ -128,13 +139,6 @@ module _ (law : OneSyntax) (count : ℕ) (one : OneTemplate (template_text count
   abbrev Reads_drill : Ended → Type 0
   Reads_drill e = Reading RefusesRules IsRuleFile drill_rules Over_drill (Ends e)
 
-  pub drill-same : (e other : Ended) → OfDrill count (Ends e) → OfDrill count (Ends other) → e ≡ other
-  drill-same e other came came' =
-      rules-same law drill_rules Over_drill
-      (λ rules. inputs-one Json drill_rules rules Alone (template_text count) one Judges (alone-once (template_text count))
-      (λ inputs. ending-one (IsJudged (drill_report count) inputs) (judged-one (drill_report count) inputs))) e other
-      (ending-is Reads_drill e came) (ending-is Reads_drill other came')
-
   -- the inputs of a drill
   abbrev pub drill_inputs : File → Forest → Inputs
   drill_inputs read tree = record { rules = read; tree = tree; texts = record { rules = drill_rules; template = template_text count; params = None } }
@@ -144,5 +148,5 @@ module _ (law : OneSyntax) (count : ℕ) (one : OneTemplate (template_text count
       → (e : Ended) → OfDrill count (Ends e) → IsJudged (drill_report count) (drill_inputs read tree) e
   drill-goes read tree whole whole' all e came =
       ending-is (IsJudged (drill_report count) (drill_inputs read tree)) e
-      (inputs-go Json drill_rules read Alone (template_text count) one Judges tree tree None (alone-as (template_text count) tree) whole' all e
-      (rules-go law drill_rules Over_drill read whole e (ending-is Reads_drill e came)))
+      (inputs-go NoYaml Json drill_rules read Alone (template_text count) one Judges tree tree None (alone-as (template_text count) tree) whole' all e
+      (rules-go NoYaml law drill_rules Over_drill read whole e (ending-is Reads_drill e came)))

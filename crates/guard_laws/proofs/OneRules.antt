@@ -6,12 +6,13 @@ use Rattle.rule_names.specs.Faults.{Fault}
 use Rattle.rule_names.specs.WellNamed.{WellNamed, IsNameFault}
 use Rattle.guard_laws.proofs.OneFault.{one-fault, fault-apart}
 use Rattle.guard_ends.specs.Inputs.{HasSyntax, IsText, IsTooLong, IsNoText, IsSyntax, IsRuleFile, RefusesText, RefusesNames, RefusesRules, RefusesUnnamed, name_kind, name_said}
+use Rattle.guard_ends.specs.Order.{refused}
 use Rattle.guard_ends.proofs.RefusedRules.{unnamed-rules}
 use Rattle.guard_ends.specs.declared.ends.Refusal.{Refusal}
-use Rattle.guard_ends.specs.declared.ends.Refusal.TheVariants.{DataUnread, TooLong, NotText, EvidenceSyntax, TextTooLong, At}
+use Rattle.guard_ends.specs.declared.ends.Refusal.TheVariants.{TooLong, NotText, EvidenceSyntax, TextTooLong, At}
 use Rattle.guard_ends.specs.declared.ends.RefusalKind.{RefusalKind}
 use Rattle.guard_ends.specs.declared.ends.Which.TheVariants as file
-use Rattle.guard_laws.proofs.OneStage.{OneReading}
+use Rattle.guard_laws.proofs.OneStage.{NoYaml, OneReading}
 use Rattle.guard_laws.proofs.OneSyntax.{OneSyntax, AreAlike, syntax-one, text-alike, text-apart}
 
 -- the refusals of a text without syntax, with their conditions
@@ -44,7 +45,6 @@ names-why bytes kind at name (f, spelled, (fault, first, is, place, said)) = (
 )
 
 rules-why : (bytes : List ℕ) (r : Refusal) → RefusesRules bytes r → RulesWhy bytes r
-rules-why bytes (DataUnread which) h = absurd h
 rules-why bytes (TooLong file.Rules) h = inl (refl, h)
 rules-why bytes (TooLong file.Template) h = absurd h
 rules-why bytes (TooLong file.Params) h = absurd h
@@ -126,7 +126,6 @@ abbrev UnnamedWhy : List ℕ → Refusal → Type 0
 UnnamedWhy bytes r = IsTooLong rules_limit bytes ⊎ IsNoText rules_limit bytes ⊎ IsPlaced bytes r
 
 unnamed-why : (bytes : List ℕ) (r : Refusal) → RefusesUnnamed bytes r → UnnamedWhy bytes r
-unnamed-why bytes (DataUnread which) h = absurd h
 unnamed-why bytes (TooLong file.Rules) h = inl h
 unnamed-why bytes (TooLong file.Template) h = absurd h
 unnamed-why bytes (TooLong file.Params) h = absurd h
@@ -151,9 +150,9 @@ unnamed-apart law bytes r f (inr (inl bad)) whole = bad.1 whole.text.utf8
 unnamed-apart law bytes r f (inr (inr (kind, at, is, text, h))) whole = text-apart law bytes kind at f h whole.read
 
 -- a text has one syntax or one refusal
-pub syntax-reading : OneSyntax → (bytes : List ℕ) → OneReading File RefusesUnnamed HasSyntax bytes
+pub syntax-reading : OneSyntax → (bytes : List ℕ) → OneReading NoYaml File RefusesUnnamed HasSyntax bytes
 syntax-reading law bytes = record {
   one = λ f g whole whole'. syntax-one law bytes f g whole.read whole'.read;
-  refusal = λ r q h h'. refusals-alike law bytes r q (unnamed-rules bytes r h) (unnamed-rules bytes q h');
+  refusal = λ r q h h'. inl (ap (refused bytes) (refusals-alike law bytes r q (unnamed-rules bytes r h) (unnamed-rules bytes q h')));
   apart = λ r f h whole. unnamed-apart law bytes r f (unnamed-why bytes r h) whole;
 }

@@ -11,8 +11,9 @@ use Rattle.guard_testfile.specs.declared.refusal.TestRefusal.{TestRefusal}
 use Rattle.guard_testfile.specs.declared.refusal.TestRefusal.TheVariants as test_refusal
 use Rattle.query_steps.proofs.LocatedAnswers.{one-answering}
 use Rattle.rule_meaning.specs.Locations.{Answers}
+use Rattle.guard_ends.specs.End.{IsYamlOf, ReadAsYaml}
 use Rattle.guard_ends.specs.Inputs.{AreCases, IsRuleFile, IsTemplate, RefusesCases, RefusesData, RefusesRules, format_of, of_tests}
-use Rattle.guard_ends.specs.Order.{AreRead, Contents, Ended, Ending, Ends, IsTested, Loading, MakingPatterns, OfTests, Reading, ReadingTests, Work, tested}
+use Rattle.guard_ends.specs.Order.{AreRead, Contents, Ended, Ending, Ends, IsTested, Loading, MakingPatterns, OfTests, Reading, ReadingTests, Work, refused, tested}
 use Rattle.guard_ends.specs.Reported.{world_over}
 use Rattle.guard_ends.specs.Tests.{AreFound, IsFound, found_of}
 use Rattle.guard_ends.specs.declared.ends.Refusal.{Refusal}
@@ -20,8 +21,9 @@ use Rattle.guard_ends.specs.declared.ends.Refusal.TheVariants.{At}
 use Rattle.guard_ends.specs.declared.ends.RefusalKind.TheVariants.{NoSuchRule, TestShape}
 use Rattle.guard_ends.specs.declared.ends.Which.TheVariants as file
 use Rattle.guard_laws.proofs.OneEnd.{rules-go, rules-same}
-use Rattle.guard_laws.proofs.OneStage.{HasOne, OneReading, ending-is, ending-one, loaded, loading-one, patterns-go, patterns-one, read-goes, reading-one}
+use Rattle.guard_laws.proofs.OneStage.{AreAmong, HasOne, OneReading, ending-is, ending-one, loaded, loading-one, patterns-go, patterns-one, read-goes, reading-more, reading-one}
 use Rattle.guard_laws.proofs.OneSyntax.{OneSyntax}
+use Rattle.guard_laws.proofs.OneText.{IsText}
 use Rattle.guard_laws.proofs.OneTemplate.{OneTemplate, template-reading}
 
 -- ---- a tree has cases or a refusal
@@ -70,10 +72,10 @@ module _ (rules : File) (tree : Forest) (law : OneAnswer rules tree) where
   why-apart r (inl (n, is, breaks)) tests = law.shaped n tests breaks
   why-apart r (inr (n, is, none)) tests = law.named n tests none
 
-  pub cases-reading : (bytes : List ℕ) → OneReading (List TestCase) (λ read. RefusesCases rules tree) (λ read. AreCases rules tree) bytes
-  cases-reading bytes = record {
+  pub cases-reading : (IsYaml : ReadAsYaml) (bytes : List ℕ) → OneReading IsYaml (List TestCase) (λ read. RefusesCases rules tree) (λ read. AreCases rules tree) bytes
+  cases-reading IsYaml bytes = record {
     one = λ x y whole whole'. whole.1 ∙ sym whole'.1;
-    refusal = λ r q h h'. why-one r q (cases-why h.0 r h.1 h.2) (cases-why h'.0 q h'.1 h'.2);
+    refusal = λ r q h h'. inl (ap (refused bytes) (why-one r q (cases-why h.0 r h.1 h.2) (cases-why h'.0 q h'.1 h'.2)));
     apart = λ r x h whole. why-apart r (cases-why h.0 r h.1 h.2) whole.0;
   }
 
@@ -128,20 +130,31 @@ module _
     abbrev Reads_rules : List ℕ → Work
     Reads_rules source = Reading RefusesRules IsRuleFile source (Loads_tests source)
 
-    patterns-same : (read : File) (tree : Forest) (cases : List TestCase) → HasOne (Makes_patterns read tree cases)
-    patterns-same read tree cases = patterns-one rules read (Judges read tree cases) (ending-one (IsTested read tree cases) (tested-one read tree cases))
+    abbrev pub IsYaml : ReadAsYaml
+    IsYaml = IsYamlOf file.Tests told s
 
-    cases-same : (read : File) (tree : Forest) → HasOne (Reads_cases read tree)
+    among : AreAmong (IsText file.Tests (format_of s) tests) IsYaml
+    among which bytes (is, same, yaml) = (is, (yaml, known.tests ∙ ap Some (sym same)))
+
+    reading-tests : OneReading IsYaml Forest (RefusesData file.Tests (format_of s)) (IsTemplate (format_of s)) tests
+    reading-tests =
+        reading-more (IsText file.Tests (format_of s) tests) IsYaml Forest (RefusesData file.Tests (format_of s)) (IsTemplate (format_of s)) tests among
+        (template-reading file.Tests (format_of s) tests one)
+
+    patterns-same : (read : File) (tree : Forest) (cases : List TestCase) → HasOne IsYaml (Makes_patterns read tree cases)
+    patterns-same read tree cases = patterns-one IsYaml rules read (Judges read tree cases) (ending-one IsYaml (IsTested read tree cases) (tested-one read tree cases))
+
+    cases-same : (read : File) (tree : Forest) → HasOne IsYaml (Reads_cases read tree)
     cases-same read tree =
-        reading-one (List TestCase) (λ bytes. RefusesCases read tree) (λ bytes. AreCases read tree) tests (Makes_patterns read tree)
-        (cases-reading read tree (answer read tree) tests) (patterns-same read tree)
+        reading-one IsYaml (List TestCase) (λ bytes. RefusesCases read tree) (λ bytes. AreCases read tree) tests (Makes_patterns read tree)
+        (cases-reading read tree (answer read tree) IsYaml tests) (patterns-same read tree)
 
-    pub tests-same : HasOne (OfTests told r s)
+    pub tests-same : HasOne IsYaml (OfTests told r s)
     tests-same e other came came' =
-        rules-same law rules (Loads_tests rules)
-        (λ read. loading-one file.Tests told s tests (ReadingTests (format_of s) rules read) known.tests
-        (reading-one Forest (RefusesData file.Tests (format_of s)) (IsTemplate (format_of s)) tests (Reads_cases read)
-        (template-reading file.Tests (format_of s) tests one) (cases-same read))) e other
+        rules-same IsYaml law rules (Loads_tests rules)
+        (λ read. loading-one IsYaml file.Tests told s tests (ReadingTests (format_of s) rules read) known.tests
+        (reading-one IsYaml Forest (RefusesData file.Tests (format_of s)) (IsTemplate (format_of s)) tests (Reads_cases read)
+        reading-tests (cases-same read))) e other
         (loaded file.Rules told r rules Reads_rules known.rules e came)
         (loaded file.Rules told r rules Reads_rules known.rules other came')
 
@@ -150,10 +163,10 @@ module _
         → AreRead read → (e : Ended) → OfTests told r s (Ends e) → IsTested read tree cases e
     tests-go read tree cases whole whole' are all e came =
         ending-is (IsTested read tree cases) e
-        (patterns-go rules read (Judges read tree cases) all e
-        (read-goes (List TestCase) (λ bytes. RefusesCases read tree) (λ bytes. AreCases read tree) tests (Makes_patterns read tree)
-        (cases-reading read tree (answer read tree) tests) cases are e
-        (read-goes Forest (RefusesData file.Tests (format_of s)) (IsTemplate (format_of s)) tests (Reads_cases read)
-        (template-reading file.Tests (format_of s) tests one) tree whole' e
+        (patterns-go IsYaml rules read (Judges read tree cases) all e
+        (read-goes IsYaml (List TestCase) (λ bytes. RefusesCases read tree) (λ bytes. AreCases read tree) tests (Makes_patterns read tree)
+        (cases-reading read tree (answer read tree) IsYaml tests) cases are e
+        (read-goes IsYaml Forest (RefusesData file.Tests (format_of s)) (IsTemplate (format_of s)) tests (Reads_cases read)
+        reading-tests tree whole' e
         (loaded file.Tests told s tests (ReadingTests (format_of s) rules read) known.tests e
-        (rules-go law rules (Loads_tests rules) read whole e (loaded file.Rules told r rules Reads_rules known.rules e came))))))
+        (rules-go IsYaml law rules (Loads_tests rules) read whole e (loaded file.Rules told r rules Reads_rules known.rules e came))))))

@@ -1,6 +1,6 @@
 -- Work over files taken apart, stage by stage: it is refused on its way, or it goes on with inputs that were read. So an end with evidence stands beside one without. By
 -- the cases of each stage.
-use Rattle.std.proofs.Common.{◌≡◌, ℕ, List, [], Option, Some, None, Bool, true, false, if◌then◌else◌, refl, inl, inr, sym, ap, ◌∙◌, subst}
+use Rattle.std.proofs.Common.{◌≡◌, ◌⊎◌, ℕ, List, [], Option, Some, None, Bool, true, false, if◌then◌else◌, refl, inl, inr, sym, ap, ◌∙◌, subst}
 use Rattle.std.specs.List.{list_any}
 use Rattle.std.specs.Prelude.{option_map}
 use Rattle.std.proofs.lemmas.Bool.{true≢false}
@@ -11,7 +11,7 @@ use Rattle.guard_syntax.specs.Syntax.{File}
 use Rattle.report_text.specs.Texts.{Parameters}
 use Rattle.rule_meaning.specs.Locations.{World}
 use Rattle.rule_meaning.specs.Verdicts.{is_fail}
-use Rattle.guard_ends.specs.End.{AreSameButEvidence, IsBeside, is_reported}
+use Rattle.guard_ends.specs.End.{AreMisread, AreSameButEvidence, AreSameButPlace, IsBeside, ReadAsYaml, is_reported}
 use Rattle.guard_ends.specs.Inputs.{IsRuleFile, IsTemplate, RefusesData, RefusesRules, format_of}
 use Rattle.doc_values.specs.Merge.{merged}
 use Rattle.guard_ends.specs.Order.{AreApart, AreRead, AreTold, Contents, Ended, Ending, Ends, Inputs, IsContent, IsDataOf, IsEvidenceFor, IsJudged, IsJudgedBy, Loading, MakingPatterns, Merging, OverFiles, Reading, ReadingInputs, WithParams, Work, how_judged, judged, refused}
@@ -20,7 +20,7 @@ use Rattle.guard_ends.specs.Reported.{verdicts_of, world_over}
 use Rattle.guard_ends.specs.declared.ends.End.TheVariants as end_is
 use Rattle.guard_ends.specs.declared.ends.Refusal.{Refusal}
 use Rattle.guard_ends.specs.declared.ends.Refusal.TheVariants.{At}
-use Rattle.guard_ends.specs.declared.ends.RefusalKind.TheVariants.{BadPattern, NotAMap, SharedKey}
+use Rattle.guard_ends.specs.declared.ends.RefusalKind.TheVariants.{BadPattern, NotAMap, SharedKey, Syntax}
 use Rattle.guard_ends.specs.declared.ends.Which.{Which}
 use Rattle.guard_ends.specs.declared.ends.Which.TheVariants as file
 use Rattle.guard_ends.specs.declared.format.Format.{Format}
@@ -244,7 +244,7 @@ without e = record { how = e.how; out = e.err; err = [] }
 reported-differs : (e plain : Ended) → is_reported e.how ≡ true → plain ≡ without e → is_reported plain.how ≡ true
 reported-differs e plain reported is = ap (λ (x : Ended). is_reported x.how) is ∙ reported
 
-pub beside-same : (e other plain plain' : Ended) → IsBeside plain e → IsBeside plain' other → plain ≡ plain' → AreSameButEvidence e other
+beside-same : (e other plain plain' : Ended) → IsBeside plain e → IsBeside plain' other → plain ≡ plain' → AreSameButEvidence e other
 beside-same e other plain plain' (inl (none, is)) (inl (none', is')) same = inl (is ∙ same ∙ sym is')
 beside-same e other plain plain' (inr (some, is)) (inr (some', is')) same =
     let both : without e ≡ without other = sym is ∙ same ∙ is' in
@@ -253,6 +253,28 @@ beside-same e other plain plain' (inl (none, is)) (inr (some', is')) same =
     absurd (true≢false (sym (reported-differs other plain' some' is') ∙ ap (λ (x : Ended). is_reported x.how) (sym same ∙ sym is) ∙ none))
 beside-same e other plain plain' (inr (some, is)) (inl (none', is')) same =
     absurd (true≢false (sym (reported-differs e plain some is) ∙ ap (λ (x : Ended). is_reported x.how) (same ∙ sym is') ∙ none'))
+
+-- one that is refused is refused with evidence too
+as-plain : (e plain : Ended) (bytes : List ℕ) (refusal : Refusal) → IsBeside plain e → plain ≡ refused bytes refusal → e ≡ refused bytes refusal
+as-plain e plain bytes refusal (inl (none, is)) refused_so = is ∙ refused_so
+as-plain e plain bytes refusal (inr (some, is)) refused_so =
+    absurd (true≢false (sym (reported-differs e plain some is) ∙ refused-how bytes refusal plain refused_so))
+
+pub beside-alike : (IsYaml : ReadAsYaml) (e other plain plain' : Ended) → IsBeside plain e → IsBeside plain' other → AreSameButPlace IsYaml plain plain'
+    → AreSameButEvidence e other ⊎ AreMisread IsYaml e other
+beside-alike IsYaml e other plain plain' beside beside' (inl same) = inl (beside-same e other plain plain' beside beside' same)
+beside-alike IsYaml e other plain plain' beside beside' (inr m) =
+    inr (record {
+      which = m.which;
+      bytes = m.bytes;
+      read = m.read;
+      at = m.at;
+      place = m.place;
+      shown = m.shown;
+      shown_too = m.shown_too;
+      first = as-plain e plain m.bytes (At m.which Syntax m.at None) beside m.first;
+      second = as-plain other plain' m.bytes (At m.which Syntax m.place None) beside' m.second;
+    })
 
 -- ---- what is written is evidence
 

@@ -1,5 +1,6 @@
 //! The laws. The bodies cite other laws and do nothing else; a law is kept by a contract.
 ghost use Rattle.std.specs.Prelude.{◌≡◌, ◌≤◌, ◌⊎◌, ◌↔◌, ℕ, List, Option, Some, None, All, false, true, length, option_map};
+ghost use Rattle.std.specs.List.{AllByRecursion};
 ghost use Rattle.doc_values.specs.Limits.{evidence_limit};
 ghost use Rattle.doc_values.specs.Places.{tree_at};
 ghost use Rattle.doc_values.specs.Tree.{Forest, Label, Nil, Node};
@@ -8,19 +9,22 @@ ghost use Rattle.evidence_lines.specs.Versioned.{Versioned};
 ghost use Rattle.evidence_rules.specs.Follows.{Accepts};
 ghost use Rattle.guard_drill.specs.DrillTexts.{template_text};
 ghost use Rattle.guard_syntax.specs.Syntax.{File};
+ghost use Rattle.guard_syntax.specs.declared.row.Verdict.TheVariants.{Pass};
 ghost use Rattle.guard_testfile.specs.Cases.{Expected, TestCase};
 ghost use Rattle.guard_testfile.specs.Texts.{verdict_under};
 ghost use Rattle.guard_words.specs.Request.{AsksFor, check, drill, parse_tree, rulegen, test, validate};
 ghost use Rattle.rule_meaning.specs.FunctionMeaning.{IsAnswering};
-ghost use Rattle.rule_meaning.specs.Locations.{Answers};
+ghost use Rattle.rule_meaning.specs.Locations.{Answers, World};
+ghost use Rattle.rule_meaning.specs.NameMeaning.{rule_verdict};
+ghost use Rattle.rule_names.specs.WellNamed.{WellNamed};
 ghost use Rattle.rule_printer.specs.RuleText.{rule_text};
 ghost use Rattle.report_text.specs.RuleLines.{reported_names};
 ghost use Rattle.report_text.specs.Texts.{Parameters};
 ghost use Rattle.guard_ends.specs.Check.{accepted_text};
 ghost use Rattle.guard_ends.specs.Drill.{drill_report, drill_rules};
-ghost use Rattle.guard_ends.specs.End.{AreSameButEvidence, IsBeside, is_reported};
-ghost use Rattle.guard_ends.specs.Inputs.{AreCases, AreGenerated, HasSyntax, IsProof, IsRuleFile, IsTemplate, RefusesData, format_of};
-ghost use Rattle.guard_ends.specs.Order.{AreRead, AreTold, ComesTo, Contents, EndOf, Ended, Ends, IsChecked, IsDataOf, IsJudged, IsJudgedBy, IsTested, Point, written};
+ghost use Rattle.guard_ends.specs.End.{AreMisread, AreSameButEvidence, AreSameButPlace, IsBeside, IsYamlAmong, IsYamlOf, is_reported};
+ghost use Rattle.guard_ends.specs.Inputs.{AreCases, AreGenerated, HasSyntax, IsProof, IsRuleFile, IsSyntax, IsTemplate, RefusesData, format_of};
+ghost use Rattle.guard_ends.specs.Order.{AreRead, AreTold, ComesTo, Contents, EndOf, Ended, Ends, IsChecked, IsDataOf, IsJudged, IsJudgedBy, IsTested, Point, refused, written};
 ghost use Rattle.guard_ends.specs.Report.{report};
 ghost use Rattle.guard_ends.specs.Reported.{verdicts_of, world_over};
 ghost use Rattle.guard_ends.specs.declared.ends.End.TheVariants as end_is;
@@ -30,6 +34,7 @@ ghost use Rattle.guard_ends.specs.declared.format.Format.{Format};
 
 use evidence_lines::one_text;
 use evidence_truth::lines_true;
+use generator_laws::generated_text_is_rule_file;
 use guard_parser::{one_syntax, sites_in_order};
 use guard_testfile::one_answer;
 use json_reader::{one_refusal, one_tree, refused_apart};
@@ -37,23 +42,25 @@ use query_steps::one_answer_over_locations;
 use std::str;
 
 /// The law that a call has one end: where the words ask for files whose contents are told, two ends that the definition gives
-/// are equal. A clause for each command. With `--evidence` two ends are alike but for the evidence, of which there may be more
-/// than one. The body does nothing; a law is kept by a contract.
+/// are equal. A clause for each command. Where a file is read as YAML and is no document, there may be several places that show
+/// it, and so ends that differ in that place alone. With `--evidence` two ends are alike but for the evidence, of which there may
+/// be more than one. The body does nothing; a law is kept by a contract.
 pub fn only_end(rules: &[u8], template: &[u8], params: &[u8], evidence: &[u8])
     ensures validated { (words : List (List ℕ)) (told : Contents) (r t : List ℕ) (q : Option (List ℕ)) (e other : Ended)
         → AsksFor words (validate r t q false) → told r ≡ Some rules.now → told t ≡ Some template.now → AreTold told q params.now
-        → EndOf words told e → EndOf words told other → e ≡ other }
+        → EndOf words told e → EndOf words told other → AreSameButPlace (IsYamlAmong told t q) e other }
     ensures evidenced { (words : List (List ℕ)) (told : Contents) (r t : List ℕ) (q : Option (List ℕ)) (e other : Ended)
         → AsksFor words (validate r t q true) → told r ≡ Some rules.now → told t ≡ Some template.now → AreTold told q params.now
-        → EndOf words told e → EndOf words told other → AreSameButEvidence e other }
+        → EndOf words told e → EndOf words told other → AreSameButEvidence e other ⊎ AreMisread (IsYamlAmong told t q) e other }
     ensures checked { (words : List (List ℕ)) (told : Contents) (r t : List ℕ) (q : Option (List ℕ)) (p : List ℕ) (e other : Ended)
         → AsksFor words (check r t q p) → told r ≡ Some rules.now → told t ≡ Some template.now → AreTold told q params.now
-        → told p ≡ Some evidence.now → EndOf words told e → EndOf words told other → e ≡ other }
+        → told p ≡ Some evidence.now → EndOf words told e → EndOf words told other → AreSameButPlace (IsYamlAmong told t q) e other }
     ensures tested { (words : List (List ℕ)) (told : Contents) (r s : List ℕ) (e other : Ended)
         → AsksFor words (test r s) → told r ≡ Some rules.now → told s ≡ Some template.now
-        → EndOf words told e → EndOf words told other → e ≡ other }
+        → EndOf words told e → EndOf words told other → AreSameButPlace (IsYamlOf Which.Tests told s) e other }
     ensures generated { (words : List (List ℕ)) (told : Contents) (t : List ℕ) (e other : Ended)
-        → AsksFor words (rulegen t) → told t ≡ Some template.now → EndOf words told e → EndOf words told other → e ≡ other }
+        → AsksFor words (rulegen t) → told t ≡ Some template.now → EndOf words told e
+        → EndOf words told other → AreSameButPlace (IsYamlOf Which.Template told t) e other }
     ensures printed { (words : List (List ℕ)) (told : Contents) (r : List ℕ) (e other : Ended)
         → AsksFor words (parse_tree r) → told r ≡ Some rules.now → EndOf words told e → EndOf words told other → e ≡ other }
 {
@@ -185,6 +192,16 @@ pub fn accepted_is_generated(template: &[u8])
     only_template(template);
 }
 
+/// The law that rules which are generated are met: where they are those of a template, and no longer than rules may be, their text is
+/// a rule file by its tokens, its grammar and its names, and each of its rules is PASS over the template, whatever functions answer.
+pub fn generated_are_met()
+    ensures { (f : Format) (bytes : List ℕ) (tree : Forest) (text : List ℕ) → IsTemplate f bytes tree → AreGenerated tree text
+        → (rules : File) × IsSyntax text rules × WellNamed rules × ((world : World) → world.template ≡ tree → world.file ≡ rules
+        → AllByRecursion (λ rule. rule_verdict world rule ≡ Pass) rules.rules) }
+{
+    generated_text_is_rule_file();
+}
+
 /// The law of completeness for rules that are printed: where the words ask for `parse-tree` of a file, whose content is told and has a
 /// syntax, each end that the definition gives is that of the canonical text of the syntax written.
 pub fn accepted_is_printed(rules: &[u8])
@@ -240,10 +257,11 @@ pub fn accepted_is_true()
     sites_in_order();
 }
 
-/// The law that a template, or parameters, have one tree or one refusal in each format, and not both.
+/// The law that a template, or parameters, have one tree or one refusal in each format, but for a place in YAML, and not both.
 fn only_template(bytes: &[u8])
     ensures tree { (f : Format) (tree other : Forest) → IsTemplate f bytes.now tree → IsTemplate f bytes.now other → tree ≡ other }
-    ensures refusal { (which : Which) (f : Format) (r other : Refusal) → RefusesData which f bytes.now r → RefusesData which f bytes.now other → r ≡ other }
+    ensures refusal { (which : Which) (f : Format) (r other : Refusal) → RefusesData which f bytes.now r → RefusesData which f bytes.now other
+        → AreSameButPlace (λ w read. (w ≡ which) × (read ≡ bytes.now) × (f ≡ Format.Yaml)) (refused bytes.now r) (refused bytes.now other) }
     ensures apart { (which : Which) (f : Format) (r : Refusal) (tree : Forest) → RefusesData which f bytes.now r → IsTemplate f bytes.now tree → ⊥ }
 {
     match str::from_utf8(bytes) {

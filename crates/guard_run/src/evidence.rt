@@ -25,9 +25,9 @@ pub(crate) fn report_with_evidence(alloc: Global, ready: &Ready<'_, '_>) -> Resu
 {
     one_answer_over_locations();
     let inputs = ready.inputs;
-    let engine = evaluate(alloc, inputs.rules, &inputs.tree, &ready.book)?;
-    let judgement = judgement_of(alloc, inputs, &engine, Form::Entries)?;
-    let evidence = evidence_text(alloc, &engine.evidence)?;
+    let evaluation = evaluate(alloc, inputs.rules, &inputs.tree, &ready.book)?;
+    let judgement = judgement_of(alloc, ready, &evaluation, Form::Entries)?;
+    let evidence = evidence_text(alloc, &evaluation.evidence)?;
     Ok(done_with(judgement, evidence))
 }
 

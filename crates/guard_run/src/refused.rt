@@ -23,16 +23,6 @@ pub(crate) struct Refused {
     pub line: Written,
 }
 
-/// A file that is not read so far.
-fn data_unread(which: Which) -> Refused
-    ensures { (bytes : List ℕ) → said result ≡ refused bytes (Refusal.DataUnread which) }
-{
-    Refused {
-        refusal: Refusal::DataUnread(which),
-        line: Written::Short(whole_line(which, "DataUnread")),
-    }
-}
-
 /// A file with too many bytes.
 pub(crate) fn too_long(which: Which) -> Refused
     ensures { (bytes : List ℕ) → said result ≡ refused bytes (Refusal.TooLong which) }
@@ -228,7 +218,7 @@ pub(crate) fn yaml_refused(which: Which, refusal: YamlRefusal, text: &str) -> Op
     ensures { IsRefusedAs (of_yaml which refusal) text.now result }
 {
     match refusal {
-        YamlRefusal::Unread => Some(data_unread(which)),
+        YamlRefusal::Syntax(at) => Some(data_at(which, RefusalKind::Syntax, at, text)),
         YamlRefusal::Tab(at) => Some(data_at(which, RefusalKind::Tab, at, text)),
         YamlRefusal::Anchor(at) => Some(data_at(which, RefusalKind::Anchor, at, text)),
         YamlRefusal::Tag(at) => Some(data_at(which, RefusalKind::Tag, at, text)),

@@ -9,25 +9,24 @@ ghost use Rattle.rule_meaning.specs.Seeing.{world_of};
 ghost use Rattle.rule_meaning.specs.Verdicts.{is_fail};
 ghost use Rattle.evidence_rules.specs.Follows.{Accepts};
 ghost use Rattle.evidence_lookups.specs.code.Grounds.{known_of, lines_of};
-ghost use Rattle.clause_eval.specs.code.Engines.{see_engine};
-ghost use Rattle.clause_eval.specs.code.States.{IsWhole};
+ghost use Rattle.value_compare.specs.code.Stores.{see_store};
 ghost use Rattle.report_text.specs.Texts.{Texts};
 ghost use Rattle.report_text.specs.code.SeenTexts.{see_lined, see_texts};
 ghost use Rattle.evidence_report.specs.code.RuleEntries.{IsAccepted};
+ghost use Rattle.rule_calls.specs.code.Ends.{AreOfEngine};
 ghost use Rattle.guard_ends.specs.Drill.{drill_report};
 ghost use Rattle.guard_ends.specs.Report as reports;
 ghost use Rattle.guard_ends.specs.Reported.{verdicts_of, world_over};
 ghost use Rattle.guard_run.specs.code.Forms.{report_in};
 
 use crate::inputs::{Inputs, Ready};
-use clause_eval::Engine;
 use evidence_lookups::line_context::LineContext;
 use evidence_lookups::owners::Owners;
 use evidence_report::{verdicts_told, write_drill, write_report};
 use guard_io::CleanSink;
 use guard_syntax::Verdict;
 use report_text::{LinedTexts, ReportFault};
-use rule_calls::{evaluate, judged_lines, line_context};
+use rule_calls::{Evaluation, evaluate, judged_lines, line_context};
 use std::alloc::{AllocError, Global};
 
 /// What a report shows of what rules fail by.
@@ -61,30 +60,31 @@ pub(crate) fn judge(
         → IfOk result (λ j. j.failed ≡ list_any is_fail (verdicts_of (world_over (file_of ready.now.inputs.now.rules.now) ready.now.inputs.now.tree answers))) }
 {
     let inputs = ready.inputs;
-    let engine = evaluate(alloc, inputs.rules, &inputs.tree, &ready.book)?;
-    judgement_of(alloc, inputs, &engine, form)
+    let evaluation = evaluate(alloc, inputs.rules, &inputs.tree, &ready.book)?;
+    judgement_of(alloc, ready, &evaluation, form)
 }
 
-/// Judges inputs by the engine that evaluated their rules, and makes the report on them in a form.
+/// Judges inputs by the evaluation of their rules, and makes the report on them in a form.
 pub(crate) fn judgement_of(
     alloc: Global,
-    inputs: &Inputs<'_>,
-    engine: &Engine<'_, '_>,
+    ready: &Ready<'_, '_>,
+    evaluation: &Evaluation<'_, '_>,
     form: Form,
 ) -> Result<Judgement, AllocError>
-    requires accepted { Accepts Two inputs.now.tree (file_of inputs.now.rules.now) (see_engine engine.now).lines }
-    requires template { (see_engine engine.now).known.template ≡ inputs.now.tree }
-    requires file { (see_engine engine.now).known.file ≡ file_of inputs.now.rules.now }
-    requires whole { IsWhole (see_engine engine.now) }
-    ensures report { (answers : Answers) → IsAnswering (world_over (file_of inputs.now.rules.now) inputs.now.tree answers)
-        → IfOk result (λ j. j.report.items ≡ report_in form (world_over (file_of inputs.now.rules.now) inputs.now.tree answers)
-        (see_texts inputs.now.texts)) }
-    ensures failed { (answers : Answers) → IsAnswering (world_over (file_of inputs.now.rules.now) inputs.now.tree answers)
-        → IfOk result (λ j. j.failed ≡ list_any is_fail (verdicts_of (world_over (file_of inputs.now.rules.now) inputs.now.tree answers))) }
+    requires accepted { Accepts Two ready.now.inputs.now.tree (file_of ready.now.inputs.now.rules.now) evaluation.now.evidence.lines }
+    requires template { (see_store evaluation.now.store).template ≡ ready.now.inputs.now.tree }
+    requires file { (see_store evaluation.now.store).file ≡ file_of ready.now.inputs.now.rules.now }
+    requires whole { AreOfEngine (see_store evaluation.now.store) evaluation.now.evidence.lines }
+    ensures report { (answers : Answers) → IsAnswering (world_over (file_of ready.now.inputs.now.rules.now) ready.now.inputs.now.tree answers)
+        → IfOk result (λ j. j.report.items ≡ report_in form (world_over (file_of ready.now.inputs.now.rules.now) ready.now.inputs.now.tree answers)
+        (see_texts ready.now.inputs.now.texts)) }
+    ensures failed { (answers : Answers) → IsAnswering (world_over (file_of ready.now.inputs.now.rules.now) ready.now.inputs.now.tree answers)
+        → IfOk result (λ j. j.failed ≡ list_any is_fail (verdicts_of (world_over (file_of ready.now.inputs.now.rules.now) ready.now.inputs.now.tree answers))) }
 {
+    let inputs = ready.inputs;
     let owners = Owners::new(alloc, inputs.rules)?;
-    let judged = judged_lines(engine)?;
-    let context = line_context(engine, &owners, &judged);
+    let judged = judged_lines(alloc, evaluation)?;
+    let context = line_context(alloc, evaluation, &ready.book, &owners, &judged);
     judgement_by(alloc, &context, inputs, form)
 }
 

@@ -6,17 +6,16 @@ ghost use Rattle.rule_meaning.specs.FunctionMeaning.{IsAnswering};
 ghost use Rattle.rule_meaning.specs.Locations.{Answers};
 ghost use Rattle.rule_meaning.specs.Values.{has_pattern};
 ghost use Rattle.value_compare.specs.code.Books.{IsBookOf};
+ghost use Rattle.value_compare.specs.code.Stores.{see_store};
 ghost use Rattle.evidence_rules.specs.Follows.{Accepts};
-ghost use Rattle.clause_eval.specs.code.Engines.{see_engine};
-ghost use Rattle.clause_eval.specs.code.States.{IsWhole};
+ghost use Rattle.rule_calls.specs.code.Ends.{AreOfEngine};
 ghost use Rattle.guard_ends.specs.Reported.{verdicts_of, world_over};
 
-use clause_eval::Engine;
 use doc_values::Doc;
 use evidence_lookups::owners::Owners;
 use evidence_report::verdicts_told;
 use guard_syntax::Verdict;
-use rule_calls::{evaluate, judged_lines, line_context};
+use rule_calls::{Evaluation, evaluate, judged_lines, line_context};
 use rule_names::RuleFile;
 use std::alloc::{AllocError, Global};
 use value_compare::PatternBook;
@@ -33,24 +32,26 @@ pub(crate) fn verdicts_over(
     ensures { (answers : Answers) → IsAnswering (world_over (file_of rules.now) tree.now answers)
         → IfOk result (λ verdicts. verdicts.items ≡ verdicts_of (world_over (file_of rules.now) tree.now answers)) }
 {
-    let engine = evaluate(alloc, rules, tree, book)?;
-    verdicts_by(alloc, rules, &engine)
+    let evaluation = evaluate(alloc, rules, tree, book)?;
+    verdicts_by(alloc, rules, book, &evaluation)
 }
 
-/// The verdicts that are reported by the engine that evaluated rules.
+/// The verdicts that are reported by the evaluation of rules.
 fn verdicts_by(
     alloc: Global,
     rules: &RuleFile,
-    engine: &Engine<'_, '_>,
+    book: &PatternBook,
+    evaluation: &Evaluation<'_, '_>,
 ) -> Result<Vec<Verdict>, AllocError>
-    requires accepted { Accepts Two (see_engine engine.now).known.template (file_of rules.now) (see_engine engine.now).lines }
-    requires file { (see_engine engine.now).known.file ≡ file_of rules.now }
-    requires whole { IsWhole (see_engine engine.now) }
-    ensures { (answers : Answers) → IsAnswering (world_over (file_of rules.now) (see_engine engine.now).known.template answers)
-        → IfOk result (λ verdicts. verdicts.items ≡ verdicts_of (world_over (file_of rules.now) (see_engine engine.now).known.template answers)) }
+    requires accepted { Accepts Two (see_store evaluation.now.store).template (file_of rules.now) evaluation.now.evidence.lines }
+    requires book { IsBookOf (file_of rules.now) book.now }
+    requires file { (see_store evaluation.now.store).file ≡ file_of rules.now }
+    requires whole { AreOfEngine (see_store evaluation.now.store) evaluation.now.evidence.lines }
+    ensures { (answers : Answers) → IsAnswering (world_over (file_of rules.now) (see_store evaluation.now.store).template answers)
+        → IfOk result (λ verdicts. verdicts.items ≡ verdicts_of (world_over (file_of rules.now) (see_store evaluation.now.store).template answers)) }
 {
     let owners = Owners::new(alloc, rules)?;
-    let judged = judged_lines(engine)?;
-    let context = line_context(engine, &owners, &judged);
+    let judged = judged_lines(alloc, evaluation)?;
+    let context = line_context(alloc, evaluation, book, &owners, &judged);
     verdicts_told(alloc, &context)
 }

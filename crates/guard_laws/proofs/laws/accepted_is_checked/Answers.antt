@@ -1,5 +1,6 @@
 use Rattle.guard_words.specs.Request.{check}
 use Rattle.guard_ends.specs.Order.{Ends, Inputs, OfEvidence}
+use Rattle.guard_ends.specs.End.{IsYamlAmong}
 use Rattle.guard_laws.proofs.OneCheck.{EvidenceLaws, proof-goes}
 use Rattle.guard_laws.proofs.OneEnd.{AreFilesTold, AreOneEach, FileNames, FileTexts, files-go, work-asked}
 use Rattle.guard_laws.proofs.OneTemplate.{OneTemplate}
@@ -19,6 +20,6 @@ returns c =
     let names : FileNames = record { rules = r; template = t; params = q } in
     let known : AreFilesTold told names texts = record { rules = rules_told; template = template_told; params = params_told } in
     let inputs : Inputs = record { rules = file; tree = data_tree; texts = record { rules = c.args.rules.now; template = c.args.template.now; params = read } } in
-    proof-goes bytes evidence_laws told p proof_told inputs lines whole'' e
+    proof-goes (IsYamlAmong told t q) bytes evidence_laws told p proof_told inputs lines whole'' e
     (files-go c.one_syntax.ensures told names texts known laws (OfEvidence told p)
     file tree data_tree read whole whole' becomes all e (work-asked words told (check r t q p) asked (Ends e) end))

@@ -2,15 +2,16 @@ use Rattle.std.proofs.Common.{false, true}
 use Rattle.doc_values.specs.Tree.{Forest}
 use Rattle.guard_syntax.specs.Syntax.{File}
 use Rattle.guard_words.specs.Request.{check, parse_tree, rulegen, test, validate}
+use Rattle.guard_ends.specs.End.{IsYamlAmong}
 use Rattle.guard_ends.specs.Order.{Ending, Ends, IsJudged, OfEvidence}
 use Rattle.guard_ends.specs.Report.{report}
 use Rattle.guard_laws.proofs.OneCheck.{EvidenceLaws, proof-one}
 use Rattle.guard_laws.proofs.OneEnd.{AreFilesTold, AreOneEach, FileNames, FileTexts, files-same, work-asked}
-use Rattle.guard_laws.proofs.OneStage.{ending-one}
+use Rattle.guard_laws.proofs.OneStage.{alike-same, ending-one}
 use Rattle.guard_laws.proofs.OneTemplate.{OneTemplate, judged-one}
 use Rattle.guard_laws.proofs.OneTest.{AreTestsTold, OneAnswer, tests-same}
 use Rattle.guard_laws.proofs.OneWritten.{syntax-same, template-same}
-use Rattle.guard_laws.proofs.WithEvidence.{beside-same, evidence-beside}
+use Rattle.guard_laws.proofs.WithEvidence.{beside-alike, evidence-beside}
 use Rattle.guard_laws.proofs.laws.only_end.Goals as goal
 
 pub returns-clause-validated : goal.returns-clause-validated
@@ -24,7 +25,7 @@ returns-clause-validated c =
     let names : FileNames = record { rules = r; template = t; params = q } in
     let known : AreFilesTold told names texts = record { rules = rules_told; template = template_told; params = params_told } in
     files-same c.one_syntax.ensures told names texts known laws (λ inputs. Ending (IsJudged report inputs))
-    (λ inputs. ending-one (IsJudged report inputs) (judged-one report inputs)) e other
+    (λ inputs. ending-one (IsYamlAmong told t q) (IsJudged report inputs) (judged-one report inputs)) e other
     (work-asked words told (validate r t q false) asked (Ends e) end) (work-asked words told (validate r t q false) asked (Ends other) end')
 
 pub returns-clause-evidenced : goal.returns-clause-evidenced
@@ -39,9 +40,9 @@ returns-clause-evidenced c =
     let known : AreFilesTold told names texts = record { rules = rules_told; template = template_told; params = params_told } in
     let first = evidence-beside told names e (work-asked words told (validate r t q true) asked (Ends e) end) in
     let second = evidence-beside told names other (work-asked words told (validate r t q true) asked (Ends other) end') in
-    beside-same e other first.0 second.0 first.2 second.2
+    beside-alike (IsYamlAmong told t q) e other first.0 second.0 first.2 second.2
     (files-same c.one_syntax.ensures told names texts known laws (λ inputs. Ending (IsJudged report inputs))
-    (λ inputs. ending-one (IsJudged report inputs) (judged-one report inputs)) first.0 second.0 first.1 second.1)
+    (λ inputs. ending-one (IsYamlAmong told t q) (IsJudged report inputs) (judged-one report inputs)) first.0 second.0 first.1 second.1)
 
 pub returns-clause-checked : goal.returns-clause-checked
 returns-clause-checked c =
@@ -57,7 +58,7 @@ returns-clause-checked c =
     let names : FileNames = record { rules = r; template = t; params = q } in
     let known : AreFilesTold told names texts = record { rules = rules_told; template = template_told; params = params_told } in
     files-same c.one_syntax.ensures told names texts known laws (OfEvidence told p)
-    (proof-one bytes evidence_laws told p proof_told) e other
+    (proof-one (IsYamlAmong told t q) bytes evidence_laws told p proof_told) e other
     (work-asked words told (check r t q p) asked (Ends e) end) (work-asked words told (check r t q p) asked (Ends other) end')
 
 pub returns-clause-tested : goal.returns-clause-tested
@@ -85,5 +86,6 @@ returns-clause-generated c =
 pub returns-clause-printed : goal.returns-clause-printed
 returns-clause-printed c =
     λ words told r e other asked rules_told end end'.
-    syntax-same c.one_syntax.ensures told r c.args.rules.now rules_told e other
-    (work-asked words told (parse_tree r) asked (Ends e) end) (work-asked words told (parse_tree r) asked (Ends other) end')
+    alike-same e other
+    (syntax-same c.one_syntax.ensures told r c.args.rules.now rules_told e other
+    (work-asked words told (parse_tree r) asked (Ends e) end) (work-asked words told (parse_tree r) asked (Ends other) end'))

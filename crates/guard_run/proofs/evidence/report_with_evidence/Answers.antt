@@ -19,23 +19,23 @@ use Rattle.guard_run.proofs.evidence.report_with_evidence.Goals as goal
 pub evidence_text-requires : goal.evidence_text-requires
 evidence_text-requires c =
     let inputs : Inputs = inputs_of c.args.ready.now.inputs.now in
-    accepted-shapes Two inputs.tree inputs.rules c.in_ok-engine.engine.evidence.lines c.in_ok-engine.ensures.accepted
+    accepted-shapes Two inputs.tree inputs.rules c.in_ok-evaluation.evaluation.evidence.lines c.in_ok-evaluation.ensures.accepted
 
 pub returns : goal.returns
 returns c =
     let inputs : Inputs = inputs_of c.args.ready.now.inputs.now in
     let judgement = c.in_ok-judgement.judgement in
-    let engine = c.in_ok-engine.engine in
+    let evaluation = c.in_ok-evaluation.evaluation in
     let text = c.in_ok-evidence.evidence.items in
     let given : (answers : Answers) × IsAnswering (world_over inputs.rules inputs.tree answers) = c.one_answer_over_locations.ensures.some inputs.tree inputs.rules in
-    let written : IsEvidence text Two engine.evidence.lines = subst (λ (v : Version). IsEvidence text v engine.evidence.lines) engine.version c.in_ok-evidence.ensures in (
+    let written : IsEvidence text Two evaluation.evidence.lines = subst (λ (v : Version). IsEvidence text v evaluation.evidence.lines) evaluation.version c.in_ok-evidence.ensures in (
       ended c.done_with.result,
       (
         given.0,
         given.1,
         (
           text,
-          (engine.evidence.lines, written, c.in_ok-engine.ensures.accepted, c.in_ok-engine.ensures.lean),
+          (evaluation.evidence.lines, written, c.in_ok-evaluation.ensures.accepted, c.in_ok-evaluation.ensures.lean),
           judged-with report c.done_with.result judgement.failed judgement.report.items text (world_over inputs.rules inputs.tree given.0)
               inputs.texts c.done_with.ensures.how c.done_with.ensures.out c.done_with.ensures.err
               (c.in_ok-judgement.ensures.report given.0 given.1) (c.in_ok-judgement.ensures.failed given.0 given.1),

@@ -5,9 +5,11 @@ use Rattle.rule_names.specs.code.Files.{file_of}
 use Rattle.rule_meaning.specs.FunctionMeaning.{IsAnswering}
 use Rattle.rule_meaning.specs.Locations.{World}
 use Rattle.rule_meaning.specs.Verdicts.{is_fail}
+use Rattle.value_compare.specs.code.Books.{IsBookOf}
+use Rattle.value_compare.specs.code.Stores.{see_store}
 use Rattle.evidence_lookups.specs.code.Grounds.{known_of, lines_of}
 use Rattle.evidence_lookups.specs.code.Owned.{AreOwners}
-use Rattle.clause_eval.specs.code.Engines.{see_engine}
+use Rattle.rule_calls.specs.code.Ends.{state_with}
 use Rattle.evidence_report.proofs.TakenTexts.{none-at-exit}
 use Rattle.guard_ends.specs.Reported.{verdicts_of}
 use Rattle.report_text.specs.code.SeenTexts.{see_texts}
@@ -18,11 +20,15 @@ use Rattle.guard_run.proofs.report.judgement_of.Goals as goal
 pub line_context-context-requires-clause-owners : goal.line_context-context-requires-clause-owners
 line_context-context-requires-clause-owners c = subst (λ (f : File). AreOwners f c.in_ok-owners.owners) (sym c.requires.file) c.in_ok-owners.ensures
 
+pub line_context-context-requires-clause-book : goal.line_context-context-requires-clause-book
+line_context-context-requires-clause-book c = subst (λ (f : File). IsBookOf f c.args.ready.now.book) (sym c.requires.file) c.args.ready.now.made
+
 pub judgement_by-requires : goal.judgement_by-requires
 judgement_by-requires c =
-    let inputs = c.args.inputs.now in
+    let inputs = c.args.ready.now.inputs.now in
+    let e = c.args.evaluation.now in
     let made = c.line_context-context.result in
-    accepted-in (see_engine c.args.engine.now) (file_of inputs.rules.now) inputs.tree c.requires.template c.requires.file c.requires.accepted c.requires.whole made.version (known_of made) (lines_of made)
+    accepted-in (state_with (see_store e.store) e.evidence.lines c.requires.whole.0) (file_of inputs.rules.now) inputs.tree c.requires.template c.requires.file c.requires.accepted c.requires.whole.1 made.version (known_of made) (lines_of made)
     c.line_context-context.ensures.version c.line_context-context.ensures.known c.line_context-context.ensures.lines
 
 pub returns-in_err-owners-clause-report : goal.returns-in_err-owners-clause-report
@@ -39,15 +45,17 @@ returns-in_err-judged-clause-failed c answers obey = none-at-exit _ c.from_resid
 
 pub returns-clause-report : goal.returns-clause-report
 returns-clause-report c answers obey =
-    let inputs = c.args.inputs.now in
+    let inputs = c.args.ready.now.inputs.now in
+    let e = c.args.evaluation.now in
     let made = c.line_context-context.result in
-    let same = same-world (see_engine c.args.engine.now) (file_of inputs.rules.now) inputs.tree c.requires.template c.requires.file (known_of made) answers c.line_context-context.ensures.known in
+    let same = same-world (state_with (see_store e.store) e.evidence.lines c.requires.whole.0) (file_of inputs.rules.now) inputs.tree c.requires.template c.requires.file (known_of made) answers c.line_context-context.ensures.known in
     subst (λ (w : World). IfOk c.judgement_by.result (λ j. j.report.items ≡ report_in c.args.form w (see_texts inputs.texts))) (sym same)
     (c.judgement_by.ensures.report answers (subst IsAnswering same obey))
 
 pub returns-clause-failed : goal.returns-clause-failed
 returns-clause-failed c answers obey =
-    let inputs = c.args.inputs.now in
+    let inputs = c.args.ready.now.inputs.now in
+    let e = c.args.evaluation.now in
     let made = c.line_context-context.result in
-    let same = same-world (see_engine c.args.engine.now) (file_of inputs.rules.now) inputs.tree c.requires.template c.requires.file (known_of made) answers c.line_context-context.ensures.known in
+    let same = same-world (state_with (see_store e.store) e.evidence.lines c.requires.whole.0) (file_of inputs.rules.now) inputs.tree c.requires.template c.requires.file (known_of made) answers c.line_context-context.ensures.known in
     subst (λ (w : World). IfOk c.judgement_by.result (λ j. j.failed ≡ list_any is_fail (verdicts_of w))) (sym same) (c.judgement_by.ensures.failed answers (subst IsAnswering same obey))

@@ -3,9 +3,11 @@ use Rattle.guard_syntax.specs.Syntax.{File}
 use Rattle.rule_meaning.specs.FunctionMeaning.{IsAnswering}
 use Rattle.rule_meaning.specs.Locations.{World}
 use Rattle.rule_names.specs.code.Files.{file_of}
+use Rattle.value_compare.specs.code.Books.{IsBookOf}
+use Rattle.value_compare.specs.code.Stores.{see_store}
 use Rattle.evidence_lookups.specs.code.Grounds.{known_of, lines_of}
 use Rattle.evidence_lookups.specs.code.Owned.{AreOwners}
-use Rattle.clause_eval.specs.code.Engines.{see_engine}
+use Rattle.rule_calls.specs.code.Ends.{state_with}
 use Rattle.evidence_report.proofs.TakenTexts.{none-at-exit}
 use Rattle.guard_ends.specs.Reported.{verdicts_of}
 use Rattle.guard_run.proofs.Accepted.{accepted-in, same-world}
@@ -14,11 +16,15 @@ use Rattle.guard_run.proofs.verdicts.verdicts_by.Goals as goal
 pub line_context-context-requires-clause-owners : goal.line_context-context-requires-clause-owners
 line_context-context-requires-clause-owners c = subst (λ (f : File). AreOwners f c.in_ok-owners.owners) (sym c.requires.file) c.in_ok-owners.ensures
 
+pub line_context-context-requires-clause-book : goal.line_context-context-requires-clause-book
+line_context-context-requires-clause-book c = subst (λ (f : File). IsBookOf f c.args.book.now) (sym c.requires.file) c.requires.book
+
 pub verdicts_told-requires : goal.verdicts_told-requires
 verdicts_told-requires c =
-    let engine = see_engine c.args.engine.now in
+    let e = c.args.evaluation.now in
+    let s = state_with (see_store e.store) e.evidence.lines c.requires.whole.0 in
     let made = c.line_context-context.result in
-    accepted-in engine (file_of c.args.rules.now) engine.known.template refl c.requires.file c.requires.accepted c.requires.whole made.version (known_of made) (lines_of made)
+    accepted-in s (file_of c.args.rules.now) s.known.template refl c.requires.file c.requires.accepted c.requires.whole.1 made.version (known_of made) (lines_of made)
     c.line_context-context.ensures.version c.line_context-context.ensures.known c.line_context-context.ensures.lines
 
 pub returns-in_err-owners : goal.returns-in_err-owners
@@ -29,8 +35,9 @@ returns-in_err-judged c answers obey = none-at-exit _ c.from_residual-in_err-jud
 
 pub returns : goal.returns
 returns c answers obey =
-    let engine = see_engine c.args.engine.now in
+    let e = c.args.evaluation.now in
+    let s = state_with (see_store e.store) e.evidence.lines c.requires.whole.0 in
     let made = c.line_context-context.result in
-    let same = same-world engine (file_of c.args.rules.now) engine.known.template refl c.requires.file (known_of made) answers c.line_context-context.ensures.known in
+    let same = same-world s (file_of c.args.rules.now) s.known.template refl c.requires.file (known_of made) answers c.line_context-context.ensures.known in
     subst (λ (w : World). IfOk c.verdicts_told.result (λ verdicts. verdicts.items ≡ verdicts_of w)) (sym same)
     (c.verdicts_told.ensures answers (subst IsAnswering same obey))
