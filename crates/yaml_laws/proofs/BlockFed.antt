@@ -1,6 +1,6 @@
 -- Where a block scalar fails at the text's end, a break behind the text completes it so that it ends with the text, unless a mark stands on its last line, or its lines show that a blank one is too wide. By induction over lines.
-use Rattle.std.proofs.Common.{◌≡◌, ℕ, zero, suc, ◌+◌, ◌-◌, ◌<◌, ◌≤◌, ◌⊎◌, Bool, true, false, List, [], ◌∷◌, ◌++◌, length, drop, refl, sym, ap, inl, inr, ◌∙◌, arith, cond, subst, Option, Some, None, append_assoc, append-nil, length-append, true≢false}
-use Rattle.std.specs.Prelude.{ℤ, nat_eq, nat_lt, nat_le, not, ◌||◌, ◌&&◌}
+use Rattle.std.proofs.Common.{◌≡◌, ℕ, zero, suc, ◌+◌, ◌<◌, ◌≤◌, ◌⊎◌, Bool, true, false, List, [], ◌∷◌, ◌++◌, length, drop, refl, sym, ap, inl, inr, ◌∙◌, arith, cond, subst, Option, Some, None, append_assoc, append-nil, length-append, true≢false}
+use Rattle.std.specs.Prelude.{ℤ, nat_lt, nat_le, not, ◌||◌, ◌&&◌}
 use Rattle.yaml_scalars.specs.declared.scalar.Setting.{Setting}
 use Rattle.yaml_scalars.specs.Lines.{Line, Stands, Fails, begins_with, ends_with, is_blank, is_mark, indent, lines}
 use Rattle.yaml_scalars.specs.Plain.{above_of}
@@ -10,7 +10,7 @@ use Rattle.yaml_scalars.specs.code.Walk.{line_at, has_break, behind}
 use Rattle.yaml_laws.specs.code.Endings.{last_mark}
 use Rattle.yaml_scalars.proofs.Places.{lines_are}
 use Rattle.yaml_scalars.proofs.BlockStates.{more_line, more_out}
-use Rattle.yaml_scalars.proofs.BlockScalars.{on_fault, on_lines}
+use Rattle.yaml_scalars.proofs.BlockScalars.{on_lines}
 use Rattle.yaml_laws.proofs.Agree.{drop_before, drop_size}
 use Rattle.yaml_laws.proofs.Longer.{glue, joint, rest_of, feed_of, last_line, ended, cut, Ends, StandsTo, no_feed, one_line, lines_more, lines_ended, lines_end}
 use Rattle.yaml_laws.proofs.BlockHeads.{cases, return_alone, return_ranges}

@@ -80,7 +80,7 @@ byte_passed e b xs r false h = by_test (is_dotless b) (e && nat_eq b 92) h where
   by_test true true h =
       both (not (spells_dot xs)) (undotted e true xs) (spells_line xs (left (not (spells_dot (line_at xs))) (undotted e true (line_at xs)) h)) (r true (right (not (spells_dot (line_at xs))) (undotted e true (line_at xs)) h))
 
-pub lines_back : (e over : Bool) (at : ℕ) (xs : List ℕ) → From e over (lines at xs) → undotted e over xs ≡ true
+lines_back : (e over : Bool) (at : ℕ) (xs : List ℕ) → From e over (lines at xs) → undotted e over xs ≡ true
 lines_back e over at [] h = h.0
 lines_back e over at (b ∷ xs) h = by_break (nat_eq b 10) (nat_eq b 13) (begins_with 10 xs) refl refl refl h (λ s i. lines_back e s (suc at) xs i) where
   Next : Type 0
@@ -106,3 +106,7 @@ lines_back e over at (b ∷ xs) h = by_break (nat_eq b 10) (nat_eq b 13) (begins
       break_passed e b xs (inr (grind (arith, nat_tests, j))) (next false (here false (ap (undotted e false) (feed_alone xs k)) g.1)) over
   by_break false true false i j k h next = put_case h next
   by_break false false r i j k h next = put_case h next
+
+-- the lines themselves
+pub lines_undotted : (e : Bool) (at : ℕ) (xs : List ℕ) → AreFree e (lines at xs) → undotted e false xs ≡ true
+lines_undotted e at xs f = lines_back e false at xs (subst (From e false) (sym (lines_are at xs)) (subst (AreFree e) (lines_are at xs) f))

@@ -6,7 +6,7 @@ use Rattle.yaml_scalars.specs.declared.plain_line.Why.{Why}
 use Rattle.yaml_scalars.specs.declared.plain_line.Why.TheVariants.{Break, Return, Colon, Comment, Mark}
 use Rattle.yaml_scalars.specs.declared.plain_line.Below.{Below}
 use Rattle.yaml_scalars.specs.declared.plain_line.Below.TheVariants.{Blank, Outside, Further}
-use Rattle.yaml_scalars.specs.Lines.{Line, Stands, Fails, Documents, begins_with, each, ends_with, is_white, is_space, lead, indent, is_blank, past_white, keep, trimmed, is_mark, fold}
+use Rattle.yaml_scalars.specs.Lines.{Line, Outcome, Stands, Fails, Documents, begins_with, each, ends_with, is_white, is_space, lead, indent, is_blank, past_white, keep, trimmed, is_mark, fold}
 use Rattle.yaml_scalars.specs.Plain.{above_of, is_flow_mark, is_doubtful, is_unsafe, begins_plain, wrong_begin, stops, plain_len, content, content_end, why, reason, content_at, inside, below, joined, ends_on, stop_behind, joins, further, more, first, plain_on}
 use Rattle.yaml_scalars.proofs.FurtherLines.{skip_le}
 use Rattle.yaml_laws.specs.code.Dots.{is_dotless, undotted}
@@ -80,7 +80,7 @@ none_behind (b ∷ xs) h = absurd (by_tests (nat_eq b 13) (nat_eq b 58) (nat_eq 
   by_tests false false true h = cc
   by_tests false false false h = cc
 
-whole_free : (flow : Bool) (xs : List ℕ) → reason flow xs ≡ Break → IsFree (content flow xs) → IsFree xs
+pub whole_free : (flow : Bool) (xs : List ℕ) → reason flow xs ≡ Break → IsFree (content flow xs) → IsFree xs
 whole_free flow xs b f =
     let n = plain_len flow false xs in
     subst IsFree (sym (append-nil (take n xs)) ∙ ap (λ t. take n xs ++ t) (sym (none_behind (drop n xs) b)) ∙ split n xs) (trim_back (take n xs) f)
@@ -119,10 +119,10 @@ skip_free s xs n h = by_blank (is_blank xs) (is_mark xs) h where
   by_blank false true h = absurd (cc)
   by_blank false false h = by_flow s.flow h
 
-behind_free : (s : Setting) (xs : List ℕ) (n : ℕ) → below s xs ≡ Further n → IsFree (drop n xs) → IsFree xs
+pub behind_free : (s : Setting) (xs : List ℕ) (n : ℕ) → below s xs ≡ Further n → IsFree (drop n xs) → IsFree xs
 behind_free s xs n b f = subst IsFree (split n xs) (free_append (take n xs) (drop n xs) (skip_free s xs n b) f)
 
-blank_line : (s : Setting) (xs : List ℕ) → below s xs ≡ Blank → is_blank xs ≡ true
+pub blank_line : (s : Setting) (xs : List ℕ) → below s xs ≡ Blank → is_blank xs ≡ true
 blank_line s xs h = by_blank (is_blank xs) (is_mark xs) h where
   by_content : (m : ℕ) (q : Bool) → cond q Outside (Further m) ≡ Blank → ⊥
   by_content m true h = cc
@@ -143,35 +143,56 @@ blank_line s xs h = by_blank (is_blank xs) (is_mark xs) h where
 
 -- ---- lines
 
-text_free : (flow : Bool) (part text : List ℕ) (k : ℕ) → IsFree (joined flow part text k) → IsFree text × IsFree (content flow part)
+pub text_free : (flow : Bool) (part text : List ℕ) (k : ℕ) → IsFree (joined flow part text k) → IsFree text × IsFree (content flow part)
 text_free flow part text k h = (free_front text (fold k ++ content flow part) h, free_back (fold k) (content flow part) (free_back text (fold k ++ content flow part) h))
 
--- what was said before is kept
-stays : (s : Setting) (ls : List Line) (text : List ℕ) (end k : ℕ) → BackAt 0 (IsFree text) (more s ls text end k)
-stays s [] text end k = λ l f. f
-stays s (l ∷ ls) text end k = by_line (below s l.bytes) (λ t e n. stays s ls t e n) where
+-- what was said before is kept: the text goes on with it
+abbrev pub Keeps : List ℕ → Outcome → Type 0
+Keeps text (Stands t end) = (u : List ℕ) × (t ≡ text ++ u)
+Keeps text (Fails p) = Unit {0}
+Keeps text (Documents p) = Unit {0}
+
+keeps_front : (v w : List ℕ) (o : Outcome) → Keeps (v ++ w) o → Keeps v o
+keeps_front v w (Stands t end) (u, is) = (w ++ u, is ∙ append_assoc v w u)
+keeps_front v w (Fails p) h = tt
+keeps_front v w (Documents p) h = tt
+
+pub keeps : (s : Setting) (ls : List Line) (text : List ℕ) (end k : ℕ) → Keeps text (more s ls text end k)
+keeps s [] text end k = ([], sym (append-nil text))
+keeps s (l ∷ ls) text end k = by_line (below s l.bytes) (λ t e n. keeps s ls t e n) where
   Next : Type 0
-  Next = (t : List ℕ) (e n : ℕ) → BackAt 0 (IsFree t) (more s ls t e n)
+  Next = (t : List ℕ) (e n : ℕ) → Keeps t (more s ls t e n)
 
-  ends : (n : ℕ) (q : Bool) → BackAt 0 (IsFree text) (cond q (Stands text end) (Stands (joined s.flow (drop n l.bytes) text k) (content_end s.flow (drop n l.bytes) (l.at + n))))
-  ends n true = λ z f. f
-  ends n false = λ z f. (text_free s.flow (drop n l.bytes) text k f).0
+  grown : (n : ℕ) → List ℕ
+  grown n = fold k ++ content s.flow (drop n l.bytes)
 
-  by_flow : (n : ℕ) (q : Bool) → BackAt 0 (IsFree text) (cond q (ends_on s.flow (drop n l.bytes) (l.at + n) text end k) (Fails (stop_behind s.flow (drop n l.bytes) (l.at + n))))
+  ends : (n : ℕ) (q : Bool) → Keeps text (cond q (Stands text end) (Stands (joined s.flow (drop n l.bytes) text k) (content_end s.flow (drop n l.bytes) (l.at + n))))
+  ends n true = ([], sym (append-nil text))
+  ends n false = (grown n, refl)
+
+  by_flow : (n : ℕ) (q : Bool) → Keeps text (cond q (ends_on s.flow (drop n l.bytes) (l.at + n) text end k) (Fails (stop_behind s.flow (drop n l.bytes) (l.at + n))))
   by_flow n true = ends n (nat_eq (plain_len s.flow false (drop n l.bytes)) 0)
   by_flow n false = tt
 
-  by_why : (n : ℕ) (w : Why) → Next → BackAt 0 (IsFree text) (joins s.flow w (drop n l.bytes) (l.at + n) text end k (more s ls))
-  by_why n Break next = back_map 0 (more s ls (joined s.flow (drop n l.bytes) text k) (content_end s.flow (drop n l.bytes) (l.at + n)) 0) (λ f. (text_free s.flow (drop n l.bytes) text k f).0) (next (joined s.flow (drop n l.bytes) text k) (content_end s.flow (drop n l.bytes) (l.at + n)) 0)
-  by_why n Comment next = λ z f. (text_free s.flow (drop n l.bytes) text k f).0
+  by_why : (n : ℕ) (w : Why) → Next → Keeps text (joins s.flow w (drop n l.bytes) (l.at + n) text end k (more s ls))
+  by_why n Break next = keeps_front text (grown n) (more s ls (joined s.flow (drop n l.bytes) text k) (content_end s.flow (drop n l.bytes) (l.at + n)) 0) (next (joined s.flow (drop n l.bytes) text k) (content_end s.flow (drop n l.bytes) (l.at + n)) 0)
+  by_why n Comment next = (grown n, refl)
   by_why n Return next = tt
   by_why n Colon next = by_flow n s.flow
   by_why n Mark next = ends n (nat_eq (plain_len s.flow false (drop n l.bytes)) 0)
 
-  by_line : (b : Below) → Next → BackAt 0 (IsFree text) (further s b l.at l.bytes text end k (more s ls))
+  by_line : (b : Below) → Next → Keeps text (further s b l.at l.bytes text end k (more s ls))
   by_line Blank next = next text end (suc k)
-  by_line Outside next = λ z f. f
+  by_line Outside next = ([], sym (append-nil text))
   by_line (Further n) next = by_why n (reason s.flow (drop n l.bytes)) next
+
+-- so it has no dot where the whole has none
+stays : (s : Setting) (ls : List Line) (text : List ℕ) (end k : ℕ) → BackAt 0 (IsFree text) (more s ls text end k)
+stays s ls text end k = by_outcome (more s ls text end k) (keeps s ls text end k) where
+  by_outcome : (o : Outcome) → Keeps text o → BackAt 0 (IsFree text) o
+  by_outcome (Stands t e) (u, is) = λ z f. free_front text u (subst IsFree is f)
+  by_outcome (Fails p) h = tt
+  by_outcome (Documents p) h = tt
 
 -- the last line ends in a colon
 last_dotted : (s : Setting) (size at n : ℕ) (f y : List ℕ) (fs : List Line) (t : List ℕ) (e k : ℕ) → at + length f ≡ size → below s f ≡ Further n → Colons s.flow (reason s.flow (drop n f)) (drop n f) (at + n) size → BackAt 0 (IsFree t × (undotted false false f ≡ true)) (further s (below s (f ++ y)) at (f ++ y) t e k (more s fs))

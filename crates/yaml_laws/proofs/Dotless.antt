@@ -317,6 +317,13 @@ begins_line (b ∷ xs) = by_break (begins_break b xs) refl where
     other false true r i k e = grind (arith, nat_tests, k)
     other false false r i k e = absurd (true≢false (sym e))
 
+-- no quote stands in front
+pub unquoted : (xs : List ℕ) → begins_quoted xs ≡ false → begins_with 34 xs ≡ false
+unquoted xs e = by_or (begins_with 34 xs) (begins_with 39 xs) e where
+  by_or : (p q : Bool) → (p || q) ≡ false → p ≡ false
+  by_or true q h = h
+  by_or false q h = refl
+
 pub scalar_free : (s : Setting) (text : List ℕ) (at : ℕ) (t : List ℕ) (end : ℕ) → begins_block s (drop at text) ≡ false → undotted (begins_with 34 (drop at text)) false (drop at text) ≡ true → scalar_at s text at ≡ Stands t end → IsFree t
 scalar_free s text at t end n u h = by_quote (begins_quoted (drop at text)) (begins_block s (drop at text)) refl n h where
   bytes : List ℕ
@@ -329,12 +336,6 @@ scalar_free s text at t end n u h = by_quote (begins_quoted (drop at text)) (beg
   all q [] f = tt
   all q (l ∷ ls) f = f
 
-  plain_bytes : begins_quoted (drop at text) ≡ false → begins_with 34 (drop at text) ≡ false
-  plain_bytes e = by_or (begins_with 34 (drop at text)) (begins_with 39 (drop at text)) e where
-    by_or : (p q : Bool) → (p || q) ≡ false → p ≡ false
-    by_or true q h = h
-    by_or false q h = refl
-
   by_quote : (q b : Bool) → begins_quoted (drop at text) ≡ q → b ≡ false → cond q (quoted_scalar s text at) (cond b (block_scalar s text at) (plain_scalar s text at)) ≡ Stands t end → IsFree t
   by_quote true b e i g =
       says (quoted_scalar s text at)
@@ -344,7 +345,7 @@ scalar_free s text at t end n u h = by_quote (begins_quoted (drop at text)) (beg
   by_quote false true e i g = absurd (true≢false i)
   by_quote false false e i g =
       says (plain_scalar s text at)
-      (plain_on_free s (is_first_column text at) (lines at bytes) (all false (lines at bytes) (lines_free false false at bytes (ap (λ q. undotted q false bytes) (sym (plain_bytes e)) ∙ u)))) g
+      (plain_on_free s (is_first_column text at) (lines at bytes) (all false (lines at bytes) (lines_free false false at bytes (ap (λ q. undotted q false bytes) (sym (unquoted (drop at text) e)) ∙ u)))) g
 
 -- and it is completed without one
 pub undotted_grown : (s : Setting) (text : List ℕ) (at : ℕ) (w t : List ℕ) (end : ℕ) → at < length text → begins_block s (drop at text) ≡ false → undotted (begins_with 34 (drop at text)) false (drop at text) ≡ true → AllFit w → scalar_at s (text ++ w) at ≡ Stands t end → IsFree t

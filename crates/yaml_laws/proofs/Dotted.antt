@@ -13,8 +13,8 @@ use Rattle.yaml_laws.specs.code.Agreement.{scalar_shown, out_shown, plain_shown}
 use Rattle.yaml_laws.specs.code.Dots.{undotted}
 use Rattle.yaml_laws.proofs.Agree.{drop_before}
 use Rattle.yaml_laws.proofs.DotEscapes.{IsFree}
-use Rattle.yaml_laws.proofs.DotLines.{lines_back}
-use Rattle.yaml_laws.proofs.Dotless.{AreFree}
+use Rattle.yaml_laws.proofs.DotLines.{lines_undotted}
+use Rattle.yaml_laws.proofs.Dotless.{AreFree, unquoted}
 use Rattle.yaml_laws.proofs.DotPlain.{on_dotted as plain_dotted}
 use Rattle.yaml_laws.proofs.DotQuoted.{BackAt, on_dotted as quoted_dotted}
 use Rattle.yaml_laws.proofs.Longer.{glue, Ends, lines_apart, lines_end}
@@ -52,12 +52,6 @@ module _ (s : Setting) (text : List ℕ) (at : ℕ) (low : at < length text) (la
   lines_here : lines at (drop at text) ≡ record { at = at; bytes = line_at (drop at text); broken = has_break (drop at text) } ∷ behind at (drop at text)
   lines_here = lines_are at (drop at text)
 
-  raw : (e : Bool) → AreFree e (lines at (drop at text)) → undotted e false (drop at text) ≡ true
-  raw e f = lines_back e false at (drop at text) (subst (λ ls. From e ls) (sym lines_here) (subst (AreFree e) lines_here f)) where
-    From : Bool → List Line → Type 0
-    From e [] = Unit {0}
-    From e (l ∷ ls) = (undotted e false l.bytes ≡ true) × AreFree e ls
-
   told : (o : Outcome) (place : ℕ) (P : Type 0) (t : List ℕ) (end : ℕ) → BackAt place P o → o ≡ Stands t end → place ≤ end → IsFree t → P
   told o place P t end b e l f = subst (BackAt place P) e b l f
 
@@ -76,7 +70,7 @@ module _ (s : Setting) (text : List ℕ) (at : ℕ) (low : at < length text) (la
       let stands : plain_on s (is_first_column text at) (glue (first_line ∷ behind at (drop at text)) (next ∷ tails)) ≡ Stands t end =
       ap (λ ls. plain_on s fresh (glue ls (next ∷ tails))) (sym lines_here) ∙ ap (plain_on s fresh) (sym longer) ∙ ap (λ q. plain_on s q (lines at (drop at (text ++ more)))) (sym (column_longer text more at (omega (arith, low)))) ∙ g in
       let free = told (plain_on s fresh (glue (first_line ∷ ls) (next ∷ tails))) 0 (AreFree false (first_line ∷ ls)) t end there stands (omega arith) f in
-      raw false (subst (AreFree false) (sym lines_here) free)
+      lines_undotted false at (drop at text) (subst (AreFree false) (sym lines_here) free)
 
   -- a quoted scalar of a longer text does not end before the text does
   far : (t : List ℕ) (end : ℕ) → begins_quoted (drop at text) ≡ true → scalar_at s text at ≡ Fails (length text) → scalar_at s (text ++ more) at ≡ Stands t end → length text ≤ end
@@ -133,21 +127,15 @@ module _ (s : Setting) (text : List ℕ) (at : ℕ) (low : at < length text) (la
         let stands : quoted_on false (length (text ++ more)) (glue (record { at = at; bytes = b ∷ line_at xs; broken = has_break (drop at text) } ∷ behind at (drop at text)) (next ∷ tails)) ≡ Stands t end =
         ap (λ ls. quoted_on false (length (text ++ more)) (glue ls (next ∷ tails))) (sym here) ∙ ap (quoted_on false (length (text ++ more))) (sym longer) ∙ ap (λ o. quoted_on o (length (text ++ more)) (lines at (drop at (text ++ more)))) (sym one) ∙ k in
         let free = told (quoted_on false (length (text ++ more)) (glue (record { at = at; bytes = b ∷ line_at xs; broken = has_break (drop at text) } ∷ behind at (drop at text)) (next ∷ tails))) (length text) (AreFree (nat_eq b 34) (record { at = at; bytes = b ∷ line_at xs; broken = has_break (drop at text) } ∷ behind at (drop at text))) t end there stands (far t end q h g) f in
-        ap (λ r. undotted r false (drop at text)) (ap (begins_with 34) e) ∙ raw (nat_eq b 34) (subst (AreFree (nat_eq b 34)) (sym here) free)
+        ap (λ r. undotted r false (drop at text)) (ap (begins_with 34) e) ∙ lines_undotted (nat_eq b 34) at (drop at text) (subst (AreFree (nat_eq b 34)) (sym here) free)
 
   pub scalar_dotted : (t : List ℕ) (end : ℕ) → s.one_line ≡ false → begins_block s (drop at text) ≡ false → scalar_at s text at ≡ Fails (length text) → scalar_at s (text ++ more) at ≡ Stands t end → IsFree t → undotted (begins_with 34 (drop at text)) false (drop at text) ≡ true
   scalar_dotted t end one block h g f = by_quote (begins_quoted (drop at text)) refl where
-    plain_bytes : begins_quoted (drop at text) ≡ false → begins_with 34 (drop at text) ≡ false
-    plain_bytes e = by_or (begins_with 34 (drop at text)) (begins_with 39 (drop at text)) e where
-      by_or : (p q : Bool) → (p || q) ≡ false → p ≡ false
-      by_or true q h = h
-      by_or false q h = refl
-
     kind : (y : List ℕ) (q : Bool) → begins_quoted (drop at y) ≡ q → begins_block s (drop at y) ≡ false → scalar_at s y at ≡ cond q (quoted_scalar s y at) (plain_scalar s y at)
     kind y q e n = ap (λ r. cond r (quoted_scalar s y at) (cond (begins_block s (drop at y)) (block_scalar s y at) (plain_scalar s y at))) e ∙ ap (λ r. cond q (quoted_scalar s y at) (cond r (block_scalar s y at) (plain_scalar s y at))) n
 
     by_quote : (q : Bool) → begins_quoted (drop at text) ≡ q → undotted (begins_with 34 (drop at text)) false (drop at text) ≡ true
     by_quote true e = quoted_case t end one e h g (sym (kind (text ++ more) true (quoted_longer text more at low ∙ e) (block_longer s text more at low ∙ block)) ∙ g) f
     by_quote false e =
-        ap (λ r. undotted r false (drop at text)) (plain_bytes e)
+        ap (λ r. undotted r false (drop at text)) (unquoted (drop at text) e)
         ∙ plain_case t end (sym (kind text false e block) ∙ h) (sym (kind (text ++ more) false (quoted_longer text more at low ∙ e) (block_longer s text more at low ∙ block)) ∙ g) f

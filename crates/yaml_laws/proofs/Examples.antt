@@ -4,6 +4,7 @@ use Rattle.std.specs.Prelude.{codes, pos, negsuc}
 use Rattle.yaml_scalars.specs.declared.scalar.Setting.{Setting}
 use Rattle.yaml_scalars.specs.Lines.{Stands, Fails, Documents}
 use Rattle.yaml_scalars.specs.Scalar.{scalar_at}
+use Rattle.yaml_laws.specs.code.Agreement.{scalar_shown}
 
 abbrev top : Setting
 top = record { parent = negsuc 0; flow = false; one_line = false }
@@ -56,6 +57,16 @@ a_colon_needs_white_space_behind_it = refl
 
 in_flow_a_mark_on_a_further_line_adds_no_space : scalar_at flow (line (codes "a") (codes "]")) 0 ≡ Stands (codes "a") 1
 in_flow_a_mark_on_a_further_line_adds_no_space = refl
+
+-- the colon on the last line shows the end: with white space behind it the scalar is the same, with a letter it goes on
+a_colon_that_ends_the_text_shows_the_end : scalar_shown flow (line (codes "1.5") (codes ":")) 0 3 ≡ 5
+a_colon_that_ends_the_text_shows_the_end = refl
+
+white_space_makes_a_last_colon_an_indicator : scalar_at flow (line (codes "1.5") (codes ": ")) 0 ≡ Stands (codes "1.5") 3
+white_space_makes_a_last_colon_an_indicator = refl
+
+a_letter_makes_a_last_colon_content : scalar_at flow (line (codes "1.5") (codes ":x")) 0 ≡ Stands (codes "1.5 :x") 6
+a_letter_makes_a_last_colon_content = refl
 
 in_flow_a_tab_may_stand_in_front : scalar_at flow (line (codes "a") (9 ∷ codes "b, c")) 0 ≡ Stands (codes "a b") 4
 in_flow_a_tab_may_stand_in_front = refl

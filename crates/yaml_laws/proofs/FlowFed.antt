@@ -1,5 +1,5 @@
 -- A plain scalar in flow is the same where behind the text stands a line that begins with a bracket or a comma. By induction over lines.
-use Rattle.std.proofs.Common.{◌≡◌, ℕ, suc, ◌+◌, ◌≤◌, Bool, true, false, ◌||◌, ◌&&◌, cond, nat_eq, arith, List, [], ◌∷◌, ◌++◌, drop, length, refl, sym, ap, ◌∙◌, append-nil}
+use Rattle.std.proofs.Common.{◌≡◌, ℕ, suc, ◌+◌, ◌≤◌, Bool, true, false, ◌&&◌, cond, nat_eq, arith, List, [], ◌∷◌, ◌++◌, drop, length, refl, sym, ap, ◌∙◌, append-nil}
 use Rattle.std.proofs.lemmas.Bool.Decides.{nat_tests}
 use Rattle.std.specs.Prelude.{ℤ}
 use Rattle.yaml_scalars.specs.declared.scalar.Setting.{Setting}
@@ -7,7 +7,7 @@ use Rattle.yaml_scalars.specs.declared.plain_line.Why.{Why}
 use Rattle.yaml_scalars.specs.declared.plain_line.Why.TheVariants.{Break, Return, Colon, Comment, Mark}
 use Rattle.yaml_scalars.specs.declared.plain_line.Below.{Below}
 use Rattle.yaml_scalars.specs.declared.plain_line.Below.TheVariants.{Blank, Outside, Further}
-use Rattle.yaml_scalars.specs.Lines.{Line, Stands, begins_with, begins_break, ends_with, is_blank, is_white, is_mark, lead, past_white, lines}
+use Rattle.yaml_scalars.specs.Lines.{Line, Stands, begins_break, ends_with, is_blank, is_white, is_mark, lead, lines}
 use Rattle.yaml_scalars.specs.Plain.{is_flow_mark, content, content_end, content_at, inside, below, reason, joined, joins, further, first, more, plain_on}
 use Rattle.yaml_scalars.specs.Scalar.{is_first_column, plain_scalar}
 use Rattle.yaml_scalars.specs.code.Walk.{line_at, has_break, behind}

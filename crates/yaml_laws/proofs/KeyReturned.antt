@@ -1,14 +1,13 @@
 -- Where a plain key fails behind a carriage return that ends the text, it stands without the carriage return, with nothing but white space behind it, or with a colon behind that. By the cases of what ends its line.
-use Rattle.std.proofs.Common.{◌≡◌, ℕ, zero, suc, ◌+◌, ◌<◌, ◌≤◌, ◌⊎◌, Bool, true, false, List, [], ◌∷◌, ◌++◌, length, take, drop, refl, sym, ap, inl, inr, ◌∙◌, arith, cond, subst, append_assoc, append-nil, length-append, length-take, length-drop, true≢false}
-use Rattle.std.specs.Prelude.{nat_eq, nat_lt, not, ◌||◌, ◌&&◌}
-use Rattle.std.proofs.lemmas.Bool.Decides.{nat_tests}
+use Rattle.std.proofs.Common.{◌≡◌, ℕ, suc, ◌+◌, ◌<◌, ◌≤◌, Bool, true, false, List, [], ◌∷◌, ◌++◌, length, take, drop, refl, sym, ap, inl, inr, ◌∙◌, arith, cond, subst, append_assoc, length-append, true≢false}
+use Rattle.std.specs.Prelude.{◌&&◌}
 use Rattle.std.proofs.lemmas.List.{drop-drop, take_all}
 use Rattle.yaml_scalars.specs.declared.scalar.Setting.{Setting}
 use Rattle.yaml_scalars.specs.declared.plain_line.Why.{Why}
 use Rattle.yaml_scalars.specs.declared.plain_line.Why.TheVariants.{Break, Return, Colon, Comment, Mark}
-use Rattle.yaml_scalars.specs.Lines.{Line, Stands, Fails, begins_with, ends_with, is_white, is_blank, keep, trimmed, lines}
+use Rattle.yaml_scalars.specs.Lines.{Line, Stands, Fails, ends_with, is_white, is_blank, keep, trimmed, lines}
 use Rattle.yaml_scalars.specs.Plain.{begins_plain, stops, plain_len, content, content_end, why, reason, more, first, plain_on}
-use Rattle.yaml_scalars.specs.Scalar.{is_first_column, begins_quoted, begins_block, plain_scalar, quoted_scalar, block_scalar, scalar_at}
+use Rattle.yaml_scalars.specs.Scalar.{is_first_column, begins_quoted, plain_scalar, quoted_scalar, scalar_at}
 use Rattle.yaml_scalars.specs.code.Walk.{line_at, has_break, behind}
 use Rattle.yaml_scalars.proofs.Places.{lines_are}
 use Rattle.yaml_laws.specs.code.Endings.{IsKeyEnd}

@@ -7,6 +7,7 @@ pub mod BlockLonger
 pub mod BlockShown
 mod BlockStays
 pub mod BlockTorn
+pub mod ColonKept
 pub mod DotEscapes
 pub mod DotFilled
 pub mod DotLines
@@ -32,9 +33,10 @@ mod PlainFollowed
 pub mod PlainLaw
 pub mod PlainLettered
 pub mod PlainLines
-mod PlainLonger
+pub mod PlainLonger
 pub mod PlainPointed
-mod PlainShown
+mod PlainReached
+pub mod PlainShown
 pub mod PlainStays
 mod QuotedAlike
 mod QuotedBounds

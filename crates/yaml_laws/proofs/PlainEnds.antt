@@ -6,7 +6,7 @@ use Rattle.yaml_scalars.specs.declared.plain_line.Why.{Why}
 use Rattle.yaml_scalars.specs.declared.plain_line.Why.TheVariants.{Break, Return, Colon, Comment, Mark}
 use Rattle.yaml_scalars.specs.declared.plain_line.Below.{Below}
 use Rattle.yaml_scalars.specs.declared.plain_line.Below.TheVariants.{Blank, Outside, Further}
-use Rattle.yaml_scalars.specs.Lines.{Line, Outcome, Stands, ends_with, is_mark, lines}
+use Rattle.yaml_scalars.specs.Lines.{Line, Outcome, Stands, ends_with}
 use Rattle.yaml_scalars.specs.Plain.{plain_len, content, content_end, reason, below, joined, ends_on, joins, further, first, more, plain_on}
 use Rattle.yaml_scalars.specs.Scalar.{is_first_column, plain_scalar}
 use Rattle.yaml_scalars.specs.code.Walk.{line_at, has_break, behind}

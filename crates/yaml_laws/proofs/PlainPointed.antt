@@ -1,12 +1,11 @@
 -- Where a plain scalar on one line ends at a colon that ends the text, with nothing but white space between, a letter behind the colon makes the scalar go on to the text's end. By induction over the line's bytes.
-use Rattle.std.proofs.Common.{◌≡◌, ℕ, zero, suc, ◌+◌, ◌<◌, ◌≤◌, Bool, true, false, ◌||◌, ◌&&◌, not, cond, nat_eq, arith, List, [], ◌∷◌, ◌++◌, take, drop, length, refl, sym, ap, ◌∙◌, append_assoc, length-take, length-append, true≢false}
-use Rattle.std.proofs.lemmas.Bool.Decides.{nat_tests}
+use Rattle.std.proofs.Common.{◌≡◌, ℕ, zero, suc, ◌+◌, ◌≤◌, Bool, true, false, ◌||◌, ◌&&◌, cond, nat_eq, arith, List, [], ◌∷◌, ◌++◌, take, drop, length, refl, sym, ap, ◌∙◌, append_assoc, length-take, length-append, true≢false}
 use Rattle.std.proofs.lemmas.List.{drop-drop}
 use Rattle.yaml_scalars.specs.declared.scalar.Setting.{Setting}
 use Rattle.yaml_scalars.specs.declared.plain_line.Why.{Why}
 use Rattle.yaml_scalars.specs.declared.plain_line.Why.TheVariants.{Break, Return, Colon, Comment, Mark}
-use Rattle.yaml_scalars.specs.Lines.{Stands, begins_with, is_white, is_blank, is_mark, is_cut_mark, lines}
-use Rattle.yaml_scalars.specs.Plain.{is_flow_mark, is_unsafe, begins_plain, stops, plain_len, content, content_end, why, reason, first, plain_on}
+use Rattle.yaml_scalars.specs.Lines.{Stands, is_white, is_blank, is_mark, is_cut_mark, lines}
+use Rattle.yaml_scalars.specs.Plain.{begins_plain, stops, plain_len, content, content_end, why, reason, first, plain_on}
 use Rattle.yaml_scalars.specs.Scalar.{is_first_column, begins_quoted, begins_block, plain_scalar, quoted_scalar, block_scalar, scalar_at}
 use Rattle.yaml_laws.proofs.Agree.{drop_before, drop_size}
 use Rattle.yaml_laws.proofs.Longer.{rest_of, no_feed, one_line}

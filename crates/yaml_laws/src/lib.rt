@@ -9,7 +9,8 @@ mod scalars;
 
 pub use escape::wanted_digits;
 pub use scalars::{
-    block_fed, flow_closed, flow_fed, flow_followed, header_ended, key_fed, key_followed,
-    key_lengthened, key_returned, return_free, same_scalar, scalar_dotted, scalar_ended,
-    scalar_fed, scalar_lettered, scalar_pointed, scalar_undotted, syntax_place, undotted_ended,
+    block_fed, colon_kept, flow_closed, flow_fed, flow_followed, header_ended, key_fed,
+    key_followed, key_lengthened, key_returned, return_free, same_scalar, scalar_dotted,
+    scalar_ended, scalar_fed, scalar_lettered, scalar_pointed, scalar_undotted, syntax_place,
+    undotted_ended,
 };

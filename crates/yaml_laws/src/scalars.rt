@@ -76,10 +76,18 @@ pub fn scalar_pointed(front: &str, at: usize, setting: Setting)
 {}
 
 /// Where a colon that ends the text shows the end of a plain scalar, which may go over several lines, a letter behind the colon
-/// makes the scalar end with the text, in that letter. The call itself does nothing.
+/// makes the scalar end with the text, in that letter, and adds no dot to it. The call itself does nothing.
 pub fn scalar_lettered(text: &str, at: usize, setting: Setting)
     requires { at < length text.now }
-    ensures { (scalar : List ℕ) (end : ℕ) → ends_with 58 text.now ≡ true → begins_quoted (drop at text.now) ≡ false → begins_block setting (drop at text.now) ≡ false → scalar_shown setting text.now at end ≡ length text.now → scalar_at setting text.now at ≡ Stands scalar end → (longer : List ℕ) × (scalar_at setting (text.now ++ (97 ∷ [])) at ≡ Stands (longer ++ (97 ∷ [])) (length (text.now ++ (97 ∷ [])))) }
+    ensures { (scalar : List ℕ) (end : ℕ) → ends_with 58 text.now ≡ true → begins_quoted (drop at text.now) ≡ false → begins_block setting (drop at text.now) ≡ false → scalar_shown setting text.now at end ≡ length text.now → scalar_at setting text.now at ≡ Stands scalar end → (longer : List ℕ) × (scalar_at setting (text.now ++ (97 ∷ [])) at ≡ Stands (longer ++ (97 ∷ [])) (length (text.now ++ (97 ∷ [])))) × (undotted (begins_with 34 (drop at text.now)) false (drop at text.now) ≡ true → each is_dotless (longer ++ (97 ∷ [])) ≡ true) }
+{}
+
+/// Where a colon that ends the text shows the end of a plain scalar, the scalar that stands there in a longer text is the same,
+/// with what makes the colon an indicator behind it; or its text has the colon, and a dot if one stands so far. The call itself
+/// does nothing.
+pub fn colon_kept(text: &str, at: usize, setting: Setting)
+    requires { at < length text.now }
+    ensures { (more scalar longer : List ℕ) (end last : ℕ) → ends_with 58 text.now ≡ true → begins_quoted (drop at text.now) ≡ false → begins_block setting (drop at text.now) ≡ false → scalar_shown setting text.now at end ≡ length text.now → scalar_at setting text.now at ≡ Stands scalar end → scalar_at setting (text.now ++ more) at ≡ Stands longer last → ((is_unsafe setting.flow (line_at more) ≡ true) × (longer ≡ scalar) × (last ≡ end)) ⊎ ((front rest : List ℕ) × (longer ≡ front ++ (58 ∷ rest)) × (undotted (begins_with 34 (drop at text.now)) false (drop at text.now) ≡ false → each is_dotless longer ≡ false)) }
 {}
 
 /// Where a block scalar fails behind a carriage return that ends the text, a line feed completes it so that it ends with the
