@@ -3,7 +3,7 @@
 use Rattle.std.specs.Prelude.{ℕ, ◌≡◌, ◌≢◌, ◌++◌, ◌⊎◌, List, [], Option, Some, None, Bool, true, false}
 use Rattle.std.specs.Option.{ForSome}
 use Rattle.guard_io.specs.Outside.{IsPrefix, FaultCounted}
-use Rattle.yaml_blocks.specs.Places.{IsShown}
+use Rattle.yaml_blocks.specs.Places.{IsSyntax}
 use Rattle.guard_ends.specs.Inputs.{format_of}
 use Rattle.guard_ends.specs.Lines.{read_fault_line, pattern_line, write_fault_line, memory_line}
 use Rattle.guard_ends.specs.Order.{ComesTo, Contents, EndOf, Ended, Loads, Makes, refused}
@@ -151,8 +151,8 @@ pub record AreMisread (IsYaml : ReadAsYaml) (e other : Ended) : Type 0 where
   pub read : IsYaml which bytes
   pub at : ℕ
   pub place : ℕ
-  pub shown : IsShown bytes at
-  pub shown_too : IsShown bytes place
+  pub shown : IsSyntax bytes at
+  pub shown_too : IsSyntax bytes place
   pub first : e ≡ refused bytes (At which Syntax at None)
   pub second : other ≡ refused bytes (At which Syntax place None)
 

@@ -7,7 +7,7 @@ use Rattle.json_reader.specs.Json.{Json}
 use Rattle.json_reader.specs.Refusals.{IsRefused}
 use Rattle.json_reader.specs.declared.refusal.JsonRefusal.{JsonRefusal}
 use Rattle.yaml_blocks.specs.Answers.{IsSignOf, IsUnread, Reads, Refuses}
-use Rattle.yaml_blocks.specs.Places.{IsShown}
+use Rattle.yaml_blocks.specs.Places.{IsSyntax}
 use Rattle.yaml_blocks.specs.Signs.{Sign}
 use Rattle.yaml_blocks.specs.Signs as sign
 use Rattle.yaml_blocks.specs.Yaml.{Counts}
@@ -67,7 +67,7 @@ of_sign which (sign.TooDeep at) = At which TooDeep at None
 -- a refusal of YAML says that no sign counts, and a place at which the text is no document; or that one does, the only one
 abbrev IsSaid : Which → List ℕ → Refusal → Type 0
 IsSaid which text refusal =
-    ((at : ℕ) × (refusal ≡ At which Syntax at None) × IsUnread text × IsShown text at)
+    ((at : ℕ) × (refusal ≡ At which Syntax at None) × IsUnread text × IsSyntax text at)
     ⊎ ((s : Sign) × (refusal ≡ of_sign which s) × IsSignOf text s)
 
 refusal-one : (r q : Refusal) → Some r ≡ Some q → q ≡ r

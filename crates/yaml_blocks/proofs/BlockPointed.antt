@@ -21,6 +21,7 @@ use Rattle.yaml_blocks.specs.Signs.{Reading}
 use Rattle.yaml_blocks.specs.code.Closers.{HasRoom, in_flow, MayBegin, MendsValue}
 use Rattle.yaml_blocks.specs.code.Points.{is_plain, is_point, is_pointed}
 use Rattle.yaml_blocks.specs.code.Rest.{top, Awaits}
+use Rattle.yaml_blocks.specs.code.Splits.{InRoom, IsRoomy}
 use Rattle.yaml_blocks.specs.code.Steps.{Awaited, IsBlock, Rest, Fits, Gives, Goes, Holds, NoKey, SameNode, is_ending}
 use Rattle.yaml_blocks.specs.code.Twins.{LengthensAt}
 use Rattle.yaml_blocks.proofs.BlockGains.{nothing_follows, scalar_gives, spot_of}
@@ -32,6 +33,7 @@ use Rattle.yaml_blocks.proofs.Placed.{placed}
 use Rattle.yaml_blocks.proofs.Pointed.{ends_by, last_parts, plain_unblocked, plain_unquoted, point_of, point_told, pointed_parts, pointed_stale}
 use Rattle.yaml_blocks.proofs.Quiet.{inside_at, line_quiet}
 use Rattle.yaml_blocks.proofs.SameTexts.{holds_same}
+use Rattle.yaml_blocks.proofs.SplitPlaces.{room_here}
 
 -- ---- the colon shows the end of the scalar
 
@@ -108,7 +110,7 @@ block_out (Items m) b = refl
 block_out (Entries m) b = refl
 block_out (Tagged at ab sh) b = refl
 
-many : (f : Form) → IsBlock f → ((setting_of f).flow ≡ false) × ((setting_of f).one_line ≡ false)
+pub many : (f : Form) → IsBlock f → ((setting_of f).flow ≡ false) × ((setting_of f).one_line ≡ false)
 many Root k = (refl, refl)
 many (Flow map) k = absurd k
 many (FlowTagged at) k = absurd k
@@ -117,10 +119,10 @@ many (Entries m) k = (refl, refl)
 many (Tagged at above shares) k = (refl, refl)
 
 module _ (text : List ℕ) (utf8 : IsUtf8 text) (fs : List Form) (u : Unfinished) (i : ℕ) (cut : IsCharBoundary text i) where
-  mends_here : (t : List ℕ) (j q : ℕ) → IsBlock (top fs) → Fits text stage.Value fs u i → takes_scalar (top fs) (ahead text false i) ≡ true → scalar_ahead text (setting_of (top fs)) (ahead text false i) ≡ Stands t j → (ahead text false i).at < j → IsCharBoundary text j → is_pointed text false (ahead text false i).at j ≡ true → q ≡ length text
+  mends_here : (t : List ℕ) (j q : ℕ) → IsBlock (top fs) → Fits text stage.Value fs u i → takes_scalar (top fs) (ahead text false i) ≡ true → scalar_ahead text (setting_of (top fs)) (ahead text false i) ≡ Stands t j → (ahead text false i).at < j → IsCharBoundary text j → is_pointed text false (ahead text false i).at j ≡ true → q ≡ length text → IsRoomy text u (top fs) i (ahead text false i)
       → LengthensAt text stage.Value fs u i q
-  mends_here t j q block fits takes st low last pointed place = λ ends. (
-    (λ h usual. mended (subst (λ o. follows_get_att text (top fs) i ≡ true → HasRoom text (ahead text o i).at (length u.outer)) (block_out (top fs) block) (usual (subst (λ o. begins_block (setting_of (top fs)) (drop (ahead text o i).at text) ≡ false) (sym (block_out (top fs) block)) unblocked)))),
+  mends_here t j q block fits takes st low last pointed place room = λ ends. (
+    (λ h. mended (room unblocked)),
     (λ l more longer. absurd (let z = l.0 in omega (arith, z, place))),
   ) where
     word : (starts_scalar (ahead text false i).token ≡ true) × (scalar_at (setting_of (top fs)) text (ahead text false i).at ≡ Stands t j)
@@ -145,10 +147,10 @@ module _ (text : List ℕ) (utf8 : IsUtf8 text) (fs : List Form) (u : Unfinished
         unblocked
         (line_shown_last (setting_of (top fs)) text (ahead text false i).at t j utf8 set.0 set.1 (omega (arith, near)) last word.1 pointed) word.1 room
 
-  pub line_mends : (f : Form) (a : Ahead) (cuts : Bool) (w : Unfinished) (p : Position) (q : ℕ) → Awaited text fs u f i a → takes_scalar f a ≡ true → Holds text (setting_of f) cuts a u w (Ok p) → is_pointed text false a.at p.at ≡ true → q ≡ length text → LengthensAt text stage.Value fs u i q
-  line_mends f a cuts w p q there takes (t, k, (st, hk, low, last), es, ew, room) pointed place =
+  pub line_mends : (f : Form) (a : Ahead) (cuts : Bool) (w : Unfinished) (p : Position) (q : ℕ) → Awaited text fs u f i a → takes_scalar f a ≡ true → Holds text (setting_of f) cuts a u w (Ok p) → is_pointed text false a.at p.at ≡ true → q ≡ length text → InRoom text u f i a (LengthensAt text stage.Value fs u i) q
+  line_mends f a cuts w p q there takes (t, k, (st, hk, low, last), es, ew, fit) pointed place roomy =
       let here = there.seen.0 in
       let form = there.form in
       mends_here t p.at q (subst IsBlock (sym form) there.block) there.fits (subst (λ g. takes_scalar g (ahead text false i) ≡ true) (sym form) (subst (λ (b : Ahead). takes_scalar f b ≡ true) here takes))
       (subst (λ g. scalar_ahead text (setting_of g) (ahead text false i) ≡ Stands t p.at) (sym form) (subst (λ (b : Ahead). scalar_ahead text (setting_of f) b ≡ Stands t p.at) here st)) (subst (λ (b : Ahead). b.at < p.at) here low) last
-      (subst (λ (b : Ahead). is_pointed text false b.at p.at ≡ true) here pointed) place
+      (subst (λ (b : Ahead). is_pointed text false b.at p.at ≡ true) here pointed) place (room_here text fs u i f a false form here (roomy place))

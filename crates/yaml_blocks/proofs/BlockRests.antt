@@ -320,25 +320,26 @@ module _ (text : List ℕ) where
     abbrev pub Told : List ℕ → Kind → ℕ → Type 0
     Told t k q = (l : Label) × (kids : Forest) × (r : Reach) × IsValue (is_cut (follows_get_att text f i) k t) (length outer) k t key (ahead text false i).at q l kids r × After l kids r
 
-    pub awaits_scalar : (t : List ℕ) (k : Kind) (q : ℕ) → Barred → starts_scalar (ahead text false i).token ≡ true → NoMapping → scalar_ahead text (setting_of f) (ahead text false i) ≡ Stands t q
-        → ((k' : Kind) → HasKind (is_typed (setting_of f) text (ahead text false i).at) t k' → k' ≡ k) → Awaits text fs outer done key i v → Told t k q
-    awaits_scalar t k q b s nm st only w = by_scalar (scalar_here b s nm w) where
-      by_scalar : ScalarHere → Told t k q
+    -- with a kind
+    pub awaits_kind : (t : List ℕ) (q : ℕ) → Barred → starts_scalar (ahead text false i).token ≡ true → NoMapping → scalar_ahead text (setting_of f) (ahead text false i) ≡ Stands t q → Awaits text fs outer done key i v
+        → (k : Kind) × HasKind (is_typed (setting_of f) text (ahead text false i).at) t k × Told t k q
+    awaits_kind t q b s nm st w = by_scalar (scalar_here b s nm w) where
+      by_scalar : ScalarHere → (k : Kind) × HasKind (is_typed (setting_of f) text (ahead text false i).at) t k × Told t k q
       by_scalar (l, kids, r, inr (n, st', er), en) = absurd (let no : Documents n ≡ Stands t q = sym st' ∙ st in cc)
-      by_scalar (l, kids, r, inl (t', k', j, st', hk, val), en) =
+      by_scalar (l, kids, r, inl (t', k, j, st', hk, val), en) =
           let here : Stands t' j ≡ Stands t q = sym st' ∙ st in
           let same : t' ≡ t = cc in
           let ends : j ≡ q = cc in
-          let kinds : k' ≡ k = only k' (subst (λ g. HasKind (is_typed (setting_of f) text (ahead text false i).at) g k') same hk) in
           let cuts : Bool = follows_get_att text f i in
           let at : ℕ = (ahead text false i).at in (
-            l,
-            kids,
-            r,
-            subst (λ g. IsValue (is_cut cuts k g) (length outer) k g key at q l kids r) same
-                (subst (λ g. IsValue (is_cut cuts g t') (length outer) g t' key at q l kids r) kinds (subst (λ n. IsValue (is_cut cuts k' t') (length outer) k' t' key at n l kids r) ends val)),
-            en,
+            k,
+            subst (λ g. HasKind (is_typed (setting_of f) text (ahead text false i).at) g k) same hk,
+            (l, kids, r, subst (λ g. IsValue (is_cut cuts k g) (length outer) k g key at q l kids r) same (subst (λ n. IsValue (is_cut cuts k t') (length outer) k t' key at n l kids r) ends val), en),
           )
+
+    pub awaits_scalar : (t : List ℕ) (k : Kind) (q : ℕ) → Barred → starts_scalar (ahead text false i).token ≡ true → NoMapping → scalar_ahead text (setting_of f) (ahead text false i) ≡ Stands t q
+        → ((k' : Kind) → HasKind (is_typed (setting_of f) text (ahead text false i).at) t k' → k' ≡ k) → Awaits text fs outer done key i v → Told t k q
+    awaits_scalar t k q b s nm st only w = let r = awaits_kind t q b s nm st w in subst (λ g. Told t g q) (only r.0 r.1) r.2
 
     pub scalar_awaits : (t : List ℕ) (k : Kind) (q : ℕ) → takes_scalar f (ahead text false i) ≡ true → scalar_ahead text (setting_of f) (ahead text false i) ≡ Stands t q
         → HasKind (is_typed (setting_of f) text (ahead text false i).at) t k → Told t k q → Awaits text fs outer done key i v

@@ -14,7 +14,7 @@ use Rattle.yaml_blocks.specs.code.Extends.{root_seen}
 use Rattle.yaml_blocks.specs.code.Closers.{in_flow}
 use Rattle.yaml_blocks.specs.Places.{IsSyntax}
 use Rattle.yaml_blocks.specs.code.Rest.{top}
-use Rattle.yaml_blocks.specs.code.Twins.{IsTwin, IsLast, IsUsual, LengthensAt, Alive, settled}
+use Rattle.yaml_blocks.specs.code.Twins.{IsTwin, IsLast, LengthensAt, Alive, settled}
 use Rattle.yaml_blocks.proofs.Back.{back}
 use Rattle.yaml_blocks.proofs.DeadPlaces.{NoTwin}
 use Rattle.yaml_blocks.proofs.LivesOn.{LivesOn}
@@ -42,9 +42,9 @@ module _ (text : List ℕ) (p : Position) (fs : List Form) (u : Unfinished) (utf
   alive more long = back text p fs u utf8 lives goes some near root last more long
 
   -- some bytes mend it
-  pub length_short : q ≡ length text → IsUsual text p.stage fs u p.at → IsSyntax text q
-  length_short e usual =
-      let m = (says last).0 e usual in
+  pub length_short : q ≡ length text → IsSyntax text q
+  length_short e =
+      let m = (says last).0 e in
       let long : IsUtf8 (text ++ m.0) = IsUtf8-append text m.0 utf8 (IsUtf8-from_ascii m.0 (ascii_bytes m.0 m.1)) in
       let t = (alive m.0 long).0.1 m.2 m.3 in
       inr (e, (m.0, t.0, long, t.1))

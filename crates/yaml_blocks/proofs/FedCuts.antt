@@ -18,34 +18,34 @@ use Rattle.yaml_scalars.specs.Scalar.{HasKind}
 use Rattle.yaml_laws.proofs.Longer.{glue, joint, feed_of}
 use Rattle.yaml_blocks.specs.Nodes.{is_dot, is_cut}
 
--- ---- a text with a space or a newline is no number and no word
+-- ---- a text with a space, a newline or a colon is no number and no word
 
 abbrev pub has_gap : List ℕ → Bool
 has_gap [] = false
-has_gap (b ∷ bs) = (nat_eq b 32 || nat_eq b 10) || has_gap bs
+has_gap (b ∷ bs) = (nat_eq b 32 || (nat_eq b 10 || nat_eq b 58)) || has_gap bs
 
 gap_append : (x y : List ℕ) → has_gap x ≡ false → has_gap y ≡ false → has_gap (x ++ y) ≡ false
 gap_append [] y g h = h
-gap_append (b ∷ x) y g h = by_byte (nat_eq b 32 || nat_eq b 10) g (λ k. gap_append x y k h) where
+gap_append (b ∷ x) y g h = by_byte (nat_eq b 32 || (nat_eq b 10 || nat_eq b 58)) g (λ k. gap_append x y k h) where
   by_byte : (q : Bool) → (q || has_gap x) ≡ false → (has_gap x ≡ false → has_gap (x ++ y) ≡ false) → (q || has_gap (x ++ y)) ≡ false
   by_byte true k n = absurd (true≢false k)
   by_byte false k n = n k
 
 pub gap_behind : (x y : List ℕ) → has_gap y ≡ true → has_gap (x ++ y) ≡ true
 gap_behind [] y h = h
-gap_behind (b ∷ x) y h = by_byte (nat_eq b 32 || nat_eq b 10) (gap_behind x y h) where
+gap_behind (b ∷ x) y h = by_byte (nat_eq b 32 || (nat_eq b 10 || nat_eq b 58)) (gap_behind x y h) where
   by_byte : (q : Bool) → has_gap (x ++ y) ≡ true → (q || has_gap (x ++ y)) ≡ true
   by_byte true k = refl
   by_byte false k = k
 
-gap_front : (x y : List ℕ) → has_gap x ≡ true → has_gap (x ++ y) ≡ true
+pub gap_front : (x y : List ℕ) → has_gap x ≡ true → has_gap (x ++ y) ≡ true
 gap_front [] y h = absurd (true≢false (sym h))
-gap_front (b ∷ x) y h = by_byte (nat_eq b 32 || nat_eq b 10) h (λ k. gap_front x y k) where
+gap_front (b ∷ x) y h = by_byte (nat_eq b 32 || (nat_eq b 10 || nat_eq b 58)) h (λ k. gap_front x y k) where
   by_byte : (q : Bool) → (q || has_gap x) ≡ true → (has_gap x ≡ true → has_gap (x ++ y) ≡ true) → (q || has_gap (x ++ y)) ≡ true
   by_byte true k n = refl
   by_byte false k n = n k
 
-no_gap : (b : ℕ) (y : List ℕ) → (nat_eq b 32 || nat_eq b 10) ≡ false → has_gap y ≡ false → has_gap (b ∷ y) ≡ false
+no_gap : (b : ℕ) (y : List ℕ) → (nat_eq b 32 || (nat_eq b 10 || nat_eq b 58)) ≡ false → has_gap y ≡ false → has_gap (b ∷ y) ≡ false
 no_gap b y g h = ap (λ q. q || has_gap y) g ∙ h
 
 byte_not : (b n : ℕ) → (b ≡ n → ⊥) → nat_eq b n ≡ false
@@ -54,10 +54,11 @@ byte_not b n h = by_test (nat_eq b n) refl where
   by_test true e = absurd (h (let z : b ≡ n = grind (arith, nat_tests, e) in z))
   by_test false e = e
 
-digit_gap : (b : ℕ) → is_digit b ≡ true → (nat_eq b 32 || nat_eq b 10) ≡ false
+digit_gap : (b : ℕ) → is_digit b ≡ true → (nat_eq b 32 || (nat_eq b 10 || nat_eq b 58)) ≡ false
 digit_gap b h =
     let low : 48 ≤ b = grind (arith, nat_tests, h) in
-    ap (λ q. q || nat_eq b 10) (byte_not b 32 (λ e. absurd (omega (arith, e, low)))) ∙ byte_not b 10 (λ e. absurd (omega (arith, e, low)))
+    let high : b ≤ 57 = grind (arith, nat_tests, h) in
+    ap (λ q. q || (nat_eq b 10 || nat_eq b 58)) (byte_not b 32 (λ e. absurd (omega (arith, e, low)))) ∙ ap (λ q. q || nat_eq b 58) (byte_not b 10 (λ e. absurd (omega (arith, e, low)))) ∙ byte_not b 58 (λ e. absurd (omega (arith, e, high)))
 
 digits_gap : (ds : List ℕ) → AreDigits ds → has_gap ds ≡ false
 digits_gap [] h = refl
@@ -71,8 +72,8 @@ fraction_gap : (ds : List ℕ) → AreDigits ds → has_gap (fraction_text ds) �
 fraction_gap [] h = refl
 fraction_gap (b ∷ ds) h = no_gap 46 (b ∷ ds) refl (digits_gap (b ∷ ds) h)
 
-letter_gap : (e x : ℕ) (y : List ℕ) → e ≡ x → (nat_eq x 32 || nat_eq x 10) ≡ false → has_gap y ≡ false → has_gap (e ∷ y) ≡ false
-letter_gap e x y i n h = no_gap e y (ap (λ k. nat_eq k 32 || nat_eq k 10) i ∙ n) h
+letter_gap : (e x : ℕ) (y : List ℕ) → e ≡ x → (nat_eq x 32 || (nat_eq x 10 || nat_eq x 58)) ≡ false → has_gap y ≡ false → has_gap (e ∷ y) ≡ false
+letter_gap e x y i n h = no_gap e y (ap (λ k. nat_eq k 32 || (nat_eq k 10 || nat_eq k 58)) i ∙ n) h
 
 power_gap : (down : Bool) (ds text : List ℕ) → AreDigits ds → IsPowerText down ds text → has_gap text ≡ false
 power_gap true [] text a (d, e) = ap has_gap e
@@ -161,7 +162,7 @@ grown_on : (t u v : List ℕ) → Grown (t ++ u) v → has_gap u ≡ true → Gr
 grown_on t u v (inl e) g = inr (u, e, g)
 grown_on t u v (inr (w, e, h)) g = inr (u ++ w, e ∙ append_assoc t u w, gap_front u w g)
 
-gap_fold : (k : ℕ) (c : List ℕ) → has_gap (fold k ++ c) ≡ true
+pub gap_fold : (k : ℕ) (c : List ℕ) → has_gap (fold k ++ c) ≡ true
 gap_fold zero c = refl
 gap_fold (suc k) c = refl
 
@@ -193,7 +194,7 @@ further_grown s Blank at bytes t e k next v m n h = n t e (suc k) h
 further_grown s Outside at bytes t e k next v m n h = inl (text_is t v e m h)
 further_grown s (Further i) at bytes t e k next v m n h = joins_grown s.flow (reason s.flow (drop i bytes)) (drop i bytes) (at + i) t e k next v m n h
 
-more_grown : (s : Setting) (ls : List Line) (t : List ℕ) (e k : ℕ) (v : List ℕ) (m : ℕ) → more s ls t e k ≡ Stands v m → Grown t v
+pub more_grown : (s : Setting) (ls : List Line) (t : List ℕ) (e k : ℕ) (v : List ℕ) (m : ℕ) → more s ls t e k ≡ Stands v m → Grown t v
 more_grown s [] t e k v m h = inl (text_is t v e m h)
 more_grown s (l ∷ ls) t e k v m h = further_grown s (below s l.bytes) l.at l.bytes t e k (more s ls) v m (λ x y z g. more_grown s ls x y z v m g) h
 

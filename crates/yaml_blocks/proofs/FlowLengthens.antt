@@ -27,11 +27,12 @@ use Rattle.yaml_blocks.specs.Nodes.{as_key, follows_get_att, is_marked, node_sig
 use Rattle.yaml_blocks.specs.Flow.{IsColon, may_miss}
 use Rattle.yaml_blocks.specs.Signs.{Tree}
 use Rattle.yaml_blocks.specs.code.AheadSeen.{ahead_seen, first_return, is_told}
-use Rattle.yaml_blocks.specs.code.Closers.{MayBegin, in_flow, HasRoom}
+use Rattle.yaml_blocks.specs.code.Closers.{MayBegin, HasRoom}
 use Rattle.yaml_blocks.specs.code.Rest.{top, Awaits, Enters}
+use Rattle.yaml_blocks.specs.code.Splits.{InRoom}
 use Rattle.yaml_blocks.specs.code.StopPlaces.{is_stray, past_return, token_width, told_place, flow_place, last_told, width, within}
 use Rattle.yaml_blocks.specs.code.Steps.{Agrees, IsBehind, IsFlow, IsSeen, IsSpelled, Closed, Open, Fits, is_ending, is_flow_ending, is_open}
-use Rattle.yaml_blocks.specs.code.Twins.{FailedAt, IsLast, IsUsual, Lengthens, LengthensAt, Mends, MendsNode, NoRest, OnUnread, Stops}
+use Rattle.yaml_blocks.specs.code.Twins.{FailedAt, IsLast, Lengthens, LengthensAt, Mends, MendsNode, NoRest, OnUnread, Stops}
 use Rattle.yaml_blocks.proofs.FirstDead.{after_dead}
 use Rattle.yaml_blocks.proofs.Fixed.{apart, flow_in}
 use Rattle.yaml_blocks.proofs.FirstEntries.{map_dead}
@@ -40,13 +41,14 @@ use Rattle.yaml_blocks.proofs.FlowMends.{end_mends, item_mends, key_grows, key_m
 use Rattle.yaml_blocks.proofs.Gains.{TagOn, tag_both, tag_popped}
 use Rattle.yaml_blocks.proofs.KeyTails.{marked_ends, tail_place, tail_within}
 use Rattle.yaml_blocks.proofs.LastBytes.{agrees_longer, stray_told, stray_within}
-use Rattle.yaml_blocks.proofs.Lengthened.{cut_mark_bytes, ends_drop, last_lengthens, some_text, told_at}
+use Rattle.yaml_blocks.proofs.Lengthened.{cut_mark_bytes, ends_drop, last_lengthens, some_text, told_at, word_told}
 use Rattle.yaml_blocks.proofs.OtherStops.{memory_on, on_from, unread_on}
 use Rattle.yaml_blocks.proofs.Settled.{is_bare, bare_seen}
 use Rattle.yaml_blocks.proofs.PlainOut.{ahead_from}
 use Rattle.yaml_blocks.proofs.Quiet.{word_inside}
 use Rattle.yaml_blocks.proofs.ScalarFails.{seen_fails}
 use Rattle.yaml_blocks.proofs.ShownTokens.{ahead_wide}
+use Rattle.yaml_blocks.proofs.SplitPlaces.{room_here}
 use Rattle.yaml_blocks.proofs.Stopped.{last_told_stops, told_stops, within_end, within_here}
 use Rattle.yaml_blocks.proofs.Values.{value_grown}
 
@@ -151,7 +153,7 @@ module _ (text : List ℕ) (utf8 : IsUtf8 text) (fs : List Form) (u : Unfinished
     by_open true o k =
         let end : a.token ≡ End = open_end a.token (ap (λ c. c || is_open a.token) o) plain (ap (λ (b : Ahead). is_outer b.token) e ∙ inner_ahead text i) (no_point a.token o) in
         let there : q ≡ length text = k ∙ ap (λ t. cond (is_ending t) (length text) (past_return text (a.at + width a (drop a.at text)))) end in
-        λ last. ((λ h usual. end_mends text stage.After fs u i fits cut.0 flow (sym (ap (λ (b : Ahead). b.token) e) ∙ end)), (λ l more longer. (let z = l.0 in absurd (omega (arith, z, there)))))
+        λ last. ((λ h. end_mends text stage.After fs u i fits cut.0 flow (sym (ap (λ (b : Ahead). b.token) e) ∙ end)), (λ l more longer. (let z = l.0 in absurd (omega (arith, z, there)))))
     by_open false o k =
         last_lengthens text utf8 fs u i cut stage.After true a q e o k
         (λ more longer last t l far there fits2 g h.
@@ -159,7 +161,7 @@ module _ (text : List ℕ) (utf8 : IsUtf8 text) (fs : List Form) (u : Unfinished
 
   -- behind the node of a tag, whose map ends
   pub tag_lengthens : (place : ℕ) (gs : List Form) (w : Unfinished) (r : Result Position Stop) → TagOn place fs gs u → w ≡ with_end u → Lengthens text stage.After gs w i r → Lengthens text stage.After fs u i r
-  tag_lengthens place gs w r on e h = on_from (LengthensAt text stage.After gs w i) (LengthensAt text stage.After fs u i) r (λ q g last. let z = g last in ((λ k usual. mends (z.0 k tt)), (λ l more longer there fits t y. z.1 l more longer there (inner_fits (text ++ more)) t (((tag_both (text ++ more) place fs gs u w i on e) (Tree t)).0 y)))) h where
+  tag_lengthens place gs w r on e h = on_from (LengthensAt text stage.After gs w i) (LengthensAt text stage.After fs u i) r (λ q g last. let z = g last in ((λ k. mends (z.0 k)), (λ l more longer there fits t y. z.1 l more longer there (inner_fits (text ++ more)) t (((tag_both (text ++ more) place fs gs u w i on e) (Tree t)).0 y)))) h where
     popped : Open gs w × (w.key ≡ None) × ((map : Bool) × (top gs ≡ Flow map))
     popped = tag_popped place fs gs u w on e
 
@@ -192,7 +194,7 @@ module _ (text : List ℕ) (utf8 : IsUtf8 text) (fs : List Form) (u : Unfinished
   bare_token Other h o s p q n a = absurd (true≢false s)
 
   pub token_mends : (a : Ahead) (q : ℕ) → a ≡ ahead text true i → starts_scalar a.token ≡ false → ((map : Bool) → a.token ≡ Opens map → ⊥) → ((len : ℕ) → a.token ≡ Tag len → ⊥) → (a.token ≡ NoTag → ⊥) → (a.token ≡ Anchor → ⊥) → q ≡ flow_place text a → MendsNode text fs u i q
-  token_mends a q e starts opens tags none anchor place = λ last. ((λ h going room. absurd (past last h going)), (λ l. late last l)) where
+  token_mends a q e starts opens tags none anchor place = λ last. ((λ h going. absurd (past last h going)), (λ l. absurd (late last l))) where
     here : (ahead text true i).token ≡ a.token
     here = sym (ap (λ (b : Ahead). b.token) e)
 
@@ -225,23 +227,6 @@ module _ (text : List ℕ) (utf8 : IsUtf8 text) (fs : List Form) (u : Unfinished
       by_ending : (r : Bool) → is_ending a.token ≡ r → ⊥
       by_ending true z = let k : q ≡ length text = place ∙ ap (λ r. cond r (told_place text a) (last_told text a)) z ∙ ap (λ r. cond r (length text) (past_return text (a.at + width a (drop a.at text)))) z in let y = l.0 in omega (arith, k, y)
       by_ending false z = by_told (stray_told a.token z)
-
-  word_told : (t : Token) → starts_scalar t ≡ true → is_told t ≡ true
-  word_told Other e = refl
-  word_told (Point loose) e = refl
-  word_told End e = absurd (true≢false (sym e))
-  word_told Dashes e = absurd (true≢false (sym e))
-  word_told Dots e = absurd (true≢false (sym e))
-  word_told Tabbed e = absurd (true≢false (sym e))
-  word_told Stray e = absurd (true≢false (sym e))
-  word_told Dash e = refl
-  word_told (Tag len) e = refl
-  word_told NoTag e = refl
-  word_told (Opens map) e = refl
-  word_told (Closes map) e = refl
-  word_told Comma e = refl
-  word_told Anchor e = refl
-  word_told Percent e = refl
 
   word_bare : (t : Token) → starts_scalar t ≡ true → is_stray t ≡ false
   word_bare Other e = refl
@@ -287,8 +272,8 @@ module _ (text : List ℕ) (utf8 : IsUtf8 text) (fs : List Form) (u : Unfinished
   abbrev Mended : Type 0
   Mended = (more : List ℕ) × (each is_ascii more ≡ true) × (tree : Forest) × Awaits (text ++ more) fs u.outer u.done u.key i (Tree tree)
 
-  pub word_mends : (f : Form) (a : Ahead) (q : ℕ) → a ≡ ahead text true i → top fs ≡ f → IsFlow f → Open fs u → starts_scalar a.token ≡ true → FailedAt text (setting_of f) a q → MendsNode text fs u i q
-  word_mends f a q e form flow open_ starts failed = λ last. by_fail last failed where
+  pub word_mends : (f : Form) (a : Ahead) (q : ℕ) → a ≡ ahead text true i → top fs ≡ f → IsFlow f → Open fs u → starts_scalar a.token ≡ true → FailedAt text (setting_of f) a q → InRoom text u f i a (MendsNode text fs u i) q
+  word_mends f a q e form flow open_ starts failed roomy = λ last. by_fail last failed where
     word : starts_scalar (ahead text true i).token ≡ true
     word = sym (ap (λ (b : Ahead). starts_scalar b.token) e) ∙ starts
 
@@ -304,18 +289,18 @@ module _ (text : List ℕ) (utf8 : IsUtf8 text) (fs : List Form) (u : Unfinished
         (value_grown fs u.outer u.done u.key i open_.0 open_.1 text cut.0) (λ b. absurd (apart (top fs) b flowing)) word inside_text (flow_block (top fs) (drop (ahead text true i).at text) flowing) last h room
 
     Says : Type 0
-    Says = (q ≡ length text → is_ending (ahead text true i).token ≡ false → (follows_get_att text (top fs) i ≡ true → HasRoom text (ahead text true i).at (length u.outer)) → Mended) × (IsLast text i q → ⊥)
+    Says = (q ≡ length text → is_ending (ahead text true i).token ≡ false → Mended) × (IsLast text i q → (follows_get_att text (top fs) i ≡ true) × ((more : List ℕ) → IsUtf8 (text ++ more) → (t : Forest) → Awaits (text ++ more) fs u.outer u.done u.key i (Tree t) → ⊥))
 
     by_less : (r : ℕ) (c : Bool) → nat_lt r (length text) ≡ c → ends_with 13 text ≡ false → scalar_at (setting_of f) text (ahead text true i).at ≡ Fails r → q ≡ cond c (within text (past_return text (widest (a.at + width a (drop a.at text)) r))) (length text) → Says
     by_less r true k last h g =
         let l = ltb-true r (length text) k in
-        ((λ z going room. absurd (inner (past_return text (widest (a.at + width a (drop a.at text)) r)) z g l)), (λ x. fails_inside (setting_of f) r word h l last (x.1 last))) where
+        ((λ z going. absurd (inner (past_return text (widest (a.at + width a (drop a.at text)) r)) z g l)), (λ x. absurd (fails_inside (setting_of f) r word h l last (x.1 last)))) where
           inner : (n : ℕ) → q ≡ length text → q ≡ within text n → r < length text → ⊥
           inner n z g l = by_order (cases_lt n (length text)) where
             by_order : (n < length text) ⊎ (length text ≤ n) → ⊥
             by_order (inl y) = let w = g ∙ within_here text n y in omega (arith, z, w, y)
             by_order (inr y) = let w = g ∙ within_end text n y in omega (arith, z, w, l)
-    by_less r false k last h g = ((λ z going room. mend last whole room), (λ x. let y = x.0 in omega (arith, y, g))) where
+    by_less r false k last h g = ((λ z going. mend last whole (room_here text fs u i f a true form e (roomy z) (flow_block (top fs) (drop (ahead text true i).at text) flowing))), (λ x. absurd (let y = x.0 in omega (arith, y, g)))) where
       most : r ≤ length text
       most = scalar_upper (setting_of f) text (ahead text true i).at r inside_text h
 
@@ -362,7 +347,7 @@ module _ (text : List ℕ) (utf8 : IsUtf8 text) (fs : List Form) (u : Unfinished
     by_open true o k =
         let end : a.token ≡ End = open_end a.token (ap (λ c. c || is_open a.token) o) plain (ap (λ (b : Ahead). is_outer b.token) e ∙ inner_ahead text i) (no_point a.token starts) in
         let there : q ≡ length text = k ∙ ap (λ t. cond (is_ending t) (length text) (past_return text (a.at + width a (drop a.at text)))) end in
-        λ last. ((λ h usual. end_mends text stage.Entry fs u i (open_, (true, form), none) cut.0 flow (sym (ap (λ (b : Ahead). b.token) e) ∙ end)), (λ l more longer. (let z = l.0 in absurd (omega (arith, z, there)))))
+        λ last. ((λ h. end_mends text stage.Entry fs u i (open_, (true, form), none) cut.0 flow (sym (ap (λ (b : Ahead). b.token) e) ∙ end)), (λ l more longer. (let z = l.0 in absurd (omega (arith, z, there)))))
     by_open false o k =
         last_lengthens text utf8 fs u i cut stage.Entry true a q e o k (λ more longer last t l far there fits g h. by_forms more t l fs u.outer form open_.0 g h) where
           by_forms : (more : List ℕ) → is_told (ahead text true i).token ≡ true → (ahead text true i).at < length text → (hs : List Form) (outer : List Level) → top hs ≡ Flow true → Agrees hs outer → (g : Forest) → Enters (text ++ more) hs outer u.done i (Tree g) → ⊥
@@ -385,18 +370,18 @@ module _ (text : List ℕ) (utf8 : IsUtf8 text) (fs : List Form) (u : Unfinished
     inside_text = told_at text true i (word_told (ahead text true i).token word)
 
     Says : ℕ → Type 0
-    Says q = (q ≡ length text → IsUsual text stage.Entry fs u i → Mends text stage.Entry fs u i) × (IsLast text i q → (more : List ℕ) → IsUtf8 (text ++ more) → NoRest stage.Entry fs u i (text ++ more))
+    Says q = (q ≡ length text → Mends text stage.Entry fs u i) × (IsLast text i q → (more : List ℕ) → IsUtf8 (text ++ more) → NoRest stage.Entry fs u i (text ++ more))
 
     by_less : (q r : ℕ) (c : Bool) → nat_lt r (length text) ≡ c → ends_with 13 text ≡ false → scalar_at (as_key true) text (ahead text true i).at ≡ Fails r → q ≡ cond c (within text (past_return text (widest (a.at + width a (drop a.at text)) r))) (length text) → Says q
     by_less q r true k last h g =
         let l = ltb-true r (length text) k in
-        ((λ z usual. absurd (inner (past_return text (widest (a.at + width a (drop a.at text)) r)) z g l)), (λ x more longer. absurd (fails_inside (as_key true) r word h l last (x.1 last)))) where
+        ((λ z. absurd (inner (past_return text (widest (a.at + width a (drop a.at text)) r)) z g l)), (λ x more longer. absurd (fails_inside (as_key true) r word h l last (x.1 last)))) where
           inner : (n : ℕ) → q ≡ length text → q ≡ within text n → r < length text → ⊥
           inner n z g l = by_order (cases_lt n (length text)) where
             by_order : (n < length text) ⊎ (length text ≤ n) → ⊥
             by_order (inl y) = let w = g ∙ within_here text n y in omega (arith, z, w, y)
             by_order (inr y) = let w = g ∙ within_end text n y in omega (arith, z, w, l)
-    by_less q r false k last h g = ((λ z usual. key_grows text fs u i form open_ cut.0 word inside_text last (h ∙ ap Fails end)), (λ x more longer. (let y = x.0 in absurd (omega (arith, y, g))))) where
+    by_less q r false k last h g = ((λ z. key_grows text fs u i form open_ cut.0 word inside_text last (h ∙ ap Fails end)), (λ x more longer. (let y = x.0 in absurd (omega (arith, y, g))))) where
       end : r ≡ length text
       end = let z : length text ≤ r = grind (arith, nat_tests, k) in let m = scalar_upper (as_key true) text (ahead text true i).at r inside_text h in omega (arith, z, m)
 
@@ -425,36 +410,33 @@ module _ (text : List ℕ) (utf8 : IsUtf8 text) (fs : List Form) (u : Unfinished
     place_is end = place ∙ ap (λ z. cond (is_ending z) (cond (is_ending z) (length text) (past_return text ((ahead text true e).at + width (ahead text true e) (drop (ahead text true e).at text)))) (last_told text (ahead text true e))) end
 
     Says : Type 0
-    Says = (q ≡ length text → IsUsual text stage.Entry fs u i → Mends text stage.Entry fs u i) × (IsLast text i q → (more : List ℕ) → IsUtf8 (text ++ more) → NoRest stage.Entry fs u i (text ++ more))
+    Says = (q ≡ length text → Mends text stage.Entry fs u i) × (IsLast text i q → (more : List ℕ) → IsUtf8 (text ++ more) → NoRest stage.Entry fs u i (text ++ more))
 
     by_ending : ends_with 13 text ≡ false → (r : Bool) → is_ending (ahead text true e).token ≡ r → Says
     by_ending last true go = (
-      (λ h usual. (let b = there.0 in let l = less in key_mends text fs u i t e form open_ cut.0 last st2 (subst (λ (b : Ahead). b.at < length text) seen.0 (omega (arith, b, l))) there.0 (at_end go) fresh)),
+      (λ h. (let b = there.0 in let l = less in key_mends text fs u i t e form open_ cut.0 last st2 (subst (λ (b : Ahead). b.at < length text) seen.0 (omega (arith, b, l))) there.0 (at_end go) fresh)),
       (λ l more longer. (let z = l.0 in let y = place_is (at_end go) in absurd (omega (arith, z, y)))),
     )
     by_ending last false go = (
-      (λ h usual. (let z = tail_place text utf8 i a seen cut t e st less there quoted none q place last go in absurd (omega (arith, z, h)))),
+      (λ h. (let z = tail_place text utf8 i a seen cut t e st less there quoted none q place last go in absurd (omega (arith, z, h)))),
       (λ l more longer. (let z = tail_within text utf8 i a seen cut t e st less there quoted none q place last go in let y = l.1 last in absurd (omega (arith, z, y)))),
     )
 
   -- an entry of a list
   pub item_lengthens : (a : Ahead) (r : Result Position Stop) → a ≡ ahead text true i → top fs ≡ Flow false → Open fs u → u.key ≡ None → is_marked a.token ≡ false → OnUnread (MendsNode text fs u i) r → Lengthens text stage.Entry fs u i r
-  item_lengthens a r e form open_ none plain h = on_from (MendsNode text fs u i) (LengthensAt text stage.Entry fs u i) r (λ q g last. let z = g last in ((λ k usual. by_ending (is_ending (ahead text true i).token) refl q k z.0), (λ l more longer. absurd (z.1 l)))) h where
+  item_lengthens a r e form open_ none plain h = on_from (MendsNode text fs u i) (LengthensAt text stage.Entry fs u i) r (λ q g last. let z = g last in ((λ k. by_ending (is_ending (ahead text true i).token) refl q k z.0), (λ l more longer. absurd (true≢false (sym (z.1 l).0 ∙ ap (λ f. follows_get_att text f i) form))))) h where
     flow : IsFlow (top fs)
     flow = subst IsFlow (sym form) tt
-
-    room : follows_get_att text (top fs) i ≡ true → HasRoom text (ahead text true i).at (length u.outer)
-    room g = absurd (true≢false (sym g ∙ ap (λ f. follows_get_att text f i) form))
 
     no_colon : (t : Token) → is_ending t ≡ true → (loose : Bool) → t ≡ Point loose → ⊥
     no_colon t s loose k = true≢false (sym s ∙ ap is_ending k)
 
-    by_ending : (c : Bool) → is_ending (ahead text true i).token ≡ c → (q : ℕ) → q ≡ length text → (q ≡ length text → is_ending (ahead text true i).token ≡ false → (follows_get_att text (top fs) i ≡ true → HasRoom text (ahead text true i).at (length u.outer)) → (more : List ℕ) × (each is_ascii more ≡ true) × (tree : Forest) × Awaits (text ++ more) fs u.outer u.done u.key i (Tree tree))
+    by_ending : (c : Bool) → is_ending (ahead text true i).token ≡ c → (q : ℕ) → q ≡ length text → (q ≡ length text → is_ending (ahead text true i).token ≡ false → (more : List ℕ) × (each is_ascii more ≡ true) × (tree : Forest) × Awaits (text ++ more) fs u.outer u.done u.key i (Tree tree))
         → Mends text stage.Entry fs u i
     by_ending true o q k z =
         end_mends text stage.Entry fs u i (open_, (false, form), none) cut.0 flow
         (open_end (ahead text true i).token (ap (λ c. c || is_open (ahead text true i).token) o) (sym (ap (λ (b : Ahead). is_marked b.token) e) ∙ plain) (inner_ahead text i) (no_colon (ahead text true i).token o))
-    by_ending false o q k z = item_mends text fs u i form open_ (subst (λ y. (more : List ℕ) × (each is_ascii more ≡ true) × (tree : Forest) × Awaits (text ++ more) fs u.outer u.done y i (Tree tree)) none (z k o room))
+    by_ending false o q k z = item_mends text fs u i form open_ (subst (λ y. (more : List ℕ) × (each is_ascii more ≡ true) × (tree : Forest) × Awaits (text ++ more) fs u.outer u.done y i (Tree tree)) none (z k o))
 
   -- ---- where a value may stand
 
@@ -485,7 +467,7 @@ module _ (text : List ℕ) (utf8 : IsUtf8 text) (fs : List Form) (u : Unfinished
 
   pub value_lengthens : (f : Form) (a : Ahead) (r : Result Position Stop) → a ≡ ahead text true i → top fs ≡ f → IsFlow f → may_miss f ≡ true → IsBehind f i → Open fs u → AwaitsValue u → is_flow_ending a.token ≡ false → OnUnread (MendsNode text fs u i) r → Lengthens text stage.Value fs u i r
   value_lengthens f a r e form flow misses behind open_ awaited plain h =
-      on_from (MendsNode text fs u i) (LengthensAt text stage.Value fs u i) r (λ q g last. let z = g last in ((λ k usual. by_ending (is_ending (ahead text true i).token) refl q k (subst (λ o. follows_get_att text (top fs) i ≡ true → HasRoom text (ahead text o i).at (length u.outer)) (flow_in (top fs) flowing) (usual (flow_block (top fs) (drop (ahead text (in_flow (top fs)) i).at text) flowing))) z.0), (λ l more longer. absurd (z.1 l)))) h where
+      on_from (MendsNode text fs u i) (LengthensAt text stage.Value fs u i) r (λ q g last. let z = g last in ((λ k. by_ending (is_ending (ahead text true i).token) refl q k z.0), (λ l more longer there fitting. (z.1 l).1 more longer))) h where
         flowing : IsFlow (top fs)
         flowing = subst IsFlow (sym form) flow
 
@@ -495,7 +477,7 @@ module _ (text : List ℕ) (utf8 : IsUtf8 text) (fs : List Form) (u : Unfinished
         fits : Fits text stage.Value fs u i
         fits = (open_, no_list, awaited, subst (λ g. IsBehind g i) (sym form) behind, flow_spelled (top fs) flowing)
 
-        by_ending : (c : Bool) → is_ending (ahead text true i).token ≡ c → (q : ℕ) → q ≡ length text → (follows_get_att text (top fs) i ≡ true → HasRoom text (ahead text true i).at (length u.outer)) → (q ≡ length text → is_ending (ahead text true i).token ≡ false → (follows_get_att text (top fs) i ≡ true → HasRoom text (ahead text true i).at (length u.outer))
+        by_ending : (c : Bool) → is_ending (ahead text true i).token ≡ c → (q : ℕ) → q ≡ length text → (q ≡ length text → is_ending (ahead text true i).token ≡ false
             → (more : List ℕ) × (each is_ascii more ≡ true) × (tree : Forest) × Awaits (text ++ more) fs u.outer u.done u.key i (Tree tree)) → Mends text stage.Value fs u i
-        by_ending true o q k room z = end_mends text stage.Value fs u i fits cut.0 flowing (ending_end (ahead text true i).token o (sym (ap (λ (b : Ahead). is_flow_ending b.token) e) ∙ plain) (inner_ahead text i))
-        by_ending false o q k room z = z k o room
+        by_ending true o q k z = end_mends text stage.Value fs u i fits cut.0 flowing (ending_end (ahead text true i).token o (sym (ap (λ (b : Ahead). is_flow_ending b.token) e) ∙ plain) (inner_ahead text i))
+        by_ending false o q k z = z k o

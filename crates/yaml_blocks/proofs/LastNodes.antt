@@ -27,9 +27,10 @@ use Rattle.yaml_blocks.specs.Signs.{Sign, Reading, Tree}
 use Rattle.yaml_blocks.specs.code.AheadSeen.{ahead_seen, is_told}
 use Rattle.yaml_blocks.specs.code.Closers.{in_flow, HasRoom, MayBegin}
 use Rattle.yaml_blocks.specs.code.Rest.{top, Awaits}
+use Rattle.yaml_blocks.specs.code.Splits.{InRoom, IsRoomy}
 use Rattle.yaml_blocks.specs.code.StopPlaces.{width, past_return, within, last_told, dash_place, ends_in_dash}
 use Rattle.yaml_blocks.specs.code.Steps.{IsBlock, IsSpelled, LiesIn, Nests, NoNode, Awaited, is_ending}
-use Rattle.yaml_blocks.specs.code.Twins.{FailedAt, IsLast, IsUsual, Mends, NoRest, IsStill, LengthensAt, Lengthens}
+use Rattle.yaml_blocks.specs.code.Twins.{FailedAt, IsLast, Mends, NoRest, IsStill, LengthensAt, Lengthens}
 use Rattle.yaml_blocks.proofs.BlockGains.{no_root, nothing_follows, sign_nowhere}
 use Rattle.yaml_blocks.proofs.BlockRests.{awaits_missing}
 use Rattle.yaml_blocks.proofs.Continuations.{block_below}
@@ -37,10 +38,11 @@ use Rattle.yaml_blocks.proofs.Dashes.{dash_completes}
 use Rattle.yaml_blocks.proofs.FirstDead.{IsFirst, AreStill, first_same, still_none}
 use Rattle.yaml_blocks.proofs.FirstTokens.{first_mark}
 use Rattle.yaml_blocks.proofs.LastBytes.{agrees_longer}
-use Rattle.yaml_blocks.proofs.Lengthened.{dash_test, told_at, last_lengthens, dash_end, dash_within, ends_drop, fails_within}
+use Rattle.yaml_blocks.proofs.Lengthened.{dash_test, told_at, last_lengthens, dash_end, dash_within, ends_drop, fails_within, word_told}
 use Rattle.yaml_blocks.proofs.Placed.{placed}
 use Rattle.yaml_blocks.proofs.Quiet.{inside_at, line_quiet}
 use Rattle.yaml_blocks.proofs.Rests.{no_scalar}
+use Rattle.yaml_blocks.proofs.SplitPlaces.{room_here}
 use Rattle.yaml_blocks.proofs.Stopped.{within_end, within_here}
 use Rattle.yaml_blocks.proofs.TornBlocks.{value_torn}
 use Rattle.yaml_blocks.proofs.TornDashes.{dots_last, undashed_end}
@@ -196,7 +198,7 @@ module _ (text : List ℕ) (utf8 : IsUtf8 text) (fs : List Form) (u : Unfinished
     mend z = let t = dash_completes text fs u.outer u.done u.key i cut.0 block takes dash (dash_end text utf8 fs u i cut dash z) w.fits.0.0 w.fits.0.1 in (97 ∷ [], refl, t.0, t.1)
 
     by_test : ((a.token ≡ Dash) × (a.behind ≡ length text) × (q ≡ length text)) ⊎ ((a.token ≡ Dash → a.behind ≡ length text → ⊥) × (q ≡ last_told text a)) → Lengthens text stage.Value fs u i (Err (stop.Unread q))
-    by_test (inl (t, z, k)) = λ last. ((λ h usual. mend (sym (ap (λ (b : Ahead). b.behind) here) ∙ z)), (λ l more longer. (let y = l.0 in absurd (omega (arith, y, k)))))
+    by_test (inl (t, z, k)) = λ last. ((λ h. mend (sym (ap (λ (b : Ahead). b.behind) here) ∙ z)), (λ l more longer. (let y = l.0 in absurd (omega (arith, y, k)))))
     by_test (inr (n, k)) =
         last_lengthens text utf8 fs u i cut stage.Value false a q here (ap is_ending d) k
         (λ more longer last t l far. absurd (dash_within text utf8 fs u i cut dash (λ z. n d (ap (λ (b : Ahead). b.behind) here ∙ z)) far))
@@ -315,33 +317,16 @@ module _ (text : List ℕ) (utf8 : IsUtf8 text) (fs : List Form) (u : Unfinished
             one (Tagged at ab sh) g lies b = tt
 
   abbrev Says : Type 0
-  Says = (q ≡ length text → IsUsual text stage.Value fs u i → Mends text stage.Value fs u i) × (IsLast text i q → (more : List ℕ) → IsUtf8 (text ++ more) → NoRest stage.Value fs u i (text ++ more))
+  Says = (q ≡ length text → Mends text stage.Value fs u i) × (IsLast text i q → (more : List ℕ) → IsUtf8 (text ++ more) → NoRest stage.Value fs u i (text ++ more))
 
   -- a scalar that fails
-  pub scalar_lengthens : starts_scalar a.token ≡ true → takes_scalar f a ≡ true → FailedAt text (setting_of f) a q → (q ≡ length text → ends_in_dash text a ≡ false) → LengthensAt text stage.Value fs u i q
-  scalar_lengthens starts tk failed undashed = λ last. by_fail last failed where
+  pub scalar_lengthens : starts_scalar a.token ≡ true → takes_scalar f a ≡ true → FailedAt text (setting_of f) a q → (q ≡ length text → ends_in_dash text a ≡ false) → InRoom text u f i a (LengthensAt text stage.Value fs u i) q
+  scalar_lengthens starts tk failed undashed roomy = λ last. by_fail last failed where
     word : starts_scalar (ahead text false i).token ≡ true
     word = sym (ap (λ (b : Ahead). starts_scalar b.token) here) ∙ starts
 
-    told : (t : Token) → starts_scalar t ≡ true → is_told t ≡ true
-    told Other e = refl
-    told (Point loose) e = refl
-    told End e = absurd (true≢false (sym e))
-    told Dashes e = absurd (true≢false (sym e))
-    told Dots e = absurd (true≢false (sym e))
-    told Tabbed e = absurd (true≢false (sym e))
-    told Stray e = absurd (true≢false (sym e))
-    told Dash e = refl
-    told (Tag len) e = refl
-    told NoTag e = refl
-    told (Opens map) e = refl
-    told (Closes map) e = refl
-    told Comma e = refl
-    told Anchor e = refl
-    told Percent e = refl
-
     within_text : (ahead text false i).at < length text
-    within_text = told_at text false i (told (ahead text false i).token word)
+    within_text = told_at text false i (word_told (ahead text false i).token word)
 
     out : in_flow (top fs) ≡ false
     out = block_out (top fs) block where
@@ -357,8 +342,8 @@ module _ (text : List ℕ) (utf8 : IsUtf8 text) (fs : List Form) (u : Unfinished
     takes = ap (λ g. takes_scalar g (ahead text false i)) w.form ∙ ap (takes_scalar f) (sym here) ∙ tk
 
     -- by how the scalar begins
-    mend : ends_with 13 text ≡ false → scalar_at (setting_of (top fs)) text (ahead text false i).at ≡ Fails (length text) → IsUsual text stage.Value fs u i → ends_in_dash text (ahead text false i) ≡ false → Mends text stage.Value fs u i
-    mend last h usual plain = by_kind (begins_block (setting_of (top fs)) (drop (ahead text false i).at text)) refl (has_break (drop (ahead text false i).at text)) refl where
+    mend : ends_with 13 text ≡ false → scalar_at (setting_of (top fs)) text (ahead text false i).at ≡ Fails (length text) → IsRoomy text u (top fs) i (ahead text false i) → ends_in_dash text (ahead text false i) ≡ false → Mends text stage.Value fs u i
+    mend last h room plain = by_kind (begins_block (setting_of (top fs)) (drop (ahead text false i).at text)) refl (has_break (drop (ahead text false i).at text)) refl where
       by_kind : (b : Bool) → begins_block (setting_of (top fs)) (drop (ahead text false i).at text) ≡ b → (k : Bool) → has_break (drop (ahead text false i).at text) ≡ k → Mends text stage.Value fs u i
       by_kind true b true k =
           let bare = unquoted (setting_of (top fs)) (drop (ahead text false i).at text) b in
@@ -366,7 +351,7 @@ module _ (text : List ℕ) (utf8 : IsUtf8 text) (fs : List Form) (u : Unfinished
           (dots_last (setting_of (top fs)) text (ahead text false i).at within_text bare b k last h (undashed_end text (ahead text false i) (setting_of (top fs)) b k plain))
       by_kind false b k z =
           subst (λ o. MayBegin (top fs) (ahead text o i) → starts_scalar (ahead text o i).token ≡ true → (ahead text o i).at < length text → begins_block (setting_of (top fs)) (drop (ahead text o i).at text) ≡ false → ends_with 13 text ≡ false → scalar_at (setting_of (top fs)) text (ahead text o i).at ≡ Fails (length text) → (follows_get_att text (top fs) i ≡ true → HasRoom text (ahead text o i).at (length u.outer)) → Mends text stage.Value fs u i) out
-          (value_grown fs u.outer u.done u.key i w.fits.0.0 w.fits.0.1 text cut.0) (λ x. takes) word within_text b last h (subst (λ o. follows_get_att text (top fs) i ≡ true → HasRoom text (ahead text o i).at (length u.outer)) out (usual (ap (λ o. begins_block (setting_of (top fs)) (drop (ahead text o i).at text)) out ∙ b)))
+          (value_grown fs u.outer u.done u.key i w.fits.0.0 w.fits.0.1 text cut.0) (λ x. takes) word within_text b last h (room b)
       by_kind true b false k =
           subst (λ o. MayBegin (top fs) (ahead text o i) → starts_scalar (ahead text o i).token ≡ true → (ahead text o i).at < length text → begins_quoted (drop (ahead text o i).at text) ≡ false → begins_block (setting_of (top fs)) (drop (ahead text o i).at text) ≡ true → ends_with 13 (drop (ahead text o i).at text) ≡ false → has_break (drop (ahead text o i).at text) ≡ false → scalar_at (setting_of (top fs)) text (ahead text o i).at ≡ Fails (length text) → Mends text stage.Value fs u i) out
           (value_header fs u.outer u.done u.key i w.fits.0.0 w.fits.0.1 text cut.0) (λ x. takes) word within_text (unquoted (setting_of (top fs)) (drop (ahead text false i).at text) b) b (unreturned (ahead text false i).at text last) k h
@@ -374,13 +359,13 @@ module _ (text : List ℕ) (utf8 : IsUtf8 text) (fs : List Form) (u : Unfinished
     by_less : (r : ℕ) (c : Bool) → nat_lt r (length text) ≡ c → ends_with 13 text ≡ false → scalar_at (setting_of f) text (ahead text false i).at ≡ Fails r → q ≡ cond c (within text (past_return text (widest (a.at + width a (drop a.at text)) r))) (length text) → Says
     by_less r true e last h g =
         let l = ltb-true r (length text) e in
-        ((λ k usual. absurd (inner (past_return text (widest (a.at + width a (drop a.at text)) r)) k g l)), (λ x more longer. absurd (fails_within text utf8 fs u i cut (setting_of f) r word h l last (x.1 last)))) where
+        ((λ k. absurd (inner (past_return text (widest (a.at + width a (drop a.at text)) r)) k g l)), (λ x more longer. absurd (fails_within text utf8 fs u i cut (setting_of f) r word h l last (x.1 last)))) where
           inner : (n : ℕ) → q ≡ length text → q ≡ within text n → r < length text → ⊥
           inner n k g l = by_order (cases_lt n (length text)) where
             by_order : (n < length text) ⊎ (length text ≤ n) → ⊥
             by_order (inl z) = let y = g ∙ within_here text n z in omega (arith, k, y, z)
             by_order (inr z) = let y = g ∙ within_end text n z in omega (arith, k, y, l)
-    by_less r false e last h g = ((λ k usual. mend last whole usual (ap (ends_in_dash text) (sym here) ∙ undashed k)), (λ x more longer. (let y = x.0 in absurd (omega (arith, y, g))))) where
+    by_less r false e last h g = ((λ k. mend last whole (room_here text fs u i f a false w.form here (roomy k)) (ap (ends_in_dash text) (sym here) ∙ undashed k)), (λ x more longer. (let y = x.0 in absurd (omega (arith, y, g))))) where
       most : r ≤ length text
       most = scalar_upper (setting_of f) text (ahead text false i).at r within_text h
 

@@ -110,7 +110,7 @@ module _ (text : List ℕ) (utf8 : IsUtf8 text) (fs : List Form) (u : Unfinished
   LastDead s flow = (more : List ℕ) → IsUtf8 (text ++ more) → ends_with 13 text ≡ false → is_told (ahead text flow i).token ≡ true → (ahead text flow i).at < length text → length text ≤ ahead_seen text i → NoRest s fs u i (text ++ more)
 
   pub last_lengthens : (s : Stage) (flow : Bool) (a : Ahead) (q : ℕ) → a ≡ ahead text flow i → is_ending a.token ≡ false → q ≡ last_told text a → LastDead s flow → Lengthens text s fs u i (Err (stop.Unread q))
-  last_lengthens s flow a q e go p dead = λ last. ((λ h usual. absurd (past h)), (λ l more longer. by_token last (l.1 last) more longer (stray_told (ahead text flow i).token going))) where
+  last_lengthens s flow a q e go p dead = λ last. ((λ h. absurd (past h)), (λ l more longer. by_token last (l.1 last) more longer (stray_told (ahead text flow i).token going))) where
     going : is_ending (ahead text flow i).token ≡ false
     going = sym (ap (λ (b : Ahead). is_ending b.token) e) ∙ go
 
@@ -209,7 +209,7 @@ module _ (text : List ℕ) (utf8 : IsUtf8 text) (fs : List Form) (u : Unfinished
 
     by_dots : (d : Bool) → ends_in_dots text a ≡ d → q ≡ cond d (length text) (last_told text a) → Lengthens text stage.After fs u i (Err (stop.Unread q))
     by_dots false d k = last_lengthens stage.After false a q e go k (dead (sym (ap (ends_in_dots text) e) ∙ d))
-    by_dots true d k = λ last. ((λ h usual. (let w = dotted (sym (ap (ends_in_dots text) e) ∙ d) in dots_mend going here w.0 (subst IsBlock (sym form) tt) open_ w.1)), (λ l more longer. (let z = l.0 in absurd (omega (arith, z, k)))))
+    by_dots true d k = λ last. ((λ h. (let w = dotted (sym (ap (ends_in_dots text) e) ∙ d) in dots_mend going here w.0 (subst IsBlock (sym form) tt) open_ w.1)), (λ l more longer. (let z = l.0 in absurd (omega (arith, z, k)))))
 
   -- where only a key may stand, and no scalar begins
   shut_token : (t : Token) → starts_scalar t ≡ false → is_told t ≡ true → (t ≡ Dash → ⊥) → is_shut t ≡ true
@@ -286,7 +286,7 @@ module _ (text : List ℕ) (utf8 : IsUtf8 text) (fs : List Form) (u : Unfinished
 
     by_test : ((a.token ≡ Dash) × (a.behind ≡ length text) × (q ≡ length text)) ⊎ ((a.token ≡ Dash → a.behind ≡ length text → ⊥) × (q ≡ last_told text a)) → Lengthens text stage.After fs u i (Err (stop.Unread q))
     by_test (inl (d, z, k)) =
-        λ last. ((λ h usual. mend (sym (ap (λ (b : Ahead). b.token) e) ∙ d) (sym (ap (λ (b : Ahead). b.behind) e) ∙ z)), (λ l more longer. (let y = l.0 in absurd (omega (arith, y, k)))))
+        λ last. ((λ h. mend (sym (ap (λ (b : Ahead). b.token) e) ∙ d) (sym (ap (λ (b : Ahead). b.behind) e) ∙ z)), (λ l more longer. (let y = l.0 in absurd (omega (arith, y, k)))))
     by_test (inr (n, k)) = last_lengthens stage.After false a q e go k (dead (λ d z. n (ap (λ (b : Ahead). b.token) e ∙ d) (ap (λ (b : Ahead). b.behind) e ∙ z)))
 
   -- blocks that ended before the line
@@ -294,7 +294,7 @@ module _ (text : List ℕ) (utf8 : IsUtf8 text) (fs : List Form) (u : Unfinished
       → Lengthens text stage.After gs w i r → Lengthens text stage.After fs u i r
   popped_lengthens a gs w r e go popped block block2 open_ key lasts =
       on_from (LengthensAt text stage.After gs w i) (LengthensAt text stage.After fs u i) r (λ q h last. (
-        (λ z usual. (let m = (h last).0 z tt in (m.0, m.1, m.2, (popped (text ++ m.0) i).0 (Tree m.2) m.3))),
+        (λ z. (let m = (h last).0 z in (m.0, m.1, m.2, (popped (text ++ m.0) i).0 (Tree m.2) m.3))),
         (λ l more longer there fits g k. (h last).1 l more longer there (open_, key, (λ b. lasts_calm (text ++ more) u w i lasts (fits.2 block))) g ((popped (text ++ more) i).1 (still last more longer there (l.1 last)) g k)),
       )) where
         going : is_ending (ahead text false i).token ≡ false
@@ -437,7 +437,7 @@ module _ (text : List ℕ) (utf8 : IsUtf8 text) (fs : List Form) (u : Unfinished
     by_order (inr l) = by_return (eq ∙ within_end text (told_place text after) l) (ends_with 13 text) refl
 
   pub dots_lengthens : Lengthens text stage.After fs u i (Err (stop.Unread q))
-  dots_lengthens = λ last. ((λ h usual. absurd (past h)), (λ l more longer. (let far = l.1 last in let less = seen_less last in let z = from (ahead_seen text a.behind) less (omega arith) in absurd (omega (arith, far, less, z))))) where
+  dots_lengthens = λ last. ((λ h. absurd (past h)), (λ l more longer. (let far = l.1 last in let less = seen_less last in let z = from (ahead_seen text a.behind) less (omega arith) in absurd (omega (arith, far, less, z))))) where
     past : q ≡ length text → ⊥
     past h = by_order (cases_lt (told_place text after) (length text)) where
       by_order : (told_place text after < length text) ⊎ (length text ≤ told_place text after) → ⊥
@@ -575,7 +575,7 @@ past_end text p last h = by_return (begins_with 13 (drop p text)) refl h where
     by_order (inr m) l = m
     by_order (inl m) l = absurd (true≢false (sym e ∙ last_return text p (omega (arith, m, l)) last))
 
-word_told : (t : Token) → starts_scalar t ≡ true → is_told t ≡ true
+pub word_told : (t : Token) → starts_scalar t ≡ true → is_told t ≡ true
 word_told Other e = refl
 word_told (Point loose) e = refl
 word_told End e = absurd (true≢false (sym e))
@@ -629,7 +629,7 @@ module _ (text : List ℕ) (utf8 : IsUtf8 text) (fs : List Form) (u : Unfinished
 
   pub key_lengthens : (a : Ahead) (z : Setting) (e : Stop) (column : ℕ) → top fs ≡ Entries column → Open fs u → a ≡ ahead text false i → a.fresh ≡ true → a.column ≡ column → starts_scalar a.token ≡ true → z ≡ as_key false → ((q : ℕ) → e ≡ stop.Unread q → FailedAt text z a q) → Lengthens text stage.After fs u i (Err e)
   key_lengthens a z e column form open_ here fresh col starts key fails = unread_on (LengthensAt text stage.After fs u i) (Err e) (λ q h last. (
-    (λ g usual. by_length q last g (fails q (error_is (Err e) q refl h))),
+    (λ g. by_length q last g (fails q (error_is (Err e) q refl h))),
     (λ l more longer. absurd (by_fail q last l (fails q (error_is (Err e) q refl h)))),
   )) where
     error_is : (r : Result Position Stop) (q : ℕ) → r ≡ Err e → r ≡ Err (stop.Unread q) → e ≡ stop.Unread q
@@ -727,7 +727,7 @@ module _ (text : List ℕ) (utf8 : IsUtf8 text) (fs : List Form) (u : Unfinished
 
     pub colon_lengthens : (q : ℕ) → text_start text ≤ i → Open fs u → a.fresh ≡ true → a.column ≡ column → has_key u.done t ≡ false → ((ahead text false e).fresh ≡ false → (ahead text false e).token ≡ Point true → ⊥) → q ≡ colon_place text e → Lengthens text stage.After fs u i (Err (stop.Unread q))
     colon_lengthens q start open_ fresh col new none eq = λ last. (
-      (λ g usual. by_colon last (begins_with 58 (drop shown_at text)) refl (sym eq ∙ g)),
+      (λ g. by_colon last (begins_with 58 (drop shown_at text)) refl (sym eq ∙ g)),
       (λ l more longer. absurd (past (l.1 last) l.0)),
     ) where
       by_colon : ends_with 13 text ≡ false → (c : Bool) → begins_with 58 (drop shown_at text) ≡ c → past_return text (cond (begins_with 58 (drop shown_at text)) (suc shown_at) shown_at) ≡ length text → Mends text stage.After fs u i

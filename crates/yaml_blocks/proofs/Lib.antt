@@ -29,7 +29,6 @@ mod OtherStops
 mod LineTails
 mod Lives
 mod CutStarts
-mod LacksTags
 mod LivesLonger
 mod LivesOn
 mod Looks
@@ -59,6 +58,9 @@ mod ScalarOut
 mod ScalarWithin
 mod Scalars
 mod Settled
+mod SplitPlaces
+mod SplitScalars
+mod SplitSites
 mod Stacks
 mod StartPlaces
 mod Stopped
@@ -108,3 +110,7 @@ mod TornBlocks
 mod TornDashes
 mod FedStarts
 mod FedSigns
+mod FirstMarks
+mod Runs
+mod SplitAhead
+mod SplitGaps

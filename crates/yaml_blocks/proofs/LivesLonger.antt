@@ -25,7 +25,7 @@ use Rattle.yaml_blocks.specs.Places.{IsSyntax}
 use Rattle.yaml_blocks.specs.code.Extends.{Comes, ExtendsStep}
 use Rattle.yaml_blocks.specs.code.Rest.{top}
 use Rattle.yaml_blocks.specs.code.Steps.{IsBehind, IsBlock, IsFlow, Rest, Fits, SameStep, Goes, reached, is_ending}
-use Rattle.yaml_blocks.specs.code.Twins.{IsTwin, IsUsual, LengthensAt, Mends, NoRest, Stops, FixesStep, Matches, Alive, settled}
+use Rattle.yaml_blocks.specs.code.Twins.{IsTwin, LengthensAt, Mends, NoRest, Stops, FixesStep, Matches, Alive, settled}
 use Rattle.yaml_blocks.proofs.AheadOrder.{seen_least}
 use Rattle.yaml_blocks.proofs.Back.{flow_or_block, twin_end}
 use Rattle.yaml_blocks.proofs.DeadPlaces.{NoTwin}
@@ -146,7 +146,7 @@ is_quiet Dots = true
 is_quiet _ = false
 
 module _ (text : List ℕ) (p : Position) (fs : List Form) (u : Unfinished) (q : ℕ) (utf8 : IsUtf8 text) (lives : LivesOn text p fs u) (longer : LivesLonger text p fs u) (goes : p.stage ≡ stage.Whole → ⊥) (fits : Fits text p.stage fs u p.at) (cut : IsCharBoundary text p.at) (after : p.stage ≡ stage.After) (block : IsBlock (top fs))
-    (end : ends_with 13 text ≡ false) (told : is_told (ahead text false p.at).token ≡ true) (stops : Stops text p.at (NoRest p.stage fs u p.at) (Err (stop.Unread q))) (says : LengthensAt text p.stage fs u p.at q) (usual : IsUsual text p.stage fs u p.at) where
+    (end : ends_with 13 text ≡ false) (told : is_told (ahead text false p.at).token ≡ true) (stops : Stops text p.at (NoRest p.stage fs u p.at) (Err (stop.Unread q))) (says : LengthensAt text p.stage fs u p.at q) where
   -- no tree follows where a `!` is ahead
   exclaimed_none : (more : List ℕ) → begins_with 33 (drop (ahead text false p.at).at text) ≡ true → (g : Forest) → Rest (text ++ more) p.stage fs u p.at (Tree g) → ⊥
   exclaimed_none more e g rest =
@@ -210,7 +210,7 @@ module _ (text : List ℕ) (p : Position) (fs : List Form) (u : Unfinished) (q :
 
     by_stop : Stops text p.at (NoRest p.stage fs u p.at) (Err (stop.Unread q)) → IsSyntax text q
     by_stop (inl (inl e)) =
-        let m = (says end).0 e usual in
+        let m = (says end).0 e in
         let long : IsUtf8 (text ++ m.0) = IsUtf8-append text m.0 utf8 (IsUtf8-from_ascii m.0 (ascii_bytes m.0 m.1)) in
         short e m (lives_in m.0 long) long
     by_stop (inl (inr l)) = inl (twins_dead text q q utf8 (let e = l.0 in omega (arith, e)) (inr (refl, last_return text q l.0 end)) none) where

@@ -24,6 +24,7 @@ use Rattle.yaml_blocks.specs.Signs.{Reading}
 use Rattle.yaml_blocks.specs.code.Closers.{HasRoom, MayBegin, MendsValue}
 use Rattle.yaml_blocks.specs.code.Points.{gap, is_plain, is_point, is_last_point, is_pointed}
 use Rattle.yaml_blocks.specs.code.Rest.{top, Awaits, Ends}
+use Rattle.yaml_blocks.specs.code.Splits.{InRoom, IsRoomy}
 use Rattle.yaml_blocks.specs.code.Steps.{IsFlow, IsSeen, Open, Rest, Fits, Gives, Goes, Holds, SameFlowNode, is_flow_ending}
 use Rattle.yaml_blocks.specs.code.Twins.{MendsNode}
 use Rattle.yaml_blocks.proofs.FirstTokens.{Begun, first_byte}
@@ -34,6 +35,7 @@ use Rattle.yaml_blocks.proofs.Placed.{placed}
 use Rattle.yaml_blocks.proofs.PlainPoints.{Told, found_at, gap_place, plain_found}
 use Rattle.yaml_blocks.proofs.Pointed.{ends_by, last_parts, plain_unquoted, point_of, point_told, point_unmarked, pointed_parts}
 use Rattle.yaml_blocks.proofs.SameTexts.{holds_same}
+use Rattle.yaml_blocks.proofs.SplitPlaces.{room_here}
 
 -- ---- the colon
 
@@ -175,19 +177,20 @@ module _ (text : List ℕ) (fs : List Form) (u w : Unfinished) (f : Form) (i : �
 
 -- ---- a letter mends it
 
-module _ (text : List ℕ) (utf8 : IsUtf8 text) (fs : List Form) (u : Unfinished) (i : ℕ) (cut : IsCharBoundary text i) where
-  many : (f : Form) → IsFlow f → ((setting_of f).flow ≡ true) × ((setting_of f).one_line ≡ false)
-  many Root k = absurd k
-  many (Flow map) k = (refl, refl)
-  many (FlowTagged at) k = (refl, refl)
-  many (Items m) k = absurd k
-  many (Entries m) k = absurd k
-  many (Tagged at above shares) k = absurd k
+-- how a scalar stands there
+pub many : (f : Form) → IsFlow f → ((setting_of f).flow ≡ true) × ((setting_of f).one_line ≡ false)
+many Root k = absurd k
+many (Flow map) k = (refl, refl)
+many (FlowTagged at) k = (refl, refl)
+many (Items m) k = absurd k
+many (Entries m) k = absurd k
+many (Tagged at above shares) k = absurd k
 
-  mends_here : (t : List ℕ) (j q : ℕ) → IsFlow (top fs) → Open fs u → scalar_ahead text (setting_of (top fs)) (ahead text true i) ≡ Stands t j → (ahead text true i).at < j → IsCharBoundary text j → is_pointed text true (ahead text true i).at j ≡ true → q ≡ length text → MendsNode text fs u i q
-  mends_here t j q flow open_ st low last pointed place = λ ends. (
-    (λ h going room. mended room),
-    (λ l. (let z = l.0 in omega (arith, z, place))),
+module _ (text : List ℕ) (utf8 : IsUtf8 text) (fs : List Form) (u : Unfinished) (i : ℕ) (cut : IsCharBoundary text i) where
+  mends_here : (t : List ℕ) (j q : ℕ) → IsFlow (top fs) → Open fs u → scalar_ahead text (setting_of (top fs)) (ahead text true i) ≡ Stands t j → (ahead text true i).at < j → IsCharBoundary text j → is_pointed text true (ahead text true i).at j ≡ true → q ≡ length text → IsRoomy text u (top fs) i (ahead text true i) → MendsNode text fs u i q
+  mends_here t j q flow open_ st low last pointed place room = λ ends. (
+    (λ h going. mended (room block)),
+    (λ l. absurd (let z = l.0 in omega (arith, z, place))),
   ) where
     word : (starts_scalar (ahead text true i).token ≡ true) × (scalar_at (setting_of (top fs)) text (ahead text true i).at ≡ Stands t j)
     word = starts_of text (setting_of (top fs)) (ahead text true i) t j st
@@ -216,7 +219,7 @@ module _ (text : List ℕ) (utf8 : IsUtf8 text) (fs : List Form) (u : Unfinished
         → scalar_shown (setting_of (top fs)) text (ahead text o i).at j ≡ length text → scalar_at (setting_of (top fs)) text (ahead text o i).at ≡ Stands t j → (follows_get_att text (top fs) i ≡ true → HasRoom text (ahead text o i).at (length u.outer)) → MendsValue text fs u.outer u.done u.key i) (flow_in (top fs) flow)
         (value_lettered fs u.outer u.done u.key i open_.0 open_.1 text t j cut.0) (λ b. absurd (apart (top fs) b flow)) word.0 near ends_in quote block shown word.1 room
 
-  pub pointed_mends : (f : Form) (a : Ahead) (cuts : Bool) (w : Unfinished) (p : Position) (q : ℕ) → a ≡ ahead text true i → top fs ≡ f → IsFlow f → Open fs u → Holds text (setting_of f) cuts a u w (Ok p) → is_pointed text true a.at p.at ≡ true → q ≡ length text → MendsNode text fs u i q
-  pointed_mends f a cuts w p q here form flow open_ (t, k, (st, hk, low, last), es, ew, room) pointed place =
+  pub pointed_mends : (f : Form) (a : Ahead) (cuts : Bool) (w : Unfinished) (p : Position) (q : ℕ) → a ≡ ahead text true i → top fs ≡ f → IsFlow f → Open fs u → Holds text (setting_of f) cuts a u w (Ok p) → is_pointed text true a.at p.at ≡ true → q ≡ length text → InRoom text u f i a (MendsNode text fs u i) q
+  pointed_mends f a cuts w p q here form flow open_ (t, k, (st, hk, low, last), es, ew, fit) pointed place roomy =
       mends_here t p.at q (subst IsFlow (sym form) flow) open_ (subst (λ g. scalar_ahead text (setting_of g) (ahead text true i) ≡ Stands t p.at) (sym form) (subst (λ (b : Ahead). scalar_ahead text (setting_of f) b ≡ Stands t p.at) here st)) (subst (λ (b : Ahead). b.at < p.at) here low) last
-      (subst (λ (b : Ahead). is_pointed text true b.at p.at ≡ true) here pointed) place
+      (subst (λ (b : Ahead). is_pointed text true b.at p.at ≡ true) here pointed) place (room_here text fs u i f a true form here (roomy place))

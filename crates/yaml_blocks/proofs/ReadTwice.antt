@@ -10,15 +10,14 @@ use Rattle.yaml_blocks.specs.declared.ahead.Token.TheVariants.{Dashes}
 use Rattle.yaml_blocks.specs.declared.stop.Stop.{Stop}
 use Rattle.yaml_blocks.specs.declared.stop.Stop.TheVariants as stop
 use Rattle.yaml_blocks.specs.Ahead.{ahead}
-use Rattle.yaml_blocks.specs.Answers.{IsUnread, Reads}
+use Rattle.yaml_blocks.specs.Answers.{IsUnread, Reads, Refuses}
 use Rattle.yaml_blocks.specs.Signs.{Sign}
 use Rattle.yaml_blocks.specs.Yaml.{IsStart, IsYaml, start_sign, text_start}
 use Rattle.yaml_blocks.specs.code.Memory.{BeginsDocument}
-use Rattle.yaml_blocks.specs.code.PlacedTexts.{IsPlacedText, SaysAgain}
 use Rattle.yaml_blocks.specs.Places.{IsFront, IsSyntax}
 use Rattle.yaml_blocks.specs.code.Places.{IsSyntaxStop}
-use Rattle.yaml_blocks.specs.code.ReadAgain.{SignsAgain, StopsAgain}
-use Rattle.yaml_blocks.specs.code.Refused.{of_sign, IsStopped}
+use Rattle.yaml_blocks.specs.code.ReadAgain.{SaysAgain, SignsAgain, StopsAgain}
+use Rattle.yaml_blocks.specs.code.Refused.{of_sign, of_stop, IsStopped}
 use Rattle.yaml_blocks.proofs.DeadPlaces.{front_less}
 use Rattle.yaml_blocks.proofs.Gains.{told}
 use Rattle.yaml_blocks.proofs.Rests.{none_some}
@@ -60,34 +59,43 @@ ends_front [] e = absurd (true≢false (sym e))
 ends_front (b ∷ []) e = ([], (let z : b ≡ 13 = grind (arith, nat_tests, e) in ap (λ k. k ∷ []) z))
 ends_front (b ∷ c ∷ xs) e = let r = ends_front (c ∷ xs) e in (b ∷ r.0, ap (λ t. b ∷ t) r.1)
 
+-- none does behind a line feed
+fed_end : (xs : List ℕ) → ends_with 13 (xs ++ (10 ∷ [])) ≡ false
+fed_end [] = refl
+fed_end (x ∷ []) = refl
+fed_end (x ∷ y ∷ xs) = fed_end (y ∷ xs)
+
 -- ---- the second reading
 
-pub says_some : (fed : List ℕ) (e : Stop) → (e ≡ stop.NoMemory → ⊥) → SaysAgain fed (Some e) → IsPlacedText fed → StopsAgain fed e
-says_some fed (stop.Unread at) n h p = h p
-says_some fed (stop.Tab at) n h p = h p
-says_some fed (stop.Anchor at) n h p = h p
-says_some fed (stop.Tag at) n h p = h p
-says_some fed (stop.Directive at) n h p = h p
-says_some fed (stop.ManyDocuments at) n h p = h p
-says_some fed (stop.DuplicateKey at) n h p = h p
-says_some fed (stop.TooDeep at) n h p = h p
-says_some fed stop.NoMemory n h p = absurd (n refl)
+pub says_some : (fed : List ℕ) (e : Stop) → (e ≡ stop.NoMemory → ⊥) → SaysAgain fed (Some e) → StopsAgain fed e
+says_some fed (stop.Unread at) n h = h
+says_some fed (stop.Tab at) n h = h
+says_some fed (stop.Anchor at) n h = h
+says_some fed (stop.Tag at) n h = h
+says_some fed (stop.Directive at) n h = h
+says_some fed (stop.ManyDocuments at) n h = h
+says_some fed (stop.DuplicateKey at) n h = h
+says_some fed (stop.TooDeep at) n h = h
+says_some fed stop.NoMemory n h = absurd (n refl)
 
 -- why it stops
-pub says_again : (text longer : List ℕ) (e : Stop) → longer ≡ text ++ (10 ∷ []) → (front : List ℕ) × (text ≡ front ++ (13 ∷ [])) → (IsPlacedText longer → IsSyntaxStop longer e) → SignsAgain longer e → SaysAgain (text ++ (10 ∷ [])) (Some e)
+pub says_again : (text longer : List ℕ) (e : Stop) → longer ≡ text ++ (10 ∷ []) → (front : List ℕ) × (text ≡ front ++ (13 ∷ [])) → (ends_with 13 longer ≡ false → IsSyntaxStop longer e) → SignsAgain longer e → SaysAgain (text ++ (10 ∷ [])) (Some e)
 says_again text longer e el (front, et) placed signs = subst (λ x. SaysAgain x (Some e)) el (by_stop e placed signs) where
   fed : longer ≡ front ++ (13 ∷ 10 ∷ [])
   fed = el ∙ ap (λ x. x ++ (10 ∷ [])) et ∙ append_assoc front (13 ∷ []) (10 ∷ [])
 
-  by_stop : (e : Stop) → (IsPlacedText longer → IsSyntaxStop longer e) → SignsAgain longer e → SaysAgain longer (Some e)
-  by_stop (stop.Unread at) p s = λ known. p known
-  by_stop (stop.Tab at) p s = λ known. s front fed
-  by_stop (stop.Anchor at) p s = λ known. s front fed
-  by_stop (stop.Tag at) p s = λ known. s front fed
-  by_stop (stop.Directive at) p s = λ known. s front fed
-  by_stop (stop.ManyDocuments at) p s = λ known. s front fed
-  by_stop (stop.DuplicateKey at) p s = λ known. s front fed
-  by_stop (stop.TooDeep at) p s = λ known. s front fed
+  ended : ends_with 13 longer ≡ false
+  ended = ap (ends_with 13) el ∙ fed_end text
+
+  by_stop : (e : Stop) → (ends_with 13 longer ≡ false → IsSyntaxStop longer e) → SignsAgain longer e → SaysAgain longer (Some e)
+  by_stop (stop.Unread at) p s = p ended
+  by_stop (stop.Tab at) p s = s front fed
+  by_stop (stop.Anchor at) p s = s front fed
+  by_stop (stop.Tag at) p s = s front fed
+  by_stop (stop.Directive at) p s = s front fed
+  by_stop (stop.ManyDocuments at) p s = s front fed
+  by_stop (stop.DuplicateKey at) p s = s front fed
+  by_stop (stop.TooDeep at) p s = s front fed
   by_stop stop.NoMemory p s = tt
 
 -- or that it is a document
@@ -108,3 +116,15 @@ placed_again text q len e el (front, et) place h =
 pub again_stops : (text : List ℕ) (e : Stop) → IsUnread text → (e ≡ stop.NoMemory) ⊎ ((place : ℕ) × (e ≡ stop.Unread place)) → IsStopped text e
 again_stops text e r (inl h) = subst (IsStopped text) (sym h) tt
 again_stops text e r (inr (p, h)) = subst (IsStopped text) (sym h) r
+
+-- what a refusal says
+pub refuses_of : (text : List ℕ) (e : Stop) → IsStopped text e → IsSyntaxStop text e → Refuses text (of_stop e)
+refuses_of text (stop.Unread at) said place = (said, place)
+refuses_of text (stop.Tab at) said place = said
+refuses_of text (stop.Anchor at) said place = said
+refuses_of text (stop.Tag at) said place = said
+refuses_of text (stop.Directive at) said place = said
+refuses_of text (stop.ManyDocuments at) said place = said
+refuses_of text (stop.DuplicateKey at) said place = said
+refuses_of text (stop.TooDeep at) said place = said
+refuses_of text stop.NoMemory said place = tt

@@ -576,29 +576,29 @@ module _ (text : List ℕ) where
     abbrev pub Told : List ℕ → Kind → ℕ → Type 0
     Told t k q = (l : Label) × (kids : Forest) × (r : Reach) × IsValue (is_cut (follows_get_att text f i) k t) (length outer) k t key (ahead text true i).at q l kids r × After l kids r
 
-    pub awaits_scalar : (t : List ℕ) (k : Kind) (q : ℕ) → Barred → scalar_ahead text (setting_of f) (ahead text true i) ≡ Stands t q
-        → ((k' : Kind) → HasKind (is_typed (setting_of f) text (ahead text true i).at) t k' → k' ≡ k) → Awaits text fs outer done key i v → Told t k q
-    awaits_scalar t k q b st only w = by_node (found_here w) where
-      by_node : NodeHere → Told t k q
+    -- with a kind
+    pub awaits_kind : (t : List ℕ) (q : ℕ) → Barred → scalar_ahead text (setting_of f) (ahead text true i) ≡ Stands t q → Awaits text fs outer done key i v → (k : Kind) × HasKind (is_typed (setting_of f) text (ahead text true i).at) t k × Told t k q
+    awaits_kind t q b st w = by_node (found_here w) where
+      by_node : NodeHere → (k : Kind) × HasKind (is_typed (setting_of f) text (ahead text true i).at) t k × Told t k q
       by_node (l, kids, r, inl (m, h), en) = absurd (missed l kids r (b m) h en)
       by_node (l, kids, r, inr (inl (inr (p, st', er))), en) = absurd (let no : Documents p ≡ Stands t q = sym st' ∙ st in cc)
-      by_node (l, kids, r, inr (inl (inl (t', k', j, st', hk, val))), en) =
+      by_node (l, kids, r, inr (inl (inl (t', k, j, st', hk, val))), en) =
           let here : Stands t' j ≡ Stands t q = sym st' ∙ st in
           let same : t' ≡ t = cc in
           let ends : j ≡ q = cc in
-          let kinds : k' ≡ k = only k' (subst (λ g. HasKind (is_typed (setting_of f) text (ahead text true i).at) g k') same hk) in
           let cuts : Bool = follows_get_att text f i in
           let at : ℕ = (ahead text true i).at in (
-            l,
-            kids,
-            r,
-            subst (λ g. IsValue (is_cut cuts k g) (length outer) k g key at q l kids r) same
-                (subst (λ g. IsValue (is_cut cuts g t') (length outer) g t' key at q l kids r) kinds (subst (λ n. IsValue (is_cut cuts k' t') (length outer) k' t' key at n l kids r) ends val)),
-            en,
+            k,
+            subst (λ g. HasKind (is_typed (setting_of f) text (ahead text true i).at) g k) same hk,
+            (l, kids, r, subst (λ g. IsValue (is_cut cuts k g) (length outer) k g key at q l kids r) same (subst (λ n. IsValue (is_cut cuts k t') (length outer) k t' key at n l kids r) ends val), en),
           )
       by_node (l, kids, r, inr (inr (inl (m, o, y))), en) = absurd (no_scalar (ahead text true i) (ap starts_scalar o) (setting_of f) t q st)
       by_node (l, kids, r, inr (inr (inr (inl (len, o, mt, y)))), en) = absurd (no_scalar (ahead text true i) (ap starts_scalar o) (setting_of f) t q st)
       by_node (l, kids, r, inr (inr (inr (inr (z, sg, er)))), en) = absurd (no_scalar (ahead text true i) (signed_word (is_tagged f) (ahead text true i).at (ahead text true i).token z sg) (setting_of f) t q st)
+
+    pub awaits_scalar : (t : List ℕ) (k : Kind) (q : ℕ) → Barred → scalar_ahead text (setting_of f) (ahead text true i) ≡ Stands t q
+        → ((k' : Kind) → HasKind (is_typed (setting_of f) text (ahead text true i).at) t k' → k' ≡ k) → Awaits text fs outer done key i v → Told t k q
+    awaits_scalar t k q b st only w = let r = awaits_kind t q b st w in subst (λ g. Told t g q) (only r.0 r.1) r.2
 
     pub scalar_awaits : (t : List ℕ) (k : Kind) (q : ℕ) → scalar_ahead text (setting_of f) (ahead text true i) ≡ Stands t q → HasKind (is_typed (setting_of f) text (ahead text true i).at) t k → Told t k q → Awaits text fs outer done key i v
     scalar_awaits t k q st hk (l, kids, r, val, en) = here_found (l, kids, r, inr (inl (inl (t, k, q, st, hk, val))), en)

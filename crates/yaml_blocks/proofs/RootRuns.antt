@@ -1,7 +1,6 @@
 -- A root that is a `-`, or a scalar of one or two dashes or dots, and ends the text is a document. By the bytes.
-use Rattle.std.proofs.Common.{◌≡◌, ℕ, zero, suc, ◌+◌, ◌-◌, ◌≤◌, ◌⊎◌, inl, inr, Bool, true, false, ◌||◌, ◌&&◌, not, cond, nat_eq, nat_lt, arith, List, [], ◌∷◌, ◌++◌, drop, length, refl, sym, ap, ◌∙◌, subst, true≢false, None, length-drop}
+use Rattle.std.proofs.Common.{◌≡◌, ℕ, suc, ◌+◌, ◌-◌, ◌≤◌, inl, inr, Bool, true, false, ◌||◌, ◌&&◌, not, cond, nat_eq, nat_lt, arith, List, [], ◌∷◌, ◌++◌, drop, length, refl, sym, ap, ◌∙◌, subst, true≢false, None, length-drop}
 use Rattle.std.proofs.lemmas.Bool.Decides.{nat_tests}
-use Rattle.std.proofs.lemmas.List.{drop-drop}
 use Rattle.std.specs.Prelude.{Option, slice_index}
 use Rattle.std.specs.Str.{IsCharBoundary, IsUtf8}
 use Rattle.doc_values.specs.declared.kind.Kind.TheVariants as kind
@@ -9,19 +8,18 @@ use Rattle.doc_values.specs.declared.decimal.Num.{Num}
 use Rattle.doc_values.specs.Number.{is_digit, minus_text, IsWholePart, fraction_text, IsNumber}
 use Rattle.doc_values.specs.Tree.{Forest, Nil, Node, snoc}
 use Rattle.doc_values.specs.Unfinished.{Level, Unfinished}
-use Rattle.yaml_scalars.specs.Lines.{Fails, Stands, begins_with, ends_with, indent, is_mark, is_white, lead, lines, past_white}
+use Rattle.yaml_scalars.specs.Lines.{Fails, Stands, begins_with, ends_with, is_mark, is_white, lead, lines}
 use Rattle.yaml_scalars.specs.Kinds.{IsTrueWord, IsFalseWord, IsNullWord, IsSignedNumber, IsPlainKind}
 use Rattle.yaml_scalars.specs.Plain.{plain_on}
 use Rattle.yaml_scalars.specs.Scalar.{HasKind, begins_block, begins_order_mark, begins_quoted, block_scalar, is_first_column, is_typed, quoted_scalar, scalar_at}
-use Rattle.yaml_scalars.specs.code.Walk.{line_at, behind}
+use Rattle.yaml_scalars.specs.code.Walk.{line_at}
 use Rattle.yaml_scalars.specs.Block.{same}
-use Rattle.yaml_scalars.proofs.Places.{lead_le}
 use Rattle.yaml_blocks.specs.declared.ahead.Ahead.{Ahead}
 use Rattle.yaml_blocks.specs.declared.ahead.Token.{Token}
 use Rattle.yaml_blocks.specs.declared.ahead.Token.TheVariants.{Dash, Other}
 use Rattle.yaml_blocks.specs.declared.form.Form.{Form}
 use Rattle.yaml_blocks.specs.declared.form.Form.TheVariants.{Root}
-use Rattle.yaml_blocks.specs.Ahead.{is_name, is_passed, is_tabbed, mark_of, tab_token, token_at, token_of, token_len, content_ahead, line_ahead, rest_ahead, ahead}
+use Rattle.yaml_blocks.specs.Ahead.{is_name, token_of, token_len, line_ahead, rest_ahead, ahead}
 use Rattle.yaml_blocks.specs.Nodes.{leaf, collection, setting_of, scalar_ahead, starts_scalar}
 use Rattle.yaml_blocks.specs.Signs.{Reading, Tree, To}
 use Rattle.yaml_blocks.specs.Yaml.{IsStart, text_start}
@@ -32,43 +30,17 @@ use Rattle.yaml_blocks.specs.code.StopPlaces.{run_width, token_width, width}
 use Rattle.yaml_blocks.specs.code.Steps.{Agrees}
 use Rattle.yaml_blocks.proofs.BlockRests.{scalar_awaits}
 use Rattle.yaml_blocks.proofs.Continuations.{block_ends}
-use Rattle.yaml_blocks.proofs.FirstTokens.{first_byte, first_plain, mark_told, tab_told}
+use Rattle.yaml_blocks.proofs.FirstMarks.{first_unmarked}
+use Rattle.yaml_blocks.proofs.FirstTokens.{first_byte, first_plain}
 use Rattle.yaml_blocks.proofs.KeyEnds.{line_fresh}
-use Rattle.yaml_blocks.proofs.Lengthened.{ends_drop, stale_end, told_at}
-use Rattle.yaml_blocks.proofs.Looks.{first_line, first_rest}
+use Rattle.yaml_blocks.proofs.Lengthened.{ends_drop, told_at}
 use Rattle.yaml_blocks.proofs.Placed.{placed}
 use Rattle.yaml_blocks.proofs.RootLonger.{told_calm}
+use Rattle.yaml_blocks.proofs.Runs.{IsRun, run_of}
 use Rattle.yaml_blocks.proofs.ShownTokens.{ahead_wide}
 use Rattle.yaml_blocks.proofs.SyntaxPlaces.{end_there}
 
 -- ---- bytes that are looked at as far as their end
-
-abbrev pub IsRun : List ℕ → Type 0
-IsRun xs = (b : ℕ) × ((b ≡ 45) ⊎ (b ≡ 46)) × ((xs ≡ b ∷ []) ⊎ ((xs ≡ b ∷ b ∷ []) ⊎ (xs ≡ b ∷ b ∷ b ∷ [])))
-
-run_of : (b : ℕ) (bs : List ℕ) → (b ≡ 45) ⊎ (b ≡ 46) → ends_with 13 (b ∷ bs) ≡ false → suc (length bs) ≤ run_width (suc (same b 2 bs)) bs → IsRun (b ∷ bs)
-run_of b [] k e l = (b, k, inl refl)
-run_of b (c ∷ []) k e l = by_byte (nat_eq c b) refl l where
-  by_byte : (p : Bool) → nat_eq c b ≡ p → 2 ≤ run_width (suc (cond p 1 0)) (c ∷ []) → IsRun (b ∷ c ∷ [])
-  by_byte true i l = let z : c ≡ b = grind (arith, nat_tests, i) in (b, k, inr (inl (ap (λ d. b ∷ d ∷ []) z)))
-  by_byte false i l = absurd (omega (arith, l))
-run_of b (c ∷ d ∷ []) k e l = by_byte (nat_eq c b) (nat_eq d b) refl refl l where
-  by_byte : (p q : Bool) → nat_eq c b ≡ p → nat_eq d b ≡ q → 3 ≤ run_width (suc (cond p (suc (cond q 1 0)) 0)) (c ∷ d ∷ []) → IsRun (b ∷ c ∷ d ∷ [])
-  by_byte true true i j l = let z : c ≡ b = grind (arith, nat_tests, i) in let y : d ≡ b = grind (arith, nat_tests, j) in (b, k, inr (inr (ap (λ x. b ∷ x ∷ d ∷ []) z ∙ ap (λ x. b ∷ b ∷ x ∷ []) y)))
-  by_byte true false i j l = absurd (omega (arith, l))
-  by_byte false q i j l = absurd (omega (arith, l))
-run_of b (c ∷ d ∷ x ∷ []) k e l = by_byte (nat_eq c b) (nat_eq d b) (nat_eq x 13) refl l where
-  by_byte : (p q r : Bool) → nat_eq x 13 ≡ r → 4 ≤ cond (nat_eq (suc (cond p (suc (cond q 1 0)) 0)) 3 && r) 4 (suc (cond p (suc (cond q 1 0)) 0)) → IsRun (b ∷ c ∷ d ∷ x ∷ [])
-  by_byte true true true i l = absurd (true≢false (sym i ∙ e))
-  by_byte true true false i l = absurd (omega (arith, l))
-  by_byte true false r i l = absurd (omega (arith, l))
-  by_byte false q r i l = absurd (omega (arith, l))
-run_of b (c ∷ d ∷ x ∷ y ∷ bs) k e l = by_byte (nat_eq c b) (nat_eq d b) (nat_eq x 13) l where
-  by_byte : (p q r : Bool) → suc (suc (suc (suc (suc (length bs))))) ≤ cond (nat_eq (suc (cond p (suc (cond q 1 0)) 0)) 3 && r) 4 (suc (cond p (suc (cond q 1 0)) 0)) → IsRun (b ∷ c ∷ d ∷ x ∷ y ∷ bs)
-  by_byte true true true l = absurd (omega (arith, l))
-  by_byte true true false l = absurd (omega (arith, l))
-  by_byte true false r l = absurd (omega (arith, l))
-  by_byte false q r l = absurd (omega (arith, l))
 
 run_bytes : (b : ℕ) (bs : List ℕ) → begins_firm (b ∷ bs) ≡ false → (b ≡ 13 → ⊥) → ends_with 13 (b ∷ bs) ≡ false → suc (length bs) ≤ token_width (b ∷ bs) → IsRun (b ∷ bs)
 run_bytes b bs firm feed e l = by_tests (nat_eq b 33) (nat_eq b 45) (nat_eq b 46) (nat_eq b 58) (nat_eq b 13) refl refl refl refl firm l where
@@ -182,68 +154,6 @@ module _ (text : List ℕ) (i : ℕ) (key : Option (List ℕ)) (done : Forest) (
       let r = block_ends [] [] (snoc done l kids) text a.behind (inl (ap (λ n. (ahead text false n).token) e ∙ end_there text)) tt tt tt in
       (Tree r.0, (l, kids, To a.behind, inr (inl (fresh, inl (omega arith, refl, (None, a.behind, To a.behind, (d, tt, refl, refl), inl (refl, refl, refl), (refl, refl))))), r.1))
 
--- ---- a token that begins a line at its first column is no mark
-
-line_within_rest : (xs : List ℕ) → length (line_at xs) ≤ length xs
-line_within_rest [] = omega arith
-line_within_rest (x ∷ xs) = by_break (nat_eq x 10 || (nat_eq x 13 && begins_with 10 xs)) (line_within_rest xs) where
-  by_break : (q : Bool) → length (line_at xs) ≤ length xs → length (cond q [] (x ∷ line_at xs)) ≤ suc (length xs)
-  by_break true h = omega arith
-  by_break false h = omega (arith, h)
-
-abbrev Unmarked : List ℕ → Ahead → Type 0
-Unmarked text a = is_told a.token ≡ true → a.fresh ≡ true → is_first_column text a.at ≡ true → is_mark (line_at (drop a.at text)) ≡ false
-
-content_unmarked : (text : List ℕ) (start : ℕ) → text_start text ≤ start → start ≤ length text → is_mark (line_at (drop start text)) ≡ false → Unmarked text (content_ahead false start (line_at (drop start text)))
-content_unmarked text start late low h = by_tab (is_tabbed false (line_at (drop start text))) where
-  by_lead : (n : ℕ) → lead is_white (line_at (drop start text)) ≡ n → is_first_column text (start + n) ≡ true → is_mark (line_at (drop (start + n) text)) ≡ false
-  by_lead zero e c = let same : start + 0 ≡ start = omega arith in ap (λ k. is_mark (line_at (drop k text))) same ∙ h
-  by_lead (suc n) e c =
-      let l = lead_le is_white (line_at (drop start text)) in
-      let w = line_within_rest (drop start text) in
-      absurd (true≢false (sym c ∙ stale_end text start start (start + suc n) late (omega arith) (omega arith) (omega (arith, e, l, w, low, length-drop start text)) (omega (arith, e, l))))
-
-  by_tab : (q : Bool) → Unmarked text (cond q (token_at (tab_token (past_white (line_at (drop start text)))) true (indent (line_at (drop start text))) (start + indent (line_at (drop start text))))
-      (token_at (token_of false (past_white (line_at (drop start text)))) true (lead is_white (line_at (drop start text))) (start + lead is_white (line_at (drop start text)))))
-  by_tab true = λ t f c. absurd (true≢false (sym t ∙ tab_told (past_white (line_at (drop start text)))))
-  by_tab false = λ t f c. by_lead (lead is_white (line_at (drop start text))) refl c
-
-lines_unmarked : (text : List ℕ) (start : ℕ) → text_start text ≤ start → start ≤ length text → Unmarked text (line_ahead false (length text) (behind start (drop start text))) → Unmarked text (line_ahead false (length text) (lines start (drop start text)))
-lines_unmarked text start late low h = subst (Unmarked text) (sym (first_line text false start)) (by_mark (is_mark (line_at (drop start text))) refl (is_passed true (line_at (drop start text)))) where
-  by_mark : (q : Bool) → is_mark (line_at (drop start text)) ≡ q → (r : Bool)
-      → Unmarked text (cond q (token_at (mark_of (line_at (drop start text))) true 0 start) (cond r (line_ahead false (length text) (behind start (drop start text))) (content_ahead false start (line_at (drop start text)))))
-  by_mark true e r = λ t f c. absurd (true≢false (sym t ∙ mark_told (line_at (drop start text))))
-  by_mark false e true = h
-  by_mark false e false = content_unmarked text start late low e
-
-behind_unmarked : (text : List ℕ) (rest : List ℕ) (start : ℕ) → rest ≡ drop start text → text_start text ≤ start → start ≤ length text → Unmarked text (line_ahead false (length text) (behind start rest))
-behind_unmarked text [] start e late low = λ t f c. absurd (true≢false (sym t))
-behind_unmarked text (x ∷ xs) start e late low = by_feed (nat_eq x 10) (behind_unmarked text xs (suc start) rest (omega (arith, late)) further) where
-  rest : xs ≡ drop (suc start) text
-  rest = ap (drop 1) e ∙ drop-drop 1 start text ∙ (let h : start + 1 ≡ suc start = omega arith in ap (λ k. drop k text) h)
-
-  further : suc start ≤ length text
-  further = let n = ap (λ (t : List ℕ). length t) e in omega (arith, n, low, length-drop start text)
-
-  by_feed : (q : Bool) → Unmarked text (line_ahead false (length text) (behind (suc start) xs)) → Unmarked text (line_ahead false (length text) (cond q (lines (suc start) xs) (behind (suc start) xs)))
-  by_feed false h = h
-  by_feed true h =
-      subst (λ t. Unmarked text (line_ahead false (length text) (lines (suc start) t))) (sym rest)
-      (lines_unmarked text (suc start) (omega (arith, late)) further (subst (λ t. Unmarked text (line_ahead false (length text) (behind (suc start) t))) rest h))
-
-unmarked_at : (text : List ℕ) (i : ℕ) → text_start text ≤ i → i ≤ length text → Unmarked text (ahead text false i)
-unmarked_at text i late low = by_column (is_first_column text i) where
-  below : Unmarked text (line_ahead false (length text) (behind i (drop i text)))
-  below = behind_unmarked text (drop i text) i refl late low
-
-  by_passed : (q : Bool) → Unmarked text (cond q (line_ahead false (length text) (behind i (drop i text))) (token_at (token_of false (past_white (line_at (drop i text)))) false (lead is_white (line_at (drop i text))) (i + lead is_white (line_at (drop i text)))))
-  by_passed true = below
-  by_passed false = λ t f c. absurd (true≢false (sym f))
-
-  by_column : (q : Bool) → Unmarked text (cond q (line_ahead false (length text) (lines i (drop i text))) (rest_ahead false (length text) (lines i (drop i text))))
-  by_column true = lines_unmarked text i late low below
-  by_column false = subst (Unmarked text) (sym (first_rest text false i)) (by_passed (is_passed false (line_at (drop i text))))
-
 -- ---- such a scalar
 
 module _ (text : List ℕ) (at : ℕ) where
@@ -303,7 +213,7 @@ root_reading text fs u i utf8 cut late none agrees begun told firm last far = su
 
   -- three of them at a first column are a mark
   stale : (q : Bool) → is_first_column text (ahead text false i).at ≡ q → is_mark (line_at (drop (ahead text false i).at text)) ≡ true → is_first_column text (ahead text false i).at ≡ false
-  stale true e m = absurd (true≢false (sym m ∙ unmarked_at text i late cut.0 told fresh e))
+  stale true e m = absurd (true≢false (sym m ∙ first_unmarked text false i told e))
   stale false e m = e
 
   run : (b : ℕ) (rest : List ℕ) → drop (ahead text false i).at text ≡ b ∷ rest → (ahead text false i).token ≡ token_of false (b ∷ line_at rest) → IsRun (b ∷ rest)

@@ -1,6 +1,7 @@
 -- Where reading stops at a scalar that fails: it stands in no text that is the same as far as the place, nor does a key. By what is read there instead.
 use Rattle.std.proofs.Common.{◌≡◌, ℕ, ◌+◌, ◌<◌, ◌≤◌, ◌⊎◌, inl, inr, Bool, true, false, nat_lt, List, cond, drop, length, refl, sym, ap, ◌∙◌, subst, true≢false, arith}
 use Rattle.std.proofs.lemmas.Bool.{cases_lt, ltb-true}
+use Rattle.std.proofs.lemmas.Bool.Decides.{nat_tests}
 use Rattle.std.specs.Prelude.{Result, Ok, Err, None}
 use Rattle.doc_values.specs.Tree.{Forest}
 use Rattle.doc_values.specs.Unfinished.{Unfinished}
@@ -10,7 +11,7 @@ use Rattle.yaml_scalars.specs.Lines.{Outcome, Stands, Fails, Documents}
 use Rattle.yaml_scalars.specs.Scalar.{scalar_at}
 use Rattle.yaml_laws.specs.code.Agreement.{AgreesTo}
 use Rattle.yaml_laws.proofs.AgreeLess.{agrees_less}
-use Rattle.yaml_laws.proofs.ScalarLaw.{scalar_lower, scalar_dead}
+use Rattle.yaml_laws.proofs.ScalarLaw.{scalar_lower, scalar_dead, scalar_upper}
 use Rattle.yaml_blocks.specs.declared.ahead.Ahead.{Ahead}
 use Rattle.yaml_blocks.specs.declared.ahead.Token.{Token}
 use Rattle.yaml_blocks.specs.declared.ahead.Token.TheVariants.{Tag, Opens}
@@ -35,7 +36,7 @@ use Rattle.yaml_blocks.proofs.KeyEnds.{key_stands}
 use Rattle.yaml_blocks.proofs.Quiet.{word_inside}
 use Rattle.yaml_blocks.proofs.Scalars.{key_single}
 use Rattle.yaml_blocks.proofs.ShownTokens.{passed_return, ahead_wide}
-use Rattle.yaml_blocks.proofs.Stopped.{within_stops}
+use Rattle.yaml_blocks.proofs.Stopped.{within_end, within_here, within_stops}
 
 -- ---- in another text
 
@@ -98,6 +99,26 @@ pub missed_failed : (text : List ℕ) (flow : Bool) (a : Ahead) → Missed text 
 missed_failed text flow a none = (none, (λ p d. key_single flow text a p d))
 
 -- ---- the place
+
+-- at the length the scalar fails at the text's end
+pub failed_end : (text : List ℕ) (s : Setting) (a : Ahead) → starts_scalar a.token ≡ true → (q : ℕ) → a.at < length text → q ≡ length text → FailedAt text s a q → scalar_at s text a.at ≡ Fails (length text)
+failed_end text s a starts q inside e (inl (g, far)) = absurd (omega (arith, inside, far))
+failed_end text s a starts q inside e (inr (r, l, h, g)) = by_less (nat_lt r (length text)) refl g where
+  there : scalar_at s text a.at ≡ Fails r
+  there = sym (ap (λ c. cond c (scalar_at s text a.at) (Fails a.at)) starts) ∙ h
+
+  inner : (n : ℕ) → q ≡ within text n → ⊥
+  inner n k = by_order (cases_lt n (length text)) where
+    by_order : (n < length text) ⊎ (length text ≤ n) → ⊥
+    by_order (inl z) = let y = k ∙ within_here text n z in omega (arith, e, y, z)
+    by_order (inr z) = let y = k ∙ within_end text n z in omega (arith, e, y, inside)
+
+  by_less : (c : Bool) → nat_lt r (length text) ≡ c → q ≡ cond c (within text (past_return text (widest (a.at + width a (drop a.at text)) r))) (length text) → scalar_at s text a.at ≡ Fails (length text)
+  by_less true c k = absurd (inner (past_return text (widest (a.at + width a (drop a.at text)) r)) k)
+  by_less false c k =
+      let most = scalar_upper s text a.at r inside there in
+      let least : length text ≤ r = grind (arith, nat_tests, c) in
+      there ∙ ap Fails (let z : r ≡ length text = omega (arith, most, least) in z)
 
 module _ (text : List ℕ) (s : Setting) (flow : Bool) (i : ℕ) (a : Ahead) (none : List ℕ → Type 0) (here : a ≡ ahead text flow i) (n : starts_scalar a.token ≡ true) (absent : (other : List ℕ) → Missed other s a → none other) where
   pub failed_stops : (q : ℕ) → FailedAt text s a q → Stops text i none (Err (stop.Unread q))

@@ -28,7 +28,7 @@ use Rattle.yaml_blocks.specs.Places.{IsSyntax}
 use Rattle.yaml_blocks.specs.code.Points.{is_last_point, is_point}
 use Rattle.yaml_blocks.specs.code.Rest.{top, Ends, Awaits}
 use Rattle.yaml_blocks.specs.code.Steps.{IsBlock, IsFlow, IsSpelled, Open, Rest, Fits, is_ending, is_flow_ending, is_open}
-use Rattle.yaml_blocks.specs.code.Twins.{IsUsual, LengthensAt, NoRest, Stops, settled}
+use Rattle.yaml_blocks.specs.code.Twins.{LengthensAt, NoRest, Stops, settled}
 use Rattle.yaml_blocks.proofs.AheadEnds.{end_flows}
 use Rattle.yaml_blocks.proofs.AheadOrder.{seen_mark, unmarked}
 use Rattle.yaml_blocks.proofs.Back.{Grows, flow_or_block, end_follows, end_short}
@@ -225,12 +225,12 @@ missing_reading text fs u i root list (v, h) = (v, (leaf kind.Null [] u.key i, N
 -- ---- where reading stops
 
 module _ (text : List ℕ) (p : Position) (fs : List Form) (u : Unfinished) (q : ℕ) (utf8 : IsUtf8 text) (lives : LivesOn text p fs u) (grows : Grows text p fs u) (goes : p.stage ≡ stage.Whole → ⊥) (fits : Fits text p.stage fs u p.at) (cut : IsCharBoundary text p.at)
-    (nothing : (v : Reading) → Rest text p.stage fs u p.at v → ⊥) (stops : Stops text p.at (NoRest p.stage fs u p.at) (Err (stop.Unread q))) (last : ends_with 13 text ≡ false) (says : LengthensAt text p.stage fs u p.at q) (usual : IsUsual text p.stage fs u p.at) where
+    (nothing : (v : Reading) → Rest text p.stage fs u p.at v → ⊥) (stops : Stops text p.at (NoRest p.stage fs u p.at) (Err (stop.Unread q))) (last : ends_with 13 text ≡ false) (says : LengthensAt text p.stage fs u p.at q) where
   -- where what settles the position lies within the text
   near_syntax : 0 < length text → settled text (in_flow (top fs)) p.stage p.at ≤ length text - 1 → (fs ≡ [] → IsStart text p.at → root_seen text p.at < length text) → IsSyntax text q
   near_syntax some near root = by_stop stops where
     by_stop : Stops text p.at (NoRest p.stage fs u p.at) (Err (stop.Unread q)) → IsSyntax text q
-    by_stop (inl (inl e)) = length_short text p fs u utf8 lives goes some near root last q says e usual
+    by_stop (inl (inl e)) = length_short text p fs u utf8 lives goes some near root last q says e
     by_stop (inl (inr l)) = last_dead text p fs u utf8 lives goes some near root last q says l
     by_stop (inr (l, (place, past, from, none))) = inl (twins_dead text place q utf8 l past (none_twin text p fs u place (lives_of text p fs u cut.0 lives) goes from none))
 

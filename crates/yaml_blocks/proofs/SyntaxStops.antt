@@ -19,7 +19,7 @@ use Rattle.yaml_blocks.specs.code.Extends.{begins_firm, root_seen}
 use Rattle.yaml_blocks.specs.code.Places.{IsSyntaxStop}
 use Rattle.yaml_blocks.specs.code.Rest.{Awaits}
 use Rattle.yaml_blocks.specs.code.Steps.{Open, Rest, Fits, Gives, reached}
-use Rattle.yaml_blocks.specs.code.Twins.{IsUsual, IsUsualText, Lengthens, StopsStep}
+use Rattle.yaml_blocks.specs.code.Twins.{Lengthens, StopsStep}
 use Rattle.yaml_blocks.proofs.Back.{Grows}
 use Rattle.yaml_blocks.proofs.Lengthened.{told_at}
 use Rattle.yaml_blocks.proofs.LivesLonger.{LivesLonger, torn_syntax}
@@ -50,13 +50,6 @@ later_place s t i j h = by_least s t h where
   by_least : (s t : Stage) → reached s i < reached t j → i ≤ j
   by_least s t h = let a = least s in let b = most t in omega (arith, a, b, h)
 
--- a text of which nothing is left out
-usual_at : (text : List ℕ) (s : Stage) (fs : List Form) (u : Unfinished) (i : ℕ) → IsUsualText text → text_start text ≤ i → IsUsual text s fs u i
-usual_at text stage.Entry fs u i h l = tt
-usual_at text stage.Value fs u i h l = h fs u i
-usual_at text stage.After fs u i h l = tt
-usual_at text stage.Whole fs u i h l = tt
-
 rooted : (text : List ℕ) (fs : List Form) (u : Unfinished) (i : ℕ) → IsUtf8 text → IsCharBoundary text i → text_start text ≤ i → Open fs u → ends_with 13 text ≡ false → ((v : Reading) → Awaits text fs u.outer u.done u.key i v → ⊥) → fs ≡ [] → IsStart text i → is_told (ahead text false i).token ≡ true → root_seen text i < length text
 rooted text fs u i utf8 cut late open_ last none e start told = by_firm (begins_firm (drop (ahead text false i).at text)) refl where
   by_order : begins_firm (drop (ahead text false i).at text) ≡ false → (ahead_seen text i < length text) ⊎ (length text ≤ ahead_seen text i) → root_seen text i < length text
@@ -67,18 +60,16 @@ rooted text fs u i utf8 cut late open_ last none e start told = by_firm (begins_
   by_firm true f = let l = told_at text false i told in let z : root_seen text i ≡ (ahead text false i).at = ap (λ t. cond (t && begins_firm (drop (ahead text false i).at text)) (ahead text false i).at (ahead_seen text i)) told ∙ ap (λ t. cond (true && t) (ahead text false i).at (ahead_seen text i)) f in omega (arith, z, l)
   by_firm false f = by_order f (cases_lt (ahead_seen text i) (length text))
 
--- where nothing is left out
 pub step_syntax : (text : List ℕ) → IsUtf8 text → (p : Position) (fs gs : List Form) (u w : Unfinished) (n : ℕ) (e : Stop) → LivesOn text p fs u → Grows text p fs u → LivesLonger text p fs u → (p.stage ≡ stage.Whole → ⊥) → Fits text p.stage fs u p.at → IsCharBoundary text p.at → text_start text ≤ p.at
-    → Gives text (Rest text p.stage fs u p.at) n gs w (Err e) → StopsStep text p.stage fs u p.at (Err e) → Lengthens text p.stage fs u p.at (Err e) → ends_with 13 text ≡ false → IsUsualText text → IsSyntaxStop text e
-step_syntax text utf8 p fs gs u w n (stop.Unread q) lives grows longer goes fits cut late gives stops lengthens last usual =
-    let common = usual_at text p.stage fs u p.at usual late in
-    stop_syntax text p fs u q utf8 lives grows goes fits cut gives stops last lengthens common (λ value e start told. rooted text fs u p.at utf8 cut late (subst (λ s. Fits text s fs u p.at) value fits).0 last (subst (λ s. (v : Reading) → Rest text s fs u p.at v → ⊥) value gives) e start told)
-    (λ b told after. torn_syntax text p fs u q utf8 lives longer goes fits cut after b last told stops lengthens common)
-step_syntax text utf8 p fs gs u w n (stop.Tab at) lives grows longer goes fits cut late gives stops lengthens last usual = tt
-step_syntax text utf8 p fs gs u w n (stop.Anchor at) lives grows longer goes fits cut late gives stops lengthens last usual = tt
-step_syntax text utf8 p fs gs u w n (stop.Tag at) lives grows longer goes fits cut late gives stops lengthens last usual = tt
-step_syntax text utf8 p fs gs u w n (stop.Directive at) lives grows longer goes fits cut late gives stops lengthens last usual = tt
-step_syntax text utf8 p fs gs u w n (stop.ManyDocuments at) lives grows longer goes fits cut late gives stops lengthens last usual = tt
-step_syntax text utf8 p fs gs u w n (stop.DuplicateKey at) lives grows longer goes fits cut late gives stops lengthens last usual = tt
-step_syntax text utf8 p fs gs u w n (stop.TooDeep at) lives grows longer goes fits cut late gives stops lengthens last usual = tt
-step_syntax text utf8 p fs gs u w n stop.NoMemory lives grows longer goes fits cut late gives stops lengthens last usual = tt
+    → Gives text (Rest text p.stage fs u p.at) n gs w (Err e) → StopsStep text p.stage fs u p.at (Err e) → Lengthens text p.stage fs u p.at (Err e) → ends_with 13 text ≡ false → IsSyntaxStop text e
+step_syntax text utf8 p fs gs u w n (stop.Unread q) lives grows longer goes fits cut late gives stops lengthens last =
+    stop_syntax text p fs u q utf8 lives grows goes fits cut gives stops last lengthens (λ value e start told. rooted text fs u p.at utf8 cut late (subst (λ s. Fits text s fs u p.at) value fits).0 last (subst (λ s. (v : Reading) → Rest text s fs u p.at v → ⊥) value gives) e start told)
+    (λ b told after. torn_syntax text p fs u q utf8 lives longer goes fits cut after b last told stops lengthens)
+step_syntax text utf8 p fs gs u w n (stop.Tab at) lives grows longer goes fits cut late gives stops lengthens last = tt
+step_syntax text utf8 p fs gs u w n (stop.Anchor at) lives grows longer goes fits cut late gives stops lengthens last = tt
+step_syntax text utf8 p fs gs u w n (stop.Tag at) lives grows longer goes fits cut late gives stops lengthens last = tt
+step_syntax text utf8 p fs gs u w n (stop.Directive at) lives grows longer goes fits cut late gives stops lengthens last = tt
+step_syntax text utf8 p fs gs u w n (stop.ManyDocuments at) lives grows longer goes fits cut late gives stops lengthens last = tt
+step_syntax text utf8 p fs gs u w n (stop.DuplicateKey at) lives grows longer goes fits cut late gives stops lengthens last = tt
+step_syntax text utf8 p fs gs u w n (stop.TooDeep at) lives grows longer goes fits cut late gives stops lengthens last = tt
+step_syntax text utf8 p fs gs u w n stop.NoMemory lives grows longer goes fits cut late gives stops lengthens last = tt

@@ -1,6 +1,5 @@
 -- A block scalar that fails at the text's end below a wide blank line, with one or two dashes at the first column: no tree follows in a longer text, since a line `---` ends the scalar there. By the cases of what stands there.
 use Rattle.std.proofs.Common.{◌≡◌, ℕ, suc, ◌+◌, ◌-◌, ◌<◌, ◌≤◌, ◌⊎◌, inl, inr, Bool, true, false, ◌||◌, ◌&&◌, not, cond, nat_eq, nat_lt, arith, List, [], ◌∷◌, ◌++◌, take, drop, length, refl, sym, ap, ◌∙◌, subst, true≢false, length-drop}
-use Rattle.std.proofs.lemmas.Bool.{cases_lt}
 use Rattle.std.proofs.lemmas.Bool.Decides.{nat_tests}
 use Rattle.std.proofs.lemmas.List.{drop-drop, take-append-drop}
 use Rattle.std.specs.Prelude.{Result, Ok, Err, None, Some, option_map}
@@ -10,7 +9,7 @@ use Rattle.doc_values.specs.declared.kind.Kind.TheVariants as kind
 use Rattle.doc_values.specs.Tree.{Label, Forest, snoc}
 use Rattle.doc_values.specs.Unfinished.{Unfinished}
 use Rattle.yaml_scalars.specs.declared.scalar.Setting.{Setting}
-use Rattle.yaml_scalars.specs.Block.{block_on, widest}
+use Rattle.yaml_scalars.specs.Block.{block_on}
 use Rattle.yaml_scalars.specs.Lines.{Line, Outcome, Stands, Fails, Documents, begins_with, ends_with, is_cut_mark, is_mark, lines}
 use Rattle.yaml_scalars.specs.Plain.{plain_on, wrong_begin}
 use Rattle.yaml_scalars.specs.Scalar.{HasKind, is_first_column, is_typed, begins_quoted, begins_block, plain_scalar, quoted_scalar, block_scalar, scalar_at}
@@ -21,7 +20,7 @@ use Rattle.yaml_laws.proofs.BlockLonger.{IsLastLine}
 use Rattle.yaml_laws.proofs.BlockTorn.{BreaksOff, block_before}
 use Rattle.yaml_laws.proofs.Longer.{glue, Ends, lines_apart, lines_end, behind_none}
 use Rattle.yaml_laws.proofs.ScalarFollowed.{quoted_longer, block_longer}
-use Rattle.yaml_laws.proofs.ScalarLaw.{column_longer, scalar_upper}
+use Rattle.yaml_laws.proofs.ScalarLaw.{column_longer}
 use Rattle.yaml_blocks.specs.declared.ahead.Ahead.{Ahead}
 use Rattle.yaml_blocks.specs.declared.ahead.Token.TheVariants.{Dashes, Dots}
 use Rattle.yaml_blocks.specs.declared.form.Form.{Form}
@@ -39,7 +38,7 @@ use Rattle.yaml_blocks.specs.Yaml.{end_sign, sign_behind}
 use Rattle.yaml_blocks.specs.code.AheadSeen.{ahead_seen, first_return}
 use Rattle.yaml_blocks.specs.code.Refused.{of_sign}
 use Rattle.yaml_blocks.specs.code.Rest.{top, Awaits, Ends as Follows}
-use Rattle.yaml_blocks.specs.code.StopPlaces.{is_hidden, token_width, width, within, past_return, ends_in_dash, torn_place, torn_stop}
+use Rattle.yaml_blocks.specs.code.StopPlaces.{is_hidden, token_width, width, ends_in_dash, torn_place, torn_stop}
 use Rattle.yaml_blocks.specs.code.Steps.{Awaited, Fits, Holds, IsBlock, IsSeen, NoKey, Open}
 use Rattle.yaml_blocks.specs.code.Twins.{IsTwin, FailedAt, LengthensAt, NoValue, Stops, TornAt}
 use Rattle.yaml_blocks.proofs.Back.{last_byte, twin_end}
@@ -51,7 +50,8 @@ use Rattle.yaml_blocks.proofs.Quiet.{word_inside}
 use Rattle.yaml_blocks.proofs.ScalarOrder.{Fresh, behind_fresh}
 use Rattle.yaml_blocks.proofs.SameTexts.{seen_alike}
 use Rattle.yaml_blocks.proofs.ShownTokens.{ahead_wide}
-use Rattle.yaml_blocks.proofs.Stopped.{last_return, within_end, within_here}
+use Rattle.yaml_blocks.proofs.Stopped.{last_return}
+use Rattle.yaml_blocks.proofs.StoppedScalars.{failed_end}
 use Rattle.yaml_blocks.proofs.TornBlocks.{both_of, ends_past, last_bytes, last_fresh, last_two, last_with, narrow, stray_not}
 use Rattle.yaml_blocks.proofs.Twins.{twin_ahead}
 
@@ -267,7 +267,7 @@ undashed_end text a s b k h =
 abbrev pub IsTornAt : List ℕ → Ahead → ℕ → Type 0
 IsTornAt text a q = ((torn_place text a q ≡ q) × (q ≡ length text → ends_in_dash text a ≡ false)) ⊎ ((torn_place text a q ≡ length text - 1) × (q ≡ length text) × (ends_in_dash text a ≡ true))
 
-torn_at : (text : List ℕ) (a : Ahead) (q : ℕ) → IsTornAt text a q
+pub torn_at : (text : List ℕ) (a : Ahead) (q : ℕ) → IsTornAt text a q
 torn_at text a q = by_tests (nat_eq q (length text)) (ends_in_dash text a) refl refl where
   by_tests : (x y : Bool) → nat_eq q (length text) ≡ x → ends_in_dash text a ≡ y → ((cond (x && y) (length text - 1) q ≡ q) × (q ≡ length text → ends_in_dash text a ≡ false)) ⊎ ((cond (x && y) (length text - 1) q ≡ length text - 1) × (q ≡ length text) × (ends_in_dash text a ≡ true))
   by_tests true true e d = inr (refl, grind (arith, nat_tests, e), d)
@@ -299,26 +299,6 @@ block_folds (Entries m) xs b h = h
 block_folds (Tagged at ab sh) xs b h = h
 
 module _ (text : List ℕ) (utf8 : IsUtf8 text) (fs : List Form) (u : Unfinished) (i : ℕ) (f : Form) (a : Ahead) (w : Awaited text fs u f i a) (starts : starts_scalar a.token ≡ true) (tk : takes_scalar f a ≡ true) where
-  -- the scalar fails at the text's end
-  fails_whole : (q : ℕ) → a.at < length text → q ≡ length text → FailedAt text (setting_of f) a q → scalar_at (setting_of f) text a.at ≡ Fails (length text)
-  fails_whole q inside e (inl (g, far)) = absurd (omega (arith, inside, far))
-  fails_whole q inside e (inr (r, l, h, g)) = by_less (nat_lt r (length text)) refl g where
-    there : scalar_at (setting_of f) text a.at ≡ Fails r
-    there = sym (ap (λ c. cond c (scalar_at (setting_of f) text a.at) (Fails a.at)) starts) ∙ h
-
-    inner : (n : ℕ) → q ≡ within text n → ⊥
-    inner n k = by_order (cases_lt n (length text)) where
-      by_order : (n < length text) ⊎ (length text ≤ n) → ⊥
-      by_order (inl z) = let y = k ∙ within_here text n z in omega (arith, e, y, z)
-      by_order (inr z) = let y = k ∙ within_end text n z in omega (arith, e, y, inside)
-
-    by_less : (c : Bool) → nat_lt r (length text) ≡ c → q ≡ cond c (within text (past_return text (widest (a.at + width a (drop a.at text)) r))) (length text) → scalar_at (setting_of f) text a.at ≡ Fails (length text)
-    by_less true c k = absurd (inner (past_return text (widest (a.at + width a (drop a.at text)) r)) k)
-    by_less false c k =
-        let most = scalar_upper (setting_of f) text a.at r inside there in
-        let least : length text ≤ r = grind (arith, nat_tests, c) in
-        there ∙ ap Fails (let z : r ≡ length text = omega (arith, most, least) in z)
-
   module _ (q : ℕ) (end : q ≡ length text) (dash : ends_in_dash text a ≡ true) (failed : FailedAt text (setting_of f) a q) where
     starts_so : (begins_with 124 (drop a.at text) || begins_with 62 (drop a.at text)) ≡ true
     starts_so = (both_of (begins_with 124 (drop a.at text) || begins_with 62 (drop a.at text)) (begins_with 45 (drop (length text - 1) text) && has_break (drop a.at text)) dash).0
@@ -343,7 +323,7 @@ module _ (text : List ℕ) (utf8 : IsUtf8 text) (fs : List Form) (u : Unfinished
         let begins = (both_of (not ((setting_of f).flow || (setting_of f).one_line)) (begins_with 124 (drop a.at (text ++ more)) || begins_with 62 (drop a.at (text ++ more))) folded).1 in
         nothing_for (text ++ more) fs u f i a v.seen.0 (spot_of (text ++ more) fs u f i a v) starts tk (no_key (text ++ more) a begins)
         (ap (λ q. not ((setting_of f).one_line || (begins_quoted (drop a.at (text ++ more)) || q))) folded ∙ either (setting_of f).one_line (begins_quoted (drop a.at (text ++ more))))
-        (λ t e st. dashes_behind (setting_of f) text a.at inside bare folds rest_so.1 last (fails_whole q inside end failed) rest_so.0 more t e st) g h
+        (λ t e st. dashes_behind (setting_of f) text a.at inside bare folds rest_so.1 last (failed_end text (setting_of f) a starts q inside end failed) rest_so.0 more t e st) g h
 
     near : ahead_seen text i ≤ a.at
     near = subst (λ (b : Ahead). starts_scalar b.token ≡ true → (begins_with 124 (drop b.at text) || begins_with 62 (drop b.at text)) ≡ true → ahead_seen text i ≤ b.at) (sym w.seen.0) seen starts starts_so where
@@ -367,7 +347,7 @@ module _ (text : List ℕ) (utf8 : IsUtf8 text) (fs : List Form) (u : Unfinished
               dash_none o.0 (subst (λ t. Awaited t fs u f i a) o.1 v) g (subst (λ t. Awaits t fs u.outer u.done u.key i (Tree g)) o.1 h)
 
     pub dash_lengthens : LengthensAt text stage.Value fs u i (length text - 1)
-    dash_lengthens = λ g. ((λ k usual. absurd (past k)), (λ l more long cut fits t h. dash_none more (awaits more long cut fits) t h)) where
+    dash_lengthens = λ g. ((λ k. absurd (past k)), (λ l more long cut fits t h. dash_none more (awaits more long cut fits) t h)) where
       past : length text - 1 ≡ length text → ⊥
       past k = let l = inside in omega (arith, k, l)
 
@@ -400,10 +380,10 @@ module _ (text : List ℕ) (utf8 : IsUtf8 text) (fs : List Form) (u : Unfinished
   torn_stops (Err (stop.TooDeep at)) old torn = tt
   torn_stops (Err stop.NoMemory) old torn = tt
 
-  pub torn_lengthens : (q : ℕ) → TornAt text (setting_of f) a q → ((p : ℕ) → FailedAt text (setting_of f) a p → (p ≡ length text → ends_in_dash text a ≡ false) → LengthensAt text stage.Value fs u i p) → LengthensAt text stage.Value fs u i q
+  pub torn_lengthens : (q : ℕ) → TornAt text (setting_of f) a q → ((p : ℕ) → q ≡ p → FailedAt text (setting_of f) a p → (p ≡ length text → ends_in_dash text a ≡ false) → LengthensAt text stage.Value fs u i p) → LengthensAt text stage.Value fs u i q
   torn_lengthens q (p, e, failed) old = subst (LengthensAt text stage.Value fs u i) (sym e) (by_place (torn_at text a p)) where
     by_place : IsTornAt text a p → LengthensAt text stage.Value fs u i (torn_place text a p)
-    by_place (inl (same, un)) = subst (LengthensAt text stage.Value fs u i) (sym same) (old p failed un)
+    by_place (inl (same, un)) = subst (LengthensAt text stage.Value fs u i) (sym same) (old p (e ∙ same) failed un)
     by_place (inr (is, end, dash)) = subst (LengthensAt text stage.Value fs u i) (sym is) (dash_lengthens p end dash failed)
 
 -- ---- why reading stops

@@ -3,7 +3,7 @@ use Rattle.std.specs.Prelude.{ℕ, ◌≡◌, List}
 use Rattle.doc_values.specs.Tree.{Forest}
 use Rattle.yaml_blocks.specs.declared.refusal.YamlRefusal.{YamlRefusal}
 use Rattle.yaml_blocks.specs.declared.refusal.YamlRefusal.TheVariants as refusal
-use Rattle.yaml_blocks.specs.Places.{IsShown}
+use Rattle.yaml_blocks.specs.Places.{IsSyntax}
 use Rattle.yaml_blocks.specs.Signs.{Sign, Tab, Anchor, Tag, Directive, ManyDocuments, DuplicateKey, TooDeep}
 use Rattle.yaml_blocks.specs.Yaml.{IsYaml, Counts}
 
@@ -17,7 +17,7 @@ IsUnread text = ((s : Sign) → Counts text s → ⊥) × ((tree : Forest) → I
 
 -- a place of Syntax is any at which the text is no document; want of memory says nothing
 abbrev pub Refuses : List ℕ → YamlRefusal → Type 0
-Refuses text (refusal.Syntax at) = IsUnread text × IsShown text at
+Refuses text (refusal.Syntax at) = IsUnread text × IsSyntax text at
 Refuses text (refusal.Tab at) = IsSignOf text (Tab at)
 Refuses text (refusal.Anchor at) = IsSignOf text (Anchor at)
 Refuses text (refusal.Tag at) = IsSignOf text (Tag at)

@@ -5,11 +5,11 @@ pub mod Extends
 pub mod Feeds
 pub mod Memory
 pub mod Places
-pub mod PlacedTexts
 pub mod Points
 pub mod Refused
 pub mod ReadAgain
 pub mod Rest
+pub mod Splits
 pub mod Steps
 pub mod StopPlaces
 pub mod Twins

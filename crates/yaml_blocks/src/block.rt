@@ -3,14 +3,15 @@ ghost use Rattle.std.specs.Prelude.{◌≡◌, ℕ, List, ◌+◌, ◌*◌, ◌�
 ghost use Rattle.std.specs.Str.{IsCharBoundary};
 ghost use Rattle.yaml_scalars.specs.code.Limits.{text_limit};
 ghost use Rattle.yaml_blocks.specs.Ahead.{ahead};
-ghost use Rattle.yaml_blocks.specs.Nodes.{starts_scalar, is_tagged};
+ghost use Rattle.yaml_blocks.specs.Nodes.{starts_scalar, is_tagged, setting_of};
 ghost use Rattle.yaml_blocks.specs.Blocks.{block_sign, takes_scalar, takes_mapping, takes_sequence, takes_tag, tagged, column_in};
 ghost use Rattle.yaml_blocks.specs.code.ReadAgain.{NoneBehind, OnSign, SignStays};
 ghost use Rattle.yaml_blocks.specs.code.Rest.{top, Inside, Ends, Awaits};
 ghost use Rattle.yaml_blocks.specs.Yaml.{IsEnd, text_start};
 ghost use Rattle.yaml_blocks.specs.code.Extends.{ExtendsValue, Leaves};
 ghost use Rattle.yaml_blocks.specs.code.Feeds.{Opening};
-ghost use Rattle.yaml_blocks.specs.code.Twins.{Stops, NoLine, NoValue, Lengthens, Popped, FixesNode, FixesEnd};
+ghost use Rattle.yaml_blocks.specs.code.Splits.{InRoom, RunsOn};
+ghost use Rattle.yaml_blocks.specs.code.Twins.{Stops, NoLine, NoValue, Lengthens, LengthensAt, OnUnread, Popped, FixesNode, FixesEnd};
 ghost use Rattle.yaml_blocks.specs.code.Steps.{stack, IsSeen, IsBlock, HasKey, NoKey, EndsKey, Open, Fits, Awaited, SameKey, SameNode, SameEnd, IsCalm, NoNode, Gives, Ended, is_ending, ends_before};
 
 use crate::ahead::{Ahead, Token, look};
@@ -23,6 +24,7 @@ use crate::node::{
 use crate::place::{colon_place, dash_place, last_told, root_place};
 use crate::point::is_pointed;
 use crate::sign::{end_sign, is_document_end, is_tagged, node_sign};
+use crate::split::{is_split, split_stop};
 use crate::stage::{Position, Stage};
 use crate::stop::Stop;
 use crate::takes::{
@@ -123,6 +125,40 @@ fn tag<'s>(
 }
 
 /// A scalar where no key stands; over a colon that ends the text a plain one goes on with a letter behind it.
+fn scalar_there<'s>(
+    alloc: Global,
+    text: &'s str,
+    at: usize,
+    form: Form,
+    next: Ahead,
+    forms: &[Form],
+    builder: &mut DocBuilder<'s>,
+) -> Result<Position, Stop>
+    requires small { length text.now ≤ text_limit }
+    requires awaited { Awaited text.now (stack forms.now) builder.old form at next }
+    requires starts { starts_scalar next.token ≡ true }
+    requires takes { takes_scalar form next ≡ true }
+    requires no_key { takes_mapping form next ≡ true → NoKey text.now next }
+    ensures gives { (other : List ℕ) → Awaited other (stack forms.now) builder.old form at next → SameNode text.now other form at next → Gives other (Awaits other (stack forms.now) builder.old.outer builder.old.done builder.old.key at) (2 * at + 1) (stack forms.now) builder.new result }
+    ensures fixes { FixesNode text.now form at next result }
+    ensures opens { Opening (stack forms.now) result }
+    ensures stops { Stops text.now at (NoValue at next form (stack forms.now) builder.old) result }
+    ensures longer { OnUnread (InRoom text.now builder.old form at next (LengthensAt text.now Stage.Value (stack forms.now) builder.old at)) result }
+    ensures runs { OnUnread (RunsOn text.now false (setting_of form) next) result }
+    ensures extends { ExtendsValue text.now (stack forms.now) builder.old at (stack forms.now) builder.new result }
+    ensures again { starts_scalar next.token ≡ true → SignStays text.now Stage.Value (stack forms.now) builder.old at result }
+{
+    let position = match take_block_scalar(alloc, text, at, form, next, builder) {
+        Ok(position) => position,
+        Err(stop) => return Err(stop),
+    };
+    if is_pointed(text, false, next.at, position.at) {
+        return Err(Stop::Unread(offset(text.len())));
+    }
+    Ok(position)
+}
+
+/// The same; but the last byte is answered for the length where the scalar would be split, and there is no room for that.
 fn scalar<'s>(
     alloc: Global,
     text: &'s str,
@@ -145,14 +181,14 @@ fn scalar<'s>(
     ensures extends { ExtendsValue text.now (stack forms.now) builder.old at (stack forms.now) builder.new result }
     ensures again { starts_scalar next.token ≡ true → SignStays text.now Stage.Value (stack forms.now) builder.old at result }
 {
-    let position = match take_block_scalar(alloc, text, at, form, next, builder) {
-        Ok(position) => position,
-        Err(stop) => return Err(stop),
-    };
-    if is_pointed(text, false, next.at, position.at) {
-        return Err(Stop::Unread(offset(text.len())));
+    let depth = builder.depth();
+    match scalar_there(alloc, text, at, form, next, forms, builder) {
+        Ok(position) => Ok(position),
+        Err(stop) => {
+            let split = is_split(text, at, form, next, depth);
+            Err(split_stop(text, split, stop))
+        }
     }
-    Ok(position)
 }
 
 /// A mapping or a scalar.

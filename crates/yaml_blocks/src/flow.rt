@@ -6,7 +6,8 @@ ghost use Rattle.doc_values.specs.Unfinished.{AwaitsValue, MayEnd};
 ghost use Rattle.yaml_scalars.specs.Scalar.{begins_quoted};
 ghost use Rattle.yaml_blocks.specs.Flow.{may_miss, may_tag, ends_key, IsColon};
 ghost use Rattle.yaml_blocks.specs.Ahead.{ahead};
-ghost use Rattle.yaml_blocks.specs.Nodes.{tag_name, node_sign, is_tagged, is_marked, starts_scalar};
+ghost use Rattle.yaml_blocks.specs.Nodes.{tag_name, node_sign, is_tagged, is_marked, setting_of, starts_scalar};
+ghost use Rattle.yaml_blocks.specs.code.Splits.{InRoom, RunsOn};
 ghost use Rattle.yaml_blocks.specs.code.ReadAgain.{NoneAwaited, OnSign, SignStays};
 ghost use Rattle.yaml_blocks.specs.code.Rest.{top, Ends, Enters, Awaits};
 ghost use Rattle.yaml_blocks.specs.code.Extends.{Shuts};
@@ -22,6 +23,7 @@ use crate::node::{
 use crate::place::flow_place;
 use crate::point::is_pointed;
 use crate::sign::{is_marked, is_tagged, node_sign};
+use crate::split::{is_split, split_stop};
 use crate::stage::{Position, Stage};
 use crate::stop::Stop;
 use doc_values::DocBuilder;
@@ -113,6 +115,46 @@ fn tag<'s>(
 }
 
 /// A scalar; over a colon that ends the text a plain one goes on with a letter behind it.
+fn scalar_there<'s>(
+    alloc: Global,
+    text: &'s str,
+    at: usize,
+    form: Form,
+    next: Ahead,
+    forms: &[Form],
+    builder: &mut DocBuilder<'s>,
+) -> Result<Position, Stop>
+    requires small { length text.now ≤ text_limit }
+    requires seen { IsSeen text.now true at next }
+    requires starts { starts_scalar next.token ≡ true }
+    requires unsigned { node_sign (is_tagged form) next.at next.token ≡ None }
+    requires there { may_miss form ≡ true → is_flow_ending next.token ≡ false }
+    requires form { top (stack forms.now) ≡ form }
+    requires flow { IsFlow form }
+    requires behind { IsBehind form at }
+    requires open { Open (stack forms.now) builder.old }
+    requires awaited { AwaitsValue builder.old }
+    requires boundary { IsCharBoundary text.now at }
+    ensures gives { (other : List ℕ) → IsSeen other true at next → SameFlowNode text.now other form at next → Gives other (Awaits other (stack forms.now) builder.old.outer builder.old.done builder.old.key at) (2 * at + 2) (stack forms.now) builder.new result }
+    ensures fixes { FixesFlowNode text.now form at next result }
+    ensures feeds { FeedsFlowNode text.now form at next result }
+    ensures stops { Stops text.now at (NoFlowValue at next (stack forms.now) builder.old) result }
+    ensures longer { OnUnread (InRoom text.now builder.old form at next (MendsNode text.now (stack forms.now) builder.old at)) result }
+    ensures runs { OnUnread (RunsOn text.now true (setting_of form) next) result }
+    ensures shuts { Shuts text.now at (stack forms.now) result }
+    ensures again { OnSign (NoneAwaited text.now (stack forms.now) builder.old at) result }
+{
+    let position = match take_scalar(alloc, text, at, form, next, builder) {
+        Ok(position) => position,
+        Err(stop) => return Err(stop),
+    };
+    if is_pointed(text, true, next.at, position.at) {
+        return Err(Stop::Unread(offset(text.len())));
+    }
+    Ok(position)
+}
+
+/// The same; but the last byte is answered for the length where the scalar would be split, and there is no room for that.
 fn scalar<'s>(
     alloc: Global,
     text: &'s str,
@@ -141,14 +183,14 @@ fn scalar<'s>(
     ensures shuts { Shuts text.now at (stack forms.now) result }
     ensures again { OnSign (NoneAwaited text.now (stack forms.now) builder.old at) result }
 {
-    let position = match take_scalar(alloc, text, at, form, next, builder) {
-        Ok(position) => position,
-        Err(stop) => return Err(stop),
-    };
-    if is_pointed(text, true, next.at, position.at) {
-        return Err(Stop::Unread(offset(text.len())));
+    let depth = builder.depth();
+    match scalar_there(alloc, text, at, form, next, forms, builder) {
+        Ok(position) => Ok(position),
+        Err(stop) => {
+            let split = is_split(text, at, form, next, depth);
+            Err(split_stop(text, split, stop))
+        }
     }
-    Ok(position)
 }
 
 /// A node in brackets, or behind a tag there.

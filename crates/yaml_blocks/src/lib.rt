@@ -18,6 +18,7 @@ mod read;
 mod refusal;
 mod returned;
 mod sign;
+mod split;
 mod stage;
 mod step;
 mod stop;

@@ -452,7 +452,7 @@ fn is_get_att(bytes: &[u8], at: usize, behind: usize) -> bool
 }
 
 /// Whether a place is that behind `!GetAtt`, by what a node stands in there.
-fn follows_get_att(bytes: &[u8], form: Form, at: usize) -> bool
+pub(crate) fn follows_get_att(bytes: &[u8], form: Form, at: usize) -> bool
     requires within { at ≤ length bytes.now }
     requires behind { IsBehind form at }
     ensures { result ≡ follows_get_att bytes.now form at }

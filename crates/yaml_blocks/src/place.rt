@@ -153,7 +153,7 @@ pub(crate) fn told_place(text: &str, next: Ahead) -> u32
 }
 
 /// A place, or that of the text's last byte where it is the length.
-fn within(text: &str, place: u32) -> u32
+pub(crate) fn within(text: &str, place: u32) -> u32
     requires small { length text.now ≤ text_limit }
     ensures { result ≡ within text.now place }
 {
@@ -285,7 +285,7 @@ fn has_break(bytes: &[u8], start: usize) -> bool
 }
 
 /// Whether `|` or `>` stands at a place.
-fn begins_block(bytes: &[u8], at: usize) -> bool
+pub(crate) fn begins_block(bytes: &[u8], at: usize) -> bool
     requires { at ≤ length bytes.now }
     ensures is { result ≡ (begins_with 124 (drop at bytes.now) || begins_with 62 (drop at bytes.now)) }
     ensures some { result ≡ true → 0 < length bytes.now }

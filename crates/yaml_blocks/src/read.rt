@@ -9,7 +9,6 @@ ghost use Rattle.yaml_scalars.specs.Lines.{ends_with};
 ghost use Rattle.yaml_scalars.specs.Scalar.{begins_order_mark};
 ghost use Rattle.yaml_blocks.specs.Answers.{Reads, Refuses};
 ghost use Rattle.yaml_blocks.specs.code.Memory.{BeginsDocument};
-ghost use Rattle.yaml_blocks.specs.code.PlacedTexts.{IsPlacedText};
 ghost use Rattle.yaml_blocks.specs.code.Places.{IsSyntaxStop, StopsAt};
 ghost use Rattle.yaml_blocks.specs.code.ReadAgain.{SignsAgain};
 ghost use Rattle.yaml_blocks.specs.code.Refused.{IsStopped, of_stop};
@@ -48,7 +47,7 @@ pub(crate) fn read_document<'s>(alloc: Global, text: &'s str) -> Result<Doc<'s>,
     ensures small { IfOk result (λ d. size d < 2 ^ 31) }
     ensures memory { IsErrOf result Stop.NoMemory → BeginsDocument text.now }
     ensures place { IfErr result (λ e. StopsAt text.now e) }
-    ensures syntax { IsPlacedText text.now → IfErr result (λ e. IsSyntaxStop text.now e) }
+    ensures syntax { ends_with 13 text.now ≡ false → IfErr result (λ e. IsSyntaxStop text.now e) }
     ensures again { IfErr result (λ e. SignsAgain text.now e) }
 {
     let start = match document_start(text) {

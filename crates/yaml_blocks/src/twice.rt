@@ -9,8 +9,8 @@ ghost use Rattle.yaml_blocks.specs.Answers.{Reads};
 ghost use Rattle.yaml_blocks.specs.Places.{IsSyntax};
 ghost use Rattle.yaml_blocks.specs.Yaml.{IsStart};
 ghost use Rattle.yaml_blocks.specs.code.Memory.{BeginsDocument};
-ghost use Rattle.yaml_blocks.specs.code.PlacedTexts.{IsLate, IsPlacedText, SaysAgain};
 ghost use Rattle.yaml_blocks.specs.code.Places.{IsSyntaxStop};
+ghost use Rattle.yaml_blocks.specs.code.ReadAgain.{SaysAgain};
 ghost use Rattle.yaml_blocks.specs.code.Refused.{IsStopped};
 
 use crate::ahead::{Token, bytes_ahead, look};
@@ -103,8 +103,7 @@ fn read_again(alloc: Global, text: &str) -> Stop
     requires small { length text.now ≤ template_limit }
     requires returned { (front : List ℕ) × (text.now ≡ front ++ (13 ∷ [])) }
     ensures unread { (result ≡ Stop.NoMemory) ⊎ ((place : ℕ) × (result ≡ Stop.Unread place)) }
-    ensures placed { IsPlacedText (text.now ++ (10 ∷ [])) → IsSyntaxStop text.now result }
-    ensures late { IsLate text.now result }
+    ensures placed { IsSyntaxStop text.now result }
 {
     match stop_again(alloc, text) {
         None => Stop::Unread(offset(text.len())),
@@ -121,8 +120,7 @@ pub(crate) fn read_placed<'s>(alloc: Global, text: &'s str) -> Result<Doc<'s>, S
     ensures answer { MatchResult result (λ d. Reads text.now d) (λ e. IsStopped text.now e) }
     ensures small { IfOk result (λ d. size d < 2 ^ 31) }
     ensures memory { IsErrOf result Stop.NoMemory → BeginsDocument text.now }
-    ensures placed { (ends_with 13 text.now ≡ false → IsPlacedText text.now) → (ends_with 13 text.now ≡ true → IsPlacedText (text.now ++ (10 ∷ []))) → IfErr result (λ e. IsSyntaxStop text.now e) }
-    ensures late { IfErr result (λ e. IsLate text.now e) }
+    ensures placed { IfErr result (λ e. IsSyntaxStop text.now e) }
 {
     match read_document(alloc, text) {
         Ok(doc) => Ok(doc),

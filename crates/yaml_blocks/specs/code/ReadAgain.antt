@@ -1,5 +1,5 @@
 -- Where a text that ends in a carriage return is read again, with a line feed behind it.
-use Rattle.std.specs.Prelude.{ℕ, List, [], ◌∷◌, ◌++◌, ◌≡◌, Result, Ok, Err, IsUtf8}
+use Rattle.std.specs.Prelude.{ℕ, List, [], ◌∷◌, ◌++◌, ◌≡◌, Option, Some, None, Result, Ok, Err, IsUtf8}
 use Rattle.std.specs.Str.{IsCharBoundary}
 use Rattle.doc_values.specs.Tree.{Forest}
 use Rattle.doc_values.specs.Unfinished.{Unfinished}
@@ -18,6 +18,12 @@ abbrev pub StopsAgain : List ℕ → Stop → Type 0
 StopsAgain fed (stop.Unread at) = IsSyntax fed at
 StopsAgain fed stop.NoMemory = ⊥
 StopsAgain fed _ = IsFront fed → ⊥
+
+-- what reading says of a text that ends in a carriage return and a line feed: it is a document, or why it stops
+abbrev pub SaysAgain : List ℕ → Option Stop → Type 0
+SaysAgain fed None = IsFront fed
+SaysAgain fed (Some stop.NoMemory) = Unit {0}
+SaysAgain fed (Some e) = StopsAgain fed e
 
 -- another text begins with one that ends in a carriage return and a line feed
 abbrev pub Extends : List ℕ → List ℕ → Type 0

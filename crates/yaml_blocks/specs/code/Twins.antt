@@ -5,7 +5,7 @@ use Rattle.doc_values.specs.Tree.{Forest}
 use Rattle.doc_values.specs.Unfinished.{Unfinished}
 use Rattle.yaml_scalars.specs.declared.scalar.Setting.{Setting}
 use Rattle.yaml_scalars.specs.Lines.{begins_with, each, ends_with, Fails}
-use Rattle.yaml_scalars.specs.Scalar.{begins_order_mark, begins_block}
+use Rattle.yaml_scalars.specs.Scalar.{begins_order_mark}
 use Rattle.yaml_scalars.specs.code.Walk.{ends_line}
 use Rattle.yaml_laws.specs.code.Agreement.{AgreesTo}
 use Rattle.yaml_laws.specs.code.Refusals.{is_ascii}
@@ -19,11 +19,11 @@ use Rattle.yaml_blocks.specs.declared.stage.Position.{Position}
 use Rattle.yaml_blocks.specs.declared.stop.Stop.{Stop}
 use Rattle.yaml_blocks.specs.declared.stop.Stop.TheVariants as stop
 use Rattle.yaml_blocks.specs.Ahead.{ahead}
-use Rattle.yaml_blocks.specs.Nodes.{as_key, follows_get_att, scalar_ahead, setting_of}
+use Rattle.yaml_blocks.specs.Nodes.{as_key, follows_get_att, scalar_ahead}
 use Rattle.yaml_blocks.specs.Signs.{Reading, Tree}
 use Rattle.yaml_blocks.specs.Yaml.{IsStart}
 use Rattle.yaml_blocks.specs.code.AheadSeen.{ahead_seen}
-use Rattle.yaml_blocks.specs.code.Closers.{in_flow, HasRoom}
+use Rattle.yaml_blocks.specs.code.Closers.{in_flow}
 use Rattle.yaml_blocks.specs.code.Points.{is_last_point}
 use Rattle.yaml_blocks.specs.code.StopPlaces.{failed_place, torn_place}
 use Rattle.yaml_blocks.specs.code.Rest.{top, Begins, Ends, Enters, Awaits}
@@ -86,17 +86,12 @@ StopsStep text s fs u i r = Stops text i (NoRest s fs u i) r
 abbrev pub Mends : List ℕ → Stage → List Form → Unfinished → ℕ → Type 0
 Mends text s fs u i = (more : List ℕ) × (each is_ascii more ≡ true) × (tree : Forest) × Rest (text ++ more) s fs u i (Tree tree)
 
--- so far a value is left out that breaks off: a plain or quoted scalar with a dot so far behind `!GetAtt` in 128 collections
-abbrev pub IsUsual : List ℕ → Stage → List Form → Unfinished → ℕ → Type 0
-IsUsual text stage.Value fs u i = begins_block (setting_of (top fs)) (drop (ahead text (in_flow (top fs)) i).at text) ≡ false → follows_get_att text (top fs) i ≡ true → HasRoom text (ahead text (in_flow (top fs)) i).at (length u.outer)
-IsUsual text _ fs u i = Unit {0}
-
 -- of a text that no carriage return ends: where reading stops at its length, some bytes mend it; where it stops at the last
 -- byte, and all bytes are looked at for what is ahead, nothing follows in a longer text
 abbrev pub LengthensAt : List ℕ → Stage → List Form → Unfinished → ℕ → ℕ → Type 0
 LengthensAt text s fs u i q =
     ends_with 13 text ≡ false
-    → (q ≡ length text → IsUsual text s fs u i → Mends text s fs u i) × (IsLast text i q → (more : List ℕ) → IsUtf8 (text ++ more) → NoRest s fs u i (text ++ more))
+    → (q ≡ length text → Mends text s fs u i) × (IsLast text i q → (more : List ℕ) → IsUtf8 (text ++ more) → NoRest s fs u i (text ++ more))
 
 -- what is so of the place where reading stops and no sign counts
 abbrev pub OnUnread : (ℕ → Type 0) → Result Position Stop → Type 0
@@ -107,16 +102,13 @@ OnUnread holds (Err _) = Unit {0}
 abbrev pub Lengthens : List ℕ → Stage → List Form → Unfinished → ℕ → Result Position Stop → Type 0
 Lengthens text s fs u i r = OnUnread (LengthensAt text s fs u i) r
 
--- a text of which nothing is left out so far
-abbrev pub IsUsualText : List ℕ → Type 0
-IsUsualText text = (fs : List Form) (u : Unfinished) (i : ℕ) → IsUsual text stage.Value fs u i
-
 -- the same of a node between brackets, where a value may stand or an entry of a list; it stops at the last byte only where what is
--- ahead is looked at no further
+-- ahead is looked at no further, or behind the tag `!GetAtt`
 abbrev pub MendsNode : List ℕ → List Form → Unfinished → ℕ → ℕ → Type 0
 MendsNode text fs u i q =
     ends_with 13 text ≡ false
-    → (q ≡ length text → is_ending (ahead text true i).token ≡ false → (follows_get_att text (top fs) i ≡ true → HasRoom text (ahead text true i).at (length u.outer)) → (more : List ℕ) × (each is_ascii more ≡ true) × (tree : Forest) × Awaits (text ++ more) fs u.outer u.done u.key i (Tree tree)) × (IsLast text i q → ⊥)
+    → (q ≡ length text → is_ending (ahead text true i).token ≡ false → (more : List ℕ) × (each is_ascii more ≡ true) × (tree : Forest) × Awaits (text ++ more) fs u.outer u.done u.key i (Tree tree))
+    × (IsLast text i q → (follows_get_att text (top fs) i ≡ true) × ((more : List ℕ) → IsUtf8 (text ++ more) → (t : Forest) → Awaits (text ++ more) fs u.outer u.done u.key i (Tree t) → ⊥))
 
 -- no further entry of a block begins at a token; a sign may
 abbrev pub IsStill : List ℕ → Ahead → Form → Type 0

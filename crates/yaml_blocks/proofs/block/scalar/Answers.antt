@@ -1,71 +1,45 @@
-use Rattle.std.proofs.Common.{false, inl, sym, ◌∙◌}
-use Rattle.std.specs.Prelude.{Ok, Err}
+use Rattle.std.proofs.Common.{◌+◌, ◌*◌, sym, ap, ◌∙◌, subst}
+use Rattle.std.specs.Prelude.{Err}
 use Rattle.yaml_blocks.specs.declared.stage.Stage.TheVariants as stage
-use Rattle.yaml_blocks.specs.Nodes.{follows_get_att, setting_of}
-use Rattle.yaml_blocks.specs.code.Steps.{stack}
-use Rattle.yaml_blocks.specs.code.Twins.{NoValue, LengthensAt}
-use Rattle.yaml_blocks.proofs.AwaitedNodes.{place_behind, small_form, value_awaited}
-use Rattle.yaml_blocks.proofs.BlockPointed.{line_gives, line_mends, pointed_line}
-use Rattle.yaml_blocks.proofs.Extended.{scalar_extends}
-use Rattle.yaml_blocks.proofs.Fixed.{scalar_fixes}
-use Rattle.yaml_blocks.proofs.LastNodes.{scalar_lengthens}
-use Rattle.yaml_blocks.proofs.Opens.{form_opening}
-use Rattle.yaml_blocks.proofs.OtherStops.{unread_on}
-use Rattle.yaml_blocks.proofs.StoppedScalars.{failed_stops, no_value}
-use Rattle.yaml_blocks.proofs.TornDashes.{torn_lengthens, torn_stops}
-use Rattle.yaml_blocks.proofs.FedSites.{scalar_again}
+use Rattle.yaml_blocks.specs.declared.stop.Stop.{Stop}
+use Rattle.yaml_blocks.specs.code.ReadAgain.{NoneLonger, SignStays}
+use Rattle.yaml_blocks.specs.code.Rest.{Awaits}
+use Rattle.yaml_blocks.specs.code.Splits.{is_split}
+use Rattle.yaml_blocks.specs.code.Steps.{stack, Gives}
+use Rattle.yaml_blocks.specs.code.Twins.{Lengthens, NoValue, Stops}
+use Rattle.yaml_blocks.proofs.SplitPlaces.{split_again, split_gives}
+use Rattle.yaml_blocks.proofs.SplitSites.{block_split_lengthens, block_split_stops}
 use Rattle.yaml_blocks.proofs.block.scalar.Goals as goal
 
 pub returns-in-Err-clause-gives : goal.returns-in-Err-clause-gives
-returns-in-Err-clause-gives c = line_gives c.args.text.now (stack c.args.forms.now) c.args.builder.now c.take_block_scalar.new.builder c.args.form c.args.at c.args.next c.requires.starts c.requires.takes c.requires.no_key (Err c.in-Err.stop) c.in-Err.ensures.holds
-
-pub returns-then-is_pointed-clause-gives : goal.returns-then-is_pointed-clause-gives
-returns-then-is_pointed-clause-gives c = pointed_line c.args.text.now (stack c.args.forms.now) c.args.builder.now c.take_block_scalar.new.builder c.args.form c.args.at c.args.next c.requires.starts c.requires.takes c.requires.no_key c.in-Ok.position c.in-Ok.ensures.holds (sym c.is_pointed.ensures ∙ c.if-is_pointed.true)
-
-pub returns-clause-gives : goal.returns-clause-gives
-returns-clause-gives c = line_gives c.args.text.now (stack c.args.forms.now) c.args.builder.now c.take_block_scalar.new.builder c.args.form c.args.at c.args.next c.requires.starts c.requires.takes c.requires.no_key (Ok c.in-Ok.position) c.in-Ok.ensures.holds
-
-pub take_block_scalar-requires-clause-form : goal.take_block_scalar-requires-clause-form
-take_block_scalar-requires-clause-form c = small_form c.args.text.now (stack c.args.forms.now) c.args.builder.now c.args.form c.args.at c.args.next c.requires.awaited
-
-pub take_block_scalar-requires-clause-behind : goal.take_block_scalar-requires-clause-behind
-take_block_scalar-requires-clause-behind c = place_behind c.args.text.now (stack c.args.forms.now) c.args.builder.now c.args.form c.args.at c.args.next c.requires.awaited
-
-pub take_block_scalar-requires-clause-awaited : goal.take_block_scalar-requires-clause-awaited
-take_block_scalar-requires-clause-awaited c = value_awaited c.args.text.now (stack c.args.forms.now) c.args.builder.now c.args.form c.args.at c.args.next c.requires.awaited
-
-pub returns-clause-fixes : goal.returns-clause-fixes
-returns-clause-fixes c = scalar_fixes c.args.text.now c.args.form c.args.at c.args.next (follows_get_att c.args.text.now c.args.form c.args.at) c.args.builder.now c.take_block_scalar.new.builder c.in-Ok.position c.utf8.text c.requires.awaited.seen c.requires.awaited.boundary (place_behind c.args.text.now (stack c.args.forms.now) c.args.builder.now c.args.form c.args.at c.args.next c.requires.awaited) c.requires.awaited.block c.requires.no_key c.in-Ok.ensures.holds
-    (sym c.is_pointed.ensures ∙ c.if-is_pointed.false)
+returns-in-Err-clause-gives c = λ other awaited same.
+    let fs = stack c.args.forms.now in
+    let u = c.args.builder.now in
+    let P = Awaits other fs u.outer u.done u.key c.args.at in
+    subst (λ (e : Stop). Gives other P (2 * c.args.at + 1) fs c.scalar_there.new.builder (Err e)) (sym c.split_stop.ensures)
+    (split_gives c.args.text.now c.is_split-split.result other P (2 * c.args.at + 1) fs c.scalar_there.new.builder c.in-Err.stop (c.in-Err.ensures.gives other awaited same))
 
 pub returns-in-Err-clause-stops : goal.returns-in-Err-clause-stops
 returns-in-Err-clause-stops c =
+    let text = c.args.text.now in
     let fs = stack c.args.forms.now in
-    torn_stops c.args.text.now c.utf8.text fs c.args.builder.now c.args.at c.args.form c.args.next c.requires.awaited c.requires.starts c.requires.takes (Err c.in-Err.stop)
-    (failed_stops c.args.text.now (setting_of c.args.form) false c.args.at c.args.next (NoValue c.args.at c.args.next c.args.form (stack c.args.forms.now) c.args.builder.now) c.requires.awaited.seen.0 c.requires.starts
-    (λ other none. no_value other fs c.args.builder.now c.args.form c.args.at c.args.next c.requires.starts c.requires.takes none)) c.in-Err.ensures.place
-
-pub returns-then-is_pointed-clause-stops : goal.returns-then-is_pointed-clause-stops
-returns-then-is_pointed-clause-stops c = inl (inl c.offset.ensures)
+    let u = c.args.builder.now in
+    subst (λ (e : Stop). Stops text c.args.at (NoValue c.args.at c.args.next c.args.form fs u) (Err e)) (sym c.split_stop.ensures)
+    (block_split_stops text c.utf8.text fs u c.args.at c.args.form c.args.next c.requires.awaited c.requires.starts c.requires.takes c.requires.no_key c.is_split-split.result c.in-Err.stop
+    (c.is_split-split.ensures ∙ ap (λ n. is_split text n c.args.form c.args.at c.args.next.at) c.depth-depth.ensures) c.in-Err.ensures.runs c.in-Err.ensures.stops)
 
 pub returns-in-Err-clause-longer : goal.returns-in-Err-clause-longer
-returns-in-Err-clause-longer c = unread_on (LengthensAt c.args.text.now stage.Value (stack c.args.forms.now) c.args.builder.now c.args.at) (Err c.in-Err.stop)
-    (λ q h. torn_lengthens c.args.text.now c.utf8.text (stack c.args.forms.now) c.args.builder.now c.args.at c.args.form c.args.next c.requires.awaited c.requires.starts c.requires.takes q (c.in-Err.ensures.place q h)
-    (λ p failed un. scalar_lengthens c.args.text.now c.utf8.text (stack c.args.forms.now) c.args.builder.now c.args.at c.requires.awaited.boundary c.args.form c.args.next p c.requires.awaited c.requires.starts c.requires.takes failed un))
-
-pub returns-then-is_pointed-clause-longer : goal.returns-then-is_pointed-clause-longer
-returns-then-is_pointed-clause-longer c =
-    line_mends c.args.text.now c.utf8.text (stack c.args.forms.now) c.args.builder.now c.args.at c.requires.awaited.boundary c.args.form c.args.next (follows_get_att c.args.text.now c.args.form c.args.at) c.take_block_scalar.new.builder c.in-Ok.position c.offset.result c.requires.awaited c.requires.takes c.in-Ok.ensures.holds
-    (sym c.is_pointed.ensures ∙ c.if-is_pointed.true) c.offset.ensures
-
-pub returns-clause-opens : goal.returns-clause-opens
-returns-clause-opens c = form_opening (stack c.args.forms.now) c.args.form (Ok c.in-Ok.position) c.requires.awaited.form c.requires.awaited.block
-
-pub returns-clause-extends : goal.returns-clause-extends
-returns-clause-extends c =
-    scalar_extends c.args.text.now (stack c.args.forms.now) c.args.builder.now c.take_block_scalar.new.builder c.args.form c.args.at c.args.next (follows_get_att c.args.text.now c.args.form c.args.at) c.in-Ok.position c.utf8.text c.requires.awaited c.requires.no_key c.in-Ok.ensures.holds
-    (sym c.is_pointed.ensures ∙ c.if-is_pointed.false) (returns-clause-gives c)
+returns-in-Err-clause-longer c =
+    let text = c.args.text.now in
+    let fs = stack c.args.forms.now in
+    let u = c.args.builder.now in
+    subst (λ (e : Stop). Lengthens text stage.Value fs u c.args.at (Err e)) (sym c.split_stop.ensures)
+    (block_split_lengthens text c.utf8.text fs u c.args.at c.args.form c.args.next c.requires.awaited c.requires.starts c.requires.takes c.requires.no_key c.is_split-split.result c.in-Err.stop
+    (c.is_split-split.ensures ∙ ap (λ n. is_split text n c.args.form c.args.at c.args.next.at) c.depth-depth.ensures) c.in-Err.ensures.runs c.in-Err.ensures.stops c.in-Err.ensures.longer)
 
 pub returns-in-Err-clause-again : goal.returns-in-Err-clause-again
 returns-in-Err-clause-again c = λ starts.
-    scalar_again c.args.text.now (stack c.args.forms.now) c.args.builder.now c.take_block_scalar.new.builder c.args.form c.args.at c.args.next (Err c.in-Err.stop) c.requires.awaited c.requires.starts c.requires.takes c.requires.no_key c.in-Err.ensures.holds
+    let text = c.args.text.now in
+    let fs = stack c.args.forms.now in
+    subst (λ (e : Stop). SignStays text stage.Value fs c.args.builder.now c.args.at (Err e)) (sym c.split_stop.ensures)
+    (split_again text c.is_split-split.result (NoneLonger text stage.Value fs c.args.builder.now c.args.at) c.in-Err.stop (c.in-Err.ensures.again starts))

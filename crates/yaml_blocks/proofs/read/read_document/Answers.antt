@@ -96,19 +96,19 @@ loop-alloc-smaller c =
     nearer p.stage next.stage p.at next.at (length c.args.text.now) g.2.0 g.3
 
 pub returns-in-Err-clause-syntax : goal.returns-in-Err-clause-syntax
-returns-in-Err-clause-syntax c = λ placed. c.in-Err.ensures.shown placed.0
+returns-in-Err-clause-syntax c = λ last. c.in-Err.ensures.shown last
 
 pub returns-in-Err-root-clause-syntax : goal.returns-in-Err-root-clause-syntax
-returns-in-Err-root-clause-syntax c = λ placed. memory_syntax c.args.text.now c.in-Err-root.stop c.in-Err-root.ensures.memory
+returns-in-Err-root-clause-syntax c = λ last. memory_syntax c.args.text.now c.in-Err-root.stop c.in-Err-root.ensures.memory
 
 pub returns-in-Err-step-clause-syntax : goal.returns-in-Err-step-clause-syntax
-returns-in-Err-step-clause-syntax c = λ placed.
+returns-in-Err-step-clause-syntax c = λ last.
     let text = c.args.text.now in
     let p = c.loop-alloc.position in
     let fs = stack c.loop-alloc.forms.items in
     let v = c.loop-alloc.invariant in
     step_syntax text c.utf8.text p fs (stack c.step.new.forms.items) c.loop-alloc.builder c.step.new.builder (reached p.stage p.at) c.in-Err-step.stop v.1 v.2 v.4 (c.goes_on.ensures.yes c.loop-alloc-test.true) v.0.1 v.0.2 v.3
-    (c.in-Err-step.ensures.gives text c.utf8.text v.0.2 v.0.1 (same_step text p.stage (top fs) p.at)) c.in-Err-step.ensures.stops c.in-Err-step.ensures.longer placed.0 placed.1
+    (c.in-Err-step.ensures.gives text c.utf8.text v.0.2 v.0.1 (same_step text p.stage (top fs) p.at)) c.in-Err-step.ensures.stops c.in-Err-step.ensures.longer last
 
 pub returns-in-Err-root-clause-again : goal.returns-in-Err-root-clause-again
 returns-in-Err-root-clause-again c = memory_again c.args.text.now c.in-Err-root.stop c.in-Err-root.ensures.memory

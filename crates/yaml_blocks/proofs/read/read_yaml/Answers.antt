@@ -2,7 +2,7 @@ use Rattle.std.proofs.Common.{◌≡◌, sym, ap, ◌∙◌, subst}
 use Rattle.std.specs.Prelude.{Err}
 use Rattle.yaml_blocks.specs.Answers.{Refuses}
 use Rattle.yaml_blocks.specs.declared.refusal.YamlRefusal.TheVariants.{NoMemory}
-use Rattle.yaml_blocks.proofs.LacksTags.{placed_fed, placed_of, refuses_of}
+use Rattle.yaml_blocks.proofs.ReadTwice.{refuses_of}
 use Rattle.yaml_blocks.proofs.Roots.{stop_memory}
 use Rattle.yaml_blocks.proofs.read.read_yaml.Goals as goal
 
@@ -15,4 +15,4 @@ pub returns-in-Err-clause-answer : goal.returns-in-Err-clause-answer
 returns-in-Err-clause-answer c =
     let text = c.args.text.now in
     subst (Refuses text) (sym c.refusal_of.ensures)
-    (refuses_of text c.in-Err.stop c.in-Err.ensures.answer c.in-Err.ensures.late (λ lacks. c.in-Err.ensures.placed (λ last. placed_of text lacks last) (λ last. placed_fed text lacks)))
+    (refuses_of text c.in-Err.stop c.in-Err.ensures.answer c.in-Err.ensures.placed)

@@ -1,4 +1,4 @@
-use Rattle.std.proofs.Common.{◌≡◌, ◌<◌, ◌-◌, ℕ, List, length, inl, inr, subst, sym, arith}
+use Rattle.std.proofs.Common.{◌<◌, ℕ, List, length, inl, inr, arith}
 use Rattle.yaml_blocks.specs.Places.{IsSyntax}
 use Rattle.yaml_blocks.proofs.DeadPlaces.{later_dead}
 use Rattle.yaml_blocks.proofs.twice.place_at_end.Goals as goal

@@ -1,16 +1,12 @@
-use Rattle.std.proofs.Common.{inl, inr, refl, length, [], ◌∷◌, ◌++◌}
+use Rattle.std.proofs.Common.{inr, refl, length, [], ◌∷◌, ◌++◌}
 use Rattle.yaml_blocks.proofs.ReadTwice.{placed_again, says_some, short_again}
 use Rattle.yaml_blocks.proofs.twice.read_again.Goals as goal
 
 pub returns-in-None-clause-placed : goal.returns-in-None-clause-placed
-returns-in-None-clause-placed c = λ p. short_again c.args.text.now c.offset.result c.offset.ensures c.in-None.ensures
+returns-in-None-clause-placed c = short_again c.args.text.now c.offset.result c.offset.ensures c.in-None.ensures
 
 pub returns-in_default : goal.returns-in_default
 returns-in_default c = record {
   unread = inr (c.place_at_end.result, refl);
-  placed = λ p. c.place_at_end.ensures.is c.args.text.now refl (placed_again c.args.text.now c.returned_place.result (length c.args.text.now) c.in-Some.stop refl c.requires.returned c.returned_place.ensures (says_some (c.args.text.now ++ (10 ∷ [])) c.in-Some.stop c.in_default.not-NoMemory c.in-Some.ensures p));
-  late = inr c.place_at_end.ensures.late;
+  placed = c.place_at_end.ensures.is c.args.text.now refl (placed_again c.args.text.now c.returned_place.result (length c.args.text.now) c.in-Some.stop refl c.requires.returned c.returned_place.ensures (says_some (c.args.text.now ++ (10 ∷ [])) c.in-Some.stop c.in_default.not-NoMemory c.in-Some.ensures));
 }
-
-pub returns-in-None-clause-late : goal.returns-in-None-clause-late
-returns-in-None-clause-late c = inl (short_again c.args.text.now c.offset.result c.offset.ensures c.in-None.ensures)
