@@ -3,29 +3,32 @@ use Rattle.std.proofs.Common.{◌≡◌, ℕ, ◌+◌, ◌<◌, ◌≤◌, Bool,
 use Rattle.std.specs.Prelude.{slice_index, slice_set, OnErr, Result, Ok, Err}
 use Rattle.std.specs.Str.{bytes_eq}
 use Rattle.std.specs.Cow.{cow_str_bytes}
-use Rattle.std.specs.Cmp.Lexicographic.{slice_cmp}
-use Rattle.std.specs.Ordering.{nat_cmp}
-use Rattle.std.specs.BTreeMap.{BTreeMap, UpdatesBy, IsUnchanged}
 use Rattle.std.specs.declared.borrow.CowStr.{CowStr}
-use Rattle.std.specs.declared.borrow.CowStr.TheVariants.{Borrowed}
 use Rattle.std.specs.declared.alloc.Global.{Global}
 use Rattle.std.proofs.lemmas.Bool.{cases_lt, cases_eq}
 use Rattle.std.proofs.lemmas.List.{get_or_at, get_or_append_left, length-set, get_or-set_same, get_or-set_other}
-use Rattle.std.proofs.lemmas.Map.Text.{is_eq-slice_cmp}
 use Rattle.std.proofs.lemmas.Slice.Eq.{bytes_eq-Decides}
 use Rattle.doc_values.specs.declared.names.Names.{Names}
-use Rattle.doc_values.specs.code.Names.{number_in, name_of, texts_of, IsTable, IsBefore, IsSame}
-
--- a text that is borrowed
-abbrev cow : List ℕ → CowStr Global
-cow j = Borrowed (record { ref_ptr = (0, 0); now = j })
-
--- the numbers behind a change at a name
-pub numbers_after : (old new : BTreeMap (CowStr Global) ℕ) (k : List ℕ) (w : Option ℕ) → UpdatesBy (λ x y. slice_cmp nat_cmp (cow_str_bytes x) (cow_str_bytes y)) (λ y. slice_cmp nat_cmp k (cow_str_bytes y)) old new w → (j : List ℕ) → number_in new j ≡ cond (bytes_eq k j) w (number_in old j)
-numbers_after old new k w u j = u.0 (cow j) ∙ ap (λ b. cond b w (number_in old j)) (is_eq-slice_cmp k j)
+use Rattle.doc_values.specs.code.Names.{name_of, texts_of, IsTable, IsBefore, IsSame}
 
 bytes_same : (k : List ℕ) → bytes_eq k k ≡ true
 bytes_same k = (bytes_eq-Decides k k).1 refl
+
+none_some : (o : Option ℕ) (n : ℕ) → o ≡ None → o ≡ Some n → ⊥
+none_some o n e f = cc
+
+-- no names
+pub IsTable-none : (ns : Names) → ((k : List ℕ) → name_of ns k ≡ None) → ns.texts.items ≡ [] → ns.followers.items ≡ [] → ns.before ≡ None → IsTable ns
+IsTable-none ns unknown texts fs before =
+    let none : length (texts_of ns) ≡ 0 = ap (λ (ts : List (CowStr Global)). length (map cow_str_bytes ts)) texts in
+    let none_follow : length ns.followers.items ≡ 0 = ap (λ (xs : List ℕ). length xs) fs in
+    record {
+      known = λ k n e. absurd (none_some (name_of ns k) n (unknown k) e);
+      listed = λ n l. absurd (omega arith);
+      followed = none_follow ∙ sym none;
+      follows = λ n l. absurd (omega arith);
+      before = subst (λ (o : Option ℕ). IsBefore o (length (texts_of ns))) (sym before) tt;
+    }
 
 -- a name that was not there, with the next number
 pub record IsNew (old new : Names) (k : List ℕ) (n : ℕ) : Type 0 where
@@ -38,9 +41,6 @@ pub record IsNew (old new : Names) (k : List ℕ) (n : ℕ) : Type 0 where
 
 some_is : (m n : ℕ) → Some m ≡ Some n → m ≡ n
 some_is m n e = cc
-
-none_some : (o : Option ℕ) (n : ℕ) → o ≡ None → o ≡ Some n → ⊥
-none_some o n e f = cc
 
 longer : (old new : Names) (k : List ℕ) (n : ℕ) → IsNew old new k n → length (texts_of new) ≡ length (texts_of old) + 1
 longer old new k n h = ap length h.texts ∙ length-append (texts_of old) (k ∷ [])
@@ -109,10 +109,6 @@ IsSame-texts old new names texts fs before t = record {
 
 pub IsSame-of : (old new : Names) → ((j : List ℕ) → name_of new j ≡ name_of old j) → new.texts.items ≡ old.texts.items → new.followers.items ≡ old.followers.items → new.before ≡ old.before → IsTable old → IsSame old new
 IsSame-of old new names items fs before t = IsSame-texts old new names (ap (map cow_str_bytes) items) fs before t
-
--- the map of numbers after a refusal
-pub numbers_kept : (old new : Names) → IsUnchanged old.numbers new.numbers → (j : List ℕ) → name_of new j ≡ name_of old j
-numbers_kept old new e j = grind arith
 
 -- a guess more
 pub IsTable-follow : (old new : Names) (b n : ℕ) → IsTable old → n < length (texts_of old) → new.texts.items ≡ old.texts.items → ((j : List ℕ) → name_of new j ≡ name_of old j) → new.followers.items ≡ slice_set old.followers.items b n → new.before ≡ Some n → IsTable new

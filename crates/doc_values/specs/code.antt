@@ -13,5 +13,6 @@ pub mod Parts
 pub mod Reading
 pub mod Rows
 pub mod Stored
+pub mod TextNumbers
 pub mod Uses
 pub mod WellFormed

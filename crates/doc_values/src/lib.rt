@@ -16,6 +16,7 @@ mod names;
 mod node;
 mod number;
 pub mod position;
+mod text_numbers;
 mod uses;
 mod wide;
 

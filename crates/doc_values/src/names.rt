@@ -1,12 +1,11 @@
 //! The names of keys.
-ghost use Rattle.std.specs.Prelude.{◌≡◌, ℕ, ◌<◌, List, [], ◌∷◌, ◌++◌, length, Option, Some, None, IsSome, IfOk, OnErr, slice_index_or, false};
+ghost use Rattle.std.specs.Prelude.{◌≡◌, ◌<◌, [], ◌++◌, length, None, IfOk, OnErr, slice_index_or};
 ghost use Rattle.std.specs.Cow.{cow_str_bytes};
-ghost use Rattle.std.specs.Str.{bytes_eq};
-ghost use Rattle.doc_values.specs.code.Names.{number_in, name_of, texts_of, IsTable, IsSame, Adds, Has, Joins};
+ghost use Rattle.doc_values.specs.code.Names.{name_of, texts_of, IsTable, IsSame, Adds, Has, Joins};
 
+use crate::text_numbers::TextNumbers;
 use std::alloc::{AllocError, Global};
 use std::borrow::CowStr;
-use std::collections::BTreeMap;
 use std::mem;
 
 /// The most names: a name's number has 32 bits.
@@ -15,14 +14,12 @@ const NAMES: usize = 4294967295;
 /// The names of the keys of a tree, each of which has a number.
 ///
 /// A document repeats a few names in a few orders, so the name that followed a name the last time is most often the next
-/// one, and a comparison of bytes tells. Only else the ordered map is asked. Its names are owned: a tree that borrows
-/// nothing can then stand where one that borrows is wanted, since the borrow checker shortens no lifetime inside an ordered
-/// map.
+/// one, and a comparison of bytes tells. Only else the name is looked up by its bytes.
 #[derive(Drop)]
 pub struct Names<'s> {
     /// The text of each name, by its number.
     pub texts: Vec<CowStr<'s>>,
-    pub numbers: BTreeMap<CowStr<'static>, u32>,
+    pub numbers: TextNumbers,
     /// The number of the name that followed each the last time.
     pub followers: Vec<u32>,
     /// The number of the name that was there last.
@@ -38,7 +35,7 @@ impl<'s> Names<'s> {
     {
         Names {
             texts: Vec::new(alloc),
-            numbers: BTreeMap::new(alloc),
+            numbers: TextNumbers::new(alloc),
             followers: Vec::new(alloc),
             before: None,
             alloc,
@@ -53,11 +50,11 @@ impl<'s> Names<'s> {
         self.texts[number as usize].as_str()
     }
 
-    /// The number of a name by the ordered map, if it is known.
+    /// The number of a name by its bytes, if it is known.
     pub fn found(&self, key: &str) -> Option<u32>
         ensures { result ≡ name_of self.now key.now }
     {
-        self.numbers.get(key).copied()
+        self.numbers.get(key)
     }
 
     /// The number of a name, if it is known.
@@ -81,28 +78,13 @@ impl<'s> Names<'s> {
         ensures ok { IfOk result (λ n. (n ≡ length (texts_of self.old)) × Adds self.old self.new (cow_str_bytes text.old)) }
         ensures err { OnErr result (IsSame self.old self.new × (cow_str_bytes text.new ≡ cow_str_bytes text.old)) }
     {
-        let key = String::from_str(self.alloc, text.as_str())?;
-        self.put(CowStr::Owned(key), text)
-    }
-
-    /// The same with the text as the ordered map keeps it.
-    fn put(&mut self, key: CowStr<'static>, text: &mut CowStr<'s>) -> Result<u32, AllocError>
-        requires table { IsTable self.old }
-        requires new { name_of self.old (cow_str_bytes text.old) ≡ None }
-        requires same { cow_str_bytes key ≡ cow_str_bytes text.old }
-        ensures ok { IfOk result (λ n. (n ≡ length (texts_of self.old)) × Adds self.old self.new (cow_str_bytes text.old)) }
-        ensures err { OnErr result (IsSame self.old self.new × (cow_str_bytes text.new ≡ cow_str_bytes text.old)) }
-    {
         let count = self.texts.len();
         if NAMES <= count {
             return Err(AllocError);
         }
         self.texts.reserve(1)?;
         self.followers.reserve(1)?;
-        match self.numbers.insert(key, count as u32) {
-            Ok(_) => {}
-            Err(_) => return Err(AllocError),
-        }
+        self.numbers.insert(text.as_str(), count as u32)?;
         self.followers.push_reserved(0);
         self.texts
             .push_reserved(mem::replace(text, CowStr::Borrowed("")));
@@ -153,36 +135,27 @@ impl<'s> Names<'s> {
     {
         let Names {
             texts,
-            mut numbers,
+            numbers: _,
             followers: _,
             before: _,
             alloc,
         } = other;
         let mut joined = Vec::new(alloc);
         for text in texts {
-            joined.push(self.take_in(&mut numbers, text)?)?;
+            joined.push(self.take_in(text)?)?;
         }
         Ok(joined)
     }
 
-    /// The number here of a name of another table, which has these numbers. A new name is moved from there.
-    fn take_in(
-        &mut self,
-        numbers: &mut BTreeMap<CowStr<'static>, u32>,
-        mut text: CowStr<'s>,
-    ) -> Result<u32, AllocError>
-        requires table { IsTable self.old }
-        requires there { IsSome (number_in numbers.old (cow_str_bytes text)) }
-        ensures number { IfOk result (λ n. Has self.old self.new (cow_str_bytes text.entry) n) }
-        ensures others { (k : List ℕ) → bytes_eq (cow_str_bytes text.entry) k ≡ false → number_in numbers.new k ≡ number_in numbers.old k }
+    /// The number of a name, which is moved into the table if it is new there.
+    fn take_in(&mut self, mut text: CowStr<'s>) -> Result<u32, AllocError>
+        requires { IsTable self.old }
+        ensures { IfOk result (λ n. Has self.old self.new (cow_str_bytes text.entry) n) }
     {
         if let Some(number) = self.found(text.as_str()) {
             return Ok(number);
         }
-        let Some((key, _)) = numbers.remove_entry(text.as_str()) else {
-            unreachable!()
-        };
-        self.put(key, &mut text)
+        self.add(&mut text)
     }
 
     /// The same with texts of its own.

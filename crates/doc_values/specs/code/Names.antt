@@ -1,19 +1,12 @@
 -- The names of keys: each has a number, by which its text is found.
 use Rattle.std.specs.Prelude.{ℕ, ◌<◌, ◌≡◌, List, [], ◌∷◌, ◌++◌, map, length, slice_index, slice_index_or, Option, Some, None}
-use Rattle.std.specs.Ordering.{nat_cmp}
-use Rattle.std.specs.Cmp.Lexicographic.{slice_cmp}
-use Rattle.std.specs.BTreeMap.{BTreeMap, get_by}
 use Rattle.std.specs.Cow.{cow_str_bytes}
-use Rattle.std.specs.declared.borrow.CowStr.{CowStr}
-use Rattle.std.specs.declared.alloc.Global.{Global}
+use Rattle.doc_values.specs.code.TextNumbers.{number_in}
 use Rattle.doc_values.specs.declared.names.Names.{Names}
 
 -- the number of a name
-abbrev pub number_in : BTreeMap (CowStr Global) ℕ → List ℕ → Option ℕ
-number_in numbers k = get_by (λ c. slice_cmp nat_cmp k (cow_str_bytes c)) numbers
-
 abbrev pub name_of : Names → List ℕ → Option ℕ
-name_of ns k = number_in ns.numbers k
+name_of ns k = number_in ns.numbers.links k
 
 -- the texts, by their numbers
 abbrev pub texts_of : Names → List (List ℕ)

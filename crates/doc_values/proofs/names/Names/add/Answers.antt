@@ -4,8 +4,8 @@ use Rattle.std.specs.Cow.{cow_str_bytes}
 use Rattle.std.proofs.lemmas.List.{length-map, map_push}
 use Rattle.doc_values.specs.code.Names.{name_of, texts_of}
 use Rattle.doc_values.specs.declared.names.Names.{Names}
-use Rattle.doc_values.proofs.Table.{IsNew, IsTable-new, IsSame-of, numbers_after, numbers_kept, on_err}
-use Rattle.doc_values.proofs.names.Names.put.Goals as goal
+use Rattle.doc_values.proofs.Table.{IsNew, IsTable-new, IsSame-of, on_err}
+use Rattle.doc_values.proofs.names.Names.add.Goals as goal
 
 pub returns-in_err-reserve-clause-err : goal.returns-in_err-reserve-clause-err
 returns-in_err-reserve-clause-err c =
@@ -17,11 +17,11 @@ returns-in_err-reserve-2-clause-err c =
     let old : Names = c.args.self.now in
     on_err c.from_residual-in_err-reserve-2.result (IsSame-of old (record { texts = c.reserve.new.self; numbers = old.numbers; followers = c.reserve-2.new.self; before = old.before; alloc = old.alloc }) (λ j. refl) c.reserve.ensures.items c.reserve-2.ensures.items refl c.requires.table, refl)
 
-pub returns-in-Err-clause-err : goal.returns-in-Err-clause-err
-returns-in-Err-clause-err c =
+pub returns-in_err-insert-clause-err : goal.returns-in_err-insert-clause-err
+returns-in_err-insert-clause-err c =
     let old : Names = c.args.self.now in
     let new : Names = record { texts = c.reserve.new.self; numbers = c.insert.new.self; followers = c.reserve-2.new.self; before = old.before; alloc = old.alloc } in
-    (IsSame-of old new (numbers_kept old new c.in-Err.ensures.err) c.reserve.ensures.items c.reserve-2.ensures.items refl c.requires.table, refl)
+    on_err c.from_residual-in_err-insert.result (IsSame-of old new c.in_err-insert.ensures.err c.reserve.ensures.items c.reserve-2.ensures.items refl c.requires.table, refl)
 
 pub returns-clause-ok : goal.returns-clause-ok
 returns-clause-ok c =
@@ -36,7 +36,7 @@ returns-clause-ok c =
     ∙ ap (λ t. texts_of old ++ cow_str_bytes t ∷ []) c.replace.ensures.value in
     let is : IsNew old new k n = record {
       fresh = c.requires.new;
-      after = λ j. numbers_after old.numbers new.numbers (cow_str_bytes c.args.key) (Some n) c.in-Ok.ensures.updates j ∙ ap (λ (t : List ℕ). cond (bytes_eq t j) (Some n) (name_of old j)) c.requires.same;
+      after = λ j. c.in_ok-insert.ensures.ok j ∙ ap (λ (t : List ℕ). cond (bytes_eq t j) (Some n) (name_of old j)) c.as_str.ensures.value;
       texts = texts;
       next = number;
       followers = c.push_reserved.ensures.items ∙ ap (λ (xs : List ℕ). xs ++ 0 ∷ []) c.reserve-2.ensures.items;
