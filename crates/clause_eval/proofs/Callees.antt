@@ -15,7 +15,7 @@ use Rattle.scope_frames.proofs.RulesNamed.{calls-fit, refers-plain}
 use Rattle.clause_eval.specs.code.Answers.{StandsIn}
 use Rattle.clause_eval.specs.code.Falling.{depth_of}
 use Rattle.clause_eval.specs.code.States.{IsWhole, State}
-use Rattle.clause_eval.proofs.BodiesApart.{body-at, plain-else}
+use Rattle.scope_frames.proofs.BodiesApart.{body-at, plain-else}
 use Rattle.clause_eval.proofs.Elements.{some-there}
 use Rattle.clause_eval.proofs.Falls.{called-falls, referred-falls}
 use Rattle.clause_eval.proofs.Shaped.{rule-verdict}

@@ -22,7 +22,7 @@ use Rattle.clause_eval.specs.code.Entered.{Enters, MayHaveValue}
 use Rattle.clause_eval.specs.code.Falling.{height_at}
 use Rattle.clause_eval.specs.code.Inside.{AreInside, IsInside, conds_sited, inner_of_step}
 use Rattle.clause_eval.specs.code.States.{IsWhole, State}
-use Rattle.clause_eval.proofs.BodiesApart.{plain-else}
+use Rattle.scope_frames.proofs.BodiesApart.{plain-else}
 use Rattle.clause_eval.proofs.BodyValues.{filter-value}
 use Rattle.clause_eval.proofs.Evaluating.{Evaluates-none, same-file, same-height}
 use Rattle.clause_eval.proofs.Finished.{line-there}

@@ -3,7 +3,6 @@ mod AddsLines
 mod AddsRows
 mod BesideTables
 mod BodiesAnswered
-mod BodiesApart
 mod BodyValues
 mod Callees
 mod CallsAdded

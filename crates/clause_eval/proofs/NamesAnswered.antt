@@ -25,12 +25,12 @@ use Rattle.rule_names.specs.WellNamed.{WellNamed}
 use Rattle.rule_names.proofs.Shapes.{query-seen}
 use Rattle.rule_meaning.specs.Places.{step_in, steps_in}
 use Rattle.evidence_rules.specs.CitedLines.{GivesPiece, IsLine, args_at}
-use Rattle.scope_frames.specs.code.Cells.{cell_by, cell_of, slot_of}
+use Rattle.scope_frames.specs.code.Cells.{cell_by, cell_in, cell_of, slot_of}
 use Rattle.scope_frames.specs.code.Frames.{outwards}
 use Rattle.scope_frames.specs.code.Scoping.{up_of}
 use Rattle.scope_frames.specs.declared.cell.Cell.{Cell}
-use Rattle.scope_frames.specs.declared.cell.Slot.TheVariants as slot
 use Rattle.scope_frames.specs.declared.frame.Frame.{Frame}
+use Rattle.scope_frames.proofs.ArgumentsSeen.{expr-counted, expr-listed}
 use Rattle.clause_eval.specs.code.Adding.{Added, line_for}
 use Rattle.clause_eval.specs.code.Answers.{AnswersArgument, AnswersCapture, AnswersExpr, AnswersPiece, AnswersQuery, AnswersStepAt, AnswersVariable, GivesStepAt, IsCapturing, IsLetValue, IsParameter, IsUse, StandsIn, StandsUpTo, above, argument_bound, bound_of}
 use Rattle.clause_eval.specs.code.Evaluated.{Evaluates}
@@ -53,37 +53,19 @@ use Rattle.clause_eval.proofs.VariablesSaid.{argument-said, capture-said, framed
 
 -- ---- the cell of a name
 
--- what it says
-cell-told : (f : File) (frames : List Frame) (frame site : ℕ) (cell : Cell) → cell_of f frames frame site ≡ Some cell
-    → (b : Bind) × (bind_of f site ≡ Some b) × (outwards f frames (up_of b) frame ≡ Some cell.frame) × (slot_of b ≡ cell.slot)
-cell-told f frames frame site cell is = by (bind_of f site) refl is
+-- it is one of the frame so many frames further out
+cell-frame : (f : File) (frames : List Frame) (frame site : ℕ) (cell : Cell) (b : Bind) → cell_of f frames frame site ≡ Some cell → bind_of f site ≡ Some b
+    → outwards f frames (up_of b) frame ≡ Some cell.frame
+cell-frame f frames frame site cell b is means = out (outwards f frames (up_of b) frame) refl (sym (ap (option_and_then (cell_by f frames frame)) means) ∙ is)
   where
-    out : (b : Bind) → bind_of f site ≡ Some b → (o : Option ℕ) → outwards f frames (up_of b) frame ≡ o → option_map (λ (at : ℕ). record { frame = at; slot = slot_of b }) o ≡ Some cell
-        → (b : Bind) × (bind_of f site ≡ Some b) × (outwards f frames (up_of b) frame ≡ Some cell.frame) × (slot_of b ≡ cell.slot)
-    out b means None at e = absurd (none-some cell e)
-    out b means (Some n) at e =
-        let same : record { frame = n; slot = slot_of b } ≡ cell = same_Some (record { frame = n; slot = slot_of b }) cell e in
-        (b, means, at ∙ ap (λ (x : Cell). Some x.frame) same, ap (λ (x : Cell). x.slot) same)
+    slot : (n : ℕ) → outwards f frames (up_of b) frame ≡ Some n → (o : Option ℕ) → option_map (λ (at : ℕ). record { frame = n; slot = at }) o ≡ Some cell
+        → outwards f frames (up_of b) frame ≡ Some cell.frame
+    slot n at None e = absurd (none-some cell e)
+    slot n at (Some k) e = at ∙ ap (λ (x : Cell). Some x.frame) (same_Some (record { frame = n; slot = k }) cell e)
 
-    by : (o : Option Bind) → bind_of f site ≡ o → option_and_then (cell_by f frames frame) o ≡ Some cell
-        → (b : Bind) × (bind_of f site ≡ Some b) × (outwards f frames (up_of b) frame ≡ Some cell.frame) × (slot_of b ≡ cell.slot)
-    by None means e = absurd (none-some cell e)
-    by (Some b) means e = out b means (outwards f frames (up_of b) frame) refl e
-
-let-slot : (b : Bind) (value : ℕ) → slot_of b ≡ slot.Let value → (up : ℕ) × (b ≡ Value up value)
-let-slot (Value up site) value e = (up, let same : site ≡ value = cc in ap (Value up) same)
-let-slot (Capture up step) value e = absurd cc
-let-slot (Param up index) value e = absurd cc
-
-capture-slot : (b : Bind) (step : ℕ) → slot_of b ≡ slot.Capture step → (up : ℕ) × (b ≡ Capture up step)
-capture-slot (Value up site) step e = absurd cc
-capture-slot (Capture up at) step e = (up, let same : at ≡ step = cc in ap (Capture up) same)
-capture-slot (Param up index) step e = absurd cc
-
-param-slot : (b : Bind) (index : ℕ) → slot_of b ≡ slot.Param index → (up : ℕ) × (b ≡ Param up index)
-param-slot (Value up site) index e = absurd cc
-param-slot (Capture up step) index e = absurd cc
-param-slot (Param up i) index e = (up, let same : i ≡ index = cc in ap (Param up) same)
+    out : (o : Option ℕ) → outwards f frames (up_of b) frame ≡ o → option_and_then (cell_in f frames b) o ≡ Some cell → outwards f frames (up_of b) frame ≡ Some cell.frame
+    out None at e = absurd (none-some cell e)
+    out (Some n) at e = slot n at (slot_of f frames n b) e
 
 -- the bound of an argument
 pub argument-bound : (s : State) (frame index parent site : ℕ) (current : Ref) (es : Exprs) (e : Expr) → slice_get s.frames frame ≡ Some (record { parent = Some parent; site = site; current = current })
@@ -118,25 +100,20 @@ module _ (s : State) (whole : IsWhole s) (well : WellNamed s.known.file) (ordere
   framed-here = line-there s whole frame _ use_it.3.scope_is
 
   module _ (cell : Cell) (is : cell_of s.known.file s.frames frame site ≡ Some cell) where
-    told : (b : Bind) × (bind_of s.known.file site ≡ Some b) × (outwards s.known.file s.frames (up_of b) frame ≡ Some cell.frame) × (slot_of b ≡ cell.slot)
-    told = cell-told s.known.file s.frames frame site cell is
-
     -- a let
-    module _ (value : ℕ) (slot_is : cell.slot ≡ slot.Let value) where
-      let-named : (up : ℕ) × (bind_of s.known.file site ≡ Some (Value up value)) × (outwards s.known.file s.frames up frame ≡ Some cell.frame)
-      let-named =
-          let it = let-slot told.0 value (told.3 ∙ slot_is) in
-          (it.0, told.1 ∙ ap Some it.1, subst (λ (b : Bind). outwards s.known.file s.frames (up_of b) frame ≡ Some cell.frame) it.1 told.2)
+    module _ (up value : ℕ) (means : bind_of s.known.file site ≡ Some (Value up value)) where
+      let-out : outwards s.known.file s.frames up frame ≡ Some cell.frame
+      let-out = cell-frame s.known.file s.frames frame site cell (Value up value) is means
 
       pub let-stands : IsLetValue s cell.frame value
       let-stands =
           let u = use_it in
-          value-stands s whole well ordered frame site u.0 u.1 u.3 u.2 u.4 u.5 let-named.0 value cell.frame let-named.1 let-named.2
+          value-stands s whole well ordered frame site u.0 u.1 u.3 u.2 u.4 u.5 up value cell.frame means let-out
 
       let-below : suc (height_at s.known.file s.frames cell.frame value) ≤ height_at s.known.file s.frames frame site
       let-below =
           let u = use_it in
-          value-lower s whole well ordered frame site u.0 u.1 u.3 u.2 u.4 u.5 let-named.0 value cell.frame let-named.1 let-named.2
+          value-lower s whole well ordered frame site u.0 u.1 u.3 u.2 u.4 u.5 up value cell.frame means let-out
 
       pub let-rank : (t : ℕ) → rank_in s frame site 1 ≡ t → rank_in s cell.frame value 6 < t
       let-rank t owed = let low = let-below in rank-below s s frame cell.frame site value 1 6 t owed (omega (arith, low)) (omega arith)
@@ -144,24 +121,22 @@ module _ (s : State) (whole : IsWhole s) (well : WellNamed s.known.file) (ordere
       pub let-answer : (b : State) (number : ℕ) → AnswersPiece s b cell.frame value number → AnswersVariable s b frame site number
       let-answer b number it =
           let here = framed-here in
-          let-said s b whole frame here.0 site cell.frame number (above s cell.frame value) let-named.0 here.1 let-named.2 let-below value let-named.1 it
+          let-said s b whole frame here.0 site cell.frame number (above s cell.frame value) up here.1 let-out let-below value means it
 
     -- a capture
-    module _ (step : ℕ) (slot_is : cell.slot ≡ slot.Capture step) where
-      capture-named : (up : ℕ) × (bind_of s.known.file site ≡ Some (Capture up step)) × (outwards s.known.file s.frames up frame ≡ Some cell.frame)
-      capture-named =
-          let it = capture-slot told.0 step (told.3 ∙ slot_is) in
-          (it.0, told.1 ∙ ap Some it.1, subst (λ (b : Bind). outwards s.known.file s.frames (up_of b) frame ≡ Some cell.frame) it.1 told.2)
+    module _ (up step : ℕ) (means : bind_of s.known.file site ≡ Some (Capture up step)) where
+      captured-out : outwards s.known.file s.frames up frame ≡ Some cell.frame
+      captured-out = cell-frame s.known.file s.frames frame site cell (Capture up step) is means
 
       pub captured-stands : IsCapturing s cell.frame step
       captured-stands =
           let u = use_it in
-          capture-stands s whole well ordered frame site u.0 u.1 u.3 u.2 u.4 u.5 capture-named.0 step cell.frame capture-named.1 capture-named.2
+          capture-stands s whole well ordered frame site u.0 u.1 u.3 u.2 u.4 u.5 up step cell.frame means captured-out
 
       captured-below : suc (height_beside s.known.file s.frames cell.frame step) ≤ height_at s.known.file s.frames frame site
       captured-below =
           let u = use_it in
-          capture-lower s whole well ordered frame site u.0 u.1 u.3 u.2 u.4 u.5 capture-named.0 step cell.frame capture-named.1 capture-named.2
+          capture-lower s whole well ordered frame site u.0 u.1 u.3 u.2 u.4 u.5 up step cell.frame means captured-out
 
       pub captured-rank : (t : ℕ) → rank_in s frame site 1 ≡ t → rank_in s cell.frame step 4 < t
       captured-rank t owed =
@@ -173,28 +148,26 @@ module _ (s : State) (whole : IsWhole s) (well : WellNamed s.known.file) (ordere
       pub captured-answer : (b : State) (number : ℕ) → AnswersCapture s b cell.frame step number → AnswersVariable s b frame site number
       captured-answer b number it =
           let here = framed-here in
-          capture-said s b whole frame here.0 site cell.frame number (suc (height_beside s.known.file s.frames cell.frame step)) capture-named.0 here.1 capture-named.2 captured-below step
-          capture-named.1 it
+          capture-said s b whole frame here.0 site cell.frame number (suc (height_beside s.known.file s.frames cell.frame step)) up here.1 captured-out captured-below step
+          means it
 
     -- a parameter
-    module _ (index : ℕ) (slot_is : cell.slot ≡ slot.Param index) where
-      param-named : (up : ℕ) × (bind_of s.known.file site ≡ Some (Param up index)) × (outwards s.known.file s.frames up frame ≡ Some cell.frame)
-      param-named =
-          let it = param-slot told.0 index (told.3 ∙ slot_is) in
-          (it.0, told.1 ∙ ap Some it.1, subst (λ (b : Bind). outwards s.known.file s.frames (up_of b) frame ≡ Some cell.frame) it.1 told.2)
+    module _ (up index : ℕ) (means : bind_of s.known.file site ≡ Some (Param up index)) where
+      param-out : outwards s.known.file s.frames up frame ≡ Some cell.frame
+      param-out = cell-frame s.known.file s.frames frame site cell (Param up index) is means
 
       pub param-stands : IsParameter s cell.frame index
       param-stands =
           let u = use_it in
-          let c = call-there s whole well ordered frame site u.0 u.1 u.3 u.2 u.4 u.5 param-named.0 index cell.frame param-named.1 param-named.2 in
-          let stands = argument-stands s whole well ordered frame site u.0 u.1 u.3 u.2 u.4 u.5 param-named.0 index cell.frame param-named.1 param-named.2 in
+          let c = call-there s whole well ordered frame site u.0 u.1 u.3 u.2 u.4 u.5 up index cell.frame means param-out in
+          let stands = argument-stands s whole well ordered frame site u.0 u.1 u.3 u.2 u.4 u.5 up index cell.frame means param-out in
           (c.parent, c.site, c.current, c.args, c.arg, c.frame_is, c.args_are, c.arg_is, stands)
 
       param-bound : argument_bound s cell.frame index ≤ height_at s.known.file s.frames frame site
       param-bound =
           let u = use_it in
-          let c = call-there s whole well ordered frame site u.0 u.1 u.3 u.2 u.4 u.5 param-named.0 index cell.frame param-named.1 param-named.2 in
-          let low = argument-lower s whole well ordered frame site u.0 u.1 u.3 u.2 u.4 u.5 param-named.0 index cell.frame param-named.1 param-named.2 in
+          let c = call-there s whole well ordered frame site u.0 u.1 u.3 u.2 u.4 u.5 up index cell.frame means param-out in
+          let low = argument-lower s whole well ordered frame site u.0 u.1 u.3 u.2 u.4 u.5 up index cell.frame means param-out in
           let is_bound = argument-bound s cell.frame index c.parent c.site c.current c.args c.arg c.frame_is c.args_are c.arg_is in
           omega (arith, low, is_bound)
 
@@ -204,7 +177,7 @@ module _ (s : State) (whole : IsWhole s) (well : WellNamed s.known.file) (ordere
       pub param-answer : (b : State) (number : ℕ) → AnswersArgument s b cell.frame (argument_bound s cell.frame index) index number → AnswersVariable s b frame site number
       param-answer b number it =
           let here = framed-here in
-          parameter-said s b whole frame here.0 site cell.frame number (argument_bound s cell.frame index) param-named.0 here.1 param-named.2 param-bound index param-named.1 it
+          parameter-said s b whole frame here.0 site cell.frame number (argument_bound s cell.frame index) up here.1 param-out param-bound index means it
 
 -- ---- the expression of a let
 
@@ -357,16 +330,6 @@ module _ (s : State) (whole : IsWhole s) (frame site : ℕ) (capturing : IsCaptu
           }
 
 -- ---- an argument
-
-expr-listed : (xs : List code.Expr) (i : ℕ) (x : code.Expr) → i < length xs → x ≡ get_or xs i x → expr_in (expr_list (map see_expr xs)) i ≡ Some (see_expr x)
-expr-listed [] i x within is = absurd (omega (arith, within))
-expr-listed (y ∷ xs) zero x within is = ap (λ (z : code.Expr). Some (see_expr z)) (sym is)
-expr-listed (y ∷ xs) (suc i) x within is = expr-listed xs i x (omega (arith, within)) is
-
-expr-counted : (xs : List code.Expr) (i : ℕ) (e : Expr) → expr_in (expr_list (map see_expr xs)) i ≡ Some e → i < length xs
-expr-counted [] i e is = absurd (none-some e is)
-expr-counted (x ∷ xs) zero e is = omega arith
-expr-counted (x ∷ xs) (suc i) e is = let rest = expr-counted xs i e is in omega (arith, rest)
 
 module _ (s : State) (whole : IsWhole s) (frame index : ℕ) (parameter : IsParameter s frame index) (args : List code.Expr) (are : args_at s.known.file parameter.1 ≡ Some (expr_list (map see_expr args))) where
   same-args : parameter.3 ≡ expr_list (map see_expr args)

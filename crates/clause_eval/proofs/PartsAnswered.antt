@@ -33,7 +33,7 @@ use Rattle.clause_eval.specs.code.Inside.{AreInside, IsInside, body_sited, conds
 use Rattle.clause_eval.specs.code.Kinds.{kind_of_part, own_kind}
 use Rattle.clause_eval.specs.code.States.{Grows, IsWhole, State}
 use Rattle.clause_eval.proofs.AddsLines.{adds-block, adds-guarded, adds-met-type, adds-plain-type, adds-unguarded, adds-unmet-type}
-use Rattle.clause_eval.proofs.BodiesApart.{inner_body, plain-inner}
+use Rattle.scope_frames.proofs.BodiesApart.{inner_body, plain-inner}
 use Rattle.clause_eval.proofs.BodyValues.{of-block, of-type, when-value}
 use Rattle.clause_eval.proofs.Evaluating.{Evaluates-none, Evaluates-then, Evaluates-under, same-file, same-height}
 use Rattle.clause_eval.proofs.InTurn.{SaidFor, said-next}

@@ -6,7 +6,7 @@ use Rattle.evidence_lines.specs.declared.line.Line.{Line}
 use Rattle.evidence_lines.specs.declared.line.LineKind.TheVariants as kind
 use Rattle.evidence_lines.specs.declared.line.Outcome.TheVariants as says
 use Rattle.evidence_lines.specs.declared.version.Version.TheVariants.{Two}
-use Rattle.guard_syntax.specs.Syntax.{Body, Disjs, OptConds, Rule, more_disjs, no_conds, no_disjs, with_conds}
+use Rattle.guard_syntax.specs.Syntax.{Body, Disjs, OptConds, more_disjs, no_conds, no_disjs, with_conds}
 use Rattle.guard_syntax.specs.declared.row.Verdict.{Verdict}
 use Rattle.guard_syntax.specs.declared.row.Verdict.TheVariants.{Fail, Pass, Skip}
 use Rattle.rule_meaning.specs.StoreModel.{StoreModel}

@@ -29,7 +29,7 @@ use Rattle.clause_eval.specs.code.Inside.{AreInside, IsInside, body_sited, conds
 use Rattle.clause_eval.specs.code.Leaning.{AreNamedBut, IsNamed}
 use Rattle.clause_eval.specs.code.Ruling.{IsFileFrame, IsReady, Judges, MayJudge, Rests}
 use Rattle.clause_eval.specs.code.States.{Grows, IsWhole, State}
-use Rattle.clause_eval.proofs.BodiesApart.{plain-body}
+use Rattle.scope_frames.proofs.BodiesApart.{plain-body}
 use Rattle.clause_eval.proofs.BodyValues.{rule-value}
 use Rattle.clause_eval.proofs.Elements.{one-among}
 use Rattle.clause_eval.proofs.Evaluating.{Evaluates-then, Evaluates-under, Grows-none, Grows-then, same-file}

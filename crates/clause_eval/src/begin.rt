@@ -33,6 +33,7 @@ impl<'t, 's> Engine<'t, 's> {
         ensures template { (see_engine result).known.template ≡ doc.entry.now }
         ensures whole { IsWhole (see_engine result) }
         ensures rests { Rests (see_engine result) }
+        ensures fresh { result.spent ≡ false }
     {
         Engine {
             alloc,
@@ -45,6 +46,7 @@ impl<'t, 's> Engine<'t, 's> {
             parts: FrameLines::new(alloc),
             beside: IndexMap::new(alloc),
             rules: SiteLines::new(alloc, 0),
+            spent: false,
         }
     }
 

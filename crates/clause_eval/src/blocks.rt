@@ -52,7 +52,7 @@ impl<'t, 's> Engine<'t, 's> {
     {
         let body = self.called_body(site);
         let current = self.current(frame);
-        let inner = self.enter(Some(frame), site, current)?;
+        let inner = self.enter_scope(Some(frame), site, current)?;
         let said = self.conjunction(inner, body.site, &body.parts, None)?;
         let mut lines = Vec::new(self.alloc);
         lines.push(said.line)?;
@@ -204,7 +204,7 @@ impl<'t, 's> Engine<'t, 's> {
         requires stands { IsBodyIn (see_engine self.old) frame (see_body body.now) value }
         ensures { IfOk result (λ said. AnswersBody (see_engine self.old) (see_engine self.new) frame (see_body body.now) value said.line said.verdict) }
     {
-        let inner = self.enter(Some(frame), body.site, value)?;
+        let inner = self.enter_scope(Some(frame), body.site, value)?;
         self.conjunction(inner, body.site, &body.parts, None)
     }
 }

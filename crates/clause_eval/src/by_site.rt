@@ -1,5 +1,5 @@
 //! Parts by their sites: the rows of an expression, the verdict of a conjunction, and the line of a rule by those that it cites.
-ghost use Rattle.std.specs.Prelude.{◌≡◌, ℕ, IfOk};
+ghost use Rattle.std.specs.Prelude.{◌≡◌, ℕ, IfOk, IsErr, OnErr, OnOk, false, true};
 ghost use Rattle.evidence_lines.specs.declared.line.LineKind.TheVariants as kind;
 ghost use Rattle.evidence_lines.specs.declared.line.Outcome.TheVariants as says;
 ghost use Rattle.guard_syntax.specs.declared.row.Verdict.{Verdict};
@@ -20,24 +20,41 @@ use std::alloc::AllocError;
 impl<'t, 's> Engine<'t, 's> {
     /// The line that gives the rows of the expression of a site, in a frame of the scope in which it stands. The rules that
     /// it can reach have their lines. No line of a rule is added, and each line that is added is named by a later one but
-    /// for the one that is answered.
+    /// for the one that is answered. After want of memory the answer is that there is none, here and in each later call.
     pub fn rows(&mut self, frame: u64, site: u32) -> Result<u64, AllocError>
-        requires whole { IsWhole (see_engine self.old) }
-        requires stands { IsLetValue (see_engine self.old) frame site }
-        ensures { IfOk result (λ number. AnswersPiece (see_engine self.old) (see_engine self.new) frame site number) }
+        requires whole { self.old.spent ≡ false → IsWhole (see_engine self.old) }
+        requires stands { self.old.spent ≡ false → IsLetValue (see_engine self.old) frame site }
+        ensures answers { IfOk result (λ number. AnswersPiece (see_engine self.old) (see_engine self.new) frame site number) }
+        ensures spent { self.old.spent ≡ true → IsErr result }
+        ensures ok { OnOk result (self.new.spent ≡ false) }
+        ensures err { OnErr result (self.new.spent ≡ true) }
     {
-        self.value(frame, site)
+        if self.spent {
+            return Err(AllocError);
+        }
+        let line = self.value(frame, site);
+        self.spent = line.is_err();
+        line
     }
 
     /// The verdict of the body or of the conditions of a site, or at the site 0 that of the parts outside rules, and the line
     /// that says it, in a frame of the scope in which their parts stand. The rules that they can reach have their lines.
     /// No line of a rule is added, and each line that is added is named by a later one but for the one that is answered.
+    /// After want of memory the answer is that there is none, here and in each later call.
     pub fn conj(&mut self, frame: u64, site: u32) -> Result<(Verdict, u64), AllocError>
-        requires whole { IsWhole (see_engine self.old) }
-        requires stands { IsConjunctionAt (see_engine self.old) frame site }
-        ensures { IfOk result (λ said. AnswersVerdict (see_engine self.old) (see_engine self.new) frame kind.Conj site said.1 said.0) }
+        requires whole { self.old.spent ≡ false → IsWhole (see_engine self.old) }
+        requires stands { self.old.spent ≡ false → IsConjunctionAt (see_engine self.old) frame site }
+        ensures answers { IfOk result (λ said. AnswersVerdict (see_engine self.old) (see_engine self.new) frame kind.Conj site said.1 said.0) }
+        ensures spent { self.old.spent ≡ true → IsErr result }
+        ensures ok { OnOk result (self.new.spent ≡ false) }
+        ensures err { OnErr result (self.new.spent ≡ true) }
     {
-        let said = self.conjunction_at(frame, site)?;
+        if self.spent {
+            return Err(AllocError);
+        }
+        let said = self.conjunction_at(frame, site);
+        self.spent = said.is_err();
+        let said = said?;
         Ok((said.verdict, said.line))
     }
 
@@ -62,8 +79,26 @@ impl<'t, 's> Engine<'t, 's> {
     }
 
     /// Adds the line of a rule without parameters, or at the site 0 that of the parts outside rules, by the lines that it
-    /// cites, with which it follows in the frame of the file, and answers its verdict. Nothing is evaluated.
+    /// cites, with which it follows in the frame of the file, and answers its verdict. Nothing is evaluated. After want of
+    /// memory the answer is that there is none, here and in each later call.
     pub fn rule(&mut self, frame: u64, site: u32, cites: &[u64]) -> Result<Verdict, AllocError>
+        requires whole { self.old.spent ≡ false → IsWhole (see_engine self.old) }
+        requires follows { self.old.spent ≡ false → (verdict : Verdict) × Adds (see_engine self.old) frame site kind.Rule cites.now (says.Verdict verdict) }
+        ensures added { IfOk result (λ verdict. (number : ℕ) × Added (see_engine self.old) (see_engine self.new) frame site kind.Rule cites.now (says.Verdict verdict) number) }
+        ensures spent { self.old.spent ≡ true → IsErr result }
+        ensures ok { OnOk result (self.new.spent ≡ false) }
+        ensures err { OnErr result (self.new.spent ≡ true) }
+    {
+        if self.spent {
+            return Err(AllocError);
+        }
+        let verdict = self.rule_by(frame, site, cites);
+        self.spent = verdict.is_err();
+        verdict
+    }
+
+    /// Adds the line of a rule by the lines that it cites.
+    fn rule_by(&mut self, frame: u64, site: u32, cites: &[u64]) -> Result<Verdict, AllocError>
         requires whole { IsWhole (see_engine self.old) }
         requires follows { (verdict : Verdict) × Adds (see_engine self.old) frame site kind.Rule cites.now (says.Verdict verdict) }
         ensures { IfOk result (λ verdict. (number : ℕ) × Added (see_engine self.old) (see_engine self.new) frame site kind.Rule cites.now (says.Verdict verdict) number) }

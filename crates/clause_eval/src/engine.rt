@@ -16,7 +16,8 @@ use scope_frames::Frames;
 use std::alloc::Global;
 use value_compare::{PatternBook, Store};
 
-/// What is known while rules are evaluated, and the evidence of it. Each of its lines follows, whatever comes.
+/// What is known while rules are evaluated, and the evidence of it. Each of its lines follows, whatever comes. Once a call
+/// has answered that there is no memory, each later one that takes memory answers so too.
 #[derive(Drop)]
 pub struct Engine<'t, 's> {
     pub alloc: Global,
@@ -33,6 +34,8 @@ pub struct Engine<'t, 's> {
     pub beside: IndexMap<Place, u64>,
     /// The lines of rules.
     pub rules: SiteLines,
+    /// Whether a call has answered that there is no memory: the tables may lack a line of the evidence then.
+    pub spent: bool,
     pub ghost frames_over: { frames.file.now ≡ file.now },
     pub ghost store_over: { store.file.now ≡ file.now },
     pub ghost book_is: { IsBookOf (file_of file.now) book.now },

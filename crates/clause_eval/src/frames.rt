@@ -1,5 +1,5 @@
 //! Frames that are entered, each with its line.
-ghost use Rattle.std.specs.Prelude.{◌≡◌, ◌<◌, IfOk, None, Some, length, option_map, slice_get};
+ghost use Rattle.std.specs.Prelude.{◌≡◌, ◌<◌, IfOk, IsErr, None, OnErr, OnOk, Some, false, length, option_map, slice_get, true};
 ghost use Rattle.rule_meaning.specs.Roots.{root_ref};
 ghost use Rattle.scope_frames.specs.code.Frames.{MayEnter};
 ghost use Rattle.clause_eval.specs.code.Engines.{see_engine};
@@ -12,19 +12,58 @@ use guard_syntax::{Origin, Ref};
 use std::alloc::AllocError;
 
 impl<'t, 's> Engine<'t, 's> {
-    /// The frame of the file.
+    /// The frame of the file. After want of memory the answer is that there is none, here and in each later call.
     pub fn enter_file(&mut self) -> Result<u64, AllocError>
+        requires { self.old.spent ≡ false → IsWhole (see_engine self.old) }
+        ensures entered { IfOk result (λ number. Enters (see_engine self.old) (see_engine self.new) None 0 root_ref number) }
+        ensures spent { self.old.spent ≡ true → IsErr result }
+        ensures ok { OnOk result (self.new.spent ≡ false) }
+        ensures err { OnErr result (self.new.spent ≡ true) }
+    {
+        if self.spent {
+            return Err(AllocError);
+        }
+        let entered = self.enter_root();
+        self.spent = entered.is_err();
+        entered
+    }
+
+    /// The frame of a scope with a current value, in the frame around it. One that is entered for the first time has its
+    /// line behind the others. After want of memory the answer is that there is none, here and in each later call.
+    pub fn enter(&mut self, parent: Option<u64>, site: u32, current: Ref) -> Result<u64, AllocError>
+        requires whole { self.old.spent ≡ false → IsWhole (see_engine self.old) }
+        requires scope { self.old.spent ≡ false → MayEnter (see_engine self.old).known.file (see_engine self.old).frames parent site }
+        requires value { self.old.spent ≡ false → MayHaveValue (see_engine self.old) parent site current }
+        ensures entered { IfOk result (λ number. Enters (see_engine self.old) (see_engine self.new) parent site current number) }
+        ensures spent { self.old.spent ≡ true → IsErr result }
+        ensures ok { OnOk result (self.new.spent ≡ false) }
+        ensures err { OnErr result (self.new.spent ≡ true) }
+    {
+        if self.spent {
+            return Err(AllocError);
+        }
+        let entered = self.enter_scope(parent, site, current);
+        self.spent = entered.is_err();
+        entered
+    }
+
+    /// Enters the frame of the file.
+    pub(crate) fn enter_root(&mut self) -> Result<u64, AllocError>
         requires { IsWhole (see_engine self.old) }
         ensures { IfOk result (λ number. Enters (see_engine self.old) (see_engine self.new) None 0 root_ref number) }
     {
         // A tree has a root, as `len` says: the current value of the file is known.
         let _nodes = self.store.doc.len();
-        self.enter(None, 0, root())
+        self.enter_scope(None, 0, root())
     }
 
-    /// The frame of a scope with a current value, in the frame around it. One that is entered for the first time has its
-    /// line behind the others.
-    pub fn enter(&mut self, parent: Option<u64>, site: u32, current: Ref) -> Result<u64, AllocError>
+    /// Enters the frame of a scope with a current value, in the frame around it.
+    pub(crate) fn enter_scope(
+        &mut self,
+        parent: Option<u64>,
+        site: u32,
+        current: Ref,
+    ) -> Result<u64, AllocError>
         requires whole { IsWhole (see_engine self.old) }
         requires scope { MayEnter (see_engine self.old).known.file (see_engine self.old).frames parent site }
         requires value { MayHaveValue (see_engine self.old) parent site current }

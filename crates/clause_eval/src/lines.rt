@@ -83,7 +83,7 @@ impl<'t, 's> Engine<'t, 's> {
     }
 
     /// Adds the line of the part of a site in a frame, which has none yet, and answers its number.
-    pub fn add(
+    pub(crate) fn add(
         &mut self,
         frame: u64,
         site: u32,
@@ -105,7 +105,7 @@ impl<'t, 's> Engine<'t, 's> {
 
     /// Adds the line of what the step of a site captures in a frame, or of the rows of the type block of a site, which has
     /// none yet, and answers its number.
-    pub fn add_beside(
+    pub(crate) fn add_beside(
         &mut self,
         frame: u64,
         site: u32,
@@ -126,7 +126,7 @@ impl<'t, 's> Engine<'t, 's> {
     }
 
     /// Adds the line of the rule of a site, which has none yet, and answers its number.
-    pub fn add_rule(
+    pub(crate) fn add_rule(
         &mut self,
         frame: u64,
         site: u32,

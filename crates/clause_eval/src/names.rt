@@ -6,8 +6,7 @@ ghost use Rattle.clause_eval.specs.code.States.{IsWhole};
 
 use crate::engine::Engine;
 use guard_syntax::Part;
-use rule_names::Piece;
-use scope_frames::Slot;
+use rule_names::{Bind, Piece};
 use std::alloc::AllocError;
 
 impl<'t, 's> Engine<'t, 's> {
@@ -18,11 +17,14 @@ impl<'t, 's> Engine<'t, 's> {
         requires used { IsUse (see_engine self.old) frame site }
         ensures { IfOk result (λ number. AnswersVariable (see_engine self.old) (see_engine self.new) frame site number) }
     {
+        let Some(bind) = self.file.bind(site) else {
+            unreachable!()
+        };
         let cell = self.frames.lookup(frame, site);
-        match cell.slot {
-            Slot::Let(value) => self.value(cell.frame, value),
-            Slot::Capture(step) => self.capture(cell.frame, step),
-            Slot::Param(index) => self.argument(cell.frame, index),
+        match bind {
+            Bind::Value { site: value, .. } => self.value(cell.frame, value),
+            Bind::Capture { step, .. } => self.capture(cell.frame, step),
+            Bind::Param { index, .. } => self.argument(cell.frame, index),
         }
     }
 

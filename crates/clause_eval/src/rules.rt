@@ -1,6 +1,6 @@
 //! Lines of rules without parameters, and of the parts outside rules: they are judged one after another, in the frame of the
 //! file.
-ghost use Rattle.std.specs.Prelude.{◌≡◌, [], IfOk, None};
+ghost use Rattle.std.specs.Prelude.{◌≡◌, [], IfOk, IsErr, None, OnErr, OnOk, false, true};
 ghost use Rattle.guard_syntax.specs.code.Seen.{see_rule};
 ghost use Rattle.clause_eval.specs.code.Engines.{see_engine};
 ghost use Rattle.clause_eval.specs.code.Ruling.{IsFileFrame, IsReady, Judges, MayJudge, MayJudgeLoose, Rests};
@@ -14,8 +14,44 @@ use std::alloc::AllocError;
 
 impl<'t, 's> Engine<'t, 's> {
     /// The verdict of a rule without parameters: its line is added behind those of its conditions and of its body, if it has
-    /// none yet. The rules that it refers to were judged before.
+    /// none yet. The rules that it refers to were judged before. After want of memory the answer is that there is none, here
+    /// and in each later call.
     pub fn judge_rule(&mut self, rule: &'t Rule) -> Result<Verdict, AllocError>
+        requires rests { self.old.spent ≡ false → Rests (see_engine self.old) }
+        requires rule { self.old.spent ≡ false → MayJudge (see_engine self.old) (see_rule rule.now) }
+        ensures judges { IfOk result (λ verdict. Judges (see_engine self.old) (see_engine self.new) rule.now.site verdict) }
+        ensures spent { self.old.spent ≡ true → IsErr result }
+        ensures ok { OnOk result (self.new.spent ≡ false) }
+        ensures err { OnErr result (self.new.spent ≡ true) }
+    {
+        if self.spent {
+            return Err(AllocError);
+        }
+        let verdict = self.judged(rule);
+        self.spent = verdict.is_err();
+        verdict
+    }
+
+    /// The verdict of the parts outside rules, once all rules were judged. After want of memory the answer is that there is
+    /// none, here and in each later call.
+    pub fn judge_loose(&mut self) -> Result<Verdict, AllocError>
+        requires rests { self.old.spent ≡ false → Rests (see_engine self.old) }
+        requires loose { self.old.spent ≡ false → MayJudgeLoose (see_engine self.old) }
+        ensures judges { IfOk result (λ verdict. Judges (see_engine self.old) (see_engine self.new) 0 verdict) }
+        ensures spent { self.old.spent ≡ true → IsErr result }
+        ensures ok { OnOk result (self.new.spent ≡ false) }
+        ensures err { OnErr result (self.new.spent ≡ true) }
+    {
+        if self.spent {
+            return Err(AllocError);
+        }
+        let verdict = self.judged_loose();
+        self.spent = verdict.is_err();
+        verdict
+    }
+
+    /// Judges a rule without parameters.
+    fn judged(&mut self, rule: &'t Rule) -> Result<Verdict, AllocError>
         requires rests { Rests (see_engine self.old) }
         requires rule { MayJudge (see_engine self.old) (see_rule rule.now) }
         ensures { IfOk result (λ verdict. Judges (see_engine self.old) (see_engine self.new) rule.now.site verdict) }
@@ -23,15 +59,15 @@ impl<'t, 's> Engine<'t, 's> {
         if let Some(line) = self.found_rule(rule.site) {
             return Ok(self.verdict_said(line));
         }
-        let frame = self.enter_file()?;
+        let frame = self.enter_root()?;
         let cited = self.rule_cites(frame, rule)?;
         let verdict = cited.verdict;
         self.add_rule(frame, rule.site, cited.lines, verdict)?;
         Ok(verdict)
     }
 
-    /// The verdict of the parts outside rules, once all rules were judged.
-    pub fn judge_loose(&mut self) -> Result<Verdict, AllocError>
+    /// Judges the parts outside rules.
+    fn judged_loose(&mut self) -> Result<Verdict, AllocError>
         requires rests { Rests (see_engine self.old) }
         requires loose { MayJudgeLoose (see_engine self.old) }
         ensures { IfOk result (λ verdict. Judges (see_engine self.old) (see_engine self.new) 0 verdict) }
@@ -39,7 +75,7 @@ impl<'t, 's> Engine<'t, 's> {
         if let Some(line) = self.found_rule(0) {
             return Ok(self.verdict_said(line));
         }
-        let frame = self.enter_file()?;
+        let frame = self.enter_root()?;
         let cited = self.loose_cites(frame)?;
         let verdict = cited.verdict;
         self.add_rule(frame, 0, cited.lines, verdict)?;

@@ -92,7 +92,7 @@ impl<'t, 's> Engine<'t, 's> {
         let mut lines = Vec::new(self.alloc);
         let mut verdicts = Vec::new(self.alloc);
         for candidate in tried {
-            let inner = self.enter(Some(frame), site, *candidate)?;
+            let inner = self.enter_scope(Some(frame), site, *candidate)?;
             let said = self.conditions(inner, conds)?;
             lines.push(said.line)?;
             verdicts.push(said.verdict)?;

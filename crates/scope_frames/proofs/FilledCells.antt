@@ -6,28 +6,15 @@ use Rattle.std.specs.Option.{option_copied}
 use Rattle.std.proofs.lemmas.Bool.Decides.{nat_tests}
 use Rattle.std.proofs.lemmas.List.{map-append}
 use Rattle.std.proofs.lemmas.Option.{none-some, same_Some}
-use Rattle.scope_frames.specs.code.Filled.{AreEmpty, AreOfFrames, Filled, filled_at, same_cell, same_slot}
+use Rattle.scope_frames.specs.code.Filled.{AreEmpty, AreOfFrames, Filled, filled_at, same_cell}
 use Rattle.scope_frames.specs.code.Seen.{filled_of}
 use Rattle.scope_frames.specs.contracts.cell.CellPartialEq.TheImpl.{eq-value}
 use Rattle.scope_frames.specs.declared.cell.Cell.{Cell}
-use Rattle.scope_frames.specs.declared.cell.Slot.{Slot}
-use Rattle.scope_frames.specs.declared.cell.Slot.TheVariants.{Let, Capture, Param}
 use Rattle.scope_frames.specs.declared.frame.Frame.{Frame}
 use Rattle.scope_frames.specs.declared.remembered.Remembered.{Remembered}
 
 same-number : (n m : ℕ) → (n == m) ≡ true → n ≡ m
 same-number n m e = grind (arith, nat_tests, e)
-
-slot-is : (a b : Slot) → same_slot a b ≡ true → a ≡ b
-slot-is (Let n) (Let m) e = ap Let (same-number n m e)
-slot-is (Capture n) (Capture m) e = ap Capture (same-number n m e)
-slot-is (Param n) (Param m) e = ap Param (same-number n m e)
-slot-is (Let n) (Capture m) e = absurd cc
-slot-is (Let n) (Param m) e = absurd cc
-slot-is (Capture n) (Let m) e = absurd cc
-slot-is (Capture n) (Param m) e = absurd cc
-slot-is (Param n) (Let m) e = absurd cc
-slot-is (Param n) (Capture m) e = absurd cc
 
 both-first : (a b : Bool) → (a && b) ≡ true → a ≡ true
 both-first true b e = refl
@@ -39,21 +26,13 @@ both-second false b e = absurd cc
 
 pub cell-is : (a b : Cell) → same_cell a b ≡ true → a ≡ b
 cell-is a b e =
-    ap₂ (λ (frame : ℕ) (slot : Slot). record { frame = frame; slot = slot })
-    (same-number a.frame b.frame (both-first (a.frame == b.frame) (same_slot a.slot b.slot) e))
-    (slot-is a.slot b.slot (both-second (a.frame == b.frame) (same_slot a.slot b.slot) e))
+    ap₂ (λ (frame slot : ℕ). record { frame = frame; slot = slot })
+    (same-number a.frame b.frame (both-first (a.frame == b.frame) (a.slot == b.slot) e))
+    (same-number a.slot b.slot (both-second (a.frame == b.frame) (a.slot == b.slot) e))
 
 -- `==` of two cells
-pub same-by-eq : (frame other : ℕ) (a b : Slot) → same_cell (record { frame = other; slot = b }) (record { frame = frame; slot = a }) ≡ eq-value.it (record { frame = frame; slot = a }) (record { frame = other; slot = b })
-same-by-eq frame other (Let n) (Let m) = grind (arith, nat_tests)
-same-by-eq frame other (Capture n) (Capture m) = grind (arith, nat_tests)
-same-by-eq frame other (Param n) (Param m) = grind (arith, nat_tests)
-same-by-eq frame other (Let n) (Capture m) = grind (arith, nat_tests)
-same-by-eq frame other (Let n) (Param m) = grind (arith, nat_tests)
-same-by-eq frame other (Capture n) (Let m) = grind (arith, nat_tests)
-same-by-eq frame other (Capture n) (Param m) = grind (arith, nat_tests)
-same-by-eq frame other (Param n) (Let m) = grind (arith, nat_tests)
-same-by-eq frame other (Param n) (Capture m) = grind (arith, nat_tests)
+pub same-by-eq : (frame other a b : ℕ) → same_cell (record { frame = other; slot = b }) (record { frame = frame; slot = a }) ≡ eq-value.it (record { frame = frame; slot = a }) (record { frame = other; slot = b })
+same-by-eq frame other a b = grind (arith, nat_tests)
 
 -- what a map has for a cell
 abbrev pub filled_with : Cell → Remembered → Filled
@@ -105,13 +84,8 @@ filled-more es new cell it e = ap (map filled_of) e ∙ map-append filled_of es 
 same-number-as : (n : ℕ) → (n == n) ≡ true
 same-number-as n = grind (arith, nat_tests)
 
-same-slot-as : (a : Slot) → same_slot a a ≡ true
-same-slot-as (Let n) = same-number-as n
-same-slot-as (Capture n) = same-number-as n
-same-slot-as (Param n) = same-number-as n
-
 same-as : (cell : Cell) → same_cell cell cell ≡ true
-same-as cell = ap₂ (λ (a b : Bool). a && b) (same-number-as cell.frame) (same-slot-as cell.slot)
+same-as cell = ap₂ (λ (a b : Bool). a && b) (same-number-as cell.frame) (same-number-as cell.slot)
 
 -- what is filled stays so
 pub kept-ahead : (fs more : List Filled) (cell : Cell) (it : Filled) → filled_at fs cell ≡ Some it → filled_at (fs ++ more) cell ≡ Some it
@@ -166,7 +140,7 @@ none-filled count number [] all past at = refl
 none-filled count number (e ∷ es) all past at =
     let within = all zero e refl in
     let apart : (e.0.frame == number) ≡ false = grind (arith, nat_tests, within, past) in
-    ap (λ (b : Bool). cond (b && same_slot e.0.slot at) (Some (filled_of e)) (filled_at (map filled_of es) (record { frame = number; slot = at }))) apart
+    ap (λ (b : Bool). cond (b && (e.0.slot == at)) (Some (filled_of e)) (filled_at (map filled_of es) (record { frame = number; slot = at }))) apart
     ∙ none-filled count number es (λ j. all (suc j)) past at
 
 -- what is so of each answer is so of any

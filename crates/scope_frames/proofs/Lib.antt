@@ -1,3 +1,8 @@
+pub mod ArgumentsSeen
+pub mod BodiesApart
+pub mod CallFrames
+mod CallsApart
+mod CellsApart
 mod DistinctFrames
 pub mod EnteredFrames
 mod FilledCells

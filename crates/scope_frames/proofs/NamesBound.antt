@@ -244,7 +244,7 @@ file-tied f =
     (ties-merge (pieces_rules f.rules) (pieces_disjs f.loose) (sites_rules f.rules) (sites_disjs f.loose) (tied-rules f.rules) (tied-disjs f.loose)))
 
 -- a number that stands among so many from this one on is below their end
-upto-below : (n low k : ℕ) → 1 ≤ times n (upto low k) → n < low + k
+pub upto-below : (n low k : ℕ) → 1 ≤ times n (upto low k) → n < low + k
 upto-below n low zero some = absurd (omega (arith, some))
 upto-below n low (suc k) some = by (low == n) refl some (upto-below n (suc low) k)
   where
@@ -365,7 +365,7 @@ module _ (f : File) where
   gives-placed scope (g ∷ gs) hs h k = gives-before scope g (by_place gs) hs h.each.0 (λ ks given. gives-placed scope gs ks (gives-rest scope g gs h) given) k
 
   -- the expression of a let
-  value-placed : (home : ℕ) (e : Expr) → Placed (homes_expr home e) (pieces_expr e) → (home_of f (expr_site e) ≡ home) × IsValue (piece_at f (expr_site e))
+  pub value-placed : (home : ℕ) (e : Expr) → Placed (homes_expr home e) (pieces_expr e) → (home_of f (expr_site e) ≡ home) × IsValue (piece_at f (expr_site e))
   value-placed home (literal n tree) s = (s.homes.0, subst IsValue (sym s.pieces.0) tt)
   value-placed home (function n name es) s = (s.homes.0, subst IsValue (sym s.pieces.0) tt)
   value-placed home (asked (query n ss)) s = (s.homes.0, subst IsValue (sym s.pieces.0) tt)
@@ -681,7 +681,7 @@ module _ (f : File) where
     file-placed : Placed (homes_in f) (inside f)
     file-placed = record { homes = all-homed; pieces = all-at (inside f) (IsAmong-behind (0, OfFile) (inside f) (inside f) (IsAmong-whole (inside f))) }
 
-    lets-placed : Placed (homes_lets 0 f.lets) (pieces_lets f.lets)
+    pub lets-placed : Placed (homes_lets 0 f.lets) (pieces_lets f.lets)
     lets-placed = front (homes_lets 0 f.lets) (homes_rules 0 f.rules ++ homes_disjs 0 f.loose) (pieces_lets f.lets) (pieces_rules f.rules ++ pieces_disjs f.loose) file-placed
 
     items-placed : Placed (homes_rules 0 f.rules ++ homes_disjs 0 f.loose) (pieces_rules f.rules ++ pieces_disjs f.loose)
@@ -690,7 +690,7 @@ module _ (f : File) where
     pub rules-placed : Placed (homes_rules 0 f.rules) (pieces_rules f.rules)
     rules-placed = front (homes_rules 0 f.rules) (homes_disjs 0 f.loose) (pieces_rules f.rules) (pieces_disjs f.loose) items-placed
 
-    loose-placed : Placed (homes_disjs 0 f.loose) (pieces_disjs f.loose)
+    pub loose-placed : Placed (homes_disjs 0 f.loose) (pieces_disjs f.loose)
     loose-placed = back (homes_rules 0 f.rules) (homes_disjs 0 f.loose) (pieces_rules f.rules) (pieces_disjs f.loose) items-placed
 
     file-means : Means 0 (given_file f ∷ [])

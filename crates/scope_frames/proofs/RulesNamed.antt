@@ -30,7 +30,8 @@ rule-placed f [] r k within is s = absurd (omega (arith, within))
 rule-placed f (x ∷ rs) r zero within is s = subst (λ (y : Rule). Placed f (homes_rule 0 y) (pieces_rule y)) is (front-rule f x rs s)
 rule-placed f (x ∷ rs) r (suc k) within is s = rule-placed f rs r k (omega (arith, within)) is (back-rules f x rs s)
 
-placed-by : (f : File) → AreInOrder f → (r : Rule) → Contains f.rules r → Placed f (homes_rule 0 r) (pieces_rule r)
+-- a rule of the file stands there whole
+pub placed-by : (f : File) → AreInOrder f → (r : Rule) → Contains f.rules r → Placed f (homes_rule 0 r) (pieces_rule r)
 placed-by f order r has = rule-placed f f.rules r has.0 has.1 has.2 (rules-placed f order)
 
 body-home : (f : File) (home : ℕ) (b : Body) → Placed f (homes_body home b) (pieces_body b) → home_of f (body_site b) ≡ home
@@ -63,7 +64,7 @@ none-both [] ys none = (refl, none)
 none-both (x ∷ xs) ys none = absurd cc
 
 -- what is found at a site is one of the pieces
-found-one : (P : Sited → Type 0) (ss : List Sited) (n : ℕ) (p : Piece) → Each P ss → piece_in ss n ≡ Some p → P (n, p)
+pub found-one : (P : Sited → Type 0) (ss : List Sited) (n : ℕ) (p : Piece) → Each P ss → piece_in ss n ≡ Some p → P (n, p)
 found-one P [] n p h e = absurd (none-some p e)
 found-one P ((m, q) ∷ ss) n p h e = by (found-one P ss n p h.1) (m == n) refl e
   where

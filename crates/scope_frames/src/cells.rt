@@ -1,21 +1,24 @@
 //! Cells: which one the use of a name leads to, and what fills it.
-ghost use Rattle.std.specs.Prelude.{◌≡◌, ◌++◌, ◌∷◌, [], IsSome, MatchOption, None, OnErr, OnOk, Some};
+ghost use Rattle.std.specs.Prelude.{◌≡◌, ◌++◌, ◌∷◌, [], IsSome, MatchOption, None, OnErr, OnOk, Some, map};
+ghost use Rattle.guard_syntax.specs.code.Seen.{expr_list, see_expr};
 ghost use Rattle.rule_names.specs.EnclosingScopes.{home_of};
 ghost use Rattle.rule_names.specs.code.Files.{file_of};
 ghost use Rattle.rule_names.specs.Resolution.{bind_of};
-ghost use Rattle.scope_frames.specs.code.Cells.{HasCell, cell_of, slot_of};
+ghost use Rattle.scope_frames.specs.code.Cells.{HasCell, arg_site, arg_site_at, cell_of, slot_of};
 ghost use Rattle.scope_frames.specs.code.Filled.{Filled, filled_at};
 ghost use Rattle.scope_frames.specs.code.Frames.{AreEntered, StandsFor};
 ghost use Rattle.scope_frames.specs.code.Scoping.{up_of};
 ghost use Rattle.scope_frames.specs.code.Seen.{cells_in};
 ghost use Rattle.scope_frames.specs.declared.cell.Cell.{Cell};
 
-use crate::cell::{Cell, Slot};
+use crate::cell::Cell;
+use crate::frame::Frame;
 use crate::frames::Frames;
-use crate::outwards::outwards;
+use crate::outwards::{frame_at, outwards};
 use crate::remembered::Remembered;
-use guard_syntax::Row;
-use rule_names::Bind;
+use guard_syntax::{Expr, Part, Row};
+use rule_names::siblings::HasSite;
+use rule_names::{Bind, Piece, RuleFile};
 use std::alloc::AllocError;
 
 impl<'t> Frames<'t> {
@@ -34,10 +37,10 @@ impl<'t> Frames<'t> {
         let Some(frame) = outwards(self.file, self.entered.as_slice(), up_of(bind), frame) else {
             unreachable!()
         };
-        Cell {
-            frame,
-            slot: slot_of(bind),
-        }
+        let Some(slot) = slot_of(self.file, self.entered.as_slice(), frame, bind) else {
+            unreachable!()
+        };
+        Cell { frame, slot }
     }
 
     /// What fills a cell: the line of the evidence that gives the rows of its name, and these. It is None exactly where the
@@ -80,13 +83,36 @@ fn up_of(bind: Bind) -> u32
     }
 }
 
-/// The slot of what gives a name.
-fn slot_of(bind: Bind) -> Slot
-    ensures { result ≡ slot_of bind }
+/// The site of what gives a name, in a frame of its scope.
+fn slot_of(file: &RuleFile, frames: &[Frame], number: u64, bind: Bind) -> Option<u32>
+    ensures { result ≡ slot_of (file_of file.now) frames.now number bind }
 {
     match bind {
-        Bind::Value { site, .. } => Slot::Let(site),
-        Bind::Capture { step, .. } => Slot::Capture(step),
-        Bind::Param { index, .. } => Slot::Param(index),
+        Bind::Value { site, .. } => Some(site),
+        Bind::Capture { step, .. } => Some(step),
+        Bind::Param { index, .. } => {
+            let frame = frame_at(frames, number)?;
+            arg_site(file, frame.site, index)
+        }
+    }
+}
+
+/// The site of the argument of an index in the call of a site.
+fn arg_site(file: &RuleFile, site: u32, index: u32) -> Option<u32>
+    ensures { result ≡ arg_site_at (file_of file.now) site index }
+{
+    match file.find(site) {
+        Some(Piece::Part(Part::Call { args, .. })) => site_among(args, index),
+        _ => None,
+    }
+}
+
+/// The site of the argument of an index.
+fn site_among(args: &[Expr], index: u32) -> Option<u32>
+    ensures { result ≡ arg_site index (expr_list (map see_expr args.now)) }
+{
+    match args.get(index as usize) {
+        Some(arg) => Some(arg.site()),
+        None => None,
     }
 }

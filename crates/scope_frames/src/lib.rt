@@ -8,10 +8,12 @@ pub mod cells;
 pub mod enter;
 pub mod frame;
 pub mod frames;
+pub mod laws;
 pub mod outwards;
 pub mod remembered;
 
-pub use cell::{Cell, Slot};
+pub use cell::Cell;
 pub use frame::Frame;
 pub use frames::Frames;
+pub use laws::cells_tell_names;
 pub use remembered::Remembered;

@@ -81,7 +81,7 @@ fn root(frames: &[Frame], number: u64) -> Option<u64>
 }
 
 /// The frame of a number.
-fn frame_at(frames: &[Frame], number: u64) -> Option<Frame>
+pub(crate) fn frame_at(frames: &[Frame], number: u64) -> Option<Frame>
     ensures { result ≡ slice_get frames.now number }
 {
     frames.get(number as usize).copied()

@@ -1,9 +1,7 @@
 -- Cells that are filled: what fills each, and of which frames they are.
-use Rattle.std.specs.Prelude.{ℕ, ◌≡◌, ◌<◌, ◌==◌, ◌&&◌, Bool, false, List, Option, None, Some, find, slice_get}
+use Rattle.std.specs.Prelude.{ℕ, ◌≡◌, ◌<◌, ◌==◌, ◌&&◌, Bool, List, Option, None, Some, find, slice_get}
 use Rattle.guard_syntax.specs.declared.row.Row.{Row}
 use Rattle.scope_frames.specs.declared.cell.Cell.{Cell}
-use Rattle.scope_frames.specs.declared.cell.Slot.{Slot}
-use Rattle.scope_frames.specs.declared.cell.Slot.TheVariants as slot
 use Rattle.scope_frames.specs.declared.remembered.Remembered.{Remembered}
 
 -- a cell that is filled: the line of the evidence that gives the rows of its name, and these
@@ -12,15 +10,9 @@ pub record Filled : Type 0 where
   pub line : ℕ
   pub rows : List Row
 
--- two slots are the same
-abbrev pub same_slot : Slot → Slot → Bool
-same_slot (slot.Let site) (slot.Let other) = site == other
-same_slot (slot.Capture step) (slot.Capture other) = step == other
-same_slot (slot.Param index) (slot.Param other) = index == other
-same_slot _ _ = false
-
+-- two cells are the same
 abbrev pub same_cell : Cell → Cell → Bool
-same_cell a b = a.frame == b.frame && same_slot a.slot b.slot
+same_cell a b = a.frame == b.frame && a.slot == b.slot
 
 -- what fills a cell
 abbrev pub filled_at : List Filled → Cell → Option Filled
@@ -28,7 +20,7 @@ filled_at cells cell = find (λ (f : Filled). same_cell f.cell cell) cells
 
 -- each cell of a frame is empty
 abbrev pub AreEmpty : List Filled → (frame : ℕ) → Type 0
-AreEmpty cells frame = (at : Slot) → filled_at cells (record { frame = frame; slot = at }) ≡ None
+AreEmpty cells frame = (at : ℕ) → filled_at cells (record { frame = frame; slot = at }) ≡ None
 
 -- the cells in a map are those of so many frames
 abbrev pub AreOfFrames : (count : ℕ) → List (Cell × Remembered) → Type 0

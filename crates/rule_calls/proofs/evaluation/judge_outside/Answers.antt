@@ -12,16 +12,16 @@ pub returns-then-is_empty-clause-grows : goal.returns-then-is_empty-clause-grows
 returns-then-is_empty-clause-grows c = Grows-none (see_engine c.args.engine.now)
 
 pub judge_loose-requires-clause-rests : goal.judge_loose-requires-clause-rests
-judge_loose-requires-clause-rests c = c.requires.rests
+judge_loose-requires-clause-rests c fresh = c.requires.rests
 
 pub judge_loose-requires-clause-loose : goal.judge_loose-requires-clause-loose
-judge_loose-requires-clause-loose c =
+judge_loose-requires-clause-loose c fresh =
     let e = c.args.engine.now in
     let some = loose-some e.store.file.now e.file.now e.store_over c.raw.result.now c.raw.ensures c.as_slice.result.now c.as_slice.ensures.value c.is_empty.result c.is_empty.ensures c.if-is_empty.false in
     may-judge-loose (see_engine e) c.requires some.0 some.1 some.2
 
 pub returns-clause-judged : goal.returns-clause-judged
-returns-clause-judged c = outside-judged (see_engine c.args.engine.now) (see_engine c.judge_loose.new.self) c.requires _ c.in_ok-judge_loose.ensures
+returns-clause-judged c = outside-judged (see_engine c.args.engine.now) (see_engine c.judge_loose.new.self) c.requires _ c.in_ok-judge_loose.ensures.judges
 
 pub returns-clause-grows : goal.returns-clause-grows
-returns-clause-grows c = c.in_ok-judge_loose.ensures.grows
+returns-clause-grows c = c.in_ok-judge_loose.ensures.judges.grows

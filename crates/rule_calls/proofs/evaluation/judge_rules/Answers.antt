@@ -9,17 +9,17 @@ loop-it-init c =
     record { judged = none-judged s c.requires.rests; ranked = c.requires.ranked; grows = Grows-none s }
 
 pub judge_rule-requires-clause-rests : goal.judge_rule-requires-clause-rests
-judge_rule-requires-clause-rests c = c.loop-it.invariant.judged.rests
+judge_rule-requires-clause-rests c fresh = c.loop-it.invariant.judged.rests
 
 pub judge_rule-requires-clause-rule : goal.judge_rule-requires-clause-rule
-judge_rule-requires-clause-rule c =
+judge_rule-requires-clause-rule c fresh =
     may-judge (see_engine c.loop-it.engine) c.args.ranked.now c.loop-it.invariant.ranked c.loop-it.it-index c.it-item.result c.loop-it-test.true c.it-item.is c.loop-it.invariant.judged
 
 pub loop-it-preserved : goal.loop-it-preserved
 loop-it-preserved c =
     let a = see_engine c.loop-it.engine in
     let b = see_engine c.judge_rule.new.self in
-    let judges = c.in_ok-judge_rule.ensures in
+    let judges = c.in_ok-judge_rule.ensures.judges in
     record {
       judged = judged-next a b c.args.ranked.now c.loop-it.it-index c.it-item.result c.loop-it-test.true c.it-item.is _ judges c.loop-it.invariant.judged;
       ranked = still-ranked a b c.loop-it.invariant.judged.rests judges.grows c.args.ranked.now c.loop-it.invariant.ranked;

@@ -1,6 +1,7 @@
 use Rattle.std.proofs.Common.{◌≡◌, ℕ, suc, ◌+◌, ◌-◌, ◌∷◌, ◌++◌, [], ◌<◌, ◌≤◌, refl, sym, ap, ◌∙◌, subst, arith, length, map, get_or, Contains, List, Some, None, Option, IfOk}
 use Rattle.std.specs.List.{list_all}
 use Rattle.std.specs.Prelude.{IsSome}
+use Rattle.std.proofs.lemmas.Bool.{true≢false}
 use Rattle.std.proofs.lemmas.List.{get_or_default}
 use Rattle.std.proofs.lemmas.Option.{none-some, same_Some, slice_get_within}
 use Rattle.std.proofs.lemmas.Result.{IfOk-weaker}
@@ -8,6 +9,7 @@ use Rattle.evidence_lines.specs.declared.line.LineKind.TheVariants as kind
 use Rattle.guard_syntax.specs.Syntax.{asked, found, function, literal, Part, block, call, guarded, kinds, refer}
 use Rattle.guard_syntax.specs.code.Seen.{expr_list, see_conds, see_expr, see_query, disj_list, see_body, see_disj, see_opt_conds, see_opt_expr, see_part}
 use Rattle.guard_syntax.specs.declared.syntax.Query.{out-Query}
+use Rattle.rule_names.specs.declared.bind.Bind.{Bind}
 use Rattle.rule_names.specs.EnclosingScopes.{home_of}
 use Rattle.rule_names.specs.Pieces.{OfExpr, OfStep, piece_at, OfPart}
 use Rattle.rule_names.specs.Resolution.{bind_of}
@@ -396,11 +398,11 @@ judge_candidates-loop-candidate-init t c =
     candidates-start (see_engine c.args.self.now) c.requires.whole c.args.frame c.args.site (see_conds c.args.conds.now) c.requires.stands c.args.tried.now c.new-lines.result.items
     c.new-verdicts.result.items c.new-lines.ensures.items c.new-verdicts.ensures.items
 
-pub judge_candidates-enter-requires-clause-whole : goal.judge_candidates-enter-requires-clause-whole
-judge_candidates-enter-requires-clause-whole t c = c.loop-candidate.invariant.0.whole
+pub judge_candidates-enter_scope-requires-clause-whole : goal.judge_candidates-enter_scope-requires-clause-whole
+judge_candidates-enter_scope-requires-clause-whole t c = c.loop-candidate.invariant.0.whole
 
-pub judge_candidates-enter-requires-clause-scope : goal.judge_candidates-enter-requires-clause-scope
-judge_candidates-enter-requires-clause-scope t c =
+pub judge_candidates-enter_scope-requires-clause-scope : goal.judge_candidates-enter_scope-requires-clause-scope
+judge_candidates-enter_scope-requires-clause-scope t c =
     candidate-may (see_engine c.args.self.now) c.requires.whole c.args.frame c.args.site (see_conds c.args.conds.now) c.requires.stands c.args.self.now.store.file.now.sites
     (see_engine c.loop-candidate.self) c.args.tried.now c.loop-candidate.candidate-index c.loop-candidate.lines.items c.loop-candidate.verdicts.items c.loop-candidate.invariant
 
@@ -427,31 +429,40 @@ variable-lookup-cell-requires-clause-home t c =
     subst (λ f. StandsFor (file_of f) c.args.self.now.frames.entered.keys c.args.frame (home_of (file_of f) c.args.site)) (sym over)
     (use-stands (see_engine c.args.self.now) c.requires.whole file.named file.sites c.args.frame c.args.site c.requires.used).2.scope_is
 
+pub variable-unreachable-requires : goal.variable-unreachable-requires
+variable-unreachable-requires t c =
+    let file = c.args.self.now.store.file.now in
+    let none = subst (λ f. bind_of (file_of f) c.args.site ≡ None) (sym c.args.self.now.store_over) (sym c.bind.ensures ∙ c.in_default.is) in
+    true≢false (sym (subst IsSome none (use-bound (see_engine c.args.self.now) c.requires.whole file.named file.sites c.args.frame c.args.site c.requires.used)))
+
 pub variable-value-requires : goal.variable-value-requires
 variable-value-requires t c =
     let file = c.args.self.now.store.file.now in
     let is = subst (λ f. cell_of (file_of f) c.args.self.now.frames.entered.keys c.args.frame c.args.site ≡ Some c.lookup-cell.result) (c.args.self.now.frames_over ∙ sym c.args.self.now.store_over)
-    c.lookup-cell.ensures.cell in (
-      let-rank (see_engine c.args.self.now) c.requires.whole file.named file.sites c.args.frame c.args.site c.requires.used c.lookup-cell.result is c.in-Let.value c.in-Let.is t c.decreases,
-      (c.requires.whole, let-stands (see_engine c.args.self.now) c.requires.whole file.named file.sites c.args.frame c.args.site c.requires.used c.lookup-cell.result is c.in-Let.value c.in-Let.is),
+    c.lookup-cell.ensures.cell in
+    let means = subst (λ f. bind_of (file_of f) c.args.site ≡ Some c.in-Some.bind) (sym c.args.self.now.store_over) (sym c.bind.ensures ∙ c.in-Some.is) ∙ ap (λ (b : Bind). Some b) c.in-Value.is in (
+      let-rank (see_engine c.args.self.now) c.requires.whole file.named file.sites c.args.frame c.args.site c.requires.used c.lookup-cell.result is c.in-Value.up c.in-Value.value means t c.decreases,
+      (c.requires.whole, let-stands (see_engine c.args.self.now) c.requires.whole file.named file.sites c.args.frame c.args.site c.requires.used c.lookup-cell.result is c.in-Value.up c.in-Value.value means),
     )
 
-pub variable-returns-in-Let : goal.variable-returns-in-Let
-variable-returns-in-Let t c =
+pub variable-returns-in-Value : goal.variable-returns-in-Value
+variable-returns-in-Value t c =
     let file = c.args.self.now.store.file.now in
     let is = subst (λ f. cell_of (file_of f) c.args.self.now.frames.entered.keys c.args.frame c.args.site ≡ Some c.lookup-cell.result) (c.args.self.now.frames_over ∙ sym c.args.self.now.store_over)
     c.lookup-cell.ensures.cell in
+    let means = subst (λ f. bind_of (file_of f) c.args.site ≡ Some c.in-Some.bind) (sym c.args.self.now.store_over) (sym c.bind.ensures ∙ c.in-Some.is) ∙ ap (λ (b : Bind). Some b) c.in-Value.is in
     IfOk-weaker c.value.result _ _ (λ number it.
-    let-answer (see_engine c.args.self.now) c.requires.whole file.named file.sites c.args.frame c.args.site c.requires.used c.lookup-cell.result is c.in-Let.value c.in-Let.is (see_engine c.value.new.self)
+    let-answer (see_engine c.args.self.now) c.requires.whole file.named file.sites c.args.frame c.args.site c.requires.used c.lookup-cell.result is c.in-Value.up c.in-Value.value means (see_engine c.value.new.self)
     number it) c.value.ensures
 
 pub variable-capture-requires : goal.variable-capture-requires
 variable-capture-requires t c =
     let file = c.args.self.now.store.file.now in
     let is = subst (λ f. cell_of (file_of f) c.args.self.now.frames.entered.keys c.args.frame c.args.site ≡ Some c.lookup-cell.result) (c.args.self.now.frames_over ∙ sym c.args.self.now.store_over)
-    c.lookup-cell.ensures.cell in (
-      captured-rank (see_engine c.args.self.now) c.requires.whole file.named file.sites c.args.frame c.args.site c.requires.used c.lookup-cell.result is c.in-Capture.step c.in-Capture.is t c.decreases,
-      (c.requires.whole, captured-stands (see_engine c.args.self.now) c.requires.whole file.named file.sites c.args.frame c.args.site c.requires.used c.lookup-cell.result is c.in-Capture.step c.in-Capture.is),
+    c.lookup-cell.ensures.cell in
+    let means = subst (λ f. bind_of (file_of f) c.args.site ≡ Some c.in-Some.bind) (sym c.args.self.now.store_over) (sym c.bind.ensures ∙ c.in-Some.is) ∙ ap (λ (b : Bind). Some b) c.in-Capture.is in (
+      captured-rank (see_engine c.args.self.now) c.requires.whole file.named file.sites c.args.frame c.args.site c.requires.used c.lookup-cell.result is c.in-Capture.up c.in-Capture.step means t c.decreases,
+      (c.requires.whole, captured-stands (see_engine c.args.self.now) c.requires.whole file.named file.sites c.args.frame c.args.site c.requires.used c.lookup-cell.result is c.in-Capture.up c.in-Capture.step means),
     )
 
 pub variable-returns-in-Capture : goal.variable-returns-in-Capture
@@ -459,17 +470,19 @@ variable-returns-in-Capture t c =
     let file = c.args.self.now.store.file.now in
     let is = subst (λ f. cell_of (file_of f) c.args.self.now.frames.entered.keys c.args.frame c.args.site ≡ Some c.lookup-cell.result) (c.args.self.now.frames_over ∙ sym c.args.self.now.store_over)
     c.lookup-cell.ensures.cell in
+    let means = subst (λ f. bind_of (file_of f) c.args.site ≡ Some c.in-Some.bind) (sym c.args.self.now.store_over) (sym c.bind.ensures ∙ c.in-Some.is) ∙ ap (λ (b : Bind). Some b) c.in-Capture.is in
     IfOk-weaker c.capture.result _ _ (λ number it.
-    captured-answer (see_engine c.args.self.now) c.requires.whole file.named file.sites c.args.frame c.args.site c.requires.used c.lookup-cell.result is c.in-Capture.step c.in-Capture.is (see_engine c.capture.new.self)
+    captured-answer (see_engine c.args.self.now) c.requires.whole file.named file.sites c.args.frame c.args.site c.requires.used c.lookup-cell.result is c.in-Capture.up c.in-Capture.step means (see_engine c.capture.new.self)
     number it) c.capture.ensures
 
 pub variable-argument-requires : goal.variable-argument-requires
 variable-argument-requires t c =
     let file = c.args.self.now.store.file.now in
     let is = subst (λ f. cell_of (file_of f) c.args.self.now.frames.entered.keys c.args.frame c.args.site ≡ Some c.lookup-cell.result) (c.args.self.now.frames_over ∙ sym c.args.self.now.store_over)
-    c.lookup-cell.ensures.cell in (
-      param-rank (see_engine c.args.self.now) c.requires.whole file.named file.sites c.args.frame c.args.site c.requires.used c.lookup-cell.result is c.in-Param.index c.in-Param.is t c.decreases,
-      (c.requires.whole, param-stands (see_engine c.args.self.now) c.requires.whole file.named file.sites c.args.frame c.args.site c.requires.used c.lookup-cell.result is c.in-Param.index c.in-Param.is),
+    c.lookup-cell.ensures.cell in
+    let means = subst (λ f. bind_of (file_of f) c.args.site ≡ Some c.in-Some.bind) (sym c.args.self.now.store_over) (sym c.bind.ensures ∙ c.in-Some.is) ∙ ap (λ (b : Bind). Some b) c.in-Param.is in (
+      param-rank (see_engine c.args.self.now) c.requires.whole file.named file.sites c.args.frame c.args.site c.requires.used c.lookup-cell.result is c.in-Param.up c.in-Param.index means t c.decreases,
+      (c.requires.whole, param-stands (see_engine c.args.self.now) c.requires.whole file.named file.sites c.args.frame c.args.site c.requires.used c.lookup-cell.result is c.in-Param.up c.in-Param.index means),
     )
 
 pub variable-returns-in-Param : goal.variable-returns-in-Param
@@ -477,8 +490,9 @@ variable-returns-in-Param t c =
     let file = c.args.self.now.store.file.now in
     let is = subst (λ f. cell_of (file_of f) c.args.self.now.frames.entered.keys c.args.frame c.args.site ≡ Some c.lookup-cell.result) (c.args.self.now.frames_over ∙ sym c.args.self.now.store_over)
     c.lookup-cell.ensures.cell in
+    let means = subst (λ f. bind_of (file_of f) c.args.site ≡ Some c.in-Some.bind) (sym c.args.self.now.store_over) (sym c.bind.ensures ∙ c.in-Some.is) ∙ ap (λ (b : Bind). Some b) c.in-Param.is in
     IfOk-weaker c.argument.result _ _ (λ number it.
-    param-answer (see_engine c.args.self.now) c.requires.whole file.named file.sites c.args.frame c.args.site c.requires.used c.lookup-cell.result is c.in-Param.index c.in-Param.is (see_engine c.argument.new.self)
+    param-answer (see_engine c.args.self.now) c.requires.whole file.named file.sites c.args.frame c.args.site c.requires.used c.lookup-cell.result is c.in-Param.up c.in-Param.index means (see_engine c.argument.new.self)
     number it) c.argument.ensures
 
 pub capture-returns-in-Some : goal.capture-returns-in-Some
@@ -853,8 +867,8 @@ capture-unreachable-requires-in_default-piece t c =
     step-only c.in-Some-find.piece c.requires.stands.0 c.requires.stands.1 c.in_default-piece.not-Step
     (same_Some (see_piece c.in-Some-find.piece) (OfStep c.requires.stands.0 c.requires.stands.1) (sym is ∙ c.requires.stands.2.there))
 
-pub judge_candidates-enter-requires-clause-value : goal.judge_candidates-enter-requires-clause-value
-judge_candidates-enter-requires-clause-value t c =
+pub judge_candidates-enter_scope-requires-clause-value : goal.judge_candidates-enter_scope-requires-clause-value
+judge_candidates-enter_scope-requires-clause-value t c =
     let s = see_engine c.args.self.now in
     let rs = c.args.tried.now in
     let i = c.loop-candidate.candidate-index in
@@ -872,11 +886,11 @@ judge_candidates-conditions-requires t c =
     let order = c.args.self.now.store.file.now.sites in
     let enters = c.in_ok-inner.ensures in (
       candidate-rank s c.requires.whole c.args.frame c.args.site (see_conds c.args.conds.now) c.requires.stands order (see_engine c.loop-candidate.self) rs i c.loop-candidate.lines.items
-          c.loop-candidate.verdicts.items c.loop-candidate.invariant (see_engine c.enter.new.self) v c.in_ok-inner.inner enters t c.decreases,
+          c.loop-candidate.verdicts.items c.loop-candidate.invariant (see_engine c.enter_scope.new.self) v c.in_ok-inner.inner enters t c.decreases,
       (
         enters.evaluates.whole,
         conditions-there s c.requires.whole c.args.frame c.args.site (see_conds c.args.conds.now) c.requires.stands order (see_engine c.loop-candidate.self) rs i c.loop-candidate.lines.items
-            c.loop-candidate.verdicts.items c.loop-candidate.invariant (see_engine c.enter.new.self) v c.in_ok-inner.inner enters,
+            c.loop-candidate.verdicts.items c.loop-candidate.invariant (see_engine c.enter_scope.new.self) v c.in_ok-inner.inner enters,
       ),
     )
 
@@ -888,7 +902,7 @@ judge_candidates-loop-candidate-preserved t c =
     let v = get_or rs i root_ref in
     let order = c.args.self.now.store.file.now.sites in
     candidate-next s c.requires.whole c.args.frame c.args.site (see_conds c.args.conds.now) c.requires.stands order (see_engine c.loop-candidate.self) rs i c.loop-candidate.lines.items
-    c.loop-candidate.verdicts.items c.loop-candidate.invariant (see_engine c.enter.new.self) v c.in_ok-inner.inner c.in_ok-inner.ensures (see_engine c.conditions.new.self)
+    c.loop-candidate.verdicts.items c.loop-candidate.invariant (see_engine c.enter_scope.new.self) v c.in_ok-inner.inner c.in_ok-inner.ensures (see_engine c.conditions.new.self)
     c.in_ok-said.said.line c.in_ok-said.said.verdict c.push.new.self.items c.push-in-loop-candidate.new.self.items c.loop-candidate-test.true
     (get_or_default rs i root_ref v c.loop-candidate-test.true) c.in_ok-said.ensures c.in_ok-push.ensures.items c.in_ok-push-2.ensures.items
 
@@ -1351,18 +1365,18 @@ pub call-current-current-requires : goal.call-current-current-requires
 call-current-current-requires t c =
     call-framed (see_engine c.args.self.now) c.requires.whole c.args.self.now.store.file.now.named c.args.self.now.store.file.now.sites c.args.frame c.args.site c.args.not c.requires.stands
 
-pub call-enter-requires-clause-scope : goal.call-enter-requires-clause-scope
-call-enter-requires-clause-scope t c =
+pub call-enter_scope-requires-clause-scope : goal.call-enter_scope-requires-clause-scope
+call-enter_scope-requires-clause-scope t c =
     call-enters (see_engine c.args.self.now) c.requires.whole c.args.self.now.store.file.now.named c.args.self.now.store.file.now.sites c.args.frame c.args.site c.args.not c.requires.stands
 
-pub call-enter-requires-clause-value : goal.call-enter-requires-clause-value
-call-enter-requires-clause-value t c =
+pub call-enter_scope-requires-clause-value : goal.call-enter_scope-requires-clause-value
+call-enter_scope-requires-clause-value t c =
     call-value (see_engine c.args.self.now) c.requires.whole c.args.self.now.store.file.now.named c.args.self.now.store.file.now.sites c.args.frame c.args.site c.args.not c.requires.stands
     c.current-current.result c.current-current.ensures
 
 pub call-conjunction-requires : goal.call-conjunction-requires
 call-conjunction-requires t c =
-    called-asked (see_engine c.args.self.now) (see_engine c.enter.new.self) c.requires.whole c.args.self.now.store.file.now.named c.args.self.now.store.file.now.sites c.args.frame c.args.site
+    called-asked (see_engine c.args.self.now) (see_engine c.enter_scope.new.self) c.requires.whole c.args.self.now.store.file.now.named c.args.self.now.store.file.now.sites c.args.frame c.args.site
     c.args.not c.requires.stands c.current-current.result c.in_ok-inner.inner c.in_ok-inner.ensures c.called_body-body.result.now (file_of c.args.self.now.file.now)
     (ap file_of c.args.self.now.store_over) c.called_body-body.ensures c.deref.result.now c.deref.ensures.value 0 2 t c.decreases (omega arith)
 
@@ -1371,26 +1385,26 @@ call-add_verdict-requires-clause-whole t c = c.in_ok-said.ensures.evaluates.whol
 
 pub call-add_verdict-requires-clause-kind : goal.call-add_verdict-requires-clause-kind
 call-add_verdict-requires-clause-kind t c =
-    called-kind (see_engine c.args.self.now) (see_engine c.enter.new.self) c.requires.whole c.args.self.now.store.file.now.named c.args.self.now.store.file.now.sites c.args.frame c.args.site
+    called-kind (see_engine c.args.self.now) (see_engine c.enter_scope.new.self) c.requires.whole c.args.self.now.store.file.now.named c.args.self.now.store.file.now.sites c.args.frame c.args.site
     c.args.not c.requires.stands c.current-current.result c.in_ok-inner.inner c.in_ok-inner.ensures c.called_body-body.result.now (file_of c.args.self.now.file.now)
     (ap file_of c.args.self.now.store_over) c.called_body-body.ensures (see_engine c.conjunction.new.self) c.in_ok-said.said.line c.in_ok-said.said.verdict c.in_ok-said.ensures
 
 pub call-add_verdict-requires-clause-adds : goal.call-add_verdict-requires-clause-adds
 call-add_verdict-requires-clause-adds t c =
-    called-adds (see_engine c.args.self.now) (see_engine c.enter.new.self) c.requires.whole c.args.self.now.store.file.now.named c.args.self.now.store.file.now.sites c.args.frame c.args.site
+    called-adds (see_engine c.args.self.now) (see_engine c.enter_scope.new.self) c.requires.whole c.args.self.now.store.file.now.named c.args.self.now.store.file.now.sites c.args.frame c.args.site
     c.args.not c.requires.stands c.current-current.result c.in_ok-inner.inner c.in_ok-inner.ensures c.called_body-body.result.now (file_of c.args.self.now.file.now)
     (ap file_of c.args.self.now.store_over) c.called_body-body.ensures (see_engine c.conjunction.new.self) c.in_ok-said.said.line c.in_ok-said.said.verdict c.in_ok-said.ensures
     c.exchange-verdict.result c.exchange-verdict.ensures c.push.new.self.items (c.in_ok-push.ensures.items ∙ ap (λ (ns : List ℕ). ns ++ c.in_ok-said.said.line ∷ []) c.new-lines.ensures.items)
 
 pub call-add_verdict-requires-clause-new : goal.call-add_verdict-requires-clause-new
 call-add_verdict-requires-clause-new t c =
-    called-new (see_engine c.args.self.now) (see_engine c.enter.new.self) c.requires.whole c.args.self.now.store.file.now.named c.args.self.now.store.file.now.sites c.args.frame c.args.site
+    called-new (see_engine c.args.self.now) (see_engine c.enter_scope.new.self) c.requires.whole c.args.self.now.store.file.now.named c.args.self.now.store.file.now.sites c.args.frame c.args.site
     c.args.not c.requires.stands c.current-current.result c.in_ok-inner.inner c.in_ok-inner.ensures c.called_body-body.result.now (file_of c.args.self.now.file.now)
     (ap file_of c.args.self.now.store_over) c.called_body-body.ensures (see_engine c.conjunction.new.self) c.in_ok-said.said.line c.in_ok-said.said.verdict c.in_ok-said.ensures c.requires.new
 
 pub call-returns : goal.call-returns
 call-returns t c =
-    IfOk-weaker c.add_verdict.result _ _ (λ said added. called-answer (see_engine c.args.self.now) (see_engine c.enter.new.self) c.requires.whole c.args.self.now.store.file.now.named
+    IfOk-weaker c.add_verdict.result _ _ (λ said added. called-answer (see_engine c.args.self.now) (see_engine c.enter_scope.new.self) c.requires.whole c.args.self.now.store.file.now.named
     c.args.self.now.store.file.now.sites c.args.frame c.args.site c.args.not c.requires.stands c.current-current.result c.in_ok-inner.inner c.in_ok-inner.ensures c.called_body-body.result.now
     (file_of c.args.self.now.file.now) (ap file_of c.args.self.now.store_over) c.called_body-body.ensures (see_engine c.conjunction.new.self) c.in_ok-said.said.line c.in_ok-said.said.verdict
     c.in_ok-said.ensures (see_engine c.add_verdict.new.self) c.push.new.self.items c.exchange-verdict.result said.line said.verdict
@@ -1595,18 +1609,18 @@ pub bodies-returns : goal.bodies-returns
 bodies-returns t c =
     bodies-done (see_engine c.args.self.now) (see_engine c.loop-row.self) c.args.frame c.args.any (see_body c.args.body.now) c.args.rows.now c.loop-row.row-index c.loop-row.lines.items c.loop-row.verdict c.loop-row-test.false c.loop-row.invariant
 
-pub body_at-enter-requires-clause-scope : goal.body_at-enter-requires-clause-scope
-body_at-enter-requires-clause-scope t c =
+pub body_at-enter_scope-requires-clause-scope : goal.body_at-enter_scope-requires-clause-scope
+body_at-enter_scope-requires-clause-scope t c =
     (body-enters (see_engine c.args.self.now) c.args.frame (out-Body c.args.body.now).site (see_body c.args.body.now) c.args.value (body-own c.args.body.now) c.requires.stands).0
 
-pub body_at-enter-requires-clause-value : goal.body_at-enter-requires-clause-value
-body_at-enter-requires-clause-value t c =
+pub body_at-enter_scope-requires-clause-value : goal.body_at-enter_scope-requires-clause-value
+body_at-enter_scope-requires-clause-value t c =
     (body-enters (see_engine c.args.self.now) c.args.frame (out-Body c.args.body.now).site (see_body c.args.body.now) c.args.value (body-own c.args.body.now) c.requires.stands).1
 
 pub body_at-conjunction-requires : goal.body_at-conjunction-requires
 body_at-conjunction-requires t c =
-    inner-asked (see_engine c.args.self.now) (see_engine c.enter.new.self) c.requires.whole c.args.frame c.args.body.now c.args.value c.in_ok-inner.inner c.requires.stands.0 c.in_ok-inner.ensures c.deref.result.now c.deref.ensures.value 4 2 t c.decreases (omega arith)
+    inner-asked (see_engine c.args.self.now) (see_engine c.enter_scope.new.self) c.requires.whole c.args.frame c.args.body.now c.args.value c.in_ok-inner.inner c.requires.stands.0 c.in_ok-inner.ensures c.deref.result.now c.deref.ensures.value 4 2 t c.decreases (omega arith)
 
 pub body_at-returns : goal.body_at-returns
 body_at-returns t c =
-    IfOk-weaker c.conjunction.result _ _ (λ said it. body-answer (see_engine c.args.self.now) (see_engine c.enter.new.self) c.requires.whole c.args.frame c.args.body.now c.args.value c.in_ok-inner.inner c.requires.stands.0 c.in_ok-inner.ensures (see_engine c.conjunction.new.self) said.line said.verdict it) c.conjunction.ensures
+    IfOk-weaker c.conjunction.result _ _ (λ said it. body-answer (see_engine c.args.self.now) (see_engine c.enter_scope.new.self) c.requires.whole c.args.frame c.args.body.now c.args.value c.in_ok-inner.inner c.requires.stands.0 c.in_ok-inner.ensures (see_engine c.conjunction.new.self) said.line said.verdict it) c.conjunction.ensures

@@ -35,7 +35,7 @@ invariant_of-self c =
     let s = c.args.self.now in
     let it : Remembered = record { line = c.args.line; rows = c.in_ok-rows.rows } in
     let absent = lookup-empty c.args.cell s.cells.entries c.requires.empty in
-    let frame = has-frame (file_of s.file.now) s.entered.keys c.args.cell.frame c.requires.has.0 c.requires.has.1 in
+    let frame = has-frame (file_of s.file.now) s.entered.keys c.args.cell.frame c.requires.has.0 c.requires.has.2 in
     let Same : Type 0 = c.insert.new.self.entries ≡ s.cells.entries in
     let More : Type 0 = c.insert.new.self.entries ≡ s.cells.entries ++ (c.args.cell, it) ∷ [] in
     let put = on_ok_weaker {Q = Same ⊎ More} c.insert.result (λ e. inr (e ∙ insert_entry-new eq-value.it s.cells c.args.cell it absent)) c.insert.ensures.entries in

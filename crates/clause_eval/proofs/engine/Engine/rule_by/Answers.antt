@@ -1,4 +1,4 @@
-use Rattle.std.proofs.Common.{◌≡◌, ℕ, sym, subst, List}
+use Rattle.std.proofs.Common.{ℕ, sym, subst, List}
 use Rattle.evidence_lines.specs.declared.line.LineKind.TheVariants as kind
 use Rattle.evidence_lines.specs.declared.line.Outcome.TheVariants as says
 use Rattle.guard_syntax.specs.declared.row.Verdict.{Verdict}
@@ -9,7 +9,7 @@ use Rattle.clause_eval.specs.code.Adding.{Added, Adds}
 use Rattle.clause_eval.specs.code.Engines.{see_engine}
 use Rattle.clause_eval.specs.code.Ruling.{IsRuledBy, has_conditions}
 use Rattle.clause_eval.proofs.RuledBy.{rule-new, rule-told}
-use Rattle.clause_eval.proofs.engine.Engine.rule.Goals as goal
+use Rattle.clause_eval.proofs.engine.Engine.rule_by.Goals as goal
 
 pub ruled-verdict-requires : goal.ruled-verdict-requires
 ruled-verdict-requires c =

@@ -2,7 +2,7 @@ use Rattle.std.proofs.Common.{sym, ◌∙◌}
 use Rattle.clause_eval.specs.code.Engines.{see_engine}
 use Rattle.clause_eval.proofs.RulesAnswered.{judged-again, may-loose-later, rule-says}
 use Rattle.clause_eval.proofs.RulesJudged.{judged}
-use Rattle.clause_eval.proofs.engine.Engine.judge_loose.Goals as goal
+use Rattle.clause_eval.proofs.engine.Engine.judged_loose.Goals as goal
 
 pub verdict_said-requires : goal.verdict_said-requires
 verdict_said-requires c = rule-says (see_engine c.args.self.now) c.requires.rests 0 c.in-Some.line (sym c.in-Some.ensures)
@@ -12,12 +12,12 @@ returns-in-Some c = judged-again (see_engine c.args.self.now) c.requires.rests 0
 
 pub loose_cites-requires-clause-loose : goal.loose_cites-requires-clause-loose
 loose_cites-requires-clause-loose c =
-    may-loose-later (see_engine c.args.self.now) (see_engine c.enter_file.new.self) c.in_ok-frame.ensures.evaluates.grows c.requires.rests.whole c.in_ok-frame.ensures.evaluates.whole c.requires.loose
+    may-loose-later (see_engine c.args.self.now) (see_engine c.enter_root.new.self) c.in_ok-frame.ensures.evaluates.grows c.requires.rests.whole c.in_ok-frame.ensures.evaluates.whole c.requires.loose
 
 pub loose_cites-requires-clause-new : goal.loose_cites-requires-clause-new
 loose_cites-requires-clause-new c = c.in_ok-frame.ensures.evaluates.rules 0 ∙ sym c.in_default.ensures
 
 pub returns : goal.returns
 returns c =
-    judged (see_engine c.args.self.now) (see_engine c.enter_file.new.self) (see_engine c.loose_cites.new.self) (see_engine c.add_rule.new.self) c.in_ok-frame.frame 0 c.in_ok-add_rule.field-0
+    judged (see_engine c.args.self.now) (see_engine c.enter_root.new.self) (see_engine c.loose_cites.new.self) (see_engine c.add_rule.new.self) c.in_ok-frame.frame 0 c.in_ok-add_rule.field-0
     c.in_ok-cited.cited.lines.items c.in_ok-cited.cited.verdict c.requires.rests c.in_ok-frame.ensures c.in_ok-cited.ensures c.in_ok-add_rule.ensures

@@ -6,13 +6,14 @@ use Rattle.std.proofs.lemmas.Bool.Decides.{nat_tests}
 use Rattle.std.proofs.lemmas.Option.{none-some, same_Some}
 use Rattle.guard_syntax.specs.Sites.{merge, sites_body, sites_conds, sites_disj, sites_disjs, sites_expr, sites_exprs, sites_file, sites_let, sites_lets, sites_opt_conds, sites_opt_expr, sites_part, sites_parts, sites_query, sites_rule, sites_rules, sites_step, sites_steps, upto}
 use Rattle.guard_syntax.specs.Syntax.{Body, Conds, Disj, Disjs, Expr, Exprs, File, Let, Lets, OptConds, OptExpr, Part, Parts, Query, Rule, Step, Steps, asked, assign, block, body, call, conds, disj, every, filter, found, function, guarded, index, items, key, keys, kinds, literal, more_disjs, more_exprs, more_lets, more_parts, more_steps, no_conds, no_disjs, no_expr, no_exprs, no_lets, no_parts, no_steps, query, refer, splice, test, this, var, with_conds, with_expr}
-use Rattle.rule_names.specs.EnclosingScopes.{homes_body, homes_rules}
+use Rattle.rule_names.specs.EnclosingScopes.{homes_body}
 use Rattle.rule_names.specs.Pieces.{AreInOrder, OfBody, OfConds, OfDisj, OfExpr, OfFile, OfLet, OfPart, OfQuery, OfRule, OfStep, Piece, Sited, piece_at, piece_in, pieces_body, pieces_conds, pieces_disj, pieces_disjs, pieces_expr, pieces_exprs, pieces_let, pieces_lets, pieces_opt_conds, pieces_opt_expr, pieces_part, pieces_parts, pieces_query, pieces_rule, pieces_rules, pieces_step, pieces_steps}
 use Rattle.rule_names.proofs.Increases.{once, times, times-append, times-merge, upto-rises}
 use Rattle.rule_names.proofs.PiecesStand.{append-found, cons-found, none-found}
 use Rattle.evidence_rules.specs.CitedLines.{body_site}
 use Rattle.scope_frames.specs.code.Frames.{IsPlain}
-use Rattle.scope_frames.proofs.NamesBound.{Placed, back-rules, front-rule, rule-body, rules-placed}
+use Rattle.scope_frames.proofs.NamesBound.{Placed, rule-body}
+use Rattle.scope_frames.proofs.RulesNamed.{placed-by}
 
 -- ---- the sites of a part are among those of the run in which it stands
 
@@ -136,13 +137,13 @@ inner_body (guarded n c b) = Some b
 inner_body (kinds n name c b) = Some b
 inner_body _ = None
 
-own-time : (n : ℕ) (ns : List ℕ) → times n (n ∷ ns) ≡ suc (times n ns)
+pub own-time : (n : ℕ) (ns : List ℕ) → times n (n ∷ ns) ≡ suc (times n ns)
 own-time n ns =
     let same : (n == n) ≡ true = grind (arith, nat_tests) in
     let one : times n (n ∷ ns) ≡ 1 + times n ns = ap (λ (b : Bool). cond b 1 0 + times n ns) same in
     omega (arith, one)
 
-body-has : (b : Body) → 1 ≤ times (body_site b) (sites_body b)
+pub body-has : (b : Body) → 1 ≤ times (body_site b) (sites_body b)
 body-has (body n ls ds) = let own = own-time n (merge (sites_lets ls) (sites_disjs ds)) in omega (arith, own)
 
 part-has : (x : Part) (b : Body) → inner_body x ≡ Some b → 1 ≤ times (body_site b) (sites_part x)
@@ -159,10 +160,10 @@ part-has (test n any q op negated right message) b is = absurd (none-some b is)
 part-has (refer n negated name message) b is = absurd (none-some b is)
 part-has (call n negated name es message) b is = absurd (none-some b is)
 
-rule-has : (r : Rule) → 1 ≤ times (body_site r.body) (sites_rule r)
+pub rule-has : (r : Rule) → 1 ≤ times (body_site r.body) (sites_rule r)
 rule-has r = let own = body-has r.body in omega (arith, own, times-append (body_site r.body) (sites_opt_conds r.cond) (sites_body r.body))
 
-rules-have : (rs : List Rule) (r : Rule) → Contains rs r → 1 ≤ times (body_site r.body) (sites_rules rs)
+pub rules-have : (rs : List Rule) (r : Rule) → Contains rs r → 1 ≤ times (body_site r.body) (sites_rules rs)
 rules-have [] r (k, within, is) = absurd (omega (arith, within))
 rules-have (x ∷ rs) r (zero, within, is) =
     let own : 1 ≤ times (body_site r.body) (sites_rule x) = subst (λ (y : Rule). 1 ≤ times (body_site y.body) (sites_rule x)) is (rule-has x) in
@@ -235,14 +236,30 @@ module _ (n : ℕ) (x : Part) (m : ℕ) (has : 1 ≤ times m (sites_part x)) whe
   ]
 
 module _ (f : File) (ordered : AreInOrder f) where
-  site-once : (m : ℕ) → times m (sites_file f) ≤ 1
+  pub site-once : (m : ℕ) → times m (sites_file f) ≤ 1
   site-once m =
       let same : times m (sites_file f) ≡ times m (upto 0 (length f.places)) = ap (times m) ordered in
       omega (arith, same, once m 0 (upto 0 (length f.places)) (upto-rises 0 (length f.places)))
 
-  file-times : (m : ℕ) → times m (sites_lets f.lets) + (times m (sites_rules f.rules) + times m (sites_disjs f.loose)) ≤ times m (sites_file f)
+  pub file-times : (m : ℕ) → times m (sites_lets f.lets) + (times m (sites_rules f.rules) + times m (sites_disjs f.loose)) ≤ times m (sites_file f)
   file-times m =
       omega (arith, times-merge m (sites_lets f.lets) (merge (sites_rules f.rules) (sites_disjs f.loose)), times-merge m (sites_rules f.rules) (sites_disjs f.loose))
+
+  -- each site of a part stands there once
+  pub part-once : (n : ℕ) (x : Part) → piece_at f n ≡ Some (OfPart x) → (m : ℕ) → times m (sites_part x) ≤ 1
+  part-once n x there m =
+      let one = site-once m in
+      let all = file-times m in
+      elim (cons-found n 0 OfFile (OfPart x) (pieces_lets f.lets ++ (pieces_rules f.rules ++ pieces_disjs f.loose)) there) [
+        | inl other ↦ absurd cc
+        | inr inside ↦ elim (append-found n (OfPart x) (pieces_lets f.lets) (pieces_rules f.rules ++ pieces_disjs f.loose) inside) [
+          | inl first ↦ let less = (lets-held f.lets).at n (OfPart x) first m in omega (arith, one, all, less)
+          | inr rest ↦ elim (append-found n (OfPart x) (pieces_rules f.rules) (pieces_disjs f.loose) rest) [
+            | inl second ↦ let less = (rules-held f.rules).at n (OfPart x) second m in omega (arith, one, all, less)
+            | inr third ↦ let less = (disjs-held f.loose).at n (OfPart x) third m in omega (arith, one, all, less)
+          ]
+        ]
+      ]
 
   -- two rules of a file with the same body are the same
   pub one-rule : (r t : Rule) → Contains f.rules r → Contains f.rules t → body_site r.body ≡ body_site t.body → r ≡ t
@@ -277,18 +294,12 @@ module _ (f : File) (ordered : AreInOrder f) where
   pub plain-body : (r : Rule) → Contains f.rules r → r.params ≡ [] → IsPlain f (body_site r.body)
   plain-body r has plain t also same = ap (λ (x : Rule). x.params) (one-rule t r also has same) ∙ plain
 
-  rule-placed : (rs : List Rule) (r : Rule) → Contains rs r → Placed f (homes_rules 0 rs) (pieces_rules rs) → piece_at f (body_site r.body) ≡ Some (OfBody r.body)
-  rule-placed [] r (j, less, is) s = absurd (omega (arith, less))
-  rule-placed (x ∷ rs) r (zero, less, is) s =
-      subst (λ (y : Rule). piece_at f (body_site y.body) ≡ Some (OfBody y.body)) is (placed-body x.body (rule-body f x (front-rule f x rs s)))
-    where
-      placed-body : (b : Body) → Placed f (homes_body 0 b) (pieces_body b) → piece_at f (body_site b) ≡ Some (OfBody b)
-      placed-body (body n ls ds) s = s.pieces.0
-  rule-placed (x ∷ rs) r (suc j, less, is) s = rule-placed rs r (j, omega (arith, less), is) (back-rules f x rs s)
+  placed-body : (b : Body) → Placed f (homes_body 0 b) (pieces_body b) → piece_at f (body_site b) ≡ Some (OfBody b)
+  placed-body (body n ls ds) s = s.pieces.0
 
   -- the body of a rule is what the file has at its site
   pub body-at : (r : Rule) → Contains f.rules r → piece_at f (body_site r.body) ≡ Some (OfBody r.body)
-  body-at r has = rule-placed f.rules r has (rules-placed f ordered)
+  body-at r has = placed-body r.body (rule-body f r (placed-by f ordered r has))
 
   abbrev IsABody : Option Piece → Type 0
   IsABody (Some (OfBody b)) = Unit {0}

@@ -5,7 +5,7 @@ use Rattle.scope_frames.specs.declared.frame.Frame.{Frame}
 use Rattle.clause_eval.specs.code.Beside.{beside_in}
 use Rattle.clause_eval.specs.code.Engines.{lines_in, part_in, see_engine}
 use Rattle.clause_eval.proofs.EnteredLines.{enter-follows, enter-frame, enter-has, enter-known, found-entered, is-first-entered, is-new, may-framed, new-alone, new-number, same-frames, was-there}
-use Rattle.clause_eval.proofs.engine.Engine.enter.Goals as goal
+use Rattle.clause_eval.proofs.engine.Engine.enter_scope.Goals as goal
 
 pub returns-then-number-len : goal.returns-then-number-len
 returns-then-number-len c =

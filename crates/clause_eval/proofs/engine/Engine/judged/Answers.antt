@@ -3,7 +3,7 @@ use Rattle.guard_syntax.specs.code.Seen.{see_rule}
 use Rattle.clause_eval.specs.code.Engines.{see_engine}
 use Rattle.clause_eval.proofs.RulesAnswered.{judged-again, rule-says}
 use Rattle.clause_eval.proofs.RulesJudged.{judged, may-judge-later}
-use Rattle.clause_eval.proofs.engine.Engine.judge_rule.Goals as goal
+use Rattle.clause_eval.proofs.engine.Engine.judged.Goals as goal
 
 pub verdict_said-requires : goal.verdict_said-requires
 verdict_said-requires c = rule-says (see_engine c.args.self.now) c.requires.rests c.args.rule.now.site c.in-Some.line (sym c.in-Some.ensures)
@@ -14,7 +14,7 @@ returns-in-Some c =
 
 pub rule_cites-requires-clause-rule : goal.rule_cites-requires-clause-rule
 rule_cites-requires-clause-rule c =
-    may-judge-later (see_engine c.args.self.now) (see_engine c.enter_file.new.self) c.in_ok-frame.ensures.evaluates.grows c.requires.rests.whole c.in_ok-frame.ensures.evaluates.whole
+    may-judge-later (see_engine c.args.self.now) (see_engine c.enter_root.new.self) c.in_ok-frame.ensures.evaluates.grows c.requires.rests.whole c.in_ok-frame.ensures.evaluates.whole
     (see_rule c.args.rule.now) c.requires.rule
 
 pub rule_cites-requires-clause-new : goal.rule_cites-requires-clause-new
@@ -22,5 +22,5 @@ rule_cites-requires-clause-new c = c.in_ok-frame.ensures.evaluates.rules c.args.
 
 pub returns : goal.returns
 returns c =
-    judged (see_engine c.args.self.now) (see_engine c.enter_file.new.self) (see_engine c.rule_cites.new.self) (see_engine c.add_rule.new.self) c.in_ok-frame.frame c.args.rule.now.site
+    judged (see_engine c.args.self.now) (see_engine c.enter_root.new.self) (see_engine c.rule_cites.new.self) (see_engine c.add_rule.new.self) c.in_ok-frame.frame c.args.rule.now.site
     c.in_ok-add_rule.field-0 c.in_ok-cited.cited.lines.items c.in_ok-cited.cited.verdict c.requires.rests c.in_ok-frame.ensures c.in_ok-cited.ensures c.in_ok-add_rule.ensures

@@ -1,6 +1,0 @@
-use Rattle.value_compare.specs.code.Stores.{see_store}
-use Rattle.clause_eval.proofs.EnteredLines.{known-root}
-use Rattle.clause_eval.proofs.engine.Engine.enter_file.Goals as goal
-
-pub enter-requires-clause-value : goal.enter-requires-clause-value
-enter-requires-clause-value c = (c.root.ensures, known-root (see_store c.args.self.now.store) c.root.result c.root.ensures c.len-nodes.ensures.tree)
