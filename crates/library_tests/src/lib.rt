@@ -1,6 +1,6 @@
 //! Tests of the libraries below the top call. Each stands on public calls alone, and asks what no run of the program can
 //! show: lengths round a border of lanes; files, sinks and makers of patterns that fail; scalars in settings that no document
-//! reaches; places that no report names; the spans of tokens; the look-ups of a rule file; lines of evidence by themselves.
+//! reaches; places that no report names; the spans of tokens; the look-ups of a rule file; cells of names; lines of evidence by themselves.
 //! The library itself is empty.
 #![tactic(auto)]
 
@@ -8,6 +8,8 @@
 mod block_scalars;
 #[cfg(test)]
 mod breaking;
+#[cfg(test)]
+mod cells;
 #[cfg(test)]
 mod drills;
 #[cfg(test)]
