@@ -2,6 +2,7 @@ pub mod WellFormed
 pub mod Among
 pub mod KeysAmong
 pub mod TextLinks
+pub mod NameSlots
 pub mod Table
 pub mod Links
 pub mod Entries

@@ -1,5 +1,5 @@
 -- Links behind a change: what a last link more and an inner link more leave, by induction over the bytes of a text, and that the last link of a text tells the text, by induction over its bytes from the last.
-use Rattle.std.proofs.Common.{◌≡◌, ℕ, ◌+◌, ◌*◌, ◌^◌, ◌<◌, ◌≤◌, Bool, true, false, List, [], ◌∷◌, ◌++◌, length, take, get_or, cond, refl, sym, ap, inl, inr, ◌∙◌, subst, arith, Option, None, Some, ◌⊎◌, reverse, true≢false}
+use Rattle.std.proofs.Common.{◌≡◌, ℕ, ◌+◌, ◌*◌, ◌^◌, ◌<◌, ◌≤◌, Bool, true, false, List, [], ◌∷◌, length, take, get_or, cond, refl, sym, ap, inl, inr, ◌∙◌, subst, arith, Option, None, Some, ◌⊎◌, reverse, true≢false}
 use Rattle.std.specs.Prelude.{option_and_then, option_map, fold, nat_lt, Result, Ok, Err, OnOk, OnErr}
 use Rattle.std.specs.Str.{bytes_eq}
 use Rattle.std.specs.Ordering.{is_eq, nat_cmp}
@@ -14,7 +14,7 @@ use Rattle.std.proofs.lemmas.List.Folds.{fold_stuck}
 use Rattle.std.proofs.lemmas.Grind.{reverse_onto}
 use Rattle.std.proofs.lemmas.Map.Lookups.{exact_pairs, exact_unsigned}
 use Rattle.std.proofs.lemmas.Slice.Eq.{bytes_eq-Decides}
-use Rattle.doc_values.specs.code.TextNumbers.{Links, link_cmp, links_in, longer, behind, link_on, last_link, number_by, number_in, AreFromNodes, AreToNodes, AreSingle, IsKept, Widens}
+use Rattle.doc_values.specs.code.TextNumbers.{Links, link_cmp, links_in, longer, behind, link_on, last_link, number_by, number_in, AreFromNodes, AreToNodes, AreSingle, Widens}
 
 -- one byte further, if there was a link
 abbrev pub on : Links → Option (ℕ × ℕ) → ℕ → Option (ℕ × ℕ)

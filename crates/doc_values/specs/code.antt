@@ -8,6 +8,7 @@ pub mod Index
 pub mod Kept
 pub mod Laws
 pub mod Merging
+pub mod NameSlots
 pub mod Names
 pub mod Parts
 pub mod Reading

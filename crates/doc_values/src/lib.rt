@@ -12,6 +12,7 @@ pub mod decimal;
 pub mod doc;
 pub mod kind;
 pub mod limits;
+mod name_slots;
 mod names;
 mod node;
 mod number;

@@ -3,7 +3,7 @@ ghost use Rattle.std.specs.Prelude.{◌≡◌, ◌<◌, [], ◌++◌, length, No
 ghost use Rattle.std.specs.Cow.{cow_str_bytes};
 ghost use Rattle.doc_values.specs.code.Names.{name_of, texts_of, IsTable, IsSame, Adds, Has, Joins};
 
-use crate::text_numbers::TextNumbers;
+use crate::name_slots::NameSlots;
 use std::alloc::{AllocError, Global};
 use std::borrow::CowStr;
 use std::mem;
@@ -19,7 +19,7 @@ const NAMES: usize = 4294967295;
 pub struct Names<'s> {
     /// The text of each name, by its number.
     pub texts: Vec<CowStr<'s>>,
-    pub numbers: TextNumbers,
+    pub numbers: NameSlots,
     /// The number of the name that followed each the last time.
     pub followers: Vec<u32>,
     /// The number of the name that was there last.
@@ -35,7 +35,7 @@ impl<'s> Names<'s> {
     {
         Names {
             texts: Vec::new(alloc),
-            numbers: TextNumbers::new(alloc),
+            numbers: NameSlots::new(alloc),
             followers: Vec::new(alloc),
             before: None,
             alloc,
@@ -52,9 +52,10 @@ impl<'s> Names<'s> {
 
     /// The number of a name by its bytes, if it is known.
     pub fn found(&self, key: &str) -> Option<u32>
+        requires { IsTable self.now }
         ensures { result ≡ name_of self.now key.now }
     {
-        self.numbers.get(key)
+        self.numbers.get(&self.texts, key)
     }
 
     /// The number of a name, if it is known.
@@ -84,7 +85,7 @@ impl<'s> Names<'s> {
         }
         self.texts.reserve(1)?;
         self.followers.reserve(1)?;
-        self.numbers.insert(text.as_str(), count as u32)?;
+        self.numbers.insert(&self.texts, text.as_str())?;
         self.followers.push_reserved(0);
         self.texts
             .push_reserved(mem::replace(text, CowStr::Borrowed("")));

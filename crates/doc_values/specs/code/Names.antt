@@ -1,16 +1,17 @@
 -- The names of keys: each has a number, by which its text is found.
 use Rattle.std.specs.Prelude.{ℕ, ◌<◌, ◌≡◌, List, [], ◌∷◌, ◌++◌, map, length, slice_index, slice_index_or, Option, Some, None}
 use Rattle.std.specs.Cow.{cow_str_bytes}
-use Rattle.doc_values.specs.code.TextNumbers.{number_in}
+use Rattle.doc_values.specs.code.TextNumbers.{links_in}
+use Rattle.doc_values.specs.code.NameSlots.{found_in, AreSlotted}
 use Rattle.doc_values.specs.declared.names.Names.{Names}
-
--- the number of a name
-abbrev pub name_of : Names → List ℕ → Option ℕ
-name_of ns k = number_in ns.numbers.links k
 
 -- the texts, by their numbers
 abbrev pub texts_of : Names → List (List ℕ)
 texts_of ns = map cow_str_bytes ns.texts.items
+
+-- the number of a name
+abbrev pub name_of : Names → List ℕ → Option ℕ
+name_of ns k = found_in (texts_of ns) ns.numbers.slots.items (links_in ns.numbers.others.links) k
 
 -- the number of the name that was there last, if one was, is a name's
 abbrev pub IsBefore : Option ℕ → ℕ → Type 0
@@ -21,6 +22,7 @@ IsBefore (Some n) count = n < count
 pub record IsTable (ns : Names) : Type 0 where
   pub known : (k : List ℕ) (n : ℕ) → name_of ns k ≡ Some n → (n < length (texts_of ns)) × (slice_index_or (texts_of ns) n [] ≡ k)
   pub listed : (n : ℕ) → n < length (texts_of ns) → name_of ns (slice_index_or (texts_of ns) n []) ≡ Some n
+  pub slotted : AreSlotted (texts_of ns) ns.numbers.slots.items (links_in ns.numbers.others.links)
   pub followed : length ns.followers.items ≡ length (texts_of ns)
   pub follows : (n : ℕ) → n < length ns.followers.items → slice_index ns.followers.items n < length (texts_of ns)
   pub before : IsBefore ns.before (length (texts_of ns))

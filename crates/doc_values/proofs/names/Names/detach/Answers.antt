@@ -4,7 +4,7 @@ use Rattle.std.proofs.lemmas.Iterator.Adapters.{YieldsList-from_vec}
 use Rattle.std.proofs.lemmas.Iterator.Consumers.{YieldsList-end}
 use Rattle.std.specs.Cow.{cow_str_bytes}
 use Rattle.doc_values.specs.declared.names.Names.{Names}
-use Rattle.doc_values.proofs.Table.{IsSame-texts}
+use Rattle.doc_values.proofs.Table.{IsSame-texts, numbered}
 use Rattle.doc_values.proofs.names.Names.detach.Goals as goal
 
 pub returns : goal.returns
@@ -14,5 +14,5 @@ returns c =
     let gives = c.into_iter-text-iterator.ensures.into_iter_gives in
     let end = YieldsList-end (YieldsList-from_vec {s = c.into_iter-text-iterator.result} old.texts.items gives.0 (gives.1 ∙ old.texts.ok.0)) c.loop-text.yielded c.loop-text.text-iterator c.loop-text.yielded_by c.next.result c.next.new.self c.in-None.is c.next.ensures.steps in
     let all = sym (map-id c.loop-text.yielded) ∙ end.0 in
-    let same = IsSame-texts old new (λ j. refl) (c.loop-text.invariant ∙ ap (map cow_str_bytes) all) refl refl c.requires in
+    let same = IsSame-texts old new (numbered old c.requires) (c.loop-text.invariant ∙ ap (map cow_str_bytes) all) refl refl c.requires in
     (same.table, same.texts)

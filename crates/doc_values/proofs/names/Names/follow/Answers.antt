@@ -2,11 +2,11 @@ use Rattle.std.proofs.Common.{refl}
 use Rattle.std.specs.Prelude.{Some}
 use Rattle.std.specs.Vec.{with_item}
 use Rattle.doc_values.specs.declared.names.Names.{Names}
-use Rattle.doc_values.proofs.Table.{IsTable-follow}
+use Rattle.doc_values.proofs.Table.{IsTable-follow, numbered}
 use Rattle.doc_values.proofs.names.Names.follow.Goals as goal
 
 pub returns-in-Some-clause-table : goal.returns-in-Some-clause-table
 returns-in-Some-clause-table c =
     let old : Names = c.args.self.now in
     let new : Names = record { texts = old.texts; numbers = old.numbers; followers = with_item old.followers c.in-Some.before c.args.number; before = Some c.args.number; alloc = old.alloc } in
-    IsTable-follow old new c.in-Some.before c.args.number c.requires.table c.requires.within refl (λ j. refl) refl refl
+    IsTable-follow old new c.in-Some.before c.args.number c.requires.table c.requires.within refl (numbered old c.requires.table) refl refl

@@ -1,4 +1,4 @@
-use Rattle.std.proofs.Common.{List, ℕ, sym, ap, ◌∙◌}
+use Rattle.std.proofs.Common.{sym, ap, ◌∙◌}
 use Rattle.std.specs.Prelude.{option_and_then}
 use Rattle.doc_values.specs.code.TextNumbers.{Links, links_in, number_by}
 use Rattle.doc_values.proofs.TextLinks.{last_more, lost_at, last_all}

@@ -1,4 +1,4 @@
-use Rattle.std.proofs.Common.{ℕ, ◌+◌, ◌*◌, ◌<◌, arith, sym}
+use Rattle.std.proofs.Common.{◌<◌, arith, sym}
 use Rattle.doc_values.specs.code.TextNumbers.{Links, links_in, longer}
 use Rattle.doc_values.specs.declared.text_numbers.TextNumbers.{TextNumbers}
 use Rattle.doc_values.proofs.TextLinks.{inner_tree, inner_widens, nowhere, puts_in, same_tree}
