@@ -16,9 +16,9 @@ ghost use Rattle.yaml_blocks.specs.code.Steps.{stack, IsSeen, IsBlock, HasKey, N
 
 use crate::ahead::{Ahead, Token, look};
 use crate::flow::open;
-use crate::form::{Form, is_entry_column};
+use crate::form::{Form, Site, is_entry_column};
 use crate::node::{
-    Key, as_key, begin, begin_tag, colon_behind, find_key, find_scalar, innermost, offset,
+    Key, TagMap, as_key, begin, begin_tag, colon_behind, find_key, find_scalar, innermost, offset,
     starts_scalar, take_block_scalar, take_null,
 };
 use crate::place::{colon_place, dash_place, last_told, root_place};
@@ -38,27 +38,25 @@ use yaml_scalars::Scalar;
 /// A sequence begins at a `-`.
 fn sequence(
     text: &str,
-    at: usize,
-    form: Form,
-    next: Ahead,
+    site: Site,
     forms: &mut Vec<Form>,
     builder: &mut DocBuilder,
 ) -> Result<Position, Stop>
-    requires awaited { Awaited text.now (stack forms.old.items) builder.old form at next }
-    requires dash { next.token ≡ Token.Dash }
-    requires takes { takes_sequence form next ≡ true }
-    ensures gives { (other : List ℕ) → Awaited other (stack forms.old.items) builder.old form at next → SameNode text.now other form at next → Gives other (Awaits other (stack forms.old.items) builder.old.outer builder.old.done builder.old.key at) (2 * at + 1) (stack forms.new.items) builder.new result }
-    ensures fixes { FixesNode text.now form at next result }
+    requires awaited { Awaited text.now (stack forms.old.items) builder.old site.form site.at site.next }
+    requires dash { site.next.token ≡ Token.Dash }
+    requires takes { takes_sequence site.form site.next ≡ true }
+    ensures gives { (other : List ℕ) → Awaited other (stack forms.old.items) builder.old site.form site.at site.next → SameNode text.now other site.form site.at site.next → Gives other (Awaits other (stack forms.old.items) builder.old.outer builder.old.done builder.old.key site.at) (2 * site.at + 1) (stack forms.new.items) builder.new result }
+    ensures fixes { FixesNode text.now site.form site.at site.next result }
     ensures opens { Opening (stack forms.new.items) result }
-    ensures stops { Stops text.now at (NoValue at next form (stack forms.old.items) builder.old) result }
-    ensures longer { Lengthens text.now Stage.Value (stack forms.old.items) builder.old at result }
-    ensures extends { ExtendsValue text.now (stack forms.old.items) builder.old at (stack forms.new.items) builder.new result }
+    ensures stops { Stops text.now site.at (NoValue site.at site.next site.form (stack forms.old.items) builder.old) result }
+    ensures longer { Lengthens text.now Stage.Value (stack forms.old.items) builder.old site.at result }
+    ensures extends { ExtendsValue text.now (stack forms.old.items) builder.old site.at (stack forms.new.items) builder.new result }
 {
-    let column = column_in(form, next);
-    match begin(Form::Items { column }, next, forms, builder) {
+    let column = column_in(site.form, site.next);
+    match begin(Form::Items { column }, site.next, forms, builder) {
         Ok(()) => Ok(Position {
             stage: Stage::Value,
-            at: next.behind,
+            at: site.next.behind,
         }),
         Err(refusal) => Err(refusal),
     }
@@ -67,30 +65,28 @@ fn sequence(
 /// A mapping begins at its first key.
 fn mapping<'s>(
     text: &'s str,
-    at: usize,
-    form: Form,
-    next: Ahead,
+    site: Site,
     key: Key<'s>,
     forms: &mut Vec<Form>,
     builder: &mut DocBuilder<'s>,
 ) -> Result<Position, Stop>
-    requires awaited { Awaited text.now (stack forms.old.items) builder.old form at next }
-    requires key { HasKey text.now next key }
-    requires takes { takes_mapping form next ≡ true }
-    requires ends { EndsKey text.now next }
-    ensures gives { (other : List ℕ) → Awaited other (stack forms.old.items) builder.old form at next → SameNode text.now other form at next → Gives other (Awaits other (stack forms.old.items) builder.old.outer builder.old.done builder.old.key at) (2 * at + 1) (stack forms.new.items) builder.new result }
-    ensures fixes { FixesNode text.now form at next result }
+    requires awaited { Awaited text.now (stack forms.old.items) builder.old site.form site.at site.next }
+    requires key { HasKey text.now site.next key }
+    requires takes { takes_mapping site.form site.next ≡ true }
+    requires ends { EndsKey text.now site.next }
+    ensures gives { (other : List ℕ) → Awaited other (stack forms.old.items) builder.old site.form site.at site.next → SameNode text.now other site.form site.at site.next → Gives other (Awaits other (stack forms.old.items) builder.old.outer builder.old.done builder.old.key site.at) (2 * site.at + 1) (stack forms.new.items) builder.new result }
+    ensures fixes { FixesNode text.now site.form site.at site.next result }
     ensures opens { Opening (stack forms.new.items) result }
-    ensures stops { Stops text.now at (NoValue at next form (stack forms.old.items) builder.old) result }
-    ensures longer { Lengthens text.now Stage.Value (stack forms.old.items) builder.old at result }
-    ensures extends { ExtendsValue text.now (stack forms.old.items) builder.old at (stack forms.new.items) builder.new result }
-    ensures again { starts_scalar next.token ≡ true → SignStays text.now Stage.Value (stack forms.old.items) builder.old at result }
+    ensures stops { Stops text.now site.at (NoValue site.at site.next site.form (stack forms.old.items) builder.old) result }
+    ensures longer { Lengthens text.now Stage.Value (stack forms.old.items) builder.old site.at result }
+    ensures extends { ExtendsValue text.now (stack forms.old.items) builder.old site.at (stack forms.new.items) builder.new result }
+    ensures again { starts_scalar site.next.token ≡ true → SignStays text.now Stage.Value (stack forms.old.items) builder.old site.at result }
 {
     let Key { text: name, behind } = key;
-    let column = column_in(form, next);
-    match begin(Form::Entries { column }, next, forms, builder) {
+    let column = column_in(site.form, site.next);
+    match begin(Form::Entries { column }, site.next, forms, builder) {
         Err(refusal) => Err(refusal),
-        Ok(()) => match builder.key(name, offset(next.at)) {
+        Ok(()) => match builder.key(name, offset(site.next.at)) {
             Ok(()) => Ok(Position {
                 stage: Stage::Value,
                 at: behind,
@@ -104,55 +100,54 @@ fn mapping<'s>(
 fn tag<'s>(
     alloc: Global,
     text: &'s str,
-    at: usize,
-    form: Form,
-    len: usize,
-    next: Ahead,
+    site: Site,
     forms: &mut Vec<Form>,
     builder: &mut DocBuilder<'s>,
 ) -> Result<Position, Stop>
-    requires awaited { Awaited text.now (stack forms.old.items) builder.old form at next }
-    requires tag { next.token ≡ Token.Tag len }
-    requires takes { takes_tag form next ≡ true }
-    ensures gives { (other : List ℕ) → Awaited other (stack forms.old.items) builder.old form at next → SameNode text.now other form at next → Gives other (Awaits other (stack forms.old.items) builder.old.outer builder.old.done builder.old.key at) (2 * at + 1) (stack forms.new.items) builder.new result }
-    ensures fixes { FixesNode text.now form at next result }
+    requires awaited { Awaited text.now (stack forms.old.items) builder.old site.form site.at site.next }
+    requires tag { (len : ℕ) × (site.next.token ≡ Token.Tag len) }
+    requires takes { takes_tag site.form site.next ≡ true }
+    ensures gives { (other : List ℕ) → Awaited other (stack forms.old.items) builder.old site.form site.at site.next → SameNode text.now other site.form site.at site.next → Gives other (Awaits other (stack forms.old.items) builder.old.outer builder.old.done builder.old.key site.at) (2 * site.at + 1) (stack forms.new.items) builder.new result }
+    ensures fixes { FixesNode text.now site.form site.at site.next result }
     ensures opens { Opening (stack forms.new.items) result }
-    ensures stops { Stops text.now at (NoValue at next form (stack forms.old.items) builder.old) result }
-    ensures longer { Lengthens text.now Stage.Value (stack forms.old.items) builder.old at result }
-    ensures extends { ExtendsValue text.now (stack forms.old.items) builder.old at (stack forms.new.items) builder.new result }
+    ensures stops { Stops text.now site.at (NoValue site.at site.next site.form (stack forms.old.items) builder.old) result }
+    ensures longer { Lengthens text.now Stage.Value (stack forms.old.items) builder.old site.at result }
+    ensures extends { ExtendsValue text.now (stack forms.old.items) builder.old site.at (stack forms.new.items) builder.new result }
 {
-    begin_tag(alloc, text, tagged(form, next), next, forms, builder)
+    let map = TagMap {
+        form: tagged(site.form, site.next),
+        next: site.next,
+    };
+    begin_tag(alloc, text, map, forms, builder)
 }
 
 /// A scalar where no key stands; over a colon that ends the text a plain one goes on with a letter behind it.
 fn scalar_there<'s>(
     alloc: Global,
     text: &'s str,
-    at: usize,
-    form: Form,
-    next: Ahead,
+    site: Site,
     forms: &[Form],
     builder: &mut DocBuilder<'s>,
 ) -> Result<Position, Stop>
     requires small { length text.now ≤ text_limit }
-    requires awaited { Awaited text.now (stack forms.now) builder.old form at next }
-    requires starts { starts_scalar next.token ≡ true }
-    requires takes { takes_scalar form next ≡ true }
-    requires no_key { takes_mapping form next ≡ true → NoKey text.now next }
-    ensures gives { (other : List ℕ) → Awaited other (stack forms.now) builder.old form at next → SameNode text.now other form at next → Gives other (Awaits other (stack forms.now) builder.old.outer builder.old.done builder.old.key at) (2 * at + 1) (stack forms.now) builder.new result }
-    ensures fixes { FixesNode text.now form at next result }
+    requires awaited { Awaited text.now (stack forms.now) builder.old site.form site.at site.next }
+    requires starts { starts_scalar site.next.token ≡ true }
+    requires takes { takes_scalar site.form site.next ≡ true }
+    requires no_key { takes_mapping site.form site.next ≡ true → NoKey text.now site.next }
+    ensures gives { (other : List ℕ) → Awaited other (stack forms.now) builder.old site.form site.at site.next → SameNode text.now other site.form site.at site.next → Gives other (Awaits other (stack forms.now) builder.old.outer builder.old.done builder.old.key site.at) (2 * site.at + 1) (stack forms.now) builder.new result }
+    ensures fixes { FixesNode text.now site.form site.at site.next result }
     ensures opens { Opening (stack forms.now) result }
-    ensures stops { Stops text.now at (NoValue at next form (stack forms.now) builder.old) result }
-    ensures longer { OnUnread (InRoom text.now builder.old form at next (LengthensAt text.now Stage.Value (stack forms.now) builder.old at)) result }
-    ensures runs { OnUnread (RunsOn text.now false (setting_of form) next) result }
-    ensures extends { ExtendsValue text.now (stack forms.now) builder.old at (stack forms.now) builder.new result }
-    ensures again { starts_scalar next.token ≡ true → SignStays text.now Stage.Value (stack forms.now) builder.old at result }
+    ensures stops { Stops text.now site.at (NoValue site.at site.next site.form (stack forms.now) builder.old) result }
+    ensures longer { OnUnread (InRoom text.now builder.old site.form site.at site.next (LengthensAt text.now Stage.Value (stack forms.now) builder.old site.at)) result }
+    ensures runs { OnUnread (RunsOn text.now false (setting_of site.form) site.next) result }
+    ensures extends { ExtendsValue text.now (stack forms.now) builder.old site.at (stack forms.now) builder.new result }
+    ensures again { starts_scalar site.next.token ≡ true → SignStays text.now Stage.Value (stack forms.now) builder.old site.at result }
 {
-    let position = match take_block_scalar(alloc, text, at, form, next, builder) {
+    let position = match take_block_scalar(alloc, text, site, builder) {
         Ok(position) => position,
         Err(stop) => return Err(stop),
     };
-    if is_pointed(text, false, next.at, position.at) {
+    if is_pointed(text, false, site.next.at, position.at) {
         return Err(Stop::Unread(offset(text.len())));
     }
     Ok(position)
@@ -162,30 +157,28 @@ fn scalar_there<'s>(
 fn scalar<'s>(
     alloc: Global,
     text: &'s str,
-    at: usize,
-    form: Form,
-    next: Ahead,
+    site: Site,
     forms: &[Form],
     builder: &mut DocBuilder<'s>,
 ) -> Result<Position, Stop>
     requires small { length text.now ≤ text_limit }
-    requires awaited { Awaited text.now (stack forms.now) builder.old form at next }
-    requires starts { starts_scalar next.token ≡ true }
-    requires takes { takes_scalar form next ≡ true }
-    requires no_key { takes_mapping form next ≡ true → NoKey text.now next }
-    ensures gives { (other : List ℕ) → Awaited other (stack forms.now) builder.old form at next → SameNode text.now other form at next → Gives other (Awaits other (stack forms.now) builder.old.outer builder.old.done builder.old.key at) (2 * at + 1) (stack forms.now) builder.new result }
-    ensures fixes { FixesNode text.now form at next result }
+    requires awaited { Awaited text.now (stack forms.now) builder.old site.form site.at site.next }
+    requires starts { starts_scalar site.next.token ≡ true }
+    requires takes { takes_scalar site.form site.next ≡ true }
+    requires no_key { takes_mapping site.form site.next ≡ true → NoKey text.now site.next }
+    ensures gives { (other : List ℕ) → Awaited other (stack forms.now) builder.old site.form site.at site.next → SameNode text.now other site.form site.at site.next → Gives other (Awaits other (stack forms.now) builder.old.outer builder.old.done builder.old.key site.at) (2 * site.at + 1) (stack forms.now) builder.new result }
+    ensures fixes { FixesNode text.now site.form site.at site.next result }
     ensures opens { Opening (stack forms.now) result }
-    ensures stops { Stops text.now at (NoValue at next form (stack forms.now) builder.old) result }
-    ensures longer { Lengthens text.now Stage.Value (stack forms.now) builder.old at result }
-    ensures extends { ExtendsValue text.now (stack forms.now) builder.old at (stack forms.now) builder.new result }
-    ensures again { starts_scalar next.token ≡ true → SignStays text.now Stage.Value (stack forms.now) builder.old at result }
+    ensures stops { Stops text.now site.at (NoValue site.at site.next site.form (stack forms.now) builder.old) result }
+    ensures longer { Lengthens text.now Stage.Value (stack forms.now) builder.old site.at result }
+    ensures extends { ExtendsValue text.now (stack forms.now) builder.old site.at (stack forms.now) builder.new result }
+    ensures again { starts_scalar site.next.token ≡ true → SignStays text.now Stage.Value (stack forms.now) builder.old site.at result }
 {
     let depth = builder.depth();
-    match scalar_there(alloc, text, at, form, next, forms, builder) {
+    match scalar_there(alloc, text, site, forms, builder) {
         Ok(position) => Ok(position),
         Err(stop) => {
-            let split = is_split(text, at, form, next, depth);
+            let split = is_split(text, site.at, site.form, site.next, depth);
             Err(split_stop(text, split, stop))
         }
     }
@@ -195,230 +188,216 @@ fn scalar<'s>(
 fn content<'s>(
     alloc: Global,
     text: &'s str,
-    at: usize,
-    form: Form,
-    next: Ahead,
+    site: Site,
     forms: &mut Vec<Form>,
     builder: &mut DocBuilder<'s>,
 ) -> Result<Position, Stop>
     requires small { length text.now ≤ text_limit }
-    requires awaited { Awaited text.now (stack forms.old.items) builder.old form at next }
-    requires starts { starts_scalar next.token ≡ true }
-    requires takes { takes_scalar form next ≡ true }
-    ensures gives { (other : List ℕ) → Awaited other (stack forms.old.items) builder.old form at next → SameNode text.now other form at next → Gives other (Awaits other (stack forms.old.items) builder.old.outer builder.old.done builder.old.key at) (2 * at + 1) (stack forms.new.items) builder.new result }
-    ensures fixes { FixesNode text.now form at next result }
+    requires awaited { Awaited text.now (stack forms.old.items) builder.old site.form site.at site.next }
+    requires starts { starts_scalar site.next.token ≡ true }
+    requires takes { takes_scalar site.form site.next ≡ true }
+    ensures gives { (other : List ℕ) → Awaited other (stack forms.old.items) builder.old site.form site.at site.next → SameNode text.now other site.form site.at site.next → Gives other (Awaits other (stack forms.old.items) builder.old.outer builder.old.done builder.old.key site.at) (2 * site.at + 1) (stack forms.new.items) builder.new result }
+    ensures fixes { FixesNode text.now site.form site.at site.next result }
     ensures opens { Opening (stack forms.new.items) result }
-    ensures stops { Stops text.now at (NoValue at next form (stack forms.old.items) builder.old) result }
-    ensures longer { Lengthens text.now Stage.Value (stack forms.old.items) builder.old at result }
-    ensures extends { ExtendsValue text.now (stack forms.old.items) builder.old at (stack forms.new.items) builder.new result }
-    ensures again { starts_scalar next.token ≡ true → SignStays text.now Stage.Value (stack forms.old.items) builder.old at result }
+    ensures stops { Stops text.now site.at (NoValue site.at site.next site.form (stack forms.old.items) builder.old) result }
+    ensures longer { Lengthens text.now Stage.Value (stack forms.old.items) builder.old site.at result }
+    ensures extends { ExtendsValue text.now (stack forms.old.items) builder.old site.at (stack forms.new.items) builder.new result }
+    ensures again { starts_scalar site.next.token ≡ true → SignStays text.now Stage.Value (stack forms.old.items) builder.old site.at result }
 {
-    if !takes_mapping(form, next) {
-        return scalar(alloc, text, at, form, next, forms, builder);
+    if !takes_mapping(site.form, site.next) {
+        return scalar(alloc, text, site, forms, builder);
     }
-    match find_key(alloc, text, next) {
+    match find_key(alloc, text, site.next) {
         Err(refusal) => Err(refusal),
-        Ok(None) => scalar(alloc, text, at, form, next, forms, builder),
-        Ok(Some(key)) => mapping(text, at, form, next, key, forms, builder),
+        Ok(None) => scalar(alloc, text, site, forms, builder),
+        Ok(Some(key)) => mapping(text, site, key, forms, builder),
     }
 }
 
 /// No node stands there: it is null, but for the root.
 fn missing(
     text: &str,
-    at: usize,
-    form: Form,
-    next: Ahead,
+    site: Site,
     forms: &[Form],
     builder: &mut DocBuilder,
 ) -> Result<Position, Stop>
     requires small { length text.now ≤ text_limit }
-    requires awaited { Awaited text.now (stack forms.now) builder.old form at next }
-    requires none { NoNode form next }
-    requires unsigned { block_sign form next ≡ None }
-    requires once { is_tagged form ≡ true → (len : ℕ) → next.token ≡ Token.Tag len → ⊥ }
-    requires late { next.token ≡ Token.Dash → takes_scalar form next ≡ false }
-    ensures gives { (other : List ℕ) → Awaited other (stack forms.now) builder.old form at next → SameNode text.now other form at next → Gives other (Awaits other (stack forms.now) builder.old.outer builder.old.done builder.old.key at) (2 * at + 1) (stack forms.now) builder.new result }
-    ensures fixes { FixesNode text.now form at next result }
+    requires awaited { Awaited text.now (stack forms.now) builder.old site.form site.at site.next }
+    requires none { NoNode site.form site.next }
+    requires unsigned { block_sign site.form site.next ≡ None }
+    requires once { is_tagged site.form ≡ true → (len : ℕ) → site.next.token ≡ Token.Tag len → ⊥ }
+    requires late { site.next.token ≡ Token.Dash → takes_scalar site.form site.next ≡ false }
+    ensures gives { (other : List ℕ) → Awaited other (stack forms.now) builder.old site.form site.at site.next → SameNode text.now other site.form site.at site.next → Gives other (Awaits other (stack forms.now) builder.old.outer builder.old.done builder.old.key site.at) (2 * site.at + 1) (stack forms.now) builder.new result }
+    ensures fixes { FixesNode text.now site.form site.at site.next result }
     ensures opens { Opening (stack forms.now) result }
-    ensures stops { Stops text.now at (NoValue at next form (stack forms.now) builder.old) result }
-    ensures longer { Lengthens text.now Stage.Value (stack forms.now) builder.old at result }
-    ensures extends { ExtendsValue text.now (stack forms.now) builder.old at (stack forms.now) builder.new result }
-    ensures again { starts_scalar next.token ≡ true → SignStays text.now Stage.Value (stack forms.now) builder.old at result }
+    ensures stops { Stops text.now site.at (NoValue site.at site.next site.form (stack forms.now) builder.old) result }
+    ensures longer { Lengthens text.now Stage.Value (stack forms.now) builder.old site.at result }
+    ensures extends { ExtendsValue text.now (stack forms.now) builder.old site.at (stack forms.now) builder.new result }
+    ensures again { starts_scalar site.next.token ≡ true → SignStays text.now Stage.Value (stack forms.now) builder.old site.at result }
 {
-    match form {
-        Form::Root => Err(Stop::Unread(last_told(text, next))),
-        _ => take_null(at, at, builder),
+    match site.form {
+        Form::Root => Err(Stop::Unread(last_told(text, site.next))),
+        _ => take_null(site.at, site.at, builder),
     }
 }
 
 /// Behind a tag without a node another tag, which is the sign where a key may begin.
 fn tag_again(
     text: &str,
-    at: usize,
-    form: Form,
+    site: Site,
     len: usize,
-    next: Ahead,
     forms: &mut Vec<Form>,
     builder: &mut DocBuilder,
 ) -> Result<Position, Stop>
     requires small { length text.now ≤ text_limit }
-    requires awaited { Awaited text.now (stack forms.old.items) builder.old form at next }
-    requires tag { next.token ≡ Token.Tag len }
-    requires tagged { is_tagged form ≡ true }
-    requires none { NoNode form next }
-    requires unsigned { block_sign form next ≡ None }
-    ensures gives { (other : List ℕ) → Awaited other (stack forms.old.items) builder.old form at next → SameNode text.now other form at next → Gives other (Awaits other (stack forms.old.items) builder.old.outer builder.old.done builder.old.key at) (2 * at + 1) (stack forms.new.items) builder.new result }
-    ensures fixes { FixesNode text.now form at next result }
+    requires awaited { Awaited text.now (stack forms.old.items) builder.old site.form site.at site.next }
+    requires tag { site.next.token ≡ Token.Tag len }
+    requires tagged { is_tagged site.form ≡ true }
+    requires none { NoNode site.form site.next }
+    requires unsigned { block_sign site.form site.next ≡ None }
+    ensures gives { (other : List ℕ) → Awaited other (stack forms.old.items) builder.old site.form site.at site.next → SameNode text.now other site.form site.at site.next → Gives other (Awaits other (stack forms.old.items) builder.old.outer builder.old.done builder.old.key site.at) (2 * site.at + 1) (stack forms.new.items) builder.new result }
+    ensures fixes { FixesNode text.now site.form site.at site.next result }
     ensures opens { Opening (stack forms.new.items) result }
-    ensures stops { Stops text.now at (NoValue at next form (stack forms.old.items) builder.old) result }
-    ensures longer { Lengthens text.now Stage.Value (stack forms.old.items) builder.old at result }
-    ensures extends { ExtendsValue text.now (stack forms.old.items) builder.old at (stack forms.new.items) builder.new result }
+    ensures stops { Stops text.now site.at (NoValue site.at site.next site.form (stack forms.old.items) builder.old) result }
+    ensures longer { Lengthens text.now Stage.Value (stack forms.old.items) builder.old site.at result }
+    ensures extends { ExtendsValue text.now (stack forms.old.items) builder.old site.at (stack forms.new.items) builder.new result }
 {
-    match take_null(at, at, builder) {
+    match take_null(site.at, site.at, builder) {
         Err(refusal) => return Err(refusal),
         Ok(_) => {}
     }
-    match end_before(next, forms, builder) {
+    match end_before(site.next, forms, builder) {
         Err(refusal) => return Err(refusal),
         Ok(()) => {}
     }
-    if is_entry_column(innermost(forms), next) {
-        return Err(Stop::Tag(offset(next.at)));
+    if is_entry_column(innermost(forms), site.next) {
+        return Err(Stop::Tag(offset(site.next.at)));
     }
-    Err(Stop::Unread(last_told(text, next)))
+    Err(Stop::Unread(last_told(text, site.next)))
 }
 
 /// A tag where none begins a node.
 fn late_tag(
     text: &str,
-    at: usize,
-    form: Form,
+    site: Site,
     len: usize,
-    next: Ahead,
     forms: &mut Vec<Form>,
     builder: &mut DocBuilder,
 ) -> Result<Position, Stop>
     requires small { length text.now ≤ text_limit }
-    requires awaited { Awaited text.now (stack forms.old.items) builder.old form at next }
-    requires tag { next.token ≡ Token.Tag len }
-    requires none { NoNode form next }
-    requires unsigned { block_sign form next ≡ None }
-    ensures gives { (other : List ℕ) → Awaited other (stack forms.old.items) builder.old form at next → SameNode text.now other form at next → Gives other (Awaits other (stack forms.old.items) builder.old.outer builder.old.done builder.old.key at) (2 * at + 1) (stack forms.new.items) builder.new result }
-    ensures fixes { FixesNode text.now form at next result }
+    requires awaited { Awaited text.now (stack forms.old.items) builder.old site.form site.at site.next }
+    requires tag { site.next.token ≡ Token.Tag len }
+    requires none { NoNode site.form site.next }
+    requires unsigned { block_sign site.form site.next ≡ None }
+    ensures gives { (other : List ℕ) → Awaited other (stack forms.old.items) builder.old site.form site.at site.next → SameNode text.now other site.form site.at site.next → Gives other (Awaits other (stack forms.old.items) builder.old.outer builder.old.done builder.old.key site.at) (2 * site.at + 1) (stack forms.new.items) builder.new result }
+    ensures fixes { FixesNode text.now site.form site.at site.next result }
     ensures opens { Opening (stack forms.new.items) result }
-    ensures stops { Stops text.now at (NoValue at next form (stack forms.old.items) builder.old) result }
-    ensures longer { Lengthens text.now Stage.Value (stack forms.old.items) builder.old at result }
-    ensures extends { ExtendsValue text.now (stack forms.old.items) builder.old at (stack forms.new.items) builder.new result }
+    ensures stops { Stops text.now site.at (NoValue site.at site.next site.form (stack forms.old.items) builder.old) result }
+    ensures longer { Lengthens text.now Stage.Value (stack forms.old.items) builder.old site.at result }
+    ensures extends { ExtendsValue text.now (stack forms.old.items) builder.old site.at (stack forms.new.items) builder.new result }
 {
-    if is_tagged(form) {
-        tag_again(text, at, form, len, next, forms, builder)
+    if is_tagged(site.form) {
+        tag_again(text, site, len, forms, builder)
     } else {
-        missing(text, at, form, next, forms, builder)
+        missing(text, site, forms, builder)
     }
 }
 
 /// A `-` where no sequence may begin: on the line of a key or a tag nothing may follow it.
 fn late_dash(
     text: &str,
-    at: usize,
-    form: Form,
-    next: Ahead,
+    site: Site,
     forms: &[Form],
     builder: &mut DocBuilder,
 ) -> Result<Position, Stop>
     requires small { length text.now ≤ text_limit }
-    requires awaited { Awaited text.now (stack forms.now) builder.old form at next }
-    requires dash { next.token ≡ Token.Dash }
-    requires none { NoNode form next }
-    requires unsigned { block_sign form next ≡ None }
-    ensures gives { (other : List ℕ) → Awaited other (stack forms.now) builder.old form at next → SameNode text.now other form at next → Gives other (Awaits other (stack forms.now) builder.old.outer builder.old.done builder.old.key at) (2 * at + 1) (stack forms.now) builder.new result }
-    ensures fixes { FixesNode text.now form at next result }
+    requires awaited { Awaited text.now (stack forms.now) builder.old site.form site.at site.next }
+    requires dash { site.next.token ≡ Token.Dash }
+    requires none { NoNode site.form site.next }
+    requires unsigned { block_sign site.form site.next ≡ None }
+    ensures gives { (other : List ℕ) → Awaited other (stack forms.now) builder.old site.form site.at site.next → SameNode text.now other site.form site.at site.next → Gives other (Awaits other (stack forms.now) builder.old.outer builder.old.done builder.old.key site.at) (2 * site.at + 1) (stack forms.now) builder.new result }
+    ensures fixes { FixesNode text.now site.form site.at site.next result }
     ensures opens { Opening (stack forms.now) result }
-    ensures stops { Stops text.now at (NoValue at next form (stack forms.now) builder.old) result }
-    ensures longer { Lengthens text.now Stage.Value (stack forms.now) builder.old at result }
-    ensures extends { ExtendsValue text.now (stack forms.now) builder.old at (stack forms.now) builder.new result }
+    ensures stops { Stops text.now site.at (NoValue site.at site.next site.form (stack forms.now) builder.old) result }
+    ensures longer { Lengthens text.now Stage.Value (stack forms.now) builder.old site.at result }
+    ensures extends { ExtendsValue text.now (stack forms.now) builder.old site.at (stack forms.now) builder.new result }
 {
-    if takes_scalar(form, next) {
-        return Err(Stop::Unread(dash_place(text, next)));
+    if takes_scalar(site.form, site.next) {
+        return Err(Stop::Unread(dash_place(text, site.next)));
     }
-    missing(text, at, form, next, forms, builder)
+    missing(text, site, forms, builder)
 }
 
 /// A flow collection begins.
 fn brackets(
     text: &str,
-    at: usize,
-    form: Form,
+    site: Site,
     map: bool,
-    next: Ahead,
     forms: &mut Vec<Form>,
     builder: &mut DocBuilder,
 ) -> Result<Position, Stop>
-    requires awaited { Awaited text.now (stack forms.old.items) builder.old form at next }
-    requires opens { next.token ≡ Token.Opens map }
-    requires takes { takes_scalar form next ≡ true }
-    ensures gives { (other : List ℕ) → Awaited other (stack forms.old.items) builder.old form at next → SameNode text.now other form at next → Gives other (Awaits other (stack forms.old.items) builder.old.outer builder.old.done builder.old.key at) (2 * at + 1) (stack forms.new.items) builder.new result }
-    ensures fixes { FixesNode text.now form at next result }
+    requires awaited { Awaited text.now (stack forms.old.items) builder.old site.form site.at site.next }
+    requires opens { site.next.token ≡ Token.Opens map }
+    requires takes { takes_scalar site.form site.next ≡ true }
+    ensures gives { (other : List ℕ) → Awaited other (stack forms.old.items) builder.old site.form site.at site.next → SameNode text.now other site.form site.at site.next → Gives other (Awaits other (stack forms.old.items) builder.old.outer builder.old.done builder.old.key site.at) (2 * site.at + 1) (stack forms.new.items) builder.new result }
+    ensures fixes { FixesNode text.now site.form site.at site.next result }
     ensures opens { Opening (stack forms.new.items) result }
-    ensures stops { Stops text.now at (NoValue at next form (stack forms.old.items) builder.old) result }
-    ensures longer { Lengthens text.now Stage.Value (stack forms.old.items) builder.old at result }
-    ensures extends { ExtendsValue text.now (stack forms.old.items) builder.old at (stack forms.new.items) builder.new result }
+    ensures stops { Stops text.now site.at (NoValue site.at site.next site.form (stack forms.old.items) builder.old) result }
+    ensures longer { Lengthens text.now Stage.Value (stack forms.old.items) builder.old site.at result }
+    ensures extends { ExtendsValue text.now (stack forms.old.items) builder.old site.at (stack forms.new.items) builder.new result }
 {
-    open(map, next, forms, builder)
+    open(map, site.next, forms, builder)
 }
 
 /// A node, or that none stands there, by the token ahead.
 fn node_at<'s>(
     alloc: Global,
     text: &'s str,
-    at: usize,
-    form: Form,
-    next: Ahead,
+    site: Site,
     forms: &mut Vec<Form>,
     builder: &mut DocBuilder<'s>,
 ) -> Result<Position, Stop>
     requires small { length text.now ≤ text_limit }
-    requires awaited { Awaited text.now (stack forms.old.items) builder.old form at next }
-    requires unsigned { block_sign form next ≡ None }
-    ensures gives { (other : List ℕ) → Awaited other (stack forms.old.items) builder.old form at next → SameNode text.now other form at next → Gives other (Awaits other (stack forms.old.items) builder.old.outer builder.old.done builder.old.key at) (2 * at + 1) (stack forms.new.items) builder.new result }
-    ensures fixes { FixesNode text.now form at next result }
+    requires awaited { Awaited text.now (stack forms.old.items) builder.old site.form site.at site.next }
+    requires unsigned { block_sign site.form site.next ≡ None }
+    ensures gives { (other : List ℕ) → Awaited other (stack forms.old.items) builder.old site.form site.at site.next → SameNode text.now other site.form site.at site.next → Gives other (Awaits other (stack forms.old.items) builder.old.outer builder.old.done builder.old.key site.at) (2 * site.at + 1) (stack forms.new.items) builder.new result }
+    ensures fixes { FixesNode text.now site.form site.at site.next result }
     ensures opens { Opening (stack forms.new.items) result }
-    ensures stops { Stops text.now at (NoValue at next form (stack forms.old.items) builder.old) result }
-    ensures longer { Lengthens text.now Stage.Value (stack forms.old.items) builder.old at result }
-    ensures extends { ExtendsValue text.now (stack forms.old.items) builder.old at (stack forms.new.items) builder.new result }
-    ensures again { starts_scalar next.token ≡ true → SignStays text.now Stage.Value (stack forms.old.items) builder.old at result }
+    ensures stops { Stops text.now site.at (NoValue site.at site.next site.form (stack forms.old.items) builder.old) result }
+    ensures longer { Lengthens text.now Stage.Value (stack forms.old.items) builder.old site.at result }
+    ensures extends { ExtendsValue text.now (stack forms.old.items) builder.old site.at (stack forms.new.items) builder.new result }
+    ensures again { starts_scalar site.next.token ≡ true → SignStays text.now Stage.Value (stack forms.old.items) builder.old site.at result }
 {
-    match next.token {
+    match site.next.token {
         Token::Dash => {
-            if takes_sequence(form, next) {
-                sequence(text, at, form, next, forms, builder)
+            if takes_sequence(site.form, site.next) {
+                sequence(text, site, forms, builder)
             } else {
-                late_dash(text, at, form, next, forms, builder)
+                late_dash(text, site, forms, builder)
             }
         }
         Token::Tag { len } => {
-            if takes_tag(form, next) {
-                tag(alloc, text, at, form, len, next, forms, builder)
+            if takes_tag(site.form, site.next) {
+                tag(alloc, text, site, forms, builder)
             } else {
-                late_tag(text, at, form, len, next, forms, builder)
+                late_tag(text, site, len, forms, builder)
             }
         }
         Token::Opens { map } => {
-            if takes_scalar(form, next) {
-                brackets(text, at, form, map, next, forms, builder)
+            if takes_scalar(site.form, site.next) {
+                brackets(text, site, map, forms, builder)
             } else {
-                missing(text, at, form, next, forms, builder)
+                missing(text, site, forms, builder)
             }
         }
         Token::Other | Token::Point { .. } => {
-            if takes_scalar(form, next) {
-                content(alloc, text, at, form, next, forms, builder)
+            if takes_scalar(site.form, site.next) {
+                content(alloc, text, site, forms, builder)
             } else {
-                missing(text, at, form, next, forms, builder)
+                missing(text, site, forms, builder)
             }
         }
-        _ => missing(text, at, form, next, forms, builder),
+        _ => missing(text, site, forms, builder),
     }
 }
 
@@ -426,28 +405,27 @@ fn node_at<'s>(
 pub(crate) fn node<'s>(
     alloc: Global,
     text: &'s str,
-    at: usize,
-    form: Form,
+    site: Site,
     forms: &mut Vec<Form>,
     builder: &mut DocBuilder<'s>,
 ) -> Result<Position, Stop>
     requires small { length text.now ≤ text_limit }
-    requires boundary { IsCharBoundary text.now at }
-    requires form { top (stack forms.old.items) ≡ form }
-    requires block { IsBlock form }
-    requires fits { Fits text.now Stage.Value (stack forms.old.items) builder.old at }
-    ensures gives { (other : List ℕ) → Awaited other (stack forms.old.items) builder.old form at (ahead text.now false at) → SameNode text.now other form at (ahead text.now false at) → Gives other (Awaits other (stack forms.old.items) builder.old.outer builder.old.done builder.old.key at) (2 * at + 1) (stack forms.new.items) builder.new result }
-    ensures fixes { FixesNode text.now form at (ahead text.now false at) result }
+    requires seen { IsSeen text.now false site.at site.next }
+    requires boundary { IsCharBoundary text.now site.at }
+    requires form { top (stack forms.old.items) ≡ site.form }
+    requires block { IsBlock site.form }
+    requires fits { Fits text.now Stage.Value (stack forms.old.items) builder.old site.at }
+    ensures gives { (other : List ℕ) → Awaited other (stack forms.old.items) builder.old site.form site.at (ahead text.now false site.at) → SameNode text.now other site.form site.at (ahead text.now false site.at) → Gives other (Awaits other (stack forms.old.items) builder.old.outer builder.old.done builder.old.key site.at) (2 * site.at + 1) (stack forms.new.items) builder.new result }
+    ensures fixes { FixesNode text.now site.form site.at (ahead text.now false site.at) result }
     ensures opens { Opening (stack forms.new.items) result }
-    ensures stops { Stops text.now at (NoValue at (ahead text.now false at) form (stack forms.old.items) builder.old) result }
-    ensures longer { Lengthens text.now Stage.Value (stack forms.old.items) builder.old at result }
-    ensures extends { ExtendsValue text.now (stack forms.old.items) builder.old at (stack forms.new.items) builder.new result }
-    ensures again { starts_scalar (ahead text.now false at).token ≡ true → SignStays text.now Stage.Value (stack forms.old.items) builder.old at result }
+    ensures stops { Stops text.now site.at (NoValue site.at (ahead text.now false site.at) site.form (stack forms.old.items) builder.old) result }
+    ensures longer { Lengthens text.now Stage.Value (stack forms.old.items) builder.old site.at result }
+    ensures extends { ExtendsValue text.now (stack forms.old.items) builder.old site.at (stack forms.new.items) builder.new result }
+    ensures again { starts_scalar (ahead text.now false site.at).token ≡ true → SignStays text.now Stage.Value (stack forms.old.items) builder.old site.at result }
 {
-    let next = look(text, false, at);
-    match block_sign(form, next) {
+    match block_sign(site.form, site.next) {
         Some(refusal) => Err(refusal),
-        None => node_at(alloc, text, at, form, next, forms, builder),
+        None => node_at(alloc, text, site, forms, builder),
     }
 }
 
@@ -469,83 +447,67 @@ fn end_before(next: Ahead, forms: &mut Vec<Form>, builder: &mut DocBuilder) -> R
     Ok(())
 }
 
-/// Another item of a sequence.
-fn item(
-    text: &str,
-    at: usize,
-    column: usize,
-    next: Ahead,
-    forms: &[Form],
-    builder: &DocBuilder,
-) -> Result<Position, Stop>
+/// Another item of a sequence, at its column.
+fn item(text: &str, site: Site, forms: &[Form], builder: &DocBuilder) -> Result<Position, Stop>
     requires small { length text.now ≤ text_limit }
-    requires seen { IsSeen text.now false at next }
-    requires told { is_ending next.token ≡ false }
-    requires fresh { next.fresh ≡ true }
-    requires form { top (stack forms.now) ≡ Form.Items column }
-    requires stays { ends_before (Form.Items column) next ≡ false }
+    requires seen { IsSeen text.now false site.at site.next }
+    requires told { is_ending site.next.token ≡ false }
+    requires fresh { site.next.fresh ≡ true }
+    requires form { top (stack forms.now) ≡ Form.Items site.next.column }
+    requires stays { ends_before (Form.Items site.next.column) site.next ≡ false }
     requires open { Open (stack forms.now) builder.now }
     requires awaited { builder.now.key ≡ None }
-    requires boundary { IsCharBoundary text.now at }
-    ensures gives { (other : List ℕ) → IsSeen other false at next → Inside other at → Gives other (Ends other (stack forms.now) builder.now.outer builder.now.done at) (2 * at + 2) (stack forms.now) builder.now result }
-    ensures fixes { (text : List ℕ) → IsSeen text false at next → IsCharBoundary text at → FixesEnd text at next result }
+    requires boundary { IsCharBoundary text.now site.at }
+    ensures gives { (other : List ℕ) → IsSeen other false site.at site.next → Inside other site.at → Gives other (Ends other (stack forms.now) builder.now.outer builder.now.done site.at) (2 * site.at + 2) (stack forms.now) builder.now result }
+    ensures fixes { (text : List ℕ) → IsSeen text false site.at site.next → IsCharBoundary text site.at → FixesEnd text site.at site.next result }
     ensures opens { Opening (stack forms.now) result }
-    ensures stops { Stops text.now at (NoLine at next (stack forms.now) builder.now) result }
-    ensures longer { Lengthens text.now Stage.After (stack forms.now) builder.now at result }
+    ensures stops { Stops text.now site.at (NoLine site.at site.next (stack forms.now) builder.now) result }
+    ensures longer { Lengthens text.now Stage.After (stack forms.now) builder.now site.at result }
     ensures leaves { Leaves result }
-    ensures again { starts_scalar next.token ≡ true → OnSign (NoneBehind text.now (stack forms.now) builder.now at) result }
+    ensures again { starts_scalar site.next.token ≡ true → OnSign (NoneBehind text.now (stack forms.now) builder.now site.at) result }
 {
-    if next.column != column {
-        return Err(Stop::Unread(last_told(text, next)));
-    }
-    match next.token {
+    match site.next.token {
         Token::Dash => Ok(Position {
             stage: Stage::Value,
-            at: next.behind,
+            at: site.next.behind,
         }),
-        _ => Err(Stop::Unread(last_told(text, next))),
+        _ => Err(Stop::Unread(last_told(text, site.next))),
     }
 }
 
-/// Another entry of a mapping.
+/// Another entry of a mapping, at its column.
 fn entry<'s>(
     alloc: Global,
     text: &'s str,
-    at: usize,
-    column: usize,
-    next: Ahead,
+    site: Site,
     forms: &[Form],
     builder: &mut DocBuilder<'s>,
 ) -> Result<Position, Stop>
     requires small { length text.now ≤ text_limit }
-    requires seen { IsSeen text.now false at next }
-    requires told { is_ending next.token ≡ false }
-    requires fresh { next.fresh ≡ true }
-    requires form { top (stack forms.now) ≡ Form.Entries column }
-    requires stays { ends_before (Form.Entries column) next ≡ false }
+    requires seen { IsSeen text.now false site.at site.next }
+    requires told { is_ending site.next.token ≡ false }
+    requires fresh { site.next.fresh ≡ true }
+    requires form { top (stack forms.now) ≡ Form.Entries site.next.column }
     requires open { Open (stack forms.now) builder.old }
     requires awaited { builder.old.key ≡ None }
-    requires boundary { IsCharBoundary text.now at }
-    requires behind { text_start text.now ≤ at }
-    ensures gives { (other : List ℕ) → IsSeen other false at next → Inside other at → IsCalm other builder.old at → SameKey text.now other next → Gives other (Ends other (stack forms.now) builder.old.outer builder.old.done at) (2 * at + 2) (stack forms.now) builder.new result }
-    ensures fixes { FixesEnd text.now at next result }
+    requires boundary { IsCharBoundary text.now site.at }
+    requires behind { text_start text.now ≤ site.at }
+    ensures gives { (other : List ℕ) → IsSeen other false site.at site.next → Inside other site.at → IsCalm other builder.old site.at → SameKey text.now other site.next → Gives other (Ends other (stack forms.now) builder.old.outer builder.old.done site.at) (2 * site.at + 2) (stack forms.now) builder.new result }
+    ensures fixes { FixesEnd text.now site.at site.next result }
     ensures opens { Opening (stack forms.now) result }
-    ensures stops { Stops text.now at (NoLine at next (stack forms.now) builder.old) result }
-    ensures longer { Lengthens text.now Stage.After (stack forms.now) builder.old at result }
+    ensures stops { Stops text.now site.at (NoLine site.at site.next (stack forms.now) builder.old) result }
+    ensures longer { Lengthens text.now Stage.After (stack forms.now) builder.old site.at result }
     ensures leaves { Leaves result }
-    ensures again { starts_scalar next.token ≡ true → OnSign (NoneBehind text.now (stack forms.now) builder.old at) result }
+    ensures again { starts_scalar site.next.token ≡ true → OnSign (NoneBehind text.now (stack forms.now) builder.old site.at) result }
 {
-    if next.column != column {
-        return Err(Stop::Unread(last_told(text, next)));
-    }
-    match node_sign(false, next) {
+    match node_sign(false, site.next) {
         Some(refusal) => return Err(refusal),
         None => {}
     }
-    if !starts_scalar(next.token) {
-        return Err(Stop::Unread(dash_place(text, next)));
+    if !starts_scalar(site.next.token) {
+        return Err(Stop::Unread(dash_place(text, site.next)));
     }
-    let scalar = match find_scalar(alloc, text, next, as_key(false)) {
+    let scalar = match find_scalar(alloc, text, site.next, as_key(false)) {
         Ok(scalar) => scalar,
         Err(refusal) => return Err(refusal),
     };
@@ -554,7 +516,7 @@ fn entry<'s>(
         text: words,
         end,
     } = scalar;
-    match builder.key(words, offset(next.at)) {
+    match builder.key(words, offset(site.next.at)) {
         Ok(()) => {}
         Err(refusal) => return Err(Stop::from(refusal)),
     }
@@ -571,35 +533,43 @@ fn entry<'s>(
 fn head<'s>(
     alloc: Global,
     text: &'s str,
-    at: usize,
-    form: Form,
-    next: Ahead,
+    site: Site,
     forms: &[Form],
     builder: &mut DocBuilder<'s>,
 ) -> Result<Position, Stop>
     requires small { length text.now ≤ text_limit }
-    requires seen { IsSeen text.now false at next }
-    requires told { is_ending next.token ≡ false }
-    requires fresh { next.fresh ≡ true }
-    requires form { top (stack forms.now) ≡ form }
-    requires block { IsBlock form }
-    requires stays { ends_before form next ≡ false }
+    requires seen { IsSeen text.now false site.at site.next }
+    requires told { is_ending site.next.token ≡ false }
+    requires fresh { site.next.fresh ≡ true }
+    requires form { top (stack forms.now) ≡ site.form }
+    requires block { IsBlock site.form }
+    requires stays { ends_before site.form site.next ≡ false }
     requires open { Open (stack forms.now) builder.old }
     requires awaited { builder.old.key ≡ None }
-    requires boundary { IsCharBoundary text.now at }
-    requires behind { text_start text.now ≤ at }
-    ensures gives { (other : List ℕ) → IsSeen other false at next → Inside other at → IsCalm other builder.old at → SameKey text.now other next → Gives other (Ends other (stack forms.now) builder.old.outer builder.old.done at) (2 * at + 2) (stack forms.now) builder.new result }
-    ensures fixes { FixesEnd text.now at next result }
+    requires boundary { IsCharBoundary text.now site.at }
+    requires behind { text_start text.now ≤ site.at }
+    ensures gives { (other : List ℕ) → IsSeen other false site.at site.next → Inside other site.at → IsCalm other builder.old site.at → SameKey text.now other site.next → Gives other (Ends other (stack forms.now) builder.old.outer builder.old.done site.at) (2 * site.at + 2) (stack forms.now) builder.new result }
+    ensures fixes { FixesEnd text.now site.at site.next result }
     ensures opens { Opening (stack forms.now) result }
-    ensures stops { Stops text.now at (NoLine at next (stack forms.now) builder.old) result }
-    ensures longer { Lengthens text.now Stage.After (stack forms.now) builder.old at result }
+    ensures stops { Stops text.now site.at (NoLine site.at site.next (stack forms.now) builder.old) result }
+    ensures longer { Lengthens text.now Stage.After (stack forms.now) builder.old site.at result }
     ensures leaves { Leaves result }
-    ensures again { starts_scalar next.token ≡ true → OnSign (NoneBehind text.now (stack forms.now) builder.old at) result }
+    ensures again { starts_scalar site.next.token ≡ true → OnSign (NoneBehind text.now (stack forms.now) builder.old site.at) result }
 {
-    match form {
-        Form::Items { column } => item(text, at, column, next, forms, builder),
-        Form::Entries { column } => entry(alloc, text, at, column, next, forms, builder),
-        Form::Root => Err(Stop::Unread(root_place(text, next))),
+    match site.form {
+        Form::Items { column } => {
+            if site.next.column != column {
+                return Err(Stop::Unread(last_told(text, site.next)));
+            }
+            item(text, site, forms, builder)
+        }
+        Form::Entries { column } => {
+            if site.next.column != column {
+                return Err(Stop::Unread(last_told(text, site.next)));
+            }
+            entry(alloc, text, site, forms, builder)
+        }
+        Form::Root => Err(Stop::Unread(root_place(text, site.next))),
         Form::Flow { map: _ } => unreachable!(),
         Form::FlowTagged { at: _ } => unreachable!(),
         Form::Tagged { .. } => unreachable!(),
@@ -610,33 +580,40 @@ fn head<'s>(
 fn line<'s>(
     alloc: Global,
     text: &'s str,
-    at: usize,
-    next: Ahead,
+    site: Site,
     forms: &mut Vec<Form>,
     builder: &mut DocBuilder<'s>,
 ) -> Result<Position, Stop>
     requires small { length text.now ≤ text_limit }
-    requires seen { IsSeen text.now false at next }
-    requires told { is_ending next.token ≡ false }
+    requires seen { IsSeen text.now false site.at site.next }
+    requires told { is_ending site.next.token ≡ false }
+    requires form { top (stack forms.old.items) ≡ site.form }
     requires block { IsBlock (top (stack forms.old.items)) }
     requires open { Open (stack forms.old.items) builder.old }
     requires awaited { builder.old.key ≡ None }
-    requires boundary { IsCharBoundary text.now at }
-    requires behind { text_start text.now ≤ at }
-    ensures gives { (other : List ℕ) → IsSeen other false at next → Inside other at → IsCalm other builder.old at → SameKey text.now other next → Gives other (Ends other (stack forms.old.items) builder.old.outer builder.old.done at) (2 * at + 2) (stack forms.new.items) builder.new result }
-    ensures fixes { FixesEnd text.now at next result }
+    requires boundary { IsCharBoundary text.now site.at }
+    requires behind { text_start text.now ≤ site.at }
+    ensures gives { (other : List ℕ) → IsSeen other false site.at site.next → Inside other site.at → IsCalm other builder.old site.at → SameKey text.now other site.next → Gives other (Ends other (stack forms.old.items) builder.old.outer builder.old.done site.at) (2 * site.at + 2) (stack forms.new.items) builder.new result }
+    ensures fixes { FixesEnd text.now site.at site.next result }
     ensures opens { Opening (stack forms.new.items) result }
-    ensures stops { Stops text.now at (NoLine at next (stack forms.old.items) builder.old) result }
-    ensures longer { Lengthens text.now Stage.After (stack forms.old.items) builder.old at result }
+    ensures stops { Stops text.now site.at (NoLine site.at site.next (stack forms.old.items) builder.old) result }
+    ensures longer { Lengthens text.now Stage.After (stack forms.old.items) builder.old site.at result }
     ensures leaves { Leaves result }
-    ensures again { starts_scalar next.token ≡ true → OnSign (NoneBehind text.now (stack forms.old.items) builder.old at) result }
+    ensures again { starts_scalar site.next.token ≡ true → OnSign (NoneBehind text.now (stack forms.old.items) builder.old site.at) result }
 {
-    if !next.fresh {
-        return Err(Stop::Unread(last_told(text, next)));
+    if !site.next.fresh {
+        return Err(Stop::Unread(last_told(text, site.next)));
     }
-    match end_before(next, forms, builder) {
+    match end_before(site.next, forms, builder) {
         Err(refusal) => Err(refusal),
-        Ok(()) => head(alloc, text, at, innermost(forms), next, forms, builder),
+        Ok(()) => {
+            let below = Site {
+                at: site.at,
+                form: innermost(forms),
+                next: site.next,
+            };
+            head(alloc, text, below, forms, builder)
+        }
     }
 }
 
@@ -693,6 +670,13 @@ pub(crate) fn after<'s>(
     }
     match next.token {
         Token::Dots => Err(Stop::Unread(last_told(text, look(text, false, next.behind)))),
-        _ => line(alloc, text, at, next, forms, builder),
+        _ => {
+            let site = Site {
+                at,
+                form: innermost(forms),
+                next,
+            };
+            line(alloc, text, site, forms, builder)
+        }
     }
 }

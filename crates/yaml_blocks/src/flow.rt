@@ -13,12 +13,13 @@ ghost use Rattle.yaml_blocks.specs.code.Rest.{top, Ends, Enters, Awaits};
 ghost use Rattle.yaml_blocks.specs.code.Extends.{Shuts};
 ghost use Rattle.yaml_blocks.specs.code.Feeds.{FeedsSeen, FeedsFlowNode, FeedsFlowKey, FeedsEntry};
 ghost use Rattle.yaml_blocks.specs.code.Twins.{Stops, Lengthens, MendsNode, OnUnread, NoTail, NoFlowValue, NoEntry, FixesFlowNode, FixesFlowKey, FixesEntry, FixesSeen};
-ghost use Rattle.yaml_blocks.specs.code.Steps.{stack, IsSeen, SameFlowNode, SameFlowKey, IsFlow, IsBehind, Open, Gives, Opened, Closed, is_flow_ending};
+ghost use Rattle.yaml_blocks.specs.code.Steps.{stack, has_keys, IsSeen, SameFlowNode, SameFlowKey, IsFlow, IsBehind, Open, Gives, Opened, Closed, is_flow_ending};
 
 use crate::ahead::{Ahead, Token, look};
-use crate::form::Form;
+use crate::form::{Form, Site};
 use crate::node::{
-    as_key, begin, begin_tag, find_scalar, innermost, offset, starts_scalar, take_null, take_scalar,
+    TagMap, as_key, begin, begin_tag, find_scalar, has_keys, innermost, offset, starts_scalar,
+    take_null, take_scalar,
 };
 use crate::place::flow_place;
 use crate::point::is_pointed;
@@ -81,74 +82,66 @@ pub(crate) fn open(
 fn tag<'s>(
     alloc: Global,
     text: &'s str,
-    at: usize,
-    form: Form,
-    len: usize,
-    next: Ahead,
+    site: Site,
     forms: &mut Vec<Form>,
     builder: &mut DocBuilder<'s>,
 ) -> Result<Position, Stop>
     requires small { length text.now ≤ text_limit }
-    requires seen { IsSeen text.now true at next }
-    requires tag { next.token ≡ Token.Tag len }
-    requires form { top (stack forms.old.items) ≡ form }
-    requires takes { may_tag form ≡ true }
+    requires seen { IsSeen text.now true site.at site.next }
+    requires tag { (len : ℕ) × (site.next.token ≡ Token.Tag len) }
+    requires form { top (stack forms.old.items) ≡ site.form }
+    requires takes { may_tag site.form ≡ true }
     requires open { Open (stack forms.old.items) builder.old }
     requires awaited { AwaitsValue builder.old }
-    requires boundary { IsCharBoundary text.now at }
-    requires behind { IsBehind form at }
-    ensures gives { (other : List ℕ) → IsSeen other true at next → tag_name other next.at next.behind ≡ tag_name text.now next.at next.behind → Gives other (Awaits other (stack forms.old.items) builder.old.outer builder.old.done builder.old.key at) (2 * at + 2) (stack forms.new.items) builder.new result }
-    ensures fixes { FixesFlowNode text.now form at next result }
-    ensures feeds { FeedsFlowNode text.now form at next result }
-    ensures shuts { Shuts text.now at (stack forms.new.items) result }
-    ensures stops { Stops text.now at (NoFlowValue at next (stack forms.old.items) builder.old) result }
-    ensures longer { OnUnread (MendsNode text.now (stack forms.old.items) builder.old at) result }
+    requires boundary { IsCharBoundary text.now site.at }
+    requires behind { IsBehind site.form site.at }
+    ensures gives { (other : List ℕ) → IsSeen other true site.at site.next → tag_name other site.next.at site.next.behind ≡ tag_name text.now site.next.at site.next.behind → Gives other (Awaits other (stack forms.old.items) builder.old.outer builder.old.done builder.old.key site.at) (2 * site.at + 2) (stack forms.new.items) builder.new result }
+    ensures fixes { FixesFlowNode text.now site.form site.at site.next result }
+    ensures feeds { FeedsFlowNode text.now site.form site.at site.next result }
+    ensures shuts { Shuts text.now site.at (stack forms.new.items) result }
+    ensures stops { Stops text.now site.at (NoFlowValue site.at site.next (stack forms.old.items) builder.old) result }
+    ensures longer { OnUnread (MendsNode text.now (stack forms.old.items) builder.old site.at) result }
 {
-    begin_tag(
-        alloc,
-        text,
-        Form::FlowTagged { at: next.at },
-        next,
-        forms,
-        builder,
-    )
+    let map = TagMap {
+        form: Form::FlowTagged { at: site.next.at },
+        next: site.next,
+    };
+    begin_tag(alloc, text, map, forms, builder)
 }
 
 /// A scalar; over a colon that ends the text a plain one goes on with a letter behind it.
 fn scalar_there<'s>(
     alloc: Global,
     text: &'s str,
-    at: usize,
-    form: Form,
-    next: Ahead,
+    site: Site,
     forms: &[Form],
     builder: &mut DocBuilder<'s>,
 ) -> Result<Position, Stop>
     requires small { length text.now ≤ text_limit }
-    requires seen { IsSeen text.now true at next }
-    requires starts { starts_scalar next.token ≡ true }
-    requires unsigned { node_sign (is_tagged form) next.at next.token ≡ None }
-    requires there { may_miss form ≡ true → is_flow_ending next.token ≡ false }
-    requires form { top (stack forms.now) ≡ form }
-    requires flow { IsFlow form }
-    requires behind { IsBehind form at }
+    requires seen { IsSeen text.now true site.at site.next }
+    requires starts { starts_scalar site.next.token ≡ true }
+    requires unsigned { node_sign (is_tagged site.form) site.next.at site.next.token ≡ None }
+    requires there { may_miss site.form ≡ true → is_flow_ending site.next.token ≡ false }
+    requires form { top (stack forms.now) ≡ site.form }
+    requires flow { IsFlow site.form }
+    requires behind { IsBehind site.form site.at }
     requires open { Open (stack forms.now) builder.old }
     requires awaited { AwaitsValue builder.old }
-    requires boundary { IsCharBoundary text.now at }
-    ensures gives { (other : List ℕ) → IsSeen other true at next → SameFlowNode text.now other form at next → Gives other (Awaits other (stack forms.now) builder.old.outer builder.old.done builder.old.key at) (2 * at + 2) (stack forms.now) builder.new result }
-    ensures fixes { FixesFlowNode text.now form at next result }
-    ensures feeds { FeedsFlowNode text.now form at next result }
-    ensures stops { Stops text.now at (NoFlowValue at next (stack forms.now) builder.old) result }
-    ensures longer { OnUnread (InRoom text.now builder.old form at next (MendsNode text.now (stack forms.now) builder.old at)) result }
-    ensures runs { OnUnread (RunsOn text.now true (setting_of form) next) result }
-    ensures shuts { Shuts text.now at (stack forms.now) result }
-    ensures again { OnSign (NoneAwaited text.now (stack forms.now) builder.old at) result }
+    requires boundary { IsCharBoundary text.now site.at }
+    ensures gives { (other : List ℕ) → IsSeen other true site.at site.next → SameFlowNode text.now other site.form site.at site.next → Gives other (Awaits other (stack forms.now) builder.old.outer builder.old.done builder.old.key site.at) (2 * site.at + 2) (stack forms.now) builder.new result }
+    ensures fixes { FixesFlowNode text.now site.form site.at site.next result }
+    ensures feeds { FeedsFlowNode text.now site.form site.at site.next result }
+    ensures stops { Stops text.now site.at (NoFlowValue site.at site.next (stack forms.now) builder.old) result }
+    ensures longer { OnUnread (InRoom text.now builder.old site.form site.at site.next (MendsNode text.now (stack forms.now) builder.old site.at)) result }
+    ensures runs { OnUnread (RunsOn text.now true (setting_of site.form) site.next) result }
+    ensures shuts { Shuts text.now site.at (stack forms.now) result }
+    ensures again { OnSign (NoneAwaited text.now (stack forms.now) builder.old site.at) result }
 {
-    let position = match take_scalar(alloc, text, at, form, next, builder) {
+    let position = match take_scalar(alloc, text, site, builder) {
         Ok(position) => position,
         Err(stop) => return Err(stop),
     };
-    if is_pointed(text, true, next.at, position.at) {
+    if is_pointed(text, true, site.next.at, position.at) {
         return Err(Stop::Unread(offset(text.len())));
     }
     Ok(position)
@@ -158,36 +151,34 @@ fn scalar_there<'s>(
 fn scalar<'s>(
     alloc: Global,
     text: &'s str,
-    at: usize,
-    form: Form,
-    next: Ahead,
+    site: Site,
     forms: &[Form],
     builder: &mut DocBuilder<'s>,
 ) -> Result<Position, Stop>
     requires small { length text.now ≤ text_limit }
-    requires seen { IsSeen text.now true at next }
-    requires starts { starts_scalar next.token ≡ true }
-    requires unsigned { node_sign (is_tagged form) next.at next.token ≡ None }
-    requires there { may_miss form ≡ true → is_flow_ending next.token ≡ false }
-    requires form { top (stack forms.now) ≡ form }
-    requires flow { IsFlow form }
-    requires behind { IsBehind form at }
+    requires seen { IsSeen text.now true site.at site.next }
+    requires starts { starts_scalar site.next.token ≡ true }
+    requires unsigned { node_sign (is_tagged site.form) site.next.at site.next.token ≡ None }
+    requires there { may_miss site.form ≡ true → is_flow_ending site.next.token ≡ false }
+    requires form { top (stack forms.now) ≡ site.form }
+    requires flow { IsFlow site.form }
+    requires behind { IsBehind site.form site.at }
     requires open { Open (stack forms.now) builder.old }
     requires awaited { AwaitsValue builder.old }
-    requires boundary { IsCharBoundary text.now at }
-    ensures gives { (other : List ℕ) → IsSeen other true at next → SameFlowNode text.now other form at next → Gives other (Awaits other (stack forms.now) builder.old.outer builder.old.done builder.old.key at) (2 * at + 2) (stack forms.now) builder.new result }
-    ensures fixes { FixesFlowNode text.now form at next result }
-    ensures feeds { FeedsFlowNode text.now form at next result }
-    ensures stops { Stops text.now at (NoFlowValue at next (stack forms.now) builder.old) result }
-    ensures longer { OnUnread (MendsNode text.now (stack forms.now) builder.old at) result }
-    ensures shuts { Shuts text.now at (stack forms.now) result }
-    ensures again { OnSign (NoneAwaited text.now (stack forms.now) builder.old at) result }
+    requires boundary { IsCharBoundary text.now site.at }
+    ensures gives { (other : List ℕ) → IsSeen other true site.at site.next → SameFlowNode text.now other site.form site.at site.next → Gives other (Awaits other (stack forms.now) builder.old.outer builder.old.done builder.old.key site.at) (2 * site.at + 2) (stack forms.now) builder.new result }
+    ensures fixes { FixesFlowNode text.now site.form site.at site.next result }
+    ensures feeds { FeedsFlowNode text.now site.form site.at site.next result }
+    ensures stops { Stops text.now site.at (NoFlowValue site.at site.next (stack forms.now) builder.old) result }
+    ensures longer { OnUnread (MendsNode text.now (stack forms.now) builder.old site.at) result }
+    ensures shuts { Shuts text.now site.at (stack forms.now) result }
+    ensures again { OnSign (NoneAwaited text.now (stack forms.now) builder.old site.at) result }
 {
     let depth = builder.depth();
-    match scalar_there(alloc, text, at, form, next, forms, builder) {
+    match scalar_there(alloc, text, site, forms, builder) {
         Ok(position) => Ok(position),
         Err(stop) => {
-            let split = is_split(text, at, form, next, depth);
+            let split = is_split(text, site.at, site.form, site.next, depth);
             Err(split_stop(text, split, stop))
         }
     }
@@ -197,41 +188,39 @@ fn scalar<'s>(
 fn node<'s>(
     alloc: Global,
     text: &'s str,
-    at: usize,
-    form: Form,
-    next: Ahead,
+    site: Site,
     forms: &mut Vec<Form>,
     builder: &mut DocBuilder<'s>,
 ) -> Result<Position, Stop>
     requires small { length text.now ≤ text_limit }
-    requires seen { IsSeen text.now true at next }
-    requires there { may_miss form ≡ true → is_flow_ending next.token ≡ false }
-    requires form { top (stack forms.old.items) ≡ form }
-    requires flow { IsFlow form }
-    requires behind { IsBehind form at }
+    requires seen { IsSeen text.now true site.at site.next }
+    requires there { may_miss site.form ≡ true → is_flow_ending site.next.token ≡ false }
+    requires form { top (stack forms.old.items) ≡ site.form }
+    requires flow { IsFlow site.form }
+    requires behind { IsBehind site.form site.at }
     requires open { Open (stack forms.old.items) builder.old }
     requires awaited { AwaitsValue builder.old }
-    requires boundary { IsCharBoundary text.now at }
-    ensures gives { (other : List ℕ) → IsSeen other true at next → SameFlowNode text.now other form at next → Gives other (Awaits other (stack forms.old.items) builder.old.outer builder.old.done builder.old.key at) (2 * at + 2) (stack forms.new.items) builder.new result }
-    ensures fixes { FixesFlowNode text.now form at next result }
-    ensures feeds { FeedsFlowNode text.now form at next result }
-    ensures shuts { Shuts text.now at (stack forms.new.items) result }
-    ensures stops { Stops text.now at (NoFlowValue at next (stack forms.old.items) builder.old) result }
-    ensures longer { OnUnread (MendsNode text.now (stack forms.old.items) builder.old at) result }
-    ensures again { starts_scalar next.token ≡ true → OnSign (NoneAwaited text.now (stack forms.old.items) builder.old at) result }
+    requires boundary { IsCharBoundary text.now site.at }
+    ensures gives { (other : List ℕ) → IsSeen other true site.at site.next → SameFlowNode text.now other site.form site.at site.next → Gives other (Awaits other (stack forms.old.items) builder.old.outer builder.old.done builder.old.key site.at) (2 * site.at + 2) (stack forms.new.items) builder.new result }
+    ensures fixes { FixesFlowNode text.now site.form site.at site.next result }
+    ensures feeds { FeedsFlowNode text.now site.form site.at site.next result }
+    ensures shuts { Shuts text.now site.at (stack forms.new.items) result }
+    ensures stops { Stops text.now site.at (NoFlowValue site.at site.next (stack forms.old.items) builder.old) result }
+    ensures longer { OnUnread (MendsNode text.now (stack forms.old.items) builder.old site.at) result }
+    ensures again { starts_scalar site.next.token ≡ true → OnSign (NoneAwaited text.now (stack forms.old.items) builder.old site.at) result }
 {
-    match node_sign(is_tagged(form), next) {
+    match node_sign(is_tagged(site.form), site.next) {
         Some(refusal) => return Err(refusal),
         None => {}
     }
-    match next.token {
-        Token::Opens { map } => open(map, next, forms, builder),
-        Token::Tag { len } => tag(alloc, text, at, form, len, next, forms, builder),
+    match site.next.token {
+        Token::Opens { map } => open(map, site.next, forms, builder),
+        Token::Tag { .. } => tag(alloc, text, site, forms, builder),
         _ => {
-            if !starts_scalar(next.token) {
-                return Err(Stop::Unread(flow_place(text, next)));
+            if !starts_scalar(site.next.token) {
+                return Err(Stop::Unread(flow_place(text, site.next)));
             }
-            scalar(alloc, text, at, form, next, forms, builder)
+            scalar(alloc, text, site, forms, builder)
         }
     }
 }
@@ -299,35 +288,35 @@ fn colon(text: &str, end: usize, quoted: bool) -> Option<usize>
 fn key<'s>(
     alloc: Global,
     text: &'s str,
-    at: usize,
-    next: Ahead,
+    site: Site,
     forms: &[Form],
     builder: &mut DocBuilder<'s>,
 ) -> Result<Position, Stop>
     requires small { length text.now ≤ text_limit }
-    requires seen { IsSeen text.now true at next }
-    requires there { next.token ≡ Token.Closes true → ⊥ }
-    requires unmarked { is_marked next.token ≡ false }
-    requires form { top (stack forms.now) ≡ Form.Flow true }
+    requires seen { IsSeen text.now true site.at site.next }
+    requires there { site.next.token ≡ Token.Closes true → ⊥ }
+    requires unmarked { is_marked site.next.token ≡ false }
+    requires form { top (stack forms.now) ≡ site.form }
+    requires map { site.form ≡ Form.Flow true }
     requires open { Open (stack forms.now) builder.old }
     requires awaited { builder.old.key ≡ None }
-    requires boundary { IsCharBoundary text.now at }
-    ensures gives { (other : List ℕ) → IsSeen other true at next → SameFlowKey text.now other next → Gives other (Enters other (stack forms.now) builder.old.outer builder.old.done at) (2 * at + 2) (stack forms.now) builder.new result }
-    ensures fixes { FixesFlowKey text.now at next result }
-    ensures feeds { FeedsFlowKey text.now at next result }
-    ensures shuts { Shuts text.now at (stack forms.now) result }
-    ensures stops { Stops text.now at (NoEntry at next (stack forms.now) builder.old) result }
-    ensures longer { Lengthens text.now Stage.Entry (stack forms.now) builder.old at result }
-    ensures again { starts_scalar next.token ≡ true → SignStays text.now Stage.Entry (stack forms.now) builder.old at result }
+    requires boundary { IsCharBoundary text.now site.at }
+    ensures gives { (other : List ℕ) → IsSeen other true site.at site.next → SameFlowKey text.now other site.next → Gives other (Enters other (stack forms.now) builder.old.outer builder.old.done site.at) (2 * site.at + 2) (stack forms.now) builder.new result }
+    ensures fixes { FixesFlowKey text.now site.at site.next result }
+    ensures feeds { FeedsFlowKey text.now site.at site.next result }
+    ensures shuts { Shuts text.now site.at (stack forms.now) result }
+    ensures stops { Stops text.now site.at (NoEntry site.at site.next (stack forms.now) builder.old) result }
+    ensures longer { Lengthens text.now Stage.Entry (stack forms.now) builder.old site.at result }
+    ensures again { starts_scalar site.next.token ≡ true → SignStays text.now Stage.Entry (stack forms.now) builder.old site.at result }
 {
-    match node_sign(false, next) {
+    match node_sign(false, site.next) {
         Some(refusal) => return Err(refusal),
         None => {}
     }
-    if !starts_scalar(next.token) {
-        return Err(Stop::Unread(flow_place(text, next)));
+    if !starts_scalar(site.next.token) {
+        return Err(Stop::Unread(flow_place(text, site.next)));
     }
-    let scalar = match find_scalar(alloc, text, next, as_key(true)) {
+    let scalar = match find_scalar(alloc, text, site.next, as_key(true)) {
         Ok(scalar) => scalar,
         Err(refusal) => return Err(refusal),
     };
@@ -336,11 +325,11 @@ fn key<'s>(
         text: words,
         end,
     } = scalar;
-    match builder.key(words, offset(next.at)) {
+    match builder.key(words, offset(site.next.at)) {
         Ok(()) => {}
         Err(refusal) => return Err(Stop::from(refusal)),
     }
-    match colon(text, end, is_quoted(text.as_bytes(), next.at)) {
+    match colon(text, end, is_quoted(text.as_bytes(), site.next.at)) {
         Some(place) => Ok(Position {
             stage: Stage::Value,
             at: place,
@@ -353,43 +342,36 @@ fn key<'s>(
 pub(crate) fn entry<'s>(
     alloc: Global,
     text: &'s str,
-    at: usize,
-    map: bool,
+    site: Site,
     forms: &mut Vec<Form>,
     builder: &mut DocBuilder<'s>,
 ) -> Result<Position, Stop>
     requires small { length text.now ≤ text_limit }
-    requires boundary { IsCharBoundary text.now at }
-    requires form { top (stack forms.old.items) ≡ Form.Flow map }
+    requires seen { IsSeen text.now true site.at site.next }
+    requires boundary { IsCharBoundary text.now site.at }
+    requires form { top (stack forms.old.items) ≡ site.form }
+    requires flow { site.form ≡ Form.Flow (has_keys site.form) }
     requires open { Open (stack forms.old.items) builder.old }
     requires awaited { builder.old.key ≡ None }
-    ensures gives { (other : List ℕ) → IsSeen other true at (ahead text.now true at) → (map ≡ true → SameFlowKey text.now other (ahead text.now true at)) → (map ≡ false → SameFlowNode text.now other (Form.Flow false) at (ahead text.now true at)) → Gives other (Enters other (stack forms.old.items) builder.old.outer builder.old.done at) (2 * at + 2) (stack forms.new.items) builder.new result }
-    ensures fixes { FixesEntry text.now map at (ahead text.now true at) result }
-    ensures feeds { FeedsEntry text.now map at (ahead text.now true at) result }
-    ensures shuts { Shuts text.now at (stack forms.new.items) result }
-    ensures stops { Stops text.now at (NoEntry at (ahead text.now true at) (stack forms.old.items) builder.old) result }
-    ensures longer { Lengthens text.now Stage.Entry (stack forms.old.items) builder.old at result }
-    ensures again { starts_scalar (ahead text.now true at).token ≡ true → SignStays text.now Stage.Entry (stack forms.old.items) builder.old at result }
+    ensures gives { (other : List ℕ) → IsSeen other true site.at (ahead text.now true site.at) → (has_keys site.form ≡ true → SameFlowKey text.now other (ahead text.now true site.at)) → (has_keys site.form ≡ false → SameFlowNode text.now other (Form.Flow false) site.at (ahead text.now true site.at)) → Gives other (Enters other (stack forms.old.items) builder.old.outer builder.old.done site.at) (2 * site.at + 2) (stack forms.new.items) builder.new result }
+    ensures fixes { FixesEntry text.now (has_keys site.form) site.at (ahead text.now true site.at) result }
+    ensures feeds { FeedsEntry text.now (has_keys site.form) site.at (ahead text.now true site.at) result }
+    ensures shuts { Shuts text.now site.at (stack forms.new.items) result }
+    ensures stops { Stops text.now site.at (NoEntry site.at (ahead text.now true site.at) (stack forms.old.items) builder.old) result }
+    ensures longer { Lengthens text.now Stage.Entry (stack forms.old.items) builder.old site.at result }
+    ensures again { starts_scalar (ahead text.now true site.at).token ≡ true → SignStays text.now Stage.Entry (stack forms.old.items) builder.old site.at result }
 {
-    let next = look(text, true, at);
-    if closes(next.token, map) {
-        return close(next, forms, builder);
+    let map = has_keys(site.form);
+    if closes(site.next.token, map) {
+        return close(site.next, forms, builder);
     }
-    if is_marked(next.token) {
-        return Err(Stop::ManyDocuments(offset(next.at)));
+    if is_marked(site.next.token) {
+        return Err(Stop::ManyDocuments(offset(site.next.at)));
     }
     if map {
-        key(alloc, text, at, next, forms, builder)
+        key(alloc, text, site, forms, builder)
     } else {
-        node(
-            alloc,
-            text,
-            at,
-            Form::Flow { map: false },
-            next,
-            forms,
-            builder,
-        )
+        node(alloc, text, site, forms, builder)
     }
 }
 
@@ -397,32 +379,31 @@ pub(crate) fn entry<'s>(
 pub(crate) fn value<'s>(
     alloc: Global,
     text: &'s str,
-    at: usize,
-    form: Form,
+    site: Site,
     forms: &mut Vec<Form>,
     builder: &mut DocBuilder<'s>,
 ) -> Result<Position, Stop>
     requires small { length text.now ≤ text_limit }
-    requires boundary { IsCharBoundary text.now at }
-    requires form { top (stack forms.old.items) ≡ form }
-    requires flow { IsFlow form }
-    requires behind { IsBehind form at }
-    requires misses { may_miss form ≡ true }
+    requires seen { IsSeen text.now true site.at site.next }
+    requires boundary { IsCharBoundary text.now site.at }
+    requires form { top (stack forms.old.items) ≡ site.form }
+    requires flow { IsFlow site.form }
+    requires behind { IsBehind site.form site.at }
+    requires misses { may_miss site.form ≡ true }
     requires open { Open (stack forms.old.items) builder.old }
     requires awaited { AwaitsValue builder.old }
-    ensures gives { (other : List ℕ) → IsSeen other true at (ahead text.now true at) → IsCharBoundary other at → SameFlowNode text.now other form at (ahead text.now true at) → Gives other (Awaits other (stack forms.old.items) builder.old.outer builder.old.done builder.old.key at) (2 * at + 1) (stack forms.new.items) builder.new result }
-    ensures fixes { FixesFlowNode text.now form at (ahead text.now true at) result }
-    ensures feeds { FeedsFlowNode text.now form at (ahead text.now true at) result }
-    ensures shuts { Shuts text.now at (stack forms.new.items) result }
-    ensures stops { Stops text.now at (NoFlowValue at (ahead text.now true at) (stack forms.old.items) builder.old) result }
-    ensures longer { Lengthens text.now Stage.Value (stack forms.old.items) builder.old at result }
-    ensures again { starts_scalar (ahead text.now true at).token ≡ true → OnSign (NoneAwaited text.now (stack forms.old.items) builder.old at) result }
+    ensures gives { (other : List ℕ) → IsSeen other true site.at (ahead text.now true site.at) → IsCharBoundary other site.at → SameFlowNode text.now other site.form site.at (ahead text.now true site.at) → Gives other (Awaits other (stack forms.old.items) builder.old.outer builder.old.done builder.old.key site.at) (2 * site.at + 1) (stack forms.new.items) builder.new result }
+    ensures fixes { FixesFlowNode text.now site.form site.at (ahead text.now true site.at) result }
+    ensures feeds { FeedsFlowNode text.now site.form site.at (ahead text.now true site.at) result }
+    ensures shuts { Shuts text.now site.at (stack forms.new.items) result }
+    ensures stops { Stops text.now site.at (NoFlowValue site.at (ahead text.now true site.at) (stack forms.old.items) builder.old) result }
+    ensures longer { Lengthens text.now Stage.Value (stack forms.old.items) builder.old site.at result }
+    ensures again { starts_scalar (ahead text.now true site.at).token ≡ true → OnSign (NoneAwaited text.now (stack forms.old.items) builder.old site.at) result }
 {
-    let next = look(text, true, at);
-    if is_flow_ending(next.token) {
-        return take_null(at, at, builder);
+    if is_flow_ending(site.next.token) {
+        return take_null(site.at, site.at, builder);
     }
-    node(alloc, text, at, form, next, forms, builder)
+    node(alloc, text, site, forms, builder)
 }
 
 /// What follows a complete node of a collection.

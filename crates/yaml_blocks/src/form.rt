@@ -33,6 +33,17 @@ pub(crate) enum Form {
     },
 }
 
+/// Where reading stands.
+#[derive(Clone, Copy)]
+pub(crate) struct Site {
+    /// The byte offset.
+    pub(crate) at: usize,
+    /// What a node stands in there.
+    pub(crate) form: Form,
+    /// What is ahead.
+    pub(crate) next: Ahead,
+}
+
 /// Whether a further entry of a block mapping begins at the column of a token.
 pub(crate) fn is_entry_column(form: Form, next: Ahead) -> bool
     ensures yes { result ≡ true → form ≡ Form.Entries next.column }

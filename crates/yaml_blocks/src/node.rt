@@ -13,7 +13,7 @@ ghost use Rattle.yaml_blocks.specs.code.Rest.{top};
 ghost use Rattle.yaml_blocks.specs.code.Twins.{FailedAt, TornAt};
 
 use crate::ahead::{Ahead, Token, look};
-use crate::form::Form;
+use crate::form::{Form, Site};
 use crate::place::{refused_place, torn_stop};
 use crate::stage::{Position, Stage};
 use crate::stop::{Stop, of_scalar};
@@ -28,6 +28,24 @@ pub(crate) struct Key<'s> {
     pub(crate) text: CowStr<'s>,
     /// The place behind its colon.
     pub(crate) behind: usize,
+}
+
+/// How a scalar becomes a value.
+#[derive(Clone, Copy)]
+struct ScalarMode {
+    /// How it stands.
+    setting: Setting,
+    /// Whether a text is cut at its first dot.
+    cuts: bool,
+}
+
+/// The map of a tag.
+#[derive(Clone, Copy)]
+pub(crate) struct TagMap {
+    /// What its value stands in.
+    pub(crate) form: Form,
+    /// The tag.
+    pub(crate) next: Ahead,
 }
 
 /// The indentation of the parent of a block's nodes.
@@ -108,7 +126,7 @@ pub(crate) fn as_key(flow: bool) -> Setting
 }
 
 /// Whether the entries of a form have keys.
-fn has_keys(form: Form) -> bool
+pub(crate) fn has_keys(form: Form) -> bool
     ensures { result ≡ has_keys form }
 {
     match form {
@@ -289,20 +307,19 @@ fn take_cut<'s>(
     alloc: Global,
     text: &'s str,
     next: Ahead,
-    setting: Setting,
-    cuts: bool,
+    mode: ScalarMode,
     builder: &mut DocBuilder<'s>,
 ) -> Result<Position, Stop>
     requires small { length text.now ≤ text_limit }
     requires boundary { IsCharBoundary text.now next.at }
     requires starts { starts_scalar next.token ≡ true }
-    requires low { negsuc 0 ≤ℤ setting.parent }
-    requires high { setting.parent ≤ℤ pos text_limit }
+    requires low { negsuc 0 ≤ℤ mode.setting.parent }
+    requires high { mode.setting.parent ≤ℤ pos text_limit }
     requires awaited { AwaitsValue builder.old }
-    ensures holds { Holds text.now setting cuts next builder.old builder.new result }
-    ensures place { (q : ℕ) → result ≡ Err (Stop.Unread q) → FailedAt text.now setting next q }
+    ensures holds { Holds text.now mode.setting mode.cuts next builder.old builder.new result }
+    ensures place { (q : ℕ) → result ≡ Err (Stop.Unread q) → FailedAt text.now mode.setting next q }
 {
-    let scalar = match find_scalar(alloc, text, next, setting) {
+    let scalar = match find_scalar(alloc, text, next, mode.setting) {
         Ok(scalar) => scalar,
         Err(refusal) => return Err(refusal),
     };
@@ -311,7 +328,7 @@ fn take_cut<'s>(
         text: words,
         end,
     } = scalar;
-    match parts(alloc, cuts, &kind, &words) {
+    match parts(alloc, mode.cuts, &kind, &words) {
         Err(_) => return Err(Stop::NoMemory),
         Ok(Some((first, second))) => return take_pair(first, second, next.at, end, builder),
         Ok(None) => {}
@@ -330,47 +347,46 @@ fn take_cut<'s>(
 pub(crate) fn take_scalar<'s>(
     alloc: Global,
     text: &'s str,
-    at: usize,
-    form: Form,
-    next: Ahead,
+    site: Site,
     builder: &mut DocBuilder<'s>,
 ) -> Result<Position, Stop>
     requires small { length text.now ≤ text_limit }
-    requires within { at ≤ length text.now }
-    requires boundary { IsCharBoundary text.now next.at }
-    requires starts { starts_scalar next.token ≡ true }
-    requires form { IsSmall form }
-    requires behind { IsBehind form at }
+    requires within { site.at ≤ length text.now }
+    requires boundary { IsCharBoundary text.now site.next.at }
+    requires starts { starts_scalar site.next.token ≡ true }
+    requires form { IsSmall site.form }
+    requires behind { IsBehind site.form site.at }
     requires awaited { AwaitsValue builder.old }
-    ensures holds { Holds text.now (setting_of form) (follows_get_att text.now form at) next builder.old builder.new result }
-    ensures place { (q : ℕ) → result ≡ Err (Stop.Unread q) → FailedAt text.now (setting_of form) next q }
+    ensures holds { Holds text.now (setting_of site.form) (follows_get_att text.now site.form site.at) site.next builder.old builder.new result }
+    ensures place { (q : ℕ) → result ≡ Err (Stop.Unread q) → FailedAt text.now (setting_of site.form) site.next q }
 {
-    let cuts = follows_get_att(text.as_bytes(), form, at);
-    take_cut(alloc, text, next, setting_of(form), cuts, builder)
+    let mode = ScalarMode {
+        setting: setting_of(site.form),
+        cuts: follows_get_att(text.as_bytes(), site.form, site.at),
+    };
+    take_cut(alloc, text, site.next, mode, builder)
 }
 
 /// The same outside of flow, where a block scalar may break off at a dash.
 pub(crate) fn take_block_scalar<'s>(
     alloc: Global,
     text: &'s str,
-    at: usize,
-    form: Form,
-    next: Ahead,
+    site: Site,
     builder: &mut DocBuilder<'s>,
 ) -> Result<Position, Stop>
     requires small { length text.now ≤ text_limit }
-    requires within { at ≤ length text.now }
-    requires boundary { IsCharBoundary text.now next.at }
-    requires starts { starts_scalar next.token ≡ true }
-    requires form { IsSmall form }
-    requires behind { IsBehind form at }
+    requires within { site.at ≤ length text.now }
+    requires boundary { IsCharBoundary text.now site.next.at }
+    requires starts { starts_scalar site.next.token ≡ true }
+    requires form { IsSmall site.form }
+    requires behind { IsBehind site.form site.at }
     requires awaited { AwaitsValue builder.old }
-    ensures holds { Holds text.now (setting_of form) (follows_get_att text.now form at) next builder.old builder.new result }
-    ensures place { (q : ℕ) → result ≡ Err (Stop.Unread q) → TornAt text.now (setting_of form) next q }
+    ensures holds { Holds text.now (setting_of site.form) (follows_get_att text.now site.form site.at) site.next builder.old builder.new result }
+    ensures place { (q : ℕ) → result ≡ Err (Stop.Unread q) → TornAt text.now (setting_of site.form) site.next q }
 {
-    match take_scalar(alloc, text, at, form, next, builder) {
+    match take_scalar(alloc, text, site, builder) {
         Ok(position) => Ok(position),
-        Err(stop) => Err(torn_stop(text, next, stop)),
+        Err(stop) => Err(torn_stop(text, site.next, stop)),
     }
 }
 
@@ -493,29 +509,28 @@ fn tag_key<'s>(
 pub(crate) fn begin_tag<'s>(
     alloc: Global,
     text: &'s str,
-    form: Form,
-    next: Ahead,
+    map: TagMap,
     forms: &mut Vec<Form>,
     builder: &mut DocBuilder<'s>,
 ) -> Result<Position, Stop>
-    requires small { next.at ≤ text_limit }
-    requires order { next.at < next.behind }
-    requires first { IsCharBoundary text.now (next.at + 1) }
-    requires last { IsCharBoundary text.now next.behind }
-    requires keys { has_keys form ≡ true }
+    requires small { map.next.at ≤ text_limit }
+    requires order { map.next.at < map.next.behind }
+    requires first { IsCharBoundary text.now (map.next.at + 1) }
+    requires last { IsCharBoundary text.now map.next.behind }
+    requires keys { has_keys map.form ≡ true }
     requires awaited { AwaitsValue builder.old }
-    ensures { TagBegun text.now form next (stack forms.old.items) builder.old (stack forms.new.items) builder.new result }
+    ensures { TagBegun text.now map.form map.next (stack forms.old.items) builder.old (stack forms.new.items) builder.new result }
 {
-    let key = match tag_key(alloc, text, next.at, next.behind) {
+    let key = match tag_key(alloc, text, map.next.at, map.next.behind) {
         Ok(key) => key,
         Err(_) => return Err(Stop::NoMemory),
     };
-    match begin(form, next, forms, builder) {
+    match begin(map.form, map.next, forms, builder) {
         Err(refusal) => Err(refusal),
-        Ok(()) => match builder.key(key, offset(next.at)) {
+        Ok(()) => match builder.key(key, offset(map.next.at)) {
             Ok(()) => Ok(Position {
                 stage: Stage::Value,
-                at: next.behind,
+                at: map.next.behind,
             }),
             Err(_) => Err(Stop::NoMemory),
         },

@@ -17,7 +17,7 @@ ghost use Rattle.yaml_blocks.specs.code.Steps.{stack, IsBlock, IsFlow, Open, Res
 ghost use Rattle.yaml_blocks.specs.Yaml.{text_start};
 
 use crate::ahead::look;
-use crate::form::Form;
+use crate::form::{Form, Site};
 use crate::node::{innermost, take_null};
 use crate::sign::is_ending;
 use crate::stage::{Position, Stage};
@@ -46,7 +46,14 @@ fn entry<'s>(
     ensures again { starts_scalar (ahead text.now (in_flow (top (stack forms.old.items))) at).token ≡ true → SignStays text.now Stage.Entry (stack forms.old.items) builder.old at result }
 {
     match innermost(forms) {
-        Form::Flow { map } => flow::entry(alloc, text, at, map, forms, builder),
+        Form::Flow { map } => {
+            let site = Site {
+                at,
+                form: Form::Flow { map },
+                next: look(text, true, at),
+            };
+            flow::entry(alloc, text, site, forms, builder)
+        }
         _ => unreachable!(),
     }
 }
@@ -88,9 +95,11 @@ fn value<'s>(
 {
     let form = innermost(forms);
     if is_flow(form) {
-        return flow::value(alloc, text, at, form, forms, builder);
+        let next = look(text, true, at);
+        return flow::value(alloc, text, Site { at, form, next }, forms, builder);
     }
-    block::node(alloc, text, at, form, forms, builder)
+    let next = look(text, false, at);
+    block::node(alloc, text, Site { at, form, next }, forms, builder)
 }
 
 /// What follows a complete node.

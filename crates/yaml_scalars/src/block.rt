@@ -20,6 +20,13 @@ use doc_values::Kind;
 use std::alloc::{AllocError, Global};
 use std::borrow::CowStr;
 
+/// What stands above the lines of a block scalar.
+#[derive(Clone, Copy)]
+struct Opening {
+    folded: bool,
+    header: Header,
+}
+
 /// How the lines of a block scalar become its text.
 #[derive(Clone, Copy)]
 struct Style {
@@ -391,13 +398,12 @@ fn above(parent: i32) -> usize
     (parent + 1) as usize
 }
 
-/// Reads the scalar with this header whose further lines begin at a place.
+/// Reads the scalar that opens like this and whose further lines begin at a place.
 fn read_lines<'s>(
     alloc: Global,
     text: &'s str,
     start: usize,
-    folded: bool,
-    header: Header,
+    opening: Opening,
     parent: i32,
 ) -> Result<Scalar<'s>, ScalarRefusal>
     requires within { start ≤ length text.now }
@@ -405,11 +411,12 @@ fn read_lines<'s>(
     requires boundary { IsCharBoundary text.now start }
     requires low { negsuc 0 ≤ℤ parent }
     requires high { parent ≤ℤ pos text_limit }
-    ensures answer { Answers false (by_digit folded parent (chomp_seen header.chomp) (length text.now) header.digit (lines start (drop start text.now))) result }
+    ensures answer { Answers false (by_digit opening.folded parent (chomp_seen opening.header.chomp) (length text.now) opening.header.digit (lines start (drop start text.now))) result }
     ensures end { IfOk result (λ s. (start ≤ s.end) × (s.end ≤ length text.now) × IsCharBoundary text.now s.end) }
 {
-    let chomp = header.chomp;
-    if let Some(digit) = header.digit {
+    let folded = opening.folded;
+    let chomp = opening.header.chomp;
+    if let Some(digit) = opening.header.digit {
         let inner = base(parent) + digit as usize;
         return read_content(
             alloc,
@@ -463,8 +470,11 @@ pub(crate) fn read_block<'s>(
     match next_line(bytes, at) {
         None => Err(ScalarRefusal::Syntax(bytes.len() as u32)),
         Some(start) => {
-            let folded = bytes[at] == b'>';
-            read_lines(alloc, text, start, folded, header, setting.parent)
+            let opening = Opening {
+                folded: bytes[at] == b'>',
+                header,
+            };
+            read_lines(alloc, text, start, opening, setting.parent)
         }
     }
 }

@@ -20,6 +20,15 @@ use doc_values::Kind;
 use std::alloc::{AllocError, Global};
 use std::borrow::CowStr;
 
+/// How the text between two quotes is read.
+#[derive(Drop)]
+struct QuotedStyle {
+    quote: u8,
+    one_line: bool,
+    /// The bytes that do not stand for themselves.
+    specials: ByteSet,
+}
+
 /// How reading goes on.
 enum Step {
     /// At a place.
@@ -167,34 +176,32 @@ fn further(place: Result<usize, ScalarRefusal>) -> Result<Step, ScalarRefusal>
 fn read_piece(
     text: &str,
     at: usize,
-    quote: u8,
-    one_line: bool,
-    specials: &ByteSet,
+    style: &QuotedStyle,
     decoded: &mut String,
 ) -> Result<Step, ScalarRefusal>
     requires inside { 0 < at }
     requires within { at ≤ length text.now }
     requires small { length text.now ≤ text_limit }
     requires ascii { slice_index text.now (at - 1) < 128 }
-    requires quote { (quote ≡ 34) ⊎ (quote ≡ 39) }
-    requires specials { (b : ℕ) → holds specials.now b ≡ is_special quote b }
-    ensures { Steps (from quote one_line text.now at (string_bytes decoded.old)) quote one_line text.now at (string_bytes decoded.new) result }
+    requires quote { (style.now.quote ≡ 34) ⊎ (style.now.quote ≡ 39) }
+    requires specials { (b : ℕ) → holds style.now.specials b ≡ is_special style.now.quote b }
+    ensures { Steps (from style.now.quote style.now.one_line text.now at (string_bytes decoded.old)) style.now.quote style.now.one_line text.now at (string_bytes decoded.new) result }
 {
     let bytes = text.as_bytes();
-    let stop = first_special(bytes, at, specials);
+    let stop = first_special(bytes, at, &style.specials);
     if ends_line(bytes, stop) {
         decoded.push_str(&text[at..trim_end(bytes, at, stop)])?;
-        return further(read_break(bytes, stop, one_line, false, decoded));
+        return further(read_break(bytes, stop, style.one_line, false, decoded));
     }
     decoded.push_str(&text[at..stop])?;
-    match meaning_at(bytes, stop, quote) {
+    match meaning_at(bytes, stop, style.quote) {
         Meaning::Closes => Ok(Step::Closed(stop + 1)),
         Meaning::Is(taken, character) => {
             decoded.push(character)?;
             Ok(Step::Further(stop + 1 + taken))
         }
-        Meaning::Joins => further(read_break(bytes, stop + 1, one_line, true, decoded)),
-        Meaning::Returns(behind) => Err(return_fault(stop + behind, one_line)),
+        Meaning::Joins => further(read_break(bytes, stop + 1, style.one_line, true, decoded)),
+        Meaning::Returns(behind) => Err(return_fault(stop + behind, style.one_line)),
         Meaning::Wrong(behind) => Err(ScalarRefusal::Syntax((stop + behind) as u32)),
     }
 }
@@ -204,22 +211,20 @@ fn decoded_from(
     alloc: Global,
     text: &str,
     start: usize,
-    quote: u8,
-    one_line: bool,
-    specials: &ByteSet,
+    style: &QuotedStyle,
 ) -> Result<(String, usize), ScalarRefusal>
     requires inside { 0 < start }
     requires within { start ≤ length text.now }
     requires small { length text.now ≤ text_limit }
     requires ascii { slice_index text.now (start - 1) < 128 }
-    requires quote { (quote ≡ 34) ⊎ (quote ≡ 39) }
-    requires specials { (b : ℕ) → holds specials.now b ≡ is_special quote b }
-    ensures { IsRead (from quote one_line text.now start []) text.now start result }
+    requires quote { (style.now.quote ≡ 34) ⊎ (style.now.quote ≡ 39) }
+    requires specials { (b : ℕ) → holds style.now.specials b ≡ is_special style.now.quote b }
+    ensures { IsRead (from style.now.quote style.now.one_line text.now start []) text.now start result }
 {
     let mut decoded = String::new(alloc);
     let mut at = start;
     while at < text.len() {
-        match read_piece(text, at, quote, one_line, specials, &mut decoded) {
+        match read_piece(text, at, style, &mut decoded) {
             Err(refusal) => return Err(refusal),
             Ok(step) => match step {
                 Step::Further(place) => at = place,
@@ -245,8 +250,12 @@ pub(crate) fn read_quoted<'s>(
 {
     let bytes = text.as_bytes();
     let quote = bytes[at];
-    let specials = specials(quote);
-    let stop = first_special(bytes, at + 1, &specials);
+    let style = QuotedStyle {
+        quote,
+        one_line: setting.one_line,
+        specials: specials(quote),
+    };
+    let stop = first_special(bytes, at + 1, &style.specials);
     if closes(bytes, stop, quote) {
         return Ok(Scalar {
             kind: Kind::Text,
@@ -254,7 +263,7 @@ pub(crate) fn read_quoted<'s>(
             end: stop + 1,
         });
     }
-    match decoded_from(alloc, text, at + 1, quote, setting.one_line, &specials) {
+    match decoded_from(alloc, text, at + 1, &style) {
         Err(refusal) => Err(refusal),
         Ok((decoded, end)) => Ok(Scalar {
             kind: Kind::Text,

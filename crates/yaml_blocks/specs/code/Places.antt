@@ -4,12 +4,12 @@ use Rattle.yaml_blocks.specs.declared.stop.Stop.{Stop}
 use Rattle.yaml_blocks.specs.declared.stop.Stop.TheVariants as stop
 use Rattle.yaml_blocks.specs.Places.{IsDead, IsSyntax}
 
--- so where reading stops and no sign counts
+-- where reading stops and no sign counts, the place is one at which the text is no document
 abbrev pub IsSyntaxStop : List ℕ → Stop → Type 0
 IsSyntaxStop text (stop.Unread at) = IsSyntax text at
 IsSyntaxStop text _ = Unit {0}
 
--- where reading stops and no sign counts: so far, the place is the text's length, that of its last byte, or dead
+-- where reading stops and no sign counts, the place is the text's length, that of its last byte, or dead
 abbrev pub StopsAt : List ℕ → Stop → Type 0
 StopsAt text (stop.Unread at) = (length text ≤ suc at) ⊎ IsDead text at
 StopsAt text _ = Unit {0}

@@ -23,8 +23,8 @@ returns-in-Ok-key-clause-gives c = λ text w same.
     let words = cow_str_bytes c.args.key.text in
     let b = c.in-Ok.ensures in
     let k = same.key c.requires.takes c.args.key c.requires.key in
-    mapping_goes text fs (stack c.begin.new.forms.items) u c.key.new.self c.args.form c.args.at c.args.key.behind c.args.next words (record { stage = stage.Value; at = c.args.key.behind }) w.seen.0
-    (spot_of text fs u c.args.form c.args.at c.args.next w) k.0 c.requires.takes k.2 k.1
+    mapping_goes text fs (stack c.begin.new.forms.items) u c.key.new.self c.args.site.form c.args.site.at c.args.key.behind c.args.site.next words (record { stage = stage.Value; at = c.args.key.behind }) w.seen.0
+    (spot_of text fs u c.args.site.form c.args.site.at c.args.site.next w) k.0 c.requires.takes k.2 k.1
     (b.0 ∙ ap (λ n. Entries n ∷ fs) c.column_in-column.ensures) (c.in-Ok-key.ensures.ok.0 ∙ ap (with_key words) b.1) b.2 refl refl
 
 pub returns-in-Err-clause-gives : goal.returns-in-Err-clause-gives
@@ -32,41 +32,41 @@ returns-in-Err-clause-gives c = λ text w same.
     let fs = stack c.args.forms.now.items in
     let u = c.args.builder.now in
     let words = cow_str_bytes c.args.key.text in
-    mapping_refused text fs (stack c.begin.new.forms.items) u c.begin.new.builder c.args.form c.args.at c.args.key.behind c.args.next words c.in-Err.refusal w.seen.0
-    (spot_of text fs u c.args.form c.args.at c.args.next w) (same.key c.requires.takes c.args.key c.requires.key).0 c.requires.takes c.in-Err.ensures
+    mapping_refused text fs (stack c.begin.new.forms.items) u c.begin.new.builder c.args.site.form c.args.site.at c.args.key.behind c.args.site.next words c.in-Err.refusal w.seen.0
+    (spot_of text fs u c.args.site.form c.args.site.at c.args.site.next w) (same.key c.requires.takes c.args.key c.requires.key).0 c.requires.takes c.in-Err.ensures
 
 pub column_in-column-requires-clause-small : goal.column_in-column-requires-clause-small
-column_in-column-requires-clause-small c = small_place c.args.text.now (stack c.args.forms.now.items) c.args.builder.now c.args.form c.args.at c.args.next c.requires.awaited
+column_in-column-requires-clause-small c = small_place c.args.text.now (stack c.args.forms.now.items) c.args.builder.now c.args.site.form c.args.site.at c.args.site.next c.requires.awaited
 
 pub column_in-column-requires-clause-form : goal.column_in-column-requires-clause-form
-column_in-column-requires-clause-form c = small_form c.args.text.now (stack c.args.forms.now.items) c.args.builder.now c.args.form c.args.at c.args.next c.requires.awaited
+column_in-column-requires-clause-form c = small_form c.args.text.now (stack c.args.forms.now.items) c.args.builder.now c.args.site.form c.args.site.at c.args.site.next c.requires.awaited
 
 pub column_in-column-requires-clause-column : goal.column_in-column-requires-clause-column
-column_in-column-requires-clause-column c = column_before c.args.text.now (stack c.args.forms.now.items) c.args.builder.now c.args.form c.args.at c.args.next c.requires.awaited
+column_in-column-requires-clause-column c = column_before c.args.text.now (stack c.args.forms.now.items) c.args.builder.now c.args.site.form c.args.site.at c.args.site.next c.requires.awaited
 
 pub begin-requires-clause-small : goal.begin-requires-clause-small
-begin-requires-clause-small c = small_place c.args.text.now (stack c.args.forms.now.items) c.args.builder.now c.args.form c.args.at c.args.next c.requires.awaited
+begin-requires-clause-small c = small_place c.args.text.now (stack c.args.forms.now.items) c.args.builder.now c.args.site.form c.args.site.at c.args.site.next c.requires.awaited
 
 pub begin-requires-clause-awaited : goal.begin-requires-clause-awaited
-begin-requires-clause-awaited c = value_awaited c.args.text.now (stack c.args.forms.now.items) c.args.builder.now c.args.form c.args.at c.args.next c.requires.awaited
+begin-requires-clause-awaited c = value_awaited c.args.text.now (stack c.args.forms.now.items) c.args.builder.now c.args.site.form c.args.site.at c.args.site.next c.requires.awaited
 
 pub offset-requires : goal.offset-requires
-offset-requires c = small_place c.args.text.now (stack c.args.forms.now.items) c.args.builder.now c.args.form c.args.at c.args.next c.requires.awaited
+offset-requires c = small_place c.args.text.now (stack c.args.forms.now.items) c.args.builder.now c.args.site.form c.args.site.at c.args.site.next c.requires.awaited
 
 pub returns-in-Ok-key-clause-fixes : goal.returns-in-Ok-key-clause-fixes
-returns-in-Ok-key-clause-fixes c = key_fixes c.args.text.now c.args.form c.args.at c.args.next c.args.key (record { stage = stage.Value; at = c.args.key.behind }) c.requires.awaited.seen c.requires.awaited.boundary (place_behind c.args.text.now (stack c.args.forms.now.items) c.args.builder.now c.args.form c.args.at c.args.next c.requires.awaited) c.requires.takes c.requires.key c.requires.ends refl refl
+returns-in-Ok-key-clause-fixes c = key_fixes c.args.text.now c.args.site.form c.args.site.at c.args.site.next c.args.key (record { stage = stage.Value; at = c.args.key.behind }) c.requires.awaited.seen c.requires.awaited.boundary (place_behind c.args.text.now (stack c.args.forms.now.items) c.args.builder.now c.args.site.form c.args.site.at c.args.site.next c.requires.awaited) c.requires.takes c.requires.key c.requires.ends refl refl
 
 pub returns-in-Err-clause-stops : goal.returns-in-Err-clause-stops
-returns-in-Err-clause-stops c = deep_stops c.args.text.now c.args.at (NoValue c.args.at c.args.next c.args.form (stack c.args.forms.now.items) c.args.builder.now) c.args.builder.now c.args.next.at c.in-Err.refusal c.in-Err.ensures
+returns-in-Err-clause-stops c = deep_stops c.args.text.now c.args.site.at (NoValue c.args.site.at c.args.site.next c.args.site.form (stack c.args.forms.now.items) c.args.builder.now) c.args.builder.now c.args.site.next.at c.in-Err.refusal c.in-Err.ensures
 
 pub returns-in-Err-clause-longer : goal.returns-in-Err-clause-longer
-returns-in-Err-clause-longer c = deep_on (LengthensAt c.args.text.now stage.Value (stack c.args.forms.now.items) c.args.builder.now c.args.at) c.args.builder.now c.args.next.at c.in-Err.refusal c.in-Err.ensures
+returns-in-Err-clause-longer c = deep_on (LengthensAt c.args.text.now stage.Value (stack c.args.forms.now.items) c.args.builder.now c.args.site.at) c.args.builder.now c.args.site.next.at c.in-Err.refusal c.in-Err.ensures
 
 pub returns-in-Ok-key-clause-opens : goal.returns-in-Ok-key-clause-opens
 returns-in-Ok-key-clause-opens c = begun_opening (Entries c.column_in-column.result) (stack c.args.forms.now.items) (stack c.begin.new.forms.items) (Ok (record { stage = stage.Value; at = c.args.key.behind })) c.in-Ok.ensures.0 tt
 
 pub returns-in-Ok-key-clause-extends : goal.returns-in-Ok-key-clause-extends
-returns-in-Ok-key-clause-extends c = value_extends c.args.text.now (stack c.args.forms.now.items) (stack c.begin.new.forms.items) c.args.builder.now c.key.new.self c.args.at (record { stage = stage.Value; at = c.args.key.behind }) refl
+returns-in-Ok-key-clause-extends c = value_extends c.args.text.now (stack c.args.forms.now.items) (stack c.begin.new.forms.items) c.args.builder.now c.key.new.self c.args.site.at (record { stage = stage.Value; at = c.args.key.behind }) refl
 
 pub returns-in-Err-clause-again : goal.returns-in-Err-clause-again
-returns-in-Err-clause-again c = λ starts. mapping_again c.args.text.now (stack c.args.forms.now.items) c.args.builder.now c.args.form c.args.at c.args.next c.args.key c.in-Err.refusal c.requires.awaited c.requires.key c.requires.ends c.requires.takes c.in-Err.ensures
+returns-in-Err-clause-again c = λ starts. mapping_again c.args.text.now (stack c.args.forms.now.items) c.args.builder.now c.args.site.form c.args.site.at c.args.site.next c.args.key c.in-Err.refusal c.requires.awaited c.requires.key c.requires.ends c.requires.takes c.in-Err.ensures

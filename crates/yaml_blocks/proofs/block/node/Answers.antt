@@ -18,37 +18,37 @@ pub returns-in-Some-clause-gives : goal.returns-in-Some-clause-gives
 returns-in-Some-clause-gives c = λ text w same.
     let fs = stack c.args.forms.now.items in
     let u = c.args.builder.now in
-    let next = c.look-next.result in
-    let now = subst (λ (a : Ahead). Awaited text fs u c.args.form c.args.at a) (sym c.look-next.ensures.0) w in
-    node_signed_gives text (2 * c.args.at + 1) fs fs u u c.args.form c.args.at next c.in-Some.refusal now.seen.0 (spot_of text fs u c.args.form c.args.at next now) c.in-Some.ensures
+    let next = c.args.site.next in
+    let now = subst (λ (a : Ahead). Awaited text fs u c.args.site.form c.args.site.at a) (sym c.requires.seen.0) w in
+    node_signed_gives text (2 * c.args.site.at + 1) fs fs u u c.args.site.form c.args.site.at next c.in-Some.refusal now.seen.0 (spot_of text fs u c.args.site.form c.args.site.at next now) c.in-Some.ensures
 
 pub returns-in-None-clause-gives : goal.returns-in-None-clause-gives
 returns-in-None-clause-gives c = λ text w same.
     let fs = stack c.args.forms.now.items in
-    c.node_at.ensures.gives text (subst (λ (a : Ahead). Awaited text fs c.args.builder.now c.args.form c.args.at a) (sym c.look-next.ensures.0) w)
-    (subst (λ (a : Ahead). SameNode c.args.text.now text c.args.form c.args.at a) (sym c.look-next.ensures.0) same)
+    c.node_at.ensures.gives text (subst (λ (a : Ahead). Awaited text fs c.args.builder.now c.args.site.form c.args.site.at a) (sym c.requires.seen.0) w)
+    (subst (λ (a : Ahead). SameNode c.args.text.now text c.args.site.form c.args.site.at a) (sym c.requires.seen.0) same)
 
 pub returns-in-None-clause-fixes : goal.returns-in-None-clause-fixes
-returns-in-None-clause-fixes c = subst (λ (a : Ahead). FixesNode c.args.text.now c.args.form c.args.at a c.node_at.result) c.look-next.ensures.0 c.node_at.ensures.fixes
+returns-in-None-clause-fixes c = subst (λ (a : Ahead). FixesNode c.args.text.now c.args.site.form c.args.site.at a c.node_at.result) c.requires.seen.0 c.node_at.ensures.fixes
 
 pub returns-in-Some-clause-stops : goal.returns-in-Some-clause-stops
 returns-in-Some-clause-stops c =
-    signed_stops c.args.text.now c.args.at (NoValue c.args.at (ahead c.args.text.now false c.args.at) c.args.form (stack c.args.forms.now.items) c.args.builder.now) (block_sign c.args.form c.look-next.result) c.in-Some.refusal c.in-Some.ensures
+    signed_stops c.args.text.now c.args.site.at (NoValue c.args.site.at (ahead c.args.text.now false c.args.site.at) c.args.site.form (stack c.args.forms.now.items) c.args.builder.now) (block_sign c.args.site.form c.args.site.next) c.in-Some.refusal c.in-Some.ensures
 
 pub returns-in-None-clause-stops : goal.returns-in-None-clause-stops
 returns-in-None-clause-stops c =
-    subst (λ (a : Ahead). Stops c.args.text.now c.args.at (NoValue c.args.at a c.args.form (stack c.args.forms.now.items) c.args.builder.now) c.node_at.result) c.look-next.ensures.0 c.node_at.ensures.stops
+    subst (λ (a : Ahead). Stops c.args.text.now c.args.site.at (NoValue c.args.site.at a c.args.site.form (stack c.args.forms.now.items) c.args.builder.now) c.node_at.result) c.requires.seen.0 c.node_at.ensures.stops
 
 pub returns-in-Some-clause-longer : goal.returns-in-Some-clause-longer
-returns-in-Some-clause-longer c = signed_on (LengthensAt c.args.text.now stage.Value (stack c.args.forms.now.items) c.args.builder.now c.args.at) (block_sign c.args.form c.look-next.result) c.in-Some.refusal c.in-Some.ensures
+returns-in-Some-clause-longer c = signed_on (LengthensAt c.args.text.now stage.Value (stack c.args.forms.now.items) c.args.builder.now c.args.site.at) (block_sign c.args.site.form c.args.site.next) c.in-Some.refusal c.in-Some.ensures
 
 pub returns-in-None-clause-longer : goal.returns-in-None-clause-longer
 returns-in-None-clause-longer c = c.node_at.ensures.longer
 
 pub returns-in-Some-clause-again : goal.returns-in-Some-clause-again
 returns-in-Some-clause-again c = λ starts.
-    block_signed_again (NoneLonger c.args.text.now stage.Value (stack c.args.forms.now.items) c.args.builder.now c.args.at) c.args.form c.look-next.result c.in-Some.refusal (subst (λ (a : Ahead). starts_scalar a.token ≡ true) (sym c.look-next.ensures.0) starts) c.in-Some.ensures
+    block_signed_again (NoneLonger c.args.text.now stage.Value (stack c.args.forms.now.items) c.args.builder.now c.args.site.at) c.args.site.form c.args.site.next c.in-Some.refusal (subst (λ (a : Ahead). starts_scalar a.token ≡ true) (sym c.requires.seen.0) starts) c.in-Some.ensures
 
 pub returns-in-None-clause-again : goal.returns-in-None-clause-again
 returns-in-None-clause-again c =
-    subst (λ (a : Ahead). starts_scalar a.token ≡ true → SignStays c.args.text.now stage.Value (stack c.args.forms.now.items) c.args.builder.now c.args.at c.node_at.result) c.look-next.ensures.0 c.node_at.ensures.again
+    subst (λ (a : Ahead). starts_scalar a.token ≡ true → SignStays c.args.text.now stage.Value (stack c.args.forms.now.items) c.args.builder.now c.args.site.at c.node_at.result) c.requires.seen.0 c.node_at.ensures.again

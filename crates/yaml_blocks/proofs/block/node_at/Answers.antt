@@ -11,11 +11,11 @@ use Rattle.std.proofs.Common.{arith}
 pub takes_sequence-requires : goal.takes_sequence-requires
 takes_sequence-requires c =
     let fs = stack c.args.forms.now.items in
-    let column = column_before c.args.text.now fs c.args.builder.now c.args.form c.args.at c.args.next c.requires.awaited in
-    let place = small_place c.args.text.now fs c.args.builder.now c.args.form c.args.at c.args.next c.requires.awaited in
+    let column = column_before c.args.text.now fs c.args.builder.now c.args.site.form c.args.site.at c.args.site.next c.requires.awaited in
+    let place = small_place c.args.text.now fs c.args.builder.now c.args.site.form c.args.site.at c.args.site.next c.requires.awaited in
     omega (arith, column, place)
 
 pub returns-else-takes_scalar-2-clause-again : goal.returns-else-takes_scalar-2-clause-again
 returns-else-takes_scalar-2-clause-again c =
-    subst (λ (x : List Form). starts_scalar c.args.next.token ≡ true → SignStays c.args.text.now stage.Value (stack x) c.args.builder.now c.args.at c.missing-else-takes_scalar-2.result)
+    subst (λ (x : List Form). starts_scalar c.args.site.next.token ≡ true → SignStays c.args.text.now stage.Value (stack x) c.args.builder.now c.args.site.at c.missing-else-takes_scalar-2.result)
     c.deref-else-takes_scalar-2.ensures.value c.missing-else-takes_scalar-2.ensures.again

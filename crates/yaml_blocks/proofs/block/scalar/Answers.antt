@@ -15,31 +15,31 @@ pub returns-in-Err-clause-gives : goal.returns-in-Err-clause-gives
 returns-in-Err-clause-gives c = λ other awaited same.
     let fs = stack c.args.forms.now in
     let u = c.args.builder.now in
-    let P = Awaits other fs u.outer u.done u.key c.args.at in
-    subst (λ (e : Stop). Gives other P (2 * c.args.at + 1) fs c.scalar_there.new.builder (Err e)) (sym c.split_stop.ensures)
-    (split_gives c.args.text.now c.is_split-split.result other P (2 * c.args.at + 1) fs c.scalar_there.new.builder c.in-Err.stop (c.in-Err.ensures.gives other awaited same))
+    let P = Awaits other fs u.outer u.done u.key c.args.site.at in
+    subst (λ (e : Stop). Gives other P (2 * c.args.site.at + 1) fs c.scalar_there.new.builder (Err e)) (sym c.split_stop.ensures)
+    (split_gives c.args.text.now c.is_split-split.result other P (2 * c.args.site.at + 1) fs c.scalar_there.new.builder c.in-Err.stop (c.in-Err.ensures.gives other awaited same))
 
 pub returns-in-Err-clause-stops : goal.returns-in-Err-clause-stops
 returns-in-Err-clause-stops c =
     let text = c.args.text.now in
     let fs = stack c.args.forms.now in
     let u = c.args.builder.now in
-    subst (λ (e : Stop). Stops text c.args.at (NoValue c.args.at c.args.next c.args.form fs u) (Err e)) (sym c.split_stop.ensures)
-    (block_split_stops text c.utf8.text fs u c.args.at c.args.form c.args.next c.requires.awaited c.requires.starts c.requires.takes c.requires.no_key c.is_split-split.result c.in-Err.stop
-    (c.is_split-split.ensures ∙ ap (λ n. is_split text n c.args.form c.args.at c.args.next.at) c.depth-depth.ensures) c.in-Err.ensures.runs c.in-Err.ensures.stops)
+    subst (λ (e : Stop). Stops text c.args.site.at (NoValue c.args.site.at c.args.site.next c.args.site.form fs u) (Err e)) (sym c.split_stop.ensures)
+    (block_split_stops text c.utf8.text fs u c.args.site.at c.args.site.form c.args.site.next c.requires.awaited c.requires.starts c.requires.takes c.requires.no_key c.is_split-split.result c.in-Err.stop
+    (c.is_split-split.ensures ∙ ap (λ n. is_split text n c.args.site.form c.args.site.at c.args.site.next.at) c.depth-depth.ensures) c.in-Err.ensures.runs c.in-Err.ensures.stops)
 
 pub returns-in-Err-clause-longer : goal.returns-in-Err-clause-longer
 returns-in-Err-clause-longer c =
     let text = c.args.text.now in
     let fs = stack c.args.forms.now in
     let u = c.args.builder.now in
-    subst (λ (e : Stop). Lengthens text stage.Value fs u c.args.at (Err e)) (sym c.split_stop.ensures)
-    (block_split_lengthens text c.utf8.text fs u c.args.at c.args.form c.args.next c.requires.awaited c.requires.starts c.requires.takes c.requires.no_key c.is_split-split.result c.in-Err.stop
-    (c.is_split-split.ensures ∙ ap (λ n. is_split text n c.args.form c.args.at c.args.next.at) c.depth-depth.ensures) c.in-Err.ensures.runs c.in-Err.ensures.stops c.in-Err.ensures.longer)
+    subst (λ (e : Stop). Lengthens text stage.Value fs u c.args.site.at (Err e)) (sym c.split_stop.ensures)
+    (block_split_lengthens text c.utf8.text fs u c.args.site.at c.args.site.form c.args.site.next c.requires.awaited c.requires.starts c.requires.takes c.requires.no_key c.is_split-split.result c.in-Err.stop
+    (c.is_split-split.ensures ∙ ap (λ n. is_split text n c.args.site.form c.args.site.at c.args.site.next.at) c.depth-depth.ensures) c.in-Err.ensures.runs c.in-Err.ensures.stops c.in-Err.ensures.longer)
 
 pub returns-in-Err-clause-again : goal.returns-in-Err-clause-again
 returns-in-Err-clause-again c = λ starts.
     let text = c.args.text.now in
     let fs = stack c.args.forms.now in
-    subst (λ (e : Stop). SignStays text stage.Value fs c.args.builder.now c.args.at (Err e)) (sym c.split_stop.ensures)
-    (split_again text c.is_split-split.result (NoneLonger text stage.Value fs c.args.builder.now c.args.at) c.in-Err.stop (c.in-Err.ensures.again starts))
+    subst (λ (e : Stop). SignStays text stage.Value fs c.args.builder.now c.args.site.at (Err e)) (sym c.split_stop.ensures)
+    (split_again text c.is_split-split.result (NoneLonger text stage.Value fs c.args.builder.now c.args.site.at) c.in-Err.stop (c.in-Err.ensures.again starts))

@@ -18,43 +18,43 @@ returns-in-Ok-clause-gives c = λ text w same.
     let fs = stack c.args.forms.now.items in
     let u = c.args.builder.now in
     let b = c.in-Ok.ensures in
-    sequence_goes text fs (stack c.begin.new.forms.items) u c.begin.new.builder c.args.form c.args.at c.args.next (record { stage = stage.Value; at = c.args.next.behind }) w.seen.0
-    (spot_of text fs u c.args.form c.args.at c.args.next w) c.requires.dash c.requires.takes
+    sequence_goes text fs (stack c.begin.new.forms.items) u c.begin.new.builder c.args.site.form c.args.site.at c.args.site.next (record { stage = stage.Value; at = c.args.site.next.behind }) w.seen.0
+    (spot_of text fs u c.args.site.form c.args.site.at c.args.site.next w) c.requires.dash c.requires.takes
     (b.0 ∙ ap (λ n. Items n ∷ fs) c.column_in-column.ensures) b.1 b.2 refl refl
 
 pub returns-in-Err-clause-gives : goal.returns-in-Err-clause-gives
 returns-in-Err-clause-gives c = λ text w same.
     let fs = stack c.args.forms.now.items in
     let u = c.args.builder.now in
-    sequence_refused text fs (stack c.begin.new.forms.items) u c.begin.new.builder c.args.form c.args.at c.args.next c.in-Err.refusal w.seen.0
-    (spot_of text fs u c.args.form c.args.at c.args.next w) c.requires.dash c.requires.takes c.in-Err.ensures
+    sequence_refused text fs (stack c.begin.new.forms.items) u c.begin.new.builder c.args.site.form c.args.site.at c.args.site.next c.in-Err.refusal w.seen.0
+    (spot_of text fs u c.args.site.form c.args.site.at c.args.site.next w) c.requires.dash c.requires.takes c.in-Err.ensures
 
 pub column_in-column-requires-clause-small : goal.column_in-column-requires-clause-small
-column_in-column-requires-clause-small c = small_place c.args.text.now (stack c.args.forms.now.items) c.args.builder.now c.args.form c.args.at c.args.next c.requires.awaited
+column_in-column-requires-clause-small c = small_place c.args.text.now (stack c.args.forms.now.items) c.args.builder.now c.args.site.form c.args.site.at c.args.site.next c.requires.awaited
 
 pub column_in-column-requires-clause-form : goal.column_in-column-requires-clause-form
-column_in-column-requires-clause-form c = small_form c.args.text.now (stack c.args.forms.now.items) c.args.builder.now c.args.form c.args.at c.args.next c.requires.awaited
+column_in-column-requires-clause-form c = small_form c.args.text.now (stack c.args.forms.now.items) c.args.builder.now c.args.site.form c.args.site.at c.args.site.next c.requires.awaited
 
 pub column_in-column-requires-clause-column : goal.column_in-column-requires-clause-column
-column_in-column-requires-clause-column c = column_before c.args.text.now (stack c.args.forms.now.items) c.args.builder.now c.args.form c.args.at c.args.next c.requires.awaited
+column_in-column-requires-clause-column c = column_before c.args.text.now (stack c.args.forms.now.items) c.args.builder.now c.args.site.form c.args.site.at c.args.site.next c.requires.awaited
 
 pub begin-requires-clause-small : goal.begin-requires-clause-small
-begin-requires-clause-small c = small_place c.args.text.now (stack c.args.forms.now.items) c.args.builder.now c.args.form c.args.at c.args.next c.requires.awaited
+begin-requires-clause-small c = small_place c.args.text.now (stack c.args.forms.now.items) c.args.builder.now c.args.site.form c.args.site.at c.args.site.next c.requires.awaited
 
 pub begin-requires-clause-awaited : goal.begin-requires-clause-awaited
-begin-requires-clause-awaited c = value_awaited c.args.text.now (stack c.args.forms.now.items) c.args.builder.now c.args.form c.args.at c.args.next c.requires.awaited
+begin-requires-clause-awaited c = value_awaited c.args.text.now (stack c.args.forms.now.items) c.args.builder.now c.args.site.form c.args.site.at c.args.site.next c.requires.awaited
 
 pub returns-in-Ok-clause-fixes : goal.returns-in-Ok-clause-fixes
-returns-in-Ok-clause-fixes c = dash_fixes c.args.text.now c.args.form c.args.at c.args.next c.requires.awaited.seen c.requires.awaited.boundary (place_behind c.args.text.now (stack c.args.forms.now.items) c.args.builder.now c.args.form c.args.at c.args.next c.requires.awaited) c.requires.dash (record { stage = stage.Value; at = c.args.next.behind }) refl refl
+returns-in-Ok-clause-fixes c = dash_fixes c.args.text.now c.args.site.form c.args.site.at c.args.site.next c.requires.awaited.seen c.requires.awaited.boundary (place_behind c.args.text.now (stack c.args.forms.now.items) c.args.builder.now c.args.site.form c.args.site.at c.args.site.next c.requires.awaited) c.requires.dash (record { stage = stage.Value; at = c.args.site.next.behind }) refl refl
 
 pub returns-in-Err-clause-stops : goal.returns-in-Err-clause-stops
-returns-in-Err-clause-stops c = deep_stops c.args.text.now c.args.at (NoValue c.args.at c.args.next c.args.form (stack c.args.forms.now.items) c.args.builder.now) c.args.builder.now c.args.next.at c.in-Err.refusal c.in-Err.ensures
+returns-in-Err-clause-stops c = deep_stops c.args.text.now c.args.site.at (NoValue c.args.site.at c.args.site.next c.args.site.form (stack c.args.forms.now.items) c.args.builder.now) c.args.builder.now c.args.site.next.at c.in-Err.refusal c.in-Err.ensures
 
 pub returns-in-Err-clause-longer : goal.returns-in-Err-clause-longer
-returns-in-Err-clause-longer c = deep_on (LengthensAt c.args.text.now stage.Value (stack c.args.forms.now.items) c.args.builder.now c.args.at) c.args.builder.now c.args.next.at c.in-Err.refusal c.in-Err.ensures
+returns-in-Err-clause-longer c = deep_on (LengthensAt c.args.text.now stage.Value (stack c.args.forms.now.items) c.args.builder.now c.args.site.at) c.args.builder.now c.args.site.next.at c.in-Err.refusal c.in-Err.ensures
 
 pub returns-in-Ok-clause-opens : goal.returns-in-Ok-clause-opens
-returns-in-Ok-clause-opens c = begun_opening (Items c.column_in-column.result) (stack c.args.forms.now.items) (stack c.begin.new.forms.items) (Ok (record { stage = stage.Value; at = c.args.next.behind })) c.in-Ok.ensures.0 tt
+returns-in-Ok-clause-opens c = begun_opening (Items c.column_in-column.result) (stack c.args.forms.now.items) (stack c.begin.new.forms.items) (Ok (record { stage = stage.Value; at = c.args.site.next.behind })) c.in-Ok.ensures.0 tt
 
 pub returns-in-Ok-clause-extends : goal.returns-in-Ok-clause-extends
-returns-in-Ok-clause-extends c = value_extends c.args.text.now (stack c.args.forms.now.items) (stack c.begin.new.forms.items) c.args.builder.now c.begin.new.builder c.args.at (record { stage = stage.Value; at = c.args.next.behind }) refl
+returns-in-Ok-clause-extends c = value_extends c.args.text.now (stack c.args.forms.now.items) (stack c.begin.new.forms.items) c.args.builder.now c.begin.new.builder c.args.site.at (record { stage = stage.Value; at = c.args.site.next.behind }) refl

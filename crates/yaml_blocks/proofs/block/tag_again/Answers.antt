@@ -22,15 +22,15 @@ returns-then-is_entry_column-clause-gives c = λ text v same.
     let gs = stack c.end_before.new.forms.items in
     let u = c.args.builder.now in
     let w = c.end_before.new.builder in
-    let next = c.args.next in
+    let next = c.args.site.next in
     let found = c.innermost.ensures ∙ ap (λ (x : List Form). top (stack x)) c.deref.ensures.value in
-    tag_again_gives text (2 * c.args.at + 1) fs gs u w c.args.form c.args.at c.args.len c.offset.result next v.seen.0 (
-      spot_of text fs u c.args.form c.args.at next v,
+    tag_again_gives text (2 * c.args.site.at + 1) fs gs u w c.args.site.form c.args.site.at c.args.len c.offset.result next v.seen.0 (
+      spot_of text fs u c.args.site.form c.args.site.at next v,
       c.requires.tag,
       c.requires.tagged,
       c.requires.none,
       c.requires.unsigned,
-      subst (λ z. Ended text fs z next c.args.at gs w (Ok tt)) c.in-Ok.ensures.2 (c.in-Ok-end_before.ensures.ended text c.args.at v.seen.0),
+      subst (λ z. Ended text fs z next c.args.site.at gs w (Ok tt)) c.in-Ok.ensures.2 (c.in-Ok-end_before.ensures.ended text c.args.site.at v.seen.0),
     ) c.offset.ensures (sym found ∙ c.is_entry_column.ensures.yes c.if-is_entry_column.true)
 
 pub returns-clause-gives : goal.returns-clause-gives
@@ -39,15 +39,15 @@ returns-clause-gives c = λ text v same.
     let gs = stack c.end_before.new.forms.items in
     let u = c.args.builder.now in
     let w = c.end_before.new.builder in
-    let next = c.args.next in
+    let next = c.args.site.next in
     let found = c.innermost.ensures ∙ ap (λ (x : List Form). top (stack x)) c.deref.ensures.value in
-    no_tag_again text fs gs u w c.args.form c.args.at c.args.len next v.seen.0 (
-      spot_of text fs u c.args.form c.args.at next v,
+    no_tag_again text fs gs u w c.args.site.form c.args.site.at c.args.len next v.seen.0 (
+      spot_of text fs u c.args.site.form c.args.site.at next v,
       c.requires.tag,
       c.requires.tagged,
       c.requires.none,
       c.requires.unsigned,
-      subst (λ z. Ended text fs z next c.args.at gs w (Ok tt)) c.in-Ok.ensures.2 (c.in-Ok-end_before.ensures.ended text c.args.at v.seen.0),
+      subst (λ z. Ended text fs z next c.args.site.at gs w (Ok tt)) c.in-Ok.ensures.2 (c.in-Ok-end_before.ensures.ended text c.args.site.at v.seen.0),
     ) (λ h. c.is_entry_column.ensures.no c.if-is_entry_column.false (found ∙ h))
 
 pub end_before-requires-clause-block : goal.end_before-requires-clause-block
@@ -60,7 +60,7 @@ pub returns-in-Err-end_before-clause-gives : goal.returns-in-Err-end_before-clau
 returns-in-Err-end_before-clause-gives c = λ text v same.
     let u = c.args.builder.now in
     let fs = stack c.args.forms.now.items in
-    memory_gives text (Awaits text fs u.outer u.done u.key c.args.at) (2 * c.args.at + 1) (stack c.end_before.new.forms.items) c.end_before.new.builder c.in-Err-end_before.refusal (c.in-Err-end_before.ensures.ended text c.args.at v.seen.0)
+    memory_gives text (Awaits text fs u.outer u.done u.key c.args.site.at) (2 * c.args.site.at + 1) (stack c.end_before.new.forms.items) c.end_before.new.builder c.in-Err-end_before.refusal (c.in-Err-end_before.ensures.ended text c.args.site.at v.seen.0)
 
 pub returns-clause-stops : goal.returns-clause-stops
 returns-clause-stops c =
@@ -68,32 +68,32 @@ returns-clause-stops c =
     let gs = stack c.end_before.new.forms.items in
     let u = c.args.builder.now in
     let w = c.end_before.new.builder in
-    let next = c.args.next in
+    let next = c.args.site.next in
     let found = c.innermost.ensures ∙ ap (λ (x : List Form). top (stack x)) c.deref.ensures.value in
-    last_told_stops c.args.text.now c.args.at (NoValue c.args.at c.args.next c.args.form (stack c.args.forms.now.items) c.args.builder.now) false next c.last_told.result c.requires.awaited.seen.0 (ap is_ending c.requires.tag) c.last_told.ensures
-    (λ text v r h. no_tag_again text fs gs u w c.args.form c.args.at c.args.len next v.seen.0 (
-      spot_of text fs u c.args.form c.args.at next v,
+    last_told_stops c.args.text.now c.args.site.at (NoValue c.args.site.at c.args.site.next c.args.site.form (stack c.args.forms.now.items) c.args.builder.now) false next c.last_told.result c.requires.awaited.seen.0 (ap is_ending c.requires.tag) c.last_told.ensures
+    (λ text v r h. no_tag_again text fs gs u w c.args.site.form c.args.site.at c.args.len next v.seen.0 (
+      spot_of text fs u c.args.site.form c.args.site.at next v,
       c.requires.tag,
       c.requires.tagged,
       c.requires.none,
       c.requires.unsigned,
-      subst (λ z. Ended text fs z next c.args.at gs w (Ok tt)) c.in-Ok.ensures.2 (c.in-Ok-end_before.ensures.ended text c.args.at v.seen.0),
+      subst (λ z. Ended text fs z next c.args.site.at gs w (Ok tt)) c.in-Ok.ensures.2 (c.in-Ok-end_before.ensures.ended text c.args.site.at v.seen.0),
     ) (λ k. c.is_entry_column.ensures.no c.if-is_entry_column.false (found ∙ k)) (Tree r) h)
 
 pub returns-in-Err-end_before-clause-stops : goal.returns-in-Err-end_before-clause-stops
-returns-in-Err-end_before-clause-stops c = memory_stops c.args.text.now c.args.at (NoValue c.args.at c.args.next c.args.form (stack c.args.forms.now.items) c.args.builder.now) c.in-Err-end_before.refusal (c.in-Err-end_before.ensures.ended c.args.text.now c.args.at c.requires.awaited.seen.0)
+returns-in-Err-end_before-clause-stops c = memory_stops c.args.text.now c.args.site.at (NoValue c.args.site.at c.args.site.next c.args.site.form (stack c.args.forms.now.items) c.args.builder.now) c.in-Err-end_before.refusal (c.in-Err-end_before.ensures.ended c.args.text.now c.args.site.at c.requires.awaited.seen.0)
 
 pub returns-in-Err-clause-stops : goal.returns-in-Err-clause-stops
-returns-in-Err-clause-stops c = memory_stops c.args.text.now c.args.at (NoValue c.args.at c.args.next c.args.form (stack c.args.forms.now.items) c.args.builder.now) c.in-Err.refusal c.in-Err.ensures
+returns-in-Err-clause-stops c = memory_stops c.args.text.now c.args.site.at (NoValue c.args.site.at c.args.site.next c.args.site.form (stack c.args.forms.now.items) c.args.builder.now) c.in-Err.refusal c.in-Err.ensures
 
 pub last_told-requires-clause-within : goal.last_told-requires-clause-within
-last_told-requires-clause-within c = seen_place c.args.text.now c.args.at c.args.next c.requires.awaited.seen
+last_told-requires-clause-within c = seen_place c.args.text.now c.args.site.at c.args.site.next c.requires.awaited.seen
 
 pub returns-clause-longer : goal.returns-clause-longer
-returns-clause-longer c = tag_again_lengthens c.args.text.now c.utf8.text (stack c.args.forms.now.items) c.args.builder.now c.args.at c.requires.awaited.boundary c.args.form c.args.next c.last_told.result c.requires.awaited c.args.len c.requires.tag c.requires.tagged c.requires.unsigned c.last_told.ensures
+returns-clause-longer c = tag_again_lengthens c.args.text.now c.utf8.text (stack c.args.forms.now.items) c.args.builder.now c.args.site.at c.requires.awaited.boundary c.args.site.form c.args.site.next c.last_told.result c.requires.awaited c.args.len c.requires.tag c.requires.tagged c.requires.unsigned c.last_told.ensures
 
 pub returns-in-Err-end_before-clause-longer : goal.returns-in-Err-end_before-clause-longer
-returns-in-Err-end_before-clause-longer c = memory_on (LengthensAt c.args.text.now stage.Value (stack c.args.forms.now.items) c.args.builder.now c.args.at) c.in-Err-end_before.refusal (c.in-Err-end_before.ensures.ended c.args.text.now c.args.at c.requires.awaited.seen.0)
+returns-in-Err-end_before-clause-longer c = memory_on (LengthensAt c.args.text.now stage.Value (stack c.args.forms.now.items) c.args.builder.now c.args.site.at) c.in-Err-end_before.refusal (c.in-Err-end_before.ensures.ended c.args.text.now c.args.site.at c.requires.awaited.seen.0)
 
 pub returns-in-Err-clause-longer : goal.returns-in-Err-clause-longer
-returns-in-Err-clause-longer c = memory_on (LengthensAt c.args.text.now stage.Value (stack c.args.forms.now.items) c.args.builder.now c.args.at) c.in-Err.refusal c.in-Err.ensures
+returns-in-Err-clause-longer c = memory_on (LengthensAt c.args.text.now stage.Value (stack c.args.forms.now.items) c.args.builder.now c.args.site.at) c.in-Err.refusal c.in-Err.ensures

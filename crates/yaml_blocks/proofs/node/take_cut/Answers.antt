@@ -12,15 +12,15 @@ use Rattle.yaml_blocks.proofs.node.take_cut.Goals as goal
 pub kept_text-content-requires : goal.kept_text-content-requires
 kept_text-content-requires c =
     let h = c.in-Ok.ensures.finds in
-    (scalar_kind (is_typed c.args.setting c.args.text.now c.args.next.at) (cow_str_bytes c.in-Ok.scalar.text) c.in-Ok.scalar.kind h.1).1
+    (scalar_kind (is_typed c.args.mode.setting c.args.text.now c.args.next.at) (cow_str_bytes c.in-Ok.scalar.text) c.in-Ok.scalar.kind h.1).1
 
 pub scalar-requires-clause-plain : goal.scalar-requires-clause-plain
 scalar-requires-clause-plain c =
     let h = c.in-Ok.ensures.finds in
-    (scalar_kind (is_typed c.args.setting c.args.text.now c.args.next.at) (cow_str_bytes c.in-Ok.scalar.text) c.in-Ok.scalar.kind h.1).0
+    (scalar_kind (is_typed c.args.mode.setting c.args.text.now c.args.next.at) (cow_str_bytes c.in-Ok.scalar.text) c.in-Ok.scalar.kind h.1).0
 
 pub returns-in-Err-clause-holds : goal.returns-in-Err-clause-holds
-returns-in-Err-clause-holds c = holds_none c.args.text.now c.args.setting c.args.cuts c.args.next c.args.builder.now c.args.builder.now c.in-Err.refusal c.in-Err.ensures.finds
+returns-in-Err-clause-holds c = holds_none c.args.text.now c.args.mode.setting c.args.mode.cuts c.args.next c.args.builder.now c.args.builder.now c.in-Err.refusal c.in-Err.ensures.finds
 
 pub returns-in-Err-scalar-clause-holds : goal.returns-in-Err-scalar-clause-holds
 returns-in-Err-scalar-clause-holds c = grind (arith, common_steps)

@@ -7,4 +7,4 @@ pub returns-clause-holds : goal.returns-clause-holds
 returns-clause-holds c = grind (arith, common_steps)
 
 pub returns-clause-place : goal.returns-clause-place
-returns-clause-place c = λ q e. subst (λ s. FailedAt c.args.text.now s c.args.next q) c.setting_of.ensures.is (c.take_cut.ensures.place q e)
+returns-clause-place c = λ q e. subst (λ s. FailedAt c.args.text.now s c.args.site.next q) c.setting_of.ensures.is (c.take_cut.ensures.place q e)

@@ -19,7 +19,7 @@ pub range-requires-clause-end_boundary : goal.range-requires-clause-end_boundary
 range-requires-clause-end_boundary c =
     let stop = c.first_special-stop.result in
     let end = c.trim_end.result in
-    let quote = c.args.quote in
+    let quote = c.args.style.now.quote in
     subst (λ (t : List ℕ). IsCharBoundary t end) c.as_bytes-bytes.ensures.value
     (cut_before c.as_bytes-bytes.result.now quote stop end c.trim_end.ensures.to c.first_special-stop.ensures.within c.trim_end.ensures.white (λ l. sym (c.requires.specials (get_or c.as_bytes-bytes.result.now stop 0)) ∙ c.first_special-stop.ensures.found l))
 
@@ -27,8 +27,8 @@ pub returns-then-ends_line : goal.returns-then-ends_line
 returns-then-ends_line c =
     let v = c.as_bytes-bytes.ensures.value in
     let bytes = c.as_bytes-bytes.result.now in
-    let quote = c.args.quote in
-    let one_line = c.args.one_line in
+    let quote = c.args.style.now.quote in
+    let one_line = c.args.style.now.one_line in
     let at = c.args.at in
     let stop = c.first_special-stop.result in
     let old = string_bytes c.args.decoded.now in
@@ -46,8 +46,8 @@ pub returns-in-Closes : goal.returns-in-Closes
 returns-in-Closes c =
     let v = c.as_bytes-bytes.ensures.value in
     let bytes = c.as_bytes-bytes.result.now in
-    let quote = c.args.quote in
-    let one_line = c.args.one_line in
+    let quote = c.args.style.now.quote in
+    let one_line = c.args.style.now.one_line in
     let at = c.args.at in
     let stop = c.first_special-stop.result in
     let old = string_bytes c.args.decoded.now in
@@ -68,8 +68,8 @@ pub returns-in_ok-push-in-Is : goal.returns-in_ok-push-in-Is
 returns-in_ok-push-in-Is c =
     let v = c.as_bytes-bytes.ensures.value in
     let bytes = c.as_bytes-bytes.result.now in
-    let quote = c.args.quote in
-    let one_line = c.args.one_line in
+    let quote = c.args.style.now.quote in
+    let one_line = c.args.style.now.one_line in
     let at = c.args.at in
     let stop = c.first_special-stop.result in
     let taken = c.in-Is.taken in
@@ -91,8 +91,8 @@ pub returns-in-Joins : goal.returns-in-Joins
 returns-in-Joins c =
     let v = c.as_bytes-bytes.ensures.value in
     let bytes = c.as_bytes-bytes.result.now in
-    let quote = c.args.quote in
-    let one_line = c.args.one_line in
+    let quote = c.args.style.now.quote in
+    let one_line = c.args.style.now.one_line in
     let at = c.args.at in
     let stop = c.first_special-stop.result in
     let old = string_bytes c.args.decoded.now in
@@ -112,8 +112,8 @@ pub returns-in-Returns : goal.returns-in-Returns
 returns-in-Returns c =
     let v = c.as_bytes-bytes.ensures.value in
     let bytes = c.as_bytes-bytes.result.now in
-    let quote = c.args.quote in
-    let one_line = c.args.one_line in
+    let quote = c.args.style.now.quote in
+    let one_line = c.args.style.now.one_line in
     let at = c.args.at in
     let stop = c.first_special-stop.result in
     let old = string_bytes c.args.decoded.now in
@@ -126,8 +126,8 @@ pub returns-in-Wrong : goal.returns-in-Wrong
 returns-in-Wrong c =
     let v = c.as_bytes-bytes.ensures.value in
     let bytes = c.as_bytes-bytes.result.now in
-    let quote = c.args.quote in
-    let one_line = c.args.one_line in
+    let quote = c.args.style.now.quote in
+    let one_line = c.args.style.now.one_line in
     let at = c.args.at in
     let stop = c.first_special-stop.result in
     let old = string_bytes c.args.decoded.now in
@@ -140,7 +140,7 @@ range-requires-2-clause-end_boundary c =
     let bytes = c.as_bytes-bytes.result.now in
     let stop = c.first_special-stop.result in
     subst (λ (t : List ℕ). IsCharBoundary t stop) c.as_bytes-bytes.ensures.value
-    (cut_before bytes c.args.quote stop stop (omega arith) c.first_special-stop.ensures.within (λ l. absurd (omega (arith, l))) (λ l. sym (c.requires.specials (get_or bytes stop 0)) ∙ c.first_special-stop.ensures.found l))
+    (cut_before bytes c.args.style.now.quote stop stop (omega arith) c.first_special-stop.ensures.within (λ l. absurd (omega (arith, l))) (λ l. sym (c.requires.specials (get_or bytes stop 0)) ∙ c.first_special-stop.ensures.found l))
 
 pub read_break-requires-clause-over : goal.read_break-requires-clause-over
 read_break-requires-clause-over c = c.ends_line.ensures.over c.if-ends_line.true

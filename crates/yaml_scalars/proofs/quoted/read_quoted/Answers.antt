@@ -26,7 +26,7 @@ returns-then-closes-clause-answer c =
     let in_bytes = subst (λ (t : List ℕ). (get_or t at 0 ≡ 34) ⊎ (get_or t at 0 ≡ 39)) (sym v) is_quote in
     let k = c.closes.ensures c.if-closes.true in
     let rest = line_at (drop (stop + 1) bytes) in
-    let read = from_closes quote bytes (at + 1) stop c.first_special-stop.ensures.from c.first_special-stop.ensures.within (λ k l m. sym (c.specials-specials.ensures (get_or bytes k 0)) ∙ c.first_special-stop.ensures.before k l m) one_line [] (get_or bytes stop 0)
+    let read = from_closes quote bytes (at + 1) stop c.first_special-stop.ensures.from c.first_special-stop.ensures.within (λ k l m. sym (c.specials.ensures (get_or bytes k 0)) ∙ c.first_special-stop.ensures.before k l m) one_line [] (get_or bytes stop 0)
     (quote_ahead bytes stop k.0 (subst (λ b. (b ≡ 34) ⊎ (b ≡ 39)) (sym k.1) in_bytes))
     (ap (λ b. piece quote b rest) k.1 ∙ k.2) in
     let whole = subst (λ (t : List ℕ). from (get_or t at 0) one_line t (at + 1) [] ≡ Stands (take (stop - (at + 1)) (drop (at + 1) t)) (stop + 1)) v read in
@@ -70,7 +70,7 @@ range-requires-clause-end_boundary c =
     let bytes = c.as_bytes-bytes.result.now in
     let stop = c.first_special-stop.result in
     subst (λ (t : List ℕ). IsCharBoundary t stop) c.as_bytes-bytes.ensures.value
-    (cut_before bytes (get_or bytes c.args.at 0) stop stop (omega arith) c.first_special-stop.ensures.within (λ l. absurd (omega (arith, l))) (λ l. sym (c.specials-specials.ensures (get_or bytes stop 0)) ∙ c.first_special-stop.ensures.found l))
+    (cut_before bytes (get_or bytes c.args.at 0) stop stop (omega arith) c.first_special-stop.ensures.within (λ l. absurd (omega (arith, l))) (λ l. sym (c.specials.ensures (get_or bytes stop 0)) ∙ c.first_special-stop.ensures.found l))
 
 pub closes-requires-clause-quote : goal.closes-requires-clause-quote
 closes-requires-clause-quote c = subst (λ (t : List ℕ). (get_or t c.args.at 0 ≡ 34) ⊎ (get_or t c.args.at 0 ≡ 39)) (sym c.as_bytes-bytes.ensures.value) (quote_is c.args.text.now c.args.at c.requires.within c.requires.quoted)
