@@ -1,4 +1,4 @@
-//! What stands among each other in a file.
+//! What stands among each other in a file, or in a body.
 ghost use Rattle.std.specs.Prelude.{◌≡◌, ◌++◌, ◌∷◌, [], IfErr, OnOk};
 
 use guard_syntax::{Disj, Let, Rule};
@@ -10,6 +10,13 @@ pub(crate) struct FileItems {
     pub(crate) lets: Vec<Let>,
     pub(crate) rules: Vec<Rule>,
     pub(crate) loose: Vec<Disj>,
+}
+
+/// The lets and the parts of a body.
+#[derive(Drop)]
+pub(crate) struct BodyItems {
+    pub(crate) lets: Vec<Let>,
+    pub(crate) parts: Vec<Disj>,
 }
 
 /// So many items of a list take no more room than they need: most lists of a rule file have one item, or a few.

@@ -1,13 +1,13 @@
 //! Bodies and their parts, and lets. Bodies recur through brackets alone, each time one level of depth less; of conditions
 //! no body is a part.
 ghost use Rattle.std.specs.Prelude.{◌≡◌, ◌≤◌, []};
-ghost use Rattle.guard_syntax.specs.code.Seen.{see_body, see_disj, see_let, see_part};
+ghost use Rattle.guard_syntax.specs.code.Seen.{see_body, see_disj, see_let, see_part, see_query};
 ghost use Rattle.literal_parser.specs.code.Reads.{Reads, state_of};
-ghost use Rattle.guard_parser.specs.code.GrammarReads.{see_items, see_parts, closed_items_at, disj_at, full_part_at, guarded_at, headed_at, inner_body_at, kinds_at, let_at, some_parts_at};
+ghost use Rattle.guard_parser.specs.code.GrammarReads.{see_items, see_parts, closed_items_at, disj_at, full_part_at, guarded_at, inner_body_at, judged_at, kinds_at, let_at, some_parts_at};
 
-use crate::items::add;
+use crate::items::{BodyItems, add};
 use crate::lead::{Lead, lead_of};
-use crate::read_condition::{conds, opt_conds, ruled, tested};
+use crate::read_condition::{QueryHead, RuleHead, conds, opt_conds, ruled, tested};
 use crate::read_query::{query, value};
 use guard_syntax::{Body, Disj, Let, Part};
 use literal_parser::{Cursor, Halt, TokenTest, Tokens};
@@ -49,10 +49,16 @@ pub(crate) fn body(
     }
     let site = cursor.opens(tokens)?;
     cursor.takes(tokens, TokenTest::LBrace)?;
-    let mut lets = Vec::new(alloc);
-    let mut parts = Vec::new(alloc);
-    add_items(alloc, tokens, cursor, depth - 1, &mut lets, &mut parts)?;
-    Ok(Body { site, lets, parts })
+    let mut found = BodyItems {
+        lets: Vec::new(alloc),
+        parts: Vec::new(alloc),
+    };
+    add_items(alloc, tokens, cursor, depth - 1, &mut found)?;
+    Ok(Body {
+        site,
+        lets: found.lets,
+        parts: found.parts,
+    })
 }
 
 /// The lets and the parts of a body, up to its brace.
@@ -63,26 +69,25 @@ fn add_items(
     tokens: Tokens<'_>,
     cursor: &mut Cursor,
     depth: usize,
-    lets: &mut Vec<Let>,
-    parts: &mut Vec<Disj>,
+    found: &mut BodyItems,
 ) -> Result<(), Halt>
     requires room { depth ≤ 128 }
-    requires no_lets { lets.old.items ≡ [] }
-    requires no_parts { parts.old.items ≡ [] }
-    ensures { Reads (λ _. see_items lets.new parts.new) (closed_items_at tokens.entry depth (state_of cursor.old) cursor.old.seen) result cursor.new }
+    requires no_lets { found.old.lets.items ≡ [] }
+    requires no_parts { found.old.parts.items ≡ [] }
+    ensures { Reads (λ _. see_items found.new.lets found.new.parts) (closed_items_at tokens.entry depth (state_of cursor.old) cursor.old.seen) result cursor.new }
 {
     for _turn in 0..tokens.turns {
         if cursor.sees(tokens, TokenTest::Let) {
-            add(lets, let_of(alloc, tokens, cursor, depth)?)?;
+            add(&mut found.lets, let_of(alloc, tokens, cursor, depth)?)?;
             continue;
         }
         if !cursor.sees(tokens, TokenTest::Part) {
-            if parts.is_empty() {
+            if found.parts.is_empty() {
                 return Err(Halt::Dead(cursor.seen));
             }
             return cursor.takes(tokens, TokenTest::RBrace);
         }
-        add(parts, disj(alloc, tokens, cursor, depth)?)?;
+        add(&mut found.parts, disj(alloc, tokens, cursor, depth)?)?;
     }
     Err(Halt::Dead(cursor.seen))
 }
@@ -151,8 +156,14 @@ fn part(alloc: Global, tokens: Tokens<'_>, cursor: &mut Cursor, depth: usize) ->
         return kinds(alloc, tokens, cursor, depth, site);
     }
     match lead_of(tokens, cursor, TokenTest::PartLead)? {
-        Lead::Query { any } => headed(alloc, tokens, cursor, depth, site, any),
-        Lead::Rule { not } => ruled(alloc, tokens, cursor, depth, site, not),
+        Lead::Query { any } => {
+            let query = query(alloc, tokens, cursor, depth)?;
+            judged(alloc, tokens, cursor, depth, QueryHead { site, any, query })
+        }
+        Lead::Rule { not } => {
+            let name = cursor.has_text(alloc, tokens, TokenTest::Name)?;
+            ruled(alloc, tokens, cursor, depth, RuleHead { site, not, name })
+        }
     }
 }
 
@@ -199,29 +210,27 @@ fn kinds(
     })
 }
 
-/// A block, or a test: what begins with a query.
+/// What stands behind a query: the body of a block, or a test.
 #[cycle(bodies)]
-#[tactic(auto, unfolding(crate::specs::code::Reading::headed, crate::specs::code::Reading::judged, literal_parser::specs::code::Parser::choose))]
-fn headed(
+#[tactic(auto, unfolding(crate::specs::code::Reading::judged, literal_parser::specs::code::Parser::choose))]
+fn judged(
     alloc: Global,
     tokens: Tokens<'_>,
     cursor: &mut Cursor,
     depth: usize,
-    site: u32,
-    any: bool,
+    head: QueryHead,
 ) -> Result<Part, Halt>
     requires room { depth ≤ 128 }
-    ensures { Reads see_part (headed_at tokens.entry depth site any (state_of cursor.old) cursor.old.seen) result cursor.new }
+    ensures { Reads see_part (judged_at tokens.entry depth head.site head.any (see_query head.query) (state_of cursor.old) cursor.old.seen) result cursor.new }
 {
-    let head = query(alloc, tokens, cursor, depth)?;
     if !cursor.sees(tokens, TokenTest::LBrace) {
-        return tested(alloc, tokens, cursor, depth, site, any, head);
+        return tested(alloc, tokens, cursor, depth, head);
     }
     let body = body(alloc, tokens, cursor, depth)?;
     Ok(Part::Block {
-        site,
-        any,
-        head,
+        site: head.site,
+        any: head.any,
+        head: head.query,
         body,
     })
 }

@@ -3,7 +3,7 @@
 ghost use Rattle.std.specs.Prelude.{◌≡◌, ◌≤◌, []};
 ghost use Rattle.guard_syntax.specs.code.Seen.{see_conds, see_disj, see_part, see_query, see_opt_conds, see_opt_expr};
 ghost use Rattle.literal_parser.specs.code.Reads.{Reads, state_of};
-ghost use Rattle.guard_parser.specs.code.GrammarReads.{see_disjs, see_parts, alternatives_at, called_at, cond_part_at, conds_at, some_conditions_at, some_disjs_at, opt_conds_at, right_at, ruled_at, tested_at};
+ghost use Rattle.guard_parser.specs.code.GrammarReads.{see_disjs, see_parts, alternatives_at, called_at, cond_part_at, conds_at, some_conditions_at, some_disjs_at, named_at, opt_conds_at, right_at, tested_at};
 
 use crate::items::add;
 use crate::lead::{Lead, lead_of};
@@ -12,6 +12,23 @@ use crate::read_query::{expr, exprs, query};
 use guard_syntax::{Conds, Disj, Expr, Op, Part, Query, Text};
 use literal_parser::{Cursor, Halt, TokenTest, Tokens};
 use std::alloc::Global;
+
+/// How a test begins, or a block.
+#[derive(Drop)]
+pub(crate) struct QueryHead {
+    pub(crate) site: u32,
+    /// Whether any value of the query has to pass, or each.
+    pub(crate) any: bool,
+    pub(crate) query: Query,
+}
+
+/// How a condition begins that names a rule.
+#[derive(Drop)]
+pub(crate) struct RuleHead {
+    pub(crate) site: u32,
+    pub(crate) not: bool,
+    pub(crate) name: Text,
+}
 
 /// `when` and conditions, or nothing.
 #[tactic(auto, unfolding(crate::specs::code::Reading::opt_conds, literal_parser::specs::code::Parser::choose))]
@@ -132,10 +149,13 @@ fn condition(
     let site = cursor.opens(tokens)?;
     match lead_of(tokens, cursor, TokenTest::CondLead)? {
         Lead::Query { any } => {
-            let left = query(alloc, tokens, cursor, depth)?;
-            tested(alloc, tokens, cursor, depth, site, any, left)
+            let query = query(alloc, tokens, cursor, depth)?;
+            tested(alloc, tokens, cursor, depth, QueryHead { site, any, query })
         }
-        Lead::Rule { not } => ruled(alloc, tokens, cursor, depth, site, not),
+        Lead::Rule { not } => {
+            let name = cursor.has_text(alloc, tokens, TokenTest::Name)?;
+            ruled(alloc, tokens, cursor, depth, RuleHead { site, not, name })
+        }
     }
 }
 
@@ -147,20 +167,18 @@ pub(crate) fn tested(
     tokens: Tokens<'_>,
     cursor: &mut Cursor,
     depth: usize,
-    site: u32,
-    any: bool,
-    left: Query,
+    head: QueryHead,
 ) -> Result<Part, Halt>
     requires room { depth ≤ 128 }
-    ensures { Reads see_part (tested_at tokens.entry depth site any (see_query left) (state_of cursor.old) cursor.old.seen) result cursor.new }
+    ensures { Reads see_part (tested_at tokens.entry depth head.site head.any (see_query head.query) (state_of cursor.old) cursor.old.seen) result cursor.new }
 {
     let (op, not) = operator(tokens, cursor)?;
     let right = right(alloc, tokens, cursor, depth, op)?;
     let note = note(alloc, tokens, cursor)?;
     Ok(Part::Test {
-        site,
-        any,
-        left,
+        site: head.site,
+        any: head.any,
+        left: head.query,
         op,
         not,
         right,
@@ -188,29 +206,27 @@ fn right(
     Ok(Some(found))
 }
 
-/// The name of a rule, with arguments or without.
+/// What stands behind the name of a rule: arguments, or none, and a note.
 #[cycle(conditions)]
-#[tactic(auto, unfolding(crate::specs::code::Reading::ruled, crate::specs::code::Reading::referred, literal_parser::specs::code::Parser::choose))]
+#[tactic(auto, unfolding(crate::specs::code::Reading::referred, literal_parser::specs::code::Parser::choose))]
 pub(crate) fn ruled(
     alloc: Global,
     tokens: Tokens<'_>,
     cursor: &mut Cursor,
     depth: usize,
-    site: u32,
-    not: bool,
+    head: RuleHead,
 ) -> Result<Part, Halt>
     requires room { depth ≤ 128 }
-    ensures { Reads see_part (ruled_at tokens.entry depth site not (state_of cursor.old) cursor.old.seen) result cursor.new }
+    ensures { Reads see_part (named_at tokens.entry depth head.site head.not head.name (state_of cursor.old) cursor.old.seen) result cursor.new }
 {
-    let name = cursor.has_text(alloc, tokens, TokenTest::Name)?;
     if cursor.sees(tokens, TokenTest::LParen) {
-        return called(alloc, tokens, cursor, depth, site, not, name);
+        return called(alloc, tokens, cursor, depth, head);
     }
     let note = note(alloc, tokens, cursor)?;
     Ok(Part::Refer {
-        site,
-        not,
-        name,
+        site: head.site,
+        not: head.not,
+        name: head.name,
         note,
     })
 }
@@ -223,19 +239,17 @@ fn called(
     tokens: Tokens<'_>,
     cursor: &mut Cursor,
     depth: usize,
-    site: u32,
-    not: bool,
-    name: Text,
+    head: RuleHead,
 ) -> Result<Part, Halt>
     requires room { depth ≤ 128 }
-    ensures { Reads see_part (called_at tokens.entry depth site not name (state_of cursor.old) cursor.old.seen) result cursor.new }
+    ensures { Reads see_part (called_at tokens.entry depth head.site head.not head.name (state_of cursor.old) cursor.old.seen) result cursor.new }
 {
     let args = exprs(alloc, tokens, cursor, depth)?;
     let note = note(alloc, tokens, cursor)?;
     Ok(Part::Call {
-        site,
-        not,
-        name,
+        site: head.site,
+        not: head.not,
+        name: head.name,
         args,
         note,
     })

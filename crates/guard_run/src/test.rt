@@ -25,7 +25,7 @@ use crate::written::Written;
 use guard_ends::{End, Which};
 use guard_io::{CleanSink, Files};
 use guard_syntax::Verdict;
-use guard_testfile::{Agreement, Case, write_case, write_summary};
+use guard_testfile::{Agreement, Case, JudgedCase, write_case, write_summary};
 use query_steps::one_answer_over_locations;
 use report_text::ReportFault;
 use std::alloc::{AllocError, Global};
@@ -144,7 +144,12 @@ fn say_case(
 {
     one_answer_over_locations();
     let got = verdicts_at(alloc, ready, case.input)?;
-    match write_case(alloc, &ready.tests.rules.file, number, case, &got, text) {
+    let judged = JudgedCase {
+        number,
+        case,
+        got: &got,
+    };
+    match write_case(alloc, &ready.tests.rules.file, judged, text) {
         Ok(Agreement::AsExpected) => Ok(false),
         Ok(Agreement::Different) => Ok(true),
         // The sink in memory has no faults.

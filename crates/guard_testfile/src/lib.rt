@@ -21,4 +21,4 @@ pub use laws::one_answer;
 pub use read::read_cases;
 pub use refusal::TestRefusal;
 pub use report_text::ReportFault as CaseFault;
-pub use write::{Agreement, write_case, write_summary};
+pub use write::{Agreement, JudgedCase, write_case, write_summary};

@@ -26,32 +26,40 @@ pub enum Agreement {
     Different,
 }
 
-/// Writes what is said of the case of a number, and answers whether it is as expected: the line of the case, and under that a
-/// line for each verdict that differs. There is one verdict for each rule that is reported, in the order of the report. After
-/// an error the sink has taken a front of these lines; `Failed` comes only where its count of faults rose.
+/// A case that was judged.
+#[derive(Clone, Copy)]
+pub struct JudgedCase<'a> {
+    /// The number under which it is told.
+    pub number: u64,
+    pub case: &'a Case,
+    /// The verdict of each rule that is reported, in the order of the report.
+    pub got: &'a [Verdict],
+}
+
+/// Writes what is said of a case, and answers whether it is as expected: the line of the case, and under that a line for each
+/// verdict that differs. After an error the sink has taken a front of these lines; `Failed` comes only where its count of
+/// faults rose.
 pub fn write_case<S: Sink>(
     alloc: Global,
     file: &RuleFile,
-    number: u64,
-    case: &Case,
-    got: &[Verdict],
+    judged: JudgedCase<'_>,
     sink: &mut S,
 ) -> Result<Agreement, ReportFault>
-    requires { length got.now ≡ length (reported_names (file_of file.now)) }
-    ensures agreement { IfOk result (λ agreement. agreement ≡ agreement_of (case_differences (file_of file.now) got.now case.now)) }
+    requires { length judged.got.now ≡ length (reported_names (file_of file.now)) }
+    ensures agreement { IfOk result (λ agreement. agreement ≡ agreement_of (case_differences (file_of file.now) judged.entry.got.now judged.entry.case.now)) }
     ensures ok { OnOk result (ForSome (S.told sink.old) (λ held.
-        S.told sink.new ≡ Some (held ++ case_text number (case_differences (file_of file.now) got.now case.now)))) }
+        S.told sink.new ≡ Some (held ++ case_text judged.entry.number (case_differences (file_of file.now) judged.entry.got.now judged.entry.case.now)))) }
     ensures err { OnErr result (ForSome (S.told sink.old) (λ held. (front : List ℕ)
-        × IsPrefix front (case_text number (case_differences (file_of file.now) got.now case.now)) × (S.told sink.new ≡ Some (held ++ front)))) }
+        × IsPrefix front (case_text judged.entry.number (case_differences (file_of file.now) judged.entry.got.now judged.entry.case.now)) × (S.told sink.new ≡ Some (held ++ front)))) }
     ensures tells { IsSome (S.told sink.old) → IsSome (S.told sink.new) }
     ensures failed { IsErrOf result ReportFault.Failed → FaultCounted (S.faults sink.old) (S.faults sink.new) }
     ensures kept { S.faults sink.old ≤ S.faults sink.new }
 {
-    let Ok(lines) = difference_lines(alloc, file, case, got) else {
+    let Ok(lines) = difference_lines(alloc, file, judged.case, judged.got) else {
         return Err(ReportFault::Memory);
     };
     let agreement = agreement_by(&lines);
-    let Ok(text) = text_of(alloc, number, agreement, &lines) else {
+    let Ok(text) = text_of(alloc, judged.number, agreement, &lines) else {
         return Err(ReportFault::Memory);
     };
     match put(&text, sink) {

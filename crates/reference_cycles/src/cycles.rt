@@ -139,30 +139,38 @@ fn text_at<'f>(file: &'f RawFile, site: u32) -> &'f str
     }
 }
 
+/// The nodes of a graph that stand for rules, or for lets and captures.
+#[derive(Clone, Copy)]
+struct Layer {
+    /// The fault of one that reaches itself.
+    kind: NameKind,
+    /// The node of the first site.
+    low: u32,
+}
+
 /// The fault of a name that reaches itself. It is answered at the first use in what the name stands for that leads back.
 fn cycle_of<'f>(
     alloc: Global,
     file: &'f RawFile,
     graph: &Graph,
-    kind: NameKind,
-    low: u32,
+    layer: Layer,
     node: u32,
 ) -> Result<Wrong<'f>, AllocError>
     requires sites { AreInOrder (see_file file.now) }
     requires graph { graph.now ≡ graph_of (see_file file.now) }
-    requires low { length (see_file file.now).places ≤ low }
-    requires node { (low ≤ node) × (node < low + length (see_file file.now).places) }
+    requires low { length (see_file file.now).places ≤ layer.low }
+    requires node { (layer.low ≤ node) × (node < layer.low + length (see_file file.now).places) }
     requires cycle { Reaches graph.now node node }
     ensures { IfOk result (λ wrong. (site : ℕ) × IsFirstUse (see_file file.entry.now) node site
-        × (see_wrong wrong ≡ record { kind = kind; named = record { text = given_text (piece_at (see_file file.entry.now) (node - low)); at = use_place (see_file file.entry.now) site } })) }
+        × (see_wrong wrong ≡ record { kind = layer.kind; named = record { text = given_text (piece_at (see_file file.entry.now) (node - layer.low)); at = use_place (see_file file.entry.now) site } })) }
 {
     let count = file.places.as_slice().len() as u32;
     let Some(site) = first_part_use(alloc, graph, count, node)? else {
         unreachable!()
     };
     Ok(Wrong {
-        kind,
-        name: text_at(file, node - low),
+        kind: layer.kind,
+        name: text_at(file, node - layer.low),
         at: place_of_use(file, site),
     })
 }
@@ -180,12 +188,18 @@ pub fn first_cycle<'f>(
 {
     let count = graph.count() / 3;
     if let Some(node) = first_on_cycle(alloc, graph, count, 2 * count)? {
-        let kind = NameKind::RecursiveRule;
-        return Ok(Some(cycle_of(alloc, file, graph, kind, count, node)?));
+        let rules = Layer {
+            kind: NameKind::RecursiveRule,
+            low: count,
+        };
+        return Ok(Some(cycle_of(alloc, file, graph, rules, node)?));
     }
     if let Some(node) = first_on_cycle(alloc, graph, 2 * count, 3 * count)? {
-        let kind = NameKind::RecursiveVariable;
-        return Ok(Some(cycle_of(alloc, file, graph, kind, 2 * count, node)?));
+        let variables = Layer {
+            kind: NameKind::RecursiveVariable,
+            low: 2 * count,
+        };
+        return Ok(Some(cycle_of(alloc, file, graph, variables, node)?));
     }
     Ok(None)
 }

@@ -33,17 +33,15 @@ use value_compare::{Store, View};
 
 /// Writes the line of an entry: two spaces, the path and the place of what is shown, the word, the place of the part in
 /// the rules, and the part's message where it has one. Places are `line:column` from 1, the column in bytes, and behind
-/// `params:` in the parameters. The texts are those from which the file and the data tree were read; the file is the
-/// store's. After an error the sink has taken a front of the line; `Failed` comes only where its count of faults rose.
+/// `params:` in the parameters. The texts are those from which the store's file and data tree were read. After an error the
+/// sink has taken a front of the line; `Failed` comes only where its count of faults rose.
 pub fn write_entry<S: Sink>(
     alloc: Global,
-    file: &RuleFile,
     texts: &Texts<'_>,
     store: &Store<'_, '_>,
     entry: &Entry,
     sink: &mut S,
 ) -> Result<(), ReportFault>
-    requires file { (see_store store.now).file ≡ file_of file.now }
     requires shown { IsShowable (see_store store.now) entry.now.shown }
     requires rules { length texts.now.rules.now ≤ rules_limit }
     requires template { length texts.now.template.now ≤ template_limit }
@@ -57,7 +55,7 @@ pub fn write_entry<S: Sink>(
     ensures kept { S.faults sink.old ≤ S.faults sink.new }
 {
     match LinedTexts::new(alloc, texts) {
-        Ok(texts) => write_entry_over(alloc, file, &texts, store, entry, sink),
+        Ok(texts) => write_entry_over(alloc, &texts, store, entry, sink),
         Err(_) => Err(ReportFault::Memory),
     }
 }
@@ -66,14 +64,12 @@ pub fn write_entry<S: Sink>(
 /// scan of a text each.
 pub fn write_entry_over<S: Sink>(
     alloc: Global,
-    file: &RuleFile,
     texts: &LinedTexts<'_>,
     store: &Store<'_, '_>,
     entry: &Entry,
     sink: &mut S,
 ) -> Result<(), ReportFault>
-    requires file { (see_store store.now).file ≡ file_of file.now }
-    requires shown { IsShowable (see_store store.now) entry.now.shown }
+    requires { IsShowable (see_store store.now) entry.now.shown }
     ensures ok { OnOk result (ForSome (S.told sink.old) (λ held.
         S.told sink.new ≡ Some (held ++ entry_line (see_store store.now).file (see_store store.now).template (see_lined texts.now) (see_entry (see_store store.now) entry.now)))) }
     ensures err { OnErr result (ForSome (S.told sink.old) (λ held. (front : List ℕ)
@@ -82,7 +78,7 @@ pub fn write_entry_over<S: Sink>(
     ensures failed { IsErrOf result ReportFault.Failed → FaultCounted (S.faults sink.old) (S.faults sink.new) }
     ensures kept { S.faults sink.old ≤ S.faults sink.new }
 {
-    match line_of(alloc, file, texts, store, entry) {
+    match line_of(alloc, texts, store, entry) {
         Ok(line) => put(&line, sink),
         Err(_) => Err(ReportFault::Memory),
     }
@@ -91,19 +87,17 @@ pub fn write_entry_over<S: Sink>(
 /// The line of an entry.
 fn line_of(
     alloc: Global,
-    file: &RuleFile,
     texts: &LinedTexts<'_>,
     store: &Store<'_, '_>,
     entry: &Entry,
 ) -> Result<Vec<u8>, AllocError>
-    requires file { (see_store store.now).file ≡ file_of file.now }
-    requires shown { IsShowable (see_store store.now) entry.now.shown }
+    requires { IsShowable (see_store store.now) entry.now.shown }
     ensures { IfOk result (λ line. line.items ≡ entry_line (see_store store.now).file (see_store store.now).template (see_lined texts.now) (see_entry (see_store store.now) entry.now)) }
 {
     let mut line = Vec::new(alloc);
     line.extend_from_slice(b"  ")?;
-    push_shown(&mut line, file, texts, store, entry.shown)?;
-    push_cause(&mut line, file, &texts.rules, entry)?;
+    push_shown(&mut line, texts, store, entry.shown)?;
+    push_cause(&mut line, store.file, &texts.rules, entry)?;
     Ok(line)
 }
 
@@ -128,13 +122,11 @@ fn push_cause(
 /// Appends the path and the place of what is shown.
 fn push_shown(
     line: &mut Vec<u8>,
-    file: &RuleFile,
     texts: &LinedTexts<'_>,
     store: &Store<'_, '_>,
     shown: Shown,
 ) -> Result<(), AllocError>
-    requires file { (see_store store.now).file ≡ file_of file.now }
-    requires shown { IsShowable (see_store store.now) shown }
+    requires { IsShowable (see_store store.now) shown }
     ensures { OnOk result (line.new.items ≡ line.old.items ++ shown_text (see_store store.now).file (see_store store.now).template (see_lined texts.now) (see_shown (see_store store.now) shown)) }
 {
     match shown {
@@ -143,11 +135,11 @@ fn push_shown(
             line.extend_from_slice(b"call")?;
             push_path(line, node_of(store, value))?;
             line.push(b' ')?;
-            push_site(line, file, &texts.rules, call)
+            push_site(line, store.file, &texts.rules, call)
         }
         Shown::Unmade(call) => {
             line.extend_from_slice(b"call ")?;
-            push_site(line, file, &texts.rules, call)
+            push_site(line, store.file, &texts.rules, call)
         }
     }
 }

@@ -1,16 +1,16 @@
-use Rattle.std.proofs.Common.{ℕ, false, map, refl, ap, sym, ◌∙◌, ◌-◌, ◌+◌, ◌++◌, [], ◌∷◌}
+use Rattle.std.proofs.Common.{ℕ, List, false, map, refl, ap, sym, ◌∙◌, ◌-◌, ◌+◌, ◌++◌, [], ◌∷◌}
 use Rattle.std.proofs.lemmas.List.{map-append}
 use Rattle.guard_syntax.specs.Syntax as sx
 use Rattle.guard_syntax.specs.code.Seen.{see_conds, see_disj, see_expr, see_part, see_query, see_step}
-use Rattle.literal_parser.specs.Forms.{begins_cond, begins_step, is_comma, is_or, is_keys, is_lparen, is_rparen, is_lbracket, is_rbracket, is_dot, is_star, is_index, leads}
-use Rattle.literal_parser.specs.code.Parser.{One, Read, pure, and_then, ◌>>=◌, ◌>>◌, opens, takes}
+use Rattle.literal_parser.specs.Forms.{begins_cond, begins_step, is_comma, is_or, is_keys, is_lparen, is_rparen, is_lbracket, is_rbracket, is_dot, is_star, is_index, is_name, leads, text_of}
+use Rattle.literal_parser.specs.code.Parser.{One, Read, pure, and_then, ◌>>=◌, ◌>>◌, opens, takes, has}
 use Rattle.literal_parser.specs.code.Reads.{site_of, source, state_of}
 use Rattle.guard_parser.specs.declared.lead.Lead.{Lead}
 use Rattle.guard_parser.specs.declared.lead.ExprForm.{ExprForm}
 use Rattle.guard_parser.specs.code.Leads.{lead_of, led_by, expr_by}
 use Rattle.guard_parser.specs.code.Reading as spec
-use Rattle.guard_parser.specs.code.Reading.{disjs, ors, steps, more_exprs_of, exprs_of, conds_of, disj_of, query_of, start_step, cond_part, headed, judged, called, applied, asked_expr, step, dotted, bracketed, keyed, filtered}
-use Rattle.guard_parser.specs.code.GrammarReads.{KeyTest, inner, see_disjs, see_parts, see_steps, see_exprs, see_key_test, alternatives_at, more_alternatives_at, cond_part_at, conds_at, disjs_at, dotted_at, items_at, closed_index_at, query_at, step_at, steps_at, expr_at, tree_expr_at, more_exprs_at, some_disjs_at, some_conditions_at, some_steps_at, closed_exprs_at, closed_exprs, arguments_at, ruled_at, tested_at, called_at, applied_at, filter_at, key_test_at}
+use Rattle.guard_parser.specs.code.Reading.{disjs, ors, steps, more_exprs_of, exprs_of, conds_of, disj_of, query_of, start_step, cond_part, headed, judged, ruled, called, applied, asked_expr, step, dotted, bracketed, keyed, filtered}
+use Rattle.guard_parser.specs.code.GrammarReads.{KeyTest, inner, see_disjs, see_parts, see_steps, see_exprs, see_key_test, alternatives_at, more_alternatives_at, cond_part_at, conds_at, disjs_at, dotted_at, items_at, closed_index_at, query_at, step_at, steps_at, expr_at, tree_expr_at, more_exprs_at, some_disjs_at, some_conditions_at, some_steps_at, closed_exprs_at, closed_exprs, arguments_at, named_at, tested_at, called_at, applied_at, filter_at, key_test_at}
 use Rattle.guard_parser.proofs.CodeSteps.{then_read, then_fail, saw, handed, halted, halted_by, both, then_closed, then_enclosed, then_tested, closed_by, list_begun, list_more, list_ended, list_failed, list_spent, deeper}
 use Rattle.guard_parser.proofs.Leads.{condition_led, expr_formed}
 use Rattle.guard_parser.proofs.Rooms.{roomy_reads, full_stops, room_left, no_room}
@@ -257,44 +257,51 @@ read_condition::condition-returns-in_err-any t c =
     (led_by (source c.args.tokens) c.args.tokens.turns (inner c.args.tokens c.args.depth) false c.in_ok-site.site) (cond_part_at c.args.tokens c.args.depth (state_of c.args.cursor.now) c.args.cursor.now.seen) c.from_residual-in_err-any.result c.in_err-any.field-0.0 c.lead_of.new.cursor c.lead_of.new.cursor c.from_residual-in_err-any.ensures.1
     (then_read _ c.in_ok-site.ensures (condition_led (source c.args.tokens) c.args.tokens.turns (inner c.args.tokens c.args.depth) false c.in_ok-site.site (state_of c.opens.new.self) c.opens.new.self.seen)) c.in_err-any.ensures
 
-pub read_condition::condition-returns-in_err-left-in-Query : goal.read_condition::condition-returns-in_err-left-in-Query
+pub read_condition::condition-returns-in_err-query-in-Query : goal.read_condition::condition-returns-in_err-query-in-Query
 unfolding cond_part headed judged
-read_condition::condition-returns-in_err-left-in-Query t c =
+read_condition::condition-returns-in_err-query-in-Query t c =
     halted see_query see_part (query_at c.args.tokens c.args.depth (state_of c.lead_of.new.cursor) c.lead_of.new.cursor.seen)
-    _ (cond_part_at c.args.tokens c.args.depth (state_of c.args.cursor.now) c.args.cursor.now.seen) c.from_residual-in_err-left-in-Query.result c.in_err-left-in-Query.field-0.0 c.query.new.cursor c.query.new.cursor c.from_residual-in_err-left-in-Query.ensures.1
-    ((then_read _ c.in_ok-site.ensures (condition_led (source c.args.tokens) c.args.tokens.turns (inner c.args.tokens c.args.depth) false c.in_ok-site.site (state_of c.opens.new.self) c.opens.new.self.seen) ∙ ap (λ o. and_then o (led_by (source c.args.tokens) c.args.tokens.turns (inner c.args.tokens c.args.depth) false c.in_ok-site.site)) c.in_ok-any.ensures ∙ ap (λ (l : Lead). (led_by (source c.args.tokens) c.args.tokens.turns (inner c.args.tokens c.args.depth) false c.in_ok-site.site) l (state_of c.lead_of.new.cursor) c.lead_of.new.cursor.seen) c.in-Query.is) ∙ refl) c.in_err-left-in-Query.ensures
+    _ (cond_part_at c.args.tokens c.args.depth (state_of c.args.cursor.now) c.args.cursor.now.seen) c.from_residual-in_err-query-in-Query.result c.in_err-query-in-Query.field-0.0 c.query.new.cursor c.query.new.cursor c.from_residual-in_err-query-in-Query.ensures.1
+    ((then_read _ c.in_ok-site.ensures (condition_led (source c.args.tokens) c.args.tokens.turns (inner c.args.tokens c.args.depth) false c.in_ok-site.site (state_of c.opens.new.self) c.opens.new.self.seen) ∙ ap (λ o. and_then o (led_by (source c.args.tokens) c.args.tokens.turns (inner c.args.tokens c.args.depth) false c.in_ok-site.site)) c.in_ok-any.ensures ∙ ap (λ (l : Lead). (led_by (source c.args.tokens) c.args.tokens.turns (inner c.args.tokens c.args.depth) false c.in_ok-site.site) l (state_of c.lead_of.new.cursor) c.lead_of.new.cursor.seen) c.in-Query.is) ∙ refl) c.in_err-query-in-Query.ensures
 
-pub read_condition::condition-returns-in_ok-left-in-Query : goal.read_condition::condition-returns-in_ok-left-in-Query
+pub read_condition::condition-returns-in_ok-query-in-Query : goal.read_condition::condition-returns-in_ok-query-in-Query
 unfolding cond_part headed judged
-read_condition::condition-returns-in_ok-left-in-Query t c =
-    handed see_part (cond_part_at c.args.tokens c.args.depth (state_of c.args.cursor.now) c.args.cursor.now.seen) (tested_at c.args.tokens c.args.depth c.in_ok-site.site c.in-Query.any (see_query c.in_ok-left-in-Query.left) (state_of c.query.new.cursor) c.query.new.cursor.seen) c.tested.result c.tested.new.cursor
-    ((then_read _ c.in_ok-site.ensures (condition_led (source c.args.tokens) c.args.tokens.turns (inner c.args.tokens c.args.depth) false c.in_ok-site.site (state_of c.opens.new.self) c.opens.new.self.seen) ∙ ap (λ o. and_then o (led_by (source c.args.tokens) c.args.tokens.turns (inner c.args.tokens c.args.depth) false c.in_ok-site.site)) c.in_ok-any.ensures ∙ ap (λ (l : Lead). (led_by (source c.args.tokens) c.args.tokens.turns (inner c.args.tokens c.args.depth) false c.in_ok-site.site) l (state_of c.lead_of.new.cursor) c.lead_of.new.cursor.seen) c.in-Query.is) ∙ then_read _ c.in_ok-left-in-Query.ensures refl) c.tested.ensures
+read_condition::condition-returns-in_ok-query-in-Query t c =
+    handed see_part (cond_part_at c.args.tokens c.args.depth (state_of c.args.cursor.now) c.args.cursor.now.seen) (tested_at c.args.tokens c.args.depth c.in_ok-site.site c.in-Query.any (see_query c.in_ok-query-in-Query.query) (state_of c.query.new.cursor) c.query.new.cursor.seen) c.tested.result c.tested.new.cursor
+    ((then_read _ c.in_ok-site.ensures (condition_led (source c.args.tokens) c.args.tokens.turns (inner c.args.tokens c.args.depth) false c.in_ok-site.site (state_of c.opens.new.self) c.opens.new.self.seen) ∙ ap (λ o. and_then o (led_by (source c.args.tokens) c.args.tokens.turns (inner c.args.tokens c.args.depth) false c.in_ok-site.site)) c.in_ok-any.ensures ∙ ap (λ (l : Lead). (led_by (source c.args.tokens) c.args.tokens.turns (inner c.args.tokens c.args.depth) false c.in_ok-site.site) l (state_of c.lead_of.new.cursor) c.lead_of.new.cursor.seen) c.in-Query.is) ∙ then_read _ c.in_ok-query-in-Query.ensures refl) c.tested.ensures
 
-pub read_condition::condition-returns-in-Rule : goal.read_condition::condition-returns-in-Rule
-unfolding cond_part
-read_condition::condition-returns-in-Rule t c =
-    handed see_part (cond_part_at c.args.tokens c.args.depth (state_of c.args.cursor.now) c.args.cursor.now.seen) (ruled_at c.args.tokens c.args.depth c.in_ok-site.site c.in-Rule.not (state_of c.lead_of.new.cursor) c.lead_of.new.cursor.seen) c.ruled.result c.ruled.new.cursor
-    (then_read _ c.in_ok-site.ensures (condition_led (source c.args.tokens) c.args.tokens.turns (inner c.args.tokens c.args.depth) false c.in_ok-site.site (state_of c.opens.new.self) c.opens.new.self.seen) ∙ ap (λ o. and_then o (led_by (source c.args.tokens) c.args.tokens.turns (inner c.args.tokens c.args.depth) false c.in_ok-site.site)) c.in_ok-any.ensures ∙ ap (λ (l : Lead). (led_by (source c.args.tokens) c.args.tokens.turns (inner c.args.tokens c.args.depth) false c.in_ok-site.site) l (state_of c.lead_of.new.cursor) c.lead_of.new.cursor.seen) c.in-Rule.is) c.ruled.ensures
+pub read_condition::condition-returns-in_err-name-in-Rule : goal.read_condition::condition-returns-in_err-name-in-Rule
+unfolding cond_part ruled
+read_condition::condition-returns-in_err-name-in-Rule t c =
+    halted (λ (x : List ℕ). x) see_part (has (source c.args.tokens) is_name text_of (state_of c.lead_of.new.cursor) c.lead_of.new.cursor.seen)
+    _ (cond_part_at c.args.tokens c.args.depth (state_of c.args.cursor.now) c.args.cursor.now.seen) c.from_residual-in_err-name-in-Rule.result c.in_err-name-in-Rule.field-0.0 c.has_text.new.self c.has_text.new.self c.from_residual-in_err-name-in-Rule.ensures.1
+    (then_read _ c.in_ok-site.ensures (condition_led (source c.args.tokens) c.args.tokens.turns (inner c.args.tokens c.args.depth) false c.in_ok-site.site (state_of c.opens.new.self) c.opens.new.self.seen) ∙ ap (λ o. and_then o (led_by (source c.args.tokens) c.args.tokens.turns (inner c.args.tokens c.args.depth) false c.in_ok-site.site)) c.in_ok-any.ensures ∙ ap (λ (l : Lead). (led_by (source c.args.tokens) c.args.tokens.turns (inner c.args.tokens c.args.depth) false c.in_ok-site.site) l (state_of c.lead_of.new.cursor) c.lead_of.new.cursor.seen) c.in-Rule.is ∙ refl) c.in_err-name-in-Rule.ensures
+
+pub read_condition::condition-returns-in_ok-name-in-Rule : goal.read_condition::condition-returns-in_ok-name-in-Rule
+unfolding cond_part ruled
+read_condition::condition-returns-in_ok-name-in-Rule t c =
+    handed see_part (cond_part_at c.args.tokens c.args.depth (state_of c.args.cursor.now) c.args.cursor.now.seen) (named_at c.args.tokens c.args.depth c.in_ok-site.site c.in-Rule.not c.in_ok-name-in-Rule.name (state_of c.has_text.new.self) c.has_text.new.self.seen) c.ruled.result c.ruled.new.cursor
+    (then_read _ c.in_ok-site.ensures (condition_led (source c.args.tokens) c.args.tokens.turns (inner c.args.tokens c.args.depth) false c.in_ok-site.site (state_of c.opens.new.self) c.opens.new.self.seen) ∙ ap (λ o. and_then o (led_by (source c.args.tokens) c.args.tokens.turns (inner c.args.tokens c.args.depth) false c.in_ok-site.site)) c.in_ok-any.ensures ∙ ap (λ (l : Lead). (led_by (source c.args.tokens) c.args.tokens.turns (inner c.args.tokens c.args.depth) false c.in_ok-site.site) l (state_of c.lead_of.new.cursor) c.lead_of.new.cursor.seen) c.in-Rule.is ∙ then_read _ c.in_ok-name-in-Rule.ensures refl) c.ruled.ensures
 
 pub read_condition::called-returns : goal.read_condition::called-returns
 unfolding called
 read_condition::called-returns t c =
-    then_enclosed (inner c.args.tokens c.args.depth).exprs (takes (source c.args.tokens) is_rparen) (λ (es : sx.Exprs). spec.note (source c.args.tokens) >>= (λ m. pure (sx.call c.args.site c.args.not c.args.name es m))) (takes (source c.args.tokens) is_lparen (state_of c.args.cursor.now) c.args.cursor.now.seen) ∙ then_read _ c.in_ok-args.ensures (then_read _ c.in_ok-note.ensures refl)
-    ∙ sym (ap (λ (q : sx.Part). Read q (state_of c.note.new.cursor) c.note.new.cursor.seen) (call-made c.args.site c.args.not c.args.name c.in_ok-args.args c.in_ok-note.note))
+    then_enclosed (inner c.args.tokens c.args.depth).exprs (takes (source c.args.tokens) is_rparen) (λ (es : sx.Exprs). spec.note (source c.args.tokens) >>= (λ m. pure (sx.call c.args.head.site c.args.head.not c.args.head.name es m))) (takes (source c.args.tokens) is_lparen (state_of c.args.cursor.now) c.args.cursor.now.seen) ∙ then_read _ c.in_ok-args.ensures (then_read _ c.in_ok-note.ensures refl)
+    ∙ sym (ap (λ (q : sx.Part). Read q (state_of c.note.new.cursor) c.note.new.cursor.seen) (call-made c.args.head.site c.args.head.not c.args.head.name c.in_ok-args.args c.in_ok-note.note))
 
 pub read_condition::called-returns-in_err-args : goal.read_condition::called-returns-in_err-args
 unfolding called
 read_condition::called-returns-in_err-args t c =
     halted see_exprs see_part (arguments_at c.args.tokens c.args.depth (state_of c.args.cursor.now) c.args.cursor.now.seen)
-    (λ (es : sx.Exprs). spec.note (source c.args.tokens) >>= (λ m. pure (sx.call c.args.site c.args.not c.args.name es m))) (called_at c.args.tokens c.args.depth c.args.site c.args.not c.args.name (state_of c.args.cursor.now) c.args.cursor.now.seen) c.from_residual.result c.in_err-args.field-0.0 c.exprs.new.cursor c.exprs.new.cursor c.from_residual.ensures.1
-    (then_enclosed (inner c.args.tokens c.args.depth).exprs (takes (source c.args.tokens) is_rparen) (λ (es : sx.Exprs). spec.note (source c.args.tokens) >>= (λ m. pure (sx.call c.args.site c.args.not c.args.name es m))) (takes (source c.args.tokens) is_lparen (state_of c.args.cursor.now) c.args.cursor.now.seen)) c.in_err-args.ensures
+    (λ (es : sx.Exprs). spec.note (source c.args.tokens) >>= (λ m. pure (sx.call c.args.head.site c.args.head.not c.args.head.name es m))) (called_at c.args.tokens c.args.depth c.args.head.site c.args.head.not c.args.head.name (state_of c.args.cursor.now) c.args.cursor.now.seen) c.from_residual.result c.in_err-args.field-0.0 c.exprs.new.cursor c.exprs.new.cursor c.from_residual.ensures.1
+    (then_enclosed (inner c.args.tokens c.args.depth).exprs (takes (source c.args.tokens) is_rparen) (λ (es : sx.Exprs). spec.note (source c.args.tokens) >>= (λ m. pure (sx.call c.args.head.site c.args.head.not c.args.head.name es m))) (takes (source c.args.tokens) is_lparen (state_of c.args.cursor.now) c.args.cursor.now.seen)) c.in_err-args.ensures
 
 pub read_condition::called-returns-in_err-note : goal.read_condition::called-returns-in_err-note
 unfolding called
 read_condition::called-returns-in_err-note t c =
     halted (λ x. x) see_part (spec.note (source c.args.tokens) (state_of c.exprs.new.cursor) c.exprs.new.cursor.seen)
-    _ (called_at c.args.tokens c.args.depth c.args.site c.args.not c.args.name (state_of c.args.cursor.now) c.args.cursor.now.seen) c.from_residual-in_err-note.result c.in_err-note.field-0.0 c.note.new.cursor c.note.new.cursor c.from_residual-in_err-note.ensures.1
-    (then_enclosed (inner c.args.tokens c.args.depth).exprs (takes (source c.args.tokens) is_rparen) (λ (es : sx.Exprs). spec.note (source c.args.tokens) >>= (λ m. pure (sx.call c.args.site c.args.not c.args.name es m))) (takes (source c.args.tokens) is_lparen (state_of c.args.cursor.now) c.args.cursor.now.seen) ∙ then_read _ c.in_ok-args.ensures refl) c.in_err-note.ensures
+    _ (called_at c.args.tokens c.args.depth c.args.head.site c.args.head.not c.args.head.name (state_of c.args.cursor.now) c.args.cursor.now.seen) c.from_residual-in_err-note.result c.in_err-note.field-0.0 c.note.new.cursor c.note.new.cursor c.from_residual-in_err-note.ensures.1
+    (then_enclosed (inner c.args.tokens c.args.depth).exprs (takes (source c.args.tokens) is_rparen) (λ (es : sx.Exprs). spec.note (source c.args.tokens) >>= (λ m. pure (sx.call c.args.head.site c.args.head.not c.args.head.name es m))) (takes (source c.args.tokens) is_lparen (state_of c.args.cursor.now) c.args.cursor.now.seen) ∙ then_read _ c.in_ok-args.ensures refl) c.in_err-note.ensures
 
 pub read_query::applied-returns : goal.read_query::applied-returns
 unfolding applied

@@ -132,8 +132,9 @@ module _ (tokens : Tokens) (depth : ℕ) where
   abbrev pub some_disjs_at : Parser sx.Disjs
   some_disjs_at = alternatives_at >>= (λ d. disjs_at tokens.turns >>= (λ ds. pure (sx.more_disjs d ds)))
 
-  abbrev pub headed_at : ℕ → Bool → Parser sx.Part
-  headed_at = spec.headed (source tokens) tokens.turns (inner tokens depth) true
+  -- what begins with a query, behind it
+  abbrev pub judged_at : ℕ → Bool → sx.Query → Parser sx.Part
+  judged_at = spec.judged (source tokens) tokens.turns (inner tokens depth) true
 
   abbrev pub tested_at : ℕ → Bool → sx.Query → Parser sx.Part
   tested_at = spec.tested (source tokens) tokens.turns (inner tokens depth)
@@ -145,8 +146,9 @@ module _ (tokens : Tokens) (depth : ℕ) where
   abbrev pub called_at : ℕ → Bool → List ℕ → Parser sx.Part
   called_at = spec.called (source tokens) tokens.turns (inner tokens depth)
 
-  abbrev pub ruled_at : ℕ → Bool → Parser sx.Part
-  ruled_at = spec.ruled (source tokens) tokens.turns (inner tokens depth)
+  -- the name of a rule, with arguments or without, behind its name
+  abbrev pub named_at : ℕ → Bool → List ℕ → Parser sx.Part
+  named_at n negated name = choose (source tokens) is_lparen (called_at n negated name) (spec.referred (source tokens) tokens.turns (inner tokens depth) n negated name)
 
   abbrev pub query_at : Parser sx.Query
   query_at = spec.query_of (source tokens) tokens.turns (inner tokens depth)

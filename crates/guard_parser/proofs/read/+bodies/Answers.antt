@@ -1,15 +1,15 @@
-use Rattle.std.proofs.Common.{◌≡◌, ℕ, true, map, refl, ap, sym, ◌∙◌, ◌-◌, ◌+◌, ◌++◌, ◌≢◌, length, arith, [], ◌∷◌}
+use Rattle.std.proofs.Common.{◌≡◌, ℕ, List, true, map, refl, ap, sym, ◌∙◌, ◌-◌, ◌+◌, ◌++◌, ◌≢◌, length, arith, [], ◌∷◌}
 use Rattle.std.proofs.lemmas.List.{map-append}
 use Rattle.guard_syntax.specs.Syntax as sx
 use Rattle.guard_syntax.specs.code.Seen.{see_body, see_conds, see_opt_conds, see_disj, see_let, see_part, see_query}
-use Rattle.literal_parser.specs.Forms.{begins_part, is_let, is_or, is_lbrace, is_rbrace, is_when, is_type_name, leads}
-use Rattle.literal_parser.specs.code.Parser.{One, Read, pure, and_then, opens, takes}
+use Rattle.literal_parser.specs.Forms.{begins_part, is_let, is_or, is_lbrace, is_rbrace, is_when, is_type_name, is_name, leads, text_of}
+use Rattle.literal_parser.specs.code.Parser.{One, Read, pure, and_then, opens, takes, has}
 use Rattle.literal_parser.specs.code.Reads.{site_of, source, state_of}
 use Rattle.guard_parser.specs.declared.lead.Lead.{Lead}
 use Rattle.guard_parser.specs.code.Leads.{lead_of, led_by}
 use Rattle.guard_parser.specs.code.Reading as spec
-use Rattle.guard_parser.specs.code.Reading.{BodyItems, ors, disj_of, full_part, body_of, body_items, guarded_part, kinds_part, headed, judged}
-use Rattle.guard_parser.specs.code.GrammarReads.{inner, see_items, see_parts, inner_body_at, body_items_at, closed_items_at, closed_body_at, let_at, disj_at, ors_at, some_parts_at, full_part_at, guarded_at, kinds_at, headed_at, ruled_at, tested_at, conds_at, opt_conds_at, query_at}
+use Rattle.guard_parser.specs.code.Reading.{BodyItems, ors, disj_of, full_part, body_of, body_items, guarded_part, kinds_part, headed, judged, ruled}
+use Rattle.guard_parser.specs.code.GrammarReads.{inner, see_items, see_parts, inner_body_at, body_items_at, closed_items_at, closed_body_at, let_at, disj_at, ors_at, some_parts_at, full_part_at, guarded_at, kinds_at, judged_at, named_at, tested_at, conds_at, opt_conds_at, query_at}
 use Rattle.guard_parser.proofs.CodeSteps.{then_read, then_fail, saw, handed, halted, halted_by, both, closed_by, list_begun, list_more, list_ended, list_failed, list_spent, deeper}
 use Rattle.guard_parser.proofs.BodySteps.{closes, items_begun, lets_more, parts_more, items_ended, items_failed, items_spent, none_filled, some_filled}
 use Rattle.guard_parser.proofs.Leads.{condition_led}
@@ -120,17 +120,31 @@ part-returns-in_err-any t c =
     (led_by (source c.args.tokens) c.args.tokens.turns (inner c.args.tokens c.args.depth) true c.in_ok-site.site) (full_part_at c.args.tokens c.args.depth (state_of c.args.cursor.now) c.args.cursor.now.seen) c.from_residual-in_err-any.result c.in_err-any.field-0.0 c.lead_of.new.cursor c.lead_of.new.cursor c.from_residual-in_err-any.ensures.1
     (then_read _ c.in_ok-site.ensures (saw (source c.args.tokens) is_when _ _ (state_of c.opens.new.self) c.opens.new.self.seen c.sees.ensures.token c.if-sees.false c.sees.ensures.state c.sees.ensures.seen (saw (source c.args.tokens) is_type_name _ _ (state_of c.sees.new.self) c.sees.new.self.seen c.sees-2.ensures.token c.if-sees-2.false c.sees-2.ensures.state c.sees-2.ensures.seen (condition_led (source c.args.tokens) c.args.tokens.turns (inner c.args.tokens c.args.depth) true c.in_ok-site.site (state_of c.sees-2.new.self) c.sees-2.new.self.seen)))) c.in_err-any.ensures
 
-pub part-returns-in-Query : goal.part-returns-in-Query
-unfolding full_part
-part-returns-in-Query t c =
-    handed see_part (full_part_at c.args.tokens c.args.depth (state_of c.args.cursor.now) c.args.cursor.now.seen) (headed_at c.args.tokens c.args.depth c.in_ok-site.site c.in-Query.any (state_of c.lead_of.new.cursor) c.lead_of.new.cursor.seen) c.headed.result c.headed.new.cursor
-    (then_read _ c.in_ok-site.ensures (saw (source c.args.tokens) is_when _ _ (state_of c.opens.new.self) c.opens.new.self.seen c.sees.ensures.token c.if-sees.false c.sees.ensures.state c.sees.ensures.seen (saw (source c.args.tokens) is_type_name _ _ (state_of c.sees.new.self) c.sees.new.self.seen c.sees-2.ensures.token c.if-sees-2.false c.sees-2.ensures.state c.sees-2.ensures.seen (condition_led (source c.args.tokens) c.args.tokens.turns (inner c.args.tokens c.args.depth) true c.in_ok-site.site (state_of c.sees-2.new.self) c.sees-2.new.self.seen))) ∙ ap (λ o. and_then o (led_by (source c.args.tokens) c.args.tokens.turns (inner c.args.tokens c.args.depth) true c.in_ok-site.site)) c.in_ok-any.ensures ∙ ap (λ (l : Lead). (led_by (source c.args.tokens) c.args.tokens.turns (inner c.args.tokens c.args.depth) true c.in_ok-site.site) l (state_of c.lead_of.new.cursor) c.lead_of.new.cursor.seen) c.in-Query.is) c.headed.ensures
+pub part-returns-in_err-query-in-Query : goal.part-returns-in_err-query-in-Query
+unfolding full_part headed
+part-returns-in_err-query-in-Query t c =
+    halted see_query see_part (query_at c.args.tokens c.args.depth (state_of c.lead_of.new.cursor) c.lead_of.new.cursor.seen)
+    _ (full_part_at c.args.tokens c.args.depth (state_of c.args.cursor.now) c.args.cursor.now.seen) c.from_residual-in_err-query-in-Query.result c.in_err-query-in-Query.field-0.0 c.query.new.cursor c.query.new.cursor c.from_residual-in_err-query-in-Query.ensures.1
+    (then_read _ c.in_ok-site.ensures (saw (source c.args.tokens) is_when _ _ (state_of c.opens.new.self) c.opens.new.self.seen c.sees.ensures.token c.if-sees.false c.sees.ensures.state c.sees.ensures.seen (saw (source c.args.tokens) is_type_name _ _ (state_of c.sees.new.self) c.sees.new.self.seen c.sees-2.ensures.token c.if-sees-2.false c.sees-2.ensures.state c.sees-2.ensures.seen (condition_led (source c.args.tokens) c.args.tokens.turns (inner c.args.tokens c.args.depth) true c.in_ok-site.site (state_of c.sees-2.new.self) c.sees-2.new.self.seen))) ∙ ap (λ o. and_then o (led_by (source c.args.tokens) c.args.tokens.turns (inner c.args.tokens c.args.depth) true c.in_ok-site.site)) c.in_ok-any.ensures ∙ ap (λ (l : Lead). (led_by (source c.args.tokens) c.args.tokens.turns (inner c.args.tokens c.args.depth) true c.in_ok-site.site) l (state_of c.lead_of.new.cursor) c.lead_of.new.cursor.seen) c.in-Query.is ∙ refl) c.in_err-query-in-Query.ensures
 
-pub part-returns-in-Rule : goal.part-returns-in-Rule
-unfolding full_part
-part-returns-in-Rule t c =
-    handed see_part (full_part_at c.args.tokens c.args.depth (state_of c.args.cursor.now) c.args.cursor.now.seen) (ruled_at c.args.tokens c.args.depth c.in_ok-site.site c.in-Rule.not (state_of c.lead_of.new.cursor) c.lead_of.new.cursor.seen) c.ruled.result c.ruled.new.cursor
-    (then_read _ c.in_ok-site.ensures (saw (source c.args.tokens) is_when _ _ (state_of c.opens.new.self) c.opens.new.self.seen c.sees.ensures.token c.if-sees.false c.sees.ensures.state c.sees.ensures.seen (saw (source c.args.tokens) is_type_name _ _ (state_of c.sees.new.self) c.sees.new.self.seen c.sees-2.ensures.token c.if-sees-2.false c.sees-2.ensures.state c.sees-2.ensures.seen (condition_led (source c.args.tokens) c.args.tokens.turns (inner c.args.tokens c.args.depth) true c.in_ok-site.site (state_of c.sees-2.new.self) c.sees-2.new.self.seen))) ∙ ap (λ o. and_then o (led_by (source c.args.tokens) c.args.tokens.turns (inner c.args.tokens c.args.depth) true c.in_ok-site.site)) c.in_ok-any.ensures ∙ ap (λ (l : Lead). (led_by (source c.args.tokens) c.args.tokens.turns (inner c.args.tokens c.args.depth) true c.in_ok-site.site) l (state_of c.lead_of.new.cursor) c.lead_of.new.cursor.seen) c.in-Rule.is) c.ruled.ensures
+pub part-returns-in_ok-query-in-Query : goal.part-returns-in_ok-query-in-Query
+unfolding full_part headed
+part-returns-in_ok-query-in-Query t c =
+    handed see_part (full_part_at c.args.tokens c.args.depth (state_of c.args.cursor.now) c.args.cursor.now.seen) (judged_at c.args.tokens c.args.depth c.in_ok-site.site c.in-Query.any (see_query c.in_ok-query-in-Query.query) (state_of c.query.new.cursor) c.query.new.cursor.seen) c.judged.result c.judged.new.cursor
+    (then_read _ c.in_ok-site.ensures (saw (source c.args.tokens) is_when _ _ (state_of c.opens.new.self) c.opens.new.self.seen c.sees.ensures.token c.if-sees.false c.sees.ensures.state c.sees.ensures.seen (saw (source c.args.tokens) is_type_name _ _ (state_of c.sees.new.self) c.sees.new.self.seen c.sees-2.ensures.token c.if-sees-2.false c.sees-2.ensures.state c.sees-2.ensures.seen (condition_led (source c.args.tokens) c.args.tokens.turns (inner c.args.tokens c.args.depth) true c.in_ok-site.site (state_of c.sees-2.new.self) c.sees-2.new.self.seen))) ∙ ap (λ o. and_then o (led_by (source c.args.tokens) c.args.tokens.turns (inner c.args.tokens c.args.depth) true c.in_ok-site.site)) c.in_ok-any.ensures ∙ ap (λ (l : Lead). (led_by (source c.args.tokens) c.args.tokens.turns (inner c.args.tokens c.args.depth) true c.in_ok-site.site) l (state_of c.lead_of.new.cursor) c.lead_of.new.cursor.seen) c.in-Query.is ∙ then_read _ c.in_ok-query-in-Query.ensures refl) c.judged.ensures
+
+pub part-returns-in_err-name-in-Rule : goal.part-returns-in_err-name-in-Rule
+unfolding full_part ruled
+part-returns-in_err-name-in-Rule t c =
+    halted (λ (x : List ℕ). x) see_part (has (source c.args.tokens) is_name text_of (state_of c.lead_of.new.cursor) c.lead_of.new.cursor.seen)
+    _ (full_part_at c.args.tokens c.args.depth (state_of c.args.cursor.now) c.args.cursor.now.seen) c.from_residual-in_err-name-in-Rule.result c.in_err-name-in-Rule.field-0.0 c.has_text.new.self c.has_text.new.self c.from_residual-in_err-name-in-Rule.ensures.1
+    (then_read _ c.in_ok-site.ensures (saw (source c.args.tokens) is_when _ _ (state_of c.opens.new.self) c.opens.new.self.seen c.sees.ensures.token c.if-sees.false c.sees.ensures.state c.sees.ensures.seen (saw (source c.args.tokens) is_type_name _ _ (state_of c.sees.new.self) c.sees.new.self.seen c.sees-2.ensures.token c.if-sees-2.false c.sees-2.ensures.state c.sees-2.ensures.seen (condition_led (source c.args.tokens) c.args.tokens.turns (inner c.args.tokens c.args.depth) true c.in_ok-site.site (state_of c.sees-2.new.self) c.sees-2.new.self.seen))) ∙ ap (λ o. and_then o (led_by (source c.args.tokens) c.args.tokens.turns (inner c.args.tokens c.args.depth) true c.in_ok-site.site)) c.in_ok-any.ensures ∙ ap (λ (l : Lead). (led_by (source c.args.tokens) c.args.tokens.turns (inner c.args.tokens c.args.depth) true c.in_ok-site.site) l (state_of c.lead_of.new.cursor) c.lead_of.new.cursor.seen) c.in-Rule.is ∙ refl) c.in_err-name-in-Rule.ensures
+
+pub part-returns-in_ok-name-in-Rule : goal.part-returns-in_ok-name-in-Rule
+unfolding full_part ruled
+part-returns-in_ok-name-in-Rule t c =
+    handed see_part (full_part_at c.args.tokens c.args.depth (state_of c.args.cursor.now) c.args.cursor.now.seen) (named_at c.args.tokens c.args.depth c.in_ok-site.site c.in-Rule.not c.in_ok-name-in-Rule.name (state_of c.has_text.new.self) c.has_text.new.self.seen) c.ruled.result c.ruled.new.cursor
+    (then_read _ c.in_ok-site.ensures (saw (source c.args.tokens) is_when _ _ (state_of c.opens.new.self) c.opens.new.self.seen c.sees.ensures.token c.if-sees.false c.sees.ensures.state c.sees.ensures.seen (saw (source c.args.tokens) is_type_name _ _ (state_of c.sees.new.self) c.sees.new.self.seen c.sees-2.ensures.token c.if-sees-2.false c.sees-2.ensures.state c.sees-2.ensures.seen (condition_led (source c.args.tokens) c.args.tokens.turns (inner c.args.tokens c.args.depth) true c.in_ok-site.site (state_of c.sees-2.new.self) c.sees-2.new.self.seen))) ∙ ap (λ o. and_then o (led_by (source c.args.tokens) c.args.tokens.turns (inner c.args.tokens c.args.depth) true c.in_ok-site.site)) c.in_ok-any.ensures ∙ ap (λ (l : Lead). (led_by (source c.args.tokens) c.args.tokens.turns (inner c.args.tokens c.args.depth) true c.in_ok-site.site) l (state_of c.lead_of.new.cursor) c.lead_of.new.cursor.seen) c.in-Rule.is ∙ then_read _ c.in_ok-name-in-Rule.ensures refl) c.ruled.ensures
 
 pub body-returns-then-depth-eq0 : goal.body-returns-then-depth-eq0
 body-returns-then-depth-eq0 t c =
@@ -153,7 +167,7 @@ body-returns-in_err-takes t c =
 pub body-returns-in_err-add_items : goal.body-returns-in_err-add_items
 unfolding body_of
 body-returns-in_err-add_items t c =
-    halted (λ (x : One). see_items c.add_items.new.lets c.add_items.new.parts) see_body (closed_items_at c.args.tokens (c.args.depth - 1) (state_of c.takes.new.self) c.takes.new.self.seen)
+    halted (λ (x : One). see_items c.add_items.new.found.lets c.add_items.new.found.parts) see_body (closed_items_at c.args.tokens (c.args.depth - 1) (state_of c.takes.new.self) c.takes.new.self.seen)
     (λ (p : BodyItems). pure (sx.body c.in_ok-site.site p.0 p.1)) (inner_body_at c.args.tokens c.args.depth (state_of c.args.cursor.now) c.args.cursor.now.seen) c.from_residual-in_err-add_items.result c.in_err-add_items.field-0.0 c.add_items.new.cursor c.add_items.new.cursor c.from_residual-in_err-add_items.ensures.1
     (ap (λ (n : ℕ). (inner c.args.tokens n).body (state_of c.args.cursor.now) c.args.cursor.now.seen) (deeper c.args.depth c.if-depth-eq0.false) ∙ then_read _ c.in_ok-site.ensures (then_read _ c.in_ok-takes.ensures (closes c.args.tokens (c.args.depth - 1) c.in_ok-site.site (body_items_at c.args.tokens (c.args.depth - 1) c.args.tokens.turns (state_of c.takes.new.self) c.takes.new.self.seen)))) c.in_err-add_items.ensures
 
@@ -161,59 +175,59 @@ pub body-returns : goal.body-returns
 unfolding body_of
 body-returns t c =
     ap (λ (n : ℕ). (inner c.args.tokens n).body (state_of c.args.cursor.now) c.args.cursor.now.seen) (deeper c.args.depth c.if-depth-eq0.false) ∙ then_read _ c.in_ok-site.ensures (then_read _ c.in_ok-takes.ensures (closes c.args.tokens (c.args.depth - 1) c.in_ok-site.site (body_items_at c.args.tokens (c.args.depth - 1) c.args.tokens.turns (state_of c.takes.new.self) c.takes.new.self.seen))) ∙ ap (λ o. and_then o (λ (p : BodyItems). pure (sx.body c.in_ok-site.site p.0 p.1))) c.in_ok-add_items.ensures
-    ∙ sym (ap (λ (q : sx.Body). Read q (state_of c.add_items.new.cursor) c.add_items.new.cursor.seen) (body-made c.in_ok-site.site c.add_items.new.lets c.add_items.new.parts))
+    ∙ sym (ap (λ (q : sx.Body). Read q (state_of c.add_items.new.cursor) c.add_items.new.cursor.seen) (body-made c.in_ok-site.site c.add_items.new.found.lets c.add_items.new.found.parts))
 
 pub add_items-loop-turn-init : goal.add_items-loop-turn-init
 unfolding body_items
 add_items-loop-turn-init t c =
-    items_begun (closed_body_at c.args.tokens c.args.depth) (map see_let c.args.lets.now.items) (map see_disj c.args.parts.now.items) (λ (k : ℕ). body_items_at c.args.tokens c.args.depth k) c.args.tokens.turns (closed_items_at c.args.tokens c.args.depth (state_of c.args.cursor.now) c.args.cursor.now.seen) (state_of c.args.cursor.now) c.args.cursor.now.seen refl (ap (map see_let) c.requires.no_lets) (ap (map see_disj) c.requires.no_parts)
+    items_begun (closed_body_at c.args.tokens c.args.depth) (map see_let c.args.found.now.lets.items) (map see_disj c.args.found.now.parts.items) (λ (k : ℕ). body_items_at c.args.tokens c.args.depth k) c.args.tokens.turns (closed_items_at c.args.tokens c.args.depth (state_of c.args.cursor.now) c.args.cursor.now.seen) (state_of c.args.cursor.now) c.args.cursor.now.seen refl (ap (map see_let) c.requires.no_lets) (ap (map see_disj) c.requires.no_parts)
 
 pub add_items-loop-turn-preserved-then-sees : goal.add_items-loop-turn-preserved-then-sees
 unfolding body_items
 add_items-loop-turn-preserved-then-sees t c =
-    lets_more (closed_body_at c.args.tokens c.args.depth) (map see_let c.loop-turn.lets.items) (map see_disj c.loop-turn.parts.items) (λ (k : ℕ). body_items_at c.args.tokens c.args.depth k) c.args.tokens.turns c.loop-turn._turn (closed_items_at c.args.tokens c.args.depth (state_of c.args.cursor.now) c.args.cursor.now.seen) (state_of c.loop-turn.cursor) c.loop-turn.cursor.seen c.loop-turn.invariant _ _ (state_of c.let_of.new.cursor) c.let_of.new.cursor.seen c.loop-turn-test.true
+    lets_more (closed_body_at c.args.tokens c.args.depth) (map see_let c.loop-turn.found.lets.items) (map see_disj c.loop-turn.found.parts.items) (λ (k : ℕ). body_items_at c.args.tokens c.args.depth k) c.args.tokens.turns c.loop-turn._turn (closed_items_at c.args.tokens c.args.depth (state_of c.args.cursor.now) c.args.cursor.now.seen) (state_of c.loop-turn.cursor) c.loop-turn.cursor.seen c.loop-turn.invariant _ _ (state_of c.let_of.new.cursor) c.let_of.new.cursor.seen c.loop-turn-test.true
     (saw (source c.args.tokens) is_let _ _ (state_of c.loop-turn.cursor) c.loop-turn.cursor.seen c.sees.ensures.token c.if-sees.true c.sees.ensures.state c.sees.ensures.seen (then_read _ c.in_ok-let_of.ensures refl))
-    (ap (map see_let) c.in_ok-add.ensures.added ∙ map-append see_let c.loop-turn.lets.items _)
+    (ap (map see_let) c.in_ok-add.ensures.added ∙ map-append see_let c.loop-turn.found.lets.items _)
 
 pub add_items-loop-turn-preserved : goal.add_items-loop-turn-preserved
 unfolding body_items
 add_items-loop-turn-preserved t c =
-    parts_more (closed_body_at c.args.tokens c.args.depth) (map see_let c.loop-turn.lets.items) (map see_disj c.loop-turn.parts.items) (λ (k : ℕ). body_items_at c.args.tokens c.args.depth k) c.args.tokens.turns c.loop-turn._turn (closed_items_at c.args.tokens c.args.depth (state_of c.args.cursor.now) c.args.cursor.now.seen) (state_of c.loop-turn.cursor) c.loop-turn.cursor.seen c.loop-turn.invariant _ _ (state_of c.disj.new.cursor) c.disj.new.cursor.seen c.loop-turn-test.true
+    parts_more (closed_body_at c.args.tokens c.args.depth) (map see_let c.loop-turn.found.lets.items) (map see_disj c.loop-turn.found.parts.items) (λ (k : ℕ). body_items_at c.args.tokens c.args.depth k) c.args.tokens.turns c.loop-turn._turn (closed_items_at c.args.tokens c.args.depth (state_of c.args.cursor.now) c.args.cursor.now.seen) (state_of c.loop-turn.cursor) c.loop-turn.cursor.seen c.loop-turn.invariant _ _ (state_of c.disj.new.cursor) c.disj.new.cursor.seen c.loop-turn-test.true
     (saw (source c.args.tokens) is_let _ _ (state_of c.loop-turn.cursor) c.loop-turn.cursor.seen c.sees.ensures.token c.if-sees.false c.sees.ensures.state c.sees.ensures.seen (saw (source c.args.tokens) begins_part _ _ (state_of c.sees.new.self) c.sees.new.self.seen c.sees-in-loop-turn.ensures.token c.if-not-sees.false c.sees-in-loop-turn.ensures.state c.sees-in-loop-turn.ensures.seen (then_read _ c.in_ok-disj.ensures refl)))
-    (ap (map see_disj) c.in_ok-add-2.ensures.added ∙ map-append see_disj c.loop-turn.parts.items _)
+    (ap (map see_disj) c.in_ok-add-2.ensures.added ∙ map-append see_disj c.loop-turn.found.parts.items _)
 
 pub add_items-returns-then-is_empty : goal.add_items-returns-then-is_empty
 unfolding body_items
 add_items-returns-then-is_empty t c =
-    let none : length c.loop-turn.parts.items ≡ 0 = grind (arith, c.is_empty.ensures, c.if-is_empty.true) in
-    items_ended (closed_body_at c.args.tokens c.args.depth) (map see_let c.loop-turn.lets.items) (map see_disj c.loop-turn.parts.items) (λ (k : ℕ). body_items_at c.args.tokens c.args.depth k) c.args.tokens.turns c.loop-turn._turn (closed_items_at c.args.tokens c.args.depth (state_of c.args.cursor.now) c.args.cursor.now.seen) (state_of c.loop-turn.cursor) c.loop-turn.cursor.seen c.loop-turn.invariant (state_of c.sees-in-loop-turn.new.self) c.sees-in-loop-turn.new.self.seen c.loop-turn-test.true (saw (source c.args.tokens) is_let _ _ (state_of c.loop-turn.cursor) c.loop-turn.cursor.seen c.sees.ensures.token c.if-sees.false c.sees.ensures.state c.sees.ensures.seen (saw (source c.args.tokens) begins_part _ _ (state_of c.sees.new.self) c.sees.new.self.seen c.sees-in-loop-turn.ensures.token c.if-not-sees.true c.sees-in-loop-turn.ensures.state c.sees-in-loop-turn.ensures.seen refl)) ∙ none_filled c.args.tokens c.args.depth c.loop-turn.lets.items c.loop-turn.parts.items (state_of c.sees-in-loop-turn.new.self) c.sees-in-loop-turn.new.self.seen none
+    let none : length c.loop-turn.found.parts.items ≡ 0 = grind (arith, c.is_empty.ensures, c.if-is_empty.true) in
+    items_ended (closed_body_at c.args.tokens c.args.depth) (map see_let c.loop-turn.found.lets.items) (map see_disj c.loop-turn.found.parts.items) (λ (k : ℕ). body_items_at c.args.tokens c.args.depth k) c.args.tokens.turns c.loop-turn._turn (closed_items_at c.args.tokens c.args.depth (state_of c.args.cursor.now) c.args.cursor.now.seen) (state_of c.loop-turn.cursor) c.loop-turn.cursor.seen c.loop-turn.invariant (state_of c.sees-in-loop-turn.new.self) c.sees-in-loop-turn.new.self.seen c.loop-turn-test.true (saw (source c.args.tokens) is_let _ _ (state_of c.loop-turn.cursor) c.loop-turn.cursor.seen c.sees.ensures.token c.if-sees.false c.sees.ensures.state c.sees.ensures.seen (saw (source c.args.tokens) begins_part _ _ (state_of c.sees.new.self) c.sees.new.self.seen c.sees-in-loop-turn.ensures.token c.if-not-sees.true c.sees-in-loop-turn.ensures.state c.sees-in-loop-turn.ensures.seen refl)) ∙ none_filled c.args.tokens c.args.depth c.loop-turn.found.lets.items c.loop-turn.found.parts.items (state_of c.sees-in-loop-turn.new.self) c.sees-in-loop-turn.new.self.seen none
 
 pub add_items-returns-then-not-sees : goal.add_items-returns-then-not-sees
 unfolding body_items
 add_items-returns-then-not-sees t c =
-    let some : length c.loop-turn.parts.items ≢ 0 = grind (arith, c.is_empty.ensures, c.if-is_empty.false) in
-    handed (λ _. see_items c.loop-turn.lets c.loop-turn.parts) (closed_items_at c.args.tokens c.args.depth (state_of c.args.cursor.now) c.args.cursor.now.seen) (and_then (takes (source c.args.tokens) is_rbrace (state_of c.sees-in-loop-turn.new.self) c.sees-in-loop-turn.new.self.seen) (λ _. pure (see_items c.loop-turn.lets c.loop-turn.parts))) c.takes.result c.takes.new.self
-    (items_ended (closed_body_at c.args.tokens c.args.depth) (map see_let c.loop-turn.lets.items) (map see_disj c.loop-turn.parts.items) (λ (k : ℕ). body_items_at c.args.tokens c.args.depth k) c.args.tokens.turns c.loop-turn._turn (closed_items_at c.args.tokens c.args.depth (state_of c.args.cursor.now) c.args.cursor.now.seen) (state_of c.loop-turn.cursor) c.loop-turn.cursor.seen c.loop-turn.invariant (state_of c.sees-in-loop-turn.new.self) c.sees-in-loop-turn.new.self.seen c.loop-turn-test.true (saw (source c.args.tokens) is_let _ _ (state_of c.loop-turn.cursor) c.loop-turn.cursor.seen c.sees.ensures.token c.if-sees.false c.sees.ensures.state c.sees.ensures.seen (saw (source c.args.tokens) begins_part _ _ (state_of c.sees.new.self) c.sees.new.self.seen c.sees-in-loop-turn.ensures.token c.if-not-sees.true c.sees-in-loop-turn.ensures.state c.sees-in-loop-turn.ensures.seen refl)) ∙ some_filled c.args.tokens c.args.depth c.loop-turn.lets.items c.loop-turn.parts.items (state_of c.sees-in-loop-turn.new.self) c.sees-in-loop-turn.new.self.seen some)
-    (closed_by (see_items c.loop-turn.lets c.loop-turn.parts) (takes (source c.args.tokens) is_rbrace (state_of c.sees-in-loop-turn.new.self) c.sees-in-loop-turn.new.self.seen) c.takes.result c.takes.new.self c.takes.ensures)
+    let some : length c.loop-turn.found.parts.items ≢ 0 = grind (arith, c.is_empty.ensures, c.if-is_empty.false) in
+    handed (λ _. see_items c.loop-turn.found.lets c.loop-turn.found.parts) (closed_items_at c.args.tokens c.args.depth (state_of c.args.cursor.now) c.args.cursor.now.seen) (and_then (takes (source c.args.tokens) is_rbrace (state_of c.sees-in-loop-turn.new.self) c.sees-in-loop-turn.new.self.seen) (λ _. pure (see_items c.loop-turn.found.lets c.loop-turn.found.parts))) c.takes.result c.takes.new.self
+    (items_ended (closed_body_at c.args.tokens c.args.depth) (map see_let c.loop-turn.found.lets.items) (map see_disj c.loop-turn.found.parts.items) (λ (k : ℕ). body_items_at c.args.tokens c.args.depth k) c.args.tokens.turns c.loop-turn._turn (closed_items_at c.args.tokens c.args.depth (state_of c.args.cursor.now) c.args.cursor.now.seen) (state_of c.loop-turn.cursor) c.loop-turn.cursor.seen c.loop-turn.invariant (state_of c.sees-in-loop-turn.new.self) c.sees-in-loop-turn.new.self.seen c.loop-turn-test.true (saw (source c.args.tokens) is_let _ _ (state_of c.loop-turn.cursor) c.loop-turn.cursor.seen c.sees.ensures.token c.if-sees.false c.sees.ensures.state c.sees.ensures.seen (saw (source c.args.tokens) begins_part _ _ (state_of c.sees.new.self) c.sees.new.self.seen c.sees-in-loop-turn.ensures.token c.if-not-sees.true c.sees-in-loop-turn.ensures.state c.sees-in-loop-turn.ensures.seen refl)) ∙ some_filled c.args.tokens c.args.depth c.loop-turn.found.lets.items c.loop-turn.found.parts.items (state_of c.sees-in-loop-turn.new.self) c.sees-in-loop-turn.new.self.seen some)
+    (closed_by (see_items c.loop-turn.found.lets c.loop-turn.found.parts) (takes (source c.args.tokens) is_rbrace (state_of c.sees-in-loop-turn.new.self) c.sees-in-loop-turn.new.self.seen) c.takes.result c.takes.new.self c.takes.ensures)
 
 pub add_items-returns : goal.add_items-returns
 unfolding body_items
 add_items-returns t c =
-    items_spent (closed_body_at c.args.tokens c.args.depth) (map see_let c.loop-turn.lets.items) (map see_disj c.loop-turn.parts.items) (λ (k : ℕ). body_items_at c.args.tokens c.args.depth k) c.args.tokens.turns c.loop-turn._turn (closed_items_at c.args.tokens c.args.depth (state_of c.args.cursor.now) c.args.cursor.now.seen) (state_of c.loop-turn.cursor) c.loop-turn.cursor.seen c.loop-turn.invariant c.loop-turn-test.false refl
+    items_spent (closed_body_at c.args.tokens c.args.depth) (map see_let c.loop-turn.found.lets.items) (map see_disj c.loop-turn.found.parts.items) (λ (k : ℕ). body_items_at c.args.tokens c.args.depth k) c.args.tokens.turns c.loop-turn._turn (closed_items_at c.args.tokens c.args.depth (state_of c.args.cursor.now) c.args.cursor.now.seen) (state_of c.loop-turn.cursor) c.loop-turn.cursor.seen c.loop-turn.invariant c.loop-turn-test.false refl
 
 pub add_items-returns-in_err-let_of : goal.add_items-returns-in_err-let_of
 unfolding body_items
 add_items-returns-in_err-let_of t c =
-    halted_by see_let (λ _. see_items c.loop-turn.lets c.loop-turn.parts) (let_at c.args.tokens c.args.depth (state_of c.sees.new.self) c.sees.new.self.seen)
+    halted_by see_let (λ _. see_items c.loop-turn.found.lets c.loop-turn.found.parts) (let_at c.args.tokens c.args.depth (state_of c.sees.new.self) c.sees.new.self.seen)
     (closed_items_at c.args.tokens c.args.depth (state_of c.args.cursor.now) c.args.cursor.now.seen) c.from_residual.result c.in_err-let_of.field-0.0 c.let_of.new.cursor c.let_of.new.cursor c.from_residual.ensures.1
-    (λ k e. items_failed (closed_body_at c.args.tokens c.args.depth) (map see_let c.loop-turn.lets.items) (map see_disj c.loop-turn.parts.items) (λ (k : ℕ). body_items_at c.args.tokens c.args.depth k) c.args.tokens.turns c.loop-turn._turn (closed_items_at c.args.tokens c.args.depth (state_of c.args.cursor.now) c.args.cursor.now.seen) (state_of c.loop-turn.cursor) c.loop-turn.cursor.seen c.loop-turn.invariant k c.loop-turn-test.true (saw (source c.args.tokens) is_let _ _ (state_of c.loop-turn.cursor) c.loop-turn.cursor.seen c.sees.ensures.token c.if-sees.true c.sees.ensures.state c.sees.ensures.seen (then_fail _ e))) c.in_err-let_of.ensures
+    (λ k e. items_failed (closed_body_at c.args.tokens c.args.depth) (map see_let c.loop-turn.found.lets.items) (map see_disj c.loop-turn.found.parts.items) (λ (k : ℕ). body_items_at c.args.tokens c.args.depth k) c.args.tokens.turns c.loop-turn._turn (closed_items_at c.args.tokens c.args.depth (state_of c.args.cursor.now) c.args.cursor.now.seen) (state_of c.loop-turn.cursor) c.loop-turn.cursor.seen c.loop-turn.invariant k c.loop-turn-test.true (saw (source c.args.tokens) is_let _ _ (state_of c.loop-turn.cursor) c.loop-turn.cursor.seen c.sees.ensures.token c.if-sees.true c.sees.ensures.state c.sees.ensures.seen (then_fail _ e))) c.in_err-let_of.ensures
 
 pub add_items-returns-in_err-disj : goal.add_items-returns-in_err-disj
 unfolding body_items
 add_items-returns-in_err-disj t c =
-    halted_by see_disj (λ _. see_items c.loop-turn.lets c.loop-turn.parts) (disj_at c.args.tokens c.args.depth (state_of c.sees-in-loop-turn.new.self) c.sees-in-loop-turn.new.self.seen)
+    halted_by see_disj (λ _. see_items c.loop-turn.found.lets c.loop-turn.found.parts) (disj_at c.args.tokens c.args.depth (state_of c.sees-in-loop-turn.new.self) c.sees-in-loop-turn.new.self.seen)
     (closed_items_at c.args.tokens c.args.depth (state_of c.args.cursor.now) c.args.cursor.now.seen) c.from_residual-in_err-disj.result c.in_err-disj.field-0.0 c.disj.new.cursor c.disj.new.cursor c.from_residual-in_err-disj.ensures.1
-    (λ k e. items_failed (closed_body_at c.args.tokens c.args.depth) (map see_let c.loop-turn.lets.items) (map see_disj c.loop-turn.parts.items) (λ (k : ℕ). body_items_at c.args.tokens c.args.depth k) c.args.tokens.turns c.loop-turn._turn (closed_items_at c.args.tokens c.args.depth (state_of c.args.cursor.now) c.args.cursor.now.seen) (state_of c.loop-turn.cursor) c.loop-turn.cursor.seen c.loop-turn.invariant k c.loop-turn-test.true (saw (source c.args.tokens) is_let _ _ (state_of c.loop-turn.cursor) c.loop-turn.cursor.seen c.sees.ensures.token c.if-sees.false c.sees.ensures.state c.sees.ensures.seen (saw (source c.args.tokens) begins_part _ _ (state_of c.sees.new.self) c.sees.new.self.seen c.sees-in-loop-turn.ensures.token c.if-not-sees.false c.sees-in-loop-turn.ensures.state c.sees-in-loop-turn.ensures.seen (then_fail _ e)))) c.in_err-disj.ensures
+    (λ k e. items_failed (closed_body_at c.args.tokens c.args.depth) (map see_let c.loop-turn.found.lets.items) (map see_disj c.loop-turn.found.parts.items) (λ (k : ℕ). body_items_at c.args.tokens c.args.depth k) c.args.tokens.turns c.loop-turn._turn (closed_items_at c.args.tokens c.args.depth (state_of c.args.cursor.now) c.args.cursor.now.seen) (state_of c.loop-turn.cursor) c.loop-turn.cursor.seen c.loop-turn.invariant k c.loop-turn-test.true (saw (source c.args.tokens) is_let _ _ (state_of c.loop-turn.cursor) c.loop-turn.cursor.seen c.sees.ensures.token c.if-sees.false c.sees.ensures.state c.sees.ensures.seen (saw (source c.args.tokens) begins_part _ _ (state_of c.sees.new.self) c.sees.new.self.seen c.sees-in-loop-turn.ensures.token c.if-not-sees.false c.sees-in-loop-turn.ensures.state c.sees-in-loop-turn.ensures.seen (then_fail _ e)))) c.in_err-disj.ensures
 
 pub guarded-returns-in_err-cond : goal.guarded-returns-in_err-cond
 unfolding guarded_part
@@ -255,28 +269,21 @@ kinds-returns t c =
     then_read _ c.in_ok-name.ensures (then_read _ c.in_ok-cond.ensures (then_read _ c.in_ok-body.ensures refl))
     ∙ sym (ap (λ (q : sx.Part). Read q (state_of c.body.new.cursor) c.body.new.cursor.seen) (kinds-made c.args.site c.in_ok-name.name c.in_ok-cond.cond c.in_ok-body.body))
 
-pub headed-returns-in_err-head : goal.headed-returns-in_err-head
-unfolding headed judged
-headed-returns-in_err-head t c =
-    halted see_query see_part (query_at c.args.tokens c.args.depth (state_of c.args.cursor.now) c.args.cursor.now.seen)
-    _ (headed_at c.args.tokens c.args.depth c.args.site c.args.any (state_of c.args.cursor.now) c.args.cursor.now.seen) c.from_residual.result c.in_err-head.field-0.0 c.query.new.cursor c.query.new.cursor c.from_residual.ensures.1
-    (refl) c.in_err-head.ensures
+pub judged-returns-then-not-sees : goal.judged-returns-then-not-sees
+unfolding judged
+judged-returns-then-not-sees t c =
+    handed see_part (judged_at c.args.tokens c.args.depth c.args.head.site c.args.head.any (see_query c.args.head.query) (state_of c.args.cursor.now) c.args.cursor.now.seen) (tested_at c.args.tokens c.args.depth c.args.head.site c.args.head.any (see_query c.args.head.query) (state_of c.sees.new.self) c.sees.new.self.seen) c.tested.result c.tested.new.cursor
+    (saw (source c.args.tokens) is_lbrace _ _ (state_of c.args.cursor.now) c.args.cursor.now.seen c.sees.ensures.token c.if-not-sees.true c.sees.ensures.state c.sees.ensures.seen refl) c.tested.ensures
 
-pub headed-returns-then-not-sees : goal.headed-returns-then-not-sees
-unfolding headed judged
-headed-returns-then-not-sees t c =
-    handed see_part (headed_at c.args.tokens c.args.depth c.args.site c.args.any (state_of c.args.cursor.now) c.args.cursor.now.seen) (tested_at c.args.tokens c.args.depth c.args.site c.args.any (see_query c.in_ok-head.head) (state_of c.sees.new.self) c.sees.new.self.seen) c.tested.result c.tested.new.cursor
-    (then_read _ c.in_ok-head.ensures (saw (source c.args.tokens) is_lbrace _ _ (state_of c.query.new.cursor) c.query.new.cursor.seen c.sees.ensures.token c.if-not-sees.true c.sees.ensures.state c.sees.ensures.seen refl)) c.tested.ensures
-
-pub headed-returns-in_err-body : goal.headed-returns-in_err-body
-unfolding headed judged
-headed-returns-in_err-body t c =
+pub judged-returns-in_err-body : goal.judged-returns-in_err-body
+unfolding judged
+judged-returns-in_err-body t c =
     halted see_body see_part (inner_body_at c.args.tokens c.args.depth (state_of c.sees.new.self) c.sees.new.self.seen)
-    _ (headed_at c.args.tokens c.args.depth c.args.site c.args.any (state_of c.args.cursor.now) c.args.cursor.now.seen) c.from_residual-in_err-body.result c.in_err-body.field-0.0 c.body.new.cursor c.body.new.cursor c.from_residual-in_err-body.ensures.1
-    (then_read _ c.in_ok-head.ensures (saw (source c.args.tokens) is_lbrace _ _ (state_of c.query.new.cursor) c.query.new.cursor.seen c.sees.ensures.token c.if-not-sees.false c.sees.ensures.state c.sees.ensures.seen refl)) c.in_err-body.ensures
+    _ (judged_at c.args.tokens c.args.depth c.args.head.site c.args.head.any (see_query c.args.head.query) (state_of c.args.cursor.now) c.args.cursor.now.seen) c.from_residual.result c.in_err-body.field-0.0 c.body.new.cursor c.body.new.cursor c.from_residual.ensures.1
+    (saw (source c.args.tokens) is_lbrace _ _ (state_of c.args.cursor.now) c.args.cursor.now.seen c.sees.ensures.token c.if-not-sees.false c.sees.ensures.state c.sees.ensures.seen refl) c.in_err-body.ensures
 
-pub headed-returns : goal.headed-returns
-unfolding headed judged
-headed-returns t c =
-    then_read _ c.in_ok-head.ensures (saw (source c.args.tokens) is_lbrace _ _ (state_of c.query.new.cursor) c.query.new.cursor.seen c.sees.ensures.token c.if-not-sees.false c.sees.ensures.state c.sees.ensures.seen (then_read _ c.in_ok-body.ensures refl))
-    ∙ sym (ap (λ (q : sx.Part). Read q (state_of c.body.new.cursor) c.body.new.cursor.seen) (block-made c.args.site c.args.any c.in_ok-head.head c.in_ok-body.body))
+pub judged-returns : goal.judged-returns
+unfolding judged
+judged-returns t c =
+    saw (source c.args.tokens) is_lbrace _ _ (state_of c.args.cursor.now) c.args.cursor.now.seen c.sees.ensures.token c.if-not-sees.false c.sees.ensures.state c.sees.ensures.seen (then_read _ c.in_ok-body.ensures refl)
+    ∙ sym (ap (λ (q : sx.Part). Read q (state_of c.body.new.cursor) c.body.new.cursor.seen) (block-made c.args.head.site c.args.head.any c.args.head.query c.in_ok-body.body))

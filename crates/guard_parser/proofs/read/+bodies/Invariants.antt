@@ -15,8 +15,8 @@ decreases-guarded l = 8 * l.depth + 1
 abbrev pub decreases-kinds : goal.decreases-kinds
 decreases-kinds l = 8 * l.depth + 1
 
-abbrev pub decreases-headed : goal.decreases-headed
-decreases-headed l = 8 * l.depth + 1
+abbrev pub decreases-judged : goal.decreases-judged
+decreases-judged l = 8 * l.depth + 1
 
 abbrev pub decreases-part : goal.decreases-part
 decreases-part l = 8 * l.depth + 2
@@ -38,4 +38,4 @@ invariant-add_parts-loop-turn l =
 abbrev pub invariant-add_items-loop-turn : goal.invariant-add_items-loop-turn
 invariant-add_items-loop-turn l =
     closed_items_at l.tokens l.depth (state_of l.fn.cursor) l.fn.cursor.seen
-    ≡ gathered (closed_body_at l.tokens l.depth) (map see_let l.lets.items) (map see_disj l.parts.items) (body_items_at l.tokens l.depth (l.tokens.turns - l._turn) (state_of l.cursor) l.cursor.seen)
+    ≡ gathered (closed_body_at l.tokens l.depth) (map see_let l.found.lets.items) (map see_disj l.found.parts.items) (body_items_at l.tokens l.depth (l.tokens.turns - l._turn) (state_of l.cursor) l.cursor.seen)
