@@ -15,8 +15,9 @@ use Rattle.guard_syntax.specs.declared.syntax.Step.{Step}
 use Rattle.rule_names.specs.Pieces.{OfStep, piece_at}
 use Rattle.rule_meaning.specs.StoreModel.{StoreModel}
 use Rattle.rule_meaning.specs.Filters.{candidates_of, candidates_in, kept, filtered}
-use Rattle.rule_meaning.specs.Places.{Placed, is_key, is_filter, is_first, is_after_key, step_in, steps_in, placed_in, placed_of, step_at, given_by, step_candidates, step_rows, candidates_at, rows_at_step, IsStepAt, IsStartAt, IsFilterAt}
+use Rattle.rule_meaning.specs.Places.{Placed, is_key, is_filter, is_first, is_after_key, step_in, steps_in, placed_in, placed_of, given_by, step_candidates, step_rows, IsStepAt}
 use Rattle.rule_meaning.specs.Steps.{found_step, on_found}
+use Rattle.query_steps.specs.code.Placed.{IsFilter, IsStart, candidates_of_place, rows_of_place}
 
 abbrev pub steps_of : List Step → sx.Steps
 steps_of xs = step_list (map see_step xs)
@@ -75,7 +76,7 @@ steps-within f site q i xs are piece there =
     placed-within xs i
     (ap is_some (ap (λ (ys : List Step). placed_in (steps_of ys) i) are ∙ sym (ap (λ (s : sx.Query). placed_in (steps_in s) i) (query-seen q)) ∙ sym (ap (option_and_then placed_of) piece)) ∙ there)
 
--- ---- the step of a site
+-- ---- the step of a place
 
 kept-nothing : (rs : List Ref) → kept rs [] ≡ []
 kept-nothing [] = refl
@@ -106,57 +107,60 @@ first-not : (i : ℕ) → (i ≡ 0 → ⊥) → is_first i ≡ false
 first-not zero later = absurd (later refl)
 first-not (suc i) later = refl
 
-module _ (known : StoreModel) (site : ℕ) (xs : List Step) (i : ℕ) (x : Step) (at : step_at known.file site ≡ placed_in (steps_of xs) i) (within : i < length xs) (is : x ≡ get_or xs i x) where
+module _ (known : StoreModel) (xs : List Step) (i : ℕ) (x : Step) (within : i < length xs) (is : x ≡ get_or xs i x) where
+  abbrev place : Option Placed
+  place = placed_in (steps_of xs) i
+
   abbrev here : Placed
   here = record { step = see_step x; first = is_first i; last = not (is_some (step_in (steps_of xs) (suc i))); after_key = is_after_key (steps_of xs) i }
 
-  stands : step_at known.file site ≡ Some here
+  stands : place ≡ Some here
   stands =
-      at ∙ ap (option_map (λ (s : sx.Step). let p : Placed = record { step = s; first = is_first i; last = not (is_some (step_in (steps_of xs) (suc i))); after_key = is_after_key (steps_of xs) i } in p)) (step-at xs i x within is)
+      ap (option_map (λ (s : sx.Step). let p : Placed = record { step = s; first = is_first i; last = not (is_some (step_in (steps_of xs) (suc i))); after_key = is_after_key (steps_of xs) i } in p)) (step-at xs i x within is)
 
-  filter-there : IsFilterAt known.file site → is_filter (see_step x) ≡ true
+  filter-there : IsFilter place → is_filter (see_step x) ≡ true
   filter-there filters = sym (ap (λ (o : Option Placed). option_map_or (λ (p : Placed). is_filter p.step) o false) stands) ∙ filters
 
-  candidates-there : (before : List Row) → candidates_at known site before ≡ step_candidates known here before
-  candidates-there before = ap (λ (o : Option Placed). option_map_or (λ (p : Placed). step_candidates known p before) o []) stands
+  candidates-there : (before : List Row) → candidates_of_place known place before ≡ step_candidates known here before
+  candidates-there before = ap (λ (o : Option Placed). candidates_of_place known o before) stands
 
-  pub candidates-of-filter : (before : List Row) → is_filter (see_step x) ≡ true → candidates_at known site before ≡ candidates_in known (is_after_key (steps_of xs) i) before
+  pub candidates-of-filter : (before : List Row) → is_filter (see_step x) ≡ true → candidates_of_place known place before ≡ candidates_in known (is_after_key (steps_of xs) i) before
   candidates-of-filter before filters = candidates-there before ∙ ap (λ (b : Bool). if b then candidates_in known (is_after_key (steps_of xs) i) before else []) filters
 
-  pub candidates-at : (before : List Row) → IsFilterAt known.file site → candidates_in known (is_after_key (steps_of xs) i) before ≡ candidates_at known site before
+  pub candidates-at : (before : List Row) → IsFilter place → candidates_in known (is_after_key (steps_of xs) i) before ≡ candidates_of_place known place before
   candidates-at before filters = sym (candidates-of-filter before (filter-there filters))
 
-  rows-there : (current : Ref) (before rows : List Row) (verdicts : List Verdict) → step_rows known here current before rows verdicts ≡ rows_at_step known site current before rows verdicts
-  rows-there current before rows verdicts = sym (ap (λ (o : Option Placed). option_map_or (λ (p : Placed). step_rows known p current before rows verdicts) o []) stands)
+  rows-there : (current : Ref) (before rows : List Row) (verdicts : List Verdict) → step_rows known here current before rows verdicts ≡ rows_of_place known place current before rows verdicts
+  rows-there current before rows verdicts = sym (ap (λ (o : Option Placed). rows_of_place known o current before rows verdicts) stands)
 
   -- a start
-  pub start-there : i ≡ 0 → IsStartAt known.file site
+  pub start-there : i ≡ 0 → IsStart place
   start-there first = ap (λ (o : Option Placed). option_map_or (λ (p : Placed). p.first) o false) stands ∙ ap is_first first
 
-  pub rows-of-start : (current : Ref) (before rows : List Row) (verdicts : List Verdict) → i ≡ 0 → (IsStartAt known.file site → before ≡ []) → length verdicts ≡ length (candidates_at known site before)
-      → flat_map (on_found (found_step known (not (is_some (step_in (steps_of xs) (suc i)))) rows (see_step x))) (Found current ∷ []) ≡ rows_at_step known site current before rows verdicts
+  pub rows-of-start : (current : Ref) (before rows : List Row) (verdicts : List Verdict) → i ≡ 0 → (IsStart place → before ≡ []) → length verdicts ≡ length (candidates_of_place known place before)
+      → flat_map (on_found (found_step known (not (is_some (step_in (steps_of xs) (suc i)))) rows (see_step x))) (Found current ∷ []) ≡ rows_of_place known place current before rows verdicts
   rows-of-start current before rows verdicts first start enough =
-      let none : candidates_at known site before ≡ [] = ap (candidates_at known site) (start (start-there first)) ∙ candidates-there [] ∙ either-nothing (is_filter (see_step x)) in
+      let none : candidates_of_place known place before ≡ [] = ap (candidates_of_place known place) (start (start-there first)) ∙ candidates-there [] ∙ either-nothing (is_filter (see_step x)) in
       let unjudged : verdicts ≡ [] = no-verdicts verdicts (enough ∙ ap length none) in
       starts known (not (is_some (step_in (steps_of xs) (suc i)))) (is_after_key (steps_of xs) i) current rows (see_step x)
       ∙ ap (λ (vs : List Verdict). given_by known here (Found current ∷ []) rows vs) (sym unjudged)
       ∙ ap (λ (b : Bool). given_by known here (if b then Found current ∷ [] else before) rows verdicts) (sym (ap is_first first))
       ∙ rows-there current before rows verdicts
 
-  later-there : (current : Ref) (before rows : List Row) (verdicts : List Verdict) → (i ≡ 0 → ⊥) → given_by known here before rows verdicts ≡ rows_at_step known site current before rows verdicts
+  later-there : (current : Ref) (before rows : List Row) (verdicts : List Verdict) → (i ≡ 0 → ⊥) → given_by known here before rows verdicts ≡ rows_of_place known place current before rows verdicts
   later-there current before rows verdicts later =
       ap (λ (b : Bool). given_by known here (if b then Found current ∷ [] else before) rows verdicts) (sym (first-not i later)) ∙ rows-there current before rows verdicts
 
   -- a filter behind other steps
   pub rows-of-filter : (current : Ref) (before rows : List Row) (verdicts : List Verdict) → (i ≡ 0 → ⊥) → is_filter (see_step x) ≡ true
-      → filtered known (is_after_key (steps_of xs) i) before verdicts ≡ rows_at_step known site current before rows verdicts
+      → filtered known (is_after_key (steps_of xs) i) before verdicts ≡ rows_of_place known place current before rows verdicts
   rows-of-filter current before rows verdicts later filters =
       ap (λ (b : Bool). if b then filtered known here.after_key before verdicts else flat_map (on_found (found_step known here.last rows here.step)) before) (sym filters)
       ∙ later-there current before rows verdicts later
 
   -- any other step behind others
   pub rows-of-other : (current : Ref) (before rows : List Row) (verdicts : List Verdict) → (i ≡ 0 → ⊥) → is_filter (see_step x) ≡ false
-      → flat_map (on_found (found_step known (not (is_some (step_in (steps_of xs) (suc i)))) rows (see_step x))) before ≡ rows_at_step known site current before rows verdicts
+      → flat_map (on_found (found_step known (not (is_some (step_in (steps_of xs) (suc i)))) rows (see_step x))) before ≡ rows_of_place known place current before rows verdicts
   rows-of-other current before rows verdicts later other =
       ap (λ (b : Bool). if b then filtered known here.after_key before verdicts else flat_map (on_found (found_step known here.last rows here.step)) before) (sym other)
       ∙ later-there current before rows verdicts later

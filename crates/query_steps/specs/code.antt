@@ -1,3 +1,4 @@
 -- What serves the code and its proofs alone: nobody has to believe it.
 pub mod Memory
 pub mod Nodes
+pub mod Placed

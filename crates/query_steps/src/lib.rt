@@ -5,6 +5,7 @@
 pub mod filters;
 pub mod keys;
 pub mod location_laws;
+pub mod places;
 mod reached;
 pub mod resources;
 pub mod seen;
@@ -14,6 +15,7 @@ pub mod steps;
 pub use filters::{filter_candidates, kept_rows};
 pub use keys::{captured, row_passes};
 pub use location_laws::one_answer_over_locations;
+pub use places::{StepInput, StepPlace, placed_candidates, placed_step};
 pub use resources::type_rows;
 pub use seen::{
     seen_answers, seen_as_before, seen_filters, seen_functions, seen_steps, seen_values,

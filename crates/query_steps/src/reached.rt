@@ -100,6 +100,7 @@ fn inside_node(alloc: Global, value: Ref, node: Cursor<'_, '_>) -> Result<Vec<Re
     ensures no_memory { map (node_beside value) (numbers (node.entry.id + 1) (kids_at node.entry.doc.now node.entry.id)) ≡ [] → IsOk result }
 {
     let mut refs = Vec::new(alloc);
+    refs.reserve(node.len())?;
     for i in 0..node.len() {
         refs.push(beside(value, node.child(i).id))?;
     }

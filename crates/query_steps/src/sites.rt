@@ -1,18 +1,17 @@
 //! Steps and type blocks by their sites in a rule file.
-ghost use Rattle.std.specs.Prelude.{◌≡◌, ◌<◌, true, false, not, suc, is_some, length, map, Some, [], IfOk, IsOk};
+ghost use Rattle.std.specs.Prelude.{◌≡◌, ◌<◌, true, false, length, Some, [], IfOk, IsOk};
 ghost use Rattle.std.specs.List.{list_all};
-ghost use Rattle.guard_syntax.specs.code.Seen.{see_step, step_list};
 ghost use Rattle.rule_names.specs.code.Files.{file_of};
 ghost use Rattle.value_compare.specs.code.Books.{IsBookOf};
 ghost use Rattle.rule_meaning.specs.StoreModel.{is_known, is_known_ref};
 ghost use Rattle.value_compare.specs.code.Stores.{see_store};
 ghost use Rattle.query_steps.specs.code.Memory.{has_resources};
-ghost use Rattle.rule_meaning.specs.Places.{IsFilterAt, IsStartAt, IsStepAt, IsTypeAt, candidates_at, is_after_key, is_filter, is_key, placed_in, rows_at_step, rows_at_type, step_at, step_in, type_at};
+ghost use Rattle.query_steps.specs.code.Placed.{see_place};
+ghost use Rattle.rule_meaning.specs.Places.{IsFilterAt, IsStartAt, IsStepAt, IsTypeAt, candidates_at, rows_at_step, rows_at_type, step_at, type_at};
 
-use crate::filters::{filter_candidates, kept_rows};
+use crate::places::{StepInput, StepPlace, placed_candidates, placed_step};
 use crate::resources::type_rows;
-use crate::steps::rows_of_step;
-use guard_syntax::{Part, Ref, Row, Step, StepForm, Verdict};
+use guard_syntax::{Part, Ref, Row, Verdict};
 use rule_names::{Piece, RuleFile};
 use std::alloc::{AllocError, Global};
 use value_compare::{PatternBook, Store};
@@ -34,8 +33,7 @@ pub fn candidates(
     ensures known { IfOk result (λ refs. list_all (is_known_ref (see_store store.now)) refs.items ≡ true) }
     ensures no_memory { candidates_at (see_store store.now) site before.now ≡ [] → IsOk result }
 {
-    let (steps, index) = step_of(file, site);
-    filter_candidates(alloc, is_after_key(steps, index), before, store)
+    placed_candidates(alloc, place_of(file, site), before, store)
 }
 
 /// What the step of a site gives for the rows before it, with a current value, at which a start begins: it has no rows
@@ -66,16 +64,13 @@ pub fn step(
     ensures known { IfOk result (λ given. list_all (is_known (see_store store.now)) given.items ≡ true) }
     ensures no_memory { (IsStartAt (file_of file.now) site → ⊥) → before.now ≡ [] → IsOk result }
 {
-    let (steps, index) = step_of(file, site);
-    let step = &steps[index];
-    let last = is_last(steps, index);
-    if index == 0 {
-        return rows_of_step(alloc, step, last, &[Row::Found(current)], rows, store, book);
-    }
-    if is_filter(step) {
-        return kept_rows(alloc, is_after_key(steps, index), before, verdicts, store);
-    }
-    rows_of_step(alloc, step, last, before, rows, store, book)
+    let input = StepInput {
+        current,
+        before,
+        further: rows,
+        verdicts,
+    };
+    placed_step(alloc, place_of(file, site), input, store, book)
 }
 
 /// The rows of the type block of a site, with a current value. The file is the store's. Where the value has no map
@@ -98,55 +93,19 @@ pub fn kinds(
     type_rows(alloc, type_name(file, site), current, store)
 }
 
-/// The steps among which the step of a site stands, and its index there.
-fn step_of(file: &RuleFile, site: u32) -> (&[Step], usize)
+/// Where the step of a site stands.
+fn place_of(file: &RuleFile, site: u32) -> StepPlace<'_>
     requires site { site < length (file_of file.now).places }
     requires step { IsStepAt (file_of file.now) site }
-    ensures at { step_at (file_of file.entry.now) site ≡ placed_in (step_list (map see_step result.0.now)) result.1 }
-    ensures within { result.1 < length result.0.now }
+    ensures at { step_at (file_of file.entry.now) site ≡ see_place result }
+    ensures within { result.index < length result.steps.now }
 {
     let Piece::Step { query, index } = file.piece(site) else {
         unreachable!()
     };
-    (query.steps.as_slice(), index)
-}
-
-/// Whether the step before the one of an index is a key step.
-fn is_after_key(steps: &[Step], index: usize) -> bool
-    requires { index < length steps.now }
-    ensures { result ≡ is_after_key (step_list (map see_step steps.now)) index }
-{
-    if index == 0 {
-        return false;
-    }
-    is_key(&steps[index - 1])
-}
-
-/// Whether no step stands behind the one of an index.
-fn is_last(steps: &[Step], index: usize) -> bool
-    requires { index < length steps.now }
-    ensures { result ≡ not (is_some (step_in (step_list (map see_step steps.now)) (suc index))) }
-{
-    index + 1 == steps.len()
-}
-
-/// Whether a step is a name or a quoted key.
-fn is_key(step: &Step) -> bool
-    ensures { result ≡ is_key (see_step step.now) }
-{
-    match &step.form {
-        StepForm::Key(_) => true,
-        _ => false,
-    }
-}
-
-/// Whether a step is a filter.
-fn is_filter(step: &Step) -> bool
-    ensures { result ≡ is_filter (see_step step.now) }
-{
-    match &step.form {
-        StepForm::Filter(..) => true,
-        _ => false,
+    StepPlace {
+        steps: query.steps.as_slice(),
+        index,
     }
 }
 

@@ -37,6 +37,7 @@ pub fn rows_of_step(
     ensures no_memory { before.now ≡ [] → IsOk result }
 {
     let mut given = Vec::new(alloc);
+    given.reserve(before.len())?;
     for row in before {
         push_row(alloc, step, last, row, rows, store, book, &mut given)?;
     }
@@ -180,6 +181,7 @@ fn push_inside(
         into.push(Row::Missing { value, step: site })?;
         return Ok(());
     }
+    into.reserve(values.len())?;
     push_each(&values, into)
 }
 

@@ -1,6 +1,7 @@
 pub mod Examples
 pub mod FindsLemmas
 mod BookLemmas
+mod KeptLiterals
 mod KeptMatchers
 mod Forests
 mod MapKeys

@@ -2,6 +2,7 @@
 pub mod BookCovers
 pub mod Books
 pub mod Entries
+pub mod Kept
 pub mod Making
 pub mod Matching
 pub mod Stores

@@ -78,7 +78,11 @@ fn add_sites<M: PatternMaker>(
     ensures kept { (other : List ℕ) → M.faults maker.old other ≤ M.faults maker.new other }
 {
     for site in 0..sought.len() as u32 {
-        add_site(alloc, file, site, sought[site as usize], book, maker)?;
+        let given = LiteralSite {
+            site,
+            sought: sought[site as usize],
+        };
+        add_site(alloc, file, given, book, maker)?;
     }
     Ok(())
 }
@@ -95,30 +99,37 @@ fn site_count(file: &RuleFile) -> Option<u32>
     }
 }
 
-/// Makes the patterns of the literal of a site, from whose text one is read or not.
+/// A site where a literal may stand.
+#[derive(Clone, Copy)]
+struct LiteralSite {
+    site: u32,
+    /// Whether a pattern is read from the text of the literal.
+    sought: bool,
+}
+
+/// Makes the patterns of the literal of a site.
 fn add_site<M: PatternMaker>(
     alloc: Global,
     file: &RuleFile,
-    site: u32,
-    sought: bool,
+    given: LiteralSite,
     book: &mut PatternBook,
     maker: &mut M,
 ) -> Result<(), BookRefusal>
-    requires sought { sought ≡ is_sought (see_file file.now.raw) site }
+    requires sought { given.sought ≡ is_sought (see_file file.now.raw) given.site }
     requires book { IsReadBook book.old }
-    ensures gains { OnOk result (Gains book.old book.new (patterns_at (see_file file.now.raw) site)) }
-    ensures read { OnOk result (AreRead (patterns_at (see_file file.now.raw) site)) }
+    ensures gains { OnOk result (Gains book.old book.new (patterns_at (see_file file.now.raw) given.site)) }
+    ensures read { OnOk result (AreRead (patterns_at (see_file file.now.raw) given.site)) }
     ensures book { OnOk result (IsReadBook book.new) }
     ensures bad { (at : ℕ) → IsErrOf result (BookRefusal.BadPattern at)
-        → (text : List ℕ) × IsNextOf (patterns_at (see_file file.now.raw) site) text at × IsNone (pattern_in text) }
+        → (text : List ℕ) × IsNextOf (patterns_at (see_file file.now.raw) given.site) text at × IsNone (pattern_in text) }
     ensures refused { (at : ℕ) → IsErrOf result (BookRefusal.PatternRefused at)
-        → (text : List ℕ) × IsNextOf (patterns_at (see_file file.now.raw) site) text at
+        → (text : List ℕ) × IsNextOf (patterns_at (see_file file.now.raw) given.site) text at
         × FaultCounted (M.faults maker.old text) (M.faults maker.new text) }
     ensures kept { (other : List ℕ) → M.faults maker.old other ≤ M.faults maker.new other }
 {
-    match literal(file, site) {
+    match literal(file, given.site) {
         None => Ok(()),
-        Some(tree) => add_literal(alloc, tree, sought, book, maker),
+        Some(tree) => add_literal(alloc, tree, given.sought, book, maker),
     }
 }
 

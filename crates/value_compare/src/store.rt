@@ -1,10 +1,12 @@
 //! What references into values stand for.
 ghost use Rattle.std.specs.Prelude.{◌≡◌, ◌++◌, ◌∷◌, ℕ, [], Option, None, Some, MatchOption, IfSome, OnOk, OnErr, List, true, false};
+ghost use Rattle.guard_syntax.specs.Syntax.{File};
 ghost use Rattle.guard_syntax.specs.code.Seen.{see_file};
 ghost use Rattle.value_compare.specs.code.Books.{IsBookOf};
 ghost use Rattle.value_compare.specs.code.BookCovers.{holds_in, covers};
-ghost use Rattle.rule_meaning.specs.StoreModel.{made_at, stands_for, tree_of, value_in};
+ghost use Rattle.rule_meaning.specs.StoreModel.{literal_at, made_at, stands_for, tree_of, value_in};
 ghost use Rattle.rule_meaning.specs.Values.{has_pattern};
+ghost use Rattle.value_compare.specs.code.Kept.{AreKept};
 ghost use Rattle.value_compare.specs.code.Views.{IsSeenAt, IsSeenIn, see_view};
 
 use crate::literals::literal;
@@ -15,6 +17,13 @@ use guard_syntax::{Origin, Ref};
 use rule_names::RuleFile;
 use std::alloc::{AllocError, Global};
 
+/// The tree of the literal of a site.
+#[derive(Clone, Copy)]
+pub struct KeptLiteral<'t> {
+    pub site: u32,
+    pub tree: &'t Doc<'static>,
+}
+
 /// The trees that references point into: a template without patterns, the literals of a rule file, and the trees that
 /// function calls made.
 #[derive(Drop)]
@@ -22,7 +31,11 @@ pub struct Store<'t, 's> {
     pub doc: &'t Doc<'s>,
     pub file: &'t RuleFile,
     pub made: MadeTrees,
+    /// The literals that were kept, and by its site where each of them is.
+    pub literals: Vec<KeptLiteral<'t>>,
+    pub places: Vec<u32>,
     pub ghost plain: { has_pattern doc.now ≡ false },
+    pub ghost kept: { AreKept (see_file file.now.raw) literals.items },
 }
 
 impl<'t, 's> Store<'t, 's> {
@@ -37,6 +50,8 @@ impl<'t, 's> Store<'t, 's> {
             doc,
             file,
             made: MadeTrees::new(alloc),
+            literals: Vec::new(alloc),
+            places: Vec::new(alloc),
         }
     }
 
@@ -50,6 +65,22 @@ impl<'t, 's> Store<'t, 's> {
         ensures err { OnErr result (self.new.made ≡ self.old.made) }
     {
         self.made.add(line, row, tree)
+    }
+
+    /// Keeps the tree of the literal of a site, so that `view` does not look for it in the file.
+    pub fn keep_literal(&mut self, site: u32, tree: &'t Doc<'static>) -> Result<(), AllocError>
+        requires { literal_at (see_file self.old.file.now.raw) site ≡ Some tree.now }
+        ensures doc { self.new.doc.now ≡ self.old.doc.now }
+        ensures file { self.new.file.now ≡ self.old.file.now }
+        ensures made { self.new.made ≡ self.old.made }
+    {
+        let place = self.places.get(site as usize).copied();
+        if let Some(_) = kept_at(&self.literals, place, site) {
+            return Ok(());
+        }
+        note_place(&mut self.places, site, self.literals.len())?;
+        self.literals.push(KeptLiteral { site, tree })?;
+        Ok(())
     }
 
     /// The value or the key that a reference stands for.
@@ -73,10 +104,53 @@ impl<'t, 's> Store<'t, 's> {
     {
         match origin {
             Origin::Template => Some(self.doc),
-            Origin::Literal(site) => literal(self.file, site),
+            Origin::Literal(site) => self.literal(site),
             Origin::Made { line, row } => self.made.get(line, row),
         }
     }
+
+    /// The tree of the literal of a site.
+    fn literal(&self, site: u32) -> Option<&Doc<'static>>
+        ensures tree { MatchOption result (literal_at (see_file self.entry.now.file.now.raw) site ≡ None) (λ tree. literal_at (see_file self.entry.now.file.now.raw) site ≡ Some tree.now) }
+        ensures held { (book : List (List ℕ)) → IsBookOf (see_file self.entry.now.file.now.raw) book → IfSome result (λ tree. holds_in book tree.now ≡ true) }
+    {
+        let place = self.places.get(site as usize).copied();
+        match kept_at(&self.literals, place, site) {
+            Some(tree) => Some(tree),
+            None => literal(self.file, site),
+        }
+    }
+}
+
+/// The tree of the literal of a site, if it is the one that is kept at a place.
+fn kept_at<'t>(
+    literals: &[KeptLiteral<'t>],
+    place: Option<u32>,
+    site: u32,
+) -> Option<&'t Doc<'static>>
+    ensures { (f : File) → AreKept f literals.entry.now → IfSome result (λ tree. literal_at f site ≡ Some tree.now) }
+{
+    let kept = literals.get(place? as usize)?;
+    if kept.site == site {
+        return Some(kept.tree);
+    }
+    None
+}
+
+/// Notes where the literal of a site is kept.
+fn note_place(places: &mut Vec<u32>, site: u32, place: usize) -> Result<(), AllocError> {
+    // So many literals take more memory than there is.
+    let Ok(place) = u32::try_from(place) else {
+        return Err(AllocError);
+    };
+    let index = site as usize;
+    if places.len() <= index {
+        places.resize(index + 1, 0)?;
+    }
+    if let Some(noted) = places.get_mut(index) {
+        *noted = place;
+    }
+    Ok(())
 }
 
 /// The value of a node of a tree, or its key.

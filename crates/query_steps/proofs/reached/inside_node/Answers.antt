@@ -32,3 +32,10 @@ returns-in_err-push-clause-no_memory c none =
     let within : c.loop-i.i < count kids = omega arith in
     let nothing : count kids ≡ 0 = sym (length-numbers n kids) ∙ sym (length-map (numbers n kids) (node_beside c.args.value)) ∙ ap length none in
     absurd (omega (arith, within, nothing))
+
+pub returns-in_err-reserve-clause-no_memory : goal.returns-in_err-reserve-clause-no_memory
+returns-in_err-reserve-clause-no_memory c none =
+    let kids : Forest = kids_at c.args.node.doc.now c.args.node.id in
+    let n = c.args.node.id + 1 in
+    let nothing : count kids ≡ 0 = sym (length-numbers n kids) ∙ sym (length-map (numbers n kids) (node_beside c.args.value)) ∙ ap length none in
+    absurd (omega (arith, nothing, c.in_err-reserve.ensures.full))

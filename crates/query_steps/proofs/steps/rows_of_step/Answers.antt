@@ -18,6 +18,9 @@ loop-row-preserved c =
 pub returns-in_err-push_row-clause-no_memory : goal.returns-in_err-push_row-clause-no_memory
 returns-in_err-push_row-clause-no_memory c = λ none. absurd (omega (arith, c.loop-row-test.true, ap length none))
 
+pub returns-in_err-reserve-clause-no_memory : goal.returns-in_err-reserve-clause-no_memory
+returns-in_err-reserve-clause-no_memory c = λ none. absurd (omega (arith, ap length none, c.in_err-reserve.ensures.full))
+
 pub returns-clause-known : goal.returns-clause-known
 returns-clause-known c =
     let k = see_store c.args.store.now in

@@ -2,7 +2,7 @@ use Rattle.std.proofs.Common.{arith}
 use Rattle.std.proofs.lemmas.Grind.{common_steps}
 use Rattle.rule_names.specs.code.Files.{file_of}
 use Rattle.query_steps.proofs.StepPlaces.{steps-within}
-use Rattle.query_steps.proofs.sites.step_of.Goals as goal
+use Rattle.query_steps.proofs.sites.place_of.Goals as goal
 
 pub returns-clause-within : goal.returns-clause-within
 returns-clause-within c =
