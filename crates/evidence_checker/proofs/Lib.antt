@@ -19,7 +19,6 @@ mod RowsPlaced
 mod RowsTested
 mod RuleVerdicts
 mod SaidOnce
-mod SameRows
 mod SetsAsked
 mod SitesPlaced
 mod SoundLines

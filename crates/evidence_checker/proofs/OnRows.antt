@@ -1,6 +1,7 @@
 -- A body on rows, a row at a time.
-use Rattle.std.proofs.Common.{◌≡◌, ℕ, ◌+◌, ◌<◌, ◌≤◌, true, false, true≢false, Bool, List, [], ◌∷◌, length, drop, get_or, refl, ap, sym, subst, ◌∙◌, MatchBool, add-one, drop-cons}
+use Rattle.std.proofs.Common.{◌≡◌, ℕ, ◌+◌, ◌<◌, ◌≤◌, true, false, true≢false, Bool, List, [], ◌∷◌, length, drop, slice_get, Some, refl, ap, sym, subst, ◌∙◌, MatchBool, add-one, drop-cons}
 use Rattle.std.proofs.lemmas.List.{drop_all}
+use Rattle.std.proofs.lemmas.Option.{get_or_from_slice_get, slice_get_within}
 use Rattle.evidence_lines.specs.declared.line.Line.{Line}
 use Rattle.evidence_lines.specs.declared.line.LineKind.TheVariants as kind
 use Rattle.evidence_lines.specs.declared.line.Outcome.TheVariants as says
@@ -177,20 +178,21 @@ module _ (known : StoreModel) (lines : List Line) (frame : ℕ) (any : Bool) (ve
   back-none before verdict (c ∷ cs) none is = absurd cc
 
   -- so the rows from an index on
-  next-rows : (rows : List Row) (i : ℕ) (d : Row) → i < length rows → drop i rows ≡ get_or rows i d ∷ drop (i + 1) rows
-  next-rows rows i d within = rw add-one (drop-cons rows i d within)
+  next-rows : (rows : List Row) (i : ℕ) (row : Row) → slice_get rows i ≡ Some row → drop i rows ≡ row ∷ drop (i + 1) rows
+  next-rows rows i row there =
+      rw add-one (drop-cons rows i row (slice_get_within rows i row there)) ∙ ap (λ (r : Row). r ∷ drop (i + 1) rows) (get_or_from_slice_get rows i row row there)
 
-  module _ (rows : List Row) (i : ℕ) (d : Row) (within : i < length rows) (cites : List ℕ) (before verdict : Verdict) where
-    module _ (w after : Verdict) (left : List ℕ) (is : SaysRow (SaysBody known lines frame b) (get_or rows i d) cites w left) (joined : after ≡ block_verdict any (before ∷ w ∷ [])) where
+  module _ (rows : List Row) (i : ℕ) (row : Row) (there : slice_get rows i ≡ Some row) (cites : List ℕ) (before verdict : Verdict) where
+    module _ (w after : Verdict) (left : List ℕ) (is : SaysRow (SaysBody known lines frame b) row cites w left) (joined : after ≡ block_verdict any (before ∷ w ∷ [])) where
       pub on-row : Stops w ≡ false → FollowsOn known lines frame any version b before (drop i rows) cites verdict → FollowsOn known lines frame any version b after (drop (i + 1) rows) left verdict
       on-row goes f =
-          on-next (get_or rows i d) (drop (i + 1) rows) cites before verdict w after left is joined goes
-          (subst (λ (rs : List Row). FollowsOn known lines frame any version b before rs cites verdict) (next-rows rows i d within) f)
+          on-next row (drop (i + 1) rows) cites before verdict w after left is joined goes
+          (subst (λ (rs : List Row). FollowsOn known lines frame any version b before rs cites verdict) (next-rows rows i row there) f)
 
       pub back-row : Stops w ≡ false → FollowsOn known lines frame any version b after (drop (i + 1) rows) left verdict → FollowsOn known lines frame any version b before (drop i rows) cites verdict
       back-row goes f =
-          subst (λ (rs : List Row). FollowsOn known lines frame any version b before rs cites verdict) (sym (next-rows rows i d within))
-          (back-next (get_or rows i d) (drop (i + 1) rows) cites before verdict w after left is joined goes f)
+          subst (λ (rs : List Row). FollowsOn known lines frame any version b before rs cites verdict) (sym (next-rows rows i row there))
+          (back-next row (drop (i + 1) rows) cites before verdict w after left is joined goes f)
 
       -- a row that decides
       pub decide-stop : (all : List Row) (whole : List ℕ) (r : Bool) → Stops w ≡ true
@@ -200,15 +202,15 @@ module _ (known : StoreModel) (lines : List Line) (frame : ℕ) (any : Bool) (ve
           → MatchBool r (FollowsRowsOf known lines frame any (block_stop any version) b all whole verdict)
           (FollowsRowsOf known lines frame any (block_stop any version) b all whole verdict → ⊥)
       decide-stop all whole true stops on back ends =
-          back (subst (λ (rs : List Row). FollowsOn known lines frame any version b before rs cites verdict) (sym (next-rows rows i d within))
-          (back-stop (drop (i + 1) rows) before verdict w after joined stops (get_or rows i d) cites left is ends.0 ends.1))
+          back (subst (λ (rs : List Row). FollowsOn known lines frame any version b before rs cites verdict) (sym (next-rows rows i row there))
+          (back-stop (drop (i + 1) rows) before verdict w after joined stops row cites left is ends.0 ends.1))
       decide-stop all whole false stops on back never =
-          λ f. never (on-stop (drop (i + 1) rows) before verdict w after joined stops (get_or rows i d) cites left is
-          (subst (λ (rs : List Row). FollowsOn known lines frame any version b before rs cites verdict) (next-rows rows i d within) (on f)))
+          λ f. never (on-stop (drop (i + 1) rows) before verdict w after joined stops row cites left is
+          (subst (λ (rs : List Row). FollowsOn known lines frame any version b before rs cites verdict) (next-rows rows i row there) (on f)))
 
-    pub never-row : ((w : Verdict) (left : List ℕ) → SaysRow (SaysBody known lines frame b) (get_or rows i d) cites w left → ⊥) → FollowsOn known lines frame any version b before (drop i rows) cites verdict → ⊥
+    pub never-row : ((w : Verdict) (left : List ℕ) → SaysRow (SaysBody known lines frame b) row cites w left → ⊥) → FollowsOn known lines frame any version b before (drop i rows) cites verdict → ⊥
     never-row never f =
-        never-on (get_or rows i d) (drop (i + 1) rows) cites before verdict never (subst (λ (rs : List Row). FollowsOn known lines frame any version b before rs cites verdict) (next-rows rows i d within) f)
+        never-on row (drop (i + 1) rows) cites before verdict never (subst (λ (rs : List Row). FollowsOn known lines frame any version b before rs cites verdict) (next-rows rows i row there) f)
 
   -- and behind the last
   pub decide-end : (rows all : List Row) (i : ℕ) (cites whole : List ℕ) (before verdict : Verdict) (r : Bool) → length rows ≤ i

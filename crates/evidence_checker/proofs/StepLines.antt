@@ -1,5 +1,5 @@
 -- Lines of the rows of steps: what they cite is one, and so is what they say.
-use Rattle.std.proofs.Common.{◌≡◌, ◌<◌, ◌≤◌, ◌-◌, ◌+◌, ℕ, zero, suc, Bool, true, false, refl, ap, sym, ◌∙◌, subst, arith, get_or, take, drop, List, [], ◌∷◌, ◌++◌, length, Option, Some, None, MatchBool, MatchOption, Bor}
+use Rattle.std.proofs.Common.{◌≡◌, ◌<◌, ◌≤◌, ◌-◌, ◌+◌, ℕ, zero, suc, Bool, true, false, refl, ap, sym, ◌∙◌, subst, arith, get_or, take, drop, List, [], ◌∷◌, ◌++◌, length, Option, Some, None, MatchBool, MatchOption}
 use Rattle.std.specs.Option.{option_map_or}
 use Rattle.std.specs.Prelude.{is_some, not, option_and_then, option_map}
 use Rattle.std.proofs.lemmas.Bool.{true≢false}
@@ -21,8 +21,8 @@ use Rattle.evidence_checker.proofs.StepsSeen.{NamesNothing}
 use Rattle.evidence_checker.proofs.OneGiven.{one-of-expr, one-of-variable, one-rows, one-there, one-verdict}
 
 -- rows that are given by something, if by any
-abbrev pub AreGiven : (List Row → Type 0) → Option (Bor (List Row)) → Type 0
-AreGiven Gives r = MatchOption r ((rows : List Row) → Gives rows → ⊥) (λ rows. Gives rows.now)
+abbrev pub AreGiven : (List Row → Type 0) → Option (List Row) → Type 0
+AreGiven Gives r = MatchOption r ((rows : List Row) → Gives rows → ⊥) Gives
 
 -- rows follow, or not
 abbrev pub IsJudgedSo : Bool → Type 0 → Type 0
@@ -110,31 +110,31 @@ module _ (known : StoreModel) (lines : List Line) (frame : ℕ) where
   -- ---- what a step names further
 
   -- one line gives what is named, if any
-  var-alone : (n : ℕ) (name : List ℕ) (cites : List ℕ) (r : Option (Bor (List Row))) → AreGiven (GivesAlone (GivesVariable known.file lines frame n) cites) r → AreGiven (GivesFurther known lines frame (var n name) cites) r
+  var-alone : (n : ℕ) (name : List ℕ) (cites : List ℕ) (r : Option (List Row)) → AreGiven (GivesAlone (GivesVariable known.file lines frame n) cites) r → AreGiven (GivesFurther known lines frame (var n name) cites) r
   var-alone n name [] r given = given
   var-alone n name (c ∷ []) r given = given
   var-alone n name (c ∷ d ∷ cs) r given = given
 
-  splice-alone : (n : ℕ) (name : Named) (cites : List ℕ) (r : Option (Bor (List Row))) → AreGiven (GivesAlone (GivesVariable known.file lines frame n) cites) r → AreGiven (GivesFurther known lines frame (splice n name) cites) r
+  splice-alone : (n : ℕ) (name : Named) (cites : List ℕ) (r : Option (List Row)) → AreGiven (GivesAlone (GivesVariable known.file lines frame n) cites) r → AreGiven (GivesFurther known lines frame (splice n name) cites) r
   splice-alone n name [] r given = given
   splice-alone n name (c ∷ []) r given = given
   splice-alone n name (c ∷ d ∷ cs) r given = given
 
-  keys-alone : (n : ℕ) (capture : Option Named) (op : Op) (negated : Bool) (right : Expr) (cites : List ℕ) (r : Option (Bor (List Row)))
+  keys-alone : (n : ℕ) (capture : Option Named) (op : Op) (negated : Bool) (right : Expr) (cites : List ℕ) (r : Option (List Row))
       → AreGiven (GivesAlone (GivesExpr known.file lines frame right) cites) r → AreGiven (GivesFurther known lines frame (keys n capture op negated right) cites) r
   keys-alone n capture op negated right [] r given = given
   keys-alone n capture op negated right (c ∷ []) r given = given
   keys-alone n capture op negated right (c ∷ d ∷ cs) r given = given
 
-  pub var-further : (s : Step) (n : ℕ) (name : List ℕ) (cites : List ℕ) (r : Option (Bor (List Row))) → s ≡ var n name
+  pub var-further : (s : Step) (n : ℕ) (name : List ℕ) (cites : List ℕ) (r : Option (List Row)) → s ≡ var n name
       → AreGiven (GivesAlone (GivesVariable known.file lines frame n) cites) r → AreGiven (GivesFurther known lines frame s cites) r
   var-further s n name cites r is given = subst (λ (t : Step). AreGiven (GivesFurther known lines frame t cites) r) (sym is) (var-alone n name cites r given)
 
-  pub splice-further : (s : Step) (n : ℕ) (name : Named) (cites : List ℕ) (r : Option (Bor (List Row))) → s ≡ splice n name
+  pub splice-further : (s : Step) (n : ℕ) (name : Named) (cites : List ℕ) (r : Option (List Row)) → s ≡ splice n name
       → AreGiven (GivesAlone (GivesVariable known.file lines frame n) cites) r → AreGiven (GivesFurther known lines frame s cites) r
   splice-further s n name cites r is given = subst (λ (t : Step). AreGiven (GivesFurther known lines frame t cites) r) (sym is) (splice-alone n name cites r given)
 
-  pub keys-further : (s : Step) (n : ℕ) (capture : Option Named) (op : Op) (negated : Bool) (right : Expr) (cites : List ℕ) (r : Option (Bor (List Row))) → s ≡ keys n capture op negated right
+  pub keys-further : (s : Step) (n : ℕ) (capture : Option Named) (op : Op) (negated : Bool) (right : Expr) (cites : List ℕ) (r : Option (List Row)) → s ≡ keys n capture op negated right
       → AreGiven (GivesAlone (GivesExpr known.file lines frame right) cites) r → AreGiven (GivesFurther known lines frame s cites) r
   keys-further s n capture op negated right cites r is given =
       subst (λ (t : Step). AreGiven (GivesFurther known lines frame t cites) r) (sym is) (keys-alone n capture op negated right cites r given)
@@ -171,7 +171,7 @@ module _ (known : StoreModel) (lines : List Line) (frame : ℕ) where
 
   -- ---- the right side of a test
 
-  pub right-alone : (right : Expr) (cites : List ℕ) (r : Option (Bor (List Row))) → AreGiven (GivesAlone (GivesExpr known.file lines frame right) cites) r → AreGiven (GivesRight known lines frame (with_expr right) cites) r
+  pub right-alone : (right : Expr) (cites : List ℕ) (r : Option (List Row)) → AreGiven (GivesAlone (GivesExpr known.file lines frame right) cites) r → AreGiven (GivesRight known lines frame (with_expr right) cites) r
   right-alone right [] r given = given
   right-alone right (c ∷ []) r given = given
   right-alone right (c ∷ d ∷ cs) r given = given

@@ -12,7 +12,7 @@ ghost use Rattle.rule_meaning.specs.Verdicts.{block_verdict, conjunction, disjun
 ghost use Rattle.evidence_checker.specs.code.FirstCites.{SaysRow};
 
 use crate::stops::{block_stop, is_stop};
-use evidence_lines::{LineKind, LineList, Outcome, Version};
+use evidence_lines::{LineKind, LineList, Outcome, Rows, Version};
 use evidence_lookups::body_frames::{ValueFrame, framed_verdict};
 use evidence_lookups::lookup::{line_of, said, verdict_said};
 use guard_syntax::{Row, Verdict};
@@ -87,7 +87,7 @@ pub(crate) struct RowsBody {
 pub(crate) fn body_follows_on(
     lines: &LineList<'_>,
     body: RowsBody,
-    rows: &[Row],
+    rows: &Rows<'_>,
     cites: &[u64],
     verdict: Verdict,
 ) -> bool
@@ -98,8 +98,11 @@ pub(crate) fn body_follows_on(
     let stop = block_stop(body.any, body.version);
     let mut before = Verdict::Skip;
     let mut left = cites;
-    for row in rows {
-        let Some(judged) = judged_row(lines, body.frame, body.site, row, left) else {
+    for index in 0..rows.len() {
+        let Some(row) = rows.get(index) else {
+            unreachable!()
+        };
+        let Some(judged) = judged_row(lines, body.frame, body.site, &row, left) else {
             return false;
         };
         before = joined(body.any, before, judged.verdict);

@@ -123,7 +123,10 @@ fn outcome_follows(
             let follows = value_follows(context, line, *value);
             Ok(making_nothing(context.alloc, follows))
         }
-        Outcome::Rows(rows) => all_rows_follow(context, line, rows.as_slice()),
+        Outcome::Rows(rows) => {
+            let rows = rows.gather(context.alloc)?;
+            all_rows_follow(context, line, rows.as_slice())
+        }
         Outcome::Verdict(verdict) => {
             let follows = verdict_follows(context, line, *verdict)?;
             Ok(making_nothing(context.alloc, follows))

@@ -6,9 +6,9 @@ ghost use Rattle.rule_names.specs.code.Files.{file_of};
 ghost use Rattle.evidence_rules.specs.CitedLines.{GivesExpr, GivesVariable};
 ghost use Rattle.evidence_checker.specs.code.FirstCites.{GivesAlone};
 
-use evidence_lines::LineList;
+use evidence_lines::{LineList, Rows};
 use evidence_lookups::cited_rows::{given_by_expr, given_by_variable};
-use guard_syntax::{Expr, Row};
+use guard_syntax::Expr;
 use rule_names::RuleFile;
 
 /// Of the variable that is used at a site.
@@ -18,10 +18,10 @@ pub(crate) fn variable_cited<'b>(
     frame: u64,
     site: u32,
     cites: &[u64],
-) -> Option<&'b [Row]>
+) -> Option<Rows<'b>>
     ensures { MatchOption result
         ((rows : List Row) → GivesAlone (GivesVariable (file_of file.now) lines.entry.now frame site) cites.now rows → ⊥)
-        (λ rows. GivesAlone (GivesVariable (file_of file.now) lines.entry.now frame site) cites.now rows.now) }
+        (λ rows. GivesAlone (GivesVariable (file_of file.now) lines.entry.now frame site) cites.now rows) }
 {
     match cites {
         [number] => given_by_variable(file, lines, frame, site, *number),
@@ -36,10 +36,10 @@ pub(crate) fn expr_cited<'b>(
     frame: u64,
     expr: &Expr,
     cites: &[u64],
-) -> Option<&'b [Row]>
+) -> Option<Rows<'b>>
     ensures { MatchOption result
         ((rows : List Row) → GivesAlone (GivesExpr (file_of file.now) lines.entry.now frame (see_expr expr.now)) cites.now rows → ⊥)
-        (λ rows. GivesAlone (GivesExpr (file_of file.now) lines.entry.now frame (see_expr expr.now)) cites.now rows.now) }
+        (λ rows. GivesAlone (GivesExpr (file_of file.now) lines.entry.now frame (see_expr expr.now)) cites.now rows) }
 {
     match cites {
         [number] => given_by_expr(file, lines, frame, expr, *number),

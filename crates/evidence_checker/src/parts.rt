@@ -122,7 +122,7 @@ fn block_follows(
         return false;
     };
     match given_by_query(context.store.file, &context.lines, body.frame, head, *first) {
-        Some(rows) => body_follows_on(&context.lines, body, rows, others, verdict),
+        Some(rows) => body_follows_on(&context.lines, body, &rows, others, verdict),
         None => false,
     }
 }
@@ -198,7 +198,7 @@ fn typed_follows(
         version: Version::One,
     };
     match rows_said(lines, *first, LineKind::Types, line.frame, line.site) {
-        Some(rows) => body_follows_on(lines, on_rows, rows, others, verdict),
+        Some(rows) => body_follows_on(lines, on_rows, &rows, others, verdict),
         None => false,
     }
 }

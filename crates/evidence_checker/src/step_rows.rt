@@ -15,7 +15,7 @@ ghost use Rattle.evidence_lookups.specs.code.Grounds.{file_in, known_of, lines_o
 use crate::one_cite::{expr_cited, variable_cited};
 use crate::row_equality::same_rows;
 use crate::tried_candidates::tried_verdicts;
-use evidence_lines::{LineKind, LineList};
+use evidence_lines::{LineKind, LineList, Rows};
 use evidence_lookups::cited_rows::given_by_step;
 use evidence_lookups::line_context::{LineContext, SitedLine};
 use evidence_lookups::lookup::value_of;
@@ -94,13 +94,15 @@ fn other_follows(
     let Some(further) = rows_further(file, lines, line.frame, at.step, last) else {
         return Ok(false);
     };
+    let before = before.gather(context.alloc)?;
+    let further = further.gather(context.alloc)?;
     let due = rows_due(
         context.alloc,
         file,
         line.site,
         current,
-        before,
-        further,
+        before.as_slice(),
+        further.as_slice(),
         &[],
         context.store,
         context.book,
@@ -135,6 +137,8 @@ fn filter_follows(
     let Some((before, last)) = rows_before(file, lines, line, at.query, index) else {
         return Ok(false);
     };
+    let gathered = before.gather(context.alloc)?;
+    let before = gathered.as_slice();
     let tried = candidates(context.alloc, file, line.site, before, context.store)?;
     let judges = SitedLine {
         frame: line.frame,
@@ -178,7 +182,8 @@ fn capture_follows(
     let Some(kept) = given_by_step(file, &context.lines, line.frame, step, *number) else {
         return Ok(false);
     };
-    let due = captured(context.alloc, kept, context.store)?;
+    let kept = kept.gather(context.alloc)?;
+    let due = captured(context.alloc, kept.as_slice(), context.store)?;
     Ok(same_rows(rows, &due))
 }
 
@@ -190,14 +195,14 @@ fn rows_before<'b>(
     line: SitedLine<'b>,
     query: &Query,
     index: usize,
-) -> Option<(&'b [Row], &'b [u64])>
+) -> Option<(Rows<'b>, &'b [u64])>
     ensures { (known : StoreModel) → known.file ≡ file_of file.now → MatchOption result
         ((first last : List ℕ) → (rows : List row.Row) → line.entry.cites.now ≡ first ++ last → GivesBefore known lines.entry.now line.entry.frame (see_query query.now) index first rows → ⊥)
-        (λ found. (first : List ℕ) × (line.entry.cites.now ≡ first ++ found.1.now) × GivesBefore known lines.entry.now line.entry.frame (see_query query.now) index first found.0.now) }
+        (λ found. (first : List ℕ) × (line.entry.cites.now ≡ first ++ found.1.now) × GivesBefore known lines.entry.now line.entry.frame (see_query query.now) index first found.0) }
 {
     let cites = line.cites;
     if index == 0 {
-        return Some((&[], cites));
+        return Some((Rows::new(&[]), cites));
     }
     let [number, last @ ..] = cites else {
         return None;
@@ -218,10 +223,10 @@ fn rows_further<'b>(
     frame: u64,
     step: &Step,
     cites: &[u64],
-) -> Option<&'b [Row]>
+) -> Option<Rows<'b>>
     ensures { (known : StoreModel) → known.file ≡ file_of file.now → MatchOption result
         ((rows : List row.Row) → GivesFurther known lines.entry.now frame (see_step step.now) cites.now rows → ⊥)
-        (λ rows. GivesFurther known lines.entry.now frame (see_step step.now) cites.now rows.now) }
+        (λ rows. GivesFurther known lines.entry.now frame (see_step step.now) cites.now rows) }
 {
     match &step.form {
         StepForm::Var(_) => variable_cited(file, lines, frame, step.site, cites),
@@ -229,7 +234,7 @@ fn rows_further<'b>(
         StepForm::Keys { right, .. } => expr_cited(file, lines, frame, right, cites),
         StepForm::Filter(..) => None,
         _ => match cites {
-            [] => Some(&[]),
+            [] => Some(Rows::new(&[])),
             _ => None,
         },
     }

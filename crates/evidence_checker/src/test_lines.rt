@@ -15,7 +15,7 @@ ghost use Rattle.evidence_lookups.specs.code.Grounds.{known_of, lines_of};
 ghost use Rattle.evidence_checker.specs.code.TestedRows.{holds_for};
 
 use crate::one_cite::expr_cited;
-use evidence_lines::LineList;
+use evidence_lines::{LineList, Rows};
 use evidence_lookups::cited_rows::given_by_query;
 use evidence_lookups::expression_lines::is_found;
 use evidence_lookups::line_context::{LineContext, SitedLine};
@@ -56,7 +56,9 @@ pub(crate) fn test_follows(
     let Some(rights) = given_at_right(file, &context.lines, line.frame, asks.right, others) else {
         return Ok(false);
     };
-    let said = test_of_rows(context, asks, lefts, rights)?;
+    let lefts = lefts.gather(context.alloc)?;
+    let rights = rights.gather(context.alloc)?;
+    let said = test_of_rows(context, asks, lefts.as_slice(), rights.as_slice())?;
     Ok(verdict == said)
 }
 
@@ -67,15 +69,15 @@ fn given_at_right<'b>(
     frame: u64,
     right: &Option<Expr>,
     cites: &[u64],
-) -> Option<&'b [Row]>
+) -> Option<Rows<'b>>
     ensures { (known : StoreModel) → known.file ≡ file_of file.now → MatchOption result
         ((rows : List Row) → GivesRight known lines.entry.now frame (see_opt_expr right.now) cites.now rows → ⊥)
-        (λ rows. GivesRight known lines.entry.now frame (see_opt_expr right.now) cites.now rows.now) }
+        (λ rows. GivesRight known lines.entry.now frame (see_opt_expr right.now) cites.now rows) }
 {
     match right {
         Some(expr) => expr_cited(file, lines, frame, expr, cites),
         None => match cites {
-            [] => Some(&[]),
+            [] => Some(Rows::new(&[])),
             _ => None,
         },
     }

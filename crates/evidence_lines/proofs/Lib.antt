@@ -5,7 +5,9 @@ pub mod Fields
 pub mod HeldLines
 pub mod Lines
 pub mod Lists
+pub mod NodeRows
 pub mod Numbers
+pub mod SameRows
 pub mod Scans
 pub mod Texts
 pub mod Values

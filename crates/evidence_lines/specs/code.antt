@@ -2,4 +2,6 @@
 pub mod Held
 pub mod Memory
 pub mod Reading
+pub mod RowsSeen
+pub mod Said
 pub mod Seen

@@ -1,10 +1,12 @@
 //! Lines of evidence by their numbers.
 ghost use Rattle.std.specs.Prelude.{◌≡◌, ◌++◌, ◌∷◌, ◌^◌, ◌<◌, ◌≤◌, ◌↔◌, [], length, take, IfOk, IsOk, IsSome, OnErr};
 ghost use Rattle.evidence_lines.specs.Lines.{line_of};
+ghost use Rattle.evidence_lines.specs.code.Said.{kind_at, verdict_at};
 
 use crate::held::Held;
-use crate::line::Line;
+use crate::line::{Line, LineKind};
 use crate::version::Version;
+use guard_syntax::Verdict;
 use std::alloc::{AllocError, Global};
 use std::marker::Model;
 
@@ -55,6 +57,26 @@ impl<'a> LineList<'a> {
             return None;
         }
         self.held.line((number - 1) as usize)
+    }
+
+    /// The kind of the line of a number. Nothing else of the line is looked at.
+    pub fn kind_at(&self, number: u64) -> Option<LineKind>
+        ensures { result ≡ kind_at self.now number }
+    {
+        if number == 0 || number > self.count {
+            return None;
+        }
+        self.held.kind((number - 1) as usize)
+    }
+
+    /// The verdict that the line of a number says, if it says one. Nothing else of the line is looked at.
+    pub fn verdict_at(&self, number: u64) -> Option<Verdict>
+        ensures { result ≡ verdict_at self.now number }
+    {
+        if number == 0 || number > self.count {
+            return None;
+        }
+        self.held.verdict((number - 1) as usize)
     }
 
     /// How many lines there are. It takes no memory.
@@ -136,6 +158,13 @@ impl Evidence {
         ensures some { IsSome result ↔ ((1 ≤ number) × (number ≤ length self.entry.now.lines)) }
     {
         self.lines().get(number)
+    }
+
+    /// The kind of the line of a number. Nothing else of the line is looked at.
+    pub fn kind_at(&self, number: u64) -> Option<LineKind>
+        ensures { result ≡ kind_at self.now.lines number }
+    {
+        self.lines().kind_at(number)
     }
 
     /// How many lines there are. It takes no memory.

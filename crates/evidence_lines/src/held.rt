@@ -1,14 +1,19 @@
 //! Lines as evidence holds them: each in a few numbers, what they cite and the rows that they say behind one another.
-ghost use Rattle.std.specs.Prelude.{◌≡◌, ◌++◌, ◌∷◌, [], List, ℕ, IfOk, IfSome, IsOk, OnErr, OnOk, length, slice_get};
+ghost use Rattle.std.specs.Prelude.{◌≡◌, ◌<◌, ◌++◌, ◌∷◌, [], List, ℕ, IfOk, IfSome, IsOk, OnErr, OnOk, length, option_and_then, option_map, slice_get, true};
 ghost use Rattle.evidence_lines.specs.code.Held.{HasPlace, HasRows, HasSpan, IsCut, IsHeld, IsRun, cut_run, cut_span, frame_at, node_ref, outcome_at, rows_form, see_lines, site_at, span_at, span_of, value_in};
+ghost use Rattle.evidence_lines.specs.code.Said.{said_verdict};
 ghost use Rattle.evidence_lines.specs.declared.held.Place.{Place};
+ghost use Rattle.evidence_lines.specs.declared.held.RunForm.TheVariants as held_as;
 ghost use Rattle.evidence_lines.specs.declared.held.Span.{Span};
 ghost use Rattle.evidence_lines.specs.declared.line.Outcome.TheVariants as says;
 ghost use Rattle.guard_syntax.specs.declared.row.Row as declared;
 
-use crate::line::{Cites, Line, LineKind, Outcome, Rows};
+use crate::line::{Cites, Line, LineKind, Outcome, Rows, RowsForm};
+use crate::node_rows::{are_node_rows, hold_node_rows, hold_nodes, nodes_of};
+use crate::remembered::{Remembered, remember, remember_run, shared_row, shared_run};
 use guard_syntax::{Origin, Ref, Row, Verdict};
 use std::alloc::{AllocError, Global};
+use std::slice;
 
 /// Neighbours in a vector: the index of the first, and how many they are.
 #[derive(Clone, Copy)]
@@ -50,12 +55,18 @@ pub(crate) enum SaidForm {
     Key,
     /// The value of its row.
     Value,
+    /// One row: the value at a node of the template, whose number is held.
+    NodeRow,
+    /// The key of it.
+    KeyRow,
     /// Rows, of which there are none.
     NoRows,
     Row,
     TwoRows,
     /// More rows.
     Rows,
+    /// More, all of them values at nodes of the template: the span is one of nodes.
+    NodeRows,
     Pass,
     Fail,
     Skip,
@@ -88,10 +99,12 @@ pub(crate) struct Held {
     pub cites: Vec<u64>,
     pub cite_spans: Vec<Span>,
     pub rows: Vec<Row>,
+    /// In place of rows that are the values at them.
+    pub nodes: Vec<u32>,
+    /// Of rows and of nodes.
     pub row_spans: Vec<Span>,
     pub places: Vec<Place>,
-    /// For the site of a literal the index of a row, which is the value of the literal if that was said.
-    pub literals: Vec<u32>,
+    pub remembered: Remembered,
 }
 
 /// How a place is held, with its numbers.
@@ -111,13 +124,10 @@ struct HeldRun {
 
 /// How what a line says is held, with its number.
 #[derive(Clone, Copy)]
-struct HeldSaid {
-    form: SaidForm,
-    at: u32,
+pub(crate) struct HeldSaid {
+    pub form: SaidForm,
+    pub at: u32,
 }
-
-/// Where values of literals are remembered: so many sites, which take 4 bytes each.
-const REMEMBERED: u32 = 1 << 16;
 
 impl Held {
     /// No lines. It takes no memory.
@@ -130,9 +140,10 @@ impl Held {
             cites: Vec::new(alloc),
             cite_spans: Vec::new(alloc),
             rows: Vec::new(alloc),
+            nodes: Vec::new(alloc),
             row_spans: Vec::new(alloc),
             places: Vec::new(alloc),
-            literals: Vec::new(alloc),
+            remembered: Remembered::new(alloc),
         }
     }
 
@@ -147,9 +158,10 @@ impl Held {
             cites: Vec::new(alloc),
             cite_spans: Vec::new(alloc),
             rows: Vec::new(alloc),
+            nodes: Vec::new(alloc),
             row_spans: Vec::new(alloc),
             places: Vec::new(alloc),
-            literals: Vec::new(alloc),
+            remembered: Remembered::new(alloc),
         })
     }
 
@@ -164,8 +176,28 @@ impl Held {
             frame: frame_at(&self.places, held.place, held.frame),
             site: site_at(&self.places, held.place, held.frame, held.site),
             cites: Cites::new(cites_at(&self.cites, &self.cite_spans, held.cites, held.cites_at)),
-            outcome: outcome_at(&self.rows, &self.row_spans, held.said, held.said_at),
+            outcome: outcome_at(
+                &self.rows,
+                &self.nodes,
+                &self.row_spans,
+                held.said,
+                held.said_at,
+            ),
         })
+    }
+
+    /// The kind of the line at an index.
+    pub(crate) fn kind(&self, index: usize) -> Option<LineKind>
+        ensures { result ≡ option_map (λ l. l.kind) (slice_get (see_lines self.now) index) }
+    {
+        Some(self.lines.get(index)?.kind)
+    }
+
+    /// The verdict that the line at an index says, if it says one.
+    pub(crate) fn verdict(&self, index: usize) -> Option<Verdict>
+        ensures { result ≡ option_and_then (λ l. said_verdict l.outcome) (slice_get (see_lines self.now) index) }
+    {
+        verdict_in(self.lines.get(index)?.said)
     }
 
     /// Adds a line behind the others. Where memory is wanting, what was added of it belongs to no line.
@@ -178,8 +210,9 @@ impl Held {
         let cites = hold_cites(&mut self.cites, &mut self.cite_spans, line.cites.as_slice())?;
         let said = hold_outcome(
             &mut self.rows,
+            &mut self.nodes,
             &mut self.row_spans,
-            &mut self.literals,
+            &mut self.remembered,
             line.outcome,
         )?;
         let place = hold_place(&mut self.places, line.frame, line.site)?;
@@ -212,7 +245,7 @@ fn span_at(spans: &[Span], form: RunForm, at: u32) -> Span
     }
 }
 
-fn span_of(start: u32, count: u32) -> Span
+pub(crate) fn span_of(start: u32, count: u32) -> Span
     ensures { result ≡ span_of start count }
 {
     Span { start, count }
@@ -228,7 +261,7 @@ fn cited(cites: &[u64], span: Span) -> &[u64]
 }
 
 /// The rows of a span.
-fn rows_of(rows: &[Row], span: Span) -> &[Row]
+pub(crate) fn rows_of(rows: &[Row], span: Span) -> &[Row]
     requires { IsCut (length rows.now) span }
     ensures { result.now ≡ cut_span rows.entry.now span }
 {
@@ -275,21 +308,54 @@ fn site_at(places: &[Place], form: PlaceForm, frame: u32, site: u32) -> Option<u
 }
 
 /// What is said, by its form.
-fn outcome_at<'a>(rows: &'a [Row], spans: &[Span], form: SaidForm, at: u32) -> Outcome<'a>
-    requires { HasRows (length rows.now) spans.now form at }
-    ensures { result ≡ outcome_at rows.entry.now spans.now form at }
+fn outcome_at<'a>(
+    rows: &'a [Row],
+    nodes: &'a [u32],
+    spans: &[Span],
+    form: SaidForm,
+    at: u32,
+) -> Outcome<'a>
+    requires { HasRows (length rows.now) (length nodes.now) spans.now form at }
+    ensures { result ≡ outcome_at rows.entry.now nodes.entry.now spans.now form at }
 {
     match form {
         SaidForm::Node => Outcome::Value(node_ref(false, at)),
         SaidForm::Key => Outcome::Value(node_ref(true, at)),
         SaidForm::Value => Outcome::Value(value_in(rows_at(rows, spans, RunForm::One, at))),
+        SaidForm::NodeRow => Outcome::Rows(Rows::one(Row::Found(node_ref(false, at)))),
+        SaidForm::KeyRow => Outcome::Rows(Rows::one(Row::Found(node_ref(true, at)))),
         SaidForm::NoRows => Outcome::Rows(Rows::new(rows_at(rows, spans, RunForm::None, at))),
         SaidForm::Row => Outcome::Rows(Rows::new(rows_at(rows, spans, RunForm::One, at))),
         SaidForm::TwoRows => Outcome::Rows(Rows::new(rows_at(rows, spans, RunForm::Two, at))),
         SaidForm::Rows => Outcome::Rows(Rows::new(rows_at(rows, spans, RunForm::More, at))),
+        SaidForm::NodeRows => Outcome::Rows(Rows::nodes(nodes_of(
+            nodes,
+            span_at(spans, RunForm::More, at),
+        ))),
         SaidForm::Pass => Outcome::Verdict(Verdict::Pass),
         SaidForm::Fail => Outcome::Verdict(Verdict::Fail),
         SaidForm::Skip => Outcome::Verdict(Verdict::Skip),
+    }
+}
+
+/// The verdict of a form.
+fn verdict_in(form: SaidForm) -> Option<Verdict>
+    ensures { (rows : List declared.Row) (nodes : List ℕ) (spans : List Span) (at : ℕ) → result ≡ said_verdict (outcome_at rows nodes spans form at) }
+{
+    match form {
+        SaidForm::Node
+        | SaidForm::Key
+        | SaidForm::Value
+        | SaidForm::NodeRow
+        | SaidForm::KeyRow
+        | SaidForm::NoRows
+        | SaidForm::Row
+        | SaidForm::TwoRows
+        | SaidForm::Rows
+        | SaidForm::NodeRows => None,
+        SaidForm::Pass => Some(Verdict::Pass),
+        SaidForm::Fail => Some(Verdict::Fail),
+        SaidForm::Skip => Some(Verdict::Skip),
     }
 }
 
@@ -366,24 +432,24 @@ fn hold_span(into: &mut Vec<Span>, span: Span) -> Result<HeldRun, AllocError>
             form: RunForm::Two,
             at,
         }),
-        _ => hold_long(into, span),
+        _ => Ok(HeldRun {
+            form: RunForm::More,
+            at: hold_long(into, span)?,
+        }),
     }
 }
 
-/// Holds a span beside the lines.
-fn hold_long(into: &mut Vec<Span>, span: Span) -> Result<HeldRun, AllocError>
+/// Holds a span beside the lines, and answers its number.
+pub(crate) fn hold_long(into: &mut Vec<Span>, span: Span) -> Result<u32, AllocError>
     ensures more { (more : List Span) × (into.new.items ≡ into.old.items ++ more) }
-    ensures held { IfOk result (λ run. HasSpan (length into.new.items) run.form run.at × (span_at into.new.items run.form run.at ≡ span)) }
+    ensures held { IfOk result (λ at. HasSpan (length into.new.items) held_as.More at × (span_at into.new.items held_as.More at ≡ span)) }
 {
     // So many spans take more memory than there is.
     let Ok(at) = u32::try_from(into.len()) else {
         return Err(AllocError);
     };
     into.push(span)?;
-    Ok(HeldRun {
-        form: RunForm::More,
-        at,
-    })
+    Ok(at)
 }
 
 /// Holds the cites of a line.
@@ -412,95 +478,130 @@ fn rows_form(form: RunForm) -> SaidForm
     }
 }
 
-/// The site of the literal that a row is a value of.
-fn literal_of(row: &Row) -> Option<u32> {
-    match row {
-        Row::Found(
-            Ref {
-                origin: Origin::Literal(site),
-                ..
-            },
-        ) => Some(*site),
-        _ => None,
-    }
-}
-
-/// The index of a row that is held and is the only one of these, if they are a value of a literal.
-fn shared_row(held: &[Row], literals: &[u32], rows: &[Row]) -> Option<u32>
-    ensures { IfSome result (λ at. IsCut (length held.now) (span_of at 1) × (cut_span held.now (span_of at 1) ≡ rows.now)) }
+/// A span, where it lies within so many items.
+fn within(span: Span, many: usize) -> Option<Span>
+    ensures { IfSome result (λ inside. (inside ≡ span) × IsCut many inside) }
 {
-    let [row] = rows else {
-        return None;
-    };
-    let at = *literals.get(literal_of(row)? as usize)?;
-    if held.get(at as usize)? == row {
-        Some(at)
+    if span.start as usize + span.count as usize <= many {
+        Some(span)
     } else {
         None
     }
 }
 
-/// Remembers where the value of a literal is held.
-fn remember(literals: &mut Vec<u32>, rows: &[Row], at: u32) -> Result<(), AllocError> {
-    let [row] = rows else {
-        return Ok(());
-    };
-    let Some(site) = literal_of(row) else {
-        return Ok(());
-    };
-    if site >= REMEMBERED {
-        return Ok(());
+/// The span of a number, where there is one and it lies within so many items.
+pub(crate) fn held_span(many: usize, spans: &[Span], at: u32) -> Option<Span>
+    ensures { IfSome result (λ span. IsRun many spans.now held_as.More at × (span_at spans.now held_as.More at ≡ span)) }
+{
+    match spans.get(at as usize) {
+        Some(span) => within(*span, many),
+        None => None,
     }
-    let site = site as usize;
-    if site >= literals.len() {
-        literals.resize(site + 1, 0)?;
-    }
-    if let Some(place) = literals.get_mut(site) {
-        *place = at;
-    }
-    Ok(())
 }
 
-/// Holds the rows of a line. A literal has one value, which is said wherever its expression is evaluated: so it is held once.
-fn hold_rows(
+/// Holds an only row in place, if it is a value of the template.
+fn in_place(rows: &[Row]) -> Option<HeldSaid>
+    ensures { IfSome result (λ said. (held : List declared.Row) (nodes : List ℕ) (spans : List Span)
+        → HasRows (length held) (length nodes) spans said.form said.at × (outcome_at held nodes spans said.form said.at ≡ says.Rows rows.now)) }
+{
+    let [Row::Found(value)] = rows else {
+        return None;
+    };
+    match value.origin {
+        Origin::Template => Some(HeldSaid {
+            form: if value.key {
+                SaidForm::KeyRow
+            } else {
+                SaidForm::NodeRow
+            },
+            at: value.node,
+        }),
+        _ => None,
+    }
+}
+
+/// Holds rows: an only row that is a value of the template in place. A literal has one value, which is said wherever its
+/// expression is evaluated, and rules ask for the same rows of the same queries: so these are held once.
+fn hold_any_rows(
     into: &mut Vec<Row>,
     spans: &mut Vec<Span>,
-    literals: &mut Vec<u32>,
+    remembered: &mut Remembered,
     rows: &[Row],
 ) -> Result<HeldSaid, AllocError>
     ensures more { (more : List declared.Row) × (into.new.items ≡ into.old.items ++ more) }
     ensures spans { (more : List Span) × (spans.new.items ≡ spans.old.items ++ more) }
-    ensures held { IfOk result (λ said. HasRows (length into.new.items) spans.new.items said.form said.at × (outcome_at into.new.items spans.new.items said.form said.at ≡ says.Rows rows.now)) }
+    ensures held { (nodes : List ℕ) → IfOk result (λ said. HasRows (length into.new.items) (length nodes) spans.new.items said.form said.at
+        × (outcome_at into.new.items nodes spans.new.items said.form said.at ≡ says.Rows rows.now)) }
 {
-    if let Some(at) = shared_row(into, literals, rows) {
+    if let Some(said) = in_place(rows) {
+        return Ok(said);
+    }
+    if let Some(at) = shared_row(into, &remembered.literals, rows) {
         return Ok(HeldSaid {
             form: SaidForm::Row,
             at,
         });
     }
+    if let Some(at) = shared_run(into, spans, &remembered.runs, rows) {
+        return Ok(HeldSaid {
+            form: SaidForm::Rows,
+            at,
+        });
+    }
     let span = add_rows(into, rows)?;
-    remember(literals, rows, span.start)?;
+    remember(&mut remembered.literals, rows, span.start)?;
     let run = hold_span(spans, span)?;
+    remember_run(&mut remembered.runs, rows, run.at)?;
     Ok(HeldSaid {
         form: rows_form(run.form),
         at: run.at,
     })
 }
 
+/// Holds the rows of a line: more than two that are all values at nodes of the template by the numbers of the nodes.
+fn hold_rows(
+    into: &mut Vec<Row>,
+    nodes: &mut Vec<u32>,
+    spans: &mut Vec<Span>,
+    remembered: &mut Remembered,
+    rows: &[Row],
+) -> Result<HeldSaid, AllocError>
+    ensures more { (more : List declared.Row) × (into.new.items ≡ into.old.items ++ more) }
+    ensures nodes { (more : List ℕ) × (nodes.new.items ≡ nodes.old.items ++ more) }
+    ensures spans { (more : List Span) × (spans.new.items ≡ spans.old.items ++ more) }
+    ensures held { IfOk result (λ said. HasRows (length into.new.items) (length nodes.new.items) spans.new.items said.form said.at
+        × (outcome_at into.new.items nodes.new.items spans.new.items said.form said.at ≡ says.Rows rows.now)) }
+{
+    if rows.len() > 2 && are_node_rows(rows) {
+        hold_node_rows(nodes, spans, &mut remembered.runs, rows)
+    } else {
+        hold_any_rows(into, spans, remembered, rows)
+    }
+}
+
 /// Holds what a line says.
 fn hold_outcome(
     into: &mut Vec<Row>,
+    nodes: &mut Vec<u32>,
     spans: &mut Vec<Span>,
-    literals: &mut Vec<u32>,
+    remembered: &mut Remembered,
     outcome: Outcome<'_>,
 ) -> Result<HeldSaid, AllocError>
     ensures more { (more : List declared.Row) × (into.new.items ≡ into.old.items ++ more) }
+    ensures nodes { (more : List ℕ) × (nodes.new.items ≡ nodes.old.items ++ more) }
     ensures spans { (more : List Span) × (spans.new.items ≡ spans.old.items ++ more) }
-    ensures held { IfOk result (λ said. HasRows (length into.new.items) spans.new.items said.form said.at × (outcome_at into.new.items spans.new.items said.form said.at ≡ outcome.entry)) }
+    ensures held { IfOk result (λ said. HasRows (length into.new.items) (length nodes.new.items) spans.new.items said.form said.at
+        × (outcome_at into.new.items nodes.new.items spans.new.items said.form said.at ≡ outcome.entry)) }
 {
     match outcome {
         Outcome::Value(value) => hold_value(into, value),
-        Outcome::Rows(rows) => hold_rows(into, spans, literals, rows.as_slice()),
+        Outcome::Rows(rows) => match rows.form {
+            RowsForm::Slice(items) => hold_rows(into, nodes, spans, remembered, items),
+            RowsForm::One(row) => {
+                hold_rows(into, nodes, spans, remembered, slice::from_ref(&row))
+            }
+            RowsForm::Nodes(others) => hold_nodes(nodes, spans, others),
+        },
         Outcome::Verdict(verdict) => Ok(hold_verdict(verdict)),
     }
 }
@@ -508,7 +609,8 @@ fn hold_outcome(
 /// Holds a value: one of the template in place, any other as a row.
 fn hold_value(into: &mut Vec<Row>, value: Ref) -> Result<HeldSaid, AllocError>
     ensures more { (more : List declared.Row) × (into.new.items ≡ into.old.items ++ more) }
-    ensures held { (spans : List Span) → IfOk result (λ said. HasRows (length into.new.items) spans said.form said.at × (outcome_at into.new.items spans said.form said.at ≡ says.Value value)) }
+    ensures held { (nodes : List ℕ) (spans : List Span) → IfOk result (λ said. HasRows (length into.new.items) (length nodes) spans said.form said.at
+        × (outcome_at into.new.items nodes spans said.form said.at ≡ says.Value value)) }
 {
     match value.origin {
         Origin::Template => Ok(HeldSaid {
@@ -531,7 +633,8 @@ fn hold_value(into: &mut Vec<Row>, value: Ref) -> Result<HeldSaid, AllocError>
 
 /// Holds a verdict.
 fn hold_verdict(verdict: Verdict) -> HeldSaid
-    ensures { (many : ℕ) (rows : List declared.Row) (spans : List Span) → HasRows many spans result.form result.at × (outcome_at rows spans result.form result.at ≡ says.Verdict verdict) }
+    ensures { (many others : ℕ) (rows : List declared.Row) (nodes : List ℕ) (spans : List Span) → HasRows many others spans result.form result.at
+        × (outcome_at rows nodes spans result.form result.at ≡ says.Verdict verdict) }
 {
     HeldSaid {
         form: match verdict {

@@ -7,15 +7,19 @@
 
 pub mod evidence;
 mod field;
+mod gathered;
 mod held;
 pub mod laws;
 pub mod line;
+mod node_rows;
 pub mod print;
 pub mod read;
 pub mod refusal;
+mod remembered;
 pub mod version;
 
 pub use evidence::{Evidence, LineList};
+pub use gathered::Gathered;
 pub use laws::one_text;
 pub use line::{Cites, Line, LineKind, Outcome, Rows, Sort};
 pub use print::print_line;

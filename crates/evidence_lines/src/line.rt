@@ -1,11 +1,16 @@
 //! A line of evidence.
-ghost use Rattle.std.specs.Prelude.{◌≡◌};
+ghost use Rattle.std.specs.Prelude.{◌≡◌, ◌∷◌, [], IfOk, length, map, slice_get};
 ghost use Rattle.evidence_lines.specs.code.Reading.{kind_in};
+ghost use Rattle.evidence_lines.specs.code.RowsSeen.{node_row};
 ghost use Rattle.evidence_lines.specs.Shapes.{is_placed, may_cite, sort_of};
 ghost use Rattle.evidence_lines.specs.Spelling.{kind_text};
 
+use crate::gathered::Gathered;
+use crate::node_rows::{node_row, rows_of_nodes};
 use guard_syntax::{Ref, Row, Verdict};
+use std::alloc::{AllocError, Global};
 use std::marker::Model;
+use std::slice;
 
 /// What a line is about.
 #[derive(Clone, Copy, PartialEq, Eq)]
@@ -193,19 +198,31 @@ impl<'a> Cites<'a> {
     }
 }
 
+/// Where the rows that a line says stand.
+#[derive(Clone, Copy)]
+pub(crate) enum RowsForm<'a> {
+    /// In a slice.
+    Slice(&'a [Row]),
+    /// Here: it is one.
+    One(Row),
+    /// Nowhere: they are the values at these nodes of the template.
+    Nodes(&'a [u32]),
+}
+
 /// The rows that a line says, in order. Contracts see a list.
 #[derive(Drop)]
 pub struct Rows<'a> {
-    items: &'a [Row],
+    pub(crate) form: RowsForm<'a>,
 }
 
 impl<'a> Model for Rows<'a> {
     ghost use Rattle.std.specs.Prelude.{List};
+    ghost use Rattle.evidence_lines.specs.code.RowsSeen.{see_rows};
     ghost use Rattle.guard_syntax.specs.declared.row.Row.{Row};
 
     ghost Value = { List Row };
 
-    ghost view = { λ r. r.items.now };
+    ghost view = { λ r. see_rows r.form };
 }
 
 impl<'a> Rows<'a> {
@@ -213,15 +230,82 @@ impl<'a> Rows<'a> {
     pub fn new(items: &'a [Row]) -> Rows<'a>
         ensures { result ≡ items.entry.now }
     {
-        Rows { items }
+        Rows {
+            form: RowsForm::Slice(items),
+        }
     }
 
-    /// The rows themselves.
-    pub fn as_slice(&self) -> &'a [Row]
-        ensures { result.now ≡ self.entry.now }
+    /// One row, which is held here: it borrows from nothing.
+    pub fn one(row: Row) -> Rows<'a>
+        ensures { result ≡ row ∷ [] }
     {
-        self.items
+        Rows {
+            form: RowsForm::One(row),
+        }
     }
+
+    /// The values at nodes of the template, in their order.
+    pub(crate) fn nodes(nodes: &'a [u32]) -> Rows<'a>
+        ensures { result ≡ map node_row nodes.entry.now }
+    {
+        Rows {
+            form: RowsForm::Nodes(nodes),
+        }
+    }
+
+    /// How many they are. It takes no memory.
+    pub fn len(&self) -> usize
+        ensures { result ≡ length self.now }
+    {
+        match &self.form {
+            RowsForm::Slice(items) => items.len(),
+            RowsForm::One(_) => 1,
+            RowsForm::Nodes(nodes) => nodes.len(),
+        }
+    }
+
+    /// The row at an index. It takes no memory.
+    pub fn get(&self, index: usize) -> Option<Row>
+        ensures { result ≡ slice_get self.now index }
+    {
+        match &self.form {
+            RowsForm::Slice(items) => items.get(index).copied(),
+            RowsForm::One(row) => slice::from_ref(row).get(index).copied(),
+            RowsForm::Nodes(nodes) => Some(node_row(*nodes.get(index)?)),
+        }
+    }
+
+    /// The rows side by side. Memory is taken only where they stand nowhere: those of a run of more than two values of the
+    /// template, of which evidence holds the nodes.
+    pub fn gather(&self, alloc: Global) -> Result<Gathered<'a>, AllocError>
+        ensures { IfOk result (λ rows. rows ≡ self.entry.now) }
+    {
+        match &self.form {
+            RowsForm::Slice(items) => Ok(Gathered::slice(items)),
+            RowsForm::One(row) => Ok(Gathered::one(*row)),
+            RowsForm::Nodes(nodes) => Ok(Gathered::made(rows_of_nodes(alloc, nodes)?)),
+        }
+    }
+
+    /// The rows in a vector of their own.
+    pub fn to_vec(&self, alloc: Global) -> Result<Vec<Row>, AllocError>
+        ensures { IfOk result (λ rows. rows.items ≡ self.now) }
+    {
+        match &self.form {
+            RowsForm::Slice(items) => copies(alloc, items),
+            RowsForm::One(row) => copies(alloc, slice::from_ref(row)),
+            RowsForm::Nodes(nodes) => rows_of_nodes(alloc, nodes),
+        }
+    }
+}
+
+/// Rows in a vector of their own.
+fn copies(alloc: Global, rows: &[Row]) -> Result<Vec<Row>, AllocError>
+    ensures { IfOk result (λ made. made.items ≡ rows.now) }
+{
+    let mut made = Vec::new(alloc);
+    made.extend_from_slice(rows)?;
+    Ok(made)
 }
 
 /// What a line says.

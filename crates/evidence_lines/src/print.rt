@@ -1,13 +1,16 @@
 //! Evidence, printed.
-ghost use Rattle.std.specs.Prelude.{◌≡◌, ◌++◌, ◌∷◌, [], All, IfOk, IfSome, OnErr, OnOk, decimal};
+ghost use Rattle.std.specs.Prelude.{◌≡◌, ◌++◌, ◌∷◌, [], All, IfOk, IfSome, OnErr, OnOk, decimal, map};
 ghost use Rattle.std.specs.List.{flat_map};
 ghost use Rattle.evidence_lines.specs.Shapes.{HasShape, IsBounded, IsCount, IsOriginBounded, IsOutcomeBounded, IsPlace, IsRefBounded, IsRowBounded};
+ghost use Rattle.evidence_lines.specs.code.RowsSeen.{node_row};
 ghost use Rattle.evidence_lines.specs.Spelling.{fields_text, further_text, key_text, line_text, list_text, missing_text, optional_text, origin_text, outcome_text, part_text, ref_text, row_text, verdict_text};
 
-use crate::line::{Line, Outcome};
+use crate::line::{Line, Outcome, Rows, RowsForm};
+use crate::node_rows::node_row;
 use guard_syntax::{Origin, Ref, Row, Verdict};
 use itoa::Buffer;
 use std::alloc::{AllocError, Global};
+use std::slice;
 
 /// Appends the text of a line, with its newline. On a refusal nothing is appended. That the numbers are below their bounds
 /// is known of every line that the code has, and said here for who reads the text again.
@@ -129,7 +132,7 @@ fn push_outcome(text: &mut Vec<u8>, outcome: &Outcome<'_>) -> Result<(), AllocEr
 {
     match outcome {
         Outcome::Value(value) => push_ref(text, *value),
-        Outcome::Rows(rows) => push_rows(text, rows.as_slice()),
+        Outcome::Rows(rows) => push_said(text, rows),
         Outcome::Verdict(verdict) => {
             text.push(verdict_sign(*verdict))?;
             Ok(())
@@ -144,6 +147,18 @@ fn verdict_sign(verdict: Verdict) -> u8
         Verdict::Pass => b'P',
         Verdict::Fail => b'F',
         Verdict::Skip => b'S',
+    }
+}
+
+/// Appends the rows that a line says.
+fn push_said(text: &mut Vec<u8>, rows: &Rows<'_>) -> Result<(), AllocError>
+    ensures printed { OnOk result (text.new.items ≡ text.old.items ++ list_text row_text rows.now) }
+    ensures bounded { OnOk result (All IsRowBounded rows.now) }
+{
+    match &rows.form {
+        RowsForm::Slice(items) => push_rows(text, items),
+        RowsForm::One(row) => push_rows(text, slice::from_ref(row)),
+        RowsForm::Nodes(nodes) => push_nodes(text, nodes),
     }
 }
 
@@ -172,6 +187,35 @@ fn push_further_rows(text: &mut Vec<u8>, rows: &[Row]) -> Result<(), AllocError>
     for row in rows {
         text.push(b',')?;
         push_row(text, *row)?;
+    }
+    Ok(())
+}
+
+/// Appends the values at nodes of the template, as rows, with commas between them, or `-` for none.
+fn push_nodes(text: &mut Vec<u8>, nodes: &[u32]) -> Result<(), AllocError>
+    ensures printed { OnOk result (text.new.items ≡ text.old.items ++ list_text row_text (map node_row nodes.now)) }
+    ensures bounded { OnOk result (All IsRowBounded (map node_row nodes.now)) }
+{
+    match nodes {
+        [] => {
+            text.push(b'-')?;
+            Ok(())
+        }
+        [first, others @ ..] => {
+            push_row(text, node_row(*first))?;
+            push_further_nodes(text, others)
+        }
+    }
+}
+
+/// Appends a comma and a value as a row, for each.
+fn push_further_nodes(text: &mut Vec<u8>, nodes: &[u32]) -> Result<(), AllocError>
+    ensures printed { OnOk result (text.new.items ≡ text.old.items ++ flat_map (further_text row_text) (map node_row nodes.now)) }
+    ensures bounded { OnOk result (All IsRowBounded (map node_row nodes.now)) }
+{
+    for node in nodes {
+        text.push(b',')?;
+        push_row(text, node_row(*node))?;
     }
     Ok(())
 }

@@ -33,30 +33,36 @@ module _ (all rows : List Row) (i next : ℕ) (far : FoundSoFar all rows i next)
   seen-many : length (filter is_found (take i all)) ≡ next
   seen-many = sym (ap length far.so) ∙ length-take-le next rows far.within
 
-  module _ (d : Row) (within : i < length all) where
-    abbrev here : Row
-    here = get_or all i d
+  module _ (row : Row) (there : slice_get all i ≡ Some row) where
+    inside : i < length all
+    inside = slice_get_within all i row there
 
-    more : (b : Bool) → is_found here ≡ b → filter is_found (take (i + 1) all) ≡ filter is_found (take i all) ++ cond b (here ∷ []) []
+    got : get_or all i row ≡ row
+    got = get_or_from_slice_get all i row row there
+
+    more : (b : Bool) → is_found row ≡ b → filter is_found (take (i + 1) all) ≡ filter is_found (take i all) ++ cond b (row ∷ []) []
     more b found =
-        filter_more is_found all i d within ∙ ap (λ (c : Bool). filter is_found (take i all) ++ cond c (here ∷ []) []) found
+        filter_more is_found all i row inside
+        ∙ ap (λ (r : Row). filter is_found (take i all) ++ cond (is_found r) (r ∷ []) []) got
+        ∙ ap (λ (c : Bool). filter is_found (take i all) ++ cond c (row ∷ []) []) found
 
-    pub found-more : is_found here ≡ true → slice_get rows next ≡ Some here → FoundSoFar all rows (i + 1) (next + 1)
-    found-more found there =
-        let inside : next < length rows = slice_get_within rows next here there in
+    pub found-more : is_found row ≡ true → slice_get rows next ≡ Some row → FoundSoFar all rows (i + 1) (next + 1)
+    found-more found said =
+        let within : next < length rows = slice_get_within rows next row said in
         record {
-          within = omega (arith, inside);
+          within = omega (arith, within);
           so =
-              take_more rows next here inside
-              ∙ ap (λ (r : Row). take next rows ++ r ∷ []) (get_or_from_slice_get rows next here here there)
-              ∙ ap (λ (rs : List Row). rs ++ here ∷ []) far.so
+              take_more rows next row within
+              ∙ ap (λ (r : Row). take next rows ++ r ∷ []) (get_or_from_slice_get rows next row row said)
+              ∙ ap (λ (rs : List Row). rs ++ row ∷ []) far.so
               ∙ sym (more true found);
         }
 
-    pub found-other : is_found here ≡ false → FoundSoFar all rows (i + 1) next
+    pub found-other : is_found row ≡ false → FoundSoFar all rows (i + 1) next
     found-other other = record { within = far.within; so = far.so ∙ sym (more false other ∙ append-nil (filter is_found (take i all))) }
 
     -- so the next row that is found has to be the next of them
-    pub found-differs : is_found here ≡ true → (slice_get rows next ≡ Some here → ⊥) → rows ≡ filter is_found all → ⊥
+    pub found-differs : is_found row ≡ true → (slice_get rows next ≡ Some row → ⊥) → rows ≡ filter is_found all → ⊥
     found-differs found never same =
-        never (ap (λ (n : ℕ). slice_get rows n) (sym seen-many) ∙ ap (λ (rs : List Row). slice_get rs (length (filter is_found (take i all)))) same ∙ kept-next is_found all i d within found)
+        never (ap (λ (n : ℕ). slice_get rows n) (sym seen-many) ∙ ap (λ (rs : List Row). slice_get rs (length (filter is_found (take i all)))) same
+        ∙ kept-next is_found all i row inside (ap is_found got ∙ found) ∙ ap Some got)

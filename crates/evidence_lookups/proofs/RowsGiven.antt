@@ -1,7 +1,6 @@
 -- What gives rows: of a step, of a query, and of an argument.
 use Rattle.std.proofs.Common.{◌≡◌, ℕ, ◌-◌, List, [], ◌∷◌, length, map, Option, Some, None, refl, ap, sym, subst, ◌∙◌, arith, MatchOption}
 use Rattle.std.specs.Prelude.{slice_get, option_map}
-use Rattle.std.specs.Borrow.{Bor}
 use Rattle.std.proofs.lemmas.Option.{none-some}
 use Rattle.evidence_lines.specs.Lines.{line_of}
 use Rattle.evidence_lines.specs.declared.line.Line.{Line}
@@ -22,9 +21,9 @@ use Rattle.rule_meaning.specs.Places.{steps_in}
 same-some : {A : Type 0} (o : Option A) (x y : A) → o ≡ Some x → o ≡ Some y → x ≡ y
 same-some o x y is also = cc
 
-pub some-given : {A : Type 0} (o : Option A) (x : A) (Gives : A → List Row → Type 0) (r : Option (Bor (List Row))) → o ≡ Some x
-    → MatchOption r ((rows : List Row) → Gives x rows → ⊥) (λ rows. Gives x rows.now)
-    → MatchOption r ((rows : List Row) → ((y : A) × (o ≡ Some y) × Gives y rows) → ⊥) (λ rows. (y : A) × (o ≡ Some y) × Gives y rows.now)
+pub some-given : {A : Type 0} (o : Option A) (x : A) (Gives : A → List Row → Type 0) (r : Option (List Row)) → o ≡ Some x
+    → MatchOption r ((rows : List Row) → Gives x rows → ⊥) (λ rows. Gives x rows)
+    → MatchOption r ((rows : List Row) → ((y : A) × (o ≡ Some y) × Gives y rows) → ⊥) (λ rows. (y : A) × (o ≡ Some y) × Gives y rows)
 some-given o x Gives None is never = λ rows g. never rows (subst (λ y. Gives y rows) (same-some o g.0 x g.1 is) g.2)
 some-given o x Gives (Some rows) is gives = (x, is, gives)
 
@@ -32,21 +31,21 @@ some-given o x Gives (Some rows) is gives = (x, is, gives)
 same-line : (o : Option Line) (l line : Line) → o ≡ Some l → o ≡ Some line → l ≡ line
 same-line o l line is also = cc
 
-pub rows-there : (lines : List Line) (number : ℕ) (of : LineKind) (frame site : ℕ) (outcome : Outcome) (r : Option (Bor (List Row))) → IsLine lines number of frame site outcome
-    → MatchOption r ((rows : List Row) → outcome ≡ says.Rows rows → ⊥) (λ rows. outcome ≡ says.Rows rows.now)
-    → MatchOption r ((rows : List Row) → IsLine lines number of frame site (says.Rows rows) → ⊥) (λ rows. IsLine lines number of frame site (says.Rows rows.now))
+pub rows-there : (lines : List Line) (number : ℕ) (of : LineKind) (frame site : ℕ) (outcome : Outcome) (r : Option (List Row)) → IsLine lines number of frame site outcome
+    → MatchOption r ((rows : List Row) → outcome ≡ says.Rows rows → ⊥) (λ rows. outcome ≡ says.Rows rows)
+    → MatchOption r ((rows : List Row) → IsLine lines number of frame site (says.Rows rows) → ⊥) (λ rows. IsLine lines number of frame site (says.Rows rows))
 rows-there lines number of frame site outcome None there never =
     λ rows is. never rows (sym there.outcome_is ∙ ap (λ (l : Line). l.outcome) (same-line (line_of lines number) there.line is.line there.stands is.stands) ∙ is.outcome_is)
 rows-there lines number of frame site outcome (Some rows) there are = subst (λ (o : Outcome). IsLine lines number of frame site o) are there
 
 module _ (file : sx.File) (lines : List Line) (frame : ℕ) where
-  pub step-given : (s : sx.Step) (number site : ℕ) (of : LineKind) (r : Option (Bor (List Row))) → of ≡ kind_of_step file lines s → site ≡ step_site s
-      → MatchOption r ((rows : List Row) → IsLine lines number of frame site (says.Rows rows) → ⊥) (λ rows. IsLine lines number of frame site (says.Rows rows.now))
-      → MatchOption r ((rows : List Row) → GivesStep file lines frame s number rows → ⊥) (λ rows. GivesStep file lines frame s number rows.now)
+  pub step-given : (s : sx.Step) (number site : ℕ) (of : LineKind) (r : Option (List Row)) → of ≡ kind_of_step file lines s → site ≡ step_site s
+      → MatchOption r ((rows : List Row) → IsLine lines number of frame site (says.Rows rows) → ⊥) (λ rows. IsLine lines number of frame site (says.Rows rows))
+      → MatchOption r ((rows : List Row) → GivesStep file lines frame s number rows → ⊥) (λ rows. GivesStep file lines frame s number rows)
   step-given s number site of None kind_is site_is never =
       λ rows g. never rows (subst (λ (k : LineKind). IsLine lines number k frame site (says.Rows rows)) (sym kind_is) (subst (λ (n : ℕ). IsLine lines number (kind_of_step file lines s) frame n (says.Rows rows)) (sym site_is) g))
   step-given s number site of (Some rows) kind_is site_is is =
-      subst (λ (n : ℕ). IsLine lines number (kind_of_step file lines s) frame n (says.Rows rows.now)) site_is (subst (λ (k : LineKind). IsLine lines number k frame site (says.Rows rows.now)) kind_is is)
+      subst (λ (n : ℕ). IsLine lines number (kind_of_step file lines s) frame n (says.Rows rows)) site_is (subst (λ (k : LineKind). IsLine lines number k frame site (says.Rows rows)) kind_is is)
 
   last-of : (x : Step) (xs : List Step) (s : Step) → Some s ≡ slice_get (x ∷ xs) (length xs) → last_step file lines (step_list (map see_step (x ∷ xs))) ≡ Some (see_step s)
   last-of x [] s is = ap (λ (o : Option Step). option_map see_step o) (sym is)
@@ -75,9 +74,9 @@ module _ (file : sx.File) (lines : List Line) (frame : ℕ) where
   same-step : (o : Option sx.Step) (s t : sx.Step) → o ≡ Some s → o ≡ Some t → s ≡ t
   same-step o s t is also = cc
 
-  pub query-given : (q : sx.Query) (s : sx.Step) (number : ℕ) (r : Option (Bor (List Row))) → last_step file lines (steps_in q) ≡ Some s
-      → MatchOption r ((rows : List Row) → GivesStep file lines frame s number rows → ⊥) (λ rows. GivesStep file lines frame s number rows.now)
-      → MatchOption r ((rows : List Row) → GivesQuery file lines frame q number rows → ⊥) (λ rows. GivesQuery file lines frame q number rows.now)
+  pub query-given : (q : sx.Query) (s : sx.Step) (number : ℕ) (r : Option (List Row)) → last_step file lines (steps_in q) ≡ Some s
+      → MatchOption r ((rows : List Row) → GivesStep file lines frame s number rows → ⊥) (λ rows. GivesStep file lines frame s number rows)
+      → MatchOption r ((rows : List Row) → GivesQuery file lines frame q number rows → ⊥) (λ rows. GivesQuery file lines frame q number rows)
   query-given (sx.query n steps) s number None last never =
       λ rows g. never rows (subst (λ (t : sx.Step). GivesStep file lines frame t number rows) (same-step (last_step file lines steps) g.0 s g.1 last) g.2)
   query-given (sx.query n steps) s number (Some rows) last is = (s, last, is)
@@ -103,9 +102,9 @@ module _ (file : sx.File) (lines : List Line) (frame : ℕ) where
     same-expr : (o : Option sx.Expr) (s t : sx.Expr) → o ≡ Some s → Some t ≡ o → s ≡ t
     same-expr o s t is also = cc
 
-    pub argument-given : (arg : sx.Expr) (r : Option (Bor (List Row))) → Some arg ≡ expr_in args index
-        → MatchOption r ((rows : List Row) → GivesExpr file lines caller arg number rows → ⊥) (λ rows. GivesExpr file lines caller arg number rows.now)
-        → MatchOption r ((rows : List Row) → GivesArgument file lines frame index number rows → ⊥) (λ rows. GivesArgument file lines frame index number rows.now)
+    pub argument-given : (arg : sx.Expr) (r : Option (List Row)) → Some arg ≡ expr_in args index
+        → MatchOption r ((rows : List Row) → GivesExpr file lines caller arg number rows → ⊥) (λ rows. GivesExpr file lines caller arg number rows)
+        → MatchOption r ((rows : List Row) → GivesArgument file lines frame index number rows → ⊥) (λ rows. GivesArgument file lines frame index number rows)
     argument-given arg None is never =
         λ rows g. never rows (subst (λ (e : sx.Expr). GivesExpr file lines caller e number rows) (same-expr (expr_in args index) g.arg arg (arg-is rows g).1 is) (subst (λ (c : ℕ). GivesExpr file lines c g.arg number rows) (sym (arg-is rows g).0) g.gives))
     argument-given arg (Some rows) is gives =

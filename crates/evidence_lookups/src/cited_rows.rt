@@ -10,8 +10,8 @@ ghost use Rattle.evidence_rules.specs.CitedLines.{GivesArgument, GivesExpr, Give
 
 use crate::frames::{args_at, outwards};
 use crate::lookup::{line_of, rows_said};
-use evidence_lines::{LineKind, LineList};
-use guard_syntax::{Expr, Query, Row, Step, StepForm};
+use evidence_lines::{LineKind, LineList, Rows};
+use guard_syntax::{Expr, Query, Step, StepForm};
 use rule_names::{Bind, Piece, RuleFile};
 
 /// Of a query up to a step.
@@ -21,9 +21,9 @@ pub fn given_by_step<'b>(
     frame: u64,
     step: &Step,
     number: u64,
-) -> Option<&'b [Row]>
+) -> Option<Rows<'b>>
     ensures { MatchOption result ((rows : List Row) → GivesStep (file_of file.now) lines.entry.now frame (see_step step.now) number rows → ⊥)
-        (λ rows. GivesStep (file_of file.now) lines.entry.now frame (see_step step.now) number rows.now) }
+        (λ rows. GivesStep (file_of file.now) lines.entry.now frame (see_step step.now) number rows) }
 {
     rows_said(lines, number, kind_of_step(step), frame, step.site)
 }
@@ -46,9 +46,9 @@ pub fn given_by_query<'b>(
     frame: u64,
     query: &Query,
     number: u64,
-) -> Option<&'b [Row]>
+) -> Option<Rows<'b>>
     ensures { MatchOption result ((rows : List Row) → GivesQuery (file_of file.now) lines.entry.now frame (see_query query.now) number rows → ⊥)
-        (λ rows. GivesQuery (file_of file.now) lines.entry.now frame (see_query query.now) number rows.now) }
+        (λ rows. GivesQuery (file_of file.now) lines.entry.now frame (see_query query.now) number rows) }
 {
     match query.steps.last() {
         Some(step) => given_by_step(file, lines, frame, step, number),
@@ -63,9 +63,9 @@ pub fn given_by_expr<'b>(
     frame: u64,
     expr: &Expr,
     number: u64,
-) -> Option<&'b [Row]>
+) -> Option<Rows<'b>>
     ensures { MatchOption result ((rows : List Row) → GivesExpr (file_of file.now) lines.entry.now frame (see_expr expr.now) number rows → ⊥)
-        (λ rows. GivesExpr (file_of file.now) lines.entry.now frame (see_expr expr.now) number rows.now) }
+        (λ rows. GivesExpr (file_of file.now) lines.entry.now frame (see_expr expr.now) number rows) }
 {
     match expr {
         Expr::Literal { site, .. } => rows_said(lines, number, LineKind::Literal, frame, *site),
@@ -82,9 +82,9 @@ pub fn given_by_variable<'b>(
     frame: u64,
     site: u32,
     number: u64,
-) -> Option<&'b [Row]>
+) -> Option<Rows<'b>>
     ensures { MatchOption result ((rows : List Row) → GivesVariable (file_of file.now) lines.entry.now frame site number rows → ⊥)
-        (λ rows. GivesVariable (file_of file.now) lines.entry.now frame site number rows.now) }
+        (λ rows. GivesVariable (file_of file.now) lines.entry.now frame site number rows) }
 {
     match file.bind(site)? {
         Bind::Value { up, site } => {
@@ -109,9 +109,9 @@ fn given_by_piece<'b>(
     frame: u64,
     site: u32,
     number: u64,
-) -> Option<&'b [Row]>
+) -> Option<Rows<'b>>
     ensures { MatchOption result ((rows : List Row) → GivesPiece (file_of file.now) lines.entry.now frame (piece_at (file_of file.now) site) number rows → ⊥)
-        (λ rows. GivesPiece (file_of file.now) lines.entry.now frame (piece_at (file_of file.now) site) number rows.now) }
+        (λ rows. GivesPiece (file_of file.now) lines.entry.now frame (piece_at (file_of file.now) site) number rows) }
 {
     match file.find(site)? {
         Piece::Expr(expr) => given_by_expr(file, lines, frame, expr, number),
@@ -127,9 +127,9 @@ fn given_by_argument<'b>(
     frame: u64,
     index: u32,
     number: u64,
-) -> Option<&'b [Row]>
+) -> Option<Rows<'b>>
     ensures { MatchOption result ((rows : List Row) → GivesArgument (file_of file.now) lines.entry.now frame index number rows → ⊥)
-        (λ rows. GivesArgument (file_of file.now) lines.entry.now frame index number rows.now) }
+        (λ rows. GivesArgument (file_of file.now) lines.entry.now frame index number rows) }
 {
     let line = line_of(lines, frame)?;
     match line.kind {

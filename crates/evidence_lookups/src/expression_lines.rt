@@ -13,7 +13,7 @@ ghost use Rattle.evidence_lookups.specs.code.Grounds.{file_in, known_of, lines_o
 
 use crate::cited_rows::given_by_query;
 use crate::line_context::{LineContext, SitedLine};
-use evidence_lines::LineKind;
+use evidence_lines::{LineKind, Rows};
 use guard_syntax::{Expr, Origin, Query, Ref, Row};
 
 /// Whether a line of the rows of a literal or of a `some` query follows.
@@ -88,19 +88,22 @@ fn is_found_by(
         return false;
     };
     match given_by_query(context.store.file, &context.lines, frame, query, *cite) {
-        Some(all) => are_found(all, rows),
+        Some(all) => are_found(&all, rows),
         None => false,
     }
 }
 
 /// Whether rows are those of others at which something was found, in order.
-fn are_found(all: &[Row], rows: &[Row]) -> bool
+fn are_found(all: &Rows<'_>, rows: &[Row]) -> bool
     ensures { MatchBool result (rows.now ≡ filter is_found all.now) (rows.now ≡ filter is_found all.now → ⊥) }
 {
     let mut next = 0;
-    for row in all {
-        if is_found(row) {
-            if !stands_at(rows, next, row) {
+    for index in 0..all.len() {
+        let Some(row) = all.get(index) else {
+            unreachable!()
+        };
+        if is_found(&row) {
+            if !stands_at(rows, next, &row) {
                 return false;
             }
             next += 1;

@@ -1,10 +1,11 @@
 //! What the `rule` lines say, by their sites.
 ghost use Rattle.std.specs.Prelude.{◌≡◌, ◌++◌, ◌∷◌, ◌<◌, ℕ, List, [], IfOk, None, Some, length, slice_index_or};
 ghost use Rattle.evidence_lines.specs.Shapes.{HasShape};
+ghost use Rattle.evidence_lines.specs.code.Said.{kind_at};
 ghost use Rattle.evidence_lines.specs.declared.line.Line.{Line};
-ghost use Rattle.evidence_lookups.specs.code.JudgedSites.{AreJudged};
+ghost use Rattle.evidence_lookups.specs.code.JudgedSites.{AreJudged, is_rule};
 
-use evidence_lines::{Line, LineKind, Outcome};
+use evidence_lines::{Line, LineKind, LineList, Outcome};
 use guard_syntax::Verdict;
 use std::alloc::{AllocError, Global};
 
@@ -53,5 +54,15 @@ impl Judged {
             Outcome::Verdict(verdict) => self.of[site as usize] = Some(*verdict),
             Outcome::Value(_) | Outcome::Rows(_) => {}
         }
+    }
+}
+
+/// Whether the line of a number is that of a rule. Of the line no more is looked at than its kind.
+pub fn is_rule_line(lines: &LineList<'_>, number: u64) -> bool
+    ensures { result ≡ is_rule (kind_at lines.now number) }
+{
+    match lines.kind_at(number) {
+        Some(LineKind::Rule) => true,
+        _ => false,
     }
 }

@@ -8,8 +8,8 @@ ghost use Rattle.guard_syntax.specs.declared.row.Row.{Row};
 ghost use Rattle.guard_syntax.specs.declared.row.Verdict.{Verdict};
 ghost use Rattle.evidence_rules.specs.CitedLines.{IsLine, value_of};
 
-use evidence_lines::{Line, LineKind, LineList, Outcome};
-use guard_syntax::{Ref, Row, Verdict};
+use evidence_lines::{Line, LineKind, LineList, Outcome, Rows};
+use guard_syntax::{Ref, Verdict};
 
 /// The line of a number.
 pub fn line_of<'b>(lines: &'b LineList<'_>, number: u64) -> Option<Line<'b>>
@@ -44,9 +44,9 @@ pub fn rows_said<'b>(
     kind: LineKind,
     frame: u64,
     site: u32,
-) -> Option<&'b [Row]>
+) -> Option<Rows<'b>>
     ensures { MatchOption result ((rows : List Row) → IsLine lines.entry.now number kind frame site (says.Rows rows) → ⊥)
-        (λ rows. IsLine lines.entry.now number kind frame site (says.Rows rows.now)) }
+        (λ rows. IsLine lines.entry.now number kind frame site (says.Rows rows)) }
 {
     match said(lines, number, kind, frame, site) {
         Some(outcome) => rows_of(outcome),
@@ -55,12 +55,12 @@ pub fn rows_said<'b>(
 }
 
 /// The rows of an outcome.
-fn rows_of(outcome: Outcome<'_>) -> Option<&[Row]>
+fn rows_of(outcome: Outcome<'_>) -> Option<Rows<'_>>
     ensures { MatchOption result ((rows : List Row) → outcome.entry ≡ says.Rows rows → ⊥)
-        (λ rows. outcome.entry ≡ says.Rows rows.now) }
+        (λ rows. outcome.entry ≡ says.Rows rows) }
 {
     match outcome {
-        Outcome::Rows(rows) => Some(rows.as_slice()),
+        Outcome::Rows(rows) => Some(rows),
         Outcome::Value(_) | Outcome::Verdict(_) => None,
     }
 }

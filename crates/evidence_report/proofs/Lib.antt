@@ -3,6 +3,7 @@ mod CountedVerdicts
 mod Counting
 mod DrillTexts
 mod EarlierCites
+mod FailingLines
 mod KnownRows
 mod LeadEntries
 mod Listing

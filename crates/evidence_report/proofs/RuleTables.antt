@@ -1,15 +1,18 @@
 -- The table of `rule` lines by their sites has a line of each site that has one: by induction on how many lines were noted.
 use Rattle.std.proofs.Common.{◌≡◌, ◌≢◌, ◌⊎◌, ℕ, zero, suc, ◌+◌, ◌<◌, ◌≤◌, ◌==◌, Bool, true, false, refl, sym, ap, subst, ◌∙◌, inl, inr, arith, get_or, set, nat_lt, List, length, replicate, Option, Some, None, is_some, option_and_then, if◌then◌else◌}
-use Rattle.std.proofs.lemmas.Bool.{cases_lt}
+use Rattle.std.specs.Prelude.{option_map}
+use Rattle.std.proofs.lemmas.Bool.{cases_lt, true≢false}
 use Rattle.std.proofs.lemmas.Bool.Decides.{nat_tests}
 use Rattle.std.proofs.lemmas.List.{get_or-replicate, get_or-set_other, get_or-set_same, get_or_past, length-replicate, length-set}
 use Rattle.std.proofs.lemmas.Option.{none-some, same_Some}
 use Rattle.evidence_lines.specs.Lines.{line_of}
+use Rattle.evidence_lines.specs.code.Said.{kind_at}
 use Rattle.evidence_lines.specs.declared.line.Line.{Line}
 use Rattle.evidence_lines.specs.declared.line.LineKind.{LineKind}
 use Rattle.evidence_lines.specs.declared.line.LineKind.TheVariants as kind
 use Rattle.evidence_lines.specs.declared.line.Outcome.{Outcome}
 use Rattle.evidence_lines.specs.declared.line.Outcome.TheVariants as says
+use Rattle.evidence_lookups.specs.code.JudgedSites.{is_rule}
 use Rattle.evidence_report.specs.code.RuleTables.{AreRuleLines, IsRuleLine, rule_line, ruled_by, ruled_site, with_line}
 use Rattle.evidence_report.specs.declared.rule_lines.RuleLine.{RuleLine}
 use Rattle.evidence_report.proofs.EarlierCites.{number-within}
@@ -20,6 +23,19 @@ table_upto lines sites zero = replicate sites None
 table_upto lines sites (suc n) = with_line (table_upto lines sites n) (rule_line lines (suc n))
 
 -- ---- one line
+
+-- none is made of a line of another kind
+pub unruled : (lines : List Line) (number : ℕ) → is_rule (kind_at lines number) ≡ false → rule_line lines number ≡ None
+unruled lines number other = by (line_of lines number) other
+  where
+    unsited : (of : LineKind) (frame site : Option ℕ) → is_rule (Some of) ≡ false → ruled_site of frame site ≡ None
+    unsited kind.Rule frame site is = absurd (true≢false is)
+    unsited of frame site is = refl
+
+    by : (o : Option Line) → is_rule (option_map (λ (l : Line). l.kind) o) ≡ false
+        → option_and_then (λ (l : Line). option_and_then (λ (site : ℕ). ruled_by site number l.outcome) (ruled_site l.kind l.frame l.site)) o ≡ None
+    by None is = refl
+    by (Some l) is = ap (option_and_then (λ (site : ℕ). ruled_by site number l.outcome)) (unsited l.kind l.frame l.site is)
 
 ruled-fields : (of : LineKind) (frame site : Option ℕ) (at : ℕ) → ruled_site of frame site ≡ Some at → (k : ℕ) × (of ≡ kind.Rule) × (frame ≡ Some k) × (site ≡ Some at)
 ruled-fields kind.Rule (Some k) site at is = (k, refl, refl, is)

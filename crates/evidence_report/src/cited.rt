@@ -4,65 +4,62 @@ ghost use Rattle.guard_syntax.specs.code.Seen.{see_opt_conds};
 ghost use Rattle.rule_meaning.specs.Roots.{root_ref};
 ghost use Rattle.rule_meaning.specs.StoreModel.{StoreModel, is_known_ref};
 ghost use Rattle.evidence_lookups.specs.code.Grounds.{known_of, lines_of};
-ghost use Rattle.evidence_truth.specs.code.LineFails.{behind_conds, is_failing, rows_cited, rows_in, rows_of_line, says_fail};
+ghost use Rattle.evidence_truth.specs.code.LineFails.{behind_conds, is_failing, rows_cited, rows_in, rows_of_line};
+ghost use Rattle.evidence_report.specs.code.Counts.{is_some_fail};
 ghost use Rattle.evidence_report.specs.code.Leads.{current_ref};
 
-use evidence_lines::{LineList, Outcome};
+use evidence_lines::{LineList, Outcome, Rows};
 use evidence_lookups::line_context::LineContext;
 use evidence_lookups::lookup::{line_of, value_of};
-use guard_syntax::{Conds, Origin, Ref, Row, Verdict};
+use guard_syntax::{Conds, Origin, Ref, Verdict};
 
-/// Whether the line of a number says FAIL.
+/// Whether the line of a number says FAIL. No more of it is looked at than its verdict.
 pub(crate) fn is_failing(lines: &LineList<'_>, number: u64) -> bool
     ensures { (known : StoreModel) → result ≡ is_failing known lines.now number }
 {
-    match line_of(lines, number) {
-        Some(line) => says_fail(&line.outcome),
+    is_some_fail(lines.verdict_at(number))
+}
+
+/// Whether a verdict is there, and is FAIL.
+fn is_some_fail(verdict: Option<Verdict>) -> bool
+    ensures { result ≡ is_some_fail verdict }
+{
+    match verdict {
+        Some(Verdict::Fail) => true,
+        Some(Verdict::Pass) => false,
+        Some(Verdict::Skip) => false,
         None => false,
     }
 }
 
-/// Whether a line says FAIL.
-fn says_fail(outcome: &Outcome<'_>) -> bool
-    ensures { result ≡ says_fail outcome.now }
-{
-    match outcome {
-        Outcome::Verdict(Verdict::Fail) => true,
-        Outcome::Verdict(Verdict::Pass) => false,
-        Outcome::Verdict(Verdict::Skip) => false,
-        Outcome::Value(_) => false,
-        Outcome::Rows(_) => false,
-    }
-}
-
 /// The rows that the line of a number says; none where it says no rows.
-pub(crate) fn rows_of_line<'b>(lines: &'b LineList<'_>, number: u64) -> &'b [Row]
-    ensures { (known : StoreModel) → result.now ≡ rows_of_line known lines.entry.now number }
+pub(crate) fn rows_of_line<'b>(lines: &'b LineList<'_>, number: u64) -> Rows<'b>
+    ensures { (known : StoreModel) → result ≡ rows_of_line known lines.entry.now number }
 {
     match line_of(lines, number) {
         Some(line) => rows_in(line.outcome),
-        None => &[],
+        None => Rows::new(&[]),
     }
 }
 
 /// The rows of what a line says.
-fn rows_in(outcome: Outcome<'_>) -> &[Row]
-    ensures { result.now ≡ rows_in outcome.entry }
+fn rows_in(outcome: Outcome<'_>) -> Rows<'_>
+    ensures { result ≡ rows_in outcome.entry }
 {
     match outcome {
-        Outcome::Rows(rows) => rows.as_slice(),
-        Outcome::Value(_) => &[],
-        Outcome::Verdict(_) => &[],
+        Outcome::Rows(rows) => rows,
+        Outcome::Value(_) => Rows::new(&[]),
+        Outcome::Verdict(_) => Rows::new(&[]),
     }
 }
 
 /// The rows of the cite of an index; none where there is no such cite.
-pub(crate) fn rows_cited<'b>(lines: &'b LineList<'_>, cites: &[u64], index: usize) -> &'b [Row]
-    ensures { (known : StoreModel) → result.now ≡ rows_cited known lines.entry.now cites.now index }
+pub(crate) fn rows_cited<'b>(lines: &'b LineList<'_>, cites: &[u64], index: usize) -> Rows<'b>
+    ensures { (known : StoreModel) → result ≡ rows_cited known lines.entry.now cites.now index }
 {
     match cites.get(index) {
         Some(cite) => rows_of_line(lines, *cite),
-        None => &[],
+        None => Rows::new(&[]),
     }
 }
 

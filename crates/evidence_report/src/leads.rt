@@ -124,19 +124,15 @@ fn push_rows_test(
     ensures { (frame : Option ℕ) → OnOk result (Appends (known_of context.now) into.old.items into.new.items
         (own (test_entries (known_of context.now) (lines_of context.now) test.now.part false test.now.not (passes (known_of context.now) test.now.op test.now.not) frame cites.now))) }
 {
+    let rights = rows_cited(&context.lines, cites, 1).gather(alloc)?;
+    let lefts = rows_cited(&context.lines, cites, 0).gather(alloc)?;
     let rows = RowTest {
         part: test.part,
         op: test.op,
         not: test.not,
-        rights: rows_cited(&context.lines, cites, 1),
+        rights: rights.as_slice(),
     };
-    push_test(
-        alloc,
-        context,
-        &rows,
-        rows_cited(&context.lines, cites, 0),
-        into,
-    )
+    push_test(alloc, context, &rows, lefts.as_slice(), into)
 }
 
 /// Appends the entries of a test of a whole set: `empty` shows each row that was found, `!empty` the first row at which
@@ -151,7 +147,8 @@ fn push_set(
     ensures { (holds : List Row → Row → Bool) → OnOk result (Appends (known_of context.now) into.old.items into.new.items
         (own (test_entries (known_of context.now) (lines_of context.now) part true not holds line.now.frame line.now.cites))) }
 {
-    let rows = rows_cited(&context.lines, line.cites.as_slice(), 0);
+    let cited = rows_cited(&context.lines, line.cites.as_slice(), 0).gather(context.alloc)?;
+    let rows = cited.as_slice();
     if not {
         let current = current_ref(context, line.frame);
         push_first_missing(context, part, current, rows, into)
@@ -236,8 +233,8 @@ fn push_bodies(
     ensures { OnOk result (Appends (known_of context.now) into.old.items into.new.items
         (block_leads (known_of context.now) (lines_of context.now) part (head ∷ bodies.now))) }
 {
-    let rows = rows_of_line(&context.lines, head);
-    push_rows(context, part, rows, bodies, into)
+    let rows = rows_of_line(&context.lines, head).gather(context.alloc)?;
+    push_rows(context, part, rows.as_slice(), bodies, into)
 }
 
 /// Appends what the rows of a block lead to, rows and cites in step: a row at which nothing was found is an entry itself, one

@@ -4,6 +4,7 @@ ghost use Rattle.evidence_lookups.specs.code.Grounds.{file_in, lines_of};
 ghost use Rattle.evidence_report.specs.code.RuleTables.{AreRuleLines, rule_line, ruled_by, ruled_site, with_line};
 
 use evidence_lines::{Line, LineKind, LineList, Outcome};
+use evidence_lookups::judged::is_rule_line;
 use evidence_lookups::line_context::LineContext;
 use evidence_lookups::lookup::line_of;
 use guard_syntax::Verdict;
@@ -49,6 +50,9 @@ fn note(table: &mut Vec<Option<RuleLine>>, line: Option<RuleLine>)
 fn rule_line(lines: &LineList<'_>, number: u64) -> Option<RuleLine>
     ensures { result ≡ rule_line lines.now number }
 {
+    if !is_rule_line(lines, number) {
+        return None;
+    }
     let line = line_of(lines, number)?;
     let site = ruled_site(&line)?;
     ruled_by(site, number, &line.outcome)

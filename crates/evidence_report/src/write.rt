@@ -61,14 +61,7 @@ fn write_lead<S: Sink>(
     ensures kept { S.faults sink.old ≤ S.faults sink.new }
 {
     match lead {
-        Lead::Entry(entry) => write_entry_over(
-            alloc,
-            context.store.file,
-            texts,
-            context.store,
-            entry,
-            sink,
-        ),
+        Lead::Entry(entry) => write_entry_over(alloc, texts, context.store, entry, sink),
         Lead::Line(number) => write_line(alloc, context, texts, *number, sink),
     }
 }

@@ -41,7 +41,7 @@ fn write(
         template: "",
         params: None,
     };
-    Ok(write_entry(alloc, file, &texts, &store, &CALL, sink))
+    Ok(write_entry(alloc, &texts, &store, &CALL, sink))
 }
 
 /// The room of a sink, and what comes of it: what it takes, and how many faults it counts.
@@ -186,7 +186,7 @@ fn line_of_value(alloc: Global, store: &Store<'_, '_>, value: Ref) -> Result<Vec
     let mut sink = CleanSink {
         bytes: Vec::new(alloc),
     };
-    match write_entry(alloc, store.file, &texts, store, &entry, &mut sink) {
+    match write_entry(alloc, &texts, store, &entry, &mut sink) {
         Ok(()) => Ok(sink.bytes),
         Err(_) => Err(AllocError),
     }

@@ -33,6 +33,14 @@ const TEXTS: &[(&str, u64)] = &[
         "guard-evidence 2\nfound 1 8 - -\nstep 1 7 1 d1\nstep 1 7 1,2 d1,d2\nstep 1 7 1,2,3 d1,d2,d3\nconj 1 2 4,3,2,1 S\nstep 1 7 4,5,6 d4,d5,d6,d7\n",
         6,
     ),
+    (
+        "guard-evidence 2\nstep 1 7 1 d1k\nstep 1 7 1 d1\nstep 1 7 1 d1,d2,d3\nstep 1 8 1 d1,d2,d3\nstep 1 9 1 d1,d2,d4\nstep 1 8 1 d1,d2,d3\nstep 1 7 1 u5,d2,d3\nstep 1 7 1 m9:d4,d2,d3\n",
+        8,
+    ),
+    (
+        "guard-evidence 2\nstep 1 7 1 d1,d2,d3\nstep 1 7 1 d1,d2,d3k\nstep 1 7 1 d1,d3,d2\nstep 1 7 1 d1,d2,d3\nstep 1 7 1 d1k,d2k,d3k\nstep 1 7 1 d1k,d2,d3\nstep 1 7 1 d1,d2,l3.0\nstep 1 7 1 l1.0,d2,d3\nstep 1 7 1 d4294967295,d0,d4294967295,d7\n",
+        9,
+    ),
 ];
 
 /// The text of evidence that was read.

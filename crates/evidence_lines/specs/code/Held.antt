@@ -5,6 +5,7 @@ use Rattle.guard_syntax.specs.declared.row.Ref.{Ref}
 use Rattle.guard_syntax.specs.declared.row.Row.{Row}
 use Rattle.guard_syntax.specs.declared.row.Row.TheVariants.{Found}
 use Rattle.guard_syntax.specs.declared.row.Verdict.TheVariants.{Pass, Fail, Skip}
+use Rattle.evidence_lines.specs.code.RowsSeen.{node_row}
 use Rattle.evidence_lines.specs.declared.held.Held.{Held}
 use Rattle.evidence_lines.specs.declared.held.HeldLine.{HeldLine}
 use Rattle.evidence_lines.specs.declared.held.Place.{Place}
@@ -84,39 +85,43 @@ rows_form run.Two = said.TwoRows
 rows_form run.More = said.Rows
 
 -- what is said, by its form
-abbrev pub outcome_at : List Row → List Span → SaidForm → ℕ → Outcome
-outcome_at rows spans said.Node at = says.Value (node_ref false at)
-outcome_at rows spans said.Key at = says.Value (node_ref true at)
-outcome_at rows spans said.Value at = says.Value (value_in (cut_run rows spans run.One at))
-outcome_at rows spans said.NoRows at = says.Rows (cut_run rows spans run.None at)
-outcome_at rows spans said.Row at = says.Rows (cut_run rows spans run.One at)
-outcome_at rows spans said.TwoRows at = says.Rows (cut_run rows spans run.Two at)
-outcome_at rows spans said.Rows at = says.Rows (cut_run rows spans run.More at)
-outcome_at rows spans said.Pass at = says.Verdict Pass
-outcome_at rows spans said.Fail at = says.Verdict Fail
-outcome_at rows spans said.Skip at = says.Verdict Skip
+abbrev pub outcome_at : List Row → List ℕ → List Span → SaidForm → ℕ → Outcome
+outcome_at rows nodes spans said.Node at = says.Value (node_ref false at)
+outcome_at rows nodes spans said.Key at = says.Value (node_ref true at)
+outcome_at rows nodes spans said.Value at = says.Value (value_in (cut_run rows spans run.One at))
+outcome_at rows nodes spans said.NodeRow at = says.Rows (Found (node_ref false at) ∷ [])
+outcome_at rows nodes spans said.KeyRow at = says.Rows (Found (node_ref true at) ∷ [])
+outcome_at rows nodes spans said.NoRows at = says.Rows (cut_run rows spans run.None at)
+outcome_at rows nodes spans said.Row at = says.Rows (cut_run rows spans run.One at)
+outcome_at rows nodes spans said.TwoRows at = says.Rows (cut_run rows spans run.Two at)
+outcome_at rows nodes spans said.Rows at = says.Rows (cut_run rows spans run.More at)
+outcome_at rows nodes spans said.NodeRows at = says.Rows (map node_row (cut_run nodes spans run.More at))
+outcome_at rows nodes spans said.Pass at = says.Verdict Pass
+outcome_at rows nodes spans said.Fail at = says.Verdict Fail
+outcome_at rows nodes spans said.Skip at = says.Verdict Skip
 
-abbrev pub see_line : List ℕ → List Span → List Row → List Span → List Place → HeldLine → Line
-see_line cites cite_spans rows row_spans places l = record {
+abbrev pub see_line : List ℕ → List Span → List Row → List ℕ → List Span → List Place → HeldLine → Line
+see_line cites cite_spans rows nodes row_spans places l = record {
   kind = l.kind;
   frame = frame_at places l.place l.frame;
   site = site_at places l.place l.frame l.site;
   cites = cut_run cites cite_spans l.cites l.cites_at;
-  outcome = outcome_at rows row_spans l.said l.said_at;
+  outcome = outcome_at rows nodes row_spans l.said l.said_at;
 }
 
 -- the lines
 abbrev pub see_lines : Held → List Line
-see_lines h = map (see_line h.cites.items h.cite_spans.items h.rows.items h.row_spans.items h.places.items) h.lines.items
+see_lines h = map (see_line h.cites.items h.cite_spans.items h.rows.items h.nodes.items h.row_spans.items h.places.items) h.lines.items
 
 -- what is said has its rows
-abbrev pub HasRows : ℕ → List Span → SaidForm → ℕ → Type 0
-HasRows many spans said.Value at = IsRun many spans run.One at
-HasRows many spans said.NoRows at = IsRun many spans run.None at
-HasRows many spans said.Row at = IsRun many spans run.One at
-HasRows many spans said.TwoRows at = IsRun many spans run.Two at
-HasRows many spans said.Rows at = IsRun many spans run.More at
-HasRows many spans form at = Unit {0}
+abbrev pub HasRows : ℕ → ℕ → List Span → SaidForm → ℕ → Type 0
+HasRows many nodes spans said.Value at = IsRun many spans run.One at
+HasRows many nodes spans said.NoRows at = IsRun many spans run.None at
+HasRows many nodes spans said.Row at = IsRun many spans run.One at
+HasRows many nodes spans said.TwoRows at = IsRun many spans run.Two at
+HasRows many nodes spans said.Rows at = IsRun many spans run.More at
+HasRows many nodes spans said.NodeRows at = IsRun nodes spans run.More at
+HasRows many nodes spans form at = Unit {0}
 
 -- the place stands beside the lines where it is not held here
 abbrev pub HasPlace : ℕ → PlaceForm → ℕ → Type 0
@@ -124,14 +129,14 @@ HasPlace many place.Beside frame = frame < many
 HasPlace many form frame = Unit {0}
 
 -- a line has what it is made of
-pub record IsWithin (cites : ℕ) (cite_spans : List Span) (rows : ℕ) (row_spans : List Span) (places : ℕ) (l : HeldLine) : Type 0 where
+pub record IsWithin (cites : ℕ) (cite_spans : List Span) (rows nodes : ℕ) (row_spans : List Span) (places : ℕ) (l : HeldLine) : Type 0 where
   pub cited : IsRun cites cite_spans l.cites l.cites_at
-  pub said : HasRows rows row_spans l.said l.said_at
+  pub said : HasRows rows nodes row_spans l.said l.said_at
   pub placed : HasPlace places l.place l.frame
 
 -- and so has each
 abbrev pub IsHeld : Held → Type 0
-IsHeld h = All (IsWithin (length h.cites.items) h.cite_spans.items (length h.rows.items) h.row_spans.items (length h.places.items)) h.lines.items
+IsHeld h = All (IsWithin (length h.cites.items) h.cite_spans.items (length h.rows.items) (length h.nodes.items) h.row_spans.items (length h.places.items)) h.lines.items
 
 -- lines of which so many are meant, which are there
 pub record IsFront (h : Held) (count : ℕ) : Type 0 where

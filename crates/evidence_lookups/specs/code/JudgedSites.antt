@@ -1,6 +1,7 @@
 -- What `rule` lines say of each site, as a table by sites.
-use Rattle.std.specs.Prelude.{ℕ, ◌≡◌, ◌↔◌, false, is_some, List, Option, Some, None, slice_index_or}
+use Rattle.std.specs.Prelude.{ℕ, ◌≡◌, ◌↔◌, Bool, true, false, is_some, List, Option, Some, None, slice_index_or}
 use Rattle.evidence_lines.specs.declared.line.Line.{Line}
+use Rattle.evidence_lines.specs.declared.line.LineKind.{LineKind}
 use Rattle.evidence_lines.specs.declared.line.LineKind.TheVariants as kind
 use Rattle.evidence_lines.specs.declared.line.Outcome.{Outcome}
 use Rattle.guard_syntax.specs.declared.row.Verdict.{Verdict}
@@ -23,3 +24,8 @@ AreJudged lines table = (site : ℕ) → IsJudgedAs lines site (slice_index_or t
 -- so it has one of just the sites that have a `rule` line
 abbrev pub AreNoted : List Line → List (Option Verdict) → Type 0
 AreNoted lines table = (site : ℕ) → (is_some (slice_index_or table site None) ≡ false) ↔ IsUnjudged lines site
+
+-- a line is that of a rule, by its kind
+abbrev pub is_rule : Option LineKind → Bool
+is_rule (Some kind.Rule) = true
+is_rule _ = false

@@ -19,9 +19,9 @@ returns-in_default c =
 pub loop-at-preserved : goal.loop-at-preserved
 loop-at-preserved c =
     args-next (file_of c.args.file.now) c.args.lines.now c.args.line.frame c.args.args.now c.args.line.cites.now c.loop-at.at c.index-args-at.result (omega arith) (omega (arith, c.if-args-cites.false)) c.index-args-at.is
-    (map see_rows c.loop-at.all.items) (map see_rows c.push.new.self.items) c.in-Some.rows.now c.loop-at.invariant c.in-Some.ensures
+    (map see_rows c.loop-at.all.items) (map see_rows c.push.new.self.items) c.in-Some.rows c.loop-at.invariant c.in-Some.ensures
     (ap (map see_rows) c.in_ok-push.ensures.items ∙ map-append see_rows c.loop-at.all.items (c.in_ok-to_vec.field-0 ∷ [])
-    ∙ ap (λ (rows : List Row). map see_rows c.loop-at.all.items ++ rows ∷ []) (c.in_ok-to_vec.ensures.items_if_clones_equal (λ x y h. h)))
+    ∙ ap (λ (rows : List Row). map see_rows c.loop-at.all.items ++ rows ∷ []) c.in_ok-to_vec.ensures)
 
 pub returns : goal.returns
 returns c =

@@ -17,13 +17,13 @@ returns-in-Value c =
     (value-made (version_of c.args.context.now) (known_of c.args.context.now) (lines_of c.args.context.now) c.args.line.frame c.args.line.site c.args.line.kind c.args.line.cites.now c.in-Value.value c.value_follows-follows.result c.making_nothing.result c.making_nothing.ensures
     c.value_follows-follows.ensures.follows c.value_follows-follows.ensures.known)
 
-pub returns-in-Rows : goal.returns-in-Rows
-returns-in-Rows c =
+pub returns-in_ok-rows-in-Rows : goal.returns-in_ok-rows-in-Rows
+returns-in_ok-rows-in-Rows c =
     let k = known_of c.args.context.now in
     let ls = lines_of c.args.context.now in
     let rows = c.as_slice.result.now in
     let Says : Outcome → List Made → Type 0 = λ o more. FollowsIn (version_of c.args.context.now) (known_of c.args.context.now) (lines_of c.args.context.now) c.args.line.frame c.args.line.site c.args.line.kind c.args.line.cites.now o more in
-    let is : c.args.outcome.now ≡ says.Rows rows = c.in-Rows.is ∙ ap (λ (rs : List Row). says.Rows rs) (sym c.as_slice.ensures) in
+    let is : c.args.outcome.now ≡ says.Rows rows = c.in-Rows.is ∙ ap (λ (rs : List Row). says.Rows rs) (sym (c.as_slice.ensures ∙ c.in_ok-rows-in-Rows.ensures)) in
     IfOk-weaker c.all_rows_follow.result (IsMade k ls (Says (says.Rows rows)) (λ (after : StoreModel). is_known_outcome after (says.Rows rows) ≡ true))
     (IsMade k ls (Says c.args.outcome.now) (λ (after : StoreModel). is_known_outcome after c.args.outcome.now ≡ true))
     (λ found made. said-as (version_of c.args.context.now) (known_of c.args.context.now) (lines_of c.args.context.now) c.args.line.frame c.args.line.site c.args.line.kind c.args.line.cites.now c.args.outcome.now (says.Rows rows) found is made) c.all_rows_follow.ensures

@@ -14,7 +14,8 @@ returns-in-None c = λ b site_is.
 pub returns-in-Some-given_by_query : goal.returns-in-Some-given_by_query
 returns-in-Some-given_by_query c = λ b site_is.
     block-decided (lines_of c.args.context.now) c.args.body.frame c.in-Some.first.now c.args.cites.now c.in-Some.others.now c.in-Some.ensures.cases.0 (known_of c.args.context.now) c.args.verdict
-    b c.args.body.any (block_stop c.args.body.any c.args.body.version) (see_query c.args.head.now) c.in-Some-given_by_query.rows.now c.body_follows_on.result c.in-Some-given_by_query.ensures (c.body_follows_on.ensures (known_of c.args.context.now) b site_is)
+    b c.args.body.any (block_stop c.args.body.any c.args.body.version) (see_query c.args.head.now) c.in-Some-given_by_query.rows c.body_follows_on.result
+    c.in-Some-given_by_query.ensures (c.body_follows_on.ensures (known_of c.args.context.now) b site_is)
 
 pub returns-in_default : goal.returns-in_default
 returns-in_default c = λ b site_is f.

@@ -1,6 +1,6 @@
 use Rattle.std.proofs.Common.{◌≡◌}
 use Rattle.std.proofs.lemmas.Slice.Eq.{slice_eq-Decides}
-use Rattle.evidence_checker.proofs.SameRows.{one-of-two, row-decides}
+use Rattle.evidence_lines.proofs.SameRows.{one-of-two, row-decides}
 use Rattle.evidence_checker.proofs.row_equality.same_rows.Goals as goal
 
 pub returns : goal.returns

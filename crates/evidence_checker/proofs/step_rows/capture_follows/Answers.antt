@@ -1,5 +1,7 @@
-use Rattle.std.proofs.Common.{get_or}
+use Rattle.std.proofs.Common.{ap, ◌∙◌, get_or}
+use Rattle.std.specs.List.{list_all}
 use Rattle.guard_syntax.specs.code.Seen.{see_step}
+use Rattle.rule_meaning.specs.StoreModel.{is_known}
 use Rattle.evidence_lookups.specs.code.Grounds.{known_of, lines_of}
 use Rattle.evidence_lookups.proofs.SaidKnown.{rows-said-known}
 use Rattle.evidence_checker.proofs.StepLines.{capture-lacks, one-cite, capture-many, capture-uncited}
@@ -12,7 +14,7 @@ returns-in_default-given_by_step-clause-follows c =
 
 pub captured-requires : goal.captured-requires
 captured-requires c = record {
-  known = rows-said-known (known_of c.args.context.now) (lines_of c.args.context.now) c.args.context.now.sound _ _ _ _ c.in-Some.kept.now c.in-Some.ensures;
+  known = ap (list_all (is_known (known_of c.args.context.now))) (c.as_slice.ensures ∙ c.in_ok-kept.ensures) ∙ rows-said-known (known_of c.args.context.now) (lines_of c.args.context.now) c.args.context.now.sound _ _ _ _ c.in-Some.kept c.in-Some.ensures;
 }
 
 pub returns-in_default-clause-follows : goal.returns-in_default-clause-follows

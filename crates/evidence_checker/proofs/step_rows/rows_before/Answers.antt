@@ -8,8 +8,12 @@ use Rattle.evidence_checker.proofs.StepLines.{before-given, first-of, no-rows-be
 use Rattle.evidence_checker.proofs.step_rows.rows_before.Goals as goal
 
 pub returns-then-index-eq0 : goal.returns-then-index-eq0
-returns-then-index-eq0 c = λ known file_is.
-    ([], refl, subst (λ (n : ℕ). GivesBefore known c.args.lines.now c.args.line.frame (see_query c.args.query.now) n [] []) (sym c.if-index-eq0.true) (refl, refl))
+returns-then-index-eq0 c = λ known file_is. (
+  [],
+  refl,
+  subst (GivesBefore known c.args.lines.now c.args.line.frame (see_query c.args.query.now) c.args.index []) (sym c.new.ensures)
+      (subst (λ (n : ℕ). GivesBefore known c.args.lines.now c.args.line.frame (see_query c.args.query.now) n [] []) (sym c.if-index-eq0.true) (refl, refl)),
+)
 
 pub returns-in_default-get : goal.returns-in_default-get
 returns-in_default-get c = λ known file_is first last rows parts.
@@ -31,9 +35,9 @@ returns c = λ known file_is.
     let more : c.args.index ≡ suc (c.args.index - 1) = omega (arith, c.if-index-eq0.false) in (
       get_or c.args.line.cites.now 0 0 ∷ [],
       first-of c.args.line.cites.now c.in-len1-up.len_at_least,
-      before-given known c.args.lines.now c.args.line.frame (see_query c.args.query.now) c.args.index (c.args.index - 1) (get_or c.args.line.cites.now 0 0) (see_step c.in-Some.step.now) c.in-Some-given_by_step.rows.now more
+      before-given known c.args.lines.now c.args.line.frame (see_query c.args.query.now) c.args.index (c.args.index - 1) (get_or c.args.line.cites.now 0 0) (see_step c.in-Some.step.now) c.in-Some-given_by_step.rows more
           (step-there c.args.query.now (c.args.index - 1) c.deref.result.now c.in-Some.step.now c.deref.ensures.value c.in-Some.ensures.lookup.3.0 c.in-Some.ensures.lookup.1)
-          (subst (λ (f : File). GivesStep f c.args.lines.now c.args.line.frame (see_step c.in-Some.step.now) (get_or c.args.line.cites.now 0 0) c.in-Some-given_by_step.rows.now) (sym file_is) c.in-Some-given_by_step.ensures),
+          (subst (λ (f : File). GivesStep f c.args.lines.now c.args.line.frame (see_step c.in-Some.step.now) (get_or c.args.line.cites.now 0 0) c.in-Some-given_by_step.rows) (sym file_is) c.in-Some-given_by_step.ensures),
     )
 
 pub returns-in_default : goal.returns-in_default

@@ -2,6 +2,7 @@ use Rattle.std.proofs.Common.{◌≡◌, ap, arith, length, subst, sym}
 use Rattle.guard_syntax.specs.code.Seen.{see_conds, see_expr, see_step}
 use Rattle.guard_syntax.specs.Syntax.{File}
 use Rattle.evidence_rules.specs.CitedLines.{GivesExpr, GivesVariable}
+use Rattle.evidence_rules.specs.Follows.{GivesFurther}
 use Rattle.evidence_checker.specs.code.FirstCites.{GivesAlone}
 use Rattle.evidence_checker.proofs.StepLines.{AreGiven, filter-further, further-nothing, keys-further, no-cites, nothing-further, splice-further, var-further}
 use Rattle.evidence_checker.proofs.StepsSeen.{filter-seen, keys-seen, nothing-seen, splice-seen, var-seen}
@@ -32,8 +33,9 @@ returns-in-Filter c = λ known file_is.
 
 pub returns-in-empty : goal.returns-in-empty
 returns-in-empty c = λ known file_is.
+    subst (GivesFurther known c.args.lines.now c.args.frame (see_step c.args.step.now) c.args.cites.now) (sym c.new.ensures) (
     nothing-further known c.args.lines.now c.args.frame (see_step c.args.step.now) c.args.cites.now
-    (nothing-seen c.args.step.now c.in_default.not-Var c.in_default.not-Splice c.in_default.not-Filter c.in_default.not-Keys) (no-cites c.args.cites.now c.in-empty.len_below)
+    (nothing-seen c.args.step.now c.in_default.not-Var c.in_default.not-Splice c.in_default.not-Filter c.in_default.not-Keys) (no-cites c.args.cites.now c.in-empty.len_below))
 
 pub returns-in_default-cites : goal.returns-in_default-cites
 returns-in_default-cites c = λ known file_is rows gives.

@@ -16,7 +16,8 @@ returns-in-Some c = λ known file_is.
 
 pub returns-in-empty : goal.returns-in-empty
 returns-in-empty c = λ known file_is.
-    subst (λ (o : Option Expr). GivesRight known c.args.lines.now c.args.frame (see_opt_expr o) c.args.cites.now []) (sym c.in-None.is) (right-bare known c.args.lines.now c.args.frame c.args.cites.now c.in-empty.len_below)
+    subst (GivesRight known c.args.lines.now c.args.frame (see_opt_expr c.args.right.now) c.args.cites.now) (sym c.new.ensures)
+    (subst (λ (o : Option Expr). GivesRight known c.args.lines.now c.args.frame (see_opt_expr o) c.args.cites.now []) (sym c.in-None.is) (right-bare known c.args.lines.now c.args.frame c.args.cites.now c.in-empty.len_below))
 
 pub returns-in_default : goal.returns-in_default
 returns-in_default c = λ known file_is rows given.

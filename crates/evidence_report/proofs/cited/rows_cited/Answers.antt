@@ -13,4 +13,5 @@ returns-in-Some c known =
 
 pub returns-in-None : goal.returns-in-None
 returns-in-None c known =
-    sym (ap (λ o. option_map_or (rows_of_line known c.args.lines.now) o []) (got-past c.args.cites.now c.args.index (sym c.get.ensures.lookup.0 ∙ ap is_some c.in-None.is)))
+    c.new.ensures
+    ∙ sym (ap (λ o. option_map_or (rows_of_line known c.args.lines.now) o []) (got-past c.args.cites.now c.args.index (sym c.get.ensures.lookup.0 ∙ ap is_some c.in-None.is)))

@@ -1,4 +1,4 @@
-use Rattle.std.proofs.Common.{List, ap₂, sym, subst, ◌≡◌, true, OnOk}
+use Rattle.std.proofs.Common.{List, ap₂, sym, subst, ◌∙◌, ◌≡◌, true, OnOk}
 use Rattle.std.specs.List.{flat_map, list_all}
 use Rattle.guard_syntax.specs.declared.row.Row.{Row}
 use Rattle.rule_meaning.specs.Keys.{passes}
@@ -12,13 +12,13 @@ use Rattle.evidence_report.proofs.leads.push_rows_test.Goals as goal
 pub push_test-requires-clause-lefts : goal.push_test-requires-clause-lefts
 push_test-requires-clause-lefts c =
     let known = known_of c.args.context.now in
-    subst (λ (rows : List Row). list_all (is_known known) rows ≡ true) (sym (c.rows_cited-2.ensures known))
+    subst (λ (rows : List Row). list_all (is_known known) rows ≡ true) (sym (c.as_slice-2.ensures ∙ c.in_ok-lefts.ensures ∙ c.rows_cited-2.ensures known))
     (cited-known known (lines_of c.args.context.now) c.args.context.now.sound c.args.cites.now 0)
 
 pub push_test-requires-clause-rights : goal.push_test-requires-clause-rights
 push_test-requires-clause-rights c =
     let known = known_of c.args.context.now in
-    subst (λ (rows : List Row). list_all (is_known known) rows ≡ true) (sym (c.rows_cited.ensures known))
+    subst (λ (rows : List Row). list_all (is_known known) rows ≡ true) (sym (c.as_slice.ensures ∙ c.in_ok-rights.ensures ∙ c.rows_cited.ensures known))
     (cited-known known (lines_of c.args.context.now) c.args.context.now.sound c.args.cites.now 1)
 
 pub returns : goal.returns
@@ -26,5 +26,5 @@ returns c frame =
     let known = known_of c.args.context.now in
     let test = c.args.test.now in
     subst (λ (ls : List Leading). OnOk c.push_test.result (Appends known c.args.into.now.items c.push_test.new.into.items ls))
-    (ap₂ (λ (rs ls : List Row). own (flat_map (failed_row known (lines_of c.args.context.now) test.part (passes known test.op test.not rs)) ls)) (c.rows_cited.ensures known) (c.rows_cited-2.ensures known))
+    (ap₂ (λ (rs ls : List Row). own (flat_map (failed_row known (lines_of c.args.context.now) test.part (passes known test.op test.not rs)) ls)) (c.as_slice.ensures ∙ c.in_ok-rights.ensures ∙ c.rows_cited.ensures known) (c.as_slice-2.ensures ∙ c.in_ok-lefts.ensures ∙ c.rows_cited-2.ensures known))
     c.push_test.ensures

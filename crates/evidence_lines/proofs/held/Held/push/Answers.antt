@@ -10,39 +10,39 @@ use Rattle.evidence_lines.proofs.held.Held.push.Goals as goal
 pub returns-in_err-cites-clause-kept : goal.returns-in_err-cites-clause-kept
 returns-in_err-cites-clause-kept c =
     let a = c.args.self.now in
-    let b : Held = record { lines = a.lines; cites = c.hold_cites.new.into; cite_spans = c.hold_cites.new.spans; rows = a.rows; row_spans = a.row_spans; places = a.places; literals = a.literals } in
+    let b : Held = record { lines = a.lines; cites = c.hold_cites.new.into; cite_spans = c.hold_cites.new.spans; rows = a.rows; nodes = a.nodes; row_spans = a.row_spans; places = a.places; remembered = a.remembered } in
     on-err c.from_residual.result (see_lines b ≡ see_lines a)
-    (kept-lines a b c.hold_cites.ensures.more.0 c.hold_cites.ensures.spans.0 [] [] [] c.hold_cites.ensures.more.1 c.hold_cites.ensures.spans.1 (sym (append-nil a.rows.items)) (sym (append-nil a.row_spans.items))
+    (kept-lines a b c.hold_cites.ensures.more.0 c.hold_cites.ensures.spans.0 [] [] [] [] c.hold_cites.ensures.more.1 c.hold_cites.ensures.spans.1 (sym (append-nil a.rows.items)) (sym (append-nil a.nodes.items)) (sym (append-nil a.row_spans.items))
     (sym (append-nil a.places.items)) c.requires refl)
 
 pub returns-in_err-said-clause-kept : goal.returns-in_err-said-clause-kept
 returns-in_err-said-clause-kept c =
     let a = c.args.self.now in
-    let b : Held = record { lines = a.lines; cites = c.hold_cites.new.into; cite_spans = c.hold_cites.new.spans; rows = c.hold_outcome.new.into; row_spans = c.hold_outcome.new.spans; places = a.places; literals = c.hold_outcome.new.literals } in
+    let b : Held = record { lines = a.lines; cites = c.hold_cites.new.into; cite_spans = c.hold_cites.new.spans; rows = c.hold_outcome.new.into; nodes = c.hold_outcome.new.nodes; row_spans = c.hold_outcome.new.spans; places = a.places; remembered = c.hold_outcome.new.remembered } in
     on-err c.from_residual-in_err-said.result (see_lines b ≡ see_lines a)
-    (kept-lines a b c.hold_cites.ensures.more.0 c.hold_cites.ensures.spans.0 c.hold_outcome.ensures.more.0 c.hold_outcome.ensures.spans.0 [] c.hold_cites.ensures.more.1 c.hold_cites.ensures.spans.1
-    c.hold_outcome.ensures.more.1 c.hold_outcome.ensures.spans.1 (sym (append-nil a.places.items)) c.requires refl)
+    (kept-lines a b c.hold_cites.ensures.more.0 c.hold_cites.ensures.spans.0 c.hold_outcome.ensures.more.0 c.hold_outcome.ensures.nodes.0 c.hold_outcome.ensures.spans.0 [] c.hold_cites.ensures.more.1 c.hold_cites.ensures.spans.1
+    c.hold_outcome.ensures.more.1 c.hold_outcome.ensures.nodes.1 c.hold_outcome.ensures.spans.1 (sym (append-nil a.places.items)) c.requires refl)
 
 pub returns-in_err-place-clause-kept : goal.returns-in_err-place-clause-kept
 returns-in_err-place-clause-kept c =
     let a = c.args.self.now in
-    let b : Held = record { lines = a.lines; cites = c.hold_cites.new.into; cite_spans = c.hold_cites.new.spans; rows = c.hold_outcome.new.into; row_spans = c.hold_outcome.new.spans; places = c.hold_place.new.into; literals = c.hold_outcome.new.literals } in
+    let b : Held = record { lines = a.lines; cites = c.hold_cites.new.into; cite_spans = c.hold_cites.new.spans; rows = c.hold_outcome.new.into; nodes = c.hold_outcome.new.nodes; row_spans = c.hold_outcome.new.spans; places = c.hold_place.new.into; remembered = c.hold_outcome.new.remembered } in
     on-err c.from_residual-in_err-place.result (see_lines b ≡ see_lines a)
-    (kept-lines a b c.hold_cites.ensures.more.0 c.hold_cites.ensures.spans.0 c.hold_outcome.ensures.more.0 c.hold_outcome.ensures.spans.0 c.hold_place.ensures.more.0 c.hold_cites.ensures.more.1
-    c.hold_cites.ensures.spans.1 c.hold_outcome.ensures.more.1 c.hold_outcome.ensures.spans.1 c.hold_place.ensures.more.1 c.requires refl)
+    (kept-lines a b c.hold_cites.ensures.more.0 c.hold_cites.ensures.spans.0 c.hold_outcome.ensures.more.0 c.hold_outcome.ensures.nodes.0 c.hold_outcome.ensures.spans.0 c.hold_place.ensures.more.0 c.hold_cites.ensures.more.1
+    c.hold_cites.ensures.spans.1 c.hold_outcome.ensures.more.1 c.hold_outcome.ensures.nodes.1 c.hold_outcome.ensures.spans.1 c.hold_place.ensures.more.1 c.requires refl)
 
 pub returns-in_err-push-clause-kept : goal.returns-in_err-push-clause-kept
 returns-in_err-push-clause-kept c =
     let a = c.args.self.now in
-    let b : Held = record { lines = c.push.new.self; cites = c.hold_cites.new.into; cite_spans = c.hold_cites.new.spans; rows = c.hold_outcome.new.into; row_spans = c.hold_outcome.new.spans; places = c.hold_place.new.into; literals = c.hold_outcome.new.literals } in
+    let b : Held = record { lines = c.push.new.self; cites = c.hold_cites.new.into; cite_spans = c.hold_cites.new.spans; rows = c.hold_outcome.new.into; nodes = c.hold_outcome.new.nodes; row_spans = c.hold_outcome.new.spans; places = c.hold_place.new.into; remembered = c.hold_outcome.new.remembered } in
     on-err c.from_residual-in_err-push.result (see_lines b ≡ see_lines a)
-    (kept-lines a b c.hold_cites.ensures.more.0 c.hold_cites.ensures.spans.0 c.hold_outcome.ensures.more.0 c.hold_outcome.ensures.spans.0 c.hold_place.ensures.more.0 c.hold_cites.ensures.more.1
-    c.hold_cites.ensures.spans.1 c.hold_outcome.ensures.more.1 c.hold_outcome.ensures.spans.1 c.hold_place.ensures.more.1 c.requires c.in_err-push.ensures.items)
+    (kept-lines a b c.hold_cites.ensures.more.0 c.hold_cites.ensures.spans.0 c.hold_outcome.ensures.more.0 c.hold_outcome.ensures.nodes.0 c.hold_outcome.ensures.spans.0 c.hold_place.ensures.more.0 c.hold_cites.ensures.more.1
+    c.hold_cites.ensures.spans.1 c.hold_outcome.ensures.more.1 c.hold_outcome.ensures.nodes.1 c.hold_outcome.ensures.spans.1 c.hold_place.ensures.more.1 c.requires c.in_err-push.ensures.items)
 
 pub returns-clause-held : goal.returns-clause-held
 returns-clause-held c =
     let a = c.args.self.now in
-    let b : Held = record { lines = c.push.new.self; cites = c.hold_cites.new.into; cite_spans = c.hold_cites.new.spans; rows = c.hold_outcome.new.into; row_spans = c.hold_outcome.new.spans; places = c.hold_place.new.into; literals = c.hold_outcome.new.literals } in
+    let b : Held = record { lines = c.push.new.self; cites = c.hold_cites.new.into; cite_spans = c.hold_cites.new.spans; rows = c.hold_outcome.new.into; nodes = c.hold_outcome.new.nodes; row_spans = c.hold_outcome.new.spans; places = c.hold_place.new.into; remembered = c.hold_outcome.new.remembered } in
     let l : HeldLine = record {
       kind = c.args.line.kind;
       place = c.in_ok-place.place.form;
@@ -53,14 +53,14 @@ returns-clause-held c =
       cites_at = c.in_ok-cites.cites.at;
       said_at = c.in_ok-said.said.at;
     } in
-    added-held a b c.hold_cites.ensures.more.0 c.hold_cites.ensures.spans.0 c.hold_outcome.ensures.more.0 c.hold_outcome.ensures.spans.0 c.hold_place.ensures.more.0 c.hold_cites.ensures.more.1
-    c.hold_cites.ensures.spans.1 c.hold_outcome.ensures.more.1 c.hold_outcome.ensures.spans.1 c.hold_place.ensures.more.1 c.requires l
+    added-held a b c.hold_cites.ensures.more.0 c.hold_cites.ensures.spans.0 c.hold_outcome.ensures.more.0 c.hold_outcome.ensures.nodes.0 c.hold_outcome.ensures.spans.0 c.hold_place.ensures.more.0 c.hold_cites.ensures.more.1
+    c.hold_cites.ensures.spans.1 c.hold_outcome.ensures.more.1 c.hold_outcome.ensures.nodes.1 c.hold_outcome.ensures.spans.1 c.hold_place.ensures.more.1 c.requires l
     c.in_ok-push.ensures.items (record { cited = c.in_ok-cites.ensures.held.0; said = c.in_ok-said.ensures.held.0; placed = c.in_ok-place.ensures.held.0 })
 
 pub returns-clause-added : goal.returns-clause-added
 returns-clause-added c =
     let a = c.args.self.now in
-    let b : Held = record { lines = c.push.new.self; cites = c.hold_cites.new.into; cite_spans = c.hold_cites.new.spans; rows = c.hold_outcome.new.into; row_spans = c.hold_outcome.new.spans; places = c.hold_place.new.into; literals = c.hold_outcome.new.literals } in
+    let b : Held = record { lines = c.push.new.self; cites = c.hold_cites.new.into; cite_spans = c.hold_cites.new.spans; rows = c.hold_outcome.new.into; nodes = c.hold_outcome.new.nodes; row_spans = c.hold_outcome.new.spans; places = c.hold_place.new.into; remembered = c.hold_outcome.new.remembered } in
     let l : HeldLine = record {
       kind = c.args.line.kind;
       place = c.in_ok-place.place.form;
@@ -71,8 +71,8 @@ returns-clause-added c =
       cites_at = c.in_ok-cites.cites.at;
       said_at = c.in_ok-said.said.at;
     } in
-    added-line a b c.hold_cites.ensures.more.0 c.hold_cites.ensures.spans.0 c.hold_outcome.ensures.more.0 c.hold_outcome.ensures.spans.0 c.hold_place.ensures.more.0 c.hold_cites.ensures.more.1
-    c.hold_cites.ensures.spans.1 c.hold_outcome.ensures.more.1 c.hold_outcome.ensures.spans.1 c.hold_place.ensures.more.1 c.requires l
+    added-line a b c.hold_cites.ensures.more.0 c.hold_cites.ensures.spans.0 c.hold_outcome.ensures.more.0 c.hold_outcome.ensures.nodes.0 c.hold_outcome.ensures.spans.0 c.hold_place.ensures.more.0 c.hold_cites.ensures.more.1
+    c.hold_cites.ensures.spans.1 c.hold_outcome.ensures.more.1 c.hold_outcome.ensures.nodes.1 c.hold_outcome.ensures.spans.1 c.hold_place.ensures.more.1 c.requires l
     c.in_ok-push.ensures.items (record { cited = c.in_ok-cites.ensures.held.0; said = c.in_ok-said.ensures.held.0; placed = c.in_ok-place.ensures.held.0 })
-    ∙ ap (λ (x : Line). see_lines a ++ x ∷ []) (line-as (see_line b.cites.items b.cite_spans.items b.rows.items b.row_spans.items b.places.items l) c.args.line refl c.in_ok-place.ensures.held.1 c.in_ok-place.ensures.held.2
+    ∙ ap (λ (x : Line). see_lines a ++ x ∷ []) (line-as (see_line b.cites.items b.cite_spans.items b.rows.items b.nodes.items b.row_spans.items b.places.items l) c.args.line refl c.in_ok-place.ensures.held.1 c.in_ok-place.ensures.held.2
     (c.in_ok-cites.ensures.held.1 ∙ c.as_slice.ensures) c.in_ok-said.ensures.held.1)

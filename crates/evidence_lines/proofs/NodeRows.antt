@@ -1,0 +1,49 @@
+-- Rows that are values at nodes of the template are had from the nodes.
+use Rattle.std.proofs.Common.{◌≡◌, ℕ, Bool, true, false, not, List, [], ◌∷◌, ◌++◌, All, map, refl, sym, ap, ap₂}
+use Rattle.std.specs.List.{flat_map, list_all}
+use Rattle.std.proofs.lemmas.Bool.{and_parts, false≢true}
+use Rattle.std.proofs.lemmas.List.Elements.{All-cons, All-head, All-nil, All-tail}
+use Rattle.guard_syntax.specs.declared.row.Origin.{Origin}
+use Rattle.guard_syntax.specs.declared.row.Origin.TheVariants.{Template, Literal, Made}
+use Rattle.guard_syntax.specs.declared.row.Ref.{Ref}
+use Rattle.guard_syntax.specs.declared.row.Row.{Row}
+use Rattle.guard_syntax.specs.declared.row.Row.TheVariants.{Found, Missing, Unmade}
+use Rattle.evidence_lines.specs.Shapes.{IsRowBounded}
+use Rattle.evidence_lines.specs.Spelling.{further_text, row_text}
+use Rattle.evidence_lines.specs.code.RowsSeen.{is_node_row, is_template, node_of, node_row}
+
+template-is : (o : Origin) → is_template o ≡ true → o ≡ Template
+template-is Template is = refl
+template-is (Literal site) is = absurd (false≢true is)
+template-is (Made line row) is = absurd (false≢true is)
+
+no-key : (key : Bool) → not key ≡ true → key ≡ false
+no-key true is = absurd (false≢true is)
+no-key false is = refl
+
+row-at-node : (r : Row) → is_node_row r ≡ true → node_row (node_of r) ≡ r
+row-at-node (Found v) is =
+    let parts = and_parts (is_template v.origin) (not v.key) is in
+    let made : Origin → Bool → Row = λ o key. Found (record { origin = o; node = v.node; key = key }) in
+    ap₂ made (sym (template-is v.origin parts.0)) (sym (no-key v.key parts.1))
+row-at-node (Missing v step) is = absurd (false≢true is)
+row-at-node (Unmade call) is = absurd (false≢true is)
+
+-- such rows are the values at their nodes
+pub rows-at-nodes : (rows : List Row) → list_all is_node_row rows ≡ true → map node_row (map node_of rows) ≡ rows
+rows-at-nodes [] all = refl
+rows-at-nodes (r ∷ rows) all =
+    let parts = and_parts (is_node_row r) (list_all is_node_row rows) all in
+    ap₂ (λ (x : Row) (xs : List Row). x ∷ xs) (row-at-node r parts.0) (rows-at-nodes rows parts.1)
+
+-- their text
+pub further-at-nodes : (nodes : List ℕ) → flat_map (further_text (λ n. row_text (node_row n))) nodes ≡ flat_map (further_text row_text) (map node_row nodes)
+further-at-nodes [] = refl
+further-at-nodes (n ∷ nodes) = ap (λ t. further_text row_text (node_row n) ++ t) (further-at-nodes nodes)
+
+-- their bounds
+pub bounded-at-nodes : (nodes : List ℕ) → All (λ n. IsRowBounded (node_row n)) nodes → All IsRowBounded (map node_row nodes)
+bounded-at-nodes [] all = All-nil IsRowBounded
+bounded-at-nodes (n ∷ nodes) all =
+    let At : ℕ → Type 0 = λ n. IsRowBounded (node_row n) in
+    All-cons IsRowBounded (node_row n) (map node_row nodes) (All-head At n nodes all) (bounded-at-nodes nodes (All-tail At n nodes all))
