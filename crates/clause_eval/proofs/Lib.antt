@@ -25,6 +25,7 @@ mod Heights
 mod InPart
 mod InTurn
 mod Insides
+mod KeptStores
 mod KeptTrees
 mod KnownLines
 mod Lower

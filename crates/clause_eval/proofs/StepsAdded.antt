@@ -15,7 +15,7 @@ use Rattle.guard_syntax.specs.declared.row.Verdict.{Verdict}
 use Rattle.rule_names.specs.EnclosingScopes.{home_of}
 use Rattle.rule_names.specs.Pieces.{OfStep, piece_at}
 use Rattle.rule_meaning.specs.Keys.{captured_row}
-use Rattle.rule_meaning.specs.Places.{IsStartAt, IsStepAt, Placed, candidates_at, is_after_key, is_filter, is_first, placed_of, rows_at_step, step_at, step_candidates, step_in, steps_in}
+use Rattle.rule_meaning.specs.Places.{IsStartAt, Placed, candidates_at, is_after_key, is_filter, is_first, placed_of, rows_at_step, step_at, step_candidates, step_in, steps_in}
 use Rattle.rule_meaning.specs.StoreModel.{StoreModel, is_known, is_known_ref}
 use Rattle.evidence_rules.specs.CitedLines.{GivesStep}
 use Rattle.evidence_rules.specs.Follows.{GivesBefore, IsLater, SayEach}
@@ -45,9 +45,6 @@ module _ (f : File) (site : ℕ) (q : Query) (i : ℕ) (p : Step) (there : piece
   step-placed =
       ap (option_and_then placed_of) there
       ∙ ap (option_map (λ (s : Step). record { step = s; first = is_first i; last = not (is_some (step_in (steps_in q) (suc i))); after_key = is_after_key (steps_in q) i })) is
-
-  pub is-step : IsStepAt f site
-  is-step = ap is_some step-placed
 
   pub start-first : IsStartAt f site → is_first i ≡ true
   start-first start = sym (ap (λ (o : Option Placed). option_map_or (λ (at : Placed). at.first) o false) step-placed) ∙ start
@@ -107,9 +104,6 @@ module _ (s : State) (whole : IsWhole s) (frame site : ℕ) (of : LineKind) (bef
 
   pub step-frame : frame < length s.frames
   step-frame = frame-within s frame (home_of s.known.file site) step.3.scope_is
-
-  pub step-stands : IsStepAt s.known.file site
-  step-stands = is-step s.known.file site step.1 step.2 step.0 step.3.there step.4
 
   -- the rows of the step before it, and those of what it names further
   abbrev pub before-rows : (rows : List Row) × HasRows s.lines before rows
@@ -181,9 +175,6 @@ module _ (s : State) (whole : IsWhole s) (frame site before : ℕ) (numbers : Li
 
   pub filter-frame : frame < length s.frames
   filter-frame = frame-within s frame (home_of s.known.file site) judged.1.1.2.scope_is
-
-  pub filter-stands : IsStepAt s.known.file site
-  filter-stands = is-step s.known.file site judged.1.1.0 judged.1.1.1 (filter site judged.1.0 judged.0) filter-piece judged.1.1.3
 
   -- the rows of the step before it
   abbrev pub filter-rows : (rows : List Row) × SaysRows s.lines before rows

@@ -14,7 +14,7 @@ use Rattle.evidence_lines.specs.declared.line.Outcome.TheVariants as says
 use Rattle.guard_syntax.specs.Named.{Named}
 use Rattle.guard_syntax.specs.Syntax.{Conds, File, Query, Step, every, filter, index, items, key, keys, splice, this, var}
 use Rattle.guard_syntax.specs.code.Queries.{IsStart, QueriesBegin}
-use Rattle.guard_syntax.specs.code.Seen.{see_conds, see_expr, see_form, see_query, see_step}
+use Rattle.guard_syntax.specs.code.Seen.{see_conds, see_expr, see_form, see_query, see_step, step_list}
 use Rattle.guard_syntax.specs.declared.row.Ref.{Ref}
 use Rattle.guard_syntax.specs.declared.row.Row.{Row}
 use Rattle.guard_syntax.specs.declared.row.Row.TheVariants.{Found, Missing, Unmade}
@@ -31,9 +31,9 @@ use Rattle.rule_names.specs.Depths.{depths_of}
 use Rattle.rule_names.specs.EnclosingScopes.{home_of}
 use Rattle.rule_names.specs.Pieces.{AreInOrder, OfStep, Piece, Sited, piece_at}
 use Rattle.rule_names.specs.ReferenceGraph.{step_site}
-use Rattle.rule_names.proofs.Shapes.{step-seen}
+use Rattle.rule_names.proofs.Shapes.{query-seen, step-seen}
 use Rattle.rule_meaning.specs.Filters.{candidates_by, candidates_in, row_candidates}
-use Rattle.rule_meaning.specs.Places.{IsFilterAt, Placed, candidates_at, is_after_key, is_filter, is_first, placed_of, step_at, step_candidates, step_in, steps_in}
+use Rattle.rule_meaning.specs.Places.{IsFilterAt, Placed, candidates_at, is_after_key, is_filter, is_first, placed_in, placed_of, step_at, step_candidates, step_in, steps_in}
 use Rattle.rule_meaning.specs.Reached.{no_value, node_beside, numbers, value_for}
 use Rattle.rule_meaning.specs.Seeing.{grown}
 use Rattle.rule_meaning.specs.StoreModel.{Made, StoreModel, is_known, is_known_ref}
@@ -195,6 +195,16 @@ module _ (a : State) (whole : IsWhole a) (frame : ℕ) (q : code_query.Query) (i
 
   pub own-absent : LacksStep a frame (see_query q) i → a.parts frame st.site ≡ None
   own-absent new = subst (λ (n : ℕ). a.parts frame n ≡ None) (step-own st) (new (see_step st) is)
+
+  -- its place among the steps of the query
+  pub own-place : (steps : List item.Step) → steps ≡ (code_query.out-Query q).steps.items → step_at a.known.file st.site ≡ placed_in (step_list (map see_step steps)) i
+  own-place steps are =
+      ap (option_and_then placed_of) step-at.there
+      ∙ ap (λ (x : Query). placed_in (steps_in x) i) (query-seen q)
+      ∙ sym (ap (λ (ss : List item.Step). placed_in (step_list (map see_step ss)) i) are)
+
+  pub later-place : (b : State) → Grows a b → (steps : List item.Step) → steps ≡ (code_query.out-Query q).steps.items → step_at b.known.file st.site ≡ placed_in (step_list (map see_step steps)) i
+  later-place b grows steps are = ap (λ (f : File). step_at f st.site) (same-file a b grows whole) ∙ own-place steps are
 
   -- ---- a filter
 
@@ -385,6 +395,9 @@ module _ (a : State) (whole : IsWhole a) (frame site before : ℕ) (conditions :
 
   module _ (b : State) (tried : List Ref) (are : tried ≡ candidates_at a.known site given.0) (numbers : List ℕ) (verdicts : List Verdict)
       (it : AnswersCandidates a b frame site conditions tried numbers verdicts) where
+    pub filter-place : (place : Option Placed) → step_at a.known.file site ≡ place → step_at b.known.file site ≡ place
+    filter-place place is = ap (λ (f : File). step_at f site) (same-file a b it.0.grows whole) ∙ is
+
     pub filter-absent : a.parts frame site ≡ None → b.parts frame site ≡ None
     filter-absent none = absent-still a whole frame filter_part filters.1.2 b (height_at a.known.file a.frames frame site) numbers it.0 (omega arith) none
 

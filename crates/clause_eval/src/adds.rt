@@ -1,5 +1,5 @@
 //! Lines that are made of others which are there.
-ghost use Rattle.std.specs.Prelude.{◌≡◌, ◌∷◌, ℕ, List, [], None, Some, IfOk, IsSome, OnOk, true};
+ghost use Rattle.std.specs.Prelude.{◌≡◌, ◌<◌, ◌∷◌, ℕ, List, [], None, Some, IfOk, IsSome, OnOk, length, true};
 ghost use Rattle.std.specs.List.{list_all};
 ghost use Rattle.evidence_lines.specs.declared.line.LineKind.{LineKind};
 ghost use Rattle.evidence_lines.specs.declared.line.LineKind.TheVariants as kind;
@@ -10,6 +10,8 @@ ghost use Rattle.guard_syntax.specs.code.Seen.{see_body, see_part};
 ghost use Rattle.rule_names.specs.code.Files.{file_of};
 ghost use Rattle.guard_syntax.specs.declared.row.Row.{Row};
 ghost use Rattle.guard_syntax.specs.declared.row.Verdict.{Verdict};
+ghost use Rattle.query_steps.specs.code.Placed.{see_place};
+ghost use Rattle.rule_meaning.specs.Places.{step_at};
 ghost use Rattle.rule_meaning.specs.StoreModel.{is_known};
 ghost use Rattle.value_compare.specs.code.Stores.{see_store};
 ghost use Rattle.rule_names.specs.ReferenceGraph.{part_site};
@@ -24,9 +26,10 @@ ghost use Rattle.clause_eval.specs.code.States.{IsWhole};
 use crate::engine::Engine;
 use crate::judging::{is_set_test, refer_to, site_of, verdict_of_set, verdict_of_test};
 use crate::said::{Cited, Judged, Said};
+use crate::steps::SitedStep;
 use evidence_lines::{LineKind, Outcome, Rows};
 use guard_syntax::{Body, Part, Row, Verdict};
-use query_steps::{captured, kinds, step as step_rows};
+use query_steps::{StepInput, captured, kinds, placed_step};
 use rule_names::Piece;
 use std::alloc::{AllocError, Global};
 
@@ -86,38 +89,46 @@ impl<'t, 's> Engine<'t, 's> {
         &mut self,
         kind: LineKind,
         frame: u64,
-        site: u32,
+        step: SitedStep<'_>,
         before: Option<u64>,
         further: Option<u64>,
     ) -> Result<u64, AllocError>
         requires whole { IsWhole (see_engine self.old) }
-        requires step { IsStepWith (see_engine self.old) frame site kind before further }
-        requires new { (see_engine self.old).parts frame site ≡ None }
-        ensures { IfOk result (λ number. (rows : List Row) × Added (see_engine self.old) (see_engine self.new) frame site kind (both_cites before further) (says.Rows rows) number) }
+        requires step { IsStepWith (see_engine self.old) frame step.site kind before further }
+        requires new { (see_engine self.old).parts frame step.site ≡ None }
+        requires within { step.place.index < length step.place.steps.now }
+        requires place { step_at (see_engine self.old).known.file step.site ≡ see_place step.place }
+        ensures { IfOk result (λ number. (rows : List Row) × Added (see_engine self.old) (see_engine self.new) frame step.entry.site kind (both_cites before further) (says.Rows rows) number) }
     {
-        let rows = step_rows(
-            self.alloc,
-            self.file,
-            site,
-            self.current(frame),
-            self.rows_of(before),
-            self.rows_of(further),
-            &[],
-            &self.store,
-            self.book,
-        )?;
+        let rows = {
+            let earlier = self.rows_of(before).gather(self.alloc)?;
+            let later = self.rows_of(further).gather(self.alloc)?;
+            let input = StepInput {
+                current: self.current(frame),
+                before: earlier.as_slice(),
+                further: later.as_slice(),
+                verdicts: &[],
+            };
+            placed_step(self.alloc, step.place, input, &self.store, self.book)?
+        };
         let cites = cited(self.alloc, before, further)?;
-        self.add(frame, site, kind, cites, Outcome::Rows(Rows::new(&rows)))
+        self.add(
+            frame,
+            step.site,
+            kind,
+            cites,
+            Outcome::Rows(Rows::new(&rows)),
+        )
     }
 
     /// The rows that a line says, if there is one.
-    fn rows_of(&self, line: Option<u64>) -> &[Row]
+    fn rows_of(&self, line: Option<u64>) -> Rows<'_>
         requires { (rows : List Row) × HasRows self.now.evidence.lines line rows }
-        ensures { (rows : List Row) → HasRows self.entry.now.evidence.lines line rows → result.now ≡ rows }
+        ensures { (rows : List Row) → HasRows self.entry.now.evidence.lines line rows → result ≡ rows }
     {
         match line {
             Some(line) => self.rows_said(line),
-            None => &[],
+            None => Rows::new(&[]),
         }
     }
 
@@ -125,32 +136,33 @@ impl<'t, 's> Engine<'t, 's> {
     pub(crate) fn add_filter(
         &mut self,
         frame: u64,
-        site: u32,
+        step: SitedStep<'_>,
         before: u64,
         judged: Judged,
     ) -> Result<u64, AllocError>
         requires whole { IsWhole (see_engine self.old) }
-        requires judged { AreJudged (see_engine self.old) frame site before judged.lines.items judged.verdicts.items }
-        requires new { (see_engine self.old).parts frame site ≡ None }
-        ensures { IfOk result (λ number. (rows : List Row) × Added (see_engine self.old) (see_engine self.new) frame site kind.Filter (before ∷ judged.lines.items) (says.Rows rows) number) }
+        requires judged { AreJudged (see_engine self.old) frame step.site before judged.lines.items judged.verdicts.items }
+        requires new { (see_engine self.old).parts frame step.site ≡ None }
+        requires within { step.place.index < length step.place.steps.now }
+        requires place { step_at (see_engine self.old).known.file step.site ≡ see_place step.place }
+        ensures { IfOk result (λ number. (rows : List Row) × Added (see_engine self.old) (see_engine self.new) frame step.entry.site kind.Filter (before ∷ judged.lines.items) (says.Rows rows) number) }
     {
-        let rows = step_rows(
-            self.alloc,
-            self.file,
-            site,
-            self.current(frame),
-            self.rows_said(before),
-            &[],
-            &judged.verdicts,
-            &self.store,
-            self.book,
-        )?;
+        let rows = {
+            let said = self.rows_said(before).gather(self.alloc)?;
+            let input = StepInput {
+                current: self.current(frame),
+                before: said.as_slice(),
+                further: &[],
+                verdicts: &judged.verdicts,
+            };
+            placed_step(self.alloc, step.place, input, &self.store, self.book)?
+        };
         let mut cites = Vec::new(self.alloc);
         cites.push(before)?;
         cites.extend_from_slice(&judged.lines)?;
         self.add(
             frame,
-            site,
+            step.site,
             LineKind::Filter,
             cites,
             Outcome::Rows(Rows::new(&rows)),
@@ -170,8 +182,10 @@ impl<'t, 's> Engine<'t, 's> {
         requires new { (see_engine self.old).beside frame site ≡ None }
         ensures { IfOk result (λ number. (rows : List Row) × Added (see_engine self.old) (see_engine self.new) frame site kind.Capture (line ∷ []) (says.Rows rows) number) }
     {
-        let said = self.rows_said(line);
-        let rows = captured(self.alloc, said, &self.store)?;
+        let rows = {
+            let said = self.rows_said(line).gather(self.alloc)?;
+            captured(self.alloc, said.as_slice(), &self.store)?
+        };
         let mut cites = Vec::new(self.alloc);
         cites.push(line)?;
         self.add_beside(
@@ -196,7 +210,11 @@ impl<'t, 's> Engine<'t, 's> {
         requires new { (see_engine self.old).parts frame (part_site (see_part part.now)) ≡ None }
         ensures { IfOk result (λ said. Added (see_engine self.old) (see_engine self.new) frame (part_site (see_part part.now)) kind.Test (both_cites (Some left) right) (says.Verdict said.verdict) said.line) }
     {
-        let verdict = self.judge(part, self.rows_said(left), self.rows_of(right))?;
+        let verdict = {
+            let lefts = self.rows_said(left).gather(self.alloc)?;
+            let rights = self.rows_of(right).gather(self.alloc)?;
+            self.judge(part, lefts.as_slice(), rights.as_slice())?
+        };
         let lines = cited(self.alloc, Some(left), right)?;
         self.add_verdict(
             frame,

@@ -13,6 +13,12 @@ pub struct SiteSpan {
     pub count: u32,
 }
 
+/// For so many frames more room is made at once.
+const FRAMES: usize = 1 << 16;
+
+/// For the lines of so many parts more room is made at once.
+const LINES: usize = 1 << 18;
+
 /// The lines of the parts of each frame. All frames share one vector, of which each has a span: the number of a line for
 /// each of its sites, or 0 where there is none. A frame that needs more sites than its span has gets another one behind all
 /// others.
@@ -44,11 +50,23 @@ impl FrameLines {
         ensures added { OnOk result (length self.old.spans.items + 1 ≤ length self.new.spans.items) }
         ensures lines { (n m : ℕ) → line_in self.new.spans.items self.new.lines.items n m ≡ line_in self.old.spans.items self.old.lines.items n m }
     {
+        self.make_room()?;
         self.spans.push(SiteSpan {
             first,
             start: 0,
             count: 0,
         })?;
+        Ok(())
+    }
+
+    /// Makes room for many frames at once. Room that is not used takes no memory of the machine, and a vector that is this
+    /// large from the start grows in place, where one that is doubled from little leaves its former places behind.
+    fn make_room(&mut self) -> Result<(), AllocError>
+        ensures spans { self.new.spans.items ≡ self.old.spans.items }
+        ensures lines { self.new.lines.items ≡ self.old.lines.items }
+    {
+        self.spans.reserve(FRAMES)?;
+        self.lines.reserve(LINES)?;
         Ok(())
     }
 

@@ -17,8 +17,8 @@ ghost use Rattle.clause_eval.specs.code.States.{FollowUp, IsWhole};
 
 use crate::engine::Engine;
 use crate::place::Place;
-use evidence_lines::{Cites, Line, LineKind, Outcome};
-use guard_syntax::{Row, Verdict};
+use evidence_lines::{Cites, Line, LineKind, Outcome, Rows};
+use guard_syntax::Verdict;
 use std::alloc::AllocError;
 
 impl<'t, 's> Engine<'t, 's> {
@@ -55,15 +55,15 @@ impl<'t, 's> Engine<'t, 's> {
     }
 
     /// The rows that a line says.
-    pub fn rows_said(&self, line: u64) -> &[Row]
+    pub fn rows_said(&self, line: u64) -> Rows<'_>
         requires { (of : LineKind) × (frame site : ℕ) × (rows : List Row) × IsLine self.now.evidence.lines line of frame site (says.Rows rows) }
-        ensures { (of : LineKind) (frame site : ℕ) (rows : List Row) → IsLine self.entry.now.evidence.lines line of frame site (says.Rows rows) → result.now ≡ rows }
+        ensures { (of : LineKind) (frame site : ℕ) (rows : List Row) → IsLine self.entry.now.evidence.lines line of frame site (says.Rows rows) → result ≡ rows }
     {
         let Some(line) = self.evidence.get(line) else {
             unreachable!()
         };
         match line.outcome {
-            Outcome::Rows(rows) => rows.as_slice(),
+            Outcome::Rows(rows) => rows,
             Outcome::Value(_) | Outcome::Verdict(_) => unreachable!(),
         }
     }

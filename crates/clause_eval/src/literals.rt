@@ -1,10 +1,11 @@
 //! Lines of literals.
-ghost use Rattle.std.specs.Prelude.{◌≡◌, IfOk};
+ghost use Rattle.std.specs.Prelude.{◌≡◌, IfOk, None, Some};
 ghost use Rattle.evidence_lines.specs.declared.line.LineKind.TheVariants as kind;
 ghost use Rattle.guard_syntax.specs.code.Seen.{see_expr};
 ghost use Rattle.guard_syntax.specs.Syntax as syntax;
 ghost use Rattle.rule_names.specs.Pieces.{OfExpr};
 ghost use Rattle.rule_meaning.specs.Roots.{literal_ref};
+ghost use Rattle.rule_meaning.specs.StoreModel.{literal_at};
 ghost use Rattle.clause_eval.specs.code.Answers.{AnswersRows, StandsIn};
 ghost use Rattle.clause_eval.specs.code.Engines.{see_engine};
 ghost use Rattle.clause_eval.specs.code.States.{IsWhole};
@@ -21,7 +22,7 @@ impl<'t, 's> Engine<'t, 's> {
         &mut self,
         frame: u64,
         site: u32,
-        tree: &Doc<'static>,
+        tree: &'t Doc<'static>,
     ) -> Result<u64, AllocError>
         requires whole { IsWhole (see_engine self.old) }
         requires stands { StandsIn (see_engine self.old) frame (site, OfExpr (syntax.literal site tree.now)) }
@@ -30,6 +31,17 @@ impl<'t, 's> Engine<'t, 's> {
         if let Some(line) = self.found(frame, site) {
             return Ok(line);
         }
+        self.keep_literal(site, tree)?;
+        self.add_literal(frame, site, tree)
+    }
+
+    /// Adds the line of a literal, which has none yet.
+    fn add_literal(&mut self, frame: u64, site: u32, tree: &Doc<'static>) -> Result<u64, AllocError>
+        requires whole { IsWhole (see_engine self.old) }
+        requires stands { StandsIn (see_engine self.old) frame (site, OfExpr (syntax.literal site tree.now)) }
+        requires new { (see_engine self.old).parts frame site ≡ None }
+        ensures { IfOk result (λ number. AnswersRows (see_engine self.old) (see_engine self.new) frame kind.Literal site number) }
+    {
         // A tree has a root, as `len` says: the literal is known.
         let _nodes = tree.len();
         let rows = [Row::Found(root_of_literal(site))];
@@ -40,6 +52,14 @@ impl<'t, 's> Engine<'t, 's> {
             Vec::new(self.alloc),
             Outcome::Rows(Rows::new(&rows)),
         )
+    }
+
+    /// Keeps the tree of a literal at hand for the comparisons with it.
+    fn keep_literal(&mut self, site: u32, tree: &'t Doc<'static>) -> Result<(), AllocError>
+        requires { literal_at (see_engine self.old).known.file site ≡ Some tree.now }
+        ensures { see_engine self.new ≡ see_engine self.old }
+    {
+        self.store.keep_literal(site, tree)
     }
 }
 

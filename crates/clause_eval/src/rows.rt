@@ -43,7 +43,10 @@ impl<'t, 's> Engine<'t, 's> {
             return Ok(line);
         }
         let line = self.query(frame, query)?;
-        let rows = found_rows(self.alloc, self.rows_said(line))?;
+        let rows = {
+            let said = self.rows_said(line).gather(self.alloc)?;
+            found_rows(self.alloc, said.as_slice())?
+        };
         let mut cites = Vec::new(self.alloc);
         cites.push(line)?;
         self.add(

@@ -3,6 +3,8 @@ ghost use Rattle.std.specs.Prelude.{◌≡◌, ◌<◌, ℕ, length, IfOk, None,
 ghost use Rattle.std.specs.List.{list_all};
 ghost use Rattle.guard_syntax.specs.code.Seen.{see_conds, see_query};
 ghost use Rattle.guard_syntax.specs.declared.syntax.Query.{out-Query};
+ghost use Rattle.query_steps.specs.code.Placed.{see_place};
+ghost use Rattle.rule_meaning.specs.Places.{step_at};
 ghost use Rattle.rule_meaning.specs.StoreModel.{is_known_ref};
 ghost use Rattle.clause_eval.specs.code.Answers.{AnswersCandidates, AnswersFilter, AnswersStepBehind, GivesBeforeSite, GivesStepBefore, IsFilter, LacksStep, StandsUpTo};
 ghost use Rattle.clause_eval.specs.code.Engines.{see_engine};
@@ -12,8 +14,15 @@ use crate::engine::Engine;
 use crate::said::Judged;
 use evidence_lines::LineKind;
 use guard_syntax::{Conds, Query, Ref, StepForm};
-use query_steps::candidates;
+use query_steps::{StepPlace, placed_candidates};
 use std::alloc::AllocError;
+
+/// A step where it stands in its query, and its site.
+#[derive(Clone, Copy)]
+pub(crate) struct SitedStep<'t> {
+    pub site: u32,
+    pub place: StepPlace<'t>,
+}
 
 impl<'t, 's> Engine<'t, 's> {
     /// The line of a step that has none yet, behind that of the step before it.
@@ -33,24 +42,29 @@ impl<'t, 's> Engine<'t, 's> {
         ensures { IfOk result (λ number. AnswersStepBehind (see_engine self.old) (see_engine self.new) frame (see_query query.now) index before number) }
     {
         let step = &query.steps[index];
+        let steps = query.steps.as_slice();
+        let sited = SitedStep {
+            site: step.site,
+            place: StepPlace { steps, index },
+        };
         match &step.form {
             StepForm::Filter(_, conds) => match before {
-                Some(before) => self.filter(frame, step.site, conds, before),
+                Some(before) => self.filter(frame, sited, conds, before),
                 None => unreachable!(),
             },
             StepForm::Keys { right, .. } => {
                 let further = self.expression(frame, right)?;
-                self.add_step(LineKind::Keys, frame, step.site, before, Some(further))
+                self.add_step(LineKind::Keys, frame, sited, before, Some(further))
             }
             StepForm::Var(_) => {
                 let further = self.variable(frame, step.site)?;
-                self.add_step(LineKind::Step, frame, step.site, before, Some(further))
+                self.add_step(LineKind::Step, frame, sited, before, Some(further))
             }
             StepForm::Splice(_) => {
                 let further = self.variable(frame, step.site)?;
-                self.add_step(LineKind::Step, frame, step.site, before, Some(further))
+                self.add_step(LineKind::Step, frame, sited, before, Some(further))
             }
-            _ => self.add_step(LineKind::Step, frame, step.site, before, None),
+            _ => self.add_step(LineKind::Step, frame, sited, before, None),
         }
     }
 
@@ -59,20 +73,24 @@ impl<'t, 's> Engine<'t, 's> {
     fn filter(
         &mut self,
         frame: u64,
-        site: u32,
+        step: SitedStep<'t>,
         conds: &'t Conds,
         before: u64,
     ) -> Result<u64, AllocError>
         requires whole { IsWhole (see_engine self.old) }
-        requires stands { IsFilter (see_engine self.old) frame site (see_conds conds.now) }
-        requires new { (see_engine self.old).parts frame site ≡ None }
-        requires before { GivesBeforeSite (see_engine self.old) frame site before }
-        ensures { IfOk result (λ number. AnswersFilter (see_engine self.old) (see_engine self.new) frame site before number) }
+        requires stands { IsFilter (see_engine self.old) frame step.site (see_conds conds.now) }
+        requires new { (see_engine self.old).parts frame step.site ≡ None }
+        requires before { GivesBeforeSite (see_engine self.old) frame step.site before }
+        requires within { step.place.index < length step.place.steps.now }
+        requires place { step_at (see_engine self.old).known.file step.site ≡ see_place step.place }
+        ensures { IfOk result (λ number. AnswersFilter (see_engine self.old) (see_engine self.new) frame step.entry.site before number) }
     {
-        let said = self.rows_said(before);
-        let tried = candidates(self.alloc, self.file, site, said, &self.store)?;
-        let judged = self.judge_candidates(frame, site, conds, &tried)?;
-        self.add_filter(frame, site, before, judged)
+        let tried = {
+            let said = self.rows_said(before).gather(self.alloc)?;
+            placed_candidates(self.alloc, step.place, said.as_slice(), &self.store)?
+        };
+        let judged = self.judge_candidates(frame, step.site, conds, &tried)?;
+        self.add_filter(frame, step, before, judged)
     }
 
     /// The lines of the conditions of a filter for its candidates, each in a frame of its own.

@@ -9,7 +9,7 @@ ghost use Rattle.evidence_lookups.specs.code.Owned.{AreOwners};
 ghost use Rattle.rule_calls.specs.code.Ends.{AreOfEngine};
 
 use crate::evaluation::Evaluation;
-use evidence_lookups::judged::Judged;
+use evidence_lookups::judged::{Judged, is_rule_line};
 use evidence_lookups::line_context::LineContext;
 use evidence_lookups::owners::Owners;
 use std::alloc::{AllocError, Global};
@@ -24,6 +24,9 @@ pub fn judged_lines(alloc: Global, evaluation: &Evaluation<'_, '_>) -> Result<Ju
     let sites = file.raw().places.as_slice().len();
     let mut judged = Judged::new(alloc, sites)?;
     for before in 0..evaluation.evidence.len() {
+        if !is_rule_line(&evaluation.evidence.lines(), before + 1) {
+            continue;
+        }
         let Some(line) = evaluation.evidence.get(before + 1) else {
             // Each of these numbers has its line.
             unreachable!()

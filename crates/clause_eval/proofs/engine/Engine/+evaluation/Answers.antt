@@ -9,6 +9,7 @@ use Rattle.evidence_lines.specs.declared.line.LineKind.TheVariants as kind
 use Rattle.guard_syntax.specs.Syntax.{asked, found, function, literal, Part, block, call, guarded, kinds, refer}
 use Rattle.guard_syntax.specs.code.Seen.{expr_list, see_conds, see_expr, see_query, disj_list, see_body, see_disj, see_opt_conds, see_opt_expr, see_part}
 use Rattle.guard_syntax.specs.declared.syntax.Query.{out-Query}
+use Rattle.guard_syntax.specs.declared.syntax.Step.{Step}
 use Rattle.rule_names.specs.declared.bind.Bind.{Bind}
 use Rattle.rule_names.specs.EnclosingScopes.{home_of}
 use Rattle.rule_names.specs.Pieces.{OfExpr, OfStep, piece_at, OfPart}
@@ -16,9 +17,10 @@ use Rattle.rule_names.specs.Resolution.{bind_of}
 use Rattle.rule_names.specs.Uses.{query_site}
 use Rattle.rule_names.specs.code.Files.{file_of}
 use Rattle.rule_names.specs.code.Seen.{see_piece}
-use Rattle.rule_meaning.specs.Places.{IsFilterAt, candidates_at}
+use Rattle.rule_meaning.specs.Places.{Placed, candidates_at}
 use Rattle.rule_meaning.specs.Roots.{root_ref}
 use Rattle.rule_meaning.specs.StoreModel.{is_known, is_known_ref}
+use Rattle.query_steps.specs.code.Placed.{IsFilter, candidates_of_place, see_place}
 use Rattle.scope_frames.specs.code.Cells.{cell_of}
 use Rattle.scope_frames.specs.code.Frames.{AreEntered, StandsFor}
 use Rattle.scope_frames.specs.code.Scoping.{IsValue}
@@ -34,14 +36,13 @@ use Rattle.clause_eval.proofs.Elements.{next-fits, within-len}
 use Rattle.clause_eval.proofs.Evaluating.{Evaluates-none, same-file}
 use Rattle.clause_eval.proofs.Finished.{found-rows-answer}
 use Rattle.clause_eval.proofs.Insides.{asked-seen, found-seen, literal-seen, step-of, body-own, conds-own, disj-own, refer-seen, test-seen}
-use Rattle.clause_eval.proofs.SitesWithin.{site-within}
 use Rattle.clause_eval.proofs.NamesAnswered.{capture-absent, capture-answer, capture-found, capture-gives, capture-rank, capture-steps, capture-still, capture-within, captured-answer, captured-rank, captured-stands, let-answer, let-rank, let-stands, param-answer, param-arg-answer, param-arg-rank, param-arg-stands, param-rank, param-stands, param-within, use-bound, use-stands, value-expr-answer, value-expr-rank, value-expr-stands, value-query-answer, value-query-rank, value-query-stands}
 use Rattle.clause_eval.proofs.ParametersRead.{param-are, param-caller, param-find, param-parent, param-part, param-piece}
 use Rattle.clause_eval.proofs.PiecesLeft.{part-only, step-only, value-only}
 use Rattle.clause_eval.proofs.QueriesBegun.{query-begins}
 use Rattle.clause_eval.proofs.Ranks.{rank-on, rank_in, step_place}
 use Rattle.clause_eval.proofs.RowsAnswered.{answers-as, arg-next, arg-rank, arg-stands, args-end, args-start, asked-rank, asked-stands, call-absent, call-answer, call-given, found-absent, found-adds, found-answer, found-stands, function-form, has-steps, query-answer, query-rank, query-says, query-stands, rank-as, stands-as}
-use Rattle.clause_eval.proofs.StepsAnswered.{bare-further, bare-kind, filter-absent, filter-answer, filter-at, filter-before, filter-judged, filter-later, filtered-answer, further-cited, is-filter, keys-further, keys-kind, keys-no-filter, own-absent, own-rank, right-bound, right-rank, right-stands, splice-further, splice-kind, splice-used, step-absent, step-answer, step-no-filter, step-with, tried-known, tried-says, var-further, var-kind, var-used}
+use Rattle.clause_eval.proofs.StepsAnswered.{bare-further, bare-kind, filter-absent, filter-answer, filter-at, filter-before, filter-judged, filter-later, filter-place, filtered-answer, further-cited, is-filter, keys-further, keys-kind, keys-no-filter, later-place, own-absent, own-place, own-rank, right-bound, right-rank, right-stands, splice-further, splice-kind, splice-used, step-absent, step-answer, step-no-filter, step-with, tried-known, tried-says, var-further, var-kind, var-used}
 use Rattle.clause_eval.proofs.StepsInTurn.{before-next, line_list, new-next, step-rank, step-stands, step-there, steps-begun, steps-end, steps-next, steps-some}
 use Rattle.evidence_lines.specs.declared.line.LineKind.{LineKind}
 use Rattle.guard_syntax.specs.declared.row.Row.TheVariants.{Found}
@@ -173,7 +174,7 @@ found_query-add-requires-clause-adds t c =
     let b = see_engine c.query.new.self in
     let said = query-says b.known.file b.lines it.at (see_query c.args.query.now) c.in_ok-line.line it.says.0 it.says.1 in
     found-adds (see_engine c.args.self.now) c.requires.whole c.args.self.now.store.file.now.sites c.args.frame c.args.site (see_query c.args.query.now) c.requires.stands b c.in_ok-line.line it
-    c.rows_said.result.now c.new.result c.push.new.self.items (c.rows_said.ensures said.0 said.1 said.2 it.says.0 said.3) (c.new.ensures ∙ c.deref.ensures.value ∙ c.in_ok-rows.ensures)
+    c.as_slice.result.now c.new.result c.push.new.self.items (c.as_slice.ensures ∙ c.in_ok-said.ensures ∙ c.rows_said.ensures said.0 said.1 said.2 it.says.0 said.3) (c.new.ensures ∙ c.deref.ensures.value ∙ c.in_ok-rows.ensures)
     (c.in_ok-push.ensures.items ∙ ap (λ xs. xs ++ c.in_ok-line.line ∷ []) c.new-cites.ensures.items)
 
 pub found_query-add-requires-clause-new : goal.found_query-add-requires-clause-new
@@ -329,36 +330,27 @@ steps-overflow_add-index-end t c =
     let steps = (out-Query c.args.query.now).steps in
     next-fits _ _ _ _ c.requires.last steps.ok.0 steps.ok.1 steps.small
 
-pub filter-rows_said-said-requires : goal.filter-rows_said-said-requires
-filter-rows_said-said-requires t c =
-    let it = tried-says (see_engine c.args.self.now) c.requires.whole c.args.frame c.args.site c.args.before (see_conds c.args.conds.now) c.requires.stands c.requires.before in
+pub filter-rows_said-requires : goal.filter-rows_said-requires
+filter-rows_said-requires t c =
+    let it = tried-says (see_engine c.args.self.now) c.requires.whole c.args.frame c.args.step.site c.args.before (see_conds c.args.conds.now) c.requires.stands c.requires.before in
     (it.0, it.1, it.2, c.requires.before.0, it.3)
 
-pub filter-candidates-requires-clause-site : goal.filter-candidates-requires-clause-site
-filter-candidates-requires-clause-site t c =
+pub filter-placed_candidates-requires-clause-filter : goal.filter-placed_candidates-requires-clause-filter
+filter-placed_candidates-requires-clause-filter t c =
+    subst IsFilter c.requires.place
+    (filter-at (see_engine c.args.self.now) c.requires.whole c.args.frame c.args.step.site c.args.before (see_conds c.args.conds.now) c.requires.stands c.requires.before)
+
+pub filter-placed_candidates-requires-clause-known : goal.filter-placed_candidates-requires-clause-known
+filter-placed_candidates-requires-clause-known t c =
     let s = see_engine c.args.self.now in
-    subst (λ f. c.args.site < length (file_of f).places) c.args.self.now.store_over
-    (site-within s.known.file c.args.self.now.store.file.now.sites c.args.site (OfStep c.requires.stands.1.0 c.requires.stands.1.1) c.requires.stands.1.2.there)
-
-pub filter-candidates-requires-clause-filter : goal.filter-candidates-requires-clause-filter
-filter-candidates-requires-clause-filter t c =
-    subst (λ f. IsFilterAt (file_of f) c.args.site) c.args.self.now.store_over
-    (filter-at (see_engine c.args.self.now) c.requires.whole c.args.frame c.args.site c.args.before (see_conds c.args.conds.now) c.requires.stands c.requires.before)
-
-pub filter-candidates-requires-clause-file : goal.filter-candidates-requires-clause-file
-filter-candidates-requires-clause-file t c = ap file_of c.args.self.now.store_over
-
-pub filter-candidates-requires-clause-known : goal.filter-candidates-requires-clause-known
-filter-candidates-requires-clause-known t c =
-    let s = see_engine c.args.self.now in
-    let it = tried-says s c.requires.whole c.args.frame c.args.site c.args.before (see_conds c.args.conds.now) c.requires.stands c.requires.before in
-    ap (list_all (is_known s.known)) (c.rows_said-said.ensures it.0 it.1 it.2 c.requires.before.0 it.3)
-    ∙ tried-known s c.requires.whole c.args.frame c.args.site c.args.before (see_conds c.args.conds.now) c.requires.stands c.requires.before
+    let it = tried-says s c.requires.whole c.args.frame c.args.step.site c.args.before (see_conds c.args.conds.now) c.requires.stands c.requires.before in
+    ap (list_all (is_known s.known)) (c.as_slice.ensures ∙ c.in_ok-said.ensures ∙ c.rows_said.ensures it.0 it.1 it.2 c.requires.before.0 it.3)
+    ∙ tried-known s c.requires.whole c.args.frame c.args.step.site c.args.before (see_conds c.args.conds.now) c.requires.stands c.requires.before
 
 pub filter-judge_candidates-requires : goal.filter-judge_candidates-requires
 filter-judge_candidates-requires t c =
     let s = see_engine c.args.self.now in (
-      rank-on s s c.args.frame c.args.frame c.args.site c.args.site 1 0 t c.decreases (omega arith) (omega arith),
+      rank-on s s c.args.frame c.args.frame c.args.step.site c.args.step.site 1 0 t c.decreases (omega arith) (omega arith),
       (c.requires.whole, (c.requires.stands, ap (list_all (is_known_ref s.known)) c.deref.ensures.value ∙ c.in_ok-tried.ensures.known)),
     )
 
@@ -368,29 +360,38 @@ filter-add_filter-requires-clause-whole t c = c.in_ok-judged.ensures.0.whole
 pub filter-add_filter-requires-clause-judged : goal.filter-add_filter-requires-clause-judged
 filter-add_filter-requires-clause-judged t c =
     let s = see_engine c.args.self.now in
-    let it = tried-says s c.requires.whole c.args.frame c.args.site c.args.before (see_conds c.args.conds.now) c.requires.stands c.requires.before in
-    filter-judged s c.requires.whole c.args.frame c.args.site c.args.before (see_conds c.args.conds.now) c.requires.stands c.requires.before (see_engine c.judge_candidates.new.self)
+    let it = tried-says s c.requires.whole c.args.frame c.args.step.site c.args.before (see_conds c.args.conds.now) c.requires.stands c.requires.before in
+    filter-judged s c.requires.whole c.args.frame c.args.step.site c.args.before (see_conds c.args.conds.now) c.requires.stands c.requires.before (see_engine c.judge_candidates.new.self)
     c.deref.result.now
-    (c.deref.ensures.value ∙ c.in_ok-tried.ensures.candidates ∙ ap (candidates_at s.known c.args.site) (c.rows_said-said.ensures it.0 it.1 it.2 c.requires.before.0 it.3))
+    (c.deref.ensures.value ∙ c.in_ok-tried.ensures.candidates ∙ ap (λ (o : Option Placed). candidates_of_place s.known o c.as_slice.result.now) (sym c.requires.place) ∙ ap (candidates_at s.known c.args.step.site) (c.as_slice.ensures ∙ c.in_ok-said.ensures ∙ c.rows_said.ensures it.0 it.1 it.2 c.requires.before.0 it.3))
     c.in_ok-judged.judged.lines.items c.in_ok-judged.judged.verdicts.items c.in_ok-judged.ensures
 
 pub filter-add_filter-requires-clause-new : goal.filter-add_filter-requires-clause-new
 filter-add_filter-requires-clause-new t c =
     let s = see_engine c.args.self.now in
-    let it = tried-says s c.requires.whole c.args.frame c.args.site c.args.before (see_conds c.args.conds.now) c.requires.stands c.requires.before in
-    filter-absent s c.requires.whole c.args.frame c.args.site c.args.before (see_conds c.args.conds.now) c.requires.stands c.requires.before (see_engine c.judge_candidates.new.self)
+    let it = tried-says s c.requires.whole c.args.frame c.args.step.site c.args.before (see_conds c.args.conds.now) c.requires.stands c.requires.before in
+    filter-absent s c.requires.whole c.args.frame c.args.step.site c.args.before (see_conds c.args.conds.now) c.requires.stands c.requires.before (see_engine c.judge_candidates.new.self)
     c.deref.result.now
-    (c.deref.ensures.value ∙ c.in_ok-tried.ensures.candidates ∙ ap (candidates_at s.known c.args.site) (c.rows_said-said.ensures it.0 it.1 it.2 c.requires.before.0 it.3))
+    (c.deref.ensures.value ∙ c.in_ok-tried.ensures.candidates ∙ ap (λ (o : Option Placed). candidates_of_place s.known o c.as_slice.result.now) (sym c.requires.place) ∙ ap (candidates_at s.known c.args.step.site) (c.as_slice.ensures ∙ c.in_ok-said.ensures ∙ c.rows_said.ensures it.0 it.1 it.2 c.requires.before.0 it.3))
     c.in_ok-judged.judged.lines.items c.in_ok-judged.judged.verdicts.items c.in_ok-judged.ensures c.requires.new
+
+pub filter-add_filter-requires-clause-place : goal.filter-add_filter-requires-clause-place
+filter-add_filter-requires-clause-place t c =
+    let s = see_engine c.args.self.now in
+    let it = tried-says s c.requires.whole c.args.frame c.args.step.site c.args.before (see_conds c.args.conds.now) c.requires.stands c.requires.before in
+    filter-place s c.requires.whole c.args.frame c.args.step.site c.args.before (see_conds c.args.conds.now) c.requires.stands c.requires.before (see_engine c.judge_candidates.new.self)
+    c.deref.result.now
+    (c.deref.ensures.value ∙ c.in_ok-tried.ensures.candidates ∙ ap (λ (o : Option Placed). candidates_of_place s.known o c.as_slice.result.now) (sym c.requires.place) ∙ ap (candidates_at s.known c.args.step.site) (c.as_slice.ensures ∙ c.in_ok-said.ensures ∙ c.rows_said.ensures it.0 it.1 it.2 c.requires.before.0 it.3))
+    c.in_ok-judged.judged.lines.items c.in_ok-judged.judged.verdicts.items c.in_ok-judged.ensures (see_place c.args.step.place) c.requires.place
 
 pub filter-returns : goal.filter-returns
 filter-returns t c =
     let s = see_engine c.args.self.now in
-    let it = tried-says s c.requires.whole c.args.frame c.args.site c.args.before (see_conds c.args.conds.now) c.requires.stands c.requires.before in
+    let it = tried-says s c.requires.whole c.args.frame c.args.step.site c.args.before (see_conds c.args.conds.now) c.requires.stands c.requires.before in
     IfOk-weaker c.add_filter.result _ _ (λ number added.
-    filtered-answer s c.requires.whole c.args.frame c.args.site c.args.before (see_conds c.args.conds.now) c.requires.stands c.requires.before (see_engine c.judge_candidates.new.self)
+    filtered-answer s c.requires.whole c.args.frame c.args.step.site c.args.before (see_conds c.args.conds.now) c.requires.stands c.requires.before (see_engine c.judge_candidates.new.self)
     c.deref.result.now
-    (c.deref.ensures.value ∙ c.in_ok-tried.ensures.candidates ∙ ap (candidates_at s.known c.args.site) (c.rows_said-said.ensures it.0 it.1 it.2 c.requires.before.0 it.3))
+    (c.deref.ensures.value ∙ c.in_ok-tried.ensures.candidates ∙ ap (λ (o : Option Placed). candidates_of_place s.known o c.as_slice.result.now) (sym c.requires.place) ∙ ap (candidates_at s.known c.args.step.site) (c.as_slice.ensures ∙ c.in_ok-said.ensures ∙ c.rows_said.ensures it.0 it.1 it.2 c.requires.before.0 it.3))
     c.in_ok-judged.judged.lines.items c.in_ok-judged.judged.verdicts.items c.in_ok-judged.ensures (see_engine c.add_filter.new.self) number added.0 added.1) c.add_filter.ensures
 
 pub judge_candidates-loop-candidate-init : goal.judge_candidates-loop-candidate-init
@@ -516,7 +517,13 @@ step-filter-requires t c =
           is-filter s c.requires.whole c.args.frame q i c.requires.stands st is c.in-Filter.field-0 c.in-Filter.conds c.in-Filter.is,
           (
             own-absent s c.requires.whole c.args.frame q i c.requires.stands st is c.requires.new,
-            filter-before s c.requires.whole c.args.frame q i c.requires.stands st is c.in-Filter.field-0 c.in-Filter.conds c.in-Filter.is c.in-Some.before given,
+            (
+              filter-before s c.requires.whole c.args.frame q i c.requires.stands st is c.in-Filter.field-0 c.in-Filter.conds c.in-Filter.is c.in-Some.before given,
+              (
+                subst (λ (ss : List Step). i < length ss) (sym c.as_slice-steps.ensures.value) c.requires.index,
+                own-place s c.requires.whole c.args.frame q i c.requires.stands st is c.as_slice-steps.result.now c.as_slice-steps.ensures.value,
+              ),
+            ),
           ),
         ),
       ),
@@ -594,6 +601,18 @@ step-add_step-requires-clause-new t c =
     (Some further) c.requires.before kind.Keys
     (keys-kind s c.requires.whole c.args.frame q i c.requires.stands st is order c.in-Keys.capture c.in-Keys.op c.in-Keys.not c.in-Keys.right c.in-Keys.is) c.requires.new
 
+pub step-add_step-requires-clause-within : goal.step-add_step-requires-clause-within
+step-add_step-requires-clause-within t c = subst (λ (ss : List Step). c.args.index < length ss) (sym c.as_slice-steps.ensures.value) c.requires.index
+
+pub step-add_step-requires-clause-place : goal.step-add_step-requires-clause-place
+step-add_step-requires-clause-place t c =
+    let s = see_engine c.args.self.now in
+    let q = c.args.query.now in
+    let i = c.args.index in
+    let st = c.index-step.result.now in
+    let is = step-of q (out-Query q).steps.items i st refl c.requires.index c.index-step.ensures in
+    later-place s c.requires.whole c.args.frame q i c.requires.stands st is (see_engine c.expression.new.self) c.in_ok-further-in-Keys.ensures.evaluates.grows c.as_slice-steps.result.now c.as_slice-steps.ensures.value
+
 pub step-returns-in_ok-further-in-Keys : goal.step-returns-in_ok-further-in-Keys
 step-returns-in_ok-further-in-Keys t c =
     let s = see_engine c.args.self.now in
@@ -653,6 +672,18 @@ step-add_step-requires-in-Var-clause-new t c =
     step-absent s c.requires.whole c.args.frame q i c.requires.stands st is b (height_at s.known.file s.frames c.args.frame st.site) (further ∷ []) it.evaluates (omega arith) c.args.before
     (Some further) c.requires.before kind.Step (var-kind s c.requires.whole c.args.frame q i c.requires.stands st is c.in-Var.field-0 c.in-Var.is) c.requires.new
 
+pub step-add_step-requires-in-Var-clause-within : goal.step-add_step-requires-in-Var-clause-within
+step-add_step-requires-in-Var-clause-within t c = subst (λ (ss : List Step). c.args.index < length ss) (sym c.as_slice-steps.ensures.value) c.requires.index
+
+pub step-add_step-requires-in-Var-clause-place : goal.step-add_step-requires-in-Var-clause-place
+step-add_step-requires-in-Var-clause-place t c =
+    let s = see_engine c.args.self.now in
+    let q = c.args.query.now in
+    let i = c.args.index in
+    let st = c.index-step.result.now in
+    let is = step-of q (out-Query q).steps.items i st refl c.requires.index c.index-step.ensures in
+    later-place s c.requires.whole c.args.frame q i c.requires.stands st is (see_engine c.variable.new.self) c.in_ok-further-in-Var.ensures.evaluates.grows c.as_slice-steps.result.now c.as_slice-steps.ensures.value
+
 pub step-returns-in_ok-further-in-Var : goal.step-returns-in_ok-further-in-Var
 step-returns-in_ok-further-in-Var t c =
     let s = see_engine c.args.self.now in
@@ -709,6 +740,18 @@ step-add_step-requires-in-Splice-clause-new t c =
     step-absent s c.requires.whole c.args.frame q i c.requires.stands st is b (height_at s.known.file s.frames c.args.frame st.site) (further ∷ []) it.evaluates (omega arith) c.args.before
     (Some further) c.requires.before kind.Step (splice-kind s c.requires.whole c.args.frame q i c.requires.stands st is c.in-Splice.field-0 c.in-Splice.is) c.requires.new
 
+pub step-add_step-requires-in-Splice-clause-within : goal.step-add_step-requires-in-Splice-clause-within
+step-add_step-requires-in-Splice-clause-within t c = subst (λ (ss : List Step). c.args.index < length ss) (sym c.as_slice-steps.ensures.value) c.requires.index
+
+pub step-add_step-requires-in-Splice-clause-place : goal.step-add_step-requires-in-Splice-clause-place
+step-add_step-requires-in-Splice-clause-place t c =
+    let s = see_engine c.args.self.now in
+    let q = c.args.query.now in
+    let i = c.args.index in
+    let st = c.index-step.result.now in
+    let is = step-of q (out-Query q).steps.items i st refl c.requires.index c.index-step.ensures in
+    later-place s c.requires.whole c.args.frame q i c.requires.stands st is (see_engine c.variable-in-Splice.new.self) c.in_ok-further-in-Splice.ensures.evaluates.grows c.as_slice-steps.result.now c.as_slice-steps.ensures.value
+
 pub step-returns-in_ok-further-in-Splice : goal.step-returns-in_ok-further-in-Splice
 step-returns-in_ok-further-in-Splice t c =
     let s = see_engine c.args.self.now in
@@ -747,6 +790,18 @@ step-add_step-requires-in_default-clause-new t c =
     let st = c.index-step.result.now in
     let is = step-of q (out-Query q).steps.items i st refl c.requires.index c.index-step.ensures in
     own-absent s c.requires.whole c.args.frame q i c.requires.stands st is c.requires.new
+
+pub step-add_step-requires-in_default-clause-within : goal.step-add_step-requires-in_default-clause-within
+step-add_step-requires-in_default-clause-within t c = subst (λ (ss : List Step). c.args.index < length ss) (sym c.as_slice-steps.ensures.value) c.requires.index
+
+pub step-add_step-requires-in_default-clause-place : goal.step-add_step-requires-in_default-clause-place
+step-add_step-requires-in_default-clause-place t c =
+    let s = see_engine c.args.self.now in
+    let q = c.args.query.now in
+    let i = c.args.index in
+    let st = c.index-step.result.now in
+    let is = step-of q (out-Query q).steps.items i st refl c.requires.index c.index-step.ensures in
+    own-place s c.requires.whole c.args.frame q i c.requires.stands st is c.as_slice-steps.result.now c.as_slice-steps.ensures.value
 
 pub step-returns-in_default : goal.step-returns-in_default
 step-returns-in_default t c =
@@ -1478,28 +1533,28 @@ block-rows_said-requires t c =
 
 pub block-bodies-requires : goal.block-bodies-requires
 block-bodies-requires t c =
-    block-body (see_engine c.args.self.now) (see_engine c.query.new.self) c.requires.whole c.args.self.now.store.file.now.sites c.args.frame c.args.site c.args.any (see_query c.args.head.now) (see_body c.args.body.now) c.requires.stands c.in_ok-line.line c.in_ok-line.ensures c.deref.result.now (c.deref.ensures.value ∙ (c.in_ok-rows.ensures.items_if_clones_equal (λ x y h. h) ∙ query-told (see_engine c.args.self.now) (see_engine c.query.new.self) c.args.frame (see_query c.args.head.now) c.in_ok-line.line c.in_ok-line.ensures c.rows_said.result.now c.rows_said.ensures)) 0 5 t c.decreases (omega arith)
+    block-body (see_engine c.args.self.now) (see_engine c.query.new.self) c.requires.whole c.args.self.now.store.file.now.sites c.args.frame c.args.site c.args.any (see_query c.args.head.now) (see_body c.args.body.now) c.requires.stands c.in_ok-line.line c.in_ok-line.ensures c.deref.result.now (c.deref.ensures.value ∙ (c.in_ok-rows.ensures ∙ query-told (see_engine c.args.self.now) (see_engine c.query.new.self) c.args.frame (see_query c.args.head.now) c.in_ok-line.line c.in_ok-line.ensures c.rows_said.result c.rows_said.ensures)) 0 5 t c.decreases (omega arith)
 
 pub block-add_verdict-requires-clause-whole : goal.block-add_verdict-requires-clause-whole
 block-add_verdict-requires-clause-whole t c =
-    block-whole (see_engine c.args.self.now) (see_engine c.query.new.self) c.requires.whole c.args.self.now.store.file.now.sites c.args.frame c.args.site c.args.any (see_query c.args.head.now) (see_body c.args.body.now) c.requires.stands c.in_ok-line.line c.in_ok-line.ensures c.deref.result.now (c.deref.ensures.value ∙ (c.in_ok-rows.ensures.items_if_clones_equal (λ x y h. h) ∙ query-told (see_engine c.args.self.now) (see_engine c.query.new.self) c.args.frame (see_query c.args.head.now) c.in_ok-line.line c.in_ok-line.ensures c.rows_said.result.now c.rows_said.ensures)) (see_engine c.bodies.new.self) c.in_ok-cited.cited.lines.items c.in_ok-cited.cited.verdict c.in_ok-cited.ensures
+    block-whole (see_engine c.args.self.now) (see_engine c.query.new.self) c.requires.whole c.args.self.now.store.file.now.sites c.args.frame c.args.site c.args.any (see_query c.args.head.now) (see_body c.args.body.now) c.requires.stands c.in_ok-line.line c.in_ok-line.ensures c.deref.result.now (c.deref.ensures.value ∙ (c.in_ok-rows.ensures ∙ query-told (see_engine c.args.self.now) (see_engine c.query.new.self) c.args.frame (see_query c.args.head.now) c.in_ok-line.line c.in_ok-line.ensures c.rows_said.result c.rows_said.ensures)) (see_engine c.bodies.new.self) c.in_ok-cited.cited.lines.items c.in_ok-cited.cited.verdict c.in_ok-cited.ensures
 
 pub block-add_verdict-requires-clause-kind : goal.block-add_verdict-requires-clause-kind
 block-add_verdict-requires-clause-kind t c =
-    block-kind (see_engine c.args.self.now) (see_engine c.query.new.self) c.requires.whole c.args.self.now.store.file.now.sites c.args.frame c.args.site c.args.any (see_query c.args.head.now) (see_body c.args.body.now) c.requires.stands c.in_ok-line.line c.in_ok-line.ensures c.deref.result.now (c.deref.ensures.value ∙ (c.in_ok-rows.ensures.items_if_clones_equal (λ x y h. h) ∙ query-told (see_engine c.args.self.now) (see_engine c.query.new.self) c.args.frame (see_query c.args.head.now) c.in_ok-line.line c.in_ok-line.ensures c.rows_said.result.now c.rows_said.ensures)) (see_engine c.bodies.new.self) c.in_ok-cited.cited.lines.items c.in_ok-cited.cited.verdict c.in_ok-cited.ensures
+    block-kind (see_engine c.args.self.now) (see_engine c.query.new.self) c.requires.whole c.args.self.now.store.file.now.sites c.args.frame c.args.site c.args.any (see_query c.args.head.now) (see_body c.args.body.now) c.requires.stands c.in_ok-line.line c.in_ok-line.ensures c.deref.result.now (c.deref.ensures.value ∙ (c.in_ok-rows.ensures ∙ query-told (see_engine c.args.self.now) (see_engine c.query.new.self) c.args.frame (see_query c.args.head.now) c.in_ok-line.line c.in_ok-line.ensures c.rows_said.result c.rows_said.ensures)) (see_engine c.bodies.new.self) c.in_ok-cited.cited.lines.items c.in_ok-cited.cited.verdict c.in_ok-cited.ensures
 
 pub block-add_verdict-requires-clause-adds : goal.block-add_verdict-requires-clause-adds
 block-add_verdict-requires-clause-adds t c =
-    block-adds (see_engine c.args.self.now) (see_engine c.query.new.self) c.requires.whole c.args.self.now.store.file.now.sites c.args.frame c.args.site c.args.any (see_query c.args.head.now) (see_body c.args.body.now) c.requires.stands c.in_ok-line.line c.in_ok-line.ensures c.deref.result.now (c.deref.ensures.value ∙ (c.in_ok-rows.ensures.items_if_clones_equal (λ x y h. h) ∙ query-told (see_engine c.args.self.now) (see_engine c.query.new.self) c.args.frame (see_query c.args.head.now) c.in_ok-line.line c.in_ok-line.ensures c.rows_said.result.now c.rows_said.ensures)) (see_engine c.bodies.new.self) c.in_ok-cited.cited.lines.items c.in_ok-cited.cited.verdict c.in_ok-cited.ensures c.append.new.self.items
+    block-adds (see_engine c.args.self.now) (see_engine c.query.new.self) c.requires.whole c.args.self.now.store.file.now.sites c.args.frame c.args.site c.args.any (see_query c.args.head.now) (see_body c.args.body.now) c.requires.stands c.in_ok-line.line c.in_ok-line.ensures c.deref.result.now (c.deref.ensures.value ∙ (c.in_ok-rows.ensures ∙ query-told (see_engine c.args.self.now) (see_engine c.query.new.self) c.args.frame (see_query c.args.head.now) c.in_ok-line.line c.in_ok-line.ensures c.rows_said.result c.rows_said.ensures)) (see_engine c.bodies.new.self) c.in_ok-cited.cited.lines.items c.in_ok-cited.cited.verdict c.in_ok-cited.ensures c.append.new.self.items
     (c.in_ok-append.ensures.items ∙ ap (λ (ns : List ℕ). ns ++ c.in_ok-cited.cited.lines.items) (c.in_ok-push.ensures.items ∙ ap (λ (ns : List ℕ). ns ++ c.in_ok-line.line ∷ []) c.new-lines.ensures.items))
 
 pub block-add_verdict-requires-clause-new : goal.block-add_verdict-requires-clause-new
 block-add_verdict-requires-clause-new t c =
-    block-new (see_engine c.args.self.now) (see_engine c.query.new.self) c.requires.whole c.args.self.now.store.file.now.sites c.args.frame c.args.site c.args.any (see_query c.args.head.now) (see_body c.args.body.now) c.requires.stands c.in_ok-line.line c.in_ok-line.ensures c.deref.result.now (c.deref.ensures.value ∙ (c.in_ok-rows.ensures.items_if_clones_equal (λ x y h. h) ∙ query-told (see_engine c.args.self.now) (see_engine c.query.new.self) c.args.frame (see_query c.args.head.now) c.in_ok-line.line c.in_ok-line.ensures c.rows_said.result.now c.rows_said.ensures)) (see_engine c.bodies.new.self) c.in_ok-cited.cited.lines.items c.in_ok-cited.cited.verdict c.in_ok-cited.ensures c.requires.new
+    block-new (see_engine c.args.self.now) (see_engine c.query.new.self) c.requires.whole c.args.self.now.store.file.now.sites c.args.frame c.args.site c.args.any (see_query c.args.head.now) (see_body c.args.body.now) c.requires.stands c.in_ok-line.line c.in_ok-line.ensures c.deref.result.now (c.deref.ensures.value ∙ (c.in_ok-rows.ensures ∙ query-told (see_engine c.args.self.now) (see_engine c.query.new.self) c.args.frame (see_query c.args.head.now) c.in_ok-line.line c.in_ok-line.ensures c.rows_said.result c.rows_said.ensures)) (see_engine c.bodies.new.self) c.in_ok-cited.cited.lines.items c.in_ok-cited.cited.verdict c.in_ok-cited.ensures c.requires.new
 
 pub block-returns : goal.block-returns
 block-returns t c =
-    IfOk-weaker c.add_verdict.result _ _ (λ said added. block-answer (see_engine c.args.self.now) (see_engine c.query.new.self) c.requires.whole c.args.self.now.store.file.now.sites c.args.frame c.args.site c.args.any (see_query c.args.head.now) (see_body c.args.body.now) c.requires.stands c.in_ok-line.line c.in_ok-line.ensures c.deref.result.now (c.deref.ensures.value ∙ (c.in_ok-rows.ensures.items_if_clones_equal (λ x y h. h) ∙ query-told (see_engine c.args.self.now) (see_engine c.query.new.self) c.args.frame (see_query c.args.head.now) c.in_ok-line.line c.in_ok-line.ensures c.rows_said.result.now c.rows_said.ensures)) (see_engine c.bodies.new.self) c.in_ok-cited.cited.lines.items c.in_ok-cited.cited.verdict c.in_ok-cited.ensures (see_engine c.add_verdict.new.self) c.append.new.self.items said.line said.verdict (c.in_ok-append.ensures.items ∙ ap (λ (ns : List ℕ). ns ++ c.in_ok-cited.cited.lines.items) (c.in_ok-push.ensures.items ∙ ap (λ (ns : List ℕ). ns ++ c.in_ok-line.line ∷ []) c.new-lines.ensures.items)) added) c.add_verdict.ensures
+    IfOk-weaker c.add_verdict.result _ _ (λ said added. block-answer (see_engine c.args.self.now) (see_engine c.query.new.self) c.requires.whole c.args.self.now.store.file.now.sites c.args.frame c.args.site c.args.any (see_query c.args.head.now) (see_body c.args.body.now) c.requires.stands c.in_ok-line.line c.in_ok-line.ensures c.deref.result.now (c.deref.ensures.value ∙ (c.in_ok-rows.ensures ∙ query-told (see_engine c.args.self.now) (see_engine c.query.new.self) c.args.frame (see_query c.args.head.now) c.in_ok-line.line c.in_ok-line.ensures c.rows_said.result c.rows_said.ensures)) (see_engine c.bodies.new.self) c.in_ok-cited.cited.lines.items c.in_ok-cited.cited.verdict c.in_ok-cited.ensures (see_engine c.add_verdict.new.self) c.append.new.self.items said.line said.verdict (c.in_ok-append.ensures.items ∙ ap (λ (ns : List ℕ). ns ++ c.in_ok-cited.cited.lines.items) (c.in_ok-push.ensures.items ∙ ap (λ (ns : List ℕ). ns ++ c.in_ok-line.line ∷ []) c.new-lines.ensures.items)) added) c.add_verdict.ensures
 
 pub kinds-typed-requires : goal.kinds-typed-requires
 kinds-typed-requires t c =
@@ -1579,11 +1634,11 @@ typed-rows_said-requires t c =
 
 pub typed-bodies-requires : goal.typed-bodies-requires
 typed-bodies-requires t c =
-    typed-body (see_engine c.args.self.now) (see_engine c.types.new.self) c.requires.whole c.args.self.now.store.file.now.sites c.args.frame c.args.site c.requires.stands.0 (see_body c.args.body.now) c.requires.stands.1 c.in_ok-line.line c.in_ok-line.ensures.said c.in_ok-line.ensures.parts c.deref.result.now (c.deref.ensures.value ∙ (c.in_ok-rows.ensures.items_if_clones_equal (λ x y h. h) ∙ types-told (see_engine c.args.self.now) (see_engine c.types.new.self) c.requires.whole c.args.self.now.store.file.now.sites c.args.frame c.args.site c.requires.stands.0 (see_body c.args.body.now) c.requires.stands.1 c.in_ok-line.line c.in_ok-line.ensures.said c.in_ok-line.ensures.parts c.rows_said.result.now c.rows_said.ensures)) 0 5 t c.decreases (omega arith)
+    typed-body (see_engine c.args.self.now) (see_engine c.types.new.self) c.requires.whole c.args.self.now.store.file.now.sites c.args.frame c.args.site c.requires.stands.0 (see_body c.args.body.now) c.requires.stands.1 c.in_ok-line.line c.in_ok-line.ensures.said c.in_ok-line.ensures.parts c.deref.result.now (c.deref.ensures.value ∙ (c.in_ok-rows.ensures ∙ types-told (see_engine c.args.self.now) (see_engine c.types.new.self) c.requires.whole c.args.self.now.store.file.now.sites c.args.frame c.args.site c.requires.stands.0 (see_body c.args.body.now) c.requires.stands.1 c.in_ok-line.line c.in_ok-line.ensures.said c.in_ok-line.ensures.parts c.rows_said.result c.rows_said.ensures)) 0 5 t c.decreases (omega arith)
 
 pub typed-returns : goal.typed-returns
 typed-returns t c =
-    typed-answer (see_engine c.args.self.now) (see_engine c.types.new.self) c.requires.whole c.args.self.now.store.file.now.sites c.args.frame c.args.site c.requires.stands.0 (see_body c.args.body.now) c.requires.stands.1 c.in_ok-line.line c.in_ok-line.ensures.said c.in_ok-line.ensures.parts c.deref.result.now (c.deref.ensures.value ∙ (c.in_ok-rows.ensures.items_if_clones_equal (λ x y h. h) ∙ types-told (see_engine c.args.self.now) (see_engine c.types.new.self) c.requires.whole c.args.self.now.store.file.now.sites c.args.frame c.args.site c.requires.stands.0 (see_body c.args.body.now) c.requires.stands.1 c.in_ok-line.line c.in_ok-line.ensures.said c.in_ok-line.ensures.parts c.rows_said.result.now c.rows_said.ensures)) (see_engine c.bodies.new.self) c.in_ok-cited.cited.lines.items c.in_ok-cited.cited.verdict c.in_ok-cited.ensures c.append.new.self.items (c.in_ok-append.ensures.items ∙ ap (λ (ns : List ℕ). ns ++ c.in_ok-cited.cited.lines.items) (c.in_ok-push.ensures.items ∙ ap (λ (ns : List ℕ). ns ++ c.in_ok-line.line ∷ []) c.new-lines.ensures.items))
+    typed-answer (see_engine c.args.self.now) (see_engine c.types.new.self) c.requires.whole c.args.self.now.store.file.now.sites c.args.frame c.args.site c.requires.stands.0 (see_body c.args.body.now) c.requires.stands.1 c.in_ok-line.line c.in_ok-line.ensures.said c.in_ok-line.ensures.parts c.deref.result.now (c.deref.ensures.value ∙ (c.in_ok-rows.ensures ∙ types-told (see_engine c.args.self.now) (see_engine c.types.new.self) c.requires.whole c.args.self.now.store.file.now.sites c.args.frame c.args.site c.requires.stands.0 (see_body c.args.body.now) c.requires.stands.1 c.in_ok-line.line c.in_ok-line.ensures.said c.in_ok-line.ensures.parts c.rows_said.result c.rows_said.ensures)) (see_engine c.bodies.new.self) c.in_ok-cited.cited.lines.items c.in_ok-cited.cited.verdict c.in_ok-cited.ensures c.append.new.self.items (c.in_ok-append.ensures.items ∙ ap (λ (ns : List ℕ). ns ++ c.in_ok-cited.cited.lines.items) (c.in_ok-push.ensures.items ∙ ap (λ (ns : List ℕ). ns ++ c.in_ok-line.line ∷ []) c.new-lines.ensures.items))
 
 pub bodies-loop-row-init : goal.bodies-loop-row-init
 bodies-loop-row-init t c =

@@ -44,7 +44,7 @@ abbrev pub decreases-step : goal.decreases-step
 decreases-step l = rank_in (see_engine l.self.now) l.frame (step_place (see_query l.query.now) l.index) 2
 
 abbrev pub decreases-filter : goal.decreases-filter
-decreases-filter l = rank_in (see_engine l.self.now) l.frame l.site 1
+decreases-filter l = rank_in (see_engine l.self.now) l.frame l.step.site 1
 
 abbrev pub decreases-judge_candidates : goal.decreases-judge_candidates
 decreases-judge_candidates l = rank_in (see_engine l.self.now) l.frame l.site 0

@@ -11,8 +11,8 @@ use Rattle.clause_eval.specs.code.Kinds.{kind_beside}
 use Rattle.clause_eval.proofs.StepsAdded.{capture-adds, captured-known, captured-rows}
 use Rattle.clause_eval.proofs.engine.Engine.add_capture.Goals as goal
 
-pub rows_said-said-requires : goal.rows_said-said-requires
-rows_said-said-requires c =
+pub rows_said-requires : goal.rows_said-requires
+rows_said-requires c =
     let had = captured-rows (see_engine c.args.self.now) c.requires.whole c.args.frame c.args.site c.args.line c.requires.stands c.requires.step in
     (had.1.0, had.1.1, had.1.2, had.0, had.1.3)
 
@@ -22,7 +22,7 @@ captured-requires c =
     let had = captured-rows s c.requires.whole c.args.frame c.args.site c.args.line c.requires.stands c.requires.step in
     record {
       known =
-          ap (list_all (is_known s.known)) (c.rows_said-said.ensures had.1.0 had.1.1 had.1.2 had.0 had.1.3)
+          ap (list_all (is_known s.known)) (c.as_slice.ensures ∙ c.in_ok-said.ensures ∙ c.rows_said.ensures had.1.0 had.1.1 had.1.2 had.0 had.1.3)
           ∙ captured-known s c.requires.whole c.args.frame c.args.site c.args.line c.requires.stands c.requires.step;
     }
 
@@ -35,7 +35,7 @@ add_beside-requires-clause-adds c =
     let had = captured-rows s c.requires.whole c.args.frame c.args.site c.args.line c.requires.stands c.requires.step in
     capture-adds s c.requires.whole c.args.frame c.args.site c.args.line c.requires.stands c.requires.step c.push.new.self.items
     (c.in_ok-push.ensures.items ∙ ap (λ (cs : List ℕ). cs ++ c.args.line ∷ []) c.new-cites.ensures.items) c.new.result
-    (c.new.ensures ∙ c.deref.ensures.value ∙ c.in_ok-rows.ensures.rows ∙ ap (flat_map (captured_row s.known)) (c.rows_said-said.ensures had.1.0 had.1.1 had.1.2 had.0 had.1.3))
+    (c.new.ensures ∙ c.deref.ensures.value ∙ c.in_ok-rows.ensures.rows ∙ ap (flat_map (captured_row s.known)) (c.as_slice.ensures ∙ c.in_ok-said.ensures ∙ c.rows_said.ensures had.1.0 had.1.1 had.1.2 had.0 had.1.3))
     (ap (list_all (is_known s.known)) (c.new.ensures ∙ c.deref.ensures.value) ∙ c.in_ok-rows.ensures.known)
 
 pub returns : goal.returns

@@ -31,14 +31,14 @@ pub judge-requires-clause-lefts : goal.judge-requires-clause-lefts
 judge-requires-clause-lefts c =
     let s = see_engine c.args.self.now in
     let had = left-rows s c.requires.whole c.args.frame (see_part c.args.part.now) c.args.left c.args.right c.requires.sides in
-    ap (list_all (is_known s.known)) (c.rows_said.ensures had.1.0 had.1.1 had.1.2 had.0 had.1.3)
+    ap (list_all (is_known s.known)) (c.as_slice.ensures ∙ c.in_ok-lefts.ensures ∙ c.rows_said.ensures had.1.0 had.1.1 had.1.2 had.0 had.1.3)
     ∙ left-known s c.requires.whole c.args.frame (see_part c.args.part.now) c.args.left c.args.right c.requires.sides
 
 pub judge-requires-clause-rights : goal.judge-requires-clause-rights
 judge-requires-clause-rights c =
     let s = see_engine c.args.self.now in
     let had = right-rows s c.requires.whole c.args.frame (see_part c.args.part.now) c.args.left c.args.right c.requires.sides in
-    ap (list_all (is_known s.known)) (c.rows_of.ensures had.0 had.1)
+    ap (list_all (is_known s.known)) (c.as_slice-2.ensures ∙ c.in_ok-rights.ensures ∙ c.rows_of.ensures had.0 had.1)
     ∙ right-there s c.requires.whole c.args.frame (see_part c.args.part.now) c.args.left c.args.right c.requires.sides
 
 pub add_verdict-requires-clause-kind : goal.add_verdict-requires-clause-kind
@@ -53,8 +53,8 @@ add_verdict-requires-clause-adds c =
     let lefts = left-rows s c.requires.whole c.args.frame (see_part c.args.part.now) c.args.left c.args.right c.requires.sides in
     let rights = right-rows s c.requires.whole c.args.frame (see_part c.args.part.now) c.args.left c.args.right c.requires.sides in
     let judged : IsTestVerdict s.known (see_part c.args.part.now) lefts.0 rights.0 c.in_ok-verdict.verdict =
-    subst (λ (rows : List Row). IsTestVerdict s.known (see_part c.args.part.now) rows rights.0 c.in_ok-verdict.verdict) (c.rows_said.ensures lefts.1.0 lefts.1.1 lefts.1.2 lefts.0 lefts.1.3)
-    (subst (λ (rows : List Row). IsTestVerdict s.known (see_part c.args.part.now) c.rows_said.result.now rows c.in_ok-verdict.verdict) (c.rows_of.ensures rights.0 rights.1) c.in_ok-verdict.ensures) in
+    subst (λ (rows : List Row). IsTestVerdict s.known (see_part c.args.part.now) rows rights.0 c.in_ok-verdict.verdict) (c.as_slice.ensures ∙ c.in_ok-lefts.ensures ∙ c.rows_said.ensures lefts.1.0 lefts.1.1 lefts.1.2 lefts.0 lefts.1.3)
+    (subst (λ (rows : List Row). IsTestVerdict s.known (see_part c.args.part.now) c.as_slice.result.now rows c.in_ok-verdict.verdict) (c.as_slice-2.ensures ∙ c.in_ok-rights.ensures ∙ c.rows_of.ensures rights.0 rights.1) c.in_ok-verdict.ensures) in
     subst (λ (n : ℕ). Adds s c.args.frame n kind.Test c.in_ok-lines.lines.items (says.Verdict c.in_ok-verdict.verdict)) (sym c.site_of.ensures)
     (test-adds s c.requires.whole c.args.frame (see_part c.args.part.now) c.args.left c.args.right c.requires.sides c.in_ok-lines.lines.items c.in_ok-lines.ensures c.in_ok-verdict.verdict judged)
 

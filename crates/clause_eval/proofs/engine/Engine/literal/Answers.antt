@@ -1,14 +1,15 @@
-use Rattle.std.proofs.Common.{refl, sym, ap, ◌∙◌, [], ◌∷◌}
+use Rattle.std.proofs.Common.{refl, sym, ap, ◌∙◌, subst}
 use Rattle.std.proofs.lemmas.Result.{IfOk-weaker}
+use Rattle.std.specs.Prelude.{option_and_then}
 use Rattle.evidence_lines.specs.declared.line.LineKind.TheVariants as kind
-use Rattle.evidence_lines.specs.declared.line.Outcome.TheVariants as says
 use Rattle.guard_syntax.specs.Syntax.{literal}
-use Rattle.guard_syntax.specs.declared.row.Row.TheVariants.{Found}
 use Rattle.rule_names.specs.EnclosingScopes.{home_of}
 use Rattle.rule_names.specs.Pieces.{OfExpr}
+use Rattle.rule_meaning.specs.StoreModel.{tree_of_piece}
+use Rattle.clause_eval.specs.code.Answers.{AnswersRows, StandsIn}
 use Rattle.clause_eval.specs.code.Engines.{see_engine}
-use Rattle.clause_eval.proofs.AddsRows.{adds-literal}
-use Rattle.clause_eval.proofs.Finished.{found-rows-answer, leaf-answer, rows-told}
+use Rattle.clause_eval.specs.code.States.{IsWhole, State}
+use Rattle.clause_eval.proofs.Finished.{found-rows-answer}
 use Rattle.clause_eval.proofs.engine.Engine.literal.Goals as goal
 
 pub returns-in-Some : goal.returns-in-Some
@@ -17,16 +18,20 @@ returns-in-Some c =
     found-rows-answer s c.requires.whole c.args.frame (home_of s.known.file c.args.site) (c.args.site, OfExpr (literal c.args.site c.args.tree.now)) c.requires.stands c.in-Some.line kind.Literal
     (sym c.in-Some.ensures) refl refl
 
-pub add-requires-clause-adds : goal.add-requires-clause-adds
-add-requires-clause-adds c =
-    adds-literal (see_engine c.args.self.now) c.requires.whole c.args.frame c.args.site c.args.tree.now c.new.result.items c.new-2.result c.requires.stands c.len-nodes.ensures.tree
-    c.new.ensures.items
-    (c.new-2.ensures ∙ ap (λ r. Found r ∷ []) c.root_of_literal.ensures)
+pub keep_literal-requires : goal.keep_literal-requires
+keep_literal-requires c = ap (option_and_then tree_of_piece) c.requires.stands.there
+
+pub add_literal-requires-clause-whole : goal.add_literal-requires-clause-whole
+add_literal-requires-clause-whole c = subst IsWhole (sym c.keep_literal.ensures) c.requires.whole
+
+pub add_literal-requires-clause-stands : goal.add_literal-requires-clause-stands
+add_literal-requires-clause-stands c =
+    subst (λ (s : State). StandsIn s c.args.frame (c.args.site, OfExpr (literal c.args.site c.args.tree.now))) (sym c.keep_literal.ensures) c.requires.stands
+
+pub add_literal-requires-clause-new : goal.add_literal-requires-clause-new
+add_literal-requires-clause-new c = ap (λ (s : State). s.parts c.args.frame c.args.site) c.keep_literal.ensures ∙ sym c.in_default.ensures
 
 pub returns : goal.returns
 returns c =
-    let s = see_engine c.args.self.now in
-    IfOk-weaker c.add.result _ _ (λ number added.
-    rows-told s (see_engine c.add.new.self) c.args.frame c.args.site number kind.Literal c.new-2.result
-    (leaf-answer s (see_engine c.add.new.self) c.requires.whole c.args.frame (home_of s.known.file c.args.site) (c.args.site, OfExpr (literal c.args.site c.args.tree.now)) c.requires.stands
-    kind.Literal c.new.result.items (says.Rows c.new-2.result) number refl added)) c.add.ensures
+    IfOk-weaker c.add_literal.result _ _ (λ number it.
+    subst (λ (s : State). AnswersRows s (see_engine c.add_literal.new.self) c.args.frame kind.Literal c.args.site number) c.keep_literal.ensures it) c.add_literal.ensures

@@ -16,7 +16,7 @@ loop-line-preserved c given say =
     let it = rows-at c.args.self.now.evidence.lines c.args.lines.now given say c.loop-line.line-index 0 c.loop-line-test.true in
     rows-next c.args.self.now.evidence.lines c.args.lines.now given say c.loop-line.line-index c.loop-line-test.true c.loop-line.all.items c.push.new.self.items c.in_ok-to_vec.field-0
     (c.loop-line.invariant given say) c.in_ok-push.ensures.items
-    (c.in_ok-to_vec.ensures.items_if_clones_equal (λ x y h. h) ∙ c.rows_said.ensures it.0 it.1 it.2 (get_or given c.loop-line.line-index []) it.3)
+    (c.in_ok-to_vec.ensures ∙ c.rows_said.ensures it.0 it.1 it.2 (get_or given c.loop-line.line-index []) it.3)
 
 pub returns : goal.returns
 returns c given say =
