@@ -4,12 +4,12 @@ use Rattle.std.specs.Prelude.{slice_index, if◌then◌else◌, IfSome, sum}
 use Rattle.std.proofs.Math.Seq.{take-length}
 use Rattle.std.proofs.lemmas.List.{get_or_default, take_all, drop_all}
 use Rattle.std.proofs.lemmas.Bool.{cases_lt}
-use Rattle.doc_values.specs.declared.names.Names.{Names}
+use Rattle.key_names.specs.declared.names.Names.{Names}
 use Rattle.doc_values.specs.Tree.{Label, Forest, Nil, Node, size, count, key_is, IsTree}
 use Rattle.doc_values.specs.Places.{first_kids, label_at, kids_at, child_place, key_place}
 use Rattle.doc_values.specs.code.Rows.{Row, all_rows, tree_of}
 use Rattle.doc_values.specs.code.Entries.{Entry, named_in, row_in, rows_in, no_entry, AreNamed}
-use Rattle.doc_values.specs.code.Names.{texts_of, IsTable}
+use Rattle.key_names.specs.code.Names.{texts_of, IsTable}
 use Rattle.doc_values.specs.code.Index.{tally, below, AreInOrder, AreStarts, AreSlots, AreByName, AreNew, IsIndexed}
 use Rattle.doc_values.proofs.Entries.{length-rows_in, row_read, AreStarts-texts, AreSlots-texts, AreByName-texts}
 use Rattle.doc_values.proofs.Among.{length-rows, find_in, find_past}

@@ -3,13 +3,13 @@ use Rattle.std.proofs.Common.{◌≡◌, ℕ, zero, suc, ◌+◌, ◌-◌, ◌<�
 use Rattle.std.proofs.lemmas.Bool.{cases_lt}
 use Rattle.std.proofs.lemmas.List.{map-append, get_or_at, get_or_append_left, get_or_default, get_or-drop, length-drop, take_more}
 use Rattle.doc_values.specs.declared.kind.Kind.{Kind}
-use Rattle.doc_values.specs.declared.names.Names.{Names}
+use Rattle.key_names.specs.declared.names.Names.{Names}
 use Rattle.doc_values.specs.declared.node.Seat.{Seat}
 use Rattle.doc_values.specs.Tree.{Label, Forest, size, IsTree}
 use Rattle.doc_values.specs.Places.{label_at, kids_at, tree_at}
 use Rattle.doc_values.specs.code.Rows.{Row, all_rows, tree_of}
 use Rattle.doc_values.specs.code.Entries.{Entry, row_in, rows_in, no_entry, AreNamed}
-use Rattle.doc_values.specs.code.Names.{texts_of, IsTable}
+use Rattle.key_names.specs.code.Names.{texts_of, IsTable}
 use Rattle.doc_values.specs.code.Index.{IsFinished, IsIndexed, no_row}
 use Rattle.doc_values.specs.code.Parts.{row_below, seated, Notes}
 use Rattle.doc_values.proofs.Among.{row, length-rows}

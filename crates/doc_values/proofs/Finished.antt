@@ -1,11 +1,11 @@
 -- What a finished tree keeps, from its rows.
 use Rattle.std.proofs.Common.{◌≡◌, ◌<◌, List, length, sym, ap, ◌∙◌, subst}
-use Rattle.doc_values.specs.declared.names.Names.{Names}
+use Rattle.key_names.specs.declared.names.Names.{Names}
 use Rattle.doc_values.specs.Tree.{Forest, IsTree}
 use Rattle.doc_values.specs.code.Rows.{all_rows, tree_of}
 use Rattle.doc_values.specs.code.Laws.{tree_of-rows}
 use Rattle.doc_values.specs.code.Entries.{Entry, rows_in, AreNamed}
-use Rattle.doc_values.specs.code.Names.{texts_of, IsTable}
+use Rattle.key_names.specs.code.Names.{texts_of, IsTable}
 use Rattle.doc_values.specs.code.Index.{AreNew, IsFinished}
 use Rattle.doc_values.proofs.NewKeys.{new_rows}
 

@@ -5,7 +5,7 @@ use Rattle.std.specs.Cow.{cow_str_bytes}
 use Rattle.std.proofs.lemmas.List.{get_or_at, get_or_append_left, take-append-le, map_push, length-set, get_or-set_same, get_or-set_other}
 use Rattle.std.proofs.Math.Seq.{take-length}
 use Rattle.std.proofs.lemmas.Bool.{cases_lt, cases_eq}
-use Rattle.doc_values.specs.declared.names.Names.{Names}
+use Rattle.key_names.specs.declared.names.Names.{Names}
 use Rattle.doc_values.specs.declared.arena.Awaited.{Awaited as Key}
 use Rattle.doc_values.specs.declared.arena.Taken.{Taken}
 use Rattle.doc_values.specs.declared.node.Seat.{Seat}
@@ -14,7 +14,7 @@ use Rattle.doc_values.specs.declared.kind.Kind.{Kind}
 use Rattle.doc_values.specs.code.Rows.{Row}
 use Rattle.doc_values.specs.code.Entries.{Entry, named_in, row_in, rows_in, IsNameAt, AreNamed}
 use Rattle.doc_values.specs.code.Growth.{Awaited, Growth, key_of, IsFor}
-use Rattle.doc_values.specs.code.Names.{name_of, texts_of, IsTable, IsSame, Adds}
+use Rattle.key_names.specs.code.Names.{name_of, texts_of, IsTable, IsSame, Adds}
 use Rattle.doc_values.specs.code.Uses.{IsBehindName, AreDeeper, IsLast}
 use Rattle.doc_values.specs.code.Index.{IsNewUnder, AreNew, AreZero, IsUsed, IsArena, IsAwaited, IsNumbered, Takes, awaited_in, row_of}
 use Rattle.doc_values.proofs.Entries.{rows_grown}

@@ -5,14 +5,14 @@ use Rattle.std.proofs.lemmas.Bool.{true≢false, cases_lt}
 use Rattle.std.proofs.lemmas.List.{map-append, length-map, length-drop, drop-map, get_or-drop, get_or-map, get_or_append_left, get_or-append_right, get_or_default, length-take-le}
 use Rattle.doc_values.specs.declared.kind.Kind.{Kind}
 use Rattle.doc_values.specs.declared.kind.Kind.TheVariants as kind
-use Rattle.doc_values.specs.declared.names.Names.{Names}
+use Rattle.key_names.specs.declared.names.Names.{Names}
 use Rattle.doc_values.specs.Tree.{Label, Forest, Nil, Node, snoc, joined, size, count, key_is, has_key, is_map, holds_values, IsKeyed, AreValues, IsTree}
 use Rattle.doc_values.specs.Places.{first_label, first_kids, kids_at}
 use Rattle.doc_values.specs.Merge.{is_map_tree, merged, is_shared, first_shared}
 use Rattle.doc_values.specs.code.Rows.{Row, rows, all_rows, tree_of}
 use Rattle.doc_values.specs.code.Laws.{joined-Nil, joined-snoc}
 use Rattle.doc_values.specs.code.Entries.{Entry, named_in, row_in, rows_in, no_entry, IsNameAt, AreNamed}
-use Rattle.doc_values.specs.code.Names.{texts_of, Joins}
+use Rattle.key_names.specs.code.Names.{texts_of, Joins}
 use Rattle.doc_values.specs.code.Index.{IsFinished, IsIndexed}
 use Rattle.doc_values.specs.code.Merging.{MayMerge}
 use Rattle.doc_values.specs.code.Behind.{under_behind, index_behind, row_behind, renamed, entry_behind, FitsBehind}

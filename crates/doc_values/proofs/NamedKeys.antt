@@ -2,11 +2,11 @@
 use Rattle.std.proofs.Common.{◌≡◌, ℕ, ◌<◌, ◌≤◌, true, List, [], length, get_or, refl, sym, ap, ◌∙◌, subst, Option, None, Some}
 use Rattle.std.specs.Prelude.{is_some}
 use Rattle.std.specs.Cow.{cow_str_bytes}
-use Rattle.doc_values.specs.declared.names.Names.{Names}
+use Rattle.key_names.specs.declared.names.Names.{Names}
 use Rattle.doc_values.specs.declared.arena.Awaited.{Awaited as Key}
 use Rattle.doc_values.specs.code.Rows.{Row}
 use Rattle.doc_values.specs.code.Entries.{Entry, named_in, rows_in, no_entry, IsNameAt, under_at, AreNamed}
-use Rattle.doc_values.specs.code.Names.{name_of, texts_of, IsTable, IsSame}
+use Rattle.key_names.specs.code.Names.{name_of, texts_of, IsTable, IsSame}
 use Rattle.doc_values.specs.code.Uses.{IsBehindName, AreDeeper, AreLow}
 use Rattle.doc_values.specs.code.Index.{among, keyed, no_row, IsAwaited, IsKnown}
 use Rattle.doc_values.proofs.Entries.{length-rows_in, row_at}

@@ -1,7 +1,5 @@
-pub mod Decimal
 pub mod Limits
 pub mod Merge
-pub mod Number
 pub mod Tree
 pub mod Unfinished
 pub mod Places

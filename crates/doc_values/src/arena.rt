@@ -4,15 +4,15 @@ ghost use Rattle.std.specs.Cow.{cow_str_bytes};
 ghost use Rattle.doc_values.specs.Tree.{has_text};
 ghost use Rattle.doc_values.specs.code.Entries.{Entry, rows_in};
 ghost use Rattle.doc_values.specs.code.Growth.{key_of, IsFor};
-ghost use Rattle.doc_values.specs.code.Names.{IsTable, IsSame, name_of, texts_of};
+ghost use Rattle.key_names.specs.code.Names.{IsTable, IsSame, name_of, texts_of};
 ghost use Rattle.doc_values.specs.code.Uses.{IsOpen};
 ghost use Rattle.doc_values.specs.code.Index.{among, keyed, IsNewUnder, IsOpenUnder, no_row, row_of, IsUsed, IsKnown, IsAwaited, IsNumbered, Takes, awaited_in};
 
 use crate::content::Content;
 use crate::kind::Kind;
-use crate::names::Names;
 use crate::node::{Node, Seat};
 use crate::uses::Uses;
+use key_names::Names;
 use std::alloc::{AllocError, Global};
 use std::borrow::CowStr;
 use std::marker::Model;
@@ -54,7 +54,7 @@ impl<'s> Model for Arena<'s> {
     ghost use Rattle.doc_values.specs.code.Growth.{Growth};
     ghost use Rattle.doc_values.specs.code.Codes.{growth_code};
     ghost use Rattle.doc_values.specs.code.Entries.{rows_in};
-    ghost use Rattle.doc_values.specs.code.Names.{texts_of};
+    ghost use Rattle.key_names.specs.code.Names.{texts_of};
     ghost use Rattle.doc_values.specs.code.Index.{awaited_in, IsArena};
 
     ghost Value = { Growth };

@@ -4,8 +4,8 @@ ghost use Rattle.std.specs.Cow.{cow_str_bytes};
 ghost use Rattle.doc_values.specs.Tree.{has_text};
 ghost use Rattle.doc_values.specs.code.Stored.{kind_of, text_of};
 
-use crate::decimal::{Decimal, Range};
 use crate::kind::Kind;
+use decimals::{Decimal, Range};
 use std::alloc::{AllocError, Global};
 use std::borrow::CowStr;
 

@@ -1,5 +1,5 @@
 //! Kinds of values.
-use crate::decimal::{Decimal, Range};
+use decimals::{Decimal, Range};
 
 /// What a value is. The bytes of a text or pattern and the values of a list or map stand beside its kind. Patterns and
 /// ranges stand in the literals of rules alone.

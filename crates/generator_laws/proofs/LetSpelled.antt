@@ -3,7 +3,7 @@ use Rattle.std.proofs.Common.{◌≡◌, ℕ, suc, ◌+◌, ◌^◌, ◌<◌, �
 use Rattle.std.specs.Prelude.{◌==◌}
 use Rattle.std.proofs.lemmas.Bool.{cases_eq}
 use Rattle.std.proofs.lemmas.Bool.Decides.{nat_tests}
-use Rattle.doc_values.specs.Number.{AreDigits, is_digit}
+use Rattle.decimals.specs.Number.{AreDigits, is_digit}
 use Rattle.guard_lexer.specs.declared.token.Mark.TheVariants as mark
 use Rattle.guard_syntax.specs.Named.{Named}
 use Rattle.literal_parser.specs.declared.keyword.Keyword.TheVariants as kw

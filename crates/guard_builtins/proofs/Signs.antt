@@ -1,11 +1,11 @@
 -- Texts with a sign of either kind.
 use Rattle.std.proofs.Common.{ℤ, ◌≡◌, ◌≢◌, ◌==◌, ℕ, Bool, true, false, List, [], ◌∷◌, Option, Some, None, MatchOption, refl, sym, ap, subst, arith}
 use Rattle.std.proofs.lemmas.Bool.Decides.{nat_tests}
-use Rattle.doc_values.specs.Decimal.{Decimal}
-use Rattle.doc_values.specs.Number.{IsNumber}
-use Rattle.doc_values.specs.declared.decimal.Num.TheVariants as num
+use Rattle.decimals.specs.Decimal.{Decimal}
+use Rattle.decimals.specs.Number.{IsNumber}
+use Rattle.decimals.specs.declared.decimal.Num.TheVariants as num
 use Rattle.doc_values.specs.declared.kind.Kind.TheVariants as kind
-use Rattle.doc_values.specs.declared.decimal.Num.{Num}
+use Rattle.decimals.specs.declared.decimal.Num.{Num}
 use Rattle.rule_meaning.specs.Functions.{behind_plus, IsDecimal, IsDecimalBy, IsSigned}
 use Rattle.value_compare.proofs.OneAnswer.{IsSigned-unique}
 

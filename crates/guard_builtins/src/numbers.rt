@@ -1,8 +1,8 @@
 //! Numbers in texts with a sign of either kind.
 ghost use Rattle.std.specs.Prelude.{◌≡◌, ℤ, MatchOption, None, Some, option_map, if◌then◌else◌};
-ghost use Rattle.doc_values.specs.Decimal.{Decimal};
-ghost use Rattle.doc_values.specs.declared.decimal.Num.{Num};
-ghost use Rattle.doc_values.specs.declared.decimal.Num.TheVariants as num;
+ghost use Rattle.decimals.specs.Decimal.{Decimal};
+ghost use Rattle.decimals.specs.declared.decimal.Num.{Num};
+ghost use Rattle.decimals.specs.declared.decimal.Num.TheVariants as num;
 ghost use Rattle.doc_values.specs.declared.kind.Kind.TheVariants as kind;
 ghost use Rattle.rule_meaning.specs.Functions.{begins_with_minus, behind_plus, IsDecimal, IsDecimalBy, IsSigned};
 

@@ -2,7 +2,7 @@
 ghost use Rattle.std.specs.Prelude.{◌≡◌, ◌++◌, ◌-◌, ◌<◌, ◌≤◌, ℕ, IfOk, IsAscii, OnOk, length, replicate, string_bytes};
 ghost use Rattle.std.specs.Fmt.{signed_decimal};
 ghost use Rattle.std.specs.Int.{is_negative};
-ghost use Rattle.doc_values.specs.Number.{minus_text};
+ghost use Rattle.decimals.specs.Number.{minus_text};
 ghost use Rattle.rule_meaning.specs.Functions.{decimal_text, filled, scaled_text, truth_text, with_point};
 
 use doc_values::Decimal;

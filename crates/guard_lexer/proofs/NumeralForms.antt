@@ -3,8 +3,8 @@ use Rattle.std.proofs.Common.{◌≡◌, ℕ, zero, suc, ◌+◌, ◌≤◌, Boo
 use Rattle.std.specs.Prelude.{if◌then◌else◌, ◌==◌}
 use Rattle.std.proofs.lemmas.Bool.{true≢false}
 use Rattle.std.proofs.lemmas.List.{take-append-drop, drop_at, length-append}
-use Rattle.doc_values.specs.Number.{is_digit, AreDigits, IsWholePart, minus_text, fraction_text, IsPowerText, IsSpelled, Parts}
-use Rattle.doc_values.specs.code.Reading.{is_mark}
+use Rattle.decimals.specs.Number.{is_digit, AreDigits, IsWholePart, minus_text, fraction_text, IsPowerText, IsSpelled, Parts}
+use Rattle.decimals.specs.code.Reading.{is_mark}
 use Rattle.guard_lexer.specs.code.Reach.{run, is_zero, with_digits, is_plus_minus, signed_reach, power_reach, digits_reach, fraction_reach, whole_reach, plain_reach, behind_minus, minus_reach, numeral_reach}
 use Rattle.guard_lexer.specs.Forms.{IsNumeral}
 use Rattle.guard_lexer.proofs.Lists.{tested, same_byte, other_byte, on_true, on_false, no_clash}

@@ -2,8 +2,8 @@
 use Rattle.std.proofs.Common.{◌≡◌, ℕ, zero, suc, ◌+◌, ◌≤◌, Bool, true, false, List, [], ◌∷◌, ◌++◌, length, drop, refl, sym, ap, ◌∙◌, subst, arith, inl, inr, ◌⊎◌, append_assoc}
 use Rattle.std.specs.Prelude.{if◌then◌else◌, ◌==◌}
 use Rattle.std.proofs.lemmas.Bool.Decides.{nat_tests}
-use Rattle.doc_values.specs.Number.{is_digit, AreDigits, IsWholePart, minus_text, fraction_text, IsPowerText, Parts}
-use Rattle.doc_values.specs.code.Reading.{is_mark}
+use Rattle.decimals.specs.Number.{is_digit, AreDigits, IsWholePart, minus_text, fraction_text, IsPowerText, Parts}
+use Rattle.decimals.specs.code.Reading.{is_mark}
 use Rattle.guard_lexer.specs.code.Reach.{run, is_zero, with_digits, is_plus_minus, power_reach, fraction_reach, whole_reach, plain_reach, behind_minus, minus_reach, numeral_reach}
 use Rattle.guard_lexer.specs.Forms.{IsNumeral}
 use Rattle.guard_lexer.proofs.Lists.{tested, same_byte}

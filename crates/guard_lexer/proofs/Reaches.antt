@@ -3,7 +3,7 @@ use Rattle.std.proofs.Common.{◌≡◌, ◌≢◌, ℕ, suc, ◌+◌, ◌≤◌
 use Rattle.std.specs.Prelude.{◌==◌, option_map}
 use Rattle.std.proofs.lemmas.Bool.Decides.{nat_tests}
 use Rattle.std.proofs.lemmas.List.{append-nil}
-use Rattle.doc_values.specs.Number.{is_digit, IsWholePart, minus_text, fraction_text}
+use Rattle.decimals.specs.Number.{is_digit, IsWholePart, minus_text, fraction_text}
 use Rattle.guard_lexer.specs.declared.token.Mark.{Mark}
 use Rattle.guard_lexer.specs.declared.token.Mark.TheVariants as m
 use Rattle.guard_lexer.specs.Bytes.{is_letter, is_word, Each}

@@ -1,13 +1,13 @@
 -- A number text is worth one number.
 use Rattle.std.proofs.Common.{◌≡◌, ℕ, zero, suc, ◌*◌, ◌^◌, ◌%◌, ◌≤◌, ◌++◌, List, length, refl, sym, ap, ◌∙◌, subst, arith, inl, inr, pos, ◌-ℤ◌}
 use Rattle.std.specs.Prelude.{◌+ℤ◌}
-use Rattle.doc_values.specs.declared.decimal.Num.{Num}
-use Rattle.doc_values.specs.declared.decimal.Num.TheVariants as num
-use Rattle.doc_values.specs.Decimal.{Decimal}
-use Rattle.doc_values.specs.Number.{Parts, number, scaled, signed, IsStripped, IsDecimalOf, IsValue, IsNumber}
-use Rattle.doc_values.proofs.NumberText.{read-IsSpelled}
-use Rattle.doc_values.proofs.NumberValue.{one_power, times_more}
-use Rattle.doc_values.proofs.DecimalRange.{stripped-unique}
+use Rattle.decimals.specs.declared.decimal.Num.{Num}
+use Rattle.decimals.specs.declared.decimal.Num.TheVariants as num
+use Rattle.decimals.specs.Decimal.{Decimal}
+use Rattle.decimals.specs.Number.{Parts, number, scaled, signed, IsStripped, IsDecimalOf, IsValue, IsNumber}
+use Rattle.decimals.proofs.NumberText.{read-IsSpelled}
+use Rattle.decimals.proofs.NumberValue.{one_power, times_more}
+use Rattle.decimals.proofs.DecimalRange.{stripped-unique}
 
 not_zero : (kept : ℕ) → (kept % 10 ≡ 0 → ⊥) → 1 ≤ kept
 not_zero zero h = absurd (h refl)

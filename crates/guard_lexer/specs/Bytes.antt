@@ -1,6 +1,6 @@
 -- Classes of bytes.
 use Rattle.std.specs.Prelude.{◌≡◌, ℕ, Bool, true, List, [], ◌∷◌, ◌==◌, ◌||◌, ◌&&◌, nat_le}
-use Rattle.doc_values.specs.Number.{is_digit}
+use Rattle.decimals.specs.Number.{is_digit}
 
 -- an ASCII letter or `_`
 abbrev pub is_letter : ℕ → Bool

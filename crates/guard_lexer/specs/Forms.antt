@@ -1,7 +1,7 @@
 -- Which bytes are a token of a form: the rows of the table of tokens.
 use Rattle.std.specs.Prelude.{◌≡◌, ◌≢◌, ℕ, Bool, true, false, List, [], ◌∷◌, ◌++◌, ◌⊎◌}
-use Rattle.doc_values.specs.declared.decimal.Num.TheVariants as num
-use Rattle.doc_values.specs.Number.{IsSpelled, IsNumber, IsWholePart, Parts}
+use Rattle.decimals.specs.declared.decimal.Num.TheVariants as num
+use Rattle.decimals.specs.Number.{IsSpelled, IsNumber, IsWholePart, Parts}
 use Rattle.guard_lexer.specs.declared.token.Mark.{Mark}
 use Rattle.guard_lexer.specs.declared.token.Mark.TheVariants as m
 use Rattle.guard_lexer.specs.declared.token.TokenKind.{TokenKind}

@@ -1,7 +1,7 @@
 //! Classes of bytes.
 ghost use Rattle.std.specs.Prelude.{◌≡◌};
-ghost use Rattle.doc_values.specs.Number.{is_digit};
-ghost use Rattle.doc_values.specs.code.Reading.{is_mark};
+ghost use Rattle.decimals.specs.Number.{is_digit};
+ghost use Rattle.decimals.specs.code.Reading.{is_mark};
 ghost use Rattle.guard_lexer.specs.Bytes.{is_letter, is_word, is_white};
 ghost use Rattle.guard_lexer.specs.code.Reach.{is_blank, is_quote, begins_numeral, is_plus_minus};
 

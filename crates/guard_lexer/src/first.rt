@@ -1,7 +1,7 @@
 //! The token in front of bytes, by the class of their first byte.
 ghost use Rattle.std.specs.Prelude.{◌≡◌, ◌+◌, ◌<◌, ◌^◌, ◌==◌, ◌&&◌, ℕ, Bool, true, false, List, [], ◌∷◌, length, Option, MatchOption, IsAscii};
-ghost use Rattle.doc_values.specs.Number.{IsNumber};
-ghost use Rattle.doc_values.specs.declared.decimal.Num.{Num};
+ghost use Rattle.decimals.specs.Number.{IsNumber};
+ghost use Rattle.decimals.specs.declared.decimal.Num.{Num};
 ghost use Rattle.guard_lexer.specs.Bytes.{is_letter};
 ghost use Rattle.guard_lexer.specs.Lexes.{IsUnclosed};
 ghost use Rattle.guard_lexer.specs.code.Reach.{is_blank, is_quote, sign_reach, single_reach};

@@ -1,6 +1,6 @@
 //! How many bytes a number text has.
 ghost use Rattle.std.specs.Prelude.{◌≡◌, ◌≤◌, ◌<◌, ◌+◌, Bool, length};
-ghost use Rattle.doc_values.specs.Number.{is_digit};
+ghost use Rattle.decimals.specs.Number.{is_digit};
 ghost use Rattle.guard_lexer.specs.code.Reach.{run, with_digits, signed_reach, power_reach, digits_reach, fraction_reach, whole_reach, plain_reach, behind_minus, minus_reach, numeral_reach};
 
 use crate::byte::{is_digit, is_exponent, is_plus_minus};

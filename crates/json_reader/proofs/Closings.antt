@@ -4,7 +4,7 @@ use Rattle.std.specs.Prelude.{nat_eq, ◌||◌, ◌&&◌}
 use Rattle.std.specs.Str.{bytes_eq}
 use Rattle.doc_values.specs.declared.kind.Kind.{Kind}
 use Rattle.doc_values.specs.declared.kind.Kind.TheVariants as kind
-use Rattle.doc_values.specs.Number.{Parts, IsSpelled}
+use Rattle.decimals.specs.Number.{Parts, IsSpelled}
 use Rattle.doc_values.specs.Tree.{Label, Forest, Nil, Node, snoc, has_key, key_is, is_map}
 use Rattle.doc_values.specs.Unfinished.{Level, Unfinished, with_value, with_key, with_end}
 use Rattle.json_reader.specs.declared.bytes.Class.{Class}

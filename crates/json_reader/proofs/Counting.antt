@@ -3,7 +3,7 @@ use Rattle.std.proofs.Common.{◌≡◌, ℕ, suc, ◌⊎◌, true, false, List,
 use Rattle.std.specs.Prelude.{Ok, Err, nat_lt}
 use Rattle.doc_values.specs.declared.kind.Kind.{Kind}
 use Rattle.doc_values.specs.declared.kind.Kind.TheVariants as kind
-use Rattle.doc_values.specs.Number.{Parts, IsSpelled}
+use Rattle.decimals.specs.Number.{Parts, IsSpelled}
 use Rattle.doc_values.specs.Tree.{Forest, has_key}
 use Rattle.doc_values.specs.Unfinished.{Unfinished, with_value, with_open, with_key}
 use Rattle.json_reader.specs.declared.bytes.Class.TheVariants.{Space, Quote, Open, OpenList, CloseList, Minus, Zero, Digit}

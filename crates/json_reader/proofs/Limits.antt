@@ -14,7 +14,7 @@ use Rattle.json_reader.specs.code.Reading.{class_of, Phase, AtValue, AtKeyOrEnd,
 use Rattle.json_reader.proofs.Spellings.{chosen}
 use Rattle.json_reader.specs.declared.number.NumberPart.{NumberPart}
 use Rattle.json_reader.specs.code.Numbers.{number_kind, first_part, part_next}
-use Rattle.doc_values.specs.Number.{Parts}
+use Rattle.decimals.specs.Number.{Parts}
 use Rattle.json_reader.proofs.NumberKinds.{number_sound}
 use Rattle.json_reader.proofs.Sound.{goes, number_goes, shape_read}
 use Rattle.json_reader.proofs.Complete.{complete}

@@ -1,7 +1,7 @@
 -- The bytes of number texts.
 use Rattle.std.proofs.Common.{◌≡◌, ℕ, ◌<◌, ◌⊎◌, Bool, true, false, List, [], ◌∷◌, ◌++◌, refl, sym, ap, inl, inr, subst, arith}
 use Rattle.std.proofs.lemmas.Bool.Decides.{nat_tests}
-use Rattle.doc_values.specs.Number.{is_digit, AreDigits, Parts, minus_text, IsWholePart, fraction_text, IsPowerText, IsSpelled}
+use Rattle.decimals.specs.Number.{is_digit, AreDigits, Parts, minus_text, IsWholePart, fraction_text, IsPowerText, IsSpelled}
 use Rattle.json_reader.specs.declared.bytes.Class.TheVariants.{Minus, Zero, Digit}
 use Rattle.json_reader.specs.Json.{is_space, Each}
 use Rattle.json_reader.specs.code.Reading.{class_of, is_number_byte, begins_number}

@@ -5,14 +5,14 @@ use Rattle.std.proofs.lemmas.Bool.Decides.{nat_tests}
 use Rattle.std.proofs.Math.Nat.{div-add-mod}
 use Rattle.doc_values.specs.declared.kind.Kind.{Kind}
 use Rattle.doc_values.specs.declared.kind.Kind.TheVariants as kind
-use Rattle.doc_values.specs.Decimal.{Decimal, IsNormal}
-use Rattle.doc_values.specs.declared.decimal.Num.{Num}
-use Rattle.doc_values.specs.declared.decimal.Num.TheVariants as num
-use Rattle.doc_values.specs.Number.{Parts, IsSpelled, IsNumber, number, signed, scaled, IsDecimalOf}
-use Rattle.doc_values.specs.code.Reading.{read, is_number, is_nil}
-use Rattle.doc_values.proofs.NumberText.{IsSpelled-read, read-IsSpelled}
-use Rattle.doc_values.proofs.DecimalRange.{stripped-unique}
-use Rattle.doc_values.proofs.NumberValue.{one_power, times_more, full_moved}
+use Rattle.decimals.specs.Decimal.{Decimal, IsNormal}
+use Rattle.decimals.specs.declared.decimal.Num.{Num}
+use Rattle.decimals.specs.declared.decimal.Num.TheVariants as num
+use Rattle.decimals.specs.Number.{Parts, IsSpelled, IsNumber, number, signed, scaled, IsDecimalOf}
+use Rattle.decimals.specs.code.Reading.{read, is_number, is_nil}
+use Rattle.decimals.proofs.NumberText.{IsSpelled-read, read-IsSpelled}
+use Rattle.decimals.proofs.DecimalRange.{stripped-unique}
+use Rattle.decimals.proofs.NumberValue.{one_power, times_more, full_moved}
 use Rattle.json_reader.proofs.Front.{either}
 use Rattle.json_reader.specs.Json.{StandsFor, IsInRange}
 use Rattle.json_reader.specs.code.Numbers.{whole_of, strip, decimal_of, is_normal, whole_kind, parts_kind, number_kind}

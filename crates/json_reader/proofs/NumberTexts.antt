@@ -4,7 +4,7 @@ use Rattle.std.specs.Prelude.{nat_eq, ◌||◌}
 use Rattle.std.proofs.lemmas.Bool.Decides.{nat_tests}
 use Rattle.doc_values.specs.declared.kind.Kind.{Kind}
 use Rattle.doc_values.specs.declared.kind.Kind.TheVariants as kind
-use Rattle.doc_values.specs.Number.{is_digit, AreDigits, number, Parts, minus_text, IsWholePart, fraction_text, IsPowerText, IsSpelled, signed}
+use Rattle.decimals.specs.Number.{is_digit, AreDigits, number, Parts, minus_text, IsWholePart, fraction_text, IsPowerText, IsSpelled, signed}
 use Rattle.json_reader.specs.declared.number.NumberPart.{NumberPart}
 use Rattle.json_reader.specs.declared.number.NumberPart.TheVariants as part
 use Rattle.json_reader.specs.code.Numbers.{first_part, by_digit, by_point, by_exponent, part_next, completes, run_parts, decimal_of}

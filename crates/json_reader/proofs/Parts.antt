@@ -2,7 +2,7 @@
 use Rattle.std.proofs.Common.{◌≡◌, ℕ, ◌⊎◌, Bool, true, false, List, [], ◌∷◌, ◌++◌, refl, sym, ap, inl, inr, ◌∙◌, subst, arith, Option, Some, None, cond}
 use Rattle.std.specs.Prelude.{nat_eq, ◌||◌}
 use Rattle.std.proofs.lemmas.Bool.Decides.{nat_tests}
-use Rattle.doc_values.specs.Number.{is_digit, AreDigits, Parts, minus_text, IsWholePart, fraction_text, IsPowerText, IsSpelled}
+use Rattle.decimals.specs.Number.{is_digit, AreDigits, Parts, minus_text, IsWholePart, fraction_text, IsPowerText, IsSpelled}
 use Rattle.json_reader.specs.declared.number.NumberPart.{NumberPart}
 use Rattle.json_reader.specs.declared.number.NumberPart.TheVariants as part
 use Rattle.json_reader.specs.code.Numbers.{first_part, by_digit, by_point, by_exponent, part_next, part_then, completes, run_parts}

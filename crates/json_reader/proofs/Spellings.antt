@@ -4,7 +4,7 @@ use Rattle.std.specs.Prelude.{nat_eq, nat_lt, ℤ, pos, negsuc}
 use Rattle.std.proofs.lemmas.Bool.{lt-ltb, ltb-true}
 use Rattle.std.proofs.lemmas.Bool.Decides.{nat_tests}
 use Rattle.doc_values.specs.declared.kind.Kind.TheVariants as kind
-use Rattle.doc_values.specs.Number.{is_digit, AreDigits, number_behind, number, IsWholePart, signed}
+use Rattle.decimals.specs.Number.{is_digit, AreDigits, number_behind, number, IsWholePart, signed}
 use Rattle.json_reader.specs.Json.{is_space, is_unescaped, past, IsInRange}
 use Rattle.json_reader.specs.declared.bytes.Class.TheVariants.{Space, Quote, Open, Close, OpenList, CloseList, Colon, Comma, Minus, Zero, Digit, LetterN, LetterT, LetterF}
 use Rattle.json_reader.specs.code.Reading.{class_of}

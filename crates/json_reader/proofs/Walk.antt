@@ -29,10 +29,10 @@ use Rattle.json_reader.specs.code.Numbers.{first_part, part_next, part_then, com
 use Rattle.json_reader.proofs.NumberKinds.{known_whole, known_fraction, known_none}
 use Rattle.json_reader.proofs.NumberBytes.{number_ascii, begins_ascii}
 use Rattle.json_reader.proofs.NumberRuns.{number_first, number_same, NoMore, number_ends, number_fails}
-use Rattle.doc_values.specs.Number.{IsNumber}
-use Rattle.doc_values.specs.Decimal.{Decimal}
-use Rattle.doc_values.specs.declared.decimal.Num.{Num}
-use Rattle.doc_values.specs.declared.decimal.Num.TheVariants as num
+use Rattle.decimals.specs.Number.{IsNumber}
+use Rattle.decimals.specs.Decimal.{Decimal}
+use Rattle.decimals.specs.declared.decimal.Num.{Num}
+use Rattle.decimals.specs.declared.decimal.Num.TheVariants as num
 use Rattle.std.proofs.lemmas.List.{get_or-take}
 
 -- one byte

@@ -3,8 +3,8 @@ use Rattle.std.specs.Prelude.{ℕ, suc, ◌+◌, ◌-◌, ◌*◌, ◌<◌, ◌�
 use mir.Syntax.{w64}
 use Rattle.doc_values.specs.declared.kind.Kind.{Kind}
 use Rattle.doc_values.specs.declared.kind.Kind.TheVariants as kind
-use Rattle.doc_values.specs.Decimal.{IsNormal}
-use Rattle.doc_values.specs.Number.{is_digit, Parts, IsSpelled, IsDecimalOf, signed, number}
+use Rattle.decimals.specs.Decimal.{IsNormal}
+use Rattle.decimals.specs.Number.{is_digit, Parts, IsSpelled, IsDecimalOf, signed, number}
 use Rattle.doc_values.specs.Tree.{Label, Forest, Nil, Node, snoc, has_key, holds_values}
 
 -- each of the bytes passes

@@ -1,7 +1,7 @@
 -- Why a text is refused as JSON, and where: said by what JSON texts begin with. Sections are those of RFC 8259. Places are byte offsets.
 use Rattle.std.specs.Prelude.{ℕ, ◌<◌, ◌≡◌, ◌⊎◌, List, [], ◌∷◌, ◌++◌, length}
 use Rattle.doc_values.specs.declared.kind.Kind.{Kind}
-use Rattle.doc_values.specs.Number.{Parts, IsSpelled}
+use Rattle.decimals.specs.Number.{Parts, IsSpelled}
 use Rattle.doc_values.specs.Tree.{Forest, Nil}
 use Rattle.json_reader.specs.declared.refusal.JsonRefusal.{JsonRefusal}
 use Rattle.json_reader.specs.declared.refusal.JsonRefusal.TheVariants.{Syntax, DuplicateKey, NumberRange, TooDeep, NoMemory}

@@ -1,7 +1,7 @@
 //! Numbers.
 ghost use Rattle.std.specs.Prelude.{◌≡◌, ◌<◌, ◌≤◌, length, take, true, Some, None, IsErrOf, MatchResult, slice_index};
 ghost use Rattle.doc_values.specs.Limits.{template_limit};
-ghost use Rattle.doc_values.specs.Number.{is_digit};
+ghost use Rattle.decimals.specs.Number.{is_digit};
 ghost use Rattle.json_reader.specs.code.Numbers.{first_part, part_next, by_exponent, by_point, completes, run_parts};
 ghost use Rattle.json_reader.specs.code.Reading.{begins_number};
 ghost use Rattle.json_reader.specs.code.Steps.{Number, NoNumber, IsPlain, kind_of};

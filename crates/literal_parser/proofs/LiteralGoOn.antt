@@ -4,7 +4,7 @@ use Rattle.std.specs.Prelude.{pos, bytes_eq, codes}
 use Rattle.std.proofs.lemmas.Bool.Decides.{nat_tests}
 use Rattle.std.proofs.lemmas.Slice.Eq.{bytes_eq-Decides}
 use Rattle.doc_values.specs.Tree.{Forest, Nil, Node, snoc, has_key, key_is}
-use Rattle.doc_values.specs.declared.decimal.Range.{Range}
+use Rattle.decimals.specs.declared.decimal.Range.{Range}
 use Rattle.doc_values.specs.declared.kind.Kind.TheVariants as kind
 use Rattle.guard_lexer.specs.declared.token.Mark.TheVariants as m
 use Rattle.literal_parser.specs.Lexemes.{Lexeme, Word, Name, Whole, Str, Sign}

@@ -1,7 +1,7 @@
 -- A literal takes a lexeme.
 use Rattle.std.proofs.Common.{inl, inr, ℕ, ◌≤◌, ◌<◌, arith, List, Option, Some, None}
 use Rattle.doc_values.specs.Tree.{Label, Forest, Nil, Node, snoc}
-use Rattle.doc_values.specs.declared.decimal.Range.{Range}
+use Rattle.decimals.specs.declared.decimal.Range.{Range}
 use Rattle.literal_parser.specs.Lexemes.{Lexeme}
 use Rattle.literal_parser.specs.States.{State, Rel}
 use Rattle.literal_parser.specs.Literal.{IsRange, IsNode, IsEntry, AreItems, AreMoreItems, AreEntries, AreMoreEntries, IsLiteral}

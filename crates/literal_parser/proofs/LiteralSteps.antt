@@ -7,9 +7,9 @@ use Rattle.doc_values.specs.code.Laws.{joined-Nil, joined-snoc}
 use Rattle.doc_values.specs.Unfinished.{Level, Unfinished, start, with_value, with_open, open_kind, with_key, with_end, innermost, in_map, IsKeyThere, MayHold, AwaitsValue, AwaitsKey, MayEnd}
 use Rattle.doc_values.specs.declared.kind.Kind.{Kind}
 use Rattle.doc_values.specs.declared.kind.Kind.TheVariants as kind
-use Rattle.doc_values.specs.declared.decimal.Num.{Num}
-use Rattle.doc_values.specs.declared.decimal.Num.TheVariants as num
-use Rattle.doc_values.specs.declared.decimal.Range.{Range}
+use Rattle.decimals.specs.declared.decimal.Num.{Num}
+use Rattle.decimals.specs.declared.decimal.Num.TheVariants as num
+use Rattle.decimals.specs.declared.decimal.Range.{Range}
 use Rattle.literal_parser.specs.declared.token_class.TokenClass.{TokenClass}
 use Rattle.literal_parser.specs.declared.token_class.TokenClass.TheVariants as sh
 use Rattle.literal_parser.specs.declared.cursor.Halt.{Halt}

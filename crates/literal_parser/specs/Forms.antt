@@ -1,7 +1,7 @@
 -- Tests of lexemes, and what they have.
 use Rattle.std.specs.Prelude.{ℕ, Bool, true, false, not, ◌&&◌, ◌||◌, ◌==◌, nat_le, nat_lt, List, [], codes, bytes_eq, ℤ, pos, negsuc, if◌then◌else◌}
-use Rattle.doc_values.specs.declared.decimal.Num.{Num}
-use Rattle.doc_values.specs.declared.decimal.Num.TheVariants as num
+use Rattle.decimals.specs.declared.decimal.Num.{Num}
+use Rattle.decimals.specs.declared.decimal.Num.TheVariants as num
 use Rattle.guard_lexer.specs.declared.token.Mark.{Mark}
 use Rattle.guard_lexer.specs.declared.token.Mark.TheVariants as m
 use Rattle.guard_syntax.specs.Named.{Named}

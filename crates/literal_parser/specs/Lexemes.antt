@@ -1,7 +1,7 @@
 -- What the grammar sees of the tokens of a text.
 use Rattle.std.specs.Prelude.{ℕ, ◌-◌, ◌&&◌, ◌==◌, List, [], ◌∷◌, length, map, find, slice_range, slice_index_or, codes, bytes_eq, ℤ, Option, Some, None, option_map, if◌then◌else◌}
 use Rattle.std.specs.List.{list_all}
-use Rattle.doc_values.specs.Decimal.{Decimal}
+use Rattle.decimals.specs.Decimal.{Decimal}
 use Rattle.guard_lexer.specs.Bytes.{is_white}
 use Rattle.guard_lexer.specs.declared.token.Mark.{Mark}
 use Rattle.guard_lexer.specs.declared.token.Token.{Token}

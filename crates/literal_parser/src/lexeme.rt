@@ -1,6 +1,6 @@
 //! What the text of a token means.
 ghost use Rattle.std.specs.Prelude.{◌≡◌, ◌≤◌, ◌<◌, ◌+◌, ◌-◌, ◌==◌, ◌&&◌, ℕ, List, length, slice_index, map, take, drop, slice_range, string_bytes, IfOk};
-ghost use Rattle.doc_values.specs.declared.decimal.Num.{Num};
+ghost use Rattle.decimals.specs.declared.decimal.Num.{Num};
 ghost use Rattle.guard_lexer.specs.declared.token.Token.{Token};
 ghost use Rattle.guard_lexer.specs.Bytes.{is_white};
 ghost use Rattle.literal_parser.specs.Lexemes.{lexeme_of, word_of, name_word, keyword_in, keyword_of, text_within, note_within, front_trimmed, back_trimmed};

@@ -13,12 +13,12 @@ use Rattle.json_reader.specs.Json.{Json, StandsFor, IsInRange}
 use Rattle.json_reader.specs.code.Numbers.{number_kind}
 use Rattle.json_reader.specs.code.Reading.{verdict}
 use Rattle.json_reader.specs.declared.refusal.JsonRefusal.{JsonRefusal}
-use Rattle.doc_values.specs.Decimal.{Decimal}
+use Rattle.decimals.specs.Decimal.{Decimal}
 use Rattle.doc_values.specs.Limits.{template_limit}
-use Rattle.doc_values.specs.Number.{IsNumber, IsSpelled, Parts}
+use Rattle.decimals.specs.Number.{IsNumber, IsSpelled, Parts}
 use Rattle.doc_values.specs.Tree.{Forest}
-use Rattle.doc_values.specs.declared.decimal.Num.{Num}
-use Rattle.doc_values.specs.declared.decimal.Num.TheVariants as num
+use Rattle.decimals.specs.declared.decimal.Num.{Num}
+use Rattle.decimals.specs.declared.decimal.Num.TheVariants as num
 use Rattle.doc_values.specs.declared.kind.Kind.{Kind}
 use Rattle.doc_values.specs.declared.kind.Kind.TheVariants as kind
 use Rattle.guard_syntax.specs.declared.function.Function.{Function}

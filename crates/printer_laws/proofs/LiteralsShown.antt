@@ -1,7 +1,7 @@
 -- The canonical text of a literal is read as the literal: by recursion on the tree.
 use Rattle.std.proofs.Common.{◌≡◌, inl, inr, ℕ, suc, Bool, true, false, ◌&&◌, ◌||◌, List, [], Option, Some, None, codes, refl, sym, ap, ◌∙◌, subst, true≢false}
 use Rattle.doc_values.specs.Tree.{Label, Forest, Nil, Node, snoc, has_key, key_is}
-use Rattle.doc_values.specs.declared.decimal.Range.{Range}
+use Rattle.decimals.specs.declared.decimal.Range.{Range}
 use Rattle.doc_values.specs.declared.kind.Kind.{Kind}
 use Rattle.doc_values.specs.declared.kind.Kind.TheVariants as kind
 use Rattle.guard_lexer.specs.declared.token.Mark.TheVariants as m

@@ -1,9 +1,9 @@
 -- No bracket of a canonical text opens while 128 are open, where no more stand in each other in its syntax: by recursion on the syntax.
 use Rattle.std.proofs.Common.{◌≡◌, ℕ, suc, pred, ◌+◌, ◌<◌, ◌≤◌, Bool, true, false, if◌then◌else◌, List, [], ◌∷◌, Option, Some, None, pos, codes, refl, sym, ap, ◌∙◌, subst, true≢false, arith}
 use Rattle.doc_values.specs.Tree.{Label, Forest, Nil, Node}
-use Rattle.doc_values.specs.declared.decimal.Num.{Num}
-use Rattle.doc_values.specs.declared.decimal.Num.TheVariants as num
-use Rattle.doc_values.specs.declared.decimal.Range.{Range}
+use Rattle.decimals.specs.declared.decimal.Num.{Num}
+use Rattle.decimals.specs.declared.decimal.Num.TheVariants as num
+use Rattle.decimals.specs.declared.decimal.Range.{Range}
 use Rattle.doc_values.specs.declared.kind.Kind.{Kind}
 use Rattle.doc_values.specs.declared.kind.Kind.TheVariants as kind
 use Rattle.guard_lexer.specs.declared.token.Mark.TheVariants as m

@@ -2,9 +2,9 @@
 use Rattle.std.proofs.Common.{◌≡◌, ℕ, suc, ◌+◌, ◌^◌, ◌<◌, ◌≤◌, Bool, true, false, List, [], ◌∷◌, ◌++◌, length, codes, decimal, refl, sym, ap, ◌∙◌, subst, arith, append_assoc, length-append, flat_map, ◌||◌}
 use Rattle.std.specs.List.{join_by}
 use Rattle.doc_values.specs.Limits.{rules_limit}
-use Rattle.doc_values.specs.Number.{is_digit, AreDigits}
+use Rattle.decimals.specs.Number.{is_digit, AreDigits}
 use Rattle.doc_values.specs.Tree.{Forest}
-use Rattle.doc_values.specs.declared.decimal.Num.TheVariants as num
+use Rattle.decimals.specs.declared.decimal.Num.TheVariants as num
 use Rattle.doc_values.specs.declared.kind.Kind.{Kind}
 use Rattle.doc_values.specs.declared.kind.Kind.TheVariants as kind
 use Rattle.guard_lexer.specs.Bytes.{is_letter, is_word, Each}

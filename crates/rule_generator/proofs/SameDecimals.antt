@@ -5,7 +5,7 @@ use Rattle.std.specs.Ordering.{int_eq, is_eq}
 use Rattle.std.proofs.lemmas.Bool.{cases_lt}
 use Rattle.std.proofs.lemmas.Bool.Decides.{Decides-int_eq, nat_tests}
 use Rattle.std.proofs.lemmas.Int.{ints, unsigned_abs-mul}
-use Rattle.doc_values.specs.Decimal.{Decimal, IsNormal, order}
+use Rattle.decimals.specs.Decimal.{Decimal, IsNormal, order}
 use Rattle.rule_generator.proofs.Distinct.{tested}
 
 cancel : (p q m : ℕ) → 0 < m → p * m ≡ q * m → p ≡ q

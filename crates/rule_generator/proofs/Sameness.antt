@@ -4,7 +4,7 @@ use Rattle.std.specs.Prelude.{not, if◌then◌else◌}
 use Rattle.std.specs.List.{AllZip, list_any}
 use Rattle.std.specs.Ordering.{int_eq, is_eq}
 use Rattle.std.specs.Str.{bytes_eq}
-use Rattle.doc_values.specs.Decimal.{Decimal, order}
+use Rattle.decimals.specs.Decimal.{Decimal, order}
 use Rattle.doc_values.specs.declared.kind.Kind.{Kind}
 use Rattle.doc_values.specs.declared.kind.Kind.TheVariants as kind
 use Rattle.indexmap.specs.IndexSet.{insert_key}

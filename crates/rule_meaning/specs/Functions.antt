@@ -12,11 +12,11 @@ use Rattle.regex.specs.Templates.{written_after}
 use Rattle.regex_syntax.specs.Grammar.{Names}
 use Rattle.doc_values.specs.declared.kind.Kind.{Kind}
 use Rattle.doc_values.specs.declared.kind.Kind.TheVariants as kind
-use Rattle.doc_values.specs.declared.decimal.Num.{Num}
-use Rattle.doc_values.specs.declared.decimal.Num.TheVariants as num
-use Rattle.doc_values.specs.Decimal.{Decimal}
+use Rattle.decimals.specs.declared.decimal.Num.{Num}
+use Rattle.decimals.specs.declared.decimal.Num.TheVariants as num
+use Rattle.decimals.specs.Decimal.{Decimal}
 use Rattle.doc_values.specs.Limits.{template_limit}
-use Rattle.doc_values.specs.Number.{IsNumber, minus_text}
+use Rattle.decimals.specs.Number.{IsNumber, minus_text}
 use Rattle.doc_values.specs.Tree.{Forest, Nil, Node}
 use Rattle.json_reader.specs.Json.{Json}
 use Rattle.guard_syntax.specs.declared.function.Function.{Function}

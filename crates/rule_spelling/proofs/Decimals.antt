@@ -9,8 +9,8 @@ use Rattle.std.proofs.lemmas.List.{take-append-drop}
 use Rattle.std.proofs.lemmas.Nat.{div-add-mod'}
 use Rattle.std.proofs.lemmas.Str.{digit_value_digit}
 use Rattle.std.proofs.lemmas.Str.Parse.{digit_from_value}
-use Rattle.doc_values.specs.Number.{is_digit, AreDigits, number, number_behind, IsWholePart, IsStripped}
-use Rattle.doc_values.proofs.NumberValue.{full_moved}
+use Rattle.decimals.specs.Number.{is_digit, AreDigits, number, number_behind, IsWholePart, IsStripped}
+use Rattle.decimals.proofs.NumberValue.{full_moved}
 use Rattle.guard_lexer.proofs.Lists.{tested, same_byte, other_byte}
 use Rattle.rule_meaning.specs.Functions.{filled}
 use Rattle.rule_spelling.proofs.Zeros.{zeros, filled_long, filled_length, filled_short}

@@ -3,9 +3,9 @@ use Rattle.std.proofs.Common.{◌≡◌, ◌≢◌, ℕ, suc, ◌-◌, ◌≤◌
 use Rattle.std.specs.Prelude.{◌==◌, slice_range}
 use Rattle.std.specs.List.{list_all}
 use Rattle.std.proofs.lemmas.Bool.{true≢false}
-use Rattle.doc_values.specs.declared.decimal.Num.{Num}
-use Rattle.doc_values.specs.declared.decimal.Num.TheVariants as num
-use Rattle.doc_values.specs.Number.{IsNumber}
+use Rattle.decimals.specs.declared.decimal.Num.{Num}
+use Rattle.decimals.specs.declared.decimal.Num.TheVariants as num
+use Rattle.decimals.specs.Number.{IsNumber}
 use Rattle.guard_lexer.specs.Bytes.{is_white}
 use Rattle.guard_lexer.specs.Forms.{IsName, Closes, EndsNote, HasForm, Var, Str, Pat, Note}
 use Rattle.guard_lexer.proofs.Lists.{tested, same_byte, is_byte, not_byte, on_true, on_false}

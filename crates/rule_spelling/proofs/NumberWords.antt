@@ -7,11 +7,11 @@ use Rattle.std.specs.Int.{is_negative}
 use Rattle.std.proofs.lemmas.Bool.{le-ltb}
 use Rattle.std.proofs.lemmas.Int.{ints}
 use Rattle.std.proofs.lemmas.List.{append-nil}
-use Rattle.doc_values.specs.declared.decimal.Num.{Num}
-use Rattle.doc_values.specs.declared.decimal.Num.TheVariants as num
-use Rattle.doc_values.specs.Decimal.{Decimal, IsNormal}
-use Rattle.doc_values.specs.Number.{number, minus_text, fraction_text, signed, scaled, Parts, IsStripped, IsDecimalOf, IsNumber}
-use Rattle.doc_values.proofs.NumberValue.{number-append}
+use Rattle.decimals.specs.declared.decimal.Num.{Num}
+use Rattle.decimals.specs.declared.decimal.Num.TheVariants as num
+use Rattle.decimals.specs.Decimal.{Decimal, IsNormal}
+use Rattle.decimals.specs.Number.{number, minus_text, fraction_text, signed, scaled, Parts, IsStripped, IsDecimalOf, IsNumber}
+use Rattle.decimals.proofs.NumberValue.{number-append}
 use Rattle.guard_lexer.specs.Forms.{HasForm, Numeral}
 use Rattle.rule_meaning.specs.Functions.{filled}
 use Rattle.rule_spelling.specs.Spelling.{number_text}

@@ -1,7 +1,7 @@
 //! The laws: calls that do nothing, whose contracts say what is read of texts that are spelled so.
 ghost use Rattle.std.specs.Prelude.{◌≡◌, ◌++◌, ◌∷◌, [], ◌<◌, ◌^◌, ℕ, Bool, List, true, false, length, map, slice_index_or, slice_range, decimal};
-ghost use Rattle.doc_values.specs.declared.decimal.Num.{Num};
-ghost use Rattle.doc_values.specs.Number.{IsNumber, IsWholePart};
+ghost use Rattle.decimals.specs.declared.decimal.Num.{Num};
+ghost use Rattle.decimals.specs.Number.{IsNumber, IsWholePart};
 ghost use Rattle.guard_lexer.specs.declared.token.TokenKind.{TokenKind};
 ghost use Rattle.guard_lexer.specs.declared.token.TokenKind.TheVariants as k;
 ghost use Rattle.guard_lexer.specs.Bytes.{is_white, Each};

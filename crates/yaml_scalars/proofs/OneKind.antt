@@ -2,10 +2,10 @@
 use Rattle.std.proofs.Common.{◌≡◌, inl, inr, ℕ, Bool, true, false, ◌||◌, List, [], ◌∷◌, ◌++◌, refl, sym, ap, ◌∙◌, subst, true≢false, nat_eq, if◌then◌else◌}
 use Rattle.doc_values.specs.declared.kind.Kind.{Kind}
 use Rattle.doc_values.specs.declared.kind.Kind.TheVariants as kind
-use Rattle.doc_values.specs.declared.decimal.Num.{Num}
-use Rattle.doc_values.specs.declared.decimal.Num.TheVariants as num
-use Rattle.doc_values.specs.Number.{is_digit, minus_text, IsWholePart, IsNumber}
-use Rattle.doc_values.proofs.Numbers.{IsNumber-unique}
+use Rattle.decimals.specs.declared.decimal.Num.{Num}
+use Rattle.decimals.specs.declared.decimal.Num.TheVariants as num
+use Rattle.decimals.specs.Number.{is_digit, minus_text, IsWholePart, IsNumber}
+use Rattle.decimals.proofs.Numbers.{IsNumber-unique}
 use Rattle.yaml_scalars.specs.Lines.{begins_with}
 use Rattle.yaml_scalars.specs.Kinds.{IsTrueWord, IsFalseWord, IsNullWord, IsSignedNumber, IsPlainKind}
 use Rattle.yaml_scalars.specs.Scalar.{HasKind}

@@ -2,10 +2,10 @@
 use Rattle.std.proofs.Common.{◌≡◌, ℕ, Bool, true, false, Option, Some, None, drop, List, [], ◌∷◌, ◌++◌, ◌<◌, length, get_or, sym, ap, inl, inr, ◌∙◌, arith, subst}
 use Rattle.std.specs.Prelude.{MatchOption}
 use Rattle.std.proofs.lemmas.Bool.Decides.{nat_tests}
-use Rattle.doc_values.specs.declared.decimal.Num.{Num}
-use Rattle.doc_values.specs.Number.{is_digit, IsWholePart, IsNumber, minus_text, fraction_text}
+use Rattle.decimals.specs.declared.decimal.Num.{Num}
+use Rattle.decimals.specs.Number.{is_digit, IsWholePart, IsNumber, minus_text, fraction_text}
 use Rattle.yaml_scalars.specs.Lines.{begins_with}
-use Rattle.doc_values.specs.declared.decimal.Num.TheVariants as num
+use Rattle.decimals.specs.declared.decimal.Num.TheVariants as num
 use Rattle.yaml_scalars.specs.Kinds.{IsSignedNumber, IsPlainKind}
 use Rattle.yaml_scalars.specs.code.KindSteps.{kind_of}
 

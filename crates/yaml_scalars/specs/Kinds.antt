@@ -2,9 +2,9 @@
 use Rattle.std.specs.Prelude.{ℕ, ◌≡◌, ◌⊎◌, true, false, List, [], ◌∷◌, codes}
 use Rattle.doc_values.specs.declared.kind.Kind.{Kind}
 use Rattle.doc_values.specs.declared.kind.Kind.TheVariants as kind
-use Rattle.doc_values.specs.declared.decimal.Num.{Num}
-use Rattle.doc_values.specs.declared.decimal.Num.TheVariants as num
-use Rattle.doc_values.specs.Number.{IsNumber}
+use Rattle.decimals.specs.declared.decimal.Num.{Num}
+use Rattle.decimals.specs.declared.decimal.Num.TheVariants as num
+use Rattle.decimals.specs.Number.{IsNumber}
 use Rattle.yaml_scalars.specs.Lines.{begins_with}
 
 -- `true True TRUE`

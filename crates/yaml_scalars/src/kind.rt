@@ -1,6 +1,6 @@
 //! The kinds of plain scalars.
 ghost use Rattle.std.specs.Prelude.{ℕ, ◌≡◌, true, false, MatchOption};
-ghost use Rattle.doc_values.specs.declared.decimal.Num.{Num};
+ghost use Rattle.decimals.specs.declared.decimal.Num.{Num};
 ghost use Rattle.doc_values.specs.declared.kind.Kind.{Kind};
 ghost use Rattle.yaml_scalars.specs.Lines.{begins_with};
 ghost use Rattle.yaml_scalars.specs.Kinds.{IsSignedNumber, IsPlainKind};

@@ -1,10 +1,10 @@
 -- Rows and nodes of a part of a tree, as a tree of its own.
 use Rattle.std.specs.Prelude.{ℕ, ◌-◌, ◌<◌, ◌≡◌, List, ◌++◌, length, Option, Some}
-use Rattle.doc_values.specs.declared.names.Names.{Names}
+use Rattle.key_names.specs.declared.names.Names.{Names}
 use Rattle.doc_values.specs.declared.node.Seat.{Seat}
 use Rattle.doc_values.specs.code.Rows.{Row}
 use Rattle.doc_values.specs.code.Entries.{Entry, named_in}
-use Rattle.doc_values.specs.code.Names.{texts_of, IsTable}
+use Rattle.key_names.specs.code.Names.{texts_of, IsTable}
 
 -- where a row stands below a node at a depth, with a number, when that is the root
 abbrev pub seat_below : ℕ → ℕ → Seat → Seat

@@ -4,13 +4,13 @@ ghost use Rattle.doc_values.specs.Tree.{size};
 ghost use Rattle.doc_values.specs.Places.{kids_at, tree_at};
 ghost use Rattle.doc_values.specs.code.Rows.{tree_of};
 ghost use Rattle.doc_values.specs.code.Entries.{rows_in};
-ghost use Rattle.doc_values.specs.code.Names.{texts_of, IsTable};
+ghost use Rattle.key_names.specs.code.Names.{texts_of, IsTable};
 ghost use Rattle.doc_values.specs.code.Index.{IsFinished};
 ghost use Rattle.doc_values.specs.code.Parts.{Notes};
 
 use super::{Doc, indexed, zeros};
-use crate::names::Names;
 use crate::node::{Node, Seat};
+use key_names::Names;
 use std::alloc::AllocError;
 
 impl<'s> Doc<'s> {

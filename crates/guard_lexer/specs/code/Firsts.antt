@@ -5,8 +5,8 @@ use Rattle.guard_lexer.specs.declared.token.Token.{Token}
 use Rattle.guard_lexer.specs.declared.token.TokenKind.{TokenKind}
 use Rattle.guard_lexer.specs.declared.token.TokenKind.TheVariants as k
 use Rattle.guard_lexer.specs.declared.token.LexRefusal.{LexRefusal}
-use Rattle.doc_values.specs.declared.decimal.Num.{Num}
-use Rattle.doc_values.specs.declared.decimal.Num.TheVariants as num
+use Rattle.decimals.specs.declared.decimal.Num.{Num}
+use Rattle.decimals.specs.declared.decimal.Num.TheVariants as num
 use Rattle.guard_lexer.specs.Bytes.{is_letter, is_word}
 use Rattle.guard_lexer.specs.Forms.{mark_text}
 use Rattle.guard_lexer.specs.Lexes.{IsToken, IsFault, Takes, Ends}

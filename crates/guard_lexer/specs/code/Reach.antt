@@ -1,7 +1,7 @@
 -- How far a form goes at the front of bytes, as functions; 0 where it does not begin there.
 use Rattle.std.specs.Prelude.{ℕ, zero, suc, ◌+◌, Bool, true, false, not, ◌&&◌, ◌||◌, ◌==◌, List, [], ◌∷◌, drop, Option, Some, None, if◌then◌else◌, option_map}
-use Rattle.doc_values.specs.Number.{is_digit}
-use Rattle.doc_values.specs.code.Reading.{is_mark}
+use Rattle.decimals.specs.Number.{is_digit}
+use Rattle.decimals.specs.code.Reading.{is_mark}
 use Rattle.guard_lexer.specs.Bytes.{is_letter, is_word, is_white}
 
 -- how many bytes pass

@@ -3,11 +3,11 @@
 use Rattle.std.specs.Prelude.{ℕ, zero, suc, ◌/◌, ◌%◌, ℤ, pos, negsuc, ◌+ℤ◌, ◌-ℤ◌, unsigned_abs, Bool, true, false, ◌&&◌, ◌||◌, not, List, [], ◌∷◌, ◌++◌, length, Option, Some, None, nat_lt, nat_le, nat_eq, if◌then◌else◌}
 use Rattle.doc_values.specs.declared.kind.Kind.{Kind}
 use Rattle.doc_values.specs.declared.kind.Kind.TheVariants as kind
-use Rattle.doc_values.specs.Decimal.{Decimal}
+use Rattle.decimals.specs.Decimal.{Decimal}
 use Rattle.json_reader.specs.declared.number.NumberPart.{NumberPart}
 use Rattle.json_reader.specs.declared.number.NumberPart.TheVariants as part
-use Rattle.doc_values.specs.Number.{is_digit, Parts, number, signed, scaled}
-use Rattle.doc_values.specs.code.Reading.{read, is_number, is_nil}
+use Rattle.decimals.specs.Number.{is_digit, Parts, number, signed, scaled}
+use Rattle.decimals.specs.code.Reading.{read, is_number, is_nil}
 
 -- the whole number of 64 bits with this sign and size
 abbrev pub whole_of : Bool → ℕ → Option ℤ

@@ -6,7 +6,7 @@ use Rattle.doc_values.specs.declared.kind.Kind.{Kind}
 use Rattle.doc_values.specs.declared.kind.Kind.TheVariants as kind
 use Rattle.doc_values.specs.Tree.{Forest, has_key, is_map}
 use Rattle.doc_values.specs.Unfinished.{Level, Unfinished, start, with_value, with_open, with_key, with_end}
-use Rattle.doc_values.specs.Number.{is_digit}
+use Rattle.decimals.specs.Number.{is_digit}
 use Rattle.json_reader.specs.declared.bytes.Class.{Class}
 use Rattle.json_reader.specs.declared.bytes.Class.TheVariants.{Space, Quote, Open, Close, OpenList, CloseList, Colon, Comma, Minus, Zero, Digit, LetterN, LetterT, LetterF, Other}
 use Rattle.json_reader.specs.declared.number.NumberPart.{NumberPart}

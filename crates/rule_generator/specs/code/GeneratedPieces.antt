@@ -1,7 +1,7 @@
 -- The generated rules as tokens, each with the white space in front of it; and when their texts can be written.
 use Rattle.std.specs.Prelude.{◌≡◌, ℕ, suc, false, List, [], ◌∷◌, ◌++◌, codes, decimal}
 use Rattle.doc_values.specs.Tree.{Forest}
-use Rattle.doc_values.specs.declared.decimal.Num.TheVariants as num
+use Rattle.decimals.specs.declared.decimal.Num.TheVariants as num
 use Rattle.doc_values.specs.declared.kind.Kind.{Kind}
 use Rattle.doc_values.specs.declared.kind.Kind.TheVariants as kind
 use Rattle.guard_lexer.specs.declared.token.Mark.TheVariants as m

@@ -1,6 +1,6 @@
 -- Values that have a spelling, as keys of a set.
 use Rattle.std.specs.Prelude.{◌≡◌}
-use Rattle.doc_values.specs.Decimal.{IsNormal}
+use Rattle.decimals.specs.Decimal.{IsNormal}
 use Rattle.doc_values.specs.declared.kind.Kind.TheVariants as kind
 use Rattle.rule_meaning.specs.Values.{Value}
 use Rattle.rule_generator.specs.declared.scalar.Scalar.{Scalar}

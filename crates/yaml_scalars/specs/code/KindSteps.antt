@@ -2,8 +2,8 @@
 use Rattle.std.specs.Prelude.{ℕ, true, false, List}
 use Rattle.doc_values.specs.declared.kind.Kind.{Kind}
 use Rattle.doc_values.specs.declared.kind.Kind.TheVariants as kind
-use Rattle.doc_values.specs.declared.decimal.Num.{Num}
-use Rattle.doc_values.specs.declared.decimal.Num.TheVariants as num
+use Rattle.decimals.specs.declared.decimal.Num.{Num}
+use Rattle.decimals.specs.declared.decimal.Num.TheVariants as num
 use Rattle.yaml_scalars.specs.Kinds.{IsNullWord, IsTrueWord, IsFalseWord}
 
 -- no word of a kind

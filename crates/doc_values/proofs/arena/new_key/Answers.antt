@@ -1,6 +1,6 @@
 use Rattle.std.proofs.Common.{◌≡◌, ℕ, List, length, None, Some, sym, ap, refl, ◌∙◌, subst, arith}
 use Rattle.std.specs.Cow.{cow_str_bytes}
-use Rattle.doc_values.specs.code.Names.{name_of}
+use Rattle.key_names.specs.code.Names.{name_of}
 use Rattle.doc_values.specs.code.Uses.{IsBehindName, AreDeeper}
 use Rattle.doc_values.proofs.NamedKeys.{none_unnamed, some_named, none_linked, some_same}
 use Rattle.doc_values.proofs.arena.new_key.Goals as goal

@@ -4,7 +4,7 @@ use Rattle.std.specs.Cow.{cow_str_bytes}
 use Rattle.doc_values.specs.declared.arena.Awaited.{Awaited}
 use Rattle.doc_values.specs.code.Index.{IsKnown, IsAwaited, Takes}
 use Rattle.doc_values.proofs.NamedKeys.{awaited_same}
-use Rattle.doc_values.proofs.Table.{on_err}
+use Rattle.key_names.proofs.Table.{on_err}
 use Rattle.doc_values.proofs.Growing.{numbered_found}
 use Rattle.doc_values.proofs.arena.take_key.Goals as goal
 

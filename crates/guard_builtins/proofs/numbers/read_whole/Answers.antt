@@ -1,5 +1,5 @@
 use Rattle.std.proofs.Common.{subst}
-use Rattle.doc_values.specs.declared.decimal.Num.TheVariants as num
+use Rattle.decimals.specs.declared.decimal.Num.TheVariants as num
 use Rattle.rule_meaning.specs.Functions.{IsSigned}
 use Rattle.guard_builtins.proofs.Signs.{fraction-no_whole}
 use Rattle.guard_builtins.proofs.numbers.read_whole.Goals as goal

@@ -1,6 +1,6 @@
 use Rattle.std.proofs.Common.{◌∙◌, ap, subst, sym}
 use Rattle.std.specs.Prelude.{IsAscii}
-use Rattle.doc_values.specs.Number.{IsNumber}
+use Rattle.decimals.specs.Number.{IsNumber}
 use Rattle.guard_lexer.specs.code.Firsts.{number_kind, begins_word}
 use Rattle.guard_lexer.proofs.Firsts.{is_first}
 use Rattle.guard_lexer.proofs.NumberFirsts.{front_bad, front_range, front_mixed, front_found, front_ascii}

@@ -1,8 +1,8 @@
 use Rattle.std.proofs.Common.{subst, ℕ, List}
 use Rattle.std.specs.Prelude.{MatchOption}
 use Rattle.std.proofs.lemmas.Str.{IsUtf8-from_ascii}
-use Rattle.doc_values.specs.Number.{IsNumber}
-use Rattle.doc_values.specs.declared.decimal.Num.{Num}
+use Rattle.decimals.specs.Number.{IsNumber}
+use Rattle.decimals.specs.declared.decimal.Num.{Num}
 use Rattle.guard_lexer.proofs.first.number_of.Goals as goal
 
 pub returns-in-Ok : goal.returns-in-Ok

@@ -1,5 +1,5 @@
 use Rattle.std.proofs.Common.{◌≡◌, ◌+◌, drop}
-use Rattle.doc_values.specs.Number.{is_digit}
+use Rattle.decimals.specs.Number.{is_digit}
 use Rattle.guard_lexer.specs.code.Reach.{run}
 use Rattle.guard_lexer.proofs.numeral.digits_len.Given as goal
 

@@ -2,7 +2,7 @@ use Rattle.std.proofs.lemmas.Grind.{common_steps}
 use Rattle.std.proofs.Common.{◌≡◌, ℕ, List, ◌+◌, ◌-◌, ◌<◌, length, get_or, refl, arith, subst, sym, ap, Bool, None}
 use Rattle.std.specs.Str.{IsCharBoundary}
 use Rattle.std.proofs.lemmas.Str.{IsCharBoundary-after_ascii}
-use Rattle.doc_values.specs.Number.{IsNumber}
+use Rattle.decimals.specs.Number.{IsNumber}
 use Rattle.doc_values.specs.declared.kind.Kind.{Kind}
 use Rattle.json_reader.specs.code.Reading.{number_cause}
 use Rattle.json_reader.specs.code.Steps.{IsPlain, Number, NoNumber}

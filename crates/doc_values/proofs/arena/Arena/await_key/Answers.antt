@@ -2,7 +2,7 @@ use Rattle.std.proofs.Common.{List, sym, ap, subst}
 use Rattle.doc_values.specs.code.Rows.{Row}
 use Rattle.doc_values.specs.code.Entries.{Entry}
 use Rattle.doc_values.specs.code.Growth.{Growth}
-use Rattle.doc_values.specs.code.Names.{texts_of}
+use Rattle.key_names.specs.code.Names.{texts_of}
 use Rattle.doc_values.specs.code.Uses.{IsOpen}
 use Rattle.doc_values.specs.code.Index.{IsOpenUnder}
 use Rattle.doc_values.proofs.Entries.{IsOpen-rows}

@@ -2,7 +2,7 @@ use Rattle.std.proofs.Common.{◌≡◌, ◌<◌, ◌≤◌, ◌++◌, ◌∷◌
 use Rattle.std.specs.Cow.{cow_str_bytes}
 use Rattle.doc_values.specs.code.Entries.{Entry}
 use Rattle.doc_values.specs.code.Growth.{Awaited, Growth, key_of, IsFor}
-use Rattle.doc_values.specs.code.Names.{texts_of}
+use Rattle.key_names.specs.code.Names.{texts_of}
 use Rattle.doc_values.specs.code.Stored.{kind_of, text_of}
 use Rattle.doc_values.specs.code.Index.{row_of, IsNewUnder}
 use Rattle.doc_values.proofs.Entries.{length-rows_in}

@@ -1,6 +1,6 @@
 use Rattle.std.proofs.Common.{◌≡◌, ◌-◌, ℕ, suc, List, length, subst, sym, ap, ◌∙◌, arith}
 use Rattle.doc_values.specs.Tree.{IsTree, size}
-use Rattle.doc_values.specs.code.Names.{Joins}
+use Rattle.key_names.specs.code.Names.{Joins}
 use Rattle.doc_values.proofs.Answering.{ix_size}
 use Rattle.doc_values.proofs.Roots.{some_size}
 use Rattle.doc_values.proofs.Merging.{fits_behind, joined_finished}

@@ -1,0 +1,5 @@
+pub mod Decimals
+pub mod NumberText
+pub mod NumberValue
+pub mod DecimalRange
+pub mod Numbers

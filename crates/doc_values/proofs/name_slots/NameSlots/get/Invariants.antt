@@ -1,8 +1,0 @@
-use Rattle.std.proofs.Common.{◌≡◌, ◌+◌, ◌-◌, map}
-use Rattle.std.specs.Cow.{cow_str_bytes}
-use Rattle.doc_values.specs.code.TextNumbers.{number_by, links_in}
-use Rattle.doc_values.specs.code.NameSlots.{found_in, in_slots}
-use Rattle.doc_values.proofs.name_slots.NameSlots.get.Given as goal
-
-abbrev pub invariant-loop-at : goal.invariant-loop-at
-invariant-loop-at l = found_in (map cow_str_bytes l.texts) l.self.slots.items (links_in l.self.others.links) l.text ≡ in_slots (map cow_str_bytes l.texts) l.text (number_by (links_in l.self.others.links) l.text) l.self.slots.items l.at (l.first + 16 - l.at)

@@ -1,5 +1,0 @@
-use Rattle.doc_values.specs.code.NameSlots.{AreTaken}
-use Rattle.doc_values.proofs.name_slots.free_slot.Given as goal
-
-abbrev pub invariant-loop-at : goal.invariant-loop-at
-invariant-loop-at l = AreTaken l.slots l.first l.at

@@ -1,6 +1,0 @@
-use Rattle.std.proofs.Common.{◌≡◌, map}
-use Rattle.std.specs.Cow.{cow_str_bytes}
-use Rattle.doc_values.proofs.names.Names.detach.Given as goal
-
-abbrev pub invariant-loop-text : goal.invariant-loop-text
-invariant-loop-text l = map cow_str_bytes l.owned.items ≡ map cow_str_bytes l.yielded

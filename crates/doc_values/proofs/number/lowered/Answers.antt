@@ -1,6 +1,0 @@
-use Rattle.std.proofs.Common.{arith}
-use Rattle.std.proofs.lemmas.Grind.{common_steps}
-use Rattle.doc_values.proofs.number.lowered.Goals as goal
-
-pub of-requires : goal.of-requires
-of-requires c = grind (arith, common_steps)

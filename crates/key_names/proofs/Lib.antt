@@ -1,0 +1,4 @@
+pub mod TextLinks
+pub mod NameSlots
+pub mod Table
+pub mod Joining
