@@ -115,3 +115,11 @@ at_least_once n x k h e = grind (arith, nat_tests)
 pub upto-has : (i n k : ℕ) → n ≤ i → i < n + k → 1 ≤ times i (upto n k)
 upto-has i n zero e f = absurd (omega arith)
 upto-has i n (suc k) e f = at_least_once i n (times i (upto (suc n) k)) (λ (g : n < i). upto-has i (suc n) k (omega arith) (omega arith)) e
+
+not_there : (n x k : ℕ) → k ≡ 0 → x < n → cond (x == n) 1 0 + k ≡ 0
+not_there n x k e f = grind (arith, nat_tests)
+
+-- and none behind them
+pub upto-past : (i n k : ℕ) → n + k ≤ i → times i (upto n k) ≡ 0
+upto-past i n zero e = refl
+upto-past i n (suc k) e = not_there i n (times i (upto (suc n) k)) (upto-past i (suc n) k (omega arith)) (omega arith)

@@ -7,6 +7,8 @@ pub mod HomeTables
 pub mod Lists
 pub mod Parts
 pub mod PiecesStand
+mod PiecesNoted
+mod PieceTables
 pub mod Increases
 pub mod Settled
 pub mod Shallow

@@ -11,14 +11,14 @@ use Rattle.rule_names.proofs.Tied.{tied-lets, tied-rules, tied-disjs}
 use Rattle.rule_names.specs.code.Within.{StandsIn}
 
 -- the pieces of a file have its sites
-file-tied : (f : File) → Ties (pieces_file f) (sites_file f)
+pub file-tied : (f : File) → Ties (pieces_file f) (sites_file f)
 file-tied f =
     ties-cons 0 OfFile (pieces_lets f.lets ++ (pieces_rules f.rules ++ pieces_disjs f.loose)) (merge (sites_lets f.lets) (merge (sites_rules f.rules) (sites_disjs f.loose)))
     (ties-merge (pieces_lets f.lets) (pieces_rules f.rules ++ pieces_disjs f.loose) (sites_lets f.lets) (merge (sites_rules f.rules) (sites_disjs f.loose)) (tied-lets f.lets)
     (ties-merge (pieces_rules f.rules) (pieces_disjs f.loose) (sites_rules f.rules) (sites_disjs f.loose) (tied-rules f.rules) (tied-disjs f.loose)))
 
 -- so a site of a file is that of one piece
-hit-once : (f : File) (n : ℕ) → AreInOrder f → hits n (pieces_file f) ≤ 1
+pub hit-once : (f : File) (n : ℕ) → AreInOrder f → hits n (pieces_file f) ≤ 1
 hit-once f n order =
     let e : hits n (pieces_file f) ≡ times n (upto 0 (length f.places)) = (file-tied f).same n ∙ ap (times n) order in
     omega (arith, e, once n 0 (upto 0 (length f.places)) (upto-rises 0 (length f.places)))

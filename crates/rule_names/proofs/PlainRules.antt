@@ -10,7 +10,7 @@ use Rattle.guard_syntax.specs.Sites.{upto, merge, sites_lets, sites_disjs, sites
 use Rattle.guard_syntax.specs.Syntax.{Rule, File}
 use Rattle.rule_names.specs.code.Order.{plain_sites, site_if_plain}
 use Rattle.rule_names.specs.Pieces.{AreInOrder}
-use Rattle.rule_names.proofs.Increases.{times, times-append, times-merge, once, upto-rises}
+use Rattle.rule_names.proofs.Increases.{times, times-append, times-merge, once, upto-past, upto-rises}
 
 -- ---- how often a number stands in a list
 
@@ -80,13 +80,6 @@ same-counts xs ys one two to back x =
 
 -- ---- rules
 
-beyond : (m a k : ℕ) → a + k ≤ m → times m (upto a k) ≡ 0
-beyond m a zero h = refl
-beyond m a (suc k) h =
-    let rest : times m (upto (suc a) k) ≡ 0 = beyond m (suc a) k (omega arith) in
-    let none = other-none a m (λ e. omega (arith, e, h)) in
-    omega arith
-
 if-plain : (m n : ℕ) (params : List Named) (more : List ℕ) → times m (site_if_plain n params) ≤ times m (n ∷ more)
 if-plain m n [] more = omega arith
 if-plain m n (p ∷ ps) more = omega arith
@@ -126,6 +119,6 @@ plain-within f order site h = elim (cases_lt site (length f.places)) [
   | inr l ↦
       let one = stands-once (plain_sites f.rules) site h in
       let among = plain-in-file f order site in
-      let none = beyond site 0 (length f.places) (omega arith) in
+      let none = upto-past site 0 (length f.places) (omega arith) in
       absurd (omega arith)
 ]

@@ -5,5 +5,6 @@ pub mod Forms
 pub mod IncreasingSites
 pub mod Marks
 pub mod Order
+pub mod PieceTables
 pub mod Seen
 pub mod Within

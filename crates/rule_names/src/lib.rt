@@ -12,6 +12,7 @@ pub mod find;
 pub mod laws;
 pub mod name_kind;
 pub mod piece;
+pub mod piece_table;
 pub mod siblings;
 
 pub use bind::{Bind, Link};
@@ -20,3 +21,4 @@ pub use file::RuleFile;
 pub use laws::settled_depths;
 pub use name_kind::NameKind;
 pub use piece::Piece;
+pub use piece_table::PieceTable;
