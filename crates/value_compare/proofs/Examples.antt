@@ -1,8 +1,8 @@
 -- Pairs with their answers, and with whether a text meets a pattern, worked out by hand from the language's tables.
 use Rattle.std.proofs.Common.{◌≡◌, ℕ, Bool, pos, true, false, refl, List, [], Some, None, codes}
-use Rattle.doc_values.specs.Decimal.{Decimal}
+use Rattle.decimals.specs.Decimal.{Decimal}
 use Rattle.doc_values.specs.Tree.{Forest, Nil, Node}
-use Rattle.doc_values.specs.declared.decimal.Num.TheVariants as num
+use Rattle.decimals.specs.declared.decimal.Num.TheVariants as num
 use Rattle.doc_values.specs.declared.kind.Kind.{Kind}
 use Rattle.doc_values.specs.declared.kind.Kind.TheVariants as kind
 use Rattle.guard_syntax.specs.declared.syntax.Op.TheVariants as op

@@ -10,12 +10,12 @@ use Rattle.regex.specs.Patterns.{Re}
 use Rattle.regex_syntax.specs.Grammar.{Names}
 use Rattle.doc_values.specs.declared.kind.Kind.{Kind}
 use Rattle.doc_values.specs.declared.kind.Kind.TheVariants as kind
-use Rattle.doc_values.specs.declared.decimal.Num.{Num}
-use Rattle.doc_values.specs.declared.decimal.Num.TheVariants as num
-use Rattle.doc_values.specs.Decimal.{Decimal}
-use Rattle.doc_values.specs.Number.{IsNumber, IsSpelled, Parts}
+use Rattle.decimals.specs.declared.decimal.Num.{Num}
+use Rattle.decimals.specs.declared.decimal.Num.TheVariants as num
+use Rattle.decimals.specs.Decimal.{Decimal}
+use Rattle.decimals.specs.Number.{IsNumber, IsSpelled, Parts}
 use Rattle.doc_values.specs.Tree.{Forest}
-use Rattle.doc_values.proofs.Numbers.{IsNumber-unique}
+use Rattle.decimals.proofs.Numbers.{IsNumber-unique}
 use Rattle.doc_values.specs.Limits.{template_limit}
 use Rattle.json_reader.specs.declared.refusal.JsonRefusal.{JsonRefusal}
 use Rattle.json_reader.specs.Json.{IsInRange, Json, StandsFor}

@@ -1,6 +1,6 @@
 -- A book holds the patterns of what a reference stands for: templates and made trees have none, and a literal's are the file's.
 use Rattle.std.proofs.Common.{◌≡◌, ℕ, zero, suc, ◌+◌, ◌-◌, ◌<◌, ◌≤◌, Bool, true, false, List, [], ◌++◌, length, get_or, Option, Some, None, refl, sym, ap, ◌∙◌, inl, inr, arith, Bor}
-use Rattle.std.specs.Prelude.{◌&&◌, ◌||◌, nat_lt, if◌then◌else◌, option_and_then, MatchOption, IfSome}
+use Rattle.std.specs.Prelude.{◌&&◌, ◌||◌, nat_lt, if◌then◌else◌, option_and_then, IfSome}
 use Rattle.std.specs.List.{list_any, flat_map}
 use Rattle.std.specs.Option.{option_map_or}
 use Rattle.std.specs.Str.{bytes_eq}
@@ -101,13 +101,7 @@ literal-held f book site tree within is_book at =
     (ap (list_any (λ (w : Written). bytes_eq text w.text)) (of_literal (is_sought f site) (piece_at f site) tree at)
     ∙ list_any-append (λ (w : Written). bytes_eq text w.text) (sought_text (is_sought f site) tree) (patterns_in tree) ∙ or_right _ _ e))
 
--- what a look-up of a literal gives
-pub held_some : (f : File) (book : List (List ℕ)) (site : ℕ) (o : Option (Bor Forest)) (m : Option Forest) → site < length f.places → IsBookOf f book → literal_at f site ≡ m
-    → MatchOption o (m ≡ None) (λ t. m ≡ Some t.now) → IfSome o (λ t. holds_in book t.now ≡ true)
-held_some f book site None m within is_book at gives = tt
-held_some f book site (Some t) m within is_book at gives = literal-held f book site t.now within is_book (at ∙ gives)
-
--- and one of a tree without patterns
+-- what a look-up of a tree without patterns gives
 pub plain_some-held : (book : List (List ℕ)) (o : Option (Bor Forest)) → IfSome o (λ t. has_pattern t.now ≡ false) → IfSome o (λ t. holds_in book t.now ≡ true)
 plain_some-held book None plain = tt
 plain_some-held book (Some t) plain = plain-held book t.now plain

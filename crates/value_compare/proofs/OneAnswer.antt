@@ -1,12 +1,12 @@
 -- Two answers of a call are the same.
 use Rattle.std.proofs.Common.{◌≡◌, ℕ, ℤ, pos, negsuc, List, [], ◌∷◌, Option, Some, None, refl, sym, ap, ap₂, subst, ◌∙◌}
 use Rattle.json_reader.proofs.Limits.{unique}
-use Rattle.doc_values.proofs.Numbers.{IsNumber-unique}
-use Rattle.doc_values.specs.Decimal.{Decimal}
-use Rattle.doc_values.specs.Number.{IsNumber}
+use Rattle.decimals.proofs.Numbers.{IsNumber-unique}
+use Rattle.decimals.specs.Decimal.{Decimal}
+use Rattle.decimals.specs.Number.{IsNumber}
 use Rattle.doc_values.specs.Tree.{Forest}
-use Rattle.doc_values.specs.declared.decimal.Num.{Num}
-use Rattle.doc_values.specs.declared.decimal.Num.TheVariants as num
+use Rattle.decimals.specs.declared.decimal.Num.{Num}
+use Rattle.decimals.specs.declared.decimal.Num.TheVariants as num
 use Rattle.doc_values.specs.declared.kind.Kind.{Kind}
 use Rattle.doc_values.specs.declared.kind.Kind.TheVariants as kind
 use Rattle.guard_syntax.specs.declared.function.Function.{Function}

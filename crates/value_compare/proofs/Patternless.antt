@@ -2,7 +2,7 @@
 use Rattle.std.proofs.Common.{◌≡◌, ℕ, suc, List, Option, None, Some, Bool, true, false, inl, inr, refl, ap, ◌∙◌}
 use Rattle.doc_values.specs.declared.kind.Kind.{Kind}
 use Rattle.doc_values.specs.declared.kind.Kind.TheVariants as kind
-use Rattle.doc_values.specs.Number.{Parts}
+use Rattle.decimals.specs.Number.{Parts}
 use Rattle.doc_values.specs.Tree.{Label, Forest, Nil, Node}
 use Rattle.json_reader.specs.Json.{Contents, Collection, Object, Array, Entries, IsEntry, IsValue, IsNamed, StandsFor, kind_of, Shape, Json}
 use Rattle.rule_meaning.specs.Values.{is_pattern, has_pattern}

@@ -11,11 +11,11 @@ ghost use Rattle.value_compare.specs.code.Making.{AreRead, IsReadBook, Gains, Is
 ghost use Rattle.rule_meaning.specs.Patterns.{is_sought, patterns_at, patterns_in, patterns_of, sought_text};
 
 use crate::book::PatternBook;
-use crate::literals::literal;
+use crate::literals::literal_in;
 use crate::maker::{PatternFault, PatternMaker};
 use crate::sought::sought_sites;
 use doc_values::{Cursor, Doc, Kind};
-use rule_names::RuleFile;
+use rule_names::{PieceTable, RuleFile};
 use std::alloc::Global;
 
 /// Why the patterns of a rule file were not made: the first that was not, by the byte offset of the slash or quote that
@@ -48,32 +48,35 @@ pub fn pattern_book<M: PatternMaker>(
     let Some(sites) = site_count(file) else {
         return Err(BookRefusal::NoMemory);
     };
-    let Ok(sought) = sought_sites(alloc, file, sites) else {
+    let Ok(table) = PieceTable::new(alloc, file) else {
+        return Err(BookRefusal::NoMemory);
+    };
+    let Ok(sought) = sought_sites(alloc, &table, sites) else {
         return Err(BookRefusal::NoMemory);
     };
     let mut book = PatternBook::new(alloc);
-    add_sites(alloc, file, &sought, &mut book, maker)?;
+    add_sites(alloc, &table, &sought, &mut book, maker)?;
     Ok(book)
 }
 
 /// Makes the patterns of the literals of all sites, of each of which is told whether one is read from its text.
 fn add_sites<M: PatternMaker>(
     alloc: Global,
-    file: &RuleFile,
+    table: &PieceTable<'_>,
     sought: &[bool],
     book: &mut PatternBook,
     maker: &mut M,
 ) -> Result<(), BookRefusal>
-    requires sites { length sought.now ≡ length (see_file file.now.raw).places }
-    requires sought { (n : ℕ) → n < length sought.now → slice_index_or sought.now n false ≡ is_sought (see_file file.now.raw) n }
+    requires sites { length sought.now ≡ length (see_file table.now.file.now.raw).places }
+    requires sought { (n : ℕ) → n < length sought.now → slice_index_or sought.now n false ≡ is_sought (see_file table.now.file.now.raw) n }
     requires counted { length sought.now < 4294967296 }
     requires book { IsReadBook book.old }
-    ensures gains { OnOk result (Gains book.old book.new (patterns_of (see_file file.now.raw))) }
-    ensures read { OnOk result (AreRead (patterns_of (see_file file.now.raw))) }
+    ensures gains { OnOk result (Gains book.old book.new (patterns_of (see_file table.now.file.now.raw))) }
+    ensures read { OnOk result (AreRead (patterns_of (see_file table.now.file.now.raw))) }
     ensures bad { (at : ℕ) → IsErrOf result (BookRefusal.BadPattern at)
-        → (text : List ℕ) × IsNextOf (patterns_of (see_file file.now.raw)) text at × IsNone (pattern_in text) }
+        → (text : List ℕ) × IsNextOf (patterns_of (see_file table.now.file.now.raw)) text at × IsNone (pattern_in text) }
     ensures refused { (at : ℕ) → IsErrOf result (BookRefusal.PatternRefused at)
-        → (text : List ℕ) × IsNextOf (patterns_of (see_file file.now.raw)) text at
+        → (text : List ℕ) × IsNextOf (patterns_of (see_file table.now.file.now.raw)) text at
         × FaultCounted (M.faults maker.old text) (M.faults maker.new text) }
     ensures kept { (other : List ℕ) → M.faults maker.old other ≤ M.faults maker.new other }
 {
@@ -82,7 +85,7 @@ fn add_sites<M: PatternMaker>(
             site,
             sought: sought[site as usize],
         };
-        add_site(alloc, file, given, book, maker)?;
+        add_site(alloc, table, given, book, maker)?;
     }
     Ok(())
 }
@@ -110,24 +113,24 @@ struct LiteralSite {
 /// Makes the patterns of the literal of a site.
 fn add_site<M: PatternMaker>(
     alloc: Global,
-    file: &RuleFile,
+    table: &PieceTable<'_>,
     given: LiteralSite,
     book: &mut PatternBook,
     maker: &mut M,
 ) -> Result<(), BookRefusal>
-    requires sought { given.sought ≡ is_sought (see_file file.now.raw) given.site }
+    requires sought { given.sought ≡ is_sought (see_file table.now.file.now.raw) given.site }
     requires book { IsReadBook book.old }
-    ensures gains { OnOk result (Gains book.old book.new (patterns_at (see_file file.now.raw) given.site)) }
-    ensures read { OnOk result (AreRead (patterns_at (see_file file.now.raw) given.site)) }
+    ensures gains { OnOk result (Gains book.old book.new (patterns_at (see_file table.now.file.now.raw) given.site)) }
+    ensures read { OnOk result (AreRead (patterns_at (see_file table.now.file.now.raw) given.site)) }
     ensures book { OnOk result (IsReadBook book.new) }
     ensures bad { (at : ℕ) → IsErrOf result (BookRefusal.BadPattern at)
-        → (text : List ℕ) × IsNextOf (patterns_at (see_file file.now.raw) given.site) text at × IsNone (pattern_in text) }
+        → (text : List ℕ) × IsNextOf (patterns_at (see_file table.now.file.now.raw) given.site) text at × IsNone (pattern_in text) }
     ensures refused { (at : ℕ) → IsErrOf result (BookRefusal.PatternRefused at)
-        → (text : List ℕ) × IsNextOf (patterns_at (see_file file.now.raw) given.site) text at
+        → (text : List ℕ) × IsNextOf (patterns_at (see_file table.now.file.now.raw) given.site) text at
         × FaultCounted (M.faults maker.old text) (M.faults maker.new text) }
     ensures kept { (other : List ℕ) → M.faults maker.old other ≤ M.faults maker.new other }
 {
-    match literal(file, given.site) {
+    match literal_in(table, given.site) {
         None => Ok(()),
         Some(tree) => add_literal(alloc, tree, given.sought, book, maker),
     }

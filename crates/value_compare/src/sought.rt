@@ -5,22 +5,22 @@ ghost use Rattle.rule_names.specs.Uses.{expr_in};
 ghost use Rattle.rule_meaning.specs.Patterns.{is_site, is_sought, literal_site, sought_at, sought_by};
 
 use guard_syntax::Expr;
-use rule_names::{Piece, RuleFile};
+use rule_names::{Piece, PieceTable};
 use std::alloc::{AllocError, Global};
 
 /// Of each site whether a call reads a pattern from its literal.
 pub(crate) fn sought_sites(
     alloc: Global,
-    file: &RuleFile,
+    table: &PieceTable<'_>,
     sites: u32,
 ) -> Result<Vec<bool>, AllocError>
-    requires { sites ≡ length (see_file file.now.raw).places }
+    requires { sites ≡ length (see_file table.now.file.now.raw).places }
     ensures each { IfOk result (λ marks. length marks.items ≡ sites) }
-    ensures sought { IfOk result (λ marks. (n : ℕ) → n < sites → slice_index_or marks.items n false ≡ is_sought (see_file file.entry.now.raw) n) }
+    ensures sought { IfOk result (λ marks. (n : ℕ) → n < sites → slice_index_or marks.items n false ≡ is_sought (see_file table.entry.now.file.now.raw) n) }
 {
     let mut marks = vec![in alloc; false; sites as usize]?;
     for site in 0..sites {
-        mark(&mut marks, sought(file, site));
+        mark(&mut marks, sought(table, site));
     }
     Ok(marks)
 }
@@ -41,11 +41,10 @@ fn mark(marks: &mut Vec<bool>, site: Option<u32>)
 }
 
 /// The site of the literal from which the call of a site reads a pattern.
-fn sought(file: &RuleFile, site: u32) -> Option<u32>
-    requires { site < length (see_file file.now.raw).places }
-    ensures { result ≡ sought_at (see_file file.now.raw) site }
+fn sought(table: &PieceTable<'_>, site: u32) -> Option<u32>
+    ensures { result ≡ sought_at (see_file table.now.file.now.raw) site }
 {
-    match file.piece(site) {
+    match table.find(site)? {
         Piece::Expr(expr) => sought_by(expr),
         _ => None,
     }

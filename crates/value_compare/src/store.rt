@@ -17,6 +17,10 @@ use guard_syntax::{Origin, Ref};
 use rule_names::RuleFile;
 use std::alloc::{AllocError, Global};
 
+/// The literals of the sites below this one are kept. A file of more sites may have so many literals that each is asked for
+/// about once, while what is kept takes 20 bytes for each.
+const KEPT_SITES: u32 = 65_536;
+
 /// The tree of the literal of a site.
 #[derive(Clone, Copy)]
 pub struct KeptLiteral<'t> {
@@ -32,8 +36,8 @@ pub struct Store<'t, 's> {
     pub file: &'t RuleFile,
     pub made: MadeTrees,
     /// The literals that were kept, and by its site where each of them is.
-    pub literals: Vec<KeptLiteral<'t>>,
-    pub places: Vec<u32>,
+    literals: Vec<KeptLiteral<'t>>,
+    places: Vec<u32>,
     pub ghost plain: { has_pattern doc.now ≡ false },
     pub ghost kept: { AreKept (see_file file.now.raw) literals.items },
 }
@@ -67,13 +71,17 @@ impl<'t, 's> Store<'t, 's> {
         self.made.add(line, row, tree)
     }
 
-    /// Keeps the tree of the literal of a site, so that `view` does not look for it in the file.
+    /// Keeps the tree of the literal of a site, so that `view` does not look for it in the file. At a high site, of which
+    /// there are many in a large file alone, it keeps nothing.
     pub fn keep_literal(&mut self, site: u32, tree: &'t Doc<'static>) -> Result<(), AllocError>
         requires { literal_at (see_file self.old.file.now.raw) site ≡ Some tree.now }
         ensures doc { self.new.doc.now ≡ self.old.doc.now }
         ensures file { self.new.file.now ≡ self.old.file.now }
         ensures made { self.new.made ≡ self.old.made }
     {
+        if site >= KEPT_SITES {
+            return Ok(());
+        }
         let place = self.places.get(site as usize).copied();
         if let Some(_) = kept_at(&self.literals, place, site) {
             return Ok(());

@@ -10,7 +10,7 @@ use Rattle.value_compare.proofs.make_book.add_sites.Goals as goal
 
 pub returns-in_err-add_site-clause-bad : goal.returns-in_err-add_site-clause-bad
 returns-in_err-add_site-clause-bad g c = λ at is.
-    let f : File = see_file c.args.file.now.raw in
+    let f : File = see_file c.args.table.now.file.now.raw in
     let p = err_from_is_err_and c.from_residual.result c.from_residual.ensures.1 in
     let n = c.in_err-add_site.ensures.bad at (rw (p.1, p.2) at is) in
     let within : c.loop-site.site < length f.places = omega (arith, c.requires.sites) in
@@ -18,7 +18,7 @@ returns-in_err-add_site-clause-bad g c = λ at is.
 
 pub returns-in_err-add_site-clause-refused : goal.returns-in_err-add_site-clause-refused
 returns-in_err-add_site-clause-refused g c = λ at is.
-    let f : File = see_file c.args.file.now.raw in
+    let f : File = see_file c.args.table.now.file.now.raw in
     let p = err_from_is_err_and c.from_residual.result c.from_residual.ensures.1 in
     let n = c.in_err-add_site.ensures.refused at (rw (p.1, p.2) at is) in
     let within : c.loop-site.site < length f.places = omega (arith, c.requires.sites) in (
@@ -29,7 +29,7 @@ returns-in_err-add_site-clause-refused g c = λ at is.
 
 pub loop-site-preserved : goal.loop-site-preserved
 loop-site-preserved g c =
-    let f : File = see_file c.args.file.now.raw in
+    let f : File = see_file c.args.table.now.file.now.raw in
     let e = sym (sites-more (patterns_at f) c.loop-site.site) in
     record {
       book = c.in_ok-add_site.ensures.book;
@@ -48,12 +48,12 @@ loop-site-init g c = record {
 
 pub returns-clause-gains : goal.returns-clause-gains
 returns-clause-gains g c =
-    let f : File = see_file c.args.file.now.raw in
+    let f : File = see_file c.args.table.now.file.now.raw in
     let all : c.loop-site.site ≡ length f.places = omega (arith, c.requires.sites) in
     same-gains c.args.book.now c.loop-site.book _ _ (ap (λ n. flat_map (patterns_at f) (upto 0 n)) all) c.loop-site.invariant.gains
 
 pub returns-clause-read : goal.returns-clause-read
 returns-clause-read g c =
-    let f : File = see_file c.args.file.now.raw in
+    let f : File = see_file c.args.table.now.file.now.raw in
     let all : c.loop-site.site ≡ length f.places = omega (arith, c.requires.sites) in
     same-read _ _ (ap (λ n. flat_map (patterns_at f) (upto 0 n)) all) c.loop-site.invariant.read

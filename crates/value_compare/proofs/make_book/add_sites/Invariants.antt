@@ -9,7 +9,7 @@ use Rattle.value_compare.proofs.make_book.add_sites.Given as goal
 abbrev pub invariant-loop-site : goal.invariant-loop-site
 invariant-loop-site g l = record {
   book : IsReadBook l.book;
-  gains : Gains l.initial.book l.book (flat_map (patterns_at (see_file l.file.raw)) (upto 0 l.site));
-  read : AreRead (flat_map (patterns_at (see_file l.file.raw)) (upto 0 l.site));
+  gains : Gains l.initial.book l.book (flat_map (patterns_at (see_file l.table.file.now.raw)) (upto 0 l.site));
+  read : AreRead (flat_map (patterns_at (see_file l.table.file.now.raw)) (upto 0 l.site));
   kept : (other : List ℕ) → g.M.PatternMaker.faults l.initial.maker other ≤ g.M.PatternMaker.faults l.maker other;
 }

@@ -19,7 +19,7 @@ loop-site-init c =
 
 pub loop-site-preserved : goal.loop-site-preserved
 loop-site-preserved c =
-    let f : File = see_file c.args.file.now.raw in
+    let f : File = see_file c.args.table.now.file.now.raw in
     let site = c.loop-site.site in
     let before = c.loop-site.invariant in
     record {
@@ -33,6 +33,6 @@ loop-site-preserved c =
 
 pub returns-clause-sought : goal.returns-clause-sought
 returns-clause-sought c = λ n within.
-    let f : File = see_file c.args.file.now.raw in
+    let f : File = see_file c.args.table.now.file.now.raw in
     let all : c.loop-site.site ≡ length f.places = omega (arith, c.requires) in
     c.loop-site.invariant.sought n within ∙ ap (λ k. list_any (λ m. is_site n (sought_at f m)) (upto 0 k)) all

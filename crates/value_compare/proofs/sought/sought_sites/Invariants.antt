@@ -8,5 +8,5 @@ use Rattle.value_compare.proofs.sought.sought_sites.Given as goal
 abbrev pub invariant-loop-site : goal.invariant-loop-site
 invariant-loop-site l = record {
   each : length l.marks.items ≡ l.sites;
-  sought : (n : ℕ) → n < l.sites → get_or l.marks.items n false ≡ list_any (λ m. is_site n (sought_at (see_file l.file.raw) m)) (upto 0 l.site);
+  sought : (n : ℕ) → n < l.sites → get_or l.marks.items n false ≡ list_any (λ m. is_site n (sought_at (see_file l.table.file.now.raw) m)) (upto 0 l.site);
 }
