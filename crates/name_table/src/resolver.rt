@@ -3,8 +3,9 @@ ghost use Rattle.std.specs.Prelude.{◌≡◌, ◌<◌, ◌↔◌, ℕ, false, s
 ghost use Rattle.std.specs.List.{All, Contains};
 ghost use Rattle.guard_syntax.specs.code.Queries.{QueriesBegin};
 ghost use Rattle.guard_syntax.specs.code.Seen.{see_file};
-ghost use Rattle.rule_names.specs.Cycles.{IsAcyclic};
+ghost use Rattle.reference_graph.specs.code.Ordering.{IsWalkOutcome};
 ghost use Rattle.rule_names.specs.code.Files.{file_of};
+ghost use Rattle.rule_names.specs.Cycles.{IsAcyclic};
 ghost use Rattle.rule_names.specs.Graphs.{IsOrder};
 ghost use Rattle.rule_names.specs.code.Marks.{IsMarked};
 ghost use Rattle.rule_names.specs.code.Order.{AreRulesInOrder, IsOrderOf, plain_sites};
@@ -23,24 +24,9 @@ use name_resolution::homes::homes_of;
 use name_resolution::resolution::resolution_of;
 use reference_cycles::cycles::first_cycle;
 use reference_cycles::edges::graph_of;
-use reference_graph::Graph;
-use reference_graph::ordering::{Outcome, walk_all};
+use reference_graph::{WalkOutcome, walk_all};
 use rule_names::{Link, RuleFile};
 use std::alloc::{AllocError, Global};
-
-/// The nodes of the graph of a file without cycles of names, each behind all that it names.
-fn ordered_nodes(alloc: Global, file: &RawFile, graph: &Graph) -> Result<Vec<u32>, AllocError>
-    requires sites { AreInOrder (see_file file.now) }
-    requires graph { graph.now ≡ graph_of (see_file file.now) }
-    requires acyclic { IsAcyclic (see_file file.now) }
-    ensures { IfOk result (λ order. IsOrder graph.now order.items) }
-{
-    match walk_all(alloc, graph)? {
-        Outcome::Ordered(order) => Ok(order),
-        // Each cycle has a name on it.
-        Outcome::Cycle(_) => unreachable!(),
-    }
-}
 
 /// The sites of the rules without parameters.
 fn plain_sites(alloc: Global, file: &RawFile) -> Result<Vec<u32>, AllocError>
@@ -68,46 +54,51 @@ fn marks_at(alloc: Global, count: usize, sites: &[u32]) -> Result<Vec<bool>, All
 }
 
 /// Whether a site is marked.
-fn is_marked(marks: &[bool], site: u32) -> bool
+fn is_marked(marks: &[bool], site: usize) -> bool
     ensures { result ≡ slice_index_or marks.now site false }
 {
-    marks.get(site as usize).copied().unwrap_or(false)
+    marks.get(site).copied().unwrap_or(false)
 }
 
 /// The marked sites whose rules' nodes are among some nodes, in the order of these.
-fn picked(alloc: Global, count: u32, marks: &[bool], nodes: &[u32]) -> Result<Vec<u32>, AllocError>
+fn picked(
+    alloc: Global,
+    count: usize,
+    marks: &[bool],
+    nodes: &[u32],
+) -> Result<Vec<u32>, AllocError>
     ensures { IfOk result (λ sites. ArePicked count marks.now nodes.now sites.items) }
 {
     let mut sites = Vec::new(alloc);
     for node in nodes {
-        if *node >= count && is_marked(marks, *node - count) {
-            sites.push(*node - count)?;
+        let node = *node as usize;
+        if node >= count && is_marked(marks, node - count) {
+            sites.push((node - count) as u32)?;
         }
     }
     Ok(sites)
 }
 
-/// The sites of the rules without parameters, none in front of a rule that it reaches.
-fn rules_in_order(alloc: Global, file: &RawFile, graph: &Graph) -> Result<Vec<u32>, AllocError>
+/// The sites of the rules without parameters, none in front of a rule that it reaches, by the nodes of the file's graph in
+/// order.
+fn rules_in_order(alloc: Global, file: &RawFile, nodes: &[u32]) -> Result<Vec<u32>, AllocError>
     requires sites { AreInOrder (see_file file.now) }
-    requires graph { graph.now ≡ graph_of (see_file file.now) }
-    requires acyclic { IsAcyclic (see_file file.now) }
+    requires nodes { IsOrder (graph_of (see_file file.now)) nodes.now }
     ensures { IfOk result (λ sites. AreRulesInOrder (see_file file.now) sites.items) }
 {
-    let nodes = ordered_nodes(alloc, file, graph)?;
+    let count = file.places.as_slice().len();
     let plain = plain_sites(alloc, file)?;
-    let marks = marks_at(alloc, file.places.as_slice().len(), &plain)?;
-    picked(alloc, graph.count() / 3, &marks, &nodes)
+    let marks = marks_at(alloc, count, &plain)?;
+    picked(alloc, count, &marks, nodes)
 }
 
 /// The same, and then 0 if parts stand outside rules.
-fn judged_sites(alloc: Global, file: &RawFile, graph: &Graph) -> Result<Vec<u32>, AllocError>
+fn judged_sites(alloc: Global, file: &RawFile, nodes: &[u32]) -> Result<Vec<u32>, AllocError>
     requires sites { AreInOrder (see_file file.now) }
-    requires graph { graph.now ≡ graph_of (see_file file.now) }
-    requires acyclic { IsAcyclic (see_file file.now) }
+    requires nodes { IsOrder (graph_of (see_file file.now)) nodes.now }
     ensures { IfOk result (λ sites. IsOrderOf (see_file file.now) sites.items) }
 {
-    let mut sites = rules_in_order(alloc, file, graph)?;
+    let mut sites = rules_in_order(alloc, file, nodes)?;
     if file.loose.is_empty() {
         return Ok(sites);
     }
@@ -124,10 +115,25 @@ struct Tables {
     judged: Vec<u32>,
 }
 
-/// Tests single names, and whether one reaches itself. The graph of the file is of use to the order of its rules.
-fn tested_graph(alloc: Global, file: &RawFile) -> Result<Graph, NameRefusal>
+/// The nodes of the graph of a file without cycles of names, each behind all that it names, as the walk over it has them.
+fn ordered_nodes(file: &RawFile, walk: WalkOutcome) -> Vec<u32>
     requires sites { AreInOrder (see_file file.now) }
-    ensures { MatchResult result (λ graph. IsTested (see_file file.now) graph) (λ refusal. IsNameRefusal (see_file file.now) refusal) }
+    requires walk { IsWalkOutcome (graph_of (see_file file.now)) walk }
+    requires acyclic { IsAcyclic (see_file file.now) }
+    ensures { IsOrder (graph_of (see_file file.now)) result.items }
+{
+    match walk {
+        WalkOutcome::Ordered(nodes) => nodes,
+        // Each cycle has a name on it.
+        WalkOutcome::Cycle(_) => unreachable!(),
+    }
+}
+
+/// Tests single names, and whether one reaches itself. The nodes of the file's graph, each behind all that it names, are of
+/// use to the order of its rules.
+fn tested_nodes(alloc: Global, file: &RawFile) -> Result<Vec<u32>, NameRefusal>
+    requires sites { AreInOrder (see_file file.now) }
+    ensures { MatchResult result (λ nodes. IsTested (see_file file.now) nodes.items) (λ refusal. IsNameRefusal (see_file file.now) refusal) }
 {
     if let Some(wrong) = first_duplicate(alloc, file)? {
         return Err(refuse(alloc, wrong));
@@ -136,10 +142,11 @@ fn tested_graph(alloc: Global, file: &RawFile) -> Result<Graph, NameRefusal>
         return Err(refuse(alloc, wrong));
     }
     let graph = graph_of(alloc, file)?;
-    if let Some(wrong) = first_cycle(alloc, file, &graph)? {
+    let walk = walk_all(alloc, &graph)?;
+    if let Some(wrong) = first_cycle(alloc, file, &graph, &walk)? {
         return Err(refuse(alloc, wrong));
     }
-    Ok(graph)
+    Ok(ordered_nodes(file, walk))
 }
 
 /// Tests the names of a file, and makes its tables.
@@ -147,10 +154,10 @@ fn tables_of(alloc: Global, file: &RawFile) -> Result<Tables, NameRefusal>
     requires sites { AreInOrder (see_file file.now) }
     ensures { MatchResult result (λ tables. AreTablesOf (see_file file.now) tables) (λ refusal. IsNameRefusal (see_file file.now) refusal) }
 {
-    // The graph takes more memory than the tables: it is let go before they are made.
+    // There are three nodes for each site: they are let go before the tables are made.
     let judged = {
-        let graph = tested_graph(alloc, file)?;
-        judged_sites(alloc, file, &graph)?
+        let nodes = tested_nodes(alloc, file)?;
+        judged_sites(alloc, file, &nodes)?
     };
     let links = resolution_of(alloc, file)?;
     let depths = depths_of(alloc, file, &links)?;

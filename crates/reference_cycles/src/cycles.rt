@@ -7,10 +7,11 @@ ghost use Rattle.rule_names.specs.Pieces.{AreInOrder, piece_at};
 ghost use Rattle.name_scopes.specs.code.Seen.{see_wrong};
 ghost use Rattle.rule_names.specs.code.Seen.{see_piece};
 ghost use Rattle.rule_names.specs.ReferenceGraph.{graph_of};
+ghost use Rattle.reference_graph.specs.code.Ordering.{IsWalkOutcome};
 
 use guard_syntax::{Name, RawFile, Step, StepForm};
 use name_scopes::fault::Wrong;
-use reference_graph::{Graph, first_on_cycle, first_part_use};
+use reference_graph::{Graph, WalkOutcome, first_on_cycle, first_part_use};
 use rule_names::find::in_file;
 use rule_names::{NameKind, Piece};
 use std::alloc::{AllocError, Global};
@@ -175,26 +176,28 @@ fn cycle_of<'f>(
     })
 }
 
-/// The first rule that reaches itself; where none does, the first let or capture.
+/// The first rule that reaches itself; where none does, the first let or capture. The walk is over the graph of the file.
 pub fn first_cycle<'f>(
     alloc: Global,
     file: &'f RawFile,
     graph: &Graph,
+    walk: &WalkOutcome,
 ) -> Result<Option<Wrong<'f>>, AllocError>
     requires sites { AreInOrder (see_file file.now) }
     requires graph { graph.now ≡ graph_of (see_file file.now) }
+    requires walk { IsWalkOutcome graph.now walk.now }
     ensures { IfOk result (λ found. MatchOption found (IsAcyclic (see_file file.entry.now))
         (λ wrong. IsRecursionFault (see_file file.entry.now) (see_wrong wrong))) }
 {
     let count = graph.count() / 3;
-    if let Some(node) = first_on_cycle(alloc, graph, count, 2 * count)? {
+    if let Some(node) = first_on_cycle(alloc, graph, walk, count, 2 * count)? {
         let rules = Layer {
             kind: NameKind::RecursiveRule,
             low: count,
         };
         return Ok(Some(cycle_of(alloc, file, graph, rules, node)?));
     }
-    if let Some(node) = first_on_cycle(alloc, graph, 2 * count, 3 * count)? {
+    if let Some(node) = first_on_cycle(alloc, graph, walk, 2 * count, 3 * count)? {
         let variables = Layer {
             kind: NameKind::RecursiveVariable,
             low: 2 * count,

@@ -19,7 +19,7 @@ use leads::Edge;
 use name_scopes::binders::Binders;
 use name_scopes::scope_chain::ScopeChain;
 use name_scopes::scopes::file_names;
-use reference_graph::Graph;
+use reference_graph::{Graph, GraphBuilder};
 use rule_index::RuleIndex;
 use std::alloc::{AllocError, Global};
 use walk::in_file;
@@ -52,7 +52,7 @@ fn edges_among<'f>(
 }
 
 /// Adds an edge to a graph that has both its nodes.
-fn add_edge(graph: &mut Graph, edge: Edge) -> Result<(), AllocError>
+fn add_edge(graph: &mut GraphBuilder, edge: Edge) -> Result<(), AllocError>
     ensures { OnOk result (graph.new ≡ with_edge graph.old edge) }
 {
     let (from, to) = edge;
@@ -64,7 +64,7 @@ fn add_edge(graph: &mut Graph, edge: Edge) -> Result<(), AllocError>
 }
 
 /// Adds edges to a graph, in turn.
-fn add_edges(graph: &mut Graph, edges: &[Edge]) -> Result<(), AllocError>
+fn add_edges(graph: &mut GraphBuilder, edges: &[Edge]) -> Result<(), AllocError>
     ensures { OnOk result (graph.new ≡ with_edges graph.old edges.now) }
 {
     for edge in edges {
@@ -84,8 +84,11 @@ pub fn graph_of(alloc: Global, file: &RawFile) -> Result<Graph, AllocError>
     let Some(nodes) = count.checked_mul(3) else {
         return Err(AllocError);
     };
-    let edges = edges_of(alloc, file, count)?;
-    let mut graph = Graph::new(alloc, nodes)?;
-    add_edges(&mut graph, &edges)?;
-    Ok(graph)
+    let mut graph = GraphBuilder::new(alloc, nodes);
+    // The edges are let go before the graph is laid out.
+    {
+        let edges = edges_of(alloc, file, count)?;
+        add_edges(&mut graph, &edges)?;
+    }
+    graph.build(alloc)
 }

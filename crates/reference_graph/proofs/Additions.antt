@@ -1,8 +1,8 @@
--- A node is added to those that a node names: what is named then, in the graph and in its rows.
-use Rattle.std.proofs.Common.{◌≡◌, ℕ, ◌<◌, ◌⊎◌, inl, inr, ap, sym, ◌∙◌, subst, List, [], ◌∷◌, ◌++◌, length, get_or, set, map, arith, Vec, Global}
+-- A node is added to those that a node names: what is named then.
+use Rattle.std.proofs.Common.{◌≡◌, ℕ, ◌<◌, ◌⊎◌, inl, inr, sym, subst, List, [], ◌∷◌, ◌++◌, length, get_or, set, arith}
 use Rattle.std.specs.List.{Contains}
 use Rattle.std.proofs.lemmas.Bool.{cases_eq}
-use Rattle.std.proofs.lemmas.List.{length-set, get_or-set_same, get_or-set_other, map-set, set-get_or, get_or-map}
+use Rattle.std.proofs.lemmas.List.{length-set, get_or-set_same, get_or-set_other}
 use Rattle.std.proofs.lemmas.List.Elements.{Contains-push, Contains-push_cases, Contains-append_left}
 use Rattle.rule_names.specs.Graphs.{Graph, IsGraph, Names}
 
@@ -42,21 +42,3 @@ module _ (g : Graph) (a b : ℕ) (within : a < length g) where
         ];
         few = let few = is.few in omega arith;
       }
-
--- the rows as lists
-abbrev pub lists : List (Vec ℕ Global) → Graph
-lists rows = map (λ (row : Vec ℕ Global). row.items) rows
-
-pub row-is : (rows : List (Vec ℕ Global)) (i : ℕ) (row : Vec ℕ Global) → i < length rows → row ≡ get_or rows i row → get_or (lists rows) i [] ≡ row.items
-row-is rows i row l is = get_or-map (λ (r : Vec ℕ Global). r.items) rows i row [] l ∙ ap (λ (r : Vec ℕ Global). r.items) (sym is)
-
-pub row-kept : (rows : List (Vec ℕ Global)) (i : ℕ) (row new : Vec ℕ Global) → i < length rows → row ≡ get_or rows i row → new.items ≡ row.items → lists (set rows i new) ≡ lists rows
-row-kept rows i row new l is same =
-    map-set (λ (r : Vec ℕ Global). r.items) rows i new
-    ∙ ap (λ (r : List ℕ). set (lists rows) i r) (same ∙ sym (row-is rows i row l is))
-    ∙ set-get_or (lists rows) i []
-
-pub row-pushed : (rows : List (Vec ℕ Global)) (i b : ℕ) (row new : Vec ℕ Global) → i < length rows → row ≡ get_or rows i row → new.items ≡ row.items ++ b ∷ [] → lists (set rows i new) ≡ set (lists rows) i (get_or (lists rows) i [] ++ b ∷ [])
-row-pushed rows i b row new l is pushed =
-    map-set (λ (r : Vec ℕ Global). r.items) rows i new
-    ∙ ap (λ (r : List ℕ). set (lists rows) i r) (pushed ∙ ap (λ (r : List ℕ). r ++ b ∷ []) (sym (row-is rows i row l is)))

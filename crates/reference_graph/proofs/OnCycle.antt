@@ -50,8 +50,8 @@ pub settled-no-cycle : (g : Graph) (done : List Bool) (order : List ℕ) → IsS
 settled-no-cycle g done order is a h r = no-cycle-at g order is.behind a is.once ((is.listed a).0 h) r
 
 -- a walk that has begun everywhere and has no path left has an order
-pub walk-ordered : (g : Graph) (begun done : List Bool) (next order : List ℕ) → IsSettled g done order → IsOnPath g begun done next [] → ((a : ℕ) → a < length g → IsMarked begun a) → IsOrder g order
-walk-ordered g begun done next order settled path all = record {
+pub walk-ordered : (g : Graph) (begun done : List Bool) (order : List ℕ) → IsSettled g done order → IsOnPath g begun done [] → ((a : ℕ) → a < length g → IsMarked begun a) → IsOrder g order
+walk-ordered g begun done order settled path all = record {
   all = λ a l. elim (path.begun_on a (all a l)) [ inl d ↦ (settled.listed a).0 d | inr o ↦ absurd (not-in-none a o) ];
   only = λ a h. subst (λ (n : ℕ). a < n) settled.same_nodes (marked-within done a ((settled.listed a).1 h));
   once = settled.once;

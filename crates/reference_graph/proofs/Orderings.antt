@@ -1,13 +1,14 @@
 -- An order that grows by one node at a time, and the path of nodes that are not done.
-use Rattle.std.proofs.Common.{◌≡◌, ◌≢◌, ℕ, ◌<◌, ◌≤◌, inl, inr, Bool, true, false, refl, ap, sym, ◌∙◌, subst, List, [], ◌∷◌, ◌++◌, length, get_or, set, arith, replicate}
-use Rattle.std.specs.List.{AllPairs, Contains}
-use Rattle.std.proofs.lemmas.Bool.{cases_eq, cases_lt}
-use Rattle.std.proofs.lemmas.List.{length-set, length-replicate, length_push, get_or-replicate, get_or_past, get_or-set_same, get_or-set_other, get_or_append_left, get_or_push, get_or_default, take-append-le, take_at}
-use Rattle.std.proofs.lemmas.List.Elements.{Contains-push, Contains-push_cases, Contains-append_left, Contains-get_or}
+use Rattle.std.proofs.Common.{◌≡◌, ◌≢◌, ℕ, ◌<◌, inl, inr, Bool, true, false, refl, sym, ◌∙◌, subst, List, [], ◌∷◌, ◌++◌, length, get_or, set, arith, replicate}
+use Rattle.std.specs.List.{All, AllPairs, Contains}
+use Rattle.std.proofs.lemmas.Bool.{cases_lt}
+use Rattle.std.proofs.lemmas.List.{length-set, length-replicate, length_push, get_or_append_left, get_or_push, get_or_default, take-append-le, take_at}
+use Rattle.std.proofs.lemmas.List.Elements.{All-weaker, Contains-push, Contains-push_cases, Contains-append_left, Contains-get_or}
 use Rattle.std.proofs.lemmas.List.Quantifiers.{all_pairs_push}
 use Rattle.rule_names.specs.Graphs.{Graph, Names, Reaches, names, HasCycle}
 use Rattle.rule_names.specs.code.Marks.{IsMarked}
-use Rattle.reference_graph.specs.code.Ordering.{IsSettled, IsOnPath, AreMarkedFrom, IsFirstUnmarked}
+use Rattle.reference_graph.specs.code.Ordering.{IsSettled, IsOnPath, IsPassed, AreMarkedFrom, IsFirstUnmarked}
+use Rattle.reference_graph.specs.declared.ordering.Stop.{Stop}
 use Rattle.reference_graph.proofs.Marking.{not-in-none, none-marked, marked-within, mark-here, mark-kept, mark-only}
 use Rattle.reference_graph.proofs.Walks.{reaches-on}
 
@@ -44,35 +45,23 @@ settled-none g = record {
   behind = λ i b l n. absurd (omega arith);
 }
 
-no-zero-above : (n a k : ℕ) → k < get_or (replicate {A = ℕ} n 0) a 0 → ⊥
-no-zero-above n a k h = elim (cases_lt a n) [
-  | inl l ↦ let e : get_or (replicate {A = ℕ} n 0) a 0 ≡ 0 = get_or-replicate n a 0 0 l in omega arith
-  | inr l ↦
-      let beyond : length (replicate {A = ℕ} n 0) ≤ a = omega (arith, length-replicate {A = ℕ} n 0) in
-      let e : get_or (replicate {A = ℕ} n 0) a 0 ≡ 0 = get_or_past (replicate {A = ℕ} n 0) a 0 beyond in
-      omega arith
-]
-
-pub path-none : (g : Graph) → IsOnPath g (replicate (length g) false) (replicate (length g) false) (replicate (length g) 0) []
+pub path-none : (g : Graph) → IsOnPath g (replicate (length g) false) (replicate (length g) false) []
 path-none g = record {
   same_nodes = length-replicate (length g) false;
-  same_next = length-replicate (length g) 0;
   done_begun = λ a h. h;
   begun_on = λ a h. inl h;
   on_begun = λ a h. absurd (not-in-none a h);
   on_undone = λ a h d. not-in-none a h;
   leads = pairs-none (Reaches g);
   once = pairs-none (λ a b. a ≢ b);
-  passed = λ a k h l. absurd (no-zero-above (length g) a k h);
 }
 
 -- ---- a node is begun: it is put at the end of the path
 
-module _ (g : Graph) (begun done : List Bool) (next path : List ℕ) (t : ℕ) (so : IsOnPath g begun done next path) where
-  pub path-down : t < length begun → (IsMarked begun t → ⊥) → ((p : ℕ) → Contains path p → Reaches g p t) → IsOnPath g (set begun t true) done next (path ++ t ∷ [])
+module _ (g : Graph) (begun done : List Bool) (path : List ℕ) (t : ℕ) (so : IsOnPath g begun done path) where
+  pub path-down : t < length begun → (IsMarked begun t → ⊥) → ((p : ℕ) → Contains path p → Reaches g p t) → IsOnPath g (set begun t true) done (path ++ t ∷ [])
   path-down l fresh leads = record {
     same_nodes = length-set begun t true ∙ so.same_nodes;
-    same_next = so.same_next;
     done_begun = λ a h. mark-kept begun t a l (so.done_begun a h);
     begun_on = λ a h. elim (mark-only begun t a h) [
       | inl k ↦ elim (so.begun_on a k) [ inl d ↦ inl d | inr o ↦ inr (Contains-append_left path (t ∷ []) a o) ]
@@ -88,41 +77,14 @@ module _ (g : Graph) (begun done : List Bool) (next path : List ℕ) (t : ℕ) (
     ];
     leads = all_pairs_push (Reaches g) path t so.leads (λ k d m. leads (get_or path k d) (Contains-get_or path k d m));
     once = all_pairs_push (λ a b. a ≢ b) path t so.once (λ k d m e. fresh (subst (IsMarked begun) e (so.on_begun (get_or path k d) (Contains-get_or path k d m))));
-    passed = so.passed;
   }
-
--- more of the targets of a node are known to be done
-pub path-next : (g : Graph) (begun done : List Bool) (next path : List ℕ) (t i : ℕ) → IsOnPath g begun done next path → t < length g
-    → ((k : ℕ) → k < i → k < length (get_or g t []) → IsMarked done (get_or (get_or g t []) k 0)) → IsOnPath g begun done (set next t i) path
-path-next g begun done next path t i so l all = record {
-  same_nodes = so.same_nodes;
-  same_next = length-set next t i ∙ so.same_next;
-  done_begun = so.done_begun;
-  begun_on = so.begun_on;
-  on_begun = so.on_begun;
-  on_undone = so.on_undone;
-  leads = so.leads;
-  once = so.once;
-  passed = λ a k h m. elim (cases_eq a t) [
-    | inl e ↦
-        let here : get_or (set next t i) a 0 ≡ i = ap (λ (z : ℕ). get_or (set next t i) z 0) e ∙ get_or-set_same next t i 0 (subst (λ (n : ℕ). t < n) (sym so.same_next) l) in
-        let low : k < i = omega arith in
-        let in-t : k < length (get_or g t []) = subst (λ (z : ℕ). k < length (get_or g z [])) e m in
-        subst (λ (z : ℕ). IsMarked done (get_or (get_or g z []) k 0)) (sym e) (all k low in-t)
-    | inr n ↦
-        let there = get_or-set_other next t a i 0 n in
-        let low : k < get_or next a 0 = omega arith in
-        so.passed a k low m
-  ];
-}
 
 -- ---- the last node of the path is done
 
-module _ (g : Graph) (begun done : List Bool) (next rest : List ℕ) (node : ℕ) (so : IsOnPath g begun done next (rest ++ node ∷ [])) where
-  pub path-done : node < length done → IsOnPath g begun (set done node true) next rest
+module _ (g : Graph) (begun done : List Bool) (rest : List ℕ) (node : ℕ) (so : IsOnPath g begun done (rest ++ node ∷ [])) where
+  pub path-done : node < length done → IsOnPath g begun (set done node true) rest
   path-done l = record {
     same_nodes = so.same_nodes;
-    same_next = so.same_next;
     done_begun = λ a h. elim (mark-only done node a h) [
       | inl d ↦ so.done_begun a d
       | inr e ↦ subst (IsMarked begun) e (so.on_begun node (Contains-push rest node))
@@ -138,7 +100,6 @@ module _ (g : Graph) (begun done : List Bool) (next rest : List ℕ) (node : ℕ
     ];
     leads = pairs-front (Reaches g) rest node so.leads;
     once = pairs-front (λ a b. a ≢ b) rest node so.once;
-    passed = λ a k h m. mark-kept done node (get_or (get_or g a []) k 0) l (so.passed a k h m);
   }
 
   pub last-within : node < length g
@@ -158,16 +119,28 @@ module _ (g : Graph) (begun done : List Bool) (next rest : List ℕ) (node : ℕ
   pub cycle-met : (t : ℕ) → Names g node t → IsMarked begun t → (IsMarked done t → ⊥) → HasCycle g
   cycle-met t n b undone = elim (so.begun_on t b) [ inl d ↦ absurd (undone d) | inr o ↦ (t, leads-on t t o n) ]
 
-  pub targets-done : AreMarkedFrom done (get_or g node []) (get_or next node 0) → (b : ℕ) → Names g node b → IsMarked done b
+-- ---- of a node on the path the targets before an index are done
+
+pub passed-done : (g : Graph) (done : List Bool) (path : List Stop) (node : ℕ) → node < length done → All (λ stop. IsPassed g done stop.node stop.next) path
+    → All (λ stop. IsPassed g (set done node true) stop.node stop.next) path
+passed-done g done path node l =
+    All-weaker (λ stop. IsPassed g done stop.node stop.next) (λ stop. IsPassed g (set done node true) stop.node stop.next)
+    (λ stop h k m n. mark-kept done node (get_or (get_or g stop.node []) k 0) l (h k m n)) path
+
+pub passed-none : (g : Graph) (done : List Bool) (node : ℕ) → IsPassed g done node 0
+passed-none g done node k h l = absurd (omega arith)
+
+module _ (g : Graph) (done : List Bool) (node next : ℕ) (passed : IsPassed g done node next) where
+  pub targets-done : AreMarkedFrom done (get_or g node []) next → (b : ℕ) → Names g node b → IsMarked done b
   targets-done all b n =
       let k = n.0 in
       let l : k < length (get_or g node []) = n.1 in
       let read : get_or (get_or g node []) k 0 ≡ b = get_or_default (get_or g node []) k 0 b l ∙ n.2 in
-      let marked : IsMarked done (get_or (get_or g node []) k 0) = elim (cases_lt k (get_or next node 0)) [ inl low ↦ so.passed node k low l | inr low ↦ all k low l ] in
+      let marked : IsMarked done (get_or (get_or g node []) k 0) = elim (cases_lt k next) [ inl low ↦ passed k low l | inr low ↦ all k low l ] in
       subst (IsMarked done) read marked
 
-  pub passed-more : (i : ℕ) → IsFirstUnmarked done (get_or g node []) (get_or next node 0) i → (k : ℕ) → k < i → k < length (get_or g node []) → IsMarked done (get_or (get_or g node []) k 0)
-  passed-more i first k h l = elim (cases_lt k (get_or next node 0)) [ inl low ↦ so.passed node k low l | inr low ↦ first.before k low h ]
+  pub passed-more : (i : ℕ) → IsFirstUnmarked done (get_or g node []) next i → IsPassed g done node i
+  passed-more i first k h l = elim (cases_lt k next) [ inl low ↦ passed k low l | inr low ↦ first.before k low h ]
 
 pub settled-more : (g : Graph) (done : List Bool) (order : List ℕ) (node : ℕ) → IsSettled g done order → node < length done → (IsMarked done node → ⊥) → ((b : ℕ) → Names g node b → IsMarked done b)
     → IsSettled g (set done node true) (order ++ node ∷ [])

@@ -2,9 +2,10 @@
 ghost use Rattle.std.specs.Prelude.{◌≡◌, ◌<◌, ◌≤◌, ◌↔◌, ℕ, IfOk, IsTrue, MatchOption, length};
 ghost use Rattle.rule_names.specs.Graphs.{IsFirstOnCycle, NoneOnCycle, Reaches};
 ghost use Rattle.rule_names.specs.code.Marks.{IsMarked};
+ghost use Rattle.reference_graph.specs.code.Ordering.{IsWalkOutcome};
 
 use crate::graph::Graph;
-use crate::ordering::{Outcome, walk_all};
+use crate::ordering::WalkOutcome;
 use crate::reach::reached;
 use std::alloc::{AllocError, Global};
 
@@ -41,19 +42,21 @@ fn first_unmarked_on_cycle(
     Ok(None)
 }
 
-/// The least node from low up to high, without it, that reaches itself. Linear where there is no cycle at all; else it
-/// walks once from each node that it tries, but from none that the walk in order had done before it met a cycle.
+/// The least node from low up to high, without it, that reaches itself. Where the walk over the whole graph met no cycle
+/// there is nothing to look for; else it walks once from each node that it tries, but from none that was done before.
 pub fn first_on_cycle(
     alloc: Global,
     graph: &Graph,
+    walk: &WalkOutcome,
     low: u32,
     high: u32,
 ) -> Result<Option<u32>, AllocError>
-    requires { high ≤ length graph.now }
+    requires within { high ≤ length graph.now }
+    requires walk { IsWalkOutcome graph.now walk.now }
     ensures { IfOk result (λ found. MatchOption found (NoneOnCycle graph.now low high) (λ a. IsFirstOnCycle graph.now low high a)) }
 {
-    match walk_all(alloc, graph)? {
-        Outcome::Ordered(_) => Ok(None),
-        Outcome::Cycle(done) => first_unmarked_on_cycle(alloc, graph, low, high, done.as_slice()),
+    match walk {
+        WalkOutcome::Ordered(_) => Ok(None),
+        WalkOutcome::Cycle(done) => first_unmarked_on_cycle(alloc, graph, low, high, done),
     }
 }

@@ -4,14 +4,18 @@
 //! and knows nothing of rule files or of what a node stands for.
 #![tactic(auto)]
 
+pub mod builder;
 pub mod cycle;
 pub mod graph;
+mod layout;
 pub mod ordering;
 pub mod parts;
 pub mod reach;
 pub mod reversal;
 pub mod subgraph;
 
+pub use builder::GraphBuilder;
 pub use cycle::first_on_cycle;
 pub use graph::Graph;
+pub use ordering::{WalkOutcome, walk_all};
 pub use parts::first_part_use;

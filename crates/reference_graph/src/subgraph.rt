@@ -4,11 +4,17 @@ ghost use Rattle.std.specs.List.{All};
 ghost use Rattle.std.specs.Result.{OnOk};
 ghost use Rattle.reference_graph.specs.code.Subgraphs.{IsSubgraph, NamesBelow};
 
+use crate::builder::GraphBuilder;
 use crate::graph::Graph;
 use std::alloc::{AllocError, Global};
 
 /// Adds those of some nodes that are below a number to the nodes that a node names.
-fn add_below(subgraph: &mut Graph, node: u32, targets: &[u32], bound: u32) -> Result<(), AllocError>
+fn add_below(
+    subgraph: &mut GraphBuilder,
+    node: u32,
+    targets: &[u32],
+    bound: u32,
+) -> Result<(), AllocError>
     requires node { node < length subgraph.old }
     requires within { All (λ b. b < length subgraph.old) targets.now }
     ensures { OnOk result (NamesBelow subgraph.old node targets.now bound subgraph.new) }
@@ -26,9 +32,9 @@ fn add_below(subgraph: &mut Graph, node: u32, targets: &[u32], bound: u32) -> Re
 pub fn subgraph_below(alloc: Global, graph: &Graph, bound: u32) -> Result<Graph, AllocError>
     ensures { IfOk result (λ subgraph. IsSubgraph graph.now bound subgraph) }
 {
-    let mut subgraph = Graph::new(alloc, graph.count())?;
+    let mut subgraph = GraphBuilder::new(alloc, graph.count());
     for node in 0..graph.count() {
         add_below(&mut subgraph, node, graph.targets(node), bound)?;
     }
-    Ok(subgraph)
+    subgraph.build(alloc)
 }

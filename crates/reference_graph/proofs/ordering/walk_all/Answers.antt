@@ -1,7 +1,7 @@
-use Rattle.std.proofs.lemmas.Grind.{common_steps}
-use Rattle.std.proofs.Common.{◌<◌, arith}
+use Rattle.std.proofs.Common.{◌<◌, ap, subst, arith}
 use borrow.Author.Count.{below_more}
 use Rattle.rule_names.specs.code.Marks.{IsMarked}
+use Rattle.reference_graph.specs.code.Ordering.{IsOnPath, nodes_on}
 use Rattle.reference_graph.proofs.OnCycle.{settled-no-cycle, walk-ordered}
 use Rattle.reference_graph.proofs.ordering.walk_all.Goals as goal
 
@@ -10,7 +10,8 @@ loop-root-preserved c =
     let met = rw c.if-not-ended.false at c.in_ok-ended.ensures in
     record {
       walked = met.0;
-      begun = below_more (λ a. IsMarked c.visit.new.walk.begun.items a) c.loop-root.root (λ a l. met.1.kept a (c.loop-root.invariant.begun a l)) met.1.here;
+      idle = met.1;
+      begun = below_more (λ a. IsMarked c.visit.new.walk.begun.items a) c.loop-root.root (λ a l. met.2.kept a (c.loop-root.invariant.begun a l)) met.2.here;
     }
 
 pub returns-then-not-ended : goal.returns-then-not-ended
@@ -22,8 +23,7 @@ pub returns : goal.returns
 returns c =
     let walk = c.loop-root.walk in
     let end = c.loop-root-test.false in
-    walk-ordered c.args.graph.now walk.begun.items walk.done.items walk.next.items walk.order.items c.loop-root.invariant.walked.settled c.loop-root.invariant.walked.on_path
+    let so = c.loop-root.invariant.walked in
+    let path = subst (IsOnPath c.args.graph.now walk.begun.items walk.done.items) (ap nodes_on c.loop-root.invariant.idle) so.on_path in
+    walk-ordered c.args.graph.now walk.begun.items walk.done.items walk.order.items so.settled path
     (λ a l. let below : a < c.loop-root.root = omega (arith, c.count-root-end.ensures.count) in c.loop-root.invariant.begun a below)
-
-pub loop-root-preserved-then-index : goal.loop-root-preserved-then-index
-loop-root-preserved-then-index c = grind (arith, common_steps)

@@ -1,5 +1,7 @@
 use Rattle.std.proofs.lemmas.Grind.{common_steps}
-use Rattle.std.proofs.Common.{length, arith}
+use Rattle.std.proofs.Common.{sym, subst, length, arith}
+use Rattle.std.proofs.lemmas.Result.{IfOk-weaker}
+use Rattle.rule_names.specs.Graphs.{Graph, IsReverse}
 use Rattle.reference_graph.proofs.Walks.{targets-below}
 use Rattle.reference_graph.proofs.Reversals.{turned-more, turned-all}
 use Rattle.reference_graph.proofs.reversal.reversed.Goals as goal
@@ -15,8 +17,10 @@ loop-node-preserved c =
 
 pub returns : goal.returns
 returns c =
+    let turned =
     turned-all c.args.graph.now c.loop-node.node c.loop-node.back c.loop-node.invariant
-    (let end = c.loop-node-test.false in omega (arith, c.count-node-end.ensures.count))
+    (let end = c.loop-node-test.false in omega (arith, c.count-node-end.ensures.count)) in
+    IfOk-weaker c.build.result _ _ (λ back is. subst (λ (g : Graph). IsReverse c.args.graph.now g) (sym is) turned) c.build.ensures
 
 pub loop-node-init : goal.loop-node-init
 loop-node-init c = grind (arith, common_steps)
