@@ -1,4 +1,3 @@
-pub mod Ascii
 pub mod Bounds
 pub mod Cuts
 pub mod Fields

@@ -1,42 +1,27 @@
 -- What the scans of `byte_lanes` say of cuts: by induction on the bytes where bytes are counted.
-use Rattle.std.proofs.Common.{◌≡◌, ◌≢◌, ◌<◌, ◌≤◌, cond, ℕ, suc, Bool, true, false, List, [], ◌∷◌, ◌++◌, Option, Some, None, Result, Ok, Err, OnErr, IsOk, length, get_or, eqb, ltb, refl, sym, ap, ◌∙◌, arith, count_by}
-use Rattle.std.specs.Prelude.{◌==◌, ◌||◌}
+use Rattle.std.proofs.Common.{◌≡◌, ◌≢◌, ◌<◌, ◌≤◌, cond, ℕ, suc, Bool, true, false, List, [], ◌∷◌, ◌++◌, Option, Some, None, Result, Ok, Err, OnErr, IsOk, length, get_or, eqb, ltb, refl, sym, ap, arith, count_by}
+use Rattle.std.specs.Prelude.{◌==◌}
 use Rattle.std.specs.List.{position, position_or_len}
-use Rattle.std.proofs.lemmas.Bool.{lt-ltb, le-ltb}
-use Rattle.std.proofs.lemmas.Bool.Decides.{nat_tests}
+use Rattle.std.proofs.lemmas.Bool.{eq-eqb, lt-ltb, or_parts}
 use Rattle.std.proofs.lemmas.List.Sums.{position_or_len_is, sum_by-append}
-use Rattle.byte_lanes.specs.code.Members.{holds}
+use Rattle.byte_lanes.specs.code.Controls.{is_control_or}
 use Rattle.evidence_lines.specs.Headers.{header}
 use Rattle.evidence_lines.specs.code.Memory.{HasLine}
 use Rattle.evidence_lines.specs.code.Reading.{cut, is_at}
 use Rattle.evidence_lines.specs.declared.version.Version.{Version}
 use Rattle.evidence_lines.proofs.Cuts.{Free, cut_missing, cut_some}
 
-holds_one : (s b : ℕ) → ((s == b) || false) ≡ (b == s)
-holds_one s b = grind (arith, nat_tests)
+not_at : (s b : ℕ) → is_control_or s s b ≡ false → is_at s b ≡ false
+not_at s b is = (or_parts _ _ is).1
 
--- the place at which a scan for one byte stops
-module _ (s : ℕ) (set bytes : List ℕ) (at : ℕ) (one : (b : ℕ) → holds set b ≡ holds (s ∷ []) b)
-    (before : (k : ℕ) → 0 ≤ k → k < at → holds set (get_or bytes k 0) ≡ false)
-    (found : at < length bytes → holds set (get_or bytes at 0) ≡ true) where
-  is_set : (b : ℕ) → is_at s b ≡ holds set b
-  is_set b = sym (one b ∙ holds_one s b)
-
-  stops : at ≤ length bytes → position_or_len (is_at s) bytes ≡ at
-  stops within =
-      position_or_len_is (is_at s) bytes at 0 within (λ k h. is_set (get_or bytes k 0) ∙ before k (omega arith) h) (λ h. is_set (get_or bytes at 0) ∙ found h)
-
-  pub stops_at : at < length bytes → Some at ≡ position (is_at s) bytes
-  stops_at h =
-      let there = stops (omega (arith, h)) in
-      let within : ltb at (length bytes) ≡ true = lt-ltb _ _ h in
-      rw (there, within) refl
-
-  pub stops_nowhere : at ≤ length bytes → length bytes ≤ at → None ≡ position (is_at s) bytes
-  stops_nowhere within h =
-      let there = stops within in
-      let past : ltb at (length bytes) ≡ false = le-ltb _ _ h in
-      rw (there, past) refl
+-- a scan that stops at a byte that is looked for, where it would stop at it and at others
+pub stops_at : (s : ℕ) (bytes : List ℕ) (at : ℕ) → ((k : ℕ) → 0 ≤ k → k < at → is_control_or s s (get_or bytes k 0) ≡ false) → at < length bytes
+    → get_or bytes at 0 ≡ s → Some at ≡ position (is_at s) bytes
+stops_at s bytes at before h is =
+    let there : position_or_len (is_at s) bytes ≡ at =
+    position_or_len_is (is_at s) bytes at 0 (omega (arith, h)) (λ k below. not_at s (get_or bytes k 0) (before k (omega arith) below)) (λ _. eq-eqb _ _ is) in
+    let within : ltb at (length bytes) ≡ true = lt-ltb _ _ h in
+    rw (there, within) refl
 
 -- ---- room for lines
 

@@ -1,7 +1,7 @@
 -- Values and rows are read from just what spells them.
-use Rattle.std.proofs.Common.{◌≡◌, ◌<◌, ◌^◌, inl, inr, ℕ, Bool, true, false, List, [], ◌∷◌, ◌++◌, Option, Some, None, cond, eqb, decimal, refl, sym, ap, subst, ◌∙◌, arith, option_map, option_and_then}
-use Rattle.std.proofs.lemmas.Bool.{eqb-true}
-use Rattle.std.proofs.lemmas.List.{append-nil, append_assoc}
+use Rattle.std.proofs.Common.{◌≡◌, ◌<◌, ◌^◌, inl, inr, ℕ, Bool, true, false, List, [], ◌∷◌, ◌++◌, Option, Some, None, cond, eqb, length, decimal, refl, sym, ap, subst, ◌∙◌, arith, option_map, option_and_then}
+use Rattle.std.proofs.lemmas.Bool.{eq-eqb, eqb-true, false≢true}
+use Rattle.std.proofs.lemmas.List.{append-nil, append_assoc, append_cancel_right, get_or_at, length-append}
 use Rattle.std.proofs.lemmas.Option.{none-some}
 use Rattle.guard_syntax.specs.declared.row.Origin.{Origin}
 use Rattle.guard_syntax.specs.declared.row.Origin.TheVariants.{Template, Literal, Made}
@@ -12,7 +12,7 @@ use Rattle.evidence_lines.specs.code.Reading.{cut, count_in, place_in, ref_at, n
 use Rattle.evidence_lines.specs.Shapes.{IsCount, IsPlace, IsOriginBounded, IsRefBounded, IsRowBounded}
 use Rattle.evidence_lines.specs.Spelling.{origin_text, key_text, ref_text, row_text}
 use Rattle.evidence_lines.proofs.Bounds.{From, from_append, from_lesser}
-use Rattle.evidence_lines.proofs.Cuts.{cut_at, cut_none, cut_some, chained, mapped}
+use Rattle.evidence_lines.proofs.Cuts.{Free, cut_at, cut_none, cut_some, chained, mapped}
 use Rattle.evidence_lines.proofs.Numbers.{count_decimal, count_some, place_decimal, place_some, decimal_from, decimal_free}
 
 -- ---- a value is read from its spelling
@@ -74,6 +74,48 @@ node_some o bytes v e = by_cut o bytes v (cut 107 bytes) refl e
         let P : Ref → Type 0 = λ w. IsNodeOf o bytes w in
         subst P read.2 (record { origin = refl; bound = whole.0; text = ap (λ t. t ++ 107 ∷ []) whole.1 ∙ sym parts.0 })
     by_cut o bytes v (Some (node, x ∷ xs)) is e = absurd (none-some _ e)
+
+-- a node is read by whether the sign of a key stands last
+module _ (o : Origin) (bytes : List ℕ) where
+  read_as : (read : Option Ref) → ((v : Ref) → IsNodeOf o bytes v → read ≡ None → ⊥) → ((v : Ref) → read ≡ Some v → node_in o bytes ≡ Some v) → read ≡ node_in o bytes
+  read_as (Some v) nothing some = sym (some v refl)
+  read_as None nothing some = by_node (node_in o bytes) refl
+    where
+      by_node : (found : Option Ref) → node_in o bytes ≡ found → None ≡ node_in o bytes
+      by_node None is = sym is
+      by_node (Some v) is = absurd (nothing v (node_some o bytes v is) refl)
+
+  unread : (node : List ℕ) (n : ℕ) (key : Bool) → IsPlace n → decimal n ≡ node → option_map (ref_at o key) (place_in node) ≡ None → ⊥
+  unread node n key small is none = none-some _ (sym none ∙ ap (λ t. option_map (ref_at o key) (place_in t)) (sym is) ∙ ap (option_map (ref_at o key)) (place_decimal n small))
+
+  pub with_key : (node : List ℕ) → node ++ 107 ∷ [] ≡ bytes → option_map (ref_at o true) (place_in node) ≡ node_in o bytes
+  with_key node is = read_as _ (λ v of_node none. nothing v.key v.node of_node.bound of_node.text none) some
+    where
+      nothing : (key : Bool) (n : ℕ) → IsPlace n → decimal n ++ key_text key ≡ bytes → option_map (ref_at o true) (place_in node) ≡ None → ⊥
+      nothing true n small text none = unread node n true small (append_cancel_right (decimal n) node (107 ∷ []) (text ∙ sym is)) none
+      nothing false n small text none =
+          let free = subst (λ t. Free 107 t) (sym (append-nil (decimal n)) ∙ text ∙ sym is) (decimal_free 107 n (inr (omega arith)) (wide n small)) in
+          let last = free (length node) 0 (omega (arith, length-append node (107 ∷ []))) in
+          false≢true (sym last ∙ eq-eqb _ _ (get_or_at node 107 [] 0 (length node) refl))
+
+      some : (v : Ref) → option_map (ref_at o true) (place_in node) ≡ Some v → node_in o bytes ≡ Some v
+      some v e =
+          let read = mapped (ref_at o true) (place_in node) v e in
+          let whole = place_some node read.0 read.1 in
+          ap (node_in o) (sym is ∙ ap (λ t. t ++ 107 ∷ []) (sym whole.1)) ∙ node_of o read.0 true whole.0 ∙ ap Some read.2
+
+  pub without_key : ((node : List ℕ) → node ++ 107 ∷ [] ≡ bytes → ⊥) → option_map (ref_at o false) (place_in bytes) ≡ node_in o bytes
+  without_key unkeyed = read_as _ (λ v of_node none. nothing v.key v.node of_node.bound of_node.text none) some
+    where
+      nothing : (key : Bool) (n : ℕ) → IsPlace n → decimal n ++ key_text key ≡ bytes → option_map (ref_at o false) (place_in bytes) ≡ None → ⊥
+      nothing true n small text none = unkeyed (decimal n) text
+      nothing false n small text none = unread bytes n false small (sym (append-nil (decimal n)) ∙ text) none
+
+      some : (v : Ref) → option_map (ref_at o false) (place_in bytes) ≡ Some v → node_in o bytes ≡ Some v
+      some v e =
+          let read = mapped (ref_at o false) (place_in bytes) v e in
+          let whole = place_some bytes read.0 read.1 in
+          ap (node_in o) (sym whole.1 ∙ sym (append-nil (decimal read.0))) ∙ node_of o read.0 false whole.0 ∙ ap Some read.2
 
 -- the origin's bytes and the node's together
 joined : (o : Origin) (front bytes : List ℕ) (v : Ref) → IsOriginBounded o → origin_text o ≡ front → IsNodeOf o bytes v

@@ -1,10 +1,10 @@
 //! Lines of evidence by their numbers.
 ghost use Rattle.std.specs.Prelude.{◌≡◌, ◌++◌, ◌∷◌, ◌^◌, ◌<◌, ◌≤◌, ◌↔◌, [], length, take, IfOk, IsOk, IsSome, OnErr};
 ghost use Rattle.evidence_lines.specs.Lines.{line_of};
-ghost use Rattle.evidence_lines.specs.code.Said.{kind_at, verdict_at};
+ghost use Rattle.evidence_lines.specs.code.Said.{kind_at, outcome_at, place_at, verdict_at};
 
 use crate::held::Held;
-use crate::line::{Line, LineKind};
+use crate::line::{Line, LineKind, LinePlace, Outcome};
 use crate::version::Version;
 use guard_syntax::Verdict;
 use std::alloc::{AllocError, Global};
@@ -67,6 +67,26 @@ impl<'a> LineList<'a> {
             return None;
         }
         self.held.kind((number - 1) as usize)
+    }
+
+    /// Where the line of a number stands, and its kind. Neither what it cites nor what it says is looked at.
+    pub fn place_at(&self, number: u64) -> Option<LinePlace>
+        ensures { result ≡ place_at self.now number }
+    {
+        if number == 0 || number > self.count {
+            return None;
+        }
+        self.held.place((number - 1) as usize)
+    }
+
+    /// What the line of a number says. Neither where it stands nor what it cites is looked at.
+    pub fn outcome_at(&self, number: u64) -> Option<Outcome<'a>>
+        ensures { result ≡ outcome_at self.entry.now number }
+    {
+        if number == 0 || number > self.count {
+            return None;
+        }
+        self.held.outcome((number - 1) as usize)
     }
 
     /// The verdict that the line of a number says, if it says one. Nothing else of the line is looked at.
@@ -158,13 +178,6 @@ impl Evidence {
         ensures some { IsSome result ↔ ((1 ≤ number) × (number ≤ length self.entry.now.lines)) }
     {
         self.lines().get(number)
-    }
-
-    /// The kind of the line of a number. Nothing else of the line is looked at.
-    pub fn kind_at(&self, number: u64) -> Option<LineKind>
-        ensures { result ≡ kind_at self.now.lines number }
-    {
-        self.lines().kind_at(number)
     }
 
     /// How many lines there are. It takes no memory.

@@ -1,20 +1,17 @@
 //! Numbers, values and rows, each read from the bytes of its field.
-ghost use Rattle.std.specs.Prelude.{◌≡◌, ◌+◌, ◌*◌, ◌<◌, ◌^◌, IfSome, length, option_map, true};
-ghost use Rattle.std.specs.Char.{is_ascii_digit};
-ghost use Rattle.std.specs.List.{list_all, position};
-ghost use Rattle.std.specs.Str.Parse.{digits_value};
-ghost use Rattle.evidence_lines.specs.code.Reading.{count_in, cut, is_at, is_none_sign, is_numeral, literal_in, made_in, missing_in, node_in, place_in, ref_in, row_in, sized_in, verdict_in};
+ghost use Rattle.std.specs.Prelude.{◌≡◌, ◌+◌, ◌++◌, ◌∷◌, ◌<◌, [], ℕ, IfSome, List, MatchOption, length, option_map};
+ghost use Rattle.std.specs.List.{position};
+ghost use Rattle.evidence_lines.specs.code.Reading.{count_in, cut, digits_in, is_at, is_none_sign, literal_in, made_in, missing_in, node_in, place_in, ref_in, row_in, verdict_in};
 
-use byte_lanes::{ByteSet, first_special};
+use byte_lanes::first_control_or;
 use guard_syntax::{Origin, Ref, Row, Verdict};
 
-/// The index of the first separator, found a block of bytes at a time.
+/// The index of the first separator. Fields and what they are made of have few bytes, so these are looked at one by one.
 fn index_of(bytes: &[u8], separator: u8) -> Option<usize>
     ensures first { result ≡ position (is_at separator) bytes.now }
     ensures within { IfSome result (λ at. at < length bytes.now) }
 {
-    let at = first_special(bytes, 0, &ByteSet::of(&[separator]));
-    if at < bytes.len() { Some(at) } else { None }
+    bytes.iter().position(|byte| *byte == separator)
 }
 
 /// The bytes in front of the first separator, and those behind it.
@@ -26,19 +23,25 @@ pub(crate) fn cut(bytes: &[u8], separator: u8) -> Option<(&[u8], &[u8])>
     Some((&bytes[..at], &bytes[at + 1..]))
 }
 
-/// The index of the first separator of a value, which has few bytes.
-fn value_index_of(bytes: &[u8], separator: u8) -> Option<usize>
-    ensures first { result ≡ position (is_at separator) bytes.now }
+/// The index of the first newline, found a block of bytes at a time: a line is long, and has no other control character.
+fn index_of_newline(bytes: &[u8]) -> Option<usize>
+    ensures first { result ≡ position (is_at 10) bytes.now }
     ensures within { IfSome result (λ at. at < length bytes.now) }
 {
-    bytes.iter().position(|byte| *byte == separator)
+    let at = first_control_or(bytes, 0, b'\n', b'\n');
+    match bytes.get(at) {
+        Some(b'\n') => Some(at),
+        // There is no newline, or a line in front of it that is refused.
+        _ => index_of(bytes, b'\n'),
+    }
 }
 
-/// The bytes of a value in front of the first separator, and those behind it.
-fn cut_value(bytes: &[u8], separator: u8) -> Option<(&[u8], &[u8])>
-    ensures { option_map (λ p. (p.0.now, p.1.now)) result ≡ cut separator bytes.entry.now }
+/// The bytes in front of the first newline, and those behind it.
+pub(crate) fn cut_line(bytes: &[u8]) -> Option<(&[u8], &[u8])>
+    ensures parts { option_map (λ p. (p.0.now, p.1.now)) result ≡ cut 10 bytes.entry.now }
+    ensures shorter { IfSome result (λ p. length p.0.now + length p.1.now + 1 ≡ length bytes.entry.now) }
 {
-    let at = value_index_of(bytes, separator)?;
+    let at = index_of_newline(bytes)?;
     Some((&bytes[..at], &bytes[at + 1..]))
 }
 
@@ -49,31 +52,15 @@ pub(crate) fn is_none_sign(bytes: &[u8]) -> bool
     bytes == b"-".as_slice()
 }
 
-fn has_digits_only(bytes: &[u8]) -> bool
-    ensures { result ≡ list_all is_ascii_digit bytes.now }
-{
-    bytes.iter().all(|byte| byte.is_ascii_digit())
-}
-
-/// Whether the bytes are digits, of which the first is a `0` only where it is the only one.
-fn is_numeral(bytes: &[u8]) -> bool
-    ensures { result ≡ is_numeral bytes.now }
-{
-    match bytes {
-        [] => false,
-        [b'0'] => true,
-        [b'0', ..] => false,
-        digits => has_digits_only(digits),
-    }
-}
-
-/// The number of digits, if it is below 2^64.
+/// The number of digits, if they are digits and it is below 2^64.
 fn number_of(digits: &[u8]) -> Option<u64>
-    requires { list_all is_ascii_digit digits.now ≡ true }
-    ensures { result ≡ sized_in digits.now }
+    ensures { result ≡ digits_in digits.now }
 {
     let mut number: u64 = 0;
     for digit in digits {
+        if !digit.is_ascii_digit() {
+            return None;
+        }
         number = number
             .checked_mul(10)?
             .checked_add(u64::from(*digit - b'0'))?;
@@ -81,14 +68,14 @@ fn number_of(digits: &[u8]) -> Option<u64>
     Some(number)
 }
 
-/// A number below 2^64, as it is spelled.
+/// A number below 2^64, as it is spelled: a `0` stands first only where it is the only digit.
 pub(crate) fn read_count(bytes: &[u8]) -> Option<u64>
     ensures { result ≡ count_in bytes.now }
 {
-    if is_numeral(bytes) {
-        number_of(bytes)
-    } else {
-        None
+    match bytes {
+        [] => None,
+        [b'0', _, ..] => None,
+        digits => number_of(digits),
     }
 }
 
@@ -99,22 +86,33 @@ pub(crate) fn read_place(bytes: &[u8]) -> Option<u32>
     u32::try_from(read_count(bytes)?).ok()
 }
 
+/// The bytes in front of the sign of a key, if it stands last.
+fn before_key(bytes: &[u8]) -> Option<&[u8]>
+    ensures { MatchOption result
+        ((node : List ℕ) → node ++ 107 ∷ [] ≡ bytes.entry.now → ⊥)
+        (λ node. node.now ++ 107 ∷ [] ≡ bytes.entry.now) }
+{
+    match bytes {
+        [node @ .., b'k'] => Some(node),
+        _ => None,
+    }
+}
+
 /// A node of trees of this origin, and whether its key is meant.
 fn read_node(origin: Origin, bytes: &[u8]) -> Option<Ref>
     ensures { result ≡ node_in origin bytes.now }
 {
-    match cut_value(bytes, b'k') {
+    match before_key(bytes) {
+        Some(node) => Some(Ref {
+            origin,
+            node: read_place(node)?,
+            key: true,
+        }),
         None => Some(Ref {
             origin,
             node: read_place(bytes)?,
             key: false,
         }),
-        Some((node, [])) => Some(Ref {
-            origin,
-            node: read_place(node)?,
-            key: true,
-        }),
-        Some(_) => None,
     }
 }
 
@@ -122,7 +120,7 @@ fn read_node(origin: Origin, bytes: &[u8]) -> Option<Ref>
 fn read_literal(bytes: &[u8]) -> Option<Ref>
     ensures { result ≡ literal_in (cut 46 bytes.now) }
 {
-    let (site, node) = cut_value(bytes, b'.')?;
+    let (site, node) = cut(bytes, b'.')?;
     read_node(Origin::Literal(read_place(site)?), node)
 }
 
@@ -130,8 +128,8 @@ fn read_literal(bytes: &[u8]) -> Option<Ref>
 fn read_made(bytes: &[u8]) -> Option<Ref>
     ensures { result ≡ made_in (cut 46 bytes.now) }
 {
-    let (line, rest) = cut_value(bytes, b'.')?;
-    let (row, node) = cut_value(rest, b'.')?;
+    let (line, rest) = cut(bytes, b'.')?;
+    let (row, node) = cut(rest, b'.')?;
     let line = read_count(line)?;
     let row = read_count(row)?;
     read_node(Origin::Made { line, row }, node)
@@ -153,7 +151,7 @@ pub(crate) fn read_ref(bytes: &[u8]) -> Option<Ref>
 fn read_missing(bytes: &[u8]) -> Option<Row>
     ensures { result ≡ missing_in (cut 58 bytes.now) }
 {
-    let (step, value) = cut_value(bytes, b':')?;
+    let (step, value) = cut(bytes, b':')?;
     let step = read_place(step)?;
     let value = read_ref(value)?;
     Some(Row::Missing { value, step })

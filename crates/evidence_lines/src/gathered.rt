@@ -1,4 +1,5 @@
-//! Rows side by side.
+//! Rows side by side, for callers that want a slice. Most rows stand in one already and are borrowed. Only where evidence holds
+//! nodes in place of rows a vector is made for them, and what borrows from nobody has to be owned: so it is owned here.
 ghost use Rattle.std.specs.Prelude.{◌≡◌, ◌∷◌, []};
 
 use guard_syntax::Row;

@@ -1,14 +1,14 @@
 //! Lines as evidence holds them: each in a few numbers, what they cite and the rows that they say behind one another.
-ghost use Rattle.std.specs.Prelude.{◌≡◌, ◌<◌, ◌++◌, ◌∷◌, [], List, ℕ, IfOk, IfSome, IsOk, OnErr, OnOk, length, option_and_then, option_map, slice_get, true};
+ghost use Rattle.std.specs.Prelude.{◌≡◌, ◌++◌, ◌∷◌, [], List, ℕ, IfOk, IfSome, IsOk, OnErr, OnOk, length, nat_lt, option_and_then, option_map, slice_get};
 ghost use Rattle.evidence_lines.specs.code.Held.{HasPlace, HasRows, HasSpan, IsCut, IsHeld, IsRun, cut_run, cut_span, frame_at, node_ref, outcome_at, rows_form, see_lines, site_at, span_at, span_of, value_in};
-ghost use Rattle.evidence_lines.specs.code.Said.{said_verdict};
+ghost use Rattle.evidence_lines.specs.code.Said.{place_of, said_verdict};
 ghost use Rattle.evidence_lines.specs.declared.held.Place.{Place};
 ghost use Rattle.evidence_lines.specs.declared.held.RunForm.TheVariants as held_as;
 ghost use Rattle.evidence_lines.specs.declared.held.Span.{Span};
 ghost use Rattle.evidence_lines.specs.declared.line.Outcome.TheVariants as says;
 ghost use Rattle.guard_syntax.specs.declared.row.Row as declared;
 
-use crate::line::{Cites, Line, LineKind, Outcome, Rows, RowsForm};
+use crate::line::{Cites, Line, LineKind, LinePlace, Outcome, Rows, RowsForm};
 use crate::node_rows::{are_node_rows, hold_node_rows, hold_nodes, nodes_of};
 use crate::remembered::{Remembered, remember, remember_run, shared_row, shared_run};
 use guard_syntax::{Origin, Ref, Row, Verdict};
@@ -191,6 +191,33 @@ impl Held {
         ensures { result ≡ option_map (λ l. l.kind) (slice_get (see_lines self.now) index) }
     {
         Some(self.lines.get(index)?.kind)
+    }
+
+    /// Where the line at an index stands, and its kind.
+    pub(crate) fn place(&self, index: usize) -> Option<LinePlace>
+        ensures { result ≡ option_map place_of (slice_get (see_lines self.now) index) }
+    {
+        let held = *self.lines.get(index)?;
+        Some(LinePlace {
+            kind: held.kind,
+            frame: frame_at(&self.places, held.place, held.frame),
+            site: site_at(&self.places, held.place, held.frame, held.site),
+        })
+    }
+
+    /// What the line at an index says.
+    pub(crate) fn outcome(&self, index: usize) -> Option<Outcome<'_>>
+        requires { IsHeld self.now }
+        ensures { result ≡ option_map (λ l. l.outcome) (slice_get (see_lines self.entry.now) index) }
+    {
+        let held = *self.lines.get(index)?;
+        Some(outcome_at(
+            &self.rows,
+            &self.nodes,
+            &self.row_spans,
+            held.said,
+            held.said_at,
+        ))
     }
 
     /// The verdict that the line at an index says, if it says one.
@@ -380,37 +407,30 @@ fn value_in(rows: &[Row]) -> Ref
     }
 }
 
-/// Adds cites behind the others, and answers where they are.
-fn add_cites(into: &mut Vec<u64>, cites: &[u64]) -> Result<Span, AllocError>
-    ensures more { (more : List ℕ) × (into.new.items ≡ into.old.items ++ more) }
-    ensures held { IfOk result (λ span. IsCut (length into.new.items) span × (cut_span into.new.items span ≡ cites.now)) }
+/// The span of so many items that are added behind so many others.
+pub(crate) fn span_behind(others: usize, items: usize) -> Result<Span, AllocError>
+    ensures start { IfOk result (λ span. span.start ≡ others) }
+    ensures count { IfOk result (λ span. span.count ≡ items) }
 {
-    // So many numbers take more memory than there is.
-    let Ok(start) = u32::try_from(into.len()) else {
+    // Items whose numbers do not fit take more memory than there is.
+    let Ok(start) = u32::try_from(others) else {
         return Err(AllocError);
     };
-    let Ok(count) = u32::try_from(cites.len()) else {
+    let Ok(count) = u32::try_from(items) else {
         return Err(AllocError);
     };
-    into.extend_from_slice(cites)?;
     Ok(Span { start, count })
 }
 
-/// Adds rows behind the others, and answers where they are.
-fn add_rows(into: &mut Vec<Row>, rows: &[Row]) -> Result<Span, AllocError>
-    ensures more { (more : List declared.Row) × (into.new.items ≡ into.old.items ++ more) }
-    ensures held { IfOk result (λ span. IsCut (length into.new.items) span × (cut_span into.new.items span ≡ rows.now)) }
-    ensures count { IfOk result (λ span. span.count ≡ length rows.now) }
+/// Adds items behind the others, and answers where they are.
+pub(crate) fn add_items<T: Copy>(into: &mut Vec<T>, items: &[T]) -> Result<Span, AllocError>
+    ensures more { (more : List T) × (into.new.items ≡ into.old.items ++ more) }
+    ensures held { IfOk result (λ span. IsCut (length into.new.items) span × (cut_span into.new.items span ≡ items.now)) }
+    ensures count { IfOk result (λ span. span.count ≡ length items.now) }
 {
-    // So many rows take more memory than there is.
-    let Ok(start) = u32::try_from(into.len()) else {
-        return Err(AllocError);
-    };
-    let Ok(count) = u32::try_from(rows.len()) else {
-        return Err(AllocError);
-    };
-    into.extend_from_slice(rows)?;
-    Ok(Span { start, count })
+    let span = span_behind(into.len(), items.len())?;
+    into.extend_from_slice(items)?;
+    Ok(span)
 }
 
 /// Holds a span as a run: that of a few items in place, any other beside the lines.
@@ -462,8 +482,16 @@ fn hold_cites(
     ensures spans { (more : List Span) × (spans.new.items ≡ spans.old.items ++ more) }
     ensures held { IfOk result (λ run. IsRun (length into.new.items) spans.new.items run.form run.at × (cut_run into.new.items spans.new.items run.form run.at ≡ cites.now)) }
 {
-    let span = add_cites(into, cites)?;
+    let span = add_items(into, cites)?;
     hold_span(spans, span)
+}
+
+/// Whether rows are a run whose span stands beside the lines. A line tells one or two by its form and the index of the
+/// first, so it is from three on that a run has a number, by which nodes can stand for it, and by which it is said again.
+pub(crate) fn is_long(rows: &[Row]) -> bool
+    ensures { result ≡ nat_lt 2 (length rows.now) }
+{
+    rows.len() > 2
 }
 
 /// The form of a line that says a run of rows.
@@ -548,7 +576,7 @@ fn hold_any_rows(
             at,
         });
     }
-    let span = add_rows(into, rows)?;
+    let span = add_items(into, rows)?;
     remember(&mut remembered.literals, rows, span.start)?;
     let run = hold_span(spans, span)?;
     remember_run(&mut remembered.runs, rows, run.at)?;
@@ -572,7 +600,7 @@ fn hold_rows(
     ensures held { IfOk result (λ said. HasRows (length into.new.items) (length nodes.new.items) spans.new.items said.form said.at
         × (outcome_at into.new.items nodes.new.items spans.new.items said.form said.at ≡ says.Rows rows.now)) }
 {
-    if rows.len() > 2 && are_node_rows(rows) {
+    if is_long(rows) && are_node_rows(rows) {
         hold_node_rows(nodes, spans, &mut remembered.runs, rows)
     } else {
         hold_any_rows(into, spans, remembered, rows)
@@ -622,7 +650,7 @@ fn hold_value(into: &mut Vec<Row>, value: Ref) -> Result<HeldSaid, AllocError>
             at: value.node,
         }),
         _ => {
-            let span = add_rows(into, &[Row::Found(value)])?;
+            let span = add_items(into, &[Row::Found(value)])?;
             Ok(HeldSaid {
                 form: SaidForm::Value,
                 at: span.start,

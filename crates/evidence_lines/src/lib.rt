@@ -21,7 +21,7 @@ pub mod version;
 pub use evidence::{Evidence, LineList};
 pub use gathered::Gathered;
 pub use laws::one_text;
-pub use line::{Cites, Line, LineKind, Outcome, Rows, Sort};
+pub use line::{Cites, Line, LineKind, LinePlace, Outcome, Rows, Sort};
 pub use print::print_line;
 pub use read::read_evidence;
 pub use refusal::EvidenceRefusal;

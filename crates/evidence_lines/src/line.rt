@@ -118,6 +118,21 @@ impl LineKind {
     pub(crate) fn named(name: &[u8]) -> Option<LineKind>
         ensures { result ≡ kind_in name.now }
     {
+        match name {
+            b"step" => Some(LineKind::Step),
+            b"test" => Some(LineKind::Test),
+            b"disj" => Some(LineKind::Disj),
+            b"conj" => Some(LineKind::Conj),
+            b"frame" => Some(LineKind::Frame),
+            b"literal" => Some(LineKind::Literal),
+            _ => LineKind::listed(name),
+        }
+    }
+
+    /// The same by the list of all kinds.
+    fn listed(name: &[u8]) -> Option<LineKind>
+        ensures { result ≡ kind_in name.now }
+    {
         KINDS
             .iter()
             .copied()
@@ -326,4 +341,12 @@ pub struct Line<'a> {
     pub site: Option<u32>,
     pub cites: Cites<'a>,
     pub outcome: Outcome<'a>,
+}
+
+/// Where a line stands: its kind, its frame and its site.
+#[derive(Clone, Copy)]
+pub struct LinePlace {
+    pub kind: LineKind,
+    pub frame: Option<u64>,
+    pub site: Option<u32>,
 }

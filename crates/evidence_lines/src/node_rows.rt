@@ -1,4 +1,5 @@
-//! Rows that are values at nodes of the template: of a run of them evidence holds the numbers of the nodes.
+//! Rows that are values at nodes of the template: of a run of them evidence holds the numbers of the nodes. A row takes 48
+//! bytes and a node 4, and the long runs are mostly such rows: what a query finds of the resources of a template.
 ghost use Rattle.std.specs.Prelude.{◌≡◌, ◌++◌, List, ℕ, IfOk, IfSome, OnOk, length, map, true};
 ghost use Rattle.std.specs.List.{list_all};
 ghost use Rattle.evidence_lines.specs.code.Held.{HasRows, IsCut, IsRun, cut_run, cut_span, outcome_at};
@@ -8,7 +9,7 @@ ghost use Rattle.evidence_lines.specs.declared.held.Span.{Span};
 ghost use Rattle.evidence_lines.specs.declared.line.Outcome.TheVariants as says;
 ghost use Rattle.guard_syntax.specs.declared.row.Row as declared;
 
-use crate::held::{HeldSaid, SaidForm, Span, held_span, hold_long};
+use crate::held::{HeldSaid, SaidForm, Span, add_items, held_span, hold_long, span_behind};
 use crate::remembered::{remember_run, slot_of};
 use guard_syntax::{Origin, Ref, Row};
 use std::alloc::{AllocError, Global};
@@ -110,18 +111,13 @@ fn add_nodes(into: &mut Vec<u32>, rows: &[Row]) -> Result<Span, AllocError>
     ensures more { (more : List ℕ) × (into.new.items ≡ into.old.items ++ more) }
     ensures held { IfOk result (λ span. IsCut (length into.new.items) span × (cut_span into.new.items span ≡ map node_of rows.now)) }
 {
-    // So many nodes take more memory than there is.
-    let Ok(start) = u32::try_from(into.len()) else {
-        return Err(AllocError);
-    };
-    let Ok(count) = u32::try_from(rows.len()) else {
-        return Err(AllocError);
-    };
+    let span = span_behind(into.len(), rows.len())?;
     push_nodes(into, rows)?;
-    Ok(Span { start, count })
+    Ok(span)
 }
 
-/// Holds rows that are all values at nodes of the template.
+/// Holds rows that are all values at nodes of the template. Runs of rows have the same slots, so the span that is found may be
+/// one of rows; the nodes at it are compared all the same.
 pub(crate) fn hold_node_rows(
     nodes: &mut Vec<u32>,
     spans: &mut Vec<Span>,
@@ -149,7 +145,8 @@ pub(crate) fn hold_node_rows(
     })
 }
 
-/// Holds the values at nodes of the template: so rows come that evidence holds already.
+/// Holds the values at nodes of the template: so rows come that are borrowed from evidence. They are not looked
+/// for among the runs that were said before: lines are seldom copied from evidence to evidence.
 pub(crate) fn hold_nodes(
     into: &mut Vec<u32>,
     spans: &mut Vec<Span>,
@@ -160,25 +157,9 @@ pub(crate) fn hold_nodes(
     ensures held { (others : List declared.Row) → IfOk result (λ said. HasRows (length others) (length into.new.items) spans.new.items said.form said.at
         × (outcome_at others into.new.items spans.new.items said.form said.at ≡ says.Rows (map node_row nodes.now))) }
 {
-    let span = add_given(into, nodes)?;
+    let span = add_items(into, nodes)?;
     Ok(HeldSaid {
         form: SaidForm::NodeRows,
         at: hold_long(spans, span)?,
     })
-}
-
-/// Adds nodes behind the others, and answers where they are.
-fn add_given(into: &mut Vec<u32>, nodes: &[u32]) -> Result<Span, AllocError>
-    ensures more { (more : List ℕ) × (into.new.items ≡ into.old.items ++ more) }
-    ensures held { IfOk result (λ span. IsCut (length into.new.items) span × (cut_span into.new.items span ≡ nodes.now)) }
-{
-    // So many nodes take more memory than there is.
-    let Ok(start) = u32::try_from(into.len()) else {
-        return Err(AllocError);
-    };
-    let Ok(count) = u32::try_from(nodes.len()) else {
-        return Err(AllocError);
-    };
-    into.extend_from_slice(nodes)?;
-    Ok(Span { start, count })
 }

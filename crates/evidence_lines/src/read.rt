@@ -4,17 +4,18 @@ ghost use Rattle.evidence_lines.specs.Headers.{header};
 ghost use Rattle.evidence_lines.specs.code.Memory.{HasLine};
 ghost use Rattle.evidence_lines.specs.code.Reading.{cites_in, count_in, cut, if_placed, if_read, items_in, line_in, line_of_parts, list_in, outcome_in, parts_in, place_in, placed_in, row_in};
 ghost use Rattle.evidence_lines.specs.code.Seen.{fields_seen, placed_seen};
-ghost use Rattle.evidence_lines.specs.Shapes.{is_placed, may_cite, sort_of};
 ghost use Rattle.evidence_lines.specs.Text.{IsEvidence, IsFault, IsRefused};
 ghost use Rattle.evidence_lines.specs.declared.line.Line.{Line};
 ghost use Rattle.evidence_lines.specs.declared.version.Version.{Version};
 
 use crate::evidence::Evidence;
-use crate::field::{cut, is_none_sign, read_count, read_place, read_ref, read_row, read_verdict};
+use crate::field::{
+    cut, cut_line, is_none_sign, read_count, read_place, read_ref, read_row, read_verdict,
+};
 use crate::line::{Cites, Line, LineKind, Outcome, Rows, Sort};
 use crate::refusal::EvidenceRefusal;
 use crate::version::Version;
-use byte_lanes::{count_byte, is_ascii};
+use byte_lanes::count_byte;
 use guard_syntax::Row;
 use std::alloc::{AllocError, Global};
 
@@ -190,9 +191,6 @@ fn add_line(evidence: &mut Evidence, room: &mut Room, bytes: &[u8]) -> Result<bo
         (line_in bytes.now ≡ None)) }
     ensures version { evidence.new.version ≡ evidence.old.version }
 {
-    if !is_ascii(bytes) {
-        return Ok(false);
-    }
     match fields_of(bytes) {
         None => Ok(false),
         Some(fields) => add_fields(evidence, room, &fields),
@@ -263,7 +261,7 @@ fn read_lines(alloc: Global, version: Version, bytes: &[u8]) -> Result<Evidence,
     let mut rest = bytes;
     'lines: while !rest.is_empty() {
         number += 1;
-        let Some((line, after)) = cut(rest, b'\n') else {
+        let Some((line, after)) = cut_line(rest) else {
             return Err(EvidenceRefusal::Syntax(number));
         };
         let added = add_line(&mut evidence, &mut room, line)?;

@@ -43,6 +43,10 @@ is_numeral (first ∷ second ∷ rest) = not (first == 48) && list_all is_ascii_
 abbrev pub sized_in : List ℕ → Option ℕ
 sized_in digits = if nat_lt (digits_value 10 digits) (2 ^ 64) then Some (digits_value 10 digits) else None
 
+-- the same of bytes that may be no digits
+abbrev pub digits_in : List ℕ → Option ℕ
+digits_in bytes = if list_all is_ascii_digit bytes then sized_in bytes else None
+
 -- a number below 2^64
 abbrev pub count_in : List ℕ → Option ℕ
 count_in bytes = if is_numeral bytes then sized_in bytes else None
