@@ -17,7 +17,7 @@ use Rattle.evidence_rules.specs.CitedLines.{scope_of_piece, scope_of_step}
 use Rattle.evidence_rules.specs.Follows.{SayEach, SaysCandidate, conds_site}
 use Rattle.scope_frames.specs.code.Frames.{MayEnter}
 use Rattle.scope_frames.proofs.EnteredFrames.{has-frame}
-use Rattle.clause_eval.specs.code.Answers.{AnswersCandidates, AnswersVerdict, IsFilter, StandsIn, above}
+use Rattle.clause_eval.specs.code.Answers.{AnswersCandidates, AnswersVerdict, IsFilterWith, StandsIn, above}
 use Rattle.clause_eval.specs.code.Entered.{Enters, MayHaveValue}
 use Rattle.clause_eval.specs.code.Falling.{height_at}
 use Rattle.clause_eval.specs.code.Inside.{AreInside, IsInside, conds_sited, inner_of_step}
@@ -39,7 +39,7 @@ all-at p [] i x all within is = absurd (omega (arith, within))
 all-at p (y ∷ xs) zero x all within is = ap p is ∙ (and_parts _ _ all).0
 all-at p (y ∷ xs) (suc i) x all within is = all-at p xs i x (and_parts _ _ all).1 (omega (arith, within)) is
 
-module _ (a : State) (whole : IsWhole a) (frame site : ℕ) (conditions : Conds) (filters : IsFilter a frame site conditions) where
+module _ (a : State) (whole : IsWhole a) (frame site : ℕ) (conditions : Conds) (filters : IsFilterWith a frame site conditions) where
   abbrev filter_sited : Sited
   filter_sited = (site, OfStep filters.1.0 filters.1.1)
 

@@ -42,7 +42,7 @@ use Rattle.query_steps.proofs.SeenGrowth.{known-before, stands-before}
 use Rattle.evidence_rules.specs.CitedLines.{GivesStep, IsLine}
 use Rattle.evidence_rules.specs.Follows.{GivesFurther, SayEach, SaysCandidate}
 use Rattle.clause_eval.specs.code.Adding.{Added, line_for}
-use Rattle.clause_eval.specs.code.Answers.{Answers, AnswersCandidates, AnswersExpr, AnswersFilter, AnswersStep, AnswersStepBehind, AnswersVariable, AreJudged, FurtherStep, GivesBeforeSite, GivesStepBefore, IsFilter, IsStepWith, IsUse, LacksStep, SaysRows, StandsIn, StandsUpTo, above, both_cites}
+use Rattle.clause_eval.specs.code.Answers.{Answers, AnswersCandidates, AnswersExpr, AnswersFilter, AnswersStep, AnswersStepBehind, AnswersVariable, AreJudged, FurtherStep, GivesBeforeSite, GivesStepBefore, IsFilterWith, IsStepWith, IsUse, LacksStep, SaysRows, StandsIn, StandsUpTo, above, both_cites}
 use Rattle.clause_eval.specs.code.Evaluated.{Evaluates}
 use Rattle.clause_eval.specs.code.Falling.{height_at}
 use Rattle.clause_eval.specs.code.Inside.{IsInside, expr_sited, scope_in_step}
@@ -209,7 +209,7 @@ module _ (a : State) (whole : IsWhole a) (frame : ℕ) (q : code_query.Query) (i
   -- ---- a filter
 
   module _ (capture : Option Named) (conditions : code_conds.Conds) (form_is : st.form ≡ form.Filter capture conditions) where
-    pub is-filter : IsFilter a frame st.site (see_conds conditions)
+    pub is-filter : IsFilterWith a frame st.site (see_conds conditions)
     is-filter = (capture, (see_query q, i, step-at, is ∙ ap Some (filter-seen st capture conditions form_is)))
 
     pub filter-before : (c : ℕ) → GivesStepBefore a frame (see_query q) i (Some c) → GivesBeforeSite a frame st.site c
@@ -369,7 +369,7 @@ module _ (a : State) (whole : IsWhole a) (frame : ℕ) (q : code_query.Query) (i
 
 -- ---- filters
 
-module _ (a : State) (whole : IsWhole a) (frame site before : ℕ) (conditions : Conds) (filters : IsFilter a frame site conditions) (given : GivesBeforeSite a frame site before) where
+module _ (a : State) (whole : IsWhole a) (frame site before : ℕ) (conditions : Conds) (filters : IsFilterWith a frame site conditions) (given : GivesBeforeSite a frame site before) where
   abbrev filter_part : Sited
   filter_part = (site, OfStep filters.1.0 filters.1.1)
 

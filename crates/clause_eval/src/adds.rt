@@ -25,11 +25,12 @@ ghost use Rattle.clause_eval.specs.code.States.{IsWhole};
 
 use crate::engine::Engine;
 use crate::judging::{is_set_test, refer_to, site_of, verdict_of_set, verdict_of_test};
+use crate::place::Place;
 use crate::said::{Cited, Judged, Said};
 use crate::steps::SitedStep;
 use evidence_lines::{LineKind, Outcome, Rows};
 use guard_syntax::{Body, Part, Row, Verdict};
-use query_steps::{StepInput, captured, kinds, placed_step};
+use query_steps::{RowTest, StepContext, StepInput, captured, kinds, placed_step};
 use rule_names::Piece;
 use std::alloc::{AllocError, Global};
 
@@ -61,7 +62,8 @@ impl<'t, 's> Engine<'t, 's> {
         ensures { IfOk result (λ said. Added (see_engine self.old) (see_engine self.new) frame site kind cited.lines.items (says.Verdict cited.verdict) said.line × (said.verdict ≡ cited.verdict)) }
     {
         let verdict = cited.verdict;
-        let line = self.add(frame, site, kind, cited.lines, Outcome::Verdict(verdict))?;
+        let place = Place { frame, site };
+        let line = self.add(place, kind, cited.lines, Outcome::Verdict(verdict))?;
         Ok(Said { line, verdict })
     }
 
@@ -88,23 +90,21 @@ impl<'t, 's> Engine<'t, 's> {
     pub(crate) fn add_step(
         &mut self,
         kind: LineKind,
-        frame: u64,
         step: SitedStep<'_>,
         before: Option<u64>,
         further: Option<u64>,
     ) -> Result<u64, AllocError>
         requires whole { IsWhole (see_engine self.old) }
-        requires step { IsStepWith (see_engine self.old) frame step.site kind before further }
-        requires new { (see_engine self.old).parts frame step.site ≡ None }
-        requires within { step.place.index < length step.place.steps.now }
+        requires step { IsStepWith (see_engine self.old) step.frame step.site kind before further }
+        requires new { (see_engine self.old).parts step.frame step.site ≡ None }
         requires place { step_at (see_engine self.old).known.file step.site ≡ see_place step.place }
-        ensures { IfOk result (λ number. (rows : List Row) × Added (see_engine self.old) (see_engine self.new) frame step.entry.site kind (both_cites before further) (says.Rows rows) number) }
+        ensures { IfOk result (λ number. (rows : List Row) × Added (see_engine self.old) (see_engine self.new) step.entry.frame step.entry.site kind (both_cites before further) (says.Rows rows) number) }
     {
         let rows = {
             let earlier = self.rows_of(before).gather(self.alloc)?;
             let later = self.rows_of(further).gather(self.alloc)?;
             let input = StepInput {
-                current: self.current(frame),
+                current: self.current(step.frame),
                 before: earlier.as_slice(),
                 further: later.as_slice(),
                 verdicts: &[],
@@ -112,13 +112,11 @@ impl<'t, 's> Engine<'t, 's> {
             placed_step(self.alloc, step.place, input, &self.store, self.book)?
         };
         let cites = cited(self.alloc, before, further)?;
-        self.add(
-            frame,
-            step.site,
-            kind,
-            cites,
-            Outcome::Rows(Rows::new(&rows)),
-        )
+        let at = Place {
+            frame: step.frame,
+            site: step.site,
+        };
+        self.add(at, kind, cites, Outcome::Rows(Rows::new(&rows)))
     }
 
     /// The rows that a line says, if there is one.
@@ -135,22 +133,20 @@ impl<'t, 's> Engine<'t, 's> {
     /// Adds the line of a filter, of which the conditions were judged for each candidate.
     pub(crate) fn add_filter(
         &mut self,
-        frame: u64,
         step: SitedStep<'_>,
         before: u64,
         judged: Judged,
     ) -> Result<u64, AllocError>
         requires whole { IsWhole (see_engine self.old) }
-        requires judged { AreJudged (see_engine self.old) frame step.site before judged.lines.items judged.verdicts.items }
-        requires new { (see_engine self.old).parts frame step.site ≡ None }
-        requires within { step.place.index < length step.place.steps.now }
+        requires judged { AreJudged (see_engine self.old) step.frame step.site before judged.lines.items judged.verdicts.items }
+        requires new { (see_engine self.old).parts step.frame step.site ≡ None }
         requires place { step_at (see_engine self.old).known.file step.site ≡ see_place step.place }
-        ensures { IfOk result (λ number. (rows : List Row) × Added (see_engine self.old) (see_engine self.new) frame step.entry.site kind.Filter (before ∷ judged.lines.items) (says.Rows rows) number) }
+        ensures { IfOk result (λ number. (rows : List Row) × Added (see_engine self.old) (see_engine self.new) step.entry.frame step.entry.site kind.Filter (before ∷ judged.lines.items) (says.Rows rows) number) }
     {
         let rows = {
             let said = self.rows_said(before).gather(self.alloc)?;
             let input = StepInput {
-                current: self.current(frame),
+                current: self.current(step.frame),
                 before: said.as_slice(),
                 further: &[],
                 verdicts: &judged.verdicts,
@@ -160,13 +156,12 @@ impl<'t, 's> Engine<'t, 's> {
         let mut cites = Vec::new(self.alloc);
         cites.push(before)?;
         cites.extend_from_slice(&judged.lines)?;
-        self.add(
-            frame,
-            step.site,
-            LineKind::Filter,
-            cites,
-            Outcome::Rows(Rows::new(&rows)),
-        )
+        let at = Place {
+            frame: step.frame,
+            site: step.site,
+        };
+        let outcome = Outcome::Rows(Rows::new(&rows));
+        self.add(at, LineKind::Filter, cites, outcome)
     }
 
     /// Adds the line of what a step captures, behind the line of the step.
@@ -189,8 +184,7 @@ impl<'t, 's> Engine<'t, 's> {
         let mut cites = Vec::new(self.alloc);
         cites.push(line)?;
         self.add_beside(
-            frame,
-            site,
+            Place { frame, site },
             LineKind::Capture,
             cites,
             Outcome::Rows(Rows::new(&rows)),
@@ -244,16 +238,17 @@ impl<'t, 's> Engine<'t, 's> {
         if is_set_test(*op, left) {
             return Ok(verdict_of_set(*not, lefts));
         }
-        verdict_of_test(
-            self.alloc,
-            *any,
-            *op,
-            *not,
-            lefts,
+        let context = StepContext {
+            alloc: self.alloc,
+            store: &self.store,
+            book: self.book,
+        };
+        let asked = RowTest {
+            op: *op,
+            not: *not,
             rights,
-            &self.store,
-            self.book,
-        )
+        };
+        verdict_of_test(context, *any, asked, lefts)
     }
 
     /// The line of the rows of a type block.
@@ -275,8 +270,7 @@ impl<'t, 's> Engine<'t, 's> {
             &self.store,
         )?;
         self.add_beside(
-            frame,
-            site,
+            Place { frame, site },
             LineKind::Types,
             Vec::new(self.alloc),
             Outcome::Rows(Rows::new(&rows)),

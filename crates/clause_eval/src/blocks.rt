@@ -17,6 +17,14 @@ use evidence_lines::LineKind;
 use guard_syntax::{Body, Conds, Expr, Part, Query, Ref, Row, Verdict};
 use std::alloc::AllocError;
 
+/// How a block begins: its site, whether one row for which its body is PASS is enough, and the query of its rows.
+#[derive(Clone, Copy)]
+pub(crate) struct BlockHead<'t> {
+    pub site: u32,
+    pub any: bool,
+    pub query: &'t Query,
+}
+
 impl<'t, 's> Engine<'t, 's> {
     /// The line of a test, which has none yet.
     #[cycle(evaluation)]
@@ -93,24 +101,22 @@ impl<'t, 's> Engine<'t, 's> {
     pub(crate) fn block(
         &mut self,
         frame: u64,
-        site: u32,
-        any: bool,
-        head: &'t Query,
+        head: BlockHead<'t>,
         body: &'t Body,
     ) -> Result<Said, AllocError>
         requires whole { IsWhole (see_engine self.old) }
-        requires stands { IsBlock (see_engine self.old) frame site any (see_query head.now) (see_body body.now) }
-        requires new { (see_engine self.old).parts frame site ≡ None }
-        ensures { IfOk result (λ said. AnswersVerdict (see_engine self.old) (see_engine self.new) frame kind.Block site said.line said.verdict) }
+        requires stands { IsBlock (see_engine self.old) frame head.site head.any (see_query head.query.now) (see_body body.now) }
+        requires new { (see_engine self.old).parts frame head.site ≡ None }
+        ensures { IfOk result (λ said. AnswersVerdict (see_engine self.old) (see_engine self.new) frame kind.Block head.entry.site said.line said.verdict) }
     {
-        let line = self.query(frame, head)?;
+        let line = self.query(frame, head.query)?;
         let mut lines = Vec::new(self.alloc);
         lines.push(line)?;
         let rows = self.rows_said(line).to_vec(self.alloc)?;
-        let mut cited = self.bodies(frame, any, body, &rows)?;
+        let mut cited = self.bodies(frame, head.any, body, &rows)?;
         lines.append(&mut cited.lines)?;
         let verdict = cited.verdict;
-        self.add_verdict(frame, site, LineKind::Block, Cited { lines, verdict })
+        self.add_verdict(frame, head.site, LineKind::Block, Cited { lines, verdict })
     }
 
     /// The line of a type block, which has none yet.

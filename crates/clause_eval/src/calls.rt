@@ -16,6 +16,7 @@ ghost use Rattle.clause_eval.specs.code.Engines.{see_engine};
 ghost use Rattle.clause_eval.specs.code.States.{IsWhole};
 
 use crate::engine::Engine;
+use crate::place::Place;
 use evidence_lines::{LineKind, Outcome, Rows};
 use guard_builtins::{Made, call};
 use guard_syntax::{Expr, Function, Origin, Ref, Row};
@@ -40,8 +41,7 @@ impl<'t, 's> Engine<'t, 's> {
         let number = self.evidence.len() + 1;
         let rows = keep(self.alloc, &mut self.store, number, answer)?;
         let line = self.line_in(
-            frame,
-            site,
+            Place { frame, site },
             LineKind::Fn,
             &cites,
             Outcome::Rows(Rows::new(&rows)),

@@ -13,10 +13,10 @@ pub struct SiteSpan {
     pub count: u32,
 }
 
-/// For so many frames more room is made at once.
+/// Room is made for so many frames beyond those that there are.
 const FRAMES: usize = 1 << 16;
 
-/// For the lines of so many parts more room is made at once.
+/// Room is made for the lines of so many parts beyond those that there are.
 const LINES: usize = 1 << 18;
 
 /// The lines of the parts of each frame. All frames share one vector, of which each has a span: the number of a line for
@@ -59,8 +59,11 @@ impl FrameLines {
         Ok(())
     }
 
-    /// Makes room for many frames at once. Room that is not used takes no memory of the machine, and a vector that is this
-    /// large from the start grows in place, where one that is doubled from little leaves its former places behind.
+    /// Makes room for many frames, and the lines of many parts, beyond those that there are. Room that is not used takes no
+    /// memory of the machine, and a vector that is this large from the start grows in place, where one that is doubled from
+    /// little leaves its former places behind. It is asked for at each frame, since an engine begins without memory, and keeps
+    /// no note of what it has asked for. So the second frame doubles the room of the first, and later it is doubled while so
+    /// much of it is still left.
     fn make_room(&mut self) -> Result<(), AllocError>
         ensures spans { self.new.spans.items ≡ self.old.spans.items }
         ensures lines { self.new.lines.items ≡ self.old.lines.items }

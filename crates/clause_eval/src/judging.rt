@@ -14,9 +14,9 @@ ghost use Rattle.rule_meaning.specs.Verdicts.{block_verdict, conjunction, disjun
 ghost use Rattle.rule_meaning.specs.Verdicts as judged;
 
 use guard_syntax::{Op, Part, Query, Row, Step, StepForm, Verdict};
-use query_steps::row_passes;
+use query_steps::{RowTest, StepContext, row_passes};
 use std::alloc::{AllocError, Global};
-use value_compare::{Matchers, PatternBook, Store};
+use value_compare::{Matchers, Store};
 
 /// The conjunction of two verdicts.
 pub(crate) fn both(earlier: Verdict, later: Verdict) -> Verdict
@@ -108,71 +108,62 @@ pub(crate) fn one_is_found(rows: &[Row]) -> bool
     rows.iter().any(|row| is_found(row))
 }
 
-/// The verdict of a test on left rows against right rows; with `some` one left row that passes is enough.
+/// The verdict of a test on left rows; with `some` one of them that passes is enough.
 pub(crate) fn verdict_of_test(
-    alloc: Global,
+    context: StepContext<'_, '_, '_>,
     any: bool,
-    op: Op,
-    not: bool,
+    test: RowTest<'_>,
     lefts: &[Row],
-    rights: &[Row],
-    store: &Store<'_, '_>,
-    book: &PatternBook,
 ) -> Result<Verdict, AllocError>
-    requires lefts { list_all (is_known (see_store store.now)) lefts.now ≡ true }
-    requires rights { list_all (is_known (see_store store.now)) rights.now ≡ true }
-    requires book { IsBookOf (see_store store.now).file book.now }
-    ensures { IfOk result (λ v. v ≡ test_verdict any (passes (see_store store.now) op not rights.now) lefts.now) }
+    requires lefts { list_all (is_known (see_store context.store.now)) lefts.now ≡ true }
+    requires rights { list_all (is_known (see_store context.store.now)) test.rights.now ≡ true }
+    ensures { IfOk result (λ v. v ≡ test_verdict any (passes (see_store context.entry.store.now) test.entry.op test.entry.not test.entry.rights.now) lefts.now) }
 {
     if lefts.is_empty() {
         return Ok(Verdict::Skip);
     }
-    let mut matchers = Matchers::new(alloc, book);
+    let mut matchers = Matchers::new(context.alloc, context.book);
     if any {
-        Ok(pass_if(one_passes(&mut matchers, op, not, lefts, rights, store)?))
+        Ok(pass_if(one_passes(&mut matchers, test, lefts, context.store)?))
     } else {
-        Ok(pass_if(all_pass(&mut matchers, op, not, lefts, rights, store)?))
+        Ok(pass_if(all_pass(&mut matchers, test, lefts, context.store)?))
     }
 }
 
-/// Whether a left row passes a test against right rows.
+/// Whether a left row passes a test.
 pub(crate) fn one_passes(
     matchers: &mut Matchers<'_>,
-    op: Op,
-    not: bool,
+    test: RowTest<'_>,
     lefts: &[Row],
-    rights: &[Row],
     store: &Store<'_, '_>,
 ) -> Result<bool, AllocError>
     requires lefts { list_all (is_known (see_store store.now)) lefts.now ≡ true }
-    requires rights { list_all (is_known (see_store store.now)) rights.now ≡ true }
+    requires rights { list_all (is_known (see_store store.now)) test.rights.now ≡ true }
     requires book { IsBookOf (see_store store.now).file matchers.old.book.now }
-    ensures { IfOk result (λ p. p ≡ list_any (passes (see_store store.now) op not rights.now) lefts.now) }
+    ensures { IfOk result (λ p. p ≡ list_any (passes (see_store store.now) test.entry.op test.entry.not test.entry.rights.now) lefts.now) }
 {
     for left in lefts {
-        if row_passes(matchers, op, not, left, rights, store)? {
+        if row_passes(matchers, test, left, store)? {
             return Ok(true);
         }
     }
     Ok(false)
 }
 
-/// Whether each left row passes a test against right rows.
+/// Whether each left row passes a test.
 pub(crate) fn all_pass(
     matchers: &mut Matchers<'_>,
-    op: Op,
-    not: bool,
+    test: RowTest<'_>,
     lefts: &[Row],
-    rights: &[Row],
     store: &Store<'_, '_>,
 ) -> Result<bool, AllocError>
     requires lefts { list_all (is_known (see_store store.now)) lefts.now ≡ true }
-    requires rights { list_all (is_known (see_store store.now)) rights.now ≡ true }
+    requires rights { list_all (is_known (see_store store.now)) test.rights.now ≡ true }
     requires book { IsBookOf (see_store store.now).file matchers.old.book.now }
-    ensures { IfOk result (λ p. p ≡ list_all (passes (see_store store.now) op not rights.now) lefts.now) }
+    ensures { IfOk result (λ p. p ≡ list_all (passes (see_store store.now) test.entry.op test.entry.not test.entry.rights.now) lefts.now) }
 {
     for left in lefts {
-        if !row_passes(matchers, op, not, left, rights, store)? {
+        if !row_passes(matchers, test, left, store)? {
             return Ok(false);
         }
     }

@@ -82,46 +82,44 @@ impl<'t, 's> Engine<'t, 's> {
         }
     }
 
-    /// Adds the line of the part of a site in a frame, which has none yet, and answers its number.
+    /// Adds the line of the part at a place, which has none yet, and answers its number.
     pub(crate) fn add(
         &mut self,
-        frame: u64,
-        site: u32,
+        place: Place,
         kind: LineKind,
         cites: Vec<u64>,
         outcome: Outcome<'_>,
     ) -> Result<u64, AllocError>
         requires whole { IsWhole (see_engine self.old) }
-        requires kind { own_kind (piece_at (see_engine self.old).known.file site) ≡ Some kind }
-        requires adds { Adds (see_engine self.old) frame site kind cites.items outcome }
-        requires new { (see_engine self.old).parts frame site ≡ None }
-        ensures { IfOk result (λ number. Added (see_engine self.old) (see_engine self.new) frame site kind cites.items outcome.entry number) }
+        requires kind { own_kind (piece_at (see_engine self.old).known.file place.site) ≡ Some kind }
+        requires adds { Adds (see_engine self.old) place.frame place.site kind cites.items outcome }
+        requires new { (see_engine self.old).parts place.frame place.site ≡ None }
+        ensures { IfOk result (λ number. Added (see_engine self.old) (see_engine self.new) place.frame place.site kind cites.items outcome.entry number) }
     {
-        let line = self.line_in(frame, site, kind, &cites, outcome);
+        let line = self.line_in(place, kind, &cites, outcome);
         let number = self.add_line(line)?;
-        self.parts.set(frame, site, number)?;
+        self.parts.set(place.frame, place.site, number)?;
         Ok(number)
     }
 
-    /// Adds the line of what the step of a site captures in a frame, or of the rows of the type block of a site, which has
-    /// none yet, and answers its number.
+    /// Adds the line of what the step at a place captures, or of the rows of the type block there, which has none yet, and
+    /// answers its number.
     pub(crate) fn add_beside(
         &mut self,
-        frame: u64,
-        site: u32,
+        place: Place,
         kind: LineKind,
         cites: Vec<u64>,
         outcome: Outcome<'_>,
     ) -> Result<u64, AllocError>
         requires whole { IsWhole (see_engine self.old) }
-        requires kind { kind_beside (piece_at (see_engine self.old).known.file site) ≡ Some kind }
-        requires adds { Adds (see_engine self.old) frame site kind cites.items outcome }
-        requires new { (see_engine self.old).beside frame site ≡ None }
-        ensures { IfOk result (λ number. Added (see_engine self.old) (see_engine self.new) frame site kind cites.items outcome.entry number) }
+        requires kind { kind_beside (piece_at (see_engine self.old).known.file place.site) ≡ Some kind }
+        requires adds { Adds (see_engine self.old) place.frame place.site kind cites.items outcome }
+        requires new { (see_engine self.old).beside place.frame place.site ≡ None }
+        ensures { IfOk result (λ number. Added (see_engine self.old) (see_engine self.new) place.frame place.site kind cites.items outcome.entry number) }
     {
-        let line = self.line_in(frame, site, kind, &cites, outcome);
+        let line = self.line_in(place, kind, &cites, outcome);
         let number = self.add_line(line)?;
-        self.beside.insert(Place { frame, site }, number)?;
+        self.beside.insert(place, number)?;
         Ok(number)
     }
 
@@ -138,34 +136,28 @@ impl<'t, 's> Engine<'t, 's> {
         requires new { (see_engine self.old).rules site ≡ None }
         ensures { IfOk result (λ number. Added (see_engine self.old) (see_engine self.new) frame site kind.Rule cites.items (says.Verdict verdict) number) }
     {
-        let line = self.line_in(
-            frame,
-            site,
-            LineKind::Rule,
-            &cites,
-            Outcome::Verdict(verdict),
-        );
+        let outcome = Outcome::Verdict(verdict);
+        let line = self.line_in(Place { frame, site }, LineKind::Rule, &cites, outcome);
         let number = self.add_line(line)?;
         self.rules.set(site, number)?;
         Ok(number)
     }
 
-    /// The line of a site in a frame. It takes no memory.
+    /// The line of a place. It takes no memory.
     pub(crate) fn line_in<'a>(
         &self,
-        frame: u64,
-        site: u32,
+        place: Place,
         kind: LineKind,
         cites: &'a [u64],
         outcome: Outcome<'a>,
     ) -> Line<'a>
-        requires { frame < length self.now.framed.items }
-        ensures { (at : ℕ) → slice_get self.now.framed.items frame ≡ Some at → result ≡ line_for at site kind cites.entry.now outcome.entry }
+        requires { place.frame < length self.now.framed.items }
+        ensures { (at : ℕ) → slice_get self.now.framed.items place.frame ≡ Some at → result ≡ line_for at place.site kind cites.entry.now outcome.entry }
     {
         Line {
             kind,
-            frame: Some(self.line_of_frame(frame)),
-            site: Some(site),
+            frame: Some(self.line_of_frame(place.frame)),
+            site: Some(place.site),
             cites: Cites::new(cites),
             outcome,
         }

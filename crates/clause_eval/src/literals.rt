@@ -11,6 +11,7 @@ ghost use Rattle.clause_eval.specs.code.Engines.{see_engine};
 ghost use Rattle.clause_eval.specs.code.States.{IsWhole};
 
 use crate::engine::Engine;
+use crate::place::Place;
 use doc_values::Doc;
 use evidence_lines::{LineKind, Outcome, Rows};
 use guard_syntax::{Origin, Ref, Row};
@@ -46,8 +47,7 @@ impl<'t, 's> Engine<'t, 's> {
         let _nodes = tree.len();
         let rows = [Row::Found(root_of_literal(site))];
         self.add(
-            frame,
-            site,
+            Place { frame, site },
             LineKind::Literal,
             Vec::new(self.alloc),
             Outcome::Rows(Rows::new(&rows)),

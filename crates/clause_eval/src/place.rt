@@ -1,4 +1,4 @@
-//! Where a line beside that of a part stands.
+//! Where a line stands.
 
 /// A frame by its number, and a site.
 #[derive(Clone, Copy, Debug, PartialEq, Eq, Hash)]

@@ -12,6 +12,7 @@ ghost use Rattle.clause_eval.specs.code.States.{IsWhole};
 
 use crate::engine::Engine;
 use crate::judging::found_rows;
+use crate::place::Place;
 use evidence_lines::{LineKind, Outcome, Rows};
 use guard_syntax::{Expr, Query};
 use std::alloc::AllocError;
@@ -50,8 +51,7 @@ impl<'t, 's> Engine<'t, 's> {
         let mut cites = Vec::new(self.alloc);
         cites.push(line)?;
         self.add(
-            frame,
-            site,
+            Place { frame, site },
             LineKind::Found,
             cites,
             Outcome::Rows(Rows::new(&rows)),

@@ -6,7 +6,7 @@ ghost use Rattle.guard_syntax.specs.declared.syntax.Query.{out-Query};
 ghost use Rattle.query_steps.specs.code.Placed.{see_place};
 ghost use Rattle.rule_meaning.specs.Places.{step_at};
 ghost use Rattle.rule_meaning.specs.StoreModel.{is_known_ref};
-ghost use Rattle.clause_eval.specs.code.Answers.{AnswersCandidates, AnswersFilter, AnswersStepBehind, GivesBeforeSite, GivesStepBefore, IsFilter, LacksStep, StandsUpTo};
+ghost use Rattle.clause_eval.specs.code.Answers.{AnswersCandidates, AnswersFilter, AnswersStepBehind, GivesBeforeSite, GivesStepBefore, IsFilterWith, LacksStep, StandsUpTo};
 ghost use Rattle.clause_eval.specs.code.Engines.{see_engine};
 ghost use Rattle.clause_eval.specs.code.States.{IsWhole};
 
@@ -17,9 +17,10 @@ use guard_syntax::{Conds, Query, Ref, StepForm};
 use query_steps::{StepPlace, placed_candidates};
 use std::alloc::AllocError;
 
-/// A step where it stands in its query, and its site.
+/// A step in a frame: its site, and where it stands in its query.
 #[derive(Clone, Copy)]
 pub(crate) struct SitedStep<'t> {
+    pub frame: u64,
     pub site: u32,
     pub place: StepPlace<'t>,
 }
@@ -44,27 +45,28 @@ impl<'t, 's> Engine<'t, 's> {
         let step = &query.steps[index];
         let steps = query.steps.as_slice();
         let sited = SitedStep {
+            frame,
             site: step.site,
             place: StepPlace { steps, index },
         };
         match &step.form {
             StepForm::Filter(_, conds) => match before {
-                Some(before) => self.filter(frame, sited, conds, before),
+                Some(before) => self.filter(sited, conds, before),
                 None => unreachable!(),
             },
             StepForm::Keys { right, .. } => {
                 let further = self.expression(frame, right)?;
-                self.add_step(LineKind::Keys, frame, sited, before, Some(further))
+                self.add_step(LineKind::Keys, sited, before, Some(further))
             }
             StepForm::Var(_) => {
                 let further = self.variable(frame, step.site)?;
-                self.add_step(LineKind::Step, frame, sited, before, Some(further))
+                self.add_step(LineKind::Step, sited, before, Some(further))
             }
             StepForm::Splice(_) => {
                 let further = self.variable(frame, step.site)?;
-                self.add_step(LineKind::Step, frame, sited, before, Some(further))
+                self.add_step(LineKind::Step, sited, before, Some(further))
             }
-            _ => self.add_step(LineKind::Step, frame, sited, before, None),
+            _ => self.add_step(LineKind::Step, sited, before, None),
         }
     }
 
@@ -72,25 +74,23 @@ impl<'t, 's> Engine<'t, 's> {
     #[cycle(evaluation)]
     fn filter(
         &mut self,
-        frame: u64,
         step: SitedStep<'t>,
         conds: &'t Conds,
         before: u64,
     ) -> Result<u64, AllocError>
         requires whole { IsWhole (see_engine self.old) }
-        requires stands { IsFilter (see_engine self.old) frame step.site (see_conds conds.now) }
-        requires new { (see_engine self.old).parts frame step.site ≡ None }
-        requires before { GivesBeforeSite (see_engine self.old) frame step.site before }
-        requires within { step.place.index < length step.place.steps.now }
+        requires stands { IsFilterWith (see_engine self.old) step.frame step.site (see_conds conds.now) }
+        requires new { (see_engine self.old).parts step.frame step.site ≡ None }
+        requires before { GivesBeforeSite (see_engine self.old) step.frame step.site before }
         requires place { step_at (see_engine self.old).known.file step.site ≡ see_place step.place }
-        ensures { IfOk result (λ number. AnswersFilter (see_engine self.old) (see_engine self.new) frame step.entry.site before number) }
+        ensures { IfOk result (λ number. AnswersFilter (see_engine self.old) (see_engine self.new) step.entry.frame step.entry.site before number) }
     {
         let tried = {
             let said = self.rows_said(before).gather(self.alloc)?;
             placed_candidates(self.alloc, step.place, said.as_slice(), &self.store)?
         };
-        let judged = self.judge_candidates(frame, step.site, conds, &tried)?;
-        self.add_filter(frame, step, before, judged)
+        let judged = self.judge_candidates(step.frame, step.site, conds, &tried)?;
+        self.add_filter(step, before, judged)
     }
 
     /// The lines of the conditions of a filter for its candidates, each in a frame of its own.
@@ -103,7 +103,7 @@ impl<'t, 's> Engine<'t, 's> {
         tried: &[Ref],
     ) -> Result<Judged, AllocError>
         requires whole { IsWhole (see_engine self.old) }
-        requires stands { IsFilter (see_engine self.old) frame site (see_conds conds.now) }
+        requires stands { IsFilterWith (see_engine self.old) frame site (see_conds conds.now) }
         requires known { list_all (is_known_ref (see_engine self.old).known) tried.now ≡ true }
         ensures { IfOk result (λ judged. AnswersCandidates (see_engine self.old) (see_engine self.new) frame site (see_conds conds.now) tried.now judged.lines.items judged.verdicts.items) }
     {

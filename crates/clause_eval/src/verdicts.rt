@@ -11,6 +11,7 @@ ghost use Rattle.clause_eval.specs.code.Inside.{conds_sited, disj_sited};
 ghost use Rattle.clause_eval.specs.code.Kinds.{kind_of_part};
 ghost use Rattle.clause_eval.specs.code.States.{IsWhole};
 
+use crate::blocks::BlockHead;
 use crate::engine::Engine;
 use crate::judging::{both, either, is_stop, site_of};
 use crate::said::{Cited, Said};
@@ -130,7 +131,14 @@ impl<'t, 's> Engine<'t, 's> {
                 any,
                 head,
                 body,
-            } => self.block(frame, *site, *any, head, body),
+            } => {
+                let head = BlockHead {
+                    site: *site,
+                    any: *any,
+                    query: head,
+                };
+                self.block(frame, head, body)
+            }
             Part::Kinds {
                 site,
                 cond,

@@ -17,7 +17,7 @@ use Rattle.rule_meaning.specs.StoreModel.{StoreModel}
 use Rattle.rule_meaning.specs.Filters.{candidates_of, candidates_in, kept, filtered}
 use Rattle.rule_meaning.specs.Places.{Placed, is_key, is_filter, is_first, is_after_key, step_in, steps_in, placed_in, placed_of, given_by, step_candidates, step_rows, IsStepAt}
 use Rattle.rule_meaning.specs.Steps.{found_step, on_found}
-use Rattle.query_steps.specs.code.Placed.{IsFilter, IsStart, candidates_of_place, rows_of_place}
+use Rattle.query_steps.specs.code.Placed.{FiltersAt, StartsAt, candidates_of_place, rows_of_place}
 
 abbrev pub steps_of : List Step → sx.Steps
 steps_of xs = step_list (map see_step xs)
@@ -118,7 +118,7 @@ module _ (known : StoreModel) (xs : List Step) (i : ℕ) (x : Step) (within : i 
   stands =
       ap (option_map (λ (s : sx.Step). let p : Placed = record { step = s; first = is_first i; last = not (is_some (step_in (steps_of xs) (suc i))); after_key = is_after_key (steps_of xs) i } in p)) (step-at xs i x within is)
 
-  filter-there : IsFilter place → is_filter (see_step x) ≡ true
+  filter-there : FiltersAt place → is_filter (see_step x) ≡ true
   filter-there filters = sym (ap (λ (o : Option Placed). option_map_or (λ (p : Placed). is_filter p.step) o false) stands) ∙ filters
 
   candidates-there : (before : List Row) → candidates_of_place known place before ≡ step_candidates known here before
@@ -127,17 +127,17 @@ module _ (known : StoreModel) (xs : List Step) (i : ℕ) (x : Step) (within : i 
   pub candidates-of-filter : (before : List Row) → is_filter (see_step x) ≡ true → candidates_of_place known place before ≡ candidates_in known (is_after_key (steps_of xs) i) before
   candidates-of-filter before filters = candidates-there before ∙ ap (λ (b : Bool). if b then candidates_in known (is_after_key (steps_of xs) i) before else []) filters
 
-  pub candidates-at : (before : List Row) → IsFilter place → candidates_in known (is_after_key (steps_of xs) i) before ≡ candidates_of_place known place before
+  pub candidates-at : (before : List Row) → FiltersAt place → candidates_in known (is_after_key (steps_of xs) i) before ≡ candidates_of_place known place before
   candidates-at before filters = sym (candidates-of-filter before (filter-there filters))
 
   rows-there : (current : Ref) (before rows : List Row) (verdicts : List Verdict) → step_rows known here current before rows verdicts ≡ rows_of_place known place current before rows verdicts
   rows-there current before rows verdicts = sym (ap (λ (o : Option Placed). rows_of_place known o current before rows verdicts) stands)
 
   -- a start
-  pub start-there : i ≡ 0 → IsStart place
+  pub start-there : i ≡ 0 → StartsAt place
   start-there first = ap (λ (o : Option Placed). option_map_or (λ (p : Placed). p.first) o false) stands ∙ ap is_first first
 
-  pub rows-of-start : (current : Ref) (before rows : List Row) (verdicts : List Verdict) → i ≡ 0 → (IsStart place → before ≡ []) → length verdicts ≡ length (candidates_of_place known place before)
+  pub rows-of-start : (current : Ref) (before rows : List Row) (verdicts : List Verdict) → i ≡ 0 → (StartsAt place → before ≡ []) → length verdicts ≡ length (candidates_of_place known place before)
       → flat_map (on_found (found_step known (not (is_some (step_in (steps_of xs) (suc i)))) rows (see_step x))) (Found current ∷ []) ≡ rows_of_place known place current before rows verdicts
   rows-of-start current before rows verdicts first start enough =
       let none : candidates_of_place known place before ≡ [] = ap (candidates_of_place known place) (start (start-there first)) ∙ candidates-there [] ∙ either-nothing (is_filter (see_step x)) in

@@ -14,6 +14,13 @@ use guard_syntax::{Ref, Row, Verdict};
 use std::alloc::{AllocError, Global};
 use value_compare::Store;
 
+/// How a filter looks at a value: whether the step before it is a key step, and where the value stands.
+#[derive(Clone, Copy)]
+struct FilterView<'f, 't, 's> {
+    after_key: bool,
+    store: &'f Store<'t, 's>,
+}
+
 /// The values that a filter behind these rows tries, in order; `after_key` is whether the step before it is a key step. A
 /// missing row has none. Where there are no such values, no memory is taken.
 pub fn filter_candidates(
@@ -27,10 +34,11 @@ pub fn filter_candidates(
     ensures known { IfOk result (λ refs. list_all (is_known_ref (see_store store.now)) refs.items ≡ true) }
     ensures no_memory { candidates_in (see_store store.now) after_key before.now ≡ [] → IsOk result }
 {
+    let view = FilterView { after_key, store };
     let mut refs = Vec::new(alloc);
     for row in before {
         if let Row::Found(value) = row {
-            push_candidates(alloc, after_key, *value, store, &mut refs)?;
+            push_candidates(alloc, view, *value, &mut refs)?;
         }
     }
     Ok(refs)
@@ -50,18 +58,19 @@ fn is_looked_into(kind: Kind, after_key: bool) -> bool
 /// Adds the values that a filter tries at a value that was found.
 fn push_candidates(
     alloc: Global,
-    after_key: bool,
+    view: FilterView<'_, '_, '_>,
     value: Ref,
-    store: &Store<'_, '_>,
     refs: &mut Vec<Ref>,
 ) -> Result<(), AllocError>
-    requires { is_known_ref (see_store store.now) value ≡ true }
-    ensures candidates { OnOk result (refs.new.items ≡ refs.old.items ++ candidates_of (see_store store.now) after_key value) }
-    ensures known { OnOk result (list_all (is_known_ref (see_store store.now)) (candidates_of (see_store store.now) after_key value) ≡ true) }
-    ensures no_memory { candidates_of (see_store store.now) after_key value ≡ [] → IsOk result }
+    requires { is_known_ref (see_store view.store.now) value ≡ true }
+    ensures candidates { OnOk result (refs.new.items
+        ≡ refs.old.items ++ candidates_of (see_store view.entry.store.now) view.entry.after_key value) }
+    ensures known { OnOk result (list_all (is_known_ref (see_store view.entry.store.now))
+        (candidates_of (see_store view.entry.store.now) view.entry.after_key value) ≡ true) }
+    ensures no_memory { candidates_of (see_store view.entry.store.now) view.entry.after_key value ≡ [] → IsOk result }
 {
-    if is_looked_into(kind_of(value, store), after_key) {
-        let inside = inside_of(alloc, value, store)?;
+    if is_looked_into(kind_of(value, view.store), view.after_key) {
+        let inside = inside_of(alloc, value, view.store)?;
         refs.extend_from_slice(&inside)?;
         return Ok(());
     }
@@ -84,12 +93,13 @@ pub fn kept_rows(
     ensures known { IfOk result (λ rows. list_all (is_known (see_store store.now)) rows.items ≡ true) }
     ensures no_memory { before.now ≡ [] → IsOk result }
 {
+    let view = FilterView { after_key, store };
     let mut rows = Vec::new(alloc);
     let mut left = verdicts;
     for row in before {
         match row {
             Row::Found(value) => {
-                left = push_kept(alloc, after_key, *value, left, store, &mut rows)?;
+                left = push_kept(alloc, view, *value, left, &mut rows)?;
             }
             Row::Missing { .. } | Row::Unmade { .. } => rows.push(*row)?,
         }
@@ -100,20 +110,22 @@ pub fn kept_rows(
 /// Adds what a filter keeps of what it tries at a value, by the first verdicts, and answers the others.
 fn push_kept<'v>(
     alloc: Global,
-    after_key: bool,
+    view: FilterView<'_, '_, '_>,
     value: Ref,
     verdicts: &'v [Verdict],
-    store: &Store<'_, '_>,
     rows: &mut Vec<Row>,
 ) -> Result<&'v [Verdict], AllocError>
-    requires value { is_known_ref (see_store store.now) value ≡ true }
-    requires verdicts { length (candidates_of (see_store store.now) after_key value) ≤ length verdicts.now }
-    ensures rows { OnOk result (rows.new.items ≡ rows.old.items ++ kept (candidates_of (see_store store.now) after_key value) verdicts.entry.now) }
-    ensures known { OnOk result (list_all (is_known_ref (see_store store.now)) (candidates_of (see_store store.now) after_key value) ≡ true) }
-    ensures left { IfOk result (λ left. left.now ≡ drop (length (candidates_of (see_store store.now) after_key value)) verdicts.entry.now) }
+    requires value { is_known_ref (see_store view.store.now) value ≡ true }
+    requires verdicts { length (candidates_of (see_store view.store.now) view.after_key value) ≤ length verdicts.now }
+    ensures rows { OnOk result (rows.new.items
+        ≡ rows.old.items ++ kept (candidates_of (see_store view.entry.store.now) view.entry.after_key value) verdicts.entry.now) }
+    ensures known { OnOk result (list_all (is_known_ref (see_store view.entry.store.now))
+        (candidates_of (see_store view.entry.store.now) view.entry.after_key value) ≡ true) }
+    ensures left { IfOk result (λ left. left.now
+        ≡ drop (length (candidates_of (see_store view.entry.store.now) view.entry.after_key value)) verdicts.entry.now) }
 {
-    if is_looked_into(kind_of(value, store), after_key) {
-        let tried = inside_of(alloc, value, store)?;
+    if is_looked_into(kind_of(value, view.store), view.after_key) {
+        let tried = inside_of(alloc, value, view.store)?;
         let kept = kept_refs(alloc, &tried, verdicts)?;
         rows.extend_from_slice(&kept)?;
         return Ok(&verdicts[tried.len()..]);

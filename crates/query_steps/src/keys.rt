@@ -14,27 +14,36 @@ use guard_syntax::{Op, Row};
 use std::alloc::{AllocError, Global};
 use value_compare::{Matchers, Store, row_test};
 
-/// Whether a left row passes a test against right rows. An order operator has one meaning, negated or not: no rule file
-/// spells its negation. Memory is taken only to compare a value by `==` or `IN` with right values that are there.
+/// What is asked of a left row: an operator, whether it is negated, and the right rows, of which a unary operator has none.
+/// An order operator has one meaning, negated or not: no rule file spells its negation.
+#[derive(Clone, Copy)]
+pub struct RowTest<'r> {
+    pub op: Op,
+    pub not: bool,
+    pub rights: &'r [Row],
+}
+
+/// Whether a left row passes a test. Memory is taken only to compare a value by `==` or `IN` with right values that are
+/// there.
 pub fn row_passes(
     matchers: &mut Matchers<'_>,
-    op: Op,
-    not: bool,
+    test: RowTest<'_>,
     left: &Row,
-    rights: &[Row],
     store: &Store<'_, '_>,
 ) -> Result<bool, AllocError>
     requires left { is_known (see_store store.now) left.now ≡ true }
-    requires rights { list_all (is_known (see_store store.now)) rights.now ≡ true }
+    requires rights { list_all (is_known (see_store store.now)) test.rights.now ≡ true }
     requires book { IsBookOf (see_store store.now).file matchers.old.book.now }
-    ensures answer { IfOk result (λ p. p ≡ passes (see_store store.now) op not rights.now left.now) }
+    ensures answer { IfOk result (λ p. p
+        ≡ passes (see_store store.now) test.entry.op test.entry.not test.entry.rights.now left.now) }
     ensures kept { matchers.new.book.now ≡ matchers.old.book.now }
-    ensures no_memory_unary { is_binary op ≡ false → IsOk result }
-    ensures no_memory_order { is_order op ≡ true → IsOk result }
+    ensures no_memory_unary { is_binary test.entry.op ≡ false → IsOk result }
+    ensures no_memory_order { is_order test.entry.op ≡ true → IsOk result }
     ensures no_memory_left { meant (see_store store.now) left.now ≡ None → IsOk result }
-    ensures no_memory_right { found_of (map (meant (see_store store.now)) rights.now) ≡ [] → IsOk result }
+    ensures no_memory_right { found_of (map (meant (see_store store.now)) test.entry.rights.now) ≡ [] → IsOk result }
 {
-    row_test(matchers, op, is_negated(op, not), left, rights, store)
+    let not = is_negated(test.op, test.not);
+    row_test(matchers, test.op, not, left, test.rights, store)
 }
 
 /// Whether a test is negated. An order operator never is: the tables of tests have one answer for both.

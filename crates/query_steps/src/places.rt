@@ -6,20 +6,15 @@ ghost use Rattle.value_compare.specs.code.Books.{IsBookOf};
 ghost use Rattle.value_compare.specs.code.Stores.{see_store};
 ghost use Rattle.rule_meaning.specs.Places.{is_after_key, is_filter, is_key, step_in};
 ghost use Rattle.rule_meaning.specs.StoreModel.{is_known, is_known_ref};
-ghost use Rattle.query_steps.specs.code.Placed.{IsFilter, IsStart, candidates_of_place, rows_of_place, see_place};
+ghost use Rattle.query_steps.specs.code.Placed.{FiltersAt, StartsAt, candidates_of_place, rows_of_place, see_place};
 
+use crate::context::StepContext;
 use crate::filters::{filter_candidates, kept_rows};
-use crate::steps::rows_of_step;
+use crate::step_place::StepPlace;
+use crate::steps::{ReadyStep, rows_of_step};
 use guard_syntax::{Ref, Row, Step, StepForm, Verdict};
 use std::alloc::{AllocError, Global};
 use value_compare::{PatternBook, Store};
-
-/// A step by its index among the steps of its query.
-#[derive(Clone, Copy)]
-pub struct StepPlace<'q> {
-    pub steps: &'q [Step],
-    pub index: usize,
-}
 
 /// What a step begins from: the current value, at which a start begins, and the rows before any other step. `further` are
 /// the rows of the variable that the step names or of a key filter's right side, `verdicts` those of a filter's candidates
@@ -39,8 +34,7 @@ pub fn placed_candidates(
     before: &[Row],
     store: &Store<'_, '_>,
 ) -> Result<Vec<Ref>, AllocError>
-    requires within { place.index < length place.steps.now }
-    requires filter { IsFilter (see_place place) }
+    requires filter { FiltersAt (see_place place) }
     requires known { list_all (is_known (see_store store.now)) before.now ≡ true }
     ensures candidates { IfOk result (λ refs. refs.items ≡ candidates_of_place (see_store store.now) (see_place place.entry) before.now) }
     ensures known { IfOk result (λ refs. list_all (is_known_ref (see_store store.now)) refs.items ≡ true) }
@@ -57,8 +51,7 @@ pub fn placed_step(
     store: &Store<'_, '_>,
     book: &PatternBook,
 ) -> Result<Vec<Row>, AllocError>
-    requires within { place.index < length place.steps.now }
-    requires start { IsStart (see_place place) → input.before.now ≡ [] }
+    requires start { StartsAt (see_place place) → input.before.now ≡ [] }
     requires verdicts { length input.verdicts.now ≡ length (candidates_of_place (see_store store.now) (see_place place) input.before.now) }
     requires book { IsBookOf (see_store store.now).file book.now }
     requires current { is_known_ref (see_store store.now) input.current ≡ true }
@@ -66,22 +59,27 @@ pub fn placed_step(
     requires further { list_all (is_known (see_store store.now)) input.further.now ≡ true }
     ensures rows { IfOk result (λ given. given.items ≡ rows_of_place (see_store store.now) (see_place place.entry) input.entry.current input.entry.before.now input.entry.further.now input.entry.verdicts.now) }
     ensures known { IfOk result (λ given. list_all (is_known (see_store store.now)) given.items ≡ true) }
-    ensures no_memory { (IsStart (see_place place.entry) → ⊥) → input.entry.before.now ≡ [] → IsOk result }
+    ensures no_memory { (StartsAt (see_place place.entry) → ⊥) → input.entry.before.now ≡ [] → IsOk result }
 {
+    let context = StepContext { alloc, store, book };
     let steps = place.steps;
     let index = place.index;
     let step = &steps[index];
     let last = is_last(steps, index);
-    let further = input.further;
+    let ready = ReadyStep {
+        step,
+        last,
+        further: input.further,
+    };
     if index == 0 {
         let start = Row::Found(input.current);
-        return rows_of_step(alloc, step, last, &[start], further, store, book);
+        return rows_of_step(context, ready, &[start]);
     }
     if is_filter(step) {
         let after_key = is_after_key(steps, index);
         return kept_rows(alloc, after_key, input.before, input.verdicts, store);
     }
-    rows_of_step(alloc, step, last, input.before, further, store, book)
+    rows_of_step(context, ready, input.before)
 }
 
 /// Whether the step before the one of an index is a key step.

@@ -9,8 +9,9 @@ ghost use Rattle.query_steps.specs.code.Memory.{has_resources};
 ghost use Rattle.query_steps.specs.code.Placed.{see_place};
 ghost use Rattle.rule_meaning.specs.Places.{IsFilterAt, IsStartAt, IsStepAt, IsTypeAt, candidates_at, rows_at_step, rows_at_type, step_at, type_at};
 
-use crate::places::{StepInput, StepPlace, placed_candidates, placed_step};
+use crate::places::{StepInput, placed_candidates, placed_step};
 use crate::resources::type_rows;
+use crate::step_place::StepPlace;
 use guard_syntax::{Part, Ref, Row, Verdict};
 use rule_names::{Piece, RuleFile};
 use std::alloc::{AllocError, Global};
@@ -97,8 +98,7 @@ pub fn kinds(
 fn place_of(file: &RuleFile, site: u32) -> StepPlace<'_>
     requires site { site < length (file_of file.now).places }
     requires step { IsStepAt (file_of file.now) site }
-    ensures at { step_at (file_of file.entry.now) site ≡ see_place result }
-    ensures within { result.index < length result.steps.now }
+    ensures { step_at (file_of file.entry.now) site ≡ see_place result }
 {
     let Piece::Step { query, index } = file.piece(site) else {
         unreachable!()

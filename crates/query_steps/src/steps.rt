@@ -10,57 +10,69 @@ ghost use Rattle.rule_meaning.specs.Keys.{keys_by, passes};
 ghost use Rattle.rule_meaning.specs.Reached.{entry, inside, key_of, value_for};
 ghost use Rattle.rule_meaning.specs.Steps.{each_inside, every_by, found_or_missing, found_step, items_by, key_in, on_found, splice_row};
 
-use crate::keys::row_passes;
+use crate::context::StepContext;
+use crate::keys::{RowTest, row_passes};
 use crate::reached::{entries_of, entry_of, inside_of, item_of, key_of, kind_of};
 use doc_values::Kind;
-use guard_syntax::{Op, Ref, Row, Step, StepForm};
+use guard_syntax::{Ref, Row, Step, StepForm};
 use std::alloc::{AllocError, Global};
-use value_compare::{Matchers, PatternBook, Store, View};
+use value_compare::{Matchers, Store, View};
 
-/// What a step other than a filter gives for the rows before it; a start has one, the current value. `last` is whether it
-/// is its query's last, `rows` are those of the variable that it names or of a key filter's right side. A missing row stays
-/// in its place. A filter gives nothing for a value here: it has its rows by `kept_rows`. Behind no rows no memory is taken.
-pub fn rows_of_step(
-    alloc: Global,
-    step: &Step,
+/// A step other than a filter, with what it reads beside the values before it.
+#[derive(Clone, Copy)]
+pub struct ReadyStep<'q> {
+    pub step: &'q Step,
+    /// Whether it is its query's last.
+    pub last: bool,
+    /// The rows of the variable that it names, or of a key filter's right side.
+    pub further: &'q [Row],
+}
+
+/// A value that a step looks into: the step by its site, and whether it is its query's last.
+#[derive(Clone, Copy)]
+struct SteppedValue {
+    value: Ref,
+    site: u32,
     last: bool,
+}
+
+/// What a step other than a filter gives for the rows before it; a start has one, the current value. A missing row stays in
+/// its place. A filter gives nothing for a value here: it has its rows by `kept_rows`. Behind no rows no memory is taken.
+pub fn rows_of_step(
+    context: StepContext<'_, '_, '_>,
+    ready: ReadyStep<'_>,
     before: &[Row],
-    rows: &[Row],
-    store: &Store<'_, '_>,
-    book: &PatternBook,
 ) -> Result<Vec<Row>, AllocError>
-    requires before { list_all (is_known (see_store store.now)) before.now ≡ true }
-    requires rows { list_all (is_known (see_store store.now)) rows.now ≡ true }
-    requires book { IsBookOf (see_store store.now).file book.now }
-    ensures rows { IfOk result (λ given. given.items ≡ flat_map (on_found (found_step (see_store store.now) last rows.now (see_step step.now))) before.now) }
-    ensures known { IfOk result (λ given. list_all (is_known (see_store store.now)) given.items ≡ true) }
+    requires before { list_all (is_known (see_store context.store.now)) before.now ≡ true }
+    requires further { list_all (is_known (see_store context.store.now)) ready.further.now ≡ true }
+    ensures rows { IfOk result (λ given. given.items
+        ≡ flat_map (on_found (found_step (see_store context.entry.store.now) ready.entry.last
+        ready.entry.further.now (see_step ready.entry.step.now))) before.now) }
+    ensures known { IfOk result (λ given. list_all (is_known (see_store context.entry.store.now)) given.items ≡ true) }
     ensures no_memory { before.now ≡ [] → IsOk result }
 {
-    let mut given = Vec::new(alloc);
+    let mut given = Vec::new(context.alloc);
     given.reserve(before.len())?;
     for row in before {
-        push_row(alloc, step, last, row, rows, store, book, &mut given)?;
+        push_row(context, ready, row, &mut given)?;
     }
     Ok(given)
 }
 
 /// Adds what a step gives for a row.
 fn push_row(
-    alloc: Global,
-    step: &Step,
-    last: bool,
+    context: StepContext<'_, '_, '_>,
+    ready: ReadyStep<'_>,
     row: &Row,
-    rows: &[Row],
-    store: &Store<'_, '_>,
-    book: &PatternBook,
     into: &mut Vec<Row>,
 ) -> Result<(), AllocError>
-    requires rows { list_all (is_known (see_store store.now)) rows.now ≡ true }
-    requires book { IsBookOf (see_store store.now).file book.now }
-    ensures { OnOk result (into.new.items ≡ into.old.items ++ on_found (found_step (see_store store.now) last rows.now (see_step step.now)) row.now) }
+    requires { list_all (is_known (see_store context.store.now)) ready.further.now ≡ true }
+    ensures { OnOk result (into.new.items ≡ into.old.items
+        ++ on_found (found_step (see_store context.entry.store.now) ready.entry.last
+        ready.entry.further.now (see_step ready.entry.step.now)) row.now) }
 {
     match row {
-        Row::Found(value) => push_step(alloc, step, last, *value, rows, store, book, into),
+        Row::Found(value) => push_step(context, ready, *value, into),
         Row::Missing { .. } | Row::Unmade { .. } => {
             into.push(*row)?;
             Ok(())
@@ -70,23 +82,26 @@ fn push_row(
 
 /// Adds what a step gives for a value.
 fn push_step(
-    alloc: Global,
-    step: &Step,
-    last: bool,
+    context: StepContext<'_, '_, '_>,
+    ready: ReadyStep<'_>,
     value: Ref,
-    rows: &[Row],
-    store: &Store<'_, '_>,
-    book: &PatternBook,
     into: &mut Vec<Row>,
 ) -> Result<(), AllocError>
-    requires rows { list_all (is_known (see_store store.now)) rows.now ≡ true }
-    requires book { IsBookOf (see_store store.now).file book.now }
-    ensures { OnOk result (into.new.items ≡ into.old.items ++ found_step (see_store store.now) last rows.now (see_step step.now) value) }
+    requires { list_all (is_known (see_store context.store.now)) ready.further.now ≡ true }
+    ensures { OnOk result (into.new.items ≡ into.old.items
+        ++ found_step (see_store context.entry.store.now) ready.entry.last
+        ready.entry.further.now (see_step ready.entry.step.now) value) }
 {
-    let site = step.site;
-    match &step.form {
+    let store = context.store;
+    let site = ready.step.site;
+    let at = SteppedValue {
+        value,
+        site,
+        last: ready.last,
+    };
+    match &ready.step.form {
         StepForm::This => push_each(&[value], into),
-        StepForm::Var(_) => into.extend_from_slice(rows),
+        StepForm::Var(_) => into.extend_from_slice(ready.further),
         StepForm::Key(name) => {
             let found = entry_of(value, name.as_str(), store);
             push_found(site, value, found, into)
@@ -95,12 +110,17 @@ fn push_step(
             let found = item_of(value, *index, store);
             push_found(site, value, found, into)
         }
-        StepForm::Every => push_every(alloc, last, site, value, store, into),
-        StepForm::Items => push_items(alloc, last, site, value, store, into),
-        StepForm::Splice(_) => push_spliced(site, value, rows, store, into),
+        StepForm::Every => push_every(context.alloc, at, store, into),
+        StepForm::Items => push_items(context.alloc, at, store, into),
+        StepForm::Splice(_) => push_spliced(site, value, ready.further, store, into),
         StepForm::Filter(..) => Ok(()),
         StepForm::Keys { op, not, .. } => {
-            push_keyed(alloc, *op, *not, rows, site, value, store, book, into)
+            let test = RowTest {
+                op: *op,
+                not: *not,
+                rights: ready.further,
+            };
+            push_keyed(context, test, site, value, into)
         }
     }
 }
@@ -134,51 +154,52 @@ fn push_found(
 /// `.*` at a value.
 fn push_every(
     alloc: Global,
-    last: bool,
-    site: u32,
-    value: Ref,
+    at: SteppedValue,
     store: &Store<'_, '_>,
     into: &mut Vec<Row>,
 ) -> Result<(), AllocError>
-    ensures { OnOk result (into.new.items ≡ into.old.items ++ every_by (value_for (see_store store.now) value).kind last site value (inside (see_store store.now) value)) }
+    ensures { OnOk result (into.new.items ≡ into.old.items
+        ++ every_by (value_for (see_store store.now) at.value).kind at.last at.site at.value (inside (see_store store.now) at.value)) }
 {
-    match kind_of(value, store) {
-        Kind::List | Kind::Map => push_inside(alloc, last, site, value, store, into),
-        _ => push_each(&[value], into),
+    match kind_of(at.value, store) {
+        Kind::List | Kind::Map => push_inside(alloc, at, store, into),
+        _ => push_each(&[at.value], into),
     }
 }
 
 /// `[*]` at a value.
 fn push_items(
     alloc: Global,
-    last: bool,
-    site: u32,
-    value: Ref,
+    at: SteppedValue,
     store: &Store<'_, '_>,
     into: &mut Vec<Row>,
 ) -> Result<(), AllocError>
-    ensures { OnOk result (into.new.items ≡ into.old.items ++ items_by (value_for (see_store store.now) value).kind last site value (inside (see_store store.now) value)) }
+    ensures { OnOk result (into.new.items ≡ into.old.items
+        ++ items_by (value_for (see_store store.now) at.value).kind at.last at.site at.value (inside (see_store store.now) at.value)) }
 {
-    match kind_of(value, store) {
-        Kind::List => push_inside(alloc, last, site, value, store, into),
-        _ => push_each(&[value], into),
+    match kind_of(at.value, store) {
+        Kind::List => push_inside(alloc, at, store, into),
+        _ => push_each(&[at.value], into),
     }
 }
 
 /// Adds what stands in a value; where nothing does, a step before the last has a missing row.
 fn push_inside(
     alloc: Global,
-    last: bool,
-    site: u32,
-    value: Ref,
+    at: SteppedValue,
     store: &Store<'_, '_>,
     into: &mut Vec<Row>,
 ) -> Result<(), AllocError>
-    ensures { OnOk result (into.new.items ≡ into.old.items ++ each_inside last site value (inside (see_store store.now) value)) }
+    ensures { OnOk result (into.new.items ≡ into.old.items
+        ++ each_inside at.last at.site at.value (inside (see_store store.now) at.value)) }
 {
+    let value = at.value;
     let values = inside_of(alloc, value, store)?;
-    if values.is_empty() && !last {
-        into.push(Row::Missing { value, step: site })?;
+    if values.is_empty() && !at.last {
+        into.push(Row::Missing {
+            value,
+            step: at.site,
+        })?;
         return Ok(());
     }
     into.reserve(values.len())?;
@@ -230,25 +251,23 @@ fn text_of<'v, 's>(row: &Row, store: &'v Store<'_, 's>) -> Option<&'v str>
 
 /// `[ keys op right ]` at a value.
 fn push_keyed(
-    alloc: Global,
-    op: Op,
-    not: bool,
-    rights: &[Row],
+    context: StepContext<'_, '_, '_>,
+    test: RowTest<'_>,
     site: u32,
     value: Ref,
-    store: &Store<'_, '_>,
-    book: &PatternBook,
     into: &mut Vec<Row>,
 ) -> Result<(), AllocError>
-    requires rights { list_all (is_known (see_store store.now)) rights.now ≡ true }
-    requires book { IsBookOf (see_store store.now).file book.now }
-    ensures { OnOk result (into.new.items ≡ into.old.items ++ keys_by (value_for (see_store store.now) value).kind (see_store store.now) op not rights.now site value (inside (see_store store.now) value)) }
+    requires { list_all (is_known (see_store context.store.now)) test.rights.now ≡ true }
+    ensures { OnOk result (into.new.items ≡ into.old.items
+        ++ keys_by (value_for (see_store context.entry.store.now) value).kind (see_store context.entry.store.now)
+        test.entry.op test.entry.not test.entry.rights.now site value (inside (see_store context.entry.store.now) value)) }
 {
+    let store = context.store;
     match kind_of(value, store) {
         Kind::Map => {
-            let entries = entries_of(alloc, value, store)?;
-            let mut matchers = Matchers::new(alloc, book);
-            push_passing(&mut matchers, op, not, rights, &entries, store, into)
+            let entries = entries_of(context.alloc, value, store)?;
+            let mut matchers = Matchers::new(context.alloc, context.book);
+            push_passing(&mut matchers, test, &entries, store, into)
         }
         _ => push_found(site, value, None, into),
     }
@@ -257,21 +276,20 @@ fn push_keyed(
 /// Adds the entries whose keys pass a test.
 fn push_passing(
     matchers: &mut Matchers<'_>,
-    op: Op,
-    not: bool,
-    rights: &[Row],
+    test: RowTest<'_>,
     entries: &[Ref],
     store: &Store<'_, '_>,
     into: &mut Vec<Row>,
 ) -> Result<(), AllocError>
-    requires rights { list_all (is_known (see_store store.now)) rights.now ≡ true }
+    requires rights { list_all (is_known (see_store store.now)) test.rights.now ≡ true }
     requires keys { list_all (λ r. is_known_ref (see_store store.now) (key_of r)) entries.now ≡ true }
     requires book { IsBookOf (see_store store.now).file matchers.old.book.now }
-    ensures { OnOk result (into.new.items ≡ into.old.items ++ map Found (filter (λ r. passes (see_store store.now) op not rights.now (Found (key_of r))) entries.now)) }
+    ensures { OnOk result (into.new.items ≡ into.old.items
+        ++ map Found (filter (λ r. passes (see_store store.now) test.entry.op test.entry.not test.entry.rights.now (Found (key_of r))) entries.now)) }
 {
     for entry in entries {
         let key = Row::Found(key_of(*entry));
-        let passes = row_passes(matchers, op, not, &key, rights, store)?;
+        let passes = row_passes(matchers, test, &key, store)?;
         push_if(passes, *entry, into)?;
     }
     Ok(())

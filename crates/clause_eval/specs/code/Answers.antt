@@ -167,8 +167,8 @@ abbrev pub IsUse : State → (frame site : ℕ) → Type 0
 IsUse s frame site = ((name : List ℕ) × StandsStep s frame site (var site name)) ⊎ ((name : Named) × StandsStep s frame site (splice site name))
 
 -- a filter with these conditions, and a step that captures
-abbrev pub IsFilter : State → (frame site : ℕ) → Conds → Type 0
-IsFilter s frame site conditions = (capture : Option Named) × StandsStep s frame site (filter site capture conditions)
+abbrev pub IsFilterWith : State → (frame site : ℕ) → Conds → Type 0
+IsFilterWith s frame site conditions = (capture : Option Named) × StandsStep s frame site (filter site capture conditions)
 
 abbrev pub IsCapturing : State → (frame site : ℕ) → Type 0
 IsCapturing s frame site = (q : Query) × (i : ℕ) × StandsIn s frame (site, OfStep q i) × Captures (step_in (steps_in q) i)
@@ -308,7 +308,7 @@ IsStepWith s frame site of before further =
 -- conditions were judged for what a filter tries at the rows of the step before it
 abbrev pub AreJudged : State → (frame site before : ℕ) → (numbers : List ℕ) → List Verdict → Type 0
 AreJudged s frame site before numbers verdicts =
-    (conditions : Conds) × IsFilter s frame site conditions × (rows : List Row) × GivesRowsBefore s frame site before rows
+    (conditions : Conds) × IsFilterWith s frame site conditions × (rows : List Row) × GivesRowsBefore s frame site before rows
     × ((at : ℕ) × (slice_get s.framed frame ≡ Some at)
     × SayEach s.known s.lines (SaysCandidate s.known s.lines at site conditions) (candidates_at s.known site rows) numbers verdicts)
 

@@ -7,17 +7,17 @@ use Rattle.guard_syntax.specs.declared.row.Row.{Row}
 use Rattle.guard_syntax.specs.declared.row.Verdict.{Verdict}
 use Rattle.rule_meaning.specs.Places.{Placed, is_filter, placed_in, step_candidates, step_rows}
 use Rattle.rule_meaning.specs.StoreModel.{StoreModel}
-use Rattle.query_steps.specs.declared.places.StepPlace.{StepPlace}
+use Rattle.query_steps.specs.declared.step_place.StepPlace.{StepPlace}
 
 -- the step of an index, where there is one
 abbrev pub see_place : StepPlace → Option Placed
 see_place p = placed_in (step_list (map see_step p.steps.now)) p.index
 
-abbrev pub IsStart : Option Placed → Type 0
-IsStart place = option_map_or (λ (at : Placed). at.first) place false ≡ true
+abbrev pub StartsAt : Option Placed → Type 0
+StartsAt place = option_map_or (λ (at : Placed). at.first) place false ≡ true
 
-abbrev pub IsFilter : Option Placed → Type 0
-IsFilter place = option_map_or (λ (at : Placed). is_filter at.step) place false ≡ true
+abbrev pub FiltersAt : Option Placed → Type 0
+FiltersAt place = option_map_or (λ (at : Placed). is_filter at.step) place false ≡ true
 
 -- what it gives, and the candidates of a filter
 abbrev pub rows_of_place : StoreModel → Option Placed → (current : Ref) → (before rows : List Row) → List Verdict → List Row

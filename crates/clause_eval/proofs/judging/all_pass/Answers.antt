@@ -15,10 +15,10 @@ pub row_passes-requires-clause-book : goal.row_passes-requires-clause-book
 row_passes-requires-clause-book c = rw c.loop-left.invariant.kept c.requires.book
 
 pub returns-then-not-branch : goal.returns-then-not-branch
-returns-then-not-branch c = all-but-one (passes (see_store c.args.store.now) c.args.op c.args.not c.args.rights.now) c.args.lefts.now c.loop-left.left-index (row.Found root_ref) (list_all (passes (see_store c.args.store.now) c.args.op c.args.not c.args.rights.now) c.args.lefts.now) c.in_ok-row_passes.field-0 c.loop-left-test.true c.in_ok-row_passes.ensures.answer c.if-not-branch.true c.loop-left.invariant.left
+returns-then-not-branch c = all-but-one (passes (see_store c.args.store.now) c.args.test.op c.args.test.not c.args.test.rights.now) c.args.lefts.now c.loop-left.left-index (row.Found root_ref) (list_all (passes (see_store c.args.store.now) c.args.test.op c.args.test.not c.args.test.rights.now) c.args.lefts.now) c.in_ok-row_passes.field-0 c.loop-left-test.true c.in_ok-row_passes.ensures.answer c.if-not-branch.true c.loop-left.invariant.left
 
 pub loop-left-preserved : goal.loop-left-preserved
 loop-left-preserved c = record {
   kept = c.row_passes.ensures.kept ∙ c.loop-left.invariant.kept;
-  left = all-further (passes (see_store c.args.store.now) c.args.op c.args.not c.args.rights.now) c.args.lefts.now c.loop-left.left-index (row.Found root_ref) (list_all (passes (see_store c.args.store.now) c.args.op c.args.not c.args.rights.now) c.args.lefts.now) c.in_ok-row_passes.field-0 c.loop-left-test.true c.in_ok-row_passes.ensures.answer c.if-not-branch.false c.loop-left.invariant.left;
+  left = all-further (passes (see_store c.args.store.now) c.args.test.op c.args.test.not c.args.test.rights.now) c.args.lefts.now c.loop-left.left-index (row.Found root_ref) (list_all (passes (see_store c.args.store.now) c.args.test.op c.args.test.not c.args.test.rights.now) c.args.lefts.now) c.in_ok-row_passes.field-0 c.loop-left-test.true c.in_ok-row_passes.ensures.answer c.if-not-branch.false c.loop-left.invariant.left;
 }

@@ -7,5 +7,5 @@ use Rattle.clause_eval.proofs.judging.all_pass.Given as goal
 abbrev pub invariant-loop-left : goal.invariant-loop-left
 invariant-loop-left l = record {
   kept : l.matchers.book.now ≡ l.initial.matchers.book.now;
-  left : list_all (passes (see_store l.store) l.op l.not l.rights) l.lefts ≡ list_all (passes (see_store l.store) l.op l.not l.rights) (drop l.left-index l.lefts);
+  left : list_all (passes (see_store l.store) l.test.op l.test.not l.test.rights.now) l.lefts ≡ list_all (passes (see_store l.store) l.test.op l.test.not l.test.rights.now) (drop l.left-index l.lefts);
 }

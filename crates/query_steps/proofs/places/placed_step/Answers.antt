@@ -24,7 +24,7 @@ returns-then-index-eq0-clause-rows c =
     given-so c.rows_of_step.result (flat_map (on_found (found_step k c.is_last-last.result input.further.now step)) (Found input.current ∷ []))
     (rows_of_place k (see_place place) input.current input.before.now input.further.now input.verdicts.now)
     (ap (λ (last : Bool). flat_map (on_found (found_step k last input.further.now step)) (Found input.current ∷ [])) c.is_last-last.ensures
-    ∙ rows-of-start k place.steps.now place.index c.index-steps-index.result c.requires.within c.index-steps-index.is
+    ∙ rows-of-start k place.steps.now place.index c.index-steps-index.result c.args.place.within c.index-steps-index.is
     input.current input.before.now input.further.now input.verdicts.now c.if-index-eq0.true c.requires.start c.requires.verdicts)
     c.rows_of_step.ensures.rows
 
@@ -34,7 +34,7 @@ kept_rows-requires-clause-verdicts c =
     let place = c.args.place in
     let input = c.args.input in
     c.requires.verdicts
-    ∙ ap length (candidates-of-filter k place.steps.now place.index c.index-steps-index.result c.requires.within c.index-steps-index.is
+    ∙ ap length (candidates-of-filter k place.steps.now place.index c.index-steps-index.result c.args.place.within c.index-steps-index.is
     input.before.now (sym c.is_filter.ensures ∙ c.if-is_filter.true)
     ∙ ap (λ (after_key : Bool). candidates_in k after_key input.before.now) (sym c.is_after_key-after_key.ensures))
 
@@ -46,7 +46,7 @@ returns-then-is_filter-clause-rows c =
     given-so c.kept_rows.result (filtered k c.is_after_key-after_key.result input.before.now input.verdicts.now)
     (rows_of_place k (see_place place) input.current input.before.now input.further.now input.verdicts.now)
     (ap (λ (after_key : Bool). filtered k after_key input.before.now input.verdicts.now) c.is_after_key-after_key.ensures
-    ∙ rows-of-filter k place.steps.now place.index c.index-steps-index.result c.requires.within c.index-steps-index.is
+    ∙ rows-of-filter k place.steps.now place.index c.index-steps-index.result c.args.place.within c.index-steps-index.is
     input.current input.before.now input.further.now input.verdicts.now c.if-index-eq0.false (sym c.is_filter.ensures ∙ c.if-is_filter.true))
     c.kept_rows.ensures.rows
 
@@ -59,11 +59,11 @@ returns-clause-rows c =
     given-so c.rows_of_step-2.result (flat_map (on_found (found_step k c.is_last-last.result input.further.now step)) input.before.now)
     (rows_of_place k (see_place place) input.current input.before.now input.further.now input.verdicts.now)
     (ap (λ (last : Bool). flat_map (on_found (found_step k last input.further.now step)) input.before.now) c.is_last-last.ensures
-    ∙ rows-of-other k place.steps.now place.index c.index-steps-index.result c.requires.within c.index-steps-index.is
+    ∙ rows-of-other k place.steps.now place.index c.index-steps-index.result c.args.place.within c.index-steps-index.is
     input.current input.before.now input.further.now input.verdicts.now c.if-index-eq0.false (sym c.is_filter.ensures ∙ c.if-is_filter.false))
     c.rows_of_step-2.ensures.rows
 
 pub returns-then-index-eq0-clause-no_memory : goal.returns-then-index-eq0-clause-no_memory
 returns-then-index-eq0-clause-no_memory c later none =
     let place = c.args.place in
-    absurd (later (start-there (see_store c.args.store.now) place.steps.now place.index c.index-steps-index.result c.requires.within c.index-steps-index.is c.if-index-eq0.true))
+    absurd (later (start-there (see_store c.args.store.now) place.steps.now place.index c.index-steps-index.result c.args.place.within c.index-steps-index.is c.if-index-eq0.true))

@@ -1,5 +1,4 @@
-use Rattle.std.proofs.lemmas.Grind.{common_steps}
-use Rattle.std.proofs.Common.{[], arith}
+use Rattle.std.proofs.Common.{[]}
 use Rattle.rule_meaning.specs.Kinds.{has_type}
 use Rattle.value_compare.specs.code.Stores.{see_store}
 use Rattle.query_steps.proofs.LoopRows.{kept-more}

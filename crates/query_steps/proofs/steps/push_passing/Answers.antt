@@ -24,8 +24,8 @@ loop-entry-preserved c =
     let k = see_store c.args.store.now in
     record {
       kept = c.row_passes.ensures.kept ∙ c.loop-entry.invariant.kept;
-      added = kept-more (λ (r : Ref). passes k c.args.op c.args.not c.args.rights.now (Found (key_of r))) c.args.entries.now c.loop-entry.entry-index _ c.args.into.now.items c.loop-entry.into.items c.push_if.new.into.items
-          c.in_ok-passes.passes c.loop-entry-test.true (c.in_ok-passes.ensures.answer ∙ ap (λ (r : Ref). passes k c.args.op c.args.not c.args.rights.now (Found r)) c.key_of.ensures) c.loop-entry.invariant.added c.in_ok-push_if.ensures;
+      added = kept-more (λ (r : Ref). passes k c.args.test.op c.args.test.not c.args.test.rights.now (Found (key_of r))) c.args.entries.now c.loop-entry.entry-index _ c.args.into.now.items c.loop-entry.into.items c.push_if.new.into.items
+          c.in_ok-passes.passes c.loop-entry-test.true (c.in_ok-passes.ensures.answer ∙ ap (λ (r : Ref). passes k c.args.test.op c.args.test.not c.args.test.rights.now (Found r)) c.key_of.ensures) c.loop-entry.invariant.added c.in_ok-push_if.ensures;
     }
 
 pub returns : goal.returns

@@ -9,5 +9,5 @@ use Rattle.query_steps.proofs.steps.push_passing.Given as goal
 abbrev pub invariant-loop-entry : goal.invariant-loop-entry
 invariant-loop-entry l = record {
   kept : l.matchers.book.now ≡ l.initial.matchers.book.now;
-  added : l.into.items ≡ l.initial.into.items ++ map Found (filter (λ (r : Ref). passes (see_store l.store) l.op l.not l.rights (Found (key_of r))) (take l.entry-index l.entries));
+  added : l.into.items ≡ l.initial.into.items ++ map Found (filter (λ (r : Ref). passes (see_store l.store) l.test.op l.test.not l.test.rights.now (Found (key_of r))) (take l.entry-index l.entries));
 }

@@ -12,7 +12,7 @@ use Rattle.query_steps.proofs.steps.rows_of_step.Goals as goal
 
 pub loop-row-preserved : goal.loop-row-preserved
 loop-row-preserved c =
-    given-more (on_found (found_step (see_store c.args.store.now) c.args.last c.args.rows.now (see_step c.args.step.now))) c.args.before.now c.loop-row.row-index _ c.loop-row.given.items c.push_row.new.into.items
+    given-more (on_found (found_step (see_store c.args.context.store.now) c.args.ready.last c.args.ready.further.now (see_step c.args.ready.step.now))) c.args.before.now c.loop-row.row-index _ c.loop-row.given.items c.push_row.new.into.items
     c.loop-row-test.true c.loop-row.invariant c.in_ok-push_row.ensures
 
 pub returns-in_err-push_row-clause-no_memory : goal.returns-in_err-push_row-clause-no_memory
@@ -23,11 +23,11 @@ returns-in_err-reserve-clause-no_memory c = λ none. absurd (omega (arith, ap le
 
 pub returns-clause-known : goal.returns-clause-known
 returns-clause-known c =
-    let k = see_store c.args.store.now in
-    let step = see_step c.args.step.now in
-    let given = on_found (found_step k c.args.last c.args.rows.now step) in
+    let k = see_store c.args.context.store.now in
+    let step = see_step c.args.ready.step.now in
+    let given = on_found (found_step k c.args.ready.last c.args.ready.further.now step) in
     ap (list_all (is_known k)) (c.loop-row.invariant ∙ ap (flat_map given) (take_all c.loop-row.row-index c.args.before.now c.loop-row-test.false))
-    ∙ rows-known k c.args.last c.args.rows.now c.requires.rows step c.args.before.now c.requires.before
+    ∙ rows-known k c.args.ready.last c.args.ready.further.now c.requires.further step c.args.before.now c.requires.before
 
 pub returns-clause-rows : goal.returns-clause-rows
 returns-clause-rows c = grind (arith, common_steps)

@@ -6,4 +6,4 @@ use Rattle.rule_meaning.specs.Steps.{found_step, on_found}
 use Rattle.query_steps.proofs.steps.rows_of_step.Given as goal
 
 abbrev pub invariant-loop-row : goal.invariant-loop-row
-invariant-loop-row l = l.given.items ≡ flat_map (on_found (found_step (see_store l.store) l.last l.rows (see_step l.step))) (take l.row-index l.before)
+invariant-loop-row l = l.given.items ≡ flat_map (on_found (found_step (see_store l.context.store.now) l.ready.last l.ready.further.now (see_step l.ready.step.now))) (take l.row-index l.before)

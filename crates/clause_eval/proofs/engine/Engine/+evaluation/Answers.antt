@@ -9,7 +9,6 @@ use Rattle.evidence_lines.specs.declared.line.LineKind.TheVariants as kind
 use Rattle.guard_syntax.specs.Syntax.{asked, found, function, literal, Part, block, call, guarded, kinds, refer}
 use Rattle.guard_syntax.specs.code.Seen.{expr_list, see_conds, see_expr, see_query, disj_list, see_body, see_disj, see_opt_conds, see_opt_expr, see_part}
 use Rattle.guard_syntax.specs.declared.syntax.Query.{out-Query}
-use Rattle.guard_syntax.specs.declared.syntax.Step.{Step}
 use Rattle.rule_names.specs.declared.bind.Bind.{Bind}
 use Rattle.rule_names.specs.EnclosingScopes.{home_of}
 use Rattle.rule_names.specs.Pieces.{OfExpr, OfStep, piece_at, OfPart}
@@ -20,7 +19,7 @@ use Rattle.rule_names.specs.code.Seen.{see_piece}
 use Rattle.rule_meaning.specs.Places.{Placed, candidates_at}
 use Rattle.rule_meaning.specs.Roots.{root_ref}
 use Rattle.rule_meaning.specs.StoreModel.{is_known, is_known_ref}
-use Rattle.query_steps.specs.code.Placed.{IsFilter, candidates_of_place, see_place}
+use Rattle.query_steps.specs.code.Placed.{FiltersAt, candidates_of_place, see_place}
 use Rattle.scope_frames.specs.code.Cells.{cell_of}
 use Rattle.scope_frames.specs.code.Frames.{AreEntered, StandsFor}
 use Rattle.scope_frames.specs.code.Scoping.{IsValue}
@@ -332,25 +331,25 @@ steps-overflow_add-index-end t c =
 
 pub filter-rows_said-requires : goal.filter-rows_said-requires
 filter-rows_said-requires t c =
-    let it = tried-says (see_engine c.args.self.now) c.requires.whole c.args.frame c.args.step.site c.args.before (see_conds c.args.conds.now) c.requires.stands c.requires.before in
+    let it = tried-says (see_engine c.args.self.now) c.requires.whole c.args.step.frame c.args.step.site c.args.before (see_conds c.args.conds.now) c.requires.stands c.requires.before in
     (it.0, it.1, it.2, c.requires.before.0, it.3)
 
 pub filter-placed_candidates-requires-clause-filter : goal.filter-placed_candidates-requires-clause-filter
 filter-placed_candidates-requires-clause-filter t c =
-    subst IsFilter c.requires.place
-    (filter-at (see_engine c.args.self.now) c.requires.whole c.args.frame c.args.step.site c.args.before (see_conds c.args.conds.now) c.requires.stands c.requires.before)
+    subst FiltersAt c.requires.place
+    (filter-at (see_engine c.args.self.now) c.requires.whole c.args.step.frame c.args.step.site c.args.before (see_conds c.args.conds.now) c.requires.stands c.requires.before)
 
 pub filter-placed_candidates-requires-clause-known : goal.filter-placed_candidates-requires-clause-known
 filter-placed_candidates-requires-clause-known t c =
     let s = see_engine c.args.self.now in
-    let it = tried-says s c.requires.whole c.args.frame c.args.step.site c.args.before (see_conds c.args.conds.now) c.requires.stands c.requires.before in
+    let it = tried-says s c.requires.whole c.args.step.frame c.args.step.site c.args.before (see_conds c.args.conds.now) c.requires.stands c.requires.before in
     ap (list_all (is_known s.known)) (c.as_slice.ensures ∙ c.in_ok-said.ensures ∙ c.rows_said.ensures it.0 it.1 it.2 c.requires.before.0 it.3)
-    ∙ tried-known s c.requires.whole c.args.frame c.args.step.site c.args.before (see_conds c.args.conds.now) c.requires.stands c.requires.before
+    ∙ tried-known s c.requires.whole c.args.step.frame c.args.step.site c.args.before (see_conds c.args.conds.now) c.requires.stands c.requires.before
 
 pub filter-judge_candidates-requires : goal.filter-judge_candidates-requires
 filter-judge_candidates-requires t c =
     let s = see_engine c.args.self.now in (
-      rank-on s s c.args.frame c.args.frame c.args.step.site c.args.step.site 1 0 t c.decreases (omega arith) (omega arith),
+      rank-on s s c.args.step.frame c.args.step.frame c.args.step.site c.args.step.site 1 0 t c.decreases (omega arith) (omega arith),
       (c.requires.whole, (c.requires.stands, ap (list_all (is_known_ref s.known)) c.deref.ensures.value ∙ c.in_ok-tried.ensures.known)),
     )
 
@@ -360,8 +359,8 @@ filter-add_filter-requires-clause-whole t c = c.in_ok-judged.ensures.0.whole
 pub filter-add_filter-requires-clause-judged : goal.filter-add_filter-requires-clause-judged
 filter-add_filter-requires-clause-judged t c =
     let s = see_engine c.args.self.now in
-    let it = tried-says s c.requires.whole c.args.frame c.args.step.site c.args.before (see_conds c.args.conds.now) c.requires.stands c.requires.before in
-    filter-judged s c.requires.whole c.args.frame c.args.step.site c.args.before (see_conds c.args.conds.now) c.requires.stands c.requires.before (see_engine c.judge_candidates.new.self)
+    let it = tried-says s c.requires.whole c.args.step.frame c.args.step.site c.args.before (see_conds c.args.conds.now) c.requires.stands c.requires.before in
+    filter-judged s c.requires.whole c.args.step.frame c.args.step.site c.args.before (see_conds c.args.conds.now) c.requires.stands c.requires.before (see_engine c.judge_candidates.new.self)
     c.deref.result.now
     (c.deref.ensures.value ∙ c.in_ok-tried.ensures.candidates ∙ ap (λ (o : Option Placed). candidates_of_place s.known o c.as_slice.result.now) (sym c.requires.place) ∙ ap (candidates_at s.known c.args.step.site) (c.as_slice.ensures ∙ c.in_ok-said.ensures ∙ c.rows_said.ensures it.0 it.1 it.2 c.requires.before.0 it.3))
     c.in_ok-judged.judged.lines.items c.in_ok-judged.judged.verdicts.items c.in_ok-judged.ensures
@@ -369,8 +368,8 @@ filter-add_filter-requires-clause-judged t c =
 pub filter-add_filter-requires-clause-new : goal.filter-add_filter-requires-clause-new
 filter-add_filter-requires-clause-new t c =
     let s = see_engine c.args.self.now in
-    let it = tried-says s c.requires.whole c.args.frame c.args.step.site c.args.before (see_conds c.args.conds.now) c.requires.stands c.requires.before in
-    filter-absent s c.requires.whole c.args.frame c.args.step.site c.args.before (see_conds c.args.conds.now) c.requires.stands c.requires.before (see_engine c.judge_candidates.new.self)
+    let it = tried-says s c.requires.whole c.args.step.frame c.args.step.site c.args.before (see_conds c.args.conds.now) c.requires.stands c.requires.before in
+    filter-absent s c.requires.whole c.args.step.frame c.args.step.site c.args.before (see_conds c.args.conds.now) c.requires.stands c.requires.before (see_engine c.judge_candidates.new.self)
     c.deref.result.now
     (c.deref.ensures.value ∙ c.in_ok-tried.ensures.candidates ∙ ap (λ (o : Option Placed). candidates_of_place s.known o c.as_slice.result.now) (sym c.requires.place) ∙ ap (candidates_at s.known c.args.step.site) (c.as_slice.ensures ∙ c.in_ok-said.ensures ∙ c.rows_said.ensures it.0 it.1 it.2 c.requires.before.0 it.3))
     c.in_ok-judged.judged.lines.items c.in_ok-judged.judged.verdicts.items c.in_ok-judged.ensures c.requires.new
@@ -378,8 +377,8 @@ filter-add_filter-requires-clause-new t c =
 pub filter-add_filter-requires-clause-place : goal.filter-add_filter-requires-clause-place
 filter-add_filter-requires-clause-place t c =
     let s = see_engine c.args.self.now in
-    let it = tried-says s c.requires.whole c.args.frame c.args.step.site c.args.before (see_conds c.args.conds.now) c.requires.stands c.requires.before in
-    filter-place s c.requires.whole c.args.frame c.args.step.site c.args.before (see_conds c.args.conds.now) c.requires.stands c.requires.before (see_engine c.judge_candidates.new.self)
+    let it = tried-says s c.requires.whole c.args.step.frame c.args.step.site c.args.before (see_conds c.args.conds.now) c.requires.stands c.requires.before in
+    filter-place s c.requires.whole c.args.step.frame c.args.step.site c.args.before (see_conds c.args.conds.now) c.requires.stands c.requires.before (see_engine c.judge_candidates.new.self)
     c.deref.result.now
     (c.deref.ensures.value ∙ c.in_ok-tried.ensures.candidates ∙ ap (λ (o : Option Placed). candidates_of_place s.known o c.as_slice.result.now) (sym c.requires.place) ∙ ap (candidates_at s.known c.args.step.site) (c.as_slice.ensures ∙ c.in_ok-said.ensures ∙ c.rows_said.ensures it.0 it.1 it.2 c.requires.before.0 it.3))
     c.in_ok-judged.judged.lines.items c.in_ok-judged.judged.verdicts.items c.in_ok-judged.ensures (see_place c.args.step.place) c.requires.place
@@ -387,9 +386,9 @@ filter-add_filter-requires-clause-place t c =
 pub filter-returns : goal.filter-returns
 filter-returns t c =
     let s = see_engine c.args.self.now in
-    let it = tried-says s c.requires.whole c.args.frame c.args.step.site c.args.before (see_conds c.args.conds.now) c.requires.stands c.requires.before in
+    let it = tried-says s c.requires.whole c.args.step.frame c.args.step.site c.args.before (see_conds c.args.conds.now) c.requires.stands c.requires.before in
     IfOk-weaker c.add_filter.result _ _ (λ number added.
-    filtered-answer s c.requires.whole c.args.frame c.args.step.site c.args.before (see_conds c.args.conds.now) c.requires.stands c.requires.before (see_engine c.judge_candidates.new.self)
+    filtered-answer s c.requires.whole c.args.step.frame c.args.step.site c.args.before (see_conds c.args.conds.now) c.requires.stands c.requires.before (see_engine c.judge_candidates.new.self)
     c.deref.result.now
     (c.deref.ensures.value ∙ c.in_ok-tried.ensures.candidates ∙ ap (λ (o : Option Placed). candidates_of_place s.known o c.as_slice.result.now) (sym c.requires.place) ∙ ap (candidates_at s.known c.args.step.site) (c.as_slice.ensures ∙ c.in_ok-said.ensures ∙ c.rows_said.ensures it.0 it.1 it.2 c.requires.before.0 it.3))
     c.in_ok-judged.judged.lines.items c.in_ok-judged.judged.verdicts.items c.in_ok-judged.ensures (see_engine c.add_filter.new.self) number added.0 added.1) c.add_filter.ensures
@@ -519,10 +518,7 @@ step-filter-requires t c =
             own-absent s c.requires.whole c.args.frame q i c.requires.stands st is c.requires.new,
             (
               filter-before s c.requires.whole c.args.frame q i c.requires.stands st is c.in-Filter.field-0 c.in-Filter.conds c.in-Filter.is c.in-Some.before given,
-              (
-                subst (λ (ss : List Step). i < length ss) (sym c.as_slice-steps.ensures.value) c.requires.index,
-                own-place s c.requires.whole c.args.frame q i c.requires.stands st is c.as_slice-steps.result.now c.as_slice-steps.ensures.value,
-              ),
+              own-place s c.requires.whole c.args.frame q i c.requires.stands st is c.as_slice-steps.result.now c.as_slice-steps.ensures.value,
             ),
           ),
         ),
@@ -601,9 +597,6 @@ step-add_step-requires-clause-new t c =
     (Some further) c.requires.before kind.Keys
     (keys-kind s c.requires.whole c.args.frame q i c.requires.stands st is order c.in-Keys.capture c.in-Keys.op c.in-Keys.not c.in-Keys.right c.in-Keys.is) c.requires.new
 
-pub step-add_step-requires-clause-within : goal.step-add_step-requires-clause-within
-step-add_step-requires-clause-within t c = subst (λ (ss : List Step). c.args.index < length ss) (sym c.as_slice-steps.ensures.value) c.requires.index
-
 pub step-add_step-requires-clause-place : goal.step-add_step-requires-clause-place
 step-add_step-requires-clause-place t c =
     let s = see_engine c.args.self.now in
@@ -672,9 +665,6 @@ step-add_step-requires-in-Var-clause-new t c =
     step-absent s c.requires.whole c.args.frame q i c.requires.stands st is b (height_at s.known.file s.frames c.args.frame st.site) (further ∷ []) it.evaluates (omega arith) c.args.before
     (Some further) c.requires.before kind.Step (var-kind s c.requires.whole c.args.frame q i c.requires.stands st is c.in-Var.field-0 c.in-Var.is) c.requires.new
 
-pub step-add_step-requires-in-Var-clause-within : goal.step-add_step-requires-in-Var-clause-within
-step-add_step-requires-in-Var-clause-within t c = subst (λ (ss : List Step). c.args.index < length ss) (sym c.as_slice-steps.ensures.value) c.requires.index
-
 pub step-add_step-requires-in-Var-clause-place : goal.step-add_step-requires-in-Var-clause-place
 step-add_step-requires-in-Var-clause-place t c =
     let s = see_engine c.args.self.now in
@@ -740,9 +730,6 @@ step-add_step-requires-in-Splice-clause-new t c =
     step-absent s c.requires.whole c.args.frame q i c.requires.stands st is b (height_at s.known.file s.frames c.args.frame st.site) (further ∷ []) it.evaluates (omega arith) c.args.before
     (Some further) c.requires.before kind.Step (splice-kind s c.requires.whole c.args.frame q i c.requires.stands st is c.in-Splice.field-0 c.in-Splice.is) c.requires.new
 
-pub step-add_step-requires-in-Splice-clause-within : goal.step-add_step-requires-in-Splice-clause-within
-step-add_step-requires-in-Splice-clause-within t c = subst (λ (ss : List Step). c.args.index < length ss) (sym c.as_slice-steps.ensures.value) c.requires.index
-
 pub step-add_step-requires-in-Splice-clause-place : goal.step-add_step-requires-in-Splice-clause-place
 step-add_step-requires-in-Splice-clause-place t c =
     let s = see_engine c.args.self.now in
@@ -790,9 +777,6 @@ step-add_step-requires-in_default-clause-new t c =
     let st = c.index-step.result.now in
     let is = step-of q (out-Query q).steps.items i st refl c.requires.index c.index-step.ensures in
     own-absent s c.requires.whole c.args.frame q i c.requires.stands st is c.requires.new
-
-pub step-add_step-requires-in_default-clause-within : goal.step-add_step-requires-in_default-clause-within
-step-add_step-requires-in_default-clause-within t c = subst (λ (ss : List Step). c.args.index < length ss) (sym c.as_slice-steps.ensures.value) c.requires.index
 
 pub step-add_step-requires-in_default-clause-place : goal.step-add_step-requires-in_default-clause-place
 step-add_step-requires-in_default-clause-place t c =
@@ -1525,36 +1509,36 @@ guarded-returns t c =
 
 pub block-query-requires : goal.block-query-requires
 block-query-requires t c =
-    block-asks (see_engine c.args.self.now) c.requires.whole c.args.self.now.store.file.now.sites c.args.frame c.args.site c.args.any (see_query c.args.head.now) (see_body c.args.body.now) c.requires.stands 0 4 t c.decreases (omega arith)
+    block-asks (see_engine c.args.self.now) c.requires.whole c.args.self.now.store.file.now.sites c.args.frame c.args.head.site c.args.head.any (see_query c.args.head.query.now) (see_body c.args.body.now) c.requires.stands 0 4 t c.decreases (omega arith)
 
 pub block-rows_said-requires : goal.block-rows_said-requires
 block-rows_said-requires t c =
-    query-said (see_engine c.args.self.now) (see_engine c.query.new.self) c.args.frame (see_query c.args.head.now) c.in_ok-line.line c.in_ok-line.ensures
+    query-said (see_engine c.args.self.now) (see_engine c.query.new.self) c.args.frame (see_query c.args.head.query.now) c.in_ok-line.line c.in_ok-line.ensures
 
 pub block-bodies-requires : goal.block-bodies-requires
 block-bodies-requires t c =
-    block-body (see_engine c.args.self.now) (see_engine c.query.new.self) c.requires.whole c.args.self.now.store.file.now.sites c.args.frame c.args.site c.args.any (see_query c.args.head.now) (see_body c.args.body.now) c.requires.stands c.in_ok-line.line c.in_ok-line.ensures c.deref.result.now (c.deref.ensures.value ∙ (c.in_ok-rows.ensures ∙ query-told (see_engine c.args.self.now) (see_engine c.query.new.self) c.args.frame (see_query c.args.head.now) c.in_ok-line.line c.in_ok-line.ensures c.rows_said.result c.rows_said.ensures)) 0 5 t c.decreases (omega arith)
+    block-body (see_engine c.args.self.now) (see_engine c.query.new.self) c.requires.whole c.args.self.now.store.file.now.sites c.args.frame c.args.head.site c.args.head.any (see_query c.args.head.query.now) (see_body c.args.body.now) c.requires.stands c.in_ok-line.line c.in_ok-line.ensures c.deref.result.now (c.deref.ensures.value ∙ (c.in_ok-rows.ensures ∙ query-told (see_engine c.args.self.now) (see_engine c.query.new.self) c.args.frame (see_query c.args.head.query.now) c.in_ok-line.line c.in_ok-line.ensures c.rows_said.result c.rows_said.ensures)) 0 5 t c.decreases (omega arith)
 
 pub block-add_verdict-requires-clause-whole : goal.block-add_verdict-requires-clause-whole
 block-add_verdict-requires-clause-whole t c =
-    block-whole (see_engine c.args.self.now) (see_engine c.query.new.self) c.requires.whole c.args.self.now.store.file.now.sites c.args.frame c.args.site c.args.any (see_query c.args.head.now) (see_body c.args.body.now) c.requires.stands c.in_ok-line.line c.in_ok-line.ensures c.deref.result.now (c.deref.ensures.value ∙ (c.in_ok-rows.ensures ∙ query-told (see_engine c.args.self.now) (see_engine c.query.new.self) c.args.frame (see_query c.args.head.now) c.in_ok-line.line c.in_ok-line.ensures c.rows_said.result c.rows_said.ensures)) (see_engine c.bodies.new.self) c.in_ok-cited.cited.lines.items c.in_ok-cited.cited.verdict c.in_ok-cited.ensures
+    block-whole (see_engine c.args.self.now) (see_engine c.query.new.self) c.requires.whole c.args.self.now.store.file.now.sites c.args.frame c.args.head.site c.args.head.any (see_query c.args.head.query.now) (see_body c.args.body.now) c.requires.stands c.in_ok-line.line c.in_ok-line.ensures c.deref.result.now (c.deref.ensures.value ∙ (c.in_ok-rows.ensures ∙ query-told (see_engine c.args.self.now) (see_engine c.query.new.self) c.args.frame (see_query c.args.head.query.now) c.in_ok-line.line c.in_ok-line.ensures c.rows_said.result c.rows_said.ensures)) (see_engine c.bodies.new.self) c.in_ok-cited.cited.lines.items c.in_ok-cited.cited.verdict c.in_ok-cited.ensures
 
 pub block-add_verdict-requires-clause-kind : goal.block-add_verdict-requires-clause-kind
 block-add_verdict-requires-clause-kind t c =
-    block-kind (see_engine c.args.self.now) (see_engine c.query.new.self) c.requires.whole c.args.self.now.store.file.now.sites c.args.frame c.args.site c.args.any (see_query c.args.head.now) (see_body c.args.body.now) c.requires.stands c.in_ok-line.line c.in_ok-line.ensures c.deref.result.now (c.deref.ensures.value ∙ (c.in_ok-rows.ensures ∙ query-told (see_engine c.args.self.now) (see_engine c.query.new.self) c.args.frame (see_query c.args.head.now) c.in_ok-line.line c.in_ok-line.ensures c.rows_said.result c.rows_said.ensures)) (see_engine c.bodies.new.self) c.in_ok-cited.cited.lines.items c.in_ok-cited.cited.verdict c.in_ok-cited.ensures
+    block-kind (see_engine c.args.self.now) (see_engine c.query.new.self) c.requires.whole c.args.self.now.store.file.now.sites c.args.frame c.args.head.site c.args.head.any (see_query c.args.head.query.now) (see_body c.args.body.now) c.requires.stands c.in_ok-line.line c.in_ok-line.ensures c.deref.result.now (c.deref.ensures.value ∙ (c.in_ok-rows.ensures ∙ query-told (see_engine c.args.self.now) (see_engine c.query.new.self) c.args.frame (see_query c.args.head.query.now) c.in_ok-line.line c.in_ok-line.ensures c.rows_said.result c.rows_said.ensures)) (see_engine c.bodies.new.self) c.in_ok-cited.cited.lines.items c.in_ok-cited.cited.verdict c.in_ok-cited.ensures
 
 pub block-add_verdict-requires-clause-adds : goal.block-add_verdict-requires-clause-adds
 block-add_verdict-requires-clause-adds t c =
-    block-adds (see_engine c.args.self.now) (see_engine c.query.new.self) c.requires.whole c.args.self.now.store.file.now.sites c.args.frame c.args.site c.args.any (see_query c.args.head.now) (see_body c.args.body.now) c.requires.stands c.in_ok-line.line c.in_ok-line.ensures c.deref.result.now (c.deref.ensures.value ∙ (c.in_ok-rows.ensures ∙ query-told (see_engine c.args.self.now) (see_engine c.query.new.self) c.args.frame (see_query c.args.head.now) c.in_ok-line.line c.in_ok-line.ensures c.rows_said.result c.rows_said.ensures)) (see_engine c.bodies.new.self) c.in_ok-cited.cited.lines.items c.in_ok-cited.cited.verdict c.in_ok-cited.ensures c.append.new.self.items
+    block-adds (see_engine c.args.self.now) (see_engine c.query.new.self) c.requires.whole c.args.self.now.store.file.now.sites c.args.frame c.args.head.site c.args.head.any (see_query c.args.head.query.now) (see_body c.args.body.now) c.requires.stands c.in_ok-line.line c.in_ok-line.ensures c.deref.result.now (c.deref.ensures.value ∙ (c.in_ok-rows.ensures ∙ query-told (see_engine c.args.self.now) (see_engine c.query.new.self) c.args.frame (see_query c.args.head.query.now) c.in_ok-line.line c.in_ok-line.ensures c.rows_said.result c.rows_said.ensures)) (see_engine c.bodies.new.self) c.in_ok-cited.cited.lines.items c.in_ok-cited.cited.verdict c.in_ok-cited.ensures c.append.new.self.items
     (c.in_ok-append.ensures.items ∙ ap (λ (ns : List ℕ). ns ++ c.in_ok-cited.cited.lines.items) (c.in_ok-push.ensures.items ∙ ap (λ (ns : List ℕ). ns ++ c.in_ok-line.line ∷ []) c.new-lines.ensures.items))
 
 pub block-add_verdict-requires-clause-new : goal.block-add_verdict-requires-clause-new
 block-add_verdict-requires-clause-new t c =
-    block-new (see_engine c.args.self.now) (see_engine c.query.new.self) c.requires.whole c.args.self.now.store.file.now.sites c.args.frame c.args.site c.args.any (see_query c.args.head.now) (see_body c.args.body.now) c.requires.stands c.in_ok-line.line c.in_ok-line.ensures c.deref.result.now (c.deref.ensures.value ∙ (c.in_ok-rows.ensures ∙ query-told (see_engine c.args.self.now) (see_engine c.query.new.self) c.args.frame (see_query c.args.head.now) c.in_ok-line.line c.in_ok-line.ensures c.rows_said.result c.rows_said.ensures)) (see_engine c.bodies.new.self) c.in_ok-cited.cited.lines.items c.in_ok-cited.cited.verdict c.in_ok-cited.ensures c.requires.new
+    block-new (see_engine c.args.self.now) (see_engine c.query.new.self) c.requires.whole c.args.self.now.store.file.now.sites c.args.frame c.args.head.site c.args.head.any (see_query c.args.head.query.now) (see_body c.args.body.now) c.requires.stands c.in_ok-line.line c.in_ok-line.ensures c.deref.result.now (c.deref.ensures.value ∙ (c.in_ok-rows.ensures ∙ query-told (see_engine c.args.self.now) (see_engine c.query.new.self) c.args.frame (see_query c.args.head.query.now) c.in_ok-line.line c.in_ok-line.ensures c.rows_said.result c.rows_said.ensures)) (see_engine c.bodies.new.self) c.in_ok-cited.cited.lines.items c.in_ok-cited.cited.verdict c.in_ok-cited.ensures c.requires.new
 
 pub block-returns : goal.block-returns
 block-returns t c =
-    IfOk-weaker c.add_verdict.result _ _ (λ said added. block-answer (see_engine c.args.self.now) (see_engine c.query.new.self) c.requires.whole c.args.self.now.store.file.now.sites c.args.frame c.args.site c.args.any (see_query c.args.head.now) (see_body c.args.body.now) c.requires.stands c.in_ok-line.line c.in_ok-line.ensures c.deref.result.now (c.deref.ensures.value ∙ (c.in_ok-rows.ensures ∙ query-told (see_engine c.args.self.now) (see_engine c.query.new.self) c.args.frame (see_query c.args.head.now) c.in_ok-line.line c.in_ok-line.ensures c.rows_said.result c.rows_said.ensures)) (see_engine c.bodies.new.self) c.in_ok-cited.cited.lines.items c.in_ok-cited.cited.verdict c.in_ok-cited.ensures (see_engine c.add_verdict.new.self) c.append.new.self.items said.line said.verdict (c.in_ok-append.ensures.items ∙ ap (λ (ns : List ℕ). ns ++ c.in_ok-cited.cited.lines.items) (c.in_ok-push.ensures.items ∙ ap (λ (ns : List ℕ). ns ++ c.in_ok-line.line ∷ []) c.new-lines.ensures.items)) added) c.add_verdict.ensures
+    IfOk-weaker c.add_verdict.result _ _ (λ said added. block-answer (see_engine c.args.self.now) (see_engine c.query.new.self) c.requires.whole c.args.self.now.store.file.now.sites c.args.frame c.args.head.site c.args.head.any (see_query c.args.head.query.now) (see_body c.args.body.now) c.requires.stands c.in_ok-line.line c.in_ok-line.ensures c.deref.result.now (c.deref.ensures.value ∙ (c.in_ok-rows.ensures ∙ query-told (see_engine c.args.self.now) (see_engine c.query.new.self) c.args.frame (see_query c.args.head.query.now) c.in_ok-line.line c.in_ok-line.ensures c.rows_said.result c.rows_said.ensures)) (see_engine c.bodies.new.self) c.in_ok-cited.cited.lines.items c.in_ok-cited.cited.verdict c.in_ok-cited.ensures (see_engine c.add_verdict.new.self) c.append.new.self.items said.line said.verdict (c.in_ok-append.ensures.items ∙ ap (λ (ns : List ℕ). ns ++ c.in_ok-cited.cited.lines.items) (c.in_ok-push.ensures.items ∙ ap (λ (ns : List ℕ). ns ++ c.in_ok-line.line ∷ []) c.new-lines.ensures.items)) added) c.add_verdict.ensures
 
 pub kinds-typed-requires : goal.kinds-typed-requires
 kinds-typed-requires t c =

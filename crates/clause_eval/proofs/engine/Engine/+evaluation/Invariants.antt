@@ -44,7 +44,7 @@ abbrev pub decreases-step : goal.decreases-step
 decreases-step l = rank_in (see_engine l.self.now) l.frame (step_place (see_query l.query.now) l.index) 2
 
 abbrev pub decreases-filter : goal.decreases-filter
-decreases-filter l = rank_in (see_engine l.self.now) l.frame l.step.site 1
+decreases-filter l = rank_in (see_engine l.self.now) l.step.frame l.step.site 1
 
 abbrev pub decreases-judge_candidates : goal.decreases-judge_candidates
 decreases-judge_candidates l = rank_in (see_engine l.self.now) l.frame l.site 0
@@ -95,7 +95,7 @@ abbrev pub decreases-guarded : goal.decreases-guarded
 decreases-guarded l = rank_in (see_engine l.self.now) l.frame l.site 0
 
 abbrev pub decreases-block : goal.decreases-block
-decreases-block l = rank_in (see_engine l.self.now) l.frame l.site 0
+decreases-block l = rank_in (see_engine l.self.now) l.frame l.head.site 0
 
 abbrev pub decreases-kinds : goal.decreases-kinds
 decreases-kinds l = rank_in (see_engine l.self.now) l.frame l.site 1

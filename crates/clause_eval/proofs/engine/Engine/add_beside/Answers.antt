@@ -5,24 +5,22 @@ use Rattle.clause_eval.specs.code.Adding.{line_for}
 use Rattle.clause_eval.specs.code.Beside.{beside_in}
 use Rattle.clause_eval.specs.code.Engines.{lines_in, part_in, see_engine}
 use Rattle.clause_eval.specs.contracts.place.PlacePartialEq.TheImpl.{eq-value}
-use Rattle.clause_eval.specs.declared.place.Place.{Place}
 use Rattle.clause_eval.proofs.AddedLines.{is-beside-added}
 use Rattle.clause_eval.proofs.BesideTables.{beside-none, inserted}
 use Rattle.clause_eval.proofs.engine.Engine.add_beside.Goals as goal
 
 pub line_in-line-requires : goal.line_in-line-requires
-line_in-line-requires c = slice_get_within c.args.self.now.framed.items c.args.frame c.requires.adds.at c.requires.adds.framed
+line_in-line-requires c = slice_get_within c.args.self.now.framed.items c.args.place.frame c.requires.adds.at c.requires.adds.framed
 
 pub returns : goal.returns
 returns c =
     let s = see_engine c.args.self.now in
-    let place : Place = record { frame = c.args.frame; site = c.args.site } in
-    let none : beside_in c.add_line.new.self.beside.entries c.args.frame c.args.site ≡ None = ap (λ m. beside_in m.entries c.args.frame c.args.site) c.add_line.ensures.beside ∙ c.requires.new in
-    let more = c.in_ok-insert.ensures.entries ∙ insert_entry-new eq-value.it c.add_line.new.self.beside place c.in_ok-number.number (beside-none c.args.frame c.args.site c.add_line.new.self.beside.entries none) in
-    let given = inserted c.args.frame c.args.site c.in_ok-number.number c.add_line.new.self.beside.entries c.insert.new.self.entries none more in
-    is-beside-added s c.requires.whole c.args.frame c.args.site c.args.kind c.args.cites.items c.args.outcome c.requires.adds _ c.in_ok-number.number c.requires.kind c.requires.new
+    let none : beside_in c.add_line.new.self.beside.entries c.args.place.frame c.args.place.site ≡ None = ap (λ m. beside_in m.entries c.args.place.frame c.args.place.site) c.add_line.ensures.beside ∙ c.requires.new in
+    let more = c.in_ok-insert.ensures.entries ∙ insert_entry-new eq-value.it c.add_line.new.self.beside c.args.place c.in_ok-number.number (beside-none c.args.place.frame c.args.place.site c.add_line.new.self.beside.entries none) in
+    let given = inserted c.args.place.frame c.args.place.site c.in_ok-number.number c.add_line.new.self.beside.entries c.insert.new.self.entries none more in
+    is-beside-added s c.requires.whole c.args.place.frame c.args.place.site c.args.kind c.args.cites.items c.args.outcome c.requires.adds _ c.in_ok-number.number c.requires.kind c.requires.new
     c.add_line.ensures.store c.add_line.ensures.frames
-    (c.in_ok-number.ensures.added.0 ∙ ap (λ l. c.args.self.now.evidence.lines ++ l ∷ []) (c.line_in-line.ensures c.requires.adds.at c.requires.adds.framed ∙ ap (λ cs. line_for c.requires.adds.at c.args.site c.args.kind cs c.args.outcome) c.deref.ensures.value))
+    (c.in_ok-number.ensures.added.0 ∙ ap (λ l. c.args.self.now.evidence.lines ++ l ∷ []) (c.line_in-line.ensures c.requires.adds.at c.requires.adds.framed ∙ ap (λ cs. line_for c.requires.adds.at c.args.place.site c.args.kind cs c.args.outcome) c.deref.ensures.value))
     c.add_line.ensures.framed c.in_ok-number.ensures.added.1
     given.0 (λ n m other. given.1 n m other ∙ ap (λ b. beside_in b.entries n m) c.add_line.ensures.beside)
     (λ n m. ap (λ t. part_in t n m) c.add_line.ensures.parts) (λ m. ap (λ t. lines_in t m) c.add_line.ensures.rules)

@@ -11,7 +11,7 @@ use Rattle.rule_names.specs.declared.file.RuleFile.{RuleFile}
 use Rattle.rule_meaning.specs.Places.{Placed, candidates_at, rows_at_step}
 use Rattle.rule_meaning.specs.StoreModel.{is_known}
 use Rattle.value_compare.specs.code.Books.{IsBookOf}
-use Rattle.query_steps.specs.code.Placed.{IsStart, candidates_of_place, rows_of_place}
+use Rattle.query_steps.specs.code.Placed.{StartsAt, candidates_of_place, rows_of_place}
 use Rattle.clause_eval.specs.code.Adding.{Added}
 use Rattle.clause_eval.specs.code.Engines.{see_engine}
 use Rattle.clause_eval.proofs.StepsAdded.{current-there, filter-adds, filter-frame, filter-kind, filter-known, filter-later, filter-rows, filter-tried}
@@ -19,27 +19,27 @@ use Rattle.clause_eval.proofs.engine.Engine.add_filter.Goals as goal
 
 pub current-requires : goal.current-requires
 current-requires c =
-    filter-frame (see_engine c.args.self.now) c.requires.whole c.args.frame c.args.step.site c.args.before c.args.judged.lines.items c.args.judged.verdicts.items c.requires.judged
+    filter-frame (see_engine c.args.self.now) c.requires.whole c.args.step.frame c.args.step.site c.args.before c.args.judged.lines.items c.args.judged.verdicts.items c.requires.judged
 
 pub rows_said-requires : goal.rows_said-requires
 rows_said-requires c =
-    let had = filter-rows (see_engine c.args.self.now) c.requires.whole c.args.frame c.args.step.site c.args.before c.args.judged.lines.items c.args.judged.verdicts.items c.requires.judged in
+    let had = filter-rows (see_engine c.args.self.now) c.requires.whole c.args.step.frame c.args.step.site c.args.before c.args.judged.lines.items c.args.judged.verdicts.items c.requires.judged in
     (had.1.0, had.1.1, had.1.2, had.0, had.1.3)
 
 pub placed_step-requires-clause-start : goal.placed_step-requires-clause-start
 placed_step-requires-clause-start c start =
     let s = see_engine c.args.self.now in
-    let had = filter-rows s c.requires.whole c.args.frame c.args.step.site c.args.before c.args.judged.lines.items c.args.judged.verdicts.items c.requires.judged in
+    let had = filter-rows s c.requires.whole c.args.step.frame c.args.step.site c.args.before c.args.judged.lines.items c.args.judged.verdicts.items c.requires.judged in
     c.as_slice.ensures ∙ c.in_ok-said.ensures ∙ c.rows_said.ensures had.1.0 had.1.1 had.1.2 had.0 had.1.3
-    ∙ filter-later s c.requires.whole c.args.frame c.args.step.site c.args.before c.args.judged.lines.items c.args.judged.verdicts.items c.requires.judged
-    (subst IsStart (sym c.requires.place) start)
+    ∙ filter-later s c.requires.whole c.args.step.frame c.args.step.site c.args.before c.args.judged.lines.items c.args.judged.verdicts.items c.requires.judged
+    (subst StartsAt (sym c.requires.place) start)
 
 pub placed_step-requires-clause-verdicts : goal.placed_step-requires-clause-verdicts
 placed_step-requires-clause-verdicts c =
     let s = see_engine c.args.self.now in
-    let had = filter-rows s c.requires.whole c.args.frame c.args.step.site c.args.before c.args.judged.lines.items c.args.judged.verdicts.items c.requires.judged in
+    let had = filter-rows s c.requires.whole c.args.step.frame c.args.step.site c.args.before c.args.judged.lines.items c.args.judged.verdicts.items c.requires.judged in
     ap length c.deref.ensures.value
-    ∙ filter-tried s c.requires.whole c.args.frame c.args.step.site c.args.before c.args.judged.lines.items c.args.judged.verdicts.items c.requires.judged
+    ∙ filter-tried s c.requires.whole c.args.step.frame c.args.step.site c.args.before c.args.judged.lines.items c.args.judged.verdicts.items c.requires.judged
     ∙ sym (ap (λ (rows : List Row). length (candidates_at s.known c.args.step.site rows)) (c.as_slice.ensures ∙ c.in_ok-said.ensures ∙ c.rows_said.ensures had.1.0 had.1.1 had.1.2 had.0 had.1.3))
     ∙ ap (λ (o : Option Placed). length (candidates_of_place s.known o c.as_slice.result.now)) c.requires.place
 
@@ -49,24 +49,24 @@ placed_step-requires-clause-book c = subst (λ (f : RuleFile). IsBookOf (file_of
 pub placed_step-requires-clause-current : goal.placed_step-requires-clause-current
 placed_step-requires-clause-current c =
     let s = see_engine c.args.self.now in
-    current-there s c.args.frame (home_of s.known.file c.args.step.site) c.requires.judged.1.1.2.scope_is c.requires.whole c.current.result c.current.ensures
+    current-there s c.args.step.frame (home_of s.known.file c.args.step.site) c.requires.judged.1.1.2.scope_is c.requires.whole c.current.result c.current.ensures
 
 pub placed_step-requires-clause-before : goal.placed_step-requires-clause-before
 placed_step-requires-clause-before c =
     let s = see_engine c.args.self.now in
-    let had = filter-rows s c.requires.whole c.args.frame c.args.step.site c.args.before c.args.judged.lines.items c.args.judged.verdicts.items c.requires.judged in
+    let had = filter-rows s c.requires.whole c.args.step.frame c.args.step.site c.args.before c.args.judged.lines.items c.args.judged.verdicts.items c.requires.judged in
     ap (list_all (is_known s.known)) (c.as_slice.ensures ∙ c.in_ok-said.ensures ∙ c.rows_said.ensures had.1.0 had.1.1 had.1.2 had.0 had.1.3)
-    ∙ filter-known s c.requires.whole c.args.frame c.args.step.site c.args.before c.args.judged.lines.items c.args.judged.verdicts.items c.requires.judged
+    ∙ filter-known s c.requires.whole c.args.step.frame c.args.step.site c.args.before c.args.judged.lines.items c.args.judged.verdicts.items c.requires.judged
 
 pub add-requires-clause-kind : goal.add-requires-clause-kind
 add-requires-clause-kind c =
-    filter-kind (see_engine c.args.self.now) c.requires.whole c.args.frame c.args.step.site c.args.before c.args.judged.lines.items c.args.judged.verdicts.items c.requires.judged
+    filter-kind (see_engine c.args.self.now) c.requires.whole c.args.step.frame c.args.step.site c.args.before c.args.judged.lines.items c.args.judged.verdicts.items c.requires.judged
 
 pub add-requires-clause-adds : goal.add-requires-clause-adds
 add-requires-clause-adds c =
     let s = see_engine c.args.self.now in
-    let had = filter-rows s c.requires.whole c.args.frame c.args.step.site c.args.before c.args.judged.lines.items c.args.judged.verdicts.items c.requires.judged in
-    filter-adds s c.requires.whole c.args.frame c.args.step.site c.args.before c.args.judged.lines.items c.args.judged.verdicts.items c.requires.judged c.current.result c.current.ensures
+    let had = filter-rows s c.requires.whole c.args.step.frame c.args.step.site c.args.before c.args.judged.lines.items c.args.judged.verdicts.items c.requires.judged in
+    filter-adds s c.requires.whole c.args.step.frame c.args.step.site c.args.before c.args.judged.lines.items c.args.judged.verdicts.items c.requires.judged c.current.result c.current.ensures
     c.extend_from_slice.new.self.items
     (c.in_ok-extend_from_slice.ensures.items
     ∙ ap (λ (cs : List ℕ). cs ++ c.deref-2.result.now) (c.in_ok-push.ensures.items ∙ ap (λ (cs : List ℕ). cs ++ c.args.before ∷ []) c.new-cites.ensures.items)
@@ -86,5 +86,5 @@ returns c =
     ∙ ap (λ (cs : List ℕ). c.args.before ∷ cs) c.deref-2.ensures.value in
     IfOk-weaker c.add.result _ _ (λ number added. (
       c.new.result,
-      subst (λ (cs : List ℕ). Added (see_engine c.args.self.now) (see_engine c.add.new.self) c.args.frame c.args.step.site kind.Filter cs (says.Rows c.new.result) number) cites added,
+      subst (λ (cs : List ℕ). Added (see_engine c.args.self.now) (see_engine c.add.new.self) c.args.step.frame c.args.step.site kind.Filter cs (says.Rows c.new.result) number) cites added,
     )) c.add.ensures
