@@ -119,6 +119,7 @@ called-within calls (m ∷ made) within =
 pub record KeptSoFar (before now : Store) (line next : ℕ) (taken : List types.Made) : Type 0 where
   pub at : next ≡ length taken
   pub store : see_store now ≡ grown (see_store before) (trees_kept line 0 (map see_made taken))
+  pub file : now.file.now ≡ before.file.now
 
 module _ (before now : Store) (line next : ℕ) (taken : List types.Made) (so : KeptSoFar before now line next taken) where
   abbrev seen : List MadeRow
@@ -144,6 +145,7 @@ module _ (before now : Store) (line next : ℕ) (taken : List types.Made) (so : 
             ∙ ap (λ (k : StoreModel). grown k (record { line = line; row = next; tree = tree } ∷ [])) so.store
             ∙ grown-more (see_store before) (trees_kept line 0 seen) (record { line = line; row = next; tree = tree } ∷ [])
             ∙ ap (grown (see_store before)) (sym (ap (trees_kept line 0) all ∙ trees-more line 0 next seen (New tree ∷ []) many));
+        file = file ∙ so.file;
       }
 
   pub kept-row : (r : Row) (m : types.Made) (later : ℕ) → m ≡ code.Kept r → later ≡ next + 1 → KeptSoFar before now line later (taken ++ m ∷ [])
@@ -152,6 +154,7 @@ module _ (before now : Store) (line next : ℕ) (taken : List types.Made) (so : 
       record {
         at = omega (arith, one, so.at, length-append taken (m ∷ []));
         store = so.store ∙ ap (grown (see_store before)) (sym (ap (trees_kept line 0) all ∙ trees-more line 0 next seen (Kept r ∷ []) many ∙ append-nil (trees_kept line 0 seen)));
+        file = so.file;
       }
 
 -- a new tree among rows without patterns has none

@@ -1,5 +1,5 @@
 -- A body on rows, a row at a time.
-use Rattle.std.proofs.Common.{◌≡◌, ℕ, ◌+◌, ◌<◌, ◌≤◌, true, false, true≢false, Bool, List, [], ◌∷◌, length, drop, slice_get, Some, refl, ap, sym, subst, ◌∙◌, MatchBool, add-one, drop-cons}
+use Rattle.std.proofs.Common.{◌≡◌, ℕ, ◌+◌, ◌≤◌, true, false, true≢false, Bool, List, [], ◌∷◌, length, drop, slice_get, Some, refl, ap, sym, subst, ◌∙◌, MatchBool, add-one, drop-cons}
 use Rattle.std.proofs.lemmas.List.{drop_all}
 use Rattle.std.proofs.lemmas.Option.{get_or_from_slice_get, slice_get_within}
 use Rattle.evidence_lines.specs.declared.line.Line.{Line}

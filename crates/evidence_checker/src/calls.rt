@@ -5,7 +5,6 @@ ghost use Rattle.evidence_lines.specs.declared.line.LineKind.TheVariants as kind
 ghost use Rattle.guard_builtins.specs.code.Seen.{is_plain, see_made, see_rows};
 ghost use Rattle.guard_syntax.specs.code.Seen.{expr_list, see_expr};
 ghost use Rattle.guard_syntax.specs.Syntax.{Exprs};
-ghost use Rattle.rule_names.specs.code.Files.{file_of};
 ghost use Rattle.rule_names.specs.Pieces.{piece_at};
 ghost use Rattle.rule_meaning.specs.Functions.{MadeRow};
 ghost use Rattle.rule_meaning.specs.StoreModel.{is_known, made_at};
@@ -18,13 +17,12 @@ ghost use Rattle.evidence_checker.specs.code.Calls.{IsAnswered, IsCall, IsCallAt
 ghost use Rattle.evidence_checker.specs.code.Kept.{row_kept};
 ghost use Rattle.evidence_checker.specs.code.Makes.{IsMade};
 
-use evidence_lines::LineList;
 use evidence_lookups::cited_rows::given_by_expr;
 use evidence_lookups::expression_lines::stands_at;
 use evidence_lookups::line_context::{LineContext, SitedLine};
 use guard_builtins::{Made, call};
 use guard_syntax::{Expr, Function, Origin, Ref, Row};
-use rule_names::{Piece, RuleFile};
+use rule_names::Piece;
 use std::alloc::{AllocError, Global};
 use value_compare::Store;
 
@@ -58,11 +56,10 @@ fn answer_of(
         (λ answer. IsAnswered (known_of context.now) (lines_of context.now) line.entry.frame line.entry.site line.entry.cites.now (map see_made answer.items))) }
     ensures plain { IfOk result (λ found. IfSome found (λ answer. list_all is_plain answer.items ≡ true)) }
 {
-    let file = context.store.file;
-    let Some(called) = call_at(file, line.site) else {
+    let Some(called) = call_at(context, line.site) else {
         return Ok(None);
     };
-    let Some(given) = rows_of_args(context.alloc, file, &context.lines, line, called.args)? else {
+    let Some(given) = rows_of_args(context, line, called.args)? else {
         return Ok(None);
     };
     let answer = call(
@@ -84,12 +81,12 @@ struct Called<'f> {
 }
 
 /// The call of a function that stands at a site.
-fn call_at(file: &RuleFile, site: u32) -> Option<Called<'_>>
+fn call_at<'t>(context: &LineContext<'_, 't, '_>, site: u32) -> Option<Called<'t>>
     ensures { MatchOption result
-        ((f : Function) → (args : Exprs) → IsCallAt (file_of file.entry.now) site f args → ⊥)
-        (λ called. IsCallAt (file_of file.entry.now) site called.function (expr_list (map see_expr called.args.now))) }
+        ((f : Function) → (args : Exprs) → IsCallAt (file_in context.entry.now) site f args → ⊥)
+        (λ called. IsCallAt (file_in context.entry.now) site called.function (expr_list (map see_expr called.args.now))) }
 {
-    match file.find(site)? {
+    match context.find(site)? {
         Piece::Expr(expr) => called_by(expr),
         _ => None,
     }
@@ -115,26 +112,24 @@ fn called_by(expr: &Expr) -> Option<Called<'_>>
 
 /// The rows of arguments, where a cited line gives those of each.
 fn rows_of_args(
-    alloc: Global,
-    file: &RuleFile,
-    lines: &LineList<'_>,
+    context: &LineContext<'_, '_, '_>,
     line: SitedLine<'_>,
     args: &[Expr],
 ) -> Result<Option<Vec<Vec<Row>>>, AllocError>
     ensures { IfOk result (λ given. MatchOption given
-        ((all : List (List Row)) → GiveArgs (file_of file.now) lines.now line.entry.frame (expr_list (map see_expr args.now)) line.entry.cites.now all → ⊥)
-        (λ all. GiveArgs (file_of file.now) lines.now line.entry.frame (expr_list (map see_expr args.now)) line.entry.cites.now (map see_rows all.items))) }
+        ((all : List (List Row)) → GiveArgs (file_in context.now) (lines_of context.now) line.entry.frame (expr_list (map see_expr args.now)) line.entry.cites.now all → ⊥)
+        (λ all. GiveArgs (file_in context.now) (lines_of context.now) line.entry.frame (expr_list (map see_expr args.now)) line.entry.cites.now (map see_rows all.items))) }
 {
     let cites = line.cites;
     if args.len() != cites.len() {
         return Ok(None);
     }
-    let mut all = Vec::new(alloc);
+    let mut all = Vec::new(context.alloc);
     for (at, arg) in args.iter().enumerate() {
-        let Some(rows) = given_by_expr(file, lines, line.frame, arg, cites[at]) else {
+        let Some(rows) = given_by_expr(context, line.frame, arg, cites[at]) else {
             return Ok(None);
         };
-        all.push(rows.to_vec(alloc)?)?;
+        all.push(rows.to_vec(context.alloc)?)?;
     }
     Ok(Some(all))
 }
@@ -176,7 +171,8 @@ pub(crate) fn keep(
 ) -> Result<(), AllocError>
     requires free { (row : ℕ) → made_at (see_store store.old).made line row ≡ None }
     requires plain { list_all is_plain answer.items ≡ true }
-    ensures { OnOk result (see_store store.new ≡ grown (see_store store.old) (trees_kept line 0 (map see_made answer.items))) }
+    ensures trees { OnOk result (see_store store.new ≡ grown (see_store store.old) (trees_kept line 0 (map see_made answer.items))) }
+    ensures file { OnOk result (store.new.file.now ≡ store.old.file.now) }
 {
     let mut row: u64 = 0;
     for made in answer {

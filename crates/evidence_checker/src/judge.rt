@@ -13,17 +13,18 @@ ghost use Rattle.rule_meaning.specs.Values.{has_pattern};
 ghost use Rattle.evidence_rules.specs.Follows.{AllFollow, nothing_made};
 ghost use Rattle.evidence_rules.specs.RuleLines.{AreOfLoose, AreOfRules};
 ghost use Rattle.evidence_lookups.specs.code.JudgedSites.{AreJudged};
-ghost use Rattle.evidence_lookups.specs.code.Owned.{AreOwners};
+ghost use Rattle.evidence_lookups.specs.code.Tables.{AreTablesOf};
 ghost use Rattle.evidence_checker.specs.code.Answered.{IsAnswer};
 ghost use Rattle.evidence_checker.specs.code.Judging.{IsLooseWanting, IsRuleWanting, IsWanting};
 
 use crate::calls::keep;
 use crate::line::line_follows;
+use crate::literals::keep_literals;
 use doc_values::Doc;
 use evidence_lines::{Evidence, Version};
 use evidence_lookups::judged::Judged;
 use evidence_lookups::line_context::LineContext;
-use evidence_lookups::owners::Owners;
+use evidence_lookups::tables::FileTables;
 use guard_syntax::{Disj, RawFile, Rule, Verdict};
 use rule_names::RuleFile;
 use std::alloc::{AllocError, Global};
@@ -52,22 +53,23 @@ pub fn check<'t, 's>(
     requires book { IsBookOf (file_of file.now) book.now }
     ensures { IfOk result (λ answer. IsAnswer evidence.now.version doc.now (file_of file.now) evidence.now.lines answer) }
 {
-    let owners = Owners::new(alloc, file)?;
+    let tables = FileTables::new(alloc, file)?;
     let mut store = Store::new(alloc, doc, file);
-    judge_lines(alloc, &mut store, book, &owners, evidence)
+    keep_literals(&mut store, &tables.pieces)?;
+    judge_lines(alloc, &mut store, book, &tables, evidence)
 }
 
 /// Judges the lines of evidence, each over those before it, with a store in which nothing is made. What calls make is added
 /// to the store here, a line at a time.
-fn judge_lines(
+fn judge_lines<'t>(
     alloc: Global,
-    store: &mut Store<'_, '_>,
+    store: &mut Store<'t, '_>,
     book: &PatternBook,
-    owners: &Owners,
+    tables: &FileTables<'t>,
     evidence: &Evidence,
 ) -> Result<Answer, AllocError>
     requires book { IsBookOf (see_store store.old).file book.now }
-    requires owners { AreOwners (see_store store.old).file owners.now }
+    requires tables { AreTablesOf store.old.file.now tables.now }
     requires made { (see_store store.old).made ≡ [] }
     ensures { IfOk result (λ answer. IsAnswer evidence.now.version (see_store store.old).template (see_store store.old).file evidence.now.lines answer) }
 {
@@ -82,9 +84,10 @@ fn judge_lines(
         let context = LineContext {
             alloc,
             version: written,
+            file: store.file,
             store,
             book,
-            owners,
+            tables,
             judged: &judged,
             lines: evidence.first(before),
         };

@@ -4,8 +4,10 @@
 
 mod bodies;
 mod calls;
+mod due_rows;
 mod judge;
 mod line;
+mod literals;
 mod one_cite;
 mod parts;
 mod reference_lines;

@@ -1,27 +1,25 @@
 //! Whether a line of evidence follows from those before it.
 ghost use Rattle.std.specs.Prelude.{◌≡◌, ◌<◌, List, Some, true, false, length, IfOk, MatchBool, MatchOption, []};
 ghost use Rattle.evidence_lines.specs.declared.line.Outcome.TheVariants as says;
-ghost use Rattle.rule_names.specs.code.Files.{file_of};
 ghost use Rattle.rule_meaning.specs.StoreModel as known;
 ghost use Rattle.rule_meaning.specs.StoreModel.{is_known_ref};
 ghost use Rattle.value_compare.specs.code.Stores.{see_store};
 ghost use Rattle.evidence_rules.specs.CitedLines.{scope_of};
 ghost use Rattle.evidence_rules.specs.Follows.{Follows, FollowsIn, IsFileLine, home_for};
 ghost use Rattle.rule_meaning.specs.Roots.{root_ref};
-ghost use Rattle.evidence_lookups.specs.code.Grounds.{known_of, lines_of, version_of};
+ghost use Rattle.evidence_lookups.specs.code.Grounds.{file_in, known_of, lines_of, version_of};
 ghost use Rattle.evidence_lookups.specs.code.Said.{IsSound, is_known_outcome};
 ghost use Rattle.evidence_checker.specs.code.Makes.{IsMade};
 
 use crate::calls::call_follows;
 use crate::rows::rows_follow;
 use crate::verdicts::verdict_follows;
-use evidence_lines::{Line, LineKind, LineList, Outcome};
+use evidence_lines::{Line, LineKind, Outcome};
 use evidence_lookups::frames::{home_for, scope_of};
 use evidence_lookups::line_context::{LineContext, SitedLine};
 use evidence_lookups::values::is_frame_of;
 use guard_builtins::Made;
 use guard_syntax::{Origin, Ref, Row};
-use rule_names::RuleFile;
 use std::alloc::{AllocError, Global};
 use value_compare::Store;
 
@@ -48,7 +46,7 @@ pub(crate) fn line_follows(
         kind: line.kind,
         cites,
     };
-    if !is_at_home(context.store.file, &context.lines, placed) {
+    if !is_at_home(context, placed) {
         return Ok(None);
     }
     outcome_follows(context, placed, &line.outcome)
@@ -93,17 +91,17 @@ fn is_root(outcome: &Outcome<'_>) -> bool
 }
 
 /// Whether the scope of a frame is the home of a site, of which there is a part.
-fn is_at_home(file: &RuleFile, lines: &LineList<'_>, line: SitedLine<'_>) -> bool
+fn is_at_home(context: &LineContext<'_, '_, '_>, line: SitedLine<'_>) -> bool
     ensures { MatchBool result
-        ((line.entry.site < length (file_of file.now).places) × (scope_of (file_of file.now) lines.now line.entry.frame ≡ Some (home_for (file_of file.now) line.entry.kind line.entry.site)))
-        (line.entry.site < length (file_of file.now).places → scope_of (file_of file.now) lines.now line.entry.frame ≡ Some (home_for (file_of file.now) line.entry.kind line.entry.site) → ⊥) }
+        ((line.entry.site < length (file_in context.now).places) × (scope_of (file_in context.now) (lines_of context.now) line.entry.frame ≡ Some (home_for (file_in context.now) line.entry.kind line.entry.site)))
+        (line.entry.site < length (file_in context.now).places → scope_of (file_in context.now) (lines_of context.now) line.entry.frame ≡ Some (home_for (file_in context.now) line.entry.kind line.entry.site) → ⊥) }
 {
     let site = line.site;
-    if site as usize >= file.raw().places.as_slice().len() {
+    if site as usize >= context.store.file.raw().places.as_slice().len() {
         return false;
     }
-    match scope_of(file, lines, line.frame) {
-        Some(scope) => scope == home_for(file, line.kind, site),
+    match scope_of(context, line.frame) {
+        Some(scope) => scope == home_for(context, line.kind, site),
         None => false,
     }
 }

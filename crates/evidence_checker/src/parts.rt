@@ -81,14 +81,8 @@ pub(crate) fn part_follows(
             };
             test_follows(context, line, asked, verdict)
         }
-        Part::Refer { not, .. } => {
-            let file = context.store.file;
-            Ok(reference_follows(file, &context.lines, line, *not, verdict))
-        }
-        Part::Call { not, .. } => {
-            let file = context.store.file;
-            Ok(call_follows(file, &context.lines, line, *not, verdict))
-        }
+        Part::Refer { not, .. } => { Ok(reference_follows(context, line, *not, verdict)) }
+        Part::Call { not, .. } => { Ok(call_follows(context, line, *not, verdict)) }
     }
 }
 
@@ -121,7 +115,7 @@ fn block_follows(
     let Some((first, others)) = cites.split_first() else {
         return false;
     };
-    match given_by_query(context.store.file, &context.lines, body.frame, head, *first) {
+    match given_by_query(context, body.frame, head, *first) {
         Some(rows) => body_follows_on(&context.lines, body, &rows, others, verdict),
         None => false,
     }

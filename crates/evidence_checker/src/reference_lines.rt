@@ -6,36 +6,33 @@ ghost use Rattle.guard_syntax.specs.Syntax.{Exprs, call, refer};
 ghost use Rattle.guard_syntax.specs.declared.row.Verdict.{Verdict};
 ghost use Rattle.evidence_rules.specs.CitedLines.{IsLine};
 ghost use Rattle.evidence_rules.specs.Follows.{FollowsCall, FollowsRefer};
-ghost use Rattle.rule_names.specs.code.Files.{file_of};
-ghost use Rattle.rule_meaning.specs.StoreModel.{StoreModel};
 ghost use Rattle.rule_meaning.specs.Verdicts as judged;
+ghost use Rattle.evidence_lookups.specs.code.Grounds.{known_of, lines_of};
 
 use crate::bodies::said_within;
 use evidence_lines::{LineKind, LineList};
 use evidence_lookups::frames::called_body;
-use evidence_lookups::line_context::SitedLine;
+use evidence_lookups::line_context::{LineContext, SitedLine};
 use evidence_lookups::lookup::{line_of, verdict_said};
 use guard_syntax::Verdict;
-use rule_names::RuleFile;
 
 /// Whether the line of a reference follows, from the line of the rule that is named.
 pub(crate) fn reference_follows(
-    file: &RuleFile,
-    lines: &LineList<'_>,
+    context: &LineContext<'_, '_, '_>,
     line: SitedLine<'_>,
     not: bool,
     verdict: Verdict,
 ) -> bool
-    ensures { (known : StoreModel) → known.file ≡ file_of file.now → (n : ℕ) → (name : List ℕ) → (message : Option (List ℕ)) → MatchBool result
-        (FollowsRefer known lines.now line.entry.site (refer n not name message) line.entry.cites.now verdict)
-        (FollowsRefer known lines.now line.entry.site (refer n not name message) line.entry.cites.now verdict → ⊥) }
+    ensures { (n : ℕ) → (name : List ℕ) → (message : Option (List ℕ)) → MatchBool result
+        (FollowsRefer (known_of context.now) (lines_of context.now) line.entry.site (refer n not name message) line.entry.cites.now verdict)
+        (FollowsRefer (known_of context.now) (lines_of context.now) line.entry.site (refer n not name message) line.entry.cites.now verdict → ⊥) }
 {
-    let Some(rule) = file.target(line.site) else {
+    let Some(rule) = context.store.file.target(line.site) else {
         return false;
     };
     match line.cites {
         [number] => {
-            match rule_said(lines, *number, rule) {
+            match rule_said(&context.lines, *number, rule) {
                 Some(said) => verdict == referred(not, said),
                 None => false,
             }
@@ -56,22 +53,21 @@ fn rule_said(lines: &LineList<'_>, number: u64, site: u32) -> Option<Verdict>
 
 /// Whether the line of a call follows, from the line of the called body in the frame of the call.
 pub(crate) fn call_follows(
-    file: &RuleFile,
-    lines: &LineList<'_>,
+    context: &LineContext<'_, '_, '_>,
     line: SitedLine<'_>,
     not: bool,
     verdict: Verdict,
 ) -> bool
-    ensures { (known : StoreModel) → known.file ≡ file_of file.now → (n : ℕ) → (name : List ℕ) → (args : Exprs) → (message : Option (List ℕ)) → MatchBool result
-        (FollowsCall known lines.now line.entry.frame line.entry.site (call n not name args message) line.entry.cites.now verdict)
-        (FollowsCall known lines.now line.entry.frame line.entry.site (call n not name args message) line.entry.cites.now verdict → ⊥) }
+    ensures { (n : ℕ) → (name : List ℕ) → (args : Exprs) → (message : Option (List ℕ)) → MatchBool result
+        (FollowsCall (known_of context.now) (lines_of context.now) line.entry.frame line.entry.site (call n not name args message) line.entry.cites.now verdict)
+        (FollowsCall (known_of context.now) (lines_of context.now) line.entry.frame line.entry.site (call n not name args message) line.entry.cites.now verdict → ⊥) }
 {
-    let Some(body) = called_body(file, line.site) else {
+    let Some(body) = called_body(context, line.site) else {
         return false;
     };
     match line.cites {
         [number] => {
-            match said_within(lines, *number, line.frame, line.site, body.site) {
+            match said_within(&context.lines, *number, line.frame, line.site, body.site) {
                 Some(said) => verdict == exchanged(not, said),
                 None => false,
             }

@@ -30,7 +30,7 @@ pub(crate) fn rows_follow(
         ((more : List Made) → FollowsRows (known_of context.now) (lines_of context.now) line.entry.frame line.entry.site line.entry.kind (piece_at (file_in context.now) line.entry.site) line.entry.cites.now rows.now more → ⊥)) }
     ensures known { IfOk result (λ follows. follows ≡ true → list_all (is_known (known_of context.now)) rows.now ≡ true) }
 {
-    match context.store.file.find(line.site) {
+    match context.find(line.site) {
         Some(Piece::Expr(expr)) => Ok(expr_follows(context, line, expr, rows)),
         Some(Piece::Step { query, index }) => step_follows(context, line, query, index, rows),
         Some(Piece::Part(part)) => types_follow(context, line, part, rows),

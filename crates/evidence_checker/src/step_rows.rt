@@ -5,23 +5,22 @@ ghost use Rattle.guard_syntax.specs.Named.{Named};
 ghost use Rattle.guard_syntax.specs.code.Seen.{see_conds, see_query, see_step};
 ghost use Rattle.guard_syntax.specs.Syntax.{filter};
 ghost use Rattle.guard_syntax.specs.declared.row.Row as row;
-ghost use Rattle.rule_names.specs.code.Files.{file_of};
 ghost use Rattle.rule_names.specs.Pieces.{OfStep, piece_at};
-ghost use Rattle.rule_meaning.specs.StoreModel.{StoreModel, is_known};
+ghost use Rattle.rule_meaning.specs.StoreModel.{is_known};
 ghost use Rattle.evidence_rules.specs.Follows.{FollowsAtStep, FollowsCapture, FollowsFilter, FollowsStep, GivesBefore, GivesFurther, IsLater};
 ghost use Rattle.rule_meaning.specs.Places.{is_filter, step_in, steps_in};
 ghost use Rattle.evidence_lookups.specs.code.Grounds.{file_in, known_of, lines_of};
 
+use crate::due_rows::{IndexedStep, due_candidates, due_rows};
 use crate::one_cite::{expr_cited, variable_cited};
 use crate::row_equality::same_rows;
 use crate::tried_candidates::tried_verdicts;
-use evidence_lines::{LineKind, LineList, Rows};
+use evidence_lines::{LineKind, Rows};
 use evidence_lookups::cited_rows::given_by_step;
 use evidence_lookups::line_context::{LineContext, SitedLine};
 use evidence_lookups::lookup::value_of;
 use guard_syntax::{Conds, Query, Row, Step, StepForm};
-use query_steps::{candidates, captured, step as rows_due};
-use rule_names::RuleFile;
+use query_steps::{StepInput, captured};
 use std::alloc::AllocError;
 
 /// Whether a line of the rows of a step follows: those that it gives, or the keys that it captures.
@@ -60,14 +59,6 @@ pub(crate) fn step_follows(
     }
 }
 
-/// The step of an index of a query.
-#[derive(Clone, Copy)]
-struct IndexedStep<'q> {
-    query: &'q Query,
-    index: usize,
-    step: &'q Step,
-}
-
 /// Whether the rows of a step that is no filter follow.
 fn other_follows(
     context: &LineContext<'_, '_, '_>,
@@ -83,30 +74,24 @@ fn other_follows(
         (FollowsStep (known_of context.now) (lines_of context.now) line.entry.frame line.entry.site (see_query at.entry.query.now) at.entry.index (see_step at.entry.step.now) line.entry.cites.now rows.now → ⊥)) }
     ensures known { IfOk result (λ follows. follows ≡ true → list_all (is_known (known_of context.now)) rows.now ≡ true) }
 {
-    let file = context.store.file;
-    let lines = &context.lines;
-    let Some(current) = value_of(lines, line.frame) else {
+    let Some(current) = value_of(&context.lines, line.frame) else {
         return Ok(false);
     };
-    let Some((before, last)) = rows_before(file, lines, line, at.query, at.index) else {
+    let Some((before, last)) = rows_before(context, line, at.query, at.index) else {
         return Ok(false);
     };
-    let Some(further) = rows_further(file, lines, line.frame, at.step, last) else {
+    let Some(further) = rows_further(context, line.frame, at.step, last) else {
         return Ok(false);
     };
     let before = before.gather(context.alloc)?;
     let further = further.gather(context.alloc)?;
-    let due = rows_due(
-        context.alloc,
-        file,
-        line.site,
+    let input = StepInput {
         current,
-        before.as_slice(),
-        further.as_slice(),
-        &[],
-        context.store,
-        context.book,
-    )?;
+        before: before.as_slice(),
+        further: further.as_slice(),
+        verdicts: &[],
+    };
+    let due = due_rows(context, line.site, at, input)?;
     Ok(same_rows(rows, &due))
 }
 
@@ -129,17 +114,16 @@ fn filter_follows(
     if index == 0 {
         return Ok(false);
     }
-    let file = context.store.file;
     let lines = &context.lines;
     let Some(current) = value_of(lines, line.frame) else {
         return Ok(false);
     };
-    let Some((before, last)) = rows_before(file, lines, line, at.query, index) else {
+    let Some((before, last)) = rows_before(context, line, at.query, index) else {
         return Ok(false);
     };
     let gathered = before.gather(context.alloc)?;
     let before = gathered.as_slice();
-    let tried = candidates(context.alloc, file, line.site, before, context.store)?;
+    let tried = due_candidates(context, line.site, at, before)?;
     let judges = SitedLine {
         frame: line.frame,
         site: line.site,
@@ -149,17 +133,13 @@ fn filter_follows(
     let Some(verdicts) = tried_verdicts(context.alloc, lines, judges, conditions, &tried)? else {
         return Ok(false);
     };
-    let due = rows_due(
-        context.alloc,
-        file,
-        line.site,
+    let input = StepInput {
         current,
         before,
-        &[],
-        &verdicts,
-        context.store,
-        context.book,
-    )?;
+        further: &[],
+        verdicts: &verdicts,
+    };
+    let due = due_rows(context, line.site, at, input)?;
     Ok(same_rows(rows, &due))
 }
 
@@ -178,8 +158,7 @@ fn capture_follows(
     let [number] = line.cites else {
         return Ok(false);
     };
-    let file = context.store.file;
-    let Some(kept) = given_by_step(file, &context.lines, line.frame, step, *number) else {
+    let Some(kept) = given_by_step(context, line.frame, step, *number) else {
         return Ok(false);
     };
     let kept = kept.gather(context.alloc)?;
@@ -190,15 +169,14 @@ fn capture_follows(
 /// The rows of the step before the one of an index, which the first number cites, and the numbers behind it. A start has
 /// no rows before it, and no number.
 fn rows_before<'b>(
-    file: &RuleFile,
-    lines: &'b LineList<'_>,
+    context: &'b LineContext<'_, '_, '_>,
     line: SitedLine<'b>,
     query: &Query,
     index: usize,
 ) -> Option<(Rows<'b>, &'b [u64])>
-    ensures { (known : StoreModel) → known.file ≡ file_of file.now → MatchOption result
-        ((first last : List ℕ) → (rows : List row.Row) → line.entry.cites.now ≡ first ++ last → GivesBefore known lines.entry.now line.entry.frame (see_query query.now) index first rows → ⊥)
-        (λ found. (first : List ℕ) × (line.entry.cites.now ≡ first ++ found.1.now) × GivesBefore known lines.entry.now line.entry.frame (see_query query.now) index first found.0) }
+    ensures { MatchOption result
+        ((first last : List ℕ) → (rows : List row.Row) → line.entry.cites.now ≡ first ++ last → GivesBefore (known_of context.entry.now) (lines_of context.entry.now) line.entry.frame (see_query query.now) index first rows → ⊥)
+        (λ found. (first : List ℕ) × (line.entry.cites.now ≡ first ++ found.1.now) × GivesBefore (known_of context.entry.now) (lines_of context.entry.now) line.entry.frame (see_query query.now) index first found.0) }
 {
     let cites = line.cites;
     if index == 0 {
@@ -210,7 +188,7 @@ fn rows_before<'b>(
     let Some(step) = query.steps.get(index - 1) else {
         return None;
     };
-    let Some(rows) = given_by_step(file, lines, line.frame, step, *number) else {
+    let Some(rows) = given_by_step(context, line.frame, step, *number) else {
         return None;
     };
     Some((rows, last))
@@ -218,20 +196,19 @@ fn rows_before<'b>(
 
 /// The rows of what a step names further: of a variable, or of the right side of a key filter.
 fn rows_further<'b>(
-    file: &RuleFile,
-    lines: &'b LineList<'_>,
+    context: &'b LineContext<'_, '_, '_>,
     frame: u64,
     step: &Step,
     cites: &[u64],
 ) -> Option<Rows<'b>>
-    ensures { (known : StoreModel) → known.file ≡ file_of file.now → MatchOption result
-        ((rows : List row.Row) → GivesFurther known lines.entry.now frame (see_step step.now) cites.now rows → ⊥)
-        (λ rows. GivesFurther known lines.entry.now frame (see_step step.now) cites.now rows) }
+    ensures { MatchOption result
+        ((rows : List row.Row) → GivesFurther (known_of context.entry.now) (lines_of context.entry.now) frame (see_step step.now) cites.now rows → ⊥)
+        (λ rows. GivesFurther (known_of context.entry.now) (lines_of context.entry.now) frame (see_step step.now) cites.now rows) }
 {
     match &step.form {
-        StepForm::Var(_) => variable_cited(file, lines, frame, step.site, cites),
-        StepForm::Splice(_) => variable_cited(file, lines, frame, step.site, cites),
-        StepForm::Keys { right, .. } => expr_cited(file, lines, frame, right, cites),
+        StepForm::Var(_) => variable_cited(context, frame, step.site, cites),
+        StepForm::Splice(_) => variable_cited(context, frame, step.site, cites),
+        StepForm::Keys { right, .. } => expr_cited(context, frame, right, cites),
         StepForm::Filter(..) => None,
         _ => match cites {
             [] => Some(Rows::new(&[])),

@@ -4,8 +4,7 @@ ghost use Rattle.std.specs.List.{list_all, list_any};
 ghost use Rattle.guard_syntax.specs.code.Seen.{see_opt_expr, see_query, see_step};
 ghost use Rattle.guard_syntax.specs.Syntax.{more_steps, no_steps, test};
 ghost use Rattle.guard_syntax.specs.declared.row.Row.{Row};
-ghost use Rattle.rule_names.specs.code.Files.{file_of};
-ghost use Rattle.rule_meaning.specs.StoreModel.{StoreModel, is_known};
+ghost use Rattle.rule_meaning.specs.StoreModel.{is_known};
 ghost use Rattle.evidence_rules.specs.Follows.{FollowsTest, GivesRight};
 ghost use Rattle.rule_meaning.specs.Keys.{passes};
 ghost use Rattle.rule_meaning.specs.SetTests as asked;
@@ -15,13 +14,12 @@ ghost use Rattle.evidence_lookups.specs.code.Grounds.{known_of, lines_of};
 ghost use Rattle.evidence_checker.specs.code.TestedRows.{holds_for};
 
 use crate::one_cite::expr_cited;
-use evidence_lines::{LineList, Rows};
+use evidence_lines::Rows;
 use evidence_lookups::cited_rows::given_by_query;
 use evidence_lookups::expression_lines::is_found;
 use evidence_lookups::line_context::{LineContext, SitedLine};
 use guard_syntax::{Expr, Op, Query, Row, Step, StepForm, Verdict};
-use query_steps::row_passes;
-use rule_names::RuleFile;
+use query_steps::{RowTest, row_passes};
 use std::alloc::AllocError;
 use value_compare::Matchers;
 
@@ -49,11 +47,10 @@ pub(crate) fn test_follows(
     let Some((first, others)) = line.cites.split_first() else {
         return Ok(false);
     };
-    let file = context.store.file;
-    let Some(lefts) = given_by_query(file, &context.lines, line.frame, asks.left, *first) else {
+    let Some(lefts) = given_by_query(context, line.frame, asks.left, *first) else {
         return Ok(false);
     };
-    let Some(rights) = given_at_right(file, &context.lines, line.frame, asks.right, others) else {
+    let Some(rights) = given_at_right(context, line.frame, asks.right, others) else {
         return Ok(false);
     };
     let lefts = lefts.gather(context.alloc)?;
@@ -64,18 +61,17 @@ pub(crate) fn test_follows(
 
 /// The rows of the right side of a test: of its one cite, if it has one.
 fn given_at_right<'b>(
-    file: &RuleFile,
-    lines: &'b LineList<'_>,
+    context: &'b LineContext<'_, '_, '_>,
     frame: u64,
     right: &Option<Expr>,
     cites: &[u64],
 ) -> Option<Rows<'b>>
-    ensures { (known : StoreModel) → known.file ≡ file_of file.now → MatchOption result
-        ((rows : List Row) → GivesRight known lines.entry.now frame (see_opt_expr right.now) cites.now rows → ⊥)
-        (λ rows. GivesRight known lines.entry.now frame (see_opt_expr right.now) cites.now rows) }
+    ensures { MatchOption result
+        ((rows : List Row) → GivesRight (known_of context.entry.now) (lines_of context.entry.now) frame (see_opt_expr right.now) cites.now rows → ⊥)
+        (λ rows. GivesRight (known_of context.entry.now) (lines_of context.entry.now) frame (see_opt_expr right.now) cites.now rows) }
 {
     match right {
-        Some(expr) => expr_cited(file, lines, frame, expr, cites),
+        Some(expr) => expr_cited(context, frame, expr, cites),
         None => match cites {
             [] => Some(Rows::new(&[])),
             _ => None,
@@ -182,9 +178,14 @@ fn holds_of_rows(
     ensures { IfOk result (λ p. p ≡ holds_for asks.entry.any (passes (known_of context.now) asks.entry.op asks.entry.not rights.now) lefts.now) }
 {
     let any = asks.any;
+    let test = RowTest {
+        op: asks.op,
+        not: asks.not,
+        rights,
+    };
     for left in lefts {
         // With `some` a row that passes decides, else a row that fails.
-        let passes = row_passes(matchers, asks.op, asks.not, left, rights, context.store)?;
+        let passes = row_passes(matchers, test, left, context.store)?;
         if passes == any {
             return Ok(any);
         }

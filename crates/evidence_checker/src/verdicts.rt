@@ -34,7 +34,7 @@ pub(crate) fn verdict_follows(
         (FollowsVerdict (version_of context.now) (known_of context.now) (lines_of context.now) line.entry.frame line.entry.site line.entry.kind (piece_at (file_in context.now) line.entry.site) line.entry.cites.now verdict)
         (FollowsVerdict (version_of context.now) (known_of context.now) (lines_of context.now) line.entry.frame line.entry.site line.entry.kind (piece_at (file_in context.now) line.entry.site) line.entry.cites.now verdict → ⊥)) }
 {
-    let Some(piece) = context.store.file.find(line.site) else {
+    let Some(piece) = context.find(line.site) else {
         return Ok(false);
     };
     match line.kind {

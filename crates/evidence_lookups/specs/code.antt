@@ -4,3 +4,4 @@ pub mod Grounds
 pub mod JudgedSites
 pub mod Owned
 pub mod Said
+pub mod Tables

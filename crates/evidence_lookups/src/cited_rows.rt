@@ -4,28 +4,28 @@ ghost use Rattle.evidence_lines.specs.declared.line.Line.{Line};
 ghost use Rattle.guard_syntax.specs.code.Seen.{see_expr, see_query, see_step};
 ghost use Rattle.guard_syntax.specs.Syntax.{File};
 ghost use Rattle.guard_syntax.specs.declared.row.Row.{Row};
-ghost use Rattle.rule_names.specs.code.Files.{file_of};
 ghost use Rattle.rule_names.specs.Pieces.{piece_at};
+ghost use Rattle.evidence_lookups.specs.code.Grounds.{file_in, lines_of};
 ghost use Rattle.evidence_rules.specs.CitedLines.{GivesArgument, GivesExpr, GivesPiece, GivesQuery, GivesStep, GivesVariable, kind_of_step};
 
 use crate::frames::{args_at, outwards};
+use crate::line_context::LineContext;
 use crate::lookup::{line_of, rows_said};
-use evidence_lines::{LineKind, LineList, Rows};
+use evidence_lines::{LineKind, Rows};
 use guard_syntax::{Expr, Query, Step, StepForm};
-use rule_names::{Bind, Piece, RuleFile};
+use rule_names::{Bind, Piece};
 
 /// Of a query up to a step.
 pub fn given_by_step<'b>(
-    file: &RuleFile,
-    lines: &'b LineList<'_>,
+    context: &'b LineContext<'_, '_, '_>,
     frame: u64,
     step: &Step,
     number: u64,
 ) -> Option<Rows<'b>>
-    ensures { MatchOption result ((rows : List Row) → GivesStep (file_of file.now) lines.entry.now frame (see_step step.now) number rows → ⊥)
-        (λ rows. GivesStep (file_of file.now) lines.entry.now frame (see_step step.now) number rows) }
+    ensures { MatchOption result ((rows : List Row) → GivesStep (file_in context.entry.now) (lines_of context.entry.now) frame (see_step step.now) number rows → ⊥)
+        (λ rows. GivesStep (file_in context.entry.now) (lines_of context.entry.now) frame (see_step step.now) number rows) }
 {
-    rows_said(lines, number, kind_of_step(step), frame, step.site)
+    rows_said(&context.lines, number, kind_of_step(step), frame, step.site)
 }
 
 /// The kind of a step's line.
@@ -41,105 +41,118 @@ fn kind_of_step(step: &Step) -> LineKind
 
 /// Of a whole query.
 pub fn given_by_query<'b>(
-    file: &RuleFile,
-    lines: &'b LineList<'_>,
+    context: &'b LineContext<'_, '_, '_>,
     frame: u64,
     query: &Query,
     number: u64,
 ) -> Option<Rows<'b>>
-    ensures { MatchOption result ((rows : List Row) → GivesQuery (file_of file.now) lines.entry.now frame (see_query query.now) number rows → ⊥)
-        (λ rows. GivesQuery (file_of file.now) lines.entry.now frame (see_query query.now) number rows) }
+    ensures { MatchOption result ((rows : List Row) → GivesQuery (file_in context.entry.now) (lines_of context.entry.now) frame (see_query query.now) number rows → ⊥)
+        (λ rows. GivesQuery (file_in context.entry.now) (lines_of context.entry.now) frame (see_query query.now) number rows) }
 {
     match query.steps.last() {
-        Some(step) => given_by_step(file, lines, frame, step, number),
+        Some(step) => given_by_step(context, frame, step, number),
         None => None,
     }
 }
 
 /// Of an expression.
 pub fn given_by_expr<'b>(
-    file: &RuleFile,
-    lines: &'b LineList<'_>,
+    context: &'b LineContext<'_, '_, '_>,
     frame: u64,
     expr: &Expr,
     number: u64,
 ) -> Option<Rows<'b>>
-    ensures { MatchOption result ((rows : List Row) → GivesExpr (file_of file.now) lines.entry.now frame (see_expr expr.now) number rows → ⊥)
-        (λ rows. GivesExpr (file_of file.now) lines.entry.now frame (see_expr expr.now) number rows) }
+    ensures { MatchOption result ((rows : List Row) → GivesExpr (file_in context.entry.now) (lines_of context.entry.now) frame (see_expr expr.now) number rows → ⊥)
+        (λ rows. GivesExpr (file_in context.entry.now) (lines_of context.entry.now) frame (see_expr expr.now) number rows) }
 {
     match expr {
-        Expr::Literal { site, .. } => rows_said(lines, number, LineKind::Literal, frame, *site),
-        Expr::Function { site, .. } => rows_said(lines, number, LineKind::Fn, frame, *site),
-        Expr::Query(query) => given_by_query(file, lines, frame, query, number),
-        Expr::Found { site, .. } => rows_said(lines, number, LineKind::Found, frame, *site),
+        Expr::Literal { site, .. } => rows_said(
+            &context.lines,
+            number,
+            LineKind::Literal,
+            frame,
+            *site,
+        ),
+        Expr::Function { site, .. } => rows_said(
+            &context.lines,
+            number,
+            LineKind::Fn,
+            frame,
+            *site,
+        ),
+        Expr::Query(query) => given_by_query(context, frame, query, number),
+        Expr::Found { site, .. } => rows_said(
+            &context.lines,
+            number,
+            LineKind::Found,
+            frame,
+            *site,
+        ),
     }
 }
 
 /// Of the variable that is used at a site.
 pub fn given_by_variable<'b>(
-    file: &RuleFile,
-    lines: &'b LineList<'_>,
+    context: &'b LineContext<'_, '_, '_>,
     frame: u64,
     site: u32,
     number: u64,
 ) -> Option<Rows<'b>>
-    ensures { MatchOption result ((rows : List Row) → GivesVariable (file_of file.now) lines.entry.now frame site number rows → ⊥)
-        (λ rows. GivesVariable (file_of file.now) lines.entry.now frame site number rows) }
+    ensures { MatchOption result ((rows : List Row) → GivesVariable (file_in context.entry.now) (lines_of context.entry.now) frame site number rows → ⊥)
+        (λ rows. GivesVariable (file_in context.entry.now) (lines_of context.entry.now) frame site number rows) }
 {
-    match file.bind(site)? {
+    match context.store.file.bind(site)? {
         Bind::Value { up, site } => {
-            let at = outwards(file, lines, up, frame)?;
-            given_by_piece(file, lines, at, site, number)
+            let at = outwards(context, up, frame)?;
+            given_by_piece(context, at, site, number)
         }
         Bind::Capture { up, step } => {
-            let at = outwards(file, lines, up, frame)?;
-            rows_said(lines, number, LineKind::Capture, at, step)
+            let at = outwards(context, up, frame)?;
+            rows_said(&context.lines, number, LineKind::Capture, at, step)
         }
         Bind::Param { up, index } => {
-            let at = outwards(file, lines, up, frame)?;
-            given_by_argument(file, lines, at, index, number)
+            let at = outwards(context, up, frame)?;
+            given_by_argument(context, at, index, number)
         }
     }
 }
 
 /// Of the expression of a let, by its site.
 fn given_by_piece<'b>(
-    file: &RuleFile,
-    lines: &'b LineList<'_>,
+    context: &'b LineContext<'_, '_, '_>,
     frame: u64,
     site: u32,
     number: u64,
 ) -> Option<Rows<'b>>
-    ensures { MatchOption result ((rows : List Row) → GivesPiece (file_of file.now) lines.entry.now frame (piece_at (file_of file.now) site) number rows → ⊥)
-        (λ rows. GivesPiece (file_of file.now) lines.entry.now frame (piece_at (file_of file.now) site) number rows) }
+    ensures { MatchOption result ((rows : List Row) → GivesPiece (file_in context.entry.now) (lines_of context.entry.now) frame (piece_at (file_in context.entry.now) site) number rows → ⊥)
+        (λ rows. GivesPiece (file_in context.entry.now) (lines_of context.entry.now) frame (piece_at (file_in context.entry.now) site) number rows) }
 {
-    match file.find(site)? {
-        Piece::Expr(expr) => given_by_expr(file, lines, frame, expr, number),
-        Piece::Query(query) => given_by_query(file, lines, frame, query, number),
+    match context.find(site)? {
+        Piece::Expr(expr) => given_by_expr(context, frame, expr, number),
+        Piece::Query(query) => given_by_query(context, frame, query, number),
         _ => None,
     }
 }
 
 /// Of the argument of an index, in the frame in which the call stands.
 fn given_by_argument<'b>(
-    file: &RuleFile,
-    lines: &'b LineList<'_>,
+    context: &'b LineContext<'_, '_, '_>,
     frame: u64,
     index: u32,
     number: u64,
 ) -> Option<Rows<'b>>
-    ensures { MatchOption result ((rows : List Row) → GivesArgument (file_of file.now) lines.entry.now frame index number rows → ⊥)
-        (λ rows. GivesArgument (file_of file.now) lines.entry.now frame index number rows) }
+    ensures { MatchOption result ((rows : List Row) → GivesArgument (file_in context.entry.now) (lines_of context.entry.now) frame index number rows → ⊥)
+        (λ rows. GivesArgument (file_in context.entry.now) (lines_of context.entry.now) frame index number rows) }
 {
-    let line = line_of(lines, frame)?;
+    let line = line_of(&context.lines, frame)?;
     match line.kind {
         LineKind::Frame => {}
         _ => return None,
     }
     let caller = line.frame?;
-    let args = args_at(file, line.site?)?;
+    let args = args_at(context, line.site?)?;
     let Some(arg) = args.get(index as usize) else {
         return None;
     };
-    given_by_expr(file, lines, caller, arg, number)
+    given_by_expr(context, caller, arg, number)
 }

@@ -87,7 +87,7 @@ fn is_found_by(
     let [cite] = cites else {
         return false;
     };
-    match given_by_query(context.store.file, &context.lines, frame, query, *cite) {
+    match given_by_query(context, frame, query, *cite) {
         Some(all) => are_found(&all, rows),
         None => false,
     }

@@ -2,39 +2,38 @@
 ghost use Rattle.std.specs.Prelude.{◌≡◌, ◌<◌, MatchBool, Some, is_some, length, map, option_and_then, option_map};
 ghost use Rattle.guard_syntax.specs.code.Seen.{expr_list, see_body, see_expr, see_part, see_query, see_step};
 ghost use Rattle.guard_syntax.specs.Syntax.{File};
-ghost use Rattle.rule_names.specs.code.Files.{file_of};
 ghost use Rattle.rule_names.specs.Pieces.{piece_at};
 ghost use Rattle.evidence_rules.specs.CitedLines.{args_at, args_of_part, around_site, called_body, file_frame, outer_frame, outwards, scope_of, scope_of_part, scope_of_piece, scope_of_step};
 ghost use Rattle.evidence_rules.specs.Follows.{IsFileFrame, home_for, is_body};
 ghost use Rattle.rule_meaning.specs.Places.{step_in, steps_in};
-ghost use Rattle.evidence_lookups.specs.code.Grounds.{known_of, lines_of};
+ghost use Rattle.evidence_lookups.specs.code.Grounds.{file_in, known_of, lines_of};
 
 use crate::line_context::LineContext;
 use crate::lookup::line_of;
-use evidence_lines::{Line, LineKind, LineList};
+use evidence_lines::{LineKind, LineList, LinePlace};
 use guard_syntax::{Body, Expr, Part, Query, Step, StepForm};
-use rule_names::{Piece, RuleFile};
+use rule_names::Piece;
 
 /// The scope for which a frame stands, by its site.
-pub fn scope_of(file: &RuleFile, lines: &LineList<'_>, frame: u64) -> Option<u32>
-    ensures { result ≡ scope_of (file_of file.now) lines.now frame }
+pub fn scope_of(context: &LineContext<'_, '_, '_>, frame: u64) -> Option<u32>
+    ensures { result ≡ scope_of (file_in context.now) (lines_of context.now) frame }
 {
-    let line = line_of(lines, frame)?;
-    match line.kind {
+    let place = context.lines.place_at(frame)?;
+    match place.kind {
         LineKind::File => Some(0),
-        LineKind::Frame => scope_at(file, line.site?),
+        LineKind::Frame => scope_at(context, place.site?),
         _ => None,
     }
 }
 
 /// The scope that the part of a site is, if it is one.
-fn scope_at(file: &RuleFile, site: u32) -> Option<u32>
-    ensures { result ≡ option_and_then (scope_of_piece (file_of file.now) site) (piece_at (file_of file.now) site) }
+fn scope_at(context: &LineContext<'_, '_, '_>, site: u32) -> Option<u32>
+    ensures { result ≡ option_and_then (scope_of_piece (file_in context.now) site) (piece_at (file_in context.now) site) }
 {
-    match file.find(site)? {
+    match context.find(site)? {
         Piece::Body(_) => Some(site),
         Piece::Step { query, index } => scope_of_step(site, query, index),
-        Piece::Part(part) => scope_of_part(file, site, part),
+        Piece::Part(part) => scope_of_part(context, site, part),
         _ => None,
     }
 }
@@ -60,30 +59,30 @@ fn scope_of_filter(site: u32, step: &Step) -> Option<u32>
 }
 
 /// The scope that a part is: a call is that of the called body.
-fn scope_of_part(file: &RuleFile, site: u32, part: &Part) -> Option<u32>
-    ensures { result ≡ scope_of_part (file_of file.now) site (see_part part.now) }
+fn scope_of_part(context: &LineContext<'_, '_, '_>, site: u32, part: &Part) -> Option<u32>
+    ensures { result ≡ scope_of_part (file_in context.now) site (see_part part.now) }
 {
     match part {
-        Part::Call { .. } => Some(called_body(file, site)?.site),
+        Part::Call { .. } => Some(called_body(context, site)?.site),
         _ => None,
     }
 }
 
 /// The body of the rule that the call of a site names.
-pub fn called_body(file: &RuleFile, site: u32) -> Option<&Body>
-    ensures { option_map (λ body. see_body body.now) result ≡ called_body (file_of file.entry.now) site }
+pub fn called_body<'t>(context: &LineContext<'_, 't, '_>, site: u32) -> Option<&'t Body>
+    ensures { option_map (λ body. see_body body.now) result ≡ called_body (file_in context.entry.now) site }
 {
-    match file.find(file.target(site)?)? {
+    match context.find(context.store.file.target(site)?)? {
         Piece::Rule(rule) => Some(&rule.body),
         _ => None,
     }
 }
 
 /// The arguments of the call of a site.
-pub(crate) fn args_at(file: &RuleFile, site: u32) -> Option<&[Expr]>
-    ensures { option_map (λ args. expr_list (map see_expr args.now)) result ≡ args_at (file_of file.entry.now) site }
+pub(crate) fn args_at<'t>(context: &LineContext<'_, 't, '_>, site: u32) -> Option<&'t [Expr]>
+    ensures { option_map (λ args. expr_list (map see_expr args.now)) result ≡ args_at (file_in context.entry.now) site }
 {
-    match file.find(site)? {
+    match context.find(site)? {
         Piece::Part(part) => args_of_part(part),
         _ => None,
     }
@@ -103,39 +102,39 @@ pub(crate) fn args_of_part(part: &Part) -> Option<&[Expr]>
 pub fn is_file_frame(context: &LineContext<'_, '_, '_>, frame: u64) -> bool
     ensures { MatchBool result (IsFileFrame (known_of context.now) (lines_of context.now) frame) (IsFileFrame (known_of context.now) (lines_of context.now) frame → ⊥) }
 {
-    match line_of(&context.lines, frame) {
-        Some(line) => line.kind == LineKind::File,
+    match context.lines.kind_at(frame) {
+        Some(kind) => kind == LineKind::File,
         None => false,
     }
 }
 
 /// The frame around a frame; around a called body it is the file's.
-fn outer_frame(file: &RuleFile, lines: &LineList<'_>, frame: u64) -> Option<u64>
-    ensures { result ≡ outer_frame (file_of file.now) lines.now frame }
+fn outer_frame(context: &LineContext<'_, '_, '_>, frame: u64) -> Option<u64>
+    ensures { result ≡ outer_frame (file_in context.now) (lines_of context.now) frame }
 {
-    let line = line_of(lines, frame)?;
-    match line.kind {
-        LineKind::Frame => around_site(file, lines, frame, &line),
+    let place = context.lines.place_at(frame)?;
+    match place.kind {
+        LineKind::Frame => around_site(context, frame, place),
         _ => None,
     }
 }
 
 /// The frame around a `frame` line.
-fn around_site(file: &RuleFile, lines: &LineList<'_>, frame: u64, line: &Line<'_>) -> Option<u64>
-    ensures { result ≡ around_site (file_of file.now) lines.now frame line.now.frame (option_and_then (args_at (file_of file.now)) line.now.site) }
+fn around_site(context: &LineContext<'_, '_, '_>, frame: u64, place: LinePlace) -> Option<u64>
+    ensures { result ≡ around_site (file_in context.now) (lines_of context.now) frame place.frame (option_and_then (args_at (file_in context.now)) place.site) }
 {
-    if is_call(file, line.site) {
-        return file_frame(lines, frame);
+    if is_call(context, place.site) {
+        return file_frame(&context.lines, frame);
     }
-    line.frame
+    place.frame
 }
 
 /// Whether the part of a site is the call of a rule.
-fn is_call(file: &RuleFile, site: Option<u32>) -> bool
-    ensures { result ≡ is_some (option_and_then (args_at (file_of file.now)) site) }
+fn is_call(context: &LineContext<'_, '_, '_>, site: Option<u32>) -> bool
+    ensures { result ≡ is_some (option_and_then (args_at (file_in context.now)) site) }
 {
     match site {
-        Some(site) => args_at(file, site).is_some(),
+        Some(site) => args_at(context, site).is_some(),
         None => false,
     }
 }
@@ -166,13 +165,13 @@ fn file_frame(lines: &LineList<'_>, frame: u64) -> Option<u64>
 }
 
 /// The frame so many frames further out.
-pub(crate) fn outwards(file: &RuleFile, lines: &LineList<'_>, up: u32, frame: u64) -> Option<u64>
-    ensures { result ≡ outwards (file_of file.now) lines.now up frame }
+pub(crate) fn outwards(context: &LineContext<'_, '_, '_>, up: u32, frame: u64) -> Option<u64>
+    ensures { result ≡ outwards (file_in context.now) (lines_of context.now) up frame }
 {
     let mut at = frame;
     let mut left = up;
     while left > 0 {
-        let Some(outer) = outer_frame(file, lines, at) else {
+        let Some(outer) = outer_frame(context, at) else {
             return None;
         };
         at = outer;
@@ -182,27 +181,27 @@ pub(crate) fn outwards(file: &RuleFile, lines: &LineList<'_>, up: u32, frame: u6
 }
 
 /// The scope in which a line of a kind and site is evaluated.
-pub fn home_for(file: &RuleFile, kind: LineKind, site: u32) -> u32
-    requires { site < length (file_of file.now).places }
-    ensures { result ≡ home_for (file_of file.now) kind site }
+pub fn home_for(context: &LineContext<'_, '_, '_>, kind: LineKind, site: u32) -> u32
+    requires { site < length (file_in context.now).places }
+    ensures { result ≡ home_for (file_in context.now) kind site }
 {
     match kind {
         LineKind::Conj => {
-            if is_body(file, site) {
+            if is_body(context, site) {
                 site
             } else {
-                file.home(site)
+                context.store.file.home(site)
             }
         }
-        _ => file.home(site),
+        _ => context.store.file.home(site),
     }
 }
 
 /// Whether the part of a site is a body.
-fn is_body(file: &RuleFile, site: u32) -> bool
-    ensures { result ≡ is_body (piece_at (file_of file.now) site) }
+fn is_body(context: &LineContext<'_, '_, '_>, site: u32) -> bool
+    ensures { result ≡ is_body (piece_at (file_in context.now) site) }
 {
-    match file.find(site) {
+    match context.find(site) {
         Some(Piece::Body(_)) => true,
         _ => false,
     }

@@ -1,6 +1,7 @@
 //! Lines by their numbers, their kind, frame and site.
-ghost use Rattle.std.specs.Prelude.{◌≡◌, List, MatchBool, MatchOption};
+ghost use Rattle.std.specs.Prelude.{◌≡◌, ℕ, List, Some, MatchBool, MatchOption};
 ghost use Rattle.evidence_lines.specs.Lines.{line_of};
+ghost use Rattle.evidence_lines.specs.declared.line.Line.{Line};
 ghost use Rattle.evidence_lines.specs.declared.line.LineKind.TheVariants as kind;
 ghost use Rattle.evidence_lines.specs.declared.line.Outcome.{Outcome};
 ghost use Rattle.evidence_lines.specs.declared.line.Outcome.TheVariants as says;
@@ -29,9 +30,9 @@ pub fn said<'b>(
     ensures { MatchOption result ((outcome : Outcome) → IsLine lines.entry.now number kind frame site outcome → ⊥)
         (λ outcome. IsLine lines.entry.now number kind frame site outcome) }
 {
-    let line = line_of(lines, number)?;
-    if line.kind == kind && line.frame == Some(frame) && line.site == Some(site) {
-        Some(line.outcome)
+    let place = lines.place_at(number)?;
+    if place.kind == kind && place.frame == Some(frame) && place.site == Some(site) {
+        lines.outcome_at(number)
     } else {
         None
     }
@@ -82,6 +83,30 @@ pub fn verdict_said(
     }
 }
 
+/// The verdict that a line which is at hand says, where it is of this kind and of this site.
+pub fn verdict_in(line: &Line<'_>, kind: LineKind, site: u32) -> Option<Verdict>
+    ensures { (lines : List Line) (number at : ℕ) → Some line.now ≡ line_of lines number → line.now.frame ≡ Some at → MatchOption result
+        ((verdict : Verdict) → IsLine lines number kind at site (says.Verdict verdict) → ⊥)
+        (λ verdict. IsLine lines number kind at site (says.Verdict verdict)) }
+{
+    if line.kind == kind && line.site == Some(site) {
+        verdict_of(&line.outcome)
+    } else {
+        None
+    }
+}
+
+/// The verdict of an outcome.
+fn verdict_of(outcome: &Outcome<'_>) -> Option<Verdict>
+    ensures { MatchOption result ((verdict : Verdict) → outcome.now ≡ says.Verdict verdict → ⊥)
+        (λ verdict. outcome.now ≡ says.Verdict verdict) }
+{
+    match outcome {
+        Outcome::Verdict(verdict) => Some(*verdict),
+        Outcome::Value(_) | Outcome::Rows(_) => None,
+    }
+}
+
 /// Whether the line of a number is a frame of this site in this frame, with this value.
 pub(crate) fn is_frame(lines: &LineList<'_>, number: u64, frame: u64, site: u32, value: Ref) -> bool
     ensures { MatchBool result (IsLine lines.now number kind.Frame frame site (says.Value value))
@@ -97,7 +122,7 @@ pub(crate) fn is_frame(lines: &LineList<'_>, number: u64, frame: u64, site: u32,
 pub fn value_of(lines: &LineList<'_>, frame: u64) -> Option<Ref>
     ensures { result ≡ value_of lines.now frame }
 {
-    match line_of(lines, frame)?.outcome {
+    match lines.outcome_at(frame)? {
         Outcome::Value(value) => Some(value),
         _ => None,
     }

@@ -7,7 +7,7 @@ ghost use Rattle.evidence_rules.specs.CitedLines.{body_site};
 ghost use Rattle.evidence_lookups.specs.code.Owned.{AreOwners, marks_of, marks_upto, owned_by, with_mark};
 
 use guard_syntax::{Part, Rule};
-use rule_names::{Piece, RuleFile};
+use rule_names::{Piece, PieceTable};
 use std::alloc::{AllocError, Global};
 
 /// Whose a body is.
@@ -31,13 +31,13 @@ pub struct Owners {
 }
 
 impl Owners {
-    /// The owners of the bodies of a rule file.
-    pub fn new(alloc: Global, file: &RuleFile) -> Result<Owners, AllocError>
-        ensures { IfOk result (λ owners. AreOwners (file_of file.now) owners) }
+    /// The owners of the bodies of a rule file, by its parts.
+    pub fn new(alloc: Global, pieces: &PieceTable<'_>) -> Result<Owners, AllocError>
+        ensures { IfOk result (λ owners. AreOwners (file_of pieces.now.file.now) owners) }
     {
-        let rules = bodies_of(alloc, file, Owner::Rule)?;
-        let whens = bodies_of(alloc, file, Owner::When)?;
-        let blocks = bodies_of(alloc, file, Owner::Block)?;
+        let rules = bodies_of(alloc, pieces, Owner::Rule)?;
+        let whens = bodies_of(alloc, pieces, Owner::When)?;
+        let blocks = bodies_of(alloc, pieces, Owner::Block)?;
         Ok(Owners {
             rules,
             whens,
@@ -68,16 +68,16 @@ fn is_marked(marks: &[bool], site: u32) -> bool
 }
 
 /// The table of an owner: each site is looked at once.
-fn bodies_of(alloc: Global, file: &RuleFile, owner: Owner) -> Result<Vec<bool>, AllocError>
-    ensures { IfOk result (λ marks. marks.items ≡ marks_upto (file_of file.now) owner (length (file_of file.now).places)) }
+fn bodies_of(alloc: Global, pieces: &PieceTable<'_>, owner: Owner) -> Result<Vec<bool>, AllocError>
+    ensures { IfOk result (λ marks. marks.items ≡ marks_upto (file_of pieces.now.file.now) owner (length (file_of pieces.now.file.now).places)) }
 {
     // No file has more sites than a `u32` counts.
-    let Ok(count) = u32::try_from(file.raw.places.as_slice().len()) else {
+    let Ok(count) = u32::try_from(pieces.file.raw.places.as_slice().len()) else {
         return Err(AllocError);
     };
     let mut marks = vec![in alloc; false; count as usize]?;
     for site in 0..count {
-        mark(&mut marks, owned_site(file, site, owner));
+        mark(&mut marks, owned_site(pieces, site, owner));
     }
     Ok(marks)
 }
@@ -95,10 +95,10 @@ fn mark(marks: &mut Vec<bool>, site: Option<u32>)
 }
 
 /// The site of the body that belongs to the part of a site, where that is such an owner.
-fn owned_site(file: &RuleFile, site: u32, owner: Owner) -> Option<u32>
-    ensures { result ≡ option_map body_site (owned_by owner (piece_at (file_of file.now) site)) }
+fn owned_site(pieces: &PieceTable<'_>, site: u32, owner: Owner) -> Option<u32>
+    ensures { result ≡ option_map body_site (owned_by owner (piece_at (file_of pieces.now.file.now) site)) }
 {
-    match file.find(site)? {
+    match pieces.find(site)? {
         Piece::Rule(rule) => owned_by_rule(rule, owner),
         Piece::Part(part) => owned_by_part(part, owner),
         _ => None,

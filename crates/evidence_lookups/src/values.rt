@@ -29,7 +29,7 @@ pub fn is_frame_of(context: &LineContext<'_, '_, '_>, frame: u64, site: u32, val
 {
     // A tree has a root, as `len` says.
     let _nodes = context.store.doc.len();
-    match context.store.file.find(site) {
+    match context.find(site) {
         Some(Piece::Body(body)) => is_frame_of_body(context, frame, site, body, value),
         Some(Piece::Step { query, index }) => match scope_of_step(site, query, index) {
             Some(_) => is_known(context.store, value),
@@ -79,7 +79,7 @@ fn is_frame_of_owned(
         (IsOwned (known_of context.now) (lines_of context.now) owner (see_body body.now) × HasOwned (known_of context.now) (lines_of context.now) owner frame value)
         (IsOwned (known_of context.now) (lines_of context.now) owner (see_body body.now) × HasOwned (known_of context.now) (lines_of context.now) owner frame value → ⊥) }
 {
-    if !context.owners.owns(owner, body.site) {
+    if !context.tables.owners.owns(owner, body.site) {
         return false;
     }
     match owner {

@@ -10,7 +10,7 @@ ghost use Rattle.evidence_report.specs.code.Leads.{current_ref};
 
 use evidence_lines::{LineList, Outcome, Rows};
 use evidence_lookups::line_context::LineContext;
-use evidence_lookups::lookup::{line_of, value_of};
+use evidence_lookups::lookup::value_of;
 use guard_syntax::{Conds, Origin, Ref, Verdict};
 
 /// Whether the line of a number says FAIL. No more of it is looked at than its verdict.
@@ -36,8 +36,8 @@ fn is_some_fail(verdict: Option<Verdict>) -> bool
 pub(crate) fn rows_of_line<'b>(lines: &'b LineList<'_>, number: u64) -> Rows<'b>
     ensures { (known : StoreModel) → result ≡ rows_of_line known lines.entry.now number }
 {
-    match line_of(lines, number) {
-        Some(line) => rows_in(line.outcome),
+    match lines.outcome_at(number) {
+        Some(outcome) => rows_in(outcome),
         None => Rows::new(&[]),
     }
 }

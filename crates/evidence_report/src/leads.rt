@@ -16,7 +16,7 @@ ghost use Rattle.evidence_report.specs.code.Leads.{Appends, IsShown, block_leads
 
 use crate::cited::{behind_conds, current_ref, is_failing, rows_cited, rows_of_line};
 use crate::lead::Lead;
-use crate::rows::{RowTest, push_first_missing, push_found, push_missing, push_test, push_value};
+use crate::rows::{SitedTest, push_first_missing, push_found, push_missing, push_test, push_value};
 use evidence_lines::Line;
 use evidence_lookups::line_context::LineContext;
 use evidence_lookups::lookup::line_of;
@@ -62,7 +62,7 @@ fn push_line(
 {
     match line.site {
         None => push_cites(context, line.cites.as_slice(), into),
-        Some(site) => match context.store.file.find(site) {
+        Some(site) => match context.find(site) {
             Some(Piece::Part(part)) => push_part(alloc, context, part, line, into),
             _ => push_cites(context, line.cites.as_slice(), into),
         },
@@ -126,7 +126,7 @@ fn push_rows_test(
 {
     let rights = rows_cited(&context.lines, cites, 1).gather(alloc)?;
     let lefts = rows_cited(&context.lines, cites, 0).gather(alloc)?;
-    let rows = RowTest {
+    let rows = SitedTest {
         part: test.part,
         op: test.op,
         not: test.not,

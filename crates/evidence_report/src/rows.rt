@@ -14,14 +14,14 @@ use crate::lead::Lead;
 use crate::shown::shown;
 use evidence_lookups::line_context::LineContext;
 use guard_syntax::{Op, Ref, Row};
-use query_steps::row_passes;
+use query_steps::{RowTest, row_passes};
 use report_text::{Entry, Shown, Word};
 use std::alloc::{AllocError, Global};
 use value_compare::Matchers;
 
 /// A test of rows against right rows, by the site of its part.
 #[derive(Clone, Copy)]
-pub(crate) struct RowTest<'r> {
+pub(crate) struct SitedTest<'r> {
     pub part: u32,
     pub op: Op,
     pub not: bool,
@@ -106,7 +106,7 @@ fn push_tested(
 fn push_failed(
     matchers: &mut Matchers<'_>,
     context: &LineContext<'_, '_, '_>,
-    test: &RowTest<'_>,
+    test: &SitedTest<'_>,
     left: &Row,
     into: &mut Vec<Lead>,
 ) -> Result<(), AllocError>
@@ -117,14 +117,12 @@ fn push_failed(
         (own (failed_row (known_of context.now) (lines_of context.now) test.now.part (passes (known_of context.now) test.now.op test.now.not test.now.rights.now) left.now))) }
     ensures kept { matchers.new.book.now ≡ matchers.old.book.now }
 {
-    if row_passes(
-        matchers,
-        test.op,
-        test.not,
-        left,
-        test.rights,
-        context.store,
-    )? {
+    let asked = RowTest {
+        op: test.op,
+        not: test.not,
+        rights: test.rights,
+    };
+    if row_passes(matchers, asked, left, context.store)? {
         return Ok(());
     }
     push_tested(context, test.part, left, into)
@@ -134,7 +132,7 @@ fn push_failed(
 pub(crate) fn push_test(
     alloc: Global,
     context: &LineContext<'_, '_, '_>,
-    test: &RowTest<'_>,
+    test: &SitedTest<'_>,
     lefts: &[Row],
     into: &mut Vec<Lead>,
 ) -> Result<(), AllocError>
@@ -151,7 +149,7 @@ pub(crate) fn push_test(
 fn push_each_failed(
     matchers: &mut Matchers<'_>,
     context: &LineContext<'_, '_, '_>,
-    test: &RowTest<'_>,
+    test: &SitedTest<'_>,
     lefts: &[Row],
     into: &mut Vec<Lead>,
 ) -> Result<(), AllocError>

@@ -11,7 +11,6 @@ ghost use Rattle.evidence_lookups.specs.code.Grounds.{known_of, lines_of};
 
 use evidence_lines::LineList;
 use evidence_lookups::line_context::LineContext;
-use evidence_lookups::lookup::line_of;
 use guard_syntax::{Origin, Ref};
 use report_text::Shown;
 
@@ -35,8 +34,8 @@ pub(crate) fn shown(context: &LineContext<'_, '_, '_>, value: Ref) -> Shown
 fn site_of(lines: &LineList<'_>, number: u64) -> u32
     ensures { result ≡ option_map_or (λ (l : Line). unwrap_or l.site 0) (line_of lines.now number) 0 }
 {
-    match line_of(lines, number) {
-        Some(line) => line.site.unwrap_or(0),
+    match lines.place_at(number) {
+        Some(place) => place.site.unwrap_or(0),
         None => 0,
     }
 }

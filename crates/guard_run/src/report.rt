@@ -21,7 +21,7 @@ ghost use Rattle.guard_run.specs.code.Forms.{report_in};
 
 use crate::inputs::{Inputs, Ready};
 use evidence_lookups::line_context::LineContext;
-use evidence_lookups::owners::Owners;
+use evidence_lookups::tables::FileTables;
 use evidence_report::{verdicts_told, write_drill, write_report};
 use guard_io::CleanSink;
 use guard_syntax::Verdict;
@@ -82,9 +82,9 @@ pub(crate) fn judgement_of(
         → IfOk result (λ j. j.failed ≡ list_any is_fail (verdicts_of (world_over (file_of ready.now.inputs.now.rules.now) ready.now.inputs.now.tree answers))) }
 {
     let inputs = ready.inputs;
-    let owners = Owners::new(alloc, inputs.rules)?;
+    let tables = FileTables::new(alloc, evaluation.store.file)?;
     let judged = judged_lines(alloc, evaluation)?;
-    let context = line_context(alloc, evaluation, &ready.book, &owners, &judged);
+    let context = line_context(alloc, evaluation, &ready.book, &tables, &judged);
     judgement_by(alloc, &context, inputs, form)
 }
 

@@ -12,7 +12,7 @@ ghost use Rattle.rule_calls.specs.code.Ends.{AreOfEngine};
 ghost use Rattle.guard_ends.specs.Reported.{verdicts_of, world_over};
 
 use doc_values::Doc;
-use evidence_lookups::owners::Owners;
+use evidence_lookups::tables::FileTables;
 use evidence_report::verdicts_told;
 use guard_syntax::Verdict;
 use rule_calls::{Evaluation, evaluate, judged_lines, line_context};
@@ -50,8 +50,8 @@ fn verdicts_by(
     ensures { (answers : Answers) → IsAnswering (world_over (file_of rules.now) (see_store evaluation.now.store).template answers)
         → IfOk result (λ verdicts. verdicts.items ≡ verdicts_of (world_over (file_of rules.now) (see_store evaluation.now.store).template answers)) }
 {
-    let owners = Owners::new(alloc, rules)?;
+    let tables = FileTables::new(alloc, evaluation.store.file)?;
     let judged = judged_lines(alloc, evaluation)?;
-    let context = line_context(alloc, evaluation, book, &owners, &judged);
+    let context = line_context(alloc, evaluation, book, &tables, &judged);
     verdicts_told(alloc, &context)
 }

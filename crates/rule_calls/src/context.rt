@@ -5,13 +5,13 @@ ghost use Rattle.value_compare.specs.code.Books.{IsBookOf};
 ghost use Rattle.value_compare.specs.code.Stores.{see_store};
 ghost use Rattle.evidence_lookups.specs.code.Grounds.{known_of, lines_of};
 ghost use Rattle.evidence_lookups.specs.code.JudgedSites.{AreJudged};
-ghost use Rattle.evidence_lookups.specs.code.Owned.{AreOwners};
+ghost use Rattle.evidence_lookups.specs.code.Tables.{AreTablesOf};
 ghost use Rattle.rule_calls.specs.code.Ends.{AreOfEngine};
 
 use crate::evaluation::Evaluation;
 use evidence_lookups::judged::{Judged, is_rule_line};
 use evidence_lookups::line_context::LineContext;
-use evidence_lookups::owners::Owners;
+use evidence_lookups::tables::FileTables;
 use std::alloc::{AllocError, Global};
 use value_compare::PatternBook;
 
@@ -36,18 +36,18 @@ pub fn judged_lines(alloc: Global, evaluation: &Evaluation<'_, '_>) -> Result<Ju
     Ok(judged)
 }
 
-/// The lines of an evaluation, over its store and the patterns, with the owners of the bodies of its file and the verdicts of
-/// its `rule` lines. It takes no memory.
+/// The lines of an evaluation, over its store and the patterns, with the tables of its file and the verdicts of its `rule`
+/// lines. It takes no memory.
 pub fn line_context<'g, 't, 's>(
     alloc: Global,
     evaluation: &'g Evaluation<'t, 's>,
     book: &'g PatternBook,
-    owners: &'g Owners,
+    tables: &'g FileTables<'t>,
     judged: &'g Judged,
 ) -> LineContext<'g, 't, 's>
     requires whole { AreOfEngine (see_store evaluation.now.store) evaluation.now.evidence.lines }
     requires book { IsBookOf (see_store evaluation.now.store).file book.now }
-    requires owners { AreOwners (see_store evaluation.now.store).file owners.now }
+    requires tables { AreTablesOf evaluation.now.store.file.now tables.now }
     requires judged { AreJudged evaluation.now.evidence.lines judged.now.of.items }
     ensures version { result.version ≡ Two }
     ensures known { known_of result ≡ see_store evaluation.entry.now.store }
@@ -56,9 +56,10 @@ pub fn line_context<'g, 't, 's>(
     LineContext {
         alloc,
         version: evaluation.evidence.version(),
+        file: evaluation.store.file,
         store: &evaluation.store,
         book,
-        owners,
+        tables,
         judged,
         lines: evaluation.evidence.lines(),
     }

@@ -30,4 +30,4 @@ add-requires-clause-plain c =
     tree-plain c.args.answer.items c.in-Some.made c.in-Tree.tree (length c.loop-made.yielded) c.requires.plain turn.0 turn.1 c.in-Tree.is
 
 pub loop-made-init : goal.loop-made-init
-loop-made-init c = record { at = refl; store = sym (grown-nothing (see_store c.args.store.now)) }
+loop-made-init c = record { at = refl; store = sym (grown-nothing (see_store c.args.store.now)); file = refl }

@@ -5,20 +5,20 @@ use Rattle.std.proofs.Common.{◌++◌, [], ◌∷◌, List, arith, map, ap, ◌
 use Rattle.std.proofs.lemmas.List.{map-append, take_all}
 use Rattle.guard_builtins.specs.code.Seen.{see_rows}
 use Rattle.guard_syntax.specs.declared.row.Row.{Row}
-use Rattle.rule_names.specs.code.Files.{file_of}
+use Rattle.evidence_lookups.specs.code.Grounds.{file_in, lines_of}
 use Rattle.evidence_checker.proofs.ArgumentsGiven.{args-counted, args-lacking, args-next}
 use Rattle.evidence_checker.proofs.calls.rows_of_args.Goals as goal
 
 pub returns-then-args-cites : goal.returns-then-args-cites
-returns-then-args-cites c = λ all h. let many = args-counted (file_of c.args.file.now) c.args.lines.now c.args.line.frame c.args.args.now c.args.line.cites.now all h in absurd (omega (arith, c.if-args-cites.true, many))
+returns-then-args-cites c = λ all h. let many = args-counted (file_in c.args.context.now) (lines_of c.args.context.now) c.args.line.frame c.args.args.now c.args.line.cites.now all h in absurd (omega (arith, c.if-args-cites.true, many))
 
 pub returns-in_default : goal.returns-in_default
 returns-in_default c =
-    args-lacking (file_of c.args.file.now) c.args.lines.now c.args.line.frame c.args.args.now c.args.line.cites.now c.loop-at.at c.index-args-at.result (omega arith) c.index-args-at.is c.in_default.ensures
+    args-lacking (file_in c.args.context.now) (lines_of c.args.context.now) c.args.line.frame c.args.args.now c.args.line.cites.now c.loop-at.at c.index-args-at.result (omega arith) c.index-args-at.is c.in_default.ensures
 
 pub loop-at-preserved : goal.loop-at-preserved
 loop-at-preserved c =
-    args-next (file_of c.args.file.now) c.args.lines.now c.args.line.frame c.args.args.now c.args.line.cites.now c.loop-at.at c.index-args-at.result (omega arith) (omega (arith, c.if-args-cites.false)) c.index-args-at.is
+    args-next (file_in c.args.context.now) (lines_of c.args.context.now) c.args.line.frame c.args.args.now c.args.line.cites.now c.loop-at.at c.index-args-at.result (omega arith) (omega (arith, c.if-args-cites.false)) c.index-args-at.is
     (map see_rows c.loop-at.all.items) (map see_rows c.push.new.self.items) c.in-Some.rows c.loop-at.invariant c.in-Some.ensures
     (ap (map see_rows) c.in_ok-push.ensures.items ∙ map-append see_rows c.loop-at.all.items (c.in_ok-to_vec.field-0 ∷ [])
     ∙ ap (λ (rows : List Row). map see_rows c.loop-at.all.items ++ rows ∷ []) c.in_ok-to_vec.ensures)
@@ -26,7 +26,7 @@ loop-at-preserved c =
 pub returns : goal.returns
 returns c =
     let past : length c.args.line.cites.now ≤ c.loop-at.at = omega (arith, c.if-args-cites.false, c.loop-at-test.false) in
-    subst (λ (es : List Expr). GiveArgs (file_of c.args.file.now) c.args.lines.now c.args.line.frame (expr_list (map see_expr es)) c.args.line.cites.now (map see_rows c.loop-at.all.items))
+    subst (λ (es : List Expr). GiveArgs (file_in c.args.context.now) (lines_of c.args.context.now) c.args.line.frame (expr_list (map see_expr es)) c.args.line.cites.now (map see_rows c.loop-at.all.items))
     (take_all c.loop-at.at c.args.args.now c.loop-at-test.false)
-    (subst (λ (cs : List ℕ). GiveArgs (file_of c.args.file.now) c.args.lines.now c.args.line.frame (expr_list (map see_expr (take c.loop-at.at c.args.args.now))) cs (map see_rows c.loop-at.all.items))
+    (subst (λ (cs : List ℕ). GiveArgs (file_in c.args.context.now) (lines_of c.args.context.now) c.args.line.frame (expr_list (map see_expr (take c.loop-at.at c.args.args.now))) cs (map see_rows c.loop-at.all.items))
     (take_all c.loop-at.at c.args.line.cites.now past) c.loop-at.invariant)

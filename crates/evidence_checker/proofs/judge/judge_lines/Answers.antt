@@ -5,6 +5,8 @@ use Rattle.guard_syntax.specs.code.Seen.{see_file}
 use Rattle.guard_syntax.specs.declared.syntax.RawFile.{RawFile}
 use Rattle.evidence_lines.specs.declared.line.Line.{Line}
 use Rattle.evidence_lines.specs.declared.version.Version.{Version}
+use Rattle.rule_names.specs.code.Files.{file_of}
+use Rattle.rule_names.specs.declared.file.RuleFile.{RuleFile}
 use Rattle.rule_meaning.specs.StoreModel.{Made, StoreModel}
 use Rattle.value_compare.specs.code.Books.{IsBookOf}
 use Rattle.value_compare.specs.code.Stores.{see_store}
@@ -36,8 +38,10 @@ loop-before-init c =
 
 pub invariant_of-context : goal.invariant_of-context
 invariant_of-context c = record {
-  book_is = subst (λ (f : File). IsBookOf f c.args.book.now) (sym c.loop-before.invariant.file) c.requires.book;
-  owners_are = subst (λ (f : File). AreOwners f c.args.owners.now) (sym c.loop-before.invariant.file) c.requires.owners;
+  book_is = subst (λ (f : RuleFile). IsBookOf (file_of f) c.args.book.now) (sym c.loop-before.invariant.file) c.requires.book;
+  store_over = refl;
+  pieces_over = c.requires.tables.0 ∙ sym c.loop-before.invariant.file;
+  owners_are = subst (λ (f : RuleFile). AreOwners (file_of f) c.args.tables.now.owners) (sym c.loop-before.invariant.file) c.requires.tables.1;
   judged_are = noted c.first.result c.loop-before.judged.of.items (subst (λ (ls : List Line). AreJudged ls c.loop-before.judged.of.items) (sym c.first.ensures) c.loop-before.invariant.judged);
   sound = subst (λ (ls : List Line). AreSound (see_store c.loop-before.store) ls) (sym c.first.ensures) c.loop-before.invariant.sound;
   within = subst (λ (n : ℕ). AreMadeWithin n c.loop-before.store.made) (sym (counted c.args.evidence.now.lines c.first.result c.loop-before.before c.in-Some.line (sym c.in-Some.ensures.line) c.first.ensures)) c.loop-before.invariant.made;
@@ -76,7 +80,7 @@ note-requires c =
     let line = c.in-Some.line in
     let version = c.version-written.result in
     let made = made-of known seen (Follows version known seen line) (λ (k : StoreModel). IsSound k line) c.in_ok-answer.field-0 c.in-Some-2.answer c.in-Some-2.is c.in_ok-answer.ensures in
-    let leads = leads-here c.args.evidence.now.lines c.first.result c.loop-before.before c.in-Some.line (sym c.in-Some.ensures.line) c.first.ensures known after c.in-Some-2.answer.items c.in_ok-keep.ensures version made in
+    let leads = leads-here c.args.evidence.now.lines c.first.result c.loop-before.before c.in-Some.line (sym c.in-Some.ensures.line) c.first.ensures known after c.in-Some-2.answer.items c.in_ok-keep.ensures.trees version made in
     record {
       shape = shape-here c.args.evidence.now.lines c.first.result c.loop-before.before c.in-Some.line (sym c.in-Some.ensures.line) c.first.ensures version start known c.loop-before.invariant.behind after leads;
       site = λ site site_is.
@@ -95,10 +99,10 @@ loop-before-preserved c =
     let line = c.in-Some.line in
     let version = c.version-written.result in
     let made = made-of known seen (Follows version known seen line) (λ (k : StoreModel). IsSound k line) c.in_ok-answer.field-0 c.in-Some-2.answer c.in-Some-2.is c.in_ok-answer.ensures in
-    let leads = leads-here c.args.evidence.now.lines c.first.result c.loop-before.before c.in-Some.line (sym c.in-Some.ensures.line) c.first.ensures known after c.in-Some-2.answer.items c.in_ok-keep.ensures version made in
+    let leads = leads-here c.args.evidence.now.lines c.first.result c.loop-before.before c.in-Some.line (sym c.in-Some.ensures.line) c.first.ensures known after c.in-Some-2.answer.items c.in_ok-keep.ensures.trees version made in
     let file_is : after.file ≡ known.file = file-on c.args.evidence.now.lines c.first.result c.loop-before.before c.in-Some.line (sym c.in-Some.ensures.line) c.first.ensures version start known c.loop-before.invariant.behind after leads in
     record {
-      file = file_is ∙ c.loop-before.invariant.file;
+      file = c.in_ok-keep.ensures.file ∙ c.loop-before.invariant.file;
       behind = known-on c.args.evidence.now.lines c.first.result c.loop-before.before c.in-Some.line (sym c.in-Some.ensures.line) c.first.ensures version start known c.loop-before.invariant.behind after leads;
       judged =
           judged-on c.args.evidence.now.lines c.first.result c.loop-before.before c.in-Some.line (sym c.in-Some.ensures.line) c.first.ensures version start known c.loop-before.invariant.behind after leads c.note.new.self.of.items
@@ -106,8 +110,8 @@ loop-before-preserved c =
       sites = c.note.ensures.sites ∙ c.loop-before.invariant.sites ∙ ap (λ (f : File). length f.places) (sym file_is);
       sound =
           sound-on c.args.evidence.now.lines c.first.result c.loop-before.before c.in-Some.line (sym c.in-Some.ensures.line) c.first.ensures version start known c.loop-before.invariant.behind after leads c.loop-before.invariant.sound
-          (sound-here c.args.evidence.now.lines c.first.result c.loop-before.before c.in-Some.line (sym c.in-Some.ensures.line) c.first.ensures known after c.in-Some-2.answer.items c.in_ok-keep.ensures version made);
-      made = made-on c.args.evidence.now.lines c.first.result c.loop-before.before c.in-Some.line (sym c.in-Some.ensures.line) c.first.ensures known after c.in-Some-2.answer.items c.in_ok-keep.ensures c.loop-before.invariant.made;
+          (sound-here c.args.evidence.now.lines c.first.result c.loop-before.before c.in-Some.line (sym c.in-Some.ensures.line) c.first.ensures known after c.in-Some-2.answer.items c.in_ok-keep.ensures.trees version made);
+      made = made-on c.args.evidence.now.lines c.first.result c.loop-before.before c.in-Some.line (sym c.in-Some.ensures.line) c.first.ensures known after c.in-Some-2.answer.items c.in_ok-keep.ensures.trees c.loop-before.invariant.made;
     }
 
 pub returns : goal.returns

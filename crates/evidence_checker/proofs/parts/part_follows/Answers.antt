@@ -1,4 +1,4 @@
-use Rattle.std.proofs.Common.{Some, map, ap, refl, sym, ◌∙◌}
+use Rattle.std.proofs.Common.{Some, map, ap, sym, ◌∙◌}
 use Rattle.std.proofs.lemmas.Result.{IfOk-weaker}
 use Rattle.guard_syntax.specs.code.Seen.{expr_list, see_body, see_conds, see_expr, see_opt_conds, see_opt_expr, see_part, see_query}
 use Rattle.guard_syntax.specs.Syntax as sx
@@ -44,10 +44,10 @@ pub returns-in-Refer : goal.returns-in-Refer
 returns-in-Refer c =
     part-decided (version_of c.args.context.now) (known_of c.args.context.now) (lines_of c.args.context.now) c.args.line.frame c.args.line.site c.args.line.cites.now c.args.verdict c.args.line.kind (see_part c.args.part.now)
     (sx.refer c.in-Refer.site c.in-Refer.not c.in-Refer.name c.in-Refer.note) c.reference_follows.result
-    (kind-same c.ne.result c.args.line.kind c.kind_of_part.result c.ne.ensures c.if-ne.false ∙ c.kind_of_part.ensures (known_of c.args.context.now) (lines_of c.args.context.now)) (ap see_part c.in-Refer.is ∙ refer-seen c.in-Refer.site c.in-Refer.not c.in-Refer.name c.in-Refer.note) (c.reference_follows.ensures (known_of c.args.context.now) refl c.in-Refer.site c.in-Refer.name c.in-Refer.note)
+    (kind-same c.ne.result c.args.line.kind c.kind_of_part.result c.ne.ensures c.if-ne.false ∙ c.kind_of_part.ensures (known_of c.args.context.now) (lines_of c.args.context.now)) (ap see_part c.in-Refer.is ∙ refer-seen c.in-Refer.site c.in-Refer.not c.in-Refer.name c.in-Refer.note) (c.reference_follows.ensures c.in-Refer.site c.in-Refer.name c.in-Refer.note)
 
 pub returns-in-Call : goal.returns-in-Call
 returns-in-Call c =
     part-decided (version_of c.args.context.now) (known_of c.args.context.now) (lines_of c.args.context.now) c.args.line.frame c.args.line.site c.args.line.cites.now c.args.verdict c.args.line.kind (see_part c.args.part.now)
     (sx.call c.in-Call.site c.in-Call.not c.in-Call.name (expr_list (map see_expr c.in-Call.args.items)) c.in-Call.note) c.call_follows.result
-    (kind-same c.ne.result c.args.line.kind c.kind_of_part.result c.ne.ensures c.if-ne.false ∙ c.kind_of_part.ensures (known_of c.args.context.now) (lines_of c.args.context.now)) (ap see_part c.in-Call.is ∙ call-seen c.in-Call.site c.in-Call.not c.in-Call.name c.in-Call.args c.in-Call.note) (c.call_follows.ensures (known_of c.args.context.now) refl c.in-Call.site c.in-Call.name (expr_list (map see_expr c.in-Call.args.items)) c.in-Call.note)
+    (kind-same c.ne.result c.args.line.kind c.kind_of_part.result c.ne.ensures c.if-ne.false ∙ c.kind_of_part.ensures (known_of c.args.context.now) (lines_of c.args.context.now)) (ap see_part c.in-Call.is ∙ call-seen c.in-Call.site c.in-Call.not c.in-Call.name c.in-Call.args c.in-Call.note) (c.call_follows.ensures c.in-Call.site c.in-Call.name (expr_list (map see_expr c.in-Call.args.items)) c.in-Call.note)

@@ -1,8 +1,7 @@
-use Rattle.std.proofs.Common.{ap, get_or, sym, ◌∙◌}
+use Rattle.std.proofs.Common.{get_or, sym}
 use Rattle.guard_syntax.specs.code.Seen.{see_body}
-use Rattle.guard_syntax.specs.Syntax.{File}
 use Rattle.guard_syntax.specs.declared.syntax.Body.{out-Body}
-use Rattle.evidence_rules.specs.CitedLines.{called_body}
+use Rattle.evidence_lookups.specs.code.Grounds.{known_of, lines_of}
 use Rattle.evidence_lookups.proofs.PartsSeen.{body-site}
 use Rattle.evidence_checker.proofs.Decided.{same-verdicts}
 use Rattle.evidence_checker.proofs.FramesSaid.{one-cite}
@@ -11,21 +10,31 @@ use Rattle.evidence_checker.proofs.reference_lines.call_follows.Goals as goal
 
 pub returns-in-None : goal.returns-in-None
 returns-in-None c =
-    λ known file_is n name args message. call-never known c.args.lines.now c.args.line.frame (get_or c.args.line.cites.now 0 0) c.args.line.cites.now c.args.verdict
+    let known = known_of c.args.context.now in
+    let lines = lines_of c.args.context.now in
+    λ n name args message. call-never known lines c.args.line.frame (get_or c.args.line.cites.now 0 0) c.args.line.cites.now c.args.verdict
     (one-cite c.args.line.cites.now c.in-len1.len_at_least c.in-len1.len_below) c.args.line.site n c.args.not name message args
-    (see_body c.in-Some.body.now) (out-Body c.in-Some.body.now).site (ap (λ (f : File). called_body f c.args.line.site) file_is ∙ sym c.in-Some.ensures) (sym (body-site c.in-Some.body.now)) c.in-None.ensures
+    (see_body c.in-Some.body.now) (out-Body c.in-Some.body.now).site (sym c.in-Some.ensures) (sym (body-site c.in-Some.body.now)) c.in-None.ensures
 
 pub returns-in-Some-said_within : goal.returns-in-Some-said_within
 returns-in-Some-said_within c =
-    λ known file_is n name args message. call-decided known c.args.lines.now c.args.line.frame (get_or c.args.line.cites.now 0 0) c.args.line.cites.now c.args.verdict
+    let known = known_of c.args.context.now in
+    let lines = lines_of c.args.context.now in
+    λ n name args message. call-decided known lines c.args.line.frame (get_or c.args.line.cites.now 0 0) c.args.line.cites.now c.args.verdict
     (one-cite c.args.line.cites.now c.in-len1.len_at_least c.in-len1.len_below) c.args.line.site n c.args.not name message args
-    (see_body c.in-Some.body.now) (out-Body c.in-Some.body.now).site (ap (λ (f : File). called_body f c.args.line.site) file_is ∙ sym c.in-Some.ensures) (sym (body-site c.in-Some.body.now))
+    (see_body c.in-Some.body.now) (out-Body c.in-Some.body.now).site (sym c.in-Some.ensures) (sym (body-site c.in-Some.body.now))
     c.in-Some-said_within.said c.exchanged.result c.eq.result c.in-Some-said_within.ensures c.exchanged.ensures (same-verdicts c.eq.result c.args.verdict c.exchanged.result c.eq.ensures)
 
 pub returns-in_default-cites : goal.returns-in_default-cites
-returns-in_default-cites c = λ known file_is n name args message.
-    call-uncited known c.args.lines.now c.args.line.frame c.args.line.site n c.args.not name args message c.args.verdict c.args.line.cites.now c.in_default-cites.len_below
+returns-in_default-cites c =
+    let known = known_of c.args.context.now in
+    let lines = lines_of c.args.context.now in
+    λ n name args message.
+    call-uncited known lines c.args.line.frame c.args.line.site n c.args.not name args message c.args.verdict c.args.line.cites.now c.in_default-cites.len_below
 
 pub returns-in_default-cites-2 : goal.returns-in_default-cites-2
-returns-in_default-cites-2 c = λ known file_is n name args message.
-    call-many known c.args.lines.now c.args.line.frame c.args.line.site n c.args.not name args message c.args.verdict c.args.line.cites.now c.in_default-cites.len_at_least
+returns-in_default-cites-2 c =
+    let known = known_of c.args.context.now in
+    let lines = lines_of c.args.context.now in
+    λ n name args message.
+    call-many known lines c.args.line.frame c.args.line.site n c.args.not name args message c.args.verdict c.args.line.cites.now c.in_default-cites.len_at_least

@@ -1,4 +1,4 @@
-use Rattle.std.proofs.Common.{◌≡◌, List, [], refl, sym, ap, ap₂, ◌∙◌, true≢false}
+use Rattle.std.proofs.Common.{◌≡◌, List, [], sym, ap, ap₂, ◌∙◌, true≢false}
 use Rattle.std.specs.List.{list_all}
 use Rattle.std.proofs.lemmas.Option.{none-some}
 use Rattle.guard_syntax.specs.code.Seen.{see_query, see_step}
@@ -7,7 +7,6 @@ use Rattle.rule_meaning.specs.Places.{rows_at_step}
 use Rattle.rule_meaning.specs.StoreModel.{is_known}
 use Rattle.evidence_lookups.specs.code.Grounds.{file_in, known_of, lines_of}
 use Rattle.evidence_lookups.proofs.SaidKnown.{before-said-known, further-said-known, value-said-known}
-use Rattle.evidence_lookups.proofs.SitesWithin.{site-within}
 use Rattle.evidence_checker.proofs.StepLines.{start-bare, step-due, step-lacks}
 use Rattle.evidence_checker.proofs.step_rows.other_follows.Goals as goal
 
@@ -16,53 +15,44 @@ returns-in_default c = record { follows = λ h. none-some h.0 (c.in_default.ensu
 
 pub returns-in_default-rows_before : goal.returns-in_default-rows_before
 returns-in_default-rows_before c = record {
-  follows = λ h. c.in_default-rows_before.ensures (known_of c.args.context.now) refl h.1 h.2 h.3 h.6 h.7;
+  follows = λ h. c.in_default-rows_before.ensures h.1 h.2 h.3 h.6 h.7;
   known = λ e. absurd (true≢false (sym e));
 }
 
 pub returns-in_default-rows_further : goal.returns-in_default-rows_further
 returns-in_default-rows_further c =
-    let b = c.in-Some-rows_before.ensures (known_of c.args.context.now) refl in
+    let b = c.in-Some-rows_before.ensures in
     record {
       follows =
           step-lacks (known_of c.args.context.now) (lines_of c.args.context.now) c.args.line.frame (see_query c.args.at.query.now) c.args.line.site c.args.at.index c.in-Some.current b.0 c.in-Some-rows_before.last.now c.args.line.cites.now c.in-Some-rows_before.before (sym c.in-Some.ensures) b.1 b.2
-          (see_step c.args.at.step.now) c.args.rows.now (c.in_default-rows_further.ensures (known_of c.args.context.now) refl);
+          (see_step c.args.at.step.now) c.args.rows.now c.in_default-rows_further.ensures;
       known = λ e. absurd (true≢false (sym e));
     }
 
-pub step-requires-clause-start : goal.step-requires-clause-start
-step-requires-clause-start c start =
-    let b = c.in-Some-rows_before.ensures (known_of c.args.context.now) refl in
+pub due_rows-requires-clause-start : goal.due_rows-requires-clause-start
+due_rows-requires-clause-start c start =
+    let b = c.in-Some-rows_before.ensures in
     c.as_slice.ensures ∙ c.in_ok-before.ensures
     ∙ start-bare (known_of c.args.context.now) (lines_of c.args.context.now) c.args.line.frame (see_query c.args.at.query.now) (file_in c.args.context.now) c.args.line.site c.args.at.index b.0 c.in-Some-rows_before.before c.requires.placed b.2 start
 
-pub step-requires-clause-file : goal.step-requires-clause-file
-step-requires-clause-file c = refl
+pub due_rows-requires-clause-current : goal.due_rows-requires-clause-current
+due_rows-requires-clause-current c = value-said-known (known_of c.args.context.now) (lines_of c.args.context.now) c.args.context.now.sound c.args.line.frame c.in-Some.current (sym c.in-Some.ensures)
 
-pub step-requires-clause-book : goal.step-requires-clause-book
-step-requires-clause-book c = c.args.context.now.book_is
-
-pub step-requires-clause-site : goal.step-requires-clause-site
-step-requires-clause-site c = site-within (file_in c.args.context.now) c.args.line.site _ c.args.context.now.store.now.file.now.sites c.requires.placed
-
-pub step-requires-clause-current : goal.step-requires-clause-current
-step-requires-clause-current c = value-said-known (known_of c.args.context.now) (lines_of c.args.context.now) c.args.context.now.sound c.args.line.frame c.in-Some.current (sym c.in-Some.ensures)
-
-pub step-requires-clause-before : goal.step-requires-clause-before
-step-requires-clause-before c =
-    let b = c.in-Some-rows_before.ensures (known_of c.args.context.now) refl in
+pub due_rows-requires-clause-before : goal.due_rows-requires-clause-before
+due_rows-requires-clause-before c =
+    let b = c.in-Some-rows_before.ensures in
     ap (list_all (is_known (known_of c.args.context.now))) (c.as_slice.ensures ∙ c.in_ok-before.ensures)
     ∙ before-said-known (known_of c.args.context.now) (lines_of c.args.context.now) c.args.context.now.sound c.args.line.frame (see_query c.args.at.query.now) c.args.at.index b.0 c.in-Some-rows_before.before b.2
 
-pub step-requires-clause-rows : goal.step-requires-clause-rows
-step-requires-clause-rows c =
+pub due_rows-requires-clause-further : goal.due_rows-requires-clause-further
+due_rows-requires-clause-further c =
     ap (list_all (is_known (known_of c.args.context.now))) (c.as_slice-2.ensures ∙ c.in_ok-further.ensures)
-    ∙ further-said-known (known_of c.args.context.now) (lines_of c.args.context.now) c.args.context.now.sound c.args.line.frame (see_step c.args.at.step.now) c.in-Some-rows_before.last.now c.in-Some-rows_further.further (c.in-Some-rows_further.ensures (known_of c.args.context.now) refl)
+    ∙ further-said-known (known_of c.args.context.now) (lines_of c.args.context.now) c.args.context.now.sound c.args.line.frame (see_step c.args.at.step.now) c.in-Some-rows_before.last.now c.in-Some-rows_further.further c.in-Some-rows_further.ensures
 
 pub returns-clause-follows : goal.returns-clause-follows
 returns-clause-follows c =
-    let b = c.in-Some-rows_before.ensures (known_of c.args.context.now) refl in
+    let b = c.in-Some-rows_before.ensures in
     let due : c.in_ok-due.due.items ≡ rows_at_step (known_of c.args.context.now) c.args.line.site c.in-Some.current c.in-Some-rows_before.before c.in-Some-rows_further.further [] =
     c.in_ok-due.ensures.rows ∙ ap₂ (λ (b r : List Row). rows_at_step (known_of c.args.context.now) c.args.line.site c.in-Some.current b r []) (c.as_slice.ensures ∙ c.in_ok-before.ensures) (c.as_slice-2.ensures ∙ c.in_ok-further.ensures) in
     step-due (known_of c.args.context.now) (lines_of c.args.context.now) c.args.line.frame (see_query c.args.at.query.now) c.args.line.site c.args.at.index c.in-Some.current b.0 c.in-Some-rows_before.last.now c.args.line.cites.now c.in-Some-rows_before.before (sym c.in-Some.ensures) b.1 b.2
-    (see_step c.args.at.step.now) c.in-Some-rows_further.further c.args.rows.now c.deref.result.now c.same_rows.result (c.in-Some-rows_further.ensures (known_of c.args.context.now) refl) (c.deref.ensures.value ∙ due) c.same_rows.ensures
+    (see_step c.args.at.step.now) c.in-Some-rows_further.further c.args.rows.now c.deref.result.now c.same_rows.result c.in-Some-rows_further.ensures (c.deref.ensures.value ∙ due) c.same_rows.ensures

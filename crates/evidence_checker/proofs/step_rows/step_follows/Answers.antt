@@ -1,7 +1,8 @@
-use Rattle.std.proofs.Common.{Some, ap, sym, true≢false, ◌∙◌}
+use Rattle.std.proofs.Common.{◌<◌, List, Some, ap, length, subst, sym, true≢false, ◌∙◌}
 use Rattle.evidence_lines.specs.declared.line.LineKind.TheVariants as kind
 use Rattle.guard_syntax.specs.code.Seen.{see_conds, see_expr, see_query, see_step}
 use Rattle.guard_syntax.specs.Syntax.{filter, keys}
+use Rattle.guard_syntax.specs.declared.syntax.Step.{Step}
 use Rattle.rule_meaning.specs.Places.{step_in, steps_in}
 use Rattle.evidence_lookups.specs.code.Grounds.{known_of, lines_of}
 use Rattle.evidence_lookups.proofs.PartsSeen.{no-step, step-there}
@@ -15,6 +16,9 @@ returns-in_default-clause-follows c =
     let ls = lines_of c.args.context.now in
     let q = see_query c.args.query.now in
     no-step-line k ls c.args.line.frame c.args.line.site q c.args.index c.args.line.cites.now c.args.rows.now c.args.line.kind (step_in (steps_in q) c.args.index) (no-step c.args.query.now c.args.index c.deref.result.now c.deref.ensures.value c.in_default.ensures.lookup.3)
+
+pub invariant_of-at : goal.invariant_of-at
+invariant_of-at c = record { within = subst (λ (ss : List Step). c.args.index < length ss) c.deref.ensures.value c.in-Some.ensures.lookup.3.0 }
 
 pub filter_follows-requires-clause-filter : goal.filter_follows-requires-clause-filter
 filter_follows-requires-clause-filter c =

@@ -1,4 +1,4 @@
-use Rattle.std.proofs.Common.{ap, refl, subst, sym, ◌∙◌}
+use Rattle.std.proofs.Common.{ap, subst, sym, ◌∙◌}
 use Rattle.std.specs.List.{list_all}
 use Rattle.guard_syntax.specs.code.Seen.{see_opt_expr, see_query}
 use Rattle.rule_meaning.specs.StoreModel.{is_known}
@@ -18,12 +18,12 @@ returns-in_default-given_by_query c =
 pub returns-in_default-given_at_right : goal.returns-in_default-given_at_right
 returns-in_default-given_at_right c =
     λ n message. never-right (lines_of c.args.context.now) c.args.line.frame c.in-Some.first.now c.args.line.cites.now c.in-Some.others.now c.in-Some.ensures.cases.0 (known_of c.args.context.now) c.args.verdict
-    n c.args.asks.any (see_query c.args.asks.left.now) c.args.asks.op c.args.asks.not (see_opt_expr c.args.asks.right.now) message (c.in_default-given_at_right.ensures (known_of c.args.context.now) refl)
+    n c.args.asks.any (see_query c.args.asks.left.now) c.args.asks.op c.args.asks.not (see_opt_expr c.args.asks.right.now) message c.in_default-given_at_right.ensures
 
 pub test_of_rows-requires : goal.test_of_rows-requires
 test_of_rows-requires c = record {
   lefts = ap (list_all (is_known (known_of c.args.context.now))) (c.as_slice.ensures ∙ c.in_ok-lefts.ensures) ∙ query-said-known (known_of c.args.context.now) (lines_of c.args.context.now) c.args.context.now.sound c.args.line.frame (see_query c.args.asks.left.now) c.in-Some.first.now c.in-Some-given_by_query.lefts c.in-Some-given_by_query.ensures;
-  rights = ap (list_all (is_known (known_of c.args.context.now))) (c.as_slice-2.ensures ∙ c.in_ok-rights.ensures) ∙ right-said-known (known_of c.args.context.now) (lines_of c.args.context.now) c.args.context.now.sound c.args.line.frame (see_opt_expr c.args.asks.right.now) c.in-Some.others.now c.in-Some-given_at_right.rights (c.in-Some-given_at_right.ensures (known_of c.args.context.now) refl);
+  rights = ap (list_all (is_known (known_of c.args.context.now))) (c.as_slice-2.ensures ∙ c.in_ok-rights.ensures) ∙ right-said-known (known_of c.args.context.now) (lines_of c.args.context.now) c.args.context.now.sound c.args.line.frame (see_opt_expr c.args.asks.right.now) c.in-Some.others.now c.in-Some-given_at_right.rights c.in-Some-given_at_right.ensures;
 }
 
 pub returns : goal.returns
@@ -31,4 +31,4 @@ returns c =
     λ n message. test-decided (lines_of c.args.context.now) c.args.line.frame c.in-Some.first.now c.args.line.cites.now c.in-Some.others.now c.in-Some.ensures.cases.0 (known_of c.args.context.now) c.args.verdict
     n c.args.asks.any (see_query c.args.asks.left.now) c.args.asks.op c.args.asks.not (see_opt_expr c.args.asks.right.now) message c.as_slice.result.now c.as_slice-2.result.now c.in_ok-said.said c.eq.result
     (subst (GivesQuery (file_in c.args.context.now) (lines_of c.args.context.now) c.args.line.frame (see_query c.args.asks.left.now) c.in-Some.first.now) (sym (c.as_slice.ensures ∙ c.in_ok-lefts.ensures)) c.in-Some-given_by_query.ensures)
-    (subst (GivesRight (known_of c.args.context.now) (lines_of c.args.context.now) c.args.line.frame (see_opt_expr c.args.asks.right.now) c.in-Some.others.now) (sym (c.as_slice-2.ensures ∙ c.in_ok-rights.ensures)) (c.in-Some-given_at_right.ensures (known_of c.args.context.now) refl)) c.in_ok-said.ensures (same-verdicts c.eq.result c.args.verdict c.in_ok-said.said c.eq.ensures)
+    (subst (GivesRight (known_of c.args.context.now) (lines_of c.args.context.now) c.args.line.frame (see_opt_expr c.args.asks.right.now) c.in-Some.others.now) (sym (c.as_slice-2.ensures ∙ c.in_ok-rights.ensures)) c.in-Some-given_at_right.ensures) c.in_ok-said.ensures (same-verdicts c.eq.result c.args.verdict c.in_ok-said.said c.eq.ensures)

@@ -9,9 +9,9 @@ loop-site-init c = c.in_ok-marks.ensures.items_if_clones_equal (λ y h. h) ∙ a
 
 pub loop-site-preserved : goal.loop-site-preserved
 loop-site-preserved c =
-    marks-next (file_of c.args.file.now) c.args.owner c.loop-site.site c.loop-site.marks.items c.mark.new.marks.items c.owned_site.result c.mark.ensures c.owned_site.ensures c.loop-site.invariant
+    marks-next (file_of c.args.pieces.now.file.now) c.args.owner c.loop-site.site c.loop-site.marks.items c.mark.new.marks.items c.owned_site.result c.mark.ensures c.owned_site.ensures c.loop-site.invariant
 
 pub returns : goal.returns
 returns c =
     let end : c.loop-site.site ≡ c.in-Ok.count = omega arith in
-    c.loop-site.invariant ∙ ap (marks_upto (file_of c.args.file.now) c.args.owner) (end ∙ c.in-Ok.ensures.1 ∙ ap length c.as_slice.ensures)
+    c.loop-site.invariant ∙ ap (marks_upto (file_of c.args.pieces.now.file.now) c.args.owner) (end ∙ c.in-Ok.ensures.1 ∙ ap length c.as_slice.ensures)

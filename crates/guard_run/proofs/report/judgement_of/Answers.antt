@@ -8,7 +8,6 @@ use Rattle.rule_meaning.specs.Verdicts.{is_fail}
 use Rattle.value_compare.specs.code.Books.{IsBookOf}
 use Rattle.value_compare.specs.code.Stores.{see_store}
 use Rattle.evidence_lookups.specs.code.Grounds.{known_of, lines_of}
-use Rattle.evidence_lookups.specs.code.Owned.{AreOwners}
 use Rattle.rule_calls.specs.code.Ends.{state_with}
 use Rattle.evidence_report.proofs.TakenTexts.{none-at-exit}
 use Rattle.guard_ends.specs.Reported.{verdicts_of}
@@ -17,8 +16,8 @@ use Rattle.guard_run.specs.code.Forms.{report_in}
 use Rattle.guard_run.proofs.Accepted.{accepted-in, same-world}
 use Rattle.guard_run.proofs.report.judgement_of.Goals as goal
 
-pub line_context-context-requires-clause-owners : goal.line_context-context-requires-clause-owners
-line_context-context-requires-clause-owners c = subst (λ (f : File). AreOwners f c.in_ok-owners.owners) (sym c.requires.file) c.in_ok-owners.ensures
+pub line_context-context-requires-clause-tables : goal.line_context-context-requires-clause-tables
+line_context-context-requires-clause-tables c = c.in_ok-tables.ensures
 
 pub line_context-context-requires-clause-book : goal.line_context-context-requires-clause-book
 line_context-context-requires-clause-book c = subst (λ (f : File). IsBookOf f c.args.ready.now.book) (sym c.requires.file) c.args.ready.now.made
@@ -31,11 +30,11 @@ judgement_by-requires c =
     accepted-in (state_with (see_store e.store) e.evidence.lines c.requires.whole.0) (file_of inputs.rules.now) inputs.tree c.requires.template c.requires.file c.requires.accepted c.requires.whole.1 made.version (known_of made) (lines_of made)
     c.line_context-context.ensures.version c.line_context-context.ensures.known c.line_context-context.ensures.lines
 
-pub returns-in_err-owners-clause-report : goal.returns-in_err-owners-clause-report
-returns-in_err-owners-clause-report c answers obey = none-at-exit _ c.from_residual.result c.in_err-owners.field-0.0 c.from_residual.ensures.1
+pub returns-in_err-tables-clause-report : goal.returns-in_err-tables-clause-report
+returns-in_err-tables-clause-report c answers obey = none-at-exit _ c.from_residual.result c.in_err-tables.field-0.0 c.from_residual.ensures.1
 
-pub returns-in_err-owners-clause-failed : goal.returns-in_err-owners-clause-failed
-returns-in_err-owners-clause-failed c answers obey = none-at-exit _ c.from_residual.result c.in_err-owners.field-0.0 c.from_residual.ensures.1
+pub returns-in_err-tables-clause-failed : goal.returns-in_err-tables-clause-failed
+returns-in_err-tables-clause-failed c answers obey = none-at-exit _ c.from_residual.result c.in_err-tables.field-0.0 c.from_residual.ensures.1
 
 pub returns-in_err-judged-clause-report : goal.returns-in_err-judged-clause-report
 returns-in_err-judged-clause-report c answers obey = none-at-exit _ c.from_residual-in_err-judged.result c.in_err-judged.field-0.0 c.from_residual-in_err-judged.ensures.1

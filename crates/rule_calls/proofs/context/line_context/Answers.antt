@@ -1,4 +1,4 @@
-use Rattle.std.proofs.Common.{◌≡◌, sym, subst, List, length}
+use Rattle.std.proofs.Common.{◌≡◌, refl, sym, subst, List, length}
 use Rattle.evidence_lines.specs.declared.line.Line.{Line}
 use Rattle.value_compare.specs.code.Stores.{see_store}
 use Rattle.evidence_lookups.specs.code.JudgedSites.{AreJudged}
@@ -14,7 +14,9 @@ invariant_of-result c =
     let lines : c.lines.result ≡ s.lines = c.lines.ensures in
     record {
       book_is = c.requires.book;
-      owners_are = c.requires.owners;
+      store_over = refl;
+      pieces_over = c.requires.tables.0;
+      owners_are = c.requires.tables.1;
       judged_are = noted c.lines.result c.args.judged.now.of.items (subst (λ (ls : List Line). AreJudged ls c.args.judged.now.of.items) (sym lines) c.requires.judged);
       sound = subst (AreSound s.known) (sym lines) (sound-lines s c.requires.whole.1);
       within = subst (λ (ls : List Line). AreMadeWithin (length ls) s.known.made) (sym lines) (made-within s c.requires.whole.1);
