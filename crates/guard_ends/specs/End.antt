@@ -3,7 +3,7 @@
 use Rattle.std.specs.Prelude.{ℕ, ◌≡◌, ◌≢◌, ◌++◌, ◌⊎◌, List, [], Option, Some, None, Bool, true, false}
 use Rattle.std.specs.Option.{ForSome}
 use Rattle.guard_io.specs.Outside.{IsPrefix, FaultCounted}
-use Rattle.yaml_blocks.specs.Places.{IsSyntax}
+use Rattle.yaml_grammar.specs.Places.{IsSyntax}
 use Rattle.guard_ends.specs.Inputs.{format_of}
 use Rattle.guard_ends.specs.Lines.{read_fault_line, pattern_line, write_fault_line, memory_line}
 use Rattle.guard_ends.specs.Order.{ComesTo, Contents, EndOf, Ended, Loads, Makes, refused}

@@ -11,9 +11,9 @@ use Rattle.json_reader.specs.Json.{Json}
 use Rattle.json_reader.specs.Refusals as json
 use Rattle.json_reader.specs.declared.refusal.JsonRefusal.{JsonRefusal}
 use Rattle.json_reader.specs.declared.refusal.JsonRefusal.TheVariants as json_refusal
-use Rattle.yaml_blocks.specs.Answers as yaml
-use Rattle.yaml_blocks.specs.declared.refusal.YamlRefusal.{YamlRefusal}
-use Rattle.yaml_blocks.specs.declared.refusal.YamlRefusal.TheVariants as yaml_refusal
+use Rattle.yaml_grammar.specs.Answers as yaml
+use Rattle.yaml_grammar.specs.declared.refusal.YamlRefusal.{YamlRefusal}
+use Rattle.yaml_grammar.specs.declared.refusal.YamlRefusal.TheVariants as yaml_refusal
 use Rattle.guard_lexer.specs.Lexes as lex
 use Rattle.guard_lexer.specs.declared.token.Token.{Token}
 use Rattle.guard_lexer.specs.declared.token.LexRefusal.{LexRefusal}

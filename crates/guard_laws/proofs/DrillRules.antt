@@ -1,7 +1,7 @@
 -- The rules of a drill: their tokens, and their syntax.
 use Rattle.std.proofs.Common.{ℕ, true, false, List, [], ◌∷◌, None, codes, pos}
 use Rattle.doc_values.specs.Tree.{Nil, Node}
-use Rattle.doc_values.specs.declared.decimal.Num.TheVariants as num
+use Rattle.decimals.specs.declared.decimal.Num.TheVariants as num
 use Rattle.doc_values.specs.declared.kind.Kind.{Kind}
 use Rattle.doc_values.specs.declared.kind.Kind.TheVariants as kind
 use Rattle.guard_lexer.specs.declared.token.Mark.TheVariants as m

@@ -5,7 +5,7 @@ use Rattle.doc_values.specs.declared.kind.Kind.TheVariants as kind
 use Rattle.doc_values.specs.Tree.{AreValues, Forest, IsKeyed, IsTree, Label, Nil, Node, is_map, snoc}
 use Rattle.json_reader.specs.Json as json
 use Rattle.json_reader.specs.Json.{AreDistinct, Json, IsNew, kind_of}
-use Rattle.yaml_blocks.proofs.FormedTrees.{IsFormed, leaf-formed, node-formed, root-formed, yaml-formed}
+use Rattle.yaml_grammar.proofs.FormedTrees.{IsFormed, leaf-formed, node-formed, root-formed, yaml-formed}
 use Rattle.guard_ends.specs.Inputs.{IsTemplate, IsTreeOf}
 use Rattle.guard_ends.specs.declared.format.Format.{Format}
 use Rattle.guard_ends.specs.declared.format.Format.TheVariants as format

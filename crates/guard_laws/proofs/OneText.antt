@@ -6,13 +6,13 @@ use Rattle.doc_values.specs.Tree.{Forest}
 use Rattle.json_reader.specs.Json.{Json}
 use Rattle.json_reader.specs.Refusals.{IsRefused}
 use Rattle.json_reader.specs.declared.refusal.JsonRefusal.{JsonRefusal}
-use Rattle.yaml_blocks.specs.Answers.{IsSignOf, IsUnread, Reads, Refuses}
-use Rattle.yaml_blocks.specs.Places.{IsSyntax}
-use Rattle.yaml_blocks.specs.Signs.{Sign}
-use Rattle.yaml_blocks.specs.Signs as sign
-use Rattle.yaml_blocks.specs.Yaml.{Counts}
-use Rattle.yaml_blocks.specs.declared.refusal.YamlRefusal.{YamlRefusal}
-use Rattle.yaml_blocks.specs.declared.refusal.YamlRefusal.TheVariants as yaml
+use Rattle.yaml_grammar.specs.Answers.{IsSignOf, IsUnread, Reads, Refuses}
+use Rattle.yaml_grammar.specs.Places.{IsSyntax}
+use Rattle.yaml_grammar.specs.Signs.{Sign}
+use Rattle.yaml_grammar.specs.Signs as sign
+use Rattle.yaml_grammar.specs.Yaml.{Counts}
+use Rattle.yaml_grammar.specs.declared.refusal.YamlRefusal.{YamlRefusal}
+use Rattle.yaml_grammar.specs.declared.refusal.YamlRefusal.TheVariants as yaml
 use Rattle.guard_ends.specs.End.{AreSameButPlace, ReadAsYaml}
 use Rattle.guard_ends.specs.Order.{refused}
 use Rattle.guard_ends.specs.Inputs.{IsTreeOf, RefusesJson, RefusesTree, json_kind, of_yaml}

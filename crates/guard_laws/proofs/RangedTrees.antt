@@ -4,7 +4,7 @@ use Rattle.doc_values.specs.Tree.{Forest, Label, Node}
 use Rattle.doc_values.specs.declared.kind.Kind.{Kind}
 use Rattle.doc_values.specs.declared.kind.Kind.TheVariants as kind
 use Rattle.json_reader.specs.Json.{AreInRange, IsInRange}
-use Rattle.yaml_blocks.proofs.TreeInduction.{IsYamlKind, yaml-induction}
+use Rattle.yaml_grammar.proofs.TreeInduction.{IsYamlKind, yaml-induction}
 use Rattle.guard_ends.specs.Inputs.{IsTemplate, IsTreeOf}
 use Rattle.guard_ends.specs.declared.format.Format.{Format}
 use Rattle.guard_ends.specs.declared.format.Format.TheVariants as format

@@ -1,7 +1,7 @@
 -- What lexemes spell can be spelled again, where what they have can be written: by recursion on the syntax.
 use Rattle.std.proofs.Common.{◌≡◌, ℕ, Bool, true, false, List, [], ◌∷◌, Option, Some, None, sym, subst, inl, inr}
 use Rattle.doc_values.specs.Tree.{Label, Forest, Nil, Node, snoc}
-use Rattle.doc_values.specs.declared.decimal.Num.{Num}
+use Rattle.decimals.specs.declared.decimal.Num.{Num}
 use Rattle.guard_lexer.specs.Forms.{IsName, IsTypeName}
 use Rattle.guard_lexer.specs.Lexes.{IsTokenList}
 use Rattle.guard_lexer.specs.declared.token.Token.{Token}

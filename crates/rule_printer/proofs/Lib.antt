@@ -7,6 +7,7 @@ pub mod Merging
 pub mod NodeTexts
 pub mod NodesWithin
 pub mod PartTexts
+pub mod PartsAppended
 pub mod TextInPieces
 pub mod KeptApart
 pub mod SoundWords

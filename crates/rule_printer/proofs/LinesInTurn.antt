@@ -6,7 +6,7 @@ use Rattle.guard_syntax.specs.declared.syntax.Let.{Let}
 use Rattle.guard_syntax.specs.declared.syntax.Disj.{Disj}
 use Rattle.guard_syntax.specs.declared.syntax.Rule.{Rule}
 use Rattle.guard_syntax.specs.code.Seen.{see_let, see_disj, see_body, see_rule, let_list, disj_list}
-use Rattle.rule_names.proofs.Shapes.{let-seen, body-seen}
+use Rattle.rule_names.proofs.Shapes.{let-seen, disj-seen, body-seen}
 use Rattle.rule_printer.specs.RuleText.{body_text, disj_line, disj_lines, in_a_row, let_line, let_lines, merged, rule_line, rule_lines, within}
 use Rattle.rule_printer.specs.code.Printing.{disjs_from, lets_from, rules_from}
 use Rattle.rule_printer.proofs.Merging.{Lines, HasLines, lines-next, lines-end, merged-nil, first_appended, second_is_next, none_before, appended_line}
@@ -58,6 +58,34 @@ disjs-have-lines margin = record { none = refl; more = λ x xs. refl }
 
 disjs-end : (margin : List ℕ) (ds : List Disj) (i : ℕ) → length ds ≤ i → disjs_from margin ds i ≡ []
 disjs-end margin ds i past = lines-end (λ (l : List Disj). disj_lines margin (disj_list (map see_disj l))) (λ (d : Disj). disj_line margin (see_disj d)) (disjs-have-lines margin) ds i past
+
+disj_site : (margin : List ℕ) (d : Disj) → disj_line margin (see_disj d) ≡ (d.site, (disj_line margin (see_disj d)).1)
+disj_site margin d = subst (λ (y : sx.Disj). disj_line margin y ≡ (d.site, (disj_line margin y).1)) (sym (disj-seen d)) refl
+
+disjs-next : (margin : List ℕ) (ds : List Disj) (i : ℕ) (x : Disj) → i < length ds → x ≡ get_or ds i x → disjs_from margin ds i ≡ (x.site, (disj_line margin (see_disj x)).1) ∷ disjs_from margin ds (i + 1)
+disjs-next margin ds i x within is =
+    lines-next (λ (d : List Disj). disj_lines margin (disj_list (map see_disj d))) (λ (d : Disj). disj_line margin (see_disj d)) (disjs-have-lines margin) ds i x within is
+    ∙ ap (λ (y : ℕ × List ℕ). y ∷ disjs_from margin ds (i + 1)) (disj_site margin x)
+
+-- what stands behind the lets before a disjunction, where the margins of both are that of the lines
+abbrev LetsBefore : List ℕ → List Let → ℕ → ℕ → ℕ → List ℕ → List ℕ → Type 0
+LetsBefore margin ls n p site old middle =
+    (text : List ℕ) (others : Lines) → middle ++ in_a_row ((site, text) ∷ merged (lets_from margin ls p) others) ≡ old ++ in_a_row (merged (lets_from margin ls n) ((site, text) ∷ others))
+
+pub disj-next : (margin m k : List ℕ) (ls : List Let) (ds : List Disj) (i n p : ℕ) (x : Disj) (old middle new start : List ℕ) → m ≡ margin → k ≡ margin → i < length ds → x ≡ get_or ds i x
+    → old ++ in_a_row (merged (lets_from margin ls n) (disjs_from margin ds i)) ≡ start
+    → ((text : List ℕ) (others : Lines) → middle ++ in_a_row ((x.site, text) ∷ merged (lets_from m ls p) others) ≡ old ++ in_a_row (merged (lets_from m ls n) ((x.site, text) ∷ others)))
+    → new ≡ middle ++ (disj_line k (see_disj x)).1 → new ++ in_a_row (merged (lets_from margin ls p) (disjs_from margin ds (i + 1))) ≡ start
+disj-next margin m k ls ds i n p x old middle new start same alike within is so before added =
+    let text = (disj_line margin (see_disj x)).1 in
+    let others = disjs_from margin ds (i + 1) in
+    let rest = in_a_row (merged (lets_from margin ls p) others) in
+    let lets : LetsBefore margin ls n p x.site old middle = subst (λ (y : List ℕ). LetsBefore y ls n p x.site old middle) same before in
+    ap (λ (l : List ℕ). l ++ rest) (added ∙ ap (λ (y : List ℕ). middle ++ (disj_line y (see_disj x)).1) alike)
+    ∙ append_assoc middle text rest
+    ∙ lets text others
+    ∙ ap (λ (l : Lines). old ++ in_a_row (merged (lets_from margin ls n) l)) (sym (disjs-next margin ds i x within is))
+    ∙ so
 
 -- behind the last the lets that are left
 pub disj-end : (margin : List ℕ) (ls : List Let) (ds : List Disj) (i n : ℕ) (old new start : List ℕ) → length ds ≤ i

@@ -2,7 +2,7 @@
 use Rattle.std.specs.Prelude.{ℕ, Bool, true, false, ◌&&◌, List, [], ◌∷◌, ◌++◌, Option, Some, None, is_none, codes, bytes_eq, decimal, nat_lt, if◌then◌else◌}
 use Rattle.std.specs.List.{list_all}
 use Rattle.doc_values.specs.Tree.{Label, Forest, Nil, Node}
-use Rattle.doc_values.specs.declared.decimal.Range.{Range}
+use Rattle.decimals.specs.declared.decimal.Range.{Range}
 use Rattle.doc_values.specs.declared.kind.Kind.{Kind}
 use Rattle.doc_values.specs.declared.kind.Kind.TheVariants as kind
 use Rattle.guard_lexer.specs.Bytes.{is_letter, is_word}

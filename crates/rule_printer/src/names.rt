@@ -1,7 +1,7 @@
 //! Names, and keys that are spelled as names.
 ghost use Rattle.std.specs.Prelude.{◌≡◌, ◌++◌, ℕ, OnOk, codes, is_some, string_bytes};
 ghost use Rattle.std.specs.List.{list_all};
-ghost use Rattle.doc_values.specs.Number.{is_digit};
+ghost use Rattle.decimals.specs.Number.{is_digit};
 ghost use Rattle.guard_lexer.specs.Bytes.{is_letter, is_word};
 ghost use Rattle.guard_syntax.specs.Syntax as sx;
 ghost use Rattle.literal_parser.specs.Lexemes.{keyword_of};

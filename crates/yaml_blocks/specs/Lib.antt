@@ -1,9 +1,1 @@
-pub mod Ahead
-pub mod Answers
-pub mod Blocks
-pub mod Flow
-pub mod Nodes
-pub mod Places
-pub mod Signs
-pub mod Yaml
 pub mod code

@@ -5,59 +5,13 @@ ghost use Rattle.yaml_scalars.specs.code.Limits.{text_limit};
 ghost use Rattle.yaml_scalars.specs.Lines.{lines, begins_with, is_end, is_mark, lead};
 ghost use Rattle.yaml_scalars.specs.Plain.{is_flow_mark, is_unsafe};
 ghost use Rattle.yaml_scalars.specs.code.Walk.{line_at};
-ghost use Rattle.yaml_blocks.specs.Ahead.{is_letter, is_name, begins_letter, ends_tag, tag_token, other_token, block_token, tab_token, token_of, token_at, mark_of, has_return, is_passed, is_tabbed, content_ahead, line_ahead, rest_ahead, ahead};
-ghost use Rattle.yaml_blocks.specs.code.Steps.{IsSeen};
+ghost use Rattle.yaml_grammar.specs.Ahead.{is_letter, is_name, begins_letter, ends_tag, tag_token, other_token, block_token, tab_token, token_of, token_at, mark_of, has_return, is_passed, is_tabbed, content_ahead, line_ahead, rest_ahead, ahead};
+ghost use Rattle.yaml_grammar.specs.code.Steps.{IsSeen};
 
+use yaml_grammar::{Ahead, Token};
 use yaml_scalars::lines::{
     ends_line, is_blank, is_end, is_first_column, is_mark, is_white, next_line, spaces, whites,
 };
-
-/// A token of a document, but for scalars.
-#[derive(Clone, Copy)]
-pub enum Token {
-    /// The text's end.
-    End,
-    /// A line that begins with `---`.
-    Dashes,
-    /// A line that begins with `...`.
-    Dots,
-    /// A `-` outside of flow, before white space or the line's end.
-    Dash,
-    /// A short tag, with so many bytes in its name.
-    Tag { len: usize },
-    /// A `!` that opens no short tag.
-    NoTag,
-    /// An opening bracket, of a map or of a list.
-    Opens { map: bool },
-    /// A closing bracket, of a map or of a list.
-    Closes { map: bool },
-    Comma,
-    /// A colon. It is loose where what follows it may follow that of a plain key.
-    Point { loose: bool },
-    /// A `&` or `*`, which begins an anchor or an alias.
-    Anchor,
-    Percent,
-    /// A tab in the white space in front of a line's content, outside of flow.
-    Tabbed,
-    /// No content: a comment or white space that a carriage return stands in, outside of a break.
-    Stray,
-    /// Anything else: a scalar may begin there, or nothing may.
-    Other,
-}
-
-/// What is ahead of a place.
-#[derive(Clone, Copy)]
-pub(crate) struct Ahead {
-    pub(crate) token: Token,
-    /// Whether it begins a line.
-    pub(crate) fresh: bool,
-    /// Its column where it begins a line; else how much white space stands between the place and it.
-    pub(crate) column: usize,
-    /// The byte offset of its first byte.
-    pub(crate) at: usize,
-    /// The byte offset behind it.
-    pub(crate) behind: usize,
-}
 
 /// Whether a byte is one of the marks of flow: `, [ ] { }`.
 fn is_flow_mark(byte: u8) -> bool

@@ -2,37 +2,36 @@
 ghost use Rattle.std.specs.Prelude.{◌≡◌, ℕ, List, ◌+◌, ◌*◌, ◌≤◌, length, true, false, None, Some, IfOk};
 ghost use Rattle.std.specs.Str.{IsCharBoundary};
 ghost use Rattle.yaml_scalars.specs.code.Limits.{text_limit};
-ghost use Rattle.yaml_blocks.specs.Ahead.{ahead};
-ghost use Rattle.yaml_blocks.specs.Nodes.{starts_scalar, is_tagged, setting_of};
-ghost use Rattle.yaml_blocks.specs.Blocks.{block_sign, takes_scalar, takes_mapping, takes_sequence, takes_tag, tagged, column_in};
-ghost use Rattle.yaml_blocks.specs.code.ReadAgain.{NoneBehind, OnSign, SignStays};
-ghost use Rattle.yaml_blocks.specs.code.Rest.{top, Inside, Ends, Awaits};
-ghost use Rattle.yaml_blocks.specs.Yaml.{IsEnd, text_start};
-ghost use Rattle.yaml_blocks.specs.code.Extends.{ExtendsValue, Leaves};
-ghost use Rattle.yaml_blocks.specs.code.Feeds.{Opening};
-ghost use Rattle.yaml_blocks.specs.code.Splits.{InRoom, RunsOn};
-ghost use Rattle.yaml_blocks.specs.code.Twins.{Stops, NoLine, NoValue, Lengthens, LengthensAt, OnUnread, Popped, FixesNode, FixesEnd};
-ghost use Rattle.yaml_blocks.specs.code.Steps.{stack, IsSeen, IsBlock, HasKey, NoKey, EndsKey, Open, Fits, Awaited, SameKey, SameNode, SameEnd, IsCalm, NoNode, Gives, Ended, is_ending, ends_before};
+ghost use Rattle.yaml_grammar.specs.Ahead.{ahead};
+ghost use Rattle.yaml_grammar.specs.Nodes.{starts_scalar, is_tagged, setting_of};
+ghost use Rattle.yaml_grammar.specs.Blocks.{block_sign, takes_scalar, takes_mapping, takes_sequence, takes_tag, tagged, column_in};
+ghost use Rattle.yaml_grammar.specs.code.ReadAgain.{NoneBehind, OnSign, SignStays};
+ghost use Rattle.yaml_grammar.specs.code.Rest.{top, Inside, Ends, Awaits};
+ghost use Rattle.yaml_grammar.specs.Yaml.{IsEnd, text_start};
+ghost use Rattle.yaml_grammar.specs.code.Extends.{ExtendsValue, Leaves};
+ghost use Rattle.yaml_grammar.specs.code.Feeds.{Opening};
+ghost use Rattle.yaml_grammar.specs.code.Splits.{InRoom, RunsOn};
+ghost use Rattle.yaml_grammar.specs.code.Twins.{Stops, NoLine, NoValue, Lengthens, LengthensAt, OnUnread, Popped, FixesNode, FixesEnd};
+ghost use Rattle.yaml_grammar.specs.code.Steps.{stack, IsSeen, IsBlock, HasKey, NoKey, EndsKey, Open, Fits, Awaited, SameKey, SameNode, SameEnd, IsCalm, NoNode, Gives, Ended, is_ending, ends_before};
 
-use crate::ahead::{Ahead, Token, look};
+use crate::ahead::look;
 use crate::flow::open;
-use crate::form::{Form, Site, is_entry_column};
+use crate::form::{Site, is_entry_column};
 use crate::node::{
-    Key, TagMap, as_key, begin, begin_tag, colon_behind, find_key, find_scalar, innermost, offset,
+    TagMap, as_key, begin, begin_tag, colon_behind, find_key, find_scalar, innermost, offset,
     starts_scalar, take_block_scalar, take_null,
 };
 use crate::place::{colon_place, dash_place, last_told, root_place};
 use crate::point::is_pointed;
 use crate::sign::{end_sign, is_document_end, is_tagged, node_sign};
 use crate::split::{is_split, split_stop};
-use crate::stage::{Position, Stage};
-use crate::stop::Stop;
 use crate::takes::{
     block_sign, column_in, ends_before, tagged, takes_mapping, takes_scalar, takes_sequence,
     takes_tag,
 };
 use doc_values::DocBuilder;
 use std::alloc::Global;
+use yaml_grammar::{Ahead, Form, Key, Position, Stage, Stop, Token};
 use yaml_scalars::Scalar;
 
 /// A sequence begins at a `-`.

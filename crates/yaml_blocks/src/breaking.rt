@@ -9,20 +9,20 @@ ghost use Rattle.yaml_scalars.specs.Scalar.{HasKind, begins_block, begins_order_
 ghost use Rattle.yaml_scalars.specs.code.Walk.{behind, has_break};
 ghost use Rattle.yaml_laws.specs.code.Endings.{last_mark};
 ghost use Rattle.yaml_laws.specs.code.Refusals.{is_ascii};
-ghost use Rattle.yaml_blocks.specs.declared.ahead.Token.TheVariants.{Dash, Dashes, End, Stray};
-ghost use Rattle.yaml_blocks.specs.declared.form.Form.{Form};
-ghost use Rattle.yaml_blocks.specs.declared.form.Form.TheVariants.{Entries, Flow, Items, Root};
-ghost use Rattle.yaml_blocks.specs.declared.stage.Stage.{Stage};
-ghost use Rattle.yaml_blocks.specs.declared.stage.Stage.TheVariants.{Value};
-ghost use Rattle.yaml_blocks.specs.Ahead.{ahead};
-ghost use Rattle.yaml_blocks.specs.Blocks.{takes_mapping, takes_scalar, takes_sequence, IsKey};
-ghost use Rattle.yaml_blocks.specs.Nodes.{as_key, follows_get_att, is_cut, scalar_ahead, setting_of, starts_scalar};
-ghost use Rattle.yaml_blocks.specs.Signs.{Reading, Tree};
-ghost use Rattle.yaml_blocks.specs.Yaml.{IsEnd, IsYaml, text_start};
-ghost use Rattle.yaml_blocks.specs.code.AheadSeen.{ahead_seen};
-ghost use Rattle.yaml_blocks.specs.code.Closers.{HasRoom, closers, in_flow, BreaksOff, HasColon, IsSpent, IsUncut, letters, MayBegin, MendsValue};
-ghost use Rattle.yaml_blocks.specs.code.Rest.{Awaits, Begins, Ends, Enters, top};
-ghost use Rattle.yaml_blocks.specs.code.Steps.{Agrees, Fits, IsBlock, Nests, Rest};
+ghost use Rattle.yaml_grammar.specs.declared.ahead.Token.TheVariants.{Dash, Dashes, End, Stray};
+ghost use Rattle.yaml_grammar.specs.declared.form.Form.{Form};
+ghost use Rattle.yaml_grammar.specs.declared.form.Form.TheVariants.{Entries, Flow, Items, Root};
+ghost use Rattle.yaml_grammar.specs.declared.stage.Stage.{Stage};
+ghost use Rattle.yaml_grammar.specs.declared.stage.Stage.TheVariants.{Value};
+ghost use Rattle.yaml_grammar.specs.Ahead.{ahead};
+ghost use Rattle.yaml_grammar.specs.Blocks.{takes_mapping, takes_scalar, takes_sequence, IsKey};
+ghost use Rattle.yaml_grammar.specs.Nodes.{as_key, follows_get_att, is_cut, scalar_ahead, setting_of, starts_scalar};
+ghost use Rattle.yaml_grammar.specs.Signs.{Reading, Tree};
+ghost use Rattle.yaml_grammar.specs.Yaml.{IsEnd, IsYaml, text_start};
+ghost use Rattle.yaml_grammar.specs.code.AheadSeen.{ahead_seen};
+ghost use Rattle.yaml_grammar.specs.code.Closers.{HasRoom, closers, in_flow, BreaksOff, HasColon, IsSpent, IsUncut, letters, MayBegin, MendsValue};
+ghost use Rattle.yaml_grammar.specs.code.Rest.{Awaits, Begins, Ends, Enters, top};
+ghost use Rattle.yaml_grammar.specs.code.Steps.{Agrees, Fits, IsBlock, Nests, Rest};
 
 /// Where reading stands at a place that has nothing behind it, a closing bracket for each open flow collection makes a document
 /// of the text; how the open collections fit may have been seen in another text. Nothing stands behind a place with a line feed

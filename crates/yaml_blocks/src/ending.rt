@@ -4,11 +4,11 @@ ghost use Rattle.yaml_scalars.specs.declared.scalar.Setting.{Setting};
 ghost use Rattle.yaml_scalars.specs.Lines.{Fails, ends_with, is_cut_mark};
 ghost use Rattle.yaml_scalars.specs.Scalar.{scalar_at};
 ghost use Rattle.yaml_scalars.specs.code.Walk.{has_break, line_at};
-ghost use Rattle.yaml_blocks.specs.declared.ahead.Token.TheVariants.{End, Stray};
-ghost use Rattle.yaml_blocks.specs.Ahead.{ahead};
-ghost use Rattle.yaml_blocks.specs.Nodes.{starts_scalar};
-ghost use Rattle.yaml_blocks.specs.code.AheadSeen.{ahead_seen};
-ghost use Rattle.yaml_blocks.specs.code.Closers.{is_closer, IsFirm};
+ghost use Rattle.yaml_grammar.specs.declared.ahead.Token.TheVariants.{End, Stray};
+ghost use Rattle.yaml_grammar.specs.Ahead.{ahead};
+ghost use Rattle.yaml_grammar.specs.Nodes.{starts_scalar};
+ghost use Rattle.yaml_grammar.specs.code.AheadSeen.{ahead_seen};
+ghost use Rattle.yaml_grammar.specs.code.Closers.{is_closer, IsFirm};
 
 /// Where a text that ends in a line feed has nothing ahead of a place, a longer one has ahead there what it has ahead at the
 /// text's end. A line feed behind a text leaves nothing ahead where nothing was, or a comment or white space that a carriage

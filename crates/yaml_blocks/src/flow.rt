@@ -4,19 +4,19 @@ ghost use Rattle.std.specs.Str.{IsCharBoundary};
 ghost use Rattle.yaml_scalars.specs.code.Limits.{text_limit};
 ghost use Rattle.doc_values.specs.Unfinished.{AwaitsValue, MayEnd};
 ghost use Rattle.yaml_scalars.specs.Scalar.{begins_quoted};
-ghost use Rattle.yaml_blocks.specs.Flow.{may_miss, may_tag, ends_key, IsColon};
-ghost use Rattle.yaml_blocks.specs.Ahead.{ahead};
-ghost use Rattle.yaml_blocks.specs.Nodes.{tag_name, node_sign, is_tagged, is_marked, setting_of, starts_scalar};
-ghost use Rattle.yaml_blocks.specs.code.Splits.{InRoom, RunsOn};
-ghost use Rattle.yaml_blocks.specs.code.ReadAgain.{NoneAwaited, OnSign, SignStays};
-ghost use Rattle.yaml_blocks.specs.code.Rest.{top, Ends, Enters, Awaits};
-ghost use Rattle.yaml_blocks.specs.code.Extends.{Shuts};
-ghost use Rattle.yaml_blocks.specs.code.Feeds.{FeedsSeen, FeedsFlowNode, FeedsFlowKey, FeedsEntry};
-ghost use Rattle.yaml_blocks.specs.code.Twins.{Stops, Lengthens, MendsNode, OnUnread, NoTail, NoFlowValue, NoEntry, FixesFlowNode, FixesFlowKey, FixesEntry, FixesSeen};
-ghost use Rattle.yaml_blocks.specs.code.Steps.{stack, has_keys, IsSeen, SameFlowNode, SameFlowKey, IsFlow, IsBehind, Open, Gives, Opened, Closed, is_flow_ending};
+ghost use Rattle.yaml_grammar.specs.Flow.{may_miss, may_tag, ends_key, IsColon};
+ghost use Rattle.yaml_grammar.specs.Ahead.{ahead};
+ghost use Rattle.yaml_grammar.specs.Nodes.{tag_name, node_sign, is_tagged, is_marked, setting_of, starts_scalar};
+ghost use Rattle.yaml_grammar.specs.code.Splits.{InRoom, RunsOn};
+ghost use Rattle.yaml_grammar.specs.code.ReadAgain.{NoneAwaited, OnSign, SignStays};
+ghost use Rattle.yaml_grammar.specs.code.Rest.{top, Ends, Enters, Awaits};
+ghost use Rattle.yaml_grammar.specs.code.Extends.{Shuts};
+ghost use Rattle.yaml_grammar.specs.code.Feeds.{FeedsSeen, FeedsFlowNode, FeedsFlowKey, FeedsEntry};
+ghost use Rattle.yaml_grammar.specs.code.Twins.{Stops, Lengthens, MendsNode, OnUnread, NoTail, NoFlowValue, NoEntry, FixesFlowNode, FixesFlowKey, FixesEntry, FixesSeen};
+ghost use Rattle.yaml_grammar.specs.code.Steps.{stack, has_keys, IsSeen, SameFlowNode, SameFlowKey, IsFlow, IsBehind, Open, Gives, Opened, Closed, is_flow_ending};
 
-use crate::ahead::{Ahead, Token, look};
-use crate::form::{Form, Site};
+use crate::ahead::look;
+use crate::form::Site;
 use crate::node::{
     TagMap, as_key, begin, begin_tag, find_scalar, has_keys, innermost, offset, starts_scalar,
     take_null, take_scalar,
@@ -25,10 +25,9 @@ use crate::place::flow_place;
 use crate::point::is_pointed;
 use crate::sign::{is_marked, is_tagged, node_sign};
 use crate::split::{is_split, split_stop};
-use crate::stage::{Position, Stage};
-use crate::stop::Stop;
 use doc_values::DocBuilder;
 use std::alloc::Global;
+use yaml_grammar::{Ahead, Form, Position, Stage, Stop, Token};
 use yaml_scalars::Scalar;
 
 /// The innermost collection ends.

@@ -6,29 +6,20 @@ ghost use Rattle.std.specs.Str.{IsCharBoundary, bytes_eq};
 ghost use Rattle.yaml_scalars.specs.code.Limits.{text_limit};
 ghost use Rattle.doc_values.specs.Tree.{has_text};
 ghost use Rattle.doc_values.specs.Unfinished.{with_value, AwaitsValue};
-ghost use Rattle.yaml_blocks.specs.Ahead.{ahead};
-ghost use Rattle.yaml_blocks.specs.Nodes.{below, tag_name, tag_key, get_att, follows_get_att, is_dot, is_cut, ref_text, condition_text, setting_of, as_key, starts_scalar};
-ghost use Rattle.yaml_blocks.specs.code.Steps.{stack, has_keys, IsSmall, IsBehind, Finds, FindsKey, leaf_text, Paired, Holds, Begun, TagBegun, Completes};
-ghost use Rattle.yaml_blocks.specs.code.Rest.{top};
-ghost use Rattle.yaml_blocks.specs.code.Twins.{FailedAt, TornAt};
+ghost use Rattle.yaml_grammar.specs.Ahead.{ahead};
+ghost use Rattle.yaml_grammar.specs.Nodes.{below, tag_name, tag_key, get_att, follows_get_att, is_dot, is_cut, ref_text, condition_text, setting_of, as_key, starts_scalar};
+ghost use Rattle.yaml_grammar.specs.code.Steps.{stack, has_keys, IsSmall, IsBehind, Finds, FindsKey, leaf_text, Paired, Holds, Begun, TagBegun, Completes};
+ghost use Rattle.yaml_grammar.specs.code.Rest.{top};
+ghost use Rattle.yaml_grammar.specs.code.Twins.{FailedAt, TornAt};
 
-use crate::ahead::{Ahead, Token, look};
-use crate::form::{Form, Site};
+use crate::ahead::look;
+use crate::form::Site;
 use crate::place::{refused_place, torn_stop};
-use crate::stage::{Position, Stage};
-use crate::stop::{Stop, of_scalar};
 use doc_values::{DocBuilder, Kind};
 use std::alloc::{AllocError, Global};
 use std::borrow::CowStr;
+use yaml_grammar::{Ahead, Form, Key, Position, Stage, Stop, Token, of_scalar};
 use yaml_scalars::{Scalar, Setting, read_scalar};
-
-/// A key outside of flow.
-#[derive(Drop)]
-pub(crate) struct Key<'s> {
-    pub(crate) text: CowStr<'s>,
-    /// The place behind its colon.
-    pub(crate) behind: usize,
-}
 
 /// How a scalar becomes a value.
 #[derive(Clone, Copy)]

@@ -5,14 +5,14 @@ ghost use Rattle.yaml_scalars.specs.code.Limits.{text_limit};
 ghost use Rattle.yaml_scalars.specs.Block.{same, widest};
 ghost use Rattle.yaml_scalars.specs.code.Walk.{has_break};
 ghost use Rattle.yaml_scalars.specs.Lines.{begins_with};
-ghost use Rattle.yaml_blocks.specs.code.AheadSeen.{first_return};
-ghost use Rattle.yaml_blocks.specs.code.Steps.{is_dash, is_open};
-ghost use Rattle.yaml_blocks.specs.code.StopPlaces.{is_stray, run_width, byte_width, token_width, is_hidden, width, past_return, told_place, within, last_told, flow_place, dash_place, ends_in_dots, root_place, failed_place, refused_place, colon_place, ends_in_dash, torn_place, torn_stop};
+ghost use Rattle.yaml_grammar.specs.code.AheadSeen.{first_return};
+ghost use Rattle.yaml_grammar.specs.code.Steps.{is_dash, is_open};
+ghost use Rattle.yaml_grammar.specs.code.StopPlaces.{is_stray, run_width, byte_width, token_width, is_hidden, width, past_return, told_place, within, last_told, flow_place, dash_place, ends_in_dots, root_place, failed_place, refused_place, colon_place, ends_in_dash, torn_place, torn_stop};
 
-use crate::ahead::{Ahead, Token, name_len};
+use crate::ahead::name_len;
 use crate::node::offset;
 use crate::sign::is_ending;
-use crate::stop::Stop;
+use yaml_grammar::{Ahead, Stop, Token};
 use yaml_scalars::ScalarRefusal;
 use yaml_scalars::lines::whites;
 

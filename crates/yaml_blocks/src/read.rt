@@ -7,24 +7,22 @@ ghost use Rattle.yaml_scalars.specs.code.Limits.{text_limit};
 ghost use Rattle.doc_values.specs.Tree.{size};
 ghost use Rattle.yaml_scalars.specs.Lines.{ends_with};
 ghost use Rattle.yaml_scalars.specs.Scalar.{begins_order_mark};
-ghost use Rattle.yaml_blocks.specs.Answers.{Reads, Refuses};
-ghost use Rattle.yaml_blocks.specs.code.Memory.{BeginsDocument};
-ghost use Rattle.yaml_blocks.specs.code.Places.{IsSyntaxStop, StopsAt};
-ghost use Rattle.yaml_blocks.specs.code.ReadAgain.{SignsAgain};
-ghost use Rattle.yaml_blocks.specs.code.Refused.{IsStopped, of_stop};
-ghost use Rattle.yaml_blocks.specs.code.Twins.{FixesStart};
-ghost use Rattle.yaml_blocks.specs.Yaml.{IsStart, start_sign, text_start};
+ghost use Rattle.yaml_grammar.specs.Answers.{Reads, Refuses};
+ghost use Rattle.yaml_grammar.specs.code.Memory.{BeginsDocument};
+ghost use Rattle.yaml_grammar.specs.code.Places.{IsSyntaxStop, StopsAt};
+ghost use Rattle.yaml_grammar.specs.code.ReadAgain.{SignsAgain};
+ghost use Rattle.yaml_grammar.specs.code.Refused.{IsStopped, of_stop};
+ghost use Rattle.yaml_grammar.specs.code.Twins.{FixesStart};
+ghost use Rattle.yaml_grammar.specs.Yaml.{IsStart, start_sign, text_start};
 
-use crate::ahead::{Token, look};
+use crate::ahead::look;
 use crate::place::last_told;
-use crate::refusal::YamlRefusal;
 use crate::sign::start_sign;
-use crate::stage::Stage;
 use crate::step::{root, step};
-use crate::stop::{Stop, refusal_of};
 use crate::twice::read_placed;
 use doc_values::{Doc, DocBuilder};
 use std::alloc::Global;
+use yaml_grammar::{Stage, Stop, Token, YamlRefusal, refusal_of};
 
 /// The tree of a YAML text of at most 8 MiB that is one document, the only one. `NoMemory` says no more of the text than that
 /// a document begins: what is refused in front of one takes no memory.

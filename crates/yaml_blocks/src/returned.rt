@@ -7,22 +7,22 @@ ghost use Rattle.std.specs.Str.{IsCharBoundary, IsUtf8};
 ghost use Rattle.yaml_scalars.specs.Lines.{Documents, Stands, begins_with};
 ghost use Rattle.yaml_scalars.specs.Scalar.{scalar_at};
 ghost use Rattle.yaml_scalars.specs.declared.scalar.Setting.{Setting};
-ghost use Rattle.yaml_blocks.specs.declared.ahead.Token.TheVariants.{End};
-ghost use Rattle.yaml_blocks.specs.Ahead.{ahead};
-ghost use Rattle.yaml_blocks.specs.Nodes.{as_key, scalar_ahead, starts_scalar};
-ghost use Rattle.yaml_blocks.specs.Signs.{Sign, Tree};
-ghost use Rattle.yaml_blocks.specs.code.Rest.{top, Ends, Enters};
-ghost use Rattle.yaml_blocks.specs.code.Steps.{Open};
-ghost use Rattle.yaml_blocks.specs.declared.form.Form.{Form};
-ghost use Rattle.yaml_blocks.specs.declared.form.Form.TheVariants.{Entries, Flow};
-ghost use Rattle.yaml_blocks.specs.Yaml.{IsYaml, start_sign};
-ghost use Rattle.yaml_blocks.specs.code.AheadSeen.{ahead_seen};
-ghost use Rattle.yaml_blocks.specs.Places.{IsDead, IsFront, IsSyntax};
-ghost use Rattle.yaml_blocks.specs.code.ReadAgain.{StopsAgain};
-ghost use Rattle.yaml_blocks.specs.code.Twins.{IsTwin};
+ghost use Rattle.yaml_grammar.specs.declared.ahead.Token.TheVariants.{End};
+ghost use Rattle.yaml_grammar.specs.Ahead.{ahead};
+ghost use Rattle.yaml_grammar.specs.Nodes.{as_key, scalar_ahead, starts_scalar};
+ghost use Rattle.yaml_grammar.specs.Signs.{Sign, Tree};
+ghost use Rattle.yaml_grammar.specs.code.Rest.{top, Ends, Enters};
+ghost use Rattle.yaml_grammar.specs.code.Steps.{Open};
+ghost use Rattle.yaml_grammar.specs.declared.form.Form.{Form};
+ghost use Rattle.yaml_grammar.specs.declared.form.Form.TheVariants.{Entries, Flow};
+ghost use Rattle.yaml_grammar.specs.Yaml.{IsYaml, start_sign};
+ghost use Rattle.yaml_grammar.specs.code.AheadSeen.{ahead_seen};
+ghost use Rattle.yaml_grammar.specs.Places.{IsDead, IsFront, IsSyntax};
+ghost use Rattle.yaml_grammar.specs.code.ReadAgain.{StopsAgain};
+ghost use Rattle.yaml_grammar.specs.code.Twins.{IsTwin};
 
 use crate::node::offset;
-use crate::stop::Stop;
+use yaml_grammar::Stop;
 
 /// No document has a carriage return that is in no break; so one that ends a text is dead where no document begins with the
 /// text and a line feed. The call itself does nothing.

@@ -2,16 +2,15 @@
 ghost use Rattle.std.specs.Prelude.{◌≡◌, ◌≤◌, ◌&&◌, not, length, true, false, None, Some, option_map, nat_eq, if◌then◌else◌, MatchOption};
 ghost use Rattle.std.specs.Str.{IsCharBoundary};
 ghost use Rattle.yaml_scalars.specs.code.Limits.{text_limit};
-ghost use Rattle.yaml_blocks.specs.Ahead.{ahead};
-ghost use Rattle.yaml_blocks.specs.Nodes.{node_sign, is_tagged, is_marked};
-ghost use Rattle.yaml_blocks.specs.code.Refused.{of_sign};
-ghost use Rattle.yaml_blocks.specs.code.Steps.{IsSeen, is_ending};
-ghost use Rattle.yaml_blocks.specs.Yaml.{IsEnd, is_content, late_sign, end_sign, text_start, start_sign};
+ghost use Rattle.yaml_grammar.specs.Ahead.{ahead};
+ghost use Rattle.yaml_grammar.specs.Nodes.{node_sign, is_tagged, is_marked};
+ghost use Rattle.yaml_grammar.specs.code.Refused.{of_sign};
+ghost use Rattle.yaml_grammar.specs.code.Steps.{IsSeen, is_ending};
+ghost use Rattle.yaml_grammar.specs.Yaml.{IsEnd, is_content, late_sign, end_sign, text_start, start_sign};
 
-use crate::ahead::{Ahead, Token, look};
-use crate::form::Form;
+use crate::ahead::look;
 use crate::node::offset;
-use crate::stop::Stop;
+use yaml_grammar::{Ahead, Form, Stop, Token};
 
 /// Whether a token is content.
 fn is_content(token: Token) -> bool

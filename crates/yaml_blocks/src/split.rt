@@ -3,15 +3,13 @@ ghost use Rattle.std.specs.Prelude.{◌≡◌, ◌≤◌, ◌<◌, ◌+◌, ◌&
 ghost use Rattle.yaml_scalars.specs.Scalar.{begins_block};
 ghost use Rattle.yaml_scalars.specs.code.Limits.{text_limit};
 ghost use Rattle.yaml_laws.specs.code.Dots.{begins_digits, spells_dot};
-ghost use Rattle.yaml_blocks.specs.Nodes.{setting_of};
-ghost use Rattle.yaml_blocks.specs.code.Splits.{shows_dot, has_dot, is_split, split_place, split_stop};
-ghost use Rattle.yaml_blocks.specs.code.Steps.{IsBehind};
+ghost use Rattle.yaml_grammar.specs.Nodes.{setting_of};
+ghost use Rattle.yaml_grammar.specs.code.Splits.{shows_dot, has_dot, is_split, split_place, split_stop};
+ghost use Rattle.yaml_grammar.specs.code.Steps.{IsBehind};
 
-use crate::ahead::Ahead;
-use crate::form::Form;
 use crate::node::follows_get_att;
 use crate::place::{begins_block, has_byte, within};
-use crate::stop::Stop;
+use yaml_grammar::{Ahead, Form, Stop};
 
 /// How many collections may stand in each other.
 const DEPTH: u32 = 128;

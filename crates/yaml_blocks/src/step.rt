@@ -4,27 +4,26 @@ ghost use Rattle.std.specs.Result.{IfErr};
 ghost use Rattle.std.specs.Str.{IsCharBoundary, IsUtf8};
 ghost use Rattle.yaml_scalars.specs.code.Limits.{text_limit};
 ghost use Rattle.doc_values.specs.Unfinished.{start};
-ghost use Rattle.yaml_blocks.specs.Ahead.{ahead};
-ghost use Rattle.yaml_blocks.specs.Nodes.{starts_scalar};
-ghost use Rattle.yaml_blocks.specs.code.Closers.{in_flow};
-ghost use Rattle.yaml_blocks.specs.code.ReadAgain.{SignStays};
-ghost use Rattle.yaml_blocks.specs.code.Rest.{top, Ends, Enters, Awaits, Begins};
-ghost use Rattle.yaml_blocks.specs.Ahead.{ahead};
-ghost use Rattle.yaml_blocks.specs.code.Extends.{ExtendsStep, ExtendsValue, Leaves, Shuts};
-ghost use Rattle.yaml_blocks.specs.code.Feeds.{FeedsStep};
-ghost use Rattle.yaml_blocks.specs.code.Twins.{StopsStep, Lengthens, FixesStep, FixesRoot};
-ghost use Rattle.yaml_blocks.specs.code.Steps.{stack, IsBlock, IsFlow, Open, Rest, Fits, SameStep, reached, Gives, is_ending};
-ghost use Rattle.yaml_blocks.specs.Yaml.{text_start};
+ghost use Rattle.yaml_grammar.specs.Ahead.{ahead};
+ghost use Rattle.yaml_grammar.specs.Nodes.{starts_scalar};
+ghost use Rattle.yaml_grammar.specs.code.Closers.{in_flow};
+ghost use Rattle.yaml_grammar.specs.code.ReadAgain.{SignStays};
+ghost use Rattle.yaml_grammar.specs.code.Rest.{top, Ends, Enters, Awaits, Begins};
+ghost use Rattle.yaml_grammar.specs.Ahead.{ahead};
+ghost use Rattle.yaml_grammar.specs.code.Extends.{ExtendsStep, ExtendsValue, Leaves, Shuts};
+ghost use Rattle.yaml_grammar.specs.code.Feeds.{FeedsStep};
+ghost use Rattle.yaml_grammar.specs.code.Twins.{StopsStep, Lengthens, FixesStep, FixesRoot};
+ghost use Rattle.yaml_grammar.specs.code.Steps.{stack, IsBlock, IsFlow, Open, Rest, Fits, SameStep, reached, Gives, is_ending};
+ghost use Rattle.yaml_grammar.specs.Yaml.{text_start};
 
 use crate::ahead::look;
-use crate::form::{Form, Site};
+use crate::form::Site;
 use crate::node::{innermost, take_null};
 use crate::sign::is_ending;
-use crate::stage::{Position, Stage};
-use crate::stop::Stop;
 use crate::{block, flow};
 use doc_values::DocBuilder;
 use std::alloc::Global;
+use yaml_grammar::{Form, Position, Stage, Stop};
 
 /// An entry between brackets, or the closing one.
 fn entry<'s>(

@@ -1,15 +1,13 @@
 //! Where nodes of a block may begin, and where a block ends: by a form, and what is ahead.
 ghost use Rattle.std.specs.Prelude.{◌≡◌, ◌≤◌, None, Some, option_map, MatchOption};
 ghost use Rattle.yaml_scalars.specs.code.Limits.{text_limit};
-ghost use Rattle.yaml_blocks.specs.Blocks.{block_sign, takes_scalar, takes_mapping, takes_sequence, takes_tag, tagged, column_in};
-ghost use Rattle.yaml_blocks.specs.code.Refused.{of_sign};
-ghost use Rattle.yaml_blocks.specs.code.Steps.{IsSmall, ends_before};
+ghost use Rattle.yaml_grammar.specs.Blocks.{block_sign, takes_scalar, takes_mapping, takes_sequence, takes_tag, tagged, column_in};
+ghost use Rattle.yaml_grammar.specs.code.Refused.{of_sign};
+ghost use Rattle.yaml_grammar.specs.code.Steps.{IsSmall, ends_before};
 
-use crate::ahead::Ahead;
-use crate::form::Form;
 use crate::place::is_dash;
 use crate::sign::{is_tagged, node_sign};
-use crate::stop::Stop;
+use yaml_grammar::{Ahead, Form, Stop};
 
 /// Whether a scalar or a flow collection may begin at a token.
 pub(crate) fn takes_scalar(form: Form, next: Ahead) -> bool

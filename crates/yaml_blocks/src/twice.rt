@@ -5,21 +5,21 @@ ghost use Rattle.doc_values.specs.Limits.{template_limit};
 ghost use Rattle.doc_values.specs.Tree.{size};
 ghost use Rattle.yaml_scalars.specs.code.Limits.{text_limit};
 ghost use Rattle.yaml_scalars.specs.Lines.{ends_with};
-ghost use Rattle.yaml_blocks.specs.Answers.{Reads};
-ghost use Rattle.yaml_blocks.specs.Places.{IsSyntax};
-ghost use Rattle.yaml_blocks.specs.Yaml.{IsStart};
-ghost use Rattle.yaml_blocks.specs.code.Memory.{BeginsDocument};
-ghost use Rattle.yaml_blocks.specs.code.Places.{IsSyntaxStop};
-ghost use Rattle.yaml_blocks.specs.code.ReadAgain.{SaysAgain};
-ghost use Rattle.yaml_blocks.specs.code.Refused.{IsStopped};
+ghost use Rattle.yaml_grammar.specs.Answers.{Reads};
+ghost use Rattle.yaml_grammar.specs.Places.{IsSyntax};
+ghost use Rattle.yaml_grammar.specs.Yaml.{IsStart};
+ghost use Rattle.yaml_grammar.specs.code.Memory.{BeginsDocument};
+ghost use Rattle.yaml_grammar.specs.code.Places.{IsSyntaxStop};
+ghost use Rattle.yaml_grammar.specs.code.ReadAgain.{SaysAgain};
+ghost use Rattle.yaml_grammar.specs.code.Refused.{IsStopped};
 
-use crate::ahead::{Token, bytes_ahead, look};
+use crate::ahead::{bytes_ahead, look};
 use crate::node::offset;
 use crate::read::{document_start, read_document, text_start};
 use crate::returned::returned_place;
-use crate::stop::Stop;
 use doc_values::Doc;
 use std::alloc::{AllocError, Global};
+use yaml_grammar::{Stop, Token};
 
 /// Whether a carriage return ends a text.
 fn ends_in_return(bytes: &[u8]) -> bool

@@ -1,7 +1,7 @@
 -- Which syntax has a spelling: what a grammar gives of each part, so that its tokens can be written.
 use Rattle.std.specs.Prelude.{◌≡◌, ℕ, ◌^◌, ◌<◌, false, List, [], ◌∷◌, Option, Some, None}
 use Rattle.doc_values.specs.Tree.{Label, Forest, Nil, Node}
-use Rattle.doc_values.specs.declared.decimal.Num.TheVariants as num
+use Rattle.decimals.specs.declared.decimal.Num.TheVariants as num
 use Rattle.doc_values.specs.declared.kind.Kind.{Kind}
 use Rattle.doc_values.specs.declared.kind.Kind.TheVariants as kind
 use Rattle.guard_lexer.specs.Forms.{IsName, IsTypeName}

@@ -6,6 +6,7 @@ use Rattle.guard_syntax.specs.declared.syntax.Part.{Part}
 use Rattle.rule_printer.specs.RuleText.{cond_text, disj_text, expr_text}
 use Rattle.rule_printer.proofs.InARow.{row-next, row-end}
 use Rattle.rule_printer.proofs.PartTexts.{of_disjs, of_more_disjs, disjs-joined, disj-parts, conds-disjs, of_exprs, of_more_exprs, exprs-joined, of_parts, of_more_parts, parts-joined, steps-next, steps-end}
+use Rattle.rule_printer.proofs.PartsAppended.{all_room, asked-added, asked-empty, call-added, filter-added, found-added, function-added, keys-added, query-added, no_steps, query-empty, refer-added, some_steps, splice-added, test-added, var-added}
 use Rattle.rule_printer.proofs.conditions.+conditions.Goals as goal
 
 pub push_exprs-loop-i-preserved : goal.push_exprs-loop-i-preserved
@@ -43,3 +44,61 @@ push_steps-loop-i-preserved t c =
 
 pub push_steps-returns : goal.push_steps-returns
 push_steps-returns t c = steps-end c.args.steps.now c.loop-i.i _ (string_bytes c.loop-i.out) c.loop-i-test.false c.loop-i.invariant
+
+pub push_cond-returns-in_ok-push_right-in-Test : goal.push_cond-returns-in_ok-push_right-in-Test
+push_cond-returns-in_ok-push_right-in-Test t c =
+    test-added c.push_note.result c.args.part.now _ _ _ _ _ _ _ _ _ _ _ _ _ _ c.in-Test.is c.in_ok-push_word_if-in-Test.ensures c.in_ok-push_query-in-Test.ensures c.in_ok-push_str-in-Test.ensures.bytes
+    c.in_ok-push_operator-in-Test.ensures c.in_ok-push_right-in-Test.ensures c.push_note.ensures
+
+pub push_cond-returns-in_ok-push_str-in-Refer : goal.push_cond-returns-in_ok-push_str-in-Refer
+push_cond-returns-in_ok-push_str-in-Refer t c =
+    refer-added c.push_note-in-Refer.result c.args.part.now _ _ _ _ _ _ _ _ _ c.in-Refer.is c.as_str.ensures c.in_ok-push_word_if-in-Refer.ensures c.in_ok-push_str-in-Refer.ensures.bytes c.push_note-in-Refer.ensures
+
+pub push_cond-returns-in_ok-push_str-in-Call-3 : goal.push_cond-returns-in_ok-push_str-in-Call-3
+push_cond-returns-in_ok-push_str-in-Call-3 t c =
+    call-added c.push_note-in-Call.result c.args.part.now _ _ _ _ _ _ _ _ _ _ _ _ _ _ c.in-Call.is c.as_str-in-Call.ensures c.deref.ensures.value c.in_ok-push_word_if-in-Call.ensures
+    c.in_ok-push_str-in-Call.ensures.bytes c.in_ok-push_str-in-Call-2.ensures.bytes c.in_ok-push_exprs-in-Call.ensures c.in_ok-push_str-in-Call-3.ensures.bytes c.push_note-in-Call.ensures
+
+pub push_query-returns : goal.push_query-returns
+push_query-returns t c =
+    query-added c.push_steps.result c.args.query.now c.as_slice-steps.result.now c.index-steps-0.result _ _ _ c.as_slice-steps.ensures.value (some_steps c.as_slice-steps.result.now c.is_empty.result c.is_empty.ensures c.if-is_empty.false)
+    c.index-steps-0.is c.in_ok-push_step.ensures c.push_steps.ensures
+
+pub push_query-returns-then-is_empty : goal.push_query-returns-then-is_empty
+push_query-returns-then-is_empty t c =
+    query-empty c.args.query.now c.as_slice-steps.result.now _ c.as_slice-steps.ensures.value (no_steps c.as_slice-steps.result.now c.is_empty.result c.is_empty.ensures c.if-is_empty.true)
+
+pub push_asked-returns : goal.push_asked-returns
+push_asked-returns t c =
+    asked-added c.push_steps.result c.args.query.now c.as_slice-steps.result.now c.index-steps-0.result _ _ _ _ c.as_slice-steps.ensures.value (some_steps c.as_slice-steps.result.now c.is_empty.result c.is_empty.ensures c.if-is_empty.false)
+    c.index-steps-0.is c.in_ok-push_step.ensures c.in_ok-push_space_within.ensures c.push_steps.ensures
+
+pub push_asked-returns-then-is_empty : goal.push_asked-returns-then-is_empty
+push_asked-returns-then-is_empty t c =
+    asked-empty c.args.query.now c.as_slice-steps.result.now _ c.as_slice-steps.ensures.value (no_steps c.as_slice-steps.result.now c.is_empty.result c.is_empty.ensures c.if-is_empty.true)
+
+pub push_step-returns-in_ok-push_str-in-Var : goal.push_step-returns-in_ok-push_str-in-Var
+push_step-returns-in_ok-push_str-in-Var t c =
+    var-added c.push_str-in-Var-2.result c.args.first c.args.step.now c.in-Var.name _ _ _ _ c.in-Var.is c.as_str.ensures c.in_ok-push_str-in-Var.ensures.bytes (all_room c.push_str-in-Var-2.result _ _ _ c.push_str-in-Var-2.ensures.bytes)
+
+pub push_step-returns-in_ok-push_str-in-Splice : goal.push_step-returns-in_ok-push_str-in-Splice
+push_step-returns-in_ok-push_str-in-Splice t c =
+    splice-added c.push_str-in-Splice-2.result c.args.first c.args.step.now c.in-Splice.name _ _ _ _ c.in-Splice.is c.as_str-in-Splice.ensures c.in_ok-push_str-in-Splice.ensures.bytes (all_room c.push_str-in-Splice-2.result _ _ _ c.push_str-in-Splice-2.ensures.bytes)
+
+pub push_step-returns-in_ok-push_conds-in-Filter : goal.push_step-returns-in_ok-push_conds-in-Filter
+push_step-returns-in_ok-push_conds-in-Filter t c =
+    filter-added c.push_str-in-Filter-2.result c.args.first c.args.step.now c.in-Filter.capture c.in-Filter.conds _ _ _ _ _ c.in-Filter.is c.in_ok-push_str-in-Filter.ensures.bytes c.in_ok-push_capture-in-Filter.ensures
+    c.in_ok-push_conds-in-Filter.ensures (all_room c.push_str-in-Filter-2.result _ _ _ c.push_str-in-Filter-2.ensures.bytes)
+
+pub push_step-returns-in_ok-push_expr-in-Keys : goal.push_step-returns-in_ok-push_expr-in-Keys
+push_step-returns-in_ok-push_expr-in-Keys t c =
+    keys-added c.push_str-in-Keys-4.result c.args.first c.args.step.now c.in-Keys.capture c.in-Keys.op c.in-Keys.not c.in-Keys.right _ _ _ _ _ _ _ _ c.in-Keys.is c.in_ok-push_str-in-Keys.ensures.bytes
+    c.in_ok-push_capture-in-Keys.ensures c.in_ok-push_str-in-Keys-2.ensures.bytes c.in_ok-push_operator-in-Keys.ensures c.in_ok-push_str-in-Keys-3.ensures.bytes c.in_ok-push_expr-in-Keys.ensures (all_room c.push_str-in-Keys-4.result _ _ _ c.push_str-in-Keys-4.ensures.bytes)
+
+pub push_expr-returns-in_ok-push_exprs-in-Function : goal.push_expr-returns-in_ok-push_exprs-in-Function
+push_expr-returns-in_ok-push_exprs-in-Function t c =
+    function-added c.push_str-in-Function-2.result c.args.expr.now _ _ _ _ _ _ _ _ _ _ _ _ c.in-Function.is c.as_str.ensures c.as_str-in-Function.ensures c.deref.ensures.value c.in_ok-push_str-in-Function.ensures.bytes
+    c.in_ok-push_space_behind-in-Function.ensures c.in_ok-push_str-in-Function-2.ensures.bytes c.in_ok-push_exprs-in-Function.ensures (all_room c.push_str-in-Function-2.result _ _ _ c.push_str-in-Function-2.ensures.bytes)
+
+pub push_expr-returns-in_ok-push_str-in-Found : goal.push_expr-returns-in_ok-push_str-in-Found
+push_expr-returns-in_ok-push_str-in-Found t c = found-added c.push_query.result c.args.expr.now _ _ _ _ _ c.in-Found.is c.in_ok-push_str-in-Found.ensures.bytes c.push_query.ensures

@@ -1,8 +1,8 @@
 use Rattle.std.proofs.Common.{◌≤◌, length, sym, ap, ◌∙◌, subst}
 use Rattle.yaml_laws.proofs.AgreeLess.{breaks_alike}
-use Rattle.yaml_blocks.specs.Ahead.{ahead}
-use Rattle.yaml_blocks.specs.code.AheadSeen.{ahead_seen}
-use Rattle.yaml_blocks.proofs.AheadStays.{ahead_stays}
+use Rattle.yaml_grammar.specs.Ahead.{ahead}
+use Rattle.yaml_grammar.specs.code.AheadSeen.{ahead_seen}
+use Rattle.yaml_grammar.proofs.AheadStays.{ahead_stays}
 use Rattle.yaml_blocks.proofs.agreement.same_ahead.Goals as goal
 
 pub returns : goal.returns

@@ -1,10 +1,10 @@
 use Rattle.std.proofs.lemmas.Grind.{common_steps}
 use Rattle.std.proofs.Common.{sym, ap, ◌∙◌, drop, ◌+◌, true, arith}
 use Rattle.yaml_scalars.specs.code.Walk.{line_at}
-use Rattle.yaml_blocks.specs.declared.ahead.Token.{Token}
+use Rattle.yaml_grammar.specs.declared.ahead.Token.{Token}
 use Rattle.yaml_scalars.specs.Lines.{past_white}
-use Rattle.yaml_blocks.specs.Ahead.{token_at, tab_token}
-use Rattle.yaml_blocks.proofs.Looks.{untabbed, tabbed, white_rest, white_token}
+use Rattle.yaml_grammar.specs.Ahead.{token_at, tab_token}
+use Rattle.yaml_grammar.proofs.Looks.{untabbed, tabbed, white_rest, white_token}
 use Rattle.yaml_blocks.proofs.ahead.content_ahead.Goals as goal
 
 pub returns : goal.returns

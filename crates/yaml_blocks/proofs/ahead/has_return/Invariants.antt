@@ -1,6 +1,6 @@
 use Rattle.std.proofs.Common.{◌≡◌, drop}
 use Rattle.yaml_scalars.specs.code.Walk.{line_at}
-use Rattle.yaml_blocks.specs.Ahead.{has_return}
+use Rattle.yaml_grammar.specs.Ahead.{has_return}
 use Rattle.yaml_blocks.proofs.ahead.has_return.Given as goal
 
 abbrev pub invariant-loop-i : goal.invariant-loop-i

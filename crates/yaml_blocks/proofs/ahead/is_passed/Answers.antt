@@ -1,7 +1,7 @@
 use Rattle.std.proofs.Common.{sym, ap, ◌∙◌, drop, not}
 use Rattle.yaml_scalars.specs.Lines.{begins_with}
 use Rattle.yaml_scalars.specs.code.Walk.{line_at}
-use Rattle.yaml_blocks.proofs.Looks.{white_rest, passed_other, passed_comment}
+use Rattle.yaml_grammar.proofs.Looks.{white_rest, passed_other, passed_comment}
 use Rattle.yaml_blocks.proofs.ahead.is_passed.Goals as goal
 
 pub returns-then-not-begins_comment : goal.returns-then-not-begins_comment

@@ -1,7 +1,7 @@
 use Rattle.std.proofs.lemmas.Grind.{common_steps}
 use Rattle.std.proofs.Common.{sym, ap, ◌∙◌, length, arith}
-use Rattle.yaml_blocks.specs.Ahead.{line_ahead}
-use Rattle.yaml_blocks.proofs.Looks.{marked, filled, below_passed}
+use Rattle.yaml_grammar.specs.Ahead.{line_ahead}
+use Rattle.yaml_grammar.proofs.Looks.{marked, filled, below_passed}
 use Rattle.yaml_blocks.proofs.ahead.line_ahead.Goals as goal
 
 pub returns-then-is_mark : goal.returns-then-is_mark

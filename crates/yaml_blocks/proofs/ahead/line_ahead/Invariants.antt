@@ -1,6 +1,6 @@
 use Rattle.std.proofs.Common.{◌≡◌, ◌≤◌, ◌+◌, ◌-◌, drop, length}
 use Rattle.yaml_scalars.specs.Lines.{lines}
-use Rattle.yaml_blocks.specs.Ahead.{line_ahead}
+use Rattle.yaml_grammar.specs.Ahead.{line_ahead}
 use Rattle.yaml_blocks.proofs.ahead.line_ahead.Given as goal
 
 abbrev pub invariant-loop-at : goal.invariant-loop-at

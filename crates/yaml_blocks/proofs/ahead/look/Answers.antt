@@ -1,7 +1,7 @@
 use Rattle.std.proofs.Common.{List, ℕ, ap, sym, ◌∙◌, subst}
-use Rattle.yaml_blocks.specs.Ahead.{ahead}
-use Rattle.yaml_blocks.specs.code.Steps.{IsPlaced}
-use Rattle.yaml_blocks.proofs.Placed.{placed}
+use Rattle.yaml_grammar.specs.Ahead.{ahead}
+use Rattle.yaml_grammar.specs.code.Steps.{IsPlaced}
+use Rattle.yaml_grammar.proofs.Placed.{placed}
 use Rattle.yaml_blocks.proofs.ahead.look.Goals as goal
 
 pub returns : goal.returns

@@ -1,6 +1,6 @@
 use Rattle.std.proofs.Common.{◌≡◌, ◌+◌, ◌≤◌, drop}
 use Rattle.yaml_scalars.specs.Lines.{lead}
-use Rattle.yaml_blocks.specs.Ahead.{is_name}
+use Rattle.yaml_grammar.specs.Ahead.{is_name}
 use Rattle.yaml_scalars.specs.code.Walk.{line_at}
 use Rattle.yaml_blocks.proofs.ahead.name_len.Given as goal
 

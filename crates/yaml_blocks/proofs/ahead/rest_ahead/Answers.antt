@@ -1,8 +1,8 @@
 use Rattle.std.proofs.lemmas.Grind.{common_steps}
 use Rattle.std.proofs.Common.{sym, ap, ◌∙◌, length, ◌+◌, false, arith}
-use Rattle.yaml_blocks.specs.declared.ahead.Token.{Token}
-use Rattle.yaml_blocks.specs.Ahead.{token_at, line_ahead}
-use Rattle.yaml_blocks.proofs.Looks.{rest_filled, rest_passed, white_token}
+use Rattle.yaml_grammar.specs.declared.ahead.Token.{Token}
+use Rattle.yaml_grammar.specs.Ahead.{token_at, line_ahead}
+use Rattle.yaml_grammar.proofs.Looks.{rest_filled, rest_passed, white_token}
 use Rattle.yaml_blocks.proofs.ahead.rest_ahead.Goals as goal
 
 pub returns-then-not-is_passed : goal.returns-then-not-is_passed

@@ -1,6 +1,6 @@
 use Rattle.std.proofs.lemmas.Grind.{common_steps}
 use Rattle.std.proofs.Common.{sym, ◌∙◌, arith}
-use Rattle.yaml_blocks.proofs.Looks.{tag_ends, tag_stands}
+use Rattle.yaml_grammar.proofs.Looks.{tag_ends, tag_stands}
 use Rattle.yaml_blocks.proofs.ahead.tag_token.Goals as goal
 
 pub returns-then-not-ends_tag-clause-is : goal.returns-then-not-ends_tag-clause-is

@@ -1,28 +1,28 @@
 use Rattle.std.proofs.Common.{◌≡◌, ◌+◌, ◌*◌, true, false, refl, sym, ap, ◌∙◌, subst}
 use Rattle.std.specs.Prelude.{option_map}
-use Rattle.yaml_blocks.specs.declared.ahead.Ahead.{Ahead}
-use Rattle.yaml_blocks.specs.code.Refused.{of_sign}
-use Rattle.yaml_blocks.specs.code.Steps.{stack, IsSeen, SameKey}
-use Rattle.yaml_blocks.specs.Signs.{Tree}
-use Rattle.yaml_blocks.specs.Yaml.{end_sign}
-use Rattle.yaml_blocks.specs.code.Rest.{Ends}
-use Rattle.yaml_blocks.proofs.Continuations.{block_ends}
-use Rattle.yaml_blocks.proofs.Lengthened.{going_on, dots_stops, dots_lengthens}
-use Rattle.yaml_blocks.proofs.OtherStops.{signed_on, living_on}
-use Rattle.yaml_blocks.proofs.Stopped.{signed_stops, living_stops}
-use Rattle.yaml_blocks.proofs.BlockGains.{signed_gives, no_sign_inside, nothing_follows, all_quiet}
-use Rattle.yaml_blocks.proofs.Gains.{seen_behind}
-use Rattle.yaml_blocks.specs.code.Steps.{is_ending}
-use Rattle.yaml_blocks.proofs.SameTexts.{sign_same, end_there, end_here}
-use Rattle.yaml_blocks.proofs.Fixed.{whole_fixes}
-use Rattle.yaml_blocks.specs.code.Twins.{Stops, NoLine, LengthensAt, FixesEnd}
-use Rattle.yaml_blocks.specs.declared.stage.Stage.TheVariants as stage
-use Rattle.yaml_blocks.specs.Ahead.{ahead}
-use Rattle.yaml_blocks.proofs.Opens.{whole_opening}
-use Rattle.yaml_blocks.proofs.Extended.{whole_leaves}
-use Rattle.yaml_blocks.proofs.FedSites.{end_signed_again, living_again}
-use Rattle.yaml_blocks.specs.Nodes.{starts_scalar}
-use Rattle.yaml_blocks.specs.code.ReadAgain.{NoneBehind, OnSign}
+use Rattle.yaml_grammar.specs.declared.ahead.Ahead.{Ahead}
+use Rattle.yaml_grammar.specs.code.Refused.{of_sign}
+use Rattle.yaml_grammar.specs.code.Steps.{stack, IsSeen, SameKey}
+use Rattle.yaml_grammar.specs.Signs.{Tree}
+use Rattle.yaml_grammar.specs.Yaml.{end_sign}
+use Rattle.yaml_grammar.specs.code.Rest.{Ends}
+use Rattle.yaml_grammar.proofs.Continuations.{block_ends}
+use Rattle.yaml_grammar.proofs.Lengthened.{going_on, dots_stops, dots_lengthens}
+use Rattle.yaml_grammar.proofs.OtherStops.{signed_on, living_on}
+use Rattle.yaml_grammar.proofs.Stopped.{signed_stops, living_stops}
+use Rattle.yaml_grammar.proofs.BlockGains.{signed_gives, no_sign_inside, nothing_follows, all_quiet}
+use Rattle.yaml_grammar.proofs.Gains.{seen_behind}
+use Rattle.yaml_grammar.specs.code.Steps.{is_ending}
+use Rattle.yaml_grammar.proofs.SameTexts.{sign_same, end_there, end_here}
+use Rattle.yaml_grammar.proofs.Fixed.{whole_fixes}
+use Rattle.yaml_grammar.specs.code.Twins.{Stops, NoLine, LengthensAt, FixesEnd}
+use Rattle.yaml_grammar.specs.declared.stage.Stage.TheVariants as stage
+use Rattle.yaml_grammar.specs.Ahead.{ahead}
+use Rattle.yaml_grammar.proofs.Opens.{whole_opening}
+use Rattle.yaml_grammar.proofs.Extended.{whole_leaves}
+use Rattle.yaml_grammar.proofs.FedSites.{end_signed_again, living_again}
+use Rattle.yaml_grammar.specs.Nodes.{starts_scalar}
+use Rattle.yaml_grammar.specs.code.ReadAgain.{NoneBehind, OnSign}
 use Rattle.yaml_blocks.proofs.block.after.Goals as goal
 
 pub returns-in-Some-clause-gives : goal.returns-in-Some-clause-gives

@@ -1,14 +1,14 @@
-use Rattle.yaml_blocks.specs.code.Steps.{stack}
-use Rattle.yaml_blocks.proofs.BlockGains.{brackets_gives, spot_of}
-use Rattle.yaml_blocks.proofs.Fixed.{opens_fixes}
-use Rattle.yaml_blocks.proofs.AwaitedNodes.{place_behind}
-use Rattle.yaml_blocks.specs.code.Twins.{NoValue, LengthensAt}
-use Rattle.yaml_blocks.proofs.Stopped.{opened_stops}
-use Rattle.yaml_blocks.proofs.OtherStops.{opened_on}
-use Rattle.yaml_blocks.specs.declared.stage.Stage.TheVariants as stage
-use Rattle.yaml_blocks.proofs.Opens.{bracket_opening}
+use Rattle.yaml_grammar.specs.code.Steps.{stack}
+use Rattle.yaml_grammar.proofs.BlockGains.{brackets_gives, spot_of}
+use Rattle.yaml_grammar.proofs.Fixed.{opens_fixes}
+use Rattle.yaml_grammar.proofs.AwaitedNodes.{place_behind}
+use Rattle.yaml_grammar.specs.code.Twins.{NoValue, LengthensAt}
+use Rattle.yaml_grammar.proofs.Stopped.{opened_stops}
+use Rattle.yaml_grammar.proofs.OtherStops.{opened_on}
+use Rattle.yaml_grammar.specs.declared.stage.Stage.TheVariants as stage
+use Rattle.yaml_grammar.proofs.Opens.{bracket_opening}
 use Rattle.std.proofs.Common.{false}
-use Rattle.yaml_blocks.proofs.Extended.{opened_extends}
+use Rattle.yaml_grammar.proofs.Extended.{opened_extends}
 use Rattle.yaml_blocks.proofs.block.brackets.Goals as goal
 
 pub returns-clause-gives : goal.returns-clause-gives

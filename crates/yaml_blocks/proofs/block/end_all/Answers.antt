@@ -1,6 +1,6 @@
-use Rattle.yaml_blocks.specs.code.Steps.{stack}
-use Rattle.yaml_blocks.proofs.Stacks.{stack_grown}
-use Rattle.yaml_blocks.proofs.BlockGains.{may_end, ended_one, closed_alike, then_alike}
+use Rattle.yaml_grammar.specs.code.Steps.{stack}
+use Rattle.yaml_grammar.proofs.Stacks.{stack_grown}
+use Rattle.yaml_grammar.proofs.BlockGains.{may_end, ended_one, closed_alike, then_alike}
 use Rattle.yaml_blocks.proofs.block.end_all.Goals as goal
 
 pub end-requires : goal.end-requires

@@ -1,7 +1,7 @@
 use Rattle.std.proofs.Common.{List, ℕ, length}
-use Rattle.yaml_blocks.specs.Yaml.{IsEnd}
-use Rattle.yaml_blocks.specs.code.Steps.{stack}
-use Rattle.yaml_blocks.proofs.BlockGains.{Alike, Stands}
+use Rattle.yaml_grammar.specs.Yaml.{IsEnd}
+use Rattle.yaml_grammar.specs.code.Steps.{stack}
+use Rattle.yaml_grammar.proofs.BlockGains.{Alike, Stands}
 use Rattle.yaml_blocks.proofs.block.end_all.Given as goal
 
 abbrev pub invariant-loop-builder : goal.invariant-loop-builder

@@ -1,13 +1,13 @@
 use Rattle.std.proofs.lemmas.Grind.{common_steps}
 use Rattle.std.proofs.Common.{List, sym, ap, subst, ◌∙◌, arith}
-use Rattle.yaml_blocks.specs.declared.form.Form.{Form}
-use Rattle.yaml_blocks.specs.code.Rest.{top}
+use Rattle.yaml_grammar.specs.declared.form.Form.{Form}
+use Rattle.yaml_grammar.specs.code.Rest.{top}
 use Rattle.doc_values.specs.Unfinished.{with_end}
-use Rattle.yaml_blocks.specs.code.Steps.{stack, ends_before, Lasts}
-use Rattle.yaml_blocks.proofs.Stacks.{stack_grown}
-use Rattle.yaml_blocks.proofs.LastValues.{ended_lasts, then_lasts}
-use Rattle.yaml_blocks.proofs.BlockGains.{ended_one, ended_alike, then_alike}
-use Rattle.yaml_blocks.proofs.Lengthened.{popped_more}
+use Rattle.yaml_grammar.specs.code.Steps.{stack, ends_before, Lasts}
+use Rattle.yaml_grammar.proofs.Stacks.{stack_grown}
+use Rattle.yaml_grammar.proofs.LastValues.{ended_lasts, then_lasts}
+use Rattle.yaml_grammar.proofs.BlockGains.{ended_one, ended_alike, then_alike}
+use Rattle.yaml_grammar.proofs.Lengthened.{popped_more}
 use Rattle.yaml_blocks.proofs.block.end_before.Goals as goal
 
 pub loop-next-preserved : goal.loop-next-preserved

@@ -1,8 +1,8 @@
 use Rattle.std.proofs.Common.{◌≡◌, ℕ, List, false, length}
-use Rattle.yaml_blocks.specs.Ahead.{ahead}
-use Rattle.yaml_blocks.specs.code.Steps.{stack, Lasts}
-use Rattle.yaml_blocks.specs.code.Twins.{Popped}
-use Rattle.yaml_blocks.proofs.BlockGains.{Alike, Stands}
+use Rattle.yaml_grammar.specs.Ahead.{ahead}
+use Rattle.yaml_grammar.specs.code.Steps.{stack, Lasts}
+use Rattle.yaml_grammar.specs.code.Twins.{Popped}
+use Rattle.yaml_grammar.proofs.BlockGains.{Alike, Stands}
 use Rattle.yaml_blocks.proofs.block.end_before.Given as goal
 
 abbrev pub invariant-loop-next : goal.invariant-loop-next

@@ -4,33 +4,33 @@ use Rattle.std.specs.Prelude.{Err}
 use Rattle.std.specs.Cow.{cow_str_bytes}
 use Rattle.doc_values.specs.declared.builder.BuildRefusal.TheVariants as build
 use Rattle.doc_values.specs.Tree.{has_key}
-use Rattle.yaml_blocks.specs.declared.form.Form.TheVariants.{Entries}
-use Rattle.yaml_blocks.specs.declared.stage.Stage.TheVariants as stage
-use Rattle.yaml_blocks.specs.Nodes.{as_key}
-use Rattle.yaml_blocks.specs.declared.ahead.Ahead.{Ahead}
-use Rattle.yaml_blocks.specs.declared.ahead.Token.TheVariants.{Point}
-use Rattle.yaml_blocks.specs.code.Steps.{stack, Gives, SameScalar}
-use Rattle.yaml_blocks.proofs.Forms.{awaits_key}
-use Rattle.yaml_blocks.proofs.Gains.{found_key}
-use Rattle.yaml_blocks.proofs.SameTexts.{found_same, finds_same, has_key_same}
-use Rattle.yaml_blocks.proofs.BlockGains.{Behind, entry_signed_gives, entry_missed, entry_goes, entry_refused, no_colon}
-use Rattle.yaml_blocks.proofs.Fixed.{entry_fixes}
-use Rattle.yaml_blocks.proofs.Lengthened.{entry_lengthens, key_lengthens, colon_lengthens, dash_stops}
-use Rattle.yaml_blocks.proofs.OtherStops.{signed_on, built_on}
-use Rattle.yaml_blocks.proofs.Stopped.{told_inside, signed_stops, built_stops}
-use Rattle.yaml_blocks.proofs.StoppedScalars.{key_stops, missed_failed}
-use Rattle.yaml_blocks.proofs.Quiet.{inside_at, word_inside}
-use Rattle.yaml_blocks.specs.code.Steps.{is_ending}
-use Rattle.yaml_blocks.proofs.StoppedKeys.{no_line_colon_stops}
-use Rattle.yaml_blocks.proofs.Scalars.{failed_other}
-use Rattle.yaml_blocks.specs.declared.stop.Stop.TheVariants.{Unread}
-use Rattle.yaml_blocks.specs.Nodes.{node_sign}
-use Rattle.yaml_blocks.specs.code.Twins.{NoLine, LengthensAt}
-use Rattle.yaml_blocks.proofs.Opens.{form_opening}
+use Rattle.yaml_grammar.specs.declared.form.Form.TheVariants.{Entries}
+use Rattle.yaml_grammar.specs.declared.stage.Stage.TheVariants as stage
+use Rattle.yaml_grammar.specs.Nodes.{as_key}
+use Rattle.yaml_grammar.specs.declared.ahead.Ahead.{Ahead}
+use Rattle.yaml_grammar.specs.declared.ahead.Token.TheVariants.{Point}
+use Rattle.yaml_grammar.specs.code.Steps.{stack, Gives, SameScalar}
+use Rattle.yaml_grammar.proofs.Forms.{awaits_key}
+use Rattle.yaml_grammar.proofs.Gains.{found_key}
+use Rattle.yaml_grammar.proofs.SameTexts.{found_same, finds_same, has_key_same}
+use Rattle.yaml_grammar.proofs.BlockGains.{Behind, entry_signed_gives, entry_missed, entry_goes, entry_refused, no_colon}
+use Rattle.yaml_grammar.proofs.Fixed.{entry_fixes}
+use Rattle.yaml_grammar.proofs.Lengthened.{entry_lengthens, key_lengthens, colon_lengthens, dash_stops}
+use Rattle.yaml_grammar.proofs.OtherStops.{signed_on, built_on}
+use Rattle.yaml_grammar.proofs.Stopped.{told_inside, signed_stops, built_stops}
+use Rattle.yaml_grammar.proofs.StoppedScalars.{key_stops, missed_failed}
+use Rattle.yaml_grammar.proofs.Quiet.{inside_at, word_inside}
+use Rattle.yaml_grammar.specs.code.Steps.{is_ending}
+use Rattle.yaml_grammar.proofs.StoppedKeys.{no_line_colon_stops}
+use Rattle.yaml_grammar.proofs.Scalars.{failed_other}
+use Rattle.yaml_grammar.specs.declared.stop.Stop.TheVariants.{Unread}
+use Rattle.yaml_grammar.specs.Nodes.{node_sign}
+use Rattle.yaml_grammar.specs.code.Twins.{NoLine, LengthensAt}
+use Rattle.yaml_grammar.proofs.Opens.{form_opening}
 use Rattle.std.specs.Prelude.{Ok}
-use Rattle.yaml_blocks.proofs.Extended.{value_leaves}
-use Rattle.yaml_blocks.proofs.FedSites.{block_key_none, built_again, finds_again, signed_again}
-use Rattle.yaml_blocks.specs.code.ReadAgain.{NoneBehind}
+use Rattle.yaml_grammar.proofs.Extended.{value_leaves}
+use Rattle.yaml_grammar.proofs.FedSites.{block_key_none, built_again, finds_again, signed_again}
+use Rattle.yaml_grammar.specs.code.ReadAgain.{NoneBehind}
 use Rattle.yaml_blocks.proofs.block.entry.Goals as goal
 
 pub returns-in-Err-clause-gives : goal.returns-in-Err-clause-gives

@@ -1,11 +1,11 @@
-use Rattle.yaml_blocks.specs.code.Steps.{stack}
-use Rattle.yaml_blocks.specs.declared.form.Form.{Form}
-use Rattle.yaml_blocks.specs.declared.form.Form.TheVariants.{Items, Entries}
-use Rattle.yaml_blocks.specs.code.Steps.{ends_before}
-use Rattle.yaml_blocks.specs.code.Twins.{NoLine}
-use Rattle.yaml_blocks.proofs.BlockGains.{root_none, nothing_follows, item_deep, entry_deep}
-use Rattle.yaml_blocks.proofs.Lengthened.{root_stops, root_lengthens, deep_lengthens, item_deeper, entry_deeper}
-use Rattle.yaml_blocks.proofs.Stopped.{last_told_stops, told_inside}
+use Rattle.yaml_grammar.specs.code.Steps.{stack}
+use Rattle.yaml_grammar.specs.declared.form.Form.{Form}
+use Rattle.yaml_grammar.specs.declared.form.Form.TheVariants.{Items, Entries}
+use Rattle.yaml_grammar.specs.code.Steps.{ends_before}
+use Rattle.yaml_grammar.specs.code.Twins.{NoLine}
+use Rattle.yaml_grammar.proofs.BlockGains.{root_none, nothing_follows, item_deep, entry_deep}
+use Rattle.yaml_grammar.proofs.Lengthened.{root_stops, root_lengthens, deep_lengthens, item_deeper, entry_deeper}
+use Rattle.yaml_grammar.proofs.Stopped.{last_told_stops, told_inside}
 use Rattle.std.proofs.Common.{◌≡◌, false, inl, inr, sym, ap, subst, ◌∙◌}
 use Rattle.yaml_blocks.proofs.block.head.Goals as goal
 

@@ -1,12 +1,12 @@
 use Rattle.std.proofs.Common.{refl}
-use Rattle.yaml_blocks.specs.declared.stage.Stage.TheVariants as stage
-use Rattle.yaml_blocks.specs.code.Steps.{stack}
-use Rattle.yaml_blocks.proofs.BlockGains.{item_stays, item_goes}
-use Rattle.yaml_blocks.proofs.Fixed.{item_fixes}
-use Rattle.yaml_blocks.proofs.Opens.{form_opening}
+use Rattle.yaml_grammar.specs.declared.stage.Stage.TheVariants as stage
+use Rattle.yaml_grammar.specs.code.Steps.{stack}
+use Rattle.yaml_grammar.proofs.BlockGains.{item_stays, item_goes}
+use Rattle.yaml_grammar.proofs.Fixed.{item_fixes}
+use Rattle.yaml_grammar.proofs.Opens.{form_opening}
 use Rattle.std.specs.Prelude.{Ok}
-use Rattle.yaml_blocks.specs.declared.form.Form.TheVariants.{Items}
-use Rattle.yaml_blocks.proofs.Extended.{value_leaves}
+use Rattle.yaml_grammar.specs.declared.form.Form.TheVariants.{Items}
+use Rattle.yaml_grammar.proofs.Extended.{value_leaves}
 use Rattle.yaml_blocks.proofs.block.item.Goals as goal
 
 pub returns-in-Dash-clause-gives : goal.returns-in-Dash-clause-gives

@@ -1,10 +1,10 @@
 use Rattle.std.proofs.Common.{◌∙◌, sym, ap}
-use Rattle.yaml_blocks.specs.Signs.{Tree}
-use Rattle.yaml_blocks.specs.code.Steps.{stack, is_ending}
-use Rattle.yaml_blocks.specs.code.Twins.{NoValue}
-use Rattle.yaml_blocks.proofs.AwaitedNodes.{seen_place}
-use Rattle.yaml_blocks.proofs.Lengthened.{dash_stops}
-use Rattle.yaml_blocks.proofs.LastNodes.{late_dash_none, late_dash_lengthens}
+use Rattle.yaml_grammar.specs.Signs.{Tree}
+use Rattle.yaml_grammar.specs.code.Steps.{stack, is_ending}
+use Rattle.yaml_grammar.specs.code.Twins.{NoValue}
+use Rattle.yaml_grammar.proofs.AwaitedNodes.{seen_place}
+use Rattle.yaml_grammar.proofs.Lengthened.{dash_stops}
+use Rattle.yaml_grammar.proofs.LastNodes.{late_dash_none, late_dash_lengthens}
 use Rattle.yaml_blocks.proofs.block.late_dash.Goals as goal
 
 pub returns-then-takes_scalar-clause-gives : goal.returns-then-takes_scalar-clause-gives

@@ -1,21 +1,21 @@
 use Rattle.std.proofs.lemmas.Grind.{common_steps}
 use Rattle.std.proofs.Common.{false, List, ◌+◌, ◌*◌, arith, subst}
-use Rattle.yaml_blocks.specs.declared.form.Form.{Form}
-use Rattle.yaml_blocks.specs.code.Rest.{Ends}
-use Rattle.yaml_blocks.specs.code.Steps.{stack, Gives}
-use Rattle.yaml_blocks.proofs.Gains.{gives_from, memory_gives}
-use Rattle.yaml_blocks.proofs.LastValues.{lasts_calm}
-use Rattle.yaml_blocks.proofs.Quiet.{line_quiet}
-use Rattle.yaml_blocks.proofs.Roots.{not_true}
-use Rattle.yaml_blocks.proofs.BlockGains.{nothing_follows}
-use Rattle.yaml_blocks.proofs.Lengthened.{line_lengthens, popped_lengthens}
-use Rattle.yaml_blocks.proofs.OtherStops.{memory_on}
-use Rattle.yaml_blocks.proofs.Stopped.{last_told_stops, told_inside, memory_stops, stops_from}
-use Rattle.yaml_blocks.specs.code.Twins.{Stops, NoLine, LengthensAt, Lengthens}
-use Rattle.yaml_blocks.specs.declared.stage.Stage.TheVariants as stage
-use Rattle.yaml_blocks.specs.code.Feeds.{Opening}
-use Rattle.yaml_blocks.proofs.FedSites.{ended_again, memory_is_again}
-use Rattle.yaml_blocks.specs.code.ReadAgain.{NoneBehind, OnSign}
+use Rattle.yaml_grammar.specs.declared.form.Form.{Form}
+use Rattle.yaml_grammar.specs.code.Rest.{Ends}
+use Rattle.yaml_grammar.specs.code.Steps.{stack, Gives}
+use Rattle.yaml_grammar.proofs.Gains.{gives_from, memory_gives}
+use Rattle.yaml_grammar.proofs.LastValues.{lasts_calm}
+use Rattle.yaml_grammar.proofs.Quiet.{line_quiet}
+use Rattle.yaml_grammar.proofs.Roots.{not_true}
+use Rattle.yaml_grammar.proofs.BlockGains.{nothing_follows}
+use Rattle.yaml_grammar.proofs.Lengthened.{line_lengthens, popped_lengthens}
+use Rattle.yaml_grammar.proofs.OtherStops.{memory_on}
+use Rattle.yaml_grammar.proofs.Stopped.{last_told_stops, told_inside, memory_stops, stops_from}
+use Rattle.yaml_grammar.specs.code.Twins.{Stops, NoLine, LengthensAt, Lengthens}
+use Rattle.yaml_grammar.specs.declared.stage.Stage.TheVariants as stage
+use Rattle.yaml_grammar.specs.code.Feeds.{Opening}
+use Rattle.yaml_grammar.proofs.FedSites.{ended_again, memory_is_again}
+use Rattle.yaml_grammar.specs.code.ReadAgain.{NoneBehind, OnSign}
 use Rattle.yaml_blocks.proofs.block.line.Goals as goal
 
 pub returns-then-not-site-clause-gives : goal.returns-then-not-site-clause-gives

@@ -1,22 +1,22 @@
 use Rattle.doc_values.specs.declared.kind.Kind.TheVariants as kind
 use Rattle.std.proofs.Common.{arith, [], false}
 use Rattle.std.proofs.lemmas.Grind.{common_steps}
-use Rattle.yaml_blocks.specs.code.Steps.{stack}
-use Rattle.yaml_blocks.proofs.BlockGains.{missing_gives, no_root, spot_of}
-use Rattle.yaml_blocks.proofs.Fixed.{missing_fixes}
-use Rattle.yaml_blocks.proofs.AwaitedNodes.{place_behind}
+use Rattle.yaml_grammar.specs.code.Steps.{stack}
+use Rattle.yaml_grammar.proofs.BlockGains.{missing_gives, no_root, spot_of}
+use Rattle.yaml_grammar.proofs.Fixed.{missing_fixes}
+use Rattle.yaml_grammar.proofs.AwaitedNodes.{place_behind}
 use Rattle.doc_values.specs.Unfinished.{with_value}
-use Rattle.yaml_blocks.specs.code.Twins.{NoValue, LengthensAt}
-use Rattle.yaml_blocks.proofs.Stopped.{last_told_stops, completed_stops}
-use Rattle.yaml_blocks.specs.Signs.{Tree}
-use Rattle.yaml_blocks.proofs.AwaitedNodes.{seen_place}
-use Rattle.yaml_blocks.proofs.OtherStops.{completed_on}
-use Rattle.yaml_blocks.proofs.LastNodes.{root_going, missing_lengthens}
-use Rattle.yaml_blocks.specs.declared.stage.Stage.TheVariants as stage
-use Rattle.yaml_blocks.proofs.Opens.{form_opening}
-use Rattle.yaml_blocks.proofs.Extended.{missing_extends}
-use Rattle.yaml_blocks.proofs.FedSites.{completed_again}
-use Rattle.yaml_blocks.specs.code.ReadAgain.{NoneLonger}
+use Rattle.yaml_grammar.specs.code.Twins.{NoValue, LengthensAt}
+use Rattle.yaml_grammar.proofs.Stopped.{last_told_stops, completed_stops}
+use Rattle.yaml_grammar.specs.Signs.{Tree}
+use Rattle.yaml_grammar.proofs.AwaitedNodes.{seen_place}
+use Rattle.yaml_grammar.proofs.OtherStops.{completed_on}
+use Rattle.yaml_grammar.proofs.LastNodes.{root_going, missing_lengthens}
+use Rattle.yaml_grammar.specs.declared.stage.Stage.TheVariants as stage
+use Rattle.yaml_grammar.proofs.Opens.{form_opening}
+use Rattle.yaml_grammar.proofs.Extended.{missing_extends}
+use Rattle.yaml_grammar.proofs.FedSites.{completed_again}
+use Rattle.yaml_grammar.specs.code.ReadAgain.{NoneLonger}
 use Rattle.yaml_blocks.proofs.block.missing.Goals as goal
 
 pub returns-in-Root-clause-gives : goal.returns-in-Root-clause-gives

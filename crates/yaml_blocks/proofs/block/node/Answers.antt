@@ -1,16 +1,16 @@
 use Rattle.std.proofs.Common.{◌+◌, ◌*◌, false, sym, subst}
-use Rattle.yaml_blocks.specs.declared.ahead.Ahead.{Ahead}
-use Rattle.yaml_blocks.specs.code.Steps.{stack, Awaited, SameNode}
-use Rattle.yaml_blocks.proofs.BlockGains.{node_signed_gives, spot_of}
-use Rattle.yaml_blocks.specs.code.Twins.{Stops, NoValue, FixesNode, LengthensAt}
-use Rattle.yaml_blocks.specs.Ahead.{ahead}
-use Rattle.yaml_blocks.specs.Blocks.{block_sign}
-use Rattle.yaml_blocks.proofs.Stopped.{signed_stops}
-use Rattle.yaml_blocks.proofs.OtherStops.{signed_on}
-use Rattle.yaml_blocks.specs.declared.stage.Stage.TheVariants as stage
-use Rattle.yaml_blocks.proofs.FedSites.{block_signed_again}
-use Rattle.yaml_blocks.specs.Nodes.{starts_scalar}
-use Rattle.yaml_blocks.specs.code.ReadAgain.{NoneLonger, SignStays}
+use Rattle.yaml_grammar.specs.declared.ahead.Ahead.{Ahead}
+use Rattle.yaml_grammar.specs.code.Steps.{stack, Awaited, SameNode}
+use Rattle.yaml_grammar.proofs.BlockGains.{node_signed_gives, spot_of}
+use Rattle.yaml_grammar.specs.code.Twins.{Stops, NoValue, FixesNode, LengthensAt}
+use Rattle.yaml_grammar.specs.Ahead.{ahead}
+use Rattle.yaml_grammar.specs.Blocks.{block_sign}
+use Rattle.yaml_grammar.proofs.Stopped.{signed_stops}
+use Rattle.yaml_grammar.proofs.OtherStops.{signed_on}
+use Rattle.yaml_grammar.specs.declared.stage.Stage.TheVariants as stage
+use Rattle.yaml_grammar.proofs.FedSites.{block_signed_again}
+use Rattle.yaml_grammar.specs.Nodes.{starts_scalar}
+use Rattle.yaml_grammar.specs.code.ReadAgain.{NoneLonger, SignStays}
 use Rattle.std.proofs.Common.{◌≡◌, true}
 use Rattle.yaml_blocks.proofs.block.node.Goals as goal
 

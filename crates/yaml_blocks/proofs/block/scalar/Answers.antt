@@ -1,14 +1,14 @@
 use Rattle.std.proofs.Common.{◌+◌, ◌*◌, sym, ap, ◌∙◌, subst}
 use Rattle.std.specs.Prelude.{Err}
-use Rattle.yaml_blocks.specs.declared.stage.Stage.TheVariants as stage
-use Rattle.yaml_blocks.specs.declared.stop.Stop.{Stop}
-use Rattle.yaml_blocks.specs.code.ReadAgain.{NoneLonger, SignStays}
-use Rattle.yaml_blocks.specs.code.Rest.{Awaits}
-use Rattle.yaml_blocks.specs.code.Splits.{is_split}
-use Rattle.yaml_blocks.specs.code.Steps.{stack, Gives}
-use Rattle.yaml_blocks.specs.code.Twins.{Lengthens, NoValue, Stops}
-use Rattle.yaml_blocks.proofs.SplitPlaces.{split_again, split_gives}
-use Rattle.yaml_blocks.proofs.SplitSites.{block_split_lengthens, block_split_stops}
+use Rattle.yaml_grammar.specs.declared.stage.Stage.TheVariants as stage
+use Rattle.yaml_grammar.specs.declared.stop.Stop.{Stop}
+use Rattle.yaml_grammar.specs.code.ReadAgain.{NoneLonger, SignStays}
+use Rattle.yaml_grammar.specs.code.Rest.{Awaits}
+use Rattle.yaml_grammar.specs.code.Splits.{is_split}
+use Rattle.yaml_grammar.specs.code.Steps.{stack, Gives}
+use Rattle.yaml_grammar.specs.code.Twins.{Lengthens, NoValue, Stops}
+use Rattle.yaml_grammar.proofs.SplitPlaces.{split_again, split_gives}
+use Rattle.yaml_grammar.proofs.SplitSites.{block_split_lengthens, block_split_stops}
 use Rattle.yaml_blocks.proofs.block.scalar.Goals as goal
 
 pub returns-in-Err-clause-gives : goal.returns-in-Err-clause-gives

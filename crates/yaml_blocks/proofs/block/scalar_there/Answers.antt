@@ -1,21 +1,21 @@
 use Rattle.std.proofs.Common.{false, inl, sym, ◌∙◌}
 use Rattle.std.specs.Prelude.{Ok, Err}
-use Rattle.yaml_blocks.specs.declared.stage.Stage.TheVariants as stage
-use Rattle.yaml_blocks.specs.Nodes.{follows_get_att, setting_of}
-use Rattle.yaml_blocks.specs.code.Steps.{stack}
-use Rattle.yaml_blocks.specs.code.Splits.{InRoom, RunsOn}
-use Rattle.yaml_blocks.specs.code.Twins.{NoValue, LengthensAt}
-use Rattle.yaml_blocks.proofs.AwaitedNodes.{place_behind, small_form, value_awaited}
-use Rattle.yaml_blocks.proofs.BlockPointed.{line_gives, line_mends, pointed_line}
-use Rattle.yaml_blocks.proofs.Extended.{scalar_extends}
-use Rattle.yaml_blocks.proofs.Fixed.{scalar_fixes}
-use Rattle.yaml_blocks.proofs.LastNodes.{scalar_lengthens}
-use Rattle.yaml_blocks.proofs.Opens.{form_opening}
-use Rattle.yaml_blocks.proofs.OtherStops.{unread_on}
-use Rattle.yaml_blocks.proofs.SplitSites.{pointed_runs, torn_runs, word_within}
-use Rattle.yaml_blocks.proofs.StoppedScalars.{failed_stops, no_value}
-use Rattle.yaml_blocks.proofs.TornDashes.{torn_lengthens, torn_stops}
-use Rattle.yaml_blocks.proofs.FedSites.{scalar_again}
+use Rattle.yaml_grammar.specs.declared.stage.Stage.TheVariants as stage
+use Rattle.yaml_grammar.specs.Nodes.{follows_get_att, setting_of}
+use Rattle.yaml_grammar.specs.code.Steps.{stack}
+use Rattle.yaml_grammar.specs.code.Splits.{InRoom, RunsOn}
+use Rattle.yaml_grammar.specs.code.Twins.{NoValue, LengthensAt}
+use Rattle.yaml_grammar.proofs.AwaitedNodes.{place_behind, small_form, value_awaited}
+use Rattle.yaml_grammar.proofs.BlockPointed.{line_gives, line_mends, pointed_line}
+use Rattle.yaml_grammar.proofs.Extended.{scalar_extends}
+use Rattle.yaml_grammar.proofs.Fixed.{scalar_fixes}
+use Rattle.yaml_grammar.proofs.LastNodes.{scalar_lengthens}
+use Rattle.yaml_grammar.proofs.Opens.{form_opening}
+use Rattle.yaml_grammar.proofs.OtherStops.{unread_on}
+use Rattle.yaml_grammar.proofs.SplitSites.{pointed_runs, torn_runs, word_within}
+use Rattle.yaml_grammar.proofs.StoppedScalars.{failed_stops, no_value}
+use Rattle.yaml_grammar.proofs.TornDashes.{torn_lengthens, torn_stops}
+use Rattle.yaml_grammar.proofs.FedSites.{scalar_again}
 use Rattle.yaml_blocks.proofs.block.scalar_there.Goals as goal
 
 pub returns-in-Err-clause-gives : goal.returns-in-Err-clause-gives

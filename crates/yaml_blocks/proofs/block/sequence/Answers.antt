@@ -1,16 +1,16 @@
 use Rattle.std.proofs.Common.{◌∷◌, ap, ◌∙◌, refl}
-use Rattle.yaml_blocks.specs.declared.form.Form.TheVariants.{Items}
-use Rattle.yaml_blocks.specs.declared.stage.Stage.TheVariants as stage
-use Rattle.yaml_blocks.specs.code.Steps.{stack}
-use Rattle.yaml_blocks.proofs.BlockGains.{sequence_goes, sequence_refused, spot_of}
-use Rattle.yaml_blocks.proofs.AwaitedNodes.{column_before, small_form, small_place, value_awaited, place_behind}
-use Rattle.yaml_blocks.proofs.Fixed.{dash_fixes}
-use Rattle.yaml_blocks.specs.code.Twins.{NoValue, LengthensAt}
-use Rattle.yaml_blocks.proofs.Stopped.{deep_stops}
-use Rattle.yaml_blocks.proofs.OtherStops.{deep_on}
-use Rattle.yaml_blocks.proofs.Opens.{begun_opening}
+use Rattle.yaml_grammar.specs.declared.form.Form.TheVariants.{Items}
+use Rattle.yaml_grammar.specs.declared.stage.Stage.TheVariants as stage
+use Rattle.yaml_grammar.specs.code.Steps.{stack}
+use Rattle.yaml_grammar.proofs.BlockGains.{sequence_goes, sequence_refused, spot_of}
+use Rattle.yaml_grammar.proofs.AwaitedNodes.{column_before, small_form, small_place, value_awaited, place_behind}
+use Rattle.yaml_grammar.proofs.Fixed.{dash_fixes}
+use Rattle.yaml_grammar.specs.code.Twins.{NoValue, LengthensAt}
+use Rattle.yaml_grammar.proofs.Stopped.{deep_stops}
+use Rattle.yaml_grammar.proofs.OtherStops.{deep_on}
+use Rattle.yaml_grammar.proofs.Opens.{begun_opening}
 use Rattle.std.specs.Prelude.{Ok}
-use Rattle.yaml_blocks.proofs.Extended.{value_extends}
+use Rattle.yaml_grammar.proofs.Extended.{value_extends}
 use Rattle.yaml_blocks.proofs.block.sequence.Goals as goal
 
 pub returns-in-Ok-clause-gives : goal.returns-in-Ok-clause-gives

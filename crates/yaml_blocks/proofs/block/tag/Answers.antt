@@ -1,19 +1,19 @@
 use Rattle.std.proofs.Common.{false}
-use Rattle.yaml_blocks.specs.code.Steps.{stack}
-use Rattle.yaml_blocks.proofs.Gains.{tag_cut}
-use Rattle.yaml_blocks.proofs.BlockGains.{tag_gives, spot_of}
-use Rattle.yaml_blocks.proofs.SameTexts.{tag_same}
-use Rattle.yaml_blocks.proofs.AwaitedNodes.{small_form, place_behind}
-use Rattle.yaml_blocks.proofs.Fixed.{tag_fixes}
-use Rattle.yaml_blocks.specs.code.Twins.{NoValue, LengthensAt}
-use Rattle.yaml_blocks.proofs.Stopped.{tag_stops}
-use Rattle.yaml_blocks.proofs.OtherStops.{tag_on}
-use Rattle.yaml_blocks.specs.declared.stage.Stage.TheVariants as stage
-use Rattle.yaml_blocks.proofs.Opens.{tag_opening}
+use Rattle.yaml_grammar.specs.code.Steps.{stack}
+use Rattle.yaml_grammar.proofs.Gains.{tag_cut}
+use Rattle.yaml_grammar.proofs.BlockGains.{tag_gives, spot_of}
+use Rattle.yaml_grammar.proofs.SameTexts.{tag_same}
+use Rattle.yaml_grammar.proofs.AwaitedNodes.{small_form, place_behind}
+use Rattle.yaml_grammar.proofs.Fixed.{tag_fixes}
+use Rattle.yaml_grammar.specs.code.Twins.{NoValue, LengthensAt}
+use Rattle.yaml_grammar.proofs.Stopped.{tag_stops}
+use Rattle.yaml_grammar.proofs.OtherStops.{tag_on}
+use Rattle.yaml_grammar.specs.declared.stage.Stage.TheVariants as stage
+use Rattle.yaml_grammar.proofs.Opens.{tag_opening}
 use Rattle.std.proofs.Common.{sym, subst}
-use Rattle.yaml_blocks.specs.code.Steps.{IsBlock}
-use Rattle.yaml_blocks.specs.declared.form.Form.{Form}
-use Rattle.yaml_blocks.proofs.Extended.{tag_extends}
+use Rattle.yaml_grammar.specs.code.Steps.{IsBlock}
+use Rattle.yaml_grammar.specs.declared.form.Form.{Form}
+use Rattle.yaml_grammar.proofs.Extended.{tag_extends}
 use Rattle.yaml_blocks.proofs.block.tag.Goals as goal
 
 pub begin_tag-requires-clause-first : goal.begin_tag-requires-clause-first

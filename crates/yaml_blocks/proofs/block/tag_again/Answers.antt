@@ -1,19 +1,19 @@
 use Rattle.std.proofs.lemmas.Grind.{common_steps}
 use Rattle.std.proofs.Common.{List, false, sym, ap, subst, ◌∙◌, ◌+◌, ◌*◌, arith}
 use Rattle.std.specs.Prelude.{Ok}
-use Rattle.yaml_blocks.specs.declared.form.Form.{Form}
-use Rattle.yaml_blocks.specs.code.Rest.{top, Awaits}
-use Rattle.yaml_blocks.specs.code.Steps.{stack, Ended}
-use Rattle.yaml_blocks.proofs.Gains.{memory_gives}
-use Rattle.yaml_blocks.proofs.BlockGains.{spot_of, tag_again_gives, no_tag_again}
-use Rattle.yaml_blocks.specs.code.Twins.{NoValue, LengthensAt}
-use Rattle.yaml_blocks.proofs.Stopped.{last_told_stops, memory_stops}
-use Rattle.yaml_blocks.specs.code.Steps.{is_ending}
-use Rattle.yaml_blocks.specs.Signs.{Tree}
-use Rattle.yaml_blocks.proofs.AwaitedNodes.{seen_place}
-use Rattle.yaml_blocks.proofs.OtherStops.{memory_on}
-use Rattle.yaml_blocks.proofs.LastNodes.{tag_again_lengthens}
-use Rattle.yaml_blocks.specs.declared.stage.Stage.TheVariants as stage
+use Rattle.yaml_grammar.specs.declared.form.Form.{Form}
+use Rattle.yaml_grammar.specs.code.Rest.{top, Awaits}
+use Rattle.yaml_grammar.specs.code.Steps.{stack, Ended}
+use Rattle.yaml_grammar.proofs.Gains.{memory_gives}
+use Rattle.yaml_grammar.proofs.BlockGains.{spot_of, tag_again_gives, no_tag_again}
+use Rattle.yaml_grammar.specs.code.Twins.{NoValue, LengthensAt}
+use Rattle.yaml_grammar.proofs.Stopped.{last_told_stops, memory_stops}
+use Rattle.yaml_grammar.specs.code.Steps.{is_ending}
+use Rattle.yaml_grammar.specs.Signs.{Tree}
+use Rattle.yaml_grammar.proofs.AwaitedNodes.{seen_place}
+use Rattle.yaml_grammar.proofs.OtherStops.{memory_on}
+use Rattle.yaml_grammar.proofs.LastNodes.{tag_again_lengthens}
+use Rattle.yaml_grammar.specs.declared.stage.Stage.TheVariants as stage
 use Rattle.yaml_blocks.proofs.block.tag_again.Goals as goal
 
 pub returns-then-is_entry_column-clause-gives : goal.returns-then-is_entry_column-clause-gives

@@ -1,7 +1,7 @@
 use Rattle.std.proofs.Common.{◌≡◌, ℕ, List, [], ◌∷◌, true, false, refl, arith}
 use Rattle.std.proofs.lemmas.Bool.Decides.{nat_tests}
 use Rattle.yaml_scalars.specs.Lines.{ends_with}
-use Rattle.yaml_blocks.proofs.TornBlocks.{value_torn}
+use Rattle.yaml_grammar.proofs.TornBlocks.{value_torn}
 use Rattle.yaml_blocks.proofs.breaking.block_completes.Goals as goal
 
 -- a text that ends in a dot ends in no carriage return

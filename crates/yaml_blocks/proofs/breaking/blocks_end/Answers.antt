@@ -1,4 +1,4 @@
-use Rattle.yaml_blocks.proofs.Continuations.{block_ends}
+use Rattle.yaml_grammar.proofs.Continuations.{block_ends}
 use Rattle.yaml_blocks.proofs.breaking.blocks_end.Goals as goal
 
 pub returns : goal.returns

@@ -1,4 +1,4 @@
-use Rattle.yaml_blocks.proofs.Completions.{over_of, closes_rest, spent_feed, root_null}
+use Rattle.yaml_grammar.proofs.Completions.{over_of, closes_rest, spent_feed, root_null}
 use Rattle.yaml_blocks.proofs.breaking.brackets_complete.Goals as goal
 
 pub returns-clause-brackets : goal.returns-clause-brackets

@@ -1,4 +1,4 @@
-use Rattle.yaml_blocks.proofs.Breaks.{end_breaks, start_breaks, front_end}
+use Rattle.yaml_grammar.proofs.Breaks.{end_breaks, start_breaks, front_end}
 use Rattle.yaml_blocks.proofs.breaking.break_completes.Goals as goal
 
 pub returns-clause-end : goal.returns-clause-end

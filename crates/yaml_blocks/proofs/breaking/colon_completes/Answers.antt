@@ -1,4 +1,4 @@
-use Rattle.yaml_blocks.proofs.Continuations.{colon_completes}
+use Rattle.yaml_grammar.proofs.Continuations.{colon_completes}
 use Rattle.yaml_blocks.proofs.breaking.colon_completes.Goals as goal
 
 pub returns : goal.returns

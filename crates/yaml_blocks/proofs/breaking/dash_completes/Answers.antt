@@ -1,4 +1,4 @@
-use Rattle.yaml_blocks.proofs.Dashes.{dash_completes}
+use Rattle.yaml_grammar.proofs.Dashes.{dash_completes}
 use Rattle.yaml_blocks.proofs.breaking.dash_completes.Goals as goal
 
 pub returns : goal.returns

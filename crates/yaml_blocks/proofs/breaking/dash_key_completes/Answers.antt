@@ -1,4 +1,4 @@
-use Rattle.yaml_blocks.proofs.DashKeys.{dash_key_completes}
+use Rattle.yaml_grammar.proofs.DashKeys.{dash_key_completes}
 use Rattle.yaml_blocks.proofs.breaking.dash_key_completes.Goals as goal
 
 pub returns : goal.returns

@@ -1,5 +1,5 @@
 use Rattle.std.proofs.Common.{[], ◌∷◌, arith, refl}
-use Rattle.yaml_blocks.proofs.DotEnds.{dots_end}
+use Rattle.yaml_grammar.proofs.DotEnds.{dots_end}
 use Rattle.yaml_blocks.proofs.breaking.dots_complete.Goals as goal
 
 pub returns-clause-one : goal.returns-clause-one

@@ -1,4 +1,4 @@
-use Rattle.yaml_blocks.proofs.FlowKeys.{key_closes, key_breaks}
+use Rattle.yaml_grammar.proofs.FlowKeys.{key_closes, key_breaks}
 use Rattle.yaml_blocks.proofs.breaking.flow_key_completes.Goals as goal
 
 pub returns-clause-feed : goal.returns-clause-feed

@@ -1,4 +1,4 @@
-use Rattle.yaml_blocks.proofs.Entries.{entry_breaks, mapping_breaks, item_breaks, sequence_breaks, form_ends}
+use Rattle.yaml_grammar.proofs.Entries.{entry_breaks, mapping_breaks, item_breaks, sequence_breaks, form_ends}
 use Rattle.yaml_blocks.proofs.breaking.key_breaks.Goals as goal
 
 pub returns-clause-entry : goal.returns-clause-entry

@@ -1,4 +1,4 @@
-use Rattle.yaml_blocks.proofs.KeysGrown.{key_completes, flow_key_completes}
+use Rattle.yaml_grammar.proofs.KeysGrown.{key_completes, flow_key_completes}
 use Rattle.yaml_blocks.proofs.breaking.key_completes.Goals as goal
 
 pub returns-clause-block : goal.returns-clause-block

@@ -1,4 +1,4 @@
-use Rattle.yaml_blocks.proofs.LetterKinds.{letter_kind}
+use Rattle.yaml_grammar.proofs.LetterKinds.{letter_kind}
 use Rattle.yaml_blocks.proofs.breaking.letter_kind.Goals as goal
 
 pub returns : goal.returns

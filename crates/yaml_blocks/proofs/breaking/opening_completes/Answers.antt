@@ -1,4 +1,4 @@
-use Rattle.yaml_blocks.proofs.Openings.{sequence_begins, mapping_begins}
+use Rattle.yaml_grammar.proofs.Openings.{sequence_begins, mapping_begins}
 use Rattle.yaml_blocks.proofs.breaking.opening_completes.Goals as goal
 
 pub returns-clause-sequence : goal.returns-clause-sequence

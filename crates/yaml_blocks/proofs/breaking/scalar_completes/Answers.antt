@@ -1,4 +1,4 @@
-use Rattle.yaml_blocks.proofs.Continuations.{scalar_completes}
+use Rattle.yaml_grammar.proofs.Continuations.{scalar_completes}
 use Rattle.yaml_blocks.proofs.breaking.scalar_completes.Goals as goal
 
 pub returns : goal.returns

@@ -1,4 +1,4 @@
-use Rattle.yaml_blocks.proofs.Values.{value_grown}
+use Rattle.yaml_grammar.proofs.Values.{value_grown}
 use Rattle.yaml_blocks.proofs.breaking.value_completes.Goals as goal
 
 pub returns : goal.returns

@@ -1,4 +1,4 @@
-use Rattle.yaml_blocks.proofs.Values.{value_pointed_at, value_header_at}
+use Rattle.yaml_grammar.proofs.Values.{value_pointed_at, value_header_at}
 use Rattle.yaml_blocks.proofs.breaking.value_goes_on.Goals as goal
 
 pub returns-clause-colon : goal.returns-clause-colon

@@ -1,10 +1,10 @@
 use Rattle.std.proofs.Common.{◌<◌, ◌∷◌, [], ◌++◌, drop, length, sym, subst, ap, ◌∙◌}
-use Rattle.yaml_blocks.proofs.Values.{value_plain, value_quoted, value_block}
+use Rattle.yaml_grammar.proofs.Values.{value_plain, value_quoted, value_block}
 use Rattle.yaml_scalars.specs.Scalar.{begins_quoted, begins_block}
 use Rattle.yaml_scalars.specs.code.Walk.{behind}
 use Rattle.yaml_laws.specs.code.Endings.{last_mark}
-use Rattle.yaml_blocks.specs.Nodes.{setting_of}
-use Rattle.yaml_blocks.specs.code.Rest.{top}
+use Rattle.yaml_grammar.specs.Nodes.{setting_of}
+use Rattle.yaml_grammar.specs.code.Rest.{top}
 use Rattle.yaml_blocks.proofs.breaking.value_returns.Goals as goal
 
 pub returns-clause-plain : goal.returns-clause-plain

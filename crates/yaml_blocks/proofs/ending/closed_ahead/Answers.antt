@@ -1,4 +1,4 @@
-use Rattle.yaml_blocks.proofs.AheadClosed.{ahead_closed}
+use Rattle.yaml_grammar.proofs.AheadClosed.{ahead_closed}
 use Rattle.yaml_blocks.proofs.ending.closed_ahead.Goals as goal
 
 pub returns : goal.returns

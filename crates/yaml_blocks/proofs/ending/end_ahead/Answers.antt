@@ -1,5 +1,5 @@
-use Rattle.yaml_blocks.proofs.AheadEnds.{end_feed, over_text}
-use Rattle.yaml_blocks.proofs.AheadStrays.{stray_feed}
+use Rattle.yaml_grammar.proofs.AheadEnds.{end_feed, over_text}
+use Rattle.yaml_grammar.proofs.AheadStrays.{stray_feed}
 use Rattle.yaml_blocks.proofs.ending.end_ahead.Goals as goal
 
 pub returns-clause-more : goal.returns-clause-more

@@ -1,4 +1,4 @@
-use Rattle.yaml_blocks.proofs.ScalarFails.{seen_fails}
+use Rattle.yaml_grammar.proofs.ScalarFails.{seen_fails}
 use Rattle.yaml_blocks.proofs.ending.failing_ahead.Goals as goal
 
 pub returns : goal.returns

@@ -1,5 +1,5 @@
-use Rattle.yaml_blocks.specs.Ahead.{ahead}
-use Rattle.yaml_blocks.proofs.AheadFed.{ahead_broken, ahead_fed, end_broken, some_of}
+use Rattle.yaml_grammar.specs.Ahead.{ahead}
+use Rattle.yaml_grammar.proofs.AheadFed.{ahead_broken, ahead_fed, end_broken, some_of}
 use Rattle.yaml_blocks.proofs.ending.fed_ahead.Goals as goal
 
 pub returns-clause-broken : goal.returns-clause-broken

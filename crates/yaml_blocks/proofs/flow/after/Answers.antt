@@ -1,16 +1,16 @@
 use Rattle.std.proofs.Common.{true, refl, sym, subst, ◌∙◌}
-use Rattle.yaml_blocks.specs.declared.ahead.Ahead.{Ahead}
-use Rattle.yaml_blocks.specs.declared.stage.Stage.TheVariants as stage
-use Rattle.yaml_blocks.specs.code.Steps.{stack, IsSeen}
-use Rattle.yaml_blocks.proofs.Gains.{closed_after_gives, comma_gives, marked_after_gives, none_follows}
-use Rattle.yaml_blocks.proofs.Fixed.{closed_seen, comma_seen}
-use Rattle.yaml_blocks.proofs.Stopped.{closed_stops}
-use Rattle.yaml_blocks.specs.code.Twins.{NoTail}
-use Rattle.yaml_blocks.specs.Ahead.{ahead}
-use Rattle.yaml_blocks.proofs.Fed.{closed_fed, comma_fed}
-use Rattle.yaml_blocks.proofs.FlowLengthens.{flow_stops, closed_on, after_lengthens}
-use Rattle.yaml_blocks.specs.code.Twins.{LengthensAt}
-use Rattle.yaml_blocks.proofs.Extended.{closed_shuts, entry_shuts}
+use Rattle.yaml_grammar.specs.declared.ahead.Ahead.{Ahead}
+use Rattle.yaml_grammar.specs.declared.stage.Stage.TheVariants as stage
+use Rattle.yaml_grammar.specs.code.Steps.{stack, IsSeen}
+use Rattle.yaml_grammar.proofs.Gains.{closed_after_gives, comma_gives, marked_after_gives, none_follows}
+use Rattle.yaml_grammar.proofs.Fixed.{closed_seen, comma_seen}
+use Rattle.yaml_grammar.proofs.Stopped.{closed_stops}
+use Rattle.yaml_grammar.specs.code.Twins.{NoTail}
+use Rattle.yaml_grammar.specs.Ahead.{ahead}
+use Rattle.yaml_grammar.proofs.Fed.{closed_fed, comma_fed}
+use Rattle.yaml_grammar.proofs.FlowLengthens.{flow_stops, closed_on, after_lengthens}
+use Rattle.yaml_grammar.specs.code.Twins.{LengthensAt}
+use Rattle.yaml_grammar.proofs.Extended.{closed_shuts, entry_shuts}
 use Rattle.yaml_blocks.proofs.flow.after.Goals as goal
 
 pub returns-then-closes-clause-gives : goal.returns-then-closes-clause-gives

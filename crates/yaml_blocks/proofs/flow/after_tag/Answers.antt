@@ -1,16 +1,16 @@
 use Rattle.std.proofs.lemmas.Grind.{common_steps}
 use Rattle.std.proofs.Common.{[], true, List, ap, ◌∙◌, arith}
-use Rattle.yaml_blocks.specs.declared.form.Form.{Form}
-use Rattle.yaml_blocks.specs.code.Rest.{top}
-use Rattle.yaml_blocks.specs.code.Steps.{stack}
-use Rattle.yaml_blocks.proofs.Stacks.{stack_grown}
-use Rattle.yaml_blocks.proofs.Gains.{tag_may_end, tag_popped, tag_gives}
-use Rattle.yaml_blocks.proofs.Stopped.{stops_from}
-use Rattle.yaml_blocks.specs.declared.stop.Stop.TheVariants.{Unread}
-use Rattle.yaml_blocks.specs.code.Twins.{NoTail}
-use Rattle.yaml_blocks.specs.Ahead.{ahead}
+use Rattle.yaml_grammar.specs.declared.form.Form.{Form}
+use Rattle.yaml_grammar.specs.code.Rest.{top}
+use Rattle.yaml_grammar.specs.code.Steps.{stack}
+use Rattle.yaml_grammar.proofs.Stacks.{stack_grown}
+use Rattle.yaml_grammar.proofs.Gains.{tag_may_end, tag_popped, tag_gives}
+use Rattle.yaml_grammar.proofs.Stopped.{stops_from}
+use Rattle.yaml_grammar.specs.declared.stop.Stop.TheVariants.{Unread}
+use Rattle.yaml_grammar.specs.code.Twins.{NoTail}
+use Rattle.yaml_grammar.specs.Ahead.{ahead}
 use Rattle.std.specs.Prelude.{Err}
-use Rattle.yaml_blocks.proofs.FlowLengthens.{tag_lengthens}
+use Rattle.yaml_grammar.proofs.FlowLengthens.{tag_lengthens}
 use Rattle.yaml_blocks.proofs.flow.after_tag.Goals as goal
 
 pub end-requires : goal.end-requires

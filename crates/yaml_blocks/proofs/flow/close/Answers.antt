@@ -1,5 +1,5 @@
 use Rattle.std.proofs.Common.{refl}
-use Rattle.yaml_blocks.proofs.Stacks.{stack_grown}
+use Rattle.yaml_grammar.proofs.Stacks.{stack_grown}
 use Rattle.yaml_blocks.proofs.flow.close.Goals as goal
 
 pub returns-in-Ok : goal.returns-in-Ok

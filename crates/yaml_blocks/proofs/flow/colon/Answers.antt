@@ -1,6 +1,6 @@
 use Rattle.std.proofs.lemmas.Grind.{common_steps}
 use Rattle.std.proofs.Common.{sym, ◌∙◌, arith}
-use Rattle.yaml_blocks.proofs.Colons.{colon_behind, colon_missing, no_colon_there}
+use Rattle.yaml_grammar.proofs.Colons.{colon_behind, colon_missing, no_colon_there}
 use Rattle.yaml_blocks.proofs.flow.colon.Goals as goal
 
 pub returns-then-ends_key : goal.returns-then-ends_key

@@ -1,26 +1,26 @@
 use Rattle.std.proofs.lemmas.Grind.{common_steps}
 use Rattle.std.proofs.Common.{true, false, List, ◌+◌, ◌*◌, sym, ap, subst, ◌∙◌, arith}
-use Rattle.yaml_blocks.specs.declared.ahead.Ahead.{Ahead}
-use Rattle.yaml_blocks.specs.declared.ahead.Token.TheVariants.{Closes}
-use Rattle.yaml_blocks.specs.declared.form.Form.TheVariants.{Flow}
-use Rattle.yaml_blocks.specs.declared.form.Form.{Form}
-use Rattle.yaml_blocks.specs.code.Rest.{Enters}
-use Rattle.yaml_blocks.specs.code.Steps.{stack, has_keys, IsFlow, IsBehind, Gives, IsSeen, SameFlowNode, SameFlowKey}
-use Rattle.yaml_blocks.proofs.Gains.{closed_entry_gives, marked_entry_gives, item_gives}
-use Rattle.yaml_blocks.proofs.Fixed.{closed_fixes, node_entry_fixes, key_entry_fixes}
-use Rattle.yaml_blocks.specs.code.Twins.{Stops, NoFlowValue, NoEntry, FixesEntry, FixesFlowNode}
-use Rattle.yaml_blocks.specs.Ahead.{ahead}
-use Rattle.yaml_blocks.specs.Signs.{Tree}
-use Rattle.yaml_blocks.proofs.Stopped.{closed_stops, stops_from, item_follows}
-use Rattle.yaml_blocks.proofs.Fed.{closed_feeds, node_entry_feeds, key_entry_feeds}
-use Rattle.yaml_blocks.specs.code.Feeds.{FeedsEntry, FeedsFlowNode}
-use Rattle.yaml_blocks.proofs.FlowLengthens.{closed_on, item_lengthens}
-use Rattle.yaml_blocks.specs.code.Twins.{Lengthens, LengthensAt}
-use Rattle.yaml_blocks.specs.declared.stage.Stage.TheVariants as stage
-use Rattle.yaml_blocks.proofs.Extended.{closed_shuts}
-use Rattle.yaml_blocks.proofs.FedSites.{closed_again, item_again, starts_marked}
-use Rattle.yaml_blocks.specs.Nodes.{starts_scalar}
-use Rattle.yaml_blocks.specs.code.ReadAgain.{NoneLonger, SignStays}
+use Rattle.yaml_grammar.specs.declared.ahead.Ahead.{Ahead}
+use Rattle.yaml_grammar.specs.declared.ahead.Token.TheVariants.{Closes}
+use Rattle.yaml_grammar.specs.declared.form.Form.TheVariants.{Flow}
+use Rattle.yaml_grammar.specs.declared.form.Form.{Form}
+use Rattle.yaml_grammar.specs.code.Rest.{Enters}
+use Rattle.yaml_grammar.specs.code.Steps.{stack, has_keys, IsFlow, IsBehind, Gives, IsSeen, SameFlowNode, SameFlowKey}
+use Rattle.yaml_grammar.proofs.Gains.{closed_entry_gives, marked_entry_gives, item_gives}
+use Rattle.yaml_grammar.proofs.Fixed.{closed_fixes, node_entry_fixes, key_entry_fixes}
+use Rattle.yaml_grammar.specs.code.Twins.{Stops, NoFlowValue, NoEntry, FixesEntry, FixesFlowNode}
+use Rattle.yaml_grammar.specs.Ahead.{ahead}
+use Rattle.yaml_grammar.specs.Signs.{Tree}
+use Rattle.yaml_grammar.proofs.Stopped.{closed_stops, stops_from, item_follows}
+use Rattle.yaml_grammar.proofs.Fed.{closed_feeds, node_entry_feeds, key_entry_feeds}
+use Rattle.yaml_grammar.specs.code.Feeds.{FeedsEntry, FeedsFlowNode}
+use Rattle.yaml_grammar.proofs.FlowLengthens.{closed_on, item_lengthens}
+use Rattle.yaml_grammar.specs.code.Twins.{Lengthens, LengthensAt}
+use Rattle.yaml_grammar.specs.declared.stage.Stage.TheVariants as stage
+use Rattle.yaml_grammar.proofs.Extended.{closed_shuts}
+use Rattle.yaml_grammar.proofs.FedSites.{closed_again, item_again, starts_marked}
+use Rattle.yaml_grammar.specs.Nodes.{starts_scalar}
+use Rattle.yaml_grammar.specs.code.ReadAgain.{NoneLonger, SignStays}
 use Rattle.std.proofs.Common.{◌≡◌}
 use Rattle.yaml_blocks.proofs.flow.entry.Goals as goal
 

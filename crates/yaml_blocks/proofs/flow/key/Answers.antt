@@ -5,31 +5,31 @@ use Rattle.std.specs.Cow.{cow_str_bytes}
 use Rattle.doc_values.specs.declared.builder.BuildRefusal.TheVariants as build
 use Rattle.doc_values.specs.Tree.{has_key}
 use Rattle.yaml_scalars.specs.Scalar.{begins_quoted}
-use Rattle.yaml_blocks.specs.declared.stage.Stage.TheVariants as stage
-use Rattle.yaml_blocks.specs.code.Rest.{Enters}
-use Rattle.yaml_blocks.specs.Nodes.{as_key}
-use Rattle.yaml_blocks.specs.code.Steps.{stack, Gives, SameScalar}
-use Rattle.yaml_blocks.specs.declared.form.Form.TheVariants.{Flow}
-use Rattle.yaml_blocks.proofs.Forms.{awaits_key}
-use Rattle.yaml_blocks.proofs.SameTexts.{found_same, finds_same, colon_there, colon_here, colon_last}
-use Rattle.yaml_blocks.proofs.Gains.{key_gives, key_signed_gives, find_refused, found_key, no_colon, key_refused}
-use Rattle.yaml_blocks.proofs.Fixed.{flow_key_fixes}
-use Rattle.yaml_blocks.specs.code.Twins.{NoEntry}
-use Rattle.yaml_blocks.specs.Nodes.{node_sign}
-use Rattle.yaml_blocks.proofs.Stopped.{signed_stops, built_stops}
-use Rattle.yaml_blocks.proofs.StoppedScalars.{key_stops, missed_failed}
-use Rattle.yaml_blocks.proofs.KeyTails.{tail_stops}
-use Rattle.yaml_blocks.proofs.Scalars.{failed_other}
-use Rattle.yaml_blocks.specs.code.StopPlaces.{flow_place}
-use Rattle.yaml_blocks.specs.declared.stop.Stop.TheVariants.{Unread}
-use Rattle.yaml_blocks.specs.Signs.{Tree}
-use Rattle.yaml_blocks.proofs.Fed.{key_feeds}
-use Rattle.yaml_blocks.proofs.FlowLengthens.{flow_stops, key_token_lengthens, key_fails_lengthens, key_end_lengthens}
-use Rattle.yaml_blocks.proofs.OtherStops.{signed_on, built_on}
-use Rattle.yaml_blocks.specs.code.Twins.{LengthensAt}
-use Rattle.yaml_blocks.proofs.Extended.{value_shuts}
-use Rattle.yaml_blocks.proofs.FedSites.{flow_key_none, built_again, finds_again, signed_again}
-use Rattle.yaml_blocks.specs.code.ReadAgain.{NoneLonger}
+use Rattle.yaml_grammar.specs.declared.stage.Stage.TheVariants as stage
+use Rattle.yaml_grammar.specs.code.Rest.{Enters}
+use Rattle.yaml_grammar.specs.Nodes.{as_key}
+use Rattle.yaml_grammar.specs.code.Steps.{stack, Gives, SameScalar}
+use Rattle.yaml_grammar.specs.declared.form.Form.TheVariants.{Flow}
+use Rattle.yaml_grammar.proofs.Forms.{awaits_key}
+use Rattle.yaml_grammar.proofs.SameTexts.{found_same, finds_same, colon_there, colon_here, colon_last}
+use Rattle.yaml_grammar.proofs.Gains.{key_gives, key_signed_gives, find_refused, found_key, no_colon, key_refused}
+use Rattle.yaml_grammar.proofs.Fixed.{flow_key_fixes}
+use Rattle.yaml_grammar.specs.code.Twins.{NoEntry}
+use Rattle.yaml_grammar.specs.Nodes.{node_sign}
+use Rattle.yaml_grammar.proofs.Stopped.{signed_stops, built_stops}
+use Rattle.yaml_grammar.proofs.StoppedScalars.{key_stops, missed_failed}
+use Rattle.yaml_grammar.proofs.KeyTails.{tail_stops}
+use Rattle.yaml_grammar.proofs.Scalars.{failed_other}
+use Rattle.yaml_grammar.specs.code.StopPlaces.{flow_place}
+use Rattle.yaml_grammar.specs.declared.stop.Stop.TheVariants.{Unread}
+use Rattle.yaml_grammar.specs.Signs.{Tree}
+use Rattle.yaml_grammar.proofs.Fed.{key_feeds}
+use Rattle.yaml_grammar.proofs.FlowLengthens.{flow_stops, key_token_lengthens, key_fails_lengthens, key_end_lengthens}
+use Rattle.yaml_grammar.proofs.OtherStops.{signed_on, built_on}
+use Rattle.yaml_grammar.specs.code.Twins.{LengthensAt}
+use Rattle.yaml_grammar.proofs.Extended.{value_shuts}
+use Rattle.yaml_grammar.proofs.FedSites.{flow_key_none, built_again, finds_again, signed_again}
+use Rattle.yaml_grammar.specs.code.ReadAgain.{NoneLonger}
 use Rattle.yaml_blocks.proofs.flow.key.Goals as goal
 
 pub returns-in-Err-clause-gives : goal.returns-in-Err-clause-gives

@@ -1,22 +1,22 @@
 use Rattle.std.proofs.Common.{◌≡◌, ◌+◌, ◌*◌, ℕ, List, true, inl, inr, refl, sym, subst, ◌∙◌}
 use Rattle.std.specs.Prelude.{Err, None}
-use Rattle.yaml_blocks.specs.declared.form.Form.{Form}
-use Rattle.yaml_blocks.specs.declared.stop.Stop.TheVariants.{Unread}
-use Rattle.yaml_blocks.specs.Nodes.{node_sign, setting_of}
-use Rattle.yaml_blocks.specs.Signs.{Tree}
-use Rattle.yaml_blocks.specs.code.Rest.{Awaits}
-use Rattle.yaml_blocks.specs.code.Steps.{stack, Gives, IsSeen, SameFlowNode, IsFlow}
-use Rattle.yaml_blocks.specs.code.Twins.{MendsNode, NoFlowValue, OnUnread, Stops}
-use Rattle.yaml_blocks.proofs.Fed.{opens_feeds}
-use Rattle.yaml_blocks.proofs.Fixed.{flow_opens_fixes}
-use Rattle.yaml_blocks.proofs.FlowLengthens.{flow_stops, token_mends, unsigned}
-use Rattle.yaml_blocks.proofs.Gains.{flow_spot, flow_signed_gives, tag_allowed, opened_gives, holds_gives}
-use Rattle.yaml_blocks.proofs.OtherStops.{signed_on, opened_on}
-use Rattle.yaml_blocks.proofs.Scalars.{failed_other}
-use Rattle.yaml_blocks.proofs.Stopped.{signed_stops, opened_stops}
-use Rattle.yaml_blocks.proofs.Extended.{opened_shuts, inner_shuts}
-use Rattle.yaml_blocks.proofs.FedSites.{signed_again, starts_opens, starts_tag}
-use Rattle.yaml_blocks.specs.code.ReadAgain.{NoneAwaited, OnSign}
+use Rattle.yaml_grammar.specs.declared.form.Form.{Form}
+use Rattle.yaml_grammar.specs.declared.stop.Stop.TheVariants.{Unread}
+use Rattle.yaml_grammar.specs.Nodes.{node_sign, setting_of}
+use Rattle.yaml_grammar.specs.Signs.{Tree}
+use Rattle.yaml_grammar.specs.code.Rest.{Awaits}
+use Rattle.yaml_grammar.specs.code.Steps.{stack, Gives, IsSeen, SameFlowNode, IsFlow}
+use Rattle.yaml_grammar.specs.code.Twins.{MendsNode, NoFlowValue, OnUnread, Stops}
+use Rattle.yaml_grammar.proofs.Fed.{opens_feeds}
+use Rattle.yaml_grammar.proofs.Fixed.{flow_opens_fixes}
+use Rattle.yaml_grammar.proofs.FlowLengthens.{flow_stops, token_mends, unsigned}
+use Rattle.yaml_grammar.proofs.Gains.{flow_spot, flow_signed_gives, tag_allowed, opened_gives, holds_gives}
+use Rattle.yaml_grammar.proofs.OtherStops.{signed_on, opened_on}
+use Rattle.yaml_grammar.proofs.Scalars.{failed_other}
+use Rattle.yaml_grammar.proofs.Stopped.{signed_stops, opened_stops}
+use Rattle.yaml_grammar.proofs.Extended.{opened_shuts, inner_shuts}
+use Rattle.yaml_grammar.proofs.FedSites.{signed_again, starts_opens, starts_tag}
+use Rattle.yaml_grammar.specs.code.ReadAgain.{NoneAwaited, OnSign}
 use Rattle.yaml_blocks.proofs.flow.node.Goals as goal
 
 pub returns-in-Some-clause-gives : goal.returns-in-Some-clause-gives

@@ -1,13 +1,13 @@
 use Rattle.std.proofs.Common.{◌+◌, ◌*◌, sym, ap, ◌∙◌, subst}
 use Rattle.std.specs.Prelude.{Err}
-use Rattle.yaml_blocks.specs.declared.stop.Stop.{Stop}
-use Rattle.yaml_blocks.specs.code.ReadAgain.{NoneAwaited, OnSign}
-use Rattle.yaml_blocks.specs.code.Rest.{Awaits}
-use Rattle.yaml_blocks.specs.code.Splits.{is_split}
-use Rattle.yaml_blocks.specs.code.Steps.{stack, Gives}
-use Rattle.yaml_blocks.specs.code.Twins.{MendsNode, NoFlowValue, OnUnread, Stops}
-use Rattle.yaml_blocks.proofs.SplitPlaces.{split_again, split_gives}
-use Rattle.yaml_blocks.proofs.SplitSites.{flow_split_mends, flow_split_stops}
+use Rattle.yaml_grammar.specs.declared.stop.Stop.{Stop}
+use Rattle.yaml_grammar.specs.code.ReadAgain.{NoneAwaited, OnSign}
+use Rattle.yaml_grammar.specs.code.Rest.{Awaits}
+use Rattle.yaml_grammar.specs.code.Splits.{is_split}
+use Rattle.yaml_grammar.specs.code.Steps.{stack, Gives}
+use Rattle.yaml_grammar.specs.code.Twins.{MendsNode, NoFlowValue, OnUnread, Stops}
+use Rattle.yaml_grammar.proofs.SplitPlaces.{split_again, split_gives}
+use Rattle.yaml_grammar.proofs.SplitSites.{flow_split_mends, flow_split_stops}
 use Rattle.yaml_blocks.proofs.flow.scalar.Goals as goal
 
 pub returns-in-Err-clause-gives : goal.returns-in-Err-clause-gives

@@ -1,19 +1,19 @@
 use Rattle.std.proofs.Common.{true, inl, refl, sym, subst, ◌∙◌, arith}
 use Rattle.std.proofs.lemmas.Grind.{common_steps}
 use Rattle.std.specs.Prelude.{Ok, Err}
-use Rattle.yaml_blocks.specs.Nodes.{follows_get_att, is_tagged, setting_of}
-use Rattle.yaml_blocks.specs.code.Steps.{stack, IsFlow}
-use Rattle.yaml_blocks.specs.code.Splits.{InRoom, RunsOn}
-use Rattle.yaml_blocks.specs.code.Twins.{MendsNode, NoFlowValue}
-use Rattle.yaml_blocks.proofs.Extended.{inner_shuts}
-use Rattle.yaml_blocks.proofs.Fixed.{flow_scalar_fixes}
-use Rattle.yaml_blocks.proofs.Fed.{scalar_feeds}
-use Rattle.yaml_blocks.proofs.FedSites.{flow_scalar_again}
-use Rattle.yaml_blocks.proofs.FlowLengthens.{word_mends}
-use Rattle.yaml_blocks.proofs.OtherStops.{unread_on}
-use Rattle.yaml_blocks.proofs.PointedScalars.{pointed_gives, pointed_mends, word_gives}
-use Rattle.yaml_blocks.proofs.SplitSites.{pointed_runs, runs_fail, word_within}
-use Rattle.yaml_blocks.proofs.StoppedScalars.{no_flow_value, scalar_stops}
+use Rattle.yaml_grammar.specs.Nodes.{follows_get_att, is_tagged, setting_of}
+use Rattle.yaml_grammar.specs.code.Steps.{stack, IsFlow}
+use Rattle.yaml_grammar.specs.code.Splits.{InRoom, RunsOn}
+use Rattle.yaml_grammar.specs.code.Twins.{MendsNode, NoFlowValue}
+use Rattle.yaml_grammar.proofs.Extended.{inner_shuts}
+use Rattle.yaml_grammar.proofs.Fixed.{flow_scalar_fixes}
+use Rattle.yaml_grammar.proofs.Fed.{scalar_feeds}
+use Rattle.yaml_grammar.proofs.FedSites.{flow_scalar_again}
+use Rattle.yaml_grammar.proofs.FlowLengthens.{word_mends}
+use Rattle.yaml_grammar.proofs.OtherStops.{unread_on}
+use Rattle.yaml_grammar.proofs.PointedScalars.{pointed_gives, pointed_mends, word_gives}
+use Rattle.yaml_grammar.proofs.SplitSites.{pointed_runs, runs_fail, word_within}
+use Rattle.yaml_grammar.proofs.StoppedScalars.{no_flow_value, scalar_stops}
 use Rattle.yaml_blocks.proofs.flow.scalar_there.Goals as goal
 
 pub take_scalar-requires-clause-form : goal.take_scalar-requires-clause-form

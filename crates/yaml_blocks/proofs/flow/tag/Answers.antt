@@ -1,15 +1,15 @@
 use Rattle.std.proofs.Common.{true}
-use Rattle.yaml_blocks.specs.code.Steps.{stack}
-use Rattle.yaml_blocks.specs.declared.form.Form.TheVariants.{FlowTagged}
-use Rattle.yaml_blocks.proofs.SameTexts.{tag_same}
-use Rattle.yaml_blocks.proofs.Gains.{flow_spot, flow_tag_gives, tag_cut, tag_flow}
-use Rattle.yaml_blocks.proofs.Fixed.{flow_tag_fixes}
-use Rattle.yaml_blocks.specs.code.Twins.{NoFlowValue}
-use Rattle.yaml_blocks.proofs.Stopped.{tag_stops}
-use Rattle.yaml_blocks.proofs.Fed.{tag_feeds}
-use Rattle.yaml_blocks.proofs.OtherStops.{tag_on}
-use Rattle.yaml_blocks.specs.code.Twins.{MendsNode}
-use Rattle.yaml_blocks.proofs.Extended.{tag_shuts}
+use Rattle.yaml_grammar.specs.code.Steps.{stack}
+use Rattle.yaml_grammar.specs.declared.form.Form.TheVariants.{FlowTagged}
+use Rattle.yaml_grammar.proofs.SameTexts.{tag_same}
+use Rattle.yaml_grammar.proofs.Gains.{flow_spot, flow_tag_gives, tag_cut, tag_flow}
+use Rattle.yaml_grammar.proofs.Fixed.{flow_tag_fixes}
+use Rattle.yaml_grammar.specs.code.Twins.{NoFlowValue}
+use Rattle.yaml_grammar.proofs.Stopped.{tag_stops}
+use Rattle.yaml_grammar.proofs.Fed.{tag_feeds}
+use Rattle.yaml_grammar.proofs.OtherStops.{tag_on}
+use Rattle.yaml_grammar.specs.code.Twins.{MendsNode}
+use Rattle.yaml_grammar.proofs.Extended.{tag_shuts}
 use Rattle.yaml_blocks.proofs.flow.tag.Goals as goal
 
 pub begin_tag-requires-clause-first : goal.begin_tag-requires-clause-first

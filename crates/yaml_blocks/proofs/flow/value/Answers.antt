@@ -1,24 +1,24 @@
 use Rattle.doc_values.specs.declared.kind.Kind.TheVariants as kind
 use Rattle.std.proofs.Common.{true, sym, subst, ◌∙◌, arith, ◌+◌, ◌*◌, []}
-use Rattle.yaml_blocks.specs.declared.ahead.Ahead.{Ahead}
-use Rattle.yaml_blocks.specs.code.Rest.{Awaits}
-use Rattle.yaml_blocks.specs.code.Steps.{stack, IsSeen, SameFlowNode, IsFlow}
-use Rattle.yaml_blocks.proofs.Gains.{flow_spot, null_gives, sooner}
-use Rattle.yaml_blocks.proofs.Fixed.{flow_null_fixes}
-use Rattle.yaml_blocks.specs.code.Twins.{Stops, NoFlowValue, FixesFlowNode}
+use Rattle.yaml_grammar.specs.declared.ahead.Ahead.{Ahead}
+use Rattle.yaml_grammar.specs.code.Rest.{Awaits}
+use Rattle.yaml_grammar.specs.code.Steps.{stack, IsSeen, SameFlowNode, IsFlow}
+use Rattle.yaml_grammar.proofs.Gains.{flow_spot, null_gives, sooner}
+use Rattle.yaml_grammar.proofs.Fixed.{flow_null_fixes}
+use Rattle.yaml_grammar.specs.code.Twins.{Stops, NoFlowValue, FixesFlowNode}
 use Rattle.doc_values.specs.Unfinished.{with_value}
-use Rattle.yaml_blocks.specs.Ahead.{ahead}
-use Rattle.yaml_blocks.proofs.Stopped.{completed_stops}
-use Rattle.yaml_blocks.proofs.Fed.{null_feeds}
-use Rattle.yaml_blocks.specs.code.Feeds.{FeedsFlowNode}
-use Rattle.yaml_blocks.proofs.OtherStops.{completed_on}
-use Rattle.yaml_blocks.specs.code.Twins.{LengthensAt}
-use Rattle.yaml_blocks.specs.declared.stage.Stage.TheVariants as stage
-use Rattle.yaml_blocks.proofs.FlowLengthens.{value_lengthens}
-use Rattle.yaml_blocks.proofs.Extended.{inner_shuts}
-use Rattle.yaml_blocks.proofs.FedSites.{completed_again}
-use Rattle.yaml_blocks.specs.Nodes.{starts_scalar}
-use Rattle.yaml_blocks.specs.code.ReadAgain.{NoneAwaited, OnSign}
+use Rattle.yaml_grammar.specs.Ahead.{ahead}
+use Rattle.yaml_grammar.proofs.Stopped.{completed_stops}
+use Rattle.yaml_grammar.proofs.Fed.{null_feeds}
+use Rattle.yaml_grammar.specs.code.Feeds.{FeedsFlowNode}
+use Rattle.yaml_grammar.proofs.OtherStops.{completed_on}
+use Rattle.yaml_grammar.specs.code.Twins.{LengthensAt}
+use Rattle.yaml_grammar.specs.declared.stage.Stage.TheVariants as stage
+use Rattle.yaml_grammar.proofs.FlowLengthens.{value_lengthens}
+use Rattle.yaml_grammar.proofs.Extended.{inner_shuts}
+use Rattle.yaml_grammar.proofs.FedSites.{completed_again}
+use Rattle.yaml_grammar.specs.Nodes.{starts_scalar}
+use Rattle.yaml_grammar.specs.code.ReadAgain.{NoneAwaited, OnSign}
 use Rattle.std.proofs.Common.{◌≡◌}
 use Rattle.yaml_blocks.proofs.flow.value.Goals as goal
 

@@ -1,8 +1,8 @@
 use Rattle.std.proofs.Common.{ap, ◌∙◌}
 use Rattle.doc_values.specs.Unfinished.{with_open, open_kind}
-use Rattle.yaml_blocks.specs.code.Steps.{has_keys}
-use Rattle.yaml_blocks.proofs.Refusals.{deep_of}
-use Rattle.yaml_blocks.proofs.Stacks.{stack_grown}
+use Rattle.yaml_grammar.specs.code.Steps.{has_keys}
+use Rattle.yaml_grammar.proofs.Refusals.{deep_of}
+use Rattle.yaml_grammar.proofs.Stacks.{stack_grown}
 use Rattle.yaml_blocks.proofs.node.begin.Goals as goal
 
 pub returns-in-Ok-push : goal.returns-in-Ok-push

@@ -1,9 +1,9 @@
 use Rattle.std.proofs.Common.{arith, false}
 use Rattle.std.proofs.lemmas.Grind.{common_steps}
 use Rattle.std.specs.Cow.{cow_str_bytes}
-use Rattle.yaml_blocks.specs.Nodes.{as_key}
-use Rattle.yaml_blocks.proofs.BlockGains.{ends_key}
-use Rattle.yaml_blocks.proofs.Gains.{found_key}
+use Rattle.yaml_grammar.specs.Nodes.{as_key}
+use Rattle.yaml_grammar.proofs.BlockGains.{ends_key}
+use Rattle.yaml_grammar.proofs.Gains.{found_key}
 use Rattle.yaml_blocks.proofs.node.find_key.Goals as goal
 
 pub returns : goal.returns

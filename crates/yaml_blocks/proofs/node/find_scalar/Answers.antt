@@ -1,10 +1,10 @@
 use Rattle.std.proofs.Common.{◌≡◌, length, inl, inr, refl, arith, sym, subst, ◌∙◌}
 use Rattle.std.specs.Prelude.{Err}
-use Rattle.yaml_blocks.specs.declared.stop.Stop.{Stop}
-use Rattle.yaml_blocks.specs.code.Steps.{Finds}
-use Rattle.yaml_blocks.specs.declared.stop.Stop.TheVariants.{Unread}
-use Rattle.yaml_blocks.proofs.Stopped.{error_same, unread_same}
-use Rattle.yaml_blocks.proofs.Scalars.{failed_end, finds_scalar, finds_none, refused_at}
+use Rattle.yaml_grammar.specs.declared.stop.Stop.{Stop}
+use Rattle.yaml_grammar.specs.code.Steps.{Finds}
+use Rattle.yaml_grammar.specs.declared.stop.Stop.TheVariants.{Unread}
+use Rattle.yaml_grammar.proofs.Stopped.{error_same, unread_same}
+use Rattle.yaml_grammar.proofs.Scalars.{failed_end, finds_scalar, finds_none, refused_at}
 use Rattle.yaml_blocks.proofs.node.find_scalar.Goals as goal
 
 pub returns-in-Ok-clause-finds : goal.returns-in-Ok-clause-finds

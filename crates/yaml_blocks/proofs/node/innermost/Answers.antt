@@ -1,6 +1,6 @@
 use Rattle.std.proofs.lemmas.Grind.{common_steps}
 use Rattle.std.proofs.Common.{sym, arith}
-use Rattle.yaml_blocks.proofs.Stacks.{top_last}
+use Rattle.yaml_grammar.proofs.Stacks.{top_last}
 use Rattle.yaml_blocks.proofs.node.innermost.Goals as goal
 
 pub returns-in-Some : goal.returns-in-Some

@@ -1,9 +1,9 @@
 use Rattle.std.proofs.Common.{sym, ap, subst, refl}
 use Rattle.std.specs.Prelude.{Err}
-use Rattle.yaml_blocks.specs.declared.stop.Stop.{Stop}
-use Rattle.yaml_blocks.specs.Nodes.{follows_get_att, setting_of}
-use Rattle.yaml_blocks.specs.code.Steps.{Holds}
-use Rattle.yaml_blocks.proofs.TornDashes.{error_of, torn_from, torn_holds}
+use Rattle.yaml_grammar.specs.declared.stop.Stop.{Stop}
+use Rattle.yaml_grammar.specs.Nodes.{follows_get_att, setting_of}
+use Rattle.yaml_grammar.specs.code.Steps.{Holds}
+use Rattle.yaml_grammar.proofs.TornDashes.{error_of, torn_from, torn_holds}
 use Rattle.yaml_blocks.proofs.node.take_block_scalar.Goals as goal
 
 pub returns-in-Ok-clause-holds : goal.returns-in-Ok-clause-holds

@@ -2,11 +2,11 @@ use Rattle.std.proofs.Common.{◌≡◌, ℕ, ap, refl, arith}
 use Rattle.std.proofs.lemmas.Grind.{common_steps}
 use Rattle.std.specs.Cow.{cow_str_bytes}
 use Rattle.yaml_scalars.specs.Scalar.{is_typed}
-use Rattle.yaml_blocks.proofs.Scalars.{scalar_kind, holds_none}
+use Rattle.yaml_grammar.proofs.Scalars.{scalar_kind, holds_none}
 use Rattle.std.specs.Prelude.{Result, Err}
-use Rattle.yaml_blocks.specs.declared.stage.Position.{Position}
-use Rattle.yaml_blocks.specs.declared.stop.Stop.{Stop}
-use Rattle.yaml_blocks.specs.declared.stop.Stop.TheVariants.{Unread}
+use Rattle.yaml_grammar.specs.declared.stage.Position.{Position}
+use Rattle.yaml_grammar.specs.declared.stop.Stop.{Stop}
+use Rattle.yaml_grammar.specs.declared.stop.Stop.TheVariants.{Unread}
 use Rattle.yaml_blocks.proofs.node.take_cut.Goals as goal
 
 pub kept_text-content-requires : goal.kept_text-content-requires

@@ -1,6 +1,6 @@
 use Rattle.std.proofs.Common.{arith}
 use Rattle.std.proofs.lemmas.Grind.{common_steps}
-use Rattle.yaml_blocks.proofs.Refusals.{deep_of}
+use Rattle.yaml_grammar.proofs.Refusals.{deep_of}
 use Rattle.yaml_blocks.proofs.node.take_pair.Goals as goal
 
 pub returns-in-Err : goal.returns-in-Err

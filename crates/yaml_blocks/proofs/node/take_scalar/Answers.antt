@@ -1,6 +1,6 @@
 use Rattle.std.proofs.Common.{arith, subst}
 use Rattle.std.proofs.lemmas.Grind.{common_steps}
-use Rattle.yaml_blocks.specs.code.Twins.{FailedAt}
+use Rattle.yaml_grammar.specs.code.Twins.{FailedAt}
 use Rattle.yaml_blocks.proofs.node.take_scalar.Goals as goal
 
 pub returns-clause-holds : goal.returns-clause-holds

@@ -1,5 +1,5 @@
 use Rattle.std.proofs.Common.{sym, ◌∙◌}
-use Rattle.yaml_blocks.proofs.Widths.{colon_next}
+use Rattle.yaml_grammar.proofs.Widths.{colon_next}
 use Rattle.yaml_blocks.proofs.place.colon_place.Goals as goal
 
 pub returns-then-has_byte : goal.returns-then-has_byte

@@ -1,5 +1,5 @@
 use Rattle.std.proofs.Common.{◌≡◌, ◌+◌, ◌≤◌, drop}
-use Rattle.yaml_blocks.specs.code.AheadSeen.{first_return}
+use Rattle.yaml_grammar.specs.code.AheadSeen.{first_return}
 use Rattle.yaml_blocks.proofs.place.return_len.Given as goal
 
 abbrev pub invariant-loop-i : goal.invariant-loop-i

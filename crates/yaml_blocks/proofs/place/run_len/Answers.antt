@@ -1,6 +1,6 @@
 use Rattle.std.proofs.Common.{◌≡◌, ◌+◌, drop, slice_index, sym, ap, ◌∙◌, arith}
 use Rattle.std.proofs.lemmas.List.{drop-drop}
-use Rattle.yaml_blocks.proofs.Widths.{run_two, run_three}
+use Rattle.yaml_grammar.proofs.Widths.{run_two, run_three}
 use Rattle.yaml_blocks.proofs.place.run_len.Goals as goal
 
 pub returns-then-not-has_byte-2-clause-count : goal.returns-then-not-has_byte-2-clause-count

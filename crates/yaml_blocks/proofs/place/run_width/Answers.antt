@@ -1,5 +1,5 @@
 use Rattle.std.proofs.Common.{sym, ◌∙◌}
-use Rattle.yaml_blocks.proofs.Widths.{run_return, run_plain}
+use Rattle.yaml_grammar.proofs.Widths.{run_return, run_plain}
 use Rattle.yaml_blocks.proofs.place.run_width.Goals.{else-len-eq3-via-then-len-eq3+else-has_byte, else-len-eq3-via-else-len-eq3}
 use Rattle.yaml_blocks.proofs.place.run_width.Goals as goal
 

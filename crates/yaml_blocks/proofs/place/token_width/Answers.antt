@@ -1,5 +1,5 @@
 use Rattle.std.proofs.Common.{arith}
-use Rattle.yaml_blocks.proofs.Widths.{width_there, width_end}
+use Rattle.yaml_grammar.proofs.Widths.{width_there, width_end}
 use Rattle.yaml_blocks.proofs.place.token_width.Goals as goal
 
 pub returns-then-at-bytes-clause-is : goal.returns-then-at-bytes-clause-is

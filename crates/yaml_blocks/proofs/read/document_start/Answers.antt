@@ -1,12 +1,12 @@
 use Rattle.std.proofs.Common.{◌≡◌, false, refl, arith}
-use Rattle.yaml_blocks.proofs.Gains.{seen_behind, untold}
-use Rattle.yaml_blocks.proofs.Roots.{start_refused, start_solid, marked_refused, starts_behind, starts_there}
-use Rattle.yaml_blocks.specs.declared.stop.Stop.TheVariants.{NoMemory}
-use Rattle.yaml_blocks.specs.Yaml.{start_sign}
-use Rattle.yaml_blocks.proofs.Lives.{fixed_behind, fixed_there, signed_at}
-use Rattle.yaml_blocks.proofs.StartPlaces.{signed_shown, start_at, start_shown}
-use Rattle.yaml_blocks.proofs.FedLoop.{start_again}
-use Rattle.yaml_blocks.proofs.ReadTwice.{signed_unbegun, dashes_unbegun}
+use Rattle.yaml_grammar.proofs.Gains.{seen_behind, untold}
+use Rattle.yaml_grammar.proofs.Roots.{start_refused, start_solid, marked_refused, starts_behind, starts_there}
+use Rattle.yaml_grammar.specs.declared.stop.Stop.TheVariants.{NoMemory}
+use Rattle.yaml_grammar.specs.Yaml.{start_sign}
+use Rattle.yaml_grammar.proofs.Lives.{fixed_behind, fixed_there, signed_at}
+use Rattle.yaml_grammar.proofs.StartPlaces.{signed_shown, start_at, start_shown}
+use Rattle.yaml_grammar.proofs.FedLoop.{start_again}
+use Rattle.yaml_grammar.proofs.ReadTwice.{signed_unbegun, dashes_unbegun}
 use Rattle.yaml_blocks.proofs.read.document_start.Goals as goal
 
 pub returns-in-Some-clause-start : goal.returns-in-Some-clause-start

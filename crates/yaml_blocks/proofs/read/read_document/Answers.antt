@@ -1,19 +1,19 @@
 use Rattle.std.proofs.lemmas.Grind.{common_steps}
 use Rattle.std.proofs.Common.{◌≡◌, sym, ap, subst, List, [], length, arith, true, false}
 use Rattle.doc_values.specs.Tree.{Forest}
-use Rattle.yaml_blocks.specs.declared.form.Form.{Form}
-use Rattle.yaml_blocks.specs.Answers.{Reads}
-use Rattle.yaml_blocks.specs.Ahead.{ahead}
-use Rattle.yaml_blocks.specs.code.Steps.{stack, Rest, reached, is_ending}
-use Rattle.yaml_blocks.specs.code.Rest.{top}
-use Rattle.yaml_blocks.proofs.SameTexts.{same_step}
-use Rattle.yaml_blocks.proofs.Lives.{memory_at, stops_at}
-use Rattle.yaml_blocks.proofs.LivesLonger.{longer_first, longer_next}
-use Rattle.yaml_blocks.proofs.LivesOn.{lives_of, on_first, on_next}
-use Rattle.yaml_blocks.proofs.Back.{grows_first, grows_next}
-use Rattle.yaml_blocks.proofs.Roots.{nearer, root_same, whole_tree, whole_complete, root_refused, refuses}
-use Rattle.yaml_blocks.proofs.SyntaxStops.{later_place, memory_syntax, step_syntax}
-use Rattle.yaml_blocks.proofs.FedLoop.{memory_again, signs_again}
+use Rattle.yaml_grammar.specs.declared.form.Form.{Form}
+use Rattle.yaml_grammar.specs.Answers.{Reads}
+use Rattle.yaml_grammar.specs.Ahead.{ahead}
+use Rattle.yaml_grammar.specs.code.Steps.{stack, Rest, reached, is_ending}
+use Rattle.yaml_grammar.specs.code.Rest.{top}
+use Rattle.yaml_grammar.proofs.SameTexts.{same_step}
+use Rattle.yaml_grammar.proofs.Lives.{memory_at, stops_at}
+use Rattle.yaml_grammar.proofs.LivesLonger.{longer_first, longer_next}
+use Rattle.yaml_grammar.proofs.LivesOn.{lives_of, on_first, on_next}
+use Rattle.yaml_grammar.proofs.Back.{grows_first, grows_next}
+use Rattle.yaml_grammar.proofs.Roots.{nearer, root_same, whole_tree, whole_complete, root_refused, refuses}
+use Rattle.yaml_grammar.proofs.SyntaxStops.{later_place, memory_syntax, step_syntax}
+use Rattle.yaml_grammar.proofs.FedLoop.{memory_again, signs_again}
 use Rattle.yaml_blocks.proofs.read.read_document.Goals as goal
 
 pub returns-in-Err-root-clause-answer : goal.returns-in-Err-root-clause-answer

@@ -1,11 +1,11 @@
 use Rattle.std.proofs.Common.{◌+◌, ◌-◌, ◌*◌, ◌≤◌, length}
 use Rattle.std.specs.Str.{IsCharBoundary}
-use Rattle.yaml_blocks.specs.code.Steps.{stack, Fits, reached}
-use Rattle.yaml_blocks.specs.Yaml.{text_start}
-use Rattle.yaml_blocks.proofs.LivesLonger.{LivesLonger}
-use Rattle.yaml_blocks.proofs.LivesOn.{LivesOn}
-use Rattle.yaml_blocks.proofs.Back.{Grows}
-use Rattle.yaml_blocks.proofs.Roots.{Same}
+use Rattle.yaml_grammar.specs.code.Steps.{stack, Fits, reached}
+use Rattle.yaml_grammar.specs.Yaml.{text_start}
+use Rattle.yaml_grammar.proofs.LivesLonger.{LivesLonger}
+use Rattle.yaml_grammar.proofs.LivesOn.{LivesOn}
+use Rattle.yaml_grammar.proofs.Back.{Grows}
+use Rattle.yaml_grammar.proofs.Roots.{Same}
 use Rattle.yaml_blocks.proofs.read.read_document.Given as goal
 
 abbrev pub invariant-loop-alloc : goal.invariant-loop-alloc

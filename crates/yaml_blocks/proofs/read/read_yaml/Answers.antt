@@ -1,9 +1,9 @@
 use Rattle.std.proofs.Common.{◌≡◌, sym, ap, ◌∙◌, subst}
 use Rattle.std.specs.Prelude.{Err}
-use Rattle.yaml_blocks.specs.Answers.{Refuses}
-use Rattle.yaml_blocks.specs.declared.refusal.YamlRefusal.TheVariants.{NoMemory}
-use Rattle.yaml_blocks.proofs.ReadTwice.{refuses_of}
-use Rattle.yaml_blocks.proofs.Roots.{stop_memory}
+use Rattle.yaml_grammar.specs.Answers.{Refuses}
+use Rattle.yaml_grammar.specs.declared.refusal.YamlRefusal.TheVariants.{NoMemory}
+use Rattle.yaml_grammar.proofs.ReadTwice.{refuses_of}
+use Rattle.yaml_grammar.proofs.Roots.{stop_memory}
 use Rattle.yaml_blocks.proofs.read.read_yaml.Goals as goal
 
 pub returns-in-Err-clause-memory : goal.returns-in-Err-clause-memory

@@ -1,7 +1,7 @@
 use Rattle.std.proofs.Common.{ap, sym, ◌∙◌}
 use Rattle.std.proofs.lemmas.Str.{IsCharBoundary-start}
 use Rattle.yaml_scalars.specs.Scalar.{begins_order_mark}
-use Rattle.yaml_blocks.proofs.Roots.{order_mark_cut}
+use Rattle.yaml_grammar.proofs.Roots.{order_mark_cut}
 use Rattle.yaml_blocks.proofs.read.text_start.Goals as goal
 
 pub returns-then-begins_order_mark-clause-boundary : goal.returns-then-begins_order_mark-clause-boundary

@@ -1,7 +1,7 @@
 use Rattle.std.proofs.Common.{◌≡◌, ℕ, List, sym, ◌∙◌}
 use Rattle.yaml_scalars.specs.Lines.{Stands, Fails}
-use Rattle.yaml_blocks.proofs.FedStarts.{start_front}
-use Rattle.yaml_blocks.proofs.FedTexts.{fed_same, fed_seen, fed_key, fed_documents, in_front, twins_none}
+use Rattle.yaml_grammar.proofs.FedStarts.{start_front}
+use Rattle.yaml_grammar.proofs.FedTexts.{fed_same, fed_seen, fed_key, fed_documents, in_front, twins_none}
 use Rattle.yaml_blocks.proofs.returned.fed_texts.Goals as goal
 
 pub returns-clause-ahead : goal.returns-clause-ahead

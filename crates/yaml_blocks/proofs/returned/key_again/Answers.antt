@@ -1,4 +1,4 @@
-use Rattle.yaml_blocks.proofs.FedSigns.{flow_again, block_again}
+use Rattle.yaml_grammar.proofs.FedSigns.{flow_again, block_again}
 use Rattle.yaml_blocks.proofs.returned.key_again.Goals as goal
 
 pub returns-clause-flow : goal.returns-clause-flow

@@ -1,4 +1,4 @@
-use Rattle.yaml_blocks.proofs.LoneReturns.{no_document, return_dead}
+use Rattle.yaml_grammar.proofs.LoneReturns.{no_document, return_dead}
 use Rattle.yaml_blocks.proofs.returned.lone_returns.Goals as goal
 
 pub returns-clause-none : goal.returns-clause-none

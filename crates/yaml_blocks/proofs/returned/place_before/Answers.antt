@@ -1,6 +1,6 @@
 use Rattle.std.proofs.Common.{◌≡◌, ◌-◌, [], ◌∷◌, ◌++◌, length, sym, subst, arith}
-use Rattle.yaml_blocks.specs.Places.{IsSyntax}
-use Rattle.yaml_blocks.proofs.FedPlaces.{fed_before, fed_at, fed_behind}
+use Rattle.yaml_grammar.specs.Places.{IsSyntax}
+use Rattle.yaml_grammar.proofs.FedPlaces.{fed_before, fed_at, fed_behind}
 use Rattle.yaml_blocks.proofs.returned.place_before.Goals as goal
 
 pub returns-then-at-len-clause-is : goal.returns-then-at-len-clause-is

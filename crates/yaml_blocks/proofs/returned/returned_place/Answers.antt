@@ -1,9 +1,9 @@
 use Rattle.std.proofs.Common.{◌≡◌, ℕ, ◌-◌, List, [], ◌∷◌, ◌++◌, length, refl, sym, ◌∙◌, subst, arith}
-use Rattle.yaml_blocks.specs.declared.stop.Stop.{Stop}
-use Rattle.yaml_blocks.specs.declared.stop.Stop.TheVariants as stop
-use Rattle.yaml_blocks.specs.Places.{IsFront, IsSyntax}
-use Rattle.yaml_blocks.specs.code.ReadAgain.{StopsAgain}
-use Rattle.yaml_blocks.proofs.FedPlaces.{fed_none}
+use Rattle.yaml_grammar.specs.declared.stop.Stop.{Stop}
+use Rattle.yaml_grammar.specs.declared.stop.Stop.TheVariants as stop
+use Rattle.yaml_grammar.specs.Places.{IsFront, IsSyntax}
+use Rattle.yaml_grammar.specs.code.ReadAgain.{StopsAgain}
+use Rattle.yaml_grammar.proofs.FedPlaces.{fed_none}
 use Rattle.yaml_blocks.proofs.returned.returned_place.Goals as goal
 
 -- a sign that no document can begin with

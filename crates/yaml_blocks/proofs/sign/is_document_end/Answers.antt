@@ -1,6 +1,6 @@
 use Rattle.std.proofs.Common.{inl, inr, sym, ap, true≢false, ◌∙◌, arith}
 use Rattle.std.proofs.lemmas.Grind.{common_steps}
-use Rattle.yaml_blocks.specs.declared.ahead.Ahead.{Ahead}
+use Rattle.yaml_grammar.specs.declared.ahead.Ahead.{Ahead}
 use Rattle.yaml_blocks.proofs.sign.is_document_end.Goals as goal
 
 pub returns-in-Dots-clause-yes : goal.returns-in-Dots-clause-yes

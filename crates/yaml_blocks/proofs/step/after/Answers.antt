@@ -1,24 +1,24 @@
 use Rattle.std.proofs.Common.{List, true, false, sym, ap, ◌∙◌, subst}
-use Rattle.yaml_blocks.specs.declared.form.Form.{Form}
-use Rattle.yaml_blocks.specs.code.Rest.{top}
-use Rattle.yaml_blocks.specs.code.Steps.{stack, IsFlow, IsBlock}
-use Rattle.yaml_blocks.proofs.Forms.{block_of}
-use Rattle.yaml_blocks.proofs.SameTexts.{seen_alike}
-use Rattle.yaml_blocks.proofs.Fixed.{after_step, flow_after_step}
-use Rattle.yaml_blocks.proofs.Stopped.{tail_stops, line_stops}
-use Rattle.yaml_blocks.specs.code.Twins.{FixesStep}
-use Rattle.yaml_blocks.specs.declared.stage.Stage.TheVariants as stage
-use Rattle.yaml_blocks.proofs.Fed.{flow_after_feeds, block_feeds}
-use Rattle.yaml_blocks.specs.code.Feeds.{FeedsStep}
-use Rattle.yaml_blocks.proofs.Fixed.{apart}
-use Rattle.yaml_blocks.proofs.Extended.{no_shuts}
-use Rattle.yaml_blocks.specs.Ahead.{ahead}
-use Rattle.yaml_blocks.specs.Nodes.{starts_scalar}
-use Rattle.yaml_blocks.specs.code.ReadAgain.{NoneBehind, NoneLonger}
-use Rattle.yaml_blocks.proofs.FedSites.{again_from, tail_again}
-use Rattle.yaml_blocks.proofs.FedSteps.{flow_in, block_in}
+use Rattle.yaml_grammar.specs.declared.form.Form.{Form}
+use Rattle.yaml_grammar.specs.code.Rest.{top}
+use Rattle.yaml_grammar.specs.code.Steps.{stack, IsFlow, IsBlock}
+use Rattle.yaml_grammar.proofs.Forms.{block_of}
+use Rattle.yaml_grammar.proofs.SameTexts.{seen_alike}
+use Rattle.yaml_grammar.proofs.Fixed.{after_step, flow_after_step}
+use Rattle.yaml_grammar.proofs.Stopped.{tail_stops, line_stops}
+use Rattle.yaml_grammar.specs.code.Twins.{FixesStep}
+use Rattle.yaml_grammar.specs.declared.stage.Stage.TheVariants as stage
+use Rattle.yaml_grammar.proofs.Fed.{flow_after_feeds, block_feeds}
+use Rattle.yaml_grammar.specs.code.Feeds.{FeedsStep}
+use Rattle.yaml_grammar.proofs.Fixed.{apart}
+use Rattle.yaml_grammar.proofs.Extended.{no_shuts}
+use Rattle.yaml_grammar.specs.Ahead.{ahead}
+use Rattle.yaml_grammar.specs.Nodes.{starts_scalar}
+use Rattle.yaml_grammar.specs.code.ReadAgain.{NoneBehind, NoneLonger}
+use Rattle.yaml_grammar.proofs.FedSites.{again_from, tail_again}
+use Rattle.yaml_grammar.proofs.FedSteps.{flow_in, block_in}
 use Rattle.std.proofs.Common.{◌≡◌, ◌+◌, ◌*◌, refl}
-use Rattle.yaml_blocks.proofs.Placed.{placed}
+use Rattle.yaml_grammar.proofs.Placed.{placed}
 use Rattle.yaml_blocks.proofs.step.after.Goals as goal
 
 pub returns-in-Flow-clause-gives : goal.returns-in-Flow-clause-gives

@@ -1,15 +1,15 @@
 use Rattle.std.proofs.Common.{◌≡◌, true, List, sym, ap, ◌∙◌, subst}
-use Rattle.yaml_blocks.specs.declared.form.Form.{Form}
-use Rattle.yaml_blocks.specs.declared.form.Form.TheVariants.{Flow}
-use Rattle.yaml_blocks.specs.code.Rest.{top}
-use Rattle.yaml_blocks.specs.code.Steps.{stack}
-use Rattle.yaml_blocks.proofs.SameTexts.{seen_alike}
-use Rattle.yaml_blocks.proofs.Fixed.{entry_step}
-use Rattle.yaml_blocks.proofs.Stopped.{entry_stops}
-use Rattle.yaml_blocks.proofs.Fed.{entry_feeds}
-use Rattle.yaml_blocks.specs.Ahead.{ahead}
-use Rattle.yaml_blocks.specs.Nodes.{starts_scalar}
-use Rattle.yaml_blocks.specs.code.Closers.{in_flow}
+use Rattle.yaml_grammar.specs.declared.form.Form.{Form}
+use Rattle.yaml_grammar.specs.declared.form.Form.TheVariants.{Flow}
+use Rattle.yaml_grammar.specs.code.Rest.{top}
+use Rattle.yaml_grammar.specs.code.Steps.{stack}
+use Rattle.yaml_grammar.proofs.SameTexts.{seen_alike}
+use Rattle.yaml_grammar.proofs.Fixed.{entry_step}
+use Rattle.yaml_grammar.proofs.Stopped.{entry_stops}
+use Rattle.yaml_grammar.proofs.Fed.{entry_feeds}
+use Rattle.yaml_grammar.specs.Ahead.{ahead}
+use Rattle.yaml_grammar.specs.Nodes.{starts_scalar}
+use Rattle.yaml_grammar.specs.code.Closers.{in_flow}
 use Rattle.yaml_blocks.proofs.step.entry.Goals as goal
 
 pub returns-clause-gives : goal.returns-clause-gives

@@ -1,13 +1,13 @@
 use Rattle.std.proofs.Common.{refl, sym, ap, ◌∙◌, [], length}
 use Rattle.doc_values.specs.declared.kind.Kind.TheVariants as kind
 use Rattle.doc_values.specs.Unfinished.{with_value}
-use Rattle.yaml_blocks.specs.declared.stage.Stage.TheVariants as stage
-use Rattle.yaml_blocks.specs.declared.ahead.Ahead.{Ahead}
-use Rattle.yaml_blocks.specs.code.Steps.{is_ending}
-use Rattle.yaml_blocks.proofs.Roots.{null_root_gives, root_goes}
-use Rattle.yaml_blocks.proofs.Lives.{null_fixed, root_fixed}
-use Rattle.yaml_blocks.proofs.Extended.{value_apart}
-use Rattle.yaml_blocks.proofs.Lives.{null_there, null_ended, null_going}
+use Rattle.yaml_grammar.specs.declared.stage.Stage.TheVariants as stage
+use Rattle.yaml_grammar.specs.declared.ahead.Ahead.{Ahead}
+use Rattle.yaml_grammar.specs.code.Steps.{is_ending}
+use Rattle.yaml_grammar.proofs.Roots.{null_root_gives, root_goes}
+use Rattle.yaml_grammar.proofs.Lives.{null_fixed, root_fixed}
+use Rattle.yaml_grammar.proofs.Extended.{value_apart}
+use Rattle.yaml_grammar.proofs.Lives.{null_there, null_ended, null_going}
 use Rattle.yaml_blocks.proofs.step.root.Goals as goal
 
 pub returns-then-is_ending-clause-gives : goal.returns-then-is_ending-clause-gives

@@ -1,16 +1,16 @@
 use Rattle.std.proofs.Common.{ℕ, List, sym, ◌∙◌, subst}
 use Rattle.std.specs.Str.{IsCharBoundary, IsUtf8}
-use Rattle.yaml_blocks.specs.declared.stage.Stage.{Stage}
-use Rattle.yaml_blocks.specs.code.Rest.{top}
-use Rattle.yaml_blocks.specs.code.Steps.{stack, Rest, Fits, SameStep, reached, Gives}
-use Rattle.yaml_blocks.specs.code.Twins.{StopsStep, FixesStep}
-use Rattle.yaml_blocks.specs.code.Feeds.{FeedsStep}
-use Rattle.yaml_blocks.specs.code.Twins.{Lengthens}
-use Rattle.yaml_blocks.proofs.Extended.{entry_apart, value_apart, after_apart}
-use Rattle.yaml_blocks.specs.Ahead.{ahead}
-use Rattle.yaml_blocks.specs.Nodes.{starts_scalar}
-use Rattle.yaml_blocks.specs.code.Closers.{in_flow}
-use Rattle.yaml_blocks.specs.code.ReadAgain.{SignStays}
+use Rattle.yaml_grammar.specs.declared.stage.Stage.{Stage}
+use Rattle.yaml_grammar.specs.code.Rest.{top}
+use Rattle.yaml_grammar.specs.code.Steps.{stack, Rest, Fits, SameStep, reached, Gives}
+use Rattle.yaml_grammar.specs.code.Twins.{StopsStep, FixesStep}
+use Rattle.yaml_grammar.specs.code.Feeds.{FeedsStep}
+use Rattle.yaml_grammar.specs.code.Twins.{Lengthens}
+use Rattle.yaml_grammar.proofs.Extended.{entry_apart, value_apart, after_apart}
+use Rattle.yaml_grammar.specs.Ahead.{ahead}
+use Rattle.yaml_grammar.specs.Nodes.{starts_scalar}
+use Rattle.yaml_grammar.specs.code.Closers.{in_flow}
+use Rattle.yaml_grammar.specs.code.ReadAgain.{SignStays}
 use Rattle.std.proofs.Common.{◌≡◌, true}
 use Rattle.yaml_blocks.proofs.step.step.Goals as goal
 

@@ -1,23 +1,23 @@
 use Rattle.std.proofs.Common.{true, false, List, refl, sym, ap, subst, ◌∙◌}
-use Rattle.yaml_blocks.specs.declared.form.Form.{Form}
-use Rattle.yaml_blocks.specs.declared.stage.Stage.TheVariants as stage
-use Rattle.yaml_blocks.specs.Ahead.{ahead}
-use Rattle.yaml_blocks.specs.code.Rest.{top}
-use Rattle.yaml_blocks.specs.code.Steps.{stack, IsBlock, IsFlow, IsSeen, IsBehind, SameStep}
-use Rattle.yaml_blocks.specs.code.Twins.{FixesStep}
-use Rattle.yaml_blocks.proofs.AwaitedNodes.{seen_near}
-use Rattle.yaml_blocks.proofs.Fixed.{value_step, flow_value_step}
-use Rattle.yaml_blocks.proofs.Forms.{flow_misses}
-use Rattle.yaml_blocks.proofs.Placed.{placed}
-use Rattle.yaml_blocks.proofs.SameTexts.{seen_alike}
-use Rattle.yaml_blocks.proofs.Stopped.{flow_value_stops, value_stops}
-use Rattle.yaml_blocks.proofs.Fed.{flow_value_feeds, block_feeds}
-use Rattle.yaml_blocks.specs.code.Feeds.{FeedsStep}
-use Rattle.yaml_blocks.proofs.Extended.{flow_extends, no_shuts}
-use Rattle.yaml_blocks.specs.Nodes.{starts_scalar}
-use Rattle.yaml_blocks.specs.code.ReadAgain.{NoneAwaited, NoneLonger}
-use Rattle.yaml_blocks.proofs.FedSites.{again_from}
-use Rattle.yaml_blocks.proofs.FedSteps.{flow_in, block_in}
+use Rattle.yaml_grammar.specs.declared.form.Form.{Form}
+use Rattle.yaml_grammar.specs.declared.stage.Stage.TheVariants as stage
+use Rattle.yaml_grammar.specs.Ahead.{ahead}
+use Rattle.yaml_grammar.specs.code.Rest.{top}
+use Rattle.yaml_grammar.specs.code.Steps.{stack, IsBlock, IsFlow, IsSeen, IsBehind, SameStep}
+use Rattle.yaml_grammar.specs.code.Twins.{FixesStep}
+use Rattle.yaml_grammar.proofs.AwaitedNodes.{seen_near}
+use Rattle.yaml_grammar.proofs.Fixed.{value_step, flow_value_step}
+use Rattle.yaml_grammar.proofs.Forms.{flow_misses}
+use Rattle.yaml_grammar.proofs.Placed.{placed}
+use Rattle.yaml_grammar.proofs.SameTexts.{seen_alike}
+use Rattle.yaml_grammar.proofs.Stopped.{flow_value_stops, value_stops}
+use Rattle.yaml_grammar.proofs.Fed.{flow_value_feeds, block_feeds}
+use Rattle.yaml_grammar.specs.code.Feeds.{FeedsStep}
+use Rattle.yaml_grammar.proofs.Extended.{flow_extends, no_shuts}
+use Rattle.yaml_grammar.specs.Nodes.{starts_scalar}
+use Rattle.yaml_grammar.specs.code.ReadAgain.{NoneAwaited, NoneLonger}
+use Rattle.yaml_grammar.proofs.FedSites.{again_from}
+use Rattle.yaml_grammar.proofs.FedSteps.{flow_in, block_in}
 use Rattle.std.proofs.Common.{◌≡◌}
 use Rattle.yaml_blocks.proofs.step.value.Goals as goal
 

@@ -1,5 +1,5 @@
 use Rattle.std.proofs.Common.{sym, ◌∙◌}
-use Rattle.yaml_blocks.proofs.BlockGains.{sign_there, sign_nowhere}
+use Rattle.yaml_grammar.proofs.BlockGains.{sign_there, sign_nowhere}
 use Rattle.yaml_blocks.proofs.takes.block_sign.Goals as goal
 
 pub returns-then-takes_scalar : goal.returns-then-takes_scalar

@@ -1,6 +1,6 @@
 use Rattle.std.proofs.lemmas.Grind.{common_steps}
 use Rattle.std.proofs.Common.{◌≡◌, suc, ◌-◌, length, sym, arith}
-use Rattle.yaml_blocks.proofs.ReadTwice.{ends_at}
+use Rattle.yaml_grammar.proofs.ReadTwice.{ends_at}
 use Rattle.yaml_blocks.proofs.twice.ends_in_return.Goals as goal
 
 pub returns : goal.returns

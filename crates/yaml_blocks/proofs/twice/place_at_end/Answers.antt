@@ -1,6 +1,6 @@
 use Rattle.std.proofs.Common.{◌<◌, ℕ, List, length, inl, inr, arith}
-use Rattle.yaml_blocks.specs.Places.{IsSyntax}
-use Rattle.yaml_blocks.proofs.DeadPlaces.{later_dead}
+use Rattle.yaml_grammar.specs.Places.{IsSyntax}
+use Rattle.yaml_grammar.proofs.DeadPlaces.{later_dead}
 use Rattle.yaml_blocks.proofs.twice.place_at_end.Goals as goal
 
 later : (text : List ℕ) (at last : ℕ) → at < last → last < length text → IsSyntax text at → IsSyntax text last

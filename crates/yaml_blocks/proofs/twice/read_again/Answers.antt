@@ -1,5 +1,5 @@
 use Rattle.std.proofs.Common.{inr, refl, length, [], ◌∷◌, ◌++◌}
-use Rattle.yaml_blocks.proofs.ReadTwice.{placed_again, says_some, short_again}
+use Rattle.yaml_grammar.proofs.ReadTwice.{placed_again, says_some, short_again}
 use Rattle.yaml_blocks.proofs.twice.read_again.Goals as goal
 
 pub returns-in-None-clause-placed : goal.returns-in-None-clause-placed

@@ -1,7 +1,7 @@
 use Rattle.std.proofs.Common.{sym, ap, ◌∙◌, subst}
 use Rattle.yaml_scalars.specs.Lines.{ends_with}
-use Rattle.yaml_blocks.specs.code.Refused.{IsStopped}
-use Rattle.yaml_blocks.proofs.ReadTwice.{ends_front, unread_unbegun}
+use Rattle.yaml_grammar.specs.code.Refused.{IsStopped}
+use Rattle.yaml_grammar.proofs.ReadTwice.{ends_front, unread_unbegun}
 use Rattle.yaml_blocks.proofs.twice.read_placed.Goals as goal
 
 pub start_place-requires-clause-returned : goal.start_place-requires-clause-returned

@@ -1,8 +1,8 @@
 use Rattle.std.proofs.Common.{◌≡◌, ◌-◌, ◌≤◌, List, ℕ, false, take, length, sym, ap, ◌∙◌, subst}
-use Rattle.yaml_blocks.specs.declared.ahead.Ahead.{Ahead}
-use Rattle.yaml_blocks.specs.declared.ahead.Token.TheVariants.{End}
-use Rattle.yaml_blocks.specs.Ahead.{ahead}
-use Rattle.yaml_blocks.proofs.CutStarts.{start_dead, start_short, start_within}
+use Rattle.yaml_grammar.specs.declared.ahead.Ahead.{Ahead}
+use Rattle.yaml_grammar.specs.declared.ahead.Token.TheVariants.{End}
+use Rattle.yaml_grammar.specs.Ahead.{ahead}
+use Rattle.yaml_grammar.proofs.CutStarts.{start_dead, start_short, start_within}
 use Rattle.yaml_blocks.proofs.twice.start_place.Goals as goal
 
 pub bytes_ahead-requires-clause-within : goal.bytes_ahead-requires-clause-within

@@ -1,5 +1,5 @@
 use Rattle.std.proofs.Common.{◌∙◌}
-use Rattle.yaml_blocks.proofs.ReadTwice.{says_again, says_document}
+use Rattle.yaml_grammar.proofs.ReadTwice.{says_again, says_document}
 use Rattle.yaml_blocks.proofs.twice.stop_again.Goals as goal
 
 pub returns-in-Ok-read_document : goal.returns-in-Ok-read_document

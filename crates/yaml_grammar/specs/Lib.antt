@@ -1,0 +1,9 @@
+pub mod Ahead
+pub mod Answers
+pub mod Blocks
+pub mod Flow
+pub mod Nodes
+pub mod Places
+pub mod Signs
+pub mod Yaml
+pub mod code
