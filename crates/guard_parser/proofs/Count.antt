@@ -1,6 +1,6 @@
 -- A text has no more tokens than bytes.
 use Rattle.std.proofs.Common.{◌≡◌, ℕ, suc, ◌≤◌, Bool, true, false, ap, arith, List, [], ◌∷◌, ◌++◌, length, Option, None, inl, inr, length-append}
-use Rattle.doc_values.specs.Number.{minus_text, IsWholePart, fraction_text}
+use Rattle.decimals.specs.Number.{minus_text, IsWholePart, fraction_text}
 use Rattle.guard_lexer.specs.declared.token.Mark.{Mark}
 use Rattle.guard_lexer.specs.declared.token.Mark.TheVariants as m
 use Rattle.guard_lexer.specs.declared.token.Token.{Token}

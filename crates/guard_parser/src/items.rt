@@ -19,16 +19,18 @@ pub(crate) struct BodyItems {
     pub(crate) parts: Vec<Disj>,
 }
 
-/// So many items of a list take no more room than they need: most lists of a rule file have one item, or a few.
-const FEW: usize = 4;
+/// A list that is full gets room for this part of its items more: most lists of a rule file have one item, or a few, and
+/// a list of very many would leave up to half of its room empty if it doubled.
+const SHARE: usize = 8;
 
 /// Adds an item behind those that were found before.
 pub(crate) fn add<T: Drop>(found: &mut Vec<T>, item: T) -> Result<(), Halt>
     ensures added { OnOk result (found.new.items ≡ found.old.items ++ (item ∷ [])) }
     ensures refused { IfErr result (λ e. e ≡ Halt.NoMemory) }
 {
-    if found.len() < FEW {
-        found.reserve_exact(1)?;
+    let count = found.len();
+    if count == found.capacity() {
+        found.reserve_exact(1 + count / SHARE)?;
     }
     match found.push(item) {
         Ok(()) => Ok(()),
