@@ -29,14 +29,14 @@ impl Model for Decimal {
 }
 
 /// A whole number or a decimal.
-#[derive(Clone, Copy, Debug, PartialEq, Eq)]
+#[derive(Clone, Copy)]
 pub enum Num {
     Whole(i64),
     Fraction(Decimal),
 }
 
 /// The numbers between two, each of which may be in it or not.
-#[derive(Clone, Copy, Debug, PartialEq, Eq)]
+#[derive(Clone, Copy)]
 pub struct Range {
     pub low: Num,
     pub high: Num,

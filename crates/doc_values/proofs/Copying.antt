@@ -8,12 +8,13 @@ use Rattle.doc_values.specs.declared.node.Seat.{Seat}
 use Rattle.doc_values.specs.Tree.{Label, Forest, size, IsTree}
 use Rattle.doc_values.specs.Places.{label_at, kids_at, tree_at}
 use Rattle.doc_values.specs.code.Rows.{Row, all_rows, tree_of}
-use Rattle.doc_values.specs.code.Entries.{Entry, row_in, rows_in, no_entry, AreNamed}
-use Rattle.key_names.specs.code.Names.{texts_of, IsTable}
+use Rattle.doc_values.specs.code.Entries.{Entry, named_in, row_in, rows_in, no_entry, AreNamed}
+use Rattle.key_names.specs.code.Names.{texts_of, IsTable, Has}
 use Rattle.doc_values.specs.code.Index.{IsFinished, IsIndexed, no_row}
 use Rattle.doc_values.specs.code.Parts.{row_below, seated, Notes}
 use Rattle.doc_values.proofs.Among.{row, length-rows}
 use Rattle.doc_values.proofs.Entries.{row_at, rows_grown}
+use Rattle.doc_values.proofs.NamedKeys.{some_same}
 use Rattle.doc_values.proofs.Answering.{ix_rows, ix_size, ix_row}
 use Rattle.doc_values.proofs.Finished.{finished_of}
 use Rattle.doc_values.proofs.Parts.{depth_at, extent, top_row, rows_of_part, IsTree-part}
@@ -136,3 +137,30 @@ copying_end es ss ps bs ns f id j names copied x v h end c =
     let whole = ix_size es ss ps bs ns f x v in
     let small = x.small in
     finished_of copied names (tree_at f id) rows (IsTree-part f id (subst IsTree v x.tree) h) c.table c.named (omega arith)
+
+-- the name of a key is noted where its text is a name
+pub notes_found : (own old new : Names) (name : Option ℕ) (m n : ℕ) (k : List ℕ) → name ≡ Some m → k ≡ get_or (texts_of own) m [] → Has old new k n → Notes own old new name (Some n)
+notes_found own old new name m n k e f h = record {
+  table = h.table;
+  more = h.more;
+  grown = h.grown;
+  within = λ i q. subst (λ j. j < length (texts_of new)) (some_same n i q) h.within;
+  same = ap (λ t. let o : Option (List ℕ) = Some t in o) (h.text ∙ f) ∙ ap (named_in (texts_of own)) (sym e);
+}
+
+-- numbers from that behind the root up to that behind the last node in it
+pub from_next : (id j : ℕ) → id + 1 ≤ j → id < j
+from_next id j h = omega arith
+
+pub inside_all : (j e k s : ℕ) → j < e → e ≡ k → k ≤ s → j < s
+inside_all j e k s h is within = omega arith
+
+pub ends_at : (id j e s : ℕ) → (id + 1 ≤ e → j ≤ e) → e ≤ j → e ≡ id + 1 + s → j ≡ id + 1 + s
+ends_at id j e s up h is =
+    let low : id + 1 ≤ e = omega arith in
+    let within : j ≤ e = up low in
+    omega arith
+
+-- what is read of a node in the root is no lower than what is read of the root
+pub above_root : (own root e node : ℕ) → own ≡ root → own < e → node ≡ e → root ≤ node
+above_root own root e node is above here = omega arith

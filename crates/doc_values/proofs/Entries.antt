@@ -1,8 +1,8 @@
 -- Rows as they are stored against rows with the texts of their keys: place by place, and what does not look at keys is the same whatever the texts are.
-use Rattle.std.proofs.Common.{◌≡◌, ℕ, suc, ◌+◌, ◌<◌, List, [], ◌∷◌, ◌++◌, length, take, get_or, refl, sym, ap, ◌∙◌, subst, arith, Option, None, Some}
+use Rattle.std.proofs.Common.{◌≡◌, ℕ, suc, ◌+◌, ◌<◌, List, [], ◌∷◌, ◌++◌, map, length, take, get_or, refl, sym, ap, ◌∙◌, subst, arith, Option, None, Some}
 use Rattle.std.specs.Prelude.{slice_index, drop, nat_eq, nat_lt, if◌then◌else◌}
 use Rattle.std.specs.List.Sorted.{IsPermutation, IsNonDecreasingBy}
-use Rattle.std.proofs.lemmas.List.{length-map, get_or-map, get_or_default, get_or_append_left, take-map}
+use Rattle.std.proofs.lemmas.List.{length-map, get_or-map, get_or_default, get_or_append_left, take-map, append_assoc, map_push}
 use Rattle.doc_values.specs.code.Rows.{Row}
 use Rattle.doc_values.specs.code.Entries.{Entry, named_in, row_in, rows_in, no_entry, under_at, AreNamed}
 use Rattle.doc_values.specs.code.Uses.{IsOpen}
@@ -122,3 +122,12 @@ rows_grown us t [] h = refl
 rows_grown us t (e ∷ es) h =
     let first : row_in (us ++ t) e ≡ row_in us e = ap (with_key e) (named_grown us t e.name (λ n q. h 0 n (omega arith) q)) in
     ap (λ (r : Row). r ∷ rows_in (us ++ t) es) first ∙ ap (λ (rs : List Row). row_in us e ∷ rs) (rows_grown us t es (λ i n l q. h (suc i) n (omega arith) q))
+
+-- one more that is moved behind others
+pub moved_more : (f : Entry → Entry) (first seen es more : List Entry) (e moved : Entry) → es ≡ first ++ map f seen → moved ≡ f e → more ≡ es ++ moved ∷ [] → more ≡ first ++ map f (seen ++ e ∷ [])
+moved_more f first seen es more e moved is of push =
+    push
+    ∙ ap (λ (x : Entry). es ++ x ∷ []) of
+    ∙ ap (λ (xs : List Entry). xs ++ f e ∷ []) is
+    ∙ append_assoc first (map f seen) (f e ∷ [])
+    ∙ ap (λ (xs : List Entry). first ++ xs) (sym (map_push f seen e))

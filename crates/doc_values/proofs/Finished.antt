@@ -1,5 +1,6 @@
 -- What a finished tree keeps, from its rows.
-use Rattle.std.proofs.Common.{◌≡◌, ◌<◌, List, length, sym, ap, ◌∙◌, subst}
+use Rattle.std.specs.Prelude.{IfOk}
+use Rattle.std.proofs.Common.{Result, Ok, Err, ◌≡◌, ◌<◌, List, length, sym, ap, ◌∙◌, subst}
 use Rattle.key_names.specs.declared.names.Names.{Names}
 use Rattle.doc_values.specs.Tree.{Forest, IsTree}
 use Rattle.doc_values.specs.code.Rows.{all_rows, tree_of}
@@ -23,3 +24,8 @@ finished_of es ns tree rows t table named small =
       },
       same,
     )
+
+-- the tree that is given is another one where the two are the same
+pub ok_other : {E : Type 0} (r : Result Forest E) (f g : Forest) → f ≡ g → IfOk r (λ h. h ≡ f) → IfOk r (λ h. h ≡ g)
+ok_other (Ok h) f g e is = is ∙ e
+ok_other (Err x) f g e is = tt

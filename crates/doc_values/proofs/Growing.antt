@@ -1,6 +1,6 @@
 -- What is kept beside the rows behind a row more.
 use Rattle.std.proofs.Common.{◌≡◌, ℕ, zero, suc, ◌+◌, ◌<◌, ◌≤◌, List, [], ◌∷◌, ◌++◌, length, take, get_or, refl, sym, ap, inl, inr, ◌∙◌, subst, arith, length-append, append-nil, Option, None, Some}
-use Rattle.std.specs.Prelude.{slice_index, slice_set}
+use Rattle.std.specs.Prelude.{slice_index, slice_set, OnOk, Result, Ok, Err}
 use Rattle.std.specs.Cow.{cow_str_bytes}
 use Rattle.std.proofs.lemmas.List.{get_or_at, get_or_append_left, take-append-le, map_push, length-set, get_or-set_same, get_or-set_other}
 use Rattle.std.proofs.Math.Seq.{take-length}
@@ -17,7 +17,7 @@ use Rattle.doc_values.specs.code.Growth.{Awaited, Growth, key_of, IsFor}
 use Rattle.key_names.specs.code.Names.{name_of, texts_of, IsTable, IsSame, Adds}
 use Rattle.doc_values.specs.code.Uses.{IsBehindName, AreDeeper, IsLast}
 use Rattle.doc_values.specs.code.Index.{IsNewUnder, AreNew, AreZero, IsUsed, IsArena, IsAwaited, IsNumbered, Takes, awaited_in, row_of}
-use Rattle.doc_values.proofs.Entries.{rows_grown}
+use Rattle.doc_values.proofs.Entries.{length-rows_in, rows_grown}
 use Rattle.doc_values.proofs.Links.{AreLinks-more, IsLast-own, IsLast-other, IsLast-none, AreLow-more, last_name, name_stays}
 
 is_last : (rs : List Row) (r q : Row) (j : ℕ) → j < length (rs ++ r ∷ []) → length rs ≤ j → q ≡ get_or (rs ++ r ∷ []) j q → (j ≡ length rs) × (q ≡ r)
@@ -256,3 +256,25 @@ IsArena-same es ss ps old new us after a b x same last links awaited =
       used = subst (λ (ls : List ℕ). IsUsed es new ls after.links.items) (sym last) (subst (λ (ls : List ℕ). IsUsed es new us.last.items ls) (sym links) u);
       awaited = awaited;
     }
+
+-- equal lists are kept alike, and so are equal keys
+pub IsArena-as : (es fs : List Entry) (ss ts ps qs : List ℕ) (ns : Names) (us : Uses) (a b : Option Key) → fs ≡ es → ts ≡ ss → qs ≡ ps → b ≡ a → IsArena es ss ps ns us a → IsArena fs ts qs ns us b
+IsArena-as es fs ss ts ps qs ns us a b e f g k h =
+    subst (λ (xs : List Entry). IsArena xs ts qs ns us b) (sym e)
+    (subst (λ (xs : List ℕ). IsArena es xs qs ns us b) (sym f)
+    (subst (λ (xs : List ℕ). IsArena es ss xs ns us b) (sym g)
+    (subst (λ (x : Option Key). IsArena es ss ps ns us x) (sym k) h)))
+
+-- there are few rows where few are stored
+pub rows_few : (texts : List (List ℕ)) (es fs : List Entry) → fs ≡ es → length es < 2147483648 → length (rows_in texts fs) < 2147483648
+rows_few texts es fs e h = subst (λ n. n < 2147483648) (sym (length-rows_in texts fs ∙ ap (λ (xs : List Entry). length xs) e)) h
+
+pub rows_few-more : (texts : List (List ℕ)) (es fs : List Entry) (r : Entry) → fs ≡ es ++ r ∷ [] → length es < 2147483647 → length (rows_in texts fs) < 2147483648
+rows_few-more texts es fs r e h =
+    let long = length-append es (r ∷ []) in
+    rows_few texts (es ++ r ∷ []) fs e (omega arith)
+
+-- what a call that succeeds says is said together
+pub on_ok_all : (A B C D F : Type 0) {T E : Type 0} (r : Result T E) → OnOk r A → OnOk r B → OnOk r C → OnOk r D → OnOk r F → OnOk r (A × B × C × D × F)
+on_ok_all A B C D F (Ok x) a b c d f = (a, b, c, d, f)
+on_ok_all A B C D F (Err e) a b c d f = tt

@@ -1,7 +1,7 @@
 -- Going from the last row with a name to earlier ones by links: what is passed, what is found, and what a row more changes.
 use Rattle.std.proofs.Common.{◌≡◌, ℕ, ◌+◌, ◌-◌, ◌<◌, ◌≤◌, List, [], ◌∷◌, ◌++◌, length, get_or, refl, sym, ap, inl, inr, ◌∙◌, ◌⊎◌, subst, arith, length-append, Some}
 use Rattle.std.specs.Prelude.{slice_index}
-use Rattle.std.proofs.lemmas.List.{get_or_at, get_or_append_left}
+use Rattle.std.proofs.lemmas.List.{get_or_at, get_or_append_left, get_or_default}
 use Rattle.std.proofs.lemmas.Bool.{cases_lt}
 use Rattle.doc_values.specs.code.Entries.{Entry, no_entry, IsNameAt, under_at}
 use Rattle.doc_values.specs.code.Uses.{IsBehindName, AreDeeper, IsLink, AreLinks, IsLast, AreLow, IsOpen}
@@ -144,3 +144,39 @@ IsLast-none es n h = record {
   behind = (omega arith, λ some. absurd (omega arith));
   last = λ i from below e. h i below e;
 }
+
+-- one step along the links of a name, from a row that stands deeper than what is looked under
+pub step_along : (es : List Entry) (links : List ℕ) (n b l w u : ℕ) → AreLinks es links → IsBehindName es n b → AreDeeper es n b (length es) w → w < b → IsOpen es w → u ≡ under_at es (b - 1) → (u ≡ w → ⊥) → l ≡ slice_index links (b - 1) → (l < b) × (IsBehindName es n l × AreDeeper es n l (length es) w)
+step_along es links n b l w u all (within, named) deep past opened is other next =
+    let some : 0 < b = omega arith in
+    let last : b - 1 < length es = omega arith in
+    let link : IsLink es n (b - 1) l = subst (IsLink es n (b - 1)) (sym next) (all (b - 1) n last (named some)) in
+    let high : w ≤ u = subst (λ m. w ≤ m) (sym is) (opened.inside (b - 1) (omega arith) last) in
+    let higher : w < u = above w u high other in
+    let before : l ≤ b - 1 = link.before in (
+      omega arith,
+      (
+        link.behind,
+        λ i from below e. elim (sorted i (b - 1)) [
+          | inl front ↦
+              let d : under_at es (b - 1) < under_at es i = link.deeper i from front e in
+              let h : w < under_at es (b - 1) = subst (λ m. w < m) is higher in
+              omega arith
+          | inr (inl here) ↦ subst (λ j. w < under_at es j) (sym here) (subst (λ m. w < m) is higher)
+          | inr (inr back) ↦ deep i (omega arith) below e
+        ],
+      ),
+    )
+  where
+    above : (w u : ℕ) → w ≤ u → (u ≡ w → ⊥) → w < u
+    above w u h other = elim (cases_lt w u) [
+      | inl m ↦ m
+      | inr m ↦ absurd (other (omega arith))
+    ]
+
+-- the number that the row in front of a place stands under, where the row was read
+pub read_under : (es : List Entry) (e : Entry) (b w : ℕ) → b ≤ length es → w < b → e ≡ get_or es (b - 1) e → e.under ≡ under_at es (b - 1)
+read_under es e b w within past is = ap (λ (x : Entry). x.under) (is ∙ get_or_default es (b - 1) e no_entry (omega arith))
+
+pub read_within : (es : List Entry) (links : List ℕ) (b w : ℕ) → length links ≡ length es → b ≤ length es → w < b → b - 1 < length links
+read_within es links b w as_many within past = omega arith

@@ -256,11 +256,7 @@ fn make_room(
     ensures starts { starts.new.items ≡ starts.old.items }
     ensures slots { slots.new.items ≡ slots.old.items }
     ensures links { links.new.items ≡ links.old.items }
-    ensures counted { OnOk result (length nodes.new.items < 2147483647) }
-    ensures node { OnOk result (vec_len nodes.new < vec_capacity nodes.new) }
-    ensures start { OnOk result (vec_len starts.new < vec_capacity starts.new) }
-    ensures slot { OnOk result (vec_len slots.new < vec_capacity slots.new) }
-    ensures link { OnOk result (vec_len links.new < vec_capacity links.new) }
+    ensures room { OnOk result ((length nodes.new.items < 2147483647) × (vec_len nodes.new < vec_capacity nodes.new) × (vec_len starts.new < vec_capacity starts.new) × (vec_len slots.new < vec_capacity slots.new) × (vec_len links.new < vec_capacity links.new)) }
 {
     if NODES <= nodes.len() {
         return Err(AllocError);

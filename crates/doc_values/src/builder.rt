@@ -16,7 +16,7 @@ use std::marker::Model;
 pub(crate) const DEPTH: u32 = 128;
 
 /// Why an event is refused. A refused event leaves the builder as it was.
-#[derive(Debug, Drop)]
+#[derive(Drop)]
 pub enum BuildRefusal {
     /// The open map has this key already; the offset is that of the event.
     DuplicateKey(u32),

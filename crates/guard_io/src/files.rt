@@ -3,7 +3,7 @@ ghost use Rattle.std.specs.Option.{ForSome};
 ghost use Rattle.guard_io.specs.Outside.{FaultCounted, IsPrefix};
 
 /// Why a file was not loaded.
-#[derive(Clone, Copy, Debug, PartialEq, Eq)]
+#[derive(Clone, Copy)]
 pub enum LoadFault {
     /// The file is missing or could not be read; a fault was counted.
     Failed,

@@ -3,7 +3,7 @@ ghost use Rattle.std.specs.Option.{ForSome};
 ghost use Rattle.guard_io.specs.Outside.{FaultCounted, IsPrefix};
 
 /// Why a piece was not taken.
-#[derive(Clone, Copy, Debug, PartialEq, Eq)]
+#[derive(Clone, Copy)]
 pub enum SinkFault {
     /// It could not be written; a fault was counted.
     Failed,

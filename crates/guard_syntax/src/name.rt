@@ -41,7 +41,7 @@ impl Text {
 }
 
 /// A name with the byte offset where it stands in the rule file.
-#[derive(Debug, Drop)]
+#[derive(Drop)]
 pub struct Name {
     text: Text,
     at: u32,
@@ -88,7 +88,7 @@ impl Name {
 }
 
 /// Names in order, which contracts see as a list.
-#[derive(Debug, Drop)]
+#[derive(Drop)]
 pub struct Names {
     items: Vec<Name>,
 }
@@ -129,7 +129,7 @@ impl Names {
 }
 
 /// The byte offset of each site of a rule file, by its number. Contracts see a list.
-#[derive(Debug, Drop)]
+#[derive(Drop)]
 pub struct Places {
     items: Vec<u32>,
 }

@@ -19,7 +19,7 @@ pub struct Ref {
 
 /// What a query gives: a value, the value at which the step of a site found nothing, or the call of a site that does not
 /// apply.
-#[derive(Clone, Copy, Debug, PartialEq, Eq)]
+#[derive(Clone, Copy, PartialEq, Eq)]
 pub enum Row {
     Found(Ref),
     Missing { value: Ref, step: u32 },
@@ -27,7 +27,7 @@ pub enum Row {
 }
 
 /// What a rule or a part of it says of a template.
-#[derive(Clone, Copy, Debug, PartialEq, Eq)]
+#[derive(Clone, Copy)]
 pub enum Verdict {
     Pass,
     Fail,

@@ -108,7 +108,7 @@ pub enum Part {
 }
 
 /// The operator of a test. `!=` is `Eq` negated, `IN` is `Within`.
-#[derive(Clone, Copy, Debug, PartialEq, Eq)]
+#[derive(Clone, Copy)]
 pub enum Op {
     Exists,
     Empty,

@@ -24,6 +24,9 @@ abbrev pub form : Bool → Collection
 form true = Object
 form false = Array
 
+stops : (q : Phase) (w : Unfinished) → Stop ≡ Go q w → ⊥
+stops q w e = cc
+
 -- what may follow a complete value: the rest of each open collection, and white space
 abbrev pub Ends : List Level → Forest → ℕ → List ℕ → Forest → Type 0
 Ends [] done at bytes v = Each is_space bytes × (v ≡ done)
@@ -141,11 +144,11 @@ value_before Space b at u w q bytes v cb e h = space_value b at u bytes v (space
 value_before Quote b at u w q bytes v cb e h = text_value b at u bytes v (quote_byte b cb) (moved (InString false [] [] at) q u w (suc at) bytes v e h)
 value_before Open b at u w q bytes v cb e h = elim (chosen (nat_lt (length u.outer) 128) (Go AtKeyOrEnd (with_open kind.Map at u)) Stop (Go q w) e) [
   | inl k ↦ collection_value true Object b at u bytes v refl (open_byte b cb) (moved AtKeyOrEnd q (with_open kind.Map at u) w (suc at) bytes v k.1 h refl)
-  | inr k ↦ absurd (let no : Stop ≡ Go q w = k.1 in cc)
+  | inr k ↦ absurd (stops q w k.1)
 ]
 value_before OpenList b at u w q bytes v cb e h = elim (chosen (nat_lt (length u.outer) 128) (Go AtItemOrEnd (with_open kind.List at u)) Stop (Go q w) e) [
   | inl k ↦ collection_value false Array b at u bytes v refl (open_list_byte b cb) (moved AtItemOrEnd q (with_open kind.List at u) w (suc at) bytes v k.1 h refl)
-  | inr k ↦ absurd (let no : Stop ≡ Go q w = k.1 in cc)
+  | inr k ↦ absurd (stops q w k.1)
 ]
 value_before LetterN b at u w q bytes v cb e h = word_value kind.Null 110 (117 ∷ 108 ∷ 108 ∷ []) b at u bytes v refl (n_byte b cb) (moved (InWord (117 ∷ 108 ∷ 108 ∷ []) kind.Null at) q u w (suc at) bytes v e h)
 value_before LetterT b at u w q bytes v cb e h = word_value (kind.Truth true) 116 (114 ∷ 117 ∷ 101 ∷ []) b at u bytes v refl (t_byte b cb) (moved (InWord (114 ∷ 117 ∷ 101 ∷ []) (kind.Truth true) at) q u w (suc at) bytes v e h)
@@ -153,7 +156,7 @@ value_before LetterF b at u w q bytes v cb e h = word_value (kind.Truth false) 1
 value_before Minus b at u w q bytes v cb e h = number_value b at u bytes v (moved (InNumber (first_part b) (b ∷ []) at) q u w (suc at) bytes v e h)
 value_before Zero b at u w q bytes v cb e h = number_value b at u bytes v (moved (InNumber (first_part b) (b ∷ []) at) q u w (suc at) bytes v e h)
 value_before Digit b at u w q bytes v cb e h = number_value b at u bytes v (moved (InNumber (first_part b) (b ∷ []) at) q u w (suc at) bytes v e h)
-value_before _ b at u w q bytes v cb e h = absurd (cc)
+value_before _ b at u w q bytes v cb e h = absurd (stops q w e)
 
 -- in a literal name
 word_goes : (rest : List ℕ) (k : Kind) (c b at a : ℕ) (u w : Unfinished) (q : Phase) (bytes : List ℕ) (v : Forest) → b ≡ c → word_on rest k a u ≡ Go q w → Completes q w (suc at) bytes v → Completes (InWord (c ∷ rest) k a) u at (b ∷ bytes) v
@@ -167,7 +170,7 @@ word_before : (rest : List ℕ) (k : Kind) (b at a : ℕ) (u w : Unfinished) (q 
 word_before [] k b at a u w q bytes v e h = absurd (cc)
 word_before (c ∷ rest) k b at a u w q bytes v e h = elim (chosen (nat_eq b c) (word_on rest k a u) Stop (Go q w) e) [
   | inl n ↦ word_goes rest k c b at a u w q bytes v (byte_is b c n.0) n.1 h
-  | inr n ↦ absurd (let no : Stop ≡ Go q w = n.1 in cc)
+  | inr n ↦ absurd (stops q w n.1)
 ]
 
 -- a comma, and an entry behind it
@@ -191,13 +194,13 @@ close_case : (outer : List Level) (done : Forest) (key : Option (List ℕ)) (b a
 close_case [] done key b at w q bytes v cb e h = absurd (cc)
 close_case (x ∷ xs) done key b at w q bytes v cb e h = elim (chosen (is_map x.label.kind) (Go After (with_end (record { outer = x ∷ xs; done = done; key = key }))) Stop (Go q w) e) [
   | inl k ↦ ends_close true x xs done b at bytes v k.0 cb (moved After q (with_end (record { outer = x ∷ xs; done = done; key = key })) w (suc at) bytes v k.1 h)
-  | inr k ↦ absurd (let no : Stop ≡ Go q w = k.1 in cc)
+  | inr k ↦ absurd (stops q w k.1)
 ]
 
 close_list_case : (outer : List Level) (done : Forest) (key : Option (List ℕ)) (b at : ℕ) (w : Unfinished) (q : Phase) (bytes : List ℕ) (v : Forest) → b ≡ 93 → by_form outer Stop (Go After (with_end (record { outer = outer; done = done; key = key }))) ≡ Go q w → Completes q w (suc at) bytes v → Ends outer done at (b ∷ bytes) v
 close_list_case [] done key b at w q bytes v cb e h = absurd (cc)
 close_list_case (x ∷ xs) done key b at w q bytes v cb e h = elim (chosen (is_map x.label.kind) Stop (Go After (with_end (record { outer = x ∷ xs; done = done; key = key }))) (Go q w) e) [
-  | inl k ↦ absurd (let no : Stop ≡ Go q w = k.1 in cc)
+  | inl k ↦ absurd (stops q w k.1)
   | inr k ↦ ends_close false x xs done b at bytes v k.0 cb (moved After q (with_end (record { outer = x ∷ xs; done = done; key = key })) w (suc at) bytes v k.1 h)
 ]
 
@@ -206,7 +209,7 @@ after_before Space b at u w q bytes v cb e h = ends_space u.outer u.done b at by
 after_before Comma b at u w q bytes v cb e h = comma_case u.outer u.done u.key b at w q bytes v (comma_byte b cb) e h
 after_before Close b at u w q bytes v cb e h = close_case u.outer u.done u.key b at w q bytes v (close_byte b cb) e h
 after_before CloseList b at u w q bytes v cb e h = close_list_case u.outer u.done u.key b at w q bytes v (close_list_byte b cb) e h
-after_before _ b at u w q bytes v cb e h = absurd (cc)
+after_before _ b at u w q bytes v cb e h = absurd (stops q w e)
 
 -- before a key
 quote_key : (b at : ℕ) (u : Unfinished) (bytes : List ℕ) (v : Forest) → b ≡ 34 → Completes (InString true [] [] at) u (suc at) bytes v → Completes AtKey u at (b ∷ bytes) v
@@ -218,7 +221,7 @@ space_key b at u bytes v s (w, k, text, c, m, r, l, kids, e, ew, pk, mc, iv, en)
 key_before : (c : Class) (b at : ℕ) (u w : Unfinished) (q : Phase) (bytes : List ℕ) (v : Forest) → class_of b ≡ c → key_next at u c ≡ Go q w → Completes q w (suc at) bytes v → Completes AtKey u at (b ∷ bytes) v
 key_before Space b at u w q bytes v cb e h = space_key b at u bytes v (space_byte b cb) (moved AtKey q u w (suc at) bytes v e h)
 key_before Quote b at u w q bytes v cb e h = quote_key b at u bytes v (quote_byte b cb) (moved (InString true [] [] at) q u w (suc at) bytes v e h)
-key_before _ b at u w q bytes v cb e h = absurd (cc)
+key_before _ b at u w q bytes v cb e h = absurd (stops q w e)
 
 begins_key : (outer : List Level) (done : Forest) (key : Option (List ℕ)) (b at : ℕ) (bytes : List ℕ) (v : Forest) → b ≡ 34 → Completes (InString true [] [] at) (record { outer = outer; done = done; key = key }) (suc at) bytes v → Begins true outer done at (b ∷ bytes) v
 begins_key [] done key b at bytes v cb h = tt
@@ -229,14 +232,14 @@ begins_end : (outer : List Level) (done : Forest) (key : Option (List ℕ)) (b a
 begins_end [] done key b at w q bytes v cb e h = tt
 begins_end (x ∷ xs) done key b at w q bytes v cb e h = elim (chosen (is_map x.label.kind) (Go After (with_end (record { outer = x ∷ xs; done = done; key = key }))) Stop (Go q w) e) [
   | inl k ↦ begins_close true x xs done b at bytes v cb (moved After q (with_end (record { outer = x ∷ xs; done = done; key = key })) w (suc at) bytes v k.1 h)
-  | inr k ↦ absurd (let no : Stop ≡ Go q w = k.1 in cc)
+  | inr k ↦ absurd (stops q w k.1)
 ]
 
 key_or_end_before : (c : Class) (b at : ℕ) (u w : Unfinished) (q : Phase) (bytes : List ℕ) (v : Forest) → class_of b ≡ c → key_or_end_next at u c ≡ Go q w → Completes q w (suc at) bytes v → Begins true u.outer u.done at (b ∷ bytes) v
 key_or_end_before Space b at u w q bytes v cb e h = begins_space true u.outer u.done b at bytes v (space_byte b cb) (moved AtKeyOrEnd q u w (suc at) bytes v e h)
 key_or_end_before Quote b at u w q bytes v cb e h = begins_key u.outer u.done u.key b at bytes v (quote_byte b cb) (moved (InString true [] [] at) q u w (suc at) bytes v e h)
 key_or_end_before Close b at u w q bytes v cb e h = begins_end u.outer u.done u.key b at w q bytes v (close_byte b cb) e h
-key_or_end_before _ b at u w q bytes v cb e h = absurd (cc)
+key_or_end_before _ b at u w q bytes v cb e h = absurd (stops q w e)
 
 pub begins_item : (outer : List Level) (done : Forest) (at : ℕ) (bytes : List ℕ) (v : Forest) → Completes AtValue (record { outer = outer; done = done; key = None }) at bytes v → Begins false outer done at bytes v
 begins_item [] done at bytes v h = tt
@@ -246,7 +249,7 @@ begins_item (x ∷ xs) done at bytes v (w, m, r, l, kids, e, ew, iv, en) =
 list_end : (outer : List Level) (done : Forest) (key : Option (List ℕ)) (b at : ℕ) (w : Unfinished) (q : Phase) (bytes : List ℕ) (v : Forest) → b ≡ 93 → by_form outer Stop (Go After (with_end (record { outer = outer; done = done; key = key }))) ≡ Go q w → Completes q w (suc at) bytes v → Begins false outer done at (b ∷ bytes) v
 list_end [] done key b at w q bytes v cb e h = tt
 list_end (x ∷ xs) done key b at w q bytes v cb e h = elim (chosen (is_map x.label.kind) Stop (Go After (with_end (record { outer = x ∷ xs; done = done; key = key }))) (Go q w) e) [
-  | inl k ↦ absurd (let no : Stop ≡ Go q w = k.1 in cc)
+  | inl k ↦ absurd (stops q w k.1)
   | inr k ↦ begins_close false x xs done b at bytes v cb (moved After q (with_end (record { outer = x ∷ xs; done = done; key = key })) w (suc at) bytes v k.1 h)
 ]
 
@@ -265,7 +268,7 @@ mark_colon b at u bytes v cb (w, m, r, l, kids, e, ew, iv, en) = (58 ∷ w, m, r
 colon_before : (c : Class) (b at : ℕ) (u w : Unfinished) (q : Phase) (bytes : List ℕ) (v : Forest) → class_of b ≡ c → colon_next u c ≡ Go q w → Completes q w (suc at) bytes v → Completes AtColon u at (b ∷ bytes) v
 colon_before Space b at u w q bytes v cb e h = space_colon b at u bytes v (space_byte b cb) (moved AtColon q u w (suc at) bytes v e h)
 colon_before Colon b at u w q bytes v cb e h = mark_colon b at u bytes v (colon_byte b cb) (moved AtValue q u w (suc at) bytes v e h)
-colon_before _ b at u w q bytes v cb e h = absurd (cc)
+colon_before _ b at u w q bytes v cb e h = absurd (stops q w e)
 
 -- in a string
 key_closes : (t : List ℕ) (b at a : ℕ) (u : Unfinished) (bytes : List ℕ) (v : Forest) → b ≡ 34 → Completes AtColon (with_key t u) (suc at) bytes v → Completes (InString true t [] a) u at (b ∷ bytes) v
@@ -278,7 +281,7 @@ text_closes t b at a u bytes v cb h =
 
 closes_at : (key : Bool) (t : List ℕ) (b at a : ℕ) (u w : Unfinished) (q : Phase) (bytes : List ℕ) (v : Forest) → b ≡ 34 → string_end key t a u ≡ Go q w → Completes q w (suc at) bytes v → Completes (InString key t [] a) u at (b ∷ bytes) v
 closes_at true t b at a u w q bytes v cb e h = elim (chosen (has_key u.done t) Stop (Go AtColon (with_key t u)) (Go q w) e) [
-  | inl n ↦ absurd (let no : Stop ≡ Go q w = n.1 in cc)
+  | inl n ↦ absurd (stops q w n.1)
   | inr n ↦ key_closes t b at a u bytes v cb (moved AtColon q (with_key t u) w (suc at) bytes v n.1 h)
 ]
 closes_at false t b at a u w q bytes v cb e h = text_closes t b at a u bytes v cb (moved After q (with_value kind.Text t a u) w (suc at) bytes v e h)

@@ -29,8 +29,10 @@ pub fn read_json<'s>(alloc: Global, text: &'s str) -> Result<Doc<'s>, JsonRefusa
         None => {}
     }
     let mut builder = DocBuilder::new(alloc);
-    read_tokens(alloc, text, &mut builder)?;
-    Ok(builder.finish())
+    match read_tokens(alloc, text, &mut builder) {
+        Ok(()) => Ok(builder.finish()),
+        Err(refusal) => Err(refusal),
+    }
 }
 
 /// Reads the tokens of a text, and adds to the tree what they say.

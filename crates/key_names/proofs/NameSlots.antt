@@ -1,12 +1,12 @@
 -- Names in slots: what a look-up tells and what a number more leaves, by induction over the slots that a look-up passes.
-use Rattle.std.proofs.Common.{◌≡◌, ℕ, zero, suc, ◌+◌, ◌-◌, ◌<◌, ◌≤◌, Bool, true, false, List, [], ◌∷◌, ◌++◌, map, length, get_or, cond, refl, sym, ap, inl, inr, ◌∙◌, ◌⊎◌, subst, arith, length-append, Option, None, Some}
+use Rattle.std.proofs.Common.{◌≡◌, ℕ, zero, suc, ◌+◌, ◌*◌, ◌-◌, ◌<◌, ◌≤◌, Bool, true, false, List, [], ◌∷◌, ◌++◌, map, length, get_or, cond, refl, sym, ap, inl, inr, ◌∙◌, ◌⊎◌, subst, arith, length-append, Option, None, Some}
 use Rattle.std.specs.Prelude.{slice_index, slice_set, Result, Ok, Err, OnOk, OnErr}
 use Rattle.std.specs.Cow.{cow_str_bytes}
 use Rattle.std.specs.declared.borrow.CowStr.{CowStr}
 use Rattle.std.specs.declared.alloc.Global.{Global}
 use Rattle.std.specs.Str.{bytes_eq}
 use Rattle.std.proofs.lemmas.Bool.{cases_lt, cases_eq}
-use Rattle.std.proofs.lemmas.List.{get_or_at, get_or-map, get_or_append_left, length-set, get_or-set_same, get_or-set_other}
+use Rattle.std.proofs.lemmas.List.{get_or_at, get_or-map, get_or_append_left, length-map, length-set, get_or-set_same, get_or-set_other}
 use Rattle.std.proofs.lemmas.Slice.Eq.{bytes_eq-Decides}
 use Rattle.key_names.specs.declared.name_slots.NameSlots.{NameSlots}
 use Rattle.key_names.specs.code.TextNumbers.{Links, links_in, number_by, IsKept}
@@ -314,3 +314,16 @@ on_ok (Err e) f p = tt
 pub on_err : {A E : Type 0} {P Q R : Type 0} (r : Result A E) → (P → Q → R) → OnErr r P → OnErr r Q → OnErr r R
 on_err (Ok a) f p q = tt
 on_err (Err e) f p q = f p q
+
+-- texts that are placed are numbered
+pub numbered_by : (texts : List (CowStr Global)) (s : NameSlots) (xs : List ℕ) → s.slots.items ≡ xs → AreSlotted (map cow_str_bytes texts) xs (links_in s.others.links) → AreFound (map cow_str_bytes texts) xs (links_in s.others.links) (length texts) → AreNumbered (map cow_str_bytes texts) s
+numbered_by texts s xs is slotted found =
+    let ts : List (List ℕ) = map cow_str_bytes texts in
+    record {
+      slotted = subst (λ (ys : List ℕ). AreSlotted ts ys (links_in s.others.links)) (sym is) slotted;
+      found = subst (λ n. AreFound ts s.slots.items (links_in s.others.links) n) (sym (length-map texts cow_str_bytes)) (subst (λ (ys : List ℕ). AreFound ts ys (links_in s.others.links) (length texts)) (sym is) found);
+    }
+
+-- there are enough slots for the last of them, however few names there are
+pub roomy : (l m n count : ℕ) → l ≡ m → m ≡ n → n ≡ 4 * count + 64 → 16 ≤ l
+roomy l m n count e f g = omega arith

@@ -1,16 +1,16 @@
 -- The table of names behind a name more.
 use Rattle.std.proofs.Common.{◌≡◌, ℕ, ◌+◌, ◌<◌, ◌≤◌, List, [], ◌∷◌, ◌++◌, map, length, get_or, refl, sym, ap, inl, inr, ◌∙◌, subst, arith, length-append, Option, None, Some}
-use Rattle.std.specs.Prelude.{slice_index, slice_set, OnErr, Result, Ok, Err}
+use Rattle.std.specs.Prelude.{slice_index, slice_set, IfOk, OnErr, Result, Ok, Err}
 use Rattle.std.specs.Cow.{cow_str_bytes}
 use Rattle.std.specs.declared.borrow.CowStr.{CowStr}
 use Rattle.std.specs.declared.alloc.Global.{Global}
 use Rattle.std.proofs.lemmas.Bool.{cases_lt, cases_eq}
-use Rattle.std.proofs.lemmas.List.{get_or_at, get_or_append_left, length-set, get_or-set_same, get_or-set_other}
+use Rattle.std.proofs.lemmas.List.{get_or_at, get_or_append_left, map_push, length-set, get_or-set_same, get_or-set_other}
 use Rattle.key_names.specs.declared.names.Names.{Names}
 use Rattle.key_names.specs.declared.name_slots.NameSlots.{NameSlots}
 use Rattle.key_names.specs.code.TextNumbers.{links_in, number_by}
 use Rattle.key_names.specs.code.NameSlots.{AreNumbered}
-use Rattle.key_names.specs.code.Names.{name_of, texts_of, IsTable, IsBefore, IsSame}
+use Rattle.key_names.specs.code.Names.{name_of, texts_of, IsTable, IsBefore, IsSame, Adds, Has}
 use Rattle.key_names.proofs.NameSlots.{found_known}
 
 none_some : (o : Option ℕ) (n : ℕ) → o ≡ None → o ≡ Some n → ⊥
@@ -127,3 +127,35 @@ IsTable-follow old new b n t within items h fs before =
 pub on_err : {A E : Type 0} {P : Type 0} (r : Result A E) → P → OnErr r P
 on_err (Ok a) p = tt
 on_err (Err e) p = p
+
+-- a name that was added is there
+pub has_added : {E : Type 0} (old new : Names) (k j : List ℕ) (r : Result ℕ E) → k ≡ j → IfOk r (λ n. (n ≡ length (texts_of old)) × Adds old new k) → IfOk r (λ n. Has old new j n)
+has_added old new k j (Ok n) e (is, adds) =
+    let long : length (texts_of new) ≡ length (texts_of old) + 1 = ap (λ (ts : List (List ℕ)). length ts) adds.texts ∙ length-append (texts_of old) (k ∷ []) in
+    record {
+      table = adds.table;
+      more = k ∷ [];
+      grown = adds.texts;
+      within = omega arith;
+      text = ap (λ (ts : List (List ℕ)). get_or ts n []) adds.texts ∙ get_or_at (texts_of old) k [] [] n (sym is) ∙ e;
+    }
+has_added old new k j (Err x) e h = tt
+
+-- a name that is there stays there where the texts stay
+pub has_still : (old new after : Names) (k : List ℕ) (n : ℕ) → Has old new k n → IsTable after → texts_of after ≡ texts_of new → Has old after k n
+has_still old new after k n h t same = record {
+  table = t;
+  more = h.more;
+  grown = same ∙ h.grown;
+  within = subst (λ (ts : List (List ℕ)). n < length ts) (sym same) h.within;
+  text = ap (λ (ts : List (List ℕ)). get_or ts n []) same ∙ h.text;
+}
+
+-- one text more with the same bytes
+pub owned_more : (owned seen more : List (CowStr Global)) (x y : CowStr Global) → map cow_str_bytes owned ≡ map cow_str_bytes seen → more ≡ owned ++ y ∷ [] → cow_str_bytes y ≡ cow_str_bytes x → map cow_str_bytes more ≡ map cow_str_bytes (seen ++ x ∷ [])
+owned_more owned seen more x y is push same =
+    ap (map cow_str_bytes) push
+    ∙ map_push cow_str_bytes owned y
+    ∙ ap (λ (ts : List (List ℕ)). ts ++ cow_str_bytes y ∷ []) is
+    ∙ ap (λ (t : List ℕ). map cow_str_bytes seen ++ t ∷ []) same
+    ∙ sym (map_push cow_str_bytes seen x)

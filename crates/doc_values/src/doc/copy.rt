@@ -8,7 +8,7 @@ ghost use Rattle.key_names.specs.code.Names.{texts_of, IsTable};
 ghost use Rattle.doc_values.specs.code.Index.{IsFinished};
 ghost use Rattle.doc_values.specs.code.Parts.{Notes};
 
-use super::{Doc, indexed, zeros};
+use super::{Doc, reindexed};
 use crate::node::{Node, Seat};
 use key_names::Names;
 use std::alloc::AllocError;
@@ -23,14 +23,13 @@ impl<'s> Doc<'s> {
         let mut names: Names<'static> = Names::new(alloc);
         let mut nodes: Vec<Node<'static>> = Vec::new(alloc);
         self.copy_nodes(id, &mut names, &mut nodes)?;
-        let count = nodes.len();
-        let mut starts = Vec::new(alloc);
-        zeros(&mut starts, count)?;
-        let mut slots = Vec::new(alloc);
-        zeros(&mut slots, count)?;
-        let mut by_name = Vec::new(alloc);
-        zeros(&mut by_name, count)?;
-        Ok(indexed(nodes, starts, slots, by_name, names))
+        reindexed(
+            nodes,
+            Vec::new(alloc),
+            Vec::new(alloc),
+            Vec::new(alloc),
+            names,
+        )
     }
 
     /// Copies of the nodes of the tree below a node, and of the names of their keys.
@@ -43,8 +42,7 @@ impl<'s> Doc<'s> {
         requires id { id < size self.now }
         requires table { IsTable names.old }
         requires none { nodes.old.items ≡ [] }
-        ensures finished { OnOk result (IsFinished nodes.new.items names.new) }
-        ensures tree { OnOk result (tree_of (rows_in (texts_of names.new) nodes.new.items) ≡ tree_at self.now id) }
+        ensures { OnOk result (IsFinished nodes.new.items names.new × (tree_of (rows_in (texts_of names.new) nodes.new.items) ≡ tree_at self.now id)) }
     {
         let alloc = *self.nodes.allocator();
         let top = Seat {

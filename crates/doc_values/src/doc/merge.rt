@@ -7,14 +7,14 @@ ghost use Rattle.doc_values.specs.code.Entries.{Entry};
 ghost use Rattle.doc_values.specs.code.Merging.{MayMerge, IsMergeRefusal};
 ghost use Rattle.doc_values.specs.code.Behind.{entry_behind, FitsBehind};
 
-use super::{Doc, indexed, zeros};
+use super::{Doc, reindexed};
 use crate::cursor::Cursor;
 use crate::kind::Kind;
 use crate::node::Node;
 use std::alloc::AllocError;
 
 /// Why two trees are not merged.
-#[derive(Debug, Drop)]
+#[derive(Drop)]
 pub enum MergeRefusal {
     /// The first is no map; the offset is that of its root.
     FirstNotMap(u32),
@@ -45,11 +45,13 @@ impl<'s> Doc<'s> {
         ensures merged { IfOk result (λ d. MayMerge self.entry other.entry × (d ≡ merged self.entry other.entry)) }
         ensures refused { IfErr result (λ e. IsMergeRefusal self.entry other.entry e) }
     {
-        match refusal_of(&self, &other) {
-            None => {}
-            Some(refusal) => return Err(refusal),
+        if let Some(refusal) = refusal_of(&self, &other) {
+            return Err(refusal);
         }
-        Ok(self.joined(other)?)
+        match self.joined(other) {
+            Ok(doc) => Ok(doc),
+            Err(_) => Err(MergeRefusal::NoMemory),
+        }
     }
 
     /// The merged map.
@@ -61,9 +63,9 @@ impl<'s> Doc<'s> {
         let entries = self.count_in(0);
         let Doc {
             mut nodes,
-            mut starts,
-            mut slots,
-            mut by_name,
+            starts,
+            slots,
+            by_name,
             mut names,
         } = self;
         let Doc {
@@ -75,11 +77,7 @@ impl<'s> Doc<'s> {
         } = other;
         let numbers = names.join(more)?;
         move_behind(&mut nodes, others, &numbers, entries)?;
-        let count = nodes.len();
-        zeros(&mut starts, count)?;
-        zeros(&mut slots, count)?;
-        zeros(&mut by_name, count)?;
-        Ok(indexed(nodes, starts, slots, by_name, names))
+        reindexed(nodes, starts, slots, by_name, names)
     }
 }
 

@@ -1,5 +1,6 @@
 use Rattle.std.proofs.Common.{◌≡◌, ℕ, List, length, None, Some, sym, ap, refl, ◌∙◌, subst, arith}
 use Rattle.std.specs.Cow.{cow_str_bytes}
+use Rattle.std.proofs.lemmas.Option.{none-some}
 use Rattle.key_names.specs.code.Names.{name_of}
 use Rattle.doc_values.specs.code.Uses.{IsBehindName, AreDeeper}
 use Rattle.doc_values.proofs.NamedKeys.{none_unnamed, some_named, none_linked, some_same}
@@ -29,7 +30,7 @@ returns-in_default c =
     let k : List ℕ = cow_str_bytes c.args.text in
     let u = c.requires.used in
     let none : name_of ns k ≡ None = ap (name_of ns) (sym c.as_str.ensures.value) ∙ sym c.number.ensures ∙ c.in_default.is in
-    (none_unnamed c.args.nodes.now ns c.args.under k u.table u.named none, refl, (sym none, λ _. refl, λ n q. absurd cc))
+    (none_unnamed c.args.nodes.now ns c.args.under k u.table u.named none, refl, (sym none, λ _. refl, λ n q. absurd (none-some n q)))
 
 pub returns-in_default-link : goal.returns-in_default-link
 returns-in_default-link c =
@@ -50,5 +51,5 @@ returns c =
     let h = c.in-Some-link.ensures in (
       none_linked es ns c.args.under k c.in-Some.name c.in-Some-link.link u.table u.named found u.low h.2 h.0,
       refl,
-      (sym found, λ e. absurd cc, λ n q. subst (λ m. IsBehindName es m c.in-Some-link.link × AreDeeper es m c.in-Some-link.link (length es) c.args.under) (some_same c.in-Some.name n q) (h.1, h.2)),
+      (sym found, λ e. absurd (none-some c.in-Some.name (sym e)), λ n q. subst (λ m. IsBehindName es m c.in-Some-link.link × AreDeeper es m c.in-Some-link.link (length es) c.args.under) (some_same c.in-Some.name n q) (h.1, h.2)),
     )

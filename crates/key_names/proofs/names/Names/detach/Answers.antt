@@ -3,8 +3,9 @@ use Rattle.std.proofs.lemmas.List.{map-id}
 use Rattle.std.proofs.lemmas.Iterator.Adapters.{YieldsList-from_vec}
 use Rattle.std.proofs.lemmas.Iterator.Consumers.{YieldsList-end}
 use Rattle.std.specs.Cow.{cow_str_bytes}
+use Rattle.std.specs.declared.borrow.CowStr.TheVariants.{Owned}
 use Rattle.key_names.specs.declared.names.Names.{Names}
-use Rattle.key_names.proofs.Table.{IsSame-texts, numbered}
+use Rattle.key_names.proofs.Table.{IsSame-texts, numbered, owned_more}
 use Rattle.key_names.proofs.names.Names.detach.Goals as goal
 
 pub returns : goal.returns
@@ -16,3 +17,6 @@ returns c =
     let all = sym (map-id c.loop-text.yielded) ∙ end.0 in
     let same = IsSame-texts old new (numbered old c.requires) (c.loop-text.invariant ∙ ap (map cow_str_bytes) all) refl refl c.requires in
     (same.table, same.texts)
+
+pub loop-text-preserved : goal.loop-text-preserved
+loop-text-preserved c = owned_more c.loop-text.owned.items c.loop-text.yielded c.push.new.self.items c.in-Some.text (Owned c.in_ok-into_owned.field-0) c.loop-text.invariant c.in_ok-push.ensures.items c.in_ok-into_owned.ensures.ok
